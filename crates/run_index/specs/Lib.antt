@@ -1,0 +1,4 @@
+pub mod Cells
+pub mod Tree
+pub mod Shape
+pub mod Promises
