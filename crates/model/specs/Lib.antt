@@ -1,2 +1,9 @@
 pub mod Numbers
 pub mod Range
+pub mod Positions
+pub mod Bytes
+pub mod Call
+pub mod Refusals
+pub mod Model
+pub mod Answers
+pub mod RunList
