@@ -55,17 +55,17 @@ onRange total a n f rs =
 unfoldable pub setRuns : ℕ → ℕ → ℕ → Bool → List Run → List Run
 setRuns total a n v rs = onRange total a n (setTo v) rs
 
--- ---- what insert does with the first run: it ends before the range,
+-- ---- to true: insert keeps a first run that ends before a - 1
 insert-skip : (a b : ℕ) (r : Run) (rs : List Run) → r.«end» + 1 < a → insert a b (r ∷ rs) ≡ r ∷ insert a b rs
 unfolding insert
 insert-skip a b r rs h = rw (lt-ltb (r.«end» + 1) a h, insert)
 
--- begins after it,
+-- insert puts a .. b before a first run that starts after b + 1
 insert-put : (a b : ℕ) (r : Run) (rs : List Run) → a ≤ r.«end» + 1 → b + 1 < r.start → insert a b (r ∷ rs) ≡ run a b ∷ (r ∷ rs)
 unfolding insert
 insert-put a b r rs h k = rw (le-ltb (r.«end» + 1) a h, insert, lt-ltb (b + 1) r.start k)
 
--- or touches it
+-- insert joins a .. b with a first run that it touches
 insert-join : (a b : ℕ) (r : Run) (rs : List Run) → a ≤ r.«end» + 1 → r.start ≤ b + 1 → insert a b (r ∷ rs) ≡ insert (min a r.start) (max b r.«end») rs
 unfolding insert
 insert-join a b r rs h k = rw (le-ltb (r.«end» + 1) a h, insert, le-ltb (b + 1) r.start k)
@@ -98,11 +98,11 @@ joined-inside a b c d x h k ab cd = go (place a b x) (place c d x)
     go (below p e) (above q f) = absurd (omega arith)
     go (above p e) (below q f) = absurd (omega arith)
 
--- of three tests the first two change places
+-- the first two of three tests may change places
 or-swap : (p q s : Bool) → (p || (q || s)) ≡ (q || (p || s))
 or-swap p q s = sym (or-assoc p q s) ∙ ap (λ t. t || s) (or-comm p q) ∙ or-assoc q p s
 
--- insert adds the positions a .. b
+-- the positions after insert are those before and a .. b
 pub insert-mem : (total k a b : ℕ) (rs : List Run) (x : ℕ) → Canon total k rs → a ≤ b → mem (insert a b rs) x ≡ (inside a b x || mem rs x)
 unfolding insert mem
 insert-mem total k a b [] x c ab = refl
@@ -120,7 +120,7 @@ insert-mem total k a b (r ∷ rs) x c ab =
         ap (λ t. mem t x) (insert-join a b r rs p q) ∙ join ∙ ap (λ t. t || mem rs x) (joined-inside a b r.start r.«end» x p q ab (c .1))
         ∙ or-assoc (inside a b x) (inside r.start r.«end» x) (mem rs x)
 
--- clear keeps a list canonical
+-- ---- to false: clear keeps a list canonical
 pub clear-canon : (total k a b : ℕ) (rs : List Run) → Canon total k rs → a ≤ b → Canon total k (clear a b rs)
 unfolding clear
 clear-canon total k a b [] c ab = tt
@@ -133,22 +133,22 @@ clear-canon total k a b (r ∷ rs) c ab = go (clear-canon total (r.«end» + 2) 
     go d (inr p) (inl q) = rw (le-ltb r.start a p, lt-ltb b r.«end» q) (omega arith, omega arith, c .2, d)
     go d (inr p) (inr q) = rw (le-ltb r.start a p, le-ltb b r.«end» q) (canon-weaken total (r.«end» + 2) k (clear a b rs) (omega arith) d)
 
--- the positions of a list with a run before it if a test holds
+-- the positions of consIf are those of the list, and those of the run if the test holds
 pub consIf-mem : (t : Bool) (r : Run) (rs : List Run) (x : ℕ) → mem (consIf t r rs) x ≡ ((t && inside r.start r.«end» x) || mem rs x)
 unfolding mem
 consIf-mem true r rs x = refl
 consIf-mem false r rs x = refl
 
--- both of two tests hold if both together do
+-- two tests that hold together hold each
 pub and-holds : (p q : Bool) → (p && q) ≡ true → (p ≡ true) × (q ≡ true)
 and-holds true q e = (refl, e)
 and-holds false q e = absurd (false≢true e)
 
--- x is where the test says
+-- where the test for a .. b holds, x is one of them
 pub inside-holds : (a b x : ℕ) → inside a b x ≡ true → (a ≤ x) × (x ≤ b)
 inside-holds a b x e = let h = and-holds (leb a x) (leb x b) e in (leb-true a x (h .0), leb-true x b (h .1))
 
--- a piece that is kept where p ≤ q has x exactly if t holds
+-- a stretch a .. b that is kept if p ≤ q has x exactly if t holds
 pub piece-is : (p q a b x : ℕ) (t : Bool) → (p ≤ q → a ≤ x → x ≤ b → t ≡ true) → (t ≡ true → (p ≤ q) × (a ≤ x) × (x ≤ b)) → (leb p q && inside a b x) ≡ t
 piece-is p q a b x true f g = let h = g refl in ap₂ _&&_ (le-leb p q (h .0)) (inside-yes a b x (h .1) (h .2))
 piece-is p q a b x false f g = go (leb p q && inside a b x) refl
@@ -160,16 +160,16 @@ piece-is p q a b x false f g = go (leb p q && inside a b x) refl
         let k = inside-holds a b x (h .1) in
         sym (f (leb-true p q (h .0)) (k .0) (k .1))
 
--- it has x exactly if c .. d has,
-pub piece-inside : (p q a b c d x : ℕ) → (p ≤ q → a ≤ x → x ≤ b → (c ≤ x) × (x ≤ d)) → (c ≤ x → x ≤ d → (p ≤ q) × (a ≤ x) × (x ≤ b)) → (leb p q && inside a b x) ≡ inside c d x
+-- such a stretch has x exactly if c .. d has
+piece-inside : (p q a b c d x : ℕ) → (p ≤ q → a ≤ x → x ≤ b → (c ≤ x) × (x ≤ d)) → (c ≤ x → x ≤ d → (p ≤ q) × (a ≤ x) × (x ≤ b)) → (leb p q && inside a b x) ≡ inside c d x
 piece-inside p q a b c d x f g =
     piece-is p q a b x (inside c d x) (λ h k l. let z = f h k l in inside-yes c d x (z .0) (z .1)) (λ e. let z = inside-holds c d x e in g (z .0) (z .1))
 
--- or it never has
-pub piece-none : (p q a b x : ℕ) → (p ≤ q → a ≤ x → x ≤ b → ⊥) → (leb p q && inside a b x) ≡ false
+-- such a stretch never has x
+piece-none : (p q a b x : ℕ) → (p ≤ q → a ≤ x → x ≤ b → ⊥) → (leb p q && inside a b x) ≡ false
 piece-none p q a b x f = piece-is p q a b x false (λ h k l. absurd (f h k l)) (λ e. absurd (false≢true e))
 
--- clear takes the positions a .. b away
+-- the positions after clear are those before without a .. b
 pub clear-mem : (a b : ℕ) (rs : List Run) (x : ℕ) → a ≤ b → mem (clear a b rs) x ≡ cond (inside a b x) false (mem rs x)
 unfolding clear mem
 clear-mem a b [] x ab = go (inside a b x)
@@ -200,13 +200,13 @@ clear-mem a b (r ∷ rs) x ab =
     go ih (below p e) = rw (ih, e, piece-inside (suc r.start) a r.start (min r.«end» (a - 1)) r.start r.«end» x (omega arith) (omega arith), high-none (omega arith))
     go ih (above p e) = rw (ih, e, low-none (omega arith), piece-inside (suc b) r.«end» (max r.start (b + 1)) r.«end» r.start r.«end» x (omega arith) (omega arith))
 
--- setting keeps a list canonical
+-- ---- to either: setTo keeps a list canonical
 pub setTo-canon : (total a b : ℕ) (v : Bool) (rs : List Run) → Canon total 0 rs → a ≤ b → b < total → Canon total 0 (setTo v a b rs)
 unfolding setTo
 setTo-canon total a b true rs c ab bt = insert-canon total 0 a b rs c (omega arith) ab bt
 setTo-canon total a b false rs c ab bt = clear-canon total 0 a b rs c ab
 
--- the positions a .. b have the value v, and the others theirs
+-- after setTo the positions a .. b have the value v, and the others the one that they had
 pub setTo-mem : (total a b : ℕ) (v : Bool) (rs : List Run) (x : ℕ) → Canon total 0 rs → a ≤ b → mem (setTo v a b rs) x ≡ cond (inside a b x) v (mem rs x)
 unfolding setTo
 setTo-mem total a b true rs x c ab = insert-mem total 0 a b rs x c ab ∙ go (inside a b x)
@@ -216,9 +216,10 @@ setTo-mem total a b true rs x c ab = insert-mem total 0 a b rs x c ab ∙ go (in
     go false = refl
 setTo-mem total a b false rs x c ab = clear-mem a b rs x ab
 
--- ---- a change on the n positions from a, which are cut at total: it is canonical if the change of a closed range is
+-- ---- a change of the n positions from a, by one of closed ranges that keeps the list canonical
 module _ (total a n : ℕ) (f : ℕ → ℕ → List Run → List Run) (rs : List Run) (c : Canon total 0 rs)
     (canon : (b : ℕ) → a ≤ b → b < total → Canon total 0 (f a b rs)) where
+  -- it keeps the list canonical too
   pub onRange-canon : Canon total 0 (onRange total a n f rs)
   unfolding onRange
   onRange-canon = go (split a (min (a + n) total))
@@ -227,7 +228,7 @@ module _ (total a n : ℕ) (f : ℕ → ℕ → List Run → List Run) (rs : Lis
       go (inl h) = rw (lt-ltb a (min (a + n) total) h, Canon) (canon (min (a + n) total - 1) (omega arith) (omega arith))
       go (inr h) = rw (le-ltb a (min (a + n) total) h, Canon) c
 
-  -- and has there what the change makes of each position, if the change of a closed range has that
+  -- if the change makes g of the value of each position of a closed range, it does so of the n positions from a
   pub onRange-mem : (g : Bool → Bool) (x : ℕ) → ((b : ℕ) → a ≤ b → b < total → mem (f a b rs) x ≡ cond (inside a b x) (g (mem rs x)) (mem rs x))
       → mem (onRange total a n f rs) x ≡ (ltb x total && cond (among a n x) (g (mem rs x)) (mem rs x))
   unfolding onRange
@@ -255,12 +256,12 @@ module _ (total a n : ℕ) (f : ℕ → ℕ → List Run → List Run) (rs : Lis
           ∙ ap (λ t. cond (leb a x && t) (g (mem rs x)) (mem rs x)) (cut k h))
       go (inl k) (inr h) = rw (le-ltb a (min (a + n) total) h, onRange, lt-ltb x total k, none k h)
 
--- setting a range keeps a list canonical
+-- setRuns keeps a list canonical
 pub setRuns-canon : (total a n : ℕ) (v : Bool) (rs : List Run) → Canon total 0 rs → Canon total 0 (setRuns total a n v rs)
 unfolding setRuns
 setRuns-canon total a n v rs c = onRange-canon total a n (setTo v) rs c (λ b h k. setTo-canon total a b v rs c h k)
 
--- and gives the positions of the range, as far as there are any, the value v
+-- after setRuns the positions are those of setRange, cut at total
 pub setRuns-mem : (total a n : ℕ) (v : Bool) (rs : List Run) → Canon total 0 rs → (x : ℕ) → mem (setRuns total a n v rs) x ≡ (ltb x total && setRange a n v (mem rs) x)
 unfolding setRuns setRange
 setRuns-mem total a n v rs c x =
