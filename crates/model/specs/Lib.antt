@@ -9,3 +9,7 @@ pub mod Answers
 pub mod RunList
 pub mod Clip
 pub mod Search
+pub mod Edit
+pub mod Ops
+pub mod Codec
+pub mod MapLaws
