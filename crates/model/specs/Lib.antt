@@ -7,3 +7,4 @@ pub mod Refusals
 pub mod Model
 pub mod Answers
 pub mod RunList
+pub mod Codec
