@@ -8,3 +8,4 @@ pub mod Model
 pub mod Answers
 pub mod RunList
 pub mod Codec
+pub mod MapLaws
