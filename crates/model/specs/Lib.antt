@@ -13,3 +13,5 @@ pub mod Edit
 pub mod Ops
 pub mod Codec
 pub mod MapLaws
+pub mod Calc
+pub mod Cases
