@@ -1,0 +1,199 @@
+use Prim.Native.Nat.{ℕ, _<_}
+use borrow.Fn.Kinds.{In}
+use borrow.Fn.PlainCycle.{Measures, is, falls, and}
+use Rattle.run_index.proofs.build.Reads as build
+use Rattle.run_index.proofs.build.Kinds as build-kinds
+use Rattle.run_index.proofs.+build.Lts-build as build-lts
+use Rattle.run_index.proofs.pull.Reads as pull-reads
+use Rattle.run_index.proofs.read_node.Reads as read-node-reads
+use Rattle.run_index.proofs.+build.{statement}
+use Rattle.run_index.proofs.+build.Tie.{close}
+
+abbrev μ-build : Measures 1 build-kinds.ps ℕ
+μ-build κs a = ?
+
+abbrev build-at : ℕ → In 1 build-kinds.ps
+build-at t = and 1 build-kinds.ps (is 1 build-kinds.ps μ-build t) build.Pre
+
+abbrev build-below : ℕ → In 1 build-kinds.ps
+build-below t = and 1 build-kinds.ps (falls 1 build-kinds.ps _<_ μ-build t) build.Pre
+
+-- src/lib.rt:291:9
+build-returns : (t : ℕ) → build-lts.Need-returns (
+  build-below t,
+  build.Post,
+  read-node-reads.Asked,
+  read-node-reads.Learnt,
+  pull-reads.Asked,
+  pull-reads.Learnt,
+) (build-at t) build.Post
+build-returns t c = ?
+
+-- src/lib.rt:294:13
+build-add-m : (t : ℕ) → build-lts.Need-add-m (
+  build-below t,
+  build.Post,
+  read-node-reads.Asked,
+  read-node-reads.Learnt,
+  pull-reads.Asked,
+  pull-reads.Learnt,
+) (build-at t) build.Post
+build-add-m t c = ?
+
+-- src/lib.rt:295:9
+build-build-requires : (t : ℕ) → build-lts.Need-build-requires (
+  build-below t,
+  build.Post,
+  read-node-reads.Asked,
+  read-node-reads.Learnt,
+  pull-reads.Asked,
+  pull-reads.Learnt,
+) (build-at t) build.Post
+build-build-requires t c κs = ?
+
+-- src/lib.rt:296:22
+build-add-build : (t : ℕ) → build-lts.Need-add-build (
+  build-below t,
+  build.Post,
+  read-node-reads.Asked,
+  read-node-reads.Learnt,
+  pull-reads.Asked,
+  pull-reads.Learnt,
+) (build-at t) build.Post
+build-add-build t c = ?
+
+-- src/lib.rt:296:29
+build-sub-build : (t : ℕ) → build-lts.Need-sub-build (
+  build-below t,
+  build.Post,
+  read-node-reads.Asked,
+  read-node-reads.Learnt,
+  pull-reads.Asked,
+  pull-reads.Learnt,
+) (build-at t) build.Post
+build-sub-build t c = ?
+
+-- src/lib.rt:296:29
+build-sub-build-2 : (t : ℕ) → build-lts.Need-sub-build-2 (
+  build-below t,
+  build.Post,
+  read-node-reads.Asked,
+  read-node-reads.Learnt,
+  pull-reads.Asked,
+  pull-reads.Learnt,
+) (build-at t) build.Post
+build-sub-build-2 t c = ?
+
+-- src/lib.rt:296:9
+build-build-requires-2 : (t : ℕ) → build-lts.Need-build-requires-2 (
+  build-below t,
+  build.Post,
+  read-node-reads.Asked,
+  read-node-reads.Learnt,
+  pull-reads.Asked,
+  pull-reads.Learnt,
+) (build-at t) build.Post
+build-build-requires-2 t c κs = ?
+
+-- src/lib.rt:297:26
+build-add-read-node : (t : ℕ) → build-lts.Need-add-read-node (
+  build-below t,
+  build.Post,
+  read-node-reads.Asked,
+  read-node-reads.Learnt,
+  pull-reads.Asked,
+  pull-reads.Learnt,
+) (build-at t) build.Post
+build-add-read-node t c = ?
+
+-- src/lib.rt:297:9
+build-read-node-requires : (t : ℕ) → build-lts.Need-read-node-requires (
+  build-below t,
+  build.Post,
+  read-node-reads.Asked,
+  read-node-reads.Learnt,
+  pull-reads.Asked,
+  pull-reads.Learnt,
+) (build-at t) build.Post
+build-read-node-requires t c κs = ?
+
+-- src/lib.rt:298:13
+build-add-pull : (t : ℕ) → build-lts.Need-add-pull (
+  build-below t,
+  build.Post,
+  read-node-reads.Asked,
+  read-node-reads.Learnt,
+  pull-reads.Asked,
+  pull-reads.Learnt,
+) (build-at t) build.Post
+build-add-pull t c = ?
+
+-- src/lib.rt:298:5
+build-pull-requires : (t : ℕ) → build-lts.Need-pull-requires (
+  build-below t,
+  build.Post,
+  read-node-reads.Asked,
+  read-node-reads.Learnt,
+  pull-reads.Asked,
+  pull-reads.Learnt,
+) (build-at t) build.Post
+build-pull-requires t c κs = ?
+
+-- src/lib.rt:299:5
+build-add-result : (t : ℕ) → build-lts.Need-add-result (
+  build-below t,
+  build.Post,
+  read-node-reads.Asked,
+  read-node-reads.Learnt,
+  pull-reads.Asked,
+  pull-reads.Learnt,
+) (build-at t) build.Post
+build-add-result t c = ?
+
+-- src/lib.rt:286:1
+build-same-length : (t : ℕ) → build-lts.Need-same-length (
+  build-below t,
+  build.Post,
+  read-node-reads.Asked,
+  read-node-reads.Learnt,
+  pull-reads.Asked,
+  pull-reads.Learnt,
+) (build-at t) build.Post
+build-same-length t c = ?
+
+-- src/lib.rt:286:1
+build-returns-2 : (t : ℕ) → build-lts.Need-returns-2 (
+  build-below t,
+  build.Post,
+  read-node-reads.Asked,
+  read-node-reads.Learnt,
+  pull-reads.Asked,
+  pull-reads.Learnt,
+) (build-at t) build.Post
+build-returns-2 t c = ?
+
+pub +build-spec : {M : Type 1} → statement M
++build-spec = close μ-build λ t. build-lts.spec (
+  build-below t,
+  build.Post,
+  read-node-reads.Asked,
+  read-node-reads.Learnt,
+  pull-reads.Asked,
+  pull-reads.Learnt,
+)
+    (build-at t)
+    build.Post
+    (build-returns t)
+    (build-add-m t)
+    (build-build-requires t)
+    (build-add-build t)
+    (build-sub-build t)
+    (build-sub-build-2 t)
+    (build-build-requires-2 t)
+    (build-add-read-node t)
+    (build-read-node-requires t)
+    (build-add-pull t)
+    (build-pull-requires t)
+    (build-add-result t)
+    (build-same-length t)
+    (build-returns-2 t)

@@ -1,0 +1,5 @@
+pub mod Words
+pub mod Trees
+pub mod Heap
+pub mod Counts
+pub mod Turning

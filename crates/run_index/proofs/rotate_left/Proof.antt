@@ -1,0 +1,42 @@
+-- `rotate_left` meets its contract: the node n gets the trees beside it, and then goes under the root of the right tree.
+-- Both writes are a turn (Turning.antt). Assumes nothing.
+use native.Mathlib.Omega.{arith}
+use mathlib.Core.Path.{_≡_, refl}
+use Rattle.run_index.proofs.Trees.{room-at}
+use Rattle.run_index.proofs.Heap.{view, made-as}
+use Rattle.run_index.proofs.Turning.{left-turn, left-is, left-none, low-pullable, low-at, other-at, high-pullable, turned}
+use borrow.Author.Needs.{needs}
+use Rattle.run_index.proofs.rotate_left.Statement.{statement}
+use Rattle.run_index.proofs.rotate_left.Tie as tie
+
+read-node-requires : tie.Need-read-node-requires
+read-node-requires c κs = room-at (c .before .before .pre .1) _ (c .before .before .pre .0 .2 .right)
+
+pull-requires : tie.Need-pull-requires
+pull-requires c κs =
+    let h = c .before .before .before .before .pre .0 .2 in
+    let v = view _ _ _ _ _ (h .right) (c .before .before .before .before .pre .1) (c .before .read-node .ensures) in
+    low-pullable (left-turn h v)
+
+pull-requires-2 : tie.Need-pull-requires-2
+pull-requires-2 c κs =
+    let h = c .before .before .before .before .before .before .before .before .pre .0 .2 in
+    let v = view _ _ _ _ _ (h .right) (c .before .before .before .before .before .before .before .before .pre .1) (c .before .before .before .before .before .read-node .ensures) in
+    let u = left-turn h v in
+    let e₁ = c .before .before .before .pull .ensures in
+    high-pullable u e₁ (low-at u e₁) (other-at u e₁) (λ k. omega arith)
+
+same-length : tie.Need-same-length
+same-length c = search needs
+
+returns : tie.Need-returns
+returns c =
+    λ l r h.
+    let v = view _ _ _ _ _ (h .right) (c .before .before .before .before .before .before .before .before .before .before .before .pre .1) (c .before .before .before .before .before .before .before .before .read-node .ensures) in
+    let u = left-turn h v in
+    let e₁ = c .before .before .before .before .before .before .pull .ensures in
+    made-as refl (left-is h v) (turned u e₁ (low-at u e₁) (other-at u e₁) (λ k. omega arith) (c .before .before .pull2 .ensures) _ (left-none h v))
+
+pub rotate-left-spec : {M : Type 1} → statement M
+rotate-left-spec =
+    tie.close (tie.spec read-node-requires pull-requires pull-requires-2 same-length returns)
