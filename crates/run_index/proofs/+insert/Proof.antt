@@ -1,3 +1,13 @@
+-- `insert` meets its contract: the run goes down the side that its start names, and the sides are joined again on the way up.
+-- The measure is the height of the tree at hand, as its word has it. Assumes nothing.
+use borrow.Author.Needs.{needs}
+use native.Mathlib.Omega.{arith}
+use mathlib.Core.Path.{_≡_, refl}
+use Rattle.run_index.specs.Tree.{leaf}
+use Rattle.run_index.proofs.Trees.{room-at, leaf-at}
+use Rattle.run_index.proofs.Heap.{view, made-as, heightAt, left-falls, right-falls}
+use Rattle.run_index.proofs.Turning.{left-parts, right-parts}
+use Rattle.run_index.proofs.Inserting.{kept-sides, swapped-sides, new-made, side-ready, side-spot, side-made, insert-left, insert-right}
 use Prim.Native.Nat.{ℕ, _<_}
 use borrow.Fn.Kinds.{In}
 use borrow.Fn.PlainCycle.{Measures, is, falls, and}
@@ -11,7 +21,7 @@ use Rattle.run_index.proofs.+insert.{statement}
 use Rattle.run_index.proofs.+insert.Tie.{close}
 
 abbrev μ-insert : Measures 1 insert-kinds.ps ℕ
-μ-insert κs a = ?
+μ-insert κs a = heightAt (a .0 .now) (a .1 .0)
 
 abbrev insert-at : ℕ → In 1 insert-kinds.ps
 insert-at t = and 1 insert-kinds.ps (is 1 insert-kinds.ps μ-insert t) insert.Pre
@@ -19,7 +29,6 @@ insert-at t = and 1 insert-kinds.ps (is 1 insert-kinds.ps μ-insert t) insert.Pr
 abbrev insert-below : ℕ → In 1 insert-kinds.ps
 insert-below t = and 1 insert-kinds.ps (falls 1 insert-kinds.ps _<_ μ-insert t) insert.Pre
 
--- src/lib.rt:197:9
 insert-pull-requires : (t : ℕ) → insert-lts.Need-pull-requires (
   pull-reads.Asked,
   pull-reads.Learnt,
@@ -30,9 +39,10 @@ insert-pull-requires : (t : ℕ) → insert-lts.Need-pull-requires (
   rebalance-reads.Asked,
   rebalance-reads.Learnt,
 ) (insert-at t) insert.Post
-insert-pull-requires t c κs = ?
+insert-pull-requires t c κs =
+    let h = c .before .before .before .pre .1 .1 in
+    record { room = h .room; ordered = h .ordered; children = (0, leaf, leaf, leaf-at, leaf-at, omega arith) }
 
--- src/lib.rt:198:9
 insert-same-length : (t : ℕ) → insert-lts.Need-same-length (
   pull-reads.Asked,
   pull-reads.Learnt,
@@ -43,9 +53,8 @@ insert-same-length : (t : ℕ) → insert-lts.Need-same-length (
   rebalance-reads.Asked,
   rebalance-reads.Learnt,
 ) (insert-at t) insert.Post
-insert-same-length t c = ?
+insert-same-length t c = search needs
 
--- src/lib.rt:198:9
 insert-returns : (t : ℕ) → insert-lts.Need-returns (
   pull-reads.Asked,
   pull-reads.Learnt,
@@ -56,9 +65,8 @@ insert-returns : (t : ℕ) → insert-lts.Need-returns (
   rebalance-reads.Asked,
   rebalance-reads.Learnt,
 ) (insert-at t) insert.Post
-insert-returns t c = ?
+insert-returns t c = λ u h. new-made u h (c .before .before .before .before .if1 .taken) (c .before .before .pull .ensures)
 
--- src/lib.rt:200:9
 insert-read-node-requires : (t : ℕ) → insert-lts.Need-read-node-requires (
   pull-reads.Asked,
   pull-reads.Learnt,
@@ -69,9 +77,10 @@ insert-read-node-requires : (t : ℕ) → insert-lts.Need-read-node-requires (
   rebalance-reads.Asked,
   rebalance-reads.Learnt,
 ) (insert-at t) insert.Post
-insert-read-node-requires t c κs = ?
+insert-read-node-requires t c κs =
+    let h = c .before .before .before .pre .1 .1 in
+    room-at (c .before .if1 .left) _ (h .at)
 
--- src/lib.rt:202:13
 insert-insert-requires : (t : ℕ) → insert-lts.Need-insert-requires (
   pull-reads.Asked,
   pull-reads.Learnt,
@@ -82,9 +91,11 @@ insert-insert-requires : (t : ℕ) → insert-lts.Need-insert-requires (
   rebalance-reads.Asked,
   rebalance-reads.Learnt,
 ) (insert-at t) insert.Post
-insert-insert-requires t c κs = ?
+insert-insert-requires t c κs =
+    let h = c .before .before .before .before .before .before .before .pre .1 .1 in
+    let v = view _ _ _ _ _ (h .at) (c .before .before .before .before .before .if1 .left) (c .before .before .before .read-node .ensures) in
+    (omega (arith, left-falls (h .at) v, c .before .before .before .before .before .before .before .pre .0), (v .l, side-ready h v (v .left) (v .right) (kept-sides (v .l) (v .r))))
 
--- src/lib.rt:203:9
 insert-rebalance-requires : (t : ℕ) → insert-lts.Need-rebalance-requires (
   pull-reads.Asked,
   pull-reads.Learnt,
@@ -95,9 +106,12 @@ insert-rebalance-requires : (t : ℕ) → insert-lts.Need-rebalance-requires (
   rebalance-reads.Asked,
   rebalance-reads.Learnt,
 ) (insert-at t) insert.Post
-insert-rebalance-requires t c κs = ?
+insert-rebalance-requires t c κs =
+    let h = c .before .before .before .before .before .before .before .before .before .before .before .pre .1 .1 in
+    let v = view _ _ _ _ _ (h .at) (c .before .before .before .before .before .before .before .before .before .if1 .left) (c .before .before .before .before .before .before .before .read-node .ensures) in
+    let md = c .before .before .before .insert .ensures (v .l) (side-ready h v (v .left) (v .right) (kept-sides (v .l) (v .r))) in
+    (_, _, left-parts (side-spot h v (v .left) (v .right) (kept-sides (v .l) (v .r))) md)
 
--- src/lib.rt:205:13
 insert-insert-requires-2 : (t : ℕ) → insert-lts.Need-insert-requires-2 (
   pull-reads.Asked,
   pull-reads.Learnt,
@@ -108,9 +122,11 @@ insert-insert-requires-2 : (t : ℕ) → insert-lts.Need-insert-requires-2 (
   rebalance-reads.Asked,
   rebalance-reads.Learnt,
 ) (insert-at t) insert.Post
-insert-insert-requires-2 t c κs = ?
+insert-insert-requires-2 t c κs =
+    let h = c .before .before .before .before .before .before .before .pre .1 .1 in
+    let v = view _ _ _ _ _ (h .at) (c .before .before .before .before .before .if1 .left) (c .before .before .before .read-node .ensures) in
+    (omega (arith, right-falls (h .at) v, c .before .before .before .before .before .before .before .pre .0), (v .r, side-ready h v (v .right) (v .left) (swapped-sides (v .l) (v .r))))
 
--- src/lib.rt:206:9
 insert-rebalance-requires-2 : (t : ℕ) → insert-lts.Need-rebalance-requires-2 (
   pull-reads.Asked,
   pull-reads.Learnt,
@@ -121,9 +137,12 @@ insert-rebalance-requires-2 : (t : ℕ) → insert-lts.Need-rebalance-requires-2
   rebalance-reads.Asked,
   rebalance-reads.Learnt,
 ) (insert-at t) insert.Post
-insert-rebalance-requires-2 t c κs = ?
+insert-rebalance-requires-2 t c κs =
+    let h = c .before .before .before .before .before .before .before .before .before .before .before .pre .1 .1 in
+    let v = view _ _ _ _ _ (h .at) (c .before .before .before .before .before .before .before .before .before .if1 .left) (c .before .before .before .before .before .before .before .read-node .ensures) in
+    let md = c .before .before .before .insert2 .ensures (v .r) (side-ready h v (v .right) (v .left) (swapped-sides (v .l) (v .r))) in
+    (_, _, right-parts (side-spot h v (v .right) (v .left) (swapped-sides (v .l) (v .r))) md)
 
--- src/lib.rt:192:1
 insert-same-length-2 : (t : ℕ) → insert-lts.Need-same-length-2 (
   pull-reads.Asked,
   pull-reads.Learnt,
@@ -134,9 +153,8 @@ insert-same-length-2 : (t : ℕ) → insert-lts.Need-same-length-2 (
   rebalance-reads.Asked,
   rebalance-reads.Learnt,
 ) (insert-at t) insert.Post
-insert-same-length-2 t c = ?
+insert-same-length-2 t c = search needs
 
--- src/lib.rt:192:1
 insert-returns-2 : (t : ℕ) → insert-lts.Need-returns-2 (
   pull-reads.Asked,
   pull-reads.Learnt,
@@ -147,9 +165,13 @@ insert-returns-2 : (t : ℕ) → insert-lts.Need-returns-2 (
   rebalance-reads.Asked,
   rebalance-reads.Learnt,
 ) (insert-at t) insert.Post
-insert-returns-2 t c = ?
+insert-returns-2 t c =
+    λ u h.
+    let v = view _ _ _ _ _ (h .at) (c .before .before .before .before .before .before .before .before .before .before .before .before .if1 .left) (c .before .before .before .before .before .before .before .before .before .before .read-node .ensures) in
+    let md = c .before .before .before .before .before .before .insert .ensures (v .l) (side-ready h v (v .left) (v .right) (kept-sides (v .l) (v .r))) in
+    let j = c .before .before .rebalance .ensures _ _ (left-parts (side-spot h v (v .left) (v .right) (kept-sides (v .l) (v .r))) md) in
+    made-as refl (insert-left h v (c .before .before .before .before .before .before .before .before .if2 .taken)) (side-made h v (v .left) (v .right) (kept-sides (v .l) (v .r)) md j (λ m. refl))
 
--- src/lib.rt:192:1
 insert-same-length-3 : (t : ℕ) → insert-lts.Need-same-length-3 (
   pull-reads.Asked,
   pull-reads.Learnt,
@@ -160,9 +182,8 @@ insert-same-length-3 : (t : ℕ) → insert-lts.Need-same-length-3 (
   rebalance-reads.Asked,
   rebalance-reads.Learnt,
 ) (insert-at t) insert.Post
-insert-same-length-3 t c = ?
+insert-same-length-3 t c = search needs
 
--- src/lib.rt:192:1
 insert-returns-3 : (t : ℕ) → insert-lts.Need-returns-3 (
   pull-reads.Asked,
   pull-reads.Learnt,
@@ -173,7 +194,12 @@ insert-returns-3 : (t : ℕ) → insert-lts.Need-returns-3 (
   rebalance-reads.Asked,
   rebalance-reads.Learnt,
 ) (insert-at t) insert.Post
-insert-returns-3 t c = ?
+insert-returns-3 t c =
+    λ u h.
+    let v = view _ _ _ _ _ (h .at) (c .before .before .before .before .before .before .before .before .before .before .before .before .if1 .left) (c .before .before .before .before .before .before .before .before .before .before .read-node .ensures) in
+    let md = c .before .before .before .before .before .before .insert2 .ensures (v .r) (side-ready h v (v .right) (v .left) (swapped-sides (v .l) (v .r))) in
+    let j = c .before .before .rebalance2 .ensures _ _ (right-parts (side-spot h v (v .right) (v .left) (swapped-sides (v .l) (v .r))) md) in
+    made-as refl (insert-right h v (c .before .before .before .before .before .before .before .before .if2 .left)) (side-made h v (v .right) (v .left) (swapped-sides (v .l) (v .r)) md j (λ m. omega arith))
 
 pub +insert-spec : {M : Type 1} → statement M
 +insert-spec = close μ-insert λ t. insert-lts.spec (

@@ -1,3 +1,12 @@
+-- `pop_first` meets its contract: it goes left to the node that has no left side, and joins the sides again on the way up.
+-- The measure is the height of the tree at hand, as its word has it. Assumes nothing.
+use borrow.Author.Needs.{needs}
+use native.Mathlib.Omega.{arith}
+use mathlib.Core.Path.{_≡_, refl}
+use Rattle.run_index.proofs.Trees.{room-at}
+use Rattle.run_index.proofs.Heap.{view, heightAt, left-falls, left-owned}
+use Rattle.run_index.proofs.Turning.{left-parts}
+use Rattle.run_index.proofs.Removing.{side-spot, left-popped, pop-here, pop-there}
 use Prim.Native.Nat.{ℕ, _<_}
 use borrow.Fn.Kinds.{In}
 use borrow.Fn.PlainCycle.{Measures, is, falls, and}
@@ -10,7 +19,7 @@ use Rattle.run_index.proofs.+pop_first.{statement}
 use Rattle.run_index.proofs.+pop_first.Tie.{close}
 
 abbrev μ-pop-first : Measures 1 pop-first-kinds.ps ℕ
-μ-pop-first κs a = ?
+μ-pop-first κs a = heightAt (a .0 .now) (a .1 .0)
 
 abbrev pop-first-at : ℕ → In 1 pop-first-kinds.ps
 pop-first-at t = and 1 pop-first-kinds.ps (is 1 pop-first-kinds.ps μ-pop-first t) pop-first.Pre
@@ -19,7 +28,6 @@ abbrev pop-first-below : ℕ → In 1 pop-first-kinds.ps
 pop-first-below t =
     and 1 pop-first-kinds.ps (falls 1 pop-first-kinds.ps _<_ μ-pop-first t) pop-first.Pre
 
--- src/lib.rt:224:9
 pop-first-read-node-requires : (t : ℕ) → pop-first-lts.Need-read-node-requires (
   read-node-reads.Asked,
   read-node-reads.Learnt,
@@ -28,9 +36,10 @@ pop-first-read-node-requires : (t : ℕ) → pop-first-lts.Need-read-node-requir
   rebalance-reads.Asked,
   rebalance-reads.Learnt,
 ) (pop-first-at t) pop-first.Post
-pop-first-read-node-requires t c κs = ?
+pop-first-read-node-requires t c κs =
+    let h = c .before .before .pre .1 .0 .1 in
+    room-at (c .before .before .pre .1 .1) _ (h .at)
 
--- src/lib.rt:226:9
 pop-first-same-length : (t : ℕ) → pop-first-lts.Need-same-length (
   read-node-reads.Asked,
   read-node-reads.Learnt,
@@ -39,9 +48,8 @@ pop-first-same-length : (t : ℕ) → pop-first-lts.Need-same-length (
   rebalance-reads.Asked,
   rebalance-reads.Learnt,
 ) (pop-first-at t) pop-first.Post
-pop-first-same-length t c = ?
+pop-first-same-length t c = search needs
 
--- src/lib.rt:226:9
 pop-first-returns : (t : ℕ) → pop-first-lts.Need-returns (
   read-node-reads.Asked,
   read-node-reads.Learnt,
@@ -50,9 +58,11 @@ pop-first-returns : (t : ℕ) → pop-first-lts.Need-returns (
   rebalance-reads.Asked,
   rebalance-reads.Learnt,
 ) (pop-first-at t) pop-first.Post
-pop-first-returns t c = ?
+pop-first-returns t c =
+    λ u h.
+    let v = view _ _ _ _ _ (h .at) (c .before .before .before .before .before .pre .1 .1) (c .before .before .read-node .ensures) in
+    pop-here h v (c .if1 .taken)
 
--- src/lib.rt:233:9
 pop-first-pop-first-requires : (t : ℕ) → pop-first-lts.Need-pop-first-requires (
   read-node-reads.Asked,
   read-node-reads.Learnt,
@@ -61,9 +71,11 @@ pop-first-pop-first-requires : (t : ℕ) → pop-first-lts.Need-pop-first-requir
   rebalance-reads.Asked,
   rebalance-reads.Learnt,
 ) (pop-first-at t) pop-first.Post
-pop-first-pop-first-requires t c κs = ?
+pop-first-pop-first-requires t c κs =
+    let h = c .before .before .before .before .before .before .pre .1 .0 .1 in
+    let v = view _ _ _ _ _ (h .at) (c .before .before .before .before .before .before .pre .1 .1) (c .before .before .before .read-node .ensures) in
+    (omega (arith, left-falls (h .at) v, c .before .before .before .before .before .before .pre .0), ((v .l, left-owned h v), c .before .if1 .left))
 
--- src/lib.rt:234:9
 pop-first-rebalance-requires : (t : ℕ) → pop-first-lts.Need-rebalance-requires (
   read-node-reads.Asked,
   read-node-reads.Learnt,
@@ -72,9 +84,12 @@ pop-first-rebalance-requires : (t : ℕ) → pop-first-lts.Need-rebalance-requir
   rebalance-reads.Asked,
   rebalance-reads.Learnt,
 ) (pop-first-at t) pop-first.Post
-pop-first-rebalance-requires t c κs = ?
+pop-first-rebalance-requires t c κs =
+    let h = c .before .before .before .before .before .before .before .before .before .before .pre .1 .0 .1 in
+    let v = view _ _ _ _ _ (h .at) (c .before .before .before .before .before .before .before .before .before .before .pre .1 .1) (c .before .before .before .before .before .before .before .read-node .ensures) in
+    let ps = c .before .before .before .pop-first .ensures (v .l) (left-owned h v) in
+    (_, _, left-parts (side-spot h v (v .right) (left-popped h v (c .before .before .before .before .before .if1 .left))) (ps .made))
 
--- src/lib.rt:219:1
 pop-first-same-length-2 : (t : ℕ) → pop-first-lts.Need-same-length-2 (
   read-node-reads.Asked,
   read-node-reads.Learnt,
@@ -83,9 +98,8 @@ pop-first-same-length-2 : (t : ℕ) → pop-first-lts.Need-same-length-2 (
   rebalance-reads.Asked,
   rebalance-reads.Learnt,
 ) (pop-first-at t) pop-first.Post
-pop-first-same-length-2 t c = ?
+pop-first-same-length-2 t c = search needs
 
--- src/lib.rt:219:1
 pop-first-returns-2 : (t : ℕ) → pop-first-lts.Need-returns-2 (
   read-node-reads.Asked,
   read-node-reads.Learnt,
@@ -94,7 +108,11 @@ pop-first-returns-2 : (t : ℕ) → pop-first-lts.Need-returns-2 (
   rebalance-reads.Asked,
   rebalance-reads.Learnt,
 ) (pop-first-at t) pop-first.Post
-pop-first-returns-2 t c = ?
+pop-first-returns-2 t c =
+    λ u h.
+    let v = view _ _ _ _ _ (h .at) (c .before .before .before .before .before .before .before .before .before .before .before .before .before .pre .1 .1) (c .before .before .before .before .before .before .before .before .before .before .read-node .ensures) in
+    let ps = c .before .before .before .before .before .before .pop-first .ensures (v .l) (left-owned h v) in
+    pop-there h v (c .before .before .before .before .before .before .before .before .if1 .left) ps (c .before .before .rebalance .ensures _ _ (left-parts (side-spot h v (v .right) (left-popped h v (c .before .before .before .before .before .before .before .before .if1 .left))) (ps .made)))
 
 pub +pop-first-spec : {M : Type 1} → statement M
 +pop-first-spec = close μ-pop-first λ t. pop-first-lts.spec (
