@@ -6,3 +6,4 @@ pub mod Turning
 pub mod Inserting
 pub mod Removing
 pub mod Built
+pub mod Building

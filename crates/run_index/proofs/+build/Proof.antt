@@ -1,3 +1,9 @@
+-- `build` meets its contract: it links each half, and then the middle node over both. The left call changes no node of the right half.
+-- The measure is the number of nodes. Assumes nothing.
+use borrow.Author.Needs.{needs}
+use native.Mathlib.Omega.{arith}
+use mathlib.Core.Path.{_≡_, refl}
+use Rattle.run_index.proofs.Building.{builds-none, left-given, right-given, middle-room, middle-pullable, builds-all}
 use Prim.Native.Nat.{ℕ, _<_}
 use borrow.Fn.Kinds.{In}
 use borrow.Fn.PlainCycle.{Measures, is, falls, and}
@@ -10,7 +16,7 @@ use Rattle.run_index.proofs.+build.{statement}
 use Rattle.run_index.proofs.+build.Tie.{close}
 
 abbrev μ-build : Measures 1 build-kinds.ps ℕ
-μ-build κs a = ?
+μ-build κs a = a .1 .1 .0
 
 abbrev build-at : ℕ → In 1 build-kinds.ps
 build-at t = and 1 build-kinds.ps (is 1 build-kinds.ps μ-build t) build.Pre
@@ -18,7 +24,6 @@ build-at t = and 1 build-kinds.ps (is 1 build-kinds.ps μ-build t) build.Pre
 abbrev build-below : ℕ → In 1 build-kinds.ps
 build-below t = and 1 build-kinds.ps (falls 1 build-kinds.ps _<_ μ-build t) build.Pre
 
--- src/lib.rt:291:9
 build-returns : (t : ℕ) → build-lts.Need-returns (
   build-below t,
   build.Post,
@@ -27,9 +32,8 @@ build-returns : (t : ℕ) → build-lts.Need-returns (
   pull-reads.Asked,
   pull-reads.Learnt,
 ) (build-at t) build.Post
-build-returns t c = ?
+build-returns t c = builds-none _ _ _ _ (c .if1 .taken)
 
--- src/lib.rt:294:13
 build-add-m : (t : ℕ) → build-lts.Need-add-m (
   build-below t,
   build.Post,
@@ -38,9 +42,8 @@ build-add-m : (t : ℕ) → build-lts.Need-add-m (
   pull-reads.Asked,
   pull-reads.Learnt,
 ) (build-at t) build.Post
-build-add-m t c = ?
+build-add-m t c = omega (arith, c .before .before .pre .1, c .if1 .left)
 
--- src/lib.rt:295:9
 build-build-requires : (t : ℕ) → build-lts.Need-build-requires (
   build-below t,
   build.Post,
@@ -49,9 +52,8 @@ build-build-requires : (t : ℕ) → build-lts.Need-build-requires (
   pull-reads.Asked,
   pull-reads.Learnt,
 ) (build-at t) build.Post
-build-build-requires t c κs = ?
+build-build-requires t c κs = (omega (arith, c .before .if1 .left, c .before .before .before .pre .0), left-given (c .before .before .before .pre .1) (c .before .if1 .left) refl)
 
--- src/lib.rt:296:22
 build-add-build : (t : ℕ) → build-lts.Need-add-build (
   build-below t,
   build.Post,
@@ -60,9 +62,8 @@ build-add-build : (t : ℕ) → build-lts.Need-add-build (
   pull-reads.Asked,
   pull-reads.Learnt,
 ) (build-at t) build.Post
-build-add-build t c = ?
+build-add-build t c = omega (arith, c .before .before .before .before .before .before .before .pre .1, c .before .before .before .before .before .if1 .left)
 
--- src/lib.rt:296:29
 build-sub-build : (t : ℕ) → build-lts.Need-sub-build (
   build-below t,
   build.Post,
@@ -71,9 +72,8 @@ build-sub-build : (t : ℕ) → build-lts.Need-sub-build (
   pull-reads.Asked,
   pull-reads.Learnt,
 ) (build-at t) build.Post
-build-sub-build t c = ?
+build-sub-build t c = omega (arith, c .before .before .before .before .before .before .before .pre .1, c .before .before .before .before .before .if1 .left)
 
--- src/lib.rt:296:29
 build-sub-build-2 : (t : ℕ) → build-lts.Need-sub-build-2 (
   build-below t,
   build.Post,
@@ -82,9 +82,8 @@ build-sub-build-2 : (t : ℕ) → build-lts.Need-sub-build-2 (
   pull-reads.Asked,
   pull-reads.Learnt,
 ) (build-at t) build.Post
-build-sub-build-2 t c = ?
+build-sub-build-2 t c = omega (arith, c .before .before .before .before .before .before .before .pre .1, c .before .before .before .before .before .if1 .left)
 
--- src/lib.rt:296:9
 build-build-requires-2 : (t : ℕ) → build-lts.Need-build-requires-2 (
   build-below t,
   build.Post,
@@ -93,9 +92,8 @@ build-build-requires-2 : (t : ℕ) → build-lts.Need-build-requires-2 (
   pull-reads.Asked,
   pull-reads.Learnt,
 ) (build-at t) build.Post
-build-build-requires-2 t c κs = ?
+build-build-requires-2 t c κs = (omega (arith, c .before .before .before .before .before .if1 .left, c .before .before .before .before .before .before .before .pre .0), right-given (c .before .before .before .before .before .before .before .pre .1) (c .before .before .before .before .before .if1 .left) refl (c .before .before .before .build .ensures))
 
--- src/lib.rt:297:26
 build-add-read-node : (t : ℕ) → build-lts.Need-add-read-node (
   build-below t,
   build.Post,
@@ -104,9 +102,8 @@ build-add-read-node : (t : ℕ) → build-lts.Need-add-read-node (
   pull-reads.Asked,
   pull-reads.Learnt,
 ) (build-at t) build.Post
-build-add-read-node t c = ?
+build-add-read-node t c = omega (arith, c .before .before .before .before .before .before .before .before .before .before .before .pre .1, c .before .before .before .before .before .before .before .before .before .if1 .left)
 
--- src/lib.rt:297:9
 build-read-node-requires : (t : ℕ) → build-lts.Need-read-node-requires (
   build-below t,
   build.Post,
@@ -115,9 +112,8 @@ build-read-node-requires : (t : ℕ) → build-lts.Need-read-node-requires (
   pull-reads.Asked,
   pull-reads.Learnt,
 ) (build-at t) build.Post
-build-read-node-requires t c κs = ?
+build-read-node-requires t c κs = middle-room (c .before .before .before .before .before .before .before .before .before .before .before .pre .1) (c .before .before .before .before .before .before .before .before .before .if1 .left) refl (c .before .before .before .before .before .before .before .build .ensures) (c .before .before .before .build2 .ensures)
 
--- src/lib.rt:298:13
 build-add-pull : (t : ℕ) → build-lts.Need-add-pull (
   build-below t,
   build.Post,
@@ -126,9 +122,8 @@ build-add-pull : (t : ℕ) → build-lts.Need-add-pull (
   pull-reads.Asked,
   pull-reads.Learnt,
 ) (build-at t) build.Post
-build-add-pull t c = ?
+build-add-pull t c = omega (arith, c .before .before .before .before .before .before .before .before .before .before .before .before .before .pre .1, c .before .before .before .before .before .before .before .before .before .before .before .if1 .left)
 
--- src/lib.rt:298:5
 build-pull-requires : (t : ℕ) → build-lts.Need-pull-requires (
   build-below t,
   build.Post,
@@ -137,9 +132,8 @@ build-pull-requires : (t : ℕ) → build-lts.Need-pull-requires (
   pull-reads.Asked,
   pull-reads.Learnt,
 ) (build-at t) build.Post
-build-pull-requires t c κs = ?
+build-pull-requires t c κs = middle-pullable (c .before .before .before .before .before .before .before .before .before .before .before .before .before .pre .1) (c .before .before .before .before .before .before .before .before .before .before .before .if1 .left) refl (c .before .before .before .before .before .before .before .before .before .build .ensures) (c .before .before .before .before .before .build2 .ensures) (c .before .read-node .ensures)
 
--- src/lib.rt:299:5
 build-add-result : (t : ℕ) → build-lts.Need-add-result (
   build-below t,
   build.Post,
@@ -148,9 +142,8 @@ build-add-result : (t : ℕ) → build-lts.Need-add-result (
   pull-reads.Asked,
   pull-reads.Learnt,
 ) (build-at t) build.Post
-build-add-result t c = ?
+build-add-result t c = omega (arith, c .before .before .before .before .before .before .before .before .before .before .before .before .before .before .before .before .pre .1, c .before .before .before .before .before .before .before .before .before .before .before .before .before .before .if1 .left)
 
--- src/lib.rt:286:1
 build-same-length : (t : ℕ) → build-lts.Need-same-length (
   build-below t,
   build.Post,
@@ -159,9 +152,8 @@ build-same-length : (t : ℕ) → build-lts.Need-same-length (
   pull-reads.Asked,
   pull-reads.Learnt,
 ) (build-at t) build.Post
-build-same-length t c = ?
+build-same-length t c = search needs
 
--- src/lib.rt:286:1
 build-returns-2 : (t : ℕ) → build-lts.Need-returns-2 (
   build-below t,
   build.Post,
@@ -170,7 +162,7 @@ build-returns-2 : (t : ℕ) → build-lts.Need-returns-2 (
   pull-reads.Asked,
   pull-reads.Learnt,
 ) (build-at t) build.Post
-build-returns-2 t c = ?
+build-returns-2 t c = builds-all (c .before .before .before .before .before .before .before .before .before .before .before .before .before .before .before .before .pre .1) (c .before .before .before .before .before .before .before .before .before .before .before .before .before .before .if1 .left) refl (c .before .before .before .before .before .before .before .before .before .before .before .before .build .ensures) (c .before .before .before .before .before .before .before .before .build2 .ensures) (c .before .before .before .before .read-node .ensures) (c .before .before .pull .ensures)
 
 pub +build-spec : {M : Type 1} → statement M
 +build-spec = close μ-build λ t. build-lts.spec (
