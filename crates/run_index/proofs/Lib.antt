@@ -7,3 +7,5 @@ pub mod Inserting
 pub mod Removing
 pub mod Built
 pub mod Building
+pub mod Mirror
+pub mod Balance
