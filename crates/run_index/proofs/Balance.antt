@@ -52,10 +52,10 @@ module _ (n a b : ℕ) where
   right-balanced : (l r : Tree) → Balanced l → Balanced r → height r ≡ height l + 2 → Near (rotateLeft n a b l (leanRight r)) (height r)
   right-balanced l r bl br e =
       let is : mirror (rotateRight n a b (leanLeft (mirror r)) (mirror l)) ≡ rotateLeft n a b l (leanRight r) =
-          mirror-rotateRight n a b (leanLeft (mirror r)) (mirror l)
-          ∙ (λ i. rotateLeft n a b (mirror-twice l i) ((mirror-leanLeft (mirror r) ∙ ap leanRight (mirror-twice r)) i)) in
+      mirror-rotateRight n a b (leanLeft (mirror r)) (mirror l)
+      ∙ (λ i. rotateLeft n a b (mirror-twice l i) ((mirror-leanLeft (mirror r) ∙ ap leanRight (mirror-twice r)) i)) in
       let near : Near (rotateRight n a b (leanLeft (mirror r)) (mirror l)) (height (mirror r)) =
-          left-balanced (mirror r) (mirror l) (mirror-balanced r br) (mirror-balanced l bl) (omega (arith, mirror-height l, mirror-height r)) in
+      left-balanced (mirror r) (mirror l) (mirror-balanced r br) (mirror-balanced l bl) (omega (arith, mirror-height l, mirror-height r)) in
       rw (mirror-height r) at (subst (λ (t : Tree). Near t (height (mirror r))) is (mirror-near (rotateRight n a b (leanLeft (mirror r)) (mirror l)) (height (mirror r)) near))
 
   -- two balanced trees whose heights differ by two at most give a balanced one

@@ -9,3 +9,5 @@ pub mod Built
 pub mod Building
 pub mod Mirror
 pub mod Balance
+pub mod Ordering
+pub mod Least
