@@ -11,3 +11,6 @@ pub mod Mirror
 pub mod Balance
 pub mod Ordering
 pub mod Least
+pub mod Numbers
+pub mod Totals
+pub mod Bound
