@@ -29,180 +29,9 @@ insert-at t = and 1 insert-kinds.ps (is 1 insert-kinds.ps μ-insert t) insert.Pr
 abbrev insert-below : ℕ → In 1 insert-kinds.ps
 insert-below t = and 1 insert-kinds.ps (falls 1 insert-kinds.ps _<_ μ-insert t) insert.Pre
 
-insert-pull-requires : (t : ℕ) → insert-lts.Need-pull-requires (
-  pull-reads.Asked,
-  pull-reads.Learnt,
-  read-node-reads.Asked,
-  read-node-reads.Learnt,
-  insert-below t,
-  insert.Post,
-  rebalance-reads.Asked,
-  rebalance-reads.Learnt,
-) (insert-at t) insert.Post
-insert-pull-requires t c κs =
-    let h = c .before .before .before .pre .1 .1 in
-    record { room = h .room; ordered = h .ordered; children = (0, leaf, leaf, leaf-at, leaf-at, omega arith) }
-
-insert-same-length : (t : ℕ) → insert-lts.Need-same-length (
-  pull-reads.Asked,
-  pull-reads.Learnt,
-  read-node-reads.Asked,
-  read-node-reads.Learnt,
-  insert-below t,
-  insert.Post,
-  rebalance-reads.Asked,
-  rebalance-reads.Learnt,
-) (insert-at t) insert.Post
-insert-same-length t c = search needs
-
-insert-returns : (t : ℕ) → insert-lts.Need-returns (
-  pull-reads.Asked,
-  pull-reads.Learnt,
-  read-node-reads.Asked,
-  read-node-reads.Learnt,
-  insert-below t,
-  insert.Post,
-  rebalance-reads.Asked,
-  rebalance-reads.Learnt,
-) (insert-at t) insert.Post
-insert-returns t c = λ u h. new-made u h (c .before .before .before .before .if1 .taken) (c .before .before .pull .ensures)
-
-insert-read-node-requires : (t : ℕ) → insert-lts.Need-read-node-requires (
-  pull-reads.Asked,
-  pull-reads.Learnt,
-  read-node-reads.Asked,
-  read-node-reads.Learnt,
-  insert-below t,
-  insert.Post,
-  rebalance-reads.Asked,
-  rebalance-reads.Learnt,
-) (insert-at t) insert.Post
-insert-read-node-requires t c κs =
-    let h = c .before .before .before .pre .1 .1 in
-    room-at (c .before .if1 .left) _ (h .at)
-
-insert-insert-requires : (t : ℕ) → insert-lts.Need-insert-requires (
-  pull-reads.Asked,
-  pull-reads.Learnt,
-  read-node-reads.Asked,
-  read-node-reads.Learnt,
-  insert-below t,
-  insert.Post,
-  rebalance-reads.Asked,
-  rebalance-reads.Learnt,
-) (insert-at t) insert.Post
-insert-insert-requires t c κs =
-    let h = c .before .before .before .before .before .before .before .pre .1 .1 in
-    let v = view _ _ _ _ _ (h .at) (c .before .before .before .before .before .if1 .left) (c .before .before .before .read-node .ensures) in
-    (omega (arith, left-falls (h .at) v, c .before .before .before .before .before .before .before .pre .0), (v .l, side-ready h v (v .left) (v .right) (kept-sides (v .l) (v .r))))
-
-insert-rebalance-requires : (t : ℕ) → insert-lts.Need-rebalance-requires (
-  pull-reads.Asked,
-  pull-reads.Learnt,
-  read-node-reads.Asked,
-  read-node-reads.Learnt,
-  insert-below t,
-  insert.Post,
-  rebalance-reads.Asked,
-  rebalance-reads.Learnt,
-) (insert-at t) insert.Post
-insert-rebalance-requires t c κs =
-    let h = c .before .before .before .before .before .before .before .before .before .before .before .pre .1 .1 in
-    let v = view _ _ _ _ _ (h .at) (c .before .before .before .before .before .before .before .before .before .if1 .left) (c .before .before .before .before .before .before .before .read-node .ensures) in
-    let md = c .before .before .before .insert .ensures (v .l) (side-ready h v (v .left) (v .right) (kept-sides (v .l) (v .r))) in
-    (_, _, left-parts (side-spot h v (v .left) (v .right) (kept-sides (v .l) (v .r))) md)
-
-insert-insert-requires-2 : (t : ℕ) → insert-lts.Need-insert-requires-2 (
-  pull-reads.Asked,
-  pull-reads.Learnt,
-  read-node-reads.Asked,
-  read-node-reads.Learnt,
-  insert-below t,
-  insert.Post,
-  rebalance-reads.Asked,
-  rebalance-reads.Learnt,
-) (insert-at t) insert.Post
-insert-insert-requires-2 t c κs =
-    let h = c .before .before .before .before .before .before .before .pre .1 .1 in
-    let v = view _ _ _ _ _ (h .at) (c .before .before .before .before .before .if1 .left) (c .before .before .before .read-node .ensures) in
-    (omega (arith, right-falls (h .at) v, c .before .before .before .before .before .before .before .pre .0), (v .r, side-ready h v (v .right) (v .left) (swapped-sides (v .l) (v .r))))
-
-insert-rebalance-requires-2 : (t : ℕ) → insert-lts.Need-rebalance-requires-2 (
-  pull-reads.Asked,
-  pull-reads.Learnt,
-  read-node-reads.Asked,
-  read-node-reads.Learnt,
-  insert-below t,
-  insert.Post,
-  rebalance-reads.Asked,
-  rebalance-reads.Learnt,
-) (insert-at t) insert.Post
-insert-rebalance-requires-2 t c κs =
-    let h = c .before .before .before .before .before .before .before .before .before .before .before .pre .1 .1 in
-    let v = view _ _ _ _ _ (h .at) (c .before .before .before .before .before .before .before .before .before .if1 .left) (c .before .before .before .before .before .before .before .read-node .ensures) in
-    let md = c .before .before .before .insert2 .ensures (v .r) (side-ready h v (v .right) (v .left) (swapped-sides (v .l) (v .r))) in
-    (_, _, right-parts (side-spot h v (v .right) (v .left) (swapped-sides (v .l) (v .r))) md)
-
-insert-same-length-2 : (t : ℕ) → insert-lts.Need-same-length-2 (
-  pull-reads.Asked,
-  pull-reads.Learnt,
-  read-node-reads.Asked,
-  read-node-reads.Learnt,
-  insert-below t,
-  insert.Post,
-  rebalance-reads.Asked,
-  rebalance-reads.Learnt,
-) (insert-at t) insert.Post
-insert-same-length-2 t c = search needs
-
-insert-returns-2 : (t : ℕ) → insert-lts.Need-returns-2 (
-  pull-reads.Asked,
-  pull-reads.Learnt,
-  read-node-reads.Asked,
-  read-node-reads.Learnt,
-  insert-below t,
-  insert.Post,
-  rebalance-reads.Asked,
-  rebalance-reads.Learnt,
-) (insert-at t) insert.Post
-insert-returns-2 t c =
-    λ u h.
-    let v = view _ _ _ _ _ (h .at) (c .before .before .before .before .before .before .before .before .before .before .before .before .if1 .left) (c .before .before .before .before .before .before .before .before .before .before .read-node .ensures) in
-    let md = c .before .before .before .before .before .before .insert .ensures (v .l) (side-ready h v (v .left) (v .right) (kept-sides (v .l) (v .r))) in
-    let j = c .before .before .rebalance .ensures _ _ (left-parts (side-spot h v (v .left) (v .right) (kept-sides (v .l) (v .r))) md) in
-    made-as refl (insert-left h v (c .before .before .before .before .before .before .before .before .if2 .taken)) (side-made h v (v .left) (v .right) (kept-sides (v .l) (v .r)) md j (λ m. refl))
-
-insert-same-length-3 : (t : ℕ) → insert-lts.Need-same-length-3 (
-  pull-reads.Asked,
-  pull-reads.Learnt,
-  read-node-reads.Asked,
-  read-node-reads.Learnt,
-  insert-below t,
-  insert.Post,
-  rebalance-reads.Asked,
-  rebalance-reads.Learnt,
-) (insert-at t) insert.Post
-insert-same-length-3 t c = search needs
-
-insert-returns-3 : (t : ℕ) → insert-lts.Need-returns-3 (
-  pull-reads.Asked,
-  pull-reads.Learnt,
-  read-node-reads.Asked,
-  read-node-reads.Learnt,
-  insert-below t,
-  insert.Post,
-  rebalance-reads.Asked,
-  rebalance-reads.Learnt,
-) (insert-at t) insert.Post
-insert-returns-3 t c =
-    λ u h.
-    let v = view _ _ _ _ _ (h .at) (c .before .before .before .before .before .before .before .before .before .before .before .before .if1 .left) (c .before .before .before .before .before .before .before .before .before .before .read-node .ensures) in
-    let md = c .before .before .before .before .before .before .insert2 .ensures (v .r) (side-ready h v (v .right) (v .left) (swapped-sides (v .l) (v .r))) in
-    let j = c .before .before .rebalance2 .ensures _ _ (right-parts (side-spot h v (v .right) (v .left) (swapped-sides (v .l) (v .r))) md) in
-    made-as refl (insert-right h v (c .before .before .before .before .before .before .before .before .if2 .left)) (side-made h v (v .right) (v .left) (swapped-sides (v .l) (v .r)) md j (λ m. omega arith))
-
-pub +insert-spec : {M : Type 1} → statement M
-+insert-spec = close μ-insert λ t. insert-lts.spec (
+-- what each call asks and tells, in the order of the code
+abbrev insert-claims : ℕ → insert-lts.Claims
+insert-claims t = (
   pull-reads.Asked,
   pull-reads.Learnt,
   read-node-reads.Asked,
@@ -212,6 +41,73 @@ pub +insert-spec : {M : Type 1} → statement M
   rebalance-reads.Asked,
   rebalance-reads.Learnt,
 )
+
+insert-pull-requires : (t : ℕ) → insert-lts.Need-pull-requires (insert-claims t) (insert-at t) insert.Post
+insert-pull-requires t c κs =
+    let h = c .before .before .before .pre .1 .1 in
+    record { room = h .room; ordered = h .ordered; children = (0, leaf, leaf, leaf-at, leaf-at, omega arith) }
+
+insert-same-length : (t : ℕ) → insert-lts.Need-same-length (insert-claims t) (insert-at t) insert.Post
+insert-same-length t c = search needs
+
+insert-returns : (t : ℕ) → insert-lts.Need-returns (insert-claims t) (insert-at t) insert.Post
+insert-returns t c = λ u h. new-made u h (c .before .before .before .before .if1 .taken) (c .before .before .pull .ensures)
+
+insert-read-node-requires : (t : ℕ) → insert-lts.Need-read-node-requires (insert-claims t) (insert-at t) insert.Post
+insert-read-node-requires t c κs =
+    let h = c .before .before .before .pre .1 .1 in
+    room-at (c .before .if1 .left) _ (h .at)
+
+insert-insert-requires : (t : ℕ) → insert-lts.Need-insert-requires (insert-claims t) (insert-at t) insert.Post
+insert-insert-requires t c κs =
+    let h = c .before .before .before .before .before .before .before .pre .1 .1 in
+    let v = view _ _ _ _ _ (h .at) (c .before .before .before .before .before .if1 .left) (c .before .before .before .read-node .ensures) in
+    (omega (arith, left-falls (h .at) v, c .before .before .before .before .before .before .before .pre .0), (v .l, side-ready h v (v .left) (v .right) (kept-sides (v .l) (v .r))))
+
+insert-rebalance-requires : (t : ℕ) → insert-lts.Need-rebalance-requires (insert-claims t) (insert-at t) insert.Post
+insert-rebalance-requires t c κs =
+    let h = c .before .before .before .before .before .before .before .before .before .before .before .pre .1 .1 in
+    let v = view _ _ _ _ _ (h .at) (c .before .before .before .before .before .before .before .before .before .if1 .left) (c .before .before .before .before .before .before .before .read-node .ensures) in
+    let md = c .before .before .before .insert .ensures (v .l) (side-ready h v (v .left) (v .right) (kept-sides (v .l) (v .r))) in
+    (_, _, left-parts (side-spot h v (v .left) (v .right) (kept-sides (v .l) (v .r))) md)
+
+insert-insert-requires-2 : (t : ℕ) → insert-lts.Need-insert-requires-2 (insert-claims t) (insert-at t) insert.Post
+insert-insert-requires-2 t c κs =
+    let h = c .before .before .before .before .before .before .before .pre .1 .1 in
+    let v = view _ _ _ _ _ (h .at) (c .before .before .before .before .before .if1 .left) (c .before .before .before .read-node .ensures) in
+    (omega (arith, right-falls (h .at) v, c .before .before .before .before .before .before .before .pre .0), (v .r, side-ready h v (v .right) (v .left) (swapped-sides (v .l) (v .r))))
+
+insert-rebalance-requires-2 : (t : ℕ) → insert-lts.Need-rebalance-requires-2 (insert-claims t) (insert-at t) insert.Post
+insert-rebalance-requires-2 t c κs =
+    let h = c .before .before .before .before .before .before .before .before .before .before .before .pre .1 .1 in
+    let v = view _ _ _ _ _ (h .at) (c .before .before .before .before .before .before .before .before .before .if1 .left) (c .before .before .before .before .before .before .before .read-node .ensures) in
+    let md = c .before .before .before .insert2 .ensures (v .r) (side-ready h v (v .right) (v .left) (swapped-sides (v .l) (v .r))) in
+    (_, _, right-parts (side-spot h v (v .right) (v .left) (swapped-sides (v .l) (v .r))) md)
+
+insert-same-length-2 : (t : ℕ) → insert-lts.Need-same-length-2 (insert-claims t) (insert-at t) insert.Post
+insert-same-length-2 t c = search needs
+
+insert-returns-2 : (t : ℕ) → insert-lts.Need-returns-2 (insert-claims t) (insert-at t) insert.Post
+insert-returns-2 t c =
+    λ u h.
+    let v = view _ _ _ _ _ (h .at) (c .before .before .before .before .before .before .before .before .before .before .before .before .if1 .left) (c .before .before .before .before .before .before .before .before .before .before .read-node .ensures) in
+    let md = c .before .before .before .before .before .before .insert .ensures (v .l) (side-ready h v (v .left) (v .right) (kept-sides (v .l) (v .r))) in
+    let j = c .before .before .rebalance .ensures _ _ (left-parts (side-spot h v (v .left) (v .right) (kept-sides (v .l) (v .r))) md) in
+    made-as refl (insert-left h v (c .before .before .before .before .before .before .before .before .if2 .taken)) (side-made h v (v .left) (v .right) (kept-sides (v .l) (v .r)) md j (λ m. refl))
+
+insert-same-length-3 : (t : ℕ) → insert-lts.Need-same-length-3 (insert-claims t) (insert-at t) insert.Post
+insert-same-length-3 t c = search needs
+
+insert-returns-3 : (t : ℕ) → insert-lts.Need-returns-3 (insert-claims t) (insert-at t) insert.Post
+insert-returns-3 t c =
+    λ u h.
+    let v = view _ _ _ _ _ (h .at) (c .before .before .before .before .before .before .before .before .before .before .before .before .if1 .left) (c .before .before .before .before .before .before .before .before .before .before .read-node .ensures) in
+    let md = c .before .before .before .before .before .before .insert2 .ensures (v .r) (side-ready h v (v .right) (v .left) (swapped-sides (v .l) (v .r))) in
+    let j = c .before .before .rebalance2 .ensures _ _ (right-parts (side-spot h v (v .right) (v .left) (swapped-sides (v .l) (v .r))) md) in
+    made-as refl (insert-right h v (c .before .before .before .before .before .before .before .before .if2 .left)) (side-made h v (v .right) (v .left) (swapped-sides (v .l) (v .r)) md j (λ m. omega arith))
+
+pub +insert-spec : {M : Type 1} → statement M
++insert-spec = close μ-insert λ t. insert-lts.spec (insert-claims t)
     (insert-at t)
     insert.Post
     (insert-pull-requires t)

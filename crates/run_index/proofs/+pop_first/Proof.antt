@@ -28,94 +28,9 @@ abbrev pop-first-below : ℕ → In 1 pop-first-kinds.ps
 pop-first-below t =
     and 1 pop-first-kinds.ps (falls 1 pop-first-kinds.ps _<_ μ-pop-first t) pop-first.Pre
 
-pop-first-read-node-requires : (t : ℕ) → pop-first-lts.Need-read-node-requires (
-  read-node-reads.Asked,
-  read-node-reads.Learnt,
-  pop-first-below t,
-  pop-first.Post,
-  rebalance-reads.Asked,
-  rebalance-reads.Learnt,
-) (pop-first-at t) pop-first.Post
-pop-first-read-node-requires t c κs =
-    let h = c .before .before .pre .1 .0 .1 in
-    room-at (c .before .before .pre .1 .1) _ (h .at)
-
-pop-first-same-length : (t : ℕ) → pop-first-lts.Need-same-length (
-  read-node-reads.Asked,
-  read-node-reads.Learnt,
-  pop-first-below t,
-  pop-first.Post,
-  rebalance-reads.Asked,
-  rebalance-reads.Learnt,
-) (pop-first-at t) pop-first.Post
-pop-first-same-length t c = search needs
-
-pop-first-returns : (t : ℕ) → pop-first-lts.Need-returns (
-  read-node-reads.Asked,
-  read-node-reads.Learnt,
-  pop-first-below t,
-  pop-first.Post,
-  rebalance-reads.Asked,
-  rebalance-reads.Learnt,
-) (pop-first-at t) pop-first.Post
-pop-first-returns t c =
-    λ u h.
-    let v = view _ _ _ _ _ (h .at) (c .before .before .before .before .before .pre .1 .1) (c .before .before .read-node .ensures) in
-    pop-here h v (c .if1 .taken)
-
-pop-first-pop-first-requires : (t : ℕ) → pop-first-lts.Need-pop-first-requires (
-  read-node-reads.Asked,
-  read-node-reads.Learnt,
-  pop-first-below t,
-  pop-first.Post,
-  rebalance-reads.Asked,
-  rebalance-reads.Learnt,
-) (pop-first-at t) pop-first.Post
-pop-first-pop-first-requires t c κs =
-    let h = c .before .before .before .before .before .before .pre .1 .0 .1 in
-    let v = view _ _ _ _ _ (h .at) (c .before .before .before .before .before .before .pre .1 .1) (c .before .before .before .read-node .ensures) in
-    (omega (arith, left-falls (h .at) v, c .before .before .before .before .before .before .pre .0), ((v .l, left-owned h v), c .before .if1 .left))
-
-pop-first-rebalance-requires : (t : ℕ) → pop-first-lts.Need-rebalance-requires (
-  read-node-reads.Asked,
-  read-node-reads.Learnt,
-  pop-first-below t,
-  pop-first.Post,
-  rebalance-reads.Asked,
-  rebalance-reads.Learnt,
-) (pop-first-at t) pop-first.Post
-pop-first-rebalance-requires t c κs =
-    let h = c .before .before .before .before .before .before .before .before .before .before .pre .1 .0 .1 in
-    let v = view _ _ _ _ _ (h .at) (c .before .before .before .before .before .before .before .before .before .before .pre .1 .1) (c .before .before .before .before .before .before .before .read-node .ensures) in
-    let ps = c .before .before .before .pop-first .ensures (v .l) (left-owned h v) in
-    (_, _, left-parts (side-spot h v (v .right) (left-popped h v (c .before .before .before .before .before .if1 .left))) (ps .made))
-
-pop-first-same-length-2 : (t : ℕ) → pop-first-lts.Need-same-length-2 (
-  read-node-reads.Asked,
-  read-node-reads.Learnt,
-  pop-first-below t,
-  pop-first.Post,
-  rebalance-reads.Asked,
-  rebalance-reads.Learnt,
-) (pop-first-at t) pop-first.Post
-pop-first-same-length-2 t c = search needs
-
-pop-first-returns-2 : (t : ℕ) → pop-first-lts.Need-returns-2 (
-  read-node-reads.Asked,
-  read-node-reads.Learnt,
-  pop-first-below t,
-  pop-first.Post,
-  rebalance-reads.Asked,
-  rebalance-reads.Learnt,
-) (pop-first-at t) pop-first.Post
-pop-first-returns-2 t c =
-    λ u h.
-    let v = view _ _ _ _ _ (h .at) (c .before .before .before .before .before .before .before .before .before .before .before .before .before .pre .1 .1) (c .before .before .before .before .before .before .before .before .before .before .read-node .ensures) in
-    let ps = c .before .before .before .before .before .before .pop-first .ensures (v .l) (left-owned h v) in
-    pop-there h v (c .before .before .before .before .before .before .before .before .if1 .left) ps (c .before .before .rebalance .ensures _ _ (left-parts (side-spot h v (v .right) (left-popped h v (c .before .before .before .before .before .before .before .before .if1 .left))) (ps .made)))
-
-pub +pop-first-spec : {M : Type 1} → statement M
-+pop-first-spec = close μ-pop-first λ t. pop-first-lts.spec (
+-- what each call asks and tells, in the order of the code
+abbrev pop-first-claims : ℕ → pop-first-lts.Claims
+pop-first-claims t = (
   read-node-reads.Asked,
   read-node-reads.Learnt,
   pop-first-below t,
@@ -123,6 +38,46 @@ pub +pop-first-spec : {M : Type 1} → statement M
   rebalance-reads.Asked,
   rebalance-reads.Learnt,
 )
+
+pop-first-read-node-requires : (t : ℕ) → pop-first-lts.Need-read-node-requires (pop-first-claims t) (pop-first-at t) pop-first.Post
+pop-first-read-node-requires t c κs =
+    let h = c .before .before .pre .1 .0 .1 in
+    room-at (c .before .before .pre .1 .1) _ (h .at)
+
+pop-first-same-length : (t : ℕ) → pop-first-lts.Need-same-length (pop-first-claims t) (pop-first-at t) pop-first.Post
+pop-first-same-length t c = search needs
+
+pop-first-returns : (t : ℕ) → pop-first-lts.Need-returns (pop-first-claims t) (pop-first-at t) pop-first.Post
+pop-first-returns t c =
+    λ u h.
+    let v = view _ _ _ _ _ (h .at) (c .before .before .before .before .before .pre .1 .1) (c .before .before .read-node .ensures) in
+    pop-here h v (c .if1 .taken)
+
+pop-first-pop-first-requires : (t : ℕ) → pop-first-lts.Need-pop-first-requires (pop-first-claims t) (pop-first-at t) pop-first.Post
+pop-first-pop-first-requires t c κs =
+    let h = c .before .before .before .before .before .before .pre .1 .0 .1 in
+    let v = view _ _ _ _ _ (h .at) (c .before .before .before .before .before .before .pre .1 .1) (c .before .before .before .read-node .ensures) in
+    (omega (arith, left-falls (h .at) v, c .before .before .before .before .before .before .pre .0), ((v .l, left-owned h v), c .before .if1 .left))
+
+pop-first-rebalance-requires : (t : ℕ) → pop-first-lts.Need-rebalance-requires (pop-first-claims t) (pop-first-at t) pop-first.Post
+pop-first-rebalance-requires t c κs =
+    let h = c .before .before .before .before .before .before .before .before .before .before .pre .1 .0 .1 in
+    let v = view _ _ _ _ _ (h .at) (c .before .before .before .before .before .before .before .before .before .before .pre .1 .1) (c .before .before .before .before .before .before .before .read-node .ensures) in
+    let ps = c .before .before .before .pop-first .ensures (v .l) (left-owned h v) in
+    (_, _, left-parts (side-spot h v (v .right) (left-popped h v (c .before .before .before .before .before .if1 .left))) (ps .made))
+
+pop-first-same-length-2 : (t : ℕ) → pop-first-lts.Need-same-length-2 (pop-first-claims t) (pop-first-at t) pop-first.Post
+pop-first-same-length-2 t c = search needs
+
+pop-first-returns-2 : (t : ℕ) → pop-first-lts.Need-returns-2 (pop-first-claims t) (pop-first-at t) pop-first.Post
+pop-first-returns-2 t c =
+    λ u h.
+    let v = view _ _ _ _ _ (h .at) (c .before .before .before .before .before .before .before .before .before .before .before .before .before .pre .1 .1) (c .before .before .before .before .before .before .before .before .before .before .read-node .ensures) in
+    let ps = c .before .before .before .before .before .before .pop-first .ensures (v .l) (left-owned h v) in
+    pop-there h v (c .before .before .before .before .before .before .before .before .if1 .left) ps (c .before .before .rebalance .ensures _ _ (left-parts (side-spot h v (v .right) (left-popped h v (c .before .before .before .before .before .before .before .before .if1 .left))) (ps .made)))
+
+pub +pop-first-spec : {M : Type 1} → statement M
++pop-first-spec = close μ-pop-first λ t. pop-first-lts.spec (pop-first-claims t)
     (pop-first-at t)
     pop-first.Post
     (pop-first-read-node-requires t)
