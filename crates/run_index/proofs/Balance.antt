@@ -10,10 +10,15 @@ use Rattle.run_index.specs.Tree.{Tree, leaf, node, height, runs, Balance
 use Rattle.run_index.specs.Shape.{pick, mirror, rotateLeft, rotateRight, leanLeft, leanRight, rebalanced, inserted, firstNumber, firstStart, firstEnd, popped, fused, removed}
 use Rattle.run_index.proofs.Mirror.{mirror-twice, mirror-height, mirror-balanced, mirror-rotateRight, mirror-leanLeft}
 
+-- the higher of two heights, in either order
+max-swap : (x y : ℕ) → max x y ≡ max y x
+max-swap x y = omega arith
+
 -- balanced, and of the height h or one more
 unfoldable pub Near : Tree → ℕ → Type 0
 Near t h = Balanced t × (h ≤ height t) × (height t ≤ h + 1)
 
+-- the same of the mirror
 mirror-near : (t : Tree) (h : ℕ) → Near t h → Near (mirror t) h
 unfolding Near
 mirror-near t h n = (mirror-balanced t (n .0), omega (arith, n .1, mirror-height t), omega (arith, n .2, mirror-height t))
@@ -40,6 +45,7 @@ module _ (n a b : ℕ) where
   double-balanced m c d x (node k f g p q) r bl br e lt =
       ((omega arith, omega arith, (omega arith, omega arith, bl .2, bl .3 .2), (omega arith, omega arith, bl .3 .3, br)), omega arith, omega arith)
 
+  -- a left side that is higher by two: it leans, and its root comes up
   left-balanced : (l r : Tree) → Balanced l → Balanced r → height l ≡ height r + 2 → Near (rotateRight n a b (leanLeft l) r) (height l)
   left-balanced leaf r bl br e = absurd (omega arith)
   left-balanced (node m c d x y) r bl br e = go (ltb (height x) (height y)) refl
@@ -78,6 +84,7 @@ module _ (n a b : ℕ) where
           let ge : height r ≤ height l + 1 = ltb-false (height l + 1) (height r) f in
           ((le, ge, bl, br), omega arith, omega arith)
 
+  -- its balance alone
   pub rebalanced-balanced : (l r : Tree) → Balanced l → Balanced r → height l ≤ height r + 2 → height r ≤ height l + 2 → Balanced (rebalanced n a b l r)
   unfolding Joined
   rebalanced-balanced l r bl br hl hr = rebalanced-joined l r bl br hl hr .0
@@ -104,14 +111,13 @@ insert-near f a b (node n c d l r) h = go (ltb a c) (insert-near f a b l (h .2))
         rw (max-swap (height l) (height r)) (grown n c d l (inserted f a b r) r l (inserted f a b r)
         (rebalanced-joined n c d l (inserted f a b r) (h .2) (ir .0) (omega (arith, h .0, ir .1)) (omega (arith, h .1, ir .2)))
         (omega arith) (omega arith) (h .1) (h .0) ir)
-      where
-        max-swap : (x y : ℕ) → max x y ≡ max y x
-        max-swap x y = omega arith
 
+-- an insertion keeps the balance
 pub insert-balanced : (f a b : ℕ) (t : Tree) → Balanced t → Balanced (inserted f a b t)
 unfolding Near
 insert-balanced f a b t h = insert-near f a b t h .0
 
+-- and adds one to the height at most
 pub insert-height : (f a b : ℕ) (t : Tree) → Balanced t → (height t ≤ height (inserted f a b t)) × (height (inserted f a b t) ≤ height t + 1)
 unfolding Near
 insert-height f a b t h = (insert-near f a b t h .1, insert-near f a b t h .2)
@@ -127,18 +133,17 @@ unfolding Shrunk Joined
 shrunk n a b l r c o c′ j lo hi near near′ s = (j .0, omega (arith, j .2, s .1, s .2), omega (arith, j .1, s .1, s .2))
 
 module _ (n a b : ℕ) (l r : Tree) (near : height l ≤ height r + 1) (near′ : height r ≤ height l + 1) (bl : Balanced l) (br : Balanced r) where
+  -- the left side shrinks
   left-shrunk : (l′ : Tree) → Shrunk l′ (height l) → Shrunk (rebalanced n a b l′ r) (1 + max (height l) (height r))
   unfolding Shrunk
   left-shrunk l′ s =
       shrunk n a b l′ r l r l′ (rebalanced-joined n a b l′ r (s .0) br (omega (arith, s .1)) (omega (arith, s .2))) refl refl near near′ s
 
+  -- the right side shrinks
   right-shrunk : (r′ : Tree) → Shrunk r′ (height r) → Shrunk (rebalanced n a b l r′) (1 + max (height l) (height r))
   unfolding Shrunk
   right-shrunk r′ s =
       rw (max-swap (height l) (height r)) (shrunk n a b l r′ r l r′ (rebalanced-joined n a b l r′ bl (s .0) (omega (arith, s .2)) (omega (arith, s .1))) (omega arith) (omega arith) near′ near s)
-    where
-      max-swap : (x y : ℕ) → max x y ≡ max y x
-      max-swap x y = omega arith
 
 -- taking the first node out keeps the balance
 pub pop-shrunk : (t : Tree) → Balanced t → Shrunk (popped t) (height t)
@@ -155,6 +160,7 @@ fuse-shrunk l leaf hl hr bl br = (bl, omega arith, omega arith)
 fuse-shrunk l (node m c d x y) hl hr bl br =
     right-shrunk (firstNumber (node m c d x y)) (firstStart (node m c d x y)) (firstEnd (node m c d x y)) l (node m c d x y) hl hr bl br (popped (node m c d x y)) (pop-shrunk (node m c d x y) br)
 
+-- a removal goes into one side, or makes one tree of both
 remove-shrunk : (k : ℕ) (t : Tree) → Balanced t → Shrunk (removed k t) (height t)
 unfolding Shrunk
 remove-shrunk k leaf h = (tt, omega arith, omega arith)
@@ -171,6 +177,7 @@ pub remove-balanced : (k : ℕ) (t : Tree) → Balanced t → Balanced (removed 
 unfolding Shrunk
 remove-balanced k t h = remove-shrunk k t h .0
 
+-- and takes one from the height at most
 pub remove-height : (k : ℕ) (t : Tree) → Balanced t → (height (removed k t) ≤ height t) × (height t ≤ height (removed k t) + 1)
 unfolding Shrunk
 remove-height k t h = (remove-shrunk k t h .1, remove-shrunk k t h .2)

@@ -15,22 +15,27 @@ abbrev sum : ℕ → (ℕ → ℕ) → ℕ
 sum zero f = 0
 sum (suc k) f = sum k f + f k
 
+-- a sum of zeros and ones, the first of them a zero
 sum-one : (k : ℕ) (f : ℕ → ℕ) → ((m : ℕ) → f m ≤ 1) → f 0 ≡ 0 → sum (suc k) f ≤ k
 sum-one zero f h z = omega arith
 sum-one (suc k) f h z = omega (arith, sum-one k f h z, h (suc k))
 
+-- a sum of sums
 sum-add : (k : ℕ) (f g h : ℕ → ℕ) → sum k (λ m. f m + (g m + h m)) ≡ sum k f + (sum k g + sum k h)
 sum-add zero f g h = refl
 sum-add (suc k) f g h = omega (arith, sum-add k f g h)
 
+-- a sum of zeros
 sum-zero : (k : ℕ) → sum k (λ m. 0) ≡ 0
 sum-zero zero = refl
 sum-zero (suc k) = omega (arith, sum-zero k)
 
+-- δ m n for m below k, where n is not below k
 sum-none : (k n : ℕ) → k ≤ n → sum k (λ m. δ m n) ≡ 0
 sum-none zero n h = refl
 sum-none (suc k) n h = omega (arith, sum-none k n (omega arith), δ-other k n (λ (e : k ≡ n). omega arith))
 
+-- and where it is
 sum-δ : (k n : ℕ) → n < k → sum k (λ m. δ m n) ≡ 1
 sum-δ zero n h = absurd (omega arith)
 sum-δ (suc k) n h = go (ℕ-discrete k n) (sum-δ k n)
@@ -43,6 +48,7 @@ sum-δ (suc k) n h = go (ℕ-discrete k n) (sum-δ k n)
 abbrev pub Numbered : ℕ → Tree → Type 0
 Numbered k t = (m : ℕ) → 1 ≤ count m t → m < k
 
+-- the counts of the numbers below k add up to the number of nodes
 sum-count : (k : ℕ) (t : Tree) → Numbered k t → sum k (λ m. count m t) ≡ runs t
 sum-count k leaf h = sum-zero k
 sum-count k (node n a b l r) h =
@@ -60,6 +66,7 @@ rep-positive w g (node n a b l r) h =
     let pos : 1 ≤ n = rep-pos h in
     omega (arith, δ-other 0 n (λ (e : 0 ≡ n). omega arith), rep-positive w g l (rep-left h), rep-positive w g r (rep-right h))
 
+-- each of its nodes has room
 pub rep-numbered : (w : List ℕ) (g : ℕ) (t : Tree) → Rep w g t → (m : ℕ) → 1 ≤ count m t → Room w m
 rep-numbered w g leaf h m i = absurd (omega arith)
 rep-numbered w g (node n a b l r) h m i = go (ℕ-discrete m n) (ℕ-discrete (count m l) 0) (rep-numbered w g l (rep-left h) m) (rep-numbered w g r (rep-right h) m)

@@ -16,6 +16,7 @@ use Rattle.run_index.proofs.Trees.{leaf-at}
 use Rattle.run_index.proofs.Heap.{frame, made}
 use Rattle.run_index.proofs.Built.{built-agree, built-none, built-halves, built-runs, built-below, built-above}
 
+-- an equal tree is there too
 at-as : {w : List ℕ} {g p : ℕ} {t u : Tree} → t ≡ u → At w g p t → At w g p u
 at-as {w} {g} {p} e h = subst (λ (k : Tree). At w g p k) e h
 
@@ -24,6 +25,7 @@ pub builds-none : (w : List ℕ) (i k g : ℕ) → k ≡ 0 → Builds w w 0 i k 
 builds-none w i k g e = record { at = at-as (sym (built-none w i k e)) leaf-at; kept = λ m o. refl; long = refl }
 
 module _ {w : List ℕ} {i k h : ℕ} (gi : Given w i k) (some : k ≡ 0 → ⊥) (half : h ≡ k / 2) where
+  -- the left call
   pub left-given : Given w i h
   left-given = record {
     room = omega (arith, gi .room);
@@ -32,6 +34,7 @@ module _ {w : List ℕ} {i k h : ℕ} (gi : Given w i k) (some : k ≡ 0 → ⊥
   }
 
   module _ {w₁ : List ℕ} {x₁ g : ℕ} (b₁ : Builds w w₁ x₁ i h g) where
+    -- the right call: the left one changed none of its nodes
     pub right-given : Given w₁ (i + h + 1) (k - h - 1)
     right-given = record {
       room = omega (arith, gi .room, b₁ .long);
@@ -54,16 +57,20 @@ module _ {w : List ℕ} {i k h : ℕ} (gi : Given w i k) (some : k ≡ 0 → ⊥
           let e : cellAt w₁ m ≡ cellAt w m = b₁ .kept m (inr (omega arith)) in
           (ap (λ (u : Node). u .start) e, ap (λ (u : Node). u .«end») e))) (b₂ .at)
 
+      -- the middle node has room
       pub middle-room : Room w₂ (i + h + 1)
       middle-room = omega (arith, gi .room, b₁ .long, b₂ .long)
 
       module _ {v : Node} (e : v ≡ cellAt w₂ (i + h + 1)) where
+        -- what is read of the middle node is what it held at the start
         middle-is : v ≡ cellAt w (i + h + 1)
         middle-is = e ∙ b₂ .kept (i + h + 1) (inl (omega arith)) ∙ b₁ .kept (i + h + 1) (inr (omega arith))
 
+        -- so it holds a run
         middle-ordered : v .start ≤ v .«end»
         middle-ordered = rw middle-is (gi .ordered (i + h + 1) (omega arith) (omega arith))
 
+        -- the write of the middle node
         pub middle-pullable : Pullable w₂ (i + h + 1) (v .start) (v .«end») x₁ x₂
         middle-pullable = record {
           room = middle-room;
@@ -71,6 +78,7 @@ module _ {w : List ℕ} {i k h : ℕ} (gi : Given w i k) (some : k ≡ 0 → ⊥
           children = (g, _, _, left-at, right-at, omega (arith, built-runs w i h, built-runs w (i + h + 1) (k - h - 1), gi .few));
         }
 
+        -- both calls and the write
         pub builds-all : {w₃ : List ℕ} → Pulls w₂ w₃ (i + h + 1) (v .start) (v .«end») x₁ x₂ g → Builds w w₃ (i + h + 1) i k g
         builds-all {w₃} pulls =
             let l : Tree = built h w i h in

@@ -79,6 +79,7 @@ module _ (w : List ℕ) (m : ℕ) where
   abbrev Ranged : ℕ → ℕ → Tree → Type 0
   Ranged i k t = (i < m → m ≤ i + k → count m t ≡ 1) × (m ≤ i → count m t ≡ 0) × (i + k < m → count m t ≡ 0)
 
+  -- two halves and the node between them
   ranged-node : (i k h a b : ℕ) (l r : Tree) → (k ≡ 0 → ⊥) → h ≡ k / 2 → Ranged i h l → Ranged (i + h + 1) (k - h - 1) r → Dec (m < i + h + 1) → Dec (i + h + 1 < m)
       → Ranged i k (node (i + h + 1) a b l r)
   ranged-node i k h a b l r ne half hl hr (yes lt) d =
@@ -96,17 +97,21 @@ module _ (w : List ℕ) (m : ℕ) where
       let y : count m r ≡ 0 = hr .1 (omega arith) in
       (λ lo hi. omega arith, λ lo. absurd (omega arith), λ hi. absurd (omega arith))
 
+  -- so of the built tree
   ranged : (i k : ℕ) → Ranged i k (built k w i k)
   ranged i k = by-halves Ranged w (λ j. (λ lo hi. absurd (omega arith), λ lo. refl, λ hi. refl))
       (λ j n h l r ne half hl hr. ranged-node j n h ((cellAt w (j + h + 1)) .start) ((cellAt w (j + h + 1)) .«end») l r ne half hl hr (decLt m (j + h + 1)) (decLt (j + h + 1) m))
       k i k (omega arith)
 
+  -- each of the nodes i + 1 .. i + k once
   pub built-inside : (i k : ℕ) → i < m → m ≤ i + k → count m (built k w i k) ≡ 1
   built-inside i k lo hi = ranged i k .0 lo hi
 
+  -- none before
   pub built-below : (i k : ℕ) → m ≤ i → count m (built k w i k) ≡ 0
   built-below i k lo = ranged i k .1 lo
 
+  -- none after
   pub built-above : (i k : ℕ) → i + k < m → count m (built k w i k) ≡ 0
   built-above i k hi = ranged i k .2 hi
 
@@ -121,6 +126,7 @@ runs-append w (suc h) i d =
     let f : (i + 1) + h ≡ i + suc h = omega arith in
     ap (runsAt w i) e ∙ ap (λ (l : List Run). record { start = (cellAt w (i + 1)) .start; «end» = (cellAt w (i + 1)) .«end» } ∷ l) (runs-append w h (i + 1) d ∙ ap (λ (j : ℕ). runsAt w (i + 1) h ++ runsAt w j d) f)
 
+-- the runs of the left half, the middle node and the right half
 runs-split : (w : List ℕ) (h i d k : ℕ) → k ≡ h + suc d
     → runsAt w i h ++ (record { start = (cellAt w (i + h + 1)) .start; «end» = (cellAt w (i + h + 1)) .«end» } ∷ runsAt w (i + h + 1) d) ≡ runsAt w i k
 runs-split w h i d k e = sym (ap (runsAt w i) e ∙ runs-append w h i (suc d))
@@ -144,6 +150,7 @@ halved-near (node n a b l r) leaf ht hu le ge = omega (arith, height≤runs l, h
 halved-near (node n a b l r) (node m c d x y) ht hu le ge =
     omega (arith, halved-near l x (ht .2) (hu .2) (omega arith) (omega arith), halved-near r y (ht .3) (hu .3) (omega arith) (omega arith))
 
+-- so they are balanced
 halved-balanced : (t : Tree) → Halved t → Balanced t
 halved-balanced leaf h = tt
 halved-balanced (node n a b l r) h =

@@ -18,10 +18,12 @@ abbrev pub Same : ℕ → ℕ → Tree → Tree → Tree → Type 0
 Same m n l r t = (count m t ≡ δ m n + (count m l + count m r)) × (runs t ≡ runs l + runs r + 1)
 
 module _ (n a b m : ℕ) where
+  -- a rotation to the left keeps the nodes
   pub rotateLeft-same : (l r : Tree) → Same m n l r (rotateLeft n a b l r)
   rotateLeft-same l leaf = omega arith
   rotateLeft-same l (node k c d x y) = omega arith
 
+  -- so does one to the right
   pub rotateRight-same : (l r : Tree) → Same m n l r (rotateRight n a b l r)
   rotateRight-same leaf r = omega arith
   rotateRight-same (node k c d x y) r = omega arith
@@ -32,6 +34,7 @@ leanLeft-same m leaf = omega arith
 leanLeft-same m (node n a b l r) =
     either (Same m n l r) (ltb (height l) (height r)) (rotateLeft n a b l r) (node n a b l r) (rotateLeft-same n a b m l r) (omega arith)
 
+-- to the other side too
 pub leanRight-same : (m : ℕ) (t : Tree) → (count m (leanRight t) ≡ count m t) × (runs (leanRight t) ≡ runs t)
 leanRight-same m leaf = omega arith
 leanRight-same m (node n a b l r) =

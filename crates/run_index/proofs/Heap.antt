@@ -32,6 +32,7 @@ module _ {w w′ : List ℕ} {n : ℕ} {v : Node} where
     linked = h .linked;
   }
 
+  -- a write keeps the length, and so the room
   pub room-kept : Wrote w w′ n v → (m : ℕ) → Room w m → Room w′ m
   room-kept wr m ro = let long : length w′ ≡ length w = wr .long in omega arith
 
@@ -70,6 +71,7 @@ pub record View (w : List ℕ) (g p : ℕ) (x : Node) (t : Tree) : Type 0 where
   pub room : Room w p
   pub ordered : x .start ≤ x .«end»
 
+-- each tree at p that is not 0 is seen so
 pub view : (w : List ℕ) (g p : ℕ) (x : Node) (t : Tree) → At w g p t → (p ≡ 0 → ⊥) → x ≡ cellAt w p → View w g p x t
 view w g p x leaf h ne e = absurd (ne (sym (h .linked)))
 view w g p x (node n a b l r) h ne e =
@@ -93,12 +95,15 @@ view w g p x (node n a b l r) h ne e =
 
 -- an owned tree is the join of its root with its two sides, which are owned too
 module _ {w : List ℕ} {g p : ℕ} {t : Tree} {x : Node} (h : Owned w p g t) (v : View w g p x t) where
+  -- the root and the sides have no node in common
   pub seen-apart : (m : ℕ) → δ m p + (count m (v .l) + count m (v .r)) ≤ 1
   seen-apart m = rw (v .is) at (h .apart m)
 
+  -- they are few
   pub seen-few : runs (v .l) + runs (v .r) + 1 < 2 ^ 62
   seen-few = rw (v .is) at (h .few)
 
+  -- they can be joined
   pub seen-parts : Parts w p (x .start) (x .«end») (x .left) (x .right) g (v .l) (v .r)
   seen-parts = record {
     left = v .left;
@@ -110,9 +115,11 @@ module _ {w : List ℕ} {g p : ℕ} {t : Tree} {x : Node} (h : Owned w p g t) (v
     few = omega (arith, seen-few);
   }
 
+  -- the left side
   pub left-owned : Owned w (x .left) g (v .l)
   left-owned = record { at = v .left; apart = λ m. omega (arith, seen-apart m); few = omega (arith, seen-few) }
 
+  -- the right side
   pub right-owned : Owned w (x .right) g (v .r)
   right-owned = record { at = v .right; apart = λ m. omega (arith, seen-apart m); few = omega (arith, seen-few) }
 
@@ -121,6 +128,7 @@ abbrev pub heightAt : List ℕ → ℕ → ℕ
 heightAt w zero = 0
 heightAt w (suc p) = cellAt w (suc p) .height
 
+-- it is the height of the tree there
 pub height-at : {w : List ℕ} {g p : ℕ} (t : Tree) → At w g p t → heightAt w p ≡ height t
 height-at {w} leaf h = ap (heightAt w) (sym (h .linked))
 height-at {w} (node zero a b l r) h = absurd (let pos : 1 ≤ 0 = rep-pos (h .rep) in omega arith)
@@ -128,11 +136,14 @@ height-at {w} (node (suc n) a b l r) h = ap (heightAt w) (sym (h .linked)) ∙ a
 
 -- either side is lower than the tree
 module _ {w : List ℕ} {g p : ℕ} {t : Tree} {x : Node} (h : At w g p t) (v : View w g p x t) where
+  -- the tree's height by its sides'
   tall : heightAt w p ≡ 1 + max (height (v .l)) (height (v .r))
   tall = height-at t h ∙ ap height (v .is)
 
+  -- the left side is lower
   pub left-falls : heightAt w (x .left) < heightAt w p
   left-falls = omega (arith, height-at (v .l) (v .left), tall)
 
+  -- the right side is lower
   pub right-falls : heightAt w (x .right) < heightAt w p
   right-falls = omega (arith, height-at (v .r) (v .right), tall)

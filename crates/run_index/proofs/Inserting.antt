@@ -13,15 +13,13 @@ use Rattle.run_index.specs.Shape.{rebalanced, inserted}
 use Rattle.run_index.proofs.Trees.{node-some, leaf-at}
 use Rattle.run_index.proofs.Heap.{View, made-as}
 use Rattle.run_index.proofs.Counts.{insert-count}
-use Rattle.run_index.proofs.Turning.{Spot, plain-made, then-joined}
+use Rattle.run_index.proofs.Turning.{Sides, Spot, plain-made, then-joined}
 
--- c and o are the sides l and r, in either order
-abbrev pub Sides : Tree → Tree → Tree → Tree → Type 0
-Sides l r c o = (m : ℕ) → (count m c + count m o ≡ count m l + count m r) × (runs c + runs o ≡ runs l + runs r)
-
+-- in their order
 pub kept-sides : (l r : Tree) → Sides l r l r
 kept-sides l r m = (refl, refl)
 
+-- in the other order
 pub swapped-sides : (l r : Tree) → Sides l r r l
 swapped-sides l r m = (omega arith, omega arith)
 
@@ -40,9 +38,11 @@ new-made leaf h e pulls = plain-made record {
 new-made (node n c d l r) h e pulls = absurd (node-some (h .at) e)
 
 module _ {w : List ℕ} {p f a b g : ℕ} {t : Tree} {x : Node} (h : Ready w p f a b g t) (v : View w g p x t) where
+  -- the new node, the root and the sides have no node in common
   apart : (m : ℕ) → δ m f + (δ m p + (count m (v .l) + count m (v .r))) ≤ 1
   apart m = rw (v .is) at (h .apart m)
 
+  -- they are few
   few : (runs (v .l) + runs (v .r) + 1) + 1 < 2 ^ 62
   few = rw (v .is) at (h .few)
 
@@ -83,5 +83,6 @@ module _ {w : List ℕ} {p f a b g : ℕ} {t : Tree} {x : Node} (h : Ready w p f
   pub insert-left : a < x .start → inserted f a b t ≡ rebalanced p (x .start) (x .«end») (inserted f a b (v .l)) (v .r)
   insert-left lt = ap (inserted f a b) (v .is) ∙ rw (lt-ltb a (x .start) lt)
 
+  -- to the right
   pub insert-right : x .start ≤ a → inserted f a b t ≡ rebalanced p (x .start) (x .«end») (v .l) (inserted f a b (v .r))
   insert-right le = ap (inserted f a b) (v .is) ∙ rw (le-ltb a (x .start) le)

@@ -28,6 +28,7 @@ least-pair (suc h) k le ge = go (decLe k h)
     go (yes l) = let e : k ≡ h = omega arith in omega (arith, ap least e)
     go (no l) = let e : k ≡ suc h = omega arith in omega (arith, ap least e, least-up h)
 
+-- whichever of them is the higher
 least-node : (h k : ℕ) → h ≤ k + 1 → k ≤ h + 1 → least (1 + max h k) ≤ least h + least k + 1
 least-node h k le ge = go (decLe k h)
   where
@@ -35,6 +36,7 @@ least-node h k le ge = go (decLe k h)
     go (yes l) = let e : 1 + max h k ≡ suc h = omega arith in omega (arith, ap least e, least-pair h k l le)
     go (no l) = let e : 1 + max h k ≡ suc k = omega arith in omega (arith, ap least e, least-pair k h (omega arith) ge)
 
+-- no tree has no run
 least-none : least 0 ≡ 0
 unfolding least
 least-none = refl
@@ -54,10 +56,12 @@ pub least-22 : least 22 ≡ 46367
 unfolding least
 least-22 = refl
 
+-- and one of height 23 these, more than 65,536
 pub least-23 : least 23 ≡ 75024
 unfolding least
 least-23 = refl
 
+-- so a balanced tree of 65,536 runs at most is at most 22 high
 pub height-bound : (t : Tree) → Balanced t → runs t ≤ 65536 → height t ≤ 22
 height-bound t b few = go (decLe (height t) 22)
   where

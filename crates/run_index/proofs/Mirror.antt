@@ -19,10 +19,12 @@ pub mirror-height : (t : Tree) → height (mirror t) ≡ height t
 mirror-height leaf = refl
 mirror-height (node n a b l r) = omega (arith, mirror-height l, mirror-height r)
 
+-- so is the number of runs
 pub mirror-runs : (t : Tree) → runs (mirror t) ≡ runs t
 mirror-runs leaf = refl
 mirror-runs (node n a b l r) = omega (arith, mirror-runs l, mirror-runs r)
 
+-- so are the nodes
 pub mirror-count : (m : ℕ) (t : Tree) → count m (mirror t) ≡ count m t
 mirror-count m leaf = refl
 mirror-count m (node n a b l r) = omega (arith, mirror-count m l, mirror-count m r)
@@ -33,16 +35,19 @@ mirror-balanced leaf h = tt
 mirror-balanced (node n a b l r) h =
     (omega (arith, h .1, mirror-height l, mirror-height r), omega (arith, h .0, mirror-height l, mirror-height r), mirror-balanced r (h .3), mirror-balanced l (h .2))
 
+-- either way of a test
 mirror-pick : (c : Bool) (t u : Tree) → mirror (pick c t u) ≡ pick c (mirror t) (mirror u)
 mirror-pick true t u = refl
 mirror-pick false t u = refl
 
 -- rotations
 module _ (n a b : ℕ) where
+  -- the mirror of a rotation to the left is one to the right
   pub mirror-rotateLeft : (l r : Tree) → mirror (rotateLeft n a b l r) ≡ rotateRight n a b (mirror r) (mirror l)
   mirror-rotateLeft l leaf = refl
   mirror-rotateLeft l (node m c d x y) = refl
 
+  -- and of one to the right, one to the left
   pub mirror-rotateRight : (l r : Tree) → mirror (rotateRight n a b l r) ≡ rotateLeft n a b (mirror r) (mirror l)
   mirror-rotateRight leaf r = refl
   mirror-rotateRight (node m c d x y) r = refl
@@ -54,6 +59,7 @@ mirror-leanLeft (node n a b l r) =
     mirror-pick (ltb (height l) (height r)) (rotateLeft n a b l r) (node n a b l r)
     ∙ rw (mirror-rotateLeft n a b l r, mirror-height l, mirror-height r)
 
+-- and of one to the right, one to the left: it is the mirror of the mirror
 pub mirror-leanRight : (t : Tree) → mirror (leanRight t) ≡ leanLeft (mirror t)
 mirror-leanRight t =
     ap (λ (u : Tree). mirror (leanRight u)) (sym (mirror-twice t)) ∙ ap mirror (sym (mirror-leanLeft (mirror t))) ∙ mirror-twice (leanLeft (mirror t))

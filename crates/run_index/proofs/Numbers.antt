@@ -69,20 +69,24 @@ starts-left k [] ys h = absurd h
 starts-left k (x ∷ xs) ys (inl e) = inl e
 starts-left k (x ∷ xs) ys (inr h) = inr (starts-left k xs ys h)
 
+-- so is one of the second
 starts-right : (k : ℕ) (xs ys : List Run) → Starts k ys → Starts k (xs ++ ys)
 starts-right k [] ys h = h
 starts-right k (x ∷ xs) ys h = inr (starts-right k xs ys h)
 
+-- and there are no others
 starts-split : (k : ℕ) (xs ys : List Run) → Starts k (xs ++ ys) → Starts k xs ⊎ Starts k ys
 starts-split k [] ys h = inr h
 starts-split k (x ∷ xs) ys (inl e) = inl (inl e)
 starts-split k (x ∷ xs) ys (inr h) = ⊎-elim (λ (l : Starts k xs). inl (inr l)) (λ (r : Starts k ys). inr r) (starts-split k xs ys h)
 
+-- runs that all start before j have no start from j on
 starts-before : (k j : ℕ) (xs : List Run) → Before j xs → j ≤ k → Starts k xs → ⊥
 starts-before k j [] b le h = h
 starts-before k j (x ∷ xs) b le (inl e) = let lt : x .start < j = b .0 in omega arith
 starts-before k j (x ∷ xs) b le (inr h) = starts-before k j xs (b .1) le h
 
+-- runs that rise from lo have no start before it
 pub starts-after : (k lo : ℕ) (xs : List Run) → Rising lo xs → k < lo → Starts k xs → ⊥
 starts-after k lo [] r lt h = h
 starts-after k lo (x ∷ xs) r lt (inl e) = let le : lo ≤ x .start = r .0 in omega arith

@@ -15,14 +15,17 @@ use Rattle.run_index.specs.Shape.{pick, rotateLeft, rotateRight, leanLef
 
 -- rotations keep the order
 module _ (n a b : ℕ) where
+  -- a rotation to the left
   rotateLeft-inorder : (l r : Tree) → inorder (rotateLeft n a b l r) ≡ inorder (node n a b l r)
   rotateLeft-inorder l leaf = refl
   rotateLeft-inorder l (node m c d x y) = simp append-assoc
 
+  -- one to the right
   rotateRight-inorder : (l r : Tree) → inorder (rotateRight n a b l r) ≡ inorder (node n a b l r)
   rotateRight-inorder leaf r = refl
   rotateRight-inorder (node m c d x y) r = simp append-assoc
 
+-- either way of a test
 pick-inorder : (c : Bool) (t u : Tree) (rs : List Run) → inorder t ≡ rs → inorder u ≡ rs → inorder (pick c t u) ≡ rs
 pick-inorder true t u rs e f = e
 pick-inorder false t u rs e f = f
@@ -33,6 +36,7 @@ leanLeft-inorder leaf = refl
 leanLeft-inorder (node n a b l r) =
     pick-inorder (ltb (height l) (height r)) (rotateLeft n a b l r) (node n a b l r) (inorder (node n a b l r)) (rotateLeft-inorder n a b l r) refl
 
+-- to the other side too
 pub leanRight-inorder : (t : Tree) → inorder (leanRight t) ≡ inorder t
 leanRight-inorder leaf = refl
 leanRight-inorder (node n a b l r) =
@@ -50,18 +54,22 @@ rebalanced-inorder n a b l r =
 
 -- the parts of a rising list
 module _ (y : Run) (ys : List Run) where
+  -- what stands before a run of it rises
   pub rising-left : (lo : ℕ) (xs : List Run) → Rising lo (xs ++ y ∷ ys) → Rising lo xs
   rising-left lo [] h = tt
   rising-left lo (x ∷ xs) h = (h .0, rising-left (x .start + 1) xs (h .1))
 
+  -- the run starts at lo or later
   pub rising-at : (lo : ℕ) (xs : List Run) → Rising lo (xs ++ y ∷ ys) → lo ≤ y .start
   rising-at lo [] h = h .0
   rising-at lo (x ∷ xs) h = omega (arith, h .0, rising-at (x .start + 1) xs (h .1))
 
+  -- what stands before it starts before it
   pub rising-before : (lo : ℕ) (xs : List Run) → Rising lo (xs ++ y ∷ ys) → Before (y .start) xs
   rising-before lo [] h = tt
   rising-before lo (x ∷ xs) h = (omega (arith, rising-at (x .start + 1) xs (h .1)), rising-before (x .start + 1) xs (h .1))
 
+  -- what stands after it rises from its start on
   pub rising-right : (lo : ℕ) (xs : List Run) → Rising lo (xs ++ y ∷ ys) → Rising (y .start + 1) ys
   rising-right lo [] h = h .1
   rising-right lo (x ∷ xs) h = rising-right (x .start + 1) xs (h .1)
@@ -81,6 +89,7 @@ insert-front x y (z ∷ xs) ys h = go (ltb (x .start) (z .start)) (insert-front 
     go true e = refl
     go false e = ap (λ (l : List Run). z ∷ l) e
 
+-- one after a run that starts no later
 insert-back : (x y : Run) (xs ys : List Run) → Before (y .start) xs → y .start ≤ x .start → insertRun x (xs ++ y ∷ ys) ≡ xs ++ y ∷ insertRun x ys
 insert-back x y [] ys u h = rw (le-ltb (x .start) (y .start) h)
 insert-back x y (z ∷ xs) ys u h = rw (le-ltb (x .start) (z .start) (omega (arith, u .0)), insert-back x y xs ys (u .1) h)
@@ -127,12 +136,14 @@ remove-past k j (x ∷ xs) ys le h =
     let e : x .start < j = h .0 in
     rw (ne-eqb (x .start) k (λ (q : x .start ≡ k). omega arith), remove-past k j xs ys le (h .1))
 
+-- it finds nothing in runs that all start later
 remove-after : (k lo : ℕ) (xs : List Run) → k < lo → Rising lo xs → removeRun k xs ≡ xs
 remove-after k lo [] lt h = refl
 remove-after k lo (x ∷ xs) lt h =
     let e : lo ≤ x .start = h .0 in
     rw (ne-eqb (x .start) k (λ (q : x .start ≡ k). omega arith), remove-after k (x .start + 1) xs (omega arith) (h .1))
 
+-- a removal before a run that starts later
 remove-front : (k : ℕ) (xs : List Run) (y : Run) (ys : List Run) → k < y .start → Rising (y .start + 1) ys → removeRun k (xs ++ y ∷ ys) ≡ removeRun k xs ++ y ∷ ys
 remove-front k [] y ys lt h = rw (ne-eqb (y .start) k (λ (q : y .start ≡ k). omega arith), remove-after k (y .start + 1) ys (omega arith) h)
 remove-front k (x ∷ xs) y ys lt h = go (eqb (x .start) k) (remove-front k xs y ys lt h)
@@ -169,3 +180,26 @@ remove-inorder k lo (node n a b l r) s =
         let le : a ≤ k = ltb-false k a e in
         let ge : k ≤ a = ltb-false a k f in
         fuse-inorder l r ∙ sym (remove-past k a (inorder l) (y ∷ inorder r) le past ∙ rw (eq-eqb a k (omega arith)))
+
+-- the runs rise after an insertion of a start that none of them has
+pub insert-rising : (lo : ℕ) (x : Run) (xs : List Run) → lo ≤ x .start → (Starts (x .start) xs → ⊥) → Rising lo xs → Rising lo (insertRun x xs)
+insert-rising lo x [] le ne h = (le, tt)
+insert-rising lo x (y ∷ ys) le ne h =
+    go (ltb (x .start) (y .start)) refl (λ lt. insert-rising (y .start + 1) x ys lt (λ (s : Starts (x .start) ys). ne (inr s)) (h .1))
+  where
+    go : (c : Bool) → ltb (x .start) (y .start) ≡ c → (y .start + 1 ≤ x .start → Rising (y .start + 1) (insertRun x ys))
+        → Rising lo (pickRuns c (x ∷ y ∷ ys) (y ∷ insertRun x ys))
+    go true e ih = (le, (omega (arith, ltb-true (x .start) (y .start) e), h .1))
+    go false e ih = (h .0, ih (apart (ltb-false (x .start) (y .start) e) (λ (q : y .start ≡ x .start). ne (inl q))))
+      where
+        apart : y .start ≤ x .start → (y .start ≡ x .start → ⊥) → y .start + 1 ≤ x .start
+        apart p q = omega arith
+
+-- and after a removal
+pub remove-rising : (k lo : ℕ) (xs : List Run) → Rising lo xs → Rising lo (removeRun k xs)
+remove-rising k lo [] h = tt
+remove-rising k lo (y ∷ ys) h = go (eqb (y .start) k) (remove-rising k (y .start + 1) ys (h .1))
+  where
+    go : (c : Bool) → Rising (y .start + 1) (removeRun k ys) → Rising lo (pickRuns c ys (y ∷ removeRun k ys))
+    go true ih = rising-more (y .start + 1) lo ys (omega (arith, h .0)) (h .1)
+    go false ih = (h .0, ih)

@@ -25,22 +25,27 @@ Cut l r c c′ o = (m : ℕ)
 
 -- the first node is the left tree's, where that has one
 module _ (n a b : ℕ) where
+  -- its number
   number-left : (l r : Tree) → 1 ≤ runs l → firstNumber (node n a b l r) ≡ firstNumber l
   number-left leaf r h = absurd (omega arith)
   number-left (node m c d x y) r h = refl
 
+  -- its start
   start-left : (l r : Tree) → 1 ≤ runs l → firstStart (node n a b l r) ≡ firstStart l
   start-left leaf r h = absurd (omega arith)
   start-left (node m c d x y) r h = refl
 
+  -- its end
   end-left : (l r : Tree) → 1 ≤ runs l → firstEnd (node n a b l r) ≡ firstEnd l
   end-left leaf r h = absurd (omega arith)
   end-left (node m c d x y) r h = refl
 
+  -- and the tree without it
   popped-left : (l r : Tree) → 1 ≤ runs l → popped (node n a b l r) ≡ rebalanced n a b (popped l) r
   popped-left leaf r h = absurd (omega arith)
   popped-left (node m c d x y) r h = refl
 
+-- a right tree that is there gives its first node as the root
 fused-some : (l r : Tree) → 1 ≤ runs r → fused l r ≡ rebalanced (firstNumber r) (firstStart r) (firstEnd r) l (popped r)
 fused-some l leaf h = absurd (omega arith)
 fused-some l (node m c d x y) h = refl
@@ -51,6 +56,7 @@ cut-none {w} k leaf h e = record { freed-is = refl; made = stays w leaf leaf-at 
 cut-none k (node n a b l r) h e = absurd (node-some (h .at) e)
 
 module _ {w : List ℕ} {p g : ℕ} {t : Tree} {x : Node} (h : Owned w p g t) (v : View w g p x t) where
+  -- a node that is none of the tree's is neither the root nor in a side
   none-of : (m : ℕ) → count m t ≡ 0 → δ m p + (count m (v .l) + count m (v .r)) ≡ 0
   none-of m z = rw (v .is) at z
 
@@ -74,9 +80,11 @@ module _ {w : List ℕ} {p g : ℕ} {t : Tree} {x : Node} (h : Owned w p g t) (v
 
   -- what the functions make of the sides
   module _ (k : ℕ) where
+    -- a removal from the left side
     pub left-cut : Cut (v .l) (v .r) (v .l) (removed k (v .l)) (v .r)
     left-cut m = (refl, refl, remove-less k m (v .l) .0, remove-less k m (v .l) .1)
 
+    -- a removal from the right side
     pub right-cut : Cut (v .l) (v .r) (v .r) (removed k (v .r)) (v .l)
     right-cut m = (omega arith, omega arith, remove-less k m (v .r) .0, remove-less k m (v .r) .1)
 
@@ -96,12 +104,15 @@ module _ {w : List ℕ} {p g : ℕ} {t : Tree} {x : Node} (h : Owned w p g t) (v
 
   -- `pop_first` goes on to the left
   module _ (some : x .left ≡ 0 → ⊥) where
+    -- the left side is there
     lots : 1 ≤ runs (v .l)
     lots = at-some (v .l) (v .left) some
 
+    -- its first node taken out adds none
     pub left-popped : Cut (v .l) (v .r) (v .l) (popped (v .l)) (v .r)
     left-popped m = (refl, refl, omega (arith, pop-count m (v .l) lots), omega (arith, pop-count m (v .l) lots))
 
+    -- and the join after it
     pub pop-there : {w₁ w₂ : List ℕ} {y : Popped} {z : ℕ} → Taken w w₁ y g (v .l)
         → Made w₁ w₂ g z (node p (x .start) (x .«end») (popped (v .l)) (v .r)) (rebalanced p (x .start) (x .«end») (popped (v .l)) (v .r))
         → Taken w w₂ (record { node = y .node; start = y .start; «end» = y .«end»; rest = z }) g t
@@ -117,6 +128,7 @@ module _ {w : List ℕ} {p g : ℕ} {t : Tree} {x : Node} (h : Owned w p g t) (v
 
   -- `remove`, at each of its ways
   module _ {k : ℕ} where
+    -- the run is in the left side
     pub cut-left : {w₁ w₂ : List ℕ} {y : Removed} {z : ℕ} → Freed w w₁ y k g (v .l)
         → Made w₁ w₂ g z (node p (x .start) (x .«end») (removed k (v .l)) (v .r)) (rebalanced p (x .start) (x .«end») (removed k (v .l)) (v .r))
         → k < x .start → Freed w w₂ (record { root = z; freed = y .freed }) k g t
@@ -125,6 +137,7 @@ module _ {w : List ℕ} {p g : ℕ} {t : Tree} {x : Node} (h : Owned w p g t) (v
       made = made-as refl (ap (removed k) (v .is) ∙ rw (lt-ltb k (x .start) lt)) (side-made (v .right) (left-cut k) (fr .made) j (λ m. refl));
     }
 
+    -- the run is in the right side
     pub cut-right : {w₁ w₂ : List ℕ} {y : Removed} {z : ℕ} → Freed w w₁ y k g (v .r)
         → Made w₁ w₂ g z (node p (x .start) (x .«end») (v .l) (removed k (v .r))) (rebalanced p (x .start) (x .«end») (v .l) (removed k (v .r)))
         → x .start ≤ k → x .start < k → Freed w w₂ (record { root = z; freed = y .freed }) k g t
@@ -134,23 +147,29 @@ module _ {w : List ℕ} {p g : ℕ} {t : Tree} {x : Node} (h : Owned w p g t) (v
     }
 
     module _ (le : x .start ≤ k) (ge : k ≤ x .start) where
+      -- the run is the root's
       root-is : removed k t ≡ fused (v .l) (v .r)
       root-is = ap (removed k) (v .is) ∙ rw (le-ltb k (x .start) le, le-ltb (x .start) k ge)
 
+      -- so the root is the node that goes
       root-number : p ≡ numberOf k t
       root-number = sym (ap (numberOf k) (v .is) ∙ rw (le-ltb k (x .start) le, le-ltb (x .start) k ge))
 
+      -- there is no right side
       pub cut-last : x .right ≡ 0 → Freed w w (record { root = x .left; freed = p }) k g t
       cut-last e = record { freed-is = root-number; made = made-as refl (root-is ∙ ap (fused (v .l)) (at-none (v .r) (v .right) e)) (stays w t (v .left)) }
 
   -- the root itself goes: the first node of the right tree takes its place
   module _ (some : x .right ≡ 0 → ⊥) {w₁ : List ℕ} {y : Popped} (ps : Taken w w₁ y g (v .r)) where
+    -- the right side is there
     lots-right : 1 ≤ runs (v .r)
     lots-right = at-some (v .r) (v .right) some
 
+    -- the node that was taken out and the rest are the right side
     same : (m : ℕ) → (count m (v .r) ≡ δ m (y .node) + count m (popped (v .r))) × (runs (v .r) ≡ runs (popped (v .r)) + 1)
     same m = rw (← ps .number-is) at (pop-count m (v .r) lots-right)
 
+    -- the join with it as the root
     pub fuse-spot : Spot w g (y .node) (y .start) (y .«end») (x .left) (v .r) (popped (v .r)) (v .l)
     fuse-spot = record {
       other = v .left;
@@ -162,6 +181,7 @@ module _ {w : List ℕ} {p g : ℕ} {t : Tree} {x : Node} (h : Owned w p g t) (v
       few = omega (arith, seen-few h v, same 0);
     }
 
+    -- both together
     pub cut-root : {k : ℕ} {w₂ : List ℕ} {z : ℕ}
         → Made w₁ w₂ g z (node (y .node) (y .start) (y .«end») (v .l) (popped (v .r))) (rebalanced (y .node) (y .start) (y .«end») (v .l) (popped (v .r)))
         → x .start ≤ k → k ≤ x .start → Freed w w₂ (record { root = z; freed = p }) k g t

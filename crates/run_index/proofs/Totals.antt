@@ -32,6 +32,7 @@ total-widths leaf = refl
 total-widths (node n a b l r) =
     omega (arith, total-widths l, total-widths r, widths-append (inorder l) ((record { start = a; «end» = b }) ∷ inorder r))
 
+-- a node holds them modulo 2^64
 pub ones-total : (t : Tree) → ones t ≡ total t % 2 ^ 64
 ones-total leaf = refl
 ones-total (node n a b l r) =

@@ -30,6 +30,7 @@ pub δ-zero : (m n : ℕ) → δ m n ≡ 0 → m ≡ n → ⊥
     let same : δ m m ≡ 0 = rw (← e) at z in
     omega arith
 
+-- a test counts 1 at most
 bit≤1 : (c : Bool) → bit c ≤ 1
 bit≤1 true = omega arith
 bit≤1 false = omega arith
@@ -41,21 +42,27 @@ unfolding δ
 
 -- the parts of a node's representation
 module _ {w : List ℕ} {g n a b : ℕ} {l r : Tree} where
+  -- its number is not 0
   pub rep-pos : Rep w g (node n a b l r) → 1 ≤ n
   rep-pos (rep-node p ro o c rl rr) = p
 
+  -- it lies within the words
   pub rep-room : Rep w g (node n a b l r) → Room w n
   rep-room (rep-node p ro o c rl rr) = ro
 
+  -- it holds a run
   pub rep-ordered : Rep w g (node n a b l r) → a ≤ b
   rep-ordered (rep-node p ro o c rl rr) = o
 
+  -- its cell tells its run, its links and its sums
   pub rep-cell : Rep w g (node n a b l r) → cellAt w n ≡ cell a b l r g
   rep-cell (rep-node p ro o c rl rr) = c
 
+  -- its left side is there
   pub rep-left : Rep w g (node n a b l r) → Rep w g l
   rep-left (rep-node p ro o c rl rr) = rl
 
+  -- its right side is there
   pub rep-right : Rep w g (node n a b l r) → Rep w g r
   rep-right (rep-node p ro o c rl rr) = rr
 
@@ -67,6 +74,7 @@ node-some {n = n} h e = let pos : 1 ≤ n = rep-pos (h .rep) in let is : n ≡ _
 pub leaf-at : {w : List ℕ} {g : ℕ} → At w g 0 leaf
 leaf-at = record { rep = rep-leaf; linked = refl }
 
+-- and no other
 pub at-none : {w : List ℕ} {g p : ℕ} (t : Tree) → At w g p t → p ≡ 0 → t ≡ leaf
 at-none leaf h e = refl
 at-none (node n a b l r) h e = absurd (node-some h e)

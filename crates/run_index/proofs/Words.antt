@@ -52,6 +52,7 @@ abbrev pub stored : List ℕ → ℕ → Node → List ℕ
 stored w n v = set (stored-6 w n v) (8 * n + 7) (v .tag)
 
 module _ (w : List ℕ) (n : ℕ) (v : Node) (room : Room w n) where
+  -- a store keeps the length
   stored-long : length (stored w n v) ≡ length w
   stored-long = simp length-set
 
@@ -59,9 +60,11 @@ module _ (w : List ℕ) (n : ℕ) (v : Node) (room : Room w n) where
   abbrev Clear : ℕ → ℕ → Type 0
   Clear k j = (j < 8 * n + k) ⊎ (8 * n + 8 ≤ j)
 
+  -- such a word is not word k
   not-at : (k j : ℕ) → k < 8 → Clear k j → j ≡ 8 * n + k → ⊥
   not-at k j lt c e = ⊎-elim (λ (l : j < 8 * n + k). omega arith) (λ (l : 8 * n + 8 ≤ j). omega arith) c
 
+  -- nor is it one of those from k + 1 on
   clear-up : (k j : ℕ) → Clear k j → Clear (k + 1) j
   clear-up k j c = ⊎-elim (λ (l : j < 8 * n + k). inl (omega arith)) (λ (l : 8 * n + 8 ≤ j). inr l) c
 
@@ -123,6 +126,7 @@ module _ (w : List ℕ) (n : ℕ) (v : Node) (room : Room w n) where
       go (yes l) = inl (omega arith)
       go (no l) = inr (omega arith)
 
+  -- so the cell of m is as it was
   elsewhere : (m : ℕ) → (m ≡ n → ⊥) → cellAt (stored w n v) m ≡ cellAt w m
   unfolding cellAt
   elsewhere m ne =
