@@ -2,15 +2,14 @@
 -- each of these nodes once, in order, halved all the way down. By induction on d. Assumes nothing.
 use Prim.Native.Nat.{ℕ, zero, suc, _+_, _-_, _/_, _≤_, _<_}
 use mathlib.Core.Path.{_≡_, refl, sym, ap, _∙_}
-use mathlib.Core.Logic.{_⊎_, inl, inr, ⊎-elim}
-use mathlib.Core.List.{List, [], _∷_, _++_}
+use mathlib.Core.List.{List, _∷_, _++_}
 use native.Mathlib.Omega.{arith}
 use native.Mathlib.Decide.{decLt}
 use Rattle.model.specs.declared.Run.{Run}
 use Rattle.run_index.specs.Cells.{cellAt}
 use Rattle.run_index.specs.Tree.{Tree, leaf, node, height, runs, δ, count, inorder, Balanced}
 use Rattle.run_index.specs.Shape.{built, runsAt}
-use Rattle.run_index.proofs.Trees.{δ-same, δ-other, δ≤1, height≤runs}
+use Rattle.run_index.proofs.Trees.{δ-same, δ-other, height≤runs}
 
 -- more fuel than runs makes no difference
 pub built-fuel : (d e : ℕ) (w : List ℕ) (i k : ℕ) → k ≤ d → k ≤ e → built d w i k ≡ built e w i k

@@ -1,6 +1,6 @@
 -- A balanced tree of height h has at least `least h` runs, the fewest that such a tree can have. By induction on the tree: one side is
 -- one lower than the tree, and the other two lower at most. Assumes nothing.
-use Prim.Native.Nat.{ℕ, zero, suc, _+_, _-_, _≤_, _<_, max}
+use Prim.Native.Nat.{ℕ, zero, suc, _+_, _-_, _≤_, max}
 use mathlib.Core.Path.{_≡_, refl, ap}
 use native.Mathlib.Omega.{arith}
 use native.Mathlib.Decide.{decLe}

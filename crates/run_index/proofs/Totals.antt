@@ -1,13 +1,13 @@
 -- The sums that the nodes hold: `runs` is the number of the runs in order, and `ones` is the number of their positions, modulo 2^64.
 -- Each node adds its own to its sides', so a sum of remainders is the remainder of the sum. Assumes nothing.
 use Prim.Native.Nat.{ℕ, _+_, _-_, _%_, _^_}
-use mathlib.Core.Path.{_≡_, refl, sym, ap, _∙_}
+use mathlib.Core.Path.{_≡_, refl, ap, _∙_}
 use mathlib.Core.List.{List, [], _∷_, _++_}
 use native.Mathlib.Omega.{arith}
 use native.Mathlib.Nat.{add-mod}
 use lib.ListN.{length, length-append}
 use Rattle.model.specs.declared.Run.{Run}
-use Rattle.run_index.specs.Tree.{Tree, leaf, node, runs, ones, width, inorder}
+use Rattle.run_index.specs.Tree.{Tree, leaf, node, runs, ones, inorder}
 use Rattle.run_index.specs.Order.{widths}
 
 -- as many runs as the list has
