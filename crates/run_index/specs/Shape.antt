@@ -93,7 +93,7 @@ runsAt w i zero = []
 runsAt w i (suc k) = record { start = (cellAt w (i + 1)) .start; «end» = (cellAt w (i + 1)) .«end» } ∷ runsAt w (i + 1) k
 
 -- the nodes i + 1 .. i + k as one tree: the middle one is the root, each half the same way. The first argument bounds the depth.
-pub built : ℕ → List ℕ → ℕ → ℕ → Tree
+unfoldable pub built : ℕ → List ℕ → ℕ → ℕ → Tree
 built zero w i k = leaf
 built (suc d) w i zero = leaf
 built (suc d) w i (suc k) =

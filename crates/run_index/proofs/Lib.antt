@@ -1,0 +1,16 @@
+pub mod Words
+pub mod Trees
+pub mod Heap
+pub mod Counts
+pub mod Turning
+pub mod Inserting
+pub mod Removing
+pub mod Built
+pub mod Building
+pub mod Mirror
+pub mod Balance
+pub mod Ordering
+pub mod Least
+pub mod Numbers
+pub mod Totals
+pub mod Bound
