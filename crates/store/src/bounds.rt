@@ -2,7 +2,7 @@
 // Logical positions are physical ones turned by the offset: logical 0 is kept at -offset, and its neighbour below is logical M.
 ghost use mathlib.Core.Path.{_≡_};
 ghost use Rattle.run_index.specs.Search.{Indexed};
-ghost use Rattle.store.specs.Bounds.{TellsHeld, TellsFirst, TellsLast, TellsRuns};
+ghost use Rattle.store.specs.Bounds.{TellsHeld, TellsFirst, TellsLast, TellsBoth, Counted, TellsRuns};
 use model::Logical;
 use model::Physical;
 use run_index::search::Near;
@@ -67,6 +67,7 @@ pub fn last_held(words: &[u64], root: u64, offset: u64) -> Logical
 // Whether both of two physical positions are held.
 fn both_held(words: &[u64], root: u64, x: Physical, y: Physical) -> bool
     requires { ⌜ Indexed (now words) root ⌝ }
+    ensures { λ r. ⌜ TellsBoth (now (words .entry)) root (x .0) (y .0) r ⌝ }
 {
     if get_physical(words, root, x) {
         get_physical(words, root, y)
@@ -78,8 +79,8 @@ fn both_held(words: &[u64], root: u64, x: Physical, y: Physical) -> bool
 // How many logical runs the tree's physical ones are. The physical run across the place of logical 0 is two logical ones,
 // and the physical runs at 0 and at M are one logical run where both are there.
 pub fn logical_runs(words: &[u64], root: u64, offset: u64, runs: u64) -> u64
-    requires { ⌜ Indexed (now words) root ⌝ }
-    ensures { λ r. ⌜ TellsRuns (now (words .entry)) root offset runs r ⌝ }
+    requires { ⌜ Counted (now words) root runs ⌝ }
+    ensures { λ r. ⌜ TellsRuns (now (words .entry)) root offset r ⌝ }
 {
     if offset == 0 {
         return runs;
