@@ -1,2 +1,15 @@
 pub mod Numbers
 pub mod Range
+pub mod Positions
+pub mod Bytes
+pub mod Call
+pub mod Refusals
+pub mod Model
+pub mod Answers
+pub mod RunList
+pub mod Clip
+pub mod Search
+pub mod Edit
+pub mod Ops
+pub mod Codec
+pub mod MapLaws
