@@ -7,3 +7,5 @@ pub mod Inserting
 pub mod Removing
 pub mod Built
 pub mod Building
+pub mod Walking
+pub mod Searching
