@@ -37,6 +37,9 @@ ones-widths (node n a b l r) h =
     ∙ mod-sum (widths (inorder l)) (widths (inorder r)) (b - a + 1)
     ∙ ap (λ k. k % 2 ^ 64) (omega (arith, widths-append (inorder l) (run a b ∷ inorder r)))
 
+pub index-few : {w : List ℕ} {p g : ℕ} {t : Tree} → Index w p g t → length (inorder t) < 2 ^ 62
+index-few {t = t} i = omega (arith, i .few, runs-length t)
+
 -- a canonical list is so within a wider bound
 pub canon-wider : (t total k : ℕ) (rs : List Run) → t ≤ total → Canon t k rs → Canon total k rs
 canon-wider t total k [] h c = tt
