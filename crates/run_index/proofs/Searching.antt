@@ -3,14 +3,14 @@
 use Prim.Native.Nat.{ℕ, _+_, _-_, _≤_, _<_, _%_, _^_, min}
 use mathlib.Core.Path.{_≡_, refl, sym, ap, ap₂, _∙_, subst}
 use mathlib.Core.Logic.{_⊎_, inl, inr}
-use mathlib.Core.Bool.{Bool, true, false, cond}
+use mathlib.Core.Bool.{Bool, true, false, cond, not}
 use mathlib.Core.List.{List, [], _∷_, _++_}
 use mathlib.Core.Option.{Option, none, some}
 use native.Mathlib.Omega.{arith}
-use native.Mathlib.Nat.{le-refl}
+use native.Mathlib.Nat.{zero-add}
 use lib.ListN.{length, length-append}
-use lib.Dec.{leb, ltb}
-use borrow.Author.Tests.{lt-ltb, le-ltb, le-leb, lt-leb}
+use lib.Dec.{leb, ltb, eqb}
+use borrow.Author.Tests.{lt-ltb, le-leb, lt-leb, eqb-true, eqb-false, not-true, not-false}
 use Rattle.model.specs.declared.Run.{Run}
 use Rattle.model.specs.Numbers.{size, split}
 use Rattle.model.specs.Positions.{run, count, select, mem}
@@ -34,6 +34,7 @@ use Rattle.model.specs.Search.{
   onesBelow-all,
   startsBelow-all,
   widths-append,
+  widths-room,
   count-onesBelow,
   canon-ends,
   canon-starts,
@@ -48,10 +49,10 @@ use Rattle.model.specs.Search.{
   select-gap,
 }
 use Rattle.run_index.specs.declared.Node.{Node}
-use Rattle.run_index.specs.Tree.{inorder}
+use Rattle.run_index.specs.Tree.{Tree, inorder}
 use Rattle.run_index.specs.Promises.{TellsSums}
-use Rattle.run_index.specs.Search.{Tallied}
-use Rattle.run_index.proofs.Walking.{here, left-canon, left-room, right-above, Spot, spot-ordered, spot-starts, spot-ends, exact}
+use Rattle.run_index.specs.Search.{Index, Tallied}
+use Rattle.run_index.proofs.Walking.{runs-length, ones-widths, here, left-canon, left-room, right-above, Spot, spot-ordered, spot-starts, spot-ends, exact}
 
 -- ---- the run next to x: F is `lastUpTo x` or `firstFrom x`, and what was found last counts where the rest has none
 abbrev pub best : Bool → ℕ → ℕ → Option Run
@@ -196,6 +197,58 @@ module _ {w : List ℕ} {g x ones starts : ℕ} {v : Node} {ts : List Run} (s : 
 pub tally-end : (x ones starts : ℕ) (ts : List Run) → Canon size 0 ts → Tallying x ones starts ts [] → Tallied x ones starts ts
 unfolding onesBelow startsBelow
 tally-end x ones starts ts c h = tallied x ones starts ts c (omega (arith, h .ones-are)) (omega (arith, h .starts-are))
+
+-- the same of an equal position, as the low word of a count
+pub tally-low : {x ones starts : ℕ} {ts : List Run} (y : ℕ) → y ≡ x → Tallied x ones starts ts → Tallied y (0 + ones) starts ts
+tally-low {x} {ones} {starts} {ts} y e h = record {
+  ones-are = zero-add ones ∙ h .ones-are ∙ ap (count (mem ts) true 0) (sym e);
+  starts-are = h .starts-are ∙ ap (λ z. startsBelow z ts) (sym e);
+}
+
+-- ---- all that the tree holds: the root's sums, of which the wrapped one is 0 for no run at all and for 2^64 positions
+-- a list holds a position exactly if it has a run
+held-some : (total k : ℕ) (rs : List Run) → Canon total k rs → 1 ≤ length rs → 1 ≤ widths rs
+unfolding widths
+held-some total k [] c h = absurd (omega arith)
+held-some total k (r ∷ rs) c h = omega (arith, c .1)
+
+held-none : (rs : List Run) → length rs ≡ 0 → widths rs ≡ 0
+unfolding widths
+held-none [] h = refl
+held-none (r ∷ rs) h = absurd (omega arith)
+
+module _ {w : List ℕ} {p g : ℕ} {t : Tree} (i : Index w p g t) {v : Node} (so : TellsSums w p v) (x : ℕ) (top : x ≡ size) where
+  whole : (ones : ℕ) → ones ≡ widths (inorder t) → Tallied x ones (v .runs) (inorder t)
+  whole ones e =
+      let ends = canon-ends size 0 (inorder t) (i .canonical) in
+      tallied x ones (v .runs) (inorder t) (i .canonical)
+      (e ∙ sym (onesBelow-all x size (inorder t) (omega arith) ends))
+      (so g t (i .at) .runs-is ∙ runs-length t ∙ sym (startsBelow-all x size (inorder t) (omega arith) ends))
+
+  held : widths (inorder t) + 0 ≤ size
+  held = widths-room size 0 size (inorder t) (i .canonical) (canon-ends size 0 (inorder t) (i .canonical)) (omega arith)
+
+  wrapped : v .ones ≡ widths (inorder t) % 2 ^ 64
+  wrapped = so g t (i .at) .ones-is ∙ ones-widths t (i .at .rep)
+
+  told : v .runs ≡ length (inorder t)
+  told = so g t (i .at) .runs-is ∙ runs-length t
+
+  -- every position
+  pub whole-full : v .ones ≡ 0 → not (eqb (v .runs) 0) ≡ true → Tallied x (2 ^ 64) (v .runs) (inorder t)
+  whole-full z test =
+      let ne : v .runs ≡ 0 → ⊥ = eqb-false (v .runs) 0 (not-true (eqb (v .runs) 0) test) in
+      whole (2 ^ 64) (omega (arith, held, wrapped, held-some size 0 (inorder t) (i .canonical) (omega (arith, told))))
+
+  -- fewer, but some
+  pub whole-some : (v .ones ≡ 0 → ⊥) → Tallied x (0 + v .ones) (v .runs) (inorder t)
+  whole-some ne = whole (0 + v .ones) (omega (arith, held, wrapped))
+
+  -- none
+  pub whole-none : v .ones ≡ 0 → not (eqb (v .runs) 0) ≡ false → Tallied x (0 + v .ones) (v .runs) (inorder t)
+  whole-none z test =
+      let no : v .runs ≡ 0 = eqb-true (v .runs) 0 (not-false (eqb (v .runs) 0) test) in
+      whole (0 + v .ones) (omega (arith, held-none (inorder t) (omega (arith, told))))
 
 -- ---- the k-th held position: the one that is left-th in the rest
 pub record Picking (k left : ℕ) (ts us : List Run) : Type 0 where
