@@ -1,73 +1,46 @@
 -- The searches' invariants and their steps, on lists of runs: what is left of the question when the walk goes to one side of a run.
 -- Assumes nothing.
 use Prim.Native.Nat.{ℕ, _+_, _-_, _≤_, _<_, _%_, _^_, min}
-use mathlib.Core.Path.{_≡_, refl, sym, ap, ap₂, _∙_, subst}
+use mathlib.Core.Path.{_≡_, refl, sym, ap, ap₂, _∙_}
 use mathlib.Core.Logic.{_⊎_, inl, inr}
 use mathlib.Core.Bool.{Bool, true, false, cond, not}
-use mathlib.Core.List.{List, [], _∷_, _++_}
+use mathlib.Core.List.{List, [], _∷_}
 use mathlib.Core.Option.{Option, none, some}
 use native.Mathlib.Omega.{arith}
 use native.Mathlib.Nat.{zero-add}
 use lib.ListN.{length, length-append}
-use lib.Dec.{leb, ltb, eqb}
+use lib.Dec.{eqb}
 use borrow.Author.Tests.{lt-ltb, le-leb, lt-leb, eqb-true, eqb-false, not-true, not-false}
 use Rattle.model.specs.declared.Run.{Run}
 use Rattle.model.specs.Numbers.{size, split}
-use Rattle.model.specs.Positions.{run, count, select, mem}
+use Rattle.model.specs.Positions.{run, count, mem}
 use Rattle.model.specs.Positions.Laws.{count-both}
 use Rattle.model.specs.Positions.Finds.{selectRuns, selectRuns-in, selectRuns-past}
 use Rattle.model.specs.RunList.{Canon, canon-weaken, widths, count-mem}
-use Rattle.model.specs.Search.{
-  orElse,
-  lastUpTo,
-  firstFrom,
-  lastUpTo-append,
-  firstFrom-append,
-  lastUpTo-none,
-  firstFrom-none,
-  onesBelow,
-  startsBelow,
-  onesBelow-append,
-  startsBelow-append,
-  onesBelow-none,
-  startsBelow-none,
-  onesBelow-all,
-  startsBelow-all,
-  widths-append,
-  widths-room,
-  count-onesBelow,
-  canon-ends,
-  canon-starts,
-  selectRuns-left,
-  selectRuns-right,
-  select-held,
-  selectGap,
-  selectGap-left,
-  selectGap-right,
-  Gap,
-  selectGap-is,
-  select-gap,
-}
+use Rattle.model.specs.Search.{orElse, lastUpTo, firstFrom, lastUpTo-append, firstFrom-append, lastUpTo-none, firstFrom-none, onesBelow, startsBelow, onesBelow-append, startsBelow-append, onesBelow-none, startsBelow-none, onesBelow-all, startsBelow-all, widths-append, widths-room, count-onesBelow, canon-ends, canon-starts, selectRuns-left, selectRuns-right, selectGap, selectGap-left, selectGap-right, selectGap-is}
 use Rattle.run_index.specs.declared.Node.{Node}
 use Rattle.run_index.specs.Tree.{Tree, inorder}
 use Rattle.run_index.specs.Promises.{TellsSums}
 use Rattle.run_index.specs.Search.{Index, Tallied}
 use Rattle.run_index.proofs.Walking.{runs-length, ones-widths, here, left-canon, left-room, right-above, Spot, spot-ordered, spot-starts, spot-ends, exact}
 
--- ---- the run next to x: F is `lastUpTo x` or `firstFrom x`, and what was found last counts where the rest has none
-abbrev pub best : Bool → ℕ → ℕ → Option Run
+-- ---- the run next to x: F is `lastUpTo x` or `firstFrom x`
+-- what was found last
+abbrev best : Bool → ℕ → ℕ → Option Run
 best true a b = some (run a b)
 best false a b = none
 
+-- the run next to x in the whole is the one in the rest, or else what was found last
 pub record Nearest (F : List Run → Option Run) (found : Bool) (a b : ℕ) (ts us : List Run) : Type 0 where
   pub nothing : F [] ≡ none
   pub same : F ts ≡ orElse (F us) (best found a b)
 
--- what stands behind one that is found does not count, and nothing behind changes nothing
+-- what stands behind one that is found does not count
 settled : (o p : Option Run) (r : Run) → orElse (orElse o (some r)) p ≡ orElse o (some r)
 settled none p r = refl
 settled (some q) p r = refl
 
+-- nothing behind changes nothing
 alone : (o : Option Run) → o ≡ orElse o none
 alone none = refl
 alone (some r) = refl
@@ -77,6 +50,7 @@ pub last-start : (x : ℕ) (ts : List Run) → Nearest (lastUpTo x) false 0 0 ts
 unfolding lastUpTo
 last-start x ts = record { nothing = refl; same = alone (lastUpTo x ts) }
 
+-- for the first run likewise
 pub first-start : (x : ℕ) (ts : List Run) → Nearest (firstFrom x) false 0 0 ts ts
 unfolding firstFrom
 first-start x ts = record { nothing = refl; same = alone (firstFrom x ts) }
@@ -87,14 +61,15 @@ pub near-end : {F : List Run → Option Run} {found : Bool} {a b : ℕ} {ts : Li
 near-end {F} {found} {a} {b} h t e =
     ap (λ f. best f a b) (sym e) ∙ sym (h .same ∙ ap (λ o. orElse o (best found a b)) (h .nothing))
 
--- the walk passes a run that may be the one, or one that is not
 module _ {F : List Run → Option Run} {found : Bool} {a b : ℕ} {ts us : List Run} (h : Nearest F found a b ts us) (vs : List Run) where
+  -- the walk passes a run that may be the one
   near-keep : (c d : ℕ) → F us ≡ orElse (F vs) (some (run c d)) → Nearest F true c d ts vs
   near-keep c d e = record {
     nothing = h .nothing;
     same = h .same ∙ ap (λ o. orElse o (best found a b)) e ∙ settled (F vs) (best found a b) (run c d);
   }
 
+  -- or one that is not, nor any beyond it
   near-skip : F us ≡ F vs → Nearest F found a b ts vs
   near-skip e = record { nothing = h .nothing; same = h .same ∙ ap (λ o. orElse o (best found a b)) e }
 
@@ -133,20 +108,22 @@ module _ {w : List ℕ} {g x : ℕ} {v : Node} {found : Bool} {a b : ℕ} {ts : 
       ∙ ap₂ (λ o t. orElse o (cond t (some (here v)) (firstFrom x (inorder (s .r)))))
       (firstFrom-none x (v .start) (inorder (s .l)) (omega arith) (spot-ends s)) (lt-leb x (v .start) h))
 
--- ---- how much lies below x: what was passed, and what is below x in the rest
+-- ---- how much lies below x: in the whole it is what was passed, and what is below x in the rest
 pub record Tallying (x ones starts : ℕ) (ts us : List Run) : Type 0 where
   pub ones-are : onesBelow x ts ≡ ones + onesBelow x us
   pub starts-are : startsBelow x ts ≡ starts + startsBelow x us
   pub few : starts + length us ≤ length ts
 
+-- at first nothing is passed
 pub tally-start : (x : ℕ) (ts : List Run) → Tallying x 0 0 ts ts
 tally-start x ts = record { ones-are = omega arith; starts-are = omega arith; few = omega arith }
 
 -- no more than x positions are below x
-pub ones-most : (x : ℕ) (ts : List Run) → Canon size 0 ts → onesBelow x ts ≤ x
+ones-most : (x : ℕ) (ts : List Run) → Canon size 0 ts → onesBelow x ts ≤ x
 ones-most x ts c = omega (arith, count-onesBelow size 0 ts x c, count-both (mem ts) 0 x)
 
-pub tallied : (x ones starts : ℕ) (ts : List Run) → Canon size 0 ts → ones ≡ onesBelow x ts → starts ≡ startsBelow x ts → Tallied x ones starts ts
+-- the plain count
+tallied : (x ones starts : ℕ) (ts : List Run) → Canon size 0 ts → ones ≡ onesBelow x ts → starts ≡ startsBelow x ts → Tallied x ones starts ts
 tallied x ones starts ts c e f = record { ones-are = e ∙ sym (count-onesBelow size 0 ts x c); starts-are = f }
 
 module _ {w : List ℕ} {g x ones starts : ℕ} {v : Node} {ts : List Run} (s : Spot w g v (Tallying x ones starts) ts) where
@@ -161,23 +138,29 @@ module _ {w : List ℕ} {g x ones starts : ℕ} {v : Node} {ts : List Run} (s : 
       }
 
   module _ {lv : Node} (so : TellsSums w (v .left) lv) where
+    -- no more starts than runs
     pub past-few : starts + lv .runs + 1 + length (inorder (s .r)) ≤ length ts
     past-few = omega (arith, s .is .few, length-append (inorder (s .l)) (here v ∷ inorder (s .r)), exact s so)
 
     module _ (lt : v .start < x) where
       -- all that is to the left of a run that starts below x, that run's part, and what follows
-      pub past-ones : onesBelow x ts ≡ ones + lv .ones + (min (v .«end» + 1) x - v .start) + onesBelow x (inorder (s .r))
+      past-ones : onesBelow x ts ≡ ones + lv .ones + (min (v .«end» + 1) x - v .start) + onesBelow x (inorder (s .r))
       unfolding onesBelow
       past-ones =
           let all = onesBelow-all x (v .start) (inorder (s .l)) (omega arith) (spot-ends s) in
           omega (arith, s .is .ones-are, onesBelow-append x (inorder (s .l)) (here v ∷ inorder (s .r)), all, exact s so)
 
+      -- so with the starts
       past-starts : startsBelow x ts ≡ starts + lv .runs + 1 + startsBelow x (inorder (s .r))
       unfolding startsBelow
       past-starts =
           let all = startsBelow-all x (v .start) (inorder (s .l)) (omega arith) (spot-ends s) in
           let one : startsBelow x (here v ∷ inorder (s .r)) ≡ 1 + startsBelow x (inorder (s .r)) = rw (lt-ltb (v .start) x lt) in
           omega (arith, s .is .starts-are, startsBelow-append x (inorder (s .l)) (here v ∷ inorder (s .r)), all, one, exact s so)
+
+      -- what is passed is no more than x
+      pub past-fits : Canon size 0 ts → ones + lv .ones + (min (v .«end» + 1) x - v .start) ≤ x
+      past-fits c = omega (arith, past-ones, ones-most x ts c)
 
       -- a run that x is in ends the walk
       pub tally-in : x ≤ v .«end» → Canon size 0 ts → Tallied x (ones + lv .ones + (x - v .start)) (starts + lv .runs + 1) ts
@@ -187,6 +170,7 @@ module _ {w : List ℕ} {g x ones starts : ℕ} {v : Node} {ts : List Run} (s : 
           (omega (arith, past-ones, onesBelow-none x (v .«end» + 2) (inorder (s .r)) (omega arith) f))
           (omega (arith, past-starts, startsBelow-none x (v .«end» + 2) (inorder (s .r)) (omega arith) f))
 
+      -- one that ends before x is passed
       pub tally-right : v .«end» < x → Tallying x (ones + lv .ones + (v .«end» - v .start) + 1) (starts + lv .runs + 1) ts (inorder (s .r))
       tally-right gt = record {
         ones-are = omega (arith, past-ones, spot-ordered s);
@@ -194,6 +178,7 @@ module _ {w : List ℕ} {g x ones starts : ℕ} {v : Node} {ts : List Run} (s : 
         few = past-few;
       }
 
+-- at the end all is passed
 pub tally-end : (x ones starts : ℕ) (ts : List Run) → Canon size 0 ts → Tallying x ones starts ts [] → Tallied x ones starts ts
 unfolding onesBelow startsBelow
 tally-end x ones starts ts c h = tallied x ones starts ts c (omega (arith, h .ones-are)) (omega (arith, h .starts-are))
@@ -206,33 +191,38 @@ tally-low {x} {ones} {starts} {ts} y e h = record {
 }
 
 -- ---- all that the tree holds: the root's sums, of which the wrapped one is 0 for no run at all and for 2^64 positions
--- a list holds a position exactly if it has a run
+-- a list holds a position if it has a run
 held-some : (total k : ℕ) (rs : List Run) → Canon total k rs → 1 ≤ length rs → 1 ≤ widths rs
 unfolding widths
 held-some total k [] c h = absurd (omega arith)
 held-some total k (r ∷ rs) c h = omega (arith, c .1)
 
+-- and none if it has none
 held-none : (rs : List Run) → length rs ≡ 0 → widths rs ≡ 0
 unfolding widths
 held-none [] h = refl
 held-none (r ∷ rs) h = absurd (omega arith)
 
 module _ {w : List ℕ} {p g : ℕ} {t : Tree} (i : Index w p g t) {v : Node} (so : TellsSums w p v) (x : ℕ) (top : x ≡ size) where
+  -- the root's number of runs is that of the list
+  told : v .runs ≡ length (inorder t)
+  told = so g t (i .at) .runs-is ∙ runs-length t
+
+  -- all its positions and runs are below 2^64
   whole : (ones : ℕ) → ones ≡ widths (inorder t) → Tallied x ones (v .runs) (inorder t)
   whole ones e =
       let ends = canon-ends size 0 (inorder t) (i .canonical) in
       tallied x ones (v .runs) (inorder t) (i .canonical)
       (e ∙ sym (onesBelow-all x size (inorder t) (omega arith) ends))
-      (so g t (i .at) .runs-is ∙ runs-length t ∙ sym (startsBelow-all x size (inorder t) (omega arith) ends))
+      (told ∙ sym (startsBelow-all x size (inorder t) (omega arith) ends))
 
+  -- there are 2^64 at most
   held : widths (inorder t) + 0 ≤ size
   held = widths-room size 0 size (inorder t) (i .canonical) (canon-ends size 0 (inorder t) (i .canonical)) (omega arith)
 
+  -- its sum is wrapped
   wrapped : v .ones ≡ widths (inorder t) % 2 ^ 64
   wrapped = so g t (i .at) .ones-is ∙ ones-widths t (i .at .rep)
-
-  told : v .runs ≡ length (inorder t)
-  told = so g t (i .at) .runs-is ∙ runs-length t
 
   -- every position
   pub whole-full : v .ones ≡ 0 → not (eqb (v .runs) 0) ≡ true → Tallied x (2 ^ 64) (v .runs) (inorder t)
@@ -255,6 +245,7 @@ pub record Picking (k left : ℕ) (ts us : List Run) : Type 0 where
   pub same : selectRuns ts k ≡ selectRuns us left
   pub within : k < widths ts → left < widths us
 
+-- at first the whole is left
 pub pick-start : (k : ℕ) (ts : List Run) → Picking k k ts ts
 pick-start k ts = record { same = refl; within = λ h. h }
 
@@ -266,6 +257,7 @@ module _ {w : List ℕ} {g k left : ℕ} {v lv : Node} {ts : List Run} (s : Spot
       record { same = s .is .same ∙ selectRuns-left (inorder (s .l)) (here v ∷ inorder (s .r)) left h; within = λ i. h }
 
   module _ (le : lv .ones ≤ left) where
+    -- past the left side
     past : selectRuns ts k ≡ selectRuns (here v ∷ inorder (s .r)) (left - lv .ones)
     past =
         s .is .same ∙ selectRuns-right (inorder (s .l)) (here v ∷ inorder (s .r)) left (omega (arith, exact s so))
@@ -294,6 +286,7 @@ pub record Gapping (k low left : ℕ) (ts us : List Run) : Type 0 where
   pub same : selectGap 0 ts k ≡ selectGap low us left
   pub canonical : Canon size low us
 
+-- at first the whole is left
 pub gap-start : (k : ℕ) (ts : List Run) → Canon size 0 ts → Gapping k 0 k ts ts
 gap-start k ts c = record { same = refl; canonical = c }
 
@@ -318,6 +311,7 @@ module _ {w : List ℕ} {g k low left : ℕ} {v lv : Node} {ts : List Run} (s : 
   pub gap-room : lv .ones + low ≤ v .start
   gap-room = omega (arith, left-room low (v .start) (v .«end») (inorder (s .l)) (inorder (s .r)) (s .is .canonical), exact s so)
 
+  -- to the left where that many are free there
   pub gap-left : left < v .start - low - lv .ones → Gapping k low left ts (inorder (s .l))
   gap-left lt =
       let c = left-canon low (v .start) (v .«end») (inorder (s .l)) (inorder (s .r)) (s .is .canonical) in
@@ -326,6 +320,7 @@ module _ {w : List ℕ} {g k low left : ℕ} {v lv : Node} {ts : List Run} (s : 
         canonical = c;
       }
 
+  -- else past the run
   pub gap-right : v .start - low - lv .ones ≤ left → Gapping k (v .«end» + 1) (left - (v .start - low - lv .ones)) ts (inorder (s .r))
   gap-right le =
       let room = gap-room in

@@ -1,7 +1,7 @@
 -- A search walks down the tree from its root: at each link there is a part of the tree, whose runs are canonical, and it is to the whole
 -- as the search's invariant R says. What the code reads at a node is told here once for all searches. Assumes nothing.
 use Prim.Native.Nat.{ℕ, _+_, _-_, _≤_, _<_, _%_, _^_}
-use mathlib.Core.Path.{_≡_, refl, sym, ap, ap₂, _∙_, subst}
+use mathlib.Core.Path.{_≡_, refl, ap, ap₂, _∙_, subst}
 use mathlib.Core.List.{List, [], _∷_, _++_}
 use native.Mathlib.Omega.{arith}
 use native.Mathlib.Nat.{add-mod-mod, mod-add-mod}
@@ -13,21 +13,23 @@ use Rattle.model.specs.RunList.{Canon, canon-weaken, widths}
 use Rattle.model.specs.Search.{EndBelow, StartFrom, widths-append, canon-ends, canon-starts, canon-split, widths-room}
 use Rattle.run_index.specs.declared.Node.{Node}
 use Rattle.run_index.specs.Cells.{cellAt, Room}
-use Rattle.run_index.specs.Tree.{Tree, leaf, node, runs, ones, width, inorder, Rep, At, Held, Sums}
+use Rattle.run_index.specs.Tree.{Tree, leaf, node, runs, ones, width, inorder, Rep, At, Held}
 use Rattle.run_index.specs.Promises.{TellsSums}
-use Rattle.run_index.specs.Search.{Index, Indexed}
+use Rattle.run_index.specs.Search.{Index}
 use Rattle.run_index.proofs.Trees.{rep-ordered, rep-left, rep-right, at-none}
 use Rattle.run_index.proofs.Heap.{View, view, heightAt, left-falls, right-falls}
 
--- the sums that the nodes keep, of the list of runs
+-- the number of runs that a node keeps is the length of the list
 pub runs-length : (t : Tree) → runs t ≡ length (inorder t)
 runs-length leaf = refl
 runs-length (node n a b l r) =
     omega (arith, runs-length l, runs-length r, length-append (inorder l) (run a b ∷ inorder r))
 
+-- three sums, each taken modulo 2^64
 mod-sum : (x y z : ℕ) → ((x % 2 ^ 64 + y % 2 ^ 64) % 2 ^ 64 + z % 2 ^ 64) % 2 ^ 64 ≡ (x + (z + y)) % 2 ^ 64
 mod-sum x y z = simp (mod-add-mod, add-mod-mod) (ap (λ n. n % 2 ^ 64) (omega arith))
 
+-- the sum of widths that a node keeps is that of the list, modulo 2^64
 pub ones-widths : {w : List ℕ} {g : ℕ} (t : Tree) → Rep w g t → ones t ≡ widths (inorder t) % 2 ^ 64
 unfolding widths
 ones-widths leaf h = refl
@@ -37,6 +39,7 @@ ones-widths (node n a b l r) h =
     ∙ mod-sum (widths (inorder l)) (widths (inorder r)) (b - a + 1)
     ∙ ap (λ k. k % 2 ^ 64) (omega (arith, widths-append (inorder l) (run a b ∷ inorder r)))
 
+-- there are few runs
 pub index-few : {w : List ℕ} {p g : ℕ} {t : Tree} → Index w p g t → length (inorder t) < 2 ^ 62
 index-few {t = t} i = omega (arith, i .few, runs-length t)
 
@@ -50,22 +53,23 @@ module _ (low a b : ℕ) (ls rs : List Run) (c : Canon size low (ls ++ (run a b 
   parts : (Canon (a - 1) low ls) × (low ≤ a) × (a ≤ b) × (b < size) × Canon size (b + 2) rs
   parts = canon-split size low ls (run a b) rs c
 
-  pub at-least : low ≤ a
-  at-least = parts .1
-
-  pub run-ordered : a ≤ b
+  -- its ends are in order
+  run-ordered : a ≤ b
   run-ordered = parts .2
 
-  pub run-below : b < size
+  -- it ends below 2^64
+  run-below : b < size
   run-below = parts .3
 
   -- what is to its left ends below it
-  pub left-below : Canon a low ls
+  left-below : Canon a low ls
   left-below = canon-wider (a - 1) a low ls (omega arith) (parts .0)
 
+  -- that is canonical by itself
   pub left-canon : Canon size low ls
   left-canon = canon-wider a size low ls (omega (arith, parts .2, parts .3)) left-below
 
+  -- and fits between the lower bound and the run
   pub left-room : widths ls + low ≤ a
   left-room = widths-room a low a ls left-below (canon-ends a low ls left-below) (parts .1)
 
@@ -73,7 +77,8 @@ module _ (low a b : ℕ) (ls rs : List Run) (c : Canon size low (ls ++ (run a b 
   pub right-above : Canon size (b + 2) rs
   right-above = parts .4
 
-  pub from-here : Canon size a (run a b ∷ rs)
+  -- and with it at its start
+  from-here : Canon size a (run a b ∷ rs)
   from-here = (omega arith, parts .2, parts .3, parts .4)
 
 -- at each link that the walk comes to, there is a part of the tree
@@ -104,17 +109,21 @@ pub record Spot (w : List ℕ) (g : ℕ) (v : Node) (R : List Run → List Run �
   pub canonical : Canon size 0 (inorder l ++ (here v ∷ inorder r))
   pub is : R ts (inorder l ++ (here v ∷ inorder r))
 
--- the run's ends are in order; what is to its left ends below it, and it and what is to its right start at its start or above
+-- what is known of the node's run
 module _ {w : List ℕ} {g : ℕ} {v : Node} {R : List Run → List Run → Type 0} {ts : List Run} (s : Spot w g v R ts) where
+  -- its ends are in order
   pub spot-ordered : v .start ≤ v .«end»
   spot-ordered = run-ordered 0 (v .start) (v .«end») (inorder (s .l)) (inorder (s .r)) (s .canonical)
 
+  -- it ends below 2^64
   pub spot-below : v .«end» < size
   spot-below = run-below 0 (v .start) (v .«end») (inorder (s .l)) (inorder (s .r)) (s .canonical)
 
+  -- what is to its left ends below it
   pub spot-ends : EndBelow (v .start) (inorder (s .l))
   spot-ends = canon-ends (v .start) 0 (inorder (s .l)) (left-below 0 (v .start) (v .«end») (inorder (s .l)) (inorder (s .r)) (s .canonical))
 
+  -- it and what is to its right start at its start or above
   pub spot-starts : StartFrom (v .start) (here v ∷ inorder (s .r))
   spot-starts = canon-starts size (v .start) (here v ∷ inorder (s .r)) (from-here 0 (v .start) (v .«end») (inorder (s .l)) (inorder (s .r)) (s .canonical))
 
@@ -125,11 +134,13 @@ exact {g = g} {v = v} s so =
     let room = left-room 0 (v .start) (v .«end») (inorder (s .l)) (inorder (s .r)) (s .canonical) in
     (omega (arith, so g (s .l) (s .left) .ones-is, ones-widths (s .l) (s .left .rep), spot-ordered s, spot-below s), so g (s .l) (s .left) .runs-is ∙ runs-length (s .l))
 
+-- the walk at a node v that was read
 module _ {w : List ℕ} {p q : ℕ} {R : List Run → List Run → Type 0} (h : Walk w p q R) (v : Node) (ne : q ≡ 0 → ⊥) (e : v ≡ cellAt w q) where
+  -- the part of the tree that it is the root of
   seen : {g : ℕ} {t : Tree} (i : Index w p g t) → View w g q v (h .part g t i .0)
   seen {g} {t} i = view w g q v (h .part g t i .0) (h .part g t i .1) ne e
 
-  -- what is known of the node
+  -- the same as a list around the node's run
   pub spot : {g : ℕ} {t : Tree} → Index w p g t → Spot w g v R (inorder t)
   spot {g} {t} i =
       let s = seen i in
@@ -143,31 +154,34 @@ module _ {w : List ℕ} {p q : ℕ} {R : List Run → List Run → Type 0} (h : 
         is = subst (λ us. R (inorder t) us) same (h .part g t i .3);
       }
 
+  -- the node lies within the words
   pub walk-room : {g : ℕ} {t : Tree} → Index w p g t → Room w q
   walk-room i = seen i .room
 
+  -- there is a tree on its left
   pub left-held : {g : ℕ} {t : Tree} → Index w p g t → Held w (v .left)
   left-held {g} i = (g, seen i .l, seen i .left)
 
-  -- either side is lower
+  -- the left side is lower
   pub walk-left-falls : {g : ℕ} {t : Tree} → Index w p g t → heightAt w (v .left) < heightAt w q
   walk-left-falls {g} {t} i = left-falls (h .part g t i .1) (seen i)
 
+  -- the right side is lower
   pub walk-right-falls : {g : ℕ} {t : Tree} → Index w p g t → heightAt w (v .right) < heightAt w q
   walk-right-falls {g} {t} i = right-falls (h .part g t i .1) (seen i)
 
-  -- and the walk goes on there
+  -- the walk goes on to either side with an invariant that holds there
   module _ {R′ : List Run → List Run → Type 0} where
     pub go-left : ((g : ℕ) (t : Tree) (s : Spot w g v R (inorder t)) → R′ (inorder t) (inorder (s .l))) → Walk w p (v .left) R′
     go-left f = record {
       part = λ g t i.
-        let s = spot i in
-        (s .l, s .left, left-canon 0 (v .start) (v .«end») (inorder (s .l)) (inorder (s .r)) (s .canonical), f g t s)
+          let s = spot i in
+          (s .l, s .left, left-canon 0 (v .start) (v .«end») (inorder (s .l)) (inorder (s .r)) (s .canonical), f g t s);
     }
 
     pub go-right : ((g : ℕ) (t : Tree) (s : Spot w g v R (inorder t)) → R′ (inorder t) (inorder (s .r))) → Walk w p (v .right) R′
     go-right f = record {
       part = λ g t i.
-        let s = spot i in
-        (s .r, s .right, canon-weaken size (v .«end» + 2) 0 (inorder (s .r)) (omega arith) (right-above 0 (v .start) (v .«end») (inorder (s .l)) (inorder (s .r)) (s .canonical)), f g t s)
+          let s = spot i in
+          (s .r, s .right, canon-weaken size (v .«end» + 2) 0 (inorder (s .r)) (omega arith) (right-above 0 (v .start) (v .«end») (inorder (s .l)) (inorder (s .r)) (s .canonical)), f g t s);
     }

@@ -1,7 +1,6 @@
 -- `prefix` meets its contract: before a position `tally_below` tells, and before 2^64 the sums of the root, where a wrapped sum of 0 is told from none.
 -- Assumes nothing.
-use Prim.Native.Nat.{_+_}
-use mathlib.Core.Path.{_≡_, sym, subst}
+use mathlib.Core.Path.{_≡_}
 use native.Mathlib.Omega.{arith}
 use Rattle.model.specs.Numbers.{size, worth}
 use Rattle.run_index.proofs.Searching.{tally-low, whole-full, whole-some, whole-none}
@@ -9,28 +8,19 @@ use mathlib.Core.Logic.{⊎-elim}
 use borrow.Author.Needs.{needs}
 use Rattle.run_index.proofs.search.prefix.Statement.{statement}
 use Rattle.run_index.proofs.search.prefix.Tie as tie
-use Rattle.run_index.proofs.search.prefix.Reads as reads
-use Rattle.run_index.proofs.search.prefix.Lts as lts
-use Rattle.run_index.proofs.search.tally_below.Reads as tally-below-reads
-use Rattle.run_index.proofs.sums.Reads as sums-reads
 
--- src/search.rt:127:13
 tally-below-requires : tie.Need-tally-below-requires
 tally-below-requires c κs = search needs
 
--- src/search.rt:128:9
 returns : tie.Need-returns
 returns c = λ g t i. tally-low (worth (c .before .before .before .args .end)) (omega (arith, c .before .if1 .taken)) (c .tally-below .ensures g t i)
 
--- src/search.rt:137:9
 sums-requires : tie.Need-sums-requires
 sums-requires c κs = search needs
 
--- src/search.rt:139:9
 returns-2 : tie.Need-returns-2
 returns-2 c = λ g t i. whole-full i (c .before .before .before .before .sums .ensures) (worth (c .before .before .before .before .before .before .before .args .end)) (omega (arith, c .before .before .before .before .before .if1 .left, c .before .before .before .before .before .before .before .pre .1)) (c .before .before .if2 .taken) (c .if3 .taken)
 
--- src/search.rt:120:1
 returns-3 : tie.Need-returns-3
 returns-3 c =
     λ g t i.
