@@ -17,7 +17,34 @@ use Rattle.model.specs.Positions.{run, count, mem}
 use Rattle.model.specs.Positions.Laws.{count-both}
 use Rattle.model.specs.Positions.Finds.{selectRuns, selectRuns-in, selectRuns-past}
 use Rattle.model.specs.RunList.{Canon, canon-weaken, widths, count-mem}
-use Rattle.model.specs.Search.{orElse, lastUpTo, firstFrom, lastUpTo-append, firstFrom-append, lastUpTo-none, firstFrom-none, onesBelow, startsBelow, onesBelow-append, startsBelow-append, onesBelow-none, startsBelow-none, onesBelow-all, startsBelow-all, widths-append, widths-room, count-onesBelow, canon-ends, canon-starts, selectRuns-left, selectRuns-right, selectGap, selectGap-left, selectGap-right, selectGap-is}
+use Rattle.model.specs.Search.{
+  orElse,
+  lastUpTo,
+  firstFrom,
+  lastUpTo-append,
+  firstFrom-append,
+  lastUpTo-none,
+  firstFrom-none,
+  onesBelow,
+  startsBelow,
+  onesBelow-append,
+  startsBelow-append,
+  onesBelow-none,
+  startsBelow-none,
+  onesBelow-all,
+  startsBelow-all,
+  widths-append,
+  widths-room,
+  count-onesBelow,
+  canon-ends,
+  canon-starts,
+  selectRuns-left,
+  selectRuns-right,
+  selectGap,
+  selectGap-left,
+  selectGap-right,
+  selectGap-is,
+}
 use Rattle.run_index.specs.declared.Node.{Node}
 use Rattle.run_index.specs.Tree.{Tree, inorder}
 use Rattle.run_index.specs.Promises.{TellsSums}
@@ -216,25 +243,25 @@ module _ {w : List ℕ} {p g : ℕ} {t : Tree} (i : Index w p g t) {v : Node} (s
       (e ∙ sym (onesBelow-all x size (inorder t) (omega arith) ends))
       (told ∙ sym (startsBelow-all x size (inorder t) (omega arith) ends))
 
-  -- there are 2^64 at most
+  -- there are 2^64 positions at most
   held : widths (inorder t) + 0 ≤ size
   held = widths-room size 0 size (inorder t) (i .canonical) (canon-ends size 0 (inorder t) (i .canonical)) (omega arith)
 
-  -- its sum is wrapped
+  -- the root's sum is how many, wrapped
   wrapped : v .ones ≡ widths (inorder t) % 2 ^ 64
   wrapped = so g t (i .at) .ones-is ∙ ones-widths t (i .at .rep)
 
-  -- every position
+  -- a sum of 0 with a run is every position
   pub whole-full : v .ones ≡ 0 → not (eqb (v .runs) 0) ≡ true → Tallied x (2 ^ 64) (v .runs) (inorder t)
   whole-full z test =
       let ne : v .runs ≡ 0 → ⊥ = eqb-false (v .runs) 0 (not-true (eqb (v .runs) 0) test) in
       whole (2 ^ 64) (omega (arith, held, wrapped, held-some size 0 (inorder t) (i .canonical) (omega (arith, told))))
 
-  -- fewer, but some
+  -- another sum is not wrapped
   pub whole-some : (v .ones ≡ 0 → ⊥) → Tallied x (0 + v .ones) (v .runs) (inorder t)
   whole-some ne = whole (0 + v .ones) (omega (arith, held, wrapped))
 
-  -- none
+  -- a sum of 0 without one is none
   pub whole-none : v .ones ≡ 0 → not (eqb (v .runs) 0) ≡ false → Tallied x (0 + v .ones) (v .runs) (inorder t)
   whole-none z test =
       let no : v .runs ≡ 0 = eqb-true (v .runs) 0 (not-false (eqb (v .runs) 0) test) in
