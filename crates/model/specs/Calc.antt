@@ -43,7 +43,7 @@ use Rattle.model.specs.Positions.{
 use Rattle.model.specs.Positions.Laws.{inside-yes, inside-below, inside-above, Place, below, within, above, place, among-yes, among-below, among-above, count-cong}
 use Rattle.model.specs.Positions.Runs.{runsIn-is, heldRuns-mem, stretches-is}
 use Rattle.model.specs.Positions.Finds.{startOf, find-runs, count-runs, selectRuns, select-runs}
-use Rattle.model.specs.RunList.{Canon, canon-weaken, widths}
+use Rattle.model.specs.RunList.{Canon, canon-weaken, canon-wider, widths}
 use Rattle.model.specs.Clip.{clip, clip-canon, clip-mem, clip-runs}
 use Rattle.model.specs.Edit.{setRuns, setRuns-canon, setRuns-mem}
 use Rattle.model.specs.Ops.{
@@ -240,10 +240,6 @@ unfolding bounded
 map-positions base n bs rs c = fun-ext (λ x. map-mem base n bs rs x c)
 
 -- ---- the runs of either value in a range
-canon-widen : (total t k : ℕ) (rs : List Run) → total ≤ t → Canon total k rs → Canon t k rs
-canon-widen total t k [] h c = tt
-canon-widen total t k (r ∷ rs) h c = (c .0, c .1, omega (arith, c .2), canon-widen total t (r .«end» + 2) rs h (c .3))
-
 unfoldable pub clipped : Bool → ℕ → ℕ → List Run → List Run
 clipped true a n rs = clip a n rs
 clipped false a n rs = clip a n (complementRuns (max size (a + n)) rs)
@@ -259,7 +255,7 @@ clipped-runs false a n rs c =
     total = max size (a + n)
 
     wide : Canon total 0 rs
-    wide = canon-widen size total 0 rs (omega arith) c
+    wide = canon-wider size total 0 rs (omega arith) c
 
     gaps : List Run
     gaps = complementRuns total rs

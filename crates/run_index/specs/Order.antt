@@ -35,8 +35,3 @@ Before k (x ∷ xs) = (x .start < k) × Before k xs
 abbrev pub Starts : ℕ → List Run → Type 0
 Starts k [] = ⊥
 Starts k (x ∷ xs) = (x .start ≡ k) ⊎ Starts k xs
-
--- how many positions the runs have together
-abbrev pub widths : List Run → ℕ
-widths [] = 0
-widths (x ∷ xs) = (x .«end» - x .start + 1) + widths xs
