@@ -1,0 +1,106 @@
+// The nodes: which belong to the index and which are free. Making a store empty, and adding and removing a run.
+ghost use mathlib.Core.Path.{_≡_};
+ghost use Prim.Native.Nat.{_≤_};
+ghost use Rattle.store.specs.Layout.{capacity};
+ghost use Rattle.store.specs.Free.{Emptied, Addable, Adds, Removable, RemovesRun};
+use crate::Header;
+use run_index::Node;
+
+// Makes the words an empty store, whatever they were: the free chain goes through the nodes 1, 2 and so on to the last.
+pub fn make(words: &mut [u64])
+    requires { ⌜ 1 ≤ capacity (now words) ⌝ }
+    ensures { λ _. ⌜ Emptied (now (words .entry)) (now (words .exit)) ⌝ }
+{
+    let mut left = (words.len() / 8 - 1) as u64;
+    let mut next: u64 = 0;
+    while left != 0 {
+        run_index::write_node(
+            words,
+            left,
+            Node {
+                start: 0,
+                end: 0,
+                left: next,
+                right: 0,
+                height: 0,
+                runs: 0,
+                ones: 0,
+                tag: 0,
+            },
+        );
+        next = left;
+        left -= 1;
+    }
+    crate::write_header(
+        words,
+        Header {
+            root: 0,
+            free: 1,
+            offset: 0,
+            ones: 0,
+            runs: 0,
+            first: 0,
+            last: 0,
+            spare: 0,
+        },
+    );
+}
+
+// Puts the run start..=end, which touches no other, into the index, as the first free node. Of the header only the root and the free head change.
+pub fn add_run(words: &mut [u64], start: u64, end: u64)
+    requires { ⌜ Addable (now words) start «end» ⌝ }
+    ensures { λ _. ⌜ Adds (now (words .entry)) (now (words .exit)) start «end» ⌝ }
+{
+    let h = crate::read_header(words);
+    let v = run_index::read_node(words, h.free);
+    let root = run_index::insert(words, h.root, h.free, start, end, 0);
+    crate::write_header(
+        words,
+        Header {
+            root: root,
+            free: v.left,
+            offset: h.offset,
+            ones: h.ones,
+            runs: h.runs,
+            first: h.first,
+            last: h.last,
+            spare: h.spare,
+        },
+    );
+}
+
+// Takes the run that starts at `start` out of the index; its node becomes the first free one.
+pub fn remove_run(words: &mut [u64], start: u64)
+    requires { ⌜ Removable (now words) start ⌝ }
+    ensures { λ _. ⌜ RemovesRun (now (words .entry)) (now (words .exit)) start ⌝ }
+{
+    let h = crate::read_header(words);
+    let x = run_index::remove(words, h.root, start, 0);
+    run_index::write_node(
+        words,
+        x.freed,
+        Node {
+            start: 0,
+            end: 0,
+            left: h.free,
+            right: 0,
+            height: 0,
+            runs: 0,
+            ones: 0,
+            tag: 0,
+        },
+    );
+    crate::write_header(
+        words,
+        Header {
+            root: x.root,
+            free: x.freed,
+            offset: h.offset,
+            ones: h.ones,
+            runs: h.runs,
+            first: h.first,
+            last: h.last,
+            spare: h.spare,
+        },
+    );
+}
