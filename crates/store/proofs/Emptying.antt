@@ -1,8 +1,8 @@
 -- Making a store: the nodes are freed from the last to the first, each before the one freed last, so at each step the chain goes through
 -- the nodes after those left. The store made has no run, so its set is empty. Assumes nothing.
-use Prim.Native.Nat.{ℕ, zero, suc, _+_, _*_, _-_, _/_, _≤_, _<_}
+use Prim.Native.Nat.{ℕ, zero, suc, _+_, _-_, _/_, _≤_, _<_}
 use mathlib.Core.Path.{_≡_, refl, sym, ap, _∙_, subst, fun-ext}
-use mathlib.Core.Bool.{Bool, true, false, _&&_, and-false}
+use mathlib.Core.Bool.{_&&_, and-false}
 use mathlib.Core.List.{List, [], _∷_}
 use native.Mathlib.Omega.{arith}
 use native.Mathlib.Decide.{ℕ-discrete}
@@ -10,15 +10,15 @@ use lib.Dec.{ltb}
 use lib.ListN.{length}
 use Rattle.model.specs.declared.Run.{Run}
 use Rattle.model.specs.Numbers.{size, physicalOf, capacityOf}
-use Rattle.model.specs.Positions.{Positions, mem, empty, heldRuns, stretches}
+use Rattle.model.specs.Positions.{mem, empty, heldRuns, stretches}
 use Rattle.model.specs.Positions.Runs.{heldRuns-is, stretches-is}
 use Rattle.run_index.specs.declared.Node.{Node}
-use Rattle.run_index.specs.Cells.{cellAt, Room, Wrote}
-use Rattle.run_index.specs.Tree.{Tree, leaf, δ, count}
+use Rattle.run_index.specs.Cells.{Room, Wrote}
+use Rattle.run_index.specs.Tree.{leaf, δ}
 use Rattle.run_index.proofs.Trees.{δ-same, δ-other, leaf-at}
 use Rattle.store.specs.declared.Header.{Header}
 use Rattle.store.specs.Layout.{headerAt, Headed, capacity, runsFrom, physicalRuns, turned, heldBy}
-use Rattle.store.specs.Soundness.{freeCell, Chain, times, firstOf, lastOf, Kept, Sound}
+use Rattle.store.specs.Soundness.{freeCell, Chain, times, firstOf, lastOf, Kept}
 use Rattle.store.specs.Free.{Emptied}
 use Rattle.store.proofs.Nodes.{chain-kept, sized-length, Laid, laid-kept}
 
@@ -48,7 +48,7 @@ pub after-greater : (n k m : ℕ) → 1 ≤ times m (after n k) → m ≡ n → 
 after-greater n k m i e = omega (arith, after-none n k m (omega arith))
 
 -- the words w, made from w₀: the nodes after the first `left` ones are the free chain from `next`
-pub record Freeing (w₀ w : List ℕ) (left next : ℕ) : Type 0 where
+pub record FreeAfter (w₀ w : List ℕ) (left next : ℕ) : Type 0 where
   pub sized : 1 ≤ capacity w₀
   pub long : length w ≡ length w₀
   pub done : ℕ
@@ -56,21 +56,20 @@ pub record Freeing (w₀ w : List ℕ) (left next : ℕ) : Type 0 where
   pub chain : Chain w next (after left done)
 
 -- at first none is free
-pub freeing-none : (w : List ℕ) (left next : ℕ) → 1 ≤ capacity w → left ≡ length w / 8 - 1 → next ≡ 0 → Freeing w w left next
+pub free-after-none : (w : List ℕ) (left next : ℕ) → 1 ≤ capacity w → left ≡ length w / 8 - 1 → next ≡ 0 → FreeAfter w w left next
 unfolding after
-freeing-none w left next h e z = record { sized = h; long = refl; done = 0; all = omega (arith, sized-length w h); chain = z }
+free-after-none w left next h e z = record { sized = h; long = refl; done = 0; all = omega (arith, sized-length w h); chain = z }
 
 -- the node at hand has room
-pub freeing-room : (w₀ w : List ℕ) (left next : ℕ) → Freeing w₀ w left next → Room w left
-freeing-room w₀ w left next f = omega (arith, f .all, f .long, sized-length w₀ (f .sized))
+pub free-after-room : (w₀ w : List ℕ) (left next : ℕ) → FreeAfter w₀ w left next → Room w left
+free-after-room w₀ w left next f = omega (arith, f .all, f .long, sized-length w₀ (f .sized))
 
 -- it is freed, and then is the first
-pub freeing-more : (w₀ w w′ : List ℕ) (left next : ℕ) → (left ≡ 0 → ⊥) → Freeing w₀ w left next → Wrote w w′ left (freeCell next) → Freeing w₀ w′ (left - 1) left
+free-after-step : (w₀ w w′ : List ℕ) (l next : ℕ) → FreeAfter w₀ w (suc l) next → Wrote w w′ (suc l) (freeCell next) → FreeAfter w₀ w′ l (suc l)
 unfolding after
-freeing-more w₀ w w′ zero next ne f wr = absurd (ne refl)
-freeing-more w₀ w w′ (suc l) next ne f wr =
+free-after-step w₀ w w′ l next f wr =
     let rest : Chain w′ next (after (suc l) (f .done)) =
-        chain-kept w w′ (wr .long) next (after (suc l) (f .done)) (λ m i. wr .there m (after-greater (suc l) (f .done) m i)) (f .chain) in
+    chain-kept w w′ (wr .long) next (after (suc l) (f .done)) (λ m i. wr .there m (after-greater (suc l) (f .done) m i)) (f .chain) in
     record {
       sized = f .sized;
       long = wr .long ∙ f .long;
@@ -79,11 +78,16 @@ freeing-more w₀ w w′ (suc l) next ne f wr =
       chain = (
         refl,
         omega arith,
-        omega (arith, wr .long, freeing-room w₀ w (suc l) next f),
+        omega (arith, wr .long, free-after-room w₀ w (suc l) next f),
         wr .here ∙ ap (λ (v : Node). freeCell (v .left)) (sym (wr .here)),
         subst (λ (v : Node). Chain w′ (v .left) (after (suc l) (f .done))) (sym (wr .here)) rest,
       );
     }
+
+-- the same of a number that is not 0
+pub free-after-more : (w₀ w w′ : List ℕ) (left next : ℕ) → (left ≡ 0 → ⊥) → FreeAfter w₀ w left next → Wrote w w′ left (freeCell next) → FreeAfter w₀ w′ (left - 1) left
+free-after-more w₀ w w′ zero next ne f wr = absurd (ne refl)
+free-after-more w₀ w w′ (suc l) next ne f wr = subst (λ (n : ℕ). FreeAfter w₀ w′ n (suc l)) (omega arith) (free-after-step w₀ w w′ l next f wr)
 
 -- the header of an empty store
 abbrev pub emptyHeader : Header
@@ -96,7 +100,7 @@ chain-first w next zero h c = absurd (omega arith)
 chain-first w next (suc k) h c = (refl, c .1, c .2, c .3, c .4)
 
 -- all nodes are free in the end
-empty-laid : (w₀ w : List ℕ) (next : ℕ) (f : Freeing w₀ w 0 next) → Laid w emptyHeader leaf (after 0 (f .done))
+empty-laid : (w₀ w : List ℕ) (next : ℕ) (f : FreeAfter w₀ w 0 next) → Laid w emptyHeader leaf (after 0 (f .done))
 empty-laid w₀ w next f =
     let cap : capacity w ≡ capacity w₀ = ap capacityOf (f .long) in
     record {
@@ -106,7 +110,7 @@ empty-laid w₀ w next f =
       ordered = tt;
       balanced = tt;
       chained = chain-first w next (f .done) (omega (arith, f .all)) (f .chain);
-      shared = λ m q le. after-one 0 (f .done) m (omega arith) (omega (arith, f .all, cap));
+      shared = λ m q le. omega (arith, after-one 0 (f .done) m (omega arith) (omega (arith, f .all, cap)));
       spare = refl;
     }
 
@@ -127,9 +131,9 @@ unfolding mem empty
 empty-stretches = stretches-is empty [] tt (λ x h. refl)
 
 -- with its header it is an empty store
-pub made-empty : (w₀ w w′ : List ℕ) (left next : ℕ) → left ≡ 0 → Freeing w₀ w left next → Headed w w′ emptyHeader → Emptied w₀ w′
+pub made-empty : (w₀ w w′ : List ℕ) (left next : ℕ) → left ≡ 0 → FreeAfter w₀ w left next → Headed w w′ emptyHeader → Emptied w₀ w′
 made-empty w₀ w w′ left next z f₀ hd =
-    let f : Freeing w₀ w 0 next = subst (λ (n : ℕ). Freeing w₀ w n next) z f₀ in
+    let f : FreeAfter w₀ w 0 next = subst (λ (n : ℕ). FreeAfter w₀ w n next) z f₀ in
     let k : Kept w′ leaf (after 0 (f .done)) = laid-kept w w′ emptyHeader leaf (after 0 (f .done)) (empty-laid w₀ w next f) hd in
     let none : heldBy w′ ≡ empty = rootless-empty w′ (ap (λ (h : Header). h .root) (hd .here)) in
     let runs : heldRuns (heldBy w′) ≡ [] = ap heldRuns none ∙ empty-runs in

@@ -1,6 +1,6 @@
 -- Adding a run takes the first free node, and removing one gives its node back as the first. The tree and the chain share the nodes out
 -- before and after, since the tree's count of each number changes by that node alone. Assumes nothing.
-use Prim.Native.Nat.{ℕ, suc, _+_, _*_, _-_, _≤_, _<_}
+use Prim.Native.Nat.{ℕ, _+_, _≤_}
 use mathlib.Core.Path.{_≡_, refl, sym, ap, _∙_, subst}
 use mathlib.Core.Bool.{Bool, true, false}
 use mathlib.Core.List.{List, [], _∷_}
@@ -15,10 +15,10 @@ use Rattle.run_index.specs.declared.Node.{Node}
 use Rattle.run_index.specs.declared.Removed.{Removed}
 use Rattle.run_index.specs.Cells.{cellAt, Room, Wrote}
 use Rattle.run_index.specs.Tree.{Tree, leaf, node, δ, count, inorder, Made}
-use Rattle.run_index.specs.Order.{pickRuns, insertRun, removeRun, Rising}
+use Rattle.run_index.specs.Order.{pickRuns, removeRun, Rising}
 use Rattle.run_index.specs.Shape.{inserted, removed, numberOf}
 use Rattle.run_index.specs.Promises.{Ready, Inserts, Owned, Freed, Removes}
-use Rattle.run_index.proofs.Trees.{δ-same, δ-zero}
+use Rattle.run_index.proofs.Trees.{δ-same}
 use Rattle.run_index.proofs.Heap.{keep}
 use Rattle.run_index.proofs.Counts.{insert-count}
 use Rattle.run_index.proofs.Numbers.{remove-count, number-in, starts-number}
@@ -28,7 +28,7 @@ use Rattle.run_index.proofs.Bound.{rep-numbered}
 use Rattle.store.specs.declared.Header.{Header}
 use Rattle.store.specs.Layout.{headerAt, Headed, capacity}
 use Rattle.store.specs.Soundness.{freeCell, Chain, times, Kept}
-use Rattle.store.specs.Free.{SameRest, RoomFor, Becomes, Adds, HasRun, RemovesRun}
+use Rattle.store.specs.Free.{SameRest, RoomFor, Adds, HasRun, RemovesRun}
 use Rattle.store.proofs.Nodes.{chain-kept, node-once, no-zero, few-runs, Laid, laid-kept}
 
 -- canonical runs rise
@@ -169,9 +169,9 @@ remove-laid w w′ w″ a t ns h x eh r fr wr =
     let cap : capacity w″ ≡ capacity w = ap capacityOf long in
     let ro : Room w′ (x .freed) = freed-room w w′ a x t ns r fr in
     let same : (m : ℕ) → 1 ≤ times m ns → cellAt w″ m ≡ cellAt w m =
-        λ m i. wr .there m (apart m i) ∙ fr .made .kept m (omega (arith, node-once w t ns k m)) in
+    λ m i. wr .there m (apart m i) ∙ fr .made .kept m (omega (arith, node-once w t ns k m)) in
     let chain : Chain w″ (h .free) ns =
-        subst (λ (z : Header). Chain w″ (z .free) ns) (sym eh) (chain-kept w w″ long ((headerAt w) .free) ns same (k .chained)) in
+    subst (λ (z : Header). Chain w″ (z .free) ns) (sym eh) (chain-kept w w″ long ((headerAt w) .free) ns same (k .chained)) in
     record {
       sized = omega (arith, k .sized, cap);
       linked = keep wr (omega (arith, remove-count a (x .freed) t some, k .once (x .freed), ap (δ (x .freed)) is, δ-same (x .freed))) (fr .made .at);

@@ -1,6 +1,6 @@
 -- The nodes of a store: each belongs to the tree or to the free chain, once. A tree and a chain whose cells are as they were are as they
 -- were, so a store whose parts lie right is one once its header tells where they start. Assumes nothing.
-use Prim.Native.Nat.{ℕ, suc, _+_, _*_, _/_, _-_, _≤_, _<_, _^_}
+use Prim.Native.Nat.{ℕ, _+_, _*_, _≤_, _<_, _^_}
 use mathlib.Core.Path.{_≡_, refl, sym, ap, _∙_, subst}
 use mathlib.Core.Logic.{_⊎_, inl, inr}
 use mathlib.Core.List.{List, [], _∷_}
@@ -11,7 +11,7 @@ use Rattle.model.specs.Numbers.{size, split, capacityOf, length-capacity}
 use Rattle.model.specs.RunList.{Canon}
 use Rattle.run_index.specs.declared.Node.{Node}
 use Rattle.run_index.specs.Cells.{cellAt, Room}
-use Rattle.run_index.specs.Tree.{Tree, runs, δ, count, Distinct, inorder, Rep, At, Balanced}
+use Rattle.run_index.specs.Tree.{Tree, runs, count, Distinct, inorder, Rep, At, Balanced}
 use Rattle.run_index.proofs.Trees.{δ-same, δ-other}
 use Rattle.run_index.proofs.Heap.{frame}
 use Rattle.run_index.proofs.Bound.{rep-positive, rep-numbered, few-nodes}
@@ -42,14 +42,13 @@ pub chain-kept : (w w′ : List ℕ) → length w′ ≡ length w → (k : ℕ) 
 chain-kept w w′ long k [] same c = c
 chain-kept w w′ long k (n ∷ ns) same c =
     let e : cellAt w′ n ≡ cellAt w n = same n (omega (arith, δ-same n)) in
-    let ro : Room w n = c .2 in
-    (
+    let ro : Room w n = c .2 in (
       c .0,
       c .1,
       omega arith,
       e ∙ c .3 ∙ ap (λ (v : Node). freeCell (v .left)) (sym e),
       subst (λ (v : Node). Chain w′ (v .left) ns) (sym e)
-      (chain-kept w w′ long ((cellAt w n) .left) ns (λ m i. same m (omega arith)) (c .4)),
+          (chain-kept w w′ long ((cellAt w n) .left) ns (λ m i. same m (omega arith)) (c .4)),
     )
 
 -- the length of a store, and how many nodes it may have
@@ -97,27 +96,25 @@ pub record Laid (w : List ℕ) (h : Header) (t : Tree) (ns : List ℕ) : Type 0 
 pub laid-kept : (w w′ : List ℕ) (h : Header) (t : Tree) (ns : List ℕ) → Laid w h t ns → Headed w w′ h → Kept w′ t ns
 laid-kept w w′ h t ns k hd =
     let cap : capacity w′ ≡ capacity w = ap capacityOf (hd .long) in
-    let fresh : (m : ℕ) → 1 ≤ count m t → 1 ≤ m =
-        λ m i. go m i (ℕ-discrete m 0) in
     record {
       sized = omega (arith, k .sized);
       linked = record {
-        rep = frame w w′ 0 (hd .long) t (λ m i. hd .there m (fresh m i)) (k .linked .rep);
+        rep = frame w w′ 0 (hd .long) t (λ m i. hd .there m (tree-some m i (ℕ-discrete m 0))) (k .linked .rep);
         linked = k .linked .linked ∙ sym (ap (λ (x : Header). x .root) (hd .here));
       };
       once = k .once;
       ordered = k .ordered;
       balanced = k .balanced;
       chained = subst (λ (x : Header). Chain w′ (x .free) ns) (sym (hd .here))
-          (chain-kept w w′ (hd .long) (h .free) ns (λ m i. hd .there m (linked-pos m i (ℕ-discrete m 0))) (k .chained));
+          (chain-kept w w′ (hd .long) (h .free) ns (λ m i. hd .there m (chain-some m i (ℕ-discrete m 0))) (k .chained));
       shared = λ m p le. k .shared m p (omega (arith, cap));
       spare = ap (λ (x : Header). x .spare) (hd .here) ∙ k .spare;
     }
   where
-    go : (m : ℕ) → 1 ≤ count m t → Dec (m ≡ 0) → 1 ≤ m
-    go m i (no ne) = omega arith
-    go m i (yes e) = absurd (omega (arith, ap (λ (j : ℕ). count j t) e, rep-positive w 0 t (k .linked .rep)))
+    tree-some : (m : ℕ) → 1 ≤ count m t → Dec (m ≡ 0) → 1 ≤ m
+    tree-some m i (no ne) = omega arith
+    tree-some m i (yes e) = absurd (omega (arith, ap (λ (j : ℕ). count j t) e, rep-positive w 0 t (k .linked .rep)))
 
-    linked-pos : (m : ℕ) → 1 ≤ times m ns → Dec (m ≡ 0) → 1 ≤ m
-    linked-pos m i (no ne) = omega arith
-    linked-pos m i (yes e) = absurd (omega (arith, chain-outside w (h .free) ns (k .chained) m (λ p ro. omega arith)))
+    chain-some : (m : ℕ) → 1 ≤ times m ns → Dec (m ≡ 0) → 1 ≤ m
+    chain-some m i (no ne) = omega arith
+    chain-some m i (yes e) = absurd (omega (arith, chain-outside w (h .free) ns (k .chained) m (λ p ro. omega arith)))

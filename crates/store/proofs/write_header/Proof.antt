@@ -1,22 +1,17 @@
+-- `write_header` meets its contract: cell 0 is written, and no other. Assumes nothing.
 use borrow.Author.Needs.{needs}
 use native.Mathlib.Omega.{arith}
 use mathlib.Core.Path.{_≡_, ap}
 use Rattle.store.specs.Layout.{headerOf}
 use Rattle.store.proofs.write_header.Statement.{statement}
 use Rattle.store.proofs.write_header.Tie as tie
-use Rattle.store.proofs.write_header.Reads as reads
-use Rattle.store.proofs.write_header.Lts as lts
-use Rattle.run_index.proofs.write_node.Reads as write-node-reads
 
--- src/lib.rt:45:5
 write-node-requires : tie.Need-write-node-requires
 write-node-requires c κs = search needs
 
--- src/lib.rt:41:1
 same-length : tie.Need-same-length
 same-length c = search needs
 
--- src/lib.rt:41:1
 returns : tie.Need-returns
 returns c =
     let wr = c .before .before .write-node .ensures in

@@ -1,41 +1,31 @@
+-- `remove_run` meets its contract: the node that held the run is no longer the tree's, so it may be written, as the first of the chain.
+-- The header then tells both. Assumes nothing.
 use borrow.Author.Needs.{needs}
 use native.Mathlib.Omega.{arith}
 use Rattle.store.proofs.Nodes.{header-room}
 use Rattle.store.proofs.Freeing.{remove-owned, freed-room, remove-becomes}
 use Rattle.store.proofs.free.remove_run.Statement.{statement}
 use Rattle.store.proofs.free.remove_run.Tie as tie
-use Rattle.store.proofs.free.remove_run.Reads as reads
-use Rattle.store.proofs.free.remove_run.Lts as lts
-use Rattle.run_index.proofs.remove.Reads as remove-reads
-use Rattle.run_index.proofs.write_node.Reads as write-node-reads
-use Rattle.store.proofs.read_header.Reads as read-header-reads
-use Rattle.store.proofs.write_header.Reads as write-header-reads
 
--- src/free.rt:77:9
 read-header-requires : tie.Need-read-header-requires
 read-header-requires c κs = header-room _ _ _ (c .before .before .pre .2 .kept)
 
--- src/free.rt:78:9
 remove-requires : tie.Need-remove-requires
 remove-requires c κs = (_, remove-owned _ _ _ _ (c .before .read-header .ensures) (c .before .before .before .before .pre .2 .kept))
 
--- src/free.rt:79:5
 write-node-requires : tie.Need-write-node-requires
 write-node-requires c κs =
     let fr = c .before .before .before .remove .ensures _ (remove-owned _ _ _ _ (c .before .before .before .before .before .read-header .ensures) (c .before .before .before .before .before .before .before .before .pre .2 .kept)) in
     freed-room _ _ _ _ _ _ (c .before .before .before .before .before .before .before .before .pre .2) fr
 
--- src/free.rt:93:5
 write-header-requires : tie.Need-write-header-requires
 write-header-requires c κs =
     let fr = c .before .before .before .before .before .before .before .remove .ensures _ (remove-owned _ _ _ _ (c .before .before .before .before .before .before .before .before .before .read-header .ensures) (c .before .before .before .before .before .before .before .before .before .before .before .before .pre .2 .kept)) in
     omega (arith, header-room _ _ _ (c .before .before .before .before .before .before .before .before .before .before .before .before .pre .2 .kept), fr .made .long, c .before .before .before .write-node .ensures .long)
 
--- src/free.rt:73:1
 same-length : tie.Need-same-length
 same-length c = search needs
 
--- src/free.rt:73:1
 returns : tie.Need-returns
 returns c = remove-becomes _ _ _ _ _ _ _ (c .before .before .before .before .before .before .before .before .before .before .before .before .read-header .ensures) (c .before .before .before .before .before .before .before .before .before .before .remove .ensures) (c .before .before .before .before .before .before .write-node .ensures) (c .before .before .write-header .ensures)
 
