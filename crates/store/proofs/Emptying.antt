@@ -43,9 +43,9 @@ after-one n (suc k) m lt le = go (ℕ-discrete m (suc n)) (after-one (suc n) k m
     go (yes e) ih = omega (arith, ap (λ (j : ℕ). δ j (suc n)) e, δ-same (suc n), after-none (suc n) k m (omega arith))
     go (no ne) ih = omega (arith, δ-other m (suc n) ne, ih (omega arith) (omega arith))
 
--- a number among them is greater than n
-pub after-greater : (n k m : ℕ) → 1 ≤ times m (after n k) → m ≡ n → ⊥
-after-greater n k m i e = omega (arith, after-none n k m (omega arith))
+-- n itself is none of them
+pub after-apart : (n k m : ℕ) → 1 ≤ times m (after n k) → m ≡ n → ⊥
+after-apart n k m i e = omega (arith, after-none n k m (omega arith))
 
 -- the words w, made from w₀: the nodes after the first `left` ones are the free chain from `next`
 pub record FreeAfter (w₀ w : List ℕ) (left next : ℕ) : Type 0 where
@@ -69,7 +69,7 @@ free-after-step : (w₀ w w′ : List ℕ) (l next : ℕ) → FreeAfter w₀ w (
 unfolding after
 free-after-step w₀ w w′ l next f wr =
     let rest : Chain w′ next (after (suc l) (f .done)) =
-    chain-kept w w′ (wr .long) next (after (suc l) (f .done)) (λ m i. wr .there m (after-greater (suc l) (f .done) m i)) (f .chain) in
+    chain-kept w w′ (wr .long) next (after (suc l) (f .done)) (λ m i. wr .there m (after-apart (suc l) (f .done) m i)) (f .chain) in
     record {
       sized = f .sized;
       long = wr .long ∙ f .long;
