@@ -1,0 +1,4 @@
+-- What the proofs of several functions use.
+pub mod Nodes
+pub mod Freeing
+pub mod Emptying
