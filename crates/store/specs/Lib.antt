@@ -1,2 +1,4 @@
 pub mod Layout
 pub mod Soundness
+pub mod Bounds
+pub mod Moved
