@@ -108,7 +108,7 @@ moved-select b a total j (r ∷ rs) k h c =
         ∙ sym (ap (Option·map (move b a)) (selectRuns-past r rs k l))
 
 -- ---- the reports of a moved range
-module _ (P Q : Positions) (v : Bool) (a b n : ℕ) (alike : (i : ℕ) → i < n → P (a + i) ≡ Q (b + i)) where
+module _ (P Q : Positions) (v : Bool) (a b n : ℕ) (alike : Alike P Q a b n) where
   canonical : Canon (b + n) b (runsIn Q v b n)
   canonical = runsIn-canon Q v (b + n) b n (omega arith)
 
