@@ -3,3 +3,5 @@ pub mod Soundness
 pub mod Bounds
 pub mod Moved
 pub mod Turn
+pub mod Ends
+pub mod Nearby
