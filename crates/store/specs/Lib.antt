@@ -5,3 +5,4 @@ pub mod Moved
 pub mod Turn
 pub mod Ends
 pub mod Nearby
+pub mod Counting
