@@ -6,11 +6,9 @@ use mathlib.Core.Bool.{Bool, true, false, _&&_}
 use mathlib.Core.List.{List, [], _∷_, _++_}
 use native.Mathlib.Omega.{arith}
 use lib.ListN.{length, length-append}
-use Rattle.model.specs.declared.Run.{Run}
 use Rattle.model.specs.Numbers.{size, physicalOf}
-use Rattle.model.specs.Positions.{run, oneIf, stretches, mem}
+use Rattle.model.specs.Positions.{Positions, run, oneIf, stretches, mem}
 use Rattle.model.specs.Positions.Runs.{stretches-is}
-use Rattle.model.specs.RunList.{Canon}
 use Rattle.run_index.specs.Cells.{cellAt}
 use Rattle.run_index.specs.Tree.{Tree, leaf, node, runs, inorder, Rep, rep-node, At}
 use Rattle.run_index.specs.Search.{Index}
@@ -44,22 +42,25 @@ pub counted-length : {w : List ℕ} {p n g : ℕ} {t : Tree} → Counted w p n �
 counted-length {t = t} c i = c .3 ∙ runs-same (c .1) t (c .2 .at) (i .at) ∙ runs-length t
 
 -- with offset 0 each run is a logical one
-pub logical-zero : (rs : List Run) (n o : ℕ) → Canon size 0 rs → n ≡ length rs → o ≡ 0 → n ≡ stretches (turned o (mem rs))
-logical-zero rs n o c e q = e ∙ sym (ap (λ k. stretches (turned k (mem rs))) q ∙ stretches-zero (mem rs) ∙ stretches-is (mem rs) rs c (λ x h. refl))
+pub logical-zero : {w : List ℕ} {p g n o : ℕ} {t : Tree} → Index w p g t → Counted w p n → o ≡ 0 → n ≡ stretches (turned o (mem (inorder t)))
+logical-zero {t = t} i e q =
+    let Q : Positions = mem (inorder t) in
+    counted-length e i ∙ sym (ap (λ k. stretches (turned k Q)) q ∙ stretches-zero Q ∙ stretches-is Q (inorder t) (i .canonical) (λ x h. refl))
+
+and-swap : (a b : Bool) → (a && b) ≡ (b && a)
+and-swap true true = refl
+and-swap true false = refl
+and-swap false true = refl
+and-swap false false = refl
 
 -- with another, `joined` two of them are one, and `cut` one is two
-pub logical-runs : (rs : List Run) (n o z m : ℕ) (cut joined : Bool) → Canon size 0 rs → n ≡ length rs → o < size → (o ≡ 0 → ⊥)
-    → z ≡ physicalOf 0 o → m ≡ physicalOf (size - 1) o → cut ≡ (mem rs z && mem rs m) → joined ≡ (mem rs 0 && mem rs (size - 1))
-    → stretches (turned o (mem rs)) + oneIf joined ≡ n + oneIf cut
-logical-runs rs n o z m cut joined c e h k y u p q =
+pub logical-runs : {w : List ℕ} {p g n o z m : ℕ} {t : Tree} {cut joined : Bool} → Index w p g t → Counted w p n → o < size → (o ≡ 0 → ⊥)
+    → z ≡ physicalOf 0 o → m ≡ physicalOf (size - 1) o → cut ≡ (mem (inorder t) z && mem (inorder t) m)
+    → joined ≡ (mem (inorder t) 0 && mem (inorder t) (size - 1)) → stretches (turned o (mem (inorder t))) + oneIf joined ≡ n + oneIf cut
+logical-runs {o = o} {z = z} {m = m} {t = t} i e h k y u p q =
     let x : m ≡ z - 1 = omega arith in
-    ap (λ b. stretches (turned o (mem rs)) + oneIf b) (q ∙ and-swap (mem rs 0) (mem rs (size - 1)))
-    ∙ stretches-turned o z (mem rs) h (omega arith) y
-    ∙ ap₂ (λ i b. i + oneIf b) (stretches-is (mem rs) rs c (λ x h. refl) ∙ sym e)
-    (sym (p ∙ and-swap (mem rs z) (mem rs m) ∙ ap (λ i. mem rs i && mem rs z) x))
-  where
-    and-swap : (a b : Bool) → (a && b) ≡ (b && a)
-    and-swap true true = refl
-    and-swap true false = refl
-    and-swap false true = refl
-    and-swap false false = refl
+    let Q : Positions = mem (inorder t) in
+    ap (λ b. stretches (turned o Q) + oneIf b) (q ∙ and-swap (Q 0) (Q (size - 1)))
+    ∙ stretches-turned o z Q h (omega arith) y
+    ∙ ap₂ (λ j b. j + oneIf b) (stretches-is Q (inorder t) (i .canonical) (λ x h. refl) ∙ sym (counted-length e i))
+    (sym (p ∙ and-swap (Q z) (Q m) ∙ ap (λ j. Q j && Q z) x))

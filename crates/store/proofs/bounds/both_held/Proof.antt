@@ -7,9 +7,6 @@ use Rattle.model.specs.Positions.{mem}
 use borrow.Author.Needs.{needs}
 use Rattle.store.proofs.bounds.both_held.Statement.{statement}
 use Rattle.store.proofs.bounds.both_held.Tie as tie
-use Rattle.store.proofs.bounds.both_held.Reads as reads
-use Rattle.store.proofs.bounds.both_held.Lts as lts
-use Rattle.store.proofs.bounds.get_physical.Reads as get-physical-reads
 
 get-physical-requires : tie.Need-get-physical-requires
 get-physical-requires c κs = search needs

@@ -8,12 +8,6 @@ use Rattle.store.specs.Nearby.{first-zero, first-after, first-wrapped, f
 use borrow.Author.Needs.{needs}
 use Rattle.store.proofs.bounds.first_held.Statement.{statement}
 use Rattle.store.proofs.bounds.first_held.Tie as tie
-use Rattle.store.proofs.bounds.first_held.Reads as reads
-use Rattle.store.proofs.bounds.first_held.Lts as lts
-use Rattle.model.proofs.to_logical.Reads as to-logical-reads
-use Rattle.model.proofs.to_physical.Reads as to-physical-reads
-use Rattle.run_index.proofs.search.at_or_after.Reads as at-or-after-reads
-use Rattle.store.proofs.bounds.get_physical.Reads as get-physical-reads
 
 to-physical-requires : tie.Need-to-physical-requires
 to-physical-requires c κs = search needs

@@ -7,9 +7,6 @@ use Rattle.store.specs.Nearby.{reached, unreached}
 use borrow.Author.Needs.{needs}
 use Rattle.store.proofs.bounds.get_physical.Statement.{statement}
 use Rattle.store.proofs.bounds.get_physical.Tie as tie
-use Rattle.store.proofs.bounds.get_physical.Reads as reads
-use Rattle.store.proofs.bounds.get_physical.Lts as lts
-use Rattle.run_index.proofs.search.at_or_before.Reads as at-or-before-reads
 
 at-or-before-requires : tie.Need-at-or-before-requires
 at-or-before-requires c κs = search needs

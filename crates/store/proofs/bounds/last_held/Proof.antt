@@ -8,12 +8,6 @@ use Rattle.store.specs.Nearby.{last-top, last-before, last-wrapped, last
 use borrow.Author.Needs.{needs}
 use Rattle.store.proofs.bounds.last_held.Statement.{statement}
 use Rattle.store.proofs.bounds.last_held.Tie as tie
-use Rattle.store.proofs.bounds.last_held.Reads as reads
-use Rattle.store.proofs.bounds.last_held.Lts as lts
-use Rattle.model.proofs.to_logical.Reads as to-logical-reads
-use Rattle.model.proofs.to_physical.Reads as to-physical-reads
-use Rattle.run_index.proofs.search.at_or_before.Reads as at-or-before-reads
-use Rattle.store.proofs.bounds.get_physical.Reads as get-physical-reads
 
 to-physical-requires : tie.Need-to-physical-requires
 to-physical-requires c κs = search needs

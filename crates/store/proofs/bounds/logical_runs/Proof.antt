@@ -1,20 +1,14 @@
 -- `logical_runs` meets its contract: the physical runs, one more where logical 0 cuts one, one less where physical M and 0 join two.
 -- Assumes nothing.
 use mathlib.Core.Path.{sym, _∙_}
-use mathlib.Core.Bool.{true, false}
 use native.Mathlib.Omega.{arith}
-use Rattle.run_index.specs.Tree.{inorder}
-use Rattle.store.specs.Counting.{counted-length, logical-zero, logical-runs}
+use Rattle.store.specs.Counting.{logical-zero, logical-runs}
 use borrow.Author.Needs.{needs}
 use Rattle.store.proofs.bounds.logical_runs.Statement.{statement}
 use Rattle.store.proofs.bounds.logical_runs.Tie as tie
-use Rattle.store.proofs.bounds.logical_runs.Reads as reads
-use Rattle.store.proofs.bounds.logical_runs.Lts as lts
-use Rattle.model.proofs.to_physical.Reads as to-physical-reads
-use Rattle.store.proofs.bounds.both_held.Reads as both-held-reads
 
 returns : tie.Need-returns
-returns c = λ g t i. logical-zero (inorder t) (c .before .before .args .runs) (c .before .before .args .offset) (i .canonical) (counted-length (c .before .before .pre) i) (c .if1 .taken)
+returns c = λ g t i. logical-zero i (c .before .before .pre) (c .if1 .taken)
 
 to-physical-requires : tie.Need-to-physical-requires
 to-physical-requires c κs = search needs
@@ -32,19 +26,19 @@ add-result : tie.Need-add-result
 add-result c = search needs
 
 sub-result : tie.Need-sub-result
-sub-result c = let g = c .before .before .before .before .before .before .before .before .pre .0 in let t = c .before .before .before .before .before .before .before .before .pre .1 in let i = c .before .before .before .before .before .before .before .before .pre .2 in omega (arith, logical-runs (inorder t) (c .before .before .before .before .before .before .before .before .args .runs) (c .before .before .before .before .before .before .before .before .args .offset) (c .before .before .before .before .before .to-physical .result .0) (c .before .before .before .before .to-physical2 .result .0) false true (i .canonical) (counted-length (c .before .before .before .before .before .before .before .before .pre) i) (omega arith) (c .before .before .before .before .before .before .if1 .left) (c .before .before .before .before .before .to-physical .ensures) (c .before .before .before .before .to-physical2 .ensures) (sym (c .before .if2 .left) ∙ c .before .before .before .both-held .ensures g t i) (sym (c .if4 .taken) ∙ c .before .before .both-held2 .ensures g t i))
+sub-result c = let g = c .before .before .before .before .before .before .before .before .pre .0 in let t = c .before .before .before .before .before .before .before .before .pre .1 in let i = c .before .before .before .before .before .before .before .before .pre .2 in omega (arith, logical-runs i (c .before .before .before .before .before .before .before .before .pre) (omega arith) (c .before .before .before .before .before .before .if1 .left) (c .before .before .before .before .before .to-physical .ensures) (c .before .before .before .before .to-physical2 .ensures) (sym (c .before .if2 .left) ∙ c .before .before .before .both-held .ensures g t i) (sym (c .if4 .taken) ∙ c .before .before .both-held2 .ensures g t i))
 
 returns-2 : tie.Need-returns-2
-returns-2 c = λ g t i. omega (arith, logical-runs (inorder t) (c .before .before .before .before .before .before .before .before .args .runs) (c .before .before .before .before .before .before .before .before .args .offset) (c .before .before .before .before .before .to-physical .result .0) (c .before .before .before .before .to-physical2 .result .0) true true (i .canonical) (counted-length (c .before .before .before .before .before .before .before .before .pre) i) (omega arith) (c .before .before .before .before .before .before .if1 .left) (c .before .before .before .before .before .to-physical .ensures) (c .before .before .before .before .to-physical2 .ensures) (sym (c .before .if2 .taken) ∙ c .before .before .before .both-held .ensures g t i) (sym (c .if3 .taken) ∙ c .before .before .both-held2 .ensures g t i))
+returns-2 c = λ g t i. omega (arith, logical-runs i (c .before .before .before .before .before .before .before .before .pre) (omega arith) (c .before .before .before .before .before .before .if1 .left) (c .before .before .before .before .before .to-physical .ensures) (c .before .before .before .before .to-physical2 .ensures) (sym (c .before .if2 .taken) ∙ c .before .before .before .both-held .ensures g t i) (sym (c .if3 .taken) ∙ c .before .before .both-held2 .ensures g t i))
 
 returns-3 : tie.Need-returns-3
-returns-3 c = λ g t i. omega (arith, logical-runs (inorder t) (c .before .before .before .before .before .before .before .before .args .runs) (c .before .before .before .before .before .before .before .before .args .offset) (c .before .before .before .before .before .to-physical .result .0) (c .before .before .before .before .to-physical2 .result .0) true false (i .canonical) (counted-length (c .before .before .before .before .before .before .before .before .pre) i) (omega arith) (c .before .before .before .before .before .before .if1 .left) (c .before .before .before .before .before .to-physical .ensures) (c .before .before .before .before .to-physical2 .ensures) (sym (c .before .if2 .taken) ∙ c .before .before .before .both-held .ensures g t i) (sym (c .if3 .left) ∙ c .before .before .both-held2 .ensures g t i))
+returns-3 c = λ g t i. omega (arith, logical-runs i (c .before .before .before .before .before .before .before .before .pre) (omega arith) (c .before .before .before .before .before .before .if1 .left) (c .before .before .before .before .before .to-physical .ensures) (c .before .before .before .before .to-physical2 .ensures) (sym (c .before .if2 .taken) ∙ c .before .before .before .both-held .ensures g t i) (sym (c .if3 .left) ∙ c .before .before .both-held2 .ensures g t i))
 
 returns-4 : tie.Need-returns-4
-returns-4 c = λ g t i. omega (arith, logical-runs (inorder t) (c .before .before .before .before .before .before .before .before .args .runs) (c .before .before .before .before .before .before .before .before .args .offset) (c .before .before .before .before .before .to-physical .result .0) (c .before .before .before .before .to-physical2 .result .0) false true (i .canonical) (counted-length (c .before .before .before .before .before .before .before .before .pre) i) (omega arith) (c .before .before .before .before .before .before .if1 .left) (c .before .before .before .before .before .to-physical .ensures) (c .before .before .before .before .to-physical2 .ensures) (sym (c .before .if2 .left) ∙ c .before .before .before .both-held .ensures g t i) (sym (c .if4 .taken) ∙ c .before .before .both-held2 .ensures g t i))
+returns-4 c = λ g t i. omega (arith, logical-runs i (c .before .before .before .before .before .before .before .before .pre) (omega arith) (c .before .before .before .before .before .before .if1 .left) (c .before .before .before .before .before .to-physical .ensures) (c .before .before .before .before .to-physical2 .ensures) (sym (c .before .if2 .left) ∙ c .before .before .before .both-held .ensures g t i) (sym (c .if4 .taken) ∙ c .before .before .both-held2 .ensures g t i))
 
 returns-5 : tie.Need-returns-5
-returns-5 c = λ g t i. omega (arith, logical-runs (inorder t) (c .before .before .before .before .before .before .before .before .args .runs) (c .before .before .before .before .before .before .before .before .args .offset) (c .before .before .before .before .before .to-physical .result .0) (c .before .before .before .before .to-physical2 .result .0) false false (i .canonical) (counted-length (c .before .before .before .before .before .before .before .before .pre) i) (omega arith) (c .before .before .before .before .before .before .if1 .left) (c .before .before .before .before .before .to-physical .ensures) (c .before .before .before .before .to-physical2 .ensures) (sym (c .before .if2 .left) ∙ c .before .before .before .both-held .ensures g t i) (sym (c .if4 .left) ∙ c .before .before .both-held2 .ensures g t i))
+returns-5 c = λ g t i. omega (arith, logical-runs i (c .before .before .before .before .before .before .before .before .pre) (omega arith) (c .before .before .before .before .before .before .if1 .left) (c .before .before .before .before .before .to-physical .ensures) (c .before .before .before .before .to-physical2 .ensures) (sym (c .before .if2 .left) ∙ c .before .before .before .both-held .ensures g t i) (sym (c .if4 .left) ∙ c .before .before .both-held2 .ensures g t i))
 
 pub logical-runs-spec : {M : Type 1} → statement M
 logical-runs-spec =
