@@ -6,3 +6,4 @@ pub mod Turn
 pub mod Ends
 pub mod Nearby
 pub mod Counting
+pub mod Joins
