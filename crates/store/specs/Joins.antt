@@ -1,21 +1,21 @@
 -- A range joined of two: its first and last run, what is found and selected in it, from those of the two parts, for any set.
 -- A first or last run is taken apart into what is held and what is not, which holds of the joined range too. Assumes nothing.
-use Prim.Native.Nat.{ℕ, zero, suc, _+_, _-_, _≤_, _<_}
+use Prim.Native.Nat.{ℕ, suc, _+_, _-_, _≤_, _<_}
 use mathlib.Core.Path.{_≡_, refl, sym, ap, ap₂, _∙_, subst}
 use mathlib.Core.Logic.{_⊎_, inl, inr}
-use mathlib.Core.Bool.{Bool, true, false, not, _&&_, _||_, Bool·beq, or-false}
+use mathlib.Core.Bool.{Bool, true, false, not, _&&_, _||_, Bool·beq}
 use mathlib.Core.List.{List, [], _∷_, _++_, append-nil}
 use mathlib.Core.Option.{Option, none, some, Option·none-ne-some, Option·some-ne-none, Option·some-injective}
 use native.Mathlib.Omega.{arith}
 use Rattle.model.specs.declared.Run.{Run}
 use Rattle.model.specs.Numbers.{split}
 use Rattle.model.specs.Positions.{Positions, run, inside, count, find, select, runsIn, firstRun, lastAfter, lastRun, mem}
-use Rattle.model.specs.Positions.Laws.{inside-yes, inside-below, inside-above, among-yes, count-cut, beq-self}
-use Rattle.model.specs.Positions.Runs.{runsIn-canon, runsIn-mem, runsIn-join, runsIn-none, mem-append, firstRun-is, lastRun-is}
+use Rattle.model.specs.Positions.Laws.{inside-yes, inside-below, inside-above, among-yes, count-cut}
+use Rattle.model.specs.Positions.Runs.{runsIn-canon, runsIn-mem, runsIn-join, mem-append, firstRun-is, lastRun-is}
 use Rattle.model.specs.Positions.Finds.{find-runs, find-is, count-runs, select-runs, select-is, select-none, select-only, Selected, selectRuns, selectRuns-in, selectRuns-past, startOf}
 use Rattle.model.specs.RunList.{Canon, mem-below, mem-past, widths}
 use Rattle.model.specs.Search.{canon-split}
-use Rattle.store.specs.Ends.{clash, empty-mem}
+use Rattle.store.specs.Ends.{empty-mem}
 
 beq-yes : (b v : Bool) → Bool·beq b v ≡ true → b ≡ v
 beq-yes true true e = refl

@@ -7,3 +7,4 @@ pub mod Ends
 pub mod Nearby
 pub mod Counting
 pub mod Joins
+pub mod Parted

@@ -1,7 +1,7 @@
 -- What the run before a position and the run after it tell: which positions from here to there are held. And so which position of a
 -- turned set is held first and last, by the searches that start at the place of logical 0, and of logical M. Assumes nothing.
-use Prim.Native.Nat.{ℕ, zero, suc, _+_, _-_, _%_, _^_, _≤_, _<_}
-use mathlib.Core.Path.{_≡_, refl, sym, ap, ap₂, _∙_, subst}
+use Prim.Native.Nat.{ℕ, _+_, _-_, _≤_, _<_}
+use mathlib.Core.Path.{_≡_, refl, sym, ap, _∙_, subst}
 use mathlib.Core.Logic.{_⊎_, inl, inr}
 use mathlib.Core.Bool.{Bool, true, false, cond}
 use mathlib.Core.List.{List, [], _∷_}
@@ -11,7 +11,7 @@ use lib.Dec.{leb}
 use borrow.Author.Tests.{le-leb, lt-leb, leb-true, leb-false}
 use Rattle.model.specs.declared.Run.{Run}
 use Rattle.model.specs.Numbers.{size, split, physicalOf, logicalOf}
-use Rattle.model.specs.Positions.{Positions, heldRuns, mem}
+use Rattle.model.specs.Positions.{heldRuns, mem}
 use Rattle.model.specs.RunList.{Canon, mem-in, mem-above, mem-under, mem-below, mem-before}
 use Rattle.model.specs.Search.{orElse, lastUpTo, firstFrom}
 use Rattle.store.specs.Layout.{turned}

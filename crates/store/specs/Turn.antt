@@ -1,17 +1,14 @@
 -- Logical positions are physical ones turned by an offset: a logical range is one physical range, or, where it passes physical M,
 -- two, the second of them from 0 on. Each is read where it lies (module Moved), and what is reported of the logical range is put
 -- together of their reports. Assumes nothing.
-use Prim.Native.Nat.{ℕ, zero, suc, _+_, _-_, _%_, _^_, _≤_, _<_}
-use mathlib.Core.Path.{_≡_, refl, sym, ap, ap₂, _∙_, subst}
+use Prim.Native.Nat.{ℕ, suc, _+_, _-_, _≤_, _<_}
+use mathlib.Core.Path.{_≡_, refl, sym, ap, ap₂, _∙_}
 use mathlib.Core.Bool.{Bool, true, false, _&&_, Bool·beq}
-use mathlib.Core.List.{List, [], _∷_}
-use mathlib.Core.Option.{Option, Option·map}
+use mathlib.Core.Option.{Option·map}
 use native.Mathlib.Nat.{add-comm}
 use native.Mathlib.Omega.{arith}
-use lib.Dec.{ltb}
 use lib.ListN.{length}
 use borrow.Author.Tests.{lt-ltb}
-use Rattle.model.specs.declared.Run.{Run}
 use Rattle.model.specs.Numbers.{size, physicalOf, logicalOf, physical-logical}
 use Rattle.model.specs.Positions.{Positions, oneIf, count, find, select, runsIn, countRanges, heldRuns, stretches, firstRun, lastRun}
 use Rattle.model.specs.Positions.Laws.{count-cut}
@@ -46,6 +43,10 @@ pub record Lies (o a n s e : ℕ) : Type 0 where
 physical-past : (o i : ℕ) → o + i < size → physicalOf (o + i) o ≡ 0 + i
 physical-past o i h = omega arith
 
+-- physical x is logical x + o where that is a position
+logical-sum : (o x : ℕ) → o + x < size → x - 0 + o ≡ logicalOf x o
+logical-sum o x h = omega arith
+
 module _ {o a n s e : ℕ} (lies : Lies o a n s e) where
   -- the range is whole, that is, it does not pass physical M, exactly if s ≤ e
   pub whole-fits : s ≤ e → s + n ≤ size
@@ -79,6 +80,16 @@ module _ {o a n s e : ℕ} (lies : Lies o a n s e) where
   -- physical positions are below 2^64
   pub first-below : s < size
   first-below = omega arith
+
+  -- a physical position moved to the logical range is the logical position that the code computes
+  pub whole-move : s ≤ e → (x : ℕ) → s ≤ x → x ≤ e → move s a x ≡ logicalOf x o
+  whole-move h x l u = omega arith
+
+  pub parted-move-first : e < s → (x : ℕ) → s ≤ x → x < size → move s a x ≡ logicalOf x o
+  parted-move-first h x l u = omega arith
+
+  pub parted-move-second : e < s → (x : ℕ) → x ≤ e → move 0 (a + (size - s)) x ≡ logicalOf x o
+  parted-move-second h x u = ap (λ k. move 0 k x) (parted-middle h) ∙ logical-sum o x (omega (arith, parted-middle h, parted-length h))
 
   module _ (Q : Positions) where
     -- the one physical range
