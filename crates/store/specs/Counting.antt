@@ -47,6 +47,7 @@ logical-zero {t = t} i e q =
     let Q : Positions = mem (inorder t) in
     counted-length e i ∙ sym (ap (λ k. stretches (turned k Q)) q ∙ stretches-zero Q ∙ stretches-is Q (inorder t) (i .canonical) (λ x h. refl))
 
+-- either order
 and-swap : (a b : Bool) → (a && b) ≡ (b && a)
 and-swap true true = refl
 and-swap true false = refl

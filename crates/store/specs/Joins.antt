@@ -17,12 +17,14 @@ use Rattle.model.specs.RunList.{Canon, mem-below, mem-past, widths}
 use Rattle.model.specs.Search.{canon-split}
 use Rattle.store.specs.Ends.{empty-mem}
 
+-- the value that was asked for
 beq-yes : (b v : Bool) → Bool·beq b v ≡ true → b ≡ v
 beq-yes true true e = refl
 beq-yes true false e = sym e
 beq-yes false true e = e
 beq-yes false false e = refl
 
+-- the other value
 beq-no : (b v : Bool) → Bool·beq b v ≡ false → b ≡ not v
 beq-no true true e = e
 beq-no true false e = refl
@@ -38,44 +40,52 @@ pub record IsRun (P : Positions) (v : Bool) (a n : ℕ) (r : Run) : Type 0 where
   pub before : (y : ℕ) → a ≤ y → suc y ≡ r .start → P y ≡ not v
   pub after : suc (r .«end») < a + n → P (suc (r .«end»)) ≡ not v
 
--- the first of them, and the last
+-- the first of them
 pub record IsFirst (P : Positions) (v : Bool) (a n : ℕ) (r : Run) : Type 0 where
   pub is : IsRun P v a n r
   pub under : (y : ℕ) → a ≤ y → y < r .start → P y ≡ not v
 
+-- the last of them
 pub record IsLast (P : Positions) (v : Bool) (a n : ℕ) (r : Run) : Type 0 where
   pub is : IsRun P v a n r
   pub over : (y : ℕ) → r .«end» < y → y < a + n → P y ≡ not v
 
 -- a run of the list, with what precedes it and what follows it
 module _ (P : Positions) (v : Bool) (a n : ℕ) (xs : List Run) (r : Run) (ys : List Run) (e : runsIn P v a n ≡ xs ++ (r ∷ ys)) where
+  -- the list is canonical
   parts : (Canon (r .start - 1) a xs) × (a ≤ r .start) × (r .start ≤ r .«end») × (r .«end» < a + n) × Canon (a + n) (r .«end» + 2) ys
   parts = canon-split (a + n) a xs r ys (subst (Canon (a + n) a) e (runsIn-canon P v (a + n) a n (omega arith)))
 
+  -- which positions of the range have the value
   hits : (y : ℕ) → a ≤ y → y < a + n → (mem xs y || (inside (r .start) (r .«end») y || mem ys y)) ≡ Bool·beq (P y) v
   unfolding mem
   hits y h l =
       sym (ap (λ rs. mem rs y) e ∙ mem-append xs (r ∷ ys) y) ∙ runsIn-mem P v a n y ∙ ap (λ t. t && Bool·beq (P y) v) (among-yes a n y h l)
 
+  -- or with true
   or-true : (b : Bool) → (b || true) ≡ true
   or-true true = refl
   or-true false = refl
 
+  -- below the run, where no run precedes it
   under-run : (y : ℕ) → a ≤ y → y < r .start → mem xs y ≡ false → P y ≡ not v
   under-run y h l f =
       beq-no (P y) v (sym (hits y h (omega (arith, parts .2, parts .3)))
       ∙ ap₂ _||_ f (ap₂ _||_ (inside-below (r .start) (r .«end») y l) (mem-below (a + n) (r .«end» + 2) ys y (parts .4) (omega (arith, parts .2)))))
 
+  -- above the run, where no run follows it
   over-run : (y : ℕ) → r .«end» < y → y < a + n → mem ys y ≡ false → P y ≡ not v
   over-run y h l f =
       beq-no (P y) v (sym (hits y (omega (arith, parts .1, parts .2)) l)
       ∙ ap₂ _||_ (mem-past (r .start - 1) a xs y (parts .0) (omega (arith, parts .2))) (ap₂ _||_ (inside-above (r .start) (r .«end») y h) f))
 
+  -- in the run
   in-run : (y : ℕ) → r .start ≤ y → y ≤ r .«end» → P y ≡ v
   in-run y h l =
       beq-yes (P y) v (sym (hits y (omega (arith, parts .1)) (omega (arith, parts .3)))
       ∙ ap (λ t. mem xs y || (t || mem ys y)) (inside-yes (r .start) (r .«end») y h l) ∙ or-true (mem xs y))
 
+  -- it is a run
   a-run : IsRun P v a n r
   a-run = record {
     from = parts .1;
@@ -86,21 +96,24 @@ module _ (P : Positions) (v : Bool) (a n : ℕ) (xs : List Run) (r : Run) (ys : 
     after = λ h. over-run (suc (r .«end»)) (omega arith) h (mem-below (a + n) (r .«end» + 2) ys (suc (r .«end»)) (parts .4) (omega arith));
   }
 
+-- a list by its first run
 first-parts : (rs : List Run) (r : Run) → firstRun rs ≡ some r → (ys : List Run) × (rs ≡ r ∷ ys)
 first-parts [] r e = absurd (Option·none-ne-some r e)
 first-parts (q ∷ rs) r e = (rs, ap (λ t. t ∷ rs) (Option·some-injective q r e))
 
+-- a list by its last run
 last-parts : (rs : List Run) (r : Run) → lastRun rs ≡ some r → (xs : List Run) × (rs ≡ xs ++ (r ∷ []))
 last-parts [] r e = absurd (Option·none-ne-some r e)
 last-parts (q ∷ []) r e = ([], ap (λ t. t ∷ []) (Option·some-injective q r e))
 last-parts (q ∷ (p ∷ rs)) r e = let d = last-parts (p ∷ rs) r e in (q ∷ d .0, ap (λ t. q ∷ t) (d .1))
 
--- what a first run is, and a last run
+-- what a first run is
 pub firstRun-only : (P : Positions) (v : Bool) (a n : ℕ) (r : Run) → firstRun (runsIn P v a n) ≡ some r → IsFirst P v a n r
 firstRun-only P v a n r e =
     let d = first-parts (runsIn P v a n) r e in
     record { is = a-run P v a n [] r (d .0) (d .1); under = λ y h l. under-run P v a n [] r (d .0) (d .1) y h l (empty-mem y) }
 
+-- what a last run is
 pub lastRun-only : (P : Positions) (v : Bool) (a n : ℕ) (r : Run) → lastRun (runsIn P v a n) ≡ some r → IsLast P v a n r
 lastRun-only P v a n r e =
     let d = last-parts (runsIn P v a n) r e in
@@ -111,20 +124,23 @@ pub runsIn-empty : (P : Positions) (v : Bool) (a n : ℕ) → runsIn P v a n ≡
 runsIn-empty P v a n e y h l =
     beq-no (P y) v (sym (sym (ap (λ rs. mem rs y) e) ∙ runsIn-mem P v a n y ∙ ap (λ t. t && Bool·beq (P y) v) (among-yes a n y h l)) ∙ empty-mem y)
 
+-- no first run, no run
 pub no-first : (rs : List Run) → firstRun rs ≡ none → rs ≡ []
 no-first [] e = refl
 no-first (r ∷ rs) e = absurd (Option·some-ne-none r e)
 
+-- no last run, no run
 pub no-last : (rs : List Run) → lastRun rs ≡ none → rs ≡ []
 no-last [] e = refl
 no-last (r ∷ rs) e = absurd (Option·some-ne-none (lastAfter r rs) e)
 
 -- ---- the m positions from a and the k that follow
 module _ (P : Positions) (v : Bool) (a m k : ℕ) where
-  -- nothing in one part: the runs of the other
+  -- nothing in the first part: the runs of the second
   pub runs-second : runsIn P v a m ≡ [] → runsIn P v a (m + k) ≡ runsIn P v (a + m) k
   runs-second e = runsIn-join P v a m k (inr (λ y q h. runsIn-empty P v a m e y h (omega arith))) ∙ ap (λ rs. rs ++ runsIn P v (a + m) k) e
 
+  -- nothing in the second part: the runs of the first
   pub runs-first : runsIn P v (a + m) k ≡ [] → 0 < k → runsIn P v a (m + k) ≡ runsIn P v a m
   runs-first e h =
       runsIn-join P v a m k (inl (runsIn-empty P v (a + m) k e (a + m) (omega arith) (omega arith))) ∙ ap (λ rs. runsIn P v a m ++ rs) e
@@ -182,6 +198,7 @@ start-parts : (o : Option Run) (x : ℕ) → startOf o ≡ some x → (r : Run) 
 start-parts none x e = absurd (Option·none-ne-some x e)
 start-parts (some r) x e = (r, refl, Option·some-injective (r .start) x e)
 
+-- no start, no run
 start-none : (o : Option Run) → startOf o ≡ none → o ≡ none
 start-none none e = refl
 start-none (some r) e = absurd (Option·some-ne-none (r .start) e)
@@ -193,6 +210,7 @@ pub record Found (P : Positions) (v : Bool) (a n x : ℕ) : Type 0 where
   pub has : P x ≡ v
   pub under : (y : ℕ) → a ≤ y → y < x → P y ≡ not v
 
+-- what a found position is
 pub find-only : (P : Positions) (v : Bool) (a n x : ℕ) → find P v a n ≡ some x → Found P v a n x
 find-only P v a n x e =
     let d = start-parts (firstRun (runsIn P v a n)) x (sym (find-runs P v a n) ∙ e) in
@@ -217,6 +235,7 @@ selectRuns-some total j (r ∷ rs) k c h =
     go (inl l) ih = (r .start + k, selectRuns-in r rs k l)
     go (inr l) ih = let d = ih (omega arith) in (d .0, selectRuns-past r rs k l ∙ d .1)
 
+-- there is one where there are more than j positions of the value
 pub select-some : (P : Positions) (v : Bool) (a n j : ℕ) → j < count P v a n → (x : ℕ) × (select P v a n j ≡ some x)
 select-some P v a n j h =
     let d = selectRuns-some (a + n) a (runsIn P v a n) j (runsIn-canon P v (a + n) a n (omega arith)) (omega (arith, count-runs P v a n)) in

@@ -21,13 +21,15 @@ use Rattle.model.specs.RunList.{Canon, widths}
 abbrev pub Alike : Positions → Positions → ℕ → ℕ → ℕ → Type 0
 Alike P Q a b n = (i : ℕ) → i < n → P (a + i) ≡ Q (b + i)
 
--- a position, a run and runs, moved from b to a
+-- a position moved from b to a
 abbrev pub move : ℕ → ℕ → ℕ → ℕ
 move b a x = x - b + a
 
+-- a run moved from b to a
 abbrev pub moveRun : ℕ → ℕ → Run → Run
 moveRun b a r = run (move b a (r .start)) (move b a (r .«end»))
 
+-- runs moved from b to a
 unfoldable pub moveRuns : ℕ → ℕ → List Run → List Run
 moveRuns b a [] = []
 moveRuns b a (r ∷ rs) = moveRun b a r ∷ moveRuns b a rs
@@ -135,10 +137,11 @@ module _ (P Q : Positions) (v : Bool) (a b n : ℕ) (alike : Alike P Q a b n) wh
   unfolding countRanges
   countRanges-moved = ap length runsIn-moved ∙ moved-length b a (runsIn Q v b n)
 
-  -- the first and the last run
+  -- the first run
   pub firstRun-moved : firstRun (runsIn P v a n) ≡ Option·map (moveRun b a) (firstRun (runsIn Q v b n))
   firstRun-moved = ap firstRun runsIn-moved ∙ moved-first b a (runsIn Q v b n)
 
+  -- the last run
   pub lastRun-moved : lastRun (runsIn P v a n) ≡ Option·map (moveRun b a) (lastRun (runsIn Q v b n))
   lastRun-moved = ap lastRun runsIn-moved ∙ moved-last b a (runsIn Q v b n)
 

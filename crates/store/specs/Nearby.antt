@@ -30,6 +30,7 @@ pub record Before (rs : List Run) (total x : ℕ) (r : Run) : Type 0 where
   pub starts : r .start ≤ x
   pub free : (y : ℕ) → r .«end» < y → y ≤ x → mem rs y ≡ false
 
+-- what a search for it tells
 abbrev pub Earlier : List Run → ℕ → ℕ → Option Run → Type 0
 Earlier rs total x none = (y : ℕ) → y ≤ x → mem rs y ≡ false
 Earlier rs total x (some r) = Before rs total x r
@@ -42,6 +43,7 @@ member-later total k q rs r c h m = record {
   held = λ y l u. mem-above q rs y (omega arith) ∙ m .held y l u;
 }
 
+-- the first run is one of the list
 member-first : (total k : ℕ) (q : Run) (rs : List Run) → Canon total k (q ∷ rs) → Member (q ∷ rs) total q
 member-first total k q rs c = record { ordered = c .1; bounded = c .2; held = λ y l u. mem-in q rs y l u }
 
@@ -80,6 +82,7 @@ pub record After (rs : List Run) (total x : ℕ) (r : Run) : Type 0 where
   pub starts : x ≤ r .start
   pub free : (y : ℕ) → x ≤ y → y < r .start → mem rs y ≡ false
 
+-- what a search for it tells
 abbrev pub Later : List Run → ℕ → ℕ → Option Run → Type 0
 Later rs total x none = (y : ℕ) → x ≤ y → mem rs y ≡ false
 Later rs total x (some r) = After rs total x r

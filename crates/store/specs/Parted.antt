@@ -35,23 +35,27 @@ module _ {o a n s e : ℕ} (lies : Lies o a n s e) (parted : e < s) (Q : Positio
   whole : {A : Type 0} (f : ℕ → A) → f n ≡ f (size - s + (e + 1))
   whole f = ap f (parted-length lies parted)
 
-  -- the first and the last run of each part
+  -- the first run of the first part
   one-first : firstRun (runsIn (turned o Q) v a (size - s)) ≡ Option·map (moveRun s a) (firstRun (runsIn Q v s (size - s)))
   one-first = firstRun-moved (turned o Q) Q v a s (size - s) (parted-first lies Q parted)
 
+  -- its last run
   one-last : lastRun (runsIn (turned o Q) v a (size - s)) ≡ Option·map (moveRun s a) (lastRun (runsIn Q v s (size - s)))
   one-last = lastRun-moved (turned o Q) Q v a s (size - s) (parted-first lies Q parted)
 
+  -- the first run of the second part
   two-first : firstRun (runsIn (turned o Q) v (a + (size - s)) (e + 1)) ≡ Option·map (moveRun 0 (a + (size - s))) (firstRun (runsIn Q v 0 (e + 1)))
   two-first = firstRun-moved (turned o Q) Q v (a + (size - s)) 0 (e + 1) (parted-second lies Q parted)
 
+  -- its last run
   two-last : lastRun (runsIn (turned o Q) v (a + (size - s)) (e + 1)) ≡ Option·map (moveRun 0 (a + (size - s))) (lastRun (runsIn Q v 0 (e + 1)))
   two-last = lastRun-moved (turned o Q) Q v (a + (size - s)) 0 (e + 1) (parted-second lies Q parted)
 
-  -- the logical positions on either side of the seam
+  -- the last position of the first part
   seam-low : (y : ℕ) → a ≤ y → suc y ≡ a + (size - s) → turned o Q y ≡ Q (size - 1)
   seam-low y h q = ap (turned o Q) (omega arith) ∙ parted-first lies Q parted (size - s - 1) (omega (arith, first-below lies)) ∙ ap Q (omega (arith, first-below lies))
 
+  -- the first position of the second part
   seam-high : turned o Q (a + (size - s)) ≡ Q 0
   seam-high = ap (turned o Q) (omega arith) ∙ parted-second lies Q parted 0 (omega arith)
 

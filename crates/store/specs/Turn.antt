@@ -39,6 +39,12 @@ pub record Lies (o a n s e : ℕ) : Type 0 where
   pub first-at : s ≡ physicalOf a o
   pub last-at : e ≡ physicalOf (a + n - 1) o
 
+-- a range from a to b, as the code has it
+pub lies-from-to : {o a b s e : ℕ} → a ≤ b → b < size → o < size → s ≡ physicalOf a o → e ≡ physicalOf b o → Lies o a (suc b - a) s e
+lies-from-to {o} {a} {b} h k l p q =
+    let m : a + (suc b - a) - 1 ≡ b = omega arith in
+    record { some = omega arith; fits = omega arith; small = l; first-at = p; last-at = q ∙ ap (λ x. physicalOf x o) (sym m) }
+
 -- logical o + i is kept at i
 physical-past : (o i : ℕ) → o + i < size → physicalOf (o + i) o ≡ 0 + i
 physical-past o i h = omega arith
@@ -52,6 +58,7 @@ module _ {o a n s e : ℕ} (lies : Lies o a n s e) where
   pub whole-fits : s ≤ e → s + n ≤ size
   whole-fits h = omega arith
 
+  -- and the other way
   pub fits-whole : s + n ≤ size → s ≤ e
   fits-whole h = omega arith
 
@@ -59,17 +66,23 @@ module _ {o a n s e : ℕ} (lies : Lies o a n s e) where
   pub whole-last : s ≤ e → e ≡ s + n - 1
   whole-last h = omega arith
 
+  -- how many positions a whole range has
+  pub whole-length : s ≤ e → n ≡ suc e - s
+  whole-length h = omega arith
+
   -- it is parted exactly if e < s
   pub parted-over : e < s → size < s + n
   parted-over h = omega arith
 
+  -- and the other way
   pub over-parted : size < s + n → e < s
   over-parted h = omega arith
 
-  -- where a parted range ends, and the parts' lengths
+  -- where a parted range ends
   pub parted-last : e < s → e ≡ n - (size - s) - 1
   parted-last h = omega arith
 
+  -- the lengths of its parts
   pub parted-length : e < s → n ≡ (size - s) + (e + 1)
   parted-length h = omega arith
 
@@ -81,13 +94,15 @@ module _ {o a n s e : ℕ} (lies : Lies o a n s e) where
   pub first-below : s < size
   first-below = omega arith
 
-  -- a physical position moved to the logical range is the logical position that the code computes
+  -- a physical position moved to the logical range is the logical position that the code computes: in a whole range
   pub whole-move : s ≤ e → (x : ℕ) → s ≤ x → x ≤ e → move s a x ≡ logicalOf x o
   whole-move h x l u = omega arith
 
+  -- in the first part of a parted one
   pub parted-move-first : e < s → (x : ℕ) → s ≤ x → x < size → move s a x ≡ logicalOf x o
   parted-move-first h x l u = omega arith
 
+  -- in its second part
   pub parted-move-second : e < s → (x : ℕ) → x ≤ e → move 0 (a + (size - s)) x ≡ logicalOf x o
   parted-move-second h x u = ap (λ k. move 0 k x) (parted-middle h) ∙ logical-sum o x (omega (arith, parted-middle h, parted-length h))
 
@@ -96,29 +111,32 @@ module _ {o a n s e : ℕ} (lies : Lies o a n s e) where
     pub whole-alike : s ≤ e → Alike (turned o Q) Q a s n
     whole-alike h i l = turned-at o Q (a + i) (omega arith) ∙ ap Q (omega arith)
 
-    -- the two physical ranges
+    -- the first of two physical ranges
     pub parted-first : e < s → Alike (turned o Q) Q a s (size - s)
     parted-first h i l = turned-at o Q (a + i) (omega arith) ∙ ap Q (omega arith)
 
+    -- the second one
     pub parted-second : e < s → Alike (turned o Q) Q (a + (size - s)) 0 (e + 1)
     parted-second h i l =
         let k : o + i < size = omega (arith, parted-middle h, parted-length h) in
         ap (λ m. turned o Q (m + i)) (parted-middle h) ∙ turned-at o Q (o + i) k ∙ ap Q (physical-past o i k)
 
     module _ (v : Bool) where
-      -- count
+      -- count, in a whole range
       pub count-whole : s ≤ e → count (turned o Q) v a n ≡ count Q v s n
       count-whole h = count-moved (turned o Q) Q v a s n (whole-alike h)
 
+      -- count, in a parted range
       pub count-parted : e < s → count (turned o Q) v a n ≡ count Q v s (size - s) + count Q v 0 (e + 1)
       count-parted h =
           count-cut (turned o Q) v a n (size - s) (a + (size - s)) (e + 1) (parted-length h) refl
           ∙ ap₂ _+_ (count-moved (turned o Q) Q v a s (size - s) (parted-first h)) (count-moved (turned o Q) Q v (a + (size - s)) 0 (e + 1) (parted-second h))
 
-      -- count_ranges: the run across physical M and 0 is counted once
+      -- count_ranges, in a whole range
       pub countRanges-whole : s ≤ e → countRanges (turned o Q) v a n ≡ countRanges Q v s n
       countRanges-whole h = countRanges-moved (turned o Q) Q v a s n (whole-alike h)
 
+      -- count_ranges, in a parted range: the run across physical M and 0 is counted once
       pub countRanges-parted : e < s
           → countRanges (turned o Q) v a n + oneIf (Bool·beq (Q (size - 1)) v && Bool·beq (Q 0) v) ≡ countRanges Q v s (size - s) + countRanges Q v 0 (e + 1)
       unfolding countRanges
@@ -146,19 +164,23 @@ module _ {o a n s e : ℕ} (lies : Lies o a n s e) where
               ∙ runsIn-length-join P v a m e
               ∙ ap₂ _+_ (ap (λ k. length (runsIn P v a k)) (sym q) ∙ one) (ap₂ (λ b k. length (runsIn P v b k)) (sym x) (sym y) ∙ two)
 
-      -- the other reports of a whole range
+      -- the other reports of a whole range (of a parted one: module Parted): its runs
       pub runsIn-whole : s ≤ e → runsIn (turned o Q) v a n ≡ moveRuns s a (runsIn Q v s n)
       runsIn-whole h = runsIn-moved (turned o Q) Q v a s n (whole-alike h)
 
+      -- its first run
       pub firstRun-whole : s ≤ e → firstRun (runsIn (turned o Q) v a n) ≡ Option·map (moveRun s a) (firstRun (runsIn Q v s n))
       firstRun-whole h = firstRun-moved (turned o Q) Q v a s n (whole-alike h)
 
+      -- its last run
       pub lastRun-whole : s ≤ e → lastRun (runsIn (turned o Q) v a n) ≡ Option·map (moveRun s a) (lastRun (runsIn Q v s n))
       lastRun-whole h = lastRun-moved (turned o Q) Q v a s n (whole-alike h)
 
+      -- find
       pub find-whole : s ≤ e → find (turned o Q) v a n ≡ Option·map (move s a) (find Q v s n)
       find-whole h = find-moved (turned o Q) Q v a s n (whole-alike h)
 
+      -- select
       pub select-whole : s ≤ e → (k : ℕ) → select (turned o Q) v a n k ≡ Option·map (move s a) (select Q v s n k)
       select-whole h = select-moved (turned o Q) Q v a s n (whole-alike h)
 
@@ -172,6 +194,7 @@ stretches-zero Q = ap length (heldRuns-cong (turned 0 Q) Q (turned-zero Q))
 lies-all : (o z : ℕ) → o < size → 1 ≤ o → z ≡ physicalOf 0 o → Lies o 0 size z (z - 1)
 lies-all o z h k q = record { some = omega arith; fits = omega arith; small = h; first-at = q; last-at = omega arith }
 
+-- a value is true as it says
 beq-true : (b : Bool) → Bool·beq b true ≡ b
 beq-true true = refl
 beq-true false = refl
