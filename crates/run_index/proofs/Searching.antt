@@ -1,6 +1,6 @@
 -- The searches' invariants and their steps, on lists of runs: what is left of the question when the walk goes to one side of a run.
 -- Assumes nothing.
-use Prim.Native.Nat.{ℕ, _+_, _-_, _≤_, _<_, _%_, _^_, min}
+use Prim.Native.Nat.{ℕ, zero, suc, _+_, _*_, _-_, _≤_, _<_, _%_, _^_, min}
 use mathlib.Core.Path.{_≡_, refl, sym, ap, ap₂, _∙_}
 use mathlib.Core.Logic.{_⊎_, inl, inr}
 use mathlib.Core.Bool.{Bool, true, false, cond, _||_, or-false}
@@ -260,6 +260,23 @@ before-none x ts c e = record {
   ones-are = omega (arith, count-both (mem ts) 0 x);
   starts-are = sym (startsBelow-none x 0 ts (omega arith) (canon-starts size 0 ts c));
 }
+
+-- the position before that of a count, if it is not 0
+pub next-is : (carry low y : ℕ) → carry * 2 ^ 64 + low ≤ 2 ^ 64 → 1 ≤ carry + low → (y + 1) % 2 ^ 64 ≡ low → y < 2 ^ 64 → y + 1 ≡ carry * 2 ^ 64 + low
+next-is carry zero y le h e lt = last y e lt ∙ all carry le h
+  where
+    last : (y : ℕ) → (y + 1) % 2 ^ 64 ≡ 0 → y < 2 ^ 64 → y + 1 ≡ 2 ^ 64
+    last y e lt = omega arith
+
+    all : (carry : ℕ) → carry * 2 ^ 64 + 0 ≤ 2 ^ 64 → 1 ≤ carry + 0 → 2 ^ 64 ≡ carry * 2 ^ 64 + 0
+    all carry le h = omega arith
+next-is carry (suc n) y le h e lt = next y n e lt ∙ low carry n le
+  where
+    next : (y n : ℕ) → (y + 1) % 2 ^ 64 ≡ suc n → y < 2 ^ 64 → y + 1 ≡ suc n
+    next y n e lt = omega arith
+
+    low : (carry n : ℕ) → carry * 2 ^ 64 + suc n ≤ 2 ^ 64 → suc n ≡ carry * 2 ^ 64 + suc n
+    low carry n le = omega arith
 
 module _ (x y : ℕ) (e : y + 1 ≡ x) (le : x ≤ 2 ^ 64) {r : Rank} {ts : List Run} (c : Canon size 0 ts) (k : Ranked y r ts) where
   -- x for y + 1

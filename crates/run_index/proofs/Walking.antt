@@ -1,7 +1,7 @@
 -- A search walks down the tree from its root: at each link there is a part of the tree, whose runs are canonical, and it is to the whole
 -- as the search's invariant R says. What the code reads at a node is told here once for all searches. Assumes nothing.
-use Prim.Native.Nat.{ℕ, _+_, _-_, _≤_, _<_, _%_, _^_}
-use mathlib.Core.Path.{_≡_, refl, ap, ap₂, _∙_, subst}
+use Prim.Native.Nat.{ℕ, _+_, _-_, _≤_, _<_, _^_}
+use mathlib.Core.Path.{_≡_, ap, _∙_, subst}
 use mathlib.Core.List.{List, [], _∷_, _++_}
 use native.Mathlib.Omega.{arith}
 use lib.ListN.{length}
@@ -12,7 +12,7 @@ use Rattle.model.specs.RunList.{Canon, canon-weaken, canon-wider, widths}
 use Rattle.model.specs.Search.{EndBelow, StartFrom, canon-ends, canon-starts, canon-split, widths-room}
 use Rattle.run_index.specs.declared.Node.{Node}
 use Rattle.run_index.specs.Cells.{cellAt, Room}
-use Rattle.run_index.specs.Tree.{Tree, leaf, node, runs, inorder, Rep, At, Held}
+use Rattle.run_index.specs.Tree.{Tree, runs, inorder, At, Held}
 use Rattle.run_index.specs.Promises.{TellsSums}
 use Rattle.run_index.specs.Search.{Index}
 use Rattle.run_index.proofs.Trees.{at-none}

@@ -9,11 +9,6 @@ use Rattle.run_index.proofs.Searching.{Ranking, rank-start, past-few, p
 use borrow.Author.Needs.{needs}
 use Rattle.run_index.proofs.search.rank_at.Statement.{statement}
 use Rattle.run_index.proofs.search.rank_at.Tie as tie
-use Rattle.run_index.proofs.search.rank_at.Reads as reads
-use Rattle.run_index.proofs.search.rank_at.Lts as lts
-use Rattle.run_index.proofs.read_node.Reads as read-node-reads
-use Rattle.run_index.proofs.sums.Reads as sums-reads
-use Rattle.std.proofs.num.wrapping_add_u64.Reads as wrapping-add-u64-reads
 
 abbrev Inv-loop : tie.InvT-loop
 Inv-loop s p y q₀ ones₀ starts₀ q ones starts = Walk s p q (Ranking y ones starts)
