@@ -6,13 +6,9 @@ ghost use Rattle.store.specs.Layout.{headerAt, Headed};
 use run_index::Node;
 
 pub mod bounds;
-
 pub mod free;
-
 pub mod logical;
-
 pub mod physical;
-
 pub mod runs;
 
 // The header's words, in order.
