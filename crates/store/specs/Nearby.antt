@@ -1,6 +1,6 @@
 -- What the run before a position and the run after it tell: which positions from here to there are held. And so which position of a
 -- turned set is held first and last, by the searches that start at the place of logical 0, and of logical M. Assumes nothing.
-use Prim.Native.Nat.{ℕ, _+_, _-_, _≤_, _<_}
+use Prim.Native.Nat.{ℕ, suc, _+_, _-_, _≤_, _<_}
 use mathlib.Core.Path.{_≡_, refl, sym, ap, _∙_, subst}
 use mathlib.Core.Logic.{_⊎_, inl, inr}
 use mathlib.Core.Bool.{Bool, true, false, cond}
@@ -18,11 +18,13 @@ use Rattle.store.specs.Layout.{turned}
 use Rattle.store.specs.Soundness.{firstOf, lastOf}
 use Rattle.store.specs.Ends.{clash, empty-mem, turned-first, turned-last, turned-none}
 
--- r is a run of the list
+-- r is a run of the list, that is, its positions are held and those next to it are not
 pub record Member (rs : List Run) (total : ℕ) (r : Run) : Type 0 where
   pub ordered : r .start ≤ r .«end»
   pub bounded : r .«end» < total
   pub held : (y : ℕ) → r .start ≤ y → y ≤ r .«end» → mem rs y ≡ true
+  pub under : (y : ℕ) → suc y ≡ r .start → mem rs y ≡ false
+  pub over : mem rs (r .«end» + 1) ≡ false
 
 -- ---- the last run that starts at or before x
 pub record Before (rs : List Run) (total x : ℕ) (r : Run) : Type 0 where
@@ -35,18 +37,6 @@ abbrev pub Earlier : List Run → ℕ → ℕ → Option Run → Type 0
 Earlier rs total x none = (y : ℕ) → y ≤ x → mem rs y ≡ false
 Earlier rs total x (some r) = Before rs total x r
 
--- a run of the rest is one of the list
-member-later : (total k : ℕ) (q : Run) (rs : List Run) (r : Run) → Canon total k (q ∷ rs) → q .«end» < r .start → Member rs total r → Member (q ∷ rs) total r
-member-later total k q rs r c h m = record {
-  ordered = m .ordered;
-  bounded = m .bounded;
-  held = λ y l u. mem-above q rs y (omega arith) ∙ m .held y l u;
-}
-
--- the first run is one of the list
-member-first : (total k : ℕ) (q : Run) (rs : List Run) → Canon total k (q ∷ rs) → Member (q ∷ rs) total q
-member-first total k q rs c = record { ordered = c .1; bounded = c .2; held = λ y l u. mem-in q rs y l u }
-
 -- every run of a canonical list starts at its bound or above
 member-from : (total k : ℕ) (rs : List Run) (r : Run) → Canon total k rs → Member rs total r → k ≤ r .start
 member-from total k rs r c m = go (split (r .start) k)
@@ -54,6 +44,28 @@ member-from total k rs r c m = go (split (r .start) k)
     go : (r .start < k) ⊎ (k ≤ r .start) → k ≤ r .start
     go (inl l) = clash (m .held (r .start) (omega arith) (m .ordered)) (mem-below total k rs (r .start) c l)
     go (inr l) = l
+
+-- a run of the rest is one of the list
+member-later : (total k : ℕ) (q : Run) (rs : List Run) (r : Run) → Canon total k (q ∷ rs) → Member rs total r → Member (q ∷ rs) total r
+member-later total k q rs r c m =
+    let h : q .«end» + 2 ≤ r .start = member-from total (q .«end» + 2) rs r (c .3) m in
+    record {
+      ordered = m .ordered;
+      bounded = m .bounded;
+      held = λ y l u. mem-above q rs y (omega arith) ∙ m .held y l u;
+      under = λ y e. mem-above q rs y (omega arith) ∙ m .under y e;
+      over = mem-above q rs (r .«end» + 1) (omega (arith, m .ordered)) ∙ m .over;
+    }
+
+-- the first run is one of the list
+member-first : (total k : ℕ) (q : Run) (rs : List Run) → Canon total k (q ∷ rs) → Member (q ∷ rs) total q
+member-first total k q rs c = record {
+  ordered = c .1;
+  bounded = c .2;
+  held = λ y l u. mem-in q rs y l u;
+  under = λ y e. mem-before total k q rs y c (omega arith);
+  over = mem-above q rs (q .«end» + 1) (omega arith) ∙ mem-below total (q .«end» + 2) rs (q .«end» + 1) (c .3) (omega arith);
+}
 
 -- what the search before x finds
 pub earlier : (total k : ℕ) (rs : List Run) (x : ℕ) → Canon total k rs → Earlier rs total x (lastUpTo x rs)
@@ -65,7 +77,7 @@ earlier total k (q ∷ rs) x c = go (lastUpTo x rs) (earlier total (q .«end» +
     go (some r) ih b e =
         let l : q .«end» + 2 ≤ r .start = member-from total (q .«end» + 2) rs r (c .3) (ih .member) in
         record {
-          member = member-later total k q rs r c (omega arith) (ih .member);
+          member = member-later total k q rs r c (ih .member);
           starts = ih .starts;
           free = λ y h u. mem-above q rs y (omega (arith, ih .member .ordered)) ∙ ih .free y h u;
         }
@@ -103,7 +115,7 @@ later total k (q ∷ rs) x c f = go (leb x (q .start)) refl f (λ g. later total
     rest : q .«end» < x → (o : Option Run) → Later rs total x o → Later (q ∷ rs) total x o
     rest h none ih = λ y l. mem-above q rs y (omega arith) ∙ ih y l
     rest h (some r) ih = record {
-      member = member-later total k q rs r c (omega (arith, ih .starts)) (ih .member);
+      member = member-later total k q rs r c (ih .member);
       starts = ih .starts;
       free = λ y l u. mem-above q rs y (omega arith) ∙ ih .free y l u;
     }

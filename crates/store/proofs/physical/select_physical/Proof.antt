@@ -1,0 +1,56 @@
+-- `select_physical` meets its contract: among all positions of the value, the one sought has k and those before s before it.
+-- Assumes nothing.
+use native.Mathlib.Omega.{arith}
+use Rattle.store.specs.Ranks.{chosen-there, chosen-fits, chosen-told, number-zero, number-held, number-free, ones-fit}
+use borrow.Author.Needs.{needs}
+use Rattle.store.proofs.physical.select_physical.Statement.{statement}
+use Rattle.store.proofs.physical.select_physical.Tie as tie
+
+select-requires : tie.Need-select-requires
+select-requires c κs = chosen-there (omega arith) (number-zero (c .if1 .taken)) (c .before .before .pre)
+
+returns : tie.Need-returns
+returns c = chosen-told (omega arith) (number-zero (c .before .if1 .taken)) (c .select .ensures)
+
+sub-rank-at : tie.Need-sub-rank-at
+sub-rank-at c = search needs
+
+rank-at-requires : tie.Need-rank-at-requires
+rank-at-requires c κs = search needs
+
+add-select : tie.Need-add-select
+add-select c = omega (arith, chosen-fits (omega arith) (number-held (c .before .before .before .if1 .left) (omega arith) (c .before .before .rank-at .ensures) (c .before .if2 .taken)) (c .before .before .before .before .before .pre))
+
+select-requires-2 : tie.Need-select-requires-2
+select-requires-2 c κs = chosen-there (omega arith) (number-held (c .before .before .before .if1 .left) (omega arith) (c .before .before .rank-at .ensures) (c .before .if2 .taken)) (c .before .before .before .before .before .pre)
+
+returns-2 : tie.Need-returns-2
+returns-2 c = chosen-told (omega arith) (number-held (c .before .before .before .before .if1 .left) (omega arith) (c .before .before .before .rank-at .ensures) (c .before .before .if2 .taken)) (c .select2 .ensures)
+
+sub-select : tie.Need-sub-select
+sub-select c = ones-fit (c .before .before .before .if1 .left) (omega arith) (c .before .before .rank-at .ensures) (c .before .before .before .before .before .pre .2)
+
+add-select-2 : tie.Need-add-select-2
+add-select-2 c = omega (arith, chosen-fits (omega arith) (number-free (c .before .before .before .if1 .left) (omega arith) (c .before .before .rank-at .ensures) (c .before .if2 .left)) (c .before .before .before .before .before .pre))
+
+select-requires-3 : tie.Need-select-requires-3
+select-requires-3 c κs = chosen-there (omega arith) (number-free (c .before .before .before .if1 .left) (omega arith) (c .before .before .rank-at .ensures) (c .before .if2 .left)) (c .before .before .before .before .before .pre)
+
+returns-3 : tie.Need-returns-3
+returns-3 c = chosen-told (omega arith) (number-free (c .before .before .before .before .if1 .left) (omega arith) (c .before .before .before .rank-at .ensures) (c .before .before .if2 .left)) (c .select3 .ensures)
+
+pub select-physical-spec : {M : Type 1} → statement M
+select-physical-spec =
+    tie.close
+    (tie.spec
+    select-requires
+    returns
+    sub-rank-at
+    rank-at-requires
+    add-select
+    select-requires-2
+    returns-2
+    sub-select
+    add-select-2
+    select-requires-3
+    returns-3)
