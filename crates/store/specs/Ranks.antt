@@ -28,7 +28,7 @@ use Rattle.store.specs.Counting.{runs-length}
 use Rattle.store.specs.Joins.{select-second}
 
 -- ---- the starts of runs
--- one more start at most for each run
+-- there are at most as many as runs
 starts-few : (x : ℕ) (rs : List Run) → startsBelow x rs ≤ length rs
 unfolding startsBelow
 starts-few x [] = omega arith
@@ -38,7 +38,7 @@ starts-few x (r ∷ rs) = go (ltb (r .start) x) (starts-few x rs)
     go true h = omega arith
     go false h = omega arith
 
--- no fewer below a later position
+-- there are no fewer below a later position
 starts-rise : (x y : ℕ) (rs : List Run) → x ≤ y → startsBelow x rs ≤ startsBelow y rs
 unfolding startsBelow
 starts-rise x y [] h = omega arith
@@ -76,11 +76,12 @@ clip-starts total k s e (r ∷ rs) c h =
         rw (clip-some s n r rs (omega (arith, c .1)), lt-ltb (r .start) (s + 1) (omega arith), lt-ltb (r .start) (e + 1) (omega arith), mem-in r rs s p u)
         (omega arith)
     go (above p q) l ih =
-        rw (clip-none s n r rs (omega (arith, c .1)), lt-ltb (r .start) (s + 1) (omega (arith, c .1)), lt-ltb (r .start) (e + 1) (omega (arith, c .1)), mem-above r rs s p)
+        let g : r .start < s = omega (arith, c .1) in
+        rw (clip-none s n r rs (omega arith), lt-ltb (r .start) (s + 1) (omega arith), lt-ltb (r .start) (e + 1) (omega arith), mem-above r rs s p)
         (omega arith)
 
 -- ---- one position
--- counted
+-- the count of it
 count-one : (P : Positions) (a : ℕ) → count P true a 1 ≡ oneIf (P a)
 count-one P a = go (P a) refl
   where
@@ -88,7 +89,7 @@ count-one P a = go (P a) refl
     go true e = count-all P true a 1 (λ x h l. ap P (omega arith) ∙ e)
     go false e = count-none P true a 1 (λ x h l. ap P (omega arith) ∙ e)
 
--- its runs
+-- the runs in it
 runs-one : (P : Positions) (v : Bool) (a : ℕ) → length (runsIn P v a 1) ≡ oneIf (Bool·beq (P a) v)
 runs-one P v a = go (P a) v refl
   where
@@ -161,7 +162,8 @@ module _ {w : List ℕ} {p s e : ℕ} {under upto : Rank} (rise : s ≤ e) (low 
   starts-ordered {g} {t} i = omega (arith, (low g t i) .starts-are, (high g t i) .starts-are, starts-rise (s + 1) (e + 1) (inorder t) (omega arith))
 
   -- the held positions from s on are s, if it is held, and those above
-  held-count : {g : ℕ} {t : Tree} → Index w p g t → count (mem (inorder t)) true s (suc e - s) ≡ oneIf (under .held) + count (mem (inorder t)) true (s + 1) (e - s)
+  held-count : {g : ℕ} {t : Tree} → Index w p g t
+      → count (mem (inorder t)) true s (suc e - s) ≡ oneIf (under .held) + count (mem (inorder t)) true (s + 1) (e - s)
   held-count {g} {t} i =
       count-cut (mem (inorder t)) true s (suc e - s) 1 (s + 1) (e - s) (omega arith) refl
       ∙ ap (λ j. j + count (mem (inorder t)) true (s + 1) (e - s)) (count-one (mem (inorder t)) s ∙ ap oneIf (sym ((low g t i) .held-is)))
@@ -171,7 +173,14 @@ module _ {w : List ℕ} {p s e : ℕ} {under upto : Rank} (rise : s ≤ e) (low 
   unfolding countRanges
   held-runs {g} {t} i =
       ap length (clip-runs size 0 s (suc e - s) (inorder t) (i .canonical))
-      ∙ omega (arith, clip-starts size 0 s e (inorder t) (i .canonical) rise, (low g t i) .starts-are, (high g t i) .starts-are, starts-ordered i, ap oneIf ((low g t i) .held-is))
+      ∙ omega (
+        arith,
+        clip-starts size 0 s e (inorder t) (i .canonical) rise,
+        (low g t i) .starts-are,
+        (high g t i) .starts-are,
+        starts-ordered i,
+        ap oneIf ((low g t i) .held-is),
+      )
 
   -- the wrapped difference of the two counts
   module _ (m : ℕ) (fits : e < size) (small : m < 2 ^ 64) (wraps : (m + under .ones) % 2 ^ 64 ≡ upto .ones) where
