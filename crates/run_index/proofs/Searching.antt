@@ -1,22 +1,21 @@
 -- The searches' invariants and their steps, on lists of runs: what is left of the question when the walk goes to one side of a run.
 -- Assumes nothing.
-use Prim.Native.Nat.{ℕ, _+_, _-_, _≤_, _<_, _%_, _^_, min}
+use Prim.Native.Nat.{ℕ, zero, suc, _+_, _*_, _-_, _≤_, _<_, _%_, _^_, min}
 use mathlib.Core.Path.{_≡_, refl, sym, ap, ap₂, _∙_}
 use mathlib.Core.Logic.{_⊎_, inl, inr}
-use mathlib.Core.Bool.{Bool, true, false, cond, not}
+use mathlib.Core.Bool.{Bool, true, false, cond, _||_, or-false}
 use mathlib.Core.List.{List, [], _∷_}
 use mathlib.Core.Option.{Option, none, some}
 use native.Mathlib.Omega.{arith}
-use native.Mathlib.Nat.{zero-add}
 use lib.ListN.{length, length-append}
-use lib.Dec.{eqb}
-use borrow.Author.Tests.{lt-ltb, le-leb, lt-leb, eqb-true, eqb-false, not-true, not-false}
+use borrow.Author.Tests.{lt-ltb, le-ltb, le-leb, lt-leb}
 use Rattle.model.specs.declared.Run.{Run}
 use Rattle.model.specs.Numbers.{size, split}
-use Rattle.model.specs.Positions.{run, count, mem}
-use Rattle.model.specs.Positions.Laws.{count-both}
+use Rattle.model.specs.Positions.{Positions, run, oneIf, count, mem}
+use Rattle.model.specs.Positions.Laws.{count-cut, count-all, count-none, count-both}
+use Rattle.model.specs.Positions.Runs.{mem-append}
 use Rattle.model.specs.Positions.Finds.{selectRuns, selectRuns-in, selectRuns-past}
-use Rattle.model.specs.RunList.{Canon, canon-weaken, widths, count-mem}
+use Rattle.model.specs.RunList.{Canon, canon-weaken, mem-in, mem-above, mem-before, mem-past, widths, count-mem}
 use Rattle.model.specs.Search.{
   orElse,
   lastUpTo,
@@ -34,7 +33,6 @@ use Rattle.model.specs.Search.{
   onesBelow-all,
   startsBelow-all,
   widths-append,
-  widths-room,
   count-onesBelow,
   canon-ends,
   canon-starts,
@@ -46,11 +44,11 @@ use Rattle.model.specs.Search.{
   selectGap-is,
 }
 use Rattle.run_index.specs.declared.Node.{Node}
-use Rattle.run_index.specs.Tree.{Tree, inorder}
+use Rattle.run_index.specs.declared.search.Rank.{Rank}
+use Rattle.run_index.specs.Tree.{inorder}
 use Rattle.run_index.specs.Promises.{TellsSums}
-use Rattle.run_index.specs.Search.{Index, Tallied}
-use Rattle.run_index.proofs.Totals.{runs-length, ones-widths}
-use Rattle.run_index.proofs.Walking.{here, left-canon, left-room, right-above, Spot, spot-ordered, spot-starts, spot-ends, exact}
+use Rattle.run_index.specs.Search.{Tallied, Ranked}
+use Rattle.run_index.proofs.Walking.{here, left-canon, left-room, right-above, Spot, spot-ordered, spot-left, spot-ends, spot-from, spot-starts, exact}
 
 -- ---- the run next to x: F is `lastUpTo x` or `firstFrom x`
 -- what was found last
@@ -136,33 +134,47 @@ module _ {w : List ℕ} {g x : ℕ} {v : Node} {found : Bool} {a b : ℕ} {ts : 
       ∙ ap₂ (λ o t. orElse o (cond t (some (here v)) (firstFrom x (inorder (s .r)))))
       (firstFrom-none x (v .start) (inorder (s .l)) (omega arith) (spot-ends s)) (lt-leb x (v .start) h))
 
--- ---- how much lies below x: in the whole it is what was passed, and what is below x in the rest
-pub record Tallying (x ones starts : ℕ) (ts us : List Run) : Type 0 where
-  pub ones-are : onesBelow x ts ≡ ones + onesBelow x us
-  pub starts-are : startsBelow x ts ≡ starts + startsBelow x us
+-- ---- how much lies at or before y: in the whole it is what was passed, and what does so in the rest. Of the held positions those below y are
+-- summed, as there are no more than y; whether y is one of them is as in the rest
+pub record Ranking (y ones starts : ℕ) (ts us : List Run) : Type 0 where
+  pub ones-are : onesBelow y ts ≡ ones + onesBelow y us
+  pub starts-are : startsBelow (y + 1) ts ≡ starts + startsBelow (y + 1) us
   pub few : starts + length us ≤ length ts
+  pub held-as : mem ts y ≡ mem us y
 
 -- at first nothing is passed
-pub tally-start : (x : ℕ) (ts : List Run) → Tallying x 0 0 ts ts
-tally-start x ts = record { ones-are = omega arith; starts-are = omega arith; few = omega arith }
+pub rank-start : (y : ℕ) (ts : List Run) → Ranking y 0 0 ts ts
+rank-start y ts = record { ones-are = omega arith; starts-are = omega arith; few = omega arith; held-as = refl }
 
 -- no more than x positions are below x
 ones-most : (x : ℕ) (ts : List Run) → Canon size 0 ts → onesBelow x ts ≤ x
 ones-most x ts c = omega (arith, count-onesBelow size 0 ts x c, count-both (mem ts) 0 x)
 
--- the plain count
-tallied : (x ones starts : ℕ) (ts : List Run) → Canon size 0 ts → ones ≡ onesBelow x ts → starts ≡ startsBelow x ts → Tallied x ones starts ts
-tallied x ones starts ts c e f = record { ones-are = e ∙ sym (count-onesBelow size 0 ts x c); starts-are = f }
+-- one position has a count of one if it is held
+count-one : (P : Positions) (y : ℕ) (b : Bool) → P y ≡ b → count P true y 1 ≡ oneIf b
+count-one P y true e = count-all P true y 1 (λ x l m. ap P (omega arith) ∙ e)
+count-one P y false e = count-none P true y 1 (λ x l m. ap P (omega arith) ∙ e)
 
-module _ {w : List ℕ} {g x ones starts : ℕ} {v : Node} {ts : List Run} (s : Spot w g v (Tallying x ones starts) ts) where
-  -- nothing of a run from x on counts, nor of what follows it
-  pub tally-left : x ≤ v .start → Tallying x ones starts ts (inorder (s .l))
-  tally-left le =
+-- the plain count, with y itself if it is held
+ranked : (y o starts : ℕ) (b : Bool) (ts : List Run) → Canon size 0 ts → o ≡ (onesBelow y ts + oneIf b) % 2 ^ 64 → starts ≡ startsBelow (y + 1) ts → mem ts y ≡ b
+    → Ranked y (record { ones = o; starts = starts; held = b }) ts
+ranked y o starts b ts c e f h = record {
+  ones-are = e ∙ ap (λ n. n % 2 ^ 64) (sym (count-cut (mem ts) true 0 (y + 1) y y 1 refl (omega arith) ∙ ap₂ _+_ (count-onesBelow size 0 ts y c) (count-one (mem ts) y b h)));
+  starts-are = f;
+  held-is = sym h;
+}
+
+module _ {w : List ℕ} {g y ones starts : ℕ} {v : Node} {ts : List Run} (s : Spot w g v (Ranking y ones starts) ts) where
+  -- nothing of a run that starts after y counts, nor of what follows it
+  pub rank-left : y < v .start → Ranking y ones starts ts (inorder (s .l))
+  rank-left lt =
       let f = spot-starts s in
       record {
-        ones-are = omega (arith, s .is .ones-are, onesBelow-append x (inorder (s .l)) (here v ∷ inorder (s .r)), onesBelow-none x (v .start) (here v ∷ inorder (s .r)) le f);
-        starts-are = omega (arith, s .is .starts-are, startsBelow-append x (inorder (s .l)) (here v ∷ inorder (s .r)), startsBelow-none x (v .start) (here v ∷ inorder (s .r)) le f);
+        ones-are = omega (arith, s .is .ones-are, onesBelow-append y (inorder (s .l)) (here v ∷ inorder (s .r)), onesBelow-none y (v .start) (here v ∷ inorder (s .r)) (omega arith) f);
+        starts-are = omega (arith, s .is .starts-are, startsBelow-append (y + 1) (inorder (s .l)) (here v ∷ inorder (s .r)), startsBelow-none (y + 1) (v .start) (here v ∷ inorder (s .r)) (omega arith) f);
         few = omega (arith, s .is .few, length-append (inorder (s .l)) (here v ∷ inorder (s .r)));
+        held-as = s .is .held-as ∙ mem-append (inorder (s .l)) (here v ∷ inorder (s .r)) y
+            ∙ ap (λ b. mem (inorder (s .l)) y || b) (mem-before size (v .start) (here v) (inorder (s .r)) y (spot-from s) lt) ∙ or-false (mem (inorder (s .l)) y);
       }
 
   module _ {lv : Node} (so : TellsSums w (v .left) lv) where
@@ -170,103 +182,128 @@ module _ {w : List ℕ} {g x ones starts : ℕ} {v : Node} {ts : List Run} (s : 
     pub past-few : starts + lv .runs + 1 + length (inorder (s .r)) ≤ length ts
     past-few = omega (arith, s .is .few, length-append (inorder (s .l)) (here v ∷ inorder (s .r)), exact s so)
 
-    module _ (lt : v .start < x) where
-      -- all that is to the left of a run that starts below x, that run's part, and what follows
-      past-ones : onesBelow x ts ≡ ones + lv .ones + (min (v .«end» + 1) x - v .start) + onesBelow x (inorder (s .r))
+    module _ (le : v .start ≤ y) where
+      -- all that is to the left of a run that starts at y or before, that run's part, and what follows
+      past-ones : onesBelow y ts ≡ ones + lv .ones + (min (v .«end» + 1) y - v .start) + onesBelow y (inorder (s .r))
       unfolding onesBelow
       past-ones =
-          let all = onesBelow-all x (v .start) (inorder (s .l)) (omega arith) (spot-ends s) in
-          omega (arith, s .is .ones-are, onesBelow-append x (inorder (s .l)) (here v ∷ inorder (s .r)), all, exact s so)
+          let all = onesBelow-all y (v .start) (inorder (s .l)) le (spot-ends s) in
+          omega (arith, s .is .ones-are, onesBelow-append y (inorder (s .l)) (here v ∷ inorder (s .r)), all, exact s so)
 
       -- so with the starts
-      past-starts : startsBelow x ts ≡ starts + lv .runs + 1 + startsBelow x (inorder (s .r))
+      past-starts : startsBelow (y + 1) ts ≡ starts + lv .runs + 1 + startsBelow (y + 1) (inorder (s .r))
       unfolding startsBelow
       past-starts =
-          let all = startsBelow-all x (v .start) (inorder (s .l)) (omega arith) (spot-ends s) in
-          let one : startsBelow x (here v ∷ inorder (s .r)) ≡ 1 + startsBelow x (inorder (s .r)) = rw (lt-ltb (v .start) x lt) in
-          omega (arith, s .is .starts-are, startsBelow-append x (inorder (s .l)) (here v ∷ inorder (s .r)), all, one, exact s so)
+          let all = startsBelow-all (y + 1) (v .start) (inorder (s .l)) (omega arith) (spot-ends s) in
+          let one : startsBelow (y + 1) (here v ∷ inorder (s .r)) ≡ 1 + startsBelow (y + 1) (inorder (s .r)) = rw (lt-ltb (v .start) (y + 1) (omega arith)) in
+          omega (arith, s .is .starts-are, startsBelow-append (y + 1) (inorder (s .l)) (here v ∷ inorder (s .r)), all, one, exact s so)
 
-      -- what is passed is no more than x
-      pub past-fits : Canon size 0 ts → ones + lv .ones + (min (v .«end» + 1) x - v .start) ≤ x
-      past-fits c = omega (arith, past-ones, ones-most x ts c)
+      -- and y is not to the left
+      past-held : mem ts y ≡ mem (here v ∷ inorder (s .r)) y
+      past-held =
+          s .is .held-as ∙ mem-append (inorder (s .l)) (here v ∷ inorder (s .r)) y
+          ∙ ap (λ b. b || mem (here v ∷ inorder (s .r)) y) (mem-past (v .start) 0 (inorder (s .l)) y (spot-left s) le)
 
-      -- a run that x is in ends the walk
-      pub tally-in : x ≤ v .«end» → Canon size 0 ts → Tallied x (ones + lv .ones + (x - v .start)) (starts + lv .runs + 1) ts
-      tally-in le c =
+      -- what is passed is no more than y
+      pub past-fits : Canon size 0 ts → ones + lv .ones + (min (v .«end» + 1) y - v .start) ≤ y
+      past-fits c = omega (arith, past-ones, ones-most y ts c)
+
+      -- a run that y is in ends the walk
+      pub rank-in : y ≤ v .«end» → Canon size 0 ts → (o : ℕ) → o ≡ (ones + lv .ones + (y - v .start) + 1) % 2 ^ 64
+          → Ranked y (record { ones = o; starts = starts + lv .runs + 1; held = true }) ts
+      rank-in up c o e =
           let f = canon-starts size (v .«end» + 2) (inorder (s .r)) (right-above 0 (v .start) (v .«end») (inorder (s .l)) (inorder (s .r)) (s .canonical)) in
-          tallied x (ones + lv .ones + (x - v .start)) (starts + lv .runs + 1) ts c
-          (omega (arith, past-ones, onesBelow-none x (v .«end» + 2) (inorder (s .r)) (omega arith) f))
-          (omega (arith, past-starts, startsBelow-none x (v .«end» + 2) (inorder (s .r)) (omega arith) f))
+          let all : ones + lv .ones + (y - v .start) ≡ onesBelow y ts = omega (arith, past-ones, onesBelow-none y (v .«end» + 2) (inorder (s .r)) (omega arith) f) in
+          ranked y o (starts + lv .runs + 1) true ts c (e ∙ ap (λ n. (n + 1) % 2 ^ 64) all)
+          (omega (arith, past-starts, startsBelow-none (y + 1) (v .«end» + 2) (inorder (s .r)) (omega arith) f))
+          (past-held ∙ mem-in (here v) (inorder (s .r)) y le up)
 
-      -- one that ends before x is passed
-      pub tally-right : v .«end» < x → Tallying x (ones + lv .ones + (v .«end» - v .start) + 1) (starts + lv .runs + 1) ts (inorder (s .r))
-      tally-right gt = record {
+      -- one that ends before y is passed
+      pub rank-right : v .«end» < y → Ranking y (ones + lv .ones + (v .«end» - v .start) + 1) (starts + lv .runs + 1) ts (inorder (s .r))
+      rank-right gt = record {
         ones-are = omega (arith, past-ones, spot-ordered s);
         starts-are = past-starts;
         few = past-few;
+        held-as = past-held ∙ mem-above (here v) (inorder (s .r)) y gt;
       }
 
 -- at the end all is passed
-pub tally-end : (x ones starts : ℕ) (ts : List Run) → Canon size 0 ts → Tallying x ones starts ts [] → Tallied x ones starts ts
-unfolding onesBelow startsBelow
-tally-end x ones starts ts c h = tallied x ones starts ts c (omega (arith, h .ones-are)) (omega (arith, h .starts-are))
+pub rank-end : (y ones starts : ℕ) (ts : List Run) → Canon size 0 ts → y < 2 ^ 64 → Ranking y ones starts ts []
+    → Ranked y (record { ones = ones; starts = starts; held = false }) ts
+unfolding onesBelow startsBelow mem
+rank-end y ones starts ts c lt h = ranked y ones starts false ts c (omega (arith, h .ones-are, ones-most y ts c)) (omega (arith, h .starts-are)) (h .held-as)
 
--- the same of an equal position, as the low word of a count
-pub tally-low : {x ones starts : ℕ} {ts : List Run} (y : ℕ) → y ≡ x → Tallied x ones starts ts → Tallied y (0 + ones) starts ts
-tally-low {x} {ones} {starts} {ts} y e h = record {
-  ones-are = zero-add ones ∙ h .ones-are ∙ ap (count (mem ts) true 0) (sym e);
-  starts-are = h .starts-are ∙ ap (λ z. startsBelow z ts) (sym e);
+-- ---- how much lies before x: what does so at or before the position before it, of which a wrapped count of 0 is none or 2^64
+-- each start before x is held
+starts-held : (total k x : ℕ) (rs : List Run) → Canon total k rs → startsBelow x rs ≤ onesBelow x rs
+unfolding startsBelow onesBelow
+starts-held total k x [] c = omega arith
+starts-held total k x (r ∷ rs) c = go (split (r .start) x) (starts-held total (r .«end» + 2) x rs (c .3))
+  where
+    go : (r .start < x) ⊎ (x ≤ r .start) → startsBelow x rs ≤ onesBelow x rs → startsBelow x (r ∷ rs) ≤ onesBelow x (r ∷ rs)
+    go (inl l) h = rw (lt-ltb (r .start) x l) (omega (arith, c .1))
+    go (inr l) h = rw (le-ltb (r .start) x l) (omega arith)
+
+-- and without one nothing is
+starts-none : (x : ℕ) (rs : List Run) → startsBelow x rs ≡ 0 → onesBelow x rs ≡ 0
+unfolding startsBelow onesBelow
+starts-none x [] e = refl
+starts-none x (r ∷ rs) e = go (split (r .start) x) (starts-none x rs (omega arith))
+  where
+    go : (r .start < x) ⊎ (x ≤ r .start) → onesBelow x rs ≡ 0 → onesBelow x (r ∷ rs) ≡ 0
+    go (inl l) h = absurd (omega (arith, rw (lt-ltb (r .start) x l) at e))
+    go (inr l) h = omega arith
+
+-- before 0 there is nothing
+pub before-none : (x : ℕ) (ts : List Run) → Canon size 0 ts → x ≡ 0 → Tallied x 0 0 ts
+before-none x ts c e = record {
+  ones-are = omega (arith, count-both (mem ts) 0 x);
+  starts-are = sym (startsBelow-none x 0 ts (omega arith) (canon-starts size 0 ts c));
 }
 
--- ---- all that the tree holds: the root's sums, of which the wrapped one is 0 for no run at all and for 2^64 positions
--- a list holds a position if it has a run
-held-some : (total k : ℕ) (rs : List Run) → Canon total k rs → 1 ≤ length rs → 1 ≤ widths rs
-unfolding widths
-held-some total k [] c h = absurd (omega arith)
-held-some total k (r ∷ rs) c h = omega (arith, c .1)
+-- the position before that of a count, if it is not 0
+pub next-is : (carry low y : ℕ) → carry * 2 ^ 64 + low ≤ 2 ^ 64 → 1 ≤ carry + low → (y + 1) % 2 ^ 64 ≡ low → y < 2 ^ 64 → y + 1 ≡ carry * 2 ^ 64 + low
+next-is carry zero y le h e lt = last y e lt ∙ all carry le h
+  where
+    last : (y : ℕ) → (y + 1) % 2 ^ 64 ≡ 0 → y < 2 ^ 64 → y + 1 ≡ 2 ^ 64
+    last y e lt = omega arith
 
--- and none if it has none
-held-none : (rs : List Run) → length rs ≡ 0 → widths rs ≡ 0
-unfolding widths
-held-none [] h = refl
-held-none (r ∷ rs) h = absurd (omega arith)
+    all : (carry : ℕ) → carry * 2 ^ 64 + 0 ≤ 2 ^ 64 → 1 ≤ carry + 0 → 2 ^ 64 ≡ carry * 2 ^ 64 + 0
+    all carry le h = omega arith
+next-is carry (suc n) y le h e lt = next y n e lt ∙ low carry n le
+  where
+    next : (y n : ℕ) → (y + 1) % 2 ^ 64 ≡ suc n → y < 2 ^ 64 → y + 1 ≡ suc n
+    next y n e lt = omega arith
 
-module _ {w : List ℕ} {p g : ℕ} {t : Tree} (i : Index w p g t) {v : Node} (so : TellsSums w p v) (x : ℕ) (top : x ≡ size) where
-  -- the root's number of runs is that of the list
-  told : v .runs ≡ length (inorder t)
-  told = so g t (i .at) .runs-is ∙ runs-length t
+    low : (carry n : ℕ) → carry * 2 ^ 64 + suc n ≤ 2 ^ 64 → suc n ≡ carry * 2 ^ 64 + suc n
+    low carry n le = omega arith
 
-  -- all its positions and runs are below 2^64
-  whole : (ones : ℕ) → ones ≡ widths (inorder t) → Tallied x ones (v .runs) (inorder t)
-  whole ones e =
-      let ends = canon-ends size 0 (inorder t) (i .canonical) in
-      tallied x ones (v .runs) (inorder t) (i .canonical)
-      (e ∙ sym (onesBelow-all x size (inorder t) (omega arith) ends))
-      (told ∙ sym (startsBelow-all x size (inorder t) (omega arith) ends))
+module _ (x y : ℕ) (e : y + 1 ≡ x) (le : x ≤ 2 ^ 64) {r : Rank} {ts : List Run} (c : Canon size 0 ts) (k : Ranked y r ts) where
+  -- the count, wrapped
+  before-ones : r .ones ≡ count (mem ts) true 0 x % 2 ^ 64
+  before-ones = k .ones-are ∙ ap (λ z. count (mem ts) true 0 z % 2 ^ 64) e
 
-  -- there are 2^64 positions at most
-  held : widths (inorder t) + 0 ≤ size
-  held = widths-room size 0 size (inorder t) (i .canonical) (canon-ends size 0 (inorder t) (i .canonical)) (omega arith)
+  -- the starts
+  before-starts : r .starts ≡ startsBelow x ts
+  before-starts = k .starts-are ∙ ap (λ z. startsBelow z ts) e
 
-  -- the root's sum is how many, wrapped
-  wrapped : v .ones ≡ widths (inorder t) % 2 ^ 64
-  wrapped = so g t (i .at) .ones-is ∙ ones-widths t (i .at .rep)
+  -- with them the tally, if the count is told
+  before : (o : ℕ) → o ≡ count (mem ts) true 0 x → Tallied x o (r .starts) ts
+  before o f = record { ones-are = f; starts-are = before-starts }
 
-  -- a sum of 0 with a run is every position
-  pub whole-full : v .ones ≡ 0 → not (eqb (v .runs) 0) ≡ true → Tallied x (2 ^ 64) (v .runs) (inorder t)
-  whole-full z test =
-      let ne : v .runs ≡ 0 → ⊥ = eqb-false (v .runs) 0 (not-true (eqb (v .runs) 0) test) in
-      whole (2 ^ 64) (omega (arith, held, wrapped, held-some size 0 (inorder t) (i .canonical) (omega (arith, told))))
+  -- a count of 0 with a start is 2^64
+  pub before-full : r .ones ≡ 0 → (r .starts ≡ 0 → ⊥) → Tallied x (2 ^ 64) (r .starts) ts
+  before-full z ne =
+      before (2 ^ 64) (omega (arith, before-ones, before-starts, starts-held size 0 x ts c, count-onesBelow size 0 ts x c, count-both (mem ts) 0 x))
 
-  -- another sum is not wrapped
-  pub whole-some : (v .ones ≡ 0 → ⊥) → Tallied x (0 + v .ones) (v .runs) (inorder t)
-  whole-some ne = whole (0 + v .ones) (omega (arith, held, wrapped))
+  -- another is not wrapped
+  pub before-some : (r .ones ≡ 0 → ⊥) → Tallied x (0 + r .ones) (r .starts) ts
+  before-some ne = before (0 + r .ones) (omega (arith, before-ones, count-both (mem ts) 0 x))
 
-  -- a sum of 0 without one is none
-  pub whole-none : v .ones ≡ 0 → not (eqb (v .runs) 0) ≡ false → Tallied x (0 + v .ones) (v .runs) (inorder t)
-  whole-none z test =
-      let no : v .runs ≡ 0 = eqb-true (v .runs) 0 (not-false (eqb (v .runs) 0) test) in
-      whole (0 + v .ones) (omega (arith, held-none (inorder t) (omega (arith, told))))
+  -- a count of 0 without a start is none
+  pub before-empty : r .ones ≡ 0 → r .starts ≡ 0 → Tallied x (0 + r .ones) (r .starts) ts
+  before-empty z n =
+      before (0 + r .ones) (omega (arith, count-onesBelow size 0 ts x c, starts-none x ts (omega (arith, before-starts))))
 
 -- ---- the k-th held position: the one that is left-th in the rest
 pub record Picking (k left : ℕ) (ts us : List Run) : Type 0 where

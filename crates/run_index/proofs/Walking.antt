@@ -1,7 +1,7 @@
 -- A search walks down the tree from its root: at each link there is a part of the tree, whose runs are canonical, and it is to the whole
 -- as the search's invariant R says. What the code reads at a node is told here once for all searches. Assumes nothing.
-use Prim.Native.Nat.{ℕ, _+_, _-_, _≤_, _<_, _%_, _^_}
-use mathlib.Core.Path.{_≡_, refl, ap, ap₂, _∙_, subst}
+use Prim.Native.Nat.{ℕ, _+_, _-_, _≤_, _<_, _^_}
+use mathlib.Core.Path.{_≡_, ap, _∙_, subst}
 use mathlib.Core.List.{List, [], _∷_, _++_}
 use native.Mathlib.Omega.{arith}
 use lib.ListN.{length}
@@ -12,7 +12,7 @@ use Rattle.model.specs.RunList.{Canon, canon-weaken, canon-wider, widths}
 use Rattle.model.specs.Search.{EndBelow, StartFrom, canon-ends, canon-starts, canon-split, widths-room}
 use Rattle.run_index.specs.declared.Node.{Node}
 use Rattle.run_index.specs.Cells.{cellAt, Room}
-use Rattle.run_index.specs.Tree.{Tree, leaf, node, runs, inorder, Rep, At, Held}
+use Rattle.run_index.specs.Tree.{Tree, runs, inorder, At, Held}
 use Rattle.run_index.specs.Promises.{TellsSums}
 use Rattle.run_index.specs.Search.{Index}
 use Rattle.run_index.proofs.Trees.{at-none}
@@ -94,13 +94,21 @@ module _ {w : List ℕ} {g : ℕ} {v : Node} {R : List Run → List Run → Type
   pub spot-below : v .«end» < size
   spot-below = run-below 0 (v .start) (v .«end») (inorder (s .l)) (inorder (s .r)) (s .canonical)
 
-  -- what is to its left ends below it
-  pub spot-ends : EndBelow (v .start) (inorder (s .l))
-  spot-ends = canon-ends (v .start) 0 (inorder (s .l)) (left-below 0 (v .start) (v .«end») (inorder (s .l)) (inorder (s .r)) (s .canonical))
+  -- what is to its left is canonical and ends below it
+  pub spot-left : Canon (v .start) 0 (inorder (s .l))
+  spot-left = left-below 0 (v .start) (v .«end») (inorder (s .l)) (inorder (s .r)) (s .canonical)
 
-  -- it and what is to its right start at its start or above
+  -- that is, each run ends there
+  pub spot-ends : EndBelow (v .start) (inorder (s .l))
+  spot-ends = canon-ends (v .start) 0 (inorder (s .l)) spot-left
+
+  -- it and what is to its right are canonical from its start on
+  pub spot-from : Canon size (v .start) (here v ∷ inorder (s .r))
+  spot-from = from-here 0 (v .start) (v .«end») (inorder (s .l)) (inorder (s .r)) (s .canonical)
+
+  -- that is, each run starts there or above
   pub spot-starts : StartFrom (v .start) (here v ∷ inorder (s .r))
-  spot-starts = canon-starts size (v .start) (here v ∷ inorder (s .r)) (from-here 0 (v .start) (v .«end») (inorder (s .l)) (inorder (s .r)) (s .canonical))
+  spot-starts = canon-starts size (v .start) (here v ∷ inorder (s .r)) spot-from
 
 -- the sums of the left side are not wrapped, as all of it is below the node's run
 pub exact : {w : List ℕ} {g : ℕ} {v lv : Node} {R : List Run → List Run → Type 0} {ts : List Run} (s : Spot w g v R ts)

@@ -1,5 +1,5 @@
 -- What the searches of the index ask, and what they tell of the runs in order. Assumes nothing: these are definitions.
-use Prim.Native.Nat.{ℕ, _<_, _^_}
+use Prim.Native.Nat.{ℕ, _+_, _<_, _%_, _^_}
 use mathlib.Core.Path.{_≡_}
 use mathlib.Core.Bool.{Bool, true, false}
 use mathlib.Core.List.{List}
@@ -10,7 +10,7 @@ use Rattle.model.specs.Positions.{count, select, mem}
 use Rattle.model.specs.RunList.{Canon}
 use Rattle.model.specs.Search.{lastUpTo, firstFrom, startsBelow}
 use Rattle.run_index.specs.declared.search.Near.{Near}
-use Rattle.run_index.specs.declared.search.Below.{Below}
+use Rattle.run_index.specs.declared.search.Rank.{Rank}
 use Rattle.run_index.specs.declared.search.Tally.{Tally}
 use Rattle.run_index.specs.Tree.{Tree, runs, inorder, At}
 
@@ -38,8 +38,14 @@ pub record Tallied (x ones starts : ℕ) (rs : List Run) : Type 0 where
   pub ones-are : ones ≡ count (mem rs) true 0 x
   pub starts-are : starts ≡ startsBelow x rs
 
-abbrev pub TellsBelow : List ℕ → ℕ → ℕ → Below → Type 0
-TellsBelow w p x r = (g : ℕ) (t : Tree) → Index w p g t → Tallied x (r .ones) (r .starts) (inorder t)
+-- the held positions up to y, modulo 2^64, the runs that start there, and whether y is held
+pub record Ranked (y : ℕ) (r : Rank) (rs : List Run) : Type 0 where
+  pub ones-are : r .ones ≡ count (mem rs) true 0 (y + 1) % 2 ^ 64
+  pub starts-are : r .starts ≡ startsBelow (y + 1) rs
+  pub held-is : r .held ≡ mem rs y
+
+abbrev pub TellsRank : List ℕ → ℕ → ℕ → Rank → Type 0
+TellsRank w p y r = (g : ℕ) (t : Tree) → Index w p g t → Ranked y r (inorder t)
 
 abbrev pub TellsPrefix : List ℕ → ℕ → ℕ → Tally → Type 0
 TellsPrefix w p x r = (g : ℕ) (t : Tree) → Index w p g t → Tallied x (worth (r .ones)) (r .starts) (inorder t)

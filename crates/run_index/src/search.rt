@@ -1,6 +1,6 @@
 // What is asked of the tree: the runs next to a position, how much lies before one, and the k-th position of a value.
 // Each walks down from the root once.
-ghost use Rattle.run_index.specs.Search.{Indexed, TellsBefore, TellsAfter, TellsBelow, TellsPrefix, Selectable, TellsSelected};
+ghost use Rattle.run_index.specs.Search.{Indexed, TellsBefore, TellsAfter, TellsRank, TellsPrefix, Selectable, TellsSelected};
 ghost use mathlib.Core.Bool.{true, false};
 ghost use Prim.Native.Nat.{_≤_, _^_};
 ghost use Rattle.model.specs.Numbers.{worth};
@@ -73,41 +73,44 @@ pub fn at_or_after(s: &[u64], p: u64, x: u64) -> Near
     }
 }
 
-// The held positions and the starts of runs below x.
-pub struct Below {
+// What lies at or before a position: the held positions, modulo 2^64, and the starts of runs; and whether the position is held.
+pub struct Rank {
     pub ones: u64,
     pub starts: u64,
+    pub held: bool,
 }
 
-// They are fewer than 2^64, as x is.
-fn tally_below(s: &[u64], p: u64, x: u64) -> Below
+// Only a full set has 2^64 held positions, of which the wrapped sum keeps 0.
+pub fn rank_at(s: &[u64], p: u64, y: u64) -> Rank
     requires { ⌜ Indexed (now s) p ⌝ }
-    ensures { λ r. ⌜ TellsBelow (now (s .entry)) p x r ⌝ }
+    ensures { λ r. ⌜ TellsRank (now (s .entry)) p y r ⌝ }
 {
     let mut q = p;
     let mut ones: u64 = 0;
     let mut starts: u64 = 0;
     while q != 0 {
         let v = crate::read_node(s, q);
-        if x <= v.start {
+        if y < v.start {
             q = v.left;
         } else {
             let l = crate::sums(s, v.left);
             ones = ones + l.ones;
             starts = starts + l.runs + 1;
-            if x <= v.end {
-                return Below {
-                    ones: ones + (x - v.start),
+            if y <= v.end {
+                return Rank {
+                    ones: std::num::wrapping_add_u64(ones + (y - v.start), 1),
                     starts: starts,
+                    held: true,
                 };
             }
             ones = ones + (v.end - v.start) + 1;
             q = v.right;
         }
     }
-    Below {
+    Rank {
         ones: ones,
         starts: starts,
+        held: false,
     }
 }
 
@@ -122,31 +125,26 @@ pub fn prefix(s: &[u64], p: u64, end: Count) -> Tally
     requires { ⌜ worth «end» ≤ 2 ^ 64 ⌝ }
     ensures { λ r. ⌜ TellsPrefix (now (s .entry)) p (worth «end») r ⌝ }
 {
-    let c = end.carry;
-    if c == 0 {
-        let b = tally_below(s, p, end.low);
+    let low = end.low;
+    if end.carry == 0 && low == 0 {
         return Tally {
-            ones: Count {
-                carry: 0,
-                low: b.ones,
-            },
-            starts: b.starts,
+            ones: Count { carry: 0, low: 0 },
+            starts: 0,
         };
     }
-    // A full set has 2^64 positions, of which the wrapped sum keeps 0.
-    let v = crate::sums(s, p);
-    if v.ones == 0 && v.runs != 0 {
+    let b = rank_at(s, p, std::num::wrapping_sub_u64(low, 1));
+    if b.ones == 0 && b.starts != 0 {
         return Tally {
             ones: Count { carry: 1, low: 0 },
-            starts: v.runs,
+            starts: b.starts,
         };
     }
     Tally {
         ones: Count {
             carry: 0,
-            low: v.ones,
+            low: b.ones,
         },
-        starts: v.runs,
+        starts: b.starts,
     }
 }
 
