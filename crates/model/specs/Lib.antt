@@ -13,5 +13,6 @@ pub mod Edit
 pub mod Ops
 pub mod Codec
 pub mod MapLaws
+pub mod After
 pub mod Calc
 pub mod Cases

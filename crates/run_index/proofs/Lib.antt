@@ -16,3 +16,4 @@ pub mod Totals
 pub mod Bound
 pub mod Walking
 pub mod Searching
+pub mod Planting

@@ -279,10 +279,6 @@ next-is carry (suc n) y le h e lt = next y n e lt ∙ low carry n le
     low carry n le = omega arith
 
 module _ (x y : ℕ) (e : y + 1 ≡ x) (le : x ≤ 2 ^ 64) {r : Rank} {ts : List Run} (c : Canon size 0 ts) (k : Ranked y r ts) where
-  -- x for y + 1
-  before : (o : ℕ) → o ≡ count (mem ts) true 0 x → Tallied x o (r .starts) ts
-  before o f = record { ones-are = f; starts-are = k .starts-are ∙ ap (λ z. startsBelow z ts) e }
-
   -- the count, wrapped
   before-ones : r .ones ≡ count (mem ts) true 0 x % 2 ^ 64
   before-ones = k .ones-are ∙ ap (λ z. count (mem ts) true 0 z % 2 ^ 64) e
@@ -290,6 +286,10 @@ module _ (x y : ℕ) (e : y + 1 ≡ x) (le : x ≤ 2 ^ 64) {r : Rank} {ts : List
   -- the starts
   before-starts : r .starts ≡ startsBelow x ts
   before-starts = k .starts-are ∙ ap (λ z. startsBelow z ts) e
+
+  -- with them the tally, if the count is told
+  before : (o : ℕ) → o ≡ count (mem ts) true 0 x → Tallied x o (r .starts) ts
+  before o f = record { ones-are = f; starts-are = before-starts }
 
   -- a count of 0 with a start is 2^64
   pub before-full : r .ones ≡ 0 → (r .starts ≡ 0 → ⊥) → Tallied x (2 ^ 64) (r .starts) ts

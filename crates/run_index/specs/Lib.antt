@@ -4,3 +4,4 @@ pub mod Shape
 pub mod Promises
 pub mod Order
 pub mod Search
+pub mod Trial

@@ -9,6 +9,7 @@ ghost use Rattle.run_index.specs.Promises.{Pullable, Pulls, Joinable, Jo
 ghost use Rattle.run_index.specs.Shape.{rotateLeft, rotateRight, leanLeft, leanRight, rebalanced};
 
 pub mod search;
+pub mod trial;
 
 pub struct Node {
     pub start: u64,
