@@ -8,7 +8,7 @@ use Rattle.model.specs.Numbers.{size}
 use Rattle.model.specs.Positions.{run, empty}
 use Rattle.model.specs.RunList.{Canon}
 use Rattle.run_index.specs.Tree.{Tree, inorder}
-use Rattle.run_index.specs.Order.{insertRun, removeRun, Starts}
+use Rattle.run_index.specs.Order.{insertRun, removeRun, replaceRun, Starts}
 use Rattle.store.specs.declared.Header.{Header}
 use Rattle.store.specs.Layout.{headerAt, heldBy}
 use Rattle.store.specs.Soundness.{Kept, Sound}
@@ -60,3 +60,16 @@ Removable w a = (t : Tree) × (ns : List ℕ) × HasRun w a t ns
 
 abbrev pub RemovesRun : List ℕ → List ℕ → ℕ → Type 0
 RemovesRun w w′ a = (t : Tree) (ns : List ℕ) → HasRun w a t ns → Becomes w w′ (removeRun a (inorder t)) (suc (length ns))
+
+-- a run starts at k, and the runs with a .. b in its place are canonical
+pub record Alterable (w : List ℕ) (k a b : ℕ) (t : Tree) (ns : List ℕ) : Type 0 where
+  pub kept : Kept w t ns
+  pub starts : Starts k (inorder t)
+  pub fits : Canon size 0 (replaceRun k (run a b) (inorder t))
+  pub ordered : a ≤ b
+
+abbrev pub Changeable : List ℕ → ℕ → ℕ → ℕ → Type 0
+Changeable w k a b = (t : Tree) × (ns : List ℕ) × Alterable w k a b t ns
+
+abbrev pub Changes : List ℕ → List ℕ → ℕ → ℕ → ℕ → Type 0
+Changes w w′ k a b = (t : Tree) (ns : List ℕ) → Alterable w k a b t ns → Becomes w w′ (replaceRun k (run a b) (inorder t)) (length ns)

@@ -2,7 +2,7 @@
 ghost use mathlib.Core.Path.{_≡_};
 ghost use Prim.Native.Nat.{_≤_};
 ghost use Rattle.store.specs.Layout.{capacity};
-ghost use Rattle.store.specs.Free.{Emptied, Addable, Adds, Removable, RemovesRun};
+ghost use Rattle.store.specs.Free.{Emptied, Addable, Adds, Removable, RemovesRun, Changeable, Changes};
 use crate::Header;
 use run_index::Node;
 
@@ -103,4 +103,13 @@ pub fn remove_run(words: &mut [u64], start: u64)
             spare: h.spare,
         },
     );
+}
+
+// Makes start..=end of the run that starts at k. Nothing of the header changes.
+pub fn resize_run(words: &mut [u64], k: u64, start: u64, end: u64)
+    requires { ⌜ Changeable (now words) k start «end» ⌝ }
+    ensures { λ _. ⌜ Changes (now (words .entry)) (now (words .exit)) k start «end» ⌝ }
+{
+    let h = crate::read_header(words);
+    run_index::resize(words, h.root, k, start, end, 0);
 }
