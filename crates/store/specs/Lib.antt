@@ -2,3 +2,4 @@ pub mod Layout
 pub mod Soundness
 pub mod Bounds
 pub mod Free
+pub mod Change

@@ -5,6 +5,7 @@ ghost use Rattle.run_index.specs.Cells.{Room};
 ghost use Rattle.store.specs.Layout.{headerAt, Headed};
 use run_index::Node;
 
+pub mod change;
 pub mod free;
 
 // The header's words, in order.
