@@ -10,3 +10,5 @@ pub mod Nearby
 pub mod Counting
 pub mod Joins
 pub mod Parted
+pub mod Change
+pub mod Settle
