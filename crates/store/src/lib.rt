@@ -6,11 +6,7 @@ ghost use Rattle.store.specs.Layout.{headerAt, Headed};
 use run_index::Node;
 
 pub mod bounds;
-pub mod change;
 pub mod free;
-pub mod logical;
-pub mod physical;
-pub mod runs;
 pub mod settle;
 
 // The header's words, in order.
