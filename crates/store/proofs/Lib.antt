@@ -3,3 +3,5 @@ pub mod Nodes
 pub mod Freeing
 pub mod Altering
 pub mod Emptying
+pub mod Opening
+pub mod Settling
