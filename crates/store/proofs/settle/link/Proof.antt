@@ -1,36 +1,31 @@
+-- `link` meets its contract: the nodes after n are freed first, those up to n keep their runs and become one tree, the header tells both,
+-- and is then brought into agreement. Assumes nothing.
 use borrow.Author.Needs.{needs}
+use native.Mathlib.Omega.{arith}
+use Rattle.store.proofs.Nodes.{sized-length}
+use Rattle.store.proofs.Settling.{link-given, link-ready, link-links}
 use Rattle.store.proofs.settle.link.Statement.{statement}
 use Rattle.store.proofs.settle.link.Tie as tie
-use Rattle.store.proofs.settle.link.Reads as reads
-use Rattle.store.proofs.settle.link.Lts as lts
-use Rattle.run_index.proofs.build.Reads as build-reads
-use Rattle.store.proofs.free.chain_after.Reads as chain-after-reads
-use Rattle.store.proofs.settle.refresh.Reads as refresh-reads
-use Rattle.store.proofs.write_header.Reads as write-header-reads
 
--- src/settle.rt:52:9
 chain-after-requires : tie.Need-chain-after-requires
 chain-after-requires c κs = search needs
 
--- src/settle.rt:53:9
 build-requires : tie.Need-build-requires
-build-requires c κs = ?
+build-requires c κs = link-given _ _ _ _ (c .before .before .before .before .before .before .pre) (c .before .before .before .chain-after .ensures)
 
--- src/settle.rt:54:5
 write-header-requires : tie.Need-write-header-requires
-write-header-requires c κs = ?
+write-header-requires c κs =
+    omega (arith, sized-length (c .before .before .before .before .before .before .before .before .before .before .args .words .now) (c .before .before .before .before .before .before .before .before .before .before .pre .sized), c .before .before .before .before .before .before .before .chain-after .ensures .long, c .before .before .before .build .ensures .long)
 
--- src/settle.rt:67:5
 refresh-requires : tie.Need-refresh-requires
-refresh-requires c κs = ?
+refresh-requires c κs = (_, _, link-ready _ _ _ _ (c .before .before .before .before .before .before .before .before .before .before .before .before .before .before .pre) (c .before .before .before .before .before .before .before .before .before .before .before .chain-after .ensures) _ _ (c .before .before .before .before .before .before .before .build .ensures) _ (c .before .before .before .write-header .ensures))
 
--- src/settle.rt:48:1
 same-length : tie.Need-same-length
 same-length c = search needs
 
--- src/settle.rt:48:1
 returns : tie.Need-returns
-returns c = ?
+returns c =
+    link-links _ _ _ _ (c .before .before .before .before .before .before .before .before .before .before .before .before .before .before .before .before .before .pre) (c .before .before .before .before .before .before .before .before .before .before .before .before .before .before .chain-after .ensures) _ _ (c .before .before .before .before .before .before .before .before .before .before .build .ensures) _ (c .before .before .before .before .before .before .write-header .ensures) _ (c .before .before .refresh .ensures)
 
 pub link-spec : {M : Type 1} → statement M
 link-spec =
