@@ -3,10 +3,8 @@
 use Prim.Native.Nat.{ℕ, zero, suc, _+_, _-_, _≤_, _<_}
 use mathlib.Core.Path.{_≡_, refl, sym, ap, _∙_, subst}
 use mathlib.Core.Logic.{_⊎_, inl, inr}
-use mathlib.Core.Bool.{false}
-use mathlib.Core.List.{List, [], _∷_}
+use mathlib.Core.List.{List, []}
 use native.Mathlib.Omega.{arith}
-use lib.ListN.{length}
 use Rattle.model.specs.declared.Run.{Run}
 use Rattle.model.specs.Numbers.{size, split, capacityOf}
 use Rattle.model.specs.Positions.{Positions, mem, heldRuns, stretches}
@@ -29,7 +27,7 @@ use Rattle.store.specs.Free.{after, Chained}
 use Rattle.store.specs.Turn.{turned-at, turned-zero, stretches-zero}
 use Rattle.store.specs.Ends.{empty-mem, turned-none}
 use Rattle.store.specs.Settle.{Settled, Ready, Refreshes, Linkable, Links}
-use Rattle.store.proofs.Nodes.{chain-kept, sized-length, few-runs, header-room, Laid, laid-kept}
+use Rattle.store.proofs.Nodes.{chain-kept, sized-length, few-runs, Laid, laid-kept}
 use Rattle.store.proofs.Emptying.{after-none, after-one, emptyHeader}
 use Rattle.store.proofs.Opening.{kept-physical}
 
@@ -48,8 +46,8 @@ pub record Agrees (h : Header) (t : Tree) (c : ℕ) : Type 0 where
   pub empty-offset : h .root ≡ 0 → h .offset ≡ 0
   pub fits : stretches (turned (h .offset) (mem (inorder t))) ≤ c
 
--- with such a header the store is sound, and holds the tree's positions, turned
-agreed : (w : List ℕ) (t : Tree) (ns : List ℕ) → Kept w t ns → Agrees (headerAt w) t (capacity w) → Sound w
+-- with such a header the store is sound
+pub agreed : (w : List ℕ) (t : Tree) (ns : List ℕ) → Kept w t ns → Agrees (headerAt w) t (capacity w) → Sound w
 agreed w t ns k a =
     let e : heldBy w ≡ turned ((headerAt w) .offset) (mem (inorder t)) = kept-held w t ns k in
     record {
@@ -186,6 +184,10 @@ runs-kept : (w w′ : List ℕ) (i k : ℕ) → ((m : ℕ) → m ≤ i + k → c
 runs-kept w w′ i zero same = refl
 runs-kept w w′ i (suc k) same = rw (same (i + 1) (omega arith), runs-kept w w′ (i + 1) k (λ m le. same m (omega arith)))
 
+-- a header that tells of root and free head alone
+abbrev bareHeader : ℕ → ℕ → Header
+bareHeader p f = record { root = p; free = f; offset = 0; ones = 0; runs = 0; first = 0; last = 0; spare = 0 }
+
 module _ (w w₁ : List ℕ) (n f : ℕ) (l : Linkable w n) (ch : Chained w w₁ n f) where
   -- the nodes 1 .. n may be made one tree
   pub link-given : Given w₁ 0 n
@@ -217,12 +219,8 @@ module _ (w w₁ : List ℕ) (n f : ℕ) (l : Linkable w n) (ch : Chained w w₁
       go (inl p) (inr q) = omega (arith, built-inside w₁ m 0 n p (omega arith))
 
   module _ (w₂ : List ℕ) (p : ℕ) (bu : Builds w₁ w₂ p 0 n 0) where
-    -- the header to be written
-    abbrev linkedHeader : Header
-    linkedHeader = record { root = p; free = f; offset = 0; ones = 0; runs = 0; first = 0; last = 0; spare = 0 }
-
     -- the tree and the chain lie as it tells
-    link-laid : Laid w₂ linkedHeader (built n w₁ 0 n) (after n (capacity w + 2 - n))
+    link-laid : Laid w₂ (bareHeader p f) (built n w₁ 0 n) (after n (capacity w + 2 - n))
     link-laid =
         let cap : capacity w₂ ≡ capacity w = ap capacityOf (bu .long ∙ ch .long) in
         record {
@@ -240,7 +238,7 @@ module _ (w w₁ : List ℕ) (n f : ℕ) (l : Linkable w n) (ch : Chained w w₁
         far m i (inl q) = omega arith
         far m i (inr q) = absurd (omega (arith, after-none n (capacity w + 2 - n) m q))
 
-    module _ (w₃ : List ℕ) (hd : Headed w₂ w₃ linkedHeader) where
+    module _ (w₃ : List ℕ) (hd : Headed w₂ w₃ (bareHeader p f)) where
       -- the offset is 0
       link-offset : (headerAt w₃) .offset ≡ 0
       link-offset = ap (λ (x : Header). x .offset) (hd .here)
@@ -256,7 +254,7 @@ module _ (w w₁ : List ℕ) (n f : ℕ) (l : Linkable w n) (ch : Chained w w₁
       -- the header may be refreshed
       pub link-ready : Ready w₃ (built n w₁ 0 n) (after n (capacity w + 2 - n))
       link-ready = record {
-        kept = laid-kept w₂ w₃ linkedHeader (built n w₁ 0 n) (after n (capacity w + 2 - n)) link-laid hd;
+        kept = laid-kept w₂ w₃ (bareHeader p f) (built n w₁ 0 n) (after n (capacity w + 2 - n)) link-laid hd;
         fits = omega (arith, link-stretches, l .few, ap capacityOf (hd .long ∙ bu .long ∙ ch .long));
       }
 
