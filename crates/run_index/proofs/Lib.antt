@@ -5,6 +5,8 @@ pub mod Counts
 pub mod Turning
 pub mod Inserting
 pub mod Removing
+pub mod Resized
+pub mod Resizing
 pub mod Built
 pub mod Building
 pub mod Mirror

@@ -5,7 +5,7 @@ ghost use mathlib.Core.Path.{_≡_};
 ghost use Prim.Native.Nat.{ℕ, _+_, _*_, _<_, _≤_, _^_, _%_, max};
 ghost use Rattle.run_index.specs.Cells.{cellAt, Room, Wrote};
 ghost use Rattle.run_index.specs.Tree.{Tree, Sums, Held, width};
-ghost use Rattle.run_index.specs.Promises.{Pullable, Pulls, Joinable, Joins, Leanable, Leans, Insertable, Inserts, Ours, Pops, Removes, Given, Builds, TellsSums};
+ghost use Rattle.run_index.specs.Promises.{Pullable, Pulls, Joinable, Joins, Leanable, Leans, Insertable, Inserts, Ours, Pops, Removes, Resizable, Resizes, Given, Builds, TellsSums};
 ghost use Rattle.run_index.specs.Shape.{rotateLeft, rotateRight, leanLeft, leanRight, rebalanced};
 
 pub mod search;
@@ -283,6 +283,28 @@ pub fn remove(s: &mut [u64], p: u64, start: u64, tag: u64) -> Removed
     let x = pop_first(s, v.right, tag);
     let r = rebalance(s, x.node, x.start, x.end, v.left, x.rest, tag);
     Removed { root: r, freed: p }
+}
+
+// Makes start..=end of the run that starts at k in the tree at p, if there is one. No link and no height changes.
+pub fn resize(s: &mut [u64], p: u64, k: u64, start: u64, end: u64, tag: u64)
+    requires { ⌜ Resizable (now s) p start «end» tag ⌝ }
+    ensures { λ _. ⌜ Resizes (now (s .entry)) (now (s .exit)) p k start «end» tag ⌝ }
+{
+    if p == 0 {
+        return;
+    }
+    let v = read_node(s, p);
+    if k < v.start {
+        resize(s, v.left, k, start, end, tag);
+        pull(s, p, v.start, v.end, v.left, v.right, tag);
+        return;
+    }
+    if v.start < k {
+        resize(s, v.right, k, start, end, tag);
+        pull(s, p, v.start, v.end, v.left, v.right, tag);
+        return;
+    }
+    pull(s, p, start, end, v.left, v.right, tag);
 }
 
 // Links the nodes i + 1 .. i + k, which hold their runs in order, to one tree: the middle run is the root, each half the same way.

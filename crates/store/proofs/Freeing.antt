@@ -70,7 +70,7 @@ moved-rest w w′ h p f eh e = record {
 }
 
 -- the runs of a store rise
-kept-rising : (w : List ℕ) (t : Tree) (ns : List ℕ) → Kept w t ns → Rising 0 (inorder t)
+pub kept-rising : (w : List ℕ) (t : Tree) (ns : List ℕ) → Kept w t ns → Rising 0 (inorder t)
 kept-rising w t ns k = canon-rising size 0 0 (inorder t) (omega arith) (k .ordered)
 
 -- ---- adding

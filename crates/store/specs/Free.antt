@@ -1,17 +1,29 @@
 -- What making a store, and adding and removing a run, ask and promise. Assumes nothing: these are definitions.
-use Prim.Native.Nat.{ℕ, suc, _-_, _≤_, _<_}
+use Prim.Native.Nat.{ℕ, zero, suc, _+_, _-_, _≤_, _<_}
 use mathlib.Core.Path.{_≡_}
-use mathlib.Core.List.{List}
+use mathlib.Core.List.{List, [], _∷_}
 use lib.ListN.{length}
 use Rattle.model.specs.declared.Run.{Run}
 use Rattle.model.specs.Numbers.{size}
 use Rattle.model.specs.Positions.{run, empty}
 use Rattle.model.specs.RunList.{Canon}
+use Rattle.run_index.specs.Cells.{cellAt}
 use Rattle.run_index.specs.Tree.{Tree, inorder}
-use Rattle.run_index.specs.Order.{insertRun, removeRun, Starts}
+use Rattle.run_index.specs.Order.{insertRun, removeRun, replaceRun, Starts}
 use Rattle.store.specs.declared.Header.{Header}
-use Rattle.store.specs.Layout.{headerAt, heldBy}
-use Rattle.store.specs.Soundness.{Kept, Sound}
+use Rattle.store.specs.Layout.{headerAt, capacity, heldBy}
+use Rattle.store.specs.Soundness.{Chain, Kept, Sound}
+
+-- the numbers n + 1 .. n + k
+abbrev pub after : ℕ → ℕ → List ℕ
+after n zero = []
+after n (suc k) = suc n ∷ after (suc n) k
+
+-- the nodes after n are the free chain from r, and the others and the header are as they were
+pub record Chained (w w′ : List ℕ) (n r : ℕ) : Type 0 where
+  pub chain : Chain w′ r (after n (capacity w + 2 - n))
+  pub kept : (m : ℕ) → m ≤ n → cellAt w′ m ≡ cellAt w m
+  pub long : length w′ ≡ length w
 
 -- w′ is a sound store that holds nothing
 pub record Emptied (w w′ : List ℕ) : Type 0 where
@@ -60,3 +72,16 @@ Removable w a = (t : Tree) × (ns : List ℕ) × HasRun w a t ns
 
 abbrev pub RemovesRun : List ℕ → List ℕ → ℕ → Type 0
 RemovesRun w w′ a = (t : Tree) (ns : List ℕ) → HasRun w a t ns → Becomes w w′ (removeRun a (inorder t)) (suc (length ns))
+
+-- a run starts at k, and the runs with a .. b in its place are canonical
+pub record Alterable (w : List ℕ) (k a b : ℕ) (t : Tree) (ns : List ℕ) : Type 0 where
+  pub kept : Kept w t ns
+  pub starts : Starts k (inorder t)
+  pub fits : Canon size 0 (replaceRun k (run a b) (inorder t))
+  pub ordered : a ≤ b
+
+abbrev pub Changeable : List ℕ → ℕ → ℕ → ℕ → Type 0
+Changeable w k a b = (t : Tree) × (ns : List ℕ) × Alterable w k a b t ns
+
+abbrev pub Changes : List ℕ → List ℕ → ℕ → ℕ → ℕ → Type 0
+Changes w w′ k a b = (t : Tree) (ns : List ℕ) → Alterable w k a b t ns → Becomes w w′ (replaceRun k (run a b) (inorder t)) (length ns)

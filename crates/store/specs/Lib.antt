@@ -2,13 +2,14 @@ pub mod Layout
 pub mod Soundness
 pub mod Bounds
 pub mod Free
-pub mod Reports
 pub mod Moved
 pub mod Turn
 pub mod Ends
 pub mod Nearby
 pub mod Counting
+pub mod Reports
 pub mod Joins
 pub mod Parted
 pub mod Ranks
 pub mod Edges
+pub mod Settle

@@ -1,19 +1,20 @@
 // The nodes: which belong to the index and which are free. Making a store empty, and adding and removing a run.
 ghost use mathlib.Core.Path.{_≡_};
-ghost use Prim.Native.Nat.{_≤_};
+ghost use Prim.Native.Nat.{_+_, _≤_};
 ghost use Rattle.store.specs.Layout.{capacity};
-ghost use Rattle.store.specs.Free.{Emptied, Addable, Adds, Removable, RemovesRun};
+ghost use Rattle.store.specs.Free.{Chained, Emptied, Addable, Adds, Removable, RemovesRun, Changeable, Changes};
 use crate::Header;
 use run_index::Node;
 
-// Makes the words an empty store, whatever they were: the free chain goes through the nodes 1, 2 and so on to the last.
-pub fn make(words: &mut [u64])
+// Makes the free chain of the nodes after n, in order, and tells its head (0: there is none).
+pub fn chain_after(words: &mut [u64], n: u64) -> u64
     requires { ⌜ 1 ≤ capacity (now words) ⌝ }
-    ensures { λ _. ⌜ Emptied (now (words .entry)) (now (words .exit)) ⌝ }
+    requires { ⌜ n ≤ capacity (now words) + 2 ⌝ }
+    ensures { λ r. ⌜ Chained (now (words .entry)) (now (words .exit)) n r ⌝ }
 {
     let mut left = (words.len() / 8 - 1) as u64;
     let mut next: u64 = 0;
-    while left != 0 {
+    while left != n {
         run_index::write_node(
             words,
             left,
@@ -31,11 +32,20 @@ pub fn make(words: &mut [u64])
         next = left;
         left -= 1;
     }
+    next
+}
+
+// Makes the words an empty store, whatever they were.
+pub fn make(words: &mut [u64])
+    requires { ⌜ 1 ≤ capacity (now words) ⌝ }
+    ensures { λ _. ⌜ Emptied (now (words .entry)) (now (words .exit)) ⌝ }
+{
+    let free = chain_after(words, 0);
     crate::write_header(
         words,
         Header {
             root: 0,
-            free: 1,
+            free: free,
             offset: 0,
             ones: 0,
             runs: 0,
@@ -103,4 +113,13 @@ pub fn remove_run(words: &mut [u64], start: u64)
             spare: h.spare,
         },
     );
+}
+
+// Makes start..=end of the run that starts at k. Nothing of the header changes.
+pub fn resize_run(words: &mut [u64], k: u64, start: u64, end: u64)
+    requires { ⌜ Changeable (now words) k start «end» ⌝ }
+    ensures { λ _. ⌜ Changes (now (words .entry)) (now (words .exit)) k start «end» ⌝ }
+{
+    let h = crate::read_header(words);
+    run_index::resize(words, h.root, k, start, end, 0);
 }

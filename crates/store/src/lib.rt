@@ -7,9 +7,8 @@ use run_index::Node;
 
 pub mod bounds;
 pub mod free;
-pub mod logical;
 pub mod physical;
-pub mod runs;
+pub mod settle;
 
 // The header's words, in order.
 pub struct Header {

@@ -1,0 +1,68 @@
+// Bringing the header into agreement with the tree, and making a store of nodes that hold their runs.
+ghost use mathlib.Core.Path.{_≡_};
+ghost use Rattle.store.specs.Settle.{Refreshable, Refreshes, Linkable, Links};
+use crate::Header;
+
+// Sets the header's sums and its first and last position from the tree. An empty store gets offset 0.
+pub fn refresh(words: &mut [u64])
+    requires { ⌜ Refreshable (now words) ⌝ }
+    ensures { λ _. ⌜ Refreshes (now (words .entry)) (now (words .exit)) ⌝ }
+{
+    let h = crate::read_header(words);
+    let root = h.root;
+    if root == 0 {
+        crate::write_header(
+            words,
+            Header {
+                root: 0,
+                free: h.free,
+                offset: 0,
+                ones: 0,
+                runs: 0,
+                first: 0,
+                last: 0,
+                spare: 0,
+            },
+        );
+        return;
+    }
+    let v = run_index::read_node(words, root);
+    let first = crate::bounds::first_held(words, root, h.offset);
+    let last = crate::bounds::last_held(words, root, h.offset);
+    crate::write_header(
+        words,
+        Header {
+            root: root,
+            free: h.free,
+            offset: h.offset,
+            ones: v.ones,
+            runs: v.runs,
+            first: first.0,
+            last: last.0,
+            spare: 0,
+        },
+    );
+}
+
+// Makes a store of the runs that the nodes 1 to n hold, in order: the other nodes are free, the offset is 0.
+pub fn link(words: &mut [u64], n: u64)
+    requires { ⌜ Linkable (now words) n ⌝ }
+    ensures { λ _. ⌜ Links (now (words .entry)) (now (words .exit)) n ⌝ }
+{
+    let free = crate::free::chain_after(words, n);
+    let root = run_index::build(words, 0, n, 0);
+    crate::write_header(
+        words,
+        Header {
+            root: root,
+            free: free,
+            offset: 0,
+            ones: 0,
+            runs: 0,
+            first: 0,
+            last: 0,
+            spare: 0,
+        },
+    );
+    refresh(words);
+}
