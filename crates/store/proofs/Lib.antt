@@ -1,0 +1,7 @@
+-- What the proofs of several functions use, and what the soundness of a store means.
+pub mod Tests
+pub mod Steps
+pub mod Counting
+pub mod Orders
+pub mod Chains
+pub mod Decided
