@@ -5,3 +5,4 @@ pub mod Counting
 pub mod Orders
 pub mod Chains
 pub mod Decided
+pub mod Whole

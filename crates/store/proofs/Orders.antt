@@ -44,14 +44,18 @@ canon-in total lo (x ∷ xs) a b ys h =
     let c = h .before in
     let o = h .ordered in
     let u = h .under in
-    let e : x .«end» < a - 1 = c .2 in
-    (c .0, c .1, omega arith, canon-in total (x .«end» + 2) xs a b ys (record {
-      before = c .3;
-      above = omega arith;
-      ordered = o;
-      under = u;
-      after = h .after;
-    }))
+    let e : x .«end» < a - 1 = c .2 in (
+      c .0,
+      c .1,
+      omega arith,
+      canon-in total (x .«end» + 2) xs a b ys (record {
+        before = c .3;
+        above = omega arith;
+        ordered = o;
+        under = u;
+        after = h .after;
+      }),
+    )
 
 -- a node of a tree in words
 pub record Node-in (w : List ℕ) (lo total m : ℕ) : Type 0 where

@@ -10,7 +10,7 @@ use lib.ListN.{length}
 use borrow.Author.Tests.{eq-eqb, ne-eqb, eqb-true, not-true, not-false}
 use Rattle.run_index.specs.declared.Node.{Node}
 use Rattle.run_index.specs.Cells.{cellAt, Room}
-use Rattle.store.specs.Decision.{insideB, belowOf, runB, heightsB, sumsB, agreesB, cellB, treeB, freeB, chainB}
+use Rattle.store.specs.Decision.{insideB, belowOf, runB, heightsB, sumsB, agreesB, cellB, treeB, freeB, chainB, Stands, Tells}
 use Rattle.store.proofs.Tests.{never, is-false, both-out, both-in, inside-out, inside-in, below-some, heights-out, run-out}
 
 -- a node by itself: its run, then its height, then its sums
@@ -82,9 +82,12 @@ unfolding treeB
 tree-narrow zero w k lo total h ne = ne-eqb k 0 ne
 tree-narrow (suc d) w zero lo total h ne = absurd (ne refl)
 tree-narrow (suc d) w (suc k) lo total h ne =
-    rw (is-false (cellB w (cellAt w (suc k)) lo total) (λ e.
-    let r = run-out _ _ _ lo total (cell-out w (cellAt w (suc k)) lo total e .run-fits) in
-    omega (arith, r .above, r .ordered, r .under)), and-false (insideB w (suc k)))
+    rw (
+      is-false (cellB w (cellAt w (suc k)) lo total) (λ e.
+          let r = run-out _ _ _ lo total (cell-out w (cellAt w (suc k)) lo total e .run-fits) in
+          omega (arith, r .above, r .ordered, r .under)),
+      and-false (insideB w (suc k)),
+    )
 
 -- the chain
 chain-step : (c : ℕ) (w : List ℕ) (k : ℕ) → 1 ≤ c → chainB c w k ≡ (freeB w k && chainB (c - 1) w ((cellAt w k) .left))
@@ -106,3 +109,109 @@ chain-broken c w k b h e t = sym (chain-step c w k h ∙ rw (← e, not-true b t
 pub chain-more : (c : ℕ) (w : List ℕ) (k : ℕ) (b : Bool) (v : Node) → 1 ≤ c → b ≡ freeB w k → not b ≡ false → v ≡ cellAt w k
     → chainB (c - 1) w (v .left) ≡ chainB c w k
 chain-more c w k b v h e t ev = rw ev (sym (chain-step c w k h ∙ rw (← e, not-false b t)))
+
+-- the parts of what the walk tests at a node
+pub record Passed (d : ℕ) (w : List ℕ) (v : Node) (lo total : ℕ) : Type 0 where
+  pub own : cellB w v lo total ≡ true
+  pub left : treeB (d - 1) w (v .left) lo (v .start - 1) ≡ true
+  pub right : treeB (d - 1) w (v .right) (v .«end» + 2) total ≡ true
+
+-- a link that the walk accepts is inside
+pub inside-linked : (d : ℕ) (w : List ℕ) (k lo total : ℕ) → Room w 0 → treeB d w k lo total ≡ true → insideB w k ≡ true
+inside-linked d w k lo total room e = go (ℕ-discrete k 0) (insideB w k) refl
+  where
+    go : Dec (k ≡ 0) → (b : Bool) → insideB w k ≡ b → insideB w k ≡ true
+    go (yes z) b i = inside-in w k (omega arith)
+    go (no ne) true i = i
+    go (no ne) false i = never (sym (tree-out d w k lo total i ne) ∙ e)
+
+module _ (w : List ℕ) (n lo hi : ℕ) (st : Stands w n) (v : Node) (ev : v ≡ cellAt w n) where
+  -- they all pass where the walk accepts
+  passed : (d : ℕ) → treeB d w n lo (hi + 1) ≡ true → Passed d w v lo (hi + 1)
+  passed d e = go (ℕ-discrete d 0)
+    where
+      go : Dec (d ≡ 0) → Passed d w v lo (hi + 1)
+      go (yes z) = never (sym (tree-flat w n lo (hi + 1) d z (λ (n0 : n ≡ 0). omega (arith, st .some))) ∙ e)
+      go (no ne) =
+          let s = sym (tree-node d w n lo (hi + 1) v ev (st .some) (omega arith)) ∙ e in
+          let p = both-out (insideB w n)
+          (cellB w v lo (hi + 1) && (treeB (d - 1) w (v .left) lo (v .start - 1) && treeB (d - 1) w (v .right) (v .«end» + 2) (hi + 1))) s in
+          let q = both-out (cellB w v lo (hi + 1)) (treeB (d - 1) w (v .left) lo (v .start - 1) && treeB (d - 1) w (v .right) (v .«end» + 2) (hi + 1)) (p .1) in
+          let r = both-out (treeB (d - 1) w (v .left) lo (v .start - 1)) (treeB (d - 1) w (v .right) (v .«end» + 2) (hi + 1)) (q .1) in
+          record { own = q .0; left = r .0; right = r .1 }
+
+  -- there is room for the header
+  first-room : Room w 0
+  first-room = omega (arith, st .room)
+
+  -- a link outside
+  pub left-outside : (b : Bool) → b ≡ insideB w (v .left) → not b ≡ true → Tells w n lo hi false
+  left-outside b eb t d h =
+      sym (is-false _ (λ e. never (sym (sym eb ∙ not-true b t) ∙ inside-linked (d - 1) w (v .left) lo (v .start - 1) first-room (passed d e .left))))
+
+  pub right-outside : (b : Bool) → b ≡ insideB w (v .right) → not b ≡ true → Tells w n lo hi false
+  right-outside b eb t d h =
+      sym (is-false _ (λ e. never (sym (sym eb ∙ not-true b t) ∙ inside-linked (d - 1) w (v .right) (v .«end» + 2) (hi + 1) first-room (passed d e .right))))
+
+  -- a node that fails by itself
+  pub node-fails : (b : Bool) → b ≡ cellB w v lo (hi + 1) → not b ≡ true → Tells w n lo hi false
+  node-fails b eb t d h = sym (is-false _ (λ e. never (sym (sym eb ∙ not-true b t) ∙ passed d e .own)))
+
+  -- no room below the node's start, or above its end
+  pub left-crowded : (v .left ≡ 0 → ⊥) → v .start < 2 → Tells w n lo hi false
+  left-crowded ne lt d h = sym (is-false _ (λ e. never (sym (tree-narrow (d - 1) w (v .left) lo (v .start - 1) (omega arith) ne) ∙ passed d e .left)))
+
+  pub right-crowded : (v .right ≡ 0 → ⊥) → hi < v .«end» + 2 → Tells w n lo hi false
+  right-crowded ne lt d h =
+      sym (is-false _ (λ e. never (sym (tree-narrow (d - 1) w (v .right) (v .«end» + 2) (hi + 1) (omega arith) ne) ∙ passed d e .right)))
+
+  module _ (b : Bool) (eb : b ≡ cellB w v lo (hi + 1)) (tb : not b ≡ false) where
+    own-fits : Fits w v lo (hi + 1)
+    own-fits = cell-out w v lo (hi + 1) (sym eb ∙ not-false b tb)
+
+    -- the heights at the links are less than the node's
+    below-lower : (k : ℕ) (h : ℕ) → (k ≡ 0 → ⊥) → (belowOf w k) .height < h → (cellAt w k) .height < h
+    below-lower k h ne lt = rw (below-some w k ne) lt
+
+    pub left-lower : (v .left ≡ 0 → ⊥) → (cellAt w (v .left)) .height < (cellAt w n) .height
+    left-lower ne =
+        let p = heights-out _ _ _ (own-fits .heights-fit) in
+        let q : v .height ≡ (cellAt w n) .height = ap (λ (u : Node). u .height) ev in
+        below-lower (v .left) ((cellAt w n) .height) ne (omega (arith, p .0))
+
+    pub right-lower : (v .right ≡ 0 → ⊥) → (cellAt w (v .right)) .height < (cellAt w n) .height
+    right-lower ne =
+        let p = heights-out _ _ _ (own-fits .heights-fit) in
+        let q : v .height ≡ (cellAt w n) .height = ap (λ (u : Node). u .height) ev in
+        below-lower (v .right) ((cellAt w n) .height) ne (omega (arith, p .0))
+
+    -- the walk of the left side refuses
+    pub left-fails : (v .left ≡ 0 → ⊥) → 2 ≤ v .start → (x : Bool) → Tells w (v .left) lo (v .start - 2) x → not x ≡ true → Tells w n lo hi false
+    left-fails ne le x ex t d h =
+        let z : v .start - 2 + 1 ≡ v .start - 1 = omega arith in
+        let y = ex (d - 1) (omega (arith, left-lower ne)) in
+        let f : treeB (d - 1) w (v .left) lo (v .start - 1) ≡ false = rw z at (sym y ∙ not-true x t) in
+        sym (is-false _ (λ e. never (sym f ∙ passed d e .left)))
+
+    -- it accepts, or there is no left side
+    pub left-passes : (v .left ≡ 0 → ⊥) → 2 ≤ v .start → (x : Bool) → Tells w (v .left) lo (v .start - 2) x → not x ≡ false
+        → (d : ℕ) → (cellAt w n) .height ≤ d → treeB (d - 1) w (v .left) lo (v .start - 1) ≡ true
+    left-passes ne le x ex t d h =
+        let z : v .start - 2 + 1 ≡ v .start - 1 = omega arith in
+        let y = ex (d - 1) (omega (arith, left-lower ne)) in
+        rw z at (sym y ∙ not-false x t)
+
+    module _ (left : (d : ℕ) → (cellAt w n) .height ≤ d → treeB (d - 1) w (v .left) lo (v .start - 1) ≡ true) where
+      -- then the walk of the right side decides
+      rest : (d : ℕ) → (cellAt w n) .height ≤ d → treeB d w n lo (hi + 1) ≡ treeB (d - 1) w (v .right) (v .«end» + 2) (hi + 1)
+      rest d h =
+          let p = heights-out _ _ _ (own-fits .heights-fit) in
+          let q : v .height ≡ (cellAt w n) .height = ap (λ (u : Node). u .height) ev in
+          tree-node d w n lo (hi + 1) v ev (st .some) (omega (arith, p .0))
+          ∙ rw (inside-in w n (st .room), sym eb ∙ not-false b tb, left d h)
+
+      pub right-none : v .right ≡ 0 → Tells w n lo hi true
+      right-none z d h = sym (rest d h ∙ tree-none (d - 1) w (v .right) (v .«end» + 2) (hi + 1) z)
+
+      pub right-decides : (v .right ≡ 0 → ⊥) → (x : Bool) → Tells w (v .right) (v .«end» + 2) hi x → Tells w n lo hi x
+      right-decides ne x ex d h = ex (d - 1) (omega (arith, right-lower ne)) ∙ sym (rest d h)

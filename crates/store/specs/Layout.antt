@@ -14,16 +14,16 @@ use Rattle.store.specs.declared.Header.{Header}
 
 -- the header's words: root, free head, offset, ones, physical runs, first and last logical position held, zero
 abbrev pub headerOf : Node → Header
-headerOf v = record
-  { root = v .start
-  ; free = v .«end»
-  ; offset = v .left
-  ; ones = v .right
-  ; runs = v .height
-  ; first = v .runs
-  ; last = v .ones
-  ; spare = v .tag
-  }
+headerOf v = record {
+  root = v .start;
+  free = v .«end»;
+  offset = v .left;
+  ones = v .right;
+  runs = v .height;
+  first = v .runs;
+  last = v .ones;
+  spare = v .tag;
+}
 
 abbrev pub headerAt : List ℕ → Header
 headerAt w = headerOf (cellAt w 0)
