@@ -52,15 +52,15 @@ empty d w lo total = record { t = leaf; at = record { rep = rep-leaf; linked = r
 
 -- two trees and a node make a tree
 module _ (d : ℕ) (w : List ℕ) (n lo total : ℕ) (v : Node) (is : v ≡ cellAt w n) (pos : 1 ≤ n) (inside : insideB w n ≡ true)
-    (own : cellB w v lo total ≡ true) (L : Hangs d w (v .left) lo (v .start - 1)) (R : Hangs d w (v .right) (v .«end» + 2) total) where
+    (own : cellB v (belowOf w (v .left)) (belowOf w (v .right)) lo total ≡ true) (L : Hangs d w (v .left) lo (v .start - 1)) (R : Hangs d w (v .right) (v .«end» + 2) total) where
   within : Within (v .start) (v .«end») (v .tag) lo total
-  within = run-out _ _ _ lo total (cell-out w v lo total own .run-fits)
+  within = run-out _ _ _ lo total (cell-out v (belowOf w (v .left)) (belowOf w (v .right)) lo total own .run-fits)
 
   tall : (v .height ≡ 1 + max (height (L .t)) (height (R .t))) × (height (L .t) ≤ height (R .t) + 1) × (height (R .t) ≤ height (L .t) + 1)
   tall =
       let x = below-sums w (v .left) (L .t) (L .at) in
       let y = below-sums w (v .right) (R .t) (R .at) in
-      rw (x .height-is, y .height-is) at (heights-out (v .height) ((belowOf w (v .left)) .height) ((belowOf w (v .right)) .height) (cell-out w v lo total own .heights-fit))
+      rw (x .height-is, y .height-is) at (heights-out (v .height) ((belowOf w (v .left)) .height) ((belowOf w (v .right)) .height) (cell-out v (belowOf w (v .left)) (belowOf w (v .right)) lo total own .heights-fit))
 
   summed : (v .runs ≡ runs (L .t) + runs (R .t) + 1) × (v .ones ≡ ones (node n (v .start) (v .«end») (L .t) (R .t)))
   summed =
@@ -68,7 +68,7 @@ module _ (d : ℕ) (w : List ℕ) (n lo total : ℕ) (v : Node) (is : v ≡ cell
       let y = below-sums w (v .right) (R .t) (R .at) in
       rw (x .runs-is, y .runs-is, x .ones-is, y .ones-is) at
       (sums-out (v .runs) ((belowOf w (v .left)) .runs) ((belowOf w (v .right)) .runs) (v .ones) ((belowOf w (v .left)) .ones)
-      ((belowOf w (v .right)) .ones) (v .start) (v .«end») (cell-out w v lo total own .sums-fit))
+      ((belowOf w (v .right)) .ones) (v .start) (v .«end») (cell-out v (belowOf w (v .left)) (belowOf w (v .right)) lo total own .sums-fit))
 
   joined : Hangs (suc d) w n lo total
   joined =
@@ -111,7 +111,7 @@ tree-yes (suc d) w (suc n) lo total e =
 
 -- the tests of a node of a tree by itself
 own-tests : (w : List ℕ) (n a b lo total : ℕ) (l r : Tree) → Rep w 0 (node n a b l r) → About total lo (inorder l) a b (inorder r)
-    → height l ≤ height r + 1 → height r ≤ height l + 1 → cellB w (cell a b l r 0) lo total ≡ true
+    → height l ≤ height r + 1 → height r ≤ height l + 1 → cellB (cell a b l r 0) (belowOf w (link l)) (belowOf w (link r)) lo total ≡ true
 unfolding cellB agreesB
 own-tests w n a b lo total l r h A bl br =
     let x = below-sums w (link l) l (record { rep = rep-left h; linked = refl }) in
@@ -129,7 +129,9 @@ tree-no w (node n s e l r) d k lo total h c b le =
     let A = canon-out total lo (inorder l) s e (inorder r) c in
     let is : cellAt w n ≡ cell s e l r 0 = rep-cell (h .rep) in
     let kn : k ≡ n = sym (h .linked) in
-    rw kn (tree-node d w n lo total (cell s e l r 0) (sym is) (rep-pos (h .rep)) (omega arith)
+    let pos : 1 ≤ n = rep-pos (h .rep) in
+    let nz : n ≡ 0 → ⊥ = λ z. omega arith in
+    rw kn (tree-node d w n lo total (cell s e l r 0) (sym is ∙ below-some w n nz) nz (omega arith)
     ∙ both-in _ _ (inside-in w n (rep-room (h .rep)))
     (both-in _ _ (own-tests w n s e lo total l r (h .rep) A (b .0) (b .1))
     (both-in _ _

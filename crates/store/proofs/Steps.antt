@@ -10,41 +10,89 @@ use lib.ListN.{length}
 use borrow.Author.Tests.{eq-eqb, ne-eqb, eqb-true, not-true, not-false}
 use Rattle.run_index.specs.declared.Node.{Node}
 use Rattle.run_index.specs.Cells.{cellAt, Room}
-use Rattle.store.specs.Decision.{insideB, belowOf, runB, heightsB, sumsB, agreesB, cellB, treeB, freeB, chainB, Stands, Tells}
-use Rattle.store.proofs.Tests.{never, is-false, both-out, both-in, inside-out, inside-in, below-some, heights-out, run-out}
+use Rattle.store.specs.Decision.{insideB, belowOf, runB, heightsB, sumsB, agreesB, cellB, leafB, treeB, freeB, chainB, Tells}
+use Rattle.run_index.specs.Tree.{width}
+use Rattle.store.specs.Soundness.{freeCell}
+use Rattle.store.proofs.Tests.{never, is-false, same, both-out, both-in, inside-out, inside-in, below-none, below-some, heights-out, heights-in, sums-out, sums-in, run-out}
 
 -- a node by itself: its run, then its height, then its sums
-module _ (w : List ℕ) (v : Node) (lo total : ℕ) (b : Bool) (eb : b ≡ runB (v .start) (v .«end») (v .tag) lo total) where
-  pub cell-run : not b ≡ true → false ≡ cellB w v lo total
+module _ (v x y : Node) (lo total : ℕ) (b : Bool) (eb : b ≡ runB (v .start) (v .«end») (v .tag) lo total) where
+  pub cell-run : not b ≡ true → false ≡ cellB v x y lo total
   unfolding cellB
   cell-run t = rw (← eb, not-true b t)
 
-  module _ (x y : Node) (ex : x ≡ belowOf w (v .left)) (ey : y ≡ belowOf w (v .right)) (tb : not b ≡ false) (h : Bool)
-      (eh : h ≡ heightsB (v .height) (x .height) (y .height)) where
-    agrees : cellB w v lo total ≡ (h && sumsB (v .runs) (x .runs) (y .runs) (v .ones) (x .ones) (y .ones) (v .start) (v .«end»))
+  module _ (tb : not b ≡ false) (h : Bool) (eh : h ≡ heightsB (v .height) (x .height) (y .height)) where
+    agrees : cellB v x y lo total ≡ (h && sumsB (v .runs) (x .runs) (y .runs) (v .ones) (x .ones) (y .ones) (v .start) (v .«end»))
     unfolding cellB agreesB
-    agrees = rw (← eb, not-false b tb, ← ex, ← ey, ← eh)
+    agrees = rw (← eb, not-false b tb, ← eh)
 
-    pub cell-heights : not h ≡ true → false ≡ cellB w v lo total
+    pub cell-heights : not h ≡ true → false ≡ cellB v x y lo total
     cell-heights t = sym (agrees ∙ rw (not-true h t))
 
     pub cell-sums : not h ≡ false → (r : Bool) → r ≡ sumsB (v .runs) (x .runs) (y .runs) (v .ones) (x .ones) (y .ones) (v .start) (v .«end»)
-        → r ≡ cellB w v lo total
+        → r ≡ cellB v x y lo total
     cell-sums t r er = er ∙ sym (agrees ∙ rw (not-false h t))
 
 -- the parts of a node's tests: its own run, and its words against those at its links
-pub record Fits (w : List ℕ) (v : Node) (lo total : ℕ) : Type 0 where
+pub record Fits (v x y : Node) (lo total : ℕ) : Type 0 where
   pub run-fits : runB (v .start) (v .«end») (v .tag) lo total ≡ true
-  pub heights-fit : heightsB (v .height) ((belowOf w (v .left)) .height) ((belowOf w (v .right)) .height) ≡ true
-  pub sums-fit : sumsB (v .runs) ((belowOf w (v .left)) .runs) ((belowOf w (v .right)) .runs) (v .ones) ((belowOf w (v .left)) .ones)
-      ((belowOf w (v .right)) .ones) (v .start) (v .«end») ≡ true
+  pub heights-fit : heightsB (v .height) (x .height) (y .height) ≡ true
+  pub sums-fit : sumsB (v .runs) (x .runs) (y .runs) (v .ones) (x .ones) (y .ones) (v .start) (v .«end») ≡ true
 
-pub cell-out : (w : List ℕ) (v : Node) (lo total : ℕ) → cellB w v lo total ≡ true → Fits w v lo total
+pub cell-out : (v x y : Node) (lo total : ℕ) → cellB v x y lo total ≡ true → Fits v x y lo total
 unfolding cellB agreesB
-cell-out w v lo total e =
+cell-out v x y lo total e =
     let p = both-out _ _ e in
     let q = both-out _ _ (p .1) in
     record { run-fits = p .0; heights-fit = q .0; sums-fit = q .1 }
+
+pub cell-in : (v x y : Node) (lo total : ℕ) → Fits v x y lo total → cellB v x y lo total ≡ true
+unfolding cellB agreesB
+cell-in v x y lo total f = both-in _ _ (f .run-fits) (both-in _ _ (f .heights-fit) (f .sums-fit))
+
+-- the parts of a leaf's tests
+pub record LeafFits (v : Node) (lo total : ℕ) : Type 0 where
+  pub run-fits : runB (v .start) (v .«end») (v .tag) lo total ≡ true
+  pub no-left : v .left ≡ 0
+  pub no-right : v .right ≡ 0
+  pub one-run : v .runs ≡ 1
+  pub own-ones : v .ones ≡ width (v .start) (v .«end»)
+
+pub leaf-out : (v : Node) (lo total : ℕ) → leafB v lo total ≡ true → LeafFits v lo total
+unfolding leafB
+leaf-out v lo total e =
+    let p = both-out _ _ e in
+    let q = both-out _ _ (p .1) in
+    let r = both-out _ _ (q .1) in
+    let s = both-out _ _ (r .1) in
+    record {
+      run-fits = p .0;
+      no-left = eqb-true _ _ (q .0);
+      no-right = eqb-true _ _ (r .0);
+      one-run = eqb-true _ _ (s .0);
+      own-ones = eqb-true _ _ (s .1);
+    }
+
+pub leaf-in : (v : Node) (lo total : ℕ) → LeafFits v lo total → leafB v lo total ≡ true
+unfolding leafB
+leaf-in v lo total f =
+    both-in _ _ (f .run-fits)
+    (both-in _ _ (eq-eqb _ _ (f .no-left))
+    (both-in _ _ (eq-eqb _ _ (f .no-right)) (both-in _ _ (eq-eqb _ _ (f .one-run)) (eq-eqb _ _ (f .own-ones)))))
+
+-- the code's last test of a leaf
+pub leaf-last : (v : Node) (lo total : ℕ) (b : Bool) → b ≡ runB (v .start) (v .«end») (v .tag) lo total → not b ≡ false → v .left ≡ 0
+    → v .right ≡ 0 → v .runs ≡ 1 → (z : ℕ) → z ≡ width (v .start) (v .«end») → eqb (v .ones) z ≡ leafB v lo total
+leaf-last v lo total b eb tb l r k z ez =
+    same (eqb (v .ones) z) (leafB v lo total)
+    (λ t. leaf-in v lo total (record {
+      run-fits = sym eb ∙ not-false b tb;
+      no-left = l;
+      no-right = r;
+      one-run = k;
+      own-ones = eqb-true _ _ t ∙ ez;
+    }))
+    (λ t. eq-eqb _ _ (leaf-out v lo total t .own-ones ∙ sym ez))
 
 -- no tree hangs at 0
 pub tree-none : (d : ℕ) (w : List ℕ) (k lo total : ℕ) → k ≡ 0 → treeB d w k lo total ≡ true
@@ -54,14 +102,18 @@ tree-none (suc d) w zero lo total e = refl
 tree-none (suc d) w (suc k) lo total e = absurd (omega arith)
 
 -- a node is tested by itself, then each of its sides
-pub tree-node : (d : ℕ) (w : List ℕ) (n lo total : ℕ) (v : Node) → v ≡ cellAt w n → 1 ≤ n → 1 ≤ d
+pub tree-node : (d : ℕ) (w : List ℕ) (n lo total : ℕ) (v : Node) → v ≡ belowOf w n → (n ≡ 0 → ⊥) → 1 ≤ d
     → treeB d w n lo total
     ≡ (insideB w n
-    && (cellB w v lo total && (treeB (d - 1) w (v .left) lo (v .start - 1) && treeB (d - 1) w (v .right) (v .«end» + 2) total)))
+    && (cellB v (belowOf w (v .left)) (belowOf w (v .right)) lo total
+    && (treeB (d - 1) w (v .left) lo (v .start - 1) && treeB (d - 1) w (v .right) (v .«end» + 2) total)))
 unfolding treeB
 tree-node zero w n lo total v e p q = absurd (omega arith)
-tree-node (suc d) w zero lo total v e p q = absurd (omega arith)
-tree-node (suc d) w (suc n) lo total v e p q = let z : suc d - 1 ≡ d = omega arith in rw (z, e)
+tree-node (suc d) w zero lo total v e p q = absurd (p refl)
+tree-node (suc d) w (suc n) lo total v e p q =
+    let z : suc d - 1 ≡ d = omega arith in
+    let c : v ≡ cellAt w (suc n) = e ∙ sym (below-some w (suc n) p) in
+    rw (z, c)
 
 -- no node stands where there is no room
 pub tree-out : (d : ℕ) (w : List ℕ) (k lo total : ℕ) → insideB w k ≡ false → (k ≡ 0 → ⊥) → treeB d w k lo total ≡ false
@@ -82,12 +134,10 @@ unfolding treeB
 tree-narrow zero w k lo total h ne = ne-eqb k 0 ne
 tree-narrow (suc d) w zero lo total h ne = absurd (ne refl)
 tree-narrow (suc d) w (suc k) lo total h ne =
-    rw (
-      is-false (cellB w (cellAt w (suc k)) lo total) (λ e.
-          let r = run-out _ _ _ lo total (cell-out w (cellAt w (suc k)) lo total e .run-fits) in
-          omega (arith, r .above, r .ordered, r .under)),
-      and-false (insideB w (suc k)),
-    )
+    let v : Node = cellAt w (suc k) in
+    let no-cell : cellB (cellAt w (suc k)) (belowOf w ((cellAt w (suc k)) .left)) (belowOf w ((cellAt w (suc k)) .right)) lo total ≡ false =
+    is-false _ (λ e. let r = run-out _ _ _ lo total (cell-out _ _ _ lo total e .run-fits) in omega (arith, r .above, r .ordered, r .under)) in
+    rw (no-cell, and-false (insideB w (suc k)))
 
 -- the chain
 chain-step : (c : ℕ) (w : List ℕ) (k : ℕ) → 1 ≤ c → chainB c w k ≡ (freeB w k && chainB (c - 1) w ((cellAt w k) .left))
@@ -112,9 +162,25 @@ chain-more c w k b v h e t ev = rw ev (sym (chain-step c w k h ∙ rw (← e, no
 
 -- the parts of what the walk tests at a node
 pub record Passed (d : ℕ) (w : List ℕ) (v : Node) (lo total : ℕ) : Type 0 where
-  pub own : cellB w v lo total ≡ true
+  pub own : cellB v (belowOf w (v .left)) (belowOf w (v .right)) lo total ≡ true
   pub left : treeB (d - 1) w (v .left) lo (v .start - 1) ≡ true
   pub right : treeB (d - 1) w (v .right) (v .«end» + 2) total ≡ true
+
+-- they all pass where the walk accepts
+passed : (d : ℕ) (w : List ℕ) (n lo total : ℕ) (v : Node) → v ≡ belowOf w n → (n ≡ 0 → ⊥) → treeB d w n lo total ≡ true → Passed d w v lo total
+passed d w n lo total v ev ne e = go (ℕ-discrete d 0)
+  where
+    go : Dec (d ≡ 0) → Passed d w v lo total
+    go (yes z) = never (sym (tree-flat w n lo total d z ne) ∙ e)
+    go (no nz) =
+        let s = sym (tree-node d w n lo total v ev ne (omega arith)) ∙ e in
+        let C : Bool = cellB v (belowOf w (v .left)) (belowOf w (v .right)) lo total in
+        let L : Bool = treeB (d - 1) w (v .left) lo (v .start - 1) in
+        let R : Bool = treeB (d - 1) w (v .right) (v .«end» + 2) total in
+        let p = both-out (insideB w n) (C && (L && R)) s in
+        let q = both-out C (L && R) (p .1) in
+        let r = both-out L R (q .1) in
+        record { own = q .0; left = r .0; right = r .1 }
 
 -- a link that the walk accepts is inside
 pub inside-linked : (d : ℕ) (w : List ℕ) (k lo total : ℕ) → Room w 0 → treeB d w k lo total ≡ true → insideB w k ≡ true
@@ -125,93 +191,138 @@ inside-linked d w k lo total room e = go (ℕ-discrete k 0) (insideB w k) refl
     go (no ne) true i = i
     go (no ne) false i = never (sym (tree-out d w k lo total i ne) ∙ e)
 
-module _ (w : List ℕ) (n lo hi : ℕ) (st : Stands w n) (v : Node) (ev : v ≡ cellAt w n) where
-  -- they all pass where the walk accepts
-  passed : (d : ℕ) → treeB d w n lo (hi + 1) ≡ true → Passed d w v lo (hi + 1)
-  passed d e = go (ℕ-discrete d 0)
-    where
-      go : Dec (d ≡ 0) → Passed d w v lo (hi + 1)
-      go (yes z) = never (sym (tree-flat w n lo (hi + 1) d z (λ (n0 : n ≡ 0). omega (arith, st .some))) ∙ e)
-      go (no ne) =
-          let s = sym (tree-node d w n lo (hi + 1) v ev (st .some) (omega arith)) ∙ e in
-          let p = both-out (insideB w n)
-          (cellB w v lo (hi + 1) && (treeB (d - 1) w (v .left) lo (v .start - 1) && treeB (d - 1) w (v .right) (v .«end» + 2) (hi + 1))) s in
-          let q = both-out (cellB w v lo (hi + 1)) (treeB (d - 1) w (v .left) lo (v .start - 1) && treeB (d - 1) w (v .right) (v .«end» + 2) (hi + 1)) (p .1) in
-          let r = both-out (treeB (d - 1) w (v .left) lo (v .start - 1)) (treeB (d - 1) w (v .right) (v .«end» + 2) (hi + 1)) (q .1) in
-          record { own = q .0; left = r .0; right = r .1 }
+-- a node that the walk accepts is not of height 0
+high : (d : ℕ) (w : List ℕ) (k lo total : ℕ) → (k ≡ 0 → ⊥) → treeB d w k lo total ≡ true → 1 ≤ (belowOf w k) .height
+high d w k lo total ne e =
+    let p = passed d w k lo total (belowOf w k) refl ne e in
+    let f = cell-out _ _ _ lo total (p .own) .heights-fit in
+    let h = heights-out _ _ _ f in
+    omega (arith, h .0)
+
+-- so a link whose words have height 0 is 0
+flat : (d : ℕ) (w : List ℕ) (k lo total : ℕ) → (belowOf w k) .height ≡ 0 → treeB d w k lo total ≡ true → k ≡ 0
+flat d w k lo total z e = go (ℕ-discrete k 0)
+  where
+    go : Dec (k ≡ 0) → k ≡ 0
+    go (yes e) = e
+    go (no ne) = absurd (omega (arith, high d w k lo total ne e))
+
+-- no tree hangs at 0, whatever the depth
+pub tells-none : (w : List ℕ) (k lo hi : ℕ) → k ≡ 0 → Tells w k lo hi true
+tells-none w k lo hi z d h = sym (tree-none d w k lo (hi + 1) z)
+
+module _ (w : List ℕ) (n lo hi : ℕ) (ne : n ≡ 0 → ⊥) (room : Room w n) (v : Node) (ev : v ≡ belowOf w n) where
+  parts : (d : ℕ) → treeB d w n lo (hi + 1) ≡ true → Passed d w v lo (hi + 1)
+  parts d e = passed d w n lo (hi + 1) v ev ne e
 
   -- there is room for the header
   first-room : Room w 0
-  first-room = omega (arith, st .room)
+  first-room = omega arith
+
+  -- a node of height 1 is a leaf
+  leaf-accepts : v .height ≡ 1 → leafB v lo (hi + 1) ≡ true → (d : ℕ) → 1 ≤ d → treeB d w n lo (hi + 1) ≡ true
+  leaf-accepts one e d le =
+      let f = leaf-out v lo (hi + 1) e in
+      let x : freeCell 0 ≡ belowOf w (v .left) = below-none w (v .left) (f .no-left) in
+      let y : freeCell 0 ≡ belowOf w (v .right) = below-none w (v .right) (f .no-right) in
+      tree-node d w n lo (hi + 1) v ev ne le
+      ∙ both-in _ _ (inside-in w n room)
+      (both-in _ _
+      (cell-in v (belowOf w (v .left)) (belowOf w (v .right)) lo (hi + 1) (rw (← x, ← y) (record {
+        run-fits = f .run-fits;
+        heights-fit = heights-in (v .height) 0 0 one (omega arith) (omega arith);
+        sums-fit = sums-in (v .runs) 0 0 (v .ones) 0 0 (v .start) (v .«end») (f .one-run) (f .own-ones ∙ omega arith);
+      })))
+      (both-in _ _
+      (tree-none (d - 1) w (v .left) lo (v .start - 1) (f .no-left))
+      (tree-none (d - 1) w (v .right) (v .«end» + 2) (hi + 1) (f .no-right))))
+
+  leaf-accepted : v .height ≡ 1 → (d : ℕ) → treeB d w n lo (hi + 1) ≡ true → leafB v lo (hi + 1) ≡ true
+  leaf-accepted one d e =
+      let p = parts d e in
+      let f = cell-out _ _ _ lo (hi + 1) (p .own) in
+      let h = heights-out (v .height) ((belowOf w (v .left)) .height) ((belowOf w (v .right)) .height) (f .heights-fit) in
+      let l : v .left ≡ 0 = flat (d - 1) w (v .left) lo (v .start - 1) (omega (arith, h .0)) (p .left) in
+      let r : v .right ≡ 0 = flat (d - 1) w (v .right) (v .«end» + 2) (hi + 1) (omega (arith, h .0)) (p .right) in
+      let s = sums-out (v .runs) 0 0 (v .ones) 0 0 (v .start) (v .«end») (rw (← below-none w (v .left) l, ← below-none w (v .right) r) at (f .sums-fit)) in
+      leaf-in v lo (hi + 1) (record { run-fits = f .run-fits; no-left = l; no-right = r; one-run = s .0; own-ones = s .1 ∙ omega arith })
+
+  pub leaf-decides : v .height ≡ 1 → (r : Bool) → r ≡ leafB v lo (hi + 1) → Tells w n lo hi r
+  leaf-decides one r er d h =
+      let q : v .height ≡ (belowOf w n) .height = ap (λ (u : Node). u .height) ev in
+      er ∙ same (leafB v lo (hi + 1)) (treeB d w n lo (hi + 1)) (λ e. leaf-accepts one e d (omega arith)) (leaf-accepted one d)
 
   -- a link outside
   pub left-outside : (b : Bool) → b ≡ insideB w (v .left) → not b ≡ true → Tells w n lo hi false
   left-outside b eb t d h =
-      sym (is-false _ (λ e. never (sym (sym eb ∙ not-true b t) ∙ inside-linked (d - 1) w (v .left) lo (v .start - 1) first-room (passed d e .left))))
+      sym (is-false _ (λ e. never (sym (sym eb ∙ not-true b t) ∙ inside-linked (d - 1) w (v .left) lo (v .start - 1) first-room (parts d e .left))))
 
   pub right-outside : (b : Bool) → b ≡ insideB w (v .right) → not b ≡ true → Tells w n lo hi false
   right-outside b eb t d h =
-      sym (is-false _ (λ e. never (sym (sym eb ∙ not-true b t) ∙ inside-linked (d - 1) w (v .right) (v .«end» + 2) (hi + 1) first-room (passed d e .right))))
-
-  -- a node that fails by itself
-  pub node-fails : (b : Bool) → b ≡ cellB w v lo (hi + 1) → not b ≡ true → Tells w n lo hi false
-  node-fails b eb t d h = sym (is-false _ (λ e. never (sym (sym eb ∙ not-true b t) ∙ passed d e .own)))
+      sym (is-false _ (λ e. never (sym (sym eb ∙ not-true b t) ∙ inside-linked (d - 1) w (v .right) (v .«end» + 2) (hi + 1) first-room (parts d e .right))))
 
   -- no room below the node's start, or above its end
   pub left-crowded : (v .left ≡ 0 → ⊥) → v .start < 2 → Tells w n lo hi false
-  left-crowded ne lt d h = sym (is-false _ (λ e. never (sym (tree-narrow (d - 1) w (v .left) lo (v .start - 1) (omega arith) ne) ∙ passed d e .left)))
+  left-crowded nl lt d h = sym (is-false _ (λ e. never (sym (tree-narrow (d - 1) w (v .left) lo (v .start - 1) (omega arith) nl) ∙ parts d e .left)))
 
   pub right-crowded : (v .right ≡ 0 → ⊥) → hi < v .«end» + 2 → Tells w n lo hi false
-  right-crowded ne lt d h =
-      sym (is-false _ (λ e. never (sym (tree-narrow (d - 1) w (v .right) (v .«end» + 2) (hi + 1) (omega arith) ne) ∙ passed d e .right)))
+  right-crowded nr lt d h =
+      sym (is-false _ (λ e. never (sym (tree-narrow (d - 1) w (v .right) (v .«end» + 2) (hi + 1) (omega arith) nr) ∙ parts d e .right)))
 
-  module _ (b : Bool) (eb : b ≡ cellB w v lo (hi + 1)) (tb : not b ≡ false) where
-    own-fits : Fits w v lo (hi + 1)
-    own-fits = cell-out w v lo (hi + 1) (sym eb ∙ not-false b tb)
+  module _ (x y : Node) (ex : x ≡ belowOf w (v .left)) (ey : y ≡ belowOf w (v .right)) (b : Bool) (eb : b ≡ cellB v x y lo (hi + 1)) where
+    own-is : b ≡ cellB v (belowOf w (v .left)) (belowOf w (v .right)) lo (hi + 1)
+    own-is = rw (← ex, ← ey) eb
 
-    -- the heights at the links are less than the node's
-    below-lower : (k : ℕ) (h : ℕ) → (k ≡ 0 → ⊥) → (belowOf w k) .height < h → (cellAt w k) .height < h
-    below-lower k h ne lt = rw (below-some w k ne) lt
+    -- a node that fails by itself
+    pub node-fails : not b ≡ true → Tells w n lo hi false
+    node-fails t d h = sym (is-false _ (λ e. never (sym (sym own-is ∙ not-true b t) ∙ parts d e .own)))
 
-    pub left-lower : (v .left ≡ 0 → ⊥) → (cellAt w (v .left)) .height < (cellAt w n) .height
-    left-lower ne =
-        let p = heights-out _ _ _ (own-fits .heights-fit) in
-        let q : v .height ≡ (cellAt w n) .height = ap (λ (u : Node). u .height) ev in
-        below-lower (v .left) ((cellAt w n) .height) ne (omega (arith, p .0))
+    module _ (tb : not b ≡ false) where
+      own-fits : Fits v (belowOf w (v .left)) (belowOf w (v .right)) lo (hi + 1)
+      own-fits = cell-out v (belowOf w (v .left)) (belowOf w (v .right)) lo (hi + 1) (sym own-is ∙ not-false b tb)
 
-    pub right-lower : (v .right ≡ 0 → ⊥) → (cellAt w (v .right)) .height < (cellAt w n) .height
-    right-lower ne =
-        let p = heights-out _ _ _ (own-fits .heights-fit) in
-        let q : v .height ≡ (cellAt w n) .height = ap (λ (u : Node). u .height) ev in
-        below-lower (v .right) ((cellAt w n) .height) ne (omega (arith, p .0))
+      tall : (belowOf w n) .height ≡ 1 + max ((belowOf w (v .left)) .height) ((belowOf w (v .right)) .height)
+      tall =
+          sym (ap (λ (u : Node). u .height) ev)
+          ∙ heights-out (v .height) ((belowOf w (v .left)) .height) ((belowOf w (v .right)) .height) (own-fits .heights-fit) .0
 
-    -- the walk of the left side refuses
-    pub left-fails : (v .left ≡ 0 → ⊥) → 2 ≤ v .start → (x : Bool) → Tells w (v .left) lo (v .start - 2) x → not x ≡ true → Tells w n lo hi false
-    left-fails ne le x ex t d h =
-        let z : v .start - 2 + 1 ≡ v .start - 1 = omega arith in
-        let y = ex (d - 1) (omega (arith, left-lower ne)) in
-        let f : treeB (d - 1) w (v .left) lo (v .start - 1) ≡ false = rw z at (sym y ∙ not-true x t) in
-        sym (is-false _ (λ e. never (sym f ∙ passed d e .left)))
+      -- either side is lower than the node
+      pub left-lower : (belowOf w (v .left)) .height < (belowOf w n) .height
+      left-lower = omega (arith, tall)
 
-    -- it accepts, or there is no left side
-    pub left-passes : (v .left ≡ 0 → ⊥) → 2 ≤ v .start → (x : Bool) → Tells w (v .left) lo (v .start - 2) x → not x ≡ false
-        → (d : ℕ) → (cellAt w n) .height ≤ d → treeB (d - 1) w (v .left) lo (v .start - 1) ≡ true
-    left-passes ne le x ex t d h =
-        let z : v .start - 2 + 1 ≡ v .start - 1 = omega arith in
-        let y = ex (d - 1) (omega (arith, left-lower ne)) in
-        rw z at (sym y ∙ not-false x t)
+      pub right-lower : (belowOf w (v .right)) .height < (belowOf w n) .height
+      right-lower = omega (arith, tall)
 
-    module _ (left : (d : ℕ) → (cellAt w n) .height ≤ d → treeB (d - 1) w (v .left) lo (v .start - 1) ≡ true) where
+      -- the walk of the left side refuses
+      pub left-fails : 2 ≤ v .start → (r : Bool) → Tells w (v .left) lo (v .start - 2) r → not r ≡ true → Tells w n lo hi false
+      left-fails le r er t d h =
+          let z : v .start - 2 + 1 ≡ v .start - 1 = omega arith in
+          let u = er (d - 1) (omega (arith, left-lower)) in
+          let f : treeB (d - 1) w (v .left) lo (v .start - 1) ≡ false = rw z at (sym u ∙ not-true r t) in
+          sym (is-false _ (λ e. never (sym f ∙ parts d e .left)))
+
+      -- it accepts, or there is no left side
+      pub left-passes : 2 ≤ v .start → (r : Bool) → Tells w (v .left) lo (v .start - 2) r → not r ≡ false
+          → (d : ℕ) → (belowOf w n) .height ≤ d → treeB (d - 1) w (v .left) lo (v .start - 1) ≡ true
+      left-passes le r er t d h =
+          let z : v .start - 2 + 1 ≡ v .start - 1 = omega arith in
+          let u = er (d - 1) (omega (arith, left-lower)) in
+          rw z at (sym u ∙ not-false r t)
+
+      pub left-none : v .left ≡ 0 → (d : ℕ) → (belowOf w n) .height ≤ d → treeB (d - 1) w (v .left) lo (v .start - 1) ≡ true
+      left-none z d h = tree-none (d - 1) w (v .left) lo (v .start - 1) z
+
       -- then the walk of the right side decides
-      rest : (d : ℕ) → (cellAt w n) .height ≤ d → treeB d w n lo (hi + 1) ≡ treeB (d - 1) w (v .right) (v .«end» + 2) (hi + 1)
-      rest d h =
-          let p = heights-out _ _ _ (own-fits .heights-fit) in
-          let q : v .height ≡ (cellAt w n) .height = ap (λ (u : Node). u .height) ev in
-          tree-node d w n lo (hi + 1) v ev (st .some) (omega (arith, p .0))
-          ∙ rw (inside-in w n (st .room), sym eb ∙ not-false b tb, left d h)
+      pub right-decides : ((d : ℕ) → (belowOf w n) .height ≤ d → treeB (d - 1) w (v .left) lo (v .start - 1) ≡ true)
+          → (r : Bool) → Tells w (v .right) (v .«end» + 2) hi r → Tells w n lo hi r
+      right-decides left r er d h =
+          er (d - 1) (omega (arith, right-lower))
+          ∙ sym (tree-node d w n lo (hi + 1) v ev ne (omega (arith, tall))
+          ∙ rw (inside-in w n room, sym own-is ∙ not-false b tb, left d h))
 
-      pub right-none : v .right ≡ 0 → Tells w n lo hi true
-      right-none z d h = sym (rest d h ∙ tree-none (d - 1) w (v .right) (v .«end» + 2) (hi + 1) z)
-
-      pub right-decides : (v .right ≡ 0 → ⊥) → (x : Bool) → Tells w (v .right) (v .«end» + 2) hi x → Tells w n lo hi x
-      right-decides ne x ex d h = ex (d - 1) (omega (arith, right-lower ne)) ∙ sym (rest d h)
+-- where the walk of the link k is: at the node j with the words v, whose walk decides for k's
+pub record Way (w : List ℕ) (k lo hi j : ℕ) (v : Node) (low : ℕ) : Type 0 where
+  pub room : Room w j
+  pub is : v ≡ belowOf w j
+  pub lower : (belowOf w j) .height ≤ (belowOf w k) .height
+  pub tells : (r : Bool) → Tells w j low hi r → Tells w k lo hi r

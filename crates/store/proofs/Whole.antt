@@ -71,20 +71,17 @@ module _ (w : List ℕ) (sized : 1 ≤ capacity w) (h : Header) (eh : h ≡ head
         sym (is-false (keptB w) (λ e. ne (ap (λ (x : Header). x .runs) eh ∙ kept-out w e .runs-are ∙ sym (ap (λ (x : Node). x .runs) at-root))))
 
     -- what the walk of the root says
-    root-walked : (h .root ≡ 0 → ⊥) → v .height ≤ 22 → (b : Bool) → Tells w (h .root) 0 18446744073709551615 b → b ≡ treeB 22 w (h .root) 0 size
-    root-walked ne low b eb =
-        let q : v .height ≡ (cellAt w (h .root)) .height = ap (λ (x : Node). x .height) (ev ∙ sym (below-some w (h .root) ne)) in
-        eb 22 (omega arith)
+    root-walked : v .height ≤ 22 → (b : Bool) → Tells w (h .root) 0 18446744073709551615 b → b ≡ treeB 22 w (h .root) 0 size
+    root-walked low b eb = let q : v .height ≡ (belowOf w (h .root)) .height = ap (λ (x : Node). x .height) ev in eb 22 (omega arith)
 
     -- it refuses
-    pub tree-fails : (h .root ≡ 0 → ⊥) → v .height ≤ 22 → (b : Bool) → Tells w (h .root) 0 18446744073709551615 b → not b ≡ true → false ≡ keptB w
-    tree-fails ne low b eb t =
-        sym (is-false (keptB w) (λ e. never (sym (sym (root-walked ne low b eb) ∙ not-true b t) ∙ tree-of e)))
+    pub tree-fails : v .height ≤ 22 → (b : Bool) → Tells w (h .root) 0 18446744073709551615 b → not b ≡ true → false ≡ keptB w
+    tree-fails low b eb t = sym (is-false (keptB w) (λ e. never (sym (sym (root-walked low b eb) ∙ not-true b t) ∙ tree-of e)))
 
     -- it accepts
-    pub tree-passes : (h .root ≡ 0 → ⊥) → v .height ≤ 22 → (b : Bool) → Tells w (h .root) 0 18446744073709551615 b → not b ≡ false
+    pub tree-passes : v .height ≤ 22 → (b : Bool) → Tells w (h .root) 0 18446744073709551615 b → not b ≡ false
         → treeB 22 w (h .root) 0 size ≡ true
-    tree-passes ne low b eb t = sym (root-walked ne low b eb) ∙ not-false b t
+    tree-passes low b eb t = sym (root-walked low b eb) ∙ not-false b t
 
     -- then the chain decides
     pub chain-decides : h .spare ≡ 0 → treeB 22 w (h .root) 0 size ≡ true → h .ones ≡ v .ones → h .runs ≡ v .runs → (n : ℕ)

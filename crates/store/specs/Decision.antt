@@ -40,9 +40,15 @@ agreesB v x y =
     heightsB (v .height) (x .height) (y .height)
     && sumsB (v .runs) (x .runs) (y .runs) (v .ones) (x .ones) (y .ones) (v .start) (v .«end»)
 
--- the tests of node n by itself: v is its words
-unfoldable pub cellB : List ℕ → Node → ℕ → ℕ → Bool
-cellB w v lo total = runB (v .start) (v .«end») (v .tag) lo total && agreesB v (belowOf w (v .left)) (belowOf w (v .right))
+-- the tests of a node by itself: v is its words, x and y are those at its links
+unfoldable pub cellB : Node → Node → Node → ℕ → ℕ → Bool
+cellB v x y lo total = runB (v .start) (v .«end») (v .tag) lo total && agreesB v x y
+
+-- the same of a node of height 1, which has no links
+unfoldable pub leafB : Node → ℕ → ℕ → Bool
+leafB v lo total =
+    runB (v .start) (v .«end») (v .tag) lo total
+    && (eqb (v .left) 0 && (eqb (v .right) 0 && (eqb (v .runs) 1 && eqb (v .ones) (width (v .start) (v .«end»)))))
 
 -- the tree at the link k, d nodes deep at most, whose runs lie within lo .. total - 1
 unfoldable pub treeB : ℕ → List ℕ → ℕ → ℕ → ℕ → Bool
@@ -50,7 +56,7 @@ treeB zero w k lo total = eqb k 0
 treeB (suc d) w zero lo total = true
 treeB (suc d) w (suc n) lo total =
     insideB w (suc n)
-    && (cellB w (cellAt w (suc n)) lo total
+    && (cellB (cellAt w (suc n)) (belowOf w ((cellAt w (suc n)) .left)) (belowOf w ((cellAt w (suc n)) .right)) lo total
     && (treeB d w ((cellAt w (suc n)) .left) lo ((cellAt w (suc n)) .start - 1)
     && treeB d w ((cellAt w (suc n)) .right) ((cellAt w (suc n)) .«end» + 2) total))
 
@@ -89,14 +95,9 @@ boundsB w =
 unfoldable pub soundB : List ℕ → Bool
 soundB w = keptB w && boundsB w
 
--- n is a node
-pub record Stands (w : List ℕ) (n : ℕ) : Type 0 where
-  pub some : 1 ≤ n
-  pub room : Room w n
-
--- r says whether a tree with the runs within lo .. hi hangs at n
+-- r says whether a tree with the runs within lo .. hi hangs at the link k
 abbrev pub Tells : List ℕ → ℕ → ℕ → ℕ → Bool → Type 0
-Tells w n lo hi r = (d : ℕ) → (cellAt w n) .height ≤ d → r ≡ treeB d w n lo (hi + 1)
+Tells w k lo hi r = (d : ℕ) → (belowOf w k) .height ≤ d → r ≡ treeB d w k lo (hi + 1)
 
 -- a tree and a chain that share the nodes out, with the sums that the header has
 pub record Shared (w : List ℕ) : Type 0 where

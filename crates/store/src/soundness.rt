@@ -4,9 +4,9 @@
 // in 0, meets each of them once.
 ghost use mathlib.Core.Path.{_≡_};
 ghost use Prim.Native.Nat.{_+_, _≤_};
-ghost use Rattle.run_index.specs.Cells.{cellAt, Room};
+ghost use Rattle.run_index.specs.Cells.{Room};
 ghost use Rattle.store.specs.Layout.{capacity};
-ghost use Rattle.store.specs.Decision.{insideB, belowOf, runB, heightsB, sumsB, cellB, freeB, chainB, keptB, Stands, Tells};
+ghost use Rattle.store.specs.Decision.{insideB, belowOf, runB, heightsB, sumsB, cellB, leafB, freeB, chainB, keptB, Tells};
 use model::Store;
 use run_index::Node;
 
@@ -93,16 +93,12 @@ fn sums_fit(runs: u64, r1: u64, r2: u64, ones: u64, o1: u64, o2: u64, start: u64
 }
 
 // The tests of a node by itself: its run against the bounds, its height and sums against those at its links.
-fn node_fits(words: &[u64], v: Node, lo: u64, hi: u64) -> bool
-    requires { ⌜ Room (now words) (v .left) ⌝ }
-    requires { ⌜ Room (now words) (v .right) ⌝ }
-    ensures { λ r. ⌜ r ≡ cellB (now (words .entry)) v lo (hi + 1) ⌝ }
+fn node_fits(v: Node, x: Node, y: Node, lo: u64, hi: u64) -> bool
+    ensures { λ r. ⌜ r ≡ cellB v x y lo (hi + 1) ⌝ }
 {
     if !run_fits(v.start, v.end, v.tag, lo, hi) {
         return false;
     }
-    let x = below(words, v.left);
-    let y = below(words, v.right);
     if !heights_fit(v.height, x.height, y.height) {
         return false;
     }
@@ -118,36 +114,68 @@ fn node_fits(words: &[u64], v: Node, lo: u64, hi: u64) -> bool
     )
 }
 
-// Whether a tree hangs at node n, all its runs within lo..=hi.
-fn tree_fits(words: &[u64], n: u64, lo: u64, hi: u64) -> bool
-    requires { ⌜ Stands (now words) n ⌝ }
-    ensures { λ r. ⌜ Tells (now (words .entry)) n lo hi r ⌝ }
+// The same of a node of height 1, which has no links.
+fn leaf_fits(v: Node, lo: u64, hi: u64) -> bool
+    ensures { λ r. ⌜ r ≡ leafB v lo (hi + 1) ⌝ }
 {
-    let v = run_index::read_node(words, n);
-    if !inside(words, v.left) {
-        return false;
-    }
-    if !inside(words, v.right) {
-        return false;
-    }
-    if !node_fits(words, v, lo, hi) {
+    if !run_fits(v.start, v.end, v.tag, lo, hi) {
         return false;
     }
     if v.left != 0 {
-        if v.start < 2 {
-            return false;
-        }
-        if !tree_fits(words, v.left, lo, v.start - 2) {
-            return false;
-        }
-    }
-    if v.right == 0 {
-        return true;
-    }
-    if v.end > u64::MAX - 2 {
         return false;
     }
-    tree_fits(words, v.right, v.end + 2, hi)
+    if v.right != 0 {
+        return false;
+    }
+    if v.runs != 1 {
+        return false;
+    }
+    v.ones == std::num::wrapping_add_u64(v.end - v.start, 1)
+}
+
+// Whether a tree hangs at a link, all its runs within lo..=hi. It goes down the right side, k with the words v, and calls itself on each
+// left side.
+fn tree_fits(words: &[u64], link: u64, lo: u64, hi: u64) -> bool
+    requires { ⌜ Room (now words) link ⌝ }
+    ensures { λ r. ⌜ Tells (now (words .entry)) link lo hi r ⌝ }
+{
+    let mut k = link;
+    let mut v = below(words, link);
+    let mut low = lo;
+    while k != 0 {
+        if v.height == 1 {
+            return leaf_fits(v, low, hi);
+        }
+        if !inside(words, v.left) {
+            return false;
+        }
+        if !inside(words, v.right) {
+            return false;
+        }
+        let x = below(words, v.left);
+        let y = below(words, v.right);
+        if !node_fits(v, x, y, low, hi) {
+            return false;
+        }
+        if v.left != 0 {
+            if v.start < 2 {
+                return false;
+            }
+            if !tree_fits(words, v.left, low, v.start - 2) {
+                return false;
+            }
+        }
+        if v.right == 0 {
+            return true;
+        }
+        if v.end > u64::MAX - 2 {
+            return false;
+        }
+        low = v.end + 2;
+        k = v.right;
+        v = y;
+    }
+    true
 }
 
 // Whether a node is free: it is a node, and all its words but the link are 0.
@@ -225,10 +253,8 @@ pub fn is_kept(words: &[u64]) -> bool
     if h.runs > all {
         return false;
     }
-    if h.root != 0 {
-        if !tree_fits(words, h.root, 0, u64::MAX) {
-            return false;
-        }
+    if !tree_fits(words, h.root, 0, u64::MAX) {
+        return false;
     }
     chain_fits(words, h.free, all - h.runs)
 }

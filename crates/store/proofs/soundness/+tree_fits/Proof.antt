@@ -1,27 +1,29 @@
--- `tree_fits` meets its contract: the tests are the definition's, and each side is lower than the node, so a walk of a side decides for
--- it at any depth that is left. The measure is the height that the node's words give. Assumes nothing.
+-- `tree_fits` meets its contract. The loop's invariant: the walk of the node at hand decides for the whole, at any depth that is left, and
+-- the node is no higher than the link's. The tests are the definition's; either side of a node is lower than the node. The measure of the
+-- recursion and of the loop is the height that the words give. Assumes nothing.
 use mathlib.Core.Path.{_≡_, refl, sym, ap, _∙_}
 use native.Mathlib.Omega.{arith}
 use mathlib.Core.Logic.{⊎-elim}
 use borrow.Author.Needs.{needs}
 use borrow.Author.Tests.{not-true, not-false}
-use Rattle.run_index.specs.Cells.{cellAt}
+use Rattle.store.specs.Decision.{belowOf}
 use Rattle.store.proofs.Tests.{inside-out}
-use Rattle.store.proofs.Steps.{tree-none, left-outside, right-outside, node-fails, left-crowded, right-crowded, left-lower, right-lower, left-fails, left-passes, right-none, right-decides}
+use Rattle.store.proofs.Steps.{Way, tells-none, leaf-decides, left-outside, right-outside, node-fails, left-crowded, right-crowded, left-lower, right-lower, left-fails, left-passes, left-none, right-decides}
 use Prim.Native.Nat.{ℕ, _<_}
 use borrow.Fn.Kinds.{In}
 use borrow.Fn.PlainCycle.{Measures, is, falls, and}
 use Rattle.store.proofs.soundness.tree_fits.Reads as tree-fits
 use Rattle.store.proofs.soundness.tree_fits.Kinds as tree-fits-kinds
 use Rattle.store.proofs.soundness.+tree_fits.Lts-tree_fits as tree-fits-lts
-use Rattle.run_index.proofs.read_node.Reads as read-node-reads
+use Rattle.store.proofs.soundness.below.Reads as below-reads
 use Rattle.store.proofs.soundness.inside.Reads as inside-reads
+use Rattle.store.proofs.soundness.leaf_fits.Reads as leaf-fits-reads
 use Rattle.store.proofs.soundness.node_fits.Reads as node-fits-reads
 use Rattle.store.proofs.soundness.+tree_fits.{statement}
 use Rattle.store.proofs.soundness.+tree_fits.Tie.{close}
 
 abbrev μ-tree-fits : Measures 1 tree-fits-kinds.ps ℕ
-μ-tree-fits κs a = (cellAt (a .0 .now) (a .1 .0)) .height
+μ-tree-fits κs a = (belowOf (a .0 .now) (a .1 .0)) .height
 
 abbrev tree-fits-at : ℕ → In 1 tree-fits-kinds.ps
 tree-fits-at t = and 1 tree-fits-kinds.ps (is 1 tree-fits-kinds.ps μ-tree-fits t) tree-fits.Pre
@@ -30,208 +32,13 @@ abbrev tree-fits-below : ℕ → In 1 tree-fits-kinds.ps
 tree-fits-below t =
     and 1 tree-fits-kinds.ps (falls 1 tree-fits-kinds.ps _<_ μ-tree-fits t) tree-fits.Pre
 
-tree-fits-read-node-requires : (t : ℕ) → tree-fits-lts.Need-read-node-requires (
-  read-node-reads.Asked,
-  read-node-reads.Learnt,
-  inside-reads.Asked,
-  inside-reads.Learnt,
-  node-fits-reads.Asked,
-  node-fits-reads.Learnt,
-  tree-fits-below t,
-  tree-fits.Post,
-) (tree-fits-at t) tree-fits.Post
-tree-fits-read-node-requires t c κs = c .before .pre .1 .room
-
-tree-fits-inside-requires : (t : ℕ) → tree-fits-lts.Need-inside-requires (
-  read-node-reads.Asked,
-  read-node-reads.Learnt,
-  inside-reads.Asked,
-  inside-reads.Learnt,
-  node-fits-reads.Asked,
-  node-fits-reads.Learnt,
-  tree-fits-below t,
-  tree-fits.Post,
-) (tree-fits-at t) tree-fits.Post
-tree-fits-inside-requires t c κs = search needs
-
-tree-fits-returns : (t : ℕ) → tree-fits-lts.Need-returns (
-  read-node-reads.Asked,
-  read-node-reads.Learnt,
-  inside-reads.Asked,
-  inside-reads.Learnt,
-  node-fits-reads.Asked,
-  node-fits-reads.Learnt,
-  tree-fits-below t,
-  tree-fits.Post,
-) (tree-fits-at t) tree-fits.Post
-tree-fits-returns t c = left-outside _ _ _ _ (c .before .before .before .before .pre .1) (c .before .before .read-node .result) (c .before .before .read-node .ensures) _ (c .before .inside .ensures) (c .if1 .taken)
-
-tree-fits-inside-requires-2 : (t : ℕ) → tree-fits-lts.Need-inside-requires-2 (
-  read-node-reads.Asked,
-  read-node-reads.Learnt,
-  inside-reads.Asked,
-  inside-reads.Learnt,
-  node-fits-reads.Asked,
-  node-fits-reads.Learnt,
-  tree-fits-below t,
-  tree-fits.Post,
-) (tree-fits-at t) tree-fits.Post
-tree-fits-inside-requires-2 t c κs = search needs
-
-tree-fits-returns-2 : (t : ℕ) → tree-fits-lts.Need-returns-2 (
-  read-node-reads.Asked,
-  read-node-reads.Learnt,
-  inside-reads.Asked,
-  inside-reads.Learnt,
-  node-fits-reads.Asked,
-  node-fits-reads.Learnt,
-  tree-fits-below t,
-  tree-fits.Post,
-) (tree-fits-at t) tree-fits.Post
-tree-fits-returns-2 t c = right-outside _ _ _ _ (c .before .before .before .before .before .before .pre .1) (c .before .before .before .before .read-node .result) (c .before .before .before .before .read-node .ensures) _ (c .before .inside2 .ensures) (c .if2 .taken)
-
-tree-fits-node-fits-requires : (t : ℕ) → tree-fits-lts.Need-node-fits-requires (
-  read-node-reads.Asked,
-  read-node-reads.Learnt,
-  inside-reads.Asked,
-  inside-reads.Learnt,
-  node-fits-reads.Asked,
-  node-fits-reads.Learnt,
-  tree-fits-below t,
-  tree-fits.Post,
-) (tree-fits-at t) tree-fits.Post
-tree-fits-node-fits-requires t c κs = (inside-out _ _ (sym (c .before .before .before .inside .ensures) ∙ not-false _ (c .before .before .if1 .left)), inside-out _ _ (sym (c .before .inside2 .ensures) ∙ not-false _ (c .if2 .left)))
-
-tree-fits-returns-3 : (t : ℕ) → tree-fits-lts.Need-returns-3 (
-  read-node-reads.Asked,
-  read-node-reads.Learnt,
-  inside-reads.Asked,
-  inside-reads.Learnt,
-  node-fits-reads.Asked,
-  node-fits-reads.Learnt,
-  tree-fits-below t,
-  tree-fits.Post,
-) (tree-fits-at t) tree-fits.Post
-tree-fits-returns-3 t c = node-fails _ _ _ _ (c .before .before .before .before .before .before .before .before .pre .1) (c .before .before .before .before .before .before .read-node .result) (c .before .before .before .before .before .before .read-node .ensures) _ (c .before .node-fits .ensures) (c .if3 .taken)
-
-tree-fits-returns-4 : (t : ℕ) → tree-fits-lts.Need-returns-4 (
-  read-node-reads.Asked,
-  read-node-reads.Learnt,
-  inside-reads.Asked,
-  inside-reads.Learnt,
-  node-fits-reads.Asked,
-  node-fits-reads.Learnt,
-  tree-fits-below t,
-  tree-fits.Post,
-) (tree-fits-at t) tree-fits.Post
-tree-fits-returns-4 t c = left-crowded _ _ _ _ (c .before .before .before .before .before .before .before .before .before .before .before .before .pre .1) (c .before .before .before .before .before .before .before .before .before .before .read-node .result) (c .before .before .before .before .before .before .before .before .before .before .read-node .ensures) (c .before .before .if4 .taken) (omega arith)
-
-tree-fits-tree-fits-requires : (t : ℕ) → tree-fits-lts.Need-tree-fits-requires (
-  read-node-reads.Asked,
-  read-node-reads.Learnt,
-  inside-reads.Asked,
-  inside-reads.Learnt,
-  node-fits-reads.Asked,
-  node-fits-reads.Learnt,
-  tree-fits-below t,
-  tree-fits.Post,
-) (tree-fits-at t) tree-fits.Post
-tree-fits-tree-fits-requires t c κs = (omega (arith, c .before .before .before .before .before .before .before .before .before .before .before .before .before .pre .0, left-lower _ _ _ _ (c .before .before .before .before .before .before .before .before .before .before .before .before .before .pre .1) (c .before .before .before .before .before .before .before .before .before .before .before .read-node .result) (c .before .before .before .before .before .before .before .before .before .before .before .read-node .ensures) _ (c .before .before .before .before .before .before .node-fits .ensures) (c .before .before .before .before .before .if3 .left) (c .before .before .before .if4 .taken)), record { some = omega arith; room = inside-out _ _ (sym (c .before .before .before .before .before .before .before .before .before .before .inside .ensures) ∙ not-false _ (c .before .before .before .before .before .before .before .before .before .if1 .left)) })
-
-tree-fits-returns-5 : (t : ℕ) → tree-fits-lts.Need-returns-5 (
-  read-node-reads.Asked,
-  read-node-reads.Learnt,
-  inside-reads.Asked,
-  inside-reads.Learnt,
-  node-fits-reads.Asked,
-  node-fits-reads.Learnt,
-  tree-fits-below t,
-  tree-fits.Post,
-) (tree-fits-at t) tree-fits.Post
-tree-fits-returns-5 t c = left-fails _ _ _ _ (c .before .before .before .before .before .before .before .before .before .before .before .before .before .before .before .pre .1) (c .before .before .before .before .before .before .before .before .before .before .before .before .before .read-node .result) (c .before .before .before .before .before .before .before .before .before .before .before .before .before .read-node .ensures) _ (c .before .before .before .before .before .before .before .before .node-fits .ensures) (c .before .before .before .before .before .before .before .if3 .left) (c .before .before .before .before .before .if4 .taken) (omega arith) _ (c .before .tree-fits .ensures) (c .if6 .taken)
-
-tree-fits-returns-6 : (t : ℕ) → tree-fits-lts.Need-returns-6 (
-  read-node-reads.Asked,
-  read-node-reads.Learnt,
-  inside-reads.Asked,
-  inside-reads.Learnt,
-  node-fits-reads.Asked,
-  node-fits-reads.Learnt,
-  tree-fits-below t,
-  tree-fits.Post,
-) (tree-fits-at t) tree-fits.Post
-tree-fits-returns-6 t c = right-none _ _ _ _ (c .before .before .before .before .before .before .before .before .before .before .before .before .pre .1) (c .before .before .before .before .before .before .before .before .before .before .read-node .result) (c .before .before .before .before .before .before .before .before .before .before .read-node .ensures) _ (c .before .before .before .before .before .node-fits .ensures) (c .before .before .before .before .if3 .left) (⊎-elim
-    (λ u. left-passes _ _ _ _ (c .before .before .before .before .before .before .before .before .before .before .before .before .pre .1) (c .before .before .before .before .before .before .before .before .before .before .read-node .result) (c .before .before .before .before .before .before .before .before .before .before .read-node .ensures) _ (c .before .before .before .before .before .node-fits .ensures) (c .before .before .before .before .if3 .left) (u .0 .taken) (omega (arith, u .2 .left)) _ (u .4 .ensures) (u .5 .left))
-    (λ u. λ d h. tree-none _ _ _ _ _ (u .left))
-    (c .before .before .if4 .came)) (c .if7 .taken)
-
-tree-fits-sub-if8 : (t : ℕ) → tree-fits-lts.Need-sub-if8 (
-  read-node-reads.Asked,
-  read-node-reads.Learnt,
-  inside-reads.Asked,
-  inside-reads.Learnt,
-  node-fits-reads.Asked,
-  node-fits-reads.Learnt,
-  tree-fits-below t,
-  tree-fits.Post,
-) (tree-fits-at t) tree-fits.Post
-tree-fits-sub-if8 t c = omega arith
-
-tree-fits-returns-7 : (t : ℕ) → tree-fits-lts.Need-returns-7 (
-  read-node-reads.Asked,
-  read-node-reads.Learnt,
-  inside-reads.Asked,
-  inside-reads.Learnt,
-  node-fits-reads.Asked,
-  node-fits-reads.Learnt,
-  tree-fits-below t,
-  tree-fits.Post,
-) (tree-fits-at t) tree-fits.Post
-tree-fits-returns-7 t c = right-crowded _ _ _ _ (c .before .before .before .before .before .before .before .before .before .before .before .before .before .before .pre .1) (c .before .before .before .before .before .before .before .before .before .before .before .before .read-node .result) (c .before .before .before .before .before .before .before .before .before .before .before .before .read-node .ensures) (c .before .before .if7 .left) (omega arith)
-
-tree-fits-add-tree-fits : (t : ℕ) → tree-fits-lts.Need-add-tree-fits (
-  read-node-reads.Asked,
-  read-node-reads.Learnt,
-  inside-reads.Asked,
-  inside-reads.Learnt,
-  node-fits-reads.Asked,
-  node-fits-reads.Learnt,
-  tree-fits-below t,
-  tree-fits.Post,
-) (tree-fits-at t) tree-fits.Post
-tree-fits-add-tree-fits t c = omega arith
-
-tree-fits-tree-fits-requires-2 : (t : ℕ) → tree-fits-lts.Need-tree-fits-requires-2 (
-  read-node-reads.Asked,
-  read-node-reads.Learnt,
-  inside-reads.Asked,
-  inside-reads.Learnt,
-  node-fits-reads.Asked,
-  node-fits-reads.Learnt,
-  tree-fits-below t,
-  tree-fits.Post,
-) (tree-fits-at t) tree-fits.Post
-tree-fits-tree-fits-requires-2 t c κs = (omega (arith, c .before .before .before .before .before .before .before .before .before .before .before .before .before .before .before .pre .0, right-lower _ _ _ _ (c .before .before .before .before .before .before .before .before .before .before .before .before .before .before .before .pre .1) (c .before .before .before .before .before .before .before .before .before .before .before .before .before .read-node .result) (c .before .before .before .before .before .before .before .before .before .before .before .before .before .read-node .ensures) _ (c .before .before .before .before .before .before .before .before .node-fits .ensures) (c .before .before .before .before .before .before .before .if3 .left) (c .before .before .before .if7 .left)), record { some = omega arith; room = inside-out _ _ (sym (c .before .before .before .before .before .before .before .before .before .before .inside2 .ensures) ∙ not-false _ (c .before .before .before .before .before .before .before .before .before .if2 .left)) })
-
-tree-fits-returns-8 : (t : ℕ) → tree-fits-lts.Need-returns-8 (
-  read-node-reads.Asked,
-  read-node-reads.Learnt,
-  inside-reads.Asked,
-  inside-reads.Learnt,
-  node-fits-reads.Asked,
-  node-fits-reads.Learnt,
-  tree-fits-below t,
-  tree-fits.Post,
-) (tree-fits-at t) tree-fits.Post
-tree-fits-returns-8 t c = right-decides _ _ _ _ (c .before .before .before .before .before .before .before .before .before .before .before .before .before .before .before .before .pre .1) (c .before .before .before .before .before .before .before .before .before .before .before .before .before .before .read-node .result) (c .before .before .before .before .before .before .before .before .before .before .before .before .before .before .read-node .ensures) _ (c .before .before .before .before .before .before .before .before .before .node-fits .ensures) (c .before .before .before .before .before .before .before .before .if3 .left) (⊎-elim
-    (λ u. left-passes _ _ _ _ (c .before .before .before .before .before .before .before .before .before .before .before .before .before .before .before .before .pre .1) (c .before .before .before .before .before .before .before .before .before .before .before .before .before .before .read-node .result) (c .before .before .before .before .before .before .before .before .before .before .before .before .before .before .read-node .ensures) _ (c .before .before .before .before .before .before .before .before .before .node-fits .ensures) (c .before .before .before .before .before .before .before .before .if3 .left) (u .0 .taken) (omega (arith, u .2 .left)) _ (u .4 .ensures) (u .5 .left))
-    (λ u. λ d h. tree-none _ _ _ _ _ (u .left))
-    (c .before .before .before .before .before .before .if4 .came)) (c .before .before .before .before .if7 .left) _ (c .tree-fits2 .ensures)
-
-pub +tree-fits-spec : {M : Type 1} → statement M
-+tree-fits-spec = close μ-tree-fits λ t. tree-fits-lts.spec (
-  read-node-reads.Asked,
-  read-node-reads.Learnt,
+-- what each call asks and tells, in the order of the code
+abbrev tree-fits-claims : ℕ → tree-fits-lts.Claims
+tree-fits-claims t = (
+  below-reads.Asked,
+  below-reads.Learnt,
+  leaf-fits-reads.Asked,
+  leaf-fits-reads.Learnt,
   inside-reads.Asked,
   inside-reads.Learnt,
   node-fits-reads.Asked,
@@ -239,21 +46,115 @@ pub +tree-fits-spec : {M : Type 1} → statement M
   tree-fits-below t,
   tree-fits.Post,
 )
+
+abbrev tree-fits-Inv-loop : tree-fits-lts.InvT-loop
+tree-fits-Inv-loop words link lo hi k₀ v₀ low₀ k v low = Way words link lo hi k v low
+
+abbrev tree-fits-μ-loop : tree-fits-lts.MeasureT-loop
+tree-fits-μ-loop words link lo hi k₀ v₀ low₀ k v low = (belowOf words k) .height
+
+tree-fits-below-requires : (t : ℕ) → tree-fits-lts.Need-below-requires (tree-fits-claims t) (tree-fits-at t) tree-fits.Post tree-fits-Inv-loop tree-fits-μ-loop
+tree-fits-below-requires t c κs = c .before .pre .1
+
+tree-fits-loop-holds : (t : ℕ) → tree-fits-lts.Need-loop-holds (tree-fits-claims t) (tree-fits-at t) tree-fits.Post tree-fits-Inv-loop tree-fits-μ-loop
+tree-fits-loop-holds t c = record { room = c .before .before .pre .1; is = c .below .ensures; lower = omega arith; tells = λ r h. h }
+
+tree-fits-leaf-fits-requires : (t : ℕ) → tree-fits-lts.Need-leaf-fits-requires (tree-fits-claims t) (tree-fits-at t) tree-fits.Post tree-fits-Inv-loop tree-fits-μ-loop
+tree-fits-leaf-fits-requires t c κs = search needs
+
+tree-fits-returns : (t : ℕ) → tree-fits-lts.Need-returns (tree-fits-claims t) (tree-fits-at t) tree-fits.Post tree-fits-Inv-loop tree-fits-μ-loop
+tree-fits-returns t c = c .before .before .before .before .loop .inv .tells _ (leaf-decides _ _ _ _ (c .before .before .before .loop-test .taken) (c .before .before .before .before .loop .inv .room) (c .before .before .before .before .loop .v) (c .before .before .before .before .loop .inv .is) (c .before .if1 .taken) _ (c .leaf-fits .ensures))
+
+tree-fits-inside-requires : (t : ℕ) → tree-fits-lts.Need-inside-requires (tree-fits-claims t) (tree-fits-at t) tree-fits.Post tree-fits-Inv-loop tree-fits-μ-loop
+tree-fits-inside-requires t c κs = search needs
+
+tree-fits-returns-2 : (t : ℕ) → tree-fits-lts.Need-returns-2 (tree-fits-claims t) (tree-fits-at t) tree-fits.Post tree-fits-Inv-loop tree-fits-μ-loop
+tree-fits-returns-2 t c = c .before .before .before .before .before .loop .inv .tells _ (left-outside _ _ _ _ (c .before .before .before .before .loop-test .taken) (c .before .before .before .before .before .loop .inv .room) (c .before .before .before .before .before .loop .v) (c .before .before .before .before .before .loop .inv .is) _ (c .before .inside .ensures) (c .if2 .taken))
+
+tree-fits-inside-requires-2 : (t : ℕ) → tree-fits-lts.Need-inside-requires-2 (tree-fits-claims t) (tree-fits-at t) tree-fits.Post tree-fits-Inv-loop tree-fits-μ-loop
+tree-fits-inside-requires-2 t c κs = search needs
+
+tree-fits-returns-3 : (t : ℕ) → tree-fits-lts.Need-returns-3 (tree-fits-claims t) (tree-fits-at t) tree-fits.Post tree-fits-Inv-loop tree-fits-μ-loop
+tree-fits-returns-3 t c = c .before .before .before .before .before .before .before .loop .inv .tells _ (right-outside _ _ _ _ (c .before .before .before .before .before .before .loop-test .taken) (c .before .before .before .before .before .before .before .loop .inv .room) (c .before .before .before .before .before .before .before .loop .v) (c .before .before .before .before .before .before .before .loop .inv .is) _ (c .before .inside2 .ensures) (c .if3 .taken))
+
+tree-fits-below-requires-2 : (t : ℕ) → tree-fits-lts.Need-below-requires-2 (tree-fits-claims t) (tree-fits-at t) tree-fits.Post tree-fits-Inv-loop tree-fits-μ-loop
+tree-fits-below-requires-2 t c κs = inside-out _ _ (sym (c .before .before .before .inside .ensures) ∙ not-false _ (c .before .before .if2 .left))
+
+tree-fits-below-requires-3 : (t : ℕ) → tree-fits-lts.Need-below-requires-3 (tree-fits-claims t) (tree-fits-at t) tree-fits.Post tree-fits-Inv-loop tree-fits-μ-loop
+tree-fits-below-requires-3 t c κs = inside-out _ _ (sym (c .before .before .inside2 .ensures) ∙ not-false _ (c .before .if3 .left))
+
+tree-fits-node-fits-requires : (t : ℕ) → tree-fits-lts.Need-node-fits-requires (tree-fits-claims t) (tree-fits-at t) tree-fits.Post tree-fits-Inv-loop tree-fits-μ-loop
+tree-fits-node-fits-requires t c κs = search needs
+
+tree-fits-returns-4 : (t : ℕ) → tree-fits-lts.Need-returns-4 (tree-fits-claims t) (tree-fits-at t) tree-fits.Post tree-fits-Inv-loop tree-fits-μ-loop
+tree-fits-returns-4 t c = c .before .before .before .before .before .before .before .before .before .before .before .loop .inv .tells _ (node-fails _ _ _ _ (c .before .before .before .before .before .before .before .before .before .before .loop-test .taken) (c .before .before .before .before .before .before .before .before .before .before .before .loop .inv .room) (c .before .before .before .before .before .before .before .before .before .before .before .loop .v) (c .before .before .before .before .before .before .before .before .before .before .before .loop .inv .is) (c .before .before .before .below2 .result) (c .before .before .below3 .result) (c .before .before .before .below2 .ensures) (c .before .before .below3 .ensures) _ (c .before .node-fits .ensures) (c .if4 .taken))
+
+tree-fits-returns-5 : (t : ℕ) → tree-fits-lts.Need-returns-5 (tree-fits-claims t) (tree-fits-at t) tree-fits.Post tree-fits-Inv-loop tree-fits-μ-loop
+tree-fits-returns-5 t c = c .before .before .before .before .before .before .before .before .before .before .before .before .before .before .before .loop .inv .tells _ (left-crowded _ _ _ _ (c .before .before .before .before .before .before .before .before .before .before .before .before .before .before .loop-test .taken) (c .before .before .before .before .before .before .before .before .before .before .before .before .before .before .before .loop .inv .room) (c .before .before .before .before .before .before .before .before .before .before .before .before .before .before .before .loop .v) (c .before .before .before .before .before .before .before .before .before .before .before .before .before .before .before .loop .inv .is) (c .before .before .if5 .taken) (omega (arith, c .if6 .taken)))
+
+tree-fits-tree-fits-requires : (t : ℕ) → tree-fits-lts.Need-tree-fits-requires (tree-fits-claims t) (tree-fits-at t) tree-fits.Post tree-fits-Inv-loop tree-fits-μ-loop
+tree-fits-tree-fits-requires t c κs = (omega (arith, c .before .before .before .before .before .before .before .before .before .before .before .before .before .before .before .before .before .before .before .pre .0, c .before .before .before .before .before .before .before .before .before .before .before .before .before .before .before .before .loop .inv .lower, left-lower _ _ _ _ (c .before .before .before .before .before .before .before .before .before .before .before .before .before .before .before .loop-test .taken) (c .before .before .before .before .before .before .before .before .before .before .before .before .before .before .before .before .loop .inv .room) (c .before .before .before .before .before .before .before .before .before .before .before .before .before .before .before .before .loop .v) (c .before .before .before .before .before .before .before .before .before .before .before .before .before .before .before .before .loop .inv .is) (c .before .before .before .before .before .before .before .before .below2 .result) (c .before .before .before .before .before .before .before .below3 .result) (c .before .before .before .before .before .before .before .before .below2 .ensures) (c .before .before .before .before .before .before .before .below3 .ensures) _ (c .before .before .before .before .before .before .node-fits .ensures) (c .before .before .before .before .before .if4 .left)), inside-out _ _ (sym (c .before .before .before .before .before .before .before .before .before .before .before .before .inside .ensures) ∙ not-false _ (c .before .before .before .before .before .before .before .before .before .before .before .if2 .left)))
+
+tree-fits-returns-6 : (t : ℕ) → tree-fits-lts.Need-returns-6 (tree-fits-claims t) (tree-fits-at t) tree-fits.Post tree-fits-Inv-loop tree-fits-μ-loop
+tree-fits-returns-6 t c = c .before .before .before .before .before .before .before .before .before .before .before .before .before .before .before .before .before .before .loop .inv .tells _ (left-fails _ _ _ _ (c .before .before .before .before .before .before .before .before .before .before .before .before .before .before .before .before .before .loop-test .taken) (c .before .before .before .before .before .before .before .before .before .before .before .before .before .before .before .before .before .before .loop .inv .room) (c .before .before .before .before .before .before .before .before .before .before .before .before .before .before .before .before .before .before .loop .v) (c .before .before .before .before .before .before .before .before .before .before .before .before .before .before .before .before .before .before .loop .inv .is) (c .before .before .before .before .before .before .before .before .before .before .below2 .result) (c .before .before .before .before .before .before .before .before .before .below3 .result) (c .before .before .before .before .before .before .before .before .before .before .below2 .ensures) (c .before .before .before .before .before .before .before .before .before .below3 .ensures) _ (c .before .before .before .before .before .before .before .before .node-fits .ensures) (c .before .before .before .before .before .before .before .if4 .left) (omega (arith, c .before .before .before .if6 .left)) _ (c .before .tree-fits .ensures) (c .if7 .taken))
+
+tree-fits-returns-7 : (t : ℕ) → tree-fits-lts.Need-returns-7 (tree-fits-claims t) (tree-fits-at t) tree-fits.Post tree-fits-Inv-loop tree-fits-μ-loop
+tree-fits-returns-7 t c = c .before .before .before .before .before .before .before .before .before .before .before .before .before .before .before .loop .inv .tells _ (right-decides _ _ _ _ (c .before .before .before .before .before .before .before .before .before .before .before .before .before .before .loop-test .taken) (c .before .before .before .before .before .before .before .before .before .before .before .before .before .before .before .loop .inv .room) (c .before .before .before .before .before .before .before .before .before .before .before .before .before .before .before .loop .v) (c .before .before .before .before .before .before .before .before .before .before .before .before .before .before .before .loop .inv .is) (c .before .before .before .before .before .before .before .below2 .result) (c .before .before .before .before .before .before .below3 .result) (c .before .before .before .before .before .before .before .below2 .ensures) (c .before .before .before .before .before .before .below3 .ensures) _ (c .before .before .before .before .before .node-fits .ensures) (c .before .before .before .before .if4 .left) (⊎-elim
+    (λ u. left-passes _ _ _ _ (c .before .before .before .before .before .before .before .before .before .before .before .before .before .before .loop-test .taken) (c .before .before .before .before .before .before .before .before .before .before .before .before .before .before .before .loop .inv .room) (c .before .before .before .before .before .before .before .before .before .before .before .before .before .before .before .loop .v) (c .before .before .before .before .before .before .before .before .before .before .before .before .before .before .before .loop .inv .is) (c .before .before .before .before .before .before .before .below2 .result) (c .before .before .before .before .before .before .below3 .result) (c .before .before .before .before .before .before .before .below2 .ensures) (c .before .before .before .before .before .before .below3 .ensures) _ (c .before .before .before .before .before .node-fits .ensures) (c .before .before .before .before .if4 .left) (omega (arith, u .2 .left)) _ (u .4 .ensures) (u .5 .left))
+    (λ u. left-none _ _ _ _ (c .before .before .before .before .before .before .before .before .before .before .before .before .before .before .loop-test .taken) (c .before .before .before .before .before .before .before .before .before .before .before .before .before .before .before .loop .inv .room) (c .before .before .before .before .before .before .before .before .before .before .before .before .before .before .before .loop .v) (c .before .before .before .before .before .before .before .before .before .before .before .before .before .before .before .loop .inv .is) (c .before .before .before .before .before .before .before .below2 .result) (c .before .before .before .before .before .before .below3 .result) (c .before .before .before .before .before .before .before .below2 .ensures) (c .before .before .before .before .before .before .below3 .ensures) _ (c .before .before .before .before .before .node-fits .ensures) (c .before .before .before .before .if4 .left) (u .left))
+    (c .before .before .if5 .came)) _ (tells-none _ _ _ _ (c .if8 .taken)))
+
+tree-fits-sub-if9 : (t : ℕ) → tree-fits-lts.Need-sub-if9 (tree-fits-claims t) (tree-fits-at t) tree-fits.Post tree-fits-Inv-loop tree-fits-μ-loop
+tree-fits-sub-if9 t c = omega arith
+
+tree-fits-returns-8 : (t : ℕ) → tree-fits-lts.Need-returns-8 (tree-fits-claims t) (tree-fits-at t) tree-fits.Post tree-fits-Inv-loop tree-fits-μ-loop
+tree-fits-returns-8 t c = c .before .before .before .before .before .before .before .before .before .before .before .before .before .before .before .before .before .loop .inv .tells _ (right-crowded _ _ _ _ (c .before .before .before .before .before .before .before .before .before .before .before .before .before .before .before .before .loop-test .taken) (c .before .before .before .before .before .before .before .before .before .before .before .before .before .before .before .before .before .loop .inv .room) (c .before .before .before .before .before .before .before .before .before .before .before .before .before .before .before .before .before .loop .v) (c .before .before .before .before .before .before .before .before .before .before .before .before .before .before .before .before .before .loop .inv .is) (c .before .before .if8 .left) (omega (arith, c .if9 .taken, c .before .before .before .before .before .before .before .before .before .before .before .before .before .before .before .before .before .before .before .before .fits)))
+
+tree-fits-add-low : (t : ℕ) → tree-fits-lts.Need-add-low (tree-fits-claims t) (tree-fits-at t) tree-fits.Post tree-fits-Inv-loop tree-fits-μ-loop
+tree-fits-add-low t c = omega (arith, c .before .if9 .left)
+
+tree-fits-loop-less : (t : ℕ) → tree-fits-lts.Need-loop-less (tree-fits-claims t) (tree-fits-at t) tree-fits.Post tree-fits-Inv-loop tree-fits-μ-loop
+tree-fits-loop-less t c = omega (arith, right-lower _ _ _ _ (c .before .before .before .before .before .before .before .before .before .before .before .before .before .before .before .before .before .loop-test .taken) (c .before .before .before .before .before .before .before .before .before .before .before .before .before .before .before .before .before .before .loop .inv .room) (c .before .before .before .before .before .before .before .before .before .before .before .before .before .before .before .before .before .before .loop .v) (c .before .before .before .before .before .before .before .before .before .before .before .before .before .before .before .before .before .before .loop .inv .is) (c .before .before .before .before .before .before .before .before .before .before .below2 .result) (c .before .before .before .before .before .before .before .before .before .below3 .result) (c .before .before .before .before .before .before .before .before .before .before .below2 .ensures) (c .before .before .before .before .before .before .before .before .before .below3 .ensures) _ (c .before .before .before .before .before .before .before .before .node-fits .ensures) (c .before .before .before .before .before .before .before .if4 .left))
+
+tree-fits-loop-again : (t : ℕ) → tree-fits-lts.Need-loop-again (tree-fits-claims t) (tree-fits-at t) tree-fits.Post tree-fits-Inv-loop tree-fits-μ-loop
+tree-fits-loop-again t c = record {
+  room = inside-out _ _ (sym (c .before .before .before .before .before .before .before .before .before .before .before .before .inside2 .ensures) ∙ not-false _ (c .before .before .before .before .before .before .before .before .before .before .before .if3 .left));
+  is = c .before .before .before .before .before .before .before .before .before .below3 .ensures;
+  lower = omega (arith, c .before .before .before .before .before .before .before .before .before .before .before .before .before .before .before .before .before .before .loop .inv .lower, right-lower _ _ _ _ (c .before .before .before .before .before .before .before .before .before .before .before .before .before .before .before .before .before .loop-test .taken) (c .before .before .before .before .before .before .before .before .before .before .before .before .before .before .before .before .before .before .loop .inv .room) (c .before .before .before .before .before .before .before .before .before .before .before .before .before .before .before .before .before .before .loop .v) (c .before .before .before .before .before .before .before .before .before .before .before .before .before .before .before .before .before .before .loop .inv .is) (c .before .before .before .before .before .before .before .before .before .before .below2 .result) (c .before .before .before .before .before .before .before .before .before .below3 .result) (c .before .before .before .before .before .before .before .before .before .before .below2 .ensures) (c .before .before .before .before .before .before .before .before .before .below3 .ensures) _ (c .before .before .before .before .before .before .before .before .node-fits .ensures) (c .before .before .before .before .before .before .before .if4 .left));
+  tells = λ r h. c .before .before .before .before .before .before .before .before .before .before .before .before .before .before .before .before .before .before .loop .inv .tells r (right-decides _ _ _ _ (c .before .before .before .before .before .before .before .before .before .before .before .before .before .before .before .before .before .loop-test .taken) (c .before .before .before .before .before .before .before .before .before .before .before .before .before .before .before .before .before .before .loop .inv .room) (c .before .before .before .before .before .before .before .before .before .before .before .before .before .before .before .before .before .before .loop .v) (c .before .before .before .before .before .before .before .before .before .before .before .before .before .before .before .before .before .before .loop .inv .is) (c .before .before .before .before .before .before .before .before .before .before .below2 .result) (c .before .before .before .before .before .before .before .before .before .below3 .result) (c .before .before .before .before .before .before .before .before .before .before .below2 .ensures) (c .before .before .before .before .before .before .before .before .before .below3 .ensures) _ (c .before .before .before .before .before .before .before .before .node-fits .ensures) (c .before .before .before .before .before .before .before .if4 .left) (⊎-elim
+      (λ u. left-passes _ _ _ _ (c .before .before .before .before .before .before .before .before .before .before .before .before .before .before .before .before .before .loop-test .taken) (c .before .before .before .before .before .before .before .before .before .before .before .before .before .before .before .before .before .before .loop .inv .room) (c .before .before .before .before .before .before .before .before .before .before .before .before .before .before .before .before .before .before .loop .v) (c .before .before .before .before .before .before .before .before .before .before .before .before .before .before .before .before .before .before .loop .inv .is) (c .before .before .before .before .before .before .before .before .before .before .below2 .result) (c .before .before .before .before .before .before .before .before .before .below3 .result) (c .before .before .before .before .before .before .before .before .before .before .below2 .ensures) (c .before .before .before .before .before .before .before .before .before .below3 .ensures) _ (c .before .before .before .before .before .before .before .before .node-fits .ensures) (c .before .before .before .before .before .before .before .if4 .left) (omega (arith, u .2 .left)) _ (u .4 .ensures) (u .5 .left))
+      (λ u. left-none _ _ _ _ (c .before .before .before .before .before .before .before .before .before .before .before .before .before .before .before .before .before .loop-test .taken) (c .before .before .before .before .before .before .before .before .before .before .before .before .before .before .before .before .before .before .loop .inv .room) (c .before .before .before .before .before .before .before .before .before .before .before .before .before .before .before .before .before .before .loop .v) (c .before .before .before .before .before .before .before .before .before .before .before .before .before .before .before .before .before .before .loop .inv .is) (c .before .before .before .before .before .before .before .before .before .before .below2 .result) (c .before .before .before .before .before .before .before .before .before .below3 .result) (c .before .before .before .before .before .before .before .before .before .before .below2 .ensures) (c .before .before .before .before .before .before .before .before .before .below3 .ensures) _ (c .before .before .before .before .before .before .before .before .node-fits .ensures) (c .before .before .before .before .before .before .before .if4 .left) (u .left))
+      (c .before .before .before .before .before .if5 .came)) r h);
+}
+
+tree-fits-returns-9 : (t : ℕ) → tree-fits-lts.Need-returns-9 (tree-fits-claims t) (tree-fits-at t) tree-fits.Post tree-fits-Inv-loop tree-fits-μ-loop
+tree-fits-returns-9 t c = c .before .loop .inv .tells _ (tells-none _ _ _ _ (c .loop-test .left))
+
+pub +tree-fits-spec : {M : Type 1} → statement M
++tree-fits-spec = close μ-tree-fits λ t. tree-fits-lts.spec (tree-fits-claims t)
     (tree-fits-at t)
     tree-fits.Post
-    (tree-fits-read-node-requires t)
-    (tree-fits-inside-requires t)
+    tree-fits-Inv-loop
+    tree-fits-μ-loop
+    (tree-fits-below-requires t)
+    (tree-fits-loop-holds t)
+    (tree-fits-leaf-fits-requires t)
     (tree-fits-returns t)
-    (tree-fits-inside-requires-2 t)
+    (tree-fits-inside-requires t)
     (tree-fits-returns-2 t)
-    (tree-fits-node-fits-requires t)
+    (tree-fits-inside-requires-2 t)
     (tree-fits-returns-3 t)
+    (tree-fits-below-requires-2 t)
+    (tree-fits-below-requires-3 t)
+    (tree-fits-node-fits-requires t)
     (tree-fits-returns-4 t)
-    (tree-fits-tree-fits-requires t)
     (tree-fits-returns-5 t)
+    (tree-fits-tree-fits-requires t)
     (tree-fits-returns-6 t)
-    (tree-fits-sub-if8 t)
     (tree-fits-returns-7 t)
-    (tree-fits-add-tree-fits t)
-    (tree-fits-tree-fits-requires-2 t)
+    (tree-fits-sub-if9 t)
     (tree-fits-returns-8 t)
+    (tree-fits-add-low t)
+    (tree-fits-loop-less t)
+    (tree-fits-loop-again t)
+    (tree-fits-returns-9 t)

@@ -1,12 +1,9 @@
--- `is_kept` meets its contract: the tests are the definition's. The walk is made where the root is not 0, and elsewhere accepts.
--- Assumes nothing.
+-- `is_kept` meets its contract: the tests are the definition's, in another order. Assumes nothing.
 use mathlib.Core.Path.{_≡_, refl, sym, ap, _∙_}
 use native.Mathlib.Omega.{arith}
-use mathlib.Core.Logic.{⊎-elim}
-use borrow.Author.Tests.{not-true, not-false}
+use borrow.Author.Tests.{not-false}
 use Rattle.store.proofs.Tests.{inside-out}
-use Rattle.store.proofs.Steps.{tree-none}
-use Rattle.store.proofs.Whole.{nodes-are, header-room, spare-fails, root-outside, runs-many, root-high, ones-differ, runs-differ, tree-fails, tree-passes, chain-decides}
+use Rattle.store.proofs.Whole.{header-room, spare-fails, root-outside, runs-many, root-high, ones-differ, runs-differ, tree-fails, tree-passes, chain-decides}
 use borrow.Author.Needs.{needs}
 use Rattle.store.proofs.soundness.is_kept.Statement.{statement}
 use Rattle.store.proofs.soundness.is_kept.Tie as tie
@@ -42,18 +39,18 @@ returns-6 : tie.Need-returns-6
 returns-6 c = runs-many _ (c .before .before .before .before .before .before .before .before .before .before .before .before .before .before .before .before .before .pre) (c .before .before .before .before .before .before .before .before .before .before .before .before .before .before .before .read-header .result) (c .before .before .before .before .before .before .before .before .before .before .before .before .before .before .before .read-header .ensures) _ refl (omega arith)
 
 tree-fits-requires : tie.Need-tree-fits-requires
-tree-fits-requires c κs = record { some = omega arith; room = inside-out _ _ (sym (c .before .before .before .before .before .before .before .before .before .before .before .before .before .before .inside .ensures) ∙ not-false _ (c .before .before .before .before .before .before .before .before .before .before .before .before .before .if2 .left)) }
+tree-fits-requires c κs = inside-out _ _ (sym (c .before .before .before .before .before .before .before .before .before .before .before .before .inside .ensures) ∙ not-false _ (c .before .before .before .before .before .before .before .before .before .before .before .if2 .left))
 
 returns-7 : tie.Need-returns-7
-returns-7 c = tree-fails _ (c .before .before .before .before .before .before .before .before .before .before .before .before .before .before .before .before .before .before .before .before .before .pre) (c .before .before .before .before .before .before .before .before .before .before .before .before .before .before .before .before .before .before .before .read-header .result) (c .before .before .before .before .before .before .before .before .before .before .before .before .before .before .before .before .before .before .before .read-header .ensures) (c .before .before .before .before .before .before .before .before .before .before .before .before .before .before .below .result) (c .before .before .before .before .before .before .before .before .before .before .before .before .before .before .below .ensures) (c .before .before .if7 .taken) (omega arith) _ (c .before .tree-fits .ensures) (c .if8 .taken)
+returns-7 c = tree-fails _ (c .before .before .before .before .before .before .before .before .before .before .before .before .before .before .before .before .before .before .before .pre) (c .before .before .before .before .before .before .before .before .before .before .before .before .before .before .before .before .before .read-header .result) (c .before .before .before .before .before .before .before .before .before .before .before .before .before .before .before .before .before .read-header .ensures) (c .before .before .before .before .before .before .before .before .before .before .before .before .below .result) (c .before .before .before .before .before .before .before .before .before .before .before .before .below .ensures) (omega (arith, c .before .before .before .before .before .before .before .before .before .before .if3 .left)) _ (c .before .tree-fits .ensures) (c .if7 .taken)
 
 chain-fits-requires : tie.Need-chain-fits-requires
 chain-fits-requires c κs = search needs
 
 returns-8 : tie.Need-returns-8
 returns-8 c = chain-decides _ (c .before .before .before .before .before .before .before .before .before .before .before .before .before .before .before .before .before .before .before .before .before .pre) (c .before .before .before .before .before .before .before .before .before .before .before .before .before .before .before .before .before .before .before .read-header .result) (c .before .before .before .before .before .before .before .before .before .before .before .before .before .before .before .before .before .before .before .read-header .ensures) (c .before .before .before .before .before .before .before .before .before .before .before .before .before .before .below .result) (c .before .before .before .before .before .before .before .before .before .before .before .before .before .before .below .ensures) (c .before .before .before .before .before .before .before .before .before .before .before .before .before .before .before .before .before .if1 .left)
-    (⊎-elim (λ u. tree-passes _ (c .before .before .before .before .before .before .before .before .before .before .before .before .before .before .before .before .before .before .before .before .before .pre) (c .before .before .before .before .before .before .before .before .before .before .before .before .before .before .before .before .before .before .before .read-header .result) (c .before .before .before .before .before .before .before .before .before .before .before .before .before .before .before .before .before .before .before .read-header .ensures) (c .before .before .before .before .before .before .before .before .before .before .before .before .before .before .below .result) (c .before .before .before .before .before .before .before .before .before .before .before .before .before .before .below .ensures) (u .0 .taken) (omega arith) _ (u .1 .ensures) (u .2 .left)) (λ u. tree-none _ _ _ _ _ (u .left)) (c .before .before .if7 .came))
-    (c .before .before .before .before .before .before .before .before .before .if4 .left) (c .before .before .before .before .before .before .if5 .left) _ refl (omega arith) _ (c .chain-fits .ensures)
+    (tree-passes _ (c .before .before .before .before .before .before .before .before .before .before .before .before .before .before .before .before .before .before .before .before .before .pre) (c .before .before .before .before .before .before .before .before .before .before .before .before .before .before .before .before .before .before .before .read-header .result) (c .before .before .before .before .before .before .before .before .before .before .before .before .before .before .before .before .before .before .before .read-header .ensures) (c .before .before .before .before .before .before .before .before .before .before .before .before .before .before .below .result) (c .before .before .before .before .before .before .before .before .before .before .before .before .before .before .below .ensures) (omega (arith, c .before .before .before .before .before .before .before .before .before .before .before .before .if3 .left)) _ (c .before .before .before .tree-fits .ensures) (c .before .before .if7 .left))
+    (c .before .before .before .before .before .before .before .before .before .if4 .left) (c .before .before .before .before .before .before .if5 .left) _ refl (omega (arith, c .before .before .before .before .if6 .left)) _ (c .chain-fits .ensures)
 
 pub is-kept-spec : {M : Type 1} → statement M
 is-kept-spec =
