@@ -211,6 +211,10 @@ flat d w k lo total z e = go (ℕ-discrete k 0)
 pub tells-none : (w : List ℕ) (k lo hi : ℕ) → k ≡ 0 → Tells w k lo hi true
 tells-none w k lo hi z d h = sym (tree-none d w k lo (hi + 1) z)
 
+-- equal answers tell the same
+pub tells-as : (w : List ℕ) (k lo hi : ℕ) {r r′ : Bool} → r′ ≡ r → Tells w k lo hi r → Tells w k lo hi r′
+tells-as w k lo hi e h d le = e ∙ h d le
+
 module _ (w : List ℕ) (n lo hi : ℕ) (ne : n ≡ 0 → ⊥) (room : Room w n) (v : Node) (ev : v ≡ belowOf w n) where
   parts : (d : ℕ) → treeB d w n lo (hi + 1) ≡ true → Passed d w v lo (hi + 1)
   parts d e = passed d w n lo (hi + 1) v ev ne e
@@ -320,9 +324,8 @@ module _ (w : List ℕ) (n lo hi : ℕ) (ne : n ≡ 0 → ⊥) (room : Room w n)
           ∙ sym (tree-node d w n lo (hi + 1) v ev ne (omega (arith, tall))
           ∙ rw (inside-in w n room, sym own-is ∙ not-false b tb, left d h))
 
--- where the walk of the link k is: at the node j with the words v, whose walk decides for k's
-pub record Way (w : List ℕ) (k lo hi j : ℕ) (v : Node) (low : ℕ) : Type 0 where
+-- where the walk of the link k is: at the link j, whose walk decides for k's
+pub record Way (w : List ℕ) (k lo hi j low : ℕ) : Type 0 where
   pub room : Room w j
-  pub is : v ≡ belowOf w j
   pub lower : (belowOf w j) .height ≤ (belowOf w k) .height
   pub tells : (r : Bool) → Tells w j low hi r → Tells w k lo hi r

@@ -133,16 +133,16 @@ fn leaf_fits(v: Node, lo: u64, hi: u64) -> bool
     v.ones == std::num::wrapping_add_u64(v.end - v.start, 1)
 }
 
-// Whether a tree hangs at a link, all its runs within lo..=hi. It goes down the right side, k with the words v, and calls itself on each
-// left side.
+// Whether a tree hangs at a link, all its runs within lo..=hi. It goes down the right side, and calls itself on each left side that has
+// more than one node.
 fn tree_fits(words: &[u64], link: u64, lo: u64, hi: u64) -> bool
     requires { ⌜ Room (now words) link ⌝ }
     ensures { λ r. ⌜ Tells (now (words .entry)) link lo hi r ⌝ }
 {
     let mut k = link;
-    let mut v = below(words, link);
     let mut low = lo;
     while k != 0 {
+        let v = below(words, k);
         if v.height == 1 {
             return leaf_fits(v, low, hi);
         }
@@ -161,7 +161,12 @@ fn tree_fits(words: &[u64], link: u64, lo: u64, hi: u64) -> bool
             if v.start < 2 {
                 return false;
             }
-            if !tree_fits(words, v.left, low, v.start - 2) {
+            let fits = if x.height == 1 {
+                leaf_fits(x, low, v.start - 2)
+            } else {
+                tree_fits(words, v.left, low, v.start - 2)
+            };
+            if !fits {
                 return false;
             }
         }
@@ -173,7 +178,6 @@ fn tree_fits(words: &[u64], link: u64, lo: u64, hi: u64) -> bool
         }
         low = v.end + 2;
         k = v.right;
-        v = y;
     }
     true
 }
