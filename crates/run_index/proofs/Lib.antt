@@ -14,3 +14,5 @@ pub mod Least
 pub mod Numbers
 pub mod Totals
 pub mod Bound
+pub mod Walking
+pub mod Searching

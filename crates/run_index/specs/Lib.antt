@@ -3,3 +3,4 @@ pub mod Tree
 pub mod Shape
 pub mod Promises
 pub mod Order
+pub mod Search

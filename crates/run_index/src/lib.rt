@@ -8,6 +8,8 @@ ghost use Rattle.run_index.specs.Tree.{Tree, Sums, Held, width};
 ghost use Rattle.run_index.specs.Promises.{Pullable, Pulls, Joinable, Joins, Leanable, Leans, Insertable, Inserts, Ours, Pops, Removes, Given, Builds, TellsSums};
 ghost use Rattle.run_index.specs.Shape.{rotateLeft, rotateRight, leanLeft, leanRight, rebalanced};
 
+pub mod search;
+
 pub struct Node {
     pub start: u64,
     pub end: u64,

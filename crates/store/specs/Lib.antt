@@ -1,3 +1,11 @@
 pub mod Layout
 pub mod Soundness
 pub mod Decision
+pub mod Bounds
+pub mod Moved
+pub mod Turn
+pub mod Ends
+pub mod Nearby
+pub mod Counting
+pub mod Joins
+pub mod Parted

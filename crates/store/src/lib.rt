@@ -5,6 +5,7 @@ ghost use Rattle.run_index.specs.Cells.{Room};
 ghost use Rattle.store.specs.Layout.{headerAt, Headed};
 use run_index::Node;
 
+pub mod bounds;
 pub mod soundness;
 
 // The header's words, in order.

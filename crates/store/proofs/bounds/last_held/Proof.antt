@@ -1,0 +1,71 @@
+-- `last_held` meets its contract: the place of logical M, else the last run before it, else the last run of all.
+-- Assumes nothing.
+use mathlib.Core.Path.{sym, ap, _∙_}
+use native.Mathlib.Omega.{arith}
+use Rattle.run_index.specs.Tree.{inorder}
+use Rattle.run_index.specs.Search.{nearRun}
+use Rattle.store.specs.Nearby.{last-top, last-before, last-wrapped, last-none}
+use borrow.Author.Needs.{needs}
+use Rattle.store.proofs.bounds.last_held.Statement.{statement}
+use Rattle.store.proofs.bounds.last_held.Tie as tie
+
+to-physical-requires : tie.Need-to-physical-requires
+to-physical-requires c κs = search needs
+
+get-physical-requires : tie.Need-get-physical-requires
+get-physical-requires c κs = search needs
+
+returns : tie.Need-returns
+returns c = λ g t i. last-top (inorder t) (i .canonical) (c .before .before .before .before .args .offset) (omega arith) (c .before .before .to-physical .result .0) (c .before .before .to-physical .ensures) (sym (c .before .get-physical .ensures g t i) ∙ c .if1 .taken)
+
+at-or-before-requires : tie.Need-at-or-before-requires
+at-or-before-requires c κs = search needs
+
+enum-known-n : tie.Need-enum-known-n
+enum-known-n c = search needs
+
+to-logical-requires : tie.Need-to-logical-requires
+to-logical-requires c κs = search needs
+
+enum-told : tie.Need-enum-told
+enum-told c = search needs
+
+at-or-before-requires-2 : tie.Need-at-or-before-requires-2
+at-or-before-requires-2 c κs = search needs
+
+enum-known-m : tie.Need-enum-known-m
+enum-known-m c = search needs
+
+to-logical-requires-2 : tie.Need-to-logical-requires-2
+to-logical-requires-2 c κs = search needs
+
+enum-told-2 : tie.Need-enum-told-2
+enum-told-2 c = search needs
+
+returns-2 : tie.Need-returns-2
+returns-2 c = λ g t i. c .to-logical .ensures ∙ last-before (inorder t) (i .canonical) (c .before .before .before .before .before .before .before .before .before .args .offset) (omega arith) (c .before .before .before .before .before .before .before .to-physical .result .0) (c .before .before .n .given .0 .0) (c .before .before .before .before .before .before .before .to-physical .ensures) (sym (c .before .before .before .before .before .before .get-physical .ensures g t i) ∙ c .before .before .before .before .before .if1 .left) (sym (ap nearRun (c .before .before .n .given .1)) ∙ c .before .before .before .before .at-or-before .ensures g t i)
+
+returns-3 : tie.Need-returns-3
+returns-3 c = λ g t i. c .to-logical2 .ensures ∙ last-wrapped (inorder t) (i .canonical) (c .before .before .before .before .before .before .before .before .before .before .before .before .args .offset) (omega arith) (c .before .before .before .before .before .before .before .before .before .before .to-physical .result .0) (c .before .before .m .given .0 .0) (c .before .before .before .before .before .before .before .before .before .before .to-physical .ensures) (sym (ap nearRun (c .before .before .before .before .before .enum-told .given .1)) ∙ c .before .before .before .before .before .before .before .at-or-before .ensures g t i) (sym (ap nearRun (c .before .before .m .given .1)) ∙ c .before .before .before .before .at-or-before2 .ensures g t i)
+
+returns-4 : tie.Need-returns-4
+returns-4 c = λ g t i. last-none (inorder t) (i .canonical) (c .before .before .before .before .before .before .before .before .before .before .args .offset) (omega arith) (sym (ap nearRun (c .enum-told2 .given .1)) ∙ c .before .before .at-or-before2 .ensures g t i)
+
+pub last-held-spec : {M : Type 1} → statement M
+last-held-spec =
+    tie.close
+    (tie.spec
+    to-physical-requires
+    get-physical-requires
+    returns
+    at-or-before-requires
+    enum-known-n
+    to-logical-requires
+    enum-told
+    at-or-before-requires-2
+    enum-known-m
+    to-logical-requires-2
+    enum-told-2
+    returns-2
+    returns-3
+    returns-4)
