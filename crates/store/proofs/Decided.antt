@@ -308,11 +308,11 @@ keptB-no w S =
     })
 
 -- either of two tests
-either-out : (a b : Bool) → (not a || b) ≡ true → a ≡ true → b ≡ true
+pub either-out : (a b : Bool) → (not a || b) ≡ true → a ≡ true → b ≡ true
 either-out true b e p = e
 either-out false b e p = never p
 
-either-in : (a b : Bool) → (a ≡ true → b ≡ true) → (not a || b) ≡ true
+pub either-in : (a b : Bool) → (a ≡ true → b ≡ true) → (not a || b) ≡ true
 either-in true b h = h refl
 either-in false b h = refl
 

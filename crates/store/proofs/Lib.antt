@@ -6,3 +6,4 @@ pub mod Orders
 pub mod Chains
 pub mod Decided
 pub mod Whole
+pub mod Bounded

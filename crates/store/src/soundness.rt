@@ -3,10 +3,12 @@
 // has height 0 and a node of the tree has not, so the chain never meets the tree; and a chain of exactly the nodes that are left, ending
 // in 0, meets each of them once.
 ghost use mathlib.Core.Path.{_≡_};
+ghost use mathlib.Core.Bool.{_||_, not};
+ghost use lib.Dec.{eqb};
 ghost use Prim.Native.Nat.{_+_, _≤_};
 ghost use Rattle.run_index.specs.Cells.{Room};
 ghost use Rattle.store.specs.Layout.{capacity};
-ghost use Rattle.store.specs.Decision.{insideB, belowOf, runB, heightsB, sumsB, cellB, leafB, freeB, chainB, keptB, Tells};
+ghost use Rattle.store.specs.Decision.{insideB, belowOf, runB, heightsB, sumsB, cellB, leafB, freeB, chainB, keptB, soundB, Tells};
 use model::Store;
 use run_index::Node;
 
@@ -261,4 +263,39 @@ pub fn is_kept(words: &[u64]) -> bool
         return false;
     }
     chain_fits(words, h.free, all - h.runs)
+}
+
+// Whether the offset is one that a store with this root may have: an empty one has offset 0.
+fn offset_fits(root: u64, offset: u64) -> bool
+    ensures { λ r. ⌜ r ≡ (not (eqb root 0) || eqb offset 0) ⌝ }
+{
+    if root != 0 {
+        return true;
+    }
+    offset == 0
+}
+
+// Whether words of a store's length are a sound store.
+pub fn is_sound(words: &[u64]) -> bool
+    requires { ⌜ 1 ≤ capacity (now words) ⌝ }
+    ensures { λ r. ⌜ r ≡ soundB (now (words .entry)) ⌝ }
+{
+    if !is_kept(words) {
+        return false;
+    }
+    let h = crate::read_header(words);
+    if !offset_fits(h.root, h.offset) {
+        return false;
+    }
+    let f = crate::bounds::first_held(words, h.root, h.offset);
+    if h.first != f.0 {
+        return false;
+    }
+    let l = crate::bounds::last_held(words, h.root, h.offset);
+    if h.last != l.0 {
+        return false;
+    }
+    let n = crate::bounds::logical_runs(words, h.root, h.offset, h.runs);
+    let s = Store::of_length(words.len());
+    n <= s.capacity
 }
