@@ -1,22 +1,22 @@
 -- What `is_sound` returns, by the tests that led there. Where a tree and a chain share the nodes out, the positions that the store holds
 -- are those of the tree, turned by the offset, so what `bounds` tells of the tree is what the header has to say. Assumes nothing.
-use Prim.Native.Nat.{ℕ, _+_, _≤_, _<_, _^_}
+use Prim.Native.Nat.{ℕ, _≤_}
 use mathlib.Core.Path.{_≡_, refl, sym, ap, _∙_}
-use mathlib.Core.Bool.{Bool, true, false, not, _&&_, _||_}
+use mathlib.Core.Bool.{Bool, true, false, not, _||_}
 use mathlib.Core.List.{List}
 use native.Mathlib.Omega.{arith}
 use borrow.Author.Tests.{not-true, not-false, eqb-true, eq-eqb, leb-true, le-leb}
 use lib.Dec.{leb, eqb}
 use Rattle.model.specs.declared.Run.{Run}
 use Rattle.model.specs.Positions.{Positions, mem, heldRuns, stretches}
-use Rattle.run_index.specs.Tree.{Tree, runs, inorder}
+use Rattle.run_index.specs.Tree.{runs, inorder}
 use Rattle.run_index.specs.Search.{Index, Indexed}
 use Rattle.store.specs.declared.Header.{Header}
-use Rattle.store.specs.Layout.{headerAt, capacity, turned, physicalRuns, heldBy}
-use Rattle.store.specs.Soundness.{firstOf, lastOf, Kept, Sound}
-use Rattle.store.specs.Decision.{keptB, boundsB, soundB, Shared}
+use Rattle.store.specs.Layout.{headerAt, capacity, turned, heldBy}
+use Rattle.store.specs.Soundness.{firstOf, lastOf}
+use Rattle.store.specs.Decision.{keptB, soundB, Shared}
 use Rattle.store.specs.Bounds.{TellsFirst, TellsLast, Counted, TellsRuns}
-use Rattle.store.proofs.Tests.{never, is-false, same, both-out, both-in}
+use Rattle.store.proofs.Tests.{never, is-false, same}
 use Rattle.store.proofs.Decided.{cells, kept-few, kept-physical, keptB-yes, soundB-yes, soundB-no, either-out, either-in}
 
 -- a sound store is kept
@@ -41,6 +41,7 @@ module _ (w : List ℕ) (sized : 1 ≤ capacity w) (b : Bool) (eb : b ≡ keptB 
           omega (arith, c .1);
     }
 
+    -- as `bounds` asks for it
     pub indexed : Indexed w (h .root)
     indexed = (0, shared .tree, index)
 
@@ -55,12 +56,15 @@ module _ (w : List ℕ) (sized : 1 ≤ capacity w) (b : Bool) (eb : b ≡ keptB 
         ap (λ (o : ℕ). turned o (mem (inorder (shared .tree)))) (ap (λ (x : Header). x .offset) eh)
         ∙ ap (λ (rs : List Run). turned ((headerAt w) .offset) (mem rs)) (sym (kept-physical w (shared .tree) (shared .free) (shared .kept)))
 
+    -- what `bounds` tells of the first position held
     first-told : (r : ℕ) → TellsFirst w (h .root) (h .offset) r → r ≡ firstOf (heldRuns (heldBy w))
     first-told r t = t 0 (shared .tree) index ∙ ap (λ (P : Positions). firstOf (heldRuns P)) held
 
+    -- of the last
     last-told : (r : ℕ) → TellsLast w (h .root) (h .offset) r → r ≡ lastOf (heldRuns (heldBy w))
     last-told r t = t 0 (shared .tree) index ∙ ap (λ (P : Positions). lastOf (heldRuns P)) held
 
+    -- of the logical runs
     runs-told : (r : ℕ) → TellsRuns w (h .root) (h .offset) r → r ≡ stretches (heldBy w)
     runs-told r t = t 0 (shared .tree) index ∙ ap stretches held
 
@@ -74,11 +78,12 @@ module _ (w : List ℕ) (sized : 1 ≤ capacity w) (b : Bool) (eb : b ≡ keptB 
         (λ z. eq-eqb _ _ (ap (λ (u : Header). u .offset) eh ∙ S .empty-offset (sym (ap (λ (u : Header). u .root) eh) ∙ eqb-true _ _ z))) in
         never (sym (not-true x t) ∙ ex ∙ y)))
 
-    -- another first position, and another last one
+    -- another first position
     pub first-fails : (r : ℕ) → TellsFirst w (h .root) (h .offset) r → (h .first ≡ r → ⊥) → false ≡ soundB w
     first-fails r t ne =
         sym (is-false (soundB w) (λ e. ne (ap (λ (u : Header). u .first) eh ∙ soundB-yes w sized e .first-is ∙ sym (first-told r t))))
 
+    -- another last position
     pub last-fails : (r : ℕ) → TellsLast w (h .root) (h .offset) r → (h .last ≡ r → ⊥) → false ≡ soundB w
     last-fails r t ne =
         sym (is-false (soundB w) (λ e. ne (ap (λ (u : Header). u .last) eh ∙ soundB-yes w sized e .last-is ∙ sym (last-told r t))))

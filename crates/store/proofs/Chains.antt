@@ -1,18 +1,18 @@
 -- The free chain is decided by following it. A chain that ends meets no node twice: a link leads to one chain, and a chain that came
 -- back to a node would be longer than itself. Assumes nothing.
-use Prim.Native.Nat.{ℕ, zero, suc, _+_, _-_, _≤_, _<_}
+use Prim.Native.Nat.{ℕ, zero, suc, _+_, _≤_}
 use mathlib.Core.Path.{_≡_, refl, sym, ap, _∙_, subst}
 use mathlib.Core.List.{List, [], _∷_}
-use mathlib.Core.Bool.{Bool, true, false}
+use mathlib.Core.Bool.{true}
 use native.Mathlib.Omega.{arith}
 use native.Mathlib.Decide.{ℕ-discrete}
 use borrow.Author.Tests.{eqb-true, eq-eqb}
 use lib.ListN.{length}
 use Rattle.run_index.specs.declared.Node.{Node}
-use Rattle.run_index.specs.Cells.{cellAt, Room}
+use Rattle.run_index.specs.Cells.{cellAt}
 use Rattle.run_index.specs.Tree.{δ}
-use Rattle.run_index.proofs.Trees.{δ-same, δ-other, δ≤1}
-use Rattle.store.specs.Soundness.{freeCell, Chain, times}
+use Rattle.run_index.proofs.Trees.{δ-other, δ≤1}
+use Rattle.store.specs.Soundness.{Chain, times}
 use Rattle.store.specs.Decision.{freeB, chainB}
 use Rattle.store.proofs.Tests.{both-out, both-in, Free, free-out, free-in}
 

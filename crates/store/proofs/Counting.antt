@@ -1,10 +1,10 @@
 -- The nodes of a tree and of a list, counted by their numbers: the counts of the numbers 1 .. n add up to the number of nodes, so if no
 -- number stands twice there are n nodes exactly where each number stands once. Assumes nothing.
-use Prim.Native.Nat.{ℕ, zero, suc, _+_, _-_, _≤_, _<_}
+use Prim.Native.Nat.{ℕ, zero, suc, _+_, _≤_, _<_}
 use mathlib.Core.Path.{_≡_, refl, ap, _∙_}
 use mathlib.Core.List.{List, [], _∷_}
 use native.Mathlib.Omega.{arith}
-use native.Mathlib.Decide.{ℕ-discrete, decLe}
+use native.Mathlib.Decide.{ℕ-discrete}
 use lib.ListN.{length}
 use Rattle.run_index.specs.Tree.{Tree, leaf, node, runs, δ, count}
 use Rattle.run_index.proofs.Trees.{δ-same, δ-other}
@@ -84,6 +84,7 @@ sum-times n (k ∷ ks) h =
     omega (arith, sum-add n (λ m. δ m k) (λ m. times m ks), sum-δ n k (p .0) (p .1), sum-times n ks (λ m i. h m (omega arith)))
 
 module _ (n : ℕ) (t : Tree) (ks : List ℕ) (ht : Among n (λ m. count m t)) (hk : Among n (λ m. times m ks)) where
+  -- the counts of both add up to all nodes
   total : sum n (λ m. count m t + times m ks) ≡ runs t + length ks
   total = omega (arith, sum-add n (λ m. count m t) (λ m. times m ks), sum-count n t ht, sum-times n ks hk)
 

@@ -1,34 +1,34 @@
 -- The tests of specs/Decision.antt decide what is kept, and soundness. A walk that accepts a link has met a tree there, in order and
 -- balanced, and each such tree is accepted; the chain has the nodes that are left, by counting. A link leads to one tree, so the runs
 -- that words hold are those of the tree. Assumes nothing.
-use Prim.Native.Nat.{ℕ, zero, suc, _+_, _-_, _*_, _/_, _%_, _^_, _≤_, _<_, max}
+use Prim.Native.Nat.{ℕ, zero, suc, _+_, _-_, _*_, _≤_, _<_, max}
 use mathlib.Core.Path.{_≡_, refl, sym, ap, _∙_, subst}
-use mathlib.Core.Bool.{Bool, true, false, not, _&&_, _||_}
+use mathlib.Core.Bool.{Bool, true, false, not, _||_}
 use mathlib.Core.List.{List, [], _∷_, _++_}
 use native.Mathlib.Omega.{arith}
 use native.Mathlib.Decide.{ℕ-discrete, decLe}
-use borrow.Author.Tests.{eqb-true, eq-eqb, ne-eqb, leb-true, le-leb}
-use lib.Dec.{leb, eqb}
+use borrow.Author.Tests.{eqb-true, eq-eqb, leb-true, le-leb}
+use lib.Dec.{eqb}
 use lib.ListN.{length}
-use Rattle.model.specs.declared.Run.{Run}
-use Rattle.model.specs.Numbers.{size, capacityOf, length-capacity}
+use Rattle.model.specs.Numbers.{size, length-capacity}
 use Rattle.model.specs.RunList.{Canon}
-use Rattle.model.specs.Positions.{run, heldRuns, stretches}
+use Rattle.model.specs.Positions.{run}
 use Rattle.run_index.specs.declared.Node.{Node}
-use Rattle.run_index.specs.Cells.{cellAt, Room}
-use Rattle.run_index.specs.Tree.{Tree, leaf, node, link, height, runs, ones, count, Distinct, inorder, cell, Rep, rep-leaf, rep-node, At, Sums, Balanced}
-use Rattle.run_index.proofs.Trees.{rep-pos, rep-room, rep-ordered, rep-cell, rep-left, rep-right, sums-leaf, sums-node, at-none}
+use Rattle.run_index.specs.Cells.{cellAt}
+use Rattle.run_index.specs.Tree.{Tree, leaf, node, link, height, runs, ones, count, inorder, cell, Rep, rep-leaf, rep-node, At, Sums, Balanced}
+use Rattle.run_index.proofs.Words.{same-node}
+use Rattle.run_index.proofs.Trees.{rep-pos, rep-room, rep-cell, rep-left, rep-right, sums-leaf, sums-node}
 use Rattle.run_index.proofs.Least.{least, least-runs, least-rises, least-23}
 use Rattle.run_index.proofs.Bound.{few-nodes}
 use Rattle.run_index.proofs.Totals.{runs-length}
-use Rattle.store.specs.Layout.{headerAt, capacity, runsFrom, physicalRuns, heldBy}
-use Rattle.store.specs.Soundness.{freeCell, Chain, times, firstOf, lastOf, Kept, Sound}
-use Rattle.store.specs.Decision.{insideB, belowOf, runB, heightsB, sumsB, agreesB, cellB, treeB, chainB, keptB, boundsB, soundB, Shared}
-use Rattle.store.proofs.Tests.{never, both-out, both-in, inside-out, inside-in, below-none, below-some, Within, run-out, run-in, heights-out, heights-in, sums-out, sums-in, node-path, Free}
+use Rattle.store.specs.Layout.{headerAt, capacity, runsFrom, physicalRuns}
+use Rattle.store.specs.Soundness.{Chain, times, Kept, Sound}
+use Rattle.store.specs.Decision.{insideB, belowOf, agreesB, cellB, treeB, chainB, keptB, boundsB, soundB, Shared}
+use Rattle.store.proofs.Tests.{never, both-out, both-in, inside-out, inside-in, below-none, below-some, Within, run-out, run-in, heights-out, heights-in, sums-out, sums-in}
 use Rattle.store.proofs.Steps.{cell-out, tree-none, tree-node}
 use Rattle.store.proofs.Counting.{Among, each-once, that-many}
-use Rattle.store.proofs.Orders.{About, canon-out, canon-in, Node-in, node-in, distinct}
-use Rattle.store.proofs.Chains.{Chained, chained, followed, chain-once, chain-free, free-low}
+use Rattle.store.proofs.Orders.{About, canon-out, canon-in, node-in, distinct}
+use Rattle.store.proofs.Chains.{chained, followed, chain-once, chain-free, free-low}
 
 -- the words at a link tell the height and the sums of the tree there
 pub below-sums : (w : List ℕ) (k : ℕ) (t : Tree) → At w 0 k t → Sums (belowOf w k) t
@@ -53,15 +53,18 @@ empty d w lo total = record { t = leaf; at = record { rep = rep-leaf; linked = r
 -- two trees and a node make a tree
 module _ (d : ℕ) (w : List ℕ) (n lo total : ℕ) (v : Node) (is : v ≡ cellAt w n) (pos : 1 ≤ n) (inside : insideB w n ≡ true)
     (own : cellB v (belowOf w (v .left)) (belowOf w (v .right)) lo total ≡ true) (L : Hangs d w (v .left) lo (v .start - 1)) (R : Hangs d w (v .right) (v .«end» + 2) total) where
+  -- its run lies within the bounds
   within : Within (v .start) (v .«end») (v .tag) lo total
   within = run-out _ _ _ lo total (cell-out v (belowOf w (v .left)) (belowOf w (v .right)) lo total own .run-fits)
 
+  -- its height and its balance
   tall : (v .height ≡ 1 + max (height (L .t)) (height (R .t))) × (height (L .t) ≤ height (R .t) + 1) × (height (R .t) ≤ height (L .t) + 1)
   tall =
       let x = below-sums w (v .left) (L .t) (L .at) in
       let y = below-sums w (v .right) (R .t) (R .at) in
       rw (x .height-is, y .height-is) at (heights-out (v .height) ((belowOf w (v .left)) .height) ((belowOf w (v .right)) .height) (cell-out v (belowOf w (v .left)) (belowOf w (v .right)) lo total own .heights-fit))
 
+  -- its sums
   summed : (v .runs ≡ runs (L .t) + runs (R .t) + 1) × (v .ones ≡ ones (node n (v .start) (v .«end») (L .t) (R .t)))
   summed =
       let x = below-sums w (v .left) (L .t) (L .at) in
@@ -70,6 +73,7 @@ module _ (d : ℕ) (w : List ℕ) (n lo total : ℕ) (v : Node) (is : v ≡ cell
       (sums-out (v .runs) ((belowOf w (v .left)) .runs) ((belowOf w (v .right)) .runs) (v .ones) ((belowOf w (v .left)) .ones)
       ((belowOf w (v .right)) .ones) (v .start) (v .«end») (cell-out v (belowOf w (v .left)) (belowOf w (v .right)) lo total own .sums-fit))
 
+  -- together they are a tree at n
   joined : Hangs (suc d) w n lo total
   joined =
       let i = within in
@@ -81,7 +85,7 @@ module _ (d : ℕ) (w : List ℕ) (n lo total : ℕ) (v : Node) (is : v ≡ cell
         t = node n (v .start) (v .«end») (L .t) (R .t);
         at = record {
           rep = rep-node pos (inside-out w n inside) (i .ordered)
-              (sym is ∙ node-path v (cell (v .start) (v .«end») (L .t) (R .t) 0) refl refl (sym (L .at .linked)) (sym (R .at .linked)) (h .0) (s .0) (s .1) (i .spare))
+              (sym is ∙ same-node v (cell (v .start) (v .«end») (L .t) (R .t) 0) refl refl (sym (L .at .linked)) (sym (R .at .linked)) (h .0) (s .0) (s .1) (i .spare))
               (L .at .rep) (R .at .rep);
           linked = refl;
         };
@@ -165,13 +169,14 @@ module _ (w : List ℕ) (t : Tree) (ns : List ℕ) (K : Kept w t ns) where
   pub kept-runs : length (inorder t) ≤ capacity w + 2
   kept-runs = omega (arith, kept-few, runs-length t)
 
--- the runs from a link, opened by one step
+-- the runs from a link, opened by one step: at 0
 from-none : (d : ℕ) (w : List ℕ) (k : ℕ) → k ≡ 0 → runsFrom d w k ≡ []
 unfolding runsFrom
 from-none zero w k e = refl
 from-none (suc d) w zero e = refl
 from-none (suc d) w (suc k) e = absurd (omega arith)
 
+-- at a node
 from-node : (d : ℕ) (w : List ℕ) (n : ℕ) (v : Node) → v ≡ cellAt w n → 1 ≤ n → 1 ≤ d
     → runsFrom d w n ≡ runsFrom (d - 1) w (v .left) ++ run (v .start) (v .«end») ∷ runsFrom (d - 1) w (v .right)
 unfolding runsFrom
@@ -196,12 +201,14 @@ kept-physical w t ns K = from-tree w t 22 ((headerAt w) .root) (K .linked) (kept
 -- the nodes of a tree in order and of a chain are among 1 .. C + 2, and the two have none in common
 module _ (w : List ℕ) (t : Tree) (ns : List ℕ) (sized : 1 ≤ capacity w) (rep : Rep w 0 t) (ordered : Canon size 0 (inorder t)) (k : ℕ)
     (chain : Chain w k ns) where
+  -- the nodes of the tree are among them
   tree-among : Among (capacity w + 2) (λ m. count m t)
   tree-among m i =
       let h = node-in w 0 t 0 size rep ordered m i in
       let c = cells w sized in
       (h .some, omega (arith, c .0, h .room))
 
+  -- those of the chain
   chain-among : Among (capacity w + 2) (λ m. times m ns)
   chain-among m i =
       let h = chain-free w k ns chain m i in
@@ -237,6 +244,7 @@ pub record Headed-so (w : List ℕ) : Type 0 where
   pub few : (headerAt w) .runs ≤ capacity w + 2
   pub chain : chainB (capacity w + 2 - (headerAt w) .runs) w ((headerAt w) .free) ≡ true
 
+-- what the tests say
 pub kept-out : (w : List ℕ) → keptB w ≡ true → Headed-so w
 unfolding keptB
 kept-out w e =
@@ -254,6 +262,7 @@ kept-out w e =
       chain = f .1;
     }
 
+-- and back
 pub kept-in : (w : List ℕ) → Headed-so w → keptB w ≡ true
 unfolding keptB
 kept-in w h =
@@ -312,6 +321,7 @@ pub either-out : (a b : Bool) → (not a || b) ≡ true → a ≡ true → b ≡
 either-out true b e p = e
 either-out false b e p = never p
 
+-- and back
 pub either-in : (a b : Bool) → (a ≡ true → b ≡ true) → (not a || b) ≡ true
 either-in true b h = h refl
 either-in false b h = refl

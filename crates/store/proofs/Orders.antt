@@ -1,8 +1,7 @@
 -- Runs in order, split at a run of the middle: those before it end two below its start, those after it start two above its end. So a
 -- tree in words whose runs rise has no node twice: the node's own start would have to lie in two places. Assumes nothing.
-use Prim.Native.Nat.{ℕ, zero, suc, _+_, _-_, _≤_, _<_}
-use mathlib.Core.Path.{_≡_, refl, sym, ap, _∙_, subst}
-use mathlib.Core.Logic.{_⊎_, inl, inr}
+use Prim.Native.Nat.{ℕ, _+_, _-_, _≤_, _<_}
+use mathlib.Core.Path.{_≡_, sym, ap, _∙_, subst}
 use mathlib.Core.List.{List, [], _∷_, _++_}
 use native.Mathlib.Omega.{arith}
 use native.Mathlib.Decide.{ℕ-discrete}
@@ -11,7 +10,7 @@ use Rattle.model.specs.RunList.{Canon}
 use Rattle.run_index.specs.declared.Node.{Node}
 use Rattle.run_index.specs.Cells.{cellAt, Room}
 use Rattle.run_index.specs.Tree.{Tree, leaf, node, inorder, δ, count, Distinct, cell, Rep}
-use Rattle.run_index.proofs.Trees.{δ-same, δ-other, δ≤1, rep-pos, rep-room, rep-ordered, rep-cell, rep-left, rep-right}
+use Rattle.run_index.proofs.Trees.{δ-other, δ≤1, rep-pos, rep-room, rep-ordered, rep-cell, rep-left, rep-right}
 
 -- the parts of a list in order about one of its runs
 pub record About (total lo : ℕ) (xs : List Run) (a b : ℕ) (ys : List Run) : Type 0 where

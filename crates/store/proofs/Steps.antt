@@ -1,34 +1,37 @@
 -- What the functions of `soundness` return, by the tests that led there: each definition opened by one step. Assumes nothing.
-use Prim.Native.Nat.{ℕ, zero, suc, _+_, _-_, _*_, _/_, _%_, _^_, _≤_, _<_, max}
+use Prim.Native.Nat.{ℕ, zero, suc, _+_, _-_, _≤_, _<_, max}
 use mathlib.Core.Path.{_≡_, refl, sym, ap, _∙_}
 use mathlib.Core.Bool.{Bool, true, false, not, _&&_, and-false}
 use mathlib.Core.List.{List}
 use native.Mathlib.Omega.{arith}
 use native.Mathlib.Decide.{ℕ-discrete}
-use lib.Dec.{leb, ltb, eqb}
-use lib.ListN.{length}
+use lib.Dec.{eqb}
 use borrow.Author.Tests.{eq-eqb, ne-eqb, eqb-true, not-true, not-false}
 use Rattle.run_index.specs.declared.Node.{Node}
 use Rattle.run_index.specs.Cells.{cellAt, Room}
 use Rattle.store.specs.Decision.{insideB, belowOf, runB, heightsB, sumsB, agreesB, cellB, leafB, treeB, freeB, chainB, Tells}
 use Rattle.run_index.specs.Tree.{width}
 use Rattle.store.specs.Soundness.{freeCell}
-use Rattle.store.proofs.Tests.{never, is-false, same, both-out, both-in, inside-out, inside-in, below-none, below-some, heights-out, heights-in, sums-out, sums-in, run-out}
+use Rattle.store.proofs.Tests.{never, is-false, same, both-out, both-in, inside-in, below-none, below-some, heights-out, heights-in, sums-out, sums-in, run-out}
 
 -- a node by itself: its run, then its height, then its sums
 module _ (v x y : Node) (lo total : ℕ) (b : Bool) (eb : b ≡ runB (v .start) (v .«end») (v .tag) lo total) where
+  -- a run that does not fit
   pub cell-run : not b ≡ true → false ≡ cellB v x y lo total
   unfolding cellB
   cell-run t = rw (← eb, not-true b t)
 
   module _ (tb : not b ≡ false) (h : Bool) (eh : h ≡ heightsB (v .height) (x .height) (y .height)) where
+    -- what is left to test
     agrees : cellB v x y lo total ≡ (h && sumsB (v .runs) (x .runs) (y .runs) (v .ones) (x .ones) (y .ones) (v .start) (v .«end»))
     unfolding cellB agreesB
     agrees = rw (← eb, not-false b tb, ← eh)
 
+    -- a height that does not fit
     pub cell-heights : not h ≡ true → false ≡ cellB v x y lo total
     cell-heights t = sym (agrees ∙ rw (not-true h t))
 
+    -- else the sums decide
     pub cell-sums : not h ≡ false → (r : Bool) → r ≡ sumsB (v .runs) (x .runs) (y .runs) (v .ones) (x .ones) (y .ones) (v .start) (v .«end»)
         → r ≡ cellB v x y lo total
     cell-sums t r er = er ∙ sym (agrees ∙ rw (not-false h t))
@@ -39,6 +42,7 @@ pub record Fits (v x y : Node) (lo total : ℕ) : Type 0 where
   pub heights-fit : heightsB (v .height) (x .height) (y .height) ≡ true
   pub sums-fit : sumsB (v .runs) (x .runs) (y .runs) (v .ones) (x .ones) (y .ones) (v .start) (v .«end») ≡ true
 
+-- what a node's tests say
 pub cell-out : (v x y : Node) (lo total : ℕ) → cellB v x y lo total ≡ true → Fits v x y lo total
 unfolding cellB agreesB
 cell-out v x y lo total e =
@@ -46,6 +50,7 @@ cell-out v x y lo total e =
     let q = both-out _ _ (p .1) in
     record { run-fits = p .0; heights-fit = q .0; sums-fit = q .1 }
 
+-- and back
 pub cell-in : (v x y : Node) (lo total : ℕ) → Fits v x y lo total → cellB v x y lo total ≡ true
 unfolding cellB agreesB
 cell-in v x y lo total f = both-in _ _ (f .run-fits) (both-in _ _ (f .heights-fit) (f .sums-fit))
@@ -58,6 +63,7 @@ pub record LeafFits (v : Node) (lo total : ℕ) : Type 0 where
   pub one-run : v .runs ≡ 1
   pub own-ones : v .ones ≡ width (v .start) (v .«end»)
 
+-- what a leaf's tests say
 pub leaf-out : (v : Node) (lo total : ℕ) → leafB v lo total ≡ true → LeafFits v lo total
 unfolding leafB
 leaf-out v lo total e =
@@ -73,6 +79,7 @@ leaf-out v lo total e =
       own-ones = eqb-true _ _ (s .1);
     }
 
+-- and back
 pub leaf-in : (v : Node) (lo total : ℕ) → LeafFits v lo total → leafB v lo total ≡ true
 unfolding leafB
 leaf-in v lo total f =
@@ -216,6 +223,7 @@ pub tells-as : (w : List ℕ) (k lo hi : ℕ) {r r′ : Bool} → r′ ≡ r →
 tells-as w k lo hi e h d le = e ∙ h d le
 
 module _ (w : List ℕ) (n lo hi : ℕ) (ne : n ≡ 0 → ⊥) (room : Room w n) (v : Node) (ev : v ≡ belowOf w n) where
+  -- what the walk tests there
   parts : (d : ℕ) → treeB d w n lo (hi + 1) ≡ true → Passed d w v lo (hi + 1)
   parts d e = passed d w n lo (hi + 1) v ev ne e
 
@@ -241,6 +249,7 @@ module _ (w : List ℕ) (n lo hi : ℕ) (ne : n ≡ 0 → ⊥) (room : Room w n)
       (tree-none (d - 1) w (v .left) lo (v .start - 1) (f .no-left))
       (tree-none (d - 1) w (v .right) (v .«end» + 2) (hi + 1) (f .no-right))))
 
+  -- and the other way round
   leaf-accepted : v .height ≡ 1 → (d : ℕ) → treeB d w n lo (hi + 1) ≡ true → leafB v lo (hi + 1) ≡ true
   leaf-accepted one d e =
       let p = parts d e in
@@ -251,29 +260,33 @@ module _ (w : List ℕ) (n lo hi : ℕ) (ne : n ≡ 0 → ⊥) (room : Room w n)
       let s = sums-out (v .runs) 0 0 (v .ones) 0 0 (v .start) (v .«end») (rw (← below-none w (v .left) l, ← below-none w (v .right) r) at (f .sums-fit)) in
       leaf-in v lo (hi + 1) (record { run-fits = f .run-fits; no-left = l; no-right = r; one-run = s .0; own-ones = s .1 ∙ omega arith })
 
+  -- so the tests of a leaf decide
   pub leaf-decides : v .height ≡ 1 → (r : Bool) → r ≡ leafB v lo (hi + 1) → Tells w n lo hi r
   leaf-decides one r er d h =
       let q : v .height ≡ (belowOf w n) .height = ap (λ (u : Node). u .height) ev in
       er ∙ same (leafB v lo (hi + 1)) (treeB d w n lo (hi + 1)) (λ e. leaf-accepts one e d (omega arith)) (leaf-accepted one d)
 
-  -- a link outside
+  -- the left link leads outside
   pub left-outside : (b : Bool) → b ≡ insideB w (v .left) → not b ≡ true → Tells w n lo hi false
   left-outside b eb t d h =
       sym (is-false _ (λ e. never (sym (sym eb ∙ not-true b t) ∙ inside-linked (d - 1) w (v .left) lo (v .start - 1) first-room (parts d e .left))))
 
+  -- the right link
   pub right-outside : (b : Bool) → b ≡ insideB w (v .right) → not b ≡ true → Tells w n lo hi false
   right-outside b eb t d h =
       sym (is-false _ (λ e. never (sym (sym eb ∙ not-true b t) ∙ inside-linked (d - 1) w (v .right) (v .«end» + 2) (hi + 1) first-room (parts d e .right))))
 
-  -- no room below the node's start, or above its end
+  -- no room below the node's start
   pub left-crowded : (v .left ≡ 0 → ⊥) → v .start < 2 → Tells w n lo hi false
   left-crowded nl lt d h = sym (is-false _ (λ e. never (sym (tree-narrow (d - 1) w (v .left) lo (v .start - 1) (omega arith) nl) ∙ parts d e .left)))
 
+  -- no room above its end
   pub right-crowded : (v .right ≡ 0 → ⊥) → hi < v .«end» + 2 → Tells w n lo hi false
   right-crowded nr lt d h =
       sym (is-false _ (λ e. never (sym (tree-narrow (d - 1) w (v .right) (v .«end» + 2) (hi + 1) (omega arith) nr) ∙ parts d e .right)))
 
   module _ (x y : Node) (ex : x ≡ belowOf w (v .left)) (ey : y ≡ belowOf w (v .right)) (b : Bool) (eb : b ≡ cellB v x y lo (hi + 1)) where
+    -- the node's own tests
     own-is : b ≡ cellB v (belowOf w (v .left)) (belowOf w (v .right)) lo (hi + 1)
     own-is = rw (← ex, ← ey) eb
 
@@ -282,18 +295,21 @@ module _ (w : List ℕ) (n lo hi : ℕ) (ne : n ≡ 0 → ⊥) (room : Room w n)
     node-fails t d h = sym (is-false _ (λ e. never (sym (sym own-is ∙ not-true b t) ∙ parts d e .own)))
 
     module _ (tb : not b ≡ false) where
+      -- they pass
       own-fits : Fits v (belowOf w (v .left)) (belowOf w (v .right)) lo (hi + 1)
       own-fits = cell-out v (belowOf w (v .left)) (belowOf w (v .right)) lo (hi + 1) (sym own-is ∙ not-false b tb)
 
+      -- the node is one higher than the higher side
       tall : (belowOf w n) .height ≡ 1 + max ((belowOf w (v .left)) .height) ((belowOf w (v .right)) .height)
       tall =
           sym (ap (λ (u : Node). u .height) ev)
           ∙ heights-out (v .height) ((belowOf w (v .left)) .height) ((belowOf w (v .right)) .height) (own-fits .heights-fit) .0
 
-      -- either side is lower than the node
+      -- the left side is lower than the node
       pub left-lower : (belowOf w (v .left)) .height < (belowOf w n) .height
       left-lower = omega (arith, tall)
 
+      -- and the right one
       pub right-lower : (belowOf w (v .right)) .height < (belowOf w n) .height
       right-lower = omega (arith, tall)
 
@@ -305,7 +321,7 @@ module _ (w : List ℕ) (n lo hi : ℕ) (ne : n ≡ 0 → ⊥) (room : Room w n)
           let f : treeB (d - 1) w (v .left) lo (v .start - 1) ≡ false = rw z at (sym u ∙ not-true r t) in
           sym (is-false _ (λ e. never (sym f ∙ parts d e .left)))
 
-      -- it accepts, or there is no left side
+      -- the walk of the left side accepts
       pub left-passes : 2 ≤ v .start → (r : Bool) → Tells w (v .left) lo (v .start - 2) r → not r ≡ false
           → (d : ℕ) → (belowOf w n) .height ≤ d → treeB (d - 1) w (v .left) lo (v .start - 1) ≡ true
       left-passes le r er t d h =
@@ -313,6 +329,7 @@ module _ (w : List ℕ) (n lo hi : ℕ) (ne : n ≡ 0 → ⊥) (room : Room w n)
           let u = er (d - 1) (omega (arith, left-lower)) in
           rw z at (sym u ∙ not-false r t)
 
+      -- there is no left side
       pub left-none : v .left ≡ 0 → (d : ℕ) → (belowOf w n) .height ≤ d → treeB (d - 1) w (v .left) lo (v .start - 1) ≡ true
       left-none z d h = tree-none (d - 1) w (v .left) lo (v .start - 1) z
 

@@ -1,6 +1,6 @@
 -- The tests of specs/Decision.antt as facts, and back: a test is true exactly where each of its parts holds. What the code's own tests
 -- come to follows, since two tests that are true alike are equal. Assumes nothing.
-use Prim.Native.Nat.{ℕ, zero, suc, _+_, _-_, _*_, _/_, _%_, _^_, _≤_, _<_, max}
+use Prim.Native.Nat.{ℕ, zero, suc, _+_, _-_, _/_, _%_, _^_, _≤_, _<_, max}
 use mathlib.Core.Path.{_≡_, refl, sym, ap, _∙_}
 use mathlib.Core.Bool.{Bool, true, false, _&&_}
 use mathlib.Core.List.{List}
@@ -11,9 +11,9 @@ use borrow.Author.Tests.{ltb-true, leb-true, eqb-true, lt-ltb, le-leb, eq-eqb}
 use Rattle.run_index.specs.declared.Node.{Node}
 use Rattle.run_index.specs.Cells.{cellAt, Room}
 use Rattle.run_index.specs.Tree.{width}
-use Rattle.store.specs.Layout.{headerAt, capacity}
+use Rattle.run_index.proofs.Words.{same-node}
 use Rattle.store.specs.Soundness.{freeCell}
-use Rattle.store.specs.Decision.{insideB, belowOf, runB, heightsB, sumsB, agreesB, cellB, zerosB, freeB}
+use Rattle.store.specs.Decision.{insideB, belowOf, runB, heightsB, sumsB, zerosB, freeB}
 
 -- a test is not both
 pub never : {A : Type 0} → false ≡ true → A
@@ -35,6 +35,7 @@ pub both-out : (a b : Bool) → (a && b) ≡ true → (a ≡ true) × (b ≡ tru
 both-out true b e = (refl, e)
 both-out false b e = never e
 
+-- and back
 pub both-in : (a b : Bool) → a ≡ true → b ≡ true → (a && b) ≡ true
 both-in a b p q = rw (p, q)
 
@@ -47,16 +48,18 @@ pub inside-out : (w : List ℕ) (n : ℕ) → insideB w n ≡ true → Room w n
 unfolding insideB
 inside-out w n e = omega (arith, ltb-true n (length w / 8) e)
 
+-- and a node with room is inside
 pub inside-in : (w : List ℕ) (n : ℕ) → Room w n → insideB w n ≡ true
 unfolding insideB
 inside-in w n h = lt-ltb n (length w / 8) (omega arith)
 
--- the words at a link
+-- the words at the link 0 are zeros
 pub below-none : (w : List ℕ) (k : ℕ) → k ≡ 0 → freeCell 0 ≡ belowOf w k
 unfolding belowOf
 below-none w zero e = refl
 below-none w (suc k) e = absurd (omega arith)
 
+-- elsewhere they are the node's
 pub below-some : (w : List ℕ) (k : ℕ) → (k ≡ 0 → ⊥) → cellAt w k ≡ belowOf w k
 unfolding belowOf
 below-some w zero e = absurd (e refl)
@@ -69,6 +72,7 @@ pub record Within (a b g lo total : ℕ) : Type 0 where
   pub ordered : a ≤ b
   pub under : b < total
 
+-- what the test of a run says
 pub run-out : (a b g lo total : ℕ) → runB a b g lo total ≡ true → Within a b g lo total
 unfolding runB
 run-out a b g lo total e =
@@ -77,6 +81,7 @@ run-out a b g lo total e =
     let r = both-out _ _ (q .1) in
     record { spare = eqb-true _ _ (p .0); above = leb-true _ _ (q .0); ordered = leb-true _ _ (r .0); under = ltb-true _ _ (r .1) }
 
+-- and back
 pub run-in : (a b g lo total : ℕ) → Within a b g lo total → runB a b g lo total ≡ true
 unfolding runB
 run-in a b g lo total h =
@@ -97,6 +102,7 @@ heights-out h h1 h2 e =
     let q = both-out _ _ (p .1) in
     (eqb-true _ _ (p .0), leb-true _ _ (q .0), leb-true _ _ (q .1))
 
+-- and back
 pub heights-in : (h h1 h2 : ℕ) → h ≡ 1 + max h1 h2 → h1 ≤ h2 + 1 → h2 ≤ h1 + 1 → heightsB h h1 h2 ≡ true
 unfolding heightsB
 heights-in h h1 h2 p q r = both-in _ _ (eq-eqb _ _ p) (both-in _ _ (le-leb _ _ q) (le-leb _ _ r))
@@ -108,6 +114,7 @@ heights-first h h1 h2 a b c =
     (λ e. let l = leb-true (h - 1 - h2) 1 e in heights-in h h1 h2 (omega arith) (omega arith) (omega arith))
     (λ e. let p = heights-out h h1 h2 e in le-leb (h - 1 - h2) 1 (omega arith))
 
+-- and if the second is
 pub heights-second : (h h1 h2 : ℕ) → (h ≡ 0 → ⊥) → h2 ≡ h - 1 → h1 ≤ h - 1 → leb (h - 1 - h1) 1 ≡ heightsB h h1 h2
 heights-second h h1 h2 a b c =
     same (leb (h - 1 - h1) 1) (heightsB h h1 h2)
@@ -120,6 +127,7 @@ pub sums-out : (k k1 k2 o o1 o2 a b : ℕ) → sumsB k k1 k2 o o1 o2 a b ≡ tru
 unfolding sumsB
 sums-out k k1 k2 o o1 o2 a b e = let p = both-out _ _ e in (eqb-true _ _ (p .0), eqb-true _ _ (p .1))
 
+-- and back
 pub sums-in : (k k1 k2 o o1 o2 a b : ℕ) → k ≡ k1 + k2 + 1 → o ≡ ((o1 + o2) % 2 ^ 64 + width a b) % 2 ^ 64
     → sumsB k k1 k2 o o1 o2 a b ≡ true
 unfolding sumsB
@@ -134,20 +142,7 @@ sums-last k k1 k2 o o1 o2 a b x y z lt ek ex ey ez =
     (λ t. sums-in k k1 k2 o o1 o2 a b (omega arith) (eqb-true _ _ t ∙ e))
     (λ t. eq-eqb _ _ (sums-out k k1 k2 o o1 o2 a b t .1 ∙ sym e))
 
--- the words of a free node
-pub node-path : (v u : Node) → v .start ≡ u .start → v .«end» ≡ u .«end» → v .left ≡ u .left → v .right ≡ u .right
-    → v .height ≡ u .height → v .runs ≡ u .runs → v .ones ≡ u .ones → v .tag ≡ u .tag → v ≡ u
-node-path v u e0 e1 e2 e3 e4 e5 e6 e7 = λ i. record {
-  start = e0 i;
-  «end» = e1 i;
-  left = e2 i;
-  right = e3 i;
-  height = e4 i;
-  runs = e5 i;
-  ones = e6 i;
-  tag = e7 i;
-}
-
+-- where all words but the link are 0 they are a free node's
 pub zeros-out : (v : Node) → zerosB v ≡ true → v ≡ freeCell (v .left)
 unfolding zerosB
 zeros-out v e =
@@ -157,9 +152,10 @@ zeros-out v e =
     let d = both-out _ _ (c .1) in
     let f = both-out _ _ (d .1) in
     let g = both-out _ _ (f .1) in
-    node-path v (freeCell (v .left)) (eqb-true _ _ (a .0)) (eqb-true _ _ (b .0)) refl (eqb-true _ _ (c .0)) (eqb-true _ _ (d .0))
+    same-node v (freeCell (v .left)) (eqb-true _ _ (a .0)) (eqb-true _ _ (b .0)) refl (eqb-true _ _ (c .0)) (eqb-true _ _ (d .0))
     (eqb-true _ _ (f .0)) (eqb-true _ _ (g .0)) (eqb-true _ _ (g .1))
 
+-- and back
 pub zeros-in : (v : Node) → v ≡ freeCell (v .left) → zerosB v ≡ true
 unfolding zerosB
 zeros-in v e =
@@ -176,13 +172,15 @@ pub record Free (w : List ℕ) (n : ℕ) : Type 0 where
   pub room : Room w n
   pub zeros : cellAt w n ≡ freeCell ((cellAt w n) .left)
 
+-- what the test of a free node says
 pub free-out : (w : List ℕ) (n : ℕ) → freeB w n ≡ true → Free w n
 unfolding freeB
 free-out w n e =
-    let p = both-out _ _ e in
-    let q = both-out _ _ (p .1) in
+    let p = both-out (ltb 0 n) (insideB w n && zerosB (cellAt w n)) e in
+    let q = both-out (insideB w n) (zerosB (cellAt w n)) (p .1) in
     record { some = omega (arith, ltb-true 0 n (p .0)); room = inside-out w n (q .0); zeros = zeros-out (cellAt w n) (q .1) }
 
+-- and back
 pub free-in : (w : List ℕ) (n : ℕ) → Free w n → freeB w n ≡ true
 unfolding freeB
 free-in w n f =
@@ -196,7 +194,7 @@ free-last w n v is some room e0 e1 e3 e4 e5 e6 =
     (λ t. free-in w n (record {
       some = some;
       room = room;
-      zeros = rw (← is) (node-path v (freeCell (v .left)) e0 e1 refl e3 e4 e5 e6 (eqb-true _ _ t));
+      zeros = rw (← is) (same-node v (freeCell (v .left)) e0 e1 refl e3 e4 e5 e6 (eqb-true _ _ t));
     }))
     (λ t. eq-eqb _ _ (ap (λ (u : Node). u .tag) (is ∙ free-out w n t .zeros)))
 

@@ -1,21 +1,20 @@
 -- What `is_kept` returns, by the tests that led there: each that fails is a part of the definition that fails. Assumes nothing.
-use Prim.Native.Nat.{ℕ, _+_, _-_, _*_, _/_, _^_, _≤_, _<_}
+use Prim.Native.Nat.{ℕ, _+_, _-_, _/_, _≤_, _<_}
 use mathlib.Core.Path.{_≡_, refl, sym, ap, _∙_}
 use mathlib.Core.Bool.{Bool, true, false, not}
 use mathlib.Core.List.{List}
 use native.Mathlib.Omega.{arith}
-use native.Mathlib.Decide.{ℕ-discrete}
 use borrow.Author.Tests.{not-true, not-false}
 use lib.ListN.{length}
 use Rattle.model.specs.Numbers.{size}
 use Rattle.run_index.specs.declared.Node.{Node}
-use Rattle.run_index.specs.Cells.{cellAt, Room}
+use Rattle.run_index.specs.Cells.{Room}
 use Rattle.store.specs.declared.Header.{Header}
 use Rattle.store.specs.Layout.{headerAt, capacity}
 use Rattle.store.specs.Decision.{insideB, belowOf, treeB, chainB, keptB, Tells}
-use Rattle.store.proofs.Tests.{never, is-false, same, below-some}
-use Rattle.store.proofs.Steps.{tree-none, inside-linked}
-use Rattle.store.proofs.Decided.{below-sums, Hangs, tree-yes, cells, Headed-so, kept-out, kept-in}
+use Rattle.store.proofs.Tests.{never, is-false, same}
+use Rattle.store.proofs.Steps.{inside-linked}
+use Rattle.store.proofs.Decided.{below-sums, tree-yes, cells, kept-out, kept-in}
 
 -- the cells of words with a capacity are the header and C + 2 nodes
 pub nodes-are : (w : List ℕ) → 1 ≤ capacity w → length w / 8 - 1 ≡ capacity w + 2
@@ -26,6 +25,7 @@ pub header-room : (w : List ℕ) → 1 ≤ capacity w → Room w 0
 header-room w sized = let c = cells w sized in omega (arith, c .0)
 
 module _ (w : List ℕ) (sized : 1 ≤ capacity w) (h : Header) (eh : h ≡ headerAt w) where
+  -- the root that was read
   root-is : h .root ≡ (headerAt w) .root
   root-is = ap (λ (x : Header). x .root) eh
 
@@ -66,6 +66,7 @@ module _ (w : List ℕ) (sized : 1 ≤ capacity w) (h : Header) (eh : h ≡ head
     ones-differ ne =
         sym (is-false (keptB w) (λ e. ne (ap (λ (x : Header). x .ones) eh ∙ kept-out w e .ones-are ∙ sym (ap (λ (x : Node). x .ones) at-root))))
 
+    -- nor its runs
     pub runs-differ : (h .runs ≡ v .runs → ⊥) → false ≡ keptB w
     runs-differ ne =
         sym (is-false (keptB w) (λ e. ne (ap (λ (x : Header). x .runs) eh ∙ kept-out w e .runs-are ∙ sym (ap (λ (x : Node). x .runs) at-root))))

@@ -1,5 +1,4 @@
 -- `write_header` meets its contract: it writes a node 0, and no other cell. Assumes nothing.
-use Prim.Native.Nat.{ℕ}
 use mathlib.Core.Path.{_≡_, ap}
 use native.Mathlib.Omega.{arith}
 use Rattle.store.specs.Layout.{headerOf}

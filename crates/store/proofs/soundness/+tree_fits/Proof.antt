@@ -1,11 +1,11 @@
 -- `tree_fits` meets its contract. The loop's invariant: the walk of the link at hand decides for the whole, at any depth that is left, and
 -- no node there is higher than the link's. The tests are the definition's; either side of a node is lower than the node. The measure of the
 -- recursion and of the loop is the height that the words give. Assumes nothing.
-use mathlib.Core.Path.{_≡_, refl, sym, ap, _∙_}
+use mathlib.Core.Path.{sym, _∙_}
 use native.Mathlib.Omega.{arith}
 use mathlib.Core.Logic.{⊎-elim}
 use borrow.Author.Needs.{needs}
-use borrow.Author.Tests.{not-true, not-false}
+use borrow.Author.Tests.{not-false}
 use Rattle.store.specs.Decision.{belowOf}
 use Rattle.store.proofs.Tests.{inside-out}
 use Rattle.store.proofs.Steps.{Way, tells-none, tells-as, leaf-decides, left-outside, right-outside, node-fails, left-crowded, right-crowded, left-lower, right-lower, left-fails, left-passes, left-none, right-decides}

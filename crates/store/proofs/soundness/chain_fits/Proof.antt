@@ -1,9 +1,9 @@
 -- `chain_fits` meets its contract. The loop's invariant: what is left of the chain decides for the whole. The measure is the number of
 -- links left. Assumes nothing.
-use mathlib.Core.Path.{_≡_, refl, sym, ap, _∙_}
+use mathlib.Core.Path.{_≡_, refl, sym, _∙_}
 use native.Mathlib.Omega.{arith}
 use borrow.Author.Needs.{needs}
-use borrow.Author.Tests.{not-true, not-false}
+use borrow.Author.Tests.{not-false}
 use Rattle.store.specs.Decision.{chainB}
 use Rattle.store.proofs.Tests.{free-out}
 use Rattle.store.proofs.Steps.{chain-end, chain-broken, chain-more}

@@ -1,5 +1,5 @@
 -- `heights_fit` meets its contract: each test that fails is a part of the definition that fails. Assumes nothing.
-use mathlib.Core.Path.{_≡_, refl, sym, ap, _∙_}
+use mathlib.Core.Path.{sym}
 use native.Mathlib.Omega.{arith}
 use Rattle.store.proofs.Tests.{is-false, heights-out, heights-first, heights-second}
 use borrow.Author.Needs.{needs}

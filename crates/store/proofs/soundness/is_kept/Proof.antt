@@ -1,5 +1,5 @@
 -- `is_kept` meets its contract: the tests are the definition's, in another order. Assumes nothing.
-use mathlib.Core.Path.{_≡_, refl, sym, ap, _∙_}
+use mathlib.Core.Path.{refl, sym, _∙_}
 use native.Mathlib.Omega.{arith}
 use borrow.Author.Tests.{not-false}
 use Rattle.store.proofs.Tests.{inside-out}

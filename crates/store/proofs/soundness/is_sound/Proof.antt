@@ -1,6 +1,4 @@
 -- `is_sound` meets its contract: what `bounds` tells of the tree is what the header has to say of the positions held. Assumes nothing.
-use mathlib.Core.Path.{_≡_, refl, sym, ap, _∙_}
-use native.Mathlib.Omega.{arith}
 use Rattle.store.proofs.Whole.{header-room}
 use Rattle.store.proofs.Bounded.{sound-kept, indexed, counted, offset-fails, first-fails, last-fails, runs-decide}
 use borrow.Author.Needs.{needs}

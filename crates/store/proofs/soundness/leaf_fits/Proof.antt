@@ -1,6 +1,5 @@
 -- `leaf_fits` meets its contract: each test that fails is a part of the definition that fails. Assumes nothing.
-use mathlib.Core.Path.{_≡_, refl, sym, ap, _∙_}
-use native.Mathlib.Omega.{arith}
+use mathlib.Core.Path.{sym, _∙_}
 use borrow.Author.Tests.{not-true, not-false}
 use Rattle.store.proofs.Tests.{never, is-false, run-out}
 use Rattle.store.proofs.Steps.{leaf-out, leaf-last}

@@ -1,6 +1,5 @@
 -- `node_fits` meets its contract: the tests are the definition's, in its order. Assumes nothing.
-use mathlib.Core.Path.{_≡_, refl, sym, ap, _∙_}
-use native.Mathlib.Omega.{arith}
+use mathlib.Core.Path.{sym, _∙_}
 use borrow.Author.Tests.{not-false}
 use Rattle.store.proofs.Tests.{run-out}
 use Rattle.store.proofs.Steps.{cell-run, cell-heights, cell-sums}

@@ -1,5 +1,5 @@
 -- `node_is_free` meets its contract: each test that fails is a word that no free node has. Assumes nothing.
-use mathlib.Core.Path.{_≡_, refl, sym, ap, _∙_}
+use mathlib.Core.Path.{refl, sym, _∙_}
 use native.Mathlib.Omega.{arith}
 use borrow.Author.Tests.{not-true, not-false}
 use Rattle.store.proofs.Tests.{never, is-false, inside-out, inside-in, free-out, free-not, free-last}
