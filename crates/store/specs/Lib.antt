@@ -1,5 +1,6 @@
 pub mod Layout
 pub mod Soundness
+pub mod Decision
 pub mod Bounds
 pub mod Free
 pub mod Moved

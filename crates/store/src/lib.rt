@@ -9,6 +9,7 @@ pub mod bounds;
 pub mod free;
 pub mod physical;
 pub mod settle;
+pub mod soundness;
 
 // The header's words, in order.
 pub struct Header {

@@ -1,0 +1,98 @@
+-- The free chain is decided by following it. A chain that ends meets no node twice: a link leads to one chain, and a chain that came
+-- back to a node would be longer than itself. Assumes nothing.
+use Prim.Native.Nat.{ℕ, zero, suc, _+_, _≤_}
+use mathlib.Core.Path.{_≡_, refl, sym, ap, _∙_, subst}
+use mathlib.Core.List.{List, [], _∷_}
+use mathlib.Core.Bool.{true}
+use native.Mathlib.Omega.{arith}
+use native.Mathlib.Decide.{ℕ-discrete}
+use borrow.Author.Tests.{eqb-true, eq-eqb}
+use lib.ListN.{length}
+use Rattle.run_index.specs.declared.Node.{Node}
+use Rattle.run_index.specs.Cells.{cellAt}
+use Rattle.run_index.specs.Tree.{δ}
+use Rattle.run_index.proofs.Trees.{δ-other, δ≤1}
+use Rattle.store.specs.Soundness.{Chain, times}
+use Rattle.store.specs.Decision.{freeB, chainB}
+use Rattle.store.proofs.Tests.{both-out, both-in, Free, free-out, free-in}
+
+-- the chain that was followed
+pub record Chained (w : List ℕ) (k c : ℕ) : Type 0 where
+  pub ns : List ℕ
+  pub chain : Chain w k ns
+  pub many : length ns ≡ c
+
+-- what is followed to its end is a chain
+pub chained : (c : ℕ) (w : List ℕ) (k : ℕ) → chainB c w k ≡ true → Chained w k c
+unfolding chainB
+chained zero w k e = record { ns = []; chain = eqb-true k 0 e; many = refl }
+chained (suc c) w k e =
+    let p = both-out _ _ e in
+    let f = free-out w k (p .0) in
+    let r = chained c w ((cellAt w k) .left) (p .1) in
+    record { ns = k ∷ r .ns; chain = (refl, f .some, f .room, f .zeros, r .chain); many = ap suc (r .many) }
+
+-- and a chain is followed to its end
+pub followed : (w : List ℕ) (k : ℕ) (ns : List ℕ) → Chain w k ns → chainB (length ns) w k ≡ true
+unfolding chainB
+followed w k [] c = eq-eqb k 0 c
+followed w k (n ∷ ns) c =
+    let e : k ≡ n = c .0 in
+    rw e (both-in (freeB w n) (chainB (length ns) w ((cellAt w n) .left))
+    (free-in w n (record { some = c .1; room = c .2; zeros = c .3 }))
+    (followed w ((cellAt w n) .left) ns (c .4)))
+
+-- a link leads to chains of one length
+one-length : (w : List ℕ) (k j : ℕ) (xs ys : List ℕ) → k ≡ j → Chain w k xs → Chain w j ys → length xs ≡ length ys
+one-length w k j [] [] e p q = refl
+one-length w k j [] (y ∷ ys) e p q = absurd (let a : k ≡ 0 = p in let b = q .0 in let f = q .1 in omega arith)
+one-length w k j (x ∷ xs) [] e p q = absurd (let a : j ≡ 0 = q in let b = p .0 in let f = p .1 in omega arith)
+one-length w k j (x ∷ xs) (y ∷ ys) e p q =
+    ap suc (one-length w ((cellAt w x) .left) ((cellAt w y) .left) xs ys
+    (ap (λ (n : ℕ). (cellAt w n) .left) (sym (p .0) ∙ e ∙ q .0)) (p .4) (q .4))
+
+-- a node of a chain: it is free, and a chain no longer than the whole starts there
+pub record Met (w : List ℕ) (m c : ℕ) : Type 0 where
+  pub free : Free w m
+  pub rest : List ℕ
+  pub chain : Chain w m rest
+  pub short : length rest ≤ c
+
+-- each node of a chain is met so
+pub met : (w : List ℕ) (k : ℕ) (ns : List ℕ) → Chain w k ns → (m : ℕ) → 1 ≤ times m ns → Met w m (length ns)
+met w k [] c m i = absurd (omega arith)
+met w k (n ∷ ns) c m i = go (ℕ-discrete m n) (met w ((cellAt w n) .left) ns (c .4) m)
+  where
+    go : Dec (m ≡ n) → (1 ≤ times m ns → Met w m (length ns)) → Met w m (length (n ∷ ns))
+    go (yes e) ih =
+        subst (λ (j : ℕ). Met w j (length (n ∷ ns))) (sym e) (record {
+          free = record { some = c .1; room = c .2; zeros = c .3 };
+          rest = n ∷ ns;
+          chain = (refl, c .1, c .2, c .3, c .4);
+          short = omega arith;
+        })
+    go (no ne) ih =
+        let h = ih (omega (arith, δ-other m n ne)) in
+        record { free = h .free; rest = h .rest; chain = h .chain; short = omega (arith, h .short) }
+
+-- no node is met twice
+pub chain-once : (w : List ℕ) (k : ℕ) (ns : List ℕ) → Chain w k ns → (m : ℕ) → times m ns ≤ 1
+chain-once w k [] c m = omega arith
+chain-once w k (n ∷ ns) c m =
+    go (ℕ-discrete m n) (ℕ-discrete (times m ns) 0) (chain-once w ((cellAt w n) .left) ns (c .4) m) (met w ((cellAt w n) .left) ns (c .4) m)
+  where
+    go : Dec (m ≡ n) → Dec (times m ns ≡ 0) → times m ns ≤ 1 → (1 ≤ times m ns → Met w m (length ns)) → δ m n + times m ns ≤ 1
+    go (no ne) d ih h = omega (arith, δ-other m n ne)
+    go (yes e) (yes z) ih h = omega (arith, δ≤1 m n)
+    go (yes e) (no some) ih h =
+        let x = h (omega arith) in
+        let l = one-length w m k (x .rest) (n ∷ ns) (e ∙ sym (c .0)) (x .chain) c in
+        absurd (omega (arith, x .short))
+
+-- a node of a chain is free
+pub chain-free : (w : List ℕ) (k : ℕ) (ns : List ℕ) → Chain w k ns → (m : ℕ) → 1 ≤ times m ns → Free w m
+chain-free w k ns c m i = met w k ns c m i .free
+
+-- its height word is 0
+pub free-low : {w : List ℕ} {m : ℕ} → Free w m → (cellAt w m) .height ≡ 0
+free-low f = ap (λ (v : Node). v .height) (f .zeros)

@@ -1,0 +1,172 @@
+-- `tree_fits` meets its contract. The loop's invariant: the walk of the link at hand decides for the whole, at any depth that is left, and
+-- no node there is higher than the link's. The tests are the definition's; either side of a node is lower than the node. The measure of the
+-- recursion and of the loop is the height that the words give. Assumes nothing.
+use mathlib.Core.Path.{sym, _∙_}
+use native.Mathlib.Omega.{arith}
+use mathlib.Core.Logic.{⊎-elim}
+use borrow.Author.Needs.{needs}
+use borrow.Author.Tests.{not-false}
+use Rattle.store.specs.Decision.{belowOf}
+use Rattle.store.proofs.Tests.{inside-out}
+use Rattle.store.proofs.Steps.{Way, tells-none, tells-as, leaf-decides, left-outside, right-outside, node-fails, left-crowded, right-crowded, left-lower, right-lower, left-fails, left-passes, left-none, right-decides}
+use Prim.Native.Nat.{ℕ, _<_}
+use borrow.Fn.Kinds.{In}
+use borrow.Fn.PlainCycle.{Measures, is, falls, and}
+use Rattle.store.proofs.soundness.tree_fits.Reads as tree-fits
+use Rattle.store.proofs.soundness.tree_fits.Kinds as tree-fits-kinds
+use Rattle.store.proofs.soundness.+tree_fits.Lts-tree_fits as tree-fits-lts
+use Rattle.store.proofs.soundness.below.Reads as below-reads
+use Rattle.store.proofs.soundness.inside.Reads as inside-reads
+use Rattle.store.proofs.soundness.leaf_fits.Reads as leaf-fits-reads
+use Rattle.store.proofs.soundness.node_fits.Reads as node-fits-reads
+use Rattle.store.proofs.soundness.+tree_fits.{statement}
+use Rattle.store.proofs.soundness.+tree_fits.Tie.{close}
+
+abbrev μ-tree-fits : Measures 1 tree-fits-kinds.ps ℕ
+μ-tree-fits κs a = (belowOf (a .0 .now) (a .1 .0)) .height
+
+abbrev tree-fits-at : ℕ → In 1 tree-fits-kinds.ps
+tree-fits-at t = and 1 tree-fits-kinds.ps (is 1 tree-fits-kinds.ps μ-tree-fits t) tree-fits.Pre
+
+abbrev tree-fits-below : ℕ → In 1 tree-fits-kinds.ps
+tree-fits-below t =
+    and 1 tree-fits-kinds.ps (falls 1 tree-fits-kinds.ps _<_ μ-tree-fits t) tree-fits.Pre
+
+-- what each call asks and tells, in the order of the code
+abbrev tree-fits-claims : ℕ → tree-fits-lts.Claims
+tree-fits-claims t = (
+  below-reads.Asked,
+  below-reads.Learnt,
+  leaf-fits-reads.Asked,
+  leaf-fits-reads.Learnt,
+  inside-reads.Asked,
+  inside-reads.Learnt,
+  node-fits-reads.Asked,
+  node-fits-reads.Learnt,
+  tree-fits-below t,
+  tree-fits.Post,
+)
+
+abbrev tree-fits-Inv-loop : tree-fits-lts.InvT-loop
+tree-fits-Inv-loop words link lo hi k₀ low₀ k low = Way words link lo hi k low
+
+abbrev tree-fits-μ-loop : tree-fits-lts.MeasureT-loop
+tree-fits-μ-loop words link lo hi k₀ low₀ k low = (belowOf words k) .height
+
+tree-fits-loop-holds : (t : ℕ) → tree-fits-lts.Need-loop-holds (tree-fits-claims t) (tree-fits-at t) tree-fits.Post tree-fits-Inv-loop tree-fits-μ-loop
+tree-fits-loop-holds t c = record { room = c .before .pre .1; lower = omega arith; tells = λ r h. h }
+
+tree-fits-below-requires : (t : ℕ) → tree-fits-lts.Need-below-requires (tree-fits-claims t) (tree-fits-at t) tree-fits.Post tree-fits-Inv-loop tree-fits-μ-loop
+tree-fits-below-requires t c κs = c .before .loop .inv .room
+
+tree-fits-leaf-fits-requires : (t : ℕ) → tree-fits-lts.Need-leaf-fits-requires (tree-fits-claims t) (tree-fits-at t) tree-fits.Post tree-fits-Inv-loop tree-fits-μ-loop
+tree-fits-leaf-fits-requires t c κs = search needs
+
+tree-fits-returns : (t : ℕ) → tree-fits-lts.Need-returns (tree-fits-claims t) (tree-fits-at t) tree-fits.Post tree-fits-Inv-loop tree-fits-μ-loop
+tree-fits-returns t c = c .before .before .before .before .before .loop .inv .tells _ (leaf-decides _ _ _ _ (c .before .before .before .before .loop-test .taken) (c .before .before .before .before .before .loop .inv .room) (c .before .before .before .below .result) (c .before .before .before .below .ensures) (c .before .if1 .taken) _ (c .leaf-fits .ensures))
+
+tree-fits-inside-requires : (t : ℕ) → tree-fits-lts.Need-inside-requires (tree-fits-claims t) (tree-fits-at t) tree-fits.Post tree-fits-Inv-loop tree-fits-μ-loop
+tree-fits-inside-requires t c κs = search needs
+
+tree-fits-returns-2 : (t : ℕ) → tree-fits-lts.Need-returns-2 (tree-fits-claims t) (tree-fits-at t) tree-fits.Post tree-fits-Inv-loop tree-fits-μ-loop
+tree-fits-returns-2 t c = c .before .before .before .before .before .before .loop .inv .tells _ (left-outside _ _ _ _ (c .before .before .before .before .before .loop-test .taken) (c .before .before .before .before .before .before .loop .inv .room) (c .before .before .before .before .below .result) (c .before .before .before .before .below .ensures) _ (c .before .inside .ensures) (c .if2 .taken))
+
+tree-fits-inside-requires-2 : (t : ℕ) → tree-fits-lts.Need-inside-requires-2 (tree-fits-claims t) (tree-fits-at t) tree-fits.Post tree-fits-Inv-loop tree-fits-μ-loop
+tree-fits-inside-requires-2 t c κs = search needs
+
+tree-fits-returns-3 : (t : ℕ) → tree-fits-lts.Need-returns-3 (tree-fits-claims t) (tree-fits-at t) tree-fits.Post tree-fits-Inv-loop tree-fits-μ-loop
+tree-fits-returns-3 t c = c .before .before .before .before .before .before .before .before .loop .inv .tells _ (right-outside _ _ _ _ (c .before .before .before .before .before .before .before .loop-test .taken) (c .before .before .before .before .before .before .before .before .loop .inv .room) (c .before .before .before .before .before .before .below .result) (c .before .before .before .before .before .before .below .ensures) _ (c .before .inside2 .ensures) (c .if3 .taken))
+
+tree-fits-below-requires-2 : (t : ℕ) → tree-fits-lts.Need-below-requires-2 (tree-fits-claims t) (tree-fits-at t) tree-fits.Post tree-fits-Inv-loop tree-fits-μ-loop
+tree-fits-below-requires-2 t c κs = inside-out _ _ (sym (c .before .before .before .inside .ensures) ∙ not-false _ (c .before .before .if2 .left))
+
+tree-fits-below-requires-3 : (t : ℕ) → tree-fits-lts.Need-below-requires-3 (tree-fits-claims t) (tree-fits-at t) tree-fits.Post tree-fits-Inv-loop tree-fits-μ-loop
+tree-fits-below-requires-3 t c κs = inside-out _ _ (sym (c .before .before .inside2 .ensures) ∙ not-false _ (c .before .if3 .left))
+
+tree-fits-node-fits-requires : (t : ℕ) → tree-fits-lts.Need-node-fits-requires (tree-fits-claims t) (tree-fits-at t) tree-fits.Post tree-fits-Inv-loop tree-fits-μ-loop
+tree-fits-node-fits-requires t c κs = search needs
+
+tree-fits-returns-4 : (t : ℕ) → tree-fits-lts.Need-returns-4 (tree-fits-claims t) (tree-fits-at t) tree-fits.Post tree-fits-Inv-loop tree-fits-μ-loop
+tree-fits-returns-4 t c = c .before .before .before .before .before .before .before .before .before .before .before .before .loop .inv .tells _ (node-fails _ _ _ _ (c .before .before .before .before .before .before .before .before .before .before .before .loop-test .taken) (c .before .before .before .before .before .before .before .before .before .before .before .before .loop .inv .room) (c .before .before .before .before .before .before .before .before .before .before .below .result) (c .before .before .before .before .before .before .before .before .before .before .below .ensures) (c .before .before .before .below2 .result) (c .before .before .below3 .result) (c .before .before .before .below2 .ensures) (c .before .before .below3 .ensures) _ (c .before .node-fits .ensures) (c .if4 .taken))
+
+tree-fits-returns-5 : (t : ℕ) → tree-fits-lts.Need-returns-5 (tree-fits-claims t) (tree-fits-at t) tree-fits.Post tree-fits-Inv-loop tree-fits-μ-loop
+tree-fits-returns-5 t c = c .before .before .before .before .before .before .before .before .before .before .before .before .before .before .before .before .loop .inv .tells _ (left-crowded _ _ _ _ (c .before .before .before .before .before .before .before .before .before .before .before .before .before .before .before .loop-test .taken) (c .before .before .before .before .before .before .before .before .before .before .before .before .before .before .before .before .loop .inv .room) (c .before .before .before .before .before .before .before .before .before .before .before .before .before .before .below .result) (c .before .before .before .before .before .before .before .before .before .before .before .before .before .before .below .ensures) (c .before .before .if5 .taken) (omega (arith, c .if6 .taken)))
+
+tree-fits-leaf-fits-requires-2 : (t : ℕ) → tree-fits-lts.Need-leaf-fits-requires-2 (tree-fits-claims t) (tree-fits-at t) tree-fits.Post tree-fits-Inv-loop tree-fits-μ-loop
+tree-fits-leaf-fits-requires-2 t c κs = search needs
+
+tree-fits-tree-fits-requires : (t : ℕ) → tree-fits-lts.Need-tree-fits-requires (tree-fits-claims t) (tree-fits-at t) tree-fits.Post tree-fits-Inv-loop tree-fits-μ-loop
+tree-fits-tree-fits-requires t c κs = (omega (arith, c .before .before .before .before .before .before .before .before .before .before .before .before .before .before .before .before .before .before .before .before .before .pre .0, c .before .before .before .before .before .before .before .before .before .before .before .before .before .before .before .before .before .before .before .loop .inv .lower, left-lower _ _ _ _ (c .before .before .before .before .before .before .before .before .before .before .before .before .before .before .before .before .before .before .loop-test .taken) (c .before .before .before .before .before .before .before .before .before .before .before .before .before .before .before .before .before .before .before .loop .inv .room) (c .before .before .before .before .before .before .before .before .before .before .before .before .before .before .before .before .before .below .result) (c .before .before .before .before .before .before .before .before .before .before .before .before .before .before .before .before .before .below .ensures) (c .before .before .before .before .before .before .before .before .before .before .below2 .result) (c .before .before .before .before .before .before .before .before .before .below3 .result) (c .before .before .before .before .before .before .before .before .before .before .below2 .ensures) (c .before .before .before .before .before .before .before .before .before .below3 .ensures) _ (c .before .before .before .before .before .before .before .before .node-fits .ensures) (c .before .before .before .before .before .before .before .if4 .left)), inside-out _ _ (sym (c .before .before .before .before .before .before .before .before .before .before .before .before .before .before .inside .ensures) ∙ not-false _ (c .before .before .before .before .before .before .before .before .before .before .before .before .before .if2 .left)))
+
+tree-fits-returns-6 : (t : ℕ) → tree-fits-lts.Need-returns-6 (tree-fits-claims t) (tree-fits-at t) tree-fits.Post tree-fits-Inv-loop tree-fits-μ-loop
+tree-fits-returns-6 t c = c .before .before .before .before .before .before .before .before .before .before .before .before .before .before .before .before .before .before .before .loop .inv .tells _ (left-fails _ _ _ _ (c .before .before .before .before .before .before .before .before .before .before .before .before .before .before .before .before .before .before .loop-test .taken) (c .before .before .before .before .before .before .before .before .before .before .before .before .before .before .before .before .before .before .before .loop .inv .room) (c .before .before .before .before .before .before .before .before .before .before .before .before .before .before .before .before .before .below .result) (c .before .before .before .before .before .before .before .before .before .before .before .before .before .before .before .before .before .below .ensures) (c .before .before .before .before .before .before .before .before .before .before .below2 .result) (c .before .before .before .before .before .before .before .before .before .below3 .result) (c .before .before .before .before .before .before .before .before .before .before .below2 .ensures) (c .before .before .before .before .before .before .before .before .before .below3 .ensures) _ (c .before .before .before .before .before .before .before .before .node-fits .ensures) (c .before .before .before .before .before .before .before .if4 .left) (omega (arith, c .before .before .before .if6 .left)) (c .before .if7 .fits) (⊎-elim
+    (λ x. tells-as _ _ _ _ (x .3) (leaf-decides _ _ _ _ (c .before .before .before .before .before .if5 .taken) (inside-out _ _ (sym (c .before .before .before .before .before .before .before .before .before .before .before .before .before .before .inside .ensures) ∙ not-false _ (c .before .before .before .before .before .before .before .before .before .before .before .before .before .if2 .left))) (c .before .before .before .before .before .before .before .before .before .before .below2 .result) (c .before .before .before .before .before .before .before .before .before .before .below2 .ensures) (x .0 .taken) _ (x .2 .ensures)))
+    (λ x. tells-as _ _ _ _ (x .3) (x .2 .ensures))
+    (c .before .if7 .came)) (c .if8 .taken))
+
+tree-fits-returns-7 : (t : ℕ) → tree-fits-lts.Need-returns-7 (tree-fits-claims t) (tree-fits-at t) tree-fits.Post tree-fits-Inv-loop tree-fits-μ-loop
+tree-fits-returns-7 t c = c .before .before .before .before .before .before .before .before .before .before .before .before .before .before .before .before .loop .inv .tells _ (right-decides _ _ _ _ (c .before .before .before .before .before .before .before .before .before .before .before .before .before .before .before .loop-test .taken) (c .before .before .before .before .before .before .before .before .before .before .before .before .before .before .before .before .loop .inv .room) (c .before .before .before .before .before .before .before .before .before .before .before .before .before .before .below .result) (c .before .before .before .before .before .before .before .before .before .before .before .before .before .before .below .ensures) (c .before .before .before .before .before .before .before .below2 .result) (c .before .before .before .before .before .before .below3 .result) (c .before .before .before .before .before .before .before .below2 .ensures) (c .before .before .before .before .before .before .below3 .ensures) _ (c .before .before .before .before .before .node-fits .ensures) (c .before .before .before .before .if4 .left) (⊎-elim
+    (λ u. left-passes _ _ _ _ (c .before .before .before .before .before .before .before .before .before .before .before .before .before .before .before .loop-test .taken) (c .before .before .before .before .before .before .before .before .before .before .before .before .before .before .before .before .loop .inv .room) (c .before .before .before .before .before .before .before .before .before .before .before .before .before .before .below .result) (c .before .before .before .before .before .before .before .before .before .before .before .before .before .before .below .ensures) (c .before .before .before .before .before .before .before .below2 .result) (c .before .before .before .before .before .before .below3 .result) (c .before .before .before .before .before .before .before .below2 .ensures) (c .before .before .before .before .before .before .below3 .ensures) _ (c .before .before .before .before .before .node-fits .ensures) (c .before .before .before .before .if4 .left) (omega (arith, u .2 .left)) (u .4 .fits) (⊎-elim
+    (λ x. tells-as _ _ _ _ (x .3) (leaf-decides _ _ _ _ (u .0 .taken) (inside-out _ _ (sym (c .before .before .before .before .before .before .before .before .before .before .before .inside .ensures) ∙ not-false _ (c .before .before .before .before .before .before .before .before .before .before .if2 .left))) (c .before .before .before .before .before .before .before .below2 .result) (c .before .before .before .before .before .before .before .below2 .ensures) (x .0 .taken) _ (x .2 .ensures)))
+    (λ x. tells-as _ _ _ _ (x .3) (x .2 .ensures))
+    (u .4 .came)) (u .5 .left))
+    (λ u. left-none _ _ _ _ (c .before .before .before .before .before .before .before .before .before .before .before .before .before .before .before .loop-test .taken) (c .before .before .before .before .before .before .before .before .before .before .before .before .before .before .before .before .loop .inv .room) (c .before .before .before .before .before .before .before .before .before .before .before .before .before .before .below .result) (c .before .before .before .before .before .before .before .before .before .before .before .before .before .before .below .ensures) (c .before .before .before .before .before .before .before .below2 .result) (c .before .before .before .before .before .before .below3 .result) (c .before .before .before .before .before .before .before .below2 .ensures) (c .before .before .before .before .before .before .below3 .ensures) _ (c .before .before .before .before .before .node-fits .ensures) (c .before .before .before .before .if4 .left) (u .left))
+    (c .before .before .if5 .came)) _ (tells-none _ _ _ _ (c .if9 .taken)))
+
+tree-fits-sub-if10 : (t : ℕ) → tree-fits-lts.Need-sub-if10 (tree-fits-claims t) (tree-fits-at t) tree-fits.Post tree-fits-Inv-loop tree-fits-μ-loop
+tree-fits-sub-if10 t c = omega arith
+
+tree-fits-returns-8 : (t : ℕ) → tree-fits-lts.Need-returns-8 (tree-fits-claims t) (tree-fits-at t) tree-fits.Post tree-fits-Inv-loop tree-fits-μ-loop
+tree-fits-returns-8 t c = c .before .before .before .before .before .before .before .before .before .before .before .before .before .before .before .before .before .before .loop .inv .tells _ (right-crowded _ _ _ _ (c .before .before .before .before .before .before .before .before .before .before .before .before .before .before .before .before .before .loop-test .taken) (c .before .before .before .before .before .before .before .before .before .before .before .before .before .before .before .before .before .before .loop .inv .room) (c .before .before .before .before .before .before .before .before .before .before .before .before .before .before .before .before .below .result) (c .before .before .before .before .before .before .before .before .before .before .before .before .before .before .before .before .below .ensures) (c .before .before .if9 .left) (omega (arith, c .if10 .taken, c .before .before .before .before .before .before .before .before .before .before .before .before .before .before .before .before .before .before .before .before .fits)))
+
+tree-fits-add-low : (t : ℕ) → tree-fits-lts.Need-add-low (tree-fits-claims t) (tree-fits-at t) tree-fits.Post tree-fits-Inv-loop tree-fits-μ-loop
+tree-fits-add-low t c = omega (arith, c .before .if10 .left)
+
+tree-fits-loop-less : (t : ℕ) → tree-fits-lts.Need-loop-less (tree-fits-claims t) (tree-fits-at t) tree-fits.Post tree-fits-Inv-loop tree-fits-μ-loop
+tree-fits-loop-less t c = omega (arith, right-lower _ _ _ _ (c .before .before .before .before .before .before .before .before .before .before .before .before .before .before .before .before .before .before .loop-test .taken) (c .before .before .before .before .before .before .before .before .before .before .before .before .before .before .before .before .before .before .before .loop .inv .room) (c .before .before .before .before .before .before .before .before .before .before .before .before .before .before .before .before .before .below .result) (c .before .before .before .before .before .before .before .before .before .before .before .before .before .before .before .before .before .below .ensures) (c .before .before .before .before .before .before .before .before .before .before .below2 .result) (c .before .before .before .before .before .before .before .before .before .below3 .result) (c .before .before .before .before .before .before .before .before .before .before .below2 .ensures) (c .before .before .before .before .before .before .before .before .before .below3 .ensures) _ (c .before .before .before .before .before .before .before .before .node-fits .ensures) (c .before .before .before .before .before .before .before .if4 .left))
+
+tree-fits-loop-again : (t : ℕ) → tree-fits-lts.Need-loop-again (tree-fits-claims t) (tree-fits-at t) tree-fits.Post tree-fits-Inv-loop tree-fits-μ-loop
+tree-fits-loop-again t c = record {
+  room = inside-out _ _ (sym (c .before .before .before .before .before .before .before .before .before .before .before .before .inside2 .ensures) ∙ not-false _ (c .before .before .before .before .before .before .before .before .before .before .before .if3 .left));
+  lower = omega (arith, c .before .before .before .before .before .before .before .before .before .before .before .before .before .before .before .before .before .before .before .loop .inv .lower, right-lower _ _ _ _ (c .before .before .before .before .before .before .before .before .before .before .before .before .before .before .before .before .before .before .loop-test .taken) (c .before .before .before .before .before .before .before .before .before .before .before .before .before .before .before .before .before .before .before .loop .inv .room) (c .before .before .before .before .before .before .before .before .before .before .before .before .before .before .before .before .before .below .result) (c .before .before .before .before .before .before .before .before .before .before .before .before .before .before .before .before .before .below .ensures) (c .before .before .before .before .before .before .before .before .before .before .below2 .result) (c .before .before .before .before .before .before .before .before .before .below3 .result) (c .before .before .before .before .before .before .before .before .before .before .below2 .ensures) (c .before .before .before .before .before .before .before .before .before .below3 .ensures) _ (c .before .before .before .before .before .before .before .before .node-fits .ensures) (c .before .before .before .before .before .before .before .if4 .left));
+  tells = λ r h. c .before .before .before .before .before .before .before .before .before .before .before .before .before .before .before .before .before .before .before .loop .inv .tells r (right-decides _ _ _ _ (c .before .before .before .before .before .before .before .before .before .before .before .before .before .before .before .before .before .before .loop-test .taken) (c .before .before .before .before .before .before .before .before .before .before .before .before .before .before .before .before .before .before .before .loop .inv .room) (c .before .before .before .before .before .before .before .before .before .before .before .before .before .before .before .before .before .below .result) (c .before .before .before .before .before .before .before .before .before .before .before .before .before .before .before .before .before .below .ensures) (c .before .before .before .before .before .before .before .before .before .before .below2 .result) (c .before .before .before .before .before .before .before .before .before .below3 .result) (c .before .before .before .before .before .before .before .before .before .before .below2 .ensures) (c .before .before .before .before .before .before .before .before .before .below3 .ensures) _ (c .before .before .before .before .before .before .before .before .node-fits .ensures) (c .before .before .before .before .before .before .before .if4 .left) (⊎-elim
+      (λ u. left-passes _ _ _ _ (c .before .before .before .before .before .before .before .before .before .before .before .before .before .before .before .before .before .before .loop-test .taken) (c .before .before .before .before .before .before .before .before .before .before .before .before .before .before .before .before .before .before .before .loop .inv .room) (c .before .before .before .before .before .before .before .before .before .before .before .before .before .before .before .before .before .below .result) (c .before .before .before .before .before .before .before .before .before .before .before .before .before .before .before .before .before .below .ensures) (c .before .before .before .before .before .before .before .before .before .before .below2 .result) (c .before .before .before .before .before .before .before .before .before .below3 .result) (c .before .before .before .before .before .before .before .before .before .before .below2 .ensures) (c .before .before .before .before .before .before .before .before .before .below3 .ensures) _ (c .before .before .before .before .before .before .before .before .node-fits .ensures) (c .before .before .before .before .before .before .before .if4 .left) (omega (arith, u .2 .left)) (u .4 .fits) (⊎-elim
+      (λ x. tells-as _ _ _ _ (x .3) (leaf-decides _ _ _ _ (u .0 .taken) (inside-out _ _ (sym (c .before .before .before .before .before .before .before .before .before .before .before .before .before .before .inside .ensures) ∙ not-false _ (c .before .before .before .before .before .before .before .before .before .before .before .before .before .if2 .left))) (c .before .before .before .before .before .before .before .before .before .before .below2 .result) (c .before .before .before .before .before .before .before .before .before .before .below2 .ensures) (x .0 .taken) _ (x .2 .ensures)))
+      (λ x. tells-as _ _ _ _ (x .3) (x .2 .ensures))
+      (u .4 .came)) (u .5 .left))
+      (λ u. left-none _ _ _ _ (c .before .before .before .before .before .before .before .before .before .before .before .before .before .before .before .before .before .before .loop-test .taken) (c .before .before .before .before .before .before .before .before .before .before .before .before .before .before .before .before .before .before .before .loop .inv .room) (c .before .before .before .before .before .before .before .before .before .before .before .before .before .before .before .before .before .below .result) (c .before .before .before .before .before .before .before .before .before .before .before .before .before .before .before .before .before .below .ensures) (c .before .before .before .before .before .before .before .before .before .before .below2 .result) (c .before .before .before .before .before .before .before .before .before .below3 .result) (c .before .before .before .before .before .before .before .before .before .before .below2 .ensures) (c .before .before .before .before .before .before .before .before .before .below3 .ensures) _ (c .before .before .before .before .before .before .before .before .node-fits .ensures) (c .before .before .before .before .before .before .before .if4 .left) (u .left))
+      (c .before .before .before .before .before .if5 .came)) r h);
+}
+
+tree-fits-returns-9 : (t : ℕ) → tree-fits-lts.Need-returns-9 (tree-fits-claims t) (tree-fits-at t) tree-fits.Post tree-fits-Inv-loop tree-fits-μ-loop
+tree-fits-returns-9 t c = c .before .loop .inv .tells _ (tells-none _ _ _ _ (c .loop-test .left))
+
+pub +tree-fits-spec : {M : Type 1} → statement M
++tree-fits-spec = close μ-tree-fits λ t. tree-fits-lts.spec (tree-fits-claims t)
+    (tree-fits-at t)
+    tree-fits.Post
+    tree-fits-Inv-loop
+    tree-fits-μ-loop
+    (tree-fits-loop-holds t)
+    (tree-fits-below-requires t)
+    (tree-fits-leaf-fits-requires t)
+    (tree-fits-returns t)
+    (tree-fits-inside-requires t)
+    (tree-fits-returns-2 t)
+    (tree-fits-inside-requires-2 t)
+    (tree-fits-returns-3 t)
+    (tree-fits-below-requires-2 t)
+    (tree-fits-below-requires-3 t)
+    (tree-fits-node-fits-requires t)
+    (tree-fits-returns-4 t)
+    (tree-fits-returns-5 t)
+    (tree-fits-leaf-fits-requires-2 t)
+    (tree-fits-tree-fits-requires t)
+    (tree-fits-returns-6 t)
+    (tree-fits-returns-7 t)
+    (tree-fits-sub-if10 t)
+    (tree-fits-returns-8 t)
+    (tree-fits-add-low t)
+    (tree-fits-loop-less t)
+    (tree-fits-loop-again t)
+    (tree-fits-returns-9 t)

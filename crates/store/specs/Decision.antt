@@ -1,0 +1,108 @@
+-- Whether words are a sound store, as tests that the code makes one by one. Assumes nothing: these are definitions.
+use Prim.Native.Nat.{ℕ, zero, suc, _+_, _-_, _/_, _%_, _^_, _≤_, max}
+use mathlib.Core.Path.{_≡_}
+use mathlib.Core.Bool.{Bool, true, _&&_, _||_, not}
+use mathlib.Core.List.{List}
+use lib.Dec.{leb, ltb, eqb}
+use lib.ListN.{length}
+use Rattle.model.specs.Numbers.{size}
+use Rattle.model.specs.Positions.{heldRuns, stretches}
+use Rattle.run_index.specs.declared.Node.{Node}
+use Rattle.run_index.specs.Cells.{cellAt}
+use Rattle.run_index.specs.Tree.{Tree, runs, ones, width}
+use Rattle.store.specs.Layout.{headerAt, capacity, heldBy}
+use Rattle.store.specs.Soundness.{freeCell, firstOf, lastOf, Kept}
+
+-- node n has all its words in w; so has the header, at 0
+unfoldable pub insideB : List ℕ → ℕ → Bool
+insideB w n = ltb n (length w / 8)
+
+-- the words of the node at a link, zeros where there is none
+unfoldable pub belowOf : List ℕ → ℕ → Node
+belowOf w zero = freeCell 0
+belowOf w (suc n) = cellAt w (suc n)
+
+-- the spare word is 0, and the run lies within lo .. total - 1
+unfoldable pub runB : ℕ → ℕ → ℕ → ℕ → ℕ → Bool
+runB a b g lo total = eqb g 0 && (leb lo a && (leb a b && ltb b total))
+
+-- h is one more than the greater of h1 and h2, which differ by at most 1
+unfoldable pub heightsB : ℕ → ℕ → ℕ → Bool
+heightsB h h1 h2 = eqb h (1 + max h1 h2) && (leb h1 (h2 + 1) && leb h2 (h1 + 1))
+
+-- the words for runs and ones are those of the two sides and the node's own
+unfoldable pub sumsB : ℕ → ℕ → ℕ → ℕ → ℕ → ℕ → ℕ → ℕ → Bool
+sumsB k k1 k2 o o1 o2 a b = eqb k (k1 + k2 + 1) && eqb o (((o1 + o2) % 2 ^ 64 + width a b) % 2 ^ 64)
+
+-- the words v of a node against those of its two sides
+unfoldable pub agreesB : Node → Node → Node → Bool
+agreesB v x y =
+    heightsB (v .height) (x .height) (y .height)
+    && sumsB (v .runs) (x .runs) (y .runs) (v .ones) (x .ones) (y .ones) (v .start) (v .«end»)
+
+-- the tests of a node by itself: v is its words, x and y are those at its links
+unfoldable pub cellB : Node → Node → Node → ℕ → ℕ → Bool
+cellB v x y lo total = runB (v .start) (v .«end») (v .tag) lo total && agreesB v x y
+
+-- the same of a node of height 1, which has no links
+unfoldable pub leafB : Node → ℕ → ℕ → Bool
+leafB v lo total =
+    runB (v .start) (v .«end») (v .tag) lo total
+    && (eqb (v .left) 0 && (eqb (v .right) 0 && (eqb (v .runs) 1 && eqb (v .ones) (width (v .start) (v .«end»)))))
+
+-- the tree at the link k, d nodes deep at most, whose runs lie within lo .. total - 1
+unfoldable pub treeB : ℕ → List ℕ → ℕ → ℕ → ℕ → Bool
+treeB zero w k lo total = eqb k 0
+treeB (suc d) w zero lo total = true
+treeB (suc d) w (suc n) lo total =
+    insideB w (suc n)
+    && (cellB (cellAt w (suc n)) (belowOf w ((cellAt w (suc n)) .left)) (belowOf w ((cellAt w (suc n)) .right)) lo total
+    && (treeB d w ((cellAt w (suc n)) .left) lo ((cellAt w (suc n)) .start - 1)
+    && treeB d w ((cellAt w (suc n)) .right) ((cellAt w (suc n)) .«end» + 2) total))
+
+-- all words are 0 but the link
+unfoldable pub zerosB : Node → Bool
+zerosB v =
+    eqb (v .start) 0
+    && (eqb (v .«end») 0 && (eqb (v .right) 0 && (eqb (v .height) 0 && (eqb (v .runs) 0 && (eqb (v .ones) 0 && eqb (v .tag) 0)))))
+
+-- n is a free node
+unfoldable pub freeB : List ℕ → ℕ → Bool
+freeB w n = ltb 0 n && (insideB w n && zerosB (cellAt w n))
+
+-- c links from n lead over free nodes to 0
+unfoldable pub chainB : ℕ → List ℕ → ℕ → Bool
+chainB zero w n = eqb n 0
+chainB (suc c) w n = freeB w n && chainB c w ((cellAt w n) .left)
+
+-- a tree and a free chain share the nodes out, and the header has the tree's sums
+unfoldable pub keptB : List ℕ → Bool
+keptB w =
+    eqb ((headerAt w) .spare) 0
+    && (treeB 22 w ((headerAt w) .root) 0 size
+    && (eqb ((headerAt w) .ones) ((belowOf w ((headerAt w) .root)) .ones)
+    && (eqb ((headerAt w) .runs) ((belowOf w ((headerAt w) .root)) .runs)
+    && (leb ((headerAt w) .runs) (capacity w + 2) && chainB (capacity w + 2 - (headerAt w) .runs) w ((headerAt w) .free)))))
+
+-- what the header says of the positions
+unfoldable pub boundsB : List ℕ → Bool
+boundsB w =
+    eqb ((headerAt w) .first) (firstOf (heldRuns (heldBy w)))
+    && (eqb ((headerAt w) .last) (lastOf (heldRuns (heldBy w)))
+    && ((not (eqb ((headerAt w) .root) 0) || eqb ((headerAt w) .offset) 0) && leb (stretches (heldBy w)) (capacity w)))
+
+-- whether words of a store's length are a sound store
+unfoldable pub soundB : List ℕ → Bool
+soundB w = keptB w && boundsB w
+
+-- r says whether a tree with the runs within lo .. hi hangs at the link k
+abbrev pub Tells : List ℕ → ℕ → ℕ → ℕ → Bool → Type 0
+Tells w k lo hi r = (d : ℕ) → (belowOf w k) .height ≤ d → r ≡ treeB d w k lo (hi + 1)
+
+-- a tree and a chain that share the nodes out, with the sums that the header has
+pub record Shared (w : List ℕ) : Type 0 where
+  pub tree : Tree
+  pub free : List ℕ
+  pub kept : Kept w tree free
+  pub ones-are : (headerAt w) .ones ≡ ones tree
+  pub runs-are : (headerAt w) .runs ≡ runs tree

@@ -1,0 +1,301 @@
+// Deciding whether words are a sound store: one walk of the tree and one of the free chain, no memory but the stack.
+// Each node is tested against the bounds that the nodes above it leave, so the runs rise in order and no node is met twice; a free node
+// has height 0 and a node of the tree has not, so the chain never meets the tree; and a chain of exactly the nodes that are left, ending
+// in 0, meets each of them once.
+ghost use mathlib.Core.Path.{_≡_};
+ghost use mathlib.Core.Bool.{_||_, not};
+ghost use lib.Dec.{eqb};
+ghost use Prim.Native.Nat.{_+_, _≤_};
+ghost use Rattle.run_index.specs.Cells.{Room};
+ghost use Rattle.store.specs.Layout.{capacity};
+ghost use Rattle.store.specs.Decision.{insideB, belowOf, runB, heightsB, sumsB, cellB, leafB, freeB, chainB, keptB, soundB, Tells};
+use model::Store;
+use run_index::Node;
+
+// Whether a link names a node of the store, or none.
+fn inside(words: &[u64], link: u64) -> bool
+    ensures { λ r. ⌜ r ≡ insideB (now (words .entry)) link ⌝ }
+{
+    (link as usize) < words.len() / 8
+}
+
+// The words of the node at a link, zeros where there is none.
+fn below(words: &[u64], link: u64) -> Node
+    requires { ⌜ Room (now words) link ⌝ }
+    ensures { λ r. ⌜ r ≡ belowOf (now (words .entry)) link ⌝ }
+{
+    if link == 0 {
+        return Node {
+            start: 0,
+            end: 0,
+            left: 0,
+            right: 0,
+            height: 0,
+            runs: 0,
+            ones: 0,
+            tag: 0,
+        };
+    }
+    run_index::read_node(words, link)
+}
+
+// Whether the spare word is 0 and the run lies within lo..=hi.
+fn run_fits(start: u64, end: u64, tag: u64, lo: u64, hi: u64) -> bool
+    ensures { λ r. ⌜ r ≡ runB start «end» tag lo (hi + 1) ⌝ }
+{
+    if tag != 0 {
+        return false;
+    }
+    if start < lo {
+        return false;
+    }
+    if end < start {
+        return false;
+    }
+    end <= hi
+}
+
+// Whether h is one more than the greater of h1 and h2, which differ by at most 1.
+fn heights_fit(h: u64, h1: u64, h2: u64) -> bool
+    ensures { λ r. ⌜ r ≡ heightsB h h1 h2 ⌝ }
+{
+    if h == 0 {
+        return false;
+    }
+    let m = h - 1;
+    if h1 == m {
+        if h2 > m {
+            return false;
+        }
+        m - h2 <= 1
+    } else {
+        if h2 != m {
+            return false;
+        }
+        if h1 > m {
+            return false;
+        }
+        m - h1 <= 1
+    }
+}
+
+// Whether the words for runs and ones are those of the two sides and the run start..=end.
+fn sums_fit(runs: u64, r1: u64, r2: u64, ones: u64, o1: u64, o2: u64, start: u64, end: u64) -> bool
+    requires { ⌜ start ≤ «end» ⌝ }
+    ensures { λ r. ⌜ r ≡ sumsB runs r1 r2 ones o1 o2 start «end» ⌝ }
+{
+    if r1 >= runs {
+        return false;
+    }
+    if runs - r1 - 1 != r2 {
+        return false;
+    }
+    let width = std::num::wrapping_add_u64(end - start, 1);
+    ones == std::num::wrapping_add_u64(std::num::wrapping_add_u64(o1, o2), width)
+}
+
+// The tests of a node by itself: its run against the bounds, its height and sums against those at its links.
+fn node_fits(v: Node, x: Node, y: Node, lo: u64, hi: u64) -> bool
+    ensures { λ r. ⌜ r ≡ cellB v x y lo (hi + 1) ⌝ }
+{
+    if !run_fits(v.start, v.end, v.tag, lo, hi) {
+        return false;
+    }
+    if !heights_fit(v.height, x.height, y.height) {
+        return false;
+    }
+    sums_fit(
+        v.runs,
+        x.runs,
+        y.runs,
+        v.ones,
+        x.ones,
+        y.ones,
+        v.start,
+        v.end,
+    )
+}
+
+// The same of a node of height 1, which has no links.
+fn leaf_fits(v: Node, lo: u64, hi: u64) -> bool
+    ensures { λ r. ⌜ r ≡ leafB v lo (hi + 1) ⌝ }
+{
+    if !run_fits(v.start, v.end, v.tag, lo, hi) {
+        return false;
+    }
+    if v.left != 0 {
+        return false;
+    }
+    if v.right != 0 {
+        return false;
+    }
+    if v.runs != 1 {
+        return false;
+    }
+    v.ones == std::num::wrapping_add_u64(v.end - v.start, 1)
+}
+
+// Whether a tree hangs at a link, all its runs within lo..=hi. It goes down the right side, and calls itself on each left side that has
+// more than one node.
+fn tree_fits(words: &[u64], link: u64, lo: u64, hi: u64) -> bool
+    requires { ⌜ Room (now words) link ⌝ }
+    ensures { λ r. ⌜ Tells (now (words .entry)) link lo hi r ⌝ }
+{
+    let mut k = link;
+    let mut low = lo;
+    while k != 0 {
+        let v = below(words, k);
+        if v.height == 1 {
+            return leaf_fits(v, low, hi);
+        }
+        if !inside(words, v.left) {
+            return false;
+        }
+        if !inside(words, v.right) {
+            return false;
+        }
+        let x = below(words, v.left);
+        let y = below(words, v.right);
+        if !node_fits(v, x, y, low, hi) {
+            return false;
+        }
+        if v.left != 0 {
+            if v.start < 2 {
+                return false;
+            }
+            let fits = if x.height == 1 {
+                leaf_fits(x, low, v.start - 2)
+            } else {
+                tree_fits(words, v.left, low, v.start - 2)
+            };
+            if !fits {
+                return false;
+            }
+        }
+        if v.right == 0 {
+            return true;
+        }
+        if v.end > u64::MAX - 2 {
+            return false;
+        }
+        low = v.end + 2;
+        k = v.right;
+    }
+    true
+}
+
+// Whether a node is free: it is a node, and all its words but the link are 0.
+fn node_is_free(words: &[u64], link: u64) -> bool
+    ensures { λ r. ⌜ r ≡ freeB (now (words .entry)) link ⌝ }
+{
+    if link == 0 {
+        return false;
+    }
+    if !inside(words, link) {
+        return false;
+    }
+    let v = run_index::read_node(words, link);
+    if v.start != 0 {
+        return false;
+    }
+    if v.end != 0 {
+        return false;
+    }
+    if v.right != 0 {
+        return false;
+    }
+    if v.height != 0 {
+        return false;
+    }
+    if v.runs != 0 {
+        return false;
+    }
+    if v.ones != 0 {
+        return false;
+    }
+    v.tag == 0
+}
+
+// Whether exactly `count` links from `head` lead over free nodes to 0.
+fn chain_fits(words: &[u64], head: u64, count: u64) -> bool
+    ensures { λ r. ⌜ r ≡ chainB count (now (words .entry)) head ⌝ }
+{
+    let mut link = head;
+    let mut left = count;
+    while left > 0 {
+        if !node_is_free(words, link) {
+            return false;
+        }
+        let v = run_index::read_node(words, link);
+        link = v.left;
+        left -= 1;
+    }
+    link == 0
+}
+
+// Whether a tree and a free chain share the nodes out, and the header has the tree's sums.
+pub fn is_kept(words: &[u64]) -> bool
+    requires { ⌜ 1 ≤ capacity (now words) ⌝ }
+    ensures { λ r. ⌜ r ≡ keptB (now (words .entry)) ⌝ }
+{
+    let h = crate::read_header(words);
+    if h.spare != 0 {
+        return false;
+    }
+    if !inside(words, h.root) {
+        return false;
+    }
+    let v = below(words, h.root);
+    if v.height > Store::MAX_HEIGHT {
+        return false;
+    }
+    if h.ones != v.ones {
+        return false;
+    }
+    if h.runs != v.runs {
+        return false;
+    }
+    let all = (words.len() / 8 - 1) as u64;
+    if h.runs > all {
+        return false;
+    }
+    if !tree_fits(words, h.root, 0, u64::MAX) {
+        return false;
+    }
+    chain_fits(words, h.free, all - h.runs)
+}
+
+// Whether the offset is one that a store with this root may have: an empty one has offset 0.
+fn offset_fits(root: u64, offset: u64) -> bool
+    ensures { λ r. ⌜ r ≡ (not (eqb root 0) || eqb offset 0) ⌝ }
+{
+    if root != 0 {
+        return true;
+    }
+    offset == 0
+}
+
+// Whether words of a store's length are a sound store.
+pub fn is_sound(words: &[u64]) -> bool
+    requires { ⌜ 1 ≤ capacity (now words) ⌝ }
+    ensures { λ r. ⌜ r ≡ soundB (now (words .entry)) ⌝ }
+{
+    if !is_kept(words) {
+        return false;
+    }
+    let h = crate::read_header(words);
+    if !offset_fits(h.root, h.offset) {
+        return false;
+    }
+    let f = crate::bounds::first_held(words, h.root, h.offset);
+    if h.first != f.0 {
+        return false;
+    }
+    let l = crate::bounds::last_held(words, h.root, h.offset);
+    if h.last != l.0 {
+        return false;
+    }
+    let n = crate::bounds::logical_runs(words, h.root, h.offset, h.runs);
+    let s = Store::of_length(words.len());
+    n <= s.capacity
+}
