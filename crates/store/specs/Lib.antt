@@ -8,9 +8,4 @@ pub mod Turn
 pub mod Ends
 pub mod Nearby
 pub mod Counting
-pub mod Reports
-pub mod Joins
-pub mod Parted
-pub mod Ranks
-pub mod Edges
 pub mod Settle

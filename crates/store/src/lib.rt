@@ -7,7 +7,6 @@ use run_index::Node;
 
 pub mod bounds;
 pub mod free;
-pub mod physical;
 pub mod settle;
 pub mod soundness;
 

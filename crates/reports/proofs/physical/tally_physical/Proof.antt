@@ -1,10 +1,10 @@
 -- `tally_physical` meets its contract: the ranks of both ends differ by what is held above s, and by the runs that start there; the rest is free.
 -- Assumes nothing.
 use native.Mathlib.Omega.{arith}
-use Rattle.store.specs.Ranks.{starts-small, starts-ordered, more-fits, tally-held, tally-free}
+use Rattle.reports.specs.Ranks.{starts-small, starts-ordered, more-fits, tally-held, tally-free}
 use borrow.Author.Needs.{needs}
-use Rattle.store.proofs.physical.tally_physical.Statement.{statement}
-use Rattle.store.proofs.physical.tally_physical.Tie as tie
+use Rattle.reports.proofs.physical.tally_physical.Statement.{statement}
+use Rattle.reports.proofs.physical.tally_physical.Tie as tie
 
 rank-at-requires : tie.Need-rank-at-requires
 rank-at-requires c κs = search needs

@@ -9,10 +9,10 @@ use native.Mathlib.Omega.{arith}
 use Rattle.model.specs.declared.Run.{Run}
 use Rattle.model.specs.Numbers.{size}
 use Rattle.model.specs.Positions.{Positions, run, count, find, select, runsIn, firstRun, lastRun}
 use Rattle.store.specs.Layout.{turned}
 use Rattle.store.specs.Moved.{move, moveRun, count-moved, firstRun-moved, lastRun-moved, find-moved, select-moved}
 use Rattle.store.specs.Turn.{Lies, parted-length, first-below, parted-first, parted-second}
-use Rattle.store.specs.Joins.{
+use Rattle.reports.specs.Joins.{
   IsFirst,
   firstRun-only,
   lastRun-only,

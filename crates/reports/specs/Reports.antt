@@ -12,7 +12,7 @@ use Rattle.model.specs.Positions.{Positions, count, select, countRanges, mem}
 use Rattle.model.specs.Search.{firstFrom}
 use Rattle.run_index.specs.Tree.{Tree, inorder}
 use Rattle.run_index.specs.Search.{Index}
-use Rattle.store.specs.declared.physical.Tally.{Tally}
+use Rattle.reports.specs.declared.physical.Tally.{Tally}
 
 -- the positions of a value among the n from a, and the runs of it there
 pub record Measured (P : Positions) (v : Bool) (a n : ℕ) (r : Tally) : Type 0 where

@@ -22,10 +22,10 @@ use Rattle.model.specs.Search.{startsBelow}
 use Rattle.run_index.specs.declared.search.Rank.{Rank}
 use Rattle.run_index.specs.Tree.{Tree, inorder}
 use Rattle.run_index.specs.Search.{Index, TellsRank, Selectable, TellsSelected}
-use Rattle.store.specs.declared.physical.Tally.{Tally}
-use Rattle.store.specs.Reports.{Measured, TellsTally, Choosable, TellsChosen}
+use Rattle.reports.specs.declared.physical.Tally.{Tally}
+use Rattle.reports.specs.Reports.{Measured, TellsTally, Choosable, TellsChosen}
 use Rattle.store.specs.Counting.{runs-length}
-use Rattle.store.specs.Joins.{select-second}
+use Rattle.reports.specs.Joins.{select-second}
 
 -- ---- the starts of runs
 -- there are at most as many as runs

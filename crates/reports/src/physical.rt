@@ -3,7 +3,7 @@ ghost use mathlib.Core.Path.{_≡_};
 ghost use Prim.Native.Nat.{_+_, _≤_};
 ghost use Rattle.model.specs.Numbers.{worth};
 ghost use Rattle.run_index.specs.Search.{Indexed};
-ghost use Rattle.store.specs.Reports.{TellsTally, Choosable, TellsChosen, TellsNext, TellsPrevious, TellsStart};
+ghost use Rattle.reports.specs.Reports.{TellsTally, Choosable, TellsChosen, TellsNext, TellsPrevious, TellsStart};
 use model::Count;
 use model::Edge;
 use model::Physical;

@@ -1,10 +1,10 @@
 -- `select_physical` meets its contract: among all positions of the value, the one sought has k and those before s before it.
 -- Assumes nothing.
 use native.Mathlib.Omega.{arith}
-use Rattle.store.specs.Ranks.{chosen-there, chosen-fits, chosen-told, number-zero, number-held, number-free, ones-fit}
+use Rattle.reports.specs.Ranks.{chosen-there, chosen-fits, chosen-told, number-zero, number-held, number-free, ones-fit}
 use borrow.Author.Needs.{needs}
-use Rattle.store.proofs.physical.select_physical.Statement.{statement}
-use Rattle.store.proofs.physical.select_physical.Tie as tie
+use Rattle.reports.proofs.physical.select_physical.Statement.{statement}
+use Rattle.reports.proofs.physical.select_physical.Tie as tie
 
 select-requires : tie.Need-select-requires
 select-requires c κs = chosen-there (omega arith) (number-zero (c .if1 .taken)) (c .before .before .pre)

@@ -2,10 +2,10 @@
 -- Assumes nothing.
 use mathlib.Core.Path.{sym, ap, _∙_}
 use Rattle.run_index.specs.Search.{nearRun}
-use Rattle.store.specs.Reports.{startOf}
+use Rattle.reports.specs.Reports.{startOf}
 use borrow.Author.Needs.{needs}
-use Rattle.store.proofs.physical.next_start.Statement.{statement}
-use Rattle.store.proofs.physical.next_start.Tie as tie
+use Rattle.reports.proofs.physical.next_start.Statement.{statement}
+use Rattle.reports.proofs.physical.next_start.Tie as tie
 
 at-or-after-requires : tie.Need-at-or-after-requires
 at-or-after-requires c κs = search needs

@@ -14,8 +14,8 @@ use Rattle.model.specs.Numbers.{size}
 use Rattle.model.specs.Positions.{Positions, mem}
 use Rattle.model.specs.RunList.{Canon}
 use Rattle.model.specs.Search.{lastUpTo, firstFrom}
 use Rattle.store.specs.Nearby.{Before, Earlier, earlier, Later, later}
-use Rattle.store.specs.Reports.{Next, Previous, startOf}
+use Rattle.reports.specs.Reports.{Next, Previous, startOf}
 
 -- a position of the value is the next one from itself on
 pub next-here : (P : Positions) (v : Bool) (x : ℕ) → x < size → P x ≡ v → Next P v x (At x)

@@ -5,11 +5,11 @@ use native.Mathlib.Omega.{arith}
 use Rattle.model.specs.Positions.{mem}
 use Rattle.run_index.specs.Tree.{inorder}
 use Rattle.run_index.specs.Search.{nearRun}
-use Rattle.store.specs.Reports.{Next}
-use Rattle.store.specs.Edges.{next-here, in-run, past-run, no-run, next-held, next-free, next-none}
+use Rattle.reports.specs.Reports.{Next}
+use Rattle.reports.specs.Edges.{next-here, in-run, past-run, no-run, next-held, next-free, next-none}
 use borrow.Author.Needs.{needs}
-use Rattle.store.proofs.physical.next_physical.Statement.{statement}
-use Rattle.store.proofs.physical.next_physical.Tie as tie
+use Rattle.reports.proofs.physical.next_physical.Statement.{statement}
+use Rattle.reports.proofs.physical.next_physical.Tie as tie
 
 at-or-before-requires : tie.Need-at-or-before-requires
 at-or-before-requires c κs = search needs

@@ -1,0 +1,5 @@
+pub mod Reports
+pub mod Joins
+pub mod Parted
+pub mod Ranks
+pub mod Edges

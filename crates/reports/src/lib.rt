@@ -1,0 +1,2 @@
+// Reports on a store's positions: physical ones from the tree at a root, logical ones of a sound store.
+pub mod physical;
