@@ -1,0 +1,252 @@
+-- Holding the positions s .. e, as runs in order: the run that is to grow takes in, one after another, the runs after it that touch what
+-- has been reached. The model's `insert` does the same, so each step leaves its outcome as it was. Assumes nothing.
+use Prim.Native.Nat.{ℕ, _+_, _-_, _≤_, _<_, max}
+use mathlib.Core.Path.{_≡_, refl, sym, ap, _∙_, subst}
+use mathlib.Core.Logic.{_⊎_, inl, inr}
+use mathlib.Core.Bool.{Bool, true, false, true≢false}
+use mathlib.Core.List.{List, [], _∷_, _++_}
+use native.Mathlib.Omega.{arith}
+use lib.Dec.{leb, ltb, eqb}
+use lib.ListN.{length, length-append}
+use borrow.Author.Tests.{le-leb, lt-leb, leb-true, leb-false, ltb-true, ltb-false, eq-eqb, ne-eqb}
+use Rattle.model.specs.declared.Run.{Run}
+use Rattle.model.specs.Numbers.{size, split}
+use Rattle.model.specs.Positions.{run, firstRun}
+use Rattle.model.specs.RunList.{Canon}
+use Rattle.model.specs.Search.{firstFrom, canon-split, canon-starts}
+use Rattle.model.specs.Edit.{insert, insert-put, insert-join}
+use Rattle.run_index.specs.declared.search.Near.{Near}
+use Rattle.run_index.specs.Cells.{Room}
+use Rattle.run_index.specs.Tree.{Tree}
+use Rattle.run_index.specs.Order.{Before}
+use Rattle.run_index.specs.Search.{Indexed, nearRun, TellsAfter}
+use Rattle.store.specs.declared.Header.{Header}
+use Rattle.store.specs.Layout.{headerAt}
+use Rattle.store.specs.Free.{Removable, RemovesRun}
+use Rattle.changes.specs.Change.{Reaching, Greater, Turns, Parted, Absorbable, Absorbs}
+use Rattle.changes.proofs.Counting.{runsOf}
+use Rattle.changes.proofs.Steps.{turns-none, turns-canon, turns-room, turns-runs, turns-index, turns-after, turns-removable, turns-removed}
+use Rattle.changes.proofs.Lists.{first-after, first-some, first-none, append-one, canon-before, starts-less}
+
+-- what reaches up to b holds x
+pub reach-held : (b x : ℕ) → x ≤ b → true ≡ leb x (b + 1)
+reach-held b x h = sym (le-leb x (b + 1) (omega arith))
+
+-- or touches it
+pub reach-next : (b x : ℕ) → b < x → eqb (x - b) 1 ≡ leb x (b + 1)
+reach-next b x h = go (split (b + 1) x)
+  where
+    go : (b + 1 < x) ⊎ (x ≤ b + 1) → eqb (x - b) 1 ≡ leb x (b + 1)
+    go (inl l) = ne-eqb (x - b) 1 (λ (e : x - b ≡ 1). omega arith) ∙ sym (lt-leb x (b + 1) l)
+    go (inr l) = eq-eqb (x - b) 1 (omega arith) ∙ sym (le-leb x (b + 1) l)
+
+-- ---- the run start .. b takes in runs after it
+module _ (ls us : List Run) (start b : ℕ) (c : Canon size 0 (ls ++ (run start b ∷ us))) where
+  -- its ends are in order
+  grow-ordered : start ≤ b
+  grow-ordered = canon-split size 0 ls (run start b) us c .2
+
+  -- what follows starts two after it
+  grow-after : Canon size (b + 2) us
+  grow-after = canon-split size 0 ls (run start b) us c .4
+
+  -- the next run is the first of those after it
+  pub next-first : firstFrom (start + 1) (ls ++ (run start b ∷ us)) ≡ firstRun us
+  next-first =
+      ap (firstFrom (start + 1)) (sym (append-one ls (run start b) us))
+      ∙ first-after (start + 1) (ls ++ (run start b ∷ [])) us (past ls (canon-before size 0 ls (run start b) us c))
+      (starts-less (b + 2) (start + 1) us (omega (arith, grow-ordered)) (canon-starts size (b + 2) us grow-after))
+    where
+      past : (qs : List Run) → Before start qs → Before (start + 1) (qs ++ (run start b ∷ []))
+      past [] h = (omega arith, tt)
+      past (q ∷ qs) h = (omega (arith, h .0), past qs (h .1))
+
+-- it takes the next one in
+pub take-in : (start b reached : ℕ) (r : Run) (us : List Run) → start ≤ b → Canon size (b + 2) (r ∷ us) → r .start ≤ reached + 1
+    → (a : ℕ) → a ≤ start → insert a (max reached (r .«end»)) us ≡ insert a reached (r ∷ us)
+take-in start b reached r us o c h a le =
+    ap (λ (k : ℕ). insert k (max reached (r .«end»)) us) (omega (arith, c .0)) ∙ sym (insert-join a reached r us (omega (arith, c .0, c .1)) h)
+
+-- or leaves it, and all after it
+pub leave-out : (start b reached : ℕ) (r : Run) (us : List Run) → start ≤ b → Canon size (b + 2) (r ∷ us) → reached + 1 < r .start
+    → (a : ℕ) → a ≤ start → insert a reached (r ∷ us) ≡ run a reached ∷ (r ∷ us)
+leave-out start b reached r us o c h a le = insert-put a reached r us (omega (arith, c .0, c .1)) h
+
+-- nothing is left
+pub take-none : (a b : ℕ) → insert a b [] ≡ run a b ∷ []
+unfolding insert
+take-none a b = refl
+
+-- ---- what `absorb` has done so far to the runs us after start .. b
+pub record SoFar (w w1 : List ℕ) (start e reached : ℕ) (more : Bool) (ls us : List Run) (b : ℕ) : Type 0 where
+  pub left : List Run
+  pub turns : Turns w w1 (ls ++ (run start b ∷ left))
+  pub same : (a : ℕ) → a ≤ start → insert a reached left ≡ insert a e us
+  pub ended : more ≡ false → (a : ℕ) → a ≤ start → insert a reached left ≡ run a reached ∷ left
+
+-- nothing yet
+pub so-far-none : (w : List ℕ) (start e : ℕ) (ls us : List Run) (b : ℕ) (t : Tree) (ns : List ℕ) → Parted w ls (run start b ∷ us) t ns
+    → SoFar w w start e e (ltb start 18446744073709551615) ls us b
+so-far-none w start e ls us b t ns p = record {
+  left = us;
+  turns = u;
+  same = λ a le. refl;
+  ended = λ n a le. ap (insert a e) (last n us after) ∙ take-none a e ∙ ap (λ (vs : List Run). run a e ∷ vs) (sym (last n us after));
+}
+  where
+    u : Turns w w (ls ++ (run start b ∷ us))
+    u = turns-none w t ns (ls ++ (run start b ∷ us)) (p .kept) (p .runs-are)
+
+    after : Canon size (b + 2) us
+    after = grow-after ls us start b (turns-canon u)
+
+    last : ltb start 18446744073709551615 ≡ false → (vs : List Run) → Canon size (b + 2) vs → vs ≡ []
+    last n [] c = refl
+    last n (r ∷ vs) c =
+        absurd (omega (arith, ltb-false start 18446744073709551615 n, c .0, c .1, c .2, grow-ordered ls us start b (turns-canon u)))
+
+module _ {w w1 : List ℕ} {start e reached : ℕ} {more : Bool} {ls us : List Run} {b : ℕ} (s : SoFar w w1 start e reached more ls us b) where
+  -- the run that grows has its ends in order
+  ordered : start ≤ b
+  ordered = grow-ordered ls (s .left) start b (turns-canon (s .turns))
+
+  -- what is left starts two after it
+  after : Canon size (b + 2) (s .left)
+  after = grow-after ls (s .left) start b (turns-canon (s .turns))
+
+  -- the search for the next run
+  module _ (h : Header) (eh : h ≡ headerAt w1) (n : Near) (f : TellsAfter w1 (h .root) (start + 1) n) where
+    -- it finds the first of the runs left
+    next-is : nearRun n ≡ firstRun (s .left)
+    next-is = turns-after (s .turns) h eh (start + 1) n f ∙ next-first ls (s .left) start b (turns-canon (s .turns))
+
+    -- it finds r
+    module _ (r : Run) (en : n ≡ Near.Run r) where
+      -- the runs after r
+      rest : (vs : List Run) × (s .left ≡ r ∷ vs)
+      rest = first-some (s .left) r (sym (ap nearRun en) ∙ next-is)
+
+      -- r and they are canonical
+      canon-rest : Canon size (b + 2) (r ∷ rest .0)
+      canon-rest = subst (Canon size (b + 2)) (rest .1) after
+
+      -- the store's runs around r
+      around : Turns w w1 ((ls ++ (run start b ∷ [])) ++ (r ∷ rest .0))
+      around =
+          subst (Turns w w1) (ap (λ (vs : List Run). ls ++ (run start b ∷ vs)) (rest .1) ∙ sym (append-one ls (run start b) (r ∷ rest .0))) (s .turns)
+
+      -- r may be removed
+      pub next-removable : Removable w1 (r .start)
+      next-removable = turns-removable (ls ++ (run start b ∷ [])) r (rest .0) around
+
+      module _ {w2 : List ℕ} (g : RemovesRun w1 w2 (r .start)) where
+        -- the store without r
+        removed : Turns w w2 (ls ++ (run start b ∷ rest .0))
+        removed =
+            subst (Turns w w2) (append-one ls (run start b) (rest .0)) (turns-removed (ls ++ (run start b ∷ [])) r (rest .0) around g)
+
+        -- it is taken in
+        pub so-far-taken : more ≡ true → r .start ≤ reached + 1 → SoFar w w2 start e (max reached (r .«end»)) more ls us b
+        so-far-taken m le = record {
+          left = rest .0;
+          turns = removed;
+          same = λ a l. take-in start b reached r (rest .0) ordered canon-rest le a l ∙ ap (insert a reached) (sym (rest .1)) ∙ s .same a l;
+          ended = λ (q : more ≡ false). absurd (true≢false (sym m ∙ q));
+        }
+
+        -- there are fewer runs
+        pub so-far-fewer : runsOf w2 < runsOf w1
+        so-far-fewer =
+            omega (
+              arith,
+              turns-runs removed,
+              turns-runs (s .turns),
+              length-append ls (run start b ∷ rest .0),
+              length-append ls (run start b ∷ s .left),
+              ap length (rest .1),
+            )
+
+      -- r does not touch what is reached
+      pub so-far-apart : reached + 1 < r .start → SoFar w w1 start e reached false ls us b
+      so-far-apart lt = record {
+        left = s .left;
+        turns = s .turns;
+        same = s .same;
+        ended = λ q a l.
+            ap (insert a reached) (rest .1) ∙ leave-out start b reached r (rest .0) ordered canon-rest lt a l
+            ∙ ap (λ (vs : List Run). run a reached ∷ vs) (sym (rest .1));
+      }
+
+    -- it finds none
+    pub so-far-over : n ≡ Near.None → SoFar w w1 start e reached false ls us b
+    so-far-over en = record {
+      left = s .left;
+      turns = s .turns;
+      same = s .same;
+      ended = λ q a l.
+          ap (insert a reached) nothing ∙ take-none a reached ∙ ap (λ (vs : List Run). run a reached ∷ vs) (sym nothing);
+    }
+      where
+        nothing : s .left ≡ []
+        nothing = first-none (s .left) (sym (ap nearRun en) ∙ next-is)
+
+-- ---- the invariant of `absorb`
+pub record Absorbing (w w1 : List ℕ) (start e reached : ℕ) (more : Bool) : Type 0 where
+  pub short : more ≡ true → start < 18446744073709551615
+  pub so-far : (ls us : List Run) (b : ℕ) (t : Tree) (ns : List ℕ) → Parted w ls (run start b ∷ us) t ns → SoFar w w1 start e reached more ls us b
+
+-- it holds at first
+pub absorbing-none : (w : List ℕ) (start e : ℕ) → Absorbing w w start e e (ltb start 18446744073709551615)
+absorbing-none w start e = record {
+  short = λ m. ltb-true start 18446744073709551615 m;
+  so-far = λ ls us b t ns p. so-far-none w start e ls us b t ns p;
+}
+
+module _ {w w1 : List ℕ} {start e reached : ℕ} {more : Bool} (i : Absorbing w w1 start e reached more) (p : Absorbable w start) where
+  -- what has been done to the runs that the caller has
+  pub here : SoFar w w1 start e reached more (p .0) (p .1) (p .2)
+  here = i .so-far (p .0) (p .1) (p .2) (p .3) (p .4) (p .5)
+
+  -- the store may be read
+  pub absorbing-room : Room w1 0
+  absorbing-room = turns-room (here .turns)
+
+  -- and searched
+  pub absorbing-indexed : (h : Header) → h ≡ headerAt w1 → Indexed w1 (h .root)
+  absorbing-indexed h eh = (0, _, turns-index (here .turns) h eh)
+
+  -- its length is the old one
+  pub absorbing-long : length w1 ≡ length w
+  absorbing-long = here .turns .1 .long
+
+-- in the end it is the promise
+pub absorbing-done : {w w1 : List ℕ} {start e reached : ℕ} {more : Bool} → more ≡ false → Absorbing w w1 start e reached more → Absorbs w w1 start e reached
+absorbing-done m i ls us b t ns p =
+    let s = i .so-far ls us b t ns p in
+    record { left = s .left; turns = s .turns; joined = λ a l. sym (s .same a l) ∙ s .ended m a l }
+
+module _ {w w1 : List ℕ} {start e reached : ℕ} {more : Bool} (i : Absorbing w w1 start e reached more)
+    (h : Header) (eh : h ≡ headerAt w1) (n : Near) (f : TellsAfter w1 (h .root) (start + 1) n) where
+  module _ (r : Run) (en : n ≡ Near.Run r) (t : Bool) (et : Reaching reached (r .start) t) where
+    -- it goes on where the next run is taken in
+    pub absorbing-taken : {w2 : List ℕ} → RemovesRun w1 w2 (r .start) → more ≡ true → t ≡ true → (k : ℕ) → Greater reached (r .«end») k → Absorbing w w2 start e k more
+    absorbing-taken {w2} g m held k ek = record {
+      short = i .short;
+      so-far = λ ls us b u ns p.
+          subst (λ (j : ℕ). SoFar w w2 start e j more ls us b) (sym ek)
+          (so-far-taken (i .so-far ls us b u ns p) h eh n f r en g m (leb-true (r .start) (reached + 1) (sym et ∙ held)));
+    }
+
+    -- and stops where it is apart
+    pub absorbing-apart : t ≡ false → Absorbing w w1 start e reached false
+    absorbing-apart off = record {
+      short = λ (q : false ≡ true). absurd (true≢false (sym q));
+      so-far = λ ls us b u ns p. so-far-apart (i .so-far ls us b u ns p) h eh n f r en (leb-false (r .start) (reached + 1) (sym et ∙ off));
+    }
+
+  -- or there is none
+  pub absorbing-over : n ≡ Near.None → Absorbing w w1 start e reached false
+  absorbing-over en = record {
+    short = λ (q : false ≡ true). absurd (true≢false (sym q));
+    so-far = λ ls us b u ns p. so-far-over (i .so-far ls us b u ns p) h eh n f en;
+  }

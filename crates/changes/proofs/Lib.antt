@@ -1,0 +1,8 @@
+-- What the proofs of several functions use.
+pub mod Counting
+pub mod Lists
+pub mod Steps
+pub mod Joining
+pub mod Raising
+pub mod Clearing
+pub mod Trimming

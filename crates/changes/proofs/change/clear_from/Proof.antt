@@ -1,0 +1,112 @@
+-- `clear_from` meets its contract. The loop's invariant: the model's `clear` makes of the runs left what it made of all, and has done so
+-- once no more may come; the measure is how many runs there are, and one while more may come. Assumes nothing.
+use Prim.Native.Nat.{_+_}
+use borrow.Author.Needs.{needs}
+use native.Mathlib.Omega.{arith}
+use Rattle.run_index.specs.Tree.{bit}
+use Rattle.changes.proofs.Counting.{runsOf, stop-less}
+use Rattle.changes.proofs.Clearing.{
+  ClearingFrom,
+  clearing-none,
+  here,
+  clearing-room,
+  clearing-indexed,
+  clearing-long,
+  clearing-done,
+  first-below,
+  first-changeable,
+  first-removable,
+  cleared-fewer,
+  front-as-many,
+  clearing-gone,
+  clearing-front,
+  clearing-apart,
+  clearing-over,
+}
+use Rattle.changes.proofs.change.clear_from.Statement.{statement}
+use Rattle.changes.proofs.change.clear_from.Tie as tie
+
+abbrev Inv-loop : tie.InvT-loop
+Inv-loop words₀ s e more₀ words more = ClearingFrom words₀ words s e more
+
+abbrev μ-loop : tie.MeasureT-loop
+μ-loop words₀ s e more₀ words more = runsOf words + bit more
+
+loop-holds : tie.Need-loop-holds Inv-loop μ-loop
+loop-holds c = clearing-none _ _ _
+
+read-header-requires : tie.Need-read-header-requires Inv-loop μ-loop
+read-header-requires c κs = clearing-room (c .before .before .loop .inv) (c .before .before .before .before .pre)
+
+at-or-after-requires : tie.Need-at-or-after-requires Inv-loop μ-loop
+at-or-after-requires c κs = clearing-indexed (c .before .before .before .before .loop .inv) (c .before .before .before .before .before .before .pre) _ (c .before .read-header .ensures)
+
+enum-known-n : tie.Need-enum-known-n Inv-loop μ-loop
+enum-known-n c = search needs
+
+add-resize-run : tie.Need-add-resize-run Inv-loop μ-loop
+add-resize-run c = omega (arith, c .before .if2 .taken, first-below (here (c .before .before .before .before .before .before .before .before .before .before .before .loop .inv) (c .before .before .before .before .before .before .before .before .before .before .before .before .before .pre)) _ (c .before .before .before .before .before .before .before .before .read-header .ensures) _ (c .before .before .before .before .before .before .at-or-after .ensures) _ (c .before .before .before .before .n .given .1))
+
+resize-run-requires : tie.Need-resize-run-requires Inv-loop μ-loop
+resize-run-requires c κs = first-changeable (here (c .before .before .before .before .before .before .before .before .before .before .before .loop .inv) (c .before .before .before .before .before .before .before .before .before .before .before .before .before .pre)) _ (c .before .before .before .before .before .before .before .before .read-header .ensures) _ (c .before .before .before .before .before .before .at-or-after .ensures) _ (c .before .before .before .before .n .given .1) (c .before .before .if1 .taken) (c .before .if2 .taken)
+
+loop-less : tie.Need-loop-less Inv-loop μ-loop
+loop-less c = omega (arith, front-as-many (here (c .before .before .before .before .before .before .before .before .before .before .before .before .before .before .loop .inv) (c .before .before .before .before .before .before .before .before .before .before .before .before .before .before .before .before .pre)) _ (c .before .before .before .before .before .before .before .before .before .before .before .read-header .ensures) _ (c .before .before .before .before .before .before .before .before .before .at-or-after .ensures) _ (c .before .before .before .before .before .before .before .n .given .1) (c .before .before .before .before .before .if1 .taken) (c .before .before .before .before .if2 .taken) (c .before .before .resize-run .ensures), stop-less 0 _ (c .before .before .before .before .before .before .before .before .before .before .before .before .before .loop-test .taken))
+
+loop-again : tie.Need-loop-again Inv-loop μ-loop
+loop-again c = clearing-front (c .before .before .before .before .before .before .before .before .before .before .before .before .before .before .loop .inv) _ (c .before .before .before .before .before .before .before .before .before .before .before .read-header .ensures) _ (c .before .before .before .before .before .before .before .before .before .at-or-after .ensures) _ (c .before .before .before .before .before .before .before .n .given .1) (c .before .before .before .before .before .if1 .taken) (c .before .before .before .before .if2 .taken) (c .before .before .resize-run .ensures)
+
+remove-run-requires : tie.Need-remove-run-requires Inv-loop μ-loop
+remove-run-requires c κs = first-removable (here (c .before .before .before .before .before .before .before .before .before .before .before .loop .inv) (c .before .before .before .before .before .before .before .before .before .before .before .before .before .pre)) _ (c .before .before .before .before .before .before .before .before .read-header .ensures) _ (c .before .before .before .before .before .before .at-or-after .ensures) _ (c .before .before .before .before .n .given .1)
+
+loop-less-2 : tie.Need-loop-less-2 Inv-loop μ-loop
+loop-less-2 c = omega (arith, cleared-fewer (here (c .before .before .before .before .before .before .before .before .before .before .before .before .before .before .loop .inv) (c .before .before .before .before .before .before .before .before .before .before .before .before .before .before .before .before .pre)) _ (c .before .before .before .before .before .before .before .before .before .before .before .read-header .ensures) _ (c .before .before .before .before .before .before .before .before .before .at-or-after .ensures) _ (c .before .before .before .before .before .before .before .n .given .1) (c .before .before .remove-run .ensures))
+
+loop-again-2 : tie.Need-loop-again-2 Inv-loop μ-loop
+loop-again-2 c = clearing-gone (c .before .before .before .before .before .before .before .before .before .before .before .before .before .before .loop .inv) _ (c .before .before .before .before .before .before .before .before .before .before .before .read-header .ensures) _ (c .before .before .before .before .before .before .before .before .before .at-or-after .ensures) _ (c .before .before .before .before .before .before .before .n .given .1) (c .before .before .remove-run .ensures) (c .before .before .before .before .before .before .before .before .before .before .before .before .before .loop-test .taken) (c .before .before .before .before .if2 .left)
+
+loop-less-3 : tie.Need-loop-less-3 Inv-loop μ-loop
+loop-less-3 c = stop-less _ _ (c .before .before .before .before .before .before .before .before .loop-test .taken)
+
+loop-again-3 : tie.Need-loop-again-3 Inv-loop μ-loop
+loop-again-3 c = clearing-apart (c .before .before .before .before .before .before .before .before .before .loop .inv) _ (c .before .before .before .before .before .before .read-header .ensures) _ (c .before .before .before .before .at-or-after .ensures) _ (c .before .before .n .given .1) (c .if1 .left)
+
+enum-told : tie.Need-enum-told Inv-loop μ-loop
+enum-told c = search needs
+
+loop-less-4 : tie.Need-loop-less-4 Inv-loop μ-loop
+loop-less-4 c = stop-less _ _ (c .before .before .before .before .before .before .loop-test .taken)
+
+loop-again-4 : tie.Need-loop-again-4 Inv-loop μ-loop
+loop-again-4 c = clearing-over (c .before .before .before .before .before .before .before .loop .inv) _ (c .before .before .before .before .read-header .ensures) _ (c .before .before .at-or-after .ensures) (c .enum-told .given .1)
+
+same-length : tie.Need-same-length Inv-loop μ-loop
+same-length c = clearing-long (c .before .loop .inv) (c .before .before .before .pre)
+
+returns : tie.Need-returns Inv-loop μ-loop
+returns c = clearing-done (c .loop-test .left) (c .before .loop .inv)
+
+pub clear-from-spec : {M : Type 1} → statement M
+clear-from-spec =
+    tie.close
+    (tie.spec
+    Inv-loop
+    μ-loop
+    loop-holds
+    read-header-requires
+    at-or-after-requires
+    enum-known-n
+    add-resize-run
+    resize-run-requires
+    loop-less
+    loop-again
+    remove-run-requires
+    loop-less-2
+    loop-again-2
+    loop-less-3
+    loop-again-3
+    enum-told
+    loop-less-4
+    loop-again-4
+    same-length
+    returns)
