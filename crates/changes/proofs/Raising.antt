@@ -16,14 +16,14 @@ use Rattle.model.specs.Edit.{insert, setTo, insert-skip, insert-put, insert-joi
 use Rattle.run_index.specs.declared.search.Near.{Near}
 use Rattle.run_index.specs.Tree.{Tree, inorder}
 use Rattle.run_index.specs.Order.{Before}
-use Rattle.run_index.specs.Search.{nearRun, TellsBefore, TellsAfter}
+use Rattle.run_index.specs.Search.{nearRun, TellsAfter}
 use Rattle.store.specs.declared.Header.{Header}
 use Rattle.store.specs.Layout.{headerAt, capacity}
 use Rattle.store.specs.Soundness.{Kept}
 use Rattle.store.specs.Free.{Addable, Adds, Changeable, Changes}
 use Rattle.changes.specs.Change.{MaySet, Settable, Holding, Sets, Reaching, Greater, Turns, Parted, Absorbable, Absorbed, Absorbs}
-use Rattle.changes.proofs.Lists.{first-after, first-some, first-none, last-none, Around, last-around, ends-before, ends-more, ends-last, starts-less, append-one, canon-below}
-use Rattle.changes.proofs.Steps.{turns-none, turns-before, turns-after, turns-changeable, turns-changed, turns-addable, turns-added, set-canon, set-few, set-holding}
+use Rattle.changes.proofs.Lists.{first-after, first-some, first-none, Around, ends-before, ends-more, ends-last, starts-less, append-one, canon-below}
+use Rattle.changes.proofs.Steps.{Found, FoundNone, turns-none, turns-after, turns-changeable, turns-changed, turns-addable, turns-added, set-canon, set-few, set-holding}
 use Rattle.changes.proofs.Joining.{take-none}
 
 -- ---- what `insert` makes of runs
@@ -56,16 +56,11 @@ unfolding setTo
 raised-few m = set-few m
 
 -- ---- the run r at s or before it reaches s
-module _ {w : List ℕ} {s e : ℕ} (h : Header) (eh : h ≡ headerAt w) (n : Near) (f : TellsBefore w (h .root) s n) (r : Run) (en : n ≡ Near.Run r)
-    (d : Bool) (ed : Reaching (r .«end») s d) (held : d ≡ true) where
+module _ {w : List ℕ} {s e : ℕ} {r : Run} (q : Found w s r) (d : Bool) (ed : Reaching (r .«end») s d) (held : d ≡ true) where
   module _ {t : Tree} {ns : List ℕ} (m : MaySet w s e true t ns) where
-    -- the store as it is
-    at-first : Turns w w (inorder t)
-    at-first = turns-none w t ns (inorder t) (m .kept) refl
-
-    -- its runs around r
+    -- the runs around r
     around : Around s r (inorder t)
-    around = last-around s (inorder t) r (sym (ap nearRun en) ∙ turns-before at-first h eh s n f)
+    around = q .around t ns (m .kept)
 
     -- they are canonical
     canon-around : Canon size 0 (around .ls ++ (r ∷ around .us))
@@ -153,38 +148,36 @@ pub record Parts (s : ℕ) (rs : List Run) : Type 0 where
 pub record Passed (w : List ℕ) (s : ℕ) : Type 0 where
   pub parts : (t : Tree) (ns : List ℕ) → Kept w t ns → Parts s (inorder t)
 
-module _ {w : List ℕ} {s : ℕ} (h : Header) (eh : h ≡ headerAt w) (n : Near) (f : TellsBefore w (h .root) s n) where
-  -- the last run from before s ends two before it
-  pub passed-apart : (r : Run) → n ≡ Near.Run r → (d : Bool) → Reaching (r .«end») s d → d ≡ false → Passed w s
-  passed-apart r en d ed off = record { parts = go }
-    where
-      go : (t : Tree) (ns : List ℕ) → Kept w t ns → Parts s (inorder t)
-      go t ns k =
-          let lt : r .«end» + 1 < s = leb-false s (r .«end» + 1) (sym ed ∙ off) in
-          let a : Around s r (inorder t) = last-around s (inorder t) r (sym (ap nearRun en) ∙ turns-before (turns-none w t ns (inorder t) k refl) h eh s n f) in
-          let c : Canon size 0 (a .ls ++ (r ∷ a .us)) = subst (Canon size 0) (a .is) (k .ordered) in
-          let q = canon-split size 0 (a .ls) r (a .us) c in
-          record {
-            ls = a .ls ++ (r ∷ []);
-            us = a .us;
-            is = a .is ∙ sym (append-one (a .ls) r (a .us));
-            below = ends-last (s - 1) r (a .ls)
-                (ends-more (r .start - 1) (s - 1) (a .ls) (omega (arith, a .at)) (canon-below size 0 (a .ls) r (a .us) c)) (q .2) (omega arith);
-            from = starts-less (s + 1) s (a .us) (omega arith) (a .after);
-          }
+-- as the last run from before s ends two before it
+pub passed-apart : {w : List ℕ} {s : ℕ} {r : Run} → Found w s r → (d : Bool) → Reaching (r .«end») s d → d ≡ false → Passed w s
+passed-apart {w} {s} {r} q d ed off = record { parts = go }
+  where
+    go : (t : Tree) (ns : List ℕ) → Kept w t ns → Parts s (inorder t)
+    go t ns k =
+        let lt : r .«end» + 1 < s = leb-false s (r .«end» + 1) (sym ed ∙ off) in
+        let a : Around s r (inorder t) = q .around t ns k in
+        let c : Canon size 0 (a .ls ++ (r ∷ a .us)) = subst (Canon size 0) (a .is) (k .ordered) in
+        let o = canon-split size 0 (a .ls) r (a .us) c in
+        record {
+          ls = a .ls ++ (r ∷ []);
+          us = a .us;
+          is = a .is ∙ sym (append-one (a .ls) r (a .us));
+          below = ends-last (s - 1) r (a .ls)
+              (ends-more (r .start - 1) (s - 1) (a .ls) (omega (arith, a .at)) (canon-below size 0 (a .ls) r (a .us) c)) (o .2) (omega arith);
+          from = starts-less (s + 1) s (a .us) (omega arith) (a .after);
+        }
 
-  -- there is none
-  pub passed-none : n ≡ Near.None → Passed w s
-  passed-none en = record {
-    parts = λ t ns k. record {
-      ls = [];
-      us = inorder t;
-      is = refl;
-      below = tt;
-      from = starts-less (s + 1) s (inorder t) (omega arith)
-          (last-none s (inorder t) (sym (sym (ap nearRun en) ∙ turns-before (turns-none w t ns (inorder t) k refl) h eh s n f)));
-    };
-  }
+-- or there is none
+pub passed-none : {w : List ℕ} {s : ℕ} → FoundNone w s → Passed w s
+passed-none {w} {s} q = record {
+  parts = λ t ns k. record {
+    ls = [];
+    us = inorder t;
+    is = refl;
+    below = tt;
+    from = starts-less (s + 1) s (inorder t) (omega arith) (q .after t ns k);
+  };
+}
 
 -- what is set stands alone between ls and us
 pub record Lone (s e : ℕ) (rs : List Run) : Type 0 where

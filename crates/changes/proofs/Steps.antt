@@ -29,7 +29,7 @@ use Rattle.changes.specs.Change.{MaySet, Settable, Holding, Sets, Turns}
 use Rattle.store.proofs.Nodes.{few-runs, header-room}
 use Rattle.store.proofs.Altering.{same-rest}
 use Rattle.changes.proofs.Counting.{nodes-all, runsOf, runs-of}
-use Rattle.changes.proofs.Lists.{starts-at, remove-at, replace-at, insert-at, canon-before}
+use Rattle.changes.proofs.Lists.{last-none, Around, last-around, starts-at, remove-at, replace-at, insert-at, canon-before}
 
 -- the headers differ in root and free head alone after two steps
 rest-then : (h k l : Header) → SameRest h k → SameRest k l → SameRest h l
@@ -165,6 +165,27 @@ module _ {w : List ℕ} {s e : ℕ} {v : Bool} (p : Settable w s e v) where
   -- and searched
   pub settable-indexed : (h : Header) → h ≡ headerAt w → Indexed w (h .root)
   settable-indexed h eh = (0, _, turns-index (turns-none w (p .0) (p .1) (inorder (p .0)) (p .2 .kept) refl) h eh)
+
+-- r is the last run that starts at s or before it
+pub record Found (w : List ℕ) (s : ℕ) (r : Run) : Type 0 where
+  pub around : (t : Tree) (ns : List ℕ) → Kept w t ns → Around s r (inorder t)
+
+-- all runs start after s
+pub record FoundNone (w : List ℕ) (s : ℕ) : Type 0 where
+  pub after : (t : Tree) (ns : List ℕ) → Kept w t ns → StartFrom (s + 1) (inorder t)
+
+module _ {w : List ℕ} {s : ℕ} (h : Header) (eh : h ≡ headerAt w) (n : Near) (f : TellsBefore w (h .root) s n) where
+  -- the search has found r
+  pub found : (r : Run) → n ≡ Near.Run r → Found w s r
+  found r en = record {
+    around = λ t ns k. last-around s (inorder t) r (sym (ap nearRun en) ∙ turns-before (turns-none w t ns (inorder t) k refl) h eh s n f);
+  }
+
+  -- it has found none
+  pub found-none : n ≡ Near.None → FoundNone w s
+  found-none en = record {
+    after = λ t ns k. last-none s (inorder t) (sym (turns-before (turns-none w t ns (inorder t) k refl) h eh s n f) ∙ ap nearRun en);
+  }
 
 -- what may get a value may get its like
 pub settable-like : {w : List ℕ} {s e : ℕ} {v u : Bool} → v ≡ u → Settable w s e v → Settable w s e u

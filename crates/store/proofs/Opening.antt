@@ -1,11 +1,15 @@
 -- What a sound store gives its readers: room for its header, its tree at the header's root, and that its positions are the tree's, turned
 -- by the offset. A balanced tree of so few nodes is at most 22 high, so the runs read from the root are all of the tree's. Assumes nothing.
-use Prim.Native.Nat.{ℕ, zero, suc, _+_, _-_, _≤_}
+use Prim.Native.Nat.{ℕ, zero, suc, _+_, _-_, _≤_, _<_}
 use mathlib.Core.Path.{_≡_, refl, sym, ap, _∙_}
 use mathlib.Core.List.{List, [], _∷_, _++_}
 use native.Mathlib.Omega.{arith}
 use native.Mathlib.Decide.{decLe}
-use Rattle.model.specs.Positions.{run, mem}
+use lib.ListN.{getD}
+use mir.Syntax.{w64}
+use mir.Val.{Fits}
+use Rattle.model.specs.Numbers.{size}
+use Rattle.model.specs.Positions.{Positions, run, mem}
 use Rattle.run_index.specs.declared.Node.{Node}
 use Rattle.run_index.specs.Cells.{cellAt, Room}
 use Rattle.run_index.specs.Tree.{Tree, leaf, node, link, height, inorder, cell, At}
@@ -53,7 +57,8 @@ module _ (w : List ℕ) (t : Tree) (ns : List ℕ) (k : Kept w t ns) where
       go (yes l) = l
       go (no l) =
           let e : height t - 23 + 23 ≡ height t = omega arith in
-          absurd (omega (arith, sized-length w (k .sized), few-nodes w 0 t (k .linked .rep) (k .once), least-runs t (k .balanced), least-rises 23 (height t - 23), ap least e, least-23))
+          let few = few-nodes w 0 t (k .linked .rep) (k .once) in
+          absurd (omega (arith, sized-length w (k .sized), few, least-runs t (k .balanced), least-rises 23 (height t - 23), ap least e, least-23))
 
   -- the physical runs are the tree's
   pub kept-physical : physicalRuns w ≡ inorder t
@@ -61,6 +66,10 @@ module _ (w : List ℕ) (t : Tree) (ns : List ℕ) (k : Kept w t ns) where
   kept-physical = from-tree w t 22 ((headerAt w) .root) (k .linked) kept-low
 
 -- ---- of a sound store
+-- its physical positions
+abbrev pub physicalIn : {w : List ℕ} → Sound w → Positions
+physicalIn s = mem (inorder (s .tree))
+
 -- it has a header
 pub sound-room : {w : List ℕ} → Sound w → Room w 0
 sound-room {w} s = header-room w (s .tree) (s .free) (s .kept)
@@ -79,6 +88,11 @@ module _ {w : List ℕ} {h : Header} (s : Sound w) (eh : h ≡ headerAt w) where
   sound-indexed = (0, s .tree, sound-index)
 
   -- its positions are the tree's, turned by its offset
-  pub sound-held : heldBy w ≡ turned (h .offset) (mem (inorder (s .tree)))
+  pub sound-held : heldBy w ≡ turned (h .offset) (physicalIn s)
   unfolding heldBy
   sound-held = rw (kept-physical w (s .tree) (s .free) (s .kept), eh)
+
+  -- its words are below 2^64, and so is its offset
+  pub offset-small : ((i : ℕ) → Fits w64 (getD w i 0)) → h .offset < size
+  unfolding cellAt
+  offset-small f = omega (arith, ap (λ (x : Header). x .offset) eh, f 2)

@@ -2,8 +2,10 @@
 -- or a new one comes. Assumes nothing.
 use borrow.Author.Needs.{needs}
 use mathlib.Core.Logic.{⊎-elim}
-use Rattle.changes.proofs.Steps.{settable-room, settable-indexed}
+use Rattle.changes.proofs.Steps.{settable-room, settable-indexed, found, found-none}
 use Rattle.changes.proofs.Raising.{
+  Passed,
+  Alone,
   before-absorbable,
   before-changeable,
   before-grown,
@@ -21,6 +23,20 @@ use Rattle.changes.proofs.Raising.{
 use Rattle.changes.proofs.change.raise.Statement.{statement}
 use Rattle.changes.proofs.change.raise.Tie as tie
 
+-- no run reaches s from before it
+passed : (c : tie.At-match-came) → Passed (c .before .before .before .before .before .before .args .words .now) (c .before .before .before .before .before .before .args .s)
+passed c =
+    ⊎-elim (λ x. passed-apart (found _ (c .before .before .before .read-header .ensures) _ (c .before .at-or-before .ensures) _ (x .1 .given .1)) _ (x .3 .ensures) (x .4 .left))
+    (λ x. passed-none (found-none _ (c .before .before .before .read-header .ensures) _ (c .before .at-or-before .ensures) (x .1 .given .1)))
+    (c .match .came)
+
+-- and none is reached from e
+alone : (c : tie.At-match2-came) → Alone (c .before .before .before .before .before .before .before .before .before .args .words .now) (c .before .before .before .before .before .before .before .before .before .args .s) (c .before .before .before .before .before .before .before .before .before .args .e)
+alone c =
+    ⊎-elim (λ x. alone-apart (passed (c .before .before .before)) _ (c .before .before .before .before .before .before .read-header .ensures) _ (c .before .at-or-after .ensures) _ (x .1 .given .1) _ (x .3 .ensures) (x .4 .left))
+    (λ x. alone-none (passed (c .before .before .before)) _ (c .before .before .before .before .before .before .read-header .ensures) _ (c .before .at-or-after .ensures) (x .1 .given .1))
+    (c .match2 .came)
+
 read-header-requires : tie.Need-read-header-requires
 read-header-requires c κs = settable-room (c .before .before .pre)
 
@@ -35,25 +51,25 @@ reaches-requires c κs = search needs
 
 absorb-requires : tie.Need-absorb-requires
 absorb-requires c κs =
-    before-absorbable _ (c .before .before .before .before .before .before .before .before .before .read-header .ensures) _ (c .before .before .before .before .before .before .before .at-or-before .ensures) _ (c .before .before .before .before .before .n .given .1) _ (c .before .before .before .reaches .ensures) (c .before .before .if1 .taken) (c .before .before .before .before .before .before .before .before .before .before .before .before .pre)
+    before-absorbable (found _ (c .before .before .before .before .before .before .before .before .before .read-header .ensures) _ (c .before .before .before .before .before .before .before .at-or-before .ensures) _ (c .before .before .before .before .before .n .given .1)) _ (c .before .before .before .reaches .ensures) (c .before .before .if1 .taken) (c .before .before .before .before .before .before .before .before .before .before .before .before .pre)
 
 resize-run-requires : tie.Need-resize-run-requires
 resize-run-requires c κs =
-    before-changeable _ (c .before .before .before .before .before .before .before .before .before .before .before .before .before .read-header .ensures) _ (c .before .before .before .before .before .before .before .before .before .before .before .at-or-before .ensures) _ (c .before .before .before .before .before .before .before .before .before .n .given .1) _ (c .before .before .before .before .before .before .before .reaches .ensures) (c .before .before .before .before .before .before .if1 .taken) (c .before .before .before .before .before .if2 .taken) (c .before .before .before .absorb .ensures) (c .before .before .before .before .before .before .before .before .before .before .before .before .before .before .before .before .pre)
+    before-changeable (found _ (c .before .before .before .before .before .before .before .before .before .before .before .before .before .read-header .ensures) _ (c .before .before .before .before .before .before .before .before .before .before .before .at-or-before .ensures) _ (c .before .before .before .before .before .before .before .before .before .n .given .1)) _ (c .before .before .before .before .before .before .before .reaches .ensures) (c .before .before .before .before .before .before .if1 .taken) (c .before .before .before .before .before .if2 .taken) (c .before .before .before .absorb .ensures) (c .before .before .before .before .before .before .before .before .before .before .before .before .before .before .before .before .pre)
 
 same-length : tie.Need-same-length
 same-length c = search needs
 
 returns : tie.Need-returns
 returns c =
-    before-grown _ (c .before .before .before .before .before .before .before .before .before .before .before .before .before .before .before .before .read-header .ensures) _ (c .before .before .before .before .before .before .before .before .before .before .before .before .before .before .at-or-before .ensures) _ (c .before .before .before .before .before .before .before .before .before .before .before .before .n .given .1) _ (c .before .before .before .before .before .before .before .before .before .before .reaches .ensures) (c .before .before .before .before .before .before .before .before .before .if1 .taken) (c .before .before .before .before .before .before .before .before .if2 .taken) (c .before .before .before .before .before .before .absorb .ensures) (c .before .before .resize-run .ensures)
+    before-grown (found _ (c .before .before .before .before .before .before .before .before .before .before .before .before .before .before .before .before .read-header .ensures) _ (c .before .before .before .before .before .before .before .before .before .before .before .before .before .before .at-or-before .ensures) _ (c .before .before .before .before .before .before .before .before .before .before .before .before .n .given .1)) _ (c .before .before .before .before .before .before .before .before .before .before .reaches .ensures) (c .before .before .before .before .before .before .before .before .before .if1 .taken) (c .before .before .before .before .before .before .before .before .if2 .taken) (c .before .before .before .before .before .before .absorb .ensures) (c .before .before .resize-run .ensures)
 
 same-length-2 : tie.Need-same-length-2
 same-length-2 c = search needs
 
 returns-2 : tie.Need-returns-2
 returns-2 c =
-    before-stays _ (c .before .before .before .before .before .before .before .before .read-header .ensures) _ (c .before .before .before .before .before .before .at-or-before .ensures) _ (c .before .before .before .before .n .given .1) _ (c .before .before .reaches .ensures) (c .before .if1 .taken) (c .if2 .left)
+    before-stays (found _ (c .before .before .before .before .before .before .before .before .read-header .ensures) _ (c .before .before .before .before .before .before .at-or-before .ensures) _ (c .before .before .before .before .n .given .1)) _ (c .before .before .reaches .ensures) (c .before .if1 .taken) (c .if2 .left)
 
 enum-told : tie.Need-enum-told
 enum-told c = search needs
@@ -72,32 +88,32 @@ greater-requires c κs = search needs
 
 absorb-requires-2 : tie.Need-absorb-requires-2
 absorb-requires-2 c κs =
-    after-absorbable (⊎-elim (λ x. passed-apart _ (c .before .before .before .before .before .before .before .before .before .before .before .before .read-header .ensures) _ (c .before .before .before .before .before .before .before .before .before .before .at-or-before .ensures) _ (x .1 .given .1) _ (x .3 .ensures) (x .4 .left)) (λ x. passed-none _ (c .before .before .before .before .before .before .before .before .before .before .before .before .read-header .ensures) _ (c .before .before .before .before .before .before .before .before .before .before .at-or-before .ensures) (x .1 .given .1)) (c .before .before .before .before .before .before .before .before .before .match .came)) _ (c .before .before .before .before .before .before .before .before .before .before .before .before .read-header .ensures) _ (c .before .before .before .before .before .before .before .at-or-after .ensures) _ (c .before .before .before .before .before .m .given .1) _ (c .before .before .before .reaches2 .ensures) (c .before .before .before .before .before .before .before .before .before .before .before .before .before .before .before .pre)
+    after-absorbable (passed (c .before .before .before .before .before .before .before .before .before)) _ (c .before .before .before .before .before .before .before .before .before .before .before .before .read-header .ensures) _ (c .before .before .before .before .before .before .before .at-or-after .ensures) _ (c .before .before .before .before .before .m .given .1) _ (c .before .before .before .reaches2 .ensures) (c .before .before .before .before .before .before .before .before .before .before .before .before .before .before .before .pre)
 
 resize-run-requires-2 : tie.Need-resize-run-requires-2
 resize-run-requires-2 c κs =
-    after-changeable (⊎-elim (λ x. passed-apart _ (c .before .before .before .before .before .before .before .before .before .before .before .before .before .before .before .before .read-header .ensures) _ (c .before .before .before .before .before .before .before .before .before .before .before .before .before .before .at-or-before .ensures) _ (x .1 .given .1) _ (x .3 .ensures) (x .4 .left)) (λ x. passed-none _ (c .before .before .before .before .before .before .before .before .before .before .before .before .before .before .before .before .read-header .ensures) _ (c .before .before .before .before .before .before .before .before .before .before .before .before .before .before .at-or-before .ensures) (x .1 .given .1)) (c .before .before .before .before .before .before .before .before .before .before .before .before .before .match .came)) _ (c .before .before .before .before .before .before .before .before .before .before .before .before .before .before .before .before .read-header .ensures) _ (c .before .before .before .before .before .before .before .before .before .before .before .at-or-after .ensures) _ (c .before .before .before .before .before .before .before .before .before .m .given .1) _ (c .before .before .before .before .before .before .before .reaches2 .ensures) (c .before .before .before .before .before .before .if3 .taken) _ (c .before .before .before .before .greater .ensures) (c .before .before .before .absorb2 .ensures) (c .before .before .before .before .before .before .before .before .before .before .before .before .before .before .before .before .before .before .before .pre)
+    after-changeable (passed (c .before .before .before .before .before .before .before .before .before .before .before .before .before)) _ (c .before .before .before .before .before .before .before .before .before .before .before .before .before .before .before .before .read-header .ensures) _ (c .before .before .before .before .before .before .before .before .before .before .before .at-or-after .ensures) _ (c .before .before .before .before .before .before .before .before .before .m .given .1) _ (c .before .before .before .before .before .before .before .reaches2 .ensures) (c .before .before .before .before .before .before .if3 .taken) _ (c .before .before .before .before .greater .ensures) (c .before .before .before .absorb2 .ensures) (c .before .before .before .before .before .before .before .before .before .before .before .before .before .before .before .before .before .before .before .pre)
 
 same-length-3 : tie.Need-same-length-3
 same-length-3 c = search needs
 
 returns-3 : tie.Need-returns-3
 returns-3 c =
-    after-grown (⊎-elim (λ x. passed-apart _ (c .before .before .before .before .before .before .before .before .before .before .before .before .before .before .before .before .before .before .before .read-header .ensures) _ (c .before .before .before .before .before .before .before .before .before .before .before .before .before .before .before .before .before .at-or-before .ensures) _ (x .1 .given .1) _ (x .3 .ensures) (x .4 .left)) (λ x. passed-none _ (c .before .before .before .before .before .before .before .before .before .before .before .before .before .before .before .before .before .before .before .read-header .ensures) _ (c .before .before .before .before .before .before .before .before .before .before .before .before .before .before .before .before .before .at-or-before .ensures) (x .1 .given .1)) (c .before .before .before .before .before .before .before .before .before .before .before .before .before .before .before .before .match .came)) _ (c .before .before .before .before .before .before .before .before .before .before .before .before .before .before .before .before .before .before .before .read-header .ensures) _ (c .before .before .before .before .before .before .before .before .before .before .before .before .before .before .at-or-after .ensures) _ (c .before .before .before .before .before .before .before .before .before .before .before .before .m .given .1) _ (c .before .before .before .before .before .before .before .before .before .before .reaches2 .ensures) (c .before .before .before .before .before .before .before .before .before .if3 .taken) _ (c .before .before .before .before .before .before .before .greater .ensures) (c .before .before .before .before .before .before .absorb2 .ensures) (c .before .before .resize-run2 .ensures)
+    after-grown (passed (c .before .before .before .before .before .before .before .before .before .before .before .before .before .before .before .before)) _ (c .before .before .before .before .before .before .before .before .before .before .before .before .before .before .before .before .before .before .before .read-header .ensures) _ (c .before .before .before .before .before .before .before .before .before .before .before .before .before .before .at-or-after .ensures) _ (c .before .before .before .before .before .before .before .before .before .before .before .before .m .given .1) _ (c .before .before .before .before .before .before .before .before .before .before .reaches2 .ensures) (c .before .before .before .before .before .before .before .before .before .if3 .taken) _ (c .before .before .before .before .before .before .before .greater .ensures) (c .before .before .before .before .before .before .absorb2 .ensures) (c .before .before .resize-run2 .ensures)
 
 enum-told-2 : tie.Need-enum-told-2
 enum-told-2 c = search needs
 
 add-run-requires : tie.Need-add-run-requires
 add-run-requires c κs =
-    alone-addable (⊎-elim (λ x. alone-apart (⊎-elim (λ x. passed-apart _ (c .before .before .before .before .before .before .before .read-header .ensures) _ (c .before .before .before .before .before .at-or-before .ensures) _ (x .1 .given .1) _ (x .3 .ensures) (x .4 .left)) (λ x. passed-none _ (c .before .before .before .before .before .before .before .read-header .ensures) _ (c .before .before .before .before .before .at-or-before .ensures) (x .1 .given .1)) (c .before .before .before .before .match .came)) _ (c .before .before .before .before .before .before .before .read-header .ensures) _ (c .before .before .at-or-after .ensures) _ (x .1 .given .1) _ (x .3 .ensures) (x .4 .left)) (λ x. alone-none (⊎-elim (λ x. passed-apart _ (c .before .before .before .before .before .before .before .read-header .ensures) _ (c .before .before .before .before .before .at-or-before .ensures) _ (x .1 .given .1) _ (x .3 .ensures) (x .4 .left)) (λ x. passed-none _ (c .before .before .before .before .before .before .before .read-header .ensures) _ (c .before .before .before .before .before .at-or-before .ensures) (x .1 .given .1)) (c .before .before .before .before .match .came)) _ (c .before .before .before .before .before .before .before .read-header .ensures) _ (c .before .before .at-or-after .ensures) (x .1 .given .1)) (c .before .match2 .came)) (c .before .before .before .before .before .before .before .before .before .before .pre)
+    alone-addable (alone (c .before)) (c .before .before .before .before .before .before .before .before .before .before .pre)
 
 same-length-4 : tie.Need-same-length-4
 same-length-4 c = search needs
 
 returns-4 : tie.Need-returns-4
 returns-4 c =
-    alone-added (⊎-elim (λ x. alone-apart (⊎-elim (λ x. passed-apart _ (c .before .before .before .before .before .before .before .before .before .before .read-header .ensures) _ (c .before .before .before .before .before .before .before .before .at-or-before .ensures) _ (x .1 .given .1) _ (x .3 .ensures) (x .4 .left)) (λ x. passed-none _ (c .before .before .before .before .before .before .before .before .before .before .read-header .ensures) _ (c .before .before .before .before .before .before .before .before .at-or-before .ensures) (x .1 .given .1)) (c .before .before .before .before .before .before .before .match .came)) _ (c .before .before .before .before .before .before .before .before .before .before .read-header .ensures) _ (c .before .before .before .before .before .at-or-after .ensures) _ (x .1 .given .1) _ (x .3 .ensures) (x .4 .left)) (λ x. alone-none (⊎-elim (λ x. passed-apart _ (c .before .before .before .before .before .before .before .before .before .before .read-header .ensures) _ (c .before .before .before .before .before .before .before .before .at-or-before .ensures) _ (x .1 .given .1) _ (x .3 .ensures) (x .4 .left)) (λ x. passed-none _ (c .before .before .before .before .before .before .before .before .before .before .read-header .ensures) _ (c .before .before .before .before .before .before .before .before .at-or-before .ensures) (x .1 .given .1)) (c .before .before .before .before .before .before .before .match .came)) _ (c .before .before .before .before .before .before .before .before .before .before .read-header .ensures) _ (c .before .before .before .before .before .at-or-after .ensures) (x .1 .given .1)) (c .before .before .before .before .match2 .came)) (c .before .before .add-run .ensures)
+    alone-added (alone (c .before .before .before .before)) (c .before .before .add-run .ensures)
 
 pub raise-spec : {M : Type 1} → statement M
 raise-spec =
