@@ -1,0 +1,1 @@
+-- What changes of a store ask and promise, and the laws of positions that their proofs cite.
