@@ -1,7 +1,7 @@
 -- How many runs a flip of a range leaves: over an end of it a run goes on afterwards exactly if the neighbour there is held and the
 -- end was not, and inside it runs and gaps change places, which alternate. So at most one run is added. Assumes nothing.
 use Prim.Native.Nat.{ℕ, suc, _+_, _-_, _*_, _≤_, _<_}
-use mathlib.Core.Path.{_≡_, refl, sym, ap, ap₂, _∙_, subst}
+use mathlib.Core.Path.{_≡_, refl, sym, ap, _∙_, subst}
 use mathlib.Core.Logic.{_⊎_, inl, inr}
 use mathlib.Core.Bool.{Bool, true, false, not, _&&_}
 use native.Mathlib.Omega.{arith}
@@ -10,21 +10,19 @@ use Rattle.model.specs.Numbers.{size, split}
 use Rattle.model.specs.Positions.{Positions, oneIf, countRanges, stretches, setRange, flipRange}
 use Rattle.model.specs.After.{goesOn, set-inside, set-below, set-above, flip-inside, flip-below, flip-above, flip-runs}
 use Rattle.reports.specs.Ranks.{ranges-alternate}
-use Rattle.changes.specs.Neighbours.{heldBelow, heldAbove, both-bound, with-without, goesOn-below, goesOn-above, heldBelow-cong, heldAbove-cong}
+use Rattle.changes.specs.Neighbours.{heldBelow, heldAbove, both-bound, with-without, goesOn-below, goesOn-above, goesOn-changed-above, goesOn-changed-below}
 
 -- ---- a range of n positions from a, up to b
 module _ (P : Positions) (a n b : ℕ) (some : 0 < n) (ends : a + n ≡ suc b) (fits : b < size) where
   -- a run goes on over the lower end where the neighbour is held and the end was not
   flip-goesOn-below : goesOn (flipRange a n P) a ≡ (heldBelow P a && not (P a))
-  flip-goesOn-below =
-      goesOn-below (flipRange a n P) a (omega arith)
-      ∙ ap₂ _&&_ (heldBelow-cong (flipRange a n P) P a (λ y l. flip-below a n P y l)) (flip-inside a n P a (omega arith) (omega arith))
+  flip-goesOn-below = goesOn-changed-above P (flipRange a n P) a (not (P a)) (omega arith) (flip-below a n P) (flip-inside a n P a (omega arith) (omega arith))
 
   -- and so over the upper end
   flip-goesOn-above : goesOn (flipRange a n P) (a + n) ≡ (heldAbove P b && not (P b))
   flip-goesOn-above =
-      ap (goesOn (flipRange a n P)) ends ∙ goesOn-above (flipRange a n P) b
-      ∙ ap₂ _&&_ (heldAbove-cong (flipRange a n P) P b (λ y l. flip-above a n P y (omega arith))) (flip-inside a n P b (omega arith) (omega arith))
+      ap (goesOn (flipRange a n P)) ends
+      ∙ goesOn-changed-below P (flipRange a n P) b (not (P b)) (λ y l. flip-above a n P y (omega arith)) (flip-inside a n P b (omega arith) (omega arith))
 
   -- the runs after a flip
   pub flip-leaves : stretches (flipRange a n P) + countRanges P true a n + oneIf (heldBelow P a) + oneIf (heldAbove P b)
@@ -48,7 +46,7 @@ module _ (P : Positions) (a n b : ℕ) (some : 0 < n) (ends : a + n ≡ suc b) (
       let q : suc b - a ≡ n = omega arith in
       subst (λ k. countRanges P false a k + oneIf (P a) + oneIf (P b) ≡ countRanges P true a k + 1) q (ranges-alternate P a b (omega arith))
 
-  -- at most one run more, and none where the upper end and its neighbour are worth one together
+  -- the bound, by the upper end and its neighbour
   bound : stretches (flipRange a n P) + oneIf (heldAbove P b) + oneIf (P b) ≤ stretches P + 2 * oneIf (goesOn P (suc b)) + 1
   bound = omega (arith, flip-leaves, alternate, ap oneIf (goesOn-below P a (omega arith)), both-bound (heldBelow P a) (P a))
 

@@ -3,3 +3,4 @@ pub mod Neighbours
 pub mod TurnedSet
 pub mod SetRuns
 pub mod FlipRuns
+pub mod Shifted

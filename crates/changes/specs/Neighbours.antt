@@ -1,7 +1,7 @@
 -- The positions next to a range: a run goes on over an end of the range where the neighbour there and the end are both held.
 -- So the runs that a change leaves are told by the neighbours and by the two ends. Assumes nothing.
 use Prim.Native.Nat.{ℕ, zero, suc, _+_, _*_, _≤_, _<_}
-use mathlib.Core.Path.{_≡_, refl, ap, _∙_}
+use mathlib.Core.Path.{_≡_, refl, ap, ap₂, _∙_}
 use mathlib.Core.Bool.{Bool, true, false, not, _&&_, Bool·beq, and-comm}
 use mathlib.Core.List.{List, [], _∷_}
 use native.Mathlib.Omega.{arith}
@@ -31,7 +31,12 @@ pub one-bound : (b : Bool) → oneIf b ≤ 1
 one-bound true = omega arith
 one-bound false = omega arith
 
--- both hold at most as often as either
+-- both hold at most as often as the second
+pub both-second : (b d : Bool) → oneIf (b && d) ≤ oneIf d
+both-second true d = omega arith
+both-second false d = omega arith
+
+-- twice at most as often as each of them
 pub both-bound : (b d : Bool) → 2 * oneIf (b && d) ≤ oneIf b + oneIf d
 both-bound true true = omega arith
 both-bound true false = omega arith
@@ -62,13 +67,17 @@ unfolding goesOn
 goesOn-above P x = and-inner (ltb (suc x) size) (P x) (P (suc x)) ∙ and-comm (P x) (heldAbove P x)
 
 -- sets that agree below x have the same neighbour there
-pub heldBelow-cong : (P Q : Positions) (x : ℕ) → ((y : ℕ) → y < x → P y ≡ Q y) → heldBelow P x ≡ heldBelow Q x
-heldBelow-cong P Q zero f = refl
-heldBelow-cong P Q (suc x) f = f x (omega arith)
+pub heldBelow-cong : (P R : Positions) (x : ℕ) → ((y : ℕ) → y < x → R y ≡ P y) → heldBelow R x ≡ heldBelow P x
+heldBelow-cong P R zero f = refl
+heldBelow-cong P R (suc x) f = f x (omega arith)
 
--- sets that agree above x have the same neighbour there
-pub heldAbove-cong : (P Q : Positions) (x : ℕ) → ((y : ℕ) → x < y → P y ≡ Q y) → heldAbove P x ≡ heldAbove Q x
-heldAbove-cong P Q x f = ap (λ b. ltb (suc x) size && b) (f (suc x) (omega arith))
+-- after a change from x on, the run over it is told by the neighbour before the change and by the new value
+pub goesOn-changed-above : (P R : Positions) (x : ℕ) (v : Bool) → x < size → ((y : ℕ) → y < x → R y ≡ P y) → R x ≡ v → goesOn R x ≡ (heldBelow P x && v)
+goesOn-changed-above P R x v h f e = goesOn-below R x h ∙ ap₂ _&&_ (heldBelow-cong P R x f) e
+
+-- and so after a change up to x
+pub goesOn-changed-below : (P R : Positions) (x : ℕ) (v : Bool) → ((y : ℕ) → x < y → R y ≡ P y) → R x ≡ v → goesOn R (suc x) ≡ (heldAbove P x && v)
+goesOn-changed-below P R x v f e = goesOn-above R x ∙ ap₂ (λ b d. (ltb (suc x) size && b) && d) (f (suc x) (omega arith)) e
 
 -- ---- how many runs
 -- sets that agree below 2^64 have as many

@@ -1,7 +1,7 @@
 -- How many runs a set of a range leaves: a run goes on over an end of it exactly if the neighbour there is held and the value is true.
 -- At most one run is added, and none where a range at an end of all positions is cleared. Assumes nothing.
 use Prim.Native.Nat.{ℕ, zero, suc, _+_, _-_, _≤_, _<_}
-use mathlib.Core.Path.{_≡_, refl, sym, ap, ap₂, _∙_}
+use mathlib.Core.Path.{_≡_, refl, sym, ap, _∙_}
 use mathlib.Core.Logic.{_⊎_, inl, inr}
 use mathlib.Core.Bool.{Bool, true, false, not, _&&_, and-true, and-false, and-comm}
 use native.Mathlib.Omega.{arith}
@@ -11,21 +11,19 @@ use Rattle.model.specs.Positions.Laws.{count-cut, count-all}
 use Rattle.model.specs.After.{goesOn, goesOn-top, goesOn-zero, set-inside, set-below, set-above, set-runs}
 use Rattle.store.specs.Layout.{turned}
 use Rattle.store.specs.Turn.{stretches-zero, stretches-turned}
-use Rattle.changes.specs.Neighbours.{heldBelow, heldAbove, one-bound, both-bound, goesOn-below, goesOn-above, heldBelow-cong, heldAbove-cong, stretches-cong, ranges-some}
+use Rattle.changes.specs.Neighbours.{heldBelow, heldAbove, one-bound, both-second, with-without, goesOn-below, goesOn-above, goesOn-changed-above, goesOn-changed-below, stretches-cong, ranges-some}
 
 -- ---- a range of n positions from a, up to b
 module _ (P : Positions) (a n b : ℕ) (some : 0 < n) (ends : a + n ≡ suc b) (fits : b < size) where
   -- a run goes on over the lower end where the neighbour is held and the value is true
   pub set-goesOn-below : (v : Bool) → goesOn (setRange a n v P) a ≡ (heldBelow P a && v)
-  set-goesOn-below v =
-      goesOn-below (setRange a n v P) a (omega arith)
-      ∙ ap₂ _&&_ (heldBelow-cong (setRange a n v P) P a (λ y l. set-below a n v P y l)) (set-inside a n v P a (omega arith) (omega arith))
+  set-goesOn-below v = goesOn-changed-above P (setRange a n v P) a v (omega arith) (set-below a n v P) (set-inside a n v P a (omega arith) (omega arith))
 
   -- and so over the upper end
   pub set-goesOn-above : (v : Bool) → goesOn (setRange a n v P) (a + n) ≡ (v && heldAbove P b)
   set-goesOn-above v =
-      ap (goesOn (setRange a n v P)) ends ∙ goesOn-above (setRange a n v P) b
-      ∙ ap₂ _&&_ (heldAbove-cong (setRange a n v P) P b (λ y l. set-above a n v P y (omega arith))) (set-inside a n v P b (omega arith) (omega arith))
+      ap (goesOn (setRange a n v P)) ends
+      ∙ goesOn-changed-below P (setRange a n v P) b v (λ y l. set-above a n v P y (omega arith)) (set-inside a n v P b (omega arith) (omega arith))
       ∙ and-comm (heldAbove P b) v
 
   -- the runs after a set to either value
@@ -50,29 +48,17 @@ module _ (P : Positions) (a n b : ℕ) (some : 0 < n) (ends : a + n ≡ suc b) (
   pub set-false-leaves : stretches (setRange a n false P) + countRanges P true a n ≡ stretches P + oneIf (goesOn P a) + oneIf (goesOn P (suc b))
   set-false-leaves = omega (arith, set-leaves false, ap oneIf (and-false (heldBelow P a)))
 
-  -- a run that goes on over the lower end is in the range
-  below-in : oneIf (goesOn P a) ≤ countRanges P true a n
-  below-in =
-      omega (
-        arith,
-        ap oneIf (goesOn-below P a (omega arith)),
-        both-bound (heldBelow P a) (P a),
-        one-bound (heldBelow P a),
-        one-bound (P a),
-        ranges-some P a n a (omega arith) (omega arith),
-      )
+  -- a run that goes on over an end x of the range is in the range
+  end-in : (y x : ℕ) (h : Bool) → goesOn P y ≡ (h && P x) → a ≤ x → x < a + n → oneIf (goesOn P y) ≤ countRanges P true a n
+  end-in y x h e l u = omega (arith, ap oneIf e, both-second h (P x), ranges-some P a n x l u)
 
-  -- and so one over the upper end
+  -- over the lower end
+  below-in : oneIf (goesOn P a) ≤ countRanges P true a n
+  below-in = end-in a a (heldBelow P a) (goesOn-below P a (omega arith)) (omega arith) (omega arith)
+
+  -- over the upper one
   above-in : oneIf (goesOn P (suc b)) ≤ countRanges P true a n
-  above-in =
-      omega (
-        arith,
-        ap oneIf (goesOn-above P b),
-        both-bound (heldAbove P b) (P b),
-        one-bound (heldAbove P b),
-        one-bound (P b),
-        ranges-some P a n b (omega arith) (omega arith),
-      )
+  above-in = end-in (suc b) b (heldAbove P b) (goesOn-above P b) (omega arith) (omega arith)
 
   -- at most one run more
   one-more : (v : Bool) → stretches (setRange a n v P) ≤ stretches P + 1
@@ -81,11 +67,9 @@ module _ (P : Positions) (a n b : ℕ) (some : 0 < n) (ends : a + n ≡ suc b) (
         arith,
         set-true-leaves,
         ap oneIf (goesOn-below P a (omega arith)),
-        both-bound (heldBelow P a) (P a),
+        with-without (heldBelow P a) (P a),
         ap oneIf (goesOn-above P b),
-        both-bound (heldAbove P b) (P b),
-        one-bound (P a),
-        one-bound (P b),
+        with-without (heldAbove P b) (P b),
       )
   one-more false = omega (arith, set-false-leaves, below-in, one-bound (goesOn P (suc b)))
 
@@ -128,9 +112,6 @@ clear-end : (P : Positions) (a n : ℕ) → (a ≡ 0) ⊎ (a + n ≡ size) → a
 clear-end P a zero end t = omega (arith, stretches-cong (setRange a 0 false P) P (λ x h. set-nothing P a 0 false (count-all P true a 0 (λ y k l. absurd (omega arith))) x))
 clear-end P a (suc m) end t = go end
   where
-    b : ℕ
-    b = a + m
-
     leaves : stretches (setRange a (suc m) false P) + countRanges P true a (suc m) ≡ stretches P + oneIf (goesOn P a) + oneIf (goesOn P (suc (a + m)))
     leaves = set-false-leaves P a (suc m) (a + m) (omega arith) (omega arith) (omega arith)
 

@@ -28,10 +28,11 @@ set-join a m b k n v P e f x = go (split x a) (split x b) (split x (a + n))
     go (inr l) (inr q) (inr r) =
         set-above b k v (setRange a m v P) x (omega arith) ∙ set-above a m v P x (omega arith) ∙ sym (set-above a n v P x r)
 
--- the physical position p of x, without a remainder
+-- p is the physical position of x, without a remainder
 abbrev Kept : ℕ → ℕ → ℕ → Type 0
 Kept o x p = ((o ≤ x) × (p + o ≡ x)) ⊎ ((x < o) × (p + o ≡ x + size))
 
+-- each position has one
 kept : (o x : ℕ) → x < size → o < size → Kept o x (physicalOf x o)
 kept o x h k = go (split x o)
   where
