@@ -36,7 +36,7 @@ pub both-second : (b d : Bool) → oneIf (b && d) ≤ oneIf d
 both-second true d = omega arith
 both-second false d = omega arith
 
--- twice at most as often as each of them
+-- twice as often is at most as often as the two are
 pub both-bound : (b d : Bool) → 2 * oneIf (b && d) ≤ oneIf b + oneIf d
 both-bound true true = omega arith
 both-bound true false = omega arith

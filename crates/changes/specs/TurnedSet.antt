@@ -29,14 +29,14 @@ set-join a m b k n v P e f x = go (split x a) (split x b) (split x (a + n))
         set-above b k v (setRange a m v P) x (omega arith) ∙ set-above a m v P x (omega arith) ∙ sym (set-above a n v P x r)
 
 -- p is the physical position of x, without a remainder
-abbrev Kept : ℕ → ℕ → ℕ → Type 0
-Kept o x p = ((o ≤ x) × (p + o ≡ x)) ⊎ ((x < o) × (p + o ≡ x + size))
+abbrev Physical : ℕ → ℕ → ℕ → Type 0
+Physical o x p = ((o ≤ x) × (p + o ≡ x)) ⊎ ((x < o) × (p + o ≡ x + size))
 
 -- each position has one
-kept : (o x : ℕ) → x < size → o < size → Kept o x (physicalOf x o)
-kept o x h k = go (split x o)
+physical-of : (o x : ℕ) → x < size → o < size → Physical o x (physicalOf x o)
+physical-of o x h k = go (split x o)
   where
-    go : (x < o) ⊎ (o ≤ x) → Kept o x (physicalOf x o)
+    go : (x < o) ⊎ (o ≤ x) → Physical o x (physicalOf x o)
     go (inl l) = inr (l, omega arith)
     go (inr l) = inl (l, omega arith)
 
@@ -50,17 +50,17 @@ among-same a n x s p e = go (split x a) (split x (a + n))
     go (inr l) (inr u) = among-above s n p (omega arith) ∙ sym (among-above a n x u)
 
 -- x is in a logical range where its physical position is in the physical one
-among-kept : (o a n s x p : ℕ) → Kept o a s → Kept o x p → 0 < n → a + n ≤ size → s + n ≤ size → x < size → among s n p ≡ among a n x
-among-kept o a n s x p (inl (l, e)) (inl (u, f)) k h t g = among-same a n x s p (omega arith)
-among-kept o a n s x p (inr (l, e)) (inr (u, f)) k h t g = among-same a n x s p (omega arith)
-among-kept o a n s x p (inl (l, e)) (inr (u, f)) k h t g = among-above s n p (omega arith) ∙ sym (among-below a n x (omega arith))
-among-kept o a n s x p (inr (l, e)) (inl (u, f)) k h t g = among-below s n p (omega arith) ∙ sym (among-above a n x (omega arith))
+among-physical : (o a n s x p : ℕ) → Physical o a s → Physical o x p → 0 < n → a + n ≤ size → s + n ≤ size → x < size → among s n p ≡ among a n x
+among-physical o a n s x p (inl (l, e)) (inl (u, f)) k h t g = among-same a n x s p (omega arith)
+among-physical o a n s x p (inr (l, e)) (inr (u, f)) k h t g = among-same a n x s p (omega arith)
+among-physical o a n s x p (inl (l, e)) (inr (u, f)) k h t g = among-above s n p (omega arith) ∙ sym (among-below a n x (omega arith))
+among-physical o a n s x p (inr (l, e)) (inl (u, f)) k h t g = among-below s n p (omega arith) ∙ sym (among-above a n x (omega arith))
 
 module _ {o a n s e : ℕ} (lies : Lies o a n s e) where
   -- the same of a whole range
   whole-among : s ≤ e → (x : ℕ) → x < size → among s n (physicalOf x o) ≡ among a n x
   whole-among h x k =
-      among-kept o a n s x (physicalOf x o) (subst (Kept o a) (sym (lies .first-at)) (kept o a (omega arith) (lies .small))) (kept o x k (lies .small)) (lies .some)
+      among-physical o a n s x (physicalOf x o) (subst (Physical o a) (sym (lies .first-at)) (physical-of o a (omega arith) (lies .small))) (physical-of o x k (lies .small)) (lies .some)
       (lies .fits) (whole-fits lies h) k
 
   -- a whole range, by its length
