@@ -1,1 +1,7 @@
+-- What changes of a store ask and promise, and the laws of positions that their proofs cite.
 pub mod Change
+pub mod Neighbours
+pub mod TurnedSet
+pub mod SetRuns
+pub mod FlipRuns
+pub mod Shifted

@@ -42,12 +42,12 @@ runs-cut P a (suc m) x (suc k) n e f h g l =
     rw (q, f) (cut-here P a m k (omega arith))
 
 -- nothing goes on over 0, nor over 2^64
-goesOn-top : (P : Positions) (x : ℕ) → size ≤ x → goesOn P x ≡ false
+pub goesOn-top : (P : Positions) (x : ℕ) → size ≤ x → goesOn P x ≡ false
 unfolding goesOn
 goesOn-top P zero h = absurd (omega arith)
 goesOn-top P (suc x) h = ap (λ t. t && (P x && P (suc x))) (le-ltb (suc x) size h)
 
-goesOn-zero : (P : Positions) → goesOn P 0 ≡ false
+pub goesOn-zero : (P : Positions) → goesOn P 0 ≡ false
 unfolding goesOn
 goesOn-zero P = refl
 
@@ -117,15 +117,15 @@ runs-replaced P Q a n h t under over =
     right = ranges-cong P Q (a + n) (size - (a + n)) (λ x g l. over x g (omega arith))
 
 -- ---- a range set to a value
-set-inside : (a n : ℕ) (v : Bool) (P : Positions) (x : ℕ) → a ≤ x → x < a + n → setRange a n v P x ≡ v
+pub set-inside : (a n : ℕ) (v : Bool) (P : Positions) (x : ℕ) → a ≤ x → x < a + n → setRange a n v P x ≡ v
 unfolding setRange
 set-inside a n v P x h l = ap (λ t. cond t v (P x)) (among-yes a n x h l)
 
-set-below : (a n : ℕ) (v : Bool) (P : Positions) (x : ℕ) → x < a → setRange a n v P x ≡ P x
+pub set-below : (a n : ℕ) (v : Bool) (P : Positions) (x : ℕ) → x < a → setRange a n v P x ≡ P x
 unfolding setRange
 set-below a n v P x h = ap (λ t. cond t v (P x)) (among-below a n x h)
 
-set-above : (a n : ℕ) (v : Bool) (P : Positions) (x : ℕ) → a + n ≤ x → setRange a n v P x ≡ P x
+pub set-above : (a n : ℕ) (v : Bool) (P : Positions) (x : ℕ) → a + n ≤ x → setRange a n v P x ≡ P x
 unfolding setRange
 set-above a n v P x h = ap (λ t. cond t v (P x)) (among-above a n x h)
 
@@ -144,15 +144,15 @@ set-runs P a n v h t =
     ∙ ap (λ k. stretches P + (oneIf (goesOn P a) + oneIf (goesOn P (a + n))) + k) (set-one-run a n v P h)
 
 -- ---- a range flipped
-flip-inside : (a n : ℕ) (P : Positions) (x : ℕ) → a ≤ x → x < a + n → flipRange a n P x ≡ not (P x)
+pub flip-inside : (a n : ℕ) (P : Positions) (x : ℕ) → a ≤ x → x < a + n → flipRange a n P x ≡ not (P x)
 unfolding flipRange
 flip-inside a n P x h l = ap (λ t. cond t (not (P x)) (P x)) (among-yes a n x h l)
 
-flip-below : (a n : ℕ) (P : Positions) (x : ℕ) → x < a → flipRange a n P x ≡ P x
+pub flip-below : (a n : ℕ) (P : Positions) (x : ℕ) → x < a → flipRange a n P x ≡ P x
 unfolding flipRange
 flip-below a n P x h = ap (λ t. cond t (not (P x)) (P x)) (among-below a n x h)
 
-flip-above : (a n : ℕ) (P : Positions) (x : ℕ) → a + n ≤ x → flipRange a n P x ≡ P x
+pub flip-above : (a n : ℕ) (P : Positions) (x : ℕ) → a + n ≤ x → flipRange a n P x ≡ P x
 unfolding flipRange
 flip-above a n P x h = ap (λ t. cond t (not (P x)) (P x)) (among-above a n x h)
 

@@ -132,7 +132,7 @@ runs-alternate P a (suc m) =
     go false false ih f t = omega arith
 
 -- the same from s to e
-ranges-alternate : (P : Positions) (s e : ℕ) → s ≤ e
+pub ranges-alternate : (P : Positions) (s e : ℕ) → s ≤ e
     → countRanges P false s (suc e - s) + oneIf (P s) + oneIf (P e) ≡ countRanges P true s (suc e - s) + 1
 unfolding countRanges
 ranges-alternate P s e h =
