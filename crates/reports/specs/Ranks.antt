@@ -24,7 +24,7 @@ use Rattle.run_index.specs.Tree.{Tree, inorder}
 use Rattle.run_index.specs.Search.{Index, TellsRank, Selectable, TellsSelected}
 use Rattle.reports.specs.declared.physical.Tally.{Tally}
 use Rattle.reports.specs.Reports.{Measured, TellsTally, Choosable, TellsChosen}
-use Rattle.store.specs.Counting.{runs-length}
+use Rattle.run_index.proofs.Totals.{runs-length}
 use Rattle.reports.specs.Joins.{select-second}
 
 -- ---- the starts of runs

@@ -29,7 +29,7 @@ use Rattle.store.specs.Ends.{empty-mem, turned-none}
 use Rattle.store.specs.Settle.{Settled, Ready, Refreshes, Linkable, Links}
 use Rattle.store.proofs.Nodes.{chain-kept, sized-length, few-runs, Laid, laid-kept}
 use Rattle.store.proofs.Emptying.{after-none, after-one, emptyHeader}
-use Rattle.store.proofs.Opening.{kept-physical}
+use Rattle.store.proofs.Decided.{kept-physical}
 
 -- ---- the header
 -- the positions of a store are its tree's, turned by its offset

@@ -5,21 +5,17 @@ use mathlib.Core.Path.{_≡_, refl, sym, ap, ap₂, _∙_}
 use mathlib.Core.Bool.{Bool, true, false, _&&_}
 use mathlib.Core.List.{List, _∷_}
 use native.Mathlib.Omega.{arith}
-use lib.ListN.{length, length-append}
+use lib.ListN.{length}
 use Rattle.model.specs.Numbers.{size, physicalOf}
-use Rattle.model.specs.Positions.{Positions, run, oneIf, stretches, mem}
+use Rattle.model.specs.Positions.{Positions, oneIf, stretches, mem}
 use Rattle.model.specs.Positions.Runs.{stretches-is}
 use Rattle.run_index.specs.Cells.{cellAt}
 use Rattle.run_index.specs.Tree.{Tree, leaf, node, runs, inorder, Rep, rep-node, At}
 use Rattle.run_index.specs.Search.{Index}
+use Rattle.run_index.proofs.Totals.{runs-length}
 use Rattle.store.specs.Layout.{turned}
 use Rattle.store.specs.Bounds.{Counted}
 use Rattle.store.specs.Turn.{stretches-zero, stretches-turned}
-
--- a tree has as many runs as nodes
-pub runs-length : (t : Tree) → runs t ≡ length (inorder t)
-runs-length leaf = refl
-runs-length (node n a b l r) = omega (arith, runs-length l, runs-length r, length-append (inorder l) (run a b ∷ inorder r))
 
 -- a node has a number from 1 on
 node-positive : {w : List ℕ} {g n a b : ℕ} {l r : Tree} → Rep w g (node n a b l r) → 1 ≤ n
