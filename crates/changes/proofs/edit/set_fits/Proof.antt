@@ -1,0 +1,97 @@
+-- `set_fits` meets its contract: far from the capacity any set fits; else the runs that it leaves are told by the runs of the range and the
+-- neighbours of its ends. Assumes nothing.
+use native.Mathlib.Omega.{arith}
+use Rattle.store.specs.Layout.{heldBy, capacity}
+use Rattle.store.proofs.Opening.{sound-room, offset-small}
+use Rattle.changes.proofs.Fitting.{one-most, sound-counted, header-few, logical-told, far-fits, logical-few, capacity-few, range-few, true-fits, false-fits}
+use borrow.Author.Needs.{needs}
+use Rattle.changes.proofs.edit.set_fits.Statement.{statement}
+use Rattle.changes.proofs.edit.set_fits.Tie as tie
+
+read-header-requires : tie.Need-read-header-requires
+read-header-requires c κs = sound-room (c .before .pre .0)
+
+of-length-requires : tie.Need-of-length-requires
+of-length-requires c κs = search needs
+
+add-if1 : tie.Need-add-if1
+add-if1 c = omega (arith, header-few (c .before .before .before .before .pre .0) (c .before .before .read-header .ensures))
+
+returns : tie.Need-returns
+returns c =
+    far-fits (c .before .before .before .before .before .pre .0) (c .before .before .before .read-header .ensures) (c .before .before .before .before .before .args .a .0) (c .before .before .before .before .before .args .b .0) (c .before .before .of-length .result .capacity) (c .before .before .before .before .before .args .value)
+    (offset-small (c .before .before .before .before .before .pre .0) (c .before .before .before .read-header .ensures) (c .before .before .before .before .shared-slice-known .given)) (c .before .before .before .before .before .pre .1) (omega (arith, c .before .before .before .before .before .good)) (c .before .before .of-length .ensures) (c .if1 .taken)
+
+logical-runs-requires : tie.Need-logical-runs-requires
+logical-runs-requires c κs = sound-counted (c .before .before .before .before .before .pre .0) (c .before .before .before .read-header .ensures)
+
+tally-requires : tie.Need-tally-requires
+tally-requires c κs = search needs
+
+going-on-requires : tie.Need-going-on-requires
+going-on-requires c κs = search needs
+
+add-before : tie.Need-add-before
+add-before c = omega (arith, logical-told (c .before .before .before .before .before .before .before .before .pre .0) (c .before .before .before .before .before .before .read-header .ensures) (c .before .before .logical-runs .ensures), logical-few (c .before .before .before .before .before .before .before .before .pre .0), one-most _ _ (c .going-on .ensures))
+
+going-past-requires : tie.Need-going-past-requires
+going-past-requires c κs = search needs
+
+add-before-2 : tie.Need-add-before-2
+add-before-2 c = omega (arith, logical-told (c .before .before .before .before .before .before .before .before .before .pre .0) (c .before .before .before .before .before .before .before .read-header .ensures) (c .before .before .before .logical-runs .ensures), logical-few (c .before .before .before .before .before .before .before .before .before .pre .0), one-most _ _ (c .before .going-on .ensures), one-most _ _ (c .going-past .ensures))
+
+held-before-requires : tie.Need-held-before-requires
+held-before-requires c κs = search needs
+
+add-less : tie.Need-add-less
+add-less c = omega (arith, range-few (c .before .before .before .before .before .before .before .before .before .before .before .before .pre .0) (c .before .before .before .before .before .before .before .before .before .before .before .before .args .a .0) (c .before .before .before .before .before .before .before .before .before .before .before .before .args .b .0) (c .before .before .before .before .before .before .before .before .before .before .before .before .pre .1) (omega (arith, c .before .before .before .before .before .before .before .before .before .before .before .before .good)) (c .before .before .before .before .before .tally .ensures), one-most _ _ (c .before .held-before .ensures))
+
+held-after-requires : tie.Need-held-after-requires
+held-after-requires c κs = search needs
+
+add-less-2 : tie.Need-add-less-2
+add-less-2 c = omega (arith, range-few (c .before .before .before .before .before .before .before .before .before .before .before .before .before .pre .0) (c .before .before .before .before .before .before .before .before .before .before .before .before .before .args .a .0) (c .before .before .before .before .before .before .before .before .before .before .before .before .before .args .b .0) (c .before .before .before .before .before .before .before .before .before .before .before .before .before .pre .1) (omega (arith, c .before .before .before .before .before .before .before .before .before .before .before .before .before .good)) (c .before .before .before .before .before .before .tally .ensures), one-most _ _ (c .before .before .held-before .ensures), one-most _ _ (c .held-after .ensures))
+
+add-result : tie.Need-add-result
+add-result c = omega (arith, logical-told (c .before .before .before .before .before .before .before .before .before .before .before .before .before .pre .0) (c .before .before .before .before .before .before .before .before .before .before .before .read-header .ensures) (c .before .before .before .before .before .before .before .logical-runs .ensures), logical-few (c .before .before .before .before .before .before .before .before .before .before .before .before .before .pre .0), one-most _ _ (c .before .before .before .before .before .going-on .ensures), one-most _ _ (c .before .before .before .before .going-past .ensures))
+
+add-result-2 : tie.Need-add-result-2
+add-result-2 c = omega (arith, c .before .before .before .before .before .before .before .before .before .before .of-length .ensures, capacity-few (c .before .before .before .before .before .before .before .before .before .before .before .before .before .pre .0), range-few (c .before .before .before .before .before .before .before .before .before .before .before .before .before .pre .0) (c .before .before .before .before .before .before .before .before .before .before .before .before .before .args .a .0) (c .before .before .before .before .before .before .before .before .before .before .before .before .before .args .b .0) (c .before .before .before .before .before .before .before .before .before .before .before .before .before .pre .1) (omega (arith, c .before .before .before .before .before .before .before .before .before .before .before .before .before .good)) (c .before .before .before .before .before .before .tally .ensures), one-most _ _ (c .before .before .held-before .ensures), one-most _ _ (c .held-after .ensures))
+
+returns-2 : tie.Need-returns-2
+returns-2 c =
+    true-fits (heldBy (c .before .before .before .before .before .before .before .before .before .before .before .before .before .args .words .now)) (c .before .before .before .before .before .before .before .before .before .before .before .before .before .args .a .0) (c .before .before .before .before .before .before .before .before .before .before .before .before .before .args .b .0) (c .before .before .before .before .before .before .before .before .before .before .of-length .result .capacity) (capacity (c .before .before .before .before .before .before .before .before .before .before .before .before .before .args .words .now)) (c .before .before .before .before .before .before .before .logical-runs .result) (c .before .before .before .before .before .before .tally .result .runs) (c .before .before .before .before .before .going-on .result) (c .before .before .before .before .going-past .result) (c .before .before .before .before .before .before .before .before .before .before .before .before .before .args .value) (c .before .before .before .before .before .before .before .before .before .before .before .before .before .pre .1) (omega (arith, c .before .before .before .before .before .before .before .before .before .before .before .before .before .good)) (c .before .before .before .before .before .before .before .before .before .before .of-length .ensures)
+    (logical-told (c .before .before .before .before .before .before .before .before .before .before .before .before .before .pre .0) (c .before .before .before .before .before .before .before .before .before .before .before .read-header .ensures) (c .before .before .before .before .before .before .before .logical-runs .ensures)) (c .before .before .before .before .before .before .tally .ensures .runs-are) (c .before .before .before .before .before .going-on .ensures) (c .before .before .before .before .going-past .ensures) (c .before .before .before .if2 .taken) (c .before .before .held-before .result) (c .held-after .result)
+    (c .before .before .held-before .ensures) (c .held-after .ensures)
+
+add-result-3 : tie.Need-add-result-3
+add-result-3 c = omega (arith, c .before .before .before .before .before .before .before .before .of-length .ensures, capacity-few (c .before .before .before .before .before .before .before .before .before .before .before .pre .0), range-few (c .before .before .before .before .before .before .before .before .before .before .before .pre .0) (c .before .before .before .before .before .before .before .before .before .before .before .args .a .0) (c .before .before .before .before .before .before .before .before .before .before .before .args .b .0) (c .before .before .before .before .before .before .before .before .before .before .before .pre .1) (omega (arith, c .before .before .before .before .before .before .before .before .before .before .before .good)) (c .before .before .before .before .tally .ensures))
+
+returns-3 : tie.Need-returns-3
+returns-3 c =
+    false-fits (heldBy (c .before .before .before .before .before .before .before .before .before .before .before .args .words .now)) (c .before .before .before .before .before .before .before .before .before .before .before .args .a .0) (c .before .before .before .before .before .before .before .before .before .before .before .args .b .0) (c .before .before .before .before .before .before .before .before .of-length .result .capacity) (capacity (c .before .before .before .before .before .before .before .before .before .before .before .args .words .now)) (c .before .before .before .before .before .logical-runs .result) (c .before .before .before .before .tally .result .runs) (c .before .before .before .going-on .result) (c .before .before .going-past .result) (c .before .before .before .before .before .before .before .before .before .before .before .args .value) (c .before .before .before .before .before .before .before .before .before .before .before .pre .1) (omega (arith, c .before .before .before .before .before .before .before .before .before .before .before .good)) (c .before .before .before .before .before .before .before .before .of-length .ensures)
+    (logical-told (c .before .before .before .before .before .before .before .before .before .before .before .pre .0) (c .before .before .before .before .before .before .before .before .before .read-header .ensures) (c .before .before .before .before .before .logical-runs .ensures)) (c .before .before .before .before .tally .ensures .runs-are) (c .before .before .before .going-on .ensures) (c .before .before .going-past .ensures) (c .before .if2 .left)
+
+pub set-fits-spec : {M : Type 1} → statement M
+set-fits-spec =
+    tie.close
+    (tie.spec
+    read-header-requires
+    of-length-requires
+    add-if1
+    returns
+    logical-runs-requires
+    tally-requires
+    going-on-requires
+    add-before
+    going-past-requires
+    add-before-2
+    held-before-requires
+    add-less
+    held-after-requires
+    add-less-2
+    add-result
+    add-result-2
+    returns-2
+    add-result-3
+    returns-3)
