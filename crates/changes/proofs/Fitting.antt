@@ -142,6 +142,10 @@ module _ (P : Positions) (a b c k total inside on past : ℕ) (v : Bool) (i : a 
       ∙ ap (λ u. leb (stretches (setRange a (suc b - a) u P)) k) (sym ev)
 
 -- ---- the set itself
+-- a count of two words that are 0
+pub worth-none : (k : Count) → k .carry ≡ 0 → k .low ≡ 0 → worth k ≡ 0
+worth-none k p q = omega arith
+
 module _ {w : List ℕ} {r : Tally} (sound : Sound w) (a b : ℕ) (v : Bool) (i : a ≤ b) (l : b < size) (m : Measured (heldBy w) (not v) a (suc b - a) r) where
   -- what was counted is what changes
   pub counted-changes : worth (r .count) ≡ changes (heldBy w) (setRange a (suc b - a) v (heldBy w))

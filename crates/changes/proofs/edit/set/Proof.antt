@@ -2,9 +2,9 @@
 -- it is refused, or `apply_set` does it. Assumes nothing.
 use borrow.Author.Needs.{needs}
 use native.Mathlib.Omega.{arith}
-use borrow.Author.Tests.{leb-true, leb-false}
+use borrow.Author.Tests.{leb-true, leb-false, not-true, not-false}
 use mathlib.Core.Path.{refl, sym, _∙_}
-use Rattle.changes.proofs.Fitting.{counted-changes, nothing-fits, nothing-settled}
+use Rattle.changes.proofs.Fitting.{worth-none, counted-changes, nothing-fits, nothing-settled}
 use Rattle.changes.proofs.edit.set.Statement.{statement}
 use Rattle.changes.proofs.edit.set.Tie as tie
 
@@ -17,8 +17,9 @@ same-length c = search needs
 returns : tie.Need-returns
 returns c =
     let l = c .before .before .before .before .before .before .before .before .good in
-    (nothing-fits (c .before .before .before .before .before .before .before .before .pre .0) (c .before .before .before .before .before .before .before .before .args .a .0) (c .before .before .before .before .before .before .before .before .args .b .0) (c .before .before .before .before .before .before .before .before .args .value) (c .before .before .before .before .before .before .before .before .pre .1) (omega arith) (c .before .before .before .before .before .tally .ensures) (omega arith),
-    nothing-settled (c .before .before .before .before .before .before .before .before .pre .0) (c .before .before .before .before .before .before .before .before .args .a .0) (c .before .before .before .before .before .before .before .before .args .b .0) (c .before .before .before .before .before .before .before .before .args .value) (c .before .before .before .before .before .before .before .before .pre .1) (omega arith) (c .before .before .before .before .before .tally .ensures) (omega arith),
+    let z = worth-none (c .before .before .before .before .before .tally .result .count) (c .before .before .if1 .taken) (c .if2 .taken) in
+    (nothing-fits (c .before .before .before .before .before .before .before .before .pre .0) (c .before .before .before .before .before .before .before .before .args .a .0) (c .before .before .before .before .before .before .before .before .args .b .0) (c .before .before .before .before .before .before .before .before .args .value) (c .before .before .before .before .before .before .before .before .pre .1) (omega arith) (c .before .before .before .before .before .tally .ensures) z,
+    nothing-settled (c .before .before .before .before .before .before .before .before .pre .0) (c .before .before .before .before .before .before .before .before .args .a .0) (c .before .before .before .before .before .before .before .before .args .b .0) (c .before .before .before .before .before .before .before .before .args .value) (c .before .before .before .before .before .before .before .before .pre .1) (omega arith) (c .before .before .before .before .before .tally .ensures) z,
     counted-changes (c .before .before .before .before .before .before .before .before .pre .0) (c .before .before .before .before .before .before .before .before .args .a .0) (c .before .before .before .before .before .before .before .before .args .b .0) (c .before .before .before .before .before .before .before .before .args .value) (c .before .before .before .before .before .before .before .before .pre .1) (omega arith) (c .before .before .before .before .before .tally .ensures))
 
 set-fits-requires : tie.Need-set-fits-requires
@@ -28,10 +29,10 @@ same-length-2 : tie.Need-same-length-2
 same-length-2 c = search needs
 
 returns-2 : tie.Need-returns-2
-returns-2 c = (leb-false _ _ (sym (c .before .set-fits .ensures) ∙ c .if3 .taken), refl)
+returns-2 c = (leb-false _ _ (sym (c .before .set-fits .ensures) ∙ not-true _ (c .if3 .taken)), refl)
 
 apply-set-requires : tie.Need-apply-set-requires
-apply-set-requires c κs = (c .before .before .before .before .before .before .before .before .before .before .pre .0, (c .before .before .before .before .before .before .before .before .before .before .pre .1, leb-true _ _ (sym (c .before .before .set-fits .ensures) ∙ c .before .if3 .left)))
+apply-set-requires c κs = (c .before .before .before .before .before .before .before .before .before .before .pre .0, (c .before .before .before .before .before .before .before .before .before .before .pre .1, leb-true _ _ (sym (c .before .before .set-fits .ensures) ∙ not-false _ (c .before .if3 .left))))
 
 same-length-3 : tie.Need-same-length-3
 same-length-3 c = search needs
@@ -39,7 +40,7 @@ same-length-3 c = search needs
 returns-3 : tie.Need-returns-3
 returns-3 c =
     let l = c .before .before .before .before .before .before .before .before .before .before .before .before .before .good in
-    (leb-true _ _ (sym (c .before .before .before .before .before .set-fits .ensures) ∙ c .before .before .before .before .if3 .left), c .before .before .apply-set .ensures,
+    (leb-true _ _ (sym (c .before .before .before .before .before .set-fits .ensures) ∙ not-false _ (c .before .before .before .before .if3 .left)), c .before .before .apply-set .ensures,
     counted-changes (c .before .before .before .before .before .before .before .before .before .before .before .before .before .pre .0) (c .before .before .before .before .before .before .before .before .before .before .before .before .before .args .a .0) (c .before .before .before .before .before .before .before .before .before .before .before .before .before .args .b .0) (c .before .before .before .before .before .before .before .before .before .before .before .before .before .args .value) (c .before .before .before .before .before .before .before .before .before .before .before .before .before .pre .1) (omega arith) (c .before .before .before .before .before .before .before .before .before .before .tally .ensures))
 
 pub set-spec : {M : Type 1} → statement M

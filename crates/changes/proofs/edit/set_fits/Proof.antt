@@ -1,12 +1,32 @@
 -- `set_fits` meets its contract: far from the capacity any set fits; else the runs that it leaves are told by the runs of the range and the
 -- neighbours of its ends. Assumes nothing.
 use native.Mathlib.Omega.{arith}
+use Prim.Native.Nat.{suc, _+_, _≤_}
+use Rattle.model.specs.After.{goesOn}
+use Rattle.changes.specs.Neighbours.{heldBelow, heldAbove}
 use Rattle.store.specs.Layout.{heldBy, capacity}
 use Rattle.store.proofs.Opening.{sound-room, offset-small}
 use Rattle.changes.proofs.Fitting.{one-most, sound-counted, header-few, logical-told, far-fits, logical-few, capacity-few, range-few, true-fits, false-fits}
 use borrow.Author.Needs.{needs}
 use Rattle.changes.proofs.edit.set_fits.Statement.{statement}
 use Rattle.changes.proofs.edit.set_fits.Tie as tie
+
+-- all runs, and those that go on over an end
+before-few : (c : tie.After-going-past) → c .before .before .before .logical-runs .result + c .before .going-on .result + c .going-past .result ≤ 65538
+before-few c =
+    omega (arith, logical-told (c .before .before .before .before .before .before .before .before .before .pre .0) (c .before .before .before .before .before .before .before .read-header .ensures) (c .before .before .before .logical-runs .ensures), logical-few (c .before .before .before .before .before .before .before .before .before .pre .0),
+    one-most (c .before .going-on .result) (goesOn (heldBy (c .before .before .before .before .before .before .before .before .before .args .words .now)) (c .before .before .before .before .before .before .before .before .before .args .a .0)) (c .before .going-on .ensures),
+    one-most (c .going-past .result) (goesOn (heldBy (c .before .before .before .before .before .before .before .before .before .args .words .now)) (suc (c .before .before .before .before .before .before .before .before .before .args .b .0))) (c .going-past .ensures))
+
+-- those in the range
+inside-few : (c : tie.After-tally) → c .tally .result .runs ≤ 65538
+inside-few c = range-few (c .before .before .before .before .before .before .before .pre .0) (c .before .before .before .before .before .before .before .args .a .0) (c .before .before .before .before .before .before .before .args .b .0) (c .before .before .before .before .before .before .before .pre .1) (omega (arith, c .before .before .before .before .before .before .before .good)) (c .tally .ensures)
+
+-- and those at its ends
+less-few : (c : tie.After-held-after) → c .before .before .held-before .result + c .held-after .result ≤ 2
+less-few c =
+    omega (arith, one-most (c .before .before .held-before .result) (heldBelow (heldBy (c .before .before .before .before .before .before .before .before .before .before .before .before .before .args .words .now)) (c .before .before .before .before .before .before .before .before .before .before .before .before .before .args .a .0)) (c .before .before .held-before .ensures),
+    one-most (c .held-after .result) (heldAbove (heldBy (c .before .before .before .before .before .before .before .before .before .before .before .before .before .args .words .now)) (c .before .before .before .before .before .before .before .before .before .before .before .before .before .args .b .0)) (c .held-after .ensures))
 
 read-header-requires : tie.Need-read-header-requires
 read-header-requires c κs = sound-room (c .before .pre .0)
@@ -32,31 +52,31 @@ going-on-requires : tie.Need-going-on-requires
 going-on-requires c κs = search needs
 
 add-before : tie.Need-add-before
-add-before c = omega (arith, logical-told (c .before .before .before .before .before .before .before .before .pre .0) (c .before .before .before .before .before .before .read-header .ensures) (c .before .before .logical-runs .ensures), logical-few (c .before .before .before .before .before .before .before .before .pre .0), one-most _ _ (c .going-on .ensures))
+add-before c = omega (arith, logical-told (c .before .before .before .before .before .before .before .before .pre .0) (c .before .before .before .before .before .before .read-header .ensures) (c .before .before .logical-runs .ensures), logical-few (c .before .before .before .before .before .before .before .before .pre .0), one-most (c .going-on .result) (goesOn (heldBy (c .before .before .before .before .before .before .before .before .args .words .now)) (c .before .before .before .before .before .before .before .before .args .a .0)) (c .going-on .ensures))
 
 going-past-requires : tie.Need-going-past-requires
 going-past-requires c κs = search needs
 
 add-before-2 : tie.Need-add-before-2
-add-before-2 c = omega (arith, logical-told (c .before .before .before .before .before .before .before .before .before .pre .0) (c .before .before .before .before .before .before .before .read-header .ensures) (c .before .before .before .logical-runs .ensures), logical-few (c .before .before .before .before .before .before .before .before .before .pre .0), one-most _ _ (c .before .going-on .ensures), one-most _ _ (c .going-past .ensures))
+add-before-2 c = omega (arith, before-few c)
 
 held-before-requires : tie.Need-held-before-requires
 held-before-requires c κs = search needs
 
 add-less : tie.Need-add-less
-add-less c = omega (arith, range-few (c .before .before .before .before .before .before .before .before .before .before .before .before .pre .0) (c .before .before .before .before .before .before .before .before .before .before .before .before .args .a .0) (c .before .before .before .before .before .before .before .before .before .before .before .before .args .b .0) (c .before .before .before .before .before .before .before .before .before .before .before .before .pre .1) (omega (arith, c .before .before .before .before .before .before .before .before .before .before .before .before .good)) (c .before .before .before .before .before .tally .ensures), one-most _ _ (c .before .held-before .ensures))
+add-less c = omega (arith, inside-few (c .before .before .before .before .before), one-most (c .before .held-before .result) (heldBelow (heldBy (c .before .before .before .before .before .before .before .before .before .before .before .before .args .words .now)) (c .before .before .before .before .before .before .before .before .before .before .before .before .args .a .0)) (c .before .held-before .ensures))
 
 held-after-requires : tie.Need-held-after-requires
 held-after-requires c κs = search needs
 
 add-less-2 : tie.Need-add-less-2
-add-less-2 c = omega (arith, range-few (c .before .before .before .before .before .before .before .before .before .before .before .before .before .pre .0) (c .before .before .before .before .before .before .before .before .before .before .before .before .before .args .a .0) (c .before .before .before .before .before .before .before .before .before .before .before .before .before .args .b .0) (c .before .before .before .before .before .before .before .before .before .before .before .before .before .pre .1) (omega (arith, c .before .before .before .before .before .before .before .before .before .before .before .before .before .good)) (c .before .before .before .before .before .before .tally .ensures), one-most _ _ (c .before .before .held-before .ensures), one-most _ _ (c .held-after .ensures))
+add-less-2 c = omega (arith, inside-few (c .before .before .before .before .before .before), less-few c)
 
 add-result : tie.Need-add-result
-add-result c = omega (arith, logical-told (c .before .before .before .before .before .before .before .before .before .before .before .before .before .pre .0) (c .before .before .before .before .before .before .before .before .before .before .before .read-header .ensures) (c .before .before .before .before .before .before .before .logical-runs .ensures), logical-few (c .before .before .before .before .before .before .before .before .before .before .before .before .before .pre .0), one-most _ _ (c .before .before .before .before .before .going-on .ensures), one-most _ _ (c .before .before .before .before .going-past .ensures))
+add-result c = omega (arith, before-few (c .before .before .before .before))
 
 add-result-2 : tie.Need-add-result-2
-add-result-2 c = omega (arith, c .before .before .before .before .before .before .before .before .before .before .of-length .ensures, capacity-few (c .before .before .before .before .before .before .before .before .before .before .before .before .before .pre .0), range-few (c .before .before .before .before .before .before .before .before .before .before .before .before .before .pre .0) (c .before .before .before .before .before .before .before .before .before .before .before .before .before .args .a .0) (c .before .before .before .before .before .before .before .before .before .before .before .before .before .args .b .0) (c .before .before .before .before .before .before .before .before .before .before .before .before .before .pre .1) (omega (arith, c .before .before .before .before .before .before .before .before .before .before .before .before .before .good)) (c .before .before .before .before .before .before .tally .ensures), one-most _ _ (c .before .before .held-before .ensures), one-most _ _ (c .held-after .ensures))
+add-result-2 c = omega (arith, inside-few (c .before .before .before .before .before .before), less-few c, c .before .before .before .before .before .before .before .before .before .before .of-length .ensures, capacity-few (c .before .before .before .before .before .before .before .before .before .before .before .before .before .pre .0))
 
 returns-2 : tie.Need-returns-2
 returns-2 c =
@@ -65,7 +85,7 @@ returns-2 c =
     (c .before .before .held-before .ensures) (c .held-after .ensures)
 
 add-result-3 : tie.Need-add-result-3
-add-result-3 c = omega (arith, c .before .before .before .before .before .before .before .before .of-length .ensures, capacity-few (c .before .before .before .before .before .before .before .before .before .before .before .pre .0), range-few (c .before .before .before .before .before .before .before .before .before .before .before .pre .0) (c .before .before .before .before .before .before .before .before .before .before .before .args .a .0) (c .before .before .before .before .before .before .before .before .before .before .before .args .b .0) (c .before .before .before .before .before .before .before .before .before .before .before .pre .1) (omega (arith, c .before .before .before .before .before .before .before .before .before .before .before .good)) (c .before .before .before .before .tally .ensures))
+add-result-3 c = omega (arith, inside-few (c .before .before .before .before), c .before .before .before .before .before .before .before .before .of-length .ensures, capacity-few (c .before .before .before .before .before .before .before .before .before .before .before .pre .0))
 
 returns-3 : tie.Need-returns-3
 returns-3 c =
