@@ -6,7 +6,7 @@ use mathlib.Core.Logic.{_⊎_, inl, inr}
 use mathlib.Core.Bool.{Bool, true, false, not, _&&_}
 use mathlib.Core.List.{List}
 use native.Mathlib.Omega.{arith}
-use lib.Dec.{leb, ltb}
+use lib.Dec.{leb}
 use borrow.Author.Tests.{le-leb, lt-leb, lt-ltb, le-ltb}
 use Rattle.model.specs.declared.Count.{Count}
 use Rattle.model.specs.Numbers.{size, split, worth}
@@ -16,7 +16,7 @@ use Rattle.model.specs.After.{goesOn, goesOn-zero, goesOn-top, stretches-parts,
 use Rattle.run_index.specs.Tree.{runs, inorder}
 use Rattle.run_index.proofs.Totals.{runs-length}
 use Rattle.store.specs.declared.Header.{Header}
-use Rattle.store.specs.Layout.{headerAt, capacity, turned, heldBy}
+use Rattle.store.specs.Layout.{headerAt, capacity, heldBy}
 use Rattle.store.specs.Soundness.{Sound}
 use Rattle.store.specs.Settle.{Settled}
 use Rattle.store.specs.Bounds.{Counted, TellsRuns}

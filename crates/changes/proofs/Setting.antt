@@ -1,13 +1,13 @@
 -- Giving logical positions of a sound store a value. They lie at one physical range, or at two; what is written there is, turned, the set
 -- asked for, and there are nodes enough on the way: one run more at most physically, and one more after the first of two ranges.
 -- Assumes nothing.
-use Prim.Native.Nat.{ℕ, suc, _+_, _-_, _≤_, _<_}
-use mathlib.Core.Path.{_≡_, refl, sym, ap, ap₂, _∙_, subst}
+use Prim.Native.Nat.{ℕ, suc, _-_, _≤_, _<_}
+use mathlib.Core.Path.{_≡_, sym, ap, _∙_, subst}
 use mathlib.Core.Bool.{Bool, cond}
 use mathlib.Core.List.{List}
 use native.Mathlib.Omega.{arith}
 use lib.ListN.{length}
-use Rattle.model.specs.Numbers.{size, capacityOf, physicalOf}
+use Rattle.model.specs.Numbers.{size, capacityOf}
 use Rattle.model.specs.Positions.{Positions, among, setRange, stretches, mem}
 use Rattle.run_index.specs.Tree.{Tree, inorder}
 use Rattle.store.specs.declared.Header.{Header}
@@ -128,7 +128,7 @@ module _ {w : List ℕ} {h : Header} {a n s e : ℕ} (v : Bool) (sound : Sound w
         ∙ turned-set-first lies v (physicalIn sound) x l parted ∙ asked-held (size - s) x
 
     -- that adds one run at most
-    pub first-may : MaySet w s (size - 1) v (sound .tree) (sound .free)
+    first-may : MaySet w s (size - 1) v (sound .tree) (sound .free)
     first-may =
         let X : Positions = setRange s (suc (size - 1) - s) v (physicalIn sound) in
         record {

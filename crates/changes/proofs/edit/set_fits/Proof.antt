@@ -14,9 +14,13 @@ use Rattle.changes.proofs.edit.set_fits.Tie as tie
 -- all runs, and those that go on over an end
 before-few : (c : tie.After-going-past) → c .before .before .before .logical-runs .result + c .before .going-on .result + c .going-past .result ≤ 65538
 before-few c =
-    omega (arith, logical-told (c .before .before .before .before .before .before .before .before .before .pre .0) (c .before .before .before .before .before .before .before .read-header .ensures) (c .before .before .before .logical-runs .ensures), logical-few (c .before .before .before .before .before .before .before .before .before .pre .0),
-    one-most (c .before .going-on .result) (goesOn (heldBy (c .before .before .before .before .before .before .before .before .before .args .words .now)) (c .before .before .before .before .before .before .before .before .before .args .a .0)) (c .before .going-on .ensures),
-    one-most (c .going-past .result) (goesOn (heldBy (c .before .before .before .before .before .before .before .before .before .args .words .now)) (suc (c .before .before .before .before .before .before .before .before .before .args .b .0))) (c .going-past .ensures))
+    omega (
+      arith,
+      logical-told (c .before .before .before .before .before .before .before .before .before .pre .0) (c .before .before .before .before .before .before .before .read-header .ensures) (c .before .before .before .logical-runs .ensures),
+      logical-few (c .before .before .before .before .before .before .before .before .before .pre .0),
+      one-most (c .before .going-on .result) (goesOn (heldBy (c .before .before .before .before .before .before .before .before .before .args .words .now)) (c .before .before .before .before .before .before .before .before .before .args .a .0)) (c .before .going-on .ensures),
+      one-most (c .going-past .result) (goesOn (heldBy (c .before .before .before .before .before .before .before .before .before .args .words .now)) (suc (c .before .before .before .before .before .before .before .before .before .args .b .0))) (c .going-past .ensures),
+    )
 
 -- those in the range
 inside-few : (c : tie.After-tally) → c .tally .result .runs ≤ 65538
@@ -25,8 +29,11 @@ inside-few c = range-few (c .before .before .before .before .before .before .bef
 -- and those at its ends
 less-few : (c : tie.After-held-after) → c .before .before .held-before .result + c .held-after .result ≤ 2
 less-few c =
-    omega (arith, one-most (c .before .before .held-before .result) (heldBelow (heldBy (c .before .before .before .before .before .before .before .before .before .before .before .before .before .args .words .now)) (c .before .before .before .before .before .before .before .before .before .before .before .before .before .args .a .0)) (c .before .before .held-before .ensures),
-    one-most (c .held-after .result) (heldAbove (heldBy (c .before .before .before .before .before .before .before .before .before .before .before .before .before .args .words .now)) (c .before .before .before .before .before .before .before .before .before .before .before .before .before .args .b .0)) (c .held-after .ensures))
+    omega (
+      arith,
+      one-most (c .before .before .held-before .result) (heldBelow (heldBy (c .before .before .before .before .before .before .before .before .before .before .before .before .before .args .words .now)) (c .before .before .before .before .before .before .before .before .before .before .before .before .before .args .a .0)) (c .before .before .held-before .ensures),
+      one-most (c .held-after .result) (heldAbove (heldBy (c .before .before .before .before .before .before .before .before .before .before .before .before .before .args .words .now)) (c .before .before .before .before .before .before .before .before .before .before .before .before .before .args .b .0)) (c .held-after .ensures),
+    )
 
 read-header-requires : tie.Need-read-header-requires
 read-header-requires c κs = sound-room (c .before .pre .0)
