@@ -112,34 +112,69 @@ logical-few {w} sound = omega (arith, sound .fits, sized-length w (sound .kept .
 pub capacity-few : {w : List ℕ} → Sound w → capacity w ≤ 65536
 capacity-few {w} sound = omega (arith, sized-length w (sound .kept .sized))
 
--- those of a range are two more at most
-pub range-few : {w : List ℕ} {r : Tally} → Sound w → (a b : ℕ) → a ≤ b → b < size → Measured (heldBy w) true a (suc b - a) r → r .runs ≤ 65538
-range-few {w} sound a b i l m =
-    omega (
-      arith,
-      m .runs-are,
-      logical-few sound,
-      stretches-parts (heldBy w) a (suc b - a) (omega arith) (omega arith),
-      one-bound (goesOn (heldBy w) a),
-      one-bound (goesOn (heldBy w) (a + (suc b - a))),
-    )
+-- what is counted of the positions P and of those from a to b: all runs, those inside, and those that go on over either end
+pub record Told (P : Positions) (a b total inside on past : ℕ) : Type 0 where
+  pub ordered : a ≤ b
+  pub below : b < size
+  pub few : stretches P ≤ 65536
+  pub total-is : total ≡ stretches P
+  pub inside-is : inside ≡ countRanges P true a (suc b - a)
+  pub on-is : on ≡ oneIf (goesOn P a)
+  pub past-is : past ≡ oneIf (goesOn P (suc b))
 
-module _ (P : Positions) (a b c k total inside on past : ℕ) (v : Bool) (i : a ≤ b) (l : b < size) (ec : c ≡ k) (et : total ≡ stretches P)
-    (ei : inside ≡ countRanges P true a (suc b - a)) (eo : on ≡ oneIf (goesOn P a)) (ep : past ≡ oneIf (goesOn P (suc b))) where
-  -- a set to true fits where the neighbours tell so
-  pub true-fits : v ≡ true → (before after : ℕ) → before ≡ oneIf (heldBelow P a) → after ≡ oneIf (heldAbove P b)
-      → leb (total + on + past + 1) (c + (inside + before + after)) ≡ leb (stretches (setRange a (suc b - a) v P)) k
-  true-fits ev before after eb ea =
-      leb-like (stretches (setRange a (suc b - a) true P)) k (total + on + past + 1) (c + (inside + before + after)) (inside + before + after)
-      (omega (arith, set-true-leaves P a (suc b - a) b (omega arith) (omega arith) l)) (omega arith)
-      ∙ ap (λ u. leb (stretches (setRange a (suc b - a) u P)) k) (sym ev)
+module _ {P : Positions} {a b total inside on past : ℕ} (t : Told P a b total inside on past) where
+  -- the runs and those over the ends
+  pub told-few : total + on + past ≤ 65538
+  told-few = omega (arith, t .few, t .total-is, one-most on (goesOn P a) (t .on-is), one-most past (goesOn P (suc b)) (t .past-is))
 
-  -- and one to false
-  pub false-fits : v ≡ false → leb (total + on + past) (c + inside) ≡ leb (stretches (setRange a (suc b - a) v P)) k
-  false-fits ev =
-      leb-like (stretches (setRange a (suc b - a) false P)) k (total + on + past) (c + inside) inside
-      (omega (arith, set-false-leaves P a (suc b - a) b (omega arith) (omega arith) l)) (omega arith)
-      ∙ ap (λ u. leb (stretches (setRange a (suc b - a) u P)) k) (sym ev)
+  -- a range has at most two runs more than there are
+  pub inside-few : inside ≤ 65538
+  inside-few =
+      let n : a + (suc b - a) ≡ suc b = omega (arith, t .ordered) in
+      omega (
+        arith,
+        told-few,
+        t .total-is,
+        t .inside-is,
+        t .on-is,
+        t .past-is,
+        ap (λ x. oneIf (goesOn P x)) n,
+        stretches-parts P a (suc b - a) (omega (arith, t .ordered)) (omega (arith, t .below)),
+      )
+
+  -- with its neighbours
+  pub less-few : {before after : ℕ} → before ≡ oneIf (heldBelow P a) → after ≡ oneIf (heldAbove P b) → inside + before + after ≤ 65540
+  less-few {before} {after} eb ea = omega (arith, inside-few, one-most before (heldBelow P a) eb, one-most after (heldAbove P b) ea)
+
+  module _ {c k : ℕ} {v : Bool} (ec : c ≡ k) where
+    -- a set to true fits where the neighbours tell so
+    pub true-fits : {before after : ℕ} → v ≡ true → before ≡ oneIf (heldBelow P a) → after ≡ oneIf (heldAbove P b)
+        → leb (total + on + past + 1) (c + (inside + before + after)) ≡ leb (stretches (setRange a (suc b - a) v P)) k
+    true-fits {before} {after} ev eb ea =
+        leb-like (stretches (setRange a (suc b - a) true P)) k (total + on + past + 1) (c + (inside + before + after)) (inside + before + after)
+        (omega (
+          arith,
+          t .total-is,
+          t .inside-is,
+          t .on-is,
+          t .past-is,
+          set-true-leaves P a (suc b - a) b (omega (arith, t .ordered)) (omega (arith, t .ordered)) (t .below),
+        )) (omega arith)
+        ∙ ap (λ u. leb (stretches (setRange a (suc b - a) u P)) k) (sym ev)
+
+    -- and one to false
+    pub false-fits : v ≡ false → leb (total + on + past) (c + inside) ≡ leb (stretches (setRange a (suc b - a) v P)) k
+    false-fits ev =
+        leb-like (stretches (setRange a (suc b - a) false P)) k (total + on + past) (c + inside) inside
+        (omega (
+          arith,
+          t .total-is,
+          t .inside-is,
+          t .on-is,
+          t .past-is,
+          set-false-leaves P a (suc b - a) b (omega (arith, t .ordered)) (omega (arith, t .ordered)) (t .below),
+        )) (omega arith)
+        ∙ ap (λ u. leb (stretches (setRange a (suc b - a) u P)) k) (sym ev)
 
 -- ---- the set itself
 -- a count of two words that are 0

@@ -21,13 +21,12 @@ use Rattle.changes.specs.Neighbours.{stretches-cong}
 use Rattle.changes.specs.TurnedSet.{turned-cong, turned-set-whole, turned-set-first, turned-set-parted}
 use Rattle.changes.specs.SetRuns.{set-one-more, physical-one-more}
 
--- w′ keeps physical positions that are P, turned by its offset, and has the offset and the length of w
+-- w′ keeps physical positions that are P, turned by its offset, and has the length of w
 pub record Reached (w w′ : List ℕ) (P : Positions) : Type 0 where
   pub tree : Tree
   pub nodes : List ℕ
   pub kept : Kept w′ tree nodes
   pub holds : (x : ℕ) → x < size → turned ((headerAt w′) .offset) (mem (inorder tree)) x ≡ P x
-  pub offset-same : (headerAt w′) .offset ≡ (headerAt w) .offset
   pub long : length w′ ≡ length w
 
 -- words that are the same have reached the same
@@ -60,13 +59,12 @@ module _ {w w′ : List ℕ} {P : Positions} (r : Reached w w′ P) (fits : stre
 holding-reached : {w w′ : List ℕ} {X P : Positions} (o : ℕ) → o ≡ (headerAt w) .offset → Holding w w′ X
     → ((x : ℕ) → x < size → turned o X x ≡ P x) → Reached w w′ P
 holding-reached {w} {w′} {X} {P} o eo k f =
-    let same : (headerAt w′) .offset ≡ (headerAt w) .offset = k .rest .offset-same in
+    let Y : Positions = mem (inorder (k .tree)) in
     record {
       tree = k .tree;
       nodes = k .nodes;
       kept = k .kept;
-      holds = λ x l. ap (λ p. turned p (mem (inorder (k .tree))) x) (same ∙ sym eo) ∙ turned-cong o (mem (inorder (k .tree))) X (k .positions-are) x l ∙ f x l;
-      offset-same = same;
+      holds = λ x l. ap (λ p. turned p Y x) (k .rest .offset-same ∙ sym eo) ∙ turned-cong o Y X (k .positions-are) x l ∙ f x l;
       long = k .long;
     }
 
@@ -197,11 +195,4 @@ module _ {w : List ℕ} {h : Header} {a n s e : ℕ} (v : Bool) (sound : Sound w
         parted-reached u =
             let k = u (held-first .tree) (held-first .nodes) second-may in
             let r = holding-reached (h .offset) (offset-is ∙ sym (held-first .rest .offset-same)) k both-turned in
-            record {
-              tree = r .tree;
-              nodes = r .nodes;
-              kept = r .kept;
-              holds = r .holds;
-              offset-same = r .offset-same ∙ held-first .rest .offset-same;
-              long = r .long ∙ held-first .long;
-            }
+            record { tree = r .tree; nodes = r .nodes; kept = r .kept; holds = r .holds; long = r .long ∙ held-first .long }
