@@ -1,6 +1,6 @@
 -- Whether a set of logical positions leaves at most as many runs as the capacity, from what the store tells: its runs, those of the range,
 -- and the neighbours of the range's ends. All these numbers are small, so no sum of them leaves a word. Assumes nothing.
-use Prim.Native.Nat.{ℕ, zero, suc, _+_, _-_, _≤_, _<_}
+use Prim.Native.Nat.{ℕ, zero, suc, _+_, _-_, _^_, _≤_, _<_}
 use mathlib.Core.Path.{_≡_, refl, sym, ap, ap₂, _∙_}
 use mathlib.Core.Logic.{_⊎_, inl, inr}
 use mathlib.Core.Bool.{Bool, true, false, not, _&&_}
@@ -18,12 +18,13 @@ use Rattle.run_index.proofs.Totals.{runs-length}
 use Rattle.store.specs.declared.Header.{Header}
 use Rattle.store.specs.Layout.{headerAt, capacity, heldBy}
 use Rattle.store.specs.Soundness.{Sound}
-use Rattle.store.specs.Settle.{Settled}
 use Rattle.store.specs.Bounds.{Counted, TellsRuns}
 use Rattle.store.proofs.Nodes.{sized-length, few-runs}
 use Rattle.store.proofs.Opening.{physicalIn, sound-index, sound-held}
 use Rattle.reports.specs.declared.physical.Tally.{Tally}
 use Rattle.reports.specs.Reports.{Measured}
+use Rattle.changes.specs.declared.edit.Edit.{Edit}
+use Rattle.changes.specs.Edits.{Edited}
 use Rattle.changes.specs.Neighbours.{heldBelow, heldAbove, one-bound, goesOn-below, stretches-cong}
 use Rattle.changes.specs.SetRuns.{set-true-leaves, set-false-leaves, set-one-more, set-nothing, logical-one-more}
 
@@ -83,7 +84,7 @@ module _ {w : List ℕ} {h : Header} (sound : Sound w) (eh : h ≡ headerAt w) w
   sound-counted = (0, sound .tree, sound-index sound eh, runs-told)
 
   -- they are few
-  pub header-few : h .runs ≤ 4611686018427387904
+  pub header-few : h .runs < 2 ^ 62
   header-few = omega (arith, runs-told, few-runs w (sound .tree) (sound .free) (sound .kept))
 
   -- they are the physical runs
@@ -191,10 +192,10 @@ module _ {w : List ℕ} {r : Tally} (sound : Sound w) (a b : ℕ) (v : Bool) (i 
     same-held : (x : ℕ) → setRange a (suc b - a) v (heldBy w) x ≡ heldBy w x
     same-held = set-nothing (heldBy w) a (suc b - a) v (sym (m .count-is) ∙ z)
 
-    -- there are as many runs
-    pub nothing-fits : stretches (setRange a (suc b - a) v (heldBy w)) ≤ capacity w
-    nothing-fits = omega (arith, sound .fits, stretches-cong (setRange a (suc b - a) v (heldBy w)) (heldBy w) (λ x _. same-held x))
-
-    -- and it is settled as it is
-    pub nothing-settled : Settled w w (setRange a (suc b - a) v (heldBy w))
-    nothing-settled = record { sound = sound; holds = λ x _. sym (same-held x); long = refl }
+    -- so it is the change asked for, as it is
+    pub nothing-edited : Edited w w (setRange a (suc b - a) v (heldBy w)) (Edit.Changed (r .count))
+    nothing-edited = (
+      omega (arith, sound .fits, stretches-cong (setRange a (suc b - a) v (heldBy w)) (heldBy w) (λ x _. same-held x)),
+      record { sound = sound; holds = λ x _. sym (same-held x); long = refl },
+      counted-changes,
+    )

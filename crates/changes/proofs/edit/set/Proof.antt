@@ -4,7 +4,7 @@ use borrow.Author.Needs.{needs}
 use native.Mathlib.Omega.{arith}
 use borrow.Author.Tests.{leb-true, leb-false, eqb-true, not-true, not-false}
 use mathlib.Core.Path.{refl, sym, _∙_}
-use Rattle.changes.proofs.Fitting.{worth-none, counted-changes, nothing-fits, nothing-settled}
+use Rattle.changes.proofs.Fitting.{worth-none, counted-changes, nothing-edited}
 use Rattle.changes.proofs.edit.set.Statement.{statement}
 use Rattle.changes.proofs.edit.set.Tie as tie
 
@@ -16,12 +16,8 @@ same-length c = search needs
 
 returns : tie.Need-returns
 returns c =
-    let l = c .before .before .before .before .before .before .before .before .good in
-    let z = worth-none (c .before .before .before .before .before .tally .result .count) (c .before .before .if1 .taken) (eqb-true _ _ (c .if2 .taken)) in (
-      nothing-fits (c .before .before .before .before .before .before .before .before .pre .0) (c .before .before .before .before .before .before .before .before .args .a .0) (c .before .before .before .before .before .before .before .before .args .b .0) (c .before .before .before .before .before .before .before .before .args .value) (c .before .before .before .before .before .before .before .before .pre .1) (omega arith) (c .before .before .before .before .before .tally .ensures) z,
-      nothing-settled (c .before .before .before .before .before .before .before .before .pre .0) (c .before .before .before .before .before .before .before .before .args .a .0) (c .before .before .before .before .before .before .before .before .args .b .0) (c .before .before .before .before .before .before .before .before .args .value) (c .before .before .before .before .before .before .before .before .pre .1) (omega arith) (c .before .before .before .before .before .tally .ensures) z,
-      counted-changes (c .before .before .before .before .before .before .before .before .pre .0) (c .before .before .before .before .before .before .before .before .args .a .0) (c .before .before .before .before .before .before .before .before .args .b .0) (c .before .before .before .before .before .before .before .before .args .value) (c .before .before .before .before .before .before .before .before .pre .1) (omega arith) (c .before .before .before .before .before .tally .ensures),
-    )
+    nothing-edited (c .before .before .before .before .before .before .before .before .pre .0) (c .before .before .before .before .before .before .before .before .args .a .0) (c .before .before .before .before .before .before .before .before .args .b .0) (c .before .before .before .before .before .before .before .before .args .value) (c .before .before .before .before .before .before .before .before .pre .1) (omega (arith, c .before .before .before .before .before .before .before .before .good)) (c .before .before .before .before .before .tally .ensures)
+    (worth-none (c .before .before .before .before .before .tally .result .count) (c .before .before .if1 .taken) (eqb-true _ _ (c .if2 .taken)))
 
 set-fits-requires : tie.Need-set-fits-requires
 set-fits-requires c κs = search needs
@@ -39,12 +35,11 @@ same-length-3 : tie.Need-same-length-3
 same-length-3 c = search needs
 
 returns-3 : tie.Need-returns-3
-returns-3 c =
-    let l = c .before .before .before .before .before .before .before .before .before .before .before .before .before .good in (
-      leb-true _ _ (sym (c .before .before .before .before .before .set-fits .ensures) ∙ not-false _ (c .before .before .before .before .if3 .left)),
-      c .before .before .apply-set .ensures,
-      counted-changes (c .before .before .before .before .before .before .before .before .before .before .before .before .before .pre .0) (c .before .before .before .before .before .before .before .before .before .before .before .before .before .args .a .0) (c .before .before .before .before .before .before .before .before .before .before .before .before .before .args .b .0) (c .before .before .before .before .before .before .before .before .before .before .before .before .before .args .value) (c .before .before .before .before .before .before .before .before .before .before .before .before .before .pre .1) (omega arith) (c .before .before .before .before .before .before .before .before .before .before .tally .ensures),
-    )
+returns-3 c = (
+  leb-true _ _ (sym (c .before .before .before .before .before .set-fits .ensures) ∙ not-false _ (c .before .before .before .before .if3 .left)),
+  c .before .before .apply-set .ensures,
+  counted-changes (c .before .before .before .before .before .before .before .before .before .before .before .before .before .pre .0) (c .before .before .before .before .before .before .before .before .before .before .before .before .before .args .a .0) (c .before .before .before .before .before .before .before .before .before .before .before .before .before .args .b .0) (c .before .before .before .before .before .before .before .before .before .before .before .before .before .args .value) (c .before .before .before .before .before .before .before .before .before .before .before .before .before .pre .1) (omega (arith, c .before .before .before .before .before .before .before .before .before .before .before .before .before .good)) (c .before .before .before .before .before .before .before .before .before .before .tally .ensures),
+)
 
 pub set-spec : {M : Type 1} → statement M
 set-spec =
