@@ -6,3 +6,5 @@ pub mod Joining
 pub mod Raising
 pub mod Clearing
 pub mod Trimming
+pub mod Setting
+pub mod Fitting
