@@ -1,9 +1,9 @@
 -- Flipping a range of a sound store, stretch by stretch. What a flip leaves is told by the store's runs and by those of the range; on the
 -- way the positions passed are a flipped range, which ends where the value changes, so that no run is added. Assumes nothing.
-use Prim.Native.Nat.{ℕ, suc, _+_, _-_, _*_, _≤_, _<_}
-use mathlib.Core.Path.{_≡_, refl, sym, ap, _∙_, subst}
+use Prim.Native.Nat.{ℕ, suc, _+_, _-_, _≤_, _<_}
+use mathlib.Core.Path.{_≡_, refl, sym, ap, _∙_}
 use mathlib.Core.Logic.{_⊎_, inl, inr}
-use mathlib.Core.Bool.{Bool, true, false, cond, not, true≢false}
+use mathlib.Core.Bool.{Bool, true, false, cond, not}
 use mathlib.Core.List.{List}
 use native.Mathlib.Omega.{arith}
 use lib.Dec.{leb}
@@ -18,15 +18,16 @@ use Rattle.model.specs.Positions.{Positions, among, oneIf, countRanges, stretch
 use Rattle.model.specs.Positions.Runs.{stretches-is}
 use Rattle.model.specs.After.{goesOn, flip-below, flip-above, stretches-parts}
 use Rattle.run_index.proofs.Totals.{runs-length}
-use Rattle.run_index.specs.Tree.{inorder, bit}
+use Rattle.run_index.specs.Tree.{inorder}
 use Rattle.store.specs.declared.Header.{Header}
-use Rattle.store.specs.Layout.{headerAt, capacity, turned, heldBy}
+use Rattle.store.specs.Layout.{headerAt, capacity, heldBy}
 use Rattle.store.specs.Soundness.{Sound}
 use Rattle.store.specs.Bounds.{Counted, TellsRuns}
 use Rattle.store.specs.Settle.{Settled}
 use Rattle.store.proofs.Nodes.{sized-length, few-runs}
 use Rattle.store.proofs.Opening.{physicalIn, sound-index, sound-held}
-use Rattle.reports.specs.Reports.{Next}
+use Rattle.reports.specs.declared.physical.Tally.{Tally}
+use Rattle.reports.specs.Reports.{Measured, Next}
 use Rattle.reports.specs.Ranks.{ranges-alternate}
 use Rattle.reports.proofs.Seeking.{Past, none-next}
 use Rattle.reports.proofs.Bounding.{high-end-at}
@@ -67,10 +68,6 @@ module _ {w : List ℕ} {h : Header} (s : Sound w) (eh : h ≡ headerAt w) where
       sym (le-leb (stretches (flipRange a (suc b - a) (heldBy w))) (capacity w)
       (omega (arith, flip-one-more (heldBy w) a (suc b - a) (omega arith) (omega arith), logical-most l)))
 
--- a sound store has at most 65536 runs
-pub sound-few : {w : List ℕ} → Sound w → (stretches (heldBy w) ≤ capacity w) × (capacity w ≤ 65536)
-sound-few {w} s = (s .fits, (sized-length w (s .kept .sized)) .1)
-
 -- ---- the runs that a flip of a range leaves
 -- orders that imply each other
 leb-same : (a b c d : ℕ) → (a ≤ b → c ≤ d) → (b < a → d < c) → leb a b ≡ leb c d
@@ -80,25 +77,50 @@ leb-same a b c d f g = go (split b a)
     go (inl l) = lt-leb a b l ∙ sym (lt-leb c d (g l))
     go (inr l) = le-leb a b l ∙ sym (le-leb c d (f l))
 
-module _ (P : Positions) (a b : ℕ) (some : a ≤ b) (fits : b < size) where
-  -- a range has at most one run more than all positions
-  pub held-most : countRanges P true a (suc b - a) ≤ stretches P + 2
-  held-most =
-      omega (arith, stretches-parts P a (suc b - a) (omega arith) (omega arith), one-bound (goesOn P a), one-bound (goesOn P (a + (suc b - a))))
+-- at most two runs go on over the ends of a range
+pub over-few : (P : Positions) (a b : ℕ) {on past : ℕ} → on ≡ oneIf (goesOn P a) → past ≡ oneIf (goesOn P (suc b)) → on + past ≤ 2
+over-few P a b p q = omega (arith, one-bound (goesOn P a), one-bound (goesOn P (suc b)))
 
-  -- and at most one gap more than runs
-  pub free-most : countRanges P false a (suc b - a) ≤ stretches P + 3
-  free-most = omega (arith, held-most, ranges-alternate P a b some)
+-- at most two of its neighbours are held
+pub ends-few : (P : Positions) (a b : ℕ) {before after : ℕ} → before ≡ oneIf (heldBelow P a) → after ≡ oneIf (heldAbove P b) → before + after ≤ 2
+ends-few P a b p q = omega (arith, one-bound (heldBelow P a), one-bound (heldAbove P b))
 
-  -- whether a flip fits, by what was counted
-  pub flip-fits-counted : (c total held free on past before after : ℕ) → total ≡ stretches P → held ≡ countRanges P true a (suc b - a)
-      → free ≡ countRanges P false a (suc b - a) → on ≡ oneIf (goesOn P a) → past ≡ oneIf (goesOn P (suc b)) → before ≡ oneIf (heldBelow P a)
-      → after ≡ oneIf (heldAbove P b)
-      → leb (total + (on + past) + (on + past) + free) (c + held + (before + after)) ≡ leb (stretches (flipRange a (suc b - a) P)) c
-  flip-fits-counted c total held free on past before after et eh ef eo ep eb ea =
-      let q = flip-leaves P a (suc b - a) b (omega arith) (omega arith) fits in
-      leb-same (total + (on + past) + (on + past) + free) (c + held + (before + after)) (stretches (flipRange a (suc b - a) P)) c
-      (λ l. omega arith) (λ l. omega arith)
+module _ {w : List ℕ} (s : Sound w) where
+  -- a sound store has at most 65536 runs
+  pub sound-few : (stretches (heldBy w) ≤ 65536) × (capacity w ≤ 65536)
+  sound-few = let l = sized-length w (s .kept .sized) in (omega (arith, l .1, s .fits), l .1)
+
+  module _ (a b : ℕ) (some : a ≤ b) (fits : b < size) where
+    -- a range has at most two runs more than all positions
+    held-most : countRanges (heldBy w) true a (suc b - a) ≤ 65538
+    held-most =
+        omega (
+          arith,
+          sound-few .0,
+          stretches-parts (heldBy w) a (suc b - a) (omega arith) (omega arith),
+          one-bound (goesOn (heldBy w) a),
+          one-bound (goesOn (heldBy w) (a + (suc b - a))),
+        )
+
+    -- so few are told
+    pub held-few : {r : Tally} → Measured (heldBy w) true a (suc b - a) r → r .runs ≤ 65538
+    held-few m = omega (arith, m .runs-are, held-most)
+
+    -- and at most one gap more
+    pub free-few : {r : Tally} → Measured (heldBy w) false a (suc b - a) r → r .runs ≤ 65539
+    free-few m = omega (arith, m .runs-are, held-most, ranges-alternate (heldBy w) a b some)
+
+-- whether a flip fits, by what was counted
+pub flip-fits-counted : (P : Positions) (a b : ℕ) → a ≤ b → b < size → {k : ℕ} {c total on past before after : ℕ} {held free : Tally} → c ≡ k
+    → total ≡ stretches P → Measured P true a (suc b - a) held → Measured P false a (suc b - a) free
+    → on ≡ oneIf (goesOn P a) → past ≡ oneIf (goesOn P (suc b)) → before ≡ oneIf (heldBelow P a) → after ≡ oneIf (heldAbove P b)
+    → leb (total + (on + past) + (on + past) + free .runs) (c + held .runs + (before + after)) ≡ leb (stretches (flipRange a (suc b - a) P)) k
+flip-fits-counted P a b some fits {k} {c} {total} {on} {past} {before} {after} {held} {free} ec et mh mf eo ep eb ea =
+    let q = flip-leaves P a (suc b - a) b (omega arith) (omega arith) fits in
+    let h = mh .runs-are in
+    let f = mf .runs-are in
+    leb-same (total + (on + past) + (on + past) + free .runs) (c + held .runs + (before + after)) (stretches (flipRange a (suc b - a) P)) k
+    (λ l. omega arith) (λ l. omega arith)
 
 -- ---- where a stretch ends
 module _ (P : Positions) (v : Bool) (x last : ℕ) (some : x ≤ last) (fits : last < size) (here : P x ≡ v) where
@@ -220,8 +242,8 @@ module _ {w₀ w : List ℕ} {a last x y : ℕ} {more v : Bool} (f : Flipping w�
       upto = omega arith;
       within = f .within;
       holds = λ z k.
-      let e : suc y - a ≡ y + 1 - a = omega arith in
-      g .holds z k ∙ set-flips z k ∙ ap (λ n. flipRange a n (heldBy w₀) z) e ∙ sym (ap (λ m. flipRange a (passed a (y + 1) last m) (heldBy w₀) z) t);
+          let e : suc y - a ≡ y + 1 - a = omega arith in
+          g .holds z k ∙ set-flips z k ∙ ap (λ n. flipRange a n (heldBy w₀) z) e ∙ sym (ap (λ m. flipRange a (passed a (y + 1) last m) (heldBy w₀) z) t);
       start = f .start;
       finish = f .finish;
     }
@@ -235,8 +257,8 @@ module _ {w₀ w : List ℕ} {a last x y : ℕ} {more v : Bool} (f : Flipping w�
       upto = f .upto;
       within = f .within;
       holds = λ z k.
-      let e : y ≡ last = omega (arith, s .upto) in
-      g .holds z k ∙ set-flips z k ∙ ap (λ i. flipRange a (suc i - a) (heldBy w₀) z) e;
+          let e : y ≡ last = omega (arith, s .upto) in
+          g .holds z k ∙ set-flips z k ∙ ap (λ i. flipRange a (suc i - a) (heldBy w₀) z) e;
       start = f .start;
       finish = f .finish;
     }
@@ -244,12 +266,14 @@ module _ {w₀ w : List ℕ} {a last x y : ℕ} {more v : Bool} (f : Flipping w�
 -- all are flipped
 pub flipping-done : {w₀ w : List ℕ} {a last x : ℕ} {more : Bool} → Flipping w₀ w a last x more → more ≡ false
     → Fitted w₀ w (flipRange a (suc last - a) (heldBy w₀)) Done
-flipping-done {w₀} {w} {a} {last} {x} f t =
-    (f .finish, record {
-      sound = f .sound;
-      holds = λ z k. f .holds z k ∙ ap (λ m. flipRange a (passed a x last m) (heldBy w₀) z) t;
-      long = f .long;
-    })
+flipping-done {w₀} {w} {a} {last} {x} f t = (
+  f .finish,
+  record {
+    sound = f .sound;
+    holds = λ z k. f .holds z k ∙ ap (λ m. flipRange a (passed a x last m) (heldBy w₀) z) t;
+    long = f .long;
+  },
+)
 
 -- what does not fit is refused
 pub flip-refused : {w : List ℕ} (Q : Positions) (b : Bool) → b ≡ leb (stretches Q) (capacity w) → not b ≡ true → Fitted w w Q Full

@@ -1,18 +1,14 @@
 -- `flip` meets its contract. The loop's invariant: the positions from a up to x are flipped, or all up to the last one; the measure is what
 -- is left of the range, and one while more may come. Assumes nothing.
 use Prim.Native.Nat.{_+_, _-_}
+use mathlib.Core.Path.{sym}
 use native.Mathlib.Omega.{arith}
+use borrow.Author.Needs.{needs}
 use Rattle.run_index.specs.Tree.{bit}
 use Rattle.changes.proofs.Counting.{stop-less}
 use Rattle.changes.proofs.Flipping.{Flipping, flipping-none, flip-refused, stretch-settable, flipping-more, flipping-last, flipping-done}
 use Rattle.changes.proofs.edit.flip.Statement.{statement}
 use Rattle.changes.proofs.edit.flip.Tie as tie
-use Rattle.changes.proofs.edit.flip.Reads as reads
-use Rattle.changes.proofs.edit.flip.Lts as lts
-use Rattle.changes.proofs.edit.apply_set.Reads as apply-set-reads
-use Rattle.changes.proofs.edit.flip_fits.Reads as flip-fits-reads
-use Rattle.changes.proofs.edit.stretch_end.Reads as stretch-end-reads
-use Rattle.reports.proofs.logical.get.Reads as get-reads
 
 abbrev Inv-loop : tie.InvT-loop
 Inv-loop words₀ b last x₀ more₀ words x more = Flipping words₀ words x₀ (b .0) x more
@@ -24,10 +20,10 @@ flip-fits-requires : tie.Need-flip-fits-requires Inv-loop μ-loop
 flip-fits-requires c κs = c .before .before .pre
 
 same-length : tie.Need-same-length Inv-loop μ-loop
-same-length c = ?
+same-length c = search needs
 
 returns : tie.Need-returns Inv-loop μ-loop
-returns c = ?
+returns c = flip-refused _ _ (c .before .flip-fits .ensures) (c .if1 .taken)
 
 loop-holds : tie.Need-loop-holds Inv-loop μ-loop
 loop-holds c = flipping-none _ (c .before .before .before .before .pre .0) (c .before .before .before .before .pre .1) (omega (arith, c .before .before .before .before .good)) (c .before .flip-fits .ensures) (c .if1 .left)
@@ -36,31 +32,31 @@ get-requires : tie.Need-get-requires Inv-loop μ-loop
 get-requires c κs = c .before .before .loop .inv .sound
 
 stretch-end-requires : tie.Need-stretch-end-requires Inv-loop μ-loop
-stretch-end-requires c κs = ?
+stretch-end-requires c κs = (c .before .before .before .before .loop .inv .sound, (c .before .before .before .before .loop .inv .upto, sym (c .before .get .ensures)))
 
 apply-set-requires : tie.Need-apply-set-requires Inv-loop μ-loop
-apply-set-requires c κs = ?
+apply-set-requires c κs = (c .before .before .before .before .before .before .loop .inv .sound, stretch-settable (c .before .before .before .before .before .before .loop .inv) (c .before .before .before .before .before .loop-test .taken) (c .before .stretch-end .ensures))
 
 add-x : tie.Need-add-x Inv-loop μ-loop
-add-x c = ?
+add-x c = omega (arith, c .if2 .taken, c .before .before .before .before .before .before .before .before .before .before .before .before .before .before .before .good)
 
 loop-less : tie.Need-loop-less Inv-loop μ-loop
-loop-less c = ?
+loop-less c = omega (arith, c .before .before .before .before .before .stretch-end .ensures .from, c .if2 .taken)
 
 loop-again : tie.Need-loop-again Inv-loop μ-loop
-loop-again c = ?
+loop-again c = flipping-more (c .before .before .before .before .before .before .before .before .before .before .loop .inv) (c .before .before .before .before .before .before .before .before .before .loop-test .taken) (c .before .before .before .before .before .stretch-end .ensures) (c .before .before .before .apply-set .ensures) (c .if2 .taken)
 
 loop-less-2 : tie.Need-loop-less-2 Inv-loop μ-loop
-loop-less-2 c = ?
+loop-less-2 c = stop-less _ _ (c .before .before .before .before .before .before .before .before .before .loop-test .taken)
 
 loop-again-2 : tie.Need-loop-again-2 Inv-loop μ-loop
-loop-again-2 c = ?
+loop-again-2 c = flipping-last (c .before .before .before .before .before .before .before .before .before .before .loop .inv) (c .before .before .before .before .before .before .before .before .before .loop-test .taken) (c .before .before .before .before .before .stretch-end .ensures) (c .before .before .before .apply-set .ensures) (c .if2 .left)
 
 same-length-2 : tie.Need-same-length-2 Inv-loop μ-loop
-same-length-2 c = ?
+same-length-2 c = c .before .loop .inv .long
 
 returns-2 : tie.Need-returns-2 Inv-loop μ-loop
-returns-2 c = ?
+returns-2 c = flipping-done (c .before .loop .inv) (c .loop-test .left)
 
 pub flip-spec : {M : Type 1} → statement M
 flip-spec =

@@ -1,26 +1,12 @@
 -- `flip_fits` meets its contract: far from the capacity by the header's runs, else by the runs and the gaps of the range.
 -- Assumes nothing.
-use Prim.Native.Nat.{_≤_, _+_}
 use native.Mathlib.Omega.{arith}
-use mir.Val.{Fits}
 use borrow.Author.Needs.{needs}
-use Rattle.model.specs.Positions.{countRanges}
 use Rattle.store.specs.Layout.{heldBy}
 use Rattle.store.proofs.Opening.{sound-room, offset-small}
-use Rattle.changes.proofs.Flipping.{sound-counted, header-fits, runs-told, sound-few, flip-fits-far, held-most, free-most, flip-fits-counted}
-use Rattle.changes.specs.Neighbours.{one-bound}
+use Rattle.changes.proofs.Flipping.{sound-counted, header-fits, runs-told, over-few, ends-few, sound-few, held-few, free-few, flip-fits-far, flip-fits-counted}
 use Rattle.changes.proofs.edit.flip_fits.Statement.{statement}
 use Rattle.changes.proofs.edit.flip_fits.Tie as tie
-use Rattle.changes.proofs.edit.flip_fits.Reads as reads
-use Rattle.changes.proofs.edit.flip_fits.Lts as lts
-use Rattle.changes.proofs.edit.going_on.Reads as going-on-reads
-use Rattle.changes.proofs.edit.going_past.Reads as going-past-reads
-use Rattle.changes.proofs.edit.held_after.Reads as held-after-reads
-use Rattle.changes.proofs.edit.held_before.Reads as held-before-reads
-use Rattle.model.proofs.Store.of_length.Reads as of-length-reads
-use Rattle.reports.proofs.logical.tally.Reads as tally-reads
-use Rattle.store.proofs.bounds.logical_runs.Reads as logical-runs-reads
-use Rattle.store.proofs.read_header.Reads as read-header-reads
 
 read-header-requires : tie.Need-read-header-requires
 read-header-requires c κs = sound-room (c .before .pre .0)
@@ -50,7 +36,7 @@ going-past-requires : tie.Need-going-past-requires
 going-past-requires c κs = search needs
 
 add-over : tie.Need-add-over
-add-over c = ?
+add-over c = omega (arith, over-few (heldBy (c .before .before .before .before .before .before .before .before .before .before .args .words .now)) (c .before .before .before .before .before .before .before .before .before .before .args .a .0) (c .before .before .before .before .before .before .before .before .before .before .args .b .0) (c .before .going-on .ensures) (c .going-past .ensures))
 
 held-before-requires : tie.Need-held-before-requires
 held-before-requires c κs = search needs
@@ -59,25 +45,25 @@ held-after-requires : tie.Need-held-after-requires
 held-after-requires c κs = search needs
 
 add-ends : tie.Need-add-ends
-add-ends c = ?
+add-ends c = omega (arith, ends-few (heldBy (c .before .before .before .before .before .before .before .before .before .before .before .before .args .words .now)) (c .before .before .before .before .before .before .before .before .before .before .before .before .args .a .0) (c .before .before .before .before .before .before .before .before .before .before .before .before .args .b .0) (c .before .held-before .ensures) (c .held-after .ensures))
 
 add-result : tie.Need-add-result
-add-result c = ?
+add-result c = omega (arith, runs-told (c .before .before .before .before .before .before .before .before .before .before .before .before .pre .0) (c .before .before .before .before .before .before .before .before .before .before .read-header .ensures) (c .before .before .before .before .before .before .logical-runs .ensures), sound-few (c .before .before .before .before .before .before .before .before .before .before .before .before .pre .0) .0, over-few (heldBy (c .before .before .before .before .before .before .before .before .before .before .before .before .args .words .now)) (c .before .before .before .before .before .before .before .before .before .before .before .before .args .a .0) (c .before .before .before .before .before .before .before .before .before .before .before .before .args .b .0) (c .before .before .before .going-on .ensures) (c .before .before .going-past .ensures))
 
 add-result-2 : tie.Need-add-result-2
-add-result-2 c = ?
+add-result-2 c = omega (arith, runs-told (c .before .before .before .before .before .before .before .before .before .before .before .before .pre .0) (c .before .before .before .before .before .before .before .before .before .before .read-header .ensures) (c .before .before .before .before .before .before .logical-runs .ensures), sound-few (c .before .before .before .before .before .before .before .before .before .before .before .before .pre .0) .0, over-few (heldBy (c .before .before .before .before .before .before .before .before .before .before .before .before .args .words .now)) (c .before .before .before .before .before .before .before .before .before .before .before .before .args .a .0) (c .before .before .before .before .before .before .before .before .before .before .before .before .args .b .0) (c .before .before .before .going-on .ensures) (c .before .before .going-past .ensures))
 
 add-result-3 : tie.Need-add-result-3
-add-result-3 c = ?
+add-result-3 c = omega (arith, runs-told (c .before .before .before .before .before .before .before .before .before .before .before .before .before .pre .0) (c .before .before .before .before .before .before .before .before .before .before .before .read-header .ensures) (c .before .before .before .before .before .before .before .logical-runs .ensures), sound-few (c .before .before .before .before .before .before .before .before .before .before .before .before .before .pre .0) .0, over-few (heldBy (c .before .before .before .before .before .before .before .before .before .before .before .before .before .args .words .now)) (c .before .before .before .before .before .before .before .before .before .before .before .before .before .args .a .0) (c .before .before .before .before .before .before .before .before .before .before .before .before .before .args .b .0) (c .before .before .before .before .going-on .ensures) (c .before .before .before .going-past .ensures), free-few (c .before .before .before .before .before .before .before .before .before .before .before .before .before .pre .0) _ _ (c .before .before .before .before .before .before .before .before .before .before .before .before .before .pre .1) (omega (arith, c .before .before .before .before .before .before .before .before .before .before .before .before .before .good)) (c .before .before .before .before .before .tally2 .ensures))
 
 add-result-4 : tie.Need-add-result-4
-add-result-4 c = ?
+add-result-4 c = omega (arith, c .before .before .before .before .before .before .before .before .before .before .before .of-length .ensures, sound-few (c .before .before .before .before .before .before .before .before .before .before .before .before .before .before .pre .0) .1, held-few (c .before .before .before .before .before .before .before .before .before .before .before .before .before .before .pre .0) _ _ (c .before .before .before .before .before .before .before .before .before .before .before .before .before .before .pre .1) (omega (arith, c .before .before .before .before .before .before .before .before .before .before .before .before .before .before .good)) (c .before .before .before .before .before .before .before .tally .ensures))
 
 add-result-5 : tie.Need-add-result-5
-add-result-5 c = ?
+add-result-5 c = omega (arith, c .before .before .before .before .before .before .before .before .before .before .before .of-length .ensures, sound-few (c .before .before .before .before .before .before .before .before .before .before .before .before .before .before .pre .0) .1, held-few (c .before .before .before .before .before .before .before .before .before .before .before .before .before .before .pre .0) _ _ (c .before .before .before .before .before .before .before .before .before .before .before .before .before .before .pre .1) (omega (arith, c .before .before .before .before .before .before .before .before .before .before .before .before .before .before .good)) (c .before .before .before .before .before .before .before .tally .ensures), ends-few (heldBy (c .before .before .before .before .before .before .before .before .before .before .before .before .before .before .args .words .now)) (c .before .before .before .before .before .before .before .before .before .before .before .before .before .before .args .a .0) (c .before .before .before .before .before .before .before .before .before .before .before .before .before .before .args .b .0) (c .before .before .before .held-before .ensures) (c .before .before .held-after .ensures))
 
 returns-2 : tie.Need-returns-2
-returns-2 c = ?
+returns-2 c = flip-fits-counted (heldBy (c .before .before .before .before .before .before .before .before .before .before .before .before .before .before .args .words .now)) _ _ (c .before .before .before .before .before .before .before .before .before .before .before .before .before .before .pre .1) (omega (arith, c .before .before .before .before .before .before .before .before .before .before .before .before .before .before .good)) (c .before .before .before .before .before .before .before .before .before .before .before .of-length .ensures) (runs-told (c .before .before .before .before .before .before .before .before .before .before .before .before .before .before .pre .0) (c .before .before .before .before .before .before .before .before .before .before .before .before .read-header .ensures) (c .before .before .before .before .before .before .before .before .logical-runs .ensures)) (c .before .before .before .before .before .before .before .tally .ensures) (c .before .before .before .before .before .before .tally2 .ensures) (c .before .before .before .before .before .going-on .ensures) (c .before .before .before .before .going-past .ensures) (c .before .before .before .held-before .ensures) (c .before .before .held-after .ensures)
 
 pub flip-fits-spec : {M : Type 1} → statement M
 flip-fits-spec =
