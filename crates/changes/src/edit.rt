@@ -10,12 +10,12 @@ ghost use Rattle.store.specs.Soundness.{Sound};
 ghost use Rattle.store.specs.Settle.{Settled};
 ghost use Rattle.changes.specs.Edits.{Edited, Fitted, StretchEnd, Shiftable};
 ghost use Rattle.changes.specs.Neighbours.{heldBelow, heldAbove};
-use store::Header;
 use model::Count;
 use model::Edge;
 use model::Logical;
 use model::Physical;
 use model::Store;
+use store::Header;
 
 // A change that the capacity may forbid: too many runs, or how many positions changed.
 pub enum Edit {
@@ -61,7 +61,11 @@ fn held_before(words: &[u64], x: Logical) -> u64
     if at == 0 {
         return 0;
     }
-    if reports::logical::get(words, Logical(at - 1)) { 1 } else { 0 }
+    if reports::logical::get(words, Logical(at - 1)) {
+        1
+    } else {
+        0
+    }
 }
 
 // 1 if the position after x is there and held, else 0.
@@ -73,7 +77,11 @@ fn held_after(words: &[u64], x: Logical) -> u64
     if at == u64::MAX {
         return 0;
     }
-    if reports::logical::get(words, Logical(at + 1)) { 1 } else { 0 }
+    if reports::logical::get(words, Logical(at + 1)) {
+        1
+    } else {
+        0
+    }
 }
 
 // Whether setting a..=b to the value leaves at most as many runs as the capacity. A set adds one run at most, and there is at most one
@@ -174,13 +182,7 @@ fn stretch_end(words: &[u64], x: Logical, last: Logical, value: bool) -> u64
     let top = last.0;
     let n = reports::logical::next(words, x, !value);
     match n {
-        Edge::At(y) => {
-            if y <= top {
-                y - 1
-            } else {
-                top
-            }
-        }
+        Edge::At(y) => { if y <= top { y - 1 } else { top } }
         Edge::Nowhere => top,
     }
 }
