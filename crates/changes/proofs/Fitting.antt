@@ -62,7 +62,7 @@ above-is P x l ne p e =
 
 -- ---- orders
 -- an order of sums that are alike
-leb-like : (x y p q k : ℕ) → p ≡ x + k → q ≡ y + k → leb p q ≡ leb x y
+pub leb-like : (x y p q k : ℕ) → p ≡ x + k → q ≡ y + k → leb p q ≡ leb x y
 leb-like x y p q k e f = go (split y x)
   where
     go : (y < x) ⊎ (x ≤ y) → leb p q ≡ leb x y
@@ -96,7 +96,7 @@ module _ {w : List ℕ} {h : Header} (sound : Sound w) (eh : h ≡ headerAt w) w
   logical-told t = t 0 (sound .tree) (sound-index sound eh) ∙ ap stretches (sym (sound-held sound eh))
 
   -- there is one more at most
-  logical-most : h .offset < size → stretches (heldBy w) ≤ h .runs + 1
+  pub logical-most : h .offset < size → stretches (heldBy w) ≤ h .runs + 1
   logical-most o = omega (arith, physical-runs, ap stretches (sound-held sound eh), logical-one-more (h .offset) (physicalIn sound) o)
 
   -- far from the capacity a set fits

@@ -8,24 +8,16 @@ use mathlib.Core.List.{List}
 use native.Mathlib.Omega.{arith}
 use lib.Dec.{leb}
 use lib.ListN.{length}
-use borrow.Author.Tests.{leb-true, leb-false, le-leb, lt-leb, not-true, not-false}
-use mir.Syntax.{w64}
-use mir.Val.{Fits}
+use borrow.Author.Tests.{leb-true, leb-false, le-leb, not-true, not-false}
 use Rattle.model.specs.declared.Edge.{Edge}
 use Rattle.model.specs.declared.Edge.the-variants.{At}
 use Rattle.model.specs.Numbers.{size, split, capacityOf}
-use Rattle.model.specs.Positions.{Positions, among, oneIf, countRanges, stretches, setRange, flipRange}
-use Rattle.model.specs.Positions.Runs.{stretches-is}
+use Rattle.model.specs.Positions.{Positions, among, oneIf, stretches, setRange, flipRange}
 use Rattle.model.specs.After.{goesOn, flip-below, flip-above, stretches-parts}
-use Rattle.run_index.proofs.Totals.{runs-length}
-use Rattle.run_index.specs.Tree.{inorder}
 use Rattle.store.specs.declared.Header.{Header}
 use Rattle.store.specs.Layout.{headerAt, capacity, heldBy}
 use Rattle.store.specs.Soundness.{Sound}
-use Rattle.store.specs.Bounds.{Counted, TellsRuns}
 use Rattle.store.specs.Settle.{Settled}
-use Rattle.store.proofs.Nodes.{sized-length, few-runs}
-use Rattle.store.proofs.Opening.{physicalIn, sound-index, sound-held}
 use Rattle.reports.specs.declared.physical.Tally.{Tally}
 use Rattle.reports.specs.Reports.{Measured, Next}
 use Rattle.reports.specs.Ranks.{ranges-alternate}
@@ -35,47 +27,16 @@ use Rattle.changes.specs.declared.edit.Fit.the-variants.{Full, Done}
 use Rattle.changes.specs.Edits.{Fitted, StretchEnd}
 use Rattle.changes.specs.Neighbours.{heldBelow, heldAbove, one-bound, stretches-cong}
 use Rattle.changes.specs.FlipRuns.{flip-leaves, flip-one-more, flip-none-more, flip-further}
-use Rattle.changes.specs.SetRuns.{logical-one-more}
+use Rattle.changes.proofs.Fitting.{leb-like, logical-most, logical-few}
 
--- ---- the runs of a sound store
+-- ---- the runs that a flip of a range leaves
 module _ {w : List ℕ} {h : Header} (s : Sound w) (eh : h ≡ headerAt w) where
-  -- the header counts the tree's runs
-  pub sound-counted : Counted w (h .root) (h .runs)
-  sound-counted = (0, s .tree, sound-index s eh, ap (λ (x : Header). x .runs) eh ∙ s .runs-are)
-
-  -- which are few
-  pub header-fits : Fits w64 (h .runs + 2)
-  header-fits = record { fits = omega (arith, ap (λ (x : Header). x .runs) eh, s .runs-are, few-runs w (s .tree) (s .free) (s .kept)) }
-
-  -- the number of logical runs
-  pub runs-told : {r : ℕ} → TellsRuns w (h .root) (h .offset) r → r ≡ stretches (heldBy w)
-  runs-told t = t 0 (s .tree) (sound-index s eh) ∙ ap stretches (sym (sound-held s eh))
-
-  -- the tree has as many runs as the header counts
-  physical-runs : stretches (physicalIn s) ≡ h .runs
-  physical-runs =
-      stretches-is (physicalIn s) (inorder (s .tree)) (s .kept .ordered) (λ x l. refl) ∙ sym (runs-length (s .tree))
-      ∙ sym (ap (λ (x : Header). x .runs) eh ∙ s .runs-are)
-
-  -- there is at most one logical run more
-  logical-most : h .offset < size → stretches (heldBy w) ≤ h .runs + 1
-  logical-most l = omega (arith, ap stretches (sound-held s eh), logical-one-more (h .offset) (physicalIn s) l, physical-runs)
-
   -- far from the capacity each flip fits
   pub flip-fits-far : {c : ℕ} (a b : ℕ) → h .offset < size → a ≤ b → b < size → c ≡ capacity w → h .runs + 2 ≤ c
       → true ≡ leb (stretches (flipRange a (suc b - a) (heldBy w))) (capacity w)
   flip-fits-far a b l i k e f =
       sym (le-leb (stretches (flipRange a (suc b - a) (heldBy w))) (capacity w)
-      (omega (arith, flip-one-more (heldBy w) a (suc b - a) (omega arith) (omega arith), logical-most l)))
-
--- ---- the runs that a flip of a range leaves
--- orders that imply each other
-leb-same : (a b c d : ℕ) → (a ≤ b → c ≤ d) → (b < a → d < c) → leb a b ≡ leb c d
-leb-same a b c d f g = go (split b a)
-  where
-    go : (b < a) ⊎ (a ≤ b) → leb a b ≡ leb c d
-    go (inl l) = lt-leb a b l ∙ sym (lt-leb c d (g l))
-    go (inr l) = le-leb a b l ∙ sym (le-leb c d (f l))
+      (omega (arith, flip-one-more (heldBy w) a (suc b - a) (omega arith) (omega arith), logical-most s eh l)))
 
 -- at most two runs go on over the ends of a range
 pub over-few : (P : Positions) (a b : ℕ) {on past : ℕ} → on ≡ oneIf (goesOn P a) → past ≡ oneIf (goesOn P (suc b)) → on + past ≤ 2
@@ -85,30 +46,18 @@ over-few P a b p q = omega (arith, one-bound (goesOn P a), one-bound (goesOn P (
 pub ends-few : (P : Positions) (a b : ℕ) {before after : ℕ} → before ≡ oneIf (heldBelow P a) → after ≡ oneIf (heldAbove P b) → before + after ≤ 2
 ends-few P a b p q = omega (arith, one-bound (heldBelow P a), one-bound (heldAbove P b))
 
-module _ {w : List ℕ} (s : Sound w) where
-  -- a sound store has at most 65536 runs
-  pub sound-few : (stretches (heldBy w) ≤ 65536) × (capacity w ≤ 65536)
-  sound-few = let l = sized-length w (s .kept .sized) in (omega (arith, l .1, s .fits), l .1)
-
-  module _ (a b : ℕ) (some : a ≤ b) (fits : b < size) where
-    -- a range has at most two runs more than all positions
-    held-most : countRanges (heldBy w) true a (suc b - a) ≤ 65538
-    held-most =
-        omega (
-          arith,
-          sound-few .0,
-          stretches-parts (heldBy w) a (suc b - a) (omega arith) (omega arith),
-          one-bound (goesOn (heldBy w) a),
-          one-bound (goesOn (heldBy w) (a + (suc b - a))),
-        )
-
-    -- so few are told
-    pub held-few : {r : Tally} → Measured (heldBy w) true a (suc b - a) r → r .runs ≤ 65538
-    held-few m = omega (arith, m .runs-are, held-most)
-
-    -- and at most one gap more
-    pub free-few : {r : Tally} → Measured (heldBy w) false a (suc b - a) r → r .runs ≤ 65539
-    free-few m = omega (arith, m .runs-are, held-most, ranges-alternate (heldBy w) a b some)
+-- a range of a sound store has few gaps
+pub gaps-few : {w : List ℕ} {r : Tally} → Sound w → (a b : ℕ) → a ≤ b → b < size → Measured (heldBy w) false a (suc b - a) r → r .runs ≤ 65539
+gaps-few {w} s a b some fits m =
+    omega (
+      arith,
+      m .runs-are,
+      ranges-alternate (heldBy w) a b some,
+      logical-few s,
+      stretches-parts (heldBy w) a (suc b - a) (omega arith) (omega arith),
+      one-bound (goesOn (heldBy w) a),
+      one-bound (goesOn (heldBy w) (a + (suc b - a))),
+    )
 
 -- whether a flip fits, by what was counted
 pub flip-fits-counted : (P : Positions) (a b : ℕ) → a ≤ b → b < size → {k : ℕ} {c total on past before after : ℕ} {held free : Tally} → c ≡ k
@@ -119,8 +68,8 @@ flip-fits-counted P a b some fits {k} {c} {total} {on} {past} {before} {after} {
     let q = flip-leaves P a (suc b - a) b (omega arith) (omega arith) fits in
     let h = mh .runs-are in
     let f = mf .runs-are in
-    leb-same (total + (on + past) + (on + past) + free .runs) (c + held .runs + (before + after)) (stretches (flipRange a (suc b - a) P)) k
-    (λ l. omega arith) (λ l. omega arith)
+    leb-like (stretches (flipRange a (suc b - a) P)) k (total + (on + past) + (on + past) + free .runs) (c + held .runs + (before + after))
+    (held .runs + (before + after)) (omega arith) (omega arith)
 
 -- ---- where a stretch ends
 module _ (P : Positions) (v : Bool) (x last : ℕ) (some : x ≤ last) (fits : last < size) (here : P x ≡ v) where

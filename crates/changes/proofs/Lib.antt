@@ -6,6 +6,6 @@ pub mod Joining
 pub mod Raising
 pub mod Clearing
 pub mod Trimming
-pub mod Flipping
 pub mod Setting
 pub mod Fitting
+pub mod Flipping

@@ -4,7 +4,8 @@ use native.Mathlib.Omega.{arith}
 use borrow.Author.Needs.{needs}
 use Rattle.store.specs.Layout.{heldBy}
 use Rattle.store.proofs.Opening.{sound-room, offset-small}
-use Rattle.changes.proofs.Flipping.{sound-counted, header-fits, runs-told, over-few, ends-few, sound-few, held-few, free-few, flip-fits-far, flip-fits-counted}
+use Rattle.changes.proofs.Fitting.{sound-counted, header-few, logical-told, logical-few, capacity-few, range-few}
+use Rattle.changes.proofs.Flipping.{over-few, ends-few, gaps-few, flip-fits-far, flip-fits-counted}
 use Rattle.changes.proofs.edit.flip_fits.Statement.{statement}
 use Rattle.changes.proofs.edit.flip_fits.Tie as tie
 
@@ -15,7 +16,7 @@ of-length-requires : tie.Need-of-length-requires
 of-length-requires c κs = search needs
 
 add-if1 : tie.Need-add-if1
-add-if1 c = header-fits (c .before .before .before .before .pre .0) (c .before .before .read-header .ensures)
+add-if1 c = omega (arith, header-few (c .before .before .before .before .pre .0) (c .before .before .read-header .ensures))
 
 returns : tie.Need-returns
 returns c = flip-fits-far (c .before .before .before .before .before .pre .0) (c .before .before .before .read-header .ensures) _ _ (offset-small (c .before .before .before .before .before .pre .0) (c .before .before .before .read-header .ensures) (c .before .before .before .before .shared-slice-known .given)) (c .before .before .before .before .before .pre .1) (omega (arith, c .before .before .before .before .before .good)) (c .before .before .of-length .ensures) (c .if1 .taken)
@@ -48,22 +49,22 @@ add-ends : tie.Need-add-ends
 add-ends c = omega (arith, ends-few (heldBy (c .before .before .before .before .before .before .before .before .before .before .before .before .args .words .now)) (c .before .before .before .before .before .before .before .before .before .before .before .before .args .a .0) (c .before .before .before .before .before .before .before .before .before .before .before .before .args .b .0) (c .before .held-before .ensures) (c .held-after .ensures))
 
 add-result : tie.Need-add-result
-add-result c = omega (arith, runs-told (c .before .before .before .before .before .before .before .before .before .before .before .before .pre .0) (c .before .before .before .before .before .before .before .before .before .before .read-header .ensures) (c .before .before .before .before .before .before .logical-runs .ensures), sound-few (c .before .before .before .before .before .before .before .before .before .before .before .before .pre .0) .0, over-few (heldBy (c .before .before .before .before .before .before .before .before .before .before .before .before .args .words .now)) (c .before .before .before .before .before .before .before .before .before .before .before .before .args .a .0) (c .before .before .before .before .before .before .before .before .before .before .before .before .args .b .0) (c .before .before .before .going-on .ensures) (c .before .before .going-past .ensures))
+add-result c = omega (arith, logical-told (c .before .before .before .before .before .before .before .before .before .before .before .before .pre .0) (c .before .before .before .before .before .before .before .before .before .before .read-header .ensures) (c .before .before .before .before .before .before .logical-runs .ensures), logical-few (c .before .before .before .before .before .before .before .before .before .before .before .before .pre .0), over-few (heldBy (c .before .before .before .before .before .before .before .before .before .before .before .before .args .words .now)) (c .before .before .before .before .before .before .before .before .before .before .before .before .args .a .0) (c .before .before .before .before .before .before .before .before .before .before .before .before .args .b .0) (c .before .before .before .going-on .ensures) (c .before .before .going-past .ensures))
 
 add-result-2 : tie.Need-add-result-2
-add-result-2 c = omega (arith, runs-told (c .before .before .before .before .before .before .before .before .before .before .before .before .pre .0) (c .before .before .before .before .before .before .before .before .before .before .read-header .ensures) (c .before .before .before .before .before .before .logical-runs .ensures), sound-few (c .before .before .before .before .before .before .before .before .before .before .before .before .pre .0) .0, over-few (heldBy (c .before .before .before .before .before .before .before .before .before .before .before .before .args .words .now)) (c .before .before .before .before .before .before .before .before .before .before .before .before .args .a .0) (c .before .before .before .before .before .before .before .before .before .before .before .before .args .b .0) (c .before .before .before .going-on .ensures) (c .before .before .going-past .ensures))
+add-result-2 c = omega (arith, logical-told (c .before .before .before .before .before .before .before .before .before .before .before .before .pre .0) (c .before .before .before .before .before .before .before .before .before .before .read-header .ensures) (c .before .before .before .before .before .before .logical-runs .ensures), logical-few (c .before .before .before .before .before .before .before .before .before .before .before .before .pre .0), over-few (heldBy (c .before .before .before .before .before .before .before .before .before .before .before .before .args .words .now)) (c .before .before .before .before .before .before .before .before .before .before .before .before .args .a .0) (c .before .before .before .before .before .before .before .before .before .before .before .before .args .b .0) (c .before .before .before .going-on .ensures) (c .before .before .going-past .ensures))
 
 add-result-3 : tie.Need-add-result-3
-add-result-3 c = omega (arith, runs-told (c .before .before .before .before .before .before .before .before .before .before .before .before .before .pre .0) (c .before .before .before .before .before .before .before .before .before .before .before .read-header .ensures) (c .before .before .before .before .before .before .before .logical-runs .ensures), sound-few (c .before .before .before .before .before .before .before .before .before .before .before .before .before .pre .0) .0, over-few (heldBy (c .before .before .before .before .before .before .before .before .before .before .before .before .before .args .words .now)) (c .before .before .before .before .before .before .before .before .before .before .before .before .before .args .a .0) (c .before .before .before .before .before .before .before .before .before .before .before .before .before .args .b .0) (c .before .before .before .before .going-on .ensures) (c .before .before .before .going-past .ensures), free-few (c .before .before .before .before .before .before .before .before .before .before .before .before .before .pre .0) _ _ (c .before .before .before .before .before .before .before .before .before .before .before .before .before .pre .1) (omega (arith, c .before .before .before .before .before .before .before .before .before .before .before .before .before .good)) (c .before .before .before .before .before .tally2 .ensures))
+add-result-3 c = omega (arith, logical-told (c .before .before .before .before .before .before .before .before .before .before .before .before .before .pre .0) (c .before .before .before .before .before .before .before .before .before .before .before .read-header .ensures) (c .before .before .before .before .before .before .before .logical-runs .ensures), logical-few (c .before .before .before .before .before .before .before .before .before .before .before .before .before .pre .0), over-few (heldBy (c .before .before .before .before .before .before .before .before .before .before .before .before .before .args .words .now)) (c .before .before .before .before .before .before .before .before .before .before .before .before .before .args .a .0) (c .before .before .before .before .before .before .before .before .before .before .before .before .before .args .b .0) (c .before .before .before .before .going-on .ensures) (c .before .before .before .going-past .ensures), gaps-few (c .before .before .before .before .before .before .before .before .before .before .before .before .before .pre .0) _ _ (c .before .before .before .before .before .before .before .before .before .before .before .before .before .pre .1) (omega (arith, c .before .before .before .before .before .before .before .before .before .before .before .before .before .good)) (c .before .before .before .before .before .tally2 .ensures))
 
 add-result-4 : tie.Need-add-result-4
-add-result-4 c = omega (arith, c .before .before .before .before .before .before .before .before .before .before .before .of-length .ensures, sound-few (c .before .before .before .before .before .before .before .before .before .before .before .before .before .before .pre .0) .1, held-few (c .before .before .before .before .before .before .before .before .before .before .before .before .before .before .pre .0) _ _ (c .before .before .before .before .before .before .before .before .before .before .before .before .before .before .pre .1) (omega (arith, c .before .before .before .before .before .before .before .before .before .before .before .before .before .before .good)) (c .before .before .before .before .before .before .before .tally .ensures))
+add-result-4 c = omega (arith, c .before .before .before .before .before .before .before .before .before .before .before .of-length .ensures, capacity-few (c .before .before .before .before .before .before .before .before .before .before .before .before .before .before .pre .0), range-few (c .before .before .before .before .before .before .before .before .before .before .before .before .before .before .pre .0) _ _ (c .before .before .before .before .before .before .before .before .before .before .before .before .before .before .pre .1) (omega (arith, c .before .before .before .before .before .before .before .before .before .before .before .before .before .before .good)) (c .before .before .before .before .before .before .before .tally .ensures))
 
 add-result-5 : tie.Need-add-result-5
-add-result-5 c = omega (arith, c .before .before .before .before .before .before .before .before .before .before .before .of-length .ensures, sound-few (c .before .before .before .before .before .before .before .before .before .before .before .before .before .before .pre .0) .1, held-few (c .before .before .before .before .before .before .before .before .before .before .before .before .before .before .pre .0) _ _ (c .before .before .before .before .before .before .before .before .before .before .before .before .before .before .pre .1) (omega (arith, c .before .before .before .before .before .before .before .before .before .before .before .before .before .before .good)) (c .before .before .before .before .before .before .before .tally .ensures), ends-few (heldBy (c .before .before .before .before .before .before .before .before .before .before .before .before .before .before .args .words .now)) (c .before .before .before .before .before .before .before .before .before .before .before .before .before .before .args .a .0) (c .before .before .before .before .before .before .before .before .before .before .before .before .before .before .args .b .0) (c .before .before .before .held-before .ensures) (c .before .before .held-after .ensures))
+add-result-5 c = omega (arith, c .before .before .before .before .before .before .before .before .before .before .before .of-length .ensures, capacity-few (c .before .before .before .before .before .before .before .before .before .before .before .before .before .before .pre .0), range-few (c .before .before .before .before .before .before .before .before .before .before .before .before .before .before .pre .0) _ _ (c .before .before .before .before .before .before .before .before .before .before .before .before .before .before .pre .1) (omega (arith, c .before .before .before .before .before .before .before .before .before .before .before .before .before .before .good)) (c .before .before .before .before .before .before .before .tally .ensures), ends-few (heldBy (c .before .before .before .before .before .before .before .before .before .before .before .before .before .before .args .words .now)) (c .before .before .before .before .before .before .before .before .before .before .before .before .before .before .args .a .0) (c .before .before .before .before .before .before .before .before .before .before .before .before .before .before .args .b .0) (c .before .before .before .held-before .ensures) (c .before .before .held-after .ensures))
 
 returns-2 : tie.Need-returns-2
-returns-2 c = flip-fits-counted (heldBy (c .before .before .before .before .before .before .before .before .before .before .before .before .before .before .args .words .now)) _ _ (c .before .before .before .before .before .before .before .before .before .before .before .before .before .before .pre .1) (omega (arith, c .before .before .before .before .before .before .before .before .before .before .before .before .before .before .good)) (c .before .before .before .before .before .before .before .before .before .before .before .of-length .ensures) (runs-told (c .before .before .before .before .before .before .before .before .before .before .before .before .before .before .pre .0) (c .before .before .before .before .before .before .before .before .before .before .before .before .read-header .ensures) (c .before .before .before .before .before .before .before .before .logical-runs .ensures)) (c .before .before .before .before .before .before .before .tally .ensures) (c .before .before .before .before .before .before .tally2 .ensures) (c .before .before .before .before .before .going-on .ensures) (c .before .before .before .before .going-past .ensures) (c .before .before .before .held-before .ensures) (c .before .before .held-after .ensures)
+returns-2 c = flip-fits-counted (heldBy (c .before .before .before .before .before .before .before .before .before .before .before .before .before .before .args .words .now)) _ _ (c .before .before .before .before .before .before .before .before .before .before .before .before .before .before .pre .1) (omega (arith, c .before .before .before .before .before .before .before .before .before .before .before .before .before .before .good)) (c .before .before .before .before .before .before .before .before .before .before .before .of-length .ensures) (logical-told (c .before .before .before .before .before .before .before .before .before .before .before .before .before .before .pre .0) (c .before .before .before .before .before .before .before .before .before .before .before .before .read-header .ensures) (c .before .before .before .before .before .before .before .before .logical-runs .ensures)) (c .before .before .before .before .before .before .before .tally .ensures) (c .before .before .before .before .before .before .tally2 .ensures) (c .before .before .before .before .before .going-on .ensures) (c .before .before .before .before .going-past .ensures) (c .before .before .before .held-before .ensures) (c .before .before .held-after .ensures)
 
 pub flip-fits-spec : {M : Type 1} → statement M
 flip-fits-spec =
