@@ -6,3 +6,4 @@ pub mod Joining
 pub mod Raising
 pub mod Clearing
 pub mod Trimming
+pub mod Shifting
