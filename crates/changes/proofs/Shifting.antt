@@ -1,6 +1,6 @@
 -- Moving a sound store by d. The header's first and last position tell what would leave 0 .. M: all, and the store is made empty; or some,
 -- and it is cleared; then the move is a turn, which the offset alone does. Assumes nothing.
-use Prim.Native.Nat.{ℕ, _+_, _-_, _%_, _≤_, _<_}
+use Prim.Native.Nat.{ℕ, _+_, _-_, _≤_, _<_}
 use mathlib.Core.Path.{_≡_, refl, sym, ap, _∙_, subst}
 use mathlib.Core.Logic.{_⊎_, inl, inr}
 use mathlib.Core.Bool.{Bool, true, false}
@@ -81,20 +81,15 @@ runs-hold [] h c = absurd (omega arith)
 runs-hold (r ∷ rs) h c = (r .start, omega (arith, c .1, c .2), mem-in r rs (r .start) (omega arith) (c .1))
 
 -- of a sound store with a root the header tells the first and the last position
-pub sound-ends : {w : List ℕ} {h : Header} (s : Sound w) → h ≡ headerAt w → (h .root ≡ 0 → ⊥) → h .offset < size → Ends (heldBy w) (h .first) (h .last)
+pub sound-ends : {w : List ℕ} {h : Header} (s : Sound w) → h ≡ headerAt w → ((headerAt w) .root ≡ 0 → ⊥) → h .offset < size → Ends (heldBy w) (h .first) (h .last)
 sound-ends {w} {h} s eh nz small =
-    let nz′ : (headerAt w) .root ≡ 0 → ⊥ = λ z. nz (ap (λ (x : Header). x .root) eh ∙ z) in
-    let many : 1 ≤ length (inorder (s .tree)) = omega (arith, rooted-runs w ((headerAt w) .root) (s .tree) (s .kept .linked) nz′, runs-length (s .tree)) in
+    let many : 1 ≤ length (inorder (s .tree)) = omega (arith, rooted-runs w ((headerAt w) .root) (s .tree) (s .kept .linked) nz, runs-length (s .tree)) in
     let g = runs-hold (inorder (s .tree)) many (s .kept .ordered) in
     let x : ℕ = logicalOf (g .0) (h .offset) in
     let held : heldBy w x ≡ true = ap (λ (P : Positions). P x) (sound-held s eh) ∙ turned-logical (h .offset) (physicalIn s) (g .0) (g .1) small ∙ g .2 in
     let e = list-ends (heldBy w) (heldRuns (heldBy w)) x (heldRuns-canon (heldBy w)) (mem-heldRuns (heldBy w)) (mem-heldRuns (heldBy w) x (omega arith) ∙ held) in
     subst (λ (a : ℕ). Ends (heldBy w) a (h .last)) (sym (ap (λ (y : Header). y .first) eh ∙ s .first-is))
     (subst (Ends (heldBy w) (firstOf (heldRuns (heldBy w)))) (sym (ap (λ (y : Header). y .last) eh ∙ s .last-is)) e)
-
--- the same of one that is to be moved
-pub shiftable-ends : {w : List ℕ} {h : Header} {d : ℕ} → Shiftable w d → h ≡ headerAt w → h .offset < size → Ends (heldBy w) (h .first) (h .last)
-shiftable-ends s eh small = sound-ends (s .sound) eh (λ z. s .some (sym (ap (λ (x : Header). x .root) eh) ∙ z)) small
 
 -- ---- all would leave
 -- an empty store holds what is nothing
@@ -220,16 +215,11 @@ moves-settled w u v h a n o moved by c eh m hd =
     }) (λ x l. m .agrees x l ∙ c .same x l) in
     record { sound = st .sound; holds = st .holds; long = st .long ∙ c .long }
 
--- where what is left starts and ends
-cleared-ends : {w u : List ℕ} {h : Header} {a n : ℕ} {moved : Positions → Positions} → Cleared w u a n moved → h ≡ headerAt u → h .offset < size
-    → Ends (heldBy u) (h .first) (h .last)
-cleared-ends c eh small = sound-ends (c .sound) eh (λ z. c .some (sym (ap (λ (x : Header). x .root) eh) ∙ z)) small
-
 -- ---- up
 module _ {w u : List ℕ} {h : Header} {d : ℕ} (c : Cleared w u (size - d) d (shiftLeft d)) (eh : h ≡ headerAt u) (small : h .offset < size) (fits : d < size) where
   -- no position passes M
   pub up-fits : (h .first + d < size) × (h .last + d < size)
-  up-fits = go (cleared-ends c eh small) (split (h .last + d) size)
+  up-fits = go (sound-ends (c .sound) eh (c .some) small) (split (h .last + d) size)
     where
       go : Ends (heldBy u) (h .first) (h .last) → (h .last + d < size) ⊎ (size ≤ h .last + d) → (h .first + d < size) × (h .last + d < size)
       go en (inl l) = (omega arith, l)
@@ -243,7 +233,7 @@ module _ {w u : List ℕ} {h : Header} {d : ℕ} (c : Cleared w u (size - d) d (
       let top : (y : ℕ) → size - d ≤ y → y < size → heldBy u y ≡ false = λ y l k. c .none y l (omega arith) in
       let a : (x : ℕ) → x < size → turned o Q x ≡ shiftLeft d (heldBy u) x =
       rw (eo, e) (shifted-left (h .offset) d Q small far fits (rw e at top)) in
-      let en = cleared-ends c eh small in
+      let en = sound-ends (c .sound) eh (c .some) small in
       let xs : h .first < size = omega (arith, en .order, en .small) in
       moves-settled w u v h (size - d) d o (shiftLeft d) (λ y. y + d) c eh
       (record {
@@ -257,7 +247,7 @@ module _ {w u : List ℕ} {h : Header} {d : ℕ} (c : Cleared w u (size - d) d (
 module _ {w u : List ℕ} {h : Header} {d : ℕ} (c : Cleared w u 0 d (shiftRight d)) (eh : h ≡ headerAt u) (small : h .offset < size) (fits : d < size) where
   -- no position passes 0
   pub down-fits : (d ≤ h .first) × (d ≤ h .last)
-  down-fits = go (cleared-ends c eh small) (split (h .first) d)
+  down-fits = go (sound-ends (c .sound) eh (c .some) small) (split (h .first) d)
     where
       go : Ends (heldBy u) (h .first) (h .last) → (h .first < d) ⊎ (d ≤ h .first) → (d ≤ h .first) × (d ≤ h .last)
       go en (inl l) = clash (en .first) (c .none (h .first) (omega arith) (omega arith))
@@ -273,7 +263,7 @@ module _ {w u : List ℕ} {h : Header} {d : ℕ} (c : Cleared w u 0 d (shiftRigh
       let eo′ : o ≡ physicalOf (h .offset) d = omega arith in
       let a : (x : ℕ) → x < size → turned o Q x ≡ shiftRight d (heldBy u) x =
       rw (eo′, e) (shifted-right (h .offset) d Q small far fits (rw e at bottom)) in
-      let en = cleared-ends c eh small in
+      let en = sound-ends (c .sound) eh (c .some) small in
       let xs : h .first < size = omega (arith, en .order, en .small) in
       moves-settled w u v h 0 d o (shiftRight d) (λ y. y - d) c eh
       (record {
@@ -283,7 +273,11 @@ module _ {w u : List ℕ} {h : Header} {d : ℕ} (c : Cleared w u 0 d (shiftRigh
         last-by = right-last d (heldBy u) (turned o Q) fits bottom a (h .first) xs (en .first);
       }) hd
 
--- ---- nothing to move, or not at all
+-- ---- whether to move
+-- a store with a root, by some distance
+pub shiftable : {w : List ℕ} {h : Header} {d : ℕ} → Sound w → h ≡ headerAt w → (h .root ≡ 0 → ⊥) → (d ≡ 0 → ⊥) → Shiftable w d
+shiftable s eh nz far = record { sound = s; some = λ z. nz (ap (λ (x : Header). x .root) eh ∙ z); far = omega arith }
+
 -- the store stays if its positions do
 stays : {w : List ℕ} (R : Positions) → Sound w → ((x : ℕ) → x < size → heldBy w x ≡ R x) → Settled w w R
 stays R s f = record { sound = s; holds = f; long = refl }

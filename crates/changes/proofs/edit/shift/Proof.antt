@@ -1,10 +1,7 @@
 -- `shift` meets its contract: with no root or no distance nothing moves; else it moves up or down.
 -- Assumes nothing.
-use mathlib.Core.Path.{_∙_, sym, ap}
-use native.Mathlib.Omega.{arith}
-use Rattle.store.specs.declared.Header.{Header}
 use Rattle.store.proofs.Opening.{sound-room}
-use Rattle.changes.proofs.Shifting.{none-settled, still-settled, left-settled, right-settled}
+use Rattle.changes.proofs.Shifting.{shiftable, none-settled, still-settled, left-settled, right-settled}
 use borrow.Author.Needs.{needs}
 use Rattle.changes.proofs.edit.shift.Statement.{statement}
 use Rattle.changes.proofs.edit.shift.Tie as tie
@@ -25,10 +22,10 @@ returns-2 : tie.Need-returns-2
 returns-2 c = still-settled _ (c .before .before .before .before .before .pre) (c .if2 .taken)
 
 shift-up-requires : tie.Need-shift-up-requires
-shift-up-requires c κs = record { sound = c .before .before .before .before .before .before .before .pre; some = λ z. c .before .before .before .if1 .left (ap (λ (x : Header). x .root) (c .before .before .before .before .read-header .ensures) ∙ z); far = omega (arith, c .before .before .if2 .left) }
+shift-up-requires c κs = shiftable (c .before .before .before .before .before .before .before .pre) (c .before .before .before .before .read-header .ensures) (c .before .before .before .if1 .left) (c .before .before .if2 .left)
 
 shift-down-requires : tie.Need-shift-down-requires
-shift-down-requires c κs = record { sound = c .before .before .before .before .before .before .before .pre; some = λ z. c .before .before .before .if1 .left (ap (λ (x : Header). x .root) (c .before .before .before .before .read-header .ensures) ∙ z); far = omega (arith, c .before .before .if2 .left) }
+shift-down-requires c κs = shiftable (c .before .before .before .before .before .before .before .pre) (c .before .before .before .before .read-header .ensures) (c .before .before .before .if1 .left) (c .before .before .if2 .left)
 
 same-length-3 : tie.Need-same-length-3
 same-length-3 c = search needs

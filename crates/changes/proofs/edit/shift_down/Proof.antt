@@ -1,20 +1,24 @@
 -- `shift_down` meets its contract: what would leave below 0 is cleared, or all is; then the offset moves the rest.
 -- Assumes nothing.
-use mathlib.Core.Path.{_∙_, sym}
+use mathlib.Core.Path.{_∙_}
 use mathlib.Core.Logic.{⊎-elim}
 use native.Mathlib.Omega.{arith}
 use Rattle.model.specs.Positions.{shiftRight}
 use Rattle.store.proofs.Opening.{sound-room}
-use Rattle.changes.proofs.Shifting.{Cleared, shiftable-ends, down-empty, down-clearable, down-uncleared, down-cleared, down-fits, down-settled}
+use Rattle.changes.proofs.Shifting.{Cleared, sound-ends, down-empty, down-clearable, down-uncleared, down-cleared, down-fits, down-settled}
 use borrow.Author.Needs.{needs}
 use Rattle.changes.proofs.edit.shift_down.Statement.{statement}
 use Rattle.changes.proofs.edit.shift_down.Tie as tie
 
 -- what would leave is cleared
-cleared : (c : tie.Joined2) → Cleared (c .before .before .before .before .before .before .before .args .words .now) (c .if2 .words) (0) (c .before .before .before .before .before .before .before .args .d) (shiftRight (c .before .before .before .before .before .before .before .args .d))
+cleared : (c : tie.Joined2) → Cleared (c .before .before .before .before .before .before .before .args .words .now) (c .if2 .words) 0 (c .before .before .before .before .before .before .before .args .d) (shiftRight (c .before .before .before .before .before .before .before .args .d))
 cleared c =
-    let en = shiftable-ends (c .before .before .before .before .before .before .before .pre) (c .before .before .before .before .read-header .ensures) (omega (arith, c .before .before .before .before .read-header .ok)) in
-    ⊎-elim (λ x. down-cleared (c .before .before .before .before .before .before .before .pre) en (omega (arith, c .before .before .before .before .before .before .before .fits .d)) _ _ (c .before .before .if1 .left) (omega (arith, c .before .before .before .before .before .before .before .pre .far)) (x .2 .ensures) (x .5)) (λ x. down-uncleared (c .before .before .before .before .before .before .before .pre) en (omega (arith, c .before .before .before .before .before .before .before .fits .d)) (x .0 .left) (x .1)) (c .if2 .came)
+    let r = c .before .before .before .before .before .before .before in
+    let en = sound-ends (r .pre .sound) (c .before .before .before .before .read-header .ensures) (r .pre .some) (omega (arith, c .before .before .before .before .read-header .ok)) in
+    ⊎-elim
+    (λ x. down-cleared (r .pre) en (omega (arith, r .fits .d)) _ _ (c .before .before .if1 .left) (omega (arith, r .pre .far)) (x .2 .ensures) (x .5))
+    (λ x. down-uncleared (r .pre) en (omega (arith, r .fits .d)) (x .0 .left) (x .1))
+    (c .if2 .came)
 
 read-header-requires : tie.Need-read-header-requires
 read-header-requires c κs = sound-room (c .before .before .pre .sound)
@@ -26,7 +30,7 @@ same-length : tie.Need-same-length
 same-length c = search needs
 
 returns : tie.Need-returns
-returns c = down-empty _ (shiftable-ends (c .before .before .before .before .before .before .before .before .before .pre) (c .before .before .before .before .before .before .read-header .ensures) (omega (arith, c .before .before .before .before .before .before .read-header .ok))) (c .before .before .before .before .if1 .taken) (c .before .before .make .ensures)
+returns c = down-empty _ (sound-ends (c .before .before .before .before .before .before .before .before .before .pre .sound) (c .before .before .before .before .before .before .read-header .ensures) (c .before .before .before .before .before .before .before .before .before .pre .some) (omega (arith, c .before .before .before .before .before .before .read-header .ok))) (c .before .before .before .before .if1 .taken) (c .before .before .make .ensures)
 
 sub-t15 : tie.Need-sub-t15
 sub-t15 c = search needs

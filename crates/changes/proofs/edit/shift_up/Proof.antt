@@ -1,13 +1,13 @@
 -- `shift_up` meets its contract: what would leave above M is cleared, or all is; then the offset moves the rest.
 -- Assumes nothing.
 use Prim.Native.Nat.{_-_}
-use mathlib.Core.Path.{_∙_, sym}
+use mathlib.Core.Path.{_∙_}
 use mathlib.Core.Logic.{⊎-elim}
 use native.Mathlib.Omega.{arith}
 use Rattle.model.specs.Numbers.{size}
 use Rattle.model.specs.Positions.{shiftLeft}
 use Rattle.store.proofs.Opening.{sound-room}
-use Rattle.changes.proofs.Shifting.{Cleared, shiftable-ends, up-empty, up-clearable, up-uncleared, up-cleared, up-fits, up-settled}
+use Rattle.changes.proofs.Shifting.{Cleared, sound-ends, up-empty, up-clearable, up-uncleared, up-cleared, up-fits, up-settled}
 use borrow.Author.Needs.{needs}
 use Rattle.changes.proofs.edit.shift_up.Statement.{statement}
 use Rattle.changes.proofs.edit.shift_up.Tie as tie
@@ -15,8 +15,12 @@ use Rattle.changes.proofs.edit.shift_up.Tie as tie
 -- what would leave is cleared
 cleared : (c : tie.Joined2) → Cleared (c .before .before .before .before .before .before .before .args .words .now) (c .if2 .words) (size - c .before .before .before .before .before .before .before .args .d) (c .before .before .before .before .before .before .before .args .d) (shiftLeft (c .before .before .before .before .before .before .before .args .d))
 cleared c =
-    let en = shiftable-ends (c .before .before .before .before .before .before .before .pre) (c .before .before .before .before .read-header .ensures) (omega (arith, c .before .before .before .before .read-header .ok)) in
-    ⊎-elim (λ x. up-cleared (c .before .before .before .before .before .before .before .pre) en (omega (arith, c .before .before .before .before .before .before .before .fits .d)) _ _ _ (omega (arith, c .before .before .if1 .left)) (omega arith) (omega (arith, c .before .before .before .before .before .before .before .fits .d)) (x .2 .ensures) (x .5)) (λ x. up-uncleared (c .before .before .before .before .before .before .before .pre) en (omega (arith, c .before .before .before .before .before .before .before .fits .d)) (omega (arith, x .0 .left)) (x .1)) (c .if2 .came)
+    let r = c .before .before .before .before .before .before .before in
+    let en = sound-ends (r .pre .sound) (c .before .before .before .before .read-header .ensures) (r .pre .some) (omega (arith, c .before .before .before .before .read-header .ok)) in
+    ⊎-elim
+    (λ x. up-cleared (r .pre) en (omega (arith, r .fits .d)) _ _ _ (omega (arith, c .before .before .if1 .left)) (omega arith) (omega (arith, r .fits .d)) (x .2 .ensures) (x .5))
+    (λ x. up-uncleared (r .pre) en (omega (arith, r .fits .d)) (omega (arith, x .0 .left)) (x .1))
+    (c .if2 .came)
 
 sub-top : tie.Need-sub-top
 sub-top c = search needs
@@ -31,7 +35,7 @@ same-length : tie.Need-same-length
 same-length c = search needs
 
 returns : tie.Need-returns
-returns c = up-empty _ (shiftable-ends (c .before .before .before .before .before .before .before .before .before .pre) (c .before .before .before .before .before .before .read-header .ensures) (omega (arith, c .before .before .before .before .before .before .read-header .ok))) (omega (arith, c .before .before .before .before .if1 .taken)) (c .before .before .make .ensures)
+returns c = up-empty _ (sound-ends (c .before .before .before .before .before .before .before .before .before .pre .sound) (c .before .before .before .before .before .before .read-header .ensures) (c .before .before .before .before .before .before .before .before .before .pre .some) (omega (arith, c .before .before .before .before .before .before .read-header .ok))) (omega (arith, c .before .before .before .before .if1 .taken)) (c .before .before .make .ensures)
 
 add-t15 : tie.Need-add-t15
 add-t15 c = search needs
