@@ -9,3 +9,4 @@ pub mod Trimming
 pub mod Setting
 pub mod Fitting
 pub mod Flipping
+pub mod Shifting

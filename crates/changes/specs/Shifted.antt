@@ -1,4 +1,4 @@
--- A shift that drops nothing is a turn by the distance, so a store shifts by changing its offset. What it drops may be cleared first.
+-- A shift that drops nothing is a turn by the distance, so a store shifts by changing its offset. What it drops, it does not look at.
 -- The runs of what is left are moved by the distance: as many, the first and the last position too. Assumes nothing.
 use Prim.Native.Nat.{ℕ, _+_, _-_, _*_, _/_, _%_, _≤_, _<_}
 use mathlib.Core.Path.{_≡_, refl, sym, ap, _∙_}
@@ -11,11 +11,10 @@ use lib.ListN.{length}
 use borrow.Author.Tests.{le-leb, lt-leb, lt-ltb, le-ltb}
 use Rattle.model.specs.declared.Run.{Run}
 use Rattle.model.specs.Numbers.{size, split, physicalOf, logicalOf}
-use Rattle.model.specs.Positions.{Positions, among, runsIn, heldRuns, stretches, lastAfter, setRange, shiftLeft, shiftRight, mem}
+use Rattle.model.specs.Positions.{Positions, among, runsIn, heldRuns, stretches, lastAfter, shiftLeft, shiftRight, mem}
 use Rattle.model.specs.Positions.Laws.{among-yes, among-below, among-above}
 use Rattle.model.specs.Positions.Runs.{runsIn-canon, runsIn-mem, heldRuns-is, mem-heldRuns}
 use Rattle.model.specs.RunList.{canon-weaken}
-use Rattle.model.specs.After.{set-below, set-above}
 use Rattle.store.specs.Layout.{turned}
 use Rattle.store.specs.Soundness.{firstOf, lastOf}
 use Rattle.store.specs.Ends.{clash, empty-mem}
@@ -24,7 +23,7 @@ use Rattle.store.specs.Turn.{turned-at}
 
 -- ---- what a shift puts at x
 -- up: what was d below it
-left-at : (d : ℕ) (P : Positions) (x : ℕ) → d ≤ x → shiftLeft d P x ≡ P (x - d)
+pub left-at : (d : ℕ) (P : Positions) (x : ℕ) → d ≤ x → shiftLeft d P x ≡ P (x - d)
 unfolding shiftLeft
 left-at d P x h = ap (λ t. t && P (x - d)) (le-leb d x h)
 
@@ -34,7 +33,7 @@ unfolding shiftLeft
 left-under d P x h = ap (λ t. t && P (x - d)) (lt-leb d x h)
 
 -- down: what was d above it
-right-at : (d : ℕ) (P : Positions) (x : ℕ) → x + d < size → shiftRight d P x ≡ P (x + d)
+pub right-at : (d : ℕ) (P : Positions) (x : ℕ) → x + d < size → shiftRight d P x ≡ P (x + d)
 unfolding shiftRight
 right-at d P x h = ap (λ t. t && P (x + d)) (lt-ltb (x + d) size h)
 
@@ -45,7 +44,7 @@ right-over d P x h = ap (λ t. t && P (x + d)) (le-ltb (x + d) size h)
 
 -- ---- a shift looks only at what it does not drop
 -- up
-left-cong : (d : ℕ) (P R : Positions) → ((y : ℕ) → y + d < size → P y ≡ R y) → (x : ℕ) → x < size → shiftLeft d P x ≡ shiftLeft d R x
+pub left-cong : (d : ℕ) (P R : Positions) → ((y : ℕ) → y + d < size → P y ≡ R y) → (x : ℕ) → x < size → shiftLeft d P x ≡ shiftLeft d R x
 left-cong d P R f x h = go (split x d)
   where
     go : (x < d) ⊎ (d ≤ x) → shiftLeft d P x ≡ shiftLeft d R x
@@ -53,22 +52,14 @@ left-cong d P R f x h = go (split x d)
     go (inr l) = left-at d P x l ∙ f (x - d) (omega arith) ∙ sym (left-at d R x l)
 
 -- down
-right-cong : (d : ℕ) (P R : Positions) → ((y : ℕ) → d ≤ y → y < size → P y ≡ R y) → (x : ℕ) → shiftRight d P x ≡ shiftRight d R x
+pub right-cong : (d : ℕ) (P R : Positions) → ((y : ℕ) → d ≤ y → y < size → P y ≡ R y) → (x : ℕ) → shiftRight d P x ≡ shiftRight d R x
 right-cong d P R f x = go (split (x + d) size)
   where
     go : (x + d < size) ⊎ (size ≤ x + d) → shiftRight d P x ≡ shiftRight d R x
     go (inl l) = right-at d P x l ∙ f (x + d) (omega arith) l ∙ sym (right-at d R x l)
     go (inr l) = right-over d P x l ∙ sym (right-over d R x l)
 
--- so what it drops may be cleared first: up
-pub left-cleared : (d : ℕ) (P : Positions) → d ≤ size → (x : ℕ) → x < size → shiftLeft d (setRange (size - d) d false P) x ≡ shiftLeft d P x
-left-cleared d P k = left-cong d (setRange (size - d) d false P) P (λ y l. set-below (size - d) d false P y (omega arith))
-
--- down
-pub right-cleared : (d : ℕ) (P : Positions) (x : ℕ) → shiftRight d (setRange 0 d false P) x ≡ shiftRight d P x
-right-cleared d P = right-cong d (setRange 0 d false P) P (λ y l _. set-above 0 d false P y (omega arith))
-
--- and where it drops all that is held, nothing is left: up
+-- so where it drops all that is held, nothing is left: up
 pub left-nothing : (d : ℕ) (P : Positions) → ((y : ℕ) → y + d < size → P y ≡ false) → (x : ℕ) → x < size → shiftLeft d P x ≡ false
 unfolding shiftLeft
 left-nothing d P f x h = left-cong d P (λ y. false) f x h ∙ and-false (leb d x)

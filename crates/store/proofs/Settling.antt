@@ -63,7 +63,7 @@ agreed w t ns k a =
     }
 
 -- writing a header that keeps root and free head, and agrees
-settled : (w w′ : List ℕ) (t : Tree) (ns : List ℕ) (k : Header) (P : Positions) → Kept w t ns → Headed w w′ k
+pub settled : (w w′ : List ℕ) (t : Tree) (ns : List ℕ) (k : Header) (P : Positions) → Kept w t ns → Headed w w′ k
     → k .root ≡ (headerAt w) .root → k .free ≡ (headerAt w) .free → k .spare ≡ 0 → Agrees k t (capacity w)
     → ((x : ℕ) → x < size → turned (k .offset) (mem (inorder t)) x ≡ P x) → Settled w w′ P
 settled w w′ t ns k P kp hd er ef es a same =
