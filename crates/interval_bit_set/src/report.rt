@@ -1,6 +1,7 @@
 // The calls that report, and leave the store as it is.
 ghost use mathlib.Core.Path.{_≡_};
 ghost use mathlib.Core.Bool.{not};
+ghost use Rattle.model.specs.Positions.{ended};
 ghost use Rattle.model.specs.Refusals.{badWindow};
 ghost use Rattle.model.specs.Call.{Call};
 ghost use Rattle.model.specs.Answers.{countedAnswer, numberedAnswer, testedAnswer, aroundAnswer, foundAnswer, listedAnswer, drawnAnswer};
@@ -167,8 +168,8 @@ pub fn ranges(words: &[u64], lower: Bound, upper: Bound, value: bool) -> Listed
 }
 
 // A listing with nothing left.
-fn ended(value: bool) -> Listing
-    ensures { λ r. ⌜ r ≡ Rattle.model.specs.Positions.ended value ⌝ }
+fn finished(value: bool) -> Listing
+    ensures { λ r. ⌜ r ≡ ended value ⌝ }
 {
     Listing {
         first: 1,
@@ -189,7 +190,7 @@ pub fn draw_front(words: &[u64], l: Listing) -> Drawn
             let last = l.last;
             let value = l.value;
             if last < first {
-                return Drawn::End(ended(value));
+                return Drawn::End(finished(value));
             }
             let n = reports::runs::first_run(words, Logical(first), Logical(last), value);
             match n {
@@ -205,9 +206,9 @@ pub fn draw_front(words: &[u64], l: Listing) -> Drawn
                             },
                         );
                     }
-                    Drawn::Run(r, ended(value))
+                    Drawn::Run(r, finished(value))
                 }
-                Near::None => Drawn::End(ended(value)),
+                Near::None => Drawn::End(finished(value)),
             }
         }
     }
@@ -225,7 +226,7 @@ pub fn draw_back(words: &[u64], l: Listing) -> Drawn
             let last = l.last;
             let value = l.value;
             if last < first {
-                return Drawn::End(ended(value));
+                return Drawn::End(finished(value));
             }
             let n = reports::runs::last_run(words, Logical(first), Logical(last), value);
             match n {
@@ -241,9 +242,9 @@ pub fn draw_back(words: &[u64], l: Listing) -> Drawn
                             },
                         );
                     }
-                    Drawn::Run(r, ended(value))
+                    Drawn::Run(r, finished(value))
                 }
-                Near::None => Drawn::End(ended(value)),
+                Near::None => Drawn::End(finished(value)),
             }
         }
     }
