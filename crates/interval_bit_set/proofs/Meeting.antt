@@ -1,13 +1,12 @@
 -- A call meets its contract: what the model is fed of words that were looked at, and what a reporting call and `new` then answer.
 -- Each is the model's own definitions, at the words' capacity and soundness. Assumes nothing.
-use Prim.Native.Nat.{ℕ, _≤_, _<_}
+use Prim.Native.Nat.{ℕ, _≤_}
 use mathlib.Core.Path.{_≡_, refl, sym, ap, ap₂, _∙_, subst}
 use mathlib.Core.Bool.{Bool, true, false, cond, and-false}
 use mathlib.Core.List.{List, [], _∷_}
-use mathlib.Core.Option.{Option, none, some}
+use mathlib.Core.Option.{none, some}
 use native.Mathlib.Omega.{arith}
 use lib.Dec.{ltb}
-use lib.ListN.{length}
 use borrow.Author.Tests.{eq-eqb, ne-eqb, le-ltb}
 use Rattle.model.specs.declared.Bound.{Bound}
 use Rattle.model.specs.declared.Listing.{Listing}
@@ -43,6 +42,7 @@ unfolding fedOf
 fed-by w t h e =
     ap₂ (λ z s. cond z wrongLength (cond s (holding (heldBy w)) unsound)) (ne-eqb (capacity w) 0 (λ z. omega arith)) e
 
+-- those that the test finds unsound
 pub fed-unsound : (w : List ℕ) → 1 ≤ capacity w → soundB w ≡ false → fedOf w ≡ unsound
 fed-unsound w h e = fed-by w false h e
 
@@ -55,7 +55,7 @@ pub readable : (w : List ℕ) → 1 ≤ capacity w → soundB w ≡ true → Rea
 readable w h e = fed-sound w (soundB-yes w h e)
 
 -- words of a store's length do not earn refusal 1
-fed-sized : (w : List ℕ) → 1 ≤ capacity w → earnsLength (fedOf w) ≡ false
+pub fed-sized : (w : List ℕ) → 1 ≤ capacity w → earnsLength (fedOf w) ≡ false
 fed-sized w h = ap earnsLength (fed-by w (soundB w) h refl) ∙ go (soundB w)
   where
     go : (t : Bool) → earnsLength (cond t (holding (heldBy w)) unsound) ≡ false
@@ -66,8 +66,9 @@ fed-sized w h = ap earnsLength (fed-by w (soundB w) h refl) ∙ go (soundB w)
 pub looked-sound : {w : List ℕ} (l : Look) → Looked w l → l ≡ Look.Sound → Readable w
 looked-sound {w} l k e = subst (λ m. Looked w m) e k
 
--- ---- the contract, from the outcome
-met-by : {w w′ : List ℕ} {c : Call (List ℕ)} (o : Outcome) → outcomeOf w c ≡ o → Leaves w w′ (o .positions) (o .answer) → Met w c (o .answer) w′
+-- ---- the contract
+-- it holds of an outcome whose positions are left
+pub met-by : {w w′ : List ℕ} {c : Call (List ℕ)} (o : Outcome) → outcomeOf w c ≡ o → Leaves w w′ (o .positions) (o .answer) → Met w c (o .answer) w′
 met-by {w} {w′} o e l = record {
   answered = sym (ap (λ p. p .answer) e);
   left = subst (λ p. Leaves w w′ (p .positions) (o .answer)) (sym e) l;
@@ -86,7 +87,7 @@ Plain (drawn o l) = Unit {0}
 Plain (written n bs) = Unit {0}
 
 -- after it the store holds the outcome's positions
-leaves : {w w′ : List ℕ} {P : Positions} (a : Answer) → Plain a → Holds w w′ P → Leaves w w′ P a
+pub leaves : {w w′ : List ℕ} {P : Positions} (a : Answer) → Plain a → Holds w w′ P → Leaves w w′ P a
 leaves (refused n) p h = absurd p
 leaves done p h = h
 leaves (number n) p h = h
@@ -119,6 +120,7 @@ module _ {w : List ℕ} {c : Call (List ℕ)} {cs : List Condition} {A : Positio
   earned Window h g = absurd h
   earned Capacity h g = absurd h
 
+  -- so does one that looking refuses
   pub turned-away : {r : Refusal} (l : Look) → Looked w l → l ≡ Look.Refused r → given storeLength cs ≡ false → Met w c (refused (refusalNumber r)) w
   turned-away {r} l k e g = earned r (subst (λ m. Looked w m) e k) g
 
@@ -134,44 +136,54 @@ module _ {w : List ℕ} {c : Call (List ℕ)} {cs : List Condition} {A : Positio
       subst (λ b. Met w c b w) (sym f) (met-by (record { answer = A (heldBy w); positions = heldBy w }) (fed-as (holding (heldBy w)) (R .fed) ∙ rw e) (leaves
       (A (heldBy w)) p (record { sound = R .sound; positions = λ x h. refl; long = refl })))
 
--- which calls report, and what
+-- which calls report, and what:
 module _ (w : List ℕ) where
+  -- the value of a position
   pub get-says : (x : ℕ) → Reports w (Call.get x) [] (λ P. value (P x))
   unfolding outcomeOf serve
   get-says x = record { said = refl }
 
+  -- the run around a position
   pub run-at-says : (x : ℕ) → Reports w (Call.runAt x) [] (λ P. around (Positions.runAt P x))
   unfolding outcomeOf serve
   run-at-says x = record { said = refl }
 
+  -- the least position of a range
   pub find-says : (l u : Bound) (v : Bool) → Reports w (Call.find l u v) [] (λ P. position (Positions.find P v (firstAllowed l) (extent l u)))
   unfolding outcomeOf serve
   find-says l u v = record { said = refl }
 
+  -- how many positions a range has
   pub count-says : (l u : Bound) (v : Bool) → Reports w (Call.count l u v) [] (λ P. number (Positions.count P v (firstAllowed l) (extent l u)))
   unfolding outcomeOf serve
   count-says l u v = record { said = refl }
 
+  -- the k-th position of a range
   pub select-says : (l u : Bound) (v : Bool) (k : ℕ) → Reports w (Call.select l u v k) [] (λ P. position (Positions.select P v (firstAllowed l) (extent l u) k))
   unfolding outcomeOf serve
   select-says l u v k = record { said = refl }
 
+  -- how many runs a range has
   pub count-ranges-says : (l u : Bound) (v : Bool) → Reports w (Call.countRanges l u v) [] (λ P. number (Positions.countRanges P v (firstAllowed l) (extent l u)))
   unfolding outcomeOf serve
   count-ranges-says l u v = record { said = refl }
 
+  -- a listing of a range
   pub ranges-says : (l u : Bound) (v : Bool) → Reports w (Call.ranges l u v) [] (λ P. listing (listed (firstAllowed l) (extent l u) v))
   unfolding outcomeOf serve
   ranges-says l u v = record { said = refl }
 
+  -- the first run left in a listing
   pub draw-front-says : (l : Listing) → Reports w (Call.drawFront l) [] (λ P. drawn (firstRun (remaining P l)) (pastFirst l (firstRun (remaining P l))))
   unfolding outcomeOf serve drawnFirst
   draw-front-says l = record { said = refl }
 
+  -- the last run left in a listing
   pub draw-back-says : (l : Listing) → Reports w (Call.drawBack l) [] (λ P. drawn (lastRun (remaining P l)) (pastLast l (lastRun (remaining P l))))
   unfolding outcomeOf serve drawnLast
   draw-back-says l = record { said = refl }
 
+  -- how full a window is
   pub fill-says : (base n : ℕ) → Reports w (Call.fill base n) (window when badWindow base n ∷ []) (λ P. number (fillOf P base n))
   unfolding outcomeOf serve
   fill-says base n = record { said = refl }

@@ -11,7 +11,6 @@ use borrow.Author.Tests.{ltb-true, ltb-false}
 use Rattle.model.specs.declared.Bound.{Bound}
 use Rattle.model.specs.declared.Edge.{Edge}
 use Rattle.model.specs.declared.Edge.the-variants.{At, Nowhere}
-use Rattle.model.specs.declared.Listing.{Listing}
 use Rattle.model.specs.declared.Span.{Span}
 use Rattle.model.specs.declared.Span.the-variants.{Empty, Closed}
 use Rattle.model.specs.Range.{firstAllowed, pastAllowed, extent, spanOf}
@@ -51,13 +50,14 @@ module _ (l u : Bound) where
           record { first = f; many = omega arith; order = omega arith }
       go false p q = let z : _≡_ {A = ℕ} 0 1 = cc in absurd (omega arith)
 
+module _ {l u : Bound} {a b : ℕ} (W : Within l u a b) where
   -- what is told of the positions from a to b is told of the range
-  pub of-range : {T : Type 0} {a b : ℕ} (F : ℕ → ℕ → T) → Within l u a b → F a (suc b - a) ≡ F (firstAllowed l) (extent l u)
-  of-range F W = ap₂ F (sym (W .first)) (sym (W .many))
+  pub of-range : {T : Type 0} {t : T} (F : ℕ → ℕ → T) → t ≡ F a (suc b - a) → t ≡ F (firstAllowed l) (extent l u)
+  of-range F e = e ∙ ap₂ F (sym (W .first)) (sym (W .many))
 
   -- the listing of the positions from a to b
-  pub listed-some : {a b : ℕ} (v : Bool) → Within l u a b → record { first = a; last = b; value = v } ≡ listed (firstAllowed l) (extent l u) v
-  listed-some {a} {b} v W =
+  pub listed-some : (v : Bool) → record { first = a; last = b; value = v } ≡ listed (firstAllowed l) (extent l u) v
+  listed-some v =
       let e : a + (b - a) ≡ b = omega (arith, W .order) in
       let f : extent l u ≡ suc (b - a) = W .many ∙ omega (arith, W .order) in
       sym (ap₂ (λ x n. listed x n v) (W .first) f ∙ ap (λ z. record { first = a; last = z; value = v }) e)
@@ -68,15 +68,19 @@ module _ (P : Positions) (v : Bool) (a n : ℕ) (e : n ≡ 0) where
   nothing : (y : ℕ) → a ≤ y → y < a + n → P y ≡ not v
   nothing y h k = absurd (omega arith)
 
+  -- no least position
   pub find-nothing : none ≡ find P v a n
   find-nothing = sym (find-none P v a n nothing)
 
+  -- a count of 0
   pub count-nothing : 0 ≡ count P v a n
   count-nothing = sym (count-none P v a n nothing)
 
+  -- no k-th position
   pub select-nothing : (k : ℕ) → none ≡ select P v a n k
   select-nothing k = sym (select-none P v a n k (omega (arith, count-nothing)))
 
+  -- no run
   pub ranges-nothing : 0 ≡ countRanges P v a n
   unfolding countRanges
   ranges-nothing = sym (ap length (runsIn-none P v a n nothing))
@@ -85,7 +89,8 @@ module _ (P : Positions) (v : Bool) (a n : ℕ) (e : n ≡ 0) where
 pub listed-nothing : (a n : ℕ) (v : Bool) → n ≡ 0 → ended v ≡ listed a n v
 listed-nothing a n v e = sym (ap (λ k. listed a k v) e)
 
--- ---- a position that was searched for, as an answer
+-- ---- a position that was searched for
+-- its answer is the position or none
 pub found-as : {a : Answer} {p : Option ℕ} (e : Edge) → a ≡ foundEdge e → edgePosition e ≡ p → a ≡ position p
 found-as (At x) h k = h ∙ ap position k
 found-as Nowhere h k = h ∙ ap position k

@@ -1,6 +1,6 @@
 -- `count` meets its contract: the tally from the range's first position to its last, 0 of an empty range.
 -- Assumes nothing.
-use mathlib.Core.Path.{refl, ap, _∙_}
+use mathlib.Core.Path.{refl, ap}
 use Rattle.model.specs.Positions.{count}
 use Rattle.interval_bit_set.proofs.Spans.{span-none, span-some, of-range, count-nothing}
 use Rattle.model.specs.Call.{number}
@@ -34,10 +34,10 @@ returns : tie.Need-returns
 returns c = turned-away (count-says _ _ _ _) _ (c .before .before .before .look-at .ensures) (c .before .l .given .1) refl
 
 returns-2 : tie.Need-returns-2
-returns-2 c = met (count-says _ _ _ _) (looked-sound _ (c .before .before .before .before .before .look-at .ensures) (c .before .before .before .enum-told .given .1)) refl tt (ap number (count-nothing _ _ _ _ (span-none (c .before .before .before .before .before .before .before .args .lower) (c .before .before .before .before .before .before .before .args .upper) _ (c .before .before .normalize .ensures) (c .enum-told2 .given .1))))
+returns-2 c = let R = looked-sound _ (c .before .before .before .before .before .look-at .ensures) (c .before .before .before .enum-told .given .1) in let e = span-none (c .before .before .before .before .before .before .before .args .lower) (c .before .before .before .before .before .before .before .args .upper) _ (c .before .before .normalize .ensures) (c .enum-told2 .given .1) in met (count-says _ _ _ _) R refl tt (ap number (count-nothing _ _ _ _ e))
 
 returns-3 : tie.Need-returns-3
-returns-3 c = met (count-says _ _ _ _) (looked-sound _ (c .before .before .before .before .before .before .before .before .look-at .ensures) (c .before .before .before .before .before .before .enum-told .given .1)) refl tt (ap number (c .before .tally .ensures .count-is ∙ of-range _ _ (count _ _) (span-some (c .before .before .before .before .before .before .before .before .before .before .args .lower) (c .before .before .before .before .before .before .before .before .before .before .args .upper) _ (c .before .before .before .before .before .normalize .ensures) (c .before .before .before .s .given .1))))
+returns-3 c = let R = looked-sound _ (c .before .before .before .before .before .before .before .before .look-at .ensures) (c .before .before .before .before .before .before .enum-told .given .1) in let W = span-some (c .before .before .before .before .before .before .before .before .before .before .args .lower) (c .before .before .before .before .before .before .before .before .before .before .args .upper) _ (c .before .before .before .before .before .normalize .ensures) (c .before .before .before .s .given .1) in met (count-says _ _ _ _) R refl tt (ap number (of-range W (count _ _) (c .before .tally .ensures .count-is)))
 
 pub count-spec : {M : Type 1} → statement M
 count-spec =

@@ -1,6 +1,6 @@
 -- `find` meets its contract: the least position from the range's first to its last, none in an empty range.
 -- Assumes nothing.
-use mathlib.Core.Path.{refl, ap, _∙_}
+use mathlib.Core.Path.{refl, ap}
 use Rattle.model.specs.Positions.{find}
 use Rattle.interval_bit_set.proofs.Spans.{span-none, span-some, of-range, find-nothing, found-as}
 use Rattle.model.specs.Call.{position}
@@ -37,10 +37,10 @@ returns : tie.Need-returns
 returns c = turned-away (find-says _ _ _ _) _ (c .before .before .before .look-at .ensures) (c .before .l .given .1) refl
 
 returns-2 : tie.Need-returns-2
-returns-2 c = met (find-says _ _ _ _) (looked-sound _ (c .before .before .before .before .before .look-at .ensures) (c .before .before .before .enum-told .given .1)) refl tt (ap position (find-nothing _ _ _ _ (span-none (c .before .before .before .before .before .before .before .args .lower) (c .before .before .before .before .before .before .before .args .upper) _ (c .before .before .normalize .ensures) (c .enum-told2 .given .1))))
+returns-2 c = let R = looked-sound _ (c .before .before .before .before .before .look-at .ensures) (c .before .before .before .enum-told .given .1) in let e = span-none (c .before .before .before .before .before .before .before .args .lower) (c .before .before .before .before .before .before .before .args .upper) _ (c .before .before .normalize .ensures) (c .enum-told2 .given .1) in met (find-says _ _ _ _) R refl tt (ap position (find-nothing _ _ _ _ e))
 
 returns-3 : tie.Need-returns-3
-returns-3 c = met (find-says _ _ _ _) (looked-sound _ (c .before .before .before .before .before .before .before .before .look-at .ensures) (c .before .before .before .before .before .before .enum-told .given .1)) refl tt (found-as (c .before .find-in .result) (c .found .ensures) (c .before .find-in .ensures ∙ of-range _ _ (find _ _) (span-some (c .before .before .before .before .before .before .before .before .before .before .args .lower) (c .before .before .before .before .before .before .before .before .before .before .args .upper) _ (c .before .before .before .before .before .normalize .ensures) (c .before .before .before .s .given .1))))
+returns-3 c = let R = looked-sound _ (c .before .before .before .before .before .before .before .before .look-at .ensures) (c .before .before .before .before .before .before .enum-told .given .1) in let W = span-some (c .before .before .before .before .before .before .before .before .before .before .args .lower) (c .before .before .before .before .before .before .before .before .before .before .args .upper) _ (c .before .before .before .before .before .normalize .ensures) (c .before .before .before .s .given .1) in met (find-says _ _ _ _) R refl tt (found-as (c .before .find-in .result) (c .found .ensures) (of-range W (find _ _) (c .before .find-in .ensures)))
 
 pub find-spec : {M : Type 1} → statement M
 find-spec =

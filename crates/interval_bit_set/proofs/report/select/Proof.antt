@@ -1,6 +1,6 @@
 -- `select` meets its contract: the k-th position from the range's first to its last, none in an empty range.
 -- Assumes nothing.
-use mathlib.Core.Path.{refl, ap, _∙_}
+use mathlib.Core.Path.{refl, ap}
 use Rattle.model.specs.Positions.{select}
 use Rattle.store.specs.Layout.{heldBy}
 use Rattle.interval_bit_set.proofs.Spans.{span-none, span-some, of-range, select-nothing, found-as}
@@ -38,10 +38,10 @@ returns : tie.Need-returns
 returns c = turned-away (select-says _ _ _ _ _) _ (c .before .before .before .look-at .ensures) (c .before .l .given .1) refl
 
 returns-2 : tie.Need-returns-2
-returns-2 c = met (select-says _ _ _ _ _) (looked-sound _ (c .before .before .before .before .before .look-at .ensures) (c .before .before .before .enum-told .given .1)) refl tt (ap position (select-nothing _ _ _ _ (span-none (c .before .before .before .before .before .before .before .args .lower) (c .before .before .before .before .before .before .before .args .upper) _ (c .before .before .normalize .ensures) (c .enum-told2 .given .1)) _))
+returns-2 c = let R = looked-sound _ (c .before .before .before .before .before .look-at .ensures) (c .before .before .before .enum-told .given .1) in let e = span-none (c .before .before .before .before .before .before .before .args .lower) (c .before .before .before .before .before .before .before .args .upper) _ (c .before .before .normalize .ensures) (c .enum-told2 .given .1) in met (select-says _ _ _ _ _) R refl tt (ap position (select-nothing _ _ _ _ e _))
 
 returns-3 : tie.Need-returns-3
-returns-3 c = met (select-says _ _ _ _ _) (looked-sound _ (c .before .before .before .before .before .before .before .before .look-at .ensures) (c .before .before .before .before .before .before .enum-told .given .1)) refl tt (found-as (c .before .select .result) (c .found .ensures) (c .before .select .ensures ∙ of-range _ _ (λ a n. select (heldBy (c .before .before .before .before .before .before .before .before .before .before .args .words .now)) (c .before .before .before .before .before .before .before .before .before .before .args .value) a n (c .before .before .before .before .before .before .before .before .before .before .args .k)) (span-some (c .before .before .before .before .before .before .before .before .before .before .args .lower) (c .before .before .before .before .before .before .before .before .before .before .args .upper) _ (c .before .before .before .before .before .normalize .ensures) (c .before .before .before .s .given .1))))
+returns-3 c = let R = looked-sound _ (c .before .before .before .before .before .before .before .before .look-at .ensures) (c .before .before .before .before .before .before .enum-told .given .1) in let W = span-some (c .before .before .before .before .before .before .before .before .before .before .args .lower) (c .before .before .before .before .before .before .before .before .before .before .args .upper) _ (c .before .before .before .before .before .normalize .ensures) (c .before .before .before .s .given .1) in met (select-says _ _ _ _ _) R refl tt (found-as (c .before .select .result) (c .found .ensures) (of-range W (λ a n. select (heldBy (c .before .before .before .before .before .before .before .before .before .before .args .words .now)) (c .before .before .before .before .before .before .before .before .before .before .args .value) a n (c .before .before .before .before .before .before .before .before .before .before .args .k)) (c .before .select .ensures)))
 
 pub select-spec : {M : Type 1} → statement M
 select-spec =
