@@ -55,6 +55,10 @@ module _ {l u : Bound} {a b : ℕ} (W : Within l u a b) where
   pub of-range : {T : Type 0} {t : T} (F : ℕ → ℕ → T) → t ≡ F a (suc b - a) → t ≡ F (firstAllowed l) (extent l u)
   of-range F e = e ∙ ap₂ F (sym (W .first)) (sym (W .many))
 
+  -- so is their k-th position
+  pub select-range : {t : Option ℕ} (P : Positions) (v : Bool) (k : ℕ) → t ≡ select P v a (suc b - a) k → t ≡ select P v (firstAllowed l) (extent l u) k
+  select-range P v k e = of-range (λ x n. select P v x n k) e
+
   -- the listing of the positions from a to b
   pub listed-some : (v : Bool) → record { first = a; last = b; value = v } ≡ listed (firstAllowed l) (extent l u) v
   listed-some v =

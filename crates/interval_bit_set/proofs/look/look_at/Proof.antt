@@ -16,10 +16,12 @@ is-sound-requires : tie.Need-is-sound-requires
 is-sound-requires c κs = search needs
 
 returns-2 : tie.Need-returns-2
-returns-2 c = readable (c .before .before .before .before .before .before .args .words .now) (search needs) (sym (c .before .is-sound .ensures) ∙ c .if2 .taken)
+returns-2 c =
+    readable (c .before .before .before .before .before .before .args .words .now) (search needs) (sym (c .before .is-sound .ensures) ∙ c .if2 .taken)
 
 returns-3 : tie.Need-returns-3
-returns-3 c = fed-unsound (c .before .before .before .before .before .before .args .words .now) (search needs) (sym (c .before .is-sound .ensures) ∙ c .if2 .left)
+returns-3 c =
+    fed-unsound (c .before .before .before .before .before .before .args .words .now) (search needs) (sym (c .before .is-sound .ensures) ∙ c .if2 .left)
 
 pub look-at-spec : {M : Type 1} → statement M
 look-at-spec =

@@ -22,10 +22,14 @@ finished-requires : tie.Need-finished-requires
 finished-requires c κs = search needs
 
 returns : tie.Need-returns
-returns c = let R = looked-sound _ (c .before .before .before .before .look-at .ensures) (c .before .before .enum-told .given .1) in met (draw-back-says _ _) R refl tt (back-none _ (ap lastRun (none-left _ _ (c .before .if1 .taken))) (c .finished .ensures))
+returns c =
+    let R = looked-sound _ (c .before .before .before .before .look-at .ensures) (c .before .before .enum-told .given .1) in
+    met (draw-back-says _ _) R refl tt (back-none _ (ap lastRun (none-left _ _ (c .before .if1 .taken))) (c .finished .ensures))
 
 last-run-requires : tie.Need-last-run-requires
-last-run-requires c κs = ((looked-sound _ (c .before .before .before .look-at .ensures) (c .before .enum-told .given .1)) .sound, omega arith)
+last-run-requires c κs =
+    let R = looked-sound _ (c .before .before .before .look-at .ensures) (c .before .enum-told .given .1) in
+    (R .sound, omega arith)
 
 enum-known-n : tie.Need-enum-known-n
 enum-known-n c = search needs
@@ -34,7 +38,10 @@ sub-t18 : tie.Need-sub-t18
 sub-t18 c = search needs
 
 returns-2 : tie.Need-returns-2
-returns-2 c = let R = looked-sound _ (c .before .before .before .before .before .before .before .before .look-at .ensures) (c .before .before .before .before .before .before .enum-told .given .1) in let e = last-left _ _ (c .before .before .n .given .1) (c .before .before .before .before .last-run .ensures) in met (draw-back-says _ _) R refl tt (back-more _ e (c .if2 .taken))
+returns-2 c =
+    let R = looked-sound _ (c .before .before .before .before .before .before .before .before .look-at .ensures) (c .before .before .before .before .before .before .enum-told .given .1) in
+    let e = last-left _ _ (c .before .before .n .given .1) (c .before .before .before .before .last-run .ensures) in
+    met (draw-back-says _ _) R refl tt (back-more _ e (c .if2 .taken))
 
 finished-requires-2 : tie.Need-finished-requires-2
 finished-requires-2 c κs = search needs
@@ -49,10 +56,16 @@ returns-3 : tie.Need-returns-3
 returns-3 c = turned-away (draw-back-says _ _) _ (c .before .before .before .look-at .ensures) (c .before .look .given .1) refl
 
 returns-4 : tie.Need-returns-4
-returns-4 c = let R = looked-sound _ (c .before .before .before .before .before .before .before .before .before .look-at .ensures) (c .before .before .before .before .before .before .before .enum-told .given .1) in let e = last-left _ _ (c .before .before .before .n .given .1) (c .before .before .before .before .before .last-run .ensures) in met (draw-back-says _ _) R refl tt (back-end _ e (omega arith) (c .finished2 .ensures))
+returns-4 c =
+    let R = looked-sound _ (c .before .before .before .before .before .before .before .before .before .look-at .ensures) (c .before .before .before .before .before .before .before .enum-told .given .1) in
+    let e = last-left _ _ (c .before .before .before .n .given .1) (c .before .before .before .before .before .last-run .ensures) in
+    met (draw-back-says _ _) R refl tt (back-end _ e (omega arith) (c .finished2 .ensures))
 
 returns-5 : tie.Need-returns-5
-returns-5 c = let R = looked-sound _ (c .before .before .before .before .before .before .before .look-at .ensures) (c .before .before .before .before .before .enum-told .given .1) in let e = last-left _ _ (c .before .enum-told2 .given .1) (c .before .before .before .last-run .ensures) in met (draw-back-says _ _) R refl tt (back-none _ e (c .finished3 .ensures))
+returns-5 c =
+    let R = looked-sound _ (c .before .before .before .before .before .before .before .look-at .ensures) (c .before .before .before .before .before .enum-told .given .1) in
+    let e = last-left _ _ (c .before .enum-told2 .given .1) (c .before .before .before .last-run .ensures) in
+    met (draw-back-says _ _) R refl tt (back-none _ e (c .finished3 .ensures))
 
 pub draw-back-spec : {M : Type 1} → statement M
 draw-back-spec =

@@ -23,7 +23,9 @@ returns : tie.Need-returns
 returns c = turned-away (get-says _ _) _ (c .before .before .before .look-at .ensures) (c .before .l .given .1) refl
 
 returns-2 : tie.Need-returns-2
-returns-2 c = let R = looked-sound _ (c .before .before .before .look-at .ensures) (c .before .enum-told .given .1) in met (get-says _ _) R refl tt (ap value (c .get .ensures))
+returns-2 c =
+    let R = looked-sound _ (c .before .before .before .look-at .ensures) (c .before .enum-told .given .1) in
+    met (get-says _ _) R refl tt (ap value (c .get .ensures))
 
 pub get-spec : {M : Type 1} → statement M
 get-spec =

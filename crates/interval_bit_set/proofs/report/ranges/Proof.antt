@@ -30,10 +30,18 @@ returns : tie.Need-returns
 returns c = turned-away (ranges-says _ _ _ _) _ (c .before .before .before .look-at .ensures) (c .before .l .given .1) refl
 
 returns-2 : tie.Need-returns-2
-returns-2 c = let R = looked-sound _ (c .before .before .before .before .before .look-at .ensures) (c .before .before .before .enum-told .given .1) in let e = span-none (c .before .before .before .before .before .before .before .args .lower) (c .before .before .before .before .before .before .before .args .upper) _ (c .before .before .normalize .ensures) (c .enum-told2 .given .1) in met (ranges-says _ _ _ _) R refl tt (ap listing (listed-nothing _ _ _ e))
+returns-2 c =
+    let R = looked-sound _ (c .before .before .before .before .before .look-at .ensures) (c .before .before .before .enum-told .given .1) in
+    let a = c .before .before .before .before .before .before .before .args in
+    let e = span-none (a .lower) (a .upper) _ (c .before .before .normalize .ensures) (c .enum-told2 .given .1) in
+    met (ranges-says _ _ _ _) R refl tt (ap listing (listed-nothing _ _ _ e))
 
 returns-3 : tie.Need-returns-3
-returns-3 c = let R = looked-sound _ (c .before .before .before .before .before .before .look-at .ensures) (c .before .before .before .before .enum-told .given .1) in let W = span-some (c .before .before .before .before .before .before .before .before .args .lower) (c .before .before .before .before .before .before .before .before .args .upper) _ (c .before .before .before .normalize .ensures) (c .before .s .given .1) in met (ranges-says _ _ _ _) R refl tt (ap listing (listed-some W _))
+returns-3 c =
+    let R = looked-sound _ (c .before .before .before .before .before .before .look-at .ensures) (c .before .before .before .before .enum-told .given .1) in
+    let a = c .before .before .before .before .before .before .before .before .args in
+    let W = span-some (a .lower) (a .upper) _ (c .before .before .before .normalize .ensures) (c .before .s .given .1) in
+    met (ranges-says _ _ _ _) R refl tt (ap listing (listed-some W _))
 
 pub ranges-spec : {M : Type 1} → statement M
 ranges-spec =

@@ -1,9 +1,7 @@
 -- `select` meets its contract: the k-th position from the range's first to its last, none in an empty range.
 -- Assumes nothing.
 use mathlib.Core.Path.{refl, ap}
-use Rattle.model.specs.Positions.{select}
-use Rattle.store.specs.Layout.{heldBy}
-use Rattle.interval_bit_set.proofs.Spans.{span-none, span-some, of-range, select-nothing, found-as}
+use Rattle.interval_bit_set.proofs.Spans.{span-none, span-some, select-range, select-nothing, found-as}
 use Rattle.model.specs.Call.{position}
 use Rattle.interval_bit_set.proofs.Meeting.{looked-sound, turned-away, met, select-says}
 use borrow.Author.Needs.{needs}
@@ -29,7 +27,11 @@ enum-known-s : tie.Need-enum-known-s
 enum-known-s c = search needs
 
 select-requires : tie.Need-select-requires
-select-requires c κs = ((looked-sound _ (c .before .before .before .before .before .before .look-at .ensures) (c .before .before .before .before .enum-told .given .1)) .sound, (span-some (c .before .before .before .before .before .before .before .before .args .lower) (c .before .before .before .before .before .before .before .before .args .upper) _ (c .before .before .before .normalize .ensures) (c .before .s .given .1)) .order)
+select-requires c κs =
+    let R = looked-sound _ (c .before .before .before .before .before .before .look-at .ensures) (c .before .before .before .before .enum-told .given .1) in
+    let a = c .before .before .before .before .before .before .before .before .args in
+    let W = span-some (a .lower) (a .upper) _ (c .before .before .before .normalize .ensures) (c .before .s .given .1) in
+    (R .sound, W .order)
 
 found-requires : tie.Need-found-requires
 found-requires c κs = search needs
@@ -38,10 +40,18 @@ returns : tie.Need-returns
 returns c = turned-away (select-says _ _ _ _ _) _ (c .before .before .before .look-at .ensures) (c .before .l .given .1) refl
 
 returns-2 : tie.Need-returns-2
-returns-2 c = let R = looked-sound _ (c .before .before .before .before .before .look-at .ensures) (c .before .before .before .enum-told .given .1) in let e = span-none (c .before .before .before .before .before .before .before .args .lower) (c .before .before .before .before .before .before .before .args .upper) _ (c .before .before .normalize .ensures) (c .enum-told2 .given .1) in met (select-says _ _ _ _ _) R refl tt (ap position (select-nothing _ _ _ _ e _))
+returns-2 c =
+    let R = looked-sound _ (c .before .before .before .before .before .look-at .ensures) (c .before .before .before .enum-told .given .1) in
+    let a = c .before .before .before .before .before .before .before .args in
+    let e = span-none (a .lower) (a .upper) _ (c .before .before .normalize .ensures) (c .enum-told2 .given .1) in
+    met (select-says _ _ _ _ _) R refl tt (ap position (select-nothing _ _ _ _ e _))
 
 returns-3 : tie.Need-returns-3
-returns-3 c = let R = looked-sound _ (c .before .before .before .before .before .before .before .before .look-at .ensures) (c .before .before .before .before .before .before .enum-told .given .1) in let W = span-some (c .before .before .before .before .before .before .before .before .before .before .args .lower) (c .before .before .before .before .before .before .before .before .before .before .args .upper) _ (c .before .before .before .before .before .normalize .ensures) (c .before .before .before .s .given .1) in met (select-says _ _ _ _ _) R refl tt (found-as (c .before .select .result) (c .found .ensures) (of-range W (λ a n. select (heldBy (c .before .before .before .before .before .before .before .before .before .before .args .words .now)) (c .before .before .before .before .before .before .before .before .before .before .args .value) a n (c .before .before .before .before .before .before .before .before .before .before .args .k)) (c .before .select .ensures)))
+returns-3 c =
+    let R = looked-sound _ (c .before .before .before .before .before .before .before .before .look-at .ensures) (c .before .before .before .before .before .before .enum-told .given .1) in
+    let a = c .before .before .before .before .before .before .before .before .before .before .args in
+    let W = span-some (a .lower) (a .upper) _ (c .before .before .before .before .before .normalize .ensures) (c .before .before .before .s .given .1) in
+    met (select-says _ _ _ _ _) R refl tt (found-as (c .before .select .result) (c .found .ensures) (select-range W _ _ _ (c .before .select .ensures)))
 
 pub select-spec : {M : Type 1} → statement M
 select-spec =
