@@ -1,0 +1,5 @@
+-- What the proofs of several functions use.
+pub mod Meeting
+pub mod Spans
+pub mod Draws
+pub mod Windows

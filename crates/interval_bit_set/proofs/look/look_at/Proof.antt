@@ -1,0 +1,28 @@
+-- `look_at` meets its contract: what it tests is what the model is fed by.
+-- Assumes nothing.
+use mathlib.Core.Path.{sym, _∙_}
+use Rattle.interval_bit_set.proofs.Meeting.{fed-short, fed-unsound, readable}
+use borrow.Author.Needs.{needs}
+use Rattle.interval_bit_set.proofs.look.look_at.Statement.{statement}
+use Rattle.interval_bit_set.proofs.look.look_at.Tie as tie
+
+of-length-requires : tie.Need-of-length-requires
+of-length-requires c κs = search needs
+
+returns : tie.Need-returns
+returns c = fed-short (c .before .before .before .before .args .words .now) (sym (c .before .before .of-length .ensures) ∙ c .if1 .taken)
+
+is-sound-requires : tie.Need-is-sound-requires
+is-sound-requires c κs = search needs
+
+returns-2 : tie.Need-returns-2
+returns-2 c =
+    readable (c .before .before .before .before .before .before .args .words .now) (search needs) (sym (c .before .is-sound .ensures) ∙ c .if2 .taken)
+
+returns-3 : tie.Need-returns-3
+returns-3 c =
+    fed-unsound (c .before .before .before .before .before .before .args .words .now) (search needs) (sym (c .before .is-sound .ensures) ∙ c .if2 .left)
+
+pub look-at-spec : {M : Type 1} → statement M
+look-at-spec =
+    tie.close (tie.spec of-length-requires returns is-sound-requires returns-2 returns-3)

@@ -1,0 +1,20 @@
+// Making a store empty, whatever its words were.
+ghost use mathlib.Core.Path.{_≡_};
+ghost use Rattle.model.specs.Call.{Call};
+ghost use Rattle.model.specs.Answers.{completedAnswer};
+ghost use Rattle.interval_bit_set.specs.Met.{Met};
+use model::Completed;
+use model::Refusal;
+use model::Store;
+
+// A new, empty set in the words of a store.
+pub fn new(words: &mut [u64]) -> Completed
+    ensures { λ r. ⌜ Met (now (words .entry)) Call.make (completedAnswer r) (now (words .exit)) ⌝ }
+{
+    let s = Store::of_length(words.len());
+    if s.capacity == 0 {
+        return Completed::Refused(Refusal::StoreLength);
+    }
+    store::free::make(words);
+    Completed::Done
+}
