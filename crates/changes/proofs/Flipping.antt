@@ -46,6 +46,18 @@ over-few P a b p q = omega (arith, one-bound (goesOn P a), one-bound (goesOn P (
 pub ends-few : (P : Positions) (a b : ℕ) {before after : ℕ} → before ≡ oneIf (heldBelow P a) → after ≡ oneIf (heldAbove P b) → before + after ≤ 2
 ends-few P a b p q = omega (arith, one-bound (heldBelow P a), one-bound (heldAbove P b))
 
+-- a range of a sound store has few runs
+pub range-few : {w : List ℕ} {r : Tally} → Sound w → (a b : ℕ) → a ≤ b → b < size → Measured (heldBy w) true a (suc b - a) r → r .runs ≤ 65538
+range-few {w} s a b some fits m =
+    omega (
+      arith,
+      m .runs-are,
+      logical-few s,
+      stretches-parts (heldBy w) a (suc b - a) (omega arith) (omega arith),
+      one-bound (goesOn (heldBy w) a),
+      one-bound (goesOn (heldBy w) (a + (suc b - a))),
+    )
+
 -- a range of a sound store has few gaps
 pub gaps-few : {w : List ℕ} {r : Tally} → Sound w → (a b : ℕ) → a ≤ b → b < size → Measured (heldBy w) false a (suc b - a) r → r .runs ≤ 65539
 gaps-few {w} s a b some fits m =
