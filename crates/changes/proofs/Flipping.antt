@@ -11,7 +11,8 @@ use lib.ListN.{length}
 use borrow.Author.Tests.{leb-true, leb-false, le-leb, not-true, not-false}
 use Rattle.model.specs.declared.Edge.{Edge}
 use Rattle.model.specs.declared.Edge.the-variants.{At}
-use Rattle.model.specs.Numbers.{size, split, capacityOf}
+use Rattle.model.specs.Numbers.{size, split}
+use Rattle.model.specs.Places.{capacityOf}
 use Rattle.model.specs.Positions.{Positions, among, oneIf, stretches, setRange, flipRange}
 use Rattle.model.specs.After.{goesOn, flip-below, flip-above, stretches-parts}
 use Rattle.store.specs.declared.Header.{Header}

@@ -7,7 +7,8 @@ use mathlib.Core.Bool.{Bool, cond}
 use mathlib.Core.List.{List}
 use native.Mathlib.Omega.{arith}
 use lib.ListN.{length}
-use Rattle.model.specs.Numbers.{size, capacityOf}
+use Rattle.model.specs.Numbers.{size}
+use Rattle.model.specs.Places.{capacityOf}
 use Rattle.model.specs.Positions.{Positions, among, setRange, stretches, mem}
 use Rattle.run_index.specs.Tree.{Tree, inorder}
 use Rattle.store.specs.declared.Header.{Header}

@@ -8,7 +8,8 @@ use mathlib.Core.List.{List, [], _∷_}
 use native.Mathlib.Omega.{arith}
 use lib.ListN.{length}
 use Rattle.model.specs.declared.Run.{Run}
-use Rattle.model.specs.Numbers.{size, split, physicalOf, logicalOf}
+use Rattle.model.specs.Numbers.{size, split}
+use Rattle.model.specs.Places.{physicalOf, logicalOf}
 use Rattle.model.specs.Positions.{Positions, heldRuns, stretches, mem, empty, setRange, shiftLeft, shiftRight, shiftBy}
 use Rattle.model.specs.Positions.Runs.{heldRuns-canon, mem-heldRuns}
 use Rattle.model.specs.RunList.{Canon, mem-in, mem-above, mem-before}

@@ -10,7 +10,8 @@ use lib.Dec.{leb, ltb}
 use lib.ListN.{length, length-append}
 use borrow.Author.Tests.{lt-ltb, le-ltb, le-leb, lt-leb}
 use Rattle.model.specs.declared.Run.{Run}
-use Rattle.model.specs.Numbers.{size, split, capacityOf}
+use Rattle.model.specs.Numbers.{size, split}
+use Rattle.model.specs.Places.{capacityOf}
 use Rattle.model.specs.Positions.{run, inside, among, setRange, mem}
 use Rattle.model.specs.Positions.Runs.{stretches-is}
 use Rattle.model.specs.RunList.{Canon}

@@ -5,7 +5,8 @@ use mathlib.Core.Path.{_≡_, refl, sym, ap, _∙_}
 use mathlib.Core.Logic.{_⊎_, inl, inr}
 use mathlib.Core.Bool.{Bool, true, false, not, _&&_, and-true, and-false, and-comm}
 use native.Mathlib.Omega.{arith}
-use Rattle.model.specs.Numbers.{size, split, physicalOf}
+use Rattle.model.specs.Numbers.{size, split}
+use Rattle.model.specs.Places.{physicalOf}
 use Rattle.model.specs.Positions.{Positions, oneIf, count, countRanges, stretches, setRange}
 use Rattle.model.specs.Positions.Laws.{count-cut, count-all}
 use Rattle.model.specs.After.{goesOn, goesOn-top, goesOn-zero, set-inside, set-below, set-above, set-runs}

@@ -10,7 +10,8 @@ use lib.Dec.{leb, ltb}
 use lib.ListN.{length}
 use borrow.Author.Tests.{le-leb, lt-leb, lt-ltb, le-ltb}
 use Rattle.model.specs.declared.Run.{Run}
-use Rattle.model.specs.Numbers.{size, split, physicalOf, logicalOf}
+use Rattle.model.specs.Numbers.{size, split}
+use Rattle.model.specs.Places.{physicalOf, logicalOf}
 use Rattle.model.specs.Positions.{Positions, among, runsIn, heldRuns, stretches, lastAfter, shiftLeft, shiftRight, mem}
 use Rattle.model.specs.Positions.Laws.{among-yes, among-below, among-above}
 use Rattle.model.specs.Positions.Runs.{runsIn-canon, runsIn-mem, heldRuns-is, mem-heldRuns}

@@ -5,7 +5,8 @@ use mathlib.Core.Path.{_≡_, sym, ap, ap₂, _∙_, subst}
 use mathlib.Core.Logic.{_⊎_, inl, inr}
 use mathlib.Core.Bool.{Bool, cond}
 use native.Mathlib.Omega.{arith}
-use Rattle.model.specs.Numbers.{size, split, physicalOf}
+use Rattle.model.specs.Numbers.{size, split}
+use Rattle.model.specs.Places.{physicalOf}
 use Rattle.model.specs.Positions.{Positions, among, setRange}
 use Rattle.model.specs.Positions.Laws.{among-yes, among-below, among-above}
 use Rattle.model.specs.After.{set-inside, set-below, set-above}

@@ -1,4 +1,5 @@
 pub mod Numbers
+pub mod Places
 pub mod Range
 pub mod Positions
 pub mod Bytes

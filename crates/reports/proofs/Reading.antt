@@ -12,7 +12,8 @@ use mir.Syntax.{w64}
 use mir.Val.{Fits}
 use Rattle.model.specs.declared.Count.{Count}
 use Rattle.model.specs.declared.Run.{Run}
-use Rattle.model.specs.Numbers.{size, worth, physicalOf, logicalOf}
+use Rattle.model.specs.Numbers.{size, worth}
+use Rattle.model.specs.Places.{physicalOf, logicalOf}
 use Rattle.model.specs.Positions.{Positions, oneIf, count, select, runsIn, countRanges}
 use Rattle.model.specs.Positions.Laws.{count-both, count-cut}
 use Rattle.model.specs.Positions.Runs.{runsIn-canon}

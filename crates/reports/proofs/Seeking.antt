@@ -8,7 +8,8 @@ use mathlib.Core.List.{List}
 use native.Mathlib.Omega.{arith}
 use Rattle.model.specs.declared.Edge.{Edge}
 use Rattle.model.specs.declared.Edge.the-variants.{At, Nowhere}
-use Rattle.model.specs.Numbers.{size, split, physicalOf, logicalOf}
+use Rattle.model.specs.Numbers.{size, split}
+use Rattle.model.specs.Places.{physicalOf, logicalOf}
 use Rattle.model.specs.Positions.{Positions}
 use Rattle.store.specs.declared.Header.{Header}
 use Rattle.store.specs.Layout.{headerAt, turned, heldBy}

@@ -4,7 +4,8 @@ use Prim.Native.Nat.{ℕ}
 use mathlib.Core.Path.{_≡_, refl, sym, ap, _∙_, subst}
 use mathlib.Core.List.{List}
 use native.Mathlib.Omega.{arith}
-use Rattle.model.specs.Numbers.{size, capacityOf}
+use Rattle.model.specs.Numbers.{size}
+use Rattle.model.specs.Places.{capacityOf}
 use Rattle.model.specs.Positions.{run}
 use Rattle.model.specs.RunList.{Canon}
 use Rattle.run_index.specs.Tree.{Tree, inorder, Made}

@@ -10,7 +10,8 @@ use native.Mathlib.Decide.{ℕ-discrete, decLe}
 use borrow.Author.Tests.{eqb-true, eq-eqb, leb-true, le-leb}
 use lib.Dec.{eqb}
 use lib.ListN.{length}
-use Rattle.model.specs.Numbers.{size, length-capacity}
+use Rattle.model.specs.Numbers.{size}
+use Rattle.model.specs.Places.{length-capacity}
 use Rattle.model.specs.RunList.{Canon}
 use Rattle.model.specs.Positions.{run}
 use Rattle.run_index.specs.declared.Node.{Node}

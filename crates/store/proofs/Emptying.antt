@@ -9,7 +9,8 @@ use native.Mathlib.Decide.{ℕ-discrete}
 use lib.Dec.{ltb}
 use lib.ListN.{length}
 use Rattle.model.specs.declared.Run.{Run}
-use Rattle.model.specs.Numbers.{size, physicalOf, capacityOf}
+use Rattle.model.specs.Numbers.{size}
+use Rattle.model.specs.Places.{physicalOf, capacityOf}
 use Rattle.model.specs.Positions.{mem, empty, heldRuns, stretches}
 use Rattle.model.specs.Positions.Runs.{heldRuns-is, stretches-is}
 use Rattle.run_index.specs.declared.Node.{Node}

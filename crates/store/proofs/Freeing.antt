@@ -8,7 +8,8 @@ use native.Mathlib.Omega.{arith}
 use lib.Dec.{eqb}
 use lib.ListN.{length}
 use Rattle.model.specs.declared.Run.{Run}
-use Rattle.model.specs.Numbers.{size, capacityOf}
+use Rattle.model.specs.Numbers.{size}
+use Rattle.model.specs.Places.{capacityOf}
 use Rattle.model.specs.Positions.{run}
 use Rattle.model.specs.RunList.{Canon, canon-weaken}
 use Rattle.run_index.specs.declared.Node.{Node}

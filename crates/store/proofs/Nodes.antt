@@ -7,7 +7,8 @@ use mathlib.Core.List.{List, [], _∷_}
 use native.Mathlib.Omega.{arith}
 use native.Mathlib.Decide.{ℕ-discrete}
 use lib.ListN.{length}
-use Rattle.model.specs.Numbers.{size, split, capacityOf, length-capacity}
+use Rattle.model.specs.Numbers.{size, split}
+use Rattle.model.specs.Places.{capacityOf, length-capacity}
 use Rattle.model.specs.RunList.{Canon}
 use Rattle.run_index.specs.declared.Node.{Node}
 use Rattle.run_index.specs.Cells.{cellAt, Room}

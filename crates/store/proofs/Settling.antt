@@ -6,7 +6,8 @@ use mathlib.Core.Logic.{_⊎_, inl, inr}
 use mathlib.Core.List.{List, []}
 use native.Mathlib.Omega.{arith}
 use Rattle.model.specs.declared.Run.{Run}
-use Rattle.model.specs.Numbers.{size, split, capacityOf}
+use Rattle.model.specs.Numbers.{size, split}
+use Rattle.model.specs.Places.{capacityOf}
 use Rattle.model.specs.Positions.{Positions, mem, heldRuns, stretches}
 use Rattle.model.specs.Positions.Runs.{stretches-is}
 use Rattle.model.specs.RunList.{Canon}

@@ -6,7 +6,8 @@ use mathlib.Core.Bool.{Bool, true, false, _&&_}
 use mathlib.Core.List.{List, _∷_}
 use native.Mathlib.Omega.{arith}
 use lib.ListN.{length}
-use Rattle.model.specs.Numbers.{size, physicalOf}
+use Rattle.model.specs.Numbers.{size}
+use Rattle.model.specs.Places.{physicalOf}
 use Rattle.model.specs.Positions.{Positions, oneIf, stretches, mem}
 use Rattle.model.specs.Positions.Runs.{stretches-is}
 use Rattle.run_index.specs.Cells.{cellAt}

@@ -7,7 +7,8 @@ use mathlib.Core.Bool.{Bool, true, false, true≢false}
 use mathlib.Core.List.{List, [], _∷_}
 use native.Mathlib.Omega.{arith}
 use Rattle.model.specs.declared.Run.{Run}
-use Rattle.model.specs.Numbers.{size, split, physicalOf, logicalOf, logical-physical}
+use Rattle.model.specs.Numbers.{size, split}
+use Rattle.model.specs.Places.{physicalOf, logicalOf, logical-physical}
 use Rattle.model.specs.Positions.{Positions, heldRuns, mem}
 use Rattle.model.specs.Positions.Runs.{heldRuns-is, heldRuns-canon, mem-heldRuns}
 use Rattle.model.specs.RunList.{Canon, mem-in, mem-above, mem-before}

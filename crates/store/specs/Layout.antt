@@ -6,7 +6,8 @@ use mathlib.Core.List.{List, [], _∷_, _++_}
 use lib.Dec.{ltb}
 use lib.ListN.{length}
 use Rattle.model.specs.declared.Run.{Run}
-use Rattle.model.specs.Numbers.{size, physicalOf, capacityOf}
+use Rattle.model.specs.Numbers.{size}
+use Rattle.model.specs.Places.{physicalOf, capacityOf}
 use Rattle.model.specs.Positions.{Positions, run, mem}
 use Rattle.run_index.specs.declared.Node.{Node}
 use Rattle.run_index.specs.Cells.{cellAt}

@@ -10,7 +10,8 @@ use native.Mathlib.Omega.{arith}
 use lib.Dec.{leb}
 use borrow.Author.Tests.{le-leb, lt-leb, leb-true, leb-false}
 use Rattle.model.specs.declared.Run.{Run}
-use Rattle.model.specs.Numbers.{size, split, physicalOf, logicalOf}
+use Rattle.model.specs.Numbers.{size, split}
+use Rattle.model.specs.Places.{physicalOf, logicalOf}
 use Rattle.model.specs.Positions.{heldRuns, mem}
 use Rattle.model.specs.RunList.{Canon, mem-in, mem-above, mem-under, mem-below, mem-before}
 use Rattle.model.specs.Search.{orElse, lastUpTo, firstFrom}

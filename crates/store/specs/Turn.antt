@@ -9,7 +9,8 @@ use native.Mathlib.Nat.{add-comm}
 use native.Mathlib.Omega.{arith}
 use lib.ListN.{length}
 use borrow.Author.Tests.{lt-ltb}
-use Rattle.model.specs.Numbers.{size, physicalOf, logicalOf, physical-logical}
+use Rattle.model.specs.Numbers.{size}
+use Rattle.model.specs.Places.{physicalOf, logicalOf, physical-logical}
 use Rattle.model.specs.Positions.{Positions, oneIf, count, find, select, runsIn, countRanges, heldRuns, stretches, firstRun, lastRun}
 use Rattle.model.specs.Positions.Laws.{count-cut}
 use Rattle.model.specs.Positions.Runs.{runsIn-length-join, heldRuns-cong}
