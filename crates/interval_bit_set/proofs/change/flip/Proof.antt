@@ -1,79 +1,79 @@
+-- `flip` meets its contract: the range is flipped from its first position to its last, an empty one changes nothing.
+-- Assumes nothing.
+use mathlib.Core.Path.{refl}
+use Rattle.interval_bit_set.proofs.Meeting.{looked-sound}
+use Rattle.interval_bit_set.proofs.Spans.{span-none, span-some}
+use Rattle.interval_bit_set.proofs.Changing.{sent-away, full, changes-to, settled-self, flip-within, flip-none, fitted, flip-says}
 use borrow.Author.Needs.{needs}
 use Rattle.interval_bit_set.proofs.change.flip.Statement.{statement}
 use Rattle.interval_bit_set.proofs.change.flip.Tie as tie
-use Rattle.interval_bit_set.proofs.change.flip.Reads as reads
-use Rattle.interval_bit_set.proofs.change.flip.Lts as lts
-use Rattle.changes.proofs.edit.flip.Reads as flip-reads
-use Rattle.interval_bit_set.proofs.look.look_at.Reads as look-at-reads
-use Rattle.model.proofs.normalize.Reads as normalize-reads
 
--- src/change.rt:45:9
 look-at-requires : tie.Need-look-at-requires
 look-at-requires c κs = search needs
 
--- src/change.rt:47:23
 enum-known-l : tie.Need-enum-known-l
 enum-known-l c = search needs
 
--- src/change.rt:49:17
 enum-told : tie.Need-enum-told
 enum-told c = search needs
 
--- src/change.rt:49:17
 normalize-requires : tie.Need-normalize-requires
 normalize-requires c κs = search needs
 
--- src/change.rt:51:32
 enum-told-2 : tie.Need-enum-told-2
 enum-told-2 c = search needs
 
--- src/change.rt:52:30
 enum-known-s : tie.Need-enum-known-s
 enum-known-s c = search needs
 
--- src/change.rt:53:25
 flip-requires : tie.Need-flip-requires
-flip-requires c κs = ?
+flip-requires c κs =
+    let R = looked-sound _ (c .before .before .before .before .before .before .before .look-at .ensures) (c .before .before .before .before .before .enum-told .given .1) in
+    let a = c .before .before .before .before .before .before .before .before .before .before .args in
+    let W = span-some (a .lower) (a .upper) _ (c .before .before .before .before .normalize .ensures) (c .before .before .s .given .1) in
+    (R .sound, W .order)
 
--- src/change.rt:55:57
 enum-told-3 : tie.Need-enum-told-3
 enum-told-3 c = search needs
 
--- src/change.rt:56:38
 enum-told-4 : tie.Need-enum-told-4
 enum-told-4 c = search needs
 
--- src/change.rt:42:1
 same-length : tie.Need-same-length
 same-length c = search needs
 
--- src/change.rt:42:1
 returns : tie.Need-returns
-returns c = ?
+returns c = sent-away (flip-says _ _ _) _ (c .before .before .before .look-at .ensures) (c .before .l .given .1)
 
--- src/change.rt:42:1
 same-length-2 : tie.Need-same-length-2
 same-length-2 c = search needs
 
--- src/change.rt:42:1
 returns-2 : tie.Need-returns-2
-returns-2 c = ?
+returns-2 c =
+    let R = looked-sound _ (c .before .before .before .before .before .look-at .ensures) (c .before .before .before .enum-told .given .1) in
+    let a = c .before .before .before .before .before .before .before .before .args in
+    let e = span-none (a .lower) (a .upper) _ (c .before .before .normalize .ensures) (c .enum-told2 .given .1) in
+    changes-to (flip-says _ _ _) _ R (flip-none _ _ _ e) (settled-self _ (R .sound)) tt refl
 
--- src/change.rt:42:1
 same-length-3 : tie.Need-same-length-3
 same-length-3 c = search needs
 
--- src/change.rt:42:1
 returns-3 : tie.Need-returns-3
-returns-3 c = ?
+returns-3 c =
+    let R = looked-sound _ (c .before .before .before .before .before .before .before .before .before .before .before .before .look-at .ensures) (c .before .before .before .before .before .before .before .before .before .before .enum-told .given .1) in
+    let a = c .before .before .before .before .before .before .before .before .before .before .before .before .before .before .before .args in
+    let W = span-some (a .lower) (a .upper) _ (c .before .before .before .before .before .before .before .before .before .normalize .ensures) (c .before .before .before .before .before .before .before .s .given .1) in
+    full (flip-says _ _ _) _ R (flip-within W _) (fitted _ _ _ _ (c .before .before .before .before .flip .ensures) (c .enum-told3 .given .1))
 
--- src/change.rt:42:1
 same-length-4 : tie.Need-same-length-4
 same-length-4 c = search needs
 
--- src/change.rt:42:1
 returns-4 : tie.Need-returns-4
-returns-4 c = ?
+returns-4 c =
+    let R = looked-sound _ (c .before .before .before .before .before .before .before .before .before .before .before .before .look-at .ensures) (c .before .before .before .before .before .before .before .before .before .before .enum-told .given .1) in
+    let a = c .before .before .before .before .before .before .before .before .before .before .before .before .before .before .before .args in
+    let W = span-some (a .lower) (a .upper) _ (c .before .before .before .before .before .before .before .before .before .normalize .ensures) (c .before .before .before .before .before .before .before .s .given .1) in
+    changes-to (flip-says _ _ _) _ R (flip-within W _) ((fitted _ _ _ _ (c .before .before .before .before .flip .ensures) (c .enum-told4 .given .1)) .1) tt refl
 
 pub flip-spec : {M : Type 1} → statement M
 flip-spec =

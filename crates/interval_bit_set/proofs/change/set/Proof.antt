@@ -1,79 +1,83 @@
+-- `set` meets its contract: the range is set from its first position to its last, an empty one changes nothing.
+-- Assumes nothing.
+use mathlib.Core.Path.{refl, ap, _∙_}
+use Rattle.model.specs.Positions.{changes}
+use Rattle.model.specs.Call.{number}
+use Rattle.interval_bit_set.proofs.Meeting.{looked-sound}
+use Rattle.interval_bit_set.proofs.Spans.{span-none, span-some}
+use Rattle.interval_bit_set.proofs.Changing.{sent-away, full, changes-to, settled-self, set-within, set-none, changes-none, edited, set-says}
 use borrow.Author.Needs.{needs}
 use Rattle.interval_bit_set.proofs.change.set.Statement.{statement}
 use Rattle.interval_bit_set.proofs.change.set.Tie as tie
-use Rattle.interval_bit_set.proofs.change.set.Reads as reads
-use Rattle.interval_bit_set.proofs.change.set.Lts as lts
-use Rattle.changes.proofs.edit.set.Reads as set-reads
-use Rattle.interval_bit_set.proofs.look.look_at.Reads as look-at-reads
-use Rattle.model.proofs.normalize.Reads as normalize-reads
 
--- src/change.rt:22:9
 look-at-requires : tie.Need-look-at-requires
 look-at-requires c κs = search needs
 
--- src/change.rt:24:23
 enum-known-l : tie.Need-enum-known-l
 enum-known-l c = search needs
 
--- src/change.rt:26:17
 enum-told : tie.Need-enum-told
 enum-told c = search needs
 
--- src/change.rt:26:17
 normalize-requires : tie.Need-normalize-requires
 normalize-requires c κs = search needs
 
--- src/change.rt:28:47
 enum-told-2 : tie.Need-enum-told-2
 enum-told-2 c = search needs
 
--- src/change.rt:29:30
 enum-known-s : tie.Need-enum-known-s
 enum-known-s c = search needs
 
--- src/change.rt:30:25
 set-requires : tie.Need-set-requires
-set-requires c κs = ?
+set-requires c κs =
+    let R = looked-sound _ (c .before .before .before .before .before .before .before .look-at .ensures) (c .before .before .before .before .before .enum-told .given .1) in
+    let a = c .before .before .before .before .before .before .before .before .before .before .args in
+    let W = span-some (a .lower) (a .upper) _ (c .before .before .before .before .normalize .ensures) (c .before .before .s .given .1) in
+    (R .sound, W .order)
 
--- src/change.rt:32:56
 enum-told-3 : tie.Need-enum-told-3
 enum-told-3 c = search needs
 
--- src/change.rt:33:39
 enum-known-e : tie.Need-enum-known-e
 enum-known-e c = search needs
 
--- src/change.rt:19:1
 same-length : tie.Need-same-length
 same-length c = search needs
 
--- src/change.rt:19:1
 returns : tie.Need-returns
-returns c = ?
+returns c = sent-away (set-says _ _ _ _) _ (c .before .before .before .look-at .ensures) (c .before .l .given .1)
 
--- src/change.rt:19:1
 same-length-2 : tie.Need-same-length-2
 same-length-2 c = search needs
 
--- src/change.rt:19:1
 returns-2 : tie.Need-returns-2
-returns-2 c = ?
+returns-2 c =
+    let R = looked-sound _ (c .before .before .before .before .before .look-at .ensures) (c .before .before .before .enum-told .given .1) in
+    let a = c .before .before .before .before .before .before .before .before .args in
+    let e = span-none (a .lower) (a .upper) _ (c .before .before .normalize .ensures) (c .enum-told2 .given .1) in
+    changes-to (set-says _ _ _ _) _ R (set-none _ _ _ e _) (settled-self _ (R .sound)) tt (ap number (changes-none _ _ _ _ e))
 
--- src/change.rt:19:1
 same-length-3 : tie.Need-same-length-3
 same-length-3 c = search needs
 
--- src/change.rt:19:1
 returns-3 : tie.Need-returns-3
-returns-3 c = ?
+returns-3 c =
+    let R = looked-sound _ (c .before .before .before .before .before .before .before .before .before .before .before .before .look-at .ensures) (c .before .before .before .before .before .before .before .before .before .before .enum-told .given .1) in
+    let a = c .before .before .before .before .before .before .before .before .before .before .before .before .before .before .before .args in
+    let W = span-some (a .lower) (a .upper) _ (c .before .before .before .before .before .before .before .before .before .normalize .ensures) (c .before .before .before .before .before .before .before .s .given .1) in
+    full (set-says _ _ _ _) _ R (set-within W _ _) (edited _ _ _ _ (c .before .before .before .before .set .ensures) (c .enum-told3 .given .1))
 
--- src/change.rt:19:1
 same-length-4 : tie.Need-same-length-4
 same-length-4 c = search needs
 
--- src/change.rt:19:1
 returns-4 : tie.Need-returns-4
-returns-4 c = ?
+returns-4 c =
+    let R = looked-sound _ (c .before .before .before .before .before .before .before .before .before .before .before .before .before .look-at .ensures) (c .before .before .before .before .before .before .before .before .before .before .before .enum-told .given .1) in
+    let a = c .before .before .before .before .before .before .before .before .before .before .before .before .before .before .before .before .args in
+    let W = span-some (a .lower) (a .upper) _ (c .before .before .before .before .before .before .before .before .before .before .normalize .ensures) (c .before .before .before .before .before .before .before .before .s .given .1) in
+    let k = edited _ _ _ _ (c .before .before .before .before .before .set .ensures) (c .before .e .given .1) in
+    let f = set-within W _ _ in
+    changes-to (set-says _ _ _ _) _ R f (k .1) tt (ap number (k .2 ∙ ap (changes _) f))
 
 pub set-spec : {M : Type 1} → statement M
 set-spec =
