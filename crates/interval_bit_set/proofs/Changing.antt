@@ -16,7 +16,7 @@ use Rattle.model.specs.Positions.{Positions, empty, bounded, stretches, changes
 use Rattle.model.specs.After.{set-below, set-above, flip-below, flip-above, changes-set}
 use Rattle.model.specs.Refusals.{tooMany}
 use Rattle.model.specs.Call.{Fed, wrongLength, unsound, holding, Call, Answer, refused, done, number}
-use Rattle.model.specs.Model.{Outcome, positionsOf, change, changed, serve}
+use Rattle.model.specs.Model.{positionsOf, change, changed, serve}
 use Rattle.store.specs.Layout.{capacity, heldBy}
 use Rattle.store.specs.Soundness.{Sound}
 use Rattle.store.specs.Settle.{Settled}

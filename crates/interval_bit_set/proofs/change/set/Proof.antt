@@ -1,6 +1,6 @@
 -- `set` meets its contract: the range is set from its first position to its last, an empty one changes nothing.
 -- Assumes nothing.
-use mathlib.Core.Path.{refl, ap, _∙_}
+use mathlib.Core.Path.{ap, _∙_}
 use Rattle.model.specs.Positions.{changes}
 use Rattle.model.specs.Call.{number}
 use Rattle.interval_bit_set.proofs.Meeting.{looked-sound}
