@@ -3,3 +3,4 @@ pub mod Meeting
 pub mod Spans
 pub mod Draws
 pub mod Windows
+pub mod Changing

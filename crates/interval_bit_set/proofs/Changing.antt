@@ -1,0 +1,169 @@
+-- Calls that change a store where it stands meet their contract: refused by what looking tells or by too many runs, and else the store
+-- holds the model's set. Each is the model's `change`, at the words' capacity and soundness. Assumes nothing.
+use Prim.Native.Nat.{ℕ, suc, _-_, _≤_, _<_}
+use mathlib.Core.Path.{_≡_, refl, sym, ap, _∙_, subst, fun-ext}
+use mathlib.Core.Logic.{_⊎_, inl, inr}
+use mathlib.Core.Bool.{Bool, true, false, not, _&&_}
+use mathlib.Core.List.{List, []}
+use native.Mathlib.Omega.{arith}
+use borrow.Author.Tests.{lt-ltb, le-ltb}
+use Rattle.model.specs.declared.Bound.{Bound}
+use Rattle.model.specs.declared.Refusal.{Refusal}
+use Rattle.model.specs.declared.Refusal.the-variants.{StoreLength, OutputShort, SetLength, SetVersion, RunOrder, Window, Unsound, Capacity}
+use Rattle.model.specs.Numbers.{size, split, capacityOf, refusalNumber}
+use Rattle.model.specs.Range.{firstAllowed, extent}
+use Rattle.model.specs.Positions.{Positions, empty, bounded, stretches, changes, setRange, flipRange, shiftBy}
+use Rattle.model.specs.After.{set-below, set-above, flip-below, flip-above, changes-set}
+use Rattle.model.specs.Refusals.{tooMany}
+use Rattle.model.specs.Call.{Fed, wrongLength, unsound, holding, Call, Answer, refused, done, number}
+use Rattle.model.specs.Model.{positionsOf, change, changed, serve}
+use Rattle.store.specs.Layout.{capacity, heldBy}
+use Rattle.store.specs.Soundness.{Sound}
+use Rattle.store.specs.Settle.{Settled}
+use Rattle.changes.specs.declared.edit.Edit.{Edit}
+use Rattle.changes.specs.declared.edit.Fit.{Fit}
+use Rattle.changes.specs.Edits.{Edited, Fitted}
+use Rattle.changes.specs.Neighbours.{stretches-cong}
+use Rattle.interval_bit_set.specs.declared.look.Look.{Look}
+use Rattle.interval_bit_set.specs.Met.{fedOf, outcomeOf, Met}
+use Rattle.interval_bit_set.specs.Look.{Earned, Readable, Looked}
+use Rattle.interval_bit_set.proofs.Meeting.{met-by, Plain, leaves}
+use Rattle.interval_bit_set.proofs.Spans.{Within, of-range, count-nothing}
+
+-- the call c changes the positions held to Q of them, and answers A of them
+pub record Changes (w : List ℕ) (c : Call (List ℕ)) (Q : Positions → Positions) (A : Positions → Answer) : Type 0 where
+  pub said : outcomeOf w c ≡ change (capacity w) (fedOf w) [] (Q (positionsOf (fedOf w))) (A (positionsOf (fedOf w)))
+
+-- ---- too many runs
+-- at most the capacity
+fits-few : (C : ℕ) (Q : Positions) → stretches Q ≤ C → tooMany C Q ≡ false
+unfolding tooMany
+fits-few C Q h = le-ltb C (stretches Q) h
+
+-- more than it
+fits-not : (C : ℕ) (Q : Positions) → C < stretches Q → tooMany C Q ≡ true
+unfolding tooMany
+fits-not C Q h = lt-ltb C (stretches Q) h
+
+-- ---- by what is fed
+-- words of no store's length are refused first
+change-short : (C : ℕ) (Q : Positions) (a : Answer) → change C wrongLength [] Q a ≡ record { answer = refused 1; positions = empty }
+unfolding change
+change-short C Q a = refl
+
+-- then unsound ones
+change-unsound : (C : ℕ) (Q : Positions) (a : Answer) → change C unsound [] Q a ≡ record { answer = refused 7; positions = empty }
+unfolding change
+change-unsound C Q a = refl
+
+-- then too many runs
+change-full : (C : ℕ) (P Q : Positions) (a : Answer) → C < stretches Q → change C (holding P) [] Q a ≡ record { answer = refused 8; positions = P }
+unfolding change
+change-full C P Q a h = rw (fits-not C Q h) refl
+
+-- and else Q is held
+change-done : (C : ℕ) (P Q : Positions) (a : Answer) → stretches Q ≤ C → change C (holding P) [] Q a ≡ record { answer = a; positions = bounded Q }
+unfolding change
+change-done C P Q a h = rw (fits-few C Q h) refl
+
+-- below 2^64 a set is what is kept of it
+bounded-is : (Q : Positions) (x : ℕ) → x < size → Q x ≡ bounded Q x
+unfolding bounded
+bounded-is Q x h = sym (ap (λ t. t && Q x) (lt-ltb x size h))
+
+module _ {w : List ℕ} {c : Call (List ℕ)} {Q : Positions → Positions} {A : Positions → Answer} (says : Changes w c Q A) where
+  -- by what it is fed
+  fed-as : (s : Fed) → fedOf w ≡ s → outcomeOf w c ≡ change (capacity w) s [] (Q (positionsOf s)) (A (positionsOf s))
+  fed-as s e = says .said ∙ ap (λ f. change (capacity w) f [] (Q (positionsOf f)) (A (positionsOf f))) e
+
+  -- a store that earns a refusal gets it
+  earned : (r : Refusal) → Earned w r → Met w c (refused (refusalNumber r)) w
+  earned StoreLength h = met-by _ (fed-as wrongLength h ∙ change-short (capacity w) (Q empty) (A empty)) refl
+  earned Unsound h = met-by _ (fed-as unsound h ∙ change-unsound (capacity w) (Q empty) (A empty)) refl
+  earned OutputShort h = absurd h
+  earned SetLength h = absurd h
+  earned SetVersion h = absurd h
+  earned RunOrder h = absurd h
+  earned Window h = absurd h
+  earned Capacity h = absurd h
+
+  -- so does one that looking refuses
+  pub sent-away : {r : Refusal} (l : Look) → Looked w l → l ≡ Look.Refused r → Met w c (refused (refusalNumber r)) w
+  sent-away {r} l k e = earned r (subst (λ m. Looked w m) e k)
+
+  -- a readable store has no room for more runs than its capacity
+  pub full : {w′ : List ℕ} (Q′ : Positions) → Readable w → Q′ ≡ Q (heldBy w) → (capacity w < stretches Q′) × (w′ ≡ w) → Met w c (refused 8) w′
+  full Q′ R f h =
+      met-by _ (fed-as (holding (heldBy w)) (R .fed) ∙ change-full (capacity w) (heldBy w) (Q (heldBy w)) (A (heldBy w)) (subst (λ S. capacity w < stretches S) f (h .0))) (h .1)
+
+  -- and else is changed
+  pub changes-to : {w′ : List ℕ} {a : Answer} (Q′ : Positions) → Readable w → Q′ ≡ Q (heldBy w) → Settled w w′ Q′ → Plain (A (heldBy w)) → a ≡ A (heldBy w) → Met w c a w′
+  changes-to {w′} {a} Q′ R f S p g =
+      let same : (x : ℕ) → x < size → heldBy w′ x ≡ Q (heldBy w) x = λ x h. S .holds x h ∙ ap (λ T. T x) f in
+      let few : stretches (Q (heldBy w)) ≤ capacity w = omega (arith, stretches-cong (heldBy w′) (Q (heldBy w)) same, S .sound .fits, ap capacityOf (S .long)) in
+      subst (λ b. Met w c b w′) (sym g) (met-by _ (fed-as (holding (heldBy w)) (R .fed) ∙ change-done (capacity w) (heldBy w) (Q (heldBy w)) (A (heldBy w)) few) (leaves
+      (A (heldBy w)) p (record { sound = S .sound; positions = λ x h. same x h ∙ bounded-is (Q (heldBy w)) x h; long = S .long })))
+
+-- a sound store is its own change to the same set
+pub settled-self : (w : List ℕ) → Sound w → Settled w w (heldBy w)
+settled-self w S = record { sound = S; holds = λ x h. refl; long = refl }
+
+-- ---- of the positions from a to b
+module _ {l u : Bound} {a b : ℕ} (W : Within l u a b) (P : Positions) where
+  -- a set of them is one of the range
+  pub set-within : (v : Bool) → setRange a (suc b - a) v P ≡ setRange (firstAllowed l) (extent l u) v P
+  set-within v = of-range W (λ x n. setRange x n v P) refl
+
+  -- so is a flip
+  pub flip-within : flipRange a (suc b - a) P ≡ flipRange (firstAllowed l) (extent l u) P
+  flip-within = of-range W (λ x n. flipRange x n P) refl
+
+-- ---- of no position
+module _ (P : Positions) (a n : ℕ) (e : n ≡ 0) where
+  -- a set of it changes nothing
+  pub set-none : (v : Bool) → P ≡ setRange a n v P
+  set-none v = fun-ext (λ x. go x (split x a))
+    where
+      go : (x : ℕ) → (x < a) ⊎ (a ≤ x) → P x ≡ setRange a n v P x
+      go x (inl h) = sym (set-below a n v P x h)
+      go x (inr h) = sym (set-above a n v P x (omega arith))
+
+  -- nor does a flip
+  pub flip-none : P ≡ flipRange a n P
+  flip-none = fun-ext (λ x. go x (split x a))
+    where
+      go : (x : ℕ) → (x < a) ⊎ (a ≤ x) → P x ≡ flipRange a n P x
+      go x (inl h) = sym (flip-below a n P x h)
+      go x (inr h) = sym (flip-above a n P x (omega arith))
+
+-- so no position changed
+pub changes-none : (P : Positions) (a n : ℕ) (v : Bool) → n ≡ 0 → 0 ≡ changes P (setRange a n v P)
+changes-none P a n v e =
+    count-nothing P (not v) 0 0 refl ∙ sym (changes-set P 0 0 v (omega arith)) ∙ ap (changes P) (sym (set-none P 0 0 refl v) ∙ set-none P a n e v)
+
+-- ---- what a change tells, by what it answered
+module _ (w w′ : List ℕ) (Q : Positions) where
+  -- of one that counts
+  pub edited : {d : Edit} (e : Edit) → Edited w w′ Q e → e ≡ d → Edited w w′ Q d
+  edited e k f = subst (λ d. Edited w w′ Q d) f k
+
+  -- of one that does not
+  pub fitted : {d : Fit} (e : Fit) → Fitted w w′ Q e → e ≡ d → Fitted w w′ Q d
+  fitted e k f = subst (λ d. Fitted w w′ Q d) f k
+
+-- which calls change, and to what:
+module _ (w : List ℕ) where
+  -- a range gets a value
+  pub set-says : (l u : Bound) (v : Bool) → Changes w (Call.set l u v) (setRange (firstAllowed l) (extent l u) v) (λ P. number (changes P (setRange (firstAllowed l) (extent l u) v P)))
+  unfolding outcomeOf serve changed
+  set-says l u v = record { said = refl }
+
+  -- a range is inverted
+  pub flip-says : (l u : Bound) → Changes w (Call.flip l u) (flipRange (firstAllowed l) (extent l u)) (λ P. done)
+  unfolding outcomeOf serve
+  flip-says l u = record { said = refl }
+
+  -- all positions are moved
+  pub shift-says : (d : ℕ) (left : Bool) → Changes w (Call.shift d left) (shiftBy d left) (λ P. done)
+  unfolding outcomeOf serve
+  shift-says d left = record { said = refl }

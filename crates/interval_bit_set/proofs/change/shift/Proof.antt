@@ -1,0 +1,47 @@
+-- `shift` meets its contract: a sound store is moved by the distance, and always has room for what is left.
+-- Assumes nothing.
+use mathlib.Core.Path.{refl}
+use Rattle.interval_bit_set.proofs.Meeting.{looked-sound}
+use Rattle.interval_bit_set.proofs.Changing.{sent-away, changes-to, shift-says}
+use borrow.Author.Needs.{needs}
+use Rattle.interval_bit_set.proofs.change.shift.Statement.{statement}
+use Rattle.interval_bit_set.proofs.change.shift.Tie as tie
+
+look-at-requires : tie.Need-look-at-requires
+look-at-requires c κs = search needs
+
+enum-known-l : tie.Need-enum-known-l
+enum-known-l c = search needs
+
+enum-told : tie.Need-enum-told
+enum-told c = search needs
+
+shift-requires : tie.Need-shift-requires
+shift-requires c κs = (looked-sound _ (c .before .before .before .look-at .ensures) (c .before .enum-told .given .1)) .sound
+
+same-length : tie.Need-same-length
+same-length c = search needs
+
+returns : tie.Need-returns
+returns c = sent-away (shift-says _ _ _) _ (c .before .before .before .look-at .ensures) (c .before .l .given .1)
+
+same-length-2 : tie.Need-same-length-2
+same-length-2 c = search needs
+
+returns-2 : tie.Need-returns-2
+returns-2 c =
+    let R = looked-sound _ (c .before .before .before .before .before .before .look-at .ensures) (c .before .before .before .before .enum-told .given .1) in
+    changes-to (shift-says _ _ _) _ R refl (c .before .before .shift .ensures) tt refl
+
+pub shift-spec : {M : Type 1} → statement M
+shift-spec =
+    tie.close
+    (tie.spec
+    look-at-requires
+    enum-known-l
+    enum-told
+    shift-requires
+    same-length
+    returns
+    same-length-2
+    returns-2)
