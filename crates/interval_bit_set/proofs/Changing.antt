@@ -10,7 +10,8 @@ use borrow.Author.Tests.{lt-ltb, le-ltb}
 use Rattle.model.specs.declared.Bound.{Bound}
 use Rattle.model.specs.declared.Refusal.{Refusal}
 use Rattle.model.specs.declared.Refusal.the-variants.{StoreLength, OutputShort, SetLength, SetVersion, RunOrder, Window, Unsound, Capacity}
-use Rattle.model.specs.Numbers.{size, split, capacityOf, refusalNumber}
+use Rattle.model.specs.Numbers.{size, split, refusalNumber}
+use Rattle.model.specs.Places.{capacityOf}
 use Rattle.model.specs.Range.{firstAllowed, extent}
 use Rattle.model.specs.Positions.{Positions, empty, bounded, stretches, changes, setRange, flipRange, shiftBy}
 use Rattle.model.specs.After.{set-below, set-above, flip-below, flip-above, changes-set}
