@@ -1,0 +1,2 @@
+-- What the proof of `put` uses.
+pub mod Grown

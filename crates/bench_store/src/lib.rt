@@ -1,0 +1,85 @@
+// What the benchmark bench/soundness.rs calls: making a store, growing it by random sets, and deciding its soundness. No part of the
+// library; nothing depends on it.
+ghost use mathlib.Core.Path.{_≡_};
+ghost use Prim.Native.Nat.{_≤_};
+ghost use lib.ListN.{length};
+ghost use Rattle.store.specs.Soundness.{Sound};
+use changes::edit::Edit;
+use model::Logical;
+use model::Store;
+
+// Makes the words an empty store. False where no store has their length.
+#[no_mangle]
+pub extern "C" fn vizturel_bench_new(words: &mut [u64]) -> bool {
+    let s = Store::of_length(words.len());
+    if s.capacity == 0 {
+        return false;
+    }
+    store::free::make(words);
+    true
+}
+
+// Whether the words are a sound store. False where no store has their length.
+#[no_mangle]
+pub extern "C" fn vizturel_bench_is_sound(words: &[u64]) -> bool {
+    let s = Store::of_length(words.len());
+    if s.capacity == 0 {
+        return false;
+    }
+    store::soundness::is_sound(words)
+}
+
+// The next number of a row that looks random (xorshift; 0 is followed by 0).
+fn next_random(z: u64) -> u64 {
+    let a = z ^ (z << 13);
+    let b = a ^ (a >> 7);
+    b ^ (b << 17)
+}
+
+// The last of 1 to 100 positions from `first` on, as many as the number z tells; `first` itself where they would go past the end.
+fn last_of(first: u64, z: u64) -> u64
+    ensures { λ r. ⌜ first ≤ r ⌝ }
+{
+    let more = z % 100;
+    if first > u64::MAX - 99 {
+        return first;
+    }
+    first + more
+}
+
+// Sets first..=last to true, and tells whether the capacity admits it: 1 or 0.
+fn put(words: &mut [u64], first: u64, last: u64) -> u64
+    requires { ⌜ Sound (now words) ⌝ }
+    requires { ⌜ first ≤ last ⌝ }
+    ensures { λ r. ⌜ (Sound (now (words .exit))) × (length (now (words .exit)) ≡ length (now (words .entry))) × (r ≤ 1) ⌝ }
+{
+    let e = changes::edit::set(words, Logical(first), Logical(last), true);
+    match e {
+        Edit::Full => 0,
+        Edit::Changed(_) => 1,
+    }
+}
+
+// Makes so many random short sets in a sound store, and tells how many the capacity admitted. 0 where the words are no sound store.
+#[no_mangle]
+pub extern "C" fn vizturel_bench_grow(words: &mut [u64], seed: u64, sets: u64) -> u64 {
+    let s = Store::of_length(words.len());
+    if s.capacity == 0 {
+        return 0;
+    }
+    if !store::soundness::is_sound(words) {
+        return 0;
+    }
+    let mut z = seed;
+    let mut left = sets;
+    let mut admitted: u64 = 0;
+    while left > 0 {
+        z = next_random(z);
+        let first = z;
+        z = next_random(z);
+        let more = put(words, first, last_of(first, z));
+        admitted = std::num::wrapping_add_u64(admitted, more);
+        left -= 1;
+    }
+    admitted
+}
