@@ -1,12 +1,11 @@
-# make run    the main job: prove every crate and run every program
-# make test   every test; the last line is 'N passed, M failed'
-.PHONY: run test
+# make run                the main job: prove every crate and run every program
+# make test               every test; the last line is 'N passed, M failed'
+# make bench-soundness    how long the soundness decision takes, against readings of the same words (docs/BENCHMARKS.md)
+.PHONY: run test bench-soundness
 run:
 	rt check
 test:
 	@bash tests/run
-# make bench-soundness    how long the soundness decision takes, against readings of the same words (docs/BENCHMARKS.md)
-.PHONY: bench-soundness
 bench-soundness:
 	@mkdir -p target
 	rt staticlib bench_store > target/bench-soundness.log 2>&1 || { cat target/bench-soundness.log; exit 1; }
