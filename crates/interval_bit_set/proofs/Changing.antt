@@ -103,7 +103,7 @@ module _ {w : List ℕ} {c : Call (List ℕ)} {Q : Positions → Positions} {A :
       let same : (x : ℕ) → x < size → heldBy w′ x ≡ Q (heldBy w) x = λ x h. S .holds x h ∙ ap (λ T. T x) f in
       let few : stretches (Q (heldBy w)) ≤ capacity w = omega (arith, stretches-cong (heldBy w′) (Q (heldBy w)) same, S .sound .fits, ap capacityOf (S .long)) in
       subst (λ b. Met w c b w′) (sym g) (met-by _ (fed-as (holding (heldBy w)) (R .fed) ∙ change-done (capacity w) (heldBy w) (Q (heldBy w)) (A (heldBy w)) few) (leaves
-      (A (heldBy w)) p (record { sound = S .sound; positions = λ x h. same x h ∙ bounded-is (Q (heldBy w)) x h; long = S .long })))
+      (A (heldBy w)) p (record { sound = S .sound; holds = λ x h. same x h ∙ bounded-is (Q (heldBy w)) x h; long = S .long })))
 
 -- a sound store is its own change to the same set
 pub settled-self : (w : List ℕ) → Sound w → Settled w w (heldBy w)

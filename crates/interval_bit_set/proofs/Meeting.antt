@@ -27,7 +27,8 @@ use Rattle.store.specs.Free.{Emptied}
 use Rattle.store.proofs.Decided.{soundB-yes, soundB-no}
 use Rattle.store.proofs.Emptying.{empty-stretches}
 use Rattle.interval_bit_set.specs.declared.look.Look.{Look}
-use Rattle.interval_bit_set.specs.Met.{fedOf, outcomeOf, Holds, Leaves, Met}
+use Rattle.store.specs.Settle.{Settled}
+use Rattle.interval_bit_set.specs.Met.{fedOf, outcomeOf, Leaves, Met}
 use Rattle.interval_bit_set.specs.Look.{Earned, Readable, Looked}
 
 -- ---- what the model is fed
@@ -87,7 +88,7 @@ Plain (drawn o l) = Unit {0}
 Plain (written n bs) = Unit {0}
 
 -- after it the store holds the outcome's positions
-pub leaves : {w w′ : List ℕ} {P : Positions} (a : Answer) → Plain a → Holds w w′ P → Leaves w w′ P a
+pub leaves : {w w′ : List ℕ} {P : Positions} (a : Answer) → Plain a → Settled w w′ P → Leaves w w′ P a
 leaves (refused n) p h = absurd p
 leaves done p h = h
 leaves (number n) p h = h
@@ -134,7 +135,7 @@ module _ {w : List ℕ} {c : Call (List ℕ)} {cs : List Condition} {A : Positio
   unfolding report
   met {a} R e p f =
       subst (λ b. Met w c b w) (sym f) (met-by (record { answer = A (heldBy w); positions = heldBy w }) (fed-as (holding (heldBy w)) (R .fed) ∙ rw e) (leaves
-      (A (heldBy w)) p (record { sound = R .sound; positions = λ x h. refl; long = refl })))
+      (A (heldBy w)) p (record { sound = R .sound; holds = λ x h. refl; long = refl })))
 
 -- which calls report, and what:
 module _ (w : List ℕ) where
@@ -206,6 +207,6 @@ unfolding outcomeOf serve overwrite empty bounded
 make-done w w′ h E =
     met-by (record { answer = done; positions = bounded empty }) (rw (fed-sized w h, none-too-many (capacity w))) (record {
       sound = E .sound;
-      positions = λ x l. ap (λ P. P x) (E .holds) ∙ sym (and-false (ltb x size));
+      holds = λ x l. ap (λ P. P x) (E .holds) ∙ sym (and-false (ltb x size));
       long = E .long;
     })

@@ -1,13 +1,11 @@
 -- What every public call promises: its answer and what it leaves are what the plain model gives, and a refusal leaves every word as it
 -- was. Only the offset and the arrangement of nodes are left open; of them soundness and the positions held are said.
 -- Assumes nothing: these are definitions.
-use Prim.Native.Nat.{ℕ, _<_}
+use Prim.Native.Nat.{ℕ}
 use mathlib.Core.Path.{_≡_}
 use mathlib.Core.Bool.{Bool, true, false, cond}
 use mathlib.Core.List.{List}
 use lib.Dec.{eqb}
-use lib.ListN.{length}
-use Rattle.model.specs.Numbers.{size}
 use Rattle.model.specs.Positions.{Positions}
 use Rattle.model.specs.Call.{
   Fed,
@@ -29,8 +27,8 @@ use Rattle.model.specs.Call.{
 }
 use Rattle.model.specs.Model.{Outcome, serve}
 use Rattle.store.specs.Layout.{capacity, heldBy}
-use Rattle.store.specs.Soundness.{Sound}
 use Rattle.store.specs.Decision.{soundB}
+use Rattle.store.specs.Settle.{Settled}
 
 -- what the model is fed of a store's words: the refusal that they earn, or the positions held
 unfoldable pub fedOf : List ℕ → Fed
@@ -40,23 +38,17 @@ fedOf w = cond (eqb (capacity w) 0) wrongLength (cond (soundB w) (holding (heldB
 unfoldable pub outcomeOf : List ℕ → Call (List ℕ) → Outcome
 outcomeOf w c = serve (capacity w) (fedOf w) (feed fedOf c)
 
--- w′ is a sound store of the same length that holds P
-pub record Holds (w w′ : List ℕ) (P : Positions) : Type 0 where
-  pub sound : Sound w′
-  pub positions : (x : ℕ) → x < size → heldBy w′ x ≡ P x
-  pub long : length w′ ≡ length w
-
--- what is left of the words: all as it was after a refusal, else the outcome's positions
+-- what is left of the words: all as it was after a refusal, else a sound store of the same length that holds the outcome's positions
 abbrev pub Leaves : List ℕ → List ℕ → Positions → Answer → Type 0
 Leaves w w′ P (refused n) = w′ ≡ w
-Leaves w w′ P done = Holds w w′ P
-Leaves w w′ P (number n) = Holds w w′ P
-Leaves w w′ P (value b) = Holds w w′ P
-Leaves w w′ P (around r) = Holds w w′ P
-Leaves w w′ P (position o) = Holds w w′ P
-Leaves w w′ P (listing l) = Holds w w′ P
-Leaves w w′ P (drawn o l) = Holds w w′ P
-Leaves w w′ P (written n bs) = Holds w w′ P
+Leaves w w′ P done = Settled w w′ P
+Leaves w w′ P (number n) = Settled w w′ P
+Leaves w w′ P (value b) = Settled w w′ P
+Leaves w w′ P (around r) = Settled w w′ P
+Leaves w w′ P (position o) = Settled w w′ P
+Leaves w w′ P (listing l) = Settled w w′ P
+Leaves w w′ P (drawn o l) = Settled w w′ P
+Leaves w w′ P (written n bs) = Settled w w′ P
 
 -- THE CONTRACT of a call c on the words w that answered a and left w′
 pub record Met (w : List ℕ) (c : Call (List ℕ)) (a : Answer) (w′ : List ℕ) : Type 0 where
