@@ -52,20 +52,22 @@ pub record Coming (w path : List ℕ) (depth p : ℕ) (rs : List Run) : Type 0 w
   pub reach : EndsFrom p rs
   pub long : length path ≡ 22
 
--- of Q from y on the last part of a reading is to come: position z is kept at z - o
-pub record InLast (w path : List ℕ) (o depth y : ℕ) (Q : Positions) : Type 0 where
+-- of Q from y on the part up to top is to come, in which position z is kept at z + s - o: the last part, from o on, has s = 0 and reaches
+-- to M, and the first, below o, has s = 2^64
+pub record InPart (w path : List ℕ) (o s top depth y : ℕ) (Q : Positions) : Type 0 where
   pub runs : List Run
-  pub coming : Coming w path depth (y - o) runs
-  pub past : o ≤ y
-  pub tells : (z : ℕ) → y ≤ z → z < size → Q z ≡ mem runs (z - o)
+  pub coming : Coming w path depth (y + s - o) runs
+  pub past : o ≤ y + s
+  pub tells : (z : ℕ) → y ≤ z → z < top → Q z ≡ mem runs (z + s - o)
 
--- of Q from y on some of the first part and all of the last are to come: below o, position z is kept at z + (2^64 - o)
+abbrev pub InLast : List ℕ → List ℕ → ℕ → ℕ → ℕ → Positions → Type 0
+InLast w path o depth y Q = InPart w path o 0 size depth y Q
+
+-- some of the first part, and then all of the last
 pub record InFirst (w path : List ℕ) (o depth y : ℕ) (Q : Positions) : Type 0 where
-  pub runs : List Run
-  pub coming : Coming w path depth (y + (size - o)) runs
+  pub part : InPart w path o size o depth y Q
   pub before : y < o
   pub small : o < size
-  pub tells : (z : ℕ) → y ≤ z → z < o → Q z ≡ mem runs (z + (size - o))
   pub then : (z : ℕ) → o ≤ z → z < size → Q z ≡ mem (physicalRuns w) (z - o)
 
 -- what is to come of Q from y on
@@ -149,15 +151,14 @@ TellsZero w path depth b = (p : ℕ) (rs : List Run) → Coming w path depth p r
 
 -- the next run of the last part, and of the first: the reading stands at y, which is kept at p
 pub record ReadyLast (w path : List ℕ) (o depth p y : ℕ) (Q : Positions) : Type 0 where
-  pub sound : Sound w
   pub ready : InLast w path o depth y Q
   pub small : y < size
-  pub place : p ≡ y - o
+  pub place : p + o ≡ y
 
 pub record ReadyFirst (w path : List ℕ) (o depth p y : ℕ) (Q : Positions) : Type 0 where
   pub sound : Sound w
   pub ready : InFirst w path o depth y Q
-  pub place : p ≡ y + (size - o)
+  pub place : p + o ≡ y + size
 
 abbrev pub LastReady : List ℕ → List ℕ → ℕ → ℕ → ℕ → Type 0
 LastReady w path o depth p = (y : ℕ) × (Q : Positions) × ReadyLast w path o depth p y Q
@@ -165,8 +166,13 @@ LastReady w path o depth p = (y : ℕ) × (Q : Positions) × ReadyLast w path o 
 abbrev pub FirstReady : List ℕ → List ℕ → ℕ → ℕ → ℕ → Type 0
 FirstReady w path o depth p = (y : ℕ) × (Q : Positions) × ReadyFirst w path o depth p y Q
 
+-- a reading at y whose run, if there is one, does not start before y
+pub record Told (w path : List ℕ) (o : ℕ) (r : Source) (y : ℕ) (Q : Positions) : Type 0 where
+  pub reads : Reads w path o r y Q
+  pub late : r .live ≡ true → y ≤ r .start
+
 abbrev pub TellsLast : List ℕ → List ℕ → List ℕ → ℕ → ℕ → ℕ → Source → Type 0
-TellsLast w path path′ o depth p r = (y : ℕ) (Q : Positions) → ReadyLast w path o depth p y Q → Reads w path′ o r y Q
+TellsLast w path path′ o depth p r = (y : ℕ) (Q : Positions) → ReadyLast w path o depth p y Q → Told w path′ o r y Q
 
 abbrev pub TellsFirst : List ℕ → List ℕ → List ℕ → ℕ → ℕ → ℕ → Source → Type 0
 TellsFirst w path path′ o depth p r = (y : ℕ) (Q : Positions) → ReadyFirst w path o depth p y Q → Reads w path′ o r y Q

@@ -1,0 +1,5 @@
+-- What the proofs of several functions use.
+pub mod Dropping
+pub mod Paths
+pub mod Tops
+pub mod Parts
