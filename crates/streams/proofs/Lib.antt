@@ -3,3 +3,6 @@ pub mod Dropping
 pub mod Paths
 pub mod Tops
 pub mod Parts
+pub mod Lasts
+pub mod Firsts
+pub mod Starts
