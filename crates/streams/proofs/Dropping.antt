@@ -5,12 +5,11 @@ use mathlib.Core.Path.{_≡_, refl, sym, ap, _∙_}
 use mathlib.Core.Logic.{_⊎_, inl, inr}
 use mathlib.Core.List.{List, [], _∷_, _++_}
 use native.Mathlib.Omega.{arith}
-use lib.Dec.{ltb}
 use borrow.Author.Tests.{lt-ltb, le-ltb}
 use Rattle.model.specs.declared.Run.{Run}
 use Rattle.model.specs.Numbers.{split}
 use Rattle.model.specs.Positions.{mem}
-use Rattle.model.specs.RunList.{Canon, canon-weaken, mem-in, mem-above}
+use Rattle.model.specs.RunList.{Canon, canon-weaken, mem-above}
 use Rattle.model.specs.Search.{EndBelow, canon-ends}
 use Rattle.streams.specs.Reading.{EndsFrom, from}
 
@@ -74,7 +73,7 @@ from-canon total k p (r ∷ rs) c =
     go (inl g) ih = rw (lt-ltb (r .«end») p g) ih
     go (inr g) ih = rw (le-ltb (r .«end») p g) c
 
--- the front of a canonical list is canonical, and so is what follows a run
+-- the front of a canonical list is canonical
 pub canon-front : (total k : ℕ) (rs ss : List Run) → Canon total k (rs ++ ss) → Canon total k rs
 canon-front total k [] ss c = tt
 canon-front total k (r ∷ rs) ss c = (c .0, c .1, c .2, canon-front total (r .«end» + 2) rs ss (c .3))

@@ -7,7 +7,6 @@ use mathlib.Core.Bool.{Bool, true, false, false≢true, true≢false}
 use mathlib.Core.List.{List, [], _∷_}
 use native.Mathlib.Omega.{arith}
 use borrow.Author.Tests.{eqb-true, eqb-false}
-use lib.Dec.{eqb}
 use lib.ListN.{length}
 use Rattle.model.specs.declared.Run.{Run}
 use Rattle.model.specs.Numbers.{size, split}
@@ -17,8 +16,8 @@ use Rattle.model.specs.RunList.{Canon, mem-in, mem-before}
 use Rattle.store.specs.Layout.{physicalRuns}
 use Rattle.streams.specs.declared.source.Source.{Source}
 use Rattle.streams.specs.declared.source.Popped.{Popped}
-use Rattle.streams.specs.Reading.{Clear, Current, EndsFrom, Coming, InPart, InLast, InFirst, Ahead, spent, lastly, firstly, Stands, Reads, startsAtZero, ReadyLast, ReadyFirst, Told, Poppable, Pops}
-use Rattle.streams.proofs.Parts.{mem-none, Found, found-current, part-none, part-head, pop-clear, pop-reach, pop-ordered, pop-found, pop-then}
+use Rattle.streams.specs.Reading.{EndsFrom, Coming, InLast, InFirst, Ahead, spent, lastly, firstly, Stands, Reads, startsAtZero, ReadyLast, ReadyFirst, Told, Poppable, Pops}
+use Rattle.streams.proofs.Parts.{mem-none, Found, found-current, part-none, part-head, pop-reach, pop-ordered, pop-found, pop-then}
 use Rattle.streams.proofs.Lasts.{wrapped}
 
 -- whether 0 is held, by the first run
@@ -52,15 +51,17 @@ earlier {w} {path} {o} {y} {n} {Q} {r} le free t = go (r .live) (t .late) (t .re
     go : (t : Bool) → (t ≡ true → n ≤ r .start) → Stands w path o r n Q t → Stands w path o r y Q t
     go true late (cu, ah) =
         let a = late refl in
-        let b = cu .ahead in
-        (record {
-          ordered = cu .ordered;
-          ahead = omega arith;
-          small = cu .small;
-          clear = λ z h k. free-to (r .start) (cu .clear) z h k (split z n);
-          held = λ z h k l. cu .held z (omega arith) k l;
-          stops = cu .stops;
-        }, ah)
+        let b = cu .ahead in (
+          record {
+            ordered = cu .ordered;
+            ahead = omega arith;
+            small = cu .small;
+            clear = λ z h k. free-to (r .start) (cu .clear) z h k (split z n);
+            held = λ z h k l. cu .held z (omega arith) k l;
+            stops = cu .stops;
+          },
+          ah,
+        )
     go false late c = λ z h k. free-to size c z h k (split z n)
 
 module _ {w path : List ℕ} {o depth p y : ℕ} {Q : Positions} (h : ReadyFirst w path o depth p y Q) where
@@ -119,14 +120,15 @@ module _ {w path : List ℕ} {o depth p y : ℕ} {Q : Positions} (h : ReadyFirst
         let lo = h .ready .before in
         let s = h .ready .small in
         let eb : b + size ≡ x .«end» + o = wrapped (x .«end») o b (omega arith) (omega arith) s f in
-        let fd = pop-found (h .ready .part) ne ps lo a b start-is start-in (omega arith) (omega arith) (λ k. eb) in
-        (found-current fd (omega arith) (λ q k. absurd (omega arith)),
-        firstly refl (record {
-          part = pop-then (h .ready .part) ne ps lo a b start-is start-in (omega arith) (omega arith) (λ k. eb);
-          before = omega arith;
-          small = s;
-          then = h .ready .then;
-        }))
+        let fd = pop-found (h .ready .part) ne ps lo a b start-is start-in (omega arith) (omega arith) (λ k. eb) in (
+          found-current fd (omega arith) (λ q k. absurd (omega arith)),
+          firstly refl (record {
+            part = pop-then (h .ready .part) ne ps lo a b start-is start-in (omega arith) (omega arith) (λ k. eb);
+            before = omega arith;
+            small = s;
+            then = h .ready .then;
+          }),
+        )
 
     -- it reaches physical M, and so o
     module _ (l : size - 1 ≤ x .«end») where
@@ -150,15 +152,17 @@ module _ {w path : List ℕ} {o depth p y : ℕ} {Q : Positions} (h : ReadyFirst
               let f = to-seam in
               let lo = h .ready .before in
               let k = cu .ahead in
-              let fo = f .ordered in
-              (record {
-                ordered = omega arith;
-                ahead = omega arith;
-                small = cu .small;
-                clear = f .clear;
-                held = λ z g i j. held z i j (split z o);
-                stops = cu .stops;
-              }, ahead-as refl refl ah)
+              let fo = f .ordered in (
+                record {
+                  ordered = omega arith;
+                  ahead = omega arith;
+                  small = cu .small;
+                  clear = f .clear;
+                  held = λ z g i j. held z i j (split z o);
+                  stops = cu .stops;
+                },
+                ahead-as refl refl ah,
+              )
             where
               starts : (o < s .start) ⊎ (s .start ≤ o) → s .start ≤ o
               starts (inl g) = absurd (true≢false (sym on ∙ cu .clear o (omega arith) g))
@@ -174,6 +178,7 @@ module _ {w path : List ℕ} {o depth p y : ℕ} {Q : Positions} (h : ReadyFirst
       first-stop {path″} {d} c z =
           let lo = h .ready .before in
           let s = h .ready .small in
-          let n : suc (o - 1) ≡ o = omega arith in
-          (found-current to-seam (omega arith) (λ q k. ap Q n ∙ seam (zero-free (physicalRuns w) (c .ordered) z)),
-          lastly refl (subst (λ m. InLast w path″ o d m Q) (sym n) (first-last c .ready)))
+          let n : suc (o - 1) ≡ o = omega arith in (
+            found-current to-seam (omega arith) (λ q k. ap Q n ∙ seam (zero-free (physicalRuns w) (c .ordered) z)),
+            lastly refl (subst (λ m. InLast w path″ o d m Q) (sym n) (first-last c .ready)),
+          )

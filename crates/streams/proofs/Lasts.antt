@@ -10,8 +10,8 @@ use Rattle.model.specs.Places.{logicalOf}
 use Rattle.model.specs.Positions.{Positions}
 use Rattle.streams.specs.declared.source.Source.{Source}
 use Rattle.streams.specs.declared.source.Popped.{Popped}
-use Rattle.streams.specs.Reading.{Clear, Ahead, spent, lastly, firstly, ReadyLast, Told, Poppable, Pops}
-use Rattle.streams.proofs.Parts.{Found, found-current, part-none, part-head, pop-clear, pop-reach, pop-ordered, pop-found, pop-then}
+use Rattle.streams.specs.Reading.{Clear, lastly, ReadyLast, Told, Poppable, Pops}
+use Rattle.streams.proofs.Parts.{found-current, part-none, part-head, pop-clear, pop-found, pop-then}
 
 -- a source with no run
 abbrev pub nothing : Source

@@ -1,7 +1,7 @@
 -- The next run of a part of a reading, told from the first run to come: clipped to where the reading stands and to the part's end.
 -- In the part up to top, position z is kept at z + s - o. Assumes nothing.
 use Prim.Native.Nat.{ℕ, suc, _+_, _-_, _≤_, _<_, max}
-use mathlib.Core.Path.{_≡_, refl, sym, ap, _∙_, subst}
+use mathlib.Core.Path.{_≡_, refl, ap, _∙_, subst}
 use mathlib.Core.Logic.{_⊎_, inl, inr}
 use mathlib.Core.Bool.{true, false}
 use mathlib.Core.List.{List, [], _∷_}
@@ -12,7 +12,7 @@ use Rattle.model.specs.Numbers.{size, split}
 use Rattle.model.specs.Positions.{Positions, mem}
 use Rattle.model.specs.RunList.{Canon, canon-weaken, mem-in, mem-above, mem-below, mem-before}
 use Rattle.streams.specs.declared.source.Popped.{Popped}
-use Rattle.streams.specs.Reading.{Current, Rest, EndsFrom, Coming, InPart, OnPath, Pops}
+use Rattle.streams.specs.Reading.{Current, Rest, EndsFrom, InPart, OnPath, Pops}
 use Rattle.streams.proofs.Tops.{rest-none, rest-some}
 
 -- nothing is held where there is no run

@@ -1,12 +1,12 @@
 -- The path of a reading, and the walk down a tree that puts nodes on it. What is to come is the same all along the walk: at a node whose
 -- run ends before p that run and the left side are dropped, and any other node is put on the path for its run and its right side.
 -- Assumes nothing.
-use Prim.Native.Nat.{ℕ, zero, suc, _+_, _-_, _≤_, _<_, max}
+use Prim.Native.Nat.{ℕ, _+_, _-_, _≤_, _<_, max}
 use mathlib.Core.Path.{_≡_, refl, sym, ap, _∙_, subst}
 use mathlib.Core.List.{List, [], _∷_, _++_, append-assoc}
 use native.Mathlib.Numerals.{add-one}
 use native.Mathlib.Omega.{arith}
-use lib.ListN.{length, getD, set, length-set}
+use lib.ListN.{getD, set, length-set}
 use lib.Seq.{getD-set-same, getD-set-other}
 use Rattle.model.specs.declared.Run.{Run}
 use Rattle.model.specs.Numbers.{size}
@@ -15,8 +15,8 @@ use Rattle.model.specs.RunList.{Canon, canon-weaken, canon-wider}
 use Rattle.model.specs.Search.{canon-split}
 use Rattle.run_index.specs.declared.Node.{Node}
 use Rattle.run_index.specs.Cells.{cellAt, Room}
-use Rattle.run_index.specs.Tree.{Tree, leaf, node, link, height, inorder, cell, Rep, At}
-use Rattle.run_index.proofs.Trees.{rep-room, rep-cell, rep-right, at-none, room-at}
+use Rattle.run_index.specs.Tree.{Tree, link, height, inorder, Rep}
+use Rattle.run_index.proofs.Trees.{at-none}
 use Rattle.run_index.proofs.Heap.{View, view, heightAt, left-falls, right-falls}
 use Rattle.streams.specs.Reading.{Rest, none, more, from, Below, Descends}
 use Rattle.streams.proofs.Dropping.{from-skip, from-keep}

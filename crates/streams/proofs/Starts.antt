@@ -3,24 +3,22 @@
 use Prim.Native.Nat.{ℕ, suc, _+_, _-_, _≤_, _<_}
 use mathlib.Core.Path.{_≡_, refl, sym, ap, _∙_, subst}
 use mathlib.Core.Bool.{Bool, true, false, not, _&&_, false≢true, true≢false}
-use mathlib.Core.List.{List, [], _∷_, _++_, append-nil}
+use mathlib.Core.List.{List, [], _++_, append-nil}
 use native.Mathlib.Omega.{arith}
 use borrow.Author.Tests.{lt-ltb}
-use lib.Dec.{ltb}
 use lib.ListN.{length}
-use Rattle.model.specs.declared.Run.{Run}
 use Rattle.model.specs.Numbers.{size}
 use Rattle.model.specs.Places.{physicalOf}
 use Rattle.model.specs.Positions.{Positions, run, mem}
 use Rattle.model.specs.RunList.{Canon, mem-in, mem-under, mem-above}
-use Rattle.run_index.specs.Tree.{Tree, inorder}
+use Rattle.run_index.specs.Tree.{inorder}
 use Rattle.store.specs.declared.Header.{Header}
 use Rattle.store.specs.Layout.{headerAt, physicalRuns, turned}
 use Rattle.store.specs.Soundness.{Sound}
 use Rattle.store.proofs.Decided.{kept-low, kept-physical}
 use Rattle.store.proofs.Opening.{sound-index}
 use Rattle.streams.specs.declared.source.Source.{Source}
-use Rattle.streams.specs.Reading.{Clear, Current, Rest, none, Coming, InPart, Ahead, spent, lastly, firstly, Stands, AtRun, Covers, from, Below, Descends, ReadyLast, ReadyFirst}
+use Rattle.streams.specs.Reading.{Clear, Current, Rest, none, Coming, Ahead, spent, lastly, firstly, Stands, AtRun, Covers, from, Below, Descends, ReadyLast, ReadyFirst}
 use Rattle.streams.proofs.Dropping.{from-zero, from-ends, from-canon, mem-from}
 use Rattle.streams.proofs.Parts.{mem-none, part-none}
 
@@ -150,12 +148,14 @@ module _ {w path : List ℕ} {o : ℕ} {s : Source} {x : ℕ} {Q : Positions} (h
 
 -- one run alone
 pub one-run : (a b : ℕ) → a ≤ b → b < size → Covers (record { live = true; start = a; «end» = b; depth = 0; last = true }) a b
-one-run a b h k w path o =
-    (record {
-      ordered = h;
-      ahead = omega arith;
-      small = k;
-      clear = λ z g l. mem-under (run a b) [] z l ∙ mem-none z;
-      held = λ z g l m. mem-in (run a b) [] z l m;
-      stops = λ l. mem-above (run a b) [] (suc b) (omega arith) ∙ mem-none (suc b);
-    }, spent refl refl (λ z g l. mem-above (run a b) [] z (omega arith) ∙ mem-none z))
+one-run a b h k w path o = (
+  record {
+    ordered = h;
+    ahead = omega arith;
+    small = k;
+    clear = λ z g l. mem-under (run a b) [] z l ∙ mem-none z;
+    held = λ z g l m. mem-in (run a b) [] z l m;
+    stops = λ l. mem-above (run a b) [] (suc b) (omega arith) ∙ mem-none (suc b);
+  },
+  spent refl refl (λ z g l. mem-above (run a b) [] z (omega arith) ∙ mem-none z),
+)

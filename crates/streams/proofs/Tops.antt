@@ -1,17 +1,17 @@
 -- The nearest node on the path: its cell tells the first run to come, and its right side is put on the path in its place. Assumes nothing.
-use Prim.Native.Nat.{ℕ, zero, suc, _+_, _-_, _≤_, _<_, max}
+use Prim.Native.Nat.{ℕ, suc, _+_, _-_, _≤_}
 use mathlib.Core.Path.{_≡_, refl, sym, ap, _∙_, subst}
 use mathlib.Core.Bool.{false}
 use mathlib.Core.List.{List, [], _∷_, _++_}
 use native.Mathlib.Omega.{arith}
 use lib.Dec.{eqb}
-use lib.ListN.{length, getD}
+use lib.ListN.{getD}
 use Rattle.model.specs.declared.Run.{Run}
 use Rattle.model.specs.Numbers.{size}
 use Rattle.model.specs.RunList.{canon-weaken}
 use Rattle.run_index.specs.declared.Node.{Node}
 use Rattle.run_index.specs.Cells.{cellAt, Room}
-use Rattle.run_index.specs.Tree.{Tree, link, height, inorder, cell, Rep}
+use Rattle.run_index.specs.Tree.{Tree, height, inorder, cell, Rep}
 use Rattle.run_index.proofs.Trees.{rep-room, rep-cell, rep-right}
 use Rattle.streams.specs.Reading.{Rest, none, more, Below, Descends, OnPath, Taken, startsAtZero}
 use Rattle.streams.proofs.Dropping.{from-zero, canon-front}

@@ -1,6 +1,5 @@
 -- `pop` meets its contract: the nearest node has the first run to come, and its right side goes on the path in its place.
 -- Assumes nothing.
-use borrow.Author.Needs.{needs}
 use native.Mathlib.Omega.{arith}
 use Rattle.streams.proofs.Tops.{rest-top, rest-low, pop-below, pop-taken}
 use Rattle.streams.proofs.source.pop.Statement.{statement}
