@@ -6,3 +6,4 @@ pub mod Parts
 pub mod Lasts
 pub mod Firsts
 pub mod Starts
+pub mod Gathered
