@@ -4,3 +4,4 @@ pub mod Spans
 pub mod Draws
 pub mod Windows
 pub mod Changing
+pub mod Lending
