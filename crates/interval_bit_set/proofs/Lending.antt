@@ -20,7 +20,7 @@ use Rattle.interval_bit_set.specs.Lent.{listingOf, movedBy, Draws}
 use Rattle.interval_bit_set.proofs.Meeting.{Reports, draw-front-says, draw-back-says}
 
 -- an answer that gives a listing gives one of the value v
-abbrev pub Valued : Bool → Answer → Type 0
+abbrev Valued : Bool → Answer → Type 0
 Valued v (refused n) = Unit {0}
 Valued v done = Unit {0}
 Valued v (number n) = Unit {0}
@@ -54,7 +54,7 @@ settled : (v : Bool) (o : Option ℕ) (P : Positions) (a : Answer) → Valued v 
 settled v none P a h = h
 settled v (some n) P a h = tt
 
--- so a call that reports answers as it does of the positions held
+-- so a call that reports gives a listing of the value v, if its answer of any positions does
 reported : {w : List ℕ} {c : Call (List ℕ)} {A : Positions → Answer} (v : Bool) → Reports w c [] A → ((P : Positions) → Valued v (A P)) → Valued v ((outcomeOf w c) .answer)
 unfolding report
 reported {w} {c} {A} v says h =
@@ -74,6 +74,7 @@ module _ (draw : Listing → Call (List ℕ)) (w : List ℕ) (l : Listing) (same
     unmoved = tt;
   }
 
+  -- the same of what was made of that answer
   drew : (d : Drawn) {r : Draw} → Met w (draw l) (drawnAnswer d) w → r ≡ movedBy d (l .first) (l .last) → Draws draw w l (r .next) (listingOf (r .first) (r .last) (l .value))
   drew d m e = subst (λ (s : Draw). Draws draw w l (s .next) (listingOf (s .first) (s .last) (l .value))) (sym e) (told d m)
 

@@ -5,3 +5,4 @@ pub mod Draws
 pub mod Windows
 pub mod Changing
 pub mod Lending
+pub mod Drawing
