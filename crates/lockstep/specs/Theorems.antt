@@ -12,36 +12,37 @@ use Rattle.interval_bit_set.specs.Met.{Met}
 use Rattle.lockstep.specs.History.{History, New, Played, told, outcomes, Follows, WritesSet, Loads, Writable}
 
 -- Theorem 1: from a new empty store, every answer, refusal and the positions after each call are the plain model's, fed the calls alone
-abbrev pub Theorem1 : Type 0
-Theorem1 =
+pub theorem1 :
     {C : ℕ} {w : List ℕ} {cs : List (Call (List ℕ))} {rs : List Answer} {ws : List (List ℕ)}
     → New C w → History w cs rs ws → Follows rs ws (outcomes C empty (told cs))
+theorem1 = ?
 
 -- Theorem 2, in three sentences about any two histories at one capacity.
 -- Sets written by the two stores are the same bytes exactly when the model's positions are the same
-abbrev pub Theorem2-bytes : Type 0
-Theorem2-bytes =
+pub theorem2-bytes :
     {C : ℕ} {cs cs′ : List (Call (List ℕ))} {w w′ bs bs′ : List ℕ}
     → Played C cs w → Played C cs′ w′ → WritesSet w bs → WritesSet w′ bs′
     → (after C empty (told cs) ≡ after C empty (told cs′) → bs ≡ bs′) × (bs ≡ bs′ → after C empty (told cs) ≡ after C empty (told cs′))
+theorem2-bytes = ?
 
 -- an answer that tells of bytes written
 abbrev pub Wrote : Answer → Type 0
 Wrote a = (n : ℕ) × (bs : List ℕ) × (a ≡ written n bs)
 
 -- a slice of 5 + 16 × C bytes is long enough: writing a set into it is not refused
-abbrev pub Theorem2-room : Type 0
-Theorem2-room =
+pub theorem2-room :
     {C : ℕ} {cs : List (Call (List ℕ))} {w out v : List ℕ} {a : Answer}
     → Played C cs w → 5 + 16 * C ≤ length out → Met w (Call.writeSet out) a v → Wrote a
+theorem2-room = ?
 
 -- and where the model's positions are the same, the two stores answer every later list of equal calls alike
-abbrev pub Theorem2-later : Type 0
-Theorem2-later =
+pub theorem2-later :
     {C : ℕ} {cs cs′ ds ds′ : List (Call (List ℕ))} {w w′ : List ℕ} {rs rs′ : List Answer} {ws ws′ : List (List ℕ)}
     → Played C cs w → Played C cs′ w′ → after C empty (told cs) ≡ after C empty (told cs′) → told ds ≡ told ds′
     → History w ds rs ws → History w′ ds′ rs′ ws′ → rs ≡ rs′
+theorem2-later = ?
 
--- Theorem 3: a byte string loads into some store of a capacity exactly when some history at that capacity writes it rs a set
-abbrev pub Theorem3 : Type 0
-Theorem3 = {C : ℕ} {bs : List ℕ} → AllBytes bs → (Loads C bs → Writable C bs) × (Writable C bs → Loads C bs)
+-- Theorem 3: a byte string loads into some store of a capacity exactly when some history at that capacity writes it as a set
+pub theorem3 :
+    {C : ℕ} {bs : List ℕ} → AllBytes bs → (Loads C bs → Writable C bs) × (Writable C bs → Loads C bs)
+theorem3 = ?
