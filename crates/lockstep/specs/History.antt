@@ -1,10 +1,9 @@
 -- Histories: lists of public calls on one store, refused ones included, each call getting the store as the last one left it and nobody else
 -- writing it. A step is what the public function of that call promises (`Met`), and nothing more. Assumes nothing: these are definitions.
-use Prim.Native.Nat.{ℕ, _<_}
+use Prim.Native.Nat.{ℕ}
 use mathlib.Core.Path.{_≡_}
 use mathlib.Core.List.{List, [], _∷_}
-use lib.ListN.{length, take}
-use Rattle.model.specs.Numbers.{size}
+use lib.ListN.{take}
 use Rattle.model.specs.Positions.{Positions, empty}
 use Rattle.model.specs.Call.{Fed, Call, feed, Answer, done, written}
 use Rattle.model.specs.Model.{Outcome, step}
