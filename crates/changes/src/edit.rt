@@ -24,7 +24,7 @@ pub enum Edit {
 }
 
 // 1 if a run goes on from x - 1 to x, else 0.
-fn going_on(words: &[u64], x: Logical) -> u64
+pub fn going_on(words: &[u64], x: Logical) -> u64
     requires { ⌜ Sound (now words) ⌝ }
     ensures { λ r. ⌜ r ≡ oneIf (goesOn (heldBy (now (words .entry))) (x .0)) ⌝ }
 {
@@ -41,7 +41,7 @@ fn going_on(words: &[u64], x: Logical) -> u64
 }
 
 // 1 if a run goes on from x to x + 1, else 0.
-fn going_past(words: &[u64], x: Logical) -> u64
+pub fn going_past(words: &[u64], x: Logical) -> u64
     requires { ⌜ Sound (now words) ⌝ }
     ensures { λ r. ⌜ r ≡ oneIf (goesOn (heldBy (now (words .entry))) (suc (x .0))) ⌝ }
 {
@@ -53,7 +53,7 @@ fn going_past(words: &[u64], x: Logical) -> u64
 }
 
 // 1 if the position before x is there and held, else 0.
-fn held_before(words: &[u64], x: Logical) -> u64
+pub fn held_before(words: &[u64], x: Logical) -> u64
     requires { ⌜ Sound (now words) ⌝ }
     ensures { λ r. ⌜ r ≡ oneIf (heldBelow (heldBy (now (words .entry))) (x .0)) ⌝ }
 {
@@ -69,7 +69,7 @@ fn held_before(words: &[u64], x: Logical) -> u64
 }
 
 // 1 if the position after x is there and held, else 0.
-fn held_after(words: &[u64], x: Logical) -> u64
+pub fn held_after(words: &[u64], x: Logical) -> u64
     requires { ⌜ Sound (now words) ⌝ }
     ensures { λ r. ⌜ r ≡ oneIf (heldAbove (heldBy (now (words .entry))) (x .0)) ⌝ }
 {

@@ -4,3 +4,5 @@ pub mod Spans
 pub mod Draws
 pub mod Windows
 pub mod Changing
+pub mod Lending
+pub mod Drawing

@@ -6,6 +6,7 @@ use lib.ListN.{length}
 use Rattle.model.specs.Numbers.{size}
 use Rattle.model.specs.Positions.{Positions, stretches, mem}
 use Rattle.model.specs.RunList.{Canon}
+use Rattle.run_index.specs.declared.Node.{Node}
 use Rattle.run_index.specs.Tree.{Tree, inorder}
 use Rattle.run_index.specs.Shape.{runsAt}
 use Rattle.store.specs.Layout.{headerAt, capacity, turned, heldBy}
@@ -27,6 +28,10 @@ Refreshable w = (t : Tree) × (ns : List ℕ) × Ready w t ns
 
 abbrev pub Refreshes : List ℕ → List ℕ → Type 0
 Refreshes w w′ = (t : Tree) (ns : List ℕ) → Ready w t ns → Settled w w′ (turned ((headerAt w) .offset) (mem (inorder t)))
+
+-- a node with a run and nothing else
+abbrev pub nodeOf : ℕ → ℕ → Node
+nodeOf a b = record { start = a; «end» = b; left = 0; right = 0; height = 0; runs = 0; ones = 0; tag = 0 }
 
 -- the nodes 1 .. n hold runs that a store of that capacity can have
 pub record Linkable (w : List ℕ) (n : ℕ) : Type 0 where

@@ -1,7 +1,9 @@
 // Bringing the header into agreement with the tree, and making a store of nodes that hold their runs.
 ghost use mathlib.Core.Path.{_≡_};
-ghost use Rattle.store.specs.Settle.{Refreshable, Refreshes, Linkable, Links};
+ghost use Rattle.run_index.specs.Cells.{Room, Wrote};
+ghost use Rattle.store.specs.Settle.{Refreshable, Refreshes, nodeOf, Linkable, Links};
 use crate::Header;
+use run_index::Node;
 
 // Sets the header's sums and its first and last position from the tree. An empty store gets offset 0.
 pub fn refresh(words: &mut [u64])
@@ -40,6 +42,27 @@ pub fn refresh(words: &mut [u64])
             first: first.0,
             last: last.0,
             spare: 0,
+        },
+    );
+}
+
+// Writes a run, and nothing else, into a node.
+pub fn put_run(words: &mut [u64], n: u64, start: u64, end: u64)
+    requires { ⌜ Room (now words) n ⌝ }
+    ensures { λ _. ⌜ Wrote (now (words .entry)) (now (words .exit)) n (nodeOf start «end») ⌝ }
+{
+    run_index::write_node(
+        words,
+        n,
+        Node {
+            start: start,
+            end: end,
+            left: 0,
+            right: 0,
+            height: 0,
+            runs: 0,
+            ones: 0,
+            tag: 0,
         },
     );
 }

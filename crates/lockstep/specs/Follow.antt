@@ -1,0 +1,154 @@
+-- A sound store that holds the model's positions answers each call as the model does, and holds the model's positions after it. So a whole
+-- history goes along with the model, from a new store on. Assumes nothing.
+use Prim.Native.Nat.{ℕ, _<_, _≤_}
+use mathlib.Core.Path.{_≡_, refl, sym, ap, ap₂, _∙_, subst, fun-ext}
+use mathlib.Core.Logic.{_⊎_, inl, inr}
+use mathlib.Core.Bool.{_&&_}
+use mathlib.Core.List.{List, [], _∷_, _++_}
+use mathlib.Core.Option.{Option, none, some}
+use borrow.Author.Tests.{le-ltb, lt-ltb}
+use Rattle.model.specs.Numbers.{size, split}
+use Rattle.model.specs.Places.{physicalOf, capacityOf}
+use Rattle.model.specs.Positions.{Positions, empty, mem, bounded}
+use Rattle.model.specs.Refusals.{Condition, _when_, refusal, tooMany}
+use Rattle.model.specs.Refusals.{capacity as tooMuch}
+use Rattle.model.specs.Call.{Fed, holding, Call, feed, Answer, refused, done, number, value, around, position, listing, drawn, written}
+use Rattle.model.specs.Model.{Outcome, positionsOf, overwrites, settle, overwrite, serve, step, after}
+use Rattle.store.specs.Layout.{headerAt, capacity, physicalRuns, turned, heldBy}
+use Rattle.store.specs.Soundness.{Sound}
+use Rattle.store.specs.Settle.{Settled}
+use Rattle.interval_bit_set.specs.Met.{fedOf, outcomeOf, Leaves, Met}
+use Rattle.interval_bit_set.proofs.Meeting.{Plain, fed-sound}
+use Rattle.lockstep.specs.History.{History, rest, call, New, Played, told, outcomes, left, Follows, over, next}
+use Rattle.lockstep.specs.Steps.{Ends, bounded-ends, Served, served, unrefused}
+
+-- the words w are a sound store of capacity C that holds P
+pub record Holds (C : ℕ) (P : Positions) (w : List ℕ) : Type 0 where
+  pub sound : Sound w
+  pub sized : capacity w ≡ C
+  pub held : heldBy w ≡ P
+
+-- no store holds a position above 2^64 − 1
+pub held-ends : (w : List ℕ) → Ends (heldBy w)
+unfolding heldBy turned
+held-ends w x h = ap (λ t. t && mem (physicalRuns w) (physicalOf x ((headerAt w) .offset))) (le-ltb x size h)
+
+-- two sets that end and agree below 2^64 are the same
+pub same-positions : (P Q : Positions) → Ends P → Ends Q → ((x : ℕ) → x < size → P x ≡ Q x) → P ≡ Q
+same-positions P Q p q h = fun-ext (λ x. go x (split x size))
+  where
+    go : (x : ℕ) → (x < size) ⊎ (size ≤ x) → P x ≡ Q x
+    go x (inl l) = h x l
+    go x (inr l) = p x l ∙ sym (q x l)
+
+-- an answer that is no refusal leaves the outcome's positions
+settled : {w w′ : List ℕ} {Q : Positions} (a : Answer) → Plain a → Leaves w w′ Q a → Settled w w′ Q
+settled (refused n) p l = absurd p
+settled done p l = l
+settled (number n) p l = l
+settled (value b) p l = l
+settled (around r) p l = l
+settled (position o) p l = l
+settled (listing m) p l = l
+settled (drawn o m) p l = l
+settled (written n bs) p l = l
+
+-- below 2^64 a bound changes nothing
+pub bounded-below : (Q : Positions) (x : ℕ) → x < size → bounded Q x ≡ Q x
+unfolding bounded
+bounded-below Q x h = ap (λ t. t && Q x) (lt-ltb x size h)
+
+-- nor does it change a set that ends
+bounded-same : (Q : Positions) → Ends Q → bounded Q ≡ Q
+bounded-same Q q = same-positions (bounded Q) Q (bounded-ends Q) q (bounded-below Q)
+
+-- the empty set ends
+empty-ends : Ends empty
+unfolding empty
+empty-ends x h = refl
+
+module _ {C : ℕ} {w w′ : List ℕ} where
+  -- what settles with Q holds Q
+  settled-holds : {Q : Positions} → Settled w w′ Q → capacity w ≡ C → Ends Q → Holds C Q w′
+  settled-holds {Q} S e q = record {
+    sound = S .sound;
+    sized = ap capacityOf (S .long) ∙ e;
+    held = same-positions (heldBy w′) Q (held-ends w′) q (S .holds);
+  }
+
+  -- whatever the answer, the positions after a call are the outcome's
+  module _ {P : Positions} (o : Outcome) (S : Served P o) (a : Answer) (H : Holds C P w) (said : a ≡ o .answer) (leaves : Leaves w w′ (o .positions) a) where
+    by-cause : (y : Option ℕ) → o ≡ settle y P (S .said) (S .next) → Holds C (o .positions) w′
+    by-cause none f =
+        let q : o .positions ≡ S .next = ap (λ p. p .positions) f in
+        settled-holds
+        (settled (S .said) (S .plain) (subst (λ b. Leaves w w′ (o .positions) b) (said ∙ ap (λ p. p .answer) f) leaves))
+        (H .sized)
+        (subst Ends (sym q) (S .ends (subst Ends (H .held) (held-ends w))))
+    by-cause (some n) f =
+        let same : w′ ≡ w = subst (λ b. Leaves w w′ (o .positions) b) (said ∙ ap (λ p. p .answer) f) leaves in
+        subst (λ v. Holds C (o .positions) v) (sym same) (subst (λ Q. Holds C Q w) (sym (ap (λ p. p .positions) f)) H)
+
+    held-after : Holds C (o .positions) w′
+    held-after = by-cause (S .why) (S .is)
+
+-- the outcome of a call is the model's step
+pub outcome-is : {C : ℕ} {P : Positions} {w : List ℕ} → Holds C P w → (c : Call (List ℕ)) → outcomeOf w c ≡ step C P (feed fedOf c)
+unfolding outcomeOf step
+outcome-is {C} {P} {w} H c = ap₂ (λ k s. serve k s (feed fedOf c)) (H .sized) ((fed-sound w (H .sound)) .fed ∙ ap holding (H .held))
+
+-- one call: the answer is the model's
+pub answer-is : {C : ℕ} {P : Positions} {w w′ : List ℕ} {c : Call (List ℕ)} {a : Answer} → Holds C P w → Met w c a w′ → a ≡ (step C P (feed fedOf c)) .answer
+answer-is {c = c} H m = m .answered ∙ ap (λ o. o .answer) (outcome-is H c)
+
+-- and so are the positions
+pub step-holds : {C : ℕ} {P : Positions} {w w′ : List ℕ} {c : Call (List ℕ)} {a : Answer} → Holds C P w → Met w c a w′ → Holds C ((step C P (feed fedOf c)) .positions) w′
+unfolding step
+step-holds {C} {P} {w} {w′} {c} {a} H m =
+    held-after (serve C (holding P) (feed fedOf c)) (served C P (feed fedOf c)) a H (answer-is H m)
+    (subst (λ o. Leaves w w′ (o .positions) a) (outcome-is H c) (m .left))
+
+-- a whole history from there: every answer, and the positions after each call
+pub follows : {C : ℕ} {P : Positions} {w : List ℕ} {cs : List (Call (List ℕ))} {rs : List Answer} {ws : List (List ℕ)}
+    → Holds C P w → History w cs rs ws → Follows rs ws (outcomes C P (told cs))
+follows H rest = over
+follows H (call m h) = let K = step-holds H m in next (answer-is H m) (K .held) (follows K h)
+
+-- and the store in the end
+pub left-holds : {C : ℕ} {P : Positions} {w : List ℕ} {cs : List (Call (List ℕ))} {rs : List Answer} {ws : List (List ℕ)}
+    → Holds C P w → History w cs rs ws → Holds C (after C P (told cs)) (left w ws)
+unfolding after
+left-holds H rest = H
+left-holds H (call m h) = left-holds (step-holds H m) h
+
+-- an overwriting call that is done was not refused, and leaves what it overwrites with
+pub overwritten : {C : ℕ} {w w′ : List ℕ} {c : Call (List ℕ)} (s : Fed) (cs : List Condition) (Q : Positions) → capacity w ≡ C
+    → outcomeOf w c ≡ overwrite C s cs Q → Met w c done w′
+    → (refusal (overwrites s ++ tooMuch when tooMany C Q ∷ cs) ≡ none) × Holds C (bounded Q) w′
+unfolding overwrite
+overwritten {C} {w} {w′} s cs Q z e m =
+    let k : List Condition = overwrites s ++ tooMuch when tooMany C Q ∷ cs in
+    let y : refusal k ≡ none = unrefused (refusal k) (positionsOf s) done done (bounded Q) tt (m .answered ∙ ap (λ o. o .answer) e) in
+    let q = ap (λ o. o .positions) e ∙ ap (λ n. (settle n (positionsOf s) done (bounded Q)) .positions) y in
+    (y, settled-holds (subst (Settled w w′) q (m .left)) z (bounded-ends Q))
+
+-- a new store is empty
+pub new-holds : {C : ℕ} {w : List ℕ} → New C w → Holds C empty w
+unfolding outcomeOf serve
+new-holds {C} {w} N =
+    subst (λ P. Holds C P w) (bounded-same empty empty-ends)
+    ((overwritten (fedOf (N .before)) [] empty (N .sized) (ap (λ k. overwrite k (fedOf (N .before)) [] empty) (N .sized)) (N .made)) .1)
+
+-- a history from a new store leaves the model's positions
+pub played-holds : {C : ℕ} {cs : List (Call (List ℕ))} {w : List ℕ} → Played C cs w → Holds C (after C empty (told cs)) w
+played-holds {C} {cs} p = subst (Holds C (after C empty (told cs))) (sym (p .now)) (left-holds (new-holds (p .new)) (p .history))
+
+-- two lists of answers that follow the same outcomes are the same
+same-answers : {rs rs′ : List Answer} {ws ws′ : List (List ℕ)} {os : List Outcome} → Follows rs ws os → Follows rs′ ws′ os → rs ≡ rs′
+same-answers over over = refl
+same-answers (next e p f) (next e′ p′ f′) = ap₂ {C = List Answer} (λ a l. a ∷ l) (e ∙ sym e′) (same-answers f f′)
+
+-- so stores that hold the same answer equal calls alike
+pub answered-alike : {C : ℕ} {P Q : Positions} {w v : List ℕ} {cs ds : List (Call (List ℕ))} {rs qs : List Answer} {ws vs : List (List ℕ)}
+    → Holds C P w → Holds C Q v → P ≡ Q → told cs ≡ told ds → History w cs rs ws → History v ds qs vs → rs ≡ qs
+answered-alike {C} {rs = rs} {ws = ws} H K e d h k = same-answers (subst (Follows rs ws) (ap₂ (outcomes C) e d) (follows H h)) (follows K k)
