@@ -4,7 +4,7 @@
 use Prim.Native.Nat.{ℕ, suc, _+_, _-_, _≤_, _<_, min}
 use mathlib.Core.Path.{_≡_, refl, sym, ap, _∙_, subst}
 use mathlib.Core.Logic.{_⊎_, inl, inr}
-use mathlib.Core.Bool.{Bool, true, false, not}
+use mathlib.Core.Bool.{Bool, true, false, not, Bool·beq, true≢false}
 use mathlib.Core.List.{List}
 use native.Mathlib.Omega.{arith}
 use lib.Dec.{leb}
@@ -19,6 +19,19 @@ use Rattle.streams.specs.declared.sweep.Reached.{Reached}
 use Rattle.streams.specs.declared.sweep.Joint.{Joint}
 use Rattle.streams.specs.Reading.{Clear, Current, Ahead, Stands, Reads, Advanceable, Advances}
 use Rattle.streams.specs.Sweeping.{ValueAt, Same, SameTo, CanMove, Movable, Moves, Both, Joinable, ReachedAt, Reaching, Reaches, RunFrom, Jointly, NextJoint}
+
+-- ---- two values that differ, and two that do not
+pub differing : (v u : Bool) → not (Bool·beq v u) ≡ true → v ≡ not u
+differing true true e = absurd (true≢false (sym e))
+differing true false e = refl
+differing false true e = refl
+differing false false e = absurd (true≢false (sym e))
+
+pub agreeing : (v u : Bool) → not (Bool·beq v u) ≡ false → v ≡ u
+agreeing true true e = refl
+agreeing true false e = absurd (true≢false e)
+agreeing false true e = absurd (true≢false e)
+agreeing false false e = refl
 
 -- ---- the values of two sets, joined by XOR
 pub xor-held : (q : Bool) → not q ≡ apply Xor true q
@@ -88,7 +101,7 @@ same-over s x e w path o Q r g =
       onward = omega arith;
       small = omega arith;
       alike = λ z l u. k z l (omega arith) ∙ sym (k x (omega arith) g);
-      within = λ a. (let z : _≡_ {A = Bool} true false = sym a ∙ e in let y : _≡_ {A = ℕ} 0 1 = cc in omega arith);
+      within = λ a. absurd (true≢false (sym a ∙ e));
     }
 
 -- ---- moving on
@@ -219,3 +232,74 @@ module _ {op : Operation} {w p : List ℕ} {o : ℕ} {l : Source} {w₂ p₂ : L
           before = λ t a b. so-far e t a (omega arith);
           here = both-here op Q R (last + 1) (c w p′ o Q y (omega arith)) (d w₂ p₂′ o₂ R z (omega arith)) q;
         }
+
+-- ---- a run of the join: it begins where the join is first held, and ends before it is first not held after that
+module _ (op : Operation) (w p p₁ : List ℕ) (o : ℕ) (s : Source) (w₂ p₂ q₁ : List ℕ) (o₂ : ℕ) (t : Source) (x : ℕ) (v : Bool) (a : Reached) (f : Reaches op w p p₁ o s w₂ p₂ q₁ o₂ t x v a) where
+  reached-there : a .found ≡ true → (Q R : Positions) → Both w p o s w₂ p₂ o₂ t x Q R → Reaching w p₁ o w₂ q₁ o₂ x v a op Q R true
+  reached-there e Q R k = subst (Reaching w p₁ o w₂ q₁ o₂ x v a op Q R) e (f Q R k)
+
+  reached-none : a .found ≡ false → (Q R : Positions) → Both w p o s w₂ p₂ o₂ t x Q R → Reaching w p₁ o w₂ q₁ o₂ x v a op Q R false
+  reached-none e Q R k = subst (Reaching w p₁ o w₂ q₁ o₂ x v a op Q R) e (f Q R k)
+
+  pub still-joinable : a .found ≡ true → Joinable w p o s w₂ p₂ o₂ t x → Joinable w p₁ o (a .left) w₂ q₁ o₂ (a .right) (a .at)
+  still-joinable e (Q, R, k) = (Q, R, reached-there e Q R k .1)
+
+module _ (op : Operation) (w p p₁ : List ℕ) (o : ℕ) (s : Source) (w₂ p₂ q₁ : List ℕ) (o₂ : ℕ) (t : Source) (x : ℕ) (a : Reached) (f : Reaches op w p p₁ o s w₂ p₂ q₁ o₂ t x true a) where
+  pub joint-none : a .found ≡ false → (l r : Source) → NextJoint op w p p₁ o s w₂ p₂ q₁ o₂ t x (record { found = false; start = 0; «end» = 0; left = l; right = r })
+  joint-none e l r Q R k = reached-none op w p p₁ o s w₂ p₂ q₁ o₂ t x true a f e Q R k
+
+  module _ (e : a .found ≡ true) (p₃ q₃ : List ℕ) (b : Reached) (g : Reaches op w p₁ p₃ o (a .left) w₂ q₁ q₃ o₂ (a .right) (a .at) false b) where
+    module _ (Q R : Positions) (k : Both w p o s w₂ p₂ o₂ t x Q R) where
+      begins : ReachedAt x (a .at) true (combined op Q R)
+      begins = reached-there op w p p₁ o s w₂ p₂ q₁ o₂ t x true a f e Q R k .0
+
+      between : Both w p₁ o (a .left) w₂ q₁ o₂ (a .right) (a .at) Q R
+      between = reached-there op w p p₁ o s w₂ p₂ q₁ o₂ t x true a f e Q R k .1
+
+      ends : b .found ≡ true → Reaching w p₃ o w₂ q₃ o₂ (a .at) false b op Q R true
+      ends d = reached-there op w p₁ p₃ o (a .left) w₂ q₁ q₃ o₂ (a .right) (a .at) false b g d Q R between
+
+    -- the run has a position, so its end is one before the first that is not held
+    apart : (J : Positions) (m n : ℕ) → m ≤ n → J m ≡ true → J n ≡ false → m < n
+    apart J m n h i j = go (split m n)
+      where
+        go : (m < n) ⊎ (n ≤ m) → m < n
+        go (inl y) = y
+        go (inr y) = absurd (true≢false (sym i ∙ (ap J (same y) ∙ j)))
+          where
+            same : n ≤ m → m ≡ n
+            same y = omega arith
+
+    pub joint-past : b .found ≡ true → Joinable w p o s w₂ p₂ o₂ t x → a .at < b .at
+    joint-past d (Q, R, k) = apart (combined op Q R) (a .at) (b .at) (ends Q R k d .0 .onward) (begins Q R k .here) (ends Q R k d .0 .here)
+
+    pub joint-ends : b .found ≡ true → NextJoint op w p p₃ o s w₂ p₂ q₃ o₂ t x (record { found = true; start = a .at; «end» = b .at - 1; left = b .left; right = b .right })
+    joint-ends d Q R k =
+        let i = begins Q R k in
+        let j = ends Q R k d .0 in
+        let l = joint-past d (Q, R, k) in
+        let h : suc (b .at - 1) ≡ b .at = omega arith in (
+          record {
+            onward = i .onward;
+            ordered = omega arith;
+            small = omega (arith, j .small);
+            clear = i .before;
+            held = λ z m n. j .before z m (omega arith);
+            stops = λ _. rw h (j .here);
+          },
+          λ _. rw h (ends Q R k d .1),
+        )
+
+    pub joint-last : b .found ≡ false → (l r : Source) → NextJoint op w p p₃ o s w₂ p₂ q₃ o₂ t x (record { found = true; start = a .at; «end» = size - 1; left = l; right = r })
+    joint-last d l r Q R k =
+        let i = begins Q R k in (
+          record {
+            onward = i .onward;
+            ordered = omega (arith, i .small);
+            small = omega arith;
+            clear = i .before;
+            held = λ z m n. reached-none op w p₁ p₃ o (a .left) w₂ q₁ q₃ o₂ (a .right) (a .at) false b g d Q R (between Q R k) z m (omega arith);
+            stops = λ h. absurd (omega arith);
+          },
+          λ h. absurd (omega arith),
+        )
