@@ -6,13 +6,14 @@ use mathlib.Core.List.{List}
 use native.Mathlib.Omega.{arith}
 use native.Mathlib.Decide.{ℕ-discrete}
 use lib.Dec.{eqb}
+use lib.Bits.{bitOr, bitXor, xor-self}
 use borrow.Author.Tests.{eq-eqb, ne-eqb, eqb-true, not-true, not-false}
 use Rattle.run_index.specs.declared.Node.{Node}
 use Rattle.run_index.specs.Cells.{cellAt, Room}
 use Rattle.store.specs.Decision.{insideB, belowOf, runB, heightsB, sumsB, agreesB, cellB, leafB, treeB, freeB, chainB, Tells}
 use Rattle.run_index.specs.Tree.{width}
 use Rattle.store.specs.Soundness.{freeCell}
-use Rattle.store.proofs.Tests.{never, is-false, same, both-out, both-in, inside-in, below-none, below-some, heights-out, heights-in, sums-out, sums-in, run-out}
+use Rattle.store.proofs.Tests.{never, is-false, same, both-out, both-in, inside-in, below-none, below-some, heights-out, heights-in, sums-out, sums-in, run-out, run-in, ors-none, none-ors, xor-none}
 
 -- a node by itself: its run, then its height, then its sums
 module _ (v x y : Node) (lo total : ℕ) (b : Bool) (eb : b ≡ runB (v .start) (v .«end») (v .tag) lo total) where
@@ -87,19 +88,27 @@ leaf-in v lo total f =
     (both-in _ _ (eq-eqb _ _ (f .no-left))
     (both-in _ _ (eq-eqb _ _ (f .no-right)) (both-in _ _ (eq-eqb _ _ (f .one-run)) (eq-eqb _ _ (f .own-ones)))))
 
--- the code's last test of a leaf
-pub leaf-last : (v : Node) (lo total : ℕ) (b : Bool) → b ≡ runB (v .start) (v .«end») (v .tag) lo total → not b ≡ false → v .left ≡ 0
-    → v .right ≡ 0 → v .runs ≡ 1 → (z : ℕ) → z ≡ width (v .start) (v .«end») → eqb (v .ones) z ≡ leafB v lo total
-leaf-last v lo total b eb tb l r k z ez =
-    same (eqb (v .ones) z) (leafB v lo total)
-    (λ t. leaf-in v lo total (record {
-      run-fits = sym eb ∙ not-false b tb;
-      no-left = l;
-      no-right = r;
-      one-run = k;
-      own-ones = eqb-true _ _ t ∙ ez;
+-- the code's last test of a leaf: words that are to be 0, and others against what they are to be, in one
+pub leaf-last : (v : Node) (lo hi : ℕ) → lo ≤ v .start → v .start ≤ v .«end» → v .«end» ≤ hi → (z : ℕ) → z ≡ width (v .start) (v .«end»)
+    → eqb (bitOr (bitOr (bitOr (bitOr (v .tag) (v .left)) (v .right)) (bitXor (v .runs) 1)) (bitXor (v .ones) z)) 0 ≡ leafB v lo (hi + 1)
+leaf-last v lo hi above ordered under z ez =
+    same (eqb (bitOr (bitOr (bitOr (bitOr (v .tag) (v .left)) (v .right)) (bitXor (v .runs) 1)) (bitXor (v .ones) z)) 0) (leafB v lo (hi + 1))
+    (λ t.
+    let a = ors-none (v .tag) (v .left) (v .right) (bitXor (v .runs) 1) (bitXor (v .ones) z) (eqb-true _ _ t) in
+    leaf-in v lo (hi + 1) (record {
+      run-fits = run-in _ _ _ lo (hi + 1) (record { spare = a .0; above = above; ordered = ordered; under = omega arith });
+      no-left = a .1;
+      no-right = a .2;
+      one-run = xor-none (v .runs) 1 (a .3);
+      own-ones = xor-none (v .ones) z (a .4) ∙ ez;
     }))
-    (λ t. eq-eqb _ _ (leaf-out v lo total t .own-ones ∙ sym ez))
+    (λ t.
+    let f = leaf-out v lo (hi + 1) t in
+    let one : bitXor (v .runs) 1 ≡ 0 = rw (f .one-run) (xor-self 1) in
+    let own : bitXor (v .ones) z ≡ 0 = rw (f .own-ones ∙ sym ez) (xor-self z) in
+    eq-eqb _ _
+    (none-ors (v .tag) (v .left) (v .right) (bitXor (v .runs) 1) (bitXor (v .ones) z) (run-out _ _ _ lo (hi + 1) (f .run-fits) .spare) (f .no-left)
+    (f .no-right) one own))
 
 -- no tree hangs at 0
 pub tree-none : (d : ℕ) (w : List ℕ) (k lo total : ℕ) → k ≡ 0 → treeB d w k lo total ≡ true
@@ -206,6 +215,22 @@ high d w k lo total ne e =
     let h = heights-out _ _ _ f in
     omega (arith, h .0)
 
+-- a link whose words have a height is not 0
+pub some-link : (w : List ℕ) (k : ℕ) (v : Node) (m : ℕ) → v ≡ belowOf w k → v .height ≡ m → 1 ≤ m → k ≡ 0 → ⊥
+some-link w k v m ev e h z = let q : 0 ≡ v .height = ap (λ (u : Node). u .height) (below-none w k z ∙ sym ev) in omega arith
+
+-- words read at a link are those there: their height
+pub high-as : (w : List ℕ) (k m : ℕ) (v : Node) → v ≡ belowOf w k → (belowOf w k) .height ≡ m → v .height ≡ m
+high-as w k m v ev e = ap (λ (u : Node). u .height) ev ∙ e
+
+-- their left link
+pub left-as : (w : List ℕ) (k m : ℕ) (v : Node) → v ≡ belowOf w k → (belowOf w k) .left ≡ m → v .left ≡ m
+left-as w k m v ev e = ap (λ (u : Node). u .left) ev ∙ e
+
+-- their right link
+pub right-as : (w : List ℕ) (k m : ℕ) (v : Node) → v ≡ belowOf w k → (belowOf w k) .right ≡ m → v .right ≡ m
+right-as w k m v ev e = ap (λ (u : Node). u .right) ev ∙ e
+
 -- so a link whose words have height 0 is 0
 flat : (d : ℕ) (w : List ℕ) (k lo total : ℕ) → (belowOf w k) .height ≡ 0 → treeB d w k lo total ≡ true → k ≡ 0
 flat d w k lo total z e = go (ℕ-discrete k 0)
@@ -275,6 +300,55 @@ module _ (w : List ℕ) (n lo hi : ℕ) (ne : n ≡ 0 → ⊥) (room : Room w n)
   pub right-outside : (b : Bool) → b ≡ insideB w (v .right) → not b ≡ true → Tells w n lo hi false
   right-outside b eb t d h =
       sym (is-false _ (λ e. never (sym (sym eb ∙ not-true b t) ∙ inside-linked (d - 1) w (v .right) (v .«end» + 2) (hi + 1) first-room (parts d e .right))))
+
+  -- the heights of what hangs at its links
+  shape : (d : ℕ) → treeB d w n lo (hi + 1) ≡ true
+      → (v .height ≡ 1 + max ((belowOf w (v .left)) .height) ((belowOf w (v .right)) .height))
+      × ((belowOf w (v .left)) .height ≤ (belowOf w (v .right)) .height + 1)
+      × ((belowOf w (v .right)) .height ≤ (belowOf w (v .left)) .height + 1)
+  shape d e = heights-out _ _ _ (cell-out _ _ _ lo (hi + 1) (parts d e .own) .heights-fit)
+
+  -- a node has a height
+  pub no-height : v .height ≡ 0 → Tells w n lo hi false
+  no-height z d h = sym (is-false _ (λ e. omega (arith, shape d e .0)))
+
+  -- a node of height 3 or more has a left side
+  pub left-missing : 3 ≤ v .height → v .left ≡ 0 → Tells w n lo hi false
+  left-missing le z d h =
+      let x : 0 ≡ (belowOf w (v .left)) .height = ap (λ (u : Node). u .height) (below-none w (v .left) z) in
+      sym (is-false _ (λ e. let s = shape d e in omega arith))
+
+  -- and a right one
+  pub right-missing : 3 ≤ v .height → v .right ≡ 0 → Tells w n lo hi false
+  right-missing le z d h =
+      let y : 0 ≡ (belowOf w (v .right)) .height = ap (λ (u : Node). u .height) (below-none w (v .right) z) in
+      sym (is-false _ (λ e. let s = shape d e in omega arith))
+
+  -- what hangs to the left of a node of height 2 is a leaf, if anything does, or if nothing hangs to its right
+  pub left-high : v .height ≡ 2 → (v .left ≡ 0 → ⊥) → (x : Node) → x ≡ belowOf w (v .left) → (x .height ≡ 1 → ⊥) → Tells w n lo hi false
+  left-high two nl x ex nx d h =
+      let q : x .height ≡ (belowOf w (v .left)) .height = ap (λ (u : Node). u .height) ex in
+      sym (is-false _ (λ e. let s = shape d e in let l = high (d - 1) w (v .left) lo (v .start - 1) nl (parts d e .left) in nx (omega arith)))
+
+  -- nothing to the right
+  pub left-alone : v .height ≡ 2 → v .right ≡ 0 → (x : Node) → x ≡ belowOf w (v .left) → (x .height ≡ 1 → ⊥) → Tells w n lo hi false
+  left-alone two z x ex nx d h =
+      let q : x .height ≡ (belowOf w (v .left)) .height = ap (λ (u : Node). u .height) ex in
+      let y : 0 ≡ (belowOf w (v .right)) .height = ap (λ (u : Node). u .height) (below-none w (v .right) z) in
+      sym (is-false _ (λ e. let s = shape d e in nx (omega arith)))
+
+  -- the same of its right side
+  pub right-high : v .height ≡ 2 → (v .right ≡ 0 → ⊥) → (y : Node) → y ≡ belowOf w (v .right) → (y .height ≡ 1 → ⊥) → Tells w n lo hi false
+  right-high two nr y ey ny d h =
+      let q : y .height ≡ (belowOf w (v .right)) .height = ap (λ (u : Node). u .height) ey in
+      sym (is-false _ (λ e. let s = shape d e in let l = high (d - 1) w (v .right) (v .«end» + 2) (hi + 1) nr (parts d e .right) in ny (omega arith)))
+
+  -- nothing to the left
+  pub right-alone : v .height ≡ 2 → v .left ≡ 0 → (y : Node) → y ≡ belowOf w (v .right) → (y .height ≡ 1 → ⊥) → Tells w n lo hi false
+  right-alone two z y ey ny d h =
+      let q : y .height ≡ (belowOf w (v .right)) .height = ap (λ (u : Node). u .height) ey in
+      let x : 0 ≡ (belowOf w (v .left)) .height = ap (λ (u : Node). u .height) (below-none w (v .left) z) in
+      sym (is-false _ (λ e. let s = shape d e in ny (omega arith)))
 
   -- no room below the node's start
   pub left-crowded : (v .left ≡ 0 → ⊥) → v .start < 2 → Tells w n lo hi false

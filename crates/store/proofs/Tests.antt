@@ -5,7 +5,9 @@ use mathlib.Core.Path.{_≡_, refl, sym, ap, _∙_}
 use mathlib.Core.Bool.{Bool, true, false, _&&_}
 use mathlib.Core.List.{List}
 use native.Mathlib.Omega.{arith}
+use native.Mathlib.Nat.{le-trans}
 use lib.Dec.{leb, ltb, eqb}
+use lib.Bits.{bitOr, bitXor, or-add-and, xor-add-and, and-le-l, and-le-r, or-lt}
 use lib.ListN.{length}
 use borrow.Author.Tests.{ltb-true, leb-true, eqb-true, lt-ltb, le-leb, eq-eqb}
 use Rattle.run_index.specs.declared.Node.{Node}
@@ -107,19 +109,85 @@ pub heights-in : (h h1 h2 : ℕ) → h ≡ 1 + max h1 h2 → h1 ≤ h2 + 1 → h
 unfolding heightsB
 heights-in h h1 h2 p q r = both-in _ _ (eq-eqb _ _ p) (both-in _ _ (le-leb _ _ q) (le-leb _ _ r))
 
--- the code's last test of heights, if the first side is the higher, and if the second is
-pub heights-first : (h h1 h2 : ℕ) → (h ≡ 0 → ⊥) → h1 ≡ h - 1 → h2 ≤ h - 1 → leb (h - 1 - h2) 1 ≡ heightsB h h1 h2
-heights-first h h1 h2 a b c =
-    same (leb (h - 1 - h2) 1) (heightsB h h1 h2)
-    (λ e. let l = leb-true (h - 1 - h2) 1 e in heights-in h h1 h2 (omega arith) (omega arith) (omega arith))
-    (λ e. let p = heights-out h h1 h2 e in le-leb (h - 1 - h2) 1 (omega arith))
+-- neither of two words is greater than their bits together
+or-left : (a b : ℕ) → a ≤ bitOr a b
+or-left a b = omega (arith, or-add-and a b, and-le-r a b)
 
--- and if the second is
-pub heights-second : (h h1 h2 : ℕ) → (h ≡ 0 → ⊥) → h2 ≡ h - 1 → h1 ≤ h - 1 → leb (h - 1 - h1) 1 ≡ heightsB h h1 h2
-heights-second h h1 h2 a b c =
-    same (leb (h - 1 - h1) 1) (heightsB h h1 h2)
-    (λ e. let l = leb-true (h - 1 - h1) 1 e in heights-in h h1 h2 (omega arith) (omega arith) (omega arith))
-    (λ e. let p = heights-out h h1 h2 e in le-leb (h - 1 - h1) 1 (omega arith))
+-- nor the second
+or-right : (a b : ℕ) → b ≤ bitOr a b
+or-right a b = omega (arith, or-add-and a b, and-le-l a b)
+
+-- words whose bits together are 0 are each 0
+or-none : (a b : ℕ) → bitOr a b ≡ 0 → (a ≡ 0) × (b ≡ 0)
+or-none a b e = (omega (arith, or-left a b), omega (arith, or-right a b))
+
+-- five words
+pub ors-none : (a b c d e : ℕ) → bitOr (bitOr (bitOr (bitOr a b) c) d) e ≡ 0 → (a ≡ 0) × (b ≡ 0) × (c ≡ 0) × (d ≡ 0) × (e ≡ 0)
+ors-none a b c d e z =
+    let p = or-none (bitOr (bitOr (bitOr a b) c) d) e z in
+    let q = or-none (bitOr (bitOr a b) c) d (p .0) in
+    let r = or-none (bitOr a b) c (q .0) in
+    let s = or-none a b (r .0) in
+    (s .0, s .1, r .1, q .1, p .1)
+
+-- and back
+pub none-ors : (a b c d e : ℕ) → a ≡ 0 → b ≡ 0 → c ≡ 0 → d ≡ 0 → e ≡ 0 → bitOr (bitOr (bitOr (bitOr a b) c) d) e ≡ 0
+none-ors a b c d e za zb zc zd ze = rw (za, zb, zc, zd, ze)
+
+-- words that differ in no bit are equal
+pub xor-none : (a b : ℕ) → bitXor a b ≡ 0 → a ≡ b
+xor-none a b e = omega (arith, xor-add-and a b, and-le-l a b, and-le-r a b)
+
+-- a difference modulo 2^64 that is 0 or 1
+less-by : (m k a : ℕ) → 1 ≤ m → k < 2 ^ 64 → (a + k) % 2 ^ 64 ≡ m → a ≤ 1 → k + a ≡ m
+less-by m k a one l e le = omega arith
+
+-- and one of a number that is not greater
+not-less : (m k a : ℕ) → k ≤ m → a < 2 ^ 64 → (a + k) % 2 ^ 64 ≡ m → k + a ≡ m
+not-less m k a le l e = omega arith
+
+-- the bits of a, b and their sum modulo 2^64 together are at most 1 where the sum is
+few-out : (a b c o : ℕ) → c ≡ (a + b) % 2 ^ 64 → o ≤ 1 → a ≤ o → b ≤ o → c ≤ o → a + b ≤ 1
+few-out a b c o ec le x y z = omega arith
+
+-- and back
+few-in : (a b c : ℕ) → c ≡ (a + b) % 2 ^ 64 → a + b ≤ 1 → bitOr (bitOr a b) c ≤ 1
+few-in a b c ec le =
+    let o = or-lt 1 (bitOr a b) c (or-lt 1 a b (omega (arith, le)) (omega (arith, le))) (omega (arith, ec, le)) in
+    omega (arith, o)
+
+-- heights by how much each is lower than the greater
+heights-by : (h h1 h2 a b : ℕ) → 2 ≤ h → h1 + a ≡ h - 1 → h2 + b ≡ h - 1 → a + b ≤ 1 → heightsB h h1 h2 ≡ true
+heights-by h h1 h2 a b two ea eb le = heights-in h h1 h2 (omega arith) (omega arith) (omega arith)
+
+-- and back
+by-heights : (h h1 h2 a b : ℕ) → h ≡ 1 + max h1 h2 → h1 ≤ h2 + 1 → h2 ≤ h1 + 1 → h1 + a ≡ h - 1 → h2 + b ≡ h - 1 → a + b ≤ 1
+by-heights h h1 h2 a b e l r ea eb = omega arith
+
+-- each is lower than the node
+lower-both : (h h1 h2 : ℕ) → h ≡ 1 + max h1 h2 → (h1 ≤ h - 1) × (h2 ≤ h - 1)
+lower-both h h1 h2 e = (omega arith, omega arith)
+
+-- the code's test of heights: a and b are h - 1 less h1 and less h2, and c is their sum, modulo 2^64
+pub heights-last : (h h1 h2 a b c : ℕ) → 2 ≤ h → h1 < 2 ^ 64 → h2 < 2 ^ 64 → a < 2 ^ 64 → b < 2 ^ 64 → (a + h1) % 2 ^ 64 ≡ h - 1
+    → (b + h2) % 2 ^ 64 ≡ h - 1 → c ≡ (a + b) % 2 ^ 64 → leb (bitOr (bitOr a b) c) 1 ≡ heightsB h h1 h2
+heights-last h h1 h2 a b c two l1 l2 la lb ea eb ec =
+    let one : 1 ≤ h - 1 = omega (arith, two) in
+    same (leb (bitOr (bitOr a b) c) 1) (heightsB h h1 h2)
+    (λ e.
+    let l : bitOr (bitOr a b) c ≤ 1 = leb-true (bitOr (bitOr a b) c) 1 e in
+    let oa : a ≤ bitOr (bitOr a b) c = le-trans (or-left a b) (or-left (bitOr a b) c) in
+    let ob : b ≤ bitOr (bitOr a b) c = le-trans (or-right a b) (or-left (bitOr a b) c) in
+    heights-by h h1 h2 a b two
+    (less-by (h - 1) h1 a one l1 ea (le-trans oa l))
+    (less-by (h - 1) h2 b one l2 eb (le-trans ob l))
+    (few-out a b c (bitOr (bitOr a b) c) ec l oa ob (or-right (bitOr a b) c)))
+    (λ e.
+    let p = heights-out h h1 h2 e in
+    let q = lower-both h h1 h2 (p .0) in
+    le-leb (bitOr (bitOr a b) c) 1
+    (few-in a b c ec
+    (by-heights h h1 h2 a b (p .0) (p .1) (p .2) (not-less (h - 1) h1 a (q .0) la ea) (not-less (h - 1) h2 b (q .1) lb eb))))
 
 -- the sums of a node and its sides
 pub sums-out : (k k1 k2 o o1 o2 a b : ℕ) → sumsB k k1 k2 o o1 o2 a b ≡ true

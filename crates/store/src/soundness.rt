@@ -55,28 +55,17 @@ fn run_fits(start: u64, end: u64, tag: u64, lo: u64, hi: u64) -> bool
     end <= hi
 }
 
-// Whether h is one more than the greater of h1 and h2, which differ by at most 1.
+// Whether h is one more than the greater of h1 and h2, which differ by at most 1: h - 1 less h1, and less h2, is 0 or 1, and so is the sum
+// of the two. One test for the three, since which side is the higher cannot be guessed ahead.
 fn heights_fit(h: u64, h1: u64, h2: u64) -> bool
+    requires { ⌜ 2 ≤ h ⌝ }
     ensures { λ r. ⌜ r ≡ heightsB h h1 h2 ⌝ }
 {
-    if h == 0 {
-        return false;
-    }
     let m = h - 1;
-    if h1 == m {
-        if h2 > m {
-            return false;
-        }
-        m - h2 <= 1
-    } else {
-        if h2 != m {
-            return false;
-        }
-        if h1 > m {
-            return false;
-        }
-        m - h1 <= 1
-    }
+    let a = std::num::wrapping_sub_u64(m, h1);
+    let b = std::num::wrapping_sub_u64(m, h2);
+    let c = std::num::wrapping_add_u64(a, b);
+    (a | b | c) <= 1
 }
 
 // Whether the words for runs and ones are those of the two sides and the run start..=end.
@@ -96,6 +85,7 @@ fn sums_fit(runs: u64, r1: u64, r2: u64, ones: u64, o1: u64, o2: u64, start: u64
 
 // The tests of a node by itself: its run against the bounds, its height and sums against those at its links.
 fn node_fits(v: Node, x: Node, y: Node, lo: u64, hi: u64) -> bool
+    requires { ⌜ 2 ≤ v .height ⌝ }
     ensures { λ r. ⌜ r ≡ cellB v x y lo (hi + 1) ⌝ }
 {
     if !run_fits(v.start, v.end, v.tag, lo, hi) {
@@ -120,23 +110,133 @@ fn node_fits(v: Node, x: Node, y: Node, lo: u64, hi: u64) -> bool
 fn leaf_fits(v: Node, lo: u64, hi: u64) -> bool
     ensures { λ r. ⌜ r ≡ leafB v lo (hi + 1) ⌝ }
 {
-    if !run_fits(v.start, v.end, v.tag, lo, hi) {
+    if v.start < lo {
         return false;
     }
-    if v.left != 0 {
+    if v.end < v.start {
         return false;
     }
-    if v.right != 0 {
+    if v.end > hi {
         return false;
     }
-    if v.runs != 1 {
-        return false;
-    }
-    v.ones == std::num::wrapping_add_u64(v.end - v.start, 1)
+    let ones = std::num::wrapping_add_u64(v.end - v.start, 1);
+    (v.tag | v.left | v.right | (v.runs ^ 1) | (v.ones ^ ones)) == 0
 }
 
-// Whether a tree hangs at a link, all its runs within lo..=hi. It goes down the right side, and calls itself on each left side that has
-// more than one node.
+// Whether a tree hangs at a node of height 2 that has no left link: a leaf to its right.
+fn right_fits(words: &[u64], link: u64, lo: u64, hi: u64) -> bool
+    requires { ⌜ Room (now words) link ⌝ }
+    requires { ⌜ (belowOf (now words) link) .height ≡ 2 ⌝ }
+    requires { ⌜ (belowOf (now words) link) .left ≡ 0 ⌝ }
+    ensures { λ r. ⌜ Tells (now (words .entry)) link lo hi r ⌝ }
+{
+    let v = below(words, link);
+    if !inside(words, v.right) {
+        return false;
+    }
+    let x = below(words, v.left);
+    let y = below(words, v.right);
+    if y.height != 1 {
+        return false;
+    }
+    if !node_fits(v, x, y, lo, hi) {
+        return false;
+    }
+    if v.end > u64::MAX - 2 {
+        return false;
+    }
+    leaf_fits(y, v.end + 2, hi)
+}
+
+// The same if it has no right link.
+fn left_fits(words: &[u64], link: u64, lo: u64, hi: u64) -> bool
+    requires { ⌜ Room (now words) link ⌝ }
+    requires { ⌜ (belowOf (now words) link) .height ≡ 2 ⌝ }
+    requires { ⌜ (belowOf (now words) link) .right ≡ 0 ⌝ }
+    ensures { λ r. ⌜ Tells (now (words .entry)) link lo hi r ⌝ }
+{
+    let v = below(words, link);
+    if !inside(words, v.left) {
+        return false;
+    }
+    let x = below(words, v.left);
+    let y = below(words, v.right);
+    if x.height != 1 {
+        return false;
+    }
+    if !node_fits(v, x, y, lo, hi) {
+        return false;
+    }
+    if v.start < 2 {
+        return false;
+    }
+    if !leaf_fits(x, lo, v.start - 2) {
+        return false;
+    }
+    true
+}
+
+// The same of any node of height 2: a leaf on either side, or on one.
+fn twig_fits(words: &[u64], link: u64, lo: u64, hi: u64) -> bool
+    requires { ⌜ Room (now words) link ⌝ }
+    requires { ⌜ (belowOf (now words) link) .height ≡ 2 ⌝ }
+    ensures { λ r. ⌜ Tells (now (words .entry)) link lo hi r ⌝ }
+{
+    let v = below(words, link);
+    if v.left == 0 {
+        return right_fits(words, link, lo, hi);
+    }
+    if v.right == 0 {
+        return left_fits(words, link, lo, hi);
+    }
+    if !inside(words, v.left) {
+        return false;
+    }
+    if !inside(words, v.right) {
+        return false;
+    }
+    let x = below(words, v.left);
+    let y = below(words, v.right);
+    if x.height != 1 {
+        return false;
+    }
+    if y.height != 1 {
+        return false;
+    }
+    if !node_fits(v, x, y, lo, hi) {
+        return false;
+    }
+    if v.start < 2 {
+        return false;
+    }
+    if !leaf_fits(x, lo, v.start - 2) {
+        return false;
+    }
+    if v.end > u64::MAX - 2 {
+        return false;
+    }
+    leaf_fits(y, v.end + 2, hi)
+}
+
+// The same of a node of height 2 at most.
+fn low_fits(words: &[u64], link: u64, lo: u64, hi: u64) -> bool
+    requires { ⌜ Room (now words) link ⌝ }
+    requires { ⌜ 1 ≤ link ⌝ }
+    requires { ⌜ (belowOf (now words) link) .height ≤ 2 ⌝ }
+    ensures { λ r. ⌜ Tells (now (words .entry)) link lo hi r ⌝ }
+{
+    let v = below(words, link);
+    if v.height == 2 {
+        return twig_fits(words, link, lo, hi);
+    }
+    if v.height != 1 {
+        return false;
+    }
+    leaf_fits(v, lo, hi)
+}
+
+// Whether a tree hangs at a link, all its runs within lo..=hi. It goes down the right side, and calls itself on each left side. Most nodes
+// are low, and those above have both links: so each case is code of its own, with no test of what is known there.
 fn tree_fits(words: &[u64], link: u64, lo: u64, hi: u64) -> bool
     requires { ⌜ Room (now words) link ⌝ }
     ensures { λ r. ⌜ Tells (now (words .entry)) link lo hi r ⌝ }
@@ -145,8 +245,14 @@ fn tree_fits(words: &[u64], link: u64, lo: u64, hi: u64) -> bool
     let mut low = lo;
     while k != 0 {
         let v = below(words, k);
-        if v.height == 1 {
-            return leaf_fits(v, low, hi);
+        if v.height <= 2 {
+            return low_fits(words, k, low, hi);
+        }
+        if v.left == 0 {
+            return false;
+        }
+        if v.right == 0 {
+            return false;
         }
         if !inside(words, v.left) {
             return false;
@@ -159,21 +265,11 @@ fn tree_fits(words: &[u64], link: u64, lo: u64, hi: u64) -> bool
         if !node_fits(v, x, y, low, hi) {
             return false;
         }
-        if v.left != 0 {
-            if v.start < 2 {
-                return false;
-            }
-            let fits = if x.height == 1 {
-                leaf_fits(x, low, v.start - 2)
-            } else {
-                tree_fits(words, v.left, low, v.start - 2)
-            };
-            if !fits {
-                return false;
-            }
+        if v.start < 2 {
+            return false;
         }
-        if v.right == 0 {
-            return true;
+        if !tree_fits(words, v.left, low, v.start - 2) {
+            return false;
         }
         if v.end > u64::MAX - 2 {
             return false;

@@ -1,14 +1,14 @@
 -- `tree_fits` meets its contract. The loop's invariant: the walk of the link at hand decides for the whole, at any depth that is left, and
 -- no node there is higher than the link's. The tests are the definition's; either side of a node is lower than the node. The measure of the
 -- recursion and of the loop is the height that the words give. Assumes nothing.
-use mathlib.Core.Path.{sym, _∙_}
+use mathlib.Core.Path.{sym, ap, _∙_}
 use native.Mathlib.Omega.{arith}
-use mathlib.Core.Logic.{⊎-elim}
 use borrow.Author.Needs.{needs}
 use borrow.Author.Tests.{not-false}
+use Rattle.run_index.specs.declared.Node.{Node}
 use Rattle.store.specs.Decision.{belowOf}
 use Rattle.store.proofs.Tests.{inside-out}
-use Rattle.store.proofs.Steps.{Way, tells-none, tells-as, leaf-decides, left-outside, right-outside, node-fails, left-crowded, right-crowded, left-lower, right-lower, left-fails, left-passes, left-none, right-decides}
+use Rattle.store.proofs.Steps.{Way, tells-none, left-missing, right-missing, left-outside, right-outside, node-fails, left-crowded, right-crowded, left-lower, right-lower, left-fails, left-passes, right-decides}
 use Prim.Native.Nat.{ℕ, _<_}
 use borrow.Fn.Kinds.{In}
 use borrow.Fn.PlainCycle.{Measures, is, falls, and}
@@ -17,7 +17,7 @@ use Rattle.store.proofs.soundness.tree_fits.Kinds as tree-fits-kinds
 use Rattle.store.proofs.soundness.+tree_fits.Lts-tree_fits as tree-fits-lts
 use Rattle.store.proofs.soundness.below.Reads as below-reads
 use Rattle.store.proofs.soundness.inside.Reads as inside-reads
-use Rattle.store.proofs.soundness.leaf_fits.Reads as leaf-fits-reads
+use Rattle.store.proofs.soundness.low_fits.Reads as low-fits-reads
 use Rattle.store.proofs.soundness.node_fits.Reads as node-fits-reads
 use Rattle.store.proofs.soundness.+tree_fits.{statement}
 use Rattle.store.proofs.soundness.+tree_fits.Tie.{close}
@@ -37,8 +37,8 @@ abbrev tree-fits-claims : ℕ → tree-fits-lts.Claims
 tree-fits-claims t = (
   below-reads.Asked,
   below-reads.Learnt,
-  leaf-fits-reads.Asked,
-  leaf-fits-reads.Learnt,
+  low-fits-reads.Asked,
+  low-fits-reads.Learnt,
   inside-reads.Asked,
   inside-reads.Learnt,
   node-fits-reads.Asked,
@@ -59,87 +59,68 @@ tree-fits-loop-holds t c = record { room = c .before .pre .1; lower = omega arit
 tree-fits-below-requires : (t : ℕ) → tree-fits-lts.Need-below-requires (tree-fits-claims t) (tree-fits-at t) tree-fits.Post tree-fits-Inv-loop tree-fits-μ-loop
 tree-fits-below-requires t c κs = c .before .loop .inv .room
 
-tree-fits-leaf-fits-requires : (t : ℕ) → tree-fits-lts.Need-leaf-fits-requires (tree-fits-claims t) (tree-fits-at t) tree-fits.Post tree-fits-Inv-loop tree-fits-μ-loop
-tree-fits-leaf-fits-requires t c κs = search needs
+tree-fits-low-fits-requires : (t : ℕ) → tree-fits-lts.Need-low-fits-requires (tree-fits-claims t) (tree-fits-at t) tree-fits.Post tree-fits-Inv-loop tree-fits-μ-loop
+tree-fits-low-fits-requires t c κs = (c .before .before .before .before .loop .inv .room, (omega (arith, c .before .before .before .loop-test .taken), omega (arith, ap (λ (u : Node). u .height) (c .before .before .below .ensures), c .if1 .taken)))
 
 tree-fits-returns : (t : ℕ) → tree-fits-lts.Need-returns (tree-fits-claims t) (tree-fits-at t) tree-fits.Post tree-fits-Inv-loop tree-fits-μ-loop
-tree-fits-returns t c = c .before .before .before .before .before .loop .inv .tells _ (leaf-decides _ _ _ _ (c .before .before .before .before .loop-test .taken) (c .before .before .before .before .before .loop .inv .room) (c .before .before .before .below .result) (c .before .before .before .below .ensures) (c .before .if1 .taken) _ (c .leaf-fits .ensures))
+tree-fits-returns t c = c .before .before .before .before .before .loop .inv .tells _ (c .low-fits .ensures)
+
+tree-fits-returns-2 : (t : ℕ) → tree-fits-lts.Need-returns-2 (tree-fits-claims t) (tree-fits-at t) tree-fits.Post tree-fits-Inv-loop tree-fits-μ-loop
+tree-fits-returns-2 t c = c .before .before .before .before .before .before .loop .inv .tells _ (left-missing _ _ _ _ (c .before .before .before .before .before .loop-test .taken) (c .before .before .before .before .before .before .loop .inv .room) (c .before .before .before .before .below .result) (c .before .before .before .before .below .ensures) (omega (arith, c .before .before .if1 .left)) (c .if2 .taken))
+
+tree-fits-returns-3 : (t : ℕ) → tree-fits-lts.Need-returns-3 (tree-fits-claims t) (tree-fits-at t) tree-fits.Post tree-fits-Inv-loop tree-fits-μ-loop
+tree-fits-returns-3 t c = c .before .before .before .before .before .before .before .before .loop .inv .tells _ (right-missing _ _ _ _ (c .before .before .before .before .before .before .before .loop-test .taken) (c .before .before .before .before .before .before .before .before .loop .inv .room) (c .before .before .before .before .before .before .below .result) (c .before .before .before .before .before .before .below .ensures) (omega (arith, c .before .before .before .before .if1 .left)) (c .if3 .taken))
 
 tree-fits-inside-requires : (t : ℕ) → tree-fits-lts.Need-inside-requires (tree-fits-claims t) (tree-fits-at t) tree-fits.Post tree-fits-Inv-loop tree-fits-μ-loop
 tree-fits-inside-requires t c κs = search needs
 
-tree-fits-returns-2 : (t : ℕ) → tree-fits-lts.Need-returns-2 (tree-fits-claims t) (tree-fits-at t) tree-fits.Post tree-fits-Inv-loop tree-fits-μ-loop
-tree-fits-returns-2 t c = c .before .before .before .before .before .before .loop .inv .tells _ (left-outside _ _ _ _ (c .before .before .before .before .before .loop-test .taken) (c .before .before .before .before .before .before .loop .inv .room) (c .before .before .before .before .below .result) (c .before .before .before .before .below .ensures) _ (c .before .inside .ensures) (c .if2 .taken))
+tree-fits-returns-4 : (t : ℕ) → tree-fits-lts.Need-returns-4 (tree-fits-claims t) (tree-fits-at t) tree-fits.Post tree-fits-Inv-loop tree-fits-μ-loop
+tree-fits-returns-4 t c = c .before .before .before .before .before .before .before .before .before .before .loop .inv .tells _ (left-outside _ _ _ _ (c .before .before .before .before .before .before .before .before .before .loop-test .taken) (c .before .before .before .before .before .before .before .before .before .before .loop .inv .room) (c .before .before .before .before .before .before .before .before .below .result) (c .before .before .before .before .before .before .before .before .below .ensures) _ (c .before .inside .ensures) (c .if4 .taken))
 
 tree-fits-inside-requires-2 : (t : ℕ) → tree-fits-lts.Need-inside-requires-2 (tree-fits-claims t) (tree-fits-at t) tree-fits.Post tree-fits-Inv-loop tree-fits-μ-loop
 tree-fits-inside-requires-2 t c κs = search needs
 
-tree-fits-returns-3 : (t : ℕ) → tree-fits-lts.Need-returns-3 (tree-fits-claims t) (tree-fits-at t) tree-fits.Post tree-fits-Inv-loop tree-fits-μ-loop
-tree-fits-returns-3 t c = c .before .before .before .before .before .before .before .before .loop .inv .tells _ (right-outside _ _ _ _ (c .before .before .before .before .before .before .before .loop-test .taken) (c .before .before .before .before .before .before .before .before .loop .inv .room) (c .before .before .before .before .before .before .below .result) (c .before .before .before .before .before .before .below .ensures) _ (c .before .inside2 .ensures) (c .if3 .taken))
+tree-fits-returns-5 : (t : ℕ) → tree-fits-lts.Need-returns-5 (tree-fits-claims t) (tree-fits-at t) tree-fits.Post tree-fits-Inv-loop tree-fits-μ-loop
+tree-fits-returns-5 t c = c .before .before .before .before .before .before .before .before .before .before .before .before .loop .inv .tells _ (right-outside _ _ _ _ (c .before .before .before .before .before .before .before .before .before .before .before .loop-test .taken) (c .before .before .before .before .before .before .before .before .before .before .before .before .loop .inv .room) (c .before .before .before .before .before .before .before .before .before .before .below .result) (c .before .before .before .before .before .before .before .before .before .before .below .ensures) _ (c .before .inside2 .ensures) (c .if5 .taken))
 
 tree-fits-below-requires-2 : (t : ℕ) → tree-fits-lts.Need-below-requires-2 (tree-fits-claims t) (tree-fits-at t) tree-fits.Post tree-fits-Inv-loop tree-fits-μ-loop
-tree-fits-below-requires-2 t c κs = inside-out _ _ (sym (c .before .before .before .inside .ensures) ∙ not-false _ (c .before .before .if2 .left))
+tree-fits-below-requires-2 t c κs = inside-out _ _ (sym (c .before .before .before .inside .ensures) ∙ not-false _ (c .before .before .if4 .left))
 
 tree-fits-below-requires-3 : (t : ℕ) → tree-fits-lts.Need-below-requires-3 (tree-fits-claims t) (tree-fits-at t) tree-fits.Post tree-fits-Inv-loop tree-fits-μ-loop
-tree-fits-below-requires-3 t c κs = inside-out _ _ (sym (c .before .before .inside2 .ensures) ∙ not-false _ (c .before .if3 .left))
+tree-fits-below-requires-3 t c κs = inside-out _ _ (sym (c .before .before .inside2 .ensures) ∙ not-false _ (c .before .if5 .left))
 
 tree-fits-node-fits-requires : (t : ℕ) → tree-fits-lts.Need-node-fits-requires (tree-fits-claims t) (tree-fits-at t) tree-fits.Post tree-fits-Inv-loop tree-fits-μ-loop
-tree-fits-node-fits-requires t c κs = search needs
-
-tree-fits-returns-4 : (t : ℕ) → tree-fits-lts.Need-returns-4 (tree-fits-claims t) (tree-fits-at t) tree-fits.Post tree-fits-Inv-loop tree-fits-μ-loop
-tree-fits-returns-4 t c = c .before .before .before .before .before .before .before .before .before .before .before .before .loop .inv .tells _ (node-fails _ _ _ _ (c .before .before .before .before .before .before .before .before .before .before .before .loop-test .taken) (c .before .before .before .before .before .before .before .before .before .before .before .before .loop .inv .room) (c .before .before .before .before .before .before .before .before .before .before .below .result) (c .before .before .before .before .before .before .before .before .before .before .below .ensures) (c .before .before .before .below2 .result) (c .before .before .below3 .result) (c .before .before .before .below2 .ensures) (c .before .before .below3 .ensures) _ (c .before .node-fits .ensures) (c .if4 .taken))
-
-tree-fits-returns-5 : (t : ℕ) → tree-fits-lts.Need-returns-5 (tree-fits-claims t) (tree-fits-at t) tree-fits.Post tree-fits-Inv-loop tree-fits-μ-loop
-tree-fits-returns-5 t c = c .before .before .before .before .before .before .before .before .before .before .before .before .before .before .before .before .loop .inv .tells _ (left-crowded _ _ _ _ (c .before .before .before .before .before .before .before .before .before .before .before .before .before .before .before .loop-test .taken) (c .before .before .before .before .before .before .before .before .before .before .before .before .before .before .before .before .loop .inv .room) (c .before .before .before .before .before .before .before .before .before .before .before .before .before .before .below .result) (c .before .before .before .before .before .before .before .before .before .before .before .before .before .before .below .ensures) (c .before .before .if5 .taken) (omega (arith, c .if6 .taken)))
-
-tree-fits-leaf-fits-requires-2 : (t : ℕ) → tree-fits-lts.Need-leaf-fits-requires-2 (tree-fits-claims t) (tree-fits-at t) tree-fits.Post tree-fits-Inv-loop tree-fits-μ-loop
-tree-fits-leaf-fits-requires-2 t c κs = search needs
-
-tree-fits-tree-fits-requires : (t : ℕ) → tree-fits-lts.Need-tree-fits-requires (tree-fits-claims t) (tree-fits-at t) tree-fits.Post tree-fits-Inv-loop tree-fits-μ-loop
-tree-fits-tree-fits-requires t c κs = (omega (arith, c .before .before .before .before .before .before .before .before .before .before .before .before .before .before .before .before .before .before .before .before .before .pre .0, c .before .before .before .before .before .before .before .before .before .before .before .before .before .before .before .before .before .before .before .loop .inv .lower, left-lower _ _ _ _ (c .before .before .before .before .before .before .before .before .before .before .before .before .before .before .before .before .before .before .loop-test .taken) (c .before .before .before .before .before .before .before .before .before .before .before .before .before .before .before .before .before .before .before .loop .inv .room) (c .before .before .before .before .before .before .before .before .before .before .before .before .before .before .before .before .before .below .result) (c .before .before .before .before .before .before .before .before .before .before .before .before .before .before .before .before .before .below .ensures) (c .before .before .before .before .before .before .before .before .before .before .below2 .result) (c .before .before .before .before .before .before .before .before .before .below3 .result) (c .before .before .before .before .before .before .before .before .before .before .below2 .ensures) (c .before .before .before .before .before .before .before .before .before .below3 .ensures) _ (c .before .before .before .before .before .before .before .before .node-fits .ensures) (c .before .before .before .before .before .before .before .if4 .left)), inside-out _ _ (sym (c .before .before .before .before .before .before .before .before .before .before .before .before .before .before .inside .ensures) ∙ not-false _ (c .before .before .before .before .before .before .before .before .before .before .before .before .before .if2 .left)))
+tree-fits-node-fits-requires t c κs = omega (arith, c .before .before .before .before .before .before .before .before .before .before .if1 .left)
 
 tree-fits-returns-6 : (t : ℕ) → tree-fits-lts.Need-returns-6 (tree-fits-claims t) (tree-fits-at t) tree-fits.Post tree-fits-Inv-loop tree-fits-μ-loop
-tree-fits-returns-6 t c = c .before .before .before .before .before .before .before .before .before .before .before .before .before .before .before .before .before .before .before .loop .inv .tells _ (left-fails _ _ _ _ (c .before .before .before .before .before .before .before .before .before .before .before .before .before .before .before .before .before .before .loop-test .taken) (c .before .before .before .before .before .before .before .before .before .before .before .before .before .before .before .before .before .before .before .loop .inv .room) (c .before .before .before .before .before .before .before .before .before .before .before .before .before .before .before .before .before .below .result) (c .before .before .before .before .before .before .before .before .before .before .before .before .before .before .before .before .before .below .ensures) (c .before .before .before .before .before .before .before .before .before .before .below2 .result) (c .before .before .before .before .before .before .before .before .before .below3 .result) (c .before .before .before .before .before .before .before .before .before .before .below2 .ensures) (c .before .before .before .before .before .before .before .before .before .below3 .ensures) _ (c .before .before .before .before .before .before .before .before .node-fits .ensures) (c .before .before .before .before .before .before .before .if4 .left) (omega (arith, c .before .before .before .if6 .left)) (c .before .if7 .fits) (⊎-elim
-    (λ x. tells-as _ _ _ _ (x .3) (leaf-decides _ _ _ _ (c .before .before .before .before .before .if5 .taken) (inside-out _ _ (sym (c .before .before .before .before .before .before .before .before .before .before .before .before .before .before .inside .ensures) ∙ not-false _ (c .before .before .before .before .before .before .before .before .before .before .before .before .before .if2 .left))) (c .before .before .before .before .before .before .before .before .before .before .below2 .result) (c .before .before .before .before .before .before .before .before .before .before .below2 .ensures) (x .0 .taken) _ (x .2 .ensures)))
-    (λ x. tells-as _ _ _ _ (x .3) (x .2 .ensures))
-    (c .before .if7 .came)) (c .if8 .taken))
+tree-fits-returns-6 t c = c .before .before .before .before .before .before .before .before .before .before .before .before .before .before .before .before .loop .inv .tells _ (node-fails _ _ _ _ (c .before .before .before .before .before .before .before .before .before .before .before .before .before .before .before .loop-test .taken) (c .before .before .before .before .before .before .before .before .before .before .before .before .before .before .before .before .loop .inv .room) (c .before .before .before .before .before .before .before .before .before .before .before .before .before .before .below .result) (c .before .before .before .before .before .before .before .before .before .before .before .before .before .before .below .ensures) (c .before .before .before .below2 .result) (c .before .before .below3 .result) (c .before .before .before .below2 .ensures) (c .before .before .below3 .ensures) _ (c .before .node-fits .ensures) (c .if6 .taken))
 
 tree-fits-returns-7 : (t : ℕ) → tree-fits-lts.Need-returns-7 (tree-fits-claims t) (tree-fits-at t) tree-fits.Post tree-fits-Inv-loop tree-fits-μ-loop
-tree-fits-returns-7 t c = c .before .before .before .before .before .before .before .before .before .before .before .before .before .before .before .before .loop .inv .tells _ (right-decides _ _ _ _ (c .before .before .before .before .before .before .before .before .before .before .before .before .before .before .before .loop-test .taken) (c .before .before .before .before .before .before .before .before .before .before .before .before .before .before .before .before .loop .inv .room) (c .before .before .before .before .before .before .before .before .before .before .before .before .before .before .below .result) (c .before .before .before .before .before .before .before .before .before .before .before .before .before .before .below .ensures) (c .before .before .before .before .before .before .before .below2 .result) (c .before .before .before .before .before .before .below3 .result) (c .before .before .before .before .before .before .before .below2 .ensures) (c .before .before .before .before .before .before .below3 .ensures) _ (c .before .before .before .before .before .node-fits .ensures) (c .before .before .before .before .if4 .left) (⊎-elim
-    (λ u. left-passes _ _ _ _ (c .before .before .before .before .before .before .before .before .before .before .before .before .before .before .before .loop-test .taken) (c .before .before .before .before .before .before .before .before .before .before .before .before .before .before .before .before .loop .inv .room) (c .before .before .before .before .before .before .before .before .before .before .before .before .before .before .below .result) (c .before .before .before .before .before .before .before .before .before .before .before .before .before .before .below .ensures) (c .before .before .before .before .before .before .before .below2 .result) (c .before .before .before .before .before .before .below3 .result) (c .before .before .before .before .before .before .before .below2 .ensures) (c .before .before .before .before .before .before .below3 .ensures) _ (c .before .before .before .before .before .node-fits .ensures) (c .before .before .before .before .if4 .left) (omega (arith, u .2 .left)) (u .4 .fits) (⊎-elim
-    (λ x. tells-as _ _ _ _ (x .3) (leaf-decides _ _ _ _ (u .0 .taken) (inside-out _ _ (sym (c .before .before .before .before .before .before .before .before .before .before .before .inside .ensures) ∙ not-false _ (c .before .before .before .before .before .before .before .before .before .before .if2 .left))) (c .before .before .before .before .before .before .before .below2 .result) (c .before .before .before .before .before .before .before .below2 .ensures) (x .0 .taken) _ (x .2 .ensures)))
-    (λ x. tells-as _ _ _ _ (x .3) (x .2 .ensures))
-    (u .4 .came)) (u .5 .left))
-    (λ u. left-none _ _ _ _ (c .before .before .before .before .before .before .before .before .before .before .before .before .before .before .before .loop-test .taken) (c .before .before .before .before .before .before .before .before .before .before .before .before .before .before .before .before .loop .inv .room) (c .before .before .before .before .before .before .before .before .before .before .before .before .before .before .below .result) (c .before .before .before .before .before .before .before .before .before .before .before .before .before .before .below .ensures) (c .before .before .before .before .before .before .before .below2 .result) (c .before .before .before .before .before .before .below3 .result) (c .before .before .before .before .before .before .before .below2 .ensures) (c .before .before .before .before .before .before .below3 .ensures) _ (c .before .before .before .before .before .node-fits .ensures) (c .before .before .before .before .if4 .left) (u .left))
-    (c .before .before .if5 .came)) _ (tells-none _ _ _ _ (c .if9 .taken)))
+tree-fits-returns-7 t c = c .before .before .before .before .before .before .before .before .before .before .before .before .before .before .before .before .before .before .loop .inv .tells _ (left-crowded _ _ _ _ (c .before .before .before .before .before .before .before .before .before .before .before .before .before .before .before .before .before .loop-test .taken) (c .before .before .before .before .before .before .before .before .before .before .before .before .before .before .before .before .before .before .loop .inv .room) (c .before .before .before .before .before .before .before .before .before .before .before .before .before .before .before .before .below .result) (c .before .before .before .before .before .before .before .before .before .before .before .before .before .before .before .before .below .ensures) (c .before .before .before .before .before .before .before .before .before .before .before .before .if2 .left) (omega (arith, c .if7 .taken)))
 
-tree-fits-sub-if10 : (t : ℕ) → tree-fits-lts.Need-sub-if10 (tree-fits-claims t) (tree-fits-at t) tree-fits.Post tree-fits-Inv-loop tree-fits-μ-loop
-tree-fits-sub-if10 t c = omega arith
+tree-fits-tree-fits-requires : (t : ℕ) → tree-fits-lts.Need-tree-fits-requires (tree-fits-claims t) (tree-fits-at t) tree-fits.Post tree-fits-Inv-loop tree-fits-μ-loop
+tree-fits-tree-fits-requires t c κs = (omega (arith, c .before .before .before .before .before .before .before .before .before .before .before .before .before .before .before .before .before .before .before .before .before .pre .0, c .before .before .before .before .before .before .before .before .before .before .before .before .before .before .before .before .before .before .before .loop .inv .lower, left-lower _ _ _ _ (c .before .before .before .before .before .before .before .before .before .before .before .before .before .before .before .before .before .before .loop-test .taken) (c .before .before .before .before .before .before .before .before .before .before .before .before .before .before .before .before .before .before .before .loop .inv .room) (c .before .before .before .before .before .before .before .before .before .before .before .before .before .before .before .before .before .below .result) (c .before .before .before .before .before .before .before .before .before .before .before .before .before .before .before .before .before .below .ensures) (c .before .before .before .before .before .before .below2 .result) (c .before .before .before .before .before .below3 .result) (c .before .before .before .before .before .before .below2 .ensures) (c .before .before .before .before .before .below3 .ensures) _ (c .before .before .before .before .node-fits .ensures) (c .before .before .before .if6 .left)), inside-out _ _ (sym (c .before .before .before .before .before .before .before .before .before .before .inside .ensures) ∙ not-false _ (c .before .before .before .before .before .before .before .before .before .if4 .left)))
 
 tree-fits-returns-8 : (t : ℕ) → tree-fits-lts.Need-returns-8 (tree-fits-claims t) (tree-fits-at t) tree-fits.Post tree-fits-Inv-loop tree-fits-μ-loop
-tree-fits-returns-8 t c = c .before .before .before .before .before .before .before .before .before .before .before .before .before .before .before .before .before .before .loop .inv .tells _ (right-crowded _ _ _ _ (c .before .before .before .before .before .before .before .before .before .before .before .before .before .before .before .before .before .loop-test .taken) (c .before .before .before .before .before .before .before .before .before .before .before .before .before .before .before .before .before .before .loop .inv .room) (c .before .before .before .before .before .before .before .before .before .before .before .before .before .before .before .before .below .result) (c .before .before .before .before .before .before .before .before .before .before .before .before .before .before .before .before .below .ensures) (c .before .before .if9 .left) (omega (arith, c .if10 .taken, c .before .before .before .before .before .before .before .before .before .before .before .before .before .before .before .before .before .before .before .before .fits)))
+tree-fits-returns-8 t c = c .before .before .before .before .before .before .before .before .before .before .before .before .before .before .before .before .before .before .before .before .before .loop .inv .tells _ (left-fails _ _ _ _ (c .before .before .before .before .before .before .before .before .before .before .before .before .before .before .before .before .before .before .before .before .loop-test .taken) (c .before .before .before .before .before .before .before .before .before .before .before .before .before .before .before .before .before .before .before .before .before .loop .inv .room) (c .before .before .before .before .before .before .before .before .before .before .before .before .before .before .before .before .before .before .before .below .result) (c .before .before .before .before .before .before .before .before .before .before .before .before .before .before .before .before .before .before .before .below .ensures) (c .before .before .before .before .before .before .before .before .below2 .result) (c .before .before .before .before .before .before .before .below3 .result) (c .before .before .before .before .before .before .before .before .below2 .ensures) (c .before .before .before .before .before .before .before .below3 .ensures) _ (c .before .before .before .before .before .before .node-fits .ensures) (c .before .before .before .before .before .if6 .left) (omega (arith, c .before .before .before .if7 .left)) _ (c .before .tree-fits .ensures) (c .if8 .taken))
 
-tree-fits-add-low : (t : ℕ) → tree-fits-lts.Need-add-low (tree-fits-claims t) (tree-fits-at t) tree-fits.Post tree-fits-Inv-loop tree-fits-μ-loop
-tree-fits-add-low t c = omega (arith, c .before .if10 .left)
-
-tree-fits-loop-less : (t : ℕ) → tree-fits-lts.Need-loop-less (tree-fits-claims t) (tree-fits-at t) tree-fits.Post tree-fits-Inv-loop tree-fits-μ-loop
-tree-fits-loop-less t c = omega (arith, right-lower _ _ _ _ (c .before .before .before .before .before .before .before .before .before .before .before .before .before .before .before .before .before .before .loop-test .taken) (c .before .before .before .before .before .before .before .before .before .before .before .before .before .before .before .before .before .before .before .loop .inv .room) (c .before .before .before .before .before .before .before .before .before .before .before .before .before .before .before .before .before .below .result) (c .before .before .before .before .before .before .before .before .before .before .before .before .before .before .before .before .before .below .ensures) (c .before .before .before .before .before .before .before .before .before .before .below2 .result) (c .before .before .before .before .before .before .before .before .before .below3 .result) (c .before .before .before .before .before .before .before .before .before .before .below2 .ensures) (c .before .before .before .before .before .before .before .before .before .below3 .ensures) _ (c .before .before .before .before .before .before .before .before .node-fits .ensures) (c .before .before .before .before .before .before .before .if4 .left))
-
-tree-fits-loop-again : (t : ℕ) → tree-fits-lts.Need-loop-again (tree-fits-claims t) (tree-fits-at t) tree-fits.Post tree-fits-Inv-loop tree-fits-μ-loop
-tree-fits-loop-again t c = record {
-  room = inside-out _ _ (sym (c .before .before .before .before .before .before .before .before .before .before .before .before .inside2 .ensures) ∙ not-false _ (c .before .before .before .before .before .before .before .before .before .before .before .if3 .left));
-  lower = omega (arith, c .before .before .before .before .before .before .before .before .before .before .before .before .before .before .before .before .before .before .before .loop .inv .lower, right-lower _ _ _ _ (c .before .before .before .before .before .before .before .before .before .before .before .before .before .before .before .before .before .before .loop-test .taken) (c .before .before .before .before .before .before .before .before .before .before .before .before .before .before .before .before .before .before .before .loop .inv .room) (c .before .before .before .before .before .before .before .before .before .before .before .before .before .before .before .before .before .below .result) (c .before .before .before .before .before .before .before .before .before .before .before .before .before .before .before .before .before .below .ensures) (c .before .before .before .before .before .before .before .before .before .before .below2 .result) (c .before .before .before .before .before .before .before .before .before .below3 .result) (c .before .before .before .before .before .before .before .before .before .before .below2 .ensures) (c .before .before .before .before .before .before .before .before .before .below3 .ensures) _ (c .before .before .before .before .before .before .before .before .node-fits .ensures) (c .before .before .before .before .before .before .before .if4 .left));
-  tells = λ r h. c .before .before .before .before .before .before .before .before .before .before .before .before .before .before .before .before .before .before .before .loop .inv .tells r (right-decides _ _ _ _ (c .before .before .before .before .before .before .before .before .before .before .before .before .before .before .before .before .before .before .loop-test .taken) (c .before .before .before .before .before .before .before .before .before .before .before .before .before .before .before .before .before .before .before .loop .inv .room) (c .before .before .before .before .before .before .before .before .before .before .before .before .before .before .before .before .before .below .result) (c .before .before .before .before .before .before .before .before .before .before .before .before .before .before .before .before .before .below .ensures) (c .before .before .before .before .before .before .before .before .before .before .below2 .result) (c .before .before .before .before .before .before .before .before .before .below3 .result) (c .before .before .before .before .before .before .before .before .before .before .below2 .ensures) (c .before .before .before .before .before .before .before .before .before .below3 .ensures) _ (c .before .before .before .before .before .before .before .before .node-fits .ensures) (c .before .before .before .before .before .before .before .if4 .left) (⊎-elim
-      (λ u. left-passes _ _ _ _ (c .before .before .before .before .before .before .before .before .before .before .before .before .before .before .before .before .before .before .loop-test .taken) (c .before .before .before .before .before .before .before .before .before .before .before .before .before .before .before .before .before .before .before .loop .inv .room) (c .before .before .before .before .before .before .before .before .before .before .before .before .before .before .before .before .before .below .result) (c .before .before .before .before .before .before .before .before .before .before .before .before .before .before .before .before .before .below .ensures) (c .before .before .before .before .before .before .before .before .before .before .below2 .result) (c .before .before .before .before .before .before .before .before .before .below3 .result) (c .before .before .before .before .before .before .before .before .before .before .below2 .ensures) (c .before .before .before .before .before .before .before .before .before .below3 .ensures) _ (c .before .before .before .before .before .before .before .before .node-fits .ensures) (c .before .before .before .before .before .before .before .if4 .left) (omega (arith, u .2 .left)) (u .4 .fits) (⊎-elim
-      (λ x. tells-as _ _ _ _ (x .3) (leaf-decides _ _ _ _ (u .0 .taken) (inside-out _ _ (sym (c .before .before .before .before .before .before .before .before .before .before .before .before .before .before .inside .ensures) ∙ not-false _ (c .before .before .before .before .before .before .before .before .before .before .before .before .before .if2 .left))) (c .before .before .before .before .before .before .before .before .before .before .below2 .result) (c .before .before .before .before .before .before .before .before .before .before .below2 .ensures) (x .0 .taken) _ (x .2 .ensures)))
-      (λ x. tells-as _ _ _ _ (x .3) (x .2 .ensures))
-      (u .4 .came)) (u .5 .left))
-      (λ u. left-none _ _ _ _ (c .before .before .before .before .before .before .before .before .before .before .before .before .before .before .before .before .before .before .loop-test .taken) (c .before .before .before .before .before .before .before .before .before .before .before .before .before .before .before .before .before .before .before .loop .inv .room) (c .before .before .before .before .before .before .before .before .before .before .before .before .before .before .before .before .before .below .result) (c .before .before .before .before .before .before .before .before .before .before .before .before .before .before .before .before .before .below .ensures) (c .before .before .before .before .before .before .before .before .before .before .below2 .result) (c .before .before .before .before .before .before .before .before .before .below3 .result) (c .before .before .before .before .before .before .before .before .before .before .below2 .ensures) (c .before .before .before .before .before .before .before .before .before .below3 .ensures) _ (c .before .before .before .before .before .before .before .before .node-fits .ensures) (c .before .before .before .before .before .before .before .if4 .left) (u .left))
-      (c .before .before .before .before .before .if5 .came)) r h);
-}
+tree-fits-sub-if9 : (t : ℕ) → tree-fits-lts.Need-sub-if9 (tree-fits-claims t) (tree-fits-at t) tree-fits.Post tree-fits-Inv-loop tree-fits-μ-loop
+tree-fits-sub-if9 t c = omega arith
 
 tree-fits-returns-9 : (t : ℕ) → tree-fits-lts.Need-returns-9 (tree-fits-claims t) (tree-fits-at t) tree-fits.Post tree-fits-Inv-loop tree-fits-μ-loop
-tree-fits-returns-9 t c = c .before .loop .inv .tells _ (tells-none _ _ _ _ (c .loop-test .left))
+tree-fits-returns-9 t c = c .before .before .before .before .before .before .before .before .before .before .before .before .before .before .before .before .before .before .before .before .before .before .before .loop .inv .tells _ (right-crowded _ _ _ _ (c .before .before .before .before .before .before .before .before .before .before .before .before .before .before .before .before .before .before .before .before .before .before .loop-test .taken) (c .before .before .before .before .before .before .before .before .before .before .before .before .before .before .before .before .before .before .before .before .before .before .before .loop .inv .room) (c .before .before .before .before .before .before .before .before .before .before .before .before .before .before .before .before .before .before .before .before .before .below .result) (c .before .before .before .before .before .before .before .before .before .before .before .before .before .before .before .before .before .before .before .before .before .below .ensures) (c .before .before .before .before .before .before .before .before .before .before .before .before .before .before .before .if3 .left) (omega (arith, c .if9 .taken, c .before .before .before .before .before .before .before .before .before .before .before .before .before .before .before .before .before .before .before .before .before .before .before .before .before .fits)))
+
+tree-fits-add-low : (t : ℕ) → tree-fits-lts.Need-add-low (tree-fits-claims t) (tree-fits-at t) tree-fits.Post tree-fits-Inv-loop tree-fits-μ-loop
+tree-fits-add-low t c = omega (arith, c .before .if9 .left)
+
+tree-fits-loop-less : (t : ℕ) → tree-fits-lts.Need-loop-less (tree-fits-claims t) (tree-fits-at t) tree-fits.Post tree-fits-Inv-loop tree-fits-μ-loop
+tree-fits-loop-less t c = omega (arith, right-lower _ _ _ _ (c .before .before .before .before .before .before .before .before .before .before .before .before .before .before .before .before .before .before .before .before .before .before .before .loop-test .taken) (c .before .before .before .before .before .before .before .before .before .before .before .before .before .before .before .before .before .before .before .before .before .before .before .before .loop .inv .room) (c .before .before .before .before .before .before .before .before .before .before .before .before .before .before .before .before .before .before .before .before .before .before .below .result) (c .before .before .before .before .before .before .before .before .before .before .before .before .before .before .before .before .before .before .before .before .before .before .below .ensures) (c .before .before .before .before .before .before .before .before .before .before .before .below2 .result) (c .before .before .before .before .before .before .before .before .before .before .below3 .result) (c .before .before .before .before .before .before .before .before .before .before .before .below2 .ensures) (c .before .before .before .before .before .before .before .before .before .before .below3 .ensures) _ (c .before .before .before .before .before .before .before .before .before .node-fits .ensures) (c .before .before .before .before .before .before .before .before .if6 .left))
+
+tree-fits-loop-again : (t : ℕ) → tree-fits-lts.Need-loop-again (tree-fits-claims t) (tree-fits-at t) tree-fits.Post tree-fits-Inv-loop tree-fits-μ-loop
+tree-fits-loop-again t c = record { room = inside-out _ _ (sym (c .before .before .before .before .before .before .before .before .before .before .before .before .before .inside2 .ensures) ∙ not-false _ (c .before .before .before .before .before .before .before .before .before .before .before .before .if5 .left)); lower = omega (arith, c .before .before .before .before .before .before .before .before .before .before .before .before .before .before .before .before .before .before .before .before .before .before .before .before .loop .inv .lower, right-lower _ _ _ _ (c .before .before .before .before .before .before .before .before .before .before .before .before .before .before .before .before .before .before .before .before .before .before .before .loop-test .taken) (c .before .before .before .before .before .before .before .before .before .before .before .before .before .before .before .before .before .before .before .before .before .before .before .before .loop .inv .room) (c .before .before .before .before .before .before .before .before .before .before .before .before .before .before .before .before .before .before .before .before .before .before .below .result) (c .before .before .before .before .before .before .before .before .before .before .before .before .before .before .before .before .before .before .before .before .before .before .below .ensures) (c .before .before .before .before .before .before .before .before .before .before .before .below2 .result) (c .before .before .before .before .before .before .before .before .before .before .below3 .result) (c .before .before .before .before .before .before .before .before .before .before .before .below2 .ensures) (c .before .before .before .before .before .before .before .before .before .before .below3 .ensures) _ (c .before .before .before .before .before .before .before .before .before .node-fits .ensures) (c .before .before .before .before .before .before .before .before .if6 .left)); tells = λ r h. c .before .before .before .before .before .before .before .before .before .before .before .before .before .before .before .before .before .before .before .before .before .before .before .before .loop .inv .tells r (right-decides _ _ _ _ (c .before .before .before .before .before .before .before .before .before .before .before .before .before .before .before .before .before .before .before .before .before .before .before .loop-test .taken) (c .before .before .before .before .before .before .before .before .before .before .before .before .before .before .before .before .before .before .before .before .before .before .before .before .loop .inv .room) (c .before .before .before .before .before .before .before .before .before .before .before .before .before .before .before .before .before .before .before .before .before .before .below .result) (c .before .before .before .before .before .before .before .before .before .before .before .before .before .before .before .before .before .before .before .before .before .before .below .ensures) (c .before .before .before .before .before .before .before .before .before .before .before .below2 .result) (c .before .before .before .before .before .before .before .before .before .before .below3 .result) (c .before .before .before .before .before .before .before .before .before .before .before .below2 .ensures) (c .before .before .before .before .before .before .before .before .before .before .below3 .ensures) _ (c .before .before .before .before .before .before .before .before .before .node-fits .ensures) (c .before .before .before .before .before .before .before .before .if6 .left) (left-passes _ _ _ _ (c .before .before .before .before .before .before .before .before .before .before .before .before .before .before .before .before .before .before .before .before .before .before .before .loop-test .taken) (c .before .before .before .before .before .before .before .before .before .before .before .before .before .before .before .before .before .before .before .before .before .before .before .before .loop .inv .room) (c .before .before .before .before .before .before .before .before .before .before .before .before .before .before .before .before .before .before .before .before .before .before .below .result) (c .before .before .before .before .before .before .before .before .before .before .before .before .before .before .before .before .before .before .before .before .before .before .below .ensures) (c .before .before .before .before .before .before .before .before .before .before .before .below2 .result) (c .before .before .before .before .before .before .before .before .before .before .below3 .result) (c .before .before .before .before .before .before .before .before .before .before .before .below2 .ensures) (c .before .before .before .before .before .before .before .before .before .before .below3 .ensures) _ (c .before .before .before .before .before .before .before .before .before .node-fits .ensures) (c .before .before .before .before .before .before .before .before .if6 .left) (omega (arith, c .before .before .before .before .before .before .if7 .left)) _ (c .before .before .before .before .tree-fits .ensures) (c .before .before .before .if8 .left)) r h) }
+
+tree-fits-returns-10 : (t : ℕ) → tree-fits-lts.Need-returns-10 (tree-fits-claims t) (tree-fits-at t) tree-fits.Post tree-fits-Inv-loop tree-fits-μ-loop
+tree-fits-returns-10 t c = c .before .loop .inv .tells _ (tells-none _ _ _ _ (c .loop-test .left))
 
 pub +tree-fits-spec : {M : Type 1} → statement M
 +tree-fits-spec = close μ-tree-fits λ t. tree-fits-lts.spec (tree-fits-claims t)
@@ -149,24 +130,24 @@ pub +tree-fits-spec : {M : Type 1} → statement M
     tree-fits-μ-loop
     (tree-fits-loop-holds t)
     (tree-fits-below-requires t)
-    (tree-fits-leaf-fits-requires t)
+    (tree-fits-low-fits-requires t)
     (tree-fits-returns t)
-    (tree-fits-inside-requires t)
     (tree-fits-returns-2 t)
-    (tree-fits-inside-requires-2 t)
     (tree-fits-returns-3 t)
+    (tree-fits-inside-requires t)
+    (tree-fits-returns-4 t)
+    (tree-fits-inside-requires-2 t)
+    (tree-fits-returns-5 t)
     (tree-fits-below-requires-2 t)
     (tree-fits-below-requires-3 t)
     (tree-fits-node-fits-requires t)
-    (tree-fits-returns-4 t)
-    (tree-fits-returns-5 t)
-    (tree-fits-leaf-fits-requires-2 t)
-    (tree-fits-tree-fits-requires t)
     (tree-fits-returns-6 t)
     (tree-fits-returns-7 t)
-    (tree-fits-sub-if10 t)
+    (tree-fits-tree-fits-requires t)
     (tree-fits-returns-8 t)
+    (tree-fits-sub-if9 t)
+    (tree-fits-returns-9 t)
     (tree-fits-add-low t)
     (tree-fits-loop-less t)
     (tree-fits-loop-again t)
-    (tree-fits-returns-9 t)
+    (tree-fits-returns-10 t)
