@@ -74,7 +74,7 @@ differ false true e = refl
 differ true true e = sym e
 differ false false e = e
 
-agree : (b v : Bool) → not (Bool·beq b v) ≡ false → b ≡ v
+pub agree : (b v : Bool) → not (Bool·beq b v) ≡ false → b ≡ v
 agree true true e = refl
 agree false false e = refl
 agree true false e = e

@@ -1,2 +1,4 @@
 -- What the proofs of several functions use.
 pub mod Bits
+pub mod Windows
+pub mod Surveying
