@@ -2,3 +2,4 @@
 pub mod Bits
 pub mod Windows
 pub mod Surveying
+pub mod Leaving

@@ -15,6 +15,7 @@ use Rattle.model.specs.Positions.Runs.{runsIn-join, runsIn-none}
 use Rattle.model.specs.Bytes.{mapBit, mapped}
 use Rattle.reports.specs.declared.physical.Tally.{Tally}
 use Rattle.reports.specs.Reports.{Measured}
+use Rattle.reports.proofs.Reading.{count-most}
 use Rattle.changes.specs.Edits.{StretchEnd}
 use Rattle.maps.specs.declared.read.Survey.{Survey}
 use Rattle.maps.specs.Window.{Window, Surveyed}
@@ -55,11 +56,6 @@ surveying-none P base n bs = record {
   changed-are = omega (arith, count-both (combined Xor P (mapped base n bs P)) base 0);
   less = omega arith;
 }
-
--- at most each position is counted
-count-most : (P : Positions) (v : Bool) (a n : ℕ) → count P v a n ≤ n
-count-most P true a n = omega (arith, count-both P a n)
-count-most P false a n = omega (arith, count-both P a n)
 
 -- a run more, where the stretch is one
 pub counted-yes : {v : Bool} {r : ℕ} (runs : ℕ) → v ≡ true → r ≡ runs + 1 → r ≡ runs + oneIf v
