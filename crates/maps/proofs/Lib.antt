@@ -3,3 +3,5 @@ pub mod Bits
 pub mod Windows
 pub mod Surveying
 pub mod Leaving
+pub mod OnTheWay
+pub mod Applying
