@@ -9,16 +9,17 @@ use native.Mathlib.Omega.{arith}
 use lib.ListN.{length}
 use Rattle.model.specs.Numbers.{size, split}
 use Rattle.model.specs.Places.{capacityOf}
-use Rattle.model.specs.Positions.{Positions, among, stretches, setRange}
+use Rattle.model.specs.Positions.{Positions, among, stretches, setRange, changes}
 use Rattle.model.specs.Bytes.{mapBit, mapped}
 use Rattle.model.specs.After.{set-inside, set-below, set-above}
 use Rattle.store.specs.Layout.{capacity, heldBy}
 use Rattle.store.specs.Soundness.{Sound}
 use Rattle.store.specs.Settle.{Settled}
-use Rattle.changes.specs.Edits.{StretchEnd}
+use Rattle.changes.specs.declared.edit.Edit.{Edit}
+use Rattle.changes.specs.Edits.{Edited, StretchEnd}
 use Rattle.changes.specs.Neighbours.{stretches-cong}
 use Rattle.maps.specs.Window.{Window}
-use Rattle.maps.proofs.Windows.{mapped-below, mapped-above, mapped-at}
+use Rattle.maps.proofs.Windows.{mapped-below, mapped-above, mapped-at, changes-nothing}
 use Rattle.maps.proofs.Surveying.{Border, border-first, border-next}
 use Rattle.maps.proofs.OnTheWay.{on-the-way, at-the-start}
 
@@ -199,3 +200,12 @@ module _ {w₁ w : List ℕ} {base n : ℕ} {bs : List ℕ} {i e : ℕ} {v : Boo
       clear x l (inr h) (inr m) =
           set-inside (base + i) k false (heldBy w) x h (omega arith)
           ∙ sym (a .holds x l ∙ mapped-above base i bs (heldBy w₁) x h ∙ a .cleared x (omega arith) (omega (arith, s .upto)))
+
+-- ---- a map that changes nothing
+-- the store holds already what is read
+pub nothing-changed : {w : List ℕ} (Q : Positions) → Sound w → changes (heldBy w) Q ≡ 0 → Edited w w Q (Edit.Changed (record { carry = 0; low = 0 }))
+nothing-changed {w} Q s e = (
+  omega (arith, s .fits, stretches-cong (heldBy w) Q (changes-nothing (heldBy w) Q e)),
+  record { sound = s; holds = changes-nothing (heldBy w) Q e; long = refl },
+  omega (arith, e),
+)
