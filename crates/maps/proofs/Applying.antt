@@ -3,13 +3,13 @@
 use Prim.Native.Nat.{ℕ, suc, _+_, _-_, _≤_, _<_}
 use mathlib.Core.Path.{_≡_, refl, sym, ap, _∙_, subst}
 use mathlib.Core.Logic.{_⊎_, inl, inr}
-use mathlib.Core.Bool.{Bool, true, false, cond, not}
+use mathlib.Core.Bool.{Bool, true, false}
 use mathlib.Core.List.{List}
 use native.Mathlib.Omega.{arith}
 use lib.ListN.{length}
 use Rattle.model.specs.Numbers.{size, split}
 use Rattle.model.specs.Places.{capacityOf}
-use Rattle.model.specs.Positions.{Positions, among, stretches, setRange, changes}
+use Rattle.model.specs.Positions.{Positions, stretches, setRange, changes}
 use Rattle.model.specs.Bytes.{mapBit, mapped}
 use Rattle.model.specs.After.{set-inside, set-below, set-above}
 use Rattle.store.specs.Layout.{capacity, heldBy}
@@ -18,6 +18,7 @@ use Rattle.store.specs.Settle.{Settled}
 use Rattle.changes.specs.declared.edit.Edit.{Edit}
 use Rattle.changes.specs.Edits.{Edited, StretchEnd}
 use Rattle.changes.specs.Neighbours.{stretches-cong}
+use Rattle.changes.proofs.Flipping.{set-cong}
 use Rattle.maps.specs.Window.{Window}
 use Rattle.maps.proofs.Windows.{mapped-below, mapped-above, mapped-at, changes-nothing}
 use Rattle.maps.proofs.Surveying.{Border, border-first, border-next}
@@ -26,11 +27,6 @@ use Rattle.maps.proofs.OnTheWay.{on-the-way, at-the-start}
 -- a store that holds one set holds another that is the same
 settled-same : {w w′ : List ℕ} {P Q : Positions} → Settled w w′ P → ((x : ℕ) → x < size → P x ≡ Q x) → Settled w w′ Q
 settled-same s f = record { sound = s .sound; holds = λ x l. s .holds x l ∙ f x l; long = s .long }
-
--- a set of equal positions is equal
-set-cong : (a n : ℕ) (v : Bool) (P Q : Positions) (x : ℕ) → P x ≡ Q x → setRange a n v P x ≡ setRange a n v Q x
-unfolding setRange
-set-cong a n v P Q x e = ap (cond (among a n x) v) e
 
 -- reading one stretch more is a set
 further : (base : ℕ) (bs : List ℕ) (P : Positions) (i k : ℕ) (v : Bool) → ((z : ℕ) → i ≤ z → z < i + k → mapBit bs z ≡ v)

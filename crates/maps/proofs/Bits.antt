@@ -1,15 +1,15 @@
 -- The bytes of a map and the stretches of its bits: a byte 255 has eight bits that are 1, a byte 0 has none, and a stretch grows by a
 -- byte or by a bit that has its value. Assumes nothing.
-use Prim.Native.Nat.{ℕ, zero, suc, _+_, _-_, _*_, _/_, _%_, _^_, _≤_, _<_}
+use Prim.Native.Nat.{ℕ, zero, suc, _+_, _-_, _/_, _%_, _^_, _≤_, _<_}
 use mathlib.Core.Path.{_≡_, refl, sym, ap, _∙_}
 use mathlib.Core.Logic.{_⊎_, inl, inr}
-use mathlib.Core.Bool.{Bool, true, false, not, Bool·beq}
+use mathlib.Core.Bool.{Bool, true, false, not, Bool·beq, false≢true}
 use mathlib.Core.List.{List}
 use native.Mathlib.Nat.{zero-div}
 use native.Mathlib.Omega.{arith}
 use lib.Dec.{eqb}
-use lib.ListN.{length, getD}
-use borrow.Author.Tests.{eqb-true, not-true, not-false}
+use lib.ListN.{getD}
+use borrow.Author.Tests.{eqb-true}
 use Rattle.model.specs.Numbers.{split}
 use Rattle.model.specs.Bytes.{mapBit}
 use Rattle.changes.specs.Edits.{StretchEnd}
@@ -94,7 +94,7 @@ module _ {bs : List ℕ} {i n e : ℕ} {v : Bool} (g : Going bs i n e) (value : 
           let q : z ≡ e + 1 + (z - (e + 1)) = omega arith in
           ap (mapBit bs) q ∙ f (z - (e + 1)) (omega arith) ∙ value
       go z a b (inr k) = g .same z a k
-  going-byte false l f t = absurd (mathlib.Core.Bool.false≢true t)
+  going-byte false l f t = absurd (false≢true t)
 
   module _ {r : Bool} (next : r ≡ mapBit bs (e + 1)) where
     -- a bit more

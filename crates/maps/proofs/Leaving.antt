@@ -1,12 +1,11 @@
 -- How many runs reading a map leaves: those outside the window stay, those in it are the map's, and a run goes on over an end of the window
 -- where the map's bit there and the neighbour are both held. All these numbers are small. Assumes nothing.
-use Prim.Native.Nat.{ℕ, suc, _+_, _-_, _*_, _≤_, _<_}
-use mathlib.Core.Path.{_≡_, refl, sym, ap, _∙_}
+use Prim.Native.Nat.{ℕ, suc, _+_, _-_, _≤_}
+use mathlib.Core.Path.{_≡_, sym, ap, _∙_}
 use mathlib.Core.Bool.{Bool, true, false, _&&_, and-true, and-false}
 use mathlib.Core.List.{List}
 use native.Mathlib.Omega.{arith}
 use lib.Dec.{leb}
-use Rattle.model.specs.Numbers.{size}
 use Rattle.model.specs.Positions.{Positions, oneIf, countRanges, stretches}
 use Rattle.model.specs.Bytes.{mapBit, mapped}
 use Rattle.model.specs.MapLaws.{mapped-in}

@@ -1,13 +1,13 @@
 -- While a map is read, stretch by stretch, into a window that was cleared first, there are never more runs than at the end: what is left to
 -- read is a cleared part of the window, and clearing a part adds no run where it has as many as go on over its ends. Assumes nothing.
 use Prim.Native.Nat.{ℕ, zero, suc, _+_, _-_, _≤_, _<_}
-use mathlib.Core.Path.{_≡_, refl, sym, ap, ap₂, _∙_}
+use mathlib.Core.Path.{_≡_, refl, sym, ap, _∙_}
 use mathlib.Core.Logic.{_⊎_, inl, inr}
-use mathlib.Core.Bool.{Bool, true, false, cond, not, _&&_}
+use mathlib.Core.Bool.{Bool, true, false, not, _&&_}
 use mathlib.Core.List.{List}
 use native.Mathlib.Omega.{arith}
 use Rattle.model.specs.Numbers.{size, split}
-use Rattle.model.specs.Positions.{Positions, among, oneIf, countRanges, stretches, setRange}
+use Rattle.model.specs.Positions.{Positions, oneIf, countRanges, stretches, setRange}
 use Rattle.model.specs.Bytes.{mapBit, mapped}
 use Rattle.model.specs.MapLaws.{mapped-in}
 use Rattle.model.specs.After.{goesOn, runs-cut, set-inside, set-below, set-above}

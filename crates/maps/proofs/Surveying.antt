@@ -1,15 +1,15 @@
 -- A map surveyed stretch by stretch: where the last stretch ended the value changes, so no run goes on over that place and the stretch adds
 -- its own run, or none; it changes the positions that have the other value. Assumes nothing.
-use Prim.Native.Nat.{ℕ, suc, _+_, _-_, _*_, _≤_, _<_}
+use Prim.Native.Nat.{ℕ, suc, _+_, _-_, _≤_, _<_}
 use mathlib.Core.Path.{_≡_, refl, sym, ap, _∙_}
 use mathlib.Core.Logic.{_⊎_, inl, inr}
 use mathlib.Core.Bool.{Bool, true, false, not}
-use mathlib.Core.List.{List, _++_}
+use mathlib.Core.List.{List}
 use native.Mathlib.Omega.{arith}
 use lib.ListN.{length, length-append}
+use borrow.Author.Tests.{not-true}
 use Rattle.model.specs.declared.Operation.the-variants.{Xor}
-use Rattle.model.specs.Numbers.{size, worth}
-use Rattle.model.specs.Positions.{Positions, oneIf, count, runsIn, countRanges, combined, changes}
+use Rattle.model.specs.Positions.{Positions, oneIf, count, runsIn, countRanges, combined}
 use Rattle.model.specs.Positions.Laws.{count-cut, count-both}
 use Rattle.model.specs.Positions.Runs.{runsIn-join, runsIn-none}
 use Rattle.model.specs.Bytes.{mapBit, mapped}
@@ -17,7 +17,6 @@ use Rattle.reports.specs.declared.physical.Tally.{Tally}
 use Rattle.reports.specs.Reports.{Measured}
 use Rattle.reports.proofs.Reading.{count-most}
 use Rattle.changes.specs.Edits.{StretchEnd}
-use Rattle.maps.specs.declared.read.Survey.{Survey}
 use Rattle.maps.specs.Window.{Window, Surveyed}
 use Rattle.maps.proofs.Windows.{mapped-below, mapped-above, mapped-at, changes-stretch, changes-in, one-value}
 
@@ -75,11 +74,7 @@ module _ {P : Positions} {base n : ℕ} {bs : List ℕ} {i runs changed : ℕ} (
   seam : (b : Bool) → v ≡ b → (mapped base n bs P (base + i) ≡ false) ⊎ ((y : ℕ) → suc y ≡ base + i → base ≤ y → mapped base n bs P y ≡ false)
   seam false q = inl (stretch-at (base + i) (omega arith) (omega (arith, st .from)) ∙ q)
   seam true q = inr (λ y p l.
-      mapped-at base n bs P y l (omega arith) ∙ opposite (mapBit bs (y - base)) (sym (s .border (y - base) (omega arith) more) ∙ sym value ∙ q))
-    where
-      opposite : (b : Bool) → not b ≡ true → b ≡ false
-      opposite true z = sym z
-      opposite false z = refl
+      mapped-at base n bs P y l (omega arith) ∙ not-true (mapBit bs (y - base)) (sym (s .border (y - base) (omega arith) more) ∙ sym value ∙ q))
 
   -- its runs
   stretch-runs : countRanges (mapped base n bs P) true base (i + (suc e - i)) ≡ countRanges (mapped base n bs P) true base i + oneIf v

@@ -1,18 +1,19 @@
 -- What reading a map makes of a set: the window's positions are the map's bits and the others stay, so what changes is counted in the
 -- window, and where nothing changes both are one set. Assumes nothing.
-use Prim.Native.Nat.{ℕ, suc, _+_, _-_, _≤_, _<_}
+use Prim.Native.Nat.{ℕ, zero, suc, _+_, _-_, _≤_, _<_}
 use mathlib.Core.Path.{_≡_, refl, sym, ap, _∙_}
 use mathlib.Core.Bool.{Bool, true, false, cond, not, Bool·beq}
 use mathlib.Core.List.{List}
 use native.Mathlib.Omega.{arith}
+use lib.ListN.{length}
 use Rattle.model.specs.declared.Operation.the-variants.{Xor}
 use Rattle.model.specs.Numbers.{size}
-use Rattle.model.specs.Positions.{Positions, oneIf, count, countRanges, setRange, combined, changes}
+use Rattle.model.specs.Positions.{Positions, oneIf, count, countRanges, combined, changes}
 use Rattle.model.specs.Positions.Laws.{among-below, among-above, count-cut, count-none, count-hits}
 use Rattle.model.specs.Positions.Runs.{runsIn-all, runsIn-none}
 use Rattle.model.specs.Bytes.{mapBit, mapped}
 use Rattle.model.specs.MapLaws.{mapped-in}
-use Rattle.model.specs.After.{set-inside}
+use Rattle.model.specs.After.{set-inside, differ-hit, differ-self}
 use Rattle.changes.specs.SetRuns.{set-nothing}
 use Rattle.maps.proofs.Bits.{agree}
 
@@ -34,18 +35,6 @@ mapped-at base n bs P x h l =
     ap (mapped base n bs P) q ∙ mapped-in base n bs P (x - base) (omega arith)
 
 -- ---- what changes
--- a position that is v afterwards changes where it is not v
-differ-hit : (p v : Bool) → Bool·beq (not (Bool·beq p v)) true ≡ Bool·beq p (not v)
-differ-hit true true = refl
-differ-hit true false = refl
-differ-hit false true = refl
-differ-hit false false = refl
-
--- a position that stays does not change
-differ-self : (v : Bool) → not (Bool·beq v v) ≡ false
-differ-self true = refl
-differ-self false = refl
-
 -- in a range of one value the positions of the other value change
 pub changes-stretch : (P Q : Positions) (a n : ℕ) (v : Bool) → ((x : ℕ) → a ≤ x → x < a + n → Q x ≡ v) → count (combined Xor P Q) true a n ≡ count P (not v) a n
 unfolding combined
@@ -80,6 +69,6 @@ changes-nothing P Q e x l =
 -- a range of one value is one run, or none
 pub one-value : (Q : Positions) (a n : ℕ) (v : Bool) → 0 < n → ((x : ℕ) → a ≤ x → x < a + n → Q x ≡ v) → countRanges Q true a n ≡ oneIf v
 unfolding countRanges
-one-value Q a Prim.Native.Nat.zero v h f = absurd (omega arith)
-one-value Q a (suc n) true h f = ap lib.ListN.length (runsIn-all Q true a n f)
-one-value Q a (suc n) false h f = ap lib.ListN.length (runsIn-none Q true a (suc n) f)
+one-value Q a zero v h f = absurd (omega arith)
+one-value Q a (suc n) true h f = ap length (runsIn-all Q true a n f)
+one-value Q a (suc n) false h f = ap length (runsIn-none Q true a (suc n) f)

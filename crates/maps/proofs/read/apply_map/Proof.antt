@@ -4,7 +4,6 @@ use Prim.Native.Nat.{_-_}
 use mathlib.Core.Path.{_∙_}
 use mathlib.Core.Logic.{⊎-elim}
 use native.Mathlib.Omega.{arith}
-use borrow.Author.Needs.{needs}
 use Rattle.maps.proofs.Applying.{Applying, one-settable, one-done, clearable, applying-none, applying-done, stretch-settable, applying-set, applying-left}
 use Rattle.maps.proofs.read.apply_map.Statement.{statement}
 use Rattle.maps.proofs.read.apply_map.Tie as tie

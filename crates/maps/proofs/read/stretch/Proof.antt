@@ -2,7 +2,6 @@
 -- what is left of the n. Assumes nothing.
 use Prim.Native.Nat.{_-_}
 use native.Mathlib.Omega.{arith}
-use borrow.Author.Needs.{needs}
 use Rattle.maps.proofs.Bits.{Going, going-one, going-byte, going-bit, going-stops, going-ends}
 use Rattle.maps.proofs.read.stretch.Statement.{statement}
 use Rattle.maps.proofs.read.stretch.Tie as tie

@@ -3,7 +3,6 @@
 use Prim.Native.Nat.{_-_}
 use mathlib.Core.Logic.{⊎-elim}
 use native.Mathlib.Omega.{arith}
-use borrow.Author.Needs.{needs}
 use Rattle.store.specs.Layout.{heldBy}
 use Rattle.maps.proofs.Surveying.{Surveying, surveying-none, counted-yes, counted-no, low-fits, surveying-next, surveying-done}
 use Rattle.maps.proofs.read.survey_map.Statement.{statement}
