@@ -145,7 +145,7 @@ flipping-none {w} {a} {last} b s l k e t = record {
         go (inr i) = flip-above a (a - a) (heldBy w) y (omega arith)
 
 -- a set of equal positions is equal
-set-cong : (a n : ℕ) (v : Bool) (P Q : Positions) (x : ℕ) → P x ≡ Q x → setRange a n v P x ≡ setRange a n v Q x
+pub set-cong : (a n : ℕ) (v : Bool) (P Q : Positions) (x : ℕ) → P x ≡ Q x → setRange a n v P x ≡ setRange a n v Q x
 unfolding setRange
 set-cong a n v P Q x e = ap (cond (among a n x) v) e
 

@@ -54,11 +54,11 @@ module _ (P : Positions) (a n b : ℕ) (some : 0 < n) (ends : a + n ≡ suc b) (
   end-in y x h e l u = omega (arith, ap oneIf e, both-second h (P x), ranges-some P a n x l u)
 
   -- over the lower end
-  below-in : oneIf (goesOn P a) ≤ countRanges P true a n
+  pub below-in : oneIf (goesOn P a) ≤ countRanges P true a n
   below-in = end-in a a (heldBelow P a) (goesOn-below P a (omega arith)) (omega arith) (omega arith)
 
   -- over the upper one
-  above-in : oneIf (goesOn P (suc b)) ≤ countRanges P true a n
+  pub above-in : oneIf (goesOn P (suc b)) ≤ countRanges P true a n
   above-in = end-in (suc b) b (heldAbove P b) (goesOn-above P b) (omega arith) (omega arith)
 
   -- at most one run more

@@ -177,13 +177,13 @@ flip-runs P a n h t =
     ∙ ap (λ k. stretches P + (oneIf (goesOn P a) + oneIf (goesOn P (a + n))) + k) (flip-gaps a n P)
 
 -- ---- how many positions change
-differ-hit : (p v : Bool) → Bool·beq (not (Bool·beq p v)) true ≡ Bool·beq p (not v)
+pub differ-hit : (p v : Bool) → Bool·beq (not (Bool·beq p v)) true ≡ Bool·beq p (not v)
 differ-hit true true = refl
 differ-hit true false = refl
 differ-hit false true = refl
 differ-hit false false = refl
 
-differ-self : (v : Bool) → not (Bool·beq v v) ≡ false
+pub differ-self : (v : Bool) → not (Bool·beq v v) ≡ false
 differ-self true = refl
 differ-self false = refl
 

@@ -47,7 +47,7 @@ use Rattle.store.proofs.Opening.{physicalIn, sound-index, sound-held}
 
 -- ---- how much a range has
 -- at most each of its positions
-count-most : (P : Positions) (v : Bool) (a n : ℕ) → count P v a n ≤ n
+pub count-most : (P : Positions) (v : Bool) (a n : ℕ) → count P v a n ≤ n
 count-most P true a n = omega (arith, count-both P a n)
 count-most P false a n = omega (arith, count-both P a n)
 
@@ -57,7 +57,7 @@ canon-most total k [] c = omega arith
 canon-most total k (r ∷ rs) c = omega (arith, c .0, c .1, c .2, canon-most total (r .«end» + 2) rs (c .3))
 
 -- so a range has at most half as many runs as positions, and one
-ranges-most : (P : Positions) (v : Bool) (a n : ℕ) → 2 * countRanges P v a n ≤ n + 1
+pub ranges-most : (P : Positions) (v : Bool) (a n : ℕ) → 2 * countRanges P v a n ≤ n + 1
 unfolding countRanges
 ranges-most P v a n = omega (arith, canon-most (a + n) a (runsIn P v a n) (runsIn-canon P v (a + n) a n (omega arith)))
 

@@ -1,0 +1,7 @@
+-- What the proofs of several functions use.
+pub mod Bits
+pub mod Windows
+pub mod Surveying
+pub mod Leaving
+pub mod OnTheWay
+pub mod Applying

@@ -1,0 +1,54 @@
+-- `read_map` meets its contract: where the survey finds no change the store holds the map already; else it is refused, or `apply_map` reads
+-- it. Assumes nothing.
+use mathlib.Core.Path.{refl, sym, _∙_}
+use native.Mathlib.Omega.{arith}
+use borrow.Author.Needs.{needs}
+use borrow.Author.Tests.{leb-true, leb-false, not-true, not-false}
+use Rattle.maps.proofs.Applying.{nothing-changed}
+use Rattle.maps.proofs.read.read_map.Statement.{statement}
+use Rattle.maps.proofs.read.read_map.Tie as tie
+
+survey-map-requires : tie.Need-survey-map-requires
+survey-map-requires c κs = search needs
+
+same-length : tie.Need-same-length
+same-length c = search needs
+
+returns : tie.Need-returns
+returns c = nothing-changed _ (c .before .before .before .before .before .pre .0) (sym (c .before .survey-map .ensures .changed-are) ∙ c .if1 .taken)
+
+map-fits-requires : tie.Need-map-fits-requires
+map-fits-requires c κs = search needs
+
+same-length-2 : tie.Need-same-length-2
+same-length-2 c = search needs
+
+returns-2 : tie.Need-returns-2
+returns-2 c = (leb-false _ _ (sym (c .before .map-fits .ensures) ∙ not-true _ (c .if2 .taken)), refl)
+
+apply-map-requires : tie.Need-apply-map-requires
+apply-map-requires c κs = (c .before .before .before .before .before .before .before .before .before .pre .0, (c .before .before .before .before .before .before .before .before .before .pre .1, leb-true _ _ (sym (c .before .before .map-fits .ensures) ∙ not-false _ (c .before .if2 .left))))
+
+same-length-3 : tie.Need-same-length-3
+same-length-3 c = search needs
+
+returns-3 : tie.Need-returns-3
+returns-3 c = (
+  leb-true _ _ (sym (c .before .before .before .before .before .map-fits .ensures) ∙ not-false _ (c .before .before .before .before .if2 .left)),
+  c .before .before .apply-map .ensures,
+  omega (arith, c .before .before .before .before .before .before .before .before .survey-map .ensures .changed-are),
+)
+
+pub read-map-spec : {M : Type 1} → statement M
+read-map-spec =
+    tie.close
+    (tie.spec
+    survey-map-requires
+    same-length
+    returns
+    map-fits-requires
+    same-length-2
+    returns-2
+    apply-map-requires
+    same-length-3
+    returns-3)

@@ -1,0 +1,26 @@
+-- A window and its map, and what is counted of them. Assumes nothing: these are definitions.
+use Prim.Native.Nat.{ℕ, _+_, _≤_, _<_}
+use mathlib.Core.Path.{_≡_}
+use mathlib.Core.Bool.{Bool, true, false}
+use mathlib.Core.List.{List}
+use lib.ListN.{length}
+use Rattle.model.specs.Numbers.{size}
+use Rattle.model.specs.Positions.{Positions, countRanges, changes}
+use Rattle.model.specs.Bytes.{mapBit, mapped, mapLength}
+use Rattle.maps.specs.declared.read.Survey.{Survey}
+
+-- n positions from base on, and the bytes of their map
+pub record Window (base n : ℕ) (bs : List ℕ) : Type 0 where
+  pub some : 1 ≤ n
+  pub few : n ≤ 524288
+  pub within : base + n ≤ size
+  pub exact : length bs ≡ mapLength n
+
+-- a byte whose bits are all of the value, told only where it is so
+abbrev pub WholeByte : List ℕ → ℕ → Bool → Bool → Type 0
+WholeByte bs i v true = (k : ℕ) → k < 8 → mapBit bs (i + k) ≡ v
+WholeByte bs i v false = Unit {0}
+
+pub record Surveyed (P : Positions) (base n : ℕ) (bs : List ℕ) (s : Survey) : Type 0 where
+  pub runs-are : s .runs ≡ countRanges (mapped base n bs P) true base n
+  pub changed-are : s .changed ≡ changes P (mapped base n bs P)

@@ -1,0 +1,162 @@
+// Reading a map into a store, stretch by stretch. What it would leave is counted before the first write.
+ghost use mathlib.Core.Path.{_≡_};
+ghost use mathlib.Core.Bool.{Bool, true};
+ghost use Prim.Native.Nat.{_+_, _*_, _-_, _≤_, _<_};
+ghost use lib.Dec.{leb};
+ghost use lib.ListN.{length};
+ghost use Rattle.model.specs.Positions.{stretches, countRanges};
+ghost use Rattle.model.specs.Bytes.{mapBit, mapped, mapLength};
+ghost use Rattle.store.specs.Layout.{capacity, heldBy};
+ghost use Rattle.store.specs.Soundness.{Sound};
+ghost use Rattle.store.specs.Settle.{Settled};
+ghost use Rattle.changes.specs.Edits.{Edited, StretchEnd};
+ghost use Rattle.maps.specs.Window.{Window, WholeByte, Surveyed};
+use changes::edit::Edit;
+use model::Count;
+use model::Logical;
+use model::Store;
+
+// Bit i of a map.
+fn bit(bytes: &[u8], i: u64) -> bool
+    requires { ⌜ i < 8 * length (now bytes) ⌝ }
+    ensures { λ r. ⌜ r ≡ mapBit (now (bytes .entry)) i ⌝ }
+{
+    let b = bytes[(i / 8) as usize] as u64;
+    (b >> (i % 8)) % 2 == 1
+}
+
+// Whether the eight bits from i on, the first of a byte, all have the value.
+fn whole_byte(bytes: &[u8], i: u64, value: bool) -> bool
+    requires { ⌜ i < 8 * length (now bytes) ⌝ }
+    ensures { λ r. ⌜ WholeByte (now (bytes .entry)) i value r ⌝ }
+{
+    if i % 8 != 0 {
+        return false;
+    }
+    let b = bytes[(i / 8) as usize];
+    if value { b == 255 } else { b == 0 }
+}
+
+// The last of n bits that has the value of bit i, all between having it too.
+fn stretch(bytes: &[u8], i: u64, n: u64) -> u64
+    requires { ⌜ i < n ⌝ }
+    requires { ⌜ n ≤ 8 * length (now bytes) ⌝ }
+    ensures { λ r. ⌜ StretchEnd (mapBit (now (bytes .entry))) (mapBit (now (bytes .entry)) i) i (n - 1) r ⌝ }
+{
+    let value = bit(bytes, i);
+    let mut e = i;
+    while e + 1 < n {
+        if n - e > 8 && whole_byte(bytes, e + 1, value) {
+            e += 8;
+        } else {
+            if bit(bytes, e + 1) != value {
+                return e;
+            }
+            e += 1;
+        }
+    }
+    e
+}
+
+// What a map says of a window: how many runs are in it, and how many positions of the store it changes.
+pub struct Survey {
+    pub runs: u64,
+    pub changed: u64,
+}
+
+fn survey_map(words: &[u64], base: u64, n: u64, bytes: &[u8]) -> Survey
+    requires { ⌜ Sound (now words) ⌝ }
+    requires { ⌜ Window base n (now bytes) ⌝ }
+    ensures { λ r. ⌜ Surveyed (heldBy (now (words .entry))) base n (now (bytes .entry)) r ⌝ }
+{
+    let mut i: u64 = 0;
+    let mut runs: u64 = 0;
+    let mut changed: u64 = 0;
+    while i < n {
+        let value = bit(bytes, i);
+        let e = stretch(bytes, i, n);
+        let t = reports::logical::tally(words, Logical(base + i), Logical(base + e), !value);
+        let c = t.count;
+        changed += c.low;
+        if value {
+            runs += 1;
+        }
+        i = e + 1;
+    }
+    Survey {
+        runs: runs,
+        changed: changed,
+    }
+}
+
+// Whether a map that has so many runs leaves at most as many runs as the capacity.
+fn map_fits(words: &[u64], base: u64, n: u64, bytes: &[u8], runs: u64) -> bool
+    requires { ⌜ Sound (now words) ⌝ }
+    requires { ⌜ Window base n (now bytes) ⌝ }
+    requires { ⌜ runs ≡ countRanges (mapped base n (now bytes) (heldBy (now words))) true base n ⌝ }
+    ensures { λ r. ⌜ r ≡ leb (stretches (mapped base n (now (bytes .entry)) (heldBy (now (words .entry))))) (capacity (now (words .entry))) ⌝ }
+{
+    let h = store::read_header(words);
+    let s = Store::of_length(words.len());
+    let a = Logical(base);
+    let b = Logical(base + (n - 1));
+    let total = store::bounds::logical_runs(words, h.root, h.offset, h.runs);
+    let t = reports::logical::tally(words, a, b, true);
+    let before = total + changes::edit::going_on(words, a) + changes::edit::going_past(words, b);
+    let low = if bit(bytes, 0) {
+        changes::edit::held_before(words, a)
+    } else {
+        0
+    };
+    let high = if bit(bytes, n - 1) {
+        changes::edit::held_after(words, b)
+    } else {
+        0
+    };
+    before + runs <= s.capacity + t.runs + low + high
+}
+
+// Gives the window the map's values, where what it leaves fits. A map of one value is one set; else the window is cleared first, and
+// then no set on the way leaves more runs than the last one.
+fn apply_map(words: &mut [u64], base: u64, n: u64, bytes: &[u8])
+    requires { ⌜ Sound (now words) ⌝ }
+    requires { ⌜ Window base n (now bytes) ⌝ }
+    requires { ⌜ stretches (mapped base n (now bytes) (heldBy (now words))) ≤ capacity (now words) ⌝ }
+    ensures { λ _. ⌜ Settled (now (words .entry)) (now (words .exit)) (mapped base n (now (bytes .entry)) (heldBy (now (words .entry)))) ⌝ }
+{
+    let mut e = stretch(bytes, 0, n);
+    if e + 1 == n {
+        changes::edit::apply_set(words, Logical(base), Logical(base + e), bit(bytes, 0));
+        return;
+    }
+    changes::edit::apply_set(words, Logical(base), Logical(base + (n - 1)), false);
+    let mut i: u64 = 0;
+    while i < n {
+        e = stretch(bytes, i, n);
+        if bit(bytes, i) {
+            changes::edit::apply_set(words, Logical(base + i), Logical(base + e), true);
+        }
+        i = e + 1;
+    }
+}
+
+// Sets a window from a map, leaves the other positions, and tells how many changed.
+pub fn read_map(words: &mut [u64], base: u64, n: u64, bytes: &[u8]) -> Edit
+    requires { ⌜ Sound (now words) ⌝ }
+    requires { ⌜ Window base n (now bytes) ⌝ }
+    ensures { λ r. ⌜ Edited (now (words .entry)) (now (words .exit)) (mapped base n (now (bytes .entry)) (heldBy (now (words .entry)))) r ⌝ }
+{
+    let s = survey_map(words, base, n, bytes);
+    let changed = s.changed;
+    if changed == 0 {
+        return Edit::Changed(Count { carry: 0, low: 0 });
+    }
+    if !map_fits(words, base, n, bytes, s.runs) {
+        return Edit::Full;
+    }
+    apply_map(words, base, n, bytes);
+    Edit::Changed(Count {
+        carry: 0,
+        low: changed,
+    })
+}
