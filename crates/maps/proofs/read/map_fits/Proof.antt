@@ -10,9 +10,9 @@ use Rattle.model.specs.Positions.{oneIf}
 use Rattle.model.specs.Bytes.{mapBit}
 use Rattle.model.specs.After.{goesOn}
 use Rattle.store.specs.Layout.{heldBy}
-use Rattle.store.proofs.Opening.{sound-room}
+use Rattle.store.proofs.Opening.{sound-room, sound-counted, logical-told}
 use Rattle.changes.specs.Neighbours.{heldBelow, heldAbove}
-use Rattle.changes.proofs.Fitting.{one-most, sound-counted, logical-told, logical-few, capacity-few, Told, told-few}
+use Rattle.changes.proofs.Fitting.{one-most, logical-few, capacity-few, Told, told-few}
 use Rattle.maps.proofs.Leaving.{end-asked, end-none, before-few, after-few, map-fits-is}
 use Rattle.maps.proofs.read.map_fits.Statement.{statement}
 use Rattle.maps.proofs.read.map_fits.Tie as tie
