@@ -1,0 +1,184 @@
+-- The first part of a reading: its next run is that of the part; one that reaches physical M goes on with the run at physical 0, if there
+-- is one; and where the part is over the reading goes on with the last part. Assumes nothing.
+use Prim.Native.Nat.{ℕ, suc, _+_, _-_, _≤_, _<_, max}
+use mathlib.Core.Path.{_≡_, refl, sym, ap, _∙_, subst}
+use mathlib.Core.Logic.{_⊎_, inl, inr}
+use mathlib.Core.Bool.{Bool, true, false, false≢true, true≢false}
+use mathlib.Core.List.{List, [], _∷_}
+use native.Mathlib.Omega.{arith}
+use borrow.Author.Tests.{eqb-true, eqb-false}
+use lib.ListN.{length}
+use Rattle.model.specs.declared.Run.{Run}
+use Rattle.model.specs.Numbers.{size, split}
+use Rattle.model.specs.Places.{logicalOf}
+use Rattle.model.specs.Positions.{Positions, mem}
+use Rattle.model.specs.RunList.{Canon, mem-in, mem-before}
+use Rattle.store.specs.Layout.{physicalRuns}
+use Rattle.streams.specs.declared.source.Source.{Source}
+use Rattle.streams.specs.declared.source.Popped.{Popped}
+use Rattle.streams.specs.Reading.{EndsFrom, Coming, InLast, InFirst, Ahead, spent, lastly, firstly, Stands, Reads, startsAtZero, ReadyLast, ReadyFirst, Told, Poppable, Pops}
+use Rattle.streams.proofs.Parts.{mem-none, Found, found-current, part-none, part-head, pop-reach, pop-ordered, pop-found, pop-then}
+use Rattle.streams.proofs.Lasts.{wrapped}
+
+-- whether 0 is held, by the first run
+pub zero-held : (rs : List Run) → startsAtZero rs ≡ true → mem rs 0 ≡ true
+zero-held [] e = absurd (false≢true e)
+zero-held (r ∷ rs) e = let s = eqb-true (r .start) 0 e in mem-in r rs 0 (omega arith) (omega arith)
+
+pub zero-free : (rs : List Run) → Canon size 0 rs → startsAtZero rs ≡ false → mem rs 0 ≡ false
+zero-free [] c e = mem-none 0
+zero-free (r ∷ rs) c e = let s = eqb-false (r .start) 0 e in mem-before size 0 r rs 0 c (omega arith)
+
+-- every run ends at 0 or later
+pub ends-zero : (n : ℕ) (rs : List Run) → n ≡ 0 → EndsFrom n rs
+ends-zero n [] e = tt
+ends-zero n (r ∷ rs) e = omega arith
+
+-- what is ahead depends on the source's path alone
+ahead-as : {w path : List ℕ} {o y : ℕ} {Q : Positions} {s t : Source} → s .depth ≡ t .depth → s .last ≡ t .last → Ahead w path o s y Q → Ahead w path o t y Q
+ahead-as d l (spent e f c) = spent (sym d ∙ e) (sym l ∙ f) c
+ahead-as {w} {path} {o} {y} {Q} d l (lastly f i) = lastly (sym l ∙ f) (subst (λ n. InLast w path o n y Q) d i)
+ahead-as {w} {path} {o} {y} {Q} d l (firstly f i) = firstly (sym l ∙ f) (subst (λ n. InFirst w path o n y Q) d i)
+
+-- a reading at o is one at y where nothing is held in between
+earlier : {w path : List ℕ} {o y n : ℕ} {Q : Positions} {r : Source} → y ≤ n → ((z : ℕ) → y ≤ z → z < n → Q z ≡ false) → Told w path o r n Q → Reads w path o r y Q
+earlier {w} {path} {o} {y} {n} {Q} {r} le free t = go (r .live) (t .late) (t .reads)
+  where
+    free-to : (m : ℕ) → ((z : ℕ) → n ≤ z → z < m → Q z ≡ false) → (z : ℕ) → y ≤ z → z < m → (z < n) ⊎ (n ≤ z) → Q z ≡ false
+    free-to m f z h k (inl l) = free z h l
+    free-to m f z h k (inr l) = f z l k
+
+    go : (t : Bool) → (t ≡ true → n ≤ r .start) → Stands w path o r n Q t → Stands w path o r y Q t
+    go true late (cu, ah) =
+        let a = late refl in
+        let b = cu .ahead in (
+          record {
+            ordered = cu .ordered;
+            ahead = omega arith;
+            small = cu .small;
+            clear = λ z h k. free-to (r .start) (cu .clear) z h k (split z n);
+            held = λ z h k l. cu .held z (omega arith) k l;
+            stops = cu .stops;
+          },
+          ah,
+        )
+    go false late c = λ z h k. free-to size c z h k (split z n)
+
+module _ {w path : List ℕ} {o depth p y : ℕ} {Q : Positions} (h : ReadyFirst w path o depth p y Q) where
+  -- something is on the path
+  pub first-on : (depth ≡ 0 → ⊥) → Poppable w path depth
+  first-on ne = let g = part-head (h .ready .part) ne in (g .r, g .rs, g .on)
+
+  -- taking it off keeps the path's length
+  pub first-long : (depth ≡ 0 → ⊥) → {path′ : List ℕ} {x : Popped} → Pops w path path′ depth x → length path′ ≡ 22
+  first-long ne ps = let g = part-head (h .ready .part) ne in ps (g .r) (g .rs) (g .on) .long
+
+  -- the last part, from its start on
+  pub first-last : {path′ : List ℕ} {d : ℕ} → Coming w path′ d 0 (physicalRuns w) → ReadyLast w path′ o d 0 o Q
+  first-last c = record {
+    ready = record {
+      runs = physicalRuns w;
+      coming = record { rest = c .rest; ordered = c .ordered; reach = ends-zero _ (physicalRuns w) (omega arith); long = c .long };
+      past = omega arith;
+      tells = λ z g k. let e : z - o ≡ z + 0 - o = omega arith in h .ready .then z g k ∙ ap (mem (physicalRuns w)) e;
+    };
+    small = h .ready .small;
+    place = omega arith;
+  }
+
+  -- the first part is over
+  pub first-none : {path′ : List ℕ} {r : Source} → depth ≡ 0 → Told w path′ o r o Q → Reads w path′ o r y Q
+  first-none e t = let b = h .ready .before in earlier (omega arith) (part-none (h .ready .part) e) t
+
+  -- whether o is held
+  seam : {v : Bool} → mem (physicalRuns w) 0 ≡ v → Q o ≡ v
+  seam e = let z : o - o ≡ 0 = omega arith in h .ready .then o (omega arith) (h .ready .small) ∙ ap (mem (physicalRuns w)) z ∙ e
+
+  module _ (ne : depth ≡ 0 → ⊥) {path′ : List ℕ} {x : Popped} (ps : Pops w path path′ depth x) (a : ℕ) (e : a ≡ logicalOf (max (x .start) p) o) where
+    -- where the run starts
+    start-is : a + size ≡ max (x .start) (y + size - o) + o
+    start-is =
+        let q = pop-ordered (h .ready .part) ne ps in
+        let k = h .place in
+        let b = h .ready .before in
+        let s = h .ready .small in
+        let pe : y + size - o ≡ p = omega arith in
+        rw pe (wrapped (max (x .start) p) o a (omega arith) (omega (arith, q .0, q .1)) s e)
+
+    start-in : a < o
+    start-in =
+        let q = pop-ordered (h .ready .part) ne ps in
+        let k = start-is in
+        let b = h .ready .before in
+        omega (arith, q .0, q .1)
+
+    -- it ends below physical M
+    pub first-whole : (b : ℕ) → x .«end» < size - 1 → b ≡ logicalOf (x .«end») o
+        → Reads w path′ o (record { live = true; start = a; «end» = b; depth = x .depth; last = false }) y Q
+    first-whole b l f =
+        let r = pop-reach (h .ready .part) ne ps in
+        let lo = h .ready .before in
+        let s = h .ready .small in
+        let eb : b + size ≡ x .«end» + o = wrapped (x .«end») o b (omega arith) (omega arith) s f in
+        let fd = pop-found (h .ready .part) ne ps lo a b start-is start-in (omega arith) (omega arith) (λ k. eb) in (
+          found-current fd (omega arith) (λ q k. absurd (omega arith)),
+          firstly refl (record {
+            part = pop-then (h .ready .part) ne ps lo a b start-is start-in (omega arith) (omega arith) (λ k. eb);
+            before = omega arith;
+            small = s;
+            then = h .ready .then;
+          }),
+        )
+
+    -- it reaches physical M, and so o
+    module _ (l : size - 1 ≤ x .«end») where
+      to-seam : Found a (o - 1) y o Q
+      to-seam =
+          let lo = h .ready .before in
+          let q = pop-ordered (h .ready .part) ne ps .1 in
+          pop-found (h .ready .part) ne ps lo a (o - 1) start-is start-in (omega arith) (omega arith) (λ k. absurd (omega arith))
+
+      -- it goes on at o
+      pub first-join : {path″ : List ℕ} {s : Source} → Told w path″ o s o Q → startsAtZero (physicalRuns w) ≡ true
+          → Reads w path″ o (record { live = true; start = a; «end» = s .«end»; depth = s .depth; last = s .last }) y Q
+      first-join {path″} {s} t z = go (s .live) (t .reads)
+        where
+          on : Q o ≡ true
+          on = seam (zero-held (physicalRuns w) z)
+
+          go : (v : Bool) → Stands w path″ o s o Q v → Reads w path″ o (record { live = true; start = a; «end» = s .«end»; depth = s .depth; last = s .last }) y Q
+          go false c = absurd (true≢false (sym on ∙ c o (omega arith) (h .ready .small)))
+          go true (cu, ah) =
+              let f = to-seam in
+              let lo = h .ready .before in
+              let k = cu .ahead in
+              let fo = f .ordered in (
+                record {
+                  ordered = omega arith;
+                  ahead = omega arith;
+                  small = cu .small;
+                  clear = f .clear;
+                  held = λ z g i j. held z i j (split z o);
+                  stops = cu .stops;
+                },
+                ahead-as refl refl ah,
+              )
+            where
+              starts : (o < s .start) ⊎ (s .start ≤ o) → s .start ≤ o
+              starts (inl g) = absurd (true≢false (sym on ∙ cu .clear o (omega arith) g))
+              starts (inr g) = g
+
+              held : (z : ℕ) → a ≤ z → z ≤ s .«end» → (z < o) ⊎ (o ≤ z) → Q z ≡ true
+              held z i j (inl g) = to-seam .held z i (omega arith)
+              held z i j (inr g) = let m = starts (split o (s .start)) in cu .held z g (omega arith) j
+
+      -- it ends there
+      pub first-stop : {path″ : List ℕ} {d : ℕ} → Coming w path″ d 0 (physicalRuns w) → startsAtZero (physicalRuns w) ≡ false
+          → Reads w path″ o (record { live = true; start = a; «end» = o - 1; depth = d; last = true }) y Q
+      first-stop {path″} {d} c z =
+          let lo = h .ready .before in
+          let s = h .ready .small in
+          let n : suc (o - 1) ≡ o = omega arith in (
+            found-current to-seam (omega arith) (λ q k. ap Q n ∙ seam (zero-free (physicalRuns w) (c .ordered) z)),
+            lastly refl (subst (λ m. InLast w path″ o d m Q) (sym n) (first-last c .ready)),
+          )

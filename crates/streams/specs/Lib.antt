@@ -1,0 +1,4 @@
+pub mod Reading
+pub mod Sweeping
+pub mod Gathering
+pub mod Streamed

@@ -1,0 +1,218 @@
+// A source: the runs of a store in logical order, one after the other, each a maximal run of held positions.
+// The path has the nodes whose own run and right side are still to come, the nearest last; so each node is visited once.
+// Under an offset o the logical positions o .. M are kept at 0 .. M - o, and those below o at the places above them: a reading from below o
+// has a first part, up to physical M, and a last part, from physical 0 on.
+ghost use mathlib.Core.Path.{_≡_};
+ghost use mathlib.Core.Bool.{true, false};
+ghost use Prim.Native.Nat.{max, _≤_};
+ghost use lib.ListN.{length};
+ghost use Rattle.model.specs.Positions.{mem};
+ghost use Rattle.store.specs.Layout.{turned, physicalRuns};
+ghost use Rattle.store.specs.Soundness.{Sound};
+ghost use Rattle.streams.specs.Reading.{Reads, Descendable, Descends, Poppable, Pops, Stacked, TellsZero, LastReady, FirstReady, TellsLast, TellsFirst, Advanceable, Advances, Covers};
+use model::Logical;
+use model::Physical;
+
+// The run at hand, if there is one; how many nodes are on the path; and whether the last part is being read.
+pub struct Source {
+    pub live: bool,
+    pub start: u64,
+    pub end: u64,
+    pub depth: u64,
+    pub last: bool,
+}
+
+// A run taken off the path, and how many nodes are on it then.
+pub struct Popped {
+    pub start: u64,
+    pub end: u64,
+    pub depth: u64,
+}
+
+// A source with no run, and none to come.
+fn over() -> Source
+    ensures { λ r. ⌜ r ≡ record { live = false; start = 0; «end» = 0; depth = 0; last = true } ⌝ }
+{
+    Source {
+        live: false,
+        start: 0,
+        end: 0,
+        depth: 0,
+        last: true,
+    }
+}
+
+// Puts the nodes of the tree at a link on the path, down to the first run that ends at p or later.
+fn descend(words: &[u64], path: &mut [u64; 22], depth: u64, link: u64, p: u64) -> u64
+    requires { ⌜ Descendable (now words) (now path) depth link ⌝ }
+    ensures { λ r. ⌜ Descends (now (words .entry)) (now (path .entry)) (now (path .exit)) depth link p r ⌝ }
+{
+    let mut k = link;
+    let mut d = depth;
+    while k != 0 {
+        let v = run_index::read_node(words, k);
+        if v.end < p {
+            k = v.right;
+        } else {
+            path[d as usize] = k;
+            d += 1;
+            k = v.left;
+        }
+    }
+    d
+}
+
+// Takes the nearest run off the path, and puts the nodes before the next one on it.
+fn pop(words: &[u64], path: &mut [u64; 22], depth: u64) -> Popped
+    requires { ⌜ Poppable (now words) (now path) depth ⌝ }
+    ensures { λ r. ⌜ Pops (now (words .entry)) (now (path .entry)) (now (path .exit)) depth r ⌝ }
+{
+    let k = path[(depth - 1) as usize];
+    let v = run_index::read_node(words, k);
+    let d = descend(words, path, depth - 1, v.right, 0);
+    Popped {
+        start: v.start,
+        end: v.end,
+        depth: d,
+    }
+}
+
+fn larger(a: u64, b: u64) -> u64
+    ensures { λ r. ⌜ r ≡ max a b ⌝ }
+{
+    if a < b { b } else { a }
+}
+
+// The next run of the last part, whose runs end at p or later.
+fn from_last(words: &[u64], path: &mut [u64; 22], offset: u64, depth: u64, p: u64) -> Source
+    requires { ⌜ LastReady (now words) (now path) offset depth p ⌝ }
+    ensures { λ r. ⌜ TellsLast (now (words .entry)) (now (path .entry)) (now (path .exit)) offset depth p r ⌝ }
+{
+    if depth == 0 {
+        return over();
+    }
+    let x = pop(words, path, depth);
+    let top = u64::MAX - offset;
+    if x.start > top {
+        return over();
+    }
+    let a = model::to_logical(Physical(larger(x.start, p)), offset);
+    if x.end > top {
+        return Source {
+            live: true,
+            start: a.0,
+            end: u64::MAX,
+            depth: x.depth,
+            last: true,
+        };
+    }
+    let b = model::to_logical(Physical(x.end), offset);
+    Source {
+        live: true,
+        start: a.0,
+        end: b.0,
+        depth: x.depth,
+        last: true,
+    }
+}
+
+// Whether the run that is nearest on the path starts at physical 0.
+fn starts_at_zero(words: &[u64], path: &[u64; 22], depth: u64) -> bool
+    requires { ⌜ Stacked (now words) (now path) depth ⌝ }
+    ensures { λ r. ⌜ TellsZero (now (words .entry)) (now (path .entry)) depth r ⌝ }
+{
+    if depth == 0 {
+        return false;
+    }
+    let v = run_index::read_node(words, path[(depth - 1) as usize]);
+    v.start == 0
+}
+
+// The next run of the first part, whose runs end at p or later; a run that reaches physical M goes on with the one at physical 0.
+fn from_first(words: &[u64], path: &mut [u64; 22], offset: u64, depth: u64, p: u64) -> Source
+    requires { ⌜ FirstReady (now words) (now path) offset depth p ⌝ }
+    ensures { λ r. ⌜ TellsFirst (now (words .entry)) (now (path .entry)) (now (path .exit)) offset depth p r ⌝ }
+{
+    let h = store::read_header(words);
+    if depth == 0 {
+        let d = descend(words, path, 0, h.root, 0);
+        return from_last(words, path, offset, d, 0);
+    }
+    let x = pop(words, path, depth);
+    let a = model::to_logical(Physical(larger(x.start, p)), offset);
+    if x.end < u64::MAX {
+        let b = model::to_logical(Physical(x.end), offset);
+        return Source {
+            live: true,
+            start: a.0,
+            end: b.0,
+            depth: x.depth,
+            last: false,
+        };
+    }
+    let d = descend(words, path, 0, h.root, 0);
+    if starts_at_zero(words, path, d) {
+        let y = from_last(words, path, offset, d, 0);
+        return Source {
+            live: true,
+            start: a.0,
+            end: y.end,
+            depth: y.depth,
+            last: y.last,
+        };
+    }
+    Source {
+        live: true,
+        start: a.0,
+        end: offset - 1,
+        depth: d,
+        last: true,
+    }
+}
+
+// Begins a reading at a logical position, with the store's runs under an offset.
+pub fn open(words: &[u64], path: &mut [u64; 22], offset: u64, from: u64) -> Source
+    requires { ⌜ Sound (now words) ⌝ }
+    requires { ⌜ length (now path) ≡ 22 ⌝ }
+    ensures { λ r. ⌜ Reads (now (words .entry)) (now (path .exit)) offset r from (turned offset (mem (physicalRuns (now (words .entry))))) ⌝ }
+{
+    let h = store::read_header(words);
+    let p = model::to_physical(Logical(from), offset);
+    let d = descend(words, path, 0, h.root, p.0);
+    if from < offset {
+        return from_first(words, path, offset, d, p.0);
+    }
+    from_last(words, path, offset, d, p.0)
+}
+
+// Goes on to the next run.
+pub fn advance(words: &[u64], path: &mut [u64; 22], offset: u64, s: Source) -> Source
+    requires { ⌜ Advanceable (now words) (now path) offset s ⌝ }
+    ensures { λ r. ⌜ Advances (now (words .entry)) (now (path .entry)) (now (path .exit)) offset s r ⌝ }
+{
+    if s.end == u64::MAX {
+        return over();
+    }
+    let p = model::to_physical(Logical(s.end + 1), offset);
+    if !s.last {
+        return from_first(words, path, offset, s.depth, p.0);
+    }
+    if s.depth == 0 {
+        return over();
+    }
+    from_last(words, path, offset, s.depth, p.0)
+}
+
+// A source of one run, which no store is needed for.
+pub fn single(start: u64, end: u64) -> Source
+    requires { ⌜ start ≤ «end» ⌝ }
+    ensures { λ r. ⌜ Covers r start «end» ⌝ }
+{
+    Source {
+        live: true,
+        start: start,
+        end: end,
+        depth: 0,
+        last: true,
+    }
+}

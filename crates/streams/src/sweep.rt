@@ -1,0 +1,166 @@
+// Two sources read together: the runs of their join by AND, OR or XOR, one after the other, each maximal.
+ghost use mathlib.Core.Path.{_≡_};
+ghost use Prim.Native.Nat.{min};
+ghost use Rattle.model.specs.Positions.{apply};
+ghost use Rattle.streams.specs.Sweeping.{ValueAt, SameTo, Movable, Moves, Joinable, Reaches, NextJoint};
+use crate::source::Source;
+use model::Operation;
+
+// The values of two sets, joined.
+fn join(op: Operation, p: bool, q: bool) -> bool
+    ensures { λ r. ⌜ r ≡ apply op p q ⌝ }
+{
+    match op {
+        Operation::And => { if p { q } else { false } }
+        Operation::Or => { if p { true } else { q } }
+        Operation::Xor => { if p { !q } else { q } }
+    }
+}
+
+// The value at x, where the source stands.
+pub fn value_at(s: Source, x: u64) -> bool
+    ensures { λ r. ⌜ ValueAt s x r ⌝ }
+{
+    if s.live { s.start <= x } else { false }
+}
+
+// The last position that surely has the value of x, where the source stands.
+pub fn same_to(s: Source, x: u64) -> u64
+    ensures { λ r. ⌜ SameTo s x r ⌝ }
+{
+    if s.live {
+        if x < s.start { s.start - 1 } else { s.end }
+    } else {
+        u64::MAX
+    }
+}
+
+// The source moved on to x, which is at most one past its run.
+pub fn moved(words: &[u64], path: &mut [u64; 22], offset: u64, s: Source, x: u64) -> Source
+    requires { ⌜ Movable (now words) (now path) offset s x ⌝ }
+    ensures { λ r. ⌜ Moves (now (words .entry)) (now (path .entry)) (now (path .exit)) offset s x r ⌝ }
+{
+    if s.live {
+        if s.end < x {
+            return crate::source::advance(words, path, offset, s);
+        }
+    }
+    s
+}
+
+fn smaller(a: u64, b: u64) -> u64
+    ensures { λ r. ⌜ r ≡ min a b ⌝ }
+{
+    if a < b { a } else { b }
+}
+
+// A position that was reached, and the sources there.
+pub struct Reached {
+    pub found: bool,
+    pub at: u64,
+    pub left: Source,
+    pub right: Source,
+}
+
+// The first position from `from` on at which the join has the value.
+fn reach(
+    op: Operation,
+    x: &[u64],
+    xp: &mut [u64; 22],
+    xo: u64,
+    s: Source,
+    y: &[u64],
+    yp: &mut [u64; 22],
+    yo: u64,
+    t: Source,
+    from: u64,
+    value: bool,
+) -> Reached
+    requires { ⌜ Joinable (now x) (now xp) xo s (now y) (now yp) yo t «from» ⌝ }
+    ensures { λ r. ⌜ Reaches op (now (x .entry)) (now (xp .entry)) (now (xp .exit)) xo s (now (y .entry)) (now (yp .entry)) (now (yp .exit)) yo t «from» value r ⌝ }
+{
+    let mut l = s;
+    let mut r = t;
+    let mut at = from;
+    let mut v = join(op, value_at(l, at), value_at(r, at));
+    while v != value {
+        let last = smaller(same_to(l, at), same_to(r, at));
+        if last == u64::MAX {
+            return Reached {
+                found: false,
+                at: at,
+                left: l,
+                right: r,
+            };
+        }
+        at = last + 1;
+        l = moved(x, xp, xo, l, at);
+        r = moved(y, yp, yo, r, at);
+        v = join(op, value_at(l, at), value_at(r, at));
+    }
+    Reached {
+        found: true,
+        at: at,
+        left: l,
+        right: r,
+    }
+}
+
+// A run of the join, and the sources after it.
+pub struct Joint {
+    pub found: bool,
+    pub start: u64,
+    pub end: u64,
+    pub left: Source,
+    pub right: Source,
+}
+
+// The first run of the join from `from` on.
+pub fn next_run(
+    op: Operation,
+    x: &[u64],
+    xp: &mut [u64; 22],
+    xo: u64,
+    s: Source,
+    y: &[u64],
+    yp: &mut [u64; 22],
+    yo: u64,
+    t: Source,
+    from: u64,
+) -> Joint
+    requires { ⌜ Joinable (now x) (now xp) xo s (now y) (now yp) yo t «from» ⌝ }
+    ensures { λ r. ⌜ NextJoint op (now (x .entry)) (now (xp .entry)) (now (xp .exit)) xo s (now (y .entry)) (now (yp .entry)) (now (yp .exit)) yo t «from» r ⌝ }
+{
+    let a = reach(op, x, xp, xo, s, y, yp, yo, t, from, true);
+    let l = a.left;
+    let r = a.right;
+    let start = a.at;
+    if !a.found {
+        return Joint {
+            found: false,
+            start: 0,
+            end: 0,
+            left: l,
+            right: r,
+        };
+    }
+    let b = reach(op, x, xp, xo, l, y, yp, yo, r, start, false);
+    let m = b.left;
+    let n = b.right;
+    if b.found {
+        return Joint {
+            found: true,
+            start: start,
+            end: b.at - 1,
+            left: m,
+            right: n,
+        };
+    }
+    Joint {
+        found: true,
+        start: start,
+        end: u64::MAX,
+        left: m,
+        right: n,
+    }
+}
