@@ -3,10 +3,12 @@
 -- are any that come before too many runs in the order of refusals. Assumes nothing.
 use Prim.Native.Nat.{ℕ, _≤_, _<_}
 use mathlib.Core.Path.{_≡_, refl, sym, ap, ap₂, _∙_, subst}
-use mathlib.Core.Bool.{Bool, true, false, cond}
+use mathlib.Core.Bool.{Bool, true, false, cond, not}
 use mathlib.Core.List.{List, [], _∷_, _++_}
 use mathlib.Core.Option.{Option, none, some}
 use native.Mathlib.Omega.{arith}
+use lib.Dec.{leb}
+use borrow.Author.Tests.{leb-true, leb-false, not-true, not-false}
 use Rattle.model.specs.declared.Completed.{Completed}
 use Rattle.model.specs.declared.Operation.{Operation}
 use Rattle.model.specs.Numbers.{size}
@@ -96,6 +98,14 @@ module _ (C : ℕ) (s : Fed) (cs : List Condition) (Q : Positions) (sized : earn
   -- and else Q is held
   overwrite-done : refusal cs ≡ none → stretches Q ≤ C → overwrite C s cs Q ≡ record { answer = done; positions = bounded Q }
   overwrite-done e h = overwrite-by false none (fits-few C Q h) e
+
+-- ---- whether it fits, by a test against the capacity that the length told
+module _ (n s C : ℕ) {r : Bool} (tested : r ≡ leb n s) (told : s ≡ C) where
+  pub test-full : not r ≡ true → C < n
+  test-full h = subst (λ k. k < n) told (leb-false n s (sym tested ∙ not-true r h))
+
+  pub test-fits : not r ≡ false → n ≤ C
+  test-fits h = subst (λ k. n ≤ k) told (leb-true n s (sym tested ∙ not-false r h))
 
 -- ---- the contract
 module _ {w : List ℕ} {c : Call (List ℕ)} {cs : List Condition} {Q : Positions} (says : Overwrites w c cs Q) where

@@ -2,7 +2,7 @@
 -- positions; it is shifted by a turn, AND the positions that a shift can reach; two sets are the same where their XOR has no run. All are
 -- told pointwise below 2^64. Assumes nothing.
 use Prim.Native.Nat.{ℕ, _+_, _-_, _≤_, _<_}
-use mathlib.Core.Path.{_≡_, refl, sym, ap, _∙_}
+use mathlib.Core.Path.{_≡_, refl, sym, ap, ap₂, _∙_}
 use mathlib.Core.Logic.{_⊎_, inl, inr}
 use mathlib.Core.Bool.{Bool, true, false, not, _&&_, Bool·beq, and-true, and-false}
 use mathlib.Core.List.{List, [], _∷_}
@@ -14,14 +14,19 @@ use Rattle.model.specs.declared.Run.{Run}
 use Rattle.model.specs.declared.Operation.the-variants.{And, Xor}
 use Rattle.model.specs.Numbers.{size, split}
 use Rattle.model.specs.Places.{physicalOf, logicalOf}
-use Rattle.model.specs.Positions.{Positions, run, mem, combined, complemented, shiftLeft, shiftRight, heldRuns, stretches, changes, same}
+use Rattle.model.specs.Positions.{Positions, run, mem, combined, complemented, shiftLeft, shiftRight, shiftBy, heldRuns, stretches, changes, same}
 use Rattle.model.specs.Positions.Runs.{heldRuns-canon}
 use Rattle.model.specs.Positions.Finds.{count-runs}
 use Rattle.model.specs.RunList.{Canon, widths, mem-in, mem-under, mem-above}
-use Rattle.store.specs.Layout.{turned}
+use Rattle.model.specs.Model.{positionsOf}
+use Rattle.store.specs.declared.Header.{Header}
+use Rattle.store.specs.Layout.{headerAt, turned, physicalRuns}
 use Rattle.store.specs.Turn.{turned-at}
 use Rattle.store.specs.Ends.{empty-mem}
 use Rattle.changes.specs.Shifted.{turned-further}
+use Rattle.interval_bit_set.specs.Met.{fedOf}
+use Rattle.interval_bit_set.specs.Look.{Readable}
+use Rattle.interval_bit_set.proofs.Looking.{read-as}
 
 -- ---- the positions from a to b alone
 -- the others are not there
@@ -79,6 +84,27 @@ module _ (d : ℕ) (Q : Positions) (fits : d < size) where
       go (inr l) =
           and-other (turned down Q) 0 (size - 1 - d) x (only-over 0 (size - 1 - d) x (omega arith))
           ∙ sym (ap (λ t. t && turned o Q (x + d)) (le-ltb (x + d) size l))
+
+-- ---- of a readable store
+module _ {w : List ℕ} {h : Header} (R : Readable w) (eh : h ≡ headerAt w) where
+  -- its complement
+  pub complement-alike : (x : ℕ) → x < size → combined Xor (turned (h .offset) (mem (physicalRuns w))) (mem (run 0 (size - 1) ∷ [])) x ≡ complemented (positionsOf (fedOf w)) x
+  complement-alike x l = xor-all (turned (h .offset) (mem (physicalRuns w))) x l ∙ ap (λ P. complemented P x) (read-as R eh)
+
+  module _ (d : ℕ) (left : Bool) (fits : d < size) where
+    -- its shift up
+    pub left-alike : (up : ℕ) → h .offset < size → left ≡ true → up ≡ logicalOf (h .offset) d → (x : ℕ) → x < size
+        → combined And (turned up (mem (physicalRuns w))) (mem (run d (size - 1) ∷ [])) x ≡ shiftBy d left (positionsOf (fedOf w)) x
+    unfolding shiftBy
+    left-alike up small e f x l =
+        left-join d (mem (physicalRuns w)) fits (h .offset) up x small f l ∙ ap₂ (λ v P. shiftBy d v P x) (sym e) (read-as R eh)
+
+    -- its shift down
+    pub right-alike : (down : ℕ) → down < size → left ≡ false → logicalOf down d ≡ h .offset → (x : ℕ) → x < size
+        → combined And (turned down (mem (physicalRuns w))) (mem (run 0 (size - 1 - d) ∷ [])) x ≡ shiftBy d left (positionsOf (fedOf w)) x
+    unfolding shiftBy
+    right-alike down small e f x l =
+        right-join d (mem (physicalRuns w)) fits (h .offset) down x small f l ∙ ap₂ (λ v P. shiftBy d v P x) (sym e) (read-as R eh)
 
 -- ---- a join without runs
 -- no run is no position

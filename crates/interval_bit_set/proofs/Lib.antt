@@ -7,5 +7,6 @@ pub mod Changing
 pub mod Looking
 pub mod Carrying
 pub mod Joins
+pub mod Comparing
 pub mod Lending
 pub mod Drawing
