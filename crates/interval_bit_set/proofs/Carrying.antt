@@ -16,9 +16,9 @@ use Rattle.model.specs.Places.{capacityOf}
 use Rattle.model.specs.Positions.{Positions, empty, bounded, stretches, combined, complemented, shiftBy}
 use Rattle.model.specs.Refusals.{Cause, storeLength, storeUnsound, window, setShort, setVersion, setLength, runOrder, outputShort, Condition, _when_, given, firstGiven, numberOf, refusal, earnsLength, tooMany}
 use Rattle.model.specs.Refusals
-use Rattle.model.specs.Call.{Fed, wrongLength, Call, Answer, refused, done}
+use Rattle.model.specs.Call.{Fed, wrongLength, Call, refused, done}
 use Rattle.model.specs.Answers.{completedAnswer}
-use Rattle.model.specs.Model.{positionsOf, reads, overwrites, settle, overwrite, serve}
+use Rattle.model.specs.Model.{positionsOf, reads, settle, overwrite, serve}
 use Rattle.store.specs.Layout.{capacity, heldBy}
 use Rattle.store.specs.Settle.{Settled}
 use Rattle.changes.specs.declared.edit.Fit.{Fit}
