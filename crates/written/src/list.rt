@@ -1,0 +1,74 @@
+// A run list as a slice of words: start and end of each run, in turn.
+ghost use mathlib.Core.Path.{_≡_};
+ghost use mathlib.Core.Bool.{_&&_, true};
+ghost use Prim.Native.Nat.{_+_, _*_, _≤_};
+ghost use lib.Dec.{leb};
+ghost use lib.ListN.{length};
+ghost use Rattle.model.specs.Positions.{mem};
+ghost use Rattle.model.specs.Refusals.{orderedFrom};
+ghost use Rattle.store.specs.Settle.{Settled};
+ghost use Rattle.written.specs.Listed.{leastAfter, pairs, Receives, Listed};
+
+// Whether the run start..=end may follow a run that ended at `last`, or be the first.
+pub fn follows(first: bool, last: u64, start: u64, end: u64) -> bool
+    ensures { λ r. ⌜ r ≡ (leb (leastAfter first last) start && leb start «end») ⌝ }
+{
+    if end < start {
+        return false;
+    }
+    if first {
+        return true;
+    }
+    if start < last {
+        return false;
+    }
+    start - last >= 2
+}
+
+// Whether the first n runs of a list are in order.
+pub fn in_order(runs: &[u64], n: u64) -> bool
+    requires { ⌜ 2 * n ≤ length (now runs) ⌝ }
+    ensures { λ r. ⌜ r ≡ orderedFrom 0 (pairs n (now (runs .entry))) ⌝ }
+{
+    let mut i: u64 = 0;
+    let mut at: usize = 0;
+    let mut last: u64 = 0;
+    while i < n {
+        let start = runs[at];
+        let end = runs[at + 1];
+        if !follows(i == 0, last, start, end) {
+            return false;
+        }
+        last = end;
+        at += 2;
+        i += 1;
+    }
+    true
+}
+
+// Writes the first n runs of a list into the nodes 1 to n.
+pub fn put_runs(into: &mut [u64], runs: &[u64], n: u64)
+    requires { ⌜ Receives (now into) n ⌝ }
+    requires { ⌜ 2 * n ≤ length (now runs) ⌝ }
+    ensures { λ _. ⌜ Listed (now (into .entry)) (now (into .exit)) n (pairs n (now (runs .entry))) ⌝ }
+{
+    let mut i: u64 = 0;
+    let mut at: usize = 0;
+    while i < n {
+        let start = runs[at];
+        let end = runs[at + 1];
+        i += 1;
+        store::settle::put_run(into, i, start, end);
+        at += 2;
+    }
+}
+
+// Makes a store of the first n runs of a list, which are in order, whatever its words were.
+pub fn build(into: &mut [u64], runs: &[u64], n: u64)
+    requires { ⌜ Receives (now into) n ⌝ }
+    requires { ⌜ (2 * n ≤ length (now runs)) × (orderedFrom 0 (pairs n (now runs)) ≡ true) ⌝ }
+    ensures { λ _. ⌜ Settled (now (into .entry)) (now (into .exit)) (mem (pairs n (now (runs .entry)))) ⌝ }
+{
+    put_runs(into, runs, n);
+    store::settle::link(into, n);
+}
