@@ -13,14 +13,13 @@ use Rattle.model.specs.Numbers.{size, split, worth}
 use Rattle.model.specs.Positions.{Positions, oneIf, count, countRanges, setRange, stretches, changes}
 use Rattle.model.specs.Positions.Runs.{stretches-is}
 use Rattle.model.specs.After.{goesOn, goesOn-zero, goesOn-top, stretches-parts, changes-set}
-use Rattle.run_index.specs.Tree.{runs, inorder}
+use Rattle.run_index.specs.Tree.{inorder}
 use Rattle.run_index.proofs.Totals.{runs-length}
 use Rattle.store.specs.declared.Header.{Header}
 use Rattle.store.specs.Layout.{headerAt, capacity, heldBy}
 use Rattle.store.specs.Soundness.{Sound}
-use Rattle.store.specs.Bounds.{Counted, TellsRuns}
 use Rattle.store.proofs.Nodes.{sized-length, few-runs}
-use Rattle.store.proofs.Opening.{physicalIn, sound-index, sound-held}
+use Rattle.store.proofs.Opening.{physicalIn, sound-held, runs-told}
 use Rattle.reports.specs.declared.physical.Tally.{Tally}
 use Rattle.reports.specs.Reports.{Measured}
 use Rattle.changes.specs.declared.edit.Edit.{Edit}
@@ -75,27 +74,15 @@ one-most r b e = omega (arith, one-bound b)
 
 -- ---- of a sound store
 module _ {w : List ℕ} {h : Header} (sound : Sound w) (eh : h ≡ headerAt w) where
-  -- the header tells the tree's runs
-  runs-told : h .runs ≡ runs (sound .tree)
-  runs-told = ap (λ (x : Header). x .runs) eh ∙ sound .runs-are
-
-  -- as the call asks it
-  pub sound-counted : Counted w (h .root) (h .runs)
-  sound-counted = (0, sound .tree, sound-index sound eh, runs-told)
-
-  -- they are few
+  -- the runs that the header tells are few
   pub header-few : h .runs < 2 ^ 62
-  header-few = omega (arith, runs-told, few-runs w (sound .tree) (sound .free) (sound .kept))
+  header-few = omega (arith, runs-told sound eh, few-runs w (sound .tree) (sound .free) (sound .kept))
 
   -- they are the physical runs
   physical-runs : h .runs ≡ stretches (physicalIn sound)
-  physical-runs = runs-told ∙ runs-length (sound .tree) ∙ sym (stretches-is (physicalIn sound) (inorder (sound .tree)) (sound .kept .ordered) (λ x l. refl))
+  physical-runs = runs-told sound eh ∙ runs-length (sound .tree) ∙ sym (stretches-is (physicalIn sound) (inorder (sound .tree)) (sound .kept .ordered) (λ x l. refl))
 
-  -- the logical runs
-  pub logical-told : {r : ℕ} → TellsRuns w (h .root) (h .offset) r → r ≡ stretches (heldBy w)
-  logical-told t = t 0 (sound .tree) (sound-index sound eh) ∙ ap stretches (sym (sound-held sound eh))
-
-  -- there is one more at most
+  -- there is one logical run more at most
   pub logical-most : h .offset < size → stretches (heldBy w) ≤ h .runs + 1
   logical-most o = omega (arith, physical-runs, ap stretches (sound-held sound eh), logical-one-more (h .offset) (physicalIn sound) o)
 

@@ -115,7 +115,7 @@ module _ (w : List ℕ) (m : ℕ) where
   built-above i k hi = ranged i k .2 hi
 
 -- the runs of h nodes and then of d nodes
-runs-append : (w : List ℕ) (h i d : ℕ) → runsAt w i (h + d) ≡ runsAt w i h ++ runsAt w (i + h) d
+pub runs-append : (w : List ℕ) (h i d : ℕ) → runsAt w i (h + d) ≡ runsAt w i h ++ runsAt w (i + h) d
 runs-append w zero i d =
     let e : zero + d ≡ d = omega arith in
     let f : i ≡ i + zero = omega arith in

@@ -8,13 +8,14 @@ use lib.ListN.{getD}
 use mir.Syntax.{w64}
 use mir.Val.{Fits}
 use Rattle.model.specs.Numbers.{size}
-use Rattle.model.specs.Positions.{Positions, mem}
+use Rattle.model.specs.Positions.{Positions, stretches, mem}
 use Rattle.run_index.specs.Cells.{cellAt, Room}
-use Rattle.run_index.specs.Tree.{inorder}
+use Rattle.run_index.specs.Tree.{runs, inorder}
 use Rattle.run_index.specs.Search.{Index, Indexed}
 use Rattle.store.specs.declared.Header.{Header}
 use Rattle.store.specs.Layout.{headerAt, turned, heldBy}
 use Rattle.store.specs.Soundness.{Sound}
+use Rattle.store.specs.Bounds.{Counted, TellsRuns}
 use Rattle.store.proofs.Nodes.{few-runs, header-room}
 use Rattle.store.proofs.Decided.{kept-physical}
 
@@ -48,3 +49,15 @@ module _ {w : List ℕ} {h : Header} (s : Sound w) (eh : h ≡ headerAt w) where
   pub offset-small : ((i : ℕ) → Fits w64 (getD w i 0)) → h .offset < size
   unfolding cellAt
   offset-small f = omega (arith, ap (λ (x : Header). x .offset) eh, f 2)
+
+  -- its header tells the tree's runs
+  pub runs-told : h .runs ≡ runs (s .tree)
+  runs-told = ap (λ (x : Header). x .runs) eh ∙ s .runs-are
+
+  -- as the count of logical runs asks it
+  pub sound-counted : Counted w (h .root) (h .runs)
+  sound-counted = (0, s .tree, sound-index, runs-told)
+
+  -- and what that count tells
+  pub logical-told : {r : ℕ} → TellsRuns w (h .root) (h .offset) r → r ≡ stretches (heldBy w)
+  logical-told t = t 0 (s .tree) sound-index ∙ ap stretches (sym sound-held)

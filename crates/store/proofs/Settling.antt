@@ -181,7 +181,7 @@ runs-ordered w total lo i (suc k) c m lt le = go (split (i + 1) m) (runs-ordered
     go (inr q) ih = let e : i + 1 ≡ m = omega arith in subst (λ (j : ℕ). (cellAt w j) .start ≤ (cellAt w j) .«end») e (c .1)
 
 -- nodes that are as they were hold the runs that they held
-runs-kept : (w w′ : List ℕ) (i k : ℕ) → ((m : ℕ) → m ≤ i + k → cellAt w′ m ≡ cellAt w m) → runsAt w′ i k ≡ runsAt w i k
+pub runs-kept : (w w′ : List ℕ) (i k : ℕ) → ((m : ℕ) → m ≤ i + k → cellAt w′ m ≡ cellAt w m) → runsAt w′ i k ≡ runsAt w i k
 runs-kept w w′ i zero same = refl
 runs-kept w w′ i (suc k) same = rw (same (i + 1) (omega arith), runs-kept w w′ (i + 1) k (λ m le. same m (omega arith)))
 

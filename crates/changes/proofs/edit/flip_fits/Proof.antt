@@ -3,8 +3,8 @@
 use native.Mathlib.Omega.{arith}
 use borrow.Author.Needs.{needs}
 use Rattle.store.specs.Layout.{heldBy}
-use Rattle.store.proofs.Opening.{sound-room, offset-small}
-use Rattle.changes.proofs.Fitting.{sound-counted, header-few, logical-told, logical-few, capacity-few}
+use Rattle.store.proofs.Opening.{sound-room, offset-small, sound-counted, logical-told}
+use Rattle.changes.proofs.Fitting.{header-few, logical-few, capacity-few}
 use Rattle.changes.proofs.Flipping.{range-few, over-few, ends-few, gaps-few, flip-fits-far, flip-fits-counted}
 use Rattle.changes.proofs.edit.flip_fits.Statement.{statement}
 use Rattle.changes.proofs.edit.flip_fits.Tie as tie

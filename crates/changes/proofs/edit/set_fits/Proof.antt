@@ -4,8 +4,8 @@ use native.Mathlib.Omega.{arith}
 use Rattle.model.specs.After.{goesOn}
 use Rattle.changes.specs.Neighbours.{heldBelow}
 use Rattle.store.specs.Layout.{heldBy}
-use Rattle.store.proofs.Opening.{sound-room, offset-small}
-use Rattle.changes.proofs.Fitting.{one-most, sound-counted, header-few, logical-told, far-fits, logical-few, capacity-few, Told, told-few, inside-few, less-few, true-fits, false-fits}
+use Rattle.store.proofs.Opening.{sound-room, offset-small, sound-counted, logical-told}
+use Rattle.changes.proofs.Fitting.{one-most, header-few, far-fits, logical-few, capacity-few, Told, told-few, inside-few, less-few, true-fits, false-fits}
 use borrow.Author.Needs.{needs}
 use Rattle.changes.proofs.edit.set_fits.Statement.{statement}
 use Rattle.changes.proofs.edit.set_fits.Tie as tie

@@ -1,0 +1,4 @@
+-- What the proofs of several functions use.
+pub mod Digits
+pub mod Ordered
+pub mod Listing

@@ -1,0 +1,24 @@
+-- `put_word` meets its contract: the bytes of a word are those of its high count and then of its low one. Assumes nothing.
+use Rattle.written.proofs.Digits.{word-placed}
+use borrow.Author.Needs.{needs}
+use Rattle.written.proofs.numbers.put_word.Statement.{statement}
+use Rattle.written.proofs.numbers.put_word.Tie as tie
+
+put-count-requires : tie.Need-put-count-requires
+put-count-requires c κs = search needs
+
+add-put-count : tie.Need-add-put-count
+add-put-count c = search needs
+
+put-count-requires-2 : tie.Need-put-count-requires-2
+put-count-requires-2 c κs = search needs
+
+same-length : tie.Need-same-length
+same-length c = search needs
+
+returns : tie.Need-returns
+returns c = word-placed (c .before .before .before .before .before .before .before .before .before .args .out .now) _ _ (c .before .before .before .before .before .before .before .before .before .args .at) (c .before .before .before .before .before .before .before .before .before .args .n) (c .before .before .before .before .before .before .before .before .before .pre) (c .before .before .before .before .before .before .put-count .ensures) (c .before .before .put-count2 .ensures)
+
+pub put-word-spec : {M : Type 1} → statement M
+put-word-spec =
+    tie.close (tie.spec put-count-requires add-put-count put-count-requires-2 same-length returns)
