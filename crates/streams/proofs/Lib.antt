@@ -7,3 +7,4 @@ pub mod Lasts
 pub mod Firsts
 pub mod Starts
 pub mod Gathered
+pub mod Sweeps
