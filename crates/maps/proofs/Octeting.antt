@@ -1,7 +1,7 @@
 -- The bytes of a map as they are written: a source that stands at a position stands at the next ones too or can be moved there, the bits of k
 -- positions are the first one and twice those of the rest, and a slice with j bytes of a map in front has j + 1 after the store of one more.
 -- Assumes nothing.
-use Prim.Native.Nat.{ℕ, zero, suc, _+_, _-_, _*_, _/_, _^_, _≤_, _<_, min}
+use Prim.Native.Nat.{ℕ, zero, suc, _+_, _-_, _*_, _^_, _≤_, _<_, min}
 use mathlib.Core.Path.{_≡_, refl, sym, ap, ap₂, _∙_, subst}
 use mathlib.Core.Logic.{_⊎_, inl, inr}
 use mathlib.Core.Bool.{Bool, true, false}
@@ -20,14 +20,14 @@ use Rattle.store.specs.Layout.{headerAt, physicalRuns, turned, heldBy}
 use Rattle.store.specs.Soundness.{Sound}
 use Rattle.streams.specs.declared.source.Source.{Source}
 use Rattle.streams.specs.Reading.{Stands, Reads}
-use Rattle.streams.specs.Sweeping.{ValueAt, Same, SameTo, CanMove, Moves}
+use Rattle.streams.specs.Sweeping.{ValueAt, SameTo, CanMove, Moves}
 use Rattle.streams.proofs.Sweeps.{moves-within, moves-over}
 use Rattle.maps.specs.declared.write.Octet.{Octet}
-use Rattle.maps.specs.Octets.{Stood, Octeted, Octets}
+use Rattle.maps.specs.Octets.{Stood, Octets}
 
 -- ---- where a source stands
 -- it can be moved to the next position
-pub next-move : {w path : List ℕ} {o : ℕ} {s : Source} {x z : ℕ} {Q : Positions} → Sound w → Reads w path o s x Q → x ≤ z → z ≤ suc x → CanMove w path o s z x Q
+next-move : {w path : List ℕ} {o : ℕ} {s : Source} {x z : ℕ} {Q : Positions} → Sound w → Reads w path o s x Q → x ≤ z → z ≤ suc x → CanMove w path o s z x Q
 next-move {w} {path} {o} {s} {x} {z} {Q} sound r l u = record {
   sound = sound;
   reads = r;
@@ -81,7 +81,7 @@ all-yes e h = h ∙ ap (λ (b : Bool). 255 * oneIf b) (sym e)
 pub all-no : {v : Bool} {n : ℕ} → v ≡ false → n ≡ 0 → n ≡ 255 * oneIf v
 all-no e h = h ∙ ap (λ (b : Bool). 255 * oneIf b) (sym e)
 
--- ---- k positions, one after the other
+-- ---- k positions, one after the other: the source can go on to those after the first
 module _ {w path : List ℕ} {o : ℕ} {s : Source} {x k : ℕ} {Q : Positions} (h : Stood w path o s x k Q) where
   pub stood-moves : CanMove w path o s (x + 1) x Q
   stood-moves = next-move (h .sound) (h .reads) (omega arith) (omega arith)
@@ -95,6 +95,7 @@ module _ {w path : List ℕ} {o : ℕ} {s : Source} {x k : ℕ} {Q : Positions} 
     within = omega (arith, h .some, h .within);
   }
 
+  -- how far it knows the value of the first is no smaller than where it stands
   pub stood-same : {last : ℕ} → SameTo s x last → x ≤ last
   stood-same m = (m w path o Q (h .reads) (omega (arith, h .some, h .within))) .onward
 
@@ -198,7 +199,7 @@ module _ {w path : List ℕ} {o : ℕ} {s : Source} {base n x left j : ℕ} {out
     within = omega (arith, i .place, i .rest);
   }
 
-  -- its store
+  -- one byte more is in front when it is stored
   stored : {path′ : List ℕ} {r : Octet} (k : ℕ) → 1 ≤ k → k ≡ min 8 left → Octets w path path′ o s x k r → set out j (r .bits) ≡ fronted (mapOf Q base n) out₀ (suc j)
   stored {r = r} k a e g =
       let h = g Q (writing-stood k a (omega arith) (omega arith)) in

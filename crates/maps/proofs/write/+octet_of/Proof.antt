@@ -58,7 +58,7 @@ octet-of-octet-of-requires : (t : ℕ) → octet-of-lts.Need-octet-of-requires (
 octet-of-octet-of-requires t c κs = (omega (arith, c .before .before .before .before .before .before .before .pre .0, c .before .before .before .before .before .before .before .pre .1 .1 .some), (_, stood-next (c .before .before .before .before .before .before .before .pre .1 .1) (c .before .moved .ensures) (c .before .before .before .if2 .left)))
 
 octet-of-mul-t15 : (t : ℕ) → octet-of-lts.Need-mul-t15 (octet-of-claims t) (octet-of-at t) octet-of.Post
-octet-of-mul-t15 t c = omega (arith, octets-small (stood-next (c .before .before .before .before .before .before .before .before .before .before .pre .1 .1) (c .before .before .before .before .moved .ensures) (c .before .before .before .before .before .before .if2 .left)) (c .before .before .octet-of .ensures))
+octet-of-mul-t15 t c = omega (arith, octets-small (stood-next (c .before .before .before .before .before .before .before .before .before .before .pre .1 .1) (c .before .before .before .before .moved .ensures) (c .before .before .before .before .before .before .if2 .left)) (c .before .before .octet-of .ensures), one-small (c .before .before .before .before .before .before .before .if1 .came))
 
 octet-of-add-t17 : (t : ℕ) → octet-of-lts.Need-add-t17 (octet-of-claims t) (octet-of-at t) octet-of.Post
 octet-of-add-t17 t c = omega (arith, octets-small (stood-next (c .before .before .before .before .before .before .before .before .before .before .before .pre .1 .1) (c .before .before .before .before .before .moved .ensures) (c .before .before .before .before .before .before .before .if2 .left)) (c .before .before .before .octet-of .ensures), one-small (c .before .before .before .before .before .before .before .before .if1 .came))
