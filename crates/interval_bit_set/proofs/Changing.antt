@@ -37,12 +37,12 @@ pub record Changes (w : List ℕ) (c : Call (List ℕ)) (Q : Positions → Posit
 
 -- ---- too many runs
 -- at most the capacity
-fits-few : (C : ℕ) (Q : Positions) → stretches Q ≤ C → tooMany C Q ≡ false
+pub fits-few : (C : ℕ) (Q : Positions) → stretches Q ≤ C → tooMany C Q ≡ false
 unfolding tooMany
 fits-few C Q h = le-ltb C (stretches Q) h
 
 -- more than it
-fits-not : (C : ℕ) (Q : Positions) → C < stretches Q → tooMany C Q ≡ true
+pub fits-not : (C : ℕ) (Q : Positions) → C < stretches Q → tooMany C Q ≡ true
 unfolding tooMany
 fits-not C Q h = lt-ltb C (stretches Q) h
 
@@ -68,7 +68,7 @@ unfolding change
 change-done C P Q a h = rw (fits-few C Q h) refl
 
 -- below 2^64 a set is what is kept of it
-bounded-is : (Q : Positions) (x : ℕ) → x < size → Q x ≡ bounded Q x
+pub bounded-is : (Q : Positions) (x : ℕ) → x < size → Q x ≡ bounded Q x
 unfolding bounded
 bounded-is Q x h = sym (ap (λ t. t && Q x) (lt-ltb x size h))
 

@@ -4,5 +4,9 @@ pub mod Spans
 pub mod Draws
 pub mod Windows
 pub mod Changing
+pub mod Looking
+pub mod Carrying
+pub mod Joins
+pub mod Comparing
 pub mod Lending
 pub mod Drawing

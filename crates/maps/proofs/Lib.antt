@@ -5,3 +5,4 @@ pub mod Surveying
 pub mod Leaving
 pub mod OnTheWay
 pub mod Applying
+pub mod Octeting

@@ -2,3 +2,4 @@
 pub mod Digits
 pub mod Ordered
 pub mod Listing
+pub mod Writing

@@ -2,3 +2,4 @@
 pub mod list;
 pub mod numbers;
 pub mod set;
+pub mod write;
