@@ -1,11 +1,27 @@
 # make run                the main job: prove every crate and run every program
 # make test               every test; the last line is 'N passed, M failed'
+# make host               build the Rust host over the proved archive and run its tests
+# make differential       the library against IntervalBitSet: exhaustive, damaged and random calls (under a minute)
+# make differential-long  the same with ten million random calls, and the seed SEED=S (default 2)
 # make bench-soundness    how long the soundness decision takes, against readings of the same words (docs/BENCHMARKS.md)
-.PHONY: run test bench-soundness
+.PHONY: run test host differential differential-long bench-soundness
 run:
 	rt check
 test:
 	@bash tests/run
+# The archive is written only if everything in it is proved.
+ARCHIVE := target/staticlib/libexports.a
+SEED ?= 2
+$(ARCHIVE): crates.txt $(shell find crates -name '*.rt' -o -name '*.antt')
+	@mkdir -p target
+	rt staticlib exports > target/exports.log 2>&1 || { cat target/exports.log; exit 1; }
+host: $(ARCHIVE)
+	cargo build --offline --release --manifest-path host/Cargo.toml
+	cargo test --offline --manifest-path host/Cargo.toml
+differential: $(ARCHIVE)
+	cargo run --offline --release --manifest-path host/Cargo.toml --bin differential
+differential-long: $(ARCHIVE)
+	cargo run --offline --release --manifest-path host/Cargo.toml --bin differential -- --calls 10000000 --seed $(SEED)
 bench-soundness:
 	@mkdir -p target
 	rt staticlib bench_store > target/bench-soundness.log 2>&1 || { cat target/bench-soundness.log; exit 1; }

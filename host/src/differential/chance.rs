@@ -1,0 +1,263 @@
+//! Calls by chance: of every kind, on positions where something is likely to go wrong.
+
+use std::ops::Bound;
+
+use super::calls::{Call, Range, World, ends_of};
+use super::random::Random;
+use super::reference::{self, Run};
+use crate::{Listing, Operation};
+
+/// The kinds of calls.
+#[derive(Clone, Copy, Debug, PartialEq)]
+pub enum Kind {
+    New,
+    Set,
+    Flip,
+    Shift,
+    Get,
+    RunAt,
+    Find,
+    Count,
+    Select,
+    CountRanges,
+    Ranges,
+    Draw,
+    Fill,
+    Combine,
+    Not,
+    Shifted,
+    Equal,
+    Load,
+    Build,
+    ReadMap,
+    Write,
+    WriteMap,
+}
+
+pub const KINDS: [Kind; 22] = [
+    Kind::Get,
+    Kind::RunAt,
+    Kind::Find,
+    Kind::Count,
+    Kind::Select,
+    Kind::CountRanges,
+    Kind::Ranges,
+    Kind::Draw,
+    Kind::Fill,
+    Kind::Equal,
+    Kind::Write,
+    Kind::WriteMap,
+    Kind::Combine,
+    Kind::Not,
+    Kind::Shifted,
+    Kind::Load,
+    Kind::Build,
+    Kind::Set,
+    Kind::Flip,
+    Kind::Shift,
+    Kind::ReadMap,
+    Kind::New,
+];
+
+const HALF: u64 = 1 << 63;
+
+/// A position: near 0, near 2^63, near M, near the end of a run, or anywhere.
+pub fn position(random: &mut Random, runs: &[Run]) -> u64 {
+    let near = random.below(5).wrapping_sub(2);
+    match random.below(8) {
+        0 => random.below(12),
+        1 => HALF.wrapping_add(near),
+        2 => u64::MAX - random.below(12),
+        3 => random.below(1000),
+        4 => random.next(),
+        _ if runs.is_empty() => random.below(100),
+        _ => random.one_of(runs)[random.below(2) as usize].wrapping_add(near),
+    }
+}
+
+fn bound(random: &mut Random, x: u64) -> Bound<u64> {
+    match random.below(8) {
+        0 => Bound::Unbounded,
+        1..=3 => Bound::Excluded(x),
+        _ => Bound::Included(x),
+    }
+}
+
+/// A range with bounds of every kind, often a short one, now and then a reversed one.
+pub fn range(random: &mut Random, runs: &[Run]) -> Range {
+    let x = position(random, runs);
+    if random.once_in(3) {
+        // Short, so that runs can be many.
+        let y = x.saturating_add(random.below(6));
+        return (Bound::Included(x), Bound::Included(y));
+    }
+    let y = position(random, runs);
+    let (x, y) = if random.once_in(8) { (x, y) } else { (x.min(y), x.max(y)) };
+    (bound(random, x), bound(random, y))
+}
+
+// A distance: often one that moves a run's end to an end of the positions, or just past it.
+fn distance(random: &mut Random, runs: &[Run]) -> u64 {
+    let x = position(random, runs);
+    if random.truth() { x } else { u64::MAX - x }
+}
+
+// How long a window is; now and then none.
+fn window(random: &mut Random) -> u64 {
+    match random.below(400) {
+        0 => random.one_of(&[524_287, 524_288]),
+        1..=6 => random.one_of(&[0, 524_289, u64::MAX]),
+        7..=20 => 1 + random.below(2000),
+        _ => 1 + random.below(80),
+    }
+}
+
+// A map of which most bytes are all held or all free, so that its runs are few: a long one has no others.
+fn map(random: &mut Random, n: u64) -> Vec<u8> {
+    let due = n.min(600_000).div_ceil(8);
+    let length = if random.once_in(24) { due + random.below(3) } else { due };
+    let mut map = Vec::new();
+    let mut byte = 0;
+    for _ in 0..length {
+        if random.once_in(6.max(due / 16)) {
+            let any = random.next() as u8;
+            byte = if due > 300 { random.one_of(&[0, 0xFF]) } else { random.one_of(&[0, 0xFF, 0x0F, any]) };
+        }
+        map.push(byte);
+    }
+    map
+}
+
+// A run list: one of a store's, or one by chance, in order or not.
+fn run_list(random: &mut Random, runs: &[Run]) -> Vec<Run> {
+    let mut list = runs.to_vec();
+    match random.below(8) {
+        0..=2 => return list,
+        3 => list.push([position(random, runs), position(random, runs)]),
+        4 => {
+            list.pop();
+        }
+        _ => {
+            list.clear();
+            let mut x = position(random, runs);
+            for _ in 0..random.below(8) {
+                let y = x.saturating_add(random.below(5));
+                list.push([x, y]);
+                x = y.saturating_add(1 + random.below(40));
+            }
+        }
+    }
+    if random.once_in(8) && !list.is_empty() {
+        let i = random.below(list.len() as u64) as usize;
+        list[i][random.below(2) as usize] = position(random, runs);
+    }
+    list
+}
+
+/// Changes bytes here and there, or how many there are.
+pub fn spoil(random: &mut Random, bytes: &mut Vec<u8>) {
+    match random.below(4) {
+        0 => bytes.truncate(random.below(bytes.len() as u64 + 1) as usize),
+        1 => bytes.extend(vec![random.next() as u8; 1 + random.below(17) as usize]),
+        _ if bytes.is_empty() => {}
+        _ => {
+            let i = random.below(bytes.len() as u64) as usize;
+            let any = random.next() as u8;
+            bytes[i] = random.one_of(&[0, 1, 2, 0xFF, bytes[i] ^ 1, any]);
+        }
+    }
+}
+
+// How long an output slice is: mostly long enough.
+fn slice_room(random: &mut Random, due: usize) -> usize {
+    if random.once_in(8) { random.below(due as u64 + 2) as usize } else { due + random.below(4) as usize }
+}
+
+/// A call of the kind, about store `at` or, where the kind makes a store of others, with `at` among them.
+pub fn call(random: &mut Random, world: &World, kind: Kind, at: usize) -> Call {
+    let count = world.stores.len() as u64;
+    let runs = &world.stores[at].runs[..];
+    let value = random.truth();
+    let left = random.truth();
+    let other = random.below(count) as usize;
+    let third = random.below(count) as usize;
+    // A store that is not read by the same call.
+    let mut apart = |used: [usize; 2]| {
+        let free: Vec<usize> = (0..count as usize).filter(|i| !used.contains(i)).collect();
+        random.one_of(&free)
+    };
+    match kind {
+        Kind::New => Call::New { to: at },
+        Kind::Combine => {
+            let (a, b) = if value { (at, other) } else { (other, at) };
+            let to = apart([a, b]);
+            Call::Combine { to, op: random.one_of(&[Operation::And, Operation::Or, Operation::Xor]), a, b }
+        }
+        Kind::Not => Call::Not { to: apart([at, at]), a: at },
+        Kind::Shifted => Call::Shifted { to: apart([at, at]), a: at, distance: distance(random, runs), left },
+        Kind::Equal if value => Call::Equal { a: at, b: other },
+        Kind::Equal => Call::Equal { a: other, b: at },
+        Kind::Set => Call::Set { at, range: range(random, runs), value },
+        Kind::Flip => Call::Flip { at, range: range(random, runs) },
+        Kind::Shift => Call::Shift { at, distance: distance(random, runs), left },
+        Kind::Get => Call::Get { at, x: position(random, runs) },
+        Kind::RunAt => Call::RunAt { at, x: position(random, runs) },
+        Kind::Find => Call::Find { at, range: range(random, runs), value },
+        Kind::Count => Call::Count { at, range: range(random, runs), value },
+        Kind::Select => {
+            let range = range(random, runs);
+            let k = order(random, runs, range, value);
+            Call::Select { at, range, value, k }
+        }
+        Kind::CountRanges => Call::CountRanges { at, range: range(random, runs), value },
+        Kind::Ranges => {
+            let mixed = random.next();
+            let backs = random.one_of(&[0, u64::MAX, mixed]);
+            Call::Ranges { at, range: range(random, runs), value, backs }
+        }
+        Kind::Draw => {
+            let listing = Listing { first: position(random, runs), last: position(random, runs), value };
+            Call::Draw { at, listing, back: left }
+        }
+        Kind::Fill => Call::Fill { at, base: position(random, runs), n: window(random) },
+        Kind::Load => {
+            let mut bytes = reference::encode(&run_list(random, &world.stores[third].runs));
+            if random.once_in(4) {
+                spoil(random, &mut bytes);
+            }
+            Call::Load { to: at, bytes }
+        }
+        Kind::Build => Call::Build { to: at, runs: run_list(random, &world.stores[third].runs) },
+        Kind::ReadMap => {
+            let n = window(random);
+            Call::ReadMap { at, base: position(random, runs), n, map: map(random, n) }
+        }
+        Kind::Write => Call::Write { at, room: slice_room(random, 5 + 16 * runs.len()) },
+        Kind::WriteMap => {
+            let n = window(random);
+            let room = slice_room(random, n.min(600_000).div_ceil(8) as usize);
+            Call::WriteMap { at, base: position(random, runs), n, room }
+        }
+    }
+}
+
+// An order for select: below, at and beyond how many there are.
+fn order(random: &mut Random, runs: &[Run], range: Range, value: bool) -> u64 {
+    let Some([first, last]) = ends_of(range) else {
+        return random.below(2);
+    };
+    let mut held = 0;
+    for &[s, e] in runs {
+        if s <= last && first <= e {
+            held += u128::from(e.min(last) - s.max(first)) + 1;
+        }
+    }
+    let all = if value { held } else { u128::from(last - first) + 1 - held };
+    let k = match random.below(4) {
+        0 => all.saturating_sub(1),
+        1 => all,
+        2 => u128::from(random.below(4)),
+        _ => u128::from(random.below(all.clamp(1, u128::from(u64::MAX)) as u64)),
+    };
+    k.min(u128::from(u64::MAX)) as u64
+}

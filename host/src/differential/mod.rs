@@ -1,0 +1,161 @@
+//! The differential run: every call on the proved library and on the oracle, and after every change all runs. See [`run`].
+//!
+//! A [`Call`](calls::Call) carries all its arguments, so a difference is told as a list of calls on new stores, made as short as
+//! leaving calls out can make it.
+
+pub mod calls;
+pub mod chance;
+pub mod parts;
+pub mod random;
+pub mod reference;
+
+use std::fmt;
+use std::time::{Duration, Instant};
+
+use calls::{Call, World};
+
+/// How much is run.
+#[derive(Clone, Copy, Debug)]
+pub struct Options {
+    /// Where the numbers by chance begin.
+    pub seed: u64,
+    /// How many calls the random sequences make.
+    pub calls: u64,
+    /// Of the exhaustive and the damaged parts one case in so many is run.
+    pub stride: u64,
+    /// Whether progress is told on standard error.
+    pub progress: bool,
+}
+
+/// Calls on which the library and the oracle do not agree.
+#[derive(Debug)]
+pub struct Difference {
+    part: &'static str,
+    capacities: Vec<usize>,
+    calls: Vec<Call>,
+    told: String,
+}
+
+impl fmt::Display for Difference {
+    fn fmt(&self, f: &mut fmt::Formatter) -> fmt::Result {
+        writeln!(f, "unequal in part '{}', on empty stores of the capacities {:?}:", self.part, self.capacities)?;
+        for (i, call) in self.calls.iter().enumerate() {
+            writeln!(f, "{:4}  {call:?}", i + 1)?;
+        }
+        write!(f, "{}", self.told)
+    }
+}
+
+/// What was compared so far.
+pub struct Tally {
+    part: &'static str,
+    progress: bool,
+    began: Instant,
+    told: Instant,
+    /// How many calls were compared.
+    pub compared: u64,
+    /// How many of them were refused, by number.
+    pub refused: [u64; 9],
+}
+
+impl Tally {
+    fn new(progress: bool) -> Tally {
+        let now = Instant::now();
+        Tally { part: "", progress, began: now, told: now, compared: 0, refused: [0; 9] }
+    }
+
+    fn begin(&mut self, part: &'static str) {
+        self.part = part;
+        self.tell();
+    }
+
+    fn count(&mut self, refused: Option<u64>) {
+        self.compared += 1;
+        self.refused[refused.unwrap_or(0) as usize] += 1;
+        if self.compared % 4096 == 0 && self.told.elapsed() >= Duration::from_secs(1) {
+            self.tell();
+        }
+    }
+
+    fn tell(&mut self) {
+        self.told = Instant::now();
+        if self.progress {
+            eprintln!("{:5.0} s  {:12} calls  {}", self.began.elapsed().as_secs_f64(), self.compared, self.part);
+        }
+    }
+}
+
+/// A sequence of calls on stores that are empty at first.
+#[derive(Clone)]
+pub struct Sequence {
+    capacities: Vec<usize>,
+    pub world: World,
+    calls: Vec<Call>,
+}
+
+impl Sequence {
+    pub fn new(capacities: &[usize]) -> Sequence {
+        Sequence { capacities: capacities.to_vec(), world: World::new(capacities), calls: Vec::new() }
+    }
+
+    /// Makes the next call.
+    pub fn call(&mut self, tally: &mut Tally, call: Call) -> Result<(), Difference> {
+        let outside = matches!(call, Call::Lend { .. } | Call::Poke { .. });
+        let stepped = self.world.step(&call);
+        self.calls.push(call);
+        match stepped {
+            Ok(_) if outside => Ok(()),
+            Ok(refused) => {
+                tally.count(refused.map(|r| r.number()));
+                Ok(())
+            }
+            Err(told) => Err(self.shortest(tally.part, told)),
+        }
+    }
+
+    // Leaves out calls, at first many at once, as long as the rest still ends in a difference.
+    fn shortest(&self, part: &'static str, told: String) -> Difference {
+        let mut calls = self.calls.clone();
+        let mut told = told;
+        let mut piece = calls.len();
+        while piece > 0 {
+            let mut from = 0;
+            while from < calls.len() {
+                let mut fewer = calls.clone();
+                fewer.drain(from..(from + piece).min(calls.len()));
+                match unequal(&self.capacities, &fewer) {
+                    Some((count, why)) => {
+                        fewer.truncate(count);
+                        calls = fewer;
+                        told = why;
+                    }
+                    None => from += piece,
+                }
+            }
+            piece /= 2;
+        }
+        Difference { part, capacities: self.capacities.clone(), calls, told }
+    }
+}
+
+// After how many calls there is a difference, and which.
+fn unequal(capacities: &[usize], calls: &[Call]) -> Option<(usize, String)> {
+    let mut world = World::new(capacities);
+    calls.iter().enumerate().find_map(|(i, call)| world.step(call).err().map(|why| (i + 1, why)))
+}
+
+/// Runs every part, and stops at the first difference.
+pub fn run(options: Options) -> Result<Tally, Difference> {
+    let mut tally = Tally::new(options.progress);
+    parts::exhaustive(&mut tally, options)?;
+    parts::damaged_stores(&mut tally, options)?;
+    parts::crafted_stores(&mut tally, options)?;
+    parts::wrong_lengths(&mut tally, options)?;
+    parts::damaged_bytes(&mut tally, options)?;
+    parts::windows(&mut tally, options)?;
+    parts::limits(&mut tally, options)?;
+    parts::large(&mut tally, options)?;
+    parts::random(&mut tally, options)?;
+    tally.tell();
+    Ok(tally)
+}

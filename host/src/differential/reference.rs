@@ -1,0 +1,188 @@
+//! What the scope document says of words and bytes, written down plainly and apart from the library: which words are a sound store
+//! and which runs they hold, written sets, and stores of any arrangement to try the library on.
+
+use super::random::Random;
+use crate::Refusal;
+
+/// A run: start and end, both in it.
+pub type Run = [u64; 2];
+
+/// What words are.
+#[derive(Debug, PartialEq)]
+pub enum Look {
+    WrongLength,
+    Unsound,
+    Holds(Vec<Run>),
+}
+
+/// The capacity of a store of that many words, if there is one.
+pub fn capacity(words: usize) -> Option<usize> {
+    let c = (words / 8).checked_sub(3)?;
+    (words % 8 == 0 && (1..=65_536).contains(&c)).then_some(c)
+}
+
+// What a subtree is found to be.
+#[derive(Default)]
+struct Sums {
+    height: u64,
+    runs: u64,
+    ones: u64,
+}
+
+// A tree of at most 65,538 nodes that keeps the balance is far from this deep.
+const DEEPEST: usize = 64;
+
+fn walk(words: &[u64], link: u64, depth: usize, met: &mut [bool], runs: &mut Vec<Run>) -> Option<Sums> {
+    if link == 0 {
+        return Some(Sums::default());
+    }
+    let n = usize::try_from(link).ok().filter(|&n| n < met.len() && !met[n] && depth < DEEPEST)?;
+    met[n] = true;
+    let node = &words[8 * n..8 * n + 8];
+    let left = walk(words, node[2], depth + 1, met, runs)?;
+    let (start, end) = (node[0], node[1]);
+    let after_last = runs.last().is_none_or(|&[_, last]| last.checked_add(2).is_some_and(|x| start >= x));
+    if start > end || !after_last {
+        return None;
+    }
+    runs.push([start, end]);
+    let right = walk(words, node[3], depth + 1, met, runs)?;
+    let sums = Sums {
+        height: 1 + left.height.max(right.height),
+        runs: 1 + left.runs + right.runs,
+        ones: (end - start).wrapping_add(1).wrapping_add(left.ones).wrapping_add(right.ones),
+    };
+    let told = [node[4], node[5], node[6], node[7]];
+    (left.height.abs_diff(right.height) <= 1 && told == [sums.height, sums.runs, sums.ones, 0]).then_some(sums)
+}
+
+/// Physical runs as logical ones: turned by the offset, cut at 0 and joined where they touch.
+pub fn logical(runs: &[Run], offset: u64) -> Vec<Run> {
+    let mut pieces = Vec::new();
+    for &[start, end] in runs {
+        let (s, e) = (start.wrapping_add(offset), end.wrapping_add(offset));
+        if s <= e {
+            pieces.push([s, e]);
+        } else {
+            pieces.extend([[s, u64::MAX], [0, e]]);
+        }
+    }
+    pieces.sort_unstable();
+    let mut joined: Vec<Run> = Vec::new();
+    for [s, e] in pieces {
+        match joined.last_mut() {
+            Some(last) if last[1].checked_add(1) == Some(s) => last[1] = e,
+            _ => joined.push([s, e]),
+        }
+    }
+    joined
+}
+
+/// Whether words are a sound store, and the runs that it holds.
+pub fn look(words: &[u64]) -> Look {
+    let Some(capacity) = capacity(words.len()) else {
+        return Look::WrongLength;
+    };
+    sound(words, capacity).map_or(Look::Unsound, Look::Holds)
+}
+
+fn sound(words: &[u64], capacity: usize) -> Option<Vec<Run>> {
+    let &[root, mut free, offset, ones, count, first, last, spare] = words.first_chunk::<8>()?;
+    let mut met = vec![false; capacity + 3];
+    let mut runs = Vec::new();
+    let sums = walk(words, root, 0, &mut met, &mut runs)?;
+    met[0] = true;
+    while free != 0 {
+        let n = usize::try_from(free).ok().filter(|&n| n < met.len() && !met[n])?;
+        met[n] = true;
+        let node = &words[8 * n..8 * n + 8];
+        free = node[2];
+        if (0..8).any(|i| i != 2 && node[i] != 0) {
+            return None;
+        }
+    }
+    let held = logical(&runs, offset);
+    let ends = [held.first().map_or(0, |r| r[0]), held.last().map_or(0, |r| r[1])];
+    let agrees = [ones, count, first, last, spare] == [sums.ones, sums.runs, ends[0], ends[1], 0];
+    let turned = offset != 0 && runs.is_empty();
+    (met.iter().all(|&m| m) && agrees && !turned && held.len() <= capacity).then_some(held)
+}
+
+/// Whether a run list rises without touching.
+pub fn in_order(runs: &[Run]) -> bool {
+    runs.iter().all(|&[s, e]| s <= e)
+        && runs.windows(2).all(|w| w[0][1].checked_add(2).is_some_and(|least| least <= w[1][0]))
+}
+
+/// The written set of runs.
+pub fn encode(runs: &[Run]) -> Vec<u8> {
+    let mut bytes = vec![1];
+    bytes.extend((runs.len() as u32).to_be_bytes());
+    for number in runs.as_flattened() {
+        bytes.extend(number.to_be_bytes());
+    }
+    bytes
+}
+
+/// The runs of a written set.
+pub fn decode(bytes: &[u8]) -> Result<Vec<Run>, Refusal> {
+    let Some((&[version, a, b, c, d], rest)) = bytes.split_first_chunk::<5>() else {
+        return Err(Refusal::SetLength);
+    };
+    if version != 1 {
+        return Err(Refusal::SetVersion);
+    }
+    if rest.len() as u64 != 16 * u64::from(u32::from_be_bytes([a, b, c, d])) {
+        return Err(Refusal::SetLength);
+    }
+    let number = |bytes: &[u8]| bytes.iter().fold(0, |n, &b| n << 8 | u64::from(b));
+    let runs: Vec<Run> = rest.chunks(16).map(|r| [number(&r[..8]), number(&r[8..])]).collect();
+    if in_order(&runs) { Ok(runs) } else { Err(Refusal::RunOrder) }
+}
+
+/// Whether a window is one.
+pub fn is_window(base: u64, n: u64) -> bool {
+    (1..=524_288).contains(&n) && u128::from(base) + u128::from(n) <= 1 << 64
+}
+
+// Writes a tree of physical runs into nodes with the numbers given, and tells its link and what it sums up to. Any shape may come
+// out; where `even` says so, the middle is the root, so that the tree keeps the balance.
+fn plant(words: &mut [u64], runs: &[Run], numbers: &[u64], even: bool, random: &mut Random) -> (u64, Sums) {
+    if runs.is_empty() {
+        return (0, Sums::default());
+    }
+    let count = runs.len() as u64;
+    let m = if even { (count - random.below(2)) / 2 } else { random.below(count) } as usize;
+    let (left, l) = plant(words, &runs[..m], &numbers[..m], even, random);
+    let (right, r) = plant(words, &runs[m + 1..], &numbers[m + 1..], even, random);
+    let [start, end] = runs[m];
+    let sums = Sums {
+        height: 1 + l.height.max(r.height),
+        runs: 1 + l.runs + r.runs,
+        ones: end.wrapping_sub(start).wrapping_add(1).wrapping_add(l.ones).wrapping_add(r.ones),
+    };
+    let at = 8 * numbers[m] as usize;
+    words[at..at + 8].copy_from_slice(&[start, end, left, right, sums.height, sums.runs, sums.ones, 0]);
+    (numbers[m], sums)
+}
+
+/// A store of physical runs, at most C + 2, with nodes, free chain and shape by chance: sound where the runs rise without touching,
+/// the shape keeps the balance, the logical runs are at most C and the offset is 0 if there are none.
+pub fn craft(capacity: usize, runs: &[Run], offset: u64, even: bool, random: &mut Random) -> Vec<u64> {
+    let mut words = crate::room(capacity);
+    let mut numbers: Vec<u64> = (1..=capacity as u64 + 2).collect();
+    for i in 1..numbers.len() {
+        numbers.swap(i, random.below(i as u64 + 1) as usize);
+    }
+    let (used, unused) = numbers.split_at(runs.len());
+    let (root, sums) = plant(&mut words, runs, used, even, random);
+    let mut free = 0;
+    for &n in unused {
+        words[8 * n as usize + 2] = free;
+        free = n;
+    }
+    let held = logical(runs, offset);
+    let ends = [held.first().map_or(0, |r| r[0]), held.last().map_or(0, |r| r[1])];
+    words[..8].copy_from_slice(&[root, free, offset, sums.ones, sums.runs, ends[0], ends[1], 0]);
+    words
+}

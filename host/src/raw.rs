@@ -1,0 +1,109 @@
+//! The exported functions as C sees them: a slice is a pointer and a count, an answer begins with its refusal's number, or 0.
+
+#[repr(C)]
+#[derive(Clone, Copy)]
+pub struct Bound {
+    pub kind: u64,
+    pub value: u64,
+}
+
+#[repr(C)]
+pub struct Count {
+    pub refusal: u64,
+    pub carry: u64,
+    pub low: u64,
+}
+
+/// A number, a value (0 or 1) or how many bytes were written.
+#[repr(C)]
+pub struct Number {
+    pub refusal: u64,
+    pub number: u64,
+}
+
+#[repr(C)]
+pub struct Run {
+    pub refusal: u64,
+    pub start: u64,
+    pub end: u64,
+}
+
+#[repr(C)]
+pub struct Position {
+    pub refusal: u64,
+    pub found: u64,
+    pub position: u64,
+}
+
+#[repr(C)]
+pub struct Listed {
+    pub refusal: u64,
+    pub first: u64,
+    pub last: u64,
+    pub value: u64,
+}
+
+#[repr(C)]
+pub struct Drawn {
+    pub refusal: u64,
+    pub found: u64,
+    pub start: u64,
+    pub end: u64,
+    pub first: u64,
+    pub last: u64,
+}
+
+unsafe extern "C" {
+    pub fn vizturel_new(words: *mut u64, count: usize) -> u64;
+    pub fn vizturel_set(words: *mut u64, count: usize, lower: Bound, upper: Bound, value: u64) -> Count;
+    pub fn vizturel_flip(words: *mut u64, count: usize, lower: Bound, upper: Bound) -> u64;
+    pub fn vizturel_shift(words: *mut u64, count: usize, distance: u64, left: u64) -> u64;
+    pub fn vizturel_get(words: *const u64, count: usize, x: u64) -> Number;
+    pub fn vizturel_run_at(words: *const u64, count: usize, x: u64) -> Run;
+    pub fn vizturel_find(words: *const u64, count: usize, lower: Bound, upper: Bound, value: u64) -> Position;
+    pub fn vizturel_count(words: *const u64, count: usize, lower: Bound, upper: Bound, value: u64) -> Count;
+    pub fn vizturel_select(words: *const u64, count: usize, lower: Bound, upper: Bound, value: u64, k: u64) -> Position;
+    pub fn vizturel_count_ranges(words: *const u64, count: usize, lower: Bound, upper: Bound, value: u64) -> Number;
+    pub fn vizturel_ranges(words: *const u64, count: usize, lower: Bound, upper: Bound, value: u64) -> Listed;
+    pub fn vizturel_draw_front(words: *const u64, count: usize, first: u64, last: u64, value: u64) -> Drawn;
+    pub fn vizturel_draw_back(words: *const u64, count: usize, first: u64, last: u64, value: u64) -> Drawn;
+    pub fn vizturel_fill(words: *const u64, count: usize, base: u64, n: u64) -> Number;
+    pub fn vizturel_combine(
+        words: *mut u64,
+        count: usize,
+        op: u64,
+        a: *const u64,
+        a_count: usize,
+        b: *const u64,
+        b_count: usize,
+    ) -> u64;
+    pub fn vizturel_not(words: *mut u64, count: usize, a: *const u64, a_count: usize) -> u64;
+    pub fn vizturel_shifted(
+        words: *mut u64,
+        count: usize,
+        distance: u64,
+        left: u64,
+        a: *const u64,
+        a_count: usize,
+    ) -> u64;
+    pub fn vizturel_eq(words: *const u64, count: usize, b: *const u64, b_count: usize) -> Number;
+    pub fn vizturel_load(words: *mut u64, count: usize, bytes: *const u8, length: usize) -> u64;
+    pub fn vizturel_build(words: *mut u64, count: usize, runs: *const u64, run_words: usize) -> u64;
+    pub fn vizturel_read_map(
+        words: *mut u64,
+        count: usize,
+        base: u64,
+        n: u64,
+        bytes: *const u8,
+        length: usize,
+    ) -> Count;
+    pub fn vizturel_write(words: *const u64, count: usize, out: *mut u8, length: usize) -> Number;
+    pub fn vizturel_write_map(
+        words: *const u64,
+        count: usize,
+        base: u64,
+        n: u64,
+        out: *mut u8,
+        length: usize,
+    ) -> Number;
+}

@@ -1,0 +1,208 @@
+//! The scope document's sixteen cases and its fill, through the safe calls.
+
+use std::ops::{Bound, RangeInclusive};
+
+use vizturel::{Operation, Refusal, Set, SetBuf, room};
+
+const M: u64 = u64::MAX;
+const ALL: u128 = 1 << 64;
+
+fn empty() -> SetBuf {
+    SetBuf::with_capacity(8).unwrap()
+}
+
+fn of(runs: &[[u64; 2]]) -> SetBuf {
+    Set::from_sorted_runs(room(8), runs).unwrap()
+}
+
+fn runs<S: AsRef<[u64]>>(set: &Set<S>) -> Vec<RangeInclusive<u64>> {
+    set.ranges(.., true).unwrap().collect()
+}
+
+#[test]
+fn case_1() {
+    let mut s = empty();
+    assert_eq!(s.set(2..8, true), Ok(6));
+    assert_eq!(s.set(4..6, false), Ok(2));
+    assert_eq!(s.set(2..4, true), Ok(0));
+}
+
+#[test]
+fn case_2() {
+    let mut s = empty();
+    assert_eq!(s.set(.., true), Ok(ALL));
+    assert_eq!(s.set(.., true), Ok(0));
+    assert_eq!(s.count(.., true), Ok(ALL));
+}
+
+#[test]
+fn case_3() {
+    let mut s = of(&[[2, 7]]);
+    let before = s.words().to_vec();
+    assert_eq!(s.set((Bound::Excluded(M), Bound::Unbounded), true), Ok(0));
+    assert_eq!(s.words(), before);
+}
+
+#[test]
+fn case_4() {
+    let s = of(&[[2, 7]]);
+    assert_eq!(s.run_at(4), Ok(2..=7));
+    assert_eq!(s.run_at(0), Ok(0..=1));
+    assert_eq!(s.run_at(9), Ok(8..=M));
+}
+
+#[test]
+fn case_5() {
+    let s = of(&[[2, 7]]);
+    assert_eq!(s.find(4.., false), Ok(Some(8)));
+    assert_eq!(s.find(2..8, false), Ok(None));
+}
+
+#[test]
+fn case_6() {
+    let s = of(&[[2, 7]]);
+    assert_eq!(s.select(4..12, false, 1), Ok(Some(9)));
+    assert_eq!(s.select(4..12, true, 4), Ok(None));
+}
+
+#[test]
+fn case_7() {
+    let s = of(&[[2, 7], [10, 14]]);
+    assert_eq!(s.ranges(4..12, true).unwrap().collect::<Vec<_>>(), [4..=7, 10..=11]);
+    assert_eq!(s.ranges(4..12, false).unwrap().collect::<Vec<_>>(), [8..=9]);
+    assert_eq!(s.ranges(4..12, true).unwrap().rev().collect::<Vec<_>>(), [10..=11, 4..=7]);
+    assert_eq!(s.count_ranges(4..12, true), Ok(2));
+}
+
+#[test]
+fn case_8() {
+    let mut s = of(&[[2, 7]]);
+    assert_eq!(s.flip(4..10), Ok(()));
+    assert_eq!(runs(&s), [2..=3, 8..=9]);
+}
+
+#[test]
+fn case_9() {
+    let (a, b) = (of(&[[2, 7]]), of(&[[5, 9]]));
+    let joined = |op| Set::combine(room(2), op, &a, &b).unwrap();
+    assert_eq!(joined(Operation::And).count(.., true), Ok(3));
+    assert_eq!(joined(Operation::Or).count(.., true), Ok(8));
+    assert_eq!(runs(&joined(Operation::Xor)), [2..=4, 8..=9]);
+}
+
+#[test]
+fn case_10() {
+    let mut s = of(&[[M - 1, M]]);
+    let copy = Set::shifted(room(1), &s, 2, true).unwrap();
+    assert_eq!(runs(&copy), []);
+    s.shift(1, true).unwrap();
+    assert_eq!(runs(&s), [M..=M]);
+    s.shift(1, true).unwrap();
+    assert_eq!(runs(&s), []);
+}
+
+#[test]
+fn case_11() {
+    let s = of(&[[0, 3]]);
+    assert_eq!(runs(&Set::shifted(room(1), &s, 2, false).unwrap()), [0..=1]);
+    assert_eq!(runs(&Set::shifted(room(1), &s, 4, false).unwrap()), []);
+}
+
+#[test]
+fn case_12() {
+    // Two nodes and one run: capacity 1 is enough.
+    let mut s = Set::from_sorted_runs(room(1), &[[10, 19]]).unwrap();
+    s.shift(5, true).unwrap();
+    assert_eq!(s.set(0..15, true), Ok(15));
+    assert_eq!(runs(&s), [0..=24]);
+}
+
+#[test]
+fn case_13() {
+    let mut s = Set::from_sorted_runs(room(1), &[[2, 7]]).unwrap();
+    assert_eq!(s.set(4..6, false), Err(Refusal::Capacity));
+    assert_eq!(runs(&s), [2..=7]);
+    assert_eq!(s.set(2..4, false), Ok(2));
+}
+
+#[test]
+fn case_14() {
+    let s = of(&[[5, 5]]);
+    assert_eq!(runs(&Set::not(room(2), &s).unwrap()), [0..=4, 6..=M]);
+    assert_eq!(Set::not(room(1), &s).err(), Some(Refusal::Capacity));
+}
+
+#[test]
+fn case_15() {
+    let s = of(&[[2, 3], [8, 9]]);
+    let mut out = [0xEE; 40];
+    let written = s.write(&mut out).unwrap();
+    let due = [
+        1, 0, 0, 0, 2, 0, 0, 0, 0, 0, 0, 0, 2, 0, 0, 0, 0, 0, 0, 0, 3, 0, 0, 0, 0, 0, 0, 0, 8, 0, 0, 0, 0, 0, 0, 0, 9,
+    ];
+    assert_eq!(written, due);
+    assert_eq!(Set::load(room(2), written).unwrap().eq(&s), Ok(true));
+    assert_eq!(out[37..], [0xEE; 3]);
+    assert_eq!(s.write(&mut out[..36]), Err(Refusal::OutputShort));
+
+    let mut map = [0xEE; 3];
+    assert_eq!(s.write_map(0, 10, &mut map).unwrap(), [0x0C, 0x03]);
+    assert_eq!(map[2], 0xEE);
+    let mut t = empty();
+    assert_eq!(t.read_map(0, 10, &map[..2]), Ok(4));
+    assert_eq!(t.eq(&s), Ok(true));
+    assert_eq!(s.fill(0, 3), Ok(333));
+}
+
+#[test]
+fn case_16() {
+    let mut bytes = vec![1, 0, 0, 0, 2];
+    for number in [2_u64, 3, 4, 5] {
+        bytes.extend(number.to_be_bytes());
+    }
+    assert_eq!(Set::load(room(8), &bytes).err(), Some(Refusal::RunOrder));
+    assert_eq!(Set::from_sorted_runs(room(8), &[[2, 3], [4, 5]]).err(), Some(Refusal::RunOrder));
+}
+
+#[test]
+fn every_refusal_has_its_number() {
+    let mut words = room(2);
+    let mut s = Set::new(&mut words[..]).unwrap();
+    assert_eq!(Set::new([0; 24]).err().map(Refusal::number), Some(1));
+    assert_eq!(SetBuf::with_capacity(0).err().map(Refusal::number), Some(1));
+    assert_eq!(SetBuf::with_capacity(usize::MAX).err().map(Refusal::number), Some(1));
+    assert_eq!(s.write(&mut []).err().map(Refusal::number), Some(2));
+    assert_eq!(Set::load(room(1), &[1, 0, 0, 0]).err().map(Refusal::number), Some(3));
+    assert_eq!(Set::load(room(1), &[2, 0, 0, 0, 0]).err().map(Refusal::number), Some(4));
+    assert_eq!(Set::from_sorted_runs(room(1), &[[4, 3]]).err().map(Refusal::number), Some(5));
+    assert_eq!(s.fill(M, 2).err().map(Refusal::number), Some(6));
+    s.words_mut()[7] = 1;
+    assert_eq!(s.get(0).err().map(Refusal::number), Some(7));
+    assert_eq!(s.set(.., true).err().map(Refusal::number), Some(7));
+    let s = of(&[[2, 7], [10, 14]]);
+    assert_eq!(Set::shifted(room(1), &s, 0, true).err().map(Refusal::number), Some(8));
+    assert_eq!(Refusal::Capacity.to_string(), "the result would have more runs than the capacity");
+}
+
+#[test]
+fn a_store_is_lent_kept_and_handed_back() {
+    let mut words = [0; 8 * 5];
+    let mut s = Set::new(&mut words[..]).unwrap();
+    s.set(3..=5, true).unwrap();
+    // Only to be read.
+    assert_eq!(Set::over(&words[..]).count(.., true), Ok(3));
+    let kept = Set::over(words);
+    assert_eq!(kept.get(5), Ok(true));
+    assert_eq!(kept.into_words(), words);
+}
+
+#[test]
+fn a_listing_goes_on_in_the_changed_store() {
+    let mut s = of(&[[2, 7], [10, 14]]);
+    let mut listing = s.listing(.., true).unwrap();
+    assert_eq!(s.draw_front(&mut listing), Ok(Some(2..=7)));
+    s.set(12..20, true).unwrap();
+    assert_eq!(s.draw_back(&mut listing), Ok(Some(10..=19)));
+    assert_eq!(s.draw_front(&mut listing), Ok(None));
+    assert_eq!((listing.first, listing.last), (1, 0));
+}

@@ -1,0 +1,27 @@
+//! The differential run, shortened: fixed seeds, a part of the exhaustive and damaged cases.
+
+use vizturel::differential::{Options, run};
+
+fn short(seed: u64) {
+    let options = Options { seed, calls: 60_000, stride: 60, progress: false };
+    match run(options) {
+        Ok(tally) => {
+            assert!(tally.compared > 300_000, "only {} calls were compared", tally.compared);
+            // Each refusal came up, so that each was compared.
+            for (number, count) in tally.refused.iter().enumerate() {
+                assert!(*count > 100, "refusal {number} came up {count} times");
+            }
+        }
+        Err(difference) => panic!("{difference}"),
+    }
+}
+
+#[test]
+fn first_seed() {
+    short(1);
+}
+
+#[test]
+fn second_seed() {
+    short(20_261_116);
+}
