@@ -2,7 +2,7 @@
 # make test               every test; the last line is 'N passed, M failed'
 # make host               build the Rust host over the proved archive and run its tests
 # make differential       the library against IntervalBitSet: exhaustive, damaged and random calls (under a minute)
-# make differential-long  the same with ten million random calls, and the seed SEED=S (default 2)
+# make differential-long  the same with thirty million random calls, and the seed SEED=S (default 2)
 # make bench-soundness    how long the soundness decision takes, against readings of the same words (docs/BENCHMARKS.md)
 .PHONY: run test host differential differential-long bench-soundness
 run:
@@ -21,7 +21,7 @@ host: $(ARCHIVE)
 differential: $(ARCHIVE)
 	cargo run --offline --release --manifest-path host/Cargo.toml --bin differential
 differential-long: $(ARCHIVE)
-	cargo run --offline --release --manifest-path host/Cargo.toml --bin differential -- --calls 10000000 --seed $(SEED)
+	cargo run --offline --release --manifest-path host/Cargo.toml --bin differential -- --calls 30000000 --seed $(SEED)
 bench-soundness:
 	@mkdir -p target
 	rt staticlib bench_store > target/bench-soundness.log 2>&1 || { cat target/bench-soundness.log; exit 1; }

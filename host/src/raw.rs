@@ -62,7 +62,8 @@ unsafe extern "C" {
     pub fn vizturel_run_at(words: *const u64, count: usize, x: u64) -> Run;
     pub fn vizturel_find(words: *const u64, count: usize, lower: Bound, upper: Bound, value: u64) -> Position;
     pub fn vizturel_count(words: *const u64, count: usize, lower: Bound, upper: Bound, value: u64) -> Count;
-    pub fn vizturel_select(words: *const u64, count: usize, lower: Bound, upper: Bound, value: u64, k: u64) -> Position;
+    pub fn vizturel_select(words: *const u64, count: usize, lower: Bound, upper: Bound, value: u64, k: u64)
+    -> Position;
     pub fn vizturel_count_ranges(words: *const u64, count: usize, lower: Bound, upper: Bound, value: u64) -> Number;
     pub fn vizturel_ranges(words: *const u64, count: usize, lower: Bound, upper: Bound, value: u64) -> Listed;
     pub fn vizturel_draw_front(words: *const u64, count: usize, first: u64, last: u64, value: u64) -> Drawn;

@@ -137,9 +137,8 @@ fn case_15() {
     let s = of(&[[2, 3], [8, 9]]);
     let mut out = [0xEE; 40];
     let written = s.write(&mut out).unwrap();
-    let due = [
-        1, 0, 0, 0, 2, 0, 0, 0, 0, 0, 0, 0, 2, 0, 0, 0, 0, 0, 0, 0, 3, 0, 0, 0, 0, 0, 0, 0, 8, 0, 0, 0, 0, 0, 0, 0, 9,
-    ];
+    let due =
+        [1, 0, 0, 0, 2, 0, 0, 0, 0, 0, 0, 0, 2, 0, 0, 0, 0, 0, 0, 0, 3, 0, 0, 0, 0, 0, 0, 0, 8, 0, 0, 0, 0, 0, 0, 0, 9];
     assert_eq!(written, due);
     assert_eq!(Set::load(room(2), written).unwrap().eq(&s), Ok(true));
     assert_eq!(out[37..], [0xEE; 3]);

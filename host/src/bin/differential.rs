@@ -41,7 +41,10 @@ fn main() -> ExitCode {
         }
         Err(difference) => {
             println!("{difference}");
-            println!("again: differential --seed {} --calls {} --stride {}", options.seed, options.calls, options.stride);
+            println!(
+                "again: differential --seed {} --calls {} --stride {}",
+                options.seed, options.calls, options.stride
+            );
             ExitCode::FAILURE
         }
     }

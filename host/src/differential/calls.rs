@@ -15,38 +15,131 @@ pub type Range = (Bound<u64>, Bound<u64>);
 /// it did not make.
 #[derive(Clone, Debug)]
 pub enum Call {
-    Lend { at: usize, words: Vec<u64> },
-    Poke { at: usize, word: usize, value: u64 },
-    New { to: usize },
-    Set { at: usize, range: Range, value: bool },
-    Flip { at: usize, range: Range },
-    Shift { at: usize, distance: u64, left: bool },
-    Get { at: usize, x: u64 },
-    RunAt { at: usize, x: u64 },
-    Find { at: usize, range: Range, value: bool },
-    Count { at: usize, range: Range, value: bool },
-    Select { at: usize, range: Range, value: bool, k: u64 },
-    CountRanges { at: usize, range: Range, value: bool },
+    Lend {
+        at: usize,
+        words: Vec<u64>,
+    },
+    Poke {
+        at: usize,
+        word: usize,
+        value: u64,
+    },
+    New {
+        to: usize,
+    },
+    Set {
+        at: usize,
+        range: Range,
+        value: bool,
+    },
+    Flip {
+        at: usize,
+        range: Range,
+    },
+    Shift {
+        at: usize,
+        distance: u64,
+        left: bool,
+    },
+    Get {
+        at: usize,
+        x: u64,
+    },
+    RunAt {
+        at: usize,
+        x: u64,
+    },
+    Find {
+        at: usize,
+        range: Range,
+        value: bool,
+    },
+    Count {
+        at: usize,
+        range: Range,
+        value: bool,
+    },
+    Select {
+        at: usize,
+        range: Range,
+        value: bool,
+        k: u64,
+    },
+    CountRanges {
+        at: usize,
+        range: Range,
+        value: bool,
+    },
     /// Bit i of `backs`, counted anew after 64 draws, says that draw i is from the back.
-    Ranges { at: usize, range: Range, value: bool, backs: u64 },
-    Draw { at: usize, listing: Listing, back: bool },
-    Fill { at: usize, base: u64, n: u64 },
-    Combine { to: usize, op: Operation, a: usize, b: usize },
-    Not { to: usize, a: usize },
-    Shifted { to: usize, a: usize, distance: u64, left: bool },
-    Equal { a: usize, b: usize },
-    Load { to: usize, bytes: Vec<u8> },
-    Build { to: usize, runs: Vec<Run> },
-    ReadMap { at: usize, base: u64, n: u64, map: Vec<u8> },
-    Write { at: usize, room: usize },
-    WriteMap { at: usize, base: u64, n: u64, room: usize },
+    Ranges {
+        at: usize,
+        range: Range,
+        value: bool,
+        backs: u64,
+    },
+    Draw {
+        at: usize,
+        listing: Listing,
+        back: bool,
+    },
+    Fill {
+        at: usize,
+        base: u64,
+        n: u64,
+    },
+    Combine {
+        to: usize,
+        op: Operation,
+        a: usize,
+        b: usize,
+    },
+    Not {
+        to: usize,
+        a: usize,
+    },
+    Shifted {
+        to: usize,
+        a: usize,
+        distance: u64,
+        left: bool,
+    },
+    Equal {
+        a: usize,
+        b: usize,
+    },
+    Load {
+        to: usize,
+        bytes: Vec<u8>,
+    },
+    Build {
+        to: usize,
+        runs: Vec<Run>,
+    },
+    ReadMap {
+        at: usize,
+        base: u64,
+        n: u64,
+        map: Vec<u8>,
+    },
+    Write {
+        at: usize,
+        room: usize,
+    },
+    WriteMap {
+        at: usize,
+        base: u64,
+        n: u64,
+        room: usize,
+    },
 }
 
 impl Call {
     /// The store that the call may change.
     fn changes(&self) -> Option<usize> {
         match *self {
-            Call::Set { at, .. } | Call::Flip { at, .. } | Call::Shift { at, .. } | Call::ReadMap { at, .. } => Some(at),
+            Call::Set { at, .. } | Call::Flip { at, .. } | Call::Shift { at, .. } | Call::ReadMap { at, .. } => {
+                Some(at)
+            }
             Call::New { to }
             | Call::Combine { to, .. }
             | Call::Not { to, .. }
@@ -512,9 +605,9 @@ fn same_runs(store: &Store) -> Result<(), String> {
         return Err(format!("the words are {look:?}\nand the oracle holds {:?}", store.runs));
     }
     if (store.runs.len() + 1) * store.capacity() <= DRAWN_UP_TO {
-        let listed = Set::over(&store.words[..]).ranges(.., true).map(|all| {
-            all.map(|r| [*r.start(), *r.end()]).collect::<Vec<_>>()
-        });
+        let listed = Set::over(&store.words[..])
+            .ranges(.., true)
+            .map(|all| all.map(|r| [*r.start(), *r.end()]).collect::<Vec<_>>());
         if listed.as_ref() != Ok(&store.runs) {
             return Err(format!("the library lists {listed:?}\nand the oracle holds {:?}", store.runs));
         }

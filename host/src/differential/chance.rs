@@ -69,7 +69,7 @@ pub fn position(random: &mut Random, runs: &[Run]) -> u64 {
         1 => HALF.wrapping_add(near),
         2 => u64::MAX - random.below(12),
         3 => random.below(1000),
-        4 => random.next(),
+        4 => random.number(),
         _ if runs.is_empty() => random.below(100),
         _ => random.one_of(runs)[random.below(2) as usize].wrapping_add(near),
     }
@@ -120,7 +120,7 @@ fn map(random: &mut Random, n: u64) -> Vec<u8> {
     let mut byte = 0;
     for _ in 0..length {
         if random.once_in(6.max(due / 16)) {
-            let any = random.next() as u8;
+            let any = random.number() as u8;
             byte = if due > 300 { random.one_of(&[0, 0xFF]) } else { random.one_of(&[0, 0xFF, 0x0F, any]) };
         }
         map.push(byte);
@@ -158,11 +158,11 @@ fn run_list(random: &mut Random, runs: &[Run]) -> Vec<Run> {
 pub fn spoil(random: &mut Random, bytes: &mut Vec<u8>) {
     match random.below(4) {
         0 => bytes.truncate(random.below(bytes.len() as u64 + 1) as usize),
-        1 => bytes.extend(vec![random.next() as u8; 1 + random.below(17) as usize]),
+        1 => bytes.extend(vec![random.number() as u8; 1 + random.below(17) as usize]),
         _ if bytes.is_empty() => {}
         _ => {
             let i = random.below(bytes.len() as u64) as usize;
-            let any = random.next() as u8;
+            let any = random.number() as u8;
             bytes[i] = random.one_of(&[0, 1, 2, 0xFF, bytes[i] ^ 1, any]);
         }
     }
@@ -211,7 +211,7 @@ pub fn call(random: &mut Random, world: &World, kind: Kind, at: usize) -> Call {
         }
         Kind::CountRanges => Call::CountRanges { at, range: range(random, runs), value },
         Kind::Ranges => {
-            let mixed = random.next();
+            let mixed = random.number();
             let backs = random.one_of(&[0, u64::MAX, mixed]);
             Call::Ranges { at, range: range(random, runs), value, backs }
         }

@@ -72,7 +72,7 @@ impl Tally {
     fn count(&mut self, refused: Option<u64>) {
         self.compared += 1;
         self.refused[refused.unwrap_or(0) as usize] += 1;
-        if self.compared % 4096 == 0 && self.told.elapsed() >= Duration::from_secs(1) {
+        if self.compared.is_multiple_of(4096) && self.told.elapsed() >= Duration::from_secs(1) {
             self.tell();
         }
     }

@@ -99,9 +99,8 @@ pub fn exhaustive(tally: &mut Tally, options: Options) -> Outcome {
         }
     }
     tally.begin("exhaustive: three changes of closed ranges at capacities 1 to 3");
-    let closed: Vec<Range> = (0..5)
-        .flat_map(|i| (i..5).map(move |j| (Bound::Included(ENDS[i]), Bound::Included(ENDS[j]))))
-        .collect();
+    let closed: Vec<Range> =
+        (0..5).flat_map(|i| (i..5).map(move |j| (Bound::Included(ENDS[i]), Bound::Included(ENDS[j])))).collect();
     let all = changes(&closed);
     for (i, first) in all.iter().enumerate() {
         let mut one = Sequence::new(&[1 + i % 3]);
@@ -158,7 +157,7 @@ pub fn damaged_stores(tally: &mut Tally, options: Options) -> Outcome {
             let last = capacity as u64 + 2;
             let beside = random.one_of(&words);
             let mut values = vec![was.wrapping_add(1), was.wrapping_sub(1), !was, was ^ HALF, was ^ (1 << 32)];
-            values.extend([0, 1, 2, 3, last, last + 1, HALF, M, beside, random.next()]);
+            values.extend([0, 1, 2, 3, last, last + 1, HALF, M, beside, random.number()]);
             values.retain(|&v| v != was);
             for value in values {
                 turn += 1;
@@ -182,7 +181,7 @@ pub fn damaged_stores(tally: &mut Tally, options: Options) -> Outcome {
         for _ in 0..2 {
             let words = s.world.stores[0].words();
             let word = random.below(words.len() as u64) as usize;
-            let (few, other, any) = (random.below(8), random.one_of(words), random.next());
+            let (few, other, any) = (random.below(8), random.one_of(words), random.number());
             let value = random.one_of(&[few, other, words[word] ^ 1, any]);
             s.call(tally, Call::Poke { at: 0, word, value })?;
         }
@@ -235,7 +234,7 @@ pub fn crafted_stores(tally: &mut Tally, options: Options) -> Outcome {
                 0 => 0,
                 1 => chance::position(&mut random, &runs),
                 2 => chance::position(&mut random, &runs).wrapping_neg(),
-                _ => random.next(),
+                _ => random.number(),
             };
             let even = !random.once_in(8);
             let words = reference::craft(capacity, &runs, offset, even, &mut random);
@@ -376,7 +375,7 @@ pub fn windows(tally: &mut Tally, options: Options) -> Outcome {
                 }
                 // The oracle takes long over a large map of single positions.
                 let single = due < 20 || (turn == 0 && base == 0);
-                let bytes = if single { vec![0, 0xFF, 0x55, random.next() as u8] } else { vec![0, 0xFF] };
+                let bytes = if single { vec![0, 0xFF, 0x55, random.number() as u8] } else { vec![0, 0xFF] };
                 for length in [due.saturating_sub(1), due, due + 1] {
                     for &byte in &bytes {
                         s.call(tally, Call::ReadMap { at: 0, base, n, map: vec![byte; length] })?;
@@ -385,7 +384,7 @@ pub fn windows(tally: &mut Tally, options: Options) -> Outcome {
                 if due < 20 {
                     // What is written is read back elsewhere.
                     s.call(tally, Call::WriteMap { at: 0, base, n, room: 40 })?;
-                    let map = (0..due).map(|_| random.next() as u8).collect();
+                    let map = (0..due).map(|_| random.number() as u8).collect();
                     s.call(tally, Call::ReadMap { at: 0, base, n, map })?;
                     s.call(tally, Call::WriteMap { at: 0, base, n, room: 40 })?;
                 }

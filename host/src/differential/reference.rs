@@ -18,7 +18,7 @@ pub enum Look {
 /// The capacity of a store of that many words, if there is one.
 pub fn capacity(words: usize) -> Option<usize> {
     let c = (words / 8).checked_sub(3)?;
-    (words % 8 == 0 && (1..=65_536).contains(&c)).then_some(c)
+    (words.is_multiple_of(8) && (1..=65_536).contains(&c)).then_some(c)
 }
 
 // What a subtree is found to be.
