@@ -5,7 +5,7 @@ use std::ops::Bound;
 use super::calls::{Call, Range};
 use super::chance::{self, KINDS, Kind};
 use super::random::Random;
-use super::reference::{self, Run};
+use super::reference::{self, Run, Shape};
 use super::{Difference, Options, Sequence, Tally};
 use crate::Operation;
 
@@ -236,8 +236,8 @@ pub fn crafted_stores(tally: &mut Tally, options: Options) -> Outcome {
                 2 => chance::position(&mut random, &runs).wrapping_neg(),
                 _ => random.number(),
             };
-            let even = !random.once_in(8);
-            let words = reference::craft(capacity, &runs, offset, even, &mut random);
+            let shape = if random.once_in(8) { Shape::Any } else { Shape::Even };
+            let words = reference::craft(capacity, &runs, offset, shape, &mut random);
             s.call(tally, Call::Lend { at, words })?;
         }
         for _ in 0..2 {
@@ -444,7 +444,7 @@ pub fn limits(tally: &mut Tally, options: Options) -> Outcome {
     Ok(())
 }
 
-/// The largest capacity: filled to the last run, one more refused, and what it gives to others.
+/// The largest capacity: filled to the last run, one more refused, and what it gives to others; and the deepest trees that there are.
 pub fn large(tally: &mut Tally, options: Options) -> Outcome {
     tally.begin("the largest capacity");
     let mut random = Random::new(options.seed ^ 0x1A);
@@ -463,9 +463,38 @@ pub fn large(tally: &mut Tally, options: Options) -> Outcome {
     }
     s.call(tally, Call::Combine { to: 1, op: Operation::Xor, a: 0, b: 2 })?;
     s.call(tally, Call::Write { at: 1, room: 5 + 16 * LARGEST as usize })?;
+    few_draws(tally, &mut s, &mut random)?;
+    tally.begin("the deepest trees");
+    let runs = &runs[..reference::least(22)[0] as usize];
+    for left in [true, false] {
+        for offset in [0, 1 << 63, random.number()] {
+            let words = reference::craft(runs.len() + 1, runs, offset, Shape::Deepest { left }, &mut random);
+            let mut s = Sequence::new(&[1, LARGEST as usize, 3]);
+            s.call(tally, Call::Lend { at: 0, words })?;
+            s.call(tally, Call::Shifted { to: 1, a: 0, distance: 7, left })?;
+            s.call(tally, Call::Combine { to: 1, op: Operation::Or, a: 0, b: 0 })?;
+            s.call(tally, Call::Equal { a: 0, b: 1 })?;
+            s.call(tally, Call::Not { to: 1, a: 0 })?;
+            s.call(tally, Call::Write { at: 0, room: 6 + 16 * LARGEST as usize })?;
+            few_draws(tally, &mut s, &mut random)?;
+            // Runs taken from the shallow side, so that the balance is mended all the way up.
+            for i in 0..20 {
+                let at = if left { s.world.stores[0].runs.len() - 1 - 3 * i } else { 3 * i };
+                let [start, end] = s.world.stores[0].runs[at];
+                let range = (Bound::Included(start), Bound::Included(end));
+                s.call(tally, Call::Set { at: 0, range, value: false })?;
+            }
+            few_draws(tally, &mut s, &mut random)?;
+        }
+    }
+    Ok(())
+}
+
+// Some reports of a large store: none that lists all of it.
+fn few_draws(tally: &mut Tally, s: &mut Sequence, random: &mut Random) -> Outcome {
     for kind in [Kind::RunAt, Kind::Find, Kind::Count, Kind::Select, Kind::CountRanges, Kind::Draw] {
         for _ in 0..4 {
-            let call = chance::call(&mut random, &s.world, kind, 0);
+            let call = chance::call(random, &s.world, kind, 0);
             s.call(tally, call)?;
         }
     }

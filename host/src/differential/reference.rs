@@ -145,16 +145,41 @@ pub fn is_window(base: u64, n: u64) -> bool {
     (1..=524_288).contains(&n) && u128::from(base) + u128::from(n) <= 1 << 64
 }
 
-// Writes a tree of physical runs into nodes with the numbers given, and tells its link and what it sums up to. Any shape may come
-// out; where `even` says so, the middle is the root, so that the tree keeps the balance.
-fn plant(words: &mut [u64], runs: &[Run], numbers: &[u64], even: bool, random: &mut Random) -> (u64, Sums) {
+/// Which run is the root of a tree of runs, and of each part of it.
+#[derive(Clone, Copy)]
+pub enum Shape {
+    /// One in the middle, so that the tree keeps the balance.
+    Even,
+    /// Any.
+    Any,
+    /// The one that makes the tree as deep as the balance allows, where there are just as many runs as such a tree has.
+    Deepest { left: bool },
+}
+
+/// How many runs the smallest trees of two heights have, that one and the next.
+pub fn least(height: u32) -> [u64; 2] {
+    (0..height).fold([0, 1], |[a, b], _| [b, a + b + 1])
+}
+
+fn root_of(count: u64, shape: Shape, random: &mut Random) -> u64 {
+    match shape {
+        Shape::Even => (count - random.below(2)) / 2,
+        Shape::Any => random.below(count),
+        Shape::Deepest { left } => {
+            let deeper = (0..).map(least).find(|[_, all]| *all >= count).map_or(0, |[side, _]| side);
+            if left { deeper } else { count - 1 - deeper }
+        }
+    }
+}
+
+// Writes a tree of physical runs into nodes with the numbers given, and tells its link and what it sums up to.
+fn plant(words: &mut [u64], runs: &[Run], numbers: &[u64], shape: Shape, random: &mut Random) -> (u64, Sums) {
     if runs.is_empty() {
         return (0, Sums::default());
     }
-    let count = runs.len() as u64;
-    let m = if even { (count - random.below(2)) / 2 } else { random.below(count) } as usize;
-    let (left, l) = plant(words, &runs[..m], &numbers[..m], even, random);
-    let (right, r) = plant(words, &runs[m + 1..], &numbers[m + 1..], even, random);
+    let m = root_of(runs.len() as u64, shape, random) as usize;
+    let (left, l) = plant(words, &runs[..m], &numbers[..m], shape, random);
+    let (right, r) = plant(words, &runs[m + 1..], &numbers[m + 1..], shape, random);
     let [start, end] = runs[m];
     let sums = Sums {
         height: 1 + l.height.max(r.height),
@@ -166,16 +191,16 @@ fn plant(words: &mut [u64], runs: &[Run], numbers: &[u64], even: bool, random: &
     (numbers[m], sums)
 }
 
-/// A store of physical runs, at most C + 2, with nodes, free chain and shape by chance: sound where the runs rise without touching,
+/// A store of physical runs, at most C + 2, with nodes and free chain by chance: sound where the runs rise without touching,
 /// the shape keeps the balance, the logical runs are at most C and the offset is 0 if there are none.
-pub fn craft(capacity: usize, runs: &[Run], offset: u64, even: bool, random: &mut Random) -> Vec<u64> {
+pub fn craft(capacity: usize, runs: &[Run], offset: u64, shape: Shape, random: &mut Random) -> Vec<u64> {
     let mut words = crate::room(capacity);
     let mut numbers: Vec<u64> = (1..=capacity as u64 + 2).collect();
     for i in 1..numbers.len() {
         numbers.swap(i, random.below(i as u64 + 1) as usize);
     }
     let (used, unused) = numbers.split_at(runs.len());
-    let (root, sums) = plant(&mut words, runs, used, even, random);
+    let (root, sums) = plant(&mut words, runs, used, shape, random);
     let mut free = 0;
     for &n in unused {
         words[8 * n as usize + 2] = free;
@@ -185,4 +210,39 @@ pub fn craft(capacity: usize, runs: &[Run], offset: u64, even: bool, random: &mu
     let ends = [held.first().map_or(0, |r| r[0]), held.last().map_or(0, |r| r[1])];
     words[..8].copy_from_slice(&[root, free, offset, sums.ones, sums.runs, ends[0], ends[1], 0]);
     words
+}
+
+#[cfg(test)]
+mod tests {
+    use super::*;
+
+    #[test]
+    fn the_deepest_tree_is_sound() {
+        let [count, more] = least(22);
+        assert_eq!((count, more), (46_367, 75_024));
+        let runs: Vec<Run> = (0..count).map(|i| [3 * i, 3 * i + 1]).collect();
+        let shape = Shape::Deepest { left: true };
+        let words = craft(count as usize, &runs, 5, shape, &mut Random::new(1));
+        assert_eq!(words[8 * words[0] as usize + 4], 22);
+        let up: Vec<Run> = runs.iter().map(|r| r.map(|x| x + 5)).collect();
+        assert_eq!(look(&words), Look::Holds(up));
+    }
+
+    #[test]
+    fn a_run_that_the_offset_parts_is_joined() {
+        // Physical 0..=3 and M − 1..=M, two up: one logical run that starts at 0.
+        let runs = [[0, 3], [u64::MAX - 1, u64::MAX]];
+        assert_eq!(logical(&runs, 2), [[0, 5]]);
+        let words = craft(1, &runs, 2, Shape::Even, &mut Random::new(1));
+        assert_eq!(look(&words), Look::Holds(vec![[0, 5]]));
+    }
+
+    #[test]
+    fn a_written_set_is_read_back() {
+        let runs = vec![[2, 3], [8, 9]];
+        assert_eq!(decode(&encode(&runs)), Ok(runs));
+        assert_eq!(decode(&[2, 0, 0, 0]), Err(Refusal::SetLength));
+        assert_eq!(decode(&[2, 0, 0, 0, 1]), Err(Refusal::SetVersion));
+        assert_eq!(decode(&encode(&[[2, 3], [4, 5]])), Err(Refusal::RunOrder));
+    }
 }
