@@ -10,3 +10,4 @@ pub mod Joins
 pub mod Comparing
 pub mod Lending
 pub mod Drawing
+pub mod Putting
