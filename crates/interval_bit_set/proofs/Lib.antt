@@ -12,3 +12,4 @@ pub mod Comparing
 pub mod Lending
 pub mod Drawing
 pub mod Telling
+pub mod Putting
