@@ -10,3 +10,5 @@ pub mod Joins
 pub mod Comparing
 pub mod Lending
 pub mod Drawing
+pub mod Slices
+pub mod Again

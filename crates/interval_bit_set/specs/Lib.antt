@@ -2,3 +2,4 @@ pub mod Met
 pub mod Look
 pub mod Lent
 pub mod Told
+pub mod RunSlice

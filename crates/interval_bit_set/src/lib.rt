@@ -7,3 +7,4 @@ pub mod listing;
 pub mod look;
 pub mod make;
 pub mod report;
+pub mod runs;
