@@ -13,3 +13,5 @@ pub mod Lending
 pub mod Drawing
 pub mod Telling
 pub mod Putting
+pub mod Slices
+pub mod Again

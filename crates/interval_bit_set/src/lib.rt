@@ -8,3 +8,4 @@ pub mod look;
 pub mod make;
 pub mod report;
 pub mod write;
+pub mod runs;
