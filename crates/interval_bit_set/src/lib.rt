@@ -7,5 +7,5 @@ pub mod listing;
 pub mod look;
 pub mod make;
 pub mod report;
-pub mod write;
 pub mod runs;
+pub mod write;
