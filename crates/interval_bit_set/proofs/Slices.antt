@@ -29,7 +29,8 @@ use Rattle.interval_bit_set.specs.declared.runs.Order.{Order}
 use Rattle.interval_bit_set.specs.declared.runs.Verdict.{Verdict}
 use Rattle.interval_bit_set.specs.Met.{outcomeOf, Met}
 use Rattle.interval_bit_set.specs.RunSlice.{orderStep, InOrder, Refuses, Rules, Admits, Putting, Put, LinkableIf, Finishing, LinksIf, Finished}
-use Rattle.interval_bit_set.proofs.Carrying.{Overwrites, earlier, own-short, refused-early, over-full, overwritten}
+use Rattle.interval_bit_set.proofs.Carrying.{build-says, own-short, refused-early, over-full, overwritten}
+use Rattle.interval_bit_set.proofs.Refusing.{earlier}
 
 -- ---- the order test
 -- where it starts
@@ -104,11 +105,6 @@ put-all {w} {w′} {rs} {i} {n} le ge p =
     let e : i ≡ n = omega arith in subst (Put w w′ rs) e p
 
 -- ---- the call
--- it overwrites the store by the list's positions, if they are in order
-build-says : (w : List ℕ) (rs : List Run) → Overwrites w (Call.build rs) (runOrder when disordered rs ∷ []) (mem rs)
-unfolding outcomeOf serve
-build-says w rs = record { said = refl }
-
 -- 5, by the order test
 disordered-is : (rs : List Run) {b : Bool} → orderedFrom 0 rs ≡ b → disordered rs ≡ not b
 unfolding disordered
