@@ -11,3 +11,5 @@ pub mod Comparing
 pub mod Lending
 pub mod Drawing
 pub mod Putting
+pub mod Again
+pub mod Handing
