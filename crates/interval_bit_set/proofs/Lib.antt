@@ -15,3 +15,5 @@ pub mod Telling
 pub mod Putting
 pub mod Slices
 pub mod Again
+pub mod Again
+pub mod Handing
