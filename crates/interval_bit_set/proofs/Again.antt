@@ -1,11 +1,5 @@
 -- A `&κ mut [T]` that is lent again for a lifetime κ′ of a call, and comes back. Meanwhile its holder keeps the lender's part at κ′, and
 -- its own borrow at κ, open, with both halves of its ghost variable. Assumes nothing but the logic's own laws, which each walk is given.
--- A `&mut [T]` of lifetime κ that is lent again for a lifetime κ′ of a call, and comes back.
---     LentAgain        what the holder keeps while the slice is lent again under the name γ₁: the lender's part at κ′, and its own borrow at κ,
---                      open, with both halves of its ghost variable
---     lends-again      the slice with the token of κ becomes the slice at κ′, under a new name, and LentAgain
---     comes-back       once κ′ is dead, LentAgain and what says the slice's last list zs become the slice at κ, at zs, if zs is as long
--- It says nothing of the crate. Assumes `Given`.
 use mathlib.Core.Path.{_≡_, sym, ap, subst}
 use Prim.Native.Nat.{ℕ}
 use mathlib.Core.List.{List, [], _∷_}
@@ -34,9 +28,6 @@ module _ (R : RattleType) (κ κ′ : Lft) (q : Share) (γ : GName) (b o : ℕ) 
   at-list δ ys = record { ptr = (b, o); name = δ; now = ys }
 
   -- what its holder keeps while it is lent again under the name γ₁
-  abbrev at-list : GName → List (R .Denot) → RefT (List (R .Denot))
-  at-list δ ys = record { ptr = (b, o); name = δ; now = ys }
-
   abbrev pub LentAgain : GName → List (R .Denot) → Fml
   LentAgain γ₁ ys = fsep (flent κ′ (Held R (length ys) b o γ₁)) (fsep (fobor κ q (Held R (length ys) b o γ)) (fsep (fobs γ (codedHoleys R .code (heres R ys))) (fauth γ (codedHoleys R .code (heres R ys)))))
 

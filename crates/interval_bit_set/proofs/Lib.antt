@@ -15,5 +15,4 @@ pub mod Telling
 pub mod Putting
 pub mod Slices
 pub mod Again
-pub mod Again
 pub mod Handing
