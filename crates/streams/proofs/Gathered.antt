@@ -20,14 +20,14 @@ use Rattle.run_index.specs.declared.Node.{Node}
 use Rattle.run_index.specs.Cells.{cellAt, Room, Wrote}
 use Rattle.run_index.specs.Shape.{runsAt}
 use Rattle.store.specs.Layout.{capacity, turned, physicalRuns}
-use Rattle.store.specs.Settle.{Settled, Linkable, Links}
+use Rattle.store.specs.Settle.{Settled, nodeOf, Linkable, Links}
 use Rattle.store.proofs.Nodes.{sized-length}
 use Rattle.streams.specs.declared.source.Source.{Source}
 use Rattle.streams.specs.declared.sweep.Joint.{Joint}
 use Rattle.streams.specs.declared.gather.Feed.{Feed}
 use Rattle.streams.specs.Reading.{Reads}
 use Rattle.streams.specs.Sweeping.{Both, Jointly, NextJoint}
-use Rattle.streams.specs.Gathering.{offsetOf, fedBy, Ordered, Sources, nodeOf, Filled}
+use Rattle.streams.specs.Gathering.{offsetOf, fedBy, Ordered, Sources, Filled}
 use Rattle.streams.specs.Streamed.{Streaming, stream-none, stream-all, stream-some, stream-last, stream-more}
 
 -- ---- the two feeds

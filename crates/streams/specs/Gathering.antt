@@ -5,7 +5,6 @@ use mathlib.Core.List.{List, [], _∷_}
 use lib.ListN.{length}
 use Rattle.model.specs.declared.Operation.{Operation}
 use Rattle.model.specs.Positions.{Positions, run, mem, combined, heldRuns, stretches}
-use Rattle.run_index.specs.declared.Node.{Node}
 use Rattle.run_index.specs.Shape.{runsAt}
 use Rattle.store.specs.Layout.{capacity, turned, physicalRuns}
 use Rattle.store.specs.Soundness.{Sound}
@@ -36,10 +35,6 @@ pub record Gatherable (w : List ℕ) (op : Operation) (x : List ℕ) (fx : Feed)
   pub sources : Sources x fx y fy
   pub sized : 1 ≤ capacity w
   pub fits : stretches (combined op (fedBy fx x) (fedBy fy y)) ≤ capacity w
-
--- a node with a run and nothing else
-abbrev pub nodeOf : ℕ → ℕ → Node
-nodeOf a b = record { start = a; «end» = b; left = 0; right = 0; height = 0; runs = 0; ones = 0; tag = 0 }
 
 -- the nodes 1 .. n hold the runs of Q
 pub record Filled (w w′ : List ℕ) (n : ℕ) (Q : Positions) : Type 0 where

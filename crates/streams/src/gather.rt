@@ -6,11 +6,9 @@ ghost use Rattle.model.specs.Positions.{combined, stretches};
 ghost use Rattle.store.specs.Settle.{Settled};
 ghost use Rattle.store.specs.Soundness.{Sound};
 ghost use Rattle.streams.specs.Reading.{Reads};
-ghost use Rattle.run_index.specs.Cells.{Room, Wrote};
-ghost use Rattle.streams.specs.Gathering.{offsetOf, fedBy, Ordered, Sources, Gatherable, nodeOf, Filled};
+ghost use Rattle.streams.specs.Gathering.{offsetOf, fedBy, Ordered, Sources, Gatherable, Filled};
 use crate::source::Source;
 use model::Operation;
-use run_index::Node;
 
 // What is read: the runs of a store under an offset, or one run whatever the store holds.
 pub enum Feed {
@@ -69,27 +67,6 @@ pub fn fits(op: Operation, x: &[u64], fx: Feed, y: &[u64], fy: Feed, limit: u64)
     true
 }
 
-// Writes a run into a node.
-fn put(into: &mut [u64], n: u64, start: u64, end: u64)
-    requires { ⌜ Room (now into) n ⌝ }
-    ensures { λ _. ⌜ Wrote (now (into .entry)) (now (into .exit)) n (nodeOf start «end») ⌝ }
-{
-    run_index::write_node(
-        into,
-        n,
-        Node {
-            start: start,
-            end: end,
-            left: 0,
-            right: 0,
-            height: 0,
-            runs: 0,
-            ones: 0,
-            tag: 0,
-        },
-    );
-}
-
 // Writes the runs of two feeds joined into the nodes 1, 2, … in order, and tells how many there are.
 fn fill(into: &mut [u64], op: Operation, x: &[u64], fx: Feed, y: &[u64], fy: Feed) -> u64
     requires { ⌜ Gatherable (now into) op (now x) fx (now y) fy ⌝ }
@@ -105,7 +82,7 @@ fn fill(into: &mut [u64], op: Operation, x: &[u64], fx: Feed, y: &[u64], fy: Fee
     let mut n: u64 = 0;
     while j.found {
         n += 1;
-        put(into, n, j.start, j.end);
+        store::settle::put_run(into, n, j.start, j.end);
         if j.end == u64::MAX {
             return n;
         }

@@ -49,14 +49,14 @@ loop-holds c = λ Q R h. fill-none refl h
 add-n : tie.Need-add-n Inv-loop μ-loop
 add-n c = omega (arith, fill-few (filling (c .before)) (c .loop-test .taken) (c .before .before .before .before .before .before .before .before .before .before .before .before .before .before .pre .sized) (c .before .before .before .before .before .before .before .before .before .before .before .before .before .before .pre .fits))
 
-put-requires : tie.Need-put-requires Inv-loop μ-loop
-put-requires c κs = fill-room (filling (c .before .before)) (c .before .loop-test .taken) (c .before .before .before .before .before .before .before .before .before .before .before .before .before .before .before .pre .sized) (c .before .before .before .before .before .before .before .before .before .before .before .before .before .before .before .pre .fits)
+put-run-requires : tie.Need-put-run-requires Inv-loop μ-loop
+put-run-requires c κs = fill-room (filling (c .before .before)) (c .before .loop-test .taken) (c .before .before .before .before .before .before .before .before .before .before .before .before .before .before .before .pre .sized) (c .before .before .before .before .before .before .before .before .before .before .before .before .before .before .before .pre .fits)
 
 same-length : tie.Need-same-length Inv-loop μ-loop
-same-length c = c .before .before .before .before .put .ensures .long ∙ filling (c .before .before .before .before .before .before .before) .long
+same-length c = c .before .before .before .before .put-run .ensures .long ∙ filling (c .before .before .before .before .before .before .before) .long
 
 returns : tie.Need-returns Inv-loop μ-loop
-returns c = fill-last (filling (c .before .before .before .before .before .before .before)) (c .before .before .before .before .before .before .loop-test .taken) (c .before .before .before .before .put .ensures) (c .if1 .taken)
+returns c = fill-last (filling (c .before .before .before .before .before .before .before)) (c .before .before .before .before .before .before .loop-test .taken) (c .before .before .before .before .put-run .ensures) (c .if1 .taken)
 
 add-next-run : tie.Need-add-next-run Inv-loop μ-loop
 add-next-run c = omega (arith, stream-after (filling (c .before .before .before .before .before .before .before .before .before .before .before .before) .stream) (c .before .before .before .before .before .before .before .before .before .before .before .loop-test .taken) (c .before .before .before .before .before .if1 .left))
@@ -68,7 +68,7 @@ loop-less : tie.Need-loop-less Inv-loop μ-loop
 loop-less c = omega (arith, fill-room (filling (c .before .before .before .before .before .before .before .before .before .before .before .before .before)) (c .before .before .before .before .before .before .before .before .before .before .before .before .loop-test .taken) (c .before .before .before .before .before .before .before .before .before .before .before .before .before .before .before .before .before .before .before .before .before .before .before .before .before .before .pre .sized) (c .before .before .before .before .before .before .before .before .before .before .before .before .before .before .before .before .before .before .before .before .before .before .before .before .before .before .pre .fits), filling (c .before .before .before .before .before .before .before .before .before .before .before .before .before) .long)
 
 loop-again : tie.Need-loop-again Inv-loop μ-loop
-loop-again c = λ Q R h. fill-more (c .before .before .before .before .before .before .before .before .before .before .before .before .before .loop .inv Q R h) (c .before .before .before .before .before .before .before .before .before .before .before .before .loop-test .taken) (c .before .before .before .before .before .before .before .before .before .before .put .ensures) (c .before .before .before .before .before .before .if1 .left) (c .next-run2 .ensures)
+loop-again c = λ Q R h. fill-more (c .before .before .before .before .before .before .before .before .before .before .before .before .before .loop .inv Q R h) (c .before .before .before .before .before .before .before .before .before .before .before .before .loop-test .taken) (c .before .before .before .before .before .before .before .before .before .before .put-run .ensures) (c .before .before .before .before .before .before .if1 .left) (c .next-run2 .ensures)
 
 same-length-2 : tie.Need-same-length-2 Inv-loop μ-loop
 same-length-2 c = filling (c .before) .long
@@ -89,7 +89,7 @@ fill-spec =
     next-run-requires
     loop-holds
     add-n
-    put-requires
+    put-run-requires
     same-length
     returns
     add-next-run
