@@ -1,11 +1,9 @@
-// Writing a store's set, and the map of a window, into the front of a lent slice. First the calls that tell how many bytes they wrote; then
-// the same calls handing back the part that they filled.
+// Writing a store's set, and the map of a window, into the front of a lent slice.
 ghost use mathlib.Core.Path.{_≡_};
 ghost use Prim.Native.Nat.{_≤_};
 ghost use lib.ListN.{length, take};
 ghost use Rattle.model.specs.Call.{Call};
-ghost use Rattle.interval_bit_set.specs.Met.{outcomeOf};
-ghost use Rattle.interval_bit_set.specs.Out.{WritesOut, codeOf, frontOf, flatOf};
+ghost use Rattle.interval_bit_set.specs.Out.{WritesOut, flatOf};
 use crate::look::Look;
 use model::Refusal;
 use model::Written;
@@ -77,40 +75,4 @@ fn front<'a>(out: &'a mut [u8], n: usize) -> &'a mut [u8]
     ensures { λ r. ⌜ (now r ≡ take n (now (out .entry))) × (r .ptr ≡ out .entry .ptr) ⌝ }
 {
     &mut out[..n]
-}
-
-// A refusal's number and no part, or 0 and the part that was filled.
-pub struct Filled<'a> {
-    pub refusal: u64,
-    pub part: &'a mut [u8],
-}
-
-// Writes a store's set, and hands back the part of the slice that it fills.
-pub fn written_set<'a>(words: &[u64], out: &'a mut [u8]) -> Filled<'a>
-    ensures { λ r. ⌜ (r .refusal ≡ codeOf (outcomeOf (now (words .entry)) (Call.writeSet (now (out .entry))) .answer))
-        × (now (r .part) ≡ frontOf (outcomeOf (now (words .entry)) (Call.writeSet (now (out .entry))) .answer))
-        × (r .part .ptr ≡ out .entry .ptr) ⌝ }
-{
-    let w = write_set(words, out);
-    let f = flattened(w);
-    let n = f.bytes;
-    Filled {
-        refusal: f.refusal,
-        part: front(out, n),
-    }
-}
-
-// Writes the map of a window, and hands back the part of the slice that it fills.
-pub fn written_map<'a>(words: &[u64], base: u64, n: u64, out: &'a mut [u8]) -> Filled<'a>
-    ensures { λ r. ⌜ (r .refusal ≡ codeOf (outcomeOf (now (words .entry)) (Call.writeMap base n (now (out .entry))) .answer))
-        × (now (r .part) ≡ frontOf (outcomeOf (now (words .entry)) (Call.writeMap base n (now (out .entry))) .answer))
-        × (r .part .ptr ≡ out .entry .ptr) ⌝ }
-{
-    let w = write_map(words, base, n, out);
-    let f = flattened(w);
-    let m = f.bytes;
-    Filled {
-        refusal: f.refusal,
-        part: front(out, m),
-    }
 }
