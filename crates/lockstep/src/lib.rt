@@ -14,7 +14,7 @@ pub struct Sets {
 }
 
 // Two histories that come to the same positions: the first store gets them by one set, the second by a set further down and a left shift,
-// so that its offset is another. Then both write their sets: they are the same bytes.
+// which moves its offset. Then both write their sets: they are the same bytes.
 pub fn play_both(
     a: &mut [u64],
     b: &mut [u64],
