@@ -1,3 +1,5 @@
 pub mod Met
 pub mod Look
 pub mod Lent
+pub mod Told
+pub mod Out

@@ -1,0 +1,78 @@
+// Writing a store's set, and the map of a window, into the front of a lent slice.
+ghost use mathlib.Core.Path.{_≡_};
+ghost use Prim.Native.Nat.{_≤_};
+ghost use lib.ListN.{length, take};
+ghost use Rattle.model.specs.Call.{Call};
+ghost use Rattle.interval_bit_set.specs.Out.{WritesOut, flatOf};
+use crate::look::Look;
+use model::Refusal;
+use model::Written;
+
+// Writes a store's set, and tells how many bytes it has.
+pub fn write_set(words: &[u64], out: &mut [u8]) -> Written
+    ensures { λ r. ⌜ WritesOut Call.writeSet (now (words .entry)) (now (out .entry)) r (now (out .exit)) ⌝ }
+{
+    let l = crate::look::look_at(words);
+    match l {
+        Look::Refused(r) => Written::Refused(r),
+        Look::Sound => {
+            let n = written::set::run_count(words);
+            let due = 5 + 16 * (n as usize);
+            if out.len() < due {
+                return Written::Refused(Refusal::OutputShort);
+            }
+            written::write::write_set(words, out);
+            Written::Bytes(due)
+        }
+    }
+}
+
+// Writes the map of a window, and tells how many bytes it has.
+pub fn write_map(words: &[u64], base: u64, n: u64, out: &mut [u8]) -> Written
+    ensures { λ r. ⌜ WritesOut (Call.writeMap base n) (now (words .entry)) (now (out .entry)) r (now (out .exit)) ⌝ }
+{
+    let l = crate::look::look_at(words);
+    match l {
+        Look::Refused(r) => Written::Refused(r),
+        Look::Sound => {
+            if !crate::report::window_fits(base, n) {
+                return Written::Refused(Refusal::Window);
+            }
+            let due = ((n + 7) / 8) as usize;
+            if out.len() < due {
+                return Written::Refused(Refusal::OutputShort);
+            }
+            maps::write::write_map(words, base, n, out);
+            Written::Bytes(due)
+        }
+    }
+}
+
+// A refusal's number, or 0, and how many bytes were written.
+pub struct Flat {
+    pub refusal: u64,
+    pub bytes: usize,
+}
+
+fn flattened(w: Written) -> Flat
+    ensures { λ r. ⌜ r ≡ flatOf w ⌝ }
+{
+    match w {
+        Written::Refused(r) => Flat {
+            refusal: model::refusal_number(r),
+            bytes: 0,
+        },
+        Written::Bytes(n) => Flat {
+            refusal: 0,
+            bytes: n,
+        },
+    }
+}
+
+// The front part of a slice.
+fn front<'a>(out: &'a mut [u8], n: usize) -> &'a mut [u8]
+    requires { ⌜ n ≤ length (now out) ⌝ }
+    ensures { λ r. ⌜ (now r ≡ take n (now (out .entry))) × (r .ptr ≡ out .entry .ptr) ⌝ }
+{
+    &mut out[..n]
+}
