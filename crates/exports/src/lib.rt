@@ -1,9 +1,12 @@
 // The library as C sees it: every public call, on numbers, slices (a pointer and a count) and structs of numbers. include/vizturel.h
 // documents them one by one.
 ghost use mathlib.Core.Path.{_≡_};
+ghost use Prim.Native.Nat.{_/_};
+ghost use lib.ListN.{length};
+ghost use Rattle.written.specs.Listed.{pairs};
 ghost use Rattle.model.specs.Call.{Call};
 ghost use Rattle.interval_bit_set.specs.Met.{Met};
-ghost use Rattle.exports.specs.Flat.{boundOf, operationOf, truth, listingOf, doneAnswer, countAnswer, numberAnswer, valueAnswer, runAnswer, positionAnswer, listedAnswer, drawnAnswer};
+ghost use Rattle.exports.specs.Flat.{boundOf, operationOf, truth, listingOf, doneAnswer, countAnswer, numberAnswer, valueAnswer, runAnswer, positionAnswer, listedAnswer, drawnAnswer, WritesFlat};
 use crate::flat::CBound;
 use crate::flat::CCount;
 use crate::flat::CDrawn;
@@ -12,6 +15,7 @@ use crate::flat::CNumber;
 use crate::flat::CPosition;
 use crate::flat::CRun;
 use crate::flat::CValue;
+use crate::flat::CWritten;
 use model::Listing;
 
 pub mod flat;
@@ -238,4 +242,43 @@ pub extern "C" fn vizturel_eq(words: &[u64], b: &[u64]) -> CValue
     ensures { λ r. ⌜ Met (now (words .entry)) (Call.equal (now (b .entry))) (valueAnswer r) (now (words .entry)) ⌝ }
 {
     crate::flat::tested(interval_bit_set::carry::eq(words, b))
+}
+// Makes the store that a written set tells.
+#[no_mangle]
+pub extern "C" fn vizturel_load(words: &mut [u64], bytes: &[u8]) -> u64
+    ensures { λ r. ⌜ Met (now (words .entry)) (Call.load (now (bytes .entry))) (doneAnswer r) (now (words .exit)) ⌝ }
+{
+    crate::flat::completed(interval_bit_set::bytes::load(words, bytes))
+}
+
+// Makes the store of a run list: start and end of each run, in turn.
+#[no_mangle]
+pub extern "C" fn vizturel_build(words: &mut [u64], runs: &[u64]) -> u64
+    ensures { λ r. ⌜ Met (now (words .entry)) (Call.build (pairs (length (now (runs .entry)) / 2) (now (runs .entry)))) (doneAnswer r) (now (words .exit)) ⌝ }
+{
+    crate::flat::completed(interval_bit_set::bytes::from_sorted_words(words, runs))
+}
+
+// Sets a window from a map, and tells how many positions changed.
+#[no_mangle]
+pub extern "C" fn vizturel_read_map(words: &mut [u64], base: u64, n: u64, bytes: &[u8]) -> CCount
+    ensures { λ r. ⌜ Met (now (words .entry)) (Call.readMap base n (now (bytes .entry))) (countAnswer r) (now (words .exit)) ⌝ }
+{
+    crate::flat::counted(interval_bit_set::bytes::read_map(words, base, n, bytes))
+}
+
+// Writes a store's set into the front of a slice, and tells how many bytes it has.
+#[no_mangle]
+pub extern "C" fn vizturel_write(words: &[u64], out: &mut [u8]) -> CWritten
+    ensures { λ r. ⌜ WritesFlat Call.writeSet (now (words .entry)) (now (out .entry)) r (now (out .exit)) ⌝ }
+{
+    crate::flat::written(interval_bit_set::write::write_set(words, out))
+}
+
+// Writes the map of a window into the front of a slice, and tells how many bytes it has.
+#[no_mangle]
+pub extern "C" fn vizturel_write_map(words: &[u64], base: u64, n: u64, out: &mut [u8]) -> CWritten
+    ensures { λ r. ⌜ WritesFlat (Call.writeMap base n) (now (words .entry)) (now (out .entry)) r (now (out .exit)) ⌝ }
+{
+    crate::flat::written(interval_bit_set::write::write_map(words, base, n, out))
 }
