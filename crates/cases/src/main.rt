@@ -1,5 +1,7 @@
 // Document 01's sixteen cases through the public calls: a line for each, with what the calls answer, in the document's order.
 // A run is its start and end with two dots between, both in it. The stores have capacity 13, or 1 where the case says so.
+ghost use Prim.Native.Nat.{_<_};
+ghost use lib.ListN.{length};
 use interval_bit_set::bytes;
 use interval_bit_set::carry;
 use interval_bit_set::change;
@@ -96,17 +98,23 @@ fn found(f: Found) {
     }
 }
 
-fn hexes(out: &[u8; 37], n: usize) {
+fn byte(out: &[u8], i: usize) -> u64
+    requires { ⌜ i < length (now out) ⌝ }
+{
+    out[i] as u64
+}
+
+fn hexes(out: &[u8], n: usize) {
     let mut i: usize = 0;
     while i < n {
-        if i < 37 {
-            io::print_hex(1, out[i] as u64, 2);
+        if i < out.len() {
+            io::print_hex(1, byte(out, i), 2);
         }
         i += 1;
     }
 }
 
-fn written(w: Written, out: &[u8; 37]) {
+fn written(w: Written, out: &[u8]) {
     match w {
         Written::Refused(r) => refused(r),
         Written::Bytes(n) => {
@@ -235,10 +243,8 @@ fn case_8(s: &mut [u64]) {
     end_line();
 }
 
-fn case_9(s: &mut [u64], a: &mut [u64], b: &mut [u64]) {
+fn case_9(s: &mut [u64], a: &[u64], b: &[u64]) {
     line(9);
-    only(a, 2, 7);
-    only(b, 5, 9);
     completed(carry::combine(s, Operation::And, a, b));
     counts(s);
     completed(carry::combine(s, Operation::Or, a, b));
@@ -335,7 +341,9 @@ fn main() {
     case_6(&mut s);
     case_7(&mut s);
     case_8(&mut s);
-    case_9(&mut s, &mut a, &mut b);
+    only(&mut a, 2, 7);
+    only(&mut b, 5, 9);
+    case_9(&mut s, &a, &b);
     case_10(&mut s);
     case_11(&mut s);
     case_12(&mut s);

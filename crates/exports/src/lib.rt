@@ -11,7 +11,6 @@ use crate::flat::CBound;
 use crate::flat::CCount;
 use crate::flat::CDrawn;
 use crate::flat::CListed;
-use crate::flat::CListing;
 use crate::flat::CNumber;
 use crate::flat::CPosition;
 use crate::flat::CRun;
@@ -244,7 +243,6 @@ pub extern "C" fn vizturel_eq(words: &[u64], b: &[u64]) -> CValue
 {
     crate::flat::tested(interval_bit_set::carry::eq(words, b))
 }
-
 // Makes the store that a written set tells.
 #[no_mangle]
 pub extern "C" fn vizturel_load(words: &mut [u64], bytes: &[u8]) -> u64

@@ -3,7 +3,7 @@
 -- are any that come before too many runs in the order of refusals. Assumes nothing.
 use Prim.Native.Nat.{ℕ, _≤_, _<_}
 use mathlib.Core.Path.{_≡_, refl, sym, ap, ap₂, _∙_, subst}
-use mathlib.Core.Bool.{Bool, true, false, cond, not}
+use mathlib.Core.Bool.{Bool, true, false, not}
 use mathlib.Core.List.{List, [], _∷_, _++_}
 use mathlib.Core.Option.{Option, none, some}
 use native.Mathlib.Omega.{arith}
@@ -11,11 +11,13 @@ use lib.Dec.{leb}
 use borrow.Author.Tests.{leb-true, leb-false, not-true, not-false}
 use Rattle.model.specs.declared.Completed.{Completed}
 use Rattle.model.specs.declared.Operation.{Operation}
+use Rattle.model.specs.declared.Run.{Run}
 use Rattle.model.specs.Numbers.{size}
 use Rattle.model.specs.Places.{capacityOf}
-use Rattle.model.specs.Positions.{Positions, empty, bounded, stretches, combined, complemented, shiftBy}
-use Rattle.model.specs.Refusals.{Cause, storeLength, storeUnsound, window, setShort, setVersion, setLength, runOrder, outputShort, Condition, _when_, given, firstGiven, numberOf, refusal, earnsLength, tooMany}
+use Rattle.model.specs.Positions.{Positions, empty, bounded, stretches, combined, complemented, shiftBy, mem}
+use Rattle.model.specs.Refusals.{storeLength, runOrder, Condition, _when_, firstGiven, refusal, earnsLength, disordered, tooMany}
 use Rattle.model.specs.Refusals
+use Rattle.model.specs.Bytes.{decode}
 use Rattle.model.specs.Call.{Fed, wrongLength, Call, refused, done}
 use Rattle.model.specs.Answers.{completedAnswer}
 use Rattle.model.specs.Model.{positionsOf, reads, settle, overwrite, serve}
@@ -26,51 +28,14 @@ use Rattle.changes.specs.Edits.{Fitted}
 use Rattle.changes.specs.Neighbours.{stretches-cong}
 use Rattle.interval_bit_set.specs.Met.{fedOf, outcomeOf, Met}
 use Rattle.interval_bit_set.specs.Look.{completedBy}
+use Rattle.interval_bit_set.specs.Told.{setConditions}
 use Rattle.interval_bit_set.proofs.Meeting.{met-by, fed-short, fed-sized}
+use Rattle.interval_bit_set.proofs.Refusing.{earlier, refused-before, refused-full}
 use Rattle.interval_bit_set.proofs.Changing.{fits-few, fits-not, bounded-is}
 
 -- the call c has the conditions cs, and overwrites the store by Q
 pub record Overwrites (w : List ℕ) (c : Call (List ℕ)) (cs : List Condition) (Q : Positions) : Type 0 where
   pub said : outcomeOf w c ≡ overwrite (capacity w) (fedOf w) cs Q
-
--- ---- the order of refusals
--- the causes before too many runs; the conditions of no call that overwrites have another
-abbrev pub earlier : List Cause
-earlier = storeLength ∷ storeUnsound ∷ window ∷ setShort ∷ setVersion ∷ setLength ∷ runOrder ∷ []
-
--- and those from there on
-abbrev later : List Cause
-later = Refusals.capacity ∷ outputShort ∷ []
-
--- what the first causes give is given
-first-some : (ks js : List Cause) (cs : List Condition) (n : ℕ) → firstGiven ks cs ≡ some n → firstGiven (ks ++ js) cs ≡ some n
-first-some [] js cs n e = let z : _≡_ {A = ℕ} 0 1 = cc in absurd (omega arith)
-first-some (k ∷ ks) js cs n e = go (given k cs) (first-some ks js cs n) e
-  where
-    go : (b : Bool) → (firstGiven ks cs ≡ some n → firstGiven (ks ++ js) cs ≡ some n) → cond b (some (numberOf k)) (firstGiven ks cs) ≡ some n
-        → cond b (some (numberOf k)) (firstGiven (ks ++ js) cs) ≡ some n
-    go true f p = p
-    go false f p = f p
-
--- where they give nothing, the others count
-first-none : (ks js : List Cause) (cs : List Condition) → firstGiven ks cs ≡ none → firstGiven (ks ++ js) cs ≡ firstGiven js cs
-first-none [] js cs e = refl
-first-none (k ∷ ks) js cs e = go (given k cs) (first-none ks js cs) e
-  where
-    go : (b : Bool) → (firstGiven ks cs ≡ none → firstGiven (ks ++ js) cs ≡ firstGiven js cs) → cond b (some (numberOf k)) (firstGiven ks cs) ≡ none
-        → cond b (some (numberOf k)) (firstGiven (ks ++ js) cs) ≡ firstGiven js cs
-    go true f p = let z : _≡_ {A = ℕ} 0 1 = cc in absurd (omega arith)
-    go false f p = f p
-
--- where all give nothing, they do
-all-none : (ks js : List Cause) (cs : List Condition) → firstGiven (ks ++ js) cs ≡ none → firstGiven ks cs ≡ none
-all-none [] js cs e = refl
-all-none (k ∷ ks) js cs e = go (given k cs) (all-none ks js cs) e
-  where
-    go : (b : Bool) → (firstGiven (ks ++ js) cs ≡ none → firstGiven ks cs ≡ none) → cond b (some (numberOf k)) (firstGiven (ks ++ js) cs) ≡ none
-        → cond b (some (numberOf k)) (firstGiven ks cs) ≡ none
-    go true f p = p
-    go false f p = f p
 
 -- ---- what overwriting refuses, by what the store is fed as
 -- its own length comes first, whatever the conditions are
@@ -87,13 +52,11 @@ module _ (C : ℕ) (s : Fed) (cs : List Condition) (Q : Positions) (sized : earn
 
   -- the conditions come before that
   overwrite-early : (n : ℕ) → firstGiven earlier cs ≡ some n → overwrite C s cs Q ≡ record { answer = refused n; positions = positionsOf s }
-  overwrite-early n e =
-      overwrite-by (tooMany C Q) (some n) refl (first-some earlier later (Refusals.capacity when tooMany C Q ∷ cs) n e)
+  overwrite-early n e = overwrite-by (tooMany C Q) (some n) refl (refused-before cs (tooMany C Q) e)
 
   -- then too many runs
   overwrite-full : refusal cs ≡ none → C < stretches Q → overwrite C s cs Q ≡ record { answer = refused 8; positions = positionsOf s }
-  overwrite-full e h =
-      overwrite-by true (some 8) (fits-not C Q h) (first-none earlier later (Refusals.capacity when true ∷ cs) (all-none earlier later cs e))
+  overwrite-full e h = overwrite-by true (some 8) (fits-not C Q h) (refused-full cs e)
 
   -- and else Q is held
   overwrite-done : refusal cs ≡ none → stretches Q ≤ C → overwrite C s cs Q ≡ record { answer = done; positions = bounded Q }
@@ -156,3 +119,13 @@ module _ (w : List ℕ) where
   pub shifted-says : (d : ℕ) (left : Bool) (a : List ℕ) → Overwrites w (Call.shifted d left a) (reads (fedOf a)) (shiftBy d left (positionsOf (fedOf a)))
   unfolding outcomeOf serve
   shifted-says d left a = record { said = refl }
+
+  -- what bytes tell
+  pub load-says : (bs : List ℕ) → Overwrites w (Call.load bs) (setConditions bs) (mem (decode bs))
+  unfolding outcomeOf serve
+  load-says bs = record { said = refl }
+
+  -- a run list
+  pub build-says : (rs : List Run) → Overwrites w (Call.build rs) (runOrder when disordered rs ∷ []) (mem rs)
+  unfolding outcomeOf serve
+  build-says rs = record { said = refl }

@@ -1,10 +1,12 @@
--- Calls that change a store where it stands meet their contract: refused by what looking tells or by too many runs, and else the store
--- holds the model's set. Each is the model's `change`, at the words' capacity and soundness. Assumes nothing.
+-- Calls that change a store where it stands meet their contract: refused by what looking tells, then by their conditions, then by too
+-- many runs, and else the store holds the model's set. Each is the model's `change`, at the words' capacity and soundness.
+-- Assumes nothing.
 use Prim.Native.Nat.{ℕ, suc, _-_, _≤_, _<_}
 use mathlib.Core.Path.{_≡_, refl, sym, ap, _∙_, subst, fun-ext}
 use mathlib.Core.Logic.{_⊎_, inl, inr}
 use mathlib.Core.Bool.{Bool, true, false, not, _&&_}
-use mathlib.Core.List.{List, []}
+use mathlib.Core.List.{List, [], _∷_}
+use mathlib.Core.Option.{Option, none, some}
 use native.Mathlib.Omega.{arith}
 use borrow.Author.Tests.{lt-ltb, le-ltb}
 use Rattle.model.specs.declared.Bound.{Bound}
@@ -15,9 +17,11 @@ use Rattle.model.specs.Places.{capacityOf}
 use Rattle.model.specs.Range.{firstAllowed, extent}
 use Rattle.model.specs.Positions.{Positions, empty, bounded, stretches, changes, setRange, flipRange, shiftBy}
 use Rattle.model.specs.After.{set-below, set-above, flip-below, flip-above, changes-set}
-use Rattle.model.specs.Refusals.{tooMany}
+use Rattle.model.specs.Bytes.{mapped}
+use Rattle.model.specs.Refusals.{storeLength, Condition, _when_, given, firstGiven, refusal, tooMany}
+use Rattle.model.specs.Refusals
 use Rattle.model.specs.Call.{Fed, wrongLength, unsound, holding, Call, Answer, refused, done, number}
-use Rattle.model.specs.Model.{positionsOf, change, changed, serve}
+use Rattle.model.specs.Model.{positionsOf, settle, change, changed, serve}
 use Rattle.store.specs.Layout.{capacity, heldBy}
 use Rattle.store.specs.Soundness.{Sound}
 use Rattle.store.specs.Settle.{Settled}
@@ -29,11 +33,14 @@ use Rattle.interval_bit_set.specs.declared.look.Look.{Look}
 use Rattle.interval_bit_set.specs.Met.{fedOf, outcomeOf, Met}
 use Rattle.interval_bit_set.specs.Look.{Earned, Readable, Looked}
 use Rattle.interval_bit_set.proofs.Meeting.{met-by, Plain, leaves}
+use Rattle.interval_bit_set.proofs.Refusing.{earlier, refused-before, refused-full}
+use Rattle.interval_bit_set.proofs.Windows.{mapConditions}
 use Rattle.interval_bit_set.proofs.Spans.{Within, of-range, count-nothing}
 
--- the call c changes the positions held to Q of them, and answers A of them
-pub record Changes (w : List ℕ) (c : Call (List ℕ)) (Q : Positions → Positions) (A : Positions → Answer) : Type 0 where
-  pub said : outcomeOf w c ≡ change (capacity w) (fedOf w) [] (Q (positionsOf (fedOf w))) (A (positionsOf (fedOf w)))
+-- the call c has the conditions cs, which are not of its store's length, changes the positions held to Q of them, and answers A of them
+pub record Changes (w : List ℕ) (c : Call (List ℕ)) (cs : List Condition) (Q : Positions → Positions) (A : Positions → Answer) : Type 0 where
+  pub said : outcomeOf w c ≡ change (capacity w) (fedOf w) cs (Q (positionsOf (fedOf w))) (A (positionsOf (fedOf w)))
+  pub others : given storeLength cs ≡ false
 
 -- ---- too many runs
 -- at most the capacity
@@ -48,39 +55,47 @@ fits-not C Q h = lt-ltb C (stretches Q) h
 
 -- ---- by what is fed
 -- words of no store's length are refused first
-change-short : (C : ℕ) (Q : Positions) (a : Answer) → change C wrongLength [] Q a ≡ record { answer = refused 1; positions = empty }
+change-short : (C : ℕ) (cs : List Condition) (Q : Positions) (a : Answer) → change C wrongLength cs Q a ≡ record { answer = refused 1; positions = empty }
 unfolding change
-change-short C Q a = refl
+change-short C cs Q a = refl
 
 -- then unsound ones
-change-unsound : (C : ℕ) (Q : Positions) (a : Answer) → change C unsound [] Q a ≡ record { answer = refused 7; positions = empty }
+change-unsound : (C : ℕ) (cs : List Condition) (Q : Positions) (a : Answer) → given storeLength cs ≡ false → change C unsound cs Q a ≡ record { answer = refused 7; positions = empty }
 unfolding change
-change-unsound C Q a = refl
+change-unsound C cs Q a g = rw g
 
--- then too many runs
-change-full : (C : ℕ) (P Q : Positions) (a : Answer) → C < stretches Q → change C (holding P) [] Q a ≡ record { answer = refused 8; positions = P }
-unfolding change
-change-full C P Q a h = rw (fits-not C Q h) refl
+module _ (C : ℕ) (P : Positions) (cs : List Condition) (Q : Positions) (a : Answer) where
+  -- others by whether the runs are too many
+  change-by : (t : Bool) (o : Option ℕ) → tooMany C Q ≡ t → refusal (Refusals.capacity when t ∷ cs) ≡ o → change C (holding P) cs Q a ≡ settle o P a (bounded Q)
+  unfolding change
+  change-by t o e f = ap (λ r. settle r P a (bounded Q)) (ap (λ m. refusal (Refusals.capacity when m ∷ cs)) e ∙ f)
 
--- and else Q is held
-change-done : (C : ℕ) (P Q : Positions) (a : Answer) → stretches Q ≤ C → change C (holding P) [] Q a ≡ record { answer = a; positions = bounded Q }
-unfolding change
-change-done C P Q a h = rw (fits-few C Q h) refl
+  -- the conditions come before that
+  change-early : (n : ℕ) → firstGiven earlier cs ≡ some n → change C (holding P) cs Q a ≡ record { answer = refused n; positions = P }
+  change-early n e = change-by (tooMany C Q) (some n) refl (refused-before cs (tooMany C Q) e)
+
+  -- then too many runs
+  change-full : refusal cs ≡ none → C < stretches Q → change C (holding P) cs Q a ≡ record { answer = refused 8; positions = P }
+  change-full e h = change-by true (some 8) (fits-not C Q h) (refused-full cs e)
+
+  -- and else Q is held
+  change-done : refusal cs ≡ none → stretches Q ≤ C → change C (holding P) cs Q a ≡ record { answer = a; positions = bounded Q }
+  change-done e h = change-by false none (fits-few C Q h) e
 
 -- below 2^64 a set is what is kept of it
 pub bounded-is : (Q : Positions) (x : ℕ) → x < size → Q x ≡ bounded Q x
 unfolding bounded
 bounded-is Q x h = sym (ap (λ t. t && Q x) (lt-ltb x size h))
 
-module _ {w : List ℕ} {c : Call (List ℕ)} {Q : Positions → Positions} {A : Positions → Answer} (says : Changes w c Q A) where
+module _ {w : List ℕ} {c : Call (List ℕ)} {cs : List Condition} {Q : Positions → Positions} {A : Positions → Answer} (says : Changes w c cs Q A) where
   -- by what it is fed
-  fed-as : (s : Fed) → fedOf w ≡ s → outcomeOf w c ≡ change (capacity w) s [] (Q (positionsOf s)) (A (positionsOf s))
-  fed-as s e = says .said ∙ ap (λ f. change (capacity w) f [] (Q (positionsOf f)) (A (positionsOf f))) e
+  fed-as : (s : Fed) → fedOf w ≡ s → outcomeOf w c ≡ change (capacity w) s cs (Q (positionsOf s)) (A (positionsOf s))
+  fed-as s e = says .said ∙ ap (λ f. change (capacity w) f cs (Q (positionsOf f)) (A (positionsOf f))) e
 
   -- a store that earns a refusal gets it
   earned : (r : Refusal) → Earned w r → Met w c (refused (refusalNumber r)) w
-  earned StoreLength h = met-by _ (fed-as wrongLength h ∙ change-short (capacity w) (Q empty) (A empty)) refl
-  earned Unsound h = met-by _ (fed-as unsound h ∙ change-unsound (capacity w) (Q empty) (A empty)) refl
+  earned StoreLength h = met-by _ (fed-as wrongLength h ∙ change-short (capacity w) cs (Q empty) (A empty)) refl
+  earned Unsound h = met-by _ (fed-as unsound h ∙ change-unsound (capacity w) cs (Q empty) (A empty) (says .others)) refl
   earned OutputShort h = absurd h
   earned SetLength h = absurd h
   earned SetVersion h = absurd h
@@ -92,18 +107,24 @@ module _ {w : List ℕ} {c : Call (List ℕ)} {Q : Positions → Positions} {A :
   pub sent-away : {r : Refusal} (l : Look) → Looked w l → l ≡ Look.Refused r → Met w c (refused (refusalNumber r)) w
   sent-away {r} l k e = earned r (subst (λ m. Looked w m) e k)
 
-  -- a readable store has no room for more runs than its capacity
-  pub full : {w′ : List ℕ} (Q′ : Positions) → Readable w → Q′ ≡ Q (heldBy w) → (capacity w < stretches Q′) × (w′ ≡ w) → Met w c (refused 8) w′
-  full Q′ R f h =
-      met-by _ (fed-as (holding (heldBy w)) (R .fed) ∙ change-full (capacity w) (heldBy w) (Q (heldBy w)) (A (heldBy w)) (subst (λ S. capacity w < stretches S) f (h .0))) (h .1)
+  -- a readable store is refused by the conditions
+  pub refused-first : {n : ℕ} → Readable w → firstGiven earlier cs ≡ some n → Met w c (refused n) w
+  refused-first {n} R e =
+      met-by _ (fed-as (holding (heldBy w)) (R .fed) ∙ change-early (capacity w) (heldBy w) cs (Q (heldBy w)) (A (heldBy w)) n e) refl
 
-  -- and else is changed
-  pub changes-to : {w′ : List ℕ} {a : Answer} (Q′ : Positions) → Readable w → Q′ ≡ Q (heldBy w) → Settled w w′ Q′ → Plain (A (heldBy w)) → a ≡ A (heldBy w) → Met w c a w′
-  changes-to {w′} {a} Q′ R f S p g =
-      let same : (x : ℕ) → x < size → heldBy w′ x ≡ Q (heldBy w) x = λ x h. S .holds x h ∙ ap (λ T. T x) f in
-      let few : stretches (Q (heldBy w)) ≤ capacity w = omega (arith, stretches-cong (heldBy w′) (Q (heldBy w)) same, S .sound .fits, ap capacityOf (S .long)) in
-      subst (λ b. Met w c b w′) (sym g) (met-by _ (fed-as (holding (heldBy w)) (R .fed) ∙ change-done (capacity w) (heldBy w) (Q (heldBy w)) (A (heldBy w)) few) (leaves
-      (A (heldBy w)) p (record { sound = S .sound; holds = λ x h. same x h ∙ bounded-is (Q (heldBy w)) x h; long = S .long })))
+  module _ (quiet : refusal cs ≡ none) where
+    -- or has no room for more runs than its capacity
+    pub full : {w′ : List ℕ} (Q′ : Positions) → Readable w → Q′ ≡ Q (heldBy w) → (capacity w < stretches Q′) × (w′ ≡ w) → Met w c (refused 8) w′
+    full Q′ R f h =
+        met-by _ (fed-as (holding (heldBy w)) (R .fed) ∙ change-full (capacity w) (heldBy w) cs (Q (heldBy w)) (A (heldBy w)) quiet (subst (λ S. capacity w < stretches S) f (h .0))) (h .1)
+
+    -- and else is changed
+    pub changes-to : {w′ : List ℕ} {a : Answer} (Q′ : Positions) → Readable w → Q′ ≡ Q (heldBy w) → Settled w w′ Q′ → Plain (A (heldBy w)) → a ≡ A (heldBy w) → Met w c a w′
+    changes-to {w′} {a} Q′ R f S p g =
+        let same : (x : ℕ) → x < size → heldBy w′ x ≡ Q (heldBy w) x = λ x h. S .holds x h ∙ ap (λ T. T x) f in
+        let few : stretches (Q (heldBy w)) ≤ capacity w = omega (arith, stretches-cong (heldBy w′) (Q (heldBy w)) same, S .sound .fits, ap capacityOf (S .long)) in
+        subst (λ b. Met w c b w′) (sym g) (met-by _ (fed-as (holding (heldBy w)) (R .fed) ∙ change-done (capacity w) (heldBy w) cs (Q (heldBy w)) (A (heldBy w)) quiet few) (leaves
+        (A (heldBy w)) p (record { sound = S .sound; holds = λ x h. same x h ∙ bounded-is (Q (heldBy w)) x h; long = S .long })))
 
 -- a sound store is its own change to the same set
 pub settled-self : (w : List ℕ) → Sound w → Settled w w (heldBy w)
@@ -155,16 +176,21 @@ module _ (w w′ : List ℕ) (Q : Positions) where
 -- which calls change, and to what:
 module _ (w : List ℕ) where
   -- a range gets a value
-  pub set-says : (l u : Bound) (v : Bool) → Changes w (Call.set l u v) (setRange (firstAllowed l) (extent l u) v) (λ P. number (changes P (setRange (firstAllowed l) (extent l u) v P)))
+  pub set-says : (l u : Bound) (v : Bool) → Changes w (Call.set l u v) [] (setRange (firstAllowed l) (extent l u) v) (λ P. number (changes P (setRange (firstAllowed l) (extent l u) v P)))
   unfolding outcomeOf serve changed
-  set-says l u v = record { said = refl }
+  set-says l u v = record { said = refl; others = refl }
 
   -- a range is inverted
-  pub flip-says : (l u : Bound) → Changes w (Call.flip l u) (flipRange (firstAllowed l) (extent l u)) (λ P. done)
+  pub flip-says : (l u : Bound) → Changes w (Call.flip l u) [] (flipRange (firstAllowed l) (extent l u)) (λ P. done)
   unfolding outcomeOf serve
-  flip-says l u = record { said = refl }
+  flip-says l u = record { said = refl; others = refl }
 
   -- all positions are moved
-  pub shift-says : (d : ℕ) (left : Bool) → Changes w (Call.shift d left) (shiftBy d left) (λ P. done)
+  pub shift-says : (d : ℕ) (left : Bool) → Changes w (Call.shift d left) [] (shiftBy d left) (λ P. done)
   unfolding outcomeOf serve
-  shift-says d left = record { said = refl }
+  shift-says d left = record { said = refl; others = refl }
+
+  -- a window is set from a map
+  pub read-map-says : (base n : ℕ) (bs : List ℕ) → Changes w (Call.readMap base n bs) (mapConditions base n bs) (mapped base n bs) (λ P. number (changes P (mapped base n bs P)))
+  unfolding outcomeOf serve changed
+  read-map-says base n bs = record { said = refl; others = refl }

@@ -3,21 +3,19 @@
 use Prim.Native.Nat.{ℕ}
 use mathlib.Core.Path.{_≡_, refl, sym, subst}
 use mathlib.Core.Bool.{Bool, true, false, cond}
-use mathlib.Core.List.{List, [], _++_}
+use mathlib.Core.List.{List}
 use mathlib.Core.Option.{Option, none, some}
 use lib.Dec.{ltb}
 use Rattle.model.specs.declared.Drawn.{Drawn}
 use Rattle.model.specs.declared.Listing.{Listing}
 use Rattle.model.specs.declared.Run.{Run}
 use Rattle.model.specs.Answers.{drawnAnswer}
-use Rattle.model.specs.Positions.{Positions, firstRun, lastRun, remaining, pastFirst, pastLast}
-use Rattle.model.specs.Refusals.{refusal}
+use Rattle.model.specs.Positions.{firstRun, lastRun, remaining, pastFirst, pastLast}
 use Rattle.model.specs.Call.{Call, Answer, refused, done, number, value, around, position, listing, drawn, written}
-use Rattle.model.specs.Model.{positionsOf, reads, settle, report}
 use Rattle.interval_bit_set.specs.declared.listing.Draw.{Draw}
-use Rattle.interval_bit_set.specs.Met.{fedOf, outcomeOf, Met}
+use Rattle.interval_bit_set.specs.Met.{outcomeOf, Met}
 use Rattle.interval_bit_set.specs.Lent.{listingOf, movedBy, Draws}
-use Rattle.interval_bit_set.proofs.Meeting.{Reports, draw-front-says, draw-back-says}
+use Rattle.interval_bit_set.proofs.Meeting.{answers-all, draw-front-says, draw-back-says}
 
 -- an answer that gives a listing gives one of the value v
 abbrev Valued : Bool → Answer → Type 0
@@ -49,18 +47,6 @@ module _ (l : Listing) where
   past-last none = refl
   past-last (some r) = chosen (l .value) (ltb (l .first) (r .start)) _ _ refl refl
 
--- a refusal gives no listing
-settled : (v : Bool) (o : Option ℕ) (P : Positions) (a : Answer) → Valued v a → Valued v ((settle o P a P) .answer)
-settled v none P a h = h
-settled v (some n) P a h = tt
-
--- so a call that reports gives a listing of the value v, if its answer of any positions does
-reported : {w : List ℕ} {c : Call (List ℕ)} {A : Positions → Answer} (v : Bool) → Reports w c [] A → ((P : Positions) → Valued v (A P)) → Valued v ((outcomeOf w c) .answer)
-unfolding report
-reported {w} {c} {A} v says h =
-    let s = fedOf w in
-    subst (λ o. Valued v (o .answer)) (sym (says .said)) (settled v (refusal (reads s ++ [])) (positionsOf s) (A (positionsOf s)) (h (positionsOf s)))
-
 module _ (draw : Listing → Call (List ℕ)) (w : List ℕ) (l : Listing) (same : Valued (l .value) ((outcomeOf w (draw l)) .answer)) where
   -- the listing that a draw by value answered, told by its ends
   told : (d : Drawn) → Met w (draw l) (drawnAnswer d) w → Draws draw w l ((movedBy d (l .first) (l .last)) .next) (listingOf ((movedBy d (l .first) (l .last)) .first) ((movedBy d (l .first) (l .last)) .last) (l .value))
@@ -81,8 +67,8 @@ module _ (draw : Listing → Call (List ℕ)) (w : List ℕ) (l : Listing) (same
 module _ (w : List ℕ) (l : Listing) (d : Drawn) {r : Draw} where
   -- a draw from the front
   pub drew-front : Met w (Call.drawFront l) (drawnAnswer d) w → r ≡ movedBy d (l .first) (l .last) → Draws Call.drawFront w l (r .next) (listingOf (r .first) (r .last) (l .value))
-  drew-front = drew Call.drawFront w l (reported (l .value) (draw-front-says w l) (λ P. past-first l (firstRun (remaining P l)))) d
+  drew-front = drew Call.drawFront w l (answers-all (Valued (l .value)) (draw-front-says w l) (λ n. tt) (λ P. past-first l (firstRun (remaining P l)))) d
 
   -- and from the back
   pub drew-back : Met w (Call.drawBack l) (drawnAnswer d) w → r ≡ movedBy d (l .first) (l .last) → Draws Call.drawBack w l (r .next) (listingOf (r .first) (r .last) (l .value))
-  drew-back = drew Call.drawBack w l (reported (l .value) (draw-back-says w l) (λ P. past-last l (lastRun (remaining P l)))) d
+  drew-back = drew Call.drawBack w l (answers-all (Valued (l .value)) (draw-back-says w l) (λ n. tt) (λ P. past-last l (lastRun (remaining P l)))) d

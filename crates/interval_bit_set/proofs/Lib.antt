@@ -3,6 +3,7 @@ pub mod Meeting
 pub mod Spans
 pub mod Draws
 pub mod Windows
+pub mod Refusing
 pub mod Changing
 pub mod Looking
 pub mod Carrying
@@ -10,3 +11,8 @@ pub mod Joins
 pub mod Comparing
 pub mod Lending
 pub mod Drawing
+pub mod Telling
+pub mod Putting
+pub mod Slices
+pub mod Again
+pub mod Handing

@@ -3,8 +3,8 @@
 use Prim.Native.Nat.{ℕ, _≤_}
 use mathlib.Core.Path.{_≡_, refl, sym, ap, ap₂, _∙_, subst}
 use mathlib.Core.Bool.{Bool, true, false, cond, and-false}
-use mathlib.Core.List.{List, [], _∷_}
-use mathlib.Core.Option.{none, some}
+use mathlib.Core.List.{List, [], _∷_, _++_}
+use mathlib.Core.Option.{Option, none, some}
 use native.Mathlib.Omega.{arith}
 use lib.Dec.{ltb}
 use borrow.Author.Tests.{eq-eqb, ne-eqb, le-ltb}
@@ -19,7 +19,7 @@ use Rattle.model.specs.Positions.{Positions, firstRun, lastRun, listed, remaini
 use Rattle.model.specs.Bytes.{fillOf}
 use Rattle.model.specs.Refusals.{storeLength, window, Condition, _when_, given, refusal, earnsLength, badWindow, tooMany}
 use Rattle.model.specs.Call.{Fed, wrongLength, unsound, holding, Call, Answer, refused, done, number, value, around, position, listing, drawn, written}
-use Rattle.model.specs.Model.{Outcome, positionsOf, report, overwrite, drawnFirst, drawnLast, serve}
+use Rattle.model.specs.Model.{Outcome, positionsOf, reads, settle, report, overwrite, drawnFirst, drawnLast, serve}
 use Rattle.store.specs.Layout.{capacity, heldBy}
 use Rattle.store.specs.Soundness.{Sound}
 use Rattle.store.specs.Decision.{soundB}
@@ -136,6 +136,19 @@ module _ {w : List ℕ} {c : Call (List ℕ)} {cs : List Condition} {A : Positio
   met {a} R e p f =
       subst (λ b. Met w c b w) (sym f) (met-by (record { answer = A (heldBy w); positions = heldBy w }) (fed-as (holding (heldBy w)) (R .fed) ∙ rw e) (leaves
       (A (heldBy w)) p (record { sound = R .sound; holds = λ x h. refl; long = refl })))
+
+-- a refusal or the answer a: what holds of both
+either : (Q : Answer → Type 0) (o : Option ℕ) (P : Positions) (a : Answer) → ((n : ℕ) → Q (refused n)) → Q a → Q ((settle o P a P) .answer)
+either Q none P a k h = h
+either Q (some n) P a k h = k n
+
+-- so what holds of every refusal, and of the answer of any positions, holds of what a call that reports answers
+pub answers-all : {w : List ℕ} {c : Call (List ℕ)} {cs : List Condition} {A : Positions → Answer} (Q : Answer → Type 0) → Reports w c cs A → ((n : ℕ) → Q (refused n)) → ((P : Positions) → Q (A P))
+    → Q ((outcomeOf w c) .answer)
+unfolding report
+answers-all {w} {c} {cs} {A} Q says k h =
+    let s = fedOf w in
+    subst (λ o. Q (o .answer)) (sym (says .said)) (either Q (refusal (reads s ++ cs)) (positionsOf s) (A (positionsOf s)) k (h (positionsOf s)))
 
 -- which calls report, and what:
 module _ (w : List ℕ) where

@@ -1,20 +1,32 @@
--- When a window is one, test by test, and how full it is. A window has at most 524,288 positions, so their count has no carry and
--- a thousand times it fits a word. Assumes nothing.
+-- When a window is one, test by test, when a map can be read into it, and how full it is. A window has at most 524,288 positions, so
+-- their count has no carry and a thousand times it fits a word. Assumes nothing.
 use Prim.Native.Nat.{ℕ, suc, _+_, _-_, _*_, _/_, _≤_, _<_}
 use mathlib.Core.Path.{_≡_, sym, ap, _∙_}
 use mathlib.Core.Logic.{_⊎_, inl, inr}
-use mathlib.Core.Bool.{Bool, true, false, not}
-use mathlib.Core.List.{[], _∷_}
+use mathlib.Core.Bool.{Bool, true, false, not, Bool·not-not}
+use mathlib.Core.List.{List, [], _∷_}
 use mathlib.Core.Option.{none, some}
 use native.Mathlib.Omega.{arith}
-use lib.Dec.{leb, ltb}
-use borrow.Author.Tests.{eq-eqb, ne-eqb, lt-ltb, le-ltb, le-leb, lt-leb}
+use lib.Dec.{leb, ltb, eqb}
+use lib.ListN.{length}
+use borrow.Author.Tests.{eqb-true, not-false, eq-eqb, ne-eqb, lt-ltb, le-ltb, le-leb, lt-leb}
 use Rattle.model.specs.declared.Count.{Count}
 use Rattle.model.specs.Numbers.{size, worth, split}
 use Rattle.model.specs.Positions.{Positions, count}
 use Rattle.model.specs.Positions.Laws.{count-both}
 use Rattle.model.specs.Bytes.{fillOf}
-use Rattle.model.specs.Refusals.{window, _when_, refusal, badWindow}
+use Rattle.model.specs.Refusals.{window, Condition, _when_, firstGiven, refusal, badWindow, badMap}
+use Rattle.maps.specs.Window.{Window}
+use Rattle.interval_bit_set.proofs.Refusing.{earlier}
+
+-- the conditions of a window that is read from a map
+abbrev pub mapConditions : ℕ → ℕ → List ℕ → List Condition
+mapConditions base n bs = window when badWindow base n ∷ window when badMap n bs ∷ []
+
+-- whether a map has its window's length
+pub map-fits : (n : ℕ) (bs : List ℕ) → eqb (length bs) ((n + 7) / 8) ≡ not (badMap n bs)
+unfolding badMap
+map-fits n bs = sym (Bool·not-not (eqb (length bs) ((n + 7) / 8)))
 
 module _ (base n : ℕ) where
   -- a window of no position is none
@@ -74,6 +86,32 @@ module _ (base n : ℕ) where
   -- and else does not
   pub window-passes : badWindow base n ≡ false → refusal (window when badWindow base n ∷ []) ≡ none
   window-passes e = rw e
+
+  -- with its map
+  module _ (bs : List ℕ) where
+    -- it is refused if it is none
+    pub map-window-refused : badWindow base n ≡ true → firstGiven earlier (mapConditions base n bs) ≡ some 6
+    map-window-refused e = rw e
+
+    -- or if its map has another length
+    pub map-length-refused : badWindow base n ≡ false → badMap n bs ≡ true → firstGiven earlier (mapConditions base n bs) ≡ some 6
+    map-length-refused e f = rw (e, f)
+
+    -- and else not
+    pub map-passes : badWindow base n ≡ false → badMap n bs ≡ false → refusal (mapConditions base n bs) ≡ none
+    map-passes e f = rw (e, f)
+
+    -- then it can be read
+    pub map-window : badWindow base n ≡ false → badMap n bs ≡ false → Window base n bs
+    unfolding badMap
+    map-window e f =
+        let w = fitting e in
+        record {
+          some = w .some;
+          few = w .few;
+          within = w .below;
+          exact = eqb-true (length bs) ((n + 7) / 8) (not-false (eqb (length bs) ((n + 7) / 8)) f);
+        }
 
   module _ (c : Count) (P : Positions) (f : Fitting) (e : worth c ≡ count P true base (suc (base + (n - 1)) - base)) where
     -- its count of positions is the low word

@@ -3,3 +3,4 @@ pub mod Look
 pub mod Lent
 pub mod Told
 pub mod Out
+pub mod RunSlice

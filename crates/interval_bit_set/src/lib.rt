@@ -7,4 +7,5 @@ pub mod listing;
 pub mod look;
 pub mod make;
 pub mod report;
+pub mod runs;
 pub mod write;

@@ -5,3 +5,4 @@ pub mod Writing
 pub mod Empty
 pub mod Loading
 pub mod Theorems
+pub mod Meeting

@@ -53,7 +53,7 @@ returns-2 c =
     let R = looked-sound _ (c .before .before .before .before .before .look-at .ensures) (c .before .before .before .enum-told .given .1) in
     let a = c .before .before .before .before .before .before .before .before .args in
     let e = span-none (a .lower) (a .upper) _ (c .before .before .normalize .ensures) (c .enum-told2 .given .1) in
-    changes-to (flip-says _ _ _) _ R (flip-none _ _ _ e) (settled-self _ (R .sound)) tt refl
+    changes-to (flip-says _ _ _) refl _ R (flip-none _ _ _ e) (settled-self _ (R .sound)) tt refl
 
 same-length-3 : tie.Need-same-length-3
 same-length-3 c = search needs
@@ -63,7 +63,7 @@ returns-3 c =
     let R = looked-sound _ (c .before .before .before .before .before .before .before .before .before .before .before .before .look-at .ensures) (c .before .before .before .before .before .before .before .before .before .before .enum-told .given .1) in
     let a = c .before .before .before .before .before .before .before .before .before .before .before .before .before .before .before .args in
     let W = span-some (a .lower) (a .upper) _ (c .before .before .before .before .before .before .before .before .before .normalize .ensures) (c .before .before .before .before .before .before .before .s .given .1) in
-    full (flip-says _ _ _) _ R (flip-within W _) (fitted _ _ _ _ (c .before .before .before .before .flip .ensures) (c .enum-told3 .given .1))
+    full (flip-says _ _ _) refl _ R (flip-within W _) (fitted _ _ _ _ (c .before .before .before .before .flip .ensures) (c .enum-told3 .given .1))
 
 same-length-4 : tie.Need-same-length-4
 same-length-4 c = search needs
@@ -73,7 +73,7 @@ returns-4 c =
     let R = looked-sound _ (c .before .before .before .before .before .before .before .before .before .before .before .before .look-at .ensures) (c .before .before .before .before .before .before .before .before .before .before .enum-told .given .1) in
     let a = c .before .before .before .before .before .before .before .before .before .before .before .before .before .before .before .args in
     let W = span-some (a .lower) (a .upper) _ (c .before .before .before .before .before .before .before .before .before .normalize .ensures) (c .before .before .before .before .before .before .before .s .given .1) in
-    changes-to (flip-says _ _ _) _ R (flip-within W _) ((fitted _ _ _ _ (c .before .before .before .before .flip .ensures) (c .enum-told4 .given .1)) .1) tt refl
+    changes-to (flip-says _ _ _) refl _ R (flip-within W _) ((fitted _ _ _ _ (c .before .before .before .before .flip .ensures) (c .enum-told4 .given .1)) .1) tt refl
 
 pub flip-spec : {M : Type 1} → statement M
 flip-spec =

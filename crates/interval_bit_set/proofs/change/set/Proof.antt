@@ -1,6 +1,6 @@
 -- `set` meets its contract: the range is set from its first position to its last, an empty one changes nothing.
 -- Assumes nothing.
-use mathlib.Core.Path.{ap, _∙_}
+use mathlib.Core.Path.{refl, ap, _∙_}
 use Rattle.model.specs.Positions.{changes}
 use Rattle.model.specs.Call.{number}
 use Rattle.interval_bit_set.proofs.Meeting.{looked-sound}
@@ -55,7 +55,7 @@ returns-2 c =
     let R = looked-sound _ (c .before .before .before .before .before .look-at .ensures) (c .before .before .before .enum-told .given .1) in
     let a = c .before .before .before .before .before .before .before .before .args in
     let e = span-none (a .lower) (a .upper) _ (c .before .before .normalize .ensures) (c .enum-told2 .given .1) in
-    changes-to (set-says _ _ _ _) _ R (set-none _ _ _ e _) (settled-self _ (R .sound)) tt (ap number (changes-none _ _ _ _ e))
+    changes-to (set-says _ _ _ _) refl _ R (set-none _ _ _ e _) (settled-self _ (R .sound)) tt (ap number (changes-none _ _ _ _ e))
 
 same-length-3 : tie.Need-same-length-3
 same-length-3 c = search needs
@@ -65,7 +65,7 @@ returns-3 c =
     let R = looked-sound _ (c .before .before .before .before .before .before .before .before .before .before .before .before .look-at .ensures) (c .before .before .before .before .before .before .before .before .before .before .enum-told .given .1) in
     let a = c .before .before .before .before .before .before .before .before .before .before .before .before .before .before .before .args in
     let W = span-some (a .lower) (a .upper) _ (c .before .before .before .before .before .before .before .before .before .normalize .ensures) (c .before .before .before .before .before .before .before .s .given .1) in
-    full (set-says _ _ _ _) _ R (set-within W _ _) (edited _ _ _ _ (c .before .before .before .before .set .ensures) (c .enum-told3 .given .1))
+    full (set-says _ _ _ _) refl _ R (set-within W _ _) (edited _ _ _ _ (c .before .before .before .before .set .ensures) (c .enum-told3 .given .1))
 
 same-length-4 : tie.Need-same-length-4
 same-length-4 c = search needs
@@ -77,7 +77,7 @@ returns-4 c =
     let W = span-some (a .lower) (a .upper) _ (c .before .before .before .before .before .before .before .before .before .before .normalize .ensures) (c .before .before .before .before .before .before .before .before .s .given .1) in
     let k = edited _ _ _ _ (c .before .before .before .before .before .set .ensures) (c .before .e .given .1) in
     let f = set-within W _ _ in
-    changes-to (set-says _ _ _ _) _ R f (k .1) tt (ap number (k .2 ∙ ap (changes _) f))
+    changes-to (set-says _ _ _ _) refl _ R f (k .1) tt (ap number (k .2 ∙ ap (changes _) f))
 
 pub set-spec : {M : Type 1} → statement M
 set-spec =

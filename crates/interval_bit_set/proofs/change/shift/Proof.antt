@@ -31,7 +31,7 @@ same-length-2 c = search needs
 returns-2 : tie.Need-returns-2
 returns-2 c =
     let R = looked-sound _ (c .before .before .before .before .before .before .look-at .ensures) (c .before .before .before .before .enum-told .given .1) in
-    changes-to (shift-says _ _ _) _ R refl (c .before .before .shift .ensures) tt refl
+    changes-to (shift-says _ _ _) refl _ R refl (c .before .before .shift .ensures) tt refl
 
 pub shift-spec : {M : Type 1} → statement M
 shift-spec =

@@ -1,0 +1,25 @@
+-- `written` meets its contract: each answer is laid flat as the definition says. Assumes nothing.
+use borrow.Author.Needs.{needs}
+use mathlib.Core.Path.{sym, ap}
+use Rattle.exports.specs.Flat.{writtenFlat}
+use Rattle.exports.proofs.flat.written.Statement.{statement}
+use Rattle.exports.proofs.flat.written.Tie as tie
+
+enum-known-a : tie.Need-enum-known-a
+enum-known-a c = search needs
+
+refusal-number-requires : tie.Need-refusal-number-requires
+refusal-number-requires c κs = search needs
+
+enum-known-a-2 : tie.Need-enum-known-a-2
+enum-known-a-2 c = search needs
+
+returns : tie.Need-returns
+returns c = rw (c .before .before .a .given .1, c .refusal-number .ensures)
+
+returns-2 : tie.Need-returns-2
+returns-2 c = sym (ap writtenFlat (c .before .a2 .given .1))
+
+pub written-spec : {M : Type 1} → statement M
+written-spec =
+    tie.close (tie.spec enum-known-a refusal-number-requires enum-known-a-2 returns returns-2)

@@ -1,0 +1,26 @@
+-- `vizturel_count` meets its contract: it is the public call, and its answer laid flat. Assumes nothing.
+use borrow.Author.Needs.{needs}
+use Rattle.model.specs.Call.{Call}
+use Rattle.exports.specs.Flat.{truth}
+use Rattle.exports.proofs.Flatten.{between, count-met}
+use Rattle.exports.proofs.vizturel_count.Statement.{statement}
+use Rattle.exports.proofs.vizturel_count.Tie as tie
+
+bound-requires : tie.Need-bound-requires
+bound-requires c κs = search needs
+
+bound-requires-2 : tie.Need-bound-requires-2
+bound-requires-2 c κs = search needs
+
+count-requires : tie.Need-count-requires
+count-requires c κs = search needs
+
+counted-requires : tie.Need-counted-requires
+counted-requires c κs = search needs
+
+returns : tie.Need-returns
+returns c = count-met (between (λ l u. Call.count l u (truth (c .before .before .before .before .before .args .value))) (c .before .before .before .bound .ensures) (c .before .before .bound2 .ensures)) (c .before .count .result) (c .before .count .ensures) (c .counted .ensures)
+
+pub vizturel-count-spec : {M : Type 1} → statement M
+vizturel-count-spec =
+    tie.close (tie.spec bound-requires bound-requires-2 count-requires counted-requires returns)

@@ -1,0 +1,27 @@
+-- `vizturel_count_ranges` meets its contract: it is the public call, and its answer laid flat. Assumes nothing.
+use borrow.Author.Needs.{needs}
+use Rattle.model.specs.Call.{Call}
+use Rattle.exports.specs.Flat.{truth}
+use Rattle.exports.proofs.Flatten.{between, number-met}
+use Rattle.exports.proofs.vizturel_count_ranges.Statement.{statement}
+use Rattle.exports.proofs.vizturel_count_ranges.Tie as tie
+
+bound-requires : tie.Need-bound-requires
+bound-requires c κs = search needs
+
+bound-requires-2 : tie.Need-bound-requires-2
+bound-requires-2 c κs = search needs
+
+count-ranges-requires : tie.Need-count-ranges-requires
+count-ranges-requires c κs = search needs
+
+numbered-requires : tie.Need-numbered-requires
+numbered-requires c κs = search needs
+
+returns : tie.Need-returns
+returns c = number-met (between (λ l u. Call.countRanges l u (truth (c .before .before .before .before .before .args .value))) (c .before .before .before .bound .ensures) (c .before .before .bound2 .ensures)) (c .before .count-ranges .result) (c .before .count-ranges .ensures) (c .numbered .ensures)
+
+pub vizturel-count-ranges-spec : {M : Type 1} → statement M
+vizturel-count-ranges-spec =
+    tie.close
+    (tie.spec bound-requires bound-requires-2 count-ranges-requires numbered-requires returns)

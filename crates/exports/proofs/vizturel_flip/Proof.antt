@@ -1,0 +1,29 @@
+-- `vizturel_flip` meets its contract: it is the public call, and its answer laid flat. Assumes nothing.
+use borrow.Author.Needs.{needs}
+use Rattle.model.specs.Call.{Call}
+use Rattle.exports.proofs.Flatten.{between, done-met}
+use Rattle.exports.proofs.vizturel_flip.Statement.{statement}
+use Rattle.exports.proofs.vizturel_flip.Tie as tie
+
+bound-requires : tie.Need-bound-requires
+bound-requires c κs = search needs
+
+bound-requires-2 : tie.Need-bound-requires-2
+bound-requires-2 c κs = search needs
+
+flip-requires : tie.Need-flip-requires
+flip-requires c κs = search needs
+
+completed-requires : tie.Need-completed-requires
+completed-requires c κs = search needs
+
+same-length : tie.Need-same-length
+same-length c = search needs
+
+returns : tie.Need-returns
+returns c = done-met (between (λ l u. Call.flip l u) (c .before .before .before .before .before .bound .ensures) (c .before .before .before .before .bound2 .ensures)) (c .before .before .before .flip .result) (c .before .before .before .flip .ensures) (c .completed .ensures)
+
+pub vizturel-flip-spec : {M : Type 1} → statement M
+vizturel-flip-spec =
+    tie.close
+    (tie.spec bound-requires bound-requires-2 flip-requires completed-requires same-length returns)

@@ -1,0 +1,26 @@
+-- `vizturel_ranges` meets its contract: it is the public call, and its answer laid flat. Assumes nothing.
+use borrow.Author.Needs.{needs}
+use Rattle.model.specs.Call.{Call}
+use Rattle.exports.specs.Flat.{truth}
+use Rattle.exports.proofs.Flatten.{between, listing-met}
+use Rattle.exports.proofs.vizturel_ranges.Statement.{statement}
+use Rattle.exports.proofs.vizturel_ranges.Tie as tie
+
+bound-requires : tie.Need-bound-requires
+bound-requires c κs = search needs
+
+bound-requires-2 : tie.Need-bound-requires-2
+bound-requires-2 c κs = search needs
+
+ranges-requires : tie.Need-ranges-requires
+ranges-requires c κs = search needs
+
+listed-requires : tie.Need-listed-requires
+listed-requires c κs = search needs
+
+returns : tie.Need-returns
+returns c = listing-met (between (λ l u. Call.ranges l u (truth (c .before .before .before .before .before .args .value))) (c .before .before .before .bound .ensures) (c .before .before .bound2 .ensures)) (c .before .ranges .result) (c .before .ranges .ensures) (c .listed .ensures)
+
+pub vizturel-ranges-spec : {M : Type 1} → statement M
+vizturel-ranges-spec =
+    tie.close (tie.spec bound-requires bound-requires-2 ranges-requires listed-requires returns)

@@ -1,0 +1,26 @@
+-- `vizturel_select` meets its contract: it is the public call, and its answer laid flat. Assumes nothing.
+use borrow.Author.Needs.{needs}
+use Rattle.model.specs.Call.{Call}
+use Rattle.exports.specs.Flat.{truth}
+use Rattle.exports.proofs.Flatten.{between, position-met}
+use Rattle.exports.proofs.vizturel_select.Statement.{statement}
+use Rattle.exports.proofs.vizturel_select.Tie as tie
+
+bound-requires : tie.Need-bound-requires
+bound-requires c κs = search needs
+
+bound-requires-2 : tie.Need-bound-requires-2
+bound-requires-2 c κs = search needs
+
+select-requires : tie.Need-select-requires
+select-requires c κs = search needs
+
+found-requires : tie.Need-found-requires
+found-requires c κs = search needs
+
+returns : tie.Need-returns
+returns c = position-met (between (λ l u. Call.select l u (truth (c .before .before .before .before .before .args .value)) (c .before .before .before .before .before .args .k)) (c .before .before .before .bound .ensures) (c .before .before .bound2 .ensures)) (c .before .select .result) (c .before .select .ensures) (c .found .ensures)
+
+pub vizturel-select-spec : {M : Type 1} → statement M
+vizturel-select-spec =
+    tie.close (tie.spec bound-requires bound-requires-2 select-requires found-requires returns)

@@ -1,0 +1,30 @@
+-- `vizturel_set` meets its contract: it is the public call, and its answer laid flat. Assumes nothing.
+use borrow.Author.Needs.{needs}
+use Rattle.model.specs.Call.{Call}
+use Rattle.exports.specs.Flat.{truth}
+use Rattle.exports.proofs.Flatten.{between, count-met}
+use Rattle.exports.proofs.vizturel_set.Statement.{statement}
+use Rattle.exports.proofs.vizturel_set.Tie as tie
+
+bound-requires : tie.Need-bound-requires
+bound-requires c κs = search needs
+
+bound-requires-2 : tie.Need-bound-requires-2
+bound-requires-2 c κs = search needs
+
+set-requires : tie.Need-set-requires
+set-requires c κs = search needs
+
+counted-requires : tie.Need-counted-requires
+counted-requires c κs = search needs
+
+same-length : tie.Need-same-length
+same-length c = search needs
+
+returns : tie.Need-returns
+returns c = count-met (between (λ l u. Call.set l u (truth (c .before .before .before .before .before .before .before .before .args .value))) (c .before .before .before .before .before .bound .ensures) (c .before .before .before .before .bound2 .ensures)) (c .before .before .before .set .result) (c .before .before .before .set .ensures) (c .counted .ensures)
+
+pub vizturel-set-spec : {M : Type 1} → statement M
+vizturel-set-spec =
+    tie.close
+    (tie.spec bound-requires bound-requires-2 set-requires counted-requires same-length returns)

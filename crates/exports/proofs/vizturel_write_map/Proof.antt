@@ -1,0 +1,21 @@
+-- `vizturel_write_map` meets its contract: it is the public call, and its answer laid flat. Assumes nothing.
+use borrow.Author.Needs.{needs}
+use Rattle.exports.proofs.Flatten.{written-met}
+use Rattle.exports.proofs.vizturel_write_map.Statement.{statement}
+use Rattle.exports.proofs.vizturel_write_map.Tie as tie
+
+write-map-requires : tie.Need-write-map-requires
+write-map-requires c κs = search needs
+
+written-requires : tie.Need-written-requires
+written-requires c κs = search needs
+
+same-length : tie.Need-same-length
+same-length c = search needs
+
+returns : tie.Need-returns
+returns c = written-met (c .before .before .before .write-map .result) (c .before .before .before .write-map .ensures) (c .written .ensures)
+
+pub vizturel-write-map-spec : {M : Type 1} → statement M
+vizturel-write-map-spec =
+    tie.close (tie.spec write-map-requires written-requires same-length returns)

@@ -1,0 +1,63 @@
+-- The order of refusals: what the causes before too many runs give is given, and where they give nothing, the others count.
+-- Each law goes through the causes one by one. Assumes nothing.
+use Prim.Native.Nat.{ℕ}
+use mathlib.Core.Path.{_≡_, refl, ap}
+use mathlib.Core.Bool.{Bool, true, false, cond}
+use mathlib.Core.List.{List, [], _∷_, _++_}
+use mathlib.Core.Option.{none, some}
+use native.Mathlib.Omega.{arith}
+use Rattle.model.specs.Refusals.{Cause, storeLength, storeUnsound, window, setShort, setVersion, setLength, runOrder, outputShort, Condition, _when_, given, firstGiven, numberOf, refusal}
+use Rattle.model.specs.Refusals
+
+-- the causes before too many runs; the conditions of no call that makes or changes a store have another
+abbrev pub earlier : List Cause
+earlier = storeLength ∷ storeUnsound ∷ window ∷ setShort ∷ setVersion ∷ setLength ∷ runOrder ∷ []
+
+-- and those from there on
+abbrev pub later : List Cause
+later = Refusals.capacity ∷ outputShort ∷ []
+
+-- what the first causes give is given
+first-some : (ks js : List Cause) (cs : List Condition) (n : ℕ) → firstGiven ks cs ≡ some n → firstGiven (ks ++ js) cs ≡ some n
+first-some [] js cs n e = let z : _≡_ {A = ℕ} 0 1 = cc in absurd (omega arith)
+first-some (k ∷ ks) js cs n e = go (given k cs) (first-some ks js cs n) e
+  where
+    go : (b : Bool) → (firstGiven ks cs ≡ some n → firstGiven (ks ++ js) cs ≡ some n) → cond b (some (numberOf k)) (firstGiven ks cs) ≡ some n
+        → cond b (some (numberOf k)) (firstGiven (ks ++ js) cs) ≡ some n
+    go true f p = p
+    go false f p = f p
+
+-- where they give nothing, the others count
+first-none : (ks js : List Cause) (cs : List Condition) → firstGiven ks cs ≡ none → firstGiven (ks ++ js) cs ≡ firstGiven js cs
+first-none [] js cs e = refl
+first-none (k ∷ ks) js cs e = go (given k cs) (first-none ks js cs) e
+  where
+    go : (b : Bool) → (firstGiven ks cs ≡ none → firstGiven (ks ++ js) cs ≡ firstGiven js cs) → cond b (some (numberOf k)) (firstGiven ks cs) ≡ none
+        → cond b (some (numberOf k)) (firstGiven (ks ++ js) cs) ≡ firstGiven js cs
+    go true f p = let z : _≡_ {A = ℕ} 0 1 = cc in absurd (omega arith)
+    go false f p = f p
+
+-- where all give nothing, they do
+all-none : (ks js : List Cause) (cs : List Condition) → firstGiven (ks ++ js) cs ≡ none → firstGiven ks cs ≡ none
+all-none [] js cs e = refl
+all-none (k ∷ ks) js cs e = go (given k cs) (all-none ks js cs) e
+  where
+    go : (b : Bool) → (firstGiven (ks ++ js) cs ≡ none → firstGiven ks cs ≡ none) → cond b (some (numberOf k)) (firstGiven (ks ++ js) cs) ≡ none
+        → cond b (some (numberOf k)) (firstGiven ks cs) ≡ none
+    go true f p = p
+    go false f p = f p
+
+-- where the others give nothing, what all give is what they do
+pub first-alone : (ks js : List Cause) (cs : List Condition) → firstGiven js cs ≡ none → firstGiven (ks ++ js) cs ≡ firstGiven ks cs
+first-alone [] js cs e = e
+first-alone (k ∷ ks) js cs e = ap (cond (given k cs) (some (numberOf k))) (first-alone ks js cs e)
+
+-- ---- of calls that too many runs refuse, with other conditions beside
+module _ (cs : List Condition) where
+  -- these come before that
+  pub refused-before : (t : Bool) {n : ℕ} → firstGiven earlier cs ≡ some n → refusal (Refusals.capacity when t ∷ cs) ≡ some n
+  refused-before t {n} e = first-some earlier later (Refusals.capacity when t ∷ cs) n e
+
+  -- it counts where they do not
+  pub refused-full : refusal cs ≡ none → refusal (Refusals.capacity when true ∷ cs) ≡ some 8
+  refused-full e = first-none earlier later (Refusals.capacity when true ∷ cs) (all-none earlier later cs e)

@@ -1,0 +1,26 @@
+-- `admitted` meets its contract: the tests for 1, 5 and 8, in this order, each at the capacity that the length tells.
+-- Assumes nothing.
+use mathlib.Core.Path.{refl, sym, _∙_}
+use native.Mathlib.Omega.{arith}
+use borrow.Author.Needs.{needs}
+use borrow.Author.Tests.{not-true, not-false}
+use Rattle.interval_bit_set.proofs.runs.admitted.Statement.{statement}
+use Rattle.interval_bit_set.proofs.runs.admitted.Tie as tie
+
+of-length-requires : tie.Need-of-length-requires
+of-length-requires c κs = search needs
+
+returns : tie.Need-returns
+returns c = (refl, sym (c .before .before .of-length .ensures) ∙ c .if1 .taken)
+
+returns-2 : tie.Need-returns-2
+returns-2 c = (refl, (omega (arith, c .before .before .before .before .of-length .ensures, c .before .before .if1 .left), not-true _ (c .if2 .taken)))
+
+returns-3 : tie.Need-returns-3
+returns-3 c = (refl, (omega (arith, c .before .before .before .before .before .before .of-length .ensures, c .before .before .before .before .if1 .left), not-false _ (c .before .before .if2 .left), omega (arith, c .before .before .before .before .before .before .of-length .ensures, c .if3 .taken)))
+
+returns-4 : tie.Need-returns-4
+returns-4 c = (refl, omega (arith, c .before .before .before .before .before .before .of-length .ensures, c .before .before .before .before .if1 .left), not-false _ (c .before .before .if2 .left), omega (arith, c .before .before .before .before .before .before .of-length .ensures, c .if3 .left))
+
+pub admitted-spec : {M : Type 1} → statement M
+admitted-spec = tie.close (tie.spec of-length-requires returns returns-2 returns-3 returns-4)

@@ -1,0 +1,3 @@
+-- What the proof of the function uses.
+pub mod Ways
+pub mod Playing
