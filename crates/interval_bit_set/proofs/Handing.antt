@@ -1,6 +1,6 @@
 -- What the two functions that hand back the part of a slice that they filled have in common: the answer is made a number and a count, and
 -- the front part of that count is taken. All that is known of the functions called is their contracts. Assumes nothing.
-use mathlib.Core.Path.{_≡_, refl, ap, _∙_}
+use mathlib.Core.Path.{_≡_, refl, _∙_}
 use Prim.Native.Nat.{ℕ, _<_, _≤_, _^_}
 use mathlib.Core.List.{[], _∷_, List}
 use lib.ListN.{length, take}
@@ -30,7 +30,6 @@ use denote.Triple.Walked.{says}
 use Rattle.model.specs.declared.Written.{Written}
 use Rattle.model.specs.Call.{Answer}
 use Rattle.interval_bit_set.specs.declared.write.Flat.{Flat}
-use Rattle.interval_bit_set.specs.declared.write.Filled.{Filled}
 use Rattle.interval_bit_set.specs.Out.{codeOf, frontOf, flatOf}
 use Rattle.model.proofs.Written as A′
 use Rattle.interval_bit_set.proofs.write.Flat as F
@@ -39,7 +38,7 @@ use Rattle.interval_bit_set.proofs.write.Filled as T
 use Rattle.interval_bit_set.proofs.write.Filled.Laws as T′
 use Rattle.interval_bit_set.proofs.Putting.{Flattens}
 
--- the machine value of a reference to a slice, of the number and the count, and of what is handed back
+-- the machine value of a reference to a slice, and of what is handed back
 abbrev pub vref : RefT (List ℕ) → Val
 vref t = sliceVal (t .ptr) (length (t .now))
 

@@ -12,7 +12,7 @@ use Rattle.model.specs.declared.Refusal.{Refusal}
 use Rattle.model.specs.declared.Refusal.the-variants.{OutputShort, Window}
 use Rattle.model.specs.declared.Written.{Written}
 use Rattle.model.specs.Positions.{Positions, heldRuns, stretches}
-use Rattle.model.specs.Bytes.{encode, mapOf, mapLength, intoFront}
+use Rattle.model.specs.Bytes.{encode, mapOf, intoFront}
 use Rattle.model.specs.Codec.{encode-length}
 use Rattle.model.specs.Refusals.{storeLength, window, outputShort, Condition, _when_, given, refusal, badWindow, noRoom}
 use Rattle.model.specs.Answers.{writtenAnswer}

@@ -20,7 +20,7 @@ abbrev μ-loop : tie.MeasureT-loop
 
 -- the slice is as long where the loop begins as it was lent
 long : (c : tie.At-loop Inv-loop μ-loop) → length (c .before .before .before .before .before .before .put-count .last .0) ≡ length (c .before .before .before .before .before .before .before .before .before .before .before .args .out .now)
-long c = front-long (c .before .before .before .before .before .before .before .before .before .before .before .args .out .now) (omega arith) (c .before .before .before .before .before .before .before .before .run-count .result) (c .before .before .before .before .before .before .put-count .ensures)
+long c = front-long (c .before .before .before .before .before .before .before .before .before .before .before .args .out .now) (omega arith) _ (c .before .before .before .before .before .before .put-count .ensures)
 
 -- so there is room for the whole set
 fits : (c : tie.At-loop Inv-loop μ-loop) → 5 + 16 * stretches (heldBy (c .before .before .before .before .before .before .before .before .before .before .before .args .words .now)) ≤ length (c .before .before .before .before .before .before .put-count .last .0)
@@ -50,7 +50,7 @@ open-requires : tie.Need-open-requires Inv-loop μ-loop
 open-requires c κs = (c .before .before .before .before .before .before .before .before .before .pre .0, refl)
 
 loop-holds : tie.Need-loop-holds Inv-loop μ-loop
-loop-holds c = writes-begun (c .before .before .read-header .ensures) (c .«open» .ensures) (omega (arith, front-long (c .before .before .before .before .before .before .before .before .before .before .args .out .now) (omega (arith, c .before .before .before .before .before .before .before .before .before .before .pre .1)) (c .before .before .before .before .before .before .before .run-count .result) (c .before .before .before .before .before .put-count .ensures)))
+loop-holds c = writes-begun (c .before .before .read-header .ensures) (c .«open» .ensures) (omega (arith, front-long (c .before .before .before .before .before .before .before .before .before .before .args .out .now) (omega (arith, c .before .before .before .before .before .before .before .before .before .before .pre .1)) _ (c .before .before .before .before .before .put-count .ensures)))
 
 put-word-requires : tie.Need-put-word-requires Inv-loop μ-loop
 put-word-requires c κs = omega (arith, room (c .before))

@@ -1,0 +1,205 @@
+/* The library through include/vizturel.h: the sixteen cases of the scope document, each refusal, and that a refused call changes nothing.
+ * Compiled as C and as C++. Prints what failed, and last 'N passed, M failed'. */
+#include <stdio.h>
+#include <stdlib.h>
+#include <string.h>
+#include "vizturel.h"
+
+#define M UINT64_MAX
+#define CAPACITY 13
+#define WORDS VIZTUREL_WORDS(CAPACITY)
+
+static int passed, failed;
+
+static void check(int ok, const char *what, int line) {
+    if (ok) {
+        passed++;
+    } else {
+        failed++;
+        printf("line %d: %s\n", line, what);
+    }
+}
+#define CHECK(x) check((x), #x, __LINE__)
+
+static uint64_t s[WORDS], a[WORDS], b[WORDS], one[VIZTUREL_WORDS(1)], kept[WORDS];
+static uint8_t out[VIZTUREL_SET_BYTES(CAPACITY)];
+
+#define IN vizturel_included
+#define EX vizturel_excluded
+#define ALL vizturel_unbounded()
+
+static vizturel_counted put(uint64_t *w, size_t n, uint64_t from, uint64_t past, uint64_t value) {
+    return vizturel_set(w, n, IN(from), EX(past), value);
+}
+
+/* a new set of one run */
+static void only(uint64_t *w, size_t n, uint64_t start, uint64_t end) {
+    CHECK(vizturel_new(w, n) == VIZTUREL_DONE);
+    CHECK(vizturel_set(w, n, IN(start), IN(end), 1).refusal == VIZTUREL_DONE);
+}
+
+static int is_count(vizturel_counted c, uint64_t n) { return c.refusal == 0 && c.carry == 0 && c.low == n; }
+static int is_run(vizturel_run r, uint64_t x, uint64_t y) { return r.refusal == 0 && r.start == x && r.end == y; }
+static int at(vizturel_found f, uint64_t x) { return f.refusal == 0 && f.found == 1 && f.position == x; }
+static int nowhere(vizturel_found f) { return f.refusal == 0 && f.found == 0; }
+
+/* whether the runs of the value in a range are the n given ones, drawn from the front, and again from the back */
+static int lists(const uint64_t *w, size_t count, vizturel_bound lower, vizturel_bound upper, uint64_t value, size_t n, const uint64_t *runs) {
+    vizturel_listed l = vizturel_ranges(w, count, lower, upper, value);
+    vizturel_drawn d;
+    uint64_t first = l.first, last = l.last;
+    size_t i;
+    if (l.refusal != 0) return 0;
+    for (i = 0; i < n; i++) {
+        d = vizturel_draw_front(w, count, first, last, value);
+        if (d.refusal != 0 || d.found != 1 || d.start != runs[2 * i] || d.end != runs[2 * i + 1]) return 0;
+        first = d.first;
+        last = d.last;
+    }
+    d = vizturel_draw_front(w, count, first, last, value);
+    if (d.refusal != 0 || d.found != 0 || d.first != 1 || d.last != 0) return 0;
+    first = l.first;
+    last = l.last;
+    for (i = n; i > 0; i--) {
+        d = vizturel_draw_back(w, count, first, last, value);
+        if (d.refusal != 0 || d.found != 1 || d.start != runs[2 * i - 2] || d.end != runs[2 * i - 1]) return 0;
+        first = d.first;
+        last = d.last;
+    }
+    return vizturel_draw_back(w, count, first, last, value).found == 0;
+}
+
+static int holds(const uint64_t *w, size_t count, size_t n, const uint64_t *runs) { return lists(w, count, ALL, ALL, 1, n, runs); }
+
+static void cases(void) {
+    static const uint64_t seven[] = {4, 7, 10, 11}, gap[] = {8, 9}, eight[] = {2, 3, 8, 9}, nine[] = {2, 4, 8, 9}, top[] = {M, M};
+    static const uint64_t eleven[] = {0, 1}, twelve[] = {0, 24}, fourteen[] = {0, 4, 6, M};
+    static const uint8_t fifteen[] = {1, 0, 0, 0, 2, 0, 0, 0, 0, 0, 0, 0, 2, 0, 0, 0, 0, 0, 0, 0, 3, 0, 0, 0, 0, 0, 0, 0, 8, 0, 0, 0, 0, 0, 0, 0, 9};
+    vizturel_counted full;
+    vizturel_written w;
+    vizturel_numbered n;
+    uint8_t bytes[37];
+
+    vizturel_new(s, WORDS);
+    CHECK(is_count(put(s, WORDS, 2, 8, 1), 6));
+    CHECK(is_count(put(s, WORDS, 4, 6, 0), 2));
+    CHECK(is_count(put(s, WORDS, 2, 4, 1), 0));
+
+    vizturel_new(s, WORDS);
+    full = vizturel_set(s, WORDS, ALL, ALL, 1);
+    CHECK(full.refusal == 0 && full.carry == 1 && full.low == 0);
+    CHECK(is_count(vizturel_set(s, WORDS, ALL, ALL, 1), 0));
+    full = vizturel_count(s, WORDS, ALL, ALL, 1);
+    CHECK(full.carry == 1 && full.low == 0);
+
+    vizturel_new(s, WORDS);
+    CHECK(is_count(vizturel_set(s, WORDS, EX(M), ALL, 1), 0));
+    CHECK(holds(s, WORDS, 0, NULL));
+
+    only(s, WORDS, 2, 7);
+    CHECK(is_run(vizturel_run_at(s, WORDS, 4), 2, 7));
+    CHECK(is_run(vizturel_run_at(s, WORDS, 0), 0, 1));
+    CHECK(is_run(vizturel_run_at(s, WORDS, 9), 8, M));
+    CHECK(at(vizturel_find(s, WORDS, IN(4), ALL, 0), 8));
+    CHECK(nowhere(vizturel_find(s, WORDS, IN(2), EX(8), 0)));
+    CHECK(at(vizturel_select(s, WORDS, IN(4), EX(12), 0, 1), 9));
+    CHECK(nowhere(vizturel_select(s, WORDS, IN(4), EX(12), 1, 4)));
+    CHECK(vizturel_get(s, WORDS, 7).value == 1 && vizturel_get(s, WORDS, 8).value == 0);
+
+    put(s, WORDS, 10, 15, 1);
+    CHECK(lists(s, WORDS, IN(4), EX(12), 1, 2, seven));
+    CHECK(lists(s, WORDS, IN(4), EX(12), 0, 1, gap));
+    n = vizturel_count_ranges(s, WORDS, IN(4), EX(12), 1);
+    CHECK(n.refusal == 0 && n.number == 2);
+
+    only(s, WORDS, 2, 7);
+    CHECK(vizturel_flip(s, WORDS, IN(4), EX(10)) == 0);
+    CHECK(holds(s, WORDS, 2, eight));
+
+    only(a, WORDS, 2, 7);
+    only(b, WORDS, 5, 9);
+    CHECK(vizturel_combine(s, WORDS, 0, a, WORDS, b, WORDS) == 0 && is_count(vizturel_count(s, WORDS, ALL, ALL, 1), 3));
+    CHECK(vizturel_combine(s, WORDS, 1, a, WORDS, b, WORDS) == 0 && is_count(vizturel_count(s, WORDS, ALL, ALL, 1), 8));
+    CHECK(vizturel_combine(s, WORDS, 2, a, WORDS, b, WORDS) == 0 && holds(s, WORDS, 2, nine));
+    CHECK(vizturel_eq(a, WORDS, b, WORDS).value == 0 && vizturel_eq(a, WORDS, a, WORDS).value == 1);
+
+    only(s, WORDS, M - 1, M);
+    CHECK(vizturel_shift(s, WORDS, 1, 1) == 0 && holds(s, WORDS, 1, top));
+    only(a, WORDS, M - 1, M);
+    CHECK(vizturel_shifted(s, WORDS, 2, 1, a, WORDS) == 0 && holds(s, WORDS, 0, NULL));
+    only(s, WORDS, 0, 3);
+    CHECK(vizturel_shift(s, WORDS, 2, 0) == 0 && holds(s, WORDS, 1, eleven));
+    only(a, WORDS, 0, 3);
+    CHECK(vizturel_shifted(s, WORDS, 4, 0, a, WORDS) == 0 && holds(s, WORDS, 0, NULL));
+
+    only(s, WORDS, 10, 19);
+    CHECK(vizturel_shift(s, WORDS, 5, 1) == 0);
+    CHECK(is_count(put(s, WORDS, 0, 15, 1), 15));
+    CHECK(holds(s, WORDS, 1, twelve));
+
+    only(one, VIZTUREL_WORDS(1), 2, 7);
+    memcpy(kept, one, sizeof one);
+    CHECK(put(one, VIZTUREL_WORDS(1), 4, 6, 0).refusal == VIZTUREL_CAPACITY);
+    CHECK(memcmp(kept, one, sizeof one) == 0);
+    CHECK(is_count(put(one, VIZTUREL_WORDS(1), 2, 4, 0), 2));
+
+    only(a, WORDS, 5, 5);
+    CHECK(vizturel_not(s, WORDS, a, WORDS) == 0 && holds(s, WORDS, 2, fourteen));
+    memcpy(kept, one, sizeof one);
+    CHECK(vizturel_not(one, VIZTUREL_WORDS(1), a, WORDS) == VIZTUREL_CAPACITY);
+    CHECK(memcmp(kept, one, sizeof one) == 0);
+
+    only(s, WORDS, 2, 3);
+    put(s, WORDS, 8, 10, 1);
+    w = vizturel_write(s, WORDS, out, sizeof out);
+    CHECK(w.refusal == 0 && w.bytes == sizeof fifteen && memcmp(out, fifteen, sizeof fifteen) == 0);
+    CHECK(vizturel_load(b, WORDS, fifteen, sizeof fifteen) == 0 && vizturel_eq(s, WORDS, b, WORDS).value == 1);
+    CHECK(vizturel_build(a, WORDS, eight, 4) == 0 && vizturel_eq(s, WORDS, a, WORDS).value == 1);
+    w = vizturel_write_map(s, WORDS, 0, 10, out, sizeof out);
+    CHECK(w.refusal == 0 && w.bytes == 2 && out[0] == 0x0C && out[1] == 0x03 && out[2] == fifteen[2]);
+    n = vizturel_fill(s, WORDS, 0, 3);
+    CHECK(n.refusal == 0 && n.number == 333);
+    vizturel_new(a, WORDS);
+    CHECK(is_count(vizturel_read_map(a, WORDS, 0, 10, out, 2), 4) && vizturel_eq(s, WORDS, a, WORDS).value == 1);
+
+    memcpy(bytes, fifteen, sizeof fifteen);
+    bytes[28] = 4;
+    bytes[36] = 5;
+    memcpy(kept, s, sizeof s);
+    CHECK(vizturel_load(s, WORDS, bytes, sizeof bytes) == VIZTUREL_RUN_ORDER);
+    CHECK(memcmp(kept, s, sizeof s) == 0);
+}
+
+static void refusals(void) {
+    static const uint8_t version_two[] = {2, 0, 0, 0, 0};
+    uint8_t nothing[8] = {9, 9, 9, 9, 9, 9, 9, 9}, same[8] = {9, 9, 9, 9, 9, 9, 9, 9};
+
+    only(s, WORDS, 2, 7);
+    memcpy(kept, s, sizeof s);
+    CHECK(vizturel_new(s, WORDS - 1) == VIZTUREL_STORE_LENGTH);
+    CHECK(vizturel_get(s, 24, 0).refusal == VIZTUREL_STORE_LENGTH);
+    CHECK(vizturel_combine(s, WORDS, 0, a, 0, kept, WORDS) == VIZTUREL_STORE_LENGTH);
+    CHECK(vizturel_write(s, WORDS, nothing, sizeof nothing).refusal == VIZTUREL_OUTPUT_SHORT);
+    CHECK(vizturel_write_map(s, WORDS, 0, 65, nothing, sizeof nothing).refusal == VIZTUREL_OUTPUT_SHORT);
+    CHECK(vizturel_load(s, WORDS, version_two, 4) == VIZTUREL_SET_LENGTH);
+    CHECK(vizturel_load(s, WORDS, version_two, 5) == VIZTUREL_SET_VERSION);
+    CHECK(vizturel_fill(s, WORDS, 0, 0).refusal == VIZTUREL_WINDOW);
+    CHECK(vizturel_fill(s, WORDS, M, 2).refusal == VIZTUREL_WINDOW);
+    CHECK(vizturel_read_map(s, WORDS, 0, 10, nothing, 3).refusal == VIZTUREL_WINDOW);
+    CHECK(memcmp(nothing, same, sizeof same) == 0);
+    CHECK(memcmp(kept, s, sizeof s) == 0);
+    s[3]++;
+    memcpy(kept, s, sizeof s);
+    CHECK(vizturel_get(s, WORDS, 0).refusal == VIZTUREL_UNSOUND);
+    CHECK(vizturel_set(s, WORDS, ALL, ALL, 1).refusal == VIZTUREL_UNSOUND);
+    CHECK(vizturel_draw_front(s, WORDS, 1, 0, 1).refusal == VIZTUREL_UNSOUND);
+    CHECK(vizturel_write(s, WORDS, nothing, sizeof nothing).refusal == VIZTUREL_UNSOUND);
+    CHECK(memcmp(kept, s, sizeof s) == 0);
+}
+
+int main(void) {
+    cases();
+    refusals();
+    printf("%d passed, %d failed\n", passed, failed);
+    return failed != 0;
+}
