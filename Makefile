@@ -4,7 +4,8 @@
 # make differential       the library against IntervalBitSet: exhaustive, damaged and random calls (under a minute)
 # make differential-long  the same with thirty million random calls, and the seed SEED=S (default 2)
 # make bench-soundness    how long the soundness decision takes, against readings of the same words (docs/BENCHMARKS.md)
-.PHONY: run test host differential differential-long bench-soundness
+# make bench-growth       how many instructions it takes, at four capacities (needs valgrind)
+.PHONY: run test host differential differential-long bench-soundness bench-growth
 run:
 	rt check
 test:
@@ -27,3 +28,11 @@ bench-soundness:
 	rt staticlib bench_store > target/bench-soundness.log 2>&1 || { cat target/bench-soundness.log; exit 1; }
 	rustc --edition 2021 -C opt-level=3 -L native=target/staticlib -l static=bench_store -o target/bench-soundness bench/soundness.rs
 	target/bench-soundness
+bench-growth:
+	@mkdir -p target
+	rt staticlib bench_store > target/bench-soundness.log 2>&1 || { cat target/bench-soundness.log; exit 1; }
+	gcc -O2 -Wall -Wextra -o target/bench-growth bench/growth.c target/staticlib/libbench_store.a
+	@for c in 1024 2048 8192 65536; do \
+	    valgrind --tool=callgrind --callgrind-out-file=/dev/null --toggle-collect=vizturel_bench_is_sound target/bench-growth $$c 2>&1 \
+	        | awk -v c=$$c '/Collected/ { printf "| %d | %d | %.1f |\n", c, $$NF, $$NF / c }'; \
+	done

@@ -1,0 +1,22 @@
+/* One soundness decision on a store of capacity C (the argument) that random sets grew to 0.9 C runs. `make bench-growth` counts its
+ * instructions, which no cache and no other work on the machine changes. */
+#include <stdbool.h>
+#include <stdint.h>
+#include <stdlib.h>
+
+bool vizturel_bench_new(uint64_t *words, size_t count);
+bool vizturel_bench_is_sound(const uint64_t *words, size_t count);
+uint64_t vizturel_bench_grow(uint64_t *words, size_t count, uint64_t seed, uint64_t sets);
+
+int main(int argc, char **argv) {
+    size_t capacity = argc > 1 ? strtoul(argv[1], NULL, 10) : 0;
+    size_t count = 8 * (capacity + 3);
+    uint64_t wanted = capacity * 9 / 10, seed = 7919;
+    uint64_t *words = calloc(count, sizeof *words);
+    if (words == NULL || !vizturel_bench_new(words, count)) return 1;
+    while (words[4] < wanted) {
+        vizturel_bench_grow(words, count, seed, wanted - words[4]);
+        seed += 7919;
+    }
+    return vizturel_bench_is_sound(words, count) ? 0 : 1;
+}
