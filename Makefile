@@ -1,18 +1,21 @@
-# make run                the main job: prove every crate and run every program
+# make run                a small match: the library, IntervalBitSet and a late player deal the same slots, frame by frame
 # make test               every test; the last line is 'N passed, M failed'
+# make prove              prove every crate that has changed, and run every program
 # make host               build the Rust host over the proved archive and run its tests
 # make differential       the library against IntervalBitSet: exhaustive, damaged and random calls (under a minute)
 # make differential-long  the same with thirty million random calls, and the seed SEED=S (default 2)
 # make bench-soundness    how long the soundness decision takes, against readings of the same words (docs/BENCHMARKS.md)
 # make bench-growth       how many instructions it takes, at four capacities (needs valgrind)
-.PHONY: run test host differential differential-long bench-soundness bench-growth
-run:
-	rt check
-test:
-	@bash tests/run
+.PHONY: run test prove host differential differential-long bench-soundness bench-growth
 # The archive is written only if everything in it is proved.
 ARCHIVE := target/staticlib/libexports.a
 SEED ?= 2
+run: $(ARCHIVE)
+	@cargo run --quiet --offline --release --manifest-path host/Cargo.toml --bin play
+test:
+	@bash tests/run
+prove:
+	rt check
 $(ARCHIVE): crates.txt $(shell find crates -name '*.rt' -o -name '*.antt')
 	@mkdir -p target
 	rt staticlib exports > target/exports.log 2>&1 || { cat target/exports.log; exit 1; }

@@ -27,6 +27,7 @@ pub mod differential;
 /// IntervalBitSet as published (see NOTICE), not a byte changed. It has all that was published with it, so nothing had to be added.
 #[rustfmt::skip]
 pub mod oracle;
+pub mod play;
 mod raw;
 
 /// Why a call was refused. The numbers are the scope document's.

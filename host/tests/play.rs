@@ -1,0 +1,86 @@
+//! The match of `make run`: it ends equal, prints the same every time, and a build that deals one wrong slot is found out.
+
+use vizturel::Answer;
+use vizturel::play::{Build, Call, Failure, Library, Rust, Written, play};
+
+fn printed(builds: [&mut dyn Build; 3]) -> (String, Result<(usize, usize), Failure>) {
+    let mut out = Vec::new();
+    let ended = play(&mut out, builds).map(|e| (e.dealt, e.bytes));
+    (String::from_utf8(out).unwrap(), ended)
+}
+
+/// The library, but that the n-th slot that it deals is the next free one after the lowest.
+struct Wrong {
+    inner: Library,
+    left: u32,
+}
+
+impl Build for Wrong {
+    fn call(&mut self, call: &Call) -> Answer<Option<u64>> {
+        if matches!(call, Call::Spawn(_)) {
+            self.left = self.left.wrapping_sub(1);
+            if self.left == 0 {
+                self.inner.call(call)?;
+            }
+        }
+        self.inner.call(call)
+    }
+
+    fn write(&self) -> Answer<Written> {
+        self.inner.write()
+    }
+
+    fn load(&mut self, written: &Written) -> Answer<()> {
+        self.inner.load(written)
+    }
+}
+
+fn wrong(nth: u32) -> Wrong {
+    Wrong { inner: Library::new().unwrap(), left: nth }
+}
+
+#[test]
+fn the_match_ends_equal() {
+    let once = || printed([&mut Library::new().unwrap(), &mut Rust::default(), &mut Library::new().unwrap()]);
+    let (text, ended) = once();
+    let (dealt, bytes) = ended.unwrap();
+    assert!(dealt > 100 && bytes > 15);
+    let last =
+        format!("{dealt} slots dealt, equal in all builds; written sets of {bytes} bytes admitted the late player");
+    assert_eq!(text.lines().last(), Some(last.as_str()));
+    assert!((30..=40).contains(&text.lines().count()));
+    assert_eq!(once().0, text);
+}
+
+#[test]
+fn a_wrong_slot_is_found_in_any_build() {
+    // The 5th slot is dealt in frame 1; the late player's 4th, at the latest, two frames after it came.
+    for at in 0..3 {
+        let mut builds = [wrong(0), wrong(0), wrong(0)];
+        builds[at].left = 5;
+        let [library, rust, late] = &mut builds;
+        let (text, ended) = printed([library, rust, late]);
+        let Err(Failure::Unequal { frame, what }) = ended else { panic!("build {at}: no difference was found") };
+        assert!(if at < 2 { frame == 1 } else { (12..=14).contains(&frame) }, "build {at}: frame {frame}");
+        assert!(what.starts_with("spawn of "), "{what}");
+        assert!(!text.contains("slots dealt, equal"));
+    }
+}
+
+#[test]
+fn a_build_that_loads_nothing_is_found() {
+    struct Deaf(Library);
+    impl Build for Deaf {
+        fn call(&mut self, call: &Call) -> Answer<Option<u64>> {
+            self.0.call(call)
+        }
+        fn write(&self) -> Answer<Written> {
+            self.0.write()
+        }
+        fn load(&mut self, _: &Written) -> Answer<()> {
+            Ok(())
+        }
+    }
+    let (_, ended) = printed([&mut Library::new().unwrap(), &mut Rust::default(), &mut Deaf(Library::new().unwrap())]);
+    assert!(matches!(ended, Err(Failure::Unequal { frame: 12, .. })));
+}
