@@ -1,10 +1,13 @@
-//! Links the proved archive, which `rt staticlib exports` writes.
+//! Links the proved archive, which `rt staticlib exports` writes, or the one in the folder that VIZTUREL_ARCHIVE names.
 
-use std::path::Path;
+use std::env;
+use std::path::{Path, PathBuf};
 
 fn main() {
-    let folder = Path::new(env!("CARGO_MANIFEST_DIR")).join("../target/staticlib");
+    let shipped = || Path::new(env!("CARGO_MANIFEST_DIR")).join("../target/staticlib");
+    let folder = env::var_os("VIZTUREL_ARCHIVE").map_or_else(shipped, PathBuf::from);
     let archive = folder.join("libexports.a");
+    println!("cargo:rerun-if-env-changed=VIZTUREL_ARCHIVE");
     println!("cargo:rerun-if-changed={}", archive.display());
     println!("cargo:rustc-link-search=native={}", folder.display());
     println!("cargo:rustc-link-lib=static=exports");

@@ -1,0 +1,352 @@
+/* Every exported call on damaged stores, wrong lengths and damaged bytes, with all that is lent placed so that an access past its ends is
+ * seen, whoever makes it:
+ *
+ *   memory end    each slice ends where an inaccessible page begins
+ *   memory start  each slice begins where an inaccessible page ends
+ *   memory heap   each slice is a block of its own, of just its size, for a sanitizer or valgrind to watch
+ *
+ * In the first two, words that are lent to be read only lie in pages that cannot be written. A second word, read or write, makes one call with
+ * less memory than its count says, in breach of the header: a run that sees accesses past the ends does not live through it.
+ * A number instead makes it one in so many of the damaged stores. The last line is 'N answers, M wrong'. */
+#define _GNU_SOURCE
+#include <stdio.h>
+#include <stdlib.h>
+#include <string.h>
+#include <sys/mman.h>
+#include <unistd.h>
+#include "vizturel.h"
+
+#define M UINT64_MAX
+#define MOST 16 /* the largest capacity tried */
+#define IN vizturel_included
+#define ALL vizturel_unbounded()
+
+static enum { END, START, HEAP } place;
+static long answers, wrong;
+
+static void check(int ok, const char *what, int line) {
+    answers++;
+    if (!ok && wrong++ < 20) printf("line %d: %s\n", line, what);
+}
+#define CHECK(x) check((x), #x, __LINE__)
+
+typedef struct {
+    uint8_t *at;
+    uint8_t *pages; /* what lies between the inaccessible ones */
+    size_t length;  /* of these pages */
+} slice;
+
+static slice lend(size_t bytes) {
+    size_t page = (size_t)sysconf(_SC_PAGESIZE);
+    slice s = {NULL, NULL, (bytes + page - 1) / page * page};
+    uint8_t *all;
+    if (place == HEAP) {
+        s.at = (uint8_t *)malloc(bytes);
+        return s;
+    }
+    all = (uint8_t *)mmap(NULL, s.length + 2 * page, PROT_NONE, MAP_PRIVATE | MAP_ANONYMOUS, -1, 0);
+    if (all == MAP_FAILED || (s.length > 0 && mprotect(all + page, s.length, PROT_READ | PROT_WRITE) != 0)) {
+        perror("no inaccessible pages");
+        exit(2);
+    }
+    s.pages = all + page;
+    s.at = place == END ? s.pages + s.length - bytes : s.pages;
+    return s;
+}
+
+static void give_back(slice s) {
+    size_t page = (size_t)sysconf(_SC_PAGESIZE);
+    if (place == HEAP) {
+        free(s.at);
+    } else {
+        munmap(s.pages - page, s.length + 2 * page);
+    }
+}
+
+static void writable(slice s, int yes) {
+    if (place != HEAP && s.length > 0) mprotect(s.pages, s.length, yes ? PROT_READ | PROT_WRITE : PROT_READ);
+}
+
+typedef struct {
+    slice lent;
+    uint64_t *words;
+    size_t count;
+} store;
+
+static store lend_store(size_t count) {
+    store s;
+    s.lent = lend(8 * count);
+    s.words = (uint64_t *)(void *)s.lent.at;
+    s.count = count;
+    return s;
+}
+
+static uint64_t state = 20261116;
+static uint64_t chance(uint64_t n) {
+    state ^= state << 13;
+    state ^= state >> 7;
+    state ^= state << 17;
+    return state % n;
+}
+
+/* a sound store that is lent beside the damaged one, one to be made of it, and sound slices */
+static store partner, receiver;
+static slice out, map, set_bytes, run_words;
+static size_t set_length;
+
+#define MAP_LENGTH 100
+#define MAP_BYTES ((MAP_LENGTH + 7) / 8)
+#define LIST_RUNS 3
+
+static const vizturel_bound lowers[] = {{0, 0}, {1, 0}, {1, 40}, {2, M}, {1, M}, {1, UINT64_C(1) << 63}};
+static const vizturel_bound uppers[] = {{0, 0}, {2, 0}, {1, 90}, {1, 3}, {1, M}, {2, UINT64_C(1) << 63}};
+#define RANGES (sizeof lowers / sizeof *lowers)
+
+/* Every call that only reads the store, or makes another of it. Told is 0, 1 or 7: what each of them must be refused with. */
+static void reading_calls(store s, uint64_t told) {
+    const uint64_t *w = s.words;
+    size_t n = s.count, i;
+    uint64_t v = chance(2), x = chance(2) ? chance(120) : chance(M);
+    vizturel_bound lower, upper;
+    CHECK(vizturel_get(w, n, x).refusal == told);
+    CHECK(vizturel_run_at(w, n, x).refusal == told);
+    for (i = 0; i < 2; i++) {
+        lower = lowers[chance(RANGES)];
+        upper = uppers[chance(RANGES)];
+        CHECK(vizturel_find(w, n, lower, upper, v).refusal == told);
+        CHECK(vizturel_count(w, n, lower, upper, v).refusal == told);
+        CHECK(vizturel_select(w, n, lower, upper, v, chance(40)).refusal == told);
+        CHECK(vizturel_count_ranges(w, n, lower, upper, v).refusal == told);
+        CHECK(vizturel_ranges(w, n, lower, upper, v).refusal == told);
+    }
+    CHECK(vizturel_draw_front(w, n, x, M, v).refusal == told);
+    CHECK(vizturel_draw_back(w, n, 0, x, v).refusal == told);
+    CHECK(vizturel_fill(w, n, x / 2, 1 + chance(200)).refusal == told);
+    CHECK(vizturel_eq(w, n, partner.words, partner.count).refusal == told);
+    CHECK(vizturel_eq(partner.words, partner.count, w, n).refusal == told);
+    CHECK(vizturel_write(w, n, out.at, VIZTUREL_SET_BYTES(MOST)).refusal == told);
+    CHECK(vizturel_write_map(w, n, x / 2, MAP_LENGTH, map.at, MAP_BYTES).refusal == told);
+    /* into another store; there it may also not fit */
+    uint64_t r = vizturel_combine(receiver.words, receiver.count, chance(3), w, n, partner.words, partner.count);
+    CHECK(told ? r == told : r == 0 || r == VIZTUREL_CAPACITY);
+    r = vizturel_combine(receiver.words, receiver.count, chance(3), partner.words, partner.count, w, n);
+    CHECK(told ? r == told : r == 0 || r == VIZTUREL_CAPACITY);
+    r = vizturel_not(receiver.words, receiver.count, w, n);
+    CHECK(told ? r == told : r == 0 || r == VIZTUREL_CAPACITY);
+    r = vizturel_shifted(receiver.words, receiver.count, x, v, w, n);
+    CHECK(told ? r == told : r == 0 || r == VIZTUREL_CAPACITY);
+}
+
+/* Every call that changes the store, each on the same words; told as before. A refused one has changed none of them. */
+static void changing_calls(store s, const uint64_t *damaged, uint64_t told) {
+    uint64_t v = chance(2), x = chance(2) ? chance(120) : chance(M), refusal = 0;
+    vizturel_bound lower = lowers[chance(RANGES)], upper = uppers[chance(RANGES)];
+    int which;
+    for (which = 0; which < 10; which++) {
+        switch (which) {
+        case 0: refusal = vizturel_set(s.words, s.count, lower, upper, v).refusal; break;
+        case 1: refusal = vizturel_flip(s.words, s.count, lower, upper); break;
+        case 2: refusal = vizturel_shift(s.words, s.count, x, v); break;
+        case 3: refusal = vizturel_read_map(s.words, s.count, x / 2, MAP_LENGTH, map.at, MAP_BYTES).refusal; break;
+        /* these look at no word of it */
+        case 4: refusal = vizturel_new(s.words, s.count); break;
+        case 5: refusal = vizturel_load(s.words, s.count, set_bytes.at, set_length); break;
+        case 6: refusal = vizturel_build(s.words, s.count, (const uint64_t *)(void *)run_words.at, 2 * LIST_RUNS); break;
+        case 7: refusal = vizturel_combine(s.words, s.count, v, partner.words, partner.count, partner.words, partner.count); break;
+        case 8: refusal = vizturel_not(s.words, s.count, partner.words, partner.count); break;
+        case 9: refusal = vizturel_shifted(s.words, s.count, x, v, partner.words, partner.count); break;
+        }
+        if (told == VIZTUREL_STORE_LENGTH || (told == VIZTUREL_UNSOUND && which < 4)) {
+            CHECK(refusal == told);
+        } else {
+            CHECK(refusal == 0 || refusal == VIZTUREL_CAPACITY);
+        }
+        CHECK(refusal == 0 || memcmp(s.words, damaged, 8 * s.count) == 0);
+        memcpy(s.words, damaged, 8 * s.count);
+    }
+}
+
+static long sound, unsound;
+
+static void every_call(store s, const uint64_t *damaged) {
+    uint64_t told;
+    memcpy(s.words, damaged, 8 * s.count);
+    told = vizturel_get(s.words, s.count, 0).refusal;
+    CHECK(told == 0 || told == VIZTUREL_UNSOUND || told == VIZTUREL_STORE_LENGTH);
+    if (told == 0) sound++;
+    if (told == VIZTUREL_UNSOUND) unsound++;
+    writable(s.lent, 0);
+    reading_calls(s, told);
+    writable(s.lent, 1);
+    changing_calls(s, damaged, told);
+}
+
+/* a sound store, of which kind there are five */
+static void fill_store(store s, size_t capacity, int kind) {
+    size_t i;
+    CHECK(vizturel_new(s.words, s.count) == 0);
+    if (kind == 1) CHECK(vizturel_set(s.words, s.count, ALL, ALL, 1).refusal == 0);
+    if (kind >= 2) {
+        for (i = 0; i < capacity; i++) CHECK(vizturel_set(s.words, s.count, IN(9 * i), IN(9 * i + i % 5), 1).refusal == 0);
+    }
+    /* kind 3 goes over the place where physical positions end; in kind 4 nodes have been freed and used again */
+    if (kind == 3) {
+        CHECK(vizturel_shift(s.words, s.count, 20, 0) == 0);
+        CHECK(vizturel_shift(s.words, s.count, 33, 1) == 0);
+    }
+    if (kind == 4) {
+        for (i = 0; i < capacity; i += 3) CHECK(vizturel_set(s.words, s.count, IN(9 * i), IN(9 * i + 4), 0).refusal == 0);
+        CHECK(vizturel_set(s.words, s.count, IN(1), IN(2), 1).refusal == 0);
+    }
+}
+
+static void damaged_stores(size_t capacity, long stride) {
+    size_t count = VIZTUREL_WORDS(capacity), i, k;
+    store s = lend_store(count);
+    uint64_t *whole = (uint64_t *)malloc(8 * count), *damaged = (uint64_t *)malloc(8 * count);
+    long turn = 0;
+    int kind;
+    for (kind = 0; kind < 5; kind++) {
+        fill_store(s, capacity, kind);
+        memcpy(whole, s.words, 8 * count);
+        every_call(s, whole);
+        for (i = 0; i < count; i++) {
+            uint64_t w = whole[i];
+            /* links just past the last node, and such that eight times them wraps; then each bit */
+            const uint64_t values[] = {0, 1, 2, capacity + 1, capacity + 2, capacity + 3, capacity + 4, count - 1, count, count + 1,
+                w + 1, w - 1, ~w, M, M - 1, UINT64_C(1) << 61, (UINT64_C(1) << 61) + 1, (M >> 3) + 1 + capacity, M >> 3, M >> 1};
+            size_t given = sizeof values / sizeof *values;
+            for (k = 0; k < given + 64; k++) {
+                if (turn++ % stride != 0) continue;
+                memcpy(damaged, whole, 8 * count);
+                damaged[i] = k < given ? values[k] : w ^ UINT64_C(1) << (k - given);
+                every_call(s, damaged);
+            }
+        }
+        /* several words at once: copies of other words, links of either kind, anything */
+        for (k = 0; k < 2000; k++) {
+            size_t many = 1 + chance(6);
+            if (turn++ % stride != 0) continue;
+            memcpy(damaged, whole, 8 * count);
+            for (i = 0; i < many; i++) {
+                uint64_t at = chance(count);
+                damaged[at] = chance(2) ? whole[chance(count)] : chance(2) ? chance(capacity + 5) : chance(M);
+            }
+            every_call(s, damaged);
+        }
+    }
+    free(whole);
+    free(damaged);
+    give_back(s.lent);
+}
+
+/* Every length up to 80 words, none of which is a store but 32, 40, .. 80. */
+static void wrong_lengths(void) {
+    uint64_t garbage[80];
+    size_t count, i;
+    for (count = 0; count <= 80; count++) {
+        store s = lend_store(count);
+        for (i = 0; i < 80; i++) garbage[i] = chance(2) ? chance(12) : chance(M);
+        every_call(s, garbage);
+        give_back(s.lent);
+    }
+}
+
+/* Written sets of every length up to some, with right and wrong counts of runs; outputs of every length; run lists and maps too. */
+static void damaged_bytes(void) {
+    static const uint8_t counts[][4] = {{0, 0, 0, 0}, {0, 0, 0, 1}, {0, 0, 0, 3}, {0, 0, 0, 4}, {255, 255, 255, 255}, {16, 0, 0, 0}, {16, 0, 0, 1}, {128, 0, 0, 0}};
+    store s = lend_store(VIZTUREL_WORDS(3));
+    size_t length, c, i;
+    for (length = 0; length <= 5 + 16 * 5; length++) {
+        slice bytes = lend(length);
+        for (c = 0; c < sizeof counts / 4; c++) {
+            int version;
+            for (version = 0; version < 3; version++) {
+                for (i = 0; i < length; i++) bytes.at[i] = (uint8_t)(i < 5 ? 0 : (i - 5) / 8 * 3 * ((i - 5) % 8 == 7));
+                if (length > 0) bytes.at[0] = (uint8_t)version;
+                for (i = 1; i < 5 && i < length; i++) bytes.at[i] = counts[c][i - 1];
+                writable(bytes, 0);
+                uint64_t r = vizturel_load(s.words, s.count, bytes.at, length);
+                CHECK(length < 5 ? r == VIZTUREL_SET_LENGTH : version != 1 ? r == VIZTUREL_SET_VERSION : r == 0 || r == VIZTUREL_SET_LENGTH || r == VIZTUREL_CAPACITY);
+                writable(bytes, 1);
+            }
+        }
+        /* a slice to write to, a map to read and a run list, of that length */
+        fill_store(s, 3, 2);
+        vizturel_written w = vizturel_write(s.words, s.count, bytes.at, length);
+        CHECK(length < VIZTUREL_SET_BYTES(3) ? w.refusal == VIZTUREL_OUTPUT_SHORT : w.refusal == 0);
+        w = vizturel_write_map(s.words, s.count, 3, 8 * 20, bytes.at, length);
+        CHECK(length < 20 ? w.refusal == VIZTUREL_OUTPUT_SHORT : w.refusal == 0);
+        for (i = 0; i < length; i++) bytes.at[i] = 255;
+        uint64_t r = vizturel_read_map(s.words, s.count, 3, 8 * 20, bytes.at, length).refusal;
+        CHECK(length == 20 ? r == 0 : r == VIZTUREL_WINDOW);
+        r = vizturel_read_map(s.words, s.count, M - 7 * length, 7 * length + 1, bytes.at, length).refusal;
+        CHECK(r == 0 || r == VIZTUREL_WINDOW || r == VIZTUREL_CAPACITY);
+        give_back(bytes);
+        if (length <= 10) {
+            slice list = lend(8 * length);
+            uint64_t *runs = (uint64_t *)(void *)list.at;
+            for (i = 0; i < length; i++) runs[i] = 5 * i;
+            writable(list, 0);
+            r = vizturel_build(s.words, s.count, runs, length);
+            CHECK(length / 2 > 3 ? r == VIZTUREL_CAPACITY : r == 0);
+            give_back(list);
+        }
+    }
+    give_back(s.lent);
+}
+
+/* One word less than the count says is lent, at the end or, where only the start is watched, before it. */
+static void breach(int write) {
+    size_t count = VIZTUREL_WORDS(1);
+    store s = lend_store(count), less = lend_store(count - 1);
+    uint64_t *words = place == START ? less.words - 1 : less.words;
+    if (write) {
+        vizturel_new(words, count);
+    } else {
+        vizturel_new(s.words, count);
+        memcpy(less.words, s.words + (place == START), 8 * (count - 1));
+        vizturel_get(words, count, 0);
+    }
+    puts("an access past the end was not seen");
+}
+
+int main(int argc, char **argv) {
+    static const char *places[] = {"end", "start", "heap"};
+    static const size_t capacities[] = {1, 2, 3, 5, 9, MOST};
+    long stride = argc > 2 ? atol(argv[2]) : 1;
+    size_t i;
+    for (i = 0; i < 3 && argc > 1; i++) {
+        if (strcmp(argv[1], places[i]) == 0) break;
+    }
+    if (argc < 2 || i == 3) return 2;
+    place = i == 0 ? END : i == 1 ? START : HEAP;
+    if (argc > 2 && (strcmp(argv[2], "read") == 0 || strcmp(argv[2], "write") == 0)) {
+        breach(argv[2][0] == 'w');
+        return 0;
+    }
+    if (stride < 1) return 2;
+
+    partner = lend_store(VIZTUREL_WORDS(MOST));
+    receiver = lend_store(VIZTUREL_WORDS(3));
+    fill_store(partner, 9, 3);
+    out = lend(VIZTUREL_SET_BYTES(MOST));
+    map = lend(MAP_BYTES);
+    memset(map.at, 0x35, MAP_BYTES);
+    run_words = lend(8 * 2 * LIST_RUNS);
+    for (i = 0; i < 2 * LIST_RUNS; i++) ((uint64_t *)(void *)run_words.at)[i] = 4 * i;
+    set_length = VIZTUREL_SET_BYTES(1);
+    set_bytes = lend(set_length);
+    memset(set_bytes.at, 0, set_length);
+    set_bytes.at[0] = set_bytes.at[4] = 1;
+    set_bytes.at[20] = 9;
+
+    for (i = 0; i < sizeof capacities / sizeof *capacities; i++) damaged_stores(capacities[i], stride);
+    wrong_lengths();
+    damaged_bytes();
+    /* a test that met no sound store, or no damaged one, would have tested nothing */
+    CHECK(sound > 100 && unsound > 1000);
+    printf("%ld sound stores and %ld others\n", sound, unsound);
+    printf("%ld answers, %ld wrong\n", answers, wrong);
+    return wrong != 0;
+}
