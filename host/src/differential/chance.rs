@@ -2,7 +2,8 @@
 
 use std::ops::Bound;
 
-use super::calls::{Call, Range, World, ends_of};
+use super::calls::{Call, Range, ends_of};
+use super::expected::Store;
 use super::random::Random;
 use super::reference::{self, Run};
 use crate::{Listing, Operation};
@@ -174,9 +175,9 @@ fn slice_room(random: &mut Random, due: usize) -> usize {
 }
 
 /// A call of the kind, about store `at` or, where the kind makes a store of others, with `at` among them.
-pub fn call(random: &mut Random, world: &World, kind: Kind, at: usize) -> Call {
-    let count = world.stores.len() as u64;
-    let runs = &world.stores[at].runs[..];
+pub fn call(random: &mut Random, stores: &[Store], kind: Kind, at: usize) -> Call {
+    let count = stores.len() as u64;
+    let runs = &stores[at].runs[..];
     let value = random.truth();
     let left = random.truth();
     let other = random.below(count) as usize;
@@ -221,13 +222,13 @@ pub fn call(random: &mut Random, world: &World, kind: Kind, at: usize) -> Call {
         }
         Kind::Fill => Call::Fill { at, base: position(random, runs), n: window(random) },
         Kind::Load => {
-            let mut bytes = reference::encode(&run_list(random, &world.stores[third].runs));
+            let mut bytes = reference::encode(&run_list(random, &stores[third].runs));
             if random.once_in(4) {
                 spoil(random, &mut bytes);
             }
             Call::Load { to: at, bytes }
         }
-        Kind::Build => Call::Build { to: at, runs: run_list(random, &world.stores[third].runs) },
+        Kind::Build => Call::Build { to: at, runs: run_list(random, &stores[third].runs) },
         Kind::ReadMap => {
             let n = window(random);
             Call::ReadMap { at, base: position(random, runs), n, map: map(random, n) }
