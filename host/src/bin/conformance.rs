@@ -1,12 +1,12 @@
 //! Writes the lists of the conformance pack, each as NAME.calls and NAME.answers, into the folder that is given.
 
-use std::path::PathBuf;
+use std::path::{Path, PathBuf};
 use std::process::ExitCode;
 use std::{env, fs, io};
 
 use vizturel::conformance::{List, lists};
 
-fn put(folder: &PathBuf, list: &List) -> io::Result<()> {
+fn put(folder: &Path, list: &List) -> io::Result<()> {
     fs::write(folder.join(list.name).with_extension("calls"), &list.calls)?;
     fs::write(folder.join(list.name).with_extension("answers"), &list.answers)
 }

@@ -1,8 +1,11 @@
 //! The lists, each with one purpose.
 
-use super::List;
-use super::text::digits;
-use crate::differential::calls::Call;
+use super::text::{self, digits};
+use super::{List, SLICE, fits};
+use crate::Listing;
+use crate::differential::calls::{Call, Told};
+use crate::differential::chance::{self, Kind, Wander};
+use crate::differential::random::Random;
 use crate::differential::reference::{self, Run};
 
 const M: u64 = u64::MAX;
@@ -10,7 +13,7 @@ const HALF: u64 = 1 << 63;
 
 /// Every list.
 pub fn all() -> Vec<List> {
-    vec![cases(), refusals()]
+    vec![cases(), bounds(), refusals(), listings(), shifts(), joined(), bytes(), capacity(), long()]
 }
 
 // The scope document's sixteen cases, and its fill.
@@ -350,4 +353,379 @@ fn full(list: &mut List) {
             list.show(0);
         }
     }
+}
+
+// No bound, and each position included and excluded.
+fn every_bound(positions: &[u64]) -> Vec<String> {
+    let mut all = vec!["u".to_string()];
+    for x in positions {
+        all.extend([format!("i{x}"), format!("e{x}")]);
+    }
+    all
+}
+
+// Every pair of bounds at 0, around 2^63 and at M, empty and reversed ranges among them.
+fn bounds() -> List {
+    let mut list = List::new("bounds");
+    list.store(0, 4, &[[0, 1], [HALF - 1, HALF + 1], [M, M]]);
+    list.say("words 1 4\nnew 1");
+    let bounds = every_bound(&[0, HALF - 1, HALF, M]);
+    for (i, (lower, upper)) in bounds.iter().flat_map(|l| bounds.iter().map(move |u| (l, u))).enumerate() {
+        let range = format!("{lower} {upper}");
+        let (v, w) = (i % 2, 1 - i % 2);
+        let k = [0, 1, 3, HALF - 3, HALF, M][i % 6];
+        list.say(&format!(
+            "find 0 {range} {v}
+            find 0 {range} {w}
+            count 0 {range} {v}
+            count_ranges 0 {range} {v}
+            ranges 0 {range} {w}
+            select 0 {range} {v} {k}
+            set 1 {range} {}
+            flip 1 {range}
+            count 1 u u 1",
+            i / 3 % 2
+        ));
+    }
+    for x in [0, 1, 2, HALF - 2, HALF - 1, HALF, HALF + 1, HALF + 2, M - 1, M] {
+        list.say(&format!("get 0 {x}\nrun_at 0 {x}"));
+    }
+    // The whole of a full set and of an empty one.
+    list.say("words 2 1");
+    for (made, value) in [("new 2\nset 2 u u 1", 1), ("new 2", 0)] {
+        list.say(made);
+        for k in [0, 1, HALF, M - 1, M] {
+            list.say(&format!("select 2 u u {value} {k}"));
+        }
+        list.say(&format!("count 2 u u {value}\ncount 2 e0 u {value}\ncount 2 u e{M} {value}\nrun_at 2 {HALF}"));
+    }
+    list
+}
+
+impl List {
+    // Makes a listing of store 0.
+    fn listing(&mut self, range: &str, value: u64) -> Listing {
+        let call = text::read(&format!("ranges 0 {range} {value}")).expect("a call");
+        match self.call(&call) {
+            Told::Draws(made, _) => made,
+            told => panic!("no listing: {told:?}"),
+        }
+    }
+
+    // Draws from it: whether there was a run, and what is left.
+    fn draw(&mut self, listing: Listing, back: bool) -> (bool, Listing) {
+        match self.call(&Call::Draw { at: 0, listing, back }) {
+            Told::Drawn(run, left) => (run.is_some(), left),
+            told => panic!("no draw: {told:?}"),
+        }
+    }
+
+    // Draws a listing to its end, and once more; bit i of `backs` says that draw i is from the back.
+    fn drain(&mut self, range: &str, value: u64, backs: u64) {
+        let mut left = (true, self.listing(range, value));
+        for i in 0.. {
+            left = self.draw(left.1, backs >> (i % 64) & 1 == 1);
+            if !left.0 {
+                self.draw(left.1, backs & 1 == 1);
+                return;
+            }
+        }
+    }
+}
+
+// Draws from both ends, of ended listings, and of a store that changes in between.
+fn listings() -> List {
+    let mut list = List::new("listings");
+    let mut random = Random::new(0x11);
+    let sets: [&[Run]; 5] = [
+        &[],
+        &[[0, M]],
+        &[[2, 7], [10, 14], [M - 3, M]],
+        &[[0, 0], [2, 2], [4, 4], [6, 6]],
+        &[[0, HALF - 1], [HALF + 1, M]],
+    ];
+    let ranges = ["u u", "i4 e12", "e2 i10", "i7 i7", "i5 e5", "i9 i3", "u e0"];
+    let wide = [format!("i{} u", M - 1), format!("e{M} u"), format!("i1 i{HALF}")];
+    for runs in sets {
+        list.store(0, 4, runs);
+        for range in ranges.iter().copied().chain(wide.iter().map(String::as_str)) {
+            for value in 0..2 {
+                let mixed = random.number();
+                list.drain(range, value, random.one_of(&[0, M, mixed]));
+            }
+        }
+    }
+    // Listings that no call made.
+    list.store(0, 4, &[[2, 7], [10, 14], [M - 3, M]]);
+    for (first, last) in [(5, 4), (M, 0), (1, 0), (0, 0), (M, M), (7, 10), (8, 9), (3, M - 1)] {
+        for value in 0..2 {
+            list.say(&format!("draw_front 0 {first} {last} {value}\ndraw_back 0 {first} {last} {value}"));
+        }
+    }
+    list.say("words 0 6");
+    for turn in 0..16 {
+        let runs = vec![[0, 3], [20, 29], [60, 60], [HALF, HALF + 9], [M - 20, M - 10]];
+        list.call(&Call::Build { to: 0, runs: runs.clone() });
+        let range = [String::from("u u"), format!("i10 e{M}"), format!("e2 i{}", HALF + 4), String::from("i25 u")];
+        let mut listing = list.listing(&range[turn % 4], random.below(2));
+        for _ in 0..6 {
+            listing = list.draw(listing, random.truth()).1;
+            let x = random.one_of(&runs)[0].saturating_add(random.below(12)).saturating_sub(5);
+            let y = x.saturating_add(random.below(9));
+            let change = [
+                format!("set 0 i{x} i{y} {}", random.below(2)),
+                format!("flip 0 i{x} i{y}"),
+                String::from("shift 0 7 1"),
+            ];
+            list.say(&random.one_of(&change));
+        }
+    }
+    list
+}
+
+// Both shifts over every distance that is a limit, and what is reported and changed where positions wrap.
+fn shifts() -> List {
+    let mut list = List::new("shifts");
+    let sets: [&[Run]; 6] = [
+        &[],
+        &[[0, M]],
+        &[[0, 0], [M, M]],
+        &[[0, 70], [M - 64, M - 62], [M - 1, M]],
+        &[[62, 64], [HALF - 1, HALF]],
+        &[[1, HALF - 1], [HALF + 1, M - 1]],
+    ];
+    for runs in sets {
+        list.store(2, 3, runs);
+        list.say("words 0 3\nwords 1 3");
+        for distance in [0, 1, 63, 64, HALF, M] {
+            for left in 0..2 {
+                list.say(&format!(
+                    "shifted 1 2 {distance} {left}
+                    shifted 0 2 0 1
+                    shift 0 {distance} {left}
+                    eq 0 1"
+                ));
+                list.show(0);
+                list.say(&format!("run_at 0 0\ncount_ranges 0 u u 0\nflip 0 i{} u\nrun_at 0 {M}", M - 1));
+            }
+        }
+    }
+    let mut random = Random::new(0x5F);
+    let kinds =
+        [Kind::Shift, Kind::Shift, Kind::Set, Kind::Flip, Kind::RunAt, Kind::CountRanges, Kind::Select, Kind::Shifted];
+    for capacity in [2, 5] {
+        for (at, runs) in [[5, 9], [0, M], [0, 0], [M, M]].into_iter().enumerate() {
+            list.store(at, capacity, &[runs]);
+        }
+        for _ in 0..70 {
+            let kind = random.one_of(&kinds);
+            let at = random.below(2) as usize;
+            list.chance(&mut random, kind, at);
+        }
+        list.show(0);
+        list.show(1);
+    }
+    list
+}
+
+// Sets made of others, and compared.
+fn joined() -> List {
+    let mut list = List::new("joined");
+    let sets: [&[Run]; 7] = [
+        &[],
+        &[[0, M]],
+        &[[2, 7]],
+        &[[5, 9], [20, 29]],
+        &[[0, 4], [8, 8], [10, M]],
+        &[[0, 0], [M, M]],
+        &[[8, HALF], [HALF + 2, M - 1]],
+    ];
+    list.say("words 0 6\nwords 3 2");
+    for (i, a) in sets.iter().enumerate() {
+        list.store(1, 3, a);
+        list.say("not 0 1");
+        list.show(0);
+        list.say("not 3 1\ncount 3 u u 1\neq 1 1");
+        for (j, b) in sets.iter().enumerate() {
+            list.store(2, 3, b);
+            list.say("eq 1 2");
+            for op in ["and", "or", "xor"] {
+                list.say(&format!("combine 0 {op} 1 2"));
+                list.show(0);
+            }
+            // Into two runs, which may be too few.
+            list.say(&format!("combine 3 {} 2 1\ncount 3 u u 1", ["and", "or", "xor"][(i + j) % 3]));
+        }
+        list.say("combine 0 and 1 1\neq 0 1\ncombine 0 xor 1 1\ncount 0 u u 1");
+    }
+    // The same positions by other histories.
+    list.say(&format!(
+        "new 1
+        set 1 i10 i19 1
+        shift 1 5 1
+        set 1 u i14 1
+        build 2 1 0 24
+        eq 1 2
+        eq 2 1
+        shift 1 {HALF} 1
+        shift 1 {HALF} 0
+        eq 1 2
+        flip 2 i24 i24
+        eq 1 2
+        shift 1 1 0
+        eq 1 2"
+    ));
+    let mut random = Random::new(0x70);
+    for at in 0..3 {
+        list.store(at, [3, 5, 8][at], &[[4, 9]]);
+    }
+    for _ in 0..120 {
+        let joining = [Kind::Combine, Kind::Combine, Kind::Not, Kind::Shifted, Kind::Equal];
+        let changing = [Kind::Set, Kind::Set, Kind::Flip, Kind::Shift];
+        let kind = if random.truth() { random.one_of(&joining) } else { random.one_of(&changing) };
+        let at = random.below(3) as usize;
+        list.chance(&mut random, kind, at);
+    }
+    list
+}
+
+// Written sets and maps: whole and damaged ones, slices that are too short, spare bits.
+fn bytes() -> List {
+    let mut list = List::new("bytes");
+    let mut random = Random::new(0xB7);
+    let sets: [&[Run]; 7] = [
+        &[],
+        &[[2, 3]],
+        &[[0, M]],
+        &[[0, 0], [M, M]],
+        &[[2, 3], [8, 9]],
+        &[[0, HALF - 1], [HALF + 1, M]],
+        &[[1, 1], [3, 3], [5, 255], [257, M - 2]],
+    ];
+    list.say("words 0 4");
+    for runs in sets {
+        let written = reference::encode(runs);
+        list.call(&Call::Load { to: 0, bytes: written.clone() });
+        for room in [0, written.len() - 1, written.len(), written.len() + 3] {
+            list.call(&Call::Write { at: 0, room });
+        }
+        for i in 0..written.len() {
+            let mut bytes = written.clone();
+            bytes[i] = random.one_of(&[written[i] ^ 1, 0xFF - written[i]]);
+            list.call(&Call::Load { to: 0, bytes });
+        }
+        for _ in 0..4 {
+            let mut bytes = written.clone();
+            chance::spoil(&mut random, &mut bytes);
+            list.call(&Call::Load { to: 0, bytes });
+        }
+        list.show(0);
+    }
+    // A full store of the largest capacity of a list, and the largest map.
+    let many: Vec<Run> = (0..64).map(|i| [i << 58, (i << 58) + random.below(1 << 57)]).collect();
+    list.say("words 1 64");
+    list.call(&Call::Load { to: 1, bytes: reference::encode(&many) });
+    list.say(&format!("write_set 1 {}\nwrite_set 1 {SLICE}\nset 1 i{M} i{M} 1\nnew 1", SLICE - 1));
+    let map: Vec<u8> = (0..1024).map(|i| if i % 32 < 16 { 0x0F << (i % 5) } else { 0xFF }).collect();
+    for base in [0, M - 8191] {
+        list.call(&Call::ReadMap { at: 1, base, n: 8192, map: map.clone() });
+    }
+    let few: Vec<u8> = (0..1024).map(|i| if i / 20 % 2 == 0 { 0xFF } else { 0 }).collect();
+    list.call(&Call::ReadMap { at: 1, base: 3, n: 8190, map: few });
+    list.say("fill 1 0 8192\nwrite_map 1 0 8192 1024\nwrite_map 1 5 8180 1023\nwrite_map 1 0 8192 1023");
+    windows(&mut list, &mut random);
+    list
+}
+
+// Windows at every limit, of sizes about whole bytes.
+fn windows(list: &mut List, random: &mut Random) {
+    list.store(0, 12, &[[3, 9], [HALF, HALF + 40], [M - 5, M]]);
+    for n in [1, 2, 7, 8, 9, 15, 16, 17, 64, 65] {
+        for base in [0, 1, HALF - 4, M - (n - 1)] {
+            let due = n.div_ceil(8) as usize;
+            let mut map: Vec<u8> = (0..due).map(|_| random.one_of(&[0, 0xFF, 0x3C, 0xA1])).collect();
+            // Spare bits of both values.
+            let spare = (!0_u16 << ((n - 1) % 8 + 1)) as u8;
+            map[due - 1] = if random.truth() { map[due - 1] | spare } else { map[due - 1] & !spare };
+            list.call(&Call::ReadMap { at: 0, base, n, map });
+            for room in [due - 1, due, due + 2] {
+                list.call(&Call::WriteMap { at: 0, base, n, room });
+            }
+            list.say(&format!("fill 0 {base} {n}\ncount 0 u u 1"));
+        }
+    }
+}
+
+// Changes at the limit of small capacities. Runs are counted by position, wherever a store keeps them.
+fn capacity() -> List {
+    let mut list = List::new("capacity");
+    // Every change of a short range beside one run, at capacity 1.
+    list.say("words 0 1");
+    for a in 0..6 {
+        for b in a..6 {
+            for change in ["set 0 RANGE 1", "set 0 RANGE 0", "flip 0 RANGE"] {
+                list.say("build 0 1 2 3");
+                list.say(&change.replace("RANGE", &format!("i{a} i{b}")));
+                list.say("count 0 u u 1");
+            }
+        }
+    }
+    // All positions, moved: what was the last is beside what was the first.
+    for room in [1, 2] {
+        list.say(&format!("words 0 {room}"));
+        let ends = [0, 1, 2, 3, M - 1, M];
+        for (i, a) in ends.iter().enumerate() {
+            for b in &ends[i..] {
+                let change = if i % 2 == 0 { format!("flip 0 i{a} i{b}") } else { format!("set 0 i{a} i{b} 1") };
+                for shift in ["shift 0 3 1", "shift 0 2 0"] {
+                    list.say(&format!("build 0 1 0 {M}\n{shift}\n{change}\ncount_ranges 0 u u 1"));
+                }
+            }
+        }
+    }
+    let mut random = Random::new(0xCA);
+    for room in [1, 2, 3, 4] {
+        list.store(0, room, &[[2, 3]]);
+        for _ in 0..60 {
+            match random.below(8) {
+                0 => list.chance(&mut random, Kind::ReadMap, 0),
+                1 => list.say(&format!("shift 0 {} {}", random.below(6), random.below(2))),
+                2 => list.chance(&mut random, Kind::Flip, 0),
+                _ => {
+                    let x = chance::position(&mut random, &[]).saturating_sub(random.below(8));
+                    let y = x.saturating_add(random.below(4));
+                    list.say(&format!("set 0 i{x} i{y} {}", u8::from(!random.once_in(3))));
+                }
+            }
+            if random.once_in(3) {
+                list.show(0);
+            }
+        }
+    }
+    list
+}
+
+// Random histories of all calls.
+fn long() -> List {
+    let mut list = List::new("long");
+    let mut random = Random::new(0x10);
+    for capacities in [[1, 2, 3, 4], [5, 8, 8, 12], [2, 16, 24, 6], [32, 64, 48, 64]] {
+        for (at, &capacity) in capacities.iter().enumerate() {
+            // The larger ones half full, or few histories would come near their limits.
+            let step = M / capacity as u64;
+            let runs: Vec<Run> = (0..capacity as u64 / 2)
+                .map(|i| 2 * i * step)
+                .map(|start| [start, start + random.below(step)])
+                .collect();
+            list.store(at, capacity, &runs);
+        }
+        let mut history = Wander::default();
+        for _ in 0..215 {
+            let call = history.next(&mut random, &list.expected.stores);
+            if fits(&call) {
+                list.call(&call);
+            }
+        }
+    }
+    list
 }

@@ -5,7 +5,10 @@ pub mod lists;
 pub mod text;
 
 use crate::differential::calls::{Call, Told};
+use crate::differential::chance::{self, Kind};
 use crate::differential::expected::{Expected, Store};
+use crate::differential::random::Random;
+use crate::differential::reference::Run;
 
 /// How many stores a list has.
 pub const STORES: usize = 4;
@@ -66,6 +69,20 @@ impl List {
             let call = text::read(line).unwrap_or_else(|| panic!("no call: {line}"));
             self.call(&call);
         }
+    }
+
+    // Adds a call by chance, if it keeps the limits.
+    fn chance(&mut self, random: &mut Random, kind: Kind, at: usize) {
+        let call = chance::call(random, &self.expected.stores, kind, at);
+        if fits(&call) {
+            self.call(&call);
+        }
+    }
+
+    // Makes a store of that capacity with these runs.
+    fn store(&mut self, at: usize, capacity: usize, runs: &[Run]) {
+        self.call(&Call::Lend { at, words: crate::room(capacity) });
+        self.call(&Call::Build { to: at, runs: runs.to_vec() });
     }
 
     // Adds the writing of a store's set, just as long as is due.

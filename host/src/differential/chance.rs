@@ -262,3 +262,51 @@ fn order(random: &mut Random, runs: &[Run], range: Range, value: bool) -> u64 {
     };
     k.min(u128::from(u64::MAX)) as u64
 }
+
+// What a stretch of a random history does most.
+const MOODS: [&[Kind]; 7] = [
+    &[Kind::Set],
+    &[Kind::Set, Kind::Flip],
+    &[Kind::Shift, Kind::Shift, Kind::Set],
+    &[Kind::Combine, Kind::Not, Kind::Shifted, Kind::Set],
+    &[Kind::Load, Kind::Build, Kind::Write, Kind::Set],
+    &[Kind::ReadMap, Kind::WriteMap, Kind::Fill, Kind::Shift],
+    &[Kind::Ranges, Kind::Draw, Kind::Select, Kind::Set],
+];
+
+/// A random history of all calls, in stretches that do one thing most and are about one store.
+pub struct Wander {
+    mood: &'static [Kind],
+    at: usize,
+}
+
+impl Default for Wander {
+    fn default() -> Wander {
+        Wander { mood: MOODS[0], at: 0 }
+    }
+}
+
+impl Wander {
+    /// The next call.
+    pub fn next(&mut self, random: &mut Random, stores: &[Store]) -> Call {
+        if random.once_in(40) {
+            self.mood = random.one_of(&MOODS);
+            self.at = random.below(stores.len() as u64) as usize;
+        }
+        let at = self.at;
+        let kind = if random.truth() { random.one_of(self.mood) } else { random.one_of(&KINDS) };
+        // Making a store anew, filling and emptying come up, but seldom, or nothing would grow.
+        match kind {
+            Kind::New if !random.once_in(20) => call(random, stores, Kind::Set, at),
+            Kind::Set | Kind::Flip if !random.once_in(6) => {
+                let x = position(random, &stores[at].runs);
+                let range = (Bound::Included(x), Bound::Included(x.saturating_add(random.below(12))));
+                match kind {
+                    Kind::Set => Call::Set { at, range, value: !random.once_in(3) },
+                    _ => Call::Flip { at, range },
+                }
+            }
+            kind => call(random, stores, kind, at),
+        }
+    }
+}

@@ -3,7 +3,7 @@
 use std::ops::Bound;
 
 use super::calls::{Call, Range, SPARE};
-use super::chance::{self, KINDS, Kind};
+use super::chance::{self, KINDS, Kind, Wander};
 use super::random::Random;
 use super::reference::{self, Run, Shape};
 use super::{Difference, Options, Sequence, Tally};
@@ -394,40 +394,11 @@ pub fn windows(tally: &mut Tally, options: Options) -> Outcome {
     Ok(())
 }
 
-// What a stretch of a random sequence does most.
-const MOODS: [&[Kind]; 7] = [
-    &[Kind::Set],
-    &[Kind::Set, Kind::Flip],
-    &[Kind::Shift, Kind::Shift, Kind::Set],
-    &[Kind::Combine, Kind::Not, Kind::Shifted, Kind::Set],
-    &[Kind::Load, Kind::Build, Kind::Write, Kind::Set],
-    &[Kind::ReadMap, Kind::WriteMap, Kind::Fill, Kind::Shift],
-    &[Kind::Ranges, Kind::Draw, Kind::Select, Kind::Set],
-];
-
 fn wander(tally: &mut Tally, random: &mut Random, capacities: &[usize], calls: u64) -> Outcome {
     let mut s = Sequence::new(capacities);
-    let mut mood = MOODS[0];
-    let mut at = 0;
+    let mut history = Wander::default();
     for _ in 0..calls {
-        if random.once_in(40) {
-            mood = random.one_of(&MOODS);
-            at = random.below(capacities.len() as u64) as usize;
-        }
-        let kind = if random.truth() { random.one_of(mood) } else { random.one_of(&KINDS) };
-        // Making a store anew, filling and emptying come up, but seldom, or nothing would grow.
-        let call = match kind {
-            Kind::New if !random.once_in(20) => chance::call(random, s.world.stores(), Kind::Set, at),
-            Kind::Set | Kind::Flip if !random.once_in(6) => {
-                let x = chance::position(random, &s.world.stores()[at].runs);
-                let range = (Bound::Included(x), Bound::Included(x.saturating_add(random.below(12))));
-                match kind {
-                    Kind::Set => Call::Set { at, range, value: !random.once_in(3) },
-                    _ => Call::Flip { at, range },
-                }
-            }
-            kind => chance::call(random, s.world.stores(), kind, at),
-        };
+        let call = history.next(random, s.world.stores());
         s.call(tally, call)?;
     }
     Ok(())
