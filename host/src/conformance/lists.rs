@@ -368,19 +368,21 @@ fn every_bound(positions: &[u64]) -> Vec<String> {
 fn bounds() -> List {
     let mut list = List::new("bounds");
     list.store(0, 4, &[[0, 1], [HALF - 1, HALF + 1], [M, M]]);
-    list.say("words 1 4\nnew 1");
+    // The same set, in part moved there.
+    list.store(3, 4, &[[0, 0], [HALF - 2, HALF], [M - 1, M - 1]]);
+    list.say("shift 3 1 1\nset 3 i0 i0 1\neq 0 3\nwords 1 4\nnew 1");
     let bounds = every_bound(&[0, HALF - 1, HALF, M]);
     for (i, (lower, upper)) in bounds.iter().flat_map(|l| bounds.iter().map(move |u| (l, u))).enumerate() {
         let range = format!("{lower} {upper}");
         let (v, w) = (i % 2, 1 - i % 2);
-        let k = [0, 1, 3, HALF - 3, HALF, M][i % 6];
+        let (k, s) = ([0, 1, 3, HALF - 3, HALF, M][i % 6], [0, 3][i / 2 % 2]);
         list.say(&format!(
-            "find 0 {range} {v}
-            find 0 {range} {w}
-            count 0 {range} {v}
-            count_ranges 0 {range} {v}
-            ranges 0 {range} {w}
-            select 0 {range} {v} {k}
+            "find {s} {range} {v}
+            find {s} {range} {w}
+            count {s} {range} {v}
+            count_ranges {s} {range} {v}
+            ranges {s} {range} {w}
+            select {s} {range} {v} {k}
             set 1 {range} {}
             flip 1 {range}
             count 1 u u 1",
@@ -388,7 +390,7 @@ fn bounds() -> List {
         ));
     }
     for x in [0, 1, 2, HALF - 2, HALF - 1, HALF, HALF + 1, HALF + 2, M - 1, M] {
-        list.say(&format!("get 0 {x}\nrun_at 0 {x}"));
+        list.say(&format!("get 0 {x}\nrun_at 0 {x}\nrun_at 3 {x}"));
     }
     // The whole of a full set and of an empty one.
     list.say("words 2 1");
@@ -433,6 +435,18 @@ impl List {
     }
 }
 
+// Drains listings of both values over several ranges.
+fn drain_all(list: &mut List, random: &mut Random) {
+    let wide = [format!("i{} u", M - 1), format!("e{M} u"), format!("i1 i{HALF}")];
+    let ranges = ["u u", "i4 e12", "e2 i10", "i7 i7", "i5 e5", "i9 i3", "u e0"];
+    for range in ranges.into_iter().chain(wide.iter().map(String::as_str)) {
+        for value in 0..2 {
+            let mixed = random.number();
+            list.drain(range, value, random.one_of(&[0, M, mixed]));
+        }
+    }
+}
+
 // Draws from both ends, of ended listings, and of a store that changes in between.
 fn listings() -> List {
     let mut list = List::new("listings");
@@ -444,17 +458,13 @@ fn listings() -> List {
         &[[0, 0], [2, 2], [4, 4], [6, 6]],
         &[[0, HALF - 1], [HALF + 1, M]],
     ];
-    let ranges = ["u u", "i4 e12", "e2 i10", "i7 i7", "i5 e5", "i9 i3", "u e0"];
-    let wide = [format!("i{} u", M - 1), format!("e{M} u"), format!("i1 i{HALF}")];
     for runs in sets {
         list.store(0, 4, runs);
-        for range in ranges.iter().copied().chain(wide.iter().map(String::as_str)) {
-            for value in 0..2 {
-                let mixed = random.number();
-                list.drain(range, value, random.one_of(&[0, M, mixed]));
-            }
-        }
+        drain_all(&mut list, &mut random);
     }
+    // Runs that were moved, and one over the place where they came from.
+    list.say("build 0 2 0 3 20 29\nshift 0 7 1\nset 0 i0 i8 1\nset 0 i1 i2 0");
+    drain_all(&mut list, &mut random);
     // Listings that no call made.
     list.store(0, 4, &[[2, 7], [10, 14], [M - 3, M]]);
     for (first, last) in [(5, 4), (M, 0), (1, 0), (0, 0), (M, M), (7, 10), (8, 9), (3, M - 1)] {
@@ -462,12 +472,13 @@ fn listings() -> List {
             list.say(&format!("draw_front 0 {first} {last} {value}\ndraw_back 0 {first} {last} {value}"));
         }
     }
+    // Changes between draws.
     list.say("words 0 6");
-    for turn in 0..16 {
-        let runs = vec![[0, 3], [20, 29], [60, 60], [HALF, HALF + 9], [M - 20, M - 10]];
-        list.call(&Call::Build { to: 0, runs: runs.clone() });
-        let range = [String::from("u u"), format!("i10 e{M}"), format!("e2 i{}", HALF + 4), String::from("i25 u")];
-        let mut listing = list.listing(&range[turn % 4], random.below(2));
+    let runs = [[0, 3], [20, 29], [60, 60], [HALF, HALF + 9], [M - 20, M - 10]];
+    let ranges = [String::from("u u"), format!("i10 e{M}"), format!("e2 i{}", HALF + 4), String::from("i25 u")];
+    for range in ranges.iter().cycle().take(16) {
+        list.call(&Call::Build { to: 0, runs: runs.to_vec() });
+        let mut listing = list.listing(range, random.below(2));
         for _ in 0..6 {
             listing = list.draw(listing, random.truth()).1;
             let x = random.one_of(&runs)[0].saturating_add(random.below(12)).saturating_sub(5);
@@ -517,7 +528,7 @@ fn shifts() -> List {
         for (at, runs) in [[5, 9], [0, M], [0, 0], [M, M]].into_iter().enumerate() {
             list.store(at, capacity, &[runs]);
         }
-        for _ in 0..70 {
+        for _ in 0..50 {
             let kind = random.one_of(&kinds);
             let at = random.below(2) as usize;
             list.chance(&mut random, kind, at);
@@ -573,7 +584,11 @@ fn joined() -> List {
         flip 2 i24 i24
         eq 1 2
         shift 1 1 0
-        eq 1 2"
+        eq 1 2
+        shift 2 1 1
+        eq 1 2
+        shift 1 1 1
+        eq 2 1"
     ));
     let mut random = Random::new(0x70);
     for at in 0..3 {
@@ -720,7 +735,7 @@ fn long() -> List {
             list.store(at, capacity, &runs);
         }
         let mut history = Wander::default();
-        for _ in 0..215 {
+        for _ in 0..200 {
             let call = history.next(&mut random, &list.expected.stores);
             if fits(&call) {
                 list.call(&call);
