@@ -4,9 +4,10 @@
 # make host               build the Rust host over the proved archive and run its tests
 # make differential       the library against IntervalBitSet: exhaustive, damaged and random calls (under a minute)
 # make differential-long  the same with thirty million random calls, and the seed SEED=S (default 2)
+# make conformance        write the lists of conformance/ anew, with the answers of IntervalBitSet
 # make bench-soundness    how long the soundness decision takes, against readings of the same words (docs/BENCHMARKS.md)
 # make bench-growth       how many instructions it takes, at four capacities (needs valgrind)
-.PHONY: run test prove host differential differential-long bench-soundness bench-growth
+.PHONY: run test prove host differential differential-long conformance bench-soundness bench-growth
 # The archive is written only if everything in it is proved.
 ARCHIVE := target/staticlib/libexports.a
 SEED ?= 2
@@ -26,6 +27,9 @@ differential: $(ARCHIVE)
 	cargo run --offline --release --manifest-path host/Cargo.toml --bin differential
 differential-long: $(ARCHIVE)
 	cargo run --offline --release --manifest-path host/Cargo.toml --bin differential -- --calls 30000000 --seed $(SEED)
+# No answer is the library's, but the crate that has the oracle links it.
+conformance: $(ARCHIVE)
+	cargo run --offline --release --manifest-path host/Cargo.toml --bin conformance -- conformance
 bench-soundness:
 	@mkdir -p target
 	rt staticlib bench_store > target/bench-soundness.log 2>&1 || { cat target/bench-soundness.log; exit 1; }

@@ -2,7 +2,8 @@
 
 use std::ops::Bound;
 
-use super::calls::{Call, Range, World, ends_of};
+use super::calls::{Call, Range, ends_of};
+use super::expected::Store;
 use super::random::Random;
 use super::reference::{self, Run};
 use crate::{Listing, Operation};
@@ -174,9 +175,9 @@ fn slice_room(random: &mut Random, due: usize) -> usize {
 }
 
 /// A call of the kind, about store `at` or, where the kind makes a store of others, with `at` among them.
-pub fn call(random: &mut Random, world: &World, kind: Kind, at: usize) -> Call {
-    let count = world.stores.len() as u64;
-    let runs = &world.stores[at].runs[..];
+pub fn call(random: &mut Random, stores: &[Store], kind: Kind, at: usize) -> Call {
+    let count = stores.len() as u64;
+    let runs = &stores[at].runs[..];
     let value = random.truth();
     let left = random.truth();
     let other = random.below(count) as usize;
@@ -221,13 +222,13 @@ pub fn call(random: &mut Random, world: &World, kind: Kind, at: usize) -> Call {
         }
         Kind::Fill => Call::Fill { at, base: position(random, runs), n: window(random) },
         Kind::Load => {
-            let mut bytes = reference::encode(&run_list(random, &world.stores[third].runs));
+            let mut bytes = reference::encode(&run_list(random, &stores[third].runs));
             if random.once_in(4) {
                 spoil(random, &mut bytes);
             }
             Call::Load { to: at, bytes }
         }
-        Kind::Build => Call::Build { to: at, runs: run_list(random, &world.stores[third].runs) },
+        Kind::Build => Call::Build { to: at, runs: run_list(random, &stores[third].runs) },
         Kind::ReadMap => {
             let n = window(random);
             Call::ReadMap { at, base: position(random, runs), n, map: map(random, n) }
@@ -260,4 +261,52 @@ fn order(random: &mut Random, runs: &[Run], range: Range, value: bool) -> u64 {
         _ => u128::from(random.below(all.clamp(1, u128::from(u64::MAX)) as u64)),
     };
     k.min(u128::from(u64::MAX)) as u64
+}
+
+// What a stretch of a random history does most.
+const MOODS: [&[Kind]; 7] = [
+    &[Kind::Set],
+    &[Kind::Set, Kind::Flip],
+    &[Kind::Shift, Kind::Shift, Kind::Set],
+    &[Kind::Combine, Kind::Not, Kind::Shifted, Kind::Set],
+    &[Kind::Load, Kind::Build, Kind::Write, Kind::Set],
+    &[Kind::ReadMap, Kind::WriteMap, Kind::Fill, Kind::Shift],
+    &[Kind::Ranges, Kind::Draw, Kind::Select, Kind::Set],
+];
+
+/// A random history of all calls, in stretches that do one thing most and are about one store.
+pub struct Wander {
+    mood: &'static [Kind],
+    at: usize,
+}
+
+impl Default for Wander {
+    fn default() -> Wander {
+        Wander { mood: MOODS[0], at: 0 }
+    }
+}
+
+impl Wander {
+    /// The next call.
+    pub fn next(&mut self, random: &mut Random, stores: &[Store]) -> Call {
+        if random.once_in(40) {
+            self.mood = random.one_of(&MOODS);
+            self.at = random.below(stores.len() as u64) as usize;
+        }
+        let at = self.at;
+        let kind = if random.truth() { random.one_of(self.mood) } else { random.one_of(&KINDS) };
+        // Making a store anew, filling and emptying come up, but seldom, or nothing would grow.
+        match kind {
+            Kind::New if !random.once_in(20) => call(random, stores, Kind::Set, at),
+            Kind::Set | Kind::Flip if !random.once_in(6) => {
+                let x = position(random, &stores[at].runs);
+                let range = (Bound::Included(x), Bound::Included(x.saturating_add(random.below(12))));
+                match kind {
+                    Kind::Set => Call::Set { at, range, value: !random.once_in(3) },
+                    _ => Call::Flip { at, range },
+                }
+            }
+            kind => call(random, stores, kind, at),
+        }
+    }
 }

@@ -5,14 +5,18 @@
 
 pub mod calls;
 pub mod chance;
+pub mod expected;
+pub mod library;
 pub mod parts;
 pub mod random;
 pub mod reference;
+pub mod world;
 
 use std::fmt;
 use std::time::{Duration, Instant};
 
-use calls::{Call, World};
+use calls::Call;
+use world::World;
 
 /// How much is run.
 #[derive(Clone, Copy, Debug)]

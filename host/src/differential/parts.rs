@@ -2,8 +2,8 @@
 
 use std::ops::Bound;
 
-use super::calls::{Call, Range};
-use super::chance::{self, KINDS, Kind};
+use super::calls::{Call, Range, SPARE};
+use super::chance::{self, KINDS, Kind, Wander};
 use super::random::Random;
 use super::reference::{self, Run, Shape};
 use super::{Difference, Options, Sequence, Tally};
@@ -126,7 +126,7 @@ pub fn exhaustive(tally: &mut Tally, options: Options) -> Outcome {
 fn grow(tally: &mut Tally, s: &mut Sequence, random: &mut Random, at: usize, count: u64) -> Outcome {
     for _ in 0..count {
         let kind = random.one_of(&[Kind::Set, Kind::Set, Kind::Set, Kind::Flip, Kind::Shift]);
-        let call = chance::call(random, &s.world, kind, at);
+        let call = chance::call(random, s.world.stores(), kind, at);
         s.call(tally, call)?;
     }
     Ok(())
@@ -135,7 +135,7 @@ fn grow(tally: &mut Tally, s: &mut Sequence, random: &mut Random, at: usize, cou
 // Every kind of call about a store.
 fn every_kind(tally: &mut Tally, s: &mut Sequence, random: &mut Random, at: usize) -> Outcome {
     for kind in KINDS {
-        let call = chance::call(random, &s.world, kind, at);
+        let call = chance::call(random, s.world.stores(), kind, at);
         s.call(tally, call)?;
     }
     Ok(())
@@ -152,7 +152,7 @@ pub fn damaged_stores(tally: &mut Tally, options: Options) -> Outcome {
         let count = random.below(40);
         grow(tally, &mut s, &mut random, 0, count)?;
         grow(tally, &mut s, &mut random, 1, 4)?;
-        let words = s.world.stores[0].words().to_vec();
+        let words = s.world.words(0).to_vec();
         for (word, &was) in words.iter().enumerate() {
             let last = capacity as u64 + 2;
             let beside = random.one_of(&words);
@@ -179,7 +179,7 @@ pub fn damaged_stores(tally: &mut Tally, options: Options) -> Outcome {
         let count = random.below(20);
         grow(tally, &mut s, &mut random, 0, count)?;
         for _ in 0..2 {
-            let words = s.world.stores[0].words();
+            let words = s.world.words(0);
             let word = random.below(words.len() as u64) as usize;
             let (few, other, any) = (random.below(8), random.one_of(words), random.number());
             let value = random.one_of(&[few, other, words[word] ^ 1, any]);
@@ -265,7 +265,7 @@ pub fn wrong_lengths(tally: &mut Tally, options: Options) -> Outcome {
             s.call(tally, Call::Set { at, range: (Bound::Included(3), Bound::Excluded(9)), value: true })?;
             match which / 3_usize.pow(at as u32) % 3 {
                 0 => s.call(tally, Call::Lend { at, words: vec![0; 39] })?,
-                1 => s.call(tally, Call::Poke { at, word: 7, value: 1 })?,
+                1 => s.call(tally, Call::Poke { at, word: SPARE, value: 1 })?,
                 _ => {}
             }
         }
@@ -394,40 +394,11 @@ pub fn windows(tally: &mut Tally, options: Options) -> Outcome {
     Ok(())
 }
 
-// What a stretch of a random sequence does most.
-const MOODS: [&[Kind]; 7] = [
-    &[Kind::Set],
-    &[Kind::Set, Kind::Flip],
-    &[Kind::Shift, Kind::Shift, Kind::Set],
-    &[Kind::Combine, Kind::Not, Kind::Shifted, Kind::Set],
-    &[Kind::Load, Kind::Build, Kind::Write, Kind::Set],
-    &[Kind::ReadMap, Kind::WriteMap, Kind::Fill, Kind::Shift],
-    &[Kind::Ranges, Kind::Draw, Kind::Select, Kind::Set],
-];
-
 fn wander(tally: &mut Tally, random: &mut Random, capacities: &[usize], calls: u64) -> Outcome {
     let mut s = Sequence::new(capacities);
-    let mut mood = MOODS[0];
-    let mut at = 0;
+    let mut history = Wander::default();
     for _ in 0..calls {
-        if random.once_in(40) {
-            mood = random.one_of(&MOODS);
-            at = random.below(capacities.len() as u64) as usize;
-        }
-        let kind = if random.truth() { random.one_of(mood) } else { random.one_of(&KINDS) };
-        // Making a store anew, filling and emptying come up, but seldom, or nothing would grow.
-        let call = match kind {
-            Kind::New if !random.once_in(20) => chance::call(random, &s.world, Kind::Set, at),
-            Kind::Set | Kind::Flip if !random.once_in(6) => {
-                let x = chance::position(random, &s.world.stores[at].runs);
-                let range = (Bound::Included(x), Bound::Included(x.saturating_add(random.below(12))));
-                match kind {
-                    Kind::Set => Call::Set { at, range, value: !random.once_in(3) },
-                    _ => Call::Flip { at, range },
-                }
-            }
-            kind => chance::call(random, &s.world, kind, at),
-        };
+        let call = history.next(random, s.world.stores());
         s.call(tally, call)?;
     }
     Ok(())
@@ -479,8 +450,8 @@ pub fn large(tally: &mut Tally, options: Options) -> Outcome {
             few_draws(tally, &mut s, &mut random)?;
             // Runs taken from the shallow side, so that the balance is mended all the way up.
             for i in 0..20 {
-                let at = if left { s.world.stores[0].runs.len() - 1 - 3 * i } else { 3 * i };
-                let [start, end] = s.world.stores[0].runs[at];
+                let at = if left { s.world.stores()[0].runs.len() - 1 - 3 * i } else { 3 * i };
+                let [start, end] = s.world.stores()[0].runs[at];
                 let range = (Bound::Included(start), Bound::Included(end));
                 s.call(tally, Call::Set { at: 0, range, value: false })?;
             }
@@ -494,7 +465,7 @@ pub fn large(tally: &mut Tally, options: Options) -> Outcome {
 fn few_draws(tally: &mut Tally, s: &mut Sequence, random: &mut Random) -> Outcome {
     for kind in [Kind::RunAt, Kind::Find, Kind::Count, Kind::Select, Kind::CountRanges, Kind::Draw] {
         for _ in 0..4 {
-            let call = chance::call(random, &s.world, kind, 0);
+            let call = chance::call(random, s.world.stores(), kind, 0);
             s.call(tally, call)?;
         }
     }

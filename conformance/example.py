@@ -1,0 +1,278 @@
+#!/usr/bin/env python3
+"""Reads a list of calls on standard input and prints the answers, as README.md says. A set is a plain list of runs."""
+
+import sys
+
+# The sets: lists of runs (start, end), both held, in order and with a gap between any two.
+
+LAST = 2**64 - 1
+
+
+class Refused(Exception):
+    pass
+
+
+def require(condition, refusal):
+    if not condition:
+        raise Refused(refusal)
+
+
+def held(runs, first, last):
+    """The runs clipped to first .. last."""
+    return [(max(s, first), min(e, last)) for s, e in runs if max(s, first) <= min(e, last)]
+
+
+def free(runs, first, last):
+    """What is between them."""
+    gaps = []
+    for start, end in held(runs, first, last):
+        if first < start:
+            gaps.append((first, start - 1))
+        first = end + 1
+    return gaps + [(first, last)] if first <= last else gaps
+
+
+def stretches(runs, first, last, value):
+    return held(runs, first, last) if value else free(runs, first, last)
+
+
+def size(runs):
+    return sum(end - start + 1 for start, end in runs)
+
+
+def union(pieces):
+    runs = []
+    for start, end in sorted(pieces):
+        if runs and start <= runs[-1][1] + 1:
+            runs[-1] = (runs[-1][0], max(end, runs[-1][1]))
+        else:
+            runs.append((start, end))
+    return runs
+
+
+def outside(runs, first, last):
+    return held(runs, 0, first - 1) + held(runs, last + 1, LAST)
+
+
+def moved(runs, distance, left):
+    by = distance if left else -distance
+    return held([(start + by, end + by) for start, end in runs], 0, LAST)
+
+
+def without(a, b):
+    return [piece for start, end in a for piece in free(b, start, end)]
+
+
+def in_order(runs):
+    rising = all(runs[i][1] + 2 <= runs[i + 1][0] for i in range(len(runs) - 1))
+    return rising and all(start <= end for start, end in runs)
+
+
+def window(base, length):
+    require(1 <= length <= 524288 and base + length <= 2**64, 6)
+    return base, base + length - 1
+
+
+class Store:
+    capacity = 0  # none
+    runs = None  # not sound
+
+    def look(self, *others):
+        """Refuses stores that are read."""
+        self.lengths(*others)
+        require(all(store.runs is not None for store in (self, *others)), 7)
+
+    def lengths(self, *others):
+        require(all(store.capacity for store in (self, *others)), 1)
+
+    def keep(self, runs):
+        require(len(runs) <= self.capacity, 8)
+        self.runs = runs
+
+    def words(self, capacity):
+        self.capacity, self.runs = capacity, None
+
+    def spoil(self):
+        self.runs = None
+
+    def new(self):
+        self.lengths()
+        self.runs = []
+
+    def set(self, first, last, value):
+        self.look()
+        if first > last:
+            return 0
+        changed = size(stretches(self.runs, first, last, not value))
+        self.keep(union(outside(self.runs, first, last) + ([(first, last)] if value else [])))
+        return changed
+
+    def flip(self, first, last):
+        self.look()
+        if first <= last:
+            self.keep(union(outside(self.runs, first, last) + free(self.runs, first, last)))
+
+    def get(self, x):
+        self.look()
+        return size(held(self.runs, x, x))
+
+    def run_at(self, x):
+        self.look()
+        both = self.runs + free(self.runs, 0, LAST)
+        return next(run for run in both if run[0] <= x <= run[1])
+
+    def find(self, first, last, value):
+        return self.select(first, last, value, 0)
+
+    def count(self, first, last, value):
+        self.look()
+        return size(stretches(self.runs, first, last, value))
+
+    def select(self, first, last, value, k):
+        self.look()
+        for start, end in stretches(self.runs, first, last, value):
+            if k <= end - start:
+                return start + k
+            k -= end - start + 1
+        return None
+
+    def count_ranges(self, first, last, value):
+        self.look()
+        return len(stretches(self.runs, first, last, value))
+
+    def ranges(self, first, last, value):
+        self.look()
+        return (first, last, value) if first <= last else (1, 0, value)
+
+    def draw_front(self, first, last, value):
+        """The run, if there is one, and what is left of the listing."""
+        self.look()
+        for start, end in stretches(self.runs, first, last, value):
+            return (start, end, *self.ranges(end + 1, last, value))
+        return (1, 0, value)
+
+    def draw_back(self, first, last, value):
+        self.look()
+        for start, end in reversed(stretches(self.runs, first, last, value)):
+            return (start, end, *self.ranges(first, start - 1, value))
+        return (1, 0, value)
+
+    def shift(self, distance, left):
+        self.look()
+        self.keep(moved(self.runs, distance, left))
+
+    def shifted(self, other, distance, left):
+        self.lengths(other)
+        other.look()
+        self.keep(moved(other.runs, distance, left))
+
+    def combine(self, operation, a, b):
+        self.lengths(a, b)
+        a.look(b)
+        common = [piece for start, end in a.runs for piece in held(b.runs, start, end)]
+        both = union(a.runs + b.runs)
+        self.keep({"and": common, "or": both, "xor": without(both, common)}[operation])
+
+    def complement(self, other):
+        self.lengths(other)
+        other.look()
+        self.keep(free(other.runs, 0, LAST))
+
+    def eq(self, other):
+        self.look(other)
+        return int(self.runs == other.runs)
+
+    def build(self, runs):
+        self.lengths()
+        require(in_order(runs), 5)
+        self.keep(runs)
+
+    def load(self, written):
+        self.lengths()
+        require(len(written) >= 5, 3)
+        require(written[0] == 1, 4)
+        require(len(written) == 5 + 16 * int.from_bytes(written[1:5], "big"), 3)
+        numbers = [int.from_bytes(written[i : i + 8], "big") for i in range(5, len(written), 8)]
+        self.build(list(zip(numbers[::2], numbers[1::2])))
+
+    def write_set(self, room):
+        self.look()
+        runs = b"".join(x.to_bytes(8, "big") for run in self.runs for x in run)
+        return fill_front(room, b"\x01" + len(self.runs).to_bytes(4, "big") + runs)
+
+    def read_map(self, base, length, bits):
+        self.look()
+        first, last = window(base, length)
+        require(len(bits) == (length + 7) // 8, 6)
+        number = int.from_bytes(bits, "little")
+        new = union([(first + i, first + i) for i in range(length) if number >> i & 1])
+        old = held(self.runs, first, last)
+        self.keep(union(outside(self.runs, first, last) + new))
+        return size(without(old, new)) + size(without(new, old))
+
+    def write_map(self, base, length, room):
+        self.look()
+        first, last = window(base, length)
+        number = sum((2 ** (end - start + 1) - 1) << start - first for start, end in held(self.runs, first, last))
+        return fill_front(room, number.to_bytes((length + 7) // 8, "little"))
+
+    def fill(self, base, length):
+        self.look()
+        return 1000 * size(held(self.runs, *window(base, length))) // length
+
+
+def fill_front(room, due):
+    """How many bytes are written into a slice, and the slice."""
+    require(len(due) <= room, 2)
+    return len(due), due + b"\xee" * (room - len(due))
+
+
+# The reader. Of each call its arguments after the first store: s a store, n a number, r both bounds of a range, w a word, b bytes,
+# l a list of runs. Of those that answer more than "done", how the answer begins.
+
+ARGUMENTS = {
+    "words": "n", "spoil": "", "new": "", "set": "rn", "flip": "r", "get": "n", "run_at": "n", "find": "rn", "count": "rn",
+    "select": "rnn", "count_ranges": "rn", "ranges": "rn", "draw_front": "nnn", "draw_back": "nnn", "shift": "nn", "shifted": "snn",
+    "combine": "wss", "not": "s", "eq": "s", "load": "b", "build": "l", "write_set": "n", "read_map": "nnb", "write_map": "nnn",
+    "fill": "nn",
+}
+ANSWERS = {
+    "set": "number", "get": "value", "run_at": "run", "find": "at", "count": "number", "select": "at", "count_ranges": "number",
+    "ranges": "listing", "draw_front": "drawn", "draw_back": "drawn", "eq": "value", "write_set": "written", "read_map": "number",
+    "write_map": "written", "fill": "number",
+}
+
+
+def arguments(kinds, words, stores):
+    for kind in kinds:
+        word = next(words)
+        if kind == "s":
+            yield stores[int(word)]
+        elif kind == "r":
+            upper = next(words)
+            yield 0 if word == "u" else int(word[1:]) + (word[0] == "e")
+            yield LAST if upper == "u" else int(upper[1:]) - (upper[0] == "e")
+        elif kind == "b":
+            yield bytes.fromhex(word.strip("-"))
+        elif kind == "l":
+            yield [(int(next(words)), int(next(words))) for _ in range(int(word))]
+        else:
+            yield int(word) if kind == "n" else word
+
+
+def answer(line, stores):
+    name, store, *words = line.split()
+    call = getattr(stores[int(store)], "complement" if name == "not" else name)
+    try:
+        result = call(*arguments(ARGUMENTS[name], iter(words), stores))
+    except Refused as refused:
+        return f"refused {refused}"
+    values = result if isinstance(result, tuple) else () if result is None else (result,)
+    begin = ANSWERS.get(name, "done")
+    begin = {("at", 0): "none", ("drawn", 3): "end"}.get((begin, len(values)), begin)
+    return " ".join([begin, *(v.hex() if isinstance(v, bytes) else str(v) for v in values)])
+
+
+four = [Store() for _ in range(4)]
+for call in sys.stdin:
+    print(answer(call, four))

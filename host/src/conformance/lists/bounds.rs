@@ -1,0 +1,53 @@
+//! Every pair of bounds at 0, around 2^63 and at M, empty and reversed ranges among them.
+
+use super::{HALF, M};
+use crate::conformance::List;
+
+// No bound, and each position included and excluded.
+fn every_bound(positions: &[u64]) -> Vec<String> {
+    let mut all = vec!["u".to_string()];
+    for x in positions {
+        all.extend([format!("i{x}"), format!("e{x}")]);
+    }
+    all
+}
+
+/// The list.
+pub fn list() -> List {
+    let mut list = List::new("bounds");
+    list.store(0, 4, &[[0, 1], [HALF - 1, HALF + 1], [M, M]]);
+    // The same set, in part moved there.
+    list.store(3, 4, &[[0, 0], [HALF - 2, HALF], [M - 1, M - 1]]);
+    list.say("shift 3 1 1\nset 3 i0 i0 1\neq 0 3\nwords 1 4\nnew 1");
+    let bounds = every_bound(&[0, HALF - 1, HALF, M]);
+    for (i, (lower, upper)) in bounds.iter().flat_map(|l| bounds.iter().map(move |u| (l, u))).enumerate() {
+        let range = format!("{lower} {upper}");
+        let (v, w) = (i % 2, 1 - i % 2);
+        let (k, s) = ([0, 1, 3, HALF - 3, HALF, M][i % 6], [0, 3][i / 2 % 2]);
+        list.say(&format!(
+            "find {s} {range} {v}
+            find {s} {range} {w}
+            count {s} {range} {v}
+            count_ranges {s} {range} {v}
+            ranges {s} {range} {w}
+            select {s} {range} {v} {k}
+            set 1 {range} {}
+            flip 1 {range}
+            count 1 u u 1",
+            i / 3 % 2
+        ));
+    }
+    for x in [0, 1, 2, HALF - 2, HALF - 1, HALF, HALF + 1, HALF + 2, M - 1, M] {
+        list.say(&format!("get 0 {x}\nrun_at 0 {x}\nrun_at 3 {x}"));
+    }
+    // The whole of a full set and of an empty one.
+    list.say("words 2 1");
+    for (made, value) in [("new 2\nset 2 u u 1", 1), ("new 2", 0)] {
+        list.say(made);
+        for k in [0, 1, HALF, M - 1, M] {
+            list.say(&format!("select 2 u u {value} {k}"));
+        }
+        list.say(&format!("count 2 u u {value}\ncount 2 e0 u {value}\ncount 2 u e{M} {value}\nrun_at 2 {HALF}"));
+    }
+    list
+}

@@ -1,0 +1,75 @@
+//! Written sets and maps: whole and damaged ones, slices that are too short, spare bits.
+
+use super::{HALF, M};
+use crate::conformance::{List, SLICE};
+use crate::differential::calls::Call;
+use crate::differential::chance;
+use crate::differential::random::Random;
+use crate::differential::reference::{self, Run};
+
+/// The list.
+pub fn list() -> List {
+    let mut list = List::new("bytes");
+    let mut random = Random::new(0xB7);
+    let sets: [&[Run]; 7] = [
+        &[],
+        &[[2, 3]],
+        &[[0, M]],
+        &[[0, 0], [M, M]],
+        &[[2, 3], [8, 9]],
+        &[[0, HALF - 1], [HALF + 1, M]],
+        &[[1, 1], [3, 3], [5, 255], [257, M - 2]],
+    ];
+    list.say("words 0 4");
+    for runs in sets {
+        let written = reference::encode(runs);
+        list.call(&Call::Load { to: 0, bytes: written.clone() });
+        for room in [0, written.len() - 1, written.len(), written.len() + 3] {
+            list.call(&Call::Write { at: 0, room });
+        }
+        for i in 0..written.len() {
+            let mut bytes = written.clone();
+            bytes[i] = random.one_of(&[written[i] ^ 1, 0xFF - written[i]]);
+            list.call(&Call::Load { to: 0, bytes });
+        }
+        for _ in 0..4 {
+            let mut bytes = written.clone();
+            chance::spoil(&mut random, &mut bytes);
+            list.call(&Call::Load { to: 0, bytes });
+        }
+        list.show(0);
+    }
+    // A full store of the largest capacity of a list, and the largest map.
+    let many: Vec<Run> = (0..64).map(|i| [i << 58, (i << 58) + random.below(1 << 57)]).collect();
+    list.say("words 1 64");
+    list.call(&Call::Load { to: 1, bytes: reference::encode(&many) });
+    list.say(&format!("write_set 1 {}\nwrite_set 1 {SLICE}\nset 1 i{M} i{M} 1\nnew 1", SLICE - 1));
+    let map: Vec<u8> = (0..1024).map(|i| if i % 32 < 16 { 0x0F << (i % 5) } else { 0xFF }).collect();
+    for base in [0, M - 8191] {
+        list.call(&Call::ReadMap { at: 1, base, n: 8192, map: map.clone() });
+    }
+    let few: Vec<u8> = (0..1024).map(|i| if i / 20 % 2 == 0 { 0xFF } else { 0 }).collect();
+    list.call(&Call::ReadMap { at: 1, base: 3, n: 8190, map: few });
+    list.say("fill 1 0 8192\nwrite_map 1 0 8192 1024\nwrite_map 1 5 8180 1023\nwrite_map 1 0 8192 1023");
+    windows(&mut list, &mut random);
+    list
+}
+
+// Windows at every limit, of sizes about whole bytes.
+fn windows(list: &mut List, random: &mut Random) {
+    list.store(0, 12, &[[3, 9], [HALF, HALF + 40], [M - 5, M]]);
+    for n in [1, 2, 7, 8, 9, 15, 16, 17, 64, 65] {
+        for base in [0, 1, HALF - 4, M - (n - 1)] {
+            let due = n.div_ceil(8) as usize;
+            let mut map: Vec<u8> = (0..due).map(|_| random.one_of(&[0, 0xFF, 0x3C, 0xA1])).collect();
+            // Spare bits of both values.
+            let spare = (!0_u16 << ((n - 1) % 8 + 1)) as u8;
+            map[due - 1] = if random.truth() { map[due - 1] | spare } else { map[due - 1] & !spare };
+            list.call(&Call::ReadMap { at: 0, base, n, map });
+            for room in [due - 1, due, due + 2] {
+                list.call(&Call::WriteMap { at: 0, base, n, room });
+            }
+            list.say(&format!("fill 0 {base} {n}\ncount 0 u u 1"));
+        }
+    }
+}

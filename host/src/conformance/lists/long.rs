@@ -1,0 +1,32 @@
+//! Random histories of all calls.
+
+use super::M;
+use crate::conformance::{List, fits};
+use crate::differential::chance::Wander;
+use crate::differential::random::Random;
+use crate::differential::reference::Run;
+
+/// The list.
+pub fn list() -> List {
+    let mut list = List::new("long");
+    let mut random = Random::new(0x10);
+    for capacities in [[1, 2, 3, 4], [5, 8, 8, 12], [2, 16, 24, 6], [32, 64, 48, 64]] {
+        for (at, &capacity) in capacities.iter().enumerate() {
+            // The larger ones half full, or few histories would come near their limits.
+            let step = M / capacity as u64;
+            let runs: Vec<Run> = (0..capacity as u64 / 2)
+                .map(|i| 2 * i * step)
+                .map(|start| [start, start + random.below(step)])
+                .collect();
+            list.store(at, capacity, &runs);
+        }
+        let mut history = Wander::default();
+        for _ in 0..200 {
+            let call = history.next(&mut random, &list.expected.stores);
+            if fits(&call) {
+                list.call(&call);
+            }
+        }
+    }
+    list
+}

@@ -1,0 +1,93 @@
+//! The conformance pack: lists of calls as text, with the answers of the oracle, or, where it has no such call and no refusal, of
+//! [`reference`](crate::differential::reference). The library answers nothing here. `conformance/README.md` describes the lists.
+
+pub mod lists;
+pub mod text;
+
+use crate::differential::calls::{Call, Told};
+use crate::differential::chance::{self, Kind};
+use crate::differential::expected::{Expected, Store};
+use crate::differential::random::Random;
+use crate::differential::reference::Run;
+
+/// How many stores a list has.
+pub const STORES: usize = 4;
+
+/// The most bytes of a line, its line feed included.
+const LINE: usize = 4096;
+/// The greatest capacity.
+const CAPACITY: usize = 64;
+/// The most bytes of a lent slice and of a written set: those of a full store.
+const SLICE: usize = 5 + 16 * CAPACITY;
+/// The most bytes of a map.
+const MAP: usize = 1024;
+
+/// A list of calls, and their answers.
+pub struct List {
+    pub name: &'static str,
+    pub calls: String,
+    pub answers: String,
+    expected: Expected,
+}
+
+// Whether a call keeps the format's limits.
+fn fits(call: &Call) -> bool {
+    match call {
+        Call::Lend { words, .. } => words.len() <= 8 * (CAPACITY + 3),
+        Call::Load { bytes, .. } => bytes.len() <= SLICE,
+        Call::Build { runs, .. } => runs.len() <= CAPACITY,
+        Call::ReadMap { map, .. } => map.len() <= MAP,
+        Call::Write { room, .. } | Call::WriteMap { room, .. } => *room <= SLICE,
+        _ => true,
+    }
+}
+
+fn push(lines: &mut String, line: &str) {
+    assert!(line.len() < LINE, "a line of {} bytes", line.len());
+    lines.push_str(line);
+    lines.push('\n');
+}
+
+impl List {
+    fn new(name: &'static str) -> List {
+        let expected = Expected { stores: vec![Store::of(&[]); STORES] };
+        List { name, calls: String::new(), answers: String::new(), expected }
+    }
+
+    // Adds a call.
+    fn call(&mut self, call: &Call) -> Told {
+        assert!(fits(call), "beyond the limits: {call:?}");
+        let told = self.expected.answer(call);
+        push(&mut self.calls, &text::write(call));
+        push(&mut self.answers, &text::tell(&told));
+        told
+    }
+
+    // Adds calls, one in each line; a line that begins with # is left out.
+    fn say(&mut self, lines: &str) {
+        for line in lines.lines().map(str::trim).filter(|line| !line.is_empty() && !line.starts_with('#')) {
+            let call = text::read(line).unwrap_or_else(|| panic!("no call: {line}"));
+            self.call(&call);
+        }
+    }
+
+    // Adds a call by chance, if it keeps the limits.
+    fn chance(&mut self, random: &mut Random, kind: Kind, at: usize) {
+        let call = chance::call(random, &self.expected.stores, kind, at);
+        if fits(&call) {
+            self.call(&call);
+        }
+    }
+
+    // Makes a store of that capacity with these runs.
+    fn store(&mut self, at: usize, capacity: usize, runs: &[Run]) {
+        self.call(&Call::Lend { at, words: crate::room(capacity) });
+        self.call(&Call::Build { to: at, runs: runs.to_vec() });
+    }
+
+    // Adds the writing of a store's set, just as long as is due.
+    fn show(&mut self, at: usize) {
+        let room = 5 + 16 * self.expected.stores[at].runs.len();
+        self.call(&Call::Write { at, room });
+    }
+}

@@ -1,0 +1,173 @@
+//! Calls and answers as the lines of a list: `conformance/README.md` has the format.
+
+use std::ops::Bound;
+use std::str::{FromStr, Split};
+
+use crate::differential::calls::{Call, Range, SPARE, Told};
+use crate::{Listing, Operation};
+
+struct Words<'a>(Split<'a, char>);
+
+impl<'a> Words<'a> {
+    fn word(&mut self) -> Option<&'a str> {
+        self.0.next()
+    }
+
+    fn number<T: FromStr>(&mut self) -> Option<T> {
+        self.word()?.parse().ok()
+    }
+
+    fn truth(&mut self) -> Option<bool> {
+        Some(self.number::<u64>()? == 1)
+    }
+
+    fn bound(&mut self) -> Option<Bound<u64>> {
+        match self.word()?.split_at_checked(1)? {
+            ("i", x) => Some(Bound::Included(x.parse().ok()?)),
+            ("e", x) => Some(Bound::Excluded(x.parse().ok()?)),
+            ("u", "") => Some(Bound::Unbounded),
+            _ => None,
+        }
+    }
+
+    fn range(&mut self) -> Option<Range> {
+        Some((self.bound()?, self.bound()?))
+    }
+
+    fn bytes(&mut self) -> Option<Vec<u8>> {
+        let digits = self.word()?;
+        if digits == "-" {
+            return Some(Vec::new());
+        }
+        let bytes = 0..digits.len().div_ceil(2);
+        bytes.map(|i| u8::from_str_radix(digits.get(2 * i..2 * i + 2)?, 16).ok()).collect()
+    }
+
+    fn operation(&mut self) -> Option<Operation> {
+        let word = self.word()?;
+        OPERATIONS.iter().find(|(name, _)| *name == word).map(|&(_, op)| op)
+    }
+}
+
+const OPERATIONS: [(&str, Operation); 3] = [("and", Operation::And), ("or", Operation::Or), ("xor", Operation::Xor)];
+
+/// The call of a line, or none where it is not one.
+pub fn read(line: &str) -> Option<Call> {
+    let mut w = Words(line.split(' '));
+    let name = w.word()?;
+    let s = w.number()?;
+    let call = match name {
+        "words" => Call::Lend { at: s, words: crate::room(w.number()?) },
+        "spoil" => Call::Poke { at: s, word: SPARE, value: 1 },
+        "new" => Call::New { to: s },
+        "set" => Call::Set { at: s, range: w.range()?, value: w.truth()? },
+        "flip" => Call::Flip { at: s, range: w.range()? },
+        "get" => Call::Get { at: s, x: w.number()? },
+        "run_at" => Call::RunAt { at: s, x: w.number()? },
+        "find" => Call::Find { at: s, range: w.range()?, value: w.truth()? },
+        "count" => Call::Count { at: s, range: w.range()?, value: w.truth()? },
+        "select" => Call::Select { at: s, range: w.range()?, value: w.truth()?, k: w.number()? },
+        "count_ranges" => Call::CountRanges { at: s, range: w.range()?, value: w.truth()? },
+        "ranges" => Call::Ranges { at: s, range: w.range()?, value: w.truth()?, backs: 0 },
+        "draw_front" | "draw_back" => {
+            let listing = Listing { first: w.number()?, last: w.number()?, value: w.truth()? };
+            Call::Draw { at: s, listing, back: name == "draw_back" }
+        }
+        "shift" => Call::Shift { at: s, distance: w.number()?, left: w.truth()? },
+        "shifted" => Call::Shifted { to: s, a: w.number()?, distance: w.number()?, left: w.truth()? },
+        "combine" => Call::Combine { to: s, op: w.operation()?, a: w.number()?, b: w.number()? },
+        "not" => Call::Not { to: s, a: w.number()? },
+        "eq" => Call::Equal { a: s, b: w.number()? },
+        "load" => Call::Load { to: s, bytes: w.bytes()? },
+        "build" => {
+            let count: usize = w.number()?;
+            let runs = (0..count).map(|_| Some([w.number()?, w.number()?])).collect::<Option<_>>()?;
+            Call::Build { to: s, runs }
+        }
+        "write_set" => Call::Write { at: s, room: w.number()? },
+        "read_map" => Call::ReadMap { at: s, base: w.number()?, n: w.number()?, map: w.bytes()? },
+        "write_map" => Call::WriteMap { at: s, base: w.number()?, n: w.number()?, room: w.number()? },
+        "fill" => Call::Fill { at: s, base: w.number()?, n: w.number()? },
+        _ => return None,
+    };
+    w.word().is_none().then_some(call)
+}
+
+fn bound(b: Bound<u64>) -> String {
+    match b {
+        Bound::Included(x) => format!("i{x}"),
+        Bound::Excluded(x) => format!("e{x}"),
+        Bound::Unbounded => "u".to_string(),
+    }
+}
+
+fn range((lower, upper): Range) -> String {
+    format!("{} {}", bound(lower), bound(upper))
+}
+
+/// Bytes as digits.
+pub fn digits(bytes: &[u8]) -> String {
+    if bytes.is_empty() { "-".to_string() } else { bytes.iter().map(|b| format!("{b:02x}")).collect() }
+}
+
+fn listing(l: Listing) -> String {
+    format!("{} {} {}", l.first, l.last, u8::from(l.value))
+}
+
+fn of_range(name: &str, at: usize, r: Range, value: bool) -> String {
+    format!("{name} {at} {} {}", range(r), u8::from(value))
+}
+
+/// The line of a call.
+pub fn write(call: &Call) -> String {
+    match *call {
+        Call::Lend { at, ref words } => format!("words {at} {}", words.len() / 8 - 3),
+        Call::Poke { at, .. } => format!("spoil {at}"),
+        Call::New { to } => format!("new {to}"),
+        Call::Set { at, range, value } => of_range("set", at, range, value),
+        Call::Flip { at, range: r } => format!("flip {at} {}", range(r)),
+        Call::Get { at, x } => format!("get {at} {x}"),
+        Call::RunAt { at, x } => format!("run_at {at} {x}"),
+        Call::Find { at, range, value } => of_range("find", at, range, value),
+        Call::Count { at, range, value } => of_range("count", at, range, value),
+        Call::Select { at, range, value, k } => format!("{} {k}", of_range("select", at, range, value)),
+        Call::CountRanges { at, range, value } => of_range("count_ranges", at, range, value),
+        Call::Ranges { at, range, value, .. } => of_range("ranges", at, range, value),
+        Call::Draw { at, listing: l, back } => {
+            format!("draw_{} {at} {}", if back { "back" } else { "front" }, listing(l))
+        }
+        Call::Shift { at, distance, left } => format!("shift {at} {distance} {}", u8::from(left)),
+        Call::Shifted { to, a, distance, left } => format!("shifted {to} {a} {distance} {}", u8::from(left)),
+        Call::Combine { to, op, a, b } => format!("combine {to} {} {a} {b}", OPERATIONS[op as usize].0),
+        Call::Not { to, a } => format!("not {to} {a}"),
+        Call::Equal { a, b } => format!("eq {a} {b}"),
+        Call::Load { to, ref bytes } => format!("load {to} {}", digits(bytes)),
+        Call::Build { to, ref runs } => {
+            let ends: String = runs.iter().map(|[start, end]| format!(" {start} {end}")).collect();
+            format!("build {to} {}{ends}", runs.len())
+        }
+        Call::Write { at, room } => format!("write_set {at} {room}"),
+        Call::ReadMap { at, base, n, ref map } => format!("read_map {at} {base} {n} {}", digits(map)),
+        Call::WriteMap { at, base, n, room } => format!("write_map {at} {base} {n} {room}"),
+        Call::Fill { at, base, n } => format!("fill {at} {base} {n}"),
+    }
+}
+
+/// The line of an answer.
+pub fn tell(told: &Told) -> String {
+    match told {
+        Told::Refused(r) => format!("refused {}", r.number()),
+        Told::Done => "done".to_string(),
+        Told::Count(n) => format!("number {n}"),
+        Told::Number(n) => format!("number {n}"),
+        Told::Value(v) => format!("value {}", u8::from(*v)),
+        Told::Run(run) => format!("run {} {}", run.start(), run.end()),
+        Told::Position(Some(x)) => format!("at {x}"),
+        Told::Position(None) => "none".to_string(),
+        Told::Drawn(Some(run), left) => format!("drawn {} {} {}", run.start(), run.end(), listing(*left)),
+        Told::Drawn(None, left) => format!("end {}", listing(*left)),
+        Told::Draws(made, _) => format!("listing {}", listing(*made)),
+        Told::Slice(filled, bytes) => format!("written {filled} {}", digits(bytes)),
+        Told::RefusedAndChanged(r) => format!("changed something, and refused {}", r.number()),
+    }
+}
