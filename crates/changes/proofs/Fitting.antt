@@ -3,16 +3,15 @@
 use Prim.Native.Nat.{ℕ, zero, suc, _+_, _-_, _^_, _≤_, _<_}
 use mathlib.Core.Path.{_≡_, refl, sym, ap, ap₂, _∙_}
 use mathlib.Core.Logic.{_⊎_, inl, inr}
-use mathlib.Core.Bool.{Bool, true, false, not, _&&_}
+use mathlib.Core.Bool.{Bool, true, false, _&&_}
 use mathlib.Core.List.{List}
 use native.Mathlib.Omega.{arith}
 use lib.Dec.{leb}
 use borrow.Author.Tests.{le-leb, lt-leb, lt-ltb, le-ltb}
-use Rattle.model.specs.declared.Count.{Count}
-use Rattle.model.specs.Numbers.{size, split, worth}
-use Rattle.model.specs.Positions.{Positions, oneIf, count, countRanges, setRange, stretches, changes}
+use Rattle.model.specs.Numbers.{size, split}
+use Rattle.model.specs.Positions.{Positions, oneIf, countRanges, setRange, stretches}
 use Rattle.model.specs.Positions.Runs.{stretches-is}
-use Rattle.model.specs.After.{goesOn, goesOn-zero, goesOn-top, stretches-parts, changes-set}
+use Rattle.model.specs.After.{goesOn, goesOn-zero, goesOn-top, stretches-parts}
 use Rattle.run_index.specs.Tree.{inorder}
 use Rattle.run_index.proofs.Totals.{runs-length}
 use Rattle.store.specs.declared.Header.{Header}
@@ -20,12 +19,8 @@ use Rattle.store.specs.Layout.{headerAt, capacity, heldBy}
 use Rattle.store.specs.Soundness.{Sound}
 use Rattle.store.proofs.Nodes.{sized-length, few-runs}
 use Rattle.store.proofs.Opening.{physicalIn, sound-held, runs-told}
-use Rattle.reports.specs.declared.physical.Tally.{Tally}
-use Rattle.reports.specs.Reports.{Measured}
-use Rattle.changes.specs.declared.edit.Edit.{Edit}
-use Rattle.changes.specs.Edits.{Edited}
-use Rattle.changes.specs.Neighbours.{heldBelow, heldAbove, one-bound, goesOn-below, stretches-cong}
-use Rattle.changes.specs.SetRuns.{set-true-leaves, set-false-leaves, set-one-more, set-nothing, logical-one-more}
+use Rattle.changes.specs.Neighbours.{heldBelow, heldAbove, one-bound, goesOn-below}
+use Rattle.changes.specs.SetRuns.{set-true-leaves, set-false-leaves, set-one-more, logical-one-more}
 
 -- ---- the neighbours
 -- nothing goes on over 0
@@ -163,26 +158,3 @@ module _ {P : Positions} {a b total inside on past : ℕ} (t : Told P a b total 
           set-false-leaves P a (suc b - a) b (omega (arith, t .ordered)) (omega (arith, t .ordered)) (t .below),
         )) (omega arith)
         ∙ ap (λ u. leb (stretches (setRange a (suc b - a) u P)) k) (sym ev)
-
--- ---- the set itself
--- a count of two words that are 0
-pub worth-none : (k : Count) → k .carry ≡ 0 → k .low ≡ 0 → worth k ≡ 0
-worth-none k p q = omega arith
-
-module _ {w : List ℕ} {r : Tally} (sound : Sound w) (a b : ℕ) (v : Bool) (i : a ≤ b) (l : b < size) (m : Measured (heldBy w) (not v) a (suc b - a) r) where
-  -- what was counted is what changes
-  pub counted-changes : worth (r .count) ≡ changes (heldBy w) (setRange a (suc b - a) v (heldBy w))
-  counted-changes = m .count-is ∙ sym (changes-set (heldBy w) a (suc b - a) v (omega arith))
-
-  module _ (z : worth (r .count) ≡ 0) where
-    -- where that is nothing, the store holds the set
-    same-held : (x : ℕ) → setRange a (suc b - a) v (heldBy w) x ≡ heldBy w x
-    same-held = set-nothing (heldBy w) a (suc b - a) v (sym (m .count-is) ∙ z)
-
-    -- so it is the change asked for, as it is
-    pub nothing-edited : Edited w w (setRange a (suc b - a) v (heldBy w)) (Edit.Changed (r .count))
-    nothing-edited = (
-      omega (arith, sound .fits, stretches-cong (setRange a (suc b - a) v (heldBy w)) (heldBy w) (λ x _. same-held x)),
-      record { sound = sound; holds = λ x _. sym (same-held x); long = refl },
-      counted-changes,
-    )

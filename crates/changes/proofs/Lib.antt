@@ -8,5 +8,6 @@ pub mod Clearing
 pub mod Trimming
 pub mod Setting
 pub mod Fitting
+pub mod Gaining
 pub mod Flipping
 pub mod Shifting

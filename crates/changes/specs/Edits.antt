@@ -1,9 +1,10 @@
 -- What changes of a sound store promise. Assumes nothing: these are definitions.
-use Prim.Native.Nat.{ℕ, suc, _≤_, _<_}
+use Prim.Native.Nat.{ℕ, suc, _-_, _%_, _≤_, _<_}
 use mathlib.Core.Path.{_≡_}
 use mathlib.Core.Bool.{Bool, not}
 use mathlib.Core.List.{List}
-use Rattle.model.specs.Numbers.{worth}
+use Rattle.model.specs.declared.Count.{Count}
+use Rattle.model.specs.Numbers.{size, worth}
 use Rattle.model.specs.Positions.{Positions, stretches, changes}
 use Rattle.changes.specs.declared.edit.Edit.{Edit}
 use Rattle.changes.specs.declared.edit.Fit.{Fit}
@@ -21,6 +22,17 @@ Edited w w′ Q (Edit.Changed c) = (stretches Q ≤ capacity w) × Settled w w�
 abbrev pub Fitted : List ℕ → List ℕ → Positions → Fit → Type 0
 Fitted w w′ Q Fit.Full = (capacity w < stretches Q) × (w′ ≡ w)
 Fitted w w′ Q Fit.Done = (stretches Q ≤ capacity w) × Settled w w′ Q
+
+-- a header's root and sum tell that n positions are held: the sum is kept modulo 2^64, and a store that holds none has no root
+pub record TellsHeld (root ones n : ℕ) : Type 0 where
+  pub most : n ≤ size
+  pub sum : ones ≡ n % size
+  pub none : root ≡ 0 → n ≡ 0
+  pub rootless : n ≡ 0 → root ≡ 0
+
+-- the count is how many positions are held that were not, from one root and sum to others that tell no fewer
+abbrev pub Gains : ℕ → ℕ → ℕ → ℕ → Count → Type 0
+Gains root ones root′ ones′ c = (m n : ℕ) → TellsHeld root ones m → TellsHeld root′ ones′ n → m ≤ n → worth c ≡ n - m
 
 -- from x to y all positions have the value, and y is the last one or the next one has not
 pub record StretchEnd (P : Positions) (v : Bool) (x last y : ℕ) : Type 0 where

@@ -8,7 +8,7 @@ ghost use Rattle.model.specs.After.{goesOn};
 ghost use Rattle.store.specs.Layout.{capacity, heldBy};
 ghost use Rattle.store.specs.Soundness.{Sound};
 ghost use Rattle.store.specs.Settle.{Settled};
-ghost use Rattle.changes.specs.Edits.{Edited, Fitted, StretchEnd, Shiftable};
+ghost use Rattle.changes.specs.Edits.{Edited, Fitted, Gains, StretchEnd, Shiftable};
 ghost use Rattle.changes.specs.Neighbours.{heldBelow, heldAbove};
 use model::Count;
 use model::Edge;
@@ -127,22 +127,37 @@ pub fn apply_set(words: &mut [u64], a: Logical, b: Logical, value: bool)
     store::settle::refresh(words);
 }
 
-// Gives a..=b the value, and tells how many positions changed.
+// How many positions a store gained, from what its header told before and tells after. The sums are kept modulo 2^64, so an empty store that
+// became full shows no difference: it gained 2^64.
+fn gained(root: u64, ones: u64, new_root: u64, new_ones: u64) -> Count
+    ensures { λ r. ⌜ Gains root ones «new_root» «new_ones» r ⌝ }
+{
+    let more = std::num::wrapping_sub_u64(new_ones, ones);
+    if more == 0 && root == 0 && new_root != 0 {
+        return Count { carry: 1, low: 0 };
+    }
+    Count {
+        carry: 0,
+        low: more,
+    }
+}
+
+// Gives a..=b the value, and tells how many positions changed. The sums before and after tell it: a set only adds positions, or only frees some.
 pub fn set(words: &mut [u64], a: Logical, b: Logical, value: bool) -> Edit
     requires { ⌜ Sound (now words) ⌝ }
     requires { ⌜ a .0 ≤ b .0 ⌝ }
     ensures { λ r. ⌜ Edited (now (words .entry)) (now (words .exit)) (setRange (a .0) (suc (b .0) - a .0) value (heldBy (now (words .entry)))) r ⌝ }
 {
-    let t = reports::logical::tally(words, a, b, !value);
-    let count = t.count;
-    if count.carry == 0 && count.low == 0 {
-        return Edit::Changed(count);
-    }
     if !set_fits(words, a, b, value) {
         return Edit::Full;
     }
+    let h = store::read_header(words);
     apply_set(words, a, b, value);
-    Edit::Changed(count)
+    let k = store::read_header(words);
+    if value {
+        return Edit::Changed(gained(h.root, h.ones, k.root, k.ones));
+    }
+    Edit::Changed(gained(k.root, k.ones, h.root, h.ones))
 }
 
 // A change that tells nothing more: too many runs, or done.

@@ -1,56 +1,87 @@
--- `set` meets its contract: the positions of the other value are those that change. Where there are none the store is as it was, and else
--- it is refused, or `apply_set` does it. Assumes nothing.
+-- `set` meets its contract: it is refused, or `apply_set` does it, and the header before and after it tells what changed. Assumes nothing.
 use borrow.Author.Needs.{needs}
 use native.Mathlib.Omega.{arith}
-use borrow.Author.Tests.{leb-true, leb-false, eqb-true, not-true, not-false}
+use borrow.Author.Tests.{leb-true, leb-false, not-true, not-false}
 use mathlib.Core.Path.{refl, sym, _∙_}
-use Rattle.changes.proofs.Fitting.{worth-none, counted-changes, nothing-edited}
+use Rattle.store.proofs.Opening.{sound-room}
+use Rattle.changes.proofs.Gaining.{gained-changes, lost-changes}
 use Rattle.changes.proofs.edit.set.Statement.{statement}
 use Rattle.changes.proofs.edit.set.Tie as tie
 
-tally-requires : tie.Need-tally-requires
-tally-requires c κs = search needs
+set-fits-requires : tie.Need-set-fits-requires
+set-fits-requires c κs = search needs
 
 same-length : tie.Need-same-length
 same-length c = search needs
 
 returns : tie.Need-returns
-returns c =
-    nothing-edited (c .before .before .before .before .before .before .before .before .pre .0) (c .before .before .before .before .before .before .before .before .args .a .0) (c .before .before .before .before .before .before .before .before .args .b .0) (c .before .before .before .before .before .before .before .before .args .value) (c .before .before .before .before .before .before .before .before .pre .1) (omega (arith, c .before .before .before .before .before .before .before .before .good)) (c .before .before .before .before .before .tally .ensures)
-    (worth-none (c .before .before .before .before .before .tally .result .count) (c .before .before .if1 .taken) (eqb-true _ _ (c .if2 .taken)))
+returns c = (leb-false _ _ (sym (c .before .set-fits .ensures) ∙ not-true _ (c .if1 .taken)), refl)
 
-set-fits-requires : tie.Need-set-fits-requires
-set-fits-requires c κs = search needs
+read-header-requires : tie.Need-read-header-requires
+read-header-requires c κs = sound-room (c .before .before .before .before .before .pre .0)
+
+apply-set-requires : tie.Need-apply-set-requires
+apply-set-requires c κs =
+    let f = c .before .before .before in
+    let r = f .before .before .before .before in
+    (r .pre .0, (r .pre .1, leb-true _ _ (sym (f .before .set-fits .ensures) ∙ not-false _ (f .if1 .left))))
+
+read-header-requires-2 : tie.Need-read-header-requires-2
+read-header-requires-2 c κs = sound-room (c .before .before .before .apply-set .ensures .sound)
+
+gained-requires : tie.Need-gained-requires
+gained-requires c κs = search needs
 
 same-length-2 : tie.Need-same-length-2
 same-length-2 c = search needs
 
 returns-2 : tie.Need-returns-2
-returns-2 c = (leb-false _ _ (sym (c .before .set-fits .ensures) ∙ not-true _ (c .if3 .taken)), refl)
+returns-2 c =
+    let k = c .before .before in
+    let s = k .before .before .before .before in
+    let h = s .before .before in
+    let f = h .before .before in
+    let r = f .before .before .before .before in (
+      leb-true _ _ (sym (f .before .set-fits .ensures) ∙ not-false _ (f .if1 .left)),
+      s .apply-set .ensures,
+      gained-changes (r .pre .0) (r .args .a .0) (r .args .b .0) (r .args .value) (r .pre .1) (omega (arith, r .good)) (s .apply-set .ensures)
+          (h .read-header .ensures) (omega (arith, h .read-header .ok)) (k .read-header2 .ensures) (omega (arith, k .read-header2 .ok)) (c .gained .result)
+          (c .before .if2 .taken) (c .gained .ensures),
+    )
 
-apply-set-requires : tie.Need-apply-set-requires
-apply-set-requires c κs = (c .before .before .before .before .before .before .before .before .before .before .pre .0, (c .before .before .before .before .before .before .before .before .before .before .pre .1, leb-true _ _ (sym (c .before .before .set-fits .ensures) ∙ not-false _ (c .before .if3 .left))))
+gained-requires-2 : tie.Need-gained-requires-2
+gained-requires-2 c κs = search needs
 
 same-length-3 : tie.Need-same-length-3
 same-length-3 c = search needs
 
 returns-3 : tie.Need-returns-3
-returns-3 c = (
-  leb-true _ _ (sym (c .before .before .before .before .before .set-fits .ensures) ∙ not-false _ (c .before .before .before .before .if3 .left)),
-  c .before .before .apply-set .ensures,
-  counted-changes (c .before .before .before .before .before .before .before .before .before .before .before .before .before .pre .0) (c .before .before .before .before .before .before .before .before .before .before .before .before .before .args .a .0) (c .before .before .before .before .before .before .before .before .before .before .before .before .before .args .b .0) (c .before .before .before .before .before .before .before .before .before .before .before .before .before .args .value) (c .before .before .before .before .before .before .before .before .before .before .before .before .before .pre .1) (omega (arith, c .before .before .before .before .before .before .before .before .before .before .before .before .before .good)) (c .before .before .before .before .before .before .before .before .before .before .tally .ensures),
-)
+returns-3 c =
+    let k = c .before .before in
+    let s = k .before .before .before .before in
+    let h = s .before .before in
+    let f = h .before .before in
+    let r = f .before .before .before .before in (
+      leb-true _ _ (sym (f .before .set-fits .ensures) ∙ not-false _ (f .if1 .left)),
+      s .apply-set .ensures,
+      lost-changes (r .pre .0) (r .args .a .0) (r .args .b .0) (r .args .value) (r .pre .1) (omega (arith, r .good)) (s .apply-set .ensures)
+          (h .read-header .ensures) (omega (arith, h .read-header .ok)) (k .read-header2 .ensures) (omega (arith, k .read-header2 .ok)) (c .gained2 .result)
+          (c .before .if2 .left) (c .gained2 .ensures),
+    )
 
 pub set-spec : {M : Type 1} → statement M
 set-spec =
     tie.close
     (tie.spec
-    tally-requires
+    set-fits-requires
     same-length
     returns
-    set-fits-requires
+    read-header-requires
+    apply-set-requires
+    read-header-requires-2
+    gained-requires
     same-length-2
     returns-2
-    apply-set-requires
+    gained-requires-2
     same-length-3
     returns-3)
