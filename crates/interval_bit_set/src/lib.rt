@@ -3,6 +3,7 @@
 pub mod bytes;
 pub mod carry;
 pub mod change;
+pub mod core;
 pub mod listing;
 pub mod look;
 pub mod make;
