@@ -1,7 +1,10 @@
 // The calls on a store that is known to be sound: each answers what the public call of its name does, without looking at the store. So a
-// list of calls can be served after one look, as each leaves a sound store. What a change would leave is counted before the first write.
+// list of calls can be served after one look, as each leaves a sound store. What a change would leave is counted before the first write,
+// so a refusal finds every word as it was.
 ghost use mathlib.Core.Path.{_≡_};
+ghost use mathlib.Core.Bool.{not};
 ghost use Rattle.model.specs.Positions.{ended};
+ghost use Rattle.model.specs.Refusals.{badWindow};
 ghost use Rattle.model.specs.Call.{Call};
 ghost use Rattle.model.specs.Answers.{completedAnswer, countedAnswer, numberedAnswer, testedAnswer, aroundAnswer, foundAnswer, listedAnswer, drawnAnswer};
 ghost use Rattle.interval_bit_set.specs.Met.{Met};
@@ -250,12 +253,25 @@ pub fn draw_back(words: &[u64], l: Listing) -> Drawn
     }
 }
 
+// Whether a window is one: a length from 1 to 524,288, and all of it below 2^64.
+pub fn window_fits(base: u64, length: u64) -> bool
+    ensures { λ r. ⌜ r ≡ not (badWindow base length) ⌝ }
+{
+    if length == 0 {
+        return false;
+    }
+    if length > 524288 {
+        return false;
+    }
+    length - 1 <= u64::MAX - base
+}
+
 // A thousand times the count of a window fits a word.
 pub fn fill(words: &[u64], base: u64, length: u64) -> Numbered
     requires { ⌜ Readable (now words) ⌝ }
     ensures { λ r. ⌜ Met (now (words .entry)) (Call.fill base length) (numberedAnswer r) (now (words .entry)) ⌝ }
 {
-    if !crate::report::window_fits(base, length) {
+    if !window_fits(base, length) {
         return Numbered::Refused(Refusal::Window);
     }
     let t = reports::logical::tally(words, Logical(base), Logical(base + (length - 1)), true);

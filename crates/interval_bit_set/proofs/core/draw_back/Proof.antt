@@ -13,9 +13,7 @@ finished-requires : tie.Need-finished-requires
 finished-requires c κs = search needs
 
 returns : tie.Need-returns
-returns c =
-    let R = c .before .before .before .pre in
-    met (draw-back-says _ _) R refl tt (back-none _ (ap lastRun (none-left _ _ (c .before .if1 .taken))) (c .finished .ensures))
+returns c = met (draw-back-says _ _) (c .before .before .before .pre) refl tt (back-none _ (ap lastRun (none-left _ _ (c .before .if1 .taken))) (c .finished .ensures))
 
 last-run-requires : tie.Need-last-run-requires
 last-run-requires c κs = search needs

@@ -13,9 +13,7 @@ finished-requires : tie.Need-finished-requires
 finished-requires c κs = search needs
 
 returns : tie.Need-returns
-returns c =
-    let R = c .before .before .before .pre in
-    met (draw-front-says _ _) R refl tt (front-none _ (ap firstRun (none-left _ _ (c .before .if1 .taken))) (c .finished .ensures))
+returns c = met (draw-front-says _ _) (c .before .before .before .pre) refl tt (front-none _ (ap firstRun (none-left _ _ (c .before .if1 .taken))) (c .finished .ensures))
 
 first-run-requires : tie.Need-first-run-requires
 first-run-requires c κs = search needs

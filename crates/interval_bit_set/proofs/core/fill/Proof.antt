@@ -13,9 +13,7 @@ window-fits-requires : tie.Need-window-fits-requires
 window-fits-requires c κs = search needs
 
 returns : tie.Need-returns
-returns c =
-    let R = c .before .before .before .pre in
-    refused-by (fill-says _ _ _) 6 R (window-refused _ _ (bad-by _ _ _ (c .before .window-fits .ensures) (c .if1 .taken)))
+returns c = refused-by (fill-says _ _ _) 6 (c .before .before .before .pre) (window-refused _ _ (bad-by _ _ _ (c .before .window-fits .ensures) (c .if1 .taken)))
 
 sub-t10 : tie.Need-sub-t10
 sub-t10 c = (fitting _ _ (bad-by _ _ _ (c .before .window-fits .ensures) (c .if1 .left))) .some

@@ -13,9 +13,7 @@ same-length : tie.Need-same-length
 same-length c = search needs
 
 returns : tie.Need-returns
-returns c =
-    let R = c .before .before .before .before .before .pre in
-    changes-to (shift-says _ _ _) refl _ R refl (c .before .before .shift .ensures) tt refl
+returns c = changes-to (shift-says _ _ _) refl _ (c .before .before .before .before .before .pre) refl (c .before .before .shift .ensures) tt refl
 
 pub shift-spec : {M : Type 1} → statement M
 shift-spec = tie.close (tie.spec shift-requires same-length returns)
