@@ -3,31 +3,35 @@
 -- Assumes nothing.
 use Prim.Native.Nat.{ℕ, suc, _-_, _≤_, _<_}
 use mathlib.Core.Path.{_≡_, sym, ap, _∙_, subst}
+use mathlib.Core.Logic.{_⊎_, inl, inr}
 use mathlib.Core.Bool.{Bool, cond}
 use mathlib.Core.List.{List}
 use native.Mathlib.Omega.{arith}
 use lib.ListN.{length}
-use Rattle.model.specs.Numbers.{size}
+use Rattle.model.specs.Numbers.{size, split}
 use Rattle.model.specs.Places.{capacityOf}
 use Rattle.model.specs.Positions.{Positions, among, setRange, stretches, mem}
-use Rattle.run_index.specs.Tree.{Tree, inorder}
+use Rattle.run_index.specs.Tree.{Tree, runs, inorder}
 use Rattle.store.specs.declared.Header.{Header}
 use Rattle.store.specs.Layout.{headerAt, capacity, turned, heldBy}
 use Rattle.store.specs.Soundness.{Kept, Sound}
-use Rattle.store.specs.Settle.{Settled, Ready, Refreshable, Refreshes}
+use Rattle.store.specs.Free.{SameRest}
+use Rattle.store.specs.Settle.{Settled, Ready, Refreshes, Resettable}
 use Rattle.store.specs.Turn.{Lies, first-below, parted-length}
-use Rattle.store.proofs.Opening.{physicalIn, sound-held}
+use Rattle.store.proofs.Opening.{physicalIn, sound-held, sound-none, sound-some}
 use Rattle.changes.specs.Change.{MaySet, Settable, Holding, Sets}
 use Rattle.changes.specs.Neighbours.{stretches-cong}
 use Rattle.changes.specs.TurnedSet.{turned-cong, turned-set-whole, turned-set-first, turned-set-parted}
 use Rattle.changes.specs.SetRuns.{set-one-more, physical-one-more}
+use Rattle.changes.proofs.Steps.{rest-then}
 
--- w′ keeps physical positions that are P, turned by its offset, and has the length of w
+-- w′ keeps physical positions that are P, turned by its offset, and has the length of w and, but for its root and free head, the header
 pub record Reached (w w′ : List ℕ) (P : Positions) : Type 0 where
   pub tree : Tree
   pub nodes : List ℕ
   pub kept : Kept w′ tree nodes
   pub holds : (x : ℕ) → x < size → turned ((headerAt w′) .offset) (mem (inorder tree)) x ≡ P x
+  pub rest : SameRest (headerAt w) (headerAt w′)
   pub long : length w′ ≡ length w
 
 -- words that are the same have reached the same
@@ -46,15 +50,37 @@ module _ {w w′ : List ℕ} {P : Positions} (r : Reached w w′ P) (fits : stre
     );
   }
 
-  -- the same, as the call asks it
-  pub reached-refreshable : Refreshable w′
-  reached-refreshable = (r .tree, r .nodes, reached-ready)
-
   -- and then the store is sound and holds them
   pub reached-settled : {w″ : List ℕ} → Refreshes w′ w″ → Settled w w″ P
   reached-settled re =
       let s = re (r .tree) (r .nodes) reached-ready in
       record { sound = s .sound; holds = λ x l. s .holds x l ∙ r .holds x l; long = s .long ∙ r .long }
+
+-- the header tells of what w held, so little is left to find out
+pub reached-resettable : {w w′ : List ℕ} {h : Header} (a b : ℕ) (v : Bool) (s : Sound w) → h ≡ headerAt w → h .offset < size → a ≤ b → b < size
+    → Reached w w′ (setRange a (suc b - a) v (heldBy w)) → stretches (setRange a (suc b - a) v (heldBy w)) ≤ capacity w → Resettable w′ a b v
+reached-resettable {w} {w′} {h} a b v s eh small le below r fits = (
+  r .tree,
+  r .nodes,
+  heldBy w,
+  reached-ready r fits,
+  record {
+    ordered = le;
+    below = below;
+    first-was = r .rest .first-same ∙ s .first-is;
+    last-was = r .rest .last-same ∙ s .last-is;
+    none-were = λ z. sound-none s eh (sym runs-were ∙ z);
+    some-were = λ nz. sound-some s eh small (some nz (split 0 (runs (s .tree))));
+    set-to = r .holds;
+  },
+)
+  where
+    runs-were : (headerAt w′) .runs ≡ runs (s .tree)
+    runs-were = r .rest .runs-same ∙ s .runs-are
+
+    some : ((headerAt w′) .runs ≡ 0 → ⊥) → (0 < runs (s .tree)) ⊎ (runs (s .tree) ≤ 0) → 1 ≤ runs (s .tree)
+    some nz (inl l) = l
+    some nz (inr l) = absurd (nz (omega (arith, runs-were)))
 
 -- what Holding tells of the logical positions
 holding-reached : {w w′ : List ℕ} {X P : Positions} (o : ℕ) → o ≡ (headerAt w) .offset → Holding w w′ X
@@ -66,6 +92,7 @@ holding-reached {w} {w′} {X} {P} o eo k f =
       nodes = k .nodes;
       kept = k .kept;
       holds = λ x l. ap (λ p. turned p Y x) (k .rest .offset-same ∙ sym eo) ∙ turned-cong o Y X (k .positions-are) x l ∙ f x l;
+      rest = k .rest;
       long = k .long;
     }
 
@@ -196,4 +223,11 @@ module _ {w : List ℕ} {h : Header} {a n s e : ℕ} (v : Bool) (sound : Sound w
         parted-reached u =
             let k = u (held-first .tree) (held-first .nodes) second-may in
             let r = holding-reached (h .offset) (offset-is ∙ sym (held-first .rest .offset-same)) k both-turned in
-            record { tree = r .tree; nodes = r .nodes; kept = r .kept; holds = r .holds; long = r .long ∙ held-first .long }
+            record {
+              tree = r .tree;
+              nodes = r .nodes;
+              kept = r .kept;
+              holds = r .holds;
+              rest = rest-then _ _ _ (held-first .rest) (r .rest);
+              long = r .long ∙ held-first .long;
+            }

@@ -4,93 +4,39 @@ use Prim.Native.Nat.{ℕ, _+_, _-_, _≤_, _<_}
 use mathlib.Core.Path.{_≡_, refl, sym, ap, _∙_, subst}
 use mathlib.Core.Logic.{_⊎_, inl, inr}
 use mathlib.Core.Bool.{Bool, true, false}
-use mathlib.Core.List.{List, [], _∷_}
+use mathlib.Core.List.{List}
 use native.Mathlib.Omega.{arith}
 use lib.ListN.{length}
-use Rattle.model.specs.declared.Run.{Run}
 use Rattle.model.specs.Numbers.{size, split}
 use Rattle.model.specs.Places.{physicalOf, logicalOf}
-use Rattle.model.specs.Positions.{Positions, heldRuns, stretches, mem, empty, setRange, shiftLeft, shiftRight, shiftBy}
-use Rattle.model.specs.Positions.Runs.{heldRuns-canon, mem-heldRuns}
-use Rattle.model.specs.RunList.{Canon, mem-in, mem-above, mem-before}
+use Rattle.model.specs.Positions.{Positions, heldRuns, stretches, empty, setRange, shiftLeft, shiftRight, shiftBy}
 use Rattle.model.specs.After.{set-inside, set-below, set-above}
-use Rattle.run_index.specs.Tree.{Tree, leaf, node, runs, inorder, At}
-use Rattle.run_index.proofs.Totals.{runs-length}
+use Rattle.run_index.specs.Tree.{Tree, leaf, node, runs, At}
 use Rattle.store.specs.declared.Header.{Header}
 use Rattle.store.specs.Layout.{headerAt, Headed, capacity, turned, heldBy}
 use Rattle.store.specs.Soundness.{Sound, firstOf, lastOf}
 use Rattle.store.specs.Free.{Emptied}
 use Rattle.store.specs.Settle.{Settled}
-use Rattle.store.specs.Turn.{turned-logical}
-use Rattle.store.specs.Ends.{clash, empty-mem}
+use Rattle.store.specs.Ends.{clash, Ends, held-ends}
 use Rattle.store.proofs.Emptying.{rootless-empty}
-use Rattle.store.proofs.Opening.{physicalIn, sound-held}
+use Rattle.store.proofs.Opening.{physicalIn, sound-held, sound-some}
 use Rattle.store.proofs.Settling.{settled}
 use Rattle.changes.specs.Edits.{Shiftable}
 use Rattle.changes.specs.SetRuns.{clear-top, clear-bottom}
 use Rattle.changes.specs.Shifted.{left-at, right-at, left-cong, right-cong, left-nothing, right-nothing, shifted-left, shifted-right, left-stretches, left-first, left-last, right-stretches, right-first, right-last}
 
 -- ---- the first and the last position held
--- the last position of a canonical list is not below the first, small, and held
-lastOf-held : (total k : ℕ) (r : Run) (rs : List Run) → Canon total k (r ∷ rs)
-    → (r .start ≤ lastOf (r ∷ rs)) × (lastOf (r ∷ rs) < total) × (mem (r ∷ rs) (lastOf (r ∷ rs)) ≡ true)
-lastOf-held total k r [] c = (c .1, c .2, mem-in r [] (r .«end») (c .1) (omega arith))
-lastOf-held total k r (s ∷ rs) c =
-    let i = lastOf-held total (r .«end» + 2) s rs (c .3) in
-    let l : r .«end» < lastOf (s ∷ rs) = omega (arith, c .3 .0, i .0) in
-    (omega (arith, c .1), i .1, mem-above r (s ∷ rs) (lastOf (s ∷ rs)) l ∙ i .2)
-
--- nothing is held above it
-lastOf-over : (total k : ℕ) (rs : List Run) (y : ℕ) → Canon total k rs → lastOf rs < y → mem rs y ≡ false
-lastOf-over total k [] y c l = empty-mem y
-lastOf-over total k (r ∷ []) y c l = mem-above r [] y l ∙ empty-mem y
-lastOf-over total k (r ∷ (s ∷ rs)) y c l =
-    let i = lastOf-held total (r .«end» + 2) s rs (c .3) in
-    mem-above r (s ∷ rs) y (omega (arith, c .3 .0, i .0)) ∙ lastOf-over total (r .«end» + 2) (s ∷ rs) y (c .3) l
-
--- a is the first position of P, and b the last
-pub record Ends (P : Positions) (a b : ℕ) : Type 0 where
-  pub order : a ≤ b
-  pub small : b < size
-  pub first : P a ≡ true
-  pub last : P b ≡ true
-  pub under : (y : ℕ) → y < a → P y ≡ false
-  pub over : (y : ℕ) → b < y → y < size → P y ≡ false
-
--- so of runs that hold what P holds, if they hold something
-list-ends : (P : Positions) (rs : List Run) (x : ℕ) → Canon size 0 rs → ((y : ℕ) → y < size → mem rs y ≡ P y) → mem rs x ≡ true → Ends P (firstOf rs) (lastOf rs)
-list-ends P [] x c f e = clash e (empty-mem x)
-list-ends P (r ∷ rs) x c f e =
-    let i = lastOf-held size 0 r rs c in
-    record {
-      order = i .0;
-      small = i .1;
-      first = sym (f (r .start) (omega (arith, c .1, c .2))) ∙ mem-in r rs (r .start) (omega arith) (c .1);
-      last = sym (f (lastOf (r ∷ rs)) (i .1)) ∙ i .2;
-      under = λ y l. sym (f y (omega (arith, c .1, c .2))) ∙ mem-before size 0 r rs y c l;
-      over = λ y l t. sym (f y t) ∙ lastOf-over size 0 (r ∷ rs) y c l;
-    }
-
 -- a tree with a root has a run
 rooted-runs : (w : List ℕ) (k : ℕ) (t : Tree) → At w 0 k t → (k ≡ 0 → ⊥) → 1 ≤ runs t
 rooted-runs w k leaf h nz = absurd (nz (sym (h .linked)))
 rooted-runs w k (node n a b l r) h nz = omega arith
 
--- canonical runs hold something, if there are any
-runs-hold : (rs : List Run) → 1 ≤ length rs → Canon size 0 rs → (x : ℕ) × (x < size) × (mem rs x ≡ true)
-runs-hold [] h c = absurd (omega arith)
-runs-hold (r ∷ rs) h c = (r .start, omega (arith, c .1, c .2), mem-in r rs (r .start) (omega arith) (c .1))
-
 -- of a sound store with a root the header tells the first and the last position
 pub sound-ends : {w : List ℕ} {h : Header} (s : Sound w) → h ≡ headerAt w → ((headerAt w) .root ≡ 0 → ⊥) → h .offset < size → Ends (heldBy w) (h .first) (h .last)
 sound-ends {w} {h} s eh nz small =
-    let many : 1 ≤ length (inorder (s .tree)) = omega (arith, rooted-runs w ((headerAt w) .root) (s .tree) (s .kept .linked) nz, runs-length (s .tree)) in
-    let g = runs-hold (inorder (s .tree)) many (s .kept .ordered) in
-    let x : ℕ = logicalOf (g .0) (h .offset) in
-    let held : heldBy w x ≡ true = ap (λ (P : Positions). P x) (sound-held s eh) ∙ turned-logical (h .offset) (physicalIn s) (g .0) (g .1) small ∙ g .2 in
-    let e = list-ends (heldBy w) (heldRuns (heldBy w)) x (heldRuns-canon (heldBy w)) (mem-heldRuns (heldBy w)) (mem-heldRuns (heldBy w) x (omega arith) ∙ held) in
+    let g = sound-some s eh small (rooted-runs w ((headerAt w) .root) (s .tree) (s .kept .linked) nz) in
     subst (λ (a : ℕ). Ends (heldBy w) a (h .last)) (sym (ap (λ (y : Header). y .first) eh ∙ s .first-is))
-    (subst (Ends (heldBy w) (firstOf (heldRuns (heldBy w)))) (sym (ap (λ (y : Header). y .last) eh ∙ s .last-is)) e)
+    (subst (Ends (heldBy w) (firstOf (heldRuns (heldBy w)))) (sym (ap (λ (y : Header). y .last) eh ∙ s .last-is)) (held-ends (heldBy w) (g .0) (g .1) (g .2)))
 
 -- ---- all would leave
 -- an empty store holds what is nothing

@@ -33,7 +33,7 @@ use Rattle.changes.proofs.Counting.{nodes-all, runsOf, runs-of}
 use Rattle.changes.proofs.Lists.{last-none, Around, last-around, starts-at, remove-at, replace-at, insert-at, canon-before}
 
 -- the headers differ in root and free head alone after two steps
-rest-then : (h k l : Header) → SameRest h k → SameRest k l → SameRest h l
+pub rest-then : (h k l : Header) → SameRest h k → SameRest k l → SameRest h l
 rest-then h k l p q = record {
   offset-same = q .offset-same ∙ p .offset-same;
   ones-same = q .ones-same ∙ p .ones-same;

@@ -124,7 +124,7 @@ pub fn apply_set(words: &mut [u64], a: Logical, b: Logical, value: bool)
         crate::change::set_physical(words, s, Physical(u64::MAX), value);
         crate::change::set_physical(words, Physical(0), e, value);
     }
-    store::settle::refresh(words);
+    store::settle::refresh_set(words, a, b, value);
 }
 
 // How many positions a store gained, from what its header told before and tells after. The sums are kept modulo 2^64, so an empty store that

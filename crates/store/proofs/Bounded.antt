@@ -1,23 +1,21 @@
 -- What `is_sound` returns, by the tests that led there. Where a tree and a chain share the nodes out, the positions that the store holds
 -- are those of the tree, turned by the offset, so what `bounds` tells of the tree is what the header has to say. Assumes nothing.
 use Prim.Native.Nat.{ℕ, _≤_}
-use mathlib.Core.Path.{_≡_, refl, sym, ap, _∙_}
+use mathlib.Core.Path.{_≡_, sym, ap, _∙_}
 use mathlib.Core.Bool.{Bool, true, false, not, _||_}
 use mathlib.Core.List.{List}
 use native.Mathlib.Omega.{arith}
 use borrow.Author.Tests.{not-true, not-false, eqb-true, eq-eqb, leb-true, le-leb}
 use lib.Dec.{leb, eqb}
-use Rattle.model.specs.declared.Run.{Run}
-use Rattle.model.specs.Positions.{Positions, mem, heldRuns, stretches}
-use Rattle.run_index.specs.Tree.{runs, inorder}
+use Rattle.model.specs.Positions.{stretches}
 use Rattle.run_index.specs.Search.{Index, Indexed}
 use Rattle.store.specs.declared.Header.{Header}
-use Rattle.store.specs.Layout.{headerAt, capacity, turned, heldBy}
-use Rattle.store.specs.Soundness.{firstOf, lastOf}
+use Rattle.store.specs.Layout.{headerAt, capacity, heldBy}
 use Rattle.store.specs.Decision.{keptB, soundB, Shared}
 use Rattle.store.specs.Bounds.{TellsFirst, TellsLast, Counted, TellsRuns}
 use Rattle.store.proofs.Tests.{never, is-false, same}
-use Rattle.store.proofs.Decided.{cells, kept-few, kept-physical, keptB-yes, soundB-yes, soundB-no, either-out, either-in}
+use Rattle.store.proofs.Decided.{keptB-yes, soundB-yes, soundB-no, either-out, either-in}
+use Rattle.store.proofs.Settling.{kept-index, told-held, first-told, last-told}
 
 -- a sound store is kept
 pub sound-kept : (w : List ℕ) (b : Bool) → b ≡ keptB w → not b ≡ true → false ≡ soundB w
@@ -32,14 +30,7 @@ module _ (w : List ℕ) (sized : 1 ≤ capacity w) (b : Bool) (eb : b ≡ keptB 
   module _ (h : Header) (eh : h ≡ headerAt w) where
     -- the tree is an index
     index : Index w (h .root) 0 (shared .tree)
-    index = record {
-      at = rw (ap (λ (x : Header). x .root) eh) (shared .kept .linked);
-      canonical = shared .kept .ordered;
-      few =
-          let c = cells w sized in
-          let k = kept-few w (shared .tree) (shared .free) (shared .kept) in
-          omega (arith, c .1);
-    }
+    index = kept-index w (shared .tree) (shared .free) h eh (shared .kept)
 
     -- as `bounds` asks for it
     pub indexed : Indexed w (h .root)
@@ -49,24 +40,9 @@ module _ (w : List ℕ) (sized : 1 ≤ capacity w) (b : Bool) (eb : b ≡ keptB 
     pub counted : Counted w (h .root) (h .runs)
     counted = (0, shared .tree, index, ap (λ (x : Header). x .runs) eh ∙ shared .runs-are)
 
-    -- the positions held are the tree's, turned
-    held : turned (h .offset) (mem (inorder (shared .tree))) ≡ heldBy w
-    unfolding heldBy
-    held =
-        ap (λ (o : ℕ). turned o (mem (inorder (shared .tree)))) (ap (λ (x : Header). x .offset) eh)
-        ∙ ap (λ (rs : List Run). turned ((headerAt w) .offset) (mem rs)) (sym (kept-physical w (shared .tree) (shared .free) (shared .kept)))
-
-    -- what `bounds` tells of the first position held
-    first-told : (r : ℕ) → TellsFirst w (h .root) (h .offset) r → r ≡ firstOf (heldRuns (heldBy w))
-    first-told r t = t 0 (shared .tree) index ∙ ap (λ (P : Positions). firstOf (heldRuns P)) held
-
-    -- of the last
-    last-told : (r : ℕ) → TellsLast w (h .root) (h .offset) r → r ≡ lastOf (heldRuns (heldBy w))
-    last-told r t = t 0 (shared .tree) index ∙ ap (λ (P : Positions). lastOf (heldRuns P)) held
-
-    -- of the logical runs
+    -- what `bounds` tells of the logical runs
     runs-told : (r : ℕ) → TellsRuns w (h .root) (h .offset) r → r ≡ stretches (heldBy w)
-    runs-told r t = t 0 (shared .tree) index ∙ ap stretches held
+    runs-told r t = t 0 (shared .tree) index ∙ ap stretches (told-held (shared .kept) eh)
 
     -- an empty store with an offset
     pub offset-fails : (x : Bool) → x ≡ (not (eqb (h .root) 0) || eqb (h .offset) 0) → not x ≡ true → false ≡ soundB w
@@ -81,12 +57,12 @@ module _ (w : List ℕ) (sized : 1 ≤ capacity w) (b : Bool) (eb : b ≡ keptB 
     -- another first position
     pub first-fails : (r : ℕ) → TellsFirst w (h .root) (h .offset) r → (h .first ≡ r → ⊥) → false ≡ soundB w
     first-fails r t ne =
-        sym (is-false (soundB w) (λ e. ne (ap (λ (u : Header). u .first) eh ∙ soundB-yes w sized e .first-is ∙ sym (first-told r t))))
+        sym (is-false (soundB w) (λ e. ne (ap (λ (u : Header). u .first) eh ∙ soundB-yes w sized e .first-is ∙ sym (first-told (shared .kept) eh t))))
 
     -- another last position
     pub last-fails : (r : ℕ) → TellsLast w (h .root) (h .offset) r → (h .last ≡ r → ⊥) → false ≡ soundB w
     last-fails r t ne =
-        sym (is-false (soundB w) (λ e. ne (ap (λ (u : Header). u .last) eh ∙ soundB-yes w sized e .last-is ∙ sym (last-told r t))))
+        sym (is-false (soundB w) (λ e. ne (ap (λ (u : Header). u .last) eh ∙ soundB-yes w sized e .last-is ∙ sym (last-told (shared .kept) eh t))))
 
     -- else the number of logical runs decides
     pub runs-decide : (x : Bool) → x ≡ (not (eqb (h .root) 0) || eqb (h .offset) 0) → not x ≡ false
@@ -101,8 +77,8 @@ module _ (w : List ℕ) (sized : 1 ≤ capacity w) (b : Bool) (eb : b ≡ keptB 
           kept = shared .kept;
           ones-are = shared .ones-are;
           runs-are = shared .runs-are;
-          first-is = sym (ap (λ (u : Header). u .first) eh) ∙ ef ∙ first-told f tf;
-          last-is = sym (ap (λ (u : Header). u .last) eh) ∙ el ∙ last-told l tl;
+          first-is = sym (ap (λ (u : Header). u .first) eh) ∙ ef ∙ first-told (shared .kept) eh tf;
+          last-is = sym (ap (λ (u : Header). u .last) eh) ∙ el ∙ last-told (shared .kept) eh tl;
           empty-offset = λ z.
               sym (ap (λ (u : Header). u .offset) eh)
               ∙ eqb-true _ _ (either-out (eqb (h .root) 0) (eqb (h .offset) 0) (sym ex ∙ not-false x t)

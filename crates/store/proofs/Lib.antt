@@ -5,6 +5,7 @@ pub mod Altering
 pub mod Emptying
 pub mod Opening
 pub mod Settling
+pub mod Resetting
 -- What the proofs of several functions use, and what the soundness of a store means.
 pub mod Tests
 pub mod Steps

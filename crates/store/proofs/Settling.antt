@@ -152,20 +152,34 @@ toldHeader h v a b = record {
   spare = 0;
 }
 
+-- what the searches tell, of the positions held
+module _ {w : List ℕ} {t : Tree} {ns : List ℕ} {h : Header} (k : Kept w t ns) (eh : h ≡ headerAt w) where
+  -- they are the tree's, turned by the offset that the header tells
+  pub told-held : turned (h .offset) (mem (inorder t)) ≡ heldBy w
+  told-held = ap (λ (x : Header). turned (x .offset) (mem (inorder t))) eh ∙ sym (kept-held w t ns k)
+
+  -- the first one
+  pub first-told : {r : ℕ} → TellsFirst w (h .root) (h .offset) r → r ≡ firstOf (heldRuns (heldBy w))
+  first-told f = f 0 t (kept-index w t ns h eh k) ∙ ap (λ (P : Positions). firstOf (heldRuns P)) told-held
+
+  -- the last one
+  pub last-told : {r : ℕ} → TellsLast w (h .root) (h .offset) r → r ≡ lastOf (heldRuns (heldBy w))
+  last-told f = f 0 t (kept-index w t ns h eh k) ∙ ap (λ (P : Positions). lastOf (heldRuns P)) told-held
+
 -- a store with a tree is refreshed
 pub refresh-told : (w w′ : List ℕ) (h : Header) (v : Node) (a b : ℕ) → h ≡ headerAt w → (h .root ≡ 0 → ⊥) → v ≡ cellAt w (h .root)
-    → TellsFirst w (h .root) (h .offset) a → TellsLast w (h .root) (h .offset) b → Headed w w′ (toldHeader h v a b) → Refreshes w w′
-refresh-told w w′ h v a b eh nz ev ta tb hd t ns r =
+    → a ≡ firstOf (heldRuns (heldBy w)) → b ≡ lastOf (heldRuns (heldBy w)) → Headed w w′ (toldHeader h v a b) → Refreshes w w′
+refresh-told w w′ h v a b eh nz ev ea eb hd t ns r =
     let k : Kept w t ns = r .kept in
     let su : Sums v t = root-sums w t ns h v eh nz ev k in
-    let i : Index w (h .root) 0 t = kept-index w t ns h eh k in
+    let held : heldBy w ≡ turned (h .offset) (mem (inorder t)) = sym (told-held k eh) in
     let eo : h .offset ≡ (headerAt w) .offset = ap (λ (x : Header). x .offset) eh in
     settled w w′ t ns (toldHeader h v a b) (turned ((headerAt w) .offset) (mem (inorder t))) k hd (ap (λ (x : Header). x .root) eh) (ap (λ (x : Header). x .free) eh) refl
     (record {
       ones-are = su .ones-is;
       runs-are = su .runs-is;
-      first-is = ta 0 t i;
-      last-is = tb 0 t i;
+      first-is = ea ∙ ap (λ (P : Positions). firstOf (heldRuns P)) held;
+      last-is = eb ∙ ap (λ (P : Positions). lastOf (heldRuns P)) held;
       empty-offset = λ z. absurd (nz z);
       fits = omega (arith, r .fits, ap (λ (o : ℕ). stretches (turned o (mem (inorder t)))) eo);
     }) (λ x lt. ap (λ (o : ℕ). turned o (mem (inorder t)) x) eo)

@@ -54,6 +54,23 @@ lastOf-is total k (r ∷ (s ∷ rs)) x c h f = go (split (r .«end») x) (λ p g
         let l : r .«end» < s .start = omega (arith, c .3 .0) in
         clash (mem-in s rs (s .start) (omega arith) (c .3 .1)) (sym (mem-above r (s ∷ rs) (s .start) l) ∙ f (s .start) (omega arith) (omega (arith, c .3 .1, c .3 .2)))
 
+-- the last position of a canonical list is not below the first, small, and held
+lastOf-held : (total k : ℕ) (r : Run) (rs : List Run) → Canon total k (r ∷ rs)
+    → (r .start ≤ lastOf (r ∷ rs)) × (lastOf (r ∷ rs) < total) × (mem (r ∷ rs) (lastOf (r ∷ rs)) ≡ true)
+lastOf-held total k r [] c = (c .1, c .2, mem-in r [] (r .«end») (c .1) (omega arith))
+lastOf-held total k r (s ∷ rs) c =
+    let i = lastOf-held total (r .«end» + 2) s rs (c .3) in
+    let l : r .«end» < lastOf (s ∷ rs) = omega (arith, c .3 .0, i .0) in
+    (omega (arith, c .1), i .1, mem-above r (s ∷ rs) (lastOf (s ∷ rs)) l ∙ i .2)
+
+-- nothing is held above it
+lastOf-over : (total k : ℕ) (rs : List Run) (y : ℕ) → Canon total k rs → lastOf rs < y → mem rs y ≡ false
+lastOf-over total k [] y c l = empty-mem y
+lastOf-over total k (r ∷ []) y c l = mem-above r [] y l ∙ empty-mem y
+lastOf-over total k (r ∷ (s ∷ rs)) y c l =
+    let i = lastOf-held total (r .«end» + 2) s rs (c .3) in
+    mem-above r (s ∷ rs) y (omega (arith, c .3 .0, i .0)) ∙ lastOf-over total (r .«end» + 2) (s ∷ rs) y (c .3) l
+
 -- ---- of a set
 -- the first held position
 pub held-first : (P : Positions) (x : ℕ) → x < size → P x ≡ true → ((y : ℕ) → y < x → P y ≡ false) → firstOf (heldRuns P) ≡ x
@@ -68,6 +85,33 @@ held-last P x h p f =
 -- none is held: no runs, and so 0 for both
 pub held-none : (P : Positions) → ((y : ℕ) → y < size → P y ≡ false) → heldRuns P ≡ []
 held-none P f = heldRuns-is P [] tt (λ x h. empty-mem x ∙ sym (f x h))
+
+-- a is the first position of P, and b the last
+pub record Ends (P : Positions) (a b : ℕ) : Type 0 where
+  pub order : a ≤ b
+  pub small : b < size
+  pub first : P a ≡ true
+  pub last : P b ≡ true
+  pub under : (y : ℕ) → y < a → P y ≡ false
+  pub over : (y : ℕ) → b < y → y < size → P y ≡ false
+
+-- so of runs that hold what P holds, if they hold something
+list-ends : (P : Positions) (rs : List Run) (x : ℕ) → Canon size 0 rs → ((y : ℕ) → y < size → mem rs y ≡ P y) → mem rs x ≡ true → Ends P (firstOf rs) (lastOf rs)
+list-ends P [] x c f e = clash e (empty-mem x)
+list-ends P (r ∷ rs) x c f e =
+    let i = lastOf-held size 0 r rs c in
+    record {
+      order = i .0;
+      small = i .1;
+      first = sym (f (r .start) (omega (arith, c .1, c .2))) ∙ mem-in r rs (r .start) (omega arith) (c .1);
+      last = sym (f (lastOf (r ∷ rs)) (i .1)) ∙ i .2;
+      under = λ y l. sym (f y (omega (arith, c .1, c .2))) ∙ mem-before size 0 r rs y c l;
+      over = λ y l t. sym (f y t) ∙ lastOf-over size 0 (r ∷ rs) y c l;
+    }
+
+-- the first and the last position of the runs of a set that holds x
+pub held-ends : (P : Positions) (x : ℕ) → x < size → P x ≡ true → Ends P (firstOf (heldRuns P)) (lastOf (heldRuns P))
+held-ends P x h p = list-ends P (heldRuns P) x (heldRuns-canon P) (mem-heldRuns P) (mem-heldRuns P x h ∙ p)
 
 -- ---- of a turned set, by what is physically held
 module _ (o : ℕ) (Q : Positions) (small : o < size) where

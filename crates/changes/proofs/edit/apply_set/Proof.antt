@@ -1,5 +1,5 @@
 -- `apply_set` meets its contract: the range lies at one physical range, or at two; what is written there is the set asked for, turned, and
--- `refresh` makes it a sound store. Assumes nothing.
+-- `refresh_set` makes it a sound store. Assumes nothing.
 use borrow.Author.Needs.{needs}
 use native.Mathlib.Omega.{arith}
 use mathlib.Core.Logic.{⊎-elim}
@@ -11,7 +11,7 @@ use Rattle.store.proofs.Opening.{sound-room, offset-small}
 use Rattle.changes.proofs.Setting.{
   Reached,
   reached-same,
-  reached-refreshable,
+  reached-resettable,
   reached-settled,
   whole-settable,
   whole-reached,
@@ -56,14 +56,15 @@ set-physical-requires-3 c κs =
     second-settable (c .before .before .before .before .before .before .before .before .before .before .before .args .value) (c .before .before .before .before .before .before .before .before .before .before .before .pre .0) (c .before .before .before .before .before .before .before .before .read-header .ensures) (lies (c .before .before .before .before .before .before)) (c .before .before .before .before .before .if1 .left)
     (c .before .before .before .set-physical2 .ensures) (c .before .before .before .before .before .before .before .before .before .before .before .pre .1 .1)
 
-refresh-requires : tie.Need-refresh-requires
-refresh-requires c κs = reached-refreshable (reached (c .before)) (c .before .before .before .before .before .before .before .pre .1 .1)
+refresh-set-requires : tie.Need-refresh-set-requires
+refresh-set-requires c κs =
+    reached-resettable _ _ _ (c .before .before .before .before .before .before .before .pre .0) (c .before .before .before .before .read-header .ensures) (omega (arith, c .before .before .before .before .read-header .ok)) (c .before .before .before .before .before .before .before .pre .1 .0) (omega (arith, c .before .before .before .before .before .before .before .good)) (reached (c .before)) (c .before .before .before .before .before .before .before .pre .1 .1)
 
 same-length : tie.Need-same-length
-same-length c = (reached-settled (reached (c .before .before .before .before)) (c .before .before .before .before .before .before .before .before .before .before .pre .1 .1) (c .before .before .refresh .ensures)) .long
+same-length c = (reached-settled (reached (c .before .before .before .before)) (c .before .before .before .before .before .before .before .before .before .before .pre .1 .1) (c .before .before .refresh-set .ensures)) .long
 
 returns : tie.Need-returns
-returns c = reached-settled (reached (c .before .before .before .before)) (c .before .before .before .before .before .before .before .before .before .before .pre .1 .1) (c .before .before .refresh .ensures)
+returns c = reached-settled (reached (c .before .before .before .before)) (c .before .before .before .before .before .before .before .before .before .before .pre .1 .1) (c .before .before .refresh-set .ensures)
 
 pub apply-set-spec : {M : Type 1} → statement M
 apply-set-spec =
@@ -75,6 +76,6 @@ apply-set-spec =
     set-physical-requires
     set-physical-requires-2
     set-physical-requires-3
-    refresh-requires
+    refresh-set-requires
     same-length
     returns)

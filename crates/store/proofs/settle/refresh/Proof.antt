@@ -2,7 +2,7 @@
 -- No node is written, so the store's nodes lie as they did. Assumes nothing.
 use borrow.Author.Needs.{needs}
 use Rattle.store.proofs.Nodes.{header-room}
-use Rattle.store.proofs.Settling.{refresh-empty, root-room, kept-index, refresh-told}
+use Rattle.store.proofs.Settling.{refresh-empty, root-room, kept-index, first-told, last-told, refresh-told}
 use Rattle.store.proofs.settle.refresh.Statement.{statement}
 use Rattle.store.proofs.settle.refresh.Tie as tie
 
@@ -34,7 +34,7 @@ same-length-2 : tie.Need-same-length-2
 same-length-2 c = search needs
 
 returns-2 : tie.Need-returns-2
-returns-2 c = refresh-told _ _ _ _ _ _ (c .before .before .before .before .before .before .before .before .before .before .before .read-header .ensures) (c .before .before .before .before .before .before .before .before .before .before .if1 .left) (c .before .before .before .before .before .before .before .before .read-node .ensures) (c .before .before .before .before .before .before .first-held .ensures) (c .before .before .before .before .last-held .ensures) (c .before .before .write-header2 .ensures)
+returns-2 c = refresh-told _ _ _ _ _ _ (c .before .before .before .before .before .before .before .before .before .before .before .read-header .ensures) (c .before .before .before .before .before .before .before .before .before .before .if1 .left) (c .before .before .before .before .before .before .before .before .read-node .ensures) (first-told (c .before .before .before .before .before .before .before .before .before .before .before .before .before .before .pre .2 .kept) (c .before .before .before .before .before .before .before .before .before .before .before .read-header .ensures) (c .before .before .before .before .before .before .first-held .ensures)) (last-told (c .before .before .before .before .before .before .before .before .before .before .before .before .before .before .pre .2 .kept) (c .before .before .before .before .before .before .before .before .before .before .before .read-header .ensures) (c .before .before .before .before .last-held .ensures)) (c .before .before .write-header2 .ensures)
 
 pub refresh-spec : {M : Type 1} → statement M
 refresh-spec =
