@@ -1,11 +1,10 @@
 -- The answer to an input: too long, refused, or the lines of the set that it loads. Assumes nothing.
-use Prim.Native.Nat.{ℕ, _+_, _≤_, _<_, min}
+use Prim.Native.Nat.{ℕ, _≤_, _<_}
 use mathlib.Core.Path.{_≡_, refl, sym, ap, _∙_, subst}
 use mathlib.Core.Bool.{Bool, false, cond}
-use mathlib.Core.List.{List, [], _∷_, _++_}
+use mathlib.Core.List.{List, _∷_, _++_}
 use mathlib.Core.Option.{Option, none, some}
 use native.Mathlib.Omega.{arith}
-use lib.Dec.{ltb}
 use lib.ListN.{length, take, length-take}
 use borrow.Author.Tests.{lt-ltb, le-ltb}
 use Rattle.io.specs.Counts.{Counts}
@@ -16,7 +15,7 @@ use Rattle.model.specs.Positions.{Positions, empty, mem, bounded}
 use Rattle.model.specs.Bytes.{decode}
 use Rattle.model.specs.Refusals.{Condition, _when_, refusal, storeLength, tooMany}
 use Rattle.model.specs.Refusals.{capacity as tooMuch}
-use Rattle.model.specs.Call.{Call, Answer, refused, done, holding}
+use Rattle.model.specs.Call.{Call, refused, done}
 use Rattle.model.specs.Answers.{completedAnswer}
 use Rattle.model.specs.Model.{Outcome, positionsOf, overwrites, settle, overwrite, serve, step}
 use Rattle.store.specs.Layout.{capacity, heldBy}
@@ -24,7 +23,7 @@ use Rattle.store.specs.Soundness.{Sound}
 use Rattle.interval_bit_set.specs.Met.{fedOf, outcomeOf, Met}
 use Rattle.interval_bit_set.specs.Told.{setConditions}
 use Rattle.interval_bit_set.proofs.Meeting.{Plain, fed-sized}
-use Rattle.lockstep.specs.Follow.{Holds, overwritten}
+use Rattle.lockstep.specs.Follow.{overwritten}
 use Rattle.listset.specs.Text.{tooLongLine, refusedLine, setLines, outcomeLines, loaded, printed}
 use Rattle.listset.specs.Put.{Puts}
 

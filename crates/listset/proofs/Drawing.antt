@@ -1,9 +1,9 @@
 -- What is reported of a sound store: all its runs and positions, and a listing that a draw shortens by its first run. Assumes nothing.
-use Prim.Native.Nat.{ℕ, zero, suc, _+_, _-_, _≤_, _<_}
+use Prim.Native.Nat.{ℕ, suc, _+_, _-_, _≤_, _<_}
 use mathlib.Core.Path.{_≡_, refl, sym, ap, _∙_, subst}
 use mathlib.Core.Logic.{_⊎_, inl, inr}
-use mathlib.Core.Bool.{Bool, true, false, cond, _&&_, Bool·beq}
-use mathlib.Core.List.{List, [], _∷_}
+use mathlib.Core.Bool.{Bool, true, cond, _&&_, Bool·beq}
+use mathlib.Core.List.{List, _∷_}
 use mathlib.Core.Option.{Option, none, some}
 use native.Mathlib.Omega.{arith}
 use lib.Dec.{ltb}
@@ -18,7 +18,7 @@ use Rattle.model.specs.declared.Counted.{Counted}
 use Rattle.model.specs.declared.Listed.{Listed}
 use Rattle.model.specs.declared.Drawn.{Drawn}
 use Rattle.model.specs.Numbers.{size, split, worth, refusalNumber}
-use Rattle.model.specs.Positions.{Positions, runsIn, remaining, pastFirst, ended, count, stretches, heldRuns, listed, mem, among}
+use Rattle.model.specs.Positions.{Positions, runsIn, remaining, pastFirst, ended, count, stretches, heldRuns, mem}
 use Rattle.model.specs.Positions
 use Rattle.model.specs.Positions.Laws.{among-yes}
 use Rattle.model.specs.Positions.Runs.{runsIn-canon, runsIn-mem, runsIn-is, runsIn-none}

@@ -1,8 +1,7 @@
 -- Text put into a slice, a byte and a part at a time. Assumes nothing.
-use Prim.Native.Nat.{ℕ, suc, _+_, _≤_, _<_}
+use Prim.Native.Nat.{ℕ, _+_, _<_}
 use mathlib.Core.Path.{_≡_, refl, sym, ap, _∙_, subst}
 use mathlib.Core.List.{List, [], _∷_, _++_, append-assoc, append-nil}
-use native.Mathlib.Omega.{arith}
 use native.Mathlib.Nat.{add-zero, add-assoc}
 use native.Mathlib.Numerals.{add-one}
 use lib.ListN.{length, take, set, getD, length-set, length-append}

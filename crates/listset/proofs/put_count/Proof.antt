@@ -10,10 +10,6 @@ use Rattle.listset.proofs.Decimals.{full}
 use borrow.Author.Needs.{needs}
 use Rattle.listset.proofs.put_count.Statement.{statement}
 use Rattle.listset.proofs.put_count.Tie as tie
-use Rattle.listset.proofs.put_count.Reads as reads
-use Rattle.listset.proofs.put_count.Lts as lts
-use Rattle.listset.proofs.put.Reads as put-reads
-use Rattle.listset.proofs.put_number.Reads as put-number-reads
 
 put-number-requires : tie.Need-put-number-requires
 put-number-requires c κs = search needs

@@ -7,11 +7,6 @@ use Rattle.listset.proofs.Decimals.{decimal-short}
 use borrow.Author.Needs.{needs}
 use Rattle.listset.proofs.put_counts.Statement.{statement}
 use Rattle.listset.proofs.put_counts.Tie as tie
-use Rattle.listset.proofs.put_counts.Reads as reads
-use Rattle.listset.proofs.put_counts.Lts as lts
-use Rattle.listset.proofs.put.Reads as put-reads
-use Rattle.listset.proofs.put_count.Reads as put-count-reads
-use Rattle.listset.proofs.put_number.Reads as put-number-reads
 
 slice-aggregate-put : tie.Need-slice-aggregate-put
 slice-aggregate-put c = search needs

@@ -1,5 +1,5 @@
 -- `put_number` puts the digits that `io::decimal` makes. Assumes nothing.
-use mathlib.Core.Path.{_∙_, sym, subst}
+use mathlib.Core.Path.{_∙_, subst}
 use native.Mathlib.Omega.{arith}
 use denote.Ref.{now}
 use Rattle.listset.specs.Put.{Puts}
@@ -7,10 +7,6 @@ use Rattle.listset.proofs.Decimals.{twenty, decimal-is}
 use borrow.Author.Needs.{needs}
 use Rattle.listset.proofs.put_number.Statement.{statement}
 use Rattle.listset.proofs.put_number.Tie as tie
-use Rattle.listset.proofs.put_number.Reads as reads
-use Rattle.listset.proofs.put_number.Lts as lts
-use Rattle.io.proofs.decimal.Reads as decimal-reads
-use Rattle.listset.proofs.put.Reads as put-reads
 
 decimal-requires : tie.Need-decimal-requires
 decimal-requires c κs = search needs

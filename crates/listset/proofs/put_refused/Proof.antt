@@ -8,11 +8,6 @@ use Rattle.listset.proofs.Decimals.{decimal-short}
 use borrow.Author.Needs.{needs}
 use Rattle.listset.proofs.put_refused.Statement.{statement}
 use Rattle.listset.proofs.put_refused.Tie as tie
-use Rattle.listset.proofs.put_refused.Reads as reads
-use Rattle.listset.proofs.put_refused.Lts as lts
-use Rattle.listset.proofs.put.Reads as put-reads
-use Rattle.listset.proofs.put_number.Reads as put-number-reads
-use Rattle.model.proofs.refusal_number.Reads as refusal-number-reads
 
 slice-aggregate-put : tie.Need-slice-aggregate-put
 slice-aggregate-put c = search needs

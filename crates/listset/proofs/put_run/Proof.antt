@@ -6,10 +6,6 @@ use Rattle.listset.proofs.Decimals.{decimal-short}
 use borrow.Author.Needs.{needs}
 use Rattle.listset.proofs.put_run.Statement.{statement}
 use Rattle.listset.proofs.put_run.Tie as tie
-use Rattle.listset.proofs.put_run.Reads as reads
-use Rattle.listset.proofs.put_run.Lts as lts
-use Rattle.listset.proofs.put.Reads as put-reads
-use Rattle.listset.proofs.put_number.Reads as put-number-reads
 
 put-number-requires : tie.Need-put-number-requires
 put-number-requires c κs = search needs

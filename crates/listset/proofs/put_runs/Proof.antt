@@ -1,6 +1,5 @@
 -- `put_runs` puts the lines of a listing one after another (`Progress`). Assumes nothing.
 use Prim.Native.Nat.{_-_}
-use native.Mathlib.Omega.{arith}
 use borrow.Author.Needs.{needs}
 use Rattle.store.specs.Layout.{heldBy}
 use Rattle.listset.proofs.Lines.{Progress, progress-start, progress-room, progress-step, progress-end}

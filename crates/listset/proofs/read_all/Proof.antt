@@ -1,9 +1,9 @@
 -- `read_all` ends: each turn but the last brings a byte. Assumes nothing.
-use Prim.Native.Nat.{ℕ, _-_, _+_, _≤_}
+use Prim.Native.Nat.{ℕ, _-_, _≤_}
 use mathlib.Core.Path.{_≡_, subst}
 use mathlib.Core.List.{List}
 use native.Mathlib.Omega.{arith}
-use lib.ListN.{length, take, length-take}
+use lib.ListN.{length, length-take}
 use borrow.Author.Needs.{needs}
 use Rattle.io.specs.Counts.{Counts}
 use Rattle.listset.specs.Put.{Within}
