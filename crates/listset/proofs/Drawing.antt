@@ -1,0 +1,143 @@
+-- What is reported of a sound store: all its runs and positions, and a listing that a draw shortens by its first run. Assumes nothing.
+use Prim.Native.Nat.{ℕ, suc, _+_, _-_, _≤_, _<_}
+use mathlib.Core.Path.{_≡_, refl, sym, ap, _∙_, subst}
+use mathlib.Core.Logic.{_⊎_, inl, inr}
+use mathlib.Core.Bool.{Bool, true, cond, _&&_, Bool·beq}
+use mathlib.Core.List.{List, _∷_}
+use mathlib.Core.Option.{Option, none, some}
+use native.Mathlib.Omega.{arith}
+use lib.Dec.{ltb}
+use borrow.Author.Tests.{lt-ltb, le-ltb}
+use Rattle.model.specs.declared.Bound.the-variants.{Unbounded}
+use Rattle.model.specs.declared.Run.{Run}
+use Rattle.model.specs.declared.Listing.{Listing}
+use Rattle.model.specs.declared.Count.{Count}
+use Rattle.model.specs.declared.Refusal.{Refusal}
+use Rattle.model.specs.declared.Numbered.{Numbered}
+use Rattle.model.specs.declared.Counted.{Counted}
+use Rattle.model.specs.declared.Listed.{Listed}
+use Rattle.model.specs.declared.Drawn.{Drawn}
+use Rattle.model.specs.Numbers.{size, split, worth, refusalNumber}
+use Rattle.model.specs.Positions.{Positions, runsIn, remaining, pastFirst, ended, count, stretches, heldRuns, mem}
+use Rattle.model.specs.Positions
+use Rattle.model.specs.Positions.Laws.{among-yes}
+use Rattle.model.specs.Positions.Runs.{runsIn-canon, runsIn-mem, runsIn-is, runsIn-none}
+use Rattle.model.specs.RunList.{Canon, canon-weaken, mem-above}
+use Rattle.model.specs.Call.{Call, Answer, refused, number, listing, drawn}
+use Rattle.model.specs.Answers.{numberedAnswer, countedAnswer, listedAnswer, drawnAnswer}
+use Rattle.model.specs.Model.{report, drawnFirst, serve, step}
+use Rattle.store.specs.Layout.{capacity, heldBy}
+use Rattle.store.specs.Soundness.{Sound}
+use Rattle.interval_bit_set.specs.Met.{Met}
+use Rattle.interval_bit_set.proofs.Meeting.{Plain}
+use Rattle.lockstep.specs.Follow.{Holds, answer-is}
+
+-- what follows the first run
+runsIn-rest : (P : Positions) (v : Bool) (a n : ℕ) (r : Run) (rs : List Run) → runsIn P v a n ≡ r ∷ rs
+    → (a ≤ r .«end») × (r .«end» < a + n) × (runsIn P v (suc (r .«end»)) (a + n - suc (r .«end»)) ≡ rs)
+runsIn-rest P v a n r rs e = (
+  omega (arith, c .0, c .1),
+  c .2,
+  runsIn-is P v (suc (r .«end»)) (a + n - suc (r .«end»)) rs
+      (subst (λ t. Canon t (suc (r .«end»)) rs) {x = a + n} {y = suc (r .«end») + (a + n - suc (r .«end»))} (omega (arith, c .2)) (canon-weaken (a + n) (r .«end» + 2) (suc (r .«end»)) rs (omega arith) (c .3)))
+      (λ x l h.
+      sym (mem-above r rs x l) ∙ ap (λ ss. mem ss x) (sym e) ∙ runsIn-mem P v a n x
+      ∙ ap (λ t. t && Bool·beq (P x) v) (among-yes a n x (omega (arith, c .0, c .1)) (omega (arith, c .2)))),
+)
+  where
+    c : Canon (a + n) a (r ∷ rs)
+    c = subst (Canon (a + n) a) e (runsIn-canon P v (a + n) a n (omega arith))
+
+-- a listing past its first run has the others
+pub remaining-past : (P : Positions) (l : Listing) (r : Run) (rs : List Run) → remaining P l ≡ r ∷ rs → remaining P (pastFirst l (some r)) ≡ rs
+unfolding remaining pastFirst
+remaining-past P l r rs e = go (split (r .«end») (l .last))
+  where
+    v : Bool
+    v = l .value
+
+    n : ℕ
+    n = suc (l .last) - l .first
+
+    h : (l .first ≤ r .«end») × (r .«end» < l .first + n) × (runsIn P v (suc (r .«end»)) (l .first + n - suc (r .«end»)) ≡ rs)
+    h = runsIn-rest P v (l .first) n r rs e
+
+    further : Listing
+    further = record { first = suc (r .«end»); last = l .last; value = v }
+
+    go : (r .«end» < l .last) ⊎ (l .last ≤ r .«end») → remaining P (cond (ltb (r .«end») (l .last)) further (ended v)) ≡ rs
+    go (inl g) =
+        ap (λ t. remaining P (cond t further (ended v))) (lt-ltb (r .«end») (l .last) g)
+        ∙ ap (runsIn P v (suc (r .«end»))) (omega (arith, h .0, h .1)) ∙ h .2
+    go (inr g) =
+        ap (λ t. remaining P (cond t further (ended v))) (le-ltb (r .«end») (l .last) g)
+        ∙ runsIn-none P v 1 0 (λ x k m. absurd (omega arith))
+        ∙ sym (runsIn-none P v (suc (r .«end»)) (l .first + n - suc (r .«end»)) (λ x k m. absurd (omega (arith, h .0, h .1)))) ∙ h .2
+
+-- a sound store holds what it holds
+holds : (w : List ℕ) → Sound w → Holds (capacity w) (heldBy w) w
+holds w S = record { sound = S; sized = refl; held = refl }
+
+-- there is a run
+abbrev Given : Option Run → Type 0
+Given none = ⊥
+Given (some r) = Unit {0}
+
+-- what the calls answer of a sound store: none is refused, and a draw gives the first run that is left
+module _ (w : List ℕ) (S : Sound w) where
+  answers-runs : {a : Answer} → Met w (Call.countRanges Unbounded Unbounded true) a w → a ≡ number (stretches (heldBy w))
+  unfolding step serve report stretches heldRuns Positions.countRanges
+  answers-runs m = answer-is (holds w S) m
+
+  answers-ones : {a : Answer} → Met w (Call.count Unbounded Unbounded true) a w → a ≡ number (count (heldBy w) true 0 size)
+  unfolding step serve report
+  answers-ones m = answer-is (holds w S) m
+
+  answers-listing : {a : Answer} → Met w (Call.ranges Unbounded Unbounded true) a w → a ≡ listing (record { first = 0; last = size - 1; value = true })
+  unfolding step serve report
+  answers-listing m = answer-is (holds w S) m
+
+  answers-draw : {a : Answer} (l : Listing) {r : Run} {rs : List Run} → remaining (heldBy w) l ≡ r ∷ rs → Met w (Call.drawFront l) a w
+      → a ≡ drawn (some r) (pastFirst l (some r))
+  unfolding step serve report drawnFirst
+  answers-draw l e m = answer-is (holds w S) m ∙ ap (λ ss. drawn (Positions.firstRun ss) (pastFirst l (Positions.firstRun ss))) e
+
+  module _ (n : Numbered) (m : Met w (Call.countRanges Unbounded Unbounded true) (numberedAnswer n) w) where
+    pub runs-told : {k : ℕ} → n ≡ Numbered.Number k → k ≡ stretches (heldBy w)
+    runs-told {k} e = let h : number k ≡ number (stretches (heldBy w)) = ap numberedAnswer (sym e) ∙ answers-runs m in cc
+
+    pub runs-refused : {r : Refusal} → n ≡ Numbered.Refused r → ⊥
+    runs-refused {r} e = let h : refused (refusalNumber r) ≡ number (stretches (heldBy w)) = ap numberedAnswer (sym e) ∙ answers-runs m in subst Plain (sym h) tt
+
+  module _ (n : Counted) (m : Met w (Call.count Unbounded Unbounded true) (countedAnswer n) w) where
+    pub ones-told : {k : Count} → n ≡ Counted.Count k → worth k ≡ count (heldBy w) true 0 size
+    ones-told {k} e = let h : number (worth k) ≡ number (count (heldBy w) true 0 size) = ap countedAnswer (sym e) ∙ answers-ones m in cc
+
+    pub ones-refused : {r : Refusal} → n ≡ Counted.Refused r → ⊥
+    ones-refused {r} e = let h : refused (refusalNumber r) ≡ number (count (heldBy w) true 0 size) = ap countedAnswer (sym e) ∙ answers-ones m in subst Plain (sym h) tt
+
+  module _ (n : Listed) (m : Met w (Call.ranges Unbounded Unbounded true) (listedAnswer n) w) where
+    pub listing-told : {k : Listing} → n ≡ Listed.Listing k → remaining (heldBy w) k ≡ heldRuns (heldBy w)
+    unfolding remaining heldRuns
+    listing-told {k} e =
+        let h : listing k ≡ listing (record { first = 0; last = size - 1; value = true }) = ap listedAnswer (sym e) ∙ answers-listing m in
+        let g : k ≡ record { first = 0; last = size - 1; value = true } = cc in
+        ap (remaining (heldBy w)) g
+
+    pub listing-refused : {r : Refusal} → n ≡ Listed.Refused r → ⊥
+    listing-refused {r} e =
+        let h : refused (refusalNumber r) ≡ listing (record { first = 0; last = size - 1; value = true }) = ap listedAnswer (sym e) ∙ answers-listing m in subst Plain (sym h) tt
+
+  module _ (n : Drawn) (l : Listing) (m : Met w (Call.drawFront l) (drawnAnswer n) w) {r : Run} {rs : List Run} (left : remaining (heldBy w) l ≡ r ∷ rs) where
+    pub draw-told : {q : Run} {k : Listing} → n ≡ Drawn.Run q k → (q ≡ r) × (remaining (heldBy w) k ≡ rs)
+    draw-told {q} {k} e =
+        let h : drawn (some q) k ≡ drawn (some r) (pastFirst l (some r)) = ap drawnAnswer (sym e) ∙ answers-draw l left m in
+        let g : k ≡ pastFirst l (some r) = cc in
+        let f : q ≡ r = cc in
+        (f, ap (remaining (heldBy w)) g ∙ remaining-past (heldBy w) l r rs left)
+
+    pub draw-refused : {q : Refusal} → n ≡ Drawn.Refused q → ⊥
+    draw-refused {q} e = let h : refused (refusalNumber q) ≡ drawn (some r) (pastFirst l (some r)) = ap drawnAnswer (sym e) ∙ answers-draw l left m in subst Plain (sym h) tt
+
+    pub draw-ended : {k : Listing} → n ≡ Drawn.End k → ⊥
+    draw-ended {k} e = let h : drawn none k ≡ drawn (some r) (pastFirst l (some r)) = ap drawnAnswer (sym e) ∙ answers-draw l left m in let g : none ≡ some r = cc in subst Given (sym g) tt

@@ -1,0 +1,70 @@
+-- `answer`: what is put together is what is printed of the bytes. Assumes nothing.
+use mathlib.Core.Path.{refl, sym, _∙_}
+use native.Mathlib.Omega.{arith}
+use denote.Ref.{now}
+use Rattle.listset.proofs.Answering.{put-front, too-long, short-enough, done-told, refused-told}
+use borrow.Author.Needs.{needs}
+use Rattle.listset.proofs.answer.Statement.{statement}
+use Rattle.listset.proofs.answer.Tie as tie
+
+slice-aggregate-put : tie.Need-slice-aggregate-put
+slice-aggregate-put c = search needs
+
+put-requires : tie.Need-put-requires
+put-requires c κs = search needs
+
+returns : tie.Need-returns
+returns c =
+    let p = put-front (c .put .ensures) in
+    (p .0, p .1 ∙ sym (too-long (now (c .before .before .before .before .before .args .bytes)) (c .before .before .before .if1 .taken)))
+
+slice-aggregate-load : tie.Need-slice-aggregate-load
+slice-aggregate-load c = search needs
+
+load-requires : tie.Need-load-requires
+load-requires c κs = search needs
+
+enum-known-c : tie.Need-enum-known-c
+enum-known-c c = search needs
+
+put-refused-requires : tie.Need-put-refused-requires
+put-refused-requires c κs = search needs
+
+enum-told : tie.Need-enum-told
+enum-told c = search needs
+
+slice-aggregate-put-set : tie.Need-slice-aggregate-put-set
+slice-aggregate-put-set c = search needs
+
+put-set-requires : tie.Need-put-set-requires
+put-set-requires c κs =
+    let d = done-told (now (c .before .before .before .before .before .before .before .before .before .args .bytes)) _ refl _ (c .before .before .before .before .before .load .ensures) (c .before .before .enum-told .given .1) in
+    (omega (arith, d .1), d .0)
+
+returns-2 : tie.Need-returns-2
+returns-2 c =
+    let p = put-front (c .put-refused .ensures) in
+    (p .0, p .1 ∙ sym (short-enough (now (c .before .before .before .before .before .before .before .before .before .before .args .bytes)) (c .before .before .before .before .before .before .before .before .if1 .left) ∙ refused-told (now (c .before .before .before .before .before .before .before .before .before .before .args .bytes)) _ refl _ (c .before .before .before .before .before .before .load .ensures) (c .before .before .before .c .given .1)))
+
+returns-3 : tie.Need-returns-3
+returns-3 c =
+    let p = put-front (c .put-set .ensures) in
+    let d = done-told (now (c .before .before .before .before .before .before .before .before .before .before .args .bytes)) _ refl _ (c .before .before .before .before .before .before .load .ensures) (c .before .before .before .enum-told .given .1) in
+    (p .0, p .1 ∙ sym (short-enough (now (c .before .before .before .before .before .before .before .before .before .before .args .bytes)) (c .before .before .before .before .before .before .before .before .if1 .left) ∙ d .2))
+
+pub answer-spec : {M : Type 1} → statement M
+answer-spec =
+    tie.close
+    (tie.spec
+    slice-aggregate-put
+    put-requires
+    returns
+    slice-aggregate-load
+    load-requires
+    enum-known-c
+    put-refused-requires
+    enum-told
+    slice-aggregate-put-set
+    put-set-requires
+    returns-2
+    returns-3)
