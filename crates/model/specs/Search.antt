@@ -163,6 +163,32 @@ canon-starts total k (r ∷ rs) c =
     starts-weaken j i [] h s = tt
     starts-weaken j i (r ∷ rs) h s = (omega (arith, s .0), starts-weaken j i rs h (s .1))
 
+-- x is held exactly if the last run that starts at or before it reaches it
+abbrev pub reaches : ℕ → Option Run → Bool
+reaches x none = false
+reaches x (some r) = leb x (r .«end»)
+
+pub mem-last : (total k : ℕ) (rs : List Run) (x : ℕ) → Canon total k rs → mem rs x ≡ reaches x (lastUpTo x rs)
+unfolding mem lastUpTo
+mem-last total k [] x c = refl
+mem-last total k (r ∷ rs) x c = go (place (r .start) (r .«end») x) (mem-last total (r .«end» + 2) rs x (c .3))
+  where
+    later : StartFrom (r .«end» + 2) rs
+    later = canon-starts total (r .«end» + 2) rs (c .3)
+
+    passed : r .«end» < x → (o : Option Run) → reaches x o ≡ reaches x (orElse o (some r))
+    passed h none = sym (lt-leb x (r .«end») h)
+    passed h (some q) = refl
+
+    go : Place (r .start) (r .«end») x → mem rs x ≡ reaches x (lastUpTo x rs) → mem (r ∷ rs) x ≡ reaches x (lastUpTo x (r ∷ rs))
+    go (below h e) ih =
+        mem-before total k r rs x c h ∙ sym (rw (lastUpTo-none x (r .«end» + 2) rs (omega (arith, c .1)) later, lt-leb (r .start) x h))
+    go (within l h e) ih =
+        mem-in r rs x l h ∙ sym (rw (lastUpTo-none x (r .«end» + 2) rs (omega arith) later, le-leb (r .start) x l) (le-leb x (r .«end») h))
+    go (above h e) ih =
+        mem-above r rs x h ∙ ih ∙ passed h (lastUpTo x rs)
+        ∙ ap (λ b. reaches x (orElse (lastUpTo x rs) (cond b (some r) none))) (sym (le-leb (r .start) x (omega (arith, c .1))))
+
 -- a canonical list around one of its runs: what is before it ends before its start, what follows starts after its end
 pub canon-split : (total k : ℕ) (rs : List Run) (r : Run) (ss : List Run) → Canon total k (rs ++ (r ∷ ss))
     → (Canon (r .start - 1) k rs) × (k ≤ r .start) × (r .start ≤ r .«end») × (r .«end» < total) × Canon total (r .«end» + 2) ss

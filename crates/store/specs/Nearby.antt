@@ -8,7 +8,7 @@ use mathlib.Core.List.{List, [], _∷_}
 use mathlib.Core.Option.{Option, none, some}
 use native.Mathlib.Omega.{arith}
 use lib.Dec.{leb}
-use borrow.Author.Tests.{le-leb, lt-leb, leb-true, leb-false}
+use borrow.Author.Tests.{leb-true, leb-false}
 use Rattle.model.specs.declared.Run.{Run}
 use Rattle.model.specs.Numbers.{size, split}
 use Rattle.model.specs.Places.{physicalOf, logicalOf}
@@ -132,20 +132,6 @@ later total k (q ∷ rs) x c f = go (leb x (q .start)) refl f (λ g. later total
     go false e (inl g) ih =
         let h : q .«end» < x = past (leb-false x (q .start) e) g in
         rest h (firstFrom x rs) (ih (sym (mem-above q rs x h) ∙ g))
-
--- ---- one position
-module _ (rs : List Run) (c : Canon size 0 rs) (x : ℕ) where
-  -- it is held exactly if the last run that starts at or before it reaches it
-  pub reached : (r : Run) → some r ≡ lastUpTo x rs → leb x (r .«end») ≡ mem rs x
-  reached r e = go (subst (Earlier rs size x) (sym e) (earlier size 0 rs x c)) (split (r .«end») x)
-    where
-      go : Before rs size x r → (r .«end» < x) ⊎ (x ≤ r .«end») → leb x (r .«end») ≡ mem rs x
-      go b (inl h) = lt-leb x (r .«end») h ∙ sym (b .free x h (omega arith))
-      go b (inr h) = le-leb x (r .«end») h ∙ sym (b .member .held x (b .starts) h)
-
-  -- it is not held if there is no such run
-  pub unreached : none ≡ lastUpTo x rs → false ≡ mem rs x
-  unreached e = sym (subst (Earlier rs size x) (sym e) (earlier size 0 rs x c) x (omega arith))
 
 -- ---- the first held position of a turned set
 module _ (rs : List Run) (c : Canon size 0 rs) (o : ℕ) (small : o < size) where

@@ -1,9 +1,10 @@
 -- `get_physical` meets its contract: the last run that starts at or before x reaches x exactly if x is held.
 -- Assumes nothing.
 use mathlib.Core.Path.{sym, ap, _∙_}
+use Rattle.model.specs.Numbers.{size}
+use Rattle.model.specs.Search.{reaches, mem-last}
 use Rattle.run_index.specs.Tree.{inorder}
 use Rattle.run_index.specs.Search.{nearRun}
-use Rattle.store.specs.Nearby.{reached, unreached}
 use borrow.Author.Needs.{needs}
 use Rattle.store.proofs.bounds.get_physical.Statement.{statement}
 use Rattle.store.proofs.bounds.get_physical.Tie as tie
@@ -18,10 +19,10 @@ enum-told : tie.Need-enum-told
 enum-told c = search needs
 
 returns : tie.Need-returns
-returns c = λ g t i. reached (inorder t) (i .canonical) (c .before .before .before .before .before .before .args .x .0) (c .before .before .n .given .0 .0) (sym (ap nearRun (c .before .before .n .given .1)) ∙ c .before .before .before .before .at-or-before .ensures g t i)
+returns c = λ g t i. ap (reaches (c .before .before .before .before .before .before .args .x .0)) (sym (ap nearRun (c .before .before .n .given .1)) ∙ c .before .before .before .before .at-or-before .ensures g t i) ∙ sym (mem-last size 0 (inorder t) (c .before .before .before .before .before .before .args .x .0) (i .canonical))
 
 returns-2 : tie.Need-returns-2
-returns-2 c = λ g t i. unreached (inorder t) (i .canonical) (c .before .before .before .before .args .x .0) (sym (ap nearRun (c .enum-told .given .1)) ∙ c .before .before .at-or-before .ensures g t i)
+returns-2 c = λ g t i. ap (reaches (c .before .before .before .before .args .x .0)) (sym (ap nearRun (c .enum-told .given .1)) ∙ c .before .before .at-or-before .ensures g t i) ∙ sym (mem-last size 0 (inorder t) (c .before .before .before .before .args .x .0) (i .canonical))
 
 pub get-physical-spec : {M : Type 1} → statement M
 get-physical-spec =
