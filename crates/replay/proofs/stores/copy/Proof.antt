@@ -4,8 +4,8 @@ use Prim.Native.Nat.{_-_}
 use lib.ListN.{length}
 use lib.Seq.{length-take-le}
 use borrow.Author.Needs.{needs}
-use Rattle.replay.proofs.copy.Statement.{statement}
-use Rattle.replay.proofs.copy.Tie as tie
+use Rattle.replay.proofs.stores.copy.Statement.{statement}
+use Rattle.replay.proofs.stores.copy.Tie as tie
 
 abbrev Inv-loop : tie.InvT-loop
 Inv-loop words lengths s out₀ i₀ out i = length out ≡ 536

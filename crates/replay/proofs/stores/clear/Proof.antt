@@ -3,8 +3,8 @@ use mathlib.Core.Path.{_≡_}
 use Prim.Native.Nat.{_-_}
 use lib.ListN.{length}
 use borrow.Author.Needs.{needs}
-use Rattle.replay.proofs.clear.Statement.{statement}
-use Rattle.replay.proofs.clear.Tie as tie
+use Rattle.replay.proofs.stores.clear.Statement.{statement}
+use Rattle.replay.proofs.stores.clear.Tie as tie
 
 abbrev Inv-loop : tie.InvT-loop
 Inv-loop words₀ s i₀ words i = length words ≡ 2144
