@@ -1,0 +1,183 @@
+// Answers as lines on standard output.
+use model::Around;
+use model::Completed;
+use model::Count;
+use model::Counted;
+use model::Drawn;
+use model::Found;
+use model::Listed;
+use model::Listing;
+use model::Numbered;
+use model::Refusal;
+use model::Run;
+use model::Tested;
+use model::Written;
+
+fn end_line() {
+    io::write_all(1, b"\n");
+}
+
+fn number(n: u64) {
+    io::write_all(1, b" ");
+    io::print_decimal(1, n);
+}
+
+fn flag(value: bool) {
+    if value {
+        io::write_all(1, b" 1");
+    } else {
+        io::write_all(1, b" 0");
+    }
+}
+
+fn count(c: Count) {
+    if c.carry == 0 {
+        number(c.low);
+    } else {
+        io::write_all(1, b" 18446744073709551616");
+    }
+}
+
+fn wide(b: u8) -> u64 {
+    b as u64
+}
+
+fn run(r: Run) {
+    number(r.start);
+    number(r.end);
+}
+
+fn listing(l: Listing) {
+    number(l.first);
+    number(l.last);
+    flag(l.value);
+}
+
+fn refused(r: Refusal) {
+    io::write_all(1, b"refused");
+    number(model::refusal_number(r));
+}
+
+pub fn not_understood() {
+    io::write_all(1, b"not understood\n");
+}
+
+pub fn completed(c: Completed) {
+    match c {
+        Completed::Refused(r) => refused(r),
+        Completed::Done => {
+            io::write_all(1, b"done");
+        }
+    }
+    end_line();
+}
+
+pub fn counted(c: Counted) {
+    match c {
+        Counted::Refused(r) => refused(r),
+        Counted::Count(n) => {
+            io::write_all(1, b"number");
+            count(n);
+        }
+    }
+    end_line();
+}
+
+pub fn numbered(n: Numbered) {
+    match n {
+        Numbered::Refused(r) => refused(r),
+        Numbered::Number(k) => {
+            io::write_all(1, b"number");
+            number(k);
+        }
+    }
+    end_line();
+}
+
+pub fn tested(t: Tested) {
+    match t {
+        Tested::Refused(r) => refused(r),
+        Tested::Is(v) => {
+            io::write_all(1, b"value");
+            flag(v);
+        }
+    }
+    end_line();
+}
+
+pub fn around(a: Around) {
+    match a {
+        Around::Refused(r) => refused(r),
+        Around::Run(r) => {
+            io::write_all(1, b"run");
+            run(r);
+        }
+    }
+    end_line();
+}
+
+pub fn found(f: Found) {
+    match f {
+        Found::Refused(r) => refused(r),
+        Found::At(x) => {
+            io::write_all(1, b"at");
+            number(x);
+        }
+        Found::Nowhere => {
+            io::write_all(1, b"none");
+        }
+    }
+    end_line();
+}
+
+pub fn listed(l: Listed) {
+    match l {
+        Listed::Refused(r) => refused(r),
+        Listed::Listing(m) => {
+            io::write_all(1, b"listing");
+            listing(m);
+        }
+    }
+    end_line();
+}
+
+pub fn drawn(d: Drawn) {
+    match d {
+        Drawn::Refused(r) => refused(r),
+        Drawn::Run(r, l) => {
+            io::write_all(1, b"drawn");
+            run(r);
+            listing(l);
+        }
+        Drawn::End(l) => {
+            io::write_all(1, b"end");
+            listing(l);
+        }
+    }
+    end_line();
+}
+
+fn hexes(out: &[u8]) {
+    let mut i: usize = 0;
+    while i < out.len() {
+        io::print_hex(1, wide(out[i]), 2);
+        i += 1;
+    }
+}
+
+// How many bytes were written, and the whole slice.
+pub fn written(w: Written, out: &[u8]) {
+    match w {
+        Written::Refused(r) => refused(r),
+        Written::Bytes(n) => {
+            io::write_all(1, b"written");
+            number(n as u64);
+            io::write_all(1, b" ");
+            if out.len() == 0 {
+                io::write_all(1, b"-");
+            }
+            hexes(out);
+        }
+    }
+    end_line();
+}

@@ -1,0 +1,341 @@
+// The calls on one store. Each function reads what its call takes from a place of the line on, and tells whether it was understood; only then is
+// the call made and answered. A call that is added is a function here, and its name below.
+ghost use Prim.Native.Nat.{_≤_};
+ghost use lib.ListN.{length};
+use crate::answer;
+use crate::line;
+use interval_bit_set::bytes;
+use interval_bit_set::change;
+use interval_bit_set::make;
+use interval_bit_set::report;
+use interval_bit_set::write;
+use model::Completed;
+use model::Listing;
+
+// ---- changes
+fn new(store: &mut [u64], line: &[u8], at: usize) -> bool {
+    if at != line.len() {
+        return false;
+    }
+    answer::completed(make::new(store));
+    true
+}
+
+// Not a call of the library: makes a store unsound, which has to have words.
+fn spoil(store: &mut [u64], line: &[u8], at: usize) -> bool {
+    if at != line.len() {
+        return false;
+    }
+    if store.len() < 8 {
+        return false;
+    }
+    store[7] = 1;
+    answer::completed(Completed::Done);
+    true
+}
+
+fn set(store: &mut [u64], line: &[u8], at: usize) -> bool {
+    let lower = line::bound_at(line, at);
+    let upper = line::bound_at(line, lower.next);
+    let value = line::flag_at(line, upper.next);
+    if value.next != line.len() {
+        return false;
+    }
+    let a = lower.bound;
+    let b = upper.bound;
+    answer::counted(change::set(store, a, b, value.value));
+    true
+}
+
+fn flip(store: &mut [u64], line: &[u8], at: usize) -> bool {
+    let lower = line::bound_at(line, at);
+    let upper = line::bound_at(line, lower.next);
+    if upper.next != line.len() {
+        return false;
+    }
+    let a = lower.bound;
+    let b = upper.bound;
+    answer::completed(change::flip(store, a, b));
+    true
+}
+
+fn shift(store: &mut [u64], line: &[u8], at: usize) -> bool {
+    let distance = line::number_at(line, at);
+    let left = line::flag_at(line, distance.next);
+    if left.next != line.len() {
+        return false;
+    }
+    answer::completed(change::shift(store, distance.value, left.value));
+    true
+}
+
+fn load(store: &mut [u64], line: &[u8], at: usize) -> bool {
+    let mut space = [0u8; 1029];
+    let b = line::bytes_at(line, at, &mut space);
+    let n = b.count;
+    if b.next != line.len() {
+        return false;
+    }
+    answer::completed(bytes::load(store, &space[..n]));
+    true
+}
+
+fn build(store: &mut [u64], line: &[u8], at: usize) -> bool {
+    let mut space = [0u64; 128];
+    let runs = line::number_at(line, at);
+    let ends = line::numbers_at(line, runs.next, &mut space);
+    let n = ends.count;
+    if ends.next != line.len() {
+        return false;
+    }
+    if n % 2 != 0 {
+        return false;
+    }
+    if (n / 2) as u64 != runs.value {
+        return false;
+    }
+    answer::completed(bytes::from_sorted_words(store, &space[..n]));
+    true
+}
+
+fn read_map(store: &mut [u64], line: &[u8], at: usize) -> bool {
+    let mut space = [0u8; 1024];
+    let base = line::number_at(line, at);
+    let window = line::number_at(line, base.next);
+    let b = line::bytes_at(line, window.next, &mut space);
+    let n = b.count;
+    if b.next != line.len() {
+        return false;
+    }
+    answer::counted(bytes::read_map(store, base.value, window.value, &space[..n]));
+    true
+}
+
+// ---- reports
+fn get(store: &[u64], line: &[u8], at: usize) -> bool {
+    let x = line::number_at(line, at);
+    if x.next != line.len() {
+        return false;
+    }
+    answer::tested(report::get(store, x.value));
+    true
+}
+
+fn run_at(store: &[u64], line: &[u8], at: usize) -> bool {
+    let x = line::number_at(line, at);
+    if x.next != line.len() {
+        return false;
+    }
+    answer::around(report::run_at(store, x.value));
+    true
+}
+
+fn find(store: &[u64], line: &[u8], at: usize) -> bool {
+    let lower = line::bound_at(line, at);
+    let upper = line::bound_at(line, lower.next);
+    let value = line::flag_at(line, upper.next);
+    if value.next != line.len() {
+        return false;
+    }
+    let a = lower.bound;
+    let b = upper.bound;
+    answer::found(report::find(store, a, b, value.value));
+    true
+}
+
+fn count(store: &[u64], line: &[u8], at: usize) -> bool {
+    let lower = line::bound_at(line, at);
+    let upper = line::bound_at(line, lower.next);
+    let value = line::flag_at(line, upper.next);
+    if value.next != line.len() {
+        return false;
+    }
+    let a = lower.bound;
+    let b = upper.bound;
+    answer::counted(report::count(store, a, b, value.value));
+    true
+}
+
+fn select(store: &[u64], line: &[u8], at: usize) -> bool {
+    let lower = line::bound_at(line, at);
+    let upper = line::bound_at(line, lower.next);
+    let value = line::flag_at(line, upper.next);
+    let k = line::number_at(line, value.next);
+    if k.next != line.len() {
+        return false;
+    }
+    let a = lower.bound;
+    let b = upper.bound;
+    answer::found(report::select(store, a, b, value.value, k.value));
+    true
+}
+
+fn count_ranges(store: &[u64], line: &[u8], at: usize) -> bool {
+    let lower = line::bound_at(line, at);
+    let upper = line::bound_at(line, lower.next);
+    let value = line::flag_at(line, upper.next);
+    if value.next != line.len() {
+        return false;
+    }
+    let a = lower.bound;
+    let b = upper.bound;
+    answer::numbered(report::count_ranges(store, a, b, value.value));
+    true
+}
+
+fn ranges(store: &[u64], line: &[u8], at: usize) -> bool {
+    let lower = line::bound_at(line, at);
+    let upper = line::bound_at(line, lower.next);
+    let value = line::flag_at(line, upper.next);
+    if value.next != line.len() {
+        return false;
+    }
+    let a = lower.bound;
+    let b = upper.bound;
+    answer::listed(report::ranges(store, a, b, value.value));
+    true
+}
+
+// Both draws.
+fn draw(store: &[u64], line: &[u8], at: usize, front: bool) -> bool {
+    let first = line::number_at(line, at);
+    let last = line::number_at(line, first.next);
+    let value = line::flag_at(line, last.next);
+    if value.next != line.len() {
+        return false;
+    }
+    let l = Listing {
+        first: first.value,
+        last: last.value,
+        value: value.value,
+    };
+    if front {
+        answer::drawn(report::draw_front(store, l));
+    } else {
+        answer::drawn(report::draw_back(store, l));
+    }
+    true
+}
+
+fn fill(store: &[u64], line: &[u8], at: usize) -> bool {
+    let base = line::number_at(line, at);
+    let window = line::number_at(line, base.next);
+    if window.next != line.len() {
+        return false;
+    }
+    answer::numbered(report::fill(store, base.value, window.value));
+    true
+}
+
+// Writes into the first n bytes.
+fn write_set_to(store: &[u64], space: &mut [u8], n: usize)
+    requires { ⌜ n ≤ length (now space) ⌝ }
+{
+    let w = write::write_set(store, &mut space[0..n]);
+    answer::written(w, &space[0..n]);
+}
+
+fn write_set(store: &[u64], line: &[u8], at: usize) -> bool {
+    let mut space = [0xeeu8; 1029];
+    let lent = line::at_most(line, at, 1029);
+    if lent.next != line.len() {
+        return false;
+    }
+    write_set_to(store, &mut space, lent.value as usize);
+    true
+}
+
+fn write_map_to(store: &[u64], base: u64, window: u64, space: &mut [u8], n: usize)
+    requires { ⌜ n ≤ length (now space) ⌝ }
+{
+    let w = write::write_map(store, base, window, &mut space[0..n]);
+    answer::written(w, &space[0..n]);
+}
+
+fn write_map(store: &[u64], line: &[u8], at: usize) -> bool {
+    let mut space = [0xeeu8; 1029];
+    let base = line::number_at(line, at);
+    let window = line::number_at(line, base.next);
+    let lent = line::at_most(line, window.next, 1029);
+    if lent.next != line.len() {
+        return false;
+    }
+    write_map_to(
+        store,
+        base.value,
+        window.value,
+        &mut space,
+        lent.value as usize,
+    );
+    true
+}
+
+// ---- names
+fn report_named(store: &[u64], name: &[u8], line: &[u8], at: usize) -> bool {
+    if check::same(name, b"get") {
+        return get(store, line, at);
+    }
+    if check::same(name, b"run_at") {
+        return run_at(store, line, at);
+    }
+    if check::same(name, b"find") {
+        return find(store, line, at);
+    }
+    if check::same(name, b"count") {
+        return count(store, line, at);
+    }
+    if check::same(name, b"select") {
+        return select(store, line, at);
+    }
+    if check::same(name, b"count_ranges") {
+        return count_ranges(store, line, at);
+    }
+    if check::same(name, b"ranges") {
+        return ranges(store, line, at);
+    }
+    if check::same(name, b"draw_front") {
+        return draw(store, line, at, true);
+    }
+    if check::same(name, b"draw_back") {
+        return draw(store, line, at, false);
+    }
+    if check::same(name, b"fill") {
+        return fill(store, line, at);
+    }
+    if check::same(name, b"write_set") {
+        return write_set(store, line, at);
+    }
+    if check::same(name, b"write_map") {
+        return write_map(store, line, at);
+    }
+    false
+}
+
+// The call that a name means.
+pub fn call_named(store: &mut [u64], name: &[u8], line: &[u8], at: usize) -> bool {
+    if check::same(name, b"spoil") {
+        return spoil(store, line, at);
+    }
+    if check::same(name, b"new") {
+        return new(store, line, at);
+    }
+    if check::same(name, b"set") {
+        return set(store, line, at);
+    }
+    if check::same(name, b"flip") {
+        return flip(store, line, at);
+    }
+    if check::same(name, b"shift") {
+        return shift(store, line, at);
+    }
+    if check::same(name, b"load") {
+        return load(store, line, at);
+    }
+    if check::same(name, b"build") {
+        return build(store, line, at);
+    }
+    if check::same(name, b"read_map") {
+        return read_map(store, line, at);
+    }
+    report_named(store, name, line, at)
+}

@@ -1,0 +1,118 @@
+// Replays a list of calls: reads it from standard input, in the form that conformance/README.md describes, makes each call through the public
+// calls, and prints its answer. A line that is not of that form is answered `not understood`.
+// Its stdin and stdout are a sample, written by make conformance: the list `refusals`, and the first 300 lines of `long`.
+ghost use Prim.Native.Nat.{_≤_};
+ghost use lib.ListN.{length};
+
+mod answer;
+mod calls;
+mod line;
+mod stores;
+
+// Makes the call of a line and prints its answer, or tells that the line is none: a name, a store, and what the call takes.
+fn understood(words: &mut [u64; 2144], lengths: &mut [usize; 4], line: &[u8]) -> bool {
+    let e = line::word_end(line, 0);
+    if e >= line.len() {
+        return false;
+    }
+    if line[line.len() - 1] != b'\n' {
+        return false;
+    }
+    let s = line::at_most(line, e + 1, 3);
+    stores::call_named(words, lengths, s.value as usize, &line[0..e], line, s.next)
+}
+
+// The same for the first n bytes of what is lent, with an answer for every line.
+fn replay(words: &mut [u64; 2144], lengths: &mut [usize; 4], line: &[u8], n: usize)
+    requires { ⌜ n ≤ length (now line) ⌝ }
+{
+    if !understood(words, lengths, &line[0..n]) {
+        answer::not_understood();
+    }
+}
+
+// One byte more of a line; what comes after 4,096 bytes is dropped, the line feed with it.
+fn put(line: &mut [u8; 4096], n: usize, b: u8) -> usize
+    ensures { λ r. ⌜ r ≤ 4096 ⌝ }
+{
+    if n < 4096 {
+        line[n] = b;
+        return n + 1;
+    }
+    4096
+}
+
+// Goes on with the line at hand, of which n bytes are there, by one byte, and tells how many are there then.
+fn take(
+    words: &mut [u64; 2144],
+    lengths: &mut [usize; 4],
+    line: &mut [u8; 4096],
+    n: usize,
+    b: u8,
+) -> usize {
+    let k = put(line, n, b);
+    if b != b'\n' {
+        return k;
+    }
+    replay(words, lengths, line, k);
+    0
+}
+
+fn take_all(
+    words: &mut [u64; 2144],
+    lengths: &mut [usize; 4],
+    line: &mut [u8; 4096],
+    n: usize,
+    bytes: &[u8],
+) -> usize {
+    let mut k = n;
+    let mut i: usize = 0;
+    while i < bytes.len() {
+        k = take(words, lengths, line, k, bytes[i]);
+        i += 1;
+    }
+    k
+}
+
+// What one reading of the input left: how many bytes of the line at hand are there, and whether more may come.
+struct Rest {
+    bytes: usize,
+    more: bool,
+}
+
+fn read(
+    words: &mut [u64; 2144],
+    lengths: &mut [usize; 4],
+    line: &mut [u8; 4096],
+    n: usize,
+) -> Rest {
+    let mut piece = io::buffer();
+    let got = libc::read(0, &mut piece);
+    let k = io::count(got, &piece);
+    Rest {
+        bytes: take_all(words, lengths, line, n, &piece[..k]),
+        more: k > 0,
+    }
+}
+
+// A proved loop has to end, and nothing says that the input does, so the turns are counted down from a number that no run uses up.
+fn main() {
+    let mut words = [0u64; 2144];
+    let mut lengths = [0usize; 4];
+    let mut line = [0u8; 4096];
+    let mut rest = Rest {
+        bytes: 0,
+        more: true,
+    };
+    let mut turns = u64::MAX;
+    while turns > 0 {
+        if !rest.more {
+            break;
+        }
+        rest = read(&mut words, &mut lengths, &mut line, rest.bytes);
+        turns -= 1;
+    }
+    if rest.bytes > 0 {
+        answer::not_understood();
+    }
+}
