@@ -3,9 +3,10 @@
 # make host               build the Rust host over the proved archive and run its tests
 # make differential       the library against IntervalBitSet: exhaustive, damaged and random calls (under a minute)
 # make differential-long  the same with thirty million random calls, and the seed SEED=S (default 2)
+# make bench              every benchmark, against IntervalBitSet and plain readings of the same words (docs/BENCHMARKS.md)
 # make bench-soundness    how long the soundness decision takes, against readings of the same words (docs/BENCHMARKS.md)
 # make bench-growth       how many instructions it takes, at four capacities (needs valgrind)
-.PHONY: run test host differential differential-long bench-soundness bench-growth
+.PHONY: run test host differential differential-long bench bench-soundness bench-growth
 run:
 	rt check
 test:
@@ -23,6 +24,8 @@ differential: $(ARCHIVE)
 	cargo run --offline --release --manifest-path host/Cargo.toml --bin differential
 differential-long: $(ARCHIVE)
 	cargo run --offline --release --manifest-path host/Cargo.toml --bin differential -- --calls 30000000 --seed $(SEED)
+bench: $(ARCHIVE)
+	cargo run --offline --profile fast --manifest-path host/Cargo.toml --bin bench
 bench-soundness:
 	@mkdir -p target
 	rt staticlib bench_store > target/bench-soundness.log 2>&1 || { cat target/bench-soundness.log; exit 1; }
