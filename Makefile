@@ -25,7 +25,8 @@ differential: $(ARCHIVE)
 differential-long: $(ARCHIVE)
 	cargo run --offline --release --manifest-path host/Cargo.toml --bin differential -- --calls 30000000 --seed $(SEED)
 bench: $(ARCHIVE)
-	cargo run --offline --profile fast --manifest-path host/Cargo.toml --bin bench
+	cargo run --offline --profile fast --manifest-path host/Cargo.toml --bin bench -- docs/benchmarks.svg
+	@$(MAKE) --no-print-directory bench-soundness
 bench-soundness:
 	@mkdir -p target
 	rt staticlib bench_store > target/bench-soundness.log 2>&1 || { cat target/bench-soundness.log; exit 1; }

@@ -2,7 +2,7 @@
 
 use std::time::Instant;
 
-use super::work::{Call, Told};
+use super::work::SIZES;
 
 /// Tells how far the run is, on standard error.
 pub struct Progress {
@@ -10,13 +10,19 @@ pub struct Progress {
 }
 
 impl Progress {
-    pub fn new() -> Progress {
+    pub fn begin() -> Progress {
         Progress { began: Instant::now() }
     }
 
     pub fn tell(&self, what: &str) {
         eprintln!("{:5.0} s  {what}", self.began.elapsed().as_secs_f64());
     }
+}
+
+/// The machine's load.
+pub fn load() -> String {
+    let all = std::fs::read_to_string("/proc/loadavg").unwrap_or_default();
+    all.split(' ').next().unwrap_or_default().to_string()
 }
 
 /// Nanoseconds that it took.
@@ -26,19 +32,42 @@ pub fn nanos(f: impl FnOnce()) -> f64 {
     from.elapsed().as_secs_f64() * 1e9
 }
 
-/// Nanoseconds that the calls took, and what they told, appended.
-pub fn timed(calls: &[Call], told: &mut Vec<Told>, play: impl FnOnce(&[Call], &mut Vec<Told>)) -> f64 {
-    told.reserve(calls.len());
-    nanos(|| play(calls, told))
-}
-
 pub fn median(mut all: Vec<f64>) -> f64 {
     all.sort_by(f64::total_cmp);
     all[all.len() / 2]
 }
 
-/// Medians of both sides.
-#[derive(Clone, Copy, Debug)]
+/// Does both, in changing order.
+pub fn both<A, B>(repetition: usize, ours: impl FnOnce() -> A, theirs: impl FnOnce() -> B) -> (A, B) {
+    if repetition.is_multiple_of(2) {
+        let a = ours();
+        (a, theirs())
+    } else {
+        let b = theirs();
+        (ours(), b)
+    }
+}
+
+/// The times of both sides.
+#[derive(Clone, Default)]
+pub struct Times {
+    pub ours: Vec<f64>,
+    pub theirs: Vec<f64>,
+}
+
+impl Times {
+    pub fn push(&mut self, (ours, theirs): (f64, f64)) {
+        self.ours.push(ours);
+        self.theirs.push(theirs);
+    }
+
+    pub fn medians(self) -> Sides {
+        Sides { ours: median(self.ours), theirs: median(self.theirs) }
+    }
+}
+
+/// Medians of both sides, in nanoseconds.
+#[derive(Clone, Copy)]
 pub struct Sides {
     pub ours: f64,
     pub theirs: f64,
@@ -50,35 +79,62 @@ impl Sides {
     }
 }
 
-/// A number with three digits at least, and commas.
+/// What was measured of each label, at each number of runs.
+pub struct Figures {
+    pub labels: &'static [&'static str],
+    pub columns: Vec<Vec<Sides>>,
+}
+
+impl Figures {
+    /// Measures each number of runs in turn.
+    pub fn measure(
+        labels: &'static [&'static str],
+        what: &str,
+        progress: &Progress,
+        mut column: impl FnMut(usize) -> Vec<Sides>,
+    ) -> Figures {
+        let columns = SIZES.map(|size| {
+            progress.tell(&format!("{what}, {size} runs"));
+            column(size)
+        });
+        Figures { labels, columns: columns.into() }
+    }
+
+    /// A table with a row for each label and a column for each number of runs.
+    pub fn table(&self, title: &str, cell: impl Fn(usize, &Sides) -> String) {
+        println!("| {title} |{}", SIZES.map(|size| format!(" {} runs |", number(size as f64))).concat());
+        println!("|{}", "---|".repeat(1 + SIZES.len()));
+        for (row, label) in self.labels.iter().enumerate() {
+            let cells: Vec<String> = self.columns.iter().enumerate().map(|(at, c)| cell(at, &c[row])).collect();
+            println!("| {label} | {} |", cells.join(" | "));
+        }
+        println!();
+    }
+
+    /// Two tables: ratios, and times in a unit of so many nanoseconds.
+    pub fn tell(&self, unit: &str, nanos: f64) {
+        self.table("library / IntervalBitSet", |_, s| number(s.ratio()));
+        let time = |t: f64| number(t / nanos);
+        self.table(unit, |_, s| format!("{} / {}", time(s.ours), time(s.theirs)));
+    }
+}
+
+/// A number with three digits at the least, and commas.
 pub fn number(x: f64) -> String {
-    if x < 10.0 {
+    if x < 9.995 {
         return format!("{x:.2}");
     }
-    if x < 100.0 {
+    if x < 99.95 {
         return format!("{x:.1}");
     }
-    let mut digits = format!("{x:.0}");
+    commas(format!("{x:.0}"))
+}
+
+pub fn commas(mut digits: String) -> String {
     let mut at = digits.len();
     while at > 3 {
         at -= 3;
         digits.insert(at, ',');
     }
     digits
-}
-
-/// A Markdown table.
-pub fn table(head: &[String], rows: &[Vec<String>]) {
-    println!("| {} |", head.join(" | "));
-    println!("|{}", "---|".repeat(head.len()));
-    for row in rows {
-        println!("| {} |", row.join(" | "));
-    }
-    println!();
-}
-
-/// The machine's load.
-pub fn load() -> String {
-    let all = std::fs::read_to_string("/proc/loadavg").unwrap_or_default();
-    all.split(' ').next().unwrap_or_default().to_string()
 }

@@ -274,6 +274,11 @@ pub enum Report {
     Draws,
 }
 
+impl Report {
+    pub const ALL: [Report; 7] =
+        [Report::Get, Report::RunAt, Report::Find, Report::Count, Report::Select, Report::CountRanges, Report::Draws];
+}
+
 /// A report: of a position in any cell, or of a range between two such; `find` looks through five cells.
 pub fn report(kind: Report, runs: &[Run], random: &mut Random) -> Call {
     let x = position(runs, random);
