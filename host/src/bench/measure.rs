@@ -25,14 +25,35 @@ pub fn load() -> String {
     all.split(' ').next().unwrap_or_default().to_string()
 }
 
-/// Nanoseconds that it took.
+/// Nanoseconds that it took: of the clock's and this thread's own the fewer, since the first go on while another process has the
+/// core, and reading the second takes half a microsecond.
 pub fn nanos(f: impl FnOnce()) -> f64 {
+    let own = thread_seconds();
     let from = Instant::now();
     f();
-    from.elapsed().as_secs_f64() * 1e9
+    let passed = from.elapsed().as_secs_f64();
+    passed.min(thread_seconds() - own) * 1e9
 }
 
-pub fn median(mut all: Vec<f64>) -> f64 {
+// Seconds that this thread has had a core.
+fn thread_seconds() -> f64 {
+    #[repr(C)]
+    struct Time {
+        seconds: i64,
+        nanos: i64,
+    }
+    unsafe extern "C" {
+        fn clock_gettime(clock: i32, time: *mut Time) -> i32;
+    }
+    const CLOCK_THREAD_CPUTIME_ID: i32 = 3;
+    let mut time = Time { seconds: 0, nanos: 0 };
+    // SAFETY: the call writes the struct that Linux defines for it on 64-bit machines.
+    let failed = unsafe { clock_gettime(CLOCK_THREAD_CPUTIME_ID, &mut time) };
+    assert_eq!(failed, 0, "no clock of the thread");
+    time.seconds as f64 + time.nanos as f64 * 1e-9
+}
+
+fn median(mut all: Vec<f64>) -> f64 {
     all.sort_by(f64::total_cmp);
     all[all.len() / 2]
 }
@@ -101,11 +122,11 @@ impl Figures {
     }
 
     /// A table with a row for each label and a column for each number of runs.
-    pub fn table(&self, title: &str, cell: impl Fn(usize, &Sides) -> String) {
+    fn table(&self, title: &str, cell: impl Fn(&Sides) -> String) {
         println!("| {title} |{}", SIZES.map(|size| format!(" {} runs |", number(size as f64))).concat());
         println!("|{}", "---|".repeat(1 + SIZES.len()));
         for (row, label) in self.labels.iter().enumerate() {
-            let cells: Vec<String> = self.columns.iter().enumerate().map(|(at, c)| cell(at, &c[row])).collect();
+            let cells: Vec<String> = self.columns.iter().map(|c| cell(&c[row])).collect();
             println!("| {label} | {} |", cells.join(" | "));
         }
         println!();
@@ -113,9 +134,9 @@ impl Figures {
 
     /// Two tables: ratios, and times in a unit of so many nanoseconds.
     pub fn tell(&self, unit: &str, nanos: f64) {
-        self.table("library / IntervalBitSet", |_, s| number(s.ratio()));
+        self.table("library / IntervalBitSet", |s| number(s.ratio()));
         let time = |t: f64| number(t / nanos);
-        self.table(unit, |_, s| format!("{} / {}", time(s.ours), time(s.theirs)));
+        self.table(unit, |s| format!("{} / {}", time(s.ours), time(s.theirs)));
     }
 }
 

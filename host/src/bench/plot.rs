@@ -42,12 +42,26 @@ fn apart(places: &mut [f64], lowest: f64) {
     }
 }
 
+// Ratios for the axis, from the least to the most: 1, 2 and 5 of each power of ten, or the powers alone where those are many.
+fn ticks(least: f64, most: f64) -> Vec<f64> {
+    let among = |steps: &[f64]| -> Vec<f64> {
+        let powers = (-3..7).map(|power| 10f64.powi(power));
+        let all: Vec<f64> = powers.flat_map(|p| steps.iter().map(move |s| s * p)).collect();
+        let first = all.iter().rposition(|t| *t <= least).unwrap_or(0);
+        let last = all.iter().position(|t| *t >= most).unwrap_or(all.len() - 1).max(first + 1);
+        all[first..=last].to_vec()
+    };
+    let fine = among(&[1.0, 2.0, 5.0]);
+    if fine.len() <= 10 { fine } else { among(&[1.0]) }
+}
+
 fn panel(svg: &mut String, panel: &Panel, from: f64) -> std::fmt::Result {
     let ratios = |label: usize| panel.figures.columns.iter().map(move |c| c[label].ratio());
     let labels = panel.figures.labels;
     let (least, most) =
         (0..labels.len()).flat_map(ratios).fold((1.0f64, 1.0f64), |(least, most), r| (least.min(r), most.max(r)));
-    let (bottom, top) = (least.log10().floor(), most.log10().ceil().max(1.0));
+    let ticks = ticks(least, most);
+    let (bottom, top) = (ticks[0].log10(), ticks[ticks.len() - 1].log10());
     let down = |ratio: f64| ABOVE + HEIGHT * (top - ratio.log10()) / (top - bottom);
     let right = from + WIDTH;
     let below = ABOVE + HEIGHT;
@@ -59,12 +73,10 @@ fn panel(svg: &mut String, panel: &Panel, from: f64) -> std::fmt::Result {
         let told = number(size as f64);
         writeln!(svg, r#"<text x="{x:.1}" y="{:.1}" class="middle">{told}</text>"#, below + 18.0)?;
     }
-    for decade in bottom as i32..=top as i32 {
-        let ratio = 10f64.powi(decade);
+    for ratio in ticks {
         let y = down(ratio);
-        let class = if decade == 0 { "one" } else { "grid" };
-        let told =
-            if ratio < 1.0 { format!("{ratio}") } else { number(ratio).trim_end_matches(".00").replace(".0", "") };
+        let class = if ratio == 1.0 { "one" } else { "grid" };
+        let told = if ratio < 100.0 { format!("{ratio}") } else { number(ratio) };
         writeln!(svg, r#"<line x1="{from}" y1="{y:.1}" x2="{right}" y2="{y:.1}" class="{class}"/>"#)?;
         writeln!(svg, r#"<text x="{:.1}" y="{:.1}" class="left">{told}</text>"#, from - 8.0, y + 4.0)?;
     }
