@@ -19,6 +19,13 @@ const LABELS: [&str; 11] = [
     "draw",
 ];
 
+// Places in the list above: the reports come last, in their order.
+const TRUE: usize = 0;
+const FALSE: usize = 1;
+const FLIP: usize = 2;
+const SHIFT: usize = 3;
+const REPORTS: usize = 4;
+
 // Calls that are timed together, as calls of one label.
 struct Section {
     label: usize,
@@ -29,15 +36,15 @@ struct Section {
 fn sections(runs: &[Run], random: &mut Random) -> Vec<Section> {
     let mut all = Vec::new();
     for _ in 0..5 {
-        for (label, calls) in [1, 0, 1].into_iter().zip(work::sets(runs, random)) {
+        for (label, calls) in [FALSE, TRUE, FALSE].into_iter().zip(work::sets(runs, random)) {
             all.push(Section { label, calls });
         }
     }
-    all.push(Section { label: 2, calls: (0..10).flat_map(|_| work::flips(runs, random)).collect() });
-    all.push(Section { label: 3, calls: (0..50).flat_map(|_| work::shifts(random)).collect() });
+    all.push(Section { label: FLIP, calls: (0..10).flat_map(|_| work::flips(runs, random)).collect() });
+    all.push(Section { label: SHIFT, calls: (0..50).flat_map(|_| work::shifts(random)).collect() });
     for (i, kind) in Report::ALL.into_iter().enumerate() {
         let count = if kind == Report::Draws { 4 } else { 200 };
-        all.push(Section { label: 4 + i, calls: (0..count).map(|_| work::report(kind, runs, random)).collect() });
+        all.push(Section { label: REPORTS + i, calls: (0..count).map(|_| work::report(kind, runs, random)).collect() });
     }
     all
 }
@@ -54,6 +61,16 @@ fn play(sections: &[Section], mut side: impl FnMut(&[Call], &mut Vec<Told>)) -> 
     (std::array::from_fn(|label| taken[label] / calls[label] as f64), told)
 }
 
+// Stops where the two sides do not hold the same after some of a section's calls. Flips and shifts tell nothing, and the calls of a
+// section undo one another.
+fn compare_halfway(pair: &Pair, section: &Section, random: &mut Random) {
+    let some = &section.calls[..1 + random.below(19) as usize];
+    let mut copy = pair.clone();
+    work::ours(&mut copy.ours, some, &mut Vec::new());
+    work::theirs(&mut copy.theirs, some, &mut Vec::new());
+    copy.compare();
+}
+
 fn column(size: usize) -> Vec<Sides> {
     let mut random = Random::new(size as u64);
     let runs = work::cells(size, &mut random);
@@ -61,6 +78,9 @@ fn column(size: usize) -> Vec<Sides> {
     let mut times = vec![Times::default(); LABELS.len()];
     for repetition in 0..if size == 60_000 { 15 } else { 41 } {
         let sections = sections(&runs, &mut random);
+        for section in sections.iter().filter(|s| s.label == FLIP || s.label == SHIFT) {
+            compare_halfway(&pair, section, &mut random);
+        }
         let ((ours, a), (theirs, b)) = both(
             repetition,
             || play(&sections, |calls, told| work::ours(&mut pair.ours, calls, told)),

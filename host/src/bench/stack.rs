@@ -125,10 +125,12 @@ fn included(value: u64) -> Bound {
     Bound { kind: 1, value }
 }
 
-// Ranges from the first run's start to the last run's end, everything, and some around a run.
+// Everything, the first and the last run and the gap beside each, all between them, and some ranges around a run.
 fn ranges(runs: &[Run], random: &mut Random) -> Vec<[u64; 2]> {
-    let (first, last) = (runs[0], runs[runs.len() - 1]);
-    let mut all = vec![[0, u64::MAX], [first[0], last[1]], first, last, [first[1] + 1, last[0] - 1]];
+    let n = runs.len();
+    let (first, last) = (runs[0], runs[n - 1]);
+    let gaps = [[first[1] + 1, runs[1][0] - 1], [runs[n - 2][1] + 1, last[0] - 1]];
+    let mut all = vec![[0, u64::MAX], [first[0], last[1]], first, last, gaps[0], gaps[1], [first[1] + 1, last[0] - 1]];
     for _ in 0..12 {
         let [start, end] = random.one_of(runs);
         let [other, _] = random.one_of(runs);

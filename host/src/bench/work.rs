@@ -41,6 +41,7 @@ pub fn shuffle<T>(all: &mut [T], random: &mut Random) {
 }
 
 /// One set on both sides.
+#[derive(Clone)]
 pub struct Pair {
     pub ours: SetBuf,
     pub theirs: IntervalBitSet,
