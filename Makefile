@@ -5,9 +5,10 @@
 # make differential       the library against IntervalBitSet: exhaustive, damaged and random calls (under a minute)
 # make differential-long  the same with thirty million random calls, and the seed SEED=S (default 2)
 # make conformance        write the lists of conformance/ anew, with the answers of IntervalBitSet
+# make bench              every benchmark, against IntervalBitSet and plain readings of the same words (docs/BENCHMARKS.md)
 # make bench-soundness    how long the soundness decision takes, against readings of the same words (docs/BENCHMARKS.md)
 # make bench-growth       how many instructions it takes, at four capacities (needs valgrind)
-.PHONY: run test prove host differential differential-long conformance bench-soundness bench-growth
+.PHONY: run test prove host differential differential-long conformance bench bench-soundness bench-growth
 # The archive is written only if everything in it is proved.
 ARCHIVE := target/staticlib/libexports.a
 SEED ?= 2
@@ -30,6 +31,9 @@ differential-long: $(ARCHIVE)
 # No answer is the library's, but the crate that has the oracle links it.
 conformance: $(ARCHIVE)
 	cargo run --offline --release --manifest-path host/Cargo.toml --bin conformance -- conformance
+bench: $(ARCHIVE)
+	cargo run --offline --profile fast --manifest-path host/Cargo.toml --bin bench -- docs/benchmarks.svg
+	@$(MAKE) --no-print-directory bench-soundness
 bench-soundness:
 	@mkdir -p target
 	rt staticlib bench_store > target/bench-soundness.log 2>&1 || { cat target/bench-soundness.log; exit 1; }

@@ -23,6 +23,7 @@ use std::error;
 use std::fmt;
 use std::ops::{Bound, RangeBounds, RangeInclusive};
 
+pub mod bench;
 pub mod conformance;
 pub mod differential;
 /// IntervalBitSet as published (see NOTICE), not a byte changed. It has all that was published with it, so nothing had to be added.

@@ -1,0 +1,243 @@
+//! How much stack each exported call uses: it runs on a stack of its own that was painted before.
+//!
+//! Stores have the largest capacity: trees as deep as can be (height 22, 46,367 runs), by their left and their right side, and an even
+//! one of 60,000 runs. Physical runs lie at 0 and at M; of each store there is one without an offset, and one whose offset joins the
+//! two.
+
+use std::arch::asm;
+
+use super::measure::{Progress, commas};
+use crate::differential::random::Random;
+use crate::differential::reference::{self, Run, Shape};
+use crate::raw::{self, Bound};
+
+const PAINT: u64 = 0xA5A5_5A5A_C3C3_3C3C;
+const CAPACITY: usize = 65_536;
+const WINDOW: u64 = 524_288;
+
+// What is to be told at the end, by call.
+struct Most {
+    call: &'static str,
+    bytes: usize,
+    calls: usize,
+}
+
+// A stack of 256 KiB, and what each call used of it at the most.
+struct Painted {
+    memory: Vec<u64>,
+    most: Vec<Most>,
+}
+
+// Runs a closure that tells its stack pointer.
+extern "C" fn enter<F: FnMut() -> usize>(f: &mut F, pointer: &mut usize) {
+    *pointer = f();
+}
+
+// Where the stack pointer of the function stands that this is inlined into.
+#[inline(always)]
+fn stack_pointer() -> usize {
+    let pointer;
+    // SAFETY: reads a register.
+    unsafe { asm!("mov {}, rsp", out(reg) pointer, options(nomem, nostack, preserves_flags)) };
+    pointer
+}
+
+impl Painted {
+    fn new() -> Painted {
+        Painted { memory: vec![PAINT; 32_768], most: Vec::new() }
+    }
+
+    // Makes one call. The closure tells its own stack pointer, so that only what lies below it is counted: arguments that are
+    // passed on the stack, the return address, and all that the call writes.
+    fn call<F: FnMut() -> usize>(&mut self, call: &'static str, mut f: F) {
+        let mut pointer = 0;
+        let range = self.memory.as_mut_ptr_range();
+        let top = range.end as usize & !15;
+        // SAFETY: `enter` follows the C calling convention, gets its two arguments and an aligned stack that nothing else uses, and
+        // the stack pointer is put back from a register that it has to keep. Nothing below unwinds: exported calls do not, and the
+        // closures only make one.
+        unsafe {
+            asm!(
+                "mov r12, rsp",
+                "mov rsp, {top}",
+                "call {enter}",
+                "mov rsp, r12",
+                top = in(reg) top,
+                enter = in(reg) enter::<F> as extern "C" fn(&mut F, &mut usize),
+                in("rdi") &mut f,
+                in("rsi") &mut pointer,
+                out("r12") _,
+                clobber_abi("C"),
+            );
+        }
+        let touched = self.memory.iter().position(|w| *w != PAINT).unwrap_or(self.memory.len());
+        assert!(touched > 1024, "{call} used nearly all of the stack");
+        let bytes = pointer - (range.start as usize + 8 * touched);
+        self.memory[touched..].fill(PAINT);
+        match self.most.iter_mut().find(|m| m.call == call) {
+            Some(m) => {
+                m.bytes = m.bytes.max(bytes);
+                m.calls += 1;
+            }
+            None => self.most.push(Most { call, bytes, calls: 1 }),
+        }
+    }
+}
+
+// Makes one exported call on the painted stack; its answer has to begin with no refusal.
+macro_rules! on_stack {
+    ($painted:expr, $name:ident($($argument:expr),*)) => {{
+        let mut refusal = u64::MAX;
+        $painted.call(stringify!($name), || {
+            let pointer = stack_pointer();
+            // SAFETY: the slices of the arguments are lent for the call, and those that it writes do not overlap others.
+            refusal = unsafe { raw::$name($($argument),*) }.refusal();
+            pointer
+        });
+        assert_eq!(refusal, 0, stringify!($name));
+    }};
+}
+
+// Any answer's refusal.
+trait Refusing {
+    fn refusal(&self) -> u64;
+}
+
+impl Refusing for u64 {
+    fn refusal(&self) -> u64 {
+        *self
+    }
+}
+
+macro_rules! refusing {
+    ($($answer:ident),*) => {
+        $(impl Refusing for raw::$answer {
+            fn refusal(&self) -> u64 {
+                self.refusal
+            }
+        })*
+    };
+}
+
+refusing!(Count, Number, Run, Position, Listed, Drawn);
+
+fn included(value: u64) -> Bound {
+    Bound { kind: 1, value }
+}
+
+// Everything, the first and the last run and the gap beside each, all between them, and some ranges around a run.
+fn ranges(runs: &[Run], random: &mut Random) -> Vec<[u64; 2]> {
+    let n = runs.len();
+    let (first, last) = (runs[0], runs[n - 1]);
+    let gaps = [[first[1] + 1, runs[1][0] - 1], [runs[n - 2][1] + 1, last[0] - 1]];
+    let mut all = vec![[0, u64::MAX], [first[0], last[1]], first, last, gaps[0], gaps[1], [first[1] + 1, last[0] - 1]];
+    for _ in 0..12 {
+        let [start, end] = random.one_of(runs);
+        let [other, _] = random.one_of(runs);
+        // A run away, cut at either side, cut in two, grown, joined with the next; one beside it; all up to another.
+        all.extend([
+            [start, end],
+            [start, start],
+            [end, end],
+            [start + 1, end - 1],
+            [end.saturating_add(1), end.saturating_add(1)],
+            [end.saturating_add(1), end.saturating_add(6)],
+            [end.saturating_add(3), end.saturating_add(3)],
+            [start.min(other), start.max(other)],
+        ]);
+    }
+    all
+}
+
+fn measure_on(painted: &mut Painted, physical: &[Run], offset: u64, shape: Shape, random: &mut Random) {
+    let words = reference::craft(CAPACITY, physical, offset, shape, random);
+    let runs = &reference::logical(physical, offset)[..];
+    let n = words.len();
+    let p = words.as_ptr();
+    let mut changed = words.clone();
+    let c = changed.as_mut_ptr();
+    let spare = &mut crate::room(CAPACITY)[..];
+    let s = spare.as_mut_ptr();
+
+    for [first, last] in ranges(runs, random) {
+        let (l, u) = (included(first), included(last));
+        for value in [0, 1] {
+            on_stack!(painted, vizturel_find(p, n, l, u, value));
+            on_stack!(painted, vizturel_count(p, n, l, u, value));
+            on_stack!(painted, vizturel_select(p, n, l, u, value, (last - first) / 4));
+            on_stack!(painted, vizturel_count_ranges(p, n, l, u, value));
+            on_stack!(painted, vizturel_ranges(p, n, l, u, value));
+            on_stack!(painted, vizturel_draw_front(p, n, first, last, value));
+            on_stack!(painted, vizturel_draw_back(p, n, first, last, value));
+            on_stack!(painted, vizturel_set(c, n, l, u, value));
+            changed.copy_from_slice(&words);
+        }
+        on_stack!(painted, vizturel_get(p, n, first));
+        on_stack!(painted, vizturel_run_at(p, n, first));
+        on_stack!(painted, vizturel_fill(p, n, first.min(1 << 63), WINDOW));
+        // A flip of many runs takes long, and those of few go by the same way.
+        if last - first < 100 {
+            on_stack!(painted, vizturel_flip(c, n, l, u));
+            changed.copy_from_slice(&words);
+        }
+    }
+    on_stack!(painted, vizturel_flip(c, n, included(0), included(u64::MAX)));
+    let half = runs[runs.len() / 2][0];
+    for (distance, left) in [(1, 1), (1, 0), (half, 0), (u64::MAX - half, 1), (u64::MAX, 1)] {
+        changed.copy_from_slice(&words);
+        on_stack!(painted, vizturel_shift(c, n, distance, left));
+        on_stack!(painted, vizturel_shifted(s, n, distance, left, p, n));
+    }
+    changed.copy_from_slice(&words);
+    on_stack!(painted, vizturel_shift(c, n, 1, 0));
+    for op in 0..3 {
+        on_stack!(painted, vizturel_combine(s, n, op, p, n, p, n));
+    }
+    on_stack!(painted, vizturel_eq(p, n, p, n));
+    on_stack!(painted, vizturel_eq(p, n, c, n));
+    on_stack!(painted, vizturel_not(s, n, p, n));
+
+    let mut bytes = vec![0; 5 + 16 * CAPACITY];
+    on_stack!(painted, vizturel_write(p, n, bytes.as_mut_ptr(), bytes.len()));
+    let written = 5 + 16 * runs.len();
+    on_stack!(painted, vizturel_load(s, n, bytes.as_ptr(), written));
+    let list = runs.as_flattened();
+    on_stack!(painted, vizturel_build(s, n, list.as_ptr(), list.len()));
+    on_stack!(painted, vizturel_new(s, n));
+    let mut map = vec![0; WINDOW as usize / 8];
+    for base in [runs[0][0], runs[runs.len() - 1][1].saturating_sub(WINDOW - 1)] {
+        on_stack!(painted, vizturel_write_map(p, n, base, WINDOW, map.as_mut_ptr(), map.len()));
+        // All runs away in the window, one position away, and one more there.
+        for (byte, bits) in [(0, 0xFF), (map.len() / 2, 0xFF), (map.len() / 3, 1)] {
+            let mut other = if byte == 0 { vec![0; map.len()] } else { map.clone() };
+            other[byte] ^= bits;
+            changed.copy_from_slice(&words);
+            on_stack!(painted, vizturel_read_map(c, n, base, WINDOW, other.as_ptr(), other.len()));
+        }
+    }
+}
+
+/// Prints a table of the most bytes of stack that each exported call used.
+pub fn tell(progress: &Progress) {
+    let mut random = Random::new(1);
+    let mut painted = Painted::new();
+    let [deepest, _] = reference::least(22);
+    let all =
+        [(deepest, Shape::Deepest { left: true }), (deepest, Shape::Deepest { left: false }), (60_000, Shape::Even)];
+    for (count, shape) in all {
+        // A third of the runs from 0 on, the others up to M.
+        let low = (0..count / 3).map(|i| [12 * i, 12 * i + 5]);
+        let high = (count / 3..count).map(|i| u64::MAX - 12 * (count - 1 - i)).map(|end| [end - 5, end]);
+        let physical: Vec<Run> = low.chain(high).collect();
+        for offset in [0, 12 * count] {
+            progress.tell(&format!("stack, {count} runs, offset {offset}"));
+            measure_on(&mut painted, &physical, offset, shape, &mut random);
+        }
+    }
+    painted.most.sort_by_key(|m| (std::cmp::Reverse(m.bytes), m.call));
+    println!("| exported call | most bytes of stack | calls |\n|---|---|---|");
+    for m in &painted.most {
+        println!("| `{}` | {} | {} |", m.call, commas(m.bytes.to_string()), m.calls);
+    }
+    println!();
+}
