@@ -4,7 +4,7 @@ ghost use Prim.Native.Nat.{_+_, _*_, _≤_};
 ghost use lib.ListN.{length};
 ghost use Rattle.model.specs.Answers.{completedAnswer, countedAnswer, numberedAnswer, testedAnswer, aroundAnswer, foundAnswer, listedAnswer, drawnAnswer};
 ghost use Rattle.written.specs.Placed.{placed};
-ghost use Rattle.frame.specs.Records.{replyOf, wordsOf};
+ghost use Rattle.frame.specs.Records.{bitOf, replyOf, wordsOf};
 use model::Around;
 use model::Completed;
 use model::Counted;
@@ -66,7 +66,9 @@ fn refused(r: Refusal) -> Reply
 }
 
 // 1 for true, 0 for false.
-fn bit(b: bool) -> u64 {
+fn bit(b: bool) -> u64
+    ensures { λ r. ⌜ r ≡ bitOf b ⌝ }
+{
     if b { 1 } else { 0 }
 }
 

@@ -23,7 +23,7 @@ returns : tie.Need-returns
 returns c = c .refused .ensures ∙ sym (ap (λ (x : Completed). replyOf (completedAnswer x)) (c .before .before .a .given .1))
 
 returns-2 : tie.Need-returns-2
-returns-2 c = c .numbers .ensures ∙ sym (ap (λ (x : Completed). replyOf (completedAnswer x)) (@enum-told .taken))
+returns-2 c = c .numbers .ensures ∙ sym (ap (λ (x : Completed). replyOf (completedAnswer x)) (c .before .enum-told .given .1))
 
 pub completed-spec : {M : Type 1} → statement M
 completed-spec =

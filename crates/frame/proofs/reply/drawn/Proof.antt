@@ -29,10 +29,14 @@ returns : tie.Need-returns
 returns c = c .refused .ensures ∙ sym (ap (λ (x : Drawn). replyOf (drawnAnswer x)) (c .before .before .a .given .1))
 
 returns-2 : tie.Need-returns-2
-returns-2 c = sym (ap (λ (x : Drawn). replyOf (drawnAnswer x)) (c .before .before .a2 .given .1))
+returns-2 c =
+    ap (λ n. record { refusal = 0; found = 1; number = (c .before .before .a2 .given .0 .0) .start; «end» = (c .before .before .a2 .given .0 .0) .«end»; first = (c .before .before .a2 .given .0 .1 .0) .first; last = (c .before .before .a2 .given .0 .1 .0) .last; value = n }) (c .bit .ensures)
+    ∙ sym (ap (λ (x : Drawn). replyOf (drawnAnswer x)) (c .before .before .a2 .given .1))
 
 returns-3 : tie.Need-returns-3
-returns-3 c = sym (ap (λ (x : Drawn). replyOf (drawnAnswer x)) (c .before .before .a3 .given .1))
+returns-3 c =
+    ap (λ n. record { refusal = 0; found = 0; number = 0; «end» = 0; first = (c .before .before .a3 .given .0 .0) .first; last = (c .before .before .a3 .given .0 .0) .last; value = n }) (c .bit2 .ensures)
+    ∙ sym (ap (λ (x : Drawn). replyOf (drawnAnswer x)) (c .before .before .a3 .given .1))
 
 pub drawn-spec : {M : Type 1} → statement M
 drawn-spec =

@@ -32,7 +32,7 @@ returns-2 : tie.Need-returns-2
 returns-2 c = c .numbers .ensures ∙ sym (ap (λ (x : Found). replyOf (foundAnswer x)) (c .before .before .a2 .given .1))
 
 returns-3 : tie.Need-returns-3
-returns-3 c = c .numbers2 .ensures ∙ sym (ap (λ (x : Found). replyOf (foundAnswer x)) (@a3 .given .1))
+returns-3 c = c .numbers2 .ensures ∙ sym (ap (λ (x : Found). replyOf (foundAnswer x)) (c .before .enum-told .given .1))
 
 pub found-spec : {M : Type 1} → statement M
 found-spec =

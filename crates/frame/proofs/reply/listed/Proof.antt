@@ -23,7 +23,9 @@ returns : tie.Need-returns
 returns c = c .refused .ensures ∙ sym (ap (λ (x : Listed). replyOf (listedAnswer x)) (c .before .before .a .given .1))
 
 returns-2 : tie.Need-returns-2
-returns-2 c = sym (ap (λ (x : Listed). replyOf (listedAnswer x)) (c .before .before .a2 .given .1))
+returns-2 c =
+    ap (λ n. record { refusal = 0; found = 0; number = 0; «end» = 0; first = (c .before .before .a2 .given .0 .0) .first; last = (c .before .before .a2 .given .0 .0) .last; value = n }) (c .bit .ensures)
+    ∙ sym (ap (λ (x : Listed). replyOf (listedAnswer x)) (c .before .before .a2 .given .1))
 
 pub listed-spec : {M : Type 1} → statement M
 listed-spec =

@@ -4,6 +4,7 @@ use borrow.Author.Needs.{needs}
 use Rattle.model.specs.declared.Numbered.{Numbered}
 use Rattle.model.specs.Answers.{numberedAnswer}
 use Rattle.frame.specs.Records.{replyOf}
+use Rattle.frame.proofs.Replies.{number-reply}
 use Rattle.frame.proofs.reply.numbered.Statement.{statement}
 use Rattle.frame.proofs.reply.numbered.Tie as tie
 
@@ -23,7 +24,7 @@ returns : tie.Need-returns
 returns c = c .refused .ensures ∙ sym (ap (λ (x : Numbered). replyOf (numberedAnswer x)) (c .before .before .a .given .1))
 
 returns-2 : tie.Need-returns-2
-returns-2 c = c .numbers .ensures ∙ sym (ap (λ (x : Numbered). replyOf (numberedAnswer x)) (c .before .before .a2 .given .1))
+returns-2 c = c .numbers .ensures ∙ number-reply (c .before .before .a2 .given .0 .0) (search needs) ∙ sym (ap (λ (x : Numbered). replyOf (numberedAnswer x)) (c .before .before .a2 .given .1))
 
 pub numbered-spec : {M : Type 1} → statement M
 numbered-spec =

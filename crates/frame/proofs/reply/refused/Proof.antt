@@ -5,14 +5,11 @@ use borrow.Author.Needs.{needs}
 use Rattle.frame.proofs.reply.refused.Statement.{statement}
 use Rattle.frame.proofs.reply.refused.Tie as tie
 
-
 refusal-number-requires : tie.Need-refusal-number-requires
 refusal-number-requires c κs = search needs
 
-
 numbers-requires : tie.Need-numbers-requires
 numbers-requires c κs = search needs
-
 
 returns : tie.Need-returns
 returns c = c .numbers .ensures ∙ ap (λ n. numbersOnly n 0 0 0) (c .before .refusal-number .ensures)

@@ -3,7 +3,7 @@ use mathlib.Core.Path.{sym, ap, _∙_}
 use borrow.Author.Needs.{needs}
 use Rattle.model.specs.declared.Tested.{Tested}
 use Rattle.model.specs.Answers.{testedAnswer}
-use Rattle.frame.specs.Records.{replyOf}
+use Rattle.frame.specs.Records.{numbersOnly, replyOf}
 use Rattle.frame.proofs.reply.tested.Statement.{statement}
 use Rattle.frame.proofs.reply.tested.Tie as tie
 
@@ -26,7 +26,7 @@ returns : tie.Need-returns
 returns c = c .refused .ensures ∙ sym (ap (λ (x : Tested). replyOf (testedAnswer x)) (c .before .before .a .given .1))
 
 returns-2 : tie.Need-returns-2
-returns-2 c = c .numbers .ensures ∙ BIT ∙ sym (ap (λ (x : Tested). replyOf (testedAnswer x)) (c .before .before .before .a2 .given .1))
+returns-2 c = c .numbers .ensures ∙ ap (λ n. numbersOnly 0 0 n 0) (c .before .bit .ensures) ∙ sym (ap (λ (x : Tested). replyOf (testedAnswer x)) (c .before .before .before .a2 .given .1))
 
 pub tested-spec : {M : Type 1} → statement M
 tested-spec =
