@@ -98,7 +98,7 @@ pub fn read_map(words: &mut [u64], base: u64, n: u64, bytes: &[u8]) -> Counted
     match l {
         Look::Refused(r) => Counted::Refused(r),
         Look::Sound => {
-            if !crate::report::window_fits(base, n) {
+            if !crate::core::window_fits(base, n) {
                 return Counted::Refused(Refusal::Window);
             }
             if !map_length_fits(bytes, n) {

@@ -1,19 +1,12 @@
-// The calls that change a store where it stands. What a change would leave is counted before the first write, so a refusal finds every
-// word as it was.
+// The calls that change a store where it stands.
 ghost use mathlib.Core.Path.{_≡_};
 ghost use Rattle.interval_bit_set.specs.Met.{Met};
 ghost use Rattle.model.specs.Answers.{completedAnswer, countedAnswer};
 ghost use Rattle.model.specs.Call.{Call};
 use crate::look::Look;
-use changes::edit::Edit;
-use changes::edit::Fit;
 use model::Bound;
 use model::Completed;
-use model::Count;
 use model::Counted;
-use model::Logical;
-use model::Refusal;
-use model::Span;
 
 // Gives a range the value, and tells how many positions changed.
 pub fn set(words: &mut [u64], lower: Bound, upper: Bound, value: bool) -> Counted
@@ -22,19 +15,7 @@ pub fn set(words: &mut [u64], lower: Bound, upper: Bound, value: bool) -> Counte
     let l = crate::look::look_at(words);
     match l {
         Look::Refused(r) => Counted::Refused(r),
-        Look::Sound => {
-            let s = model::normalize(lower, upper);
-            match s {
-                Span::Empty => Counted::Count(Count { carry: 0, low: 0 }),
-                Span::Closed(a, b) => {
-                    let e = changes::edit::set(words, Logical(a), Logical(b), value);
-                    match e {
-                        Edit::Full => Counted::Refused(Refusal::Capacity),
-                        Edit::Changed(c) => Counted::Count(c),
-                    }
-                }
-            }
-        }
+        Look::Sound => crate::core::set(words, lower, upper, value),
     }
 }
 
@@ -45,19 +26,7 @@ pub fn flip(words: &mut [u64], lower: Bound, upper: Bound) -> Completed
     let l = crate::look::look_at(words);
     match l {
         Look::Refused(r) => Completed::Refused(r),
-        Look::Sound => {
-            let s = model::normalize(lower, upper);
-            match s {
-                Span::Empty => Completed::Done,
-                Span::Closed(a, b) => {
-                    let e = changes::edit::flip(words, Logical(a), Logical(b));
-                    match e {
-                        Fit::Full => Completed::Refused(Refusal::Capacity),
-                        Fit::Done => Completed::Done,
-                    }
-                }
-            }
-        }
+        Look::Sound => crate::core::flip(words, lower, upper),
     }
 }
 
@@ -68,9 +37,6 @@ pub fn shift(words: &mut [u64], distance: u64, left: bool) -> Completed
     let l = crate::look::look_at(words);
     match l {
         Look::Refused(r) => Completed::Refused(r),
-        Look::Sound => {
-            changes::edit::shift(words, distance, left);
-            Completed::Done
-        }
+        Look::Sound => crate::core::shift(words, distance, left),
     }
 }

@@ -1,28 +1,18 @@
 // The calls that report, and leave the store as it is.
 ghost use mathlib.Core.Path.{_≡_};
-ghost use mathlib.Core.Bool.{not};
-ghost use Rattle.model.specs.Positions.{ended};
-ghost use Rattle.model.specs.Refusals.{badWindow};
 ghost use Rattle.model.specs.Call.{Call};
 ghost use Rattle.model.specs.Answers.{countedAnswer, numberedAnswer, testedAnswer, aroundAnswer, foundAnswer, listedAnswer, drawnAnswer};
 ghost use Rattle.interval_bit_set.specs.Met.{Met};
-ghost use Rattle.interval_bit_set.specs.Look.{foundEdge};
 use crate::look::Look;
 use model::Around;
 use model::Bound;
-use model::Count;
 use model::Counted;
 use model::Drawn;
-use model::Edge;
 use model::Found;
 use model::Listed;
 use model::Listing;
-use model::Logical;
 use model::Numbered;
-use model::Refusal;
-use model::Span;
 use model::Tested;
-use run_index::search::Near;
 
 // The value of position x.
 pub fn get(words: &[u64], x: u64) -> Tested
@@ -31,7 +21,7 @@ pub fn get(words: &[u64], x: u64) -> Tested
     let l = crate::look::look_at(words);
     match l {
         Look::Refused(r) => Tested::Refused(r),
-        Look::Sound => Tested::Is(reports::logical::get(words, Logical(x))),
+        Look::Sound => crate::core::get(words, x),
     }
 }
 
@@ -42,17 +32,7 @@ pub fn run_at(words: &[u64], x: u64) -> Around
     let l = crate::look::look_at(words);
     match l {
         Look::Refused(r) => Around::Refused(r),
-        Look::Sound => Around::Run(reports::runs::run_at(words, Logical(x))),
-    }
-}
-
-// A position that was searched for, as an answer.
-fn found(e: Edge) -> Found
-    ensures { λ r. ⌜ foundAnswer r ≡ foundEdge e ⌝ }
-{
-    match e {
-        Edge::At(x) => Found::At(x),
-        Edge::Nowhere => Found::Nowhere,
+        Look::Sound => crate::core::run_at(words, x),
     }
 }
 
@@ -63,18 +43,7 @@ pub fn find(words: &[u64], lower: Bound, upper: Bound, value: bool) -> Found
     let l = crate::look::look_at(words);
     match l {
         Look::Refused(r) => Found::Refused(r),
-        Look::Sound => {
-            let s = model::normalize(lower, upper);
-            match s {
-                Span::Empty => Found::Nowhere,
-                Span::Closed(a, b) => found(reports::runs::find_in(
-                    words,
-                    Logical(a),
-                    Logical(b),
-                    value,
-                )),
-            }
-        }
+        Look::Sound => crate::core::find(words, lower, upper, value),
     }
 }
 
@@ -85,17 +54,7 @@ pub fn count(words: &[u64], lower: Bound, upper: Bound, value: bool) -> Counted
     let l = crate::look::look_at(words);
     match l {
         Look::Refused(r) => Counted::Refused(r),
-        Look::Sound => {
-            let s = model::normalize(lower, upper);
-            match s {
-                Span::Empty => Counted::Count(Count { carry: 0, low: 0 }),
-                Span::Closed(a, b) => {
-                    let t = reports::logical::tally(words, Logical(a), Logical(b), value);
-                    let c = t.count;
-                    Counted::Count(c)
-                }
-            }
-        }
+        Look::Sound => crate::core::count(words, lower, upper, value),
     }
 }
 
@@ -106,19 +65,7 @@ pub fn select(words: &[u64], lower: Bound, upper: Bound, value: bool, k: u64) ->
     let l = crate::look::look_at(words);
     match l {
         Look::Refused(r) => Found::Refused(r),
-        Look::Sound => {
-            let s = model::normalize(lower, upper);
-            match s {
-                Span::Empty => Found::Nowhere,
-                Span::Closed(a, b) => found(reports::logical::select(
-                    words,
-                    Logical(a),
-                    Logical(b),
-                    value,
-                    k,
-                )),
-            }
-        }
+        Look::Sound => crate::core::select(words, lower, upper, value, k),
     }
 }
 
@@ -129,16 +76,7 @@ pub fn count_ranges(words: &[u64], lower: Bound, upper: Bound, value: bool) -> N
     let l = crate::look::look_at(words);
     match l {
         Look::Refused(r) => Numbered::Refused(r),
-        Look::Sound => {
-            let s = model::normalize(lower, upper);
-            match s {
-                Span::Empty => Numbered::Number(0),
-                Span::Closed(a, b) => {
-                    let t = reports::logical::tally(words, Logical(a), Logical(b), value);
-                    Numbered::Number(t.runs)
-                }
-            }
-        }
+        Look::Sound => crate::core::count_ranges(words, lower, upper, value),
     }
 }
 
@@ -149,32 +87,7 @@ pub fn ranges(words: &[u64], lower: Bound, upper: Bound, value: bool) -> Listed
     let l = crate::look::look_at(words);
     match l {
         Look::Refused(r) => Listed::Refused(r),
-        Look::Sound => {
-            let s = model::normalize(lower, upper);
-            match s {
-                Span::Empty => Listed::Listing(Listing {
-                    first: 1,
-                    last: 0,
-                    value: value,
-                }),
-                Span::Closed(a, b) => Listed::Listing(Listing {
-                    first: a,
-                    last: b,
-                    value: value,
-                }),
-            }
-        }
-    }
-}
-
-// A listing with nothing left.
-fn finished(value: bool) -> Listing
-    ensures { λ r. ⌜ r ≡ ended value ⌝ }
-{
-    Listing {
-        first: 1,
-        last: 0,
-        value: value,
+        Look::Sound => crate::core::ranges(words, lower, upper, value),
     }
 }
 
@@ -185,32 +98,7 @@ pub fn draw_front(words: &[u64], l: Listing) -> Drawn
     let look = crate::look::look_at(words);
     match look {
         Look::Refused(r) => Drawn::Refused(r),
-        Look::Sound => {
-            let first = l.first;
-            let last = l.last;
-            let value = l.value;
-            if last < first {
-                return Drawn::End(finished(value));
-            }
-            let n = reports::runs::first_run(words, Logical(first), Logical(last), value);
-            match n {
-                Near::Run(r) => {
-                    let end = r.end;
-                    if end < last {
-                        return Drawn::Run(
-                            r,
-                            Listing {
-                                first: end + 1,
-                                last: last,
-                                value: value,
-                            },
-                        );
-                    }
-                    Drawn::Run(r, finished(value))
-                }
-                Near::None => Drawn::End(finished(value)),
-            }
-        }
+        Look::Sound => crate::core::draw_front(words, l),
     }
 }
 
@@ -221,67 +109,17 @@ pub fn draw_back(words: &[u64], l: Listing) -> Drawn
     let look = crate::look::look_at(words);
     match look {
         Look::Refused(r) => Drawn::Refused(r),
-        Look::Sound => {
-            let first = l.first;
-            let last = l.last;
-            let value = l.value;
-            if last < first {
-                return Drawn::End(finished(value));
-            }
-            let n = reports::runs::last_run(words, Logical(first), Logical(last), value);
-            match n {
-                Near::Run(r) => {
-                    let start = r.start;
-                    if first < start {
-                        return Drawn::Run(
-                            r,
-                            Listing {
-                                first: first,
-                                last: start - 1,
-                                value: value,
-                            },
-                        );
-                    }
-                    Drawn::Run(r, finished(value))
-                }
-                Near::None => Drawn::End(finished(value)),
-            }
-        }
+        Look::Sound => crate::core::draw_back(words, l),
     }
-}
-
-// Whether a window is one: a length from 1 to 524,288, and all of it below 2^64.
-pub fn window_fits(base: u64, length: u64) -> bool
-    ensures { λ r. ⌜ r ≡ not (badWindow base length) ⌝ }
-{
-    if length == 0 {
-        return false;
-    }
-    if length > 524288 {
-        return false;
-    }
-    length - 1 <= u64::MAX - base
 }
 
 // How full a window is, in thousandths, rounded down.
 pub fn fill(words: &[u64], base: u64, length: u64) -> Numbered
     ensures { λ r. ⌜ Met (now (words .entry)) (Call.fill base length) (numberedAnswer r) (now (words .entry)) ⌝ }
 {
-    let look = crate::look::look_at(words);
-    match look {
+    let l = crate::look::look_at(words);
+    match l {
         Look::Refused(r) => Numbered::Refused(r),
-        Look::Sound => {
-            if !window_fits(base, length) {
-                return Numbered::Refused(Refusal::Window);
-            }
-            let t = reports::logical::tally(
-                words,
-                Logical(base),
-                Logical(base + (length - 1)),
-                true,
-            );
-            let c = t.count;
-            Numbered::Number(1000 * c.low / length)
-        }
+        Look::Sound => crate::core::fill(words, base, length),
     }
 }

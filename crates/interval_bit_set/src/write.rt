@@ -37,7 +37,7 @@ pub fn write_map(words: &[u64], base: u64, n: u64, out: &mut [u8]) -> Written
     match l {
         Look::Refused(r) => Written::Refused(r),
         Look::Sound => {
-            if !crate::report::window_fits(base, n) {
+            if !crate::core::window_fits(base, n) {
                 return Written::Refused(Refusal::Window);
             }
             let due = ((n + 7) / 8) as usize;

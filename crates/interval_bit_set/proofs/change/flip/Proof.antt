@@ -1,9 +1,7 @@
--- `flip` meets its contract: the range is flipped from its first position to its last, an empty one changes nothing.
+-- `flip` meets its contract: a store that looking refuses stays, another is changed by the core's call.
 -- Assumes nothing.
-use mathlib.Core.Path.{refl}
 use Rattle.interval_bit_set.proofs.Meeting.{looked-sound}
-use Rattle.interval_bit_set.proofs.Spans.{span-none, span-some}
-use Rattle.interval_bit_set.proofs.Changing.{sent-away, full, changes-to, settled-self, flip-within, flip-none, fitted, flip-says}
+use Rattle.interval_bit_set.proofs.Changing.{sent-away, flip-says}
 use borrow.Author.Needs.{needs}
 use Rattle.interval_bit_set.proofs.change.flip.Statement.{statement}
 use Rattle.interval_bit_set.proofs.change.flip.Tie as tie
@@ -17,27 +15,8 @@ enum-known-l c = search needs
 enum-told : tie.Need-enum-told
 enum-told c = search needs
 
-normalize-requires : tie.Need-normalize-requires
-normalize-requires c κs = search needs
-
-enum-told-2 : tie.Need-enum-told-2
-enum-told-2 c = search needs
-
-enum-known-s : tie.Need-enum-known-s
-enum-known-s c = search needs
-
 flip-requires : tie.Need-flip-requires
-flip-requires c κs =
-    let R = looked-sound _ (c .before .before .before .before .before .before .before .look-at .ensures) (c .before .before .before .before .before .enum-told .given .1) in
-    let a = c .before .before .before .before .before .before .before .before .before .before .args in
-    let W = span-some (a .lower) (a .upper) _ (c .before .before .before .before .normalize .ensures) (c .before .before .s .given .1) in
-    (R .sound, W .order)
-
-enum-told-3 : tie.Need-enum-told-3
-enum-told-3 c = search needs
-
-enum-told-4 : tie.Need-enum-told-4
-enum-told-4 c = search needs
+flip-requires c κs = looked-sound _ (c .before .before .before .look-at .ensures) (c .before .enum-told .given .1)
 
 same-length : tie.Need-same-length
 same-length c = search needs
@@ -49,31 +28,7 @@ same-length-2 : tie.Need-same-length-2
 same-length-2 c = search needs
 
 returns-2 : tie.Need-returns-2
-returns-2 c =
-    let R = looked-sound _ (c .before .before .before .before .before .look-at .ensures) (c .before .before .before .enum-told .given .1) in
-    let a = c .before .before .before .before .before .before .before .before .args in
-    let e = span-none (a .lower) (a .upper) _ (c .before .before .normalize .ensures) (c .enum-told2 .given .1) in
-    changes-to (flip-says _ _ _) refl _ R (flip-none _ _ _ e) (settled-self _ (R .sound)) tt refl
-
-same-length-3 : tie.Need-same-length-3
-same-length-3 c = search needs
-
-returns-3 : tie.Need-returns-3
-returns-3 c =
-    let R = looked-sound _ (c .before .before .before .before .before .before .before .before .before .before .before .before .look-at .ensures) (c .before .before .before .before .before .before .before .before .before .before .enum-told .given .1) in
-    let a = c .before .before .before .before .before .before .before .before .before .before .before .before .before .before .before .args in
-    let W = span-some (a .lower) (a .upper) _ (c .before .before .before .before .before .before .before .before .before .normalize .ensures) (c .before .before .before .before .before .before .before .s .given .1) in
-    full (flip-says _ _ _) refl _ R (flip-within W _) (fitted _ _ _ _ (c .before .before .before .before .flip .ensures) (c .enum-told3 .given .1))
-
-same-length-4 : tie.Need-same-length-4
-same-length-4 c = search needs
-
-returns-4 : tie.Need-returns-4
-returns-4 c =
-    let R = looked-sound _ (c .before .before .before .before .before .before .before .before .before .before .before .before .look-at .ensures) (c .before .before .before .before .before .before .before .before .before .before .enum-told .given .1) in
-    let a = c .before .before .before .before .before .before .before .before .before .before .before .before .before .before .before .args in
-    let W = span-some (a .lower) (a .upper) _ (c .before .before .before .before .before .before .before .before .before .normalize .ensures) (c .before .before .before .before .before .before .before .s .given .1) in
-    changes-to (flip-says _ _ _) refl _ R (flip-within W _) ((fitted _ _ _ _ (c .before .before .before .before .flip .ensures) (c .enum-told4 .given .1)) .1) tt refl
+returns-2 c = search needs
 
 pub flip-spec : {M : Type 1} → statement M
 flip-spec =
@@ -82,17 +37,8 @@ flip-spec =
     look-at-requires
     enum-known-l
     enum-told
-    normalize-requires
-    enum-told-2
-    enum-known-s
     flip-requires
-    enum-told-3
-    enum-told-4
     same-length
     returns
     same-length-2
-    returns-2
-    same-length-3
-    returns-3
-    same-length-4
-    returns-4)
+    returns-2)

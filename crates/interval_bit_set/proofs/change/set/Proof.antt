@@ -1,11 +1,7 @@
--- `set` meets its contract: the range is set from its first position to its last, an empty one changes nothing.
+-- `set` meets its contract: a store that looking refuses stays, another is changed by the core's call.
 -- Assumes nothing.
-use mathlib.Core.Path.{refl, ap, _∙_}
-use Rattle.model.specs.Positions.{changes}
-use Rattle.model.specs.Call.{number}
 use Rattle.interval_bit_set.proofs.Meeting.{looked-sound}
-use Rattle.interval_bit_set.proofs.Spans.{span-none, span-some}
-use Rattle.interval_bit_set.proofs.Changing.{sent-away, full, changes-to, settled-self, set-within, set-none, changes-none, edited, set-says}
+use Rattle.interval_bit_set.proofs.Changing.{sent-away, set-says}
 use borrow.Author.Needs.{needs}
 use Rattle.interval_bit_set.proofs.change.set.Statement.{statement}
 use Rattle.interval_bit_set.proofs.change.set.Tie as tie
@@ -19,27 +15,8 @@ enum-known-l c = search needs
 enum-told : tie.Need-enum-told
 enum-told c = search needs
 
-normalize-requires : tie.Need-normalize-requires
-normalize-requires c κs = search needs
-
-enum-told-2 : tie.Need-enum-told-2
-enum-told-2 c = search needs
-
-enum-known-s : tie.Need-enum-known-s
-enum-known-s c = search needs
-
 set-requires : tie.Need-set-requires
-set-requires c κs =
-    let R = looked-sound _ (c .before .before .before .before .before .before .before .look-at .ensures) (c .before .before .before .before .before .enum-told .given .1) in
-    let a = c .before .before .before .before .before .before .before .before .before .before .args in
-    let W = span-some (a .lower) (a .upper) _ (c .before .before .before .before .normalize .ensures) (c .before .before .s .given .1) in
-    (R .sound, W .order)
-
-enum-told-3 : tie.Need-enum-told-3
-enum-told-3 c = search needs
-
-enum-known-e : tie.Need-enum-known-e
-enum-known-e c = search needs
+set-requires c κs = looked-sound _ (c .before .before .before .look-at .ensures) (c .before .enum-told .given .1)
 
 same-length : tie.Need-same-length
 same-length c = search needs
@@ -51,33 +28,7 @@ same-length-2 : tie.Need-same-length-2
 same-length-2 c = search needs
 
 returns-2 : tie.Need-returns-2
-returns-2 c =
-    let R = looked-sound _ (c .before .before .before .before .before .look-at .ensures) (c .before .before .before .enum-told .given .1) in
-    let a = c .before .before .before .before .before .before .before .before .args in
-    let e = span-none (a .lower) (a .upper) _ (c .before .before .normalize .ensures) (c .enum-told2 .given .1) in
-    changes-to (set-says _ _ _ _) refl _ R (set-none _ _ _ e _) (settled-self _ (R .sound)) tt (ap number (changes-none _ _ _ _ e))
-
-same-length-3 : tie.Need-same-length-3
-same-length-3 c = search needs
-
-returns-3 : tie.Need-returns-3
-returns-3 c =
-    let R = looked-sound _ (c .before .before .before .before .before .before .before .before .before .before .before .before .look-at .ensures) (c .before .before .before .before .before .before .before .before .before .before .enum-told .given .1) in
-    let a = c .before .before .before .before .before .before .before .before .before .before .before .before .before .before .before .args in
-    let W = span-some (a .lower) (a .upper) _ (c .before .before .before .before .before .before .before .before .before .normalize .ensures) (c .before .before .before .before .before .before .before .s .given .1) in
-    full (set-says _ _ _ _) refl _ R (set-within W _ _) (edited _ _ _ _ (c .before .before .before .before .set .ensures) (c .enum-told3 .given .1))
-
-same-length-4 : tie.Need-same-length-4
-same-length-4 c = search needs
-
-returns-4 : tie.Need-returns-4
-returns-4 c =
-    let R = looked-sound _ (c .before .before .before .before .before .before .before .before .before .before .before .before .before .look-at .ensures) (c .before .before .before .before .before .before .before .before .before .before .before .enum-told .given .1) in
-    let a = c .before .before .before .before .before .before .before .before .before .before .before .before .before .before .before .before .args in
-    let W = span-some (a .lower) (a .upper) _ (c .before .before .before .before .before .before .before .before .before .before .normalize .ensures) (c .before .before .before .before .before .before .before .before .s .given .1) in
-    let k = edited _ _ _ _ (c .before .before .before .before .before .set .ensures) (c .before .e .given .1) in
-    let f = set-within W _ _ in
-    changes-to (set-says _ _ _ _) refl _ R f (k .1) tt (ap number (k .2 ∙ ap (changes _) f))
+returns-2 c = search needs
 
 pub set-spec : {M : Type 1} → statement M
 set-spec =
@@ -86,17 +37,8 @@ set-spec =
     look-at-requires
     enum-known-l
     enum-told
-    normalize-requires
-    enum-told-2
-    enum-known-s
     set-requires
-    enum-told-3
-    enum-known-e
     same-length
     returns
     same-length-2
-    returns-2
-    same-length-3
-    returns-3
-    same-length-4
-    returns-4)
+    returns-2)

@@ -1,8 +1,7 @@
--- `shift` meets its contract: a sound store is moved by the distance, and always has room for what is left.
+-- `shift` meets its contract: a store that looking refuses stays, another is changed by the core's call.
 -- Assumes nothing.
-use mathlib.Core.Path.{refl}
 use Rattle.interval_bit_set.proofs.Meeting.{looked-sound}
-use Rattle.interval_bit_set.proofs.Changing.{sent-away, changes-to, shift-says}
+use Rattle.interval_bit_set.proofs.Changing.{sent-away, shift-says}
 use borrow.Author.Needs.{needs}
 use Rattle.interval_bit_set.proofs.change.shift.Statement.{statement}
 use Rattle.interval_bit_set.proofs.change.shift.Tie as tie
@@ -17,7 +16,7 @@ enum-told : tie.Need-enum-told
 enum-told c = search needs
 
 shift-requires : tie.Need-shift-requires
-shift-requires c κs = (looked-sound _ (c .before .before .before .look-at .ensures) (c .before .enum-told .given .1)) .sound
+shift-requires c κs = looked-sound _ (c .before .before .before .look-at .ensures) (c .before .enum-told .given .1)
 
 same-length : tie.Need-same-length
 same-length c = search needs
@@ -29,9 +28,7 @@ same-length-2 : tie.Need-same-length-2
 same-length-2 c = search needs
 
 returns-2 : tie.Need-returns-2
-returns-2 c =
-    let R = looked-sound _ (c .before .before .before .before .before .before .look-at .ensures) (c .before .before .before .before .enum-told .given .1) in
-    changes-to (shift-says _ _ _) refl _ R refl (c .before .before .shift .ensures) tt refl
+returns-2 c = search needs
 
 pub shift-spec : {M : Type 1} → statement M
 shift-spec =

@@ -1,10 +1,7 @@
--- `count_ranges` meets its contract: the tally from the range's first position to its last, 0 of an empty range.
+-- `count_ranges` meets its contract: a store that looking refuses earns that refusal, of another the core's call answers.
 -- Assumes nothing.
-use mathlib.Core.Path.{refl, ap}
-use Rattle.model.specs.Positions.{countRanges}
-use Rattle.interval_bit_set.proofs.Spans.{span-none, span-some, of-range, ranges-nothing}
-use Rattle.model.specs.Call.{number}
-use Rattle.interval_bit_set.proofs.Meeting.{looked-sound, turned-away, met, count-ranges-says}
+use mathlib.Core.Path.{refl}
+use Rattle.interval_bit_set.proofs.Meeting.{looked-sound, turned-away, count-ranges-says}
 use borrow.Author.Needs.{needs}
 use Rattle.interval_bit_set.proofs.report.count_ranges.Statement.{statement}
 use Rattle.interval_bit_set.proofs.report.count_ranges.Tie as tie
@@ -18,50 +15,16 @@ enum-known-l c = search needs
 enum-told : tie.Need-enum-told
 enum-told c = search needs
 
-normalize-requires : tie.Need-normalize-requires
-normalize-requires c κs = search needs
-
-enum-told-2 : tie.Need-enum-told-2
-enum-told-2 c = search needs
-
-enum-known-s : tie.Need-enum-known-s
-enum-known-s c = search needs
-
-tally-requires : tie.Need-tally-requires
-tally-requires c κs =
-    let R = looked-sound _ (c .before .before .before .before .before .before .look-at .ensures) (c .before .before .before .before .enum-told .given .1) in
-    let a = c .before .before .before .before .before .before .before .before .args in
-    let W = span-some (a .lower) (a .upper) _ (c .before .before .before .normalize .ensures) (c .before .s .given .1) in
-    (R .sound, W .order)
+count-ranges-requires : tie.Need-count-ranges-requires
+count-ranges-requires c κs = looked-sound _ (c .before .before .look-at .ensures) (c .enum-told .given .1)
 
 returns : tie.Need-returns
 returns c = turned-away (count-ranges-says _ _ _ _) _ (c .before .before .before .look-at .ensures) (c .before .l .given .1) refl
 
 returns-2 : tie.Need-returns-2
-returns-2 c =
-    let R = looked-sound _ (c .before .before .before .before .before .look-at .ensures) (c .before .before .before .enum-told .given .1) in
-    let a = c .before .before .before .before .before .before .before .args in
-    let e = span-none (a .lower) (a .upper) _ (c .before .before .normalize .ensures) (c .enum-told2 .given .1) in
-    met (count-ranges-says _ _ _ _) R refl tt (ap number (ranges-nothing _ _ _ _ e))
-
-returns-3 : tie.Need-returns-3
-returns-3 c =
-    let R = looked-sound _ (c .before .before .before .before .before .before .before .look-at .ensures) (c .before .before .before .before .before .enum-told .given .1) in
-    let a = c .before .before .before .before .before .before .before .before .before .args in
-    let W = span-some (a .lower) (a .upper) _ (c .before .before .before .before .normalize .ensures) (c .before .before .s .given .1) in
-    met (count-ranges-says _ _ _ _) R refl tt (ap number (of-range W (countRanges _ _) (c .tally .ensures .runs-are)))
+returns-2 c = search needs
 
 pub count-ranges-spec : {M : Type 1} → statement M
 count-ranges-spec =
     tie.close
-    (tie.spec
-    look-at-requires
-    enum-known-l
-    enum-told
-    normalize-requires
-    enum-told-2
-    enum-known-s
-    tally-requires
-    returns
-    returns-2
-    returns-3)
+    (tie.spec look-at-requires enum-known-l enum-told count-ranges-requires returns returns-2)

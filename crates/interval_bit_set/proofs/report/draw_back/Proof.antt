@@ -1,10 +1,7 @@
--- `draw_back` meets its contract: the last run that is left, and the listing moved past it; with none left the listing ends.
+-- `draw_back` meets its contract: a store that looking refuses earns that refusal, of another the core's call answers.
 -- Assumes nothing.
-use mathlib.Core.Path.{refl, ap}
-use native.Mathlib.Omega.{arith}
-use Rattle.model.specs.Positions.{lastRun}
-use Rattle.interval_bit_set.proofs.Draws.{none-left, last-left, back-none, back-more, back-end}
-use Rattle.interval_bit_set.proofs.Meeting.{looked-sound, turned-away, met, draw-back-says}
+use mathlib.Core.Path.{refl}
+use Rattle.interval_bit_set.proofs.Meeting.{looked-sound, turned-away, draw-back-says}
 use borrow.Author.Needs.{needs}
 use Rattle.interval_bit_set.proofs.report.draw_back.Statement.{statement}
 use Rattle.interval_bit_set.proofs.report.draw_back.Tie as tie
@@ -18,71 +15,16 @@ enum-known-look c = search needs
 enum-told : tie.Need-enum-told
 enum-told c = search needs
 
-finished-requires : tie.Need-finished-requires
-finished-requires c κs = search needs
+draw-back-requires : tie.Need-draw-back-requires
+draw-back-requires c κs = looked-sound _ (c .before .before .look-at .ensures) (c .enum-told .given .1)
 
 returns : tie.Need-returns
-returns c =
-    let R = looked-sound _ (c .before .before .before .before .look-at .ensures) (c .before .before .enum-told .given .1) in
-    met (draw-back-says _ _) R refl tt (back-none _ (ap lastRun (none-left _ _ (c .before .if1 .taken))) (c .finished .ensures))
-
-last-run-requires : tie.Need-last-run-requires
-last-run-requires c κs =
-    let R = looked-sound _ (c .before .before .before .look-at .ensures) (c .before .enum-told .given .1) in
-    (R .sound, omega arith)
-
-enum-known-n : tie.Need-enum-known-n
-enum-known-n c = search needs
-
-sub-t18 : tie.Need-sub-t18
-sub-t18 c = search needs
+returns c = turned-away (draw-back-says _ _) _ (c .before .before .before .look-at .ensures) (c .before .look .given .1) refl
 
 returns-2 : tie.Need-returns-2
-returns-2 c =
-    let R = looked-sound _ (c .before .before .before .before .before .before .before .before .look-at .ensures) (c .before .before .before .before .before .before .enum-told .given .1) in
-    let e = last-left _ _ (c .before .before .n .given .1) (c .before .before .before .before .last-run .ensures) in
-    met (draw-back-says _ _) R refl tt (back-more _ e (c .if2 .taken))
-
-finished-requires-2 : tie.Need-finished-requires-2
-finished-requires-2 c κs = search needs
-
-enum-told-2 : tie.Need-enum-told-2
-enum-told-2 c = search needs
-
-finished-requires-3 : tie.Need-finished-requires-3
-finished-requires-3 c κs = search needs
-
-returns-3 : tie.Need-returns-3
-returns-3 c = turned-away (draw-back-says _ _) _ (c .before .before .before .look-at .ensures) (c .before .look .given .1) refl
-
-returns-4 : tie.Need-returns-4
-returns-4 c =
-    let R = looked-sound _ (c .before .before .before .before .before .before .before .before .before .look-at .ensures) (c .before .before .before .before .before .before .before .enum-told .given .1) in
-    let e = last-left _ _ (c .before .before .before .n .given .1) (c .before .before .before .before .before .last-run .ensures) in
-    met (draw-back-says _ _) R refl tt (back-end _ e (omega arith) (c .finished2 .ensures))
-
-returns-5 : tie.Need-returns-5
-returns-5 c =
-    let R = looked-sound _ (c .before .before .before .before .before .before .before .look-at .ensures) (c .before .before .before .before .before .enum-told .given .1) in
-    let e = last-left _ _ (c .before .enum-told2 .given .1) (c .before .before .before .last-run .ensures) in
-    met (draw-back-says _ _) R refl tt (back-none _ e (c .finished3 .ensures))
+returns-2 c = search needs
 
 pub draw-back-spec : {M : Type 1} → statement M
 draw-back-spec =
     tie.close
-    (tie.spec
-    look-at-requires
-    enum-known-look
-    enum-told
-    finished-requires
-    returns
-    last-run-requires
-    enum-known-n
-    sub-t18
-    returns-2
-    finished-requires-2
-    enum-told-2
-    finished-requires-3
-    returns-3
-    returns-4
-    returns-5)
+    (tie.spec look-at-requires enum-known-look enum-told draw-back-requires returns returns-2)

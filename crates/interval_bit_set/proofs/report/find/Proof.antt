@@ -1,10 +1,7 @@
--- `find` meets its contract: the least position from the range's first to its last, none in an empty range.
+-- `find` meets its contract: a store that looking refuses earns that refusal, of another the core's call answers.
 -- Assumes nothing.
-use mathlib.Core.Path.{refl, ap}
-use Rattle.model.specs.Positions.{find}
-use Rattle.interval_bit_set.proofs.Spans.{span-none, span-some, of-range, find-nothing, found-as}
-use Rattle.model.specs.Call.{position}
-use Rattle.interval_bit_set.proofs.Meeting.{looked-sound, turned-away, met, find-says}
+use mathlib.Core.Path.{refl}
+use Rattle.interval_bit_set.proofs.Meeting.{looked-sound, turned-away, find-says}
 use borrow.Author.Needs.{needs}
 use Rattle.interval_bit_set.proofs.report.find.Statement.{statement}
 use Rattle.interval_bit_set.proofs.report.find.Tie as tie
@@ -18,54 +15,15 @@ enum-known-l c = search needs
 enum-told : tie.Need-enum-told
 enum-told c = search needs
 
-normalize-requires : tie.Need-normalize-requires
-normalize-requires c κs = search needs
-
-enum-told-2 : tie.Need-enum-told-2
-enum-told-2 c = search needs
-
-enum-known-s : tie.Need-enum-known-s
-enum-known-s c = search needs
-
-find-in-requires : tie.Need-find-in-requires
-find-in-requires c κs =
-    let R = looked-sound _ (c .before .before .before .before .before .before .look-at .ensures) (c .before .before .before .before .enum-told .given .1) in
-    let a = c .before .before .before .before .before .before .before .before .args in
-    let W = span-some (a .lower) (a .upper) _ (c .before .before .before .normalize .ensures) (c .before .s .given .1) in
-    (R .sound, W .order)
-
-found-requires : tie.Need-found-requires
-found-requires c κs = search needs
+find-requires : tie.Need-find-requires
+find-requires c κs = looked-sound _ (c .before .before .look-at .ensures) (c .enum-told .given .1)
 
 returns : tie.Need-returns
 returns c = turned-away (find-says _ _ _ _) _ (c .before .before .before .look-at .ensures) (c .before .l .given .1) refl
 
 returns-2 : tie.Need-returns-2
-returns-2 c =
-    let R = looked-sound _ (c .before .before .before .before .before .look-at .ensures) (c .before .before .before .enum-told .given .1) in
-    let a = c .before .before .before .before .before .before .before .args in
-    let e = span-none (a .lower) (a .upper) _ (c .before .before .normalize .ensures) (c .enum-told2 .given .1) in
-    met (find-says _ _ _ _) R refl tt (ap position (find-nothing _ _ _ _ e))
-
-returns-3 : tie.Need-returns-3
-returns-3 c =
-    let R = looked-sound _ (c .before .before .before .before .before .before .before .before .look-at .ensures) (c .before .before .before .before .before .before .enum-told .given .1) in
-    let a = c .before .before .before .before .before .before .before .before .before .before .args in
-    let W = span-some (a .lower) (a .upper) _ (c .before .before .before .before .before .normalize .ensures) (c .before .before .before .s .given .1) in
-    met (find-says _ _ _ _) R refl tt (found-as (c .before .find-in .result) (c .found .ensures) (of-range W (find _ _) (c .before .find-in .ensures)))
+returns-2 c = search needs
 
 pub find-spec : {M : Type 1} → statement M
 find-spec =
-    tie.close
-    (tie.spec
-    look-at-requires
-    enum-known-l
-    enum-told
-    normalize-requires
-    enum-told-2
-    enum-known-s
-    find-in-requires
-    found-requires
-    returns
-    returns-2
-    returns-3)
+    tie.close (tie.spec look-at-requires enum-known-l enum-told find-requires returns returns-2)

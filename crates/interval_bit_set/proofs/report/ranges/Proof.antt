@@ -1,9 +1,7 @@
--- `ranges` meets its contract: a listing has the range's first position and its last; one of an empty range has ended.
+-- `ranges` meets its contract: a store that looking refuses earns that refusal, of another the core's call answers.
 -- Assumes nothing.
-use mathlib.Core.Path.{refl, ap}
-use Rattle.interval_bit_set.proofs.Spans.{span-none, span-some, listed-some, listed-nothing}
-use Rattle.model.specs.Call.{listing}
-use Rattle.interval_bit_set.proofs.Meeting.{looked-sound, turned-away, met, ranges-says}
+use mathlib.Core.Path.{refl}
+use Rattle.interval_bit_set.proofs.Meeting.{looked-sound, turned-away, ranges-says}
 use borrow.Author.Needs.{needs}
 use Rattle.interval_bit_set.proofs.report.ranges.Statement.{statement}
 use Rattle.interval_bit_set.proofs.report.ranges.Tie as tie
@@ -17,42 +15,15 @@ enum-known-l c = search needs
 enum-told : tie.Need-enum-told
 enum-told c = search needs
 
-normalize-requires : tie.Need-normalize-requires
-normalize-requires c κs = search needs
-
-enum-told-2 : tie.Need-enum-told-2
-enum-told-2 c = search needs
-
-enum-known-s : tie.Need-enum-known-s
-enum-known-s c = search needs
+ranges-requires : tie.Need-ranges-requires
+ranges-requires c κs = looked-sound _ (c .before .before .look-at .ensures) (c .enum-told .given .1)
 
 returns : tie.Need-returns
 returns c = turned-away (ranges-says _ _ _ _) _ (c .before .before .before .look-at .ensures) (c .before .l .given .1) refl
 
 returns-2 : tie.Need-returns-2
-returns-2 c =
-    let R = looked-sound _ (c .before .before .before .before .before .look-at .ensures) (c .before .before .before .enum-told .given .1) in
-    let a = c .before .before .before .before .before .before .before .args in
-    let e = span-none (a .lower) (a .upper) _ (c .before .before .normalize .ensures) (c .enum-told2 .given .1) in
-    met (ranges-says _ _ _ _) R refl tt (ap listing (listed-nothing _ _ _ e))
-
-returns-3 : tie.Need-returns-3
-returns-3 c =
-    let R = looked-sound _ (c .before .before .before .before .before .before .look-at .ensures) (c .before .before .before .before .enum-told .given .1) in
-    let a = c .before .before .before .before .before .before .before .before .args in
-    let W = span-some (a .lower) (a .upper) _ (c .before .before .before .normalize .ensures) (c .before .s .given .1) in
-    met (ranges-says _ _ _ _) R refl tt (ap listing (listed-some W _))
+returns-2 c = search needs
 
 pub ranges-spec : {M : Type 1} → statement M
 ranges-spec =
-    tie.close
-    (tie.spec
-    look-at-requires
-    enum-known-l
-    enum-told
-    normalize-requires
-    enum-told-2
-    enum-known-s
-    returns
-    returns-2
-    returns-3)
+    tie.close (tie.spec look-at-requires enum-known-l enum-told ranges-requires returns returns-2)

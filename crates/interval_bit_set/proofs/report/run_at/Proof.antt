@@ -1,8 +1,7 @@
--- `run_at` meets its contract: a sound store has the run that its positions tell, another is refused.
+-- `run_at` meets its contract: a store that looking refuses earns that refusal, of another the core's call answers.
 -- Assumes nothing.
-use mathlib.Core.Path.{refl, ap}
-use Rattle.model.specs.Call.{around}
-use Rattle.interval_bit_set.proofs.Meeting.{looked-sound, turned-away, met, run-at-says}
+use mathlib.Core.Path.{refl}
+use Rattle.interval_bit_set.proofs.Meeting.{looked-sound, turned-away, run-at-says}
 use borrow.Author.Needs.{needs}
 use Rattle.interval_bit_set.proofs.report.run_at.Statement.{statement}
 use Rattle.interval_bit_set.proofs.report.run_at.Tie as tie
@@ -17,15 +16,13 @@ enum-told : tie.Need-enum-told
 enum-told c = search needs
 
 run-at-requires : tie.Need-run-at-requires
-run-at-requires c κs = (looked-sound _ (c .before .before .look-at .ensures) (c .enum-told .given .1)) .sound
+run-at-requires c κs = looked-sound _ (c .before .before .look-at .ensures) (c .enum-told .given .1)
 
 returns : tie.Need-returns
 returns c = turned-away (run-at-says _ _) _ (c .before .before .before .look-at .ensures) (c .before .l .given .1) refl
 
 returns-2 : tie.Need-returns-2
-returns-2 c =
-    let R = looked-sound _ (c .before .before .before .look-at .ensures) (c .before .enum-told .given .1) in
-    met (run-at-says _ _) R refl tt (ap around (c .run-at .ensures))
+returns-2 c = search needs
 
 pub run-at-spec : {M : Type 1} → statement M
 run-at-spec =

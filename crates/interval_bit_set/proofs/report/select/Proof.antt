@@ -1,9 +1,7 @@
--- `select` meets its contract: the k-th position from the range's first to its last, none in an empty range.
+-- `select` meets its contract: a store that looking refuses earns that refusal, of another the core's call answers.
 -- Assumes nothing.
-use mathlib.Core.Path.{refl, ap}
-use Rattle.interval_bit_set.proofs.Spans.{span-none, span-some, select-range, select-nothing, found-as}
-use Rattle.model.specs.Call.{position}
-use Rattle.interval_bit_set.proofs.Meeting.{looked-sound, turned-away, met, select-says}
+use mathlib.Core.Path.{refl}
+use Rattle.interval_bit_set.proofs.Meeting.{looked-sound, turned-away, select-says}
 use borrow.Author.Needs.{needs}
 use Rattle.interval_bit_set.proofs.report.select.Statement.{statement}
 use Rattle.interval_bit_set.proofs.report.select.Tie as tie
@@ -17,54 +15,15 @@ enum-known-l c = search needs
 enum-told : tie.Need-enum-told
 enum-told c = search needs
 
-normalize-requires : tie.Need-normalize-requires
-normalize-requires c κs = search needs
-
-enum-told-2 : tie.Need-enum-told-2
-enum-told-2 c = search needs
-
-enum-known-s : tie.Need-enum-known-s
-enum-known-s c = search needs
-
 select-requires : tie.Need-select-requires
-select-requires c κs =
-    let R = looked-sound _ (c .before .before .before .before .before .before .look-at .ensures) (c .before .before .before .before .enum-told .given .1) in
-    let a = c .before .before .before .before .before .before .before .before .args in
-    let W = span-some (a .lower) (a .upper) _ (c .before .before .before .normalize .ensures) (c .before .s .given .1) in
-    (R .sound, W .order)
-
-found-requires : tie.Need-found-requires
-found-requires c κs = search needs
+select-requires c κs = looked-sound _ (c .before .before .look-at .ensures) (c .enum-told .given .1)
 
 returns : tie.Need-returns
 returns c = turned-away (select-says _ _ _ _ _) _ (c .before .before .before .look-at .ensures) (c .before .l .given .1) refl
 
 returns-2 : tie.Need-returns-2
-returns-2 c =
-    let R = looked-sound _ (c .before .before .before .before .before .look-at .ensures) (c .before .before .before .enum-told .given .1) in
-    let a = c .before .before .before .before .before .before .before .args in
-    let e = span-none (a .lower) (a .upper) _ (c .before .before .normalize .ensures) (c .enum-told2 .given .1) in
-    met (select-says _ _ _ _ _) R refl tt (ap position (select-nothing _ _ _ _ e _))
-
-returns-3 : tie.Need-returns-3
-returns-3 c =
-    let R = looked-sound _ (c .before .before .before .before .before .before .before .before .look-at .ensures) (c .before .before .before .before .before .before .enum-told .given .1) in
-    let a = c .before .before .before .before .before .before .before .before .before .before .args in
-    let W = span-some (a .lower) (a .upper) _ (c .before .before .before .before .before .normalize .ensures) (c .before .before .before .s .given .1) in
-    met (select-says _ _ _ _ _) R refl tt (found-as (c .before .select .result) (c .found .ensures) (select-range W _ _ _ (c .before .select .ensures)))
+returns-2 c = search needs
 
 pub select-spec : {M : Type 1} → statement M
 select-spec =
-    tie.close
-    (tie.spec
-    look-at-requires
-    enum-known-l
-    enum-told
-    normalize-requires
-    enum-told-2
-    enum-known-s
-    select-requires
-    found-requires
-    returns
-    returns-2
-    returns-3)
+    tie.close (tie.spec look-at-requires enum-known-l enum-told select-requires returns returns-2)

@@ -3,8 +3,8 @@
 use native.Mathlib.Omega.{arith}
 use Rattle.interval_bit_set.proofs.Windows.{fits-not-empty, fits-not-long, fits-by-end}
 use borrow.Author.Needs.{needs}
-use Rattle.interval_bit_set.proofs.report.window_fits.Statement.{statement}
-use Rattle.interval_bit_set.proofs.report.window_fits.Tie as tie
+use Rattle.interval_bit_set.proofs.core.window_fits.Statement.{statement}
+use Rattle.interval_bit_set.proofs.core.window_fits.Tie as tie
 
 returns : tie.Need-returns
 returns c = fits-not-empty _ _ (c .if1 .taken)

@@ -3,8 +3,8 @@
 use mathlib.Core.Path.{sym, ap}
 use Rattle.interval_bit_set.specs.Look.{foundEdge}
 use borrow.Author.Needs.{needs}
-use Rattle.interval_bit_set.proofs.report.found.Statement.{statement}
-use Rattle.interval_bit_set.proofs.report.found.Tie as tie
+use Rattle.interval_bit_set.proofs.core.found.Statement.{statement}
+use Rattle.interval_bit_set.proofs.core.found.Tie as tie
 
 enum-known-e : tie.Need-enum-known-e
 enum-known-e c = search needs

@@ -1,0 +1,54 @@
+-- `select` meets its contract: the k-th position from the range's first to its last, none in an empty range.
+-- Assumes nothing.
+use mathlib.Core.Path.{refl, ap}
+use Rattle.interval_bit_set.proofs.Spans.{span-none, span-some, select-range, select-nothing, found-as}
+use Rattle.model.specs.Call.{position}
+use Rattle.interval_bit_set.proofs.Meeting.{met, select-says}
+use borrow.Author.Needs.{needs}
+use Rattle.interval_bit_set.proofs.core.select.Statement.{statement}
+use Rattle.interval_bit_set.proofs.core.select.Tie as tie
+
+normalize-requires : tie.Need-normalize-requires
+normalize-requires c κs = search needs
+
+enum-told : tie.Need-enum-told
+enum-told c = search needs
+
+enum-known-s : tie.Need-enum-known-s
+enum-known-s c = search needs
+
+select-requires : tie.Need-select-requires
+select-requires c κs =
+    let R = c .before .before .before .before .before .pre in
+    let a = c .before .before .before .before .before .args in
+    let W = span-some (a .lower) (a .upper) _ (c .before .before .before .normalize .ensures) (c .before .s .given .1) in
+    (R .sound, W .order)
+
+found-requires : tie.Need-found-requires
+found-requires c κs = search needs
+
+returns : tie.Need-returns
+returns c =
+    let R = c .before .before .before .before .pre in
+    let a = c .before .before .before .before .args in
+    let e = span-none (a .lower) (a .upper) _ (c .before .before .normalize .ensures) (c .enum-told .given .1) in
+    met (select-says _ _ _ _ _) R refl tt (ap position (select-nothing _ _ _ _ e _))
+
+returns-2 : tie.Need-returns-2
+returns-2 c =
+    let R = c .before .before .before .before .before .before .before .pre in
+    let a = c .before .before .before .before .before .before .before .args in
+    let W = span-some (a .lower) (a .upper) _ (c .before .before .before .before .before .normalize .ensures) (c .before .before .before .s .given .1) in
+    met (select-says _ _ _ _ _) R refl tt (found-as (c .before .select .result) (c .found .ensures) (select-range W _ _ _ (c .before .select .ensures)))
+
+pub select-spec : {M : Type 1} → statement M
+select-spec =
+    tie.close
+    (tie.spec
+    normalize-requires
+    enum-told
+    enum-known-s
+    select-requires
+    found-requires
+    returns
+    returns-2)
