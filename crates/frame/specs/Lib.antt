@@ -1,3 +1,4 @@
 pub mod Records
 pub mod Frame
 pub mod Serving
+pub mod Told

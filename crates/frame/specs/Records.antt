@@ -83,7 +83,7 @@ abbrev pub callOf : {S : Type 0} → Entry → Call S
 callOf e = callBy (kindOf (e .call)) e
 
 -- n records from record i on
-pub callsFrom : {S : Type 0} → List ℕ → ℕ → ℕ → List (Call S)
+unfoldable pub callsFrom : {S : Type 0} → List ℕ → ℕ → ℕ → List (Call S)
 callsFrom ws i zero = []
 callsFrom ws i (suc n) = callOf (entryAt ws i) ∷ callsFrom ws (suc i) n
 
@@ -124,6 +124,6 @@ abbrev pub wordsOf : Reply → List ℕ
 wordsOf r = r .refusal ∷ r .found ∷ r .number ∷ r .«end» ∷ r .first ∷ r .last ∷ r .value ∷ 0 ∷ []
 
 -- the records of a list of answers, one after another
-pub recordsOf : List Answer → List ℕ
+unfoldable pub recordsOf : List Answer → List ℕ
 recordsOf [] = []
 recordsOf (a ∷ rs) = wordsOf (replyOf a) ++ recordsOf rs
