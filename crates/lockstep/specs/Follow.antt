@@ -69,7 +69,7 @@ empty-ends x h = refl
 
 module _ {C : ℕ} {w w′ : List ℕ} where
   -- what settles with Q holds Q
-  settled-holds : {Q : Positions} → Settled w w′ Q → capacity w ≡ C → Ends Q → Holds C Q w′
+  pub settled-holds : {Q : Positions} → Settled w w′ Q → capacity w ≡ C → Ends Q → Holds C Q w′
   settled-holds {Q} S e q = record {
     sound = S .sound;
     sized = ap capacityOf (S .long) ∙ e;

@@ -1,0 +1,60 @@
+-- `play` meets its contract. The loop's invariant: i records were served as the model serves their calls. Assumes nothing.
+use Prim.Native.Nat.{_-_}
+use native.Mathlib.Omega.{arith}
+use borrow.Author.Needs.{needs}
+use Rattle.frame.proofs.Playing.{Playing, none-played, playing-readable, playing-wide, more-played, all-played}
+use Rattle.frame.proofs.play.Statement.{statement}
+use Rattle.frame.proofs.play.Tie as tie
+
+abbrev Inv-loop : tie.InvT-loop
+Inv-loop words₀ calls answers₀ n i₀ words answers i = Playing words₀ calls answers₀ n i words answers
+
+abbrev μ-loop : tie.MeasureT-loop
+μ-loop words₀ calls answers₀ n i₀ words answers i = n - i
+
+loop-holds : tie.Need-loop-holds Inv-loop μ-loop
+loop-holds c = none-played (c .before .before .before .args .calls .now) (c .before .before .before .args .answers .now) (c .before .before .before .args .n) (c .before .before .before .pre .readable)
+
+read-requires : tie.Need-read-requires Inv-loop μ-loop
+read-requires c κs = omega (arith, c .before .before .before .before .before .pre .given)
+
+serve-requires : tie.Need-serve-requires Inv-loop μ-loop
+serve-requires c κs = playing-readable (c .before .before .before .loop .inv)
+
+put-requires : tie.Need-put-requires Inv-loop μ-loop
+put-requires c κs = omega (arith, playing-wide (c .before .before .before .before .before .before .before .loop .inv) (c .before .before .before .before .before .before .before .before .before .before .before .pre .room), c .before .before .before .before .before .before .loop-test .taken, c .before .before .before .before .before .before .before .before .before .before .before .pre .room)
+
+add-i : tie.Need-add-i Inv-loop μ-loop
+add-i c = search needs
+
+loop-less : tie.Need-loop-less Inv-loop μ-loop
+loop-less c = search needs
+
+loop-again : tie.Need-loop-again Inv-loop μ-loop
+loop-again c = more-played (c .before .before .before .before .before .before .before .before .before .before .loop .inv) (c .before .before .before .before .before .before .before .before .before .loop-test .taken) (c .before .before .before .before .before .before .before .before .before .before .before .before .before .before .pre .room) (c .before .before .before .before .before .before .before .before .read .ensures) (c .before .before .before .before .before .before .serve .ensures) (c .before .before .put .ensures)
+
+same-length : tie.Need-same-length Inv-loop μ-loop
+same-length c = c .before .loop .inv .long
+
+same-length-2 : tie.Need-same-length-2 Inv-loop μ-loop
+same-length-2 c = playing-wide (c .before .loop .inv) (c .before .before .before .before .before .pre .room)
+
+returns : tie.Need-returns Inv-loop μ-loop
+returns c = all-played (c .before .loop .inv) (c .loop-test .left)
+
+pub play-spec : {M : Type 1} → statement M
+play-spec =
+    tie.close
+    (tie.spec
+    Inv-loop
+    μ-loop
+    loop-holds
+    read-requires
+    serve-requires
+    put-requires
+    add-i
+    loop-less
+    loop-again
+    same-length
+    same-length-2
+    returns)

@@ -1,0 +1,41 @@
+-- THE CONTRACT of a frame: its answers, the positions after it and the whole slice are the plain model's over the list of its calls. Assumes
+-- nothing: these are definitions.
+use Prim.Native.Nat.{ℕ}
+use mathlib.Core.Path.{_≡_}
+use mathlib.Core.List.{List, [], _∷_, _++_}
+use mathlib.Core.Option.{Option, none, some}
+use Rattle.model.specs.Positions.{Positions}
+use Rattle.model.specs.Bytes.{intoFront}
+use Rattle.model.specs.Refusals.{outputShort, _when_, refusal, noRoom}
+use Rattle.model.specs.Call.{Fed, Call, Answer, refused, done}
+use Rattle.model.specs.Model.{positionsOf, reads, answers, after}
+use Rattle.store.specs.Layout.{capacity}
+use Rattle.interval_bit_set.specs.Met.{fedOf, Leaves}
+use Rattle.frame.specs.Records.{callsOf, recordsOf}
+
+-- what a frame answers, the positions after it, and the slice
+pub record Outcome : Type 0 where
+  pub answer : Answer
+  pub positions : Positions
+  pub slice : List ℕ
+
+-- refused, all stays; else the records are the front of the slice, and the words after them do not change
+abbrev pub settle : Option ℕ → Positions → Positions → List ℕ → List ℕ → Outcome
+settle none P Q due out = record { answer = done; positions = Q; slice = intoFront due out }
+settle (some n) P Q due out = record { answer = refused n; positions = P; slice = out }
+
+-- a list of calls on a store of capacity C that is fed as s: 1, 7, and 2 where the slice is shorter than the words due
+unfoldable pub frameOf : ℕ → Fed → List (Call Fed) → List ℕ → Outcome
+frameOf C s cs out =
+    settle (refusal (reads s ++ outputShort when noRoom out (recordsOf (answers C (positionsOf s) cs)) ∷ []))
+    (positionsOf s) (after C (positionsOf s) cs) (recordsOf (answers C (positionsOf s) cs)) out
+
+-- what the model says of the list in the words cs
+unfoldable pub outcomeOf : List ℕ → List ℕ → List ℕ → Outcome
+outcomeOf w cs out = frameOf (capacity w) (fedOf w) (callsOf cs) out
+
+-- the frame cs on the words w with the slice out answered a and left w′ and out′
+pub record Framed (w cs out : List ℕ) (a : Answer) (w′ out′ : List ℕ) : Type 0 where
+  pub answered : a ≡ (outcomeOf w cs out) .answer
+  pub left : Leaves w w′ ((outcomeOf w cs out) .positions) a
+  pub wrote : out′ ≡ (outcomeOf w cs out) .slice

@@ -1,0 +1,5 @@
+pub mod Records
+pub mod Frame
+pub mod Serving
+pub mod Told
+pub mod Matches

@@ -1,0 +1,173 @@
+-- THE THEOREM over whole matches: whether calls come singly or in frames, answers and positions are the plain model's, over one list of all
+-- calls. A step of a match is what a public call promises (`Met`), or what a frame that was not refused promises (`Framed`), and nothing
+-- more. Assumes nothing.
+use Prim.Native.Nat.{ℕ}
+use mathlib.Core.Path.{_≡_, refl, sym, ap, ap₂, _∙_, subst}
+use mathlib.Core.Logic.{_⊎_, inl, inr}
+use mathlib.Core.Bool.{Bool, true, false, cond}
+use mathlib.Core.List.{List, [], _∷_, _++_}
+use mathlib.Core.Option.{Option, none, some}
+use native.Mathlib.Omega.{arith}
+use lib.Dec.{eqb}
+use lib.ListN.{length}
+use Rattle.model.specs.Positions.{Positions, empty}
+use Rattle.model.specs.Bytes.{intoFront}
+use Rattle.model.specs.Refusals.{outputShort, _when_, refusal, noRoom}
+use Rattle.model.specs.Call.{Fed, wrongLength, unsound, holding, Call, feed, Answer, refused, done}
+use Rattle.model.specs.Model
+use Rattle.model.specs.Model.{positionsOf, reads, serve, step, answers, after}
+use Rattle.store.specs.Layout.{capacity, heldBy}
+use Rattle.store.specs.Decision.{soundB}
+use Rattle.store.specs.Settle.{Settled}
+use Rattle.interval_bit_set.specs.Met.{fedOf, Leaves, Met}
+use Rattle.lockstep.specs.History.{New, told}
+use Rattle.lockstep.specs.Steps.{Ends, Served, served}
+use Rattle.lockstep.specs.Follow.{Holds, held-ends, settled-holds, answer-is, step-holds, new-holds}
+use Rattle.frame.specs.Records.{callsFrom, callsOf, recordsOf}
+use Rattle.frame.specs.Frame.{Outcome, settle, frameOf, outcomeOf, Framed}
+use Rattle.frame.specs.Told.{told-from}
+
+-- the words w, after the calls cs, which got the answers rs, are w′. A frame's calls are those of its records, and its answers those whose
+-- records it wrote (`framed-wrote`).
+pub data Match : List ℕ → List (Call (List ℕ)) → List Answer → List ℕ → Type 0 where
+  rest : {w : List ℕ} → Match w [] [] w
+  call :
+      {w w′ w″ : List ℕ} {c : Call (List ℕ)} {a : Answer} {cs : List (Call (List ℕ))} {rs : List Answer}
+      → Met w c a w′
+      → Match w′ cs rs w″
+      → Match w (c ∷ cs) (a ∷ rs) w″
+  frame :
+      {w w′ w″ fs out out′ : List ℕ} {cs : List (Call (List ℕ))} {rs : List Answer}
+      → Framed w fs out done w′ out′
+      → Match w′ cs rs w″
+      → Match w (callsOf fs ++ cs) (answers (capacity w) (heldBy w) (callsOf fs) ++ rs) w″
+
+-- ---- a frame that was not refused
+-- what words are fed as
+fed-cases : (w : List ℕ) → (fedOf w ≡ wrongLength) ⊎ ((fedOf w ≡ unsound) ⊎ (fedOf w ≡ holding (heldBy w)))
+unfolding fedOf
+fed-cases w = go (eqb (capacity w) 0) (soundB w)
+  where
+    go : (z t : Bool)
+        → (cond z wrongLength (cond t (holding (heldBy w)) unsound) ≡ wrongLength)
+        ⊎ ((cond z wrongLength (cond t (holding (heldBy w)) unsound) ≡ unsound) ⊎ (cond z wrongLength (cond t (holding (heldBy w)) unsound) ≡ holding (heldBy w)))
+    go true t = inl refl
+    go false true = inr (inr refl)
+    go false false = inr (inl refl)
+
+-- done and refused differ
+done-refused : {n : ℕ} → done ≡ refused n → ⊥
+done-refused e = let z : _≡_ {A = ℕ} 0 1 = cc in omega arith
+
+module _ (w fs out : List ℕ) where
+  as-fed : (s : Fed) → fedOf w ≡ s → outcomeOf w fs out ≡ frameOf (capacity w) s (callsOf fs) out
+  unfolding outcomeOf
+  as-fed s e = ap (λ f. frameOf (capacity w) f (callsOf fs) out) e
+
+  -- all calls were served
+  abbrev all-served : Outcome
+  all-served = record {
+    answer = done;
+    positions = after (capacity w) (heldBy w) (callsOf fs);
+    slice = intoFront (recordsOf (answers (capacity w) (heldBy w) (callsOf fs))) out;
+  }
+
+  -- where the store is read and there is room
+  room-served : done ≡ (frameOf (capacity w) (holding (heldBy w)) (callsOf fs) out) .answer → frameOf (capacity w) (holding (heldBy w)) (callsOf fs) out ≡ all-served
+  unfolding frameOf
+  room-served e = go (refusal (reads (holding (heldBy w)) ++ outputShort when noRoom out (all-due) ∷ [])) e
+    where
+      all-due : List ℕ
+      all-due = recordsOf (answers (capacity w) (heldBy w) (callsOf fs))
+
+      go : (y : Option ℕ) → done ≡ (settle y (heldBy w) (all-served .positions) all-due out) .answer → settle y (heldBy w) (all-served .positions) all-due out ≡ all-served
+      go none f = refl
+      go (some n) f = absurd (done-refused f)
+
+  -- so a frame that is done served all its calls
+  served-all : done ≡ (outcomeOf w fs out) .answer → outcomeOf w fs out ≡ all-served
+  unfolding frameOf
+  served-all e = go (fed-cases w)
+    where
+      go : (fedOf w ≡ wrongLength) ⊎ ((fedOf w ≡ unsound) ⊎ (fedOf w ≡ holding (heldBy w))) → outcomeOf w fs out ≡ all-served
+      go (inl f) = absurd (done-refused (e ∙ ap (λ o. o .answer) (as-fed wrongLength f)))
+      go (inr (inl f)) = absurd (done-refused (e ∙ ap (λ o. o .answer) (as-fed unsound f)))
+      go (inr (inr f)) = as-fed (holding (heldBy w)) f ∙ room-served (e ∙ ap (λ o. o .answer) (as-fed (holding (heldBy w)) f))
+
+-- it left what the model leaves
+framed-left : {w fs out w′ out′ : List ℕ} → Framed w fs out done w′ out′ → Settled w w′ (after (capacity w) (heldBy w) (callsOf fs))
+framed-left {w} {fs} {out} {w′} F = subst (λ (o : Outcome). Settled w w′ (o .positions)) (served-all w fs out (F .answered)) (F .left)
+
+-- and wrote the records of the model's answers
+pub framed-wrote : {w fs out w′ out′ : List ℕ} → Framed w fs out done w′ out′ → out′ ≡ intoFront (recordsOf (answers (capacity w) (heldBy w) (callsOf fs))) out
+framed-wrote {w} {fs} {out} F = F .wrote ∙ ap (λ (o : Outcome). o .slice) (served-all w fs out (F .answered))
+
+-- ---- lists of calls on the model
+module _ (C : ℕ) where
+  -- no call holds a position above 2^64 − 1
+  step-ends : (P : Positions) (c : Call Fed) → Ends P → Ends ((step C P c) .positions)
+  unfolding step
+  step-ends P c h = go (served C P c)
+    where
+      by : (S : Served P (serve C (holding P) c)) (y : Option ℕ) → Ends ((Model.settle y P (S .said) (S .next)) .positions)
+      by S none = S .ends h
+      by S (some n) = h
+
+      go : Served P (serve C (holding P) c) → Ends ((serve C (holding P) c) .positions)
+      go S = subst (λ (o : Model.Outcome). Ends (o .positions)) (sym (S .is)) (by S (S .why))
+
+  after-ends : (P : Positions) (cs : List (Call Fed)) → Ends P → Ends (after C P cs)
+  unfolding after
+  after-ends P [] h = h
+  after-ends P (c ∷ cs) h = after-ends ((step C P c) .positions) cs (step-ends P c h)
+
+  -- one list after another
+  answers-append : (P : Positions) (cs ds : List (Call Fed)) → answers C P (cs ++ ds) ≡ answers C P cs ++ answers C (after C P cs) ds
+  unfolding answers after
+  answers-append P [] ds = refl
+  answers-append P (c ∷ cs) ds = ap (λ l. (step C P c) .answer ∷ l) (answers-append ((step C P c) .positions) cs ds)
+
+  after-append : (P : Positions) (cs ds : List (Call Fed)) → after C P (cs ++ ds) ≡ after C (after C P cs) ds
+  unfolding after
+  after-append P [] ds = refl
+  after-append P (c ∷ cs) ds = after-append ((step C P c) .positions) cs ds
+
+-- the model is fed the calls of a frame as they are
+told-frame : (fs : List ℕ) (cs : List (Call (List ℕ))) → told (callsOf fs ++ cs) ≡ callsOf fs ++ told cs
+unfolding callsOf
+told-frame fs cs = told-from fs 0 _ cs
+
+-- ---- matches
+-- from a store that holds P: every answer, and the store in the end
+pub record Goes (C : ℕ) (P : Positions) (cs : List (Call Fed)) (rs : List Answer) (w′ : List ℕ) : Type 0 where
+  pub answered : rs ≡ answers C P cs
+  pub kept : Holds C (after C P cs) w′
+
+module _ {C : ℕ} where
+  -- after a frame
+  frame-holds : {P : Positions} {w fs out w′ out′ : List ℕ} → Holds C P w → Framed w fs out done w′ out′ → Holds C (after C P (callsOf fs)) w′
+  frame-holds {P} {w} {fs} {w′ = w′} H F =
+      subst (λ (Q : Positions). Holds C Q w′) (ap₂ (λ k Q. after k Q (callsOf fs)) (H .sized) (H .held))
+      (settled-holds (framed-left F) (H .sized) (after-ends (capacity w) (heldBy w) (callsOf fs) (held-ends w)))
+
+  goes : {P : Positions} {w w′ : List ℕ} {cs : List (Call (List ℕ))} {rs : List Answer} → Holds C P w → Match w cs rs w′ → Goes C P (told cs) rs w′
+  unfolding answers after
+  goes H rest = record { answered = refl; kept = H }
+  goes H (call m h) =
+      let G = goes (step-holds H m) h in
+      record { answered = ap₂ {C = List Answer} (λ a l. a ∷ l) (answer-is H m) (G .answered); kept = G .kept }
+  goes {P} {w} {w′} {rs = _} H (frame {fs = fs} {cs = cs} {rs = rs} F h) =
+      let G = goes (frame-holds H F) h in
+      record {
+        answered =
+            ap₂ (λ (k : ℕ) Q. answers k Q (callsOf fs) ++ rs) (H .sized) (H .held)
+            ∙ ap (λ l. answers C P (callsOf fs) ++ l) (G .answered)
+            ∙ sym (answers-append C P (callsOf fs) (told cs))
+            ∙ ap (answers C P) (sym (told-frame fs cs));
+        kept = subst (λ (Q : Positions). Holds C Q w′) (sym (after-append C P (callsOf fs) (told cs)) ∙ ap (after C P) (sym (told-frame fs cs))) (G .kept);
+      }
+
+-- from a new empty store on, all answers of a match and the positions after it are the model's, fed the calls alone
+pub matches : {C : ℕ} {w w′ : List ℕ} {cs : List (Call (List ℕ))} {rs : List Answer} → New C w → Match w cs rs w′
+    → (rs ≡ answers C empty (told cs)) × (heldBy w′ ≡ after C empty (told cs))
+matches N h = let G = goes (new-holds N) h in (G .answered, G .kept .held)

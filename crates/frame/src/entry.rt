@@ -1,0 +1,114 @@
+// What a record of a call means. Every record means a call: a number that names none is a get, a bound of another kind is none, and a truth
+// value is anything but 0. The last word of a record is not read.
+ghost use mathlib.Core.Path.{_≡_};
+ghost use Prim.Native.Nat.{_+_, _*_, _≤_};
+ghost use lib.ListN.{length};
+ghost use Rattle.frame.specs.Records.{entryAt, kindOf, boundBy};
+use model::Bound;
+
+// Which call it is.
+pub enum Kind {
+    New,
+    Set,
+    Flip,
+    Shift,
+    RunAt,
+    Find,
+    Count,
+    Select,
+    CountRanges,
+    Ranges,
+    DrawFront,
+    DrawBack,
+    Fill,
+    Get,
+}
+
+// The words of a record. `lower` and `upper` are the kinds of the bounds, `from` and `upto` their values. `from` is also the position of get
+// and run_at, the distance of shift, the base of fill and the first position of a listing; `upto` is the length of fill and the last position
+// of a listing; `value` tells a shift to go left.
+pub struct Entry {
+    pub call: u64,
+    pub lower: u64,
+    pub from: u64,
+    pub upper: u64,
+    pub upto: u64,
+    pub value: u64,
+    pub k: u64,
+}
+
+// The record i of a list.
+pub fn read(calls: &[u64], i: usize) -> Entry
+    requires { ⌜ 8 * i + 8 ≤ length (now calls) ⌝ }
+    ensures { λ r. ⌜ r ≡ entryAt (now (calls .entry)) i ⌝ }
+{
+    let at = 8 * i;
+    Entry {
+        call: calls[at],
+        lower: calls[at + 1],
+        from: calls[at + 2],
+        upper: calls[at + 3],
+        upto: calls[at + 4],
+        value: calls[at + 5],
+        k: calls[at + 6],
+    }
+}
+
+// The call that a number names.
+pub fn named(n: u64) -> Kind
+    ensures { λ r. ⌜ r ≡ kindOf n ⌝ }
+{
+    if n == 1 {
+        return Kind::New;
+    }
+    if n == 2 {
+        return Kind::Set;
+    }
+    if n == 3 {
+        return Kind::Flip;
+    }
+    if n == 4 {
+        return Kind::Shift;
+    }
+    if n == 5 {
+        return Kind::RunAt;
+    }
+    if n == 6 {
+        return Kind::Find;
+    }
+    if n == 7 {
+        return Kind::Count;
+    }
+    if n == 8 {
+        return Kind::Select;
+    }
+    if n == 9 {
+        return Kind::CountRanges;
+    }
+    if n == 10 {
+        return Kind::Ranges;
+    }
+    if n == 11 {
+        return Kind::DrawFront;
+    }
+    if n == 12 {
+        return Kind::DrawBack;
+    }
+    if n == 13 {
+        return Kind::Fill;
+    }
+    Kind::Get
+}
+
+// A bound: kind 1 includes the value, 2 excludes it, and any other has no bound.
+pub fn bound(kind: u64, value: u64) -> Bound
+    ensures { λ r. ⌜ r ≡ boundBy kind value ⌝ }
+{
+    if kind == 1 {
+        return Bound::Included(value);
+    }
+    if kind == 2 {
+        return Bound::Excluded(value);
+    }
+    Bound::Unbounded
+}
