@@ -26,6 +26,7 @@ use Rattle.model.specs.Positions.{run}
 use Rattle.model.specs.Answers as answers
 use Rattle.model.specs.Call.{Call, Answer, refused, done, number, value, around, position, listing, drawn, written}
 use Rattle.interval_bit_set.specs.Met.{Met}
+use Rattle.frame.specs.Frame.{Framed}
 use Rattle.interval_bit_set.specs.Lent.{itemAnswer, movedBy}
 use Rattle.interval_bit_set.specs.Out.{WritesOut}
 use Rattle.interval_bit_set.proofs.Lending.{drew-front, drew-back}
@@ -201,3 +202,8 @@ module _ {c : List ℕ → Call (List ℕ)} {w out out′ : List ℕ} where
 
   pub written-met : (a : Written) {r : CWritten} → WritesOut c w out a out′ → r ≡ writtenFlat a → WritesFlat c w out r out′
   written-met a k e = subst (λ (x : CWritten). WritesFlat c w out x out′) (sym e) (flat-writes a k)
+
+-- the same of a frame
+pub frame-met : {w cs out w′ out′ : List ℕ} (a : Completed) {r : ℕ} → Framed w cs out (answers.completedAnswer a) w′ out′ → r ≡ completedFlat a
+    → Framed w cs out (doneAnswer r) w′ out′
+frame-met {w} {cs} {out} {w′} {out′} a m e = subst (λ b. Framed w cs out b w′ out′) (completed-same a ∙ ap doneAnswer (sym e)) m

@@ -6,6 +6,7 @@ ghost use lib.ListN.{length};
 ghost use Rattle.written.specs.Listed.{pairs};
 ghost use Rattle.model.specs.Call.{Call};
 ghost use Rattle.interval_bit_set.specs.Met.{Met};
+ghost use Rattle.frame.specs.Frame.{Framed};
 ghost use Rattle.exports.specs.Flat.{boundOf, operationOf, truth, listingOf, doneAnswer, countAnswer, numberAnswer, valueAnswer, runAnswer, positionAnswer, listedAnswer, drawnAnswer, WritesFlat};
 use crate::flat::CBound;
 use crate::flat::CCount;
@@ -281,4 +282,12 @@ pub extern "C" fn vizturel_write_map(words: &[u64], base: u64, n: u64, out: &mut
     ensures { λ r. ⌜ WritesFlat (Call.writeMap base n) (now (words .entry)) (now (out .entry)) r (now (out .exit)) ⌝ }
 {
     crate::flat::written(interval_bit_set::write::write_map(words, base, n, out))
+}
+
+// Serves a list of calls, each a record of eight words, after one look at the store, and writes a record of eight words for each answer.
+#[no_mangle]
+pub extern "C" fn vizturel_frame(words: &mut [u64], calls: &[u64], answers: &mut [u64]) -> u64
+    ensures { λ r. ⌜ Framed (now (words .entry)) (now (calls .entry)) (now (answers .entry)) (doneAnswer r) (now (words .exit)) (now (answers .exit)) ⌝ }
+{
+    crate::flat::completed(frame::frame(words, calls, answers))
 }
