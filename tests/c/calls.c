@@ -320,7 +320,7 @@ static void any_record(void) {
     const vizturel_bound odd = {3, 5}, odder = {M, 6};
     size_t i, n = sizeof gets / sizeof *gets;
     only(s, WORDS, 2, 7);
-    for (i = 0; i < n; i++) list[i] = ask(gets[i], IN(7), EX(0), 0, 0);
+    for (i = 0; i < n; i++) list[i] = ask(gets[i], IN(7), IN(9), 0, 0);
     CHECK(play(n) == VIZTUREL_DONE);
     for (i = 0; i < n; i++) CHECK(is(told[i], 0, 0, 1, 0, 0, 0, 0));
     CHECK(holds(s, WORDS, 1, run));
