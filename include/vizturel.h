@@ -9,7 +9,7 @@
  * byte. Where several would hold, the first of this order is given: 1 of any store, 7 of any store, 6, 3 (under 5 bytes), 4, 3, 5, 8, 2.
  *
  *   1  a store's length is not 8 * (C + 3) words for a C from 1 to 65,536
- *   2  the output is shorter than the bytes due
+ *   2  the output is shorter than what is due
  *   3  a written set has fewer than 5 bytes, or not 5 + 16 * R
  *   4  its version byte is not 1
  *   5  a start exceeds its end, or is below the previous end + 2
@@ -259,7 +259,8 @@ typedef struct {
 
 /* Makes every call of a list in order and writes their answers into the front of a slice; the words after them stay as they were. A call
  * of the list that is refused (with 6 or 8) has changed nothing, and the next one follows. Words of calls after the last whole record are
- * not read. The whole is refused with 1, 7, or 2 where answers is too short for a record of each call: then no call was made. */
+ * not read. The whole is refused with 1 or 7 of the store before the first call, or 2 where answers is too short for a record of each call:
+ * then no call was made. */
 uint64_t vizturel_frame(uint64_t *words, size_t n, const uint64_t *calls, size_t calls_words, uint64_t *answers, size_t answers_words);
 
 /* The same over structs: count calls, and room for so many answers. */

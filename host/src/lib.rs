@@ -19,8 +19,8 @@
 //! # }
 //! ```
 //!
-//! Every call looks at the whole store first, which takes longer than most calls do. [`Set::frame`] and [`Set::play`] make a list of
-//! calls at one look.
+//! Every call looks at the whole store first, and most then need one path down its tree. [`Set::frame`] and [`Set::play`] make a list
+//! of calls after one look.
 
 use std::error;
 use std::fmt;
@@ -40,7 +40,7 @@ mod raw;
 pub enum Refusal {
     /// A store's length is not 8 × (C + 3) words for a capacity C from 1 to 65,536.
     StoreLength = 1,
-    /// The output slice is shorter than the bytes due.
+    /// The output slice is shorter than what is due.
     OutputShort = 2,
     /// A written set has fewer than 5 bytes, or not 5 + 16 × R.
     SetLength = 3,
@@ -78,7 +78,7 @@ impl fmt::Display for Refusal {
     fn fmt(&self, f: &mut fmt::Formatter) -> fmt::Result {
         f.write_str(match self {
             Refusal::StoreLength => "a store's length is not 8 × (C + 3) words for a capacity C from 1 to 65,536",
-            Refusal::OutputShort => "the output slice is shorter than the bytes due",
+            Refusal::OutputShort => "the output slice is shorter than what is due",
             Refusal::SetLength => "a written set has fewer than 5 bytes, or not 5 + 16 × R",
             Refusal::SetVersion => "a written set's version byte is not 1",
             Refusal::RunOrder => "a run's start exceeds its end, or is below the previous end + 2",

@@ -59,6 +59,8 @@ pub struct Tally {
     told: Instant,
     /// How many calls were compared.
     pub compared: u64,
+    /// How many of them were records of a frame.
+    pub listed: u64,
     /// How many of them were refused, by number.
     pub refused: [u64; 9],
 }
@@ -66,7 +68,7 @@ pub struct Tally {
 impl Tally {
     fn new(progress: bool) -> Tally {
         let now = Instant::now();
-        Tally { part: "", progress, began: now, told: now, compared: 0, refused: [0; 9] }
+        Tally { part: "", progress, began: now, told: now, compared: 0, listed: 0, refused: [0; 9] }
     }
 
     fn begin(&mut self, part: &'static str) {
@@ -119,6 +121,7 @@ impl Sequence {
             Ok(told) => {
                 tally.count(0);
                 if let Told::Answers(all, _) = told {
+                    tally.listed += all.len() as u64;
                     all.iter().for_each(|&[refusal, ..]| tally.count(refusal));
                 }
                 Ok(())
