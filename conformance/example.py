@@ -273,6 +273,53 @@ def answer(line, stores):
     return " ".join([begin, *(v.hex() if isinstance(v, bytes) else str(v) for v in values)])
 
 
+# Frames. Of each number that names a call what it takes of a record: r both bounds, x and y their values, v the truth, k the number.
+
+CALLS = {
+    1: ("new", ""), 2: ("set", "rv"), 3: ("flip", "r"), 4: ("shift", "xv"), 5: ("run_at", "x"), 6: ("find", "rv"), 7: ("count", "rv"),
+    8: ("select", "rvk"), 9: ("count_ranges", "rv"), 10: ("ranges", "rv"), 11: ("draw_front", "xyv"), 12: ("draw_back", "xyv"),
+    13: ("fill", "xy"),
+}
+
+
+def play(store, number, lower, x, upper, y, value, k, _):
+    """Makes the call that a record means, and tells the record of its answer."""
+    name, kinds = CALLS.get(number, ("get", "x"))
+    bounds = [x + (lower == 2) if lower in (1, 2) else 0, y - (upper == 2) if upper in (1, 2) else LAST]
+    given = {"r": bounds, "x": [x], "y": [y], "v": [int(value != 0)], "k": [k]}
+    try:
+        result = getattr(store, name)(*(word for kind in kinds for word in given[kind]))
+    except Refused as refused:
+        return [refused, 0, 0, 0, 0, 0, 0, 0]
+    begin = ANSWERS.get(name)
+    if result is None:
+        told = [0, 0, 0]
+    elif begin in ("number", "value"):
+        told = [result >> 64, result & LAST, 0]
+    elif begin == "at":
+        told = [1, result, 0]
+    elif begin == "run":
+        told = [0, *result]
+    else:  # a run, if one was drawn, and a listing
+        told = [1, *result] if len(result) == 5 else [0, 0, 0, *result]
+    return [0, *told] + [0] * (7 - len(told))
+
+
+def frame(lines, store, count, room):
+    """The answers to a frame and to its records, which are the next lines."""
+    records = [[int(word) for word in next(lines).split()[1:]] for _ in range(count)]
+    try:
+        store.look()
+        require(count <= room, 2)
+    except Refused as refused:
+        return [f"refused {refused}"] + ["-"] * count
+    return ["done"] + [" ".join(["record", *map(str, play(store, *record))]) for record in records]
+
+
 four = [Store() for _ in range(4)]
 for call in sys.stdin:
-    print(answer(call, four))
+    if call.startswith("frame "):
+        at, *numbers = map(int, call.split()[1:])
+        print(*frame(sys.stdin, four[at], *numbers), sep="\n")
+    else:
+        print(answer(call, four))

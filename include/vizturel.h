@@ -9,7 +9,7 @@
  * byte. Where several would hold, the first of this order is given: 1 of any store, 7 of any store, 6, 3 (under 5 bytes), 4, 3, 5, 8, 2.
  *
  *   1  a store's length is not 8 * (C + 3) words for a C from 1 to 65,536
- *   2  the output is shorter than the bytes due
+ *   2  the output is shorter than what is due
  *   3  a written set has fewer than 5 bytes, or not 5 + 16 * R
  *   4  its version byte is not 1
  *   5  a start exceeds its end, or is below the previous end + 2
@@ -18,7 +18,7 @@
  *   8  the result would have more than C runs
  *
  * A store that is only overwritten (new, load, build, combine, not, shifted) may hold anything, and is refused with 1 alone.
- * Link libexports.a, which `rt staticlib exports` writes to target/staticlib/.
+ * Link libexports.a, which `rt staticlib exports` writes to target/staticlib/. docs/CALLS.md has every call with its cost.
  */
 #ifndef VIZTUREL_H
 #define VIZTUREL_H
@@ -202,6 +202,71 @@ vizturel_written vizturel_write_map(const uint64_t *words, size_t count, uint64_
 
 /* Sets the window from a map, leaves the other positions, and tells how many changed; spare bits are ignored. Refused with 1, 7, 6, 8. */
 vizturel_counted vizturel_read_map(uint64_t *words, size_t count, uint64_t base, uint64_t length, const uint8_t *bytes, size_t bytes_count);
+
+/* ---- a frame's calls at once: one look at the store, then every call of a list on it */
+
+/* Which call a record is: these, and any other number is a get. */
+enum vizturel_call_number {
+    VIZTUREL_CALL_GET = 0,
+    VIZTUREL_CALL_NEW = 1,
+    VIZTUREL_CALL_SET = 2,
+    VIZTUREL_CALL_FLIP = 3,
+    VIZTUREL_CALL_SHIFT = 4,
+    VIZTUREL_CALL_RUN_AT = 5,
+    VIZTUREL_CALL_FIND = 6,
+    VIZTUREL_CALL_COUNT = 7,
+    VIZTUREL_CALL_SELECT = 8,
+    VIZTUREL_CALL_COUNT_RANGES = 9,
+    VIZTUREL_CALL_RANGES = 10,
+    VIZTUREL_CALL_DRAW_FRONT = 11,
+    VIZTUREL_CALL_DRAW_BACK = 12,
+    VIZTUREL_CALL_FILL = 13
+};
+
+/* A call as a record of eight words; what the call has no use for is not looked at.
+ *   lower.value  also the position of get and run_at, the distance of shift, the base of fill, the first position of a draw's listing
+ *   upper.value  also the length of fill, the last position of a draw's listing
+ *   value        anything but 0 is true; a shift goes up (left) then
+ *   k            of select */
+typedef struct {
+    uint64_t call;
+    vizturel_bound lower;
+    vizturel_bound upper;
+    uint64_t value;
+    uint64_t k;
+    uint64_t unused;
+} vizturel_call;
+
+/* An answer as a record of eight words, zeros where the call tells nothing. A refused call tells its refusal alone.
+ *   set, count           found * 2^64 + number positions
+ *   count_ranges, fill   number
+ *   get                  number, 0 or 1
+ *   run_at               the run number .. end
+ *   find, select         position number, where found is 1
+ *   ranges               a listing: first, last and value
+ *   draw_front, _back    the run number .. end, where found is 1, and the listing that is left
+ *   new, flip, shift     nothing */
+typedef struct {
+    uint64_t refusal;
+    uint64_t found;
+    uint64_t number;
+    uint64_t end;
+    uint64_t first;
+    uint64_t last;
+    uint64_t value;
+    uint64_t unused; /* 0 */
+} vizturel_answer;
+
+/* Makes every call of a list in order and writes their answers into the front of a slice; the words after them stay as they were. A call
+ * of the list that is refused (with 6 or 8) has changed nothing, and the next one follows. Words of calls after the last whole record are
+ * not read. The whole is refused with 1 or 7 of the store before the first call, or 2 where answers is too short for a record of each call:
+ * then no call was made. */
+uint64_t vizturel_frame(uint64_t *words, size_t n, const uint64_t *calls, size_t calls_words, uint64_t *answers, size_t answers_words);
+
+/* The same over structs: count calls, and room for so many answers. */
+static inline uint64_t vizturel_play(uint64_t *words, size_t n, const vizturel_call *calls, size_t count, vizturel_answer *answers, size_t room) {
+    return vizturel_frame(words, n, (const uint64_t *)(const void *)calls, 8 * count, (uint64_t *)(void *)answers, 8 * room);
+}
 
 #ifdef __cplusplus
 }

@@ -18,6 +18,9 @@
 //! # Ok(())
 //! # }
 //! ```
+//!
+//! Every call looks at the whole store first, and most then need one path down its tree. [`Set::frame`] and [`Set::play`] make a list
+//! of calls after one look.
 
 use std::error;
 use std::fmt;
@@ -26,6 +29,7 @@ use std::ops::{Bound, RangeBounds, RangeInclusive};
 pub mod bench;
 pub mod conformance;
 pub mod differential;
+pub mod frame;
 /// IntervalBitSet as published (see NOTICE), not a byte changed. It has all that was published with it, so nothing had to be added.
 #[rustfmt::skip]
 pub mod oracle;
@@ -37,7 +41,7 @@ mod raw;
 pub enum Refusal {
     /// A store's length is not 8 × (C + 3) words for a capacity C from 1 to 65,536.
     StoreLength = 1,
-    /// The output slice is shorter than the bytes due.
+    /// The output slice is shorter than what is due.
     OutputShort = 2,
     /// A written set has fewer than 5 bytes, or not 5 + 16 × R.
     SetLength = 3,
@@ -75,7 +79,7 @@ impl fmt::Display for Refusal {
     fn fmt(&self, f: &mut fmt::Formatter) -> fmt::Result {
         f.write_str(match self {
             Refusal::StoreLength => "a store's length is not 8 × (C + 3) words for a capacity C from 1 to 65,536",
-            Refusal::OutputShort => "the output slice is shorter than the bytes due",
+            Refusal::OutputShort => "the output slice is shorter than what is due",
             Refusal::SetLength => "a written set has fewer than 5 bytes, or not 5 + 16 × R",
             Refusal::SetVersion => "a written set's version byte is not 1",
             Refusal::RunOrder => "a run's start exceeds its end, or is below the previous end + 2",
@@ -257,6 +261,54 @@ impl<S: AsMut<[u64]>> Set<S> {
     pub fn shift(&mut self, distance: u64, left: bool) -> Answer<()> {
         let w = self.words.as_mut();
         answer(unsafe { raw::vizturel_shift(w.as_mut_ptr(), w.len(), distance, left.into()) }, ())
+    }
+
+    /// Makes every call of a list, in order, and tells what each answers: see [`frame`]. A call of the list that is refused changes
+    /// nothing, and the next one follows.
+    ///
+    /// ```
+    /// use vizturel::frame::{Call, Reply};
+    /// use vizturel::{Refusal, SetBuf};
+    /// # fn main() -> Result<(), vizturel::Refusal> {
+    /// let mut slots = SetBuf::with_capacity(1)?;
+    /// let told = slots.frame(&[Call::set(2..8, true), Call::set(4..6, false), Call::find(4.., false)])?;
+    /// assert_eq!(told, [Ok(Reply::Count(6)), Err(Refusal::Capacity), Ok(Reply::Position(Some(8)))]);
+    /// # Ok(())
+    /// # }
+    /// ```
+    pub fn frame(&mut self, calls: &[frame::Call]) -> Answer<Vec<Answer<frame::Reply>>> {
+        let asked: Vec<frame::CallRecord> = calls.iter().map(|&call| call.into()).collect();
+        let mut answers = vec![frame::AnswerRecord::default(); calls.len()];
+        self.play(&asked, &mut answers)?;
+        Ok(calls.iter().zip(&answers).map(|(&call, told)| told.reply(call)).collect())
+    }
+
+    /// The same over lent records, without allocating: the answers are the front of the lent slice, and that part is handed back.
+    /// Refused with 2 where there are fewer answers than calls; then no call was made.
+    pub fn play<'o>(
+        &mut self,
+        calls: &[frame::CallRecord],
+        answers: &'o mut [frame::AnswerRecord],
+    ) -> Answer<&'o mut [frame::AnswerRecord]> {
+        let (asked, told) = (frame::words_of_calls(calls), frame::words_of_answers(answers));
+        self.play_words(asked, told)?;
+        Ok(&mut answers[..calls.len()])
+    }
+
+    // Over words, of which there may be any number.
+    fn play_words(&mut self, calls: &[u64], answers: &mut [u64]) -> Answer<()> {
+        let w = self.words.as_mut();
+        let refusal = unsafe {
+            raw::vizturel_frame(
+                w.as_mut_ptr(),
+                w.len(),
+                calls.as_ptr(),
+                calls.len(),
+                answers.as_mut_ptr(),
+                answers.len(),
+            )
+        };
+        answer(refusal, ())
     }
 
     /// Sets the window of n positions from base on as a map says, and tells how many positions changed. Refused with 6 or 8.

@@ -26,15 +26,22 @@ fn the_library_answers_every_list() {
         let (calls, answers) = (pack(list.name, "calls"), pack(list.name, "answers"));
         assert_eq!(calls.lines().count(), answers.lines().count(), "{}", list.name);
         let mut library = Library { stores: vec![Vec::new(); STORES] };
-        for (i, (line, right)) in calls.lines().zip(answers.lines()).enumerate() {
-            let at = format!("{}.calls, line {}: {line}", list.name, i + 1);
-            let call = text::read(line).unwrap_or_else(|| panic!("{at}"));
-            assert_eq!(text::write(&call), line, "{at}");
+        let mut asked = calls.lines();
+        let mut right = answers.lines();
+        let mut line = 1;
+        while asked.clone().next().is_some() {
+            let rest = asked.clone();
+            let at = format!("{}.calls, line {line}: {:?}", list.name, rest.clone().next());
+            let call = text::read(&mut asked).unwrap_or_else(|| panic!("{at}"));
+            let lines = rest.clone().count() - asked.clone().count();
+            assert_eq!(text::write(&call), rest.take(lines).collect::<Vec<_>>().join("\n"), "{at}");
+            let due = right.by_ref().take(lines).collect::<Vec<_>>().join("\n");
             let before = library.stores.clone();
-            assert_eq!(text::tell(&library.answer(&call)), right, "{at}");
-            assert!(!right.starts_with("refused") || library.stores == before, "{at}: refused, and changed words");
-            count += 1;
+            assert_eq!(text::tell(&call, &library.answer(&call)), due, "{at}");
+            assert!(!due.starts_with("refused") || library.stores == before, "{at}: refused, and changed words");
+            line += lines;
         }
+        count += line - 1;
     }
-    assert!(count > 5000, "only {count} calls");
+    assert!(count > 5000, "only {count} lines");
 }

@@ -1,11 +1,35 @@
-/* The library through include/vizturel.h: the sixteen cases of the scope document, each refusal, and that a refused call changes nothing.
- * Compiled as C and as C++. Prints what failed, and last 'N passed, M failed'. */
+/* The library through include/vizturel.h: the sixteen cases of the scope document, each refusal, that a refused call changes nothing, and
+ * calls by lists. Compiled as C and as C++. Prints what failed, and last 'N passed, M failed'. */
 #include <stdio.h>
 #include <stdlib.h>
 #include <string.h>
 #include "vizturel.h"
 
 #define M UINT64_MAX
+#ifdef __cplusplus
+#define ASSERT static_assert
+#else
+#define ASSERT _Static_assert
+#endif
+#define WORD(type, field, i) ASSERT(offsetof(type, field) == 8 * (i), "word " #i " of " #type)
+
+/* records are eight words, in the order that the proved code reads and writes */
+ASSERT(sizeof(vizturel_call) == 64 && sizeof(vizturel_answer) == 64, "a record has eight words");
+WORD(vizturel_call, call, 0);
+WORD(vizturel_call, lower.kind, 1);
+WORD(vizturel_call, lower.value, 2);
+WORD(vizturel_call, upper.kind, 3);
+WORD(vizturel_call, upper.value, 4);
+WORD(vizturel_call, value, 5);
+WORD(vizturel_call, k, 6);
+WORD(vizturel_answer, refusal, 0);
+WORD(vizturel_answer, found, 1);
+WORD(vizturel_answer, number, 2);
+WORD(vizturel_answer, end, 3);
+WORD(vizturel_answer, first, 4);
+WORD(vizturel_answer, last, 5);
+WORD(vizturel_answer, value, 6);
+
 #define CAPACITY 13
 #define WORDS VIZTUREL_WORDS(CAPACITY)
 
@@ -197,9 +221,175 @@ static void refusals(void) {
     CHECK(memcmp(kept, s, sizeof s) == 0);
 }
 
+/* ---- lists of calls */
+
+static vizturel_call ask(uint64_t call, vizturel_bound lower, vizturel_bound upper, uint64_t value, uint64_t k) {
+    vizturel_call c = {call, lower, upper, value, k, 99};
+    return c;
+}
+
+static int is(vizturel_answer a, uint64_t refusal, uint64_t found, uint64_t number, uint64_t end, uint64_t first, uint64_t last, uint64_t value) {
+    return a.refusal == refusal && a.found == found && a.number == number && a.end == end && a.first == first && a.last == last &&
+           a.value == value && a.unused == 0;
+}
+
+#define MANY 24
+static vizturel_call list[MANY];
+static vizturel_answer told[MANY + 1], stale[MANY + 1];
+
+/* plays the first n calls of the list on the store s, with room for one answer more: that one stays as it was */
+static uint64_t play(size_t n) {
+    uint64_t refusal;
+    memset(stale, 0xEE, sizeof stale);
+    memcpy(told, stale, sizeof told);
+    refusal = vizturel_play(s, WORDS, list, n, told, n + 1);
+    CHECK(memcmp(told + n, stale + n, sizeof *told) == 0);
+    return refusal;
+}
+
+/* every kind of call, and what each tells */
+static void every_call(void) {
+    size_t n = 0;
+    only(s, WORDS, 40, 49);
+    list[n++] = ask(VIZTUREL_CALL_NEW, IN(1), EX(2), 3, 4);
+    list[n++] = ask(VIZTUREL_CALL_SET, IN(2), EX(8), 1, 0);
+    list[n++] = ask(VIZTUREL_CALL_SET, IN(10), IN(14), M, 0);
+    list[n++] = ask(VIZTUREL_CALL_GET, IN(7), ALL, 0, 0);
+    list[n++] = ask(VIZTUREL_CALL_GET, EX(8), ALL, 0, 0);
+    list[n++] = ask(VIZTUREL_CALL_RUN_AT, IN(9), ALL, 0, 0);
+    list[n++] = ask(VIZTUREL_CALL_FIND, IN(4), ALL, 0, 0);
+    list[n++] = ask(VIZTUREL_CALL_FIND, IN(2), EX(8), 0, 0);
+    list[n++] = ask(VIZTUREL_CALL_COUNT, ALL, ALL, 1, 0);
+    list[n++] = ask(VIZTUREL_CALL_SELECT, IN(4), EX(12), 1, 4);
+    list[n++] = ask(VIZTUREL_CALL_SELECT, IN(4), EX(12), 1, 6);
+    list[n++] = ask(VIZTUREL_CALL_COUNT_RANGES, IN(4), EX(12), 1, 0);
+    list[n++] = ask(VIZTUREL_CALL_RANGES, IN(4), EX(12), 7, 0);
+    list[n++] = ask(VIZTUREL_CALL_DRAW_FRONT, IN(4), IN(11), 7, 0);
+    list[n++] = ask(VIZTUREL_CALL_DRAW_BACK, IN(4), IN(11), 0, 0);
+    list[n++] = ask(VIZTUREL_CALL_DRAW_FRONT, IN(15), IN(M), 1, 0);
+    list[n++] = ask(VIZTUREL_CALL_FILL, IN(0), IN(3), 0, 0);
+    list[n++] = ask(VIZTUREL_CALL_FLIP, IN(4), EX(12), 0, 0);
+    list[n++] = ask(VIZTUREL_CALL_SHIFT, IN(2), ALL, 0, 0);
+    list[n++] = ask(VIZTUREL_CALL_SHIFT, IN(5), ALL, 2, 0);
+    list[n++] = ask(VIZTUREL_CALL_COUNT, ALL, ALL, 0, 0);
+    list[n++] = ask(VIZTUREL_CALL_FLIP, ALL, ALL, 0, 0);
+    list[n++] = ask(VIZTUREL_CALL_SET, ALL, ALL, 1, 0);
+    list[n++] = ask(VIZTUREL_CALL_SET, EX(M), ALL, 0, 0);
+    CHECK(n == MANY);
+    CHECK(play(MANY) == VIZTUREL_DONE);
+    CHECK(is(told[0], 0, 0, 0, 0, 0, 0, 0));
+    CHECK(is(told[1], 0, 0, 6, 0, 0, 0, 0));
+    CHECK(is(told[2], 0, 0, 5, 0, 0, 0, 0));
+    CHECK(is(told[3], 0, 0, 1, 0, 0, 0, 0));
+    CHECK(is(told[4], 0, 0, 0, 0, 0, 0, 0));
+    CHECK(is(told[5], 0, 0, 8, 9, 0, 0, 0));
+    CHECK(is(told[6], 0, 1, 8, 0, 0, 0, 0));
+    CHECK(is(told[7], 0, 0, 0, 0, 0, 0, 0));
+    CHECK(is(told[8], 0, 0, 11, 0, 0, 0, 0));
+    CHECK(is(told[9], 0, 1, 10, 0, 0, 0, 0));
+    CHECK(is(told[10], 0, 0, 0, 0, 0, 0, 0));
+    CHECK(is(told[11], 0, 0, 2, 0, 0, 0, 0));
+    CHECK(is(told[12], 0, 0, 0, 0, 4, 11, 1));
+    CHECK(is(told[13], 0, 1, 4, 7, 8, 11, 1));
+    CHECK(is(told[14], 0, 1, 8, 9, 4, 7, 0));
+    CHECK(is(told[15], 0, 0, 0, 0, 1, 0, 1));
+    CHECK(is(told[16], 0, 0, 333, 0, 0, 0, 0));
+    /* the flip leaves 2 3, 8 9 and 12 .. 14; after both shifts these seven are 5 6, 11 12 and 15 .. 17 */
+    CHECK(is(told[17], 0, 0, 0, 0, 0, 0, 0));
+    CHECK(is(told[18], 0, 0, 0, 0, 0, 0, 0));
+    CHECK(is(told[19], 0, 0, 0, 0, 0, 0, 0));
+    CHECK(is(told[20], 0, 0, M - 6, 0, 0, 0, 0));
+    CHECK(is(told[21], 0, 0, 0, 0, 0, 0, 0));
+    CHECK(is(told[22], 0, 0, 7, 0, 0, 0, 0));
+    CHECK(is(told[23], 0, 0, 0, 0, 0, 0, 0));
+    /* all 2^64 positions: a carry */
+    list[0] = ask(VIZTUREL_CALL_COUNT, ALL, ALL, 1, 0);
+    list[1] = ask(VIZTUREL_CALL_SET, ALL, ALL, 0, 0);
+    list[2] = ask(VIZTUREL_CALL_COUNT, ALL, ALL, 1, 0);
+    CHECK(play(3) == VIZTUREL_DONE);
+    CHECK(is(told[0], 0, 1, 0, 0, 0, 0, 0));
+    CHECK(is(told[1], 0, 1, 0, 0, 0, 0, 0));
+    CHECK(is(told[2], 0, 0, 0, 0, 0, 0, 0));
+    CHECK(holds(s, WORDS, 0, NULL));
+}
+
+/* every record means a call: numbers that name none are gets, bounds of other kinds are none */
+static void any_record(void) {
+    static const uint64_t gets[] = {0, 14, 15, 258, (UINT64_C(1) << 32) + 2, (UINT64_C(1) << 63) + 2, M};
+    static const uint64_t run[] = {2, 7};
+    const vizturel_bound odd = {3, 5}, odder = {M, 6};
+    size_t i, n = sizeof gets / sizeof *gets;
+    only(s, WORDS, 2, 7);
+    for (i = 0; i < n; i++) list[i] = ask(gets[i], IN(7), IN(9), 0, 0);
+    CHECK(play(n) == VIZTUREL_DONE);
+    for (i = 0; i < n; i++) CHECK(is(told[i], 0, 0, 1, 0, 0, 0, 0));
+    CHECK(holds(s, WORDS, 1, run));
+    list[0] = ask(VIZTUREL_CALL_COUNT, odd, odder, 1, 0);
+    list[1] = ask(VIZTUREL_CALL_COUNT, IN(4), odder, 1, 0);
+    list[2] = ask(VIZTUREL_CALL_COUNT, odd, EX(4), 1, 0);
+    CHECK(play(3) == VIZTUREL_DONE);
+    CHECK(is(told[0], 0, 0, 6, 0, 0, 0, 0) && is(told[1], 0, 0, 4, 0, 0, 0, 0) && is(told[2], 0, 0, 2, 0, 0, 0, 0));
+}
+
+static void refused_lists(void) {
+    static const uint64_t left[] = {2, 3, 6, 6};
+    uint64_t few[2 * 8 - 1], same[2 * 8 - 1];
+    size_t i;
+    /* refused calls of a list go by, and the next ones are made */
+    only(one, VIZTUREL_WORDS(1), 2, 7);
+    list[0] = ask(VIZTUREL_CALL_SET, IN(4), EX(6), 0, 0);
+    list[1] = ask(VIZTUREL_CALL_FILL, IN(M), IN(2), 0, 0);
+    list[2] = ask(VIZTUREL_CALL_FLIP, IN(4), EX(6), 0, 0);
+    list[3] = ask(VIZTUREL_CALL_SET, IN(2), EX(4), 0, 0);
+    memset(told, 0xEE, sizeof told);
+    CHECK(vizturel_play(one, VIZTUREL_WORDS(1), list, 4, told, 4) == VIZTUREL_DONE);
+    CHECK(is(told[0], VIZTUREL_CAPACITY, 0, 0, 0, 0, 0, 0));
+    CHECK(is(told[1], VIZTUREL_WINDOW, 0, 0, 0, 0, 0, 0));
+    CHECK(is(told[2], VIZTUREL_CAPACITY, 0, 0, 0, 0, 0, 0));
+    CHECK(is(told[3], 0, 0, 2, 0, 0, 0, 0));
+    CHECK(is_run(vizturel_run_at(one, VIZTUREL_WORDS(1), 5), 4, 7));
+
+    /* the whole refused: no word of the store and none of the answers has changed */
+    only(s, WORDS, 2, 7);
+    memcpy(kept, s, sizeof s);
+    list[0] = ask(VIZTUREL_CALL_NEW, ALL, ALL, 0, 0);
+    list[1] = ask(VIZTUREL_CALL_SET, ALL, ALL, 1, 0);
+    memset(told, 0xEE, sizeof told);
+    CHECK(vizturel_play(s, WORDS - 1, list, 2, told, 2) == VIZTUREL_STORE_LENGTH);
+    CHECK(vizturel_play(s, 24, list, 0, told, 0) == VIZTUREL_STORE_LENGTH);
+    CHECK(vizturel_play(s, WORDS, list, 2, told, 1) == VIZTUREL_OUTPUT_SHORT);
+    CHECK(vizturel_play(s, WORDS, list, 1, told, 0) == VIZTUREL_OUTPUT_SHORT);
+    for (i = 0; i < 2 * 8 - 1; i++) few[i] = same[i] = 9;
+    CHECK(vizturel_frame(s, WORDS, (const uint64_t *)(const void *)list, 2 * 8, few, 2 * 8 - 1) == VIZTUREL_OUTPUT_SHORT);
+    CHECK(memcmp(few, same, sizeof same) == 0);
+    CHECK(memcmp(kept, s, sizeof s) == 0);
+    CHECK(vizturel_play(s, WORDS, list, 0, told, 0) == VIZTUREL_DONE);
+    CHECK(vizturel_play(s, WORDS, list, 0, NULL, 0) == VIZTUREL_DONE);
+    /* words after the last whole record are no call, and need no room */
+    list[0] = ask(VIZTUREL_CALL_SET, IN(4), EX(6), 0, 0);
+    list[1] = ask(VIZTUREL_CALL_SET, IN(7), IN(7), 0, 0);
+    CHECK(vizturel_frame(s, WORDS, (const uint64_t *)(const void *)list, 3 * 8 - 1, few, 2 * 8 - 1) == VIZTUREL_OUTPUT_SHORT);
+    CHECK(vizturel_frame(s, WORDS, (const uint64_t *)(const void *)list, 2 * 8 - 1, few, 2 * 8 - 1) == VIZTUREL_DONE);
+    CHECK(few[0] == 0 && few[1] == 0 && few[2] == 2 && few[7] == 0 && memcmp(few + 8, same + 8, 7 * sizeof *few) == 0);
+    CHECK(vizturel_frame(s, WORDS, (const uint64_t *)(const void *)(list + 1), 8, few, 8) == VIZTUREL_DONE);
+    CHECK(few[2] == 1 && holds(s, WORDS, 2, left));
+    CHECK(vizturel_frame(s, WORDS, (const uint64_t *)(const void *)list, 7, NULL, 0) == VIZTUREL_DONE);
+    s[3]++;
+    memcpy(kept, s, sizeof s);
+    list[0] = ask(VIZTUREL_CALL_NEW, ALL, ALL, 0, 0);
+    CHECK(play(1) == VIZTUREL_UNSOUND);
+    CHECK(memcmp(told, stale, sizeof told) == 0);
+    CHECK(vizturel_play(s, WORDS, list, 1, told, 0) == VIZTUREL_UNSOUND);
+    CHECK(vizturel_play(s, WORDS, list, 0, told, 0) == VIZTUREL_UNSOUND);
+    CHECK(memcmp(kept, s, sizeof s) == 0);
+}
+
 int main(void) {
     cases();
     refusals();
+    every_call();
+    any_record();
+    refused_lists();
     printf("%d passed, %d failed\n", passed, failed);
     return failed != 0;
 }

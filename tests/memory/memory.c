@@ -91,12 +91,14 @@ static uint64_t chance(uint64_t n) {
 
 /* a sound store that is lent beside the damaged one, one to be made of it, and sound slices */
 static store partner, receiver;
-static slice out, map, set_bytes, run_words;
+static slice out, map, set_bytes, run_words, calls, told_calls;
 static size_t set_length;
 
 #define MAP_LENGTH 100
 #define MAP_BYTES ((MAP_LENGTH + 7) / 8)
 #define LIST_RUNS 3
+#define CALLS 15 /* each call of a frame once, and a number that names none */
+#define RECORD sizeof(vizturel_call)
 
 static const vizturel_bound lowers[] = {{0, 0}, {1, 0}, {1, 40}, {2, M}, {1, M}, {1, UINT64_C(1) << 63}};
 static const vizturel_bound uppers[] = {{0, 0}, {2, 0}, {1, 90}, {1, 3}, {1, M}, {2, UINT64_C(1) << 63}};
@@ -137,26 +139,44 @@ static void reading_calls(store s, uint64_t told) {
     CHECK(told ? r == told : r == 0 || r == VIZTUREL_CAPACITY);
 }
 
+static int is_stale(slice s, size_t bytes) {
+    size_t i;
+    for (i = 0; i < bytes; i++) {
+        if (s.at[i] != 0xEE) return 0;
+    }
+    return 1;
+}
+
+/* Every call at once; told as before. A refused frame has written no answer. */
+static uint64_t frame(store s, uint64_t told) {
+    uint64_t refusal;
+    memset(told_calls.at, 0xEE, CALLS * RECORD);
+    refusal = vizturel_play(s.words, s.count, (const vizturel_call *)(void *)calls.at, CALLS, (vizturel_answer *)(void *)told_calls.at, CALLS);
+    CHECK(refusal == told && is_stale(told_calls, CALLS * RECORD) == (told != 0));
+    return refusal;
+}
+
 /* Every call that changes the store, each on the same words; told as before. A refused one has changed none of them. */
 static void changing_calls(store s, const uint64_t *damaged, uint64_t told) {
     uint64_t v = chance(2), x = chance(2) ? chance(120) : chance(M), refusal = 0;
     vizturel_bound lower = lowers[chance(RANGES)], upper = uppers[chance(RANGES)];
     int which;
-    for (which = 0; which < 10; which++) {
+    for (which = 0; which < 11; which++) {
         switch (which) {
         case 0: refusal = vizturel_set(s.words, s.count, lower, upper, v).refusal; break;
         case 1: refusal = vizturel_flip(s.words, s.count, lower, upper); break;
         case 2: refusal = vizturel_shift(s.words, s.count, x, v); break;
         case 3: refusal = vizturel_read_map(s.words, s.count, x / 2, MAP_LENGTH, map.at, MAP_BYTES).refusal; break;
+        case 4: refusal = frame(s, told); break;
         /* these look at no word of it */
-        case 4: refusal = vizturel_new(s.words, s.count); break;
-        case 5: refusal = vizturel_load(s.words, s.count, set_bytes.at, set_length); break;
-        case 6: refusal = vizturel_build(s.words, s.count, (const uint64_t *)(void *)run_words.at, 2 * LIST_RUNS); break;
-        case 7: refusal = vizturel_combine(s.words, s.count, v, partner.words, partner.count, partner.words, partner.count); break;
-        case 8: refusal = vizturel_not(s.words, s.count, partner.words, partner.count); break;
-        case 9: refusal = vizturel_shifted(s.words, s.count, x, v, partner.words, partner.count); break;
+        case 5: refusal = vizturel_new(s.words, s.count); break;
+        case 6: refusal = vizturel_load(s.words, s.count, set_bytes.at, set_length); break;
+        case 7: refusal = vizturel_build(s.words, s.count, (const uint64_t *)(void *)run_words.at, 2 * LIST_RUNS); break;
+        case 8: refusal = vizturel_combine(s.words, s.count, v, partner.words, partner.count, partner.words, partner.count); break;
+        case 9: refusal = vizturel_not(s.words, s.count, partner.words, partner.count); break;
+        case 10: refusal = vizturel_shifted(s.words, s.count, x, v, partner.words, partner.count); break;
         }
-        if (told == VIZTUREL_STORE_LENGTH || (told == VIZTUREL_UNSOUND && which < 4)) {
+        if (told == VIZTUREL_STORE_LENGTH || (told == VIZTUREL_UNSOUND && which < 5)) {
             CHECK(refusal == told);
         } else {
             CHECK(refusal == 0 || refusal == VIZTUREL_CAPACITY);
@@ -296,6 +316,27 @@ static void damaged_bytes(void) {
     give_back(s.lent);
 }
 
+/* Lists of calls, of any words, and slices for their answers: each of every number of words up to 40. */
+static void frame_lengths(void) {
+    store s = lend_store(VIZTUREL_WORDS(3));
+    size_t length, room, i;
+    fill_store(s, 3, 2);
+    for (length = 0; length <= 40; length++) {
+        slice list = lend(8 * length);
+        uint64_t *words = (uint64_t *)(void *)list.at;
+        for (i = 0; i < length; i++) words[i] = chance(2) ? chance(16) : chance(M);
+        writable(list, 0);
+        for (room = 0; room <= 40; room++) {
+            slice answered = lend(8 * room);
+            uint64_t r = vizturel_frame(s.words, s.count, words, length, (uint64_t *)(void *)answered.at, room);
+            CHECK(r == (room / 8 < length / 8 ? VIZTUREL_OUTPUT_SHORT : 0));
+            give_back(answered);
+        }
+        give_back(list);
+    }
+    give_back(s.lent);
+}
+
 /* One word less than the count says is lent, at the end or, where only the start is watched, before it. */
 static void breach(int write) {
     size_t count = VIZTUREL_WORDS(1);
@@ -340,10 +381,19 @@ int main(int argc, char **argv) {
     memset(set_bytes.at, 0, set_length);
     set_bytes.at[0] = set_bytes.at[4] = 1;
     set_bytes.at[20] = 9;
+    calls = lend(CALLS * RECORD);
+    told_calls = lend(CALLS * RECORD);
+    for (i = 0; i < CALLS; i++) {
+        /* the new store last, so that the others have the damaged one */
+        vizturel_call c = {(i + 2) % CALLS, IN(9 * i), IN(9 * i + 40), i % 2, i, M};
+        ((vizturel_call *)(void *)calls.at)[i] = c;
+    }
+    writable(calls, 0);
 
     for (i = 0; i < sizeof capacities / sizeof *capacities; i++) damaged_stores(capacities[i], stride);
     wrong_lengths();
     damaged_bytes();
+    frame_lengths();
     /* a test that met no sound store, or no damaged one, would have tested nothing */
     CHECK(sound > 100 && unsound > 1000);
     printf("%ld sound stores and %ld others\n", sound, unsound);

@@ -21,7 +21,7 @@ fn main() -> ExitCode {
             eprintln!("{}: {why}", folder.display());
             return ExitCode::FAILURE;
         }
-        println!("{}: {} calls", list.name, list.calls.lines().count());
+        println!("{}: {} lines", list.name, list.calls.lines().count());
     }
     ExitCode::SUCCESS
 }

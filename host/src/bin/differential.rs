@@ -36,6 +36,7 @@ fn main() -> ExitCode {
             for (number, count) in tally.refused.iter().enumerate().skip(1) {
                 println!("refused with {number}: {count}");
             }
+            println!("in frames: {}", tally.listed);
             println!("{} calls compared, 0 unequal", tally.compared);
             ExitCode::SUCCESS
         }

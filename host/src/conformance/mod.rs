@@ -8,6 +8,7 @@ use crate::differential::calls::{Call, Told};
 use crate::differential::chance::{self, Kind};
 use crate::differential::expected::{Expected, Store};
 use crate::differential::random::Random;
+use crate::differential::records;
 use crate::differential::reference::Run;
 
 /// How many stores a list has.
@@ -21,6 +22,8 @@ const CAPACITY: usize = 64;
 const SLICE: usize = 5 + 16 * CAPACITY;
 /// The most bytes of a map.
 const MAP: usize = 1024;
+/// The most calls of a frame, and answers that there is room for.
+const CALLS: usize = 64;
 
 /// A list of calls, and their answers.
 pub struct List {
@@ -38,14 +41,19 @@ fn fits(call: &Call) -> bool {
         Call::Build { runs, .. } => runs.len() <= CAPACITY,
         Call::ReadMap { map, .. } => map.len() <= MAP,
         Call::Write { room, .. } | Call::WriteMap { room, .. } => *room <= SLICE,
+        Call::Frame { calls, room, .. } => {
+            [calls.len(), *room].iter().all(|n| n % records::WORDS == 0 && n / records::WORDS <= CALLS)
+        }
         _ => true,
     }
 }
 
-fn push(lines: &mut String, line: &str) {
-    assert!(line.len() < LINE, "a line of {} bytes", line.len());
-    lines.push_str(line);
-    lines.push('\n');
+fn push(lines: &mut String, more: &str) {
+    for line in more.lines() {
+        assert!(line.len() < LINE, "a line of {} bytes", line.len());
+        lines.push_str(line);
+        lines.push('\n');
+    }
 }
 
 impl List {
@@ -59,14 +67,16 @@ impl List {
         assert!(fits(call), "beyond the limits: {call:?}");
         let told = self.expected.answer(call);
         push(&mut self.calls, &text::write(call));
-        push(&mut self.answers, &text::tell(&told));
+        push(&mut self.answers, &text::tell(call, &told));
         told
     }
 
     // Adds calls, one in each line; a line that begins with # is left out.
     fn say(&mut self, lines: &str) {
-        for line in lines.lines().map(str::trim).filter(|line| !line.is_empty() && !line.starts_with('#')) {
-            let call = text::read(line).unwrap_or_else(|| panic!("no call: {line}"));
+        let lines = lines.lines().map(str::trim).filter(|line| !line.is_empty() && !line.starts_with('#'));
+        let mut lines = lines.peekable();
+        while let Some(&line) = lines.peek() {
+            let call = text::read(&mut lines).unwrap_or_else(|| panic!("no call: {line}"));
             self.call(&call);
         }
     }

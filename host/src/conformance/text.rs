@@ -4,6 +4,7 @@ use std::ops::Bound;
 use std::str::{FromStr, Split};
 
 use crate::differential::calls::{Call, Range, SPARE, Told};
+use crate::differential::records::{self, Record};
 use crate::{Listing, Operation};
 
 struct Words<'a>(Split<'a, char>);
@@ -43,6 +44,15 @@ impl<'a> Words<'a> {
         bytes.map(|i| u8::from_str_radix(digits.get(2 * i..2 * i + 2)?, 16).ok()).collect()
     }
 
+    fn record(&mut self) -> Option<Record> {
+        self.word().filter(|&name| name == "record")?;
+        let mut record = [0; records::WORDS];
+        for word in &mut record {
+            *word = self.number()?;
+        }
+        self.word().is_none().then_some(record)
+    }
+
     fn operation(&mut self) -> Option<Operation> {
         let word = self.word()?;
         OPERATIONS.iter().find(|(name, _)| *name == word).map(|&(_, op)| op)
@@ -51,9 +61,9 @@ impl<'a> Words<'a> {
 
 const OPERATIONS: [(&str, Operation); 3] = [("and", Operation::And), ("or", Operation::Or), ("xor", Operation::Xor)];
 
-/// The call of a line, or none where it is not one.
-pub fn read(line: &str) -> Option<Call> {
-    let mut w = Words(line.split(' '));
+/// The call of the next line, and, of a frame, of the lines of its records after it; none where they are not one.
+pub fn read<'a>(lines: &mut impl Iterator<Item = &'a str>) -> Option<Call> {
+    let mut w = Words(lines.next()?.split(' '));
     let name = w.word()?;
     let s = w.number()?;
     let call = match name {
@@ -88,6 +98,13 @@ pub fn read(line: &str) -> Option<Call> {
         "read_map" => Call::ReadMap { at: s, base: w.number()?, n: w.number()?, map: w.bytes()? },
         "write_map" => Call::WriteMap { at: s, base: w.number()?, n: w.number()?, room: w.number()? },
         "fill" => Call::Fill { at: s, base: w.number()?, n: w.number()? },
+        "frame" => {
+            let (count, room): (usize, usize) = (w.number()?, w.number()?);
+            let asked: Vec<Record> =
+                lines.take(count).map(|line| Words(line.split(' ')).record()).collect::<Option<_>>()?;
+            (asked.len() == count).then_some(())?;
+            Call::Frame { at: s, calls: asked.into_flattened(), room: records::WORDS * room }
+        }
         _ => return None,
     };
     w.word().is_none().then_some(call)
@@ -118,7 +135,13 @@ fn of_range(name: &str, at: usize, r: Range, value: bool) -> String {
     format!("{name} {at} {} {}", range(r), u8::from(value))
 }
 
-/// The line of a call.
+// The line of a record, after the line before it.
+fn record(words: &Record) -> String {
+    let words: String = words.iter().map(|w| format!(" {w}")).collect();
+    format!("\nrecord{words}")
+}
+
+/// The line of a call; a frame has one more for each record.
 pub fn write(call: &Call) -> String {
     match *call {
         Call::Lend { at, ref words } => format!("words {at} {}", words.len() / 8 - 3),
@@ -150,13 +173,19 @@ pub fn write(call: &Call) -> String {
         Call::ReadMap { at, base, n, ref map } => format!("read_map {at} {base} {n} {}", digits(map)),
         Call::WriteMap { at, base, n, room } => format!("write_map {at} {base} {n} {room}"),
         Call::Fill { at, base, n } => format!("fill {at} {base} {n}"),
+        Call::Frame { at, ref calls, room } => {
+            let asked: String = calls.as_chunks().0.iter().map(record).collect();
+            format!("frame {at} {} {}{asked}", calls.len() / records::WORDS, room / records::WORDS)
+        }
     }
 }
 
-/// The line of an answer.
-pub fn tell(told: &Told) -> String {
+/// The line of the answer to a call; a frame has one more for each record.
+pub fn tell(call: &Call, told: &Told) -> String {
+    let due = if let Call::Frame { calls, .. } = call { calls.len() / records::WORDS } else { 0 };
     match told {
-        Told::Refused(r) => format!("refused {}", r.number()),
+        Told::Answers(all, _) => format!("done{}", all.iter().map(record).collect::<String>()),
+        Told::Refused(r) => format!("refused {}{}", r.number(), "\n-".repeat(due)),
         Told::Done => "done".to_string(),
         Told::Count(n) => format!("number {n}"),
         Told::Number(n) => format!("number {n}"),

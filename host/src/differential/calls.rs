@@ -2,6 +2,7 @@
 
 use std::ops::{Bound, RangeInclusive};
 
+use super::records::Record;
 use super::reference::Run;
 use crate::{Listing, Operation, Refusal};
 
@@ -9,7 +10,7 @@ pub type Range = (Bound<u64>, Bound<u64>);
 
 /// A call, with the numbers of the stores that it is about. `Lend` and `Poke` are no calls of the library: they hand in words that
 /// it did not make.
-#[derive(Clone, Debug)]
+#[derive(Clone, Debug, PartialEq)]
 pub enum Call {
     Lend {
         at: usize,
@@ -127,15 +128,23 @@ pub enum Call {
         n: u64,
         room: usize,
     },
+    /// Records of calls, and how many words there are for the answers.
+    Frame {
+        at: usize,
+        calls: Vec<u64>,
+        room: usize,
+    },
 }
 
 impl Call {
     /// The store that the call may change.
     pub fn changes(&self) -> Option<usize> {
         match *self {
-            Call::Set { at, .. } | Call::Flip { at, .. } | Call::Shift { at, .. } | Call::ReadMap { at, .. } => {
-                Some(at)
-            }
+            Call::Set { at, .. }
+            | Call::Flip { at, .. }
+            | Call::Shift { at, .. }
+            | Call::ReadMap { at, .. }
+            | Call::Frame { at, .. } => Some(at),
             Call::New { to }
             | Call::Combine { to, .. }
             | Call::Not { to, .. }
@@ -147,7 +156,8 @@ impl Call {
     }
 }
 
-/// What a call tells. Of a listing each draw, and how it ended; of a slice how much of it was filled, and all its bytes.
+/// What a call tells. Of a listing each draw, and how it ended; of a slice how much of it was filled, and all its bytes; of a frame each
+/// answer's record, and the words of the slice after them.
 #[derive(Debug, PartialEq)]
 pub enum Told {
     Refused(Refusal),
@@ -160,14 +170,16 @@ pub enum Told {
     Drawn(Option<RangeInclusive<u64>>, Listing),
     Draws(Listing, Vec<(Option<RangeInclusive<u64>>, Listing)>),
     Slice(usize, Vec<u8>),
+    Answers(Vec<Record>, Vec<u64>),
     RefusedAndChanged(Refusal),
 }
 
 /// The header word that is 0 in every sound store.
 pub const SPARE: usize = 7;
 
-/// What an output slice is filled with beforehand.
+/// What an output slice is filled with beforehand, by bytes or by words.
 pub const STALE: u8 = 0xEE;
+pub const STALE_WORD: u64 = u64::from_ne_bytes([STALE; 8]);
 
 /// Whether a draw of a listing drawn to its end is from the back.
 pub fn from_back(backs: u64, draw: usize) -> bool {

@@ -3,8 +3,9 @@
 use std::ops::Bound;
 
 use super::calls::{Call, Range, ends_of};
-use super::expected::Store;
+use super::expected::{Expected, Store};
 use super::random::Random;
+use super::records::{self, Record};
 use super::reference::{self, Run};
 use crate::{Listing, Operation};
 
@@ -261,6 +262,97 @@ fn order(random: &mut Random, runs: &[Run], range: Range, value: bool) -> u64 {
         _ => u128::from(random.below(all.clamp(1, u128::from(u64::MAX)) as u64)),
     };
     k.min(u128::from(u64::MAX)) as u64
+}
+
+// What a frame's calls are, those that a store grows by more than once.
+const LISTED: [Kind; 18] = [
+    Kind::New,
+    Kind::Set,
+    Kind::Set,
+    Kind::Set,
+    Kind::Set,
+    Kind::Flip,
+    Kind::Flip,
+    Kind::Shift,
+    Kind::Get,
+    Kind::RunAt,
+    Kind::Find,
+    Kind::Count,
+    Kind::Select,
+    Kind::CountRanges,
+    Kind::Ranges,
+    Kind::Draw,
+    Kind::Draw,
+    Kind::Fill,
+];
+
+// Any word: often one that means something elsewhere in a record.
+fn word(random: &mut Random, runs: &[Run]) -> u64 {
+    match random.below(4) {
+        0 => random.below(16),
+        1 => random.one_of(&[0, 1, 2, 3, HALF, u64::MAX - 1, u64::MAX]),
+        2 => position(random, runs),
+        _ => random.number(),
+    }
+}
+
+// A record that is written down as a call's, or has some words that no call writes, or has nothing else.
+fn record(random: &mut Random, store: &Store) -> Record {
+    let runs = &store.runs;
+    if random.once_in(8) {
+        let mut any = [0; records::WORDS].map(|_| word(random, runs));
+        if random.truth() {
+            any[0] = random.below(records::LAST + 2);
+        }
+        return any;
+    }
+    // A new store is seldom made, or nothing would grow.
+    let kind = match random.one_of(&LISTED) {
+        Kind::New if !random.once_in(6) => Kind::Set,
+        kind => kind,
+    };
+    let made = call(random, std::slice::from_ref(store), kind, 0);
+    let mut record = records::record_of(&made).expect("a kind that lists have");
+    for _ in 0..random.below(3) {
+        match random.below(4) {
+            // Another truth, another kind of no bound, words that are not read.
+            0 if record[5] != 0 => record[5] = word(random, runs).max(1),
+            1 if record[1] == 0 => record[1] = word(random, runs).max(3),
+            2 if record[3] == 0 => record[3] = word(random, runs).max(3),
+            _ => record[7] = word(random, runs),
+        }
+    }
+    record
+}
+
+/// Records of that many calls on a store, each where something is likely to go wrong after those before it.
+pub fn listed(random: &mut Random, store: &Store, count: usize) -> Vec<Record> {
+    let mut ahead = Expected { stores: vec![store.clone()] };
+    let mut all = Vec::new();
+    for _ in 0..count {
+        let record = record(random, &ahead.stores[0]);
+        ahead.answer(&records::call_of(0, record));
+        all.push(record);
+    }
+    all
+}
+
+/// A frame of that many calls on store `at`. Now and then there are too few words for the answers, or more than are filled, and words
+/// after the last whole record.
+pub fn frame(random: &mut Random, stores: &[Store], at: usize, count: usize) -> Call {
+    let mut calls = listed(random, &stores[at], count).into_flattened();
+    let due = calls.len();
+    if random.once_in(4) {
+        let more = random.below(records::WORDS as u64);
+        calls.extend((0..more).map(|_| random.number()));
+    }
+    let room = match random.below(12) {
+        0 => random.below(due as u64 + 1) as usize,
+        1 => due.saturating_sub(1),
+        2..=4 => due + random.below(20) as usize,
+        _ => due,
+    };
+    Call::Frame { at, calls, room }
 }
 
 // What a stretch of a random history does most.

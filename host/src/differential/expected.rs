@@ -2,7 +2,8 @@
 
 use std::ops::{Bound, RangeInclusive};
 
-use super::calls::{Call, Range, SPARE, STALE, Told, ends_of, from_back};
+use super::calls::{Call, Range, SPARE, STALE, STALE_WORD, Told, ends_of, from_back};
+use super::records;
 use super::reference::{self, Look, Run};
 use crate::oracle::IntervalBitSet;
 use crate::{Answer, Listing, Operation, Refusal};
@@ -290,6 +291,16 @@ impl Expected {
                     }
                 }
                 slice(room, due)
+            }
+            Call::Frame { at, ref calls, room } => {
+                stores[at].read()?;
+                let (asked, _) = calls.as_chunks();
+                if room < records::WORDS * asked.len() {
+                    return Err(Refusal::OutputShort);
+                }
+                let told = |&record| records::answer_of(&self.answer(&records::call_of(at, record)));
+                let rest = vec![STALE_WORD; room - records::WORDS * asked.len()];
+                Ok(Told::Answers(asked.iter().map(told).collect(), rest))
             }
         }
     }

@@ -1,6 +1,7 @@
 //! What the proved library answers.
 
-use super::calls::{Call, STALE, Told, from_back};
+use super::calls::{Call, STALE, STALE_WORD, Told, from_back};
+use super::records;
 use crate::{Answer, Set};
 
 /// The words of several stores.
@@ -89,20 +90,33 @@ impl Library {
             Call::Write { at, room } => {
                 let mut out = vec![STALE; room];
                 let filled = self.lent(at).write(&mut out).map(|part| part.len());
-                written(filled, out)
+                written(filled, out, STALE, Told::Slice)
             }
             Call::WriteMap { at, base, n, room } => {
                 let mut out = vec![STALE; room];
                 let filled = self.lent(at).write_map(base, n, &mut out).map(|part| part.len());
-                written(filled, out)
+                written(filled, out, STALE, Told::Slice)
+            }
+            Call::Frame { at, ref calls, room } => {
+                let mut out = vec![STALE_WORD; room];
+                let filled = self.lent_mut(at).play_words(calls, &mut out).map(|()| calls.len() / records::WORDS);
+                written(filled, out, STALE_WORD, |count, out| {
+                    let (told, rest) = out.split_at(out.len().min(records::WORDS * count));
+                    Told::Answers(told.as_chunks().0.to_vec(), rest.to_vec())
+                })
             }
         }
     }
 }
 
-fn written(filled: Answer<usize>, out: Vec<u8>) -> Answer<Told> {
+fn written<T: PartialEq>(
+    filled: Answer<usize>,
+    out: Vec<T>,
+    stale: T,
+    told: impl FnOnce(usize, Vec<T>) -> Told,
+) -> Answer<Told> {
     match filled {
-        Err(r) if out.iter().any(|&b| b != STALE) => Ok(Told::RefusedAndChanged(r)),
-        filled => Ok(Told::Slice(filled?, out)),
+        Err(r) if out.iter().any(|x| *x != stale) => Ok(Told::RefusedAndChanged(r)),
+        filled => Ok(told(filled?, out)),
     }
 }

@@ -9,13 +9,14 @@ pub mod expected;
 pub mod library;
 pub mod parts;
 pub mod random;
+pub mod records;
 pub mod reference;
 pub mod world;
 
 use std::fmt;
 use std::time::{Duration, Instant};
 
-use calls::Call;
+use calls::{Call, Told};
 use world::World;
 
 /// How much is run.
@@ -58,6 +59,8 @@ pub struct Tally {
     told: Instant,
     /// How many calls were compared.
     pub compared: u64,
+    /// How many of them were records of a frame.
+    pub listed: u64,
     /// How many of them were refused, by number.
     pub refused: [u64; 9],
 }
@@ -65,7 +68,7 @@ pub struct Tally {
 impl Tally {
     fn new(progress: bool) -> Tally {
         let now = Instant::now();
-        Tally { part: "", progress, began: now, told: now, compared: 0, refused: [0; 9] }
+        Tally { part: "", progress, began: now, told: now, compared: 0, listed: 0, refused: [0; 9] }
     }
 
     fn begin(&mut self, part: &'static str) {
@@ -73,9 +76,10 @@ impl Tally {
         self.tell();
     }
 
-    fn count(&mut self, refused: Option<u64>) {
+    // Counts a call by its refusal's number, or 0.
+    fn count(&mut self, refused: u64) {
         self.compared += 1;
-        self.refused[refused.unwrap_or(0) as usize] += 1;
+        self.refused[refused as usize] += 1;
         if self.compared.is_multiple_of(4096) && self.told.elapsed() >= Duration::from_secs(1) {
             self.tell();
         }
@@ -109,36 +113,66 @@ impl Sequence {
         self.calls.push(call);
         match stepped {
             Ok(_) if outside => Ok(()),
-            Ok(refused) => {
-                tally.count(refused.map(|r| r.number()));
+            Ok(Told::Refused(r)) => {
+                tally.count(r.number());
+                Ok(())
+            }
+            // A frame is a call, and so is each of its records.
+            Ok(told) => {
+                tally.count(0);
+                if let Told::Answers(all, _) = told {
+                    tally.listed += all.len() as u64;
+                    all.iter().for_each(|&[refusal, ..]| tally.count(refusal));
+                }
                 Ok(())
             }
             Err(told) => Err(self.shortest(tally.part, told)),
         }
     }
 
-    // Leaves out calls, at first many at once, as long as the rest still ends in a difference.
+    // Leaves out calls, and then records of each frame, as long as the rest still ends in a difference.
     fn shortest(&self, part: &'static str, told: String) -> Difference {
         let mut calls = self.calls.clone();
         let mut told = told;
-        let mut piece = calls.len();
-        while piece > 0 {
-            let mut from = 0;
-            while from < calls.len() {
-                let mut fewer = calls.clone();
-                fewer.drain(from..(from + piece).min(calls.len()));
-                match unequal(&self.capacities, &fewer) {
-                    Some((count, why)) => {
-                        fewer.truncate(count);
-                        calls = fewer;
-                        told = why;
-                    }
-                    None => from += piece,
-                }
-            }
-            piece /= 2;
+        shorten(&mut calls, |fewer| {
+            let Some((count, why)) = unequal(&self.capacities, fewer) else { return false };
+            fewer.truncate(count);
+            told = why;
+            true
+        });
+        for i in 0..calls.len() {
+            let Call::Frame { at, calls: words, room } = &calls[i] else { continue };
+            let (at, room) = (*at, *room);
+            let (asked, rest) = words.as_chunks::<{ records::WORDS }>();
+            let (mut asked, rest) = (asked.to_vec(), rest.to_vec());
+            shorten(&mut asked, |fewer| {
+                let mut all = calls.clone();
+                all[i] = Call::Frame { at, calls: [fewer.as_flattened(), &rest].concat(), room };
+                let Some((_, why)) = unequal(&self.capacities, &all) else { return false };
+                calls = all;
+                told = why;
+                true
+            });
         }
         Difference { part, capacities: self.capacities.clone(), calls, told }
+    }
+}
+
+// Leaves out things, at first many at once, as long as the rest will do.
+fn shorten<T: Clone>(all: &mut Vec<T>, mut will_do: impl FnMut(&mut Vec<T>) -> bool) {
+    let mut piece = all.len();
+    while piece > 0 {
+        let mut from = 0;
+        while from < all.len() {
+            let mut fewer = all.clone();
+            fewer.drain(from..(from + piece).min(all.len()));
+            if will_do(&mut fewer) {
+                *all = fewer;
+            } else {
+                from += piece;
+            }
+        }
+        piece /= 2;
     }
 }
 
@@ -159,6 +193,7 @@ pub fn run(options: Options) -> Result<Tally, Difference> {
     parts::windows(&mut tally, options)?;
     parts::limits(&mut tally, options)?;
     parts::large(&mut tally, options)?;
+    parts::frames(&mut tally, options)?;
     parts::random(&mut tally, options)?;
     tally.tell();
     Ok(tally)

@@ -5,6 +5,7 @@ use std::ops::Bound;
 use super::calls::{Call, Range, SPARE};
 use super::chance::{self, KINDS, Kind, Wander};
 use super::random::Random;
+use super::records;
 use super::reference::{self, Run, Shape};
 use super::{Difference, Options, Sequence, Tally};
 use crate::Operation;
@@ -132,13 +133,22 @@ fn grow(tally: &mut Tally, s: &mut Sequence, random: &mut Random, at: usize, cou
     Ok(())
 }
 
-// Every kind of call about a store.
+// Every kind of call about a store, and before them a frame on a copy, so that they have the store as it is.
 fn every_kind(tally: &mut Tally, s: &mut Sequence, random: &mut Random, at: usize) -> Outcome {
+    let count = random.below(5) as usize;
+    let frame = chance::frame(random, s.world.stores(), at, count);
+    s.clone().call(tally, frame)?;
     for kind in KINDS {
         let call = chance::call(random, s.world.stores(), kind, at);
         s.call(tally, call)?;
     }
     Ok(())
+}
+
+// What a word of a damaged store may be instead.
+fn word_beside(random: &mut Random, words: &[u64], word: usize) -> u64 {
+    let (few, other, any) = (random.below(8), random.one_of(words), random.number());
+    random.one_of(&[few, other, words[word] ^ 1, any])
 }
 
 /// Every word of sound stores changed in many ways, and every kind of call on what is left.
@@ -179,10 +189,8 @@ pub fn damaged_stores(tally: &mut Tally, options: Options) -> Outcome {
         let count = random.below(20);
         grow(tally, &mut s, &mut random, 0, count)?;
         for _ in 0..2 {
-            let words = s.world.words(0);
-            let word = random.below(words.len() as u64) as usize;
-            let (few, other, any) = (random.below(8), random.one_of(words), random.number());
-            let value = random.one_of(&[few, other, words[word] ^ 1, any]);
+            let word = random.below(s.world.words(0).len() as u64) as usize;
+            let value = word_beside(&mut random, s.world.words(0), word);
             s.call(tally, Call::Poke { at: 0, word, value })?;
         }
         every_kind(tally, &mut s, &mut random, 0)?;
@@ -470,6 +478,69 @@ fn few_draws(tally: &mut Tally, s: &mut Sequence, random: &mut Random) -> Outcom
         }
     }
     Ok(())
+}
+
+// How many of a frame's records are made of edges at once.
+const TOGETHER: usize = 50;
+
+/// Lists of calls at once: records of every kind with every kind of bound at the ends of the positions, then histories of frames.
+pub fn frames(tally: &mut Tally, options: Options) -> Outcome {
+    tally.begin("frames: records at the edges");
+    let mut random = Random::new(options.seed ^ 0xF4);
+    let kinds = [0, 1, 2, 3, M];
+    let mut edges = Vec::new();
+    let mut turn = 0;
+    for number in (0..=records::LAST + 1).chain([HALF + 2, M]) {
+        for lower in kinds {
+            for upper in kinds {
+                for from in ENDS {
+                    for upto in ENDS {
+                        for [value, k] in [[0, 0], [1, M], [2, 1], [M, HALF]] {
+                            turn += 1;
+                            if turn % options.stride == 0 {
+                                edges.push([number, lower, from, upper, upto, value, k, turn]);
+                            }
+                        }
+                    }
+                }
+            }
+        }
+    }
+    // In any order, so that changes and reports meet.
+    for i in 1..edges.len() {
+        edges.swap(i, random.below(i as u64 + 1) as usize);
+    }
+    for (i, some) in edges.chunks(TOGETHER).enumerate() {
+        let mut s = Sequence::new(&[1 + i % 5]);
+        grow(tally, &mut s, &mut random, 0, 4)?;
+        let calls = some.as_flattened().to_vec();
+        s.call(tally, Call::Frame { at: 0, room: calls.len(), calls })?;
+    }
+    tally.begin("frames: random lists, up to 50 calls and 1000");
+    let until = tally.compared + options.calls / 4;
+    let capacities = [1, 2, 3, 4, 8, 16, 64, 200, 1000];
+    while tally.compared < until {
+        let mut s = Sequence::new(&[random.one_of(&capacities)]);
+        for _ in 0..20 {
+            let count = if random.once_in(100) { 1000 } else { random.below(51) };
+            play(tally, &mut s, &mut random, count)?;
+        }
+        // Of a damaged store, and of one with a word too many, no call is made.
+        let word = random.below(s.world.words(0).len() as u64) as usize;
+        let value = word_beside(&mut random, s.world.words(0), word);
+        s.call(tally, Call::Poke { at: 0, word, value })?;
+        play(tally, &mut s, &mut random, 20)?;
+        let words = vec![0; s.world.words(0).len() + 1];
+        s.call(tally, Call::Lend { at: 0, words })?;
+        play(tally, &mut s, &mut random, 20)?;
+    }
+    Ok(())
+}
+
+// A frame of so many calls by chance.
+fn play(tally: &mut Tally, s: &mut Sequence, random: &mut Random, count: u64) -> Outcome {
+    let frame = chance::frame(random, s.world.stores(), 0, count as usize);
+    s.call(tally, frame)
 }
 
 /// Long random sequences of all calls, at capacities from 1 to 1000.

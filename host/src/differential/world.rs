@@ -4,7 +4,7 @@ use super::calls::{Call, Told};
 use super::expected::{self, Expected};
 use super::library::Library;
 use super::reference::{self, Look};
-use crate::{Refusal, Set};
+use crate::Set;
 
 /// Several stores: their words, the same words kept apart to see what changed, and what they should hold.
 #[derive(Clone)]
@@ -32,29 +32,29 @@ impl World {
         &self.library.stores[at]
     }
 
-    /// Makes a call on both, and tells a difference.
-    pub fn step(&mut self, call: &Call) -> Result<Option<Refusal>, String> {
+    /// Makes a call on both, and tells what they tell, or a difference.
+    pub fn step(&mut self, call: &Call) -> Result<Told, String> {
         let told = self.library.answer(call);
         if let Call::Lend { at, .. } | Call::Poke { at, .. } = *call {
             let words = &self.library.stores[at];
             self.expected.stores[at] = expected::Store::of(words);
             self.kept[at].clone_from(words);
-            return Ok(None);
+            return Ok(told);
         }
         let right = self.expected.answer(call);
         if told != right {
             return Err(format!("the library tells {told:?}\nand the oracle   {right:?}"));
         }
-        let refused = if let Told::Refused(r) = told { Some(r) } else { None };
+        let refused = matches!(told, Told::Refused(_));
         for (i, words) in self.library.stores.iter().enumerate() {
-            if call.changes() == Some(i) && refused.is_none() {
+            if call.changes() == Some(i) && !refused {
                 same_runs(words, &self.expected.stores[i])?;
                 self.kept[i].copy_from_slice(words);
             } else if *words != self.kept[i] {
                 return Err(format!("told {told:?}, and changed words of store {i}, which it had to leave"));
             }
         }
-        Ok(refused)
+        Ok(told)
     }
 }
 

@@ -10,7 +10,7 @@ use crate::differential::reference::Run;
 impl List {
     // Makes a listing of store 0.
     fn listing(&mut self, range: &str, value: u64) -> Listing {
-        let call = text::read(&format!("ranges 0 {range} {value}")).expect("a call");
+        let call = text::read(&mut format!("ranges 0 {range} {value}").lines()).expect("a call");
         match self.call(&call) {
             Told::Draws(made, _) => made,
             told => panic!("no listing: {told:?}"),

@@ -4,6 +4,7 @@ mod bounds;
 mod bytes;
 mod capacity;
 mod cases;
+mod frames;
 mod joined;
 mod listings;
 mod long;
@@ -26,6 +27,7 @@ pub fn all() -> Vec<List> {
         joined::list(),
         bytes::list(),
         capacity::list(),
+        frames::list(),
         long::list(),
     ]
 }

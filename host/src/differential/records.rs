@@ -1,0 +1,128 @@
+//! Records of calls and of answers, by the rules of `docs/CALLS.md` and apart from the library: what eight words mean, whatever they
+//! are, and which eight words tell an answer.
+
+use std::ops::Bound;
+
+use super::calls::{Call, Told};
+use crate::Listing;
+
+/// How many words a record has.
+pub const WORDS: usize = 8;
+
+pub type Record = [u64; WORDS];
+
+/// The greatest number that names a call other than get.
+pub const LAST: u64 = 13;
+
+fn bound(kind: u64, value: u64) -> Bound<u64> {
+    match kind {
+        1 => Bound::Included(value),
+        2 => Bound::Excluded(value),
+        _ => Bound::Unbounded,
+    }
+}
+
+/// The call that a record means, on store `at`.
+pub fn call_of(at: usize, record: Record) -> Call {
+    let [call, lower, from, upper, upto, value, k, _] = record;
+    let value = value != 0;
+    let range = (bound(lower, from), bound(upper, upto));
+    let listing = Listing { first: from, last: upto, value };
+    match call {
+        1 => Call::New { to: at },
+        2 => Call::Set { at, range, value },
+        3 => Call::Flip { at, range },
+        4 => Call::Shift { at, distance: from, left: value },
+        5 => Call::RunAt { at, x: from },
+        6 => Call::Find { at, range, value },
+        7 => Call::Count { at, range, value },
+        8 => Call::Select { at, range, value, k },
+        9 => Call::CountRanges { at, range, value },
+        10 => Call::Ranges { at, range, value, backs: 0 },
+        11 => Call::Draw { at, listing, back: false },
+        12 => Call::Draw { at, listing, back: true },
+        13 => Call::Fill { at, base: from, n: upto },
+        _ => Call::Get { at, x: from },
+    }
+}
+
+fn words(b: Bound<u64>) -> [u64; 2] {
+    match b {
+        Bound::Included(x) => [1, x],
+        Bound::Excluded(x) => [2, x],
+        Bound::Unbounded => [0, 0],
+    }
+}
+
+/// A record that means the call, or none where no record does.
+pub fn record_of(call: &Call) -> Option<Record> {
+    let over = |number, range: (Bound<u64>, Bound<u64>), value: bool, k| {
+        let ([lower, from], [upper, upto]) = (words(range.0), words(range.1));
+        [number, lower, from, upper, upto, value.into(), k, 0]
+    };
+    let plain = |number, from, upto, value: bool| [number, 0, from, 0, upto, value.into(), 0, 0];
+    Some(match *call {
+        Call::Get { x, .. } => plain(0, x, 0, false),
+        Call::New { .. } => plain(1, 0, 0, false),
+        Call::Set { range, value, .. } => over(2, range, value, 0),
+        Call::Flip { range, .. } => over(3, range, false, 0),
+        Call::Shift { distance, left, .. } => plain(4, distance, 0, left),
+        Call::RunAt { x, .. } => plain(5, x, 0, false),
+        Call::Find { range, value, .. } => over(6, range, value, 0),
+        Call::Count { range, value, .. } => over(7, range, value, 0),
+        Call::Select { range, value, k, .. } => over(8, range, value, k),
+        Call::CountRanges { range, value, .. } => over(9, range, value, 0),
+        Call::Ranges { range, value, .. } => over(10, range, value, 0),
+        Call::Draw { listing: Listing { first, last, value }, back, .. } => {
+            plain(if back { 12 } else { 11 }, first, last, value)
+        }
+        Call::Fill { base, n, .. } => plain(13, base, n, false),
+        _ => return None,
+    })
+}
+
+/// The record of what a call of a list tells.
+pub fn answer_of(told: &Told) -> Record {
+    let numbers = |found, number, end| [0, found, number, end, 0, 0, 0, 0];
+    let listed = |found, number, end, l: &Listing| [0, found, number, end, l.first, l.last, l.value.into(), 0];
+    match told {
+        Told::Refused(r) => [r.number(), 0, 0, 0, 0, 0, 0, 0],
+        Told::Done => numbers(0, 0, 0),
+        Told::Count(n) => numbers((n >> 64) as u64, *n as u64, 0),
+        Told::Number(n) => numbers(0, *n, 0),
+        Told::Value(v) => numbers(0, u64::from(*v), 0),
+        Told::Run(run) => numbers(0, *run.start(), *run.end()),
+        Told::Position(Some(x)) => numbers(1, *x, 0),
+        Told::Position(None) => numbers(0, 0, 0),
+        Told::Draws(made, _) => listed(0, 0, 0, made),
+        Told::Drawn(Some(run), left) => listed(1, *run.start(), *run.end(), left),
+        Told::Drawn(None, left) => listed(0, 0, 0, left),
+        told => unreachable!("no call of a list tells {told:?}"),
+    }
+}
+
+#[cfg(test)]
+mod tests {
+    use super::*;
+    use crate::differential::chance::{self, KINDS};
+    use crate::differential::expected::Store;
+    use crate::differential::random::Random;
+
+    #[test]
+    fn a_record_is_read_back() {
+        let mut random = Random::new(1);
+        let stores = vec![Store::of(&crate::room(3)); 3];
+        let mut numbers = [0; 1 + LAST as usize];
+        for turn in 0..100 * KINDS.len() {
+            let mut call = chance::call(&mut random, &stores, KINDS[turn % KINDS.len()], 2);
+            if let Some(record) = record_of(&call) {
+                numbers[record[0] as usize] += 1;
+                if let Call::Ranges { backs, .. } = &mut call {
+                    *backs = 0;
+                }
+                assert_eq!(call_of(2, record), call);
+            }
+        }
+        assert!(numbers.iter().all(|&n| n > 0), "{numbers:?}");
+    }
+}

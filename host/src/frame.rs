@@ -1,0 +1,208 @@
+//! A frame's calls at once: lists of calls on one store, and what each answers. [`Set::frame`](crate::Set::frame) takes [`Call`]s and
+//! tells [`Reply`]s; [`Set::play`](crate::Set::play) takes and fills lent records, and allocates nothing:
+//!
+//! ```
+//! use vizturel::SetBuf;
+//! use vizturel::frame::{AnswerRecord, Call, CallRecord};
+//! # fn main() -> Result<(), vizturel::Refusal> {
+//! let mut slots = SetBuf::with_capacity(64)?;
+//! let mut calls = [CallRecord::default(); 256];
+//! let mut answers = [AnswerRecord::default(); 256];
+//! // The three lowest free slots, then all three taken.
+//! for (k, record) in calls[..3].iter_mut().enumerate() {
+//!     *record = Call::select(.., false, k as u64).into();
+//! }
+//! let free = slots.play(&calls[..3], &mut answers)?;
+//! for (record, slot) in calls.iter_mut().zip(free) {
+//!     *record = Call::set(slot.number..=slot.number, true).into();
+//! }
+//! slots.play(&calls[..3], &mut answers)?;
+//! assert_eq!(slots.count(..3, true)?, 3);
+//! # Ok(())
+//! # }
+//! ```
+
+use std::ops::{Bound, RangeBounds, RangeInclusive};
+
+use crate::{Answer, Listing, answer};
+
+/// A lower and an upper bound.
+pub type Range = (Bound<u64>, Bound<u64>);
+
+/// A call of a list: it is the one of [`Set`](crate::Set) that has its name.
+#[derive(Clone, Copy, Debug, PartialEq, Eq)]
+pub enum Call {
+    New,
+    Set(Range, bool),
+    Flip(Range),
+    Shift { distance: u64, left: bool },
+    Get(u64),
+    RunAt(u64),
+    Find(Range, bool),
+    Count(Range, bool),
+    Select(Range, bool, u64),
+    CountRanges(Range, bool),
+    Listing(Range, bool),
+    DrawFront(Listing),
+    DrawBack(Listing),
+    Fill { base: u64, n: u64 },
+}
+
+fn range(r: impl RangeBounds<u64>) -> Range {
+    (r.start_bound().cloned(), r.end_bound().cloned())
+}
+
+/// Calls about a range of any kind.
+impl Call {
+    pub fn set(r: impl RangeBounds<u64>, value: bool) -> Call {
+        Call::Set(range(r), value)
+    }
+
+    pub fn flip(r: impl RangeBounds<u64>) -> Call {
+        Call::Flip(range(r))
+    }
+
+    pub fn find(r: impl RangeBounds<u64>, value: bool) -> Call {
+        Call::Find(range(r), value)
+    }
+
+    pub fn count(r: impl RangeBounds<u64>, value: bool) -> Call {
+        Call::Count(range(r), value)
+    }
+
+    pub fn select(r: impl RangeBounds<u64>, value: bool, k: u64) -> Call {
+        Call::Select(range(r), value, k)
+    }
+
+    pub fn count_ranges(r: impl RangeBounds<u64>, value: bool) -> Call {
+        Call::CountRanges(range(r), value)
+    }
+
+    pub fn listing(r: impl RangeBounds<u64>, value: bool) -> Call {
+        Call::Listing(range(r), value)
+    }
+}
+
+/// What a call of a list tells.
+#[derive(Clone, Debug, PartialEq, Eq)]
+pub enum Reply {
+    /// `New`, `Flip`, `Shift`.
+    Done,
+    /// `Set`: how many positions changed; `Count`.
+    Count(u128),
+    /// `CountRanges`, `Fill`.
+    Number(u64),
+    /// `Get`.
+    Value(bool),
+    /// `RunAt`.
+    Run(RangeInclusive<u64>),
+    /// `Find`, `Select`.
+    Position(Option<u64>),
+    /// `Listing`.
+    Listing(Listing),
+    /// The draws: the run, and the listing that is left.
+    Drawn(Option<RangeInclusive<u64>>, Listing),
+}
+
+/// A call as the library reads it: see `vizturel_call` in `include/vizturel.h`. Whatever the words are, they mean a call; where all are
+/// 0, `Get(0)`.
+#[repr(C)]
+#[derive(Clone, Copy, Debug, Default, PartialEq, Eq)]
+pub struct CallRecord {
+    pub call: u64,
+    pub lower_kind: u64,
+    pub lower: u64,
+    pub upper_kind: u64,
+    pub upper: u64,
+    pub value: u64,
+    pub k: u64,
+    pub unused: u64,
+}
+
+/// An answer as the library writes it: see `vizturel_answer` in `include/vizturel.h`.
+#[repr(C)]
+#[derive(Clone, Copy, Debug, Default, PartialEq, Eq)]
+pub struct AnswerRecord {
+    pub refusal: u64,
+    pub found: u64,
+    pub number: u64,
+    pub end: u64,
+    pub first: u64,
+    pub last: u64,
+    pub value: u64,
+    pub unused: u64,
+}
+
+const WORDS: usize = 8;
+const _: () = assert!(size_of::<CallRecord>() == 8 * WORDS && align_of::<CallRecord>() == 8);
+const _: () = assert!(size_of::<AnswerRecord>() == 8 * WORDS && align_of::<AnswerRecord>() == 8);
+
+pub(crate) fn words_of_calls(records: &[CallRecord]) -> &[u64] {
+    // SAFETY: a record is eight u64s without padding, and any words are a record.
+    unsafe { std::slice::from_raw_parts(records.as_ptr().cast(), WORDS * records.len()) }
+}
+
+pub(crate) fn words_of_answers(records: &mut [AnswerRecord]) -> &mut [u64] {
+    // SAFETY: as above.
+    unsafe { std::slice::from_raw_parts_mut(records.as_mut_ptr().cast(), WORDS * records.len()) }
+}
+
+impl From<Call> for CallRecord {
+    fn from(call: Call) -> CallRecord {
+        let none = CallRecord::default();
+        let over = |call, r: Range| {
+            let (lower, upper) = crate::bounds(r);
+            CallRecord {
+                call,
+                lower_kind: lower.kind,
+                lower: lower.value,
+                upper_kind: upper.kind,
+                upper: upper.value,
+                ..none
+            }
+        };
+        let of_range = |call, r, value: bool| CallRecord { value: value.into(), ..over(call, r) };
+        let of_listing = |call, Listing { first, last, value }: Listing| CallRecord {
+            call,
+            lower: first,
+            upper: last,
+            value: value.into(),
+            ..none
+        };
+        match call {
+            Call::Get(x) => CallRecord { lower: x, ..none },
+            Call::New => CallRecord { call: 1, ..none },
+            Call::Set(r, value) => of_range(2, r, value),
+            Call::Flip(r) => over(3, r),
+            Call::Shift { distance, left } => CallRecord { call: 4, lower: distance, value: left.into(), ..none },
+            Call::RunAt(x) => CallRecord { call: 5, lower: x, ..none },
+            Call::Find(r, value) => of_range(6, r, value),
+            Call::Count(r, value) => of_range(7, r, value),
+            Call::Select(r, value, k) => CallRecord { k, ..of_range(8, r, value) },
+            Call::CountRanges(r, value) => of_range(9, r, value),
+            Call::Listing(r, value) => of_range(10, r, value),
+            Call::DrawFront(l) => of_listing(11, l),
+            Call::DrawBack(l) => of_listing(12, l),
+            Call::Fill { base, n } => CallRecord { call: 13, lower: base, upper: n, ..none },
+        }
+    }
+}
+
+impl AnswerRecord {
+    /// What the call that the record answers was told. Panics where the refusal is none's number, which the library never writes.
+    pub fn reply(&self, call: Call) -> Answer<Reply> {
+        let found = self.found == 1;
+        let listing = Listing { first: self.first, last: self.last, value: self.value == 1 };
+        let told = match call {
+            Call::New | Call::Flip(_) | Call::Shift { .. } => Reply::Done,
+            Call::Set(..) | Call::Count(..) => Reply::Count((u128::from(self.found) << 64) + u128::from(self.number)),
+            Call::CountRanges(..) | Call::Fill { .. } => Reply::Number(self.number),
+            Call::Get(_) => Reply::Value(self.number == 1),
+            Call::RunAt(_) => Reply::Run(self.number..=self.end),
+            Call::Find(..) | Call::Select(..) => Reply::Position(found.then_some(self.number)),
+            Call::Listing(..) => Reply::Listing(listing),
+            Call::DrawFront(_) | Call::DrawBack(_) => Reply::Drawn(found.then_some(self.number..=self.end), listing),
+        };
+        answer(self.refusal, told)
+    }
+}

@@ -1,0 +1,160 @@
+//! Lists of calls at once, through the safe calls: each answers as the single call does.
+
+use std::ops::Bound;
+
+use vizturel::differential::random::Random;
+use vizturel::frame::{AnswerRecord, Call, CallRecord, Range, Reply};
+use vizturel::{Answer, Listing, Refusal, Set, SetBuf, room};
+
+const M: u64 = u64::MAX;
+
+// The same call alone.
+fn single(set: &mut SetBuf, call: Call) -> Answer<Reply> {
+    Ok(match call {
+        Call::New => {
+            *set = Set::new(set.words().to_vec())?;
+            Reply::Done
+        }
+        Call::Set(range, value) => Reply::Count(set.set(range, value)?),
+        Call::Flip(range) => {
+            set.flip(range)?;
+            Reply::Done
+        }
+        Call::Shift { distance, left } => {
+            set.shift(distance, left)?;
+            Reply::Done
+        }
+        Call::Get(x) => Reply::Value(set.get(x)?),
+        Call::RunAt(x) => Reply::Run(set.run_at(x)?),
+        Call::Find(range, value) => Reply::Position(set.find(range, value)?),
+        Call::Count(range, value) => Reply::Count(set.count(range, value)?),
+        Call::Select(range, value, k) => Reply::Position(set.select(range, value, k)?),
+        Call::CountRanges(range, value) => Reply::Number(set.count_ranges(range, value)?),
+        Call::Listing(range, value) => Reply::Listing(set.listing(range, value)?),
+        Call::DrawFront(mut l) => Reply::Drawn(set.draw_front(&mut l)?, l),
+        Call::DrawBack(mut l) => Reply::Drawn(set.draw_back(&mut l)?, l),
+        Call::Fill { base, n } => Reply::Number(set.fill(base, n)?),
+    })
+}
+
+// A position among few, so that calls meet; the last ones too.
+fn position(random: &mut Random) -> u64 {
+    if random.once_in(6) { M - random.below(4) } else { random.below(40) }
+}
+
+fn range(random: &mut Random) -> Range {
+    let mut bound = || {
+        let x = position(random);
+        random.one_of(&[Bound::Included(x), Bound::Excluded(x), Bound::Unbounded])
+    };
+    (bound(), bound())
+}
+
+fn any_call(random: &mut Random) -> Call {
+    let (r, x, y, v) = (range(random), position(random), position(random), random.truth());
+    let listing = Listing { first: x, last: y, value: v };
+    let calls = [
+        Call::Set((Bound::Included(x), Bound::Included(y)), v),
+        Call::Set(r, v),
+        Call::Flip(r),
+        Call::Shift { distance: x, left: v },
+        Call::Get(x),
+        Call::RunAt(x),
+        Call::Find(r, v),
+        Call::Count(r, v),
+        Call::Select(r, v, y),
+        Call::CountRanges(r, v),
+        Call::Listing(r, v),
+        Call::DrawFront(listing),
+        Call::DrawBack(listing),
+        Call::Fill { base: x, n: y },
+    ];
+    if random.once_in(60) { Call::New } else { random.one_of(&calls) }
+}
+
+#[test]
+fn a_list_is_its_calls_one_by_one() {
+    let mut random = Random::new(1);
+    let mut refused = 0;
+    for turn in 0..400 {
+        let mut listed = SetBuf::with_capacity(1 + turn % 4).unwrap();
+        let mut called = listed.clone();
+        for _ in 0..4 {
+            let calls: Vec<Call> = (0..random.below(20)).map(|_| any_call(&mut random)).collect();
+            let right: Vec<_> = calls.iter().map(|&call| single(&mut called, call)).collect();
+            refused += right.iter().filter(|told| told.is_err()).count();
+            assert_eq!(listed.frame(&calls), Ok(right), "{calls:?}");
+            assert_eq!(listed.eq(&called), Ok(true), "{calls:?}");
+        }
+    }
+    assert!(refused > 100, "only {refused} calls were refused");
+}
+
+#[test]
+fn ranges_of_any_kind() {
+    let mut s = SetBuf::with_capacity(1).unwrap();
+    let told = s.frame(&[Call::set(2..8, true), Call::set(4..6, false), Call::find(4.., false)]).unwrap();
+    assert_eq!(told, [Ok(Reply::Count(6)), Err(Refusal::Capacity), Ok(Reply::Position(Some(8)))]);
+    let all = [
+        Call::count(.., true),
+        Call::flip(..),
+        Call::count(..=4, false),
+        Call::select(1..=4, false, 2),
+        Call::count_ranges(..9, true),
+        Call::listing(3..3, true),
+    ];
+    let ended = Listing { first: 1, last: 0, value: true };
+    let right = [
+        Ok(Reply::Count(6)),
+        Err(Refusal::Capacity),
+        Ok(Reply::Count(2)),
+        Ok(Reply::Position(None)),
+        Ok(Reply::Number(1)),
+        Ok(Reply::Listing(ended)),
+    ];
+    assert_eq!(s.frame(&all).unwrap(), right);
+    assert_eq!(s.frame(&[Call::set(.., true)]).unwrap(), [Ok(Reply::Count((1 << 64) - 6))]);
+    assert_eq!(s.frame(&[Call::set(.., false)]).unwrap(), [Ok(Reply::Count(1 << 64))]);
+    assert_eq!(s.frame(&[]), Ok(vec![]));
+}
+
+#[test]
+fn records_are_lent() {
+    let mut slots = SetBuf::with_capacity(64).unwrap();
+    let mut calls = [CallRecord::default(); 8];
+    let stale = AnswerRecord { number: M, unused: M, ..AnswerRecord::default() };
+    let mut answers = [stale; 8];
+    for (k, record) in calls[..3].iter_mut().enumerate() {
+        *record = Call::select(.., false, k as u64).into();
+    }
+    let free = slots.play(&calls[..3], &mut answers).unwrap();
+    assert_eq!(free.len(), 3);
+    for (record, slot) in calls.iter_mut().zip(free) {
+        assert_eq!((slot.refusal, slot.found, slot.unused), (0, 1, 0));
+        *record = Call::set(slot.number..=slot.number, true).into();
+    }
+    assert_eq!(answers[3..], [stale; 5]);
+    slots.play(&calls[..3], &mut answers).unwrap();
+    assert_eq!(slots.count(..3, true), Ok(3));
+    // A record of zeros is a get of 0.
+    assert_eq!(slots.play(&[CallRecord::default()], &mut answers).unwrap()[0].number, 1);
+}
+
+#[test]
+fn a_refused_list_changes_nothing() {
+    let stale = [AnswerRecord { number: M, ..AnswerRecord::default() }; 2];
+    let mut answers = stale;
+    let asked: Vec<CallRecord> = [Call::New, Call::set(.., true)].map(CallRecord::from).to_vec();
+    let mut s = Set::from_sorted_runs(room(2), &[[2, 7]]).unwrap();
+    let before = s.words().to_vec();
+    assert_eq!(s.play(&asked, &mut answers[..1]).err(), Some(Refusal::OutputShort));
+    assert_eq!(s.play(&asked, &mut []).err(), Some(Refusal::OutputShort));
+    assert_eq!(s.words(), before);
+    assert_eq!(Set::over(&mut [0; 24][..]).play(&asked, &mut answers).err(), Some(Refusal::StoreLength));
+    s.words_mut()[7] = 1;
+    let before = s.words().to_vec();
+    assert_eq!(s.play(&asked, &mut answers).err(), Some(Refusal::Unsound));
+    assert_eq!(s.play(&asked, &mut []).err(), Some(Refusal::Unsound));
+    assert_eq!(s.frame(&[Call::New]), Err(Refusal::Unsound));
+    assert_eq!((s.words(), answers), (&before[..], stale));
+}
