@@ -107,4 +107,12 @@ unsafe extern "C" {
         out: *mut u8,
         length: usize,
     ) -> Number;
+    pub fn vizturel_frame(
+        words: *mut u64,
+        count: usize,
+        calls: *const u64,
+        calls_count: usize,
+        answers: *mut u64,
+        answers_count: usize,
+    ) -> u64;
 }
