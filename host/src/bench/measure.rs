@@ -53,7 +53,7 @@ fn thread_seconds() -> f64 {
     time.seconds as f64 + time.nanos as f64 * 1e-9
 }
 
-fn median(mut all: Vec<f64>) -> f64 {
+pub fn median(mut all: Vec<f64>) -> f64 {
     all.sort_by(f64::total_cmp);
     all[all.len() / 2]
 }
@@ -121,12 +121,12 @@ impl Figures {
         Figures { labels, columns: columns.into() }
     }
 
-    /// A table with a row for each label and a column for each number of runs.
-    fn table(&self, title: &str, cell: impl Fn(&Sides) -> String) {
+    /// A table with a row for each label and a column for each number of runs; a cell is told its column and its row.
+    pub fn table(&self, title: &str, cell: impl Fn([usize; 2], &Sides) -> String) {
         println!("| {title} |{}", SIZES.map(|size| format!(" {} runs |", number(size as f64))).concat());
         println!("|{}", "---|".repeat(1 + SIZES.len()));
         for (row, label) in self.labels.iter().enumerate() {
-            let cells: Vec<String> = self.columns.iter().map(|c| cell(&c[row])).collect();
+            let cells: Vec<String> = self.columns.iter().enumerate().map(|(at, c)| cell([at, row], &c[row])).collect();
             println!("| {label} | {} |", cells.join(" | "));
         }
         println!();
@@ -134,9 +134,9 @@ impl Figures {
 
     /// Two tables: ratios, and times in a unit of so many nanoseconds.
     pub fn tell(&self, unit: &str, nanos: f64) {
-        self.table("library / IntervalBitSet", |s| number(s.ratio()));
+        self.table("library / IntervalBitSet", |_, s| number(s.ratio()));
         let time = |t: f64| number(t / nanos);
-        self.table(unit, |s| format!("{} / {}", time(s.ours), time(s.theirs)));
+        self.table(unit, |_, s| format!("{} / {}", time(s.ours), time(s.theirs)));
     }
 }
 

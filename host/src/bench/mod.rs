@@ -3,6 +3,7 @@
 //! What a side answers is compared with the other's outside the timed part, so a wrong answer ends the run.
 
 mod bytes;
+mod lists;
 mod measure;
 mod plot;
 mod public;
@@ -10,6 +11,7 @@ mod public;
 mod stack;
 mod work;
 
+use lists::Lists;
 use measure::{Progress, load};
 use plot::Panel;
 
@@ -20,6 +22,9 @@ pub fn run(plot: &str) {
     println!("## Public calls\n");
     let public = public::measure(&progress);
     public.tell("ns a call", 1.0);
+    println!("## Lists of a thousand calls\n");
+    let lists = Lists::measure(&progress);
+    lists.tell();
     println!("## Written sets and maps\n");
     let bytes = bytes::measure(&progress);
     bytes.tell("µs a call", 1e3);
@@ -28,8 +33,11 @@ pub fn run(plot: &str) {
         println!("## Stack\n");
         stack::tell(&progress);
     }
-    let panels =
-        [Panel { title: "Public calls", figures: &public }, Panel { title: "Written sets and maps", figures: &bytes }];
+    let panels = [
+        Panel { title: "Public calls", figures: &public },
+        Panel { title: "Lists of a thousand calls", figures: &lists.fresh },
+        Panel { title: "Written sets and maps", figures: &bytes },
+    ];
     plot::write(plot, &panels);
     println!("load {} after", load());
 }

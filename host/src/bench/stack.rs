@@ -182,6 +182,16 @@ fn measure_on(painted: &mut Painted, physical: &[Run], offset: u64, shape: Shape
         }
     }
     on_stack!(painted, vizturel_flip(c, n, included(0), included(u64::MAX)));
+    for [first, last] in ranges(runs, random).into_iter().step_by(4) {
+        // Lists of one call, of every kind.
+        for call in 0..=13 {
+            changed.copy_from_slice(&words);
+            let upper = if call == 13 { WINDOW } else { last };
+            let record = [call, 1, first, 1, upper, random.below(2), 0, 0];
+            let mut answer = [0; 8];
+            on_stack!(painted, vizturel_frame(c, n, record.as_ptr(), 8, answer.as_mut_ptr(), 8));
+        }
+    }
     let half = runs[runs.len() / 2][0];
     for (distance, left) in [(1, 1), (1, 0), (half, 0), (u64::MAX - half, 1), (u64::MAX, 1)] {
         changed.copy_from_slice(&words);
