@@ -1,7 +1,6 @@
 -- A frame's outcome, by what looking at the store told and by the room of the slice. Assumes nothing.
 use Prim.Native.Nat.{ℕ, _*_, _/_, _≤_, _<_}
 use mathlib.Core.Path.{_≡_, refl, sym, ap, _∙_, subst}
-use mathlib.Core.Bool.{Bool, true, false}
 use mathlib.Core.List.{List}
 use native.Mathlib.Omega.{arith}
 use lib.ListN.{length}
@@ -10,23 +9,18 @@ use Rattle.model.specs.declared.Refusal.{Refusal}
 use Rattle.model.specs.declared.Refusal.the-variants.{StoreLength, OutputShort, SetLength, SetVersion, RunOrder, Window, Unsound, Capacity}
 use Rattle.model.specs.Numbers.{refusalNumber}
 use Rattle.model.specs.Refusals.{noRoom}
-use Rattle.model.specs.Call.{Fed, wrongLength, unsound, holding, refused, done}
-use Rattle.model.specs.Model.{answers, after}
+use Rattle.model.specs.Call.{wrongLength, unsound, holding, refused, done}
+use Rattle.model.specs.Model.{answers}
 use Rattle.store.specs.Layout.{capacity, heldBy}
 use Rattle.interval_bit_set.specs.declared.look.Look.{Look}
 use Rattle.interval_bit_set.specs.Look.{Earned, Readable, Looked}
-use Rattle.interval_bit_set.specs.Met.{fedOf, Leaves}
-use Rattle.frame.specs.Records.{callsOf, callsFrom, recordsOf}
+use Rattle.interval_bit_set.specs.Met.{Leaves}
+use Rattle.frame.specs.Records.{callsOf, recordsOf}
 use Rattle.frame.specs.Frame.{Outcome, frameOf, outcomeOf, Framed}
 use Rattle.frame.specs.Serving.{Playable, Plays}
-use Rattle.frame.specs.Told.{calls-length, answers-length, records-length}
+use Rattle.frame.specs.Told.{fed-as, calls-length, answers-length, records-length}
 
 module _ (w cs out : List ℕ) where
-  -- by what the store is fed as
-  fed-as : (s : Fed) → fedOf w ≡ s → outcomeOf w cs out ≡ frameOf (capacity w) s (callsOf cs) out
-  unfolding outcomeOf
-  fed-as s e = ap (λ f. frameOf (capacity w) f (callsOf cs) out) e
-
   -- the contract holds of an outcome whose positions and slice are left
   framed-by : {w′ out′ : List ℕ} (o : Outcome) → outcomeOf w cs out ≡ o → Leaves w w′ (o .positions) (o .answer) → out′ ≡ o .slice → Framed w cs out (o .answer) w′ out′
   framed-by {w′} o e l s = record {
@@ -38,8 +32,8 @@ module _ (w cs out : List ℕ) where
   -- a store that earns a refusal gets it
   earned : (r : Refusal) → Earned w r → Framed w cs out (refused (refusalNumber r)) w out
   unfolding frameOf
-  earned StoreLength h = framed-by _ (fed-as wrongLength h) refl refl
-  earned Unsound h = framed-by _ (fed-as unsound h) refl refl
+  earned StoreLength h = framed-by _ (fed-as w cs out wrongLength h) refl refl
+  earned Unsound h = framed-by _ (fed-as w cs out unsound h) refl refl
   earned OutputShort h = absurd h
   earned SetLength h = absurd h
   earned SetVersion h = absurd h
@@ -63,14 +57,14 @@ module _ (w cs out : List ℕ) where
     unfolding frameOf noRoom
     no-room h =
         let n : length out < length (recordsOf (answers (capacity w) (heldBy w) (callsOf cs))) = omega (arith, due) in
-        framed-by (record { answer = refused 2; positions = heldBy w; slice = out }) (fed-as (holding (heldBy w)) (R .fed) ∙ rw (lt-ltb _ _ n)) refl refl
+        framed-by (record { answer = refused 2; positions = heldBy w; slice = out }) (fed-as w cs out (holding (heldBy w)) (R .fed) ∙ rw (lt-ltb _ _ n)) refl refl
 
     -- they fit, and all records were served
     pub framed : {w′ out′ : List ℕ} → length cs / 8 ≤ length out / 8 → Plays w cs out (length cs / 8) w′ out′ → Framed w cs out done w′ out′
     unfolding frameOf noRoom callsOf
     framed h p =
         let n : length (recordsOf (answers (capacity w) (heldBy w) (callsOf cs))) ≤ length out = omega (arith, due) in
-        framed-by _ (fed-as (holding (heldBy w)) (R .fed) ∙ rw (le-ltb (length out) _ n)) (p .settled) (p .wrote)
+        framed-by _ (fed-as w cs out (holding (heldBy w)) (R .fed) ∙ rw (le-ltb (length out) _ n)) (p .settled) (p .wrote)
 
   -- what looking told, where it found no refusal
   pub playable : Readable w → length cs / 8 ≤ length out / 8 → Playable w cs out (length cs / 8)

@@ -1,12 +1,12 @@
 -- The loop of `play`: after i records the store holds the positions that the model has then, and the slice starts with the records of what
 -- the model answered so far. Assumes nothing.
-use Prim.Native.Nat.{ℕ, zero, suc, _+_, _-_, _*_, _≤_, _<_}
+use Prim.Native.Nat.{ℕ, suc, _+_, _-_, _*_, _≤_, _<_}
 use mathlib.Core.Path.{_≡_, refl, sym, ap, ap₂, _∙_, subst}
 use mathlib.Core.List.{List, [], _∷_, _++_, append-assoc, append-nil}
 use native.Mathlib.Omega.{arith}
 use lib.ListN.{length, length-append}
 use Rattle.model.specs.Positions.{Positions}
-use Rattle.model.specs.Call.{Fed, Call, feed, Answer, refused, done, number, value, around, position, listing, drawn, written}
+use Rattle.model.specs.Call.{Fed, Call, Answer, refused, done, number, value, around, position, listing, drawn, written}
 use Rattle.model.specs.Model.{step, answers, after}
 use Rattle.store.specs.Layout.{capacity, heldBy}
 use Rattle.written.specs.Placed.{placed}

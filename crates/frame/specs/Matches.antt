@@ -9,23 +9,22 @@ use mathlib.Core.List.{List, [], _∷_, _++_}
 use mathlib.Core.Option.{Option, none, some}
 use native.Mathlib.Omega.{arith}
 use lib.Dec.{eqb}
-use lib.ListN.{length}
 use Rattle.model.specs.Positions.{Positions, empty}
 use Rattle.model.specs.Bytes.{intoFront}
 use Rattle.model.specs.Refusals.{outputShort, _when_, refusal, noRoom}
-use Rattle.model.specs.Call.{Fed, wrongLength, unsound, holding, Call, feed, Answer, refused, done}
+use Rattle.model.specs.Call.{Fed, wrongLength, unsound, holding, Call, Answer, refused, done}
 use Rattle.model.specs.Model
-use Rattle.model.specs.Model.{positionsOf, reads, serve, step, answers, after}
+use Rattle.model.specs.Model.{reads, serve, step, answers, after}
 use Rattle.store.specs.Layout.{capacity, heldBy}
 use Rattle.store.specs.Decision.{soundB}
 use Rattle.store.specs.Settle.{Settled}
-use Rattle.interval_bit_set.specs.Met.{fedOf, Leaves, Met}
+use Rattle.interval_bit_set.specs.Met.{fedOf, Met}
 use Rattle.lockstep.specs.History.{New, told}
 use Rattle.lockstep.specs.Steps.{Ends, Served, served}
 use Rattle.lockstep.specs.Follow.{Holds, held-ends, settled-holds, answer-is, step-holds, new-holds}
-use Rattle.frame.specs.Records.{callsFrom, callsOf, recordsOf}
+use Rattle.frame.specs.Records.{callsOf, recordsOf}
 use Rattle.frame.specs.Frame.{Outcome, settle, frameOf, outcomeOf, Framed}
-use Rattle.frame.specs.Told.{told-from}
+use Rattle.frame.specs.Told.{told-from, fed-as}
 
 -- the words w, after the calls cs, which got the answers rs, are w′. A frame's calls are those of its records, and its answers those whose
 -- records it wrote (`framed-wrote`).
@@ -60,10 +59,6 @@ done-refused : {n : ℕ} → done ≡ refused n → ⊥
 done-refused e = let z : _≡_ {A = ℕ} 0 1 = cc in omega arith
 
 module _ (w fs out : List ℕ) where
-  as-fed : (s : Fed) → fedOf w ≡ s → outcomeOf w fs out ≡ frameOf (capacity w) s (callsOf fs) out
-  unfolding outcomeOf
-  as-fed s e = ap (λ f. frameOf (capacity w) f (callsOf fs) out) e
-
   -- all calls were served
   abbrev all-served : Outcome
   all-served = record {
@@ -75,7 +70,7 @@ module _ (w fs out : List ℕ) where
   -- where the store is read and there is room
   room-served : done ≡ (frameOf (capacity w) (holding (heldBy w)) (callsOf fs) out) .answer → frameOf (capacity w) (holding (heldBy w)) (callsOf fs) out ≡ all-served
   unfolding frameOf
-  room-served e = go (refusal (reads (holding (heldBy w)) ++ outputShort when noRoom out (all-due) ∷ [])) e
+  room-served e = go (refusal (reads (holding (heldBy w)) ++ outputShort when noRoom out all-due ∷ [])) e
     where
       all-due : List ℕ
       all-due = recordsOf (answers (capacity w) (heldBy w) (callsOf fs))
@@ -90,9 +85,9 @@ module _ (w fs out : List ℕ) where
   served-all e = go (fed-cases w)
     where
       go : (fedOf w ≡ wrongLength) ⊎ ((fedOf w ≡ unsound) ⊎ (fedOf w ≡ holding (heldBy w))) → outcomeOf w fs out ≡ all-served
-      go (inl f) = absurd (done-refused (e ∙ ap (λ o. o .answer) (as-fed wrongLength f)))
-      go (inr (inl f)) = absurd (done-refused (e ∙ ap (λ o. o .answer) (as-fed unsound f)))
-      go (inr (inr f)) = as-fed (holding (heldBy w)) f ∙ room-served (e ∙ ap (λ o. o .answer) (as-fed (holding (heldBy w)) f))
+      go (inl f) = absurd (done-refused (e ∙ ap (λ o. o .answer) (fed-as w fs out wrongLength f)))
+      go (inr (inl f)) = absurd (done-refused (e ∙ ap (λ o. o .answer) (fed-as w fs out unsound f)))
+      go (inr (inr f)) = fed-as w fs out (holding (heldBy w)) f ∙ room-served (e ∙ ap (λ o. o .answer) (fed-as w fs out (holding (heldBy w)) f))
 
 -- it left what the model leaves
 framed-left : {w fs out w′ out′ : List ℕ} → Framed w fs out done w′ out′ → Settled w w′ (after (capacity w) (heldBy w) (callsOf fs))

@@ -1,17 +1,20 @@
--- The call of a record reads no further store, so the model is fed it as it is; and the model answers each call of a list once. Assumes nothing.
+-- What the model is fed of a frame: the call of a record reads no further store, so it is fed as it is. Each call has one answer, and each
+-- answer one record. Assumes nothing.
 use Prim.Native.Nat.{ℕ, zero, suc, _*_}
-use mathlib.Core.Path.{_≡_, refl, ap, ap₂, _∙_}
+use mathlib.Core.Path.{_≡_, refl, ap, ap₂}
 use mathlib.Core.List.{List, [], _∷_, _++_}
 use native.Mathlib.Omega.{arith}
-use lib.ListN.{length, length-append}
+use lib.ListN.{length}
 use Rattle.model.specs.Positions.{Positions}
 use Rattle.model.specs.Call.{Fed, Call, feed, Answer}
-use Rattle.model.specs.Model.{step, answers, after}
+use Rattle.model.specs.Model.{step, answers}
+use Rattle.store.specs.Layout.{capacity}
 use Rattle.interval_bit_set.specs.Met.{fedOf}
 use Rattle.lockstep.specs.History.{told}
 use Rattle.frame.specs.declared.entry.Kind.{Kind}
 use Rattle.frame.specs.declared.entry.Entry.{Entry}
-use Rattle.frame.specs.Records.{entryAt, kindOf, callBy, callOf, callsFrom, recordsOf}
+use Rattle.frame.specs.Records.{entryAt, kindOf, callBy, callOf, callsFrom, callsOf, recordsOf}
+use Rattle.frame.specs.Frame.{frameOf, outcomeOf}
 
 -- ---- what the model is fed
 fed-kind : {S T : Type 0} (f : S → T) (k : Kind) (e : Entry) → feed f (callBy k e) ≡ callBy k e
@@ -38,6 +41,11 @@ pub told-from : (ws : List ℕ) (i n : ℕ) (cs : List (Call (List ℕ))) → to
 unfolding callsFrom
 told-from ws i zero cs = refl
 told-from ws i (suc n) cs = ap₂ {C = List (Call Fed)} (λ c l. c ∷ l) (fed-same (entryAt ws i)) (told-from ws (suc i) n cs)
+
+-- what the model says of a frame, by what its store is fed as
+pub fed-as : (w fs out : List ℕ) (s : Fed) → fedOf w ≡ s → outcomeOf w fs out ≡ frameOf (capacity w) s (callsOf fs) out
+unfolding outcomeOf
+fed-as w fs out s e = ap (λ f. frameOf (capacity w) f (callsOf fs) out) e
 
 -- ---- lengths
 pub calls-length : (ws : List ℕ) (i n : ℕ) → length (callsFrom {S = Fed} ws i n) ≡ n

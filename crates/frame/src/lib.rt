@@ -1,6 +1,5 @@
 // A frame's calls at once: one look at the store, then every call of a list on it, in order; refused calls too, each answered by its number.
 // Calls and answers are records of eight words.
-ghost use mathlib.Core.Path.{_≡_};
 ghost use Rattle.model.specs.Answers.{completedAnswer};
 ghost use Rattle.interval_bit_set.specs.Look.{Readable};
 ghost use Rattle.frame.specs.Frame.{Framed};
