@@ -9,7 +9,8 @@ use crate::differential::random::Random;
 use crate::differential::reference::Run;
 use crate::raw;
 
-const LABELS: [&str; 6] = ["set and flip", "get", "find", "count", "select", "half sets, half reports"];
+const LABELS: [&str; 7] =
+    ["set and flip", "get", "find", "count", "select", "get, find, count, select", "half sets, half reports"];
 const CALLS: usize = 1_000;
 const ROW: usize = 8;
 const REPETITIONS: usize = 9;
@@ -68,6 +69,7 @@ fn list(label: usize, runs: &[Run], random: &mut Random) -> Vec<Call> {
         2 => reports(&[Report::Find], CALLS, random),
         3 => reports(&[Report::Count], CALLS, random),
         4 => reports(&[Report::Select], CALLS, random),
+        5 => reports(&[Report::Get, Report::Find, Report::Count, Report::Select], CALLS, random),
         _ => {
             let changes = blocks(12, 1, random);
             let reports = reports(&Report::ALL[..6], changes.len(), random);
@@ -229,6 +231,6 @@ impl Lists {
         let Sides { ours, theirs } = self.single;
         println!("| {CALLS} calls, half sets, half reports, at C = 65,536 | ns a call |\n|---|---|");
         println!("| one list | {} |\n| single public calls | {} |", number(ours), number(theirs));
-        println!("| single / list | {} |\n", number(theirs / ours));
+        println!("| single public calls that cost as much as the list | {} |\n", number(CALLS as f64 * ours / theirs));
     }
 }
