@@ -3,10 +3,10 @@
 //! A set has one run in each cell of 1,024 positions: 128 to 383 positions, at least 512 free ones on either side. Changes are
 //! of up to fifty positions and come in blocks; each block puts the set back as it was, so that it keeps its size.
 
-use crate::SetBuf;
 use crate::differential::random::Random;
-use crate::differential::reference::{self, Run, Shape};
+use crate::differential::reference::{self, Run};
 use crate::oracle::IntervalBitSet;
+use crate::{SetBuf, frame};
 
 const CELL: u64 = 1024;
 // Below and above the cells lie more positions than any shift moves.
@@ -48,16 +48,20 @@ pub struct Pair {
 }
 
 impl Pair {
-    /// The set of the runs: a store with its nodes at random places, and an IntervalBitSet that got the runs in random order.
+    /// The set of the runs, which both sides got in the same random order: so neighbours lie anywhere in memory.
     pub fn new(capacity: usize, runs: &[Run], random: &mut Random) -> Pair {
-        let words = reference::craft(capacity, runs, 0, Shape::Even, random);
         let mut order = runs.to_vec();
         shuffle(&mut order, random);
+        let mut ours = SetBuf::with_capacity(capacity).expect("a capacity");
+        for some in order.chunks(1_000) {
+            let sets: Vec<frame::Call> = some.iter().map(|&[start, end]| frame::Call::set(start..=end, true)).collect();
+            ours.frame(&sets).expect("a sound store");
+        }
         let mut theirs = IntervalBitSet::new();
         for [start, end] in order {
             theirs.set(start as usize..=end as usize, true);
         }
-        let pair = Pair { ours: SetBuf::over(words), theirs };
+        let pair = Pair { ours, theirs };
         pair.compare();
         pair
     }
