@@ -1,6 +1,5 @@
 -- THE THEOREM over whole matches: whether calls come singly or in frames, answers and positions are the plain model's, over one list of all
--- calls. A step of a match is what a public call promises (`Met`), or what a frame that was not refused promises (`Framed`), and nothing
--- more. Assumes nothing.
+-- calls. A step of a match is what a public call promises (`Met`), or what a frame promises (`Framed`), and nothing more. Assumes nothing.
 use Prim.Native.Nat.{ℕ}
 use mathlib.Core.Path.{_≡_, refl, sym, ap, ap₂, _∙_, subst}
 use mathlib.Core.Logic.{_⊎_, inl, inr}
@@ -27,7 +26,7 @@ use Rattle.frame.specs.Frame.{Outcome, settle, frameOf, outcomeOf, Frame
 use Rattle.frame.specs.Told.{told-from, fed-as}
 
 -- the words w, after the calls cs, which got the answers rs, are w′. A frame's calls are those of its records, and its answers those whose
--- records it wrote (`framed-wrote`).
+-- records it wrote (`framed-wrote`); a refused frame makes no call, and leaves every word.
 pub data Match : List ℕ → List (Call (List ℕ)) → List Answer → List ℕ → Type 0 where
   rest : {w : List ℕ} → Match w [] [] w
   call :
@@ -40,6 +39,11 @@ pub data Match : List ℕ → List (Call (List ℕ)) → List Answer → List �
       → Framed w fs out done w′ out′
       → Match w′ cs rs w″
       → Match w (callsOf fs ++ cs) (answers (capacity w) (heldBy w) (callsOf fs) ++ rs) w″
+  refusedFrame :
+      {w w′ w″ fs out out′ : List ℕ} {n : ℕ} {cs : List (Call (List ℕ))} {rs : List Answer}
+      → Framed w fs out (refused n) w′ out′
+      → Match w′ cs rs w″
+      → Match w cs rs w″
 
 -- ---- a frame that was not refused
 -- what words are fed as
@@ -161,6 +165,7 @@ module _ {C : ℕ} where
             ∙ ap (answers C P) (sym (told-frame fs cs));
         kept = subst (λ (Q : Positions). Holds C Q w′) (sym (after-append C P (callsOf fs) (told cs)) ∙ ap (after C P) (sym (told-frame fs cs))) (G .kept);
       }
+  goes {P} H (refusedFrame F h) = goes (subst (Holds C P) (sym (F .left)) H) h
 
 -- from a new empty store on, all answers of a match and the positions after it are the model's, fed the calls alone
 pub matches : {C : ℕ} {w w′ : List ℕ} {cs : List (Call (List ℕ))} {rs : List Answer} → New C w → Match w cs rs w′

@@ -58,8 +58,18 @@ fn refused(r: Refusal) {
     number(model::refusal_number(r));
 }
 
-pub fn not_understood() {
-    io::write_all(1, b"not understood\n");
+// The same line so many times.
+fn repeated(line: &[u8], times: usize) {
+    let mut i: usize = 0;
+    while i < times {
+        io::write_all(1, line);
+        i += 1;
+    }
+}
+
+// The answer to each of so many lines.
+pub fn not_understood(lines: usize) {
+    repeated(b"not understood\n", lines);
 }
 
 pub fn completed(c: Completed) {
@@ -180,4 +190,34 @@ pub fn written(w: Written, out: &[u8]) {
         }
     }
     end_line();
+}
+
+// Records of eight words, a line for each.
+fn records(words: &[u64]) {
+    let mut i: usize = 0;
+    while i < words.len() {
+        if i % 8 == 0 {
+            io::write_all(1, b"record");
+        }
+        number(words[i]);
+        if i % 8 == 7 {
+            end_line();
+        }
+        i += 1;
+    }
+}
+
+// A frame, and the records that answer its own; none of them is answered where the frame is refused.
+pub fn framed(c: Completed, answers: &[u64]) {
+    match c {
+        Completed::Refused(r) => {
+            refused(r);
+            end_line();
+            repeated(b"-\n", answers.len() / 8);
+        }
+        Completed::Done => {
+            io::write_all(1, b"done\n");
+            records(answers);
+        }
+    }
 }

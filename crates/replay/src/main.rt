@@ -1,16 +1,23 @@
 // Replays a list of calls: reads it from standard input, in the form that conformance/README.md describes, makes each call through the public
-// calls, and prints its answer. A line that is not of that form is answered `not understood`.
-// Its stdin and stdout are a sample, written by make conformance: the list `refusals`, and the first 300 lines of `long`.
+// calls, and prints its answer. A line that is not of that form is answered `not understood`. So is a frame that is not followed by all of its
+// records, and each of them, and a record outside of a frame; the line that comes in a record's place is then read as any other.
+// Its stdin and stdout are a sample: the list `refusals`, the first 200 lines of `long`, and lines 7 to 135 of `frames`.
 ghost use Prim.Native.Nat.{_≤_};
 ghost use lib.ListN.{length};
 
 mod answer;
 mod calls;
+mod frames;
 mod line;
 mod stores;
 
 // Makes the call of a line and prints its answer, or tells that the line is none: a name, a store, and what the call takes.
-fn understood(words: &mut [u64; 2144], lengths: &mut [usize; 4], line: &[u8]) -> bool {
+fn understood(
+    words: &mut [u64; 2144],
+    lengths: &mut [usize; 4],
+    rows: &mut [u64; 520],
+    line: &[u8],
+) -> bool {
     let e = line::word_end(line, 0);
     if e >= line.len() {
         return false;
@@ -19,16 +26,34 @@ fn understood(words: &mut [u64; 2144], lengths: &mut [usize; 4], line: &[u8]) ->
         return false;
     }
     let s = line::at_most(line, e + 1, 3);
-    stores::call_named(words, lengths, s.value as usize, &line[0..e], line, s.next)
+    stores::call_named(
+        words,
+        lengths,
+        rows,
+        s.value as usize,
+        &line[0..e],
+        line,
+        s.next,
+    )
 }
 
-// The same for the first n bytes of what is lent, with an answer for every line.
-fn replay(words: &mut [u64; 2144], lengths: &mut [usize; 4], line: &[u8], n: usize)
+// The same for the first n bytes of what is lent, with an answer for every line; those of a frame are answered when its last record is there.
+fn replay(
+    words: &mut [u64; 2144],
+    lengths: &mut [usize; 4],
+    rows: &mut [u64; 520],
+    line: &[u8],
+    n: usize,
+)
     requires { ⌜ n ≤ length (now line) ⌝ }
 {
-    if !understood(words, lengths, &line[0..n]) {
-        answer::not_understood();
+    if !frames::record(rows, &line[0..n]) {
+        frames::give_up(rows);
+        if !understood(words, lengths, rows, &line[0..n]) {
+            answer::not_understood(1);
+        }
     }
+    stores::frame(words, lengths, rows);
 }
 
 // One byte more of a line; what comes after 4,096 bytes is dropped, the line feed with it.
@@ -46,6 +71,7 @@ fn put(line: &mut [u8; 4096], n: usize, b: u8) -> usize
 fn take(
     words: &mut [u64; 2144],
     lengths: &mut [usize; 4],
+    rows: &mut [u64; 520],
     line: &mut [u8; 4096],
     n: usize,
     b: u8,
@@ -54,13 +80,14 @@ fn take(
     if b != b'\n' {
         return k;
     }
-    replay(words, lengths, line, k);
+    replay(words, lengths, rows, line, k);
     0
 }
 
 fn take_all(
     words: &mut [u64; 2144],
     lengths: &mut [usize; 4],
+    rows: &mut [u64; 520],
     line: &mut [u8; 4096],
     n: usize,
     bytes: &[u8],
@@ -68,7 +95,7 @@ fn take_all(
     let mut k = n;
     let mut i: usize = 0;
     while i < bytes.len() {
-        k = take(words, lengths, line, k, bytes[i]);
+        k = take(words, lengths, rows, line, k, bytes[i]);
         i += 1;
     }
     k
@@ -83,6 +110,7 @@ struct Rest {
 fn read(
     words: &mut [u64; 2144],
     lengths: &mut [usize; 4],
+    rows: &mut [u64; 520],
     line: &mut [u8; 4096],
     n: usize,
 ) -> Rest {
@@ -90,7 +118,7 @@ fn read(
     let got = libc::read(0, &mut piece);
     let k = io::count(got, &piece);
     Rest {
-        bytes: take_all(words, lengths, line, n, &piece[..k]),
+        bytes: take_all(words, lengths, rows, line, n, &piece[..k]),
         more: k > 0,
     }
 }
@@ -99,6 +127,7 @@ fn read(
 fn main() {
     let mut words = [0u64; 2144];
     let mut lengths = [0usize; 4];
+    let mut rows = [0u64; 520];
     let mut line = [0u8; 4096];
     let mut rest = Rest {
         bytes: 0,
@@ -109,10 +138,11 @@ fn main() {
         if !rest.more {
             break;
         }
-        rest = read(&mut words, &mut lengths, &mut line, rest.bytes);
+        rest = read(&mut words, &mut lengths, &mut rows, &mut line, rest.bytes);
         turns -= 1;
     }
+    frames::give_up(&mut rows);
     if rest.bytes > 0 {
-        answer::not_understood();
+        answer::not_understood(1);
     }
 }

@@ -5,6 +5,7 @@ ghost use lib.ListN.{length};
 ghost use Rattle.io.specs.Counts.{Counts};
 use crate::answer;
 use crate::calls;
+use crate::frames;
 use crate::line;
 use interval_bit_set::carry;
 use model::Completed;
@@ -145,6 +146,7 @@ fn eq(words: &[u64], lengths: &[usize; 4], s: usize, line: &[u8], at: usize) -> 
 pub fn call_named(
     words: &mut [u64],
     lengths: &mut [usize; 4],
+    rows: &mut [u64; 520],
     s: usize,
     name: &[u8],
     line: &[u8],
@@ -167,7 +169,20 @@ pub fn call_named(
     if check::same(name, b"eq") {
         return eq(words, lengths, s, line, at);
     }
+    if check::same(name, b"frame") {
+        return frames::begin(rows, s, line, at);
+    }
     let from = 536 * s;
     let to = from + length_of(lengths, s);
     calls::call_named(&mut words[from..to], name, line, at)
+}
+
+// Makes the frame at hand, if all of its lines are there.
+pub fn frame(words: &mut [u64], lengths: &[usize; 4], rows: &mut [u64; 520])
+    requires { ⌜ length (now words) ≡ 2144 ⌝ }
+{
+    let s = frames::store(rows);
+    let from = 536 * s;
+    let to = from + length_of(lengths, s);
+    frames::make(&mut words[from..to], rows);
 }

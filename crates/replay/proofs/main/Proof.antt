@@ -4,10 +4,10 @@ use Rattle.replay.proofs.main.Statement.{statement}
 use Rattle.replay.proofs.main.Tie as tie
 
 abbrev Inv-loop : tie.InvT-loop
-Inv-loop words₀ lengths₀ line₀ rest₀ turns₀ words lengths line rest turns = Unit {0}
+Inv-loop words₀ lengths₀ rows₀ line₀ rest₀ turns₀ words lengths rows line rest turns = Unit {0}
 
 abbrev μ-loop : tie.MeasureT-loop
-μ-loop words₀ lengths₀ line₀ rest₀ turns₀ words lengths line rest turns = turns
+μ-loop words₀ lengths₀ rows₀ line₀ rest₀ turns₀ words lengths rows line rest turns = turns
 
 loop-holds : tie.Need-loop-holds Inv-loop μ-loop
 loop-holds c = tt
@@ -23,6 +23,9 @@ loop-less c = search needs
 
 loop-again : tie.Need-loop-again Inv-loop μ-loop
 loop-again c = tt
+
+give-up-requires : tie.Need-give-up-requires Inv-loop μ-loop
+give-up-requires c κs = search needs
 
 not-understood-requires : tie.Need-not-understood-requires Inv-loop μ-loop
 not-understood-requires c κs = search needs
@@ -44,6 +47,7 @@ main-spec =
     sub-turns
     loop-less
     loop-again
+    give-up-requires
     not-understood-requires
     returns
     returns-2)

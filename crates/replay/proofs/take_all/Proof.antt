@@ -6,10 +6,10 @@ use Rattle.replay.proofs.take_all.Statement.{statement}
 use Rattle.replay.proofs.take_all.Tie as tie
 
 abbrev Inv-loop : tie.InvT-loop
-Inv-loop words₀ lengths₀ line₀ n bytes k₀ i₀ words lengths line k i = Unit {0}
+Inv-loop words₀ lengths₀ rows₀ line₀ n bytes k₀ i₀ words lengths rows line k i = Unit {0}
 
 abbrev μ-loop : tie.MeasureT-loop
-μ-loop words₀ lengths₀ line₀ n bytes k₀ i₀ words lengths line k i = length bytes - i
+μ-loop words₀ lengths₀ rows₀ line₀ n bytes k₀ i₀ words lengths rows line k i = length bytes - i
 
 loop-holds : tie.Need-loop-holds Inv-loop μ-loop
 loop-holds c = tt
