@@ -1,12 +1,12 @@
 -- The bytes of a map as they are written: a source that stands at a position stands at the next ones too or can be moved there, the bits of k
--- positions are the first one and twice those of the rest, and a slice with j bytes of a map in front has j + 1 after the store of one more.
--- Assumes nothing.
+-- positions are the first one and twice those of the rest, the bytes that lie in one stretch are all ones or all zeros, and a slice with j
+-- bytes of a map in front has j + n after the store of n more. Assumes nothing.
 use Prim.Native.Nat.{ℕ, zero, suc, _+_, _-_, _*_, _/_, _^_, _≤_, _<_, min}
 use mathlib.Core.Path.{_≡_, refl, sym, ap, ap₂, _∙_, subst}
 use mathlib.Core.Logic.{_⊎_, inl, inr}
 use mathlib.Core.Bool.{Bool, true, false}
 use mathlib.Core.List.{List}
-use native.Mathlib.Nat.{zero-add, pow-le-pow-right}
+use native.Mathlib.Nat.{pow-le-pow-right}
 use native.Mathlib.Numerals.{add-one}
 use native.Mathlib.Omega.{arith}
 use lib.ListN.{length, getD, set, length-set}

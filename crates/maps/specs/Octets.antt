@@ -44,8 +44,8 @@ pub record Due (w path : List ℕ) (o : ℕ) (s : Source) (x left j : ℕ) (out 
   pub within : x + left ≤ size
   pub room : j + mapLength left ≤ length out
 
-abbrev pub Coming : List ℕ → List ℕ → ℕ → Source → ℕ → ℕ → ℕ → List ℕ → Type 0
-Coming w path o s x left j out = (Q : Positions) × Due w path o s x left j out Q
+abbrev pub BytesDue : List ℕ → List ℕ → ℕ → Source → ℕ → ℕ → ℕ → List ℕ → Type 0
+BytesDue w path o s x left j out = (Q : Positions) × Due w path o s x left j out Q
 
 -- some bytes of it are there, but not the last one, and the source is at their last position
 pub record Done (w path : List ℕ) (o x left j : ℕ) (out out′ : List ℕ) (r : Stored) (Q : Positions) : Type 0 where

@@ -6,7 +6,7 @@ ghost use Rattle.model.specs.Numbers.{size};
 ghost use Rattle.model.specs.Bytes.{mapOf, mapLength, intoFront};
 ghost use Rattle.store.specs.Layout.{heldBy};
 ghost use Rattle.store.specs.Soundness.{Sound};
-ghost use Rattle.maps.specs.Octets.{Standing, Octets, stores, Coming, StoresNext};
+ghost use Rattle.maps.specs.Octets.{Standing, Octets, stores, BytesDue, StoresNext};
 use streams::source::Source;
 
 // A byte of a map, and the source at its last position.
@@ -36,7 +36,7 @@ fn octet_of(words: &[u64], path: &mut [u64; 22], offset: u64, s: Source, x: u64,
     }
 }
 
-// StoresNext n copies of a byte from j on.
+// Stores n copies of a byte from j on.
 fn fill_bytes(out: &mut [u8], j: usize, n: usize, byte: u8)
     requires { ⌜ j + n ≤ length (now out) ⌝ }
     ensures { λ _. ⌜ now (out .exit) ≡ stores (λ _. byte) j n (now (out .entry)) ⌝ }
@@ -67,7 +67,8 @@ pub struct Stored {
     pub source: Source,
 }
 
-// StoresNext the next bytes of a map at j, but not its last one: all bytes of one value at once, or one byte. From x on `left` positions are to come.
+// Stores the next bytes of a map at j, but not its last one: all those that lie in one stretch, or one byte. From x on `left` positions are
+// to come.
 fn next_bytes(
     words: &[u64],
     path: &mut [u64; 22],
@@ -78,7 +79,7 @@ fn next_bytes(
     out: &mut [u8],
     j: usize,
 ) -> Stored
-    requires { ⌜ Coming (now words) (now path) offset s x left j (now out) ⌝ }
+    requires { ⌜ BytesDue (now words) (now path) offset s x left j (now out) ⌝ }
     ensures { λ r. ⌜ StoresNext (now (words .entry)) (now (path .entry)) (now (path .exit)) offset s x left j (now (out .entry)) (now (out .exit)) r ⌝ }
 {
     let after = streams::sweep::same_to(s, x) - x;
