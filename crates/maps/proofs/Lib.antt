@@ -5,4 +5,5 @@ pub mod Surveying
 pub mod Leaving
 pub mod OnTheWay
 pub mod Applying
+pub mod Storing
 pub mod Octeting

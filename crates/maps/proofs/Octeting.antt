@@ -1,16 +1,15 @@
 -- The bytes of a map as they are written: a source that stands at a position stands at the next ones too or can be moved there, the bits of k
--- positions are the first one and twice those of the rest, and a slice with j bytes of a map in front has j + 1 after the store of one more.
--- Assumes nothing.
-use Prim.Native.Nat.{ℕ, zero, suc, _+_, _-_, _*_, _^_, _≤_, _<_, min}
+-- positions are the first one and twice those of the rest, the bytes that lie in one stretch are all ones or all zeros, and a slice with j
+-- bytes of a map in front has j + n after the store of n more. Assumes nothing.
+use Prim.Native.Nat.{ℕ, zero, suc, _+_, _-_, _*_, _/_, _^_, _≤_, _<_, min}
 use mathlib.Core.Path.{_≡_, refl, sym, ap, ap₂, _∙_, subst}
 use mathlib.Core.Logic.{_⊎_, inl, inr}
 use mathlib.Core.Bool.{Bool, true, false}
-use mathlib.Core.List.{List, _++_}
-use native.Mathlib.Nat.{zero-add, pow-le-pow-right}
+use mathlib.Core.List.{List}
+use native.Mathlib.Nat.{pow-le-pow-right}
 use native.Mathlib.Numerals.{add-one}
 use native.Mathlib.Omega.{arith}
-use lib.ListN.{length, take, drop, getD, set, length-set}
-use lib.Seq.{paste-suc, length-paste, take-length}
+use lib.ListN.{length, getD, set, length-set}
 use Rattle.model.specs.Numbers.{size}
 use Rattle.model.specs.Positions.{Positions, oneIf, mem}
 use Rattle.model.specs.Bytes.{bits, mapLength, mapOf, intoFront}
@@ -23,7 +22,9 @@ use Rattle.streams.specs.Reading.{Stands, Reads}
 use Rattle.streams.specs.Sweeping.{ValueAt, SameTo, CanMove, Moves}
 use Rattle.streams.proofs.Sweeps.{moves-within, moves-over}
 use Rattle.maps.specs.declared.write.Octet.{Octet}
-use Rattle.maps.specs.Octets.{Stood, Octets}
+use Rattle.maps.specs.declared.write.Stored.{Stored}
+use Rattle.maps.specs.Octets.{Stood, Octets, stores, Due, Done, StoresNext}
+use Rattle.maps.proofs.Storing.{stores-cong, stores-one, fronted, fronted-suc, fronted-more, fronted-length, fronted-all}
 
 -- ---- where a source stands
 -- it can be moved to the next position
@@ -131,33 +132,43 @@ module _ (w path : List ℕ) (o : ℕ) (s : Source) (x k : ℕ) {v : Bool} (f : 
       there : (x k : ℕ) → 1 ≤ k → (k ≡ 1 → ⊥) → x + 1 + (k - 1) - 1 ≡ x + k - 1
       there x k h l = omega arith
 
-  -- eight of one value
-  pub octets-all : {n last : ℕ} → n ≡ 255 * oneIf v → k ≡ 8 → SameTo s x last → 7 ≤ last - x → Octets w path path o s x k (record { bits = n; source = s })
-  octets-all e l m g Q h =
-      let i = m w path o Q (h .reads) (omega (arith, h .some, h .within)) in record {
-        bits-are = e ∙ (all-bits v x ∙ (bits-cong (λ _. v) Q x 8 (λ y a b. value-here Q h ∙ sym (i .alike y a (omega arith))) ∙ ap (bits Q x) (sym l)));
-        reads = reads-later w path o s x (x + k - 1) Q (h .sound) (h .reads) (omega arith) (λ e. omega (arith, i .within e));
+-- ---- the next bytes of a map, of which more than one is to come
+module _ {w path : List ℕ} {o : ℕ} {s : Source} {x left j : ℕ} {out : List ℕ} {Q : Positions} (d : Due w path o s x left j out Q) where
+  pub due-stood : Stood w path o s x 8 Q
+  due-stood = record {
+    sound = d .sound;
+    reads = d .reads;
+    some = omega arith;
+    few = omega arith;
+    within = omega (arith, d .more, d .within);
+  }
+
+  -- the bytes in a stretch of one value
+  pub due-alike : {v : Bool} {last n b : ℕ} {out′ : List ℕ} → ValueAt s x v → SameTo s x last → 7 ≤ last - x → n ≡ min (last - x + 1) (left - 1) / 8 → b ≡ 255 * oneIf v
+      → out′ ≡ stores (λ _. b) j n out → Done w path o x left j out out′ (record { count = n; source = s }) Q
+  due-alike {v} {last} {n} {b} f m g e h z =
+      let i = m w path o Q (d .reads) (omega (arith, d .more, d .within)) in record {
+        some = omega (arith, d .more);
+        before = omega (arith, d .more);
+        reads = reads-later w path o s x (x + 8 * n - 1) Q (d .sound) (d .reads) (omega (arith, d .more)) (λ u. omega (arith, i .within u));
+        bytes = z ∙ stores-cong (λ _. b) (λ i. bits Q (x + 8 * i) 8) j n out
+            (λ k l. h ∙ (all-bits v (x + 8 * k) ∙ bits-cong (λ _. v) Q (x + 8 * k) 8 (λ y a c. value-here w path o s x 8 f Q due-stood ∙ sym (i .alike y (omega arith) (omega arith)))));
       }
+
+  -- one byte
+  pub due-octet : {path′ : List ℕ} {r : Octet} → Octets w path path′ o s x 8 r → Done w path′ o x left j out (set out j (r .bits)) (record { count = 1; source = r .source }) Q
+  due-octet {r = r} g = record {
+    some = omega arith;
+    before = omega (arith, d .more);
+    reads = (g Q due-stood) .reads;
+    bytes = stores-one (λ i. bits Q (x + 8 * i) 8) j out ((g Q due-stood) .bits-are ∙ ap (λ (y : ℕ). bits Q y 8) (omega arith));
+  }
 
 -- ---- the map of a window, byte by byte
 -- the header's offset is that of the store's positions
 held-is : (w : List ℕ) {h : Header} → h ≡ headerAt w → turned (h .offset) (mem (physicalRuns w)) ≡ heldBy w
 unfolding heldBy
 held-is w e = ap (λ (h : Header). turned (h .offset) (mem (physicalRuns w))) e
-
--- a slice with the first j of some bytes in front
-abbrev fronted : List ℕ → List ℕ → ℕ → List ℕ
-fronted bs out j = take j bs ++ drop j out
-
-fronted-suc : (bs out : List ℕ) (j : ℕ) → j < length out → j < length bs → set (fronted bs out j) j (getD bs j 0) ≡ fronted bs out (suc j)
-fronted-suc bs out j h g = simp zero-add at (paste-suc out 0 bs j 0 (rw zero-add h) g)
-
-fronted-length : (bs out : List ℕ) (j : ℕ) → j ≤ length out → j ≤ length bs → length (fronted bs out j) ≡ length out
-fronted-length bs out j h g = simp zero-add at (length-paste out 0 bs j (rw zero-add h) g)
-
-fronted-all : (bs out : List ℕ) (j : ℕ) → j ≡ length bs → fronted bs out j ≡ intoFront bs out
-unfolding intoFront
-fronted-all bs out j e = rw (e, take-length)
 
 -- what holds at each turn: j bytes of the map of Q are in front, and the source stands at the first position of the next one
 pub record Writing (w path : List ℕ) (o : ℕ) (s : Source) (base n x left j : ℕ) (out₀ out : List ℕ) (Q : Positions) : Type 0 where
@@ -199,33 +210,47 @@ module _ {w path : List ℕ} {o : ℕ} {s : Source} {base n x left j : ℕ} {out
     within = omega (arith, i .place, i .rest);
   }
 
-  -- one byte more is in front when it is stored
-  stored : {path′ : List ℕ} {r : Octet} (k : ℕ) → 1 ≤ k → k ≡ min 8 left → Octets w path path′ o s x k r → set out j (r .bits) ≡ fronted (mapOf Q base n) out₀ (suc j)
-  stored {r = r} k a e g =
-      let h = g Q (writing-stood k a (omega arith) (omega arith)) in
-      ap₂ (λ (l : List ℕ) (b : ℕ). set l j b) (i .front) (h .bits-are ∙ (ap₂ (bits Q) (i .place) (several k e) ∙ sym (mapOf-at Q base n j begun)))
-      ∙ fronted-suc (mapOf Q base n) out₀ j (omega (arith, begun)) (omega (arith, begun, mapOf-length Q base n))
-    where
-      several : (k : ℕ) → k ≡ min 8 left → k ≡ min 8 (n - 8 * j)
-      several k e = omega (arith, i .rest)
-
-  -- eight positions more
-  pub writing-moves : {path′ : List ℕ} {r : Octet} → 8 < left → Octets w path path′ o s x 8 r → CanMove w path′ o (r .source) (x + 8) (x + 8 - 1) Q
-  writing-moves m g = next-move sound ((g Q (writing-stood 8 (omega arith) (omega arith) (omega arith))) .reads) (omega arith) (omega arith)
-
-  pub writing-more : {path′ path″ : List ℕ} {r : Octet} {t : Source} → 8 < left → Octets w path path′ o s x 8 r → Moves w path′ path″ o (r .source) (x + 8) t
-      → Writing w path″ o t base n (x + 8) (left - 8) (j + 1) out₀ (set out j (r .bits)) Q
-  writing-more m g a = record {
-    reads = a (x + 8 - 1) Q (writing-moves m g);
-    place = omega (arith, i .place);
-    rest = omega (arith, i .rest);
-    some = omega arith;
-    front = rw add-one (stored 8 (omega arith) (omega arith) g);
+  -- bytes more than the last one
+  pub writing-due : 8 < left → Due w path o s x left j out Q
+  writing-due m = record {
+    sound = sound;
+    reads = i .reads;
+    more = m;
+    within = omega (arith, i .place, i .rest);
+    room = omega (arith, i .rest, long);
   }
+
+  module _ {path′ out′ : List ℕ} {r : Stored} (m : 8 < left) (g : StoresNext w path path′ o s x left j out out′ r) where
+    pub writing-done : Done w path′ o x left j out out′ r Q
+    writing-done = g Q (writing-due m)
+
+    pub writing-moves : CanMove w path′ o (r .source) (x + 8 * r .count) (x + 8 * r .count - 1) Q
+    writing-moves = next-move sound (writing-done .reads) (omega arith) (omega arith)
+
+    pub writing-more : {path″ : List ℕ} {t : Source} → Moves w path′ path″ o (r .source) (x + 8 * r .count) t
+        → Writing w path″ o t base n (x + 8 * r .count) (left - 8 * r .count) (j + r .count) out₀ out′ Q
+    writing-more a = record {
+      reads = a (x + 8 * r .count - 1) Q writing-moves;
+      place = omega (arith, i .place);
+      rest = omega (arith, i .rest, writing-done .before);
+      some = omega (arith, writing-done .before);
+      front = writing-done .bytes
+          ∙ (ap (stores (λ i. bits Q (x + 8 * i) 8) j (r .count)) (i .front)
+          ∙ fronted-more (mapOf Q base n) out₀ (λ i. bits Q (x + 8 * i) 8) j (r .count) (omega (arith, i .rest, writing-done .before)) (omega (arith, i .rest, writing-done .before, mapOf-length Q base n)) alike);
+    }
+      where
+        alike : (k : ℕ) → k < r .count → bits Q (x + 8 * k) 8 ≡ getD (mapOf Q base n) (j + k) 0
+        alike k h =
+            ap₂ (bits Q) (omega (arith, i .place)) (omega (arith, i .rest, writing-done .before))
+            ∙ sym (mapOf-at Q base n (j + k) (omega (arith, i .rest, writing-done .before)))
 
   -- the last byte
   pub writing-all : {path′ : List ℕ} {r : Octet} → left ≤ 8 → Octets w path path′ o s x left r → set out j (r .bits) ≡ intoFront (mapOf Q base n) out₀
-  writing-all m g = stored left (i .some) (omega arith) g ∙ fronted-all (mapOf Q base n) out₀ (suc j) (omega (arith, i .rest, i .some, mapOf-length Q base n))
+  writing-all {r = r} m g =
+      ap₂ (λ (l : List ℕ) (b : ℕ). set l j b) (i .front)
+      ((g Q (writing-stood left (i .some) m (omega arith))) .bits-are ∙ (ap₂ (bits Q) (i .place) (omega (arith, i .rest)) ∙ sym (mapOf-at Q base n j begun)))
+      ∙ (fronted-suc (mapOf Q base n) out₀ j (omega (arith, begun)) (omega (arith, begun, mapOf-length Q base n))
+      ∙ fronted-all (mapOf Q base n) out₀ (suc j) (omega (arith, i .rest, i .some, mapOf-length Q base n)))
 
   pub writing-long : (b : ℕ) → length (set out j b) ≡ length out₀
   writing-long b = length-set out j b ∙ long

@@ -1,12 +1,12 @@
-// Writing the map of a window, byte by byte.
+// Writing the map of a window: bytes that lie in one stretch at once, the others bit by bit.
 ghost use mathlib.Core.Path.{_≡_};
-ghost use Prim.Native.Nat.{_+_, _≤_};
+ghost use Prim.Native.Nat.{_+_, _-_, _/_, _≤_, min};
 ghost use lib.ListN.{length};
 ghost use Rattle.model.specs.Numbers.{size};
 ghost use Rattle.model.specs.Bytes.{mapOf, mapLength, intoFront};
 ghost use Rattle.store.specs.Layout.{heldBy};
 ghost use Rattle.store.specs.Soundness.{Sound};
-ghost use Rattle.maps.specs.Octets.{Standing, Octets};
+ghost use Rattle.maps.specs.Octets.{Standing, Octets, stores, BytesDue, StoresNext};
 use streams::source::Source;
 
 // A byte of a map, and the source at its last position.
@@ -36,26 +36,73 @@ fn octet_of(words: &[u64], path: &mut [u64; 22], offset: u64, s: Source, x: u64,
     }
 }
 
-// The same; eight positions of one value are told at once.
-fn next_octet(words: &[u64], path: &mut [u64; 22], offset: u64, s: Source, x: u64, k: u64) -> Octet
-    requires { ⌜ Standing (now words) (now path) offset s x k ⌝ }
-    ensures { λ r. ⌜ Octets (now (words .entry)) (now (path .entry)) (now (path .exit)) offset s x k r ⌝ }
+// Stores n copies of a byte from j on.
+fn fill_bytes(out: &mut [u8], j: usize, n: usize, byte: u8)
+    requires { ⌜ j + n ≤ length (now out) ⌝ }
+    ensures { λ _. ⌜ now (out .exit) ≡ stores (λ _. byte) j n (now (out .entry)) ⌝ }
 {
-    if k == 8 {
-        let last = streams::sweep::same_to(s, x);
-        if last - x >= 7 {
-            let all: u64 = if streams::sweep::value_at(s, x) {
-                255
-            } else {
-                0
-            };
-            return Octet {
-                bits: all,
-                source: s,
-            };
-        }
+    let mut i: usize = 0;
+    while i < n {
+        out[j + i] = byte;
+        i += 1;
     }
-    octet_of(words, path, offset, s, x, k)
+}
+
+// How many whole bytes lie in a position and those after it, of the bytes before the last one of `left` positions.
+fn whole_bytes(after: u64, left: u64) -> u64
+    requires { ⌜ 1 ≤ left ⌝ }
+    ensures { λ r. ⌜ r ≡ min (after + 1) (left - 1) / 8 ⌝ }
+{
+    let most = left - 1;
+    if after < most {
+        (after + 1) / 8
+    } else {
+        most / 8
+    }
+}
+
+// Bytes of a map that were stored, and the source at their last position.
+pub struct Stored {
+    pub count: u64,
+    pub source: Source,
+}
+
+// Stores the next bytes of a map at j, but not its last one: all those that lie in one stretch, or one byte. From x on `left` positions are
+// to come.
+fn next_bytes(
+    words: &[u64],
+    path: &mut [u64; 22],
+    offset: u64,
+    s: Source,
+    x: u64,
+    left: u64,
+    out: &mut [u8],
+    j: usize,
+) -> Stored
+    requires { ⌜ BytesDue (now words) (now path) offset s x left j (now out) ⌝ }
+    ensures { λ r. ⌜ StoresNext (now (words .entry)) (now (path .entry)) (now (path .exit)) offset s x left j (now (out .entry)) (now (out .exit)) r ⌝ }
+{
+    let after = streams::sweep::same_to(s, x) - x;
+    if after >= 7 {
+        let all: u8 = if streams::sweep::value_at(s, x) {
+            255
+        } else {
+            0
+        };
+        let n = whole_bytes(after, left);
+        fill_bytes(out, j, n as usize, all);
+        return Stored {
+            count: n,
+            source: s,
+        };
+    }
+    let o = octet_of(words, path, offset, s, x, 8);
+    out[j] = o.bits as u8;
+    let t = o.source;
+    Stored {
+        count: 1,
+        source: t,
+    }
 }
 
 // Writes the map of n positions from base on into the front of a slice that has room for it.
@@ -72,14 +119,13 @@ pub fn write_map(words: &[u64], base: u64, n: u64, out: &mut [u8])
     let mut left = n;
     let mut j: usize = 0;
     while left > 8 {
-        let o = next_octet(words, &mut path, h.offset, s, x, 8);
-        out[j] = o.bits as u8;
-        let t = o.source;
-        x += 8;
+        let r = next_bytes(words, &mut path, h.offset, s, x, left, out, j);
+        let t = r.source;
+        x += 8 * r.count;
         s = streams::sweep::moved(words, &mut path, h.offset, t, x);
-        left -= 8;
-        j += 1;
+        left -= 8 * r.count;
+        j += r.count as usize;
     }
-    let o = next_octet(words, &mut path, h.offset, s, x, left);
+    let o = octet_of(words, &mut path, h.offset, s, x, left);
     out[j] = o.bits as u8;
 }

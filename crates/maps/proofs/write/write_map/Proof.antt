@@ -2,10 +2,9 @@
 -- position of the next one. The measure is how many positions are left. Assumes nothing.
 use mathlib.Core.Path.{refl}
 use native.Mathlib.Omega.{arith}
-use borrow.Author.Needs.{needs}
 use Rattle.store.specs.Layout.{heldBy}
 use Rattle.store.proofs.Opening.{sound-room}
-use Rattle.maps.proofs.Octeting.{Writing, writing-none, writing-room, writing-stood, writing-moves, writing-more, writing-all, writing-long, octets-small}
+use Rattle.maps.proofs.Octeting.{Writing, writing-none, writing-room, writing-stood, writing-due, writing-done, writing-moves, writing-more, writing-all, writing-long, octets-small}
 use Rattle.maps.proofs.write.write_map.Statement.{statement}
 use Rattle.maps.proofs.write.write_map.Tie as tie
 
@@ -24,47 +23,47 @@ open-requires c κs = (c .before .before .before .before .pre .0, refl)
 loop-holds : tie.Need-loop-holds Inv-loop μ-loop
 loop-holds c = writing-none (c .before .before .read-header .ensures) (c .«open» .ensures) (c .before .before .before .before .before .pre .1 .0 .0)
 
-next-octet-requires : tie.Need-next-octet-requires Inv-loop μ-loop
-next-octet-requires c κs = (_, writing-stood (c .before .before .before .before .before .before .before .before .pre .0) (c .before .before .before .before .before .before .before .before .pre .1 .0 .1) (c .before .before .before .before .before .before .before .before .pre .1 .1) (c .before .before .loop .inv) 8 (omega arith) (omega arith) (omega arith))
+next-bytes-requires : tie.Need-next-bytes-requires Inv-loop μ-loop
+next-bytes-requires c κs = (_, writing-due (c .before .before .before .before .before .before .before .before .before .pre .0) (c .before .before .before .before .before .before .before .before .before .pre .1 .0 .1) (c .before .before .before .before .before .before .before .before .before .pre .1 .1) (c .before .before .before .loop .inv) (c .before .before .loop-test .taken))
+
+mul-x : tie.Need-mul-x Inv-loop μ-loop
+mul-x c = omega (arith, c .before .before .before .before .before .before .before .before .loop .inv .place, c .before .before .before .before .before .before .before .before .loop .inv .rest, c .before .before .before .before .before .before .before .before .before .before .before .before .before .before .pre .1 .0 .1, (writing-done (c .before .before .before .before .before .before .before .before .before .before .before .before .before .before .pre .0) (c .before .before .before .before .before .before .before .before .before .before .before .before .before .before .pre .1 .0 .1) (c .before .before .before .before .before .before .before .before .before .before .before .before .before .before .pre .1 .1) (c .before .before .before .before .before .before .before .before .loop .inv) (c .before .before .before .before .before .before .before .loop-test .taken) (c .before .before .before .before .next-bytes .ensures)) .before)
+
+add-x : tie.Need-add-x Inv-loop μ-loop
+add-x c = omega (arith, c .before .before .before .before .before .before .before .before .loop .inv .place, c .before .before .before .before .before .before .before .before .loop .inv .rest, c .before .before .before .before .before .before .before .before .before .before .before .before .before .before .pre .1 .0 .1, (writing-done (c .before .before .before .before .before .before .before .before .before .before .before .before .before .before .pre .0) (c .before .before .before .before .before .before .before .before .before .before .before .before .before .before .pre .1 .0 .1) (c .before .before .before .before .before .before .before .before .before .before .before .before .before .before .pre .1 .1) (c .before .before .before .before .before .before .before .before .loop .inv) (c .before .before .before .before .before .before .before .loop-test .taken) (c .before .before .before .before .next-bytes .ensures)) .before)
+
+moved-requires : tie.Need-moved-requires Inv-loop μ-loop
+moved-requires c κs = (_, _, writing-moves (c .before .before .before .before .before .before .before .before .before .before .before .before .before .before .before .pre .0) (c .before .before .before .before .before .before .before .before .before .before .before .before .before .before .before .pre .1 .0 .1) (c .before .before .before .before .before .before .before .before .before .before .before .before .before .before .before .pre .1 .1) (c .before .before .before .before .before .before .before .before .before .loop .inv) (c .before .before .before .before .before .before .before .before .loop-test .taken) (c .before .before .before .before .before .next-bytes .ensures))
+
+mul-left : tie.Need-mul-left Inv-loop μ-loop
+mul-left c = omega (arith, c .before .before .before .before .before .before .before .before .before .before .before .loop .inv .place, c .before .before .before .before .before .before .before .before .before .before .before .loop .inv .rest, c .before .before .before .before .before .before .before .before .before .before .before .before .before .before .before .before .before .pre .1 .0 .1, (writing-done (c .before .before .before .before .before .before .before .before .before .before .before .before .before .before .before .before .before .pre .0) (c .before .before .before .before .before .before .before .before .before .before .before .before .before .before .before .before .before .pre .1 .0 .1) (c .before .before .before .before .before .before .before .before .before .before .before .before .before .before .before .before .before .pre .1 .1) (c .before .before .before .before .before .before .before .before .before .before .before .loop .inv) (c .before .before .before .before .before .before .before .before .before .before .loop-test .taken) (c .before .before .before .before .before .before .before .next-bytes .ensures)) .before)
+
+sub-left : tie.Need-sub-left Inv-loop μ-loop
+sub-left c = omega (arith, (writing-done (c .before .before .before .before .before .before .before .before .before .before .before .before .before .before .before .before .before .pre .0) (c .before .before .before .before .before .before .before .before .before .before .before .before .before .before .before .before .before .pre .1 .0 .1) (c .before .before .before .before .before .before .before .before .before .before .before .before .before .before .before .before .before .pre .1 .1) (c .before .before .before .before .before .before .before .before .before .before .before .loop .inv) (c .before .before .before .before .before .before .before .before .before .before .loop-test .taken) (c .before .before .before .before .before .before .before .next-bytes .ensures)) .before)
+
+add-j : tie.Need-add-j Inv-loop μ-loop
+add-j c = omega (arith, c .before .before .before .before .before .before .before .before .before .before .before .loop .inv .place, c .before .before .before .before .before .before .before .before .before .before .before .loop .inv .rest, c .before .before .before .before .before .before .before .before .before .before .before .before .before .before .before .before .before .pre .1 .0 .1, (writing-done (c .before .before .before .before .before .before .before .before .before .before .before .before .before .before .before .before .before .pre .0) (c .before .before .before .before .before .before .before .before .before .before .before .before .before .before .before .before .before .pre .1 .0 .1) (c .before .before .before .before .before .before .before .before .before .before .before .before .before .before .before .before .before .pre .1 .1) (c .before .before .before .before .before .before .before .before .before .before .before .loop .inv) (c .before .before .before .before .before .before .before .before .before .before .loop-test .taken) (c .before .before .before .before .before .before .before .next-bytes .ensures)) .before)
+
+loop-less : tie.Need-loop-less Inv-loop μ-loop
+loop-less c = omega (arith, (writing-done (c .before .before .before .before .before .before .before .before .before .before .before .before .before .before .before .before .before .pre .0) (c .before .before .before .before .before .before .before .before .before .before .before .before .before .before .before .before .before .pre .1 .0 .1) (c .before .before .before .before .before .before .before .before .before .before .before .before .before .before .before .before .before .pre .1 .1) (c .before .before .before .before .before .before .before .before .before .before .before .loop .inv) (c .before .before .before .before .before .before .before .before .before .before .loop-test .taken) (c .before .before .before .before .before .before .before .next-bytes .ensures)) .before, (writing-done (c .before .before .before .before .before .before .before .before .before .before .before .before .before .before .before .before .before .pre .0) (c .before .before .before .before .before .before .before .before .before .before .before .before .before .before .before .before .before .pre .1 .0 .1) (c .before .before .before .before .before .before .before .before .before .before .before .before .before .before .before .before .before .pre .1 .1) (c .before .before .before .before .before .before .before .before .before .before .before .loop .inv) (c .before .before .before .before .before .before .before .before .before .before .loop-test .taken) (c .before .before .before .before .before .before .before .next-bytes .ensures)) .some)
+
+loop-again : tie.Need-loop-again Inv-loop μ-loop
+loop-again c = writing-more (c .before .before .before .before .before .before .before .before .before .before .before .before .before .before .before .before .before .pre .0) (c .before .before .before .before .before .before .before .before .before .before .before .before .before .before .before .before .before .pre .1 .0 .1) (c .before .before .before .before .before .before .before .before .before .before .before .before .before .before .before .before .before .pre .1 .1) (c .before .before .before .before .before .before .before .before .before .before .before .loop .inv) (c .before .before .before .before .before .before .before .before .before .before .loop-test .taken) (c .before .before .before .before .before .before .before .next-bytes .ensures) (c .before .moved .ensures)
+
+octet-of-requires : tie.Need-octet-of-requires Inv-loop μ-loop
+octet-of-requires c κs = (_, writing-stood (c .before .before .before .before .before .before .before .before .pre .0) (c .before .before .before .before .before .before .before .before .pre .1 .0 .1) (c .before .before .before .before .before .before .before .before .pre .1 .1) (c .before .before .loop .inv) _ (c .before .before .loop .inv .some) (omega arith) (omega arith))
 
 cast-out : tie.Need-cast-out Inv-loop μ-loop
-cast-out c = omega (arith, octets-small (writing-stood (c .before .before .before .before .before .before .before .before .before .before .pre .0) (c .before .before .before .before .before .before .before .before .before .before .pre .1 .0 .1) (c .before .before .before .before .before .before .before .before .before .before .pre .1 .1) (c .before .before .before .before .loop .inv) 8 (omega arith) (omega arith) (omega arith)) (c .before .next-octet .ensures))
+cast-out c = omega (arith, octets-small (writing-stood (c .before .before .before .before .before .before .before .before .before .before .pre .0) (c .before .before .before .before .before .before .before .before .before .before .pre .1 .0 .1) (c .before .before .before .before .before .before .before .before .before .before .pre .1 .1) (c .before .before .before .before .loop .inv) _ (c .before .before .before .before .loop .inv .some) (omega arith) (omega arith)) (c .before .octet-of .ensures))
 
 slice-write-out : tie.Need-slice-write-out Inv-loop μ-loop
 slice-write-out c = writing-room (c .before .before .before .before .before .before .before .before .before .before .pre .0) (c .before .before .before .before .before .before .before .before .before .before .pre .1 .0 .1) (c .before .before .before .before .before .before .before .before .before .before .pre .1 .1) (c .before .before .before .before .loop .inv)
-
-add-x : tie.Need-add-x Inv-loop μ-loop
-add-x c = omega (arith, c .before .before .before .before .before .loop .inv .place, c .before .before .before .before .before .loop .inv .rest, c .before .before .before .before .before .before .before .before .before .before .before .pre .1 .0 .1)
-
-moved-requires : tie.Need-moved-requires Inv-loop μ-loop
-moved-requires c κs = (_, _, writing-moves (c .before .before .before .before .before .before .before .before .before .before .before .before .pre .0) (c .before .before .before .before .before .before .before .before .before .before .before .before .pre .1 .0 .1) (c .before .before .before .before .before .before .before .before .before .before .before .before .pre .1 .1) (c .before .before .before .before .before .before .loop .inv) (c .before .before .before .before .before .loop-test .taken) (c .before .before .before .next-octet .ensures))
-
-sub-left : tie.Need-sub-left Inv-loop μ-loop
-sub-left c = omega arith
-
-add-j : tie.Need-add-j Inv-loop μ-loop
-add-j c = omega (arith, c .before .before .before .before .before .before .before .loop .inv .rest, c .before .before .before .before .before .before .before .before .before .before .before .before .before .pre .1 .0 .1)
-
-loop-less : tie.Need-loop-less Inv-loop μ-loop
-loop-less c = omega arith
-
-loop-again : tie.Need-loop-again Inv-loop μ-loop
-loop-again c = writing-more (c .before .before .before .before .before .before .before .before .before .before .before .before .before .pre .0) (c .before .before .before .before .before .before .before .before .before .before .before .before .before .pre .1 .0 .1) (c .before .before .before .before .before .before .before .before .before .before .before .before .before .pre .1 .1) (c .before .before .before .before .before .before .before .loop .inv) (c .before .before .before .before .before .before .loop-test .taken) (c .before .before .before .before .next-octet .ensures) (c .moved .ensures)
-
-next-octet-requires-2 : tie.Need-next-octet-requires-2 Inv-loop μ-loop
-next-octet-requires-2 c κs = (_, writing-stood (c .before .before .before .before .before .before .before .before .pre .0) (c .before .before .before .before .before .before .before .before .pre .1 .0 .1) (c .before .before .before .before .before .before .before .before .pre .1 .1) (c .before .before .loop .inv) _ (c .before .before .loop .inv .some) (omega arith) (omega arith))
-
-cast-out-2 : tie.Need-cast-out-2 Inv-loop μ-loop
-cast-out-2 c = omega (arith, octets-small (writing-stood (c .before .before .before .before .before .before .before .before .before .before .pre .0) (c .before .before .before .before .before .before .before .before .before .before .pre .1 .0 .1) (c .before .before .before .before .before .before .before .before .before .before .pre .1 .1) (c .before .before .before .before .loop .inv) _ (c .before .before .before .before .loop .inv .some) (omega arith) (omega arith)) (c .before .next-octet2 .ensures))
-
-slice-write-out-2 : tie.Need-slice-write-out-2 Inv-loop μ-loop
-slice-write-out-2 c = writing-room (c .before .before .before .before .before .before .before .before .before .before .pre .0) (c .before .before .before .before .before .before .before .before .before .before .pre .1 .0 .1) (c .before .before .before .before .before .before .before .before .before .before .pre .1 .1) (c .before .before .before .before .loop .inv)
 
 same-length : tie.Need-same-length Inv-loop μ-loop
 same-length c = writing-long (c .before .before .before .before .before .before .before .before .before .before .pre .0) (c .before .before .before .before .before .before .before .before .before .before .pre .1 .0 .1) (c .before .before .before .before .before .before .before .before .before .before .pre .1 .1) (c .before .before .before .before .loop .inv) _
 
 returns : tie.Need-returns Inv-loop μ-loop
-returns c = writing-all (c .before .before .before .before .before .before .before .before .before .before .pre .0) (c .before .before .before .before .before .before .before .before .before .before .pre .1 .0 .1) (c .before .before .before .before .before .before .before .before .before .before .pre .1 .1) (c .before .before .before .before .loop .inv) (c .before .before .before .loop-test .left) (c .before .next-octet2 .ensures)
+returns c = writing-all (c .before .before .before .before .before .before .before .before .before .before .pre .0) (c .before .before .before .before .before .before .before .before .before .before .pre .1 .0 .1) (c .before .before .before .before .before .before .before .before .before .before .pre .1 .1) (c .before .before .before .before .loop .inv) (c .before .before .before .loop-test .left) (c .before .octet-of .ensures)
 
 pub write-map-spec : {M : Type 1} → statement M
 write-map-spec =
@@ -75,17 +74,17 @@ write-map-spec =
     read-header-requires
     open-requires
     loop-holds
-    next-octet-requires
-    cast-out
-    slice-write-out
+    next-bytes-requires
+    mul-x
     add-x
     moved-requires
+    mul-left
     sub-left
     add-j
     loop-less
     loop-again
-    next-octet-requires-2
-    cast-out-2
-    slice-write-out-2
+    octet-of-requires
+    cast-out
+    slice-write-out
     same-length
     returns)

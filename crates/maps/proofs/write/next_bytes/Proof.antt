@@ -1,0 +1,61 @@
+-- `next_bytes` meets its contract: the bytes that lie in one stretch are all ones or all zeros, and a byte with a border in it is told bit by
+-- bit. Assumes nothing.
+use mathlib.Core.Logic.{⊎-elim}
+use native.Mathlib.Omega.{arith}
+use borrow.Author.Needs.{needs}
+use Rattle.maps.proofs.Octeting.{all-yes, all-no, stood-same, octets-small, due-stood, due-alike, due-octet}
+use Rattle.maps.proofs.write.next_bytes.Statement.{statement}
+use Rattle.maps.proofs.write.next_bytes.Tie as tie
+
+same-to-requires : tie.Need-same-to-requires
+same-to-requires c κs = search needs
+
+sub-after : tie.Need-sub-after
+sub-after c = omega (arith, stood-same (due-stood (c .before .before .before .pre .1)) (c .same-to .ensures))
+
+value-at-requires : tie.Need-value-at-requires
+value-at-requires c κs = search needs
+
+whole-bytes-requires : tie.Need-whole-bytes-requires
+whole-bytes-requires c κs = search needs
+
+fill-bytes-requires : tie.Need-fill-bytes-requires
+fill-bytes-requires c κs = search needs
+
+same-length : tie.Need-same-length
+same-length c = search needs
+
+returns : tie.Need-returns
+returns c = λ Q d. due-alike d (c .before .before .before .before .before .before .value-at .ensures) (c .before .before .before .before .before .before .before .before .same-to .ensures) (c .before .before .before .before .before .before .before .if1 .taken) (c .before .before .before .before .whole-bytes .ensures) (⊎-elim (λ p. all-yes (p .0 .taken) (p .1)) (λ p. all-no (p .0 .left) (p .1)) (c .before .before .before .before .before .if2 .came)) (c .before .before .fill-bytes .ensures)
+
+octet-of-requires : tie.Need-octet-of-requires
+octet-of-requires c κs = (_, due-stood (c .before .before .before .before .before .pre .1))
+
+cast-out : tie.Need-cast-out
+cast-out c = omega (arith, octets-small (due-stood (c .before .before .before .before .before .before .before .pre .1)) (c .before .octet-of .ensures))
+
+slice-write-out : tie.Need-slice-write-out
+slice-write-out c = search needs
+
+same-length-2 : tie.Need-same-length-2
+same-length-2 c = search needs
+
+returns-2 : tie.Need-returns-2
+returns-2 c = λ Q d. due-octet d (c .before .before .octet-of .ensures)
+
+pub next-bytes-spec : {M : Type 1} → statement M
+next-bytes-spec =
+    tie.close
+    (tie.spec
+    same-to-requires
+    sub-after
+    value-at-requires
+    whole-bytes-requires
+    fill-bytes-requires
+    same-length
+    returns
+    octet-of-requires
+    cast-out
+    slice-write-out
+    same-length-2
+    returns-2)
