@@ -198,6 +198,14 @@ fn single() -> Sides {
 // The check's part in each figure.
 type Checks = Vec<Vec<f64>>;
 
+// The figures without the check's part.
+fn alone(figures: &Figures, checks: &Checks) -> Figures {
+    let column = |(sides, parts): (&Vec<Sides>, &Vec<f64>)| {
+        sides.iter().zip(parts).map(|(s, part)| Sides { ours: s.ours - part, theirs: s.theirs }).collect()
+    };
+    Figures { labels: figures.labels, columns: figures.columns.iter().zip(checks).map(column).collect() }
+}
+
 /// Medians of nanoseconds for each call, of fresh and of replayed lists; a list and single public calls.
 pub struct Lists {
     pub fresh: Figures,
@@ -216,13 +224,16 @@ impl Lists {
         Lists { fresh, replayed, checks, single: single() }
     }
 
+    /// What the calls of fresh lists take by themselves.
+    pub fn calls_alone(&self) -> Figures {
+        alone(&self.fresh, &self.checks[0])
+    }
+
     pub fn tell(&self) {
         let all = [("fresh", &self.fresh, &self.checks[0]), ("replayed", &self.replayed, &self.checks[1])];
         for (told, figures, checks) in all {
             figures.table(&format!("{told} lists: library / IntervalBitSet"), |_, s| number(s.ratio()));
-            figures.table(&format!("{told} lists, without the check"), |[at, row], s| {
-                number((s.ours - checks[at][row]) / s.theirs)
-            });
+            alone(figures, checks).table(&format!("{told} lists, without the check"), |_, s| number(s.ratio()));
             figures
                 .table(&format!("{told} lists: ns a call, the check's part in it / IntervalBitSet"), |[at, row], s| {
                     format!("{}, {} / {}", number(s.ours), number(checks[at][row]), number(s.theirs))

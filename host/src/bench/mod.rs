@@ -36,6 +36,7 @@ pub fn run(plot: &str) {
     let panels = [
         Panel { title: "Public calls", figures: &public },
         Panel { title: "Lists of a thousand calls", figures: &lists.fresh },
+        Panel { title: "The same without the one check", figures: &lists.calls_alone() },
         Panel { title: "Written sets and maps", figures: &bytes },
     ];
     plot::write(plot, &panels);
