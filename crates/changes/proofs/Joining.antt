@@ -23,7 +23,7 @@ use Rattle.run_index.specs.Search.{Indexed, nearRun, TellsAfter}
 use Rattle.store.specs.declared.Header.{Header}
 use Rattle.store.specs.Layout.{headerAt}
 use Rattle.store.specs.Free.{Removable, RemovesRun}
-use Rattle.changes.specs.Change.{Reaching, Greater, Turns, Parted, Absorbable, Absorbs}
+use Rattle.changes.specs.Change.{Reaching, Turns, Parted, Absorbable, Absorbs}
 use Rattle.changes.proofs.Counting.{runsOf}
 use Rattle.changes.proofs.Steps.{turns-none, turns-canon, turns-room, turns-runs, turns-index, turns-after, turns-removable, turns-removed}
 use Rattle.changes.proofs.Lists.{first-after, first-some, first-none, append-one, canon-before, starts-less}
@@ -229,7 +229,7 @@ module _ {w w1 : List ℕ} {start e reached : ℕ} {more : Bool} (i : Absorbing 
     (h : Header) (eh : h ≡ headerAt w1) (n : Near) (f : TellsAfter w1 (h .root) (start + 1) n) where
   module _ (r : Run) (en : n ≡ Near.Run r) (t : Bool) (et : Reaching reached (r .start) t) where
     -- it goes on where the next run is taken in
-    pub absorbing-taken : {w2 : List ℕ} → RemovesRun w1 w2 (r .start) → more ≡ true → t ≡ true → (k : ℕ) → Greater reached (r .«end») k → Absorbing w w2 start e k more
+    pub absorbing-taken : {w2 : List ℕ} → RemovesRun w1 w2 (r .start) → more ≡ true → t ≡ true → (k : ℕ) → k ≡ max reached (r .«end») → Absorbing w w2 start e k more
     absorbing-taken {w2} g m held k ek = record {
       short = i .short;
       so-far = λ ls us b u ns p.

@@ -21,7 +21,7 @@ use Rattle.store.specs.declared.Header.{Header}
 use Rattle.store.specs.Layout.{headerAt, capacity}
 use Rattle.store.specs.Soundness.{Kept}
 use Rattle.store.specs.Free.{Addable, Adds, Changeable, Changes}
-use Rattle.changes.specs.Change.{MaySet, Settable, Holding, Sets, Reaching, Greater, Turns, Parted, Absorbable, Absorbed, Absorbs}
+use Rattle.changes.specs.Change.{MaySet, Settable, Holding, Sets, Reaching, Turns, Parted, Absorbable, Absorbed, Absorbs}
 use Rattle.changes.proofs.Lists.{first-after, first-some, first-none, Around, ends-before, ends-more, ends-last, starts-less, append-one, canon-below}
 use Rattle.changes.proofs.Steps.{Found, FoundNone, turns-none, turns-after, turns-changeable, turns-changed, turns-addable, turns-added, set-canon, set-few, set-holding}
 use Rattle.changes.proofs.Joining.{take-none}
@@ -231,7 +231,7 @@ module _ {w : List ℕ} {s e : ℕ} (q : Passed w s) (h : Header) (eh : h ≡ he
       parted-after = record { kept = m .kept; runs-are = sides m .is ∙ ap (λ (vs : List Run). sides m .ls ++ vs) (rest .1) }
 
       -- and touches e
-      module _ (held : d ≡ true) (k : ℕ) (ek : Greater e (r .«end») k) {w1 : List ℕ} {last : ℕ} (ab : Absorbs w w1 (r .start) k last) where
+      module _ (held : d ≡ true) (k : ℕ) (ek : k ≡ max e (r .«end»)) {w1 : List ℕ} {last : ℕ} (ab : Absorbs w w1 (r .start) k last) where
         -- what `absorb` leaves
         taken-after : Absorbed w w1 (r .start) k last (sides m .ls) (rest .0) (r .«end»)
         taken-after = ab (sides m .ls) (rest .0) (r .«end») t ns parted-after
@@ -268,7 +268,7 @@ module _ {w : List ℕ} {s e : ℕ} (q : Passed w s) (h : Header) (eh : h ≡ he
     pub after-absorbable : Settable w s e true → Absorbable w (r .start)
     after-absorbable p = (sides (p .2) .ls, rest (p .2) .0, r .«end», p .0, p .1, parted-after (p .2))
 
-    module _ (held : d ≡ true) (k : ℕ) (ek : Greater e (r .«end») k) {w1 : List ℕ} {last : ℕ} (ab : Absorbs w w1 (r .start) k last) where
+    module _ (held : d ≡ true) (k : ℕ) (ek : k ≡ max e (r .«end»)) {w1 : List ℕ} {last : ℕ} (ab : Absorbs w w1 (r .start) k last) where
       -- it may grow to both sides
       pub after-changeable : Settable w s e true → Changeable w1 (r .start) s last
       after-changeable p = stretch-changeable (p .2) held k ek ab
