@@ -6,6 +6,7 @@ use mathlib.Core.List.{List, [], _∷_}
 use native.Mathlib.Omega.{arith}
 use lib.ListN.{length}
 use Rattle.model.specs.Positions.{Positions, mem, bounded}
+use Rattle.model.specs.Ops.{bounded-below}
 use Rattle.model.specs.Bytes.{decode}
 use Rattle.model.specs.Refusals.{setConditions}
 use Rattle.model.specs.Call.{Call, done}
@@ -17,7 +18,7 @@ use Rattle.store.specs.Settle.{Settled}
 use Rattle.interval_bit_set.specs.Met.{fedOf, outcomeOf, Met}
 use Rattle.interval_bit_set.proofs.Meeting.{met-by}
 use Rattle.lockstep.specs.History.{rest, call, New, WritesSet, Loads, Writable}
-use Rattle.lockstep.specs.Follow.{Holds, bounded-below, outcome-is, overwritten, new-holds, played-holds}
+use Rattle.lockstep.specs.Follow.{Holds, outcome-is, overwritten, new-holds, played-holds}
 use Rattle.lockstep.specs.Writing.{bytesOf, sizeable, few, written-is, writes}
 use Rattle.lockstep.specs.Empty.{fresh}
 

@@ -14,12 +14,13 @@ use Rattle.model.specs.Model.{settle, report, write, serve, step}
 use Rattle.model.specs.Codec.{encode-length}
 use Rattle.model.specs.RoundTrips.{written-whole, bytes-tell}
 use Rattle.store.specs.Layout.{capacity}
-use Rattle.store.proofs.Decided.{cells}
+use Rattle.store.specs.Turn.{held-past}
+use Rattle.store.proofs.Nodes.{sized-length}
 use Rattle.interval_bit_set.specs.Met.{Met}
 use Rattle.interval_bit_set.proofs.Meeting.{met-by}
 use Rattle.lockstep.specs.History.{WritesSet}
 use Rattle.lockstep.specs.Steps.{Ends, unrefused}
-use Rattle.lockstep.specs.Follow.{Holds, held-ends, same-positions, outcome-is, answer-is}
+use Rattle.lockstep.specs.Follow.{Holds, same-positions, outcome-is, answer-is}
 
 -- the bytes of a set of positions
 abbrev pub bytesOf : Positions → List ℕ
@@ -28,7 +29,7 @@ bytesOf P = encode (heldRuns P)
 module _ {C : ℕ} {P : Positions} {w : List ℕ} (H : Holds C P w) where
   -- no store is of more than 65,536 runs
   pub sizeable : C ≤ 65536
-  sizeable = omega (arith, H .sized, (cells w (H .sound .kept .sized)) .1)
+  sizeable = omega (arith, H .sized, (sized-length w (H .sound .kept .sized)) .1)
 
   -- at most C runs are held
   pub few : stretches P ≤ C
@@ -41,7 +42,7 @@ module _ {C : ℕ} {P : Positions} {w : List ℕ} (H : Holds C P w) where
 
   -- no position above 2^64 − 1 is held
   pub holds-ends : Ends P
-  holds-ends = subst Ends (H .held) (held-ends w)
+  holds-ends = subst Ends (H .held) (held-past w)
 
 -- what the model gives of writing a set, by the test of the slice's room
 write-by : (C : ℕ) (P : Positions) (out : List ℕ) → step C P (Call.writeSet out)
