@@ -10,6 +10,7 @@ use lib.Dec.{leb}
 use borrow.Author.Tests.{le-leb, lt-leb, lt-ltb, le-ltb}
 use Rattle.model.specs.Numbers.{size, split}
 use Rattle.model.specs.Positions.{Positions, oneIf, countRanges, setRange, stretches}
+use Rattle.model.specs.Positions.Laws.{one-bound}
 use Rattle.model.specs.Positions.Runs.{stretches-is}
 use Rattle.model.specs.After.{goesOn, goesOn-zero, goesOn-top, stretches-parts}
 use Rattle.run_index.specs.Tree.{inorder}
@@ -19,7 +20,7 @@ use Rattle.store.specs.Layout.{headerAt, capacity, heldBy}
 use Rattle.store.specs.Soundness.{Sound}
 use Rattle.store.proofs.Nodes.{sized-length, few-runs}
 use Rattle.store.proofs.Opening.{physicalIn, sound-held, runs-told}
-use Rattle.changes.specs.Neighbours.{heldBelow, heldAbove, one-bound, goesOn-below}
+use Rattle.changes.specs.Neighbours.{heldBelow, heldAbove, goesOn-below}
 use Rattle.changes.specs.SetRuns.{set-true-leaves, set-false-leaves, set-one-more, logical-one-more}
 
 -- ---- the neighbours

@@ -3,7 +3,7 @@
 use Prim.Native.Nat.{ℕ, suc, _+_, _-_, _≤_, _<_}
 use mathlib.Core.Path.{_≡_, refl, sym, ap, _∙_}
 use mathlib.Core.Logic.{_⊎_, inl, inr}
-use mathlib.Core.Bool.{Bool, true, false, cond, not}
+use mathlib.Core.Bool.{Bool, true, false, not, Bool·not-not}
 use mathlib.Core.List.{List}
 use native.Mathlib.Omega.{arith}
 use lib.Dec.{leb}
@@ -13,8 +13,9 @@ use Rattle.model.specs.declared.Edge.{Edge}
 use Rattle.model.specs.declared.Edge.the-variants.{At}
 use Rattle.model.specs.Numbers.{size, split}
 use Rattle.model.specs.Places.{capacityOf}
-use Rattle.model.specs.Positions.{Positions, among, oneIf, stretches, setRange, flipRange}
-use Rattle.model.specs.After.{goesOn, flip-below, flip-above, stretches-parts}
+use Rattle.model.specs.Positions.{Positions, oneIf, stretches, setRange, flipRange}
+use Rattle.model.specs.Positions.Laws.{one-bound}
+use Rattle.model.specs.After.{goesOn, set-cong, flip-below, flip-above, stretches-parts}
 use Rattle.store.specs.declared.Header.{Header}
 use Rattle.store.specs.Layout.{headerAt, capacity, heldBy}
 use Rattle.store.specs.Soundness.{Sound}
@@ -26,7 +27,7 @@ use Rattle.reports.proofs.Seeking.{Past, none-next}
 use Rattle.reports.proofs.Bounding.{high-end-at}
 use Rattle.changes.specs.declared.edit.Fit.the-variants.{Full, Done}
 use Rattle.changes.specs.Edits.{Fitted, StretchEnd}
-use Rattle.changes.specs.Neighbours.{heldBelow, heldAbove, one-bound, stretches-cong}
+use Rattle.changes.specs.Neighbours.{heldBelow, heldAbove, stretches-cong}
 use Rattle.changes.specs.FlipRuns.{flip-leaves, flip-one-more, flip-none-more, flip-further}
 use Rattle.changes.proofs.Fitting.{leb-like, logical-most, logical-few}
 
@@ -86,11 +87,6 @@ flip-fits-counted P a b some fits {k} {c} {total} {on} {past} {before} {after} {
 
 -- ---- where a stretch ends
 module _ (P : Positions) (v : Bool) (x last : ℕ) (some : x ≤ last) (fits : last < size) (here : P x ≡ v) where
-  -- the other value's other value
-  not-not : (u : Bool) → not (not u) ≡ u
-  not-not true = refl
-  not-not false = refl
-
   -- before the next position of the other value
   pub stretch-ends : {y : ℕ} (n : Edge) → Next P (not v) x n → n ≡ At y → y ≤ last → StretchEnd P v x last (y - 1)
   stretch-ends n m q l =
@@ -102,7 +98,7 @@ module _ (P : Positions) (v : Bool) (x last : ℕ) (some : x ≤ last) (fits : l
   stretch-clipped n m p = record {
     from = some;
     upto = omega arith;
-    same = λ z i j. none-next P (not v) n m p z i j (omega arith) ∙ not-not v;
+    same = λ z i j. none-next P (not v) n m p z i j (omega arith) ∙ Bool·not-not v;
     stop = λ i. absurd (omega arith);
   }
 
@@ -143,11 +139,6 @@ flipping-none {w} {a} {last} b s l k e t = record {
         go : (y < a) ⊎ (a ≤ y) → flipRange a (a - a) (heldBy w) y ≡ heldBy w y
         go (inl i) = flip-below a (a - a) (heldBy w) y i
         go (inr i) = flip-above a (a - a) (heldBy w) y (omega arith)
-
--- a set of equal positions is equal
-pub set-cong : (a n : ℕ) (v : Bool) (P Q : Positions) (x : ℕ) → P x ≡ Q x → setRange a n v P x ≡ setRange a n v Q x
-unfolding setRange
-set-cong a n v P Q x e = ap (cond (among a n x) v) e
 
 module _ {w₀ w : List ℕ} {a last x y : ℕ} {more v : Bool} (f : Flipping w₀ w a last x more) (t : more ≡ true) (s : StretchEnd (heldBy w) v x last y) where
   -- what is flipped

@@ -13,7 +13,7 @@ use Rattle.model.specs.declared.Run.{Run}
 use Rattle.model.specs.Numbers.{size, split}
 use Rattle.model.specs.Positions.{run, firstRun}
 use Rattle.model.specs.RunList.{Canon}
-use Rattle.model.specs.Search.{firstFrom, canon-split, canon-starts}
+use Rattle.model.specs.Search.{firstFrom, canon-split, canon-starts, starts-weaken}
 use Rattle.model.specs.Edit.{insert, insert-put, insert-join}
 use Rattle.run_index.specs.declared.search.Near.{Near}
 use Rattle.run_index.specs.Cells.{Room}
@@ -23,10 +23,10 @@ use Rattle.run_index.specs.Search.{Indexed, nearRun, TellsAfter}
 use Rattle.store.specs.declared.Header.{Header}
 use Rattle.store.specs.Layout.{headerAt}
 use Rattle.store.specs.Free.{Removable, RemovesRun}
-use Rattle.changes.specs.Change.{Reaching, Greater, Turns, Parted, Absorbable, Absorbs}
+use Rattle.changes.specs.Change.{Reaching, Turns, Parted, Absorbable, Absorbs}
 use Rattle.changes.proofs.Counting.{runsOf}
 use Rattle.changes.proofs.Steps.{turns-none, turns-canon, turns-room, turns-runs, turns-index, turns-after, turns-removable, turns-removed}
-use Rattle.changes.proofs.Lists.{first-after, first-some, first-none, append-one, canon-before, starts-less}
+use Rattle.changes.proofs.Lists.{first-after, first-some, first-none, append-one, canon-before}
 
 -- what reaches up to b holds x
 pub reach-held : (b x : ℕ) → x ≤ b → true ≡ leb x (b + 1)
@@ -55,7 +55,7 @@ module _ (ls us : List Run) (start b : ℕ) (c : Canon size 0 (ls ++ (run start 
   next-first =
       ap (firstFrom (start + 1)) (sym (append-one ls (run start b) us))
       ∙ first-after (start + 1) (ls ++ (run start b ∷ [])) us (past ls (canon-before size 0 ls (run start b) us c))
-      (starts-less (b + 2) (start + 1) us (omega (arith, grow-ordered)) (canon-starts size (b + 2) us grow-after))
+      (starts-weaken (b + 2) (start + 1) us (omega (arith, grow-ordered)) (canon-starts size (b + 2) us grow-after))
     where
       past : (qs : List Run) → Before start qs → Before (start + 1) (qs ++ (run start b ∷ []))
       past [] h = (omega arith, tt)
@@ -229,7 +229,7 @@ module _ {w w1 : List ℕ} {start e reached : ℕ} {more : Bool} (i : Absorbing 
     (h : Header) (eh : h ≡ headerAt w1) (n : Near) (f : TellsAfter w1 (h .root) (start + 1) n) where
   module _ (r : Run) (en : n ≡ Near.Run r) (t : Bool) (et : Reaching reached (r .start) t) where
     -- it goes on where the next run is taken in
-    pub absorbing-taken : {w2 : List ℕ} → RemovesRun w1 w2 (r .start) → more ≡ true → t ≡ true → (k : ℕ) → Greater reached (r .«end») k → Absorbing w w2 start e k more
+    pub absorbing-taken : {w2 : List ℕ} → RemovesRun w1 w2 (r .start) → more ≡ true → t ≡ true → (k : ℕ) → k ≡ max reached (r .«end») → Absorbing w w2 start e k more
     absorbing-taken {w2} g m held k ek = record {
       short = i .short;
       so-far = λ ls us b u ns p.

@@ -110,11 +110,6 @@ pub ends-last : (m : ℕ) (r : Run) (ls : List Run) → EndBelow m ls → r .sta
 ends-last m r [] e o h = (o, h, tt)
 ends-last m r (y ∷ ls) e o h = (e .0, e .1, ends-last m r ls (e .2) o h)
 
--- runs that start at k or after it start so for each lower one
-pub starts-less : (k j : ℕ) (us : List Run) → j ≤ k → StartFrom k us → StartFrom j us
-starts-less k j [] le s = tt
-starts-less k j (r ∷ us) le s = (omega (arith, s .0), starts-less k j us le (s .1))
-
 -- a run between two lists may stand with either
 pub append-one : (ls : List Run) (r : Run) (us : List Run) → (ls ++ (r ∷ [])) ++ us ≡ ls ++ (r ∷ us)
 append-one ls r us = append-assoc ls (r ∷ []) us

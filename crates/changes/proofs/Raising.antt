@@ -11,7 +11,7 @@ use Rattle.model.specs.declared.Run.{Run}
 use Rattle.model.specs.Numbers.{size}
 use Rattle.model.specs.Positions.{run, firstRun, setRange, mem}
 use Rattle.model.specs.RunList.{Canon}
-use Rattle.model.specs.Search.{EndBelow, StartFrom, firstFrom, canon-split, canon-starts}
+use Rattle.model.specs.Search.{EndBelow, StartFrom, firstFrom, canon-split, canon-starts, starts-weaken}
 use Rattle.model.specs.Edit.{insert, setTo, insert-skip, insert-put, insert-join}
 use Rattle.run_index.specs.declared.search.Near.{Near}
 use Rattle.run_index.specs.Tree.{Tree, inorder}
@@ -21,8 +21,8 @@ use Rattle.store.specs.declared.Header.{Header}
 use Rattle.store.specs.Layout.{headerAt, capacity}
 use Rattle.store.specs.Soundness.{Kept}
 use Rattle.store.specs.Free.{Addable, Adds, Changeable, Changes}
-use Rattle.changes.specs.Change.{MaySet, Settable, Holding, Sets, Reaching, Greater, Turns, Parted, Absorbable, Absorbed, Absorbs}
-use Rattle.changes.proofs.Lists.{first-after, first-some, first-none, Around, ends-before, ends-more, ends-last, starts-less, append-one, canon-below}
+use Rattle.changes.specs.Change.{MaySet, Settable, Holding, Sets, Reaching, Turns, Parted, Absorbable, Absorbed, Absorbs}
+use Rattle.changes.proofs.Lists.{first-after, first-some, first-none, Around, ends-before, ends-more, ends-last, append-one, canon-below}
 use Rattle.changes.proofs.Steps.{Found, FoundNone, turns-none, turns-after, turns-changeable, turns-changed, turns-addable, turns-added, set-canon, set-few, set-holding}
 use Rattle.changes.proofs.Joining.{take-none}
 
@@ -164,7 +164,7 @@ passed-apart {w} {s} {r} q d ed off = record { parts = go }
           is = a .is ∙ sym (append-one (a .ls) r (a .us));
           below = ends-last (s - 1) r (a .ls)
               (ends-more (r .start - 1) (s - 1) (a .ls) (omega (arith, a .at)) (canon-below size 0 (a .ls) r (a .us) c)) (o .2) (omega arith);
-          from = starts-less (s + 1) s (a .us) (omega arith) (a .after);
+          from = starts-weaken (s + 1) s (a .us) (omega arith) (a .after);
         }
 
 -- or there is none
@@ -175,7 +175,7 @@ passed-none {w} {s} q = record {
     us = inorder t;
     is = refl;
     below = tt;
-    from = starts-less (s + 1) s (inorder t) (omega arith) (q .after t ns k);
+    from = starts-weaken (s + 1) s (inorder t) (omega arith) (q .after t ns k);
   };
 }
 
@@ -231,7 +231,7 @@ module _ {w : List ℕ} {s e : ℕ} (q : Passed w s) (h : Header) (eh : h ≡ he
       parted-after = record { kept = m .kept; runs-are = sides m .is ∙ ap (λ (vs : List Run). sides m .ls ++ vs) (rest .1) }
 
       -- and touches e
-      module _ (held : d ≡ true) (k : ℕ) (ek : Greater e (r .«end») k) {w1 : List ℕ} {last : ℕ} (ab : Absorbs w w1 (r .start) k last) where
+      module _ (held : d ≡ true) (k : ℕ) (ek : k ≡ max e (r .«end»)) {w1 : List ℕ} {last : ℕ} (ab : Absorbs w w1 (r .start) k last) where
         -- what `absorb` leaves
         taken-after : Absorbed w w1 (r .start) k last (sides m .ls) (rest .0) (r .«end»)
         taken-after = ab (sides m .ls) (rest .0) (r .«end») t ns parted-after
@@ -268,7 +268,7 @@ module _ {w : List ℕ} {s e : ℕ} (q : Passed w s) (h : Header) (eh : h ≡ he
     pub after-absorbable : Settable w s e true → Absorbable w (r .start)
     after-absorbable p = (sides (p .2) .ls, rest (p .2) .0, r .«end», p .0, p .1, parted-after (p .2))
 
-    module _ (held : d ≡ true) (k : ℕ) (ek : Greater e (r .«end») k) {w1 : List ℕ} {last : ℕ} (ab : Absorbs w w1 (r .start) k last) where
+    module _ (held : d ≡ true) (k : ℕ) (ek : k ≡ max e (r .«end»)) {w1 : List ℕ} {last : ℕ} (ab : Absorbs w w1 (r .start) k last) where
       -- it may grow to both sides
       pub after-changeable : Settable w s e true → Changeable w1 (r .start) s last
       after-changeable p = stretch-changeable (p .2) held k ek ab
@@ -324,7 +324,7 @@ module _ {w : List ℕ} {s e : ℕ} (al : Alone w s e) where
     lone-after : StartFrom (s + 1) (lone .us)
     lone-after =
         let d = canon-split size 0 (lone .ls) (run s e) (lone .us) lone-canon in
-        starts-less (e + 2) (s + 1) (lone .us) (omega (arith, m .ordered)) (canon-starts size (e + 2) (lone .us) (d .4))
+        starts-weaken (e + 2) (s + 1) (lone .us) (omega (arith, m .ordered)) (canon-starts size (e + 2) (lone .us) (d .4))
 
     -- the nodes are enough
     lone-few : length (lone .ls ++ (run s e ∷ lone .us)) ≤ capacity w + 2

@@ -4,13 +4,14 @@
 use Prim.Native.Nat.{ℕ, suc, _-_, _≤_, _<_}
 use mathlib.Core.Path.{_≡_, sym, ap, _∙_, subst}
 use mathlib.Core.Logic.{_⊎_, inl, inr}
-use mathlib.Core.Bool.{Bool, cond}
+use mathlib.Core.Bool.{Bool}
 use mathlib.Core.List.{List}
 use native.Mathlib.Omega.{arith}
 use lib.ListN.{length}
 use Rattle.model.specs.Numbers.{size, split}
 use Rattle.model.specs.Places.{capacityOf}
-use Rattle.model.specs.Positions.{Positions, among, setRange, stretches, mem}
+use Rattle.model.specs.Positions.{Positions, setRange, stretches, mem}
+use Rattle.model.specs.After.{set-cong}
 use Rattle.run_index.specs.Tree.{Tree, runs, inorder}
 use Rattle.store.specs.declared.Header.{Header}
 use Rattle.store.specs.Layout.{headerAt, capacity, turned, heldBy}
@@ -95,11 +96,6 @@ holding-reached {w} {w′} {X} {P} o eo k f =
       rest = k .rest;
       long = k .long;
     }
-
--- a set of sets that agree
-set-cong : (a n : ℕ) (v : Bool) (P Q : Positions) → ((x : ℕ) → x < size → P x ≡ Q x) → (x : ℕ) → x < size → setRange a n v P x ≡ setRange a n v Q x
-unfolding setRange
-set-cong a n v P Q f x l = ap (λ b. cond (among a n x) v b) (f x l)
 
 module _ {w : List ℕ} {h : Header} {a n s e : ℕ} (v : Bool) (sound : Sound w) (eh : h ≡ headerAt w) (lies : Lies (h .offset) a n s e) where
   -- the offset, as the header has it
@@ -192,8 +188,8 @@ module _ {w : List ℕ} {h : Header} {a n s e : ℕ} (v : Bool) (sound : Sound w
       both-turned x l =
           ap (λ k. turned (h .offset) (setRange 0 k v placesFirst) x) second-length
           ∙ turned-cong (h .offset) (setRange 0 (suc e) v placesFirst) (setRange 0 (suc e) v (setRange s (size - s) v (physicalIn sound)))
-          (set-cong 0 (suc e) v placesFirst (setRange s (size - s) v (physicalIn sound))
-          (λ y k. held-first .positions-are y k ∙ ap (λ m. setRange s m v (physicalIn sound) y) first-length)) x l
+          (λ y k. set-cong 0 (suc e) v placesFirst (setRange s (size - s) v (physicalIn sound)) y
+          (held-first .positions-are y k ∙ ap (λ m. setRange s m v (physicalIn sound) y) first-length)) x l
           ∙ turned-set-parted lies v (physicalIn sound) x l parted ∙ asked-held n x
 
       module _ (fits : stretches (setRange a n v (heldBy w)) ≤ capacity w) where

@@ -11,14 +11,14 @@ use Rattle.model.specs.declared.Run.{Run}
 use Rattle.model.specs.Numbers.{size}
 use Rattle.model.specs.Positions.{run, setRange, mem}
 use Rattle.model.specs.RunList.{Canon}
-use Rattle.model.specs.Search.{EndBelow, StartFrom, canon-split, canon-starts}
+use Rattle.model.specs.Search.{EndBelow, StartFrom, canon-split, canon-starts, starts-weaken}
 use Rattle.model.specs.Edit.{clear, setTo}
 use Rattle.run_index.specs.Tree.{Tree, inorder}
 use Rattle.run_index.specs.Order.{Before}
 use Rattle.store.specs.Layout.{capacity}
 use Rattle.store.specs.Free.{Addable, Adds, Changeable, Changes}
 use Rattle.changes.specs.Change.{MaySet, Settable, Holding, Sets, Turns, Cut, Clearable, ClearsFrom}
-use Rattle.changes.proofs.Lists.{Around, ends-before, ends-more, ends-last, starts-less, append-one, canon-shrink, canon-below}
+use Rattle.changes.proofs.Lists.{Around, ends-before, ends-more, ends-last, append-one, canon-shrink, canon-below}
 use Rattle.changes.proofs.Steps.{Found, FoundNone, turns-none, turns-canon, turns-then, turns-changeable, turns-changed, turns-addable, turns-added, set-canon, set-few, set-holding}
 use Rattle.changes.proofs.Clearing.{clear-below, clear-above}
 
@@ -108,7 +108,7 @@ trimmed-none {w} {s} {e} q = record {
     us = inorder t;
     turns = turns-none w t ns (inorder t) (m .kept) refl;
     below = tt;
-    from = starts-less (s + 1) s (inorder t) (omega arith) (q .after t ns (m .kept));
+    from = starts-weaken (s + 1) s (inorder t) (omega arith) (q .after t ns (m .kept));
     is = refl;
   };
 }
@@ -135,7 +135,7 @@ module _ {w : List ℕ} {s e : ℕ} {r : Run} (q : Found w s r) where
 
     -- those after it start after s
     late : StartFrom s (around .us)
-    late = starts-less (s + 1) s (around .us) (omega arith) (around .after)
+    late = starts-weaken (s + 1) s (around .us) (omega arith) (around .after)
 
     -- the runs before r stay
     set-around : clear s e (inorder t) ≡ around .ls ++ clear s e (r ∷ around .us)
@@ -231,7 +231,7 @@ module _ {w : List ℕ} {s e : ℕ} {r : Run} (q : Found w s r) where
 
           -- those after r start after it
           both-after : StartFrom (e + 1 + 1) (around m .us)
-          both-after = starts-less (r .«end» + 2) (e + 1 + 1) (around m .us) (omega arith) (canon-starts size (r .«end» + 2) (around m .us) (parts m .4))
+          both-after = starts-weaken (r .«end» + 2) (e + 1 + 1) (around m .us) (omega arith) (canon-starts size (r .«end» + 2) (around m .us) (parts m .4))
 
           -- the nodes are enough
           both-few : length ((around m .ls ++ (run (r .start) (s - 1) ∷ [])) ++ (run (e + 1) (r .«end») ∷ around m .us)) ≤ capacity w + 2

@@ -1,5 +1,5 @@
 -- What giving physical positions a value asks, and what it promises. Assumes nothing: these are definitions.
-use Prim.Native.Nat.{ℕ, suc, _+_, _-_, _≤_, _<_, max}
+use Prim.Native.Nat.{ℕ, suc, _+_, _-_, _≤_, _<_}
 use mathlib.Core.Path.{_≡_}
 use mathlib.Core.Bool.{Bool}
 use mathlib.Core.List.{List, _∷_, _++_}
@@ -40,10 +40,6 @@ Sets w w′ s e v = (t : Tree) (ns : List ℕ) → MaySet w s e v t ns → Holdi
 -- x is at most one past b
 abbrev pub Reaching : ℕ → ℕ → Bool → Type 0
 Reaching b x r = r ≡ leb x (b + 1)
-
--- the larger of two numbers
-abbrev pub Greater : ℕ → ℕ → ℕ → Type 0
-Greater a b r = r ≡ max a b
 
 -- rs are the runs of w′, which has but for its root and free head the header of w
 abbrev pub Turns : List ℕ → List ℕ → List Run → Type 0

@@ -26,11 +26,6 @@ abbrev pub heldAbove : Positions → ℕ → Bool
 heldAbove P x = ltb (suc x) size && P (suc x)
 
 -- ---- truth values as numbers
--- each is 0 or 1
-pub one-bound : (b : Bool) → oneIf b ≤ 1
-one-bound true = omega arith
-one-bound false = omega arith
-
 -- both hold at most as often as the second
 pub both-second : (b d : Bool) → oneIf (b && d) ≤ oneIf d
 both-second true d = omega arith

@@ -3,7 +3,7 @@
 use Prim.Native.Nat.{ℕ, _+_, _-_, _*_, _/_, _%_, _≤_, _<_}
 use mathlib.Core.Path.{_≡_, refl, sym, ap, _∙_}
 use mathlib.Core.Logic.{_⊎_, inl, inr}
-use mathlib.Core.Bool.{Bool, true, false, _&&_, Bool·beq, and-false}
+use mathlib.Core.Bool.{true, false, _&&_, Bool·beq, and-false}
 use mathlib.Core.List.{List, [], _∷_}
 use native.Mathlib.Omega.{arith}
 use lib.Dec.{leb, ltb}
@@ -13,7 +13,7 @@ use Rattle.model.specs.declared.Run.{Run}
 use Rattle.model.specs.Numbers.{size, split}
 use Rattle.model.specs.Places.{physicalOf, logicalOf}
 use Rattle.model.specs.Positions.{Positions, among, runsIn, heldRuns, stretches, lastAfter, shiftLeft, shiftRight, mem}
-use Rattle.model.specs.Positions.Laws.{among-yes, among-below, among-above}
+use Rattle.model.specs.Positions.Laws.{among-yes, among-below, among-above, beq-true}
 use Rattle.model.specs.Positions.Runs.{runsIn-canon, runsIn-mem, heldRuns-is, mem-heldRuns}
 use Rattle.model.specs.RunList.{canon-weaken}
 use Rattle.store.specs.Layout.{turned}
@@ -141,10 +141,6 @@ runs-confined P a n t under over =
     heldRuns-is P (runsIn P true a n) (canon-weaken size a 0 (runsIn P true a n) (omega arith) (runsIn-canon P true size a n t))
     (λ x h. runsIn-mem P true a n x ∙ go x h (split x a) (split x (a + n)))
   where
-    beq-true : (b : Bool) → Bool·beq b true ≡ b
-    beq-true true = refl
-    beq-true false = refl
-
     go : (x : ℕ) → x < size → (x < a) ⊎ (a ≤ x) → (x < a + n) ⊎ (a + n ≤ x) → (among a n x && Bool·beq (P x) true) ≡ P x
     go x h (inl l) u = ap (λ t. t && Bool·beq (P x) true) (among-below a n x l) ∙ sym (under x l)
     go x h (inr l) (inl u) = ap (λ t. t && Bool·beq (P x) true) (among-yes a n x l u) ∙ beq-true (P x)

@@ -2,7 +2,7 @@
 // in place, and no more nodes are used on the way than in the end.
 ghost use mathlib.Core.Path.{_≡_};
 ghost use mathlib.Core.Bool.{true, false};
-ghost use Rattle.changes.specs.Change.{Settable, Sets, Reaching, Greater, Absorbable, Absorbs, Clearable, ClearsFrom};
+ghost use Rattle.changes.specs.Change.{Settable, Sets, Reaching, Absorbable, Absorbs, Clearable, ClearsFrom};
 use model::Physical;
 use run_index::search::Near;
 
@@ -45,7 +45,7 @@ fn raise(words: &mut [u64], s: u64, e: u64)
             let start = r.start;
             let end = r.end;
             if reaches(e, start) {
-                let last = absorb(words, start, greater(e, end));
+                let last = absorb(words, start, run_index::larger(e, end));
                 store::free::resize_run(words, start, s, last);
                 return;
             }
@@ -65,13 +65,6 @@ fn reaches(end: u64, x: u64) -> bool
     x - end == 1
 }
 
-// The larger of two numbers.
-fn greater(a: u64, b: u64) -> u64
-    ensures { λ r. ⌜ Greater a b r ⌝ }
-{
-    if a < b { b } else { a }
-}
-
 // Removes the runs that start after `start` and touch what reaches up to e, one after another, and tells how far the last of them reaches.
 fn absorb(words: &mut [u64], start: u64, e: u64) -> u64
     requires { ⌜ Absorbable (now words) start ⌝ }
@@ -86,7 +79,7 @@ fn absorb(words: &mut [u64], start: u64, e: u64) -> u64
             Near::Run(r) => {
                 if reaches(end, r.start) {
                     store::free::remove_run(words, r.start);
-                    end = greater(end, r.end);
+                    end = run_index::larger(end, r.end);
                 } else {
                     more = false;
                 }

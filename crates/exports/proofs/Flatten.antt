@@ -27,10 +27,9 @@ use Rattle.model.specs.Answers as answers
 use Rattle.model.specs.Call.{Call, Answer, refused, done, number, value, around, position, listing, drawn, written}
 use Rattle.interval_bit_set.specs.Met.{Met}
 use Rattle.frame.specs.Frame.{Framed}
-use Rattle.interval_bit_set.specs.Lent.{itemAnswer, movedBy}
+use Rattle.interval_bit_set.specs.Lent.{listingOf, movedBy, itemAnswer}
 use Rattle.interval_bit_set.specs.Out.{WritesOut}
 use Rattle.interval_bit_set.proofs.Lending.{drew-front, drew-back}
-use Rattle.exports.specs.declared.flat.CBound.{CBound}
 use Rattle.exports.specs.declared.flat.CCount.{CCount}
 use Rattle.exports.specs.declared.flat.CNumber.{CNumber}
 use Rattle.exports.specs.declared.flat.CValue.{CValue}
@@ -40,9 +39,7 @@ use Rattle.exports.specs.declared.flat.CListed.{CListed}
 use Rattle.exports.specs.declared.flat.CDrawn.{CDrawn}
 use Rattle.exports.specs.declared.flat.CWritten.{CWritten}
 use Rattle.exports.specs.Flat.{
-  boundOf,
   operationOf,
-  listingOf,
   unless,
   doneAnswer,
   countAnswer,
@@ -66,19 +63,6 @@ use Rattle.exports.specs.Flat.{
 }
 
 -- ---- what comes in
-module _ (b : CBound) where
-  -- kind 1
-  pub included : b .kind ≡ 1 → Bound.Included (b .value) ≡ boundOf b
-  included h = rw (eq-eqb (b .kind) 1 h)
-
-  -- kind 2
-  pub excluded : (b .kind ≡ 1 → ⊥) → b .kind ≡ 2 → Bound.Excluded (b .value) ≡ boundOf b
-  excluded g h = rw (ne-eqb (b .kind) 1 g, eq-eqb (b .kind) 2 h)
-
-  -- any other
-  pub unbounded : (b .kind ≡ 1 → ⊥) → (b .kind ≡ 2 → ⊥) → Bound.Unbounded ≡ boundOf b
-  unbounded g h = rw (ne-eqb (b .kind) 1 g, ne-eqb (b .kind) 2 h)
-
 module _ (n : ℕ) where
   -- 0
   pub and-is : n ≡ 0 → Operation.And ≡ operationOf n

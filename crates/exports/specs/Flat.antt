@@ -1,13 +1,12 @@
 -- What crosses to C, as the model's bounds and answers. Assumes nothing: these are definitions.
 use Prim.Native.Nat.{ℕ, zero, suc, _+_, _*_, _^_}
 use mathlib.Core.Path.{_≡_}
-use mathlib.Core.Bool.{Bool, true, false, cond, not}
+use mathlib.Core.Bool.{Bool, cond}
 use mathlib.Core.List.{List}
 use mathlib.Core.Option.{Option, none, some}
 use lib.Dec.{eqb}
 use Rattle.model.specs.declared.Bound.{Bound}
 use Rattle.model.specs.declared.Operation.{Operation}
-use Rattle.model.specs.declared.Listing.{Listing}
 use Rattle.model.specs.declared.Completed.{Completed}
 use Rattle.model.specs.declared.Counted.{Counted}
 use Rattle.model.specs.declared.Numbered.{Numbered}
@@ -21,6 +20,8 @@ use Rattle.model.specs.Numbers.{refusalNumber}
 use Rattle.model.specs.Positions.{run}
 use Rattle.model.specs.Call.{Call, Answer, refused, done, number, value, around, position, listing, drawn, written}
 use Rattle.interval_bit_set.specs.Met.{Met}
+use Rattle.interval_bit_set.specs.Lent.{listingOf}
+use Rattle.frame.specs.Records.{boundBy, truth, bitOf}
 use Rattle.exports.specs.declared.flat.CBound.{CBound}
 use Rattle.exports.specs.declared.flat.CCount.{CCount}
 use Rattle.exports.specs.declared.flat.CNumber.{CNumber}
@@ -32,18 +33,11 @@ use Rattle.exports.specs.declared.flat.CDrawn.{CDrawn}
 use Rattle.exports.specs.declared.flat.CWritten.{CWritten}
 
 -- ---- what comes in
--- a truth value: anything but 0
-abbrev pub truth : ℕ → Bool
-truth n = not (eqb n 0)
-
 abbrev pub boundOf : CBound → Bound
-boundOf b = cond (eqb (b .kind) 1) (Bound.Included (b .value)) (cond (eqb (b .kind) 2) (Bound.Excluded (b .value)) Bound.Unbounded)
+boundOf b = boundBy (b .kind) (b .value)
 
 abbrev pub operationOf : ℕ → Operation
 operationOf n = cond (eqb n 0) Operation.And (cond (eqb n 1) Operation.Or Operation.Xor)
-
-abbrev pub listingOf : ℕ → ℕ → Bool → Listing
-listingOf a b v = record { first = a; last = b; value = v }
 
 -- ---- what goes out, as the model's answer: a refusal's number alone, or else the values
 abbrev pub unless : ℕ → Answer → Answer
@@ -86,10 +80,6 @@ pub record WritesFlat (c : List ℕ → Call (List ℕ)) (w out : List ℕ) (r :
   pub unwritten : (r .refusal ≡ 0 → ⊥) → out′ ≡ out
 
 -- ---- the code's answers laid flat
-abbrev pub bitOf : Bool → ℕ
-bitOf true = 1
-bitOf false = 0
-
 abbrev pub completedFlat : Completed → ℕ
 completedFlat (Completed.Refused r) = refusalNumber r
 completedFlat Completed.Done = 0

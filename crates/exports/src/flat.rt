@@ -58,14 +58,7 @@ pub struct CPosition {
     pub position: u64,
 }
 
-// What is left of a listing: the runs of the value (1 or 0) from first to last. Any value but 0 counts as 1.
-#[repr(C)]
-pub struct CListing {
-    pub first: u64,
-    pub last: u64,
-    pub value: u64,
-}
-
+// What is left of a listing: the runs of the value (1 or 0) from first to last.
 #[repr(C)]
 pub struct CListed {
     pub refusal: u64,
@@ -94,13 +87,7 @@ pub struct CWritten {
 pub fn bound(b: CBound) -> Bound
     ensures { λ r. ⌜ r ≡ boundOf b ⌝ }
 {
-    if b.kind == 1 {
-        return Bound::Included(b.value);
-    }
-    if b.kind == 2 {
-        return Bound::Excluded(b.value);
-    }
-    Bound::Unbounded
+    frame::entry::bound(b.kind, b.value)
 }
 
 // 0 is AND, 1 is OR, and any other XOR.

@@ -50,7 +50,7 @@ unfoldable pub boundBy : ℕ → ℕ → Bound
 boundBy k v = cond (eqb k 1) (Bound.Included v) (cond (eqb k 2) (Bound.Excluded v) Bound.Unbounded)
 
 -- a truth value: anything but 0
-unfoldable pub truth : ℕ → Bool
+abbrev pub truth : ℕ → Bool
 truth n = not (eqb n 0)
 
 abbrev pub lowerOf : Entry → Bound

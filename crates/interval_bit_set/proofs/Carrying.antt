@@ -15,7 +15,7 @@ use Rattle.model.specs.declared.Run.{Run}
 use Rattle.model.specs.Numbers.{size}
 use Rattle.model.specs.Places.{capacityOf}
 use Rattle.model.specs.Positions.{Positions, empty, bounded, stretches, combined, complemented, shiftBy, mem}
-use Rattle.model.specs.Refusals.{storeLength, runOrder, Condition, _when_, firstGiven, refusal, earnsLength, disordered, tooMany}
+use Rattle.model.specs.Refusals.{storeLength, runOrder, Condition, _when_, firstGiven, refusal, earnsLength, disordered, setConditions, tooMany}
 use Rattle.model.specs.Refusals
 use Rattle.model.specs.Bytes.{decode}
 use Rattle.model.specs.Call.{Fed, wrongLength, Call, refused, done}
@@ -28,7 +28,6 @@ use Rattle.changes.specs.Edits.{Fitted}
 use Rattle.changes.specs.Neighbours.{stretches-cong}
 use Rattle.interval_bit_set.specs.Met.{fedOf, outcomeOf, Met}
 use Rattle.interval_bit_set.specs.Look.{completedBy}
-use Rattle.interval_bit_set.specs.Told.{setConditions}
 use Rattle.interval_bit_set.proofs.Meeting.{met-by, fed-short, fed-sized}
 use Rattle.interval_bit_set.proofs.Refusing.{earlier, refused-before, refused-full}
 use Rattle.interval_bit_set.proofs.Changing.{fits-few, fits-not, bounded-is}

@@ -14,10 +14,10 @@ use Rattle.model.specs.Numbers.{refusalNumber}
 use Rattle.model.specs.Positions.{stretches, mem}
 use Rattle.model.specs.Positions.Runs.{stretches-is}
 use Rattle.model.specs.Bytes.{valueOf, runsDue, decodeRuns, decode}
-use Rattle.model.specs.Refusals.{runOrder, _when_, firstGiven, refusal, tooShort, badVersion, badLength, orderedFrom, disordered}
+use Rattle.model.specs.Refusals.{runOrder, _when_, firstGiven, refusal, tooShort, badVersion, badLength, orderedFrom, disordered, setConditions}
 use Rattle.model.specs.Codec.{AllBytes, AllWords, decode-length, decode-words, ordered-canon}
 use Rattle.interval_bit_set.specs.declared.bytes.Told.{Told}
-use Rattle.interval_bit_set.specs.Told.{setConditions, Acceptable, TellsRuns}
+use Rattle.interval_bit_set.specs.Told.{Acceptable, TellsRuns}
 use Rattle.interval_bit_set.proofs.Refusing.{earlier, later, first-alone}
 
 -- ---- runs in order

@@ -2,31 +2,13 @@
 use Prim.Native.Nat.{ℕ, _+_, _*_}
 use mathlib.Core.Path.{_≡_}
 use mathlib.Core.Bool.{true}
-use mathlib.Core.List.{List, [], _∷_}
+use mathlib.Core.List.{List}
 use mathlib.Core.Option.{none, some}
 use lib.ListN.{length}
 use Rattle.model.specs.Numbers.{refusalNumber}
 use Rattle.model.specs.Bytes.{runsDue, decode}
-use Rattle.model.specs.Refusals.{
-  Condition,
-  setShort,
-  setVersion,
-  setLength,
-  runOrder,
-  _when_,
-  refusal,
-  tooShort,
-  badVersion,
-  badLength,
-  disordered,
-  orderedFrom,
-}
+use Rattle.model.specs.Refusals.{refusal, setConditions, orderedFrom}
 use Rattle.interval_bit_set.specs.declared.bytes.Told.{Told}
-
--- 3 (under 5 bytes), 4, 3, 5
-abbrev pub setConditions : List ℕ → List Condition
-setConditions bs =
-    setShort when tooShort bs ∷ setVersion when badVersion bs ∷ setLength when badLength bs ∷ runOrder when disordered (decode bs) ∷ []
 
 -- bytes that earn no refusal tell n runs in order
 pub record Acceptable (bs : List ℕ) (n : ℕ) : Type 0 where

@@ -13,7 +13,7 @@ use Rattle.model.specs.declared.Refusal.{Refusal}
 use Rattle.model.specs.Numbers.{refusalNumber}
 use Rattle.model.specs.Positions.{Positions, empty, mem, bounded}
 use Rattle.model.specs.Bytes.{decode}
-use Rattle.model.specs.Refusals.{Condition, _when_, refusal, storeLength, tooMany}
+use Rattle.model.specs.Refusals.{Condition, _when_, refusal, storeLength, setConditions, tooMany}
 use Rattle.model.specs.Refusals.{capacity as tooMuch}
 use Rattle.model.specs.Call.{Call, refused, done}
 use Rattle.model.specs.Answers.{completedAnswer}
@@ -21,7 +21,6 @@ use Rattle.model.specs.Model.{Outcome, positionsOf, overwrites, settle, overwri
 use Rattle.store.specs.Layout.{capacity, heldBy}
 use Rattle.store.specs.Soundness.{Sound}
 use Rattle.interval_bit_set.specs.Met.{fedOf, outcomeOf, Met}
-use Rattle.interval_bit_set.specs.Told.{setConditions}
 use Rattle.interval_bit_set.proofs.Meeting.{Plain, fed-sized}
 use Rattle.lockstep.specs.Follow.{overwritten}
 use Rattle.listset.specs.Text.{tooLongLine, refusedLine, setLines, outcomeLines, loaded, printed}

@@ -12,12 +12,11 @@ use Rattle.model.specs.Numbers.{size}
 use Rattle.model.specs.Positions.{Positions, run, empty, setRange, shiftBy, mem, bounded}
 use Rattle.model.specs.Positions.Runs.{stretches-is}
 use Rattle.model.specs.Edit.{insert, setTo, onRange, setRuns}
-use Rattle.model.specs.Ops.{shiftLeftRuns, shiftRuns, set-positions, shift-positions}
+use Rattle.model.specs.Ops.{shiftLeftRuns, shiftRuns, set-positions, shift-positions, bounded-below}
 use Rattle.model.specs.Calc.{mem-empty}
 use Rattle.model.specs.Call.{Call, Answer, holding}
 use Rattle.model.specs.Model.{change, changed, serve, step, after}
 use Rattle.interval_bit_set.proofs.Changing.{fits-few}
-use Rattle.lockstep.specs.Follow.{bounded-below}
 
 -- the run from a to b, alone
 abbrev one : ℕ → ℕ → List Run

@@ -3,18 +3,18 @@
 use Prim.Native.Nat.{ℕ, _<_, _≤_}
 use mathlib.Core.Path.{_≡_, refl, sym, ap, ap₂, _∙_, subst, fun-ext}
 use mathlib.Core.Logic.{_⊎_, inl, inr}
-use mathlib.Core.Bool.{_&&_}
 use mathlib.Core.List.{List, [], _∷_, _++_}
 use mathlib.Core.Option.{Option, none, some}
-use borrow.Author.Tests.{le-ltb, lt-ltb}
 use Rattle.model.specs.Numbers.{size, split}
-use Rattle.model.specs.Places.{physicalOf, capacityOf}
-use Rattle.model.specs.Positions.{Positions, empty, mem, bounded}
+use Rattle.model.specs.Places.{capacityOf}
+use Rattle.model.specs.Positions.{Positions, empty, bounded}
+use Rattle.model.specs.Ops.{bounded-below}
 use Rattle.model.specs.Refusals.{Condition, _when_, refusal, tooMany}
 use Rattle.model.specs.Refusals.{capacity as tooMuch}
 use Rattle.model.specs.Call.{Fed, holding, Call, feed, Answer, refused, done, number, value, around, position, listing, drawn, written}
 use Rattle.model.specs.Model.{Outcome, positionsOf, overwrites, settle, overwrite, serve, step, after}
-use Rattle.store.specs.Layout.{headerAt, capacity, physicalRuns, turned, heldBy}
+use Rattle.store.specs.Layout.{capacity, heldBy}
+use Rattle.store.specs.Turn.{held-past}
 use Rattle.store.specs.Soundness.{Sound}
 use Rattle.store.specs.Settle.{Settled}
 use Rattle.interval_bit_set.specs.Met.{fedOf, outcomeOf, Leaves, Met}
@@ -27,11 +27,6 @@ pub record Holds (C : ℕ) (P : Positions) (w : List ℕ) : Type 0 where
   pub sound : Sound w
   pub sized : capacity w ≡ C
   pub held : heldBy w ≡ P
-
--- no store holds a position above 2^64 − 1
-pub held-ends : (w : List ℕ) → Ends (heldBy w)
-unfolding heldBy turned
-held-ends w x h = ap (λ t. t && mem (physicalRuns w) (physicalOf x ((headerAt w) .offset))) (le-ltb x size h)
 
 -- two sets that end and agree below 2^64 are the same
 pub same-positions : (P Q : Positions) → Ends P → Ends Q → ((x : ℕ) → x < size → P x ≡ Q x) → P ≡ Q
@@ -53,12 +48,7 @@ settled (listing m) p l = l
 settled (drawn o m) p l = l
 settled (written n bs) p l = l
 
--- below 2^64 a bound changes nothing
-pub bounded-below : (Q : Positions) (x : ℕ) → x < size → bounded Q x ≡ Q x
-unfolding bounded
-bounded-below Q x h = ap (λ t. t && Q x) (lt-ltb x size h)
-
--- nor does it change a set that ends
+-- a bound does not change a set that ends
 bounded-same : (Q : Positions) → Ends Q → bounded Q ≡ Q
 bounded-same Q q = same-positions (bounded Q) Q (bounded-ends Q) q (bounded-below Q)
 
@@ -73,7 +63,7 @@ module _ {C : ℕ} {w w′ : List ℕ} where
   settled-holds {Q} S e q = record {
     sound = S .sound;
     sized = ap capacityOf (S .long) ∙ e;
-    held = same-positions (heldBy w′) Q (held-ends w′) q (S .holds);
+    held = same-positions (heldBy w′) Q (held-past w′) q (S .holds);
   }
 
   -- whatever the answer, the positions after a call are the outcome's
@@ -84,7 +74,7 @@ module _ {C : ℕ} {w w′ : List ℕ} where
         settled-holds
         (settled (S .said) (S .plain) (subst (λ b. Leaves w w′ (o .positions) b) (said ∙ ap (λ p. p .answer) f) leaves))
         (H .sized)
-        (subst Ends (sym q) (S .ends (subst Ends (H .held) (held-ends w))))
+        (subst Ends (sym q) (S .ends (subst Ends (H .held) (held-past w))))
     by-cause (some n) f =
         let same : w′ ≡ w = subst (λ b. Leaves w w′ (o .positions) b) (said ∙ ap (λ p. p .answer) f) leaves in
         subst (λ v. Holds C (o .positions) v) (sym same) (subst (λ Q. Holds C Q w) (sym (ap (λ p. p .positions) f)) H)

@@ -1,60 +1,54 @@
 -- Written sets: a sound store writes the bytes of the runs that it holds, and writes them whenever the slice is long enough. At most C runs
 -- are held, so 5 + 16 × C bytes are; and sets written alike are of the same positions. Assumes nothing.
-use Prim.Native.Nat.{ℕ, _+_, _*_, _^_, _≤_, _<_}
+use Prim.Native.Nat.{ℕ, _+_, _*_, _≤_}
 use mathlib.Core.Path.{_≡_, refl, sym, ap, ap₂, _∙_, subst}
 use mathlib.Core.List.{List, [], _∷_}
 use native.Mathlib.Omega.{arith}
 use lib.ListN.{length, take, drop}
 use lib.Seq.{take-at}
-use borrow.Author.Tests.{le-ltb}
-use Rattle.model.specs.Positions.{Positions, heldRuns, stretches, mem}
-use Rattle.model.specs.Positions.Runs.{heldRuns-canon, mem-heldRuns}
+use Rattle.model.specs.Positions.{Positions, heldRuns, stretches}
 use Rattle.model.specs.Bytes.{encode, intoFront}
 use Rattle.model.specs.Refusals.{_when_, outputShort, refusal, noRoom}
 use Rattle.model.specs.Call.{Call, Answer, written}
 use Rattle.model.specs.Model.{settle, report, write, serve, step}
-use Rattle.model.specs.Codec.{AllWords, encode-length, encode-injective, canon-words}
+use Rattle.model.specs.Codec.{encode-length}
+use Rattle.model.specs.RoundTrips.{written-whole, bytes-tell}
 use Rattle.store.specs.Layout.{capacity}
-use Rattle.store.proofs.Decided.{cells}
+use Rattle.store.specs.Turn.{held-past}
+use Rattle.store.proofs.Nodes.{sized-length}
 use Rattle.interval_bit_set.specs.Met.{Met}
 use Rattle.interval_bit_set.proofs.Meeting.{met-by}
 use Rattle.lockstep.specs.History.{WritesSet}
 use Rattle.lockstep.specs.Steps.{Ends, unrefused}
-use Rattle.lockstep.specs.Follow.{Holds, held-ends, same-positions, outcome-is, answer-is}
+use Rattle.lockstep.specs.Follow.{Holds, same-positions, outcome-is, answer-is}
 
 -- the bytes of a set of positions
 abbrev pub bytesOf : Positions → List ℕ
 bytesOf P = encode (heldRuns P)
 
 module _ {C : ℕ} {P : Positions} {w : List ℕ} (H : Holds C P w) where
-  -- at most C runs are held
-  pub few : length (heldRuns P) ≤ C
-  unfolding stretches
-  few = subst (λ k. length (heldRuns P) ≤ k) (H .sized) (subst (λ Q. length (heldRuns Q) ≤ capacity w) (H .held) (H .sound .fits))
+  -- no store is of more than 65,536 runs
+  pub sizeable : C ≤ 65536
+  sizeable = omega (arith, H .sized, (sized-length w (H .sound .kept .sized)) .1)
 
-  -- far less than a written set can tell
-  pub countable : length (heldRuns P) < 2 ^ 32
-  countable = omega (arith, few, H .sized, (cells w (H .sound .kept .sized)) .1)
+  -- at most C runs are held
+  pub few : stretches P ≤ C
+  few = subst (λ k. stretches P ≤ k) (H .sized) (subst (λ Q. stretches Q ≤ capacity w) (H .held) (H .sound .fits))
 
   -- so their bytes are at most 5 + 16 × C
   pub bytes-few : length (bytesOf P) ≤ 5 + 16 * C
+  unfolding stretches
   bytes-few = omega (arith, few, encode-length (heldRuns P))
 
   -- no position above 2^64 − 1 is held
   pub holds-ends : Ends P
-  holds-ends = subst Ends (H .held) (held-ends w)
+  holds-ends = subst Ends (H .held) (held-past w)
 
 -- what the model gives of writing a set, by the test of the slice's room
 write-by : (C : ℕ) (P : Positions) (out : List ℕ) → step C P (Call.writeSet out)
     ≡ settle (refusal (outputShort when noRoom out (bytesOf P) ∷ [])) P (written (length (bytesOf P)) (intoFront (bytesOf P) out)) P
 unfolding step serve write report
 write-by C P out = refl
-
--- where there is room the bytes are written
-pub written-whole : (C : ℕ) (P : Positions) (out : List ℕ) → length (bytesOf P) ≤ length out
-    → step C P (Call.writeSet out) ≡ record { answer = written (length (bytesOf P)) (intoFront (bytesOf P) out); positions = P }
-unfolding noRoom
-written-whole C P out h = write-by C P out ∙ rw (le-ltb (length out) (length (bytesOf P)) h)
 
 -- bytes in front of a slice are there
 take-front : (bs out : List ℕ) → take (length bs) (intoFront bs out) ≡ bs
@@ -97,15 +91,11 @@ module _ {C : ℕ} {P : Positions} {w : List ℕ} (H : Holds C P w) where
     bytes = sym (take-front (bytesOf P) out);
   }
 
--- the ends of all runs held are words
-pub held-words : (P : Positions) → AllWords (heldRuns P)
-held-words P = canon-words 0 (heldRuns P) (heldRuns-canon P)
-
 -- positions are told by their bytes
 same-bytes : {C : ℕ} {P Q : Positions} {w v : List ℕ} → Holds C P w → Holds C Q v → bytesOf P ≡ bytesOf Q → P ≡ Q
-same-bytes {C} {P} {Q} H K e =
-    let same : heldRuns P ≡ heldRuns Q = encode-injective (heldRuns P) (heldRuns Q) (held-words P) (held-words Q) (countable H) (countable K) e in
-    same-positions P Q (holds-ends H) (holds-ends K) (λ x l. sym (mem-heldRuns P x l) ∙ ap (λ rs. mem rs x) same ∙ mem-heldRuns Q x l)
+same-bytes {P = P} {Q} H K e =
+    let told = bytes-tell P Q (omega (arith, few H, sizeable H)) (omega (arith, few K, sizeable K)) in
+    same-positions P Q (holds-ends H) (holds-ends K) (told .1 e)
 
 -- so two stores write the same set exactly when they hold the same
 pub written-alike : {C : ℕ} {P Q : Positions} {w v bs cs : List ℕ} → Holds C P w → Holds C Q v → WritesSet w bs → WritesSet v cs

@@ -11,14 +11,13 @@ use Rattle.model.specs.Numbers.{size, split}
 use Rattle.model.specs.Places.{capacityOf}
 use Rattle.model.specs.Positions.{Positions, stretches, setRange, changes}
 use Rattle.model.specs.Bytes.{mapBit, mapped}
-use Rattle.model.specs.After.{set-inside, set-below, set-above}
+use Rattle.model.specs.After.{set-inside, set-below, set-above, set-cong}
 use Rattle.store.specs.Layout.{capacity, heldBy}
 use Rattle.store.specs.Soundness.{Sound}
 use Rattle.store.specs.Settle.{Settled}
 use Rattle.changes.specs.declared.edit.Edit.{Edit}
 use Rattle.changes.specs.Edits.{Edited, StretchEnd}
 use Rattle.changes.specs.Neighbours.{stretches-cong}
-use Rattle.changes.proofs.Flipping.{set-cong}
 use Rattle.maps.specs.Window.{Window}
 use Rattle.maps.proofs.Windows.{mapped-below, mapped-above, mapped-at, changes-nothing}
 use Rattle.maps.proofs.Surveying.{Border, border-first, border-next}

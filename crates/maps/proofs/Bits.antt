@@ -12,6 +12,7 @@ use lib.ListN.{getD}
 use borrow.Author.Tests.{eqb-true}
 use Rattle.model.specs.Numbers.{split}
 use Rattle.model.specs.Bytes.{mapBit}
+use Rattle.model.specs.After.{differing, agreeing}
 use Rattle.changes.specs.Edits.{StretchEnd}
 use Rattle.maps.specs.Window.{WholeByte}
 
@@ -67,19 +68,6 @@ pub record Going (bs : List ℕ) (i n e : ℕ) : Type 0 where
 pub going-one : (bs : List ℕ) (i n : ℕ) → i < n → Going bs i n i
 going-one bs i n h = record { from = omega arith; upto = h; same = λ z l m. ap (mapBit bs) (omega arith) }
 
--- two values that differ, and two that do not
-differ : (b v : Bool) → not (Bool·beq b v) ≡ true → b ≡ not v
-differ true false e = refl
-differ false true e = refl
-differ true true e = sym e
-differ false false e = e
-
-pub agree : (b v : Bool) → not (Bool·beq b v) ≡ false → b ≡ v
-agree true true e = refl
-agree false false e = refl
-agree true false e = e
-agree false true e = sym e
-
 module _ {bs : List ℕ} {i n e : ℕ} {v : Bool} (g : Going bs i n e) (value : v ≡ mapBit bs i) where
   -- a whole byte more
   pub going-byte : (b : Bool) → 8 < n - e → WholeByte bs (e + 1) v b → b ≡ true → Going bs i n (e + 8)
@@ -104,7 +92,7 @@ module _ {bs : List ℕ} {i n e : ℕ} {v : Bool} (g : Going bs i n e) (value : 
         go : (z : ℕ) → i ≤ z → z ≤ e + 1 → (e < z) ⊎ (z ≤ e) → mapBit bs z ≡ mapBit bs i
         go z a b (inl k) =
             let q : z ≡ e + 1 = omega arith in
-            ap (mapBit bs) q ∙ sym next ∙ agree r v t ∙ value
+            ap (mapBit bs) q ∙ sym next ∙ agreeing r v t ∙ value
         go z a b (inr k) = g .same z a k
 
     -- a bit that has another value
@@ -115,7 +103,7 @@ module _ {bs : List ℕ} {i n e : ℕ} {v : Bool} (g : Going bs i n e) (value : 
       same = g .same;
       stop = λ l.
           let q : suc e ≡ e + 1 = omega arith in
-          ap (mapBit bs) q ∙ sym next ∙ differ r v t ∙ ap not value;
+          ap (mapBit bs) q ∙ sym next ∙ differing r v t ∙ ap not value;
     }
 
 -- the last bit

@@ -7,11 +7,12 @@ use mathlib.Core.List.{List}
 use native.Mathlib.Omega.{arith}
 use lib.Dec.{leb}
 use Rattle.model.specs.Positions.{Positions, oneIf, countRanges, stretches}
+use Rattle.model.specs.Positions.Laws.{one-bound}
 use Rattle.model.specs.Bytes.{mapBit, mapped}
 use Rattle.model.specs.MapLaws.{mapped-in}
 use Rattle.model.specs.After.{goesOn, runs-replaced}
 use Rattle.reports.proofs.Reading.{ranges-most}
-use Rattle.changes.specs.Neighbours.{heldBelow, heldAbove, one-bound, goesOn-changed-above, goesOn-changed-below}
+use Rattle.changes.specs.Neighbours.{heldBelow, heldAbove, goesOn-changed-above, goesOn-changed-below}
 use Rattle.changes.proofs.Fitting.{leb-like, Told, inside-few, told-few}
 use Rattle.maps.specs.Window.{Window}
 use Rattle.maps.proofs.Windows.{mapped-below, mapped-above}

@@ -10,12 +10,11 @@ use lib.ListN.{length, length-append}
 use borrow.Author.Tests.{not-true}
 use Rattle.model.specs.declared.Operation.the-variants.{Xor}
 use Rattle.model.specs.Positions.{Positions, oneIf, count, runsIn, countRanges, combined}
-use Rattle.model.specs.Positions.Laws.{count-cut, count-both}
+use Rattle.model.specs.Positions.Laws.{count-cut, count-both, count-most}
 use Rattle.model.specs.Positions.Runs.{runsIn-join, runsIn-none}
 use Rattle.model.specs.Bytes.{mapBit, mapped}
 use Rattle.reports.specs.declared.physical.Tally.{Tally}
 use Rattle.reports.specs.Reports.{Measured}
-use Rattle.reports.proofs.Reading.{count-most}
 use Rattle.changes.specs.Edits.{StretchEnd}
 use Rattle.maps.specs.Window.{Window, Surveyed}
 use Rattle.maps.proofs.Windows.{mapped-below, mapped-above, mapped-at, changes-stretch, changes-in, one-value}

@@ -13,9 +13,8 @@ use Rattle.model.specs.Positions.Laws.{among-below, among-above, count-cut, cou
 use Rattle.model.specs.Positions.Runs.{runsIn-all, runsIn-none}
 use Rattle.model.specs.Bytes.{mapBit, mapped}
 use Rattle.model.specs.MapLaws.{mapped-in}
-use Rattle.model.specs.After.{set-inside, differ-hit, differ-self}
+use Rattle.model.specs.After.{set-inside, differ-hit, differ-self, agreeing}
 use Rattle.changes.specs.SetRuns.{set-nothing}
-use Rattle.maps.proofs.Bits.{agree}
 
 -- ---- the positions
 -- below the window
@@ -63,7 +62,7 @@ changes-in P Q a n t under over =
 pub changes-nothing : (P Q : Positions) → changes P Q ≡ 0 → (x : ℕ) → x < size → P x ≡ Q x
 unfolding changes combined
 changes-nothing P Q e x l =
-    agree (P x) (Q x) (sym (set-nothing (combined Xor P Q) 0 size false e x) ∙ set-inside 0 size false (combined Xor P Q) x (omega arith) (omega arith))
+    agreeing (P x) (Q x) (sym (set-nothing (combined Xor P Q) 0 size false e x) ∙ set-inside 0 size false (combined Xor P Q) x (omega arith) (omega arith))
 
 -- ---- runs
 -- a range of one value is one run, or none

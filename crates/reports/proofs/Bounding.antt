@@ -1,9 +1,9 @@
 -- Runs and their ends from the next and the previous position of a value: what precedes the next one, or follows the previous one, has the
 -- other value, and so has what follows a run. Assumes nothing.
 use Prim.Native.Nat.{ℕ, suc, _+_, _-_, _≤_, _<_}
-use mathlib.Core.Path.{_≡_, refl, sym, ap, _∙_, subst}
+use mathlib.Core.Path.{_≡_, sym, ap, _∙_, subst}
 use mathlib.Core.Logic.{_⊎_, inl, inr}
-use mathlib.Core.Bool.{Bool, true, false, not, true≢false}
+use mathlib.Core.Bool.{Bool, true, false, not, true≢false, Bool·not-not}
 use mathlib.Core.Option.{none, some}
 use native.Mathlib.Omega.{arith}
 use native.Mathlib.Decide.{ℕ-discrete}
@@ -17,11 +17,6 @@ use Rattle.model.specs.Positions.Runs.{runsIn-none, firstRun-is, lastRun-is, ru
 use Rattle.model.specs.Positions.Finds.{find-is, find-none}
 use Rattle.reports.specs.Reports.{Next, Previous, LowEnd, HighEnd}
 use Rattle.reports.proofs.Seeking.{Past, Short, none-next, none-previous}
-
--- the other value's other value
-not-not : (v : Bool) → not (not v) ≡ v
-not-not true = refl
-not-not false = refl
 
 -- a value is not the other one
 differ : {A : Type 0} (v b : Bool) → b ≡ v → b ≡ not v → A
@@ -70,7 +65,7 @@ module _ (P : Positions) (v : Bool) (a b : ℕ) where
       let l : x < y = next-over P v m (j .2) u q in
       let e : suc (y - 1) ≡ y = omega arith in
       sym (firstRun-is P v a (suc b - a) x (y - 1) (j .0) (omega arith) (omega (arith, j .0)) (j .3)
-      (λ z c d. k .3 z c (omega arith) ∙ not-not v) (λ _. ap P e ∙ k .2))
+      (λ z c d. k .3 z c (omega arith) ∙ Bool·not-not v) (λ _. ap P e ∙ k .2))
 
   -- there is a position before y
   pub first-run-some : {x y : ℕ} (n m : Edge) → Next P v a n → n ≡ At x → Next P (not v) x m → m ≡ At y → 1 ≤ y
@@ -84,7 +79,7 @@ module _ (P : Positions) (v : Bool) (a b : ℕ) where
   first-run-clipped {x} n m l t p h u q =
       let j : Next P v a (At x) = subst (Next P v a) p t in
       sym (firstRun-is P v a (suc b - a) x b (j .0) h (omega (arith, j .0)) (j .3)
-      (λ z c d. none-next P (not v) m u q z c d (omega arith) ∙ not-not v) (λ i. absurd (omega (arith, j .0))))
+      (λ z c d. none-next P (not v) m u q z c d (omega arith) ∙ Bool·not-not v) (λ i. absurd (omega (arith, j .0))))
 
   -- ---- the last run from a to b
   -- there is none
@@ -99,7 +94,7 @@ module _ (P : Positions) (v : Bool) (a b : ℕ) where
       let k : Previous P (not v) x (At y) = subst (Previous P (not v) x) q u in
       let l : y < x = previous-under P v m (j .1) u q in
       sym (lastRun-is P v a (suc b - a) (y + 1) x (omega arith) (omega arith) (omega (arith, j .0)) (λ z c d. j .2 z c (omega arith))
-      (λ z c d. k .2 z (omega arith) d ∙ not-not v) (λ z c d. let e : z ≡ y = omega arith in ap P e ∙ k .1))
+      (λ z c d. k .2 z (omega arith) d ∙ Bool·not-not v) (λ z c d. let e : z ≡ y = omega arith in ap P e ∙ k .1))
 
   -- there is a position behind y
   pub last-run-fits : {x y : ℕ} (n m : Edge) → b < size → Previous P v b n → n ≡ At x → Previous P (not v) x m → m ≡ At y → Fits w64 (y + 1)
@@ -114,7 +109,7 @@ module _ (P : Positions) (v : Bool) (a b : ℕ) where
   last-run-clipped {x} n m t p h u q =
       let j : Previous P v b (At x) = subst (Previous P v b) p t in
       sym (lastRun-is P v a (suc b - a) a x (omega arith) h (omega (arith, j .0)) (λ z c d. j .2 z c (omega arith))
-      (λ z c d. none-previous P (not v) m u q z c d ∙ not-not v) (λ z c d. absurd (omega arith)))
+      (λ z c d. none-previous P (not v) m u q z c d ∙ Bool·not-not v) (λ z c d. absurd (omega arith)))
 
 module _ (P : Positions) (v : Bool) where
   -- ---- the stretch around x
@@ -125,7 +120,7 @@ module _ (P : Positions) (v : Bool) where
       let l : y < x = previous-under P v m p u q in
       record {
         under = omega arith;
-        same = λ z c d. k .2 z (omega arith) d ∙ not-not v;
+        same = λ z c d. k .2 z (omega arith) d ∙ Bool·not-not v;
         stop = λ z e. let i : z ≡ y = omega arith in ap P i ∙ k .1;
       }
 
@@ -139,7 +134,7 @@ module _ (P : Positions) (v : Bool) where
   pub low-end-none : {x : ℕ} (m : Edge) → Previous P (not v) x m → m ≡ Nowhere → LowEnd P v x 0
   low-end-none {x} m u q = record {
     under = omega arith;
-    same = λ z c d. subst (Previous P (not v) x) q u z d ∙ not-not v;
+    same = λ z c d. subst (Previous P (not v) x) q u z d ∙ Bool·not-not v;
     stop = λ z e. absurd (omega arith);
   }
 
@@ -152,7 +147,7 @@ module _ (P : Positions) (v : Bool) where
       record {
         over = omega arith;
         within = omega (arith, k .1);
-        same = λ z c d. k .3 z c (omega arith) ∙ not-not v;
+        same = λ z c d. k .3 z c (omega arith) ∙ Bool·not-not v;
         stop = λ _. ap P e ∙ k .2;
       }
 
@@ -167,7 +162,7 @@ module _ (P : Positions) (v : Bool) where
   high-end-none {x} m l u q = record {
     over = omega arith;
     within = omega arith;
-    same = λ z c d. subst (Next P (not v) x) q u z c (omega arith) ∙ not-not v;
+    same = λ z c d. subst (Next P (not v) x) q u z c (omega arith) ∙ Bool·not-not v;
     stop = λ i. absurd (omega arith);
   }
 

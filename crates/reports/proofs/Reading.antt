@@ -15,7 +15,7 @@ use Rattle.model.specs.declared.Run.{Run}
 use Rattle.model.specs.Numbers.{size, worth}
 use Rattle.model.specs.Places.{physicalOf, logicalOf}
 use Rattle.model.specs.Positions.{Positions, oneIf, count, select, runsIn, countRanges}
-use Rattle.model.specs.Positions.Laws.{count-both, count-cut}
+use Rattle.model.specs.Positions.Laws.{count-cut, count-most}
 use Rattle.model.specs.Positions.Runs.{runsIn-canon}
 use Rattle.model.specs.Positions.Finds.{Selected, select-only, select-none}
 use Rattle.model.specs.RunList.{Canon}
@@ -46,11 +46,6 @@ use Rattle.reports.specs.Parted.{select-in-first, select-in-second}
 use Rattle.store.proofs.Opening.{physicalIn, sound-index, sound-held}
 
 -- ---- how much a range has
--- at most each of its positions
-pub count-most : (P : Positions) (v : Bool) (a n : ℕ) → count P v a n ≤ n
-count-most P true a n = omega (arith, count-both P a n)
-count-most P false a n = omega (arith, count-both P a n)
-
 -- canonical runs are at least two apart
 canon-most : (total k : ℕ) (rs : List Run) → Canon total k rs → 2 * length rs ≤ total + 1 - k
 canon-most total k [] c = omega arith

@@ -10,19 +10,12 @@ use native.Mathlib.Omega.{arith}
 use Rattle.model.specs.declared.Run.{Run}
 use Rattle.model.specs.Numbers.{split}
 use Rattle.model.specs.Positions.{Positions, run, inside, count, find, select, runsIn, firstRun, lastAfter, lastRun, mem}
-use Rattle.model.specs.Positions.Laws.{inside-yes, inside-below, inside-above, among-yes, count-cut}
+use Rattle.model.specs.Positions.Laws.{inside-yes, inside-below, inside-above, among-yes, count-cut, beq-is}
 use Rattle.model.specs.Positions.Runs.{runsIn-canon, runsIn-mem, runsIn-join, mem-append, firstRun-is, lastRun-is}
 use Rattle.model.specs.Positions.Finds.{find-runs, find-is, count-runs, select-runs, select-is, select-none, select-only, Selected, selectRuns, selectRuns-in, selectRuns-past, startOf}
 use Rattle.model.specs.RunList.{Canon, mem-below, mem-past, widths}
 use Rattle.model.specs.Search.{canon-split}
 use Rattle.store.specs.Ends.{empty-mem}
-
--- the value that was asked for
-beq-yes : (b v : Bool) → Bool·beq b v ≡ true → b ≡ v
-beq-yes true true e = refl
-beq-yes true false e = sym e
-beq-yes false true e = e
-beq-yes false false e = refl
 
 -- the other value
 beq-no : (b v : Bool) → Bool·beq b v ≡ false → b ≡ not v
@@ -82,7 +75,7 @@ module _ (P : Positions) (v : Bool) (a n : ℕ) (xs : List Run) (r : Run) (ys : 
   -- in the run
   in-run : (y : ℕ) → r .start ≤ y → y ≤ r .«end» → P y ≡ v
   in-run y h l =
-      beq-yes (P y) v (sym (hits y (omega (arith, parts .1)) (omega (arith, parts .3)))
+      beq-is (P y) v (sym (hits y (omega (arith, parts .1)) (omega (arith, parts .3)))
       ∙ ap (λ t. mem xs y || (t || mem ys y)) (inside-yes (r .start) (r .«end») y h l) ∙ or-true (mem xs y))
 
   -- it is a run

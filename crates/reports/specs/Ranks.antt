@@ -14,8 +14,8 @@ use borrow.Author.Tests.{lt-ltb, le-ltb}
 use Rattle.model.specs.declared.Run.{Run}
 use Rattle.model.specs.Numbers.{size, worth, split}
 use Rattle.model.specs.Positions.{Positions, oneIf, count, select, runsIn, countRanges, mem}
-use Rattle.model.specs.Positions.Laws.{Place, below, within, above, place, count-cut, count-all, count-none, count-both}
-use Rattle.model.specs.Positions.Runs.{runsIn-all, runsIn-none, runsIn-length-join}
+use Rattle.model.specs.Positions.Laws.{Place, below, within, above, place, count-cut, count-all, count-none, count-both, count-most}
+use Rattle.model.specs.Positions.Runs.{runsIn-length-one, runsIn-length-join}
 use Rattle.model.specs.RunList.{Canon, mem-in, mem-above, mem-under, mem-below}
 use Rattle.model.specs.Clip.{clip, clip-some, clip-none, clip-runs}
 use Rattle.model.specs.Search.{startsBelow}
@@ -89,22 +89,12 @@ count-one P a = go (P a) refl
     go true e = count-all P true a 1 (λ x h l. ap P (omega arith) ∙ e)
     go false e = count-none P true a 1 (λ x h l. ap P (omega arith) ∙ e)
 
--- the runs in it
-runs-one : (P : Positions) (v : Bool) (a : ℕ) → length (runsIn P v a 1) ≡ oneIf (Bool·beq (P a) v)
-runs-one P v a = go (P a) v refl
-  where
-    go : (b v : Bool) → P a ≡ b → length (runsIn P v a 1) ≡ oneIf (Bool·beq b v)
-    go true true e = ap length (runsIn-all P true a 0 (λ x h l. ap P (omega arith) ∙ e))
-    go true false e = ap length (runsIn-none P false a 1 (λ x h l. ap P (omega arith) ∙ e))
-    go false true e = ap length (runsIn-none P true a 1 (λ x h l. ap P (omega arith) ∙ e))
-    go false false e = ap length (runsIn-all P false a 0 (λ x h l. ap P (omega arith) ∙ e))
-
 -- ---- the runs of the other value
 -- runs of the two values alternate, so the ends tell how many more there are of one
 runs-alternate : (P : Positions) (a m : ℕ)
     → length (runsIn P false a (suc m)) + oneIf (P a) + oneIf (P (a + m)) ≡ length (runsIn P true a (suc m)) + 1
 runs-alternate P a zero =
-    ap (λ x. length (runsIn P false a 1) + oneIf (P a) + oneIf (P x)) (add-zero a) ∙ go (P a) (runs-one P false a) (runs-one P true a)
+    ap (λ x. length (runsIn P false a 1) + oneIf (P a) + oneIf (P x)) (add-zero a) ∙ go (P a) (runsIn-length-one P false a) (runsIn-length-one P true a)
   where
     go : (b : Bool) → length (runsIn P false a 1) ≡ oneIf (Bool·beq b false) → length (runsIn P true a 1) ≡ oneIf (Bool·beq b true)
         → length (runsIn P false a 1) + oneIf b + oneIf b ≡ length (runsIn P true a 1) + 1
@@ -120,7 +110,7 @@ runs-alternate P a (suc m) =
         let p : suc (a + m) ≡ a + suc m = omega arith in
         ap₂ (λ j x. length (runsIn P v a j) + oneIf (Bool·beq (P (a + m)) v && Bool·beq (P x) v)) (sym q) (sym p)
         ∙ runsIn-length-join P v a m 0
-        ∙ ap (λ j. length (runsIn P v a (suc m)) + j) (runs-one P v (suc (a + m)) ∙ ap (λ x. oneIf (Bool·beq (P x) v)) p)
+        ∙ ap (λ j. length (runsIn P v a (suc m)) + j) (runsIn-length-one P v (suc (a + m)) ∙ ap (λ x. oneIf (Bool·beq (P x) v)) p)
 
     go : (b d : Bool) → length (runsIn P false a (suc m)) + oneIf (P a) + oneIf b ≡ length (runsIn P true a (suc m)) + 1
         → length (runsIn P false a (suc (suc m))) + oneIf (Bool·beq b false && Bool·beq d false) ≡ length (runsIn P false a (suc m)) + oneIf (Bool·beq d false)
@@ -229,11 +219,6 @@ module _ {w : List ℕ} {p s e : ℕ} {under upto : Rank} (rise : s ≤ e) (low 
 pub record Numbered (w : List ℕ) (p s : ℕ) (v : Bool) (k j : ℕ) : Type 0 where
   pub number-is : (g : ℕ) (t : Tree) → Index w p g t → j ≡ count (mem (inorder t)) v 0 s + k
 
--- no more than there are positions
-count-fits : (P : Positions) (v : Bool) (a n : ℕ) → count P v a n ≤ n
-count-fits P true a n = omega (arith, count-both P a n)
-count-fits P false a n = omega (arith, count-both P a n)
-
 module _ {w : List ℕ} {p s k j : ℕ} {v : Bool} (fits : s < size) (number : Numbered w p s v k j) where
   -- those before s and those from s on
   whole : (P : Positions) → count P v 0 size ≡ count P v 0 s + count P v s (size - s)
@@ -245,7 +230,7 @@ module _ {w : List ℕ} {p s k j : ℕ} {v : Bool} (fits : s < size) (number : N
 
   -- its number fits
   pub chosen-fits : Choosable w p s v k → j < size
-  chosen-fits (g, t, i, h) = omega (arith, number .number-is g t i, whole (mem (inorder t)), count-fits (mem (inorder t)) v 0 size)
+  chosen-fits (g, t, i, h) = omega (arith, number .number-is g t i, whole (mem (inorder t)), count-most (mem (inorder t)) v 0 size)
 
   -- it is the one that is found
   pub chosen-told : {x : ℕ} → TellsSelected w p v j x → TellsChosen w p s v k x

@@ -57,7 +57,7 @@ pub fn write_node(s: &mut [u64], n: u64, v: Node)
 }
 
 // The larger of two numbers.
-fn larger(a: u64, b: u64) -> u64
+pub fn larger(a: u64, b: u64) -> u64
     ensures { λ r. ⌜ r ≡ max a b ⌝ }
 {
     if a < b { b } else { a }

@@ -8,13 +8,14 @@ use native.Mathlib.Omega.{arith}
 use native.Mathlib.Decide.{ℕ-discrete}
 use borrow.Author.Tests.{eqb-true, eq-eqb}
 use lib.ListN.{length}
+use Rattle.model.specs.Edit.{and-holds}
 use Rattle.run_index.specs.declared.Node.{Node}
 use Rattle.run_index.specs.Cells.{cellAt}
 use Rattle.run_index.specs.Tree.{δ}
 use Rattle.run_index.proofs.Trees.{δ-other, δ≤1}
 use Rattle.store.specs.Soundness.{Chain, times}
 use Rattle.store.specs.Decision.{freeB, chainB}
-use Rattle.store.proofs.Tests.{both-out, both-in, Free, free-out, free-in}
+use Rattle.store.proofs.Tests.{both-in, Free, free-out, free-in}
 
 -- the chain that was followed
 pub record Chained (w : List ℕ) (k c : ℕ) : Type 0 where
@@ -27,7 +28,7 @@ pub chained : (c : ℕ) (w : List ℕ) (k : ℕ) → chainB c w k ≡ true → C
 unfolding chainB
 chained zero w k e = record { ns = []; chain = eqb-true k 0 e; many = refl }
 chained (suc c) w k e =
-    let p = both-out _ _ e in
+    let p = and-holds _ _ e in
     let f = free-out w k (p .0) in
     let r = chained c w ((cellAt w k) .left) (p .1) in
     record { ns = k ∷ r .ns; chain = (refl, f .some, f .room, f .zeros, r .chain); many = ap suc (r .many) }

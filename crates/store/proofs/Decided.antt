@@ -1,7 +1,7 @@
 -- The tests of specs/Decision.antt decide what is kept, and soundness. A walk that accepts a link has met a tree there, in order and
 -- balanced, and each such tree is accepted; the chain has the nodes that are left, by counting. A link leads to one tree, so the runs
 -- that words hold are those of the tree. Assumes nothing.
-use Prim.Native.Nat.{ℕ, zero, suc, _+_, _-_, _*_, _≤_, _<_, max}
+use Prim.Native.Nat.{ℕ, zero, suc, _+_, _-_, _≤_, _<_, max}
 use mathlib.Core.Path.{_≡_, refl, sym, ap, _∙_, subst}
 use mathlib.Core.Bool.{Bool, true, false, not, _||_}
 use mathlib.Core.List.{List, [], _∷_, _++_}
@@ -11,9 +11,9 @@ use borrow.Author.Tests.{eqb-true, eq-eqb, leb-true, le-leb}
 use lib.Dec.{eqb}
 use lib.ListN.{length}
 use Rattle.model.specs.Numbers.{size}
-use Rattle.model.specs.Places.{length-capacity}
 use Rattle.model.specs.RunList.{Canon}
 use Rattle.model.specs.Positions.{run}
+use Rattle.model.specs.Edit.{and-holds}
 use Rattle.run_index.specs.declared.Node.{Node}
 use Rattle.run_index.specs.Cells.{cellAt}
 use Rattle.run_index.specs.Tree.{Tree, leaf, node, link, height, runs, ones, count, inorder, cell, Rep, rep-leaf, rep-node, At, Sums, Balanced}
@@ -25,9 +25,10 @@ use Rattle.run_index.proofs.Totals.{runs-length}
 use Rattle.store.specs.Layout.{headerAt, capacity, runsFrom, physicalRuns}
 use Rattle.store.specs.Soundness.{Chain, times, Kept, Sound}
 use Rattle.store.specs.Decision.{insideB, belowOf, agreesB, cellB, treeB, chainB, keptB, boundsB, soundB, Shared}
-use Rattle.store.proofs.Tests.{never, both-out, both-in, inside-out, inside-in, below-none, below-some, Within, run-out, run-in, heights-out, heights-in, sums-out, sums-in}
+use Rattle.store.proofs.Tests.{never, both-in, inside-out, inside-in, below-none, below-some, Within, run-out, run-in, heights-out, heights-in, sums-out, sums-in}
 use Rattle.store.proofs.Steps.{cell-out, tree-none, tree-node}
 use Rattle.store.proofs.Counting.{Among, each-once, that-many}
+use Rattle.store.proofs.Nodes.{sized-length}
 use Rattle.store.proofs.Orders.{About, canon-out, canon-in, node-in, distinct}
 use Rattle.store.proofs.Chains.{chained, followed, chain-once, chain-free, free-low}
 
@@ -107,9 +108,9 @@ unfolding treeB
 tree-yes zero w k lo total e = subst (λ (j : ℕ). Hangs zero w j lo total) (sym (eqb-true k 0 e)) (empty zero w lo total)
 tree-yes (suc d) w zero lo total e = empty (suc d) w lo total
 tree-yes (suc d) w (suc n) lo total e =
-    let p = both-out _ _ e in
-    let q = both-out _ _ (p .1) in
-    let r = both-out _ _ (q .1) in
+    let p = and-holds _ _ e in
+    let q = and-holds _ _ (p .1) in
+    let r = and-holds _ _ (q .1) in
     joined d w (suc n) lo total (cellAt w (suc n)) refl (omega arith) (p .0) (q .0)
     (tree-yes d w ((cellAt w (suc n)) .left) lo ((cellAt w (suc n)) .start - 1) (r .0))
     (tree-yes d w ((cellAt w (suc n)) .right) ((cellAt w (suc n)) .«end» + 2) total (r .1))
@@ -153,18 +154,14 @@ low-enough t b few = go (decLe (height t) 22)
         let e : (height t - 23) + 23 ≡ height t = omega arith in
         absurd (omega (arith, least-runs t b, least-rises 23 (height t - 23), ap least e, least-23))
 
--- the cells of words with a capacity: the header and C + 2 nodes
-pub cells : (w : List ℕ) → 1 ≤ capacity w → (length w ≡ 8 * (capacity w + 3)) × (capacity w ≤ 65536)
-cells w h = length-capacity (length w) h
-
 module _ (w : List ℕ) (t : Tree) (ns : List ℕ) (K : Kept w t ns) where
   -- a kept tree has C + 2 nodes at most
   pub kept-few : runs t ≤ capacity w + 2
-  kept-few = let c = cells w (K .sized) in omega (arith, c .0, few-nodes w 0 t (K .linked .rep) (K .once))
+  kept-few = let c = sized-length w (K .sized) in omega (arith, c .0, few-nodes w 0 t (K .linked .rep) (K .once))
 
   -- so it is at most 22 high
   pub kept-low : height t ≤ 22
-  kept-low = let c = cells w (K .sized) in low-enough t (K .balanced) (omega (arith, c .1, kept-few))
+  kept-low = let c = sized-length w (K .sized) in low-enough t (K .balanced) (omega (arith, c .1, kept-few))
 
   -- as many runs as nodes
   pub kept-runs : length (inorder t) ≤ capacity w + 2
@@ -206,14 +203,14 @@ module _ (w : List ℕ) (t : Tree) (ns : List ℕ) (sized : 1 ≤ capacity w) (r
   tree-among : Among (capacity w + 2) (λ m. count m t)
   tree-among m i =
       let h = node-in w 0 t 0 size rep ordered m i in
-      let c = cells w sized in
+      let c = sized-length w sized in
       (h .some, omega (arith, c .0, h .room))
 
   -- those of the chain
   chain-among : Among (capacity w + 2) (λ m. times m ns)
   chain-among m i =
       let h = chain-free w k ns chain m i in
-      let c = cells w sized in
+      let c = sized-length w sized in
       (h .some, omega (arith, c .0, h .room))
 
   -- a node of the tree has a height, a free one has none
@@ -249,11 +246,11 @@ pub record Headed-so (w : List ℕ) : Type 0 where
 pub kept-out : (w : List ℕ) → keptB w ≡ true → Headed-so w
 unfolding keptB
 kept-out w e =
-    let a = both-out _ _ e in
-    let b = both-out _ _ (a .1) in
-    let c = both-out _ _ (b .1) in
-    let d = both-out _ _ (c .1) in
-    let f = both-out _ _ (d .1) in
+    let a = and-holds _ _ e in
+    let b = and-holds _ _ (a .1) in
+    let c = and-holds _ _ (b .1) in
+    let d = and-holds _ _ (c .1) in
+    let f = and-holds _ _ (d .1) in
     record {
       spare = eqb-true _ _ (a .0);
       tree = b .0;
@@ -331,11 +328,11 @@ either-in false b h = refl
 pub soundB-yes : (w : List ℕ) → 1 ≤ capacity w → soundB w ≡ true → Sound w
 unfolding soundB boundsB
 soundB-yes w sized e =
-    let p = both-out _ _ e in
+    let p = and-holds _ _ e in
     let S = keptB-yes w sized (p .0) in
-    let a = both-out _ _ (p .1) in
-    let b = both-out _ _ (a .1) in
-    let c = both-out _ _ (b .1) in
+    let a = and-holds _ _ (p .1) in
+    let b = and-holds _ _ (a .1) in
+    let c = and-holds _ _ (b .1) in
     record {
       tree = S .tree;
       free = S .free;

@@ -3,23 +3,23 @@
 use Prim.Native.Nat.{ℕ, zero, suc, _+_, _-_, _≤_, _<_}
 use mathlib.Core.Path.{_≡_, refl, sym, ap, _∙_, subst}
 use mathlib.Core.Logic.{_⊎_, inl, inr}
-use mathlib.Core.List.{List, []}
+use mathlib.Core.List.{List, [], _∷_, _++_}
 use native.Mathlib.Omega.{arith}
 use Rattle.model.specs.declared.Run.{Run}
 use Rattle.model.specs.Numbers.{size, split}
 use Rattle.model.specs.Places.{capacityOf}
-use Rattle.model.specs.Positions.{Positions, mem, heldRuns, stretches}
+use Rattle.model.specs.Positions.{Positions, run, mem, heldRuns, stretches}
 use Rattle.model.specs.Positions.Runs.{stretches-is}
 use Rattle.model.specs.RunList.{Canon}
 use Rattle.run_index.specs.declared.Node.{Node}
-use Rattle.run_index.specs.Cells.{cellAt, Room}
+use Rattle.run_index.specs.Cells.{cellAt, Room, Wrote}
 use Rattle.run_index.specs.Tree.{Tree, leaf, node, runs, ones, count, inorder, Sums}
 use Rattle.run_index.specs.Search.{Index}
 use Rattle.run_index.specs.Shape.{runsAt, built}
 use Rattle.run_index.specs.Promises.{Given, Builds}
 use Rattle.run_index.proofs.Trees.{rep-pos, rep-room, rep-cell}
 use Rattle.run_index.proofs.Totals.{runs-length}
-use Rattle.run_index.proofs.Built.{built-runs, built-inside, built-below, built-above, built-inorder, built-balanced}
+use Rattle.run_index.proofs.Built.{built-runs, built-inside, built-below, built-above, built-inorder, built-balanced, runs-append}
 use Rattle.store.specs.declared.Header.{Header}
 use Rattle.store.specs.Layout.{headerAt, Headed, capacity, turned, heldBy}
 use Rattle.store.specs.Soundness.{Chain, times, firstOf, lastOf, Kept, Sound}
@@ -27,7 +27,7 @@ use Rattle.store.specs.Bounds.{TellsFirst, TellsLast}
 use Rattle.store.specs.Free.{after, Chained}
 use Rattle.store.specs.Turn.{turned-at, turned-zero, stretches-zero}
 use Rattle.store.specs.Ends.{empty-mem, turned-none}
-use Rattle.store.specs.Settle.{Settled, Ready, Refreshes, Linkable, Links}
+use Rattle.store.specs.Settle.{Settled, Ready, Refreshes, nodeOf, Linkable, Links}
 use Rattle.store.proofs.Nodes.{chain-kept, sized-length, few-runs, Laid, laid-kept}
 use Rattle.store.proofs.Emptying.{after-none, after-one, emptyHeader}
 use Rattle.store.proofs.Decided.{kept-physical}
@@ -198,6 +198,12 @@ runs-ordered w total lo i (suc k) c m lt le = go (split (i + 1) m) (runs-ordered
 pub runs-kept : (w w′ : List ℕ) (i k : ℕ) → ((m : ℕ) → m ≤ i + k → cellAt w′ m ≡ cellAt w m) → runsAt w′ i k ≡ runsAt w i k
 runs-kept w w′ i zero same = refl
 runs-kept w w′ i (suc k) same = rw (same (i + 1) (omega arith), runs-kept w w′ (i + 1) k (λ m le. same m (omega arith)))
+
+-- a node written after them holds one run more
+pub runs-put : (w w′ : List ℕ) (i a b : ℕ) → Wrote w w′ (i + 1) (nodeOf a b) → runsAt w′ 0 (i + 1) ≡ runsAt w 0 i ++ (run a b ∷ [])
+runs-put w w′ i a b wr =
+    let e : 0 + i + 1 ≡ i + 1 = omega arith in
+    runs-append w′ i 0 1 ∙ rw (e, wr .here, runs-kept w w′ 0 i (λ m le. wr .there m (λ q. omega arith)))
 
 -- a header that tells of root and free head alone
 abbrev bareHeader : ℕ → ℕ → Header

@@ -8,12 +8,13 @@ use native.Mathlib.Decide.{ℕ-discrete}
 use lib.Dec.{eqb}
 use lib.Bits.{bitOr, bitXor, xor-self}
 use borrow.Author.Tests.{eq-eqb, ne-eqb, eqb-true, not-true, not-false}
+use Rattle.model.specs.Edit.{and-holds}
 use Rattle.run_index.specs.declared.Node.{Node}
 use Rattle.run_index.specs.Cells.{cellAt, Room}
 use Rattle.store.specs.Decision.{insideB, belowOf, runB, heightsB, sumsB, agreesB, cellB, leafB, treeB, freeB, chainB, Tells}
 use Rattle.run_index.specs.Tree.{width}
 use Rattle.store.specs.Soundness.{freeCell}
-use Rattle.store.proofs.Tests.{never, is-false, same, both-out, both-in, inside-in, below-none, below-some, heights-out, heights-in, sums-out, sums-in, run-out, run-in, ors-none, none-ors, xor-none}
+use Rattle.store.proofs.Tests.{never, is-false, same, both-in, inside-in, below-none, below-some, heights-out, heights-in, sums-out, sums-in, run-out, run-in, ors-none, none-ors, xor-none}
 
 -- a node by itself: its run, then its height, then its sums
 module _ (v x y : Node) (lo total : ℕ) (b : Bool) (eb : b ≡ runB (v .start) (v .«end») (v .tag) lo total) where
@@ -47,8 +48,8 @@ pub record Fits (v x y : Node) (lo total : ℕ) : Type 0 where
 pub cell-out : (v x y : Node) (lo total : ℕ) → cellB v x y lo total ≡ true → Fits v x y lo total
 unfolding cellB agreesB
 cell-out v x y lo total e =
-    let p = both-out _ _ e in
-    let q = both-out _ _ (p .1) in
+    let p = and-holds _ _ e in
+    let q = and-holds _ _ (p .1) in
     record { run-fits = p .0; heights-fit = q .0; sums-fit = q .1 }
 
 -- and back
@@ -68,10 +69,10 @@ pub record LeafFits (v : Node) (lo total : ℕ) : Type 0 where
 pub leaf-out : (v : Node) (lo total : ℕ) → leafB v lo total ≡ true → LeafFits v lo total
 unfolding leafB
 leaf-out v lo total e =
-    let p = both-out _ _ e in
-    let q = both-out _ _ (p .1) in
-    let r = both-out _ _ (q .1) in
-    let s = both-out _ _ (r .1) in
+    let p = and-holds _ _ e in
+    let q = and-holds _ _ (p .1) in
+    let r = and-holds _ _ (q .1) in
+    let s = and-holds _ _ (r .1) in
     record {
       run-fits = p .0;
       no-left = eqb-true _ _ (q .0);
@@ -193,9 +194,9 @@ passed d w n lo total v ev ne e = go (ℕ-discrete d 0)
         let C : Bool = cellB v (belowOf w (v .left)) (belowOf w (v .right)) lo total in
         let L : Bool = treeB (d - 1) w (v .left) lo (v .start - 1) in
         let R : Bool = treeB (d - 1) w (v .right) (v .«end» + 2) total in
-        let p = both-out (insideB w n) (C && (L && R)) s in
-        let q = both-out C (L && R) (p .1) in
-        let r = both-out L R (q .1) in
+        let p = and-holds (insideB w n) (C && (L && R)) s in
+        let q = and-holds C (L && R) (p .1) in
+        let r = and-holds L R (q .1) in
         record { own = q .0; left = r .0; right = r .1 }
 
 -- a link that the walk accepts is inside

@@ -10,6 +10,7 @@ use lib.Dec.{leb, ltb, eqb}
 use lib.Bits.{bitOr, bitXor, or-add-and, xor-add-and, and-le-l, and-le-r, or-lt}
 use lib.ListN.{length}
 use borrow.Author.Tests.{ltb-true, leb-true, eqb-true, lt-ltb, le-leb, eq-eqb}
+use Rattle.model.specs.Edit.{and-holds}
 use Rattle.run_index.specs.declared.Node.{Node}
 use Rattle.run_index.specs.Cells.{cellAt, Room}
 use Rattle.run_index.specs.Tree.{width}
@@ -33,11 +34,6 @@ same false true f g = g refl
 same false false f g = refl
 
 -- both of two tests
-pub both-out : (a b : Bool) → (a && b) ≡ true → (a ≡ true) × (b ≡ true)
-both-out true b e = (refl, e)
-both-out false b e = never e
-
--- and back
 pub both-in : (a b : Bool) → a ≡ true → b ≡ true → (a && b) ≡ true
 both-in a b p q = rw (p, q)
 
@@ -78,9 +74,9 @@ pub record Within (a b g lo total : ℕ) : Type 0 where
 pub run-out : (a b g lo total : ℕ) → runB a b g lo total ≡ true → Within a b g lo total
 unfolding runB
 run-out a b g lo total e =
-    let p = both-out _ _ e in
-    let q = both-out _ _ (p .1) in
-    let r = both-out _ _ (q .1) in
+    let p = and-holds _ _ e in
+    let q = and-holds _ _ (p .1) in
+    let r = and-holds _ _ (q .1) in
     record { spare = eqb-true _ _ (p .0); above = leb-true _ _ (q .0); ordered = leb-true _ _ (r .0); under = ltb-true _ _ (r .1) }
 
 -- and back
@@ -100,8 +96,8 @@ run-last a b g lo hi z l m =
 pub heights-out : (h h1 h2 : ℕ) → heightsB h h1 h2 ≡ true → (h ≡ 1 + max h1 h2) × (h1 ≤ h2 + 1) × (h2 ≤ h1 + 1)
 unfolding heightsB
 heights-out h h1 h2 e =
-    let p = both-out _ _ e in
-    let q = both-out _ _ (p .1) in
+    let p = and-holds _ _ e in
+    let q = and-holds _ _ (p .1) in
     (eqb-true _ _ (p .0), leb-true _ _ (q .0), leb-true _ _ (q .1))
 
 -- and back
@@ -193,7 +189,7 @@ heights-last h h1 h2 a b c two l1 l2 la lb ea eb ec =
 pub sums-out : (k k1 k2 o o1 o2 a b : ℕ) → sumsB k k1 k2 o o1 o2 a b ≡ true
     → (k ≡ k1 + k2 + 1) × (o ≡ ((o1 + o2) % 2 ^ 64 + width a b) % 2 ^ 64)
 unfolding sumsB
-sums-out k k1 k2 o o1 o2 a b e = let p = both-out _ _ e in (eqb-true _ _ (p .0), eqb-true _ _ (p .1))
+sums-out k k1 k2 o o1 o2 a b e = let p = and-holds _ _ e in (eqb-true _ _ (p .0), eqb-true _ _ (p .1))
 
 -- and back
 pub sums-in : (k k1 k2 o o1 o2 a b : ℕ) → k ≡ k1 + k2 + 1 → o ≡ ((o1 + o2) % 2 ^ 64 + width a b) % 2 ^ 64
@@ -214,12 +210,12 @@ sums-last k k1 k2 o o1 o2 a b x y z lt ek ex ey ez =
 pub zeros-out : (v : Node) → zerosB v ≡ true → v ≡ freeCell (v .left)
 unfolding zerosB
 zeros-out v e =
-    let a = both-out _ _ e in
-    let b = both-out _ _ (a .1) in
-    let c = both-out _ _ (b .1) in
-    let d = both-out _ _ (c .1) in
-    let f = both-out _ _ (d .1) in
-    let g = both-out _ _ (f .1) in
+    let a = and-holds _ _ e in
+    let b = and-holds _ _ (a .1) in
+    let c = and-holds _ _ (b .1) in
+    let d = and-holds _ _ (c .1) in
+    let f = and-holds _ _ (d .1) in
+    let g = and-holds _ _ (f .1) in
     same-node v (freeCell (v .left)) (eqb-true _ _ (a .0)) (eqb-true _ _ (b .0)) refl (eqb-true _ _ (c .0)) (eqb-true _ _ (d .0))
     (eqb-true _ _ (f .0)) (eqb-true _ _ (g .0)) (eqb-true _ _ (g .1))
 
@@ -244,8 +240,8 @@ pub record Free (w : List ℕ) (n : ℕ) : Type 0 where
 pub free-out : (w : List ℕ) (n : ℕ) → freeB w n ≡ true → Free w n
 unfolding freeB
 free-out w n e =
-    let p = both-out (ltb 0 n) (insideB w n && zerosB (cellAt w n)) e in
-    let q = both-out (insideB w n) (zerosB (cellAt w n)) (p .1) in
+    let p = and-holds (ltb 0 n) (insideB w n && zerosB (cellAt w n)) e in
+    let q = and-holds (insideB w n) (zerosB (cellAt w n)) (p .1) in
     record { some = omega (arith, ltb-true 0 n (p .0)); room = inside-out w n (q .0); zeros = zeros-out (cellAt w n) (q .1) }
 
 -- and back

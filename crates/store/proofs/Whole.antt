@@ -14,15 +14,16 @@ use Rattle.store.specs.Layout.{headerAt, capacity}
 use Rattle.store.specs.Decision.{insideB, belowOf, treeB, chainB, keptB, Tells}
 use Rattle.store.proofs.Tests.{never, is-false, same}
 use Rattle.store.proofs.Steps.{inside-linked}
-use Rattle.store.proofs.Decided.{below-sums, tree-yes, cells, kept-out, kept-in}
+use Rattle.store.proofs.Nodes.{sized-length}
+use Rattle.store.proofs.Decided.{below-sums, tree-yes, kept-out, kept-in}
 
 -- the cells of words with a capacity are the header and C + 2 nodes
 pub nodes-are : (w : List ℕ) → 1 ≤ capacity w → length w / 8 - 1 ≡ capacity w + 2
-nodes-are w sized = let c = cells w sized in omega (arith, c .0)
+nodes-are w sized = let c = sized-length w sized in omega (arith, c .0)
 
 -- there is room for the header
 pub header-room : (w : List ℕ) → 1 ≤ capacity w → Room w 0
-header-room w sized = let c = cells w sized in omega (arith, c .0)
+header-room w sized = let c = sized-length w sized in omega (arith, c .0)
 
 module _ (w : List ℕ) (sized : 1 ≤ capacity w) (h : Header) (eh : h ≡ headerAt w) where
   -- the root that was read

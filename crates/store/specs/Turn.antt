@@ -4,17 +4,18 @@
 use Prim.Native.Nat.{ℕ, suc, _+_, _-_, _≤_, _<_}
 use mathlib.Core.Path.{_≡_, refl, sym, ap, ap₂, _∙_}
 use mathlib.Core.Bool.{Bool, true, false, _&&_, Bool·beq}
+use mathlib.Core.List.{List}
 use mathlib.Core.Option.{Option·map}
 use native.Mathlib.Nat.{add-comm}
 use native.Mathlib.Omega.{arith}
 use lib.ListN.{length}
-use borrow.Author.Tests.{lt-ltb}
+use borrow.Author.Tests.{lt-ltb, le-ltb}
 use Rattle.model.specs.Numbers.{size}
 use Rattle.model.specs.Places.{physicalOf, logicalOf, physical-logical}
-use Rattle.model.specs.Positions.{Positions, oneIf, count, find, select, runsIn, countRanges, heldRuns, stretches, firstRun, lastRun}
-use Rattle.model.specs.Positions.Laws.{count-cut}
+use Rattle.model.specs.Positions.{Positions, oneIf, count, find, select, runsIn, countRanges, heldRuns, stretches, firstRun, lastRun, mem}
+use Rattle.model.specs.Positions.Laws.{beq-true, count-cut}
 use Rattle.model.specs.Positions.Runs.{runsIn-length-join, heldRuns-cong}
-use Rattle.store.specs.Layout.{turned}
+use Rattle.store.specs.Layout.{headerAt, physicalRuns, turned, heldBy}
 use Rattle.store.specs.Moved.{Alike, move, moveRun, moveRuns, runsIn-moved, count-moved, countRanges-moved, firstRun-moved, lastRun-moved, find-moved, select-moved}
 
 -- ---- single positions
@@ -30,6 +31,11 @@ turned-logical o Q x h k = turned-at o Q (logicalOf x o) (omega arith) ∙ ap Q 
 -- with offset 0 both are the same
 pub turned-zero : (Q : Positions) (x : ℕ) → x < size → turned 0 Q x ≡ Q x
 turned-zero Q x h = turned-at 0 Q x h ∙ ap Q (omega arith)
+
+-- no store holds a position above 2^64 − 1
+pub held-past : (w : List ℕ) (x : ℕ) → size ≤ x → heldBy w x ≡ false
+unfolding heldBy turned
+held-past w x h = ap (λ t. t && mem (physicalRuns w) (physicalOf x ((headerAt w) .offset))) (le-ltb x size h)
 
 -- ---- ranges
 -- with offset o, the first of the n logical positions from a is kept at s and the last at e
@@ -194,11 +200,6 @@ stretches-zero Q = ap length (heldRuns-cong (turned 0 Q) Q (turned-zero Q))
 -- where all of the positions lie
 lies-all : (o z : ℕ) → o < size → 1 ≤ o → z ≡ physicalOf 0 o → Lies o 0 size z (z - 1)
 lies-all o z h k q = record { some = omega arith; fits = omega arith; small = h; first-at = q; last-at = omega arith }
-
--- a value is true as it says
-beq-true : (b : Bool) → Bool·beq b true ≡ b
-beq-true true = refl
-beq-true false = refl
 
 -- the runs up to z and those from z on
 runs-at : (Q : Positions) (total z : ℕ) → 1 ≤ z → z < total

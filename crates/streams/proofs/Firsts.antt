@@ -14,10 +14,11 @@ use Rattle.model.specs.Places.{logicalOf}
 use Rattle.model.specs.Positions.{Positions, mem}
 use Rattle.model.specs.RunList.{Canon, mem-in, mem-before}
 use Rattle.store.specs.Layout.{physicalRuns}
+use Rattle.store.specs.Ends.{empty-mem}
 use Rattle.streams.specs.declared.source.Source.{Source}
 use Rattle.streams.specs.declared.source.Popped.{Popped}
 use Rattle.streams.specs.Reading.{EndsFrom, Coming, InLast, InFirst, Ahead, spent, lastly, firstly, Stands, Reads, startsAtZero, ReadyLast, ReadyFirst, Told, Poppable, Pops}
-use Rattle.streams.proofs.Parts.{mem-none, Found, found-current, part-none, part-head, pop-reach, pop-ordered, pop-found, pop-then}
+use Rattle.streams.proofs.Parts.{Found, found-current, part-none, part-head, pop-reach, pop-ordered, pop-found, pop-then}
 use Rattle.streams.proofs.Lasts.{wrapped}
 
 -- whether 0 is held, by the first run
@@ -26,7 +27,7 @@ zero-held [] e = absurd (false≢true e)
 zero-held (r ∷ rs) e = let s = eqb-true (r .start) 0 e in mem-in r rs 0 (omega arith) (omega arith)
 
 pub zero-free : (rs : List Run) → Canon size 0 rs → startsAtZero rs ≡ false → mem rs 0 ≡ false
-zero-free [] c e = mem-none 0
+zero-free [] c e = empty-mem 0
 zero-free (r ∷ rs) c e = let s = eqb-false (r .start) 0 e in mem-before size 0 r rs 0 c (omega arith)
 
 -- every run ends at 0 or later

@@ -4,7 +4,6 @@ use Prim.Native.Nat.{ℕ, zero, suc, _+_, _-_, _≤_}
 use mathlib.Core.Path.{_≡_, refl, sym, ap, _∙_, subst}
 use mathlib.Core.Bool.{true, false}
 use mathlib.Core.List.{List, [], _∷_, _++_}
-use native.Mathlib.Numerals.{add-one}
 use native.Mathlib.Omega.{arith}
 use lib.Dec.{leb}
 use lib.ListN.{length, length-append}
@@ -16,12 +15,12 @@ use Rattle.model.specs.Places.{capacityOf}
 use Rattle.model.specs.Positions.{Positions, run, mem, stretches, combined}
 use Rattle.model.specs.Positions.Runs.{heldRuns-canon, mem-heldRuns}
 use Rattle.model.specs.RunList.{Canon}
-use Rattle.run_index.specs.declared.Node.{Node}
-use Rattle.run_index.specs.Cells.{cellAt, Room, Wrote}
+use Rattle.run_index.specs.Cells.{Room, Wrote}
 use Rattle.run_index.specs.Shape.{runsAt}
 use Rattle.store.specs.Layout.{capacity, turned, physicalRuns}
 use Rattle.store.specs.Settle.{Settled, nodeOf, Linkable, Links}
 use Rattle.store.proofs.Nodes.{sized-length}
+use Rattle.store.proofs.Settling.{runs-put}
 use Rattle.streams.specs.declared.source.Source.{Source}
 use Rattle.streams.specs.declared.sweep.Joint.{Joint}
 use Rattle.streams.specs.declared.gather.Feed.{Feed}
@@ -103,16 +102,6 @@ pub runsAt-length : (w : List ℕ) (i k : ℕ) → length (runsAt w i k) ≡ k
 runsAt-length w i zero = refl
 runsAt-length w i (suc k) = ap suc (runsAt-length w (i + 1) k)
 
--- a node more
-pub runsAt-put : {w w′ : List ℕ} {n : ℕ} {v : Node} → Wrote w w′ n v → (i k : ℕ) → n ≡ i + k + 1
-    → runsAt w′ i (suc k) ≡ runsAt w i k ++ (run (v .start) (v .«end») ∷ [])
-runsAt-put {w} {w′} {n} {v} h i zero e =
-    let q : i + 1 ≡ n = omega arith in
-    ap (λ (u : Node). run (u .start) (u .«end») ∷ []) (ap (cellAt w′) q ∙ h .here)
-runsAt-put {w} {w′} {n} {v} h i (suc k) e =
-    ap (λ (u : Node). run (u .start) (u .«end») ∷ runsAt w′ (i + 1) (suc k)) (h .there (i + 1) (λ q. omega arith))
-    ∙ ap (λ (l : List Run). run ((cellAt w (i + 1)) .start) ((cellAt w (i + 1)) .«end») ∷ l) (runsAt-put h (i + 1) k (omega arith))
-
 -- the nodes up to n have the runs so far
 pub record Filling (into₀ into w p : List ℕ) (o : ℕ) (w₂ p₂ : List ℕ) (o₂ : ℕ) (j : Joint) (op : Operation) (Q R : Positions) (n : ℕ) : Type 0 where
   pub stream : Streaming w p o w₂ p₂ o₂ j op Q R (runsAt into 0 n)
@@ -139,7 +128,7 @@ module _ {into₀ into w p : List ℕ} {o : ℕ} {w₂ p₂ : List ℕ} {o₂ : 
 
       module _ {into′ : List ℕ} (wr : Wrote into into′ (n + 1) (nodeOf (j .start) (j .«end»))) where
         written : runsAt into′ 0 (n + 1) ≡ runsAt into 0 n ++ (run (j .start) (j .«end») ∷ [])
-        written = ap (runsAt into′ 0) (add-one n) ∙ runsAt-put wr 0 n (omega arith)
+        written = runs-put into into′ n (j .start) (j .«end») wr
 
         pub fill-last : j .«end» ≡ size - 1 → Filled into₀ into′ (n + 1) (combined op Q R)
         unfolding stretches

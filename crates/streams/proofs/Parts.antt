@@ -1,7 +1,7 @@
 -- The next run of a part of a reading, told from the first run to come: clipped to where the reading stands and to the part's end.
 -- In the part up to top, position z is kept at z + s - o. Assumes nothing.
 use Prim.Native.Nat.{ℕ, suc, _+_, _-_, _≤_, _<_, max}
-use mathlib.Core.Path.{_≡_, refl, ap, _∙_, subst}
+use mathlib.Core.Path.{_≡_, ap, _∙_, subst}
 use mathlib.Core.Logic.{_⊎_, inl, inr}
 use mathlib.Core.Bool.{true, false}
 use mathlib.Core.List.{List, [], _∷_}
@@ -11,14 +11,10 @@ use Rattle.model.specs.declared.Run.{Run}
 use Rattle.model.specs.Numbers.{size, split}
 use Rattle.model.specs.Positions.{Positions, mem}
 use Rattle.model.specs.RunList.{Canon, canon-weaken, mem-in, mem-above, mem-below, mem-before}
+use Rattle.store.specs.Ends.{empty-mem}
 use Rattle.streams.specs.declared.source.Popped.{Popped}
 use Rattle.streams.specs.Reading.{Current, Rest, EndsFrom, InPart, OnPath, Pops}
 use Rattle.streams.proofs.Tops.{rest-none, rest-some}
-
--- nothing is held where there is no run
-pub mem-none : (z : ℕ) → mem [] z ≡ false
-unfolding mem
-mem-none z = refl
 
 -- a .. b is the next run of Q from y on, as far as positions below top go
 pub record Found (a b y top : ℕ) (Q : Positions) : Type 0 where
@@ -98,7 +94,7 @@ found-current {a} {b} {y} {top} {Q} f h last = record {
 
 -- with no node on the path nothing is left of a part
 pub part-none : {w path : List ℕ} {o s top depth y : ℕ} {Q : Positions} → InPart w path o s top depth y Q → depth ≡ 0 → (z : ℕ) → y ≤ z → z < top → Q z ≡ false
-part-none {o = o} {s = s} i e z h k = i .tells z h k ∙ ap (λ us. mem us (z + s - o)) (rest-none (i .coming .rest) e) ∙ mem-none (z + s - o)
+part-none {o = o} {s = s} i e z h k = i .tells z h k ∙ ap (λ us. mem us (z + s - o)) (rest-none (i .coming .rest) e) ∙ empty-mem (z + s - o)
 
 -- else its first run is on the path
 pub record Head (w path : List ℕ) (o s top depth y : ℕ) (Q : Positions) : Type 0 where

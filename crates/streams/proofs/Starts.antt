@@ -17,10 +17,11 @@ use Rattle.store.specs.Layout.{headerAt, physicalRuns, turned}
 use Rattle.store.specs.Soundness.{Sound}
 use Rattle.store.proofs.Decided.{kept-low, kept-physical}
 use Rattle.store.proofs.Opening.{sound-index}
+use Rattle.store.specs.Ends.{empty-mem}
 use Rattle.streams.specs.declared.source.Source.{Source}
 use Rattle.streams.specs.Reading.{Clear, Current, Rest, none, Coming, Ahead, spent, lastly, firstly, Stands, AtRun, Covers, from, Below, Descends, ReadyLast, ReadyFirst}
 use Rattle.streams.proofs.Dropping.{from-zero, from-ends, from-canon, mem-from}
-use Rattle.streams.proofs.Parts.{mem-none, part-none}
+use Rattle.streams.proofs.Parts.{part-none}
 
 -- from the root, with nothing on the path
 module _ {w : List ℕ} {g : Header} (s : Sound w) (eg : g ≡ headerAt w) {path : List ℕ} (long : length path ≡ 22) where
@@ -153,9 +154,9 @@ one-run a b h k w path o = (
     ordered = h;
     ahead = omega arith;
     small = k;
-    clear = λ z g l. mem-under (run a b) [] z l ∙ mem-none z;
+    clear = λ z g l. mem-under (run a b) [] z l ∙ empty-mem z;
     held = λ z g l m. mem-in (run a b) [] z l m;
-    stops = λ l. mem-above (run a b) [] (suc b) (omega arith) ∙ mem-none (suc b);
+    stops = λ l. mem-above (run a b) [] (suc b) (omega arith) ∙ empty-mem (suc b);
   },
-  spent refl refl (λ z g l. mem-above (run a b) [] z (omega arith) ∙ mem-none z),
+  spent refl refl (λ z g l. mem-above (run a b) [] z (omega arith) ∙ empty-mem z),
 )

@@ -4,7 +4,7 @@
 use Prim.Native.Nat.{ℕ, suc, _+_, _-_, _≤_, _<_, min}
 use mathlib.Core.Path.{_≡_, refl, sym, ap, _∙_, subst}
 use mathlib.Core.Logic.{_⊎_, inl, inr}
-use mathlib.Core.Bool.{Bool, true, false, not, Bool·beq, true≢false}
+use mathlib.Core.Bool.{Bool, true, false, not, true≢false}
 use mathlib.Core.List.{List}
 use native.Mathlib.Omega.{arith}
 use lib.Dec.{leb}
@@ -19,19 +19,6 @@ use Rattle.streams.specs.declared.sweep.Reached.{Reached}
 use Rattle.streams.specs.declared.sweep.Joint.{Joint}
 use Rattle.streams.specs.Reading.{Clear, Current, Ahead, Stands, Reads, Advanceable, Advances}
 use Rattle.streams.specs.Sweeping.{ValueAt, Same, SameTo, CanMove, Movable, Moves, Both, Joinable, ReachedAt, Reaching, Reaches, RunFrom, Jointly, NextJoint}
-
--- ---- two values that differ, and two that do not
-pub differing : (v u : Bool) → not (Bool·beq v u) ≡ true → v ≡ not u
-differing true true e = absurd (true≢false (sym e))
-differing true false e = refl
-differing false true e = refl
-differing false false e = absurd (true≢false (sym e))
-
-pub agreeing : (v u : Bool) → not (Bool·beq v u) ≡ false → v ≡ u
-agreeing true true e = refl
-agreeing true false e = absurd (true≢false e)
-agreeing false true e = absurd (true≢false e)
-agreeing false false e = refl
 
 -- ---- the values of two sets, joined by XOR
 pub xor-held : (q : Bool) → not q ≡ apply Xor true q

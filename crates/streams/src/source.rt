@@ -4,7 +4,7 @@
 // has a first part, up to physical M, and a last part, from physical 0 on.
 ghost use mathlib.Core.Path.{_≡_};
 ghost use mathlib.Core.Bool.{true, false};
-ghost use Prim.Native.Nat.{max, _≤_};
+ghost use Prim.Native.Nat.{_≤_};
 ghost use lib.ListN.{length};
 ghost use Rattle.model.specs.Positions.{mem};
 ghost use Rattle.store.specs.Layout.{turned, physicalRuns};
@@ -77,12 +77,6 @@ fn pop(words: &[u64], path: &mut [u64; 22], depth: u64) -> Popped
     }
 }
 
-fn larger(a: u64, b: u64) -> u64
-    ensures { λ r. ⌜ r ≡ max a b ⌝ }
-{
-    if a < b { b } else { a }
-}
-
 // The next run of the last part, whose runs end at p or later.
 fn from_last(words: &[u64], path: &mut [u64; 22], offset: u64, depth: u64, p: u64) -> Source
     requires { ⌜ LastReady (now words) (now path) offset depth p ⌝ }
@@ -96,7 +90,7 @@ fn from_last(words: &[u64], path: &mut [u64; 22], offset: u64, depth: u64, p: u6
     if x.start > top {
         return over();
     }
-    let a = model::to_logical(Physical(larger(x.start, p)), offset);
+    let a = model::to_logical(Physical(run_index::larger(x.start, p)), offset);
     if x.end > top {
         return Source {
             live: true,
@@ -139,7 +133,7 @@ fn from_first(words: &[u64], path: &mut [u64; 22], offset: u64, depth: u64, p: u
         return from_last(words, path, offset, d, 0);
     }
     let x = pop(words, path, depth);
-    let a = model::to_logical(Physical(larger(x.start, p)), offset);
+    let a = model::to_logical(Physical(run_index::larger(x.start, p)), offset);
     if x.end < u64::MAX {
         let b = model::to_logical(Physical(x.end), offset);
         return Source {

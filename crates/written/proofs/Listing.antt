@@ -15,12 +15,10 @@ use Rattle.model.specs.Positions.{run, mem}
 use Rattle.model.specs.Codec.{AllWords, ordered-canon}
 use Rattle.model.specs.Refusals.{orderedFrom}
 use Rattle.run_index.specs.Cells.{Room, Wrote}
-use Rattle.run_index.specs.Shape.{runsAt}
-use Rattle.run_index.proofs.Built.{runs-append}
 use Rattle.store.specs.Layout.{capacity}
 use Rattle.store.specs.Settle.{nodeOf, Settled, Linkable, Links}
 use Rattle.store.proofs.Nodes.{sized-length}
-use Rattle.store.proofs.Settling.{runs-kept}
+use Rattle.store.proofs.Settling.{runs-put}
 use Rattle.written.specs.Listed.{pairs, Receives, Listed}
 
 -- ---- a list of words
@@ -51,12 +49,6 @@ pairs-words zero ws f = tt
 pairs-words (suc n) ws f = (omega (arith, f 0), omega (arith, f 1), pairs-words n (drop 2 ws) (λ i. rw (getD-drop 2 ws i 0) (f (2 + i))))
 
 -- ---- writing them
--- one node more
-write-runs : (w w′ : List ℕ) (i a b : ℕ) → Wrote w w′ (i + 1) (nodeOf a b) → runsAt w′ 0 (i + 1) ≡ runsAt w 0 i ++ (run a b ∷ [])
-write-runs w w′ i a b wr =
-    let e : 0 + i + 1 ≡ i + 1 = omega arith in
-    runs-append w′ i 0 1 ∙ rw (e, wr .here, runs-kept w w′ 0 i (λ m le. wr .there m (λ q. omega arith)))
-
 -- nothing is written yet
 pub listed-none : (w : List ℕ) (rs : List Run) → Listed w w 0 (take 0 rs)
 listed-none w rs = record { runs-are = refl; long = refl }
@@ -68,7 +60,7 @@ listed-step {w₀} {w} {w′} {i} {a} {b} rs h e l wr =
     let s : take (i + 1) rs ≡ take i rs ++ (run a b ∷ []) =
     let g : i + 1 ≡ suc i = omega arith in rw (g, take-suc rs i (run 0 0) h, e) in
     record {
-      runs-are = write-runs w w′ i a b wr ∙ rw (l .runs-are, s);
+      runs-are = runs-put w w′ i a b wr ∙ rw (l .runs-are, s);
       long = wr .long ∙ l .long;
     }
 

@@ -3,14 +3,12 @@
 use Prim.Native.Nat.{ℕ, suc, _+_, _*_, _≤_, _<_}
 use mathlib.Core.Path.{_≡_, refl, sym, ap, _∙_, subst}
 use mathlib.Core.Logic.{_⊎_, inl, inr}
-use mathlib.Core.Bool.{true, false, _&&_}
+use mathlib.Core.Bool.{true, false}
 use mathlib.Core.List.{List, [], _∷_, _++_, append-nil, append-assoc}
 use native.Mathlib.Omega.{arith}
 use lib.ListN.{length, set, length-set, length-append}
-use borrow.Author.Tests.{le-ltb}
 use Rattle.model.specs.declared.Run.{Run}
 use Rattle.model.specs.Numbers.{size, split}
-use Rattle.model.specs.Places.{physicalOf}
 use Rattle.model.specs.Positions.{Positions, run, mem, heldRuns, stretches}
 use Rattle.model.specs.Bytes.{bigEndian, encodeRuns, encode, intoFront}
 use Rattle.model.specs.Codec.{bigEndian-length, encodeRuns-length, encodeRuns-append}
@@ -24,12 +22,6 @@ use Rattle.streams.specs.Sweeping.{RunFrom}
 use Rattle.streams.specs.Streamed.{Passed, passed-none, passed-more, passed-last, passed-all, passed-some}
 use Rattle.written.specs.Placed.{placed}
 use Rattle.written.specs.Placing.{placed-nil, placed-length, placed-set, placed-placed, placed-front}
-
--- ---- the positions
--- no store holds position 2^64
-pub held-past : (w : List ℕ) → heldBy w size ≡ false
-unfolding heldBy turned
-held-past w = ap (λ t. t && mem (physicalRuns w) (physicalOf size ((headerAt w) .offset))) (le-ltb size size (omega arith))
 
 -- ---- the runs
 -- all runs are those below 2^64

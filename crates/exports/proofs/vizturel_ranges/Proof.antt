@@ -1,7 +1,7 @@
 -- `vizturel_ranges` meets its contract: it is the public call, and its answer laid flat. Assumes nothing.
 use borrow.Author.Needs.{needs}
 use Rattle.model.specs.Call.{Call}
-use Rattle.exports.specs.Flat.{truth}
+use Rattle.frame.specs.Records.{truth}
 use Rattle.exports.proofs.Flatten.{between, listing-met}
 use Rattle.exports.proofs.vizturel_ranges.Statement.{statement}
 use Rattle.exports.proofs.vizturel_ranges.Tie as tie

@@ -152,7 +152,6 @@ same-length-2 : tie.Need-same-length-2
 same-length-2 c = search needs
 
 returns-2 : tie.Need-returns-2
-unfolding truth
 returns-2 c = serves (c .before .before .before .before .before .before .before .before .before .before .before .before .args .e) Kind.Set (c .before .before .before .before .before .enum-told2 .given .1) (c .before .before .before .before .before .before .before .named .ensures) (ranged (λ l u. Call.set l u (truth (c .before .before .before .before .before .before .before .before .before .before .before .before .args .e .value))) (c .before .before .before .before .before .before .before .before .before .before .bound .ensures) (c .before .before .before .before .before .before .before .before .before .bound2 .ensures) (c .before .before .before .set .ensures)) (c .counted .ensures)
 
 same-length-3 : tie.Need-same-length-3
@@ -165,7 +164,6 @@ same-length-4 : tie.Need-same-length-4
 same-length-4 c = search needs
 
 returns-4 : tie.Need-returns-4
-unfolding truth
 returns-4 c = serves (c .before .before .before .before .before .before .before .before .before .before .before .before .args .e) Kind.Shift (c .before .before .before .before .before .enum-told4 .given .1) (c .before .before .before .before .before .before .before .named .ensures) (c .before .before .before .shift .ensures) (c .completed3 .ensures)
 
 same-length-5 : tie.Need-same-length-5
@@ -178,49 +176,42 @@ same-length-6 : tie.Need-same-length-6
 same-length-6 c = search needs
 
 returns-6 : tie.Need-returns-6
-unfolding truth
 returns-6 c = serves (c .before .before .before .before .before .before .before .before .before .before .args .e) Kind.Find (c .before .before .before .enum-told6 .given .1) (c .before .before .before .before .before .named .ensures) (ranged (λ l u. Call.find l u (truth (c .before .before .before .before .before .before .before .before .before .before .args .e .value))) (c .before .before .before .before .before .before .before .before .bound .ensures) (c .before .before .before .before .before .before .before .bound2 .ensures) (c .before .find .ensures)) (c .found .ensures)
 
 same-length-7 : tie.Need-same-length-7
 same-length-7 c = search needs
 
 returns-7 : tie.Need-returns-7
-unfolding truth
 returns-7 c = serves (c .before .before .before .before .before .before .before .before .before .before .args .e) Kind.Count (c .before .before .before .enum-told7 .given .1) (c .before .before .before .before .before .named .ensures) (ranged (λ l u. Call.count l u (truth (c .before .before .before .before .before .before .before .before .before .before .args .e .value))) (c .before .before .before .before .before .before .before .before .bound .ensures) (c .before .before .before .before .before .before .before .bound2 .ensures) (c .before .count .ensures)) (c .counted2 .ensures)
 
 same-length-8 : tie.Need-same-length-8
 same-length-8 c = search needs
 
 returns-8 : tie.Need-returns-8
-unfolding truth
 returns-8 c = serves (c .before .before .before .before .before .before .before .before .before .before .args .e) Kind.Select (c .before .before .before .enum-told8 .given .1) (c .before .before .before .before .before .named .ensures) (ranged (λ l u. Call.select l u (truth (c .before .before .before .before .before .before .before .before .before .before .args .e .value)) (c .before .before .before .before .before .before .before .before .before .before .args .e .k)) (c .before .before .before .before .before .before .before .before .bound .ensures) (c .before .before .before .before .before .before .before .bound2 .ensures) (c .before .select .ensures)) (c .found2 .ensures)
 
 same-length-9 : tie.Need-same-length-9
 same-length-9 c = search needs
 
 returns-9 : tie.Need-returns-9
-unfolding truth
 returns-9 c = serves (c .before .before .before .before .before .before .before .before .before .before .args .e) Kind.CountRanges (c .before .before .before .enum-told9 .given .1) (c .before .before .before .before .before .named .ensures) (ranged (λ l u. Call.countRanges l u (truth (c .before .before .before .before .before .before .before .before .before .before .args .e .value))) (c .before .before .before .before .before .before .before .before .bound .ensures) (c .before .before .before .before .before .before .before .bound2 .ensures) (c .before .count-ranges .ensures)) (c .numbered .ensures)
 
 same-length-10 : tie.Need-same-length-10
 same-length-10 c = search needs
 
 returns-10 : tie.Need-returns-10
-unfolding truth
 returns-10 c = serves (c .before .before .before .before .before .before .before .before .before .before .args .e) Kind.Ranges (c .before .before .before .enum-told10 .given .1) (c .before .before .before .before .before .named .ensures) (ranged (λ l u. Call.ranges l u (truth (c .before .before .before .before .before .before .before .before .before .before .args .e .value))) (c .before .before .before .before .before .before .before .before .bound .ensures) (c .before .before .before .before .before .before .before .bound2 .ensures) (c .before .ranges .ensures)) (c .listed .ensures)
 
 same-length-11 : tie.Need-same-length-11
 same-length-11 c = search needs
 
 returns-11 : tie.Need-returns-11
-unfolding truth
 returns-11 c = serves (c .before .before .before .before .before .before .before .before .before .before .args .e) Kind.DrawFront (c .before .before .before .enum-told11 .given .1) (c .before .before .before .before .before .named .ensures) (c .before .draw-front .ensures) (c .drawn .ensures)
 
 same-length-12 : tie.Need-same-length-12
 same-length-12 c = search needs
 
 returns-12 : tie.Need-returns-12
-unfolding truth
 returns-12 c = serves (c .before .before .before .before .before .before .before .before .before .before .args .e) Kind.DrawBack (c .before .before .before .enum-told12 .given .1) (c .before .before .before .before .before .named .ensures) (c .before .draw-back .ensures) (c .drawn2 .ensures)
 
 same-length-13 : tie.Need-same-length-13

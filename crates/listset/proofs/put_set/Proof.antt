@@ -6,9 +6,9 @@ use denote.Ref.{now}
 use mathlib.Core.Bool.{true}
 use lib.ListN.{length}
 use Rattle.model.specs.Numbers.{size, worth}
+use Rattle.model.specs.Positions.Laws.{count-most}
 use Rattle.model.specs.Positions.{stretches}
 use Rattle.store.specs.Layout.{heldBy}
-use Rattle.reports.proofs.Reading.{count-most}
 use Rattle.listset.specs.Text.{countLines, runLines, setLines}
 use Rattle.listset.specs.Put.{Puts}
 use Rattle.listset.proofs.Putting.{and-then}

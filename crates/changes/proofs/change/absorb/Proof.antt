@@ -36,14 +36,14 @@ reaches-requires c κs = tt
 remove-run-requires : tie.Need-remove-run-requires Inv-loop μ-loop
 remove-run-requires c κs = next-removable (here (c .before .before .before .before .before .before .before .before .before .before .before .loop .inv) (c .before .before .before .before .before .before .before .before .before .before .before .before .before .pre)) _ (c .before .before .before .before .before .before .before .before .read-header .ensures) _ (c .before .before .before .before .before .before .at-or-after .ensures) _ (c .before .before .before .before .n .given .1)
 
-greater-requires : tie.Need-greater-requires Inv-loop μ-loop
-greater-requires c κs = tt
+larger-requires : tie.Need-larger-requires Inv-loop μ-loop
+larger-requires c κs = tt
 
 loop-less : tie.Need-loop-less Inv-loop μ-loop
 loop-less c = omega (arith, so-far-fewer (here (c .before .before .before .before .before .before .before .before .before .before .before .before .before .before .before .loop .inv) (c .before .before .before .before .before .before .before .before .before .before .before .before .before .before .before .before .before .pre)) _ (c .before .before .before .before .before .before .before .before .before .before .before .before .read-header .ensures) _ (c .before .before .before .before .before .before .before .before .before .before .at-or-after .ensures) _ (c .before .before .before .before .before .before .before .before .n .given .1) (c .before .before .before .remove-run .ensures))
 
 loop-again : tie.Need-loop-again Inv-loop μ-loop
-loop-again c = absorbing-taken (c .before .before .before .before .before .before .before .before .before .before .before .before .before .before .before .loop .inv) _ (c .before .before .before .before .before .before .before .before .before .before .before .before .read-header .ensures) _ (c .before .before .before .before .before .before .before .before .before .before .at-or-after .ensures) _ (c .before .before .before .before .before .before .before .before .n .given .1) _ (c .before .before .before .before .before .before .reaches .ensures) (c .before .before .before .remove-run .ensures) (c .before .before .before .before .before .before .before .before .before .before .before .before .before .before .loop-test .taken) (c .before .before .before .before .before .if1 .taken) _ (c .greater .ensures)
+loop-again c = absorbing-taken (c .before .before .before .before .before .before .before .before .before .before .before .before .before .before .before .loop .inv) _ (c .before .before .before .before .before .before .before .before .before .before .before .before .read-header .ensures) _ (c .before .before .before .before .before .before .before .before .before .before .at-or-after .ensures) _ (c .before .before .before .before .before .before .before .before .n .given .1) _ (c .before .before .before .before .before .before .reaches .ensures) (c .before .before .before .remove-run .ensures) (c .before .before .before .before .before .before .before .before .before .before .before .before .before .before .loop-test .taken) (c .before .before .before .before .before .if1 .taken) _ (c .larger .ensures)
 
 loop-less-2 : tie.Need-loop-less-2 Inv-loop μ-loop
 loop-less-2 c = stop-less _ _ (c .before .before .before .before .before .before .before .before .before .loop-test .taken)
@@ -79,7 +79,7 @@ absorb-spec =
     enum-known-n
     reaches-requires
     remove-run-requires
-    greater-requires
+    larger-requires
     loop-less
     loop-again
     loop-less-2

@@ -83,8 +83,8 @@ enum-known-m c = search needs
 reaches-requires-2 : tie.Need-reaches-requires-2
 reaches-requires-2 c κs = search needs
 
-greater-requires : tie.Need-greater-requires
-greater-requires c κs = search needs
+larger-requires : tie.Need-larger-requires
+larger-requires c κs = search needs
 
 absorb-requires-2 : tie.Need-absorb-requires-2
 absorb-requires-2 c κs =
@@ -92,14 +92,14 @@ absorb-requires-2 c κs =
 
 resize-run-requires-2 : tie.Need-resize-run-requires-2
 resize-run-requires-2 c κs =
-    after-changeable (passed (c .before .before .before .before .before .before .before .before .before .before .before .before .before)) _ (c .before .before .before .before .before .before .before .before .before .before .before .before .before .before .before .before .read-header .ensures) _ (c .before .before .before .before .before .before .before .before .before .before .before .at-or-after .ensures) _ (c .before .before .before .before .before .before .before .before .before .m .given .1) _ (c .before .before .before .before .before .before .before .reaches2 .ensures) (c .before .before .before .before .before .before .if3 .taken) _ (c .before .before .before .before .greater .ensures) (c .before .before .before .absorb2 .ensures) (c .before .before .before .before .before .before .before .before .before .before .before .before .before .before .before .before .before .before .before .pre)
+    after-changeable (passed (c .before .before .before .before .before .before .before .before .before .before .before .before .before)) _ (c .before .before .before .before .before .before .before .before .before .before .before .before .before .before .before .before .read-header .ensures) _ (c .before .before .before .before .before .before .before .before .before .before .before .at-or-after .ensures) _ (c .before .before .before .before .before .before .before .before .before .m .given .1) _ (c .before .before .before .before .before .before .before .reaches2 .ensures) (c .before .before .before .before .before .before .if3 .taken) _ (c .before .before .before .before .larger .ensures) (c .before .before .before .absorb2 .ensures) (c .before .before .before .before .before .before .before .before .before .before .before .before .before .before .before .before .before .before .before .pre)
 
 same-length-3 : tie.Need-same-length-3
 same-length-3 c = search needs
 
 returns-3 : tie.Need-returns-3
 returns-3 c =
-    after-grown (passed (c .before .before .before .before .before .before .before .before .before .before .before .before .before .before .before .before)) _ (c .before .before .before .before .before .before .before .before .before .before .before .before .before .before .before .before .before .before .before .read-header .ensures) _ (c .before .before .before .before .before .before .before .before .before .before .before .before .before .before .at-or-after .ensures) _ (c .before .before .before .before .before .before .before .before .before .before .before .before .m .given .1) _ (c .before .before .before .before .before .before .before .before .before .before .reaches2 .ensures) (c .before .before .before .before .before .before .before .before .before .if3 .taken) _ (c .before .before .before .before .before .before .before .greater .ensures) (c .before .before .before .before .before .before .absorb2 .ensures) (c .before .before .resize-run2 .ensures)
+    after-grown (passed (c .before .before .before .before .before .before .before .before .before .before .before .before .before .before .before .before)) _ (c .before .before .before .before .before .before .before .before .before .before .before .before .before .before .before .before .before .before .before .read-header .ensures) _ (c .before .before .before .before .before .before .before .before .before .before .before .before .before .before .at-or-after .ensures) _ (c .before .before .before .before .before .before .before .before .before .before .before .before .m .given .1) _ (c .before .before .before .before .before .before .before .before .before .before .reaches2 .ensures) (c .before .before .before .before .before .before .before .before .before .if3 .taken) _ (c .before .before .before .before .before .before .before .larger .ensures) (c .before .before .before .before .before .before .absorb2 .ensures) (c .before .before .resize-run2 .ensures)
 
 enum-told-2 : tie.Need-enum-told-2
 enum-told-2 c = search needs
@@ -133,7 +133,7 @@ raise-spec =
     at-or-after-requires
     enum-known-m
     reaches-requires-2
-    greater-requires
+    larger-requires
     absorb-requires-2
     resize-run-requires-2
     same-length-3

@@ -1,16 +1,13 @@
--- `bound` meets its contract: each kind is tested as the definition says. Assumes nothing.
-use Rattle.exports.proofs.Flatten.{included, excluded, unbounded}
+-- `bound` meets its contract: it is the bound of a record, by its kind and value. Assumes nothing.
+use borrow.Author.Needs.{needs}
 use Rattle.exports.proofs.flat.bound.Statement.{statement}
 use Rattle.exports.proofs.flat.bound.Tie as tie
 
+bound-requires : tie.Need-bound-requires
+bound-requires c κs = search needs
+
 returns : tie.Need-returns
-returns c = included (c .before .before .args .b) (c .if1 .taken)
-
-returns-2 : tie.Need-returns-2
-returns-2 c = excluded (c .before .before .before .before .args .b) (c .before .before .if1 .left) (c .if2 .taken)
-
-returns-3 : tie.Need-returns-3
-returns-3 c = unbounded (c .before .before .before .before .args .b) (c .before .before .if1 .left) (c .if2 .left)
+returns c = c .bound .ensures
 
 pub bound-spec : {M : Type 1} → statement M
-bound-spec = tie.close (tie.spec returns returns-2 returns-3)
+bound-spec = tie.close (tie.spec bound-requires returns)

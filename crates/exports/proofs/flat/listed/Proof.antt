@@ -3,7 +3,8 @@ use borrow.Author.Needs.{needs}
 use mathlib.Core.Path.{sym, ap, _∙_}
 use mathlib.Core.Bool.{Bool}
 use Rattle.model.specs.declared.Listed.{Listed}
-use Rattle.exports.specs.Flat.{listingOf, listedFlat}
+use Rattle.interval_bit_set.specs.Lent.{listingOf}
+use Rattle.exports.specs.Flat.{listedFlat}
 use Rattle.exports.proofs.flat.listed.Statement.{statement}
 use Rattle.exports.proofs.flat.listed.Tie as tie
 

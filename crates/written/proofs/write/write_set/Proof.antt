@@ -5,10 +5,12 @@ use mathlib.Core.Path.{_≡_, refl, _∙_}
 use native.Mathlib.Omega.{arith}
 use borrow.Author.Needs.{needs}
 use lib.ListN.{length}
+use Rattle.model.specs.Numbers.{size}
 use Rattle.model.specs.Positions.{stretches}
 use Rattle.store.specs.Layout.{heldBy}
+use Rattle.store.specs.Turn.{held-past}
 use Rattle.store.proofs.Opening.{sound-room}
-use Rattle.written.proofs.Writing.{front-room, front-long, held-past, Writes, writes-long, writes-room, writes-run, writes-more, writes-begun, writes-set}
+use Rattle.written.proofs.Writing.{front-room, front-long, Writes, writes-long, writes-room, writes-run, writes-more, writes-begun, writes-set}
 use Rattle.written.proofs.write.write_set.Statement.{statement}
 use Rattle.written.proofs.write.write_set.Tie as tie
 
@@ -71,7 +73,7 @@ loop-less : tie.Need-loop-less Inv-loop μ-loop
 loop-less c = omega (arith, room (c .before .before .before .before .before .before .before .before .before .before), writes-long (c .before .before .before .before .before .before .before .before .before .before .before .loop .inv))
 
 loop-again : tie.Need-loop-again Inv-loop μ-loop
-loop-again c = writes-more (c .before .before .before .before .before .before .before .before .before .before .before .loop .inv) (c .before .before .before .before .before .before .before .before .before .before .loop-test .taken) (c .before .before .before .before .before .before .before .before .before .before .before .before .before .before .before .before .before .before .before .before .before .before .pre .0) (held-past _) (fits (c .before .before .before .before .before .before .before .before .before .before .before)) (c .before .before .before .before .before .before .before .before .put-word .ensures) (c .before .before .before .before .put-word2 .ensures) (c .advance .ensures)
+loop-again c = writes-more (c .before .before .before .before .before .before .before .before .before .before .before .loop .inv) (c .before .before .before .before .before .before .before .before .before .before .loop-test .taken) (c .before .before .before .before .before .before .before .before .before .before .before .before .before .before .before .before .before .before .before .before .before .before .pre .0) (held-past _ size (omega arith)) (fits (c .before .before .before .before .before .before .before .before .before .before .before)) (c .before .before .before .before .before .before .before .before .put-word .ensures) (c .before .before .before .before .put-word2 .ensures) (c .advance .ensures)
 
 same-length : tie.Need-same-length Inv-loop μ-loop
 same-length c = writes-long (c .before .loop .inv) ∙ long (c .before)
