@@ -1,12 +1,12 @@
 -- The tests of specs/Decision.antt decide what is kept, and soundness. A walk that accepts a link has met a tree there, in order and
 -- balanced, and each such tree is accepted; the chain has the nodes that are left, by counting. A link leads to one tree, so the runs
 -- that words hold are those of the tree. Assumes nothing.
-use Prim.Native.Nat.{ℕ, zero, suc, _+_, _-_, _≤_, _<_, max}
-use mathlib.Core.Path.{_≡_, refl, sym, ap, _∙_, subst}
+use Prim.Native.Nat.{ℕ, zero, suc, _+_, _-_, _≤_, max}
+use mathlib.Core.Path.{_≡_, refl, sym, _∙_, subst}
 use mathlib.Core.Bool.{Bool, true, false, not, _||_}
 use mathlib.Core.List.{List, [], _∷_, _++_}
 use native.Mathlib.Omega.{arith}
-use native.Mathlib.Decide.{ℕ-discrete, decLe}
+use native.Mathlib.Decide.{ℕ-discrete}
 use borrow.Author.Tests.{eqb-true, eq-eqb, leb-true, le-leb}
 use lib.Dec.{eqb}
 use lib.ListN.{length}
@@ -19,7 +19,7 @@ use Rattle.run_index.specs.Cells.{cellAt}
 use Rattle.run_index.specs.Tree.{Tree, leaf, node, link, height, runs, ones, count, inorder, cell, Rep, rep-leaf, rep-node, At, Sums, Balanced}
 use Rattle.run_index.proofs.Words.{same-node}
 use Rattle.run_index.proofs.Trees.{rep-pos, rep-room, rep-cell, rep-left, rep-right, sums-leaf, sums-node}
-use Rattle.run_index.proofs.Least.{least, least-runs, least-rises, least-23}
+use Rattle.run_index.proofs.Least.{height-bound}
 use Rattle.run_index.proofs.Bound.{few-nodes}
 use Rattle.run_index.proofs.Totals.{runs-length}
 use Rattle.store.specs.Layout.{headerAt, capacity, runsFrom, physicalRuns}
@@ -144,16 +144,6 @@ tree-no w (node n s e l r) d k lo total h c b le =
     (tree-no w l (d - 1) (link l) lo (s - 1) (record { rep = rep-left (h .rep); linked = refl }) (A .before) (b .2) (omega arith))
     (tree-no w r (d - 1) (link r) (e + 2) total (record { rep = rep-right (h .rep); linked = refl }) (A .after) (b .3) (omega arith)))))
 
--- a balanced tree of fewer than 75,024 nodes is at most 22 high
-pub low-enough : (t : Tree) → Balanced t → runs t < 75024 → height t ≤ 22
-low-enough t b few = go (decLe (height t) 22)
-  where
-    go : Dec (height t ≤ 22) → height t ≤ 22
-    go (yes l) = l
-    go (no l) =
-        let e : (height t - 23) + 23 ≡ height t = omega arith in
-        absurd (omega (arith, least-runs t b, least-rises 23 (height t - 23), ap least e, least-23))
-
 module _ (w : List ℕ) (t : Tree) (ns : List ℕ) (K : Kept w t ns) where
   -- a kept tree has C + 2 nodes at most
   pub kept-few : runs t ≤ capacity w + 2
@@ -161,7 +151,7 @@ module _ (w : List ℕ) (t : Tree) (ns : List ℕ) (K : Kept w t ns) where
 
   -- so it is at most 22 high
   pub kept-low : height t ≤ 22
-  kept-low = let c = sized-length w (K .sized) in low-enough t (K .balanced) (omega (arith, c .1, kept-few))
+  kept-low = let c = sized-length w (K .sized) in height-bound t (K .balanced) (omega (arith, c .1, kept-few))
 
   -- as many runs as nodes
   pub kept-runs : length (inorder t) ≤ capacity w + 2
