@@ -1,14 +1,13 @@
--- The bytes of a map as they are written: a source that stands at a position stands at the next ones too or can be moved there, the bits of k
--- positions are the first one and twice those of the rest, the bytes that lie in one stretch are all ones or all zeros, and a slice with j
--- bytes of a map in front has j + n after the store of n more. Assumes nothing.
-use Prim.Native.Nat.{ℕ, zero, suc, _+_, _-_, _*_, _/_, _^_, _≤_, _<_, min}
+-- The bytes of a map as they are written: a source that stands at a position stands at the next ones too or can be moved there, the bits of
+-- positions in one stretch are all ones or all zeros, those of the positions after it lie above them, and a slice with j bytes of a map in
+-- front has j + n after the store of n more. Assumes nothing.
+use Prim.Native.Nat.{ℕ, zero, suc, _+_, _-_, _*_, _/_, _%_, _^_, _≤_, _<_, min}
 use mathlib.Core.Path.{_≡_, refl, sym, ap, ap₂, _∙_, subst}
-use mathlib.Core.Logic.{_⊎_, inl, inr}
 use mathlib.Core.Bool.{Bool, true, false}
 use mathlib.Core.List.{List}
-use native.Mathlib.Nat.{pow-le-pow-right}
-use native.Mathlib.Numerals.{add-one}
+use native.Mathlib.Nat.{add-zero, add-suc, suc-add, mul-left-comm, pow-succ', pow-le-pow-right}
 use native.Mathlib.Omega.{arith}
+use lib.Pow.{pow-pos, shl-exact}
 use lib.ListN.{length, getD, set, length-set}
 use Rattle.model.specs.Numbers.{size}
 use Rattle.model.specs.Positions.{Positions, oneIf, mem}
@@ -19,7 +18,7 @@ use Rattle.store.specs.Layout.{headerAt, physicalRuns, turned, heldBy}
 use Rattle.store.specs.Soundness.{Sound}
 use Rattle.streams.specs.declared.source.Source.{Source}
 use Rattle.streams.specs.Reading.{Stands, Reads}
-use Rattle.streams.specs.Sweeping.{ValueAt, SameTo, CanMove, Moves}
+use Rattle.streams.specs.Sweeping.{ValueAt, Same, SameTo, CanMove, Moves}
 use Rattle.streams.proofs.Sweeps.{moves-within, moves-over}
 use Rattle.maps.specs.declared.write.Octet.{Octet}
 use Rattle.maps.specs.declared.write.Stored.{Stored}
@@ -48,89 +47,99 @@ reads-later w path o s x z Q sound r l u = go (s .live) refl
     go false e = moves-over w path o s z e x Q can
 
 -- ---- the bits of a byte
--- one bit, as the code tells it
-pub one-yes : {v : Bool} {n : ℕ} → v ≡ true → n ≡ 1 → n ≡ oneIf v
-one-yes e h = h ∙ ap oneIf (sym e)
-
-pub one-no : {v : Bool} {n : ℕ} → v ≡ false → n ≡ 0 → n ≡ oneIf v
-one-no e h = h ∙ ap oneIf (sym e)
-
-pub one-small : {A B : Type 0} {n : ℕ} → (A × (n ≡ 1)) ⊎ (B × (n ≡ 0)) → n ≤ 1
-one-small (inl p) = omega (arith, p .1)
-one-small (inr p) = omega (arith, p .1)
-
--- the first of k positions is bit 0, and the rest lie above it
-bits-step : (Q : Positions) (x k : ℕ) → 1 ≤ k → bits Q x k ≡ oneIf (Q x) + 2 * bits Q (x + 1) (k - 1)
+-- those of n positions of one value
+same-bits : (v : Bool) (x n : ℕ) → oneIf v * (2 ^ n - 1) ≡ bits (λ _. v) x n
 unfolding bits
-bits-step Q x zero h = absurd (omega arith)
-bits-step Q x (suc k) h =
-    let e : suc k - 1 ≡ k = omega arith in rw (add-one, e)
+same-bits false x zero = refl
+same-bits false x (suc n) = omega (arith, same-bits false (suc x) n)
+same-bits true x zero = refl
+same-bits true x (suc n) = rw pow-succ' (omega (arith, same-bits true (suc x) n, pow-pos n))
 
-no-bits : (Q : Positions) (x : ℕ) → bits Q x 0 ≡ 0
+-- as the code tells them: nothing is shifted out
+pub alike-yes : {v : Bool} (n : ℕ) → v ≡ true → n ≤ 8 → (1 * 2 ^ n) % 2 ^ 64 - 1 ≡ oneIf v * (2 ^ n - 1)
+alike-yes n e l = rw (e, shl-exact {a = 1} 1 n 64 (omega arith) (omega arith)) (omega arith)
+
+pub alike-no : {v : Bool} (n : ℕ) → v ≡ false → 0 ≡ oneIf v * (2 ^ n - 1)
+alike-no n e = rw e (omega arith)
+
+pub alike-some : (n : ℕ) → n ≤ 8 → 1 ≤ (1 * 2 ^ n) % 2 ^ 64
+alike-some n l = rw (shl-exact {a = 1} 1 n 64 (omega arith) (omega arith)) (omega (arith, pow-pos n))
+
+-- the bits of k positions more lie above those of n
+bits-above : (Q : Positions) (x n k : ℕ) → bits Q x n + bits Q (x + n) k * 2 ^ n ≡ bits Q x (n + k)
 unfolding bits
-no-bits Q x = refl
+bits-above Q x zero k =
+    let e : 0 + k ≡ k = omega arith in rw (e, add-zero) (omega arith)
+bits-above Q x (suc n) k =
+    rw (pow-succ', suc-add, add-suc, ← suc-add, ← bits-above Q (suc x) n k, mul-left-comm) (omega arith)
 
--- eight positions of one value
-all-bits : (v : Bool) (x : ℕ) → 255 * oneIf v ≡ bits (λ _. v) x 8
-unfolding bits
-all-bits true x = refl
-all-bits false x = refl
-
-pub all-yes : {v : Bool} {n : ℕ} → v ≡ true → n ≡ 255 → n ≡ 255 * oneIf v
-all-yes e h = h ∙ ap (λ (b : Bool). 255 * oneIf b) (sym e)
-
-pub all-no : {v : Bool} {n : ℕ} → v ≡ false → n ≡ 0 → n ≡ 255 * oneIf v
-all-no e h = h ∙ ap (λ (b : Bool). 255 * oneIf b) (sym e)
-
--- ---- k positions, one after the other: the source can go on to those after the first
+-- ---- k positions: those of the stretch that the source is in, and the others
 module _ {w path : List ℕ} {o : ℕ} {s : Source} {x k : ℕ} {Q : Positions} (h : Stood w path o s x k Q) where
-  pub stood-moves : CanMove w path o s (x + 1) x Q
-  stood-moves = next-move (h .sound) (h .reads) (omega arith) (omega arith)
-
-  pub stood-next : {path′ : List ℕ} {t : Source} → Moves w path path′ o s (x + 1) t → (k ≡ 1 → ⊥) → Stood w path′ o t (x + 1) (k - 1) Q
-  stood-next m n = record {
-    sound = h .sound;
-    reads = m x Q stood-moves;
-    some = omega (arith, h .some);
-    few = omega (arith, h .few);
-    within = omega (arith, h .some, h .within);
-  }
-
-  -- how far it knows the value of the first is no smaller than where it stands
-  pub stood-same : {last : ℕ} → SameTo s x last → x ≤ last
-  stood-same m = (m w path o Q (h .reads) (omega (arith, h .some, h .within))) .onward
-
   -- at most eight bits make a byte
   pub octets-small : {path′ : List ℕ} {r : Octet} → Octets w path path′ o s x k r → r .bits < 256
   octets-small g =
       let p : 2 ^ k ≤ 2 ^ 8 = pow-le-pow-right (omega arith) (h .few) in omega (arith, bits-bound Q x k, (g Q h) .bits-are)
 
-module _ (w path : List ℕ) (o : ℕ) (s : Source) (x k : ℕ) {v : Bool} (f : ValueAt s x v) where
-  value-here : (Q : Positions) → Stood w path o s x k Q → v ≡ Q x
-  value-here Q h = f w path o Q (h .reads) (omega (arith, h .some, h .within))
+  -- the value of the first
+  value-here : {v : Bool} → ValueAt s x v → v ≡ Q x
+  value-here f = f w path o Q (h .reads) (omega (arith, h .some, h .within))
 
-  -- the last one
-  pub octets-one : {n : ℕ} → n ≡ oneIf v → k ≡ 1 → Octets w path path o s x k (record { bits = n; source = s })
-  octets-one e l Q h = record {
-    bits-are = rw (e, value-here Q h, bits-step Q x k (omega arith), l) (omega (arith, no-bits Q (x + 1)));
-    reads = subst (λ (z : ℕ). Reads w path o s z Q) (here x k l) (h .reads);
+  module _ {last : ℕ} (m : SameTo s x last) where
+    stretch : Same s x last Q
+    stretch = m w path o Q (h .reads) (omega (arith, h .some, h .within))
+
+    -- how far it knows the value of the first is no smaller than where it stands
+    pub stood-same : x ≤ last
+    stood-same = stretch .onward
+
+    -- the source can go on to the first after the stretch
+    pub stood-moves : CanMove w path o s (x + (last - x + 1)) x Q
+    stood-moves = record {
+      sound = h .sound;
+      reads = h .reads;
+      onward = omega arith;
+      within = λ e. omega (arith, stretch .onward, stretch .within e);
+    }
+
+    pub stood-next : {path′ : List ℕ} {t : Source} → last - x < k - 1 → Moves w path path′ o s (x + (last - x + 1)) t
+        → Stood w path′ o t (x + (last - x + 1)) (k - (last - x + 1)) Q
+    stood-next l g = record {
+      sound = h .sound;
+      reads = g x Q stood-moves;
+      some = omega arith;
+      few = omega (arith, h .few);
+      within = omega (arith, h .within);
+    }
+
+module _ (w path : List ℕ) (o : ℕ) (s : Source) (x k : ℕ) {v : Bool} {last : ℕ} (f : ValueAt s x v) (m : SameTo s x last) where
+  -- n positions of the stretch
+  stretch-bits : (Q : Positions) → Stood w path o s x k Q → (n : ℕ) → n ≤ last - x + 1 → oneIf v * (2 ^ n - 1) ≡ bits Q x n
+  stretch-bits Q h n l =
+      same-bits v x n
+      ∙ bits-cong (λ _. v) Q x n
+      (λ y a c. value-here h f ∙ sym ((stretch h m) .alike y a (omega (arith, stood-same h m))))
+
+  -- all are in it
+  pub octets-all : {n : ℕ} → k - 1 ≤ last - x → n ≡ oneIf v * (2 ^ k - 1) → Octets w path path o s x k (record { bits = n; source = s })
+  octets-all l e Q h = record {
+    bits-are = e ∙ stretch-bits Q h k (omega arith);
+    reads = reads-later w path o s x (x + k - 1) Q (h .sound) (h .reads) (omega (arith, h .some)) (λ u. omega (arith, h .some, stood-same h m, (stretch h m) .within u));
   }
-    where
-      here : (x k : ℕ) → k ≡ 1 → x ≡ x + k - 1
-      here x k l = omega arith
 
-  -- one before others
-  pub octets-more : {path′ path″ : List ℕ} {t : Source} {r : Octet} {n : ℕ} → n ≡ oneIf v → (k ≡ 1 → ⊥)
-      → Moves w path path′ o s (x + 1) t → Octets w path′ path″ o t (x + 1) (k - 1) r
-      → Octets w path path″ o s x k (record { bits = n + 2 * r .bits; source = r .source })
-  octets-more {path″ = q} {r = r} e l m g Q h =
-      let i = g Q (stood-next h m l) in record {
-        bits-are = rw (e, value-here Q h, bits-step Q x k (h .some), i .bits-are);
-        reads = subst (λ (z : ℕ). Reads w q o (r .source) z Q) (there x k (h .some) l) (i .reads);
+  -- those in it before others
+  pub octets-more : {path′ path″ : List ℕ} {t : Source} {r : Octet} {n : ℕ} → last - x < k - 1 → n ≡ oneIf v * (2 ^ (last - x + 1) - 1)
+      → Moves w path path′ o s (x + (last - x + 1)) t → Octets w path′ path″ o t (x + (last - x + 1)) (k - (last - x + 1)) r
+      → Octets w path path″ o s x k (record { bits = n + (r .bits * 2 ^ (last - x + 1)) % 2 ^ 64; source = r .source })
+  octets-more {path″ = q} {r = r} l e a g Q h =
+      let i = stood-next h m l a in record {
+        bits-are = ap₂ (λ (b c : ℕ). b + c) (e ∙ stretch-bits Q h (last - x + 1) (omega arith))
+            (shl-exact 8 (last - x + 1) 64 (octets-small i g) (omega (arith, h .few)) ∙ ap (λ (b : ℕ). b * 2 ^ (last - x + 1)) ((g Q i) .bits-are))
+            ∙ (bits-above Q x (last - x + 1) (k - (last - x + 1)) ∙ ap (bits Q x) (omega arith));
+        reads = subst (λ (z : ℕ). Reads w q o (r .source) z Q) (there x k (last - x + 1) (omega arith)) ((g Q i) .reads);
       }
     where
-      there : (x k : ℕ) → 1 ≤ k → (k ≡ 1 → ⊥) → x + 1 + (k - 1) - 1 ≡ x + k - 1
-      there x k h l = omega arith
+      there : (x k n : ℕ) → n < k → x + n + (k - n) - 1 ≡ x + k - 1
+      there x k n l = omega arith
 
 -- ---- the next bytes of a map, of which more than one is to come
 module _ {w path : List ℕ} {o : ℕ} {s : Source} {x left j : ℕ} {out : List ℕ} {Q : Positions} (d : Due w path o s x left j out Q) where
@@ -144,7 +153,7 @@ module _ {w path : List ℕ} {o : ℕ} {s : Source} {x left j : ℕ} {out : List
   }
 
   -- the bytes in a stretch of one value
-  pub due-alike : {v : Bool} {last n b : ℕ} {out′ : List ℕ} → ValueAt s x v → SameTo s x last → 7 ≤ last - x → n ≡ min (last - x + 1) (left - 1) / 8 → b ≡ 255 * oneIf v
+  pub due-alike : {v : Bool} {last n b : ℕ} {out′ : List ℕ} → ValueAt s x v → SameTo s x last → 7 ≤ last - x → n ≡ min (last - x + 1) (left - 1) / 8 → b ≡ oneIf v * (2 ^ 8 - 1)
       → out′ ≡ stores (λ _. b) j n out → Done w path o x left j out out′ (record { count = n; source = s }) Q
   due-alike {v} {last} {n} {b} f m g e h z =
       let i = m w path o Q (d .reads) (omega (arith, d .more, d .within)) in record {
@@ -152,7 +161,7 @@ module _ {w path : List ℕ} {o : ℕ} {s : Source} {x left j : ℕ} {out : List
         before = omega (arith, d .more);
         reads = reads-later w path o s x (x + 8 * n - 1) Q (d .sound) (d .reads) (omega (arith, d .more)) (λ u. omega (arith, i .within u));
         bytes = z ∙ stores-cong (λ _. b) (λ i. bits Q (x + 8 * i) 8) j n out
-            (λ k l. h ∙ (all-bits v (x + 8 * k) ∙ bits-cong (λ _. v) Q (x + 8 * k) 8 (λ y a c. value-here w path o s x 8 f Q due-stood ∙ sym (i .alike y (omega arith) (omega arith)))));
+            (λ k l. h ∙ (same-bits v (x + 8 * k) 8 ∙ bits-cong (λ _. v) Q (x + 8 * k) 8 (λ y a c. value-here due-stood f ∙ sym (i .alike y (omega arith) (omega arith)))));
       }
 
   -- one byte

@@ -1,8 +1,9 @@
-// Writing the map of a window: bytes that lie in one stretch at once, the others bit by bit.
+// Writing the map of a window: bytes that lie in one stretch at once, the others stretch by stretch.
 ghost use mathlib.Core.Path.{_≡_};
-ghost use Prim.Native.Nat.{_+_, _-_, _/_, _≤_, min};
+ghost use Prim.Native.Nat.{_+_, _-_, _*_, _/_, _^_, _≤_, min};
 ghost use lib.ListN.{length};
 ghost use Rattle.model.specs.Numbers.{size};
+ghost use Rattle.model.specs.Positions.{oneIf};
 ghost use Rattle.model.specs.Bytes.{mapOf, mapLength, intoFront};
 ghost use Rattle.store.specs.Layout.{heldBy};
 ghost use Rattle.store.specs.Soundness.{Sound};
@@ -15,23 +16,35 @@ pub struct Octet {
     pub source: Source,
 }
 
-// The k positions from x on as bits, the first in bit 0.
+// n bits of one value.
+fn alike(value: bool, n: u64) -> u64
+    requires { ⌜ n ≤ 8 ⌝ }
+    ensures { λ r. ⌜ r ≡ oneIf value * (2 ^ n - 1) ⌝ }
+{
+    if value { (1 << n) - 1 } else { 0 }
+}
+
+// The k positions from x on as bits, the first in bit 0: those of the source's stretch at once, then the others.
 fn octet_of(words: &[u64], path: &mut [u64; 22], offset: u64, s: Source, x: u64, k: u64) -> Octet
     requires { ⌜ Standing (now words) (now path) offset s x k ⌝ }
     ensures { λ r. ⌜ Octets (now (words .entry)) (now (path .entry)) (now (path .exit)) offset s x k r ⌝ }
 {
-    let one: u64 = if streams::sweep::value_at(s, x) { 1 } else { 0 };
-    if k == 1 {
+    let value = streams::sweep::value_at(s, x);
+    let after = streams::sweep::same_to(s, x) - x;
+    if k - 1 <= after {
         return Octet {
-            bits: one,
+            bits: alike(value, k),
             source: s,
         };
     }
-    let t = streams::sweep::moved(words, path, offset, s, x + 1);
-    let r = octet_of(words, path, offset, t, x + 1, k - 1);
+    let n = after + 1;
+    let low = alike(value, n);
+    let t = streams::sweep::moved(words, path, offset, s, x + n);
+    let r = octet_of(words, path, offset, t, x + n, k - n);
+    let high = r.bits;
     let u = r.source;
     Octet {
-        bits: one + 2 * r.bits,
+        bits: low + (high << n),
         source: u,
     }
 }
@@ -84,13 +97,9 @@ fn next_bytes(
 {
     let after = streams::sweep::same_to(s, x) - x;
     if after >= 7 {
-        let all: u8 = if streams::sweep::value_at(s, x) {
-            255
-        } else {
-            0
-        };
+        let byte = alike(streams::sweep::value_at(s, x), 8) as u8;
         let n = whole_bytes(after, left);
-        fill_bytes(out, j, n as usize, all);
+        fill_bytes(out, j, n as usize, byte);
         return Stored {
             count: n,
             source: s,

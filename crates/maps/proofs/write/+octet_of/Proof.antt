@@ -1,16 +1,17 @@
--- `octet_of` meets its contract: the first position is bit 0, and the source goes on to the next one for the others. The measure is how
--- many positions are left. Assumes nothing.
-use mathlib.Core.Logic.{⊎-elim}
+-- `octet_of` meets its contract: the positions of the stretch have one value, and the source goes on to the first after it for the others. The
+-- measure is how many positions are left. Assumes nothing.
 use native.Mathlib.Omega.{arith}
 use borrow.Author.Needs.{needs}
-use Rattle.maps.proofs.Octeting.{one-yes, one-no, one-small, octets-small, stood-moves, stood-next, octets-one, octets-more}
+use Rattle.maps.proofs.Octeting.{octets-small, stood-same, stood-moves, stood-next, octets-all, octets-more}
 use Prim.Native.Nat.{ℕ, _<_}
 use borrow.Fn.Kinds.{In}
 use borrow.Fn.PlainCycle.{Measures, is, falls, and}
 use Rattle.maps.proofs.write.octet_of.Reads as octet-of
 use Rattle.maps.proofs.write.octet_of.Kinds as octet-of-kinds
 use Rattle.maps.proofs.write.+octet_of.Lts-octet_of as octet-of-lts
+use Rattle.maps.proofs.write.alike.Reads as alike-reads
 use Rattle.streams.proofs.sweep.moved.Reads as moved-reads
+use Rattle.streams.proofs.sweep.same_to.Reads as same-to-reads
 use Rattle.streams.proofs.sweep.value_at.Reads as value-at-reads
 use Rattle.maps.proofs.write.+octet_of.{statement}
 use Rattle.maps.proofs.write.+octet_of.Tie.{close}
@@ -30,6 +31,10 @@ abbrev octet-of-claims : ℕ → octet-of-lts.Claims
 octet-of-claims t = (
   value-at-reads.Asked,
   value-at-reads.Learnt,
+  same-to-reads.Asked,
+  same-to-reads.Learnt,
+  alike-reads.Asked,
+  alike-reads.Learnt,
   moved-reads.Asked,
   moved-reads.Learnt,
   octet-of-below t,
@@ -39,44 +44,68 @@ octet-of-claims t = (
 octet-of-value-at-requires : (t : ℕ) → octet-of-lts.Need-value-at-requires (octet-of-claims t) (octet-of-at t) octet-of.Post
 octet-of-value-at-requires t c κs = search needs
 
+octet-of-same-to-requires : (t : ℕ) → octet-of-lts.Need-same-to-requires (octet-of-claims t) (octet-of-at t) octet-of.Post
+octet-of-same-to-requires t c κs = search needs
+
+octet-of-sub-after : (t : ℕ) → octet-of-lts.Need-sub-after (octet-of-claims t) (octet-of-at t) octet-of.Post
+octet-of-sub-after t c = omega (arith, stood-same (c .before .before .before .pre .1 .1) (c .same-to .ensures))
+
+octet-of-sub-if1 : (t : ℕ) → octet-of-lts.Need-sub-if1 (octet-of-claims t) (octet-of-at t) octet-of.Post
+octet-of-sub-if1 t c = omega (arith, c .before .before .before .pre .1 .1 .some)
+
+octet-of-alike-requires : (t : ℕ) → octet-of-lts.Need-alike-requires (octet-of-claims t) (octet-of-at t) octet-of.Post
+octet-of-alike-requires t c κs = c .before .before .before .before .pre .1 .1 .few
+
 octet-of-returns : (t : ℕ) → octet-of-lts.Need-returns (octet-of-claims t) (octet-of-at t) octet-of.Post
-octet-of-returns t c = octets-one _ _ _ _ _ _ (c .before .before .value-at .ensures) (⊎-elim (λ p. one-yes (p .0 .taken) (p .1)) (λ p. one-no (p .0 .left) (p .1)) (c .before .if1 .came)) (c .if2 .taken)
+octet-of-returns t c = octets-all _ _ _ _ _ _ (c .before .before .before .value-at .ensures) (c .before .before .same-to .ensures) (c .before .if1 .taken) (c .alike .ensures)
+
+octet-of-add-n : (t : ℕ) → octet-of-lts.Need-add-n (octet-of-claims t) (octet-of-at t) octet-of.Post
+octet-of-add-n t c = omega (arith, c .if1 .left, c .before .before .before .before .pre .1 .1 .few)
+
+octet-of-alike-requires-2 : (t : ℕ) → octet-of-lts.Need-alike-requires-2 (octet-of-claims t) (octet-of-at t) octet-of.Post
+octet-of-alike-requires-2 t c κs = omega (arith, c .if1 .left, c .before .before .before .before .pre .1 .1 .few)
 
 octet-of-add-moved : (t : ℕ) → octet-of-lts.Need-add-moved (octet-of-claims t) (octet-of-at t) octet-of.Post
-octet-of-add-moved t c = omega (arith, c .before .before .before .before .before .pre .1 .1 .within, c .before .before .before .before .before .pre .1 .1 .some)
+octet-of-add-moved t c = omega (arith, c .before .before .if1 .left, c .before .before .before .before .before .before .pre .1 .1 .within)
 
 octet-of-moved-requires : (t : ℕ) → octet-of-lts.Need-moved-requires (octet-of-claims t) (octet-of-at t) octet-of.Post
-octet-of-moved-requires t c κs = (_, _, stood-moves (c .before .before .before .before .before .pre .1 .1))
+octet-of-moved-requires t c κs = (_, _, stood-moves (c .before .before .before .before .before .before .pre .1 .1) (c .before .before .before .same-to .ensures))
 
 octet-of-add-octet-of : (t : ℕ) → octet-of-lts.Need-add-octet-of (octet-of-claims t) (octet-of-at t) octet-of.Post
-octet-of-add-octet-of t c = omega (arith, c .before .before .before .before .before .before .before .pre .1 .1 .within, c .before .before .before .before .before .before .before .pre .1 .1 .some)
+octet-of-add-octet-of t c = omega (arith, c .before .before .before .before .if1 .left, c .before .before .before .before .before .before .before .before .pre .1 .1 .within)
 
 octet-of-sub-octet-of : (t : ℕ) → octet-of-lts.Need-sub-octet-of (octet-of-claims t) (octet-of-at t) octet-of.Post
-octet-of-sub-octet-of t c = omega (arith, c .before .before .before .before .before .before .before .pre .1 .1 .some)
+octet-of-sub-octet-of t c = omega (arith, c .before .before .before .before .if1 .left)
 
 octet-of-octet-of-requires : (t : ℕ) → octet-of-lts.Need-octet-of-requires (octet-of-claims t) (octet-of-at t) octet-of.Post
-octet-of-octet-of-requires t c κs = (omega (arith, c .before .before .before .before .before .before .before .pre .0, c .before .before .before .before .before .before .before .pre .1 .1 .some), (_, stood-next (c .before .before .before .before .before .before .before .pre .1 .1) (c .before .moved .ensures) (c .before .before .before .if2 .left)))
+octet-of-octet-of-requires t c κs = (omega (arith, c .before .before .before .before .before .before .before .before .pre .0, c .before .before .before .before .if1 .left), (_, stood-next (c .before .before .before .before .before .before .before .before .pre .1 .1) (c .before .before .before .before .before .same-to .ensures) (c .before .before .before .before .if1 .left) (c .before .moved .ensures)))
 
-octet-of-mul-t15 : (t : ℕ) → octet-of-lts.Need-mul-t15 (octet-of-claims t) (octet-of-at t) octet-of.Post
-octet-of-mul-t15 t c = omega (arith, octets-small (stood-next (c .before .before .before .before .before .before .before .before .before .before .pre .1 .1) (c .before .before .before .before .moved .ensures) (c .before .before .before .before .before .before .if2 .left)) (c .before .before .octet-of .ensures), one-small (c .before .before .before .before .before .before .before .if1 .came))
+octet-of-shl-t15 : (t : ℕ) → octet-of-lts.Need-shl-t15 (octet-of-claims t) (octet-of-at t) octet-of.Post
+octet-of-shl-t15 t c = omega (arith, c .before .before .before .before .before .before .if1 .left, c .before .before .before .before .before .before .before .before .before .before .pre .1 .1 .few)
 
-octet-of-add-t17 : (t : ℕ) → octet-of-lts.Need-add-t17 (octet-of-claims t) (octet-of-at t) octet-of.Post
-octet-of-add-t17 t c = omega (arith, octets-small (stood-next (c .before .before .before .before .before .before .before .before .before .before .before .pre .1 .1) (c .before .before .before .before .before .moved .ensures) (c .before .before .before .before .before .before .before .if2 .left)) (c .before .before .before .octet-of .ensures), one-small (c .before .before .before .before .before .before .before .before .if1 .came))
+octet-of-add-t20 : (t : ℕ) → octet-of-lts.Need-add-t20 (octet-of-claims t) (octet-of-at t) octet-of.Post
+octet-of-add-t20 t c = omega (arith, octets-small (c .before .before .before .before .before .before .before .before .before .before .pre .1 .1) (octets-more _ _ _ _ _ _ (c .before .before .before .before .before .before .before .before .value-at .ensures) (c .before .before .before .before .before .before .before .same-to .ensures) (c .before .before .before .before .before .before .if1 .left) (c .before .before .before .before .before .alike2 .ensures) (c .before .before .before .moved .ensures) (c .before .octet-of .ensures)))
 
 octet-of-returns-2 : (t : ℕ) → octet-of-lts.Need-returns-2 (octet-of-claims t) (octet-of-at t) octet-of.Post
-octet-of-returns-2 t c = octets-more _ _ _ _ _ _ (c .before .before .before .before .before .before .before .before .before .value-at .ensures) (⊎-elim (λ p. one-yes (p .0 .taken) (p .1)) (λ p. one-no (p .0 .left) (p .1)) (c .before .before .before .before .before .before .before .before .if1 .came)) (c .before .before .before .before .before .before .before .if2 .left) (c .before .before .before .before .before .moved .ensures) (c .before .before .before .octet-of .ensures)
+octet-of-returns-2 t c = octets-more _ _ _ _ _ _ (c .before .before .before .before .before .before .before .before .value-at .ensures) (c .before .before .before .before .before .before .before .same-to .ensures) (c .before .before .before .before .before .before .if1 .left) (c .before .before .before .before .before .alike2 .ensures) (c .before .before .before .moved .ensures) (c .before .octet-of .ensures)
 
 pub +octet-of-spec : {M : Type 1} → statement M
 +octet-of-spec = close μ-octet-of λ t. octet-of-lts.spec (octet-of-claims t)
     (octet-of-at t)
     octet-of.Post
     (octet-of-value-at-requires t)
+    (octet-of-same-to-requires t)
+    (octet-of-sub-after t)
+    (octet-of-sub-if1 t)
+    (octet-of-alike-requires t)
     (octet-of-returns t)
+    (octet-of-add-n t)
+    (octet-of-alike-requires-2 t)
     (octet-of-add-moved t)
     (octet-of-moved-requires t)
     (octet-of-add-octet-of t)
     (octet-of-sub-octet-of t)
     (octet-of-octet-of-requires t)
-    (octet-of-mul-t15 t)
-    (octet-of-add-t17 t)
+    (octet-of-shl-t15 t)
+    (octet-of-add-t20 t)
     (octet-of-returns-2 t)

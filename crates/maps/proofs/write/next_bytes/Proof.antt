@@ -1,9 +1,9 @@
--- `next_bytes` meets its contract: the bytes that lie in one stretch are all ones or all zeros, and a byte with a border in it is told bit by
--- bit. Assumes nothing.
-use mathlib.Core.Logic.{⊎-elim}
+-- `next_bytes` meets its contract: the bytes that lie in one stretch are all ones or all zeros, and a byte with a border in it is told
+-- stretch by stretch. Assumes nothing.
 use native.Mathlib.Omega.{arith}
 use borrow.Author.Needs.{needs}
-use Rattle.maps.proofs.Octeting.{all-yes, all-no, stood-same, octets-small, due-stood, due-alike, due-octet}
+use Rattle.model.specs.Positions.Laws.{one-bound}
+use Rattle.maps.proofs.Octeting.{stood-same, octets-small, due-stood, due-alike, due-octet}
 use Rattle.maps.proofs.write.next_bytes.Statement.{statement}
 use Rattle.maps.proofs.write.next_bytes.Tie as tie
 
@@ -16,6 +16,12 @@ sub-after c = omega (arith, stood-same (due-stood (c .before .before .before .pr
 value-at-requires : tie.Need-value-at-requires
 value-at-requires c κs = search needs
 
+alike-requires : tie.Need-alike-requires
+alike-requires c κs = search needs
+
+cast-byte : tie.Need-cast-byte
+cast-byte c = omega (arith, c .alike .ensures, one-bound (c .before .value-at .result))
+
 whole-bytes-requires : tie.Need-whole-bytes-requires
 whole-bytes-requires c κs = search needs
 
@@ -26,7 +32,7 @@ same-length : tie.Need-same-length
 same-length c = search needs
 
 returns : tie.Need-returns
-returns c = λ Q d. due-alike d (c .before .before .before .before .before .before .value-at .ensures) (c .before .before .before .before .before .before .before .before .same-to .ensures) (c .before .before .before .before .before .before .before .if1 .taken) (c .before .before .before .before .whole-bytes .ensures) (⊎-elim (λ p. all-yes (p .0 .taken) (p .1)) (λ p. all-no (p .0 .left) (p .1)) (c .before .before .before .before .before .if2 .came)) (c .before .before .fill-bytes .ensures)
+returns c = λ Q d. due-alike d (c .before .before .before .before .before .before .value-at .ensures) (c .before .before .before .before .before .before .before .before .same-to .ensures) (c .before .before .before .before .before .before .before .if1 .taken) (c .before .before .before .before .whole-bytes .ensures) (c .before .before .before .before .before .alike .ensures) (c .before .before .fill-bytes .ensures)
 
 octet-of-requires : tie.Need-octet-of-requires
 octet-of-requires c κs = (_, due-stood (c .before .before .before .before .before .pre .1))
@@ -50,6 +56,8 @@ next-bytes-spec =
     same-to-requires
     sub-after
     value-at-requires
+    alike-requires
+    cast-byte
     whole-bytes-requires
     fill-bytes-requires
     same-length
