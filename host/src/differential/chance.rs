@@ -2,6 +2,7 @@
 
 use std::ops::Bound;
 
+use super::HALF;
 use super::calls::{Call, Range, ends_of};
 use super::expected::{Expected, Store};
 use super::random::Random;
@@ -60,8 +61,6 @@ pub const KINDS: [Kind; 22] = [
     Kind::ReadMap,
     Kind::New,
 ];
-
-const HALF: u64 = 1 << 63;
 
 /// A position: near 0, near 2^63, near M, near the end of a run, or anywhere.
 pub fn position(random: &mut Random, runs: &[Run]) -> u64 {

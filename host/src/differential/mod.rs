@@ -17,7 +17,23 @@ use std::fmt;
 use std::time::{Duration, Instant};
 
 use calls::{Call, Told};
+use reference::Run;
 use world::World;
+
+/// The last position, and the first of the upper half.
+pub const M: u64 = u64::MAX;
+pub const HALF: u64 = 1 << 63;
+
+/// Sets to be written: none, one and several runs, at both ends and over the middle.
+pub const WRITTEN: [&[Run]; 7] = [
+    &[],
+    &[[2, 3]],
+    &[[0, M]],
+    &[[0, 0], [M, M]],
+    &[[2, 3], [8, 9]],
+    &[[0, HALF - 1], [HALF + 1, M]],
+    &[[1, 1], [3, 3], [5, 255], [257, M - 2]],
+];
 
 /// How much is run.
 #[derive(Clone, Copy, Debug)]

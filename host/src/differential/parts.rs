@@ -7,13 +7,11 @@ use super::chance::{self, KINDS, Kind, Wander};
 use super::random::Random;
 use super::records;
 use super::reference::{self, Run, Shape};
-use super::{Difference, Options, Sequence, Tally};
+use super::{Difference, HALF, M, Options, Sequence, Tally, WRITTEN};
 use crate::Operation;
 
 type Outcome = Result<(), Difference>;
 
-const M: u64 = u64::MAX;
-const HALF: u64 = 1 << 63;
 const ENDS: [u64; 5] = [0, 1, HALF, M - 1, M];
 
 fn every_bound(positions: &[u64]) -> Vec<Bound<u64>> {
@@ -304,16 +302,7 @@ pub fn wrong_lengths(tally: &mut Tally, options: Options) -> Outcome {
 pub fn damaged_bytes(tally: &mut Tally, options: Options) -> Outcome {
     tally.begin("damaged written sets");
     let mut random = Random::new(options.seed ^ 0xB7);
-    let sets: [&[Run]; 7] = [
-        &[],
-        &[[2, 3]],
-        &[[0, M]],
-        &[[0, 0], [M, M]],
-        &[[2, 3], [8, 9]],
-        &[[0, HALF - 1], [HALF + 1, M]],
-        &[[1, 1], [3, 3], [5, 255], [257, M - 2]],
-    ];
-    for runs in sets {
+    for runs in WRITTEN {
         let written = reference::encode(runs);
         for capacity in 1..=4 {
             let mut s = Sequence::new(&[capacity]);

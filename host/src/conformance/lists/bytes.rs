@@ -2,6 +2,7 @@
 
 use super::{HALF, M};
 use crate::conformance::{List, SLICE};
+use crate::differential::WRITTEN;
 use crate::differential::calls::Call;
 use crate::differential::chance;
 use crate::differential::random::Random;
@@ -11,17 +12,8 @@ use crate::differential::reference::{self, Run};
 pub fn list() -> List {
     let mut list = List::new("bytes");
     let mut random = Random::new(0xB7);
-    let sets: [&[Run]; 7] = [
-        &[],
-        &[[2, 3]],
-        &[[0, M]],
-        &[[0, 0], [M, M]],
-        &[[2, 3], [8, 9]],
-        &[[0, HALF - 1], [HALF + 1, M]],
-        &[[1, 1], [3, 3], [5, 255], [257, M - 2]],
-    ];
     list.say("words 0 4");
-    for runs in sets {
+    for runs in WRITTEN {
         let written = reference::encode(runs);
         list.call(&Call::Load { to: 0, bytes: written.clone() });
         for room in [0, written.len() - 1, written.len(), written.len() + 3] {

@@ -12,9 +12,7 @@ mod refusals;
 mod shifts;
 
 use super::List;
-
-const M: u64 = u64::MAX;
-const HALF: u64 = 1 << 63;
+use crate::differential::{HALF, M};
 
 /// Every list.
 pub fn all() -> Vec<List> {
