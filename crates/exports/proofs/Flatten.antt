@@ -1,16 +1,16 @@
 -- Laying an answer flat loses nothing: the model's answer that the flat form tells is that of the code's answer. No refusal's number is
 -- 0, so 0 tells that a call was not refused. What a call met in the code's forms it so meets in C's.
 -- Assumes nothing.
-use Prim.Native.Nat.{ℕ}
+use Prim.Native.Nat.{ℕ, zero, suc, _≤_}
 use mathlib.Core.Path.{_≡_, refl, sym, ap, _∙_, subst}
 use mathlib.Core.Bool.{Bool, true, false}
 use mathlib.Core.List.{List}
 use mathlib.Core.Option.{none}
+use native.Mathlib.Omega.{arith}
 use borrow.Author.Tests.{eq-eqb, ne-eqb}
 use Rattle.model.specs.declared.Bound.{Bound}
 use Rattle.model.specs.declared.Operation.{Operation}
 use Rattle.model.specs.declared.Refusal.{Refusal}
-use Rattle.model.specs.declared.Refusal.the-variants.{StoreLength, OutputShort, SetLength, SetVersion, RunOrder, Window, Unsound, Capacity}
 use Rattle.model.specs.declared.Listing.{Listing}
 use Rattle.model.specs.declared.Completed.{Completed}
 use Rattle.model.specs.declared.Counted.{Counted}
@@ -21,10 +21,10 @@ use Rattle.model.specs.declared.Found.{Found}
 use Rattle.model.specs.declared.Listed.{Listed}
 use Rattle.model.specs.declared.Drawn.{Drawn}
 use Rattle.model.specs.declared.Written.{Written}
-use Rattle.model.specs.Numbers.{refusalNumber}
+use Rattle.model.specs.Numbers.{refusalNumber, refusal-some}
 use Rattle.model.specs.Positions.{run}
 use Rattle.model.specs.Answers as answers
-use Rattle.model.specs.Call.{Call, Answer, refused, done, number, value, around, position, listing, drawn, written}
+use Rattle.model.specs.Call.{Call, Result, done, number, value, around, position, listing, drawn, written, Answer, refused, gave}
 use Rattle.interval_bit_set.specs.Met.{Met}
 use Rattle.frame.specs.Frame.{Framed}
 use Rattle.interval_bit_set.specs.Lent.{listingOf, movedBy, itemAnswer}
@@ -82,15 +82,12 @@ between f {p} {q} {x} {y} d e = ap (λ b. f b q) d ∙ ap (f x) e
 
 -- ---- what goes out
 -- a refusal's number is not 0
-told : (r : Refusal) (a : Answer) → unless (refusalNumber r) a ≡ refused (refusalNumber r)
-told StoreLength a = refl
-told OutputShort a = refl
-told SetLength a = refl
-told SetVersion a = refl
-told RunOrder a = refl
-told Window a = refl
-told Unsound a = refl
-told Capacity a = refl
+not-zero : (n : ℕ) (a : Result) → 1 ≤ n → unless n a ≡ refused n
+not-zero zero a h = absurd (omega arith)
+not-zero (suc n) a h = refl
+
+told : (r : Refusal) (a : Result) → unless (refusalNumber r) a ≡ refused (refusalNumber r)
+told r a = not-zero (refusalNumber r) a (refusal-some r)
 
 completed-same : (a : Completed) → answers.completedAnswer a ≡ doneAnswer (completedFlat a)
 completed-same (Completed.Refused r) = sym (told r done)
@@ -119,7 +116,7 @@ found-same (Found.At x) = refl
 found-same Found.Nowhere = refl
 
 -- a listing, by its value
-listing-same : (a b : ℕ) (v : Bool) → listing (listingOf a b v) ≡ listedAnswer (listedFlat (Listed.Listing (listingOf a b v)))
+listing-same : (a b : ℕ) (v : Bool) → gave (listing (listingOf a b v)) ≡ listedAnswer (listedFlat (Listed.Listing (listingOf a b v)))
 listing-same a b true = refl
 listing-same a b false = refl
 

@@ -18,7 +18,7 @@ use Rattle.model.specs.declared.Drawn.{Drawn}
 use Rattle.model.specs.declared.Written.{Written}
 use Rattle.model.specs.Numbers.{refusalNumber}
 use Rattle.model.specs.Positions.{run}
-use Rattle.model.specs.Call.{Call, Answer, refused, done, number, value, around, position, listing, drawn, written}
+use Rattle.model.specs.Call.{Call, Result, done, number, value, around, position, listing, drawn, written, Answer, refused, gave}
 use Rattle.interval_bit_set.specs.Met.{Met}
 use Rattle.interval_bit_set.specs.Lent.{listingOf}
 use Rattle.frame.specs.Records.{boundBy, truth, bitOf}
@@ -40,8 +40,8 @@ abbrev pub operationOf : ℕ → Operation
 operationOf n = cond (eqb n 0) Operation.And (cond (eqb n 1) Operation.Or Operation.Xor)
 
 -- ---- what goes out, as the model's answer: a refusal's number alone, or else the values
-abbrev pub unless : ℕ → Answer → Answer
-unless zero a = a
+abbrev pub unless : ℕ → Result → Answer
+unless zero a = gave a
 unless (suc n) a = refused (suc n)
 
 abbrev pub doneAnswer : ℕ → Answer

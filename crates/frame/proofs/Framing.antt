@@ -1,22 +1,23 @@
 -- A frame's outcome, by what looking at the store told and by the room of the slice. Assumes nothing.
 use Prim.Native.Nat.{ℕ, _*_, _/_, _≤_, _<_}
 use mathlib.Core.Path.{_≡_, refl, sym, ap, _∙_, subst}
-use mathlib.Core.List.{List}
+use mathlib.Core.List.{List, [], _∷_, _++_}
+use mathlib.Core.Option.{some}
 use native.Mathlib.Omega.{arith}
 use lib.ListN.{length}
 use borrow.Author.Tests.{lt-ltb, le-ltb}
 use Rattle.model.specs.declared.Refusal.{Refusal}
-use Rattle.model.specs.declared.Refusal.the-variants.{StoreLength, OutputShort, SetLength, SetVersion, RunOrder, Window, Unsound, Capacity}
 use Rattle.model.specs.Numbers.{refusalNumber}
-use Rattle.model.specs.Refusals.{noRoom}
-use Rattle.model.specs.Call.{wrongLength, unsound, holding, refused, done}
-use Rattle.model.specs.Model.{answers}
+use Rattle.model.specs.Refusals.{outputShort, _when_, refusal, noRoom}
+use Rattle.model.specs.Call.{Fed, holding, done, refused, gave}
+use Rattle.model.specs.Model.{positionsOf, reads, answers, after}
 use Rattle.store.specs.Layout.{capacity, heldBy}
 use Rattle.interval_bit_set.specs.declared.look.Look.{Look}
-use Rattle.interval_bit_set.specs.Look.{Earned, Readable, Looked}
-use Rattle.interval_bit_set.specs.Met.{Leaves}
+use Rattle.interval_bit_set.specs.Look.{Readable, Looked}
+use Rattle.interval_bit_set.specs.Met.{fedOf, Leaves}
+use Rattle.interval_bit_set.proofs.Refusing.{reads-first}
 use Rattle.frame.specs.Records.{callsOf, recordsOf}
-use Rattle.frame.specs.Frame.{Outcome, frameOf, outcomeOf, Framed}
+use Rattle.frame.specs.Frame.{Outcome, settle, frameOf, outcomeOf, Framed}
 use Rattle.frame.specs.Serving.{Playable, Plays}
 use Rattle.frame.specs.Told.{fed-as, calls-length, answers-length, records-length}
 
@@ -29,20 +30,20 @@ module _ (w cs out : List ℕ) where
     wrote = s ∙ sym (ap (λ p. p .slice) e);
   }
 
-  -- a store that earns a refusal gets it
-  earned : (r : Refusal) → Earned w r → Framed w cs out (refused (refusalNumber r)) w out
-  unfolding frameOf
-  earned StoreLength h = framed-by _ (fed-as w cs out wrongLength h) refl refl
-  earned Unsound h = framed-by _ (fed-as w cs out unsound h) refl refl
-  earned OutputShort h = absurd h
-  earned SetLength h = absurd h
-  earned SetVersion h = absurd h
-  earned RunOrder h = absurd h
-  earned Window h = absurd h
-  earned Capacity h = absurd h
+  -- the words due to a store that is fed as s
+  abbrev dueTo : Fed → List ℕ
+  dueTo s = recordsOf (answers (capacity w) (positionsOf s) (callsOf cs))
 
+  -- the refusal that is due is given
+  refused-due : {n : ℕ} → refusal (reads (fedOf w) ++ outputShort when noRoom out (dueTo (fedOf w)) ∷ []) ≡ some n → Framed w cs out (refused n) w out
+  unfolding outcomeOf frameOf
+  refused-due e =
+      let P = positionsOf (fedOf w) in
+      framed-by _ (ap (λ o. settle o P (after (capacity w) P (callsOf cs)) (dueTo (fedOf w)) out) e) refl refl
+
+  -- so what looking refuses is
   pub turned-away : {r : Refusal} (l : Look) → Looked w l → l ≡ Look.Refused r → Framed w cs out (refused (refusalNumber r)) w out
-  turned-away {r} l k e = earned r (subst (λ m. Looked w m) e k)
+  turned-away l k e = refused-due (reads-first (fedOf w) (outputShort when noRoom out (dueTo (fedOf w)) ∷ []) refl (subst (λ m. Looked w m) e k))
 
   -- how many words are due
   due : length (recordsOf (answers (capacity w) (heldBy w) (callsOf cs))) ≡ 8 * (length cs / 8)
@@ -60,7 +61,7 @@ module _ (w cs out : List ℕ) where
         framed-by (record { answer = refused 2; positions = heldBy w; slice = out }) (fed-as w cs out (holding (heldBy w)) (R .fed) ∙ rw (lt-ltb _ _ n)) refl refl
 
     -- they fit, and all records were served
-    pub framed : {w′ out′ : List ℕ} → length cs / 8 ≤ length out / 8 → Plays w cs out (length cs / 8) w′ out′ → Framed w cs out done w′ out′
+    pub framed : {w′ out′ : List ℕ} → length cs / 8 ≤ length out / 8 → Plays w cs out (length cs / 8) w′ out′ → Framed w cs out (gave done) w′ out′
     unfolding frameOf noRoom callsOf
     framed h p =
         let n : length (recordsOf (answers (capacity w) (heldBy w) (callsOf cs))) ≤ length out = omega (arith, due) in

@@ -6,7 +6,7 @@ use mathlib.Core.List.{List, [], _∷_, _++_, append-assoc, append-nil}
 use native.Mathlib.Omega.{arith}
 use lib.ListN.{length, length-append}
 use Rattle.model.specs.Positions.{Positions}
-use Rattle.model.specs.Call.{Fed, Call, Answer, refused, done, number, value, around, position, listing, drawn, written}
+use Rattle.model.specs.Call.{Fed, Call, Answer, refused, gave}
 use Rattle.model.specs.Model.{step, answers, after}
 use Rattle.store.specs.Layout.{capacity, heldBy}
 use Rattle.written.specs.Placed.{placed}
@@ -38,14 +38,7 @@ pub record Playing (w cs out : List ℕ) (n i : ℕ) (v o : List ℕ) : Type 0 w
 -- what a call leaves is as long as before
 left-long : (w w′ : List ℕ) (P : Positions) (a : Answer) → Leaves w w′ P a → length w′ ≡ length w
 left-long w w′ P (refused n) l = ap length l
-left-long w w′ P done l = l .long
-left-long w w′ P (number n) l = l .long
-left-long w w′ P (value b) l = l .long
-left-long w w′ P (around r) l = l .long
-left-long w w′ P (position o) l = l .long
-left-long w w′ P (listing m) l = l .long
-left-long w w′ P (drawn o m) l = l .long
-left-long w w′ P (written n bs) l = l .long
+left-long w w′ P (gave r) l = l .long
 
 module _ {C : ℕ} {P : Positions} {w w′ : List ℕ} {a : Answer} (e : Entry) (H : Holds C P w) (m : Met w (callOf e) a w′) where
   -- a record is answered as the model answers its call

@@ -7,7 +7,7 @@ use mathlib.Core.Option.{Option, none, some}
 use Rattle.model.specs.Positions.{Positions}
 use Rattle.model.specs.Bytes.{intoFront}
 use Rattle.model.specs.Refusals.{outputShort, _when_, refusal, noRoom}
-use Rattle.model.specs.Call.{Fed, Call, Answer, refused, done}
+use Rattle.model.specs.Call.{Fed, Call, done, Answer, refused, gave}
 use Rattle.model.specs.Model.{positionsOf, reads, answers, after}
 use Rattle.store.specs.Layout.{capacity}
 use Rattle.interval_bit_set.specs.Met.{fedOf, Leaves}
@@ -21,7 +21,7 @@ pub record Outcome : Type 0 where
 
 -- refused, all stays; else the records are the front of the slice, and the words after them do not change
 abbrev pub settle : Option ℕ → Positions → Positions → List ℕ → List ℕ → Outcome
-settle none P Q due out = record { answer = done; positions = Q; slice = intoFront due out }
+settle none P Q due out = record { answer = gave done; positions = Q; slice = intoFront due out }
 settle (some n) P Q due out = record { answer = refused n; positions = P; slice = out }
 
 -- a list of calls on a store of capacity C that is fed as s: 1, 7, and 2 where the slice is shorter than the words due

@@ -11,7 +11,7 @@ use lib.Dec.{eqb}
 use Rattle.model.specs.Positions.{Positions, empty}
 use Rattle.model.specs.Bytes.{intoFront}
 use Rattle.model.specs.Refusals.{outputShort, _when_, refusal, noRoom}
-use Rattle.model.specs.Call.{Fed, wrongLength, unsound, holding, Call, Answer, refused, done}
+use Rattle.model.specs.Call.{Fed, wrongLength, unsound, holding, Call, done, Answer, refused, gave}
 use Rattle.model.specs.Model
 use Rattle.model.specs.Model.{reads, serve, step, answers, after}
 use Rattle.store.specs.Layout.{capacity, heldBy}
@@ -19,6 +19,7 @@ use Rattle.store.specs.Turn.{held-past}
 use Rattle.store.specs.Decision.{soundB}
 use Rattle.store.specs.Settle.{Settled}
 use Rattle.interval_bit_set.specs.Met.{fedOf, Met}
+use Rattle.interval_bit_set.proofs.Meeting.{refused-not}
 use Rattle.lockstep.specs.History.{New, told}
 use Rattle.lockstep.specs.Steps.{Ends, Served, served}
 use Rattle.lockstep.specs.Follow.{Holds, settled-holds, answer-is, step-holds, new-holds}
@@ -37,7 +38,7 @@ pub data Match : List ℕ → List (Call (List ℕ)) → List Answer → List �
       → Match w (c ∷ cs) (a ∷ rs) w″
   frame :
       {w w′ w″ fs out out′ : List ℕ} {cs : List (Call (List ℕ))} {rs : List Answer}
-      → Framed w fs out done w′ out′
+      → Framed w fs out (gave done) w′ out′
       → Match w′ cs rs w″
       → Match w (callsOf fs ++ cs) (answers (capacity w) (heldBy w) (callsOf fs) ++ rs) w″
   refusedFrame :
@@ -59,47 +60,43 @@ fed-cases w = go (eqb (capacity w) 0) (soundB w)
     go false true = inr (inr refl)
     go false false = inr (inl refl)
 
--- done and refused differ
-done-refused : {n : ℕ} → done ≡ refused n → ⊥
-done-refused e = let z : _≡_ {A = ℕ} 0 1 = cc in omega arith
-
 module _ (w fs out : List ℕ) where
   -- all calls were served
   abbrev all-served : Outcome
   all-served = record {
-    answer = done;
+    answer = gave done;
     positions = after (capacity w) (heldBy w) (callsOf fs);
     slice = intoFront (recordsOf (answers (capacity w) (heldBy w) (callsOf fs))) out;
   }
 
   -- where the store is read and there is room
-  room-served : done ≡ (frameOf (capacity w) (holding (heldBy w)) (callsOf fs) out) .answer → frameOf (capacity w) (holding (heldBy w)) (callsOf fs) out ≡ all-served
+  room-served : gave done ≡ (frameOf (capacity w) (holding (heldBy w)) (callsOf fs) out) .answer → frameOf (capacity w) (holding (heldBy w)) (callsOf fs) out ≡ all-served
   unfolding frameOf
   room-served e = go (refusal (reads (holding (heldBy w)) ++ outputShort when noRoom out all-due ∷ [])) e
     where
       all-due : List ℕ
       all-due = recordsOf (answers (capacity w) (heldBy w) (callsOf fs))
 
-      go : (y : Option ℕ) → done ≡ (settle y (heldBy w) (all-served .positions) all-due out) .answer → settle y (heldBy w) (all-served .positions) all-due out ≡ all-served
+      go : (y : Option ℕ) → gave done ≡ (settle y (heldBy w) (all-served .positions) all-due out) .answer → settle y (heldBy w) (all-served .positions) all-due out ≡ all-served
       go none f = refl
-      go (some n) f = absurd (done-refused f)
+      go (some n) f = absurd (refused-not (sym f))
 
   -- so a frame that is done served all its calls
-  served-all : done ≡ (outcomeOf w fs out) .answer → outcomeOf w fs out ≡ all-served
+  served-all : gave done ≡ (outcomeOf w fs out) .answer → outcomeOf w fs out ≡ all-served
   unfolding frameOf
   served-all e = go (fed-cases w)
     where
       go : (fedOf w ≡ wrongLength) ⊎ ((fedOf w ≡ unsound) ⊎ (fedOf w ≡ holding (heldBy w))) → outcomeOf w fs out ≡ all-served
-      go (inl f) = absurd (done-refused (e ∙ ap (λ o. o .answer) (fed-as w fs out wrongLength f)))
-      go (inr (inl f)) = absurd (done-refused (e ∙ ap (λ o. o .answer) (fed-as w fs out unsound f)))
+      go (inl f) = absurd (refused-not (sym (e ∙ ap (λ o. o .answer) (fed-as w fs out wrongLength f))))
+      go (inr (inl f)) = absurd (refused-not (sym (e ∙ ap (λ o. o .answer) (fed-as w fs out unsound f))))
       go (inr (inr f)) = fed-as w fs out (holding (heldBy w)) f ∙ room-served (e ∙ ap (λ o. o .answer) (fed-as w fs out (holding (heldBy w)) f))
 
 -- it left what the model leaves
-framed-left : {w fs out w′ out′ : List ℕ} → Framed w fs out done w′ out′ → Settled w w′ (after (capacity w) (heldBy w) (callsOf fs))
+framed-left : {w fs out w′ out′ : List ℕ} → Framed w fs out (gave done) w′ out′ → Settled w w′ (after (capacity w) (heldBy w) (callsOf fs))
 framed-left {w} {fs} {out} {w′} F = subst (λ (o : Outcome). Settled w w′ (o .positions)) (served-all w fs out (F .answered)) (F .left)
 
 -- and wrote the records of the model's answers
-pub framed-wrote : {w fs out w′ out′ : List ℕ} → Framed w fs out done w′ out′ → out′ ≡ intoFront (recordsOf (answers (capacity w) (heldBy w) (callsOf fs))) out
+pub framed-wrote : {w fs out w′ out′ : List ℕ} → Framed w fs out (gave done) w′ out′ → out′ ≡ intoFront (recordsOf (answers (capacity w) (heldBy w) (callsOf fs))) out
 framed-wrote {w} {fs} {out} F = F .wrote ∙ ap (λ (o : Outcome). o .slice) (served-all w fs out (F .answered))
 
 -- ---- lists of calls on the model
@@ -145,7 +142,7 @@ pub record Goes (C : ℕ) (P : Positions) (cs : List (Call Fed)) (rs : List Answ
 
 module _ {C : ℕ} where
   -- after a frame
-  frame-holds : {P : Positions} {w fs out w′ out′ : List ℕ} → Holds C P w → Framed w fs out done w′ out′ → Holds C (after C P (callsOf fs)) w′
+  frame-holds : {P : Positions} {w fs out w′ out′ : List ℕ} → Holds C P w → Framed w fs out (gave done) w′ out′ → Holds C (after C P (callsOf fs)) w′
   frame-holds {P} {w} {fs} {w′ = w′} H F =
       subst (λ (Q : Positions). Holds C Q w′) (ap₂ (λ k Q. after k Q (callsOf fs)) (H .sized) (H .held))
       (settled-holds (framed-left F) (H .sized) (after-ends (capacity w) (heldBy w) (callsOf fs) (held-past w)))

@@ -10,7 +10,7 @@ use Rattle.model.specs.declared.Bound.{Bound}
 use Rattle.model.specs.declared.Listing.{Listing}
 use Rattle.model.specs.declared.Run.{Run}
 use Rattle.model.specs.Numbers.{size}
-use Rattle.model.specs.Call.{Call, Answer, refused, done, number, value, around, position, listing, drawn, written}
+use Rattle.model.specs.Call.{Call, Result, done, number, value, around, position, listing, drawn, written, Answer, refused, gave}
 use Rattle.frame.specs.declared.entry.Kind.{Kind}
 use Rattle.frame.specs.declared.entry.Entry.{Entry}
 use Rattle.frame.specs.declared.reply.Reply.{Reply}
@@ -108,17 +108,21 @@ abbrev pub positionReply : Option ℕ → Reply
 positionReply none = numbersOnly 0 0 0 0
 positionReply (some x) = numbersOnly 0 1 x 0
 
--- no call of a list writes bytes
+-- a result; no call of a list writes bytes
+abbrev pub resultReply : Result → Reply
+resultReply done = numbersOnly 0 0 0 0
+resultReply (number n) = numbersOnly 0 (n / size) (n % size) 0
+resultReply (value b) = numbersOnly 0 0 (bitOf b) 0
+resultReply (around r) = numbersOnly 0 0 (r .start) (r .«end»)
+resultReply (position o) = positionReply o
+resultReply (listing l) = record { refusal = 0; found = 0; number = 0; «end» = 0; first = l .first; last = l .last; value = bitOf (l .value) }
+resultReply (drawn o l) = drawnReply o l
+resultReply (written n bs) = numbersOnly 0 0 0 0
+
+-- an answer: a refusal's number alone, or what the call gives
 abbrev pub replyOf : Answer → Reply
 replyOf (refused n) = numbersOnly n 0 0 0
-replyOf done = numbersOnly 0 0 0 0
-replyOf (number n) = numbersOnly 0 (n / size) (n % size) 0
-replyOf (value b) = numbersOnly 0 0 (bitOf b) 0
-replyOf (around r) = numbersOnly 0 0 (r .start) (r .«end»)
-replyOf (position o) = positionReply o
-replyOf (listing l) = record { refusal = 0; found = 0; number = 0; «end» = 0; first = l .first; last = l .last; value = bitOf (l .value) }
-replyOf (drawn o l) = drawnReply o l
-replyOf (written n bs) = numbersOnly 0 0 0 0
+replyOf (gave r) = resultReply r
 
 abbrev pub wordsOf : Reply → List ℕ
 wordsOf r = r .refusal ∷ r .found ∷ r .number ∷ r .«end» ∷ r .first ∷ r .last ∷ r .value ∷ 0 ∷ []

@@ -2,7 +2,7 @@
 -- then by too many runs, and else the store holds the model's set. Each is the model's `overwrite`, at the words' capacity: the conditions
 -- are any that come before too many runs in the order of refusals. Assumes nothing.
 use Prim.Native.Nat.{ℕ, _≤_, _<_}
-use mathlib.Core.Path.{_≡_, refl, sym, ap, ap₂, _∙_, subst}
+use mathlib.Core.Path.{_≡_, refl, sym, ap, _∙_, subst}
 use mathlib.Core.Bool.{Bool, true, false, not}
 use mathlib.Core.List.{List, [], _∷_, _++_}
 use mathlib.Core.Option.{Option, none, some}
@@ -14,11 +14,11 @@ use Rattle.model.specs.declared.Operation.{Operation}
 use Rattle.model.specs.declared.Run.{Run}
 use Rattle.model.specs.Numbers.{size}
 use Rattle.model.specs.Places.{capacityOf}
-use Rattle.model.specs.Positions.{Positions, empty, bounded, stretches, combined, complemented, shiftBy, mem}
-use Rattle.model.specs.Refusals.{storeLength, runOrder, Condition, _when_, firstGiven, refusal, earnsLength, disordered, setConditions, tooMany}
+use Rattle.model.specs.Positions.{Positions, bounded, stretches, combined, complemented, shiftBy, mem}
+use Rattle.model.specs.Refusals.{storeLength, runOrder, beforeCapacity, Condition, _when_, firstGiven, refusal, earnsLength, disordered, setConditions, tooMany}
 use Rattle.model.specs.Refusals
 use Rattle.model.specs.Bytes.{decode}
-use Rattle.model.specs.Call.{Fed, wrongLength, Call, refused, done}
+use Rattle.model.specs.Call.{Call, done, refused, gave}
 use Rattle.model.specs.Answers.{completedAnswer}
 use Rattle.model.specs.Model.{positionsOf, reads, settle, overwrite, serve}
 use Rattle.store.specs.Layout.{capacity, heldBy}
@@ -29,37 +29,12 @@ use Rattle.changes.specs.Neighbours.{stretches-cong}
 use Rattle.interval_bit_set.specs.Met.{fedOf, outcomeOf, Met}
 use Rattle.interval_bit_set.specs.Look.{completedBy}
 use Rattle.interval_bit_set.proofs.Meeting.{met-by, fed-short, fed-sized}
-use Rattle.interval_bit_set.proofs.Refusing.{earlier, refused-before, refused-full}
+use Rattle.interval_bit_set.proofs.Refusing.{refused-before, refused-full}
 use Rattle.interval_bit_set.proofs.Changing.{fits-few, fits-not, bounded-is}
 
 -- the call c has the conditions cs, and overwrites the store by Q
 pub record Overwrites (w : List ℕ) (c : Call (List ℕ)) (cs : List Condition) (Q : Positions) : Type 0 where
   pub said : outcomeOf w c ≡ overwrite (capacity w) (fedOf w) cs Q
-
--- ---- what overwriting refuses, by what the store is fed as
--- its own length comes first, whatever the conditions are
-overwrite-short : (C : ℕ) (cs : List Condition) (Q : Positions) → overwrite C wrongLength cs Q ≡ record { answer = refused 1; positions = empty }
-unfolding overwrite
-overwrite-short C cs Q = refl
-
-module _ (C : ℕ) (s : Fed) (cs : List Condition) (Q : Positions) (sized : earnsLength s ≡ false) where
-  -- with its length right, by whether the runs are too many
-  overwrite-by : (t : Bool) (o : Option ℕ) → tooMany C Q ≡ t → refusal (Refusals.capacity when t ∷ cs) ≡ o → overwrite C s cs Q ≡ settle o (positionsOf s) done (bounded Q)
-  unfolding overwrite
-  overwrite-by t o e f =
-      ap (λ r. settle r (positionsOf s) done (bounded Q)) (ap₂ (λ l m. refusal (storeLength when l ∷ Refusals.capacity when m ∷ cs)) sized e ∙ f)
-
-  -- the conditions come before that
-  overwrite-early : (n : ℕ) → firstGiven earlier cs ≡ some n → overwrite C s cs Q ≡ record { answer = refused n; positions = positionsOf s }
-  overwrite-early n e = overwrite-by (tooMany C Q) (some n) refl (refused-before cs (tooMany C Q) e)
-
-  -- then too many runs
-  overwrite-full : refusal cs ≡ none → C < stretches Q → overwrite C s cs Q ≡ record { answer = refused 8; positions = positionsOf s }
-  overwrite-full e h = overwrite-by true (some 8) (fits-not C Q h) (refused-full cs e)
-
-  -- and else Q is held
-  overwrite-done : refusal cs ≡ none → stretches Q ≤ C → overwrite C s cs Q ≡ record { answer = done; positions = bounded Q }
-  overwrite-done e h = overwrite-by false none (fits-few C Q h) e
 
 -- ---- whether it fits, by a test against the capacity that the length told
 module _ (n s C : ℕ) {r : Bool} (tested : r ≡ leb n s) (told : s ≡ C) where
@@ -71,27 +46,42 @@ module _ (n s C : ℕ) {r : Bool} (tested : r ≡ leb n s) (told : s ≡ C) wher
 
 -- ---- the contract
 module _ {w : List ℕ} {c : Call (List ℕ)} {cs : List Condition} {Q : Positions} (says : Overwrites w c cs Q) where
+  -- the refusal that is due, by whether its own length is wrong
+  abbrev due : Bool → Option ℕ
+  due z = refusal (storeLength when z ∷ Refusals.capacity when tooMany (capacity w) Q ∷ cs)
+
+  -- it is given
+  pub refused-due : {w′ : List ℕ} {n : ℕ} → due (earnsLength (fedOf w)) ≡ some n → w′ ≡ w → Met w c (refused n) w′
+  unfolding overwrite
+  refused-due e q = met-by _ (says .said ∙ ap (λ o. settle o (positionsOf (fedOf w)) done (bounded Q)) e) q
+
   -- words of no store's length are refused first
   pub own-short : capacity w ≡ 0 → Met w c (refused 1) w
-  own-short e = met-by _ (says .said ∙ ap (λ s. overwrite (capacity w) s cs Q) (fed-short w e) ∙ overwrite-short (capacity w) cs Q) refl
+  own-short e = refused-due (ap due (ap earnsLength (fed-short w e))) refl
 
   module _ (sized : 1 ≤ capacity w) where
-    -- others by the conditions
-    pub refused-early : {n : ℕ} → firstGiven earlier cs ≡ some n → Met w c (refused n) w
-    refused-early {n} e = met-by _ (says .said ∙ overwrite-early (capacity w) (fedOf w) cs Q (fed-sized w sized) n e) refl
+    -- of others the runs and the conditions decide
+    sized-due : {o : Option ℕ} (t : Bool) → tooMany (capacity w) Q ≡ t → refusal (Refusals.capacity when t ∷ cs) ≡ o → due (earnsLength (fedOf w)) ≡ o
+    sized-due t e f = ap due (fed-sized w sized) ∙ ap (λ m. refusal (Refusals.capacity when m ∷ cs)) e ∙ f
+
+    -- the conditions come first
+    pub refused-early : {n : ℕ} → firstGiven beforeCapacity cs ≡ some n → Met w c (refused n) w
+    refused-early e = refused-due (sized-due _ refl (refused-before cs (tooMany (capacity w) Q) e)) refl
 
     module _ {w′ : List ℕ} (Q′ : Positions) (quiet : refusal cs ≡ none) (alike : (x : ℕ) → x < size → Q′ x ≡ Q x) where
-      -- or for more runs than the capacity
+      -- then more runs than the capacity
       pub over-full : (capacity w < stretches Q′) × (w′ ≡ w) → Met w c (refused 8) w′
       over-full h =
-          met-by _ (says .said ∙ overwrite-full (capacity w) (fedOf w) cs Q (fed-sized w sized) quiet (subst (λ n. capacity w < n) (stretches-cong Q′ Q alike) (h .0))) (h .1)
+          refused-due (sized-due true (fits-not (capacity w) Q (subst (λ n. capacity w < n) (stretches-cong Q′ Q alike) (h .0))) (refused-full cs quiet)) (h .1)
 
-      -- and else hold Q
-      pub overwritten : Settled w w′ Q′ → Met w c done w′
+      -- and else Q is held
+      pub overwritten : Settled w w′ Q′ → Met w c (gave done) w′
+      unfolding overwrite
       overwritten S =
           let same : (x : ℕ) → x < size → heldBy w′ x ≡ Q x = λ x h. S .holds x h ∙ alike x h in
           let few : stretches Q ≤ capacity w = omega (arith, stretches-cong (heldBy w′) Q same, S .sound .fits, ap capacityOf (S .long)) in
-          met-by _ (says .said ∙ overwrite-done (capacity w) (fedOf w) cs Q (fed-sized w sized) quiet few) (record {
+          let free : due (earnsLength (fedOf w)) ≡ none = sized-due false (fits-few (capacity w) Q few) quiet in
+          met-by (record { answer = gave done; positions = bounded Q }) (says .said ∙ ap (λ o. settle o (positionsOf (fedOf w)) done (bounded Q)) free) (record {
             sound = S .sound;
             holds = λ x h. same x h ∙ bounded-is Q x h;
             long = S .long;

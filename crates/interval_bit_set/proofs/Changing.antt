@@ -5,23 +5,22 @@ use Prim.Native.Nat.{ℕ, suc, _-_, _≤_, _<_}
 use mathlib.Core.Path.{_≡_, refl, sym, ap, _∙_, subst, fun-ext}
 use mathlib.Core.Logic.{_⊎_, inl, inr}
 use mathlib.Core.Bool.{Bool, true, false, not, _&&_}
-use mathlib.Core.List.{List, [], _∷_}
+use mathlib.Core.List.{List, [], _∷_, _++_}
 use mathlib.Core.Option.{Option, none, some}
 use native.Mathlib.Omega.{arith}
 use borrow.Author.Tests.{lt-ltb, le-ltb}
 use Rattle.model.specs.declared.Bound.{Bound}
 use Rattle.model.specs.declared.Refusal.{Refusal}
-use Rattle.model.specs.declared.Refusal.the-variants.{StoreLength, OutputShort, SetLength, SetVersion, RunOrder, Window, Unsound, Capacity}
 use Rattle.model.specs.Numbers.{size, split, refusalNumber}
 use Rattle.model.specs.Places.{capacityOf}
 use Rattle.model.specs.Range.{firstAllowed, extent}
-use Rattle.model.specs.Positions.{Positions, empty, bounded, stretches, changes, setRange, flipRange, shiftBy}
+use Rattle.model.specs.Positions.{Positions, bounded, stretches, changes, setRange, flipRange, shiftBy}
 use Rattle.model.specs.After.{set-below, set-above, flip-below, flip-above, changes-set}
 use Rattle.model.specs.Bytes.{mapped}
-use Rattle.model.specs.Refusals.{storeLength, Condition, _when_, given, firstGiven, refusal, tooMany}
+use Rattle.model.specs.Refusals.{storeLength, beforeCapacity, Condition, _when_, given, firstGiven, refusal, tooMany}
 use Rattle.model.specs.Refusals
-use Rattle.model.specs.Call.{Fed, wrongLength, unsound, holding, Call, Answer, refused, done, number}
-use Rattle.model.specs.Model.{positionsOf, settle, change, changed, serve}
+use Rattle.model.specs.Call.{Fed, Call, Result, done, number, refused, gave}
+use Rattle.model.specs.Model.{positionsOf, reads, settle, change, changed, serve}
 use Rattle.store.specs.Layout.{capacity, heldBy}
 use Rattle.store.specs.Soundness.{Sound}
 use Rattle.store.specs.Settle.{Settled}
@@ -31,14 +30,14 @@ use Rattle.changes.specs.Edits.{Edited, Fitted}
 use Rattle.changes.specs.Neighbours.{stretches-cong}
 use Rattle.interval_bit_set.specs.declared.look.Look.{Look}
 use Rattle.interval_bit_set.specs.Met.{fedOf, outcomeOf, Met}
-use Rattle.interval_bit_set.specs.Look.{Earned, Readable, Looked}
-use Rattle.interval_bit_set.proofs.Meeting.{met-by, Plain, leaves}
-use Rattle.interval_bit_set.proofs.Refusing.{earlier, refused-before, refused-full}
+use Rattle.interval_bit_set.specs.Look.{Readable, Looked}
+use Rattle.interval_bit_set.proofs.Meeting.{met-by}
+use Rattle.interval_bit_set.proofs.Refusing.{reads-first, refused-before, refused-full}
 use Rattle.interval_bit_set.proofs.Windows.{mapConditions}
 use Rattle.interval_bit_set.proofs.Spans.{Within, of-range, count-nothing}
 
--- the call c has the conditions cs, which are not of its store's length, changes the positions held to Q of them, and answers A of them
-pub record Changes (w : List ℕ) (c : Call (List ℕ)) (cs : List Condition) (Q : Positions → Positions) (A : Positions → Answer) : Type 0 where
+-- the call c has the conditions cs, which are not of its store's length, changes the positions held to Q of them, and gives A of them
+pub record Changes (w : List ℕ) (c : Call (List ℕ)) (cs : List Condition) (Q : Positions → Positions) (A : Positions → Result) : Type 0 where
   pub said : outcomeOf w c ≡ change (capacity w) (fedOf w) cs (Q (positionsOf (fedOf w))) (A (positionsOf (fedOf w)))
   pub others : given storeLength cs ≡ false
 
@@ -53,78 +52,53 @@ pub fits-not : (C : ℕ) (Q : Positions) → C < stretches Q → tooMany C Q ≡
 unfolding tooMany
 fits-not C Q h = lt-ltb C (stretches Q) h
 
--- ---- by what is fed
--- words of no store's length are refused first
-change-short : (C : ℕ) (cs : List Condition) (Q : Positions) (a : Answer) → change C wrongLength cs Q a ≡ record { answer = refused 1; positions = empty }
-unfolding change
-change-short C cs Q a = refl
-
--- then unsound ones
-change-unsound : (C : ℕ) (cs : List Condition) (Q : Positions) (a : Answer) → given storeLength cs ≡ false → change C unsound cs Q a ≡ record { answer = refused 7; positions = empty }
-unfolding change
-change-unsound C cs Q a g = rw g
-
-module _ (C : ℕ) (P : Positions) (cs : List Condition) (Q : Positions) (a : Answer) where
-  -- others by whether the runs are too many
-  change-by : (t : Bool) (o : Option ℕ) → tooMany C Q ≡ t → refusal (Refusals.capacity when t ∷ cs) ≡ o → change C (holding P) cs Q a ≡ settle o P a (bounded Q)
-  unfolding change
-  change-by t o e f = ap (λ r. settle r P a (bounded Q)) (ap (λ m. refusal (Refusals.capacity when m ∷ cs)) e ∙ f)
-
-  -- the conditions come before that
-  change-early : (n : ℕ) → firstGiven earlier cs ≡ some n → change C (holding P) cs Q a ≡ record { answer = refused n; positions = P }
-  change-early n e = change-by (tooMany C Q) (some n) refl (refused-before cs (tooMany C Q) e)
-
-  -- then too many runs
-  change-full : refusal cs ≡ none → C < stretches Q → change C (holding P) cs Q a ≡ record { answer = refused 8; positions = P }
-  change-full e h = change-by true (some 8) (fits-not C Q h) (refused-full cs e)
-
-  -- and else Q is held
-  change-done : refusal cs ≡ none → stretches Q ≤ C → change C (holding P) cs Q a ≡ record { answer = a; positions = bounded Q }
-  change-done e h = change-by false none (fits-few C Q h) e
-
 -- below 2^64 a set is what is kept of it
 pub bounded-is : (Q : Positions) (x : ℕ) → x < size → Q x ≡ bounded Q x
 unfolding bounded
 bounded-is Q x h = sym (ap (λ t. t && Q x) (lt-ltb x size h))
 
-module _ {w : List ℕ} {c : Call (List ℕ)} {cs : List Condition} {Q : Positions → Positions} {A : Positions → Answer} (says : Changes w c cs Q A) where
-  -- by what it is fed
-  fed-as : (s : Fed) → fedOf w ≡ s → outcomeOf w c ≡ change (capacity w) s cs (Q (positionsOf s)) (A (positionsOf s))
-  fed-as s e = says .said ∙ ap (λ f. change (capacity w) f cs (Q (positionsOf f)) (A (positionsOf f))) e
+module _ {w : List ℕ} {c : Call (List ℕ)} {cs : List Condition} {Q : Positions → Positions} {A : Positions → Result} (says : Changes w c cs Q A) where
+  -- the refusal that is due at a store that is fed as s
+  abbrev due : Fed → Option ℕ
+  due s = refusal (reads s ++ Refusals.capacity when tooMany (capacity w) (Q (positionsOf s)) ∷ cs)
 
-  -- a store that earns a refusal gets it
-  earned : (r : Refusal) → Earned w r → Met w c (refused (refusalNumber r)) w
-  earned StoreLength h = met-by _ (fed-as wrongLength h ∙ change-short (capacity w) cs (Q empty) (A empty)) refl
-  earned Unsound h = met-by _ (fed-as unsound h ∙ change-unsound (capacity w) cs (Q empty) (A empty) (says .others)) refl
-  earned OutputShort h = absurd h
-  earned SetLength h = absurd h
-  earned SetVersion h = absurd h
-  earned RunOrder h = absurd h
-  earned Window h = absurd h
-  earned Capacity h = absurd h
+  -- it is given
+  refused-due : {w′ : List ℕ} {n : ℕ} → due (fedOf w) ≡ some n → w′ ≡ w → Met w c (refused n) w′
+  unfolding change
+  refused-due e q =
+      met-by _ (says .said ∙ ap (λ o. settle o (positionsOf (fedOf w)) (A (positionsOf (fedOf w))) (bounded (Q (positionsOf (fedOf w))))) e) q
 
-  -- so does one that looking refuses
+  -- so what looking refuses is
   pub sent-away : {r : Refusal} (l : Look) → Looked w l → l ≡ Look.Refused r → Met w c (refused (refusalNumber r)) w
-  sent-away {r} l k e = earned r (subst (λ m. Looked w m) e k)
+  sent-away l k e = refused-due (reads-first (fedOf w) (Refusals.capacity when tooMany (capacity w) (Q (positionsOf (fedOf w))) ∷ cs) (says .others) (subst (λ m. Looked w m) e k)) refl
 
-  -- a readable store is refused by the conditions
-  pub refused-first : {n : ℕ} → Readable w → firstGiven earlier cs ≡ some n → Met w c (refused n) w
-  refused-first {n} R e =
-      met-by _ (fed-as (holding (heldBy w)) (R .fed) ∙ change-early (capacity w) (heldBy w) cs (Q (heldBy w)) (A (heldBy w)) n e) refl
+  -- a readable store's is that of the runs and the conditions
+  readable-due : {o : Option ℕ} (t : Bool) → Readable w → tooMany (capacity w) (Q (heldBy w)) ≡ t → refusal (Refusals.capacity when t ∷ cs) ≡ o → due (fedOf w) ≡ o
+  readable-due t R e f = ap due (R .fed) ∙ ap (λ m. refusal (Refusals.capacity when m ∷ cs)) e ∙ f
+
+  -- the conditions come first
+  pub refused-first : {n : ℕ} → Readable w → firstGiven beforeCapacity cs ≡ some n → Met w c (refused n) w
+  refused-first R e = refused-due (readable-due _ R refl (refused-before cs (tooMany (capacity w) (Q (heldBy w))) e)) refl
 
   module _ (quiet : refusal cs ≡ none) where
-    -- or has no room for more runs than its capacity
+    -- then more runs than the capacity
     pub full : {w′ : List ℕ} (Q′ : Positions) → Readable w → Q′ ≡ Q (heldBy w) → (capacity w < stretches Q′) × (w′ ≡ w) → Met w c (refused 8) w′
     full Q′ R f h =
-        met-by _ (fed-as (holding (heldBy w)) (R .fed) ∙ change-full (capacity w) (heldBy w) cs (Q (heldBy w)) (A (heldBy w)) quiet (subst (λ S. capacity w < stretches S) f (h .0))) (h .1)
+        refused-due (readable-due true R (fits-not (capacity w) (Q (heldBy w)) (subst (λ S. capacity w < stretches S) f (h .0))) (refused-full cs quiet)) (h .1)
 
-    -- and else is changed
-    pub changes-to : {w′ : List ℕ} {a : Answer} (Q′ : Positions) → Readable w → Q′ ≡ Q (heldBy w) → Settled w w′ Q′ → Plain (A (heldBy w)) → a ≡ A (heldBy w) → Met w c a w′
-    changes-to {w′} {a} Q′ R f S p g =
+    -- and else the store is changed
+    pub changes-to : {w′ : List ℕ} {a : Result} (Q′ : Positions) → Readable w → Q′ ≡ Q (heldBy w) → Settled w w′ Q′ → a ≡ A (heldBy w) → Met w c (gave a) w′
+    unfolding change
+    changes-to {w′} Q′ R f S g =
         let same : (x : ℕ) → x < size → heldBy w′ x ≡ Q (heldBy w) x = λ x h. S .holds x h ∙ ap (λ T. T x) f in
         let few : stretches (Q (heldBy w)) ≤ capacity w = omega (arith, stretches-cong (heldBy w′) (Q (heldBy w)) same, S .sound .fits, ap capacityOf (S .long)) in
-        subst (λ b. Met w c b w′) (sym g) (met-by _ (fed-as (holding (heldBy w)) (R .fed) ∙ change-done (capacity w) (heldBy w) cs (Q (heldBy w)) (A (heldBy w)) quiet few) (leaves
-        (A (heldBy w)) p (record { sound = S .sound; holds = λ x h. same x h ∙ bounded-is (Q (heldBy w)) x h; long = S .long })))
+        let free : due (fedOf w) ≡ none = readable-due false R (fits-few (capacity w) (Q (heldBy w)) few) quiet in
+        subst (λ b. Met w c (gave b) w′) (sym g)
+        (met-by (record { answer = gave (A (heldBy w)); positions = bounded (Q (heldBy w)) })
+        (says .said
+        ∙ ap (λ o. settle o (positionsOf (fedOf w)) (A (positionsOf (fedOf w))) (bounded (Q (positionsOf (fedOf w))))) free
+        ∙ ap (λ s. settle none (positionsOf s) (A (positionsOf s)) (bounded (Q (positionsOf s)))) (R .fed))
+        (record { sound = S .sound; holds = λ x h. same x h ∙ bounded-is (Q (heldBy w)) x h; long = S .long }))
 
 -- a sound store is its own change to the same set
 pub settled-self : (w : List ℕ) → Sound w → Settled w w (heldBy w)

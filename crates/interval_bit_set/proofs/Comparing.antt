@@ -3,28 +3,19 @@
 use Prim.Native.Nat.{ℕ}
 use mathlib.Core.Path.{_≡_, refl, ap, ap₂, _∙_}
 use mathlib.Core.Bool.{Bool}
-use mathlib.Core.List.{List, _++_}
-use mathlib.Core.Option.{some}
+use mathlib.Core.List.{List}
 use lib.Dec.{leb}
 use Rattle.model.specs.declared.Operation.the-variants.{Xor}
-use Rattle.model.specs.Positions.{Positions, mem, combined, stretches, same}
-use Rattle.model.specs.Refusals.{Condition, refusal}
-use Rattle.model.specs.Call.{Call, Answer, refused, value}
-use Rattle.model.specs.Model.{positionsOf, reads, settle, report, serve}
+use Rattle.model.specs.Positions.{mem, combined, stretches, same}
+use Rattle.model.specs.Call.{Call, value}
+use Rattle.model.specs.Model.{positionsOf, reads, serve}
 use Rattle.store.specs.declared.Header.{Header}
 use Rattle.store.specs.Layout.{headerAt, turned, physicalRuns, heldBy}
-use Rattle.interval_bit_set.specs.Met.{fedOf, outcomeOf, Met}
+use Rattle.interval_bit_set.specs.Met.{fedOf, outcomeOf}
 use Rattle.interval_bit_set.specs.Look.{Readable}
-use Rattle.interval_bit_set.proofs.Meeting.{met-by, Reports}
+use Rattle.interval_bit_set.proofs.Meeting.{Reports}
 use Rattle.interval_bit_set.proofs.Looking.{read-as}
 use Rattle.interval_bit_set.proofs.Joins.{same-fits}
-
--- a call that reports is refused by what the store and its other conditions give together
-pub refused-both : {w : List ℕ} {c : Call (List ℕ)} {cs : List Condition} {A : Positions → Answer} {n : ℕ} → Reports w c cs A → refusal (reads (fedOf w) ++ cs) ≡ some n
-    → Met w c (refused n) w
-unfolding report
-refused-both {w} {c} {cs} {A} says e =
-    met-by _ (says .said ∙ ap (λ o. settle o (positionsOf (fedOf w)) (A (positionsOf (fedOf w))) (positionsOf (fedOf w))) e) refl
 
 -- the comparison reports whether the positions are the same
 pub equal-says : (v w : List ℕ) → Reports v (Call.equal w) (reads (fedOf w)) (λ P. value (same P (positionsOf (fedOf w))))

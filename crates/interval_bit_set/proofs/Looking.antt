@@ -6,7 +6,7 @@ use mathlib.Core.Bool.{false, true≢false}
 use mathlib.Core.List.{List, _++_}
 use mathlib.Core.Option.{none, some}
 use Rattle.model.specs.declared.Refusal.{Refusal}
-use Rattle.model.specs.declared.Refusal.the-variants.{StoreLength, OutputShort, SetLength, SetVersion, RunOrder, Window, Unsound, Capacity}
+use Rattle.model.specs.declared.Refusal.the-variants.{StoreLength, Unsound}
 use Rattle.model.specs.Numbers.{refusalNumber}
 use Rattle.model.specs.Positions.{mem}
 use Rattle.model.specs.Refusals.{refusal, earnsLength}
@@ -14,26 +14,24 @@ use Rattle.model.specs.Call.{Fed, wrongLength, unsound, holding}
 use Rattle.model.specs.Model.{positionsOf, reads}
 use Rattle.store.specs.declared.Header.{Header}
 use Rattle.store.specs.Layout.{headerAt, capacity, turned, physicalRuns, heldBy}
+use Rattle.store.specs.Decision.{soundB}
 use Rattle.interval_bit_set.specs.declared.look.Look.{Look}
 use Rattle.interval_bit_set.specs.Met.{fedOf}
-use Rattle.interval_bit_set.specs.Look.{Earned, Readable, Looked, LookedBoth}
-use Rattle.interval_bit_set.proofs.Meeting.{fed-sized}
+use Rattle.interval_bit_set.specs.Look.{Readable, Looked, LookedBoth}
+use Rattle.interval_bit_set.proofs.Meeting.{fed-short, fed-unsound, fed-sized}
 
 -- ---- one store
--- a refusal that it earns is what its conditions give
-earned-gives : (w : List ℕ) (r : Refusal) → Earned w r → refusal (reads (fedOf w)) ≡ some (refusalNumber r)
-earned-gives w StoreLength h = ap (λ f. refusal (reads f)) h
-earned-gives w Unsound h = ap (λ f. refusal (reads f)) h
-earned-gives w OutputShort h = absurd h
-earned-gives w SetLength h = absurd h
-earned-gives w SetVersion h = absurd h
-earned-gives w RunOrder h = absurd h
-earned-gives w Window h = absurd h
-earned-gives w Capacity h = absurd h
+-- words of no store's length
+pub looked-short : (w : List ℕ) → capacity w ≡ 0 → Looked w (Look.Refused StoreLength)
+looked-short w e = ap (λ f. refusal (reads f)) (fed-short w e)
 
--- so is one that looking told
+-- and words that are not sound
+pub looked-unsound : (w : List ℕ) → 1 ≤ capacity w → soundB w ≡ false → Looked w (Look.Refused Unsound)
+looked-unsound w h e = ap (λ f. refusal (reads f)) (fed-unsound w h e)
+
+-- what looking told, by what it answered
 pub looked-refused : (w : List ℕ) {r : Refusal} (l : Look) → Looked w l → l ≡ Look.Refused r → refusal (reads (fedOf w)) ≡ some (refusalNumber r)
-looked-refused w {r} l k e = earned-gives w r (subst (λ m. Looked w m) e k)
+looked-refused w l k e = subst (λ m. Looked w m) e k
 
 module _ {w : List ℕ} (R : Readable w) where
   -- a readable one gives none

@@ -6,19 +6,18 @@ use mathlib.Core.Bool.{Bool, true, false, cond, and-false}
 use mathlib.Core.List.{List, [], _∷_, _++_}
 use mathlib.Core.Option.{Option, none, some}
 use native.Mathlib.Omega.{arith}
-use lib.Dec.{ltb}
+use lib.Dec.{ltb, eqb}
 use borrow.Author.Tests.{eq-eqb, ne-eqb, le-ltb}
 use Rattle.model.specs.declared.Bound.{Bound}
 use Rattle.model.specs.declared.Listing.{Listing}
 use Rattle.model.specs.declared.Refusal.{Refusal}
-use Rattle.model.specs.declared.Refusal.the-variants.{StoreLength, OutputShort, SetLength, SetVersion, RunOrder, Window, Unsound, Capacity}
 use Rattle.model.specs.Numbers.{size, refusalNumber}
 use Rattle.model.specs.Range.{firstAllowed, extent}
 use Rattle.model.specs.Positions
 use Rattle.model.specs.Positions.{Positions, firstRun, lastRun, listed, remaining, pastFirst, pastLast, empty, bounded, stretches}
 use Rattle.model.specs.Bytes.{fillOf}
 use Rattle.model.specs.Refusals.{storeLength, window, Condition, _when_, given, refusal, earnsLength, badWindow, tooMany}
-use Rattle.model.specs.Call.{Fed, wrongLength, unsound, holding, Call, Answer, refused, done, number, value, around, position, listing, drawn, written}
+use Rattle.model.specs.Call.{wrongLength, unsound, holding, Call, Result, done, number, value, around, position, listing, drawn, Answer, refused, gave}
 use Rattle.model.specs.Model.{Outcome, positionsOf, reads, settle, report, overwrite, drawnFirst, drawnLast, serve}
 use Rattle.store.specs.Layout.{capacity, heldBy}
 use Rattle.store.specs.Soundness.{Sound}
@@ -27,9 +26,9 @@ use Rattle.store.specs.Free.{Emptied}
 use Rattle.store.proofs.Decided.{soundB-yes, soundB-no}
 use Rattle.store.proofs.Emptying.{empty-stretches}
 use Rattle.interval_bit_set.specs.declared.look.Look.{Look}
-use Rattle.store.specs.Settle.{Settled}
 use Rattle.interval_bit_set.specs.Met.{fedOf, outcomeOf, Leaves, Met}
-use Rattle.interval_bit_set.specs.Look.{Earned, Readable, Looked}
+use Rattle.interval_bit_set.specs.Look.{Readable, Looked}
+use Rattle.interval_bit_set.proofs.Refusing.{reads-first}
 
 -- ---- what the model is fed
 -- words of no store's length
@@ -55,13 +54,19 @@ fed-sound w S = record { sound = S; fed = fed-by w true (S .kept .sized) (soundB
 pub readable : (w : List ℕ) → 1 ≤ capacity w → soundB w ≡ true → Readable w
 readable w h e = fed-sound w (soundB-yes w h e)
 
--- words of a store's length do not earn refusal 1
-pub fed-sized : (w : List ℕ) → 1 ≤ capacity w → earnsLength (fedOf w) ≡ false
-fed-sized w h = ap earnsLength (fed-by w (soundB w) h refl) ∙ go (soundB w)
+-- words earn refusal 1 where their capacity is 0
+pub fed-length : (w : List ℕ) → earnsLength (fedOf w) ≡ eqb (capacity w) 0
+unfolding fedOf
+fed-length w = go (eqb (capacity w) 0) (soundB w)
   where
-    go : (t : Bool) → earnsLength (cond t (holding (heldBy w)) unsound) ≡ false
-    go true = refl
-    go false = refl
+    go : (z t : Bool) → earnsLength (cond z wrongLength (cond t (holding (heldBy w)) unsound)) ≡ z
+    go true t = refl
+    go false true = refl
+    go false false = refl
+
+-- so those of a store's length do not
+pub fed-sized : (w : List ℕ) → 1 ≤ capacity w → earnsLength (fedOf w) ≡ false
+fed-sized w h = fed-length w ∙ ne-eqb (capacity w) 0 (λ z. omega arith)
 
 -- what looking told, by what it answered
 pub looked-sound : {w : List ℕ} (l : Look) → Looked w l → l ≡ Look.Sound → Readable w
@@ -76,74 +81,53 @@ met-by {w} {w′} o e l = record {
 }
 
 -- an answer that is no refusal
-abbrev pub Plain : Answer → Type 0
+abbrev Plain : Answer → Type 0
 Plain (refused n) = ⊥
-Plain done = Unit {0}
-Plain (number n) = Unit {0}
-Plain (value b) = Unit {0}
-Plain (around r) = Unit {0}
-Plain (position o) = Unit {0}
-Plain (listing l) = Unit {0}
-Plain (drawn o l) = Unit {0}
-Plain (written n bs) = Unit {0}
+Plain (gave r) = Unit {0}
 
--- after it the store holds the outcome's positions
-pub leaves : {w w′ : List ℕ} {P : Positions} (a : Answer) → Plain a → Settled w w′ P → Leaves w w′ P a
-leaves (refused n) p h = absurd p
-leaves done p h = h
-leaves (number n) p h = h
-leaves (value b) p h = h
-leaves (around r) p h = h
-leaves (position o) p h = h
-leaves (listing l) p h = h
-leaves (drawn o l) p h = h
-leaves (written n bs) p h = h
+-- no refusal is a result
+pub refused-not : {n : ℕ} {r : Result} → refused n ≡ gave r → ⊥
+refused-not e = subst Plain (sym e) tt
 
 -- ---- calls that report
--- the call c has the conditions cs, and answers A of the positions held
-pub record Reports (w : List ℕ) (c : Call (List ℕ)) (cs : List Condition) (A : Positions → Answer) : Type 0 where
+-- the call c has the conditions cs, and gives A of the positions held
+pub record Reports (w : List ℕ) (c : Call (List ℕ)) (cs : List Condition) (A : Positions → Result) : Type 0 where
   pub said : outcomeOf w c ≡ report (fedOf w) cs (A (positionsOf (fedOf w)))
 
-module _ {w : List ℕ} {c : Call (List ℕ)} {cs : List Condition} {A : Positions → Answer} (says : Reports w c cs A) where
-  -- by what it is fed
-  fed-as : (s : Fed) → fedOf w ≡ s → outcomeOf w c ≡ report s cs (A (positionsOf s))
-  fed-as s e = says .said ∙ ap (λ f. report f cs (A (positionsOf f))) e
-
-  -- a store that earns a refusal gets it
-  earned : (r : Refusal) → Earned w r → given storeLength cs ≡ false → Met w c (refused (refusalNumber r)) w
+module _ {w : List ℕ} {c : Call (List ℕ)} {cs : List Condition} {A : Positions → Result} (says : Reports w c cs A) where
+  -- it is refused by what the store and the conditions give together
+  pub refused-both : {n : ℕ} → refusal (reads (fedOf w) ++ cs) ≡ some n → Met w c (refused n) w
   unfolding report
-  earned StoreLength h g = met-by _ (fed-as wrongLength h) refl
-  earned Unsound h g = met-by (record { answer = refused 7; positions = empty }) (fed-as unsound h ∙ rw g) refl
-  earned OutputShort h g = absurd h
-  earned SetLength h g = absurd h
-  earned SetVersion h g = absurd h
-  earned RunOrder h g = absurd h
-  earned Window h g = absurd h
-  earned Capacity h g = absurd h
+  refused-both e =
+      met-by _ (says .said ∙ ap (λ o. settle o (positionsOf (fedOf w)) (A (positionsOf (fedOf w))) (positionsOf (fedOf w))) e) refl
 
-  -- so does one that looking refuses
+  -- so a store that looking refuses is
   pub turned-away : {r : Refusal} (l : Look) → Looked w l → l ≡ Look.Refused r → given storeLength cs ≡ false → Met w c (refused (refusalNumber r)) w
-  turned-away {r} l k e g = earned r (subst (λ m. Looked w m) e k) g
+  turned-away l k e g = refused-both (reads-first (fedOf w) cs g (subst (λ m. Looked w m) e k))
 
-  -- a readable store is refused by the conditions alone
+  -- a readable one by the conditions alone
   pub refused-by : (n : ℕ) → Readable w → refusal cs ≡ some n → Met w c (refused n) w
-  unfolding report
-  refused-by n R e = met-by (record { answer = refused n; positions = heldBy w }) (fed-as (holding (heldBy w)) (R .fed) ∙ rw e) refl
+  refused-by n R e = refused-both (ap (λ s. refusal (reads s ++ cs)) (R .fed) ∙ e)
 
-  -- and else answers of its positions, which stay
-  pub met : {a : Answer} → Readable w → refusal cs ≡ none → Plain (A (heldBy w)) → a ≡ A (heldBy w) → Met w c a w
+  -- and else it gives what is due of its positions, which stay
+  pub met : {a : Result} → Readable w → refusal cs ≡ none → a ≡ A (heldBy w) → Met w c (gave a) w
   unfolding report
-  met {a} R e p f =
-      subst (λ b. Met w c b w) (sym f) (met-by (record { answer = A (heldBy w); positions = heldBy w }) (fed-as (holding (heldBy w)) (R .fed) ∙ rw e) (leaves
-      (A (heldBy w)) p (record { sound = R .sound; holds = λ x h. refl; long = refl })))
+  met R e f =
+      subst (λ b. Met w c (gave b) w) (sym f)
+      (met-by (record { answer = gave (A (heldBy w)); positions = heldBy w }) (says .said ∙ ap (λ s. report s cs (A (positionsOf s))) (R .fed) ∙ rw e)
+      (record { sound = R .sound; holds = λ x h. refl; long = refl }))
 
--- a refusal or the answer a: what holds of both
-either : (Q : Answer → Type 0) (o : Option ℕ) (P : Positions) (a : Answer) → ((n : ℕ) → Q (refused n)) → Q a → Q ((settle o P a P) .answer)
+  -- the same of an answer that is known to be that
+  pub met-as : {a : Answer} → Readable w → refusal cs ≡ none → a ≡ gave (A (heldBy w)) → Met w c a w
+  met-as R e f = subst (λ b. Met w c b w) (sym f) (met R e refl)
+
+-- a refusal or the result a: what holds of both
+either : (Q : Answer → Type 0) (o : Option ℕ) (P : Positions) (a : Result) → ((n : ℕ) → Q (refused n)) → Q (gave a) → Q ((settle o P a P) .answer)
 either Q none P a k h = h
 either Q (some n) P a k h = k n
 
--- so what holds of every refusal, and of the answer of any positions, holds of what a call that reports answers
-pub answers-all : {w : List ℕ} {c : Call (List ℕ)} {cs : List Condition} {A : Positions → Answer} (Q : Answer → Type 0) → Reports w c cs A → ((n : ℕ) → Q (refused n)) → ((P : Positions) → Q (A P))
+-- so what holds of every refusal, and of the result of any positions, holds of what a call that reports answers
+pub answers-all : {w : List ℕ} {c : Call (List ℕ)} {cs : List Condition} {A : Positions → Result} (Q : Answer → Type 0) → Reports w c cs A → ((n : ℕ) → Q (refused n)) → ((P : Positions) → Q (gave (A P)))
     → Q ((outcomeOf w c) .answer)
 unfolding report
 answers-all {w} {c} {cs} {A} Q says k h =
@@ -215,10 +199,10 @@ unfolding tooMany
 none-too-many C = le-ltb C (stretches empty) (omega (arith, empty-stretches))
 
 -- others become an empty store
-pub make-done : (w w′ : List ℕ) → 1 ≤ capacity w → Emptied w w′ → Met w Call.make done w′
+pub make-done : (w w′ : List ℕ) → 1 ≤ capacity w → Emptied w w′ → Met w Call.make (gave done) w′
 unfolding outcomeOf serve overwrite empty bounded
 make-done w w′ h E =
-    met-by (record { answer = done; positions = bounded empty }) (rw (fed-sized w h, none-too-many (capacity w))) (record {
+    met-by (record { answer = gave done; positions = bounded empty }) (rw (fed-sized w h, none-too-many (capacity w))) (record {
       sound = E .sound;
       holds = λ x l. ap (λ P. P x) (E .holds) ∙ sym (and-false (ltb x size));
       long = E .long;

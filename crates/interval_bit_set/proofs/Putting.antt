@@ -16,7 +16,7 @@ use Rattle.model.specs.Bytes.{encode, mapOf, intoFront}
 use Rattle.model.specs.Codec.{encode-length}
 use Rattle.model.specs.Refusals.{storeLength, window, outputShort, Condition, _when_, given, refusal, badWindow, noRoom}
 use Rattle.model.specs.Answers.{writtenAnswer}
-use Rattle.model.specs.Call.{Call, Answer, refused, done, number, value, around, position, listing, drawn, written}
+use Rattle.model.specs.Call.{Call, Answer, gave, written}
 use Rattle.model.specs.Model.{positionsOf, serve, write}
 use Rattle.store.specs.Layout.{heldBy}
 use Rattle.interval_bit_set.specs.declared.look.Look.{Look}
@@ -24,7 +24,7 @@ use Rattle.interval_bit_set.specs.declared.write.Flat.{Flat}
 use Rattle.interval_bit_set.specs.Met.{fedOf, outcomeOf}
 use Rattle.interval_bit_set.specs.Look.{Readable, Looked}
 use Rattle.interval_bit_set.specs.Out.{WritesOut, codeOf, frontOf, flatOf}
-use Rattle.interval_bit_set.proofs.Meeting.{Reports, answers-all, turned-away, refused-by, met}
+use Rattle.interval_bit_set.proofs.Meeting.{Reports, refused-not, answers-all, turned-away, refused-by, met}
 
 -- the bytes of a set are as many as its runs tell
 pub set-length : (P : Positions) → length (encode (heldRuns P)) ≡ 5 + 16 * stretches P
@@ -58,7 +58,7 @@ module _ {w : List ℕ} {c : List ℕ → Call (List ℕ)} {cs : List Condition}
       → WritesOut c w out (Written.Bytes n) out′
   unfolding noRoom
   put-done {n} {out′} R e k h f = record {
-    met = met (puts .says) R (ap (λ t. refusal (outputShort when t ∷ cs)) (room-by false R (le-ltb (length out) (length (B (heldBy w))) h)) ∙ e) tt (ap₂ written k f);
+    met = met (puts .says) R (ap (λ t. refusal (outputShort when t ∷ cs)) (room-by false R (le-ltb (length out) (length (B (heldBy w))) h)) ∙ e) (ap₂ written k f);
     unwritten = tt;
   }
 
@@ -85,20 +85,19 @@ short-after-window base n e = rw e
 -- ---- what is handed back
 -- an answer that gives bytes gives a slice that has as many
 abbrev Within : Answer → Type 0
-Within (refused n) = Unit {0}
-Within done = Unit {0}
-Within (number n) = Unit {0}
-Within (value b) = Unit {0}
-Within (around r) = Unit {0}
-Within (position o) = Unit {0}
-Within (listing l) = Unit {0}
-Within (drawn o l) = Unit {0}
-Within (written n bs) = n ≤ length bs
+Within a = (n : ℕ) (bs : List ℕ) → a ≡ gave (written n bs) → n ≤ length bs
 
 -- bytes that were put into the front of a slice are in it
 front-within : (bs out : List ℕ) → length bs ≤ length (intoFront bs out)
 unfolding intoFront
 front-within bs out = omega (arith, length-append bs (drop (length bs) out))
+
+-- so what a call writes is
+written-within : (n : ℕ) (bs : List ℕ) → n ≤ length bs → Within (gave (written n bs))
+written-within n bs h m cs e =
+    let f : n ≡ m = cc in
+    let g : bs ≡ cs = cc in
+    subst (λ k. k ≤ length cs) f (subst (λ ds. n ≤ length ds) g h)
 
 -- the number and the count f tell the answer a, beside the slice that was left
 pub record Flattens (a : Answer) (f : Flat) (out : List ℕ) : Type 0 where
@@ -109,12 +108,12 @@ pub record Flattens (a : Answer) (f : Flat) (out : List ℕ) : Type 0 where
 -- an answer of a call that writes does so
 flattens : (r : Written) (out : List ℕ) → Within (writtenAnswer r out) → Flattens (writtenAnswer r out) (flatOf r) out
 flattens (Written.Refused r) out h = record { code = refl; front = refl; within = omega arith }
-flattens (Written.Bytes n) out h = record { code = refl; front = refl; within = h }
+flattens (Written.Bytes n) out h = record { code = refl; front = refl; within = h n out refl }
 
 -- so what it wrote is told by them
 pub put-flat : {w : List ℕ} {c : List ℕ → Call (List ℕ)} {cs : List Condition} {B : Positions → List ℕ} {out : List ℕ} → Puts w c cs B out → (r : Written) {out′ : List ℕ} {f : Flat}
     → WritesOut c w out r out′ → f ≡ flatOf r → Flattens ((outcomeOf w (c out)) .answer) f out′
 put-flat {w} {c} {cs} {B} {out} puts r {out′} {f} o e =
     let k : writtenAnswer r out′ ≡ (outcomeOf w (c out)) .answer = o .met .answered in
-    let h : Within ((outcomeOf w (c out)) .answer) = answers-all Within (puts .says) (λ n. tt) (λ P. front-within (B P) out) in
+    let h : Within ((outcomeOf w (c out)) .answer) = answers-all Within (puts .says) (λ n m bs q. absurd (refused-not q)) (λ P. written-within _ _ (front-within (B P) out)) in
     subst (λ (g : Flat). Flattens ((outcomeOf w (c out)) .answer) g out′) (sym e) (subst (λ a. Flattens a (flatOf r) out′) k (flattens r out′ (subst Within (sym k) h)))

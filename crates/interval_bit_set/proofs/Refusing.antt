@@ -6,16 +6,10 @@ use mathlib.Core.Bool.{Bool, true, false, cond}
 use mathlib.Core.List.{List, [], _∷_, _++_}
 use mathlib.Core.Option.{none, some}
 use native.Mathlib.Omega.{arith}
-use Rattle.model.specs.Refusals.{Cause, storeLength, storeUnsound, window, setShort, setVersion, setLength, runOrder, outputShort, Condition, _when_, given, firstGiven, numberOf, refusal}
+use Rattle.model.specs.Refusals.{Cause, storeLength, beforeCapacity, fromCapacity, Condition, _when_, given, firstGiven, numberOf, refusal}
 use Rattle.model.specs.Refusals
-
--- the causes before too many runs; the conditions of no call that makes or changes a store have another
-abbrev pub earlier : List Cause
-earlier = storeLength ∷ storeUnsound ∷ window ∷ setShort ∷ setVersion ∷ setLength ∷ runOrder ∷ []
-
--- and those from there on
-abbrev pub later : List Cause
-later = Refusals.capacity ∷ outputShort ∷ []
+use Rattle.model.specs.Call.{Fed, wrongLength, unsound, holding}
+use Rattle.model.specs.Model.{reads}
 
 -- what the first causes give is given
 first-some : (ks js : List Cause) (cs : List Condition) (n : ℕ) → firstGiven ks cs ≡ some n → firstGiven (ks ++ js) cs ≡ some n
@@ -55,9 +49,16 @@ first-alone (k ∷ ks) js cs e = ap (cond (given k cs) (some (numberOf k))) (fir
 -- ---- of calls that too many runs refuse, with other conditions beside
 module _ (cs : List Condition) where
   -- these come before that
-  pub refused-before : (t : Bool) {n : ℕ} → firstGiven earlier cs ≡ some n → refusal (Refusals.capacity when t ∷ cs) ≡ some n
-  refused-before t {n} e = first-some earlier later (Refusals.capacity when t ∷ cs) n e
+  pub refused-before : (t : Bool) {n : ℕ} → firstGiven beforeCapacity cs ≡ some n → refusal (Refusals.capacity when t ∷ cs) ≡ some n
+  refused-before t {n} e = first-some beforeCapacity fromCapacity (Refusals.capacity when t ∷ cs) n e
 
   -- it counts where they do not
   pub refused-full : refusal cs ≡ none → refusal (Refusals.capacity when true ∷ cs) ≡ some 8
-  refused-full e = first-none earlier later (Refusals.capacity when true ∷ cs) (all-none earlier later cs e)
+  refused-full e = first-none beforeCapacity fromCapacity (Refusals.capacity when true ∷ cs) (all-none beforeCapacity fromCapacity cs e)
+
+-- ---- of calls that read a store, with other conditions beside, none of which is of a store's length
+-- what the store earns is given
+pub reads-first : (s : Fed) (cs : List Condition) {n : ℕ} → given storeLength cs ≡ false → refusal (reads s) ≡ some n → refusal (reads s ++ cs) ≡ some n
+reads-first wrongLength cs g e = e
+reads-first unsound cs g e = rw g e
+reads-first (holding P) cs g e = let z : _≡_ {A = ℕ} 0 1 = cc in absurd (omega arith)

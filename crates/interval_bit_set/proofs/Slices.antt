@@ -1,23 +1,23 @@
 -- A store made of a lent slice of runs: each turn of the two loops takes one run more, and what both end with, the tests between them and
 -- linking are together the call's contract. The order of the list is that of what is left, after what was seen. Assumes nothing.
 use Prim.Native.Nat.{ℕ, suc, _+_, _≤_, _<_, _^_}
-use mathlib.Core.Path.{_≡_, refl, sym, ap, _∙_, subst}
+use mathlib.Core.Path.{_≡_, refl, sym, ap, ap₂, _∙_, subst}
 use mathlib.Core.Bool.{Bool, true, false, _&&_, and-true, not}
 use mathlib.Core.List.{List, [], _∷_, _++_}
 use mathlib.Core.Option.{none, some}
 use native.Mathlib.Omega.{arith}
-use lib.Dec.{leb}
+use lib.Dec.{leb, ltb, eqb}
 use lib.ListN.{length, take, drop, getD, drop-of-length-le}
 use lib.Seq.{drop-cons, take-suc, take-all}
+use borrow.Author.Tests.{eq-eqb, ne-eqb, lt-ltb}
 use Rattle.model.specs.declared.Run.{Run}
-use Rattle.model.specs.declared.Refusal.{Refusal}
-use Rattle.model.specs.declared.Refusal.the-variants.{StoreLength, OutputShort, SetLength, SetVersion, RunOrder, Window, Unsound, Capacity}
 use Rattle.model.specs.declared.Completed.{Completed}
 use Rattle.model.specs.Positions.{run, mem, stretches}
 use Rattle.model.specs.Positions.Runs.{stretches-is}
 use Rattle.model.specs.Codec.{AllWords, ordered-canon}
-use Rattle.model.specs.Refusals.{runOrder, _when_, firstGiven, refusal, orderedFrom, disordered}
-use Rattle.model.specs.Call.{Call, refused}
+use Rattle.model.specs.Refusals.{storeLength, runOrder, _when_, refusal, earnsLength, orderedFrom, disordered, tooMany}
+use Rattle.model.specs.Refusals
+use Rattle.model.specs.Call.{Call}
 use Rattle.model.specs.Answers.{completedAnswer}
 use Rattle.model.specs.Model.{serve}
 use Rattle.run_index.specs.Cells.{Room, Wrote}
@@ -27,10 +27,10 @@ use Rattle.written.specs.Listed.{leastAfter, Listed}
 use Rattle.written.proofs.Listing.{listed-none, listed-step, listed-all, listed-room, listed-linkable, listed-settled}
 use Rattle.interval_bit_set.specs.declared.runs.Order.{Order}
 use Rattle.interval_bit_set.specs.declared.runs.Verdict.{Verdict}
-use Rattle.interval_bit_set.specs.Met.{outcomeOf, Met}
-use Rattle.interval_bit_set.specs.RunSlice.{orderStep, InOrder, Refuses, Rules, Admits, Putting, Put, LinkableIf, Finishing, LinksIf, Finished}
-use Rattle.interval_bit_set.proofs.Carrying.{build-says, own-short, refused-early, over-full, overwritten}
-use Rattle.interval_bit_set.proofs.Refusing.{earlier}
+use Rattle.interval_bit_set.specs.Met.{fedOf, outcomeOf, Met}
+use Rattle.interval_bit_set.specs.RunSlice.{orderStep, InOrder, buildConditions, Rules, Admits, Putting, Put, LinkableIf, Finishing, LinksIf, Finished}
+use Rattle.interval_bit_set.proofs.Carrying.{build-says, refused-due, overwritten}
+use Rattle.interval_bit_set.proofs.Meeting.{fed-length}
 
 -- ---- the order test
 -- where it starts
@@ -110,6 +110,40 @@ disordered-is : (rs : List Run) {b : Bool} → orderedFrom 0 rs ≡ b → disord
 unfolding disordered
 disordered-is rs q = ap not q
 
+-- what is refused before too many runs does not ask how many there are
+order-first : (z m m′ b : Bool) → (b ≡ true → m ≡ m′)
+    → refusal (storeLength when z ∷ Refusals.capacity when m ∷ runOrder when not b ∷ []) ≡ refusal (storeLength when z ∷ Refusals.capacity when m′ ∷ runOrder when not b ∷ [])
+order-first z m m′ true h = ap (λ k. refusal (storeLength when z ∷ Refusals.capacity when k ∷ [])) (h refl)
+order-first true m m′ false h = refl
+order-first false m m′ false h = refl
+
+-- so the model refuses building what the conditions of so many runs do: in order, the list's runs are those of its set
+built-due : (w : List ℕ) {rs : List Run} {o : Order} → InOrder rs o
+    → refusal (storeLength when earnsLength (fedOf w) ∷ Refusals.capacity when tooMany (capacity w) (mem rs) ∷ runOrder when disordered rs ∷ [])
+    ≡ refusal (buildConditions (capacity w) (length rs) (o .ordered))
+unfolding tooMany
+built-due w {rs} {o} seen =
+    ap₂ (λ z d. refusal (storeLength when z ∷ Refusals.capacity when tooMany (capacity w) (mem rs) ∷ runOrder when d ∷ [])) (fed-length w) (disordered-is rs (sym (seen .told)))
+    ∙ order-first (eqb (capacity w) 0) (tooMany (capacity w) (mem rs)) (ltb (capacity w) (length rs)) (o .ordered) (λ e. ap (ltb (capacity w)) (long e))
+  where
+    long : o .ordered ≡ true → stretches (mem rs) ≡ length rs
+    long e = stretches-is (mem rs) rs (ordered-canon 0 rs (seen .words) (sym (seen .told) ∙ e)) (λ x h. refl)
+
+-- the tests of the code, one after the other
+module _ (C n : ℕ) (b : Bool) where
+  -- no store's length
+  pub built-short : C ≡ 0 → refusal (buildConditions C n b) ≡ some 1
+  built-short e = rw (eq-eqb C 0 e)
+
+  module _ (sized : 1 ≤ C) where
+    -- runs out of order
+    pub built-disordered : b ≡ false → refusal (buildConditions C n b) ≡ some 5
+    built-disordered e = rw (ne-eqb C 0 (λ z. omega arith), e)
+
+    -- more of them than the capacity
+    pub built-full : b ≡ true → C < n → refusal (buildConditions C n b) ≡ some 8
+    built-full e h = rw (ne-eqb C 0 (λ z. omega arith), e, lt-ltb C n h)
+
 module _ {w : List ℕ} {rs : List Run} {o : Order} (seen : InOrder rs o) (a : Verdict) (rules : Admits (capacity w) (length rs) o a) where
   -- the runs that were admitted can be written
   pub admitted-putting : Putting w rs (a .runs)
@@ -140,25 +174,9 @@ module _ {w : List ℕ} {rs : List Run} {o : Order} (seen : InOrder rs o) (a : V
         untouched : (k : ℕ) → k ≡ 0 → Put w w′ rs k → w″ ≡ w′ → w″ ≡ w
         untouched k e p l = l ∙ p .none e
 
-        long : o .ordered ≡ true → stretches (mem rs) ≡ length rs
-        long e = stretches-is (mem rs) rs (ordered-canon 0 rs (seen .words) (sym (seen .told) ∙ e)) (λ x h. refl)
-
         quiet : o .ordered ≡ true → refusal (runOrder when disordered rs ∷ []) ≡ none
         quiet e = ap (λ b. refusal (runOrder when b ∷ [])) (disordered-is rs (sym (seen .told) ∙ e))
 
-        loud : o .ordered ≡ false → firstGiven earlier (runOrder when disordered rs ∷ []) ≡ some 5
-        loud e = ap (λ b. firstGiven earlier (runOrder when b ∷ [])) (disordered-is rs (sym (seen .told) ∙ e))
-
-        refuses : (r : Refusal) → Refuses (capacity w) (length rs) (o .ordered) r → w″ ≡ w → Met w (Call.build rs) (completedAnswer (Completed.Refused r)) w″
-        refuses StoreLength h q = subst (Met w (Call.build rs) (refused 1)) (sym q) (own-short (build-says w rs) h)
-        refuses RunOrder h q = subst (Met w (Call.build rs) (refused 5)) (sym q) (refused-early (build-says w rs) (h .0) (loud (h .1)))
-        refuses Capacity h q = over-full (build-says w rs) (h .0) (mem rs) (quiet (h .1)) (λ x l. refl) (omega (arith, long (h .1), h .2), q)
-        refuses OutputShort h q = absurd h
-        refuses SetLength h q = absurd h
-        refuses SetVersion h q = absurd h
-        refuses Window h q = absurd h
-        refuses Unsound h q = absurd h
-
         go : (c : Completed) (k : ℕ) → Rules (capacity w) (length rs) (o .ordered) c k → Put w w′ rs k → LinksIf w′ w″ c k → Met w (Call.build rs) (completedAnswer c) w″
-        go (Completed.Refused r) k h p l = refuses r (h .1) (untouched k (h .0) p l)
+        go (Completed.Refused r) k h p l = refused-due (build-says w rs) (built-due w seen ∙ h .1) (untouched k (h .0) p l)
         go Completed.Done k h p l = overwritten (build-says w rs) (h .1) (mem rs) (quiet (h .2)) (λ x z. refl) (listed-settled (all-listed k (h .0) p) l)

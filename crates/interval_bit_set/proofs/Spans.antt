@@ -18,7 +18,7 @@ use Rattle.model.specs.Positions.{Positions, find, count, select, countRanges, 
 use Rattle.model.specs.Positions.Laws.{count-none}
 use Rattle.model.specs.Positions.Runs.{runsIn-none}
 use Rattle.model.specs.Positions.Finds.{find-none, select-none}
-use Rattle.model.specs.Call.{Answer, position}
+use Rattle.model.specs.Call.{Answer, gave, position}
 use Rattle.reports.specs.Reports.{edgePosition}
 use Rattle.interval_bit_set.specs.Look.{foundEdge}
 
@@ -95,6 +95,6 @@ listed-nothing a n v e = sym (ap (λ k. listed a k v) e)
 
 -- ---- a position that was searched for
 -- its answer is the position or none
-pub found-as : {a : Answer} {p : Option ℕ} (e : Edge) → a ≡ foundEdge e → edgePosition e ≡ p → a ≡ position p
-found-as (At x) h k = h ∙ ap position k
-found-as Nowhere h k = h ∙ ap position k
+pub found-as : {a : Answer} {p : Option ℕ} (e : Edge) → a ≡ foundEdge e → edgePosition e ≡ p → a ≡ gave (position p)
+found-as (At x) h k = h ∙ ap (λ q. gave (position q)) k
+found-as Nowhere h k = h ∙ ap (λ q. gave (position q)) k

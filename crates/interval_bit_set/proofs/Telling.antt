@@ -14,11 +14,11 @@ use Rattle.model.specs.Numbers.{refusalNumber}
 use Rattle.model.specs.Positions.{stretches, mem}
 use Rattle.model.specs.Positions.Runs.{stretches-is}
 use Rattle.model.specs.Bytes.{valueOf, runsDue, decodeRuns, decode}
-use Rattle.model.specs.Refusals.{runOrder, _when_, firstGiven, refusal, tooShort, badVersion, badLength, orderedFrom, disordered, setConditions}
+use Rattle.model.specs.Refusals.{runOrder, beforeCapacity, fromCapacity, _when_, firstGiven, refusal, tooShort, badVersion, badLength, orderedFrom, disordered, setConditions}
 use Rattle.model.specs.Codec.{AllBytes, AllWords, decode-length, decode-words, ordered-canon}
 use Rattle.interval_bit_set.specs.declared.bytes.Told.{Told}
 use Rattle.interval_bit_set.specs.Told.{Acceptable, TellsRuns}
-use Rattle.interval_bit_set.proofs.Refusing.{earlier, later, first-alone}
+use Rattle.interval_bit_set.proofs.Refusing.{first-alone}
 
 -- ---- runs in order
 module _ (rs : List Run) where
@@ -33,7 +33,7 @@ module _ (rs : List Run) where
     disorder-is b h = ap not (sym tested) ∙ h
 
     -- others are refused
-    pub order-refused : not r ≡ true → firstGiven earlier (runOrder when disordered rs ∷ []) ≡ some 5
+    pub order-refused : not r ≡ true → firstGiven beforeCapacity (runOrder when disordered rs ∷ []) ≡ some 5
     order-refused h = rw (disorder-is true h)
 
     -- and these not
@@ -117,8 +117,8 @@ module _ (bs : List ℕ) where
 
   -- ---- what is told
   -- a refusal comes before too many runs
-  pub told-refused : {r : Refusal} (t : Told) → TellsRuns bs t → t ≡ Told.Refused r → firstGiven earlier (setConditions bs) ≡ some (refusalNumber r)
-  told-refused t k e = sym (first-alone earlier later (setConditions bs) refl) ∙ subst (λ s. TellsRuns bs s) e k
+  pub told-refused : {r : Refusal} (t : Told) → TellsRuns bs t → t ≡ Told.Refused r → firstGiven beforeCapacity (setConditions bs) ≡ some (refusalNumber r)
+  told-refused t k e = sym (first-alone beforeCapacity fromCapacity (setConditions bs) refl) ∙ subst (λ s. TellsRuns bs s) e k
 
   -- else runs
   pub told-accepted : {n : ℕ} (t : Told) → TellsRuns bs t → t ≡ Told.Runs n → Acceptable bs n

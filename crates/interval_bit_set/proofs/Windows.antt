@@ -15,9 +15,8 @@ use Rattle.model.specs.Numbers.{size, worth, split}
 use Rattle.model.specs.Positions.{Positions, count}
 use Rattle.model.specs.Positions.Laws.{count-both}
 use Rattle.model.specs.Bytes.{fillOf}
-use Rattle.model.specs.Refusals.{window, Condition, _when_, firstGiven, refusal, badWindow, badMap}
+use Rattle.model.specs.Refusals.{window, beforeCapacity, Condition, _when_, firstGiven, refusal, badWindow, badMap}
 use Rattle.maps.specs.Window.{Window}
-use Rattle.interval_bit_set.proofs.Refusing.{earlier}
 
 -- the conditions of a window that is read from a map
 abbrev pub mapConditions : ℕ → ℕ → List ℕ → List Condition
@@ -90,11 +89,11 @@ module _ (base n : ℕ) where
   -- with its map
   module _ (bs : List ℕ) where
     -- it is refused if it is none
-    pub map-window-refused : badWindow base n ≡ true → firstGiven earlier (mapConditions base n bs) ≡ some 6
+    pub map-window-refused : badWindow base n ≡ true → firstGiven beforeCapacity (mapConditions base n bs) ≡ some 6
     map-window-refused e = rw e
 
     -- or if its map has another length
-    pub map-length-refused : badWindow base n ≡ false → badMap n bs ≡ true → firstGiven earlier (mapConditions base n bs) ≡ some 6
+    pub map-length-refused : badWindow base n ≡ false → badMap n bs ≡ true → firstGiven beforeCapacity (mapConditions base n bs) ≡ some 6
     map-length-refused e f = rw (e, f)
 
     -- and else not

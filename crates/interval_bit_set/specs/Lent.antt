@@ -7,7 +7,7 @@ use mathlib.Core.Option.{none, some}
 use Rattle.model.specs.declared.Drawn.{Drawn}
 use Rattle.model.specs.declared.Listing.{Listing}
 use Rattle.model.specs.Numbers.{refusalNumber}
-use Rattle.model.specs.Call.{Call, Answer, refused, drawn}
+use Rattle.model.specs.Call.{Call, Answer, refused, gave, drawn}
 use Rattle.interval_bit_set.specs.declared.listing.Item.{Item}
 use Rattle.interval_bit_set.specs.declared.listing.Draw.{Draw}
 use Rattle.interval_bit_set.specs.Met.{Met}
@@ -24,8 +24,8 @@ movedBy (Drawn.End l) a b = record { next = Item.End; first = l .first; last = l
 -- the answer of a draw that left the listing l
 abbrev pub itemAnswer : Item → Listing → Answer
 itemAnswer (Item.Refused r) l = refused (refusalNumber r)
-itemAnswer (Item.Run r) l = drawn (some r) l
-itemAnswer Item.End l = drawn none l
+itemAnswer (Item.Run r) l = gave (drawn (some r) l)
+itemAnswer Item.End l = gave (drawn none l)
 
 -- a refused draw does not move the listing
 abbrev pub Unmoved : Item → Listing → Listing → Type 0

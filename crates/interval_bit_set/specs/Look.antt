@@ -2,12 +2,11 @@
 use Prim.Native.Nat.{ℕ}
 use mathlib.Core.Path.{_≡_}
 use mathlib.Core.List.{List, _++_}
-use Rattle.model.specs.declared.Refusal.{Refusal}
-use Rattle.model.specs.declared.Refusal.the-variants.{StoreLength, OutputShort, SetLength, SetVersion, RunOrder, Window, Unsound, Capacity}
-use mathlib.Core.Option.{Option, none, some}
+use Rattle.model.specs.declared.Refusal.the-variants.{Capacity}
+use mathlib.Core.Option.{none, some}
 use Rattle.model.specs.declared.Edge.{Edge}
 use Rattle.model.specs.declared.Edge.the-variants.{At, Nowhere}
-use Rattle.model.specs.Call.{Fed, wrongLength, unsound, holding, Answer, position}
+use Rattle.model.specs.Call.{holding, Answer, gave, position}
 use Rattle.model.specs.Numbers.{refusalNumber}
 use Rattle.model.specs.declared.Completed.{Completed}
 use Rattle.model.specs.Refusals.{refusal}
@@ -18,23 +17,14 @@ use Rattle.store.specs.Soundness.{Sound}
 use Rattle.interval_bit_set.specs.declared.look.Look.{Look}
 use Rattle.interval_bit_set.specs.Met.{fedOf}
 
--- the refusal that the store earns, or that it is sound and fed as its positions
-abbrev pub Earned : List ℕ → Refusal → Type 0
-Earned w StoreLength = fedOf w ≡ wrongLength
-Earned w Unsound = fedOf w ≡ unsound
-Earned w OutputShort = ⊥
-Earned w SetLength = ⊥
-Earned w SetVersion = ⊥
-Earned w RunOrder = ⊥
-Earned w Window = ⊥
-Earned w Capacity = ⊥
-
+-- a store that can be read: it is sound, and fed as its positions
 pub record Readable (w : List ℕ) : Type 0 where
   pub sound : Sound w
   pub fed : fedOf w ≡ holding (heldBy w)
 
+-- the refusal that the store's conditions give, or that it is readable
 abbrev pub Looked : List ℕ → Look → Type 0
-Looked w (Look.Refused r) = Earned w r
+Looked w (Look.Refused r) = refusal (reads (fedOf w)) ≡ some (refusalNumber r)
 Looked w Look.Sound = Readable w
 
 -- the same of two stores: the first refusal that the conditions of both give, or that both are readable
@@ -49,5 +39,5 @@ completedBy Fit.Done = Completed.Done
 
 -- a position that was searched for, as an answer
 abbrev pub foundEdge : Edge → Answer
-foundEdge (At x) = position (some x)
-foundEdge Nowhere = position none
+foundEdge (At x) = gave (position (some x))
+foundEdge Nowhere = gave (position none)

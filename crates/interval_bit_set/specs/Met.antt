@@ -7,24 +7,7 @@ use mathlib.Core.Bool.{Bool, true, false, cond}
 use mathlib.Core.List.{List}
 use lib.Dec.{eqb}
 use Rattle.model.specs.Positions.{Positions}
-use Rattle.model.specs.Call.{
-  Fed,
-  wrongLength,
-  unsound,
-  holding,
-  Call,
-  feed,
-  Answer,
-  refused,
-  done,
-  number,
-  value,
-  around,
-  position,
-  listing,
-  drawn,
-  written,
-}
+use Rattle.model.specs.Call.{Fed, wrongLength, unsound, holding, Call, feed, Answer, refused, gave}
 use Rattle.model.specs.Model.{Outcome, serve}
 use Rattle.store.specs.Layout.{capacity, heldBy}
 use Rattle.store.specs.Decision.{soundB}
@@ -41,14 +24,7 @@ outcomeOf w c = serve (capacity w) (fedOf w) (feed fedOf c)
 -- what is left of the words: all as it was after a refusal, else a sound store of the same length that holds the outcome's positions
 abbrev pub Leaves : List ℕ → List ℕ → Positions → Answer → Type 0
 Leaves w w′ P (refused n) = w′ ≡ w
-Leaves w w′ P done = Settled w w′ P
-Leaves w w′ P (number n) = Settled w w′ P
-Leaves w w′ P (value b) = Settled w w′ P
-Leaves w w′ P (around r) = Settled w w′ P
-Leaves w w′ P (position o) = Settled w w′ P
-Leaves w w′ P (listing l) = Settled w w′ P
-Leaves w w′ P (drawn o l) = Settled w w′ P
-Leaves w w′ P (written n bs) = Settled w w′ P
+Leaves w w′ P (gave r) = Settled w w′ P
 
 -- THE CONTRACT of a call c on the words w that answered a and left w′
 pub record Met (w : List ℕ) (c : Call (List ℕ)) (a : Answer) (w′ : List ℕ) : Type 0 where

@@ -6,7 +6,7 @@ use lib.ListN.{take}
 use Rattle.model.specs.declared.Written.{Written}
 use Rattle.model.specs.Numbers.{refusalNumber}
 use Rattle.model.specs.Answers.{writtenAnswer}
-use Rattle.model.specs.Call.{Call, Answer, refused, done, number, value, around, position, listing, drawn, written}
+use Rattle.model.specs.Call.{Call, Result, done, number, value, around, position, listing, drawn, written, Answer, refused, gave}
 use Rattle.interval_bit_set.specs.declared.write.Flat.{Flat}
 use Rattle.interval_bit_set.specs.Met.{Met}
 
@@ -20,28 +20,25 @@ pub record WritesOut (c : List ℕ → Call (List ℕ)) (w out : List ℕ) (r : 
   pub met : Met w (c out) (writtenAnswer r out′) w
   pub unwritten : Unwritten r out out′
 
+-- what f makes of the bytes that a result wrote: how many they are, and the whole slice. Any other result gives d
+abbrev pub onWritten : {T : Type 0} → T → (ℕ → List ℕ → T) → Result → T
+onWritten d f done = d
+onWritten d f (number n) = d
+onWritten d f (value b) = d
+onWritten d f (around r) = d
+onWritten d f (position o) = d
+onWritten d f (listing l) = d
+onWritten d f (drawn o l) = d
+onWritten d f (written n bs) = f n bs
+
 -- an answer as a number, 0 where it is no refusal, and as the bytes written
 abbrev pub codeOf : Answer → ℕ
 codeOf (refused n) = n
-codeOf done = 0
-codeOf (number n) = 0
-codeOf (value b) = 0
-codeOf (around r) = 0
-codeOf (position o) = 0
-codeOf (listing l) = 0
-codeOf (drawn o l) = 0
-codeOf (written n bs) = 0
+codeOf (gave r) = 0
 
 abbrev pub frontOf : Answer → List ℕ
 frontOf (refused n) = []
-frontOf done = []
-frontOf (number n) = []
-frontOf (value b) = []
-frontOf (around r) = []
-frontOf (position o) = []
-frontOf (listing l) = []
-frontOf (drawn o l) = []
-frontOf (written n bs) = take n bs
+frontOf (gave r) = onWritten [] take r
 
 abbrev pub flatOf : Written → Flat
 flatOf (Written.Refused r) = record { refusal = refusalNumber r; bytes = 0 }

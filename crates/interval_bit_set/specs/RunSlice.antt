@@ -1,17 +1,17 @@
 -- Making a store of a lent slice of runs: what the order test, the capacity test and the two ends of writing tell and ask.
 -- Assumes nothing: these are definitions.
-use Prim.Native.Nat.{ℕ, _≤_, _<_}
+use Prim.Native.Nat.{ℕ, _≤_}
 use mathlib.Core.Path.{_≡_}
-use mathlib.Core.Bool.{Bool, true, false, _&&_}
-use mathlib.Core.List.{List}
-use lib.Dec.{leb}
+use mathlib.Core.Bool.{Bool, true, false, not, _&&_}
+use mathlib.Core.List.{List, [], _∷_}
+use mathlib.Core.Option.{some}
+use lib.Dec.{leb, ltb, eqb}
 use lib.ListN.{length, take}
 use Rattle.model.specs.declared.Run.{Run}
-use Rattle.model.specs.declared.Refusal.{Refusal}
-use Rattle.model.specs.declared.Refusal.the-variants.{StoreLength, OutputShort, SetLength, SetVersion, RunOrder, Window, Unsound, Capacity}
 use Rattle.model.specs.declared.Completed.{Completed}
 use Rattle.model.specs.Codec.{AllWords}
-use Rattle.model.specs.Refusals.{orderedFrom}
+use Rattle.model.specs.Numbers.{refusalNumber}
+use Rattle.model.specs.Refusals.{storeLength, runOrder, capacity, Condition, _when_, refusal, orderedFrom}
 use Rattle.store.specs.Settle.{Linkable, Links}
 use Rattle.written.specs.Listed.{leastAfter, Receives, Listed}
 use Rattle.interval_bit_set.specs.declared.runs.Order.{Order}
@@ -26,20 +26,13 @@ pub record InOrder (rs : List Run) (o : Order) : Type 0 where
   pub told : o .ordered ≡ orderedFrom 0 rs
   pub words : AllWords rs
 
--- the refusal that a list of n runs earns at a capacity: with it, none go into the store
-abbrev pub Refuses : ℕ → ℕ → Bool → Refusal → Type 0
-Refuses C n b StoreLength = C ≡ 0
-Refuses C n b RunOrder = (1 ≤ C) × (b ≡ false)
-Refuses C n b Capacity = (1 ≤ C) × (b ≡ true) × (C < n)
-Refuses C n b OutputShort = ⊥
-Refuses C n b SetLength = ⊥
-Refuses C n b SetVersion = ⊥
-Refuses C n b Window = ⊥
-Refuses C n b Unsound = ⊥
+-- the conditions of building n runs at the capacity C, where b says whether they are in order
+abbrev pub buildConditions : ℕ → ℕ → Bool → List Condition
+buildConditions C n b = storeLength when eqb C 0 ∷ capacity when ltb C n ∷ runOrder when not b ∷ []
 
--- the answer, and how many runs go in
+-- the answer, and how many runs go in: none with a refusal, which is the one that the conditions give
 abbrev pub Rules : ℕ → ℕ → Bool → Completed → ℕ → Type 0
-Rules C n b (Completed.Refused r) k = (k ≡ 0) × Refuses C n b r
+Rules C n b (Completed.Refused r) k = (k ≡ 0) × (refusal (buildConditions C n b) ≡ some (refusalNumber r))
 Rules C n b Completed.Done k = (k ≡ n) × (1 ≤ C) × (b ≡ true) × (n ≤ C)
 
 abbrev pub Admits : ℕ → ℕ → Order → Verdict → Type 0

@@ -15,13 +15,13 @@ use Rattle.model.specs.Positions.{Positions, empty, mem, bounded}
 use Rattle.model.specs.Bytes.{decode}
 use Rattle.model.specs.Refusals.{Condition, _when_, refusal, storeLength, setConditions, tooMany}
 use Rattle.model.specs.Refusals.{capacity as tooMuch}
-use Rattle.model.specs.Call.{Call, refused, done}
+use Rattle.model.specs.Call.{Call, done, refused, gave}
 use Rattle.model.specs.Answers.{completedAnswer}
 use Rattle.model.specs.Model.{Outcome, positionsOf, overwrites, settle, overwrite, serve, step}
 use Rattle.store.specs.Layout.{capacity, heldBy}
 use Rattle.store.specs.Soundness.{Sound}
 use Rattle.interval_bit_set.specs.Met.{fedOf, outcomeOf, Met}
-use Rattle.interval_bit_set.proofs.Meeting.{Plain, fed-sized}
+use Rattle.interval_bit_set.proofs.Meeting.{refused-not, fed-sized}
 use Rattle.lockstep.specs.Follow.{overwritten}
 use Rattle.listset.specs.Text.{tooLongLine, refusedLine, setLines, outcomeLines, loaded, printed}
 use Rattle.listset.specs.Put.{Puts}
@@ -60,7 +60,7 @@ module _ (bs : List ℕ) where
 
   by-cause : {n : ℕ} (P : Positions) (y : Option ℕ) → refused n ≡ (settle y P done (bounded held)) .answer
       → lines (settle y empty done (bounded held)) ≡ refusedLine n
-  by-cause P none e = absurd (subst Plain (sym e) tt)
+  by-cause P none e = absurd (refused-not e)
   by-cause {n} P (some k) e = let f : k ≡ n = cc in ap refusedLine f
 
   module _ (w : List ℕ) (z : capacity w ≡ 950) where
@@ -73,7 +73,7 @@ module _ (bs : List ℕ) where
     unfolding conditions
     cause = ap (λ t. refusal (conditions t)) (fed-sized w (omega (arith, z)))
 
-    load-done : {w′ : List ℕ} → Met w (Call.load bs) done w′ → Sound w′ × (capacity w′ ≡ 950) × (lines (loaded bs) ≡ setLines (heldBy w′))
+    load-done : {w′ : List ℕ} → Met w (Call.load bs) (gave done) w′ → Sound w′ × (capacity w′ ≡ 950) × (lines (loaded bs) ≡ setLines (heldBy w′))
     load-done m =
         let o = overwritten (fedOf w) (setConditions bs) held z outcome-is m in (
           o .1 .sound,

@@ -17,19 +17,19 @@ use Rattle.model.specs.declared.Numbered.{Numbered}
 use Rattle.model.specs.declared.Counted.{Counted}
 use Rattle.model.specs.declared.Listed.{Listed}
 use Rattle.model.specs.declared.Drawn.{Drawn}
-use Rattle.model.specs.Numbers.{size, split, worth, refusalNumber}
+use Rattle.model.specs.Numbers.{size, split, worth}
 use Rattle.model.specs.Positions.{Positions, runsIn, remaining, pastFirst, ended, count, stretches, heldRuns, mem}
 use Rattle.model.specs.Positions
 use Rattle.model.specs.Positions.Laws.{among-yes}
 use Rattle.model.specs.Positions.Runs.{runsIn-canon, runsIn-mem, runsIn-is, runsIn-none}
 use Rattle.model.specs.RunList.{Canon, canon-weaken, mem-above}
-use Rattle.model.specs.Call.{Call, Answer, refused, number, listing, drawn}
+use Rattle.model.specs.Call.{Call, number, listing, drawn, Answer, gave}
 use Rattle.model.specs.Answers.{numberedAnswer, countedAnswer, listedAnswer, drawnAnswer}
 use Rattle.model.specs.Model.{report, drawnFirst, serve, step}
 use Rattle.store.specs.Layout.{capacity, heldBy}
 use Rattle.store.specs.Soundness.{Sound}
 use Rattle.interval_bit_set.specs.Met.{Met}
-use Rattle.interval_bit_set.proofs.Meeting.{Plain}
+use Rattle.interval_bit_set.proofs.Meeting.{refused-not}
 use Rattle.lockstep.specs.Follow.{Holds, answer-is}
 
 -- what follows the first run
@@ -85,59 +85,58 @@ Given (some r) = Unit {0}
 
 -- what the calls answer of a sound store: none is refused, and a draw gives the first run that is left
 module _ (w : List ℕ) (S : Sound w) where
-  answers-runs : {a : Answer} → Met w (Call.countRanges Unbounded Unbounded true) a w → a ≡ number (stretches (heldBy w))
+  answers-runs : {a : Answer} → Met w (Call.countRanges Unbounded Unbounded true) a w → a ≡ gave (number (stretches (heldBy w)))
   unfolding step serve report stretches heldRuns Positions.countRanges
   answers-runs m = answer-is (holds w S) m
 
-  answers-ones : {a : Answer} → Met w (Call.count Unbounded Unbounded true) a w → a ≡ number (count (heldBy w) true 0 size)
+  answers-ones : {a : Answer} → Met w (Call.count Unbounded Unbounded true) a w → a ≡ gave (number (count (heldBy w) true 0 size))
   unfolding step serve report
   answers-ones m = answer-is (holds w S) m
 
-  answers-listing : {a : Answer} → Met w (Call.ranges Unbounded Unbounded true) a w → a ≡ listing (record { first = 0; last = size - 1; value = true })
+  answers-listing : {a : Answer} → Met w (Call.ranges Unbounded Unbounded true) a w → a ≡ gave (listing (record { first = 0; last = size - 1; value = true }))
   unfolding step serve report
   answers-listing m = answer-is (holds w S) m
 
   answers-draw : {a : Answer} (l : Listing) {r : Run} {rs : List Run} → remaining (heldBy w) l ≡ r ∷ rs → Met w (Call.drawFront l) a w
-      → a ≡ drawn (some r) (pastFirst l (some r))
+      → a ≡ gave (drawn (some r) (pastFirst l (some r)))
   unfolding step serve report drawnFirst
-  answers-draw l e m = answer-is (holds w S) m ∙ ap (λ ss. drawn (Positions.firstRun ss) (pastFirst l (Positions.firstRun ss))) e
+  answers-draw l e m = answer-is (holds w S) m ∙ ap (λ ss. gave (drawn (Positions.firstRun ss) (pastFirst l (Positions.firstRun ss)))) e
 
   module _ (n : Numbered) (m : Met w (Call.countRanges Unbounded Unbounded true) (numberedAnswer n) w) where
     pub runs-told : {k : ℕ} → n ≡ Numbered.Number k → k ≡ stretches (heldBy w)
-    runs-told {k} e = let h : number k ≡ number (stretches (heldBy w)) = ap numberedAnswer (sym e) ∙ answers-runs m in cc
+    runs-told {k} e = let h : gave (number k) ≡ gave (number (stretches (heldBy w))) = ap numberedAnswer (sym e) ∙ answers-runs m in cc
 
     pub runs-refused : {r : Refusal} → n ≡ Numbered.Refused r → ⊥
-    runs-refused {r} e = let h : refused (refusalNumber r) ≡ number (stretches (heldBy w)) = ap numberedAnswer (sym e) ∙ answers-runs m in subst Plain (sym h) tt
+    runs-refused e = refused-not (ap numberedAnswer (sym e) ∙ answers-runs m)
 
   module _ (n : Counted) (m : Met w (Call.count Unbounded Unbounded true) (countedAnswer n) w) where
     pub ones-told : {k : Count} → n ≡ Counted.Count k → worth k ≡ count (heldBy w) true 0 size
-    ones-told {k} e = let h : number (worth k) ≡ number (count (heldBy w) true 0 size) = ap countedAnswer (sym e) ∙ answers-ones m in cc
+    ones-told {k} e = let h : gave (number (worth k)) ≡ gave (number (count (heldBy w) true 0 size)) = ap countedAnswer (sym e) ∙ answers-ones m in cc
 
     pub ones-refused : {r : Refusal} → n ≡ Counted.Refused r → ⊥
-    ones-refused {r} e = let h : refused (refusalNumber r) ≡ number (count (heldBy w) true 0 size) = ap countedAnswer (sym e) ∙ answers-ones m in subst Plain (sym h) tt
+    ones-refused e = refused-not (ap countedAnswer (sym e) ∙ answers-ones m)
 
   module _ (n : Listed) (m : Met w (Call.ranges Unbounded Unbounded true) (listedAnswer n) w) where
     pub listing-told : {k : Listing} → n ≡ Listed.Listing k → remaining (heldBy w) k ≡ heldRuns (heldBy w)
     unfolding remaining heldRuns
     listing-told {k} e =
-        let h : listing k ≡ listing (record { first = 0; last = size - 1; value = true }) = ap listedAnswer (sym e) ∙ answers-listing m in
+        let h : gave (listing k) ≡ gave (listing (record { first = 0; last = size - 1; value = true })) = ap listedAnswer (sym e) ∙ answers-listing m in
         let g : k ≡ record { first = 0; last = size - 1; value = true } = cc in
         ap (remaining (heldBy w)) g
 
     pub listing-refused : {r : Refusal} → n ≡ Listed.Refused r → ⊥
-    listing-refused {r} e =
-        let h : refused (refusalNumber r) ≡ listing (record { first = 0; last = size - 1; value = true }) = ap listedAnswer (sym e) ∙ answers-listing m in subst Plain (sym h) tt
+    listing-refused e = refused-not (ap listedAnswer (sym e) ∙ answers-listing m)
 
   module _ (n : Drawn) (l : Listing) (m : Met w (Call.drawFront l) (drawnAnswer n) w) {r : Run} {rs : List Run} (left : remaining (heldBy w) l ≡ r ∷ rs) where
     pub draw-told : {q : Run} {k : Listing} → n ≡ Drawn.Run q k → (q ≡ r) × (remaining (heldBy w) k ≡ rs)
     draw-told {q} {k} e =
-        let h : drawn (some q) k ≡ drawn (some r) (pastFirst l (some r)) = ap drawnAnswer (sym e) ∙ answers-draw l left m in
+        let h : gave (drawn (some q) k) ≡ gave (drawn (some r) (pastFirst l (some r))) = ap drawnAnswer (sym e) ∙ answers-draw l left m in
         let g : k ≡ pastFirst l (some r) = cc in
         let f : q ≡ r = cc in
         (f, ap (remaining (heldBy w)) g ∙ remaining-past (heldBy w) l r rs left)
 
     pub draw-refused : {q : Refusal} → n ≡ Drawn.Refused q → ⊥
-    draw-refused {q} e = let h : refused (refusalNumber q) ≡ drawn (some r) (pastFirst l (some r)) = ap drawnAnswer (sym e) ∙ answers-draw l left m in subst Plain (sym h) tt
+    draw-refused e = refused-not (ap drawnAnswer (sym e) ∙ answers-draw l left m)
 
     pub draw-ended : {k : Listing} → n ≡ Drawn.End k → ⊥
-    draw-ended {k} e = let h : drawn none k ≡ drawn (some r) (pastFirst l (some r)) = ap drawnAnswer (sym e) ∙ answers-draw l left m in let g : none ≡ some r = cc in subst Given (sym g) tt
+    draw-ended {k} e = let h : gave (drawn none k) ≡ gave (drawn (some r) (pastFirst l (some r))) = ap drawnAnswer (sym e) ∙ answers-draw l left m in let g : none ≡ some r = cc in subst Given (sym g) tt

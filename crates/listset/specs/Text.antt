@@ -9,7 +9,7 @@ use Rattle.io.specs.Digits.{digits}
 use Rattle.model.specs.declared.Run.{Run}
 use Rattle.model.specs.Numbers.{size}
 use Rattle.model.specs.Positions.{Positions, count, heldRuns, stretches, empty}
-use Rattle.model.specs.Call.{Call, Answer, refused, done, number, value, around, position, listing, drawn, written}
+use Rattle.model.specs.Call.{Call, Answer, refused, gave}
 use Rattle.model.specs.Model.{Outcome, step}
 
 -- how many decimal digits n has, if not more than f + 1
@@ -61,14 +61,7 @@ setLines P = countLines (stretches P) (count P true 0 size) ++ runLines (heldRun
 -- the lines of an outcome: the refusal's number alone, or the set
 abbrev pub outcomeLines : Answer → Positions → List ℕ
 outcomeLines (refused n) P = refusedLine n
-outcomeLines done P = setLines P
-outcomeLines (number n) P = setLines P
-outcomeLines (value b) P = setLines P
-outcomeLines (around r) P = setLines P
-outcomeLines (position o) P = setLines P
-outcomeLines (listing l) P = setLines P
-outcomeLines (drawn o l) P = setLines P
-outcomeLines (written n bs) P = setLines P
+outcomeLines (gave r) P = setLines P
 
 -- what loading the bytes into an empty store of capacity 950 comes to
 unfoldable pub loaded : List ℕ → Outcome

@@ -8,12 +8,13 @@ use native.Mathlib.Omega.{arith}
 use lib.ListN.{take}
 use Rattle.model.specs.declared.Bound.the-variants.{Included}
 use Rattle.model.specs.declared.Written.{Written}
-use Rattle.model.specs.Numbers.{size, refusalNumber}
+use Rattle.model.specs.Numbers.{size}
 use Rattle.model.specs.Answers.{writtenAnswer}
-use Rattle.model.specs.Call.{Call, Answer, refused, written}
+use Rattle.model.specs.Call.{Call, Answer}
 use Rattle.store.specs.Layout.{capacity}
 use Rattle.interval_bit_set.specs.Met.{Met}
 use Rattle.interval_bit_set.specs.Out.{WritesOut}
+use Rattle.interval_bit_set.proofs.Meeting.{refused-not}
 use Rattle.lockstep.specs.History.{rest, call, New, Played, WritesSet}
 use Rattle.lockstep.specs.Empty.{fresh}
 use Rattle.lockstep.specs.Theorems.{Wrote, theorem2-bytes, theorem2-room}
@@ -29,10 +30,7 @@ made {w} {v} h e m =
 -- ---- a set written into a slice with room
 -- is told by how many bytes it has
 told : (r : Written) (out : List ℕ) → Wrote (writtenAnswer r out) → (n : ℕ) × (r ≡ Written.Bytes n)
-told (Written.Refused r) out (n, bs, e) =
-    let e′ : refused (refusalNumber r) ≡ written n bs = e in
-    let z : _≡_ {A = ℕ} 0 1 = cc in
-    absurd (omega arith)
+told (Written.Refused r) out (n, bs, e) = absurd (refused-not e)
 told (Written.Bytes n) out k = (n, refl)
 
 -- so much of the slice is the set

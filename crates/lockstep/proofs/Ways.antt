@@ -14,7 +14,7 @@ use Rattle.model.specs.Positions.Runs.{stretches-is}
 use Rattle.model.specs.Edit.{insert, setTo, onRange, setRuns}
 use Rattle.model.specs.Ops.{shiftLeftRuns, shiftRuns, set-positions, shift-positions, bounded-below}
 use Rattle.model.specs.Calc.{mem-empty}
-use Rattle.model.specs.Call.{Call, Answer, holding}
+use Rattle.model.specs.Call.{Call, Result, holding}
 use Rattle.model.specs.Model.{change, changed, serve, step, after}
 use Rattle.interval_bit_set.proofs.Changing.{fits-few}
 
@@ -35,7 +35,7 @@ shift-one total d a b h l = rw (lt-ltb (a + d) total (omega arith)) (ap (one (a 
 
 -- ---- the model's steps
 -- a change to the positions of one run is not refused
-one-kept : (C a b : ℕ) (P Q : Positions) (said : Answer) → 1 ≤ C → a ≤ b → b < size → mem (one a b) ≡ bounded Q
+one-kept : (C a b : ℕ) (P Q : Positions) (said : Result) → 1 ≤ C → a ≤ b → b < size → mem (one a b) ≡ bounded Q
     → (change C (holding P) [] Q said) .positions ≡ mem (one a b)
 unfolding change
 one-kept C a b P Q said c h l e =

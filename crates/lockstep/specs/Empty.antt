@@ -5,7 +5,7 @@ use mathlib.Core.Path.{_≡_, refl, ap, subst}
 use mathlib.Core.List.{List}
 use native.Mathlib.Omega.{arith}
 use lib.ListN.{length}
-use Rattle.model.specs.Call.{Call, done}
+use Rattle.model.specs.Call.{Call, done, gave}
 use Rattle.run_index.specs.declared.Node.{Node}
 use Rattle.run_index.specs.Cells.{Wrote}
 use Rattle.run_index.proofs.Words.{stored, stored-wrote}
@@ -45,7 +45,7 @@ emptied w h =
 -- which `new` may leave
 pub record Fresh (w : List ℕ) : Type 0 where
   pub words : List ℕ
-  pub made : Met w Call.make done words
+  pub made : Met w Call.make (gave done) words
   pub long : length words ≡ length w
 
 pub fresh : (w : List ℕ) → 1 ≤ capacity w → Fresh w

@@ -11,14 +11,14 @@ use Rattle.model.specs.Positions.{Positions, empty, bounded}
 use Rattle.model.specs.Ops.{bounded-below}
 use Rattle.model.specs.Refusals.{Condition, _when_, refusal, tooMany}
 use Rattle.model.specs.Refusals.{capacity as tooMuch}
-use Rattle.model.specs.Call.{Fed, holding, Call, feed, Answer, refused, done, number, value, around, position, listing, drawn, written}
+use Rattle.model.specs.Call.{Fed, holding, Call, feed, done, Answer, gave}
 use Rattle.model.specs.Model.{Outcome, positionsOf, overwrites, settle, overwrite, serve, step, after}
 use Rattle.store.specs.Layout.{capacity, heldBy}
 use Rattle.store.specs.Turn.{held-past}
 use Rattle.store.specs.Soundness.{Sound}
 use Rattle.store.specs.Settle.{Settled}
 use Rattle.interval_bit_set.specs.Met.{fedOf, outcomeOf, Leaves, Met}
-use Rattle.interval_bit_set.proofs.Meeting.{Plain, fed-sound}
+use Rattle.interval_bit_set.proofs.Meeting.{fed-sound}
 use Rattle.lockstep.specs.History.{History, rest, call, New, Played, told, outcomes, left, Follows, over, next}
 use Rattle.lockstep.specs.Steps.{Ends, bounded-ends, Served, served, unrefused}
 
@@ -35,18 +35,6 @@ same-positions P Q p q h = fun-ext (λ x. go x (split x size))
     go : (x : ℕ) → (x < size) ⊎ (size ≤ x) → P x ≡ Q x
     go x (inl l) = h x l
     go x (inr l) = p x l ∙ sym (q x l)
-
--- an answer that is no refusal leaves the outcome's positions
-settled : {w w′ : List ℕ} {Q : Positions} (a : Answer) → Plain a → Leaves w w′ Q a → Settled w w′ Q
-settled (refused n) p l = absurd p
-settled done p l = l
-settled (number n) p l = l
-settled (value b) p l = l
-settled (around r) p l = l
-settled (position o) p l = l
-settled (listing m) p l = l
-settled (drawn o m) p l = l
-settled (written n bs) p l = l
 
 -- a bound does not change a set that ends
 bounded-same : (Q : Positions) → Ends Q → bounded Q ≡ Q
@@ -72,7 +60,7 @@ module _ {C : ℕ} {w w′ : List ℕ} where
     by-cause none f =
         let q : o .positions ≡ S .next = ap (λ p. p .positions) f in
         settled-holds
-        (settled (S .said) (S .plain) (subst (λ b. Leaves w w′ (o .positions) b) (said ∙ ap (λ p. p .answer) f) leaves))
+        (subst (λ b. Leaves w w′ (o .positions) b) (said ∙ ap (λ p. p .answer) f) leaves)
         (H .sized)
         (subst Ends (sym q) (S .ends (subst Ends (H .held) (held-past w))))
     by-cause (some n) f =
@@ -113,12 +101,12 @@ left-holds H (call m h) = left-holds (step-holds H m) h
 
 -- an overwriting call that is done was not refused, and leaves what it overwrites with
 pub overwritten : {C : ℕ} {w w′ : List ℕ} {c : Call (List ℕ)} (s : Fed) (cs : List Condition) (Q : Positions) → capacity w ≡ C
-    → outcomeOf w c ≡ overwrite C s cs Q → Met w c done w′
+    → outcomeOf w c ≡ overwrite C s cs Q → Met w c (gave done) w′
     → (refusal (overwrites s ++ tooMuch when tooMany C Q ∷ cs) ≡ none) × Holds C (bounded Q) w′
 unfolding overwrite
 overwritten {C} {w} {w′} s cs Q z e m =
     let k : List Condition = overwrites s ++ tooMuch when tooMany C Q ∷ cs in
-    let y : refusal k ≡ none = unrefused (refusal k) (positionsOf s) done done (bounded Q) tt (m .answered ∙ ap (λ o. o .answer) e) in
+    let y : refusal k ≡ none = unrefused (refusal k) (positionsOf s) done done (bounded Q) (m .answered ∙ ap (λ o. o .answer) e) in
     let q = ap (λ o. o .positions) e ∙ ap (λ n. (settle n (positionsOf s) done (bounded Q)) .positions) y in
     (y, settled-holds (subst (Settled w w′) q (m .left)) z (bounded-ends Q))
 

@@ -5,7 +5,7 @@ use mathlib.Core.Path.{_≡_}
 use mathlib.Core.List.{List, [], _∷_}
 use lib.ListN.{take}
 use Rattle.model.specs.Positions.{Positions, empty}
-use Rattle.model.specs.Call.{Fed, Call, feed, Answer, done, written}
+use Rattle.model.specs.Call.{Fed, Call, feed, done, written, Answer, gave}
 use Rattle.model.specs.Model.{Outcome, step}
 use Rattle.store.specs.Layout.{capacity, heldBy}
 use Rattle.interval_bit_set.specs.Met.{fedOf, Met}
@@ -23,7 +23,7 @@ pub data History : List ℕ → List (Call (List ℕ)) → List Answer → List 
 pub record New (C : ℕ) (w : List ℕ) : Type 0 where
   pub before : List ℕ
   pub sized : capacity before ≡ C
-  pub made : Met before Call.make done w
+  pub made : Met before Call.make (gave done) w
 
 -- the calls as the plain model is fed them
 abbrev pub told : List (Call (List ℕ)) → List (Call Fed)
@@ -65,7 +65,7 @@ pub record WritesSet (w bs : List ℕ) : Type 0 where
   pub count : ℕ
   pub slice : List ℕ
   pub after : List ℕ
-  pub met : Met w (Call.writeSet out) (written count slice) after
+  pub met : Met w (Call.writeSet out) (gave (written count slice)) after
   pub bytes : bs ≡ take count slice
 
 -- bs loads into some store of capacity C
@@ -73,7 +73,7 @@ pub record Loads (C : ℕ) (bs : List ℕ) : Type 0 where
   pub store : List ℕ
   pub sized : capacity store ≡ C
   pub after : List ℕ
-  pub met : Met store (Call.load bs) done after
+  pub met : Met store (Call.load bs) (gave done) after
 
 -- some history at capacity C writes bs as a set
 pub record Writable (C : ℕ) (bs : List ℕ) : Type 0 where

@@ -9,7 +9,7 @@ use Rattle.model.specs.Positions.{Positions, mem, bounded}
 use Rattle.model.specs.Ops.{bounded-below}
 use Rattle.model.specs.Bytes.{decode}
 use Rattle.model.specs.Refusals.{setConditions}
-use Rattle.model.specs.Call.{Call, done}
+use Rattle.model.specs.Call.{Call, done, gave}
 use Rattle.model.specs.Model.{overwrite, serve}
 use Rattle.model.specs.Codec.{AllBytes}
 use Rattle.model.specs.RoundTrips.{Accepted, unrefused-accepted, accepted-loads, accepted-bytes, held-read, held-accepted, bounded-held}
@@ -23,9 +23,9 @@ use Rattle.lockstep.specs.Writing.{bytesOf, sizeable, few, written-is, w
 use Rattle.lockstep.specs.Empty.{fresh}
 
 -- loading accepted bytes is done
-load-met : {C : ℕ} {P : Positions} {w v bs : List ℕ} → Holds C P w → Accepted C bs → Settled w v (bounded (mem (decode bs))) → Met w (Call.load bs) done v
+load-met : {C : ℕ} {P : Positions} {w v bs : List ℕ} → Holds C P w → Accepted C bs → Settled w v (bounded (mem (decode bs))) → Met w (Call.load bs) (gave done) v
 load-met {C} {P} {bs = bs} H A S =
-    met-by (record { answer = done; positions = bounded (mem (decode bs)) }) (outcome-is H (Call.load bs) ∙ accepted-loads C P bs A) S
+    met-by (record { answer = gave done; positions = bounded (mem (decode bs)) }) (outcome-is H (Call.load bs) ∙ accepted-loads C P bs A) S
 
 module _ {C : ℕ} {bs : List ℕ} where
   -- what loads was accepted, and the store holds its positions
@@ -51,7 +51,7 @@ module _ {C : ℕ} {bs : List ℕ} where
         played = record {
           first = F .words;
           new = N;
-          answers = done ∷ [];
+          answers = gave done ∷ [];
           states = L .after ∷ [];
           history = call (load-met (new-holds N) (r .0) S) rest;
           now = refl;

@@ -6,7 +6,7 @@ use mathlib.Core.List.{List}
 use native.Mathlib.Nat.{le-trans}
 use lib.ListN.{length}
 use Rattle.model.specs.Positions.{empty}
-use Rattle.model.specs.Call.{Call, Answer, written}
+use Rattle.model.specs.Call.{Call, written, Answer, gave}
 use Rattle.model.specs.Model.{after}
 use Rattle.model.specs.Codec.{AllBytes}
 use Rattle.interval_bit_set.specs.Met.{Met}
@@ -31,7 +31,7 @@ theorem2-bytes p p′ W W′ = written-alike (played-holds p) (played-holds p′
 
 -- an answer that tells of bytes written
 abbrev pub Wrote : Answer → Type 0
-Wrote a = (n : ℕ) × (bs : List ℕ) × (a ≡ written n bs)
+Wrote a = (n : ℕ) × (bs : List ℕ) × (a ≡ gave (written n bs))
 
 -- a slice of 5 + 16 × C bytes is long enough: writing a set into it is not refused
 pub theorem2-room :

@@ -9,7 +9,7 @@ use lib.Seq.{take-at}
 use Rattle.model.specs.Positions.{Positions, heldRuns, stretches}
 use Rattle.model.specs.Bytes.{encode, intoFront}
 use Rattle.model.specs.Refusals.{_when_, outputShort, refusal, noRoom}
-use Rattle.model.specs.Call.{Call, Answer, written}
+use Rattle.model.specs.Call.{Call, written, Answer, gave}
 use Rattle.model.specs.Model.{settle, report, write, serve, step}
 use Rattle.model.specs.Codec.{encode-length}
 use Rattle.model.specs.RoundTrips.{written-whole, bytes-tell}
@@ -61,8 +61,8 @@ module _ {C : ℕ} {P : Positions} {w : List ℕ} (H : Holds C P w) where
   written-is {bs} W =
       let e = answer-is H (W .met) ∙ ap (λ o. o .answer) (write-by C P (W .out)) in
       let y = unrefused (refusal (outputShort when noRoom (W .out) (bytesOf P) ∷ [])) P
-      (written (length (bytesOf P)) (intoFront (bytesOf P) (W .out))) (written (W .count) (W .slice)) P tt e in
-      let f : written (W .count) (W .slice) ≡ written (length (bytesOf P)) (intoFront (bytesOf P) (W .out)) =
+      (written (length (bytesOf P)) (intoFront (bytesOf P) (W .out))) (written (W .count) (W .slice)) P e in
+      let f : gave (written (W .count) (W .slice)) ≡ gave (written (length (bytesOf P)) (intoFront (bytesOf P) (W .out))) =
       e ∙ ap (λ n. (settle n P (written (length (bytesOf P)) (intoFront (bytesOf P) (W .out))) P) .answer) y in
       let n : W .count ≡ length (bytesOf P) = cc in
       let s : W .slice ≡ intoFront (bytesOf P) (W .out) = cc in
@@ -70,13 +70,13 @@ module _ {C : ℕ} {P : Positions} {w : List ℕ} (H : Holds C P w) where
 
   -- a slice with room gets them
   pub written-all : {out v : List ℕ} {a : Answer} → length (bytesOf P) ≤ length out → Met w (Call.writeSet out) a v
-      → a ≡ written (length (bytesOf P)) (intoFront (bytesOf P) out)
+      → a ≡ gave (written (length (bytesOf P)) (intoFront (bytesOf P) out))
   written-all {out} h m = answer-is H m ∙ ap (λ o. o .answer) (written-whole C P out h)
 
   -- and there is such a call
-  pub write-met : (out : List ℕ) → length (bytesOf P) ≤ length out → Met w (Call.writeSet out) (written (length (bytesOf P)) (intoFront (bytesOf P) out)) w
+  pub write-met : (out : List ℕ) → length (bytesOf P) ≤ length out → Met w (Call.writeSet out) (gave (written (length (bytesOf P)) (intoFront (bytesOf P) out))) w
   write-met out h =
-      met-by (record { answer = written (length (bytesOf P)) (intoFront (bytesOf P) out); positions = P })
+      met-by (record { answer = gave (written (length (bytesOf P)) (intoFront (bytesOf P) out)); positions = P })
       (outcome-is H (Call.writeSet out) ∙ written-whole C P out h)
       (record { sound = H .sound; holds = λ x l. ap (λ Q. Q x) (H .held); long = refl })
 

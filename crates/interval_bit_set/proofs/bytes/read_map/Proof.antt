@@ -79,7 +79,7 @@ returns-5 c =
     let b = bad-by _ _ _ (c .before .before .before .before .before .before .before .before .before .before .window-fits .ensures) (c .before .before .before .before .before .before .before .before .before .if1 .left) in
     let m = bad-by _ _ _ (c .before .before .before .before .before .before .before .before .map-length-fits .ensures) (c .before .before .before .before .before .before .before .if2 .left) in
     let k = edited _ _ _ _ (c .before .before .before .before .before .read-map .ensures) (c .before .e .given .1) in
-    changes-to (read-map-says _ _ _ _) (map-passes _ _ _ b m) _ R refl (k .1) tt (ap number (k .2))
+    changes-to (read-map-says _ _ _ _) (map-passes _ _ _ b m) _ R refl (k .1) (ap number (k .2))
 
 pub read-map-spec : {M : Type 1} → statement M
 read-map-spec =

@@ -3,9 +3,9 @@
 use mathlib.Core.Path.{ap}
 use Rattle.model.specs.Call.{value}
 use Rattle.store.proofs.Opening.{sound-room}
-use Rattle.interval_bit_set.proofs.Meeting.{met}
+use Rattle.interval_bit_set.proofs.Meeting.{refused-both, met}
 use Rattle.interval_bit_set.proofs.Looking.{both-refused, both-sound, reads-none}
-use Rattle.interval_bit_set.proofs.Comparing.{refused-both, equal-says, same-as}
+use Rattle.interval_bit_set.proofs.Comparing.{equal-says, same-as}
 use borrow.Author.Needs.{needs}
 use Rattle.interval_bit_set.proofs.carry.eq.Statement.{statement}
 use Rattle.interval_bit_set.proofs.carry.eq.Tie as tie
@@ -36,7 +36,7 @@ returns c = refused-both (equal-says _ _) (both-refused _ _ _ (c .before .before
 returns-2 : tie.Need-returns-2
 returns-2 c =
     let R = both-sound _ _ _ (c .before .before .before .before .before .look-at-both .ensures) (c .before .before .before .enum-told .given .1) in
-    met (equal-says _ _) (R .0) (reads-none (R .1)) tt (ap value (same-as (R .0) (R .1) (c .before .before .read-header .ensures) (c .before .read-header2 .ensures) (c .fits2 .ensures)))
+    met (equal-says _ _) (R .0) (reads-none (R .1)) (ap value (same-as (R .0) (R .1) (c .before .before .read-header .ensures) (c .before .read-header2 .ensures) (c .fits2 .ensures)))
 
 pub eq-spec : {M : Type 1} → statement M
 eq-spec =

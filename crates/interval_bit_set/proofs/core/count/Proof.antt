@@ -30,14 +30,14 @@ returns c =
     let R = c .before .before .before .before .pre in
     let a = c .before .before .before .before .args in
     let e = span-none (a .lower) (a .upper) _ (c .before .before .normalize .ensures) (c .enum-told .given .1) in
-    met (count-says _ _ _ _) R refl tt (ap number (count-nothing _ _ _ _ e))
+    met (count-says _ _ _ _) R refl (ap number (count-nothing _ _ _ _ e))
 
 returns-2 : tie.Need-returns-2
 returns-2 c =
     let R = c .before .before .before .before .before .before .before .pre in
     let a = c .before .before .before .before .before .before .before .args in
     let W = span-some (a .lower) (a .upper) _ (c .before .before .before .before .before .normalize .ensures) (c .before .before .before .s .given .1) in
-    met (count-says _ _ _ _) R refl tt (ap number (of-range W (count _ _) (c .before .tally .ensures .count-is)))
+    met (count-says _ _ _ _) R refl (ap number (of-range W (count _ _) (c .before .tally .ensures .count-is)))
 
 pub count-spec : {M : Type 1} → statement M
 count-spec =

@@ -30,14 +30,14 @@ returns c =
     let R = c .before .before .before .before .pre in
     let a = c .before .before .before .before .args in
     let e = span-none (a .lower) (a .upper) _ (c .before .before .normalize .ensures) (c .enum-told .given .1) in
-    met (count-ranges-says _ _ _ _) R refl tt (ap number (ranges-nothing _ _ _ _ e))
+    met (count-ranges-says _ _ _ _) R refl (ap number (ranges-nothing _ _ _ _ e))
 
 returns-2 : tie.Need-returns-2
 returns-2 c =
     let R = c .before .before .before .before .before .before .pre in
     let a = c .before .before .before .before .before .before .args in
     let W = span-some (a .lower) (a .upper) _ (c .before .before .before .before .normalize .ensures) (c .before .before .s .given .1) in
-    met (count-ranges-says _ _ _ _) R refl tt (ap number (of-range W (countRanges _ _) (c .tally .ensures .runs-are)))
+    met (count-ranges-says _ _ _ _) R refl (ap number (of-range W (countRanges _ _) (c .tally .ensures .runs-are)))
 
 pub count-ranges-spec : {M : Type 1} → statement M
 count-ranges-spec =

@@ -13,7 +13,7 @@ finished-requires : tie.Need-finished-requires
 finished-requires c κs = search needs
 
 returns : tie.Need-returns
-returns c = met (draw-front-says _ _) (c .before .before .before .pre) refl tt (front-none _ (ap firstRun (none-left _ _ (c .before .if1 .taken))) (c .finished .ensures))
+returns c = met (draw-front-says _ _) (c .before .before .before .pre) refl (front-none _ (ap firstRun (none-left _ _ (c .before .if1 .taken))) (c .finished .ensures))
 
 first-run-requires : tie.Need-first-run-requires
 first-run-requires c κs = search needs
@@ -28,7 +28,7 @@ returns-2 : tie.Need-returns-2
 returns-2 c =
     let R = c .before .before .before .before .before .before .before .pre in
     let e = first-left _ _ (c .before .before .n .given .1) (c .before .before .before .before .first-run .ensures) in
-    met (draw-front-says _ _) R refl tt (front-more _ e (c .if2 .taken))
+    met (draw-front-says _ _) R refl (front-more _ e (c .if2 .taken))
 
 finished-requires-2 : tie.Need-finished-requires-2
 finished-requires-2 c κs = search needs
@@ -43,13 +43,13 @@ returns-3 : tie.Need-returns-3
 returns-3 c =
     let R = c .before .before .before .before .before .before .before .before .pre in
     let e = first-left _ _ (c .before .before .before .n .given .1) (c .before .before .before .before .before .first-run .ensures) in
-    met (draw-front-says _ _) R refl tt (front-end _ e (omega arith) (c .finished2 .ensures))
+    met (draw-front-says _ _) R refl (front-end _ e (omega arith) (c .finished2 .ensures))
 
 returns-4 : tie.Need-returns-4
 returns-4 c =
     let R = c .before .before .before .before .before .before .pre in
     let e = first-left _ _ (c .before .enum-told .given .1) (c .before .before .before .first-run .ensures) in
-    met (draw-front-says _ _) R refl tt (front-none _ e (c .finished3 .ensures))
+    met (draw-front-says _ _) R refl (front-none _ e (c .finished3 .ensures))
 
 pub draw-front-spec : {M : Type 1} → statement M
 draw-front-spec =

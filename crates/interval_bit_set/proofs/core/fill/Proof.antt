@@ -38,7 +38,7 @@ returns-2 : tie.Need-returns-2
 returns-2 c =
     let R = c .before .before .before .before .before .before .pre in
     let b = bad-by _ _ _ (c .before .before .before .before .window-fits .ensures) (c .before .before .before .if1 .left) in
-    met (fill-says _ _ _) R (window-passes _ _ b) tt (ap number (fill-is _ _ _ _ (fitting _ _ b) (c .before .before .tally .ensures .count-is)))
+    met (fill-says _ _ _) R (window-passes _ _ b) (ap number (fill-is _ _ _ _ (fitting _ _ b) (c .before .before .tally .ensures .count-is)))
 
 pub fill-spec : {M : Type 1} → statement M
 fill-spec =

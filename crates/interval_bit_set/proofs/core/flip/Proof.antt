@@ -34,7 +34,7 @@ returns c =
     let R = c .before .before .before .before .pre in
     let a = c .before .before .before .before .args in
     let e = span-none (a .lower) (a .upper) _ (c .before .before .normalize .ensures) (c .enum-told .given .1) in
-    changes-to (flip-says _ _ _) refl _ R (flip-none _ _ _ e) (settled-self _ (R .sound)) tt refl
+    changes-to (flip-says _ _ _) refl _ R (flip-none _ _ _ e) (settled-self _ (R .sound)) refl
 
 same-length : tie.Need-same-length
 same-length c = search needs
@@ -54,7 +54,7 @@ returns-3 c =
     let R = c .before .before .before .before .before .before .before .before .before .before .before .pre in
     let a = c .before .before .before .before .before .before .before .before .before .before .before .args in
     let W = span-some (a .lower) (a .upper) _ (c .before .before .before .before .before .before .before .before .before .normalize .ensures) (c .before .before .before .before .before .before .before .s .given .1) in
-    changes-to (flip-says _ _ _) refl _ R (flip-within W _) ((fitted _ _ _ _ (c .before .before .before .before .flip .ensures) (c .enum-told3 .given .1)) .1) tt refl
+    changes-to (flip-says _ _ _) refl _ R (flip-within W _) ((fitted _ _ _ _ (c .before .before .before .before .flip .ensures) (c .enum-told3 .given .1)) .1) refl
 
 pub flip-spec : {M : Type 1} → statement M
 flip-spec =

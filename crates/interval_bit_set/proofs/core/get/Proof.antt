@@ -11,7 +11,7 @@ get-requires : tie.Need-get-requires
 get-requires c κs = search needs
 
 returns : tie.Need-returns
-returns c = met (get-says _ _) (c .before .before .pre) refl tt (ap value (c .get .ensures))
+returns c = met (get-says _ _) (c .before .before .pre) refl (ap value (c .get .ensures))
 
 pub get-spec : {M : Type 1} → statement M
 get-spec = tie.close (tie.spec get-requires returns)

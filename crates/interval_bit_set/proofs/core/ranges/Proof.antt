@@ -22,14 +22,14 @@ returns c =
     let R = c .before .before .before .before .pre in
     let a = c .before .before .before .before .args in
     let e = span-none (a .lower) (a .upper) _ (c .before .before .normalize .ensures) (c .enum-told .given .1) in
-    met (ranges-says _ _ _ _) R refl tt (ap listing (listed-nothing _ _ _ e))
+    met (ranges-says _ _ _ _) R refl (ap listing (listed-nothing _ _ _ e))
 
 returns-2 : tie.Need-returns-2
 returns-2 c =
     let R = c .before .before .before .before .before .pre in
     let a = c .before .before .before .before .before .args in
     let W = span-some (a .lower) (a .upper) _ (c .before .before .before .normalize .ensures) (c .before .s .given .1) in
-    met (ranges-says _ _ _ _) R refl tt (ap listing (listed-some W _))
+    met (ranges-says _ _ _ _) R refl (ap listing (listed-some W _))
 
 pub ranges-spec : {M : Type 1} → statement M
 ranges-spec = tie.close (tie.spec normalize-requires enum-told enum-known-s returns returns-2)

@@ -11,7 +11,7 @@ run-at-requires : tie.Need-run-at-requires
 run-at-requires c κs = search needs
 
 returns : tie.Need-returns
-returns c = met (run-at-says _ _) (c .before .before .pre) refl tt (ap around (c .run-at .ensures))
+returns c = met (run-at-says _ _) (c .before .before .pre) refl (ap around (c .run-at .ensures))
 
 pub run-at-spec : {M : Type 1} → statement M
 run-at-spec = tie.close (tie.spec run-at-requires returns)

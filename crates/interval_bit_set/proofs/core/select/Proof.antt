@@ -3,7 +3,7 @@
 use mathlib.Core.Path.{refl, ap}
 use Rattle.interval_bit_set.proofs.Spans.{span-none, span-some, select-range, select-nothing, found-as}
 use Rattle.model.specs.Call.{position}
-use Rattle.interval_bit_set.proofs.Meeting.{met, select-says}
+use Rattle.interval_bit_set.proofs.Meeting.{met, met-as, select-says}
 use borrow.Author.Needs.{needs}
 use Rattle.interval_bit_set.proofs.core.select.Statement.{statement}
 use Rattle.interval_bit_set.proofs.core.select.Tie as tie
@@ -32,14 +32,14 @@ returns c =
     let R = c .before .before .before .before .pre in
     let a = c .before .before .before .before .args in
     let e = span-none (a .lower) (a .upper) _ (c .before .before .normalize .ensures) (c .enum-told .given .1) in
-    met (select-says _ _ _ _ _) R refl tt (ap position (select-nothing _ _ _ _ e _))
+    met (select-says _ _ _ _ _) R refl (ap position (select-nothing _ _ _ _ e _))
 
 returns-2 : tie.Need-returns-2
 returns-2 c =
     let R = c .before .before .before .before .before .before .before .pre in
     let a = c .before .before .before .before .before .before .before .args in
     let W = span-some (a .lower) (a .upper) _ (c .before .before .before .before .before .normalize .ensures) (c .before .before .before .s .given .1) in
-    met (select-says _ _ _ _ _) R refl tt (found-as (c .before .select .result) (c .found .ensures) (select-range W _ _ _ (c .before .select .ensures)))
+    met-as (select-says _ _ _ _ _) R refl (found-as (c .before .select .result) (c .found .ensures) (select-range W _ _ _ (c .before .select .ensures)))
 
 pub select-spec : {M : Type 1} → statement M
 select-spec =

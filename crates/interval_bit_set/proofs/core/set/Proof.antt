@@ -36,7 +36,7 @@ returns c =
     let R = c .before .before .before .before .pre in
     let a = c .before .before .before .before .args in
     let e = span-none (a .lower) (a .upper) _ (c .before .before .normalize .ensures) (c .enum-told .given .1) in
-    changes-to (set-says _ _ _ _) refl _ R (set-none _ _ _ e _) (settled-self _ (R .sound)) tt (ap number (changes-none _ _ _ _ e))
+    changes-to (set-says _ _ _ _) refl _ R (set-none _ _ _ e _) (settled-self _ (R .sound)) (ap number (changes-none _ _ _ _ e))
 
 same-length : tie.Need-same-length
 same-length c = search needs
@@ -58,7 +58,7 @@ returns-3 c =
     let W = span-some (a .lower) (a .upper) _ (c .before .before .before .before .before .before .before .before .before .before .normalize .ensures) (c .before .before .before .before .before .before .before .before .s .given .1) in
     let k = edited _ _ _ _ (c .before .before .before .before .before .set .ensures) (c .before .e .given .1) in
     let f = set-within W _ _ in
-    changes-to (set-says _ _ _ _) refl _ R f (k .1) tt (ap number (k .2 ∙ ap (changes _) f))
+    changes-to (set-says _ _ _ _) refl _ R f (k .1) (ap number (k .2 ∙ ap (changes _) f))
 
 pub set-spec : {M : Type 1} → statement M
 set-spec =

@@ -13,7 +13,7 @@ same-length : tie.Need-same-length
 same-length c = search needs
 
 returns : tie.Need-returns
-returns c = changes-to (shift-says _ _ _) refl _ (c .before .before .before .before .before .pre) refl (c .before .before .shift .ensures) tt refl
+returns c = changes-to (shift-says _ _ _) refl _ (c .before .before .before .before .before .pre) refl (c .before .before .shift .ensures) refl
 
 pub shift-spec : {M : Type 1} → statement M
 shift-spec = tie.close (tie.spec shift-requires same-length returns)

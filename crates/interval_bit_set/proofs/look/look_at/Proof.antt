@@ -1,7 +1,8 @@
 -- `look_at` meets its contract: what it tests is what the model is fed by.
 -- Assumes nothing.
 use mathlib.Core.Path.{sym, _∙_}
-use Rattle.interval_bit_set.proofs.Meeting.{fed-short, fed-unsound, readable}
+use Rattle.interval_bit_set.proofs.Meeting.{readable}
+use Rattle.interval_bit_set.proofs.Looking.{looked-short, looked-unsound}
 use borrow.Author.Needs.{needs}
 use Rattle.interval_bit_set.proofs.look.look_at.Statement.{statement}
 use Rattle.interval_bit_set.proofs.look.look_at.Tie as tie
@@ -10,7 +11,7 @@ of-length-requires : tie.Need-of-length-requires
 of-length-requires c κs = search needs
 
 returns : tie.Need-returns
-returns c = fed-short (c .before .before .before .before .args .words .now) (sym (c .before .before .of-length .ensures) ∙ c .if1 .taken)
+returns c = looked-short (c .before .before .before .before .args .words .now) (sym (c .before .before .of-length .ensures) ∙ c .if1 .taken)
 
 is-sound-requires : tie.Need-is-sound-requires
 is-sound-requires c κs = search needs
@@ -21,7 +22,7 @@ returns-2 c =
 
 returns-3 : tie.Need-returns-3
 returns-3 c =
-    fed-unsound (c .before .before .before .before .before .before .args .words .now) (search needs) (sym (c .before .is-sound .ensures) ∙ c .if2 .left)
+    looked-unsound (c .before .before .before .before .before .before .args .words .now) (search needs) (sym (c .before .is-sound .ensures) ∙ c .if2 .left)
 
 pub look-at-spec : {M : Type 1} → statement M
 look-at-spec =

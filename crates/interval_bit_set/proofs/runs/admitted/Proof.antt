@@ -4,6 +4,8 @@ use mathlib.Core.Path.{refl, sym, _∙_}
 use native.Mathlib.Omega.{arith}
 use borrow.Author.Needs.{needs}
 use borrow.Author.Tests.{not-true, not-false}
+use Rattle.model.specs.Places.{capacityOf}
+use Rattle.interval_bit_set.proofs.Slices.{built-short, built-disordered, built-full}
 use Rattle.interval_bit_set.proofs.runs.admitted.Statement.{statement}
 use Rattle.interval_bit_set.proofs.runs.admitted.Tie as tie
 
@@ -11,13 +13,19 @@ of-length-requires : tie.Need-of-length-requires
 of-length-requires c κs = search needs
 
 returns : tie.Need-returns
-returns c = (refl, sym (c .before .before .of-length .ensures) ∙ c .if1 .taken)
+returns c =
+    let a = c .before .before .before .args in
+    (refl, built-short (capacityOf (a .words)) (a .n) (a .o .ordered) (sym (c .before .before .of-length .ensures) ∙ c .if1 .taken))
 
 returns-2 : tie.Need-returns-2
-returns-2 c = (refl, (omega (arith, c .before .before .before .before .of-length .ensures, c .before .before .if1 .left), not-true _ (c .if2 .taken)))
+returns-2 c =
+    let a = c .before .before .before .before .before .args in
+    (refl, built-disordered (capacityOf (a .words)) (a .n) (a .o .ordered) (omega (arith, c .before .before .before .before .of-length .ensures, c .before .before .if1 .left)) (not-true _ (c .if2 .taken)))
 
 returns-3 : tie.Need-returns-3
-returns-3 c = (refl, (omega (arith, c .before .before .before .before .before .before .of-length .ensures, c .before .before .before .before .if1 .left), not-false _ (c .before .before .if2 .left), omega (arith, c .before .before .before .before .before .before .of-length .ensures, c .if3 .taken)))
+returns-3 c =
+    let a = c .before .before .before .before .before .before .before .args in
+    (refl, built-full (capacityOf (a .words)) (a .n) (a .o .ordered) (omega (arith, c .before .before .before .before .before .before .of-length .ensures, c .before .before .before .before .if1 .left)) (not-false _ (c .before .before .if2 .left)) (omega (arith, c .before .before .before .before .before .before .of-length .ensures, c .if3 .taken)))
 
 returns-4 : tie.Need-returns-4
 returns-4 c = (refl, omega (arith, c .before .before .before .before .before .before .of-length .ensures, c .before .before .before .before .if1 .left), not-false _ (c .before .before .if2 .left), omega (arith, c .before .before .before .before .before .before .of-length .ensures, c .if3 .left))
