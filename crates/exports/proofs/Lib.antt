@@ -1,2 +1,2 @@
 -- What the proofs of several functions use.
-pub mod Flatten
+pub mod Returning

@@ -7,8 +7,9 @@ use Rattle.model.specs.Call.{Call, Answer}
 use Rattle.interval_bit_set.specs.Met.{Met}
 use Rattle.frame.specs.declared.entry.Kind.{Kind}
 use Rattle.frame.specs.declared.entry.Entry.{Entry}
-use Rattle.frame.specs.declared.reply.Reply.{Reply}
-use Rattle.frame.specs.Records.{kindOf, callBy, replyOf}
+use Rattle.flat.specs.declared.Reply.{Reply}
+use Rattle.flat.specs.Flat.{replyOf}
+use Rattle.frame.specs.Records.{kindOf, callBy}
 use Rattle.frame.specs.Serving.{Serves}
 
 -- the kind that was named is that of the record

@@ -17,8 +17,9 @@ use Rattle.interval_bit_set.specs.Met.{Leaves, Met}
 use Rattle.interval_bit_set.proofs.Meeting.{fed-sound}
 use Rattle.lockstep.specs.Follow.{Holds, answer-is, step-holds}
 use Rattle.frame.specs.declared.entry.Entry.{Entry}
-use Rattle.frame.specs.declared.reply.Reply.{Reply}
-use Rattle.frame.specs.Records.{entryAt, callOf, callsFrom, replyOf, wordsOf, recordsOf}
+use Rattle.flat.specs.declared.Reply.{Reply}
+use Rattle.flat.specs.Flat.{replyOf}
+use Rattle.frame.specs.Records.{entryAt, callOf, callsFrom, wordsOf, recordsOf}
 use Rattle.frame.specs.Serving.{Serves, Plays}
 use Rattle.frame.specs.Told.{fed-same, records-length}
 

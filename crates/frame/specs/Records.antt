@@ -1,19 +1,17 @@
 -- Calls and answers as records of eight words. Every record of a call means one, and every answer has one record. Assumes nothing: these are
 -- definitions.
-use Prim.Native.Nat.{ℕ, zero, suc, _+_, _*_, _/_, _%_}
-use mathlib.Core.Bool.{Bool, true, false, cond, not}
+use Prim.Native.Nat.{ℕ, zero, suc, _+_, _*_, _/_}
+use mathlib.Core.Bool.{cond}
 use mathlib.Core.List.{List, [], _∷_, _++_}
-use mathlib.Core.Option.{Option, none, some}
 use lib.Dec.{eqb}
 use lib.ListN.{length, getD}
 use Rattle.model.specs.declared.Bound.{Bound}
 use Rattle.model.specs.declared.Listing.{Listing}
-use Rattle.model.specs.declared.Run.{Run}
-use Rattle.model.specs.Numbers.{size}
-use Rattle.model.specs.Call.{Call, Result, done, number, value, around, position, listing, drawn, written, Answer, refused, gave}
+use Rattle.model.specs.Call.{Call, Answer}
 use Rattle.frame.specs.declared.entry.Kind.{Kind}
 use Rattle.frame.specs.declared.entry.Entry.{Entry}
-use Rattle.frame.specs.declared.reply.Reply.{Reply}
+use Rattle.flat.specs.declared.Reply.{Reply}
+use Rattle.flat.specs.Flat.{boundBy, truth, replyOf}
 
 -- ---- calls
 -- the words of record i; the eighth is not read
@@ -44,14 +42,6 @@ kindOf n =
     (cond (eqb n 11) Kind.DrawFront
     (cond (eqb n 12) Kind.DrawBack
     (cond (eqb n 13) Kind.Fill Kind.Get))))))))))))
-
--- a bound: 1 includes the value, 2 excludes it, and any other is none
-unfoldable pub boundBy : ℕ → ℕ → Bound
-boundBy k v = cond (eqb k 1) (Bound.Included v) (cond (eqb k 2) (Bound.Excluded v) Bound.Unbounded)
-
--- a truth value: anything but 0
-abbrev pub truth : ℕ → Bool
-truth n = not (eqb n 0)
 
 abbrev pub lowerOf : Entry → Bound
 lowerOf e = boundBy (e .lower) (e .from)
@@ -92,38 +82,7 @@ unfoldable pub callsOf : {S : Type 0} → List ℕ → List (Call S)
 callsOf ws = callsFrom ws 0 (length ws / 8)
 
 -- ---- answers
-abbrev pub bitOf : Bool → ℕ
-bitOf true = 1
-bitOf false = 0
-
-abbrev pub numbersOnly : ℕ → ℕ → ℕ → ℕ → Reply
-numbersOnly r f n e = record { refusal = r; found = f; number = n; «end» = e; first = 0; last = 0; value = 0 }
-
--- a draw's run, if there is one, and the listing after it
-abbrev pub drawnReply : Option Run → Listing → Reply
-drawnReply none l = record { refusal = 0; found = 0; number = 0; «end» = 0; first = l .first; last = l .last; value = bitOf (l .value) }
-drawnReply (some r) l = record { refusal = 0; found = 1; number = r .start; «end» = r .«end»; first = l .first; last = l .last; value = bitOf (l .value) }
-
-abbrev pub positionReply : Option ℕ → Reply
-positionReply none = numbersOnly 0 0 0 0
-positionReply (some x) = numbersOnly 0 1 x 0
-
--- a result; no call of a list writes bytes
-abbrev pub resultReply : Result → Reply
-resultReply done = numbersOnly 0 0 0 0
-resultReply (number n) = numbersOnly 0 (n / size) (n % size) 0
-resultReply (value b) = numbersOnly 0 0 (bitOf b) 0
-resultReply (around r) = numbersOnly 0 0 (r .start) (r .«end»)
-resultReply (position o) = positionReply o
-resultReply (listing l) = record { refusal = 0; found = 0; number = 0; «end» = 0; first = l .first; last = l .last; value = bitOf (l .value) }
-resultReply (drawn o l) = drawnReply o l
-resultReply (written n bs) = numbersOnly 0 0 0 0
-
--- an answer: a refusal's number alone, or what the call gives
-abbrev pub replyOf : Answer → Reply
-replyOf (refused n) = numbersOnly n 0 0 0
-replyOf (gave r) = resultReply r
-
+-- the words of a reply; the eighth is 0
 abbrev pub wordsOf : Reply → List ℕ
 wordsOf r = r .refusal ∷ r .found ∷ r .number ∷ r .«end» ∷ r .first ∷ r .last ∷ r .value ∷ 0 ∷ []
 

@@ -11,8 +11,9 @@ use Rattle.store.specs.Settle.{Settled}
 use Rattle.interval_bit_set.specs.Look.{Readable}
 use Rattle.interval_bit_set.specs.Met.{Met}
 use Rattle.frame.specs.declared.entry.Entry.{Entry}
-use Rattle.frame.specs.declared.reply.Reply.{Reply}
-use Rattle.frame.specs.Records.{callOf, callsFrom, replyOf, recordsOf}
+use Rattle.flat.specs.declared.Reply.{Reply}
+use Rattle.flat.specs.Flat.{replyOf}
+use Rattle.frame.specs.Records.{callOf, callsFrom, recordsOf}
 
 -- the record e on the words w was answered r, as its call promises, and left w′
 abbrev pub Serves : List ℕ → Entry → Reply → List ℕ → Type 0

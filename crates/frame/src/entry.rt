@@ -3,8 +3,7 @@
 ghost use mathlib.Core.Path.{_≡_};
 ghost use Prim.Native.Nat.{_+_, _*_, _≤_};
 ghost use lib.ListN.{length};
-ghost use Rattle.frame.specs.Records.{entryAt, kindOf, boundBy};
-use model::Bound;
+ghost use Rattle.frame.specs.Records.{entryAt, kindOf};
 
 // Which call it is.
 pub enum Kind {
@@ -98,17 +97,4 @@ pub fn named(n: u64) -> Kind
         return Kind::Fill;
     }
     Kind::Get
-}
-
-// A bound: kind 1 includes the value, 2 excludes it, and any other has no bound.
-pub fn bound(kind: u64, value: u64) -> Bound
-    ensures { λ r. ⌜ r ≡ boundBy kind value ⌝ }
-{
-    if kind == 1 {
-        return Bound::Included(value);
-    }
-    if kind == 2 {
-        return Bound::Excluded(value);
-    }
-    Bound::Unbounded
 }

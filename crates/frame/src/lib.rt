@@ -6,7 +6,7 @@ ghost use Rattle.frame.specs.Frame.{Framed};
 ghost use Rattle.frame.specs.Serving.{Serves, Playable, Plays};
 use crate::entry::Entry;
 use crate::entry::Kind;
-use crate::reply::Reply;
+use flat::Reply;
 use interval_bit_set::core;
 use interval_bit_set::look::Look;
 use model::Completed;
@@ -21,22 +21,22 @@ fn serve(words: &mut [u64], e: Entry) -> Reply
     requires { ⌜ Readable (now words) ⌝ }
     ensures { λ r. ⌜ Serves (now (words .entry)) e r (now (words .exit)) ⌝ }
 {
-    let lower = entry::bound(e.lower, e.from);
-    let upper = entry::bound(e.upper, e.upto);
+    let lower = flat::bound(e.lower, e.from);
+    let upper = flat::bound(e.upper, e.upto);
     let value = e.value != 0;
     let k = entry::named(e.call);
     match k {
-        Kind::New => reply::completed(interval_bit_set::make::new(words)),
-        Kind::Set => reply::counted(core::set(words, lower, upper, value)),
-        Kind::Flip => reply::completed(core::flip(words, lower, upper)),
-        Kind::Shift => reply::completed(core::shift(words, e.from, value)),
-        Kind::RunAt => reply::around(core::run_at(words, e.from)),
-        Kind::Find => reply::found(core::find(words, lower, upper, value)),
-        Kind::Count => reply::counted(core::count(words, lower, upper, value)),
-        Kind::Select => reply::found(core::select(words, lower, upper, value, e.k)),
-        Kind::CountRanges => reply::numbered(core::count_ranges(words, lower, upper, value)),
-        Kind::Ranges => reply::listed(core::ranges(words, lower, upper, value)),
-        Kind::DrawFront => reply::drawn(core::draw_front(
+        Kind::New => flat::completed(interval_bit_set::make::new(words)),
+        Kind::Set => flat::counted(core::set(words, lower, upper, value)),
+        Kind::Flip => flat::completed(core::flip(words, lower, upper)),
+        Kind::Shift => flat::completed(core::shift(words, e.from, value)),
+        Kind::RunAt => flat::around(core::run_at(words, e.from)),
+        Kind::Find => flat::found(core::find(words, lower, upper, value)),
+        Kind::Count => flat::counted(core::count(words, lower, upper, value)),
+        Kind::Select => flat::found(core::select(words, lower, upper, value, e.k)),
+        Kind::CountRanges => flat::numbered(core::count_ranges(words, lower, upper, value)),
+        Kind::Ranges => flat::listed(core::ranges(words, lower, upper, value)),
+        Kind::DrawFront => flat::drawn(core::draw_front(
             words,
             Listing {
                 first: e.from,
@@ -44,7 +44,7 @@ fn serve(words: &mut [u64], e: Entry) -> Reply
                 value: value,
             },
         )),
-        Kind::DrawBack => reply::drawn(core::draw_back(
+        Kind::DrawBack => flat::drawn(core::draw_back(
             words,
             Listing {
                 first: e.from,
@@ -52,8 +52,8 @@ fn serve(words: &mut [u64], e: Entry) -> Reply
                 value: value,
             },
         )),
-        Kind::Fill => reply::numbered(core::fill(words, e.from, e.upto)),
-        Kind::Get => reply::tested(core::get(words, e.from)),
+        Kind::Fill => flat::numbered(core::fill(words, e.from, e.upto)),
+        Kind::Get => flat::tested(core::get(words, e.from)),
     }
 }
 

@@ -1,9 +1,9 @@
--- `vizturel_combine` meets its contract: it is the public call, and its answer laid flat. Assumes nothing.
+-- `vizturel_combine` meets its contract: it is the public call, and its refusal's number. Assumes nothing.
 use borrow.Author.Needs.{needs}
-use mathlib.Core.Path.{ap}
+use mathlib.Core.Path.{ap, refl}
 use Rattle.model.specs.declared.Operation.{Operation}
 use Rattle.model.specs.Call.{Call}
-use Rattle.exports.proofs.Flatten.{done-met}
+use Rattle.exports.proofs.Returning.{returned}
 use Rattle.exports.proofs.vizturel_combine.Statement.{statement}
 use Rattle.exports.proofs.vizturel_combine.Tie as tie
 
@@ -20,8 +20,7 @@ same-length : tie.Need-same-length
 same-length c = search needs
 
 returns : tie.Need-returns
-returns c = done-met (ap (λ (o : Operation). Call.combine o (c .before .before .before .before .before .before .before .before .before .args .a .now) (c .before .before .before .before .before .before .before .before .before .args .b .now)) (c .before .before .before .before .operation .ensures)) (c .before .before .before .combine .result) (c .before .before .before .combine .ensures) (c .completed .ensures)
+returns c = returned (ap (λ (o : Operation). Call.combine o (c .before .before .before .before .before .before .before .before .before .args .a .now) (c .before .before .before .before .before .before .before .before .before .args .b .now)) (c .before .before .before .before .operation .ensures)) (c .before .before .before .combine .ensures) (c .completed .ensures) refl
 
 pub vizturel-combine-spec : {M : Type 1} → statement M
-vizturel-combine-spec =
-    tie.close (tie.spec operation-requires combine-requires completed-requires same-length returns)
+vizturel-combine-spec = tie.close (tie.spec operation-requires combine-requires completed-requires same-length returns)

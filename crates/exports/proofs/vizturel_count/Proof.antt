@@ -1,8 +1,8 @@
--- `vizturel_count` meets its contract: it is the public call, and its answer laid flat. Assumes nothing.
+-- `vizturel_count` meets its contract: it is the public call, its answer laid flat, and the part that crosses. Assumes nothing.
 use borrow.Author.Needs.{needs}
 use Rattle.model.specs.Call.{Call}
-use Rattle.frame.specs.Records.{truth}
-use Rattle.exports.proofs.Flatten.{between, count-met}
+use Rattle.flat.specs.Flat.{truth}
+use Rattle.exports.proofs.Returning.{between, returned}
 use Rattle.exports.proofs.vizturel_count.Statement.{statement}
 use Rattle.exports.proofs.vizturel_count.Tie as tie
 
@@ -18,9 +18,11 @@ count-requires c κs = search needs
 counted-requires : tie.Need-counted-requires
 counted-requires c κs = search needs
 
+count-requires-2 : tie.Need-count-requires-2
+count-requires-2 c κs = search needs
+
 returns : tie.Need-returns
-returns c = count-met (between (λ l u. Call.count l u (truth (c .before .before .before .before .before .args .value))) (c .before .before .before .bound .ensures) (c .before .before .bound2 .ensures)) (c .before .count .result) (c .before .count .ensures) (c .counted .ensures)
+returns c = returned (between (λ l u. Call.count l u (truth (c .before .before .before .before .before .before .args .value))) (c .before .before .before .before .bound .ensures) (c .before .before .before .bound2 .ensures)) (c .before .before .count .ensures) (c .before .counted .ensures) (c .count2 .ensures)
 
 pub vizturel-count-spec : {M : Type 1} → statement M
-vizturel-count-spec =
-    tie.close (tie.spec bound-requires bound-requires-2 count-requires counted-requires returns)
+vizturel-count-spec = tie.close (tie.spec bound-requires bound-requires-2 count-requires counted-requires count-requires-2 returns)

@@ -1,8 +1,8 @@
--- `vizturel_count_ranges` meets its contract: it is the public call, and its answer laid flat. Assumes nothing.
+-- `vizturel_count_ranges` meets its contract: it is the public call, its answer laid flat, and the part that crosses. Assumes nothing.
 use borrow.Author.Needs.{needs}
 use Rattle.model.specs.Call.{Call}
-use Rattle.frame.specs.Records.{truth}
-use Rattle.exports.proofs.Flatten.{between, number-met}
+use Rattle.flat.specs.Flat.{truth}
+use Rattle.exports.proofs.Returning.{between, returned}
 use Rattle.exports.proofs.vizturel_count_ranges.Statement.{statement}
 use Rattle.exports.proofs.vizturel_count_ranges.Tie as tie
 
@@ -18,10 +18,11 @@ count-ranges-requires c κs = search needs
 numbered-requires : tie.Need-numbered-requires
 numbered-requires c κs = search needs
 
+number-requires : tie.Need-number-requires
+number-requires c κs = search needs
+
 returns : tie.Need-returns
-returns c = number-met (between (λ l u. Call.countRanges l u (truth (c .before .before .before .before .before .args .value))) (c .before .before .before .bound .ensures) (c .before .before .bound2 .ensures)) (c .before .count-ranges .result) (c .before .count-ranges .ensures) (c .numbered .ensures)
+returns c = returned (between (λ l u. Call.countRanges l u (truth (c .before .before .before .before .before .before .args .value))) (c .before .before .before .before .bound .ensures) (c .before .before .before .bound2 .ensures)) (c .before .before .count-ranges .ensures) (c .before .numbered .ensures) (c .number .ensures)
 
 pub vizturel-count-ranges-spec : {M : Type 1} → statement M
-vizturel-count-ranges-spec =
-    tie.close
-    (tie.spec bound-requires bound-requires-2 count-ranges-requires numbered-requires returns)
+vizturel-count-ranges-spec = tie.close (tie.spec bound-requires bound-requires-2 count-ranges-requires numbered-requires number-requires returns)

@@ -1,7 +1,8 @@
--- `vizturel_flip` meets its contract: it is the public call, and its answer laid flat. Assumes nothing.
+-- `vizturel_flip` meets its contract: it is the public call, and its refusal's number. Assumes nothing.
 use borrow.Author.Needs.{needs}
+use mathlib.Core.Path.{refl}
 use Rattle.model.specs.Call.{Call}
-use Rattle.exports.proofs.Flatten.{between, done-met}
+use Rattle.exports.proofs.Returning.{between, returned}
 use Rattle.exports.proofs.vizturel_flip.Statement.{statement}
 use Rattle.exports.proofs.vizturel_flip.Tie as tie
 
@@ -21,9 +22,7 @@ same-length : tie.Need-same-length
 same-length c = search needs
 
 returns : tie.Need-returns
-returns c = done-met (between (λ l u. Call.flip l u) (c .before .before .before .before .before .bound .ensures) (c .before .before .before .before .bound2 .ensures)) (c .before .before .before .flip .result) (c .before .before .before .flip .ensures) (c .completed .ensures)
+returns c = returned (between (λ l u. Call.flip l u) (c .before .before .before .before .before .bound .ensures) (c .before .before .before .before .bound2 .ensures)) (c .before .before .before .flip .ensures) (c .completed .ensures) refl
 
 pub vizturel-flip-spec : {M : Type 1} → statement M
-vizturel-flip-spec =
-    tie.close
-    (tie.spec bound-requires bound-requires-2 flip-requires completed-requires same-length returns)
+vizturel-flip-spec = tie.close (tie.spec bound-requires bound-requires-2 flip-requires completed-requires same-length returns)

@@ -1,8 +1,8 @@
--- `vizturel_ranges` meets its contract: it is the public call, and its answer laid flat. Assumes nothing.
+-- `vizturel_ranges` meets its contract: it is the public call, its answer laid flat, and the part that crosses. Assumes nothing.
 use borrow.Author.Needs.{needs}
 use Rattle.model.specs.Call.{Call}
-use Rattle.frame.specs.Records.{truth}
-use Rattle.exports.proofs.Flatten.{between, listing-met}
+use Rattle.flat.specs.Flat.{truth}
+use Rattle.exports.proofs.Returning.{between, returned}
 use Rattle.exports.proofs.vizturel_ranges.Statement.{statement}
 use Rattle.exports.proofs.vizturel_ranges.Tie as tie
 
@@ -18,9 +18,11 @@ ranges-requires c κs = search needs
 listed-requires : tie.Need-listed-requires
 listed-requires c κs = search needs
 
+listing-requires : tie.Need-listing-requires
+listing-requires c κs = search needs
+
 returns : tie.Need-returns
-returns c = listing-met (between (λ l u. Call.ranges l u (truth (c .before .before .before .before .before .args .value))) (c .before .before .before .bound .ensures) (c .before .before .bound2 .ensures)) (c .before .ranges .result) (c .before .ranges .ensures) (c .listed .ensures)
+returns c = returned (between (λ l u. Call.ranges l u (truth (c .before .before .before .before .before .before .args .value))) (c .before .before .before .before .bound .ensures) (c .before .before .before .bound2 .ensures)) (c .before .before .ranges .ensures) (c .before .listed .ensures) (c .listing .ensures)
 
 pub vizturel-ranges-spec : {M : Type 1} → statement M
-vizturel-ranges-spec =
-    tie.close (tie.spec bound-requires bound-requires-2 ranges-requires listed-requires returns)
+vizturel-ranges-spec = tie.close (tie.spec bound-requires bound-requires-2 ranges-requires listed-requires listing-requires returns)

@@ -1,8 +1,8 @@
--- `vizturel_select` meets its contract: it is the public call, and its answer laid flat. Assumes nothing.
+-- `vizturel_select` meets its contract: it is the public call, its answer laid flat, and the part that crosses. Assumes nothing.
 use borrow.Author.Needs.{needs}
 use Rattle.model.specs.Call.{Call}
-use Rattle.frame.specs.Records.{truth}
-use Rattle.exports.proofs.Flatten.{between, position-met}
+use Rattle.flat.specs.Flat.{truth}
+use Rattle.exports.proofs.Returning.{between, returned}
 use Rattle.exports.proofs.vizturel_select.Statement.{statement}
 use Rattle.exports.proofs.vizturel_select.Tie as tie
 
@@ -18,9 +18,11 @@ select-requires c κs = search needs
 found-requires : tie.Need-found-requires
 found-requires c κs = search needs
 
+position-requires : tie.Need-position-requires
+position-requires c κs = search needs
+
 returns : tie.Need-returns
-returns c = position-met (between (λ l u. Call.select l u (truth (c .before .before .before .before .before .args .value)) (c .before .before .before .before .before .args .k)) (c .before .before .before .bound .ensures) (c .before .before .bound2 .ensures)) (c .before .select .result) (c .before .select .ensures) (c .found .ensures)
+returns c = returned (between (λ l u. Call.select l u (truth (c .before .before .before .before .before .before .args .value)) (c .before .before .before .before .before .before .args .k)) (c .before .before .before .before .bound .ensures) (c .before .before .before .bound2 .ensures)) (c .before .before .select .ensures) (c .before .found .ensures) (c .position .ensures)
 
 pub vizturel-select-spec : {M : Type 1} → statement M
-vizturel-select-spec =
-    tie.close (tie.spec bound-requires bound-requires-2 select-requires found-requires returns)
+vizturel-select-spec = tie.close (tie.spec bound-requires bound-requires-2 select-requires found-requires position-requires returns)

@@ -1,8 +1,8 @@
--- `vizturel_set` meets its contract: it is the public call, and its answer laid flat. Assumes nothing.
+-- `vizturel_set` meets its contract: it is the public call, its answer laid flat, and the part that crosses. Assumes nothing.
 use borrow.Author.Needs.{needs}
 use Rattle.model.specs.Call.{Call}
-use Rattle.frame.specs.Records.{truth}
-use Rattle.exports.proofs.Flatten.{between, count-met}
+use Rattle.flat.specs.Flat.{truth}
+use Rattle.exports.proofs.Returning.{between, returned}
 use Rattle.exports.proofs.vizturel_set.Statement.{statement}
 use Rattle.exports.proofs.vizturel_set.Tie as tie
 
@@ -18,13 +18,14 @@ set-requires c κs = search needs
 counted-requires : tie.Need-counted-requires
 counted-requires c κs = search needs
 
+count-requires : tie.Need-count-requires
+count-requires c κs = search needs
+
 same-length : tie.Need-same-length
 same-length c = search needs
 
 returns : tie.Need-returns
-returns c = count-met (between (λ l u. Call.set l u (truth (c .before .before .before .before .before .before .before .before .args .value))) (c .before .before .before .before .before .bound .ensures) (c .before .before .before .before .bound2 .ensures)) (c .before .before .before .set .result) (c .before .before .before .set .ensures) (c .counted .ensures)
+returns c = returned (between (λ l u. Call.set l u (truth (c .before .before .before .before .before .before .before .before .before .args .value))) (c .before .before .before .before .before .before .bound .ensures) (c .before .before .before .before .before .bound2 .ensures)) (c .before .before .before .before .set .ensures) (c .before .counted .ensures) (c .count .ensures)
 
 pub vizturel-set-spec : {M : Type 1} → statement M
-vizturel-set-spec =
-    tie.close
-    (tie.spec bound-requires bound-requires-2 set-requires counted-requires same-length returns)
+vizturel-set-spec = tie.close (tie.spec bound-requires bound-requires-2 set-requires counted-requires count-requires same-length returns)

@@ -1,7 +1,7 @@
--- `vizturel_shift` meets its contract: it is the public call, and its answer laid flat. Assumes nothing.
+-- `vizturel_shift` meets its contract: it is the public call, and its refusal's number. Assumes nothing.
 use borrow.Author.Needs.{needs}
 use mathlib.Core.Path.{refl}
-use Rattle.exports.proofs.Flatten.{done-met}
+use Rattle.exports.proofs.Returning.{returned}
 use Rattle.exports.proofs.vizturel_shift.Statement.{statement}
 use Rattle.exports.proofs.vizturel_shift.Tie as tie
 
@@ -15,7 +15,7 @@ same-length : tie.Need-same-length
 same-length c = search needs
 
 returns : tie.Need-returns
-returns c = done-met refl (c .before .before .before .shift .result) (c .before .before .before .shift .ensures) (c .completed .ensures)
+returns c = returned refl (c .before .before .before .shift .ensures) (c .completed .ensures) refl
 
 pub vizturel-shift-spec : {M : Type 1} → statement M
 vizturel-shift-spec = tie.close (tie.spec shift-requires completed-requires same-length returns)

@@ -2,7 +2,7 @@
 use borrow.Author.Needs.{needs}
 use Rattle.model.specs.Call.{Call}
 use Rattle.frame.specs.declared.entry.Kind.{Kind}
-use Rattle.frame.specs.Records.{truth}
+use Rattle.flat.specs.Flat.{truth}
 use Rattle.frame.proofs.Arms.{serves, ranged}
 use Rattle.frame.proofs.serve.Statement.{statement}
 use Rattle.frame.proofs.serve.Tie as tie

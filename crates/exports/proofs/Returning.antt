@@ -1,0 +1,40 @@
+-- From what the public call promises, how its answer is laid flat and which part of that crosses, to what the exported function returns.
+-- Assumes nothing.
+use Prim.Native.Nat.{ℕ}
+use mathlib.Core.Path.{_≡_, refl, ap, _∙_, subst}
+use mathlib.Core.List.{List}
+use Rattle.model.specs.declared.Bound.{Bound}
+use Rattle.model.specs.declared.Written.{Written}
+use Rattle.model.specs.Answers.{writtenAnswer}
+use Rattle.model.specs.Call.{Call, Answer}
+use Rattle.interval_bit_set.specs.Met.{Met}
+use Rattle.interval_bit_set.specs.Out.{Unwritten, WritesOut}
+use Rattle.flat.specs.declared.Reply.{Reply}
+use Rattle.flat.specs.Flat.{replyOf}
+use Rattle.frame.specs.Frame.{Framed}
+use Rattle.exports.specs.declared.structs.CWritten.{CWritten}
+use Rattle.exports.specs.Structs.{refusalOf, writtenOf}
+use Rattle.exports.specs.Returns.{Returns, sliceAfter, Writes, Frames}
+
+-- a call between two bounds is the call between what they were made of
+pub between : (f : Bound → Bound → Call (List ℕ)) {p q x y : Bound} → p ≡ x → q ≡ y → f p q ≡ f x y
+between f {p} {q} {x} {y} d e = ap (λ b. f b q) d ∙ ap (f x) e
+
+-- every call that returns: its promise, its answer as a reply q, and the part r of that
+pub returned : {R : Type 0} {w w′ : List ℕ} {c c′ : Call (List ℕ)} {f : Reply → R} {r : R} {a : Answer} {q : Reply} → c ≡ c′ → Met w c a w′
+    → q ≡ replyOf a → r ≡ f q → Returns w c′ f r w′
+returned {w = w} {w′} {f = f} {a = a} e m p s = record { answer = a; met = subst (λ k. Met w k a w′) e m; flat = s ∙ ap f p }
+
+-- a slice that is written, or left
+slice-is : (out out′ : List ℕ) (a : Written) → Unwritten a out out′ → out′ ≡ sliceAfter (writtenAnswer a out′) out
+slice-is out out′ (Written.Refused r) u = u
+slice-is out out′ (Written.Bytes n) u = refl
+
+pub wrote : {c : List ℕ → Call (List ℕ)} {w out out′ : List ℕ} (a : Written) {q : Reply} {r : CWritten} → WritesOut c w out a out′
+    → ((o : List ℕ) → q ≡ replyOf (writtenAnswer a o)) → r ≡ writtenOf q → Writes w c out r out′
+unfolding returned
+wrote {out = out} {out′} a k p s = record { returns = returned refl (k .met) (p out′) s; slice = slice-is out out′ a (k .unwritten) }
+
+-- a frame
+pub framed : {w cs out w′ out′ : List ℕ} {a : Answer} {q : Reply} → Framed w cs out a w′ out′ → q ≡ replyOf a → Frames w cs out (refusalOf q) w′ out′
+framed {a = a} m p = record { answer = a; framed = m; flat = ap (λ (q : Reply). refusalOf q) p }

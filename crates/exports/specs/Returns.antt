@@ -1,0 +1,35 @@
+-- THE CONTRACTS of the exported functions: what each returns is the answer that its call promises, laid flat, in every field, and so of a
+-- refusal its number and zeros. Assumes nothing: these are definitions.
+use Prim.Native.Nat.{ℕ}
+use mathlib.Core.Path.{_≡_}
+use mathlib.Core.List.{List}
+use Rattle.model.specs.Call.{Call, Answer, refused, gave}
+use Rattle.interval_bit_set.specs.Met.{Met}
+use Rattle.interval_bit_set.specs.Out.{onWritten}
+use Rattle.flat.specs.declared.Reply.{Reply}
+use Rattle.flat.specs.Flat.{replyOf}
+use Rattle.frame.specs.Frame.{Framed}
+use Rattle.exports.specs.declared.structs.CWritten.{CWritten}
+use Rattle.exports.specs.Structs.{refusalOf, writtenOf}
+
+-- the call c on the words w answered as its promise says, and r is that answer laid flat, the part f of it in every field; w′ is left
+pub record Returns {R : Type 0} (w : List ℕ) (c : Call (List ℕ)) (f : Reply → R) (r : R) (w′ : List ℕ) : Type 0 where
+  pub answer : Answer
+  pub met : Met w c answer w′
+  pub flat : r ≡ f (replyOf answer)
+
+-- a slice that was lent to be written: as it was after a refusal, else the answer's
+abbrev pub sliceAfter : Answer → List ℕ → List ℕ
+sliceAfter (refused n) out = out
+sliceAfter (gave r) out = onWritten out (λ n bs. bs) r
+
+-- the same of a call that writes into the slice out: it leaves out′
+pub record Writes (w : List ℕ) (c : List ℕ → Call (List ℕ)) (out : List ℕ) (r : CWritten) (out′ : List ℕ) : Type 0 where
+  pub returns : Returns w (c out) writtenOf r w
+  pub slice : out′ ≡ sliceAfter (returns .answer) out
+
+-- and of a frame: the list cs on the words w with the slice out
+pub record Frames (w cs out : List ℕ) (r : ℕ) (w′ out′ : List ℕ) : Type 0 where
+  pub answer : Answer
+  pub framed : Framed w cs out answer w′ out′
+  pub flat : r ≡ refusalOf (replyOf answer)

@@ -1,0 +1,55 @@
+-- What crosses to C: each struct is a part of a reply, and each field of it a field of the reply. Assumes nothing: these are definitions.
+use Prim.Native.Nat.{ℕ}
+use Rattle.model.specs.declared.Bound.{Bound}
+use Rattle.flat.specs.declared.Reply.{Reply}
+use Rattle.flat.specs.Flat.{boundBy}
+use Rattle.exports.specs.declared.structs.CBound.{CBound}
+use Rattle.exports.specs.declared.structs.CCount.{CCount}
+use Rattle.exports.specs.declared.structs.CNumber.{CNumber}
+use Rattle.exports.specs.declared.structs.CValue.{CValue}
+use Rattle.exports.specs.declared.structs.CRun.{CRun}
+use Rattle.exports.specs.declared.structs.CPosition.{CPosition}
+use Rattle.exports.specs.declared.structs.CListed.{CListed}
+use Rattle.exports.specs.declared.structs.CDrawn.{CDrawn}
+use Rattle.exports.specs.declared.structs.CWritten.{CWritten}
+
+-- ---- what comes in
+abbrev pub boundOf : CBound → Bound
+boundOf b = boundBy (b .kind) (b .value)
+
+-- ---- what goes out
+-- the refusal's number alone, of the calls that return no more
+abbrev pub refusalOf : Reply → ℕ
+refusalOf r = r .refusal
+
+-- set, read_map, count
+abbrev pub countOf : Reply → CCount
+countOf r = record { refusal = r .refusal; carry = r .found; low = r .number }
+
+-- count_ranges, fill
+abbrev pub numberOf : Reply → CNumber
+numberOf r = record { refusal = r .refusal; number = r .number }
+
+-- get, eq
+abbrev pub valueOf : Reply → CValue
+valueOf r = record { refusal = r .refusal; value = r .number }
+
+-- run_at
+abbrev pub runOf : Reply → CRun
+runOf r = record { refusal = r .refusal; start = r .number; «end» = r .«end» }
+
+-- find, select
+abbrev pub positionOf : Reply → CPosition
+positionOf r = record { refusal = r .refusal; found = r .found; position = r .number }
+
+-- ranges
+abbrev pub listedOf : Reply → CListed
+listedOf r = record { refusal = r .refusal; first = r .first; last = r .last; value = r .value }
+
+-- a draw from either end; the listing keeps its value
+abbrev pub drawnOf : Reply → CDrawn
+drawnOf r = record { refusal = r .refusal; found = r .found; start = r .number; «end» = r .«end»; first = r .first; last = r .last }
+
+-- write, write_map
+abbrev pub writtenOf : Reply → CWritten
+writtenOf r = record { refusal = r .refusal; bytes = r .number }

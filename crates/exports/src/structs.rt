@@ -1,0 +1,174 @@
+// What crosses to C: numbers, slices and structs of numbers. A bound is a kind and a value; an answer is the part of a reply that its call
+// gives, and begins with its refusal's number, 0 where the call was not refused.
+ghost use mathlib.Core.Path.{_≡_};
+ghost use Rattle.exports.specs.Structs.{boundOf, countOf, numberOf, valueOf, runOf, positionOf, listedOf, drawnOf, writtenOf};
+use flat::Reply;
+use model::Bound;
+
+// One end of a range: kind 1 includes the value, 2 excludes it, and any other has no bound.
+#[repr(C)]
+pub struct CBound {
+    pub kind: u64,
+    pub value: u64,
+}
+
+// How many positions: carry times 2^64, and low.
+#[repr(C)]
+pub struct CCount {
+    pub refusal: u64,
+    pub carry: u64,
+    pub low: u64,
+}
+
+// A number of runs, or of thousandths.
+#[repr(C)]
+pub struct CNumber {
+    pub refusal: u64,
+    pub number: u64,
+}
+
+// A value: 1 for held or equal, 0 for not.
+#[repr(C)]
+pub struct CValue {
+    pub refusal: u64,
+    pub value: u64,
+}
+
+// A run.
+#[repr(C)]
+pub struct CRun {
+    pub refusal: u64,
+    pub start: u64,
+    pub end: u64,
+}
+
+// A position, where found is 1.
+#[repr(C)]
+pub struct CPosition {
+    pub refusal: u64,
+    pub found: u64,
+    pub position: u64,
+}
+
+// What is left of a listing: the runs of the value (1 or 0) from first to last.
+#[repr(C)]
+pub struct CListed {
+    pub refusal: u64,
+    pub first: u64,
+    pub last: u64,
+    pub value: u64,
+}
+
+// A run drawn, where found is 1, and the ends of the listing after it. They are zeros where the draw was refused: the listing stays.
+#[repr(C)]
+pub struct CDrawn {
+    pub refusal: u64,
+    pub found: u64,
+    pub start: u64,
+    pub end: u64,
+    pub first: u64,
+    pub last: u64,
+}
+
+// How many bytes were written.
+#[repr(C)]
+pub struct CWritten {
+    pub refusal: u64,
+    pub bytes: u64,
+}
+
+// The bound that C hands in.
+pub fn bound(b: CBound) -> Bound
+    ensures { λ r. ⌜ r ≡ boundOf b ⌝ }
+{
+    flat::bound(b.kind, b.value)
+}
+
+// What set, read_map and count return.
+pub fn count(r: Reply) -> CCount
+    ensures { λ c. ⌜ c ≡ countOf r ⌝ }
+{
+    CCount {
+        refusal: r.refusal,
+        carry: r.found,
+        low: r.number,
+    }
+}
+
+// What count_ranges and fill return.
+pub fn number(r: Reply) -> CNumber
+    ensures { λ c. ⌜ c ≡ numberOf r ⌝ }
+{
+    CNumber {
+        refusal: r.refusal,
+        number: r.number,
+    }
+}
+
+// What get and eq return.
+pub fn value(r: Reply) -> CValue
+    ensures { λ c. ⌜ c ≡ valueOf r ⌝ }
+{
+    CValue {
+        refusal: r.refusal,
+        value: r.number,
+    }
+}
+
+// What run_at returns.
+pub fn run(r: Reply) -> CRun
+    ensures { λ c. ⌜ c ≡ runOf r ⌝ }
+{
+    CRun {
+        refusal: r.refusal,
+        start: r.number,
+        end: r.end,
+    }
+}
+
+// What find and select return.
+pub fn position(r: Reply) -> CPosition
+    ensures { λ c. ⌜ c ≡ positionOf r ⌝ }
+{
+    CPosition {
+        refusal: r.refusal,
+        found: r.found,
+        position: r.number,
+    }
+}
+
+// What ranges returns.
+pub fn listing(r: Reply) -> CListed
+    ensures { λ c. ⌜ c ≡ listedOf r ⌝ }
+{
+    CListed {
+        refusal: r.refusal,
+        first: r.first,
+        last: r.last,
+        value: r.value,
+    }
+}
+
+// What a draw from either end returns; the listing keeps its value.
+pub fn draw(r: Reply) -> CDrawn
+    ensures { λ c. ⌜ c ≡ drawnOf r ⌝ }
+{
+    CDrawn {
+        refusal: r.refusal,
+        found: r.found,
+        start: r.number,
+        end: r.end,
+        first: r.first,
+        last: r.last,
+    }
+}
+
+// What write and write_map return.
+pub fn bytes(r: Reply) -> CWritten
+    ensures { λ c. ⌜ c ≡ writtenOf r ⌝ }
+{
+    CWritten {
+        refusal: r.refusal,
+        bytes: r.number,
+    }
+}

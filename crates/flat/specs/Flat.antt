@@ -1,0 +1,71 @@
+-- Every answer laid flat, as numbers, and what the numbers mean that come in. Every number means something. Assumes nothing.
+use Prim.Native.Nat.{ℕ, _/_, _%_}
+use mathlib.Core.Path.{_≡_}
+use mathlib.Core.Bool.{Bool, true, false, cond, not}
+use mathlib.Core.Option.{Option, none, some}
+use native.Mathlib.Omega.{arith}
+use lib.Dec.{eqb}
+use Rattle.model.specs.declared.Bound.{Bound}
+use Rattle.model.specs.declared.Listing.{Listing}
+use Rattle.model.specs.declared.Operation.{Operation}
+use Rattle.model.specs.declared.Run.{Run}
+use Rattle.model.specs.declared.Refusal.{Refusal}
+use Rattle.model.specs.Numbers.{size, refusalNumber, refusal-some}
+use Rattle.model.specs.Call.{Result, done, number, value, around, position, listing, drawn, written, Answer, refused, gave}
+use Rattle.flat.specs.declared.Reply.{Reply}
+
+-- ---- what comes in
+-- a bound: 1 includes the value, 2 excludes it, and any other is none
+unfoldable pub boundBy : ℕ → ℕ → Bound
+boundBy k v = cond (eqb k 1) (Bound.Included v) (cond (eqb k 2) (Bound.Excluded v) Bound.Unbounded)
+
+-- an operation: 0 is AND, 1 is OR, and any other XOR
+abbrev pub operationOf : ℕ → Operation
+operationOf n = cond (eqb n 0) Operation.And (cond (eqb n 1) Operation.Or Operation.Xor)
+
+-- a truth value: anything but 0
+abbrev pub truth : ℕ → Bool
+truth n = not (eqb n 0)
+
+-- ---- what goes out
+-- 1 for true, 0 for false
+abbrev pub bitOf : Bool → ℕ
+bitOf true = 1
+bitOf false = 0
+
+-- numbers alone, of which the refusal's is one
+abbrev pub numbersOnly : ℕ → ℕ → ℕ → ℕ → Reply
+numbersOnly r f n e = record { refusal = r; found = f; number = n; «end» = e; first = 0; last = 0; value = 0 }
+
+-- a listing, after a run that was found, or zeros
+abbrev pub withListing : ℕ → ℕ → ℕ → Listing → Reply
+withListing f a b l = record { refusal = 0; found = f; number = a; «end» = b; first = l .first; last = l .last; value = bitOf (l .value) }
+
+-- a draw's run, if there is one, and the listing after it
+abbrev pub drawnReply : Option Run → Listing → Reply
+drawnReply none l = withListing 0 0 0 l
+drawnReply (some r) l = withListing 1 (r .start) (r .«end») l
+
+abbrev pub positionReply : Option ℕ → Reply
+positionReply none = numbersOnly 0 0 0 0
+positionReply (some x) = numbersOnly 0 1 x 0
+
+-- a result; of bytes written, how many
+abbrev pub resultReply : Result → Reply
+resultReply done = numbersOnly 0 0 0 0
+resultReply (number n) = numbersOnly 0 (n / size) (n % size) 0
+resultReply (value b) = numbersOnly 0 0 (bitOf b) 0
+resultReply (around r) = numbersOnly 0 0 (r .start) (r .«end»)
+resultReply (position o) = positionReply o
+resultReply (listing l) = withListing 0 0 0 l
+resultReply (drawn o l) = drawnReply o l
+resultReply (written n bs) = numbersOnly 0 0 n 0
+
+-- AN ANSWER, FLAT: a refusal's number alone, or what the call gives
+abbrev pub replyOf : Answer → Reply
+replyOf (refused n) = numbersOnly n 0 0 0
+replyOf (gave r) = resultReply r
+
+-- a refusal is never flat as 0, so 0 says that a call was not refused
+pub never-zero : (r : Refusal) → (replyOf (refused (refusalNumber r))) .refusal ≡ 0 → ⊥
+never-zero r e = omega (arith, refusal-some r)
