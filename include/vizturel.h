@@ -18,8 +18,8 @@
  *   8  the result would have more than C runs
  *
  * A store that is only overwritten (new, load, build, combine, not, shifted) may hold anything, and is refused with 1 alone.
- * Link libexports.a, which `rt staticlib exports` writes to target/staticlib/; of a C library it needs memset alone. docs/CALLS.md has every
- * call with its cost.
+ * Link libvizturel.a, for x86-64 Linux: `make lib` writes it to target/lib/, and this header to target/include/. Of a C library it needs memset
+ * alone. docs/CALLS.md has every call with its cost.
  */
 #ifndef VIZTUREL_H
 #define VIZTUREL_H
