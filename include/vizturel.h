@@ -185,7 +185,11 @@ uint64_t vizturel_not(uint64_t *words, size_t count, const uint64_t *a, size_t a
 /* The set moved by the distance, up where left is not 0, else down. Refused with 1, 7 (of a), 8. */
 uint64_t vizturel_shifted(uint64_t *words, size_t count, uint64_t distance, uint64_t left, const uint64_t *a, size_t a_count);
 
-/* ---- written sets, run lists and maps */
+/* ---- written sets, run lists and maps
+ *
+ * Written sets travel between builds; the words of a store do not, since its offset and the arrangement of its nodes are each build's own. Two
+ * stores of one capacity C that hold the same positions answer every later list of equal calls alike. So all builds of a match need the same C,
+ * and a late player has to be told it beside the written set, which does not have it. */
 
 /* Makes the store that a written set tells. Refused with 1, 3, 4, 3, 5, 8. */
 uint64_t vizturel_load(uint64_t *words, size_t count, const uint8_t *bytes, size_t bytes_count);
