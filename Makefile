@@ -7,7 +7,7 @@
 # make differential-long  the same with thirty million random calls, and the seed SEED=S (default 2)
 # make conformance        write the lists of conformance/ anew, with the answers of IntervalBitSet
 # make bench              every benchmark, against IntervalBitSet and plain readings of the same words (docs/BENCHMARKS.md)
-# make bench-soundness    how long the soundness decision takes, against readings of the same words (docs/BENCHMARKS.md)
+# make bench-soundness    how long the soundness check takes, against readings of the same words (docs/BENCHMARKS.md)
 # make bench-growth       how many instructions it takes, at four capacities (needs valgrind)
 .PHONY: run test lib prove host differential differential-long conformance bench bench-soundness bench-growth
 ARCHIVE := target/lib/libvizturel.a

@@ -19,6 +19,9 @@
  *
  * A store that is only overwritten (new, load, build, combine, not, shifted) may hold anything, and is refused with 1 alone.
  *
+ * THE SOUNDNESS CHECK. Every call that reads a store first passes over all its nodes, used and free ones: this costs by the capacity C, not by
+ * the runs that are held. vizturel_frame makes many calls after one soundness check.
+ *
  * RESERVED NUMBERS. Where numbers have names here (call numbers, kinds of bounds, operations), the named ones stay as they are. All others are
  * reserved, and so is the last word of a call's record, which must be 0: a later version may give them a meaning. This version takes a reserved
  * call number for a get, a reserved kind for no bound and a reserved operation for XOR, and does not read that word. Do not rely on it.
@@ -226,7 +229,7 @@ vizturel_written vizturel_write_map(const uint64_t *words, size_t count, uint64_
 /* Sets the window from a map, leaves the other positions, and tells how many changed; spare bits are ignored. Refused with 1, 7, 6, 8. */
 vizturel_counted vizturel_read_map(uint64_t *words, size_t count, uint64_t base, uint64_t length, const uint8_t *bytes, size_t bytes_count);
 
-/* ---- a frame's calls at once: one look at the store, then every call of a list on it */
+/* ---- a frame's calls at once: one soundness check, then every call of a list on the store */
 
 /* Which call a record is. Other numbers are reserved. */
 enum vizturel_call_number {
