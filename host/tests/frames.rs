@@ -119,6 +119,18 @@ fn ranges_of_any_kind() {
 }
 
 #[test]
+fn records_keep_to_named_numbers() {
+    let mut random = Random::new(2);
+    let mut seen = [0; 14];
+    for _ in 0..4_000 {
+        let record = CallRecord::from(any_call(&mut random));
+        assert!(record.lower_kind <= 2 && record.upper_kind <= 2 && record.reserved == 0, "{record:?}");
+        seen[record.call as usize] += 1;
+    }
+    assert!(seen.iter().all(|&n| n > 0), "{seen:?}");
+}
+
+#[test]
 fn records_are_lent() {
     let mut slots = SetBuf::with_capacity(64).unwrap();
     let mut calls = [CallRecord::default(); 8];
