@@ -19,7 +19,7 @@
  *
  * A store that is only overwritten (new, load, build, combine, not, shifted) may hold anything, and is refused with 1 alone.
  *
- * THE SOUNDNESS CHECK. Every call that reads a store first passes over all its nodes, used and free ones: this costs by the capacity C, not by
+ * THE SOUNDNESS CHECK. Every call that reads a store first passes over all its nodes, used and free ones. The cost goes by the capacity C, not by
  * the runs that are held. vizturel_frame makes many calls after one soundness check.
  *
  * RESERVED NUMBERS. Where numbers have names here (call numbers, kinds of bounds, operations), the named ones stay as they are. All others are

@@ -19,8 +19,8 @@
 //! # }
 //! ```
 //!
-//! Every call that reads a store makes the soundness check first: one pass over all nodes, used and free ones, which costs by the capacity and
-//! not by the runs. Most calls then need one path down the tree. [`Set::frame`] and [`Set::play`] make a list of calls after one soundness
+//! Every call that reads a store makes the soundness check first: one pass over all nodes, used and free ones, whose cost goes by the capacity
+//! and not by the runs. Most calls then need one path down the tree. [`Set::frame`] and [`Set::play`] make a list of calls after one soundness
 //! check.
 
 use std::error;
