@@ -1,26 +1,45 @@
 # make run                a small match: the library, IntervalBitSet and a late player deal the same slots, frame by frame
 # make test               every test; the last line is 'N passed, M failed'
+# make lib                prove the library and write target/lib/libvizturel.a and target/include/vizturel.h
 # make prove              prove every crate that has changed, and run every program
 # make host               build the Rust host over the proved archive and run its tests
 # make differential       the library against IntervalBitSet: exhaustive, damaged and random calls (under a minute)
 # make differential-long  the same with thirty million random calls, and the seed SEED=S (default 2)
 # make conformance        write the lists of conformance/ anew, with the answers of IntervalBitSet
 # make bench              every benchmark, against IntervalBitSet and plain readings of the same words (docs/BENCHMARKS.md)
-# make bench-soundness    how long the soundness decision takes, against readings of the same words (docs/BENCHMARKS.md)
+# make bench-soundness    how long the soundness check takes, against readings of the same words (docs/BENCHMARKS.md)
 # make bench-growth       how many instructions it takes, at four capacities (needs valgrind)
-.PHONY: run test prove host differential differential-long conformance bench bench-soundness bench-growth
-# The archive is written only if everything in it is proved.
-ARCHIVE := target/staticlib/libexports.a
+.PHONY: run test lib prove host differential differential-long conformance bench bench-soundness bench-growth
+ARCHIVE := target/lib/libvizturel.a
+HEADER := target/include/vizturel.h
+# the crates that the archive is made of; exports, the last one, is proved where the archive is written
+PARTS := $(shell sed -n 's/^exports: //p' crates.txt | tr ' ' '\n' | tac)
 SEED ?= 2
 run: $(ARCHIVE)
 	@cargo run --quiet --offline --release --manifest-path host/Cargo.toml --bin play
 test:
 	@bash tests/run
+lib: $(ARCHIVE) $(HEADER)
+	@echo "$(ARCHIVE) (x86-64 Linux) and $(HEADER) are there"
 prove:
 	rt check
+# Crate by crate, so that it can say which one is being proved. The archive is written only if everything in it is proved.
 $(ARCHIVE): crates.txt $(shell find crates -name '*.rt' -o -name '*.antt')
-	@mkdir -p target
-	rt staticlib exports > target/exports.log 2>&1 || { cat target/exports.log; exit 1; }
+	@mkdir -p target/lib
+	@echo "proving the library: about 6 minutes from nothing, up to a minute where its crates have been proved"
+	@at=0; began=$$(date +%s); \
+	for crate in $(PARTS) exports; do \
+	    at=$$((at + 1)); from=$$(date +%s); \
+	    printf '%2d of %d  %s ...' $$at $(words $(PARTS) exports) $$crate; \
+	    if [ $$crate = exports ]; then how=staticlib; else how=check; fi; \
+	    rt $$how $$crate > target/lib.log 2>&1 || { echo; cat target/lib.log; exit 1; }; \
+	    echo " $$(($$(date +%s) - from)) s"; \
+	done; \
+	echo "proved in $$(($$(date +%s) - began)) s"
+	@mv target/staticlib/libexports.a $@
+$(HEADER): include/vizturel.h
+	@mkdir -p target/include
+	@cp $< $@
 host: $(ARCHIVE)
 	cargo build --offline --release --manifest-path host/Cargo.toml
 	cargo test --offline --manifest-path host/Cargo.toml

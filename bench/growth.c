@@ -1,4 +1,4 @@
-/* One soundness decision on a store of capacity C (the argument) that random sets grew to 0.9 C runs. `make bench-growth` counts its
+/* One soundness check of a store of capacity C (the argument) that random sets grew to 0.9 C runs. `make bench-growth` counts its
  * instructions, which no cache and no other work on the machine changes. */
 #include <stdbool.h>
 #include <stdint.h>

@@ -1,4 +1,4 @@
-// The soundness decision against readings of the same words: a walk that follows the tree's links in order (left, node, right) and adds
+// The soundness check against readings of the same words: a walk that follows the tree's links in order (left, node, right) and adds
 // up the starts, in plain Rust and bare of bounds tests; and a plain sum of all words. `make bench-soundness` builds and runs it;
 // docs/BENCHMARKS.md tells what it gave.
 //
@@ -189,7 +189,7 @@ fn main() {
     let past = "Each node across two cache lines (words[0] 16 bytes past a border):";
     for (told, skip, capacities) in [(border, 0, &all[..]), (past, 2, &few[..])] {
         println!("\n{told}\n");
-        println!("| C | runs | decision µs | walk µs | bare walk µs | sum µs | decision / walk | decision / bare walk | decision / sum | decision ns / C | walk ns / C |");
+        println!("| C | runs | check µs | walk µs | bare walk µs | sum µs | check / walk | check / bare walk | check / sum | check ns / C | walk ns / C |");
         println!("|---|---|---|---|---|---|---|---|---|---|---|");
         for capacity in capacities {
             row(*capacity, skip, &mut judged);

@@ -18,8 +18,16 @@
  *   8  the result would have more than C runs
  *
  * A store that is only overwritten (new, load, build, combine, not, shifted) may hold anything, and is refused with 1 alone.
- * Link libexports.a, which `rt staticlib exports` writes to target/staticlib/; of a C library it needs memset alone. docs/CALLS.md has every
- * call with its cost.
+ *
+ * THE SOUNDNESS CHECK. Every call that reads a store first passes over all its nodes, used and free ones. The cost goes by the capacity C, not by
+ * the runs that are held. vizturel_frame makes many calls after one soundness check.
+ *
+ * RESERVED NUMBERS. Where numbers have names here (call numbers, kinds of bounds, operations), the named ones stay as they are. All others are
+ * reserved, and so is the last word of a call's record, which must be 0: a later version may give them a meaning. This version takes a reserved
+ * call number for a get, a reserved kind for no bound and a reserved operation for XOR, and does not read that word. Do not rely on it.
+ *
+ * Link libvizturel.a, for x86-64 Linux: `make lib` writes it to target/lib/, and this header to target/include/. Of a C library it needs memset
+ * alone. docs/CALLS.md has every call with its cost.
  */
 #ifndef VIZTUREL_H
 #define VIZTUREL_H
@@ -47,27 +55,40 @@ enum vizturel_refusal {
     VIZTUREL_CAPACITY = 8
 };
 
-/* One end of a range: kind 1 includes the value, 2 excludes it, and any other kind is no bound. Empty and reversed ranges are no mistake:
- * they change nothing, count 0, list nothing and find none. */
+/* Kinds of bounds: none, one that includes its value, one that excludes it. Other numbers are reserved. */
+enum vizturel_bound_kind {
+    VIZTUREL_UNBOUNDED = 0,
+    VIZTUREL_INCLUDED = 1,
+    VIZTUREL_EXCLUDED = 2
+};
+
+/* One end of a range. Empty and reversed ranges are no mistake: they change nothing, count 0, list nothing and find none. */
 typedef struct {
     uint64_t kind;
     uint64_t value;
 } vizturel_bound;
 
 static inline vizturel_bound vizturel_included(uint64_t value) {
-    vizturel_bound b = {1, value};
+    vizturel_bound b = {VIZTUREL_INCLUDED, value};
     return b;
 }
 
 static inline vizturel_bound vizturel_excluded(uint64_t value) {
-    vizturel_bound b = {2, value};
+    vizturel_bound b = {VIZTUREL_EXCLUDED, value};
     return b;
 }
 
 static inline vizturel_bound vizturel_unbounded(void) {
-    vizturel_bound b = {0, 0};
+    vizturel_bound b = {VIZTUREL_UNBOUNDED, 0};
     return b;
 }
+
+/* How two sets are joined. Other numbers are reserved. */
+enum vizturel_operation {
+    VIZTUREL_AND = 0,
+    VIZTUREL_OR = 1,
+    VIZTUREL_XOR = 2
+};
 
 /* How many positions: carry * 2^64 + low. The carry is 1 only for all 2^64 of them. */
 typedef struct {
@@ -176,7 +197,7 @@ vizturel_tested vizturel_eq(const uint64_t *words, size_t count, const uint64_t 
 
 /* ---- making a store of others, whatever its words were */
 
-/* Joins two sets: op 0 is AND, 1 OR, any other XOR. Refused with 1, 7 (of a or b), 8. */
+/* Joins two sets; op is a vizturel_operation. Refused with 1, 7 (of a or b), 8. */
 uint64_t vizturel_combine(uint64_t *words, size_t count, uint64_t op, const uint64_t *a, size_t a_count, const uint64_t *b, size_t b_count);
 
 /* The complement over 0 .. M. Refused with 1, 7 (of a), 8. */
@@ -185,7 +206,11 @@ uint64_t vizturel_not(uint64_t *words, size_t count, const uint64_t *a, size_t a
 /* The set moved by the distance, up where left is not 0, else down. Refused with 1, 7 (of a), 8. */
 uint64_t vizturel_shifted(uint64_t *words, size_t count, uint64_t distance, uint64_t left, const uint64_t *a, size_t a_count);
 
-/* ---- written sets, run lists and maps */
+/* ---- written sets, run lists and maps
+ *
+ * Written sets travel between builds; the words of a store do not, since its offset and the arrangement of its nodes are each build's own. Two
+ * stores of one capacity C that hold the same positions answer every later list of equal calls alike. So all builds of a match need the same C,
+ * and a late player has to be told it beside the written set, which does not have it. */
 
 /* Makes the store that a written set tells. Refused with 1, 3, 4, 3, 5, 8. */
 uint64_t vizturel_load(uint64_t *words, size_t count, const uint8_t *bytes, size_t bytes_count);
@@ -204,9 +229,9 @@ vizturel_written vizturel_write_map(const uint64_t *words, size_t count, uint64_
 /* Sets the window from a map, leaves the other positions, and tells how many changed; spare bits are ignored. Refused with 1, 7, 6, 8. */
 vizturel_counted vizturel_read_map(uint64_t *words, size_t count, uint64_t base, uint64_t length, const uint8_t *bytes, size_t bytes_count);
 
-/* ---- a frame's calls at once: one look at the store, then every call of a list on it */
+/* ---- a frame's calls at once: one soundness check, then every call of a list on the store */
 
-/* Which call a record is: these, and any other number is a get. */
+/* Which call a record is. Other numbers are reserved. */
 enum vizturel_call_number {
     VIZTUREL_CALL_GET = 0,
     VIZTUREL_CALL_NEW = 1,
@@ -224,18 +249,19 @@ enum vizturel_call_number {
     VIZTUREL_CALL_FILL = 13
 };
 
-/* A call as a record of eight words; what the call has no use for is not looked at.
+/* A call as a record of eight words; words that the call has no use for are not read, but the last must be 0.
  *   lower.value  also the position of get and run_at, the distance of shift, the base of fill, the first position of a draw's listing
  *   upper.value  also the length of fill, the last position of a draw's listing
  *   value        anything but 0 is true; a shift goes up (left) then
- *   k            of select */
+ *   k            of select
+ *   reserved     must be 0. This version answers as if it were, whatever it is; a later one gives it a meaning */
 typedef struct {
     uint64_t call;
     vizturel_bound lower;
     vizturel_bound upper;
     uint64_t value;
     uint64_t k;
-    uint64_t unused;
+    uint64_t reserved;
 } vizturel_call;
 
 /* An answer as a record of eight words, zeros where the call tells nothing. A refused call tells its refusal alone.
@@ -255,7 +281,7 @@ typedef struct {
     uint64_t first;
     uint64_t last;
     uint64_t value;
-    uint64_t unused; /* 0 */
+    uint64_t reserved; /* 0 */
 } vizturel_answer;
 
 /* Makes every call of a list in order and writes their answers into the front of a slice; the words after them stay as they were. A call

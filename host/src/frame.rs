@@ -104,8 +104,12 @@ pub enum Reply {
     Drawn(Option<RangeInclusive<u64>>, Listing),
 }
 
-/// A call as the library reads it: see `vizturel_call` in `include/vizturel.h`. Whatever the words are, they mean a call; where all are
-/// 0, `Get(0)`.
+/// A call as the library reads it: see `vizturel_call` in `include/vizturel.h`. [`Call`] makes such records; where all words are 0, it is
+/// `Get(0)`.
+///
+/// Numbers of calls and kinds of bounds that no [`Call`] has are reserved, and so is the last word, which must be 0: a later version may give
+/// them a meaning. This version answers a call number above 13 as `Get`, takes a kind above 2 for no bound, and does not read the last word; do
+/// not rely on that.
 #[repr(C)]
 #[derive(Clone, Copy, Debug, Default, PartialEq, Eq)]
 pub struct CallRecord {
@@ -116,7 +120,8 @@ pub struct CallRecord {
     pub upper: u64,
     pub value: u64,
     pub k: u64,
-    pub unused: u64,
+    /// Must be 0.
+    pub reserved: u64,
 }
 
 /// An answer as the library writes it: see `vizturel_answer` in `include/vizturel.h`.
@@ -130,7 +135,8 @@ pub struct AnswerRecord {
     pub first: u64,
     pub last: u64,
     pub value: u64,
-    pub unused: u64,
+    /// 0.
+    pub reserved: u64,
 }
 
 const WORDS: usize = 8;

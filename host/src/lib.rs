@@ -19,8 +19,9 @@
 //! # }
 //! ```
 //!
-//! Every call looks at the whole store first, and most then need one path down its tree. [`Set::frame`] and [`Set::play`] make a list
-//! of calls after one look.
+//! Every call that reads a store makes the soundness check first: one pass over all nodes, used and free ones, whose cost goes by the capacity
+//! and not by the runs. Most calls then need one path down the tree. [`Set::frame`] and [`Set::play`] make a list of calls after one soundness
+//! check.
 
 use std::error;
 use std::fmt;
@@ -135,7 +136,7 @@ impl SetBuf {
 }
 
 impl<S> Set<S> {
-    /// Takes words that are a store already, without looking at them: each call does.
+    /// Takes words that are a store already, without the soundness check: each call makes it.
     pub fn over(words: S) -> Set<S> {
         Set { words }
     }

@@ -119,10 +119,22 @@ fn ranges_of_any_kind() {
 }
 
 #[test]
+fn records_keep_to_named_numbers() {
+    let mut random = Random::new(2);
+    let mut seen = [0; 14];
+    for _ in 0..4_000 {
+        let record = CallRecord::from(any_call(&mut random));
+        assert!(record.lower_kind <= 2 && record.upper_kind <= 2 && record.reserved == 0, "{record:?}");
+        seen[record.call as usize] += 1;
+    }
+    assert!(seen.iter().all(|&n| n > 0), "{seen:?}");
+}
+
+#[test]
 fn records_are_lent() {
     let mut slots = SetBuf::with_capacity(64).unwrap();
     let mut calls = [CallRecord::default(); 8];
-    let stale = AnswerRecord { number: M, unused: M, ..AnswerRecord::default() };
+    let stale = AnswerRecord { number: M, reserved: M, ..AnswerRecord::default() };
     let mut answers = [stale; 8];
     for (k, record) in calls[..3].iter_mut().enumerate() {
         *record = Call::select(.., false, k as u64).into();
@@ -130,7 +142,7 @@ fn records_are_lent() {
     let free = slots.play(&calls[..3], &mut answers).unwrap();
     assert_eq!(free.len(), 3);
     for (record, slot) in calls.iter_mut().zip(free) {
-        assert_eq!((slot.refusal, slot.found, slot.unused), (0, 1, 0));
+        assert_eq!((slot.refusal, slot.found, slot.reserved), (0, 1, 0));
         *record = Call::set(slot.number..=slot.number, true).into();
     }
     assert_eq!(answers[3..], [stale; 5]);

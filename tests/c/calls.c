@@ -223,6 +223,7 @@ static void refusals(void) {
 
 /* ---- lists of calls */
 
+/* a record with 99 in its reserved word, which this version answers as one with 0 */
 static vizturel_call ask(uint64_t call, vizturel_bound lower, vizturel_bound upper, uint64_t value, uint64_t k) {
     vizturel_call c = {call, lower, upper, value, k, 99};
     return c;
@@ -230,7 +231,7 @@ static vizturel_call ask(uint64_t call, vizturel_bound lower, vizturel_bound upp
 
 static int is(vizturel_answer a, uint64_t refusal, uint64_t found, uint64_t number, uint64_t end, uint64_t first, uint64_t last, uint64_t value) {
     return a.refusal == refusal && a.found == found && a.number == number && a.end == end && a.first == first && a.last == last &&
-           a.value == value && a.unused == 0;
+           a.value == value && a.reserved == 0;
 }
 
 #define MANY 24
@@ -313,7 +314,7 @@ static void every_call(void) {
     CHECK(holds(s, WORDS, 0, NULL));
 }
 
-/* every record means a call: numbers that name none are gets, bounds of other kinds are none */
+/* reserved numbers, as this version answers them: calls are gets, kinds of bounds are no bound */
 static void any_record(void) {
     static const uint64_t gets[] = {0, 14, 15, 258, (UINT64_C(1) << 32) + 2, (UINT64_C(1) << 63) + 2, M};
     static const uint64_t run[] = {2, 7};

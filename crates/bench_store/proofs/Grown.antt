@@ -1,17 +1,34 @@
--- A set that is admitted, or refused, leaves a sound store of the same length. Assumes nothing.
+-- A set of an open store that is admitted can be closed, and the store is then sound and as long; one that is refused leaves it. Assumes nothing.
 use Prim.Native.Nat.{ℕ, _≤_}
 use mathlib.Core.Path.{_≡_, refl, sym, ap, subst}
 use mathlib.Core.List.{List}
 use lib.ListN.{length}
-use Rattle.model.specs.Positions.{Positions}
-use Rattle.store.specs.Soundness.{Sound}
+use Rattle.model.specs.declared.Count.{Count}
+use Rattle.model.specs.Positions.{Positions, stretches}
+use Rattle.store.specs.declared.World.{World}
+use Rattle.store.specs.Layout.{allowance}
+use Rattle.store.specs.Soundness.{Sound, Limited, Editable, shareOf}
+use Rattle.store.specs.Settle.{Opened, Closing, Closes}
 use Rattle.changes.specs.declared.edit.Edit.{Edit}
 use Rattle.changes.specs.Edits.{Edited}
 
-pub edited-sound : (w w′ : List ℕ) (Q : Positions) (e : Edit) → Sound w → Edited w w′ Q e → Sound w′
-edited-sound w w′ Q Edit.Full s h = subst Sound (sym (h .1)) s
-edited-sound w w′ Q (Edit.Changed c) s h = h .1 .sound
+module _ {w : List ℕ} {h : World} {limit : ℕ} (so : Sound w) (op : Opened w h) (el : limit ≡ allowance w) where
+  -- the world may be edited
+  pub editable : Editable w h limit
+  editable = (shareOf w, subst (Limited w (shareOf w) h) (sym el) (op .limited))
 
-pub edited-long : (w w′ : List ℕ) (Q : Positions) (e : Edit) → Edited w w′ Q e → length w′ ≡ length w
-edited-long w w′ Q Edit.Full h = ap length (h .1)
-edited-long w w′ Q (Edit.Changed c) h = h .1 .long
+  module _ {w₁ : List ℕ} (Q : Positions) (e : Edit) (ed : Edited w w₁ h limit Q e) where
+    -- refused, all is as it was
+    pub full-same : e ≡ Edit.Full → w₁ ≡ w
+    full-same q = (subst (Edited w w₁ h limit Q) q ed) .1
+
+    -- else it can be closed
+    pub changed-closing : {k : World} {n : Count} → e ≡ Edit.Changed k n → Closing w w₁ k Q
+    changed-closing q =
+        let t = subst (Edited w w₁ h limit Q) q ed in
+        let few = subst (λ m. stretches Q ≤ m) el (t .0) in
+        record { sized = so .sized; became = t .1 (shareOf w) (allowance w) (op .limited) few; few = few }
+
+-- what was refused is sound and as long
+pub same-sound : {w w₁ : List ℕ} → Sound w → w₁ ≡ w → Sound w₁ × (length w₁ ≡ length w)
+same-sound so e = (subst Sound (sym e) so, ap length e)

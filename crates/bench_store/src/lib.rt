@@ -53,10 +53,21 @@ fn put(words: &mut [u64], first: u64, last: u64) -> u64
     requires { ⌜ first ≤ last ⌝ }
     ensures { λ r. ⌜ (Sound (now (words .exit))) × (length (now (words .exit)) ≡ length (now (words .entry))) × (r ≤ 1) ⌝ }
 {
-    let e = changes::edit::set(words, Logical(first), Logical(last), true);
+    let h = store::open(words);
+    let e = changes::edit::set(
+        words,
+        h,
+        store::allowance(words),
+        Logical(first),
+        Logical(last),
+        true,
+    );
     match e {
         Edit::Full => 0,
-        Edit::Changed(_) => 1,
+        Edit::Changed(k, _) => {
+            store::close(words, k);
+            1
+        }
     }
 }
 

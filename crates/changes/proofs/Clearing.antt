@@ -14,16 +14,15 @@ use Rattle.model.specs.RunList.{Canon}
 use Rattle.model.specs.Search.{EndBelow, StartFrom, canon-split}
 use Rattle.model.specs.Edit.{clear}
 use Rattle.run_index.specs.declared.search.Near.{Near}
-use Rattle.run_index.specs.Cells.{Room}
 use Rattle.run_index.specs.Tree.{Tree}
 use Rattle.run_index.specs.Search.{Indexed, nearRun, TellsAfter}
-use Rattle.store.specs.declared.Header.{Header}
-use Rattle.store.specs.Layout.{headerAt}
-use Rattle.store.specs.Free.{Removable, RemovesRun, Changeable, Changes}
-use Rattle.changes.specs.Change.{Turns, Cut, Clearable, ClearsFrom}
+use Rattle.store.specs.declared.Links.{Links}
+use Rattle.store.specs.Soundness.{Share}
+use Rattle.store.specs.Free.{Becomes, Removable, RemovesRun, Changeable, Changes}
+use Rattle.changes.specs.Change.{Cut, Clearable, ClearsFrom}
 use Rattle.changes.proofs.Counting.{runsOf}
 use Rattle.changes.proofs.Lists.{first-after, first-some, first-none, ends-before, canon-shrink}
-use Rattle.changes.proofs.Steps.{turns-none, turns-canon, turns-room, turns-runs, turns-index, turns-after, turns-removable, turns-removed, turns-changeable, turns-changed}
+use Rattle.changes.proofs.Steps.{becomes-none, becomes-canon, becomes-runs, becomes-indexed, becomes-after, becomes-removable, becomes-removed, becomes-changeable, becomes-changed}
 
 -- ---- what `clear` makes of runs
 -- a run that ends before s stays
@@ -66,30 +65,30 @@ unfolding clear
 clear-none s e = refl
 
 -- ---- what `clear_from` has done so far to the runs us from s on
-pub record Cleared (w w1 : List ℕ) (s e : ℕ) (more : Bool) (ls us : List Run) : Type 0 where
+pub record Cleared (w w1 : List ℕ) (sh : Share) (y : Links) (s e : ℕ) (more : Bool) (ls us : List Run) : Type 0 where
   pub left : List Run
-  pub turns : Turns w w1 (ls ++ left)
+  pub becomes : Becomes w w1 sh y (ls ++ left)
   pub below : EndBelow s ls
   pub from : StartFrom s left
   pub same : clear s e left ≡ clear s e us
   pub ended : more ≡ false → left ≡ clear s e us
 
 -- nothing yet
-cleared-none : (w : List ℕ) (s e : ℕ) (ls us : List Run) (t : Tree) (ns : List ℕ) → Cut w s ls us t ns → Cleared w w s e true ls us
-cleared-none w s e ls us t ns c = record {
+cleared-none : {w : List ℕ} {sh : Share} {x : Links} {s : ℕ} (e : ℕ) {ls us : List Run} {t : Tree} {ns : List ℕ} → Cut w sh x s ls us t ns → Cleared w w sh x s e true ls us
+cleared-none e {us = us} c = record {
   left = us;
-  turns = turns-none w t ns (ls ++ us) (c .parted .kept) (c .parted .runs-are);
+  becomes = becomes-none (c .parted .kept) (c .parted .runs-are);
   below = c .below;
   from = c .from;
   same = refl;
   ended = λ (q : true ≡ false). absurd (true≢false q);
 }
 
-module _ {w w1 : List ℕ} {s e : ℕ} {more : Bool} {ls us : List Run} (d : Cleared w w1 s e more ls us)
-    (h : Header) (eh : h ≡ headerAt w1) (n : Near) (f : TellsAfter w1 (h .root) s n) where
+module _ {w w1 : List ℕ} {sh : Share} {y : Links} {s e : ℕ} {more : Bool} {ls us : List Run} (d : Cleared w w1 sh y s e more ls us)
+    (n : Near) (f : TellsAfter w1 (y .root) s n) where
   -- the search finds the first of the runs left
   first-is : nearRun n ≡ firstRun (d .left)
-  first-is = turns-after (d .turns) h eh s n f ∙ first-after s ls (d .left) (ends-before s s ls (omega arith) (d .below)) (d .from)
+  first-is = becomes-after (d .becomes) s n f ∙ first-after s ls (d .left) (ends-before s s ls (omega arith) (d .below)) (d .from)
 
   -- the search finds r
   module _ (r : Run) (en : n ≡ Near.Run r) where
@@ -101,32 +100,32 @@ module _ {w w1 : List ℕ} {s e : ℕ} {more : Bool} {ls us : List Run} (d : Cle
     starts : StartFrom s (r ∷ rest .0)
     starts = subst (StartFrom s) (rest .1) (d .from)
 
-    -- the store's runs around r
-    around : Turns w w1 (ls ++ (r ∷ rest .0))
-    around = subst (Turns w w1) (ap (λ (vs : List Run). ls ++ vs) (rest .1)) (d .turns)
+    -- the runs around r
+    around : Becomes w w1 sh y (ls ++ (r ∷ rest .0))
+    around = subst (Becomes w w1 sh y) (ap (λ (vs : List Run). ls ++ vs) (rest .1)) (d .becomes)
 
     -- what is before r ends two before it, what follows starts two after it
     parts : (Canon (r .start - 1) 0 ls) × (0 ≤ r .start) × (r .start ≤ r .«end») × (r .«end» < size) × Canon size (r .«end» + 2) (rest .0)
-    parts = canon-split size 0 ls r (rest .0) (turns-canon around)
+    parts = canon-split size 0 ls r (rest .0) (becomes-canon around)
 
     -- r ends below 2^64
     pub first-below : r .«end» < size
     first-below = parts .3
 
     -- r may be removed
-    pub first-removable : Removable w1 (r .start)
-    first-removable = turns-removable ls r (rest .0) around
+    pub first-removable : Removable w1 y (r .start)
+    first-removable = becomes-removable ls r (rest .0) around
 
-    module _ {w2 : List ℕ} (g : RemovesRun w1 w2 (r .start)) where
-      -- the store without r
-      removed : Turns w w2 (ls ++ rest .0)
-      removed = turns-removed ls r (rest .0) around g
+    module _ {w2 : List ℕ} {z : Links} (g : RemovesRun w1 w2 y z (r .start)) where
+      -- the runs without r
+      removed : Becomes w w2 sh z (ls ++ rest .0)
+      removed = becomes-removed ls r (rest .0) around g
 
       -- it goes where it ends by e
-      cleared-gone : more ≡ true → r .«end» ≤ e → Cleared w w2 s e more ls us
+      cleared-gone : more ≡ true → r .«end» ≤ e → Cleared w w2 sh z s e more ls us
       cleared-gone m le = record {
         left = rest .0;
-        turns = removed;
+        becomes = removed;
         below = d .below;
         from = starts .1;
         same = sym (clear-gone s e r (rest .0) (starts .0) le) ∙ ap (clear s e) (sym (rest .1)) ∙ d .same;
@@ -134,36 +133,36 @@ module _ {w w1 : List ℕ} {s e : ℕ} {more : Bool} {ls us : List Run} (d : Cle
       }
 
       -- there are fewer runs
-      pub cleared-fewer : runsOf w2 < runsOf w1
+      pub cleared-fewer : runsOf w2 (z .root) < runsOf w1 (y .root)
       cleared-fewer =
-          omega (arith, turns-runs removed, turns-runs around, length-append ls (rest .0), length-append ls (r ∷ rest .0))
+          omega (arith, becomes-runs removed, becomes-runs around, length-append ls (rest .0), length-append ls (r ∷ rest .0))
 
     -- it goes on after e
     module _ (le : r .start ≤ e) (lt : e < r .«end») where
       -- the runs with r shrunk are canonical
       shrunk : Canon size 0 (ls ++ (run (e + 1) (r .«end») ∷ rest .0))
-      shrunk = canon-shrink size 0 ls (r .start) (r .«end») (e + 1) (r .«end») (rest .0) (omega arith) (omega arith) (omega arith) (turns-canon around)
+      shrunk = canon-shrink size 0 ls (r .start) (r .«end») (e + 1) (r .«end») (rest .0) (omega arith) (omega arith) (omega arith) (becomes-canon around)
 
       -- so it may become what is after e
-      pub first-changeable : Changeable w1 (r .start) (e + 1) (r .«end»)
-      first-changeable = turns-changeable ls r (rest .0) around (e + 1) (r .«end») (omega arith) shrunk
+      pub first-changeable : Changeable w1 y (r .start) (e + 1) (r .«end»)
+      first-changeable = becomes-changeable ls r (rest .0) around (e + 1) (r .«end») (omega arith) shrunk
 
-      module _ {w2 : List ℕ} (g : Changes w1 w2 (r .start) (e + 1) (r .«end»)) where
+      module _ {w2 : List ℕ} (g : Changes w1 w2 y (r .start) (e + 1) (r .«end»)) where
         -- they are those of `clear`
         done : run (e + 1) (r .«end») ∷ rest .0 ≡ clear s e us
         done =
             ap (λ (vs : List Run). run (e + 1) (r .«end») ∷ vs) (sym (clear-above s e (r .«end» + 2) (rest .0) (omega (arith, starts .0, parts .2)) (omega arith) (parts .4)))
             ∙ sym (clear-front s e r (rest .0) (starts .0) le lt) ∙ ap (clear s e) (sym (rest .1)) ∙ d .same
 
-        -- the store with r shrunk
-        changed : Turns w w2 (ls ++ (run (e + 1) (r .«end») ∷ rest .0))
-        changed = turns-changed ls r (rest .0) around (e + 1) (r .«end») (omega arith) shrunk g
+        -- the runs with r shrunk
+        changed : Becomes w w2 sh y (ls ++ (run (e + 1) (r .«end») ∷ rest .0))
+        changed = becomes-changed ls r (rest .0) around (e + 1) (r .«end») (omega arith) shrunk g
 
         -- and does
-        cleared-front : Cleared w w2 s e false ls us
+        cleared-front : Cleared w w2 sh y s e false ls us
         cleared-front = record {
           left = run (e + 1) (r .«end») ∷ rest .0;
-          turns = changed;
+          becomes = changed;
           below = d .below;
           from = (omega (arith, starts .0), starts .1);
           same = clear-above s e (e + 1) (run (e + 1) (r .«end») ∷ rest .0) (omega (arith, starts .0)) (omega arith) (omega arith, omega arith, parts .3, parts .4) ∙ done;
@@ -171,21 +170,21 @@ module _ {w w1 : List ℕ} {s e : ℕ} {more : Bool} {ls us : List Run} (d : Cle
         }
 
         -- there are as many runs
-        pub front-as-many : runsOf w2 ≡ runsOf w1
+        pub front-as-many : runsOf w2 (y .root) ≡ runsOf w1 (y .root)
         front-as-many =
             omega (
               arith,
-              turns-runs changed,
-              turns-runs around,
+              becomes-runs changed,
+              becomes-runs around,
               length-append ls (run (e + 1) (r .«end») ∷ rest .0),
               length-append ls (r ∷ rest .0),
             )
 
     -- it starts after e
-    cleared-apart : e < r .start → Cleared w w1 s e false ls us
+    cleared-apart : e < r .start → Cleared w w1 sh y s e false ls us
     cleared-apart lt = record {
       left = d .left;
-      turns = d .turns;
+      becomes = d .becomes;
       below = d .below;
       from = d .from;
       same = d .same;
@@ -193,10 +192,10 @@ module _ {w w1 : List ℕ} {s e : ℕ} {more : Bool} {ls us : List Run} (d : Cle
     }
 
   -- the search finds none
-  cleared-over : n ≡ Near.None → Cleared w w1 s e false ls us
+  cleared-over : n ≡ Near.None → Cleared w w1 sh y s e false ls us
   cleared-over en = record {
     left = d .left;
-    turns = d .turns;
+    becomes = d .becomes;
     below = d .below;
     from = d .from;
     same = d .same;
@@ -207,51 +206,46 @@ module _ {w w1 : List ℕ} {s e : ℕ} {more : Bool} {ls us : List Run} (d : Cle
       nothing = first-none (d .left) (sym (ap nearRun en) ∙ first-is)
 
 -- ---- the invariant of `clear_from`
-pub record ClearingFrom (w w1 : List ℕ) (s e : ℕ) (more : Bool) : Type 0 where
-  pub so-far : (ls us : List Run) (t : Tree) (ns : List ℕ) → Cut w s ls us t ns → Cleared w w1 s e more ls us
+pub record ClearingFrom (w w1 : List ℕ) (x y : Links) (s e : ℕ) (more : Bool) : Type 0 where
+  pub so-far : {sh : Share} {ls us : List Run} {t : Tree} {ns : List ℕ} → Cut w sh x s ls us t ns → Cleared w w1 sh y s e more ls us
 
 -- it holds at first
-pub clearing-none : (w : List ℕ) (s e : ℕ) → ClearingFrom w w s e true
-clearing-none w s e = record { so-far = λ ls us t ns c. cleared-none w s e ls us t ns c }
+pub clearing-none : (w : List ℕ) (x : Links) (s e : ℕ) → ClearingFrom w w x x s e true
+clearing-none w x s e = record { so-far = λ c. cleared-none e c }
 
-module _ {w w1 : List ℕ} {s e : ℕ} {more : Bool} (i : ClearingFrom w w1 s e more) (p : Clearable w s) where
+module _ {w w1 : List ℕ} {x y : Links} {s e : ℕ} {more : Bool} (i : ClearingFrom w w1 x y s e more) (p : Clearable w x s) where
   -- what has been done to the runs that the caller has
-  pub here : Cleared w w1 s e more (p .0) (p .1)
-  here = i .so-far (p .0) (p .1) (p .2) (p .3) (p .4)
+  pub here : Cleared w w1 (p .0) y s e more (p .1) (p .2)
+  here = i .so-far (p .5)
 
-  -- the store may be read
-  pub clearing-room : Room w1 0
-  clearing-room = turns-room (here .turns)
+  -- the tree may be searched
+  pub clearing-indexed : Indexed w1 (y .root)
+  clearing-indexed = becomes-indexed (here .becomes)
 
-  -- and searched
-  pub clearing-indexed : (h : Header) → h ≡ headerAt w1 → Indexed w1 (h .root)
-  clearing-indexed h eh = (0, _, turns-index (here .turns) h eh)
-
-  -- its length is the old one
+  -- the length is the old one
   pub clearing-long : length w1 ≡ length w
-  clearing-long = here .turns .1 .long
+  clearing-long = here .becomes .still .long
 
 -- in the end it is the promise
-pub clearing-done : {w w1 : List ℕ} {s e : ℕ} {more : Bool} → more ≡ false → ClearingFrom w w1 s e more → ClearsFrom w w1 s e
-clearing-done {w} {w1} m i ls us t ns c =
-    let d = i .so-far ls us t ns c in
-    subst (λ (vs : List Run). Turns w w1 (ls ++ vs)) (d .ended m) (d .turns)
+pub clearing-done : {w w1 : List ℕ} {x y : Links} {s e : ℕ} {more : Bool} → more ≡ false → ClearingFrom w w1 x y s e more → ClearsFrom w w1 x y s e
+clearing-done {w} {w1} {x} {y} m i sh ls us t ns c =
+    let d = i .so-far c in
+    subst (λ (vs : List Run). Becomes w w1 sh y (ls ++ vs)) (d .ended m) (d .becomes)
 
-module _ {w w1 : List ℕ} {s e : ℕ} {more : Bool} (i : ClearingFrom w w1 s e more)
-    (h : Header) (eh : h ≡ headerAt w1) (n : Near) (f : TellsAfter w1 (h .root) s n) where
+module _ {w w1 : List ℕ} {x y : Links} {s e : ℕ} {more : Bool} (i : ClearingFrom w w1 x y s e more) (n : Near) (f : TellsAfter w1 (y .root) s n) where
   module _ (r : Run) (en : n ≡ Near.Run r) where
     -- it goes on where the first run goes
-    pub clearing-gone : {w2 : List ℕ} → RemovesRun w1 w2 (r .start) → more ≡ true → r .«end» ≤ e → ClearingFrom w w2 s e more
-    clearing-gone g m le = record { so-far = λ ls us t ns c. cleared-gone (i .so-far ls us t ns c) h eh n f r en g m le }
+    pub clearing-gone : {w2 : List ℕ} {z : Links} → RemovesRun w1 w2 y z (r .start) → more ≡ true → r .«end» ≤ e → ClearingFrom w w2 x z s e more
+    clearing-gone g m le = record { so-far = λ c. cleared-gone (i .so-far c) n f r en g m le }
 
     -- stops where it loses its front
-    pub clearing-front : {w2 : List ℕ} → (le : r .start ≤ e) (lt : e < r .«end») → Changes w1 w2 (r .start) (e + 1) (r .«end») → ClearingFrom w w2 s e false
-    clearing-front le lt g = record { so-far = λ ls us t ns c. cleared-front (i .so-far ls us t ns c) h eh n f r en le lt g }
+    pub clearing-front : {w2 : List ℕ} → (le : r .start ≤ e) (lt : e < r .«end») → Changes w1 w2 y (r .start) (e + 1) (r .«end») → ClearingFrom w w2 x y s e false
+    clearing-front le lt g = record { so-far = λ c. cleared-front (i .so-far c) n f r en le lt g }
 
     -- stops where it is apart
-    pub clearing-apart : e < r .start → ClearingFrom w w1 s e false
-    clearing-apart lt = record { so-far = λ ls us t ns c. cleared-apart (i .so-far ls us t ns c) h eh n f r en lt }
+    pub clearing-apart : e < r .start → ClearingFrom w w1 x y s e false
+    clearing-apart lt = record { so-far = λ c. cleared-apart (i .so-far c) n f r en lt }
 
   -- or there is none
-  pub clearing-over : n ≡ Near.None → ClearingFrom w w1 s e false
-  clearing-over en = record { so-far = λ ls us t ns c. cleared-over (i .so-far ls us t ns c) h eh n f en }
+  pub clearing-over : n ≡ Near.None → ClearingFrom w w1 x y s e false
+  clearing-over en = record { so-far = λ c. cleared-over (i .so-far c) n f en }

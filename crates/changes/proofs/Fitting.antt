@@ -1,6 +1,6 @@
--- Whether a set of logical positions leaves at most as many runs as the capacity, from what the store tells: its runs, those of the range,
+-- Whether a set of logical positions leaves at most as many runs as the limit, from what the world tells: its runs, those of the range,
 -- and the neighbours of the range's ends. All these numbers are small, so no sum of them leaves a word. Assumes nothing.
-use Prim.Native.Nat.{ℕ, zero, suc, _+_, _-_, _^_, _≤_, _<_}
+use Prim.Native.Nat.{ℕ, zero, suc, _+_, _-_, _≤_, _<_}
 use mathlib.Core.Path.{_≡_, refl, sym, ap, ap₂, _∙_}
 use mathlib.Core.Logic.{_⊎_, inl, inr}
 use mathlib.Core.Bool.{Bool, true, false, _&&_}
@@ -15,11 +15,10 @@ use Rattle.model.specs.Positions.Runs.{stretches-is}
 use Rattle.model.specs.After.{goesOn, goesOn-zero, goesOn-top, stretches-parts}
 use Rattle.run_index.specs.Tree.{inorder}
 use Rattle.run_index.proofs.Totals.{runs-length}
-use Rattle.store.specs.declared.Header.{Header}
-use Rattle.store.specs.Layout.{headerAt, capacity, heldBy}
-use Rattle.store.specs.Soundness.{Sound}
-use Rattle.store.proofs.Nodes.{sized-length, few-runs}
-use Rattle.store.proofs.Opening.{physicalIn, sound-held, runs-told}
+use Rattle.store.specs.declared.World.{World}
+use Rattle.store.specs.Layout.{heldIn}
+use Rattle.store.specs.Soundness.{Share, Standing, Limited}
+use Rattle.store.proofs.Opening.{physicalIn, standing-held}
 use Rattle.changes.specs.Neighbours.{heldBelow, heldAbove, goesOn-below}
 use Rattle.changes.specs.SetRuns.{set-true-leaves, set-false-leaves, set-one-more, logical-one-more}
 
@@ -68,39 +67,36 @@ leb-like x y p q k e f = go (split y x)
 pub one-most : (r : ℕ) (b : Bool) → r ≡ oneIf b → r ≤ 1
 one-most r b e = omega (arith, one-bound b)
 
--- ---- of a sound store
-module _ {w : List ℕ} {h : Header} (sound : Sound w) (eh : h ≡ headerAt w) where
-  -- the runs that the header tells are few
-  pub header-few : h .runs < 2 ^ 62
-  header-few = omega (arith, runs-told sound eh, few-runs w (sound .tree) (sound .free) (sound .kept))
-
+-- ---- of a world
+module _ {w : List ℕ} {s : Share} {h : World} (st : Standing w s h) where
   -- they are the physical runs
-  physical-runs : h .runs ≡ stretches (physicalIn sound)
-  physical-runs = runs-told sound eh ∙ runs-length (sound .tree) ∙ sym (stretches-is (physicalIn sound) (inorder (sound .tree)) (sound .kept .ordered) (λ x l. refl))
+  physical-runs : h .runs ≡ stretches (physicalIn st)
+  physical-runs = st .runs-are ∙ runs-length (st .tree) ∙ sym (stretches-is (physicalIn st) (inorder (st .tree)) (st .kept .ordered) (λ x l. refl))
 
   -- there is one logical run more at most
-  pub logical-most : h .offset < size → stretches (heldBy w) ≤ h .runs + 1
-  logical-most o = omega (arith, physical-runs, ap stretches (sound-held sound eh), logical-one-more (h .offset) (physicalIn sound) o)
+  pub logical-most : h .offset < size → stretches (heldIn w h) ≤ h .runs + 1
+  logical-most o = omega (arith, physical-runs, ap stretches (standing-held st), logical-one-more (h .offset) (physicalIn st) o)
 
-  -- far from the capacity a set fits
-  pub far-fits : (a b c : ℕ) (v : Bool) → h .offset < size → a ≤ b → b < size → c ≡ capacity w → h .runs + 2 ≤ c
-      → true ≡ leb (stretches (setRange a (suc b - a) v (heldBy w))) (capacity w)
-  far-fits a b c v o i l ec far =
-      sym (le-leb (stretches (setRange a (suc b - a) v (heldBy w))) (capacity w) (omega (arith, logical-most o, set-one-more (heldBy w) a (suc b - a) v (omega arith) (omega arith))))
+  -- far from the limit a set fits
+  pub far-fits : {limit : ℕ} (a b : ℕ) (v : Bool) → h .offset < size → a ≤ b → b < size → h .runs + 2 ≤ limit
+      → true ≡ leb (stretches (setRange a (suc b - a) v (heldIn w h))) limit
+  far-fits {limit} a b v o i l far =
+      sym (le-leb (stretches (setRange a (suc b - a) v (heldIn w h))) limit (omega (arith, logical-most o, set-one-more (heldIn w h) a (suc b - a) v (omega arith) (omega arith))))
 
--- the runs are at most 65,536
-pub logical-few : {w : List ℕ} → Sound w → stretches (heldBy w) ≤ 65536
-logical-few {w} sound = omega (arith, sound .fits, sized-length w (sound .kept .sized))
+module _ {w : List ℕ} {s : Share} {h : World} {limit : ℕ} (lim : Limited w s h limit) where
+  -- the limit is at most 65,566
+  pub limit-few : limit ≤ 65566
+  limit-few = omega (arith, lim .enough, lim .standing .kept .part, lim .standing .kept .few)
 
--- and so is the capacity
-pub capacity-few : {w : List ℕ} → Sound w → capacity w ≤ 65536
-capacity-few {w} sound = omega (arith, sized-length w (sound .kept .sized))
+  -- and so are the runs
+  pub logical-few : stretches (heldIn w h) ≤ 65566
+  logical-few = omega (arith, lim .fits, limit-few)
 
 -- what is counted of the positions P and of those from a to b: all runs, those inside, and those that go on over either end
 pub record Told (P : Positions) (a b total inside on past : ℕ) : Type 0 where
   pub ordered : a ≤ b
   pub below : b < size
-  pub few : stretches P ≤ 65536
+  pub few : stretches P ≤ 65566
   pub total-is : total ≡ stretches P
   pub inside-is : inside ≡ countRanges P true a (suc b - a)
   pub on-is : on ≡ oneIf (goesOn P a)
@@ -108,11 +104,11 @@ pub record Told (P : Positions) (a b total inside on past : ℕ) : Type 0 where
 
 module _ {P : Positions} {a b total inside on past : ℕ} (t : Told P a b total inside on past) where
   -- the runs and those over the ends
-  pub told-few : total + on + past ≤ 65538
+  pub told-few : total + on + past ≤ 65568
   told-few = omega (arith, t .few, t .total-is, one-most on (goesOn P a) (t .on-is), one-most past (goesOn P (suc b)) (t .past-is))
 
   -- a range has at most two runs more than there are
-  pub inside-few : inside ≤ 65538
+  pub inside-few : inside ≤ 65568
   inside-few =
       let n : a + (suc b - a) ≡ suc b = omega (arith, t .ordered) in
       omega (
@@ -127,15 +123,15 @@ module _ {P : Positions} {a b total inside on past : ℕ} (t : Told P a b total 
       )
 
   -- with its neighbours
-  pub less-few : {before after : ℕ} → before ≡ oneIf (heldBelow P a) → after ≡ oneIf (heldAbove P b) → inside + before + after ≤ 65540
+  pub less-few : {before after : ℕ} → before ≡ oneIf (heldBelow P a) → after ≡ oneIf (heldAbove P b) → inside + before + after ≤ 65570
   less-few {before} {after} eb ea = omega (arith, inside-few, one-most before (heldBelow P a) eb, one-most after (heldAbove P b) ea)
 
-  module _ {c k : ℕ} {v : Bool} (ec : c ≡ k) where
+  module _ (k : ℕ) {v : Bool} where
     -- a set to true fits where the neighbours tell so
     pub true-fits : {before after : ℕ} → v ≡ true → before ≡ oneIf (heldBelow P a) → after ≡ oneIf (heldAbove P b)
-        → leb (total + on + past + 1) (c + (inside + before + after)) ≡ leb (stretches (setRange a (suc b - a) v P)) k
+        → leb (total + on + past + 1) (k + (inside + before + after)) ≡ leb (stretches (setRange a (suc b - a) v P)) k
     true-fits {before} {after} ev eb ea =
-        leb-like (stretches (setRange a (suc b - a) true P)) k (total + on + past + 1) (c + (inside + before + after)) (inside + before + after)
+        leb-like (stretches (setRange a (suc b - a) true P)) k (total + on + past + 1) (k + (inside + before + after)) (inside + before + after)
         (omega (
           arith,
           t .total-is,
@@ -147,9 +143,9 @@ module _ {P : Positions} {a b total inside on past : ℕ} (t : Told P a b total 
         ∙ ap (λ u. leb (stretches (setRange a (suc b - a) u P)) k) (sym ev)
 
     -- and one to false
-    pub false-fits : v ≡ false → leb (total + on + past) (c + inside) ≡ leb (stretches (setRange a (suc b - a) v P)) k
+    pub false-fits : v ≡ false → leb (total + on + past) (k + inside) ≡ leb (stretches (setRange a (suc b - a) v P)) k
     false-fits ev =
-        leb-like (stretches (setRange a (suc b - a) false P)) k (total + on + past) (c + inside) inside
+        leb-like (stretches (setRange a (suc b - a) false P)) k (total + on + past) (k + inside) inside
         (omega (
           arith,
           t .total-is,

@@ -1,44 +1,41 @@
--- Flipping a range of a sound store, stretch by stretch. What a flip leaves is told by the store's runs and by those of the range; on the
+-- Flipping a range of a world, stretch by stretch. What a flip leaves is told by the world's runs and by those of the range; on the
 -- way the positions passed are a flipped range, which ends where the value changes, so that no run is added. Assumes nothing.
 use Prim.Native.Nat.{ℕ, suc, _+_, _-_, _≤_, _<_}
-use mathlib.Core.Path.{_≡_, refl, sym, ap, _∙_}
+use mathlib.Core.Path.{_≡_, sym, ap, _∙_}
 use mathlib.Core.Logic.{_⊎_, inl, inr}
 use mathlib.Core.Bool.{Bool, true, false, not, Bool·not-not}
 use mathlib.Core.List.{List}
 use native.Mathlib.Omega.{arith}
 use lib.Dec.{leb}
-use lib.ListN.{length}
-use borrow.Author.Tests.{leb-true, leb-false, le-leb, not-true, not-false}
+use borrow.Author.Tests.{le-leb}
 use Rattle.model.specs.declared.Edge.{Edge}
 use Rattle.model.specs.declared.Edge.the-variants.{At}
 use Rattle.model.specs.Numbers.{size, split}
-use Rattle.model.specs.Places.{capacityOf}
 use Rattle.model.specs.Positions.{Positions, oneIf, stretches, setRange, flipRange}
 use Rattle.model.specs.Positions.Laws.{one-bound}
 use Rattle.model.specs.After.{goesOn, set-cong, flip-below, flip-above, stretches-parts}
-use Rattle.store.specs.declared.Header.{Header}
-use Rattle.store.specs.Layout.{headerAt, capacity, heldBy}
-use Rattle.store.specs.Soundness.{Sound}
-use Rattle.store.specs.Settle.{Settled}
+use Rattle.store.specs.declared.World.{World}
+use Rattle.store.specs.Layout.{heldIn}
+use Rattle.store.specs.Soundness.{Share, Still, Standing, Limited}
+use Rattle.store.specs.Settle.{Became}
+use Rattle.store.proofs.Nodes.{still-then, still-same}
 use Rattle.reports.specs.declared.physical.Tally.{Tally}
 use Rattle.reports.specs.Reports.{Measured, Next}
 use Rattle.reports.specs.Ranks.{ranges-alternate}
 use Rattle.reports.proofs.Seeking.{Past, none-next}
 use Rattle.reports.proofs.Bounding.{high-end-at}
-use Rattle.changes.specs.declared.edit.Fit.the-variants.{Full, Done}
-use Rattle.changes.specs.Edits.{Fitted, StretchEnd}
+use Rattle.changes.specs.Edits.{Makes, Appliable, StretchEnd}
 use Rattle.changes.specs.Neighbours.{heldBelow, heldAbove, stretches-cong}
 use Rattle.changes.specs.FlipRuns.{flip-leaves, flip-one-more, flip-none-more, flip-further}
 use Rattle.changes.proofs.Fitting.{leb-like, logical-most, logical-few}
 
 -- ---- the runs that a flip of a range leaves
-module _ {w : List ℕ} {h : Header} (s : Sound w) (eh : h ≡ headerAt w) where
-  -- far from the capacity each flip fits
-  pub flip-fits-far : {c : ℕ} (a b : ℕ) → h .offset < size → a ≤ b → b < size → c ≡ capacity w → h .runs + 2 ≤ c
-      → true ≡ leb (stretches (flipRange a (suc b - a) (heldBy w))) (capacity w)
-  flip-fits-far a b l i k e f =
-      sym (le-leb (stretches (flipRange a (suc b - a) (heldBy w))) (capacity w)
-      (omega (arith, flip-one-more (heldBy w) a (suc b - a) (omega arith) (omega arith), logical-most s eh l)))
+-- far from the limit each flip fits
+pub flip-fits-far : {w : List ℕ} {s : Share} {h : World} {limit : ℕ} (a b : ℕ) → Standing w s h → h .offset < size → a ≤ b → b < size → h .runs + 2 ≤ limit
+    → true ≡ leb (stretches (flipRange a (suc b - a) (heldIn w h))) limit
+flip-fits-far {w} {s} {h} {limit} a b st l i k f =
+    sym (le-leb (stretches (flipRange a (suc b - a) (heldIn w h))) limit
+    (omega (arith, flip-one-more (heldIn w h) a (suc b - a) (omega arith) (omega arith), logical-most st l)))
 
 -- at most two runs go on over the ends of a range
 pub over-few : (P : Positions) (a b : ℕ) {on past : ℕ} → on ≡ oneIf (goesOn P a) → past ≡ oneIf (goesOn P (suc b)) → on + past ≤ 2
@@ -48,41 +45,42 @@ over-few P a b p q = omega (arith, one-bound (goesOn P a), one-bound (goesOn P (
 pub ends-few : (P : Positions) (a b : ℕ) {before after : ℕ} → before ≡ oneIf (heldBelow P a) → after ≡ oneIf (heldAbove P b) → before + after ≤ 2
 ends-few P a b p q = omega (arith, one-bound (heldBelow P a), one-bound (heldAbove P b))
 
--- a range of a sound store has few runs
-pub range-few : {w : List ℕ} {r : Tally} → Sound w → (a b : ℕ) → a ≤ b → b < size → Measured (heldBy w) true a (suc b - a) r → r .runs ≤ 65538
-range-few {w} s a b some fits m =
-    omega (
-      arith,
-      m .runs-are,
-      logical-few s,
-      stretches-parts (heldBy w) a (suc b - a) (omega arith) (omega arith),
-      one-bound (goesOn (heldBy w) a),
-      one-bound (goesOn (heldBy w) (a + (suc b - a))),
-    )
+module _ {w : List ℕ} {s : Share} {h : World} {limit : ℕ} (lim : Limited w s h limit) (a b : ℕ) (some : a ≤ b) (fits : b < size) where
+  -- a range of a world has few runs
+  pub range-few : {r : Tally} → Measured (heldIn w h) true a (suc b - a) r → r .runs ≤ 65568
+  range-few m =
+      omega (
+        arith,
+        m .runs-are,
+        logical-few lim,
+        stretches-parts (heldIn w h) a (suc b - a) (omega arith) (omega arith),
+        one-bound (goesOn (heldIn w h) a),
+        one-bound (goesOn (heldIn w h) (a + (suc b - a))),
+      )
 
--- a range of a sound store has few gaps
-pub gaps-few : {w : List ℕ} {r : Tally} → Sound w → (a b : ℕ) → a ≤ b → b < size → Measured (heldBy w) false a (suc b - a) r → r .runs ≤ 65539
-gaps-few {w} s a b some fits m =
-    omega (
-      arith,
-      m .runs-are,
-      ranges-alternate (heldBy w) a b some,
-      logical-few s,
-      stretches-parts (heldBy w) a (suc b - a) (omega arith) (omega arith),
-      one-bound (goesOn (heldBy w) a),
-      one-bound (goesOn (heldBy w) (a + (suc b - a))),
-    )
+  -- and few gaps
+  pub gaps-few : {r : Tally} → Measured (heldIn w h) false a (suc b - a) r → r .runs ≤ 65569
+  gaps-few m =
+      omega (
+        arith,
+        m .runs-are,
+        ranges-alternate (heldIn w h) a b some,
+        logical-few lim,
+        stretches-parts (heldIn w h) a (suc b - a) (omega arith) (omega arith),
+        one-bound (goesOn (heldIn w h) a),
+        one-bound (goesOn (heldIn w h) (a + (suc b - a))),
+      )
 
 -- whether a flip fits, by what was counted
-pub flip-fits-counted : (P : Positions) (a b : ℕ) → a ≤ b → b < size → {k : ℕ} {c total on past before after : ℕ} {held free : Tally} → c ≡ k
+pub flip-fits-counted : (P : Positions) (a b : ℕ) → a ≤ b → b < size → (k : ℕ) {total on past before after : ℕ} {held free : Tally}
     → total ≡ stretches P → Measured P true a (suc b - a) held → Measured P false a (suc b - a) free
     → on ≡ oneIf (goesOn P a) → past ≡ oneIf (goesOn P (suc b)) → before ≡ oneIf (heldBelow P a) → after ≡ oneIf (heldAbove P b)
-    → leb (total + (on + past) + (on + past) + free .runs) (c + held .runs + (before + after)) ≡ leb (stretches (flipRange a (suc b - a) P)) k
-flip-fits-counted P a b some fits {k} {c} {total} {on} {past} {before} {after} {held} {free} ec et mh mf eo ep eb ea =
+    → leb (total + (on + past) + (on + past) + free .runs) (k + held .runs + (before + after)) ≡ leb (stretches (flipRange a (suc b - a) P)) k
+flip-fits-counted P a b some fits k {total} {on} {past} {before} {after} {held} {free} et mh mf eo ep eb ea =
     let q = flip-leaves P a (suc b - a) b (omega arith) (omega arith) fits in
     let h = mh .runs-are in
     let f = mf .runs-are in
-    leb-like (stretches (flipRange a (suc b - a) P)) k (total + (on + past) + (on + past) + free .runs) (c + held .runs + (before + after))
+    leb-like (stretches (flipRange a (suc b - a) P)) k (total + (on + past) + (on + past) + free .runs) (k + held .runs + (before + after))
     (held .runs + (before + after)) (omega arith) (omega arith)
 
 -- ---- where a stretch ends
@@ -108,126 +106,140 @@ abbrev pub passed : ℕ → ℕ → ℕ → Bool → ℕ
 passed a x last true = x - a
 passed a x last false = suc last - a
 
--- the store w₀ became w, in which the positions from a up to x are flipped, or all up to the last one
-pub record Flipping (w₀ w : List ℕ) (a last x : ℕ) (more : Bool) : Type 0 where
-  pub sound : Sound w
-  pub long : length w ≡ length w₀
+-- the world h₀ became h, in which the positions from a up to x are flipped, or all up to the last one
+pub record Flipping (w₀ w : List ℕ) (s : Share) (h₀ h : World) (limit a last x : ℕ) (more : Bool) : Type 0 where
+  pub limited : Limited w s h limit
+  pub still : Still w₀ w s
   pub from : a ≤ x
   pub upto : x ≤ last
   pub within : last < size
-  pub holds : (y : ℕ) → y < size → heldBy w y ≡ flipRange a (passed a x last more) (heldBy w₀) y
-  pub start : stretches (heldBy w₀) ≤ capacity w₀
-  pub finish : stretches (flipRange a (suc last - a) (heldBy w₀)) ≤ capacity w₀
+  pub holds : (y : ℕ) → y < size → heldIn w h y ≡ flipRange a (passed a x last more) (heldIn w₀ h₀) y
+  pub start : stretches (heldIn w₀ h₀) ≤ limit
+  pub finish : stretches (flipRange a (suc last - a) (heldIn w₀ h₀)) ≤ limit
+
+-- whatever share it has, and whatever limit
+abbrev pub Flips : List ℕ → List ℕ → World → World → ℕ → ℕ → ℕ → Bool → Type 0
+Flips w₀ w h₀ h a last x more =
+    (s : Share) (limit : ℕ) → Limited w₀ s h₀ limit → stretches (flipRange a (suc last - a) (heldIn w₀ h₀)) ≤ limit
+    → Flipping w₀ w s h₀ h limit a last x more
 
 -- none are flipped
-pub flipping-none : {w : List ℕ} {a last : ℕ} (b : Bool) → Sound w → a ≤ last → last < size
-    → b ≡ leb (stretches (flipRange a (suc last - a) (heldBy w))) (capacity w) → not b ≡ false → Flipping w w a last a true
-flipping-none {w} {a} {last} b s l k e t = record {
-  sound = s;
-  long = refl;
+pub flips-none : {w : List ℕ} {h : World} {a last : ℕ} → a ≤ last → last < size → Flips w w h h a last a true
+flips-none {w} {h} {a} {last} l k s limit lim few = record {
+  limited = lim;
+  still = still-same;
   from = omega arith;
   upto = l;
   within = k;
-  holds = λ y i. sym (nothing y);
-  start = s .fits;
-  finish = leb-true (stretches (flipRange a (suc last - a) (heldBy w))) (capacity w) (sym e ∙ not-false b t);
+  holds = λ y i. sym (nothing y (split y a));
+  start = lim .fits;
+  finish = few;
 }
   where
-    nothing : (y : ℕ) → flipRange a (a - a) (heldBy w) y ≡ heldBy w y
-    nothing y = go (split y a)
-      where
-        go : (y < a) ⊎ (a ≤ y) → flipRange a (a - a) (heldBy w) y ≡ heldBy w y
-        go (inl i) = flip-below a (a - a) (heldBy w) y i
-        go (inr i) = flip-above a (a - a) (heldBy w) y (omega arith)
+    nothing : (y : ℕ) → (y < a) ⊎ (a ≤ y) → flipRange a (a - a) (heldIn w h) y ≡ heldIn w h y
+    nothing y (inl i) = flip-below a (a - a) (heldIn w h) y i
+    nothing y (inr i) = flip-above a (a - a) (heldIn w h) y (omega arith)
 
-module _ {w₀ w : List ℕ} {a last x y : ℕ} {more v : Bool} (f : Flipping w₀ w a last x more) (t : more ≡ true) (s : StretchEnd (heldBy w) v x last y) where
+-- a world after a change that leaves no more runs than it may have
+limited-after : {w w′ : List ℕ} {s : Share} {h k : World} {limit : ℕ} {Q : Positions} → Limited w s h limit → Became w w′ s k Q → stretches Q ≤ limit → Limited w′ s k limit
+limited-after {w′ = w′} {k = k} {Q = Q} lim be few = record {
+  standing = be .shows .standing;
+  fits = omega (arith, few, stretches-cong (heldIn w′ k) Q (be .shows .holds));
+  enough = lim .enough;
+}
+
+module _ {w₀ w : List ℕ} {s : Share} {h₀ h : World} {limit a last x y : ℕ} {more v : Bool} (f : Flipping w₀ w s h₀ h limit a last x more) (t : more ≡ true)
+    (en : StretchEnd (heldIn w h) v x last y) where
   -- what is flipped
-  flipped : (z : ℕ) → z < size → heldBy w z ≡ flipRange a (x - a) (heldBy w₀) z
-  flipped z l = f .holds z l ∙ ap (λ m. flipRange a (passed a x last m) (heldBy w₀) z) t
+  flipped : (z : ℕ) → z < size → heldIn w h z ≡ flipRange a (x - a) (heldIn w₀ h₀) z
+  flipped z l = f .holds z l ∙ ap (λ m. flipRange a (passed a x last m) (heldIn w₀ h₀) z) t
 
   -- from x on all is as it was
-  as-before : (z : ℕ) → x ≤ z → z < size → heldBy w₀ z ≡ heldBy w z
-  as-before z h l = sym (flipped z l ∙ flip-above a (x - a) (heldBy w₀) z (omega (arith, f .from)))
+  as-before : (z : ℕ) → x ≤ z → z < size → heldIn w₀ h₀ z ≡ heldIn w h z
+  as-before z i l = sym (flipped z l ∙ flip-above a (x - a) (heldIn w₀ h₀) z (omega (arith, f .from)))
 
   -- with the stretch set to the other value, the positions up to its end are flipped
-  set-flips : (z : ℕ) → z < size → setRange x (suc y - x) (not v) (heldBy w) z ≡ flipRange a (suc y - a) (heldBy w₀) z
+  set-flips : (z : ℕ) → z < size → setRange x (suc y - x) (not v) (heldIn w h) z ≡ flipRange a (suc y - a) (heldIn w₀ h₀) z
   set-flips z l =
       let p : a + (x - a) ≡ x = omega (arith, f .from) in
-      let q : x - a + (suc y - x) ≡ suc y - a = omega (arith, f .from, s .from) in
-      set-cong x (suc y - x) (not v) (heldBy w) (flipRange a (x - a) (heldBy w₀)) z (flipped z l)
-      ∙ ap (λ i. setRange i (suc y - x) (not v) (flipRange a (x - a) (heldBy w₀)) z) (sym p)
-      ∙ flip-further (heldBy w₀) a (x - a) (suc y - x) v
-      (λ i j k. as-before i (omega arith) (omega (arith, f .within, s .from, s .upto)) ∙ s .same i (omega arith) (omega (arith, s .from))) z
-      ∙ ap (λ n. flipRange a n (heldBy w₀) z) q
+      let q : x - a + (suc y - x) ≡ suc y - a = omega (arith, f .from, en .from) in
+      set-cong x (suc y - x) (not v) (heldIn w h) (flipRange a (x - a) (heldIn w₀ h₀)) z (flipped z l)
+      ∙ ap (λ i. setRange i (suc y - x) (not v) (flipRange a (x - a) (heldIn w₀ h₀)) z) (sym p)
+      ∙ flip-further (heldIn w₀ h₀) a (x - a) (suc y - x) v
+      (λ i j k. as-before i (omega arith) (omega (arith, f .within, en .from, en .upto)) ∙ en .same i (omega arith) (omega (arith, en .from))) z
+      ∙ ap (λ n. flipRange a n (heldIn w₀ h₀) z) q
 
   -- before the last stretch there are at most as many runs as at the start
-  runs-before : y < last → stretches (flipRange a (suc y - a) (heldBy w₀)) ≤ stretches (heldBy w₀)
+  runs-before : y < last → stretches (flipRange a (suc y - a) (heldIn w₀ h₀)) ≤ stretches (heldIn w₀ h₀)
   runs-before l =
-      let p : a + (suc y - a) ≡ suc y = omega (arith, f .from, s .from) in
+      let p : a + (suc y - a) ≡ suc y = omega (arith, f .from, en .from) in
       let q : a + (suc y - a) - 1 ≡ y = omega arith in
-      flip-none-more (heldBy w₀) a (suc y - a) (omega arith) (omega (arith, f .within))
-      (ap (heldBy w₀) p ∙ as-before (suc y) (omega (arith, s .from)) (omega (arith, f .within)) ∙ s .stop l
-      ∙ ap not (sym (ap (heldBy w₀) q ∙ as-before y (s .from) (omega (arith, f .within)) ∙ s .same y (s .from) (omega arith))))
+      flip-none-more (heldIn w₀ h₀) a (suc y - a) (omega arith) (omega (arith, f .within))
+      (ap (heldIn w₀ h₀) p ∙ as-before (suc y) (omega (arith, en .from)) (omega (arith, f .within)) ∙ en .stop l
+      ∙ ap not (sym (ap (heldIn w₀ h₀) q ∙ as-before y (en .from) (omega (arith, f .within)) ∙ en .same y (en .from) (omega arith))))
 
   -- so what the stretch's set leaves fits
-  pub stretch-settable : (x ≤ y) × (stretches (setRange x (suc y - x) (not v) (heldBy w)) ≤ capacity w)
-  stretch-settable = (s .from, go (split y last))
+  stretch-few : stretches (setRange x (suc y - x) (not v) (heldIn w h)) ≤ limit
+  stretch-few = go (split y last)
     where
-      same : stretches (setRange x (suc y - x) (not v) (heldBy w)) ≡ stretches (flipRange a (suc y - a) (heldBy w₀))
-      same = stretches-cong (setRange x (suc y - x) (not v) (heldBy w)) (flipRange a (suc y - a) (heldBy w₀)) set-flips
+      same : stretches (setRange x (suc y - x) (not v) (heldIn w h)) ≡ stretches (flipRange a (suc y - a) (heldIn w₀ h₀))
+      same = stretches-cong (setRange x (suc y - x) (not v) (heldIn w h)) (flipRange a (suc y - a) (heldIn w₀ h₀)) set-flips
 
-      room : capacity w ≡ capacity w₀
-      room = ap capacityOf (f .long)
-
-      go : (y < last) ⊎ (last ≤ y) → stretches (setRange x (suc y - x) (not v) (heldBy w)) ≤ capacity w
-      go (inl l) = omega (arith, same, room, runs-before l, f .start)
+      go : (y < last) ⊎ (last ≤ y) → stretches (setRange x (suc y - x) (not v) (heldIn w h)) ≤ limit
+      go (inl l) = omega (arith, same, runs-before l, f .start)
       go (inr l) =
-          let e : y ≡ last = omega (arith, s .upto) in
-          omega (arith, same, room, f .finish, ap (λ i. stretches (flipRange a (suc i - a) (heldBy w₀))) e)
+          let e : y ≡ last = omega (arith, en .upto) in
+          omega (arith, same, f .finish, ap (λ i. stretches (flipRange a (suc i - a) (heldIn w₀ h₀))) e)
 
-  module _ {w′ : List ℕ} (g : Settled w w′ (setRange x (suc y - x) (not v) (heldBy w))) where
+  -- and it may be applied
+  pub stretch-applies : Appliable w h x y (not v)
+  stretch-applies = (s, limit, record { limited = f .limited; ordered = en .from; few = stretch-few })
+
+  module _ {w′ : List ℕ} {k : World} (g : Makes w w′ h k (setRange x (suc y - x) (not v) (heldIn w h))) where
+    -- what the set made of the world
+    made : Became w w′ s k (setRange x (suc y - x) (not v) (heldIn w h))
+    made = g s limit (f .limited) stretch-few
+
     -- one more stretch is flipped
-    pub flipping-more : y < last → Flipping w₀ w′ a last (y + 1) more
+    pub flipping-more : y < last → Flipping w₀ w′ s h₀ k limit a last (y + 1) more
     flipping-more l = record {
-      sound = g .sound;
-      long = g .long ∙ f .long;
-      from = omega (arith, f .from, s .from);
+      limited = limited-after (f .limited) made stretch-few;
+      still = still-then (f .still) (made .still);
+      from = omega (arith, f .from, en .from);
       upto = omega arith;
       within = f .within;
-      holds = λ z k.
+      holds = λ z i.
           let e : suc y - a ≡ y + 1 - a = omega arith in
-          g .holds z k ∙ set-flips z k ∙ ap (λ n. flipRange a n (heldBy w₀) z) e ∙ sym (ap (λ m. flipRange a (passed a (y + 1) last m) (heldBy w₀) z) t);
+          made .shows .holds z i ∙ set-flips z i ∙ ap (λ n. flipRange a n (heldIn w₀ h₀) z) e
+          ∙ sym (ap (λ m. flipRange a (passed a (y + 1) last m) (heldIn w₀ h₀) z) t);
       start = f .start;
       finish = f .finish;
     }
 
     -- the last one is
-    pub flipping-last : last ≤ y → Flipping w₀ w′ a last x false
+    pub flipping-last : last ≤ y → Flipping w₀ w′ s h₀ k limit a last x false
     flipping-last l = record {
-      sound = g .sound;
-      long = g .long ∙ f .long;
+      limited = limited-after (f .limited) made stretch-few;
+      still = still-then (f .still) (made .still);
       from = f .from;
       upto = f .upto;
       within = f .within;
-      holds = λ z k.
-          let e : y ≡ last = omega (arith, s .upto) in
-          g .holds z k ∙ set-flips z k ∙ ap (λ i. flipRange a (suc i - a) (heldBy w₀) z) e;
+      holds = λ z i.
+          let e : y ≡ last = omega (arith, en .upto) in
+          made .shows .holds z i ∙ set-flips z i ∙ ap (λ j. flipRange a (suc j - a) (heldIn w₀ h₀) z) e;
       start = f .start;
       finish = f .finish;
     }
 
 -- all are flipped
-pub flipping-done : {w₀ w : List ℕ} {a last x : ℕ} {more : Bool} → Flipping w₀ w a last x more → more ≡ false
-    → Fitted w₀ w (flipRange a (suc last - a) (heldBy w₀)) Done
-flipping-done {w₀} {w} {a} {last} {x} f t = (
-  f .finish,
-  record {
-    sound = f .sound;
-    holds = λ z k. f .holds z k ∙ ap (λ m. flipRange a (passed a x last m) (heldBy w₀) z) t;
-    long = f .long;
-  },
-)
-
--- what does not fit is refused
-pub flip-refused : {w : List ℕ} (Q : Positions) (b : Bool) → b ≡ leb (stretches Q) (capacity w) → not b ≡ true → Fitted w w Q Full
-flip-refused {w} Q b e t = (leb-false (stretches Q) (capacity w) (sym e ∙ not-true b t), refl)
+pub flips-done : {w₀ w : List ℕ} {h₀ h : World} {a last x : ℕ} {more : Bool} → Flips w₀ w h₀ h a last x more → more ≡ false
+    → Makes w₀ w h₀ h (flipRange a (suc last - a) (heldIn w₀ h₀))
+flips-done {w₀} {w} {h₀} {h} {a} {last} {x} f t s limit lim few =
+    let g = f s limit lim few in
+    record {
+      shows = record {
+        standing = g .limited .standing;
+        holds = λ z k. g .holds z k ∙ ap (λ m. flipRange a (passed a x last m) (heldIn w₀ h₀) z) t;
+      };
+      still = g .still;
+    }

@@ -1,5 +1,5 @@
--- How many positions a set changes, from what the header tells before and after it. The sum of a sound store is how many positions it holds,
--- modulo 2^64, and only an empty store has no root, so the two tell a full store from an empty one. A set to true only adds positions, and
+-- How many positions a set changes, from what the world tells before and after it. Its sum is how many positions it holds,
+-- modulo 2^64, and only an empty world has no root, so the two tell a full world from an empty one. A set to true only adds positions, and
 -- one to false only frees some: so the difference is what changed. Assumes nothing.
 use Prim.Native.Nat.{ℕ, zero, suc, _+_, _-_, _^_, _%_, _≤_, _<_}
 use mathlib.Core.Path.{_≡_, refl, sym, ap, _∙_}
@@ -17,15 +17,15 @@ use Rattle.model.specs.After.{set-inside, set-below, set-above, changes-set}
 use Rattle.run_index.specs.Tree.{Tree, leaf, node, inorder, At}
 use Rattle.run_index.proofs.Trees.{rep-pos, rep-ordered}
 use Rattle.run_index.proofs.Totals.{ones-widths}
-use Rattle.store.specs.declared.Header.{Header}
-use Rattle.store.specs.Layout.{headerAt, turned, heldBy}
-use Rattle.store.specs.Soundness.{Sound}
-use Rattle.store.specs.Settle.{Settled}
+use Rattle.store.specs.declared.World.{World}
+use Rattle.store.specs.Layout.{turned, heldIn}
+use Rattle.store.specs.Soundness.{Share, Standing}
+use Rattle.store.specs.Settle.{Became}
 use Rattle.store.specs.Turn.{turned-zero, count-parted}
-use Rattle.store.proofs.Opening.{physicalIn, sound-held}
+use Rattle.store.proofs.Opening.{physicalIn, standing-held}
 use Rattle.changes.specs.Edits.{TellsHeld, Gains}
 
--- ---- what a header tells
+-- ---- what a world tells
 -- a turn moves positions and drops none
 count-turned : (o : ℕ) (Q : Positions) (v : Bool) → o < size → count (turned o Q) v 0 size ≡ count Q v 0 size
 count-turned zero Q v h = count-cong (turned 0 Q) Q v 0 size (λ x _ l. turned-zero Q x (omega arith))
@@ -47,19 +47,18 @@ rootless-widths (node n a b l r) h =
     let or : a ≤ b = rep-ordered (h .rep) in
     (λ z. absurd (omega (arith, h .linked)), λ z. absurd (omega (arith, widths-append (inorder l) (run a b ∷ inorder r))))
 
--- the root and the sum of a sound store tell how many positions it holds
-sound-tells : {w : List ℕ} {h : Header} → Sound w → h ≡ headerAt w → h .offset < size → TellsHeld (h .root) (h .ones) (count (heldBy w) true 0 size)
-sound-tells {w} {h} s eh small =
-    let held : count (heldBy w) true 0 size ≡ widths (inorder (s .tree)) =
-    ap (λ (P : Positions). count P true 0 size) (sound-held s eh) ∙ count-turned (h .offset) (physicalIn s) true small
-    ∙ count-mem size 0 (inorder (s .tree)) 0 size (s .kept .ordered) (omega arith) (omega arith) in
-    let root : h .root ≡ (headerAt w) .root = ap (λ (x : Header). x .root) eh in
-    let tree = rootless-widths (s .tree) (s .kept .linked) in
+-- the root and the sum of a world tell how many positions it holds
+world-tells : {w : List ℕ} {s : Share} {h : World} → Standing w s h → h .offset < size → TellsHeld (h .root) (h .ones) (count (heldIn w h) true 0 size)
+world-tells {w} {s} {h} st small =
+    let held : count (heldIn w h) true 0 size ≡ widths (inorder (st .tree)) =
+    ap (λ (P : Positions). count P true 0 size) (standing-held st) ∙ count-turned (h .offset) (physicalIn st) true small
+    ∙ count-mem size 0 (inorder (st .tree)) 0 size (st .kept .ordered) (omega arith) (omega arith) in
+    let tree = rootless-widths (st .tree) (st .kept .linked) in
     record {
-      most = omega (arith, count-both (heldBy w) 0 size);
-      sum = ap (λ (x : Header). x .ones) eh ∙ s .ones-are ∙ ones-widths (s .tree) (s .kept .linked .rep) ∙ ap (λ (k : ℕ). k % 2 ^ 64) (sym held);
-      none = λ z. held ∙ tree .0 (sym root ∙ z);
-      rootless = λ z. root ∙ tree .1 (sym held ∙ z);
+      most = omega (arith, count-both (heldIn w h) 0 size);
+      sum = st .ones-are ∙ ones-widths (st .tree) (st .kept .linked .rep) ∙ ap (λ (k : ℕ). k % 2 ^ 64) (sym held);
+      none = λ z. held ∙ tree .0 z;
+      rootless = λ z. tree .1 (sym held ∙ z);
     }
 
 -- ---- the difference
@@ -118,23 +117,23 @@ module _ (P : Positions) (a n : ℕ) (t : a + n ≤ size) where
         count-none (setRange a n v P) true a n (λ x k l. set-inside a n v P x k l ∙ e),
       )
 
--- ---- a set of a sound store, and its header before and after
-module _ {w w′ : List ℕ} {h k : Header} (s : Sound w) (a b : ℕ) (v : Bool) (i : a ≤ b) (l : b < size) (st : Settled w w′ (setRange a (suc b - a) v (heldBy w)))
-    (eh : h ≡ headerAt w) (oh : h .offset < size) (ek : k ≡ headerAt w′) (ok : k .offset < size) (c : Count) where
+-- ---- a world and what a set makes of it
+module _ {w w′ : List ℕ} {s : Share} {h k : World} (st : Standing w s h) (a b : ℕ) (v : Bool) (i : a ≤ b) (l : b < size)
+    (be : Became w w′ s k (setRange a (suc b - a) v (heldIn w h))) (oh : h .offset < size) (ok : k .offset < size) (c : Count) where
   -- it holds as many as the set leaves
-  after : count (heldBy w′) true 0 size ≡ count (setRange a (suc b - a) v (heldBy w)) true 0 size
-  after = count-cong (heldBy w′) (setRange a (suc b - a) v (heldBy w)) true 0 size (λ x _ u. st .holds x (omega arith))
+  after : count (heldIn w′ k) true 0 size ≡ count (setRange a (suc b - a) v (heldIn w h)) true 0 size
+  after = count-cong (heldIn w′ k) (setRange a (suc b - a) v (heldIn w h)) true 0 size (λ x _ u. be .shows .holds x (omega arith))
 
   -- what is gained is what a set to true changes
-  pub gained-changes : v ≡ true → Gains (h .root) (h .ones) (k .root) (k .ones) c → worth c ≡ changes (heldBy w) (setRange a (suc b - a) v (heldBy w))
+  pub gained-changes : v ≡ true → Gains (h .root) (h .ones) (k .root) (k .ones) c → worth c ≡ changes (heldIn w h) (setRange a (suc b - a) v (heldIn w h))
   gained-changes e g =
-      let sum = after ∙ set-adds (heldBy w) a (suc b - a) (omega arith) v e in
-      g (count (heldBy w) true 0 size) (count (heldBy w′) true 0 size) (sound-tells s eh oh) (sound-tells (st .sound) ek ok) (omega (arith, sum))
+      let sum = after ∙ set-adds (heldIn w h) a (suc b - a) (omega arith) v e in
+      g (count (heldIn w h) true 0 size) (count (heldIn w′ k) true 0 size) (world-tells st oh) (world-tells (be .shows .standing) ok) (omega (arith, sum))
       ∙ omega (arith, sum)
 
   -- and what is lost is what one to false changes
-  pub lost-changes : v ≡ false → Gains (k .root) (k .ones) (h .root) (h .ones) c → worth c ≡ changes (heldBy w) (setRange a (suc b - a) v (heldBy w))
+  pub lost-changes : v ≡ false → Gains (k .root) (k .ones) (h .root) (h .ones) c → worth c ≡ changes (heldIn w h) (setRange a (suc b - a) v (heldIn w h))
   lost-changes e g =
-      let sum = set-frees (heldBy w) a (suc b - a) (omega arith) v e in
-      g (count (heldBy w′) true 0 size) (count (heldBy w) true 0 size) (sound-tells (st .sound) ek ok) (sound-tells s eh oh) (omega (arith, sum, after))
+      let sum = set-frees (heldIn w h) a (suc b - a) (omega arith) v e in
+      g (count (heldIn w′ k) true 0 size) (count (heldIn w h) true 0 size) (world-tells (be .shows .standing) ok) (world-tells st oh) (omega (arith, sum, after))
       ∙ omega (arith, sum, after)

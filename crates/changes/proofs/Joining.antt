@@ -16,16 +16,16 @@ use Rattle.model.specs.RunList.{Canon}
 use Rattle.model.specs.Search.{firstFrom, canon-split, canon-starts, starts-weaken}
 use Rattle.model.specs.Edit.{insert, insert-put, insert-join}
 use Rattle.run_index.specs.declared.search.Near.{Near}
-use Rattle.run_index.specs.Cells.{Room}
 use Rattle.run_index.specs.Tree.{Tree}
 use Rattle.run_index.specs.Order.{Before}
 use Rattle.run_index.specs.Search.{Indexed, nearRun, TellsAfter}
-use Rattle.store.specs.declared.Header.{Header}
-use Rattle.store.specs.Layout.{headerAt}
-use Rattle.store.specs.Free.{Removable, RemovesRun}
-use Rattle.changes.specs.Change.{Reaching, Turns, Parted, Absorbable, Absorbs}
+use Rattle.store.specs.declared.Links.{Links}
+use Rattle.store.specs.Soundness.{Share}
+use Rattle.store.specs.Free.{Becomes, Removable, RemovesRun}
+use Rattle.changes.specs.declared.change.Reach.{Reach}
+use Rattle.changes.specs.Change.{Reaching, Parted, Absorbable, Absorbs}
 use Rattle.changes.proofs.Counting.{runsOf}
-use Rattle.changes.proofs.Steps.{turns-none, turns-canon, turns-room, turns-runs, turns-index, turns-after, turns-removable, turns-removed}
+use Rattle.changes.proofs.Steps.{becomes-none, becomes-canon, becomes-runs, becomes-indexed, becomes-after, becomes-removable, becomes-removed}
 use Rattle.changes.proofs.Lists.{first-after, first-some, first-none, append-one, canon-before}
 
 -- what reaches up to b holds x
@@ -78,47 +78,47 @@ unfolding insert
 take-none a b = refl
 
 -- ---- what `absorb` has done so far to the runs us after start .. b
-pub record SoFar (w w1 : List ℕ) (start e reached : ℕ) (more : Bool) (ls us : List Run) (b : ℕ) : Type 0 where
+pub record SoFar (w w1 : List ℕ) (sh : Share) (y : Links) (start e reached : ℕ) (more : Bool) (ls us : List Run) (b : ℕ) : Type 0 where
   pub left : List Run
-  pub turns : Turns w w1 (ls ++ (run start b ∷ left))
+  pub becomes : Becomes w w1 sh y (ls ++ (run start b ∷ left))
   pub same : (a : ℕ) → a ≤ start → insert a reached left ≡ insert a e us
   pub ended : more ≡ false → (a : ℕ) → a ≤ start → insert a reached left ≡ run a reached ∷ left
 
 -- nothing yet
-pub so-far-none : (w : List ℕ) (start e : ℕ) (ls us : List Run) (b : ℕ) (t : Tree) (ns : List ℕ) → Parted w ls (run start b ∷ us) t ns
-    → SoFar w w start e e (ltb start 18446744073709551615) ls us b
-so-far-none w start e ls us b t ns p = record {
+pub so-far-none : {w : List ℕ} {sh : Share} {x : Links} {start : ℕ} (e : ℕ) {ls us : List Run} {b : ℕ} {t : Tree} {ns : List ℕ} → Parted w sh x ls (run start b ∷ us) t ns
+    → SoFar w w sh x start e e (ltb start 18446744073709551615) ls us b
+so-far-none {w} {sh} {x} {start} e {ls} {us} {b} p = record {
   left = us;
-  turns = u;
+  becomes = u;
   same = λ a le. refl;
   ended = λ n a le. ap (insert a e) (last n us after) ∙ take-none a e ∙ ap (λ (vs : List Run). run a e ∷ vs) (sym (last n us after));
 }
   where
-    u : Turns w w (ls ++ (run start b ∷ us))
-    u = turns-none w t ns (ls ++ (run start b ∷ us)) (p .kept) (p .runs-are)
+    u : Becomes w w sh x (ls ++ (run start b ∷ us))
+    u = becomes-none (p .kept) (p .runs-are)
 
     after : Canon size (b + 2) us
-    after = grow-after ls us start b (turns-canon u)
+    after = grow-after ls us start b (becomes-canon u)
 
     last : ltb start 18446744073709551615 ≡ false → (vs : List Run) → Canon size (b + 2) vs → vs ≡ []
     last n [] c = refl
     last n (r ∷ vs) c =
-        absurd (omega (arith, ltb-false start 18446744073709551615 n, c .0, c .1, c .2, grow-ordered ls us start b (turns-canon u)))
+        absurd (omega (arith, ltb-false start 18446744073709551615 n, c .0, c .1, c .2, grow-ordered ls us start b (becomes-canon u)))
 
-module _ {w w1 : List ℕ} {start e reached : ℕ} {more : Bool} {ls us : List Run} {b : ℕ} (s : SoFar w w1 start e reached more ls us b) where
+module _ {w w1 : List ℕ} {sh : Share} {y : Links} {start e reached : ℕ} {more : Bool} {ls us : List Run} {b : ℕ} (s : SoFar w w1 sh y start e reached more ls us b) where
   -- the run that grows has its ends in order
   ordered : start ≤ b
-  ordered = grow-ordered ls (s .left) start b (turns-canon (s .turns))
+  ordered = grow-ordered ls (s .left) start b (becomes-canon (s .becomes))
 
   -- what is left starts two after it
   after : Canon size (b + 2) (s .left)
-  after = grow-after ls (s .left) start b (turns-canon (s .turns))
+  after = grow-after ls (s .left) start b (becomes-canon (s .becomes))
 
   -- the search for the next run
-  module _ (h : Header) (eh : h ≡ headerAt w1) (n : Near) (f : TellsAfter w1 (h .root) (start + 1) n) where
+  module _ (n : Near) (f : TellsAfter w1 (y .root) (start + 1) n) where
     -- it finds the first of the runs left
     next-is : nearRun n ≡ firstRun (s .left)
-    next-is = turns-after (s .turns) h eh (start + 1) n f ∙ next-first ls (s .left) start b (turns-canon (s .turns))
+    next-is = becomes-after (s .becomes) (start + 1) n f ∙ next-first ls (s .left) start b (becomes-canon (s .becomes))
 
     -- it finds r
     module _ (r : Run) (en : n ≡ Near.Run r) where
@@ -130,47 +130,47 @@ module _ {w w1 : List ℕ} {start e reached : ℕ} {more : Bool} {ls us : List R
       canon-rest : Canon size (b + 2) (r ∷ rest .0)
       canon-rest = subst (Canon size (b + 2)) (rest .1) after
 
-      -- the store's runs around r
-      around : Turns w w1 ((ls ++ (run start b ∷ [])) ++ (r ∷ rest .0))
+      -- the runs around r
+      around : Becomes w w1 sh y ((ls ++ (run start b ∷ [])) ++ (r ∷ rest .0))
       around =
-          subst (Turns w w1) (ap (λ (vs : List Run). ls ++ (run start b ∷ vs)) (rest .1) ∙ sym (append-one ls (run start b) (r ∷ rest .0))) (s .turns)
+          subst (Becomes w w1 sh y) (ap (λ (vs : List Run). ls ++ (run start b ∷ vs)) (rest .1) ∙ sym (append-one ls (run start b) (r ∷ rest .0))) (s .becomes)
 
       -- r may be removed
-      pub next-removable : Removable w1 (r .start)
-      next-removable = turns-removable (ls ++ (run start b ∷ [])) r (rest .0) around
+      pub next-removable : Removable w1 y (r .start)
+      next-removable = becomes-removable (ls ++ (run start b ∷ [])) r (rest .0) around
 
-      module _ {w2 : List ℕ} (g : RemovesRun w1 w2 (r .start)) where
-        -- the store without r
-        removed : Turns w w2 (ls ++ (run start b ∷ rest .0))
+      module _ {w2 : List ℕ} {z : Links} (g : RemovesRun w1 w2 y z (r .start)) where
+        -- the runs without r
+        removed : Becomes w w2 sh z (ls ++ (run start b ∷ rest .0))
         removed =
-            subst (Turns w w2) (append-one ls (run start b) (rest .0)) (turns-removed (ls ++ (run start b ∷ [])) r (rest .0) around g)
+            subst (Becomes w w2 sh z) (append-one ls (run start b) (rest .0)) (becomes-removed (ls ++ (run start b ∷ [])) r (rest .0) around g)
 
         -- it is taken in
-        pub so-far-taken : more ≡ true → r .start ≤ reached + 1 → SoFar w w2 start e (max reached (r .«end»)) more ls us b
+        pub so-far-taken : more ≡ true → r .start ≤ reached + 1 → SoFar w w2 sh z start e (max reached (r .«end»)) more ls us b
         so-far-taken m le = record {
           left = rest .0;
-          turns = removed;
+          becomes = removed;
           same = λ a l. take-in start b reached r (rest .0) ordered canon-rest le a l ∙ ap (insert a reached) (sym (rest .1)) ∙ s .same a l;
           ended = λ (q : more ≡ false). absurd (true≢false (sym m ∙ q));
         }
 
         -- there are fewer runs
-        pub so-far-fewer : runsOf w2 < runsOf w1
+        pub so-far-fewer : runsOf w2 (z .root) < runsOf w1 (y .root)
         so-far-fewer =
             omega (
               arith,
-              turns-runs removed,
-              turns-runs (s .turns),
+              becomes-runs removed,
+              becomes-runs (s .becomes),
               length-append ls (run start b ∷ rest .0),
               length-append ls (run start b ∷ s .left),
               ap length (rest .1),
             )
 
       -- r does not touch what is reached
-      pub so-far-apart : reached + 1 < r .start → SoFar w w1 start e reached false ls us b
+      pub so-far-apart : reached + 1 < r .start → SoFar w w1 sh y start e reached false ls us b
       so-far-apart lt = record {
         left = s .left;
-        turns = s .turns;
+        becomes = s .becomes;
         same = s .same;
         ended = λ q a l.
             ap (insert a reached) (rest .1) ∙ leave-out start b reached r (rest .0) ordered canon-rest lt a l
@@ -178,10 +178,10 @@ module _ {w w1 : List ℕ} {start e reached : ℕ} {more : Bool} {ls us : List R
       }
 
     -- it finds none
-    pub so-far-over : n ≡ Near.None → SoFar w w1 start e reached false ls us b
+    pub so-far-over : n ≡ Near.None → SoFar w w1 sh y start e reached false ls us b
     so-far-over en = record {
       left = s .left;
-      turns = s .turns;
+      becomes = s .becomes;
       same = s .same;
       ended = λ q a l.
           ap (insert a reached) nothing ∙ take-none a reached ∙ ap (λ (vs : List Run). run a reached ∷ vs) (sym nothing);
@@ -191,62 +191,58 @@ module _ {w w1 : List ℕ} {start e reached : ℕ} {more : Bool} {ls us : List R
         nothing = first-none (s .left) (sym (ap nearRun en) ∙ next-is)
 
 -- ---- the invariant of `absorb`
-pub record Absorbing (w w1 : List ℕ) (start e reached : ℕ) (more : Bool) : Type 0 where
+pub record Absorbing (w w1 : List ℕ) (x y : Links) (start e reached : ℕ) (more : Bool) : Type 0 where
   pub short : more ≡ true → start < 18446744073709551615
-  pub so-far : (ls us : List Run) (b : ℕ) (t : Tree) (ns : List ℕ) → Parted w ls (run start b ∷ us) t ns → SoFar w w1 start e reached more ls us b
+  pub so-far : {sh : Share} {ls us : List Run} {b : ℕ} {t : Tree} {ns : List ℕ} → Parted w sh x ls (run start b ∷ us) t ns
+      → SoFar w w1 sh y start e reached more ls us b
 
 -- it holds at first
-pub absorbing-none : (w : List ℕ) (start e : ℕ) → Absorbing w w start e e (ltb start 18446744073709551615)
-absorbing-none w start e = record {
-  short = λ m. ltb-true start 18446744073709551615 m;
-  so-far = λ ls us b t ns p. so-far-none w start e ls us b t ns p;
-}
+pub absorbing-none : (w : List ℕ) (x : Links) (start e : ℕ) → Absorbing w w x x start e e (ltb start 18446744073709551615)
+absorbing-none w x start e = record { short = λ m. ltb-true start 18446744073709551615 m; so-far = λ p. so-far-none e p }
 
-module _ {w w1 : List ℕ} {start e reached : ℕ} {more : Bool} (i : Absorbing w w1 start e reached more) (p : Absorbable w start) where
+module _ {w w1 : List ℕ} {x y : Links} {start e reached : ℕ} {more : Bool} (i : Absorbing w w1 x y start e reached more) (p : Absorbable w x start) where
   -- what has been done to the runs that the caller has
-  pub here : SoFar w w1 start e reached more (p .0) (p .1) (p .2)
-  here = i .so-far (p .0) (p .1) (p .2) (p .3) (p .4) (p .5)
+  pub here : SoFar w w1 (p .0) y start e reached more (p .1) (p .2) (p .3)
+  here = i .so-far (p .6)
 
-  -- the store may be read
-  pub absorbing-room : Room w1 0
-  absorbing-room = turns-room (here .turns)
+  -- the tree may be searched
+  pub absorbing-indexed : Indexed w1 (y .root)
+  absorbing-indexed = becomes-indexed (here .becomes)
 
-  -- and searched
-  pub absorbing-indexed : (h : Header) → h ≡ headerAt w1 → Indexed w1 (h .root)
-  absorbing-indexed h eh = (0, _, turns-index (here .turns) h eh)
-
-  -- its length is the old one
+  -- the length is the old one
   pub absorbing-long : length w1 ≡ length w
-  absorbing-long = here .turns .1 .long
+  absorbing-long = here .becomes .still .long
 
 -- in the end it is the promise
-pub absorbing-done : {w w1 : List ℕ} {start e reached : ℕ} {more : Bool} → more ≡ false → Absorbing w w1 start e reached more → Absorbs w w1 start e reached
-absorbing-done m i ls us b t ns p =
-    let s = i .so-far ls us b t ns p in
-    record { left = s .left; turns = s .turns; joined = λ a l. sym (s .same a l) ∙ s .ended m a l }
+pub absorbing-done : {w w1 : List ℕ} {x : Links} {r : Reach} {start e : ℕ} {more : Bool} → more ≡ false
+    → Absorbing w w1 x (r .links) start e (r .«end») more → Absorbs w w1 x start e r
+absorbing-done m i sh ls us b t ns p =
+    let s = i .so-far p in
+    record { left = s .left; becomes = s .becomes; joined = λ a l. sym (s .same a l) ∙ s .ended m a l }
 
-module _ {w w1 : List ℕ} {start e reached : ℕ} {more : Bool} (i : Absorbing w w1 start e reached more)
-    (h : Header) (eh : h ≡ headerAt w1) (n : Near) (f : TellsAfter w1 (h .root) (start + 1) n) where
-  module _ (r : Run) (en : n ≡ Near.Run r) (t : Bool) (et : Reaching reached (r .start) t) where
+module _ {w w1 : List ℕ} {x y : Links} {start e reached : ℕ} {more : Bool} (i : Absorbing w w1 x y start e reached more)
+    (n : Near) (f : TellsAfter w1 (y .root) (start + 1) n) where
+  module _ (r : Run) (en : n ≡ Near.Run r) (d : Bool) (ed : Reaching reached (r .start) d) where
     -- it goes on where the next run is taken in
-    pub absorbing-taken : {w2 : List ℕ} → RemovesRun w1 w2 (r .start) → more ≡ true → t ≡ true → (k : ℕ) → k ≡ max reached (r .«end») → Absorbing w w2 start e k more
-    absorbing-taken {w2} g m held k ek = record {
+    pub absorbing-taken : {w2 : List ℕ} {z : Links} → RemovesRun w1 w2 y z (r .start) → more ≡ true → d ≡ true → (k : ℕ) → k ≡ max reached (r .«end»)
+        → Absorbing w w2 x z start e k more
+    absorbing-taken {w2} {z} g m held k ek = record {
       short = i .short;
-      so-far = λ ls us b u ns p.
-          subst (λ (j : ℕ). SoFar w w2 start e j more ls us b) (sym ek)
-          (so-far-taken (i .so-far ls us b u ns p) h eh n f r en g m (leb-true (r .start) (reached + 1) (sym et ∙ held)));
+      so-far = λ {sh} {ls} {us} {b} p.
+          subst (λ (j : ℕ). SoFar w w2 sh z start e j more ls us b) (sym ek)
+          (so-far-taken (i .so-far p) n f r en g m (leb-true (r .start) (reached + 1) (sym ed ∙ held)));
     }
 
     -- and stops where it is apart
-    pub absorbing-apart : t ≡ false → Absorbing w w1 start e reached false
+    pub absorbing-apart : d ≡ false → Absorbing w w1 x y start e reached false
     absorbing-apart off = record {
       short = λ (q : false ≡ true). absurd (true≢false (sym q));
-      so-far = λ ls us b u ns p. so-far-apart (i .so-far ls us b u ns p) h eh n f r en (leb-false (r .start) (reached + 1) (sym et ∙ off));
+      so-far = λ p. so-far-apart (i .so-far p) n f r en (leb-false (r .start) (reached + 1) (sym ed ∙ off));
     }
 
   -- or there is none
-  pub absorbing-over : n ≡ Near.None → Absorbing w w1 start e reached false
+  pub absorbing-over : n ≡ Near.None → Absorbing w w1 x y start e reached false
   absorbing-over en = record {
     short = λ (q : false ≡ true). absurd (true≢false (sym q));
-    so-far = λ ls us b u ns p. so-far-over (i .so-far ls us b u ns p) h eh n f en;
+    so-far = λ p. so-far-over (i .so-far p) n f en;
   }

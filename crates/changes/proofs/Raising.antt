@@ -17,13 +17,13 @@ use Rattle.run_index.specs.declared.search.Near.{Near}
 use Rattle.run_index.specs.Tree.{Tree, inorder}
 use Rattle.run_index.specs.Order.{Before}
 use Rattle.run_index.specs.Search.{nearRun, TellsAfter}
-use Rattle.store.specs.declared.Header.{Header}
-use Rattle.store.specs.Layout.{headerAt, capacity}
-use Rattle.store.specs.Soundness.{Kept}
-use Rattle.store.specs.Free.{Addable, Adds, Changeable, Changes}
-use Rattle.changes.specs.Change.{MaySet, Settable, Holding, Sets, Reaching, Turns, Parted, Absorbable, Absorbed, Absorbs}
+use Rattle.store.specs.declared.Links.{Links}
+use Rattle.store.specs.Soundness.{Share, Kept}
+use Rattle.store.specs.Free.{Becomes, Addable, Adds, Changeable, Changes}
+use Rattle.changes.specs.declared.change.Reach.{Reach}
+use Rattle.changes.specs.Change.{MaySet, Settable, Holding, Sets, Reaching, Parted, Absorbable, Absorbed, Absorbs}
 use Rattle.changes.proofs.Lists.{first-after, first-some, first-none, Around, ends-before, ends-more, ends-last, append-one, canon-below}
-use Rattle.changes.proofs.Steps.{Found, FoundNone, turns-none, turns-after, turns-changeable, turns-changed, turns-addable, turns-added, set-canon, set-few, set-holding}
+use Rattle.changes.proofs.Steps.{Found, FoundNone, becomes-none, becomes-after, becomes-changeable, becomes-changed, becomes-addable, becomes-added, set-canon, set-few, set-holding}
 use Rattle.changes.proofs.Joining.{take-none}
 
 -- ---- what `insert` makes of runs
@@ -40,27 +40,27 @@ insert-first a b k (r ∷ us) l h c = insert-put a b r us (omega (arith, c .0, c
 
 -- ---- the runs set
 -- the runs set are those of `insert`
-raised : {w w′ : List ℕ} {s e : ℕ} {t : Tree} {ns : List ℕ} → MaySet w s e true t ns → Turns w w′ (insert s e (inorder t))
-    → Holding w w′ (setRange s (suc e - s) true (mem (inorder t)))
+raised : {w w′ : List ℕ} {sh : Share} {x y : Links} {s e : ℕ} {t : Tree} {ns : List ℕ} → MaySet w sh x s e true t ns → Becomes w w′ sh y (insert s e (inorder t))
+    → Holding w w′ sh y (setRange s (suc e - s) true (mem (inorder t)))
 unfolding setTo
 raised m u = set-holding m u
 
 -- they are canonical
-raised-canon : {w : List ℕ} {s e : ℕ} {t : Tree} {ns : List ℕ} → MaySet w s e true t ns → Canon size 0 (insert s e (inorder t))
+raised-canon : {w : List ℕ} {sh : Share} {x : Links} {s e : ℕ} {t : Tree} {ns : List ℕ} → MaySet w sh x s e true t ns → Canon size 0 (insert s e (inorder t))
 unfolding setTo
 raised-canon m = set-canon m
 
 -- the nodes are enough for them
-raised-few : {w : List ℕ} {s e : ℕ} {t : Tree} {ns : List ℕ} → MaySet w s e true t ns → length (insert s e (inorder t)) ≤ capacity w + 2
+raised-few : {w : List ℕ} {sh : Share} {x : Links} {s e : ℕ} {t : Tree} {ns : List ℕ} → MaySet w sh x s e true t ns → length (insert s e (inorder t)) ≤ sh .own
 unfolding setTo
 raised-few m = set-few m
 
 -- ---- the run r at s or before it reaches s
-module _ {w : List ℕ} {s e : ℕ} {r : Run} (q : Found w s r) (d : Bool) (ed : Reaching (r .«end») s d) (held : d ≡ true) where
-  module _ {t : Tree} {ns : List ℕ} (m : MaySet w s e true t ns) where
+module _ {w : List ℕ} {x : Links} {s e : ℕ} {r : Run} (q : Found w x s r) (d : Bool) (ed : Reaching (r .«end») s d) (held : d ≡ true) where
+  module _ {sh : Share} {t : Tree} {ns : List ℕ} (m : MaySet w sh x s e true t ns) where
     -- the runs around r
     around : Around s r (inorder t)
-    around = q .around t ns (m .kept)
+    around = q .around (m .kept)
 
     -- they are canonical
     canon-around : Canon size 0 (around .ls ++ (r ∷ around .us))
@@ -79,61 +79,61 @@ module _ {w : List ℕ} {s e : ℕ} {r : Run} (q : Found w s r) (d : Bool) (ed :
         (insert-join s e r (around .us) (leb-true s (r .«end» + 1) (sym ed ∙ held)) (omega (arith, around .at, m .ordered)) ∙ ap (λ (k : ℕ). insert k (max e (r .«end»)) (around .us)) (omega (arith, around .at)))
 
     -- r is one of the runs
-    parted : Parted w (around .ls) (run (r .start) (r .«end») ∷ around .us) t ns
+    parted : Parted w sh x (around .ls) (run (r .start) (r .«end») ∷ around .us) t ns
     parted = record { kept = m .kept; runs-are = around .is }
 
     -- it ends by e
-    module _ (lt : r .«end» < e) {w1 : List ℕ} {last : ℕ} (ab : Absorbs w w1 (r .start) e last) where
+    module _ (lt : r .«end» < e) {w1 : List ℕ} (far : Reach) (ab : Absorbs w w1 x (r .start) e far) where
       -- what `absorb` leaves
-      taken : Absorbed w w1 (r .start) e last (around .ls) (around .us) (r .«end»)
-      taken = ab (around .ls) (around .us) (r .«end») t ns parted
+      taken : Absorbed w w1 sh (far .links) (r .start) e (far .«end») (around .ls) (around .us) (r .«end»)
+      taken = ab sh (around .ls) (around .us) (r .«end») t ns parted
 
       -- the runs set have r up to what was reached
-      grown : insert s e (inorder t) ≡ around .ls ++ (run (r .start) last ∷ taken .left)
+      grown : insert s e (inorder t) ≡ around .ls ++ (run (r .start) (far .«end») ∷ taken .left)
       grown =
           joined-with
           ∙ ap (λ (vs : List Run). around .ls ++ vs)
           (ap (λ (k : ℕ). insert (r .start) k (around .us)) (omega arith) ∙ taken .joined (r .start) (omega arith))
 
       -- they are canonical
-      grown-canon : Canon size 0 (around .ls ++ (run (r .start) last ∷ taken .left))
+      grown-canon : Canon size 0 (around .ls ++ (run (r .start) (far .«end») ∷ taken .left))
       grown-canon = subst (Canon size 0) grown (raised-canon m)
 
       -- r ends no earlier than it starts
-      grown-ordered : r .start ≤ last
-      grown-ordered = canon-split size 0 (around .ls) (run (r .start) last) (taken .left) grown-canon .2
+      grown-ordered : r .start ≤ far .«end»
+      grown-ordered = canon-split size 0 (around .ls) (run (r .start) (far .«end»)) (taken .left) grown-canon .2
 
       -- r may grow
-      grow-changeable : Changeable w1 (r .start) (r .start) last
+      grow-changeable : Changeable w1 (far .links) (r .start) (r .start) (far .«end»)
       grow-changeable =
-          turns-changeable (around .ls) (run (r .start) (r .«end»)) (taken .left) (taken .turns) (r .start) last grown-ordered grown-canon
+          becomes-changeable (around .ls) (run (r .start) (r .«end»)) (taken .left) (taken .becomes) (r .start) (far .«end») grown-ordered grown-canon
 
       -- with r grown the positions are set
-      grow-held : {w2 : List ℕ} → Changes w1 w2 (r .start) (r .start) last → Holding w w2 (setRange s (suc e - s) true (mem (inorder t)))
+      grow-held : {w2 : List ℕ} → Changes w1 w2 (far .links) (r .start) (r .start) (far .«end») → Holding w w2 sh (far .links) (setRange s (suc e - s) true (mem (inorder t)))
       grow-held {w2} g =
-          raised m (subst (Turns w w2) (sym grown) (turns-changed (around .ls) (run (r .start) (r .«end»)) (taken .left) (taken .turns) (r .start) last grown-ordered grown-canon g))
+          raised m (subst (Becomes w w2 sh (far .links)) (sym grown) (becomes-changed (around .ls) (run (r .start) (r .«end»)) (taken .left) (taken .becomes) (r .start) (far .«end») grown-ordered grown-canon g))
 
     -- it goes on past e
-    stays : e ≤ r .«end» → Holding w w (setRange s (suc e - s) true (mem (inorder t)))
+    stays : e ≤ r .«end» → Holding w w sh x (setRange s (suc e - s) true (mem (inorder t)))
     stays le =
-        raised m (turns-none w t ns (insert s e (inorder t)) (m .kept) (around .is ∙ sym (joined-with ∙ ap (λ (vs : List Run). around .ls ++ vs) (ap (λ (k : ℕ). insert (r .start) k (around .us)) (omega arith) ∙ insert-first (r .start) (r .«end») (r .«end» + 2) (around .us) (omega (arith, parts .2)) (omega arith) (parts .4)))))
+        raised m (becomes-none (m .kept) (around .is ∙ sym (joined-with ∙ ap (λ (vs : List Run). around .ls ++ vs) (ap (λ (k : ℕ). insert (r .start) k (around .us)) (omega arith) ∙ insert-first (r .start) (r .«end») (r .«end» + 2) (around .us) (omega (arith, parts .2)) (omega arith) (parts .4)))))
 
   -- it may take in what follows
-  pub before-absorbable : Settable w s e true → Absorbable w (r .start)
-  before-absorbable p = (around (p .2) .ls, around (p .2) .us, r .«end», p .0, p .1, parted (p .2))
+  pub before-absorbable : Settable w x s e true → Absorbable w x (r .start)
+  before-absorbable p = (p .0, around (p .3) .ls, around (p .3) .us, r .«end», p .1, p .2, parted (p .3))
 
-  module _ (lt : r .«end» < e) {w1 : List ℕ} {last : ℕ} (ab : Absorbs w w1 (r .start) e last) where
+  module _ (lt : r .«end» < e) {w1 : List ℕ} (far : Reach) (ab : Absorbs w w1 x (r .start) e far) where
     -- it may grow
-    pub before-changeable : Settable w s e true → Changeable w1 (r .start) (r .start) last
-    before-changeable p = grow-changeable (p .2) lt ab
+    pub before-changeable : Settable w x s e true → Changeable w1 (far .links) (r .start) (r .start) (far .«end»)
+    before-changeable p = grow-changeable (p .3) lt far ab
 
     -- and does
-    pub before-grown : {w2 : List ℕ} → Changes w1 w2 (r .start) (r .start) last → Sets w w2 s e true
-    before-grown g t ns m = grow-held m lt ab g
+    pub before-grown : {w2 : List ℕ} → Changes w1 w2 (far .links) (r .start) (r .start) (far .«end») → Sets w w2 x (far .links) s e true
+    before-grown g sh t ns m = grow-held m lt far ab g
 
   -- or is long enough
-  pub before-stays : e ≤ r .«end» → Sets w w s e true
-  before-stays le t ns m = stays m le
+  pub before-stays : e ≤ r .«end» → Sets w w x x s e true
+  before-stays le sh t ns m = stays m le
 
 -- ---- no run reaches s from before it
 -- the runs ls end two before s, and us start at s or after it
@@ -144,18 +144,18 @@ pub record Parts (s : ℕ) (rs : List Run) : Type 0 where
   pub below : EndBelow (s - 1) ls
   pub from : StartFrom s us
 
--- it is so in the store
-pub record Passed (w : List ℕ) (s : ℕ) : Type 0 where
-  pub parts : (t : Tree) (ns : List ℕ) → Kept w t ns → Parts s (inorder t)
+-- it is so in the tree
+pub record Passed (w : List ℕ) (x : Links) (s : ℕ) : Type 0 where
+  pub parts : {sh : Share} {t : Tree} {ns : List ℕ} → Kept w sh x t ns → Parts s (inorder t)
 
 -- as the last run from before s ends two before it
-pub passed-apart : {w : List ℕ} {s : ℕ} {r : Run} → Found w s r → (d : Bool) → Reaching (r .«end») s d → d ≡ false → Passed w s
-passed-apart {w} {s} {r} q d ed off = record { parts = go }
+pub passed-apart : {w : List ℕ} {x : Links} {s : ℕ} {r : Run} → Found w x s r → (d : Bool) → Reaching (r .«end») s d → d ≡ false → Passed w x s
+passed-apart {w} {x} {s} {r} q d ed off = record { parts = go }
   where
-    go : (t : Tree) (ns : List ℕ) → Kept w t ns → Parts s (inorder t)
-    go t ns k =
+    go : {sh : Share} {t : Tree} {ns : List ℕ} → Kept w sh x t ns → Parts s (inorder t)
+    go {sh} {t} k =
         let lt : r .«end» + 1 < s = leb-false s (r .«end» + 1) (sym ed ∙ off) in
-        let a : Around s r (inorder t) = q .around t ns k in
+        let a : Around s r (inorder t) = q .around k in
         let c : Canon size 0 (a .ls ++ (r ∷ a .us)) = subst (Canon size 0) (a .is) (k .ordered) in
         let o = canon-split size 0 (a .ls) r (a .us) c in
         record {
@@ -168,14 +168,14 @@ passed-apart {w} {s} {r} q d ed off = record { parts = go }
         }
 
 -- or there is none
-pub passed-none : {w : List ℕ} {s : ℕ} → FoundNone w s → Passed w s
-passed-none {w} {s} q = record {
-  parts = λ t ns k. record {
+pub passed-none : {w : List ℕ} {x : Links} {s : ℕ} → FoundNone w x s → Passed w x s
+passed-none {s = s} q = record {
+  parts = λ {sh} {t} k. record {
     ls = [];
     us = inorder t;
     is = refl;
     below = tt;
-    from = starts-weaken (s + 1) s (inorder t) (omega arith) (q .after t ns k);
+    from = starts-weaken (s + 1) s (inorder t) (omega arith) (q .after k);
   };
 }
 
@@ -187,20 +187,20 @@ pub record Lone (s e : ℕ) (rs : List Run) : Type 0 where
   pub below : EndBelow (s - 1) ls
   pub set : insert s e rs ≡ ls ++ (run s e ∷ us)
 
--- it is so in the store
-pub record Alone (w : List ℕ) (s e : ℕ) : Type 0 where
-  pub lone : (t : Tree) (ns : List ℕ) → MaySet w s e true t ns → Lone s e (inorder t)
+-- it is so in the tree
+pub record Alone (w : List ℕ) (x : Links) (s e : ℕ) : Type 0 where
+  pub lone : {sh : Share} {t : Tree} {ns : List ℕ} → MaySet w sh x s e true t ns → Lone s e (inorder t)
 
-module _ {w : List ℕ} {s e : ℕ} (q : Passed w s) (h : Header) (eh : h ≡ headerAt w) (n : Near) (f : TellsAfter w (h .root) s n) where
-  module _ {t : Tree} {ns : List ℕ} (m : MaySet w s e true t ns) where
+module _ {w : List ℕ} {x : Links} {s e : ℕ} (q : Passed w x s) (n : Near) (f : TellsAfter w (x .root) s n) where
+  module _ {sh : Share} {t : Tree} {ns : List ℕ} (m : MaySet w sh x s e true t ns) where
     -- the runs before s and from s on
     abbrev sides : Parts s (inorder t)
-    sides = q .parts t ns (m .kept)
+    sides = q .parts (m .kept)
 
     -- the search finds the first from s on
     next-is : nearRun n ≡ firstRun (sides .us)
     next-is =
-        turns-after (turns-none w t ns (inorder t) (m .kept) refl) h eh s n f ∙ ap (firstFrom s) (sides .is)
+        becomes-after (becomes-none (m .kept) refl) s n f ∙ ap (firstFrom s) (sides .is)
         ∙ first-after s (sides .ls) (sides .us) (ends-before (s - 1) s (sides .ls) (omega arith) (sides .below)) (sides .from)
 
     -- the runs before s stay
@@ -209,7 +209,7 @@ module _ {w : List ℕ} {s e : ℕ} (q : Passed w s) (h : Header) (eh : h ≡ he
 
   -- the next run is r
   module _ (r : Run) (en : n ≡ Near.Run r) (d : Bool) (ed : Reaching e (r .start) d) where
-    module _ {t : Tree} {ns : List ℕ} (m : MaySet w s e true t ns) where
+    module _ {sh : Share} {t : Tree} {ns : List ℕ} (m : MaySet w sh x s e true t ns) where
       -- the runs after r
       rest : (vs : List Run) × (sides m .us ≡ r ∷ vs)
       rest = first-some (sides m .us) r (sym (ap nearRun en) ∙ next-is m)
@@ -227,17 +227,17 @@ module _ {w : List ℕ} {s e : ℕ} (q : Passed w s) (h : Header) (eh : h ≡ he
       in-order = canon-split size 0 (sides m .ls) r (rest .0) canon-sides .2
 
       -- r is one of the runs
-      parted-after : Parted w (sides m .ls) (run (r .start) (r .«end») ∷ rest .0) t ns
+      parted-after : Parted w sh x (sides m .ls) (run (r .start) (r .«end») ∷ rest .0) t ns
       parted-after = record { kept = m .kept; runs-are = sides m .is ∙ ap (λ (vs : List Run). sides m .ls ++ vs) (rest .1) }
 
       -- and touches e
-      module _ (held : d ≡ true) (k : ℕ) (ek : k ≡ max e (r .«end»)) {w1 : List ℕ} {last : ℕ} (ab : Absorbs w w1 (r .start) k last) where
+      module _ (held : d ≡ true) (k : ℕ) (ek : k ≡ max e (r .«end»)) {w1 : List ℕ} (far : Reach) (ab : Absorbs w w1 x (r .start) k far) where
         -- what `absorb` leaves
-        taken-after : Absorbed w w1 (r .start) k last (sides m .ls) (rest .0) (r .«end»)
-        taken-after = ab (sides m .ls) (rest .0) (r .«end») t ns parted-after
+        taken-after : Absorbed w w1 sh (far .links) (r .start) k (far .«end») (sides m .ls) (rest .0) (r .«end»)
+        taken-after = ab sh (sides m .ls) (rest .0) (r .«end») t ns parted-after
 
         -- the runs set have r from s up to what was reached
-        stretched : insert s e (inorder t) ≡ sides m .ls ++ (run s last ∷ taken-after .left)
+        stretched : insert s e (inorder t) ≡ sides m .ls ++ (run s (far .«end») ∷ taken-after .left)
         stretched =
             set-after m
             ∙ ap (λ (vs : List Run). sides m .ls ++ vs)
@@ -247,38 +247,38 @@ module _ {w : List ℕ} {s e : ℕ} (q : Passed w s) (h : Header) (eh : h ≡ he
             ∙ taken-after .joined s from-s)
 
         -- they are canonical
-        stretched-canon : Canon size 0 (sides m .ls ++ (run s last ∷ taken-after .left))
+        stretched-canon : Canon size 0 (sides m .ls ++ (run s (far .«end») ∷ taken-after .left))
         stretched-canon = subst (Canon size 0) stretched (raised-canon m)
 
         -- what was reached is no earlier than s
-        stretched-ordered : s ≤ last
-        stretched-ordered = canon-split size 0 (sides m .ls) (run s last) (taken-after .left) stretched-canon .2
+        stretched-ordered : s ≤ far .«end»
+        stretched-ordered = canon-split size 0 (sides m .ls) (run s (far .«end»)) (taken-after .left) stretched-canon .2
 
         -- r may grow to both sides
-        stretch-changeable : Changeable w1 (r .start) s last
+        stretch-changeable : Changeable w1 (far .links) (r .start) s (far .«end»)
         stretch-changeable =
-            turns-changeable (sides m .ls) (run (r .start) (r .«end»)) (taken-after .left) (taken-after .turns) s last stretched-ordered stretched-canon
+            becomes-changeable (sides m .ls) (run (r .start) (r .«end»)) (taken-after .left) (taken-after .becomes) s (far .«end») stretched-ordered stretched-canon
 
         -- with r grown the positions are set
-        stretch-held : {w2 : List ℕ} → Changes w1 w2 (r .start) s last → Holding w w2 (setRange s (suc e - s) true (mem (inorder t)))
+        stretch-held : {w2 : List ℕ} → Changes w1 w2 (far .links) (r .start) s (far .«end») → Holding w w2 sh (far .links) (setRange s (suc e - s) true (mem (inorder t)))
         stretch-held {w2} g =
-            raised m (subst (Turns w w2) (sym stretched) (turns-changed (sides m .ls) (run (r .start) (r .«end»)) (taken-after .left) (taken-after .turns) s last stretched-ordered stretched-canon g))
+            raised m (subst (Becomes w w2 sh (far .links)) (sym stretched) (becomes-changed (sides m .ls) (run (r .start) (r .«end»)) (taken-after .left) (taken-after .becomes) s (far .«end») stretched-ordered stretched-canon g))
 
     -- it may take in what follows
-    pub after-absorbable : Settable w s e true → Absorbable w (r .start)
-    after-absorbable p = (sides (p .2) .ls, rest (p .2) .0, r .«end», p .0, p .1, parted-after (p .2))
+    pub after-absorbable : Settable w x s e true → Absorbable w x (r .start)
+    after-absorbable p = (p .0, sides (p .3) .ls, rest (p .3) .0, r .«end», p .1, p .2, parted-after (p .3))
 
-    module _ (held : d ≡ true) (k : ℕ) (ek : k ≡ max e (r .«end»)) {w1 : List ℕ} {last : ℕ} (ab : Absorbs w w1 (r .start) k last) where
+    module _ (held : d ≡ true) (k : ℕ) (ek : k ≡ max e (r .«end»)) {w1 : List ℕ} (far : Reach) (ab : Absorbs w w1 x (r .start) k far) where
       -- it may grow to both sides
-      pub after-changeable : Settable w s e true → Changeable w1 (r .start) s last
-      after-changeable p = stretch-changeable (p .2) held k ek ab
+      pub after-changeable : Settable w x s e true → Changeable w1 (far .links) (r .start) s (far .«end»)
+      after-changeable p = stretch-changeable (p .3) held k ek far ab
 
       -- and does
-      pub after-grown : {w2 : List ℕ} → Changes w1 w2 (r .start) s last → Sets w w2 s e true
-      after-grown g t ns m = stretch-held m held k ek ab g
+      pub after-grown : {w2 : List ℕ} → Changes w1 w2 (far .links) (r .start) s (far .«end») → Sets w w2 x (far .links) s e true
+      after-grown g sh t ns m = stretch-held m held k ek far ab g
 
   -- what is set stands between both sides
-  lone-between : {t : Tree} {ns : List ℕ} (m : MaySet w s e true t ns) → insert s e (sides m .us) ≡ run s e ∷ sides m .us → Lone s e (inorder t)
+  lone-between : {sh : Share} {t : Tree} {ns : List ℕ} (m : MaySet w sh x s e true t ns) → insert s e (sides m .us) ≡ run s e ∷ sides m .us → Lone s e (inorder t)
   lone-between m i = record {
     ls = sides m .ls;
     us = sides m .us;
@@ -288,9 +288,9 @@ module _ {w : List ℕ} {s e : ℕ} (q : Passed w s) (h : Header) (eh : h ≡ he
   }
 
   -- as the next run is apart
-  pub alone-apart : (r : Run) → n ≡ Near.Run r → (d : Bool) → Reaching e (r .start) d → d ≡ false → Alone w s e
+  pub alone-apart : (r : Run) → n ≡ Near.Run r → (d : Bool) → Reaching e (r .start) d → d ≡ false → Alone w x s e
   alone-apart r en d ed off = record {
-    lone = λ t ns m.
+    lone = λ m.
         let u = rest r en d ed m in
         lone-between m
         (ap (insert s e) (u .1)
@@ -299,18 +299,18 @@ module _ {w : List ℕ} {s e : ℕ} (q : Passed w s) (h : Header) (eh : h ≡ he
   }
 
   -- or there is none
-  pub alone-none : n ≡ Near.None → Alone w s e
+  pub alone-none : n ≡ Near.None → Alone w x s e
   alone-none en = record {
-    lone = λ t ns m.
+    lone = λ m.
         let z : sides m .us ≡ [] = first-none (sides m .us) (sym (ap nearRun en) ∙ next-is m) in
         lone-between m (ap (insert s e) z ∙ take-none s e ∙ ap (λ (vs : List Run). run s e ∷ vs) (sym z));
   }
 
-module _ {w : List ℕ} {s e : ℕ} (al : Alone w s e) where
-  module _ {t : Tree} {ns : List ℕ} (m : MaySet w s e true t ns) where
+module _ {w : List ℕ} {x : Links} {s e : ℕ} (al : Alone w x s e) where
+  module _ {sh : Share} {t : Tree} {ns : List ℕ} (m : MaySet w sh x s e true t ns) where
     -- what is set stands alone
     lone : Lone s e (inorder t)
-    lone = al .lone t ns m
+    lone = al .lone m
 
     -- the runs set are canonical
     lone-canon : Canon size 0 (lone .ls ++ (run s e ∷ lone .us))
@@ -327,26 +327,26 @@ module _ {w : List ℕ} {s e : ℕ} (al : Alone w s e) where
         starts-weaken (e + 2) (s + 1) (lone .us) (omega (arith, m .ordered)) (canon-starts size (e + 2) (lone .us) (d .4))
 
     -- the nodes are enough
-    lone-few : length (lone .ls ++ (run s e ∷ lone .us)) ≤ capacity w + 2
+    lone-few : length (lone .ls ++ (run s e ∷ lone .us)) ≤ sh .own
     lone-few = omega (arith, raised-few m, ap length (lone .set))
 
-    -- the store as it is
-    at-lone : Turns w w (lone .ls ++ lone .us)
-    at-lone = turns-none w t ns (lone .ls ++ lone .us) (m .kept) (lone .is)
+    -- the tree as it is
+    at-lone : Becomes w w sh x (lone .ls ++ lone .us)
+    at-lone = becomes-none (m .kept) (lone .is)
 
     -- s .. e may be added
-    lone-addable : Addable w s e
-    lone-addable = turns-addable (lone .ls) (lone .us) at-lone s e lone-before lone-after (m .ordered) lone-canon lone-few
+    lone-addable : Addable w x s e
+    lone-addable = becomes-addable (lone .ls) (lone .us) at-lone s e lone-before lone-after (m .ordered) lone-canon lone-few
 
     -- with it the positions are set
-    lone-held : {w2 : List ℕ} → Adds w w2 s e → Holding w w2 (setRange s (suc e - s) true (mem (inorder t)))
-    lone-held {w2} g =
-        raised m (subst (Turns w w2) (sym (lone .set)) (turns-added (lone .ls) (lone .us) at-lone s e lone-before lone-after (m .ordered) lone-canon lone-few g))
+    lone-held : {w2 : List ℕ} {y : Links} → Adds w w2 x y s e → Holding w w2 sh y (setRange s (suc e - s) true (mem (inorder t)))
+    lone-held {w2} {y} g =
+        raised m (subst (Becomes w w2 sh y) (sym (lone .set)) (becomes-added (lone .ls) (lone .us) at-lone s e lone-before lone-after (m .ordered) lone-canon lone-few g))
 
   -- a new run may be added
-  pub alone-addable : Settable w s e true → Addable w s e
-  alone-addable p = lone-addable (p .2)
+  pub alone-addable : Settable w x s e true → Addable w x s e
+  alone-addable p = lone-addable (p .3)
 
   -- and is
-  pub alone-added : {w2 : List ℕ} → Adds w w2 s e → Sets w w2 s e true
-  alone-added g t ns m = lone-held m g
+  pub alone-added : {w2 : List ℕ} {y : Links} → Adds w w2 x y s e → Sets w w2 x y s e true
+  alone-added g sh t ns m = lone-held m g

@@ -1,4 +1,4 @@
--- Giving logical positions of a sound store a value. They lie at one physical range, or at two; what is written there is, turned, the set
+-- Giving logical positions of a world a value. They lie at one physical range, or at two; what is written there is, turned, the set
 -- asked for, and there are nodes enough on the way: one run more at most physically, and one more after the first of two ranges.
 -- Assumes nothing.
 use Prim.Native.Nat.{ℕ, suc, _-_, _≤_, _<_}
@@ -7,135 +7,116 @@ use mathlib.Core.Logic.{_⊎_, inl, inr}
 use mathlib.Core.Bool.{Bool}
 use mathlib.Core.List.{List}
 use native.Mathlib.Omega.{arith}
-use lib.ListN.{length}
 use Rattle.model.specs.Numbers.{size, split}
-use Rattle.model.specs.Places.{capacityOf}
 use Rattle.model.specs.Positions.{Positions, setRange, stretches, mem}
 use Rattle.model.specs.After.{set-cong}
 use Rattle.run_index.specs.Tree.{Tree, runs, inorder}
-use Rattle.store.specs.declared.Header.{Header}
-use Rattle.store.specs.Layout.{headerAt, capacity, turned, heldBy}
-use Rattle.store.specs.Soundness.{Kept, Sound}
-use Rattle.store.specs.Free.{SameRest}
-use Rattle.store.specs.Settle.{Settled, Ready, Refreshes, Resettable}
+use Rattle.store.specs.declared.World.{World}
+use Rattle.store.specs.declared.Links.{Links}
+use Rattle.store.specs.Layout.{linksOf, turned, heldIn}
+use Rattle.store.specs.Soundness.{Share, Still, Kept, Standing, Limited}
+use Rattle.store.specs.Settle.{Became, Refreshes, Resettable}
 use Rattle.store.specs.Turn.{Lies, first-below, parted-length}
-use Rattle.store.proofs.Opening.{physicalIn, sound-held, sound-none, sound-some}
+use Rattle.store.proofs.Nodes.{still-then}
+use Rattle.store.proofs.Opening.{physicalIn, standing-held, standing-none, standing-some}
 use Rattle.changes.specs.Change.{MaySet, Settable, Holding, Sets}
 use Rattle.changes.specs.Neighbours.{stretches-cong}
 use Rattle.changes.specs.TurnedSet.{turned-cong, turned-set-whole, turned-set-first, turned-set-parted}
 use Rattle.changes.specs.SetRuns.{set-one-more, physical-one-more}
-use Rattle.changes.proofs.Steps.{rest-then}
 
--- w′ keeps physical positions that are P, turned by its offset, and has the length of w and, but for its root and free head, the header
-pub record Reached (w w′ : List ℕ) (P : Positions) : Type 0 where
+-- what the links of a world lead to is kept
+pub links-kept : {w : List ℕ} {s : Share} {h : World} {x : Links} → x ≡ linksOf h → (st : Standing w s h) → Kept w s x (st .tree) (st .free)
+links-kept {w} {s} e st = subst (λ (y : Links). Kept w s y (st .tree) (st .free)) (sym e) (st .kept)
+
+-- the links y lead to physical positions in w′ that are P, turned by the offset o; others stand still
+pub record Reached (w w′ : List ℕ) (s : Share) (y : Links) (o : ℕ) (P : Positions) : Type 0 where
   pub tree : Tree
   pub nodes : List ℕ
-  pub kept : Kept w′ tree nodes
-  pub holds : (x : ℕ) → x < size → turned ((headerAt w′) .offset) (mem (inorder tree)) x ≡ P x
-  pub rest : SameRest (headerAt w) (headerAt w′)
-  pub long : length w′ ≡ length w
+  pub kept : Kept w′ s y tree nodes
+  pub holds : (x : ℕ) → x < size → turned o (mem (inorder tree)) x ≡ P x
+  pub still : Still w w′ s
 
--- words that are the same have reached the same
-pub reached-same : {w w′ w″ : List ℕ} {P : Positions} → w″ ≡ w′ → Reached w w′ P → Reached w w″ P
-reached-same {w} {w′} {w″} {P} e = subst (λ u. Reached w u P) (sym e)
+-- the world that is brought into agreement holds them
+pub reached-became : {w w′ : List ℕ} {s : Share} {y : Links} {o : ℕ} {P : Positions} {k : World} → Reached w w′ s y o P → Refreshes w′ y o k → Became w w′ s k P
+reached-became {s = s} r re =
+    let sh = re s (r .tree) (r .nodes) (r .kept) in
+    record { shows = record { standing = sh .standing; holds = λ x l. sh .holds x l ∙ r .holds x l }; still = r .still }
 
-module _ {w w′ : List ℕ} {P : Positions} (r : Reached w w′ P) (fits : stretches P ≤ capacity w) where
-  -- where the runs are not too many, the header can be brought into agreement
-  reached-ready : Ready w′ (r .tree) (r .nodes)
-  reached-ready = record {
-    kept = r .kept;
-    fits = omega (
-      arith,
-      stretches-cong (turned ((headerAt w′) .offset) (mem (inorder (r .tree)))) P (r .holds),
-      ap capacityOf (r .long),
-    );
-  }
-
-  -- and then the store is sound and holds them
-  pub reached-settled : {w″ : List ℕ} → Refreshes w′ w″ → Settled w w″ P
-  reached-settled re =
-      let s = re (r .tree) (r .nodes) reached-ready in
-      record { sound = s .sound; holds = λ x l. s .holds x l ∙ r .holds x l; long = s .long ∙ r .long }
-
--- the header tells of what w held, so little is left to find out
-pub reached-resettable : {w w′ : List ℕ} {h : Header} (a b : ℕ) (v : Bool) (s : Sound w) → h ≡ headerAt w → h .offset < size → a ≤ b → b < size
-    → Reached w w′ (setRange a (suc b - a) v (heldBy w)) → stretches (setRange a (suc b - a) v (heldBy w)) ≤ capacity w → Resettable w′ a b v
-reached-resettable {w} {w′} {h} a b v s eh small le below r fits = (
+-- the world tells of what was held, so little is left to find out
+pub reached-resettable : {w w′ : List ℕ} {s : Share} {h : World} {y : Links} (a b : ℕ) (v : Bool) → Standing w s h → h .offset < size → a ≤ b → b < size
+    → Reached w w′ s y (h .offset) (setRange a (suc b - a) v (heldIn w h)) → Resettable w′ y h a b v
+reached-resettable {w} {w′} {s} {h} a b v st small le below r = (
+  s,
   r .tree,
   r .nodes,
-  heldBy w,
-  reached-ready r fits,
+  heldIn w h,
+  r .kept,
   record {
     ordered = le;
     below = below;
-    first-was = r .rest .first-same ∙ s .first-is;
-    last-was = r .rest .last-same ∙ s .last-is;
-    none-were = λ z. sound-none s eh (sym runs-were ∙ z);
-    some-were = λ nz. sound-some s eh small (some nz (split 0 (runs (s .tree))));
+    first-was = st .first-is;
+    last-was = st .last-is;
+    none-were = λ z. standing-none st (sym (st .runs-are) ∙ z);
+    some-were = λ nz. standing-some st small (some nz (split 0 (runs (st .tree))));
     set-to = r .holds;
   },
 )
   where
-    runs-were : (headerAt w′) .runs ≡ runs (s .tree)
-    runs-were = r .rest .runs-same ∙ s .runs-are
-
-    some : ((headerAt w′) .runs ≡ 0 → ⊥) → (0 < runs (s .tree)) ⊎ (runs (s .tree) ≤ 0) → 1 ≤ runs (s .tree)
+    some : (h .runs ≡ 0 → ⊥) → (0 < runs (st .tree)) ⊎ (runs (st .tree) ≤ 0) → 1 ≤ runs (st .tree)
     some nz (inl l) = l
-    some nz (inr l) = absurd (nz (omega (arith, runs-were)))
+    some nz (inr l) = absurd (nz (omega (arith, st .runs-are)))
 
 -- what Holding tells of the logical positions
-holding-reached : {w w′ : List ℕ} {X P : Positions} (o : ℕ) → o ≡ (headerAt w) .offset → Holding w w′ X
-    → ((x : ℕ) → x < size → turned o X x ≡ P x) → Reached w w′ P
-holding-reached {w} {w′} {X} {P} o eo k f =
-    let Y : Positions = mem (inorder (k .tree)) in
-    record {
-      tree = k .tree;
-      nodes = k .nodes;
-      kept = k .kept;
-      holds = λ x l. ap (λ p. turned p Y x) (k .rest .offset-same ∙ sym eo) ∙ turned-cong o Y X (k .positions-are) x l ∙ f x l;
-      rest = k .rest;
-      long = k .long;
-    }
+holding-reached : {w w′ : List ℕ} {s : Share} {y : Links} {X P : Positions} (o : ℕ) → Holding w w′ s y X
+    → ((x : ℕ) → x < size → turned o X x ≡ P x) → Reached w w′ s y o P
+holding-reached {X = X} o k f = record {
+  tree = k .tree;
+  nodes = k .nodes;
+  kept = k .kept;
+  holds = λ x l. turned-cong o (mem (inorder (k .tree))) X (k .positions-are) x l ∙ f x l;
+  still = k .still;
+}
 
-module _ {w : List ℕ} {h : Header} {a n s e : ℕ} (v : Bool) (sound : Sound w) (eh : h ≡ headerAt w) (lies : Lies (h .offset) a n s e) where
-  -- the offset, as the header has it
-  offset-is : h .offset ≡ (headerAt w) .offset
-  offset-is = ap (λ (x : Header). x .offset) eh
+module _ {w : List ℕ} {h : World} {x : Links} {a n s e : ℕ} (v : Bool) (ex : x ≡ linksOf h) (lies : Lies (h .offset) a n s e) {sh : Share} {limit : ℕ} (lim : Limited w sh h limit) where
+  -- its physical positions
+  abbrev places : Positions
+  places = physicalIn (lim .standing)
 
   -- the set asked for, of the tree's positions turned
-  asked-held : (m x : ℕ) → setRange a m v (turned (h .offset) (physicalIn sound)) x ≡ setRange a m v (heldBy w) x
-  asked-held m x = ap (λ P. setRange a m v P x) (sym (sound-held sound eh))
+  asked-held : (m z : ℕ) → setRange a m v (turned (h .offset) places) z ≡ setRange a m v (heldIn w h) z
+  asked-held m z = ap (λ P. setRange a m v P z) (sym (standing-held (lim .standing)))
 
   -- ---- one physical range
   module _ (whole : s ≤ e) where
     -- it is the set asked for
-    whole-turned : (x : ℕ) → x < size → turned (h .offset) (setRange s (suc e - s) v (physicalIn sound)) x ≡ setRange a n v (heldBy w) x
-    whole-turned x l = turned-set-whole lies v (physicalIn sound) x l whole ∙ asked-held n x
+    whole-turned : (z : ℕ) → z < size → turned (h .offset) (setRange s (suc e - s) v places) z ≡ setRange a n v (heldIn w h) z
+    whole-turned z l = turned-set-whole lies v places z l whole ∙ asked-held n z
 
-    module _ (fits : stretches (setRange a n v (heldBy w)) ≤ capacity w) where
+    module _ (fits : stretches (setRange a n v (heldIn w h)) ≤ limit) where
       -- there are nodes enough
-      whole-may : MaySet w s e v (sound .tree) (sound .free)
+      whole-may : MaySet w sh x s e v (lim .standing .tree) (lim .standing .free)
       whole-may =
-          let X : Positions = setRange s (suc e - s) v (physicalIn sound) in
+          let X : Positions = setRange s (suc e - s) v places in
           record {
-            kept = sound .kept;
+            kept = links-kept ex (lim .standing);
             ordered = whole;
             below = omega (arith, lies .last-at);
             fits = omega (
               arith,
               fits,
+              lim .enough,
               physical-one-more (h .offset) X (lies .small),
-              stretches-cong (turned (h .offset) X) (setRange a n v (heldBy w)) whole-turned,
+              stretches-cong (turned (h .offset) X) (setRange a n v (heldIn w h)) whole-turned,
             );
           }
 
       -- the same, as the call asks it
-      pub whole-settable : Settable w s e v
-      whole-settable = (sound .tree, sound .free, whole-may)
+      pub whole-settable : Settable w x s e v
+      whole-settable = (sh, lim .standing .tree, lim .standing .free, whole-may)
 
       -- and it is reached
-      pub whole-reached : {w′ : List ℕ} → Sets w w′ s e v → Reached w w′ (setRange a n v (heldBy w))
-      whole-reached t = holding-reached (h .offset) offset-is (t (sound .tree) (sound .free) whole-may) whole-turned
+      pub whole-reached : {w′ : List ℕ} {y : Links} → Sets w w′ x y s e v → Reached w w′ sh y (h .offset) (setRange a n v (heldIn w h))
+      whole-reached t = holding-reached (h .offset) (t sh (lim .standing .tree) (lim .standing .free) whole-may) whole-turned
 
   -- ---- two physical ranges
   module _ (parted : e < s) where
@@ -144,36 +125,37 @@ module _ {w : List ℕ} {h : Header} {a n s e : ℕ} (v : Bool) (sound : Sound w
     first-length = omega arith
 
     -- it is a set of the first part
-    first-turned : (x : ℕ) → x < size → turned (h .offset) (setRange s (suc (size - 1) - s) v (physicalIn sound)) x ≡ setRange a (size - s) v (heldBy w) x
-    first-turned x l =
-        ap (λ k. turned (h .offset) (setRange s k v (physicalIn sound)) x) first-length
-        ∙ turned-set-first lies v (physicalIn sound) x l parted ∙ asked-held (size - s) x
+    first-turned : (z : ℕ) → z < size → turned (h .offset) (setRange s (suc (size - 1) - s) v places) z ≡ setRange a (size - s) v (heldIn w h) z
+    first-turned z l =
+        ap (λ k. turned (h .offset) (setRange s k v places) z) first-length
+        ∙ turned-set-first lies v places z l parted ∙ asked-held (size - s) z
 
     -- that adds one run at most
-    first-may : MaySet w s (size - 1) v (sound .tree) (sound .free)
+    first-may : MaySet w sh x s (size - 1) v (lim .standing .tree) (lim .standing .free)
     first-may =
-        let X : Positions = setRange s (suc (size - 1) - s) v (physicalIn sound) in
+        let X : Positions = setRange s (suc (size - 1) - s) v places in
         record {
-          kept = sound .kept;
+          kept = links-kept ex (lim .standing);
           ordered = omega (arith, first-below lies);
           below = omega arith;
           fits = omega (
             arith,
-            sound .fits,
-            set-one-more (heldBy w) a (size - s) v (omega (arith, first-below lies)) (omega (arith, lies .fits, parted-length lies parted)),
+            lim .fits,
+            lim .enough,
+            set-one-more (heldIn w h) a (size - s) v (omega (arith, first-below lies)) (omega (arith, lies .fits, parted-length lies parted)),
             physical-one-more (h .offset) X (lies .small),
-            stretches-cong (turned (h .offset) X) (setRange a (size - s) v (heldBy w)) first-turned,
+            stretches-cong (turned (h .offset) X) (setRange a (size - s) v (heldIn w h)) first-turned,
           );
         }
 
     -- the same, as the call asks it
-    pub first-settable : Settable w s (size - 1) v
-    first-settable = (sound .tree, sound .free, first-may)
+    pub first-settable : Settable w x s (size - 1) v
+    first-settable = (sh, lim .standing .tree, lim .standing .free, first-may)
 
-    module _ {w₁ : List ℕ} (t : Sets w w₁ s (size - 1) v) where
+    module _ {w₁ : List ℕ} {y : Links} (t : Sets w w₁ x y s (size - 1) v) where
       -- what is held after the first
-      held-first : Holding w w₁ (setRange s (suc (size - 1) - s) v (physicalIn sound))
-      held-first = t (sound .tree) (sound .free) first-may
+      held-first : Holding w w₁ sh y (setRange s (suc (size - 1) - s) v places)
+      held-first = t sh (lim .standing .tree) (lim .standing .free) first-may
 
       -- the physical positions then
       abbrev placesFirst : Positions
@@ -184,17 +166,17 @@ module _ {w : List ℕ} {h : Header} {a n s e : ℕ} (v : Bool) (sound : Sound w
       second-length = omega arith
 
       -- both are the set asked for
-      both-turned : (x : ℕ) → x < size → turned (h .offset) (setRange 0 (suc e - 0) v placesFirst) x ≡ setRange a n v (heldBy w) x
-      both-turned x l =
-          ap (λ k. turned (h .offset) (setRange 0 k v placesFirst) x) second-length
-          ∙ turned-cong (h .offset) (setRange 0 (suc e) v placesFirst) (setRange 0 (suc e) v (setRange s (size - s) v (physicalIn sound)))
-          (λ y k. set-cong 0 (suc e) v placesFirst (setRange s (size - s) v (physicalIn sound)) y
-          (held-first .positions-are y k ∙ ap (λ m. setRange s m v (physicalIn sound) y) first-length)) x l
-          ∙ turned-set-parted lies v (physicalIn sound) x l parted ∙ asked-held n x
+      both-turned : (z : ℕ) → z < size → turned (h .offset) (setRange 0 (suc e - 0) v placesFirst) z ≡ setRange a n v (heldIn w h) z
+      both-turned z l =
+          ap (λ k. turned (h .offset) (setRange 0 k v placesFirst) z) second-length
+          ∙ turned-cong (h .offset) (setRange 0 (suc e) v placesFirst) (setRange 0 (suc e) v (setRange s (size - s) v places))
+          (λ q k. set-cong 0 (suc e) v placesFirst (setRange s (size - s) v places) q
+          (held-first .positions-are q k ∙ ap (λ m. setRange s m v places q) first-length)) z l
+          ∙ turned-set-parted lies v places z l parted ∙ asked-held n z
 
-      module _ (fits : stretches (setRange a n v (heldBy w)) ≤ capacity w) where
+      module _ (fits : stretches (setRange a n v (heldIn w h)) ≤ limit) where
         -- there are nodes enough for the second
-        second-may : MaySet w₁ 0 e v (held-first .tree) (held-first .nodes)
+        second-may : MaySet w₁ sh y 0 e v (held-first .tree) (held-first .nodes)
         second-may =
             let X : Positions = setRange 0 (suc e - 0) v placesFirst in
             record {
@@ -204,26 +186,18 @@ module _ {w : List ℕ} {h : Header} {a n s e : ℕ} (v : Bool) (sound : Sound w
               fits = omega (
                 arith,
                 fits,
-                ap capacityOf (held-first .long),
+                lim .enough,
                 physical-one-more (h .offset) X (lies .small),
-                stretches-cong (turned (h .offset) X) (setRange a n v (heldBy w)) both-turned,
+                stretches-cong (turned (h .offset) X) (setRange a n v (heldIn w h)) both-turned,
               );
             }
 
         -- the same, as the call asks it
-        pub second-settable : Settable w₁ 0 e v
-        second-settable = (held-first .tree, held-first .nodes, second-may)
+        pub second-settable : Settable w₁ y 0 e v
+        second-settable = (sh, held-first .tree, held-first .nodes, second-may)
 
         -- and it is reached
-        pub parted-reached : {w₂ : List ℕ} → Sets w₁ w₂ 0 e v → Reached w w₂ (setRange a n v (heldBy w))
+        pub parted-reached : {w₂ : List ℕ} {z : Links} → Sets w₁ w₂ y z 0 e v → Reached w w₂ sh z (h .offset) (setRange a n v (heldIn w h))
         parted-reached u =
-            let k = u (held-first .tree) (held-first .nodes) second-may in
-            let r = holding-reached (h .offset) (offset-is ∙ sym (held-first .rest .offset-same)) k both-turned in
-            record {
-              tree = r .tree;
-              nodes = r .nodes;
-              kept = r .kept;
-              holds = r .holds;
-              rest = rest-then _ _ _ (held-first .rest) (r .rest);
-              long = r .long ∙ held-first .long;
-            }
+            let r = holding-reached (h .offset) (u sh (held-first .tree) (held-first .nodes) second-may) both-turned in
+            record { tree = r .tree; nodes = r .nodes; kept = r .kept; holds = r .holds; still = still-then (held-first .still) (r .still) }

@@ -1,29 +1,43 @@
--- What changes of a sound store promise. Assumes nothing: these are definitions.
+-- What changes of a world promise. Assumes nothing: these are definitions.
 use Prim.Native.Nat.{ℕ, suc, _-_, _%_, _≤_, _<_}
 use mathlib.Core.Path.{_≡_}
 use mathlib.Core.Bool.{Bool, not}
 use mathlib.Core.List.{List}
 use Rattle.model.specs.declared.Count.{Count}
 use Rattle.model.specs.Numbers.{size, worth}
-use Rattle.model.specs.Positions.{Positions, stretches, changes}
+use Rattle.model.specs.Positions.{Positions, setRange, stretches, changes, empty}
 use Rattle.changes.specs.declared.edit.Edit.{Edit}
 use Rattle.changes.specs.declared.edit.Fit.{Fit}
-use Rattle.store.specs.Layout.{headerAt, capacity, heldBy}
-use Rattle.store.specs.Soundness.{Sound}
-use Rattle.store.specs.Settle.{Settled}
+use Rattle.store.specs.declared.World.{World}
+use Rattle.store.specs.Layout.{heldIn}
+use Rattle.store.specs.Soundness.{Share, Standing, Limited}
+use Rattle.store.specs.Settle.{Became}
 
--- the store w, changed to Q: refused where Q has more runs than the capacity, and then it is as it was; else it holds Q, and the
--- answer is how many positions are in just one of the old and the new
-abbrev pub Edited : List ℕ → List ℕ → Positions → Edit → Type 0
-Edited w w′ Q Edit.Full = (capacity w < stretches Q) × (w′ ≡ w)
-Edited w w′ Q (Edit.Changed c) = (stretches Q ≤ capacity w) × Settled w w′ Q × (worth c ≡ changes (heldBy w) Q)
+-- whatever share the world h has of the nodes w, and whatever limit, it became k and holds Q
+abbrev pub Makes : List ℕ → List ℕ → World → World → Positions → Type 0
+Makes w w′ h k Q = (s : Share) (limit : ℕ) → Limited w s h limit → stretches Q ≤ limit → Became w w′ s k Q
+
+-- the world h, changed to Q: refused where Q has more runs than the limit, and then the nodes are as they were; else it is k, which holds
+-- Q, and the answer is how many positions are in just one of the old and the new
+abbrev pub Edited : List ℕ → List ℕ → World → ℕ → Positions → Edit → Type 0
+Edited w w′ h limit Q Edit.Full = (limit < stretches Q) × (w′ ≡ w)
+Edited w w′ h limit Q (Edit.Changed k c) = (stretches Q ≤ limit) × Makes w w′ h k Q × (worth c ≡ changes (heldIn w h) Q)
 
 -- the same of a change that counts nothing
-abbrev pub Fitted : List ℕ → List ℕ → Positions → Fit → Type 0
-Fitted w w′ Q Fit.Full = (capacity w < stretches Q) × (w′ ≡ w)
-Fitted w w′ Q Fit.Done = (stretches Q ≤ capacity w) × Settled w w′ Q
+abbrev pub Fitted : List ℕ → List ℕ → World → ℕ → Positions → Fit → Type 0
+Fitted w w′ h limit Q Fit.Full = (limit < stretches Q) × (w′ ≡ w)
+Fitted w w′ h limit Q (Fit.Done k) = (stretches Q ≤ limit) × Makes w w′ h k Q
 
--- a header's root and sum tell that n positions are held: the sum is kept modulo 2^64, and a store that holds none has no root
+-- a .. b may get the value v: at most as many runs are left as the world may have
+pub record MayApply (w : List ℕ) (s : Share) (h : World) (limit a b : ℕ) (v : Bool) : Type 0 where
+  pub limited : Limited w s h limit
+  pub ordered : a ≤ b
+  pub few : stretches (setRange a (suc b - a) v (heldIn w h)) ≤ limit
+
+abbrev pub Appliable : List ℕ → World → ℕ → ℕ → Bool → Type 0
+Appliable w h a b v = (s : Share) × (limit : ℕ) × MayApply w s h limit a b v
+
+-- a world's root and sum tell that n positions are held: the sum is kept modulo 2^64, and a world that holds none has no root
 pub record TellsHeld (root ones n : ℕ) : Type 0 where
   pub most : n ≤ size
   pub sum : ones ≡ n % size
@@ -41,8 +55,22 @@ pub record StretchEnd (P : Positions) (v : Bool) (x last y : ℕ) : Type 0 where
   pub same : (z : ℕ) → x ≤ z → z ≤ y → P z ≡ v
   pub stop : y < last → P (suc y) ≡ not v
 
--- a store that holds something, to be moved by d positions
-pub record Shiftable (w : List ℕ) (d : ℕ) : Type 0 where
-  pub sound : Sound w
-  pub some : (headerAt w) .root ≡ 0 → ⊥
+-- a world that holds something, to be moved by d positions
+pub record MayShift (w : List ℕ) (s : Share) (h : World) (limit d : ℕ) : Type 0 where
+  pub limited : Limited w s h limit
+  pub some : h .root ≡ 0 → ⊥
   pub far : 1 ≤ d
+
+abbrev pub Shiftable : List ℕ → World → ℕ → Type 0
+Shiftable w h d = (s : Share) × (limit : ℕ) × MayShift w s h limit d
+
+-- a shift adds no run, so only a limit that the world keeps is asked
+abbrev pub Moves : List ℕ → List ℕ → World → World → Positions → Type 0
+Moves w w′ h k Q = (s : Share) (limit : ℕ) → Limited w s h limit → Became w w′ s k Q
+
+abbrev pub Movable : List ℕ → World → Type 0
+Movable w h = (s : Share) × (limit : ℕ) × Limited w s h limit
+
+-- the world k holds nothing
+abbrev pub Empties : List ℕ → List ℕ → World → World → Type 0
+Empties w w′ h k = (s : Share) → Standing w s h → Became w w′ s k empty

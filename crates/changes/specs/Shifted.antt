@@ -1,9 +1,9 @@
 -- A shift that drops nothing is a turn by the distance, so a store shifts by changing its offset. What it drops, it does not look at.
--- The runs of what is left are moved by the distance: as many, the first and the last position too. Assumes nothing.
+-- The runs of what is left are moved by the distance: as many, the first and the last position too. So no shift adds a run. Assumes nothing.
 use Prim.Native.Nat.{ℕ, _+_, _-_, _*_, _/_, _%_, _≤_, _<_}
 use mathlib.Core.Path.{_≡_, refl, sym, ap, _∙_}
 use mathlib.Core.Logic.{_⊎_, inl, inr}
-use mathlib.Core.Bool.{true, false, _&&_, Bool·beq, and-false}
+use mathlib.Core.Bool.{Bool, true, false, _&&_, Bool·beq, and-false}
 use mathlib.Core.List.{List, [], _∷_}
 use native.Mathlib.Omega.{arith}
 use lib.Dec.{leb, ltb}
@@ -12,15 +12,17 @@ use borrow.Author.Tests.{le-leb, lt-leb, lt-ltb, le-ltb}
 use Rattle.model.specs.declared.Run.{Run}
 use Rattle.model.specs.Numbers.{size, split}
 use Rattle.model.specs.Places.{physicalOf, logicalOf}
-use Rattle.model.specs.Positions.{Positions, among, runsIn, heldRuns, stretches, lastAfter, shiftLeft, shiftRight, mem}
+use Rattle.model.specs.Positions.{Positions, among, runsIn, heldRuns, stretches, lastAfter, setRange, shiftLeft, shiftRight, shiftBy, mem}
 use Rattle.model.specs.Positions.Laws.{among-yes, among-below, among-above, beq-true}
 use Rattle.model.specs.Positions.Runs.{runsIn-canon, runsIn-mem, heldRuns-is, mem-heldRuns}
 use Rattle.model.specs.RunList.{canon-weaken}
+use Rattle.model.specs.After.{set-inside, set-below, set-above}
 use Rattle.store.specs.Layout.{turned}
 use Rattle.store.specs.Soundness.{firstOf, lastOf}
 use Rattle.store.specs.Ends.{clash, empty-mem}
 use Rattle.store.specs.Moved.{Alike, move, moveRun, moveRuns, moved-length, runsIn-moved}
 use Rattle.store.specs.Turn.{turned-at}
+use Rattle.changes.specs.SetRuns.{clear-top, clear-bottom}
 
 -- ---- what a shift puts at x
 -- up: what was d below it
@@ -246,3 +248,29 @@ module _ (d : ℕ) (P R : Positions) (fits : d < size) (bottom : (y : ℕ) → y
   -- the last one
   pub right-last : (x : ℕ) → x < size → P x ≡ true → lastOf (heldRuns R) ≡ lastOf (heldRuns P) - d
   right-last x h e = slid-last slid-down x h e ∙ omega arith
+
+-- ---- any set
+-- up: as many runs as without what leaves
+left-few : (d : ℕ) (P : Positions) → d < size → stretches (shiftLeft d P) ≤ stretches P
+left-few d P fits =
+    let a : ℕ = size - d in
+    let C : Positions = setRange a (size - a) false P in
+    let same : (x : ℕ) → x < size → shiftLeft d P x ≡ shiftLeft d C x =
+    λ x l. left-cong d P C (λ y h. sym (set-below a (size - a) false P y (omega arith))) x l in
+    let many = left-stretches d C (shiftLeft d P) fits (λ y h l. set-inside a (size - a) false P y h (omega arith)) same in
+    omega (arith, many, clear-top P a (omega arith))
+
+-- down
+right-few : (d : ℕ) (P : Positions) → d < size → stretches (shiftRight d P) ≤ stretches P
+right-few d P fits =
+    let C : Positions = setRange 0 d false P in
+    let same : (x : ℕ) → x < size → shiftRight d P x ≡ shiftRight d C x =
+    λ x l. right-cong d P C (λ y h t. sym (set-above 0 d false P y (omega arith))) x in
+    let many = right-stretches d C (shiftRight d P) fits (λ y h. set-inside 0 d false P y (omega arith) (omega arith)) same in
+    omega (arith, many, clear-bottom P d (omega arith))
+
+-- a shift adds no run
+pub shift-few : (d : ℕ) (left : Bool) (P : Positions) → d < size → stretches (shiftBy d left P) ≤ stretches P
+unfolding shiftBy
+shift-few d true P fits = left-few d P fits
+shift-few d false P fits = right-few d P fits

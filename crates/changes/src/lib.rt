@@ -1,3 +1,3 @@
-// Changes of a store's positions: physical ones in the tree, logical ones of a sound store.
+// Changes of a world's positions: physical ones in the tree, logical ones.
 pub mod change;
 pub mod edit;

@@ -7,8 +7,8 @@ use Rattle.model.specs.declared.Bound.{Bound}
 use Rattle.model.specs.declared.Written.{Written}
 use Rattle.model.specs.Answers.{writtenAnswer}
 use Rattle.model.specs.Call.{Call, Answer}
-use Rattle.interval_bit_set.specs.Met.{Met}
-use Rattle.interval_bit_set.specs.Out.{Unwritten, WritesOut}
+use Rattle.core.specs.Met.{Met}
+use Rattle.core.specs.Out.{Unwritten, WritesOut}
 use Rattle.flat.specs.declared.Reply.{Reply}
 use Rattle.flat.specs.Flat.{replyOf}
 use Rattle.frame.specs.Frame.{Framed}

@@ -4,7 +4,7 @@ use mathlib.Core.Path.{_≡_, sym, ap₂, _∙_, subst}
 use mathlib.Core.List.{List}
 use Rattle.model.specs.declared.Bound.{Bound}
 use Rattle.model.specs.Call.{Call, Answer}
-use Rattle.interval_bit_set.specs.Met.{Met}
+use Rattle.core.specs.Met.{Met}
 use Rattle.frame.specs.declared.entry.Kind.{Kind}
 use Rattle.frame.specs.declared.entry.Entry.{Entry}
 use Rattle.flat.specs.declared.Reply.{Reply}

@@ -13,9 +13,9 @@ use Rattle.model.specs.Call.{Fed, holding, done, refused, gave}
 use Rattle.model.specs.Model.{positionsOf, reads, answers, after}
 use Rattle.store.specs.Layout.{capacity, heldBy}
 use Rattle.interval_bit_set.specs.declared.look.Look.{Look}
-use Rattle.interval_bit_set.specs.Look.{Readable, Looked}
-use Rattle.interval_bit_set.specs.Met.{fedOf, Leaves}
-use Rattle.interval_bit_set.proofs.Refusing.{reads-first}
+use Rattle.interval_bit_set.specs.Look.{Looked}
+use Rattle.core.specs.Met.{fedOf, Leaves, Readable}
+use Rattle.core.proofs.Refusing.{reads-first}
 use Rattle.frame.specs.Records.{callsOf, recordsOf}
 use Rattle.frame.specs.Frame.{Outcome, settle, frameOf, outcomeOf, Framed}
 use Rattle.frame.specs.Serving.{Playable, Plays}

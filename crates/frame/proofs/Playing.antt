@@ -12,9 +12,9 @@ use Rattle.store.specs.Layout.{capacity, heldBy}
 use Rattle.written.specs.Placed.{placed}
 use Rattle.written.specs.Placing.{placed-nil, placed-length, placed-placed, placed-front}
 use Rattle.model.specs.Bytes.{intoFront}
-use Rattle.interval_bit_set.specs.Look.{Readable}
-use Rattle.interval_bit_set.specs.Met.{Leaves, Met}
-use Rattle.interval_bit_set.proofs.Meeting.{fed-sound}
+use Rattle.core.specs.Met.{Readable}
+use Rattle.core.specs.Met.{Leaves, Met}
+use Rattle.core.proofs.Meeting.{fed-sound}
 use Rattle.lockstep.specs.Follow.{Holds, answer-is, step-holds}
 use Rattle.frame.specs.declared.entry.Entry.{Entry}
 use Rattle.flat.specs.declared.Reply.{Reply}

@@ -10,7 +10,7 @@ use Rattle.model.specs.Refusals.{outputShort, _when_, refusal, noRoom}
 use Rattle.model.specs.Call.{Fed, Call, done, Answer, refused, gave}
 use Rattle.model.specs.Model.{positionsOf, reads, answers, after}
 use Rattle.store.specs.Layout.{capacity}
-use Rattle.interval_bit_set.specs.Met.{fedOf, Leaves}
+use Rattle.core.specs.Met.{fedOf, Leaves}
 use Rattle.frame.specs.Records.{callsOf, recordsOf}
 
 -- what a frame answers, the positions after it, and the slice

@@ -15,11 +15,11 @@ use Rattle.model.specs.Call.{Fed, wrongLength, unsound, holding, Call, done, An
 use Rattle.model.specs.Model
 use Rattle.model.specs.Model.{reads, serve, step, answers, after}
 use Rattle.store.specs.Layout.{capacity, heldBy}
-use Rattle.store.specs.Turn.{held-past}
+use Rattle.store.specs.Turn.{store-past}
 use Rattle.store.specs.Decision.{soundB}
 use Rattle.store.specs.Settle.{Settled}
-use Rattle.interval_bit_set.specs.Met.{fedOf, Met}
-use Rattle.interval_bit_set.proofs.Meeting.{refused-not}
+use Rattle.core.specs.Met.{fedOf, Met}
+use Rattle.core.proofs.Meeting.{refused-not}
 use Rattle.lockstep.specs.History.{New, told}
 use Rattle.lockstep.specs.Steps.{Ends, Served, served}
 use Rattle.lockstep.specs.Follow.{Holds, settled-holds, answer-is, step-holds, new-holds}
@@ -145,7 +145,7 @@ module _ {C : ℕ} where
   frame-holds : {P : Positions} {w fs out w′ out′ : List ℕ} → Holds C P w → Framed w fs out (gave done) w′ out′ → Holds C (after C P (callsOf fs)) w′
   frame-holds {P} {w} {fs} {w′ = w′} H F =
       subst (λ (Q : Positions). Holds C Q w′) (ap₂ (λ k Q. after k Q (callsOf fs)) (H .sized) (H .held))
-      (settled-holds (framed-left F) (H .sized) (after-ends (capacity w) (heldBy w) (callsOf fs) (held-past w)))
+      (settled-holds (framed-left F) (H .sized) (after-ends (capacity w) (heldBy w) (callsOf fs) (store-past w)))
 
   goes : {P : Positions} {w w′ : List ℕ} {cs : List (Call (List ℕ))} {rs : List Answer} → Holds C P w → Match w cs rs w′ → Goes C P (told cs) rs w′
   unfolding answers after

@@ -9,7 +9,7 @@ use Rattle.model.specs.Positions.{Positions}
 use Rattle.model.specs.Call.{Fed, Call, feed, Answer}
 use Rattle.model.specs.Model.{step, answers}
 use Rattle.store.specs.Layout.{capacity}
-use Rattle.interval_bit_set.specs.Met.{fedOf}
+use Rattle.core.specs.Met.{fedOf}
 use Rattle.lockstep.specs.History.{told}
 use Rattle.frame.specs.declared.entry.Kind.{Kind}
 use Rattle.frame.specs.declared.entry.Entry.{Entry}

@@ -1,9 +1,7 @@
 // What a record of a call means. Every record means a call: a number that names none is a get, a bound of another kind is none, and a truth
 // value is anything but 0. The last word of a record is not read.
 ghost use mathlib.Core.Path.{_≡_};
-ghost use Prim.Native.Nat.{_+_, _*_, _≤_};
-ghost use lib.ListN.{length};
-ghost use Rattle.frame.specs.Records.{entryAt, kindOf};
+ghost use Rattle.frame.specs.Records.{kindOf};
 
 // Which call it is.
 pub enum Kind {
@@ -34,23 +32,6 @@ pub struct Entry {
     pub upto: u64,
     pub value: u64,
     pub k: u64,
-}
-
-// The record i of a list.
-pub fn read(calls: &[u64], i: usize) -> Entry
-    requires { ⌜ 8 * i + 8 ≤ length (now calls) ⌝ }
-    ensures { λ r. ⌜ r ≡ entryAt (now (calls .entry)) i ⌝ }
-{
-    let at = 8 * i;
-    Entry {
-        call: calls[at],
-        lower: calls[at + 1],
-        from: calls[at + 2],
-        upper: calls[at + 3],
-        upto: calls[at + 4],
-        value: calls[at + 5],
-        k: calls[at + 6],
-    }
 }
 
 // The call that a number names.

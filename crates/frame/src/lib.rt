@@ -1,20 +1,40 @@
 // A frame's calls at once: one look at the store, then every call of a list on it, in order; refused calls too, each answered by its number.
 // Calls and answers are records of eight words.
+ghost use mathlib.Core.Path.{_≡_};
+ghost use Prim.Native.Nat.{_+_, _*_, _≤_};
+ghost use lib.ListN.{length};
 ghost use Rattle.model.specs.Answers.{completedAnswer};
-ghost use Rattle.interval_bit_set.specs.Look.{Readable};
+ghost use Rattle.written.specs.Placed.{placed};
+ghost use Rattle.core.specs.Met.{Readable};
 ghost use Rattle.frame.specs.Frame.{Framed};
+ghost use Rattle.frame.specs.Records.{entryAt, wordsOf};
 ghost use Rattle.frame.specs.Serving.{Serves, Playable, Plays};
 use crate::entry::Entry;
 use crate::entry::Kind;
 use flat::Reply;
-use interval_bit_set::core;
 use interval_bit_set::look::Look;
 use model::Completed;
 use model::Listing;
 use model::Refusal;
 
 pub mod entry;
-pub mod reply;
+
+// The record i of a list.
+fn read(calls: &[u64], i: usize) -> Entry
+    requires { ⌜ 8 * i + 8 ≤ length (now calls) ⌝ }
+    ensures { λ r. ⌜ r ≡ entryAt (now (calls .entry)) i ⌝ }
+{
+    let at = 8 * i;
+    Entry {
+        call: calls[at],
+        lower: calls[at + 1],
+        from: calls[at + 2],
+        upper: calls[at + 3],
+        upto: calls[at + 4],
+        value: calls[at + 5],
+        k: calls[at + 6],
+    }
+}
 
 // Serves one call on a store that is known to be sound.
 fn serve(words: &mut [u64], e: Entry) -> Reply
@@ -27,16 +47,16 @@ fn serve(words: &mut [u64], e: Entry) -> Reply
     let k = entry::named(e.call);
     match k {
         Kind::New => flat::completed(interval_bit_set::make::new(words)),
-        Kind::Set => flat::counted(core::set(words, lower, upper, value)),
-        Kind::Flip => flat::completed(core::flip(words, lower, upper)),
-        Kind::Shift => flat::completed(core::shift(words, e.from, value)),
-        Kind::RunAt => flat::around(core::run_at(words, e.from)),
-        Kind::Find => flat::found(core::find(words, lower, upper, value)),
-        Kind::Count => flat::counted(core::count(words, lower, upper, value)),
-        Kind::Select => flat::found(core::select(words, lower, upper, value, e.k)),
-        Kind::CountRanges => flat::numbered(core::count_ranges(words, lower, upper, value)),
-        Kind::Ranges => flat::listed(core::ranges(words, lower, upper, value)),
-        Kind::DrawFront => flat::drawn(core::draw_front(
+        Kind::Set => flat::counted(core::change::set(words, lower, upper, value)),
+        Kind::Flip => flat::completed(core::change::flip(words, lower, upper)),
+        Kind::Shift => flat::completed(core::change::shift(words, e.from, value)),
+        Kind::RunAt => flat::around(core::report::run_at(words, e.from)),
+        Kind::Find => flat::found(core::report::find(words, lower, upper, value)),
+        Kind::Count => flat::counted(core::report::count(words, lower, upper, value)),
+        Kind::Select => flat::found(core::report::select(words, lower, upper, value, e.k)),
+        Kind::CountRanges => flat::numbered(core::report::count_ranges(words, lower, upper, value)),
+        Kind::Ranges => flat::listed(core::report::ranges(words, lower, upper, value)),
+        Kind::DrawFront => flat::drawn(core::listing::draw_front(
             words,
             Listing {
                 first: e.from,
@@ -44,7 +64,7 @@ fn serve(words: &mut [u64], e: Entry) -> Reply
                 value: value,
             },
         )),
-        Kind::DrawBack => flat::drawn(core::draw_back(
+        Kind::DrawBack => flat::drawn(core::listing::draw_back(
             words,
             Listing {
                 first: e.from,
@@ -52,9 +72,25 @@ fn serve(words: &mut [u64], e: Entry) -> Reply
                 value: value,
             },
         )),
-        Kind::Fill => flat::numbered(core::fill(words, e.from, e.upto)),
-        Kind::Get => flat::tested(core::get(words, e.from)),
+        Kind::Fill => flat::numbered(core::report::fill(words, e.from, e.upto)),
+        Kind::Get => flat::tested(core::report::get(words, e.from)),
     }
+}
+
+// Writes a reply as the record i of a list: its fields in their order, and a 0.
+fn put(answers: &mut [u64], i: usize, r: Reply)
+    requires { ⌜ 8 * i + 8 ≤ length (now answers) ⌝ }
+    ensures { λ _. ⌜ now (answers .exit) ≡ placed (8 * i) (wordsOf r) (now (answers .entry)) ⌝ }
+{
+    let at = 8 * i;
+    answers[at] = r.refusal;
+    answers[at + 1] = r.found;
+    answers[at + 2] = r.number;
+    answers[at + 3] = r.end;
+    answers[at + 4] = r.first;
+    answers[at + 5] = r.last;
+    answers[at + 6] = r.value;
+    answers[at + 7] = 0;
 }
 
 // Serves the first n records of a list on a store that is known to be sound.
@@ -64,9 +100,9 @@ fn play(words: &mut [u64], calls: &[u64], answers: &mut [u64], n: usize)
 {
     let mut i: usize = 0;
     while i < n {
-        let e = entry::read(calls, i);
+        let e = read(calls, i);
         let r = serve(words, e);
-        reply::put(answers, i, r);
+        put(answers, i, r);
         i += 1;
     }
 }

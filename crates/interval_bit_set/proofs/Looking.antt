@@ -1,24 +1,26 @@
 -- Looking at the stores that a call reads: what the model's conditions of one store, and of two, then refuse. By cases on what each is fed
--- as. Of readable stores the positions fed are those that a reading under the header's offset gives. Assumes nothing.
+-- as. What they refuse, a call that reports, or one that changes its store, is refused by. Assumes nothing.
 use Prim.Native.Nat.{ℕ, _≤_}
-use mathlib.Core.Path.{_≡_, refl, sym, ap, ap₂, _∙_, subst}
+use mathlib.Core.Path.{_≡_, refl, ap, _∙_, subst}
 use mathlib.Core.Bool.{false, true≢false}
-use mathlib.Core.List.{List, _++_}
-use mathlib.Core.Option.{none, some}
+use mathlib.Core.List.{List, _∷_, _++_}
+use mathlib.Core.Option.{some}
 use Rattle.model.specs.declared.Refusal.{Refusal}
 use Rattle.model.specs.declared.Refusal.the-variants.{StoreLength, Unsound}
 use Rattle.model.specs.Numbers.{refusalNumber}
-use Rattle.model.specs.Positions.{mem}
-use Rattle.model.specs.Refusals.{refusal, earnsLength}
-use Rattle.model.specs.Call.{Fed, wrongLength, unsound, holding}
+use Rattle.model.specs.Positions.{Positions}
+use Rattle.model.specs.Refusals.{storeLength, Condition, _when_, given, refusal, earnsLength, tooMany}
+use Rattle.model.specs.Refusals
+use Rattle.model.specs.Call.{Fed, wrongLength, unsound, holding, Call, Result, refused}
 use Rattle.model.specs.Model.{positionsOf, reads}
-use Rattle.store.specs.declared.Header.{Header}
-use Rattle.store.specs.Layout.{headerAt, capacity, turned, physicalRuns, heldBy}
+use Rattle.store.specs.Layout.{capacity, allowance}
 use Rattle.store.specs.Decision.{soundB}
 use Rattle.interval_bit_set.specs.declared.look.Look.{Look}
-use Rattle.interval_bit_set.specs.Met.{fedOf}
-use Rattle.interval_bit_set.specs.Look.{Readable, Looked, LookedBoth}
-use Rattle.interval_bit_set.proofs.Meeting.{fed-short, fed-unsound, fed-sized}
+use Rattle.core.specs.Met.{fedOf, Readable, Met}
+use Rattle.core.proofs.Refusing.{reads-first}
+use Rattle.core.proofs.Meeting.{fed-short, fed-unsound, fed-sized, Reports, refused-both}
+use Rattle.core.proofs.Changing.{Changes, refused-due}
+use Rattle.interval_bit_set.specs.Look.{Looked, LookedBoth}
 
 -- ---- one store
 -- words of no store's length
@@ -33,15 +35,20 @@ looked-unsound w h e = ap (λ f. refusal (reads f)) (fed-unsound w h e)
 pub looked-refused : (w : List ℕ) {r : Refusal} (l : Look) → Looked w l → l ≡ Look.Refused r → refusal (reads (fedOf w)) ≡ some (refusalNumber r)
 looked-refused w l k e = subst (λ m. Looked w m) e k
 
-module _ {w : List ℕ} (R : Readable w) where
-  -- a readable one gives none
-  pub reads-none : refusal (reads (fedOf w)) ≡ none
-  reads-none = ap (λ f. refusal (reads f)) (R .fed)
+pub looked-sound : {w : List ℕ} (l : Look) → Looked w l → l ≡ Look.Sound → Readable w
+looked-sound {w} l k e = subst (λ m. Looked w m) e k
 
-  -- and is fed as what a reading under its header's offset gives
-  pub read-as : {h : Header} → h ≡ headerAt w → turned (h .offset) (mem (physicalRuns w)) ≡ positionsOf (fedOf w)
-  unfolding heldBy
-  read-as e = ap (λ (k : Header). turned (k .offset) (mem (physicalRuns w))) e ∙ sym (ap positionsOf (R .fed))
+-- ---- the calls
+-- a call that reports is refused by what looking told
+pub turned-away : {w : List ℕ} {c : Call (List ℕ)} {cs : List Condition} {A : Positions → Result} {r : Refusal} → Reports w c cs A → (l : Look) → Looked w l → l ≡ Look.Refused r
+    → given storeLength cs ≡ false → Met w c (refused (refusalNumber r)) w
+turned-away {w} {cs = cs} says l k e g = refused-both says (reads-first (fedOf w) cs g (looked-refused w l k e))
+
+-- so is one that changes its store
+pub sent-away : {w : List ℕ} {c : Call (List ℕ)} {cs : List Condition} {Q : Positions → Positions} {A : Positions → Result} {r : Refusal} → Changes w c cs Q A → (l : Look) → Looked w l
+    → l ≡ Look.Refused r → Met w c (refused (refusalNumber r)) w
+sent-away {w} {cs = cs} {Q} says l k e =
+    refused-due says (reads-first (fedOf w) (Refusals.capacity when tooMany (allowance w) (Q (positionsOf (fedOf w))) ∷ cs) (says .others) (looked-refused w l k e)) refl
 
 -- ---- two stores
 -- the second has no store's length
@@ -82,7 +89,3 @@ module _ (v w : List ℕ) where
 
   pub both-sound : (l : Look) → LookedBoth v w l → l ≡ Look.Sound → Readable v × Readable w
   both-sound l k e = subst (λ m. LookedBoth v w m) e k
-
-  -- two readable ones give none
-  pub both-none : Readable v → Readable w → refusal (reads (fedOf v) ++ reads (fedOf w)) ≡ none
-  both-none R S = ap₂ (λ f g. refusal (reads f ++ reads g)) (R .fed) (S .fed)

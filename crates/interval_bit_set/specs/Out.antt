@@ -1,24 +1,11 @@
--- Calls that write into a lent slice. Assumes nothing: these are definitions.
+-- What calls that write into a lent slice hand back. Assumes nothing: these are definitions.
 use Prim.Native.Nat.{ℕ}
-use mathlib.Core.Path.{_≡_}
 use mathlib.Core.List.{List, []}
 use lib.ListN.{take}
 use Rattle.model.specs.declared.Written.{Written}
 use Rattle.model.specs.Numbers.{refusalNumber}
-use Rattle.model.specs.Answers.{writtenAnswer}
-use Rattle.model.specs.Call.{Call, Result, done, number, value, around, position, listing, drawn, written, Answer, refused, gave}
+use Rattle.model.specs.Call.{Result, done, number, value, around, position, listing, drawn, written, Answer, refused, gave}
 use Rattle.interval_bit_set.specs.declared.write.Flat.{Flat}
-use Rattle.interval_bit_set.specs.Met.{Met}
-
--- a refusal leaves the slice
-abbrev pub Unwritten : Written → List ℕ → List ℕ → Type 0
-Unwritten (Written.Refused r) out out′ = out′ ≡ out
-Unwritten (Written.Bytes n) out out′ = Unit {0}
-
--- the call c on the words w and the slice out answered r and left the slice out′
-pub record WritesOut (c : List ℕ → Call (List ℕ)) (w out : List ℕ) (r : Written) (out′ : List ℕ) : Type 0 where
-  pub met : Met w (c out) (writtenAnswer r out′) w
-  pub unwritten : Unwritten r out out′
 
 -- what f makes of the bytes that a result wrote: how many they are, and the whole slice. Any other result gives d
 abbrev pub onWritten : {T : Type 0} → T → (ℕ → List ℕ → T) → Result → T

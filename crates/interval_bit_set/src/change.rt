@@ -1,6 +1,6 @@
 // The calls that change a store where it stands.
 ghost use mathlib.Core.Path.{_≡_};
-ghost use Rattle.interval_bit_set.specs.Met.{Met};
+ghost use Rattle.core.specs.Met.{Met};
 ghost use Rattle.model.specs.Answers.{completedAnswer, countedAnswer};
 ghost use Rattle.model.specs.Call.{Call};
 use crate::look::Look;
@@ -15,7 +15,7 @@ pub fn set(words: &mut [u64], lower: Bound, upper: Bound, value: bool) -> Counte
     let l = crate::look::look_at(words);
     match l {
         Look::Refused(r) => Counted::Refused(r),
-        Look::Sound => crate::core::set(words, lower, upper, value),
+        Look::Sound => core::change::set(words, lower, upper, value),
     }
 }
 
@@ -26,7 +26,7 @@ pub fn flip(words: &mut [u64], lower: Bound, upper: Bound) -> Completed
     let l = crate::look::look_at(words);
     match l {
         Look::Refused(r) => Completed::Refused(r),
-        Look::Sound => crate::core::flip(words, lower, upper),
+        Look::Sound => core::change::flip(words, lower, upper),
     }
 }
 
@@ -37,6 +37,6 @@ pub fn shift(words: &mut [u64], distance: u64, left: bool) -> Completed
     let l = crate::look::look_at(words);
     match l {
         Look::Refused(r) => Completed::Refused(r),
-        Look::Sound => crate::core::shift(words, distance, left),
+        Look::Sound => core::change::shift(words, distance, left),
     }
 }

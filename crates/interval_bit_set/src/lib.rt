@@ -1,9 +1,8 @@
-// IntervalBitSet: the public calls. Any words, bounds and numbers may come; each call tests them in document 01's order of refusals, and
-// then does its work. Only `core` asks something of its caller: a store that is known to be sound.
+// IntervalBitSet: the public calls. Any words, bounds and numbers may come; each call looks at the stores that it reads, which gives the first
+// refusals of document 01's order, and then is the call of its name in crate `core`. None asks anything of its caller.
 pub mod bytes;
 pub mod carry;
 pub mod change;
-pub mod core;
 pub mod listing;
 pub mod look;
 pub mod make;

@@ -2,7 +2,7 @@
 ghost use mathlib.Core.Path.{_≡_};
 ghost use Rattle.model.specs.Call.{Call};
 ghost use Rattle.model.specs.Answers.{completedAnswer};
-ghost use Rattle.interval_bit_set.specs.Met.{Met};
+ghost use Rattle.core.specs.Met.{Met};
 use model::Completed;
 use model::Refusal;
 use model::Store;
@@ -15,6 +15,5 @@ pub fn new(words: &mut [u64]) -> Completed
     if s.capacity == 0 {
         return Completed::Refused(Refusal::StoreLength);
     }
-    store::free::make(words);
-    Completed::Done
+    core::make::new(words)
 }

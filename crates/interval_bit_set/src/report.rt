@@ -2,7 +2,7 @@
 ghost use mathlib.Core.Path.{_≡_};
 ghost use Rattle.model.specs.Call.{Call};
 ghost use Rattle.model.specs.Answers.{countedAnswer, numberedAnswer, testedAnswer, aroundAnswer, foundAnswer, listedAnswer, drawnAnswer};
-ghost use Rattle.interval_bit_set.specs.Met.{Met};
+ghost use Rattle.core.specs.Met.{Met};
 use crate::look::Look;
 use model::Around;
 use model::Bound;
@@ -21,7 +21,7 @@ pub fn get(words: &[u64], x: u64) -> Tested
     let l = crate::look::look_at(words);
     match l {
         Look::Refused(r) => Tested::Refused(r),
-        Look::Sound => crate::core::get(words, x),
+        Look::Sound => core::report::get(words, x),
     }
 }
 
@@ -32,7 +32,7 @@ pub fn run_at(words: &[u64], x: u64) -> Around
     let l = crate::look::look_at(words);
     match l {
         Look::Refused(r) => Around::Refused(r),
-        Look::Sound => crate::core::run_at(words, x),
+        Look::Sound => core::report::run_at(words, x),
     }
 }
 
@@ -43,7 +43,7 @@ pub fn find(words: &[u64], lower: Bound, upper: Bound, value: bool) -> Found
     let l = crate::look::look_at(words);
     match l {
         Look::Refused(r) => Found::Refused(r),
-        Look::Sound => crate::core::find(words, lower, upper, value),
+        Look::Sound => core::report::find(words, lower, upper, value),
     }
 }
 
@@ -54,7 +54,7 @@ pub fn count(words: &[u64], lower: Bound, upper: Bound, value: bool) -> Counted
     let l = crate::look::look_at(words);
     match l {
         Look::Refused(r) => Counted::Refused(r),
-        Look::Sound => crate::core::count(words, lower, upper, value),
+        Look::Sound => core::report::count(words, lower, upper, value),
     }
 }
 
@@ -65,7 +65,7 @@ pub fn select(words: &[u64], lower: Bound, upper: Bound, value: bool, k: u64) ->
     let l = crate::look::look_at(words);
     match l {
         Look::Refused(r) => Found::Refused(r),
-        Look::Sound => crate::core::select(words, lower, upper, value, k),
+        Look::Sound => core::report::select(words, lower, upper, value, k),
     }
 }
 
@@ -76,7 +76,7 @@ pub fn count_ranges(words: &[u64], lower: Bound, upper: Bound, value: bool) -> N
     let l = crate::look::look_at(words);
     match l {
         Look::Refused(r) => Numbered::Refused(r),
-        Look::Sound => crate::core::count_ranges(words, lower, upper, value),
+        Look::Sound => core::report::count_ranges(words, lower, upper, value),
     }
 }
 
@@ -87,7 +87,7 @@ pub fn ranges(words: &[u64], lower: Bound, upper: Bound, value: bool) -> Listed
     let l = crate::look::look_at(words);
     match l {
         Look::Refused(r) => Listed::Refused(r),
-        Look::Sound => crate::core::ranges(words, lower, upper, value),
+        Look::Sound => core::report::ranges(words, lower, upper, value),
     }
 }
 
@@ -98,7 +98,7 @@ pub fn draw_front(words: &[u64], l: Listing) -> Drawn
     let look = crate::look::look_at(words);
     match look {
         Look::Refused(r) => Drawn::Refused(r),
-        Look::Sound => crate::core::draw_front(words, l),
+        Look::Sound => core::listing::draw_front(words, l),
     }
 }
 
@@ -109,7 +109,7 @@ pub fn draw_back(words: &[u64], l: Listing) -> Drawn
     let look = crate::look::look_at(words);
     match look {
         Look::Refused(r) => Drawn::Refused(r),
-        Look::Sound => crate::core::draw_back(words, l),
+        Look::Sound => core::listing::draw_back(words, l),
     }
 }
 
@@ -120,6 +120,6 @@ pub fn fill(words: &[u64], base: u64, length: u64) -> Numbered
     let l = crate::look::look_at(words);
     match l {
         Look::Refused(r) => Numbered::Refused(r),
-        Look::Sound => crate::core::fill(words, base, length),
+        Look::Sound => core::report::fill(words, base, length),
     }
 }

@@ -7,14 +7,15 @@ ghost use Rattle.model.specs.Positions.{run};
 ghost use Rattle.model.specs.Places.{capacityOf};
 ghost use Rattle.model.specs.Call.{Call};
 ghost use Rattle.model.specs.Answers.{completedAnswer};
-ghost use Rattle.run_index.specs.Cells.{Room, Wrote};
-ghost use Rattle.store.specs.Settle.{nodeOf};
-ghost use Rattle.interval_bit_set.specs.Met.{Met};
-ghost use Rattle.interval_bit_set.specs.RunSlice.{orderStep, InOrder, Admits, Putting, Put, Finishing, Finished};
+ghost use Rattle.run_index.specs.Cells.{Room};
+ghost use Rattle.run_index.specs.Strung.{Lays};
+ghost use Rattle.core.specs.Met.{Met};
+ghost use Rattle.interval_bit_set.specs.RunSlice.{orderStep, InOrder, Admits, Beginning, BegunIf, Putting, Put, Finishing, Finished};
 use model::Completed;
 use model::Refusal;
 use model::Run;
 use model::Store;
+use store::Links;
 
 // A run of the list.
 fn run_of(runs: &[Run], i: usize) -> Run
@@ -102,37 +103,61 @@ fn admitted(words: usize, n: usize, o: Order) -> Verdict
     }
 }
 
-// Writes run i into node i + 1.
-fn put_next(words: &mut [u64], i: usize, start: u64, end: u64)
-    requires { ⌜ Room (now words) (i + 1) ⌝ }
-    ensures { λ _. ⌜ Wrote (now (words .entry)) (now (words .exit)) (i + 1) (nodeOf start «end») ⌝ }
+// Makes the words an empty store, unless the runs were refused, and returns its first free node.
+fn begin(words: &mut [u64], a: Verdict) -> u64
+    requires { ⌜ Beginning (now words) a ⌝ }
+    ensures { λ r. ⌜ BegunIf (now (words .entry)) (now (words .exit)) a r ⌝ }
 {
-    store::settle::put_run(words, i as u64 + 1, start, end);
+    let c = a.answer;
+    match c {
+        Completed::Refused(_) => 0,
+        Completed::Done => {
+            let x = core::runs::begin(words);
+            x.free
+        }
+    }
 }
 
-// Writes the first n runs into the nodes 1 to n.
-fn put_runs(runs: &[Run], words: &mut [u64], n: usize)
-    requires { ⌜ Putting (now words) (now runs) n ⌝ }
-    ensures { λ _. ⌜ Put (now (words .entry)) (now (words .exit)) (now (runs .entry)) n ⌝ }
+// Lays a run into a free node, and returns the next one.
+fn lay_next(words: &mut [u64], node: u64, start: u64, end: u64) -> u64
+    requires { ⌜ Room (now words) node ⌝ }
+    ensures { λ r. ⌜ Lays (now (words .entry)) (now (words .exit)) r node start «end» ⌝ }
+{
+    run_index::chains::lay_run(words, node, start, end)
+}
+
+// Lays the first n runs into the free chain from `head` on.
+fn put_runs(runs: &[Run], words: &mut [u64], head: u64, n: usize)
+    requires { ⌜ Putting (now words) head (now runs) n ⌝ }
+    ensures { λ _. ⌜ Put (now (words .entry)) (now (words .exit)) head (now (runs .entry)) n ⌝ }
 {
     let mut i: usize = 0;
+    let mut node = head;
     while i < n {
         let r = run_of(runs, i);
-        put_next(words, i, r.start, r.end);
+        node = lay_next(words, node, r.start, r.end);
         i = i + 1;
     }
 }
 
-// Makes a store of the runs written, unless they were refused.
-fn finish(words: &mut [u64], a: Verdict) -> Completed
-    requires { ⌜ Finishing (now words) a ⌝ }
-    ensures { λ r. ⌜ Finished (now (words .entry)) (now (words .exit)) a r ⌝ }
+// Makes the store of the runs laid from `head` on, unless they were refused.
+fn finish(words: &mut [u64], head: u64, a: Verdict) -> Completed
+    requires { ⌜ Finishing (now words) head a ⌝ }
+    ensures { λ r. ⌜ Finished (now (words .entry)) (now (words .exit)) head a r ⌝ }
 {
     let c = a.answer;
     match c {
         Completed::Refused(r) => Completed::Refused(r),
         Completed::Done => {
-            store::settle::link(words, a.runs as u64);
+            core::runs::finish(
+                words,
+                Links {
+                    tag: 0,
+                    root: 0,
+                    free: head,
+                },
+                a.runs as u64,
+            );
             Completed::Done
         }
     }
@@ -145,6 +170,7 @@ pub fn from_sorted_runs(words: &mut [u64], runs: &[Run]) -> Completed
     let n = runs.len();
     let o = in_order(runs);
     let a = admitted(words.len(), n, o);
-    put_runs(runs, words, a.runs);
-    finish(words, a)
+    let head = begin(words, a);
+    put_runs(runs, words, head, a.runs);
+    finish(words, head, a)
 }

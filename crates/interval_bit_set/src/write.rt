@@ -4,10 +4,10 @@ ghost use mathlib.Core.Path.{_≡_};
 ghost use Prim.Native.Nat.{_≤_};
 ghost use lib.ListN.{length, take};
 ghost use Rattle.model.specs.Call.{Call};
-ghost use Rattle.interval_bit_set.specs.Met.{outcomeOf};
-ghost use Rattle.interval_bit_set.specs.Out.{WritesOut, codeOf, frontOf, flatOf};
+ghost use Rattle.core.specs.Met.{outcomeOf};
+ghost use Rattle.core.specs.Out.{WritesOut};
+ghost use Rattle.interval_bit_set.specs.Out.{codeOf, frontOf, flatOf};
 use crate::look::Look;
-use model::Refusal;
 use model::Written;
 
 // Writes a store's set, and tells how many bytes it has.
@@ -17,15 +17,7 @@ pub fn write_set(words: &[u64], out: &mut [u8]) -> Written
     let l = crate::look::look_at(words);
     match l {
         Look::Refused(r) => Written::Refused(r),
-        Look::Sound => {
-            let n = written::set::run_count(words);
-            let due = 5 + 16 * (n as usize);
-            if out.len() < due {
-                return Written::Refused(Refusal::OutputShort);
-            }
-            written::write::write_set(words, out);
-            Written::Bytes(due)
-        }
+        Look::Sound => core::write::write_set(words, out),
     }
 }
 
@@ -36,17 +28,7 @@ pub fn write_map(words: &[u64], base: u64, n: u64, out: &mut [u8]) -> Written
     let l = crate::look::look_at(words);
     match l {
         Look::Refused(r) => Written::Refused(r),
-        Look::Sound => {
-            if !crate::core::window_fits(base, n) {
-                return Written::Refused(Refusal::Window);
-            }
-            let due = ((n + 7) / 8) as usize;
-            if out.len() < due {
-                return Written::Refused(Refusal::OutputShort);
-            }
-            maps::write::write_map(words, base, n, out);
-            Written::Bytes(due)
-        }
+        Look::Sound => core::write::write_map(words, base, n, out),
     }
 }
 

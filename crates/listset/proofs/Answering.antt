@@ -18,10 +18,10 @@ use Rattle.model.specs.Refusals.{capacity as tooMuch}
 use Rattle.model.specs.Call.{Call, done, refused, gave}
 use Rattle.model.specs.Answers.{completedAnswer}
 use Rattle.model.specs.Model.{Outcome, positionsOf, overwrites, settle, overwrite, serve, step}
-use Rattle.store.specs.Layout.{capacity, heldBy}
+use Rattle.store.specs.Layout.{capacity, allowance, heldBy}
 use Rattle.store.specs.Soundness.{Sound}
-use Rattle.interval_bit_set.specs.Met.{fedOf, outcomeOf, Met}
-use Rattle.interval_bit_set.proofs.Meeting.{refused-not, fed-sized}
+use Rattle.core.specs.Met.{fedOf, outcomeOf, Met}
+use Rattle.core.proofs.Meeting.{refused-not, fed-sized}
 use Rattle.lockstep.specs.Follow.{overwritten}
 use Rattle.listset.specs.Text.{tooLongLine, refusedLine, setLines, outcomeLines, loaded, printed}
 use Rattle.listset.specs.Put.{Puts}
@@ -65,7 +65,7 @@ module _ (bs : List ℕ) where
 
   module _ (w : List ℕ) (z : capacity w ≡ 950) where
     outcome-is : outcomeOf w (Call.load bs) ≡ overwrite 950 (fedOf w) (setConditions bs) held
-    unfolding outcomeOf serve held
+    unfolding outcomeOf serve held allowance
     outcome-is = ap (λ k. overwrite k (fedOf w) (setConditions bs) held) z
 
     -- the words are a store's, so 1 is not given

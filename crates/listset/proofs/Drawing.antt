@@ -28,8 +28,8 @@ use Rattle.model.specs.Answers.{numberedAnswer, countedAnswer, listedAnswer, dr
 use Rattle.model.specs.Model.{report, drawnFirst, serve, step}
 use Rattle.store.specs.Layout.{capacity, heldBy}
 use Rattle.store.specs.Soundness.{Sound}
-use Rattle.interval_bit_set.specs.Met.{Met}
-use Rattle.interval_bit_set.proofs.Meeting.{refused-not}
+use Rattle.core.specs.Met.{Met}
+use Rattle.core.proofs.Meeting.{refused-not}
 use Rattle.lockstep.specs.Follow.{Holds, answer-is}
 
 -- what follows the first run

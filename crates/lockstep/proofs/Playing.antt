@@ -12,9 +12,9 @@ use Rattle.model.specs.Numbers.{size}
 use Rattle.model.specs.Answers.{writtenAnswer}
 use Rattle.model.specs.Call.{Call, Answer}
 use Rattle.store.specs.Layout.{capacity}
-use Rattle.interval_bit_set.specs.Met.{Met}
-use Rattle.interval_bit_set.specs.Out.{WritesOut}
-use Rattle.interval_bit_set.proofs.Meeting.{refused-not}
+use Rattle.core.specs.Met.{Met}
+use Rattle.core.specs.Out.{WritesOut}
+use Rattle.core.proofs.Meeting.{refused-not}
 use Rattle.lockstep.specs.History.{rest, call, New, Played, WritesSet}
 use Rattle.lockstep.specs.Empty.{fresh}
 use Rattle.lockstep.specs.Theorems.{Wrote, theorem2-bytes, theorem2-room}

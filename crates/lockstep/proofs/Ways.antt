@@ -16,7 +16,7 @@ use Rattle.model.specs.Ops.{shiftLeftRuns, shiftRuns, set-positions, shift-posi
 use Rattle.model.specs.Calc.{mem-empty}
 use Rattle.model.specs.Call.{Call, Result, holding}
 use Rattle.model.specs.Model.{change, changed, serve, step, after}
-use Rattle.interval_bit_set.proofs.Changing.{fits-few}
+use Rattle.core.proofs.Changing.{fits-few}
 
 -- the run from a to b, alone
 abbrev one : ℕ → ℕ → List Run

@@ -1,48 +1,15 @@
--- Words of a store's length can be made an empty store: each node is freed from the last on down, and then the header is written. Only that
--- such words are there is shown; a call is not asked for them. Assumes nothing.
-use Prim.Native.Nat.{ℕ, zero, suc, _-_, _/_, _≤_}
-use mathlib.Core.Path.{_≡_, refl, ap, subst}
+-- Words of a store's length can be made an empty store, as `new` may leave them. Assumes nothing.
+use Prim.Native.Nat.{ℕ, _≤_}
+use mathlib.Core.Path.{_≡_}
 use mathlib.Core.List.{List}
-use native.Mathlib.Omega.{arith}
 use lib.ListN.{length}
 use Rattle.model.specs.Call.{Call, done, gave}
-use Rattle.run_index.specs.declared.Node.{Node}
-use Rattle.run_index.specs.Cells.{Wrote}
-use Rattle.run_index.proofs.Words.{stored, stored-wrote}
-use Rattle.store.specs.Layout.{headerOf, Headed, capacity}
-use Rattle.store.specs.Soundness.{freeCell}
-use Rattle.store.specs.Free.{Chained, Emptied}
-use Rattle.store.proofs.Nodes.{sized-length}
-use Rattle.store.proofs.Emptying.{FreeAfter, free-after-none, free-after-room, free-after-more, free-after-chained, emptyHeader, made-empty}
-use Rattle.interval_bit_set.specs.Met.{Met}
-use Rattle.interval_bit_set.proofs.Meeting.{make-done}
+use Rattle.store.specs.Layout.{capacity}
+use Rattle.store.proofs.Fresh.{emptied}
+use Rattle.core.specs.Met.{Met}
+use Rattle.core.proofs.Meeting.{make-done}
 
--- all nodes are freed, one after the other
-freed : {w₀ w : List ℕ} {next : ℕ} (l : ℕ) → FreeAfter w₀ w 0 l next → (w′ : List ℕ) × (k : ℕ) × Chained w₀ w′ 0 k
-freed {w₀} {w} {next} zero f = (w, next, free-after-chained w₀ w 0 0 next refl f)
-freed {w₀} {w} {next} (suc l) f =
-    freed l
-    (subst (λ j. FreeAfter w₀ (stored w (suc l) (freeCell next)) 0 j (suc l)) (omega arith)
-    (free-after-more w₀ w (stored w (suc l) (freeCell next)) 0 (suc l) next (λ e. omega arith) f
-    (stored-wrote w (suc l) (freeCell next) (free-after-room w₀ w 0 (suc l) next f))))
-
--- the words of the header of an empty store whose free chain starts at k
-abbrev emptyCell : ℕ → Node
-emptyCell k = record { start = 0; «end» = k; left = 0; right = 0; height = 0; runs = 0; ones = 0; tag = 0 }
-
--- the header is written
-headed : (w : List ℕ) (k : ℕ) → 8 ≤ length w → Headed w (stored w 0 (emptyCell k)) (emptyHeader k)
-headed w k h =
-    let r : Wrote w (stored w 0 (emptyCell k)) 0 (emptyCell k) = stored-wrote w 0 (emptyCell k) (omega arith) in
-    record { here = ap headerOf (r .here); there = λ m l. r .there m (λ e. omega arith); long = r .long }
-
--- so there is an empty store of that length
-emptied : (w : List ℕ) → 1 ≤ capacity w → (w′ : List ℕ) × Emptied w w′
-emptied w h =
-    let f = freed {w₀ = w} (length w / 8 - 1) (free-after-none w 0 (length w / 8 - 1) 0 h (omega arith) refl refl) in
-    (stored (f .0) 0 (emptyCell (f .1)), made-empty w (f .0) (stored (f .0) 0 (emptyCell (f .1))) (f .1) h (f .2) (headed (f .0) (f .1) (omega (arith, f .2 .long, sized-length w h))))
-
--- which `new` may leave
+-- what `new` may leave
 pub record Fresh (w : List ℕ) : Type 0 where
   pub words : List ℕ
   pub made : Met w Call.make (gave done) words

@@ -13,12 +13,12 @@ use Rattle.model.specs.Refusals.{Condition, _when_, refusal, tooMany}
 use Rattle.model.specs.Refusals.{capacity as tooMuch}
 use Rattle.model.specs.Call.{Fed, holding, Call, feed, done, Answer, gave}
 use Rattle.model.specs.Model.{Outcome, positionsOf, overwrites, settle, overwrite, serve, step, after}
-use Rattle.store.specs.Layout.{capacity, heldBy}
-use Rattle.store.specs.Turn.{held-past}
+use Rattle.store.specs.Layout.{capacity, allowance, heldBy}
+use Rattle.store.specs.Turn.{store-past}
 use Rattle.store.specs.Soundness.{Sound}
 use Rattle.store.specs.Settle.{Settled}
-use Rattle.interval_bit_set.specs.Met.{fedOf, outcomeOf, Leaves, Met}
-use Rattle.interval_bit_set.proofs.Meeting.{fed-sound}
+use Rattle.core.specs.Met.{fedOf, outcomeOf, Leaves, Met}
+use Rattle.core.proofs.Meeting.{fed-sound}
 use Rattle.lockstep.specs.History.{History, rest, call, New, Played, told, outcomes, left, Follows, over, next}
 use Rattle.lockstep.specs.Steps.{Ends, bounded-ends, Served, served, unrefused}
 
@@ -51,7 +51,7 @@ module _ {C : ℕ} {w w′ : List ℕ} where
   settled-holds {Q} S e q = record {
     sound = S .sound;
     sized = ap capacityOf (S .long) ∙ e;
-    held = same-positions (heldBy w′) Q (held-past w′) q (S .holds);
+    held = same-positions (heldBy w′) Q (store-past w′) q (S .holds);
   }
 
   -- whatever the answer, the positions after a call are the outcome's
@@ -62,7 +62,7 @@ module _ {C : ℕ} {w w′ : List ℕ} where
         settled-holds
         (subst (λ b. Leaves w w′ (o .positions) b) (said ∙ ap (λ p. p .answer) f) leaves)
         (H .sized)
-        (subst Ends (sym q) (S .ends (subst Ends (H .held) (held-past w))))
+        (subst Ends (sym q) (S .ends (subst Ends (H .held) (store-past w))))
     by-cause (some n) f =
         let same : w′ ≡ w = subst (λ b. Leaves w w′ (o .positions) b) (said ∙ ap (λ p. p .answer) f) leaves in
         subst (λ v. Holds C (o .positions) v) (sym same) (subst (λ Q. Holds C Q w) (sym (ap (λ p. p .positions) f)) H)
@@ -72,7 +72,7 @@ module _ {C : ℕ} {w w′ : List ℕ} where
 
 -- the outcome of a call is the model's step
 pub outcome-is : {C : ℕ} {P : Positions} {w : List ℕ} → Holds C P w → (c : Call (List ℕ)) → outcomeOf w c ≡ step C P (feed fedOf c)
-unfolding outcomeOf step
+unfolding outcomeOf step allowance
 outcome-is {C} {P} {w} H c = ap₂ (λ k s. serve k s (feed fedOf c)) (H .sized) ((fed-sound w (H .sound)) .fed ∙ ap holding (H .held))
 
 -- one call: the answer is the model's
@@ -112,7 +112,7 @@ overwritten {C} {w} {w′} s cs Q z e m =
 
 -- a new store is empty
 pub new-holds : {C : ℕ} {w : List ℕ} → New C w → Holds C empty w
-unfolding outcomeOf serve
+unfolding outcomeOf serve allowance
 new-holds {C} {w} N =
     subst (λ P. Holds C P w) (bounded-same empty empty-ends)
     ((overwritten (fedOf (N .before)) [] empty (N .sized) (ap (λ k. overwrite k (fedOf (N .before)) [] empty) (N .sized)) (N .made)) .1)

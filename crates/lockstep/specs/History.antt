@@ -8,7 +8,7 @@ use Rattle.model.specs.Positions.{Positions, empty}
 use Rattle.model.specs.Call.{Fed, Call, feed, done, written, Answer, gave}
 use Rattle.model.specs.Model.{Outcome, step}
 use Rattle.store.specs.Layout.{capacity, heldBy}
-use Rattle.interval_bit_set.specs.Met.{fedOf, Met}
+use Rattle.core.specs.Met.{fedOf, Met}
 
 -- the words w, after the calls cs, which got the answers rs, and were the words ws after each call
 pub data History : List ℕ → List (Call (List ℕ)) → List Answer → List (List ℕ) → Type 0 where

@@ -13,10 +13,10 @@ use Rattle.model.specs.Call.{Call, done, gave}
 use Rattle.model.specs.Model.{overwrite, serve}
 use Rattle.model.specs.Codec.{AllBytes}
 use Rattle.model.specs.RoundTrips.{Accepted, unrefused-accepted, accepted-loads, accepted-bytes, held-read, held-accepted, bounded-held}
-use Rattle.store.specs.Layout.{capacity}
+use Rattle.store.specs.Layout.{capacity, allowance}
 use Rattle.store.specs.Settle.{Settled}
-use Rattle.interval_bit_set.specs.Met.{fedOf, outcomeOf, Met}
-use Rattle.interval_bit_set.proofs.Meeting.{met-by}
+use Rattle.core.specs.Met.{fedOf, outcomeOf, Met}
+use Rattle.core.proofs.Meeting.{met-by}
 use Rattle.lockstep.specs.History.{rest, call, New, WritesSet, Loads, Writable}
 use Rattle.lockstep.specs.Follow.{Holds, outcome-is, overwritten, new-holds, played-holds}
 use Rattle.lockstep.specs.Writing.{bytesOf, sizeable, few, written-is, writes}
@@ -30,7 +30,7 @@ load-met {C} {P} {bs = bs} H A S =
 module _ {C : ℕ} {bs : List ℕ} where
   -- what loads was accepted, and the store holds its positions
   loaded : (L : Loads C bs) → Accepted C bs × Holds C (bounded (mem (decode bs))) (L .after)
-  unfolding outcomeOf serve
+  unfolding outcomeOf serve allowance
   loaded L =
       let r = overwritten (fedOf (L .store)) (setConditions bs) (mem (decode bs)) (L .sized) (ap (λ k. overwrite k (fedOf (L .store)) (setConditions bs) (mem (decode bs))) (L .sized)) (L .met) in
       (unrefused-accepted C (fedOf (L .store)) bs (r .0), r .1)
@@ -40,7 +40,7 @@ module _ {C : ℕ} {bs : List ℕ} where
   loads-writable b L =
       let r = loaded L in
       let e = (accepted-bytes C bs b (r .0)) .1 in
-      let sized : 1 ≤ capacity (L .store) = omega (arith, r .1 .sound .kept .sized, r .1 .sized, L .sized) in
+      let sized : 1 ≤ capacity (L .store) = omega (arith, r .1 .sound .sized, r .1 .sized, L .sized) in
       let F = fresh (L .store) sized in
       let N : New C (F .words) = record { before = L .store; sized = L .sized; made = F .made } in
       let S : Settled (F .words) (L .after) (bounded (mem (decode bs))) =

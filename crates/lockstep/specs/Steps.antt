@@ -25,7 +25,7 @@ use Rattle.model.specs.Model.{
   drawnLast,
   serve,
 }
-use Rattle.interval_bit_set.proofs.Meeting.{refused-not}
+use Rattle.core.proofs.Meeting.{refused-not}
 
 -- only 0 .. 2^64 − 1 are held
 abbrev pub Ends : Positions → Type 0

@@ -9,7 +9,7 @@ use Rattle.model.specs.Positions.{empty}
 use Rattle.model.specs.Call.{Call, written, Answer, gave}
 use Rattle.model.specs.Model.{after}
 use Rattle.model.specs.Codec.{AllBytes}
-use Rattle.interval_bit_set.specs.Met.{Met}
+use Rattle.core.specs.Met.{Met}
 use Rattle.lockstep.specs.History.{History, New, Played, told, outcomes, Follows, WritesSet, Loads, Writable}
 use Rattle.lockstep.specs.Follow.{follows, new-holds, played-holds, answered-alike}
 use Rattle.lockstep.specs.Writing.{bytes-few, written-all, written-alike}

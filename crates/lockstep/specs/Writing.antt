@@ -13,11 +13,11 @@ use Rattle.model.specs.Call.{Call, written, Answer, gave}
 use Rattle.model.specs.Model.{settle, report, write, serve, step}
 use Rattle.model.specs.Codec.{encode-length}
 use Rattle.model.specs.RoundTrips.{written-whole, bytes-tell}
-use Rattle.store.specs.Layout.{capacity}
-use Rattle.store.specs.Turn.{held-past}
+use Rattle.store.specs.Layout.{capacity, allowance}
+use Rattle.store.specs.Turn.{store-past}
 use Rattle.store.proofs.Nodes.{sized-length}
-use Rattle.interval_bit_set.specs.Met.{Met}
-use Rattle.interval_bit_set.proofs.Meeting.{met-by}
+use Rattle.core.specs.Met.{Met}
+use Rattle.core.proofs.Meeting.{met-by}
 use Rattle.lockstep.specs.History.{WritesSet}
 use Rattle.lockstep.specs.Steps.{Ends, unrefused}
 use Rattle.lockstep.specs.Follow.{Holds, same-positions, outcome-is, answer-is}
@@ -29,10 +29,11 @@ bytesOf P = encode (heldRuns P)
 module _ {C : ℕ} {P : Positions} {w : List ℕ} (H : Holds C P w) where
   -- no store is of more than 65,536 runs
   pub sizeable : C ≤ 65536
-  sizeable = omega (arith, H .sized, (sized-length w (H .sound .kept .sized)) .1)
+  sizeable = omega (arith, H .sized, (sized-length w (H .sound .sized)) .1)
 
   -- at most C runs are held
   pub few : stretches P ≤ C
+  unfolding allowance
   few = subst (λ k. stretches P ≤ k) (H .sized) (subst (λ Q. stretches Q ≤ capacity w) (H .held) (H .sound .fits))
 
   -- so their bytes are at most 5 + 16 × C
@@ -42,7 +43,7 @@ module _ {C : ℕ} {P : Positions} {w : List ℕ} (H : Holds C P w) where
 
   -- no position above 2^64 − 1 is held
   pub holds-ends : Ends P
-  holds-ends = subst Ends (H .held) (held-past w)
+  holds-ends = subst Ends (H .held) (store-past w)
 
 -- what the model gives of writing a set, by the test of the slice's room
 write-by : (C : ℕ) (P : Positions) (out : List ℕ) → step C P (Call.writeSet out)

@@ -7,13 +7,12 @@ use mathlib.Core.List.{List}
 use native.Mathlib.Omega.{arith}
 use lib.Dec.{leb}
 use Rattle.model.specs.Positions.{Positions, oneIf, countRanges, stretches}
-use Rattle.model.specs.Positions.Laws.{one-bound}
 use Rattle.model.specs.Bytes.{mapBit, mapped}
 use Rattle.model.specs.MapLaws.{mapped-in}
 use Rattle.model.specs.After.{goesOn, runs-replaced}
 use Rattle.reports.proofs.Reading.{ranges-most}
 use Rattle.changes.specs.Neighbours.{heldBelow, heldAbove, goesOn-changed-above, goesOn-changed-below}
-use Rattle.changes.proofs.Fitting.{leb-like, Told, inside-few, told-few}
+use Rattle.changes.proofs.Fitting.{leb-like, one-most, Told, inside-few, told-few}
 use Rattle.maps.specs.Window.{Window}
 use Rattle.maps.proofs.Windows.{mapped-below, mapped-above}
 
@@ -42,7 +41,7 @@ module _ (P : Positions) (base n : ℕ) (bs : List ℕ) (win : Window base n bs)
       (mapped-in base n bs P (n - 1) (omega (arith, win .some)))
 
   -- all runs
-  pub map-leaves : stretches (mapped base n bs P) + countRanges P true base n + oneIf (heldBelow P base && mapBit bs 0) + oneIf (heldAbove P (base + (n - 1)) && mapBit bs (n - 1))
+  map-leaves : stretches (mapped base n bs P) + countRanges P true base n + oneIf (heldBelow P base && mapBit bs 0) + oneIf (heldAbove P (base + (n - 1)) && mapBit bs (n - 1))
       ≡ stretches P + oneIf (goesOn P base) + oneIf (goesOn P (suc (base + (n - 1)))) + countRanges (mapped base n bs P) true base n
   map-leaves =
       let q : base + n ≡ suc (base + (n - 1)) = omega (arith, win .some) in
@@ -55,29 +54,28 @@ module _ (P : Positions) (base n : ℕ) (bs : List ℕ) (win : Window base n bs)
         ap (λ x. oneIf (goesOn (mapped base n bs P) x)) q,
       )
 
-  module _ {total inside on past runs : ℕ} (t : Told P base (base + (n - 1)) total inside on past) (r : runs ≡ countRanges (mapped base n bs P) true base n) where
-    -- the map's runs are few, and so are all that are counted
-    pub before-few : total + on + past + runs ≤ 400000
-    before-few = omega (arith, told-few t, r, ranges-most (mapped base n bs P) true base n, win .few)
+-- ---- whether they fit
+module _ {P : Positions} {base n : ℕ} {bs : List ℕ} {total inside on past runs : ℕ} (win : Window base n bs) (t : Told P base (base + (n - 1)) total inside on past)
+    (r : runs ≡ countRanges (mapped base n bs P) true base n) where
+  -- the map's runs are few, and so are all that are counted
+  pub before-few : total + on + past + runs ≤ 400000
+  before-few = omega (arith, told-few t, r, ranges-most (mapped base n bs P) true base n, win .few)
 
-    module _ {c k low high : ℕ} (ec : c ≡ k) (most : k ≤ 65536) (el : low ≡ oneIf (heldBelow P base && mapBit bs 0))
-        (eh : high ≡ oneIf (heldAbove P (base + (n - 1)) && mapBit bs (n - 1))) where
-      -- and what they are compared with
-      pub after-few : c + inside + low + high ≤ 400000
-      after-few =
-          omega (
-            arith,
-            inside-few t,
-            ec,
-            el,
-            eh,
-            one-bound (heldBelow P base && mapBit bs 0),
-            one-bound (heldAbove P (base + (n - 1)) && mapBit bs (n - 1)),
-          )
+  module _ {limit low high : ℕ} (most : limit ≤ 65566) (el : low ≡ oneIf (heldBelow P base && mapBit bs 0))
+      (eh : high ≡ oneIf (heldAbove P (base + (n - 1)) && mapBit bs (n - 1))) where
+    -- and what they are compared with
+    pub after-few : limit + inside + low + high ≤ 400000
+    after-few =
+        omega (
+          arith,
+          inside-few t,
+          one-most low (heldBelow P base && mapBit bs 0) el,
+          one-most high (heldAbove P (base + (n - 1)) && mapBit bs (n - 1)) eh,
+        )
 
-      -- whether they fit
-      pub map-fits-is : leb (total + on + past + runs) (c + inside + low + high) ≡ leb (stretches (mapped base n bs P)) k
-      map-fits-is =
-          let q : suc (base + (n - 1)) - base ≡ n = omega (arith, win .some) in
-          leb-like (stretches (mapped base n bs P)) k (total + on + past + runs) (c + inside + low + high) (inside + low + high)
-          (omega (arith, map-leaves, t .total-is, t .inside-is, t .on-is, t .past-is, r, el, eh, ap (countRanges P true base) q)) (omega (arith, ec))
+    -- the comparison tells it
+    pub map-fits-is : leb (total + on + past + runs) (limit + inside + low + high) ≡ leb (stretches (mapped base n bs P)) limit
+    map-fits-is =
+        let q : suc (base + (n - 1)) - base ≡ n = omega (arith, win .some) in
+        leb-like (stretches (mapped base n bs P)) limit (total + on + past + runs) (limit + inside + low + high) (inside + low + high)
+        (omega (arith, map-leaves P base n bs win, t .total-is, t .inside-is, t .on-is, t .past-is, r, el, eh, ap (countRanges P true base) q)) (omega arith)

@@ -5,8 +5,11 @@ use mathlib.Core.Bool.{Bool, true, false}
 use mathlib.Core.List.{List}
 use lib.ListN.{length}
 use Rattle.model.specs.Numbers.{size}
-use Rattle.model.specs.Positions.{Positions, countRanges, changes}
+use Rattle.model.specs.Positions.{Positions, countRanges, stretches, changes}
 use Rattle.model.specs.Bytes.{mapBit, mapped, mapLength}
+use Rattle.store.specs.declared.World.{World}
+use Rattle.store.specs.Layout.{heldIn}
+use Rattle.store.specs.Soundness.{Share, Limited}
 use Rattle.maps.specs.declared.read.Survey.{Survey}
 
 -- n positions from base on, and the bytes of their map
@@ -24,3 +27,12 @@ WholeByte bs i v false = Unit {0}
 pub record Surveyed (P : Positions) (base n : ℕ) (bs : List ℕ) (s : Survey) : Type 0 where
   pub runs-are : s .runs ≡ countRanges (mapped base n bs P) true base n
   pub changed-are : s .changed ≡ changes P (mapped base n bs P)
+
+-- a window of a world may get the map's values: at most as many runs are left as the world may have
+pub record Fits (w : List ℕ) (s : Share) (h : World) (limit base n : ℕ) (bs : List ℕ) : Type 0 where
+  pub limited : Limited w s h limit
+  pub window : Window base n bs
+  pub few : stretches (mapped base n bs (heldIn w h)) ≤ limit
+
+abbrev pub MayMap : List ℕ → World → ℕ → ℕ → List ℕ → Type 0
+MayMap w h base n bs = (s : Share) × (limit : ℕ) × Fits w s h limit base n bs

@@ -1,4 +1,4 @@
-// Reading a map into a store, stretch by stretch. What it would leave is counted before the first write.
+// Reading a map into a world, stretch by stretch. What it would leave is counted before the first write.
 ghost use mathlib.Core.Path.{_≡_};
 ghost use mathlib.Core.Bool.{Bool, true};
 ghost use Prim.Native.Nat.{_+_, _*_, _-_, _≤_, _<_};
@@ -6,15 +6,14 @@ ghost use lib.Dec.{leb};
 ghost use lib.ListN.{length};
 ghost use Rattle.model.specs.Positions.{stretches, countRanges};
 ghost use Rattle.model.specs.Bytes.{mapBit, mapped, mapLength};
-ghost use Rattle.store.specs.Layout.{capacity, heldBy};
-ghost use Rattle.store.specs.Soundness.{Sound};
-ghost use Rattle.store.specs.Settle.{Settled};
-ghost use Rattle.changes.specs.Edits.{Edited, StretchEnd};
-ghost use Rattle.maps.specs.Window.{Window, WholeByte, Surveyed};
+ghost use Rattle.store.specs.Layout.{heldIn};
+ghost use Rattle.store.specs.Soundness.{Stands, Editable};
+ghost use Rattle.changes.specs.Edits.{Makes, Edited, StretchEnd};
+ghost use Rattle.maps.specs.Window.{Window, WholeByte, Surveyed, MayMap};
 use changes::edit::Edit;
 use model::Count;
 use model::Logical;
-use model::Store;
+use store::World;
 
 // Bit i of a map.
 fn bit(bytes: &[u8], i: u64) -> bool
@@ -58,16 +57,16 @@ fn stretch(bytes: &[u8], i: u64, n: u64) -> u64
     e
 }
 
-// What a map says of a window: how many runs are in it, and how many positions of the store it changes.
+// What a map says of a window: how many runs are in it, and how many positions of the world it changes.
 pub struct Survey {
     pub runs: u64,
     pub changed: u64,
 }
 
-fn survey_map(words: &[u64], base: u64, n: u64, bytes: &[u8]) -> Survey
-    requires { ⌜ Sound (now words) ⌝ }
+fn survey_map(words: &[u64], h: World, base: u64, n: u64, bytes: &[u8]) -> Survey
+    requires { ⌜ Stands (now words) h ⌝ }
     requires { ⌜ Window base n (now bytes) ⌝ }
-    ensures { λ r. ⌜ Surveyed (heldBy (now (words .entry))) base n (now (bytes .entry)) r ⌝ }
+    ensures { λ r. ⌜ Surveyed (heldIn (now (words .entry)) h) base n (now (bytes .entry)) r ⌝ }
 {
     let mut i: u64 = 0;
     let mut runs: u64 = 0;
@@ -75,7 +74,7 @@ fn survey_map(words: &[u64], base: u64, n: u64, bytes: &[u8]) -> Survey
     while i < n {
         let value = bit(bytes, i);
         let e = stretch(bytes, i, n);
-        let t = reports::logical::tally(words, Logical(base + i), Logical(base + e), !value);
+        let t = reports::logical::tally(words, h, Logical(base + i), Logical(base + e), !value);
         let c = t.count;
         changed += c.low;
         if value {
@@ -89,74 +88,75 @@ fn survey_map(words: &[u64], base: u64, n: u64, bytes: &[u8]) -> Survey
     }
 }
 
-// Whether a map that has so many runs leaves at most as many runs as the capacity.
-fn map_fits(words: &[u64], base: u64, n: u64, bytes: &[u8], runs: u64) -> bool
-    requires { ⌜ Sound (now words) ⌝ }
+// Whether a map that has so many runs leaves at most as many runs as the limit.
+fn map_fits(words: &[u64], h: World, limit: u64, base: u64, n: u64, bytes: &[u8], runs: u64) -> bool
+    requires { ⌜ Editable (now words) h limit ⌝ }
     requires { ⌜ Window base n (now bytes) ⌝ }
-    requires { ⌜ runs ≡ countRanges (mapped base n (now bytes) (heldBy (now words))) true base n ⌝ }
-    ensures { λ r. ⌜ r ≡ leb (stretches (mapped base n (now (bytes .entry)) (heldBy (now (words .entry))))) (capacity (now (words .entry))) ⌝ }
+    requires { ⌜ runs ≡ countRanges (mapped base n (now bytes) (heldIn (now words) h)) true base n ⌝ }
+    ensures { λ r. ⌜ r ≡ leb (stretches (mapped base n (now (bytes .entry)) (heldIn (now (words .entry)) h))) limit ⌝ }
 {
-    let h = store::read_header(words);
-    let s = Store::of_length(words.len());
     let a = Logical(base);
     let b = Logical(base + (n - 1));
     let total = store::bounds::logical_runs(words, h.root, h.offset, h.runs);
-    let t = reports::logical::tally(words, a, b, true);
-    let before = total + changes::edit::going_on(words, a) + changes::edit::going_past(words, b);
+    let t = reports::logical::tally(words, h, a, b, true);
+    let before = total
+        + changes::edit::going_on(words, h, a)
+        + changes::edit::going_past(words, h, b);
     let low = if bit(bytes, 0) {
-        changes::edit::held_before(words, a)
+        changes::edit::held_before(words, h, a)
     } else {
         0
     };
     let high = if bit(bytes, n - 1) {
-        changes::edit::held_after(words, b)
+        changes::edit::held_after(words, h, b)
     } else {
         0
     };
-    before + runs <= s.capacity + t.runs + low + high
+    before + runs <= limit + t.runs + low + high
 }
 
 // Gives the window the map's values, where what it leaves fits. A map of one value is one set; else the window is cleared first, and
 // then no set on the way leaves more runs than the last one.
-fn apply_map(words: &mut [u64], base: u64, n: u64, bytes: &[u8])
-    requires { ⌜ Sound (now words) ⌝ }
-    requires { ⌜ Window base n (now bytes) ⌝ }
-    requires { ⌜ stretches (mapped base n (now bytes) (heldBy (now words))) ≤ capacity (now words) ⌝ }
-    ensures { λ _. ⌜ Settled (now (words .entry)) (now (words .exit)) (mapped base n (now (bytes .entry)) (heldBy (now (words .entry)))) ⌝ }
+fn apply_map(words: &mut [u64], h: World, base: u64, n: u64, bytes: &[u8]) -> World
+    requires { ⌜ MayMap (now words) h base n (now bytes) ⌝ }
+    ensures { λ r. ⌜ Makes (now (words .entry)) (now (words .exit)) h r (mapped base n (now (bytes .entry)) (heldIn (now (words .entry)) h)) ⌝ }
 {
     let mut e = stretch(bytes, 0, n);
     if e + 1 == n {
-        changes::edit::apply_set(words, Logical(base), Logical(base + e), bit(bytes, 0));
-        return;
+        return changes::edit::apply_set(words, h, Logical(base), Logical(base + e), bit(bytes, 0));
     }
-    changes::edit::apply_set(words, Logical(base), Logical(base + (n - 1)), false);
+    let mut at = changes::edit::apply_set(words, h, Logical(base), Logical(base + (n - 1)), false);
     let mut i: u64 = 0;
     while i < n {
         e = stretch(bytes, i, n);
         if bit(bytes, i) {
-            changes::edit::apply_set(words, Logical(base + i), Logical(base + e), true);
+            at = changes::edit::apply_set(words, at, Logical(base + i), Logical(base + e), true);
         }
         i = e + 1;
     }
+    at
 }
 
-// Sets a window from a map, leaves the other positions, and tells how many changed.
-pub fn read_map(words: &mut [u64], base: u64, n: u64, bytes: &[u8]) -> Edit
-    requires { ⌜ Sound (now words) ⌝ }
+// Sets a window from a map, leaves the other positions, and returns how many changed.
+pub fn read_map(words: &mut [u64], h: World, limit: u64, base: u64, n: u64, bytes: &[u8]) -> Edit
+    requires { ⌜ Editable (now words) h limit ⌝ }
     requires { ⌜ Window base n (now bytes) ⌝ }
-    ensures { λ r. ⌜ Edited (now (words .entry)) (now (words .exit)) (mapped base n (now (bytes .entry)) (heldBy (now (words .entry)))) r ⌝ }
+    ensures { λ r. ⌜ Edited (now (words .entry)) (now (words .exit)) h limit (mapped base n (now (bytes .entry)) (heldIn (now (words .entry)) h)) r ⌝ }
 {
-    let s = survey_map(words, base, n, bytes);
+    let s = survey_map(words, h, base, n, bytes);
     let changed = s.changed;
     if changed == 0 {
-        return Edit::Changed(Count { carry: 0, low: 0 });
+        return Edit::Changed(h, Count { carry: 0, low: 0 });
     }
-    if !map_fits(words, base, n, bytes, s.runs) {
+    if !map_fits(words, h, limit, base, n, bytes, s.runs) {
         return Edit::Full;
     }
-    apply_map(words, base, n, bytes);
-    Edit::Changed(Count {
-        carry: 0,
-        low: changed,
-    })
+    let k = apply_map(words, h, base, n, bytes);
+    Edit::Changed(
+        k,
+        Count {
+            carry: 0,
+            low: changed,
+        },
+    )
 }

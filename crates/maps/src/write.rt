@@ -5,10 +5,12 @@ ghost use lib.ListN.{length};
 ghost use Rattle.model.specs.Numbers.{size};
 ghost use Rattle.model.specs.Positions.{oneIf};
 ghost use Rattle.model.specs.Bytes.{mapOf, mapLength, intoFront};
-ghost use Rattle.store.specs.Layout.{heldBy};
-ghost use Rattle.store.specs.Soundness.{Sound};
-ghost use Rattle.maps.specs.Octets.{Standing, Octets, stores, BytesDue, StoresNext};
+ghost use Rattle.store.specs.Layout.{heldIn};
+ghost use Rattle.store.specs.Soundness.{Stands};
+ghost use Rattle.maps.specs.Octets.{Placed, Octets, stores, BytesDue, StoresNext};
+use store::World;
 use streams::source::Source;
+use streams::source::View;
 
 // A byte of a map, and the source at its last position.
 pub struct Octet {
@@ -25,9 +27,9 @@ fn alike(value: bool, n: u64) -> u64
 }
 
 // The k positions from x on as bits, the first in bit 0: those of the source's stretch at once, then the others.
-fn octet_of(words: &[u64], path: &mut [u64; 22], offset: u64, s: Source, x: u64, k: u64) -> Octet
-    requires { ⌜ Standing (now words) (now path) offset s x k ⌝ }
-    ensures { λ r. ⌜ Octets (now (words .entry)) (now (path .entry)) (now (path .exit)) offset s x k r ⌝ }
+fn octet_of(words: &[u64], path: &mut [u64; 22], v: View, s: Source, x: u64, k: u64) -> Octet
+    requires { ⌜ Placed (now words) (now path) v s x k ⌝ }
+    ensures { λ r. ⌜ Octets (now (words .entry)) (now (path .entry)) (now (path .exit)) v s x k r ⌝ }
 {
     let value = streams::sweep::value_at(s, x);
     let after = streams::sweep::same_to(s, x) - x;
@@ -39,8 +41,8 @@ fn octet_of(words: &[u64], path: &mut [u64; 22], offset: u64, s: Source, x: u64,
     }
     let n = after + 1;
     let low = alike(value, n);
-    let t = streams::sweep::moved(words, path, offset, s, x + n);
-    let r = octet_of(words, path, offset, t, x + n, k - n);
+    let t = streams::sweep::moved(words, path, v, s, x + n);
+    let r = octet_of(words, path, v, t, x + n, k - n);
     let high = r.bits;
     let u = r.source;
     Octet {
@@ -85,15 +87,15 @@ pub struct Stored {
 fn next_bytes(
     words: &[u64],
     path: &mut [u64; 22],
-    offset: u64,
+    v: View,
     s: Source,
     x: u64,
     left: u64,
     out: &mut [u8],
     j: usize,
 ) -> Stored
-    requires { ⌜ BytesDue (now words) (now path) offset s x left j (now out) ⌝ }
-    ensures { λ r. ⌜ StoresNext (now (words .entry)) (now (path .entry)) (now (path .exit)) offset s x left j (now (out .entry)) (now (out .exit)) r ⌝ }
+    requires { ⌜ BytesDue (now words) (now path) v s x left j (now out) ⌝ }
+    ensures { λ r. ⌜ StoresNext (now (words .entry)) (now (path .entry)) (now (path .exit)) v s x left j (now (out .entry)) (now (out .exit)) r ⌝ }
 {
     let after = streams::sweep::same_to(s, x) - x;
     if after >= 7 {
@@ -105,7 +107,7 @@ fn next_bytes(
             source: s,
         };
     }
-    let o = octet_of(words, path, offset, s, x, 8);
+    let o = octet_of(words, path, v, s, x, 8);
     out[j] = o.bits as u8;
     let t = o.source;
     Stored {
@@ -115,26 +117,29 @@ fn next_bytes(
 }
 
 // Writes the map of n positions from base on into the front of a slice that has room for it.
-pub fn write_map(words: &[u64], base: u64, n: u64, out: &mut [u8])
-    requires { ⌜ Sound (now words) ⌝ }
+pub fn write_map(words: &[u64], h: World, base: u64, n: u64, out: &mut [u8])
+    requires { ⌜ Stands (now words) h ⌝ }
     requires { ⌜ (1 ≤ n) × (base + n ≤ size) ⌝ }
     requires { ⌜ mapLength n ≤ length (now out) ⌝ }
-    ensures { λ _. ⌜ now (out .exit) ≡ intoFront (mapOf (heldBy (now (words .entry))) base n) (now (out .entry)) ⌝ }
+    ensures { λ _. ⌜ now (out .exit) ≡ intoFront (mapOf (heldIn (now (words .entry)) h) base n) (now (out .entry)) ⌝ }
 {
-    let h = store::read_header(words);
+    let v = View {
+        root: h.root,
+        offset: h.offset,
+    };
     let mut path = [0u64; 22];
-    let mut s = streams::source::open(words, &mut path, h.offset, base);
+    let mut s = streams::source::open(words, &mut path, v, base);
     let mut x = base;
     let mut left = n;
     let mut j: usize = 0;
     while left > 8 {
-        let r = next_bytes(words, &mut path, h.offset, s, x, left, out, j);
+        let r = next_bytes(words, &mut path, v, s, x, left, out, j);
         let t = r.source;
         x += 8 * r.count;
-        s = streams::sweep::moved(words, &mut path, h.offset, t, x);
+        s = streams::sweep::moved(words, &mut path, v, t, x);
         left -= 8 * r.count;
         j += r.count as usize;
     }
-    let o = octet_of(words, &mut path, h.offset, s, x, left);
+    let o = octet_of(words, &mut path, v, s, x, left);
     out[j] = o.bits as u8;
 }

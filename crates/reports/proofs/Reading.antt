@@ -19,10 +19,10 @@ use Rattle.model.specs.Positions.Laws.{count-cut, count-most}
 use Rattle.model.specs.Positions.Runs.{runsIn-canon}
 use Rattle.model.specs.Positions.Finds.{Selected, select-only, select-none}
 use Rattle.model.specs.RunList.{Canon}
-use Rattle.store.specs.declared.Header.{Header}
+use Rattle.store.specs.declared.World.{World}
 use Rattle.reports.specs.declared.physical.Tally.{Tally}
-use Rattle.store.specs.Layout.{headerAt, heldBy}
-use Rattle.store.specs.Soundness.{Sound}
+use Rattle.store.specs.Layout.{heldIn}
+use Rattle.store.specs.Soundness.{Share, Standing}
 use Rattle.store.specs.Bounds.{TellsHeld}
 use Rattle.reports.specs.Reports.{Measured, TellsTally, Choosable, TellsChosen}
 use Rattle.store.specs.Moved.{move}
@@ -43,7 +43,7 @@ use Rattle.store.specs.Turn.{
 }
 use Rattle.reports.specs.Joins.{select-first}
 use Rattle.reports.specs.Parted.{select-in-first, select-in-second}
-use Rattle.store.proofs.Opening.{physicalIn, sound-index, sound-held}
+use Rattle.store.proofs.Opening.{physicalIn, standing-index, standing-held}
 
 -- ---- how much a range has
 -- canonical runs are at least two apart
@@ -66,66 +66,66 @@ select-front P v a n m k x h l q =
     let e : m ≡ n + (m - n) = omega arith in
     sym (select-first P v a n (m - n) k l) ∙ ap (λ j. select P v a j k) (sym e) ∙ q
 
--- ---- of a sound store
-module _ {w : List ℕ} {h : Header} (sound : Sound w) (eh : h ≡ headerAt w) where
+-- ---- of a world
+module _ {w : List ℕ} {share : Share} {h : World} (st : Standing w share h) where
   -- a position is held where its place is
-  pub held-at : {x s : ℕ} {r : Bool} → x < size → s ≡ physicalOf x (h .offset) → TellsHeld w (h .root) s r → r ≡ heldBy w x
+  pub held-at : {x s : ℕ} {r : Bool} → x < size → s ≡ physicalOf x (h .offset) → TellsHeld w (h .root) s r → r ≡ heldIn w h x
   held-at {x} l es t =
-      t 0 (sound .tree) (sound-index sound eh) ∙ ap (physicalIn sound) es ∙ sym (ap (λ P. P x) (sound-held sound eh) ∙ turned-at (h .offset) (physicalIn sound) x l)
+      t (share .tag) (st .tree) (standing-index st) ∙ ap (physicalIn st) es ∙ sym (ap (λ P. P x) (standing-held st) ∙ turned-at (h .offset) (physicalIn st) x l)
 
   module _ {a n s e : ℕ} (lies : Lies (h .offset) a n s e) (v : Bool) where
     -- ---- whole ranges
     -- what a whole range has
-    pub tally-whole : {r : Tally} → s ≤ e → TellsTally w (h .root) s e v r → Measured (heldBy w) v a n r
+    pub tally-whole : {r : Tally} → s ≤ e → TellsTally w (h .root) s e v r → Measured (heldIn w h) v a n r
     tally-whole {r} i t =
-        let m : Measured (physicalIn sound) v s (suc e - s) r = t 0 (sound .tree) (sound-index sound eh) in
-        subst (λ P. Measured P v a n r) (sym (sound-held sound eh)) (record {
-          count-is = m .count-is ∙ sym (count-whole lies (physicalIn sound) v i ∙ ap (count (physicalIn sound) v s) (whole-length lies i));
-          runs-are = m .runs-are ∙ sym (countRanges-whole lies (physicalIn sound) v i ∙ ap (countRanges (physicalIn sound) v s) (whole-length lies i));
+        let m : Measured (physicalIn st) v s (suc e - s) r = t (share .tag) (st .tree) (standing-index st) in
+        subst (λ P. Measured P v a n r) (sym (standing-held st)) (record {
+          count-is = m .count-is ∙ sym (count-whole lies (physicalIn st) v i ∙ ap (count (physicalIn st) v s) (whole-length lies i));
+          runs-are = m .runs-are ∙ sym (countRanges-whole lies (physicalIn st) v i ∙ ap (countRanges (physicalIn st) v s) (whole-length lies i));
         })
 
     -- its k-th position can be selected from s on
     pub choosable-whole : {r : Tally} {k : ℕ} → s ≤ e → TellsTally w (h .root) s e v r → k < worth (r .count) → Choosable w (h .root) s v k
     choosable-whole {r} i t l =
-        let m : Measured (physicalIn sound) v s (suc e - s) r = t 0 (sound .tree) (sound-index sound eh) in
-        let more = count-more (physicalIn sound) v s (suc e - s) (size - s) (omega (arith, whole-length lies i, whole-fits lies i)) in
-        (0, sound .tree, sound-index sound eh, omega (arith, m .count-is))
+        let m : Measured (physicalIn st) v s (suc e - s) r = t (share .tag) (st .tree) (standing-index st) in
+        let more = count-more (physicalIn st) v s (suc e - s) (size - s) (omega (arith, whole-length lies i, whole-fits lies i)) in
+        (share .tag, st .tree, standing-index st, omega (arith, m .count-is))
 
     -- its k-th position
     pub selected-whole : {r : Tally} {k x y : ℕ} → s ≤ e → TellsTally w (h .root) s e v r → k < worth (r .count) → TellsChosen w (h .root) s v k x
-        → y ≡ logicalOf x (h .offset) → some y ≡ select (heldBy w) v a n k
+        → y ≡ logicalOf x (h .offset) → some y ≡ select (heldIn w h) v a n k
     selected-whole {r} {k} {x} {y} i t l c q =
-        let m : Measured (physicalIn sound) v s (suc e - s) r = t 0 (sound .tree) (sound-index sound eh) in
-        let f : select (physicalIn sound) v s n k ≡ some x =
-        select-front (physicalIn sound) v s n (size - s) k x (omega (arith, whole-fits lies i))
-        (omega (arith, m .count-is, ap (count (physicalIn sound) v s) (whole-length lies i))) (c 0 (sound .tree) (sound-index sound eh)) in
-        let d : Selected (physicalIn sound) v s n k x = select-only (physicalIn sound) v s n k x f in
+        let m : Measured (physicalIn st) v s (suc e - s) r = t (share .tag) (st .tree) (standing-index st) in
+        let f : select (physicalIn st) v s n k ≡ some x =
+        select-front (physicalIn st) v s n (size - s) k x (omega (arith, whole-fits lies i))
+        (omega (arith, m .count-is, ap (count (physicalIn st) v s) (whole-length lies i))) (c (share .tag) (st .tree) (standing-index st)) in
+        let d : Selected (physicalIn st) v s n k x = select-only (physicalIn st) v s n k x f in
         ap some (q ∙ sym (whole-move lies i x (d .from) (omega (arith, d .past, whole-length lies i))))
-        ∙ sym (ap (λ P. select P v a n k) (sound-held sound eh) ∙ select-whole lies (physicalIn sound) v i k ∙ ap (Option·map (move s a)) f)
+        ∙ sym (ap (λ P. select P v a n k) (standing-held st) ∙ select-whole lies (physicalIn st) v i k ∙ ap (Option·map (move s a)) f)
 
     -- it has none
-    pub unselected-whole : {r : Tally} {k : ℕ} → s ≤ e → TellsTally w (h .root) s e v r → worth (r .count) ≤ k → none ≡ select (heldBy w) v a n k
-    unselected-whole {r} {k} i t l = sym (select-none (heldBy w) v a n k (omega (arith, (tally-whole i t) .count-is)))
+    pub unselected-whole : {r : Tally} {k : ℕ} → s ≤ e → TellsTally w (h .root) s e v r → worth (r .count) ≤ k → none ≡ select (heldIn w h) v a n k
+    unselected-whole {r} {k} i t l = sym (select-none (heldIn w h) v a n k (omega (arith, (tally-whole i t) .count-is)))
 
     -- ---- parted ranges
     -- what the first part has
-    first-part : {one : Tally} → TellsTally w (h .root) s (size - 1) v one → Measured (physicalIn sound) v s (size - s) one
-    first-part {one} t = subst (λ m. Measured (physicalIn sound) v s m one) (omega arith) (t 0 (sound .tree) (sound-index sound eh))
+    first-part : {one : Tally} → TellsTally w (h .root) s (size - 1) v one → Measured (physicalIn st) v s (size - s) one
+    first-part {one} t = subst (λ m. Measured (physicalIn st) v s m one) (omega arith) (t (share .tag) (st .tree) (standing-index st))
 
     -- what the second part has
-    second-part : {two : Tally} → TellsTally w (h .root) 0 e v two → Measured (physicalIn sound) v 0 (e + 1) two
-    second-part {two} u = subst (λ m. Measured (physicalIn sound) v 0 m two) (omega arith) (u 0 (sound .tree) (sound-index sound eh))
+    second-part : {two : Tally} → TellsTally w (h .root) 0 e v two → Measured (physicalIn st) v 0 (e + 1) two
+    second-part {two} u = subst (λ m. Measured (physicalIn st) v 0 m two) (omega arith) (u (share .tag) (st .tree) (standing-index st))
 
     module _ {one two : Tally} (parted : e < s) (t : TellsTally w (h .root) s (size - 1) v one) (u : TellsTally w (h .root) 0 e v two) where
       -- both together
-      count-both-parts : worth (one .count) + worth (two .count) ≡ count (heldBy w) v a n
+      count-both-parts : worth (one .count) + worth (two .count) ≡ count (heldIn w h) v a n
       count-both-parts =
           ap₂ _+_ ((first-part t) .count-is) ((second-part u) .count-is)
-          ∙ sym (ap (λ P. count P v a n) (sound-held sound eh) ∙ count-parted lies (physicalIn sound) v parted)
+          ∙ sym (ap (λ P. count P v a n) (standing-held st) ∙ count-parted lies (physicalIn st) v parted)
 
       -- that is at most 2^64
       pub count-fits : worth (one .count) + worth (two .count) ≤ size
-      count-fits = omega (arith, count-both-parts, count-most (heldBy w) v a n, lies .fits)
+      count-fits = omega (arith, count-both-parts, count-most (heldIn w h) v a n, lies .fits)
 
       -- the runs of both together fit a word
       pub runs-fit : Fits w64 (one .runs + two .runs)
@@ -135,30 +135,30 @@ module _ {w : List ℕ} {h : Header} (sound : Sound w) (eh : h ≡ headerAt w) w
               arith,
               (first-part t) .runs-are,
               (second-part u) .runs-are,
-              ranges-most (physicalIn sound) v s (size - s),
-              ranges-most (physicalIn sound) v 0 (e + 1),
+              ranges-most (physicalIn st) v s (size - s),
+              ranges-most (physicalIn st) v 0 (e + 1),
             );
       }
 
       -- the run across physical M and 0 is counted twice
       runs-both-parts : {high low : Bool} → TellsHeld w (h .root) (size - 1) high → TellsHeld w (h .root) 0 low
-          → one .runs + two .runs ≡ countRanges (heldBy w) v a n + oneIf (Bool·beq high v && Bool·beq low v)
+          → one .runs + two .runs ≡ countRanges (heldIn w h) v a n + oneIf (Bool·beq high v && Bool·beq low v)
       runs-both-parts {high} {low} x y =
-          ap₂ _+_ ((first-part t) .runs-are) ((second-part u) .runs-are) ∙ sym (countRanges-parted lies (physicalIn sound) v parted)
-          ∙ ap₂ (λ P b. countRanges P v a n + oneIf b) (sym (sound-held sound eh))
-          (ap₂ (λ p q. Bool·beq p v && Bool·beq q v) (sym (x 0 (sound .tree) (sound-index sound eh))) (sym (y 0 (sound .tree) (sound-index sound eh))))
+          ap₂ _+_ ((first-part t) .runs-are) ((second-part u) .runs-are) ∙ sym (countRanges-parted lies (physicalIn st) v parted)
+          ∙ ap₂ (λ P b. countRanges P v a n + oneIf b) (sym (standing-held st))
+          (ap₂ (λ p q. Bool·beq p v && Bool·beq q v) (sym (x (share .tag) (st .tree) (standing-index st))) (sym (y (share .tag) (st .tree) (standing-index st))))
 
       module _ {high low : Bool} (x : TellsHeld w (h .root) (size - 1) high) (y : TellsHeld w (h .root) 0 low) where
         -- a run goes on from the first part into the second
-        runs-joined : Bool·beq high v ≡ true → Bool·beq low v ≡ true → one .runs + two .runs ≡ countRanges (heldBy w) v a n + 1
-        runs-joined p q = runs-both-parts x y ∙ ap₂ (λ b d. countRanges (heldBy w) v a n + oneIf (b && d)) p q
+        runs-joined : Bool·beq high v ≡ true → Bool·beq low v ≡ true → one .runs + two .runs ≡ countRanges (heldIn w h) v a n + 1
+        runs-joined p q = runs-both-parts x y ∙ ap₂ (λ b d. countRanges (heldIn w h) v a n + oneIf (b && d)) p q
 
         -- none does
-        runs-apart : (Bool·beq high v ≡ false) ⊎ (Bool·beq low v ≡ false) → one .runs + two .runs ≡ countRanges (heldBy w) v a n
-        runs-apart (inl p) = runs-both-parts x y ∙ ap (λ b. countRanges (heldBy w) v a n + oneIf (b && Bool·beq low v)) p ∙ omega arith
+        runs-apart : (Bool·beq high v ≡ false) ⊎ (Bool·beq low v ≡ false) → one .runs + two .runs ≡ countRanges (heldIn w h) v a n
+        runs-apart (inl p) = runs-both-parts x y ∙ ap (λ b. countRanges (heldIn w h) v a n + oneIf (b && Bool·beq low v)) p ∙ omega arith
         runs-apart (inr p) =
-            runs-both-parts x y ∙ ap (λ b. countRanges (heldBy w) v a n + oneIf (Bool·beq high v && b)) p
-            ∙ ap (λ b. countRanges (heldBy w) v a n + oneIf b) (and-false (Bool·beq high v)) ∙ omega arith
+            runs-both-parts x y ∙ ap (λ b. countRanges (heldIn w h) v a n + oneIf (Bool·beq high v && b)) p
+            ∙ ap (λ b. countRanges (heldIn w h) v a n + oneIf b) (and-false (Bool·beq high v)) ∙ omega arith
 
         -- then there is a run
         pub joined-some : Bool·beq high v ≡ true → Bool·beq low v ≡ true → 1 ≤ one .runs + two .runs
@@ -166,56 +166,56 @@ module _ {w : List ℕ} {h : Header} (sound : Sound w) (eh : h ≡ headerAt w) w
 
         -- what a parted range has, where one run is in both parts
         pub tally-joined : {k : Count} → Bool·beq high v ≡ true → Bool·beq low v ≡ true → worth k ≡ worth (one .count) + worth (two .count)
-            → Measured (heldBy w) v a n (record { count = k; runs = one .runs + two .runs - 1 })
+            → Measured (heldIn w h) v a n (record { count = k; runs = one .runs + two .runs - 1 })
         tally-joined p q r = record { count-is = r ∙ count-both-parts; runs-are = omega (arith, runs-joined p q) }
 
         -- and where none is
         pub tally-apart : {k : Count} → (Bool·beq high v ≡ false) ⊎ (Bool·beq low v ≡ false) → worth k ≡ worth (one .count) + worth (two .count)
-            → Measured (heldBy w) v a n (record { count = k; runs = one .runs + two .runs })
+            → Measured (heldIn w h) v a n (record { count = k; runs = one .runs + two .runs })
         tally-apart p r = record { count-is = r ∙ count-both-parts; runs-are = runs-apart p }
 
     module _ {one : Tally} (parted : e < s) (t : TellsTally w (h .root) s (size - 1) v one) where
       -- a count in the first part that is below 2^64 is its low word
       first-low : (one .count .carry ≡ 1 → ⊥) → worth (one .count) ≡ one .count .low
-      first-low ne = omega (arith, (first-part t) .count-is, count-most (physicalIn sound) v s (size - s))
+      first-low ne = omega (arith, (first-part t) .count-is, count-most (physicalIn st) v s (size - s))
 
       -- the first part's k-th position can be selected
       pub choosable-first : {k : ℕ} → k < worth (one .count) → Choosable w (h .root) s v k
-      choosable-first {k} l = (0, sound .tree, sound-index sound eh, omega (arith, (first-part t) .count-is))
+      choosable-first {k} l = (share .tag, st .tree, standing-index st, omega (arith, (first-part t) .count-is))
 
       -- it is the range's k-th position
-      pub selected-first : {k x y : ℕ} → k < worth (one .count) → TellsChosen w (h .root) s v k x → y ≡ logicalOf x (h .offset) → some y ≡ select (heldBy w) v a n k
+      pub selected-first : {k x y : ℕ} → k < worth (one .count) → TellsChosen w (h .root) s v k x → y ≡ logicalOf x (h .offset) → some y ≡ select (heldIn w h) v a n k
       selected-first {k} {x} {y} l c q =
-          let f : select (physicalIn sound) v s (size - s) k ≡ some x = c 0 (sound .tree) (sound-index sound eh) in
-          let d : Selected (physicalIn sound) v s (size - s) k x = select-only (physicalIn sound) v s (size - s) k x f in
+          let f : select (physicalIn st) v s (size - s) k ≡ some x = c (share .tag) (st .tree) (standing-index st) in
+          let d : Selected (physicalIn st) v s (size - s) k x = select-only (physicalIn st) v s (size - s) k x f in
           ap some (q ∙ sym (parted-move-first lies parted x (d .from) (omega (arith, d .past, first-below lies))))
-          ∙ sym (ap (λ P. select P v a n k) (sound-held sound eh)
-          ∙ select-in-first lies parted (physicalIn sound) v k (omega (arith, (first-part t) .count-is)) ∙ ap (Option·map (move s a)) f)
+          ∙ sym (ap (λ P. select P v a n k) (standing-held st)
+          ∙ select-in-first lies parted (physicalIn st) v k (omega (arith, (first-part t) .count-is)) ∙ ap (Option·map (move s a)) f)
 
       -- the second part's positions follow, fewer by those of the first part
       module _ {two : Tally} {k : ℕ} (u : TellsTally w (h .root) 0 e v two) (ne : one .count .carry ≡ 1 → ⊥) (le : one .count .low ≤ k) where
         -- the range has no k-th position
-        pub unselected-second : worth (two .count) ≤ k - one .count .low → none ≡ select (heldBy w) v a n k
-        unselected-second l = sym (select-none (heldBy w) v a n k (omega (arith, count-both-parts parted t u, first-low ne)))
+        pub unselected-second : worth (two .count) ≤ k - one .count .low → none ≡ select (heldIn w h) v a n k
+        unselected-second l = sym (select-none (heldIn w h) v a n k (omega (arith, count-both-parts parted t u, first-low ne)))
 
         module _ (l : k - one .count .low < worth (two .count)) where
           -- the second part's position can be selected
           pub choosable-second : Choosable w (h .root) 0 v (k - one .count .low)
           choosable-second =
-              let more = count-more (physicalIn sound) v 0 (e + 1) (size - 0) (omega (arith, first-below lies)) in
-              (0, sound .tree, sound-index sound eh, omega (arith, (second-part u) .count-is))
+              let more = count-more (physicalIn st) v 0 (e + 1) (size - 0) (omega (arith, first-below lies)) in
+              (share .tag, st .tree, standing-index st, omega (arith, (second-part u) .count-is))
 
           -- it is the range's k-th position
           pub selected-second : {x y : ℕ} → TellsChosen w (h .root) 0 v (k - one .count .low) x → y ≡ logicalOf x (h .offset)
-              → some y ≡ select (heldBy w) v a n k
+              → some y ≡ select (heldIn w h) v a n k
           selected-second {x} {y} c q =
               let j : ℕ = k - one .count .low in
-              let f : select (physicalIn sound) v 0 (e + 1) j ≡ some x =
-              select-front (physicalIn sound) v 0 (e + 1) (size - 0) j x (omega (arith, first-below lies)) (omega (arith, (second-part u) .count-is))
-              (c 0 (sound .tree) (sound-index sound eh)) in
-              let d : Selected (physicalIn sound) v 0 (e + 1) j x = select-only (physicalIn sound) v 0 (e + 1) j x f in
-              let i : k - count (physicalIn sound) v s (size - s) ≡ j = omega (arith, (first-part t) .count-is, first-low ne) in
+              let f : select (physicalIn st) v 0 (e + 1) j ≡ some x =
+              select-front (physicalIn st) v 0 (e + 1) (size - 0) j x (omega (arith, first-below lies)) (omega (arith, (second-part u) .count-is))
+              (c (share .tag) (st .tree) (standing-index st)) in
+              let d : Selected (physicalIn st) v 0 (e + 1) j x = select-only (physicalIn st) v 0 (e + 1) j x f in
+              let i : k - count (physicalIn st) v s (size - s) ≡ j = omega (arith, (first-part t) .count-is, first-low ne) in
               ap some (q ∙ sym (parted-move-second lies parted x (omega (arith, d .past))))
-              ∙ sym (ap (λ P. select P v a n k) (sound-held sound eh)
-              ∙ select-in-second lies parted (physicalIn sound) v k (omega (arith, (first-part t) .count-is, first-low ne))
-              ∙ ap (λ m. Option·map (move 0 (a + (size - s))) (select (physicalIn sound) v 0 (e + 1) m)) i ∙ ap (Option·map (move 0 (a + (size - s)))) f)
+              ∙ sym (ap (λ P. select P v a n k) (standing-held st)
+              ∙ select-in-second lies parted (physicalIn st) v k (omega (arith, (first-part t) .count-is, first-low ne))
+              ∙ ap (λ m. Option·map (move 0 (a + (size - s))) (select (physicalIn st) v 0 (e + 1) m)) i ∙ ap (Option·map (move 0 (a + (size - s)))) f)

@@ -11,12 +11,12 @@ use Rattle.model.specs.declared.Edge.the-variants.{At, Nowhere}
 use Rattle.model.specs.Numbers.{size, split}
 use Rattle.model.specs.Places.{physicalOf, logicalOf}
 use Rattle.model.specs.Positions.{Positions}
-use Rattle.store.specs.declared.Header.{Header}
-use Rattle.store.specs.Layout.{headerAt, turned, heldBy}
-use Rattle.store.specs.Soundness.{Sound}
+use Rattle.store.specs.declared.World.{World}
+use Rattle.store.specs.Layout.{turned, heldIn}
+use Rattle.store.specs.Soundness.{Share, Standing}
 use Rattle.reports.specs.Reports.{Next, Previous, TellsNext, TellsPrevious}
 use Rattle.store.specs.Turn.{Lies, lies-from-to, turned-at, turned-logical, whole-move, parted-move-first, parted-move-second, parted-middle, parted-length, whole-last}
-use Rattle.store.proofs.Opening.{physicalIn, sound-index, sound-held}
+use Rattle.store.proofs.Opening.{physicalIn, standing-index, standing-held}
 
 -- ---- turned positions
 module _ {o a n s e : ℕ} (lies : Lies o a n s e) (Q : Positions) (v : Bool) where
@@ -137,96 +137,97 @@ module _ (P : Positions) (v : Bool) where
   none-previous {x} n m (inl q) y i j = subst (Previous P v x) q m y j
   none-previous {x} n m (inr u) y i j = (subst (Previous P v x) (u .1) m) .2 y (omega (arith, u .2)) j
 
--- ---- of a sound store
-module _ {w : List ℕ} {h : Header} (sound : Sound w) (eh : h ≡ headerAt w) (small : h .offset < size) where
+-- where the positions from x on lie
+pub lies-from : {o x s e : ℕ} → x < size → o < size → s ≡ physicalOf x o → e ≡ physicalOf (size - 1) o → Lies o x (size - x) s e
+lies-from {o} {x} {s} {e} l small es ee =
+    subst (λ n. Lies o x n s e) (omega arith) (lies-from-to {b = size - 1} (omega arith) (omega arith) small es ee)
+
+-- where the positions up to x lie
+pub lies-upto : {o x s e : ℕ} → x < size → o < size → s ≡ physicalOf 0 o → e ≡ physicalOf x o → Lies o 0 (suc x) s e
+lies-upto {o} {x} {s} {e} l small es ee = subst (λ n. Lies o 0 n s e) (omega arith) (lies-from-to {b = x} (omega arith) l small es ee)
+
+-- ---- of a world
+module _ {w : List ℕ} {share : Share} {h : World} (st : Standing w share h) where
   module _ {a n s e : ℕ} (v : Bool) (lies : Lies (h .offset) a n s e) where
     -- no position of the value in a range, if there is none where it lies
-    nowhere-whole : s ≤ e → ((y : ℕ) → s ≤ y → y ≤ e → physicalIn sound y ≡ not v) → (z : ℕ) → a ≤ z → z < a + n → heldBy w z ≡ not v
+    nowhere-whole : s ≤ e → ((y : ℕ) → s ≤ y → y ≤ e → physicalIn st y ≡ not v) → (z : ℕ) → a ≤ z → z < a + n → heldIn w h z ≡ not v
     nowhere-whole i f =
-        subst (λ P. (z : ℕ) → a ≤ z → z < a + n → P z ≡ not v) (sym (sound-held sound eh)) (none-whole lies (physicalIn sound) v i f)
+        subst (λ P. (z : ℕ) → a ≤ z → z < a + n → P z ≡ not v) (sym (standing-held st)) (none-whole lies (physicalIn st) v i f)
 
     -- the same where it lies at two ranges
-    nowhere-parted : e < s → ((y : ℕ) → s ≤ y → y < size → physicalIn sound y ≡ not v) → ((y : ℕ) → y ≤ e → physicalIn sound y ≡ not v)
-        → (z : ℕ) → a ≤ z → z < a + n → heldBy w z ≡ not v
+    nowhere-parted : e < s → ((y : ℕ) → s ≤ y → y < size → physicalIn st y ≡ not v) → ((y : ℕ) → y ≤ e → physicalIn st y ≡ not v)
+        → (z : ℕ) → a ≤ z → z < a + n → heldIn w h z ≡ not v
     nowhere-parted i f g =
-        subst (λ P. (z : ℕ) → a ≤ z → z < a + n → P z ≡ not v) (sym (sound-held sound eh)) (none-parted lies (physicalIn sound) v i f g)
+        subst (λ P. (z : ℕ) → a ≤ z → z < a + n → P z ≡ not v) (sym (standing-held st)) (none-parted lies (physicalIn st) v i f g)
 
   -- ---- upwards
   -- what a search in the tree tells
-  told-next : (x : ℕ) (v : Bool) {n m : Edge} → TellsNext w (h .root) x v n → n ≡ m → Next (physicalIn sound) v x m
-  told-next x v t q = subst (Next (physicalIn sound) v x) q (t 0 (sound .tree) (sound-index sound eh))
+  told-next : (x : ℕ) (v : Bool) {n m : Edge} → TellsNext w (h .root) x v n → n ≡ m → Next (physicalIn st) v x m
+  told-next x v t q = subst (Next (physicalIn st) v x) q (t (share .tag) (st .tree) (standing-index st))
 
   -- a next position, as the code has it
-  next-is : {x y z : ℕ} {v : Bool} → y ≡ z → Next (turned (h .offset) (physicalIn sound)) v x (At z) → Next (heldBy w) v x (At y)
+  next-is : {x y z : ℕ} {v : Bool} → y ≡ z → Next (turned (h .offset) (physicalIn st)) v x (At z) → Next (heldIn w h) v x (At y)
   next-is {x} {y} {z} {v} d m =
-      subst (λ P. Next P v x (At y)) (sym (sound-held sound eh)) (subst (λ j. Next (turned (h .offset) (physicalIn sound)) v x (At j)) (sym d) m)
+      subst (λ P. Next P v x (At y)) (sym (standing-held st)) (subst (λ j. Next (turned (h .offset) (physicalIn st)) v x (At j)) (sym d) m)
 
-  module _ {x s e : ℕ} (v : Bool) (l : x < size) (es : s ≡ physicalOf x (h .offset)) (ee : e ≡ physicalOf (size - 1) (h .offset)) where
-    -- where the positions from x on lie
-    lies-from : Lies (h .offset) x (size - x) s e
-    lies-from = subst (λ n. Lies (h .offset) x n s e) (omega arith) (lies-from-to {b = size - 1} (omega arith) (omega arith) small es ee)
-
+  module _ {x s e : ℕ} (v : Bool) (lies : Lies (h .offset) x (size - x) s e) where
     -- found from x's place on
     pub next-first : {n : Edge} {p y : ℕ} → TellsNext w (h .root) s v n → n ≡ At p → (s ≤ e → p ≤ e) → y ≡ logicalOf p (h .offset)
-        → Next (heldBy w) v x (At y)
-    next-first {n} {p} t q u d = next-is d (next-near lies-from (physicalIn sound) v p (told-next s v t q) u)
+        → Next (heldIn w h) v x (At y)
+    next-first {n} {p} t q u d = next-is d (next-near lies (physicalIn st) v p (told-next s v t q) u)
 
     -- not there, but found from 0 on
     pub next-second : {n m : Edge} {p y : ℕ} → e < s → TellsNext w (h .root) s v n → n ≡ Nowhere → TellsNext w (h .root) 0 v m → m ≡ At p → p ≤ e
-        → y ≡ logicalOf p (h .offset) → Next (heldBy w) v x (At y)
+        → y ≡ logicalOf p (h .offset) → Next (heldIn w h) v x (At y)
     next-second {n} {m} {p} i t q t′ q′ u d =
-        next-is d (next-far lies-from (physicalIn sound) v i (told-next s v t q) p (told-next 0 v t′ q′) u)
+        next-is d (next-far lies (physicalIn st) v i (told-next s v t q) p (told-next 0 v t′ q′) u)
 
     -- not found, where the positions from x on lie at one range
-    pub next-nowhere : {n : Edge} → s ≤ e → TellsNext w (h .root) s v n → Past e n → Next (heldBy w) v x Nowhere
+    pub next-nowhere : {n : Edge} → s ≤ e → TellsNext w (h .root) s v n → Past e n → Next (heldIn w h) v x Nowhere
     next-nowhere {n} i t u z j k =
-        nowhere-whole v lies-from i (λ y b c. none-next (physicalIn sound) v n (t 0 (sound .tree) (sound-index sound eh)) u y b c (omega arith))
+        nowhere-whole v lies i (λ y b c. none-next (physicalIn st) v n (t (share .tag) (st .tree) (standing-index st)) u y b c (omega arith))
         z j (omega arith)
 
     -- not found, where they lie at two
     pub next-nowhere-parted : {n m : Edge} → e < s → TellsNext w (h .root) s v n → n ≡ Nowhere → TellsNext w (h .root) 0 v m → Past e m
-        → Next (heldBy w) v x Nowhere
+        → Next (heldIn w h) v x Nowhere
     next-nowhere-parted {n} {m} i t q t′ u z j k =
-        nowhere-parted v lies-from i (told-next s v t q)
-        (λ y b. none-next (physicalIn sound) v m (t′ 0 (sound .tree) (sound-index sound eh)) u y (omega arith) b (omega arith)) z j (omega arith)
+        nowhere-parted v lies i (told-next s v t q)
+        (λ y b. none-next (physicalIn st) v m (t′ (share .tag) (st .tree) (standing-index st)) u y (omega arith) b (omega arith)) z j (omega arith)
 
   -- ---- downwards
   -- what a search in the tree tells
-  told-previous : (x : ℕ) (v : Bool) {n m : Edge} → TellsPrevious w (h .root) x v n → n ≡ m → Previous (physicalIn sound) v x m
-  told-previous x v t q = subst (Previous (physicalIn sound) v x) q (t 0 (sound .tree) (sound-index sound eh))
+  told-previous : (x : ℕ) (v : Bool) {n m : Edge} → TellsPrevious w (h .root) x v n → n ≡ m → Previous (physicalIn st) v x m
+  told-previous x v t q = subst (Previous (physicalIn st) v x) q (t (share .tag) (st .tree) (standing-index st))
 
   -- a previous position, as the code has it
-  previous-is : {x k y z : ℕ} {v : Bool} → k ≡ x → y ≡ z → Previous (turned (h .offset) (physicalIn sound)) v k (At z) → Previous (heldBy w) v x (At y)
+  previous-is : {x k y z : ℕ} {v : Bool} → k ≡ x → y ≡ z → Previous (turned (h .offset) (physicalIn st)) v k (At z) → Previous (heldIn w h) v x (At y)
   previous-is {x} {k} {y} {z} {v} c d m =
-      subst (λ P. Previous P v x (At y)) (sym (sound-held sound eh))
-      (subst (λ j. Previous (turned (h .offset) (physicalIn sound)) v j (At y)) c
-      (subst (λ j. Previous (turned (h .offset) (physicalIn sound)) v k (At j)) (sym d) m))
+      subst (λ P. Previous P v x (At y)) (sym (standing-held st))
+      (subst (λ j. Previous (turned (h .offset) (physicalIn st)) v j (At y)) c
+      (subst (λ j. Previous (turned (h .offset) (physicalIn st)) v k (At j)) (sym d) m))
 
-  module _ {x s e : ℕ} (v : Bool) (l : x < size) (es : s ≡ physicalOf 0 (h .offset)) (ee : e ≡ physicalOf x (h .offset)) where
-    -- where the positions up to x lie
-    lies-upto : Lies (h .offset) 0 (suc x) s e
-    lies-upto = subst (λ n. Lies (h .offset) 0 n s e) (omega arith) (lies-from-to {b = x} (omega arith) l small es ee)
-
+  module _ {x s e : ℕ} (v : Bool) (lies : Lies (h .offset) 0 (suc x) s e) where
     -- found from x's place back
     pub previous-first : {n : Edge} {p y : ℕ} → TellsPrevious w (h .root) e v n → n ≡ At p → (s ≤ e → s ≤ p) → y ≡ logicalOf p (h .offset)
-        → Previous (heldBy w) v x (At y)
-    previous-first {n} {p} t q u d = previous-is (omega arith) d (previous-near lies-upto (physicalIn sound) v p (told-previous e v t q) u)
+        → Previous (heldIn w h) v x (At y)
+    previous-first {n} {p} t q u d = previous-is (omega arith) d (previous-near lies (physicalIn st) v p (told-previous e v t q) u)
 
     -- not there, but found from M back
     pub previous-second : {n m : Edge} {p y : ℕ} → e < s → TellsPrevious w (h .root) e v n → n ≡ Nowhere → TellsPrevious w (h .root) (size - 1) v m
-        → m ≡ At p → s ≤ p → y ≡ logicalOf p (h .offset) → Previous (heldBy w) v x (At y)
+        → m ≡ At p → s ≤ p → y ≡ logicalOf p (h .offset) → Previous (heldIn w h) v x (At y)
     previous-second {n} {m} {p} i t q t′ q′ u d =
-        previous-is (omega arith) d (previous-far lies-upto (physicalIn sound) v i (told-previous e v t q) p (told-previous (size - 1) v t′ q′) u)
+        previous-is (omega arith) d (previous-far lies (physicalIn st) v i (told-previous e v t q) p (told-previous (size - 1) v t′ q′) u)
 
     -- not found, where the positions up to x lie at one range
-    pub previous-nowhere : {n : Edge} → s ≤ e → TellsPrevious w (h .root) e v n → Short s n → Previous (heldBy w) v x Nowhere
+    pub previous-nowhere : {n : Edge} → s ≤ e → TellsPrevious w (h .root) e v n → Short s n → Previous (heldIn w h) v x Nowhere
     previous-nowhere {n} i t u z k =
-        nowhere-whole v lies-upto i (none-previous (physicalIn sound) v n (t 0 (sound .tree) (sound-index sound eh)) u) z (omega arith) (omega arith)
+        nowhere-whole v lies i (none-previous (physicalIn st) v n (t (share .tag) (st .tree) (standing-index st)) u) z (omega arith) (omega arith)
 
     -- not found, where they lie at two
     pub previous-nowhere-parted : {n m : Edge} → e < s → TellsPrevious w (h .root) e v n → n ≡ Nowhere → TellsPrevious w (h .root) (size - 1) v m
-        → Short s m → Previous (heldBy w) v x Nowhere
+        → Short s m → Previous (heldIn w h) v x Nowhere
     previous-nowhere-parted {n} {m} i t q t′ u z k =
-        nowhere-parted v lies-upto i
-        (λ y b c. none-previous (physicalIn sound) v m (t′ 0 (sound .tree) (sound-index sound eh)) u y b (omega arith)) (told-previous e v t q)
+        nowhere-parted v lies i
+        (λ y b c. none-previous (physicalIn st) v m (t′ (share .tag) (st .tree) (standing-index st)) u y b (omega arith)) (told-previous e v t q)
         z (omega arith) (omega arith)

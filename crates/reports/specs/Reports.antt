@@ -1,4 +1,4 @@
--- What the reports tell: of the tree at a root, and of a sound store. Assumes nothing: these are definitions.
+-- What the reports tell: of the tree at a root, and of a world. Assumes nothing: these are definitions.
 use Prim.Native.Nat.{ℕ, suc, _+_, _-_, _≤_, _<_}
 use mathlib.Core.Path.{_≡_}
 use mathlib.Core.Bool.{Bool, not}

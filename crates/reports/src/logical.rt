@@ -1,33 +1,32 @@
-// Reports on a sound store's positions, as the caller counts them. A logical range lies at one physical range, or, where it passes
+// Reports on a world's positions, as the caller counts them. A logical range lies at one physical range, or, where it passes
 // the end of the physical positions, at two: from its place to M, and from 0 on.
 ghost use mathlib.Core.Path.{_≡_};
 ghost use Prim.Native.Nat.{suc, _+_, _-_, _≤_, _<_};
 ghost use Rattle.model.specs.Positions.{Positions, countRanges};
-ghost use Rattle.store.specs.Layout.{heldBy};
-ghost use Rattle.store.specs.Soundness.{Sound};
+ghost use Rattle.store.specs.Layout.{heldIn};
+ghost use Rattle.store.specs.Soundness.{Stands};
 ghost use Rattle.reports.specs.Reports.{Measured, Next, Previous, Selects};
 use crate::physical::Tally;
 use model::Edge;
 use model::Logical;
 use model::Physical;
+use store::World;
 
 // The value of a position.
-pub fn get(words: &[u64], x: Logical) -> bool
-    requires { ⌜ Sound (now words) ⌝ }
-    ensures { λ r. ⌜ r ≡ heldBy (now (words .entry)) (x .0) ⌝ }
+pub fn get(words: &[u64], h: World, x: Logical) -> bool
+    requires { ⌜ Stands (now words) h ⌝ }
+    ensures { λ r. ⌜ r ≡ heldIn (now (words .entry)) h (x .0) ⌝ }
 {
-    let h = store::read_header(words);
     let s = model::to_physical(x, h.offset);
     store::bounds::get_physical(words, h.root, s)
 }
 
 // The positions of the value from a to b, and its runs there, clipped. Runs that meet where the physical positions end are one run.
-pub fn tally(words: &[u64], a: Logical, b: Logical, value: bool) -> Tally
-    requires { ⌜ Sound (now words) ⌝ }
+pub fn tally(words: &[u64], h: World, a: Logical, b: Logical, value: bool) -> Tally
+    requires { ⌜ Stands (now words) h ⌝ }
     requires { ⌜ a .0 ≤ b .0 ⌝ }
-    ensures { λ r. ⌜ Measured (heldBy (now (words .entry))) value (a .0) (suc (b .0) - a .0) r ⌝ }
+    ensures { λ r. ⌜ Measured (heldIn (now (words .entry)) h) value (a .0) (suc (b .0) - a .0) r ⌝ }
 {
-    let h = store::read_header(words);
     let s = model::to_physical(a, h.offset);
     let e = model::to_physical(b, h.offset);
     let from = s.0;
@@ -53,12 +52,11 @@ pub fn tally(words: &[u64], a: Logical, b: Logical, value: bool) -> Tally
 }
 
 // The position from a to b that has the value and exactly k such positions before it there.
-pub fn select(words: &[u64], a: Logical, b: Logical, value: bool, k: u64) -> Edge
-    requires { ⌜ Sound (now words) ⌝ }
+pub fn select(words: &[u64], h: World, a: Logical, b: Logical, value: bool, k: u64) -> Edge
+    requires { ⌜ Stands (now words) h ⌝ }
     requires { ⌜ a .0 ≤ b .0 ⌝ }
-    ensures { λ r. ⌜ Selects (heldBy (now (words .entry))) value (a .0) (suc (b .0) - a .0) k r ⌝ }
+    ensures { λ r. ⌜ Selects (heldIn (now (words .entry)) h) value (a .0) (suc (b .0) - a .0) k r ⌝ }
 {
-    let h = store::read_header(words);
     let s = model::to_physical(a, h.offset);
     let e = model::to_physical(b, h.offset);
     let from = s.0;
@@ -88,12 +86,11 @@ pub fn select(words: &[u64], a: Logical, b: Logical, value: bool, k: u64) -> Edg
     Edge::At(y.0)
 }
 
-// The least position of the value at or after x. From x to M the store lies from x's place to M's, or from x's place on and from 0 to M's.
-pub fn next(words: &[u64], x: Logical, value: bool) -> Edge
-    requires { ⌜ Sound (now words) ⌝ }
-    ensures { λ r. ⌜ Next (heldBy (now (words .entry))) value (x .0) r ⌝ }
+// The least position of the value at or after x. From x to M the world lies from x's place to M's, or from x's place on and from 0 to M's.
+pub fn next(words: &[u64], h: World, x: Logical, value: bool) -> Edge
+    requires { ⌜ Stands (now words) h ⌝ }
+    ensures { λ r. ⌜ Next (heldIn (now (words .entry)) h) value (x .0) r ⌝ }
 {
-    let h = store::read_header(words);
     let s = model::to_physical(x, h.offset);
     let top = model::to_physical(Logical(u64::MAX), h.offset);
     let from = s.0;
@@ -127,11 +124,10 @@ pub fn next(words: &[u64], x: Logical, value: bool) -> Edge
 }
 
 // The greatest position of the value at or before x.
-pub fn previous(words: &[u64], x: Logical, value: bool) -> Edge
-    requires { ⌜ Sound (now words) ⌝ }
-    ensures { λ r. ⌜ Previous (heldBy (now (words .entry))) value (x .0) r ⌝ }
+pub fn previous(words: &[u64], h: World, x: Logical, value: bool) -> Edge
+    requires { ⌜ Stands (now words) h ⌝ }
+    ensures { λ r. ⌜ Previous (heldIn (now (words .entry)) h) value (x .0) r ⌝ }
 {
-    let h = store::read_header(words);
     let s = model::to_physical(x, h.offset);
     let zero = model::to_physical(Logical(0), h.offset);
     let from = s.0;

@@ -1,24 +1,25 @@
-// Runs of a sound store's positions, from the next and the previous position of a value.
+// Runs of a world's positions, from the next and the previous position of a value.
 ghost use mathlib.Core.Path.{_≡_};
 ghost use Prim.Native.Nat.{suc, _-_, _≤_};
 ghost use Rattle.model.specs.Positions.{firstRun, lastRun, runsIn, runAt, find};
 ghost use Rattle.run_index.specs.Search.{nearRun};
-ghost use Rattle.store.specs.Layout.{heldBy};
-ghost use Rattle.store.specs.Soundness.{Sound};
+ghost use Rattle.store.specs.Layout.{heldIn};
+ghost use Rattle.store.specs.Soundness.{Stands};
 ghost use Rattle.reports.specs.Reports.{edgePosition, LowEnd, HighEnd};
 use model::Edge;
 use model::Logical;
 use model::Run;
 use run_index::search::Near;
+use store::World;
 
 // The least position of the value from a to b.
-pub fn find_in(words: &[u64], a: Logical, b: Logical, value: bool) -> Edge
-    requires { ⌜ Sound (now words) ⌝ }
+pub fn find_in(words: &[u64], h: World, a: Logical, b: Logical, value: bool) -> Edge
+    requires { ⌜ Stands (now words) h ⌝ }
     requires { ⌜ a .0 ≤ b .0 ⌝ }
-    ensures { λ r. ⌜ edgePosition r ≡ find (heldBy (now (words .entry))) value (a .0) (suc (b .0) - a .0) ⌝ }
+    ensures { λ r. ⌜ edgePosition r ≡ find (heldIn (now (words .entry)) h) value (a .0) (suc (b .0) - a .0) ⌝ }
 {
     let last = b.0;
-    let n = crate::logical::next(words, a, value);
+    let n = crate::logical::next(words, h, a, value);
     match n {
         Edge::At(x) => {
             if x <= last {
@@ -32,19 +33,19 @@ pub fn find_in(words: &[u64], a: Logical, b: Logical, value: bool) -> Edge
 }
 
 // The first run of the value from a to b, clipped.
-pub fn first_run(words: &[u64], a: Logical, b: Logical, value: bool) -> Near
-    requires { ⌜ Sound (now words) ⌝ }
+pub fn first_run(words: &[u64], h: World, a: Logical, b: Logical, value: bool) -> Near
+    requires { ⌜ Stands (now words) h ⌝ }
     requires { ⌜ a .0 ≤ b .0 ⌝ }
-    ensures { λ r. ⌜ nearRun r ≡ firstRun (runsIn (heldBy (now (words .entry))) value (a .0) (suc (b .0) - a .0)) ⌝ }
+    ensures { λ r. ⌜ nearRun r ≡ firstRun (runsIn (heldIn (now (words .entry)) h) value (a .0) (suc (b .0) - a .0)) ⌝ }
 {
     let last = b.0;
-    let n = crate::logical::next(words, a, value);
+    let n = crate::logical::next(words, h, a, value);
     match n {
         Edge::At(x) => {
             if last < x {
                 return Near::None;
             }
-            let m = crate::logical::next(words, Logical(x), !value);
+            let m = crate::logical::next(words, h, Logical(x), !value);
             match m {
                 Edge::At(y) => {
                     if last < y {
@@ -69,19 +70,19 @@ pub fn first_run(words: &[u64], a: Logical, b: Logical, value: bool) -> Near
 }
 
 // The last run of the value from a to b, clipped.
-pub fn last_run(words: &[u64], a: Logical, b: Logical, value: bool) -> Near
-    requires { ⌜ Sound (now words) ⌝ }
+pub fn last_run(words: &[u64], h: World, a: Logical, b: Logical, value: bool) -> Near
+    requires { ⌜ Stands (now words) h ⌝ }
     requires { ⌜ a .0 ≤ b .0 ⌝ }
-    ensures { λ r. ⌜ nearRun r ≡ lastRun (runsIn (heldBy (now (words .entry))) value (a .0) (suc (b .0) - a .0)) ⌝ }
+    ensures { λ r. ⌜ nearRun r ≡ lastRun (runsIn (heldIn (now (words .entry)) h) value (a .0) (suc (b .0) - a .0)) ⌝ }
 {
     let first = a.0;
-    let n = crate::logical::previous(words, b, value);
+    let n = crate::logical::previous(words, h, b, value);
     match n {
         Edge::At(x) => {
             if x < first {
                 return Near::None;
             }
-            let m = crate::logical::previous(words, Logical(x), !value);
+            let m = crate::logical::previous(words, h, Logical(x), !value);
             match m {
                 Edge::At(y) => {
                     if y < first {
@@ -106,12 +107,12 @@ pub fn last_run(words: &[u64], a: Logical, b: Logical, value: bool) -> Near
 }
 
 // The start of the run around x, of the value that x has.
-fn low_end(words: &[u64], x: Logical, value: bool) -> u64
-    requires { ⌜ Sound (now words) ⌝ }
-    requires { ⌜ heldBy (now words) (x .0) ≡ value ⌝ }
-    ensures { λ r. ⌜ LowEnd (heldBy (now (words .entry))) value (x .0) r ⌝ }
+fn low_end(words: &[u64], h: World, x: Logical, value: bool) -> u64
+    requires { ⌜ Stands (now words) h ⌝ }
+    requires { ⌜ heldIn (now words) h (x .0) ≡ value ⌝ }
+    ensures { λ r. ⌜ LowEnd (heldIn (now (words .entry)) h) value (x .0) r ⌝ }
 {
-    let n = crate::logical::previous(words, x, !value);
+    let n = crate::logical::previous(words, h, x, !value);
     match n {
         Edge::At(y) => y + 1,
         Edge::Nowhere => 0,
@@ -119,12 +120,12 @@ fn low_end(words: &[u64], x: Logical, value: bool) -> u64
 }
 
 // Its end.
-fn high_end(words: &[u64], x: Logical, value: bool) -> u64
-    requires { ⌜ Sound (now words) ⌝ }
-    requires { ⌜ heldBy (now words) (x .0) ≡ value ⌝ }
-    ensures { λ r. ⌜ HighEnd (heldBy (now (words .entry))) value (x .0) r ⌝ }
+fn high_end(words: &[u64], h: World, x: Logical, value: bool) -> u64
+    requires { ⌜ Stands (now words) h ⌝ }
+    requires { ⌜ heldIn (now words) h (x .0) ≡ value ⌝ }
+    ensures { λ r. ⌜ HighEnd (heldIn (now (words .entry)) h) value (x .0) r ⌝ }
 {
-    let n = crate::logical::next(words, x, !value);
+    let n = crate::logical::next(words, h, x, !value);
     match n {
         Edge::At(y) => y - 1,
         Edge::Nowhere => u64::MAX,
@@ -132,13 +133,13 @@ fn high_end(words: &[u64], x: Logical, value: bool) -> u64
 }
 
 // The unclipped run around x, of the value that x has.
-pub fn run_at(words: &[u64], x: Logical) -> Run
-    requires { ⌜ Sound (now words) ⌝ }
-    ensures { λ r. ⌜ r ≡ runAt (heldBy (now (words .entry))) (x .0) ⌝ }
+pub fn run_at(words: &[u64], h: World, x: Logical) -> Run
+    requires { ⌜ Stands (now words) h ⌝ }
+    ensures { λ r. ⌜ r ≡ runAt (heldIn (now (words .entry)) h) (x .0) ⌝ }
 {
-    let value = crate::logical::get(words, x);
-    let start = low_end(words, x, value);
-    let end = high_end(words, x, value);
+    let value = crate::logical::get(words, h, x);
+    let start = low_end(words, h, x, value);
+    let end = high_end(words, h, x, value);
     Run {
         start: start,
         end: end,

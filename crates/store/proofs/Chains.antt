@@ -1,40 +1,36 @@
 -- The free chain is decided by following it. A chain that ends meets no node twice: a link leads to one chain, and a chain that came
 -- back to a node would be longer than itself. Assumes nothing.
-use Prim.Native.Nat.{ℕ, zero, suc, _+_, _≤_}
+use Prim.Native.Nat.{ℕ, zero, suc, _+_, _-_, _≤_}
 use mathlib.Core.Path.{_≡_, refl, sym, ap, _∙_, subst}
 use mathlib.Core.List.{List, [], _∷_}
 use mathlib.Core.Bool.{true}
 use native.Mathlib.Omega.{arith}
 use native.Mathlib.Decide.{ℕ-discrete}
-use borrow.Author.Tests.{eqb-true, eq-eqb}
+use borrow.Author.Tests.{eqb-true, eq-eqb, leb-true, le-leb}
+use lib.Dec.{leb}
 use lib.ListN.{length}
 use Rattle.model.specs.Edit.{and-holds}
 use Rattle.run_index.specs.declared.Node.{Node}
 use Rattle.run_index.specs.Cells.{cellAt}
 use Rattle.run_index.specs.Tree.{δ}
 use Rattle.run_index.proofs.Trees.{δ-other, δ≤1}
-use Rattle.store.specs.Soundness.{Chain, times}
-use Rattle.store.specs.Decision.{freeB, chainB}
-use Rattle.store.proofs.Tests.{both-in, Free, free-out, free-in}
-
--- the chain that was followed
-pub record Chained (w : List ℕ) (k c : ℕ) : Type 0 where
-  pub ns : List ℕ
-  pub chain : Chain w k ns
-  pub many : length ns ≡ c
+use Rattle.run_index.specs.Strung.{times}
+use Rattle.store.specs.Soundness.{Chain}
+use Rattle.store.specs.Decision.{freeB, chainB, restB}
+use Rattle.store.proofs.Tests.{both-in, FreeAt, free-out, free-in}
 
 -- what is followed to its end is a chain
-pub chained : (c : ℕ) (w : List ℕ) (k : ℕ) → chainB c w k ≡ true → Chained w k c
+chained : (c : ℕ) (w : List ℕ) (k : ℕ) → chainB c w k ≡ true → (ns : List ℕ) × Chain w k ns × (length ns ≡ c)
 unfolding chainB
-chained zero w k e = record { ns = []; chain = eqb-true k 0 e; many = refl }
+chained zero w k e = ([], eqb-true k 0 e, refl)
 chained (suc c) w k e =
     let p = and-holds _ _ e in
     let f = free-out w k (p .0) in
     let r = chained c w ((cellAt w k) .left) (p .1) in
-    record { ns = k ∷ r .ns; chain = (refl, f .some, f .room, f .zeros, r .chain); many = ap suc (r .many) }
+    (k ∷ r .0, (refl, f .some, f .room, f .zeros, r .1), ap suc (r .2))
 
 -- and a chain is followed to its end
-pub followed : (w : List ℕ) (k : ℕ) (ns : List ℕ) → Chain w k ns → chainB (length ns) w k ≡ true
+followed : (w : List ℕ) (k : ℕ) (ns : List ℕ) → Chain w k ns → chainB (length ns) w k ≡ true
 unfolding chainB
 followed w k [] c = eq-eqb k 0 c
 followed w k (n ∷ ns) c =
@@ -42,6 +38,27 @@ followed w k (n ∷ ns) c =
     rw e (both-in (freeB w n) (chainB (length ns) w ((cellAt w n) .left))
     (free-in w n (record { some = c .1; room = c .2; zeros = c .3 }))
     (followed w ((cellAt w n) .left) ns (c .4)))
+
+-- the free chain from f has the nodes that trees with r of n nodes leave
+pub record Rest (w : List ℕ) (n r f : ℕ) : Type 0 where
+  pub ns : List ℕ
+  pub chain : Chain w f ns
+  pub many : r + length ns ≡ n
+
+-- what the test of the rest says
+pub restB-yes : (w : List ℕ) (n r f : ℕ) → restB w n r f ≡ true → Rest w n r f
+unfolding restB
+restB-yes w n r f e =
+    let p = and-holds (leb r n) (chainB (n - r) w f) e in
+    let c = chained (n - r) w f (p .1) in
+    record { ns = c .0; chain = c .1; many = omega (arith, c .2, leb-true r n (p .0)) }
+
+-- and back
+pub restB-no : (w : List ℕ) (n r f : ℕ) → Rest w n r f → restB w n r f ≡ true
+unfolding restB
+restB-no w n r f R =
+    let many : length (R .ns) ≡ n - r = omega (arith, R .many) in
+    both-in _ _ (le-leb r n (omega (arith, R .many))) (rw (← many) (followed w f (R .ns) (R .chain)))
 
 -- a link leads to chains of one length
 one-length : (w : List ℕ) (k j : ℕ) (xs ys : List ℕ) → k ≡ j → Chain w k xs → Chain w j ys → length xs ≡ length ys
@@ -54,7 +71,7 @@ one-length w k j (x ∷ xs) (y ∷ ys) e p q =
 
 -- a node of a chain: it is free, and a chain no longer than the whole starts there
 pub record Met (w : List ℕ) (m c : ℕ) : Type 0 where
-  pub free : Free w m
+  pub free : FreeAt w m
   pub rest : List ℕ
   pub chain : Chain w m rest
   pub short : length rest ≤ c
@@ -91,9 +108,9 @@ chain-once w k (n ∷ ns) c m =
         absurd (omega (arith, x .short))
 
 -- a node of a chain is free
-pub chain-free : (w : List ℕ) (k : ℕ) (ns : List ℕ) → Chain w k ns → (m : ℕ) → 1 ≤ times m ns → Free w m
+pub chain-free : (w : List ℕ) (k : ℕ) (ns : List ℕ) → Chain w k ns → (m : ℕ) → 1 ≤ times m ns → FreeAt w m
 chain-free w k ns c m i = met w k ns c m i .free
 
 -- its height word is 0
-pub free-low : {w : List ℕ} {m : ℕ} → Free w m → (cellAt w m) .height ≡ 0
+pub free-low : {w : List ℕ} {m : ℕ} → FreeAt w m → (cellAt w m) .height ≡ 0
 free-low f = ap (λ (v : Node). v .height) (f .zeros)

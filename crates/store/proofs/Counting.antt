@@ -1,5 +1,5 @@
 -- The nodes of a tree and of a list, counted by their numbers: the counts of the numbers 1 .. n add up to the number of nodes, so if no
--- number stands twice there are n nodes exactly where each number stands once. Assumes nothing.
+-- number stands twice and there are n nodes, each number stands once. Assumes nothing.
 use Prim.Native.Nat.{ℕ, zero, suc, _+_, _≤_, _<_}
 use mathlib.Core.Path.{_≡_, refl, ap, _∙_}
 use mathlib.Core.List.{List, [], _∷_}
@@ -7,8 +7,8 @@ use native.Mathlib.Omega.{arith}
 use native.Mathlib.Decide.{ℕ-discrete}
 use lib.ListN.{length}
 use Rattle.run_index.specs.Tree.{Tree, leaf, node, runs, δ, count}
+use Rattle.run_index.specs.Strung.{times}
 use Rattle.run_index.proofs.Trees.{δ-same, δ-other}
-use Rattle.store.specs.Soundness.{times}
 
 -- the sum of f over 1 .. n
 abbrev sum : ℕ → (ℕ → ℕ) → ℕ
@@ -39,12 +39,7 @@ sum-δ (suc n) k p h = go (ℕ-discrete (suc n) k) (sum-δ n k p)
     go (yes e) ih = omega (arith, sum-none n k (omega arith), ap (λ (j : ℕ). δ j k) e, δ-same k)
     go (no ne) ih = omega (arith, ih (omega arith), δ-other (suc n) k ne)
 
--- a sum of ones
-sum-ones : (n : ℕ) (f : ℕ → ℕ) → ((m : ℕ) → 1 ≤ m → m ≤ n → f m ≡ 1) → sum n f ≡ n
-sum-ones zero f h = refl
-sum-ones (suc n) f h = omega (arith, sum-ones n f (λ m p q. h m p (omega arith)), h (suc n) (omega arith) (omega arith))
-
--- of terms of at most 1
+-- a sum of terms of at most 1
 sum-few : (n : ℕ) (f : ℕ → ℕ) → ((m : ℕ) → f m ≤ 1) → sum n f ≤ n
 sum-few zero f h = omega arith
 sum-few (suc n) f h = omega (arith, sum-few n f h, h (suc n))
@@ -91,7 +86,3 @@ module _ (n : ℕ) (t : Tree) (ks : List ℕ) (ht : Among n (λ m. count m t)) (
   -- n nodes, none twice: each number stands once
   pub each-once : ((m : ℕ) → count m t + times m ks ≤ 1) → runs t + length ks ≡ n → (m : ℕ) → 1 ≤ m → m ≤ n → count m t + times m ks ≡ 1
   each-once h e = sum-full n (λ m. count m t + times m ks) h (total ∙ e)
-
-  -- each number once: n nodes
-  pub that-many : ((m : ℕ) → 1 ≤ m → m ≤ n → count m t + times m ks ≡ 1) → runs t + length ks ≡ n
-  that-many h = omega (arith, total, sum-ones n (λ m. count m t + times m ks) h)

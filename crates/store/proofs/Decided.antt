@@ -1,82 +1,85 @@
--- The tests of specs/Decision.antt decide what is kept, and soundness. A walk that accepts a link has met a tree there, in order and
--- balanced, and each such tree is accepted; the chain has the nodes that are left, by counting. A link leads to one tree, so the runs
--- that words hold are those of the tree. Assumes nothing.
-use Prim.Native.Nat.{ℕ, zero, suc, _+_, _-_, _≤_, max}
+-- The tests of specs/Decision.antt decide soundness. A walk that accepts a link has met a tree there, in order and balanced, and each such
+-- tree is accepted; what a world's tests say of its tree, its sums and its bounds follows. The chain has the nodes that are left, by
+-- counting. Assumes nothing.
+use Prim.Native.Nat.{ℕ, zero, suc, _+_, _-_, _*_, _^_, _≤_, _<_, max}
 use mathlib.Core.Path.{_≡_, refl, sym, _∙_, subst}
 use mathlib.Core.Bool.{Bool, true, false, not, _||_}
-use mathlib.Core.List.{List, [], _∷_, _++_}
+use mathlib.Core.List.{List}
 use native.Mathlib.Omega.{arith}
 use native.Mathlib.Decide.{ℕ-discrete}
+use native.Mathlib.Nat.{one-le-pow, pow-succ'}
 use borrow.Author.Tests.{eqb-true, eq-eqb, leb-true, le-leb}
 use lib.Dec.{eqb}
 use lib.ListN.{length}
 use Rattle.model.specs.Numbers.{size}
 use Rattle.model.specs.RunList.{Canon}
-use Rattle.model.specs.Positions.{run}
+use Rattle.model.specs.Positions.{heldRuns, stretches}
 use Rattle.model.specs.Edit.{and-holds}
 use Rattle.run_index.specs.declared.Node.{Node}
 use Rattle.run_index.specs.Cells.{cellAt}
 use Rattle.run_index.specs.Tree.{Tree, leaf, node, link, height, runs, ones, count, inorder, cell, Rep, rep-leaf, rep-node, At, Sums, Balanced}
+use Rattle.run_index.specs.Search.{Index}
+use Rattle.run_index.specs.Strung.{times}
 use Rattle.run_index.proofs.Words.{same-node}
 use Rattle.run_index.proofs.Trees.{rep-pos, rep-room, rep-cell, rep-left, rep-right, sums-leaf, sums-node}
-use Rattle.run_index.proofs.Least.{height-bound}
-use Rattle.run_index.proofs.Bound.{few-nodes}
-use Rattle.run_index.proofs.Totals.{runs-length}
-use Rattle.store.specs.Layout.{headerAt, capacity, runsFrom, physicalRuns}
-use Rattle.store.specs.Soundness.{Chain, times, Kept, Sound}
-use Rattle.store.specs.Decision.{insideB, belowOf, agreesB, cellB, treeB, chainB, keptB, boundsB, soundB, Shared}
+use Rattle.store.specs.declared.World.{World}
+use Rattle.store.specs.Layout.{worldAt, spareAt, capacity, allowance, heldIn, heldBy}
+use Rattle.store.specs.Soundness.{Chain, firstOf, lastOf, Share, Standing, shareOf, Sound}
+use Rattle.store.specs.Decision.{insideB, belowOf, agreesB, cellB, treeB, restB, worldB, soundB}
 use Rattle.store.proofs.Tests.{never, both-in, inside-out, inside-in, below-none, below-some, Within, run-out, run-in, heights-out, heights-in, sums-out, sums-in}
 use Rattle.store.proofs.Steps.{cell-out, tree-none, tree-node}
-use Rattle.store.proofs.Counting.{Among, each-once, that-many}
+use Rattle.store.proofs.Counting.{Among, each-once}
 use Rattle.store.proofs.Nodes.{sized-length}
+use Rattle.store.proofs.Reached.{kept-low}
 use Rattle.store.proofs.Orders.{About, canon-out, canon-in, node-in, distinct}
-use Rattle.store.proofs.Chains.{chained, followed, chain-once, chain-free, free-low}
+use Rattle.store.proofs.Chains.{Rest, restB-yes, restB-no, chain-once, chain-free, free-low}
 
+-- ---- trees
 -- the words at a link tell the height and the sums of the tree there
-pub below-sums : (w : List ℕ) (k : ℕ) (t : Tree) → At w 0 k t → Sums (belowOf w k) t
-below-sums w k t h = go (ℕ-discrete k 0)
+pub below-sums : (w : List ℕ) (g k : ℕ) (t : Tree) → At w g k t → Sums (belowOf w k) t
+below-sums w g k t h = go (ℕ-discrete k 0)
   where
     go : Dec (k ≡ 0) → Sums (belowOf w k) t
     go (yes e) = subst (λ (v : Node). Sums v t) (below-none w k e) (sums-leaf t h e)
-    go (no ne) = sums-node w k (belowOf w k) (sym (below-some w k ne)) ne 0 t h
+    go (no ne) = sums-node w k (belowOf w k) (sym (below-some w k ne)) ne g t h
 
--- a tree at the link k, in order within lo .. total - 1, balanced, at most d high
-pub record Hangs (d : ℕ) (w : List ℕ) (k lo total : ℕ) : Type 0 where
+-- a tree of nodes with the tag g at the link k, in order within lo .. total - 1, balanced, at most d high
+pub record Hangs (d : ℕ) (w : List ℕ) (g k lo total : ℕ) : Type 0 where
   pub t : Tree
-  pub at : At w 0 k t
+  pub at : At w g k t
   pub ordered : Canon total lo (inorder t)
   pub balanced : Balanced t
   pub low : height t ≤ d
 
 -- no tree
-empty : (d : ℕ) (w : List ℕ) (lo total : ℕ) → Hangs d w 0 lo total
-empty d w lo total = record { t = leaf; at = record { rep = rep-leaf; linked = refl }; ordered = tt; balanced = tt; low = omega arith }
+empty : (d : ℕ) (w : List ℕ) (g lo total : ℕ) → Hangs d w g 0 lo total
+empty d w g lo total = record { t = leaf; at = record { rep = rep-leaf; linked = refl }; ordered = tt; balanced = tt; low = omega arith }
 
 -- two trees and a node make a tree
-module _ (d : ℕ) (w : List ℕ) (n lo total : ℕ) (v : Node) (is : v ≡ cellAt w n) (pos : 1 ≤ n) (inside : insideB w n ≡ true)
-    (own : cellB v (belowOf w (v .left)) (belowOf w (v .right)) lo total ≡ true) (L : Hangs d w (v .left) lo (v .start - 1)) (R : Hangs d w (v .right) (v .«end» + 2) total) where
+module _ (d : ℕ) (w : List ℕ) (g n lo total : ℕ) (v : Node) (is : v ≡ cellAt w n) (pos : 1 ≤ n) (inside : insideB w n ≡ true)
+    (own : cellB v (belowOf w (v .left)) (belowOf w (v .right)) g lo total ≡ true) (L : Hangs d w g (v .left) lo (v .start - 1)) (R : Hangs d w g (v .right) (v .«end» + 2) total) where
   -- its run lies within the bounds
-  within : Within (v .start) (v .«end») (v .tag) lo total
-  within = run-out _ _ _ lo total (cell-out v (belowOf w (v .left)) (belowOf w (v .right)) lo total own .run-fits)
+  within : Within (v .start) (v .«end») (v .tag) g lo total
+  within = run-out _ _ _ g lo total (cell-out v (belowOf w (v .left)) (belowOf w (v .right)) g lo total own .run-fits)
 
   -- its height and its balance
   tall : (v .height ≡ 1 + max (height (L .t)) (height (R .t))) × (height (L .t) ≤ height (R .t) + 1) × (height (R .t) ≤ height (L .t) + 1)
   tall =
-      let x = below-sums w (v .left) (L .t) (L .at) in
-      let y = below-sums w (v .right) (R .t) (R .at) in
-      rw (x .height-is, y .height-is) at (heights-out (v .height) ((belowOf w (v .left)) .height) ((belowOf w (v .right)) .height) (cell-out v (belowOf w (v .left)) (belowOf w (v .right)) lo total own .heights-fit))
+      let x = below-sums w g (v .left) (L .t) (L .at) in
+      let y = below-sums w g (v .right) (R .t) (R .at) in
+      rw (x .height-is, y .height-is) at (heights-out (v .height) ((belowOf w (v .left)) .height) ((belowOf w (v .right)) .height) (cell-out v (belowOf w (v .left)) (belowOf w (v .right)) g lo total own .heights-fit))
 
   -- its sums
   summed : (v .runs ≡ runs (L .t) + runs (R .t) + 1) × (v .ones ≡ ones (node n (v .start) (v .«end») (L .t) (R .t)))
   summed =
-      let x = below-sums w (v .left) (L .t) (L .at) in
-      let y = below-sums w (v .right) (R .t) (R .at) in
+      let x = below-sums w g (v .left) (L .t) (L .at) in
+      let y = below-sums w g (v .right) (R .t) (R .at) in
       rw (x .runs-is, y .runs-is, x .ones-is, y .ones-is) at
       (sums-out (v .runs) ((belowOf w (v .left)) .runs) ((belowOf w (v .right)) .runs) (v .ones) ((belowOf w (v .left)) .ones)
-      ((belowOf w (v .right)) .ones) (v .start) (v .«end») (cell-out v (belowOf w (v .left)) (belowOf w (v .right)) lo total own .sums-fit))
+      ((belowOf w (v .right)) .ones) (v .start) (v .«end») (cell-out v (belowOf w (v .left)) (belowOf w (v .right)) g lo total own .sums-fit))
 
   -- together they are a tree at n
-  joined : Hangs (suc d) w n lo total
+  joined : Hangs (suc d) w g n lo total
   joined =
       let i = within in
       let h = tall in
@@ -87,7 +90,7 @@ module _ (d : ℕ) (w : List ℕ) (n lo total : ℕ) (v : Node) (is : v ≡ cell
         t = node n (v .start) (v .«end») (L .t) (R .t);
         at = record {
           rep = rep-node pos (inside-out w n inside) (i .ordered)
-              (sym is ∙ same-node v (cell (v .start) (v .«end») (L .t) (R .t) 0) refl refl (sym (L .at .linked)) (sym (R .at .linked)) (h .0) (s .0) (s .1) (i .spare))
+              (sym is ∙ same-node v (cell (v .start) (v .«end») (L .t) (R .t) g) refl refl (sym (L .at .linked)) (sym (R .at .linked)) (h .0) (s .0) (s .1) (i .tagged))
               (L .at .rep) (R .at .rep);
           linked = refl;
         };
@@ -103,105 +106,184 @@ module _ (d : ℕ) (w : List ℕ) (n lo total : ℕ) (v : Node) (is : v ≡ cell
       }
 
 -- where the walk accepts a link a tree hangs
-pub tree-yes : (d : ℕ) (w : List ℕ) (k lo total : ℕ) → treeB d w k lo total ≡ true → Hangs d w k lo total
+pub tree-yes : (d : ℕ) (w : List ℕ) (g k lo total : ℕ) → treeB d w g k lo total ≡ true → Hangs d w g k lo total
 unfolding treeB
-tree-yes zero w k lo total e = subst (λ (j : ℕ). Hangs zero w j lo total) (sym (eqb-true k 0 e)) (empty zero w lo total)
-tree-yes (suc d) w zero lo total e = empty (suc d) w lo total
-tree-yes (suc d) w (suc n) lo total e =
+tree-yes zero w g k lo total e = subst (λ (j : ℕ). Hangs zero w g j lo total) (sym (eqb-true k 0 e)) (empty zero w g lo total)
+tree-yes (suc d) w g zero lo total e = empty (suc d) w g lo total
+tree-yes (suc d) w g (suc n) lo total e =
     let p = and-holds _ _ e in
     let q = and-holds _ _ (p .1) in
     let r = and-holds _ _ (q .1) in
-    joined d w (suc n) lo total (cellAt w (suc n)) refl (omega arith) (p .0) (q .0)
-    (tree-yes d w ((cellAt w (suc n)) .left) lo ((cellAt w (suc n)) .start - 1) (r .0))
-    (tree-yes d w ((cellAt w (suc n)) .right) ((cellAt w (suc n)) .«end» + 2) total (r .1))
+    joined d w g (suc n) lo total (cellAt w (suc n)) refl (omega arith) (p .0) (q .0)
+    (tree-yes d w g ((cellAt w (suc n)) .left) lo ((cellAt w (suc n)) .start - 1) (r .0))
+    (tree-yes d w g ((cellAt w (suc n)) .right) ((cellAt w (suc n)) .«end» + 2) total (r .1))
 
 -- the tests of a node of a tree by itself
-own-tests : (w : List ℕ) (n a b lo total : ℕ) (l r : Tree) → Rep w 0 (node n a b l r) → About total lo (inorder l) a b (inorder r)
-    → height l ≤ height r + 1 → height r ≤ height l + 1 → cellB (cell a b l r 0) (belowOf w (link l)) (belowOf w (link r)) lo total ≡ true
+own-tests : (w : List ℕ) (g n a b lo total : ℕ) (l r : Tree) → Rep w g (node n a b l r) → About total lo (inorder l) a b (inorder r)
+    → height l ≤ height r + 1 → height r ≤ height l + 1 → cellB (cell a b l r g) (belowOf w (link l)) (belowOf w (link r)) g lo total ≡ true
 unfolding cellB agreesB
-own-tests w n a b lo total l r h A bl br =
-    let x = below-sums w (link l) l (record { rep = rep-left h; linked = refl }) in
-    let y = below-sums w (link r) r (record { rep = rep-right h; linked = refl }) in
+own-tests w g n a b lo total l r h A bl br =
+    let x = below-sums w g (link l) l (record { rep = rep-left h; linked = refl }) in
+    let y = below-sums w g (link r) r (record { rep = rep-right h; linked = refl }) in
     both-in _ _
-    (run-in a b 0 lo total (record { spare = refl; above = A .above; ordered = A .ordered; under = A .under }))
+    (run-in a b g g lo total (record { tagged = refl; above = A .above; ordered = A .ordered; under = A .under }))
     (rw (x .height-is, y .height-is, x .runs-is, y .runs-is, x .ones-is, y .ones-is)
     (both-in _ _ (heights-in _ (height l) (height r) refl bl br) (sums-in _ (runs l) (runs r) _ (ones l) (ones r) a b refl refl)))
 
 -- and each such tree is accepted
-pub tree-no : (w : List ℕ) (t : Tree) (d k lo total : ℕ) → At w 0 k t → Canon total lo (inorder t) → Balanced t → height t ≤ d
-    → treeB d w k lo total ≡ true
-tree-no w leaf d k lo total h c b le = tree-none d w k lo total (sym (h .linked))
-tree-no w (node n s e l r) d k lo total h c b le =
+pub tree-no : (w : List ℕ) (g : ℕ) (t : Tree) (d k lo total : ℕ) → At w g k t → Canon total lo (inorder t) → Balanced t → height t ≤ d
+    → treeB d w g k lo total ≡ true
+tree-no w g leaf d k lo total h c b le = tree-none d w g k lo total (sym (h .linked))
+tree-no w g (node n s e l r) d k lo total h c b le =
     let A = canon-out total lo (inorder l) s e (inorder r) c in
-    let is : cellAt w n ≡ cell s e l r 0 = rep-cell (h .rep) in
+    let is : cellAt w n ≡ cell s e l r g = rep-cell (h .rep) in
     let kn : k ≡ n = sym (h .linked) in
     let pos : 1 ≤ n = rep-pos (h .rep) in
     let nz : n ≡ 0 → ⊥ = λ z. omega arith in
-    rw kn (tree-node d w n lo total (cell s e l r 0) (sym is ∙ below-some w n nz) nz (omega arith)
+    rw kn (tree-node d w g n lo total (cell s e l r g) (sym is ∙ below-some w n nz) nz (omega arith)
     ∙ both-in _ _ (inside-in w n (rep-room (h .rep)))
-    (both-in _ _ (own-tests w n s e lo total l r (h .rep) A (b .0) (b .1))
+    (both-in _ _ (own-tests w g n s e lo total l r (h .rep) A (b .0) (b .1))
     (both-in _ _
-    (tree-no w l (d - 1) (link l) lo (s - 1) (record { rep = rep-left (h .rep); linked = refl }) (A .before) (b .2) (omega arith))
-    (tree-no w r (d - 1) (link r) (e + 2) total (record { rep = rep-right (h .rep); linked = refl }) (A .after) (b .3) (omega arith)))))
+    (tree-no w g l (d - 1) (link l) lo (s - 1) (record { rep = rep-left (h .rep); linked = refl }) (A .before) (b .2) (omega arith))
+    (tree-no w g r (d - 1) (link r) (e + 2) total (record { rep = rep-right (h .rep); linked = refl }) (A .after) (b .3) (omega arith)))))
 
-module _ (w : List ℕ) (t : Tree) (ns : List ℕ) (K : Kept w t ns) where
-  -- a kept tree has C + 2 nodes at most
-  pub kept-few : runs t ≤ capacity w + 2
-  kept-few = let c = sized-length w (K .sized) in omega (arith, c .0, few-nodes w 0 t (K .linked .rep) (K .once))
+-- as a tree that hangs
+pub hangs-walked : {d : ℕ} {w : List ℕ} {g k lo total : ℕ} → Hangs d w g k lo total → treeB d w g k lo total ≡ true
+hangs-walked {d} {w} {g} {k} {lo} {total} T = tree-no w g (T .t) d k lo total (T .at) (T .ordered) (T .balanced) (T .low)
 
-  -- so it is at most 22 high
-  pub kept-low : height t ≤ 22
-  kept-low = let c = sized-length w (K .sized) in height-bound t (K .balanced) (omega (arith, c .1, kept-few))
+-- a tree at most d high has fewer than 2^d runs
+low-runs : (t : Tree) (d : ℕ) → height t ≤ d → runs t < 2 ^ d
+low-runs leaf d le = omega (arith, one-le-pow d 2 (omega arith))
+low-runs (node n a b l r) zero le = absurd (omega arith)
+low-runs (node n a b l r) (suc d) le = rw (pow-succ' 2 d) (omega (arith, low-runs l d (omega arith), low-runs r d (omega arith)))
 
-  -- as many runs as nodes
-  pub kept-runs : length (inorder t) ≤ capacity w + 2
-  kept-runs = omega (arith, kept-few, runs-length t)
+-- so one that hangs from a root can be searched
+pub hangs-index : {w : List ℕ} {g k : ℕ} (T : Hangs 22 w g k 0 size) → Index w k g (T .t)
+hangs-index T = record { at = T .at; canonical = T .ordered; few = omega (arith, low-runs (T .t) 22 (T .low)) }
 
--- the runs from a link, opened by one step: at 0
-from-none : (d : ℕ) (w : List ℕ) (k : ℕ) → k ≡ 0 → runsFrom d w k ≡ []
-unfolding runsFrom
-from-none zero w k e = refl
-from-none (suc d) w zero e = refl
-from-none (suc d) w (suc k) e = absurd (omega arith)
+-- ---- one world
+-- either of two tests
+either-out : (a b : Bool) → (not a || b) ≡ true → a ≡ true → b ≡ true
+either-out true b e p = e
+either-out false b e p = never p
 
--- at a node
-from-node : (d : ℕ) (w : List ℕ) (n : ℕ) (v : Node) → v ≡ cellAt w n → 1 ≤ n → 1 ≤ d
-    → runsFrom d w n ≡ runsFrom (d - 1) w (v .left) ++ run (v .start) (v .«end») ∷ runsFrom (d - 1) w (v .right)
-unfolding runsFrom
-from-node zero w n v e p q = absurd (omega arith)
-from-node (suc d) w zero v e p q = absurd (omega arith)
-from-node (suc d) w (suc n) v e p q = let z : suc d - 1 ≡ d = omega arith in rw (z, e)
+-- and back
+either-in : (a b : Bool) → (a ≡ true → b ≡ true) → (not a || b) ≡ true
+either-in true b h = h refl
+either-in false b h = refl
 
--- they are those of the tree there, in order
-pub from-tree : (w : List ℕ) (t : Tree) (d k : ℕ) → At w 0 k t → height t ≤ d → runsFrom d w k ≡ inorder t
-from-tree w leaf d k h le = from-none d w k (sym (h .linked))
-from-tree w (node n a b l r) d k h le =
-    let kn : k ≡ n = sym (h .linked) in
-    let il = from-tree w l (d - 1) (link l) (record { rep = rep-left (h .rep); linked = refl }) (omega arith) in
-    let ir = from-tree w r (d - 1) (link r) (record { rep = rep-right (h .rep); linked = refl }) (omega arith) in
-    rw kn (from-node d w n (cell a b l r 0) (sym (rep-cell (h .rep))) (rep-pos (h .rep)) (omega arith) ∙ rw (il, ir))
+-- an offset that fits
+pub offset-out : (k o : ℕ) → (not (eqb k 0) || eqb o 0) ≡ true → k ≡ 0 → o ≡ 0
+offset-out k o e z = eqb-true _ _ (either-out (eqb k 0) (eqb o 0) e (eq-eqb _ _ z))
 
--- the physical runs of a store are those of its tree
-pub kept-physical : (w : List ℕ) (t : Tree) (ns : List ℕ) → Kept w t ns → physicalRuns w ≡ inorder t
-unfolding physicalRuns
-kept-physical w t ns K = from-tree w t 22 ((headerAt w) .root) (K .linked) (kept-low w t ns K)
+-- and back
+pub offset-in : (k o : ℕ) → (k ≡ 0 → o ≡ 0) → (not (eqb k 0) || eqb o 0) ≡ true
+offset-in k o f = either-in (eqb k 0) (eqb o 0) (λ e. eq-eqb _ _ (f (eqb-true _ _ e)))
 
--- the nodes of a tree in order and of a chain are among 1 .. C + 2, and the two have none in common
-module _ (w : List ℕ) (t : Tree) (ns : List ℕ) (sized : 1 ≤ capacity w) (rep : Rep w 0 t) (ordered : Canon size 0 (inorder t)) (k : ℕ)
-    (chain : Chain w k ns) where
+-- the tree of a world, its sums and its bounds
+pub record Fitting (w : List ℕ) (h : World) : Type 0 where
+  pub tree : Hangs 22 w (h .tag) (h .root) 0 size
+  pub ones-are : h .ones ≡ ones (tree .t)
+  pub runs-are : h .runs ≡ runs (tree .t)
+  pub first-is : h .first ≡ firstOf (heldRuns (heldIn w h))
+  pub last-is : h .last ≡ lastOf (heldRuns (heldIn w h))
+  pub empty-offset : h .root ≡ 0 → h .offset ≡ 0
+
+-- what the tests of a world say
+pub worldB-yes : (w : List ℕ) (h : World) → worldB w h ≡ true → Fitting w h
+unfolding worldB
+worldB-yes w h e =
+    let a = and-holds _ _ e in
+    let b = and-holds _ _ (a .1) in
+    let c = and-holds _ _ (b .1) in
+    let d = and-holds _ _ (c .1) in
+    let f = and-holds _ _ (d .1) in
+    let T = tree-yes 22 w (h .tag) (h .root) 0 size (a .0) in
+    let S = below-sums w (h .tag) (h .root) (T .t) (T .at) in
+    record {
+      tree = T;
+      ones-are = eqb-true _ _ (b .0) ∙ S .ones-is;
+      runs-are = eqb-true _ _ (c .0) ∙ S .runs-is;
+      first-is = eqb-true _ _ (d .0);
+      last-is = eqb-true _ _ (f .0);
+      empty-offset = offset-out (h .root) (h .offset) (f .1);
+    }
+
+-- and back
+pub worldB-no : (w : List ℕ) (h : World) → Fitting w h → worldB w h ≡ true
+unfolding worldB
+worldB-no w h F =
+    let S = below-sums w (h .tag) (h .root) (F .tree .t) (F .tree .at) in
+    both-in _ _ (hangs-walked (F .tree))
+    (both-in _ _ (eq-eqb _ _ (F .ones-are ∙ sym (S .ones-is)))
+    (both-in _ _ (eq-eqb _ _ (F .runs-are ∙ sym (S .runs-is)))
+    (both-in _ _ (eq-eqb _ _ (F .first-is))
+    (both-in _ _ (eq-eqb _ _ (F .last-is)) (offset-in (h .root) (h .offset) (F .empty-offset))))))
+
+-- a world whose tests pass stands in the nodes that its tree, a free chain and other worlds share out
+pub world-stands : (w : List ℕ) (s : Share) (h : World) (F : Fitting w h) (ns : List ℕ) → length w ≡ 8 * (s .nodes + 1) → s .nodes ≤ 65568
+    → s .own ≤ s .nodes → h .tag ≡ s .tag → Chain w (h .free) ns
+    → ((m : ℕ) → 1 ≤ m → m ≤ s .nodes → count m (F .tree .t) + times m ns + s .others m ≡ 1)
+    → runs (F .tree .t) + length ns ≡ s .own → Standing w s h
+world-stands w s h F ns sized few part tagged chain shared counted =
+    let T = F .tree in
+    record {
+      tree = T .t;
+      free = ns;
+      kept = record {
+        sized = sized;
+        few = few;
+        part = part;
+        linked = subst (λ (g : ℕ). At w g (h .root) (T .t)) tagged (T .at);
+        tagged = tagged;
+        once = distinct w (h .tag) (T .t) 0 size (T .at .rep) (T .ordered);
+        ordered = T .ordered;
+        balanced = T .balanced;
+        chained = chain;
+        shared = shared;
+        counted = counted;
+      };
+      ones-are = F .ones-are;
+      runs-are = F .runs-are;
+      first-is = F .first-is;
+      last-is = F .last-is;
+      empty-offset = F .empty-offset;
+    }
+
+module _ {w : List ℕ} {s : Share} {h : World} (S : Standing w s h) where
+  -- the tests of a world that stands pass
+  pub standing-fits : Fitting w h
+  standing-fits =
+      record {
+        tree = record {
+          t = S .tree;
+          at = subst (λ (g : ℕ). At w g (h .root) (S .tree)) (sym (S .kept .tagged)) (S .kept .linked);
+          ordered = S .kept .ordered;
+          balanced = S .kept .balanced;
+          low = kept-low (S .kept);
+        };
+        ones-are = S .ones-are;
+        runs-are = S .runs-are;
+        first-is = S .first-is;
+        last-is = S .last-is;
+        empty-offset = S .empty-offset;
+      }
+
+  -- and its chain has what its tree leaves of its own nodes
+  pub standing-rest : Rest w (s .own) (h .runs) (h .free)
+  standing-rest = record { ns = S .free; chain = S .kept .chained; many = omega (arith, S .runs-are, S .kept .counted) }
+
+-- ---- one tree and one chain
+-- the nodes of a tree in order and of a chain are among 1 .. n, and the two have none in common
+module _ (w : List ℕ) (n g : ℕ) (t : Tree) (ns : List ℕ) (sized : length w ≡ 8 * (n + 1)) (rep : Rep w g t) (ordered : Canon size 0 (inorder t))
+    (k : ℕ) (chain : Chain w k ns) where
   -- the nodes of the tree are among them
-  tree-among : Among (capacity w + 2) (λ m. count m t)
-  tree-among m i =
-      let h = node-in w 0 t 0 size rep ordered m i in
-      let c = sized-length w sized in
-      (h .some, omega (arith, c .0, h .room))
+  tree-among : Among n (λ m. count m t)
+  tree-among m i = let h = node-in w g t 0 size rep ordered m i in (h .some, omega (arith, h .room))
 
   -- those of the chain
-  chain-among : Among (capacity w + 2) (λ m. times m ns)
-  chain-among m i =
-      let h = chain-free w k ns chain m i in
-      let c = sized-length w sized in
-      (h .some, omega (arith, c .0, h .room))
+  chain-among : Among n (λ m. times m ns)
+  chain-among m i = let h = chain-free w k ns chain m i in (h .some, omega (arith, h .room))
 
   -- a node of the tree has a height, a free one has none
   apart : (m : ℕ) → count m t + times m ns ≤ 1
@@ -209,140 +291,61 @@ module _ (w : List ℕ) (t : Tree) (ns : List ℕ) (sized : 1 ≤ capacity w) (r
     where
       go : Dec (count m t ≡ 0) → Dec (times m ns ≡ 0) → count m t + times m ns ≤ 1
       go (yes z) d = omega (arith, chain-once w k ns chain m)
-      go (no s) (yes z) = omega (arith, distinct w 0 t 0 size rep ordered m)
+      go (no s) (yes z) = omega (arith, distinct w g t 0 size rep ordered m)
       go (no s) (no u) =
-          let h = node-in w 0 t 0 size rep ordered m (omega arith) in
+          let h = node-in w g t 0 size rep ordered m (omega arith) in
           let f = chain-free w k ns chain m (omega arith) in
           absurd (omega (arith, h .high, free-low f))
 
-  -- as many free nodes as are left: each node is in one of the two
-  shared-out : length ns ≡ capacity w + 2 - runs t → runs t ≤ capacity w + 2 → (m : ℕ) → 1 ≤ m → m ≤ capacity w + 2 → count m t + times m ns ≡ 1
-  shared-out e le = each-once (capacity w + 2) t ns tree-among chain-among apart (omega arith)
+  -- so if they have n nodes, each is in one of the two
+  shared-out : runs t + length ns ≡ n → (m : ℕ) → 1 ≤ m → m ≤ n → count m t + times m ns ≡ 1
+  shared-out = each-once n t ns tree-among chain-among apart
 
-  -- and the other way round
-  left-over : ((m : ℕ) → 1 ≤ m → m ≤ capacity w + 2 → count m t + times m ns ≡ 1) → runs t + length ns ≡ capacity w + 2
-  left-over h = that-many (capacity w + 2) t ns tree-among chain-among h
-
--- the tests of the header, one by one
-pub record Headed-so (w : List ℕ) : Type 0 where
-  pub spare : (headerAt w) .spare ≡ 0
-  pub tree : treeB 22 w ((headerAt w) .root) 0 size ≡ true
-  pub ones-are : (headerAt w) .ones ≡ (belowOf w ((headerAt w) .root)) .ones
-  pub runs-are : (headerAt w) .runs ≡ (belowOf w ((headerAt w) .root)) .runs
-  pub few : (headerAt w) .runs ≤ capacity w + 2
-  pub chain : chainB (capacity w + 2 - (headerAt w) .runs) w ((headerAt w) .free) ≡ true
+-- ---- a store
+-- its tests, one by one
+pub record Tested (w : List ℕ) : Type 0 where
+  pub spare : spareAt w ≡ 0
+  pub world : worldB w (worldAt w) ≡ true
+  pub rest : restB w (capacity w + 2) ((worldAt w) .runs) ((worldAt w) .free) ≡ true
+  pub fits : stretches (heldBy w) ≤ allowance w
 
 -- what the tests say
-pub kept-out : (w : List ℕ) → keptB w ≡ true → Headed-so w
-unfolding keptB
-kept-out w e =
+pub sound-out : (w : List ℕ) → soundB w ≡ true → Tested w
+unfolding soundB
+sound-out w e =
     let a = and-holds _ _ e in
     let b = and-holds _ _ (a .1) in
     let c = and-holds _ _ (b .1) in
-    let d = and-holds _ _ (c .1) in
-    let f = and-holds _ _ (d .1) in
-    record {
-      spare = eqb-true _ _ (a .0);
-      tree = b .0;
-      ones-are = eqb-true _ _ (c .0);
-      runs-are = eqb-true _ _ (d .0);
-      few = leb-true _ _ (f .0);
-      chain = f .1;
-    }
+    record { spare = eqb-true _ _ (a .0); world = b .0; rest = c .0; fits = leb-true _ _ (c .1) }
 
 -- and back
-pub kept-in : (w : List ℕ) → Headed-so w → keptB w ≡ true
-unfolding keptB
-kept-in w h =
-    both-in _ _ (eq-eqb _ _ (h .spare))
-    (both-in _ _ (h .tree)
-    (both-in _ _ (eq-eqb _ _ (h .ones-are))
-    (both-in _ _ (eq-eqb _ _ (h .runs-are)) (both-in _ _ (le-leb _ _ (h .few)) (h .chain)))))
-
--- where the tests pass, a tree and a chain share the nodes out
-pub keptB-yes : (w : List ℕ) → 1 ≤ capacity w → keptB w ≡ true → Shared w
-keptB-yes w sized e =
-    let H = kept-out w e in
-    let G = tree-yes 22 w ((headerAt w) .root) 0 size (H .tree) in
-    let C = chained (capacity w + 2 - (headerAt w) .runs) w ((headerAt w) .free) (H .chain) in
-    let S = below-sums w ((headerAt w) .root) (G .t) (G .at) in
-    let r : (headerAt w) .runs ≡ runs (G .t) = H .runs-are ∙ S .runs-is in
-    let few = H .few in
-    let many = C .many in
-    record {
-      tree = G .t;
-      free = C .ns;
-      kept = record {
-        sized = sized;
-        linked = G .at;
-        once = distinct w 0 (G .t) 0 size (G .at .rep) (G .ordered);
-        ordered = G .ordered;
-        balanced = G .balanced;
-        chained = C .chain;
-        shared = shared-out w (G .t) (C .ns) sized (G .at .rep) (G .ordered) ((headerAt w) .free) (C .chain) (omega arith) (omega arith);
-        spare = H .spare;
-      };
-      ones-are = H .ones-are ∙ S .ones-is;
-      runs-are = r;
-    }
-
--- and where they share the nodes out, the tests pass
-pub keptB-no : (w : List ℕ) → Shared w → keptB w ≡ true
-keptB-no w S =
-    let t = S .tree in
-    let K = S .kept in
-    let B = below-sums w ((headerAt w) .root) (S .tree) (S .kept .linked) in
-    let r : (headerAt w) .runs ≡ runs (S .tree) = S .runs-are in
-    let many = left-over w (S .tree) (S .free) (S .kept .sized) (S .kept .linked .rep) (S .kept .ordered) ((headerAt w) .free) (S .kept .chained) (S .kept .shared) in
-    let e : length (S .free) ≡ capacity w + 2 - (headerAt w) .runs = omega arith in
-    kept-in w (record {
-      spare = S .kept .spare;
-      tree = tree-no w (S .tree) 22 ((headerAt w) .root) 0 size (S .kept .linked) (S .kept .ordered) (S .kept .balanced) (kept-low w (S .tree) (S .free) (S .kept));
-      ones-are = S .ones-are ∙ sym (B .ones-is);
-      runs-are = r ∙ sym (B .runs-is);
-      few = omega arith;
-      chain = rw (← e) (followed w ((headerAt w) .free) (S .free) (S .kept .chained));
-    })
-
--- either of two tests
-pub either-out : (a b : Bool) → (not a || b) ≡ true → a ≡ true → b ≡ true
-either-out true b e p = e
-either-out false b e p = never p
-
--- and back
-pub either-in : (a b : Bool) → (a ≡ true → b ≡ true) → (not a || b) ≡ true
-either-in true b h = h refl
-either-in false b h = refl
+pub sound-in : (w : List ℕ) → Tested w → soundB w ≡ true
+unfolding soundB
+sound-in w T = both-in _ _ (eq-eqb _ _ (T .spare)) (both-in _ _ (T .world) (both-in _ _ (T .rest) (le-leb _ _ (T .fits))))
 
 -- where the whole test passes, the store is sound
 pub soundB-yes : (w : List ℕ) → 1 ≤ capacity w → soundB w ≡ true → Sound w
-unfolding soundB boundsB
 soundB-yes w sized e =
-    let p = and-holds _ _ e in
-    let S = keptB-yes w sized (p .0) in
-    let a = and-holds _ _ (p .1) in
-    let b = and-holds _ _ (a .1) in
-    let c = and-holds _ _ (b .1) in
+    let T = sound-out w e in
+    let F = worldB-yes w (worldAt w) (T .world) in
+    let R = restB-yes w (capacity w + 2) ((worldAt w) .runs) ((worldAt w) .free) (T .rest) in
+    let c = sized-length w sized in
+    let long : length w ≡ 8 * (capacity w + 2 + 1) = omega (arith, c .0) in
+    let many : runs (F .tree .t) + length (R .ns) ≡ capacity w + 2 = omega (arith, F .runs-are, R .many) in
+    let once = shared-out w (capacity w + 2) 0 (F .tree .t) (R .ns) long (F .tree .at .rep) (F .tree .ordered) ((worldAt w) .free) (R .chain) many in
     record {
-      tree = S .tree;
-      free = S .free;
-      kept = S .kept;
-      ones-are = S .ones-are;
-      runs-are = S .runs-are;
-      first-is = eqb-true _ _ (a .0);
-      last-is = eqb-true _ _ (b .0);
-      empty-offset = λ z. eqb-true _ _ (either-out (eqb ((headerAt w) .root) 0) (eqb ((headerAt w) .offset) 0) (c .0) (eq-eqb _ _ z));
-      fits = leb-true _ _ (c .1);
+      sized = sized;
+      standing = world-stands w (shareOf w) (worldAt w) F (R .ns) long (omega (arith, c .1)) (omega arith) refl (R .chain) (λ m p q. omega (arith, once m p q)) many;
+      spare = T .spare;
+      fits = T .fits;
     }
 
 -- and where it is sound, the test passes
 pub soundB-no : (w : List ℕ) → Sound w → soundB w ≡ true
-unfolding soundB boundsB
 soundB-no w S =
-    both-in _ _
-    (keptB-no w (record { tree = S .tree; free = S .free; kept = S .kept; ones-are = S .ones-are; runs-are = S .runs-are }))
-    (both-in _ _ (eq-eqb _ _ (S .first-is))
-    (both-in _ _ (eq-eqb _ _ (S .last-is))
-    (both-in _ _
-    (either-in (eqb ((headerAt w) .root) 0) (eqb ((headerAt w) .offset) 0) (λ z. eq-eqb _ _ (S .empty-offset (eqb-true _ _ z))))
-    (le-leb _ _ (S .fits)))))
+    sound-in w (record {
+      spare = S .spare;
+      world = worldB-no w (worldAt w) (standing-fits (S .standing));
+      rest = restB-no w (capacity w + 2) ((worldAt w) .runs) ((worldAt w) .free) (standing-rest (S .standing));
+      fits = S .fits;
+    })

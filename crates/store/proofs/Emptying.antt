@@ -1,5 +1,5 @@
--- Making a store: the nodes after n are freed from the last on down, each before the one freed last, so at each step the chain goes through
--- the nodes after those left. With n = 0 the store made has no run, so its set is empty. Assumes nothing.
+-- Making a store: the nodes are freed from the last on down, each before the one freed last, so at each step the chain goes through the
+-- nodes after those left. The store made has no run, so its set is empty. Assumes nothing.
 use Prim.Native.Nat.{ℕ, zero, suc, _+_, _-_, _/_, _≤_, _<_}
 use mathlib.Core.Path.{_≡_, refl, sym, ap, _∙_, subst, fun-ext}
 use mathlib.Core.Bool.{_&&_, and-false}
@@ -16,12 +16,15 @@ use Rattle.model.specs.Positions.Runs.{heldRuns-is, stretches-is}
 use Rattle.run_index.specs.declared.Node.{Node}
 use Rattle.run_index.specs.Cells.{cellAt, Room, Wrote}
 use Rattle.run_index.specs.Tree.{leaf, δ}
+use Rattle.run_index.specs.Strung.{times, freeCell, Free}
 use Rattle.run_index.proofs.Trees.{δ-same, δ-other, leaf-at}
-use Rattle.store.specs.declared.Header.{Header}
-use Rattle.store.specs.Layout.{headerAt, Headed, capacity, runsFrom, physicalRuns, turned, heldBy}
-use Rattle.store.specs.Soundness.{freeCell, Chain, times, firstOf, lastOf}
+use Rattle.run_index.proofs.Strings.{strung-kept}
+use Rattle.store.specs.declared.World.{World}
+use Rattle.store.specs.declared.Links.{Links}
+use Rattle.store.specs.Layout.{worldAt, Headed, capacity, allowance, runsFrom, physicalRuns, turned, heldFrom, heldBy}
+use Rattle.store.specs.Soundness.{Chain, firstOf, lastOf, Share, Kept, Standing, shareOf}
 use Rattle.store.specs.Free.{after, Chained, Emptied}
-use Rattle.store.proofs.Nodes.{chain-kept, sized-length, Laid, laid-kept}
+use Rattle.store.proofs.Nodes.{sized-length}
 
 -- none of the k numbers after n is n or less
 pub after-none : (n k m : ℕ) → m ≤ n → times m (after n k) ≡ 0
@@ -41,98 +44,67 @@ after-one n (suc k) m lt le = go (ℕ-discrete m (suc n)) (after-one (suc n) k m
 pub after-apart : (n k m : ℕ) → 1 ≤ times m (after n k) → m ≡ n → ⊥
 after-apart n k m i e = omega (arith, after-none n k m (omega arith))
 
--- the words w, made from w₀: the nodes after the first `left` ones are the free chain from `next`, and up to n all is as it was
-pub record FreeAfter (w₀ w : List ℕ) (n left next : ℕ) : Type 0 where
+-- how many they are
+after-length : (n k : ℕ) → length (after n k) ≡ k
+after-length n zero = refl
+after-length n (suc k) = ap suc (after-length (suc n) k)
+
+-- the words w, made from w₀: the nodes after the first `left` ones are the free chain from `next`
+pub record FreeAfter (w₀ w : List ℕ) (left next : ℕ) : Type 0 where
   pub sized : 1 ≤ capacity w₀
   pub long : length w ≡ length w₀
-  pub over : n ≤ left
   pub done : ℕ
   pub all : left + done ≡ capacity w₀ + 2
   pub chain : Chain w next (after left done)
-  pub kept : (m : ℕ) → m ≤ n → cellAt w m ≡ cellAt w₀ m
 
 -- at first none is free
-pub free-after-none : (w : List ℕ) (n left next : ℕ) → 1 ≤ capacity w → n ≤ capacity w + 2 → left ≡ length w / 8 - 1 → next ≡ 0 → FreeAfter w w n left next
-free-after-none w n left next h le e z = record {
-  sized = h;
-  long = refl;
-  over = omega (arith, sized-length w h);
-  done = 0;
-  all = omega (arith, sized-length w h);
-  chain = z;
-  kept = λ m q. refl;
-}
+pub free-after-none : (w : List ℕ) (left next : ℕ) → 1 ≤ capacity w → left ≡ length w / 8 - 1 → next ≡ 0 → FreeAfter w w left next
+free-after-none w left next h e z = record { sized = h; long = refl; done = 0; all = omega (arith, sized-length w h); chain = z }
 
 -- the node at hand has room
-pub free-after-room : (w₀ w : List ℕ) (n left next : ℕ) → FreeAfter w₀ w n left next → Room w left
-free-after-room w₀ w n left next f = omega (arith, f .all, f .long, sized-length w₀ (f .sized))
+pub free-after-room : (w₀ w : List ℕ) (left next : ℕ) → FreeAfter w₀ w left next → Room w left
+free-after-room w₀ w left next f = omega (arith, f .all, f .long, sized-length w₀ (f .sized))
 
 -- it is freed, and then is the first
-free-after-step : (w₀ w w′ : List ℕ) (n l next : ℕ) → n ≤ l → FreeAfter w₀ w n (suc l) next → Wrote w w′ (suc l) (freeCell next) → FreeAfter w₀ w′ n l (suc l)
-free-after-step w₀ w w′ n l next le f wr =
+free-after-step : (w₀ w w′ : List ℕ) (l next : ℕ) → FreeAfter w₀ w (suc l) next → Wrote w w′ (suc l) (freeCell next) → FreeAfter w₀ w′ l (suc l)
+free-after-step w₀ w w′ l next f wr =
     let rest : Chain w′ next (after (suc l) (f .done)) =
-    chain-kept w w′ (wr .long) next (after (suc l) (f .done)) (λ m i. wr .there m (after-apart (suc l) (f .done) m i)) (f .chain) in
+    strung-kept Free w w′ (wr .long) next (after (suc l) (f .done)) 0 (λ m i. wr .there m (after-apart (suc l) (f .done) m i)) (f .chain) in
     record {
       sized = f .sized;
       long = wr .long ∙ f .long;
-      over = le;
       done = suc (f .done);
       all = omega (arith, f .all);
       chain = (
         refl,
         omega arith,
-        omega (arith, wr .long, free-after-room w₀ w n (suc l) next f),
+        omega (arith, wr .long, free-after-room w₀ w (suc l) next f),
         wr .here ∙ ap (λ (v : Node). freeCell (v .left)) (sym (wr .here)),
         subst (λ (v : Node). Chain w′ (v .left) (after (suc l) (f .done))) (sym (wr .here)) rest,
       );
-      kept = λ m q. wr .there m (λ (e : m ≡ suc l). omega arith) ∙ f .kept m q;
     }
 
--- a greater number than n, if it is not n, is so also less 1
-free-after-left : (n l : ℕ) → (suc l ≡ n → ⊥) → n ≤ suc l → n ≤ l
-free-after-left n l ne le = omega arith
+-- the same of any number but 0
+pub free-after-more : (w₀ w w′ : List ℕ) (left next : ℕ) → (left ≡ 0 → ⊥) → FreeAfter w₀ w left next → Wrote w w′ left (freeCell next) → FreeAfter w₀ w′ (left - 1) left
+free-after-more w₀ w w′ zero next ne f wr = absurd (ne refl)
+free-after-more w₀ w w′ (suc l) next ne f wr =
+    subst (λ (j : ℕ). FreeAfter w₀ w′ j (suc l)) (omega arith) (free-after-step w₀ w w′ l next f wr)
 
--- the same of a number that is not n
-pub free-after-more : (w₀ w w′ : List ℕ) (n left next : ℕ) → (left ≡ n → ⊥) → FreeAfter w₀ w n left next → Wrote w w′ left (freeCell next) → FreeAfter w₀ w′ n (left - 1) left
-free-after-more w₀ w w′ n zero next ne f wr = absurd (ne (omega (arith, f .over)))
-free-after-more w₀ w w′ n (suc l) next ne f wr =
-    subst (λ (j : ℕ). FreeAfter w₀ w′ n j (suc l)) (omega arith)
-    (free-after-step w₀ w w′ n l next (free-after-left n l ne (f .over)) f wr)
-
--- in the end the nodes after n are free
-pub free-after-chained : (w₀ w : List ℕ) (n left next : ℕ) → left ≡ n → FreeAfter w₀ w n left next → Chained w₀ w n next
-free-after-chained w₀ w n left next e f =
-    let d : f .done ≡ capacity w₀ + 2 - n = omega (arith, f .all) in
+-- in the end all are free
+pub free-after-chained : (w₀ w : List ℕ) (left next : ℕ) → left ≡ 0 → FreeAfter w₀ w left next → Chained w₀ w next
+free-after-chained w₀ w left next e f =
+    let d : f .done ≡ capacity w₀ + 2 = omega (arith, f .all) in
     record {
-      chain = subst (λ (j : ℕ). Chain w next (after n j)) d (subst (λ (j : ℕ). Chain w next (after j (f .done))) e (f .chain));
-      kept = f .kept;
+      chain = subst (λ (j : ℕ). Chain w next (after 0 j)) d (subst (λ (j : ℕ). Chain w next (after j (f .done))) e (f .chain));
       long = f .long;
     }
 
--- the header of an empty store whose free chain starts at k
-abbrev pub emptyHeader : ℕ → Header
-emptyHeader k = record { root = 0; free = k; offset = 0; ones = 0; runs = 0; first = 0; last = 0; spare = 0 }
-
--- all nodes are free in the end
-empty-laid : (w₀ w : List ℕ) (k : ℕ) → 1 ≤ capacity w₀ → Chained w₀ w 0 k → Laid w (emptyHeader k) leaf (after 0 (capacity w₀ + 2 - 0))
-empty-laid w₀ w k h f =
-    let cap : capacity w ≡ capacity w₀ = ap capacityOf (f .long) in
-    record {
-      sized = omega (arith, cap);
-      linked = leaf-at;
-      once = λ m. omega arith;
-      ordered = tt;
-      balanced = tt;
-      chained = f .chain;
-      shared = λ m q le. omega (arith, after-one 0 (capacity w₀ + 2 - 0) m (omega arith) (omega (arith, cap)));
-      spare = refl;
-    }
-
--- a store without a root holds nothing
-pub rootless-empty : (w : List ℕ) → (headerAt w) .root ≡ 0 → heldBy w ≡ empty
-unfolding heldBy turned physicalRuns runsFrom mem empty
-rootless-empty w e =
-    fun-ext (λ x. ap (λ (rs : List Run). ltb x size && mem rs (physicalOf x ((headerAt w) .offset))) (ap (runsFrom 22 w) e) ∙ and-false (ltb x size))
+-- ---- empty worlds
+-- a world without a root holds nothing
+pub rootless-empty : (w : List ℕ) (p o : ℕ) → p ≡ 0 → heldFrom w p o ≡ empty
+unfolding heldFrom turned physicalRuns runsFrom mem empty
+rootless-empty w p o e =
+    fun-ext (λ x. ap (λ (rs : List Run). ltb x size && mem rs (physicalOf x o)) (ap (runsFrom 22 w) e) ∙ and-false (ltb x size))
 
 -- the empty set has no run
 pub empty-runs : heldRuns empty ≡ []
@@ -144,23 +116,78 @@ pub empty-stretches : stretches empty ≡ 0
 unfolding mem empty
 empty-stretches = stretches-is empty [] tt (λ x h. refl)
 
--- with its header it is an empty store
-pub made-empty : (w₀ w w′ : List ℕ) (k : ℕ) → 1 ≤ capacity w₀ → Chained w₀ w 0 k → Headed w w′ (emptyHeader k) → Emptied w₀ w′
-made-empty w₀ w w′ k h f hd =
-    let none : heldBy w′ ≡ empty = rootless-empty w′ (ap (λ (x : Header). x .root) (hd .here)) in
-    let runs : heldRuns (heldBy w′) ≡ [] = ap heldRuns none ∙ empty-runs in
+-- a world that holds nothing
+abbrev pub vacantWorld : Links → World
+vacantWorld x = record { tag = x .tag; root = 0; free = x .free; offset = 0; ones = 0; runs = 0; first = 0; last = 0 }
+
+-- it stands where no node is in its tree
+pub vacant-standing : {w : List ℕ} {s : Share} {x : Links} {ns : List ℕ} → x .root ≡ 0 → Kept w s x leaf ns → Standing w s (vacantWorld x)
+vacant-standing {w} {s} {x} {ns} z k =
+    let runs : heldRuns (heldFrom w 0 0) ≡ [] = ap heldRuns (rootless-empty w 0 0 refl) ∙ empty-runs in
     record {
-      sound = record {
-        tree = leaf;
-        free = after 0 (capacity w₀ + 2 - 0);
-        kept = laid-kept w w′ (emptyHeader k) leaf (after 0 (capacity w₀ + 2 - 0)) (empty-laid w₀ w k h f) hd;
-        ones-are = ap (λ (x : Header). x .ones) (hd .here);
-        runs-are = ap (λ (x : Header). x .runs) (hd .here);
-        first-is = ap (λ (x : Header). x .first) (hd .here) ∙ sym (ap firstOf runs);
-        last-is = ap (λ (x : Header). x .last) (hd .here) ∙ sym (ap lastOf runs);
-        empty-offset = λ _. ap (λ (x : Header). x .offset) (hd .here);
-        fits = omega (arith, ap stretches none, empty-stretches);
+      tree = leaf;
+      free = ns;
+      kept = record {
+        sized = k .sized;
+        few = k .few;
+        part = k .part;
+        linked = leaf-at;
+        tagged = k .tagged;
+        once = k .once;
+        ordered = k .ordered;
+        balanced = k .balanced;
+        chained = k .chained;
+        shared = k .shared;
+        counted = k .counted;
       };
-      holds = none;
-      long = hd .long ∙ f .long;
+      ones-are = refl;
+      runs-are = refl;
+      first-is = sym (ap firstOf runs);
+      last-is = sym (ap lastOf runs);
+      empty-offset = λ _. refl;
     }
+
+-- ---- an empty store
+module _ (w₀ w w′ : List ℕ) (f : ℕ) (h : 1 ≤ capacity w₀) (ch : Chained w₀ w f) where
+  -- its links
+  abbrev links : Links
+  links = record { tag = 0; root = 0; free = f }
+
+  -- all nodes are free, whatever stands in cell 0
+  made-kept : ((m : ℕ) → 1 ≤ m → cellAt w′ m ≡ cellAt w m) → length w′ ≡ length w → Kept w′ (shareOf w′) links leaf (after 0 (capacity w₀ + 2))
+  made-kept same long =
+      let cap : capacity w′ ≡ capacity w₀ = ap capacityOf (long ∙ ch .long) in
+      let c = sized-length w₀ h in
+      record {
+        sized = omega (arith, c .0, cap, ch .long);
+        few = omega (arith, c .1, cap);
+        part = omega arith;
+        linked = leaf-at;
+        tagged = refl;
+        once = λ m. omega arith;
+        ordered = tt;
+        balanced = tt;
+        chained = strung-kept Free w w′ long f (after 0 (capacity w₀ + 2)) 0 (λ m i. same m (some m i)) (ch .chain);
+        shared = λ m q le. omega (arith, after-one 0 (capacity w₀ + 2) m (omega arith) (omega (arith, cap)));
+        counted = omega (arith, after-length 0 (capacity w₀ + 2), cap);
+      }
+    where
+      some : (m : ℕ) → 1 ≤ times m (after 0 (capacity w₀ + 2)) → 1 ≤ m
+      some zero i = absurd (omega (arith, after-none 0 (capacity w₀ + 2) 0 (omega arith)))
+      some (suc m) i = omega arith
+
+  -- with its header it is an empty store
+  pub made-empty : Headed w w′ (vacantWorld links) → Emptied w₀ w′
+  unfolding heldBy allowance
+  made-empty hd =
+      let none : heldBy w′ ≡ empty = ap (λ (v : World). heldFrom w′ (v .root) (v .offset)) (hd .here) ∙ rootless-empty w′ 0 0 refl in
+      record {
+        sound = record {
+          sized = omega (arith, ap capacityOf (hd .long ∙ ch .long));
+          standing = subst (Standing w′ (shareOf w′)) (sym (hd .here)) (vacant-standing refl (made-kept (hd .there) (hd .long)));
+          spare = hd .spare;
+          fits = omega (arith, ap stretches none, empty-stretches);
+        };
+        holds = none;
+        long = hd .long ∙ ch .long;
+      }

@@ -1,12 +1,15 @@
 -- What the proofs of several functions use.
 pub mod Nodes
+pub mod Reached
 pub mod Freeing
 pub mod Altering
 pub mod Emptying
 pub mod Opening
 pub mod Settling
 pub mod Resetting
--- What the proofs of several functions use, and what the soundness of a store means.
+pub mod Replacing
+pub mod Fresh
+-- What the soundness of a store means, and how it is decided.
 pub mod Tests
 pub mod Steps
 pub mod Counting

@@ -1,30 +1,30 @@
--- What a sound store gives its readers: room for its header, its tree at the header's root, that its positions are the tree's, turned
--- by the offset, and that it holds some exactly if it has runs. Assumes nothing.
-use Prim.Native.Nat.{ℕ, _≤_, _<_}
-use mathlib.Core.Path.{_≡_, refl, sym, ap, _∙_}
+-- What a world that stands gives its readers: its tree at its root, that its positions are the tree's, turned by the offset, and that it holds
+-- some exactly if it has runs. And what a sound store gives: its world stands, with nodes enough for what it may hold. Assumes nothing.
+use Prim.Native.Nat.{ℕ, _+_, _≤_, _<_}
+use mathlib.Core.Path.{_≡_, refl, sym, ap, _∙_, subst}
 use mathlib.Core.Bool.{true, false}
 use mathlib.Core.List.{List, [], _∷_}
 use native.Mathlib.Omega.{arith}
-use lib.ListN.{length, getD}
-use mir.Syntax.{w64}
-use mir.Val.{Fits}
+use lib.ListN.{length}
 use Rattle.model.specs.declared.Run.{Run}
 use Rattle.model.specs.Numbers.{size}
-use Rattle.model.specs.Places.{physicalOf, logicalOf}
+use Rattle.model.specs.Places.{physicalOf, logicalOf, capacityOf}
 use Rattle.model.specs.Positions.{Positions, stretches, mem}
 use Rattle.model.specs.RunList.{Canon, mem-in}
-use Rattle.run_index.specs.Cells.{cellAt, Room}
+use Rattle.model.specs.Model
+use Rattle.run_index.specs.Cells.{Room}
 use Rattle.run_index.specs.Tree.{runs, inorder}
 use Rattle.run_index.specs.Search.{Index, Indexed}
 use Rattle.run_index.proofs.Totals.{runs-length}
-use Rattle.store.specs.declared.Header.{Header}
-use Rattle.store.specs.Layout.{headerAt, turned, heldBy}
-use Rattle.store.specs.Soundness.{Sound}
+use Rattle.store.specs.declared.World.{World}
+use Rattle.store.specs.Layout.{worldAt, allowance, turned, heldIn, heldBy}
+use Rattle.store.specs.Soundness.{Share, Standing, Sound}
 use Rattle.store.specs.Bounds.{Counted, TellsRuns}
 use Rattle.store.specs.Turn.{turned-at, turned-logical}
 use Rattle.store.specs.Ends.{empty-mem}
-use Rattle.store.proofs.Nodes.{few-runs, header-room}
-use Rattle.store.proofs.Decided.{kept-physical}
+use Rattle.store.specs.Settle.{Opened}
+use Rattle.store.proofs.Nodes.{kept-index, header-room}
+use Rattle.store.proofs.Reached.{kept-held}
 
 -- no runs hold nothing
 none-hold : (rs : List Run) → length rs ≡ 0 → (x : ℕ) → mem rs x ≡ false
@@ -36,58 +36,60 @@ runs-hold : (rs : List Run) → 1 ≤ length rs → Canon size 0 rs → (x : ℕ
 runs-hold [] h c = absurd (omega arith)
 runs-hold (r ∷ rs) h c = (r .start, omega (arith, c .1, c .2), mem-in r rs (r .start) (omega arith) (c .1))
 
--- its physical positions
-abbrev pub physicalIn : {w : List ℕ} → Sound w → Positions
-physicalIn s = mem (inorder (s .tree))
+module _ {w : List ℕ} {s : Share} {h : World} (st : Standing w s h) where
+  -- its physical positions
+  abbrev pub physicalIn : Positions
+  physicalIn = mem (inorder (st .tree))
 
--- it has a header
-pub sound-room : {w : List ℕ} → Sound w → Room w 0
-sound-room {w} s = header-room w (s .tree) (s .free) (s .kept)
-
-module _ {w : List ℕ} {h : Header} (s : Sound w) (eh : h ≡ headerAt w) where
-  -- its tree is at the root that its header tells
-  pub sound-index : Index w (h .root) 0 (s .tree)
-  sound-index = record {
-    at = record { rep = s .kept .linked .rep; linked = s .kept .linked .linked ∙ sym (ap (λ (x : Header). x .root) eh) };
-    canonical = s .kept .ordered;
-    few = omega (arith, few-runs w (s .tree) (s .free) (s .kept));
-  }
+  -- its tree is at its root
+  pub standing-index : Index w (h .root) (s .tag) (st .tree)
+  standing-index = kept-index (st .kept)
 
   -- so it can be searched
-  pub sound-indexed : Indexed w (h .root)
-  sound-indexed = (0, s .tree, sound-index)
+  pub standing-indexed : Indexed w (h .root)
+  standing-indexed = (s .tag, st .tree, standing-index)
 
   -- its positions are the tree's, turned by its offset
-  pub sound-held : heldBy w ≡ turned (h .offset) (physicalIn s)
-  unfolding heldBy
-  sound-held = rw (kept-physical w (s .tree) (s .free) (s .kept), eh)
-
-  -- its words are below 2^64, and so is its offset
-  pub offset-small : ((i : ℕ) → Fits w64 (getD w i 0)) → h .offset < size
-  unfolding cellAt
-  offset-small f = omega (arith, ap (λ (x : Header). x .offset) eh, f 2)
-
-  -- its header tells the tree's runs
-  pub runs-told : h .runs ≡ runs (s .tree)
-  runs-told = ap (λ (x : Header). x .runs) eh ∙ s .runs-are
+  pub standing-held : heldIn w h ≡ turned (h .offset) physicalIn
+  standing-held = kept-held (st .kept) (h .offset)
 
   -- as the count of logical runs asks it
-  pub sound-counted : Counted w (h .root) (h .runs)
-  sound-counted = (0, s .tree, sound-index, runs-told)
+  pub standing-counted : Counted w (h .root) (h .runs)
+  standing-counted = (s .tag, st .tree, standing-index, st .runs-are)
 
   -- and what that count tells
-  pub logical-told : {r : ℕ} → TellsRuns w (h .root) (h .offset) r → r ≡ stretches (heldBy w)
-  logical-told t = t 0 (s .tree) sound-index ∙ ap stretches (sym sound-held)
+  pub logical-told : {r : ℕ} → TellsRuns w (h .root) (h .offset) r → r ≡ stretches (heldIn w h)
+  logical-told t = t (s .tag) (st .tree) standing-index ∙ ap stretches (sym standing-held)
 
   -- without runs it holds nothing
-  pub sound-none : runs (s .tree) ≡ 0 → (x : ℕ) → x < size → heldBy w x ≡ false
-  sound-none z x l =
-      ap (λ (P : Positions). P x) sound-held ∙ turned-at (h .offset) (physicalIn s) x l
-      ∙ none-hold (inorder (s .tree)) (sym (runs-length (s .tree)) ∙ z) (physicalOf x (h .offset))
+  pub standing-none : runs (st .tree) ≡ 0 → (x : ℕ) → x < size → heldIn w h x ≡ false
+  standing-none z x l =
+      ap (λ (P : Positions). P x) standing-held ∙ turned-at (h .offset) physicalIn x l
+      ∙ none-hold (inorder (st .tree)) (sym (runs-length (st .tree)) ∙ z) (physicalOf x (h .offset))
 
   -- with runs it holds something
-  pub sound-some : h .offset < size → 1 ≤ runs (s .tree) → (x : ℕ) × (x < size) × (heldBy w x ≡ true)
-  sound-some small many =
-      let g = runs-hold (inorder (s .tree)) (omega (arith, runs-length (s .tree))) (s .kept .ordered) in
+  pub standing-some : h .offset < size → 1 ≤ runs (st .tree) → (x : ℕ) × (x < size) × (heldIn w h x ≡ true)
+  standing-some small many =
+      let g = runs-hold (inorder (st .tree)) (omega (arith, runs-length (st .tree))) (st .kept .ordered) in
       let x : ℕ = logicalOf (g .0) (h .offset) in
-      (x, omega arith, ap (λ (P : Positions). P x) sound-held ∙ turned-logical (h .offset) (physicalIn s) (g .0) (g .1) small ∙ g .2)
+      (x, omega arith, ap (λ (P : Positions). P x) standing-held ∙ turned-logical (h .offset) physicalIn (g .0) (g .1) small ∙ g .2)
+
+-- ---- a store
+-- what it may hold is told by its length
+pub allowance-same : (w w′ : List ℕ) → length w′ ≡ length w → allowance w′ ≡ allowance w
+unfolding allowance
+allowance-same w w′ e = ap (λ n. Model.allowance (capacityOf n)) e
+
+-- a sound one
+module _ {w : List ℕ} (so : Sound w) where
+  -- there is a header
+  pub sound-room : Room w 0
+  sound-room = header-room (so .standing .kept)
+
+  -- it tells of a world within its allowance, which holds what the store does
+  told : Opened w (worldAt w)
+  unfolding heldBy allowance
+  told = record { limited = record { standing = so .standing; fits = so .fits; enough = omega arith }; held = refl }
+
+  pub opened : {h : World} → h ≡ worldAt w → Opened w h
+  opened e = subst (Opened w) (sym e) told

@@ -14,8 +14,8 @@ use Rattle.model.specs.Edit.{and-holds}
 use Rattle.run_index.specs.declared.Node.{Node}
 use Rattle.run_index.specs.Cells.{cellAt, Room}
 use Rattle.run_index.specs.Tree.{width}
+use Rattle.run_index.specs.Strung.{freeCell}
 use Rattle.run_index.proofs.Words.{same-node}
-use Rattle.store.specs.Soundness.{freeCell}
 use Rattle.store.specs.Decision.{insideB, belowOf, runB, heightsB, sumsB, zerosB, freeB}
 
 -- a test is not both
@@ -36,10 +36,6 @@ same false false f g = refl
 -- both of two tests
 pub both-in : (a b : Bool) → a ≡ true → b ≡ true → (a && b) ≡ true
 both-in a b p q = rw (p, q)
-
--- the first of two tests decides if it is false
-pub both-no : (a b : Bool) → a ≡ false → (a && b) ≡ false
-both-no a b p = rw p
 
 -- a node inside has room
 pub inside-out : (w : List ℕ) (n : ℕ) → insideB w n ≡ true → Room w n
@@ -63,34 +59,34 @@ unfolding belowOf
 below-some w zero e = absurd (e refl)
 below-some w (suc k) e = refl
 
--- a run within bounds
-pub record Within (a b g lo total : ℕ) : Type 0 where
-  pub spare : g ≡ 0
+-- a run within bounds, with the tag k
+pub record Within (a b g k lo total : ℕ) : Type 0 where
+  pub tagged : g ≡ k
   pub above : lo ≤ a
   pub ordered : a ≤ b
   pub under : b < total
 
 -- what the test of a run says
-pub run-out : (a b g lo total : ℕ) → runB a b g lo total ≡ true → Within a b g lo total
+pub run-out : (a b g k lo total : ℕ) → runB a b g k lo total ≡ true → Within a b g k lo total
 unfolding runB
-run-out a b g lo total e =
+run-out a b g k lo total e =
     let p = and-holds _ _ e in
     let q = and-holds _ _ (p .1) in
     let r = and-holds _ _ (q .1) in
-    record { spare = eqb-true _ _ (p .0); above = leb-true _ _ (q .0); ordered = leb-true _ _ (r .0); under = ltb-true _ _ (r .1) }
+    record { tagged = eqb-true _ _ (p .0); above = leb-true _ _ (q .0); ordered = leb-true _ _ (r .0); under = ltb-true _ _ (r .1) }
 
 -- and back
-pub run-in : (a b g lo total : ℕ) → Within a b g lo total → runB a b g lo total ≡ true
+pub run-in : (a b g k lo total : ℕ) → Within a b g k lo total → runB a b g k lo total ≡ true
 unfolding runB
-run-in a b g lo total h =
-    both-in _ _ (eq-eqb _ _ (h .spare)) (both-in _ _ (le-leb _ _ (h .above)) (both-in _ _ (le-leb _ _ (h .ordered)) (lt-ltb _ _ (h .under))))
+run-in a b g k lo total h =
+    both-in _ _ (eq-eqb _ _ (h .tagged)) (both-in _ _ (le-leb _ _ (h .above)) (both-in _ _ (le-leb _ _ (h .ordered)) (lt-ltb _ _ (h .under))))
 
 -- the code's last test of a run
-pub run-last : (a b g lo hi : ℕ) → g ≡ 0 → lo ≤ a → a ≤ b → leb b hi ≡ runB a b g lo (hi + 1)
-run-last a b g lo hi z l m =
-    same (leb b hi) (runB a b g lo (hi + 1))
-    (λ e. let u = leb-true b hi e in run-in a b g lo (hi + 1) (record { spare = z; above = l; ordered = m; under = omega arith }))
-    (λ e. let h = run-out a b g lo (hi + 1) e in le-leb b hi (omega arith))
+pub run-last : (a b g k lo hi : ℕ) → g ≡ k → lo ≤ a → a ≤ b → leb b hi ≡ runB a b g k lo (hi + 1)
+run-last a b g k lo hi z l m =
+    same (leb b hi) (runB a b g k lo (hi + 1))
+    (λ e. let u = leb-true b hi e in run-in a b g k lo (hi + 1) (record { tagged = z; above = l; ordered = m; under = omega arith }))
+    (λ e. let h = run-out a b g k lo (hi + 1) e in le-leb b hi (omega arith))
 
 -- heights of a node and its sides
 pub heights-out : (h h1 h2 : ℕ) → heightsB h h1 h2 ≡ true → (h ≡ 1 + max h1 h2) × (h1 ≤ h2 + 1) × (h2 ≤ h1 + 1)
@@ -231,13 +227,13 @@ zeros-in v e =
     (both-in _ _ (eq-eqb _ _ (ap (λ (u : Node). u .ones) e)) (eq-eqb _ _ (ap (λ (u : Node). u .tag) e)))))))
 
 -- a free node of the store
-pub record Free (w : List ℕ) (n : ℕ) : Type 0 where
+pub record FreeAt (w : List ℕ) (n : ℕ) : Type 0 where
   pub some : 1 ≤ n
   pub room : Room w n
   pub zeros : cellAt w n ≡ freeCell ((cellAt w n) .left)
 
 -- what the test of a free node says
-pub free-out : (w : List ℕ) (n : ℕ) → freeB w n ≡ true → Free w n
+pub free-out : (w : List ℕ) (n : ℕ) → freeB w n ≡ true → FreeAt w n
 unfolding freeB
 free-out w n e =
     let p = and-holds (ltb 0 n) (insideB w n && zerosB (cellAt w n)) e in
@@ -245,7 +241,7 @@ free-out w n e =
     record { some = omega (arith, ltb-true 0 n (p .0)); room = inside-out w n (q .0); zeros = zeros-out (cellAt w n) (q .1) }
 
 -- and back
-pub free-in : (w : List ℕ) (n : ℕ) → Free w n → freeB w n ≡ true
+pub free-in : (w : List ℕ) (n : ℕ) → FreeAt w n → freeB w n ≡ true
 unfolding freeB
 free-in w n f =
     both-in _ _ (lt-ltb 0 n (omega (arith, f .some))) (both-in _ _ (inside-in w n (f .room)) (zeros-in (cellAt w n) (f .zeros)))

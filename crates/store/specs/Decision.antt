@@ -10,8 +10,10 @@ use Rattle.model.specs.Positions.{heldRuns, stretches}
 use Rattle.run_index.specs.declared.Node.{Node}
 use Rattle.run_index.specs.Cells.{cellAt}
 use Rattle.run_index.specs.Tree.{Tree, runs, ones, width}
-use Rattle.store.specs.Layout.{headerAt, capacity, heldBy}
-use Rattle.store.specs.Soundness.{freeCell, firstOf, lastOf, Kept}
+use Rattle.run_index.specs.Strung.{freeCell}
+use Rattle.store.specs.declared.World.{World}
+use Rattle.store.specs.Layout.{worldAt, spareAt, capacity, allowance, heldIn, heldBy}
+use Rattle.store.specs.Soundness.{firstOf, lastOf}
 
 -- node n has all its words in w; so has the header, at 0
 unfoldable pub insideB : List ℕ → ℕ → Bool
@@ -22,9 +24,9 @@ unfoldable pub belowOf : List ℕ → ℕ → Node
 belowOf w zero = freeCell 0
 belowOf w (suc n) = cellAt w (suc n)
 
--- the spare word is 0, and the run lies within lo .. total - 1
-unfoldable pub runB : ℕ → ℕ → ℕ → ℕ → ℕ → Bool
-runB a b g lo total = eqb g 0 && (leb lo a && (leb a b && ltb b total))
+-- the tag is k, and the run lies within lo .. total - 1
+unfoldable pub runB : ℕ → ℕ → ℕ → ℕ → ℕ → ℕ → Bool
+runB a b g k lo total = eqb g k && (leb lo a && (leb a b && ltb b total))
 
 -- h is one more than the greater of h1 and h2, which differ by at most 1
 unfoldable pub heightsB : ℕ → ℕ → ℕ → Bool
@@ -40,25 +42,25 @@ agreesB v x y =
     heightsB (v .height) (x .height) (y .height)
     && sumsB (v .runs) (x .runs) (y .runs) (v .ones) (x .ones) (y .ones) (v .start) (v .«end»)
 
--- the tests of a node by itself: v is its words, x and y are those at its links
-unfoldable pub cellB : Node → Node → Node → ℕ → ℕ → Bool
-cellB v x y lo total = runB (v .start) (v .«end») (v .tag) lo total && agreesB v x y
+-- the tests of a node by itself: v is its words, x and y are those at its links, and k is the tag that it is to have
+unfoldable pub cellB : Node → Node → Node → ℕ → ℕ → ℕ → Bool
+cellB v x y k lo total = runB (v .start) (v .«end») (v .tag) k lo total && agreesB v x y
 
 -- the same of a node of height 1, which has no links
-unfoldable pub leafB : Node → ℕ → ℕ → Bool
-leafB v lo total =
-    runB (v .start) (v .«end») (v .tag) lo total
+unfoldable pub leafB : Node → ℕ → ℕ → ℕ → Bool
+leafB v k lo total =
+    runB (v .start) (v .«end») (v .tag) k lo total
     && (eqb (v .left) 0 && (eqb (v .right) 0 && (eqb (v .runs) 1 && eqb (v .ones) (width (v .start) (v .«end»)))))
 
--- the tree at the link k, d nodes deep at most, whose runs lie within lo .. total - 1
-unfoldable pub treeB : ℕ → List ℕ → ℕ → ℕ → ℕ → Bool
-treeB zero w k lo total = eqb k 0
-treeB (suc d) w zero lo total = true
-treeB (suc d) w (suc n) lo total =
+-- the tree of nodes with the tag g at the link k, d nodes deep at most, whose runs lie within lo .. total - 1
+unfoldable pub treeB : ℕ → List ℕ → ℕ → ℕ → ℕ → ℕ → Bool
+treeB zero w g k lo total = eqb k 0
+treeB (suc d) w g zero lo total = true
+treeB (suc d) w g (suc n) lo total =
     insideB w (suc n)
-    && (cellB (cellAt w (suc n)) (belowOf w ((cellAt w (suc n)) .left)) (belowOf w ((cellAt w (suc n)) .right)) lo total
-    && (treeB d w ((cellAt w (suc n)) .left) lo ((cellAt w (suc n)) .start - 1)
-    && treeB d w ((cellAt w (suc n)) .right) ((cellAt w (suc n)) .«end» + 2) total))
+    && (cellB (cellAt w (suc n)) (belowOf w ((cellAt w (suc n)) .left)) (belowOf w ((cellAt w (suc n)) .right)) g lo total
+    && (treeB d w g ((cellAt w (suc n)) .left) lo ((cellAt w (suc n)) .start - 1)
+    && treeB d w g ((cellAt w (suc n)) .right) ((cellAt w (suc n)) .«end» + 2) total))
 
 -- all words are 0 but the link
 unfoldable pub zerosB : Node → Bool
@@ -75,34 +77,26 @@ unfoldable pub chainB : ℕ → List ℕ → ℕ → Bool
 chainB zero w n = eqb n 0
 chainB (suc c) w n = freeB w n && chainB c w ((cellAt w n) .left)
 
--- a tree and a free chain share the nodes out, and the header has the tree's sums
-unfoldable pub keptB : List ℕ → Bool
-keptB w =
-    eqb ((headerAt w) .spare) 0
-    && (treeB 22 w ((headerAt w) .root) 0 size
-    && (eqb ((headerAt w) .ones) ((belowOf w ((headerAt w) .root)) .ones)
-    && (eqb ((headerAt w) .runs) ((belowOf w ((headerAt w) .root)) .runs)
-    && (leb ((headerAt w) .runs) (capacity w + 2) && chainB (capacity w + 2 - (headerAt w) .runs) w ((headerAt w) .free)))))
+-- of n nodes the trees have r, and the others are the free chain from f
+unfoldable pub restB : List ℕ → ℕ → ℕ → ℕ → Bool
+restB w n r f = leb r n && chainB (n - r) w f
 
--- what the header says of the positions
-unfoldable pub boundsB : List ℕ → Bool
-boundsB w =
-    eqb ((headerAt w) .first) (firstOf (heldRuns (heldBy w)))
-    && (eqb ((headerAt w) .last) (lastOf (heldRuns (heldBy w)))
-    && ((not (eqb ((headerAt w) .root) 0) || eqb ((headerAt w) .offset) 0) && leb (stretches (heldBy w)) (capacity w)))
+-- the tree of the world h, its sums and its bounds; an empty world has offset 0
+unfoldable pub worldB : List ℕ → World → Bool
+worldB w h =
+    treeB 22 w (h .tag) (h .root) 0 size
+    && (eqb (h .ones) ((belowOf w (h .root)) .ones)
+    && (eqb (h .runs) ((belowOf w (h .root)) .runs)
+    && (eqb (h .first) (firstOf (heldRuns (heldIn w h)))
+    && (eqb (h .last) (lastOf (heldRuns (heldIn w h))) && (not (eqb (h .root) 0) || eqb (h .offset) 0)))))
 
 -- whether words of a store's length are a sound store
 unfoldable pub soundB : List ℕ → Bool
-soundB w = keptB w && boundsB w
+soundB w =
+    eqb (spareAt w) 0
+    && (worldB w (worldAt w)
+    && (restB w (capacity w + 2) ((worldAt w) .runs) ((worldAt w) .free) && leb (stretches (heldBy w)) (allowance w)))
 
--- r says whether a tree with the runs within lo .. hi hangs at the link k
-abbrev pub Tells : List ℕ → ℕ → ℕ → ℕ → Bool → Type 0
-Tells w k lo hi r = (d : ℕ) → (belowOf w k) .height ≤ d → r ≡ treeB d w k lo (hi + 1)
-
--- a tree and a chain that share the nodes out, with the sums that the header has
-pub record Shared (w : List ℕ) : Type 0 where
-  pub tree : Tree
-  pub free : List ℕ
-  pub kept : Kept w tree free
-  pub ones-are : (headerAt w) .ones ≡ ones tree
-  pub runs-are : (headerAt w) .runs ≡ runs tree
+-- r says whether a tree with the tag g and the runs within lo .. hi hangs at the link k
+abbrev pub Tells : List ℕ → ℕ → ℕ → ℕ → ℕ → Bool → Type 0
+Tells w g k lo hi r = (d : ℕ) → (belowOf w k) .height ≤ d → r ≡ treeB d w g k lo (hi + 1)

@@ -1,17 +1,20 @@
--- What bringing the header into agreement, and linking nodes to a store, ask and promise. Assumes nothing: these are definitions.
+-- What bringing a world into agreement with its tree, and making a tree of free nodes that were given runs, ask and promise.
+-- Assumes nothing: these are definitions.
 use Prim.Native.Nat.{ℕ, suc, _-_, _≤_, _<_}
 use mathlib.Core.Path.{_≡_}
 use mathlib.Core.Bool.{Bool, true, false}
-use mathlib.Core.List.{List}
+use mathlib.Core.List.{List, []}
 use lib.ListN.{length}
+use Rattle.model.specs.declared.Run.{Run}
 use Rattle.model.specs.Numbers.{size}
 use Rattle.model.specs.Positions.{Positions, setRange, heldRuns, stretches, mem}
 use Rattle.model.specs.RunList.{Canon}
-use Rattle.run_index.specs.declared.Node.{Node}
-use Rattle.run_index.specs.Tree.{Tree, inorder}
-use Rattle.run_index.specs.Shape.{runsAt}
-use Rattle.store.specs.Layout.{headerAt, capacity, turned, heldBy}
-use Rattle.store.specs.Soundness.{firstOf, lastOf, Kept, Sound}
+use Rattle.run_index.specs.Tree.{Tree, leaf, inorder}
+use Rattle.run_index.specs.Strung.{FreeChain, Filled}
+use Rattle.store.specs.declared.World.{World}
+use Rattle.store.specs.declared.Links.{Links}
+use Rattle.store.specs.Layout.{capacity, allowance, turned, heldIn, heldBy}
+use Rattle.store.specs.Soundness.{firstOf, lastOf, Share, Still, Kept, Standing, Limited, shareOf, Sound}
 
 -- w′ is a sound store of the same length that holds P
 pub record Settled (w w′ : List ℕ) (P : Positions) : Type 0 where
@@ -19,46 +22,72 @@ pub record Settled (w w′ : List ℕ) (P : Positions) : Type 0 where
   pub holds : (x : ℕ) → x < size → heldBy w′ x ≡ P x
   pub long : length w′ ≡ length w
 
--- the tree and the free nodes are right, and there are not too many logical runs
-pub record Ready (w : List ℕ) (t : Tree) (ns : List ℕ) : Type 0 where
-  pub kept : Kept w t ns
-  pub fits : stretches (turned ((headerAt w) .offset) (mem (inorder t))) ≤ capacity w
+-- the world h stands in the nodes w and holds P
+pub record Shows (w : List ℕ) (s : Share) (h : World) (P : Positions) : Type 0 where
+  pub standing : Standing w s h
+  pub holds : (x : ℕ) → x < size → heldIn w h x ≡ P x
 
-abbrev pub Refreshable : List ℕ → Type 0
-Refreshable w = (t : Tree) × (ns : List ℕ) × Ready w t ns
+-- THE PROMISE OF A CHANGE: in the nodes w, which are w′ now, the world h stands and holds P; others stand still
+pub record Became (w w′ : List ℕ) (s : Share) (h : World) (P : Positions) : Type 0 where
+  pub shows : Shows w′ s h P
+  pub still : Still w w′ s
 
-abbrev pub Refreshes : List ℕ → List ℕ → Type 0
-Refreshes w w′ = (t : Tree) (ns : List ℕ) → Ready w t ns → Settled w w′ (turned ((headerAt w) .offset) (mem (inorder t)))
+-- the world r of the tree that the links x lead to, under the offset o
+abbrev pub Refreshes : List ℕ → Links → ℕ → World → Type 0
+Refreshes w x o r = (s : Share) (t : Tree) (ns : List ℕ) → Kept w s x t ns → Shows w s r (turned o (mem (inorder t)))
 
--- the header still tells of the positions P, and the tree t keeps P with a .. b set to v
-pub record Altered (w : List ℕ) (t : Tree) (a b : ℕ) (v : Bool) (P : Positions) : Type 0 where
+-- the world h still tells of the positions P, and the tree t keeps P with a .. b set to v
+pub record Altered (h : World) (t : Tree) (a b : ℕ) (v : Bool) (P : Positions) : Type 0 where
   pub ordered : a ≤ b
   pub below : b < size
-  pub first-was : (headerAt w) .first ≡ firstOf (heldRuns P)
-  pub last-was : (headerAt w) .last ≡ lastOf (heldRuns P)
-  pub none-were : (headerAt w) .runs ≡ 0 → (x : ℕ) → x < size → P x ≡ false
-  pub some-were : ((headerAt w) .runs ≡ 0 → ⊥) → (x : ℕ) × (x < size) × (P x ≡ true)
-  pub set-to : (x : ℕ) → x < size → turned ((headerAt w) .offset) (mem (inorder t)) x ≡ setRange a (suc b - a) v P x
+  pub first-was : h .first ≡ firstOf (heldRuns P)
+  pub last-was : h .last ≡ lastOf (heldRuns P)
+  pub none-were : h .runs ≡ 0 → (x : ℕ) → x < size → P x ≡ false
+  pub some-were : (h .runs ≡ 0 → ⊥) → (x : ℕ) × (x < size) × (P x ≡ true)
+  pub set-to : (x : ℕ) → x < size → turned (h .offset) (mem (inorder t)) x ≡ setRange a (suc b - a) v P x
 
-abbrev pub Resettable : List ℕ → ℕ → ℕ → Bool → Type 0
-Resettable w a b v = (t : Tree) × (ns : List ℕ) × (P : Positions) × Ready w t ns × Altered w t a b v P
+abbrev pub Resettable : List ℕ → Links → World → ℕ → ℕ → Bool → Type 0
+Resettable w x h a b v = (s : Share) × (t : Tree) × (ns : List ℕ) × (P : Positions) × Kept w s x t ns × Altered h t a b v P
 
 -- the same, where one end of the range is told
-abbrev pub ResettableFrom : List ℕ → ℕ → Bool → Type 0
-ResettableFrom w a v = (b : ℕ) × Resettable w a b v
+abbrev pub ResettableFrom : List ℕ → Links → World → ℕ → Bool → Type 0
+ResettableFrom w x h a v = (b : ℕ) × Resettable w x h a b v
 
-abbrev pub ResettableTo : List ℕ → ℕ → Bool → Type 0
-ResettableTo w b v = (a : ℕ) × Resettable w a b v
+abbrev pub ResettableTo : List ℕ → Links → World → ℕ → Bool → Type 0
+ResettableTo w x h b v = (a : ℕ) × Resettable w x h a b v
 
--- a node with a run and nothing else
-abbrev pub nodeOf : ℕ → ℕ → Node
-nodeOf a b = record { start = a; «end» = b; left = 0; right = 0; height = 0; runs = 0; ones = 0; tag = 0 }
+-- the first n nodes of the free chain from f hold the runs rs
+abbrev pub Lays : List ℕ → List ℕ → ℕ → ℕ → List Run → Type 0
+Lays w w′ f n rs = (ns : List ℕ) → FreeChain w f ns → n ≤ length ns → (q : ℕ) × Filled w w′ f q n ns rs
 
--- the nodes 1 .. n hold runs that a store of that capacity can have
-pub record Linkable (w : List ℕ) (n : ℕ) : Type 0 where
-  pub sized : 1 ≤ capacity w
-  pub few : n ≤ capacity w
-  pub canonical : Canon size 0 (runsAt w 0 n)
+-- in the words v all nodes of the world were free; the first n of them hold the runs rs now
+pub record Strewn (v w : List ℕ) (s : Share) (x : Links) (n q : ℕ) (ns : List ℕ) (rs : List Run) : Type 0 where
+  pub kept : Kept v s x leaf ns
+  pub filled : Filled v w (x .free) q n ns rs
+  pub canonical : Canon size 0 rs
 
-abbrev pub Links : List ℕ → List ℕ → ℕ → Type 0
-Links w w′ n = Settled w w′ (mem (runsAt w 0 n))
+abbrev pub Linkable : List ℕ → Links → ℕ → Type 0
+Linkable w x n = (v : List ℕ) × (s : Share) × (q : ℕ) × (ns : List ℕ) × (rs : List Run) × Strewn v w s x n q ns rs
+
+-- the world r has these runs
+abbrev pub LinksUp : List ℕ → List ℕ → Links → ℕ → World → Type 0
+LinksUp w w′ x n r = (v : List ℕ) (s : Share) (q : ℕ) (ns : List ℕ) (rs : List Run) → Strewn v w s x n q ns rs → Became v w′ s r (mem rs)
+
+-- ---- the door between a store and its world
+-- the world h of the words w: it has its allowance, and holds what the store does
+pub record Opened (w : List ℕ) (h : World) : Type 0 where
+  pub limited : Limited w (shareOf w) h (allowance w)
+  pub held : heldIn w h ≡ heldBy w
+
+-- the store w₀ was opened, and its nodes are w now, in which its world k holds P; P has no more runs than it may have
+pub record Closing (w₀ w : List ℕ) (k : World) (P : Positions) : Type 0 where
+  pub sized : 1 ≤ capacity w₀
+  pub became : Became w₀ w (shareOf w₀) k P
+  pub few : stretches P ≤ allowance w₀
+
+abbrev pub Closable : List ℕ → World → Type 0
+Closable w k = (w₀ : List ℕ) × (P : Positions) × Closing w₀ w k P
+
+-- then it is a store that holds P
+abbrev pub Closes : List ℕ → List ℕ → World → Type 0
+Closes w w′ k = (w₀ : List ℕ) (P : Positions) → Closing w₀ w k P → Settled w₀ w′ P

@@ -1,29 +1,22 @@
 -- What a sound store is, sentence by sentence (document 01, "The store"). Assumes nothing: these are definitions.
-use Prim.Native.Nat.{ℕ, zero, suc, _+_, _≤_}
+use Prim.Native.Nat.{ℕ, _+_, _*_, _≤_}
 use mathlib.Core.Path.{_≡_}
 use mathlib.Core.List.{List, [], _∷_}
+use lib.ListN.{length}
 use Rattle.model.specs.declared.Run.{Run}
 use Rattle.model.specs.Numbers.{size}
 use Rattle.model.specs.Positions.{heldRuns, lastAfter, stretches}
 use Rattle.model.specs.RunList.{Canon}
-use Rattle.run_index.specs.declared.Node.{Node}
-use Rattle.run_index.specs.Cells.{cellAt, Room}
-use Rattle.run_index.specs.Tree.{Tree, runs, ones, δ, count, Distinct, inorder, At, Balanced}
-use Rattle.store.specs.Layout.{headerAt, capacity, heldBy}
-
--- a free node has the next free one in its left word, zeros elsewhere
-abbrev pub freeCell : ℕ → Node
-freeCell next = record { start = 0; «end» = 0; left = next; right = 0; height = 0; runs = 0; ones = 0; tag = 0 }
+use Rattle.run_index.specs.Cells.{cellAt}
+use Rattle.run_index.specs.Tree.{Tree, runs, ones, count, Distinct, inorder, At, Balanced}
+use Rattle.run_index.specs.Strung.{times, Strung, Free}
+use Rattle.store.specs.declared.World.{World}
+use Rattle.store.specs.declared.Links.{Links}
+use Rattle.store.specs.Layout.{worldAt, spareAt, linksOf, capacity, allowance, heldIn, heldBy}
 
 -- from the link k the free nodes ns, in order, and then 0
 abbrev pub Chain : List ℕ → ℕ → List ℕ → Type 0
-Chain w k [] = k ≡ 0
-Chain w k (n ∷ ns) = (k ≡ n) × (1 ≤ n) × Room w n × (cellAt w n ≡ freeCell ((cellAt w n) .left)) × Chain w ((cellAt w n) .left) ns
-
--- how often the number m stands in a list
-abbrev pub times : ℕ → List ℕ → ℕ
-times m [] = 0
-times m (n ∷ ns) = δ m n + times m ns
+Chain w k ns = Strung Free w k ns 0
 
 -- the first and the last position of rising runs, 0 if there is none
 abbrev pub firstOf : List Run → ℕ
@@ -34,33 +27,77 @@ abbrev pub lastOf : List Run → ℕ
 lastOf [] = 0
 lastOf (r ∷ rs) = (lastAfter r rs) .«end»
 
--- the tree t and the free chain ns share the nodes 1 .. C + 2 out: what holds also within a call
-pub record Kept (w : List ℕ) (t : Tree) (ns : List ℕ) : Type 0 where
-  -- the length is right
-  pub sized : 1 ≤ capacity w
-  -- links are at most C + 2 and spare words 0; heights and sums are right
-  pub linked : At w 0 ((headerAt w) .root) t
+-- what stays the same while a world changes: its tag, how many nodes there are, how many of them are in its tree or free, and how often
+-- each stands in the trees of other worlds
+pub record Share : Type 0 where
+  pub tag : ℕ
+  pub nodes : ℕ
+  pub own : ℕ
+  pub others : ℕ → ℕ
+
+-- m is neither in the world's tree nor free
+abbrev pub Foreign : Share → ℕ → Type 0
+Foreign s m = 1 ≤ m → m ≤ s .nodes → 1 ≤ s .others m
+
+-- others stand still: whatever is neither in the world's tree nor free is as it was
+pub record Still (w w′ : List ℕ) (s : Share) : Type 0 where
+  pub cells : (m : ℕ) → Foreign s m → cellAt w′ m ≡ cellAt w m
+  pub long : length w′ ≡ length w
+
+-- the tree t and the free chain ns of the links x share the nodes out, beside those of other worlds: what holds also within a call
+pub record Kept (w : List ℕ) (s : Share) (x : Links) (t : Tree) (ns : List ℕ) : Type 0 where
+  -- w has as many nodes, and no more than the largest store
+  pub sized : length w ≡ 8 * (s .nodes + 1)
+  pub few : s .nodes ≤ 65568
+  pub part : s .own ≤ s .nodes
+  -- links name nodes, and each has the world's tag; heights and sums are right
+  pub linked : At w (s .tag) (x .root) t
+  pub tagged : x .tag ≡ s .tag
   -- links from the root meet each node at most once
   pub once : Distinct t
   -- in order, start ≤ end and each start ≥ previous end + 2
   pub ordered : Canon size 0 (inorder t)
   -- child heights differ by at most 1
   pub balanced : Balanced t
-  -- the free chain meets each other node once and ends in 0
-  pub chained : Chain w ((headerAt w) .free) ns
-  pub shared : (m : ℕ) → 1 ≤ m → m ≤ capacity w + 2 → count m t + times m ns ≡ 1
-  pub spare : (headerAt w) .spare ≡ 0
+  -- the free chain meets each node that no tree has once, and ends in 0
+  pub chained : Chain w (x .free) ns
+  pub shared : (m : ℕ) → 1 ≤ m → m ≤ s .nodes → count m t + times m ns + s .others m ≡ 1
+  pub counted : runs t + length ns ≡ s .own
 
-pub record Sound (w : List ℕ) : Type 0 where
+-- the world h stands in the nodes w: it is kept, and its sums and bounds agree
+pub record Standing (w : List ℕ) (s : Share) (h : World) : Type 0 where
   pub tree : Tree
   pub free : List ℕ
-  pub kept : Kept w tree free
-  -- the header agrees
-  pub ones-are : (headerAt w) .ones ≡ ones tree
-  pub runs-are : (headerAt w) .runs ≡ runs tree
-  pub first-is : (headerAt w) .first ≡ firstOf (heldRuns (heldBy w))
-  pub last-is : (headerAt w) .last ≡ lastOf (heldRuns (heldBy w))
-  -- an empty store has offset 0
-  pub empty-offset : (headerAt w) .root ≡ 0 → (headerAt w) .offset ≡ 0
+  pub kept : Kept w s (linksOf h) tree free
+  pub ones-are : h .ones ≡ ones tree
+  pub runs-are : h .runs ≡ runs tree
+  pub first-is : h .first ≡ firstOf (heldRuns (heldIn w h))
+  pub last-is : h .last ≡ lastOf (heldRuns (heldIn w h))
+  -- an empty world has offset 0
+  pub empty-offset : h .root ≡ 0 → h .offset ≡ 0
+
+-- the same, whatever share it has
+abbrev pub Stands : List ℕ → World → Type 0
+Stands w h = (s : Share) × Standing w s h
+
+-- it has no more runs than it may have, and there are nodes for two more than these
+pub record Limited (w : List ℕ) (s : Share) (h : World) (limit : ℕ) : Type 0 where
+  pub standing : Standing w s h
+  pub fits : stretches (heldIn w h) ≤ limit
+  pub enough : limit + 2 ≤ s .own
+
+abbrev pub Editable : List ℕ → World → ℕ → Type 0
+Editable w h limit = (s : Share) × Limited w s h limit
+
+-- a store has one world, which has the nodes 1 .. C + 2
+abbrev pub shareOf : List ℕ → Share
+shareOf w = record { tag = 0; nodes = capacity w + 2; own = capacity w + 2; others = λ m. 0 }
+
+pub record Sound (w : List ℕ) : Type 0 where
+  -- the length is right
+  pub sized : 1 ≤ capacity w
+  -- the header agrees, and its last word is 0
+  pub standing : Standing w (shareOf w) (worldAt w)
+  pub spare : spareAt w ≡ 0
   -- logical runs ≤ C
-  pub fits : stretches (heldBy w) ≤ capacity w
+  pub fits : stretches (heldBy w) ≤ allowance w

@@ -15,7 +15,7 @@ use Rattle.model.specs.Places.{physicalOf, logicalOf, physical-logical}
 use Rattle.model.specs.Positions.{Positions, oneIf, count, find, select, runsIn, countRanges, heldRuns, stretches, firstRun, lastRun, mem}
 use Rattle.model.specs.Positions.Laws.{beq-true, count-cut}
 use Rattle.model.specs.Positions.Runs.{runsIn-length-join, heldRuns-cong}
-use Rattle.store.specs.Layout.{headerAt, physicalRuns, turned, heldBy}
+use Rattle.store.specs.Layout.{worldAt, physicalRuns, turned, heldFrom, heldBy}
 use Rattle.store.specs.Moved.{Alike, move, moveRun, moveRuns, runsIn-moved, count-moved, countRanges-moved, firstRun-moved, lastRun-moved, find-moved, select-moved}
 
 -- ---- single positions
@@ -32,10 +32,15 @@ turned-logical o Q x h k = turned-at o Q (logicalOf x o) (omega arith) ∙ ap Q 
 pub turned-zero : (Q : Positions) (x : ℕ) → x < size → turned 0 Q x ≡ Q x
 turned-zero Q x h = turned-at 0 Q x h ∙ ap Q (omega arith)
 
--- no store holds a position above 2^64 − 1
-pub held-past : (w : List ℕ) (x : ℕ) → size ≤ x → heldBy w x ≡ false
-unfolding heldBy turned
-held-past w x h = ap (λ t. t && mem (physicalRuns w) (physicalOf x ((headerAt w) .offset))) (le-ltb x size h)
+-- no world holds a position above 2^64 − 1
+pub held-past : (w : List ℕ) (p o x : ℕ) → size ≤ x → heldFrom w p o x ≡ false
+unfolding heldFrom turned
+held-past w p o x h = ap (λ t. t && mem (physicalRuns w p) (physicalOf x o)) (le-ltb x size h)
+
+-- nor does a store
+pub store-past : (w : List ℕ) (x : ℕ) → size ≤ x → heldBy w x ≡ false
+unfolding heldBy
+store-past w x h = held-past w ((worldAt w) .root) ((worldAt w) .offset) x h
 
 -- ---- ranges
 -- with offset o, the first of the n logical positions from a is kept at s and the last at e

@@ -1,20 +1,21 @@
-// The nodes: which belong to the index and which are free. Making a store empty, and adding and removing a run.
+// The nodes: which belong to the index and which are free. Making a store empty, and adding, removing and resizing a run. Where the tree and
+// the free chain start is handed in and back; no header is read or written on the way.
 ghost use mathlib.Core.Path.{_≡_};
 ghost use Prim.Native.Nat.{_+_, _≤_};
 ghost use Rattle.store.specs.Layout.{capacity};
-ghost use Rattle.store.specs.Free.{Chained, Emptied, Addable, Adds, Removable, RemovesRun, Changeable, Changes};
-use crate::Header;
+ghost use Rattle.store.specs.Free.{Chained, Emptied, Addable, Adds, Removable, RemovesRun, Changeable, Changes, Keepable, GivesBack};
+use crate::Links;
+use crate::World;
 use run_index::Node;
 
-// Makes the free chain of the nodes after n, in order, and tells its head (0: there is none).
-pub fn chain_after(words: &mut [u64], n: u64) -> u64
+// Makes every node free, in order, and returns the head of the chain.
+fn free_all(words: &mut [u64]) -> u64
     requires { ⌜ 1 ≤ capacity (now words) ⌝ }
-    requires { ⌜ n ≤ capacity (now words) + 2 ⌝ }
-    ensures { λ r. ⌜ Chained (now (words .entry)) (now (words .exit)) n r ⌝ }
+    ensures { λ r. ⌜ Chained (now (words .entry)) (now (words .exit)) r ⌝ }
 {
     let mut left = (words.len() / 8 - 1) as u64;
     let mut next: u64 = 0;
-    while left != n {
+    while left != 0 {
         run_index::write_node(
             words,
             left,
@@ -40,10 +41,11 @@ pub fn make(words: &mut [u64])
     requires { ⌜ 1 ≤ capacity (now words) ⌝ }
     ensures { λ _. ⌜ Emptied (now (words .entry)) (now (words .exit)) ⌝ }
 {
-    let free = chain_after(words, 0);
-    crate::write_header(
+    let free = free_all(words);
+    crate::write_world(
         words,
-        Header {
+        World {
+            tag: 0,
             root: 0,
             free: free,
             offset: 0,
@@ -51,48 +53,37 @@ pub fn make(words: &mut [u64])
             runs: 0,
             first: 0,
             last: 0,
-            spare: 0,
         },
     );
 }
 
-// Puts the run start..=end, which touches no other, into the index, as the first free node. Of the header only the root and the free head change.
-pub fn add_run(words: &mut [u64], start: u64, end: u64)
-    requires { ⌜ Addable (now words) start «end» ⌝ }
-    ensures { λ _. ⌜ Adds (now (words .entry)) (now (words .exit)) start «end» ⌝ }
+// Puts the run start..=end, which touches no other, into the index, as the first free node.
+pub fn add_run(words: &mut [u64], x: Links, start: u64, end: u64) -> Links
+    requires { ⌜ Addable (now words) x start «end» ⌝ }
+    ensures { λ r. ⌜ Adds (now (words .entry)) (now (words .exit)) x r start «end» ⌝ }
 {
-    let h = crate::read_header(words);
-    let v = run_index::read_node(words, h.free);
-    let root = run_index::insert(words, h.root, h.free, start, end, 0);
-    crate::write_header(
-        words,
-        Header {
-            root: root,
-            free: v.left,
-            offset: h.offset,
-            ones: h.ones,
-            runs: h.runs,
-            first: h.first,
-            last: h.last,
-            spare: h.spare,
-        },
-    );
+    let v = run_index::read_node(words, x.free);
+    let root = run_index::insert(words, x.root, x.free, start, end, x.tag);
+    Links {
+        tag: x.tag,
+        root: root,
+        free: v.left,
+    }
 }
 
 // Takes the run that starts at `start` out of the index; its node becomes the first free one.
-pub fn remove_run(words: &mut [u64], start: u64)
-    requires { ⌜ Removable (now words) start ⌝ }
-    ensures { λ _. ⌜ RemovesRun (now (words .entry)) (now (words .exit)) start ⌝ }
+pub fn remove_run(words: &mut [u64], x: Links, start: u64) -> Links
+    requires { ⌜ Removable (now words) x start ⌝ }
+    ensures { λ r. ⌜ RemovesRun (now (words .entry)) (now (words .exit)) x r start ⌝ }
 {
-    let h = crate::read_header(words);
-    let x = run_index::remove(words, h.root, start, 0);
+    let y = run_index::remove(words, x.root, start, x.tag);
     run_index::write_node(
         words,
-        x.freed,
+        y.freed,
         Node {
             start: 0,
             end: 0,
-            left: h.free,
+            left: x.free,
             right: 0,
             height: 0,
             runs: 0,
@@ -100,26 +91,30 @@ pub fn remove_run(words: &mut [u64], start: u64)
             tag: 0,
         },
     );
-    crate::write_header(
-        words,
-        Header {
-            root: x.root,
-            free: x.freed,
-            offset: h.offset,
-            ones: h.ones,
-            runs: h.runs,
-            first: h.first,
-            last: h.last,
-            spare: h.spare,
-        },
-    );
+    Links {
+        tag: x.tag,
+        root: y.root,
+        free: y.freed,
+    }
 }
 
-// Makes start..=end of the run that starts at k. Nothing of the header changes.
-pub fn resize_run(words: &mut [u64], k: u64, start: u64, end: u64)
-    requires { ⌜ Changeable (now words) k start «end» ⌝ }
-    ensures { λ _. ⌜ Changes (now (words .entry)) (now (words .exit)) k start «end» ⌝ }
+// Makes start..=end of the run that starts at k. Every node stays where it is.
+pub fn resize_run(words: &mut [u64], x: Links, k: u64, start: u64, end: u64)
+    requires { ⌜ Changeable (now words) x k start «end» ⌝ }
+    ensures { λ _. ⌜ Changes (now (words .entry)) (now (words .exit)) x k start «end» ⌝ }
 {
-    let h = crate::read_header(words);
-    run_index::resize(words, h.root, k, start, end, 0);
+    run_index::resize(words, x.root, k, start, end, x.tag);
+}
+
+// Makes every node of the tree free.
+pub fn give_back(words: &mut [u64], x: Links) -> Links
+    requires { ⌜ Keepable (now words) x ⌝ }
+    ensures { λ r. ⌜ GivesBack (now (words .entry)) (now (words .exit)) x r ⌝ }
+{
+    let free = run_index::chains::free_tree(words, x.root, x.free);
+    Links {
+        tag: x.tag,
+        root: 0,
+        free: free,
+    }
 }

@@ -1,8 +1,12 @@
 // The store: a lent slice of words that holds a set of positions. Words 0 to 7 are the header, node n of the run index has the words
-// 8n to 8n + 7, and the nodes that the index does not have form the free chain.
+// 8n to 8n + 7, and the nodes that the index does not have form the free chain. Only this file knows where the header's words lie: other
+// code has a world by value, and the nodes.
 ghost use mathlib.Core.Path.{_≡_};
 ghost use Rattle.run_index.specs.Cells.{Room};
-ghost use Rattle.store.specs.Layout.{headerAt, Headed};
+ghost use Rattle.store.specs.Layout.{worldAt, spareAt, Headed, linksOf, allowance};
+ghost use Rattle.store.specs.Soundness.{Sound};
+ghost use Rattle.store.specs.Settle.{Opened, Closable, Closes};
+use model::Store;
 use run_index::Node;
 
 pub mod bounds;
@@ -10,8 +14,10 @@ pub mod free;
 pub mod settle;
 pub mod soundness;
 
-// The header's words, in order.
-pub struct Header {
+// What is kept of a set beside its nodes: the tag that its nodes have, the root of its tree, the head of the free chain, the offset, and
+// what the header tells of the tree: held positions modulo 2^64, runs, and the first and the last logical position held, 0 if there is none.
+pub struct World {
+    pub tag: u64,
     pub root: u64,
     pub free: u64,
     pub offset: u64,
@@ -19,16 +25,33 @@ pub struct Header {
     pub runs: u64,
     pub first: u64,
     pub last: u64,
-    pub spare: u64,
 }
 
-// The header lies where a node 0 would.
-pub fn read_header(words: &[u64]) -> Header
+// The part of it that says where nodes are.
+pub struct Links {
+    pub tag: u64,
+    pub root: u64,
+    pub free: u64,
+}
+
+pub fn links_of(h: World) -> Links
+    ensures { λ r. ⌜ r ≡ linksOf h ⌝ }
+{
+    Links {
+        tag: h.tag,
+        root: h.root,
+        free: h.free,
+    }
+}
+
+// What the header tells. It lies where a node 0 would.
+fn read_world(words: &[u64]) -> World
     requires { ⌜ Room (now words) 0 ⌝ }
-    ensures { λ r. ⌜ r ≡ headerAt (now (words .entry)) ⌝ }
+    ensures { λ r. ⌜ r ≡ worldAt (now (words .entry)) ⌝ }
 {
     let v = run_index::read_node(words, 0);
-    Header {
+    World {
+        tag: 0,
         root: v.start,
         free: v.end,
         offset: v.left,
@@ -36,13 +59,22 @@ pub fn read_header(words: &[u64]) -> Header
         runs: v.height,
         first: v.runs,
         last: v.ones,
-        spare: v.tag,
     }
 }
 
-// Sets the header, and no other word.
-pub fn write_header(words: &mut [u64], h: Header)
+// The header's last word, which is 0 in a sound store.
+fn read_spare(words: &[u64]) -> u64
     requires { ⌜ Room (now words) 0 ⌝ }
+    ensures { λ r. ⌜ r ≡ spareAt (now (words .entry)) ⌝ }
+{
+    let v = run_index::read_node(words, 0);
+    v.tag
+}
+
+// Sets the header, and no other word.
+fn write_world(words: &mut [u64], h: World)
+    requires { ⌜ Room (now words) 0 ⌝ }
+    requires { ⌜ h .tag ≡ 0 ⌝ }
     ensures { λ _. ⌜ Headed (now (words .entry)) (now (words .exit)) h ⌝ }
 {
     run_index::write_node(
@@ -56,7 +88,31 @@ pub fn write_header(words: &mut [u64], h: Header)
             height: h.runs,
             runs: h.first,
             ones: h.last,
-            tag: h.spare,
+            tag: 0,
         },
     );
+}
+
+// The most runs that the world of a store may have.
+pub fn allowance(words: &[u64]) -> u64
+    ensures { λ r. ⌜ r ≡ allowance (now (words .entry)) ⌝ }
+{
+    let s = Store::of_length(words.len());
+    s.capacity
+}
+
+// The world of a sound store.
+pub fn open(words: &[u64]) -> World
+    requires { ⌜ Sound (now words) ⌝ }
+    ensures { λ r. ⌜ Opened (now (words .entry)) r ⌝ }
+{
+    read_world(words)
+}
+
+// Makes a world that was opened, and changed, the store's again.
+pub fn close(words: &mut [u64], h: World)
+    requires { ⌜ Closable (now words) h ⌝ }
+    ensures { λ _. ⌜ Closes (now (words .entry)) (now (words .exit)) h ⌝ }
+{
+    write_world(words, h);
 }

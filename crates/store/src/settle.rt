@@ -1,60 +1,58 @@
-// Bringing the header into agreement with the tree, and making a store of nodes that hold their runs.
+// Bringing a world into agreement with its tree, and making a tree of free nodes that were given runs.
 ghost use mathlib.Core.Path.{_≡_};
-ghost use Rattle.run_index.specs.Cells.{Room, Wrote};
 ghost use Rattle.model.specs.Positions.{heldRuns};
-ghost use Rattle.store.specs.Layout.{headerAt, heldBy};
+ghost use Rattle.store.specs.Layout.{heldFrom};
 ghost use Rattle.store.specs.Soundness.{firstOf, lastOf};
-ghost use Rattle.store.specs.Settle.{Refreshable, Refreshes, Resettable, ResettableFrom, ResettableTo, nodeOf, Linkable, Links};
-use crate::Header;
+ghost use Rattle.store.specs.Free.{Keepable};
+ghost use Rattle.store.specs.Settle.{Refreshes, Resettable, ResettableFrom, ResettableTo, Linkable, LinksUp};
+use crate::Links;
+use crate::World;
 use model::Logical;
-use run_index::Node;
 
-// Sets the header's sums and its first and last position from the tree. An empty store gets offset 0.
-pub fn refresh(words: &mut [u64])
-    requires { ⌜ Refreshable (now words) ⌝ }
-    ensures { λ _. ⌜ Refreshes (now (words .entry)) (now (words .exit)) ⌝ }
+// A world that holds nothing.
+fn vacant(x: Links) -> World
+    ensures { λ r. ⌜ r ≡ record { tag = x .tag; root = 0; free = x .free; offset = 0; ones = 0; runs = 0; first = 0; last = 0 } ⌝ }
 {
-    let h = crate::read_header(words);
-    let root = h.root;
+    World {
+        tag: x.tag,
+        root: 0,
+        free: x.free,
+        offset: 0,
+        ones: 0,
+        runs: 0,
+        first: 0,
+        last: 0,
+    }
+}
+
+// The world of a tree under an offset: its sums, and its first and last position. An empty one gets offset 0.
+pub fn refresh(words: &[u64], x: Links, offset: u64) -> World
+    requires { ⌜ Keepable (now words) x ⌝ }
+    ensures { λ r. ⌜ Refreshes (now (words .entry)) x offset r ⌝ }
+{
+    let root = x.root;
     if root == 0 {
-        crate::write_header(
-            words,
-            Header {
-                root: 0,
-                free: h.free,
-                offset: 0,
-                ones: 0,
-                runs: 0,
-                first: 0,
-                last: 0,
-                spare: 0,
-            },
-        );
-        return;
+        return vacant(x);
     }
     let v = run_index::read_node(words, root);
-    let first = crate::bounds::first_held(words, root, h.offset);
-    let last = crate::bounds::last_held(words, root, h.offset);
-    crate::write_header(
-        words,
-        Header {
-            root: root,
-            free: h.free,
-            offset: h.offset,
-            ones: v.ones,
-            runs: v.runs,
-            first: first.0,
-            last: last.0,
-            spare: 0,
-        },
-    );
+    let first = crate::bounds::first_held(words, root, offset);
+    let last = crate::bounds::last_held(words, root, offset);
+    World {
+        tag: x.tag,
+        root: root,
+        free: x.free,
+        offset: offset,
+        ones: v.ones,
+        runs: v.runs,
+        first: first.0,
+        last: last.0,
+    }
 }
 
 // The first position held after a..=b got the value: what was the first one tells it, unless it was freed.
-fn first_after(words: &[u64], h: Header, a: Logical, value: bool) -> u64
-    requires { ⌜ h ≡ headerAt (now words) ⌝ }
-    requires { ⌜ ResettableFrom (now words) (a .0) value ⌝ }
-    ensures { λ r. ⌜ r ≡ firstOf (heldRuns (heldBy (now (words .entry)))) ⌝ }
+fn first_after(words: &[u64], x: Links, h: World, a: Logical, value: bool) -> u64
+    requires { ⌜ ResettableFrom (now words) x h (a .0) value ⌝ }
+    ensures { λ r. ⌜ r ≡ firstOf (heldRuns (heldFrom (now (words .entry)) (x .root) (h .offset))) ⌝ }
 {
     let first = h.first;
     let at = a.0;
@@ -67,15 +65,14 @@ fn first_after(words: &[u64], h: Header, a: Logical, value: bool) -> u64
     if first < at {
         return first;
     }
-    let x = crate::bounds::first_held(words, h.root, h.offset);
-    x.0
+    let f = crate::bounds::first_held(words, x.root, h.offset);
+    f.0
 }
 
 // The last one.
-fn last_after(words: &[u64], h: Header, b: Logical, value: bool) -> u64
-    requires { ⌜ h ≡ headerAt (now words) ⌝ }
-    requires { ⌜ ResettableTo (now words) (b .0) value ⌝ }
-    ensures { λ r. ⌜ r ≡ lastOf (heldRuns (heldBy (now (words .entry)))) ⌝ }
+fn last_after(words: &[u64], x: Links, h: World, b: Logical, value: bool) -> u64
+    requires { ⌜ ResettableTo (now words) x h (b .0) value ⌝ }
+    ensures { λ r. ⌜ r ≡ lastOf (heldRuns (heldFrom (now (words .entry)) (x .root) (h .offset))) ⌝ }
 {
     let last = h.last;
     let at = b.0;
@@ -83,85 +80,50 @@ fn last_after(words: &[u64], h: Header, b: Logical, value: bool) -> u64
         if h.runs == 0 {
             return at;
         }
-        return if last < at { at } else { last };
+        return run_index::larger(at, last);
     }
     if at < last {
         return last;
     }
-    let x = crate::bounds::last_held(words, h.root, h.offset);
-    x.0
+    let l = crate::bounds::last_held(words, x.root, h.offset);
+    l.0
 }
 
-// Does what `refresh` does where the tree got only the value of a..=b since the header was right: then the first and the last position need
-// a search only where they were freed.
-pub fn refresh_set(words: &mut [u64], a: Logical, b: Logical, value: bool)
-    requires { ⌜ Resettable (now words) (a .0) (b .0) value ⌝ }
-    ensures { λ _. ⌜ Refreshes (now (words .entry)) (now (words .exit)) ⌝ }
+// Does what `refresh` does where the tree of the world h got only the value of a..=b since it agreed: then the first and the last position
+// need a search only where they were freed.
+pub fn refresh_set(words: &[u64], x: Links, h: World, a: Logical, b: Logical, value: bool) -> World
+    requires { ⌜ Resettable (now words) x h (a .0) (b .0) value ⌝ }
+    ensures { λ r. ⌜ Refreshes (now (words .entry)) x (h .offset) r ⌝ }
 {
-    let h = crate::read_header(words);
-    let root = h.root;
+    let root = x.root;
     if root == 0 {
-        refresh(words);
-        return;
+        return vacant(x);
     }
     let v = run_index::read_node(words, root);
-    let first = first_after(words, h, a, value);
-    let last = last_after(words, h, b, value);
-    crate::write_header(
-        words,
-        Header {
-            root: root,
-            free: h.free,
-            offset: h.offset,
-            ones: v.ones,
-            runs: v.runs,
-            first: first,
-            last: last,
-            spare: 0,
-        },
-    );
+    let first = first_after(words, x, h, a, value);
+    let last = last_after(words, x, h, b, value);
+    World {
+        tag: x.tag,
+        root: root,
+        free: x.free,
+        offset: h.offset,
+        ones: v.ones,
+        runs: v.runs,
+        first: first,
+        last: last,
+    }
 }
 
-// Writes a run, and nothing else, into a node.
-pub fn put_run(words: &mut [u64], n: u64, start: u64, end: u64)
-    requires { ⌜ Room (now words) n ⌝ }
-    ensures { λ _. ⌜ Wrote (now (words .entry)) (now (words .exit)) n (nodeOf start «end») ⌝ }
+// The world of the runs that the first n free nodes were given, in order: these become its tree, and its offset is 0.
+pub fn link(words: &mut [u64], x: Links, n: u64) -> World
+    requires { ⌜ Linkable (now words) x n ⌝ }
+    ensures { λ r. ⌜ LinksUp (now (words .entry)) (now (words .exit)) x n r ⌝ }
 {
-    run_index::write_node(
-        words,
-        n,
-        Node {
-            start: start,
-            end: end,
-            left: 0,
-            right: 0,
-            height: 0,
-            runs: 0,
-            ones: 0,
-            tag: 0,
-        },
-    );
-}
-
-// Makes a store of the runs that the nodes 1 to n hold, in order: the other nodes are free, the offset is 0.
-pub fn link(words: &mut [u64], n: u64)
-    requires { ⌜ Linkable (now words) n ⌝ }
-    ensures { λ _. ⌜ Links (now (words .entry)) (now (words .exit)) n ⌝ }
-{
-    let free = crate::free::chain_after(words, n);
-    let root = run_index::build(words, 0, n, 0);
-    crate::write_header(
-        words,
-        Header {
-            root: root,
-            free: free,
-            offset: 0,
-            ones: 0,
-            runs: 0,
-            first: 0,
-            last: 0,
-            spare: 0,
-        },
-    );
-    refresh(words);
+    let g = run_index::chains::build_chain(words, x.free, n, x.tag);
+    let y = Links {
+        tag: x.tag,
+        root: g.root,
+        free: g.rest,
+    };
+    refresh(words, y, 0)
 }

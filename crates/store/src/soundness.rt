@@ -8,7 +8,8 @@ ghost use lib.Dec.{eqb};
 ghost use Prim.Native.Nat.{_+_, _≤_};
 ghost use Rattle.run_index.specs.Cells.{Room};
 ghost use Rattle.store.specs.Layout.{capacity};
-ghost use Rattle.store.specs.Decision.{insideB, belowOf, runB, heightsB, sumsB, cellB, leafB, freeB, chainB, keptB, soundB, Tells};
+ghost use Rattle.store.specs.Decision.{insideB, belowOf, runB, heightsB, sumsB, cellB, leafB, freeB, chainB, restB, worldB, soundB, Tells};
+use crate::World;
 use model::Store;
 use run_index::Node;
 
@@ -39,11 +40,11 @@ fn below(words: &[u64], link: u64) -> Node
     run_index::read_node(words, link)
 }
 
-// Whether the spare word is 0 and the run lies within lo..=hi.
-fn run_fits(start: u64, end: u64, tag: u64, lo: u64, hi: u64) -> bool
-    ensures { λ r. ⌜ r ≡ runB start «end» tag lo (hi + 1) ⌝ }
+// Whether the tag is the one that it is to be, and the run lies within lo..=hi.
+fn run_fits(start: u64, end: u64, tag: u64, due: u64, lo: u64, hi: u64) -> bool
+    ensures { λ r. ⌜ r ≡ runB start «end» tag due lo (hi + 1) ⌝ }
 {
-    if tag != 0 {
+    if tag != due {
         return false;
     }
     if start < lo {
@@ -84,11 +85,11 @@ fn sums_fit(runs: u64, r1: u64, r2: u64, ones: u64, o1: u64, o2: u64, start: u64
 }
 
 // The tests of a node by itself: its run against the bounds, its height and sums against those at its links.
-fn node_fits(v: Node, x: Node, y: Node, lo: u64, hi: u64) -> bool
+fn node_fits(v: Node, x: Node, y: Node, tag: u64, lo: u64, hi: u64) -> bool
     requires { ⌜ 2 ≤ v .height ⌝ }
-    ensures { λ r. ⌜ r ≡ cellB v x y lo (hi + 1) ⌝ }
+    ensures { λ r. ⌜ r ≡ cellB v x y tag lo (hi + 1) ⌝ }
 {
-    if !run_fits(v.start, v.end, v.tag, lo, hi) {
+    if !run_fits(v.start, v.end, v.tag, tag, lo, hi) {
         return false;
     }
     if !heights_fit(v.height, x.height, y.height) {
@@ -107,8 +108,8 @@ fn node_fits(v: Node, x: Node, y: Node, lo: u64, hi: u64) -> bool
 }
 
 // The same of a node of height 1, which has no links.
-fn leaf_fits(v: Node, lo: u64, hi: u64) -> bool
-    ensures { λ r. ⌜ r ≡ leafB v lo (hi + 1) ⌝ }
+fn leaf_fits(v: Node, tag: u64, lo: u64, hi: u64) -> bool
+    ensures { λ r. ⌜ r ≡ leafB v tag lo (hi + 1) ⌝ }
 {
     if v.start < lo {
         return false;
@@ -120,15 +121,15 @@ fn leaf_fits(v: Node, lo: u64, hi: u64) -> bool
         return false;
     }
     let ones = std::num::wrapping_add_u64(v.end - v.start, 1);
-    (v.tag | v.left | v.right | (v.runs ^ 1) | (v.ones ^ ones)) == 0
+    ((v.tag ^ tag) | v.left | v.right | (v.runs ^ 1) | (v.ones ^ ones)) == 0
 }
 
 // Whether a tree hangs at a node of height 2 that has no left link: a leaf to its right.
-fn right_fits(words: &[u64], link: u64, lo: u64, hi: u64) -> bool
+fn right_fits(words: &[u64], tag: u64, link: u64, lo: u64, hi: u64) -> bool
     requires { ⌜ Room (now words) link ⌝ }
     requires { ⌜ (belowOf (now words) link) .height ≡ 2 ⌝ }
     requires { ⌜ (belowOf (now words) link) .left ≡ 0 ⌝ }
-    ensures { λ r. ⌜ Tells (now (words .entry)) link lo hi r ⌝ }
+    ensures { λ r. ⌜ Tells (now (words .entry)) tag link lo hi r ⌝ }
 {
     let v = below(words, link);
     if !inside(words, v.right) {
@@ -139,21 +140,21 @@ fn right_fits(words: &[u64], link: u64, lo: u64, hi: u64) -> bool
     if y.height != 1 {
         return false;
     }
-    if !node_fits(v, x, y, lo, hi) {
+    if !node_fits(v, x, y, tag, lo, hi) {
         return false;
     }
     if v.end > u64::MAX - 2 {
         return false;
     }
-    leaf_fits(y, v.end + 2, hi)
+    leaf_fits(y, tag, v.end + 2, hi)
 }
 
 // The same if it has no right link.
-fn left_fits(words: &[u64], link: u64, lo: u64, hi: u64) -> bool
+fn left_fits(words: &[u64], tag: u64, link: u64, lo: u64, hi: u64) -> bool
     requires { ⌜ Room (now words) link ⌝ }
     requires { ⌜ (belowOf (now words) link) .height ≡ 2 ⌝ }
     requires { ⌜ (belowOf (now words) link) .right ≡ 0 ⌝ }
-    ensures { λ r. ⌜ Tells (now (words .entry)) link lo hi r ⌝ }
+    ensures { λ r. ⌜ Tells (now (words .entry)) tag link lo hi r ⌝ }
 {
     let v = below(words, link);
     if !inside(words, v.left) {
@@ -164,30 +165,30 @@ fn left_fits(words: &[u64], link: u64, lo: u64, hi: u64) -> bool
     if x.height != 1 {
         return false;
     }
-    if !node_fits(v, x, y, lo, hi) {
+    if !node_fits(v, x, y, tag, lo, hi) {
         return false;
     }
     if v.start < 2 {
         return false;
     }
-    if !leaf_fits(x, lo, v.start - 2) {
+    if !leaf_fits(x, tag, lo, v.start - 2) {
         return false;
     }
     true
 }
 
 // The same of any node of height 2: a leaf on either side, or on one.
-fn twig_fits(words: &[u64], link: u64, lo: u64, hi: u64) -> bool
+fn twig_fits(words: &[u64], tag: u64, link: u64, lo: u64, hi: u64) -> bool
     requires { ⌜ Room (now words) link ⌝ }
     requires { ⌜ (belowOf (now words) link) .height ≡ 2 ⌝ }
-    ensures { λ r. ⌜ Tells (now (words .entry)) link lo hi r ⌝ }
+    ensures { λ r. ⌜ Tells (now (words .entry)) tag link lo hi r ⌝ }
 {
     let v = below(words, link);
     if v.left == 0 {
-        return right_fits(words, link, lo, hi);
+        return right_fits(words, tag, link, lo, hi);
     }
     if v.right == 0 {
-        return left_fits(words, link, lo, hi);
+        return left_fits(words, tag, link, lo, hi);
     }
     if !inside(words, v.left) {
         return false;
@@ -203,50 +204,50 @@ fn twig_fits(words: &[u64], link: u64, lo: u64, hi: u64) -> bool
     if y.height != 1 {
         return false;
     }
-    if !node_fits(v, x, y, lo, hi) {
+    if !node_fits(v, x, y, tag, lo, hi) {
         return false;
     }
     if v.start < 2 {
         return false;
     }
-    if !leaf_fits(x, lo, v.start - 2) {
+    if !leaf_fits(x, tag, lo, v.start - 2) {
         return false;
     }
     if v.end > u64::MAX - 2 {
         return false;
     }
-    leaf_fits(y, v.end + 2, hi)
+    leaf_fits(y, tag, v.end + 2, hi)
 }
 
 // The same of a node of height 2 at most.
-fn low_fits(words: &[u64], link: u64, lo: u64, hi: u64) -> bool
+fn low_fits(words: &[u64], tag: u64, link: u64, lo: u64, hi: u64) -> bool
     requires { ⌜ Room (now words) link ⌝ }
     requires { ⌜ 1 ≤ link ⌝ }
     requires { ⌜ (belowOf (now words) link) .height ≤ 2 ⌝ }
-    ensures { λ r. ⌜ Tells (now (words .entry)) link lo hi r ⌝ }
+    ensures { λ r. ⌜ Tells (now (words .entry)) tag link lo hi r ⌝ }
 {
     let v = below(words, link);
     if v.height == 2 {
-        return twig_fits(words, link, lo, hi);
+        return twig_fits(words, tag, link, lo, hi);
     }
     if v.height != 1 {
         return false;
     }
-    leaf_fits(v, lo, hi)
+    leaf_fits(v, tag, lo, hi)
 }
 
 // Whether a tree hangs at a link, all its runs within lo..=hi. It goes down the right side, and calls itself on each left side. Most nodes
 // are low, and those above have both links: so each case is code of its own, with no test of what is known there.
-fn tree_fits(words: &[u64], link: u64, lo: u64, hi: u64) -> bool
+fn tree_fits(words: &[u64], tag: u64, link: u64, lo: u64, hi: u64) -> bool
     requires { ⌜ Room (now words) link ⌝ }
-    ensures { λ r. ⌜ Tells (now (words .entry)) link lo hi r ⌝ }
+    ensures { λ r. ⌜ Tells (now (words .entry)) tag link lo hi r ⌝ }
 {
     let mut k = link;
     let mut low = lo;
     while k != 0 {
         let v = below(words, k);
         if v.height <= 2 {
-            return low_fits(words, k, low, hi);
+            return low_fits(words, tag, k, low, hi);
         }
         if v.left == 0 {
             return false;
@@ -262,13 +263,13 @@ fn tree_fits(words: &[u64], link: u64, lo: u64, hi: u64) -> bool
         }
         let x = below(words, v.left);
         let y = below(words, v.right);
-        if !node_fits(v, x, y, low, hi) {
+        if !node_fits(v, x, y, tag, low, hi) {
             return false;
         }
         if v.start < 2 {
             return false;
         }
-        if !tree_fits(words, v.left, low, v.start - 2) {
+        if !tree_fits(words, tag, v.left, low, v.start - 2) {
             return false;
         }
         if v.end > u64::MAX - 2 {
@@ -329,15 +330,21 @@ fn chain_fits(words: &[u64], head: u64, count: u64) -> bool
     link == 0
 }
 
-// Whether a tree and a free chain share the nodes out, and the header has the tree's sums.
-pub fn is_kept(words: &[u64]) -> bool
-    requires { ⌜ 1 ≤ capacity (now words) ⌝ }
-    ensures { λ r. ⌜ r ≡ keptB (now (words .entry)) ⌝ }
+// Whether the offset is one that a world with this root may have: an empty one has offset 0.
+fn offset_fits(root: u64, offset: u64) -> bool
+    ensures { λ r. ⌜ r ≡ (not (eqb root 0) || eqb offset 0) ⌝ }
 {
-    let h = crate::read_header(words);
-    if h.spare != 0 {
-        return false;
+    if root != 0 {
+        return true;
     }
+    offset == 0
+}
+
+// Whether a tree hangs at the root of a world, and the world has its sums and its bounds.
+fn world_fits(words: &[u64], h: World) -> bool
+    requires { ⌜ Room (now words) 0 ⌝ }
+    ensures { λ r. ⌜ r ≡ worldB (now (words .entry)) h ⌝ }
+{
     if !inside(words, h.root) {
         return false;
     }
@@ -351,35 +358,9 @@ pub fn is_kept(words: &[u64]) -> bool
     if h.runs != v.runs {
         return false;
     }
-    let all = (words.len() / 8 - 1) as u64;
-    if h.runs > all {
+    if !tree_fits(words, h.tag, h.root, 0, u64::MAX) {
         return false;
     }
-    if !tree_fits(words, h.root, 0, u64::MAX) {
-        return false;
-    }
-    chain_fits(words, h.free, all - h.runs)
-}
-
-// Whether the offset is one that a store with this root may have: an empty one has offset 0.
-fn offset_fits(root: u64, offset: u64) -> bool
-    ensures { λ r. ⌜ r ≡ (not (eqb root 0) || eqb offset 0) ⌝ }
-{
-    if root != 0 {
-        return true;
-    }
-    offset == 0
-}
-
-// Whether words of a store's length are a sound store.
-pub fn is_sound(words: &[u64]) -> bool
-    requires { ⌜ 1 ≤ capacity (now words) ⌝ }
-    ensures { λ r. ⌜ r ≡ soundB (now (words .entry)) ⌝ }
-{
-    if !is_kept(words) {
-        return false;
-    }
-    let h = crate::read_header(words);
     if !offset_fits(h.root, h.offset) {
         return false;
     }
@@ -388,10 +369,34 @@ pub fn is_sound(words: &[u64]) -> bool
         return false;
     }
     let l = crate::bounds::last_held(words, h.root, h.offset);
-    if h.last != l.0 {
+    h.last == l.0
+}
+
+// Whether of n nodes the trees have `runs`, and the others are the free chain from `free`.
+fn rest_fits(words: &[u64], n: u64, runs: u64, free: u64) -> bool
+    ensures { λ r. ⌜ r ≡ restB (now (words .entry)) n runs free ⌝ }
+{
+    if runs > n {
+        return false;
+    }
+    chain_fits(words, free, n - runs)
+}
+
+// Whether words of a store's length are a sound store.
+pub fn is_sound(words: &[u64]) -> bool
+    requires { ⌜ 1 ≤ capacity (now words) ⌝ }
+    ensures { λ r. ⌜ r ≡ soundB (now (words .entry)) ⌝ }
+{
+    let h = crate::read_world(words);
+    if crate::read_spare(words) != 0 {
+        return false;
+    }
+    if !world_fits(words, h) {
+        return false;
+    }
+    if !rest_fits(words, (words.len() / 8 - 1) as u64, h.runs, h.free) {
         return false;
     }
     let n = crate::bounds::logical_runs(words, h.root, h.offset, h.runs);
-    let s = Store::of_length(words.len());
-    n <= s.capacity
+    n <= crate::allowance(words)
 }

@@ -1,6 +1,6 @@
--- Counting the runs of two feeds joined, and writing them into the nodes 1, 2, … of a store: what holds at each turn of the two loops, and
--- what it comes to. The runs read so far are those that are counted, or written. Assumes nothing.
-use Prim.Native.Nat.{ℕ, zero, suc, _+_, _-_, _≤_}
+-- Counting the runs of two feeds joined, and putting them into free nodes: what holds at each turn of the two loops, and what it comes to. The
+-- runs read so far are those that are counted, or put there; and the nodes are those that the world's tree gave back. Assumes nothing.
+use Prim.Native.Nat.{ℕ, zero, suc, _+_, _*_, _-_, _≤_, _<_}
 use mathlib.Core.Path.{_≡_, refl, sym, ap, _∙_, subst}
 use mathlib.Core.Bool.{true, false}
 use mathlib.Core.List.{List, [], _∷_, _++_}
@@ -11,47 +11,45 @@ use borrow.Author.Tests.{le-leb, lt-leb}
 use Rattle.model.specs.declared.Run.{Run}
 use Rattle.model.specs.declared.Operation.{Operation}
 use Rattle.model.specs.Numbers.{size}
-use Rattle.model.specs.Places.{capacityOf}
-use Rattle.model.specs.Positions.{Positions, run, mem, stretches, combined}
+use Rattle.model.specs.Positions.{Positions, run, heldRuns, stretches, combined}
 use Rattle.model.specs.Positions.Runs.{heldRuns-canon, mem-heldRuns}
 use Rattle.model.specs.RunList.{Canon}
-use Rattle.run_index.specs.Cells.{Room, Wrote}
-use Rattle.run_index.specs.Shape.{runsAt}
-use Rattle.store.specs.Layout.{capacity, turned, physicalRuns}
-use Rattle.store.specs.Settle.{Settled, nodeOf, Linkable, Links}
-use Rattle.store.proofs.Nodes.{sized-length}
-use Rattle.store.proofs.Settling.{runs-put}
+use Rattle.run_index.specs.Cells.{Room}
+use Rattle.run_index.specs.Tree.{Tree, leaf, node, inorder}
+use Rattle.run_index.specs.Strung.{runsOf, Lays, Filled}
+use Rattle.run_index.proofs.Laying.{filled-none, filled-step, left-over, next-room}
+use Rattle.store.specs.declared.World.{World}
+use Rattle.store.specs.declared.Links.{Links}
+use Rattle.store.specs.Layout.{linksOf}
+use Rattle.store.specs.Soundness.{Share, Kept}
+use Rattle.store.specs.Free.{Becomes, Keepable, GivesBack}
+use Rattle.store.specs.Settle.{Became, Strewn, LinksUp}
+use Rattle.store.proofs.Nodes.{node-once, still-then}
+use Rattle.streams.specs.declared.source.View.{View}
 use Rattle.streams.specs.declared.source.Source.{Source}
 use Rattle.streams.specs.declared.sweep.Joint.{Joint}
 use Rattle.streams.specs.declared.gather.Feed.{Feed}
-use Rattle.streams.specs.Reading.{Reads}
+use Rattle.streams.specs.Reading.{Rooted, Reads}
 use Rattle.streams.specs.Sweeping.{Both, Jointly, NextJoint}
-use Rattle.streams.specs.Gathering.{offsetOf, fedBy, Ordered, Sources, Filled}
+use Rattle.streams.specs.Gathering.{viewOf, fedBy, Fed, Sources, Ample, FilledWith, Fills, Roomy}
 use Rattle.streams.specs.Streamed.{Streaming, stream-none, stream-all, stream-some, stream-last, stream-more}
+use Rattle.streams.proofs.Starts.{rooted-none}
 
 -- ---- the two feeds
--- a feed of a store
-pub begun-held : (w p : List ℕ) (o : ℕ) (s : Source) (f : Feed) → f ≡ Feed.Held o
-    → Reads w p o s 0 (turned o (mem (physicalRuns w))) → Reads w p (offsetOf f) s 0 (fedBy f w)
-begun-held w p o s f e h = subst (λ g. Reads w p (offsetOf g) s 0 (fedBy g w)) (sym e) h
-
--- a feed of one run
-pub begun-only : (w p : List ℕ) (a b : ℕ) (s : Source) (f : Feed) → f ≡ Feed.Only a b
-    → Reads w p 0 s 0 (mem (run a b ∷ [])) → Reads w p (offsetOf f) s 0 (fedBy f w)
-begun-only w p a b s f e h = subst (λ g. Reads w p (offsetOf g) s 0 (fedBy g w)) (sym e) h
-
-pub only-ordered : (a b : ℕ) (f : Feed) → f ≡ Feed.Only a b → Ordered f → a ≤ b
-only-ordered a b f e h = subst Ordered e h
+-- a tree is where a feed is read from
+fed-rooted : {w : List ℕ} (f : Feed) → Fed w f → Rooted w (viewOf f .root)
+fed-rooted (Feed.Held v) h = h
+fed-rooted (Feed.Only a b) h = rooted-none
 
 -- both feeds, read from 0 on
-pub begun : {x y : List ℕ} {fx fy : Feed} → Sources x fx y fy → {xp yp : List ℕ} {xo yo : ℕ} {s t : Source}
-    → xo ≡ offsetOf fx → yo ≡ offsetOf fy → Reads x xp (offsetOf fx) s 0 (fedBy fx x) → Reads y yp (offsetOf fy) t 0 (fedBy fy y)
-    → Both x xp xo s y yp yo t 0 (fedBy fx x) (fedBy fy y)
-begun {x} {y} {fx} {fy} so {xp} {yp} {xo} {yo} {s} {t} ex ey r q = record {
-  sound = so .sound;
-  sound₂ = so .sound₂;
-  reads = subst (λ o. Reads x xp o s 0 (fedBy fx x)) (sym ex) r;
-  reads₂ = subst (λ o. Reads y yp o t 0 (fedBy fy y)) (sym ey) q;
+pub begun : {x y : List ℕ} {fx fy : Feed} → Sources x fx y fy → {xp yp : List ℕ} {xv yv : View} {s t : Source}
+    → xv ≡ viewOf fx → yv ≡ viewOf fy → Reads x xp (viewOf fx) s 0 (fedBy fx x) → Reads y yp (viewOf fy) t 0 (fedBy fy y)
+    → Both x xp xv s y yp yv t 0 (fedBy fx x) (fedBy fy y)
+begun {x} {y} {fx} {fy} so {xp} {yp} {xv} {yv} {s} {t} ex ey r q = record {
+  rooted = subst (λ (v : View). Rooted x (v .root)) (sym ex) (fed-rooted fx (so .left));
+  rooted₂ = subst (λ (v : View). Rooted y (v .root)) (sym ey) (fed-rooted fy (so .right));
+  reads = subst (λ (v : View). Reads x xp v s 0 (fedBy fx x)) (sym ex) r;
+  reads₂ = subst (λ (v : View). Reads y yp v t 0 (fedBy fy y)) (sym ey) q;
 }
 
 -- a list with one run more
@@ -59,16 +57,16 @@ length-more : (rs : List Run) (r : Run) → length (rs ++ (r ∷ [])) ≡ suc (l
 length-more rs r = length-append rs (r ∷ []) ∙ omega arith
 
 -- ---- counting: so many of the limit are left after the runs so far
-pub record Counted (w p : List ℕ) (o : ℕ) (w₂ p₂ : List ℕ) (o₂ : ℕ) (j : Joint) (op : Operation) (Q R : Positions) (limit left : ℕ) : Type 0 where
+pub record Counted (w p : List ℕ) (u : View) (w₂ p₂ : List ℕ) (u₂ : View) (j : Joint) (op : Operation) (Q R : Positions) (limit left : ℕ) : Type 0 where
   pub seen : List Run
-  pub stream : Streaming w p o w₂ p₂ o₂ j op Q R seen
+  pub stream : Streaming w p u w₂ p₂ u₂ j op Q R seen
   pub told : length seen + left ≡ limit
 
-module _ {w p : List ℕ} {o : ℕ} {w₂ p₂ : List ℕ} {o₂ : ℕ} {j : Joint} {op : Operation} {Q R : Positions} {limit : ℕ} where
-  pub count-none : Jointly w p o w₂ p₂ o₂ 0 j op Q R (j .found) → Counted w p o w₂ p₂ o₂ j op Q R limit limit
+module _ {w p : List ℕ} {u : View} {w₂ p₂ : List ℕ} {u₂ : View} {j : Joint} {op : Operation} {Q R : Positions} {limit : ℕ} where
+  pub count-none : Jointly w p u w₂ p₂ u₂ 0 j op Q R (j .found) → Counted w p u w₂ p₂ u₂ j op Q R limit limit
   count-none h = record { seen = []; stream = stream-none h; told = omega arith }
 
-  module _ {left : ℕ} (c : Counted w p o w₂ p₂ o₂ j op Q R limit left) where
+  module _ {left : ℕ} (c : Counted w p u w₂ p₂ u₂ j op Q R limit left) where
     pub count-all : j .found ≡ false → true ≡ leb (stretches (combined op Q R)) limit
     unfolding stretches
     count-all e = sym (le-leb (stretches (combined op Q R)) limit (omega (arith, ap length (stream-all (c .stream) e), c .told)))
@@ -90,74 +88,118 @@ module _ {w p : List ℕ} {o : ℕ} {w₂ p₂ : List ℕ} {o₂ : ℕ} {j : Joi
         count-last h = sym (le-leb (stretches (combined op Q R)) limit (omega (arith, ap length (stream-last (c .stream) e h), length-more (c .seen) (run (j .start) (j .«end»)), less)))
 
         pub count-more : (j .«end» ≡ size - 1 → ⊥) → {p′ p₂′ : List ℕ} {j′ : Joint}
-            → NextJoint op w p p′ o (j .left) w₂ p₂ p₂′ o₂ (j .right) (j .«end» + 1) j′ → Counted w p′ o w₂ p₂′ o₂ j′ op Q R limit (left - 1)
+            → NextJoint op w p p′ u (j .left) w₂ p₂ p₂′ u₂ (j .right) (j .«end» + 1) j′ → Counted w p′ u w₂ p₂′ u₂ j′ op Q R limit (left - 1)
         count-more h nj = record {
           seen = c .seen ++ (run (j .start) (j .«end») ∷ []);
           stream = stream-more (c .stream) e h nj;
           told = omega (arith, length-more (c .seen) (run (j .start) (j .«end»)), less);
         }
 
--- ---- writing: as many runs as there are nodes
-pub runsAt-length : (w : List ℕ) (i k : ℕ) → length (runsAt w i k) ≡ k
-runsAt-length w i zero = refl
-runsAt-length w i (suc k) = ap suc (runsAt-length w (i + 1) k)
+-- ---- filling
+-- canonical runs have gaps between them, so they are few
+canon-few : (total k : ℕ) (rs : List Run) → Canon total k rs → k ≤ total + 1 → 2 * length rs + k ≤ total + 1
+canon-few total k [] c h = omega arith
+canon-few total k (r ∷ rs) c h = let i = canon-few total (r .«end» + 2) rs (c .3) (omega (arith, c .2)) in omega (arith, c .0, c .1)
 
--- the nodes up to n have the runs so far
-pub record Filling (into₀ into w p : List ℕ) (o : ℕ) (w₂ p₂ : List ℕ) (o₂ : ℕ) (j : Joint) (op : Operation) (Q R : Positions) (n : ℕ) : Type 0 where
-  pub stream : Streaming w p o w₂ p₂ o₂ j op Q R (runsAt into 0 n)
-  pub long : length into ≡ length into₀
+stretches-few : (J : Positions) → stretches J < size
+unfolding stretches
+stretches-few J = let h = canon-few size 0 (heldRuns J) (heldRuns-canon J) (omega arith) in omega arith
 
-module _ {into₀ into w p : List ℕ} {o : ℕ} {w₂ p₂ : List ℕ} {o₂ : ℕ} {j : Joint} {op : Operation} {Q R : Positions} where
-  pub fill-none : length into ≡ length into₀ → Jointly w p o w₂ p₂ o₂ 0 j op Q R (j .found) → Filling into₀ into w p o w₂ p₂ o₂ j op Q R 0
-  fill-none l h = record { stream = stream-none h; long = l }
+-- there are as many runs as filled nodes
+runsOf-length : (w : List ℕ) (ns : List ℕ) → length (runsOf w ns) ≡ length ns
+runsOf-length w [] = refl
+runsOf-length w (n ∷ ns) = ap suc (runsOf-length w ns)
 
-  module _ {n : ℕ} (f : Filling into₀ into w p o w₂ p₂ o₂ j op Q R n) where
-    pub fill-all : j .found ≡ false → Filled into₀ into n (combined op Q R)
+filled-length : {w w′ : List ℕ} {k q n : ℕ} {ns : List ℕ} {rs : List Run} → Filled w w′ k q n ns rs → length rs ≡ n
+filled-length {w′ = w′} f = ap length (sym (f .runs-are)) ∙ runsOf-length w′ (f .xs) ∙ f .many
+
+-- the first n nodes of the chain ns have the runs so far, and it goes on at `at`
+pub record Filling (into₀ into : List ℕ) (head at : ℕ) (w p : List ℕ) (u : View) (w₂ p₂ : List ℕ) (u₂ : View) (j : Joint) (op : Operation) (Q R : Positions) (n : ℕ) (ns : List ℕ) : Type 0 where
+  pub seen : List Run
+  pub stream : Streaming w p u w₂ p₂ u₂ j op Q R seen
+  pub filled : Filled into₀ into head at n ns seen
+
+module _ {into₀ w : List ℕ} {head : ℕ} {w₂ : List ℕ} {u u₂ : View} {op : Operation} {Q R : Positions} {ns : List ℕ} (am : Ample into₀ head ns (combined op Q R)) where
+  pub fill-none : {p p₂ : List ℕ} {j : Joint} → Jointly w p u w₂ p₂ u₂ 0 j op Q R (j .found) → Filling into₀ into₀ head head w p u w₂ p₂ u₂ j op Q R 0 ns
+  fill-none h = record { seen = []; stream = stream-none h; filled = filled-none ns (am .free) }
+
+  module _ {into p p₂ : List ℕ} {at : ℕ} {j : Joint} {n : ℕ} (f : Filling into₀ into head at w p u w₂ p₂ u₂ j op Q R n ns) where
+    -- all runs are there
+    whole : {into′ : List ℕ} {q m : ℕ} {rs : List Run} → Filled into₀ into′ head q m ns rs → heldRuns (combined op Q R) ≡ rs → FilledWith into₀ into′ head m ns (combined op Q R)
     unfolding stretches
-    fill-all e =
-        let q = stream-all (f .stream) e in
-        record { runs-are = sym q; counted = sym (ap length q ∙ runsAt-length into 0 n); long = f .long }
+    whole {into′} {q} {m} fi e = record {
+      next = q;
+      filled = subst (λ (rs : List Run). Filled into₀ into′ head q m ns rs) (sym e) fi;
+      counted = sym (ap length e ∙ filled-length fi);
+    }
+
+    pub fill-all : j .found ≡ false → FilledWith into₀ into head n ns (combined op Q R)
+    fill-all e = whole (f .filled) (stream-all (f .stream) e)
 
     module _ (e : j .found ≡ true) where
-      -- there is room for a node more
-      pub fill-room : 1 ≤ capacity into₀ → stretches (combined op Q R) ≤ capacity into₀ → Room into (n + 1)
-      fill-room s h = omega (arith, stream-some (f .stream) e, runsAt-length into 0 n, sized-length into₀ s, f .long)
+      -- there is a node more
+      more : n < length ns
+      more = omega (arith, stream-some (f .stream) e, filled-length (f .filled), am .enough)
 
-      pub fill-few : 1 ≤ capacity into₀ → stretches (combined op Q R) ≤ capacity into₀ → n + 1 ≤ 65536
-      fill-few s h = omega (arith, stream-some (f .stream) e, runsAt-length into 0 n, sized-length into₀ s)
+      pub fill-room : Room into at
+      fill-room = next-room into at (f .filled .ys) (f .filled .free) (omega (arith, left-over (f .filled), more))
 
-      module _ {into′ : List ℕ} (wr : Wrote into into′ (n + 1) (nodeOf (j .start) (j .«end»))) where
-        written : runsAt into′ 0 (n + 1) ≡ runsAt into 0 n ++ (run (j .start) (j .«end») ∷ [])
-        written = runs-put into into′ n (j .start) (j .«end») wr
+      pub fill-few : n + 1 < size
+      fill-few = omega (arith, stream-some (f .stream) e, filled-length (f .filled), stretches-few (combined op Q R))
 
-        pub fill-last : j .«end» ≡ size - 1 → Filled into₀ into′ (n + 1) (combined op Q R)
-        unfolding stretches
-        fill-last h =
-            let q = stream-last (f .stream) e h ∙ sym written in
-            record { runs-are = sym q; counted = sym (ap length q ∙ runsAt-length into′ 0 (n + 1)); long = wr .long ∙ f .long }
+      module _ {into′ : List ℕ} {next : ℕ} (ly : Lays into into′ next at (j .start) (j .«end»)) where
+        -- it has the next run
+        laid : Filled into₀ into′ head next (n + 1) ns (f .seen ++ (run (j .start) (j .«end») ∷ []))
+        laid = filled-step (am .free) (f .filled) more ly
+
+        pub fill-last : j .«end» ≡ size - 1 → FilledWith into₀ into′ head (n + 1) ns (combined op Q R)
+        fill-last h = whole laid (stream-last (f .stream) e h)
 
         pub fill-more : (j .«end» ≡ size - 1 → ⊥) → {p′ p₂′ : List ℕ} {j′ : Joint}
-            → NextJoint op w p p′ o (j .left) w₂ p₂ p₂′ o₂ (j .right) (j .«end» + 1) j′
-            → Filling into₀ into′ w p′ o w₂ p₂′ o₂ j′ op Q R (n + 1)
-        fill-more h {p′} {p₂′} {j′} nj = record {
-          stream = subst (λ (l : List Run). Streaming w p′ o w₂ p₂′ o₂ j′ op Q R l) (sym written) (stream-more (f .stream) e h nj);
-          long = wr .long ∙ f .long;
-        }
+            → NextJoint op w p p′ u (j .left) w₂ p₂ p₂′ u₂ (j .right) (j .«end» + 1) j′
+            → Filling into₀ into′ head next w p′ u w₂ p₂′ u₂ j′ op Q R (n + 1) ns
+        fill-more h nj = record { seen = f .seen ++ (run (j .start) (j .«end») ∷ []); stream = stream-more (f .stream) e h nj; filled = laid }
 
--- ---- the store
-module _ {into into′ : List ℕ} {n : ℕ} {J : Positions} (f : Filled into into′ n J) where
-  pub gather-linkable : 1 ≤ capacity into → stretches J ≤ capacity into → Linkable into′ n
-  gather-linkable s h =
-      let cap : capacity into′ ≡ capacity into = ap capacityOf (f .long) in
-      record {
-        sized = omega (arith, cap);
-        few = omega (arith, cap, f .counted);
-        canonical = subst (Canon size 0) (sym (f .runs-are)) (heldRuns-canon J);
-      }
+-- ---- gathering
+-- a tree without runs has no node
+no-runs : (t : Tree) → inorder t ≡ [] → t ≡ leaf
+no-runs leaf e = refl
+no-runs (node n a b l r) e = absurd (omega (arith, ap length e, length-append (inorder l) (run a b ∷ inorder r)))
 
-  pub gather-settled : {into″ : List ℕ} → Links into′ into″ n → Settled into into″ J
-  gather-settled l = record {
-    sound = l .sound;
-    holds = λ x h. l .holds x h ∙ ap (λ (rs : List Run). mem rs x) (f .runs-are) ∙ mem-heldRuns J x h;
-    long = l .long ∙ f .long;
-  }
+module _ {w : List ℕ} {s : Share} {h : World} {J : Positions} (ro : Roomy w s h J) {x : Links} (e : x ≡ linksOf h) where
+  kept-there : Kept w s x (ro .standing .tree) (ro .standing .free)
+  kept-there = subst (λ (y : Links). Kept w s y (ro .standing .tree) (ro .standing .free)) (sym e) (ro .standing .kept)
+
+  -- its tree can be given back
+  pub gather-keepable : Keepable w x
+  gather-keepable = (s, ro .standing .tree, ro .standing .free, kept-there)
+
+  module _ {w₁ : List ℕ} {k : Links} (gb : GivesBack w w₁ x k) where
+    -- the tree is given back
+    pub back : Becomes w w₁ s k []
+    back = gb s (ro .standing .tree) (ro .standing .free) kept-there
+
+    -- then all nodes of the world are free
+    all-free : Kept w₁ s k leaf (back .nodes)
+    all-free = subst (λ (t : Tree). Kept w₁ s k t (back .nodes)) (no-runs (back .tree) (back .runs-are)) (back .kept)
+
+    -- and enough of them
+    pub gather-ample : Ample w₁ (k .free) (back .nodes) J
+    gather-ample = record {
+      free = record { chain = all-free .chained; once = λ m. omega (arith, node-once all-free m) };
+      enough = omega (arith, all-free .counted, ro .enough);
+    }
+
+    module _ {w₂ : List ℕ} {n : ℕ} (fi : Fills w₁ w₂ (k .free) n J) where
+      -- those that were filled can be linked
+      pub gather-strewn : Strewn w₁ w₂ s k n (fi (back .nodes) gather-ample .next) (back .nodes) (heldRuns J)
+      gather-strewn = record { kept = all-free; filled = fi (back .nodes) gather-ample .filled; canonical = heldRuns-canon J }
+
+      -- to the world of the joined positions
+      pub gather-became : {w₃ : List ℕ} {r : World} → LinksUp w₂ w₃ k n r → Became w w₃ s r J
+      gather-became lu =
+          let b = lu w₁ s (fi (back .nodes) gather-ample .next) (back .nodes) (heldRuns J) gather-strewn in
+          record {
+            shows = record { standing = b .shows .standing; holds = λ y l. b .shows .holds y l ∙ mem-heldRuns J y l };
+            still = still-then (back .still) (b .still);
+          }

@@ -50,8 +50,8 @@ lead-end {w} {path = path} {p = p} {d = d} h e t rs b =
 -- the walk at a node v that was read
 module _ {w path₀ path : List ℕ} {depth link p d k : ℕ} (h : Lead w path₀ path depth link p d k) (v : Node) (ne : k ≡ 0 → ⊥) (e : v ≡ cellAt w k) where
   -- the tree there
-  seen : {t : Tree} {rs : List Run} (b : Below w path₀ depth link t rs) → View w 0 k v (h .goes t rs b .t)
-  seen {t} {rs} b = view w 0 k v (h .goes t rs b .t) (h .goes t rs b .below .at) ne e
+  seen : {t : Tree} {rs : List Run} (b : Below w path₀ depth link t rs) → View w (h .goes t rs b .below .tag) k v (h .goes t rs b .t)
+  seen {t} {rs} b = view w (h .goes t rs b .below .tag) k v (h .goes t rs b .t) (h .goes t rs b .below .at) ne e
 
   -- it lies within the words
   pub lead-room : {t : Tree} {rs : List Run} → Below w path₀ depth link t rs → Room w k
@@ -91,6 +91,7 @@ module _ {w path₀ path : List ℕ} {depth link p d k : ℕ} (h : Lead w path�
           t = n .r;
           rs = s .rs;
           below = record {
+            tag = s .below .tag;
             at = n .right;
             ordered = canon-weaken size (v .«end» + 2) 0 (inorder (n .r)) (omega arith) (o .4);
             low = omega (arith, low b);
@@ -114,11 +115,12 @@ module _ {w path₀ path : List ℕ} {depth link p d k : ℕ} (h : Lead w path�
           t = n .l;
           rs = run (v .start) (v .«end») ∷ (inorder (n .r) ++ s .rs);
           below = record {
+            tag = s .below .tag;
             at = n .left;
             ordered = canon-wider (v .start - 1) size 0 (inorder (n .l)) (omega (arith, o .2, o .3)) (o .0);
             low = omega (arith, low b);
             rest = rw add-one
-                (more (getD-set-same path d k 0 (omega arith)) (subst (λ u. Rep w 0 u) (n .is) (s .below .at .rep)) (low b)
+                (more (getD-set-same path d k 0 (omega arith)) (subst (λ u. Rep w (s .below .tag) u) (n .is) (s .below .at .rep)) (low b)
                 (rest-frame (λ i l. getD-set-other path d i k 0 (λ q. omega arith)) (s .below .rest)));
             long = length-set path d k ∙ long;
           };

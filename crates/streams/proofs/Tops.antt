@@ -33,21 +33,23 @@ rest-some (more p rep low rest) ne = record { first = _; others = _; is = refl }
 
 -- the nearest node, with the first run r and its right side
 pub record Top (w path : List ℕ) (d : ℕ) (r : Run) (rs : List Run) : Type 0 where
+  pub tag : ℕ
   pub left : Tree
   pub right : Tree
   pub later : List Run
   pub some : 1 ≤ d
   pub low : height right + d ≤ 22
   pub room : Room w (getD path (d - 1) 0)
-  pub cell-is : cellAt w (getD path (d - 1) 0) ≡ cell (r .start) (r .«end») left right 0
-  pub rep : Rep w 0 right
+  pub cell-is : cellAt w (getD path (d - 1) 0) ≡ cell (r .start) (r .«end») left right tag
+  pub rep : Rep w tag right
   pub rest : Rest w path (d - 1) later
   pub is : rs ≡ inorder right ++ later
 
 pub rest-top : {w path : List ℕ} {d : ℕ} {r : Run} {rs : List Run} → Rest w path d (r ∷ rs) → Top w path d r rs
-rest-top {w} {path} (more {k} {l = l} {r = s} {rs = qs} e rep low rest) =
+rest-top {w} {path} (more {k} {g = g} {l = l} {r = s} {rs = qs} e rep low rest) =
     let z : suc k - 1 ≡ k = omega arith in
     record {
+      tag = g;
       left = l;
       right = s;
       later = qs;
@@ -75,6 +77,7 @@ module _ {w path : List ℕ} {d : ℕ} {r : Run} {rs : List Run} (h : OnPath w p
   pop-below =
       let t = rest-top (h .rest) in
       record {
+        tag = t .tag;
         at = record { rep = t .rep; linked = sym (ap (λ (u : Node). u .right) (e ∙ t .cell-is)) };
         ordered = canon-weaken size (r .«end» + 2) 0 (inorder (t .right)) (omega arith)
             (canon-front size (r .«end» + 2) (inorder (t .right)) (t .later) (rw (t .is) at (h .ordered .3)));

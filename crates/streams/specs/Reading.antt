@@ -12,9 +12,22 @@ use Rattle.model.specs.Positions.{Positions, run, mem}
 use Rattle.model.specs.RunList.{Canon}
 use Rattle.run_index.specs.Tree.{Tree, node, inorder, height, Rep, At}
 use Rattle.store.specs.Layout.{physicalRuns}
-use Rattle.store.specs.Soundness.{Sound}
+use Rattle.streams.specs.declared.source.View.{View}
 use Rattle.streams.specs.declared.source.Source.{Source}
 use Rattle.streams.specs.declared.source.Popped.{Popped}
+
+-- at p is a tree that can be read: its runs are canonical, and a path has room for the way to any of its nodes
+pub record Rooted (w : List ℕ) (p : ℕ) : Type 0 where
+  -- the tag of its nodes, whatever it is
+  pub tag : ℕ
+  -- the tree
+  pub tree : Tree
+  -- links name nodes, and each has this tag; heights and sums are right
+  pub at : At w tag p tree
+  -- in order, start ≤ end and each start ≥ previous end + 2
+  pub ordered : Canon size 0 (inorder tree)
+  -- no node is deeper than the path is long
+  pub low : height tree ≤ 22
 
 -- nothing is held from x on
 abbrev pub Clear : ℕ → Positions → Type 0
@@ -29,13 +42,14 @@ pub record Current (a b x : ℕ) (Q : Positions) : Type 0 where
   pub held : (z : ℕ) → x ≤ z → a ≤ z → z ≤ b → Q z ≡ true
   pub stops : suc b < size → Q (suc b) ≡ false
 
--- the first k nodes on the path, the last one first, have the runs rs to come: each its own, and those of its right side
+-- the first k nodes on the path, the last one first, have the runs rs to come: each its own, and those of its right side; whatever tags they
+-- have
 pub data Rest (w path : List ℕ) : ℕ → List Run → Type 0 where
   none : Rest w path 0 []
   more :
-      {k n a b : ℕ} {l r : Tree} {rs : List Run}
+      {k n a b g : ℕ} {l r : Tree} {rs : List Run}
       → getD path k 0 ≡ n
-      → Rep w 0 (node n a b l r)
+      → Rep w g (node n a b l r)
       → height (node n a b l r) + k ≤ 22
       → Rest w path k rs
       → Rest w path (suc k) (run a b ∷ (inorder r ++ rs))
@@ -60,54 +74,55 @@ pub record InPart (w path : List ℕ) (o s top depth y : ℕ) (Q : Positions) : 
   pub past : o ≤ y + s
   pub tells : (z : ℕ) → y ≤ z → z < top → Q z ≡ mem runs (z + s - o)
 
-abbrev pub InLast : List ℕ → List ℕ → ℕ → ℕ → ℕ → Positions → Type 0
-InLast w path o depth y Q = InPart w path o 0 size depth y Q
+abbrev pub InLast : List ℕ → List ℕ → View → ℕ → ℕ → Positions → Type 0
+InLast w path v depth y Q = InPart w path (v .offset) 0 size depth y Q
 
 -- some of the first part, and then all of the last
-pub record InFirst (w path : List ℕ) (o depth y : ℕ) (Q : Positions) : Type 0 where
-  pub part : InPart w path o size o depth y Q
-  pub before : y < o
-  pub small : o < size
-  pub then : (z : ℕ) → o ≤ z → z < size → Q z ≡ mem (physicalRuns w) (z - o)
+pub record InFirst (w path : List ℕ) (v : View) (depth y : ℕ) (Q : Positions) : Type 0 where
+  pub part : InPart w path (v .offset) size (v .offset) depth y Q
+  pub before : y < v .offset
+  pub small : v .offset < size
+  pub then : (z : ℕ) → v .offset ≤ z → z < size → Q z ≡ mem (physicalRuns w (v .root)) (z - v .offset)
 
 -- what is to come of Q from y on
-pub data Ahead (w path : List ℕ) (o : ℕ) (s : Source) (y : ℕ) (Q : Positions) : Type 0 where
-  spent : s .depth ≡ 0 → s .last ≡ true → Clear y Q → Ahead w path o s y Q
-  lastly : s .last ≡ true → InLast w path o (s .depth) y Q → Ahead w path o s y Q
-  firstly : s .last ≡ false → InFirst w path o (s .depth) y Q → Ahead w path o s y Q
+pub data Ahead (w path : List ℕ) (v : View) (s : Source) (y : ℕ) (Q : Positions) : Type 0 where
+  spent : s .depth ≡ 0 → s .last ≡ true → Clear y Q → Ahead w path v s y Q
+  lastly : s .last ≡ true → InLast w path v (s .depth) y Q → Ahead w path v s y Q
+  firstly : s .last ≡ false → InFirst w path v (s .depth) y Q → Ahead w path v s y Q
 
 -- THE CONTRACT of a source s that stands at x: it has the run of Q there or the next one, and goes on with Q after it; or Q is over
-abbrev pub Stands : List ℕ → List ℕ → ℕ → Source → ℕ → Positions → Bool → Type 0
-Stands w path o s x Q true = Current (s .start) (s .«end») x Q × Ahead w path o s (suc (s .«end»)) Q
-Stands w path o s x Q false = Clear x Q
+abbrev pub Stands : List ℕ → List ℕ → View → Source → ℕ → Positions → Bool → Type 0
+Stands w path v s x Q true = Current (s .start) (s .«end») x Q × Ahead w path v s (suc (s .«end»)) Q
+Stands w path v s x Q false = Clear x Q
 
-abbrev pub Reads : List ℕ → List ℕ → ℕ → Source → ℕ → Positions → Type 0
-Reads w path o s x Q = Stands w path o s x Q (s .live)
+abbrev pub Reads : List ℕ → List ℕ → View → Source → ℕ → Positions → Type 0
+Reads w path v s x Q = Stands w path v s x Q (s .live)
 
 -- going on: a source with a run, and what it is afterwards
-pub record AtRun (w path : List ℕ) (o : ℕ) (s : Source) (x : ℕ) (Q : Positions) : Type 0 where
-  pub sound : Sound w
+pub record AtRun (w path : List ℕ) (v : View) (s : Source) (x : ℕ) (Q : Positions) : Type 0 where
+  pub rooted : Rooted w (v .root)
   pub alive : s .live ≡ true
-  pub reads : Reads w path o s x Q
+  pub reads : Reads w path v s x Q
 
-abbrev pub Advanceable : List ℕ → List ℕ → ℕ → Source → Type 0
-Advanceable w path o s = (x : ℕ) × (Q : Positions) × AtRun w path o s x Q
+abbrev pub Advanceable : List ℕ → List ℕ → View → Source → Type 0
+Advanceable w path v s = (x : ℕ) × (Q : Positions) × AtRun w path v s x Q
 
-abbrev pub Advances : List ℕ → List ℕ → List ℕ → ℕ → Source → Source → Type 0
-Advances w path path′ o s r = (x : ℕ) (Q : Positions) → AtRun w path o s x Q → Reads w path′ o r (suc (s .«end»)) Q
+abbrev pub Advances : List ℕ → List ℕ → List ℕ → View → Source → Source → Type 0
+Advances w path path′ v s r = (x : ℕ) (Q : Positions) → AtRun w path v s x Q → Reads w path′ v r (suc (s .«end»)) Q
 
 -- a source of the one run a .. b
 abbrev pub Covers : Source → ℕ → ℕ → Type 0
-Covers s a b = (w path : List ℕ) (o : ℕ) → Reads w path o s 0 (mem (run a b ∷ []))
+Covers s a b = (w path : List ℕ) (v : View) → Reads w path v s 0 (mem (run a b ∷ []))
 
 -- the path, one node after another
 abbrev pub from : ℕ → List Run → List Run
 from p [] = []
 from p (r ∷ rs) = cond (ltb (r .«end») p) (from p rs) (r ∷ rs)
 
--- descending the tree t at a link puts its runs from p on before those to come
+-- descending the tree t at a link, whatever its tag, puts its runs from p on before those to come
 pub record Below (w path : List ℕ) (depth link : ℕ) (t : Tree) (rs : List Run) : Type 0 where
-  pub at : At w 0 link t
+  pub tag : ℕ
+  pub at : At w tag link t
   pub ordered : Canon size 0 (inorder t)
   pub low : height t + depth ≤ 22
   pub rest : Rest w path depth rs
@@ -150,29 +165,29 @@ abbrev pub TellsZero : List ℕ → List ℕ → ℕ → Bool → Type 0
 TellsZero w path depth b = (p : ℕ) (rs : List Run) → Coming w path depth p rs → b ≡ startsAtZero rs
 
 -- the next run of the last part, and of the first: the reading stands at y, which is kept at p
-pub record ReadyLast (w path : List ℕ) (o depth p y : ℕ) (Q : Positions) : Type 0 where
-  pub ready : InLast w path o depth y Q
+pub record ReadyLast (w path : List ℕ) (v : View) (depth p y : ℕ) (Q : Positions) : Type 0 where
+  pub ready : InLast w path v depth y Q
   pub small : y < size
-  pub place : p + o ≡ y
+  pub place : p + v .offset ≡ y
 
-pub record ReadyFirst (w path : List ℕ) (o depth p y : ℕ) (Q : Positions) : Type 0 where
-  pub sound : Sound w
-  pub ready : InFirst w path o depth y Q
-  pub place : p + o ≡ y + size
+pub record ReadyFirst (w path : List ℕ) (v : View) (depth p y : ℕ) (Q : Positions) : Type 0 where
+  pub rooted : Rooted w (v .root)
+  pub ready : InFirst w path v depth y Q
+  pub place : p + v .offset ≡ y + size
 
-abbrev pub LastReady : List ℕ → List ℕ → ℕ → ℕ → ℕ → Type 0
-LastReady w path o depth p = (y : ℕ) × (Q : Positions) × ReadyLast w path o depth p y Q
+abbrev pub LastReady : List ℕ → List ℕ → View → ℕ → ℕ → Type 0
+LastReady w path v depth p = (y : ℕ) × (Q : Positions) × ReadyLast w path v depth p y Q
 
-abbrev pub FirstReady : List ℕ → List ℕ → ℕ → ℕ → ℕ → Type 0
-FirstReady w path o depth p = (y : ℕ) × (Q : Positions) × ReadyFirst w path o depth p y Q
+abbrev pub FirstReady : List ℕ → List ℕ → View → ℕ → ℕ → Type 0
+FirstReady w path v depth p = (y : ℕ) × (Q : Positions) × ReadyFirst w path v depth p y Q
 
 -- a reading at y whose run, if there is one, does not start before y
-pub record Told (w path : List ℕ) (o : ℕ) (r : Source) (y : ℕ) (Q : Positions) : Type 0 where
-  pub reads : Reads w path o r y Q
+pub record Told (w path : List ℕ) (v : View) (r : Source) (y : ℕ) (Q : Positions) : Type 0 where
+  pub reads : Reads w path v r y Q
   pub late : r .live ≡ true → y ≤ r .start
 
-abbrev pub TellsLast : List ℕ → List ℕ → List ℕ → ℕ → ℕ → ℕ → Source → Type 0
-TellsLast w path path′ o depth p r = (y : ℕ) (Q : Positions) → ReadyLast w path o depth p y Q → Told w path′ o r y Q
+abbrev pub TellsLast : List ℕ → List ℕ → List ℕ → View → ℕ → ℕ → Source → Type 0
+TellsLast w path path′ v depth p r = (y : ℕ) (Q : Positions) → ReadyLast w path v depth p y Q → Told w path′ v r y Q
 
-abbrev pub TellsFirst : List ℕ → List ℕ → List ℕ → ℕ → ℕ → ℕ → Source → Type 0
-TellsFirst w path path′ o depth p r = (y : ℕ) (Q : Positions) → ReadyFirst w path o depth p y Q → Reads w path′ o r y Q
+abbrev pub TellsFirst : List ℕ → List ℕ → List ℕ → View → ℕ → ℕ → Source → Type 0
+TellsFirst w path path′ v depth p r = (y : ℕ) (Q : Positions) → ReadyFirst w path v depth p y Q → Reads w path′ v r y Q

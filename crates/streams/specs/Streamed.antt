@@ -14,6 +14,7 @@ use Rattle.model.specs.declared.Operation.{Operation}
 use Rattle.model.specs.Numbers.{size, split}
 use Rattle.model.specs.Positions.{Positions, run, runsIn, heldRuns, stretches, combined}
 use Rattle.model.specs.Positions.Runs.{runsIn-none, runsIn-join, runsIn-first}
+use Rattle.streams.specs.declared.source.View.{View}
 use Rattle.streams.specs.declared.sweep.Joint.{Joint}
 use Rattle.streams.specs.Reading.{Clear}
 use Rattle.streams.specs.Sweeping.{Both, RunFrom, Jointly, NextJoint}
@@ -77,27 +78,27 @@ module _ {x : ℕ} {J : Positions} {rs : List Run} (p : Passed x J rs) where
         omega (arith, e)
 
 -- two sources whose join has the runs rs so far, and j as the next one
-pub record Streaming (w p : List ℕ) (o : ℕ) (w₂ p₂ : List ℕ) (o₂ : ℕ) (j : Joint) (op : Operation) (Q R : Positions) (rs : List Run) : Type 0 where
+pub record Streaming (w p : List ℕ) (u : View) (w₂ p₂ : List ℕ) (u₂ : View) (j : Joint) (op : Operation) (Q R : Positions) (rs : List Run) : Type 0 where
   pub at : ℕ
   pub small : at < size
   pub passed : Passed at (combined op Q R) rs
-  pub joint : Jointly w p o w₂ p₂ o₂ at j op Q R (j .found)
+  pub joint : Jointly w p u w₂ p₂ u₂ at j op Q R (j .found)
 
-module _ {w p : List ℕ} {o : ℕ} {w₂ p₂ : List ℕ} {o₂ : ℕ} {j : Joint} {op : Operation} {Q R : Positions} where
+module _ {w p : List ℕ} {u : View} {w₂ p₂ : List ℕ} {u₂ : View} {j : Joint} {op : Operation} {Q R : Positions} where
   -- the first run
-  pub stream-none : Jointly w p o w₂ p₂ o₂ 0 j op Q R (j .found) → Streaming w p o w₂ p₂ o₂ j op Q R []
+  pub stream-none : Jointly w p u w₂ p₂ u₂ 0 j op Q R (j .found) → Streaming w p u w₂ p₂ u₂ j op Q R []
   stream-none h = record { at = 0; small = omega arith; passed = passed-none (combined op Q R); joint = h }
 
-  module _ {rs : List Run} (s : Streaming w p o w₂ p₂ o₂ j op Q R rs) where
+  module _ {rs : List Run} (s : Streaming w p u w₂ p₂ u₂ j op Q R rs) where
     -- no more runs
     pub stream-all : j .found ≡ false → heldRuns (combined op Q R) ≡ rs
     stream-all e =
         let small = s .small in
-        passed-all (s .passed) (omega arith) (subst (λ b. Jointly w p o w₂ p₂ o₂ (s .at) j op Q R b) e (s .joint))
+        passed-all (s .passed) (omega arith) (subst (λ b. Jointly w p u w₂ p₂ u₂ (s .at) j op Q R b) e (s .joint))
 
     module _ (e : j .found ≡ true) where
-      told : Jointly w p o w₂ p₂ o₂ (s .at) j op Q R true
-      told = subst (λ b. Jointly w p o w₂ p₂ o₂ (s .at) j op Q R b) e (s .joint)
+      told : Jointly w p u w₂ p₂ u₂ (s .at) j op Q R true
+      told = subst (λ b. Jointly w p u w₂ p₂ u₂ (s .at) j op Q R b) e (s .joint)
 
       -- a run more
       pub stream-some : suc (length rs) ≤ stretches (combined op Q R)
@@ -116,16 +117,16 @@ module _ {w p : List ℕ} {o : ℕ} {w₂ p₂ : List ℕ} {o₂ : ℕ} {j : Joi
             go (inl q) = q
             go (inr q) = absurd (h (omega (arith, told .0 .small)))
 
-        pub stream-onward : Both w p o (j .left) w₂ p₂ o₂ (j .right) (j .«end» + 1) Q R
+        pub stream-onward : Both w p u (j .left) w₂ p₂ u₂ (j .right) (j .«end» + 1) Q R
         stream-onward = rw (add-one (j .«end»)) (told .1 stream-after)
 
         -- and go on to the next one
         pub stream-more :
-            {p′ p₂′ : List ℕ} {j′ : Joint} → NextJoint op w p p′ o (j .left) w₂ p₂ p₂′ o₂ (j .right) (j .«end» + 1) j′
-            → Streaming w p′ o w₂ p₂′ o₂ j′ op Q R (rs ++ (run (j .start) (j .«end») ∷ []))
+            {p′ p₂′ : List ℕ} {j′ : Joint} → NextJoint op w p p′ u (j .left) w₂ p₂ p₂′ u₂ (j .right) (j .«end» + 1) j′
+            → Streaming w p′ u w₂ p₂′ u₂ j′ op Q R (rs ++ (run (j .start) (j .«end») ∷ []))
         stream-more {p′} {p₂′} {j′} nj = record {
           at = suc (j .«end»);
           small = stream-after;
           passed = passed-more (s .passed) (told .0) stream-after;
-          joint = subst (λ x. Jointly w p′ o w₂ p₂′ o₂ x j′ op Q R (j′ .found)) (add-one (j .«end»)) (nj Q R stream-onward);
+          joint = subst (λ x. Jointly w p′ u w₂ p₂′ u₂ x j′ op Q R (j′ .found)) (add-one (j .«end»)) (nj Q R stream-onward);
         }

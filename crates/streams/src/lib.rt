@@ -1,4 +1,4 @@
-// Reading stores run by run, in order, and making a store of what is read: each node is visited once, and nothing is kept but the path to
+// Reading sets run by run, in order, and making a world of what is read: each node is visited once, and nothing is kept but the path to
 // the node at hand.
 pub mod gather;
 pub mod source;

@@ -1,4 +1,4 @@
-// A source: the runs of a store in logical order, one after the other, each a maximal run of held positions.
+// A source: the runs of a set in logical order, one after the other, each a maximal run of held positions.
 // The path has the nodes whose own run and right side are still to come, the nearest last; so each node is visited once.
 // Under an offset o the logical positions o .. M are kept at 0 .. M - o, and those below o at the places above them: a reading from below o
 // has a first part, up to physical M, and a last part, from physical 0 on.
@@ -6,12 +6,16 @@ ghost use mathlib.Core.Path.{_≡_};
 ghost use mathlib.Core.Bool.{true, false};
 ghost use Prim.Native.Nat.{_≤_};
 ghost use lib.ListN.{length};
-ghost use Rattle.model.specs.Positions.{mem};
-ghost use Rattle.store.specs.Layout.{turned, physicalRuns};
-ghost use Rattle.store.specs.Soundness.{Sound};
-ghost use Rattle.streams.specs.Reading.{Reads, Descendable, Descends, Poppable, Pops, Stacked, TellsZero, LastReady, FirstReady, TellsLast, TellsFirst, Advanceable, Advances, Covers};
+ghost use Rattle.store.specs.Layout.{heldFrom};
+ghost use Rattle.streams.specs.Reading.{Rooted, Reads, Descendable, Descends, Poppable, Pops, Stacked, TellsZero, LastReady, FirstReady, TellsLast, TellsFirst, Advanceable, Advances, Covers};
 use model::Logical;
 use model::Physical;
+
+// From where a set is read: the root of its tree, and the offset.
+pub struct View {
+    pub root: u64,
+    pub offset: u64,
+}
 
 // The run at hand, if there is one; how many nodes are on the path; and whether the last part is being read.
 pub struct Source {
@@ -78,19 +82,19 @@ fn pop(words: &[u64], path: &mut [u64; 22], depth: u64) -> Popped
 }
 
 // The next run of the last part, whose runs end at p or later.
-fn from_last(words: &[u64], path: &mut [u64; 22], offset: u64, depth: u64, p: u64) -> Source
-    requires { ⌜ LastReady (now words) (now path) offset depth p ⌝ }
-    ensures { λ r. ⌜ TellsLast (now (words .entry)) (now (path .entry)) (now (path .exit)) offset depth p r ⌝ }
+fn from_last(words: &[u64], path: &mut [u64; 22], v: View, depth: u64, p: u64) -> Source
+    requires { ⌜ LastReady (now words) (now path) v depth p ⌝ }
+    ensures { λ r. ⌜ TellsLast (now (words .entry)) (now (path .entry)) (now (path .exit)) v depth p r ⌝ }
 {
     if depth == 0 {
         return over();
     }
     let x = pop(words, path, depth);
-    let top = u64::MAX - offset;
+    let top = u64::MAX - v.offset;
     if x.start > top {
         return over();
     }
-    let a = model::to_logical(Physical(run_index::larger(x.start, p)), offset);
+    let a = model::to_logical(Physical(run_index::larger(x.start, p)), v.offset);
     if x.end > top {
         return Source {
             live: true,
@@ -100,7 +104,7 @@ fn from_last(words: &[u64], path: &mut [u64; 22], offset: u64, depth: u64, p: u6
             last: true,
         };
     }
-    let b = model::to_logical(Physical(x.end), offset);
+    let b = model::to_logical(Physical(x.end), v.offset);
     Source {
         live: true,
         start: a.0,
@@ -123,19 +127,18 @@ fn starts_at_zero(words: &[u64], path: &[u64; 22], depth: u64) -> bool
 }
 
 // The next run of the first part, whose runs end at p or later; a run that reaches physical M goes on with the one at physical 0.
-fn from_first(words: &[u64], path: &mut [u64; 22], offset: u64, depth: u64, p: u64) -> Source
-    requires { ⌜ FirstReady (now words) (now path) offset depth p ⌝ }
-    ensures { λ r. ⌜ TellsFirst (now (words .entry)) (now (path .entry)) (now (path .exit)) offset depth p r ⌝ }
+fn from_first(words: &[u64], path: &mut [u64; 22], v: View, depth: u64, p: u64) -> Source
+    requires { ⌜ FirstReady (now words) (now path) v depth p ⌝ }
+    ensures { λ r. ⌜ TellsFirst (now (words .entry)) (now (path .entry)) (now (path .exit)) v depth p r ⌝ }
 {
-    let h = store::read_header(words);
     if depth == 0 {
-        let d = descend(words, path, 0, h.root, 0);
-        return from_last(words, path, offset, d, 0);
+        let d = descend(words, path, 0, v.root, 0);
+        return from_last(words, path, v, d, 0);
     }
     let x = pop(words, path, depth);
-    let a = model::to_logical(Physical(run_index::larger(x.start, p)), offset);
+    let a = model::to_logical(Physical(run_index::larger(x.start, p)), v.offset);
     if x.end < u64::MAX {
-        let b = model::to_logical(Physical(x.end), offset);
+        let b = model::to_logical(Physical(x.end), v.offset);
         return Source {
             live: true,
             start: a.0,
@@ -144,9 +147,9 @@ fn from_first(words: &[u64], path: &mut [u64; 22], offset: u64, depth: u64, p: u
             last: false,
         };
     }
-    let d = descend(words, path, 0, h.root, 0);
+    let d = descend(words, path, 0, v.root, 0);
     if starts_at_zero(words, path, d) {
-        let y = from_last(words, path, offset, d, 0);
+        let y = from_last(words, path, v, d, 0);
         return Source {
             live: true,
             start: a.0,
@@ -158,46 +161,45 @@ fn from_first(words: &[u64], path: &mut [u64; 22], offset: u64, depth: u64, p: u
     Source {
         live: true,
         start: a.0,
-        end: offset - 1,
+        end: v.offset - 1,
         depth: d,
         last: true,
     }
 }
 
-// Begins a reading at a logical position, with the store's runs under an offset.
-pub fn open(words: &[u64], path: &mut [u64; 22], offset: u64, from: u64) -> Source
-    requires { ⌜ Sound (now words) ⌝ }
+// Begins a reading at a logical position.
+pub fn open(words: &[u64], path: &mut [u64; 22], v: View, from: u64) -> Source
+    requires { ⌜ Rooted (now words) (v .root) ⌝ }
     requires { ⌜ length (now path) ≡ 22 ⌝ }
-    ensures { λ r. ⌜ Reads (now (words .entry)) (now (path .exit)) offset r from (turned offset (mem (physicalRuns (now (words .entry))))) ⌝ }
+    ensures { λ r. ⌜ Reads (now (words .entry)) (now (path .exit)) v r from (heldFrom (now (words .entry)) (v .root) (v .offset)) ⌝ }
 {
-    let h = store::read_header(words);
-    let p = model::to_physical(Logical(from), offset);
-    let d = descend(words, path, 0, h.root, p.0);
-    if from < offset {
-        return from_first(words, path, offset, d, p.0);
+    let p = model::to_physical(Logical(from), v.offset);
+    let d = descend(words, path, 0, v.root, p.0);
+    if from < v.offset {
+        return from_first(words, path, v, d, p.0);
     }
-    from_last(words, path, offset, d, p.0)
+    from_last(words, path, v, d, p.0)
 }
 
 // Goes on to the next run.
-pub fn advance(words: &[u64], path: &mut [u64; 22], offset: u64, s: Source) -> Source
-    requires { ⌜ Advanceable (now words) (now path) offset s ⌝ }
-    ensures { λ r. ⌜ Advances (now (words .entry)) (now (path .entry)) (now (path .exit)) offset s r ⌝ }
+pub fn advance(words: &[u64], path: &mut [u64; 22], v: View, s: Source) -> Source
+    requires { ⌜ Advanceable (now words) (now path) v s ⌝ }
+    ensures { λ r. ⌜ Advances (now (words .entry)) (now (path .entry)) (now (path .exit)) v s r ⌝ }
 {
     if s.end == u64::MAX {
         return over();
     }
-    let p = model::to_physical(Logical(s.end + 1), offset);
+    let p = model::to_physical(Logical(s.end + 1), v.offset);
     if !s.last {
-        return from_first(words, path, offset, s.depth, p.0);
+        return from_first(words, path, v, s.depth, p.0);
     }
     if s.depth == 0 {
         return over();
     }
-    from_last(words, path, offset, s.depth, p.0)
+    from_last(words, path, v, s.depth, p.0)
 }
 
-// A source of one run, which no store is needed for.
+// A source of one run, which no tree is needed for.
 pub fn single(start: u64, end: u64) -> Source
     requires { ⌜ start ≤ «end» ⌝ }
     ensures { λ r. ⌜ Covers r start «end» ⌝ }

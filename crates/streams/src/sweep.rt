@@ -4,6 +4,7 @@ ghost use Prim.Native.Nat.{min};
 ghost use Rattle.model.specs.Positions.{apply};
 ghost use Rattle.streams.specs.Sweeping.{ValueAt, SameTo, Movable, Moves, Joinable, Reaches, NextJoint};
 use crate::source::Source;
+use crate::source::View;
 use model::Operation;
 
 // The values of two sets, joined.
@@ -36,13 +37,13 @@ pub fn same_to(s: Source, x: u64) -> u64
 }
 
 // The source moved on to x, which is at most one past its run.
-pub fn moved(words: &[u64], path: &mut [u64; 22], offset: u64, s: Source, x: u64) -> Source
-    requires { ⌜ Movable (now words) (now path) offset s x ⌝ }
-    ensures { λ r. ⌜ Moves (now (words .entry)) (now (path .entry)) (now (path .exit)) offset s x r ⌝ }
+pub fn moved(words: &[u64], path: &mut [u64; 22], v: View, s: Source, x: u64) -> Source
+    requires { ⌜ Movable (now words) (now path) v s x ⌝ }
+    ensures { λ r. ⌜ Moves (now (words .entry)) (now (path .entry)) (now (path .exit)) v s x r ⌝ }
 {
     if s.live {
         if s.end < x {
-            return crate::source::advance(words, path, offset, s);
+            return crate::source::advance(words, path, v, s);
         }
     }
     s
@@ -67,17 +68,17 @@ fn reach(
     op: Operation,
     x: &[u64],
     xp: &mut [u64; 22],
-    xo: u64,
+    xv: View,
     s: Source,
     y: &[u64],
     yp: &mut [u64; 22],
-    yo: u64,
+    yv: View,
     t: Source,
     from: u64,
     value: bool,
 ) -> Reached
-    requires { ⌜ Joinable (now x) (now xp) xo s (now y) (now yp) yo t «from» ⌝ }
-    ensures { λ r. ⌜ Reaches op (now (x .entry)) (now (xp .entry)) (now (xp .exit)) xo s (now (y .entry)) (now (yp .entry)) (now (yp .exit)) yo t «from» value r ⌝ }
+    requires { ⌜ Joinable (now x) (now xp) xv s (now y) (now yp) yv t «from» ⌝ }
+    ensures { λ r. ⌜ Reaches op (now (x .entry)) (now (xp .entry)) (now (xp .exit)) xv s (now (y .entry)) (now (yp .entry)) (now (yp .exit)) yv t «from» value r ⌝ }
 {
     let mut l = s;
     let mut r = t;
@@ -94,8 +95,8 @@ fn reach(
             };
         }
         at = last + 1;
-        l = moved(x, xp, xo, l, at);
-        r = moved(y, yp, yo, r, at);
+        l = moved(x, xp, xv, l, at);
+        r = moved(y, yp, yv, r, at);
         v = join(op, value_at(l, at), value_at(r, at));
     }
     Reached {
@@ -120,18 +121,18 @@ pub fn next_run(
     op: Operation,
     x: &[u64],
     xp: &mut [u64; 22],
-    xo: u64,
+    xv: View,
     s: Source,
     y: &[u64],
     yp: &mut [u64; 22],
-    yo: u64,
+    yv: View,
     t: Source,
     from: u64,
 ) -> Joint
-    requires { ⌜ Joinable (now x) (now xp) xo s (now y) (now yp) yo t «from» ⌝ }
-    ensures { λ r. ⌜ NextJoint op (now (x .entry)) (now (xp .entry)) (now (xp .exit)) xo s (now (y .entry)) (now (yp .entry)) (now (yp .exit)) yo t «from» r ⌝ }
+    requires { ⌜ Joinable (now x) (now xp) xv s (now y) (now yp) yv t «from» ⌝ }
+    ensures { λ r. ⌜ NextJoint op (now (x .entry)) (now (xp .entry)) (now (xp .exit)) xv s (now (y .entry)) (now (yp .entry)) (now (yp .exit)) yv t «from» r ⌝ }
 {
-    let a = reach(op, x, xp, xo, s, y, yp, yo, t, from, true);
+    let a = reach(op, x, xp, xv, s, y, yp, yv, t, from, true);
     let l = a.left;
     let r = a.right;
     let start = a.at;
@@ -144,7 +145,7 @@ pub fn next_run(
             right: r,
         };
     }
-    let b = reach(op, x, xp, xo, l, y, yp, yo, r, start, false);
+    let b = reach(op, x, xp, xv, l, y, yp, yv, r, start, false);
     let m = b.left;
     let n = b.right;
     if b.found {

@@ -2,4 +2,5 @@
 pub mod Digits
 pub mod Ordered
 pub mod Listing
+pub mod Telling
 pub mod Writing

@@ -1,25 +1,30 @@
--- Runs on their way into a store: written one after the other into the nodes 1, 2, .., they are what these nodes hold, and in order they
--- can be linked. Any reader's runs are a list rs, and its i-th one is what is written. Assumes nothing.
+-- Runs on their way into a world: laid one after the other into the free chain they are what its first nodes hold, and in order they become
+-- the world's. Any reader's runs are a list rs, and its i-th one is what is laid. Assumes nothing.
 use Prim.Native.Nat.{ℕ, zero, suc, _+_, _*_, _≤_, _<_}
-use mathlib.Core.Path.{_≡_, refl, ap, _∙_}
+use mathlib.Core.Path.{_≡_, refl, ap, _∙_, subst}
 use mathlib.Core.Bool.{true}
-use mathlib.Core.List.{List, [], _∷_, _++_}
+use mathlib.Core.List.{List}
 use native.Mathlib.Omega.{arith}
+use native.Mathlib.Numerals.{add-one}
 use lib.ListN.{length, take, drop, getD}
 use lib.Seq.{take-suc, take-all, getD-drop}
 use mir.Syntax.{w64}
 use mir.Val.{Fits}
 use Rattle.model.specs.declared.Run.{Run}
-use Rattle.model.specs.Places.{capacityOf}
-use Rattle.model.specs.Positions.{run, mem}
+use Rattle.model.specs.Positions.{run}
 use Rattle.model.specs.Codec.{AllWords, ordered-canon}
 use Rattle.model.specs.Refusals.{orderedFrom}
-use Rattle.run_index.specs.Cells.{Room, Wrote}
-use Rattle.store.specs.Layout.{capacity}
-use Rattle.store.specs.Settle.{nodeOf, Settled, Linkable, Links}
-use Rattle.store.proofs.Nodes.{sized-length}
-use Rattle.store.proofs.Settling.{runs-put}
-use Rattle.written.specs.Listed.{pairs, Receives, Listed}
+use Rattle.run_index.specs.Cells.{Room}
+use Rattle.run_index.specs.Strung.{FreeChain, Filled, Fillable}
+use Rattle.run_index.specs.Strung
+use Rattle.run_index.proofs.Laying.{filled-none, filled-step, next-room, left-over}
+use Rattle.store.specs.declared.World.{World}
+use Rattle.store.specs.declared.Links.{Links}
+use Rattle.store.specs.Layout.{linksOf}
+use Rattle.store.specs.Free.{Keepable, GivesBack}
+use Rattle.store.specs.Settle.{Lays, Linkable, LinksUp}
+use Rattle.store.proofs.Replacing.{replace-fillable, replace-linkable, replaced}
+use Rattle.written.specs.Listed.{pairs, Receives, Received}
 
 -- ---- a list of words
 -- as many runs as are asked for
@@ -48,47 +53,57 @@ unfolding pairs
 pairs-words zero ws f = tt
 pairs-words (suc n) ws f = (omega (arith, f 0), omega (arith, f 1), pairs-words n (drop 2 ws) (λ i. rw (getD-drop 2 ws i 0) (f (2 + i))))
 
--- ---- writing them
--- nothing is written yet
-pub listed-none : (w : List ℕ) (rs : List Run) → Listed w w 0 (take 0 rs)
-listed-none w rs = record { runs-are = refl; long = refl }
+-- ---- laying them
+-- in any free chain from head on that is long enough, the first nodes hold i of the n runs rs, and the others are free from q on
+pub record Laying (w₀ w : List ℕ) (head n q i : ℕ) (rs : List Run) : Type 0 where
+  pub upto : i ≤ n
+  pub many : length rs ≡ n
+  pub fills : (ns : List ℕ) → FreeChain w₀ head ns → n ≤ length ns → Filled w₀ w head q i ns (take i rs)
 
--- the next run is written into the next node
-pub listed-step : {w₀ w w′ : List ℕ} {i a b : ℕ} (rs : List Run) → i < length rs → getD rs i (run 0 0) ≡ run a b → Listed w₀ w i (take i rs)
-    → Wrote w w′ (i + 1) (nodeOf a b) → Listed w₀ w′ (i + 1) (take (i + 1) rs)
-listed-step {w₀} {w} {w′} {i} {a} {b} rs h e l wr =
-    let s : take (i + 1) rs ≡ take i rs ++ (run a b ∷ []) =
-    let g : i + 1 ≡ suc i = omega arith in rw (g, take-suc rs i (run 0 0) h, e) in
-    record {
-      runs-are = runs-put w w′ i a b wr ∙ rw (l .runs-are, s);
-      long = wr .long ∙ l .long;
-    }
+-- none lies there yet
+pub laying-none : {w : List ℕ} {head n : ℕ} (rs : List Run) → length rs ≡ n → Laying w w head n head 0 rs
+laying-none rs e = record { upto = omega arith; many = e; fills = λ ns c h. filled-none ns c }
 
--- all are written
-pub listed-all : {w₀ w : List ℕ} {i n : ℕ} (rs : List Run) → length rs ≡ n → i ≤ n → n ≤ i → Listed w₀ w i (take i rs) → Listed w₀ w n rs
-listed-all {w₀} {w} {i} {n} rs e le ge l =
-    let q : i ≡ n = omega arith in
-    record { runs-are = rw (← q) (l .runs-are ∙ take-all i rs (omega arith)); long = l .long }
+module _ {w₀ w : List ℕ} {head n q i : ℕ} {rs : List Run} (l : Laying w₀ w head n q i rs) where
+  -- the slice is as long
+  pub laying-long : Fillable w₀ head n → length w ≡ length w₀
+  laying-long f = l .fills (f .0) (f .1) (f .2) .long
 
--- there is room for it
-pub listed-room : {w₀ w : List ℕ} {n i : ℕ} {rs : List Run} → Receives w₀ n → Listed w₀ w i rs → i < n → Room w (i + 1)
-listed-room {w₀} r l lt = omega (arith, r .few, l .long, sized-length w₀ (r .sized))
+  -- the next node has room
+  pub laying-room : Fillable w₀ head n → i < n → Room w q
+  laying-room f lt = let g = l .fills (f .0) (f .1) (f .2) in next-room w q (g .ys) (g .free) (omega (arith, left-over g, f .2))
 
--- ---- making a store of them
--- runs in order can be linked
-pub listed-linkable : {w w′ : List ℕ} {n : ℕ} {rs : List Run} → Receives w n → AllWords rs → orderedFrom 0 rs ≡ true → Listed w w′ n rs → Linkable w′ n
-listed-linkable {w} {w′} {n} {rs} r a o l =
-    let cap : capacity w′ ≡ capacity w = ap capacityOf (l .long) in
-    record {
-      sized = omega (arith, r .sized);
-      few = omega (arith, r .few);
-      canonical = rw (l .runs-are) (ordered-canon 0 rs a o);
-    }
+  -- the next run is laid into it
+  pub laying-step : {w′ : List ℕ} {r a b : ℕ} → i < n → getD rs i (run 0 0) ≡ run a b → Strung.Lays w w′ r q a b → Laying w₀ w′ head n r (i + 1) rs
+  laying-step lt e ly = record {
+    upto = omega arith;
+    many = l .many;
+    fills = λ ns c h. rw (add-one i, take-suc rs i (run 0 0) (omega (arith, l .many)), e) (rw (add-one i) at (filled-step c (l .fills ns c h) (omega arith) ly));
+  }
 
--- and the store then holds them
-pub listed-settled : {w w′ w″ : List ℕ} {n : ℕ} {rs : List Run} → Listed w w′ n rs → Links w′ w″ n → Settled w w″ (mem rs)
-listed-settled l s = record {
-  sound = s .sound;
-  holds = λ x lt. s .holds x lt ∙ rw (l .runs-are);
-  long = s .long ∙ l .long;
-}
+  -- all are laid
+  pub laying-all : n ≤ i → Lays w₀ w head n rs
+  laying-all ge ns c h =
+      let e : i ≡ n = omega (arith, l .upto) in
+      let all : take i rs ≡ rs = take-all i rs (omega (arith, l .many)) in
+      (q, subst (λ (j : ℕ). Filled w₀ w head q j ns rs) e (rw all at (l .fills ns c h)))
+
+-- ---- giving them to a world, whose links are x
+module _ {w : List ℕ} {h : World} {x : Links} (links : x ≡ linksOf h) where
+  -- its tree can be given back
+  pub receive-keepable : {n : ℕ} → Receives w h n → Keepable w x
+  receive-keepable v = rw links (v .0, v .1 .tree, v .1 .free, v .1 .kept)
+
+  module _ {w₁ : List ℕ} {k : Links} (gb : GivesBack w w₁ x k) where
+    -- then n runs can be laid
+    pub receive-fillable : {n : ℕ} → Receives w h n → Fillable w₁ (k .free) n
+    receive-fillable v = replace-fillable (v .1) (rw links at gb) (v .2)
+
+    module _ {w₂ : List ℕ} {n : ℕ} {rs : List Run} (words : AllWords rs) (ordered : orderedFrom 0 rs ≡ true) (ly : Lays w₁ w₂ (k .free) n rs) where
+      -- in order they can be linked up
+      pub receive-linkable : Receives w h n → Linkable w₂ k n
+      receive-linkable v = replace-linkable (v .1) (rw links at gb) (v .2) ly (ordered-canon 0 rs words ordered)
+
+      -- and the world has them
+      pub received : {w₃ : List ℕ} {r : World} → LinksUp w₂ w₃ k n r → Received w w₃ h n r rs
+      received lu = λ s st few. replaced st (rw links at gb) few ly (ordered-canon 0 rs words ordered) lu

@@ -39,38 +39,40 @@ module _ (first : Bool) (last a b : ℕ) where
       go (inr l) = le-leb 2 (a - last) (omega arith) ∙ sym (le-leb (last + 2) a l)
 
 -- ---- a list of them
--- the first i runs passed, and the last of them ended at last
-pub record Passed (rs : List Run) (i last : ℕ) : Type 0 where
+-- i of the n runs passed, and the last of them ended at last
+pub record Passed (rs : List Run) (n i last : ℕ) : Type 0 where
+  pub upto : i ≤ n
+  pub many : length rs ≡ n
   pub rest : orderedFrom 0 rs ≡ orderedFrom (leastAfter (eqb i 0) last) (drop i rs)
 
 -- none was tested yet
-pub passed-none : (rs : List Run) → Passed rs 0 0
-passed-none rs = record { rest = refl }
+pub passed-none : (rs : List Run) {n : ℕ} → length rs ≡ n → Passed rs n 0 0
+passed-none rs e = record { upto = omega arith; many = e; rest = refl }
 
--- the order from run i on
-passed-next : (rs : List Run) (i k : ℕ) (a b : ℕ) → i < length rs → getD rs i (run 0 0) ≡ run a b
-    → orderedFrom k (drop i rs) ≡ ((leb k a && leb a b) && orderedFrom (b + 2) (drop (suc i) rs))
-unfolding orderedFrom
-passed-next rs i k a b h e = rw (drop-cons rs i (run 0 0) h, e) (go (leb k a) (leb a b) (orderedFrom (b + 2) (drop (suc i) rs)))
-  where
-    go : (x y z : Bool) → (x && (y && z)) ≡ ((x && y) && z)
-    go true y z = refl
-    go false y z = refl
+module _ {rs : List Run} {n i last : ℕ} (p : Passed rs n i last) where
+  -- all have passed
+  pub passed-all : n ≤ i → true ≡ orderedFrom 0 rs
+  unfolding orderedFrom
+  passed-all h = let l : length rs ≤ i = omega (arith, p .many) in sym (p .rest ∙ rw (drop-of-length-le rs l))
 
--- run i passes
-pub passed-step : (rs : List Run) {i last a b : ℕ} {r : Bool} → i < length rs → getD rs i (run 0 0) ≡ run a b → Passed rs i last
-    → r ≡ (leb (leastAfter (eqb i 0) last) a && leb a b) → not r ≡ false → Passed rs (i + 1) b
-passed-step rs {i} {last} {a} {b} {r} h e p q t =
-    let f : eqb (i + 1) 0 ≡ false = ne-eqb (i + 1) 0 (λ z. omega arith) in
-    let g : suc i ≡ i + 1 = omega arith in
-    record { rest = p .rest ∙ passed-next rs i (leastAfter (eqb i 0) last) a b h e ∙ rw (← q, not-false r t, f, g) }
+  module _ {a b : ℕ} {r : Bool} (h : i < n) (e : getD rs i (run 0 0) ≡ run a b) (q : r ≡ (leb (leastAfter (eqb i 0) last) a && leb a b)) where
+    -- the order is that of run i and of those after it
+    passed-next : orderedFrom 0 rs ≡ (r && orderedFrom (b + 2) (drop (suc i) rs))
+    unfolding orderedFrom
+    passed-next =
+        p .rest ∙ rw (drop-cons rs i (run 0 0) (omega (arith, p .many)), e, q) (go (leb (leastAfter (eqb i 0) last) a) (leb a b) (orderedFrom (b + 2) (drop (suc i) rs)))
+      where
+        go : (x y z : Bool) → (x && (y && z)) ≡ ((x && y) && z)
+        go true y z = refl
+        go false y z = refl
 
--- run i does not pass, so the list is not in order
-pub passed-fail : (rs : List Run) {i last a b : ℕ} {r : Bool} → i < length rs → getD rs i (run 0 0) ≡ run a b → Passed rs i last
-    → r ≡ (leb (leastAfter (eqb i 0) last) a && leb a b) → not r ≡ true → false ≡ orderedFrom 0 rs
-passed-fail rs {i} {last} {a} {b} {r} h e p q t = sym (p .rest ∙ passed-next rs i (leastAfter (eqb i 0) last) a b h e ∙ rw (← q, not-true r t))
+    -- run i passes
+    pub passed-step : not r ≡ false → Passed rs n (i + 1) b
+    passed-step t =
+        let f : eqb (i + 1) 0 ≡ false = ne-eqb (i + 1) 0 (λ z. omega arith) in
+        let g : suc i ≡ i + 1 = omega arith in
+        record { upto = omega arith; many = p .many; rest = passed-next ∙ rw (not-false r t, f, g) }
 
--- all have passed
-pub passed-all : (rs : List Run) {i last : ℕ} → length rs ≤ i → Passed rs i last → true ≡ orderedFrom 0 rs
-unfolding orderedFrom
-passed-all rs h p = sym (p .rest ∙ rw (drop-of-length-le rs h))
+    -- run i does not pass, so the list is not in order
+    pub passed-fail : not r ≡ true → false ≡ orderedFrom 0 rs
+    passed-fail t = sym (passed-next ∙ rw (not-true r t))

@@ -9,15 +9,13 @@ use native.Mathlib.Omega.{arith}
 use lib.ListN.{length, set, length-set, length-append}
 use Rattle.model.specs.declared.Run.{Run}
 use Rattle.model.specs.Numbers.{size, split}
-use Rattle.model.specs.Positions.{Positions, run, mem, heldRuns, stretches}
+use Rattle.model.specs.Positions.{Positions, run, heldRuns, stretches}
 use Rattle.model.specs.Bytes.{bigEndian, encodeRuns, encode, intoFront}
 use Rattle.model.specs.Codec.{bigEndian-length, encodeRuns-length, encodeRuns-append}
-use Rattle.store.specs.declared.Header.{Header}
-use Rattle.store.specs.Layout.{headerAt, physicalRuns, turned, heldBy}
-use Rattle.store.specs.Soundness.{Sound}
 use Rattle.store.specs.Ends.{clash}
+use Rattle.streams.specs.declared.source.View.{View}
 use Rattle.streams.specs.declared.source.Source.{Source}
-use Rattle.streams.specs.Reading.{Current, Stands, Reads, AtRun, Advances}
+use Rattle.streams.specs.Reading.{Rooted, Current, Stands, Reads, AtRun, Advances}
 use Rattle.streams.specs.Sweeping.{RunFrom}
 use Rattle.streams.specs.Streamed.{Passed, passed-none, passed-more, passed-last, passed-all, passed-some}
 use Rattle.written.specs.Placed.{placed}
@@ -104,19 +102,19 @@ module _ (out : List ℕ) (h : 5 ≤ length out) where
       ap length p ∙ placed-length 1 (bigEndian 4 n) (set out 0 1) (omega (arith, front-room)) ∙ length-set out 0 1
 
 -- ---- the loop: the bytes of the runs seen stand from the fifth on, and the reading stands where they end
-pub record Writes (w path : List ℕ) (o : ℕ) (s : Source) (J : Positions) (out₀ out : List ℕ) (at : ℕ) : Type 0 where
+pub record Writes (w path : List ℕ) (v : View) (s : Source) (J : Positions) (out₀ out : List ℕ) (at : ℕ) : Type 0 where
   pub here : ℕ
   pub seen : List Run
   pub within : here ≤ size
   pub passed : Passed here J seen
-  pub reads : Reads w path o s here J
+  pub reads : Reads w path v s here J
   pub bytes : out ≡ placed 5 (encodeRuns seen) out₀
   pub place : at ≡ 5 + 16 * length seen
   pub fits : at ≤ length out₀
 
-module _ {w path : List ℕ} {o : ℕ} {s : Source} {J : Positions} {out₀ : List ℕ} where
+module _ {w path : List ℕ} {v : View} {s : Source} {J : Positions} {out₀ : List ℕ} where
   -- no run yet
-  writes-none : Reads w path o s 0 J → 5 ≤ length out₀ → Writes w path o s J out₀ out₀ 5
+  pub writes-none : Reads w path v s 0 J → 5 ≤ length out₀ → Writes w path v s J out₀ out₀ 5
   unfolding encodeRuns
   writes-none r h = record {
     here = 0;
@@ -129,56 +127,47 @@ module _ {w path : List ℕ} {o : ℕ} {s : Source} {J : Positions} {out₀ : Li
     fits = h;
   }
 
-  module _ {out : List ℕ} {at : ℕ} (k : Writes w path o s J out₀ out at) where
+  module _ {out : List ℕ} {at : ℕ} (k : Writes w path v s J out₀ out at) where
     -- the slice stays as long
     pub writes-long : length out ≡ length out₀
     writes-long =
         ap length (k .bytes) ∙ placed-length 5 (encodeRuns (k .seen)) out₀ (omega (arith, encodeRuns-length (k .seen), k .place, k .fits))
 
     -- no more runs
-    pub writes-all : s .live ≡ false → (heldRuns J ≡ k .seen)
-    writes-all e = passed-all (k .passed) (k .within) (subst (Stands w path o s (k .here) J) e (k .reads))
+    writes-all : s .live ≡ false → heldRuns J ≡ k .seen
+    writes-all e = passed-all (k .passed) (k .within) (subst (Stands w path v s (k .here) J) e (k .reads))
 
     module _ (e : s .live ≡ true) where
       at-hand : RunFrom (k .here) (s .start) (s .«end») J
-      at-hand = run-from (k .passed) (subst (Stands w path o s (k .here) J) e (k .reads) .0)
+      at-hand = run-from (k .passed) (subst (Stands w path v s (k .here) J) e (k .reads) .0)
 
       -- there is room for the run at hand
       pub writes-room : 5 + 16 * stretches J ≤ length out₀ → at + 16 ≤ length out₀
       writes-room h = omega (arith, passed-some (k .passed) at-hand, k .place)
 
       -- as advancing asks it
-      pub writes-run : Sound w → AtRun w path o s (k .here) J
-      writes-run sd = record { sound = sd; alive = e; reads = k .reads }
+      pub writes-run : Rooted w (v .root) → AtRun w path v s (k .here) J
+      writes-run ro = record { rooted = ro; alive = e; reads = k .reads }
 
       -- the run at hand is written, and the reading goes on
-      pub writes-more : Sound w → J size ≡ false → 5 + 16 * stretches J ≤ length out₀ → {path′ o₁ o₂ : List ℕ} {s′ : Source}
-          → o₁ ≡ placed at (bigEndian 8 (s .start)) out → o₂ ≡ placed (at + 8) (bigEndian 8 (s .«end»)) o₁ → Advances w path path′ o s s′
-          → Writes w path′ o s′ J out₀ o₂ (at + 16)
-      writes-more sd f h {path′} {o₁} {o₂} {s′} p q adv = record {
+      pub writes-more : Rooted w (v .root) → J size ≡ false → 5 + 16 * stretches J ≤ length out₀ → {path′ o₁ o₂ : List ℕ} {s′ : Source}
+          → o₁ ≡ placed at (bigEndian 8 (s .start)) out → o₂ ≡ placed (at + 8) (bigEndian 8 (s .«end»)) o₁ → Advances w path path′ v s s′
+          → Writes w path′ v s′ J out₀ o₂ (at + 16)
+      writes-more ro f h {path′} {o₁} {o₂} {s′} p q adv = record {
         here = suc (s .«end»);
         seen = k .seen ++ (run (s .start) (s .«end») ∷ []);
         within = at-hand .small;
         passed = passed-next (k .passed) f at-hand;
-        reads = adv (k .here) J (writes-run sd);
+        reads = adv (k .here) J (writes-run ro);
         bytes = run-placed out₀ out o₁ o₂ (k .seen) at (s .start) (s .«end») (k .place) (writes-room h) (k .bytes) p q;
         place = omega (arith, k .place, length-append (k .seen) (run (s .start) (s .«end») ∷ []));
         fits = writes-room h;
       }
 
--- ---- the whole
--- under the header's offset the store's own positions are read
-pub writes-begun : {w path : List ℕ} {h : Header} {s : Source} {out₀ : List ℕ} → h ≡ headerAt w
-    → Reads w path (h .offset) s 0 (turned (h .offset) (mem (physicalRuns w))) → 5 ≤ length out₀ → Writes w path (h .offset) s (heldBy w) out₀ out₀ 5
-unfolding heldBy
-writes-begun {w} {path} {h} {s} e r =
-    writes-none (subst (λ (g : Header). Reads w path (h .offset) s 0 (turned (g .offset) (mem (physicalRuns w)))) e r)
-
--- all runs are written behind their number
-pub writes-set : {w path : List ℕ} {o : ℕ} {s : Source} (out : List ℕ) {o₁ o₂ : List ℕ} {n at : ℕ} → n ≡ stretches (heldBy w) → 5 + 16 * stretches (heldBy w) ≤ length out
-    → o₁ ≡ placed 1 (bigEndian 4 n) (set out 0 1) → Writes w path o s (heldBy w) o₁ o₂ at → s .live ≡ false → o₂ ≡ intoFront (encode (heldRuns (heldBy w))) out
-unfolding stretches
-writes-set {w} out {o₁} {o₂} en h p k e =
-    let rs : List Run = heldRuns (heldBy w) in
-    let q : rs ≡ k .seen = writes-all k e in
-    all-placed out o₁ o₂ rs h (p ∙ ap (λ (m : ℕ). placed 1 (bigEndian 4 m) (set out 0 1)) en) (k .bytes ∙ ap (λ (l : List Run). placed 5 (encodeRuns l) o₁) (sym q))
+    -- all runs are written behind their number
+    pub writes-set : (out₁ : List ℕ) {n : ℕ} → n ≡ stretches J → 5 + 16 * stretches J ≤ length out₁ → out₀ ≡ placed 1 (bigEndian 4 n) (set out₁ 0 1) → s .live ≡ false
+        → out ≡ intoFront (encode (heldRuns J)) out₁
+    unfolding stretches
+    writes-set out₁ en h p e =
+        all-placed out₁ out₀ out (heldRuns J) h (p ∙ ap (λ (m : ℕ). placed 1 (bigEndian 4 m) (set out₁ 0 1)) en)
+        (k .bytes ∙ ap (λ (l : List Run). placed 5 (encodeRuns l) out₀) (sym (writes-all e)))

@@ -1,3 +1,4 @@
 pub mod Placed
 pub mod Placing
 pub mod Listed
+pub mod Told

@@ -4,10 +4,11 @@ ghost use mathlib.Core.Bool.{_&&_, true};
 ghost use Prim.Native.Nat.{_+_, _*_, _≤_};
 ghost use lib.Dec.{leb};
 ghost use lib.ListN.{length};
-ghost use Rattle.model.specs.Positions.{mem};
 ghost use Rattle.model.specs.Refusals.{orderedFrom};
-ghost use Rattle.store.specs.Settle.{Settled};
-ghost use Rattle.written.specs.Listed.{leastAfter, pairs, Receives, Listed};
+ghost use Rattle.run_index.specs.Strung.{Fillable};
+ghost use Rattle.store.specs.Settle.{Lays};
+ghost use Rattle.written.specs.Listed.{leastAfter, pairs, Receives, Received};
+use store::World;
 
 // Whether the run start..=end may follow a run that ended at `last`, or be the first.
 pub fn follows(first: bool, last: u64, start: u64, end: u64) -> bool
@@ -46,29 +47,31 @@ pub fn in_order(runs: &[u64], n: u64) -> bool
     true
 }
 
-// Writes the first n runs of a list into the nodes 1 to n.
-pub fn put_runs(into: &mut [u64], runs: &[u64], n: u64)
-    requires { ⌜ Receives (now into) n ⌝ }
+// Lays the first n runs of a list into the free chain from `head` on.
+pub fn put_runs(into: &mut [u64], head: u64, runs: &[u64], n: u64)
+    requires { ⌜ Fillable (now into) head n ⌝ }
     requires { ⌜ 2 * n ≤ length (now runs) ⌝ }
-    ensures { λ _. ⌜ Listed (now (into .entry)) (now (into .exit)) n (pairs n (now (runs .entry))) ⌝ }
+    ensures { λ _. ⌜ Lays (now (into .entry)) (now (into .exit)) head n (pairs n (now (runs .entry))) ⌝ }
 {
     let mut i: u64 = 0;
     let mut at: usize = 0;
+    let mut node = head;
     while i < n {
         let start = runs[at];
         let end = runs[at + 1];
+        node = run_index::chains::lay_run(into, node, start, end);
         i += 1;
-        store::settle::put_run(into, i, start, end);
         at += 2;
     }
 }
 
-// Makes a store of the first n runs of a list, which are in order, whatever its words were.
-pub fn build(into: &mut [u64], runs: &[u64], n: u64)
-    requires { ⌜ Receives (now into) n ⌝ }
+// Gives a world the first n runs of a list, which are in order, whatever it held.
+pub fn build(into: &mut [u64], h: World, runs: &[u64], n: u64) -> World
+    requires { ⌜ Receives (now into) h n ⌝ }
     requires { ⌜ (2 * n ≤ length (now runs)) × (orderedFrom 0 (pairs n (now runs)) ≡ true) ⌝ }
-    ensures { λ _. ⌜ Settled (now (into .entry)) (now (into .exit)) (mem (pairs n (now (runs .entry)))) ⌝ }
+    ensures { λ r. ⌜ Received (now (into .entry)) (now (into .exit)) h n r (pairs n (now (runs .entry))) ⌝ }
 {
-    put_runs(into, runs, n);
-    store::settle::link(into, n);
+    let k = store::free::give_back(into, store::links_of(h));
+    put_runs(into, k.free, runs, n);
+    store::settle::link(into, k, n)
 }

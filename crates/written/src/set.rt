@@ -1,22 +1,58 @@
-// A store's set as bytes, and back: version byte 1, the number of runs as 4 bytes, then start and end of each run, 8 bytes each.
+// A world's set as bytes, and back: version byte 1, the number of runs as 4 bytes, then start and end of each run, 8 bytes each.
 ghost use mathlib.Core.Path.{_≡_};
 ghost use mathlib.Core.Bool.{true};
 ghost use Prim.Native.Nat.{_+_, _*_, _≤_};
 ghost use lib.ListN.{length, drop};
-ghost use Rattle.model.specs.Positions.{stretches, heldRuns, mem};
-ghost use Rattle.model.specs.Bytes.{encode, decodeRuns, intoFront};
+ghost use Rattle.model.specs.Positions.{stretches};
+ghost use Rattle.model.specs.Bytes.{decodeRuns};
 ghost use Rattle.model.specs.Refusals.{orderedFrom};
-ghost use Rattle.store.specs.Layout.{capacity, heldBy};
-ghost use Rattle.store.specs.Soundness.{Sound};
-ghost use Rattle.store.specs.Settle.{Settled};
-ghost use Rattle.written.specs.Listed.{Receives, Listed};
+ghost use Rattle.run_index.specs.Strung.{Fillable};
+ghost use Rattle.store.specs.Layout.{heldIn};
+ghost use Rattle.store.specs.Soundness.{Stands};
+ghost use Rattle.store.specs.Settle.{Lays};
+ghost use Rattle.written.specs.Listed.{Receives, Received};
+ghost use Rattle.written.specs.Told.{TellsRuns};
+use model::Refusal;
+use store::World;
 
-// How many runs a sound store's set has.
-pub fn run_count(words: &[u64]) -> u64
-    requires { ⌜ Sound (now words) ⌝ }
-    ensures { λ r. ⌜ r ≡ stretches (heldBy (now (words .entry))) ⌝ }
+// What bytes are as a written set: the refusal that they earn by themselves, or how many runs they tell.
+pub enum Told {
+    Refused(Refusal),
+    Runs(u64),
+}
+
+pub fn runs_told(bytes: &[u8]) -> Told
+    ensures { λ r. ⌜ TellsRuns (now (bytes .entry)) r ⌝ }
 {
-    let h = store::read_header(words);
+    if bytes.len() < 5 {
+        return Told::Refused(Refusal::SetLength);
+    }
+    if bytes[0] != 1 {
+        return Told::Refused(Refusal::SetVersion);
+    }
+    let n = crate::numbers::get_count(bytes, 1);
+    if bytes.len() as u64 != 5 + 16 * n {
+        return Told::Refused(Refusal::SetLength);
+    }
+    if !in_order(bytes, n) {
+        return Told::Refused(Refusal::RunOrder);
+    }
+    Told::Runs(n)
+}
+
+// How many bytes n runs need.
+pub fn length_of(n: u64) -> u64
+    requires { ⌜ n ≤ 65568 ⌝ }
+    ensures { λ r. ⌜ r ≡ 5 + 16 * n ⌝ }
+{
+    5 + 16 * n
+}
+
+// How many runs a world has.
+pub fn run_count(words: &[u64], h: World) -> u64
+    requires { ⌜ Stands (now words) h ⌝ }
+    ensures { λ r. ⌜ r ≡ stretches (heldIn (now (words .entry)) h) ⌝ }
+{
     store::bounds::logical_runs(words, h.root, h.offset, h.runs)
 }
 
@@ -41,29 +77,31 @@ pub fn in_order(bytes: &[u8], n: u64) -> bool
     true
 }
 
-// Writes the n runs that bytes tell into the nodes 1 to n.
-pub fn put_runs(into: &mut [u64], bytes: &[u8], n: u64)
-    requires { ⌜ Receives (now into) n ⌝ }
+// Lays the n runs that bytes tell into the free chain from `head` on.
+pub fn put_runs(into: &mut [u64], head: u64, bytes: &[u8], n: u64)
+    requires { ⌜ Fillable (now into) head n ⌝ }
     requires { ⌜ 5 + 16 * n ≤ length (now bytes) ⌝ }
-    ensures { λ _. ⌜ Listed (now (into .entry)) (now (into .exit)) n (decodeRuns n (drop 5 (now (bytes .entry)))) ⌝ }
+    ensures { λ _. ⌜ Lays (now (into .entry)) (now (into .exit)) head n (decodeRuns n (drop 5 (now (bytes .entry)))) ⌝ }
 {
     let mut i: u64 = 0;
     let mut at: usize = 5;
+    let mut node = head;
     while i < n {
         let start = crate::numbers::get_word(bytes, at);
         let end = crate::numbers::get_word(bytes, at + 8);
+        node = run_index::chains::lay_run(into, node, start, end);
         i += 1;
-        store::settle::put_run(into, i, start, end);
         at += 16;
     }
 }
 
-// Makes a store of the n runs that bytes tell, which are in order, whatever its words were.
-pub fn load(into: &mut [u64], bytes: &[u8], n: u64)
-    requires { ⌜ Receives (now into) n ⌝ }
+// Gives a world the n runs that bytes tell, which are in order, whatever it held.
+pub fn load(into: &mut [u64], h: World, bytes: &[u8], n: u64) -> World
+    requires { ⌜ Receives (now into) h n ⌝ }
     requires { ⌜ (5 + 16 * n ≤ length (now bytes)) × (orderedFrom 0 (decodeRuns n (drop 5 (now bytes))) ≡ true) ⌝ }
-    ensures { λ _. ⌜ Settled (now (into .entry)) (now (into .exit)) (mem (decodeRuns n (drop 5 (now (bytes .entry))))) ⌝ }
+    ensures { λ r. ⌜ Received (now (into .entry)) (now (into .exit)) h n r (decodeRuns n (drop 5 (now (bytes .entry)))) ⌝ }
 {
-    put_runs(into, bytes, n);
-    store::settle::link(into, n);
+    let k = store::free::give_back(into, store::links_of(h));
+    put_runs(into, k.free, bytes, n);
+    store::settle::link(into, k, n)
 }

@@ -1,19 +1,36 @@
-//! Lists of a thousand calls, which the library takes at once after one soundness check, against IntervalBitSet.
+//! Lists of a thousand calls, which the library takes in frames after one soundness check each, against IntervalBitSet.
 //!
 //! A side plays eight lists in a row, each timed apart, then the other side plays the same. Fresh lists are played once, as those of a
-//! program would be; replayed ones are eight times the same, so that a processor can learn the way of every call.
+//! program would be; replayed ones are eight times the same, so that a processor can learn the way of every call. A list is one frame, or
+//! several shorter ones, which are timed together.
 
 use super::measure::{Figures, Progress, Sides, Times, both, median, nanos, number};
 use super::work::{self, Call, Pair, Report, SIZES, Told};
 use crate::differential::random::Random;
 use crate::differential::reference::Run;
-use crate::raw;
+use crate::{SetBuf, raw};
 
 const LABELS: [&str; 7] =
     ["set and flip", "get", "find", "count", "select", "get, find, count, select", "half sets, half reports"];
 const CALLS: usize = 1_000;
 const ROW: usize = 8;
 const REPETITIONS: usize = 9;
+const CHECKS: usize = 41;
+
+// The labels whose lists are also played in shorter frames, how many calls these have, and the names of both together.
+const MIXED: [usize; 3] = [0, 5, 6];
+const LENGTHS: [usize; 3] = [10, 100, CALLS];
+const FRAMES: [&str; MIXED.len() * LENGTHS.len()] = [
+    "set and flip, 10",
+    "set and flip, 100",
+    "set and flip, 1,000",
+    "four reports, 10",
+    "four reports, 100",
+    "four reports, 1,000",
+    "half and half, 10",
+    "half and half, 100",
+    "half and half, 1,000",
+];
 
 // How many words a call and its answer have.
 const RECORD: usize = 8;
@@ -26,7 +43,7 @@ fn frame(words: &mut [u64], calls: &[u64], answers: &mut [u64]) {
     assert_eq!(refusal, 0, "a list is refused");
 }
 
-// A call as the library reads it: call, lower kind and value, upper kind and value, value, k, nothing.
+// A call as the library reads it: call, lower kind and value, upper kind and value, value, k, and the reserved word.
 fn record(call: &Call) -> [u64; RECORD] {
     let range = |call: u64, first: u64, last: u64, value: bool, k: u64| [call, 1, first, 1, last, value.into(), k, 0];
     match *call {
@@ -87,7 +104,7 @@ struct Bench {
     random: Random,
     answers: Vec<u64>,
     told: Vec<Told>,
-    // What lists without calls took, each for as many calls as the others have.
+    // What frames without calls took, that is the soundness check, each for as many calls as the others have.
     checks: Vec<f64>,
 }
 
@@ -104,8 +121,8 @@ impl Bench {
         Bench { runs, pair, random, answers: vec![0; ROW * CALLS * RECORD], told: Vec::new(), checks: Vec::new() }
     }
 
-    // Plays the lists on both sides: nanoseconds for each call, list by list.
-    fn play(&mut self, repetition: usize, lists: &[Vec<Call>]) -> (Vec<f64>, Vec<f64>) {
+    // Plays the lists on both sides, in frames of so many calls: nanoseconds for each call, list by list.
+    fn play(&mut self, repetition: usize, lists: &[Vec<Call>], length: usize) -> (Vec<f64>, Vec<f64>) {
         let records: Vec<Vec<u64>> = lists.iter().map(|list| list.iter().flat_map(record).collect()).collect();
         let words = self.pair.ours.words_mut();
         self.told.clear();
@@ -115,12 +132,13 @@ impl Bench {
             || {
                 let rooms = self.answers.chunks_exact_mut(CALLS * RECORD);
                 let play = |(at, (list, room)): (usize, (&Vec<u64>, &mut [u64]))| {
-                    // A list without calls before or after each, in turn, so that neither always finds the store read just then.
+                    // A frame without calls before or after each, in turn, so that neither always finds the store read just then.
                     let mut check = |words: &mut [u64]| self.checks.push(each(|| frame(words, &[], &mut [])));
                     if at.is_multiple_of(2) {
                         check(words);
                     }
-                    let time = each(|| frame(words, list, room));
+                    let frames = list.chunks_exact(length * RECORD).zip(room.chunks_exact_mut(length * RECORD));
+                    let time = each(|| frames.for_each(|(calls, room)| frame(words, calls, room)));
                     if !at.is_multiple_of(2) {
                         check(words);
                     }
@@ -147,15 +165,15 @@ impl Bench {
         copy.compare();
     }
 
-    // The times of a label's lists, fresh or replayed.
-    fn times(&mut self, label: usize, replayed: bool) -> Times {
+    // The times of a label's lists, fresh or replayed, in frames of so many calls.
+    fn times(&mut self, label: usize, replayed: bool, length: usize) -> Times {
         let mut times = Times::default();
         for repetition in 0..REPETITIONS {
             let different = if replayed { 1 } else { ROW };
             let some: Vec<Vec<Call>> = (0..different).map(|_| list(label, &self.runs, &mut self.random)).collect();
             let lists: Vec<Vec<Call>> = some.iter().cycle().take(ROW).cloned().collect();
             self.compare_halfway(&lists[0]);
-            let (ours, theirs) = self.play(repetition, &lists);
+            let (ours, theirs) = self.play(repetition, &lists, length);
             ours.into_iter().zip(theirs).for_each(|each| times.push(each));
         }
         self.pair.compare();
@@ -167,12 +185,30 @@ fn column(size: usize, replayed: bool, checks: &mut Checks) -> Vec<Sides> {
     let mut bench = Bench::new(size);
     let mut each = Vec::new();
     let sides = (0..LABELS.len()).map(|label| {
-        let sides = bench.times(label, replayed).medians();
+        let sides = bench.times(label, replayed, CALLS).medians();
         each.push(median(std::mem::take(&mut bench.checks)));
         sides
     });
     let sides = sides.collect();
     checks.push(each);
+    sides
+}
+
+// Fresh lists in shorter frames, and in frames of a thousand calls, whose medians are there.
+fn frames(size: usize, whole: &[Sides], progress: &Progress) -> Vec<Sides> {
+    let mut bench = Bench::new(size);
+    let mut sides = Vec::new();
+    for label in MIXED {
+        for length in LENGTHS {
+            if length == CALLS {
+                sides.push(whole[label]);
+                continue;
+            }
+            progress.tell(&format!("{}, {length} calls a frame, {size} runs", LABELS[label]));
+            sides.push(bench.times(label, false, length).medians());
+            bench.checks.clear();
+        }
+    }
     sides
 }
 
@@ -186,7 +222,7 @@ fn single() -> Sides {
         let mut singly = Vec::with_capacity(CALLS);
         let ((list, _), calls) = both(
             repetition,
-            || bench.play(repetition, &lists),
+            || bench.play(repetition, &lists, CALLS),
             || each(|| work::ours(&mut other, &lists[0], &mut singly)),
         );
         assert!(bench.told == singly, "a list and single calls do not answer the same");
@@ -195,10 +231,41 @@ fn single() -> Sides {
     times.medians()
 }
 
-// The check's part in each figure.
+// Nanoseconds of one soundness check, by capacity: of a new store with the capacity for each of the sizes, then of stores with that many runs or
+// fewer. A store is grown to the most runs, then runs are freed by chance, so that its free nodes too lie anywhere in memory.
+fn checks_alone(progress: &Progress) -> Checks {
+    let column = |most: usize| {
+        let capacity = work::capacity(most);
+        progress.tell(&format!("the soundness check, capacity {capacity}"));
+        let row = 131_072 / capacity;
+        let time = |words: &mut [u64]| nanos(|| (0..row).for_each(|_| frame(words, &[], &mut []))) / row as f64;
+        let check = |store: &mut SetBuf| median((0..CHECKS).map(|_| time(store.words_mut())).collect());
+        let new = check(&mut SetBuf::with_capacity(capacity).expect("a capacity"));
+
+        let mut random = Random::new(most as u64);
+        let mut runs = work::cells(most, &mut random);
+        let mut store = Pair::new(capacity, &runs, &mut random).ours;
+        work::shuffle(&mut runs, &mut random);
+        let mut times = Vec::new();
+        for size in SIZES.into_iter().rev().filter(|size| *size <= most) {
+            for some in runs.split_off(size).chunks(CALLS) {
+                let calls: Vec<Call> = some.iter().map(|&[first, last]| Call::Set(first, last, false)).collect();
+                let records: Vec<u64> = calls.iter().flat_map(record).collect();
+                frame(store.words_mut(), &records, &mut vec![0; records.len()]);
+            }
+            times.push(check(&mut store));
+        }
+        times.push(new);
+        times.reverse();
+        times
+    };
+    SIZES.map(column).into()
+}
+
+// The soundness check's part in each figure.
 type Checks = Vec<Vec<f64>>;
 
-// The figures without the check's part.
+// The figures without the soundness check's part.
 fn alone(figures: &Figures, checks: &Checks) -> Figures {
     let column = |(sides, parts): (&Vec<Sides>, &Vec<f64>)| {
         sides.iter().zip(parts).map(|(s, part)| Sides { ours: s.ours - part, theirs: s.theirs }).collect()
@@ -206,42 +273,74 @@ fn alone(figures: &Figures, checks: &Checks) -> Figures {
     Figures { labels: figures.labels, columns: figures.columns.iter().zip(checks).map(column).collect() }
 }
 
-/// Medians of nanoseconds for each call, of fresh and of replayed lists; a list and single public calls.
+/// Medians of nanoseconds for each call: of frames of ten, a hundred and a thousand calls, of a thousand fresh and replayed ones by kind, of a
+/// frame and single public calls; and of the soundness check.
 pub struct Lists {
+    pub frames: Figures,
     pub fresh: Figures,
     replayed: Figures,
-    checks: [Checks; 2],
+    parts: [Checks; 2],
     single: Sides,
+    checks: Checks,
 }
 
 impl Lists {
     pub fn measure(progress: &Progress) -> Lists {
-        let mut checks = [Vec::new(), Vec::new()];
-        let [c, d] = &mut checks;
-        let fresh = Figures::measure(&LABELS, "fresh lists", progress, |size| column(size, false, c));
-        let replayed = Figures::measure(&LABELS, "replayed lists", progress, |size| column(size, true, d));
-        progress.tell("a list against single calls");
-        Lists { fresh, replayed, checks, single: single() }
+        let mut parts = [Vec::new(), Vec::new()];
+        let [c, d] = &mut parts;
+        let fresh = Figures::measure(&LABELS, "frames of 1000 fresh calls", progress, |size| column(size, false, c));
+        let replayed = Figures::measure(&LABELS, "the same replayed", progress, |size| column(size, true, d));
+        let mut whole = fresh.columns.iter();
+        let frames = Figures::measure(&FRAMES, "shorter frames", progress, |size| {
+            frames(size, whole.next().expect("a column for each size"), progress)
+        });
+        progress.tell("a frame against single calls");
+        let single = single();
+        Lists { frames, fresh, replayed, parts, single, checks: checks_alone(progress) }
     }
 
-    /// What the calls of fresh lists take by themselves.
-    pub fn calls_alone(&self) -> Figures {
-        alone(&self.fresh, &self.checks[0])
-    }
-
+    /// Tables of what a caller gets, with the soundness check of each frame in it.
     pub fn tell(&self) {
-        let all = [("fresh", &self.fresh, &self.checks[0]), ("replayed", &self.replayed, &self.checks[1])];
-        for (told, figures, checks) in all {
-            figures.table(&format!("{told} lists: library / IntervalBitSet"), |_, s| number(s.ratio()));
-            alone(figures, checks).table(&format!("{told} lists, without the check"), |_, s| number(s.ratio()));
-            figures
-                .table(&format!("{told} lists: ns a call, the check's part in it / IntervalBitSet"), |[at, row], s| {
-                    format!("{}, {} / {}", number(s.ours), number(checks[at][row]), number(s.theirs))
-                });
+        self.frames.table("kind, calls a frame: library / IntervalBitSet", |_, s| number(s.ratio()));
+        self.frames.table("kind, calls a frame: µs a frame", |[_, row], s| {
+            let calls = LENGTHS[row % LENGTHS.len()] as f64;
+            format!("{} / {}", number(s.ours * calls / 1e3), number(s.theirs * calls / 1e3))
+        });
+        let all = [("fresh", &self.fresh, &self.parts[0]), ("replayed", &self.replayed, &self.parts[1])];
+        for (told, figures, parts) in all {
+            figures.table(&format!("1,000 {told} calls a frame: library / IntervalBitSet"), |_, s| number(s.ratio()));
+            let title =
+                format!("1,000 {told} calls a frame: ns a call, the soundness check's part in it / IntervalBitSet");
+            figures.table(&title, |[at, row], s| {
+                format!("{}, {} / {}", number(s.ours), number(parts[at][row]), number(s.theirs))
+            });
         }
         let Sides { ours, theirs } = self.single;
         println!("| {CALLS} calls, half sets, half reports, at C = 65,536 | ns a call |\n|---|---|");
-        println!("| one list | {} |\n| single public calls | {} |", number(ours), number(theirs));
-        println!("| single public calls that cost as much as the list | {} |\n", number(CALLS as f64 * ours / theirs));
+        println!("| one frame | {} |\n| single public calls | {} |", number(ours), number(theirs));
+        println!("| single public calls that cost as much as the frame | {} |\n", number(CALLS as f64 * ours / theirs));
+    }
+
+    /// What one soundness check takes, by capacity.
+    pub fn tell_checks(&self) {
+        let capacities = SIZES.map(|size| format!(" C = {} |", number(work::capacity(size) as f64))).concat();
+        println!("| µs a soundness check |{capacities}\n|{}", "---|".repeat(1 + SIZES.len()));
+        let runs = SIZES.map(|size| format!("{} runs", number(size as f64)));
+        for (row, label) in ["no runs, a new store".to_string()].into_iter().chain(runs).enumerate() {
+            let cell = |column: &Vec<f64>| column.get(row).map_or(String::new(), |nanos| number(nanos / 1e3));
+            let cells: Vec<String> = self.checks.iter().map(cell).collect();
+            println!("| {label} | {} |", cells.join(" | "));
+        }
+        println!();
+    }
+
+    /// The same without the soundness check: no caller gets these.
+    pub fn tell_alone(&self) {
+        for (told, figures, parts) in
+            [("fresh", &self.fresh, &self.parts[0]), ("replayed", &self.replayed, &self.parts[1])]
+        {
+            let title = format!("{told} calls without the soundness check: library / IntervalBitSet");
+            alone(figures, parts).table(&title, |_, s| number(s.ratio()));
+        }
     }
 }

@@ -19,12 +19,16 @@ use plot::Panel;
 pub fn run(plot: &str) {
     let progress = Progress::begin();
     println!("load {} before\n", load());
-    println!("## Public calls\n");
+    println!("## Single public calls\n");
     let public = public::measure(&progress);
     public.tell("ns a call", 1.0);
-    println!("## Lists of a thousand calls\n");
+    println!("## Frames\n");
     let lists = Lists::measure(&progress);
     lists.tell();
+    println!("## The soundness check by capacity\n");
+    lists.tell_checks();
+    println!("## The calls themselves, without the soundness check (no caller gets these)\n");
+    lists.tell_alone();
     println!("## Written sets and maps\n");
     let bytes = bytes::measure(&progress);
     bytes.tell("µs a call", 1e3);
@@ -34,9 +38,9 @@ pub fn run(plot: &str) {
         stack::tell(&progress);
     }
     let panels = [
-        Panel { title: "Public calls", figures: &public },
-        Panel { title: "Lists of a thousand calls", figures: &lists.fresh },
-        Panel { title: "The same without the one check", figures: &lists.calls_alone() },
+        Panel { title: "Frames of 10, 100 and 1,000 calls", figures: &lists.frames },
+        Panel { title: "Frames of 1,000 calls of a kind", figures: &lists.fresh },
+        Panel { title: "Single public calls", figures: &public },
         Panel { title: "Written sets and maps", figures: &bytes },
     ];
     plot::write(plot, &panels);

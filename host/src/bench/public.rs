@@ -1,4 +1,4 @@
-//! Public calls against IntervalBitSet: the same calls on the same set.
+//! Single public calls against IntervalBitSet: the same calls on the same set.
 
 use super::measure::{Figures, Progress, Sides, Times, both, nanos};
 use super::work::{self, Call, Pair, Report, Told};
@@ -97,5 +97,5 @@ fn column(size: usize) -> Vec<Sides> {
 
 /// Medians of nanoseconds for each call.
 pub fn measure(progress: &Progress) -> Figures {
-    Figures::measure(&LABELS, "public calls", progress, column)
+    Figures::measure(&LABELS, "single public calls", progress, column)
 }

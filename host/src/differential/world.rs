@@ -58,7 +58,7 @@ impl World {
     }
 }
 
-// Drawing a listing looks at the whole store at every draw: above this many node visits the words alone are compared.
+// Each draw from a listing makes the soundness check: above this many node visits the words alone are compared.
 const DRAWN_UP_TO: usize = 8192;
 
 // A changed store is sound and has the oracle's runs, by a plain reading of its words and by the library's own listing.

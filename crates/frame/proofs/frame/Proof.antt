@@ -1,6 +1,6 @@
 -- `frame` meets its contract: a store is looked at once, then the room is tested, and then every record is served. Assumes nothing.
 use borrow.Author.Needs.{needs}
-use Rattle.interval_bit_set.proofs.Meeting.{looked-sound}
+use Rattle.interval_bit_set.proofs.Looking.{looked-sound}
 use Rattle.frame.proofs.Framing.{turned-away, no-room, playable, framed}
 use Rattle.frame.proofs.frame.Statement.{statement}
 use Rattle.frame.proofs.frame.Tie as tie

@@ -8,7 +8,7 @@ use lib.ListN.{length}
 use Rattle.model.specs.Numbers.{size, worth}
 use Rattle.model.specs.Positions.Laws.{count-most}
 use Rattle.model.specs.Positions.{stretches}
-use Rattle.store.specs.Layout.{heldBy}
+use Rattle.store.specs.Layout.{allowance, heldBy}
 use Rattle.listset.specs.Text.{countLines, runLines, setLines}
 use Rattle.listset.specs.Put.{Puts}
 use Rattle.listset.proofs.Putting.{and-then}
@@ -30,7 +30,7 @@ all-runs-requires : tie.Need-all-runs-requires
 all-runs-requires c κs = search needs
 
 put-runs-requires : tie.Need-put-runs-requires
-unfolding stretches
+unfolding stretches allowance
 put-runs-requires c κs = (
   omega (arith, c .before .before .before .before .before .before .before .before .before .before .pre .0, c .before .before .before .before .put-counts .ensures .ends, c .before .before .before .before .put-counts .ensures .long, counts-short (c .before .before .before .before .before .before .before .run-count .result) (worth (c .before .before .before .before .before .held-count .result)), c .before .before .before .before .before .before .before .run-count .ensures, c .before .before .before .before .before .before .before .before .before .before .pre .1 .fits),
   (c .before .before .before .before .before .before .before .before .before .before .pre .1, ap length (c .all-runs .ensures) ∙ sym (c .before .before .before .before .before .before .before .run-count .ensures)),

@@ -64,7 +64,7 @@ pub fn list() -> List {
         list.say(&reading(0, 1, 2));
         making(0, 1, 2).iter().for_each(|line| list.say(line));
     }
-    // 7: words that are all 0, then a sound store with its spare word set. What makes a store anew does not look.
+    // 7: words that are all 0, then a sound store with its spare word set. What makes a store anew makes no soundness check of it.
     for lent in ["words 0 3", "build 0 2 2 7 10 14\nspoil 0"] {
         list.say(lent);
         list.say(&reading(0, 1, 2));

@@ -9,7 +9,6 @@ use Rattle.changes.proofs.Clearing.{
   ClearingFrom,
   clearing-none,
   here,
-  clearing-room,
   clearing-indexed,
   clearing-long,
   clearing-done,
@@ -27,61 +26,108 @@ use Rattle.changes.proofs.change.clear_from.Statement.{statement}
 use Rattle.changes.proofs.change.clear_from.Tie as tie
 
 abbrev Inv-loop : tie.InvT-loop
-Inv-loop words₀ s e more₀ words more = ClearingFrom words₀ words s e more
+Inv-loop words₀ s e at₀ more₀ words at more = ClearingFrom words₀ words at₀ at s e more
 
 abbrev μ-loop : tie.MeasureT-loop
-μ-loop words₀ s e more₀ words more = runsOf words + bit more
+μ-loop words₀ s e at₀ more₀ words at more = runsOf words (at .root) + bit more
+
+-- ---- the places on the way, by name
+abbrev start : tie.At-loop Inv-loop μ-loop → tie.Start Inv-loop μ-loop
+start l = l .before .before
+
+abbrev looped : tie.After-at-or-after Inv-loop μ-loop → tie.At-loop Inv-loop μ-loop
+looped f = f .before .before .before
+
+abbrev searched : tie.After-n Inv-loop μ-loop → tie.After-at-or-after Inv-loop μ-loop
+searched n = n .before .before
+
+-- where a run was found, from where it starts by e
+abbrev told : tie.Then1 Inv-loop μ-loop → tie.After-n Inv-loop μ-loop
+told t = t .before .before
 
 loop-holds : tie.Need-loop-holds Inv-loop μ-loop
-loop-holds c = clearing-none _ _ _
-
-read-header-requires : tie.Need-read-header-requires Inv-loop μ-loop
-read-header-requires c κs = clearing-room (c .before .before .loop .inv) (c .before .before .before .before .pre)
+loop-holds c = clearing-none _ _ _ _
 
 at-or-after-requires : tie.Need-at-or-after-requires Inv-loop μ-loop
-at-or-after-requires c κs = clearing-indexed (c .before .before .before .before .loop .inv) (c .before .before .before .before .before .before .pre) _ (c .before .read-header .ensures)
+at-or-after-requires c κs = clearing-indexed (c .before .before .loop .inv) (start (c .before .before) .pre)
 
 enum-known-n : tie.Need-enum-known-n Inv-loop μ-loop
 enum-known-n c = search needs
 
 add-resize-run : tie.Need-add-resize-run Inv-loop μ-loop
-add-resize-run c = omega (arith, c .before .if2 .taken, first-below (here (c .before .before .before .before .before .before .before .before .before .before .before .loop .inv) (c .before .before .before .before .before .before .before .before .before .before .before .before .before .pre)) _ (c .before .before .before .before .before .before .before .before .read-header .ensures) _ (c .before .before .before .before .before .before .at-or-after .ensures) _ (c .before .before .before .before .n .given .1))
+add-resize-run c =
+    let n = told (c .before .before) in
+    let f = searched n in
+    omega (arith, c .before .if2 .taken, first-below (here (looped f .loop .inv) (start (looped f) .pre)) _ (f .at-or-after .ensures) _ (n .n .given .1))
 
 resize-run-requires : tie.Need-resize-run-requires Inv-loop μ-loop
-resize-run-requires c κs = first-changeable (here (c .before .before .before .before .before .before .before .before .before .before .before .loop .inv) (c .before .before .before .before .before .before .before .before .before .before .before .before .before .pre)) _ (c .before .before .before .before .before .before .before .before .read-header .ensures) _ (c .before .before .before .before .before .before .at-or-after .ensures) _ (c .before .before .before .before .n .given .1) (c .before .before .if1 .taken) (c .before .if2 .taken)
+resize-run-requires c κs =
+    let n = told (c .before .before) in
+    let f = searched n in
+    first-changeable (here (looped f .loop .inv) (start (looped f) .pre)) _ (f .at-or-after .ensures) _ (n .n .given .1) (c .before .before .if1 .taken) (c .before .if2 .taken)
 
 loop-less : tie.Need-loop-less Inv-loop μ-loop
-loop-less c = omega (arith, front-as-many (here (c .before .before .before .before .before .before .before .before .before .before .before .before .before .before .loop .inv) (c .before .before .before .before .before .before .before .before .before .before .before .before .before .before .before .before .pre)) _ (c .before .before .before .before .before .before .before .before .before .before .before .read-header .ensures) _ (c .before .before .before .before .before .before .before .before .before .at-or-after .ensures) _ (c .before .before .before .before .before .before .before .n .given .1) (c .before .before .before .before .before .if1 .taken) (c .before .before .before .before .if2 .taken) (c .before .before .resize-run .ensures), stop-less 0 _ (c .before .before .before .before .before .before .before .before .before .before .before .before .before .loop-test .taken))
+loop-less c =
+    let g = c .before .before in
+    let t = g .before .before .before in
+    let n = told t in
+    let f = searched n in
+    omega (
+      arith,
+      front-as-many (here (looped f .loop .inv) (start (looped f) .pre)) _ (f .at-or-after .ensures) _ (n .n .given .1) (t .if1 .taken) (g .before .before .if2 .taken) (g .resize-run .ensures),
+      stop-less 0 _ (f .before .before .loop-test .taken),
+    )
 
 loop-again : tie.Need-loop-again Inv-loop μ-loop
-loop-again c = clearing-front (c .before .before .before .before .before .before .before .before .before .before .before .before .before .before .loop .inv) _ (c .before .before .before .before .before .before .before .before .before .before .before .read-header .ensures) _ (c .before .before .before .before .before .before .before .before .before .at-or-after .ensures) _ (c .before .before .before .before .before .before .before .n .given .1) (c .before .before .before .before .before .if1 .taken) (c .before .before .before .before .if2 .taken) (c .before .before .resize-run .ensures)
+loop-again c =
+    let g = c .before .before in
+    let t = g .before .before .before in
+    let n = told t in
+    let f = searched n in
+    clearing-front (looped f .loop .inv) _ (f .at-or-after .ensures) _ (n .n .given .1) (t .if1 .taken) (g .before .before .if2 .taken) (g .resize-run .ensures)
 
 remove-run-requires : tie.Need-remove-run-requires Inv-loop μ-loop
-remove-run-requires c κs = first-removable (here (c .before .before .before .before .before .before .before .before .before .before .before .loop .inv) (c .before .before .before .before .before .before .before .before .before .before .before .before .before .pre)) _ (c .before .before .before .before .before .before .before .before .read-header .ensures) _ (c .before .before .before .before .before .before .at-or-after .ensures) _ (c .before .before .before .before .n .given .1)
+remove-run-requires c κs =
+    let n = told (c .before .before) in
+    let f = searched n in
+    first-removable (here (looped f .loop .inv) (start (looped f) .pre)) _ (f .at-or-after .ensures) _ (n .n .given .1)
 
 loop-less-2 : tie.Need-loop-less-2 Inv-loop μ-loop
-loop-less-2 c = omega (arith, cleared-fewer (here (c .before .before .before .before .before .before .before .before .before .before .before .before .before .before .loop .inv) (c .before .before .before .before .before .before .before .before .before .before .before .before .before .before .before .before .pre)) _ (c .before .before .before .before .before .before .before .before .before .before .before .read-header .ensures) _ (c .before .before .before .before .before .before .before .before .before .at-or-after .ensures) _ (c .before .before .before .before .before .before .before .n .given .1) (c .before .before .remove-run .ensures))
+loop-less-2 c =
+    let g = c .before .before in
+    let n = told (g .before .before .before) in
+    let f = searched n in
+    omega (arith, cleared-fewer (here (looped f .loop .inv) (start (looped f) .pre)) _ (f .at-or-after .ensures) _ (n .n .given .1) (g .remove-run .ensures))
 
 loop-again-2 : tie.Need-loop-again-2 Inv-loop μ-loop
-loop-again-2 c = clearing-gone (c .before .before .before .before .before .before .before .before .before .before .before .before .before .before .loop .inv) _ (c .before .before .before .before .before .before .before .before .before .before .before .read-header .ensures) _ (c .before .before .before .before .before .before .before .before .before .at-or-after .ensures) _ (c .before .before .before .before .before .before .before .n .given .1) (c .before .before .remove-run .ensures) (c .before .before .before .before .before .before .before .before .before .before .before .before .before .loop-test .taken) (c .before .before .before .before .if2 .left)
+loop-again-2 c =
+    let g = c .before .before in
+    let n = told (g .before .before .before) in
+    let f = searched n in
+    clearing-gone (looped f .loop .inv) _ (f .at-or-after .ensures) _ (n .n .given .1) (g .remove-run .ensures) (f .before .before .loop-test .taken) (g .before .before .if2 .left)
 
 loop-less-3 : tie.Need-loop-less-3 Inv-loop μ-loop
-loop-less-3 c = stop-less _ _ (c .before .before .before .before .before .before .before .before .loop-test .taken)
+loop-less-3 c = stop-less _ _ (searched (c .before .before) .before .before .loop-test .taken)
 
 loop-again-3 : tie.Need-loop-again-3 Inv-loop μ-loop
-loop-again-3 c = clearing-apart (c .before .before .before .before .before .before .before .before .before .loop .inv) _ (c .before .before .before .before .before .before .read-header .ensures) _ (c .before .before .before .before .at-or-after .ensures) _ (c .before .before .n .given .1) (c .if1 .left)
+loop-again-3 c =
+    let n = c .before .before in
+    let f = searched n in
+    clearing-apart (looped f .loop .inv) _ (f .at-or-after .ensures) _ (n .n .given .1) (c .if1 .left)
 
 enum-told : tie.Need-enum-told Inv-loop μ-loop
 enum-told c = search needs
 
 loop-less-4 : tie.Need-loop-less-4 Inv-loop μ-loop
-loop-less-4 c = stop-less _ _ (c .before .before .before .before .before .before .loop-test .taken)
+loop-less-4 c = stop-less _ _ (c .before .before .before .before .loop-test .taken)
 
 loop-again-4 : tie.Need-loop-again-4 Inv-loop μ-loop
-loop-again-4 c = clearing-over (c .before .before .before .before .before .before .before .loop .inv) _ (c .before .before .before .before .read-header .ensures) _ (c .before .before .at-or-after .ensures) (c .enum-told .given .1)
+loop-again-4 c =
+    let f = c .before .before in
+    clearing-over (looped f .loop .inv) _ (f .at-or-after .ensures) (c .enum-told .given .1)
 
 same-length : tie.Need-same-length Inv-loop μ-loop
-same-length c = clearing-long (c .before .loop .inv) (c .before .before .before .pre)
+same-length c = clearing-long (c .before .loop .inv) (start (c .before) .pre)
 
 returns : tie.Need-returns Inv-loop μ-loop
 returns c = clearing-done (c .loop-test .left) (c .before .loop .inv)
@@ -93,7 +139,6 @@ clear-from-spec =
     Inv-loop
     μ-loop
     loop-holds
-    read-header-requires
     at-or-after-requires
     enum-known-n
     add-resize-run

@@ -2,7 +2,7 @@
 -- or a new one comes. Assumes nothing.
 use borrow.Author.Needs.{needs}
 use mathlib.Core.Logic.{⊎-elim}
-use Rattle.changes.proofs.Steps.{settable-room, settable-indexed, found, found-none}
+use Rattle.changes.proofs.Steps.{settable-indexed, Found, found, found-none}
 use Rattle.changes.proofs.Raising.{
   Passed,
   Alone,
@@ -23,25 +23,54 @@ use Rattle.changes.proofs.Raising.{
 use Rattle.changes.proofs.change.raise.Statement.{statement}
 use Rattle.changes.proofs.change.raise.Tie as tie
 
+-- ---- the places on the way, by name
+abbrev start : tie.After-at-or-before → tie.Start
+start f = f .before .before .before
+
+abbrev searched : tie.After-n → tie.After-at-or-before
+searched n = n .before .before
+
+-- where the run at s or before it was found, from where it was asked whether it reaches s
+abbrev told : tie.After-reaches → tie.After-n
+told d = d .before .before
+
+-- where this was asked, from where others are taken in
+abbrev asked : tie.After-absorb → tie.After-reaches
+asked a = a .before .before .before .before
+
+-- where the run after s is looked for, the first search is over
+abbrev past : tie.After-at-or-after → tie.At-match-came
+past f = f .before .before
+
+-- where the run after s was found, from where it was asked whether it is reached
+abbrev told₂ : tie.After-reaches2 → tie.After-m
+told₂ d = d .before .before
+
+-- where this was asked, from where others are taken in
+abbrev asked₂ : tie.After-absorb2 → tie.After-reaches2
+asked₂ a = a .before .before .before .before
+
+-- the run at s or before it
+run-there : (n : tie.After-n) → Found (start (searched n) .args .words .now) (start (searched n) .args .x) (start (searched n) .args .s) (n .n .given .0 .0)
+run-there n = found _ (searched n .at-or-before .ensures) _ (n .n .given .1)
+
 -- no run reaches s from before it
-passed : (c : tie.At-match-came) → Passed (c .before .before .before .before .before .before .args .words .now) (c .before .before .before .before .before .before .args .s)
+passed : (c : tie.At-match-came) → Passed (start (c .before) .args .words .now) (start (c .before) .args .x) (start (c .before) .args .s)
 passed c =
-    ⊎-elim (λ x. passed-apart (found _ (c .before .before .before .read-header .ensures) _ (c .before .at-or-before .ensures) _ (x .1 .given .1)) _ (x .3 .ensures) (x .4 .left))
-    (λ x. passed-none (found-none _ (c .before .before .before .read-header .ensures) _ (c .before .at-or-before .ensures) (x .1 .given .1)))
+    ⊎-elim (λ x. passed-apart (found _ (c .before .at-or-before .ensures) _ (x .1 .given .1)) _ (x .3 .ensures) (x .4 .left))
+    (λ x. passed-none (found-none _ (c .before .at-or-before .ensures) (x .1 .given .1)))
     (c .match .came)
 
 -- and none is reached from e
-alone : (c : tie.At-match2-came) → Alone (c .before .before .before .before .before .before .before .before .before .args .words .now) (c .before .before .before .before .before .before .before .before .before .args .s) (c .before .before .before .before .before .before .before .before .before .args .e)
+alone : (c : tie.At-match2-came)
+    → Alone (start (past (c .before) .before) .args .words .now) (start (past (c .before) .before) .args .x) (start (past (c .before) .before) .args .s) (start (past (c .before) .before) .args .e)
 alone c =
-    ⊎-elim (λ x. alone-apart (passed (c .before .before .before)) _ (c .before .before .before .before .before .before .read-header .ensures) _ (c .before .at-or-after .ensures) _ (x .1 .given .1) _ (x .3 .ensures) (x .4 .left))
-    (λ x. alone-none (passed (c .before .before .before)) _ (c .before .before .before .before .before .before .read-header .ensures) _ (c .before .at-or-after .ensures) (x .1 .given .1))
+    ⊎-elim (λ x. alone-apart (passed (past (c .before))) _ (c .before .at-or-after .ensures) _ (x .1 .given .1) _ (x .3 .ensures) (x .4 .left))
+    (λ x. alone-none (passed (past (c .before))) _ (c .before .at-or-after .ensures) (x .1 .given .1))
     (c .match2 .came)
 
-read-header-requires : tie.Need-read-header-requires
-read-header-requires c κs = settable-room (c .before .before .pre)
-
 at-or-before-requires : tie.Need-at-or-before-requires
-at-or-before-requires c κs = settable-indexed (c .before .before .before .before .pre) _ (c .before .read-header .ensures)
+at-or-before-requires c κs = settable-indexed (c .before .before .pre)
 
 enum-known-n : tie.Need-enum-known-n
 enum-known-n c = search needs
@@ -51,31 +80,40 @@ reaches-requires c κs = search needs
 
 absorb-requires : tie.Need-absorb-requires
 absorb-requires c κs =
-    before-absorbable (found _ (c .before .before .before .before .before .before .before .before .before .read-header .ensures) _ (c .before .before .before .before .before .before .before .at-or-before .ensures) _ (c .before .before .before .before .before .n .given .1)) _ (c .before .before .before .reaches .ensures) (c .before .before .if1 .taken) (c .before .before .before .before .before .before .before .before .before .before .before .before .pre)
+    let d = c .before .before .before in
+    before-absorbable (run-there (told d)) _ (d .reaches .ensures) (c .before .before .if1 .taken) (start (searched (told d)) .pre)
 
 resize-run-requires : tie.Need-resize-run-requires
 resize-run-requires c κs =
-    before-changeable (found _ (c .before .before .before .before .before .before .before .before .before .before .before .before .before .read-header .ensures) _ (c .before .before .before .before .before .before .before .before .before .before .before .at-or-before .ensures) _ (c .before .before .before .before .before .before .before .before .before .n .given .1)) _ (c .before .before .before .before .before .before .before .reaches .ensures) (c .before .before .before .before .before .before .if1 .taken) (c .before .before .before .before .before .if2 .taken) (c .before .before .before .absorb .ensures) (c .before .before .before .before .before .before .before .before .before .before .before .before .before .before .before .before .pre)
+    let a = c .before .before .before .before in
+    let d = asked a in
+    before-changeable (run-there (told d)) _ (d .reaches .ensures) (a .before .before .before .if1 .taken) (a .before .before .if2 .taken) _ (a .absorb .ensures)
+    (start (searched (told d)) .pre)
 
 same-length : tie.Need-same-length
 same-length c = search needs
 
 returns : tie.Need-returns
 returns c =
-    before-grown (found _ (c .before .before .before .before .before .before .before .before .before .before .before .before .before .before .before .before .read-header .ensures) _ (c .before .before .before .before .before .before .before .before .before .before .before .before .before .before .at-or-before .ensures) _ (c .before .before .before .before .before .before .before .before .before .before .before .before .n .given .1)) _ (c .before .before .before .before .before .before .before .before .before .before .reaches .ensures) (c .before .before .before .before .before .before .before .before .before .if1 .taken) (c .before .before .before .before .before .before .before .before .if2 .taken) (c .before .before .before .before .before .before .absorb .ensures) (c .before .before .resize-run .ensures)
+    let g = c .before .before in
+    let a = g .before .before .before .before .before in
+    let d = asked a in
+    before-grown (run-there (told d)) _ (d .reaches .ensures) (a .before .before .before .if1 .taken) (a .before .before .if2 .taken) _ (a .absorb .ensures)
+    (g .resize-run .ensures)
 
 same-length-2 : tie.Need-same-length-2
 same-length-2 c = search needs
 
 returns-2 : tie.Need-returns-2
 returns-2 c =
-    before-stays (found _ (c .before .before .before .before .before .before .before .before .read-header .ensures) _ (c .before .before .before .before .before .before .at-or-before .ensures) _ (c .before .before .before .before .n .given .1)) _ (c .before .before .reaches .ensures) (c .before .if1 .taken) (c .if2 .left)
+    let d = c .before .before in
+    before-stays (run-there (told d)) _ (d .reaches .ensures) (c .before .if1 .taken) (c .if2 .left)
 
 enum-told : tie.Need-enum-told
 enum-told c = search needs
 
 at-or-after-requires : tie.Need-at-or-after-requires
-at-or-after-requires c κs = settable-indexed (c .before .before .before .before .before .before .before .pre) _ (c .before .before .before .before .read-header .ensures)
+at-or-after-requires c κs = settable-indexed (start (c .before .before) .pre)
 
 enum-known-m : tie.Need-enum-known-m
 enum-known-m c = search needs
@@ -88,38 +126,51 @@ larger-requires c κs = search needs
 
 absorb-requires-2 : tie.Need-absorb-requires-2
 absorb-requires-2 c κs =
-    after-absorbable (passed (c .before .before .before .before .before .before .before .before .before)) _ (c .before .before .before .before .before .before .before .before .before .before .before .before .read-header .ensures) _ (c .before .before .before .before .before .before .before .at-or-after .ensures) _ (c .before .before .before .before .before .m .given .1) _ (c .before .before .before .reaches2 .ensures) (c .before .before .before .before .before .before .before .before .before .before .before .before .before .before .before .pre)
+    let d = c .before .before .before in
+    let n = told₂ d in
+    let f = n .before .before in
+    after-absorbable (passed (past f)) _ (f .at-or-after .ensures) _ (n .m .given .1) _ (d .reaches2 .ensures) (start (past f .before) .pre)
 
 resize-run-requires-2 : tie.Need-resize-run-requires-2
 resize-run-requires-2 c κs =
-    after-changeable (passed (c .before .before .before .before .before .before .before .before .before .before .before .before .before)) _ (c .before .before .before .before .before .before .before .before .before .before .before .before .before .before .before .before .read-header .ensures) _ (c .before .before .before .before .before .before .before .before .before .before .before .at-or-after .ensures) _ (c .before .before .before .before .before .before .before .before .before .m .given .1) _ (c .before .before .before .before .before .before .before .reaches2 .ensures) (c .before .before .before .before .before .before .if3 .taken) _ (c .before .before .before .before .larger .ensures) (c .before .before .before .absorb2 .ensures) (c .before .before .before .before .before .before .before .before .before .before .before .before .before .before .before .before .before .before .before .pre)
+    let a = c .before .before .before .before in
+    let d = asked₂ a in
+    let n = told₂ d in
+    let f = n .before .before in
+    after-changeable (passed (past f)) _ (f .at-or-after .ensures) _ (n .m .given .1) _ (d .reaches2 .ensures) (a .before .before .before .if3 .taken) _ (a .before .larger .ensures)
+    _ (a .absorb2 .ensures) (start (past f .before) .pre)
 
 same-length-3 : tie.Need-same-length-3
 same-length-3 c = search needs
 
 returns-3 : tie.Need-returns-3
 returns-3 c =
-    after-grown (passed (c .before .before .before .before .before .before .before .before .before .before .before .before .before .before .before .before)) _ (c .before .before .before .before .before .before .before .before .before .before .before .before .before .before .before .before .before .before .before .read-header .ensures) _ (c .before .before .before .before .before .before .before .before .before .before .before .before .before .before .at-or-after .ensures) _ (c .before .before .before .before .before .before .before .before .before .before .before .before .m .given .1) _ (c .before .before .before .before .before .before .before .before .before .before .reaches2 .ensures) (c .before .before .before .before .before .before .before .before .before .if3 .taken) _ (c .before .before .before .before .before .before .before .larger .ensures) (c .before .before .before .before .before .before .absorb2 .ensures) (c .before .before .resize-run2 .ensures)
+    let g = c .before .before in
+    let a = g .before .before .before .before .before in
+    let d = asked₂ a in
+    let n = told₂ d in
+    let f = n .before .before in
+    after-grown (passed (past f)) _ (f .at-or-after .ensures) _ (n .m .given .1) _ (d .reaches2 .ensures) (a .before .before .before .if3 .taken) _ (a .before .larger .ensures)
+    _ (a .absorb2 .ensures) (g .resize-run2 .ensures)
 
 enum-told-2 : tie.Need-enum-told-2
 enum-told-2 c = search needs
 
 add-run-requires : tie.Need-add-run-requires
-add-run-requires c κs =
-    alone-addable (alone (c .before)) (c .before .before .before .before .before .before .before .before .before .before .pre)
+add-run-requires c κs = alone-addable (alone (c .before)) (start (past (c .before .before) .before) .pre)
 
 same-length-4 : tie.Need-same-length-4
 same-length-4 c = search needs
 
 returns-4 : tie.Need-returns-4
 returns-4 c =
-    alone-added (alone (c .before .before .before .before)) (c .before .before .add-run .ensures)
+    let g = c .before .before in
+    alone-added (alone (g .before .before)) (g .add-run .ensures)
 
 pub raise-spec : {M : Type 1} → statement M
 raise-spec =
     tie.close
     (tie.spec
-    read-header-requires
     at-or-before-requires
     enum-known-n
     reaches-requires

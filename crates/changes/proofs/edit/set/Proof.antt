@@ -1,12 +1,25 @@
--- `set` meets its contract: it is refused, or `apply_set` does it, and the header before and after it tells what changed. Assumes nothing.
+-- `set` meets its contract: it is refused, or `apply_set` does it, and what the world tells before and after it tells what changed.
+-- Assumes nothing.
+use Prim.Native.Nat.{suc, _-_, _≤_}
 use borrow.Author.Needs.{needs}
 use native.Mathlib.Omega.{arith}
 use borrow.Author.Tests.{leb-true, leb-false, not-true, not-false}
 use mathlib.Core.Path.{refl, sym, _∙_}
-use Rattle.store.proofs.Opening.{sound-room}
+use Rattle.model.specs.Positions.{setRange, stretches}
+use Rattle.store.specs.Layout.{heldIn}
 use Rattle.changes.proofs.Gaining.{gained-changes, lost-changes}
 use Rattle.changes.proofs.edit.set.Statement.{statement}
 use Rattle.changes.proofs.edit.set.Tie as tie
+
+-- where the call started, from where the set is known to fit
+abbrev start : tie.Else1 → tie.Start
+start f = f .before .before .before .before
+
+-- what it leaves is few enough
+few : (f : tie.Else1)
+    → stretches (setRange ((start f) .args .a .0) (suc ((start f) .args .b .0) - (start f) .args .a .0) ((start f) .args .value)
+    (heldIn ((start f) .args .words .now) ((start f) .args .h))) ≤ (start f) .args .limit
+few f = leb-true _ _ (sym (f .before .set-fits .ensures) ∙ not-false _ (f .if1 .left))
 
 set-fits-requires : tie.Need-set-fits-requires
 set-fits-requires c κs = search needs
@@ -17,17 +30,10 @@ same-length c = search needs
 returns : tie.Need-returns
 returns c = (leb-false _ _ (sym (c .before .set-fits .ensures) ∙ not-true _ (c .if1 .taken)), refl)
 
-read-header-requires : tie.Need-read-header-requires
-read-header-requires c κs = sound-room (c .before .before .before .before .before .pre .0)
-
 apply-set-requires : tie.Need-apply-set-requires
 apply-set-requires c κs =
-    let f = c .before .before .before in
-    let r = f .before .before .before .before in
-    (r .pre .0, (r .pre .1, leb-true _ _ (sym (f .before .set-fits .ensures) ∙ not-false _ (f .if1 .left))))
-
-read-header-requires-2 : tie.Need-read-header-requires-2
-read-header-requires-2 c κs = sound-room (c .before .before .before .apply-set .ensures .sound)
+    let r = start (c .before) in
+    (r .pre .0 .0, r .args .limit, record { limited = r .pre .0 .1; ordered = r .pre .1; few = few (c .before) })
 
 gained-requires : tie.Need-gained-requires
 gained-requires c κs = search needs
@@ -37,15 +43,13 @@ same-length-2 c = search needs
 
 returns-2 : tie.Need-returns-2
 returns-2 c =
-    let k = c .before .before in
-    let s = k .before .before .before .before in
-    let h = s .before .before in
-    let f = h .before .before in
-    let r = f .before .before .before .before in (
-      leb-true _ _ (sym (f .before .set-fits .ensures) ∙ not-false _ (f .if1 .left)),
-      s .apply-set .ensures,
-      gained-changes (r .pre .0) (r .args .a .0) (r .args .b .0) (r .args .value) (r .pre .1) (omega (arith, r .good)) (s .apply-set .ensures)
-          (h .read-header .ensures) (omega (arith, h .read-header .ok)) (k .read-header2 .ensures) (omega (arith, k .read-header2 .ok)) (c .gained .result)
+    let k = c .before .before .before .before in
+    let f = k .before .before in
+    let r = start f in (
+      few f,
+      k .apply-set .ensures,
+      gained-changes (r .pre .0 .1 .standing) (r .args .a .0) (r .args .b .0) (r .args .value) (r .pre .1) (omega (arith, r .good))
+          (k .apply-set .ensures (r .pre .0 .0) (r .args .limit) (r .pre .0 .1) (few f)) (omega (arith, r .good)) (omega (arith, k .apply-set .ok)) (c .gained .result)
           (c .before .if2 .taken) (c .gained .ensures),
     )
 
@@ -57,15 +61,13 @@ same-length-3 c = search needs
 
 returns-3 : tie.Need-returns-3
 returns-3 c =
-    let k = c .before .before in
-    let s = k .before .before .before .before in
-    let h = s .before .before in
-    let f = h .before .before in
-    let r = f .before .before .before .before in (
-      leb-true _ _ (sym (f .before .set-fits .ensures) ∙ not-false _ (f .if1 .left)),
-      s .apply-set .ensures,
-      lost-changes (r .pre .0) (r .args .a .0) (r .args .b .0) (r .args .value) (r .pre .1) (omega (arith, r .good)) (s .apply-set .ensures)
-          (h .read-header .ensures) (omega (arith, h .read-header .ok)) (k .read-header2 .ensures) (omega (arith, k .read-header2 .ok)) (c .gained2 .result)
+    let k = c .before .before .before .before in
+    let f = k .before .before in
+    let r = start f in (
+      few f,
+      k .apply-set .ensures,
+      lost-changes (r .pre .0 .1 .standing) (r .args .a .0) (r .args .b .0) (r .args .value) (r .pre .1) (omega (arith, r .good))
+          (k .apply-set .ensures (r .pre .0 .0) (r .args .limit) (r .pre .0 .1) (few f)) (omega (arith, r .good)) (omega (arith, k .apply-set .ok)) (c .gained2 .result)
           (c .before .if2 .left) (c .gained2 .ensures),
     )
 
@@ -76,9 +78,7 @@ set-spec =
     set-fits-requires
     same-length
     returns
-    read-header-requires
     apply-set-requires
-    read-header-requires-2
     gained-requires
     same-length-2
     returns-2

@@ -1,43 +1,57 @@
--- `set_fits` meets its contract: far from the capacity any set fits; else the runs that it leaves are told by the runs of the range and the
+-- `set_fits` meets its contract: far from the limit any set fits; else the runs that it leaves are told by the runs of the range and the
 -- neighbours of its ends. Assumes nothing.
 use native.Mathlib.Omega.{arith}
+use Rattle.model.specs.Positions.{Positions}
 use Rattle.model.specs.After.{goesOn}
+use Rattle.store.specs.Layout.{heldIn}
+use Rattle.store.proofs.Opening.{standing-counted, logical-told}
 use Rattle.changes.specs.Neighbours.{heldBelow}
-use Rattle.store.specs.Layout.{heldBy}
-use Rattle.store.proofs.Opening.{sound-room, offset-small, sound-counted, logical-told}
-use Rattle.changes.proofs.Fitting.{one-most, header-few, far-fits, logical-few, capacity-few, Told, told-few, inside-few, less-few, true-fits, false-fits}
+use Rattle.changes.proofs.Fitting.{one-most, far-fits, limit-few, logical-few, Told, told-few, inside-few, less-few, true-fits, false-fits}
 use borrow.Author.Needs.{needs}
 use Rattle.changes.proofs.edit.set_fits.Statement.{statement}
 use Rattle.changes.proofs.edit.set_fits.Tie as tie
 
+-- the positions that the world holds
+abbrev held : tie.Start → Positions
+held r = heldIn (r .args .words .now) (r .args .h)
+
+-- where the call started
+abbrev start : tie.After-logical-runs → tie.Start
+start n = n .before .before .before .before
+
+-- where the world's runs are known
+abbrev runs : tie.After-going-past → tie.After-logical-runs
+runs p = p .before .before .before
+
+-- where the runs over the ends are known, after the neighbours
+abbrev ends : tie.After-held-after → tie.After-going-past
+ends q = q .before .before .before .before
+
 -- what is counted before the value is asked
-told : (c : tie.After-going-past) → Told (heldBy (c .before .before .before .before .before .before .before .before .before .args .words .now)) (c .before .before .before .before .before .before .before .before .before .args .a .0) (c .before .before .before .before .before .before .before .before .before .args .b .0) (c .before .before .before .logical-runs .result) (c .before .before .tally .result .runs) (c .before .going-on .result) (c .going-past .result)
-told c = record {
-  ordered = c .before .before .before .before .before .before .before .before .before .pre .1;
-  below = omega (arith, c .before .before .before .before .before .before .before .before .before .good);
-  few = logical-few (c .before .before .before .before .before .before .before .before .before .pre .0);
-  total-is = logical-told (c .before .before .before .before .before .before .before .before .before .pre .0) (c .before .before .before .before .before .before .before .read-header .ensures) (c .before .before .before .logical-runs .ensures);
-  inside-is = c .before .before .tally .ensures .runs-are;
-  on-is = c .before .going-on .ensures;
-  past-is = c .going-past .ensures;
-}
-
-read-header-requires : tie.Need-read-header-requires
-read-header-requires c κs = sound-room (c .before .pre .0)
-
-of-length-requires : tie.Need-of-length-requires
-of-length-requires c κs = search needs
+told : (p : tie.After-going-past) → Told (held (start (runs p))) ((start (runs p)) .args .a .0) ((start (runs p)) .args .b .0) ((runs p) .logical-runs .result)
+    (p .before .before .tally .result .runs) (p .before .going-on .result) (p .going-past .result)
+told p =
+    let r = start (runs p) in
+    record {
+      ordered = r .pre .1;
+      below = omega (arith, r .good);
+      few = logical-few (r .pre .0 .1);
+      total-is = logical-told (r .pre .0 .1 .standing) ((runs p) .logical-runs .ensures);
+      inside-is = p .before .before .tally .ensures .runs-are;
+      on-is = p .before .going-on .ensures;
+      past-is = p .going-past .ensures;
+    }
 
 add-if1 : tie.Need-add-if1
-add-if1 c = omega (arith, header-few (c .before .before .before .before .pre .0) (c .before .before .read-header .ensures))
+add-if1 c = search needs
 
 returns : tie.Need-returns
 returns c =
-    far-fits (c .before .before .before .before .before .pre .0) (c .before .before .before .read-header .ensures) (c .before .before .before .before .before .args .a .0) (c .before .before .before .before .before .args .b .0) (c .before .before .of-length .result .capacity) (c .before .before .before .before .before .args .value)
-    (offset-small (c .before .before .before .before .before .pre .0) (c .before .before .before .read-header .ensures) (c .before .before .before .before .shared-slice-known .given)) (c .before .before .before .before .before .pre .1) (omega (arith, c .before .before .before .before .before .good)) (c .before .before .of-length .ensures) (c .if1 .taken)
+    let r = c .before .before .before in
+    far-fits (r .pre .0 .1 .standing) (r .args .a .0) (r .args .b .0) (r .args .value) (omega (arith, r .good)) (r .pre .1) (omega (arith, r .good)) (c .if1 .taken)
 
 logical-runs-requires : tie.Need-logical-runs-requires
-logical-runs-requires c κs = sound-counted (c .before .before .before .before .before .pre .0) (c .before .before .before .read-header .ensures)
+logical-runs-requires c κs = standing-counted (c .before .before .before .pre .0 .1 .standing)
 
 tally-requires : tie.Need-tally-requires
 tally-requires c κs = search needs
@@ -47,11 +61,13 @@ going-on-requires c κs = search needs
 
 add-before : tie.Need-add-before
 add-before c =
+    let n = c .before .before in
+    let r = start n in
     omega (
       arith,
-      logical-told (c .before .before .before .before .before .before .before .before .pre .0) (c .before .before .before .before .before .before .read-header .ensures) (c .before .before .logical-runs .ensures),
-      logical-few (c .before .before .before .before .before .before .before .before .pre .0),
-      one-most (c .going-on .result) (goesOn (heldBy (c .before .before .before .before .before .before .before .before .args .words .now)) (c .before .before .before .before .before .before .before .before .args .a .0)) (c .going-on .ensures),
+      logical-told (r .pre .0 .1 .standing) (n .logical-runs .ensures),
+      logical-few (r .pre .0 .1),
+      one-most (c .going-on .result) (goesOn (held r) (r .args .a .0)) (c .going-on .ensures),
     )
 
 going-past-requires : tie.Need-going-past-requires
@@ -65,40 +81,46 @@ held-before-requires c κs = search needs
 
 add-less : tie.Need-add-less
 add-less c =
+    let p = c .before .before .before in
+    let r = start (runs p) in
     omega (
       arith,
-      inside-few (told (c .before .before .before)),
-      one-most (c .before .held-before .result) (heldBelow (heldBy (c .before .before .before .before .before .before .before .before .before .before .before .before .args .words .now)) (c .before .before .before .before .before .before .before .before .before .before .before .before .args .a .0)) (c .before .held-before .ensures),
+      inside-few (told p),
+      one-most (c .before .held-before .result) (heldBelow (held r) (r .args .a .0)) (c .before .held-before .ensures),
     )
 
 held-after-requires : tie.Need-held-after-requires
 held-after-requires c κs = search needs
 
 add-less-2 : tie.Need-add-less-2
-add-less-2 c = omega (arith, less-few (told (c .before .before .before .before)) (c .before .before .held-before .ensures) (c .held-after .ensures))
+add-less-2 c = omega (arith, less-few (told (ends c)) (c .before .before .held-before .ensures) (c .held-after .ensures))
 
 add-result : tie.Need-add-result
-add-result c = omega (arith, told-few (told (c .before .before .before .before)))
+add-result c = omega (arith, told-few (told (ends c)))
 
 add-result-2 : tie.Need-add-result-2
 add-result-2 c =
-    omega (arith, less-few (told (c .before .before .before .before)) (c .before .before .held-before .ensures) (c .held-after .ensures), c .before .before .before .before .before .before .before .before .before .before .of-length .ensures, capacity-few (c .before .before .before .before .before .before .before .before .before .before .before .before .before .pre .0))
+    omega (
+      arith,
+      less-few (told (ends c)) (c .before .before .held-before .ensures) (c .held-after .ensures),
+      limit-few ((start (runs (ends c))) .pre .0 .1),
+    )
 
 returns-2 : tie.Need-returns-2
-returns-2 c = true-fits (told (c .before .before .before .before)) (c .before .before .before .before .before .before .before .before .before .before .of-length .ensures) (c .before .before .before .if2 .taken) (c .before .before .held-before .ensures) (c .held-after .ensures)
+returns-2 c =
+    let p = ends c in
+    true-fits (told p) ((start (runs p)) .args .limit) (c .before .before .before .if2 .taken) (c .before .before .held-before .ensures) (c .held-after .ensures)
 
 add-result-3 : tie.Need-add-result-3
-add-result-3 c = omega (arith, inside-few (told (c .before .before)), c .before .before .before .before .before .before .before .before .of-length .ensures, capacity-few (c .before .before .before .before .before .before .before .before .before .before .before .pre .0))
+add-result-3 c = let p = c .before .before in omega (arith, inside-few (told p), limit-few ((start (runs p)) .pre .0 .1))
 
 returns-3 : tie.Need-returns-3
-returns-3 c = false-fits (told (c .before .before)) (c .before .before .before .before .before .before .before .before .of-length .ensures) (c .before .if2 .left)
+returns-3 c = let p = c .before .before in false-fits (told p) ((start (runs p)) .args .limit) (c .before .if2 .left)
 
 pub set-fits-spec : {M : Type 1} → statement M
 set-fits-spec =
     tie.close
     (tie.spec
-    read-header-requires
-    of-length-requires
     add-if1
     returns
     logical-runs-requires

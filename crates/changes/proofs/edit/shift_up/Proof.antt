@@ -1,84 +1,93 @@
 -- `shift_up` meets its contract: what would leave above M is cleared, or all is; then the offset moves the rest.
 -- Assumes nothing.
-use Prim.Native.Nat.{_-_}
-use mathlib.Core.Path.{_∙_}
+use Prim.Native.Nat.{ℕ, _-_}
 use mathlib.Core.Logic.{⊎-elim}
 use native.Mathlib.Omega.{arith}
 use Rattle.model.specs.Numbers.{size}
 use Rattle.model.specs.Positions.{shiftLeft}
-use Rattle.store.proofs.Opening.{sound-room}
-use Rattle.changes.proofs.Shifting.{Cleared, sound-ends, up-empty, up-clearable, up-uncleared, up-cleared, up-fits, up-settled}
+use Rattle.store.specs.Soundness.{Share, Limited}
+use Rattle.changes.proofs.Shifting.{Cleared, cleared-same, world-ends, up-empty, up-applies, up-uncleared, up-cleared, up-fits, up-became}
 use borrow.Author.Needs.{needs}
 use Rattle.changes.proofs.edit.shift_up.Statement.{statement}
 use Rattle.changes.proofs.edit.shift_up.Tie as tie
 
+-- where the call started, from where what would leave is cleared
+abbrev start : tie.Joined2 → tie.Start
+start j = j .before .before .before .before .before
+
 -- what would leave is cleared
-cleared : (c : tie.Joined2) → Cleared (c .before .before .before .before .before .before .before .args .words .now) (c .if2 .words) (size - c .before .before .before .before .before .before .before .args .d) (c .before .before .before .before .before .before .before .args .d) (shiftLeft (c .before .before .before .before .before .before .before .args .d))
-cleared c =
-    let r = c .before .before .before .before .before .before .before in
-    let en = sound-ends (r .pre .sound) (c .before .before .before .before .read-header .ensures) (r .pre .some) (omega (arith, c .before .before .before .before .read-header .ok)) in
+cleared : (j : tie.Joined2) {s : Share} {limit : ℕ} → Limited ((start j) .args .words .now) s ((start j) .args .h) limit
+    → Cleared ((start j) .args .words .now) (j .if2 .words) s ((start j) .args .h) (j .if2 .k) (size - (start j) .args .d) ((start j) .args .d) (shiftLeft ((start j) .args .d))
+cleared j lim =
+    let r = start j in
     ⊎-elim
-    (λ x. up-cleared (r .pre) en (omega (arith, r .fits .d)) _ _ _ (omega (arith, c .before .before .if1 .left)) (omega arith) (omega (arith, r .fits .d)) (x .2 .ensures) (x .5))
-    (λ x. up-uncleared (r .pre) en (omega (arith, r .fits .d)) (omega (arith, x .0 .left)) (x .1))
-    (c .if2 .came)
+    (λ x. cleared-same (x .5) (x .6) (up-cleared lim (r .pre .2 .some) (omega (arith, r .good)) (omega (arith, r .fits .d)) _ _ (omega (arith, j .before .before .if1 .left)) (omega arith) (omega (arith, r .fits .d)) (x .2 .ensures)))
+    (λ x. cleared-same (x .1) (x .2) (up-uncleared lim (r .pre .2 .some) (omega (arith, r .good)) (omega (arith, r .fits .d)) (omega (arith, x .0 .left))))
+    (j .if2 .came)
 
 sub-top : tie.Need-sub-top
 sub-top c = search needs
 
-read-header-requires : tie.Need-read-header-requires
-read-header-requires c κs = sound-room (c .before .before .pre .sound)
-
-make-requires : tie.Need-make-requires
-make-requires c κs = search needs
+emptied-requires : tie.Need-emptied-requires
+emptied-requires c κs = let p = c .before .before .before .before .pre in (p .0, p .2 .limited .standing)
 
 same-length : tie.Need-same-length
 same-length c = search needs
 
 returns : tie.Need-returns
-returns c = up-empty _ (sound-ends (c .before .before .before .before .before .before .before .before .before .pre .sound) (c .before .before .before .before .before .before .read-header .ensures) (c .before .before .before .before .before .before .before .before .before .pre .some) (omega (arith, c .before .before .before .before .before .before .read-header .ok))) (omega (arith, c .before .before .before .before .if1 .taken)) (c .before .before .make .ensures)
+returns c s limit lim =
+    let e = c .before .before in
+    let r = e .before .before .before .before .before in
+    up-empty (r .args .h) (r .args .d) (world-ends (lim .standing) (r .pre .2 .some) (omega (arith, r .good))) (omega (arith, e .before .before .if1 .taken))
+    (e .emptied .ensures s (lim .standing))
 
-add-t15 : tie.Need-add-t15
-add-t15 c = search needs
+add-t11 : tie.Need-add-t11
+add-t11 c = search needs
 
 apply-set-requires : tie.Need-apply-set-requires
-apply-set-requires c κs = (c .before .before .before .before .before .before .before .before .pre .sound, (omega arith, up-clearable _ (c .before .before .before .before .before .before .before .before .pre) (omega arith)))
-
-read-header-requires-2 : tie.Need-read-header-requires-2
-read-header-requires-2 c κs = sound-room ((cleared (c .before)) .sound)
+apply-set-requires c κs = up-applies (c .before .before .before .before .before .before .pre .2 .limited) _ _ (omega arith) (omega arith)
 
 wrapping-add-u64-requires : tie.Need-wrapping-add-u64-requires
 wrapping-add-u64-requires c κs = search needs
 
-add-t24 : tie.Need-add-t24
-add-t24 c = omega (arith, (up-fits (cleared (c .before .before .before .before .before)) (c .before .before .before .read-header2 .ensures) (omega (arith, c .before .before .before .read-header2 .ok)) (omega (arith, c .before .before .before .before .before .before .before .before .before .before .before .before .fits .d))) .0)
+add-moved : tie.Need-add-moved
+add-moved c =
+    let j = c .before .before in
+    let r = start j in
+    omega (arith, (up-fits (cleared j (r .pre .2 .limited)) (omega (arith, c .struct-known3 .given)) (omega (arith, r .fits .d))) .0)
 
-add-t25 : tie.Need-add-t25
-add-t25 c = omega (arith, (up-fits (cleared (c .before .before .before .before .before .before)) (c .before .before .before .before .read-header2 .ensures) (omega (arith, c .before .before .before .before .read-header2 .ok)) (omega (arith, c .before .before .before .before .before .before .before .before .before .before .before .before .before .fits .d))) .1)
+add-moved-2 : tie.Need-add-moved-2
+add-moved-2 c =
+    let j = c .before .before .before in
+    let r = start j in
+    omega (arith, (up-fits (cleared j (r .pre .2 .limited)) (omega (arith, c .before .struct-known3 .given)) (omega (arith, r .fits .d))) .1)
 
-write-header-requires : tie.Need-write-header-requires
-write-header-requires c κs = sound-room ((cleared (c .before .before .before .before .before .before)) .sound)
+moved-requires : tie.Need-moved-requires
+moved-requires c κs = search needs
 
 same-length-2 : tie.Need-same-length-2
-same-length-2 c = c .before .before .write-header .ensures .long ∙ (cleared (c .before .before .before .before .before .before .before .before .before)) .long
+same-length-2 c = let j = c .before .before .before .before in (cleared j ((start j) .pre .2 .limited)) .still .long
 
 returns-2 : tie.Need-returns-2
-returns-2 c = up-settled (cleared (c .before .before .before .before .before .before .before .before .before)) (c .before .before .before .before .before .before .before .read-header2 .ensures) (omega (arith, c .before .before .before .before .before .before .before .read-header2 .ok)) (omega (arith, c .before .before .before .before .before .before .before .before .before .before .before .before .before .before .before .before .fits .d)) (c .before .before .before .before .before .before .before .before .before .before .before .before .before .before .before .before .pre .far) (c .before .before .before .before .before .wrapping-add-u64 .ensures) (c .before .before .write-header .ensures)
+returns-2 c s limit lim =
+    let o = c .before .before .before in
+    let r = start (o .before) in
+    up-became (cleared (o .before) lim) (omega (arith, c .before .before .struct-known3 .given)) (omega (arith, r .fits .d)) (r .pre .2 .far)
+    (o .wrapping-add-u64 .ensures) (c .moved .ensures)
 
 pub shift-up-spec : {M : Type 1} → statement M
 shift-up-spec =
     tie.close
     (tie.spec
     sub-top
-    read-header-requires
-    make-requires
+    emptied-requires
     same-length
     returns
-    add-t15
+    add-t11
     apply-set-requires
-    read-header-requires-2
     wrapping-add-u64-requires
-    add-t24
-    add-t25
-    write-header-requires
+    add-moved
+    add-moved-2
+    moved-requires
     same-length-2
     returns-2)

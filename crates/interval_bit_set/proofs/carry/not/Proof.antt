@@ -1,12 +1,7 @@
--- `not` meets its contract: what is in just one of a sound store and all positions is its complement.
--- Assumes nothing.
+-- `not` meets its contract: words of no store's length are refused, then what looking refuses; the core's call does the rest. Assumes nothing.
 use mathlib.Core.Path.{sym, _∙_}
-use native.Mathlib.Omega.{arith}
-use Rattle.store.proofs.Opening.{sound-room}
-use Rattle.interval_bit_set.proofs.Meeting.{looked-sound}
-use Rattle.interval_bit_set.proofs.Looking.{looked-refused, reads-none}
-use Rattle.interval_bit_set.proofs.Joins.{complement-alike}
-use Rattle.interval_bit_set.proofs.Carrying.{own-short, refused-early, carried, complement-says}
+use Rattle.core.proofs.Carrying.{own-short, refused-early, complement-says}
+use Rattle.interval_bit_set.proofs.Looking.{looked-refused, looked-sound}
 use borrow.Author.Needs.{needs}
 use Rattle.interval_bit_set.proofs.carry.not.Statement.{statement}
 use Rattle.interval_bit_set.proofs.carry.not.Tie as tie
@@ -26,16 +21,8 @@ enum-known-l c = search needs
 enum-told : tie.Need-enum-told
 enum-told c = search needs
 
-read-header-requires : tie.Need-read-header-requires
-read-header-requires c κs = sound-room ((looked-sound _ (c .before .before .look-at .ensures) (c .enum-told .given .1)) .sound)
-
-gathered-requires : tie.Need-gathered-requires
-gathered-requires c κs =
-    let R = looked-sound _ (c .before .before .before .before .look-at .ensures) (c .before .before .enum-told .given .1) in
-    (record { sound = R .sound; sound₂ = R .sound; ordered = tt; ordered₂ = omega arith }, search needs)
-
-completed-requires : tie.Need-completed-requires
-completed-requires c κs = search needs
+not-requires : tie.Need-not-requires
+not-requires c κs = (search needs, looked-sound _ (c .before .before .before .look-at .ensures) (c .before .enum-told .given .1))
 
 returns-2 : tie.Need-returns-2
 returns-2 c = refused-early (complement-says _ _) (search needs) (looked-refused _ _ (c .before .before .before .look-at .ensures) (c .before .l .given .1))
@@ -44,9 +31,7 @@ same-length : tie.Need-same-length
 same-length c = search needs
 
 returns-3 : tie.Need-returns-3
-returns-3 c =
-    let R = looked-sound _ (c .before .before .before .before .before .before .before .before .look-at .ensures) (c .before .before .before .before .before .before .enum-told .given .1) in
-    carried (complement-says _ _) (search needs) _ (reads-none R) (complement-alike R (c .before .before .before .before .before .read-header .ensures)) (c .before .before .before .gathered .result) (c .before .before .before .gathered .ensures) (c .completed .ensures)
+returns-3 c = search needs
 
 pub not-spec : {M : Type 1} → statement M
 not-spec =
@@ -57,9 +42,7 @@ not-spec =
     look-at-requires
     enum-known-l
     enum-told
-    read-header-requires
-    gathered-requires
-    completed-requires
+    not-requires
     returns-2
     same-length
     returns-3)

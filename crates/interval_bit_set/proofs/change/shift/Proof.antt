@@ -1,7 +1,8 @@
 -- `shift` meets its contract: a store that looking refuses stays, another is changed by the core's call.
 -- Assumes nothing.
-use Rattle.interval_bit_set.proofs.Meeting.{looked-sound}
-use Rattle.interval_bit_set.proofs.Changing.{sent-away, shift-says}
+use Rattle.interval_bit_set.proofs.Looking.{looked-sound}
+use Rattle.interval_bit_set.proofs.Looking.{sent-away}
+use Rattle.core.proofs.Changing.{shift-says}
 use borrow.Author.Needs.{needs}
 use Rattle.interval_bit_set.proofs.change.shift.Statement.{statement}
 use Rattle.interval_bit_set.proofs.change.shift.Tie as tie

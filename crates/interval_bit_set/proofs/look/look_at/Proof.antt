@@ -1,7 +1,7 @@
 -- `look_at` meets its contract: what it tests is what the model is fed by.
 -- Assumes nothing.
 use mathlib.Core.Path.{sym, _∙_}
-use Rattle.interval_bit_set.proofs.Meeting.{readable}
+use Rattle.core.proofs.Meeting.{readable}
 use Rattle.interval_bit_set.proofs.Looking.{looked-short, looked-unsound}
 use borrow.Author.Needs.{needs}
 use Rattle.interval_bit_set.proofs.look.look_at.Statement.{statement}

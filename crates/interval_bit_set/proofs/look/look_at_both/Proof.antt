@@ -2,7 +2,7 @@
 -- Assumes nothing.
 use mathlib.Core.Path.{sym, _∙_}
 use borrow.Author.Tests.{not-true, not-false}
-use Rattle.interval_bit_set.proofs.Meeting.{fed-short, fed-unsound, readable}
+use Rattle.core.proofs.Meeting.{fed-short, fed-unsound, readable}
 use Rattle.interval_bit_set.proofs.Looking.{both-short, both-short₂, both-unsound, both-unsound₂}
 use borrow.Author.Needs.{needs}
 use Rattle.interval_bit_set.proofs.look.look_at_both.Statement.{statement}

@@ -1,7 +1,6 @@
--- `new` meets its contract: words of a store's length become an empty store, others stay.
--- Assumes nothing.
+-- `new` meets its contract: words of a store's length become an empty store, others stay. Assumes nothing.
 use mathlib.Core.Path.{sym, _∙_}
-use Rattle.interval_bit_set.proofs.Meeting.{make-refused, make-done}
+use Rattle.core.proofs.Carrying.{own-short, make-says}
 use borrow.Author.Needs.{needs}
 use Rattle.interval_bit_set.proofs.make.new.Statement.{statement}
 use Rattle.interval_bit_set.proofs.make.new.Tie as tie
@@ -10,16 +9,16 @@ of-length-requires : tie.Need-of-length-requires
 of-length-requires c κs = search needs
 
 returns : tie.Need-returns
-returns c = make-refused (c .before .before .before .before .args .words .now) (sym (c .before .before .of-length .ensures) ∙ c .if1 .taken)
+returns c = own-short (make-says _) (sym (c .before .before .of-length .ensures) ∙ c .if1 .taken)
 
-make-requires : tie.Need-make-requires
-make-requires c κs = search needs
+new-requires : tie.Need-new-requires
+new-requires c κs = search needs
 
 same-length : tie.Need-same-length
 same-length c = search needs
 
 returns-2 : tie.Need-returns-2
-returns-2 c = make-done _ _ (search needs) (c .before .before .make .ensures)
+returns-2 c = search needs
 
 pub new-spec : {M : Type 1} → statement M
-new-spec = tie.close (tie.spec of-length-requires returns make-requires same-length returns-2)
+new-spec = tie.close (tie.spec of-length-requires returns new-requires same-length returns-2)

@@ -1,7 +1,8 @@
 -- `draw_front` meets its contract: a store that looking refuses earns that refusal, of another the core's call answers.
 -- Assumes nothing.
 use mathlib.Core.Path.{refl}
-use Rattle.interval_bit_set.proofs.Meeting.{looked-sound, turned-away, draw-front-says}
+use Rattle.interval_bit_set.proofs.Looking.{looked-sound, turned-away}
+use Rattle.core.proofs.Meeting.{draw-front-says}
 use borrow.Author.Needs.{needs}
 use Rattle.interval_bit_set.proofs.report.draw_front.Statement.{statement}
 use Rattle.interval_bit_set.proofs.report.draw_front.Tie as tie

@@ -1,7 +1,8 @@
 -- `fill` meets its contract: a store that looking refuses earns that refusal, of another the core's call answers.
 -- Assumes nothing.
 use mathlib.Core.Path.{refl}
-use Rattle.interval_bit_set.proofs.Meeting.{looked-sound, turned-away, fill-says}
+use Rattle.interval_bit_set.proofs.Looking.{looked-sound, turned-away}
+use Rattle.core.proofs.Meeting.{fill-says}
 use borrow.Author.Needs.{needs}
 use Rattle.interval_bit_set.proofs.report.fill.Statement.{statement}
 use Rattle.interval_bit_set.proofs.report.fill.Tie as tie

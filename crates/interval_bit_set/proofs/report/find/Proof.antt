@@ -1,7 +1,8 @@
 -- `find` meets its contract: a store that looking refuses earns that refusal, of another the core's call answers.
 -- Assumes nothing.
 use mathlib.Core.Path.{refl}
-use Rattle.interval_bit_set.proofs.Meeting.{looked-sound, turned-away, find-says}
+use Rattle.interval_bit_set.proofs.Looking.{looked-sound, turned-away}
+use Rattle.core.proofs.Meeting.{find-says}
 use borrow.Author.Needs.{needs}
 use Rattle.interval_bit_set.proofs.report.find.Statement.{statement}
 use Rattle.interval_bit_set.proofs.report.find.Tie as tie

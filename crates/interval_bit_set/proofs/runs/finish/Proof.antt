@@ -1,25 +1,25 @@
--- `finish` meets its contract: a refusal is handed on, and runs that were admitted are linked.
+-- `finish` meets its contract: a refusal is handed on, and of runs that were admitted the store is made.
 -- Assumes nothing.
 use Prim.Native.Nat.{ℕ}
 use mathlib.Core.Path.{_≡_, refl, sym, subst}
 use mathlib.Core.List.{List}
 use Rattle.model.specs.declared.Completed.{Completed}
 use Rattle.model.specs.declared.Refusal.{Refusal}
-use Rattle.store.specs.Settle.{Linkable, Links}
+use Rattle.core.specs.Laid.{Finishable, Finishes}
 use Rattle.interval_bit_set.specs.declared.runs.Verdict.{Verdict}
-use Rattle.interval_bit_set.specs.RunSlice.{LinkableIf, Finishing, LinksIf, Finished}
+use Rattle.interval_bit_set.specs.RunSlice.{freeFrom, FinishableIf, Finishing, FinishesIf, Finished}
 use borrow.Author.Needs.{needs}
 use Rattle.interval_bit_set.proofs.runs.finish.Statement.{statement}
 use Rattle.interval_bit_set.proofs.runs.finish.Tie as tie
 
-linkable : {w : List ℕ} (a : Verdict) → Finishing w a → a .answer ≡ Completed.Done → Linkable w (a .runs)
-linkable {w} a f e = subst (λ c. LinkableIf w c (a .runs)) e f
+finishable : (w : List ℕ) (head : ℕ) (a : Verdict) → Finishing w head a → a .answer ≡ Completed.Done → Finishable w (freeFrom head) (a .runs)
+finishable w head a f e = subst (λ c. FinishableIf w head c (a .runs)) e f
 
-linked : {w w′ : List ℕ} (a : Verdict) → a .answer ≡ Completed.Done → Links w w′ (a .runs) → Finished w w′ a Completed.Done
-linked {w} {w′} a e l = record { answers = sym e; left = subst (λ c. LinksIf w w′ c (a .runs)) (sym e) l }
+finished : (w w′ : List ℕ) (head : ℕ) (a : Verdict) → a .answer ≡ Completed.Done → Finishes w w′ (freeFrom head) (a .runs) → Finished w w′ head a Completed.Done
+finished w w′ head a e l = record { answers = sym e; left = subst (λ c. FinishesIf w w′ head c (a .runs)) (sym e) l }
 
-handed-on : {w : List ℕ} (a : Verdict) (r : Refusal) → a .answer ≡ Completed.Refused r → Finished w w a (Completed.Refused r)
-handed-on {w} a r e = record { answers = sym e; left = subst (λ c. LinksIf w w c (a .runs)) (sym e) refl }
+handed-on : (w : List ℕ) (head : ℕ) (a : Verdict) (r : Refusal) → a .answer ≡ Completed.Refused r → Finished w w head a (Completed.Refused r)
+handed-on w head a r e = record { answers = sym e; left = subst (λ c. FinishesIf w w head c (a .runs)) (sym e) refl }
 
 enum-known-c : tie.Need-enum-known-c
 enum-known-c c = search needs
@@ -27,18 +27,18 @@ enum-known-c c = search needs
 enum-told : tie.Need-enum-told
 enum-told c = search needs
 
-link-requires : tie.Need-link-requires
-link-requires c κs = linkable _ (c .before .before .before .before .pre) (c .before .enum-told .given .1)
+finish-requires : tie.Need-finish-requires
+finish-requires c κs = finishable _ _ _ (c .before .before .before .before .pre) (c .before .enum-told .given .1)
 
 returns : tie.Need-returns
-returns c = handed-on _ _ (c .before .c .given .1)
+returns c = handed-on _ _ _ _ (c .before .c .given .1)
 
 same-length : tie.Need-same-length
 same-length c = search needs
 
 returns-2 : tie.Need-returns-2
-returns-2 c = linked _ (c .before .before .before .before .enum-told .given .1) (c .before .before .link .ensures)
+returns-2 c = finished _ _ _ _ (c .before .before .before .before .enum-told .given .1) (c .before .before .finish .ensures)
 
 pub finish-spec : {M : Type 1} → statement M
 finish-spec =
-    tie.close (tie.spec enum-known-c enum-told link-requires returns same-length returns-2)
+    tie.close (tie.spec enum-known-c enum-told finish-requires returns same-length returns-2)

@@ -1,47 +1,70 @@
--- `map_fits` meets its contract: the runs that the map leaves are told by the store's runs, those of the window and of the map, and the
+-- `map_fits` meets its contract: the runs that the map leaves are told by the world's runs, those of the window and of the map, and the
 -- neighbours of the window's ends. Assumes nothing.
-use Prim.Native.Nat.{_+_, _-_}
+use Prim.Native.Nat.{_+_, _-_, _≤_}
 use mathlib.Core.Path.{_≡_}
 use mathlib.Core.Bool.{_&&_}
 use mathlib.Core.Logic.{⊎-elim}
 use native.Mathlib.Omega.{arith}
 use borrow.Author.Needs.{needs}
-use Rattle.model.specs.Positions.{oneIf}
+use Rattle.model.specs.Positions.{Positions, oneIf}
 use Rattle.model.specs.Bytes.{mapBit}
 use Rattle.model.specs.After.{goesOn}
-use Rattle.store.specs.Layout.{heldBy}
-use Rattle.store.proofs.Opening.{sound-room, sound-counted, logical-told}
+use Rattle.store.specs.Layout.{heldIn}
+use Rattle.store.proofs.Opening.{standing-counted, logical-told}
 use Rattle.changes.specs.Neighbours.{heldBelow, heldAbove}
-use Rattle.changes.proofs.Fitting.{one-most, logical-few, capacity-few, Told, told-few}
+use Rattle.changes.proofs.Fitting.{one-most, limit-few, logical-few, Told, told-few}
 use Rattle.maps.proofs.Leaving.{end-asked, end-none, before-few, after-few, map-fits-is}
 use Rattle.maps.proofs.read.map_fits.Statement.{statement}
 use Rattle.maps.proofs.read.map_fits.Tie as tie
 
+-- the world's positions
+abbrev held : tie.Start → Positions
+held s = heldIn (s .args .words .now) (s .args .h)
+
+-- where the call started, once all runs are counted
+abbrev start : tie.After-going-past → tie.Start
+start r = r .before .before .before .before .before .before
+
 -- what is counted before the bits are asked
-told : (c : tie.After-going-past) → Told (heldBy (c .before .before .before .before .before .before .before .before .args .words .now)) (c .before .before .before .before .before .before .before .before .args .base) (c .before .before .before .before .before .before .before .before .args .base + (c .before .before .before .before .before .before .before .before .args .n - 1)) (c .before .before .before .logical-runs .result) (c .before .before .tally .result .runs) (c .before .going-on .result) (c .going-past .result)
-told c = record {
-  ordered = omega arith;
-  below = omega (arith, c .before .before .before .before .before .before .before .before .pre .1 .0 .some, c .before .before .before .before .before .before .before .before .pre .1 .0 .within);
-  few = logical-few (c .before .before .before .before .before .before .before .before .pre .0);
-  total-is = logical-told (c .before .before .before .before .before .before .before .before .pre .0) (c .before .before .before .before .before .read-header .ensures) (c .before .before .before .logical-runs .ensures);
-  inside-is = c .before .before .tally .ensures .runs-are;
-  on-is = c .before .going-on .ensures;
-  past-is = c .going-past .ensures;
-}
+told : (r : tie.After-going-past) → Told (held (start r)) ((start r) .args .base) ((start r) .args .base + ((start r) .args .n - 1)) (r .before .before .before .logical-runs .result)
+    (r .before .before .tally .result .runs) (r .before .going-on .result) (r .going-past .result)
+told r =
+    let s = start r in
+    record {
+      ordered = omega arith;
+      below = omega (arith, s .pre .1 .0 .some, s .pre .1 .0 .within);
+      few = logical-few (s .pre .0 .1);
+      total-is = logical-told (s .pre .0 .1 .standing) (r .before .before .before .logical-runs .ensures);
+      inside-is = r .before .before .tally .ensures .runs-are;
+      on-is = r .before .going-on .ensures;
+      past-is = r .going-past .ensures;
+    }
+
+-- where they are counted, and one bit is asked, or both
+abbrev first : tie.Joined1 → tie.After-going-past
+first c = c .before .before
+
+abbrev counted : tie.Joined2 → tie.After-going-past
+counted c = first (c .before .before)
 
 -- what the lower end adds
-low-is : (c : tie.Joined1) → c .if1 .low ≡ oneIf (heldBelow (heldBy (c .before .before .before .before .before .before .before .before .before .before .args .words .now)) (c .before .before .before .before .before .before .before .before .before .before .args .base) && mapBit (c .before .before .before .before .before .before .before .before .before .before .args .bytes .now) 0)
-low-is c = ⊎-elim (λ x. end-asked (heldBelow (heldBy (c .before .before .before .before .before .before .before .before .before .before .args .words .now)) (c .before .before .before .before .before .before .before .before .before .before .args .base)) (c .before .bit .ensures) (x .0 .taken) (x .1 .ensures) (x .2)) (λ x. end-none (heldBelow (heldBy (c .before .before .before .before .before .before .before .before .before .before .args .words .now)) (c .before .before .before .before .before .before .before .before .before .before .args .base)) (c .before .bit .ensures) (x .0 .left) (x .1)) (c .if1 .came)
+low-is : (c : tie.Joined1) → c .if1 .low ≡ oneIf (heldBelow (held (start (first c))) ((start (first c)) .args .base) && mapBit ((start (first c)) .args .bytes .now) 0)
+low-is c =
+    let b = heldBelow (held (start (first c))) ((start (first c)) .args .base) in
+    ⊎-elim (λ x. end-asked b (c .before .bit .ensures) (x .0 .taken) (x .1 .ensures) (x .2)) (λ x. end-none b (c .before .bit .ensures) (x .0 .left) (x .1)) (c .if1 .came)
 
 -- and the upper one
-high-is : (c : tie.Joined2) → c .if2 .high ≡ oneIf (heldAbove (heldBy (c .before .before .before .before .before .before .before .before .before .before .before .before .args .words .now)) (c .before .before .before .before .before .before .before .before .before .before .before .before .args .base + (c .before .before .before .before .before .before .before .before .before .before .before .before .args .n - 1)) && mapBit (c .before .before .before .before .before .before .before .before .before .before .before .before .args .bytes .now) (c .before .before .before .before .before .before .before .before .before .before .before .before .args .n - 1))
-high-is c = ⊎-elim (λ x. end-asked (heldAbove (heldBy (c .before .before .before .before .before .before .before .before .before .before .before .before .args .words .now)) (c .before .before .before .before .before .before .before .before .before .before .before .before .args .base + (c .before .before .before .before .before .before .before .before .before .before .before .before .args .n - 1))) (c .before .bit2 .ensures) (x .0 .taken) (x .1 .ensures) (x .2)) (λ x. end-none (heldAbove (heldBy (c .before .before .before .before .before .before .before .before .before .before .before .before .args .words .now)) (c .before .before .before .before .before .before .before .before .before .before .before .before .args .base + (c .before .before .before .before .before .before .before .before .before .before .before .before .args .n - 1))) (c .before .bit2 .ensures) (x .0 .left) (x .1)) (c .if2 .came)
+high-is : (c : tie.Joined2) → c .if2 .high
+    ≡ oneIf (heldAbove (held (start (counted c))) ((start (counted c)) .args .base + ((start (counted c)) .args .n - 1)) && mapBit ((start (counted c)) .args .bytes .now) ((start (counted c)) .args .n - 1))
+high-is c =
+    let b = heldAbove (held (start (counted c))) ((start (counted c)) .args .base + ((start (counted c)) .args .n - 1)) in
+    ⊎-elim (λ x. end-asked b (c .before .bit2 .ensures) (x .0 .taken) (x .1 .ensures) (x .2)) (λ x. end-none b (c .before .bit2 .ensures) (x .0 .left) (x .1)) (c .if2 .came)
 
-read-header-requires : tie.Need-read-header-requires
-read-header-requires c κs = sound-room (c .before .before .pre .0)
-
-of-length-requires : tie.Need-of-length-requires
-of-length-requires c κs = search needs
+-- what the runs are compared with is small
+small : (c : tie.Joined2) → (start (counted c)) .args .limit + (counted c) .before .before .tally .result .runs + c .before .before .if1 .low + c .if2 .high ≤ 400000
+small c =
+    let s = start (counted c) in
+    after-few (s .pre .1 .0) (told (counted c)) (s .pre .1 .1) (limit-few (s .pre .0 .1)) (low-is (c .before .before)) (high-is c)
 
 sub-before : tie.Need-sub-before
 sub-before c = search needs
@@ -50,7 +73,7 @@ add-before : tie.Need-add-before
 add-before c = search needs
 
 logical-runs-requires : tie.Need-logical-runs-requires
-logical-runs-requires c κs = sound-counted (c .before .before .before .before .pre .0) (c .before .read-header .ensures)
+logical-runs-requires c κs = standing-counted (c .before .before .pre .0 .1 .standing)
 
 tally-requires : tie.Need-tally-requires
 tally-requires c κs = search needs
@@ -60,11 +83,12 @@ going-on-requires c κs = search needs
 
 add-before-2 : tie.Need-add-before-2
 add-before-2 c =
+    let s = c .before .before .before .before .before in
     omega (
       arith,
-      logical-told (c .before .before .before .before .before .before .before .pre .0) (c .before .before .before .before .read-header .ensures) (c .before .before .logical-runs .ensures),
-      logical-few (c .before .before .before .before .before .before .before .pre .0),
-      one-most (c .going-on .result) (goesOn (heldBy (c .before .before .before .before .before .before .before .args .words .now)) (c .before .before .before .before .before .before .before .args .base)) (c .going-on .ensures),
+      logical-told (s .pre .0 .1 .standing) (c .before .before .logical-runs .ensures),
+      logical-few (s .pre .0 .1),
+      one-most (c .going-on .result) (goesOn (held s) (s .args .base)) (c .going-on .ensures),
     )
 
 going-past-requires : tie.Need-going-past-requires
@@ -89,27 +113,27 @@ held-after-requires : tie.Need-held-after-requires
 held-after-requires c κs = search needs
 
 add-result : tie.Need-add-result
-add-result c = omega (arith, before-few (heldBy (c .before .before .before .before .before .before .before .before .before .before .before .before .args .words .now)) (c .before .before .before .before .before .before .before .before .before .before .before .before .args .base) (c .before .before .before .before .before .before .before .before .before .before .before .before .args .n) (c .before .before .before .before .before .before .before .before .before .before .before .before .args .bytes .now) (c .before .before .before .before .before .before .before .before .before .before .before .before .pre .1 .0) (told (c .before .before .before .before)) (c .before .before .before .before .before .before .before .before .before .before .before .before .pre .1 .1))
+add-result c = omega (arith, before-few ((start (counted c)) .pre .1 .0) (told (counted c)) ((start (counted c)) .pre .1 .1))
 
 add-result-2 : tie.Need-add-result-2
-add-result-2 c = omega (arith, after-few (heldBy (c .before .before .before .before .before .before .before .before .before .before .before .before .before .before .args .words .now)) (c .before .before .before .before .before .before .before .before .before .before .before .before .before .before .args .base) (c .before .before .before .before .before .before .before .before .before .before .before .before .before .before .args .n) (c .before .before .before .before .before .before .before .before .before .before .before .before .before .before .args .bytes .now) (c .before .before .before .before .before .before .before .before .before .before .before .before .before .before .pre .1 .0) (told (c .before .before .before .before .before .before)) (c .before .before .before .before .before .before .before .before .before .before .before .before .before .before .pre .1 .1) (c .before .before .before .before .before .before .before .before .before .before .of-length .ensures) (capacity-few (c .before .before .before .before .before .before .before .before .before .before .before .before .before .before .pre .0)) (low-is (c .before .before .before .before)) (high-is (c .before .before)))
+add-result-2 c = omega (arith, small (c .before))
 
 add-result-3 : tie.Need-add-result-3
-add-result-3 c = omega (arith, after-few (heldBy (c .before .before .before .before .before .before .before .before .before .before .before .before .before .before .before .args .words .now)) (c .before .before .before .before .before .before .before .before .before .before .before .before .before .before .before .args .base) (c .before .before .before .before .before .before .before .before .before .before .before .before .before .before .before .args .n) (c .before .before .before .before .before .before .before .before .before .before .before .before .before .before .before .args .bytes .now) (c .before .before .before .before .before .before .before .before .before .before .before .before .before .before .before .pre .1 .0) (told (c .before .before .before .before .before .before .before)) (c .before .before .before .before .before .before .before .before .before .before .before .before .before .before .before .pre .1 .1) (c .before .before .before .before .before .before .before .before .before .before .before .of-length .ensures) (capacity-few (c .before .before .before .before .before .before .before .before .before .before .before .before .before .before .before .pre .0)) (low-is (c .before .before .before .before .before)) (high-is (c .before .before .before)))
+add-result-3 c = omega (arith, small (c .before .before))
 
 add-result-4 : tie.Need-add-result-4
-add-result-4 c = omega (arith, after-few (heldBy (c .before .before .before .before .before .before .before .before .before .before .before .before .before .before .before .before .args .words .now)) (c .before .before .before .before .before .before .before .before .before .before .before .before .before .before .before .before .args .base) (c .before .before .before .before .before .before .before .before .before .before .before .before .before .before .before .before .args .n) (c .before .before .before .before .before .before .before .before .before .before .before .before .before .before .before .before .args .bytes .now) (c .before .before .before .before .before .before .before .before .before .before .before .before .before .before .before .before .pre .1 .0) (told (c .before .before .before .before .before .before .before .before)) (c .before .before .before .before .before .before .before .before .before .before .before .before .before .before .before .before .pre .1 .1) (c .before .before .before .before .before .before .before .before .before .before .before .before .of-length .ensures) (capacity-few (c .before .before .before .before .before .before .before .before .before .before .before .before .before .before .before .before .pre .0)) (low-is (c .before .before .before .before .before .before)) (high-is (c .before .before .before .before)))
+add-result-4 c = omega (arith, small (c .before .before .before))
 
 returns : tie.Need-returns
 returns c =
-    map-fits-is (heldBy (c .before .before .before .before .before .before .before .before .before .before .before .before .before .before .before .before .args .words .now)) (c .before .before .before .before .before .before .before .before .before .before .before .before .before .before .before .before .args .base) (c .before .before .before .before .before .before .before .before .before .before .before .before .before .before .before .before .args .n) (c .before .before .before .before .before .before .before .before .before .before .before .before .before .before .before .before .args .bytes .now) (c .before .before .before .before .before .before .before .before .before .before .before .before .before .before .before .before .pre .1 .0) (told (c .before .before .before .before .before .before .before .before)) (c .before .before .before .before .before .before .before .before .before .before .before .before .before .before .before .before .pre .1 .1) (c .before .before .before .before .before .before .before .before .before .before .before .before .of-length .ensures) (capacity-few (c .before .before .before .before .before .before .before .before .before .before .before .before .before .before .before .before .pre .0)) (low-is (c .before .before .before .before .before .before)) (high-is (c .before .before .before .before))
+    let j = c .before .before .before in
+    let s = start (counted j) in
+    map-fits-is (s .pre .1 .0) (told (counted j)) (s .pre .1 .1) (limit-few (s .pre .0 .1)) (low-is (j .before .before)) (high-is j)
 
 pub map-fits-spec : {M : Type 1} → statement M
 map-fits-spec =
     tie.close
     (tie.spec
-    read-header-requires
-    of-length-requires
     sub-before
     add-before
     logical-runs-requires

@@ -83,11 +83,11 @@ octet-of-octet-of-requires t c κs = (omega (arith, c .before .before .before .b
 octet-of-shl-t15 : (t : ℕ) → octet-of-lts.Need-shl-t15 (octet-of-claims t) (octet-of-at t) octet-of.Post
 octet-of-shl-t15 t c = omega (arith, c .before .before .before .before .before .before .if1 .left, c .before .before .before .before .before .before .before .before .before .before .pre .1 .1 .few)
 
-octet-of-add-t20 : (t : ℕ) → octet-of-lts.Need-add-t20 (octet-of-claims t) (octet-of-at t) octet-of.Post
-octet-of-add-t20 t c = omega (arith, octets-small (c .before .before .before .before .before .before .before .before .before .before .pre .1 .1) (octets-more _ _ _ _ _ _ (c .before .before .before .before .before .before .before .before .value-at .ensures) (c .before .before .before .before .before .before .before .same-to .ensures) (c .before .before .before .before .before .before .if1 .left) (c .before .before .before .before .before .alike2 .ensures) (c .before .before .before .moved .ensures) (c .before .octet-of .ensures)))
-
 octet-of-returns-2 : (t : ℕ) → octet-of-lts.Need-returns-2 (octet-of-claims t) (octet-of-at t) octet-of.Post
 octet-of-returns-2 t c = octets-more _ _ _ _ _ _ (c .before .before .before .before .before .before .before .before .value-at .ensures) (c .before .before .before .before .before .before .before .same-to .ensures) (c .before .before .before .before .before .before .if1 .left) (c .before .before .before .before .before .alike2 .ensures) (c .before .before .before .moved .ensures) (c .before .octet-of .ensures)
+
+octet-of-add-t20 : (t : ℕ) → octet-of-lts.Need-add-t20 (octet-of-claims t) (octet-of-at t) octet-of.Post
+octet-of-add-t20 t c = omega (arith, octets-small (c .before .before .before .before .before .before .before .before .before .before .pre .1 .1) (octet-of-returns-2 t c))
 
 pub +octet-of-spec : {M : Type 1} → statement M
 +octet-of-spec = close μ-octet-of λ t. octet-of-lts.spec (octet-of-claims t)

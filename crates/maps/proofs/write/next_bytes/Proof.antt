@@ -7,11 +7,15 @@ use Rattle.maps.proofs.Octeting.{stood-same, octets-small, due-stood, d
 use Rattle.maps.proofs.write.next_bytes.Statement.{statement}
 use Rattle.maps.proofs.write.next_bytes.Tie as tie
 
+-- where the call started
+abbrev start : tie.After-same-to → tie.Start
+start r = r .before .before .before
+
 same-to-requires : tie.Need-same-to-requires
 same-to-requires c κs = search needs
 
 sub-after : tie.Need-sub-after
-sub-after c = omega (arith, stood-same (due-stood (c .before .before .before .pre .1)) (c .same-to .ensures))
+sub-after c = omega (arith, stood-same (due-stood ((start c) .pre .1)) (c .same-to .ensures))
 
 value-at-requires : tie.Need-value-at-requires
 value-at-requires c κs = search needs
@@ -32,13 +36,17 @@ same-length : tie.Need-same-length
 same-length c = search needs
 
 returns : tie.Need-returns
-returns c = λ Q d. due-alike d (c .before .before .before .before .before .before .value-at .ensures) (c .before .before .before .before .before .before .before .before .same-to .ensures) (c .before .before .before .before .before .before .before .if1 .taken) (c .before .before .before .before .whole-bytes .ensures) (c .before .before .before .before .before .alike .ensures) (c .before .before .fill-bytes .ensures)
+returns c =
+    let k = c .before .before .before .before in
+    λ Q d.
+    due-alike d (k .before .before .value-at .ensures) (k .before .before .before .before .same-to .ensures) (k .before .before .before .if1 .taken) (k .whole-bytes .ensures)
+    (k .before .alike .ensures) (c .before .before .fill-bytes .ensures)
 
 octet-of-requires : tie.Need-octet-of-requires
-octet-of-requires c κs = (_, due-stood (c .before .before .before .before .before .pre .1))
+octet-of-requires c κs = (_, due-stood ((start (c .before .before)) .pre .1))
 
 cast-out : tie.Need-cast-out
-cast-out c = omega (arith, octets-small (due-stood (c .before .before .before .before .before .before .before .pre .1)) (c .before .octet-of .ensures))
+cast-out c = omega (arith, octets-small (due-stood ((start (c .before .before .before .before)) .pre .1)) (c .before .octet-of .ensures))
 
 slice-write-out : tie.Need-slice-write-out
 slice-write-out c = search needs

@@ -2,11 +2,18 @@
 -- Assumes nothing.
 use native.Mathlib.Omega.{arith}
 use mathlib.Core.Logic.{inl, inr}
-use Rattle.store.specs.Layout.{heldBy}
 use Rattle.reports.proofs.Bounding.{first-run-some, no-first-run, first-run-ends, first-run-clipped}
 use borrow.Author.Needs.{needs}
 use Rattle.reports.proofs.runs.first_run.Statement.{statement}
 use Rattle.reports.proofs.runs.first_run.Tie as tie
+
+-- where the call started
+abbrev start : tie.After-next → tie.Start
+start r = r .before .before
+
+-- where the first search had found something
+abbrev found : tie.After-next2 → tie.After-n
+found s = s .before .before .before
 
 next-requires : tie.Need-next-requires
 next-requires c κs = search needs
@@ -16,10 +23,9 @@ enum-known-n c = search needs
 
 returns : tie.Need-returns
 returns c =
-    let r = c .before .before .before .before in
-    no-first-run (heldBy (r .before .before .args .words .now)) (r .before .before .args .value) (r .before .before .args .a .0) (r .before .before .args .b .0)
-    (r .next .result) (omega (arith, r .before .before .good)) (r .next .ensures) (inr
-    (c .before .before .n .given .0 .0, c .before .before .n .given .1, c .if1 .taken))
+    let n = c .before .before in
+    let r = n .before .before in
+    no-first-run _ _ _ _ (r .next .result) (omega (arith, (start r) .good)) (r .next .ensures) (inr (n .n .given .0 .0, n .n .given .1, c .if1 .taken))
 
 next-requires-2 : tie.Need-next-requires-2
 next-requires-2 c κs = search needs
@@ -29,19 +35,20 @@ enum-known-m c = search needs
 
 returns-2 : tie.Need-returns-2
 returns-2 c =
-    let r = c .before .before .before .before .before .before .before .before .before in
-    first-run-clipped (heldBy (r .before .before .args .words .now)) (r .before .before .args .value) (r .before .before .args .a .0)
-    (r .before .before .args .b .0) (r .next .result) (c .before .before .before .before .next2 .result) (omega (arith, r .before .before .good))
-    (r .next .ensures) (c .before .before .before .before .before .before .before .n .given .1) (c .before .before .before .before .before .if1 .left)
-    (c .before .before .before .before .next2 .ensures) (inr (c .before .before .m .given .0 .0, c .before .before .m .given .1, c .if2 .taken))
+    let m = c .before .before in
+    let s = m .before .before in
+    let n = found s in
+    let r = n .before .before in
+    first-run-clipped _ _ _ _ (r .next .result) (s .next2 .result) (omega (arith, (start r) .good)) (r .next .ensures) (n .n .given .1) (s .before .if1 .left)
+    (s .next2 .ensures) (inr (m .m .given .0 .0, m .m .given .1, c .if2 .taken))
 
-sub-t16 : tie.Need-sub-t16
-sub-t16 c =
-    let r = c .before .before .before .before .before .before .before .before .before in
-    first-run-some (heldBy (r .before .before .args .words .now)) (r .before .before .args .value) (r .before .before .args .a .0)
-    (r .before .before .args .b .0) (r .next .result) (c .before .before .before .before .next2 .result) (r .next .ensures)
-    (c .before .before .before .before .before .before .before .n .given .1) (c .before .before .before .before .next2 .ensures)
-    (c .before .before .m .given .1)
+sub-t17 : tie.Need-sub-t17
+sub-t17 c =
+    let m = c .before .before in
+    let s = m .before .before in
+    let n = found s in
+    let r = n .before .before in
+    first-run-some _ _ _ ((start r) .args .b .0) (r .next .result) (s .next2 .result) (r .next .ensures) (n .n .given .1) (s .next2 .ensures) (m .m .given .1)
 
 enum-told : tie.Need-enum-told
 enum-told c = search needs
@@ -51,25 +58,24 @@ enum-told-2 c = search needs
 
 returns-3 : tie.Need-returns-3
 returns-3 c =
-    let r = c .before .before .before .before .before .before .before .before .before in
-    first-run-ends (heldBy (r .before .before .args .words .now)) (r .before .before .args .value) (r .before .before .args .a .0)
-    (r .before .before .args .b .0) (r .next .result) (c .before .before .before .before .next2 .result) (r .next .ensures)
-    (c .before .before .before .before .before .before .before .n .given .1) (c .before .before .before .before .next2 .ensures)
-    (c .before .before .m .given .1) (c .if2 .left)
+    let m = c .before .before in
+    let s = m .before .before in
+    let n = found s in
+    let r = n .before .before in
+    first-run-ends _ _ _ _ (r .next .result) (s .next2 .result) (r .next .ensures) (n .n .given .1) (s .next2 .ensures) (m .m .given .1) (c .if2 .left)
 
 returns-4 : tie.Need-returns-4
 returns-4 c =
-    let r = c .before .before .before .before .before .before .before in
-    first-run-clipped (heldBy (r .before .before .args .words .now)) (r .before .before .args .value) (r .before .before .args .a .0)
-    (r .before .before .args .b .0) (r .next .result) (c .before .before .next2 .result) (omega (arith, r .before .before .good)) (r .next .ensures)
-    (c .before .before .before .before .before .n .given .1) (c .before .before .before .if1 .left) (c .before .before .next2 .ensures) (inl
-    (c .enum-told .given .1))
+    let s = c .before .before in
+    let n = found s in
+    let r = n .before .before in
+    first-run-clipped _ _ _ _ (r .next .result) (s .next2 .result) (omega (arith, (start r) .good)) (r .next .ensures) (n .n .given .1) (s .before .if1 .left)
+    (s .next2 .ensures) (inl (c .enum-told .given .1))
 
 returns-5 : tie.Need-returns-5
 returns-5 c =
-    no-first-run (heldBy (c .before .before .before .before .args .words .now)) (c .before .before .before .before .args .value)
-    (c .before .before .before .before .args .a .0) (c .before .before .before .before .args .b .0) (c .before .before .next .result) (omega
-    (arith, c .before .before .before .before .good)) (c .before .before .next .ensures) (inl (c .enum-told2 .given .1))
+    let r = c .before .before in
+    no-first-run _ _ _ _ (r .next .result) (omega (arith, (start r) .good)) (r .next .ensures) (inl (c .enum-told2 .given .1))
 
 pub first-run-spec : {M : Type 1} → statement M
 first-run-spec =
@@ -81,7 +87,7 @@ first-run-spec =
     next-requires-2
     enum-known-m
     returns-2
-    sub-t16
+    sub-t17
     enum-told
     enum-told-2
     returns-3

@@ -1,7 +1,6 @@
 -- `run_at` meets its contract: from its start to its end, of the value that x has.
 -- Assumes nothing.
 use mathlib.Core.Path.{sym}
-use Rattle.store.specs.Layout.{heldBy}
 use Rattle.reports.proofs.Bounding.{run-around}
 use borrow.Author.Needs.{needs}
 use Rattle.reports.proofs.runs.run_at.Statement.{statement}
@@ -17,9 +16,7 @@ high-end-requires : tie.Need-high-end-requires
 high-end-requires c κs = (c .before .before .before .pre, sym (c .before .get .ensures))
 
 returns : tie.Need-returns
-returns c =
-    run-around (heldBy (c .before .before .before .before .args .words .now)) (c .before .before .get .result) (c .before .before .get .ensures)
-    (c .before .low-end .ensures) (c .high-end .ensures)
+returns c = run-around _ _ (c .before .before .get .ensures) (c .before .low-end .ensures) (c .high-end .ensures)
 
 pub run-at-spec : {M : Type 1} → statement M
 run-at-spec = tie.close (tie.spec get-requires low-end-requires high-end-requires returns)

@@ -1,26 +1,27 @@
--- `first_after` meets its contract: the value and what the header told of the first position tell it, or the search does. Assumes nothing.
-use Rattle.store.proofs.Settling.{kept-index, first-told}
+-- `first_after` meets its contract: the value and what the world told of the first position tell it, or the search does. Assumes nothing.
+use Rattle.store.proofs.Settling.{kept-indexed, first-told}
 use Rattle.store.proofs.Resetting.{alone-first, new-first, same-first, spared-first}
 use Rattle.store.proofs.settle.first_after.Statement.{statement}
 use Rattle.store.proofs.settle.first_after.Tie as tie
 
 returns : tie.Need-returns
-returns c = alone-first (c .before .before .before .before .pre .0) (c .before .before .before .before .pre .1 .1) (c .before .before .if1 .taken) (c .if2 .taken)
+returns c = alone-first (c .before .before .before .before .pre .1) (c .before .before .if1 .taken) (c .if2 .taken)
 
 returns-2 : tie.Need-returns-2
-returns-2 c = new-first (c .before .before .before .before .before .pre .0) (c .before .before .before .before .before .pre .1 .1) (c .before .before .before .if1 .taken) (c .before .if2 .left) (c .if3 .taken)
+returns-2 c = new-first (c .before .before .before .before .before .pre .1) (c .before .before .before .if1 .taken) (c .before .if2 .left) (c .if3 .taken)
 
 returns-3 : tie.Need-returns-3
-returns-3 c = same-first (c .before .before .before .before .before .pre .0) (c .before .before .before .before .before .pre .1 .1) (c .before .before .before .if1 .taken) (c .before .if2 .left) (c .if3 .left)
+returns-3 c = same-first (c .before .before .before .before .before .pre .1) (c .before .before .before .if1 .taken) (c .before .if2 .left) (c .if3 .left)
 
 returns-4 : tie.Need-returns-4
-returns-4 c = spared-first (c .before .before .before .pre .0) (c .before .before .before .pre .1 .1) (c .before .if1 .left) (c .if4 .taken)
+returns-4 c = spared-first (c .before .before .before .pre .1) (c .before .if1 .left) (c .if4 .taken)
 
 first-held-requires : tie.Need-first-held-requires
-first-held-requires c κs = (0, _, kept-index _ _ _ _ (c .before .before .before .pre .0) (c .before .before .before .pre .1 .1 .3 .kept))
+first-held-requires c κs = kept-indexed (c .before .before .before .pre .1 .4)
 
 returns-5 : tie.Need-returns-5
-returns-5 c = first-told (c .before .before .before .before .pre .1 .1 .3 .kept) (c .before .before .before .before .pre .0) (c .first-held .ensures)
+returns-5 c = first-told _ (c .before .before .before .before .pre .1 .4) (c .first-held .ensures)
 
 pub first-after-spec : {M : Type 1} → statement M
-first-after-spec = tie.close (tie.spec returns returns-2 returns-3 returns-4 first-held-requires returns-5)
+first-after-spec =
+    tie.close (tie.spec returns returns-2 returns-3 returns-4 first-held-requires returns-5)

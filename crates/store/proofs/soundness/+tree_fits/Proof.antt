@@ -2,13 +2,14 @@
 -- no node there is higher than the link's. The tests are the definition's; either side of a node is lower than the node. The measure of the
 -- recursion and of the loop is the height that the words give. Assumes nothing.
 use mathlib.Core.Path.{sym, ap, _∙_}
+use mathlib.Core.Bool.{Bool}
 use native.Mathlib.Omega.{arith}
 use borrow.Author.Needs.{needs}
 use borrow.Author.Tests.{not-false}
 use Rattle.run_index.specs.declared.Node.{Node}
-use Rattle.store.specs.Decision.{belowOf}
+use Rattle.store.specs.Decision.{belowOf, Tells}
 use Rattle.store.proofs.Tests.{inside-out}
-use Rattle.store.proofs.Steps.{Way, tells-none, left-missing, right-missing, left-outside, right-outside, node-fails, left-crowded, right-crowded, left-lower, right-lower, left-fails, left-passes, right-decides}
+use Rattle.store.proofs.Steps.{Seen, OwnFits, Way, tells-none, left-missing, right-missing, left-outside, right-outside, node-fails, node-passes, left-crowded, right-crowded, left-lower, right-lower, left-fails, left-passes, right-decides}
 use Prim.Native.Nat.{ℕ, _<_}
 use borrow.Fn.Kinds.{In}
 use borrow.Fn.PlainCycle.{Measures, is, falls, and}
@@ -23,7 +24,7 @@ use Rattle.store.proofs.soundness.+tree_fits.{statement}
 use Rattle.store.proofs.soundness.+tree_fits.Tie.{close}
 
 abbrev μ-tree-fits : Measures 1 tree-fits-kinds.ps ℕ
-μ-tree-fits κs a = (belowOf (a .0 .now) (a .1 .0)) .height
+μ-tree-fits κs a = (belowOf (a .0 .now) (a .1 .1 .0)) .height
 
 abbrev tree-fits-at : ℕ → In 1 tree-fits-kinds.ps
 tree-fits-at t = and 1 tree-fits-kinds.ps (is 1 tree-fits-kinds.ps μ-tree-fits t) tree-fits.Pre
@@ -48,10 +49,52 @@ tree-fits-claims t = (
 )
 
 abbrev tree-fits-Inv-loop : tree-fits-lts.InvT-loop
-tree-fits-Inv-loop words link lo hi k₀ low₀ k low = Way words link lo hi k low
+tree-fits-Inv-loop words tag link lo hi k₀ low₀ k low = Way words tag link lo hi k low
 
 abbrev tree-fits-μ-loop : tree-fits-lts.MeasureT-loop
-tree-fits-μ-loop words link lo hi k₀ low₀ k low = (belowOf words k) .height
+tree-fits-μ-loop words tag link lo hi k₀ low₀ k low = (belowOf words k) .height
+
+-- the places that the needs look back to: the node read, that it has both links, what is there read, its own tests passed, its left side walked
+abbrev Read : ℕ → Type 0
+Read t = tree-fits-lts.After-below (tree-fits-claims t) (tree-fits-at t) tree-fits.Post tree-fits-Inv-loop tree-fits-μ-loop
+
+abbrev Linked : ℕ → Type 0
+Linked t = tree-fits-lts.Else3 (tree-fits-claims t) (tree-fits-at t) tree-fits.Post tree-fits-Inv-loop tree-fits-μ-loop
+
+abbrev Beside : ℕ → Type 0
+Beside t = tree-fits-lts.After-below3 (tree-fits-claims t) (tree-fits-at t) tree-fits.Post tree-fits-Inv-loop tree-fits-μ-loop
+
+abbrev Passed : ℕ → Type 0
+Passed t = tree-fits-lts.Else6 (tree-fits-claims t) (tree-fits-at t) tree-fits.Post tree-fits-Inv-loop tree-fits-μ-loop
+
+abbrev Walked : ℕ → Type 0
+Walked t = tree-fits-lts.Else8 (tree-fits-claims t) (tree-fits-at t) tree-fits.Post tree-fits-Inv-loop tree-fits-μ-loop
+
+abbrev read : (t : ℕ) → Linked t → Read t
+read t c = c .before .before .before .before .before .before
+
+abbrev linked : (t : ℕ) → Beside t → Linked t
+linked t c = c .before .before .before .before .before .before
+
+abbrev beside : (t : ℕ) → Passed t → Beside t
+beside t c = c .before .before
+
+abbrev passed : (t : ℕ) → Walked t → Passed t
+passed t c = c .before .before .before .before .before
+
+-- the node at hand
+seen : (t : ℕ) (c : Read t) → Seen (c .before .before .before .before .args .words .now) (c .before .before .loop .k) (c .below .result)
+seen t c = record { some = c .before .loop-test .taken; room = c .before .before .loop .inv .room; is = c .below .ensures }
+
+-- its walk decides for the whole
+whole : (t : ℕ) (c : Read t) → let s = c .before .before .before .before .args in let l = c .before .before .loop in (r : Bool) → Tells (s .words .now) (s .tag) (l .k) (l .low) (s .hi) r → Tells (s .words .now) (s .tag) (s .link) (s .lo) (s .hi) r
+whole t c = c .before .before .loop .inv .tells
+
+-- its own tests
+own : (t : ℕ) (c : Passed t) → let d = read t (linked t (beside t c)) in OwnFits (d .before .before .before .before .args .words .now) (d .below .result) (d .before .before .before .before .args .tag) (d .before .before .loop .low) (d .before .before .before .before .args .hi)
+own t c =
+    let e = beside t c in
+    node-passes (seen t (read t (linked t e))) _ _ _ (e .before .below2 .ensures) (e .below3 .ensures) (c .before .node-fits .ensures) (c .if6 .left)
 
 tree-fits-loop-holds : (t : ℕ) → tree-fits-lts.Need-loop-holds (tree-fits-claims t) (tree-fits-at t) tree-fits.Post tree-fits-Inv-loop tree-fits-μ-loop
 tree-fits-loop-holds t c = record { room = c .before .pre .1; lower = omega arith; tells = λ r h. h }
@@ -63,25 +106,25 @@ tree-fits-low-fits-requires : (t : ℕ) → tree-fits-lts.Need-low-fits-requires
 tree-fits-low-fits-requires t c κs = (c .before .before .before .before .loop .inv .room, (omega (arith, c .before .before .before .loop-test .taken), omega (arith, ap (λ (u : Node). u .height) (c .before .before .below .ensures), c .if1 .taken)))
 
 tree-fits-returns : (t : ℕ) → tree-fits-lts.Need-returns (tree-fits-claims t) (tree-fits-at t) tree-fits.Post tree-fits-Inv-loop tree-fits-μ-loop
-tree-fits-returns t c = c .before .before .before .before .before .loop .inv .tells _ (c .low-fits .ensures)
+tree-fits-returns t c = whole t (c .before .before .before) _ (c .low-fits .ensures)
 
 tree-fits-returns-2 : (t : ℕ) → tree-fits-lts.Need-returns-2 (tree-fits-claims t) (tree-fits-at t) tree-fits.Post tree-fits-Inv-loop tree-fits-μ-loop
-tree-fits-returns-2 t c = c .before .before .before .before .before .before .loop .inv .tells _ (left-missing _ _ _ _ (c .before .before .before .before .before .loop-test .taken) (c .before .before .before .before .before .before .loop .inv .room) (c .before .before .before .before .below .result) (c .before .before .before .before .below .ensures) (omega (arith, c .before .before .if1 .left)) (c .if2 .taken))
+tree-fits-returns-2 t c = let d = c .before .before .before .before in whole t d _ (left-missing (seen t d) _ _ _ (omega (arith, c .before .before .if1 .left)) (c .if2 .taken))
 
 tree-fits-returns-3 : (t : ℕ) → tree-fits-lts.Need-returns-3 (tree-fits-claims t) (tree-fits-at t) tree-fits.Post tree-fits-Inv-loop tree-fits-μ-loop
-tree-fits-returns-3 t c = c .before .before .before .before .before .before .before .before .loop .inv .tells _ (right-missing _ _ _ _ (c .before .before .before .before .before .before .before .loop-test .taken) (c .before .before .before .before .before .before .before .before .loop .inv .room) (c .before .before .before .before .before .before .below .result) (c .before .before .before .before .before .before .below .ensures) (omega (arith, c .before .before .before .before .if1 .left)) (c .if3 .taken))
+tree-fits-returns-3 t c = let d = c .before .before .before .before .before .before in whole t d _ (right-missing (seen t d) _ _ _ (omega (arith, c .before .before .before .before .if1 .left)) (c .if3 .taken))
 
 tree-fits-inside-requires : (t : ℕ) → tree-fits-lts.Need-inside-requires (tree-fits-claims t) (tree-fits-at t) tree-fits.Post tree-fits-Inv-loop tree-fits-μ-loop
 tree-fits-inside-requires t c κs = search needs
 
 tree-fits-returns-4 : (t : ℕ) → tree-fits-lts.Need-returns-4 (tree-fits-claims t) (tree-fits-at t) tree-fits.Post tree-fits-Inv-loop tree-fits-μ-loop
-tree-fits-returns-4 t c = c .before .before .before .before .before .before .before .before .before .before .loop .inv .tells _ (left-outside _ _ _ _ (c .before .before .before .before .before .before .before .before .before .loop-test .taken) (c .before .before .before .before .before .before .before .before .before .before .loop .inv .room) (c .before .before .before .before .before .before .before .before .below .result) (c .before .before .before .before .before .before .before .before .below .ensures) _ (c .before .inside .ensures) (c .if4 .taken))
+tree-fits-returns-4 t c = let d = read t (c .before .before) in whole t d _ (left-outside (seen t d) _ _ _ _ (c .before .inside .ensures) (c .if4 .taken))
 
 tree-fits-inside-requires-2 : (t : ℕ) → tree-fits-lts.Need-inside-requires-2 (tree-fits-claims t) (tree-fits-at t) tree-fits.Post tree-fits-Inv-loop tree-fits-μ-loop
 tree-fits-inside-requires-2 t c κs = search needs
 
 tree-fits-returns-5 : (t : ℕ) → tree-fits-lts.Need-returns-5 (tree-fits-claims t) (tree-fits-at t) tree-fits.Post tree-fits-Inv-loop tree-fits-μ-loop
-tree-fits-returns-5 t c = c .before .before .before .before .before .before .before .before .before .before .before .before .loop .inv .tells _ (right-outside _ _ _ _ (c .before .before .before .before .before .before .before .before .before .before .before .loop-test .taken) (c .before .before .before .before .before .before .before .before .before .before .before .before .loop .inv .room) (c .before .before .before .before .before .before .before .before .before .before .below .result) (c .before .before .before .before .before .before .before .before .before .before .below .ensures) _ (c .before .inside2 .ensures) (c .if5 .taken))
+tree-fits-returns-5 t c = let d = read t (c .before .before .before .before) in whole t d _ (right-outside (seen t d) _ _ _ _ (c .before .inside2 .ensures) (c .if5 .taken))
 
 tree-fits-below-requires-2 : (t : ℕ) → tree-fits-lts.Need-below-requires-2 (tree-fits-claims t) (tree-fits-at t) tree-fits.Post tree-fits-Inv-loop tree-fits-μ-loop
 tree-fits-below-requires-2 t c κs = inside-out _ _ (sym (c .before .before .before .inside .ensures) ∙ not-false _ (c .before .before .if4 .left))
@@ -93,34 +136,43 @@ tree-fits-node-fits-requires : (t : ℕ) → tree-fits-lts.Need-node-fits-requir
 tree-fits-node-fits-requires t c κs = omega (arith, c .before .before .before .before .before .before .before .before .before .before .if1 .left)
 
 tree-fits-returns-6 : (t : ℕ) → tree-fits-lts.Need-returns-6 (tree-fits-claims t) (tree-fits-at t) tree-fits.Post tree-fits-Inv-loop tree-fits-μ-loop
-tree-fits-returns-6 t c = c .before .before .before .before .before .before .before .before .before .before .before .before .before .before .before .before .loop .inv .tells _ (node-fails _ _ _ _ (c .before .before .before .before .before .before .before .before .before .before .before .before .before .before .before .loop-test .taken) (c .before .before .before .before .before .before .before .before .before .before .before .before .before .before .before .before .loop .inv .room) (c .before .before .before .before .before .before .before .before .before .before .before .before .before .before .below .result) (c .before .before .before .before .before .before .before .before .before .before .before .before .before .before .below .ensures) (c .before .before .before .below2 .result) (c .before .before .below3 .result) (c .before .before .before .below2 .ensures) (c .before .before .below3 .ensures) _ (c .before .node-fits .ensures) (c .if6 .taken))
+tree-fits-returns-6 t c = let d = read t (linked t (c .before .before)) in whole t d _ (node-fails (seen t d) _ _ _ (c .before .before .before .below2 .ensures) (c .before .before .below3 .ensures) (c .before .node-fits .ensures) (c .if6 .taken))
 
 tree-fits-returns-7 : (t : ℕ) → tree-fits-lts.Need-returns-7 (tree-fits-claims t) (tree-fits-at t) tree-fits.Post tree-fits-Inv-loop tree-fits-μ-loop
-tree-fits-returns-7 t c = c .before .before .before .before .before .before .before .before .before .before .before .before .before .before .before .before .before .before .loop .inv .tells _ (left-crowded _ _ _ _ (c .before .before .before .before .before .before .before .before .before .before .before .before .before .before .before .before .before .loop-test .taken) (c .before .before .before .before .before .before .before .before .before .before .before .before .before .before .before .before .before .before .loop .inv .room) (c .before .before .before .before .before .before .before .before .before .before .before .before .before .before .before .before .below .result) (c .before .before .before .before .before .before .before .before .before .before .before .before .before .before .before .before .below .ensures) (c .before .before .before .before .before .before .before .before .before .before .before .before .if2 .left) (omega (arith, c .if7 .taken)))
+tree-fits-returns-7 t c = let e = linked t (beside t (c .before .before)) in let d = read t e in whole t d _ (left-crowded (seen t d) _ _ _ (c .before .before .before .before .before .before .before .before .before .before .before .before .if2 .left) (omega (arith, c .if7 .taken)))
 
 tree-fits-tree-fits-requires : (t : ℕ) → tree-fits-lts.Need-tree-fits-requires (tree-fits-claims t) (tree-fits-at t) tree-fits.Post tree-fits-Inv-loop tree-fits-μ-loop
-tree-fits-tree-fits-requires t c κs = (omega (arith, c .before .before .before .before .before .before .before .before .before .before .before .before .before .before .before .before .before .before .before .before .before .pre .0, c .before .before .before .before .before .before .before .before .before .before .before .before .before .before .before .before .before .before .before .loop .inv .lower, left-lower _ _ _ _ (c .before .before .before .before .before .before .before .before .before .before .before .before .before .before .before .before .before .before .loop-test .taken) (c .before .before .before .before .before .before .before .before .before .before .before .before .before .before .before .before .before .before .before .loop .inv .room) (c .before .before .before .before .before .before .before .before .before .before .before .before .before .before .before .before .before .below .result) (c .before .before .before .before .before .before .before .before .before .before .before .before .before .before .before .before .before .below .ensures) (c .before .before .before .before .before .before .below2 .result) (c .before .before .before .before .before .below3 .result) (c .before .before .before .before .before .before .below2 .ensures) (c .before .before .before .before .before .below3 .ensures) _ (c .before .before .before .before .node-fits .ensures) (c .before .before .before .if6 .left)), inside-out _ _ (sym (c .before .before .before .before .before .before .before .before .before .before .inside .ensures) ∙ not-false _ (c .before .before .before .before .before .before .before .before .before .if4 .left)))
+tree-fits-tree-fits-requires t c κs = let o = c .before .before .before in let d = read t (linked t (beside t o)) in (omega (arith, c .before .before .before .before .before .before .before .before .before .before .before .before .before .before .before .before .before .before .before .before .before .pre .0, c .before .before .before .before .before .before .before .before .before .before .before .before .before .before .before .before .before .before .before .loop .inv .lower, left-lower (seen t d) _ _ _ (own t o)), inside-out _ _ (sym (c .before .before .before .before .before .before .before .before .before .before .inside .ensures) ∙ not-false _ (c .before .before .before .before .before .before .before .before .before .if4 .left)))
 
 tree-fits-returns-8 : (t : ℕ) → tree-fits-lts.Need-returns-8 (tree-fits-claims t) (tree-fits-at t) tree-fits.Post tree-fits-Inv-loop tree-fits-μ-loop
-tree-fits-returns-8 t c = c .before .before .before .before .before .before .before .before .before .before .before .before .before .before .before .before .before .before .before .before .before .loop .inv .tells _ (left-fails _ _ _ _ (c .before .before .before .before .before .before .before .before .before .before .before .before .before .before .before .before .before .before .before .before .loop-test .taken) (c .before .before .before .before .before .before .before .before .before .before .before .before .before .before .before .before .before .before .before .before .before .loop .inv .room) (c .before .before .before .before .before .before .before .before .before .before .before .before .before .before .before .before .before .before .before .below .result) (c .before .before .before .before .before .before .before .before .before .before .before .before .before .before .before .before .before .before .before .below .ensures) (c .before .before .before .before .before .before .before .before .below2 .result) (c .before .before .before .before .before .before .before .below3 .result) (c .before .before .before .before .before .before .before .before .below2 .ensures) (c .before .before .before .before .before .before .before .below3 .ensures) _ (c .before .before .before .before .before .before .node-fits .ensures) (c .before .before .before .before .before .if6 .left) (omega (arith, c .before .before .before .if7 .left)) _ (c .before .tree-fits .ensures) (c .if8 .taken))
+tree-fits-returns-8 t c = let o = c .before .before .before .before .before in let d = read t (linked t (beside t o)) in whole t d _ (left-fails (seen t d) _ _ _ (own t o) (omega (arith, c .before .before .before .if7 .left)) (c .before .tree-fits .ensures) (c .if8 .taken))
 
 tree-fits-sub-if9 : (t : ℕ) → tree-fits-lts.Need-sub-if9 (tree-fits-claims t) (tree-fits-at t) tree-fits.Post tree-fits-Inv-loop tree-fits-μ-loop
 tree-fits-sub-if9 t c = omega arith
 
 tree-fits-returns-9 : (t : ℕ) → tree-fits-lts.Need-returns-9 (tree-fits-claims t) (tree-fits-at t) tree-fits.Post tree-fits-Inv-loop tree-fits-μ-loop
-tree-fits-returns-9 t c = c .before .before .before .before .before .before .before .before .before .before .before .before .before .before .before .before .before .before .before .before .before .before .before .loop .inv .tells _ (right-crowded _ _ _ _ (c .before .before .before .before .before .before .before .before .before .before .before .before .before .before .before .before .before .before .before .before .before .before .loop-test .taken) (c .before .before .before .before .before .before .before .before .before .before .before .before .before .before .before .before .before .before .before .before .before .before .before .loop .inv .room) (c .before .before .before .before .before .before .before .before .before .before .before .before .before .before .before .before .before .before .before .before .before .below .result) (c .before .before .before .before .before .before .before .before .before .before .before .before .before .before .before .before .before .before .before .before .before .below .ensures) (c .before .before .before .before .before .before .before .before .before .before .before .before .before .before .before .if3 .left) (omega (arith, c .if9 .taken, c .before .before .before .before .before .before .before .before .before .before .before .before .before .before .before .before .before .before .before .before .before .before .before .before .before .fits)))
+tree-fits-returns-9 t c = let d = read t (linked t (beside t (passed t (c .before .before)))) in whole t d _ (right-crowded (seen t d) _ _ _ (c .before .before .before .before .before .before .before .before .before .before .before .before .before .before .before .if3 .left) (omega (arith, c .if9 .taken, c .before .before .before .before .before .before .before .before .before .before .before .before .before .before .before .before .before .before .before .before .before .before .before .before .before .fits)))
 
 tree-fits-add-low : (t : ℕ) → tree-fits-lts.Need-add-low (tree-fits-claims t) (tree-fits-at t) tree-fits.Post tree-fits-Inv-loop tree-fits-μ-loop
 tree-fits-add-low t c = omega (arith, c .before .if9 .left)
 
 tree-fits-loop-less : (t : ℕ) → tree-fits-lts.Need-loop-less (tree-fits-claims t) (tree-fits-at t) tree-fits.Post tree-fits-Inv-loop tree-fits-μ-loop
-tree-fits-loop-less t c = omega (arith, right-lower _ _ _ _ (c .before .before .before .before .before .before .before .before .before .before .before .before .before .before .before .before .before .before .before .before .before .before .before .loop-test .taken) (c .before .before .before .before .before .before .before .before .before .before .before .before .before .before .before .before .before .before .before .before .before .before .before .before .loop .inv .room) (c .before .before .before .before .before .before .before .before .before .before .before .before .before .before .before .before .before .before .before .before .before .before .below .result) (c .before .before .before .before .before .before .before .before .before .before .before .before .before .before .before .before .before .before .before .before .before .before .below .ensures) (c .before .before .before .before .before .before .before .before .before .before .before .below2 .result) (c .before .before .before .before .before .before .before .before .before .before .below3 .result) (c .before .before .before .before .before .before .before .before .before .before .before .below2 .ensures) (c .before .before .before .before .before .before .before .before .before .before .below3 .ensures) _ (c .before .before .before .before .before .before .before .before .before .node-fits .ensures) (c .before .before .before .before .before .before .before .before .if6 .left))
+tree-fits-loop-less t c = let o = passed t (c .before .before .before) in omega (arith, right-lower (seen t (read t (linked t (beside t o)))) _ _ _ (own t o))
 
 tree-fits-loop-again : (t : ℕ) → tree-fits-lts.Need-loop-again (tree-fits-claims t) (tree-fits-at t) tree-fits.Post tree-fits-Inv-loop tree-fits-μ-loop
-tree-fits-loop-again t c = record { room = inside-out _ _ (sym (c .before .before .before .before .before .before .before .before .before .before .before .before .before .inside2 .ensures) ∙ not-false _ (c .before .before .before .before .before .before .before .before .before .before .before .before .if5 .left)); lower = omega (arith, c .before .before .before .before .before .before .before .before .before .before .before .before .before .before .before .before .before .before .before .before .before .before .before .before .loop .inv .lower, right-lower _ _ _ _ (c .before .before .before .before .before .before .before .before .before .before .before .before .before .before .before .before .before .before .before .before .before .before .before .loop-test .taken) (c .before .before .before .before .before .before .before .before .before .before .before .before .before .before .before .before .before .before .before .before .before .before .before .before .loop .inv .room) (c .before .before .before .before .before .before .before .before .before .before .before .before .before .before .before .before .before .before .before .before .before .before .below .result) (c .before .before .before .before .before .before .before .before .before .before .before .before .before .before .before .before .before .before .before .before .before .before .below .ensures) (c .before .before .before .before .before .before .before .before .before .before .before .below2 .result) (c .before .before .before .before .before .before .before .before .before .before .below3 .result) (c .before .before .before .before .before .before .before .before .before .before .before .below2 .ensures) (c .before .before .before .before .before .before .before .before .before .before .below3 .ensures) _ (c .before .before .before .before .before .before .before .before .before .node-fits .ensures) (c .before .before .before .before .before .before .before .before .if6 .left)); tells = λ r h. c .before .before .before .before .before .before .before .before .before .before .before .before .before .before .before .before .before .before .before .before .before .before .before .before .loop .inv .tells r (right-decides _ _ _ _ (c .before .before .before .before .before .before .before .before .before .before .before .before .before .before .before .before .before .before .before .before .before .before .before .loop-test .taken) (c .before .before .before .before .before .before .before .before .before .before .before .before .before .before .before .before .before .before .before .before .before .before .before .before .loop .inv .room) (c .before .before .before .before .before .before .before .before .before .before .before .before .before .before .before .before .before .before .before .before .before .before .below .result) (c .before .before .before .before .before .before .before .before .before .before .before .before .before .before .before .before .before .before .before .before .before .before .below .ensures) (c .before .before .before .before .before .before .before .before .before .before .before .below2 .result) (c .before .before .before .before .before .before .before .before .before .before .below3 .result) (c .before .before .before .before .before .before .before .before .before .before .before .below2 .ensures) (c .before .before .before .before .before .before .before .before .before .before .below3 .ensures) _ (c .before .before .before .before .before .before .before .before .before .node-fits .ensures) (c .before .before .before .before .before .before .before .before .if6 .left) (left-passes _ _ _ _ (c .before .before .before .before .before .before .before .before .before .before .before .before .before .before .before .before .before .before .before .before .before .before .before .loop-test .taken) (c .before .before .before .before .before .before .before .before .before .before .before .before .before .before .before .before .before .before .before .before .before .before .before .before .loop .inv .room) (c .before .before .before .before .before .before .before .before .before .before .before .before .before .before .before .before .before .before .before .before .before .before .below .result) (c .before .before .before .before .before .before .before .before .before .before .before .before .before .before .before .before .before .before .before .before .before .before .below .ensures) (c .before .before .before .before .before .before .before .before .before .before .before .below2 .result) (c .before .before .before .before .before .before .before .before .before .before .below3 .result) (c .before .before .before .before .before .before .before .before .before .before .before .below2 .ensures) (c .before .before .before .before .before .before .before .before .before .before .below3 .ensures) _ (c .before .before .before .before .before .before .before .before .before .node-fits .ensures) (c .before .before .before .before .before .before .before .before .if6 .left) (omega (arith, c .before .before .before .before .before .before .if7 .left)) _ (c .before .before .before .before .tree-fits .ensures) (c .before .before .before .if8 .left)) r h) }
+tree-fits-loop-again t c =
+    let o = passed t (c .before .before .before) in
+    let d = read t (linked t (beside t o)) in
+    record {
+      room = inside-out _ _ (sym (c .before .before .before .before .before .before .before .before .before .before .before .before .before .inside2 .ensures) ∙ not-false _ (c .before .before .before .before .before .before .before .before .before .before .before .before .if5 .left));
+      lower = omega (arith, c .before .before .before .before .before .before .before .before .before .before .before .before .before .before .before .before .before .before .before .before .before .before .before .before .loop .inv .lower, right-lower (seen t d) _ _ _ (own t o));
+      tells = λ r h.
+          whole t d r
+          (right-decides (seen t d) _ _ _ (own t o) (left-passes (seen t d) _ _ _ (own t o) (omega (arith, c .before .before .before .before .before .before .if7 .left)) (c .before .before .before .before .tree-fits .ensures) (c .before .before .before .if8 .left)) r h);
+    }
 
 tree-fits-returns-10 : (t : ℕ) → tree-fits-lts.Need-returns-10 (tree-fits-claims t) (tree-fits-at t) tree-fits.Post tree-fits-Inv-loop tree-fits-μ-loop
-tree-fits-returns-10 t c = c .before .loop .inv .tells _ (tells-none _ _ _ _ (c .loop-test .left))
+tree-fits-returns-10 t c = c .before .loop .inv .tells _ (tells-none _ _ _ _ _ (c .loop-test .left))
 
 pub +tree-fits-spec : {M : Type 1} → statement M
 +tree-fits-spec = close μ-tree-fits λ t. tree-fits-lts.spec (tree-fits-claims t)

@@ -1,59 +1,86 @@
--- `is_sound` meets its contract: what `bounds` tells of the tree is what the header has to say of the positions held. Assumes nothing.
-use Rattle.store.proofs.Whole.{header-room}
-use Rattle.store.proofs.Bounded.{sound-kept, indexed, counted, offset-fails, first-fails, last-fails, runs-decide}
+-- `is_sound` meets its contract: the tests are the definition's, in its order, and the logical runs of the tree are those of the positions
+-- held. Assumes nothing.
+use mathlib.Core.Path.{refl}
+use native.Mathlib.Omega.{arith}
 use borrow.Author.Needs.{needs}
+use Rattle.run_index.specs.Cells.{Room}
+use Rattle.store.proofs.Whole.{first-room, spare-fails, world-fails, rest-fails, counted, runs-decide}
 use Rattle.store.proofs.soundness.is_sound.Statement.{statement}
 use Rattle.store.proofs.soundness.is_sound.Tie as tie
 
-is-kept-requires : tie.Need-is-kept-requires
-is-kept-requires c κs = search needs
+-- the places that the needs look back to: the start, the world read, its spare word 0, its tests passed, the rest's too
+abbrev start : tie.After-read-world → tie.Start
+start c = c .before .before
+
+abbrev read : tie.Else1 → tie.After-read-world
+read c = c .before .before
+
+abbrev spared : tie.Else2 → tie.Else1
+spared c = c .before .before
+
+abbrev fitted : tie.Else3 → tie.Else2
+fitted c = c .before .before
+
+-- there is room for the header
+header : (c : tie.Start) → Room (c .args .words .now) 0
+header c = first-room (c .args .words .now) (c .pre)
+
+read-world-requires : tie.Need-read-world-requires
+read-world-requires c κs = header (c .before)
+
+read-spare-requires : tie.Need-read-spare-requires
+read-spare-requires c κs = header (start c)
 
 returns : tie.Need-returns
-returns c = sound-kept _ _ (c .before .is-kept .ensures) (c .if1 .taken)
+returns c = spare-fails _ _ (c .before .read-spare .ensures) (c .if1 .taken)
 
-read-header-requires : tie.Need-read-header-requires
-read-header-requires c κs = header-room (c .before .before .before .args .words .now) (c .before .before .before .pre)
-
-offset-fits-requires : tie.Need-offset-fits-requires
-offset-fits-requires c κs = search needs
+world-fits-requires : tie.Need-world-fits-requires
+world-fits-requires c κs = header (start (read c))
 
 returns-2 : tie.Need-returns-2
-returns-2 c = offset-fails _ (c .before .before .before .before .before .before .pre) _ (c .before .before .before .before .is-kept .ensures) (c .before .before .before .if1 .left) (c .before .before .read-header .result) (c .before .before .read-header .ensures) _ (c .before .offset-fits .ensures) (c .if2 .taken)
+returns-2 c = let r = read (c .before .before) in world-fails _ _ (r .read-world .ensures) _ (c .before .world-fits .ensures) (c .if2 .taken)
 
-first-held-requires : tie.Need-first-held-requires
-first-held-requires c κs = indexed _ (c .before .before .before .before .before .before .pre) _ (c .before .before .before .before .is-kept .ensures) (c .before .before .before .if1 .left) (c .before .before .read-header .result) (c .before .before .read-header .ensures)
+sub-rest-fits : tie.Need-sub-rest-fits
+sub-rest-fits c = omega (arith, header (start (read (spared c))))
+
+rest-fits-requires : tie.Need-rest-fits-requires
+rest-fits-requires c κs = search needs
 
 returns-3 : tie.Need-returns-3
-returns-3 c = first-fails _ (c .before .before .before .before .before .before .before .before .before .before .pre) _ (c .before .before .before .before .before .before .before .before .is-kept .ensures) (c .before .before .before .before .before .before .before .if1 .left) (c .before .before .before .before .before .before .read-header .result) (c .before .before .before .before .before .before .read-header .ensures) _ (c .before .before .before .first-held .ensures) (c .if3 .taken)
-
-last-held-requires : tie.Need-last-held-requires
-last-held-requires c κs = indexed _ (c .before .before .before .before .before .before .before .before .before .before .pre) _ (c .before .before .before .before .before .before .before .before .is-kept .ensures) (c .before .before .before .before .before .before .before .if1 .left) (c .before .before .before .before .before .before .read-header .result) (c .before .before .before .before .before .before .read-header .ensures)
-
-returns-4 : tie.Need-returns-4
-returns-4 c = last-fails _ (c .before .before .before .before .before .before .before .before .before .before .before .before .before .before .pre) _ (c .before .before .before .before .before .before .before .before .before .before .before .before .is-kept .ensures) (c .before .before .before .before .before .before .before .before .before .before .before .if1 .left) (c .before .before .before .before .before .before .before .before .before .before .read-header .result) (c .before .before .before .before .before .before .before .before .before .before .read-header .ensures) _ (c .before .before .before .last-held .ensures) (c .if4 .taken)
+returns-3 c =
+    let e = c .before .before in
+    let r = read (spared e) in
+    rest-fails _ _ (r .read-world .ensures) _ (e .before .world-fits .ensures) (e .if2 .left) (start r .pre) _ refl _ (c .before .rest-fits .ensures) (c .if3 .taken)
 
 logical-runs-requires : tie.Need-logical-runs-requires
-logical-runs-requires c κs = counted _ (c .before .before .before .before .before .before .before .before .before .before .before .before .before .before .pre) _ (c .before .before .before .before .before .before .before .before .before .before .before .before .is-kept .ensures) (c .before .before .before .before .before .before .before .before .before .before .before .if1 .left) (c .before .before .before .before .before .before .before .before .before .before .read-header .result) (c .before .before .before .before .before .before .before .before .before .before .read-header .ensures)
+logical-runs-requires c κs =
+    let e = fitted c in
+    let r = read (spared e) in
+    counted _ (r .read-world .result) (r .read-world .ensures) _ (e .before .world-fits .ensures) (e .if2 .left)
 
-of-length-requires : tie.Need-of-length-requires
-of-length-requires c κs = search needs
+allowance-requires : tie.Need-allowance-requires
+allowance-requires c κs = search needs
 
-returns-5 : tie.Need-returns-5
-returns-5 c = runs-decide _ (c .before .before .before .before .before .before .before .before .before .before .before .before .before .before .before .before .before .pre) _ (c .before .before .before .before .before .before .before .before .before .before .before .before .before .before .before .is-kept .ensures) (c .before .before .before .before .before .before .before .before .before .before .before .before .before .before .if1 .left) (c .before .before .before .before .before .before .before .before .before .before .before .before .before .read-header .result) (c .before .before .before .before .before .before .before .before .before .before .before .before .before .read-header .ensures) _ (c .before .before .before .before .before .before .before .before .before .before .before .before .offset-fits .ensures) (c .before .before .before .before .before .before .before .before .before .before .before .if2 .left) _ (c .before .before .before .before .before .before .before .before .before .before .first-held .ensures) (c .before .before .before .before .before .before .before .if3 .left) _ (c .before .before .before .before .before .before .last-held .ensures) (c .before .before .before .if4 .left) _ (c .before .before .logical-runs .ensures) _ (c .before .of-length .ensures)
+returns-4 : tie.Need-returns-4
+returns-4 c =
+    let f = c .before .before in
+    let e = fitted f in
+    let r = read (spared e) in
+    runs-decide _ _ (r .read-world .ensures) _ (e .before .world-fits .ensures) (e .if2 .left) (start r .pre) _ refl _ (f .before .rest-fits .ensures) (f .if3 .left)
+    _ (spared e .before .read-spare .ensures) (spared e .if1 .left) _ (c .before .logical-runs .ensures) _ (c .allowance .ensures)
 
 pub is-sound-spec : {M : Type 1} → statement M
 is-sound-spec =
     tie.close
     (tie.spec
-    is-kept-requires
+    read-world-requires
+    read-spare-requires
     returns
-    read-header-requires
-    offset-fits-requires
+    world-fits-requires
     returns-2
-    first-held-requires
+    sub-rest-fits
+    rest-fits-requires
     returns-3
-    last-held-requires
-    returns-4
     logical-runs-requires
-    of-length-requires
-    returns-5)
+    allowance-requires
+    returns-4)

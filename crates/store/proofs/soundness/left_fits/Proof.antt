@@ -1,12 +1,42 @@
 -- `left_fits` meets its contract: a side of height 1 is a leaf, and any other is wrong beside none. Assumes nothing.
-use mathlib.Core.Path.{sym, _∙_}
+use mathlib.Core.Path.{_≡_, sym, ap, _∙_}
 use native.Mathlib.Omega.{arith}
 use borrow.Author.Tests.{not-false}
+use Rattle.run_index.specs.declared.Node.{Node}
 use Rattle.store.proofs.Tests.{inside-out}
-use Rattle.store.proofs.Steps.{high-as, right-as, some-link, tells-none, left-outside, left-alone, node-fails, left-crowded, left-fails, left-passes, right-decides, leaf-decides}
+use Rattle.store.proofs.Steps.{Seen, seen-high, tells-none, left-outside, left-alone, node-fails, node-passes, left-crowded, left-fails, left-passes, right-decides, leaf-decides}
 use borrow.Author.Needs.{needs}
 use Rattle.store.proofs.soundness.left_fits.Statement.{statement}
 use Rattle.store.proofs.soundness.left_fits.Tie as tie
+
+-- the places that the needs look back to: the node read, what is beside it read, a leaf on its left, its own tests passed, the leaf tested
+abbrev read : tie.After-below3 → tie.After-below
+read c = c .before .before .before .before
+
+abbrev beside : tie.Else2 → tie.After-below3
+beside c = c .before .before
+
+abbrev passed : tie.Else3 → tie.Else2
+passed c = c .before .before
+
+abbrev tested : tie.After-leaf-fits → tie.Else3
+tested c = c .before .before .before .before
+
+-- the node's height
+high : (c : tie.After-below) → c .below .result .height ≡ 2
+high c = ap (λ (u : Node). u .height) (c .below .ensures) ∙ c .before .before .pre .1 .0
+
+-- it has no right link
+no-right : (c : tie.After-below) → c .below .result .right ≡ 0
+no-right c = ap (λ (u : Node). u .right) (c .below .ensures) ∙ c .before .before .pre .1 .1
+
+-- it is one
+seen : (c : tie.After-below) → Seen (c .before .before .args .words .now) (c .before .before .args .link) (c .below .result)
+seen c = seen-high (c .below .ensures) (omega (arith, high c)) (c .before .before .pre .0)
+
+-- so is what hangs on its left
+left-seen : (c : tie.Else2) → Seen (c .before .before .before .before .before .before .before .before .args .words .now) (c .before .before .before .before .before .before .below .result .left) (c .before .before .before .below2 .result)
+left-seen c = seen-high (c .before .before .before .below2 .ensures) (omega (arith, c .if2 .left)) (inside-out _ _ (sym (c .before .before .before .before .before .inside .ensures) ∙ not-false _ (c .before .before .before .before .if1 .left)))
 
 below-requires : tie.Need-below-requires
 below-requires c κs = search needs
@@ -15,34 +45,44 @@ inside-requires : tie.Need-inside-requires
 inside-requires c κs = search needs
 
 returns : tie.Need-returns
-returns c = left-outside _ _ _ _ (some-link _ _ _ 2 (c .before .before .below .ensures) (high-as _ _ _ _ (c .before .before .below .ensures) (c .before .before .before .before .pre .1 .0)) (omega arith)) (c .before .before .before .before .pre .0) (c .before .before .below .result) (c .before .before .below .ensures) _ (c .before .inside .ensures) (c .if1 .taken)
+returns c = left-outside (seen (c .before .before)) _ _ _ _ (c .before .inside .ensures) (c .if1 .taken)
 
 below-requires-2 : tie.Need-below-requires-2
 below-requires-2 c κs = inside-out _ _ (sym (c .before .inside .ensures) ∙ not-false _ (c .if1 .left))
 
 below-requires-3 : tie.Need-below-requires-3
-below-requires-3 c κs = omega (arith, (right-as _ _ _ _ (c .before .before .before .below .ensures) (c .before .before .before .before .before .pre .1 .1)), c .before .before .before .before .before .pre .0)
+below-requires-3 c κs = omega (arith, no-right (c .before .before .before), c .before .before .before .before .before .pre .0)
 
 returns-2 : tie.Need-returns-2
-returns-2 c = left-alone _ _ _ _ (some-link _ _ _ 2 (c .before .before .before .before .before .before .below .ensures) (high-as _ _ _ _ (c .before .before .before .before .before .before .below .ensures) (c .before .before .before .before .before .before .before .before .pre .1 .0)) (omega arith)) (c .before .before .before .before .before .before .before .before .pre .0) (c .before .before .before .before .before .before .below .result) (c .before .before .before .before .before .before .below .ensures) (high-as _ _ _ _ (c .before .before .before .before .before .before .below .ensures) (c .before .before .before .before .before .before .before .before .pre .1 .0)) (right-as _ _ _ _ (c .before .before .before .before .before .before .below .ensures) (c .before .before .before .before .before .before .before .before .pre .1 .1)) (c .before .before .before .below2 .result) (c .before .before .before .below2 .ensures) (c .if2 .taken)
+returns-2 c = let d = read (c .before .before) in left-alone (seen d) _ _ _ (high d) (no-right d) _ (c .before .before .before .below2 .ensures) (c .if2 .taken)
 
 node-fits-requires : tie.Need-node-fits-requires
-node-fits-requires c κs = omega (arith, (high-as _ _ _ _ (c .before .before .before .before .before .before .below .ensures) (c .before .before .before .before .before .before .before .before .pre .1 .0)))
+node-fits-requires c κs = omega (arith, high (read (beside c)))
 
 returns-3 : tie.Need-returns-3
-returns-3 c = node-fails _ _ _ _ (some-link _ _ _ 2 (c .before .before .before .before .before .before .before .before .below .ensures) (high-as _ _ _ _ (c .before .before .before .before .before .before .before .before .below .ensures) (c .before .before .before .before .before .before .before .before .before .before .pre .1 .0)) (omega arith)) (c .before .before .before .before .before .before .before .before .before .before .pre .0) (c .before .before .before .before .before .before .before .before .below .result) (c .before .before .before .before .before .before .before .before .below .ensures) (c .before .before .before .before .before .below2 .result) (c .before .before .before .before .below3 .result) (c .before .before .before .before .before .below2 .ensures) (c .before .before .before .before .below3 .ensures) _ (c .before .node-fits .ensures) (c .if3 .taken)
+returns-3 c = let d = read (beside (c .before .before)) in node-fails (seen d) _ _ _ (c .before .before .before .before .before .below2 .ensures) (c .before .before .before .before .below3 .ensures) (c .before .node-fits .ensures) (c .if3 .taken)
 
 returns-4 : tie.Need-returns-4
-returns-4 c = left-crowded _ _ _ _ (some-link _ _ _ 2 (c .before .before .before .before .before .before .before .before .before .before .below .ensures) (high-as _ _ _ _ (c .before .before .before .before .before .before .before .before .before .before .below .ensures) (c .before .before .before .before .before .before .before .before .before .before .before .before .pre .1 .0)) (omega arith)) (c .before .before .before .before .before .before .before .before .before .before .before .before .pre .0) (c .before .before .before .before .before .before .before .before .before .before .below .result) (c .before .before .before .before .before .before .before .before .before .before .below .ensures) (some-link _ _ _ 1 (c .before .before .before .before .before .before .before .below2 .ensures) (c .before .before .before .before .if2 .left) (omega arith)) (omega (arith, c .if4 .taken))
+returns-4 c = let e = passed (c .before .before) in left-crowded (seen (read (beside e))) _ _ _ (left-seen e .some) (omega (arith, c .if4 .taken))
 
 leaf-fits-requires : tie.Need-leaf-fits-requires
 leaf-fits-requires c κs = search needs
 
 returns-5 : tie.Need-returns-5
-returns-5 c = left-fails _ _ _ _ (some-link _ _ _ 2 (c .before .before .before .before .before .before .before .before .before .before .before .before .before .below .ensures) (high-as _ _ _ _ (c .before .before .before .before .before .before .before .before .before .before .before .before .before .below .ensures) (c .before .before .before .before .before .before .before .before .before .before .before .before .before .before .before .pre .1 .0)) (omega arith)) (c .before .before .before .before .before .before .before .before .before .before .before .before .before .before .before .pre .0) (c .before .before .before .before .before .before .before .before .before .before .before .before .before .below .result) (c .before .before .before .before .before .before .before .before .before .before .before .before .before .below .ensures) (c .before .before .before .before .before .before .before .before .before .before .below2 .result) (c .before .before .before .before .before .before .before .before .before .below3 .result) (c .before .before .before .before .before .before .before .before .before .before .below2 .ensures) (c .before .before .before .before .before .before .before .before .before .below3 .ensures) _ (c .before .before .before .before .before .before .node-fits .ensures) (c .before .before .before .before .before .if3 .left) (omega (arith, c .before .before .before .if4 .left)) _ (leaf-decides _ _ _ _ (some-link _ _ _ 1 (c .before .before .before .before .before .before .before .before .before .before .below2 .ensures) (c .before .before .before .before .before .before .before .if2 .left) (omega arith)) (inside-out _ _ (sym (c .before .before .before .before .before .before .before .before .before .before .before .before .inside .ensures) ∙ not-false _ (c .before .before .before .before .before .before .before .before .before .before .before .if1 .left))) (c .before .before .before .before .before .before .before .before .before .before .below2 .result) (c .before .before .before .before .before .before .before .before .before .before .below2 .ensures) (c .before .before .before .before .before .before .before .if2 .left) _ (c .before .leaf-fits .ensures)) (c .if5 .taken)
+returns-5 c =
+    let e = passed (tested (c .before)) in
+    let d = read (beside e) in
+    left-fails (seen d) _ _ _ (node-passes (seen d) _ _ _ (c .before .before .before .before .before .before .before .before .before .before .below2 .ensures) (c .before .before .before .before .before .before .before .before .before .below3 .ensures) (c .before .before .before .before .before .before .node-fits .ensures) (c .before .before .before .before .before .if3 .left))
+    (omega (arith, c .before .before .before .if4 .left)) (leaf-decides (left-seen e) _ _ _ (c .before .before .before .before .before .before .before .if2 .left) _ (c .before .leaf-fits .ensures)) (c .if5 .taken)
 
 returns-6 : tie.Need-returns-6
-returns-6 c = right-decides _ _ _ _ (some-link _ _ _ 2 (c .before .before .before .before .before .before .before .before .before .before .before .before .before .below .ensures) (high-as _ _ _ _ (c .before .before .before .before .before .before .before .before .before .before .before .before .before .below .ensures) (c .before .before .before .before .before .before .before .before .before .before .before .before .before .before .before .pre .1 .0)) (omega arith)) (c .before .before .before .before .before .before .before .before .before .before .before .before .before .before .before .pre .0) (c .before .before .before .before .before .before .before .before .before .before .before .before .before .below .result) (c .before .before .before .before .before .before .before .before .before .before .before .before .before .below .ensures) (c .before .before .before .before .before .before .before .before .before .before .below2 .result) (c .before .before .before .before .before .before .before .before .before .below3 .result) (c .before .before .before .before .before .before .before .before .before .before .below2 .ensures) (c .before .before .before .before .before .before .before .before .before .below3 .ensures) _ (c .before .before .before .before .before .before .node-fits .ensures) (c .before .before .before .before .before .if3 .left) (left-passes _ _ _ _ (some-link _ _ _ 2 (c .before .before .before .before .before .before .before .before .before .before .before .before .before .below .ensures) (high-as _ _ _ _ (c .before .before .before .before .before .before .before .before .before .before .before .before .before .below .ensures) (c .before .before .before .before .before .before .before .before .before .before .before .before .before .before .before .pre .1 .0)) (omega arith)) (c .before .before .before .before .before .before .before .before .before .before .before .before .before .before .before .pre .0) (c .before .before .before .before .before .before .before .before .before .before .before .before .before .below .result) (c .before .before .before .before .before .before .before .before .before .before .before .before .before .below .ensures) (c .before .before .before .before .before .before .before .before .before .before .below2 .result) (c .before .before .before .before .before .before .before .before .before .below3 .result) (c .before .before .before .before .before .before .before .before .before .before .below2 .ensures) (c .before .before .before .before .before .before .before .before .before .below3 .ensures) _ (c .before .before .before .before .before .before .node-fits .ensures) (c .before .before .before .before .before .if3 .left) (omega (arith, c .before .before .before .if4 .left)) _ (leaf-decides _ _ _ _ (some-link _ _ _ 1 (c .before .before .before .before .before .before .before .before .before .before .below2 .ensures) (c .before .before .before .before .before .before .before .if2 .left) (omega arith)) (inside-out _ _ (sym (c .before .before .before .before .before .before .before .before .before .before .before .before .inside .ensures) ∙ not-false _ (c .before .before .before .before .before .before .before .before .before .before .before .if1 .left))) (c .before .before .before .before .before .before .before .before .before .before .below2 .result) (c .before .before .before .before .before .before .before .before .before .before .below2 .ensures) (c .before .before .before .before .before .before .before .if2 .left) _ (c .before .leaf-fits .ensures)) (c .if5 .left)) _ (tells-none _ _ _ _ (right-as _ _ _ _ (c .before .before .before .before .before .before .before .before .before .before .before .before .before .below .ensures) (c .before .before .before .before .before .before .before .before .before .before .before .before .before .before .before .pre .1 .1)))
+returns-6 c =
+    let e = passed (tested (c .before)) in
+    let d = read (beside e) in
+    let own = node-passes (seen d) _ _ _ (c .before .before .before .before .before .before .before .before .before .before .below2 .ensures) (c .before .before .before .before .before .before .before .before .before .below3 .ensures) (c .before .before .before .before .before .before .node-fits .ensures) (c .before .before .before .before .before .if3 .left) in
+    right-decides (seen d) _ _ _ own
+    (left-passes (seen d) _ _ _ own (omega (arith, c .before .before .before .if4 .left)) (leaf-decides (left-seen e) _ _ _ (c .before .before .before .before .before .before .before .if2 .left) _ (c .before .leaf-fits .ensures)) (c .if5 .left)) _
+    (tells-none _ _ _ _ _ (no-right d))
 
 pub left-fits-spec : {M : Type 1} → statement M
 left-fits-spec =

@@ -2,10 +2,18 @@
 use mathlib.Core.Path.{sym, ap, _∙_}
 use native.Mathlib.Omega.{arith}
 use Rattle.run_index.specs.declared.Node.{Node}
-use Rattle.store.proofs.Steps.{no-height, leaf-decides}
+use Rattle.store.proofs.Steps.{Seen, no-height, leaf-decides}
 use borrow.Author.Needs.{needs}
 use Rattle.store.proofs.soundness.low_fits.Statement.{statement}
 use Rattle.store.proofs.soundness.low_fits.Tie as tie
+
+-- where the node has been read, and is not of height 2
+abbrev read : tie.Else1 → tie.After-below
+read c = c .before .before
+
+-- it is a node
+seen : (c : tie.After-below) → Seen (c .before .before .args .words .now) (c .before .before .args .link) (c .below .result)
+seen c = record { some = λ z. omega (arith, c .before .before .pre .1 .0, z); room = c .before .before .pre .0; is = c .below .ensures }
 
 below-requires : tie.Need-below-requires
 below-requires c κs = search needs
@@ -17,13 +25,15 @@ returns : tie.Need-returns
 returns c = search needs
 
 returns-2 : tie.Need-returns-2
-returns-2 c = no-height _ _ _ _ (λ z. omega (arith, c .before .before .before .before .before .before .pre .1 .0, z)) (c .before .before .before .before .before .before .pre .0) (c .before .before .before .before .below .result) (c .before .before .before .before .below .ensures) (omega (arith, ap (λ (u : Node). u .height) (c .before .before .before .before .below .ensures), c .before .before .before .before .before .before .pre .1 .1, c .before .before .if1 .left, c .if2 .taken))
+returns-2 c =
+    let d = read (c .before .before) in
+    no-height (seen d) _ _ _ (omega (arith, ap (λ (u : Node). u .height) (d .below .ensures), c .before .before .before .before .before .before .pre .1 .1, c .before .before .if1 .left, c .if2 .taken))
 
 leaf-fits-requires : tie.Need-leaf-fits-requires
 leaf-fits-requires c κs = search needs
 
 returns-3 : tie.Need-returns-3
-returns-3 c = leaf-decides _ _ _ _ (λ z. omega (arith, c .before .before .before .before .before .before .before .pre .1 .0, z)) (c .before .before .before .before .before .before .before .pre .0) (c .before .before .before .before .before .below .result) (c .before .before .before .before .before .below .ensures) (c .before .if2 .left) _ (c .leaf-fits .ensures)
+returns-3 c = leaf-decides (seen (read (c .before .before .before))) _ _ _ (c .before .if2 .left) _ (c .leaf-fits .ensures)
 
 pub low-fits-spec : {M : Type 1} → statement M
 low-fits-spec =

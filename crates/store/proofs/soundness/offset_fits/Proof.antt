@@ -1,5 +1,5 @@
 -- `offset_fits` meets its contract: a root that is not 0 needs no more. Assumes nothing.
-use mathlib.Core.Path.{refl, sym}
+use mathlib.Core.Path.{sym}
 use borrow.Author.Tests.{eq-eqb, ne-eqb}
 use Rattle.store.proofs.soundness.offset_fits.Statement.{statement}
 use Rattle.store.proofs.soundness.offset_fits.Tie as tie

@@ -1,13 +1,46 @@
 -- `twig_fits` meets its contract: what hangs at a link of such a node is a leaf, of height 1. Assumes nothing.
-use mathlib.Core.Path.{sym, ap, _∙_}
+use mathlib.Core.Path.{_≡_, sym, ap, _∙_}
 use native.Mathlib.Omega.{arith}
 use borrow.Author.Tests.{not-false}
 use Rattle.run_index.specs.declared.Node.{Node}
 use Rattle.store.proofs.Tests.{inside-out}
-use Rattle.store.proofs.Steps.{high-as, some-link, left-outside, right-outside, left-high, right-high, node-fails, left-crowded, right-crowded, left-fails, left-passes, right-decides, leaf-decides}
+use Rattle.store.proofs.Steps.{Seen, seen-high, left-outside, right-outside, left-high, right-high, node-fails, node-passes, left-crowded, right-crowded, left-fails, left-passes, right-decides, leaf-decides}
 use borrow.Author.Needs.{needs}
 use Rattle.store.proofs.soundness.twig_fits.Statement.{statement}
 use Rattle.store.proofs.soundness.twig_fits.Tie as tie
+
+-- the places that the needs look back to: the node read, both its links inside, what is there read, two leaves, its own tests passed, the
+-- left leaf tested
+abbrev read : tie.Else2 → tie.After-below
+read c = c .before .before .before .before
+
+abbrev linked : tie.After-below3 → tie.Else2
+linked c = c .before .before .before .before .before .before
+
+abbrev beside : tie.Else6 → tie.After-below3
+beside c = c .before .before .before .before
+
+abbrev passed : tie.Else7 → tie.Else6
+passed c = c .before .before
+
+abbrev tested : tie.After-leaf-fits → tie.Else7
+tested c = c .before .before .before .before
+
+-- the node's height
+high : (c : tie.After-below) → c .below .result .height ≡ 2
+high c = ap (λ (u : Node). u .height) (c .below .ensures) ∙ c .before .before .pre .1
+
+-- it is one
+seen : (c : tie.After-below) → Seen (c .before .before .args .words .now) (c .before .before .args .link) (c .below .result)
+seen c = seen-high (c .below .ensures) (omega (arith, high c)) (c .before .before .pre .0)
+
+-- so is what hangs on its left
+left-seen : (c : tie.After-below3) → Seen (c .before .before .before .before .before .before .before .before .before .before .before .before .args .words .now) (c .before .before .before .before .before .before .before .before .before .before .below .result .left) (c .before .below2 .result)
+left-seen c = record { some = c .before .before .before .before .before .before .before .before .if1 .left; room = inside-out _ _ (sym (c .before .before .before .before .before .inside .ensures) ∙ not-false _ (c .before .before .before .before .if3 .left)); is = c .before .below2 .ensures }
+
+-- and on its right
+right-seen : (c : tie.After-below3) → Seen (c .before .before .before .before .before .before .before .before .before .before .before .before .args .words .now) (c .before .before .before .before .before .before .before .before .before .before .below .result .right) (c .below3 .result)
+right-seen c = record { some = c .before .before .before .before .before .before .if2 .left; room = inside-out _ _ (sym (c .before .before .before .inside2 .ensures) ∙ not-false _ (c .before .before .if4 .left)); is = c .below3 .ensures }
 
 below-requires : tie.Need-below-requires
 below-requires c κs = search needs
@@ -28,13 +61,13 @@ inside-requires : tie.Need-inside-requires
 inside-requires c κs = search needs
 
 returns-3 : tie.Need-returns-3
-returns-3 c = left-outside _ _ _ _ (some-link _ _ _ 2 (c .before .before .before .before .before .before .below .ensures) (high-as _ _ _ _ (c .before .before .before .before .before .before .below .ensures) (c .before .before .before .before .before .before .before .before .pre .1)) (omega arith)) (c .before .before .before .before .before .before .before .before .pre .0) (c .before .before .before .before .before .before .below .result) (c .before .before .before .before .before .before .below .ensures) _ (c .before .inside .ensures) (c .if3 .taken)
+returns-3 c = left-outside (seen (read (c .before .before))) _ _ _ _ (c .before .inside .ensures) (c .if3 .taken)
 
 inside-requires-2 : tie.Need-inside-requires-2
 inside-requires-2 c κs = search needs
 
 returns-4 : tie.Need-returns-4
-returns-4 c = right-outside _ _ _ _ (some-link _ _ _ 2 (c .before .before .before .before .before .before .before .before .below .ensures) (high-as _ _ _ _ (c .before .before .before .before .before .before .before .before .below .ensures) (c .before .before .before .before .before .before .before .before .before .before .pre .1)) (omega arith)) (c .before .before .before .before .before .before .before .before .before .before .pre .0) (c .before .before .before .before .before .before .before .before .below .result) (c .before .before .before .before .before .before .before .before .below .ensures) _ (c .before .inside2 .ensures) (c .if4 .taken)
+returns-4 c = right-outside (seen (read (c .before .before .before .before))) _ _ _ _ (c .before .inside2 .ensures) (c .if4 .taken)
 
 below-requires-2 : tie.Need-below-requires-2
 below-requires-2 c κs = inside-out _ _ (sym (c .before .before .before .inside .ensures) ∙ not-false _ (c .before .before .if3 .left))
@@ -43,31 +76,43 @@ below-requires-3 : tie.Need-below-requires-3
 below-requires-3 c κs = inside-out _ _ (sym (c .before .before .inside2 .ensures) ∙ not-false _ (c .before .if4 .left))
 
 returns-5 : tie.Need-returns-5
-returns-5 c = left-high _ _ _ _ (some-link _ _ _ 2 (c .before .before .before .before .before .before .before .before .before .before .before .before .below .ensures) (high-as _ _ _ _ (c .before .before .before .before .before .before .before .before .before .before .before .before .below .ensures) (c .before .before .before .before .before .before .before .before .before .before .before .before .before .before .pre .1)) (omega arith)) (c .before .before .before .before .before .before .before .before .before .before .before .before .before .before .pre .0) (c .before .before .before .before .before .before .before .before .before .before .before .before .below .result) (c .before .before .before .before .before .before .before .before .before .before .before .before .below .ensures) (high-as _ _ _ _ (c .before .before .before .before .before .before .before .before .before .before .before .before .below .ensures) (c .before .before .before .before .before .before .before .before .before .before .before .before .before .before .pre .1)) (c .before .before .before .before .before .before .before .before .before .before .if1 .left) (c .before .before .before .below2 .result) (c .before .before .before .below2 .ensures) (c .if5 .taken)
+returns-5 c = let d = read (linked (c .before .before)) in left-high (seen d) _ _ _ (high d) (c .before .before .before .before .before .before .before .before .before .before .if1 .left) _ (c .before .before .before .below2 .ensures) (c .if5 .taken)
 
 returns-6 : tie.Need-returns-6
-returns-6 c = right-high _ _ _ _ (some-link _ _ _ 2 (c .before .before .before .before .before .before .before .before .before .before .before .before .before .before .below .ensures) (high-as _ _ _ _ (c .before .before .before .before .before .before .before .before .before .before .before .before .before .before .below .ensures) (c .before .before .before .before .before .before .before .before .before .before .before .before .before .before .before .before .pre .1)) (omega arith)) (c .before .before .before .before .before .before .before .before .before .before .before .before .before .before .before .before .pre .0) (c .before .before .before .before .before .before .before .before .before .before .before .before .before .before .below .result) (c .before .before .before .before .before .before .before .before .before .before .before .before .before .before .below .ensures) (high-as _ _ _ _ (c .before .before .before .before .before .before .before .before .before .before .before .before .before .before .below .ensures) (c .before .before .before .before .before .before .before .before .before .before .before .before .before .before .before .before .pre .1)) (c .before .before .before .before .before .before .before .before .before .before .if2 .left) (c .before .before .before .before .below3 .result) (c .before .before .before .before .below3 .ensures) (c .if6 .taken)
+returns-6 c =
+    let d = read (linked (c .before .before .before .before)) in
+    right-high (seen d) _ _ _ (high d) (c .before .before .before .before .before .before .before .before .before .before .if2 .left) _ (c .before .before .before .before .below3 .ensures) (c .if6 .taken)
 
 node-fits-requires : tie.Need-node-fits-requires
-node-fits-requires c κs = omega (arith, (high-as _ _ _ _ (c .before .before .before .before .before .before .before .before .before .before .before .before .before .before .below .ensures) (c .before .before .before .before .before .before .before .before .before .before .before .before .before .before .before .before .pre .1)))
+node-fits-requires c κs = omega (arith, high (read (linked (beside c))))
 
 returns-7 : tie.Need-returns-7
-returns-7 c = node-fails _ _ _ _ (some-link _ _ _ 2 (c .before .before .before .before .before .before .before .before .before .before .before .before .before .before .before .before .below .ensures) (high-as _ _ _ _ (c .before .before .before .before .before .before .before .before .before .before .before .before .before .before .before .before .below .ensures) (c .before .before .before .before .before .before .before .before .before .before .before .before .before .before .before .before .before .before .pre .1)) (omega arith)) (c .before .before .before .before .before .before .before .before .before .before .before .before .before .before .before .before .before .before .pre .0) (c .before .before .before .before .before .before .before .before .before .before .before .before .before .before .before .before .below .result) (c .before .before .before .before .before .before .before .before .before .before .before .before .before .before .before .before .below .ensures) (c .before .before .before .before .before .before .before .below2 .result) (c .before .before .before .before .before .before .below3 .result) (c .before .before .before .before .before .before .before .below2 .ensures) (c .before .before .before .before .before .before .below3 .ensures) _ (c .before .node-fits .ensures) (c .if7 .taken)
+returns-7 c =
+    let d = read (linked (beside (c .before .before))) in
+    node-fails (seen d) _ _ _ (c .before .before .before .before .before .before .before .below2 .ensures) (c .before .before .before .before .before .before .below3 .ensures) (c .before .node-fits .ensures) (c .if7 .taken)
 
 returns-8 : tie.Need-returns-8
-returns-8 c = left-crowded _ _ _ _ (some-link _ _ _ 2 (c .before .before .before .before .before .before .before .before .before .before .before .before .before .before .before .before .before .before .below .ensures) (high-as _ _ _ _ (c .before .before .before .before .before .before .before .before .before .before .before .before .before .before .before .before .before .before .below .ensures) (c .before .before .before .before .before .before .before .before .before .before .before .before .before .before .before .before .before .before .before .before .pre .1)) (omega arith)) (c .before .before .before .before .before .before .before .before .before .before .before .before .before .before .before .before .before .before .before .before .pre .0) (c .before .before .before .before .before .before .before .before .before .before .before .before .before .before .before .before .before .before .below .result) (c .before .before .before .before .before .before .before .before .before .before .before .before .before .before .before .before .before .before .below .ensures) (c .before .before .before .before .before .before .before .before .before .before .before .before .before .before .before .before .if1 .left) (omega (arith, c .if8 .taken))
+returns-8 c =
+    let e = beside (passed (c .before .before)) in
+    left-crowded (seen (read (linked e))) _ _ _ (left-seen e .some) (omega (arith, c .if8 .taken))
 
 leaf-fits-requires : tie.Need-leaf-fits-requires
 leaf-fits-requires c κs = search needs
 
 returns-9 : tie.Need-returns-9
-returns-9 c = left-fails _ _ _ _ (some-link _ _ _ 2 (c .before .before .before .before .before .before .before .before .before .before .before .before .before .before .before .before .before .before .before .before .before .below .ensures) (high-as _ _ _ _ (c .before .before .before .before .before .before .before .before .before .before .before .before .before .before .before .before .before .before .before .before .before .below .ensures) (c .before .before .before .before .before .before .before .before .before .before .before .before .before .before .before .before .before .before .before .before .before .before .before .pre .1)) (omega arith)) (c .before .before .before .before .before .before .before .before .before .before .before .before .before .before .before .before .before .before .before .before .before .before .before .pre .0) (c .before .before .before .before .before .before .before .before .before .before .before .before .before .before .before .before .before .before .before .before .before .below .result) (c .before .before .before .before .before .before .before .before .before .before .before .before .before .before .before .before .before .before .before .before .before .below .ensures) (c .before .before .before .before .before .before .before .before .before .before .before .before .below2 .result) (c .before .before .before .before .before .before .before .before .before .before .before .below3 .result) (c .before .before .before .before .before .before .before .before .before .before .before .before .below2 .ensures) (c .before .before .before .before .before .before .before .before .before .before .before .below3 .ensures) _ (c .before .before .before .before .before .before .node-fits .ensures) (c .before .before .before .before .before .if7 .left) (omega (arith, c .before .before .before .if8 .left)) _ (leaf-decides _ _ _ _ (c .before .before .before .before .before .before .before .before .before .before .before .before .before .before .before .before .before .before .before .if1 .left) (inside-out _ _ (sym (c .before .before .before .before .before .before .before .before .before .before .before .before .before .before .before .before .inside .ensures) ∙ not-false _ (c .before .before .before .before .before .before .before .before .before .before .before .before .before .before .before .if3 .left))) (c .before .before .before .before .before .before .before .before .before .before .before .before .below2 .result) (c .before .before .before .before .before .before .before .before .before .before .before .before .below2 .ensures) (c .before .before .before .before .before .before .before .before .before .if5 .left) _ (c .before .leaf-fits .ensures)) (c .if9 .taken)
+returns-9 c =
+    let e = beside (passed (tested (c .before))) in
+    let d = read (linked e) in
+    left-fails (seen d) _ _ _ (node-passes (seen d) _ _ _ (e .before .below2 .ensures) (e .below3 .ensures) (c .before .before .before .before .before .before .node-fits .ensures) (c .before .before .before .before .before .if7 .left))
+    (omega (arith, c .before .before .before .if8 .left)) (leaf-decides (left-seen e) _ _ _ (c .before .before .before .before .before .before .before .before .before .if5 .left) _ (c .before .leaf-fits .ensures)) (c .if9 .taken)
 
 sub-if10 : tie.Need-sub-if10
 sub-if10 c = search needs
 
 returns-10 : tie.Need-returns-10
-returns-10 c = right-crowded _ _ _ _ (some-link _ _ _ 2 (c .before .before .before .before .before .before .before .before .before .before .before .before .before .before .before .before .before .before .before .before .before .before .before .below .ensures) (high-as _ _ _ _ (c .before .before .before .before .before .before .before .before .before .before .before .before .before .before .before .before .before .before .before .before .before .before .before .below .ensures) (c .before .before .before .before .before .before .before .before .before .before .before .before .before .before .before .before .before .before .before .before .before .before .before .before .before .pre .1)) (omega arith)) (c .before .before .before .before .before .before .before .before .before .before .before .before .before .before .before .before .before .before .before .before .before .before .before .before .before .pre .0) (c .before .before .before .before .before .before .before .before .before .before .before .before .before .before .before .before .before .before .before .before .before .before .before .below .result) (c .before .before .before .before .before .before .before .before .before .before .before .before .before .before .before .before .before .before .before .before .before .before .before .below .ensures) (c .before .before .before .before .before .before .before .before .before .before .before .before .before .before .before .before .before .before .before .if2 .left) (omega (arith, c .if10 .taken, c .before .before .before .before .before .before .before .before .before .before .before .before .before .before .before .before .before .before .before .before .before .before .before .before .before .fits))
+returns-10 c =
+    let e = beside (passed (tested (c .before .before .before))) in
+    right-crowded (seen (read (linked e))) _ _ _ (right-seen e .some) (omega (arith, c .if10 .taken, c .before .before .before .before .before .before .before .before .before .before .before .before .before .before .before .before .before .before .before .before .before .before .before .before .before .fits))
 
 add-leaf-fits : tie.Need-add-leaf-fits
 add-leaf-fits c = search needs
@@ -76,7 +121,14 @@ leaf-fits-requires-2 : tie.Need-leaf-fits-requires-2
 leaf-fits-requires-2 c κs = search needs
 
 returns-11 : tie.Need-returns-11
-returns-11 c = right-decides _ _ _ _ (some-link _ _ _ 2 (c .before .before .before .before .before .before .before .before .before .before .before .before .before .before .before .before .before .before .before .before .before .before .before .before .before .below .ensures) (high-as _ _ _ _ (c .before .before .before .before .before .before .before .before .before .before .before .before .before .before .before .before .before .before .before .before .before .before .before .before .before .below .ensures) (c .before .before .before .before .before .before .before .before .before .before .before .before .before .before .before .before .before .before .before .before .before .before .before .before .before .before .before .pre .1)) (omega arith)) (c .before .before .before .before .before .before .before .before .before .before .before .before .before .before .before .before .before .before .before .before .before .before .before .before .before .before .before .pre .0) (c .before .before .before .before .before .before .before .before .before .before .before .before .before .before .before .before .before .before .before .before .before .before .before .before .before .below .result) (c .before .before .before .before .before .before .before .before .before .before .before .before .before .before .before .before .before .before .before .before .before .before .before .before .before .below .ensures) (c .before .before .before .before .before .before .before .before .before .before .before .before .before .before .before .before .below2 .result) (c .before .before .before .before .before .before .before .before .before .before .before .before .before .before .before .below3 .result) (c .before .before .before .before .before .before .before .before .before .before .before .before .before .before .before .before .below2 .ensures) (c .before .before .before .before .before .before .before .before .before .before .before .before .before .before .before .below3 .ensures) _ (c .before .before .before .before .before .before .before .before .before .before .node-fits .ensures) (c .before .before .before .before .before .before .before .before .before .if7 .left) (left-passes _ _ _ _ (some-link _ _ _ 2 (c .before .before .before .before .before .before .before .before .before .before .before .before .before .before .before .before .before .before .before .before .before .before .before .before .before .below .ensures) (high-as _ _ _ _ (c .before .before .before .before .before .before .before .before .before .before .before .before .before .before .before .before .before .before .before .before .before .before .before .before .before .below .ensures) (c .before .before .before .before .before .before .before .before .before .before .before .before .before .before .before .before .before .before .before .before .before .before .before .before .before .before .before .pre .1)) (omega arith)) (c .before .before .before .before .before .before .before .before .before .before .before .before .before .before .before .before .before .before .before .before .before .before .before .before .before .before .before .pre .0) (c .before .before .before .before .before .before .before .before .before .before .before .before .before .before .before .before .before .before .before .before .before .before .before .before .before .below .result) (c .before .before .before .before .before .before .before .before .before .before .before .before .before .before .before .before .before .before .before .before .before .before .before .before .before .below .ensures) (c .before .before .before .before .before .before .before .before .before .before .before .before .before .before .before .before .below2 .result) (c .before .before .before .before .before .before .before .before .before .before .before .before .before .before .before .below3 .result) (c .before .before .before .before .before .before .before .before .before .before .before .before .before .before .before .before .below2 .ensures) (c .before .before .before .before .before .before .before .before .before .before .before .before .before .before .before .below3 .ensures) _ (c .before .before .before .before .before .before .before .before .before .before .node-fits .ensures) (c .before .before .before .before .before .before .before .before .before .if7 .left) (omega (arith, c .before .before .before .before .before .before .before .if8 .left)) _ (leaf-decides _ _ _ _ (c .before .before .before .before .before .before .before .before .before .before .before .before .before .before .before .before .before .before .before .before .before .before .before .if1 .left) (inside-out _ _ (sym (c .before .before .before .before .before .before .before .before .before .before .before .before .before .before .before .before .before .before .before .before .inside .ensures) ∙ not-false _ (c .before .before .before .before .before .before .before .before .before .before .before .before .before .before .before .before .before .before .before .if3 .left))) (c .before .before .before .before .before .before .before .before .before .before .before .before .before .before .before .before .below2 .result) (c .before .before .before .before .before .before .before .before .before .before .before .before .before .before .before .before .below2 .ensures) (c .before .before .before .before .before .before .before .before .before .before .before .before .before .if5 .left) _ (c .before .before .before .before .before .leaf-fits .ensures)) (c .before .before .before .before .if9 .left)) _ (leaf-decides _ _ _ _ (c .before .before .before .before .before .before .before .before .before .before .before .before .before .before .before .before .before .before .before .before .before .if2 .left) (inside-out _ _ (sym (c .before .before .before .before .before .before .before .before .before .before .before .before .before .before .before .before .before .before .inside2 .ensures) ∙ not-false _ (c .before .before .before .before .before .before .before .before .before .before .before .before .before .before .before .before .before .if4 .left))) (c .before .before .before .before .before .before .before .before .before .before .before .before .before .before .before .below3 .result) (c .before .before .before .before .before .before .before .before .before .before .before .before .before .before .before .below3 .ensures) (c .before .before .before .before .before .before .before .before .before .before .before .if6 .left) _ (c .leaf-fits2 .ensures))
+returns-11 c =
+    let o = tested (c .before .before .before .before .before) in
+    let e = beside (passed o) in
+    let d = read (linked e) in
+    let own = node-passes (seen d) _ _ _ (e .before .below2 .ensures) (e .below3 .ensures) (o .before .node-fits .ensures) (o .if7 .left) in
+    right-decides (seen d) _ _ _ own
+    (left-passes (seen d) _ _ _ own (omega (arith, c .before .before .before .before .before .before .before .if8 .left)) (leaf-decides (left-seen e) _ _ _ (c .before .before .before .before .before .before .before .before .before .before .before .before .before .if5 .left) _ (c .before .before .before .before .before .leaf-fits .ensures)) (c .before .before .before .before .if9 .left)) _
+    (leaf-decides (right-seen e) _ _ _ (passed o .if6 .left) _ (c .leaf-fits2 .ensures))
 
 pub twig-fits-spec : {M : Type 1} → statement M
 twig-fits-spec =

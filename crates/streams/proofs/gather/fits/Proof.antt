@@ -12,34 +12,52 @@ use Rattle.streams.proofs.gather.fits.Statement.{statement}
 use Rattle.streams.proofs.gather.fits.Tie as tie
 
 abbrev Inv-loop : tie.InvT-loop
-Inv-loop op x y limit xp₀ yp₀ xo yo j₀ left₀ xp yp j left =
-    (Q R : Positions) → Jointly x xp₀ xo y yp₀ yo 0 j₀ op Q R (j₀ .found) → Counted x xp xo y yp yo j op Q R limit left
+Inv-loop op x y limit xp₀ yp₀ xv yv j₀ left₀ xp yp j left =
+    (Q R : Positions) → Jointly x xp₀ xv y yp₀ yv 0 j₀ op Q R (j₀ .found) → Counted x xp xv y yp yv j op Q R limit left
 
 abbrev μ-loop : tie.MeasureT-loop
-μ-loop op x y limit xp₀ yp₀ xo yo j₀ left₀ xp yp j left = left
+μ-loop op x y limit xp₀ yp₀ xv yv j₀ left₀ xp yp j left = left
+
+-- the places: where the views are known, the start, where both feeds are read, and where a run was found
+abbrev viewed : tie.After-begin2 Inv-loop μ-loop → tie.After-view-of2 Inv-loop μ-loop
+viewed c = c .before .before .before .before
+
+abbrev start : tie.After-begin2 Inv-loop μ-loop → tie.Start Inv-loop μ-loop
+start c = viewed c .before .before .before .before
+
+abbrev opened : tie.At-loop Inv-loop μ-loop → tie.After-begin2 Inv-loop μ-loop
+opened c = c .before .before .before .before
+
+abbrev onward : tie.After-struct-known2 Inv-loop μ-loop → tie.Else2 Inv-loop μ-loop
+onward c = c .before .before .before .before .before
+
+abbrev found : tie.Else2 Inv-loop μ-loop → tie.In-loop Inv-loop μ-loop
+found c = c .before .before .before
 
 -- both feeds are read from 0 on
-both : (c : tie.After-yp2 Inv-loop μ-loop) → Both (c .before .before .before .before .before .before .before .before .before .before .args .x .now) (c .before .before .before .before .begin .last .1 .0) (c .before .before .before .before .before .before .before .offset-of .result) (c .before .before .before .before .begin .result) (c .before .before .before .before .before .before .before .before .before .before .args .y .now) (c .before .before .begin2 .last .1 .0) (c .before .before .before .before .before .before .offset-of2 .result) (c .before .before .begin2 .result) 0 (fedBy (c .before .before .before .before .before .before .before .before .before .before .args .fx) (c .before .before .before .before .before .before .before .before .before .before .args .x .now)) (fedBy (c .before .before .before .before .before .before .before .before .before .before .args .fy) (c .before .before .before .before .before .before .before .before .before .before .args .y .now))
-both c = begun (c .before .before .before .before .before .before .before .before .before .before .pre) (c .before .before .before .before .before .before .before .offset-of .ensures) (c .before .before .before .before .before .before .offset-of2 .ensures) (c .before .before .before .before .begin .ensures) (c .before .before .begin2 .ensures)
+both : (c : tie.After-begin2 Inv-loop μ-loop)
+    → Both (start c .args .x .now) (c .before .before .begin .last .1 .0) (viewed c .before .view-of .result) (c .before .before .begin .result) (start c .args .y .now) (c .begin2 .last .1 .0) (viewed c .view-of2 .result) (c .begin2 .result) 0 (fedBy (start c .args .fx) (start c .args .x .now)) (fedBy (start c .args .fy) (start c .args .y .now))
+both c = begun (start c .pre) (viewed c .before .view-of .ensures) (viewed c .view-of2 .ensures) (c .before .before .begin .ensures) (c .begin2 .ensures)
 
 -- what the invariant says of them
-counted : (c : tie.At-loop Inv-loop μ-loop) → Counted (c .before .before .before .before .before .before .before .before .before .before .before .before .args .x .now) (c .loop .xp) (c .before .before .before .before .before .before .before .before .before .offset-of .result) (c .before .before .before .before .before .before .before .before .before .before .before .before .args .y .now) (c .loop .yp) (c .before .before .before .before .before .before .before .before .offset-of2 .result) (c .loop .j) (c .before .before .before .before .before .before .before .before .before .before .before .before .args .op) (fedBy (c .before .before .before .before .before .before .before .before .before .before .before .before .args .fx) (c .before .before .before .before .before .before .before .before .before .before .before .before .args .x .now)) (fedBy (c .before .before .before .before .before .before .before .before .before .before .before .before .args .fy) (c .before .before .before .before .before .before .before .before .before .before .before .before .args .y .now)) (c .before .before .before .before .before .before .before .before .before .before .before .before .args .limit) (c .loop .left)
-counted c = c .loop .inv _ _ (c .before .next-run .ensures _ _ (both (c .before .before)))
+counted : (c : tie.At-loop Inv-loop μ-loop)
+    → Counted (start (opened c) .args .x .now) (c .loop .xp) (viewed (opened c) .before .view-of .result) (start (opened c) .args .y .now) (c .loop .yp) (viewed (opened c) .view-of2 .result) (c .loop .j) (start (opened c) .args .op) (fedBy (start (opened c) .args .fx) (start (opened c) .args .x .now)) (fedBy (start (opened c) .args .fy) (start (opened c) .args .y .now)) (start (opened c) .args .limit) (c .loop .left)
+counted c = c .loop .inv _ _ (c .before .next-run .ensures _ _ (both (opened c)))
 
-offset-of-requires : tie.Need-offset-of-requires Inv-loop μ-loop
-offset-of-requires c κs = search needs
+view-of-requires : tie.Need-view-of-requires Inv-loop μ-loop
+view-of-requires c κs = search needs
 
-offset-of-requires-2 : tie.Need-offset-of-requires-2 Inv-loop μ-loop
-offset-of-requires-2 c κs = search needs
+view-of-requires-2 : tie.Need-view-of-requires-2 Inv-loop μ-loop
+view-of-requires-2 c κs = search needs
 
 begin-requires : tie.Need-begin-requires Inv-loop μ-loop
-begin-requires c κs = (c .before .before .before .before .before .pre .sound, (refl, c .before .before .before .before .before .pre .ordered))
+begin-requires c κs = (c .before .before .before .before .before .pre .left, refl)
 
 begin-requires-2 : tie.Need-begin-requires-2 Inv-loop μ-loop
-begin-requires-2 c κs = (c .before .before .before .before .before .before .before .pre .sound₂, (refl, c .before .before .before .before .before .before .before .pre .ordered₂))
+begin-requires-2 c κs = (c .before .before .before .before .before .before .before .pre .right, refl)
 
 next-run-requires : tie.Need-next-run-requires Inv-loop μ-loop
-next-run-requires c κs = (_, _, both c)
+next-run-requires c κs = (_, _, both (c .before .before))
 
 loop-holds : tie.Need-loop-holds Inv-loop μ-loop
 loop-holds c = λ Q R h. count-none h
@@ -54,16 +72,22 @@ returns-2 : tie.Need-returns-2 Inv-loop μ-loop
 returns-2 c = count-last (counted (c .before .before .before .before)) (c .before .before .before .loop-test .taken) (c .before .before .if1 .left) (c .if2 .taken)
 
 add-next-run : tie.Need-add-next-run Inv-loop μ-loop
-add-next-run c = omega (arith, stream-after (counted (c .before .before .before .before .before .before .before .before .before) .stream) (c .before .before .before .before .before .before .before .before .loop-test .taken) (c .before .before .before .before .before .if2 .left))
+add-next-run c =
+    let e = onward c in
+    let n = stream-after (counted (found e .before) .stream) (found e .loop-test .taken) (e .if2 .left) in
+    omega arith
 
 next-run-requires-2 : tie.Need-next-run-requires-2 Inv-loop μ-loop
-next-run-requires-2 c κs = (_, _, stream-onward (counted (c .before .before .before .before .before .before .before .before .before) .stream) (c .before .before .before .before .before .before .before .before .loop-test .taken) (c .before .before .before .before .before .if2 .left))
+next-run-requires-2 c κs =
+    let e = onward c in (_, _, stream-onward (counted (found e .before) .stream) (found e .loop-test .taken) (e .if2 .left))
 
 loop-less : tie.Need-loop-less Inv-loop μ-loop
 loop-less c = search needs
 
 loop-again : tie.Need-loop-again Inv-loop μ-loop
-loop-again c = λ Q R h. count-more (c .before .before .before .before .before .before .before .before .before .before .loop .inv Q R h) (c .before .before .before .before .before .before .before .before .before .loop-test .taken) (c .before .before .before .before .before .before .before .before .if1 .left) (c .before .before .before .before .before .before .if2 .left) (c .next-run2 .ensures)
+loop-again c = λ Q R h.
+    let e = onward (c .before) in
+    count-more (found e .before .loop .inv Q R h) (found e .loop-test .taken) (e .before .before .if1 .left) (e .if2 .left) (c .next-run2 .ensures)
 
 returns-3 : tie.Need-returns-3 Inv-loop μ-loop
 returns-3 c = count-all (counted (c .before)) (c .loop-test .left)
@@ -74,8 +98,8 @@ fits-spec =
     (tie.spec
     Inv-loop
     μ-loop
-    offset-of-requires
-    offset-of-requires-2
+    view-of-requires
+    view-of-requires-2
     begin-requires
     begin-requires-2
     next-run-requires

@@ -1,21 +1,43 @@
--- `gather` meets its contract: the nodes that were filled hold the runs of the join, and these are canonical, so they can be linked to a
--- store of them. Assumes nothing.
+-- `gather` meets its contract: the nodes of the world's tree are given back, as many as there are joined runs are filled with these, and they
+-- are canonical, so they can be linked. Assumes nothing.
 use borrow.Author.Needs.{needs}
-use Rattle.streams.proofs.Gathered.{gather-linkable, gather-settled}
+use Rattle.streams.proofs.Gathered.{gather-keepable, gather-ample, gather-strewn, gather-became}
 use Rattle.streams.proofs.gather.gather.Statement.{statement}
 use Rattle.streams.proofs.gather.gather.Tie as tie
 
+-- the places: the start, where the tree is given back, and where nodes are filled
+abbrev start : tie.After-give-back → tie.Start
+start c = c .before .before .before .before .before .before
+
+abbrev freed : tie.After-fill → tie.After-give-back
+freed c = c .before .before .before .before
+
+links-of-requires : tie.Need-links-of-requires
+links-of-requires c κs = search needs
+
+give-back-requires : tie.Need-give-back-requires
+give-back-requires c κs = gather-keepable (c .before .before .before .before .before .pre .roomy) (c .links-of .ensures)
+
 fill-requires : tie.Need-fill-requires
-fill-requires c κs = search needs
+fill-requires c κs =
+    let g = c .before .before .before in
+    let p = start g .pre in
+    record { sources = p .sources; nodes = _; ample = gather-ample (p .roomy) (g .before .links-of .ensures) (g .give-back .ensures) }
 
 link-requires : tie.Need-link-requires
-link-requires c κs = gather-linkable (c .before .before .before .fill .ensures) (c .before .before .before .before .before .before .before .before .pre .sized) (c .before .before .before .before .before .before .before .before .pre .fits)
-
-same-length : tie.Need-same-length
-same-length c = search needs
+link-requires c κs =
+    let f = c .before .before .before in
+    let g = freed f in
+    (_, _, _, _, _, gather-strewn (start g .pre .roomy) (g .before .links-of .ensures) (g .give-back .ensures) (f .fill .ensures))
 
 returns : tie.Need-returns
-returns c = gather-settled (c .before .before .before .before .before .before .fill .ensures) (c .before .before .link .ensures)
+returns c = λ s ro.
+    let l = c .before .before in
+    let f = l .before .before .before .before in
+    gather-became ro (freed f .before .links-of .ensures) (freed f .give-back .ensures) (f .fill .ensures) (l .link .ensures)
+
+same-length : tie.Need-same-length
+same-length c = let p = start (freed (c .before .before .before .before .before .before)) .pre in returns c (p .share) (p .roomy) .still .long
 
 pub gather-spec : {M : Type 1} → statement M
-gather-spec = tie.close (tie.spec fill-requires link-requires same-length returns)
+gather-spec = tie.close (tie.spec links-of-requires give-back-requires fill-requires link-requires same-length returns)

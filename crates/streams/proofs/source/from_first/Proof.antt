@@ -1,27 +1,48 @@
 -- `from_first` meets its contract: the first part goes on, or over the seam at physical M into the last part. Assumes nothing.
+use Prim.Native.Nat.{max}
+use mathlib.Core.Path.{_≡_, sym, _∙_, ap}
 use borrow.Author.Needs.{needs}
-use mathlib.Core.Path.{sym, _∙_, ap}
 use Rattle.model.specs.Places.{logicalOf}
-use Rattle.store.proofs.Opening.{sound-room}
-use Rattle.streams.proofs.Firsts.{first-on, first-long, first-last, first-none, first-whole, first-join, first-stop}
-use Rattle.streams.proofs.Starts.{root-below, whole-coming}
+use Rattle.streams.proofs.Firsts.{first-on, first-long, first-over, first-again, first-last, first-none, first-whole, first-join, first-stop}
+use Rattle.streams.proofs.Starts.{root-below}
 use Rattle.streams.proofs.source.from_first.Statement.{statement}
 use Rattle.streams.proofs.source.from_first.Tie as tie
 
-read-header-requires : tie.Need-read-header-requires
-read-header-requires c κs = sound-room (c .before .pre .2 .sound)
+-- the places: where a run was taken off the path, where its first position is known, and where the root's nodes are on the path again
+abbrev start : tie.After-pop → tie.Start
+start c = c .before .before .before .before
+
+abbrev popped : tie.After-to-logical → tie.After-pop
+popped c = c .before .before
+
+abbrev placed : tie.After-descend2 → tie.After-to-logical
+placed c = c .before .before .before .before
+
+abbrev again : tie.After-starts-at-zero → tie.After-descend2
+again c = c .before .before
+
+-- something was on the path
+some : (c : tie.After-pop) → start c .args .depth ≡ 0 → ⊥
+some c = c .before .before .if1 .left
+
+-- the run's first position
+begins : (c : tie.After-to-logical)
+    → c .to-logical .result .0 ≡ logicalOf (max (popped c .pop .result .start) (start (popped c) .args .p)) (start (popped c) .args .v .offset)
+begins c = c .to-logical .ensures ∙ ap (λ m. logicalOf m (start (popped c) .args .v .offset)) (c .before .larger .ensures)
 
 descend-requires : tie.Need-descend-requires
-descend-requires c κs = (_, _, root-below (c .before .before .before .before .pre .2 .sound) (c .before .before .read-header .ensures) (c .before .before .before .before .pre .2 .ready .part .coming .long))
+descend-requires c κs = (_, _, root-below (c .before .before .before .pre .2 .rooted) (c .before .before .before .pre .2 .ready .part .coming .long))
 
 from-last-requires : tie.Need-from-last-requires
-from-last-requires c κs = (_, _, first-last (c .before .before .before .before .before .before .pre .2) (whole-coming (c .before .before .before .before .before .before .pre .2 .sound) (c .before .before .before .before .read-header .ensures) (c .before .before .before .before .before .before .pre .2 .ready .part .coming .long) (c .before .descend .ensures)))
+from-last-requires c κs =
+    let h = c .before .before .before .before .before .pre .2 in (_, _, first-last h (first-over h (c .before .descend .ensures)))
 
 returns : tie.Need-returns
-returns c = λ y Q h. first-none h (c .before .before .before .before .if1 .taken) (c .from-last .ensures _ Q (first-last h (whole-coming (h .sound) (c .before .before .before .before .before .read-header .ensures) (h .ready .part .coming .long) (c .before .before .descend .ensures))))
+returns c = λ y Q h.
+    first-none h (c .before .before .before .before .if1 .taken) (c .from-last .ensures _ Q (first-last h (first-over h (c .before .before .descend .ensures))))
 
 pop-requires : tie.Need-pop-requires
-pop-requires c κs = first-on (c .before .before .before .before .pre .2) (c .before .if1 .left)
+pop-requires c κs = first-on (c .before .before .before .pre .2) (c .before .if1 .left)
 
 larger-requires : tie.Need-larger-requires
 larger-requires c κs = search needs
@@ -33,31 +54,49 @@ to-logical-requires-2 : tie.Need-to-logical-requires-2
 to-logical-requires-2 c κs = search needs
 
 returns-2 : tie.Need-returns-2
-returns-2 c = λ y Q h. first-whole h (c .before .before .before .before .before .before .before .if1 .left) (c .before .before .before .before .before .pop .ensures) _ (c .before .before .before .to-logical .ensures ∙ ap (λ m. logicalOf m (c .before .before .before .before .before .before .before .before .before .before .args .offset)) (c .before .before .before .before .larger .ensures)) _ (c .before .if2 .taken) (c .to-logical2 .ensures)
+returns-2 c = λ y Q h.
+    let l = c .before .before .before in
+    first-whole h (some (popped l)) (popped l .pop .ensures) _ (begins l) _ (c .before .if2 .taken) (c .to-logical2 .ensures)
 
 descend-requires-2 : tie.Need-descend-requires-2
-descend-requires-2 c κs = (_, _, root-below (c .before .before .before .before .before .before .before .before .before .before .pre .2 .sound) (c .before .before .before .before .before .before .before .before .read-header .ensures) (first-long (c .before .before .before .before .before .before .before .before .before .before .pre .2) (c .before .before .before .before .before .before .before .if1 .left) (c .before .before .before .before .before .pop .ensures)))
+descend-requires-2 c κs =
+    let p = popped (c .before .before .before) in
+    (_, _, root-below (start p .pre .2 .rooted) (first-long (start p .pre .2) (some p) (p .pop .ensures)))
 
 starts-at-zero-requires : tie.Need-starts-at-zero-requires
-starts-at-zero-requires c κs = (_, _, whole-coming (c .before .before .before .before .before .before .before .before .before .before .before .before .pre .2 .sound) (c .before .before .before .before .before .before .before .before .before .before .read-header .ensures) (first-long (c .before .before .before .before .before .before .before .before .before .before .before .before .pre .2) (c .before .before .before .before .before .before .before .before .before .if1 .left) (c .before .before .before .before .before .before .before .pop .ensures)) (c .before .descend2 .ensures))
+starts-at-zero-requires c κs =
+    let p = popped (placed (c .before)) in (_, _, first-again (start p .pre .2) (some p) (p .pop .ensures) (c .before .descend2 .ensures))
 
 from-last-requires-2 : tie.Need-from-last-requires-2
-from-last-requires-2 c κs = (_, _, first-last (c .before .before .before .before .before .before .before .before .before .before .before .before .before .before .before .pre .2) (whole-coming (c .before .before .before .before .before .before .before .before .before .before .before .before .before .before .before .pre .2 .sound) (c .before .before .before .before .before .before .before .before .before .before .before .before .before .read-header .ensures) (first-long (c .before .before .before .before .before .before .before .before .before .before .before .before .before .before .before .pre .2) (c .before .before .before .before .before .before .before .before .before .before .before .before .if1 .left) (c .before .before .before .before .before .before .before .before .before .before .pop .ensures)) (c .before .before .before .before .descend2 .ensures)))
+from-last-requires-2 c κs =
+    let d = again (c .before .before) in
+    let p = popped (placed d) in
+    (_, _, first-last (start p .pre .2) (first-again (start p .pre .2) (some p) (p .pop .ensures) (d .descend2 .ensures)))
 
 returns-3 : tie.Need-returns-3
-returns-3 c = λ y Q h. first-join h (c .before .before .before .before .before .before .before .before .before .before .before .before .before .if1 .left) (c .before .before .before .before .before .before .before .before .before .before .before .pop .ensures) _ (c .before .before .before .before .before .before .before .before .before .to-logical .ensures ∙ ap (λ m. logicalOf m (c .before .before .before .before .before .before .before .before .before .before .before .before .before .before .before .before .args .offset)) (c .before .before .before .before .before .before .before .before .before .before .larger .ensures)) (c .before .before .before .before .before .before .before .if2 .left) (c .from-last2 .ensures _ Q (first-last h (whole-coming (h .sound) (c .before .before .before .before .before .before .before .before .before .before .before .before .before .before .read-header .ensures) (first-long h (c .before .before .before .before .before .before .before .before .before .before .before .before .before .if1 .left) (c .before .before .before .before .before .before .before .before .before .before .before .pop .ensures)) (c .before .before .before .before .before .descend2 .ensures)))) (sym (c .before .before .before .starts-at-zero .ensures _ _ (whole-coming (h .sound) (c .before .before .before .before .before .before .before .before .before .before .before .before .before .before .read-header .ensures) (first-long h (c .before .before .before .before .before .before .before .before .before .before .before .before .before .if1 .left) (c .before .before .before .before .before .before .before .before .before .before .before .pop .ensures)) (c .before .before .before .before .before .descend2 .ensures))) ∙ c .before .before .if3 .taken)
+returns-3 c = λ y Q h.
+    let z = c .before .before .before in
+    let d = again z in
+    let p = popped (placed d) in
+    let all = first-again h (some p) (p .pop .ensures) (d .descend2 .ensures) in
+    first-join h (some p) (p .pop .ensures) _ (begins (placed d)) (d .before .before .if2 .left) (c .from-last2 .ensures _ Q (first-last h all))
+    (sym (z .starts-at-zero .ensures _ _ all) ∙ c .before .before .if3 .taken)
 
-sub-t17 : tie.Need-sub-t17
-sub-t17 c = search needs
+sub-t16 : tie.Need-sub-t16
+sub-t16 c = search needs
 
 returns-4 : tie.Need-returns-4
-returns-4 c = λ y Q h. first-stop h (c .before .before .before .before .before .before .before .before .before .before .before .if1 .left) (c .before .before .before .before .before .before .before .before .before .pop .ensures) _ (c .before .before .before .before .before .before .before .to-logical .ensures ∙ ap (λ m. logicalOf m (c .before .before .before .before .before .before .before .before .before .before .before .before .before .before .args .offset)) (c .before .before .before .before .before .before .before .before .larger .ensures)) (c .before .before .before .before .before .if2 .left) (whole-coming (h .sound) (c .before .before .before .before .before .before .before .before .before .before .before .before .read-header .ensures) (first-long h (c .before .before .before .before .before .before .before .before .before .before .before .if1 .left) (c .before .before .before .before .before .before .before .before .before .pop .ensures)) (c .before .before .before .descend2 .ensures)) (sym (c .before .starts-at-zero .ensures _ _ (whole-coming (h .sound) (c .before .before .before .before .before .before .before .before .before .before .before .before .read-header .ensures) (first-long h (c .before .before .before .before .before .before .before .before .before .before .before .if1 .left) (c .before .before .before .before .before .before .before .before .before .pop .ensures)) (c .before .before .before .descend2 .ensures))) ∙ c .if3 .left)
+returns-4 c = λ y Q h.
+    let z = c .before .before in
+    let d = again z in
+    let p = popped (placed d) in
+    let all = first-again h (some p) (p .pop .ensures) (d .descend2 .ensures) in
+    first-stop h (some p) (p .pop .ensures) _ (begins (placed d)) (d .before .before .if2 .left) all (sym (z .starts-at-zero .ensures _ _ all) ∙ c .before .if3 .left)
 
 pub from-first-spec : {M : Type 1} → statement M
 from-first-spec =
     tie.close
     (tie.spec
-    read-header-requires
     descend-requires
     from-last-requires
     returns
@@ -70,5 +109,5 @@ from-first-spec =
     starts-at-zero-requires
     from-last-requires-2
     returns-3
-    sub-t17
+    sub-t16
     returns-4)

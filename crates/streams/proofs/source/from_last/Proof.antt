@@ -1,11 +1,31 @@
 -- `from_last` meets its contract: nothing is left, or the first run to come is the next one, clipped to where the reading stands and to M.
 -- Assumes nothing.
+use Prim.Native.Nat.{max}
+use mathlib.Core.Path.{_≡_, _∙_, ap}
 use borrow.Author.Needs.{needs}
-use mathlib.Core.Path.{_∙_, ap}
 use Rattle.model.specs.Places.{logicalOf}
 use Rattle.streams.proofs.Lasts.{last-none, last-on, last-past, last-clipped, last-whole}
 use Rattle.streams.proofs.source.from_last.Statement.{statement}
 use Rattle.streams.proofs.source.from_last.Tie as tie
+
+-- the places: the start, where a run was taken off the path, and where it was found to start before M
+abbrev start : tie.After-pop → tie.Start
+start c = c .before .before .before .before
+
+abbrev popped : tie.Else2 → tie.After-pop
+popped c = c .before .before .before
+
+abbrev inside : tie.After-to-logical → tie.Else2
+inside c = c .before .before
+
+-- something was on the path
+some : (c : tie.After-pop) → start c .args .depth ≡ 0 → ⊥
+some c = c .before .before .if1 .left
+
+-- the run's first position
+begins : (c : tie.After-to-logical)
+    → c .to-logical .result .0 ≡ logicalOf (max (popped (inside c) .pop .result .start) (start (popped (inside c)) .args .p)) (start (popped (inside c)) .args .v .offset)
+begins c = c .to-logical .ensures ∙ ap (λ m. logicalOf m (start (popped (inside c)) .args .v .offset)) (c .before .larger .ensures)
 
 over-requires : tie.Need-over-requires
 over-requires c κs = search needs
@@ -23,7 +43,7 @@ over-requires-2 : tie.Need-over-requires-2
 over-requires-2 c κs = search needs
 
 returns-2 : tie.Need-returns-2
-returns-2 c = λ y Q h. last-past h (c .before .before .before .before .before .if1 .left) (c .before .before .before .pop .ensures) (c .before .if2 .taken) (c .over2 .ensures)
+returns-2 c = λ y Q h. let p = c .before .before .before .before in last-past h (some p) (p .pop .ensures) (c .before .if2 .taken) (c .over2 .ensures)
 
 larger-requires : tie.Need-larger-requires
 larger-requires c κs = search needs
@@ -32,13 +52,19 @@ to-logical-requires : tie.Need-to-logical-requires
 to-logical-requires c κs = search needs
 
 returns-3 : tie.Need-returns-3
-returns-3 c = λ y Q h. last-clipped h (c .before .before .before .before .before .before .before .before .if1 .left) (c .before .before .before .before .before .before .pop .ensures) _ (c .before .before .before .before .if2 .left) (c .if3 .taken) (c .before .before .to-logical .ensures ∙ ap (λ m. logicalOf m (c .before .before .before .before .before .before .before .before .before .before .args .offset)) (c .before .before .before .larger .ensures))
+returns-3 c = λ y Q h.
+    let t = c .before .before in
+    let p = popped (inside t) in
+    last-clipped h (some p) (p .pop .ensures) _ (inside t .if2 .left) (c .if3 .taken) (begins t)
 
 to-logical-requires-2 : tie.Need-to-logical-requires-2
 to-logical-requires-2 c κs = search needs
 
 returns-4 : tie.Need-returns-4
-returns-4 c = λ y Q h. last-whole h (c .before .before .before .before .before .before .before .before .before .if1 .left) (c .before .before .before .before .before .before .before .pop .ensures) _ _ (c .before .before .before .before .before .if2 .left) (c .before .if3 .left) (c .before .before .before .to-logical .ensures ∙ ap (λ m. logicalOf m (c .before .before .before .before .before .before .before .before .before .before .before .args .offset)) (c .before .before .before .before .larger .ensures)) (c .to-logical2 .ensures)
+returns-4 c = λ y Q h.
+    let t = c .before .before .before in
+    let p = popped (inside t) in
+    last-whole h (some p) (p .pop .ensures) _ _ (inside t .if2 .left) (c .before .if3 .left) (begins t) (c .to-logical2 .ensures)
 
 pub from-last-spec : {M : Type 1} → statement M
 from-last-spec =

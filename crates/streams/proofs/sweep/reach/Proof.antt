@@ -12,11 +12,11 @@ use Rattle.streams.proofs.sweep.reach.Statement.{statement}
 use Rattle.streams.proofs.sweep.reach.Tie as tie
 
 abbrev Inv-loop : tie.InvT-loop
-Inv-loop op x xp₀ xo y yp₀ yo «from» value l₀ r₀ at₀ v₀ xp yp l r at v =
-    (Q R : Positions) → Both x xp₀ xo l₀ y yp₀ yo r₀ «from» Q R → Swept op x xp xo l y yp yo r «from» at value v Q R
+Inv-loop op x xp₀ xv y yp₀ yv «from» value l₀ r₀ at₀ v₀ xp yp l r at v =
+    (Q R : Positions) → Both x xp₀ xv l₀ y yp₀ yv r₀ «from» Q R → Swept op x xp xv l y yp yv r «from» at value v Q R
 
 abbrev μ-loop : tie.MeasureT-loop
-μ-loop op x xp₀ xo y yp₀ yo «from» value l₀ r₀ at₀ v₀ xp yp l r at v = size - at
+μ-loop op x xp₀ xv y yp₀ yv «from» value l₀ r₀ at₀ v₀ xp yp l r at v = size - at
 
 value-at-requires : tie.Need-value-at-requires Inv-loop μ-loop
 value-at-requires c κs = search needs
@@ -28,7 +28,7 @@ join-requires : tie.Need-join-requires Inv-loop μ-loop
 join-requires c κs = search needs
 
 loop-holds : tie.Need-loop-holds Inv-loop μ-loop
-loop-holds c = swept-start (c .before .before .before .before .before .args .op) (c .before .before .before .before .before .args .x .now) (c .before .before .before .before .before .args .xp .now) (c .before .before .before .before .before .args .xo) (c .before .before .before .before .before .args .s) (c .before .before .before .before .before .args .y .now) (c .before .before .before .before .before .args .yp .now) (c .before .before .before .before .before .args .yo) (c .before .before .before .before .before .args .t) (c .before .before .before .before .before .args .from) (c .before .before .before .before .before .args .value) (omega (arith, c .before .before .before .before .before .good)) (c .before .before .value-at .ensures) (c .before .value-at2 .ensures) (c .join .ensures)
+loop-holds c = swept-start (c .before .before .before .before .before .args .op) (c .before .before .before .before .before .args .x .now) (c .before .before .before .before .before .args .xp .now) (c .before .before .before .before .before .args .xv) (c .before .before .before .before .before .args .s) (c .before .before .before .before .before .args .y .now) (c .before .before .before .before .before .args .yp .now) (c .before .before .before .before .before .args .yv) (c .before .before .before .before .before .args .t) (c .before .before .before .before .before .args .from) (c .before .before .before .before .before .args .value) (omega (arith, c .before .before .before .before .before .good)) (c .before .before .value-at .ensures) (c .before .value-at2 .ensures) (c .join .ensures)
 
 same-to-requires : tie.Need-same-to-requires Inv-loop μ-loop
 same-to-requires c κs = search needs

@@ -1,5 +1,5 @@
 -- `in_order` meets its contract. The loop's invariant: the first i runs passed, so the order of all is that of the others. Assumes nothing.
-use Prim.Native.Nat.{_-_, _*_, _≤_}
+use Prim.Native.Nat.{_-_, _*_}
 use mathlib.Core.Path.{_≡_}
 use native.Mathlib.Omega.{arith}
 use borrow.Author.Needs.{needs}
@@ -10,13 +10,17 @@ use Rattle.written.proofs.list.in_order.Statement.{statement}
 use Rattle.written.proofs.list.in_order.Tie as tie
 
 abbrev Inv-loop : tie.InvT-loop
-Inv-loop runs n i₀ at₀ last₀ i at last = (i ≤ n) × (at ≡ 2 * i) × Passed (pairs n runs) i last
+Inv-loop runs n i₀ at₀ last₀ i at last = (at ≡ 2 * i) × Passed (pairs n runs) n i last
 
 abbrev μ-loop : tie.MeasureT-loop
 μ-loop runs n i₀ at₀ last₀ i at last = n - i
 
+-- the place that the needs look back to: the test passed before a run is read
+abbrev tested : tie.After-follows Inv-loop μ-loop → tie.In-loop Inv-loop μ-loop
+tested c = c .before .before .before
+
 loop-holds : tie.Need-loop-holds Inv-loop μ-loop
-loop-holds c = (search needs, search needs, passed-none _)
+loop-holds c = (search needs, passed-none _ (pairs-length (c .before .args .n) (c .before .args .runs .now)))
 
 mul-start : tie.Need-mul-start Inv-loop μ-loop
 mul-start c = search needs
@@ -38,7 +42,9 @@ follows-requires c κs = search needs
 
 returns : tie.Need-returns Inv-loop μ-loop
 returns c =
-    passed-fail (pairs (c .before .before .before .before .before .before .before .args .n) (c .before .before .before .before .before .before .before .args .runs .now)) (omega (arith, pairs-length (c .before .before .before .before .before .before .before .args .n) (c .before .before .before .before .before .before .before .args .runs .now))) (pair-read (c .before .before .before .before .before .before .before .args .n) (c .before .before .before .before .before .before .before .args .runs .now) (c .before .before .before .before .loop-test .taken) (c .before .before .before .before .before .loop .inv .1)) (c .before .before .before .before .before .loop .inv .2) (c .before .follows .ensures) (c .if1 .taken)
+    let t = tested (c .before) in
+    let a = t .before .before .before .args in
+    passed-fail (t .before .loop .inv .1) (t .loop-test .taken) (pair-read (a .n) (a .runs .now) (t .loop-test .taken) (t .before .loop .inv .0)) (c .before .follows .ensures) (c .if1 .taken)
 
 add-at : tie.Need-add-at Inv-loop μ-loop
 add-at c = search needs
@@ -51,10 +57,12 @@ loop-less c = search needs
 
 loop-again : tie.Need-loop-again Inv-loop μ-loop
 loop-again c =
-    (search needs, omega arith, passed-step (pairs (c .before .before .before .before .before .before .before .args .n) (c .before .before .before .before .before .before .before .args .runs .now)) (omega (arith, pairs-length (c .before .before .before .before .before .before .before .args .n) (c .before .before .before .before .before .before .before .args .runs .now))) (pair-read (c .before .before .before .before .before .before .before .args .n) (c .before .before .before .before .before .before .before .args .runs .now) (c .before .before .before .before .loop-test .taken) (c .before .before .before .before .before .loop .inv .1)) (c .before .before .before .before .before .loop .inv .2) (c .before .follows .ensures) (c .if1 .left))
+    let t = tested (c .before) in
+    let a = t .before .before .before .args in
+    (omega arith, passed-step (t .before .loop .inv .1) (t .loop-test .taken) (pair-read (a .n) (a .runs .now) (t .loop-test .taken) (t .before .loop .inv .0)) (c .before .follows .ensures) (c .if1 .left))
 
 returns-2 : tie.Need-returns-2 Inv-loop μ-loop
-returns-2 c = passed-all (pairs (c .before .before .before .args .n) (c .before .before .before .args .runs .now)) (omega (arith, pairs-length (c .before .before .before .args .n) (c .before .before .before .args .runs .now))) (c .before .loop .inv .2)
+returns-2 c = passed-all (c .before .loop .inv .1) (c .loop-test .left)
 
 pub in-order-spec : {M : Type 1} → statement M
 in-order-spec =

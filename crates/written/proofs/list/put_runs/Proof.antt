@@ -1,22 +1,29 @@
--- `put_runs` meets its contract. The loop's invariant: the nodes 1 .. i hold the first i runs. Assumes nothing.
-use Prim.Native.Nat.{_-_, _*_, _≤_}
+-- `put_runs` meets its contract. The loop's invariant: the first nodes of the chain hold the first i runs, and the others are free from
+-- `node` on. Assumes nothing.
+use Prim.Native.Nat.{_-_, _*_}
 use mathlib.Core.Path.{_≡_}
-use lib.ListN.{take}
 use native.Mathlib.Omega.{arith}
 use borrow.Author.Needs.{needs}
-use Rattle.written.specs.Listed.{pairs, Listed}
-use Rattle.written.proofs.Listing.{pairs-length, pair-read, listed-none, listed-step, listed-all, listed-room}
+use Rattle.written.specs.Listed.{pairs}
+use Rattle.written.proofs.Listing.{pairs-length, pair-read, Laying, laying-none, laying-long, laying-room, laying-step, laying-all}
 use Rattle.written.proofs.list.put_runs.Statement.{statement}
 use Rattle.written.proofs.list.put_runs.Tie as tie
 
 abbrev Inv-loop : tie.InvT-loop
-Inv-loop into₀ runs n i₀ at₀ into i at = (i ≤ n) × (at ≡ 2 * i) × Listed into₀ into i (take i (pairs n runs))
+Inv-loop into₀ head runs n i₀ at₀ node₀ into i at node = (at ≡ 2 * i) × Laying into₀ into head n node i (pairs n runs)
 
 abbrev μ-loop : tie.MeasureT-loop
-μ-loop into₀ runs n i₀ at₀ into i at = n - i
+μ-loop into₀ head runs n i₀ at₀ node₀ into i at node = n - i
+
+-- the places that the needs look back to: the start, and the test passed before a run is laid
+abbrev start : tie.At-loop Inv-loop μ-loop → tie.Start Inv-loop μ-loop
+start c = c .before .before .before
+
+abbrev tested : tie.After-lay-run-arg Inv-loop μ-loop → tie.In-loop Inv-loop μ-loop
+tested c = c .before .before .before
 
 loop-holds : tie.Need-loop-holds Inv-loop μ-loop
-loop-holds c = (search needs, search needs, listed-none _ (pairs (c .before .before .args .n) (c .before .before .args .runs .now)))
+loop-holds c = (search needs, laying-none _ (pairs-length (c .before .before .args .n) (c .before .before .args .runs .now)))
 
 mul-start : tie.Need-mul-start Inv-loop μ-loop
 mul-start c = search needs
@@ -33,11 +40,11 @@ mul-end c = search needs
 shared-slice-read-end : tie.Need-shared-slice-read-end Inv-loop μ-loop
 shared-slice-read-end c = search needs
 
+lay-run-requires : tie.Need-lay-run-requires Inv-loop μ-loop
+lay-run-requires c κs = let t = tested c in laying-room (t .before .loop .inv .1) (start (t .before) .pre .0) (t .loop-test .taken)
+
 add-i : tie.Need-add-i Inv-loop μ-loop
 add-i c = search needs
-
-put-run-requires : tie.Need-put-run-requires Inv-loop μ-loop
-put-run-requires c κs = listed-room (c .before .before .before .before .before .before .before .pre .0) (c .before .before .before .before .loop .inv .2) (c .before .before .before .loop-test .taken)
 
 add-at : tie.Need-add-at Inv-loop μ-loop
 add-at c = search needs
@@ -47,13 +54,15 @@ loop-less c = search needs
 
 loop-again : tie.Need-loop-again Inv-loop μ-loop
 loop-again c =
-    (search needs, omega arith, listed-step (pairs (c .before .before .before .before .before .before .before .before .before .before .args .n) (c .before .before .before .before .before .before .before .before .before .before .args .runs .now)) (omega (arith, pairs-length (c .before .before .before .before .before .before .before .before .before .before .args .n) (c .before .before .before .before .before .before .before .before .before .before .args .runs .now))) (pair-read (c .before .before .before .before .before .before .before .before .before .before .args .n) (c .before .before .before .before .before .before .before .before .before .before .args .runs .now) (c .before .before .before .before .before .before .loop-test .taken) (c .before .before .before .before .before .before .before .loop .inv .1)) (c .before .before .before .before .before .before .before .loop .inv .2) (c .before .before .put-run .ensures))
+    let t = tested (c .before .before .before) in
+    let a = start (t .before) .args in
+    (omega arith, laying-step (t .before .loop .inv .1) (t .loop-test .taken) (pair-read (a .n) (a .runs .now) (t .loop-test .taken) (t .before .loop .inv .0)) (c .before .before .lay-run .ensures))
 
 same-length : tie.Need-same-length Inv-loop μ-loop
-same-length c = c .before .loop .inv .2 .long
+same-length c = laying-long (c .before .loop .inv .1) (start (c .before) .pre .0)
 
 returns : tie.Need-returns Inv-loop μ-loop
-returns c = listed-all (pairs (c .before .before .before .before .args .n) (c .before .before .before .before .args .runs .now)) (pairs-length (c .before .before .before .before .args .n) (c .before .before .before .before .args .runs .now)) (c .before .loop .inv .0) (c .loop-test .left) (c .before .loop .inv .2)
+returns c = laying-all (c .before .loop .inv .1) (c .loop-test .left)
 
 pub put-runs-spec : {M : Type 1} → statement M
 put-runs-spec =
@@ -67,8 +76,8 @@ put-runs-spec =
     add-end
     mul-end
     shared-slice-read-end
+    lay-run-requires
     add-i
-    put-run-requires
     add-at
     loop-less
     loop-again

@@ -1,5 +1,5 @@
 -- `in_order` meets its contract. The loop's invariant: the first i runs passed, so the order of all is that of the others. Assumes nothing.
-use Prim.Native.Nat.{_+_, _-_, _*_, _≤_}
+use Prim.Native.Nat.{_+_, _-_, _*_}
 use mathlib.Core.Path.{_≡_}
 use lib.ListN.{drop}
 use native.Mathlib.Omega.{arith}
@@ -12,13 +12,17 @@ use Rattle.written.proofs.set.in_order.Statement.{statement}
 use Rattle.written.proofs.set.in_order.Tie as tie
 
 abbrev Inv-loop : tie.InvT-loop
-Inv-loop bytes n i₀ at₀ last₀ i at last = (i ≤ n) × (at ≡ 5 + 16 * i) × Passed (decodeRuns n (drop 5 bytes)) i last
+Inv-loop bytes n i₀ at₀ last₀ i at last = (at ≡ 5 + 16 * i) × Passed (decodeRuns n (drop 5 bytes)) n i last
 
 abbrev μ-loop : tie.MeasureT-loop
 μ-loop bytes n i₀ at₀ last₀ i at last = n - i
 
+-- the place that the needs look back to: the test passed before a run is read
+abbrev tested : tie.After-follows Inv-loop μ-loop → tie.In-loop Inv-loop μ-loop
+tested c = c .before .before .before
+
 loop-holds : tie.Need-loop-holds Inv-loop μ-loop
-loop-holds c = (search needs, search needs, passed-none _)
+loop-holds c = (search needs, passed-none _ (decodeRuns-length (c .before .args .n) (drop 5 (c .before .args .bytes .now))))
 
 get-word-requires : tie.Need-get-word-requires Inv-loop μ-loop
 get-word-requires c κs = search needs
@@ -34,7 +38,9 @@ follows-requires c κs = search needs
 
 returns : tie.Need-returns Inv-loop μ-loop
 returns c =
-    passed-fail (decodeRuns (c .before .before .before .before .before .before .before .args .n) (drop 5 (c .before .before .before .before .before .before .before .args .bytes .now))) (omega (arith, decodeRuns-length (c .before .before .before .before .before .before .before .args .n) (drop 5 (c .before .before .before .before .before .before .before .args .bytes .now)))) (set-read (c .before .before .before .before .before .before .before .args .n) (c .before .before .before .before .before .before .before .args .bytes .now) (c .before .before .before .before .loop-test .taken) (c .before .before .before .before .before .loop .inv .1) (c .before .before .before .get-word .ensures) (c .before .before .get-word2 .ensures)) (c .before .before .before .before .before .loop .inv .2) (c .before .follows .ensures) (c .if1 .taken)
+    let t = tested (c .before) in
+    let a = t .before .before .before .args in
+    passed-fail (t .before .loop .inv .1) (t .loop-test .taken) (set-read (a .n) (a .bytes .now) (t .loop-test .taken) (t .before .loop .inv .0) (c .before .before .before .get-word .ensures) (c .before .before .get-word2 .ensures)) (c .before .follows .ensures) (c .if1 .taken)
 
 add-at : tie.Need-add-at Inv-loop μ-loop
 add-at c = search needs
@@ -47,10 +53,12 @@ loop-less c = search needs
 
 loop-again : tie.Need-loop-again Inv-loop μ-loop
 loop-again c =
-    (search needs, omega arith, passed-step (decodeRuns (c .before .before .before .before .before .before .before .args .n) (drop 5 (c .before .before .before .before .before .before .before .args .bytes .now))) (omega (arith, decodeRuns-length (c .before .before .before .before .before .before .before .args .n) (drop 5 (c .before .before .before .before .before .before .before .args .bytes .now)))) (set-read (c .before .before .before .before .before .before .before .args .n) (c .before .before .before .before .before .before .before .args .bytes .now) (c .before .before .before .before .loop-test .taken) (c .before .before .before .before .before .loop .inv .1) (c .before .before .before .get-word .ensures) (c .before .before .get-word2 .ensures)) (c .before .before .before .before .before .loop .inv .2) (c .before .follows .ensures) (c .if1 .left))
+    let t = tested (c .before) in
+    let a = t .before .before .before .args in
+    (omega arith, passed-step (t .before .loop .inv .1) (t .loop-test .taken) (set-read (a .n) (a .bytes .now) (t .loop-test .taken) (t .before .loop .inv .0) (c .before .before .before .get-word .ensures) (c .before .before .get-word2 .ensures)) (c .before .follows .ensures) (c .if1 .left))
 
 returns-2 : tie.Need-returns-2 Inv-loop μ-loop
-returns-2 c = passed-all (decodeRuns (c .before .before .before .args .n) (drop 5 (c .before .before .before .args .bytes .now))) (omega (arith, decodeRuns-length (c .before .before .before .args .n) (drop 5 (c .before .before .before .args .bytes .now)))) (c .before .loop .inv .2)
+returns-2 c = passed-all (c .before .loop .inv .1) (c .loop-test .left)
 
 pub in-order-spec : {M : Type 1} → statement M
 in-order-spec =

@@ -1,0 +1,12 @@
+-- What the proofs of several functions use.
+pub mod Refusing
+pub mod Meeting
+pub mod Windows
+pub mod Spans
+pub mod Changing
+pub mod Draws
+pub mod Carrying
+pub mod Receiving
+pub mod Joins
+pub mod Comparing
+pub mod Putting

@@ -1,0 +1,121 @@
+-- `read_map` meets its contract: a window that is none is refused, then a map of another length, and else the window is set from it.
+-- Assumes nothing.
+use mathlib.Core.Path.{_≡_, refl, ap}
+use mathlib.Core.Bool.{false}
+use Rattle.model.specs.Bytes.{mapped}
+use Rattle.model.specs.Refusals.{badWindow, badMap}
+use Rattle.core.proofs.Windows.{fitting, map-window-refused, map-length-refused, map-passes, map-window, bad-by}
+use Rattle.core.proofs.Changing.{refused-first, open-editable, edit-full, edit-closing, edit-done, read-map-says}
+use borrow.Author.Needs.{needs}
+use Rattle.core.proofs.bytes.read_map.Statement.{statement}
+use Rattle.core.proofs.bytes.read_map.Tie as tie
+
+-- the places: the start, where the window is one, where its map has its length, and where the store is open
+abbrev start : tie.Else1 → tie.Start
+start r = r .before .before .before .before
+
+abbrev windowed : tie.Else2 → tie.Else1
+windowed r = r .before .before
+
+abbrev mapped-to : tie.After-open → tie.Else2
+mapped-to o = o .before .before
+
+abbrev opened : tie.After-allowance → tie.After-open
+opened q = q .before .before .before
+
+abbrev told : tie.After-e → tie.After-read-map
+told e = e .before .before .before .before
+
+-- the window is one
+good : (r : tie.Else1) → badWindow ((start r) .args .base) ((start r) .args .n) ≡ false
+good r = bad-by _ _ _ (r .before .window-fits .ensures) (r .if1 .left)
+
+-- its map has its length
+exact : (r : tie.Else2) → badMap ((start (windowed r)) .args .n) ((start (windowed r)) .args .bytes .now) ≡ false
+exact r = bad-by _ _ _ (r .before .map-length-fits .ensures) (r .if2 .left)
+
+window-fits-requires : tie.Need-window-fits-requires
+window-fits-requires c κs = search needs
+
+returns : tie.Need-returns
+returns c =
+    refused-first (read-map-says _ _ _ _) (c .before .before .before .before .pre)
+    (map-window-refused _ _ _ (bad-by _ _ _ (c .before .window-fits .ensures) (c .if1 .taken)))
+
+map-length-fits-requires : tie.Need-map-length-fits-requires
+map-length-fits-requires c κs = (fitting _ _ (good c)) .few
+
+returns-2 : tie.Need-returns-2
+returns-2 c =
+    let r = c .before .before in
+    refused-first (read-map-says _ _ _ _) ((start r) .pre)
+    (map-length-refused _ _ _ (good r) (bad-by _ _ _ (c .before .map-length-fits .ensures) (c .if2 .taken)))
+
+open-requires : tie.Need-open-requires
+open-requires c κs = (start (windowed (c .before))) .pre .sound
+
+allowance-requires : tie.Need-allowance-requires
+allowance-requires c κs = search needs
+
+read-map-requires : tie.Need-read-map-requires
+read-map-requires c κs =
+    let o = opened c in
+    let r = mapped-to o in
+    (open-editable ((start (windowed r)) .pre) (o .«open» .ensures) (c .allowance .ensures), map-window _ _ _ (good (windowed r)) (exact r))
+
+enum-told : tie.Need-enum-told
+enum-told c = search needs
+
+enum-known-e : tie.Need-enum-known-e
+enum-known-e c = search needs
+
+close-requires : tie.Need-close-requires
+close-requires c κs =
+    let e = c .before .before in
+    let m = told e in
+    let o = opened (m .before) in
+    let s = start (windowed (mapped-to o)) in
+    (_, _, edit-closing (s .pre) (o .«open» .ensures) (m .before .allowance .ensures) _ (m .read-map .ensures) (e .e .given .1))
+
+same-length : tie.Need-same-length
+same-length c = search needs
+
+returns-3 : tie.Need-returns-3
+returns-3 c =
+    let m = c .before .before .before .before in
+    let o = opened (m .before) in
+    let r = mapped-to o in
+    edit-full (read-map-says _ _ _ _) (map-passes _ _ _ (good (windowed r)) (exact r)) ((start (windowed r)) .pre) (o .«open» .ensures)
+    (ap (mapped _ _ _) (o .«open» .ensures .held)) (m .before .allowance .ensures) _ (m .read-map .ensures) (c .enum-told .given .1)
+
+same-length-2 : tie.Need-same-length-2
+same-length-2 c = search needs
+
+returns-4 : tie.Need-returns-4
+returns-4 c =
+    let k = c .before .before in
+    let e = k .before .before .before in
+    let m = told e in
+    let o = opened (m .before) in
+    let r = mapped-to o in
+    edit-done (read-map-says _ _ _ _) (map-passes _ _ _ (good (windowed r)) (exact r)) ((start (windowed r)) .pre) (o .«open» .ensures)
+    (ap (mapped _ _ _) (o .«open» .ensures .held)) (m .before .allowance .ensures) _ (m .read-map .ensures) (e .e .given .1) (k .close .ensures) refl
+
+pub read-map-spec : {M : Type 1} → statement M
+read-map-spec =
+    tie.close
+    (tie.spec
+    window-fits-requires
+    returns
+    map-length-fits-requires
+    returns-2
+    open-requires
+    allowance-requires
+    read-map-requires
+    enum-told
+    enum-known-e
+    close-requires
+    same-length
+    returns-3
+    same-length-2
+    returns-4)

@@ -1,0 +1,53 @@
+-- `count_ranges` meets its contract: the tally from the range's first position to its last, 0 of an empty range.
+-- Assumes nothing.
+use mathlib.Core.Path.{refl, ap}
+use Rattle.model.specs.Positions.{countRanges}
+use Rattle.core.proofs.Spans.{Within, span-none, span-some, of-range, ranges-nothing}
+use Rattle.model.specs.Call.{number}
+use Rattle.core.proofs.Changing.{open-stands}
+use Rattle.core.proofs.Meeting.{met, met-in, count-ranges-says}
+use borrow.Author.Needs.{needs}
+use Rattle.core.proofs.report.count_ranges.Statement.{statement}
+use Rattle.core.proofs.report.count_ranges.Tie as tie
+
+-- where the call started, of a range that is not empty
+abbrev start : tie.After-s → tie.Start
+start r = r .before .before .before .before
+
+-- its positions
+within : (r : tie.After-s) → Within ((start r) .args .lower) ((start r) .args .upper) (r .s .given .0 .0) (r .s .given .0 .1 .0)
+within r = span-some ((start r) .args .lower) ((start r) .args .upper) _ (r .before .before .normalize .ensures) (r .s .given .1)
+
+normalize-requires : tie.Need-normalize-requires
+normalize-requires c κs = search needs
+
+enum-told : tie.Need-enum-told
+enum-told c = search needs
+
+enum-known-s : tie.Need-enum-known-s
+enum-known-s c = search needs
+
+open-requires : tie.Need-open-requires
+open-requires c κs = (start (c .before)) .pre .sound
+
+tally-requires : tie.Need-tally-requires
+tally-requires c κs =
+    let r = c .before .before in
+    (open-stands ((start r) .pre) (c .«open» .ensures), (within r) .order)
+
+returns : tie.Need-returns
+returns c =
+    let b = c .before .before .before .before in
+    let e = span-none (b .args .lower) (b .args .upper) _ (c .before .before .normalize .ensures) (c .enum-told .given .1) in
+    met (count-ranges-says _ _ _ _) (b .pre) refl (ap number (ranges-nothing _ _ _ _ e))
+
+returns-2 : tie.Need-returns-2
+returns-2 c =
+    let o = c .before in
+    let r = o .before .before in
+    met-in (count-ranges-says _ _ _ _) ((start r) .pre) (o .«open» .ensures) refl
+    (ap number (of-range (within r) (countRanges _ _) (c .tally .ensures .runs-are)))
+
+pub count-ranges-spec : {M : Type 1} → statement M
+count-ranges-spec =
+    tie.close (tie.spec normalize-requires enum-told enum-known-s open-requires tally-requires returns returns-2)

@@ -1,0 +1,69 @@
+-- `fill` meets its contract: a window that is none is refused, and of another a thousand times its count fits a word.
+-- Assumes nothing.
+use mathlib.Core.Path.{_≡_, ap}
+use mathlib.Core.Bool.{false}
+use native.Mathlib.Omega.{arith}
+use Rattle.model.specs.Refusals.{badWindow}
+use Rattle.model.specs.Call.{number}
+use Rattle.core.proofs.Windows.{fitting, window-refused, window-passes, fill-fits, fill-is, bad-by}
+use Rattle.core.proofs.Changing.{open-stands}
+use Rattle.core.proofs.Meeting.{refused-by, met-in, fill-says}
+use borrow.Author.Needs.{needs}
+use Rattle.core.proofs.report.fill.Statement.{statement}
+use Rattle.core.proofs.report.fill.Tie as tie
+
+-- where the call started, of a window that is one
+abbrev start : tie.Else1 → tie.Start
+start r = r .before .before .before
+
+-- it is one
+good : (r : tie.Else1) → badWindow ((start r) .args .base) ((start r) .args .length) ≡ false
+good r = bad-by _ _ _ (r .before .window-fits .ensures) (r .if1 .left)
+
+window-fits-requires : tie.Need-window-fits-requires
+window-fits-requires c κs = search needs
+
+returns : tie.Need-returns
+returns c = refused-by (fill-says _ _ _) 6 (c .before .before .before .pre) (window-refused _ _ (bad-by _ _ _ (c .before .window-fits .ensures) (c .if1 .taken)))
+
+open-requires : tie.Need-open-requires
+open-requires c κs = (start c) .pre .sound
+
+sub-t11 : tie.Need-sub-t11
+sub-t11 c = (fitting _ _ (good (c .before))) .some
+
+add-t12 : tie.Need-add-t12
+add-t12 c = let f = fitting _ _ (good (c .before)) in omega arith
+
+tally-requires : tie.Need-tally-requires
+tally-requires c κs = (open-stands ((start (c .before)) .pre) (c .«open» .ensures), omega arith)
+
+mul-t11 : tie.Need-mul-t11
+mul-t11 c =
+    let r = c .before .before .before .before in
+    let h = fill-fits _ _ _ _ (fitting _ _ (good r)) (c .before .before .tally .ensures .count-is) in
+    omega arith
+
+div-t12 : tie.Need-div-t12
+div-t12 c = (fitting _ _ (good (c .before .before .before .before))) .some
+
+returns-2 : tie.Need-returns-2
+returns-2 c =
+    let o = c .before .before .before in
+    let r = o .before in
+    met-in (fill-says _ _ _) ((start r) .pre) (o .«open» .ensures) (window-passes _ _ (good r))
+    (ap number (fill-is _ _ _ _ (fitting _ _ (good r)) (c .before .before .tally .ensures .count-is)))
+
+pub fill-spec : {M : Type 1} → statement M
+fill-spec =
+    tie.close
+    (tie.spec
+    window-fits-requires
+    returns
+    open-requires
+    sub-t11
+    add-t12
+    tally-requires
+    mul-t11
+    div-t12
+    returns-2)

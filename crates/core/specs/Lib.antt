@@ -1,0 +1,4 @@
+pub mod Met
+pub mod Carried
+pub mod Laid
+pub mod Out

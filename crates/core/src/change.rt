@@ -1,0 +1,76 @@
+// The calls that change a store where it stands.
+ghost use mathlib.Core.Path.{_≡_};
+ghost use Rattle.model.specs.Call.{Call};
+ghost use Rattle.model.specs.Answers.{completedAnswer, countedAnswer};
+ghost use Rattle.core.specs.Met.{Readable, Met};
+use changes::edit::Edit;
+use changes::edit::Fit;
+use model::Bound;
+use model::Completed;
+use model::Count;
+use model::Counted;
+use model::Logical;
+use model::Refusal;
+use model::Span;
+
+// An empty range changes nothing; another is set where it stands, if the runs it would leave fit.
+pub fn set(words: &mut [u64], lower: Bound, upper: Bound, value: bool) -> Counted
+    requires { ⌜ Readable (now words) ⌝ }
+    ensures { λ r. ⌜ Met (now (words .entry)) (Call.set lower upper value) (countedAnswer r) (now (words .exit)) ⌝ }
+{
+    let s = model::normalize(lower, upper);
+    match s {
+        Span::Empty => Counted::Count(Count { carry: 0, low: 0 }),
+        Span::Closed(a, b) => {
+            let h = store::open(words);
+            let e = changes::edit::set(
+                words,
+                h,
+                store::allowance(words),
+                Logical(a),
+                Logical(b),
+                value,
+            );
+            match e {
+                Edit::Full => Counted::Refused(Refusal::Capacity),
+                Edit::Changed(k, c) => {
+                    store::close(words, k);
+                    Counted::Count(c)
+                }
+            }
+        }
+    }
+}
+
+// An empty range changes nothing; another is inverted where it stands, if the runs it would leave fit.
+pub fn flip(words: &mut [u64], lower: Bound, upper: Bound) -> Completed
+    requires { ⌜ Readable (now words) ⌝ }
+    ensures { λ r. ⌜ Met (now (words .entry)) (Call.flip lower upper) (completedAnswer r) (now (words .exit)) ⌝ }
+{
+    let s = model::normalize(lower, upper);
+    match s {
+        Span::Empty => Completed::Done,
+        Span::Closed(a, b) => {
+            let h = store::open(words);
+            let e = changes::edit::flip(words, h, store::allowance(words), Logical(a), Logical(b));
+            match e {
+                Fit::Full => Completed::Refused(Refusal::Capacity),
+                Fit::Done(k) => {
+                    store::close(words, k);
+                    Completed::Done
+                }
+            }
+        }
+    }
+}
+
+// A moved store has no more runs than before.
+pub fn shift(words: &mut [u64], distance: u64, left: bool) -> Completed
+    requires { ⌜ Readable (now words) ⌝ }
+    ensures { λ r. ⌜ Met (now (words .entry)) (Call.shift distance left) (completedAnswer r) (now (words .exit)) ⌝ }
+{
+    let h = store::open(words);
+    let k = changes::edit::shift(words, h, distance, left);
+    store::close(words, k);
+    Completed::Done
+}

@@ -1,0 +1,143 @@
+// The calls that report, and leave the store as it is.
+ghost use mathlib.Core.Path.{_≡_};
+ghost use Rattle.model.specs.Call.{Call};
+ghost use Rattle.model.specs.Answers.{countedAnswer, numberedAnswer, testedAnswer, aroundAnswer, foundAnswer, listedAnswer};
+ghost use Rattle.core.specs.Met.{Readable, Met, foundEdge};
+use model::Around;
+use model::Bound;
+use model::Count;
+use model::Counted;
+use model::Edge;
+use model::Found;
+use model::Listed;
+use model::Listing;
+use model::Logical;
+use model::Numbered;
+use model::Refusal;
+use model::Span;
+use model::Tested;
+
+// The value of position x.
+pub fn get(words: &[u64], x: u64) -> Tested
+    requires { ⌜ Readable (now words) ⌝ }
+    ensures { λ r. ⌜ Met (now (words .entry)) (Call.get x) (testedAnswer r) (now (words .entry)) ⌝ }
+{
+    let h = store::open(words);
+    Tested::Is(reports::logical::get(words, h, Logical(x)))
+}
+
+// The run around x.
+pub fn run_at(words: &[u64], x: u64) -> Around
+    requires { ⌜ Readable (now words) ⌝ }
+    ensures { λ r. ⌜ Met (now (words .entry)) (Call.runAt x) (aroundAnswer r) (now (words .entry)) ⌝ }
+{
+    let h = store::open(words);
+    Around::Run(reports::runs::run_at(words, h, Logical(x)))
+}
+
+// A position that was searched for, as an answer.
+fn found(e: Edge) -> Found
+    ensures { λ r. ⌜ foundAnswer r ≡ foundEdge e ⌝ }
+{
+    match e {
+        Edge::At(x) => Found::At(x),
+        Edge::Nowhere => Found::Nowhere,
+    }
+}
+
+// An empty range has no position.
+pub fn find(words: &[u64], lower: Bound, upper: Bound, value: bool) -> Found
+    requires { ⌜ Readable (now words) ⌝ }
+    ensures { λ r. ⌜ Met (now (words .entry)) (Call.find lower upper value) (foundAnswer r) (now (words .entry)) ⌝ }
+{
+    let s = model::normalize(lower, upper);
+    match s {
+        Span::Empty => Found::Nowhere,
+        Span::Closed(a, b) => {
+            let h = store::open(words);
+            found(reports::runs::find_in(words, h, Logical(a), Logical(b), value))
+        }
+    }
+}
+
+// An empty range has no position.
+pub fn count(words: &[u64], lower: Bound, upper: Bound, value: bool) -> Counted
+    requires { ⌜ Readable (now words) ⌝ }
+    ensures { λ r. ⌜ Met (now (words .entry)) (Call.count lower upper value) (countedAnswer r) (now (words .entry)) ⌝ }
+{
+    let s = model::normalize(lower, upper);
+    match s {
+        Span::Empty => Counted::Count(Count { carry: 0, low: 0 }),
+        Span::Closed(a, b) => {
+            let h = store::open(words);
+            let t = reports::logical::tally(words, h, Logical(a), Logical(b), value);
+            let c = t.count;
+            Counted::Count(c)
+        }
+    }
+}
+
+// An empty range has no position.
+pub fn select(words: &[u64], lower: Bound, upper: Bound, value: bool, k: u64) -> Found
+    requires { ⌜ Readable (now words) ⌝ }
+    ensures { λ r. ⌜ Met (now (words .entry)) (Call.select lower upper value k) (foundAnswer r) (now (words .entry)) ⌝ }
+{
+    let s = model::normalize(lower, upper);
+    match s {
+        Span::Empty => Found::Nowhere,
+        Span::Closed(a, b) => {
+            let h = store::open(words);
+            found(reports::logical::select(words, h, Logical(a), Logical(b), value, k))
+        }
+    }
+}
+
+// An empty range has no run.
+pub fn count_ranges(words: &[u64], lower: Bound, upper: Bound, value: bool) -> Numbered
+    requires { ⌜ Readable (now words) ⌝ }
+    ensures { λ r. ⌜ Met (now (words .entry)) (Call.countRanges lower upper value) (numberedAnswer r) (now (words .entry)) ⌝ }
+{
+    let s = model::normalize(lower, upper);
+    match s {
+        Span::Empty => Numbered::Number(0),
+        Span::Closed(a, b) => {
+            let h = store::open(words);
+            let t = reports::logical::tally(words, h, Logical(a), Logical(b), value);
+            Numbered::Number(t.runs)
+        }
+    }
+}
+
+// A listing is the range itself, from its first position to its last.
+pub fn ranges(words: &[u64], lower: Bound, upper: Bound, value: bool) -> Listed
+    requires { ⌜ Readable (now words) ⌝ }
+    ensures { λ r. ⌜ Met (now (words .entry)) (Call.ranges lower upper value) (listedAnswer r) (now (words .entry)) ⌝ }
+{
+    let s = model::normalize(lower, upper);
+    match s {
+        Span::Empty => Listed::Listing(Listing {
+            first: 1,
+            last: 0,
+            value: value,
+        }),
+        Span::Closed(a, b) => Listed::Listing(Listing {
+            first: a,
+            last: b,
+            value: value,
+        }),
+    }
+}
+
+// A thousand times the count of a window fits a word.
+pub fn fill(words: &[u64], base: u64, length: u64) -> Numbered
+    requires { ⌜ Readable (now words) ⌝ }
+    ensures { λ r. ⌜ Met (now (words .entry)) (Call.fill base length) (numberedAnswer r) (now (words .entry)) ⌝ }
+{
+    if !crate::window::window_fits(base, length) {
+        return Numbered::Refused(Refusal::Window);
+    }
+    let h = store::open(words);
+    let t = reports::logical::tally(words, h, Logical(base), Logical(base + (length - 1)), true);
+    let c = t.count;
+    Numbered::Number(1000 * c.low / length)
+}

@@ -1,0 +1,39 @@
+// Writing a store's set, and the map of a window, into the front of a lent slice.
+ghost use mathlib.Core.Path.{_≡_};
+ghost use Rattle.model.specs.Call.{Call};
+ghost use Rattle.core.specs.Met.{Readable};
+ghost use Rattle.core.specs.Out.{WritesOut};
+use model::Refusal;
+use model::Written;
+
+// Writes a store's set, and returns how many bytes it has.
+pub fn write_set(words: &[u64], out: &mut [u8]) -> Written
+    requires { ⌜ Readable (now words) ⌝ }
+    ensures { λ r. ⌜ WritesOut Call.writeSet (now (words .entry)) (now (out .entry)) r (now (out .exit)) ⌝ }
+{
+    let h = store::open(words);
+    let n = written::set::run_count(words, h);
+    let due = written::set::length_of(n) as usize;
+    if out.len() < due {
+        return Written::Refused(Refusal::OutputShort);
+    }
+    written::write::write_set(words, h, out);
+    Written::Bytes(due)
+}
+
+// Writes the map of a window, and returns how many bytes it has.
+pub fn write_map(words: &[u64], base: u64, n: u64, out: &mut [u8]) -> Written
+    requires { ⌜ Readable (now words) ⌝ }
+    ensures { λ r. ⌜ WritesOut (Call.writeMap base n) (now (words .entry)) (now (out .entry)) r (now (out .exit)) ⌝ }
+{
+    if !crate::window::window_fits(base, n) {
+        return Written::Refused(Refusal::Window);
+    }
+    let due = ((n + 7) / 8) as usize;
+    if out.len() < due {
+        return Written::Refused(Refusal::OutputShort);
+    }
+    let h = store::open(words);
+    maps::write::write_map(words, h, base, n, out);
+    Written::Bytes(due)
+}

@@ -1,0 +1,17 @@
+-- `close` meets its contract: the header is written last. Assumes nothing.
+use borrow.Author.Needs.{needs}
+use Rattle.store.proofs.Settling.{closing-room, closing-tag, closes}
+use Rattle.store.proofs.close.Statement.{statement}
+use Rattle.store.proofs.close.Tie as tie
+
+write-world-requires : tie.Need-write-world-requires
+write-world-requires c κs = (closing-room (c .before .before .pre .2), closing-tag (c .before .before .pre .2))
+
+same-length : tie.Need-same-length
+same-length c = search needs
+
+returns : tie.Need-returns
+returns c = closes (c .before .before .write-world .ensures)
+
+pub close-spec : {M : Type 1} → statement M
+close-spec = tie.close (tie.spec write-world-requires same-length returns)

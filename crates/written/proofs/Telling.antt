@@ -1,0 +1,124 @@
+-- What bytes are as a written set, test by test in the order of refusals, and how many runs the set of an ordered list has: just the
+-- list's, since its runs are canonical. So runs that are told can be counted against an allowance before a world gets them.
+-- Assumes nothing.
+use Prim.Native.Nat.{ℕ, _+_, _*_, _≤_, _<_}
+use mathlib.Core.Path.{_≡_, refl, sym, ap, _∙_, subst}
+use mathlib.Core.Bool.{Bool, true, false, not}
+use mathlib.Core.List.{List}
+use mathlib.Core.Option.{some}
+use lib.ListN.{length, take, drop, getD}
+use borrow.Author.Tests.{eq-eqb, ne-eqb, lt-ltb, le-ltb, not-false}
+use Rattle.model.specs.declared.Run.{Run}
+use Rattle.model.specs.Positions.{stretches, mem}
+use Rattle.model.specs.Positions.Runs.{stretches-is}
+use Rattle.model.specs.Bytes.{valueOf, runsDue, decodeRuns, decode}
+use Rattle.model.specs.Refusals.{refusal, tooShort, badVersion, badLength, orderedFrom, disordered, setConditions}
+use Rattle.model.specs.Codec.{AllBytes, AllWords, decode-length, decode-words, ordered-canon}
+use Rattle.written.specs.declared.set.Told.{Told}
+use Rattle.written.specs.Told.{Acceptable, TellsRuns}
+
+-- ---- runs in order
+module _ (rs : List Run) where
+  -- their set has as many
+  pub ordered-stretches : AllWords rs → orderedFrom 0 rs ≡ true → stretches (mem rs) ≡ length rs
+  ordered-stretches a o = stretches-is (mem rs) rs (ordered-canon 0 rs a o) (λ x h. refl)
+
+  module _ {r : Bool} (tested : r ≡ orderedFrom 0 rs) where
+    -- what the test finds
+    pub disorder-is : (b : Bool) → not r ≡ b → disordered rs ≡ b
+    unfolding disordered
+    disorder-is b h = ap not (sym tested) ∙ h
+
+    -- where it finds nothing, they are in order
+    pub order-is : not r ≡ false → orderedFrom 0 rs ≡ true
+    order-is h = sym tested ∙ not-false r h
+
+-- ---- bytes, test by test
+module _ (bs : List ℕ) where
+  -- fewer than 5
+  short-is : length bs < 5 → tooShort bs ≡ true
+  unfolding tooShort
+  short-is h = lt-ltb (length bs) 5 h
+
+  -- are too few
+  pub told-short : length bs < 5 → refusal (setConditions bs) ≡ some 3
+  told-short h = rw (short-is h)
+
+  module _ (long : 5 ≤ length bs) where
+    -- others are not
+    long-is : tooShort bs ≡ false
+    unfolding tooShort
+    long-is = le-ltb (length bs) 5 long
+
+    -- by the version
+    version-not : (getD bs 0 0 ≡ 1 → ⊥) → badVersion bs ≡ true
+    unfolding badVersion
+    version-not h = ap not (ne-eqb (getD bs 0 0) 1 h)
+
+    -- one that is not 1 is refused
+    pub told-version : (getD bs 0 0 ≡ 1 → ⊥) → refusal (setConditions bs) ≡ some 4
+    told-version h = rw (long-is, version-not h)
+
+    module _ (version : getD bs 0 0 ≡ 1) {n : ℕ} (count : n ≡ valueOf (take 4 (drop 1 bs))) where
+      -- the right one
+      version-is : badVersion bs ≡ false
+      unfolding badVersion
+      version-is = ap not (eq-eqb (getD bs 0 0) 1 version)
+
+      -- the count is of runs
+      due-is : n ≡ runsDue bs
+      unfolding runsDue
+      due-is = count
+
+      -- by the length that it tells
+      length-not : (length bs ≡ 5 + 16 * n → ⊥) → badLength bs ≡ true
+      unfolding badLength
+      length-not h = ap not (ne-eqb (length bs) (5 + 16 * runsDue bs) (λ e. h (e ∙ ap (λ k. 5 + 16 * k) (sym due-is))))
+
+      -- another one is refused
+      pub told-length : (length bs ≡ 5 + 16 * n → ⊥) → refusal (setConditions bs) ≡ some 3
+      told-length h = rw (long-is, version-is, length-not h)
+
+      module _ (exact : length bs ≡ 5 + 16 * n) {r : Bool} (tested : r ≡ orderedFrom 0 (decodeRuns n (drop 5 bs))) where
+        -- that one
+        length-is : badLength bs ≡ false
+        unfolding badLength
+        length-is = ap not (eq-eqb (length bs) (5 + 16 * runsDue bs) (exact ∙ ap (λ k. 5 + 16 * k) due-is))
+
+        -- the runs tested are those told
+        told-tested : r ≡ orderedFrom 0 (decode bs)
+        unfolding decode
+        told-tested = tested ∙ ap (λ k. orderedFrom 0 (decodeRuns k (drop 5 bs))) due-is
+
+        -- out of order they are refused
+        pub told-order : not r ≡ true → refusal (setConditions bs) ≡ some 5
+        told-order h = rw (long-is, version-is, length-is, disorder-is (decode bs) told-tested true h)
+
+        -- and else accepted
+        pub told-runs : not r ≡ false → Acceptable bs n
+        told-runs h =
+            record {
+              free = rw (long-is, version-is, length-is, disorder-is (decode bs) told-tested false h);
+              due = due-is;
+              long = exact;
+              ordered = order-is (decode bs) told-tested h;
+            }
+
+  -- ---- what is told
+  -- runs that are accepted
+  pub told-accepted : {n : ℕ} (t : Told) → TellsRuns bs t → t ≡ Told.Runs n → Acceptable bs n
+  told-accepted t k e = subst (λ s. TellsRuns bs s) e k
+
+  module _ {n : ℕ} (a : Acceptable bs n) where
+    -- as the code reads them
+    pub accepted-runs : decodeRuns n (drop 5 bs) ≡ decode bs
+    unfolding decode
+    accepted-runs = ap (λ k. decodeRuns k (drop 5 bs)) (a .due)
+
+    -- in order
+    pub accepted-order : orderedFrom 0 (decodeRuns n (drop 5 bs)) ≡ true
+    accepted-order = ap (orderedFrom 0) accepted-runs ∙ a .ordered
+
+    -- as many as their set has
+    pub accepted-stretches : AllBytes bs → n ≡ stretches (mem (decode bs))
+    accepted-stretches h = a .due ∙ sym (ordered-stretches (decode bs) (decode-words bs h) (a .ordered) ∙ decode-length bs)
