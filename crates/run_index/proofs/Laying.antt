@@ -1,18 +1,16 @@
--- Runs put into the free chain one after the other, and a tree's nodes used again for other runs. Assumes nothing.
-use Prim.Native.Nat.{ℕ, _+_, _*_, _≤_, _<_}
+-- Runs put into the free chain one after the other. Assumes nothing.
+use Prim.Native.Nat.{ℕ, _+_, _≤_, _<_}
 use mathlib.Core.Path.{_≡_, refl, sym, ap, _∙_, subst}
 use mathlib.Core.List.{List, [], _∷_, _++_, append-assoc}
 use native.Mathlib.Omega.{arith}
-use native.Mathlib.Numerals.{add-one}
-use lib.ListN.{length, getD}
+use lib.ListN.{length}
 use Rattle.model.specs.declared.Run.{Run}
 use Rattle.run_index.specs.declared.Node.{Node}
-use Rattle.run_index.specs.declared.chains.Grown.{Grown}
 use Rattle.run_index.specs.Cells.{cellAt, Room, Wrote}
-use Rattle.run_index.specs.Tree.{Tree, runs, δ, count}
-use Rattle.run_index.specs.Strung.{times, Strung, Laid, Free, Any, runsOf, felled, laidCell, Lays, FreeChain, pairsTo, Filled, Upright, Supply, Grew, Felled, Spare, Replaced}
+use Rattle.run_index.specs.Tree.{runs, δ}
+use Rattle.run_index.specs.Strung.{times, Strung, Laid, Free, Any, runsOf, laidCell, Lays, FreeChain, Filled, Upright}
 use Rattle.run_index.proofs.Trees.{δ-same}
-use Rattle.run_index.proofs.Strings.{times-append, length-both, count-felled, length-felled, runsOf-append, runsOf-kept, strung-kept, strung-append}
+use Rattle.run_index.proofs.Strings.{times-append, length-both, runsOf-append, runsOf-kept, strung-kept, strung-append}
 
 -- one node is read and written
 pub lays : {w w′ : List ℕ} {n a b : ℕ} {v : Node} → v ≡ cellAt w n → Wrote w w′ n (laidCell a b (v .left)) → Lays w w′ (v .left) n a b
@@ -88,70 +86,7 @@ pub filled-step : {w w₁ w₂ : List ℕ} {k q r c a b : ℕ} {ns : List ℕ} {
 filled-step h f l ly =
     step (f .xs) (f .ys) (h .once) (f .is) (f .many) (f .filled) (f .free) (f .runs-are) (f .kept) (f .long) (omega (arith, left-over f)) ly
 
--- one more run of a list
-pairs-more : (i : ℕ) (ws : List ℕ) → pairsTo (i + 1) ws ≡ pairsTo i ws ++ record { start = getD ws (2 * i) 0; «end» = getD ws (2 * i + 1) 0 } ∷ []
-pairs-more i ws = ap (λ (n : ℕ). pairsTo n ws) (add-one i)
-
-pub filled-next : {w w₁ w₂ : List ℕ} {k q r : ℕ} {ns : List ℕ} (ws : List ℕ) (i j : ℕ) → FreeChain w k ns → Filled w w₁ k q i ns (pairsTo i ws) → i < length ns → j ≡ 2 * i
-    → Lays w₁ w₂ r q (getD ws j 0) (getD ws (j + 1) 0) → Filled w w₂ k r (i + 1) ns (pairsTo (i + 1) ws)
-filled-next {w} {w₁} {w₂} {k} {q} {r} {ns} ws i j h f l e ly =
-    subst (λ (rs : List Run). Filled w w₂ k r (i + 1) ns rs)
-    (ap (λ (n : ℕ). pairsTo i ws ++ record { start = getD ws n 0; «end» = getD ws (n + 1) 0 } ∷ []) e ∙ sym (pairs-more i ws))
-    (filled-step h f l ly)
-
--- all of them
-pub filled-all : {w w′ : List ℕ} {k q c : ℕ} {ns : List ℕ} (ws : List ℕ) (i : ℕ) → i ≡ c → Filled w w′ k q i ns (pairsTo i ws) → Filled w w′ k q c ns (pairsTo c ws)
-filled-all {w} {w′} {k} {q} {c} {ns} ws i e f = subst (λ (n : ℕ). Filled w w′ k q n ns (pairsTo n ws)) e f
-
 -- nodes with upright runs hold runs
 pub strung-laid : (w : List ℕ) (k : ℕ) (ns : List ℕ) (r : ℕ) → Upright (runsOf w ns) → Strung Any w k ns r → Strung Laid w k ns r
 strung-laid w k [] r u c = c
 strung-laid w k (n ∷ ns) r u c = (c .0, c .1, c .2, u .0, strung-laid w ((cellAt w n) .left) ns r (u .1) (c .4))
-
--- ---- another tree for the one at p
-module _ {w : List ℕ} {p k h c : ℕ} {t : Tree} {ns : List ℕ} {rs : List Run} (s : Spare w p k h c t ns rs) where
-  module _ {w₁ : List ℕ} {f : ℕ} (fe : Felled w w₁ f k t) where
-    -- the nodes of the tree, and then those of the chain
-    each : (m : ℕ) → times m (felled t ++ ns) ≡ count m t + times m ns
-    each m = times-append m (felled t) ns ∙ omega (arith, count-felled m t)
-
-    -- are one chain
-    pub one-chain : FreeChain w₁ f (felled t ++ ns)
-    one-chain = record {
-      chain = strung-append Free w₁ f (felled t) ns k 0 (fe .free)
-          (strung-kept Free w w₁ (fe .long) k ns 0 (λ m i. fe .kept m (omega (arith, s .apart m))) (s .free .chain));
-      once = λ m. omega (arith, each m, s .apart m);
-    }
-
-    -- which is long enough
-    pub enough : c ≤ length (felled t ++ ns)
-    enough = omega (arith, s .enough, length-both (felled t) ns, length-felled t)
-
-    module _ {w₂ : List ℕ} {q : ℕ} (fi : Filled w₁ w₂ f q c (felled t ++ ns) rs) where
-      -- each number stands in one part
-      parted : (m : ℕ) → times m (fi .xs) + times m (fi .ys) ≡ count m t + times m ns
-      parted m = sym (times-append m (fi .xs) (fi .ys)) ∙ sym (ap (times m) (fi .is)) ∙ each m
-
-      -- the filled nodes can be made a tree
-      pub supply : Supply w₂ f c (fi .xs) q
-      supply = record {
-        strung = strung-laid w₂ f (fi .xs) q (subst Upright (sym (fi .runs-are)) (s .upright)) (fi .filled);
-        many = fi .many;
-        once = λ m. omega (arith, parted m, s .apart m);
-        few = s .few;
-      }
-
-      -- and then all is done
-      pub replaced : {w₃ : List ℕ} {x : Grown} {g : ℕ} → Grew w₂ w₃ x (fi .xs) q g → Replaced w w₃ x g t ns rs
-      replaced {w₃} {x} {g} gr = record {
-        tree = gr .tree;
-        ys = fi .ys;
-        at = gr .at;
-        runs-are = gr .runs-are ∙ fi .runs-are;
-        halved = gr .halved;
-        free = subst (λ (j : ℕ). Strung Free w₃ j (fi .ys) 0) (sym (gr .rest-is))
-            (strung-kept Free w₂ w₃ (gr .long) q (fi .ys) 0 (λ m i. gr .kept m (omega (arith, parted m, s .apart m))) (fi .free));
-        shared = fi .is ∙ ap (λ (l : List ℕ). l ++ fi .ys) (sym (gr .numbers-are));
-        kept = λ m z. gr .kept m (omega (arith, parted m)) ∙ fi .kept m (omega (arith, parted m)) ∙ fe .kept m (omega (arith, z));
-        long = gr .long ∙ fi .long ∙ fe .long;
-      }

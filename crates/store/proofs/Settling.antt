@@ -19,7 +19,7 @@ use Rattle.run_index.specs.Search.{Indexed}
 use Rattle.run_index.specs.Strung.{times, Free, runsOf, numbers, Upright, Supply, Filled, Grew, Grows}
 use Rattle.run_index.proofs.Trees.{at-none, room-at, sums-node}
 use Rattle.run_index.proofs.Heap.{frame}
-use Rattle.run_index.proofs.Built.{halved-balanced}
+use Rattle.run_index.proofs.Balance.{halved-balanced}
 use Rattle.run_index.proofs.Strings.{times-append, length-both, count-numbers, length-numbers, strung-kept}
 use Rattle.run_index.proofs.Laying.{strung-laid}
 use Rattle.store.specs.declared.World.{World}
