@@ -4,7 +4,7 @@ use mathlib.Core.Path.{_≡_}
 use mathlib.Core.Bool.{Bool, true, false}
 use mathlib.Core.List.{List}
 use lib.ListN.{length}
-use Rattle.model.specs.Numbers.{size}
+use Rattle.model.specs.Numbers.{size, longest}
 use Rattle.model.specs.Positions.{Positions, countRanges, stretches, changes}
 use Rattle.model.specs.Bytes.{mapBit, mapped, mapLength}
 use Rattle.store.specs.declared.World.{World}
@@ -15,7 +15,7 @@ use Rattle.maps.specs.declared.read.Survey.{Survey}
 -- n positions from base on, and the bytes of their map
 pub record Window (base n : ℕ) (bs : List ℕ) : Type 0 where
   pub some : 1 ≤ n
-  pub few : n ≤ 524288
+  pub few : n ≤ longest
   pub within : base + n ≤ size
   pub exact : length bs ≡ mapLength n
 

@@ -9,6 +9,7 @@ ghost use Rattle.store.specs.Layout.{heldIn};
 ghost use Rattle.store.specs.Soundness.{Stands};
 ghost use Rattle.maps.specs.Octets.{Placed, Octets, stores, BytesDue, StoresNext};
 use store::World;
+use streams::source::HIGHEST;
 use streams::source::Source;
 use streams::source::View;
 
@@ -27,7 +28,7 @@ fn alike(value: bool, n: u64) -> u64
 }
 
 // The k positions from x on as bits, the first in bit 0: those of the source's stretch at once, then the others.
-fn octet_of(words: &[u64], path: &mut [u64; 22], v: View, s: Source, x: u64, k: u64) -> Octet
+fn octet_of(words: &[u64], path: &mut [u64; HIGHEST], v: View, s: Source, x: u64, k: u64) -> Octet
     requires { ⌜ Placed (now words) (now path) v s x k ⌝ }
     ensures { λ r. ⌜ Octets (now (words .entry)) (now (path .entry)) (now (path .exit)) v s x k r ⌝ }
 {
@@ -86,7 +87,7 @@ pub struct Stored {
 // to come.
 fn next_bytes(
     words: &[u64],
-    path: &mut [u64; 22],
+    path: &mut [u64; HIGHEST],
     v: View,
     s: Source,
     x: u64,
@@ -127,7 +128,7 @@ pub fn write_map(words: &[u64], h: World, base: u64, n: u64, out: &mut [u8])
         root: h.root,
         offset: h.offset,
     };
-    let mut path = [0u64; 22];
+    let mut path = [0u64; HIGHEST];
     let mut s = streams::source::open(words, &mut path, v, base);
     let mut x = base;
     let mut left = n;

@@ -12,7 +12,7 @@ use Rattle.run_index.specs.Cells.{cellAt}
 use Rattle.run_index.specs.Tree.{Tree, runs, ones, width}
 use Rattle.run_index.specs.Strung.{freeCell}
 use Rattle.store.specs.declared.World.{World}
-use Rattle.store.specs.Layout.{worldAt, spareAt, capacity, allowance, heldIn, heldBy}
+use Rattle.store.specs.Layout.{worldAt, spareAt, capacity, allowance, heldIn, heldBy, highest}
 use Rattle.store.specs.Soundness.{firstOf, lastOf}
 
 -- node n has all its words in w; so has the header, at 0
@@ -84,7 +84,7 @@ restB w n r f = leb r n && chainB (n - r) w f
 -- the tree of the world h, its sums and its bounds; an empty world has offset 0
 unfoldable pub worldB : List ℕ → World → Bool
 worldB w h =
-    treeB 22 w (h .tag) (h .root) 0 size
+    treeB highest w (h .tag) (h .root) 0 size
     && (eqb (h .ones) ((belowOf w (h .root)) .ones)
     && (eqb (h .runs) ((belowOf w (h .root)) .runs)
     && (eqb (h .first) (firstOf (heldRuns (heldIn w h)))

@@ -61,9 +61,13 @@ runsFrom (suc d) w zero = []
 runsFrom (suc d) w (suc k) =
     runsFrom d w ((cellAt w (suc k)) .left) ++ run ((cellAt w (suc k)) .start) ((cellAt w (suc k)) .«end») ∷ runsFrom d w ((cellAt w (suc k)) .right)
 
--- the physical runs: of the nodes reached from the root p, at most 22 deep
+-- the greatest height of a tree: higher ones have more nodes than a store
+abbrev pub highest : ℕ
+highest = 22
+
+-- the physical runs: of the nodes reached from the root p, at most so deep
 unfoldable pub physicalRuns : List ℕ → ℕ → List Run
-physicalRuns w p = runsFrom 22 w p
+physicalRuns w p = runsFrom highest w p
 
 -- physical positions Q as logical ones, each plus the offset o, modulo 2^64
 unfoldable pub turned : ℕ → Positions → Positions

@@ -11,7 +11,7 @@ use Rattle.model.specs.Numbers.{size}
 use Rattle.model.specs.Positions.{Positions, run, mem}
 use Rattle.model.specs.RunList.{Canon}
 use Rattle.run_index.specs.Tree.{Tree, node, inorder, height, Rep, At}
-use Rattle.store.specs.Layout.{physicalRuns}
+use Rattle.store.specs.Layout.{physicalRuns, highest}
 use Rattle.streams.specs.declared.source.View.{View}
 use Rattle.streams.specs.declared.source.Source.{Source}
 use Rattle.streams.specs.declared.source.Popped.{Popped}
@@ -27,7 +27,7 @@ pub record Rooted (w : List ℕ) (p : ℕ) : Type 0 where
   -- in order, start ≤ end and each start ≥ previous end + 2
   pub ordered : Canon size 0 (inorder tree)
   -- no node is deeper than the path is long
-  pub low : height tree ≤ 22
+  pub low : height tree ≤ highest
 
 -- nothing is held from x on
 abbrev pub Clear : ℕ → Positions → Type 0
@@ -50,7 +50,7 @@ pub data Rest (w path : List ℕ) : ℕ → List Run → Type 0 where
       {k n a b g : ℕ} {l r : Tree} {rs : List Run}
       → getD path k 0 ≡ n
       → Rep w g (node n a b l r)
-      → height (node n a b l r) + k ≤ 22
+      → height (node n a b l r) + k ≤ highest
       → Rest w path k rs
       → Rest w path (suc k) (run a b ∷ (inorder r ++ rs))
 
@@ -64,7 +64,7 @@ pub record Coming (w path : List ℕ) (depth p : ℕ) (rs : List Run) : Type 0 w
   pub rest : Rest w path depth rs
   pub ordered : Canon size 0 rs
   pub reach : EndsFrom p rs
-  pub long : length path ≡ 22
+  pub long : length path ≡ highest
 
 -- of Q from y on the part up to top is to come, in which position z is kept at z + s - o: the last part, from o on, has s = 0 and reaches
 -- to M, and the first, below o, has s = 2^64
@@ -124,22 +124,22 @@ pub record Below (w path : List ℕ) (depth link : ℕ) (t : Tree) (rs : List Ru
   pub tag : ℕ
   pub at : At w tag link t
   pub ordered : Canon size 0 (inorder t)
-  pub low : height t + depth ≤ 22
+  pub low : height t + depth ≤ highest
   pub rest : Rest w path depth rs
-  pub long : length path ≡ 22
+  pub long : length path ≡ highest
 
 abbrev pub Descendable : List ℕ → List ℕ → ℕ → ℕ → Type 0
 Descendable w path depth link = (t : Tree) × (rs : List Run) × Below w path depth link t rs
 
 abbrev pub Descends : List ℕ → List ℕ → List ℕ → ℕ → ℕ → ℕ → ℕ → Type 0
 Descends w path path′ depth link p r =
-    (t : Tree) (rs : List Run) → Below w path depth link t rs → Rest w path′ r (from p (inorder t) ++ rs) × (length path′ ≡ 22)
+    (t : Tree) (rs : List Run) → Below w path depth link t rs → Rest w path′ r (from p (inorder t) ++ rs) × (length path′ ≡ highest)
 
 -- the run r is nearest on the path
 pub record OnPath (w path : List ℕ) (depth : ℕ) (r : Run) (rs : List Run) : Type 0 where
   pub rest : Rest w path depth (r ∷ rs)
   pub ordered : Canon size 0 (r ∷ rs)
-  pub long : length path ≡ 22
+  pub long : length path ≡ highest
 
 abbrev pub Poppable : List ℕ → List ℕ → ℕ → Type 0
 Poppable w path depth = (r : Run) × (rs : List Run) × OnPath w path depth r rs
@@ -148,7 +148,7 @@ pub record Taken (w path : List ℕ) (x : Popped) (r : Run) (rs : List Run) : Ty
   pub start-is : x .start ≡ r .start
   pub end-is : x .«end» ≡ r .«end»
   pub rest : Rest w path (x .depth) rs
-  pub long : length path ≡ 22
+  pub long : length path ≡ highest
 
 abbrev pub Pops : List ℕ → List ℕ → List ℕ → ℕ → Popped → Type 0
 Pops w path path′ depth x = (r : Run) (rs : List Run) → OnPath w path depth r rs → Taken w path′ x r rs

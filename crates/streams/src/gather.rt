@@ -3,8 +3,10 @@ ghost use mathlib.Core.Path.{_≡_};
 ghost use lib.Dec.{leb};
 ghost use lib.ListN.{length};
 ghost use Rattle.model.specs.Positions.{stretches};
+ghost use Rattle.store.specs.Layout.{highest};
 ghost use Rattle.streams.specs.Reading.{Reads};
 ghost use Rattle.streams.specs.Gathering.{viewOf, fedBy, Fed, Sources, joined, Fillable, Fills, Gatherable, Gathers};
+use crate::source::HIGHEST;
 use crate::source::Source;
 use crate::source::View;
 use model::Operation;
@@ -27,9 +29,9 @@ fn view_of(f: Feed) -> View
 }
 
 // Begins the reading of a feed.
-fn begin(words: &[u64], path: &mut [u64; 22], f: Feed) -> Source
+fn begin(words: &[u64], path: &mut [u64; HIGHEST], f: Feed) -> Source
     requires { ⌜ Fed (now words) f ⌝ }
-    requires { ⌜ length (now path) ≡ 22 ⌝ }
+    requires { ⌜ length (now path) ≡ highest ⌝ }
     ensures { λ r. ⌜ Reads (now (words .entry)) (now (path .exit)) (viewOf f) r 0 (fedBy f (now (words .entry))) ⌝ }
 {
     match f {
@@ -43,8 +45,8 @@ pub fn fits(op: Operation, x: &[u64], fx: Feed, y: &[u64], fy: Feed, limit: u64)
     requires { ⌜ Sources (now x) fx (now y) fy ⌝ }
     ensures { λ r. ⌜ r ≡ leb (stretches (joined op (now (x .entry)) fx (now (y .entry)) fy)) limit ⌝ }
 {
-    let mut xp = [0u64; 22];
-    let mut yp = [0u64; 22];
+    let mut xp = [0u64; HIGHEST];
+    let mut yp = [0u64; HIGHEST];
     let xv = view_of(fx);
     let yv = view_of(fy);
     let s = begin(x, &mut xp, fx);
@@ -71,8 +73,8 @@ fn fill(into: &mut [u64], head: u64, op: Operation, x: &[u64], fx: Feed, y: &[u6
     requires { ⌜ Fillable (now into) head op (now x) fx (now y) fy ⌝ }
     ensures { λ r. ⌜ Fills (now (into .entry)) (now (into .exit)) head r (joined op (now (x .entry)) fx (now (y .entry)) fy) ⌝ }
 {
-    let mut xp = [0u64; 22];
-    let mut yp = [0u64; 22];
+    let mut xp = [0u64; HIGHEST];
+    let mut yp = [0u64; HIGHEST];
     let xv = view_of(fx);
     let yv = view_of(fy);
     let s = begin(x, &mut xp, fx);

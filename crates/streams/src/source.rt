@@ -6,10 +6,13 @@ ghost use mathlib.Core.Path.{_≡_};
 ghost use mathlib.Core.Bool.{true, false};
 ghost use Prim.Native.Nat.{_≤_};
 ghost use lib.ListN.{length};
-ghost use Rattle.store.specs.Layout.{heldFrom};
+ghost use Rattle.store.specs.Layout.{heldFrom, highest};
 ghost use Rattle.streams.specs.Reading.{Rooted, Reads, Descendable, Descends, Poppable, Pops, Stacked, TellsZero, LastReady, FirstReady, TellsLast, TellsFirst, Advanceable, Advances, Covers};
 use model::Logical;
 use model::Physical;
+
+// The greatest height of a tree, and so the most nodes of a path.
+pub const HIGHEST: usize = 22;
 
 // From where a set is read: the root of its tree, and the offset.
 pub struct View {
@@ -47,7 +50,7 @@ fn over() -> Source
 }
 
 // Puts the nodes of the tree at a link on the path, down to the first run that ends at p or later.
-fn descend(words: &[u64], path: &mut [u64; 22], depth: u64, link: u64, p: u64) -> u64
+fn descend(words: &[u64], path: &mut [u64; HIGHEST], depth: u64, link: u64, p: u64) -> u64
     requires { ⌜ Descendable (now words) (now path) depth link ⌝ }
     ensures { λ r. ⌜ Descends (now (words .entry)) (now (path .entry)) (now (path .exit)) depth link p r ⌝ }
 {
@@ -67,7 +70,7 @@ fn descend(words: &[u64], path: &mut [u64; 22], depth: u64, link: u64, p: u64) -
 }
 
 // Takes the nearest run off the path, and puts the nodes before the next one on it.
-fn pop(words: &[u64], path: &mut [u64; 22], depth: u64) -> Popped
+fn pop(words: &[u64], path: &mut [u64; HIGHEST], depth: u64) -> Popped
     requires { ⌜ Poppable (now words) (now path) depth ⌝ }
     ensures { λ r. ⌜ Pops (now (words .entry)) (now (path .entry)) (now (path .exit)) depth r ⌝ }
 {
@@ -82,7 +85,7 @@ fn pop(words: &[u64], path: &mut [u64; 22], depth: u64) -> Popped
 }
 
 // The next run of the last part, whose runs end at p or later.
-fn from_last(words: &[u64], path: &mut [u64; 22], v: View, depth: u64, p: u64) -> Source
+fn from_last(words: &[u64], path: &mut [u64; HIGHEST], v: View, depth: u64, p: u64) -> Source
     requires { ⌜ LastReady (now words) (now path) v depth p ⌝ }
     ensures { λ r. ⌜ TellsLast (now (words .entry)) (now (path .entry)) (now (path .exit)) v depth p r ⌝ }
 {
@@ -115,7 +118,7 @@ fn from_last(words: &[u64], path: &mut [u64; 22], v: View, depth: u64, p: u64) -
 }
 
 // Whether the run that is nearest on the path starts at physical 0.
-fn starts_at_zero(words: &[u64], path: &[u64; 22], depth: u64) -> bool
+fn starts_at_zero(words: &[u64], path: &[u64; HIGHEST], depth: u64) -> bool
     requires { ⌜ Stacked (now words) (now path) depth ⌝ }
     ensures { λ r. ⌜ TellsZero (now (words .entry)) (now (path .entry)) depth r ⌝ }
 {
@@ -127,7 +130,7 @@ fn starts_at_zero(words: &[u64], path: &[u64; 22], depth: u64) -> bool
 }
 
 // The next run of the first part, whose runs end at p or later; a run that reaches physical M goes on with the one at physical 0.
-fn from_first(words: &[u64], path: &mut [u64; 22], v: View, depth: u64, p: u64) -> Source
+fn from_first(words: &[u64], path: &mut [u64; HIGHEST], v: View, depth: u64, p: u64) -> Source
     requires { ⌜ FirstReady (now words) (now path) v depth p ⌝ }
     ensures { λ r. ⌜ TellsFirst (now (words .entry)) (now (path .entry)) (now (path .exit)) v depth p r ⌝ }
 {
@@ -168,9 +171,9 @@ fn from_first(words: &[u64], path: &mut [u64; 22], v: View, depth: u64, p: u64) 
 }
 
 // Begins a reading at a logical position.
-pub fn open(words: &[u64], path: &mut [u64; 22], v: View, from: u64) -> Source
+pub fn open(words: &[u64], path: &mut [u64; HIGHEST], v: View, from: u64) -> Source
     requires { ⌜ Rooted (now words) (v .root) ⌝ }
-    requires { ⌜ length (now path) ≡ 22 ⌝ }
+    requires { ⌜ length (now path) ≡ highest ⌝ }
     ensures { λ r. ⌜ Reads (now (words .entry)) (now (path .exit)) v r from (heldFrom (now (words .entry)) (v .root) (v .offset)) ⌝ }
 {
     let p = model::to_physical(Logical(from), v.offset);
@@ -182,7 +185,7 @@ pub fn open(words: &[u64], path: &mut [u64; 22], v: View, from: u64) -> Source
 }
 
 // Goes on to the next run.
-pub fn advance(words: &[u64], path: &mut [u64; 22], v: View, s: Source) -> Source
+pub fn advance(words: &[u64], path: &mut [u64; HIGHEST], v: View, s: Source) -> Source
     requires { ⌜ Advanceable (now words) (now path) v s ⌝ }
     ensures { λ r. ⌜ Advances (now (words .entry)) (now (path .entry)) (now (path .exit)) v s r ⌝ }
 {

@@ -3,6 +3,7 @@ ghost use mathlib.Core.Path.{_≡_};
 ghost use Prim.Native.Nat.{min};
 ghost use Rattle.model.specs.Positions.{apply};
 ghost use Rattle.streams.specs.Sweeping.{ValueAt, SameTo, Movable, Moves, Joinable, Reaches, NextJoint};
+use crate::source::HIGHEST;
 use crate::source::Source;
 use crate::source::View;
 use model::Operation;
@@ -37,7 +38,7 @@ pub fn same_to(s: Source, x: u64) -> u64
 }
 
 // The source moved on to x, which is at most one past its run.
-pub fn moved(words: &[u64], path: &mut [u64; 22], v: View, s: Source, x: u64) -> Source
+pub fn moved(words: &[u64], path: &mut [u64; HIGHEST], v: View, s: Source, x: u64) -> Source
     requires { ⌜ Movable (now words) (now path) v s x ⌝ }
     ensures { λ r. ⌜ Moves (now (words .entry)) (now (path .entry)) (now (path .exit)) v s x r ⌝ }
 {
@@ -67,11 +68,11 @@ pub struct Reached {
 fn reach(
     op: Operation,
     x: &[u64],
-    xp: &mut [u64; 22],
+    xp: &mut [u64; HIGHEST],
     xv: View,
     s: Source,
     y: &[u64],
-    yp: &mut [u64; 22],
+    yp: &mut [u64; HIGHEST],
     yv: View,
     t: Source,
     from: u64,
@@ -120,11 +121,11 @@ pub struct Joint {
 pub fn next_run(
     op: Operation,
     x: &[u64],
-    xp: &mut [u64; 22],
+    xp: &mut [u64; HIGHEST],
     xv: View,
     s: Source,
     y: &[u64],
-    yp: &mut [u64; 22],
+    yp: &mut [u64; HIGHEST],
     yv: View,
     t: Source,
     from: u64,

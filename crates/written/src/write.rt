@@ -7,6 +7,7 @@ ghost use Rattle.model.specs.Bytes.{encode, intoFront};
 ghost use Rattle.store.specs.Layout.{heldIn};
 ghost use Rattle.store.specs.Soundness.{Stands};
 use store::World;
+use streams::source::HIGHEST;
 use streams::source::View;
 
 // Writes a world's set into the front of a slice that has room for it.
@@ -22,7 +23,7 @@ pub fn write_set(words: &[u64], h: World, out: &mut [u8])
         root: h.root,
         offset: h.offset,
     };
-    let mut path = [0u64; 22];
+    let mut path = [0u64; HIGHEST];
     let mut s = streams::source::open(words, &mut path, v, 0);
     let mut at: usize = 5;
     while s.live {
