@@ -3,9 +3,9 @@
 ghost use mathlib.Core.Path.{_≡_};
 ghost use mathlib.Core.Bool.{true, false};
 ghost use Rattle.changes.specs.Change.{Settable, Sets, Reaching, Absorbable, Absorbs, Clearable, ClearsFrom};
-use model::Physical;
 use run_index::search::Near;
 use store::Links;
+use store::places::Physical;
 
 // Gives the positions from s to e the value.
 pub fn set_physical(words: &mut [u64], x: Links, s: Physical, e: Physical, value: bool) -> Links

@@ -12,8 +12,8 @@ ghost use Rattle.changes.specs.Neighbours.{heldBelow, heldAbove};
 use model::Count;
 use model::Edge;
 use model::Logical;
-use model::Physical;
 use store::World;
+use store::places::Physical;
 
 // A change that a limit may forbid: too many runs, or the world then and how many positions changed.
 pub enum Edit {
@@ -107,8 +107,8 @@ pub fn apply_set(words: &mut [u64], h: World, a: Logical, b: Logical, value: boo
     requires { ⌜ Appliable (now words) h (a .0) (b .0) value ⌝ }
     ensures { λ r. ⌜ Makes (now (words .entry)) (now (words .exit)) h r (setRange (a .0) (suc (b .0) - a .0) value (heldIn (now (words .entry)) h)) ⌝ }
 {
-    let s = model::to_physical(a, h.offset);
-    let e = model::to_physical(b, h.offset);
+    let s = store::places::to_physical(a, h.offset);
+    let e = store::places::to_physical(b, h.offset);
     let from = s.0;
     let to = e.0;
     let x = store::links_of(h);
