@@ -178,17 +178,24 @@ pub fn flip_fits(words: &[u64], h: World, limit: u64, a: Logical, b: Logical) ->
 }
 
 // Where the stretch of the value that starts at x ends, at most at last.
-fn stretch_end(words: &[u64], h: World, x: Logical, last: Logical, value: bool) -> u64
+fn stretch_end(words: &[u64], h: World, x: Logical, last: Logical, value: bool) -> Logical
     requires { ⌜ Stands (now words) h ⌝ }
     requires { ⌜ x .0 ≤ last .0 ⌝ }
     requires { ⌜ heldIn (now words) h (x .0) ≡ value ⌝ }
-    ensures { λ r. ⌜ StretchEnd (heldIn (now (words .entry)) h) value (x .0) (last .0) r ⌝ }
+    ensures { λ r. ⌜ StretchEnd (heldIn (now (words .entry)) h) value (x .0) (last .0) (r .0) ⌝ }
 {
     let top = last.0;
     let n = reports::logical::next(words, h, x, !value);
     match n {
-        Edge::At(y) => { if y <= top { y - 1 } else { top } }
-        Edge::Nowhere => top,
+        Edge::At(y) => {
+            if y <= top {
+                let to = y - 1;
+                Logical(to)
+            } else {
+                last
+            }
+        }
+        Edge::Nowhere => last,
     }
 }
 
@@ -203,14 +210,16 @@ pub fn flip(words: &mut [u64], h: World, limit: u64, a: Logical, b: Logical) -> 
     }
     let last = b.0;
     let mut at = h;
-    let mut x = a.0;
+    let mut x = a;
     let mut more = true;
     while more {
-        let value = reports::logical::get(words, at, Logical(x));
-        let y = stretch_end(words, at, Logical(x), b, value);
-        at = apply_set(words, at, Logical(x), Logical(y), !value);
-        if y < last {
-            x = y + 1;
+        let value = reports::logical::get(words, at, x);
+        let y = stretch_end(words, at, x, b, value);
+        let to = y.0;
+        at = apply_set(words, at, x, y, !value);
+        if to < last {
+            let next = to + 1;
+            x = Logical(next);
         } else {
             more = false;
         }
