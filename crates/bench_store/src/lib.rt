@@ -6,7 +6,7 @@ ghost use lib.ListN.{length};
 ghost use Rattle.store.specs.Soundness.{Sound};
 use changes::edit::Edit;
 use model::Logical;
-use model::Store;
+use store::Store;
 
 // Makes the words an empty store. False where no store has their length.
 #[no_mangle]

@@ -215,7 +215,7 @@ module _ {w w1 : List ℕ} {x y : Links} {start e reached : ℕ} {more : Bool} (
 
 -- in the end it is the promise
 pub absorbing-done : {w w1 : List ℕ} {x : Links} {r : Reach} {start e : ℕ} {more : Bool} → more ≡ false
-    → Absorbing w w1 x (r .links) start e (r .«end») more → Absorbs w w1 x start e r
+    → Absorbing w w1 x (r .links) start e (r .«end» .0) more → Absorbs w w1 x start e r
 absorbing-done m i sh ls us b t ns p =
     let s = i .so-far p in
     record { left = s .left; becomes = s .becomes; joined = λ a l. sym (s .same a l) ∙ s .ended m a l }

@@ -85,33 +85,33 @@ module _ {w : List ℕ} {x : Links} {s e : ℕ} {r : Run} (q : Found w x s r) (d
     -- it ends by e
     module _ (lt : r .«end» < e) {w1 : List ℕ} (far : Reach) (ab : Absorbs w w1 x (r .start) e far) where
       -- what `absorb` leaves
-      taken : Absorbed w w1 sh (far .links) (r .start) e (far .«end») (around .ls) (around .us) (r .«end»)
+      taken : Absorbed w w1 sh (far .links) (r .start) e (far .«end» .0) (around .ls) (around .us) (r .«end»)
       taken = ab sh (around .ls) (around .us) (r .«end») t ns parted
 
       -- the runs set have r up to what was reached
-      grown : insert s e (inorder t) ≡ around .ls ++ (run (r .start) (far .«end») ∷ taken .left)
+      grown : insert s e (inorder t) ≡ around .ls ++ (run (r .start) (far .«end» .0) ∷ taken .left)
       grown =
           joined-with
           ∙ ap (λ (vs : List Run). around .ls ++ vs)
           (ap (λ (k : ℕ). insert (r .start) k (around .us)) (omega arith) ∙ taken .joined (r .start) (omega arith))
 
       -- they are canonical
-      grown-canon : Canon size 0 (around .ls ++ (run (r .start) (far .«end») ∷ taken .left))
+      grown-canon : Canon size 0 (around .ls ++ (run (r .start) (far .«end» .0) ∷ taken .left))
       grown-canon = subst (Canon size 0) grown (raised-canon m)
 
       -- r ends no earlier than it starts
-      grown-ordered : r .start ≤ far .«end»
-      grown-ordered = canon-split size 0 (around .ls) (run (r .start) (far .«end»)) (taken .left) grown-canon .2
+      grown-ordered : r .start ≤ far .«end» .0
+      grown-ordered = canon-split size 0 (around .ls) (run (r .start) (far .«end» .0)) (taken .left) grown-canon .2
 
       -- r may grow
-      grow-changeable : Changeable w1 (far .links) (r .start) (r .start) (far .«end»)
+      grow-changeable : Changeable w1 (far .links) (r .start) (r .start) (far .«end» .0)
       grow-changeable =
-          becomes-changeable (around .ls) (run (r .start) (r .«end»)) (taken .left) (taken .becomes) (r .start) (far .«end») grown-ordered grown-canon
+          becomes-changeable (around .ls) (run (r .start) (r .«end»)) (taken .left) (taken .becomes) (r .start) (far .«end» .0) grown-ordered grown-canon
 
       -- with r grown the positions are set
-      grow-held : {w2 : List ℕ} → Changes w1 w2 (far .links) (r .start) (r .start) (far .«end») → Holding w w2 sh (far .links) (setRange s (suc e - s) true (mem (inorder t)))
+      grow-held : {w2 : List ℕ} → Changes w1 w2 (far .links) (r .start) (r .start) (far .«end» .0) → Holding w w2 sh (far .links) (setRange s (suc e - s) true (mem (inorder t)))
       grow-held {w2} g =
-          raised m (subst (Becomes w w2 sh (far .links)) (sym grown) (becomes-changed (around .ls) (run (r .start) (r .«end»)) (taken .left) (taken .becomes) (r .start) (far .«end») grown-ordered grown-canon g))
+          raised m (subst (Becomes w w2 sh (far .links)) (sym grown) (becomes-changed (around .ls) (run (r .start) (r .«end»)) (taken .left) (taken .becomes) (r .start) (far .«end» .0) grown-ordered grown-canon g))
 
     -- it goes on past e
     stays : e ≤ r .«end» → Holding w w sh x (setRange s (suc e - s) true (mem (inorder t)))
@@ -124,11 +124,11 @@ module _ {w : List ℕ} {x : Links} {s e : ℕ} {r : Run} (q : Found w x s r) (d
 
   module _ (lt : r .«end» < e) {w1 : List ℕ} (far : Reach) (ab : Absorbs w w1 x (r .start) e far) where
     -- it may grow
-    pub before-changeable : Settable w x s e true → Changeable w1 (far .links) (r .start) (r .start) (far .«end»)
+    pub before-changeable : Settable w x s e true → Changeable w1 (far .links) (r .start) (r .start) (far .«end» .0)
     before-changeable p = grow-changeable (p .3) lt far ab
 
     -- and does
-    pub before-grown : {w2 : List ℕ} → Changes w1 w2 (far .links) (r .start) (r .start) (far .«end») → Sets w w2 x (far .links) s e true
+    pub before-grown : {w2 : List ℕ} → Changes w1 w2 (far .links) (r .start) (r .start) (far .«end» .0) → Sets w w2 x (far .links) s e true
     before-grown g sh t ns m = grow-held m lt far ab g
 
   -- or is long enough
@@ -233,11 +233,11 @@ module _ {w : List ℕ} {x : Links} {s e : ℕ} (q : Passed w x s) (n : Near) (f
       -- and touches e
       module _ (held : d ≡ true) (k : ℕ) (ek : k ≡ max e (r .«end»)) {w1 : List ℕ} (far : Reach) (ab : Absorbs w w1 x (r .start) k far) where
         -- what `absorb` leaves
-        taken-after : Absorbed w w1 sh (far .links) (r .start) k (far .«end») (sides m .ls) (rest .0) (r .«end»)
+        taken-after : Absorbed w w1 sh (far .links) (r .start) k (far .«end» .0) (sides m .ls) (rest .0) (r .«end»)
         taken-after = ab sh (sides m .ls) (rest .0) (r .«end») t ns parted-after
 
         -- the runs set have r from s up to what was reached
-        stretched : insert s e (inorder t) ≡ sides m .ls ++ (run s (far .«end») ∷ taken-after .left)
+        stretched : insert s e (inorder t) ≡ sides m .ls ++ (run s (far .«end» .0) ∷ taken-after .left)
         stretched =
             set-after m
             ∙ ap (λ (vs : List Run). sides m .ls ++ vs)
@@ -247,22 +247,22 @@ module _ {w : List ℕ} {x : Links} {s e : ℕ} (q : Passed w x s) (n : Near) (f
             ∙ taken-after .joined s from-s)
 
         -- they are canonical
-        stretched-canon : Canon size 0 (sides m .ls ++ (run s (far .«end») ∷ taken-after .left))
+        stretched-canon : Canon size 0 (sides m .ls ++ (run s (far .«end» .0) ∷ taken-after .left))
         stretched-canon = subst (Canon size 0) stretched (raised-canon m)
 
         -- what was reached is no earlier than s
-        stretched-ordered : s ≤ far .«end»
-        stretched-ordered = canon-split size 0 (sides m .ls) (run s (far .«end»)) (taken-after .left) stretched-canon .2
+        stretched-ordered : s ≤ far .«end» .0
+        stretched-ordered = canon-split size 0 (sides m .ls) (run s (far .«end» .0)) (taken-after .left) stretched-canon .2
 
         -- r may grow to both sides
-        stretch-changeable : Changeable w1 (far .links) (r .start) s (far .«end»)
+        stretch-changeable : Changeable w1 (far .links) (r .start) s (far .«end» .0)
         stretch-changeable =
-            becomes-changeable (sides m .ls) (run (r .start) (r .«end»)) (taken-after .left) (taken-after .becomes) s (far .«end») stretched-ordered stretched-canon
+            becomes-changeable (sides m .ls) (run (r .start) (r .«end»)) (taken-after .left) (taken-after .becomes) s (far .«end» .0) stretched-ordered stretched-canon
 
         -- with r grown the positions are set
-        stretch-held : {w2 : List ℕ} → Changes w1 w2 (far .links) (r .start) s (far .«end») → Holding w w2 sh (far .links) (setRange s (suc e - s) true (mem (inorder t)))
+        stretch-held : {w2 : List ℕ} → Changes w1 w2 (far .links) (r .start) s (far .«end» .0) → Holding w w2 sh (far .links) (setRange s (suc e - s) true (mem (inorder t)))
         stretch-held {w2} g =
-            raised m (subst (Becomes w w2 sh (far .links)) (sym stretched) (becomes-changed (sides m .ls) (run (r .start) (r .«end»)) (taken-after .left) (taken-after .becomes) s (far .«end») stretched-ordered stretched-canon g))
+            raised m (subst (Becomes w w2 sh (far .links)) (sym stretched) (becomes-changed (sides m .ls) (run (r .start) (r .«end»)) (taken-after .left) (taken-after .becomes) s (far .«end» .0) stretched-ordered stretched-canon g))
 
     -- it may take in what follows
     pub after-absorbable : Settable w x s e true → Absorbable w x (r .start)
@@ -270,11 +270,11 @@ module _ {w : List ℕ} {x : Links} {s e : ℕ} (q : Passed w x s) (n : Near) (f
 
     module _ (held : d ≡ true) (k : ℕ) (ek : k ≡ max e (r .«end»)) {w1 : List ℕ} (far : Reach) (ab : Absorbs w w1 x (r .start) k far) where
       -- it may grow to both sides
-      pub after-changeable : Settable w x s e true → Changeable w1 (far .links) (r .start) s (far .«end»)
+      pub after-changeable : Settable w x s e true → Changeable w1 (far .links) (r .start) s (far .«end» .0)
       after-changeable p = stretch-changeable (p .3) held k ek far ab
 
       -- and does
-      pub after-grown : {w2 : List ℕ} → Changes w1 w2 (far .links) (r .start) s (far .«end») → Sets w w2 x (far .links) s e true
+      pub after-grown : {w2 : List ℕ} → Changes w1 w2 (far .links) (r .start) s (far .«end» .0) → Sets w w2 x (far .links) s e true
       after-grown g sh t ns m = stretch-held m held k ek far ab g
 
   -- what is set stands between both sides

@@ -8,12 +8,12 @@ use mathlib.Core.List.{List, []}
 use native.Mathlib.Omega.{arith}
 use Rattle.model.specs.declared.Run.{Run}
 use Rattle.model.specs.Numbers.{size, split}
-use Rattle.model.specs.Places.{physicalOf, logicalOf}
 use Rattle.model.specs.Positions.{Positions, mem, heldRuns, stretches, empty, setRange, shiftLeft, shiftRight, shiftBy}
 use Rattle.model.specs.After.{set-inside, set-below, set-above}
 use Rattle.run_index.specs.Tree.{Tree, leaf, node, runs, inorder, At}
 use Rattle.store.specs.declared.World.{World}
 use Rattle.store.specs.declared.Links.{Links}
+use Rattle.store.specs.Places.{physicalOf, logicalOf}
 use Rattle.store.specs.Layout.{linksOf, turned, heldIn}
 use Rattle.store.specs.Soundness.{firstOf, lastOf, Share, Still, Standing, Limited}
 use Rattle.store.specs.Free.{Becomes, Keepable, GivesBack}

@@ -61,7 +61,7 @@ pub record Absorbed (w w′ : List ℕ) (sh : Share) (y : Links) (start e last :
 abbrev pub Absorbs : List ℕ → List ℕ → Links → ℕ → ℕ → Reach → Type 0
 Absorbs w w′ x start e r =
     (sh : Share) (ls us : List Run) (b : ℕ) (t : Tree) (ns : List ℕ) → Parted w sh x ls (run start b ∷ us) t ns
-    → Absorbed w w′ sh (r .links) start e (r .«end») ls us b
+    → Absorbed w w′ sh (r .links) start e (r .«end» .0) ls us b
 
 -- the runs are ls, which end before s, and then us, which start at s or after it
 pub record Cut (w : List ℕ) (sh : Share) (x : Links) (s : ℕ) (ls us : List Run) (t : Tree) (ns : List ℕ) : Type 0 where

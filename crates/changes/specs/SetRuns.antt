@@ -6,10 +6,10 @@ use mathlib.Core.Logic.{_⊎_, inl, inr}
 use mathlib.Core.Bool.{Bool, true, false, not, _&&_, and-true, and-false, and-comm}
 use native.Mathlib.Omega.{arith}
 use Rattle.model.specs.Numbers.{size, split}
-use Rattle.model.specs.Places.{physicalOf}
 use Rattle.model.specs.Positions.{Positions, oneIf, count, countRanges, stretches, setRange}
 use Rattle.model.specs.Positions.Laws.{count-cut, count-all, one-bound}
 use Rattle.model.specs.After.{goesOn, goesOn-top, goesOn-zero, set-inside, set-below, set-above, set-runs}
+use Rattle.store.specs.Places.{physicalOf}
 use Rattle.store.specs.Layout.{turned}
 use Rattle.store.specs.Turn.{stretches-zero, stretches-turned}
 use Rattle.changes.specs.Neighbours.{heldBelow, heldAbove, both-second, with-without, goesOn-below, goesOn-above, goesOn-changed-above, goesOn-changed-below, stretches-cong, ranges-some}

@@ -11,12 +11,12 @@ use lib.ListN.{length}
 use borrow.Author.Tests.{le-leb, lt-leb, lt-ltb, le-ltb}
 use Rattle.model.specs.declared.Run.{Run}
 use Rattle.model.specs.Numbers.{size, split}
-use Rattle.model.specs.Places.{physicalOf, logicalOf}
 use Rattle.model.specs.Positions.{Positions, among, runsIn, heldRuns, stretches, lastAfter, setRange, shiftLeft, shiftRight, shiftBy, mem}
 use Rattle.model.specs.Positions.Laws.{among-yes, among-below, among-above, beq-true}
 use Rattle.model.specs.Positions.Runs.{runsIn-canon, runsIn-mem, heldRuns-is, mem-heldRuns}
 use Rattle.model.specs.RunList.{canon-weaken}
 use Rattle.model.specs.After.{set-inside, set-below, set-above}
+use Rattle.store.specs.Places.{physicalOf, logicalOf}
 use Rattle.store.specs.Layout.{turned}
 use Rattle.store.specs.Soundness.{firstOf, lastOf}
 use Rattle.store.specs.Ends.{clash, empty-mem}

@@ -6,10 +6,10 @@ use mathlib.Core.Logic.{_⊎_, inl, inr}
 use mathlib.Core.Bool.{Bool, cond}
 use native.Mathlib.Omega.{arith}
 use Rattle.model.specs.Numbers.{size, split}
-use Rattle.model.specs.Places.{physicalOf}
 use Rattle.model.specs.Positions.{Positions, among, setRange}
 use Rattle.model.specs.Positions.Laws.{among-yes, among-below, among-above}
 use Rattle.model.specs.After.{set-inside, set-below, set-above}
+use Rattle.store.specs.Places.{physicalOf}
 use Rattle.store.specs.Layout.{turned}
 use Rattle.store.specs.Turn.{Lies, turned-at, whole-fits, whole-length, parted-length, parted-middle}
 

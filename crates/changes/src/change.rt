@@ -3,9 +3,9 @@
 ghost use mathlib.Core.Path.{_≡_};
 ghost use mathlib.Core.Bool.{true, false};
 ghost use Rattle.changes.specs.Change.{Settable, Sets, Reaching, Absorbable, Absorbs, Clearable, ClearsFrom};
-use model::Physical;
 use run_index::search::Near;
 use store::Links;
+use store::places::Physical;
 
 // Gives the positions from s to e the value.
 pub fn set_physical(words: &mut [u64], x: Links, s: Physical, e: Physical, value: bool) -> Links
@@ -13,27 +13,29 @@ pub fn set_physical(words: &mut [u64], x: Links, s: Physical, e: Physical, value
     ensures { λ r. ⌜ Sets (now (words .entry)) (now (words .exit)) x r (s .0) (e .0) value ⌝ }
 {
     if value {
-        raise(words, x, s.0, e.0)
+        raise(words, x, s, e)
     } else {
-        clear(words, x, s.0, e.0)
+        clear(words, x, s, e)
     }
 }
 
 // Holds the positions from s to e: the runs that hold or touch them become one, which is one of them grown, or a new one.
-fn raise(words: &mut [u64], x: Links, s: u64, e: u64) -> Links
-    requires { ⌜ Settable (now words) x s e true ⌝ }
-    ensures { λ r. ⌜ Sets (now (words .entry)) (now (words .exit)) x r s e true ⌝ }
+fn raise(words: &mut [u64], x: Links, s: Physical, e: Physical) -> Links
+    requires { ⌜ Settable (now words) x (s .0) (e .0) true ⌝ }
+    ensures { λ r. ⌜ Sets (now (words .entry)) (now (words .exit)) x r (s .0) (e .0) true ⌝ }
 {
-    let n = run_index::search::at_or_before(words, x.root, s);
+    let from = s.0;
+    let to = e.0;
+    let n = run_index::search::at_or_before(words, x.root, from);
     match n {
         Near::Run(r) => {
             let start = r.start;
             let end = r.end;
-            if reaches(end, s) {
-                if end < e {
-                    let a = absorb(words, x, start, e);
+            if reaches(Physical(end), s) {
+                if end < to {
+                    let a = absorb(words, x, Physical(start), e);
                     let y = a.links;
-                    store::free::resize_run(words, y, start, start, a.end);
+                    store::free::resize_run(words, y, start, start, a.end.0);
                     return y;
                 }
                 return x;
@@ -41,54 +43,62 @@ fn raise(words: &mut [u64], x: Links, s: u64, e: u64) -> Links
         }
         Near::None => {}
     }
-    let m = run_index::search::at_or_after(words, x.root, s);
+    let m = run_index::search::at_or_after(words, x.root, from);
     match m {
         Near::Run(r) => {
             let start = r.start;
             let end = r.end;
-            if reaches(e, start) {
-                let a = absorb(words, x, start, run_index::larger(e, end));
+            if reaches(e, Physical(start)) {
+                let a = absorb(
+                    words,
+                    x,
+                    Physical(start),
+                    Physical(run_index::larger(to, end)),
+                );
                 let y = a.links;
-                store::free::resize_run(words, y, start, s, a.end);
+                store::free::resize_run(words, y, start, from, a.end.0);
                 return y;
             }
         }
         Near::None => {}
     }
-    store::free::add_run(words, x, s, e)
+    store::free::add_run(words, x, from, to)
 }
 
 // Whether what reaches up to `end` holds x or touches it.
-fn reaches(end: u64, x: u64) -> bool
-    ensures { λ r. ⌜ Reaching «end» x r ⌝ }
+fn reaches(end: Physical, x: Physical) -> bool
+    ensures { λ r. ⌜ Reaching («end» .0) (x .0) r ⌝ }
 {
-    if x <= end {
+    let to = end.0;
+    let at = x.0;
+    if at <= to {
         return true;
     }
-    x - end == 1
+    at - to == 1
 }
 
 // How far a run reaches that took others in, and the links after these went.
 pub struct Reach {
     pub links: Links,
-    pub end: u64,
+    pub end: Physical,
 }
 
 // Removes the runs that start after `start` and touch what reaches up to e, one after another, and returns how far the last of them reaches.
-fn absorb(words: &mut [u64], x: Links, start: u64, e: u64) -> Reach
-    requires { ⌜ Absorbable (now words) x start ⌝ }
-    ensures { λ r. ⌜ Absorbs (now (words .entry)) (now (words .exit)) x start e r ⌝ }
+fn absorb(words: &mut [u64], x: Links, start: Physical, e: Physical) -> Reach
+    requires { ⌜ Absorbable (now words) x (start .0) ⌝ }
+    ensures { λ r. ⌜ Absorbs (now (words .entry)) (now (words .exit)) x (start .0) (e .0) r ⌝ }
 {
+    let from = start.0;
     let mut at = x;
     let mut end = e;
-    let mut more = start < u64::MAX;
+    let mut more = from < u64::MAX;
     while more {
-        let n = run_index::search::at_or_after(words, at.root, start + 1);
+        let n = run_index::search::at_or_after(words, at.root, from + 1);
         match n {
             Near::Run(r) => {
-                if reaches(end, r.start) {
+                if reaches(end, Physical(r.start)) {
                     at = store::free::remove_run(words, at, r.start);
-                    end = run_index::larger(end, r.end);
+                    end = Physical(run_index::larger(end.0, r.end));
                 } else {
                     more = false;
                 }
@@ -105,19 +115,21 @@ fn absorb(words: &mut [u64], x: Links, start: u64, e: u64) -> Reach
 }
 
 // Frees the positions from s to e: the run that goes on before s keeps its node, and so does one that goes on after e.
-fn clear(words: &mut [u64], x: Links, s: u64, e: u64) -> Links
-    requires { ⌜ Settable (now words) x s e false ⌝ }
-    ensures { λ r. ⌜ Sets (now (words .entry)) (now (words .exit)) x r s e false ⌝ }
+fn clear(words: &mut [u64], x: Links, s: Physical, e: Physical) -> Links
+    requires { ⌜ Settable (now words) x (s .0) (e .0) false ⌝ }
+    ensures { λ r. ⌜ Sets (now (words .entry)) (now (words .exit)) x r (s .0) (e .0) false ⌝ }
 {
-    let n = run_index::search::at_or_before(words, x.root, s);
+    let from = s.0;
+    let to = e.0;
+    let n = run_index::search::at_or_before(words, x.root, from);
     match n {
         Near::Run(r) => {
             let start = r.start;
             let end = r.end;
-            if start < s && s <= end {
-                store::free::resize_run(words, x, start, start, s - 1);
-                if e < end {
-                    return store::free::add_run(words, x, e + 1, end);
+            if start < from && from <= end {
+                store::free::resize_run(words, x, start, start, from - 1);
+                if to < end {
+                    return store::free::add_run(words, x, to + 1, end);
                 }
             }
         }
@@ -127,21 +139,23 @@ fn clear(words: &mut [u64], x: Links, s: u64, e: u64) -> Links
 }
 
 // Frees the positions from s to e, where no run goes on from before s.
-fn clear_from(words: &mut [u64], x: Links, s: u64, e: u64) -> Links
-    requires { ⌜ Clearable (now words) x s ⌝ }
-    ensures { λ r. ⌜ ClearsFrom (now (words .entry)) (now (words .exit)) x r s e ⌝ }
+fn clear_from(words: &mut [u64], x: Links, s: Physical, e: Physical) -> Links
+    requires { ⌜ Clearable (now words) x (s .0) ⌝ }
+    ensures { λ r. ⌜ ClearsFrom (now (words .entry)) (now (words .exit)) x r (s .0) (e .0) ⌝ }
 {
+    let from = s.0;
+    let to = e.0;
     let mut at = x;
     let mut more = true;
     while more {
-        let n = run_index::search::at_or_after(words, at.root, s);
+        let n = run_index::search::at_or_after(words, at.root, from);
         match n {
             Near::Run(r) => {
                 let start = r.start;
                 let end = r.end;
-                if start <= e {
-                    if e < end {
-                        store::free::resize_run(words, at, start, e + 1, end);
+                if start <= to {
+                    if to < end {
+                        store::free::resize_run(words, at, start, to + 1, end);
                         more = false;
                     } else {
                         at = store::free::remove_run(words, at, start);

@@ -12,8 +12,8 @@ ghost use Rattle.changes.specs.Neighbours.{heldBelow, heldAbove};
 use model::Count;
 use model::Edge;
 use model::Logical;
-use model::Physical;
 use store::World;
+use store::places::Physical;
 
 // A change that a limit may forbid: too many runs, or the world then and how many positions changed.
 pub enum Edit {
@@ -107,8 +107,8 @@ pub fn apply_set(words: &mut [u64], h: World, a: Logical, b: Logical, value: boo
     requires { ⌜ Appliable (now words) h (a .0) (b .0) value ⌝ }
     ensures { λ r. ⌜ Makes (now (words .entry)) (now (words .exit)) h r (setRange (a .0) (suc (b .0) - a .0) value (heldIn (now (words .entry)) h)) ⌝ }
 {
-    let s = model::to_physical(a, h.offset);
-    let e = model::to_physical(b, h.offset);
+    let s = store::places::to_physical(a, h.offset);
+    let e = store::places::to_physical(b, h.offset);
     let from = s.0;
     let to = e.0;
     let x = store::links_of(h);
@@ -178,17 +178,24 @@ pub fn flip_fits(words: &[u64], h: World, limit: u64, a: Logical, b: Logical) ->
 }
 
 // Where the stretch of the value that starts at x ends, at most at last.
-fn stretch_end(words: &[u64], h: World, x: Logical, last: Logical, value: bool) -> u64
+fn stretch_end(words: &[u64], h: World, x: Logical, last: Logical, value: bool) -> Logical
     requires { ⌜ Stands (now words) h ⌝ }
     requires { ⌜ x .0 ≤ last .0 ⌝ }
     requires { ⌜ heldIn (now words) h (x .0) ≡ value ⌝ }
-    ensures { λ r. ⌜ StretchEnd (heldIn (now (words .entry)) h) value (x .0) (last .0) r ⌝ }
+    ensures { λ r. ⌜ StretchEnd (heldIn (now (words .entry)) h) value (x .0) (last .0) (r .0) ⌝ }
 {
     let top = last.0;
     let n = reports::logical::next(words, h, x, !value);
     match n {
-        Edge::At(y) => { if y <= top { y - 1 } else { top } }
-        Edge::Nowhere => top,
+        Edge::At(y) => {
+            if y <= top {
+                let to = y - 1;
+                Logical(to)
+            } else {
+                last
+            }
+        }
+        Edge::Nowhere => last,
     }
 }
 
@@ -203,14 +210,16 @@ pub fn flip(words: &mut [u64], h: World, limit: u64, a: Logical, b: Logical) -> 
     }
     let last = b.0;
     let mut at = h;
-    let mut x = a.0;
+    let mut x = a;
     let mut more = true;
     while more {
-        let value = reports::logical::get(words, at, Logical(x));
-        let y = stretch_end(words, at, Logical(x), b, value);
-        at = apply_set(words, at, Logical(x), Logical(y), !value);
-        if y < last {
-            x = y + 1;
+        let value = reports::logical::get(words, at, x);
+        let y = stretch_end(words, at, x, b, value);
+        let to = y.0;
+        at = apply_set(words, at, x, y, !value);
+        if to < last {
+            let next = to + 1;
+            x = Logical(next);
         } else {
             more = false;
         }

@@ -13,12 +13,12 @@ use borrow.Author.Tests.{le-leb, lt-leb, le-ltb, lt-ltb, ne-eqb}
 use Rattle.model.specs.declared.Run.{Run}
 use Rattle.model.specs.declared.Operation.the-variants.{And, Xor}
 use Rattle.model.specs.Numbers.{size, split}
-use Rattle.model.specs.Places.{physicalOf, logicalOf}
 use Rattle.model.specs.Positions.{Positions, run, mem, combined, complemented, shiftLeft, shiftRight, shiftBy, heldRuns, stretches, changes, same}
 use Rattle.model.specs.Positions.Runs.{heldRuns-canon}
 use Rattle.model.specs.Positions.Finds.{count-runs}
 use Rattle.model.specs.RunList.{Canon, widths, mem-in, mem-under, mem-above}
 use Rattle.model.specs.Model.{positionsOf}
+use Rattle.store.specs.Places.{physicalOf, logicalOf}
 use Rattle.store.specs.Layout.{turned, physicalRuns, heldFrom}
 use Rattle.store.specs.Turn.{turned-at}
 use Rattle.store.specs.Ends.{empty-mem}

@@ -13,7 +13,6 @@ use borrow.Author.Tests.{eq-eqb, ne-eqb, lt-ltb}
 use Rattle.model.specs.declared.Run.{Run}
 use Rattle.model.specs.declared.Completed.{Completed}
 use Rattle.model.specs.Numbers.{size}
-use Rattle.model.specs.Places.{capacityOf}
 use Rattle.model.specs.Positions.{run, mem, stretches}
 use Rattle.model.specs.Positions.Runs.{stretches-is}
 use Rattle.model.specs.RunList.{Canon}
@@ -25,7 +24,7 @@ use Rattle.model.specs.Answers.{completedAnswer}
 use Rattle.run_index.specs.Cells.{Room}
 use Rattle.run_index.specs.Strung.{Lays, FreeChain, Filled}
 use Rattle.run_index.proofs.Laying.{filled-none, filled-step, next-room, left-over}
-use Rattle.store.specs.Layout.{capacity, allowance}
+use Rattle.store.specs.Layout.{capacityOf, capacity, allowance}
 use Rattle.store.specs.Settle.{Settled}
 use Rattle.store.proofs.Nodes.{node-once}
 use Rattle.written.specs.Listed.{leastAfter}

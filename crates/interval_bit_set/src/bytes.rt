@@ -10,7 +10,7 @@ use crate::look::Look;
 use model::Completed;
 use model::Counted;
 use model::Refusal;
-use model::Store;
+use store::Store;
 
 // Makes the store that a written set tells, whatever its words were.
 pub fn load(words: &mut [u64], bytes: &[u8]) -> Completed

@@ -8,8 +8,8 @@ use crate::look::Look;
 use model::Completed;
 use model::Operation;
 use model::Refusal;
-use model::Store;
 use model::Tested;
+use store::Store;
 
 // Joins two sets by AND, OR or XOR.
 pub fn combine(words: &mut [u64], op: Operation, a: &[u64], b: &[u64]) -> Completed

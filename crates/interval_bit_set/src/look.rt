@@ -2,7 +2,7 @@
 ghost use mathlib.Core.Path.{_≡_};
 ghost use Rattle.interval_bit_set.specs.Look.{Looked, LookedBoth};
 use model::Refusal;
-use model::Store;
+use store::Store;
 
 // What a store earns that a call reads: refusal 1 or 7, or none.
 pub enum Look {

@@ -5,7 +5,7 @@ ghost use Rattle.model.specs.Answers.{completedAnswer};
 ghost use Rattle.core.specs.Met.{Met};
 use model::Completed;
 use model::Refusal;
-use model::Store;
+use store::Store;
 
 // A new, empty set in the words of a store.
 pub fn new(words: &mut [u64]) -> Completed

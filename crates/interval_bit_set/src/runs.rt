@@ -4,18 +4,18 @@ ghost use mathlib.Core.Path.{_≡_};
 ghost use Prim.Native.Nat.{_+_, _<_};
 ghost use lib.ListN.{length, getD};
 ghost use Rattle.model.specs.Positions.{run};
-ghost use Rattle.model.specs.Places.{capacityOf};
 ghost use Rattle.model.specs.Call.{Call};
 ghost use Rattle.model.specs.Answers.{completedAnswer};
 ghost use Rattle.run_index.specs.Cells.{Room};
 ghost use Rattle.run_index.specs.Strung.{Lays};
+ghost use Rattle.store.specs.Layout.{capacityOf};
 ghost use Rattle.core.specs.Met.{Met};
 ghost use Rattle.interval_bit_set.specs.RunSlice.{orderStep, InOrder, Admits, Beginning, BegunIf, Putting, Put, Finishing, Finished};
 use model::Completed;
 use model::Refusal;
 use model::Run;
-use model::Store;
 use store::Links;
+use store::Store;
 
 // A run of the list.
 fn run_of(runs: &[Run], i: usize) -> Run

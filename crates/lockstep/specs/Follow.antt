@@ -6,14 +6,13 @@ use mathlib.Core.Logic.{_⊎_, inl, inr}
 use mathlib.Core.List.{List, [], _∷_, _++_}
 use mathlib.Core.Option.{Option, none, some}
 use Rattle.model.specs.Numbers.{size, split}
-use Rattle.model.specs.Places.{capacityOf}
 use Rattle.model.specs.Positions.{Positions, empty, bounded}
 use Rattle.model.specs.Ops.{bounded-below}
 use Rattle.model.specs.Refusals.{Condition, _when_, refusal, tooMany}
 use Rattle.model.specs.Refusals.{capacity as tooMuch}
 use Rattle.model.specs.Call.{Fed, holding, Call, feed, done, Answer, gave}
 use Rattle.model.specs.Model.{Outcome, positionsOf, overwrites, settle, overwrite, serve, step, after}
-use Rattle.store.specs.Layout.{capacity, allowance, heldBy}
+use Rattle.store.specs.Layout.{capacityOf, capacity, allowance, heldBy}
 use Rattle.store.specs.Turn.{store-past}
 use Rattle.store.specs.Soundness.{Sound}
 use Rattle.store.specs.Settle.{Settled}

@@ -13,13 +13,13 @@ use mir.Val.{Fits}
 use Rattle.model.specs.declared.Count.{Count}
 use Rattle.model.specs.declared.Run.{Run}
 use Rattle.model.specs.Numbers.{size, worth}
-use Rattle.model.specs.Places.{physicalOf, logicalOf}
 use Rattle.model.specs.Positions.{Positions, oneIf, count, select, runsIn, countRanges}
 use Rattle.model.specs.Positions.Laws.{count-cut, count-most}
 use Rattle.model.specs.Positions.Runs.{runsIn-canon}
 use Rattle.model.specs.Positions.Finds.{Selected, select-only, select-none}
 use Rattle.model.specs.RunList.{Canon}
 use Rattle.store.specs.declared.World.{World}
+use Rattle.store.specs.Places.{physicalOf, logicalOf}
 use Rattle.reports.specs.declared.physical.Tally.{Tally}
 use Rattle.store.specs.Layout.{heldIn}
 use Rattle.store.specs.Soundness.{Share, Standing}

@@ -9,9 +9,9 @@ use native.Mathlib.Omega.{arith}
 use Rattle.model.specs.declared.Edge.{Edge}
 use Rattle.model.specs.declared.Edge.the-variants.{At, Nowhere}
 use Rattle.model.specs.Numbers.{size, split}
-use Rattle.model.specs.Places.{physicalOf, logicalOf}
 use Rattle.model.specs.Positions.{Positions}
 use Rattle.store.specs.declared.World.{World}
+use Rattle.store.specs.Places.{physicalOf, logicalOf}
 use Rattle.store.specs.Layout.{turned, heldIn}
 use Rattle.store.specs.Soundness.{Share, Standing}
 use Rattle.reports.specs.Reports.{Next, Previous, TellsNext, TellsPrevious}

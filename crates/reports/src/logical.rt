@@ -9,15 +9,15 @@ ghost use Rattle.reports.specs.Reports.{Measured, Next, Previous, Select
 use crate::physical::Tally;
 use model::Edge;
 use model::Logical;
-use model::Physical;
 use store::World;
+use store::places::Physical;
 
 // The value of a position.
 pub fn get(words: &[u64], h: World, x: Logical) -> bool
     requires { ⌜ Stands (now words) h ⌝ }
     ensures { λ r. ⌜ r ≡ heldIn (now (words .entry)) h (x .0) ⌝ }
 {
-    let s = model::to_physical(x, h.offset);
+    let s = store::places::to_physical(x, h.offset);
     store::bounds::get_physical(words, h.root, s)
 }
 
@@ -27,8 +27,8 @@ pub fn tally(words: &[u64], h: World, a: Logical, b: Logical, value: bool) -> Ta
     requires { ⌜ a .0 ≤ b .0 ⌝ }
     ensures { λ r. ⌜ Measured (heldIn (now (words .entry)) h) value (a .0) (suc (b .0) - a .0) r ⌝ }
 {
-    let s = model::to_physical(a, h.offset);
-    let e = model::to_physical(b, h.offset);
+    let s = store::places::to_physical(a, h.offset);
+    let e = store::places::to_physical(b, h.offset);
     let from = s.0;
     let to = e.0;
     if from <= to {
@@ -57,8 +57,8 @@ pub fn select(words: &[u64], h: World, a: Logical, b: Logical, value: bool, k: u
     requires { ⌜ a .0 ≤ b .0 ⌝ }
     ensures { λ r. ⌜ Selects (heldIn (now (words .entry)) h) value (a .0) (suc (b .0) - a .0) k r ⌝ }
 {
-    let s = model::to_physical(a, h.offset);
-    let e = model::to_physical(b, h.offset);
+    let s = store::places::to_physical(a, h.offset);
+    let e = store::places::to_physical(b, h.offset);
     let from = s.0;
     let to = e.0;
     if from <= to {
@@ -67,14 +67,14 @@ pub fn select(words: &[u64], h: World, a: Logical, b: Logical, value: bool, k: u
             return Edge::Nowhere;
         }
         let x = crate::physical::select_physical(words, h.root, s, value, k);
-        let y = model::to_logical(x, h.offset);
+        let y = store::places::to_logical(x, h.offset);
         return Edge::At(y.0);
     }
     let n = crate::physical::tally_physical(words, h.root, s, Physical(u64::MAX), value);
     let before = n.count.low;
     if n.count.carry == 1 || k < before {
         let x = crate::physical::select_physical(words, h.root, s, value, k);
-        let y = model::to_logical(x, h.offset);
+        let y = store::places::to_logical(x, h.offset);
         return Edge::At(y.0);
     }
     let m = crate::physical::tally_physical(words, h.root, Physical(0), e, value);
@@ -82,7 +82,7 @@ pub fn select(words: &[u64], h: World, a: Logical, b: Logical, value: bool, k: u
         return Edge::Nowhere;
     }
     let x = crate::physical::select_physical(words, h.root, Physical(0), value, k - before);
-    let y = model::to_logical(x, h.offset);
+    let y = store::places::to_logical(x, h.offset);
     Edge::At(y.0)
 }
 
@@ -91,8 +91,8 @@ pub fn next(words: &[u64], h: World, x: Logical, value: bool) -> Edge
     requires { ⌜ Stands (now words) h ⌝ }
     ensures { λ r. ⌜ Next (heldIn (now (words .entry)) h) value (x .0) r ⌝ }
 {
-    let s = model::to_physical(x, h.offset);
-    let top = model::to_physical(Logical(u64::MAX), h.offset);
+    let s = store::places::to_physical(x, h.offset);
+    let top = store::places::to_physical(Logical(u64::MAX), h.offset);
     let from = s.0;
     let to = top.0;
     let n = crate::physical::next_physical(words, h.root, s, value);
@@ -101,7 +101,7 @@ pub fn next(words: &[u64], h: World, x: Logical, value: bool) -> Edge
             if from <= to && to < p {
                 return Edge::Nowhere;
             }
-            let y = model::to_logical(Physical(p), h.offset);
+            let y = store::places::to_logical(Physical(p), h.offset);
             Edge::At(y.0)
         }
         Edge::Nowhere => {
@@ -114,7 +114,7 @@ pub fn next(words: &[u64], h: World, x: Logical, value: bool) -> Edge
                     if to < p {
                         return Edge::Nowhere;
                     }
-                    let y = model::to_logical(Physical(p), h.offset);
+                    let y = store::places::to_logical(Physical(p), h.offset);
                     Edge::At(y.0)
                 }
                 Edge::Nowhere => Edge::Nowhere,
@@ -128,8 +128,8 @@ pub fn previous(words: &[u64], h: World, x: Logical, value: bool) -> Edge
     requires { ⌜ Stands (now words) h ⌝ }
     ensures { λ r. ⌜ Previous (heldIn (now (words .entry)) h) value (x .0) r ⌝ }
 {
-    let s = model::to_physical(x, h.offset);
-    let zero = model::to_physical(Logical(0), h.offset);
+    let s = store::places::to_physical(x, h.offset);
+    let zero = store::places::to_physical(Logical(0), h.offset);
     let from = s.0;
     let to = zero.0;
     let n = crate::physical::previous_physical(words, h.root, s, value);
@@ -138,7 +138,7 @@ pub fn previous(words: &[u64], h: World, x: Logical, value: bool) -> Edge
             if to <= from && p < to {
                 return Edge::Nowhere;
             }
-            let y = model::to_logical(Physical(p), h.offset);
+            let y = store::places::to_logical(Physical(p), h.offset);
             Edge::At(y.0)
         }
         Edge::Nowhere => {
@@ -151,7 +151,7 @@ pub fn previous(words: &[u64], h: World, x: Logical, value: bool) -> Edge
                     if p < to {
                         return Edge::Nowhere;
                     }
-                    let y = model::to_logical(Physical(p), h.offset);
+                    let y = store::places::to_logical(Physical(p), h.offset);
                     Edge::At(y.0)
                 }
                 Edge::Nowhere => Edge::Nowhere,

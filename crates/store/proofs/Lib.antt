@@ -1,4 +1,5 @@
 -- What the proofs of several functions use.
+pub mod Capacities
 pub mod Nodes
 pub mod Reached
 pub mod Freeing

@@ -8,7 +8,6 @@ use native.Mathlib.Omega.{arith}
 use native.Mathlib.Decide.{ℕ-discrete}
 use lib.ListN.{length}
 use Rattle.model.specs.Numbers.{size, split}
-use Rattle.model.specs.Places.{length-capacity}
 use Rattle.run_index.specs.Cells.{cellAt, Room}
 use Rattle.run_index.specs.Tree.{Tree, runs, count, inorder, Rep}
 use Rattle.run_index.specs.Strung.{times, Strung}
@@ -16,6 +15,7 @@ use Rattle.run_index.specs.Search.{Index}
 use Rattle.run_index.proofs.Trees.{δ-same, δ-other}
 use Rattle.run_index.proofs.Bound.{rep-positive, rep-numbered, few-nodes}
 use Rattle.store.specs.declared.Links.{Links}
+use Rattle.store.proofs.Capacities.{length-capacity}
 use Rattle.store.specs.Layout.{capacity}
 use Rattle.store.specs.Soundness.{Chain, Share, Foreign, Still, Kept}
 

@@ -8,7 +8,7 @@ use native.Mathlib.Omega.{arith}
 use lib.ListN.{length}
 use Rattle.model.specs.declared.Run.{Run}
 use Rattle.model.specs.Numbers.{size}
-use Rattle.model.specs.Places.{physicalOf, logicalOf, capacityOf}
+use Rattle.store.specs.Places.{physicalOf, logicalOf}
 use Rattle.model.specs.Positions.{Positions, stretches, mem}
 use Rattle.model.specs.RunList.{Canon, mem-in}
 use Rattle.model.specs.Model
@@ -17,7 +17,7 @@ use Rattle.run_index.specs.Tree.{runs, inorder}
 use Rattle.run_index.specs.Search.{Index, Indexed}
 use Rattle.run_index.proofs.Totals.{runs-length}
 use Rattle.store.specs.declared.World.{World}
-use Rattle.store.specs.Layout.{worldAt, allowance, turned, heldIn, heldBy}
+use Rattle.store.specs.Layout.{capacityOf, worldAt, allowance, turned, heldIn, heldBy}
 use Rattle.store.specs.Soundness.{Share, Standing, Sound}
 use Rattle.store.specs.Bounds.{Counted, TellsRuns}
 use Rattle.store.specs.Turn.{turned-at, turned-logical}

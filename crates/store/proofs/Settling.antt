@@ -7,7 +7,6 @@ use native.Mathlib.Omega.{arith}
 use lib.ListN.{length}
 use Rattle.model.specs.declared.Run.{Run}
 use Rattle.model.specs.Numbers.{size}
-use Rattle.model.specs.Places.{capacityOf}
 use Rattle.model.specs.Positions.{Positions, mem, heldRuns, stretches}
 use Rattle.model.specs.Positions.Runs.{heldRuns-cong}
 use Rattle.model.specs.RunList.{Canon}
@@ -24,7 +23,7 @@ use Rattle.run_index.proofs.Strings.{times-append, length-both, count-numbers, 
 use Rattle.run_index.proofs.Laying.{strung-laid}
 use Rattle.store.specs.declared.World.{World}
 use Rattle.store.specs.declared.Links.{Links}
-use Rattle.store.specs.Layout.{worldAt, Headed, linksOf, capacity, allowance, turned, heldFrom, heldIn, heldBy}
+use Rattle.store.specs.Layout.{capacityOf, worldAt, Headed, linksOf, capacity, allowance, turned, heldFrom, heldIn, heldBy}
 use Rattle.store.specs.Soundness.{Chain, firstOf, lastOf, Share, Still, Kept, Standing, shareOf, Sound}
 use Rattle.store.specs.Bounds.{TellsFirst, TellsLast}
 use Rattle.store.specs.Free.{Becomes}

@@ -7,13 +7,13 @@ use mathlib.Core.List.{List, _∷_}
 use native.Mathlib.Omega.{arith}
 use lib.ListN.{length}
 use Rattle.model.specs.Numbers.{size}
-use Rattle.model.specs.Places.{physicalOf}
 use Rattle.model.specs.Positions.{Positions, oneIf, stretches, mem}
 use Rattle.model.specs.Positions.Runs.{stretches-is}
 use Rattle.run_index.specs.Cells.{cellAt}
 use Rattle.run_index.specs.Tree.{Tree, leaf, node, runs, inorder, Rep, rep-node, At}
 use Rattle.run_index.specs.Search.{Index}
 use Rattle.run_index.proofs.Totals.{runs-length}
+use Rattle.store.specs.Places.{physicalOf}
 use Rattle.store.specs.Layout.{turned}
 use Rattle.store.specs.Bounds.{Counted}
 use Rattle.store.specs.Turn.{stretches-zero, stretches-turned}

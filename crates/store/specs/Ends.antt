@@ -8,10 +8,10 @@ use mathlib.Core.List.{List, [], _∷_}
 use native.Mathlib.Omega.{arith}
 use Rattle.model.specs.declared.Run.{Run}
 use Rattle.model.specs.Numbers.{size, split}
-use Rattle.model.specs.Places.{physicalOf, logicalOf, logical-physical}
 use Rattle.model.specs.Positions.{Positions, heldRuns, mem}
 use Rattle.model.specs.Positions.Runs.{heldRuns-is, heldRuns-canon, mem-heldRuns}
 use Rattle.model.specs.RunList.{Canon, mem-in, mem-above, mem-before}
+use Rattle.store.specs.Places.{physicalOf, logicalOf, logical-physical}
 use Rattle.store.specs.Layout.{turned}
 use Rattle.store.specs.Soundness.{firstOf, lastOf}
 use Rattle.store.specs.Turn.{turned-at, turned-logical}

@@ -1,17 +1,17 @@
 -- How a store lies in its words (document 01, "The store"), and which positions it holds. Assumes nothing: these are definitions.
-use Prim.Native.Nat.{ℕ, zero, suc, _+_, _*_, _≤_}
+use Prim.Native.Nat.{ℕ, zero, suc, _+_, _-_, _*_, _/_, _%_, _≤_}
 use mathlib.Core.Path.{_≡_}
-use mathlib.Core.Bool.{Bool, _&&_}
+use mathlib.Core.Bool.{Bool, cond, _&&_}
 use mathlib.Core.List.{List, [], _∷_, _++_}
-use lib.Dec.{ltb}
+use lib.Dec.{ltb, leb, eqb}
 use lib.ListN.{length}
 use Rattle.model.specs.declared.Run.{Run}
 use Rattle.model.specs.Numbers.{size}
-use Rattle.model.specs.Places.{physicalOf, capacityOf}
 use Rattle.model.specs.Positions.{Positions, run, mem}
 use Rattle.model.specs.Model
 use Rattle.run_index.specs.declared.Node.{Node}
 use Rattle.run_index.specs.Cells.{cellAt}
+use Rattle.store.specs.Places.{physicalOf}
 use Rattle.store.specs.declared.World.{World}
 use Rattle.store.specs.declared.Links.{Links}
 
@@ -46,7 +46,10 @@ pub record Headed (w w′ : List ℕ) (h : World) : Type 0 where
 abbrev pub linksOf : World → Links
 linksOf h = record { tag = h .tag; root = h .root; free = h .free }
 
--- the capacity that the length tells, 0 if no store has that length
+-- a length of 8 × (C + 3) for a capacity C from 1 to 65,536 has that capacity, and any other length 0
+abbrev pub capacityOf : ℕ → ℕ
+capacityOf n = cond (eqb (n % 8) 0 && (leb 4 (n / 8) && leb (n / 8) 65539)) (n / 8 - 3) 0
+
 abbrev pub capacity : List ℕ → ℕ
 capacity w = capacityOf (length w)
 

@@ -11,10 +11,10 @@ use lib.Dec.{leb}
 use borrow.Author.Tests.{leb-true, leb-false}
 use Rattle.model.specs.declared.Run.{Run}
 use Rattle.model.specs.Numbers.{size, split}
-use Rattle.model.specs.Places.{physicalOf, logicalOf}
 use Rattle.model.specs.Positions.{heldRuns, mem}
 use Rattle.model.specs.RunList.{Canon, mem-in, mem-above, mem-under, mem-below, mem-before}
 use Rattle.model.specs.Search.{orElse, lastUpTo, firstFrom}
+use Rattle.store.specs.Places.{physicalOf, logicalOf}
 use Rattle.store.specs.Layout.{turned}
 use Rattle.store.specs.Soundness.{firstOf, lastOf}
 use Rattle.store.specs.Ends.{clash, empty-mem, turned-first, turned-last, turned-none}

@@ -11,10 +11,10 @@ use native.Mathlib.Omega.{arith}
 use lib.ListN.{length}
 use borrow.Author.Tests.{lt-ltb, le-ltb}
 use Rattle.model.specs.Numbers.{size}
-use Rattle.model.specs.Places.{physicalOf, logicalOf, physical-logical}
 use Rattle.model.specs.Positions.{Positions, oneIf, count, find, select, runsIn, countRanges, heldRuns, stretches, firstRun, lastRun, mem}
 use Rattle.model.specs.Positions.Laws.{beq-true, count-cut}
 use Rattle.model.specs.Positions.Runs.{runsIn-length-join, heldRuns-cong}
+use Rattle.store.specs.Places.{physicalOf, logicalOf, physical-logical}
 use Rattle.store.specs.Layout.{worldAt, physicalRuns, turned, heldFrom, heldBy}
 use Rattle.store.specs.Moved.{Alike, move, moveRun, moveRuns, runsIn-moved, count-moved, countRanges-moved, firstRun-moved, lastRun-moved, find-moved, select-moved}
 

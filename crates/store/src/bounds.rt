@@ -3,8 +3,8 @@
 ghost use mathlib.Core.Path.{_≡_};
 ghost use Rattle.run_index.specs.Search.{Indexed};
 ghost use Rattle.store.specs.Bounds.{TellsHeld, TellsFirst, TellsLast, TellsBoth, Counted, TellsRuns};
+use crate::places::Physical;
 use model::Logical;
-use model::Physical;
 use run_index::search::Near;
 
 // Whether a physical position is held.
@@ -25,17 +25,17 @@ pub fn first_held(words: &[u64], root: u64, offset: u64) -> Logical
     requires { ⌜ Indexed (now words) root ⌝ }
     ensures { λ r. ⌜ TellsFirst (now (words .entry)) root offset (r .0) ⌝ }
 {
-    let zero = model::to_physical(Logical(0), offset);
+    let zero = crate::places::to_physical(Logical(0), offset);
     if get_physical(words, root, zero) {
         return Logical(0);
     }
     let n = run_index::search::at_or_after(words, root, zero.0);
     match n {
-        Near::Run(r) => model::to_logical(Physical(r.start), offset),
+        Near::Run(r) => crate::places::to_logical(Physical(r.start), offset),
         Near::None => {
             let m = run_index::search::at_or_after(words, root, 0);
             match m {
-                Near::Run(r) => model::to_logical(Physical(r.start), offset),
+                Near::Run(r) => crate::places::to_logical(Physical(r.start), offset),
                 Near::None => Logical(0),
             }
         }
@@ -47,17 +47,17 @@ pub fn last_held(words: &[u64], root: u64, offset: u64) -> Logical
     requires { ⌜ Indexed (now words) root ⌝ }
     ensures { λ r. ⌜ TellsLast (now (words .entry)) root offset (r .0) ⌝ }
 {
-    let top = model::to_physical(Logical(u64::MAX), offset);
+    let top = crate::places::to_physical(Logical(u64::MAX), offset);
     if get_physical(words, root, top) {
         return Logical(u64::MAX);
     }
     let n = run_index::search::at_or_before(words, root, top.0);
     match n {
-        Near::Run(r) => model::to_logical(Physical(r.end), offset),
+        Near::Run(r) => crate::places::to_logical(Physical(r.end), offset),
         Near::None => {
             let m = run_index::search::at_or_before(words, root, u64::MAX);
             match m {
-                Near::Run(r) => model::to_logical(Physical(r.end), offset),
+                Near::Run(r) => crate::places::to_logical(Physical(r.end), offset),
                 Near::None => Logical(0),
             }
         }
@@ -85,8 +85,8 @@ pub fn logical_runs(words: &[u64], root: u64, offset: u64, runs: u64) -> u64
     if offset == 0 {
         return runs;
     }
-    let zero = model::to_physical(Logical(0), offset);
-    let top = model::to_physical(Logical(u64::MAX), offset);
+    let zero = crate::places::to_physical(Logical(0), offset);
+    let top = crate::places::to_physical(Logical(u64::MAX), offset);
     let cut = both_held(words, root, zero, top);
     let joined = both_held(words, root, Physical(0), Physical(u64::MAX));
     if cut {

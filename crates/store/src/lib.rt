@@ -3,16 +3,46 @@
 // code has a world by value, and the nodes.
 ghost use mathlib.Core.Path.{_≡_};
 ghost use Rattle.run_index.specs.Cells.{Room};
-ghost use Rattle.store.specs.Layout.{worldAt, spareAt, Headed, linksOf, allowance};
+ghost use Rattle.store.specs.Layout.{capacityOf, worldAt, spareAt, Headed, linksOf, allowance};
 ghost use Rattle.store.specs.Soundness.{Sound};
 ghost use Rattle.store.specs.Settle.{Opened, Closable, Closes};
-use model::Store;
 use run_index::Node;
 
 pub mod bounds;
 pub mod free;
+pub mod places;
 pub mod settle;
 pub mod soundness;
+
+// A store, as its length tells of it: the most logical runs that it may hold.
+pub struct Store {
+    pub capacity: u64,
+}
+
+impl Store {
+    pub const MAX_CAPACITY: u64 = 65536;
+
+    pub const MAX_HEIGHT: u64 = 22;
+
+    // The store that a slice of so many words is; its capacity is 0 if no store has that length.
+    pub fn of_length(words: usize) -> Store
+        ensures { λ r. ⌜ r .capacity ≡ capacityOf words ⌝ }
+    {
+        if words % 8 != 0 {
+            return Store { capacity: 0 };
+        }
+        let nodes = words / 8;
+        if nodes < 4 {
+            return Store { capacity: 0 };
+        }
+        let c = (nodes - 3) as u64;
+        if c <= Store::MAX_CAPACITY {
+            Store { capacity: c }
+        } else {
+            Store { capacity: 0 }
+        }
+    }
+}
 
 // What is kept of a set beside its nodes: the tag that its nodes have, the root of its tree, the head of the free chain, the offset, and
 // what the header tells of the tree: held positions modulo 2^64, runs, and the first and the last logical position held, 0 if there is none.

@@ -9,8 +9,8 @@ ghost use Prim.Native.Nat.{_+_, _≤_};
 ghost use Rattle.run_index.specs.Cells.{Room};
 ghost use Rattle.store.specs.Layout.{capacity};
 ghost use Rattle.store.specs.Decision.{insideB, belowOf, runB, heightsB, sumsB, cellB, leafB, freeB, chainB, restB, worldB, soundB, Tells};
+use crate::Store;
 use crate::World;
-use model::Store;
 use run_index::Node;
 
 // Whether a link names a node of the store, or none.

@@ -10,9 +10,9 @@ use borrow.Author.Tests.{eqb-true, eqb-false}
 use lib.ListN.{length}
 use Rattle.model.specs.declared.Run.{Run}
 use Rattle.model.specs.Numbers.{size, split}
-use Rattle.model.specs.Places.{logicalOf}
 use Rattle.model.specs.Positions.{Positions, mem}
 use Rattle.model.specs.RunList.{Canon, mem-in, mem-before}
+use Rattle.store.specs.Places.{logicalOf}
 use Rattle.store.specs.Layout.{physicalRuns}
 use Rattle.store.specs.Ends.{empty-mem}
 use Rattle.streams.specs.declared.source.View.{View}

@@ -6,8 +6,8 @@ use mathlib.Core.Bool.{true, false, false≢true}
 use mathlib.Core.List.{List}
 use native.Mathlib.Omega.{arith}
 use Rattle.model.specs.Numbers.{size}
-use Rattle.model.specs.Places.{logicalOf}
 use Rattle.model.specs.Positions.{Positions}
+use Rattle.store.specs.Places.{logicalOf}
 use Rattle.streams.specs.declared.source.View.{View}
 use Rattle.streams.specs.declared.source.Source.{Source}
 use Rattle.streams.specs.declared.source.Popped.{Popped}

@@ -7,12 +7,12 @@ use mathlib.Core.List.{List, [], _++_, append-nil}
 use native.Mathlib.Omega.{arith}
 use lib.ListN.{length}
 use Rattle.model.specs.Numbers.{size}
-use Rattle.model.specs.Places.{physicalOf}
 use Rattle.model.specs.Positions.{Positions, run, mem}
 use Rattle.model.specs.RunList.{Canon, mem-in, mem-under, mem-above}
 use Rattle.run_index.specs.Tree.{leaf, inorder}
 use Rattle.run_index.proofs.Trees.{leaf-at}
 use Rattle.store.specs.declared.World.{World}
+use Rattle.store.specs.Places.{physicalOf}
 use Rattle.store.specs.Layout.{physicalRuns, heldFrom}
 use Rattle.store.specs.Soundness.{Share, Standing}
 use Rattle.store.proofs.Reached.{tree-physical, kept-low}

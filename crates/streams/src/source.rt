@@ -9,7 +9,7 @@ ghost use lib.ListN.{length};
 ghost use Rattle.store.specs.Layout.{heldFrom, highest};
 ghost use Rattle.streams.specs.Reading.{Rooted, Reads, Descendable, Descends, Poppable, Pops, Stacked, TellsZero, LastReady, FirstReady, TellsLast, TellsFirst, Advanceable, Advances, Covers};
 use model::Logical;
-use model::Physical;
+use store::places::Physical;
 
 // The greatest height of a tree, and so the most nodes of a path.
 pub const HIGHEST: usize = 22;
@@ -97,7 +97,7 @@ fn from_last(words: &[u64], path: &mut [u64; HIGHEST], v: View, depth: u64, p: u
     if x.start > top {
         return over();
     }
-    let a = model::to_logical(Physical(run_index::larger(x.start, p)), v.offset);
+    let a = store::places::to_logical(Physical(run_index::larger(x.start, p)), v.offset);
     if x.end > top {
         return Source {
             live: true,
@@ -107,7 +107,7 @@ fn from_last(words: &[u64], path: &mut [u64; HIGHEST], v: View, depth: u64, p: u
             last: true,
         };
     }
-    let b = model::to_logical(Physical(x.end), v.offset);
+    let b = store::places::to_logical(Physical(x.end), v.offset);
     Source {
         live: true,
         start: a.0,
@@ -139,9 +139,9 @@ fn from_first(words: &[u64], path: &mut [u64; HIGHEST], v: View, depth: u64, p: 
         return from_last(words, path, v, d, 0);
     }
     let x = pop(words, path, depth);
-    let a = model::to_logical(Physical(run_index::larger(x.start, p)), v.offset);
+    let a = store::places::to_logical(Physical(run_index::larger(x.start, p)), v.offset);
     if x.end < u64::MAX {
-        let b = model::to_logical(Physical(x.end), v.offset);
+        let b = store::places::to_logical(Physical(x.end), v.offset);
         return Source {
             live: true,
             start: a.0,
@@ -176,7 +176,7 @@ pub fn open(words: &[u64], path: &mut [u64; HIGHEST], v: View, from: u64) -> Sou
     requires { ⌜ length (now path) ≡ highest ⌝ }
     ensures { λ r. ⌜ Reads (now (words .entry)) (now (path .exit)) v r from (heldFrom (now (words .entry)) (v .root) (v .offset)) ⌝ }
 {
-    let p = model::to_physical(Logical(from), v.offset);
+    let p = store::places::to_physical(Logical(from), v.offset);
     let d = descend(words, path, 0, v.root, p.0);
     if from < v.offset {
         return from_first(words, path, v, d, p.0);
@@ -192,7 +192,7 @@ pub fn advance(words: &[u64], path: &mut [u64; HIGHEST], v: View, s: Source) -> 
     if s.end == u64::MAX {
         return over();
     }
-    let p = model::to_physical(Logical(s.end + 1), v.offset);
+    let p = store::places::to_physical(Logical(s.end + 1), v.offset);
     if !s.last {
         return from_first(words, path, v, s.depth, p.0);
     }

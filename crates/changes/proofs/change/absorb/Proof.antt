@@ -10,10 +10,10 @@ use Rattle.changes.proofs.change.absorb.Statement.{statement}
 use Rattle.changes.proofs.change.absorb.Tie as tie
 
 abbrev Inv-loop : tie.InvT-loop
-Inv-loop words₀ start e at₀ end₀ more₀ words at end more = Absorbing words₀ words at₀ at start e end more
+Inv-loop words₀ from at₀ end₀ more₀ words at end more = Absorbing words₀ words at₀ at from (end₀ .0) (end .0) more
 
 abbrev μ-loop : tie.MeasureT-loop
-μ-loop words₀ start e at₀ end₀ more₀ words at end more = runsOf words (at .root) + bit more
+μ-loop words₀ from at₀ end₀ more₀ words at end more = runsOf words (at .root) + bit more
 
 -- ---- the places on the way, by name
 abbrev start : tie.At-loop Inv-loop μ-loop → tie.Start Inv-loop μ-loop

@@ -33,11 +33,11 @@ abbrev told : tie.Then2 → tie.After-n
 told t = t .before .before .before
 
 -- the run at s or before it
-run-there : (n : tie.After-n) → Found (start (searched n) .args .words .now) (start (searched n) .args .x) (start (searched n) .args .s) (n .n .given .0 .0)
+run-there : (n : tie.After-n) → Found (start (searched n) .args .words .now) (start (searched n) .args .x) (start (searched n) .args .s .0) (n .n .given .0 .0)
 run-there n = found _ (searched n .at-or-before .ensures) _ (n .n .given .1)
 
 -- no run goes on from before s
-trimmed : (c : tie.At-match-came) → Trimmed (start (c .before) .args .words .now) (c .match .words) (start (c .before) .args .x) (start (c .before) .args .s) (start (c .before) .args .e)
+trimmed : (c : tie.At-match-came) → Trimmed (start (c .before) .args .words .now) (c .match .words) (start (c .before) .args .x) (start (c .before) .args .s .0) (start (c .before) .args .e .0)
 trimmed c =
     ⊎-elim (λ x. trimmed-same (x .10) (trimmed-back (found _ (c .before .at-or-before .ensures) _ (x .1 .given .1)) (x .3 .taken) (leb-true _ _ (x .4 .taken)) (x .6 .ensures) (x .9 .left)))
     (⊎-elim

@@ -26,10 +26,10 @@ use Rattle.changes.proofs.change.clear_from.Statement.{statement}
 use Rattle.changes.proofs.change.clear_from.Tie as tie
 
 abbrev Inv-loop : tie.InvT-loop
-Inv-loop words₀ s e at₀ more₀ words at more = ClearingFrom words₀ words at₀ at s e more
+Inv-loop words₀ from to at₀ more₀ words at more = ClearingFrom words₀ words at₀ at from to more
 
 abbrev μ-loop : tie.MeasureT-loop
-μ-loop words₀ s e at₀ more₀ words at more = runsOf words (at .root) + bit more
+μ-loop words₀ from to at₀ more₀ words at more = runsOf words (at .root) + bit more
 
 -- ---- the places on the way, by name
 abbrev start : tie.At-loop Inv-loop μ-loop → tie.Start Inv-loop μ-loop

@@ -51,11 +51,11 @@ abbrev asked₂ : tie.After-absorb2 → tie.After-reaches2
 asked₂ a = a .before .before .before .before
 
 -- the run at s or before it
-run-there : (n : tie.After-n) → Found (start (searched n) .args .words .now) (start (searched n) .args .x) (start (searched n) .args .s) (n .n .given .0 .0)
+run-there : (n : tie.After-n) → Found (start (searched n) .args .words .now) (start (searched n) .args .x) (start (searched n) .args .s .0) (n .n .given .0 .0)
 run-there n = found _ (searched n .at-or-before .ensures) _ (n .n .given .1)
 
 -- no run reaches s from before it
-passed : (c : tie.At-match-came) → Passed (start (c .before) .args .words .now) (start (c .before) .args .x) (start (c .before) .args .s)
+passed : (c : tie.At-match-came) → Passed (start (c .before) .args .words .now) (start (c .before) .args .x) (start (c .before) .args .s .0)
 passed c =
     ⊎-elim (λ x. passed-apart (found _ (c .before .at-or-before .ensures) _ (x .1 .given .1)) _ (x .3 .ensures) (x .4 .left))
     (λ x. passed-none (found-none _ (c .before .at-or-before .ensures) (x .1 .given .1)))
@@ -63,7 +63,7 @@ passed c =
 
 -- and none is reached from e
 alone : (c : tie.At-match2-came)
-    → Alone (start (past (c .before) .before) .args .words .now) (start (past (c .before) .before) .args .x) (start (past (c .before) .before) .args .s) (start (past (c .before) .before) .args .e)
+    → Alone (start (past (c .before) .before) .args .words .now) (start (past (c .before) .before) .args .x) (start (past (c .before) .before) .args .s .0) (start (past (c .before) .before) .args .e .0)
 alone c =
     ⊎-elim (λ x. alone-apart (passed (past (c .before))) _ (c .before .at-or-after .ensures) _ (x .1 .given .1) _ (x .3 .ensures) (x .4 .left))
     (λ x. alone-none (passed (past (c .before))) _ (c .before .at-or-after .ensures) (x .1 .given .1))

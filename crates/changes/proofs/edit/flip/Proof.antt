@@ -14,10 +14,10 @@ use Rattle.changes.proofs.edit.flip.Statement.{statement}
 use Rattle.changes.proofs.edit.flip.Tie as tie
 
 abbrev Inv-loop : tie.InvT-loop
-Inv-loop words₀ limit b last at₀ x₀ more₀ words at x more = Flips words₀ words at₀ at x₀ (b .0) x more
+Inv-loop words₀ limit b last at₀ x₀ more₀ words at x more = Flips words₀ words at₀ at (x₀ .0) (b .0) (x .0) more
 
 abbrev μ-loop : tie.MeasureT-loop
-μ-loop words₀ limit b last at₀ x₀ more₀ words at x more = b .0 - x + bit more
+μ-loop words₀ limit b last at₀ x₀ more₀ words at x more = b .0 - x .0 + bit more
 
 -- where the call started, from where the flip is known to fit
 abbrev start : tie.Else1 Inv-loop μ-loop → tie.Start Inv-loop μ-loop
@@ -32,7 +32,7 @@ few f = leb-true _ _ (sym (f .before .flip-fits .ensures) ∙ not-false _ (f .if
 -- how far the loop has come
 here : (l : tie.At-loop Inv-loop μ-loop)
     → Flipping ((start (l .before)) .args .words .now) (l .loop .words) ((start (l .before)) .pre .0 .0) ((start (l .before)) .args .h) (l .loop .at)
-    ((start (l .before)) .args .limit) ((start (l .before)) .args .a .0) ((start (l .before)) .args .b .0) (l .loop .x) (l .loop .more)
+    ((start (l .before)) .args .limit) ((start (l .before)) .args .a .0) ((start (l .before)) .args .b .0) (l .loop .x .0) (l .loop .more)
 here l = l .loop .inv ((start (l .before)) .pre .0 .0) ((start (l .before)) .args .limit) ((start (l .before)) .pre .0 .1) (few (l .before))
 
 -- where the loop's test was met, from where the stretch is set
@@ -68,8 +68,8 @@ apply-set-requires c κs =
     let t = c .before .before .before .before .before in
     stretch-applies (here (t .before)) (t .loop-test .taken) (c .before .stretch-end .ensures)
 
-add-x : tie.Need-add-x Inv-loop μ-loop
-add-x c = omega (arith, c .if2 .taken, (start ((looped (c .before .before .before)) .before)) .good)
+add-next : tie.Need-add-next Inv-loop μ-loop
+add-next c = omega (arith, c .if2 .taken, (start ((looped (c .before .before .before)) .before)) .good)
 
 loop-less : tie.Need-loop-less Inv-loop μ-loop
 loop-less c = omega (arith, c .before .before .before .before .before .stretch-end .ensures .from, c .if2 .taken)
@@ -106,7 +106,7 @@ flip-spec =
     get-requires
     stretch-end-requires
     apply-set-requires
-    add-x
+    add-next
     loop-less
     loop-again
     loop-less-2

@@ -24,8 +24,8 @@ next-requires c κs = search needs
 enum-known-n : tie.Need-enum-known-n
 enum-known-n c = search needs
 
-sub-result : tie.Need-sub-result
-sub-result c =
+sub-to : tie.Need-sub-to
+sub-to c =
     let n = c .before .before .before .before in
     let r = start n in
     high-end-some (held r) (r .args .value) (n .next .result) (r .pre .1 .1) (n .next .ensures) (c .before .before .n .given .1)
@@ -57,4 +57,4 @@ returns-3 c =
 pub stretch-end-spec : {M : Type 1} → statement M
 stretch-end-spec =
     tie.close
-    (tie.spec next-requires enum-known-n sub-result enum-told returns returns-2 returns-3)
+    (tie.spec next-requires enum-known-n sub-to enum-told returns returns-2 returns-3)

@@ -4,7 +4,7 @@ use mathlib.Core.Path.{refl, sym, _∙_}
 use native.Mathlib.Omega.{arith}
 use borrow.Author.Needs.{needs}
 use borrow.Author.Tests.{not-true, not-false}
-use Rattle.model.specs.Places.{capacityOf}
+use Rattle.store.specs.Layout.{capacityOf}
 use Rattle.interval_bit_set.proofs.Slices.{built-short, built-disordered, built-full}
 use Rattle.interval_bit_set.proofs.runs.admitted.Statement.{statement}
 use Rattle.interval_bit_set.proofs.runs.admitted.Tie as tie

@@ -42,9 +42,9 @@ use denote.Triple.Walked.{says, Stays, stay-none-slice, gave-slice, walkOf, goes
 use denote.Exit.{yes}
 use Rattle.model.specs.declared.Run.{Run}
 use Rattle.model.specs.declared.Completed.{Completed}
-use Rattle.model.specs.Places.{capacityOf}
 use Rattle.model.specs.Call.{Call}
 use Rattle.model.specs.Answers.{completedAnswer}
+use Rattle.store.specs.Layout.{capacityOf}
 use Rattle.core.specs.Met.{Met}
 use Rattle.interval_bit_set.specs.declared.runs.Order.{Order}
 use Rattle.interval_bit_set.specs.declared.runs.Verdict.{Verdict}

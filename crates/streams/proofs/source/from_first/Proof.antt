@@ -2,7 +2,7 @@
 use Prim.Native.Nat.{max}
 use mathlib.Core.Path.{_≡_, sym, _∙_, ap}
 use borrow.Author.Needs.{needs}
-use Rattle.model.specs.Places.{logicalOf}
+use Rattle.store.specs.Places.{logicalOf}
 use Rattle.streams.proofs.Firsts.{first-on, first-long, first-over, first-again, first-last, first-none, first-whole, first-join, first-stop}
 use Rattle.streams.proofs.Starts.{root-below}
 use Rattle.streams.proofs.source.from_first.Statement.{statement}

@@ -3,7 +3,7 @@
 use Prim.Native.Nat.{max}
 use mathlib.Core.Path.{_≡_, _∙_, ap}
 use borrow.Author.Needs.{needs}
-use Rattle.model.specs.Places.{logicalOf}
+use Rattle.store.specs.Places.{logicalOf}
 use Rattle.streams.proofs.Lasts.{last-none, last-on, last-past, last-clipped, last-whole}
 use Rattle.streams.proofs.source.from_last.Statement.{statement}
 use Rattle.streams.proofs.source.from_last.Tie as tie
