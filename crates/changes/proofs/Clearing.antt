@@ -144,10 +144,10 @@ module _ {w w1 : List ℕ} {sh : Share} {y : Links} {s e : ℕ} {more : Bool} {l
       shrunk = canon-shrink size 0 ls (r .start) (r .«end») (e + 1) (r .«end») (rest .0) (omega arith) (omega arith) (omega arith) (becomes-canon around)
 
       -- so it may become what is after e
-      pub first-changeable : Changeable w1 y (r .start) (e + 1) (r .«end»)
+      pub first-changeable : Changeable w1 y (r .start) (r .«end») (e + 1) (r .«end»)
       first-changeable = becomes-changeable ls r (rest .0) around (e + 1) (r .«end») (omega arith) shrunk
 
-      module _ {w2 : List ℕ} (g : Changes w1 w2 y (r .start) (e + 1) (r .«end»)) where
+      module _ {w2 : List ℕ} (g : Changes w1 w2 y (r .start) (r .«end») (e + 1) (r .«end»)) where
         -- they are those of `clear`
         done : run (e + 1) (r .«end») ∷ rest .0 ≡ clear s e us
         done =
@@ -239,7 +239,7 @@ module _ {w w1 : List ℕ} {x y : Links} {s e : ℕ} {more : Bool} (i : Clearing
     clearing-gone g m le = record { so-far = λ c. cleared-gone (i .so-far c) n f r en g m le }
 
     -- stops where it loses its front
-    pub clearing-front : {w2 : List ℕ} → (le : r .start ≤ e) (lt : e < r .«end») → Changes w1 w2 y (r .start) (e + 1) (r .«end») → ClearingFrom w w2 x y s e false
+    pub clearing-front : {w2 : List ℕ} → (le : r .start ≤ e) (lt : e < r .«end») → Changes w1 w2 y (r .start) (r .«end») (e + 1) (r .«end») → ClearingFrom w w2 x y s e false
     clearing-front le lt g = record { so-far = λ c. cleared-front (i .so-far c) n f r en le lt g }
 
     -- stops where it is apart

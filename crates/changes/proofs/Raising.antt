@@ -104,12 +104,12 @@ module _ {w : List ℕ} {x : Links} {s e : ℕ} {r : Run} (q : Found w x s r) (d
       grown-ordered = canon-split size 0 (around .ls) (run (r .start) (far .«end»)) (taken .left) grown-canon .2
 
       -- r may grow
-      grow-changeable : Changeable w1 (far .links) (r .start) (r .start) (far .«end»)
+      grow-changeable : Changeable w1 (far .links) (r .start) (r .«end») (r .start) (far .«end»)
       grow-changeable =
           becomes-changeable (around .ls) (run (r .start) (r .«end»)) (taken .left) (taken .becomes) (r .start) (far .«end») grown-ordered grown-canon
 
       -- with r grown the positions are set
-      grow-held : {w2 : List ℕ} → Changes w1 w2 (far .links) (r .start) (r .start) (far .«end») → Holding w w2 sh (far .links) (setRange s (suc e - s) true (mem (inorder t)))
+      grow-held : {w2 : List ℕ} → Changes w1 w2 (far .links) (r .start) (r .«end») (r .start) (far .«end») → Holding w w2 sh (far .links) (setRange s (suc e - s) true (mem (inorder t)))
       grow-held {w2} g =
           raised m (subst (Becomes w w2 sh (far .links)) (sym grown) (becomes-changed (around .ls) (run (r .start) (r .«end»)) (taken .left) (taken .becomes) (r .start) (far .«end») grown-ordered grown-canon g))
 
@@ -124,11 +124,11 @@ module _ {w : List ℕ} {x : Links} {s e : ℕ} {r : Run} (q : Found w x s r) (d
 
   module _ (lt : r .«end» < e) {w1 : List ℕ} (far : Reach) (ab : Absorbs w w1 x (r .start) e far) where
     -- it may grow
-    pub before-changeable : Settable w x s e true → Changeable w1 (far .links) (r .start) (r .start) (far .«end»)
+    pub before-changeable : Settable w x s e true → Changeable w1 (far .links) (r .start) (r .«end») (r .start) (far .«end»)
     before-changeable p = grow-changeable (p .3) lt far ab
 
     -- and does
-    pub before-grown : {w2 : List ℕ} → Changes w1 w2 (far .links) (r .start) (r .start) (far .«end») → Sets w w2 x (far .links) s e true
+    pub before-grown : {w2 : List ℕ} → Changes w1 w2 (far .links) (r .start) (r .«end») (r .start) (far .«end») → Sets w w2 x (far .links) s e true
     before-grown g sh t ns m = grow-held m lt far ab g
 
   -- or is long enough
@@ -255,12 +255,12 @@ module _ {w : List ℕ} {x : Links} {s e : ℕ} (q : Passed w x s) (n : Near) (f
         stretched-ordered = canon-split size 0 (sides m .ls) (run s (far .«end»)) (taken-after .left) stretched-canon .2
 
         -- r may grow to both sides
-        stretch-changeable : Changeable w1 (far .links) (r .start) s (far .«end»)
+        stretch-changeable : Changeable w1 (far .links) (r .start) (r .«end») s (far .«end»)
         stretch-changeable =
             becomes-changeable (sides m .ls) (run (r .start) (r .«end»)) (taken-after .left) (taken-after .becomes) s (far .«end») stretched-ordered stretched-canon
 
         -- with r grown the positions are set
-        stretch-held : {w2 : List ℕ} → Changes w1 w2 (far .links) (r .start) s (far .«end») → Holding w w2 sh (far .links) (setRange s (suc e - s) true (mem (inorder t)))
+        stretch-held : {w2 : List ℕ} → Changes w1 w2 (far .links) (r .start) (r .«end») s (far .«end») → Holding w w2 sh (far .links) (setRange s (suc e - s) true (mem (inorder t)))
         stretch-held {w2} g =
             raised m (subst (Becomes w w2 sh (far .links)) (sym stretched) (becomes-changed (sides m .ls) (run (r .start) (r .«end»)) (taken-after .left) (taken-after .becomes) s (far .«end») stretched-ordered stretched-canon g))
 
@@ -270,11 +270,11 @@ module _ {w : List ℕ} {x : Links} {s e : ℕ} (q : Passed w x s) (n : Near) (f
 
     module _ (held : d ≡ true) (k : ℕ) (ek : k ≡ max e (r .«end»)) {w1 : List ℕ} (far : Reach) (ab : Absorbs w w1 x (r .start) k far) where
       -- it may grow to both sides
-      pub after-changeable : Settable w x s e true → Changeable w1 (far .links) (r .start) s (far .«end»)
+      pub after-changeable : Settable w x s e true → Changeable w1 (far .links) (r .start) (r .«end») s (far .«end»)
       after-changeable p = stretch-changeable (p .3) held k ek far ab
 
       -- and does
-      pub after-grown : {w2 : List ℕ} → Changes w1 w2 (far .links) (r .start) s (far .«end») → Sets w w2 x (far .links) s e true
+      pub after-grown : {w2 : List ℕ} → Changes w1 w2 (far .links) (r .start) (r .«end») s (far .«end») → Sets w w2 x (far .links) s e true
       after-grown g sh t ns m = stretch-held m held k ek far ab g
 
   -- what is set stands between both sides

@@ -180,11 +180,11 @@ module _ {w : List ℕ} {x : Links} {s e : ℕ} {r : Run} (q : Found w x s r) wh
           canon-shrink size 0 (around m .ls) (r .start) (r .«end») (r .start) (s - 1) (around m .us) (omega arith) (omega arith) (omega arith) (becomes-canon (at-first m))
 
     -- it may lose what is from s on
-    pub back-changeable : Settable w x s e false → Changeable w x (r .start) (r .start) (s - 1)
+    pub back-changeable : Settable w x s e false → Changeable w x (r .start) (r .«end») (r .start) (s - 1)
     back-changeable p =
         becomes-changeable (around (p .3) .ls) r (around (p .3) .us) (at-first (p .3)) (r .start) (s - 1) (omega arith) (back-canon (p .3))
 
-    module _ {w1 : List ℕ} (g : Changes w w1 x (r .start) (r .start) (s - 1)) where
+    module _ {w1 : List ℕ} (g : Changes w w1 x (r .start) (r .«end») (r .start) (s - 1)) where
       module _ {sh : Share} {t : Tree} {ns : List ℕ} (m : MaySet w sh x s e false t ns) where
         -- the runs with r up to s - 1
         back-becomes : Becomes w w1 sh x ((around m .ls ++ (run (r .start) (s - 1) ∷ [])) ++ around m .us)

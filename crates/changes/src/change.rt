@@ -33,7 +33,7 @@ fn raise(words: &mut [u64], x: Links, s: u64, e: u64) -> Links
                 if end < e {
                     let a = absorb(words, x, start, e);
                     let y = a.links;
-                    store::free::resize_run(words, y, start, start, a.end);
+                    store::free::resize_run(words, y, start, end, start, a.end);
                     return y;
                 }
                 return x;
@@ -49,7 +49,7 @@ fn raise(words: &mut [u64], x: Links, s: u64, e: u64) -> Links
             if reaches(e, start) {
                 let a = absorb(words, x, start, run_index::larger(e, end));
                 let y = a.links;
-                store::free::resize_run(words, y, start, s, a.end);
+                store::free::resize_run(words, y, start, end, s, a.end);
                 return y;
             }
         }
@@ -115,7 +115,7 @@ fn clear(words: &mut [u64], x: Links, s: u64, e: u64) -> Links
             let start = r.start;
             let end = r.end;
             if start < s && s <= end {
-                store::free::resize_run(words, x, start, start, s - 1);
+                store::free::resize_run(words, x, start, end, start, s - 1);
                 if e < end {
                     return store::free::add_run(words, x, e + 1, end);
                 }
@@ -141,7 +141,7 @@ fn clear_from(words: &mut [u64], x: Links, s: u64, e: u64) -> Links
                 let end = r.end;
                 if start <= e {
                     if e < end {
-                        store::free::resize_run(words, at, start, e + 1, end);
+                        store::free::resize_run(words, at, start, end, e + 1, end);
                         more = false;
                     } else {
                         at = store::free::remove_run(words, at, start);
