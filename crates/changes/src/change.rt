@@ -31,7 +31,7 @@ fn raise(words: &mut [u64], x: Links, s: u64, e: u64) -> Links
             let end = r.end;
             if reaches(end, s) {
                 if end < e {
-                    let a = absorb(words, x, start, e);
+                    let a = absorb(words, x, start, end, e);
                     let y = a.links;
                     store::free::resize_run(words, y, start, end, start, a.end);
                     return y;
@@ -47,7 +47,7 @@ fn raise(words: &mut [u64], x: Links, s: u64, e: u64) -> Links
             let start = r.start;
             let end = r.end;
             if reaches(e, start) {
-                let a = absorb(words, x, start, run_index::larger(e, end));
+                let a = absorb(words, x, start, end, run_index::larger(e, end));
                 let y = a.links;
                 store::free::resize_run(words, y, start, end, s, a.end);
                 return y;
@@ -74,20 +74,22 @@ pub struct Reach {
     pub end: u64,
 }
 
-// Removes the runs that start after `start` and touch what reaches up to e, one after another, and returns how far the last of them reaches.
-fn absorb(words: &mut [u64], x: Links, start: u64, e: u64) -> Reach
-    requires { ⌜ Absorbable (now words) x start ⌝ }
-    ensures { λ r. ⌜ Absorbs (now (words .entry)) (now (words .exit)) x start e r ⌝ }
+// Removes the runs after start..=b that touch what reaches up to e, one after another, and returns how far the last of them reaches. A run
+// that reaches as far as all before it is the last one, since runs do not touch.
+fn absorb(words: &mut [u64], x: Links, start: u64, b: u64, e: u64) -> Reach
+    requires { ⌜ Absorbable (now words) x start b ⌝ }
+    ensures { λ r. ⌜ Absorbs (now (words .entry)) (now (words .exit)) x start b e r ⌝ }
 {
     let mut at = x;
     let mut end = e;
-    let mut more = start < u64::MAX;
+    let mut more = b < e;
     while more {
         let n = run_index::search::at_or_after(words, at.root, start + 1);
         match n {
             Near::Run(r) => {
                 if reaches(end, r.start) {
                     at = store::free::remove_run(words, at, r.start);
+                    more = r.end < end;
                     end = run_index::larger(end, r.end);
                 } else {
                     more = false;
@@ -119,6 +121,9 @@ fn clear(words: &mut [u64], x: Links, s: u64, e: u64) -> Links
                 if e < end {
                     return store::free::add_run(words, x, e + 1, end);
                 }
+                if e - end <= 1 {
+                    return x;
+                }
             }
         }
         Near::None => {}
@@ -126,7 +131,8 @@ fn clear(words: &mut [u64], x: Links, s: u64, e: u64) -> Links
     clear_from(words, x, s, e)
 }
 
-// Frees the positions from s to e, where no run goes on from before s.
+// Frees the positions from s to e, where no run goes on from before s. The run after one that goes starts two after its end at least, so none
+// is looked for where that is past e.
 fn clear_from(words: &mut [u64], x: Links, s: u64, e: u64) -> Links
     requires { ⌜ Clearable (now words) x s ⌝ }
     ensures { λ r. ⌜ ClearsFrom (now (words .entry)) (now (words .exit)) x r s e ⌝ }
@@ -145,6 +151,7 @@ fn clear_from(words: &mut [u64], x: Links, s: u64, e: u64) -> Links
                         more = false;
                     } else {
                         at = store::free::remove_run(words, at, start);
+                        more = 1 < e - end;
                     }
                 } else {
                     more = false;
