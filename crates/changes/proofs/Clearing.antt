@@ -6,7 +6,8 @@ use mathlib.Core.Bool.{Bool, true, false, true≢false}
 use mathlib.Core.List.{List, [], _∷_, _++_}
 use native.Mathlib.Omega.{arith}
 use lib.ListN.{length, length-append}
-use borrow.Author.Tests.{lt-ltb, le-ltb}
+use lib.Dec.{ltb}
+use borrow.Author.Tests.{lt-ltb, le-ltb, ltb-false}
 use Rattle.model.specs.declared.Run.{Run}
 use Rattle.model.specs.Numbers.{size}
 use Rattle.model.specs.Positions.{run, firstRun}
@@ -121,16 +122,20 @@ module _ {w w1 : List ℕ} {sh : Share} {y : Links} {s e : ℕ} {more : Bool} {l
       removed : Becomes w w2 sh z (ls ++ rest .0)
       removed = becomes-removed ls r (rest .0) around g
 
-      -- it goes where it ends by e
-      cleared-gone : more ≡ true → r .«end» ≤ e → Cleared w w2 sh z s e more ls us
-      cleared-gone m le = record {
+      -- it goes where it ends by e, and is the last to go where the next, two after it at least, starts past e
+      cleared-gone : r .«end» ≤ e → Cleared w w2 sh z s e (ltb 1 (e - r .«end»)) ls us
+      cleared-gone le = record {
         left = rest .0;
         becomes = removed;
         below = d .below;
         from = starts .1;
-        same = sym (clear-gone s e r (rest .0) (starts .0) le) ∙ ap (clear s e) (sym (rest .1)) ∙ d .same;
-        ended = λ (q : more ≡ false). absurd (true≢false (sym m ∙ q));
+        same = gone;
+        ended = λ q.
+            sym (clear-above s e (r .«end» + 2) (rest .0) (omega (arith, starts .0, parts .2)) (omega (arith, ltb-false 1 (e - r .«end») q)) (parts .4)) ∙ gone;
       }
+        where
+          gone : clear s e (rest .0) ≡ clear s e us
+          gone = sym (clear-gone s e r (rest .0) (starts .0) le) ∙ ap (clear s e) (sym (rest .1)) ∙ d .same
 
       -- there are fewer runs
       pub cleared-fewer : runsOf w2 (z .root) < runsOf w1 (y .root)
@@ -144,10 +149,10 @@ module _ {w w1 : List ℕ} {sh : Share} {y : Links} {s e : ℕ} {more : Bool} {l
       shrunk = canon-shrink size 0 ls (r .start) (r .«end») (e + 1) (r .«end») (rest .0) (omega arith) (omega arith) (omega arith) (becomes-canon around)
 
       -- so it may become what is after e
-      pub first-changeable : Changeable w1 y (r .start) (e + 1) (r .«end»)
+      pub first-changeable : Changeable w1 y (r .start) (r .«end») (e + 1) (r .«end»)
       first-changeable = becomes-changeable ls r (rest .0) around (e + 1) (r .«end») (omega arith) shrunk
 
-      module _ {w2 : List ℕ} (g : Changes w1 w2 y (r .start) (e + 1) (r .«end»)) where
+      module _ {w2 : List ℕ} (g : Changes w1 w2 y (r .start) (r .«end») (e + 1) (r .«end»)) where
         -- they are those of `clear`
         done : run (e + 1) (r .«end») ∷ rest .0 ≡ clear s e us
         done =
@@ -234,12 +239,12 @@ clearing-done {w} {w1} {x} {y} m i sh ls us t ns c =
 
 module _ {w w1 : List ℕ} {x y : Links} {s e : ℕ} {more : Bool} (i : ClearingFrom w w1 x y s e more) (n : Near) (f : TellsAfter w1 (y .root) s n) where
   module _ (r : Run) (en : n ≡ Near.Run r) where
-    -- it goes on where the first run goes
-    pub clearing-gone : {w2 : List ℕ} {z : Links} → RemovesRun w1 w2 y z (r .start) → more ≡ true → r .«end» ≤ e → ClearingFrom w w2 x z s e more
-    clearing-gone g m le = record { so-far = λ c. cleared-gone (i .so-far c) n f r en g m le }
+    -- it goes on where the first run goes, unless the next starts past e
+    pub clearing-gone : {w2 : List ℕ} {z : Links} → RemovesRun w1 w2 y z (r .start) → r .«end» ≤ e → ClearingFrom w w2 x z s e (ltb 1 (e - r .«end»))
+    clearing-gone g le = record { so-far = λ c. cleared-gone (i .so-far c) n f r en g le }
 
     -- stops where it loses its front
-    pub clearing-front : {w2 : List ℕ} → (le : r .start ≤ e) (lt : e < r .«end») → Changes w1 w2 y (r .start) (e + 1) (r .«end») → ClearingFrom w w2 x y s e false
+    pub clearing-front : {w2 : List ℕ} → (le : r .start ≤ e) (lt : e < r .«end») → Changes w1 w2 y (r .start) (r .«end») (e + 1) (r .«end») → ClearingFrom w w2 x y s e false
     clearing-front le lt g = record { so-far = λ c. cleared-front (i .so-far c) n f r en le lt g }
 
     -- stops where it is apart

@@ -27,6 +27,12 @@ tree-runs {w} (node (suc n) a b l r) h = ap (runsOf w) (sym (h .linked)) ∙ ap 
 pub runs-of : {w : List ℕ} {g p : ℕ} (t : Tree) → At w g p t → runsOf w p ≡ length (inorder t)
 runs-of t h = tree-runs t h ∙ runs-length t
 
+-- a loop that has fewer runs has less to do, whether it goes on or not
+pub fewer-less : (j k : ℕ) (more more′ : Bool) → more ≡ true → j < k → j + bit more′ < k + bit more
+fewer-less j k true true e lt = omega arith
+fewer-less j k true false e lt = omega arith
+fewer-less j k false more′ e lt = absurd (true≢false (sym e))
+
 -- a loop that has no more to do has less to do
 pub stop-less : (k : ℕ) (more : Bool) → more ≡ true → k + bit false < k + bit more
 stop-less k true e = omega arith

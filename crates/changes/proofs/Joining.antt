@@ -77,6 +77,11 @@ pub take-none : (a b : ℕ) → insert a b [] ≡ run a b ∷ []
 unfolding insert
 take-none a b = refl
 
+-- canonical runs that start two after b stay
+pub insert-first : (a b k : ℕ) (us : List Run) → a ≤ k → b + 2 ≤ k → Canon size k us → insert a b us ≡ run a b ∷ us
+insert-first a b k [] l h c = take-none a b
+insert-first a b k (r ∷ us) l h c = insert-put a b r us (omega (arith, c .0, c .1)) (omega (arith, c .0))
+
 -- ---- what `absorb` has done so far to the runs us after start .. b
 pub record SoFar (w w1 : List ℕ) (sh : Share) (y : Links) (start e reached : ℕ) (more : Bool) (ls us : List Run) (b : ℕ) : Type 0 where
   pub left : List Run
@@ -86,24 +91,16 @@ pub record SoFar (w w1 : List ℕ) (sh : Share) (y : Links) (start e reached : �
 
 -- nothing yet
 pub so-far-none : {w : List ℕ} {sh : Share} {x : Links} {start : ℕ} (e : ℕ) {ls us : List Run} {b : ℕ} {t : Tree} {ns : List ℕ} → Parted w sh x ls (run start b ∷ us) t ns
-    → SoFar w w sh x start e e (ltb start 18446744073709551615) ls us b
+    → SoFar w w sh x start e e (ltb b e) ls us b
 so-far-none {w} {sh} {x} {start} e {ls} {us} {b} p = record {
   left = us;
   becomes = u;
   same = λ a le. refl;
-  ended = λ n a le. ap (insert a e) (last n us after) ∙ take-none a e ∙ ap (λ (vs : List Run). run a e ∷ vs) (sym (last n us after));
+  ended = λ n a le. insert-first a e (b + 2) us (omega (arith, grow-ordered ls us start b (becomes-canon u))) (omega (arith, ltb-false b e n)) (grow-after ls us start b (becomes-canon u));
 }
   where
     u : Becomes w w sh x (ls ++ (run start b ∷ us))
     u = becomes-none (p .kept) (p .runs-are)
-
-    after : Canon size (b + 2) us
-    after = grow-after ls us start b (becomes-canon u)
-
-    last : ltb start 18446744073709551615 ≡ false → (vs : List Run) → Canon size (b + 2) vs → vs ≡ []
-    last n [] c = refl
-    last n (r ∷ vs) c =
-        absurd (omega (arith, ltb-false start 18446744073709551615 n, c .0, c .1, c .2, grow-ordered ls us start b (becomes-canon u)))
 
 module _ {w w1 : List ℕ} {sh : Share} {y : Links} {start e reached : ℕ} {more : Bool} {ls us : List Run} {b : ℕ} (s : SoFar w w1 sh y start e reached more ls us b) where
   -- the run that grows has its ends in order
@@ -145,13 +142,14 @@ module _ {w w1 : List ℕ} {sh : Share} {y : Links} {start e reached : ℕ} {mor
         removed =
             subst (Becomes w w2 sh z) (append-one ls (run start b) (rest .0)) (becomes-removed (ls ++ (run start b ∷ [])) r (rest .0) around g)
 
-        -- it is taken in
-        pub so-far-taken : more ≡ true → r .start ≤ reached + 1 → SoFar w w2 sh z start e (max reached (r .«end»)) more ls us b
-        so-far-taken m le = record {
+        -- it is taken in, and is the last where it reaches as far as all before it
+        pub so-far-taken : r .start ≤ reached + 1 → SoFar w w2 sh z start e (max reached (r .«end»)) (ltb (r .«end») reached) ls us b
+        so-far-taken le = record {
           left = rest .0;
           becomes = removed;
           same = λ a l. take-in start b reached r (rest .0) ordered canon-rest le a l ∙ ap (insert a reached) (sym (rest .1)) ∙ s .same a l;
-          ended = λ (q : more ≡ false). absurd (true≢false (sym m ∙ q));
+          ended = λ q a l.
+              insert-first a (max reached (r .«end»)) (r .«end» + 2) (rest .0) (omega (arith, ordered, canon-rest .0, canon-rest .1)) (omega (arith, ltb-false (r .«end») reached q)) (canon-rest .3);
         }
 
         -- there are fewer runs
@@ -191,19 +189,27 @@ module _ {w w1 : List ℕ} {sh : Share} {y : Links} {start e reached : ℕ} {mor
         nothing = first-none (s .left) (sym (ap nearRun en) ∙ next-is)
 
 -- ---- the invariant of `absorb`
-pub record Absorbing (w w1 : List ℕ) (x y : Links) (start e reached : ℕ) (more : Bool) : Type 0 where
+pub record Absorbing (w w1 : List ℕ) (x y : Links) (start b e reached : ℕ) (more : Bool) : Type 0 where
   pub short : more ≡ true → start < 18446744073709551615
-  pub so-far : {sh : Share} {ls us : List Run} {b : ℕ} {t : Tree} {ns : List ℕ} → Parted w sh x ls (run start b ∷ us) t ns
+  pub so-far : {sh : Share} {ls us : List Run} {t : Tree} {ns : List ℕ} → Parted w sh x ls (run start b ∷ us) t ns
       → SoFar w w1 sh y start e reached more ls us b
 
--- it holds at first
-pub absorbing-none : (w : List ℕ) (x : Links) (start e : ℕ) → Absorbing w w x x start e e (ltb start 18446744073709551615)
-absorbing-none w x start e = record { short = λ m. ltb-true start 18446744073709551615 m; so-far = λ p. so-far-none e p }
+-- the run that grows has its ends in order
+absorbing-ordered : {w : List ℕ} {x : Links} {start b : ℕ} → Absorbable w x start b → start ≤ b
+absorbing-ordered {start = start} {b = b} p =
+    grow-ordered (p .1) (p .2) start b (becomes-canon (becomes-none (p .5 .kept) (p .5 .runs-are)))
 
-module _ {w w1 : List ℕ} {x y : Links} {start e reached : ℕ} {more : Bool} (i : Absorbing w w1 x y start e reached more) (p : Absorbable w x start) where
+-- it holds at first
+pub absorbing-none : {w : List ℕ} {x : Links} {start b : ℕ} (e : ℕ) → e < size → Absorbable w x start b → Absorbing w w x x start b e e (ltb b e)
+absorbing-none {start = start} {b = b} e small p = record {
+  short = λ m. omega (arith, ltb-true b e m, absorbing-ordered p);
+  so-far = λ q. so-far-none e q;
+}
+
+module _ {w w1 : List ℕ} {x y : Links} {start b e reached : ℕ} {more : Bool} (i : Absorbing w w1 x y start b e reached more) (p : Absorbable w x start b) where
   -- what has been done to the runs that the caller has
-  pub here : SoFar w w1 (p .0) y start e reached more (p .1) (p .2) (p .3)
-  here = i .so-far (p .6)
+  pub here : SoFar w w1 (p .0) y start e reached more (p .1) (p .2) b
+  here = i .so-far (p .5)
 
   -- the tree may be searched
   pub absorbing-indexed : Indexed w1 (y .root)
@@ -214,34 +220,34 @@ module _ {w w1 : List ℕ} {x y : Links} {start e reached : ℕ} {more : Bool} (
   absorbing-long = here .becomes .still .long
 
 -- in the end it is the promise
-pub absorbing-done : {w w1 : List ℕ} {x : Links} {r : Reach} {start e : ℕ} {more : Bool} → more ≡ false
-    → Absorbing w w1 x (r .links) start e (r .«end» .0) more → Absorbs w w1 x start e r
-absorbing-done m i sh ls us b t ns p =
+pub absorbing-done : {w w1 : List ℕ} {x : Links} {r : Reach} {start b e : ℕ} {more : Bool} → more ≡ false
+    → Absorbing w w1 x (r .links) start b e (r .«end» .0) more → Absorbs w w1 x start b e r
+absorbing-done m i sh ls us t ns p =
     let s = i .so-far p in
     record { left = s .left; becomes = s .becomes; joined = λ a l. sym (s .same a l) ∙ s .ended m a l }
 
-module _ {w w1 : List ℕ} {x y : Links} {start e reached : ℕ} {more : Bool} (i : Absorbing w w1 x y start e reached more)
+module _ {w w1 : List ℕ} {x y : Links} {start b e reached : ℕ} {more : Bool} (i : Absorbing w w1 x y start b e reached more)
     (n : Near) (f : TellsAfter w1 (y .root) (start + 1) n) where
   module _ (r : Run) (en : n ≡ Near.Run r) (d : Bool) (ed : Reaching reached (r .start) d) where
-    -- it goes on where the next run is taken in
+    -- it goes on where the next run is taken in, unless that reaches as far as all before it
     pub absorbing-taken : {w2 : List ℕ} {z : Links} → RemovesRun w1 w2 y z (r .start) → more ≡ true → d ≡ true → (k : ℕ) → k ≡ max reached (r .«end»)
-        → Absorbing w w2 x z start e k more
+        → Absorbing w w2 x z start b e k (ltb (r .«end») reached)
     absorbing-taken {w2} {z} g m held k ek = record {
-      short = i .short;
-      so-far = λ {sh} {ls} {us} {b} p.
-          subst (λ (j : ℕ). SoFar w w2 sh z start e j more ls us b) (sym ek)
-          (so-far-taken (i .so-far p) n f r en g m (leb-true (r .start) (reached + 1) (sym ed ∙ held)));
+      short = λ _. i .short m;
+      so-far = λ {sh} {ls} {us} p.
+          subst (λ (j : ℕ). SoFar w w2 sh z start e j (ltb (r .«end») reached) ls us b) (sym ek)
+          (so-far-taken (i .so-far p) n f r en g (leb-true (r .start) (reached + 1) (sym ed ∙ held)));
     }
 
     -- and stops where it is apart
-    pub absorbing-apart : d ≡ false → Absorbing w w1 x y start e reached false
+    pub absorbing-apart : d ≡ false → Absorbing w w1 x y start b e reached false
     absorbing-apart off = record {
       short = λ (q : false ≡ true). absurd (true≢false (sym q));
       so-far = λ p. so-far-apart (i .so-far p) n f r en (leb-false (r .start) (reached + 1) (sym ed ∙ off));
     }
 
   -- or there is none
-  pub absorbing-over : n ≡ Near.None → Absorbing w w1 x y start e reached false
+  pub absorbing-over : n ≡ Near.None → Absorbing w w1 x y start b e reached false
   absorbing-over en = record {
     short = λ (q : false ≡ true). absurd (true≢false (sym q));
     so-far = λ p. so-far-over (i .so-far p) n f en;

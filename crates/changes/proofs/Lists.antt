@@ -13,7 +13,7 @@ use Rattle.model.specs.declared.Run.{Run}
 use Rattle.model.specs.Positions.{run, firstRun}
 use Rattle.model.specs.RunList.{Canon, canon-weaken}
 use Rattle.model.specs.Search.{EndBelow, StartFrom, orElse, lastUpTo, firstFrom, canon-ends, canon-split}
-use Rattle.run_index.specs.Order.{insertRun, removeRun, replaceRun, Before, Starts}
+use Rattle.run_index.specs.Order.{insertRun, removeRun, replaceRun, Before, Starts, Has}
 
 -- ---- what the searches tell
 -- the first run from x on is the first of us, where ls start before x and us do not
@@ -73,6 +73,11 @@ module _ (r : Run) (us : List Run) where
   pub starts-at : (ls : List Run) → Starts (r .start) (ls ++ (r ∷ us))
   starts-at [] = inl refl
   starts-at (y ∷ ls) = inr (starts-at ls)
+
+  -- with both its ends
+  pub has-at : (ls : List Run) → Has (r .start) (r .«end») (ls ++ (r ∷ us))
+  has-at [] = inl (refl, refl)
+  has-at (y ∷ ls) = inr (has-at ls)
 
   -- without r
   pub remove-at : (ls : List Run) → Before (r .start) ls → removeRun (r .start) (ls ++ (r ∷ us)) ≡ ls ++ us

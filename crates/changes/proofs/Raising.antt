@@ -24,7 +24,7 @@ use Rattle.changes.specs.declared.change.Reach.{Reach}
 use Rattle.changes.specs.Change.{MaySet, Settable, Holding, Sets, Reaching, Parted, Absorbable, Absorbed, Absorbs}
 use Rattle.changes.proofs.Lists.{first-after, first-some, first-none, Around, ends-before, ends-more, ends-last, append-one, canon-below}
 use Rattle.changes.proofs.Steps.{Found, FoundNone, becomes-none, becomes-after, becomes-changeable, becomes-changed, becomes-addable, becomes-added, set-canon, set-few, set-holding}
-use Rattle.changes.proofs.Joining.{take-none}
+use Rattle.changes.proofs.Joining.{take-none, insert-first}
 
 -- ---- what `insert` makes of runs
 -- runs that end two before a stay
@@ -32,11 +32,6 @@ insert-past : (a b : ℕ) (ls us : List Run) → EndBelow (a - 1) ls → insert 
 insert-past a b [] us h = refl
 insert-past a b (r ∷ ls) us h =
     insert-skip a b r (ls ++ us) (omega (arith, h .1)) ∙ ap (λ (vs : List Run). r ∷ vs) (insert-past a b ls us (h .2))
-
--- canonical runs that start two after b stay
-insert-first : (a b k : ℕ) (us : List Run) → a ≤ k → b + 2 ≤ k → Canon size k us → insert a b us ≡ run a b ∷ us
-insert-first a b k [] l h c = take-none a b
-insert-first a b k (r ∷ us) l h c = insert-put a b r us (omega (arith, c .0, c .1)) (omega (arith, c .0))
 
 -- ---- the runs set
 -- the runs set are those of `insert`
@@ -83,10 +78,10 @@ module _ {w : List ℕ} {x : Links} {s e : ℕ} {r : Run} (q : Found w x s r) (d
     parted = record { kept = m .kept; runs-are = around .is }
 
     -- it ends by e
-    module _ (lt : r .«end» < e) {w1 : List ℕ} (far : Reach) (ab : Absorbs w w1 x (r .start) e far) where
+    module _ (lt : r .«end» < e) {w1 : List ℕ} (far : Reach) (ab : Absorbs w w1 x (r .start) (r .«end») e far) where
       -- what `absorb` leaves
       taken : Absorbed w w1 sh (far .links) (r .start) e (far .«end» .0) (around .ls) (around .us) (r .«end»)
-      taken = ab sh (around .ls) (around .us) (r .«end») t ns parted
+      taken = ab sh (around .ls) (around .us) t ns parted
 
       -- the runs set have r up to what was reached
       grown : insert s e (inorder t) ≡ around .ls ++ (run (r .start) (far .«end» .0) ∷ taken .left)
@@ -104,12 +99,12 @@ module _ {w : List ℕ} {x : Links} {s e : ℕ} {r : Run} (q : Found w x s r) (d
       grown-ordered = canon-split size 0 (around .ls) (run (r .start) (far .«end» .0)) (taken .left) grown-canon .2
 
       -- r may grow
-      grow-changeable : Changeable w1 (far .links) (r .start) (r .start) (far .«end» .0)
+      grow-changeable : Changeable w1 (far .links) (r .start) (r .«end») (r .start) (far .«end» .0)
       grow-changeable =
           becomes-changeable (around .ls) (run (r .start) (r .«end»)) (taken .left) (taken .becomes) (r .start) (far .«end» .0) grown-ordered grown-canon
 
       -- with r grown the positions are set
-      grow-held : {w2 : List ℕ} → Changes w1 w2 (far .links) (r .start) (r .start) (far .«end» .0) → Holding w w2 sh (far .links) (setRange s (suc e - s) true (mem (inorder t)))
+      grow-held : {w2 : List ℕ} → Changes w1 w2 (far .links) (r .start) (r .«end») (r .start) (far .«end» .0) → Holding w w2 sh (far .links) (setRange s (suc e - s) true (mem (inorder t)))
       grow-held {w2} g =
           raised m (subst (Becomes w w2 sh (far .links)) (sym grown) (becomes-changed (around .ls) (run (r .start) (r .«end»)) (taken .left) (taken .becomes) (r .start) (far .«end» .0) grown-ordered grown-canon g))
 
@@ -119,16 +114,16 @@ module _ {w : List ℕ} {x : Links} {s e : ℕ} {r : Run} (q : Found w x s r) (d
         raised m (becomes-none (m .kept) (around .is ∙ sym (joined-with ∙ ap (λ (vs : List Run). around .ls ++ vs) (ap (λ (k : ℕ). insert (r .start) k (around .us)) (omega arith) ∙ insert-first (r .start) (r .«end») (r .«end» + 2) (around .us) (omega (arith, parts .2)) (omega arith) (parts .4)))))
 
   -- it may take in what follows
-  pub before-absorbable : Settable w x s e true → Absorbable w x (r .start)
-  before-absorbable p = (p .0, around (p .3) .ls, around (p .3) .us, r .«end», p .1, p .2, parted (p .3))
+  pub before-absorbable : Settable w x s e true → Absorbable w x (r .start) (r .«end»)
+  before-absorbable p = (p .0, around (p .3) .ls, around (p .3) .us, p .1, p .2, parted (p .3))
 
-  module _ (lt : r .«end» < e) {w1 : List ℕ} (far : Reach) (ab : Absorbs w w1 x (r .start) e far) where
+  module _ (lt : r .«end» < e) {w1 : List ℕ} (far : Reach) (ab : Absorbs w w1 x (r .start) (r .«end») e far) where
     -- it may grow
-    pub before-changeable : Settable w x s e true → Changeable w1 (far .links) (r .start) (r .start) (far .«end» .0)
+    pub before-changeable : Settable w x s e true → Changeable w1 (far .links) (r .start) (r .«end») (r .start) (far .«end» .0)
     before-changeable p = grow-changeable (p .3) lt far ab
 
     -- and does
-    pub before-grown : {w2 : List ℕ} → Changes w1 w2 (far .links) (r .start) (r .start) (far .«end» .0) → Sets w w2 x (far .links) s e true
+    pub before-grown : {w2 : List ℕ} → Changes w1 w2 (far .links) (r .start) (r .«end») (r .start) (far .«end» .0) → Sets w w2 x (far .links) s e true
     before-grown g sh t ns m = grow-held m lt far ab g
 
   -- or is long enough
@@ -231,10 +226,10 @@ module _ {w : List ℕ} {x : Links} {s e : ℕ} (q : Passed w x s) (n : Near) (f
       parted-after = record { kept = m .kept; runs-are = sides m .is ∙ ap (λ (vs : List Run). sides m .ls ++ vs) (rest .1) }
 
       -- and touches e
-      module _ (held : d ≡ true) (k : ℕ) (ek : k ≡ max e (r .«end»)) {w1 : List ℕ} (far : Reach) (ab : Absorbs w w1 x (r .start) k far) where
+      module _ (held : d ≡ true) (k : ℕ) (ek : k ≡ max e (r .«end»)) {w1 : List ℕ} (far : Reach) (ab : Absorbs w w1 x (r .start) (r .«end») k far) where
         -- what `absorb` leaves
         taken-after : Absorbed w w1 sh (far .links) (r .start) k (far .«end» .0) (sides m .ls) (rest .0) (r .«end»)
-        taken-after = ab sh (sides m .ls) (rest .0) (r .«end») t ns parted-after
+        taken-after = ab sh (sides m .ls) (rest .0) t ns parted-after
 
         -- the runs set have r from s up to what was reached
         stretched : insert s e (inorder t) ≡ sides m .ls ++ (run s (far .«end» .0) ∷ taken-after .left)
@@ -255,26 +250,26 @@ module _ {w : List ℕ} {x : Links} {s e : ℕ} (q : Passed w x s) (n : Near) (f
         stretched-ordered = canon-split size 0 (sides m .ls) (run s (far .«end» .0)) (taken-after .left) stretched-canon .2
 
         -- r may grow to both sides
-        stretch-changeable : Changeable w1 (far .links) (r .start) s (far .«end» .0)
+        stretch-changeable : Changeable w1 (far .links) (r .start) (r .«end») s (far .«end» .0)
         stretch-changeable =
             becomes-changeable (sides m .ls) (run (r .start) (r .«end»)) (taken-after .left) (taken-after .becomes) s (far .«end» .0) stretched-ordered stretched-canon
 
         -- with r grown the positions are set
-        stretch-held : {w2 : List ℕ} → Changes w1 w2 (far .links) (r .start) s (far .«end» .0) → Holding w w2 sh (far .links) (setRange s (suc e - s) true (mem (inorder t)))
+        stretch-held : {w2 : List ℕ} → Changes w1 w2 (far .links) (r .start) (r .«end») s (far .«end» .0) → Holding w w2 sh (far .links) (setRange s (suc e - s) true (mem (inorder t)))
         stretch-held {w2} g =
             raised m (subst (Becomes w w2 sh (far .links)) (sym stretched) (becomes-changed (sides m .ls) (run (r .start) (r .«end»)) (taken-after .left) (taken-after .becomes) s (far .«end» .0) stretched-ordered stretched-canon g))
 
     -- it may take in what follows
-    pub after-absorbable : Settable w x s e true → Absorbable w x (r .start)
-    after-absorbable p = (p .0, sides (p .3) .ls, rest (p .3) .0, r .«end», p .1, p .2, parted-after (p .3))
+    pub after-absorbable : Settable w x s e true → Absorbable w x (r .start) (r .«end»)
+    after-absorbable p = (p .0, sides (p .3) .ls, rest (p .3) .0, p .1, p .2, parted-after (p .3))
 
-    module _ (held : d ≡ true) (k : ℕ) (ek : k ≡ max e (r .«end»)) {w1 : List ℕ} (far : Reach) (ab : Absorbs w w1 x (r .start) k far) where
+    module _ (held : d ≡ true) (k : ℕ) (ek : k ≡ max e (r .«end»)) {w1 : List ℕ} (far : Reach) (ab : Absorbs w w1 x (r .start) (r .«end») k far) where
       -- it may grow to both sides
-      pub after-changeable : Settable w x s e true → Changeable w1 (far .links) (r .start) s (far .«end» .0)
+      pub after-changeable : Settable w x s e true → Changeable w1 (far .links) (r .start) (r .«end») s (far .«end» .0)
       after-changeable p = stretch-changeable (p .3) held k ek far ab
 
       -- and does
-      pub after-grown : {w2 : List ℕ} → Changes w1 w2 (far .links) (r .start) s (far .«end» .0) → Sets w w2 x (far .links) s e true
+      pub after-grown : {w2 : List ℕ} → Changes w1 w2 (far .links) (r .start) (r .«end») s (far .«end» .0) → Sets w w2 x (far .links) s e true
       after-grown g sh t ns m = stretch-held m held k ek far ab g
 
   -- what is set stands between both sides

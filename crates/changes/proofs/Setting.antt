@@ -10,16 +10,17 @@ use native.Mathlib.Omega.{arith}
 use Rattle.model.specs.Numbers.{size, split}
 use Rattle.model.specs.Positions.{Positions, setRange, stretches, mem}
 use Rattle.model.specs.After.{set-cong}
-use Rattle.run_index.specs.Tree.{Tree, runs, inorder}
+use Rattle.run_index.specs.Tree.{runs, inorder}
 use Rattle.store.specs.declared.World.{World}
 use Rattle.store.specs.declared.Links.{Links}
 use Rattle.store.specs.Layout.{linksOf, turned, heldIn}
-use Rattle.store.specs.Soundness.{Share, Still, Kept, Standing, Limited}
+use Rattle.store.specs.Soundness.{Share, Kept, Standing, Limited}
 use Rattle.store.specs.Settle.{Became, Refreshes, Resettable}
 use Rattle.store.specs.Turn.{Lies, first-below, parted-length}
 use Rattle.store.proofs.Nodes.{still-then}
 use Rattle.store.proofs.Opening.{physicalIn, standing-held, standing-none, standing-some}
 use Rattle.changes.specs.Change.{MaySet, Settable, Holding, Sets}
+use Rattle.changes.specs.Edits.{Reached}
 use Rattle.changes.specs.Neighbours.{stretches-cong}
 use Rattle.changes.specs.TurnedSet.{turned-cong, turned-set-whole, turned-set-first, turned-set-parted}
 use Rattle.changes.specs.SetRuns.{set-one-more, physical-one-more}
@@ -27,14 +28,6 @@ use Rattle.changes.specs.SetRuns.{set-one-more, physical-one-more}
 -- what the links of a world lead to is kept
 pub links-kept : {w : List ℕ} {s : Share} {h : World} {x : Links} → x ≡ linksOf h → (st : Standing w s h) → Kept w s x (st .tree) (st .free)
 links-kept {w} {s} e st = subst (λ (y : Links). Kept w s y (st .tree) (st .free)) (sym e) (st .kept)
-
--- the links y lead to physical positions in w′ that are P, turned by the offset o; others stand still
-pub record Reached (w w′ : List ℕ) (s : Share) (y : Links) (o : ℕ) (P : Positions) : Type 0 where
-  pub tree : Tree
-  pub nodes : List ℕ
-  pub kept : Kept w′ s y tree nodes
-  pub holds : (x : ℕ) → x < size → turned o (mem (inorder tree)) x ≡ P x
-  pub still : Still w w′ s
 
 -- the world that is brought into agreement holds them
 pub reached-became : {w w′ : List ℕ} {s : Share} {y : Links} {o : ℕ} {P : Positions} {k : World} → Reached w w′ s y o P → Refreshes w′ y o k → Became w w′ s k P

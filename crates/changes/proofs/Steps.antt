@@ -18,7 +18,7 @@ use Rattle.model.specs.Search.{StartFrom, lastUpTo, firstFrom}
 use Rattle.model.specs.Edit.{setTo, setTo-canon, setTo-mem}
 use Rattle.run_index.specs.declared.search.Near.{Near}
 use Rattle.run_index.specs.Tree.{Tree, inorder}
-use Rattle.run_index.specs.Order.{insertRun, removeRun, replaceRun, Before, Starts}
+use Rattle.run_index.specs.Order.{insertRun, removeRun, replaceRun, Before, Starts, Has}
 use Rattle.run_index.specs.Search.{Indexed, nearRun, TellsBefore, TellsAfter}
 use Rattle.run_index.proofs.Totals.{runs-length}
 use Rattle.store.specs.declared.Links.{Links}
@@ -27,7 +27,7 @@ use Rattle.store.specs.Free.{RoomFor, Addable, Becomes, Adds, HasRun, Removable
 use Rattle.changes.specs.Change.{MaySet, Settable, Holding, Sets}
 use Rattle.store.proofs.Nodes.{kept-index, still-then, still-same}
 use Rattle.changes.proofs.Counting.{runsOf, runs-of}
-use Rattle.changes.proofs.Lists.{last-none, Around, last-around, starts-at, remove-at, replace-at, insert-at, canon-before}
+use Rattle.changes.proofs.Lists.{last-none, Around, last-around, starts-at, has-at, remove-at, replace-at, insert-at, canon-before}
 
 -- nothing is done yet
 pub becomes-none : {w : List ℕ} {sh : Share} {x : Links} {t : Tree} {ns : List ℕ} {rs : List Run} → Kept w sh x t ns → inorder t ≡ rs → Becomes w w sh x rs
@@ -80,15 +80,15 @@ module _ {w w1 : List ℕ} {sh : Share} {y : Links} (ls : List Run) (r : Run) (u
     replaced = ap (replaceRun (r .start) (run a b)) (u .runs-are) ∙ replace-at r us (run a b) ls (canon-before size 0 ls r us (becomes-canon u))
 
     -- they may be made
-    alterable : Alterable w1 sh y (r .start) a b (u .tree) (u .nodes)
-    alterable = record { kept = u .kept; starts = has-run .starts; fits = subst (Canon size 0) (sym replaced) c; ordered = o }
+    alterable : Alterable w1 sh y (r .start) (r .«end») a b (u .tree) (u .nodes)
+    alterable = record { kept = u .kept; has = subst (Has (r .start) (r .«end»)) (sym (u .runs-are)) (has-at r us ls); fits = subst (Canon size 0) (sym replaced) c; ordered = o }
 
     -- it may become a .. b
-    pub becomes-changeable : Changeable w1 y (r .start) a b
+    pub becomes-changeable : Changeable w1 y (r .start) (r .«end») a b
     becomes-changeable = (sh, u .tree, u .nodes, alterable)
 
     -- and does
-    pub becomes-changed : {w2 : List ℕ} → Changes w1 w2 y (r .start) a b → Becomes w w2 sh y (ls ++ (run a b ∷ us))
+    pub becomes-changed : {w2 : List ℕ} → Changes w1 w2 y (r .start) (r .«end») a b → Becomes w w2 sh y (ls ++ (run a b ∷ us))
     becomes-changed {w2} f = subst (Becomes w w2 sh y) replaced (becomes-then u (f sh (u .tree) (u .nodes) alterable))
 
 -- a new run a .. b between ls and us, where the nodes are enough

@@ -180,11 +180,11 @@ module _ {w : List ℕ} {x : Links} {s e : ℕ} {r : Run} (q : Found w x s r) wh
           canon-shrink size 0 (around m .ls) (r .start) (r .«end») (r .start) (s - 1) (around m .us) (omega arith) (omega arith) (omega arith) (becomes-canon (at-first m))
 
     -- it may lose what is from s on
-    pub back-changeable : Settable w x s e false → Changeable w x (r .start) (r .start) (s - 1)
+    pub back-changeable : Settable w x s e false → Changeable w x (r .start) (r .«end») (r .start) (s - 1)
     back-changeable p =
         becomes-changeable (around (p .3) .ls) r (around (p .3) .us) (at-first (p .3)) (r .start) (s - 1) (omega arith) (back-canon (p .3))
 
-    module _ {w1 : List ℕ} (g : Changes w w1 x (r .start) (r .start) (s - 1)) where
+    module _ {w1 : List ℕ} (g : Changes w w1 x (r .start) (r .«end») (r .start) (s - 1)) where
       module _ {sh : Share} {t : Tree} {ns : List ℕ} (m : MaySet w sh x s e false t ns) where
         -- the runs with r up to s - 1
         back-becomes : Becomes w w1 sh x ((around m .ls ++ (run (r .start) (s - 1) ∷ [])) ++ around m .us)
@@ -209,6 +209,18 @@ module _ {w : List ℕ} {x : Links} {s e : ℕ} {r : Run} (q : Found w x s r) wh
               ∙ sym (append-one (around m .ls) (run (r .start) (s - 1)) (clear s e (around m .us)));
         };
       }
+
+      -- nor has any run after it, where the next, two after it at least, starts past e
+      pub back-last : r .«end» ≤ e → e - r .«end» ≤ 1 → Sets w w1 x x s e false
+      back-last l near sh t ns m = lowered m (subst (Becomes w w1 sh x) (sym back) (back-becomes m))
+        where
+          back : clear s e (inorder t) ≡ (around m .ls ++ (run (r .start) (s - 1) ∷ [])) ++ around m .us
+          back =
+              set-around m
+              ∙ ap (λ (vs : List Run). around m .ls ++ vs)
+              (clear-back s e r (around m .us) lt le l
+              ∙ ap (λ (vs : List Run). run (r .start) (s - 1) ∷ vs) (clear-above s e (r .«end» + 2) (around m .us) (omega (arith, m .ordered)) (omega arith) (parts m .4)))
+              ∙ sym (append-one (around m .ls) (run (r .start) (s - 1)) (around m .us))
 
       -- it goes on after e
       module _ (l : e < r .«end») where

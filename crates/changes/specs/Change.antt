@@ -46,10 +46,10 @@ pub record Parted (w : List ℕ) (sh : Share) (x : Links) (ls us : List Run) (t 
   pub kept : Kept w sh x t ns
   pub runs-are : inorder t ≡ ls ++ us
 
--- one of the runs starts at `start`
-abbrev pub Absorbable : List ℕ → Links → ℕ → Type 0
-Absorbable w x start =
-    (sh : Share) × (ls : List Run) × (us : List Run) × (b : ℕ) × (t : Tree) × (ns : List ℕ) × Parted w sh x ls (run start b ∷ us) t ns
+-- one of the runs is start .. b
+abbrev pub Absorbable : List ℕ → Links → ℕ → ℕ → Type 0
+Absorbable w x start b =
+    (sh : Share) × (ls : List Run) × (us : List Run) × (t : Tree) × (ns : List ℕ) × Parted w sh x ls (run start b ∷ us) t ns
 
 -- of the runs us after start .. b those are left that do not join what reaches up to e; with the others it reaches up to `last`
 pub record Absorbed (w w′ : List ℕ) (sh : Share) (y : Links) (start e last : ℕ) (ls us : List Run) (b : ℕ) : Type 0 where
@@ -58,9 +58,9 @@ pub record Absorbed (w w′ : List ℕ) (sh : Share) (y : Links) (start e last :
   pub joined : (a : ℕ) → a ≤ start → insert a e us ≡ run a last ∷ left
 
 -- it is so however the runs are parted
-abbrev pub Absorbs : List ℕ → List ℕ → Links → ℕ → ℕ → Reach → Type 0
-Absorbs w w′ x start e r =
-    (sh : Share) (ls us : List Run) (b : ℕ) (t : Tree) (ns : List ℕ) → Parted w sh x ls (run start b ∷ us) t ns
+abbrev pub Absorbs : List ℕ → List ℕ → Links → ℕ → ℕ → ℕ → Reach → Type 0
+Absorbs w w′ x start b e r =
+    (sh : Share) (ls us : List Run) (t : Tree) (ns : List ℕ) → Parted w sh x ls (run start b ∷ us) t ns
     → Absorbed w w′ sh (r .links) start e (r .«end» .0) ls us b
 
 -- the runs are ls, which end before s, and then us, which start at s or after it

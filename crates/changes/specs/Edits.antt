@@ -5,12 +5,14 @@ use mathlib.Core.Bool.{Bool, not}
 use mathlib.Core.List.{List}
 use Rattle.model.specs.declared.Count.{Count}
 use Rattle.model.specs.Numbers.{size, worth}
-use Rattle.model.specs.Positions.{Positions, setRange, stretches, changes, empty}
+use Rattle.model.specs.Positions.{Positions, setRange, stretches, changes, empty, mem}
+use Rattle.run_index.specs.Tree.{Tree, inorder}
 use Rattle.changes.specs.declared.edit.Edit.{Edit}
 use Rattle.changes.specs.declared.edit.Fit.{Fit}
 use Rattle.store.specs.declared.World.{World}
-use Rattle.store.specs.Layout.{heldIn}
-use Rattle.store.specs.Soundness.{Share, Standing, Limited}
+use Rattle.store.specs.declared.Links.{Links}
+use Rattle.store.specs.Layout.{turned, heldIn}
+use Rattle.store.specs.Soundness.{Share, Still, Kept, Standing, Limited}
 use Rattle.store.specs.Settle.{Became}
 
 -- whatever share the world h has of the nodes w, and whatever limit, it became k and holds Q
@@ -36,6 +38,18 @@ pub record MayApply (w : List ℕ) (s : Share) (h : World) (limit a b : ℕ) (v 
 
 abbrev pub Appliable : List ℕ → World → ℕ → ℕ → Bool → Type 0
 Appliable w h a b v = (s : Share) × (limit : ℕ) × MayApply w s h limit a b v
+
+-- the links y lead to physical positions in w′ that are P, turned by the offset o; others stand still
+pub record Reached (w w′ : List ℕ) (s : Share) (y : Links) (o : ℕ) (P : Positions) : Type 0 where
+  pub tree : Tree
+  pub nodes : List ℕ
+  pub kept : Kept w′ s y tree nodes
+  pub holds : (x : ℕ) → x < size → turned o (mem (inorder tree)) x ≡ P x
+  pub still : Still w w′ s
+
+-- whatever share the world h has of the nodes w, and whatever limit, the links y lead to Q
+abbrev pub Places : List ℕ → List ℕ → World → Links → Positions → Type 0
+Places w w′ h y Q = (s : Share) (limit : ℕ) → Limited w s h limit → stretches Q ≤ limit → Reached w w′ s y (h .offset) Q
 
 -- a world's root and sum tell that n positions are held: the sum is kept modulo 2^64, and a world that holds none has no root
 pub record TellsHeld (root ones n : ℕ) : Type 0 where

@@ -33,9 +33,9 @@ fn raise(words: &mut [u64], x: Links, s: Physical, e: Physical) -> Links
             let end = r.end;
             if reaches(Physical(end), s) {
                 if end < to {
-                    let a = absorb(words, x, Physical(start), e);
+                    let a = absorb(words, x, Physical(start), Physical(end), e);
                     let y = a.links;
-                    store::free::resize_run(words, y, start, start, a.end.0);
+                    store::free::resize_run(words, y, start, end, start, a.end.0);
                     return y;
                 }
                 return x;
@@ -53,10 +53,11 @@ fn raise(words: &mut [u64], x: Links, s: Physical, e: Physical) -> Links
                     words,
                     x,
                     Physical(start),
+                    Physical(end),
                     Physical(run_index::larger(to, end)),
                 );
                 let y = a.links;
-                store::free::resize_run(words, y, start, from, a.end.0);
+                store::free::resize_run(words, y, start, end, from, a.end.0);
                 return y;
             }
         }
@@ -83,21 +84,24 @@ pub struct Reach {
     pub end: Physical,
 }
 
-// Removes the runs that start after `start` and touch what reaches up to e, one after another, and returns how far the last of them reaches.
-fn absorb(words: &mut [u64], x: Links, start: Physical, e: Physical) -> Reach
-    requires { ⌜ Absorbable (now words) x (start .0) ⌝ }
-    ensures { λ r. ⌜ Absorbs (now (words .entry)) (now (words .exit)) x (start .0) (e .0) r ⌝ }
+// Removes the runs after start..=b that touch what reaches up to e, one after another, and returns how far the last of them reaches. A run
+// that reaches as far as all before it is the last one, since runs do not touch.
+fn absorb(words: &mut [u64], x: Links, start: Physical, b: Physical, e: Physical) -> Reach
+    requires { ⌜ Absorbable (now words) x (start .0) (b .0) ⌝ }
+    ensures { λ r. ⌜ Absorbs (now (words .entry)) (now (words .exit)) x (start .0) (b .0) (e .0) r ⌝ }
 {
     let from = start.0;
+    let own = b.0;
     let mut at = x;
     let mut end = e;
-    let mut more = from < u64::MAX;
+    let mut more = own < e.0;
     while more {
         let n = run_index::search::at_or_after(words, at.root, from + 1);
         match n {
             Near::Run(r) => {
                 if reaches(end, Physical(r.start)) {
                     at = store::free::remove_run(words, at, r.start);
+                    more = r.end < end.0;
                     end = Physical(run_index::larger(end.0, r.end));
                 } else {
                     more = false;
@@ -127,9 +131,12 @@ fn clear(words: &mut [u64], x: Links, s: Physical, e: Physical) -> Links
             let start = r.start;
             let end = r.end;
             if start < from && from <= end {
-                store::free::resize_run(words, x, start, start, from - 1);
+                store::free::resize_run(words, x, start, end, start, from - 1);
                 if to < end {
                     return store::free::add_run(words, x, to + 1, end);
+                }
+                if to - end <= 1 {
+                    return x;
                 }
             }
         }
@@ -138,7 +145,8 @@ fn clear(words: &mut [u64], x: Links, s: Physical, e: Physical) -> Links
     clear_from(words, x, s, e)
 }
 
-// Frees the positions from s to e, where no run goes on from before s.
+// Frees the positions from s to e, where no run goes on from before s. The run after one that goes starts two after its end at least, so none
+// is looked for where that is past e.
 fn clear_from(words: &mut [u64], x: Links, s: Physical, e: Physical) -> Links
     requires { ⌜ Clearable (now words) x (s .0) ⌝ }
     ensures { λ r. ⌜ ClearsFrom (now (words .entry)) (now (words .exit)) x r (s .0) (e .0) ⌝ }
@@ -155,10 +163,11 @@ fn clear_from(words: &mut [u64], x: Links, s: Physical, e: Physical) -> Links
                 let end = r.end;
                 if start <= to {
                     if to < end {
-                        store::free::resize_run(words, at, start, to + 1, end);
+                        store::free::resize_run(words, at, start, end, to + 1, end);
                         more = false;
                     } else {
                         at = store::free::remove_run(words, at, start);
+                        more = 1 < to - end;
                     }
                 } else {
                     more = false;

@@ -7,11 +7,12 @@ ghost use Rattle.model.specs.Positions.{oneIf, setRange, flipRange, shiftBy, sh
 ghost use Rattle.model.specs.After.{goesOn};
 ghost use Rattle.store.specs.Layout.{heldIn};
 ghost use Rattle.store.specs.Soundness.{Stands, Editable};
-ghost use Rattle.changes.specs.Edits.{Makes, Edited, Fitted, Appliable, Gains, StretchEnd, Empties, Movable, Shiftable, Moves};
+ghost use Rattle.changes.specs.Edits.{Makes, Edited, Fitted, Appliable, Places, Gains, StretchEnd, Empties, Movable, Shiftable, Moves};
 ghost use Rattle.changes.specs.Neighbours.{heldBelow, heldAbove};
 use model::Count;
 use model::Edge;
 use model::Logical;
+use store::Links;
 use store::World;
 use store::places::Physical;
 
@@ -102,10 +103,10 @@ pub fn set_fits(words: &[u64], h: World, limit: u64, a: Logical, b: Logical, val
     before <= limit + t.runs
 }
 
-// Sets a..=b to the value, where what it leaves fits.
-pub fn apply_set(words: &mut [u64], h: World, a: Logical, b: Logical, value: bool) -> World
+// Gives a..=b the value where it lies: at one physical range, or at two if it goes over the place where physical positions end.
+fn place(words: &mut [u64], h: World, a: Logical, b: Logical, value: bool) -> Links
     requires { ⌜ Appliable (now words) h (a .0) (b .0) value ⌝ }
-    ensures { λ r. ⌜ Makes (now (words .entry)) (now (words .exit)) h r (setRange (a .0) (suc (b .0) - a .0) value (heldIn (now (words .entry)) h)) ⌝ }
+    ensures { λ r. ⌜ Places (now (words .entry)) (now (words .exit)) h r (setRange (a .0) (suc (b .0) - a .0) value (heldIn (now (words .entry)) h)) ⌝ }
 {
     let s = store::places::to_physical(a, h.offset);
     let e = store::places::to_physical(b, h.offset);
@@ -113,12 +114,19 @@ pub fn apply_set(words: &mut [u64], h: World, a: Logical, b: Logical, value: boo
     let to = e.0;
     let x = store::links_of(h);
     if from <= to {
-        let y = crate::change::set_physical(words, x, s, e, value);
-        return store::settle::refresh_set(words, y, h, a, b, value);
+        return crate::change::set_physical(words, x, s, e, value);
     }
     let y = crate::change::set_physical(words, x, s, Physical(u64::MAX), value);
-    let z = crate::change::set_physical(words, y, Physical(0), e, value);
-    store::settle::refresh_set(words, z, h, a, b, value)
+    crate::change::set_physical(words, y, Physical(0), e, value)
+}
+
+// Sets a..=b to the value, where what it leaves fits.
+pub fn apply_set(words: &mut [u64], h: World, a: Logical, b: Logical, value: bool) -> World
+    requires { ⌜ Appliable (now words) h (a .0) (b .0) value ⌝ }
+    ensures { λ r. ⌜ Makes (now (words .entry)) (now (words .exit)) h r (setRange (a .0) (suc (b .0) - a .0) value (heldIn (now (words .entry)) h)) ⌝ }
+{
+    let y = place(words, h, a, b, value);
+    store::settle::refresh_set(words, y, h, a, b, value)
 }
 
 // How many positions a world gained, from what it told before and tells after. The sums are kept modulo 2^64, so an empty world that

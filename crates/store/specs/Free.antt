@@ -8,7 +8,7 @@ use Rattle.model.specs.Numbers.{size}
 use Rattle.model.specs.Positions.{run, empty}
 use Rattle.model.specs.RunList.{Canon}
 use Rattle.run_index.specs.Tree.{Tree, inorder}
-use Rattle.run_index.specs.Order.{insertRun, removeRun, replaceRun, Starts}
+use Rattle.run_index.specs.Order.{insertRun, removeRun, replaceRun, Starts, Has}
 use Rattle.store.specs.declared.Links.{Links}
 use Rattle.store.specs.Layout.{capacity, heldBy}
 use Rattle.store.specs.Soundness.{Chain, Share, Still, Kept, Sound}
@@ -61,18 +61,19 @@ Removable w x a = (s : Share) × (t : Tree) × (ns : List ℕ) × HasRun w s x a
 abbrev pub RemovesRun : List ℕ → List ℕ → Links → Links → ℕ → Type 0
 RemovesRun w w′ x y a = (s : Share) (t : Tree) (ns : List ℕ) → HasRun w s x a t ns → Becomes w w′ s y (removeRun a (inorder t))
 
--- a run starts at k, and the runs with a .. b in its place are canonical
-pub record Alterable (w : List ℕ) (s : Share) (x : Links) (k a b : ℕ) (t : Tree) (ns : List ℕ) : Type 0 where
+-- one of the runs is k .. l, and the runs with a .. b in its place are canonical
+pub record Alterable (w : List ℕ) (s : Share) (x : Links) (k l a b : ℕ) (t : Tree) (ns : List ℕ) : Type 0 where
   pub kept : Kept w s x t ns
-  pub starts : Starts k (inorder t)
+  pub has : Has k l (inorder t)
   pub fits : Canon size 0 (replaceRun k (run a b) (inorder t))
   pub ordered : a ≤ b
 
-abbrev pub Changeable : List ℕ → Links → ℕ → ℕ → ℕ → Type 0
-Changeable w x k a b = (s : Share) × (t : Tree) × (ns : List ℕ) × Alterable w s x k a b t ns
+abbrev pub Changeable : List ℕ → Links → ℕ → ℕ → ℕ → ℕ → Type 0
+Changeable w x k l a b = (s : Share) × (t : Tree) × (ns : List ℕ) × Alterable w s x k l a b t ns
 
-abbrev pub Changes : List ℕ → List ℕ → Links → ℕ → ℕ → ℕ → Type 0
-Changes w w′ x k a b = (s : Share) (t : Tree) (ns : List ℕ) → Alterable w s x k a b t ns → Becomes w w′ s x (replaceRun k (run a b) (inorder t))
+abbrev pub Changes : List ℕ → List ℕ → Links → ℕ → ℕ → ℕ → ℕ → Type 0
+Changes w w′ x k l a b =
+    (s : Share) (t : Tree) (ns : List ℕ) → Alterable w s x k l a b t ns → Becomes w w′ s x (replaceRun k (run a b) (inorder t))
 
 -- some tree and some chain are kept
 abbrev pub Keepable : List ℕ → Links → Type 0

@@ -98,12 +98,13 @@ pub fn remove_run(words: &mut [u64], x: Links, start: u64) -> Links
     }
 }
 
-// Makes start..=end of the run that starts at k. Every node stays where it is.
-pub fn resize_run(words: &mut [u64], x: Links, k: u64, start: u64, end: u64)
-    requires { ⌜ Changeable (now words) x k start «end» ⌝ }
-    ensures { λ _. ⌜ Changes (now (words .entry)) (now (words .exit)) x k start «end» ⌝ }
+// Makes start..=end of the run k..=l. Every node stays where it is.
+pub fn resize_run(words: &mut [u64], x: Links, k: u64, l: u64, start: u64, end: u64)
+    requires { ⌜ Changeable (now words) x k l start «end» ⌝ }
+    ensures { λ _. ⌜ Changes (now (words .entry)) (now (words .exit)) x k l start «end» ⌝ }
 {
-    run_index::resize(words, x.root, k, start, end, x.tag);
+    let more = std::num::wrapping_sub_u64(end - start, l - k);
+    run_index::resize(words, x.root, k, start, end, more);
 }
 
 // Makes every node of the tree free.

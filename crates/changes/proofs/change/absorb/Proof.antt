@@ -3,21 +3,22 @@
 use Prim.Native.Nat.{_+_}
 use borrow.Author.Needs.{needs}
 use native.Mathlib.Omega.{arith}
+use lib.Dec.{ltb}
 use Rattle.run_index.specs.Tree.{bit}
-use Rattle.changes.proofs.Counting.{runsOf, stop-less}
+use Rattle.changes.proofs.Counting.{runsOf, fewer-less, stop-less}
 use Rattle.changes.proofs.Joining.{Absorbing, absorbing-none, absorbing-indexed, absorbing-long, absorbing-done, here, next-removable, so-far-fewer, absorbing-taken, absorbing-apart, absorbing-over}
 use Rattle.changes.proofs.change.absorb.Statement.{statement}
 use Rattle.changes.proofs.change.absorb.Tie as tie
 
 abbrev Inv-loop : tie.InvT-loop
-Inv-loop words₀ from at₀ end₀ more₀ words at end more = Absorbing words₀ words at₀ at from (end₀ .0) (end .0) more
+Inv-loop words₀ from own at₀ end₀ more₀ words at end more = Absorbing words₀ words at₀ at from own (end₀ .0) (end .0) more
 
 abbrev μ-loop : tie.MeasureT-loop
-μ-loop words₀ from at₀ end₀ more₀ words at end more = runsOf words (at .root) + bit more
+μ-loop words₀ from own at₀ end₀ more₀ words at end more = runsOf words (at .root) + bit more
 
 -- ---- the places on the way, by name
 abbrev start : tie.At-loop Inv-loop μ-loop → tie.Start Inv-loop μ-loop
-start l = l .before .before
+start l = l .before .before .before
 
 abbrev looped : tie.After-at-or-after Inv-loop μ-loop → tie.At-loop Inv-loop μ-loop
 looped f = f .before .before .before
@@ -33,8 +34,12 @@ told d = d .before .before
 abbrev asked : tie.After-remove-run-arg Inv-loop μ-loop → tie.After-reaches Inv-loop μ-loop
 asked g = g .before .before
 
+-- where it was removed, from where the reach is known
+abbrev removed : tie.After-larger Inv-loop μ-loop → tie.After-remove-run Inv-loop μ-loop
+removed c = c .before .before .before .before .before
+
 loop-holds : tie.Need-loop-holds Inv-loop μ-loop
-loop-holds c = absorbing-none _ _ _ _
+loop-holds c = absorbing-none _ (omega (arith, c .before .before .good)) (c .before .before .pre)
 
 add-at-or-after : tie.Need-add-at-or-after Inv-loop μ-loop
 add-at-or-after c = omega (arith, c .before .before .loop .inv .short (c .before .loop-test .taken))
@@ -59,14 +64,15 @@ larger-requires c κs = tt
 
 loop-less : tie.Need-loop-less Inv-loop μ-loop
 loop-less c =
-    let g = c .before .before .before in
+    let g = removed c in
     let n = told (asked (g .before)) in
     let f = searched n in
-    omega (arith, so-far-fewer (here (looped f .loop .inv) (start (looped f) .pre)) _ (f .at-or-after .ensures) _ (n .n .given .1) (g .remove-run .ensures))
+    fewer-less _ _ (looped f .loop .more) (ltb (n .n .given .0 .0 .«end») (looped f .loop .end .0)) (f .before .before .loop-test .taken)
+    (so-far-fewer (here (looped f .loop .inv) (start (looped f) .pre)) _ (f .at-or-after .ensures) _ (n .n .given .1) (g .remove-run .ensures))
 
 loop-again : tie.Need-loop-again Inv-loop μ-loop
 loop-again c =
-    let g = c .before .before .before in
+    let g = removed c in
     let d = asked (g .before) in
     let n = told d in
     let f = searched n in

@@ -15,6 +15,7 @@ use Rattle.changes.proofs.Trimming.{
   trimmed-below,
   trimmed-back,
   back-changeable,
+  back-last,
   both-addable,
   both-added,
 }
@@ -39,7 +40,7 @@ run-there n = found _ (searched n .at-or-before .ensures) _ (n .n .given .1)
 -- no run goes on from before s
 trimmed : (c : tie.At-match-came) → Trimmed (start (c .before) .args .words .now) (c .match .words) (start (c .before) .args .x) (start (c .before) .args .s .0) (start (c .before) .args .e .0)
 trimmed c =
-    ⊎-elim (λ x. trimmed-same (x .10) (trimmed-back (found _ (c .before .at-or-before .ensures) _ (x .1 .given .1)) (x .3 .taken) (leb-true _ _ (x .4 .taken)) (x .6 .ensures) (x .9 .left)))
+    ⊎-elim (λ x. trimmed-same (x .11) (trimmed-back (found _ (c .before .at-or-before .ensures) _ (x .1 .given .1)) (x .3 .taken) (leb-true _ _ (x .4 .taken)) (x .6 .ensures) (x .9 .left)))
     (⊎-elim
     (λ x. trimmed-same (x .4) (⊎-elim (λ y. trimmed-below (found _ (c .before .at-or-before .ensures) _ (x .1 .given .1)) (leb-false _ _ (y .1 .left))) (λ y. trimmed-from (found _ (c .before .at-or-before .ensures) _ (x .1 .given .1)) (y .left)) (x .3 .came)))
     (λ x. trimmed-same (x .2) (trimmed-none (found-none _ (c .before .at-or-before .ensures) (x .1 .given .1)))))
@@ -85,13 +86,22 @@ clear-from-requires : tie.Need-clear-from-requires
 clear-from-requires c κs = trimmed-clearable (trimmed (c .before)) (start (c .before .before) .pre)
 
 same-length-2 : tie.Need-same-length-2
-same-length-2 c =
+same-length-2 c = search needs
+
+returns-2 : tie.Need-returns-2
+returns-2 c =
+    let g = c .before .before .before .before in
+    let t = g .before .before in
+    back-last (run-there (told t)) (t .before .if1 .taken) (leb-true _ _ (t .if2 .taken)) (g .resize-run .ensures) (c .before .if3 .left) (c .if4 .taken)
+
+same-length-3 : tie.Need-same-length-3
+same-length-3 c =
     let g = c .before .before in
     let m = g .before .before in
     trimmed-long (trimmed m) (g .clear-from .ensures) (start (m .before) .pre)
 
-returns-2 : tie.Need-returns-2
-returns-2 c =
+returns-3 : tie.Need-returns-3
+returns-3 c =
     let g = c .before .before in
     trimmed-cleared (trimmed (g .before .before)) (g .clear-from .ensures)
 
@@ -107,7 +117,9 @@ clear-spec =
     add-run-requires
     same-length
     returns
+    same-length-2
+    returns-2
     enum-told
     clear-from-requires
-    same-length-2
-    returns-2)
+    same-length-3
+    returns-3)

@@ -1,10 +1,11 @@
 -- `clear_from` meets its contract. The loop's invariant: the model's `clear` makes of the runs left what it made of all, and has done so
 -- once no more may come; the measure is how many runs there are, and one while more may come. Assumes nothing.
-use Prim.Native.Nat.{_+_}
+use Prim.Native.Nat.{_+_, _-_}
 use borrow.Author.Needs.{needs}
 use native.Mathlib.Omega.{arith}
+use lib.Dec.{ltb}
 use Rattle.run_index.specs.Tree.{bit}
-use Rattle.changes.proofs.Counting.{runsOf, stop-less}
+use Rattle.changes.proofs.Counting.{runsOf, fewer-less, stop-less}
 use Rattle.changes.proofs.Clearing.{
   ClearingFrom,
   clearing-none,
@@ -97,14 +98,15 @@ loop-less-2 c =
     let g = c .before .before in
     let n = told (g .before .before .before) in
     let f = searched n in
-    omega (arith, cleared-fewer (here (looped f .loop .inv) (start (looped f) .pre)) _ (f .at-or-after .ensures) _ (n .n .given .1) (g .remove-run .ensures))
+    fewer-less _ _ (looped f .loop .more) (ltb 1 (start (looped f) .args .e .0 - n .n .given .0 .0 .«end»)) (f .before .before .loop-test .taken)
+    (cleared-fewer (here (looped f .loop .inv) (start (looped f) .pre)) _ (f .at-or-after .ensures) _ (n .n .given .1) (g .remove-run .ensures))
 
 loop-again-2 : tie.Need-loop-again-2 Inv-loop μ-loop
 loop-again-2 c =
     let g = c .before .before in
     let n = told (g .before .before .before) in
     let f = searched n in
-    clearing-gone (looped f .loop .inv) _ (f .at-or-after .ensures) _ (n .n .given .1) (g .remove-run .ensures) (f .before .before .loop-test .taken) (g .before .before .if2 .left)
+    clearing-gone (looped f .loop .inv) _ (f .at-or-after .ensures) _ (n .n .given .1) (g .remove-run .ensures) (g .before .before .if2 .left)
 
 loop-less-3 : tie.Need-loop-less-3 Inv-loop μ-loop
 loop-less-3 c = stop-less _ _ (searched (c .before .before) .before .before .loop-test .taken)
