@@ -408,7 +408,7 @@ pub fn gaps(tally: &mut Tally, options: Options) -> Outcome {
     let mut turn = 0;
     for base in [0, HALF - AROUND / 2, M - (AROUND - 1)] {
         for held in 0..1_u64 << AROUND {
-            for offset in [0, base.wrapping_sub(1), base + 1, base + AROUND / 2, base + AROUND - 1] {
+            for offset in [0, base.wrapping_sub(1), base + 1, base + AROUND / 2, base + (AROUND - 1)] {
                 turn += 1;
                 if turn % options.stride != 0 {
                     continue;

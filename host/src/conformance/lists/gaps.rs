@@ -44,7 +44,7 @@ pub fn list() -> List {
     for runs in sets {
         list.store(0, 5, runs);
         for range in ranges {
-            for n in [1, 2, 4, HALF, M - 1, M] {
+            for n in [1, 3, HALF, M] {
                 list.say(&format!("gap 0 {range} {n}"));
             }
         }
@@ -73,7 +73,7 @@ fn chances(list: &mut List) {
     for capacity in [2, 5, 12, 64] {
         let runs: Vec<Run> = (0..capacity as u64 / 2).map(|i| [20 * i + 3, 20 * i + 4 + random.below(12)]).collect();
         list.store(0, capacity, &runs);
-        for _ in 0..40 {
+        for _ in 0..24 {
             let kind = random.one_of(&[Kind::Set, Kind::Set, Kind::Flip, Kind::Shift]);
             list.chance(&mut random, kind, 0);
             list.chance(&mut random, Kind::Gap, 0);
