@@ -102,9 +102,10 @@ fn sweep(words: &[u64], h: World, a: Logical, b: Logical, n: u64) -> Edge
         s = crate::source::advance(words, &mut path, v, s);
     }
     if is_gap(words, h, a, b, n, Logical(x)) {
-        return Edge::At(x);
+        Edge::At(x)
+    } else {
+        Edge::Nowhere
     }
-    Edge::Nowhere
 }
 
 // The start of some gap of n in a..=b: the finder's, if it is one, else what the sweep tells.
