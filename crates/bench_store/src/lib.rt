@@ -123,7 +123,7 @@ pub extern "C" fn vizturel_bench_gaps(words: &[u64], first: u64, last: u64, n: u
     if last < first {
         return 0;
     }
-    if n == 0 {
+    if n < 1 {
         return 0;
     }
     let mut left = searches;
