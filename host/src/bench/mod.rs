@@ -3,6 +3,8 @@
 //! What a side answers is compared with the other's outside the timed part, so a wrong answer ends the run.
 
 mod bytes;
+#[cfg(feature = "bench_store")]
+mod gaps;
 mod lists;
 mod measure;
 mod plot;
@@ -14,6 +16,20 @@ mod work;
 use lists::Lists;
 use measure::{Progress, load};
 use plot::Panel;
+
+#[cfg(feature = "bench_store")]
+fn tell_gaps(progress: &Progress) {
+    println!("## Gaps, without the soundness check\n");
+    gaps::measure(progress).tell("ns a search", 1.0);
+}
+
+/// Measures the gap search alone, and prints Markdown.
+#[cfg(feature = "bench_store")]
+pub fn run_gaps() {
+    println!("load {} before\n", load());
+    tell_gaps(&Progress::begin());
+    println!("load {} after", load());
+}
 
 /// Measures everything, prints Markdown, and draws the ratios into a file.
 pub fn run(plot: &str) {
@@ -29,6 +45,8 @@ pub fn run(plot: &str) {
     lists.tell_checks();
     println!("## The calls themselves, without the soundness check (no caller gets these)\n");
     lists.tell_alone();
+    #[cfg(feature = "bench_store")]
+    tell_gaps(&progress);
     println!("## Written sets and maps\n");
     let bytes = bytes::measure(&progress);
     bytes.tell("µs a call", 1e3);
