@@ -1,0 +1,2 @@
+-- What the crates above cite of maps that were cleared.
+pub mod Clearing
