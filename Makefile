@@ -9,7 +9,7 @@
 # make bench              every benchmark, against IntervalBitSet and plain readings of the same words (docs/BENCHMARKS.md)
 # make bench-soundness    how long the soundness check takes, against readings of the same words (docs/BENCHMARKS.md)
 # make bench-growth       how many instructions it takes, at four capacities (needs valgrind)
-.PHONY: run test lib prove host differential differential-long conformance bench bench-soundness bench-growth
+.PHONY: run test lib prove host differential differential-long conformance bench bench-store bench-soundness bench-growth
 ARCHIVE := target/lib/libvizturel.a
 HEADER := target/include/vizturel.h
 # the crates that the archive is made of; exports, the last one, is proved where the archive is written
@@ -50,17 +50,16 @@ differential-long: $(ARCHIVE)
 # No answer is the library's, but the crate that has the oracle links it.
 conformance: $(ARCHIVE)
 	cargo run --offline --release --manifest-path host/Cargo.toml --bin conformance -- conformance
-bench: $(ARCHIVE)
-	cargo run --offline --profile fast --manifest-path host/Cargo.toml --bin bench -- docs/benchmarks.svg
+bench: $(ARCHIVE) bench-store
+	cargo run --offline --profile fast --features bench_store --manifest-path host/Cargo.toml --bin bench -- docs/benchmarks.svg
 	@$(MAKE) --no-print-directory bench-soundness
-bench-soundness:
+bench-store:
 	@mkdir -p target
-	rt staticlib bench_store > target/bench-soundness.log 2>&1 || { cat target/bench-soundness.log; exit 1; }
+	rt staticlib bench_store > target/bench-store.log 2>&1 || { cat target/bench-store.log; exit 1; }
+bench-soundness: bench-store
 	rustc --edition 2021 -C opt-level=3 -L native=target/staticlib -l static=bench_store -o target/bench-soundness bench/soundness.rs
 	target/bench-soundness
-bench-growth:
-	@mkdir -p target
-	rt staticlib bench_store > target/bench-soundness.log 2>&1 || { cat target/bench-soundness.log; exit 1; }
+bench-growth: bench-store
 	gcc -O2 -Wall -Wextra -o target/bench-growth bench/growth.c target/staticlib/libbench_store.a
 	@for c in 1024 2048 8192 65536; do \
 	    valgrind --tool=callgrind --callgrind-out-file=/dev/null --toggle-collect=vizturel_bench_is_sound target/bench-growth $$c 2>&1 \

@@ -140,6 +140,12 @@ class Store:
         self.look()
         return len(stretches(self.runs, first, last, value))
 
+    def gap(self, first, last, length):
+        """The start of some gap: here of the highest, since any is right."""
+        self.look()
+        require(length > 0, 9)
+        return max((end - length + 1 for start, end in free(self.runs, first, last) if end - start + 1 >= length), default=None)
+
     def ranges(self, first, last, value):
         self.look()
         return (first, last, value) if first <= last else (1, 0, value)
@@ -232,12 +238,12 @@ def fill_front(room, due):
 
 ARGUMENTS = {
     "words": "n", "spoil": "", "new": "", "set": "rn", "flip": "r", "get": "n", "run_at": "n", "find": "rn", "count": "rn",
-    "select": "rnn", "count_ranges": "rn", "ranges": "rn", "draw_front": "nnn", "draw_back": "nnn", "shift": "nn", "shifted": "snn",
+    "select": "rnn", "count_ranges": "rn", "gap": "rn", "ranges": "rn", "draw_front": "nnn", "draw_back": "nnn", "shift": "nn", "shifted": "snn",
     "combine": "wss", "not": "s", "eq": "s", "load": "b", "build": "l", "write_set": "n", "read_map": "nnb", "write_map": "nnn",
     "fill": "nn",
 }
 ANSWERS = {
-    "set": "number", "get": "value", "run_at": "run", "find": "at", "count": "number", "select": "at", "count_ranges": "number",
+    "set": "number", "get": "value", "run_at": "run", "find": "at", "count": "number", "select": "at", "count_ranges": "number", "gap": "at",
     "ranges": "listing", "draw_front": "drawn", "draw_back": "drawn", "eq": "value", "write_set": "written", "read_map": "number",
     "write_map": "written", "fill": "number",
 }

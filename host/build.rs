@@ -1,4 +1,5 @@
-//! Links the proved archive, which `make lib` writes, or the one in the folder that VIZTUREL_ARCHIVE names.
+//! Links the proved archive, which `make lib` writes, or the one in the folder that VIZTUREL_ARCHIVE names; with the feature `bench_store`
+//! also the archive of that crate.
 
 use std::env;
 use std::path::{Path, PathBuf};
@@ -11,6 +12,12 @@ fn main() {
     println!("cargo:rerun-if-changed={}", archive.display());
     println!("cargo:rustc-link-search=native={}", folder.display());
     println!("cargo:rustc-link-lib=static=vizturel");
+    if env::var_os("CARGO_FEATURE_BENCH_STORE").is_some() {
+        let folder = Path::new(env!("CARGO_MANIFEST_DIR")).join("../target/staticlib");
+        println!("cargo:rerun-if-changed={}", folder.join("libbench_store.a").display());
+        println!("cargo:rustc-link-search=native={}", folder.display());
+        println!("cargo:rustc-link-lib=static=bench_store");
+    }
     if !archive.exists() {
         println!("cargo:warning=no {}: write it by 'make lib'", archive.display());
     }

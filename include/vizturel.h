@@ -6,7 +6,7 @@
  * call must not overlap, except that a store that is only read may be lent twice.
  *
  * REFUSALS. Every answer begins with a refusal's number, or is one; 0 means that the call was done. A refused call has changed no word and no
- * byte. Where several would hold, the first of this order is given: 1 of any store, 7 of any store, 6, 3 (under 5 bytes), 4, 3, 5, 8, 2.
+ * byte. Where several would hold, the first of this order is given: 1 of any store, 7 of any store, 9, 6, 3 (under 5 bytes), 4, 3, 5, 8, 2.
  *
  *   1  a store's length is not 8 * (C + 3) words for a C from 1 to 65,536
  *   2  the output is shorter than what is due
@@ -16,11 +16,15 @@
  *   6  a window of length 0 or above 524,288, or past 2^64; or a map that has not (length + 7) / 8 bytes
  *   7  a store that the call reads is not sound
  *   8  the result would have more than C runs
+ *   9  a gap of length 0 is asked for
  *
  * A store that is only overwritten (new, load, build, combine, not, shifted) may hold anything, and is refused with 1 alone.
  *
  * THE SOUNDNESS CHECK. Every call that reads a store first passes over all its nodes, used and free ones. The cost goes by the capacity C, not by
  * the runs that are held. vizturel_frame makes many calls after one soundness check.
+ *
+ * LOCKSTEP. Two stores of one capacity that hold the same positions answer every call alike, except vizturel_gap: which gap it gives is left open.
+ * So builds that have to stay in step must not call vizturel_gap.
  *
  * RESERVED NUMBERS. Where numbers have names here (call numbers, kinds of bounds, operations), the named ones stay as they are. All others are
  * reserved, and so is the last word of a call's record, which must be 0: a later version may give them a meaning. This version takes a reserved
@@ -52,7 +56,8 @@ enum vizturel_refusal {
     VIZTUREL_RUN_ORDER = 5,
     VIZTUREL_WINDOW = 6,
     VIZTUREL_UNSOUND = 7,
-    VIZTUREL_CAPACITY = 8
+    VIZTUREL_CAPACITY = 8,
+    VIZTUREL_GAP_LENGTH = 9
 };
 
 /* Kinds of bounds: none, one that includes its value, one that excludes it. Other numbers are reserved. */
@@ -160,7 +165,7 @@ uint64_t vizturel_flip(uint64_t *words, size_t count, vizturel_bound lower, vizt
 /* Moves every position by the distance, up where left is not 0, else down; what leaves 0 .. M is dropped. Refused with 1, 7. */
 uint64_t vizturel_shift(uint64_t *words, size_t count, uint64_t distance, uint64_t left);
 
-/* ---- reports. Each is refused with 1, 7. */
+/* ---- reports. Each is refused with 1, 7; gap and fill also as is said there. */
 
 /* The value of position x. */
 vizturel_tested vizturel_get(const uint64_t *words, size_t count, uint64_t x);
@@ -189,6 +194,13 @@ vizturel_drawn vizturel_draw_front(const uint64_t *words, size_t count, uint64_t
 /* Draws the last one. */
 vizturel_drawn vizturel_draw_back(const uint64_t *words, size_t count, uint64_t first, uint64_t last, uint64_t value);
 
+/* The start of some gap of a range: n neighbouring positions, all in the range and all free. Not found exactly if the range has none.
+ *
+ * NOT FOR LOCKSTEP BUILDS. Which gap is given, where there are several, is left open: two builds that hold the same positions may get different
+ * ones, and so may two versions of the library. The call is for tools that run offline, such as a level editor; it is in no frame.
+ * Refused with 1, 7, 9. */
+vizturel_found vizturel_gap(const uint64_t *words, size_t count, vizturel_bound lower, vizturel_bound upper, uint64_t n);
+
 /* 1000 * held positions / window length, rounded down. Refused with 1, 7, 6. */
 vizturel_numbered vizturel_fill(const uint64_t *words, size_t count, uint64_t base, uint64_t length);
 
@@ -209,8 +221,8 @@ uint64_t vizturel_shifted(uint64_t *words, size_t count, uint64_t distance, uint
 /* ---- written sets, run lists and maps
  *
  * Written sets travel between builds; the words of a store do not, since its offset and the arrangement of its nodes are each build's own. Two
- * stores of one capacity C that hold the same positions answer every later list of equal calls alike. So all builds of a match need the same C,
- * and a late player has to be told it beside the written set, which does not have it. */
+ * stores of one capacity C that hold the same positions answer every later list of equal calls alike, vizturel_gap aside. So all builds of a match
+ * need the same C, and a late player has to be told it beside the written set, which does not have it. */
 
 /* Makes the store that a written set tells. Refused with 1, 3, 4, 3, 5, 8. */
 uint64_t vizturel_load(uint64_t *words, size_t count, const uint8_t *bytes, size_t bytes_count);

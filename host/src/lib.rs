@@ -37,7 +37,7 @@ pub mod oracle;
 pub mod play;
 mod raw;
 
-/// Why a call was refused. The numbers are the scope document's.
+/// Why a call was refused. The numbers are those of the project's README.
 #[derive(Clone, Copy, Debug, PartialEq, Eq)]
 pub enum Refusal {
     /// A store's length is not 8 × (C + 3) words for a capacity C from 1 to 65,536.
@@ -56,10 +56,12 @@ pub enum Refusal {
     Unsound = 7,
     /// The result would have more runs than the capacity of the store that receives it.
     Capacity = 8,
+    /// A gap of length 0 is asked for.
+    GapLength = 9,
 }
 
 impl Refusal {
-    const ALL: [Refusal; 8] = [
+    const ALL: [Refusal; 9] = [
         Refusal::StoreLength,
         Refusal::OutputShort,
         Refusal::SetLength,
@@ -68,9 +70,10 @@ impl Refusal {
         Refusal::Window,
         Refusal::Unsound,
         Refusal::Capacity,
+        Refusal::GapLength,
     ];
 
-    /// The number of the refusal, from 1 to 8.
+    /// The number of the refusal, from 1 to 9.
     pub fn number(self) -> u64 {
         self as u64
     }
@@ -87,6 +90,7 @@ impl fmt::Display for Refusal {
             Refusal::Window => "a window is empty, too long or past 2^64, or a map's length is not the window's",
             Refusal::Unsound => "a store that the call reads is not sound",
             Refusal::Capacity => "the result would have more runs than the capacity",
+            Refusal::GapLength => "a gap of length 0 is asked for",
         })
     }
 }
@@ -393,6 +397,33 @@ impl<S: AsRef<[u64]>> Set<S> {
         let w = self.words();
         let Listing { first, last, value } = *listing;
         drawn(listing, unsafe { raw::vizturel_draw_back(w.as_ptr(), w.len(), first, last, value.into()) })
+    }
+
+    /// The start of some gap of a range: n neighbouring positions, all in the range and all free. None exactly if the range has none.
+    /// Refused with 9 where n is 0.
+    ///
+    /// **Lockstep builds must not call this.** Which gap is given, where there are several, is left open: two sets that hold the same
+    /// positions may answer differently, and so may two versions of the library. It is for tools that run offline, such as a level
+    /// editor, and no [`frame`] has it.
+    ///
+    /// ```
+    /// use vizturel::{Refusal, SetBuf};
+    /// # fn main() -> Result<(), vizturel::Refusal> {
+    /// let mut slots = SetBuf::with_capacity(8)?;
+    /// slots.set(2..8, true)?;
+    /// slots.set(10..15, true)?;
+    /// // In 0..12 the positions 0, 1, 8 and 9 are free: two gaps of two, and none of three.
+    /// let x = slots.gap(0..12, 2)?.expect("there is a gap");
+    /// assert!(x == 0 || x == 8);
+    /// assert_eq!(slots.gap(0..12, 3), Ok(None));
+    /// assert_eq!(slots.gap(0..12, 0), Err(Refusal::GapLength));
+    /// # Ok(())
+    /// # }
+    /// ```
+    pub fn gap(&self, range: impl RangeBounds<u64>, n: u64) -> Answer<Option<u64>> {
+        let w = self.words();
+        let (lower, upper) = bounds(range);
+        position(unsafe { raw::vizturel_gap(w.as_ptr(), w.len(), lower, upper, n) })
     }
 
     /// 1000 × held positions / n in the window of n positions from base on, rounded down. Refused with 6.

@@ -68,6 +68,7 @@ unsafe extern "C" {
     pub fn vizturel_ranges(words: *const u64, count: usize, lower: Bound, upper: Bound, value: u64) -> Listed;
     pub fn vizturel_draw_front(words: *const u64, count: usize, first: u64, last: u64, value: u64) -> Drawn;
     pub fn vizturel_draw_back(words: *const u64, count: usize, first: u64, last: u64, value: u64) -> Drawn;
+    pub fn vizturel_gap(words: *const u64, count: usize, lower: Bound, upper: Bound, n: u64) -> Position;
     pub fn vizturel_fill(words: *const u64, count: usize, base: u64, n: u64) -> Number;
     pub fn vizturel_combine(
         words: *mut u64,

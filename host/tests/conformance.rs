@@ -37,7 +37,8 @@ fn the_library_answers_every_list() {
             assert_eq!(text::write(&call), rest.take(lines).collect::<Vec<_>>().join("\n"), "{at}");
             let due = right.by_ref().take(lines).collect::<Vec<_>>().join("\n");
             let before = library.stores.clone();
-            assert_eq!(text::tell(&call, &library.answer(&call)), due, "{at}");
+            let answer = text::tell(&call, &library.answer(&call));
+            assert!(text::admits(&due, &answer), "{at}: answered {answer}, and due is {due}");
             assert!(!due.starts_with("refused") || library.stores == before, "{at}: refused, and changed words");
             line += lines;
         }

@@ -1,5 +1,5 @@
-/* The library through include/vizturel.h: the sixteen cases of the scope document, each refusal, that a refused call changes nothing, and
- * calls by lists. Compiled as C and as C++. Prints what failed, and last 'N passed, M failed'. */
+/* The library through include/vizturel.h: the sixteen cases of the scope document, the gap search, each refusal, that a refused call changes
+ * nothing, and calls by lists. Compiled as C and as C++. Prints what failed, and last 'N passed, M failed'. */
 #include <stdio.h>
 #include <stdlib.h>
 #include <string.h>
@@ -192,6 +192,83 @@ static void cases(void) {
     memcpy(kept, s, sizeof s);
     CHECK(vizturel_load(s, WORDS, bytes, sizeof bytes) == VIZTUREL_RUN_ORDER);
     CHECK(memcmp(kept, s, sizeof s) == 0);
+}
+
+/* whether f is the start of n neighbouring positions of first .. last that are all free; which of them is left open */
+static int is_gap(vizturel_found f, const uint64_t *w, size_t count, uint64_t first, uint64_t last, uint64_t n) {
+    uint64_t x = f.position;
+    return f.refusal == 0 && f.found == 1 && first <= x && x <= last && last - x >= n - 1 &&
+           is_count(vizturel_count(w, count, IN(x), IN(x + (n - 1)), 0), n);
+}
+
+static void gaps(void) {
+    vizturel_found f;
+    uint64_t n;
+
+    /* an empty set: gaps of M start at 0 and at 1 */
+    vizturel_new(s, WORDS);
+    CHECK(is_gap(vizturel_gap(s, WORDS, ALL, ALL, M), s, WORDS, 0, M, M));
+    CHECK(is_gap(vizturel_gap(s, WORDS, ALL, ALL, 1), s, WORDS, 0, M, 1));
+    CHECK(at(vizturel_gap(s, WORDS, IN(1), ALL, M), 1));
+    CHECK(at(vizturel_gap(s, WORDS, ALL, EX(M), M), 0));
+    CHECK(nowhere(vizturel_gap(s, WORDS, IN(1), EX(M), M)));
+    CHECK(at(vizturel_gap(s, WORDS, IN(M), IN(M), 1), M));
+    CHECK(nowhere(vizturel_gap(s, WORDS, IN(M), IN(M), 2)));
+
+    /* a full set */
+    vizturel_set(s, WORDS, ALL, ALL, 1);
+    CHECK(nowhere(vizturel_gap(s, WORDS, ALL, ALL, 1)));
+    CHECK(nowhere(vizturel_gap(s, WORDS, ALL, ALL, M)));
+
+    /* a gap at 0, and one that ends at M */
+    only(s, WORDS, 4, M - 3);
+    CHECK(at(vizturel_gap(s, WORDS, ALL, ALL, 4), 0));
+    CHECK(nowhere(vizturel_gap(s, WORDS, ALL, ALL, 5)));
+    CHECK(is_gap(vizturel_gap(s, WORDS, ALL, ALL, 3), s, WORDS, 0, M, 3));
+    CHECK(at(vizturel_gap(s, WORDS, IN(1), ALL, 3), 1) || at(vizturel_gap(s, WORDS, IN(1), ALL, 3), M - 2));
+    CHECK(at(vizturel_gap(s, WORDS, IN(2), ALL, 3), M - 2));
+    CHECK(at(vizturel_gap(s, WORDS, EX(1), EX(M), 2), 2) || at(vizturel_gap(s, WORDS, EX(1), EX(M), 2), M - 2));
+
+    /* neither past the range nor on a held position, and none though the last free run is too short by one */
+    only(s, WORDS, 10, 19);
+    put(s, WORDS, 30, 40, 1);
+    CHECK(at(vizturel_gap(s, WORDS, IN(10), IN(39), 10), 20));
+    CHECK(nowhere(vizturel_gap(s, WORDS, IN(10), IN(39), 11)));
+    CHECK(at(vizturel_gap(s, WORDS, IN(10), IN(50), 11), 40));
+    CHECK(nowhere(vizturel_gap(s, WORDS, IN(10), IN(49), 11)));
+    CHECK(at(vizturel_gap(s, WORDS, IN(15), IN(24), 5), 20));
+    CHECK(nowhere(vizturel_gap(s, WORDS, IN(15), IN(23), 5)));
+
+    /* After both shifts position 8 lies at the start of the physical positions, and 7 at their end: gaps go over that place. */
+    only(s, WORDS, 0, 2);
+    put(s, WORDS, 20, 25, 1);
+    CHECK(vizturel_shift(s, WORDS, 12, 1) == 0 && vizturel_shift(s, WORDS, 4, 0) == 0);
+    CHECK(is_count(put(s, WORDS, 0, 2, 1), 2));
+    /* held are 0 1, 8 9 10 and 28 .. 32 */
+    for (n = 1; n <= 17; n++) CHECK(is_gap(vizturel_gap(s, WORDS, ALL, IN(32), n), s, WORDS, 0, 32, n));
+    CHECK(nowhere(vizturel_gap(s, WORDS, ALL, IN(32), 18)));
+    CHECK(is_gap(vizturel_gap(s, WORDS, ALL, ALL, 18), s, WORDS, 0, M, 18));
+    CHECK(vizturel_set(s, WORDS, IN(8), IN(10), 0).low == 3);
+    CHECK(at(vizturel_gap(s, WORDS, ALL, IN(30), 26), 2));
+    CHECK(nowhere(vizturel_gap(s, WORDS, ALL, IN(30), 27)));
+
+    /* empty and reversed ranges have none */
+    vizturel_new(s, WORDS);
+    CHECK(nowhere(vizturel_gap(s, WORDS, IN(6), EX(6), 1)));
+    CHECK(nowhere(vizturel_gap(s, WORDS, IN(9), IN(2), 1)));
+    CHECK(nowhere(vizturel_gap(s, WORDS, EX(M), ALL, 1)));
+    CHECK(nowhere(vizturel_gap(s, WORDS, ALL, EX(0), 1)));
+
+    /* 9, after 1 and 7; a refusal has zeros beside it, and no word has changed */
+    memcpy(kept, s, sizeof s);
+    f = vizturel_gap(s, WORDS, ALL, ALL, 0);
+    CHECK(f.refusal == VIZTUREL_GAP_LENGTH && f.found == 0 && f.position == 0);
+    CHECK(vizturel_gap(s, WORDS, IN(6), EX(6), 0).refusal == VIZTUREL_GAP_LENGTH);
+    CHECK(vizturel_gap(s, WORDS - 1, ALL, ALL, 0).refusal == VIZTUREL_STORE_LENGTH);
+    CHECK(memcmp(kept, s, sizeof s) == 0);
+    s[7] = 1;
+    CHECK(vizturel_gap(s, WORDS, ALL, ALL, 0).refusal == VIZTUREL_UNSOUND);
+    CHECK(vizturel_gap(s, WORDS, ALL, ALL, 1).refusal == VIZTUREL_UNSOUND);
 }
 
 static void refusals(void) {
@@ -387,6 +464,7 @@ static void refused_lists(void) {
 
 int main(void) {
     cases();
+    gaps();
     refusals();
     every_call();
     any_record();

@@ -104,6 +104,12 @@ static const vizturel_bound lowers[] = {{0, 0}, {1, 0}, {1, 40}, {2, M}, {1, M},
 static const vizturel_bound uppers[] = {{0, 0}, {2, 0}, {1, 90}, {1, 3}, {1, M}, {2, UINT64_C(1) << 63}};
 #define RANGES (sizeof lowers / sizeof *lowers)
 
+static int inside(vizturel_bound lower, vizturel_bound upper, uint64_t x) {
+    int above = lower.kind == 0 || (lower.kind == 1 ? x >= lower.value : x > lower.value);
+    int below = upper.kind == 0 || (upper.kind == 1 ? x <= upper.value : x < upper.value);
+    return above && below;
+}
+
 /* Every call that only reads the store, or makes another of it. Told is 0, 1 or 7: what each of them must be refused with. */
 static void reading_calls(store s, uint64_t told) {
     const uint64_t *w = s.words;
@@ -120,6 +126,17 @@ static void reading_calls(store s, uint64_t told) {
         CHECK(vizturel_select(w, n, lower, upper, v, chance(40)).refusal == told);
         CHECK(vizturel_count_ranges(w, n, lower, upper, v).refusal == told);
         CHECK(vizturel_ranges(w, n, lower, upper, v).refusal == told);
+    }
+    /* any gap is right: n positions from there on, in the range and free */
+    uint64_t length = chance(4) ? 1 + chance(12) : chance(M);
+    lower = lowers[chance(RANGES)];
+    upper = uppers[chance(RANGES)];
+    vizturel_found gap = vizturel_gap(w, n, lower, upper, length);
+    CHECK(told ? gap.refusal == told : gap.refusal == (length ? 0 : VIZTUREL_GAP_LENGTH));
+    if (gap.found) {
+        uint64_t start = gap.position, end = start + (length - 1);
+        CHECK(start <= end && vizturel_find(w, n, IN(start), IN(end), 1).found == 0);
+        CHECK(inside(lower, upper, start) && inside(lower, upper, end));
     }
     CHECK(vizturel_draw_front(w, n, x, M, v).refusal == told);
     CHECK(vizturel_draw_back(w, n, 0, x, v).refusal == told);

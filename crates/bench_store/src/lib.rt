@@ -1,10 +1,11 @@
-// What the benchmark bench/soundness.rs calls: making a store, growing it by random sets, and deciding its soundness. No part of the
-// library; nothing depends on it.
+// What the benchmarks call. bench/soundness.rs: making a store, growing it by random sets, and deciding its soundness.
+// host/src/bench/gaps.rs: searching for gaps many times after one soundness check. No part of the library; nothing depends on it.
 ghost use mathlib.Core.Path.{_≡_};
 ghost use Prim.Native.Nat.{_≤_};
 ghost use lib.ListN.{length};
 ghost use Rattle.store.specs.Soundness.{Sound};
 use changes::edit::Edit;
+use model::Edge;
 use model::Logical;
 use model::Store;
 
@@ -93,4 +94,44 @@ pub extern "C" fn vizturel_bench_grow(words: &mut [u64], seed: u64, sets: u64) -
         left -= 1;
     }
     admitted
+}
+
+// Searches first..=last for n neighbouring free positions, and tells whether there are any: 1 or 0.
+fn look_for(words: &[u64], first: u64, last: u64, n: u64) -> u64
+    requires { ⌜ Sound (now words) ⌝ }
+    requires { ⌜ (first ≤ last) × (1 ≤ n) ⌝ }
+{
+    let h = store::open(words);
+    let e = streams::gaps::some_gap(words, h, Logical(first), Logical(last), n);
+    match e {
+        Edge::At(_) => 1,
+        Edge::Nowhere => 0,
+    }
+}
+
+// Makes one soundness check and then so many searches for a gap, and tells how many found one. 0 where the words are no sound store, the
+// range is reversed or n is 0.
+#[no_mangle]
+pub extern "C" fn vizturel_bench_gaps(words: &[u64], first: u64, last: u64, n: u64, searches: u64) -> u64 {
+    let s = Store::of_length(words.len());
+    if s.capacity == 0 {
+        return 0;
+    }
+    if !store::soundness::is_sound(words) {
+        return 0;
+    }
+    if last < first {
+        return 0;
+    }
+    if n == 0 {
+        return 0;
+    }
+    let mut left = searches;
+    let mut found: u64 = 0;
+    while left > 0 {
+        let more = look_for(words, first, last, n);
+        found = std::num::wrapping_add_u64(found, more);
+        left -= 1;
+    }
+    found
 }

@@ -3,6 +3,7 @@ pub mod Refusing
 pub mod Meeting
 pub mod Windows
 pub mod Spans
+pub mod Gaps
 pub mod Changing
 pub mod Draws
 pub mod Carrying

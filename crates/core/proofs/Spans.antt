@@ -19,7 +19,7 @@ use Rattle.model.specs.Positions.Laws.{count-none}
 use Rattle.model.specs.Positions.Runs.{runsIn-none}
 use Rattle.model.specs.Positions.Finds.{find-none, select-none}
 use Rattle.model.specs.Call.{Answer, gave, position}
-use Rattle.reports.specs.Reports.{edgePosition}
+use Rattle.model.specs.Answers.{edgePosition}
 use Rattle.core.specs.Met.{foundEdge}
 
 -- ---- the range

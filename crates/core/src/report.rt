@@ -2,7 +2,8 @@
 ghost use mathlib.Core.Path.{_≡_};
 ghost use Rattle.model.specs.Call.{Call};
 ghost use Rattle.model.specs.Answers.{countedAnswer, numberedAnswer, testedAnswer, aroundAnswer, foundAnswer, listedAnswer};
-ghost use Rattle.core.specs.Met.{Readable, Met, foundEdge};
+ghost use Rattle.model.specs.Gaps.{AnswersGap};
+ghost use Rattle.core.specs.Met.{fedOf, Readable, Met, foundEdge};
 use model::Around;
 use model::Bound;
 use model::Count;
@@ -88,6 +89,24 @@ pub fn select(words: &[u64], lower: Bound, upper: Bound, value: bool, k: u64) ->
         Span::Closed(a, b) => {
             let h = store::open(words);
             found(reports::logical::select(words, h, Logical(a), Logical(b), value, k))
+        }
+    }
+}
+
+// An empty range has no gap.
+pub fn gap(words: &[u64], lower: Bound, upper: Bound, n: u64) -> Found
+    requires { ⌜ Readable (now words) ⌝ }
+    ensures { λ r. ⌜ AnswersGap (fedOf (now (words .entry))) lower upper n (foundAnswer r) ⌝ }
+{
+    if n == 0 {
+        return Found::Refused(Refusal::GapLength);
+    }
+    let s = model::normalize(lower, upper);
+    match s {
+        Span::Empty => Found::Nowhere,
+        Span::Closed(a, b) => {
+            let h = store::open(words);
+            found(streams::gaps::some_gap(words, h, Logical(a), Logical(b), n))
         }
     }
 }

@@ -3,20 +3,29 @@
 use Prim.Native.Nat.{ℕ}
 use mathlib.Core.Path.{_≡_}
 use mathlib.Core.List.{List}
+use Rattle.model.specs.declared.Bound.{Bound}
 use Rattle.model.specs.Call.{Call, Answer, refused, gave}
-use Rattle.core.specs.Met.{Met}
+use Rattle.model.specs.Gaps.{AnswersGap}
+use Rattle.core.specs.Met.{fedOf, Met}
 use Rattle.interval_bit_set.specs.Out.{onWritten}
 use Rattle.flat.specs.declared.Reply.{Reply}
 use Rattle.flat.specs.Flat.{replyOf}
 use Rattle.frame.specs.Frame.{Framed}
+use Rattle.exports.specs.declared.structs.CPosition.{CPosition}
 use Rattle.exports.specs.declared.structs.CWritten.{CWritten}
-use Rattle.exports.specs.Structs.{refusalOf, writtenOf}
+use Rattle.exports.specs.Structs.{refusalOf, positionOf, writtenOf}
 
 -- the call c on the words w answered as its promise says, and r is that answer laid flat, the part f of it in every field; w′ is left
 pub record Returns {R : Type 0} (w : List ℕ) (c : Call (List ℕ)) (f : Reply → R) (r : R) (w′ : List ℕ) : Type 0 where
   pub answer : Answer
   pub met : Met w c answer w′
   pub flat : r ≡ f (replyOf answer)
+
+-- the gap search on the words w, of n positions between l and u: r is an answer that its promise allows, laid flat, in every field
+pub record ReturnsGap (w : List ℕ) (l u : Bound) (n : ℕ) (r : CPosition) : Type 0 where
+  pub answer : Answer
+  pub met : AnswersGap (fedOf w) l u n answer
+  pub flat : r ≡ positionOf (replyOf answer)
 
 -- a slice that was lent to be written: as it was after a refusal, else the answer's
 abbrev pub sliceAfter : Answer → List ℕ → List ℕ

@@ -7,7 +7,7 @@ ghost use Rattle.model.specs.Call.{Call};
 ghost use Rattle.interval_bit_set.specs.Lent.{listingOf};
 ghost use Rattle.flat.specs.Flat.{operationOf, truth};
 ghost use Rattle.exports.specs.Structs.{boundOf, refusalOf, countOf, numberOf, valueOf, runOf, positionOf, listedOf, drawnOf};
-ghost use Rattle.exports.specs.Returns.{Returns, Writes, Frames};
+ghost use Rattle.exports.specs.Returns.{Returns, ReturnsGap, Writes, Frames};
 use crate::structs::CBound;
 use crate::structs::CCount;
 use crate::structs::CDrawn;
@@ -131,6 +131,19 @@ pub extern "C" fn vizturel_select(
         structs::bound(upper),
         value != 0,
         k,
+    )))
+}
+
+// The start of some n neighbouring positions of a range that are all free.
+#[no_mangle]
+pub extern "C" fn vizturel_gap(words: &[u64], lower: CBound, upper: CBound, n: u64) -> CPosition
+    ensures { λ r. ⌜ ReturnsGap (now (words .entry)) (boundOf lower) (boundOf upper) n r ⌝ }
+{
+    structs::position(flat::found(interval_bit_set::report::gap(
+        words,
+        structs::bound(lower),
+        structs::bound(upper),
+        n,
     )))
 }
 

@@ -2,7 +2,8 @@
 ghost use mathlib.Core.Path.{_≡_};
 ghost use Rattle.model.specs.Call.{Call};
 ghost use Rattle.model.specs.Answers.{countedAnswer, numberedAnswer, testedAnswer, aroundAnswer, foundAnswer, listedAnswer, drawnAnswer};
-ghost use Rattle.core.specs.Met.{Met};
+ghost use Rattle.model.specs.Gaps.{AnswersGap};
+ghost use Rattle.core.specs.Met.{fedOf, Met};
 use crate::look::Look;
 use model::Around;
 use model::Bound;
@@ -66,6 +67,17 @@ pub fn select(words: &[u64], lower: Bound, upper: Bound, value: bool, k: u64) ->
     match l {
         Look::Refused(r) => Found::Refused(r),
         Look::Sound => core::report::select(words, lower, upper, value, k),
+    }
+}
+
+// The start of some n neighbouring positions of a range that are all free. Which of them is left open.
+pub fn gap(words: &[u64], lower: Bound, upper: Bound, n: u64) -> Found
+    ensures { λ r. ⌜ AnswersGap (fedOf (now (words .entry))) lower upper n (foundAnswer r) ⌝ }
+{
+    let l = crate::look::look_at(words);
+    match l {
+        Look::Refused(r) => Found::Refused(r),
+        Look::Sound => core::report::gap(words, lower, upper, n),
     }
 }
 

@@ -183,6 +183,19 @@ fn count_ranges(store: &[u64], line: &[u8], at: usize) -> bool {
     true
 }
 
+fn gap(store: &[u64], line: &[u8], at: usize) -> bool {
+    let lower = line::bound_at(line, at);
+    let upper = line::bound_at(line, lower.next);
+    let n = line::number_at(line, upper.next);
+    if n.next != line.len() {
+        return false;
+    }
+    let a = lower.bound;
+    let b = upper.bound;
+    answer::found(report::gap(store, a, b, n.value));
+    true
+}
+
 fn ranges(store: &[u64], line: &[u8], at: usize) -> bool {
     let lower = line::bound_at(line, at);
     let upper = line::bound_at(line, lower.next);
@@ -289,6 +302,9 @@ fn report_named(store: &[u64], name: &[u8], line: &[u8], at: usize) -> bool {
     }
     if check::same(name, b"count_ranges") {
         return count_ranges(store, line, at);
+    }
+    if check::same(name, b"gap") {
+        return gap(store, line, at);
     }
     if check::same(name, b"ranges") {
         return ranges(store, line, at);

@@ -10,6 +10,7 @@ use Rattle.model.specs.declared.Edge.the-variants.{At, Nowhere}
 use Rattle.model.specs.Numbers.{size, worth}
 use Rattle.model.specs.Positions.{Positions, count, select, countRanges, mem}
 use Rattle.model.specs.Search.{firstFrom}
+use Rattle.model.specs.Answers.{edgePosition}
 use Rattle.run_index.specs.Tree.{Tree, inorder}
 use Rattle.run_index.specs.Search.{Index}
 use Rattle.reports.specs.declared.physical.Tally.{Tally}
@@ -53,11 +54,7 @@ startOf (some r) = At (r .start)
 abbrev pub TellsStart : List ℕ → ℕ → ℕ → Edge → Type 0
 TellsStart w p x r = (g : ℕ) (t : Tree) → Index w p g t → r ≡ startOf (firstFrom x (inorder t))
 
--- a position that was searched for
-abbrev pub edgePosition : Edge → Option ℕ
-edgePosition (At x) = some x
-edgePosition Nowhere = none
-
+-- the k-th of the n positions from a that have the value v
 abbrev pub Selects : Positions → Bool → ℕ → ℕ → ℕ → Edge → Type 0
 Selects P v a n k r = edgePosition r ≡ select P v a n k
 

@@ -2,10 +2,11 @@
 ghost use mathlib.Core.Path.{_≡_};
 ghost use Prim.Native.Nat.{suc, _-_, _≤_};
 ghost use Rattle.model.specs.Positions.{firstRun, lastRun, runsIn, runAt, find};
+ghost use Rattle.model.specs.Answers.{edgePosition};
 ghost use Rattle.run_index.specs.Search.{nearRun};
 ghost use Rattle.store.specs.Layout.{heldIn};
 ghost use Rattle.store.specs.Soundness.{Stands};
-ghost use Rattle.reports.specs.Reports.{edgePosition, LowEnd, HighEnd};
+ghost use Rattle.reports.specs.Reports.{LowEnd, HighEnd};
 use model::Edge;
 use model::Logical;
 use model::Run;

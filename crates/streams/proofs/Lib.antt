@@ -8,3 +8,4 @@ pub mod Firsts
 pub mod Starts
 pub mod Gathered
 pub mod Sweeps
+pub mod Gapped

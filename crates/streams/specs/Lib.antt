@@ -1,4 +1,5 @@
 pub mod Reading
 pub mod Sweeping
 pub mod Gathering
+pub mod Gapping
 pub mod Streamed

@@ -3,6 +3,8 @@
 //! What a side answers is compared with the other's outside the timed part, so a wrong answer ends the run.
 
 mod bytes;
+#[cfg(feature = "bench_store")]
+mod gaps;
 mod lists;
 mod measure;
 mod plot;
@@ -29,6 +31,11 @@ pub fn run(plot: &str) {
     lists.tell_checks();
     println!("## The calls themselves, without the soundness check (no caller gets these)\n");
     lists.tell_alone();
+    #[cfg(feature = "bench_store")]
+    {
+        println!("## Gaps, without the soundness check\n");
+        gaps::measure(&progress).tell("ns a search", 1.0);
+    }
     println!("## Written sets and maps\n");
     let bytes = bytes::measure(&progress);
     bytes.tell("µs a call", 1e3);

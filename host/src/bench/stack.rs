@@ -172,6 +172,10 @@ fn measure_on(painted: &mut Painted, physical: &[Run], offset: u64, shape: Shape
             on_stack!(painted, vizturel_set(c, n, l, u, value));
             changed.copy_from_slice(&words);
         }
+        // One that fits nearly everywhere, and one that fits nowhere in the range.
+        for length in [1, (last - first).saturating_add(2)] {
+            on_stack!(painted, vizturel_gap(p, n, l, u, length));
+        }
         on_stack!(painted, vizturel_get(p, n, first));
         on_stack!(painted, vizturel_run_at(p, n, first));
         on_stack!(painted, vizturel_fill(p, n, first.min(1 << 63), WINDOW));

@@ -78,6 +78,7 @@ pub fn read<'a>(lines: &mut impl Iterator<Item = &'a str>) -> Option<Call> {
         "count" => Call::Count { at: s, range: w.range()?, value: w.truth()? },
         "select" => Call::Select { at: s, range: w.range()?, value: w.truth()?, k: w.number()? },
         "count_ranges" => Call::CountRanges { at: s, range: w.range()?, value: w.truth()? },
+        "gap" => Call::Gap { at: s, range: w.range()?, n: w.number()? },
         "ranges" => Call::Ranges { at: s, range: w.range()?, value: w.truth()?, backs: 0 },
         "draw_front" | "draw_back" => {
             let listing = Listing { first: w.number()?, last: w.number()?, value: w.truth()? };
@@ -155,6 +156,7 @@ pub fn write(call: &Call) -> String {
         Call::Count { at, range, value } => of_range("count", at, range, value),
         Call::Select { at, range, value, k } => format!("{} {k}", of_range("select", at, range, value)),
         Call::CountRanges { at, range, value } => of_range("count_ranges", at, range, value),
+        Call::Gap { at, range: r, n } => format!("gap {at} {} {n}", range(r)),
         Call::Ranges { at, range, value, .. } => of_range("ranges", at, range, value),
         Call::Draw { at, listing: l, back } => {
             format!("draw_{} {at} {}", if back { "back" } else { "front" }, listing(l))
@@ -193,10 +195,42 @@ pub fn tell(call: &Call, told: &Told) -> String {
         Told::Run(run) => format!("run {} {}", run.start(), run.end()),
         Told::Position(Some(x)) => format!("at {x}"),
         Told::Position(None) => "none".to_string(),
+        Told::Starts(all) if all.is_empty() => "none".to_string(),
+        Told::Starts(all) => {
+            let ends: String = all.iter().map(|[first, last]| format!(" {first} {last}")).collect();
+            format!("starts{ends}")
+        }
         Told::Drawn(Some(run), left) => format!("drawn {} {} {}", run.start(), run.end(), listing(*left)),
         Told::Drawn(None, left) => format!("end {}", listing(*left)),
         Told::Draws(made, _) => format!("listing {}", listing(*made)),
         Told::Slice(filled, bytes) => format!("written {filled} {}", digits(bytes)),
         Told::RefusedAndChanged(r) => format!("changed something, and refused {}", r.number()),
+    }
+}
+
+/// Whether an answer is right, where the pack has the line `due`: it is that line, or, where that names starts, one of them.
+pub fn admits(due: &str, answer: &str) -> bool {
+    let Some(starts) = due.strip_prefix("starts ") else {
+        return due == answer;
+    };
+    let numbers: Vec<u64> = starts.split(' ').filter_map(|word| word.parse().ok()).collect();
+    let named = |x: u64| numbers.as_chunks().0.iter().any(|&[first, last]| (first..=last).contains(&x));
+    answer.strip_prefix("at ").and_then(|x| x.parse().ok()).is_some_and(named)
+}
+
+#[cfg(test)]
+mod tests {
+    use super::*;
+
+    #[test]
+    fn any_named_start_is_admitted() {
+        let due = "starts 3 7 20 20 18446744073709551610 18446744073709551615";
+        for right in ["at 3", "at 5", "at 7", "at 20", "at 18446744073709551610", "at 18446744073709551615"] {
+            assert!(admits(due, right), "{right}");
+        }
+        for wrong in ["at 2", "at 8", "at 19", "at 21", "at 18446744073709551609", "at", "at ", "none", "3", due] {
+            assert!(!admits(due, wrong), "{wrong}");
+        }
+        assert!(admits("none", "none") && !admits("none", "at 3") && !admits("at 3", "at 4"));
     }
 }

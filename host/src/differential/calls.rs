@@ -67,6 +67,11 @@ pub enum Call {
         range: Range,
         value: bool,
     },
+    Gap {
+        at: usize,
+        range: Range,
+        n: u64,
+    },
     /// Bit i of `backs`, counted anew after 64 draws, says that draw i is from the back.
     Ranges {
         at: usize,
@@ -157,7 +162,8 @@ impl Call {
 }
 
 /// What a call tells. Of a listing each draw, and how it ended; of a slice how much of it was filled, and all its bytes; of a frame each
-/// answer's record, and the words of the slice after them.
+/// answer's record, and the words of the slice after them. Of a gap the oracle tells every start that is right, as runs; the library tells
+/// one position, or none.
 #[derive(Debug, PartialEq)]
 pub enum Told {
     Refused(Refusal),
@@ -167,11 +173,23 @@ pub enum Told {
     Value(bool),
     Run(RangeInclusive<u64>),
     Position(Option<u64>),
+    Starts(Vec<Run>),
     Drawn(Option<RangeInclusive<u64>>, Listing),
     Draws(Listing, Vec<(Option<RangeInclusive<u64>>, Listing)>),
     Slice(usize, Vec<u8>),
     Answers(Vec<Record>, Vec<u64>),
     RefusedAndChanged(Refusal),
+}
+
+impl Told {
+    /// Whether what the library tells is right, where this is what the oracle tells.
+    pub fn admits(&self, told: &Told) -> bool {
+        match (self, told) {
+            (Told::Starts(all), Told::Position(Some(x))) => all.iter().any(|[first, last]| (first..=last).contains(&x)),
+            (Told::Starts(all), Told::Position(None)) => all.is_empty(),
+            _ => self == told,
+        }
+    }
 }
 
 /// The header word that is 0 in every sound store.

@@ -23,6 +23,7 @@ pub enum Kind {
     Count,
     Select,
     CountRanges,
+    Gap,
     Ranges,
     Draw,
     Fill,
@@ -37,6 +38,7 @@ pub enum Kind {
     WriteMap,
 }
 
+/// The kinds that have one right answer. [`Kind::Gap`], the other one, is in no list of calls whose answers are written down.
 pub const KINDS: [Kind; 22] = [
     Kind::Get,
     Kind::RunAt,
@@ -211,6 +213,10 @@ pub fn call(random: &mut Random, stores: &[Store], kind: Kind, at: usize) -> Cal
             Call::Select { at, range, value, k }
         }
         Kind::CountRanges => Call::CountRanges { at, range: range(random, runs), value },
+        Kind::Gap => {
+            let range = range(random, runs);
+            Call::Gap { at, range, n: gap_length(random, runs, range) }
+        }
         Kind::Ranges => {
             let mixed = random.number();
             let backs = random.one_of(&[0, u64::MAX, mixed]);
@@ -261,6 +267,29 @@ fn order(random: &mut Random, runs: &[Run], range: Range, value: bool) -> u64 {
         _ => u128::from(random.below(all.clamp(1, u128::from(u64::MAX)) as u64)),
     };
     k.min(u128::from(u64::MAX)) as u64
+}
+
+// How long a gap is to be: none at all, just as long as a free run of the range, a little less or more, and any length.
+fn gap_length(random: &mut Random, runs: &[Run], range: Range) -> u64 {
+    let free = reference::free_runs(runs, range);
+    let any = random.number();
+    match random.below(8) {
+        0 => 0,
+        1 => random.one_of(&[1, HALF, u64::MAX - 1, u64::MAX, any]),
+        2 => 1 + random.below(12),
+        _ if free.is_empty() => 1 + random.below(3),
+        kind => {
+            let length = |[first, last]: Run| (last - first).saturating_add(1);
+            let longest = free.iter().copied().map(length).max().expect("there is a run");
+            let some = length(random.one_of(&free));
+            match kind {
+                3 => longest,
+                4 => longest.saturating_add(1),
+                5 => longest - longest.min(random.below(3)),
+                _ => some.saturating_add(random.below(2)),
+            }
+        }
+    }
 }
 
 // What a frame's calls are, those that a store grows by more than once.

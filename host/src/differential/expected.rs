@@ -139,7 +139,7 @@ impl Expected {
         self.result(call).unwrap_or_else(Told::Refused)
     }
 
-    // The oracle refuses nothing: the order of refusals is 1, 7, 6, 3, 4, 3, 5, 8, 2.
+    // The oracle refuses nothing: the order of refusals is 1, 7, 9, 6, 3, 4, 3, 5, 8, 2.
     fn result(&mut self, call: &Call) -> Answer<Told> {
         let stores = &mut self.stores;
         match *call {
@@ -184,6 +184,19 @@ impl Expected {
             }
             Call::CountRanges { at, range, value } => {
                 Ok(Told::Number(stores[at].read()?.count_ranges(bounds(range), value) as u64))
+            }
+            Call::Gap { at, range, n } => {
+                let p = stores[at].read()?;
+                if n == 0 {
+                    return Err(Refusal::GapLength);
+                }
+                // The oracle has no such call: a gap lies in one of its free runs, n positions before the run's end or earlier.
+                let free = p.ranges(bounds(range), false).map(wide);
+                let starts = |run: RangeInclusive<u64>| {
+                    let last = (run.end() - run.start()).checked_sub(n - 1)?;
+                    Some([*run.start(), run.start() + last])
+                };
+                Ok(Told::Starts(free.filter_map(starts).collect()))
             }
             Call::Ranges { at, range, value, backs } => {
                 let mut all = stores[at].read()?.ranges(bounds(range), value);

@@ -52,6 +52,7 @@ impl Library {
             Call::Count { at, range, value } => self.lent(at).count(range, value).map(Told::Count),
             Call::Select { at, range, value, k } => self.lent(at).select(range, value, k).map(Told::Position),
             Call::CountRanges { at, range, value } => self.lent(at).count_ranges(range, value).map(Told::Number),
+            Call::Gap { at, range, n } => self.lent(at).gap(range, n).map(Told::Position),
             Call::Ranges { at, range, value, backs } => {
                 let set = self.lent(at);
                 let made = set.listing(range, value)?;

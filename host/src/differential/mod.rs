@@ -78,13 +78,13 @@ pub struct Tally {
     /// How many of them were records of a frame.
     pub listed: u64,
     /// How many of them were refused, by number.
-    pub refused: [u64; 9],
+    pub refused: [u64; 10],
 }
 
 impl Tally {
     fn new(progress: bool) -> Tally {
         let now = Instant::now();
-        Tally { part: "", progress, began: now, told: now, compared: 0, listed: 0, refused: [0; 9] }
+        Tally { part: "", progress, began: now, told: now, compared: 0, listed: 0, refused: [0; 10] }
     }
 
     fn begin(&mut self, part: &'static str) {
@@ -207,6 +207,7 @@ pub fn run(options: Options) -> Result<Tally, Difference> {
     parts::wrong_lengths(&mut tally, options)?;
     parts::damaged_bytes(&mut tally, options)?;
     parts::windows(&mut tally, options)?;
+    parts::gaps(&mut tally, options)?;
     parts::limits(&mut tally, options)?;
     parts::large(&mut tally, options)?;
     parts::frames(&mut tally, options)?;

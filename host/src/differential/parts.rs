@@ -50,6 +50,11 @@ fn report(tally: &mut Tally, s: &mut Sequence, range: Range, value: bool, backs:
     for k in [0, 1, HALF - 1, HALF, M - 1, M] {
         s.call(tally, Call::Select { at: 0, range, value, k })?;
     }
+    if !value {
+        for n in [0, 1, 2, HALF - 1, HALF, M - 1, M] {
+            s.call(tally, Call::Gap { at: 0, range, n })?;
+        }
+    }
     Ok(())
 }
 
@@ -136,7 +141,7 @@ fn every_kind(tally: &mut Tally, s: &mut Sequence, random: &mut Random, at: usiz
     let count = random.below(5) as usize;
     let frame = chance::frame(random, s.world.stores(), at, count);
     s.clone().call(tally, frame)?;
-    for kind in KINDS {
+    for kind in [Kind::Gap].into_iter().chain(KINDS) {
         let call = chance::call(random, s.world.stores(), kind, at);
         s.call(tally, call)?;
     }
@@ -288,6 +293,7 @@ pub fn wrong_lengths(tally: &mut Tally, options: Options) -> Outcome {
             Call::Build { to: 0, runs: vec![[4, 3]] },
             Call::ReadMap { at: 0, base: 0, n: 0, map: vec![] },
             Call::Fill { at: 0, base: 0, n: 0 },
+            Call::Gap { at: 0, range: (Bound::Unbounded, Bound::Unbounded), n: 0 },
             Call::Write { at: 0, room: 0 },
             Call::WriteMap { at: 0, base: M, n: 2, room: 0 },
         ] {
@@ -391,11 +397,65 @@ pub fn windows(tally: &mut Tally, options: Options) -> Outcome {
     Ok(())
 }
 
+// How many neighbouring positions the sets of the gap search have around an edge.
+const AROUND: u64 = 8;
+
+/// The gap search on every set of eight neighbouring positions at 0, around 2^63 and at M, with the place where physical positions end
+/// before, among and after them, in ranges of every kind about them and for every length that could fit.
+pub fn gaps(tally: &mut Tally, options: Options) -> Outcome {
+    tally.begin("gaps");
+    let mut random = Random::new(options.seed ^ 0x6A);
+    let mut turn = 0;
+    for base in [0, HALF - AROUND / 2, M - (AROUND - 1)] {
+        for held in 0..1_u64 << AROUND {
+            for offset in [0, base.wrapping_sub(1), base + 1, base + AROUND / 2, base + (AROUND - 1)] {
+                turn += 1;
+                if turn % options.stride != 0 {
+                    continue;
+                }
+                let mut s = Sequence::new(&[1]);
+                let runs = runs_of_bits(base, held);
+                // Turned back by the offset, which is 0 where nothing is held, they are physical runs.
+                let offset = if runs.is_empty() { 0 } else { offset };
+                let physical = reference::logical(&runs, offset.wrapping_neg());
+                let words = reference::craft(5, &physical, offset, Shape::Even, &mut random);
+                s.call(tally, Call::Lend { at: 0, words })?;
+                for _ in 0..4 {
+                    let (x, y) = (base + random.below(AROUND), base + random.below(AROUND));
+                    let lower = random.one_of(&[Bound::Unbounded, Bound::Included(x), Bound::Excluded(x)]);
+                    let upper = random.one_of(&[Bound::Unbounded, Bound::Included(y), Bound::Excluded(y)]);
+                    for n in (0..=AROUND + 1).chain([HALF - 4, HALF, M - AROUND, M]) {
+                        s.call(tally, Call::Gap { at: 0, range: (lower, upper), n })?;
+                    }
+                }
+            }
+        }
+    }
+    Ok(())
+}
+
+// The runs of the bits that are one, from a base on.
+fn runs_of_bits(base: u64, bits: u64) -> Vec<Run> {
+    let mut runs: Vec<Run> = Vec::new();
+    for x in (0..AROUND).filter(|i| bits >> i & 1 == 1).map(|i| base + i) {
+        match runs.last_mut() {
+            Some([_, end]) if *end + 1 == x => *end = x,
+            _ => runs.push([x, x]),
+        }
+    }
+    runs
+}
+
 fn wander(tally: &mut Tally, random: &mut Random, capacities: &[usize], calls: u64) -> Outcome {
     let mut s = Sequence::new(capacities);
     let mut history = Wander::default();
     for _ in 0..calls {
-        let call = history.next(random, s.world.stores());
+        let call = if random.once_in(16) {
+            let at = random.below(capacities.len() as u64) as usize;
+            chance::call(random, s.world.stores(), Kind::Gap, at)
+        } else {
+            history.next(random, s.world.stores())
+        };
         s.call(tally, call)?;
     }
     Ok(())
@@ -460,7 +520,7 @@ pub fn large(tally: &mut Tally, options: Options) -> Outcome {
 
 // Some reports of a large store: none that lists all of it.
 fn few_draws(tally: &mut Tally, s: &mut Sequence, random: &mut Random) -> Outcome {
-    for kind in [Kind::RunAt, Kind::Find, Kind::Count, Kind::Select, Kind::CountRanges, Kind::Draw] {
+    for kind in [Kind::RunAt, Kind::Find, Kind::Count, Kind::Select, Kind::CountRanges, Kind::Gap, Kind::Draw] {
         for _ in 0..4 {
             let call = chance::call(random, s.world.stores(), kind, 0);
             s.call(tally, call)?;

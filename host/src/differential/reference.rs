@@ -1,6 +1,7 @@
 //! What the scope document says of words and bytes, written down plainly and apart from the library: which words are a sound store
 //! and which runs they hold, written sets, and stores of any arrangement to try the library on.
 
+use super::calls::{Range, ends_of};
 use super::random::Random;
 use crate::Refusal;
 
@@ -114,6 +115,26 @@ pub fn in_order(runs: &[Run]) -> bool {
         && runs.windows(2).all(|w| w[0][1].checked_add(2).is_some_and(|least| least <= w[1][0]))
 }
 
+/// What lies between runs in a range.
+pub fn free_runs(runs: &[Run], range: Range) -> Vec<Run> {
+    let Some([first, last]) = ends_of(range) else {
+        return Vec::new();
+    };
+    let mut free = Vec::new();
+    // One past a run's end may be 2^64.
+    let mut from = u128::from(first);
+    for &[start, end] in runs.iter().take_while(|[start, _]| *start <= last) {
+        if u128::from(start) > from {
+            free.push([from as u64, start - 1]);
+        }
+        from = from.max(u128::from(end) + 1);
+    }
+    if from <= u128::from(last) {
+        free.push([from as u64, last]);
+    }
+    free
+}
+
 /// The written set of runs.
 pub fn encode(runs: &[Run]) -> Vec<u8> {
     let mut bytes = vec![1];
@@ -214,6 +235,8 @@ pub fn craft(capacity: usize, runs: &[Run], offset: u64, shape: Shape, random: &
 
 #[cfg(test)]
 mod tests {
+    use std::ops::Bound;
+
     use super::*;
 
     #[test]
@@ -235,6 +258,19 @@ mod tests {
         assert_eq!(logical(&runs, 2), [[0, 5]]);
         let words = craft(1, &runs, 2, Shape::Even, &mut Random::new(1));
         assert_eq!(look(&words), Look::Holds(vec![[0, 5]]));
+    }
+
+    #[test]
+    fn free_runs_are_clipped_to_the_range() {
+        let all = (Bound::Unbounded, Bound::Unbounded);
+        let some = |first, last| (Bound::Included(first), Bound::Included(last));
+        let runs = [[0, 3], [8, 9], [u64::MAX, u64::MAX]];
+        assert_eq!(free_runs(&runs, all), [[4, 7], [10, u64::MAX - 1]]);
+        assert_eq!(free_runs(&runs, some(2, 8)), [[4, 7]]);
+        assert_eq!(free_runs(&runs, some(5, 12)), [[5, 7], [10, 12]]);
+        assert_eq!(free_runs(&runs, some(8, 9)), [[0; 2]; 0]);
+        assert_eq!(free_runs(&runs, some(9, 8)), [[0; 2]; 0]);
+        assert_eq!(free_runs(&[], all), [[0, u64::MAX]]);
     }
 
     #[test]

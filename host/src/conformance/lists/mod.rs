@@ -5,6 +5,7 @@ mod bytes;
 mod capacity;
 mod cases;
 mod frames;
+mod gaps;
 mod joined;
 mod listings;
 mod long;
@@ -26,6 +27,7 @@ pub fn all() -> Vec<List> {
         bytes::list(),
         capacity::list(),
         frames::list(),
+        gaps::list(),
         long::list(),
     ]
 }

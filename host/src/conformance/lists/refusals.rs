@@ -17,6 +17,7 @@ fn reading(s: usize, t: usize, u: usize) -> String {
         count {s} u u 1
         select {s} u u 1 0
         count_ranges {s} u u 1
+        gap {s} u u 1
         ranges {s} u u 1
         ranges {s} i6 e6 1
         draw_front {s} 0 {M} 1
@@ -119,6 +120,7 @@ pub fn list() -> List {
         write_set 1 0
         write_map 1 0 0 0
         write_map 1 0 8 0
+        gap 1 u u 0
         # 7 before any other
         words 1 1
         read_map 1 0 0 -
@@ -127,9 +129,14 @@ pub fn list() -> List {
         write_set 1 0
         write_map 1 0 0 0
         write_map 1 0 8 0
+        gap 1 u u 0
         set 1 i4 e6 0
-        # 6 before 8 and 2
+        # 9
         build 1 1 2 7
+        gap 1 u u 0
+        gap 1 i4 e4 0
+        gap 1 i2 i7 1
+        # 6 before 8 and 2
         read_map 1 0 8 5555
         read_map 1 0 0 55
         write_map 1 0 0 0

@@ -1,0 +1,117 @@
+//! The gap search after the soundness check, against a plain Rust loop over IntervalBitSet's free runs that stops at the first fit.
+//!
+//! A single call is mostly its soundness check, and no frame has this one. So the proved search is called by a function of the crate
+//! `bench_store`, many times after one check; what the check takes is timed beside it and taken away.
+
+use super::measure::{Figures, Progress, Sides, Times, both, median, nanos};
+use super::work::{self, Pair};
+use crate::differential::random::Random;
+use crate::oracle::IntervalBitSet;
+
+const LABELS: [&str; 5] =
+    ["fits early", "fits late", "fits nowhere", "fits after the last held position", "fits at the range's start"];
+const REPETITIONS: usize = 21;
+// Longer than what is free between two neighbouring cells' runs, shorter than what is free where one is missing.
+const LENGTH: u64 = 1_024;
+
+unsafe extern "C" {
+    // One soundness check, then so many searches of first ..= last: how many found a gap.
+    fn vizturel_bench_gaps(words: *const u64, count: usize, first: u64, last: u64, n: u64, searches: u64) -> u64;
+}
+
+// Where is searched for how much.
+struct Search {
+    first: u64,
+    last: u64,
+    n: u64,
+}
+
+impl Search {
+    fn ours(&self, words: &[u64], searches: u64) -> u64 {
+        // SAFETY: the slice is lent to be read for the call.
+        unsafe { vizturel_bench_gaps(words.as_ptr(), words.len(), self.first, self.last, self.n, searches) }
+    }
+
+    #[inline(never)]
+    fn theirs(&self, set: &IntervalBitSet) -> Option<usize> {
+        let more = self.n as usize - 1;
+        set.ranges(self.first as usize..=self.last as usize, false)
+            .find(|run| run.end() - run.start() >= more)
+            .map(|run| *run.start())
+    }
+
+    // Stops where the library gives no gap and there is one, or gives what is none.
+    fn compare(&self, pair: &Pair) {
+        let ours = pair.ours.gap(self.first..=self.last, self.n).expect("a sound store");
+        assert_eq!(ours.is_some(), self.theirs(&pair.theirs).is_some(), "the two sides do not answer the same");
+        if let Some(x) = ours {
+            let end = x + (self.n - 1);
+            assert!(self.first <= x && end <= self.last, "a gap is not in the range");
+            assert_eq!(pair.theirs.count(x as usize..=end as usize, true), 0, "a gap is not free");
+        }
+    }
+}
+
+// The set without one run, and a search that the label names. The range begins on a held position and ends with the last run, so that
+// neither of the places that are tried first is a gap; but for the last two labels, where one of them is.
+fn setting(label: usize, size: usize, random: &mut Random) -> (Pair, Search) {
+    let mut runs = work::cells(size, random);
+    let (first, last) = (runs[0][0], runs[size - 1][1]);
+    let from = runs[size / 2][1] + 1;
+    match label {
+        0 => drop(runs.remove(1)),
+        1 => drop(runs.remove(size - 2)),
+        _ => {}
+    }
+    let search = match label {
+        3 => Search { first, last: u64::MAX, n: LENGTH },
+        4 => Search { first: from, last, n: 64 },
+        _ => Search { first, last, n: LENGTH },
+    };
+    let pair = Pair::new(work::capacity(size), &runs, random);
+    search.compare(&pair);
+    (pair, search)
+}
+
+fn sides(label: usize, size: usize) -> Sides {
+    let mut random = Random::new(size as u64);
+    let (pair, search) = setting(label, size, &mut random);
+    let words = pair.ours.words();
+    // A search that passes over all runs takes as long as the check: a few of them; of the short ones so many that the check is little.
+    let long = |on: bool| if on { 40 } else { 10_000 };
+    let [a, b] = [long(label == 1 || label == 2), long((1..=3).contains(&label))];
+    let mut checks = Vec::new();
+    let mut times = Times::default();
+    for repetition in 0..REPETITIONS {
+        let ours = || {
+            // The check before or after the searches, in turn, so that neither always finds the store read just then.
+            let mut check = || checks.push(nanos(|| assert_eq!(search.ours(words, 0), 0)));
+            if repetition.is_multiple_of(4) {
+                check();
+            }
+            let mut found = 0;
+            let time = nanos(|| found = search.ours(words, a));
+            if !repetition.is_multiple_of(4) {
+                check();
+            }
+            assert!(found == if label == 2 { 0 } else { a }, "not every search answered the same");
+            time
+        };
+        let theirs = || {
+            nanos(|| {
+                for _ in 0..b {
+                    std::hint::black_box(search.theirs(std::hint::black_box(&pair.theirs)));
+                }
+            }) / b as f64
+        };
+        times.push(both(repetition, ours, theirs));
+    }
+    let check = median(checks);
+    times.ours.iter_mut().for_each(|time| *time = (*time - check) / a as f64);
+    times.medians()
+}
+
+/// Medians of nanoseconds for each search, without the soundness check.
+pub fn measure(progress: &Progress) -> Figures {
+    Figures::measure(&LABELS, "gaps", progress, |size| (0..LABELS.len()).map(|label| sides(label, size)).collect())
+}

@@ -1,0 +1,115 @@
+//! The gap search through the safe calls. Which gap is left open, so every test but those with one right answer takes any.
+
+use std::ops::{Bound, RangeBounds};
+
+use vizturel::{Refusal, Set, SetBuf, room};
+
+const M: u64 = u64::MAX;
+
+fn of(runs: &[[u64; 2]]) -> SetBuf {
+    Set::from_sorted_runs(room(8), runs).unwrap()
+}
+
+// A gap was found, and it is one.
+fn some<S: AsRef<[u64]>>(set: &Set<S>, range: impl RangeBounds<u64> + Clone, n: u64) -> u64 {
+    let x = set.gap(range.clone(), n).unwrap().expect("there is a gap");
+    let end = x.checked_add(n - 1).expect("a gap ends at M or before");
+    assert!(range.contains(&x) && range.contains(&end), "{x} ..= {end} is not in the range");
+    assert_eq!(set.count(x..=end, true), Ok(0), "{x} ..= {end} is not free");
+    x
+}
+
+#[test]
+fn an_empty_set_has_every_gap() {
+    let s = of(&[]);
+    assert!(some(&s, .., M) <= 1);
+    some(&s, .., 1);
+    assert_eq!(s.gap(1.., M), Ok(Some(1)));
+    assert_eq!(s.gap(..M, M), Ok(Some(0)));
+    assert_eq!(s.gap(1..M, M), Ok(None));
+    assert_eq!(s.gap(M..=M, 1), Ok(Some(M)));
+}
+
+#[test]
+fn a_full_set_has_none() {
+    let s = of(&[[0, M]]);
+    assert_eq!(s.gap(.., 1), Ok(None));
+    assert_eq!(s.gap(.., M), Ok(None));
+}
+
+#[test]
+fn a_gap_at_either_end() {
+    let s = of(&[[4, M - 3]]);
+    assert_eq!(s.gap(.., 4), Ok(Some(0)));
+    assert_eq!(s.gap(2.., 3), Ok(Some(M - 2)));
+    some(&s, .., 3);
+    assert_eq!(s.gap(.., 5), Ok(None));
+}
+
+#[test]
+fn the_last_free_run_alone_is_long_enough() {
+    let s = of(&[[0, 9], [12, 19], [22, 29], [32, 39]]);
+    assert_eq!(s.gap(0..43, 3), Ok(Some(40)));
+    assert_eq!(s.gap(0..42, 3), Ok(None));
+    assert_eq!(s.gap(0..40, 3), Ok(None));
+    some(&s, 0..42, 2);
+}
+
+#[test]
+fn a_gap_over_the_place_where_positions_wrap_in_memory() {
+    let mut s = of(&[[0, 2], [20, 24]]);
+    s.shift(12, true).unwrap();
+    s.shift(12, false).unwrap();
+    s.shift(4, true).unwrap();
+    s.set(0..2, true).unwrap();
+    // Held are 0 1, 4 5 6 and 24 ..= 28; the offset is 4.
+    s.set(4..7, false).unwrap();
+    assert_eq!(s.gap(..29, 22), Ok(Some(2)));
+    assert_eq!(s.gap(..29, 23), Ok(None));
+    for n in 1..22 {
+        some(&s, ..29, n);
+        some(&s, 1..28, n);
+    }
+    // All but a stretch over both ends of the positions is held, and the stretch is no gap: M and 0 are no neighbours.
+    let mut s = of(&[[3, M - 3]]);
+    s.shift(1, true).unwrap();
+    assert_eq!(s.gap(.., 4), Ok(Some(0)));
+    assert_eq!(s.gap(4.., 2), Ok(Some(M - 1)));
+    assert_eq!(s.gap(.., 5), Ok(None));
+}
+
+#[test]
+fn empty_and_reversed_ranges_have_none() {
+    let s = of(&[[2, 7]]);
+    for range in [
+        (Bound::Included(9), Bound::Excluded(9)),
+        (Bound::Excluded(9), Bound::Excluded(10)),
+        (Bound::Included(20), Bound::Included(10)),
+        (Bound::Excluded(M), Bound::Unbounded),
+        (Bound::Unbounded, Bound::Excluded(0)),
+    ] {
+        assert_eq!(s.gap(range, 1), Ok(None), "{range:?}");
+        assert_eq!(s.gap(range, 0), Err(Refusal::GapLength), "{range:?}");
+    }
+}
+
+#[test]
+fn a_gap_of_no_position_is_refused_after_the_store() {
+    let mut s = of(&[[2, 7]]);
+    let words = s.words().to_vec();
+    assert_eq!(s.gap(.., 0), Err(Refusal::GapLength));
+    assert_eq!(Refusal::GapLength.number(), 9);
+    assert_eq!(s.words(), words);
+    s.words_mut()[7] = 1;
+    assert_eq!(s.gap(.., 0), Err(Refusal::Unsound));
+    assert_eq!(Set::over([0; 24]).gap(.., 0), Err(Refusal::StoreLength));
+}
+
+#[test]
+fn the_example_of_the_documentation() {
+    let mut slots = SetBuf::with_capacity(8).unwrap();
+    slots.set(2..8, true).unwrap();
+    slots.set(10..15, true).unwrap();
+    assert!([0, 8].contains(&some(&slots, 0..12, 2)));
+    assert_eq!(slots.gap(0..12, 3), Ok(None));
+}
