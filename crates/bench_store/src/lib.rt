@@ -112,7 +112,13 @@ fn look_for(words: &[u64], first: u64, last: u64, n: u64) -> u64
 // Makes one soundness check and then so many searches for a gap, and tells how many found one. 0 where the words are no sound store, the
 // range is reversed or n is 0.
 #[no_mangle]
-pub extern "C" fn vizturel_bench_gaps(words: &[u64], first: u64, last: u64, n: u64, searches: u64) -> u64 {
+pub extern "C" fn vizturel_bench_gaps(
+    words: &[u64],
+    first: u64,
+    last: u64,
+    n: u64,
+    searches: u64,
+) -> u64 {
     let s = Store::of_length(words.len());
     if s.capacity == 0 {
         return 0;
@@ -123,7 +129,7 @@ pub extern "C" fn vizturel_bench_gaps(words: &[u64], first: u64, last: u64, n: u
     if last < first {
         return 0;
     }
-    if n == 0 {
+    if n < 1 {
         return 0;
     }
     let mut left = searches;

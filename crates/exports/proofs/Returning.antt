@@ -7,14 +7,16 @@ use Rattle.model.specs.declared.Bound.{Bound}
 use Rattle.model.specs.declared.Written.{Written}
 use Rattle.model.specs.Answers.{writtenAnswer}
 use Rattle.model.specs.Call.{Call, Answer}
-use Rattle.core.specs.Met.{Met}
+use Rattle.model.specs.Gaps.{AnswersGap}
+use Rattle.core.specs.Met.{fedOf, Met}
 use Rattle.core.specs.Out.{Unwritten, WritesOut}
 use Rattle.flat.specs.declared.Reply.{Reply}
 use Rattle.flat.specs.Flat.{replyOf}
 use Rattle.frame.specs.Frame.{Framed}
+use Rattle.exports.specs.declared.structs.CPosition.{CPosition}
 use Rattle.exports.specs.declared.structs.CWritten.{CWritten}
-use Rattle.exports.specs.Structs.{refusalOf, writtenOf}
-use Rattle.exports.specs.Returns.{Returns, sliceAfter, Writes, Frames}
+use Rattle.exports.specs.Structs.{refusalOf, positionOf, writtenOf}
+use Rattle.exports.specs.Returns.{Returns, ReturnsGap, sliceAfter, Writes, Frames}
 
 -- a call between two bounds is the call between what they were made of
 pub between : (f : Bound → Bound → Call (List ℕ)) {p q x y : Bound} → p ≡ x → q ≡ y → f p q ≡ f x y
@@ -24,6 +26,15 @@ between f {p} {q} {x} {y} d e = ap (λ b. f b q) d ∙ ap (f x) e
 pub returned : {R : Type 0} {w w′ : List ℕ} {c c′ : Call (List ℕ)} {f : Reply → R} {r : R} {a : Answer} {q : Reply} → c ≡ c′ → Met w c a w′
     → q ≡ replyOf a → r ≡ f q → Returns w c′ f r w′
 returned {w = w} {w′} {f = f} {a = a} e m p s = record { answer = a; met = subst (λ k. Met w k a w′) e m; flat = s ∙ ap f p }
+
+-- the gap search
+pub returned-gap : {w : List ℕ} {l u x y : Bound} {n : ℕ} {r : CPosition} (a : Answer) {q : Reply} → l ≡ x → u ≡ y → AnswersGap (fedOf w) l u n a
+    → q ≡ replyOf a → r ≡ positionOf q → ReturnsGap w x y n r
+returned-gap {w} {l} {u} {x} {y} {n} a d e m p s = record {
+  answer = a;
+  met = subst (λ b. AnswersGap (fedOf w) x b n a) e (subst (λ b. AnswersGap (fedOf w) b u n a) d m);
+  flat = s ∙ ap (λ (q : Reply). positionOf q) p;
+}
 
 -- a slice that is written, or left
 slice-is : (out out′ : List ℕ) (a : Written) → Unwritten a out out′ → out′ ≡ sliceAfter (writtenAnswer a out′) out

@@ -1,0 +1,33 @@
+-- `vizturel_gap` meets its contract: it is the public call, its answer laid flat, and the part that crosses. Assumes nothing.
+use borrow.Author.Needs.{needs}
+use Rattle.exports.proofs.Returning.{returned-gap}
+use Rattle.exports.proofs.vizturel_gap.Statement.{statement}
+use Rattle.exports.proofs.vizturel_gap.Tie as tie
+
+-- where the bounds are known
+abbrev bounded : tie.After-gap → tie.After-bound2
+bounded c = c .before
+
+bound-requires : tie.Need-bound-requires
+bound-requires c κs = search needs
+
+bound-requires-2 : tie.Need-bound-requires-2
+bound-requires-2 c κs = search needs
+
+gap-requires : tie.Need-gap-requires
+gap-requires c κs = search needs
+
+found-requires : tie.Need-found-requires
+found-requires c κs = search needs
+
+position-requires : tie.Need-position-requires
+position-requires c κs = search needs
+
+returns : tie.Need-returns
+returns c =
+    let g = c .before .before in
+    let b = bounded g in
+    returned-gap _ (b .before .bound .ensures) (b .bound2 .ensures) (g .gap .ensures) (c .before .found .ensures) (c .position .ensures)
+
+pub vizturel-gap-spec : {M : Type 1} → statement M
+vizturel-gap-spec = tie.close (tie.spec bound-requires bound-requires-2 gap-requires found-requires position-requires returns)

@@ -1,0 +1,31 @@
+-- `gap` meets its contract: a store that looking refuses earns that refusal, of another the core's call answers.
+-- Assumes nothing.
+use Rattle.interval_bit_set.proofs.Looking.{looked-refused, looked-sound}
+use Rattle.core.proofs.Gaps.{gap-turned}
+use borrow.Author.Needs.{needs}
+use Rattle.interval_bit_set.proofs.report.gap.Statement.{statement}
+use Rattle.interval_bit_set.proofs.report.gap.Tie as tie
+
+look-at-requires : tie.Need-look-at-requires
+look-at-requires c κs = search needs
+
+enum-known-l : tie.Need-enum-known-l
+enum-known-l c = search needs
+
+enum-told : tie.Need-enum-told
+enum-told c = search needs
+
+gap-requires : tie.Need-gap-requires
+gap-requires c κs = looked-sound _ (c .before .before .look-at .ensures) (c .enum-told .given .1)
+
+returns : tie.Need-returns
+returns c =
+    let l = c .before .before .before in
+    let a = l .before .before .args in
+    gap-turned _ (a .lower) (a .upper) (a .n) (looked-refused _ _ (l .look-at .ensures) (c .before .l .given .1))
+
+returns-2 : tie.Need-returns-2
+returns-2 c = search needs
+
+pub gap-spec : {M : Type 1} → statement M
+gap-spec = tie.close (tie.spec look-at-requires enum-known-l enum-told gap-requires returns returns-2)
