@@ -77,9 +77,10 @@ fn sides(label: usize, size: usize) -> Sides {
     let mut random = Random::new(size as u64);
     let (pair, search) = setting(label, size, &mut random);
     let words = pair.ours.words();
-    // A search that passes over all runs takes as long as the check: a few of them; of the short ones so many that the check is little.
-    let long = |on: bool| if on { 40 } else { 10_000 };
-    let [a, b] = [long(label == 1 || label == 2), long((1..=3).contains(&label))];
+    // Of searches that pass over all runs, and take about as long as the check, a few are enough; of short ones so many are made that the
+    // check is little beside them. Only the library finds the gap after the last held position in a short way.
+    let count = |passes_all: bool| if passes_all { 40 } else { 10_000 };
+    let (our_searches, their_searches) = (count(label == 1 || label == 2), count((1..=3).contains(&label)));
     let mut checks = Vec::new();
     let mut times = Times::default();
     for repetition in 0..REPETITIONS {
@@ -90,24 +91,24 @@ fn sides(label: usize, size: usize) -> Sides {
                 check();
             }
             let mut found = 0;
-            let time = nanos(|| found = search.ours(words, a));
+            let time = nanos(|| found = search.ours(words, our_searches));
             if !repetition.is_multiple_of(4) {
                 check();
             }
-            assert!(found == if label == 2 { 0 } else { a }, "not every search answered the same");
+            assert!(found == if label == 2 { 0 } else { our_searches }, "not every search answered the same");
             time
         };
         let theirs = || {
             nanos(|| {
-                for _ in 0..b {
+                for _ in 0..their_searches {
                     std::hint::black_box(search.theirs(std::hint::black_box(&pair.theirs)));
                 }
-            }) / b as f64
+            }) / their_searches as f64
         };
         times.push(both(repetition, ours, theirs));
     }
     let check = median(checks);
-    times.ours.iter_mut().for_each(|time| *time = (*time - check) / a as f64);
+    times.ours.iter_mut().for_each(|time| *time = (*time - check) / our_searches as f64);
     times.medians()
 }
 

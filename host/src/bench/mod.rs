@@ -17,6 +17,20 @@ use lists::Lists;
 use measure::{Progress, load};
 use plot::Panel;
 
+#[cfg(feature = "bench_store")]
+fn tell_gaps(progress: &Progress) {
+    println!("## Gaps, without the soundness check\n");
+    gaps::measure(progress).tell("ns a search", 1.0);
+}
+
+/// Measures the gap search alone, and prints Markdown.
+#[cfg(feature = "bench_store")]
+pub fn run_gaps() {
+    println!("load {} before\n", load());
+    tell_gaps(&Progress::begin());
+    println!("load {} after", load());
+}
+
 /// Measures everything, prints Markdown, and draws the ratios into a file.
 pub fn run(plot: &str) {
     let progress = Progress::begin();
@@ -32,10 +46,7 @@ pub fn run(plot: &str) {
     println!("## The calls themselves, without the soundness check (no caller gets these)\n");
     lists.tell_alone();
     #[cfg(feature = "bench_store")]
-    {
-        println!("## Gaps, without the soundness check\n");
-        gaps::measure(&progress).tell("ns a search", 1.0);
-    }
+    tell_gaps(&progress);
     println!("## Written sets and maps\n");
     let bytes = bytes::measure(&progress);
     bytes.tell("µs a call", 1e3);

@@ -3,10 +3,14 @@
 use std::process::ExitCode;
 
 fn main() -> ExitCode {
-    let Some(plot) = std::env::args().nth(1) else {
-        eprintln!("usage: bench PLOT.svg");
-        return ExitCode::from(2);
-    };
-    vizturel::bench::run(&plot);
+    match std::env::args().nth(1).as_deref() {
+        None => {
+            eprintln!("usage: bench PLOT.svg, or bench gaps for the gap search alone");
+            return ExitCode::from(2);
+        }
+        #[cfg(feature = "bench_store")]
+        Some("gaps") => vizturel::bench::run_gaps(),
+        Some(plot) => vizturel::bench::run(plot),
+    }
     ExitCode::SUCCESS
 }
