@@ -25,31 +25,32 @@ use Rattle.lockstep.specs.Writing.{take-front}
 abbrev pub oldReading : List ℕ → ℕ → ℕ → List ℕ → Outcome
 oldReading w base n bs = documentOneReading (allowance w) (fedOf w) base n bs
 
--- reading the cleared map makes of the words what that made of them
-cleared-outcome : {base n : ℕ} {bs bs′ : List ℕ} {c : Answer} (w : List ℕ) → Handles (clearMap base n bs) c bs′ → outcomeOf w (Call.readMap base n bs′) ≡ oldReading w base n bs
-unfolding outcomeOf
-cleared-outcome {base} {n} {bs} w h =
-    ap (λ (cs : List ℕ). serve (allowance w) (fedOf w) (Call.readMap base n cs)) (h .left) ∙ sym (reads-as-document-one base n bs (allowance w) (fedOf w))
+module _ (base n : ℕ) (bs : List ℕ) where
+  -- reading the cleared map makes of the words what that made of them
+  cleared-outcome : {bs′ : List ℕ} {c : Answer} (w : List ℕ) → Handles (clearMap base n bs) c bs′ → outcomeOf w (Call.readMap base n bs′) ≡ oldReading w base n bs
+  unfolding outcomeOf
+  cleared-outcome w h =
+      ap (λ (cs : List ℕ). serve (allowance w) (fedOf w) (Call.readMap base n cs)) (h .left) ∙ sym (reads-as-document-one base n bs (allowance w) (fedOf w))
 
--- if clear_map was called on bs and left bs′, then what read_map of bs′ answers and leaves is document 01's reading of bs
-pub theorem-cleared-reads :
-    {base n : ℕ} {bs bs′ w w′ : List ℕ} {c a : Answer}
-    → Handles (clearMap base n bs) c bs′ → Met w (Call.readMap base n bs′) a w′
-    → (a ≡ (oldReading w base n bs) .answer) × Leaves w w′ ((oldReading w base n bs) .positions) a
-theorem-cleared-reads {w = w} {w′} {a = a} h m =
-    let e = cleared-outcome w h in
-    (m .answered ∙ ap (λ o. o .answer) e, subst (λ (o : Outcome). Leaves w w′ (o .positions) a) e (m .left))
+  -- if clear_map was called on bs and left bs′, then what read_map of bs′ answers and leaves is document 01's reading of bs
+  pub theorem-cleared-reads :
+      {bs′ w w′ : List ℕ} {c a : Answer}
+      → Handles (clearMap base n bs) c bs′ → Met w (Call.readMap base n bs′) a w′
+      → (a ≡ (oldReading w base n bs) .answer) × Leaves w w′ ((oldReading w base n bs) .positions) a
+  theorem-cleared-reads {w = w} {w′} {a = a} h m =
+      let e = cleared-outcome w h in
+      (m .answered ∙ ap (λ o. o .answer) e, subst (λ (o : Outcome). Leaves w w′ (o .positions) a) e (m .left))
 
--- a second call leaves what the first one left, and answers 0 if the first was not refused
-pub theorem-cleared-once :
-    {base n : ℕ} {bs bs′ bs″ : List ℕ} {c d : Answer}
-    → Handles (clearMap base n bs) c bs′ → Handles (clearMap base n bs′) d bs″
-    → (bs″ ≡ bs′) × ((k : ℕ) → c ≡ gave (number k) → d ≡ gave (number 0))
-theorem-cleared-once {base} {n} {bs} h g =
-    let e = ap (λ (cs : List ℕ). clearMap base n cs) (h .left) in (
-      g .left ∙ ap (λ o. o .slice) e ∙ clears-twice base n bs ∙ sym (h .left),
-      λ k q. g .answered ∙ ap (λ o. o .answer) e ∙ clears-none-twice base n bs (sym (h .answered) ∙ q),
-    )
+  -- a second call leaves what the first one left, and answers 0 if the first was not refused
+  pub theorem-cleared-once :
+      {bs′ bs″ : List ℕ} {c d : Answer}
+      → Handles (clearMap base n bs) c bs′ → Handles (clearMap base n bs′) d bs″
+      → (bs″ ≡ bs′) × ((k : ℕ) → c ≡ gave (number k) → d ≡ gave (number 0))
+  theorem-cleared-once h g =
+      let e = ap (clearMap base n) (h .left) in (
+        g .left ∙ ap (λ o. o .slice) e ∙ clears-twice base n bs ∙ sym (h .left),
+        λ k q. g .answered ∙ ap (λ o. o .answer) e ∙ clears-none-twice base n bs (sym (h .answered) ∙ q),
+      )
 
 -- ---- a written map
 -- the words w wrote bs as the map of n positions from base on
