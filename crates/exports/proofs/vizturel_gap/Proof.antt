@@ -4,10 +4,6 @@ use Rattle.exports.proofs.Returning.{returned-gap}
 use Rattle.exports.proofs.vizturel_gap.Statement.{statement}
 use Rattle.exports.proofs.vizturel_gap.Tie as tie
 
--- where the bounds are known
-abbrev bounded : tie.After-gap → tie.After-bound2
-bounded c = c .before
-
 bound-requires : tie.Need-bound-requires
 bound-requires c κs = search needs
 
@@ -26,7 +22,7 @@ position-requires c κs = search needs
 returns : tie.Need-returns
 returns c =
     let g = c .before .before in
-    let b = bounded g in
+    let b = g .before in
     returned-gap _ (b .before .bound .ensures) (b .bound2 .ensures) (g .gap .ensures) (c .before .found .ensures) (c .position .ensures)
 
 pub vizturel-gap-spec : {M : Type 1} → statement M
