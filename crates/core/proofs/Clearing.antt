@@ -1,12 +1,12 @@
 -- Clearing a map, by the tests that come before it: it is handled as the model says. Assumes nothing.
 use Prim.Native.Nat.{ℕ}
 use mathlib.Core.Path.{_≡_, sym, ap, ap₂, _∙_}
-use mathlib.Core.Bool.{Bool, true, false, _||_}
+use mathlib.Core.Bool.{true, false, _||_}
 use mathlib.Core.List.{List}
 use Rattle.model.specs.Refusals.{badWindow, badMap}
 use Rattle.model.specs.Call.{number, refused, gave}
 use Rattle.model.specs.Clearing.{Handled, clearMap}
-use Rattle.model.proofs.Clearing.{refusedSix, clear-refused, clear-done}
+use Rattle.model.proofs.Clearing.{clear-refused, clear-done}
 use Rattle.maps.specs.Spare.{Clears}
 use Rattle.core.specs.Handles.{Handles}
 

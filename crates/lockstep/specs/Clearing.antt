@@ -4,15 +4,14 @@ use Prim.Native.Nat.{ℕ}
 use mathlib.Core.Path.{_≡_, refl, sym, ap, ap₂, _∙_, subst}
 use mathlib.Core.Bool.{Bool, true, false}
 use mathlib.Core.List.{List, [], _∷_, _++_}
-use mathlib.Core.Option.{none, some}
+use mathlib.Core.Option.{none}
 use native.Mathlib.Omega.{arith}
 use lib.ListN.{length, take}
-use Rattle.model.specs.Positions.{Positions}
 use Rattle.model.specs.Bytes.{mapOf, intoFront}
 use Rattle.model.specs.Refusals.{_when_, window, outputShort, refusal, badWindow, noRoom}
 use Rattle.model.specs.Call.{Fed, wrongLength, unsound, holding, Call, number, written, Answer, gave}
 use Rattle.model.specs.Model.{Outcome, positionsOf, reads, settle, report, write, serve}
-use Rattle.model.specs.Clearing.{Handled, clearMap, documentOneReading}
+use Rattle.model.specs.Clearing.{clearMap, documentOneReading}
 use Rattle.model.proofs.Clearing.{clears-no-written-map, clears-twice, clears-none-twice, reads-as-document-one}
 use Rattle.store.specs.Layout.{allowance}
 use Rattle.core.specs.Met.{fedOf, outcomeOf, Leaves, Met}

@@ -1,26 +1,24 @@
 -- The laws of clearing (document 02, Ticket 2): the cleared map reads as document 01 read the map, clearing twice is clearing once, and a
--- written map is clear. The bits below n stay and those from n on are 0, which is all that a reading asks. Only `clear-stays` asks that the
--- elements are bytes: a number above 255 is no byte, and clearing would cut it. Assumes nothing.
+-- written map is clear. The bits below n stay and those from n on are 0, which is all that a reading asks. Only `clear-is` and `clear-stays`
+-- ask that the elements are bytes: of a number above 255 clearing keeps eight bits. Assumes nothing.
 use mathlib.Core.Path.{_≡_, refl, sym, ap, ap₂, _∙_, subst, fun-ext}
 use mathlib.Core.Logic.{_⊎_, inl, inr}
 use mathlib.Core.Bool.{Bool, true, false, cond, not, _||_, Bool·beq, false≢true}
 use mathlib.Core.List.{List, [], _∷_, _++_}
-use mathlib.Core.Option.{Option, none, some}
 use Prim.Native.Nat.{ℕ, suc, _+_, _-_, _*_, _/_, _≤_, _<_}
 use native.Mathlib.Nat.{zero-add, zero-div}
 use native.Mathlib.Omega.{arith}
-use lib.Dec.{ltb, eqb}
 use lib.ListN.{length, List·getD-eq-default}
-use borrow.Author.Tests.{eqb-true, eq-eqb, le-ltb, not-false}
+use borrow.Author.Tests.{eq-eqb, le-ltb}
 use Rattle.model.specs.Numbers.{split}
 use Rattle.model.specs.Positions.{Positions, among, oneIf, count, bounded, changes}
-use Rattle.model.specs.Positions.Laws.{among-yes, among-below, among-above, count-cut, count-first, count-none}
+use Rattle.model.specs.Positions.Laws.{among-below, among-above, count-cut, count-first, count-none}
 use Rattle.model.specs.Bytes.{mapLength, mapOf, mapBit, strayBits, cleared, mapped}
 use Rattle.model.specs.Codec.{AllBytes}
 use Rattle.model.specs.MapLaws.{mapOf-length, mapOf-bytes, mapOf-cong, mapOf-bit, mapOf-spare, map-tell}
-use Rattle.model.specs.Refusals.{Condition, window, strayBit, capacity, _when_, refusal, badWindow, badMap, stray, mapConditions, tooMany}
+use Rattle.model.specs.Refusals.{window, strayBit, capacity, _when_, refusal, badWindow, badMap, stray, tooMany}
 use Rattle.model.specs.Call.{Fed, wrongLength, unsound, holding, Result, number, Answer, refused, gave, readMap}
-use Rattle.model.specs.Model.{Outcome, positionsOf, reads, settle, change, changed, serve}
+use Rattle.model.specs.Model.{positionsOf, reads, settle, change, changed, serve}
 use Rattle.model.specs.Clearing.{Handled, handle, clearMap, documentOneReading}
 
 -- ---- the cleared map

@@ -3,7 +3,6 @@
 use mathlib.Core.List.{List, [], _∷_}
 use mathlib.Core.Option.{Option, none, some}
 use Prim.Native.Nat.{ℕ}
-use Rattle.model.specs.Positions.{Positions}
 use Rattle.model.specs.Bytes.{strayBits, cleared, mapped}
 use Rattle.model.specs.Refusals.{window, _when_, refusal, badWindow, badMap}
 use Rattle.model.specs.Call.{Fed, Result, number, Answer, refused, gave}

@@ -4,7 +4,6 @@ use Prim.Native.Nat.{ℕ, _+_, _≤_}
 use mathlib.Core.Path.{_≡_}
 use mathlib.Core.Bool.{true}
 use native.Mathlib.Omega.{arith}
-use borrow.Author.Needs.{needs}
 use Rattle.model.specs.Positions.{Positions, count}
 use Rattle.model.specs.Bytes.{bits}
 use Rattle.maps.proofs.Sparing.{Left, all-left, one-less, none-left}
