@@ -211,6 +211,7 @@ class Store:
         first, last = window(base, length)
         require(len(bits) == (length + 7) // 8, 6)
         number = int.from_bytes(bits, "little")
+        require(number >> length == 0, 10)
         new = union([(first + i, first + i) for i in range(length) if number >> i & 1])
         old = held(self.runs, first, last)
         self.keep(union(outside(self.runs, first, last) + new))
@@ -227,25 +228,33 @@ class Store:
         return 1000 * size(held(self.runs, *window(base, length))) // length
 
 
+def clear_map(base, length, bits):
+    """How many spare bits of a map were one, and the map without them."""
+    window(base, length)
+    require(len(bits) == (length + 7) // 8, 6)
+    number = int.from_bytes(bits, "little")
+    return bin(number >> length).count("1"), (number & 2**length - 1).to_bytes(len(bits), "little")
+
+
 def fill_front(room, due):
     """How many bytes are written into a slice, and the slice."""
     require(len(due) <= room, 2)
     return len(due), due + b"\xee" * (room - len(due))
 
 
-# The reader. Of each call its arguments after the first store: s a store, n a number, r both bounds of a range, w a word, b bytes,
+# The reader. Of each call its arguments after the first store (clear_map has none): s a store, n a number, r both bounds of a range, w a word, b bytes,
 # l a list of runs. Of those that answer more than "done", how the answer begins.
 
 ARGUMENTS = {
     "words": "n", "spoil": "", "new": "", "set": "rn", "flip": "r", "get": "n", "run_at": "n", "find": "rn", "count": "rn",
     "select": "rnn", "count_ranges": "rn", "gap": "rn", "ranges": "rn", "draw_front": "nnn", "draw_back": "nnn", "shift": "nn", "shifted": "snn",
     "combine": "wss", "not": "s", "eq": "s", "load": "b", "build": "l", "write_set": "n", "read_map": "nnb", "write_map": "nnn",
-    "fill": "nn",
+    "clear_map": "nnb", "fill": "nn",
 }
 ANSWERS = {
     "set": "number", "get": "value", "run_at": "run", "find": "at", "count": "number", "select": "at", "count_ranges": "number", "gap": "at",
     "ranges": "listing", "draw_front": "drawn", "draw_back": "drawn", "eq": "value", "write_set": "written", "read_map": "number",
-    "write_map": "written", "fill": "number",
+    "write_map": "written", "clear_map": "cleared", "fill": "number",
 }
 
 
@@ -267,8 +276,11 @@ def arguments(kinds, words, stores):
 
 
 def answer(line, stores):
-    name, store, *words = line.split()
-    call = getattr(stores[int(store)], "complement" if name == "not" else name)
+    name, *words = line.split()
+    if name == "clear_map":
+        call = clear_map
+    else:
+        call = getattr(stores[int(words.pop(0))], "complement" if name == "not" else name)
     try:
         result = call(*arguments(ARGUMENTS[name], iter(words), stores))
     except Refused as refused:

@@ -6,7 +6,8 @@
  * call must not overlap, except that a store that is only read may be lent twice.
  *
  * REFUSALS. Every answer begins with a refusal's number, or is one; 0 means that the call was done. A refused call has changed no word and no
- * byte. Where several would hold, the first of this order is given: 1 of any store, 7 of any store, 9, 6, 3 (under 5 bytes), 4, 3, 5, 8, 2.
+ * byte. Where several would hold, the first of this order is given: 1 of any store, 7 of any store, 9, 6, 10, 3 (under 5 bytes), 4, 3, 5,
+ * 8, 2.
  *
  *   1  a store's length is not 8 * (C + 3) words for a C from 1 to 65,536
  *   2  the output is shorter than what is due
@@ -17,6 +18,7 @@
  *   7  a store that the call reads is not sound
  *   8  the result would have more than C runs
  *   9  a gap of length 0 is asked for
+ *  10  a spare bit of a map to be read is one
  *
  * A store that is only overwritten (new, load, build, combine, not, shifted) may hold anything, and is refused with 1 alone.
  *
@@ -57,7 +59,8 @@ enum vizturel_refusal {
     VIZTUREL_WINDOW = 6,
     VIZTUREL_UNSOUND = 7,
     VIZTUREL_CAPACITY = 8,
-    VIZTUREL_GAP_LENGTH = 9
+    VIZTUREL_GAP_LENGTH = 9,
+    VIZTUREL_STRAY_BIT = 10
 };
 
 /* Kinds of bounds: none, one that includes its value, one that excludes it. Other numbers are reserved. */
@@ -234,12 +237,17 @@ uint64_t vizturel_build(uint64_t *words, size_t count, const uint64_t *runs, siz
  * big-endian. VIZTUREL_SET_BYTES(C) bytes are always enough. Refused with 1, 7, 2. */
 vizturel_written vizturel_write(const uint64_t *words, size_t count, uint8_t *out, size_t out_count);
 
-/* Writes the map of the window of length positions from base on: bit i (0 is least) of byte j is position base + 8j + i, spare bits are 0.
- * Refused with 1, 7, 6, 2. */
+/* Writes the map of the window of length positions from base on: bit i (0 is least) of byte j is position base + 8j + i. The spare bits, those of
+ * the last byte past the window, are 0. Refused with 1, 7, 6, 2. */
 vizturel_written vizturel_write_map(const uint64_t *words, size_t count, uint64_t base, uint64_t length, uint8_t *out, size_t out_count);
 
-/* Sets the window from a map, leaves the other positions, and tells how many changed; spare bits are ignored. Refused with 1, 7, 6, 8. */
+/* Sets the window from a map, leaves the other positions, and tells how many changed. A map with a spare bit that is one is not read.
+ * Refused with 1, 7, 6, 10, 8. */
 vizturel_counted vizturel_read_map(uint64_t *words, size_t count, uint64_t base, uint64_t length, const uint8_t *bytes, size_t bytes_count);
+
+/* Makes a map of the window fit to be read: zeroes its spare bits, and tells how many were one. The other bits stay. It takes no store. Stored maps
+ * whose spare bits may hold anything go through it before vizturel_read_map. Refused with 6. */
+vizturel_numbered vizturel_clear_map(uint64_t base, uint64_t length, uint8_t *map, size_t map_count);
 
 /* ---- a frame's calls at once: one soundness check, then every call of a list on the store */
 

@@ -58,10 +58,12 @@ pub enum Refusal {
     Capacity = 8,
     /// A gap of length 0 is asked for.
     GapLength = 9,
+    /// A spare bit of a map to be read is one: a bit of its last byte that is past the window. [`clear_map`] zeroes these.
+    StrayBit = 10,
 }
 
 impl Refusal {
-    const ALL: [Refusal; 9] = [
+    const ALL: [Refusal; 10] = [
         Refusal::StoreLength,
         Refusal::OutputShort,
         Refusal::SetLength,
@@ -71,9 +73,10 @@ impl Refusal {
         Refusal::Unsound,
         Refusal::Capacity,
         Refusal::GapLength,
+        Refusal::StrayBit,
     ];
 
-    /// The number of the refusal, from 1 to 9.
+    /// The number of the refusal, from 1 to 10.
     pub fn number(self) -> u64 {
         self as u64
     }
@@ -91,6 +94,7 @@ impl fmt::Display for Refusal {
             Refusal::Unsound => "a store that the call reads is not sound",
             Refusal::Capacity => "the result would have more runs than the capacity",
             Refusal::GapLength => "a gap of length 0 is asked for",
+            Refusal::StrayBit => "a spare bit of a map to be read is one",
         })
     }
 }
@@ -186,6 +190,26 @@ fn bounds(range: impl RangeBounds<u64>) -> (raw::Bound, raw::Bound) {
 
 // SAFETY of every call below: a slice is passed as its pointer and length and borrowed for the call alone, shared where it is only
 // read and uniquely where it is written, and no exported function asks more of its caller.
+
+/// Makes a map of the window of n positions from base on fit to be read: zeroes its spare bits, those of the last byte past the window,
+/// and tells how many were one. The other bits stay. It takes no store. Refused with 6 alone.
+///
+/// ```
+/// use vizturel::{Refusal, SetBuf, clear_map};
+/// # fn main() -> Result<(), vizturel::Refusal> {
+/// let mut slots = SetBuf::with_capacity(8)?;
+/// // A window of ten positions: the six highest bits of the second byte are spare.
+/// let mut map = [0x0C, 0x83];
+/// assert_eq!(slots.read_map(0, 10, &map), Err(Refusal::StrayBit));
+/// assert_eq!(clear_map(0, 10, &mut map), Ok(1));
+/// assert_eq!(map, [0x0C, 0x03]);
+/// assert_eq!(slots.read_map(0, 10, &map), Ok(4));
+/// # Ok(())
+/// # }
+/// ```
+pub fn clear_map(base: u64, n: u64, map: &mut [u8]) -> Answer<u64> {
+    number(unsafe { raw::vizturel_clear_map(base, n, map.as_mut_ptr(), map.len()) })
+}
 
 /// Calls that make a set in words that may hold anything. They may be refused with 1 of the words, and change them only if they
 /// succeed.
@@ -316,7 +340,8 @@ impl<S: AsMut<[u64]>> Set<S> {
         answer(refusal, ())
     }
 
-    /// Sets the window of n positions from base on as a map says, and tells how many positions changed. Refused with 6 or 8.
+    /// Sets the window of n positions from base on as a map says, and tells how many positions changed. Refused with 6, 10 or 8.
+    /// A map with a spare bit that is one is not read: [`clear_map`] zeroes these bits.
     pub fn read_map(&mut self, base: u64, n: u64, map: &[u8]) -> Answer<u128> {
         let w = self.words.as_mut();
         count(unsafe { raw::vizturel_read_map(w.as_mut_ptr(), w.len(), base, n, map.as_ptr(), map.len()) })

@@ -99,6 +99,7 @@ unsafe extern "C" {
         bytes: *const u8,
         length: usize,
     ) -> Count;
+    pub fn vizturel_clear_map(base: u64, n: u64, map: *mut u8, length: usize) -> Number;
     pub fn vizturel_write(words: *const u64, count: usize, out: *mut u8, length: usize) -> Number;
     pub fn vizturel_write_map(
         words: *const u64,

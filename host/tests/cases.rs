@@ -181,6 +181,7 @@ fn every_refusal_has_its_number() {
     let s = of(&[[2, 7], [10, 14]]);
     assert_eq!(Set::shifted(room(1), &s, 0, true).err().map(Refusal::number), Some(8));
     assert_eq!(s.gap(.., 0).err().map(Refusal::number), Some(9));
+    assert_eq!(of(&[]).read_map(0, 7, &[0x80]).err().map(Refusal::number), Some(10));
     assert_eq!(Refusal::Capacity.to_string(), "the result would have more runs than the capacity");
 }
 

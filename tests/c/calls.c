@@ -1,5 +1,5 @@
-/* The library through include/vizturel.h: the sixteen cases of the scope document, the gap search, each refusal, that a refused call changes
- * nothing, and calls by lists. Compiled as C and as C++. Prints what failed, and last 'N passed, M failed'. */
+/* The library through include/vizturel.h: the sixteen cases of the scope document, the gap search, spare bits of maps, each refusal, that
+ * a refused call changes nothing, and calls by lists. Compiled as C and as C++. Prints what failed, and last 'N passed, M failed'. */
 #include <stdio.h>
 #include <stdlib.h>
 #include <string.h>
@@ -271,6 +271,69 @@ static void gaps(void) {
     CHECK(vizturel_gap(s, WORDS, ALL, ALL, 1).refusal == VIZTUREL_UNSOUND);
 }
 
+/* Maps of every length from 1 to 17 with every last byte, against a reading bit by bit: read_map is refused with 10 exactly if a spare bit is one,
+ * and else sets the window; clear_map zeroes the spare bits, tells how many were one, and what it leaves is read as the map without them. */
+static void spare_bits(void) {
+    static const uint64_t runs[] = {1, 2, 6, 8, 30, 40};
+    uint64_t length, byte, i;
+    for (length = 1; length <= 17; length++) {
+        size_t bytes = (length + 7) / 8;
+        int right = 1;
+        for (byte = 0; byte < 256; byte++) {
+            uint8_t map[3] = {0xA5, 0x5A, 0xEE}, used[3], kept_map[3];
+            uint64_t stray = 0, changed = 0;
+            vizturel_counted c;
+            vizturel_numbered n;
+            map[bytes - 1] = (uint8_t)byte;
+            memcpy(kept_map, map, 3);
+            memcpy(used, map, 3);
+            for (i = length; i < 8 * bytes; i++) {
+                stray += map[i / 8] >> (i % 8) & 1;
+                used[i / 8] = (uint8_t)(used[i / 8] & ~(1u << (i % 8)));
+            }
+            vizturel_build(s, WORDS, runs, 6);
+            for (i = 0; i < length; i++) changed += vizturel_get(s, WORDS, 3 + i).value != (used[i / 8] >> (i % 8) & 1u);
+            memcpy(kept, s, sizeof s);
+            c = vizturel_read_map(s, WORDS, 3, length, map, bytes);
+            right &= memcmp(map, kept_map, 3) == 0;
+            if (stray > 0) {
+                right &= c.refusal == VIZTUREL_STRAY_BIT && c.carry == 0 && c.low == 0 && memcmp(kept, s, sizeof s) == 0;
+                right &= vizturel_clear_map(3, length + 8, map, bytes).refusal == VIZTUREL_WINDOW && memcmp(map, kept_map, 3) == 0;
+            } else {
+                right &= is_count(c, changed);
+            }
+            n = vizturel_clear_map(3, length, map, bytes);
+            right &= n.refusal == 0 && n.number == stray && memcmp(map, used, 3) == 0;
+            n = vizturel_clear_map(3, length, map, bytes);
+            right &= n.refusal == 0 && n.number == 0 && memcmp(map, used, 3) == 0;
+            if (stray > 0) right &= is_count(vizturel_read_map(s, WORDS, 3, length, map, bytes), changed);
+            for (i = 0; i < 60; i++) {
+                uint64_t held = (1 <= i && i <= 2) || (6 <= i && i <= 8) || (30 <= i && i <= 40);
+                if (3 <= i && i < 3 + length) held = used[(i - 3) / 8] >> ((i - 3) % 8) & 1u;
+                right &= vizturel_get(s, WORDS, i).value == held;
+            }
+        }
+        check(right, "every last byte of a map", __LINE__);
+    }
+    /* 10 comes after 1, 7 and 6, and before 8 */
+    only(one, VIZTUREL_WORDS(1), 2, 7);
+    out[0] = 0xD5;
+    CHECK(vizturel_read_map(one, VIZTUREL_WORDS(1), 0, 7, out, 1).refusal == VIZTUREL_STRAY_BIT);
+    CHECK(vizturel_read_map(one, VIZTUREL_WORDS(1), 0, 7, out, 2).refusal == VIZTUREL_WINDOW);
+    CHECK(vizturel_read_map(one, VIZTUREL_WORDS(1) - 1, 0, 7, out, 1).refusal == VIZTUREL_STORE_LENGTH);
+    CHECK(vizturel_clear_map(0, 7, out, 1).number == 1 && out[0] == 0x55);
+    CHECK(vizturel_read_map(one, VIZTUREL_WORDS(1), 0, 7, out, 1).refusal == VIZTUREL_CAPACITY);
+    one[7] = 1;
+    out[0] = 0xD5;
+    CHECK(vizturel_read_map(one, VIZTUREL_WORDS(1), 0, 7, out, 1).refusal == VIZTUREL_UNSOUND);
+    /* clearing is refused with 6 alone, and then no byte has changed */
+    CHECK(vizturel_clear_map(0, 0, out, 0).refusal == VIZTUREL_WINDOW);
+    CHECK(vizturel_clear_map(0, 7, out, 2).refusal == VIZTUREL_WINDOW);
+    CHECK(vizturel_clear_map(M, 2, out, 1).refusal == VIZTUREL_WINDOW);
+    CHECK(vizturel_clear_map(0, 524289, out, 1).refusal == VIZTUREL_WINDOW);
+    CHECK(out[0] == 0xD5);
+}
+
 static void refusals(void) {
     static const uint8_t version_two[] = {2, 0, 0, 0, 0};
     uint8_t nothing[8] = {9, 9, 9, 9, 9, 9, 9, 9}, same[8] = {9, 9, 9, 9, 9, 9, 9, 9};
@@ -465,6 +528,7 @@ static void refused_lists(void) {
 int main(void) {
     cases();
     gaps();
+    spare_bits();
     refusals();
     every_call();
     any_record();

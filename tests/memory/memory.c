@@ -317,8 +317,17 @@ static void damaged_bytes(void) {
         for (i = 0; i < length; i++) bytes.at[i] = 255;
         uint64_t r = vizturel_read_map(s.words, s.count, 3, 8 * 20, bytes.at, length).refusal;
         CHECK(length == 20 ? r == 0 : r == VIZTUREL_WINDOW);
-        r = vizturel_read_map(s.words, s.count, M - 7 * length, 7 * length + 1, bytes.at, length).refusal;
-        CHECK(r == 0 || r == VIZTUREL_WINDOW || r == VIZTUREL_CAPACITY);
+        /* all bits are one: those past the window are stray, until they are cleared */
+        uint64_t window = 7 * length + 1;
+        int fits = (window + 7) / 8 == length;
+        r = vizturel_read_map(s.words, s.count, M - 7 * length, window, bytes.at, length).refusal;
+        CHECK(!fits ? r == VIZTUREL_WINDOW : window % 8 ? r == VIZTUREL_STRAY_BIT : r == 0 || r == VIZTUREL_CAPACITY);
+        vizturel_numbered cleared = vizturel_clear_map(M - 7 * length, window, bytes.at, length);
+        CHECK(fits ? cleared.refusal == 0 && cleared.number == 8 * length - window : cleared.refusal == VIZTUREL_WINDOW);
+        writable(bytes, 0);
+        r = vizturel_read_map(s.words, s.count, M - 7 * length, window, bytes.at, length).refusal;
+        CHECK(fits ? r == 0 || r == VIZTUREL_CAPACITY : r == VIZTUREL_WINDOW);
+        writable(bytes, 1);
         give_back(bytes);
         if (length <= 10) {
             slice list = lend(8 * length);
@@ -391,6 +400,7 @@ int main(int argc, char **argv) {
     out = lend(VIZTUREL_SET_BYTES(MOST));
     map = lend(MAP_BYTES);
     memset(map.at, 0x35, MAP_BYTES);
+    CHECK(vizturel_clear_map(0, MAP_LENGTH, map.at, MAP_BYTES).number == 2);
     run_words = lend(8 * 2 * LIST_RUNS);
     for (i = 0; i < 2 * LIST_RUNS; i++) ((uint64_t *)(void *)run_words.at)[i] = 4 * i;
     set_length = VIZTUREL_SET_BYTES(1);

@@ -16,7 +16,7 @@ use Rattle.model.specs.Range.{firstAllowed, extent}
 use Rattle.model.specs.Positions.{Positions, bounded, stretches, changes, setRange, flipRange, shiftBy}
 use Rattle.model.specs.After.{set-below, set-above, flip-below, flip-above, changes-set}
 use Rattle.model.specs.Bytes.{mapped}
-use Rattle.model.specs.Refusals.{storeLength, beforeCapacity, Condition, _when_, given, firstGiven, refusal, tooMany}
+use Rattle.model.specs.Refusals.{storeLength, beforeCapacity, Condition, _when_, given, firstGiven, refusal, mapConditions, tooMany}
 use Rattle.model.specs.Refusals
 use Rattle.model.specs.Call.{Fed, Call, Result, done, number, refused, gave}
 use Rattle.model.specs.Model.{positionsOf, reads, settle, change, changed, serve}
@@ -31,7 +31,6 @@ use Rattle.changes.specs.Shifted.{shift-few}
 use Rattle.core.specs.Met.{fedOf, outcomeOf, Met, Readable}
 use Rattle.core.proofs.Meeting.{met-by}
 use Rattle.core.proofs.Refusing.{refused-before, refused-full}
-use Rattle.core.proofs.Windows.{mapConditions}
 use Rattle.core.proofs.Spans.{Within, of-range, count-nothing}
 
 -- the call c has the conditions cs, which are not of its store's length, changes the positions held to Q of them, and gives A of them

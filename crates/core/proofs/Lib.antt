@@ -2,6 +2,7 @@
 pub mod Refusing
 pub mod Meeting
 pub mod Windows
+pub mod Clearing
 pub mod Spans
 pub mod Gaps
 pub mod Changing

@@ -30,7 +30,7 @@ use Rattle.streams.specs.Gathering.{Gathers}
 use Rattle.written.specs.declared.set.Told.{Told}
 use Rattle.written.specs.Told.{Acceptable, TellsRuns}
 use Rattle.written.specs.Listed.{pairs, Receives, Received}
-use Rattle.written.proofs.Digits.{all-bytes}
+use Rattle.model.proofs.Slices.{all-bytes}
 use Rattle.written.proofs.Listing.{pairs-length, pairs-words}
 use Rattle.written.proofs.Telling.{ordered-stretches, disorder-is, accepted-runs, accepted-stretches}
 use Rattle.core.specs.Laid.{Begun, Laying}

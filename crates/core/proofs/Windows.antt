@@ -14,13 +14,9 @@ use Rattle.model.specs.declared.Count.{Count}
 use Rattle.model.specs.Numbers.{size, worth, split}
 use Rattle.model.specs.Positions.{Positions, count}
 use Rattle.model.specs.Positions.Laws.{count-both}
-use Rattle.model.specs.Bytes.{fillOf}
-use Rattle.model.specs.Refusals.{window, beforeCapacity, Condition, _when_, firstGiven, refusal, badWindow, badMap}
+use Rattle.model.specs.Bytes.{strayBits, fillOf}
+use Rattle.model.specs.Refusals.{window, beforeCapacity, _when_, firstGiven, refusal, badWindow, badMap, stray, mapConditions}
 use Rattle.maps.specs.Window.{Window}
-
--- the conditions of a window that is read from a map
-abbrev pub mapConditions : ℕ → ℕ → List ℕ → List Condition
-mapConditions base n bs = window when badWindow base n ∷ window when badMap n bs ∷ []
 
 -- whether a map has its window's length
 pub map-fits : (n : ℕ) (bs : List ℕ) → eqb (length bs) ((n + 7) / 8) ≡ not (badMap n bs)
@@ -96,9 +92,15 @@ module _ (base n : ℕ) where
     pub map-length-refused : badWindow base n ≡ false → badMap n bs ≡ true → firstGiven beforeCapacity (mapConditions base n bs) ≡ some 6
     map-length-refused e f = rw (e, f)
 
+    -- or if a spare bit of it is one
+    pub map-stray-refused : badWindow base n ≡ false → badMap n bs ≡ false → 0 < strayBits n bs → firstGiven beforeCapacity (mapConditions base n bs) ≡ some 10
+    unfolding stray
+    map-stray-refused e f h = rw (e, f, lt-ltb 0 (strayBits n bs) h)
+
     -- and else not
-    pub map-passes : badWindow base n ≡ false → badMap n bs ≡ false → refusal (mapConditions base n bs) ≡ none
-    map-passes e f = rw (e, f)
+    pub map-passes : badWindow base n ≡ false → badMap n bs ≡ false → strayBits n bs ≤ 0 → refusal (mapConditions base n bs) ≡ none
+    unfolding stray
+    map-passes e f h = rw (e, f, le-ltb 0 (strayBits n bs) h)
 
     -- then it can be read
     pub map-window : badWindow base n ≡ false → badMap n bs ≡ false → Window base n bs

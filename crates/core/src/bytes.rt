@@ -65,6 +65,9 @@ pub fn read_map(words: &mut [u64], base: u64, n: u64, bytes: &[u8]) -> Counted
     if !crate::window::map_length_fits(bytes, n) {
         return Counted::Refused(Refusal::Window);
     }
+    if maps::clear::stray_bits(bytes, n) > 0 {
+        return Counted::Refused(Refusal::StrayBit);
+    }
     let h = store::open(words);
     let e = maps::read::read_map(words, h, store::allowance(words), base, n, bytes);
     match e {

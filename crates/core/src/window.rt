@@ -4,6 +4,11 @@ ghost use mathlib.Core.Bool.{not};
 ghost use Prim.Native.Nat.{_≤_};
 ghost use Rattle.model.specs.Numbers.{longest};
 ghost use Rattle.model.specs.Refusals.{badWindow, badMap};
+ghost use Rattle.model.specs.Answers.{numberedAnswer};
+ghost use Rattle.model.specs.Clearing.{clearMap};
+ghost use Rattle.core.specs.Handles.{Handles};
+use model::Numbered;
+use model::Refusal;
 
 // The longest window.
 const LONGEST: u64 = 524288;
@@ -27,4 +32,17 @@ pub fn map_length_fits(bytes: &[u8], n: u64) -> bool
     ensures { λ r. ⌜ r ≡ not (badMap n (now (bytes .entry))) ⌝ }
 {
     bytes.len() as u64 == (n + 7) / 8
+}
+
+// Zeroes the spare bits of a window's map, and returns how many were one. No store is at hand.
+pub fn clear_map(base: u64, n: u64, map: &mut [u8]) -> Numbered
+    ensures { λ r. ⌜ Handles (clearMap base n (now (map .entry))) (numberedAnswer r) (now (map .exit)) ⌝ }
+{
+    if !window_fits(base, n) {
+        return Numbered::Refused(Refusal::Window);
+    }
+    if !map_length_fits(map, n) {
+        return Numbered::Refused(Refusal::Window);
+    }
+    Numbered::Number(maps::clear::clear(map, n))
 }

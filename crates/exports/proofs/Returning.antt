@@ -8,7 +8,9 @@ use Rattle.model.specs.declared.Written.{Written}
 use Rattle.model.specs.Answers.{writtenAnswer}
 use Rattle.model.specs.Call.{Call, Answer}
 use Rattle.model.specs.Gaps.{AnswersGap}
+use Rattle.model.specs.Clearing.{Handled}
 use Rattle.core.specs.Met.{fedOf, Met}
+use Rattle.core.specs.Handles.{Handles}
 use Rattle.core.specs.Out.{Unwritten, WritesOut}
 use Rattle.flat.specs.declared.Reply.{Reply}
 use Rattle.flat.specs.Flat.{replyOf}
@@ -16,7 +18,7 @@ use Rattle.frame.specs.Frame.{Framed}
 use Rattle.exports.specs.declared.structs.CPosition.{CPosition}
 use Rattle.exports.specs.declared.structs.CWritten.{CWritten}
 use Rattle.exports.specs.Structs.{refusalOf, positionOf, writtenOf}
-use Rattle.exports.specs.Returns.{Returns, ReturnsGap, sliceAfter, Writes, Frames}
+use Rattle.exports.specs.Returns.{Returns, ReturnsGap, sliceAfter, Writes, Handed, Frames}
 
 -- a call between two bounds is the call between what they were made of
 pub between : (f : Bound → Bound → Call (List ℕ)) {p q x y : Bound} → p ≡ x → q ≡ y → f p q ≡ f x y
@@ -45,6 +47,10 @@ pub wrote : {c : List ℕ → Call (List ℕ)} {w out out′ : List ℕ} (a : Wr
     → ((o : List ℕ) → q ≡ replyOf (writtenAnswer a o)) → r ≡ writtenOf q → Writes w c out r out′
 unfolding returned
 wrote {out = out} {out′} a k p s = record { returns = returned refl (k .met) (p out′) s; slice = slice-is out out′ a (k .unwritten) }
+
+-- a call on a slice alone
+pub handed : {R : Type 0} {h : Handled} {f : Reply → R} {r : R} {a : Answer} {q : Reply} {bs : List ℕ} → Handles h a bs → q ≡ replyOf a → r ≡ f q → Handed h f r bs
+handed {f = f} k p s = record { flat = s ∙ ap f (p ∙ ap (λ a. replyOf a) (k .answered)); slice = k .left }
 
 -- a frame
 pub framed : {w cs out w′ out′ : List ℕ} {a : Answer} {q : Reply} → Framed w cs out a w′ out′ → q ≡ replyOf a → Frames w cs out (refusalOf q) w′ out′

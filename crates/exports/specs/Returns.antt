@@ -6,6 +6,7 @@ use mathlib.Core.List.{List}
 use Rattle.model.specs.declared.Bound.{Bound}
 use Rattle.model.specs.Call.{Call, Answer, refused, gave}
 use Rattle.model.specs.Gaps.{AnswersGap}
+use Rattle.model.specs.Clearing.{Handled}
 use Rattle.core.specs.Met.{fedOf, Met}
 use Rattle.interval_bit_set.specs.Out.{onWritten}
 use Rattle.flat.specs.declared.Reply.{Reply}
@@ -36,6 +37,11 @@ sliceAfter (gave r) out = onWritten out (λ n bs. bs) r
 pub record Writes (w : List ℕ) (c : List ℕ → Call (List ℕ)) (out : List ℕ) (r : CWritten) (out′ : List ℕ) : Type 0 where
   pub returns : Returns w (c out) writtenOf r w
   pub slice : out′ ≡ sliceAfter (returns .answer) out
+
+-- the same of a call on a lent slice alone, which the model says to be handled as h: it leaves bs, the whole slice
+pub record Handed {R : Type 0} (h : Handled) (f : Reply → R) (r : R) (bs : List ℕ) : Type 0 where
+  pub flat : r ≡ f (replyOf (h .answer))
+  pub slice : bs ≡ h .slice
 
 -- and of a frame: the list cs on the words w with the slice out
 pub record Frames (w cs out : List ℕ) (r : ℕ) (w′ out′ : List ℕ) : Type 0 where

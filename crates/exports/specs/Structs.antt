@@ -26,7 +26,7 @@ refusalOf r = r .refusal
 abbrev pub countOf : Reply → CCount
 countOf r = record { refusal = r .refusal; carry = r .found; low = r .number }
 
--- count_ranges, fill
+-- count_ranges, fill, clear_map
 abbrev pub numberOf : Reply → CNumber
 numberOf r = record { refusal = r .refusal; number = r .number }
 

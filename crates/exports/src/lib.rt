@@ -4,10 +4,11 @@ ghost use Prim.Native.Nat.{_/_};
 ghost use lib.ListN.{length};
 ghost use Rattle.written.specs.Listed.{pairs};
 ghost use Rattle.model.specs.Call.{Call};
+ghost use Rattle.model.specs.Clearing.{clearMap};
 ghost use Rattle.interval_bit_set.specs.Lent.{listingOf};
 ghost use Rattle.flat.specs.Flat.{operationOf, truth};
 ghost use Rattle.exports.specs.Structs.{boundOf, refusalOf, countOf, numberOf, valueOf, runOf, positionOf, listedOf, drawnOf};
-ghost use Rattle.exports.specs.Returns.{Returns, ReturnsGap, Writes, Frames};
+ghost use Rattle.exports.specs.Returns.{Returns, ReturnsGap, Writes, Handed, Frames};
 use crate::structs::CBound;
 use crate::structs::CCount;
 use crate::structs::CDrawn;
@@ -275,6 +276,14 @@ pub extern "C" fn vizturel_read_map(words: &mut [u64], base: u64, n: u64, bytes:
     ensures { λ r. ⌜ Returns (now (words .entry)) (Call.readMap base n (now (bytes .entry))) countOf r (now (words .exit)) ⌝ }
 {
     structs::count(flat::counted(interval_bit_set::bytes::read_map(words, base, n, bytes)))
+}
+
+// Zeroes the spare bits of a window's map, and tells how many were one. It takes no store.
+#[no_mangle]
+pub extern "C" fn vizturel_clear_map(base: u64, n: u64, map: &mut [u8]) -> CNumber
+    ensures { λ r. ⌜ Handed (clearMap base n (now (map .entry))) numberOf r (now (map .exit)) ⌝ }
+{
+    structs::number(flat::numbered(interval_bit_set::bytes::clear_map(base, n, map)))
 }
 
 // Writes a store's set into the front of a slice, and tells how many bytes it has.

@@ -20,7 +20,7 @@ pub struct CCount {
     pub low: u64,
 }
 
-// A number of runs, or of thousandths.
+// A number of runs, of thousandths, or of bits.
 #[repr(C)]
 pub struct CNumber {
     pub refusal: u64,
@@ -95,7 +95,7 @@ pub fn count(r: Reply) -> CCount
     }
 }
 
-// What count_ranges and fill return.
+// What count_ranges, fill and clear_map return.
 pub fn number(r: Reply) -> CNumber
     ensures { λ c. ⌜ c ≡ numberOf r ⌝ }
 {

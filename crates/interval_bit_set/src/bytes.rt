@@ -1,14 +1,17 @@
-// Reading written sets, run lists and maps into a store.
+// Reading written sets, run lists and maps into a store, and making a map fit to be read.
 ghost use mathlib.Core.Path.{_≡_};
 ghost use Prim.Native.Nat.{_/_};
 ghost use lib.ListN.{length};
 ghost use Rattle.model.specs.Call.{Call};
-ghost use Rattle.model.specs.Answers.{completedAnswer, countedAnswer};
+ghost use Rattle.model.specs.Answers.{completedAnswer, countedAnswer, numberedAnswer};
+ghost use Rattle.model.specs.Clearing.{clearMap};
 ghost use Rattle.written.specs.Listed.{pairs};
 ghost use Rattle.core.specs.Met.{Met};
+ghost use Rattle.core.specs.Handles.{Handles};
 use crate::look::Look;
 use model::Completed;
 use model::Counted;
+use model::Numbered;
 use model::Refusal;
 use store::Store;
 
@@ -43,4 +46,11 @@ pub fn read_map(words: &mut [u64], base: u64, n: u64, bytes: &[u8]) -> Counted
         Look::Refused(r) => Counted::Refused(r),
         Look::Sound => core::bytes::read_map(words, base, n, bytes),
     }
+}
+
+// Zeroes the spare bits of a window's map, and returns how many were one. It takes no store, so there is none to look at.
+pub fn clear_map(base: u64, n: u64, map: &mut [u8]) -> Numbered
+    ensures { λ r. ⌜ Handles (clearMap base n (now (map .entry))) (numberedAnswer r) (now (map .exit)) ⌝ }
+{
+    core::window::clear_map(base, n, map)
 }

@@ -5,4 +5,5 @@ pub mod Writing
 pub mod Empty
 pub mod Loading
 pub mod Theorems
+pub mod Clearing
 pub mod Meeting

@@ -52,7 +52,7 @@ unfolding step serve write report
 write-by C P out = refl
 
 -- bytes in front of a slice are there
-take-front : (bs out : List ℕ) → take (length bs) (intoFront bs out) ≡ bs
+pub take-front : (bs out : List ℕ) → take (length bs) (intoFront bs out) ≡ bs
 unfolding intoFront
 take-front bs out = take-at bs (drop (length bs) out) (length bs) refl
 

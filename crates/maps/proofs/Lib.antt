@@ -7,3 +7,4 @@ pub mod OnTheWay
 pub mod Applying
 pub mod Storing
 pub mod Octeting
+pub mod Sparing

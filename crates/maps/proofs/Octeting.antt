@@ -64,7 +64,7 @@ pub alike-some : (n : ℕ) → n ≤ 8 → 1 ≤ (1 * 2 ^ n) % 2 ^ 64
 alike-some n l = rw (shl-exact {a = 1} 1 n 64 (omega arith) (omega arith)) (omega (arith, pow-pos n))
 
 -- the bits of k positions more lie above those of n
-bits-above : (Q : Positions) (x n k : ℕ) → bits Q x n + bits Q (x + n) k * 2 ^ n ≡ bits Q x (n + k)
+pub bits-above : (Q : Positions) (x n k : ℕ) → bits Q x n + bits Q (x + n) k * 2 ^ n ≡ bits Q x (n + k)
 unfolding bits
 bits-above Q x zero k =
     let e : 0 + k ≡ k = omega arith in rw (e, add-zero) (omega arith)

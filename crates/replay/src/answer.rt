@@ -175,6 +175,20 @@ fn hexes(out: &[u8]) {
     }
 }
 
+// How many bits were zeroed, and the map.
+pub fn cleared(n: Numbered, map: &[u8]) {
+    match n {
+        Numbered::Refused(r) => refused(r),
+        Numbered::Number(k) => {
+            io::write_all(1, b"cleared");
+            number(k);
+            io::write_all(1, b" ");
+            hexes(map);
+        }
+    }
+    end_line();
+}
+
 // How many bytes were written, and the whole slice.
 pub fn written(w: Written, out: &[u8]) {
     match w {

@@ -111,6 +111,28 @@ fn read_map(store: &mut [u64], line: &[u8], at: usize) -> bool {
     true
 }
 
+// ---- no store
+// Zeroes spare bits in the first n bytes.
+fn clear_map_in(base: u64, window: u64, space: &mut [u8], n: usize)
+    requires { ⌜ n ≤ length (now space) ⌝ }
+{
+    let c = bytes::clear_map(base, window, &mut space[0..n]);
+    answer::cleared(c, &space[0..n]);
+}
+
+pub fn clear_map(line: &[u8], at: usize) -> bool {
+    let mut space = [0u8; 1024];
+    let base = line::number_at(line, at);
+    let window = line::number_at(line, base.next);
+    let b = line::bytes_at(line, window.next, &mut space);
+    let n = b.count;
+    if b.next != line.len() {
+        return false;
+    }
+    clear_map_in(base.value, window.value, &mut space, n);
+    true
+}
+
 // ---- reports
 fn get(store: &[u64], line: &[u8], at: usize) -> bool {
     let x = line::number_at(line, at);

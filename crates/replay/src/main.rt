@@ -11,7 +11,7 @@ mod frames;
 mod line;
 mod stores;
 
-// Makes the call of a line and prints its answer, or tells that the line is none: a name, a store, and what the call takes.
+// Makes the call of a line and prints its answer, or tells that the line is none: a name, a store but for clear_map, and what the call takes.
 fn understood(
     words: &mut [u64; 2144],
     lengths: &mut [usize; 4],
@@ -24,6 +24,9 @@ fn understood(
     }
     if line[line.len() - 1] != b'\n' {
         return false;
+    }
+    if check::same(&line[0..e], b"clear_map") {
+        return calls::clear_map(line, e + 1);
     }
     let s = line::at_most(line, e + 1, 3);
     stores::call_named(

@@ -11,7 +11,8 @@ use mir.Syntax.{w8}
 use mir.Val.{Fits}
 use Rattle.model.specs.Positions.{run}
 use Rattle.model.specs.Bytes.{bigEndian, valueFrom, valueOf, decodeRuns}
-use Rattle.model.specs.Codec.{AllBytes, bigEndian-length, bigEndian-bytes, valueFrom-bigEndian, bigEndian-value, drop-bytes, part-bound, decodeRuns-at}
+use Rattle.model.proofs.Slices.{all-bytes}
+use Rattle.model.specs.Codec.{bigEndian-length, bigEndian-bytes, valueFrom-bigEndian, bigEndian-value, drop-bytes, part-bound, decodeRuns-at}
 use Rattle.written.specs.Placed.{placed}
 use Rattle.written.specs.Placing.{sets-placed, placed-placed}
 
@@ -102,12 +103,7 @@ word-value l i a b h p q =
     let s : take 8 (drop i l) ≡ take 4 (drop i l) ++ take 4 (drop (i + 4) l) = take-add 4 4 (drop i l) ∙ rw (drop-drop 4 i l) in
     sym (rw (s, value-append (take 4 (drop i l)) (take 4 (drop (i + 4) l)), n, ← p, ← q) refl)
 
--- what a slice of bytes has are bytes
-pub all-bytes : (bs : List ℕ) → ((i : ℕ) → Fits w8 (getD bs i 0)) → AllBytes bs
-all-bytes [] f = tt
-all-bytes (b ∷ bs) f = (omega (arith, f 0), all-bytes bs (λ i. f (suc i)))
-
--- so a count is below 2^32
+-- a count is below 2^32
 pub count-bound : (l : List ℕ) (i a : ℕ) → ((j : ℕ) → Fits w8 (getD l j 0)) → a ≡ valueOf (take 4 (drop i l)) → a < 4294967296
 count-bound l i a f e = omega (arith, part-bound 4 (drop i l) (drop-bytes i l (all-bytes l f)))
 

@@ -219,6 +219,7 @@ fn measure_on(painted: &mut Painted, physical: &[Run], offset: u64, shape: Shape
     on_stack!(painted, vizturel_build(s, n, list.as_ptr(), list.len()));
     on_stack!(painted, vizturel_new(s, n));
     let mut map = vec![0; WINDOW as usize / 8];
+    on_stack!(painted, vizturel_clear_map(0, WINDOW - 3, map.as_mut_ptr(), map.len()));
     for base in [runs[0][0], runs[runs.len() - 1][1].saturating_sub(WINDOW - 1)] {
         on_stack!(painted, vizturel_write_map(p, n, base, WINDOW, map.as_mut_ptr(), map.len()));
         // All runs away in the window, one position away, and one more there.

@@ -39,7 +39,7 @@ fn fits(call: &Call) -> bool {
         Call::Lend { words, .. } => words.len() <= 8 * (CAPACITY + 3),
         Call::Load { bytes, .. } => bytes.len() <= SLICE,
         Call::Build { runs, .. } => runs.len() <= CAPACITY,
-        Call::ReadMap { map, .. } => map.len() <= MAP,
+        Call::ReadMap { map, .. } | Call::ClearMap { map, .. } => map.len() <= MAP,
         Call::Write { room, .. } | Call::WriteMap { room, .. } => *room <= SLICE,
         Call::Frame { calls, room, .. } => {
             [calls.len(), *room].iter().all(|n| n % records::WORDS == 0 && n / records::WORDS <= CALLS)

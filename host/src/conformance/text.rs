@@ -65,6 +65,10 @@ const OPERATIONS: [(&str, Operation); 3] = [("and", Operation::And), ("or", Oper
 pub fn read<'a>(lines: &mut impl Iterator<Item = &'a str>) -> Option<Call> {
     let mut w = Words(lines.next()?.split(' '));
     let name = w.word()?;
+    if name == "clear_map" {
+        let call = Call::ClearMap { base: w.number()?, n: w.number()?, map: w.bytes()? };
+        return w.word().is_none().then_some(call);
+    }
     let s = w.number()?;
     let call = match name {
         "words" => Call::Lend { at: s, words: crate::room(w.number()?) },
@@ -173,6 +177,7 @@ pub fn write(call: &Call) -> String {
         }
         Call::Write { at, room } => format!("write_set {at} {room}"),
         Call::ReadMap { at, base, n, ref map } => format!("read_map {at} {base} {n} {}", digits(map)),
+        Call::ClearMap { base, n, ref map } => format!("clear_map {base} {n} {}", digits(map)),
         Call::WriteMap { at, base, n, room } => format!("write_map {at} {base} {n} {room}"),
         Call::Fill { at, base, n } => format!("fill {at} {base} {n}"),
         Call::Frame { at, ref calls, room } => {
@@ -204,6 +209,7 @@ pub fn tell(call: &Call, told: &Told) -> String {
         Told::Drawn(None, left) => format!("end {}", listing(*left)),
         Told::Draws(made, _) => format!("listing {}", listing(*made)),
         Told::Slice(filled, bytes) => format!("written {filled} {}", digits(bytes)),
+        Told::Cleared(count, bytes) => format!("cleared {count} {}", digits(bytes)),
         Told::RefusedAndChanged(r) => format!("changed something, and refused {}", r.number()),
     }
 }

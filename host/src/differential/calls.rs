@@ -123,6 +123,12 @@ pub enum Call {
         n: u64,
         map: Vec<u8>,
     },
+    /// About no store.
+    ClearMap {
+        base: u64,
+        n: u64,
+        map: Vec<u8>,
+    },
     Write {
         at: usize,
         room: usize,
@@ -161,8 +167,8 @@ impl Call {
     }
 }
 
-/// What a call tells. Of a listing each draw, and how it ended; of a slice how much of it was filled, and all its bytes; of a frame each
-/// answer's record, and the words of the slice after them. Of a gap the oracle tells every start that is right, as runs; the library tells
+/// What a call tells. Of a listing each draw, and how it ended; of a slice how much of it was filled, and all its bytes; of a map how
+/// many bits were zeroed, and all its bytes; of a frame each answer's record, and the words of the slice after them. Of a gap the oracle tells every start that is right, as runs; the library tells
 /// one position, or none.
 #[derive(Debug, PartialEq)]
 pub enum Told {
@@ -177,6 +183,7 @@ pub enum Told {
     Drawn(Option<RangeInclusive<u64>>, Listing),
     Draws(Listing, Vec<(Option<RangeInclusive<u64>>, Listing)>),
     Slice(usize, Vec<u8>),
+    Cleared(u64, Vec<u8>),
     Answers(Vec<Record>, Vec<u64>),
     RefusedAndChanged(Refusal),
 }

@@ -34,12 +34,13 @@ pub enum Kind {
     Load,
     Build,
     ReadMap,
+    ClearMap,
     Write,
     WriteMap,
 }
 
 /// The kinds that have one right answer. [`Kind::Gap`], the other one, is in no list of calls whose answers are written down.
-pub const KINDS: [Kind; 22] = [
+pub const KINDS: [Kind; 23] = [
     Kind::Get,
     Kind::RunAt,
     Kind::Find,
@@ -52,6 +53,7 @@ pub const KINDS: [Kind; 22] = [
     Kind::Equal,
     Kind::Write,
     Kind::WriteMap,
+    Kind::ClearMap,
     Kind::Combine,
     Kind::Not,
     Kind::Shifted,
@@ -127,6 +129,13 @@ fn map(random: &mut Random, n: u64) -> Vec<u8> {
             byte = if due > 300 { random.one_of(&[0, 0xFF]) } else { random.one_of(&[0, 0xFF, 0x0F, any]) };
         }
         map.push(byte);
+    }
+    // Spare bits are mostly 0, as they have to be, or else all or some are one.
+    if due == length && !n.is_multiple_of(8) && due > 0 {
+        let spare = 0xFF << (n % 8);
+        let any = random.number() as u8;
+        map[due as usize - 1] &= !spare;
+        map[due as usize - 1] |= spare & random.one_of(&[0, 0, 0, 0, 0xFF, 0x80, any]);
     }
     map
 }
@@ -238,6 +247,10 @@ pub fn call(random: &mut Random, stores: &[Store], kind: Kind, at: usize) -> Cal
         Kind::ReadMap => {
             let n = window(random);
             Call::ReadMap { at, base: position(random, runs), n, map: map(random, n) }
+        }
+        Kind::ClearMap => {
+            let n = window(random);
+            Call::ClearMap { base: position(random, runs), n, map: map(random, n) }
         }
         Kind::Write => Call::Write { at, room: slice_room(random, 5 + 16 * runs.len()) },
         Kind::WriteMap => {
@@ -390,7 +403,7 @@ const MOODS: [&[Kind]; 7] = [
     &[Kind::Shift, Kind::Shift, Kind::Set],
     &[Kind::Combine, Kind::Not, Kind::Shifted, Kind::Set],
     &[Kind::Load, Kind::Build, Kind::Write, Kind::Set],
-    &[Kind::ReadMap, Kind::WriteMap, Kind::Fill, Kind::Shift],
+    &[Kind::ReadMap, Kind::WriteMap, Kind::ClearMap, Kind::Fill, Kind::Shift],
     &[Kind::Ranges, Kind::Draw, Kind::Select, Kind::Set],
 ];
 

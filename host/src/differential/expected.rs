@@ -124,9 +124,6 @@ fn slice(room: usize, due: Vec<u8>) -> Answer<Told> {
     Ok(Told::Slice(filled, all))
 }
 
-fn bit(map: &[u8], i: u64) -> bool {
-    map[(i / 8) as usize] >> (i % 8) & 1 == 1
-}
 /// Several stores.
 #[derive(Clone)]
 pub struct Expected {
@@ -139,7 +136,7 @@ impl Expected {
         self.result(call).unwrap_or_else(Told::Refused)
     }
 
-    // The oracle refuses nothing: the order of refusals is 1, 7, 9, 6, 3, 4, 3, 5, 8, 2.
+    // The oracle refuses nothing: the order of refusals is 1, 7, 9, 6, 10, 3, 4, 3, 5, 8, 2.
     fn result(&mut self, call: &Call) -> Answer<Told> {
         let stores = &mut self.stores;
         match *call {
@@ -270,23 +267,33 @@ impl Expected {
             }
             Call::ReadMap { at, base, n, ref map } => {
                 stores[at].read()?;
-                if !reference::is_window(base, n) || map.len() as u64 != n.div_ceil(8) {
+                if !reference::is_map(base, n, map) {
                     return Err(Refusal::Window);
+                }
+                if reference::has_stray_bit(n, map) {
+                    return Err(Refusal::StrayBit);
                 }
                 // A stretch of n positions has at most n / 2 + 1 runs.
                 stores[at].change(n as usize / 2 + 1, |p| {
                     let mut changed = 0;
                     let mut i = 0;
                     while i < n {
-                        let value = bit(map, i);
+                        let value = reference::bit(map, i);
                         let start = i;
-                        while i < n && bit(map, i) == value {
+                        while i < n && reference::bit(map, i) == value {
                             i += 1;
                         }
                         changed += p.set((base + start) as usize..=(base + (i - 1)) as usize, value);
                     }
                     Told::Count(changed)
                 })
+            }
+            Call::ClearMap { base, n, ref map } => {
+                if !reference::is_map(base, n, map) {
+                    return Err(Refusal::Window);
+                }
+                let mut cleared = map.clone();
+                Ok(Told::Cleared(reference::clear(n, &mut cleared), cleared))
             }
             Call::Write { at, room } => {
                 stores[at].read()?;

@@ -88,6 +88,13 @@ impl Library {
             Call::Load { to, ref bytes } => self.receiving(to, |_, w| Set::load(w, bytes).map(|_| ())),
             Call::Build { to, ref runs } => self.receiving(to, |_, w| Set::from_sorted_runs(w, runs).map(|_| ())),
             Call::ReadMap { at, base, n, ref map } => self.lent_mut(at).read_map(base, n, map).map(Told::Count),
+            Call::ClearMap { base, n, ref map } => {
+                let mut cleared = map.clone();
+                match crate::clear_map(base, n, &mut cleared) {
+                    Err(r) if cleared != *map => Ok(Told::RefusedAndChanged(r)),
+                    told => Ok(Told::Cleared(told?, cleared)),
+                }
+            }
             Call::Write { at, room } => {
                 let mut out = vec![STALE; room];
                 let filled = self.lent(at).write(&mut out).map(|part| part.len());

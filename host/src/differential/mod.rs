@@ -78,13 +78,13 @@ pub struct Tally {
     /// How many of them were records of a frame.
     pub listed: u64,
     /// How many of them were refused, by number.
-    pub refused: [u64; 10],
+    pub refused: [u64; 11],
 }
 
 impl Tally {
     fn new(progress: bool) -> Tally {
         let now = Instant::now();
-        Tally { part: "", progress, began: now, told: now, compared: 0, listed: 0, refused: [0; 10] }
+        Tally { part: "", progress, began: now, told: now, compared: 0, listed: 0, refused: [0; 11] }
     }
 
     fn begin(&mut self, part: &'static str) {

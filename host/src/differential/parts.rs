@@ -292,6 +292,7 @@ pub fn wrong_lengths(tally: &mut Tally, options: Options) -> Outcome {
             Call::Load { to: 0, bytes: vec![2, 0, 0, 0, 0] },
             Call::Build { to: 0, runs: vec![[4, 3]] },
             Call::ReadMap { at: 0, base: 0, n: 0, map: vec![] },
+            Call::ReadMap { at: 0, base: 0, n: 7, map: vec![0x80] },
             Call::Fill { at: 0, base: 0, n: 0 },
             Call::Gap { at: 0, range: (Bound::Unbounded, Bound::Unbounded), n: 0 },
             Call::Write { at: 0, room: 0 },
@@ -360,6 +361,18 @@ pub fn damaged_bytes(tally: &mut Tally, options: Options) -> Outcome {
     Ok(())
 }
 
+// Reads a map, clears it and, where a spare bit was one, reads what that leaves.
+fn read_and_cleared(tally: &mut Tally, s: &mut Sequence, base: u64, n: u64, map: Vec<u8>) -> Outcome {
+    let mut cleared = map.clone();
+    let stray = reference::clear(n, &mut cleared) > 0;
+    s.call(tally, Call::ReadMap { at: 0, base, n, map: map.clone() })?;
+    s.call(tally, Call::ClearMap { base, n, map })?;
+    if stray {
+        s.call(tally, Call::ReadMap { at: 0, base, n, map: cleared })?;
+    }
+    Ok(())
+}
+
 /// Windows and maps of every size near a limit, and slices of every room.
 pub fn windows(tally: &mut Tally, options: Options) -> Outcome {
     tally.begin("windows and maps");
@@ -381,14 +394,14 @@ pub fn windows(tally: &mut Tally, options: Options) -> Outcome {
                 let bytes = if single { vec![0, 0xFF, 0x55, random.number() as u8] } else { vec![0, 0xFF] };
                 for length in [due.saturating_sub(1), due, due + 1] {
                     for &byte in &bytes {
-                        s.call(tally, Call::ReadMap { at: 0, base, n, map: vec![byte; length] })?;
+                        read_and_cleared(tally, &mut s, base, n, vec![byte; length])?;
                     }
                 }
                 if due < 20 {
                     // What is written is read back elsewhere.
                     s.call(tally, Call::WriteMap { at: 0, base, n, room: 40 })?;
                     let map = (0..due).map(|_| random.number() as u8).collect();
-                    s.call(tally, Call::ReadMap { at: 0, base, n, map })?;
+                    read_and_cleared(tally, &mut s, base, n, map)?;
                     s.call(tally, Call::WriteMap { at: 0, base, n, room: 40 })?;
                 }
             }

@@ -166,6 +166,31 @@ pub fn is_window(base: u64, n: u64) -> bool {
     (1..=524_288).contains(&n) && u128::from(base) + u128::from(n) <= 1 << 64
 }
 
+/// Whether bytes are as many as a window's map has.
+pub fn is_map(base: u64, n: u64, map: &[u8]) -> bool {
+    is_window(base, n) && map.len() as u64 == n.div_ceil(8)
+}
+
+/// Bit i of a map: position i of its window, if there is one.
+pub fn bit(map: &[u8], i: u64) -> bool {
+    map[(i / 8) as usize] >> (i % 8) & 1 == 1
+}
+
+/// Zeroes the spare bits of a map, those past the n positions of its window, one by one, and tells how many were one.
+pub fn clear(n: u64, map: &mut [u8]) -> u64 {
+    let mut count = 0;
+    for i in n..8 * map.len() as u64 {
+        count += u64::from(bit(map, i));
+        map[(i / 8) as usize] &= !(1 << (i % 8));
+    }
+    count
+}
+
+/// Whether a spare bit of a map is one.
+pub fn has_stray_bit(n: u64, map: &[u8]) -> bool {
+    clear(n, &mut map.to_vec()) > 0
+}
+
 /// Which run is the root of a tree of runs, and of each part of it.
 #[derive(Clone, Copy)]
 pub enum Shape {
@@ -271,6 +296,20 @@ mod tests {
         assert_eq!(free_runs(&runs, some(8, 9)), [[0; 2]; 0]);
         assert_eq!(free_runs(&runs, some(9, 8)), [[0; 2]; 0]);
         assert_eq!(free_runs(&[], all), [[0, u64::MAX]]);
+    }
+
+    #[test]
+    fn spare_bits_are_past_the_window() {
+        for (n, map, count, cleared) in [
+            (10, [0xFF, 0xFF], 6, [0xFF, 0x03]),
+            (10, [0x0C, 0x83], 1, [0x0C, 0x03]),
+            (9, [0, 2], 1, [0, 0]),
+            (16, [0xFF, 0xFF], 0, [0xFF, 0xFF]),
+        ] {
+            let mut all = map;
+            assert_eq!((clear(n, &mut all), all), (count, cleared));
+            assert_eq!(has_stray_bit(n, &map), count > 0);
+        }
     }
 
     #[test]

@@ -41,10 +41,39 @@ pub fn list() -> List {
         list.call(&Call::ReadMap { at: 1, base, n: 8192, map: map.clone() });
     }
     let few: Vec<u8> = (0..1024).map(|i| if i / 20 % 2 == 0 { 0xFF } else { 0 }).collect();
-    list.call(&Call::ReadMap { at: 1, base: 3, n: 8190, map: few });
+    read_and_cleared(&mut list, 1, 3, 8190, few);
     list.say("fill 1 0 8192\nwrite_map 1 0 8192 1024\nwrite_map 1 5 8180 1023\nwrite_map 1 0 8192 1023");
     windows(&mut list, &mut random);
+    spare_bits(&mut list);
     list
+}
+
+// Reads a map, clears it and reads what that leaves.
+fn read_and_cleared(list: &mut List, at: usize, base: u64, n: u64, map: Vec<u8>) {
+    let mut cleared = map.clone();
+    reference::clear(n, &mut cleared);
+    list.call(&Call::ReadMap { at, base, n, map: map.clone() });
+    list.call(&Call::ClearMap { base, n, map });
+    list.call(&Call::ReadMap { at, base, n, map: cleared });
+}
+
+// Every spare bit of the last byte by itself, at every length up to two bytes.
+fn spare_bits(list: &mut List) {
+    list.store(0, 9, &[[4, 6]]);
+    for n in 1..=17_u64 {
+        let due = n.div_ceil(8) as usize;
+        for i in n..8 * due as u64 {
+            let mut map = vec![0xA5; due];
+            reference::clear(n, &mut map);
+            map[due - 1] |= 1 << (i % 8);
+            list.call(&Call::ReadMap { at: 0, base: 1, n, map: map.clone() });
+            list.call(&Call::ClearMap { base: 1, n, map });
+        }
+        let mut map = vec![0x5A; due];
+        reference::clear(n, &mut map);
+        list.call(&Call::ReadMap { at: 0, base: 1, n, map });
+    }
+    list.show(0);
 }
 
 // Windows at every limit, of sizes about whole bytes.
@@ -57,7 +86,7 @@ fn windows(list: &mut List, random: &mut Random) {
             // Spare bits of both values.
             let spare = (!0_u16 << ((n - 1) % 8 + 1)) as u8;
             map[due - 1] = if random.truth() { map[due - 1] | spare } else { map[due - 1] & !spare };
-            list.call(&Call::ReadMap { at: 0, base, n, map });
+            read_and_cleared(list, 0, base, n, map);
             for room in [due - 1, due, due + 2] {
                 list.call(&Call::WriteMap { at: 0, base, n, room });
             }

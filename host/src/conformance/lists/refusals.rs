@@ -116,6 +116,7 @@ pub fn list() -> List {
         build 1 1 4 3
         build 1 2 2 3 4 5
         read_map 1 0 0 -
+        read_map 1 0 7 80
         fill 1 0 0
         write_set 1 0
         write_map 1 0 0 0
@@ -124,6 +125,7 @@ pub fn list() -> List {
         # 7 before any other
         words 1 1
         read_map 1 0 0 -
+        read_map 1 0 7 80
         read_map 1 0 8 55
         fill 1 0 0
         write_set 1 0
@@ -136,6 +138,26 @@ pub fn list() -> List {
         gap 1 u u 0
         gap 1 i4 e4 0
         gap 1 i2 i7 1
+        # 10, after 6 and before 8
+        read_map 1 0 7 ff
+        read_map 1 0 7 80
+        read_map 1 0 7 d5
+        read_map 1 0 7 55
+        read_map 1 0 9 fffe
+        read_map 1 0 7 ffff
+        read_map 1 0 15 ff
+        read_map 1 18446744073709551615 7 ff
+        # Clearing is refused with 6 alone, and then no byte changes.
+        clear_map 0 0 -
+        clear_map 0 0 ff
+        clear_map 0 524289 ff
+        clear_map 18446744073709551615 7 ff
+        clear_map 0 7 ffff
+        clear_map 0 9 ff
+        clear_map 0 7 -
+        clear_map 0 7 ff
+        clear_map 0 8 ff
+        clear_map 0 9 ffff
         # 6 before 8 and 2
         read_map 1 0 8 5555
         read_map 1 0 0 55

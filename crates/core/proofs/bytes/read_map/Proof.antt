@@ -1,23 +1,33 @@
--- `read_map` meets its contract: a window that is none is refused, then a map of another length, and else the window is set from it.
--- Assumes nothing.
-use mathlib.Core.Path.{_≡_, refl, ap}
+-- `read_map` meets its contract: a window that is none is refused, then a map of another length, then one with a spare bit set, and else the
+-- window is set from it. Assumes nothing.
+use Prim.Native.Nat.{_≤_, _<_}
+use mathlib.Core.Path.{_≡_, refl, ap, subst}
 use mathlib.Core.Bool.{false}
-use Rattle.model.specs.Bytes.{mapped}
-use Rattle.model.specs.Refusals.{badWindow, badMap}
-use Rattle.core.proofs.Windows.{fitting, map-window-refused, map-length-refused, map-passes, map-window, bad-by}
+use mathlib.Core.Option.{none}
+use native.Mathlib.Omega.{arith}
+use Rattle.model.specs.Bytes.{strayBits, mapped}
+use Rattle.model.specs.Refusals.{refusal, badWindow, badMap, mapConditions}
+use Rattle.maps.specs.Window.{Window}
+use Rattle.core.proofs.Windows.{fitting, map-window-refused, map-length-refused, map-stray-refused, map-passes, map-window, bad-by}
 use Rattle.core.proofs.Changing.{refused-first, open-editable, edit-full, edit-closing, edit-done, read-map-says}
 use borrow.Author.Needs.{needs}
 use Rattle.core.proofs.bytes.read_map.Statement.{statement}
 use Rattle.core.proofs.bytes.read_map.Tie as tie
 
--- the places: the start, where the window is one, where its map has its length, and where the store is open
+-- the places: the start, where the window is one, where its map has its length, where no spare bit is one, and where the store is open
 abbrev start : tie.Else1 → tie.Start
 start r = r .before .before .before .before
 
 abbrev windowed : tie.Else2 → tie.Else1
 windowed r = r .before .before
 
-abbrev mapped-to : tie.After-open → tie.Else2
+abbrev sized : tie.After-stray-bits → tie.Else2
+sized m = m .before
+
+abbrev started : tie.Else3 → tie.Start
+started r = start (windowed (sized (r .before)))
+
+abbrev mapped-to : tie.After-open → tie.Else3
 mapped-to o = o .before .before
 
 abbrev opened : tie.After-allowance → tie.After-open
@@ -33,6 +43,17 @@ good r = bad-by _ _ _ (r .before .window-fits .ensures) (r .if1 .left)
 -- its map has its length
 exact : (r : tie.Else2) → badMap ((start (windowed r)) .args .n) ((start (windowed r)) .args .bytes .now) ≡ false
 exact r = bad-by _ _ _ (r .before .map-length-fits .ensures) (r .if2 .left)
+
+-- none of its spare bits is one
+clean : (r : tie.Else3) → strayBits ((started r) .args .n) ((started r) .args .bytes .now) ≤ 0
+clean r = subst (λ k. k ≤ 0) (r .before .stray-bits .ensures) (omega (arith, r .if3 .left))
+
+-- so no condition of it holds, and its window can be read
+passes : (r : tie.Else3) → refusal (mapConditions ((started r) .args .base) ((started r) .args .n) ((started r) .args .bytes .now)) ≡ none
+passes r = map-passes _ _ _ (good (windowed (sized (r .before)))) (exact (sized (r .before))) (clean r)
+
+readable : (r : tie.Else2) → Window ((start (windowed r)) .args .base) ((start (windowed r)) .args .n) ((start (windowed r)) .args .bytes .now)
+readable r = map-window _ _ _ (good (windowed r)) (exact r)
 
 window-fits-requires : tie.Need-window-fits-requires
 window-fits-requires c κs = search needs
@@ -51,8 +72,17 @@ returns-2 c =
     refused-first (read-map-says _ _ _ _) ((start r) .pre)
     (map-length-refused _ _ _ (good r) (bad-by _ _ _ (c .before .map-length-fits .ensures) (c .if2 .taken)))
 
+stray-bits-requires : tie.Need-stray-bits-requires
+stray-bits-requires c κs = ((readable c) .some, (readable c) .exact)
+
+returns-3 : tie.Need-returns-3
+returns-3 c =
+    let r = sized (c .before) in
+    refused-first (read-map-says _ _ _ _) ((start (windowed r)) .pre)
+    (map-stray-refused _ _ _ (good (windowed r)) (exact r) (subst (λ k. 0 < k) (c .before .stray-bits .ensures) (omega (arith, c .if3 .taken))))
+
 open-requires : tie.Need-open-requires
-open-requires c κs = (start (windowed (c .before))) .pre .sound
+open-requires c κs = (started (c .before)) .pre .sound
 
 allowance-requires : tie.Need-allowance-requires
 allowance-requires c κs = search needs
@@ -61,7 +91,7 @@ read-map-requires : tie.Need-read-map-requires
 read-map-requires c κs =
     let o = opened c in
     let r = mapped-to o in
-    (open-editable ((start (windowed r)) .pre) (o .«open» .ensures) (c .allowance .ensures), map-window _ _ _ (good (windowed r)) (exact r))
+    (open-editable ((started r) .pre) (o .«open» .ensures) (c .allowance .ensures), readable (sized (r .before)))
 
 enum-told : tie.Need-enum-told
 enum-told c = search needs
@@ -74,31 +104,31 @@ close-requires c κs =
     let e = c .before .before in
     let m = told e in
     let o = opened (m .before) in
-    let s = start (windowed (mapped-to o)) in
+    let s = started (mapped-to o) in
     (_, _, edit-closing (s .pre) (o .«open» .ensures) (m .before .allowance .ensures) _ (m .read-map .ensures) (e .e .given .1))
 
 same-length : tie.Need-same-length
 same-length c = search needs
 
-returns-3 : tie.Need-returns-3
-returns-3 c =
+returns-4 : tie.Need-returns-4
+returns-4 c =
     let m = c .before .before .before .before in
     let o = opened (m .before) in
     let r = mapped-to o in
-    edit-full (read-map-says _ _ _ _) (map-passes _ _ _ (good (windowed r)) (exact r)) ((start (windowed r)) .pre) (o .«open» .ensures)
+    edit-full (read-map-says _ _ _ _) (passes r) ((started r) .pre) (o .«open» .ensures)
     (ap (mapped _ _ _) (o .«open» .ensures .held)) (m .before .allowance .ensures) _ (m .read-map .ensures) (c .enum-told .given .1)
 
 same-length-2 : tie.Need-same-length-2
 same-length-2 c = search needs
 
-returns-4 : tie.Need-returns-4
-returns-4 c =
+returns-5 : tie.Need-returns-5
+returns-5 c =
     let k = c .before .before in
     let e = k .before .before .before in
     let m = told e in
     let o = opened (m .before) in
     let r = mapped-to o in
-    edit-done (read-map-says _ _ _ _) (map-passes _ _ _ (good (windowed r)) (exact r)) ((start (windowed r)) .pre) (o .«open» .ensures)
+    edit-done (read-map-says _ _ _ _) (passes r) ((started r) .pre) (o .«open» .ensures)
     (ap (mapped _ _ _) (o .«open» .ensures .held)) (m .before .allowance .ensures) _ (m .read-map .ensures) (e .e .given .1) (k .close .ensures) refl
 
 pub read-map-spec : {M : Type 1} → statement M
@@ -109,6 +139,8 @@ read-map-spec =
     returns
     map-length-fits-requires
     returns-2
+    stray-bits-requires
+    returns-3
     open-requires
     allowance-requires
     read-map-requires
@@ -116,6 +148,6 @@ read-map-spec =
     enum-known-e
     close-requires
     same-length
-    returns-3
+    returns-4
     same-length-2
-    returns-4)
+    returns-5)

@@ -3,7 +3,7 @@
 use lib.ListN.{drop}
 use Rattle.model.specs.Bytes.{decodeRuns}
 use Rattle.model.specs.Codec.{AllWords, drop-bytes, decodeRuns-words}
-use Rattle.written.proofs.Digits.{all-bytes}
+use Rattle.model.proofs.Slices.{all-bytes}
 use Rattle.written.proofs.Listing.{receive-keepable, receive-fillable, receive-linkable, received}
 use borrow.Author.Needs.{needs}
 use Rattle.written.proofs.set.load.Statement.{statement}

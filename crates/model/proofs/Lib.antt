@@ -1,0 +1,3 @@
+-- What the crates above cite of slices, and of maps that were cleared.
+pub mod Slices
+pub mod Clearing

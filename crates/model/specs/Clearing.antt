@@ -1,0 +1,27 @@
+-- Clearing a map's spare bits (document 02, Ticket 2). The call has no store, so it is no call of the plain model and in no list of demand 3.
+-- Assumes nothing: these are definitions.
+use mathlib.Core.List.{List, [], _∷_}
+use mathlib.Core.Option.{Option, none, some}
+use Prim.Native.Nat.{ℕ}
+use Rattle.model.specs.Bytes.{strayBits, cleared, mapped}
+use Rattle.model.specs.Refusals.{window, _when_, refusal, badWindow, badMap}
+use Rattle.model.specs.Call.{Fed, Result, number, Answer, refused, gave}
+use Rattle.model.specs.Model.{Outcome, positionsOf, changed}
+
+-- what a call on a lent slice alone answers, and the whole slice after it
+pub record Handled : Type 0 where
+  pub answer : Answer
+  pub slice : List ℕ
+
+-- a refused call answers its number alone, and the slice stays
+abbrev pub handle : Option ℕ → List ℕ → Result → List ℕ → Handled
+handle none bs a cs = record { answer = gave a; slice = cs }
+handle (some n) bs a cs = record { answer = refused n; slice = bs }
+
+-- zeroes the spare bits, and answers how many were one; refused with 6 only
+unfoldable pub clearMap : ℕ → ℕ → List ℕ → Handled
+clearMap base n bs = handle (refusal (window when badWindow base n ∷ window when badMap n bs ∷ [])) bs (number (strayBits n bs)) (cleared n bs)
+
+-- how document 01 read a map, before this ticket: whatever its spare bits were. Kept for one law alone, that `serve` reads the cleared map so.
+unfoldable pub documentOneReading : ℕ → Fed → ℕ → ℕ → List ℕ → Outcome
+documentOneReading C s base n bs = changed C s (window when badWindow base n ∷ window when badMap n bs ∷ []) (mapped base n bs (positionsOf s))
