@@ -40,7 +40,7 @@ abbrev laid : tie.After-struct-known Inv-loop μ-loop → tie.After-lay-run Inv-
 laid c = c .before .before .before
 
 abbrev onward : tie.After-struct-known2 Inv-loop μ-loop → tie.Else1 Inv-loop μ-loop
-onward c = c .before .before .before .before .before
+onward c = c .before .before .before
 
 -- both feeds are read from 0 on
 both : (c : tie.After-begin2 Inv-loop μ-loop)
@@ -92,8 +92,8 @@ returns c = λ ns am.
 same-length : tie.Need-same-length Inv-loop μ-loop
 same-length c = let p = start (opened (found (laid (c .before)) .before)) .pre in returns c (p .nodes) (p .ample) .filled .long
 
-add-next-run : tie.Need-add-next-run Inv-loop μ-loop
-add-next-run c =
+add-next : tie.Need-add-next Inv-loop μ-loop
+add-next c =
     let t = found (laid (onward c .before)) in
     let p = start (opened (t .before)) .pre in
     let n = stream-after (filling (t .before) (p .nodes) (p .ample) .stream) (t .loop-test .taken) (onward c .if1 .left) in
@@ -101,21 +101,21 @@ add-next-run c =
 
 next-run-requires-2 : tie.Need-next-run-requires-2 Inv-loop μ-loop
 next-run-requires-2 c κs =
-    let t = found (laid (onward c .before)) in
+    let t = found (laid (onward (c .before .before) .before)) in
     let p = start (opened (t .before)) .pre in
-    (_, _, stream-onward (filling (t .before) (p .nodes) (p .ample) .stream) (t .loop-test .taken) (onward c .if1 .left))
+    (_, _, stream-onward (filling (t .before) (p .nodes) (p .ample) .stream) (t .loop-test .taken) (onward (c .before .before) .if1 .left))
 
 loop-less : tie.Need-loop-less Inv-loop μ-loop
 loop-less c =
-    let t = found (laid (onward (c .before) .before)) in
+    let t = found (laid (onward (c .before .before .before) .before)) in
     let p = start (opened (t .before)) .pre in
     let n = fill-few (p .ample) (filling (t .before) (p .nodes) (p .ample)) (t .loop-test .taken) in
     omega arith
 
 loop-again : tie.Need-loop-again Inv-loop μ-loop
 loop-again c = λ Q R ns h am.
-    let l = laid (onward (c .before) .before) in
-    fill-more am (found l .before .loop .inv Q R ns h am) (found l .loop-test .taken) (l .lay-run .ensures) (onward (c .before) .if1 .left) (c .next-run2 .ensures)
+    let l = laid (onward (c .before .before .before) .before) in
+    fill-more am (found l .before .loop .inv Q R ns h am) (found l .loop-test .taken) (l .lay-run .ensures) (onward (c .before .before .before) .if1 .left) (c .next-run2 .ensures)
 
 returns-2 : tie.Need-returns-2 Inv-loop μ-loop
 returns-2 c = λ ns am. fill-all am (filling (c .before) ns am) (c .loop-test .left)
@@ -139,7 +139,7 @@ fill-spec =
     add-n
     same-length
     returns
-    add-next-run
+    add-next
     next-run-requires-2
     loop-less
     loop-again

@@ -29,7 +29,7 @@ abbrev opened : tie.At-loop Inv-loop μ-loop → tie.After-begin2 Inv-loop μ-lo
 opened c = c .before .before .before .before
 
 abbrev onward : tie.After-struct-known2 Inv-loop μ-loop → tie.Else2 Inv-loop μ-loop
-onward c = c .before .before .before .before .before
+onward c = c .before .before .before
 
 abbrev found : tie.Else2 Inv-loop μ-loop → tie.In-loop Inv-loop μ-loop
 found c = c .before .before .before
@@ -71,22 +71,22 @@ sub-left c = search needs
 returns-2 : tie.Need-returns-2 Inv-loop μ-loop
 returns-2 c = count-last (counted (c .before .before .before .before)) (c .before .before .before .loop-test .taken) (c .before .before .if1 .left) (c .if2 .taken)
 
-add-next-run : tie.Need-add-next-run Inv-loop μ-loop
-add-next-run c =
+add-next : tie.Need-add-next Inv-loop μ-loop
+add-next c =
     let e = onward c in
     let n = stream-after (counted (found e .before) .stream) (found e .loop-test .taken) (e .if2 .left) in
     omega arith
 
 next-run-requires-2 : tie.Need-next-run-requires-2 Inv-loop μ-loop
 next-run-requires-2 c κs =
-    let e = onward c in (_, _, stream-onward (counted (found e .before) .stream) (found e .loop-test .taken) (e .if2 .left))
+    let e = onward (c .before .before) in (_, _, stream-onward (counted (found e .before) .stream) (found e .loop-test .taken) (e .if2 .left))
 
 loop-less : tie.Need-loop-less Inv-loop μ-loop
 loop-less c = search needs
 
 loop-again : tie.Need-loop-again Inv-loop μ-loop
 loop-again c = λ Q R h.
-    let e = onward (c .before) in
+    let e = onward (c .before .before .before) in
     count-more (found e .before .loop .inv Q R h) (found e .loop-test .taken) (e .before .before .if1 .left) (e .if2 .left) (c .next-run2 .ensures)
 
 returns-3 : tie.Need-returns-3 Inv-loop μ-loop
@@ -107,7 +107,7 @@ fits-spec =
     returns
     sub-left
     returns-2
-    add-next-run
+    add-next
     next-run-requires-2
     loop-less
     loop-again

@@ -6,15 +6,12 @@ use Rattle.run_index.proofs.Heap.{heightAt}
 use Rattle.streams.proofs.Paths.{Lead, lead-start, lead-end, lead-room, lead-deep, lead-left-falls, lead-right-falls, lead-left, lead-right}
 use Rattle.streams.proofs.source.descend.Statement.{statement}
 use Rattle.streams.proofs.source.descend.Tie as tie
-use Rattle.streams.proofs.source.descend.Reads as reads
-use Rattle.streams.proofs.source.descend.Lts as lts
-use Rattle.run_index.proofs.read_node.Reads as read-node-reads
 
 abbrev Inv-loop : tie.InvT-loop
-Inv-loop words path₀ depth link p k₀ d₀ path k d = Lead words path₀ path depth link p d k
+Inv-loop words path₀ depth link from k₀ d₀ path k d = Lead words path₀ path depth link from d k
 
 abbrev μ-loop : tie.MeasureT-loop
-μ-loop words path₀ depth link p k₀ d₀ path k d = heightAt words k
+μ-loop words path₀ depth link from k₀ d₀ path k d = heightAt words k
 
 loop-holds : tie.Need-loop-holds Inv-loop μ-loop
 loop-holds c = lead-start

@@ -27,7 +27,7 @@ some c = c .before .before .if1 .left
 
 -- the run's first position
 begins : (c : tie.After-to-logical)
-    → c .to-logical .result .0 ≡ logicalOf (max (popped c .pop .result .start) (start (popped c) .args .p)) (start (popped c) .args .v .offset)
+    → c .to-logical .result .0 ≡ logicalOf (max (popped c .pop .result .start) (start (popped c) .args .p .0)) (start (popped c) .args .v .offset)
 begins c = c .to-logical .ensures ∙ ap (λ m. logicalOf m (start (popped c) .args .v .offset)) (c .before .larger .ensures)
 
 descend-requires : tie.Need-descend-requires
@@ -82,8 +82,8 @@ returns-3 c = λ y Q h.
     first-join h (some p) (p .pop .ensures) _ (begins (placed d)) (d .before .before .if2 .left) (c .from-last2 .ensures _ Q (first-last h all))
     (sym (z .starts-at-zero .ensures _ _ all) ∙ c .before .before .if3 .taken)
 
-sub-t16 : tie.Need-sub-t16
-sub-t16 c = search needs
+sub-end : tie.Need-sub-end
+sub-end c = search needs
 
 returns-4 : tie.Need-returns-4
 returns-4 c = λ y Q h.
@@ -109,5 +109,5 @@ from-first-spec =
     starts-at-zero-requires
     from-last-requires-2
     returns-3
-    sub-t16
+    sub-end
     returns-4)

@@ -16,8 +16,8 @@ returns c = joint-none (c .before .before .before .before .before .before .befor
 reach-requires-2 : tie.Need-reach-requires-2
 reach-requires-2 c κs = still-joinable (c .before .before .before .before .before .before .before .before .before .before .before .args .op) _ _ (c .before .before .before .before .before .before .reach .last .1 .1 .0) _ _ _ _ (c .before .before .before .before .before .before .reach .last .1 .1 .1 .1 .1 .1 .0) _ _ _ _ (c .before .before .before .before .before .before .reach .result) (c .before .before .before .before .before .before .reach .ensures) (not-false _ (c .before .before .if1 .left)) (c .before .before .before .before .before .before .before .before .before .before .before .pre)
 
-sub-t23 : tie.Need-sub-t23
-sub-t23 c =
+sub-end : tie.Need-sub-end
+sub-end c =
     let h = joint-past (c .before .before .before .before .before .before .before .before .before .before .before .before .before .before .before .before .args .op) _ _ (c .before .before .before .before .before .before .before .before .before .before .before .reach .last .1 .1 .0) _ _ _ _ (c .before .before .before .before .before .before .before .before .before .before .before .reach .last .1 .1 .1 .1 .1 .1 .0) _ _ _ (c .before .before .before .before .before .before .before .before .before .before .before .reach .result) (c .before .before .before .before .before .before .before .before .before .before .before .reach .ensures) (not-false _ (c .before .before .before .before .before .before .before .if1 .left)) (c .before .before .before .before .reach2 .last .1 .1 .0) (c .before .before .before .before .reach2 .last .1 .1 .1 .1 .1 .1 .0) (c .before .before .before .before .reach2 .result) (c .before .before .before .before .reach2 .ensures) (c .before .if2 .taken) (c .before .before .before .before .before .before .before .before .before .before .before .before .before .before .before .before .pre) in
     omega arith
 
@@ -29,4 +29,4 @@ returns-3 c = joint-last (c .before .before .before .before .before .before .bef
 
 pub next-run-spec : {M : Type 1} → statement M
 next-run-spec =
-    tie.close (tie.spec reach-requires returns reach-requires-2 sub-t23 returns-2 returns-3)
+    tie.close (tie.spec reach-requires returns reach-requires-2 sub-end returns-2 returns-3)

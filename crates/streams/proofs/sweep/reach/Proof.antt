@@ -12,11 +12,11 @@ use Rattle.streams.proofs.sweep.reach.Statement.{statement}
 use Rattle.streams.proofs.sweep.reach.Tie as tie
 
 abbrev Inv-loop : tie.InvT-loop
-Inv-loop op x xp₀ xv y yp₀ yv «from» value l₀ r₀ at₀ v₀ xp yp l r at v =
-    (Q R : Positions) → Both x xp₀ xv l₀ y yp₀ yv r₀ «from» Q R → Swept op x xp xv l y yp yv r «from» at value v Q R
+Inv-loop op x xp₀ xv y yp₀ yv value l₀ r₀ at₀ v₀ xp yp l r at v =
+    (Q R : Positions) → Both x xp₀ xv l₀ y yp₀ yv r₀ (at₀ .0) Q R → Swept op x xp xv l y yp yv r (at₀ .0) (at .0) value v Q R
 
 abbrev μ-loop : tie.MeasureT-loop
-μ-loop op x xp₀ xv y yp₀ yv «from» value l₀ r₀ at₀ v₀ xp yp l r at v = size - at
+μ-loop op x xp₀ xv y yp₀ yv value l₀ r₀ at₀ v₀ xp yp l r at v = size - at .0
 
 value-at-requires : tie.Need-value-at-requires Inv-loop μ-loop
 value-at-requires c κs = search needs
@@ -28,7 +28,7 @@ join-requires : tie.Need-join-requires Inv-loop μ-loop
 join-requires c κs = search needs
 
 loop-holds : tie.Need-loop-holds Inv-loop μ-loop
-loop-holds c = swept-start (c .before .before .before .before .before .args .op) (c .before .before .before .before .before .args .x .now) (c .before .before .before .before .before .args .xp .now) (c .before .before .before .before .before .args .xv) (c .before .before .before .before .before .args .s) (c .before .before .before .before .before .args .y .now) (c .before .before .before .before .before .args .yp .now) (c .before .before .before .before .before .args .yv) (c .before .before .before .before .before .args .t) (c .before .before .before .before .before .args .from) (c .before .before .before .before .before .args .value) (omega (arith, c .before .before .before .before .before .good)) (c .before .before .value-at .ensures) (c .before .value-at2 .ensures) (c .join .ensures)
+loop-holds c = swept-start (c .before .before .before .before .before .args .op) (c .before .before .before .before .before .args .x .now) (c .before .before .before .before .before .args .xp .now) (c .before .before .before .before .before .args .xv) (c .before .before .before .before .before .args .s) (c .before .before .before .before .before .args .y .now) (c .before .before .before .before .before .args .yp .now) (c .before .before .before .before .before .args .yv) (c .before .before .before .before .before .args .t) (c .before .before .before .before .before .args .from .0) (c .before .before .before .before .before .args .value) (omega (arith, c .before .before .before .before .before .good)) (c .before .before .value-at .ensures) (c .before .value-at2 .ensures) (c .join .ensures)
 
 same-to-requires : tie.Need-same-to-requires Inv-loop μ-loop
 same-to-requires c κs = search needs
@@ -42,15 +42,15 @@ smaller-requires c κs = search needs
 returns : tie.Need-returns Inv-loop μ-loop
 returns c = λ Q R b. swept-none (c .before .before .before .before .before .loop .inv Q R b) (c .before .before .before .same-to .ensures) (c .before .before .same-to2 .ensures) (c .before .smaller .ensures) (differing (c .before .before .before .before .before .loop .v) (c .before .before .before .before .before .before .before .before .before .before .before .args .value) (c .before .before .before .before .loop-test .taken)) (c .if1 .taken)
 
-add-at : tie.Need-add-at Inv-loop μ-loop
-add-at c =
+add-next : tie.Need-add-next Inv-loop μ-loop
+add-next c =
     let h = swept-small (c .before .before .before .before .before .loop .inv (c .before .before .before .before .before .before .before .before .before .before .before .pre .0) (c .before .before .before .before .before .before .before .before .before .before .before .pre .1) (c .before .before .before .before .before .before .before .before .before .before .before .pre .2)) (c .before .before .before .same-to .ensures) (c .before .before .same-to2 .ensures) (c .before .smaller .ensures) in omega (arith, c .if1 .left)
 
 moved-requires : tie.Need-moved-requires Inv-loop μ-loop
-moved-requires c κs = (c .before .before .before .before .before .before .loop .at, c .before .before .before .before .before .before .before .before .before .before .before .before .pre .0, left-moves (c .before .before .before .before .before .before .loop .inv (c .before .before .before .before .before .before .before .before .before .before .before .before .pre .0) (c .before .before .before .before .before .before .before .before .before .before .before .before .pre .1) (c .before .before .before .before .before .before .before .before .before .before .before .before .pre .2)) (c .before .before .before .before .same-to .ensures) (c .before .before .before .same-to2 .ensures) (c .before .before .smaller .ensures))
+moved-requires c κs = (c .before .before .before .before .before .before .loop .at .0, c .before .before .before .before .before .before .before .before .before .before .before .before .pre .0, left-moves (c .before .before .before .before .before .before .loop .inv (c .before .before .before .before .before .before .before .before .before .before .before .before .pre .0) (c .before .before .before .before .before .before .before .before .before .before .before .before .pre .1) (c .before .before .before .before .before .before .before .before .before .before .before .before .pre .2)) (c .before .before .before .before .same-to .ensures) (c .before .before .before .same-to2 .ensures) (c .before .before .smaller .ensures))
 
 moved-requires-2 : tie.Need-moved-requires-2 Inv-loop μ-loop
-moved-requires-2 c κs = (c .before .before .before .before .before .before .before .before .loop .at, c .before .before .before .before .before .before .before .before .before .before .before .before .before .before .pre .1, right-moves (c .before .before .before .before .before .before .before .before .loop .inv (c .before .before .before .before .before .before .before .before .before .before .before .before .before .before .pre .0) (c .before .before .before .before .before .before .before .before .before .before .before .before .before .before .pre .1) (c .before .before .before .before .before .before .before .before .before .before .before .before .before .before .pre .2)) (c .before .before .before .before .before .before .same-to .ensures) (c .before .before .before .before .before .same-to2 .ensures) (c .before .before .before .before .smaller .ensures))
+moved-requires-2 c κs = (c .before .before .before .before .before .before .before .before .loop .at .0, c .before .before .before .before .before .before .before .before .before .before .before .before .before .before .pre .1, right-moves (c .before .before .before .before .before .before .before .before .loop .inv (c .before .before .before .before .before .before .before .before .before .before .before .before .before .before .pre .0) (c .before .before .before .before .before .before .before .before .before .before .before .before .before .before .pre .1) (c .before .before .before .before .before .before .before .before .before .before .before .before .before .before .pre .2)) (c .before .before .before .before .before .before .same-to .ensures) (c .before .before .before .before .before .same-to2 .ensures) (c .before .before .before .before .smaller .ensures))
 
 value-at-requires-3 : tie.Need-value-at-requires-3 Inv-loop μ-loop
 value-at-requires-3 c κs = search needs
@@ -90,7 +90,7 @@ reach-spec =
     same-to-requires-2
     smaller-requires
     returns
-    add-at
+    add-next
     moved-requires
     moved-requires-2
     value-at-requires-3
