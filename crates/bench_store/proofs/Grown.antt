@@ -1,6 +1,6 @@
 -- A set of an open store that is admitted can be closed, and the store is then sound and as long; one that is refused leaves it. Assumes nothing.
 use Prim.Native.Nat.{ℕ, _≤_}
-use mathlib.Core.Path.{_≡_, refl, sym, ap, subst}
+use mathlib.Core.Path.{_≡_, sym, ap, subst}
 use mathlib.Core.List.{List}
 use lib.ListN.{length}
 use Rattle.model.specs.declared.Count.{Count}
@@ -8,7 +8,7 @@ use Rattle.model.specs.Positions.{Positions, stretches}
 use Rattle.store.specs.declared.World.{World}
 use Rattle.store.specs.Layout.{allowance}
 use Rattle.store.specs.Soundness.{Sound, Limited, Editable, shareOf}
-use Rattle.store.specs.Settle.{Opened, Closing, Closes}
+use Rattle.store.specs.Settle.{Opened, Closing}
 use Rattle.changes.specs.declared.edit.Edit.{Edit}
 use Rattle.changes.specs.Edits.{Edited}
 

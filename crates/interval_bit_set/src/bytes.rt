@@ -1,5 +1,4 @@
 // Reading written sets, run lists and maps into a store.
-ghost use mathlib.Core.Path.{_≡_};
 ghost use Prim.Native.Nat.{_/_};
 ghost use lib.ListN.{length};
 ghost use Rattle.model.specs.Call.{Call};
