@@ -50,6 +50,13 @@ told₂ d = d .before .before
 abbrev asked₂ : tie.After-absorb2 → tie.After-reaches2
 asked₂ a = a .before .before .before .before
 
+-- further places that the needs look back to
+abbrev after-absorb : tie.After-resize-run-arg → tie.After-absorb
+after-absorb c = c .before .before .before .before
+
+abbrev after-absorb2 : tie.After-resize-run-arg2 → tie.After-absorb2
+after-absorb2 c = c .before .before .before .before
+
 -- the run at s or before it
 run-there : (n : tie.After-n) → Found (start (searched n) .args .words .now) (start (searched n) .args .x) (start (searched n) .args .s) (n .n .given .0 .0)
 run-there n = found _ (searched n .at-or-before .ensures) _ (n .n .given .1)
@@ -63,7 +70,8 @@ passed c =
 
 -- and none is reached from e
 alone : (c : tie.At-match2-came)
-    → Alone (start (past (c .before) .before) .args .words .now) (start (past (c .before) .before) .args .x) (start (past (c .before) .before) .args .s) (start (past (c .before) .before) .args .e)
+    → Alone (start (past (c .before) .before) .args .words .now) (start (past (c .before) .before) .args .x)
+    (start (past (c .before) .before) .args .s) (start (past (c .before) .before) .args .e)
 alone c =
     ⊎-elim (λ x. alone-apart (passed (past (c .before))) _ (c .before .at-or-after .ensures) _ (x .1 .given .1) _ (x .3 .ensures) (x .4 .left))
     (λ x. alone-none (passed (past (c .before))) _ (c .before .at-or-after .ensures) (x .1 .given .1))
@@ -85,7 +93,7 @@ absorb-requires c κs =
 
 resize-run-requires : tie.Need-resize-run-requires
 resize-run-requires c κs =
-    let a = c .before .before .before .before in
+    let a = after-absorb c in
     let d = asked a in
     before-changeable (run-there (told d)) _ (d .reaches .ensures) (a .before .before .before .if1 .taken) (a .before .before .if2 .taken) _ (a .absorb .ensures)
     (start (searched (told d)) .pre)
@@ -96,7 +104,7 @@ same-length c = search needs
 returns : tie.Need-returns
 returns c =
     let g = c .before .before in
-    let a = g .before .before .before .before .before in
+    let a = after-absorb (g .before) in
     let d = asked a in
     before-grown (run-there (told d)) _ (d .reaches .ensures) (a .before .before .before .if1 .taken) (a .before .before .if2 .taken) _ (a .absorb .ensures)
     (g .resize-run .ensures)
@@ -133,11 +141,12 @@ absorb-requires-2 c κs =
 
 resize-run-requires-2 : tie.Need-resize-run-requires-2
 resize-run-requires-2 c κs =
-    let a = c .before .before .before .before in
+    let a = after-absorb2 c in
     let d = asked₂ a in
     let n = told₂ d in
     let f = n .before .before in
-    after-changeable (passed (past f)) _ (f .at-or-after .ensures) _ (n .m .given .1) _ (d .reaches2 .ensures) (a .before .before .before .if3 .taken) _ (a .before .larger .ensures)
+    after-changeable (passed (past f)) _ (f .at-or-after .ensures) _ (n .m .given .1) _ (d .reaches2 .ensures) (a .before .before .before .if3 .taken)
+    _ (a .before .larger .ensures)
     _ (a .absorb2 .ensures) (start (past f .before) .pre)
 
 same-length-3 : tie.Need-same-length-3
@@ -146,7 +155,7 @@ same-length-3 c = search needs
 returns-3 : tie.Need-returns-3
 returns-3 c =
     let g = c .before .before in
-    let a = g .before .before .before .before .before in
+    let a = after-absorb2 (g .before) in
     let d = asked₂ a in
     let n = told₂ d in
     let f = n .before .before in

@@ -43,6 +43,10 @@ tested a = a .before .before .before .before .before .before
 abbrev looped : tie.After-apply-set Inv-loop μ-loop → tie.At-loop Inv-loop μ-loop
 looped a = (tested a) .before
 
+-- further places that the needs look back to
+abbrev after-apply-set : tie.Then2 Inv-loop μ-loop → tie.After-apply-set Inv-loop μ-loop
+after-apply-set c = c .before .before .before
+
 flip-fits-requires : tie.Need-flip-fits-requires Inv-loop μ-loop
 flip-fits-requires c κs = c .before .before .pre
 
@@ -65,19 +69,20 @@ stretch-end-requires c κs =
 
 apply-set-requires : tie.Need-apply-set-requires Inv-loop μ-loop
 apply-set-requires c κs =
-    let t = c .before .before .before .before .before in
-    stretch-applies (here (t .before)) (t .loop-test .taken) (c .before .stretch-end .ensures)
+    let s = c .before in
+    let t = s .before .before .before .before in
+    stretch-applies (here (t .before)) (t .loop-test .taken) (s .stretch-end .ensures)
 
 add-x : tie.Need-add-x Inv-loop μ-loop
-add-x c = omega (arith, c .if2 .taken, (start ((looped (c .before .before .before)) .before)) .good)
+add-x c = omega (arith, c .if2 .taken, start (looped (after-apply-set c) .before) .good)
 
 loop-less : tie.Need-loop-less Inv-loop μ-loop
-loop-less c = omega (arith, c .before .before .before .before .before .stretch-end .ensures .from, c .if2 .taken)
+loop-less c = omega (arith, after-apply-set c .before .before .stretch-end .ensures .from, c .if2 .taken)
 
 loop-again : tie.Need-loop-again Inv-loop μ-loop
 loop-again c s limit lim few =
-    let a = c .before .before .before in
-    flipping-more ((looped a) .loop .inv s limit lim few) ((tested a) .loop-test .taken) (a .before .before .stretch-end .ensures) (a .apply-set .ensures) (c .if2 .taken)
+    let a = after-apply-set c in
+    flipping-more (looped a .loop .inv s limit lim few) (tested a .loop-test .taken) (a .before .before .stretch-end .ensures) (a .apply-set .ensures) (c .if2 .taken)
 
 loop-less-2 : tie.Need-loop-less-2 Inv-loop μ-loop
 loop-less-2 c = stop-less _ _ ((tested (c .before .before .before)) .loop-test .taken)
