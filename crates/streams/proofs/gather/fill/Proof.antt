@@ -42,15 +42,26 @@ laid c = c .before .before .before
 abbrev onward : tie.After-struct-known2 Inv-loop μ-loop → tie.Else1 Inv-loop μ-loop
 onward c = c .before .before .before .before .before
 
+-- further places that the needs look back to
+abbrev start-from-view-of : tie.After-view-of Inv-loop μ-loop → tie.Start Inv-loop μ-loop
+start-from-view-of c = c .before .before .before .before
+
 -- both feeds are read from 0 on
 both : (c : tie.After-begin2 Inv-loop μ-loop)
-    → Both (start c .args .x .now) (c .before .before .begin .last .1 .0) (viewed c .before .view-of .result) (c .before .before .begin .result) (start c .args .y .now) (c .begin2 .last .1 .0) (viewed c .view-of2 .result) (c .begin2 .result) 0 (fedBy (start c .args .fx) (start c .args .x .now)) (fedBy (start c .args .fy) (start c .args .y .now))
+    → Both (start c .args .x .now) (c .before .before .begin .last .1 .0) (viewed c .before .view-of .result) (c .before .before .begin .result)
+    (start c .args .y .now) (c .begin2 .last .1 .0) (viewed c .view-of2 .result) (c .begin2 .result) 0
+    (fedBy (start c .args .fx) (start c .args .x .now)) (fedBy (start c .args .fy) (start c .args .y .now))
 both c = begun (start c .pre .sources) (viewed c .before .view-of .ensures) (viewed c .view-of2 .ensures) (c .before .before .begin .ensures) (c .begin2 .ensures)
 
 -- what the invariant says of them, for any chain
 filling : (c : tie.At-loop Inv-loop μ-loop) (ns : List ℕ)
-    → Ample (start (opened c) .args .into .now) (start (opened c) .args .head) ns (joined (start (opened c) .args .op) (start (opened c) .args .x .now) (start (opened c) .args .fx) (start (opened c) .args .y .now) (start (opened c) .args .fy))
-    → Filling (start (opened c) .args .into .now) (c .loop .into) (start (opened c) .args .head) (c .loop .at) (start (opened c) .args .x .now) (c .loop .xp) (viewed (opened c) .before .view-of .result) (start (opened c) .args .y .now) (c .loop .yp) (viewed (opened c) .view-of2 .result) (c .loop .j) (start (opened c) .args .op) (fedBy (start (opened c) .args .fx) (start (opened c) .args .x .now)) (fedBy (start (opened c) .args .fy) (start (opened c) .args .y .now)) (c .loop .n) ns
+    → Ample (start (opened c) .args .into .now) (start (opened c) .args .head) ns
+    (joined (start (opened c) .args .op) (start (opened c) .args .x .now) (start (opened c) .args .fx) (start (opened c) .args .y .now)
+    (start (opened c) .args .fy))
+    → Filling (start (opened c) .args .into .now) (c .loop .into) (start (opened c) .args .head) (c .loop .at) (start (opened c) .args .x .now)
+    (c .loop .xp) (viewed (opened c) .before .view-of .result) (start (opened c) .args .y .now) (c .loop .yp) (viewed (opened c) .view-of2 .result)
+    (c .loop .j) (start (opened c) .args .op) (fedBy (start (opened c) .args .fx) (start (opened c) .args .x .now))
+    (fedBy (start (opened c) .args .fy) (start (opened c) .args .y .now)) (c .loop .n) ns
 filling c ns am = c .loop .inv _ _ ns (c .before .next-run .ensures _ _ (both (opened c))) am
 
 view-of-requires : tie.Need-view-of-requires Inv-loop μ-loop
@@ -60,10 +71,10 @@ view-of-requires-2 : tie.Need-view-of-requires-2 Inv-loop μ-loop
 view-of-requires-2 c κs = search needs
 
 begin-requires : tie.Need-begin-requires Inv-loop μ-loop
-begin-requires c κs = (c .before .before .before .before .before .before .pre .sources .left, refl)
+begin-requires c κs = (start-from-view-of (c .before .before) .pre .sources .left, refl)
 
 begin-requires-2 : tie.Need-begin-requires-2 Inv-loop μ-loop
-begin-requires-2 c κs = (c .before .before .before .before .before .before .before .before .pre .sources .right, refl)
+begin-requires-2 c κs = (start-from-view-of (c .before .before .before .before) .pre .sources .right, refl)
 
 next-run-requires : tie.Need-next-run-requires Inv-loop μ-loop
 next-run-requires c κs = (_, _, both (c .before .before))

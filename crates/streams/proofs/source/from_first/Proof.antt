@@ -21,6 +21,10 @@ placed c = c .before .before .before .before
 abbrev again : tie.After-starts-at-zero → tie.After-descend2
 again c = c .before .before
 
+-- further places that the needs look back to
+abbrev then1 : tie.After-from-last-arg → tie.Then1
+then1 c = c .before .before .before
+
 -- something was on the path
 some : (c : tie.After-pop) → start c .args .depth ≡ 0 → ⊥
 some c = c .before .before .if1 .left
@@ -35,11 +39,11 @@ descend-requires c κs = (_, _, root-below (c .before .before .before .pre .2 .r
 
 from-last-requires : tie.Need-from-last-requires
 from-last-requires c κs =
-    let h = c .before .before .before .before .before .pre .2 in (_, _, first-last h (first-over h (c .before .descend .ensures)))
+    let h = then1 c .before .before .pre .2 in (_, _, first-last h (first-over h (c .before .descend .ensures)))
 
 returns : tie.Need-returns
 returns c = λ y Q h.
-    first-none h (c .before .before .before .before .if1 .taken) (c .from-last .ensures _ Q (first-last h (first-over h (c .before .before .descend .ensures))))
+    first-none h (then1 (c .before) .if1 .taken) (c .from-last .ensures _ Q (first-last h (first-over h (c .before .before .descend .ensures))))
 
 pop-requires : tie.Need-pop-requires
 pop-requires c κs = first-on (c .before .before .before .pre .2) (c .before .if1 .left)

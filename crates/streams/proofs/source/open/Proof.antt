@@ -13,7 +13,8 @@ start c = c .before .before .before .before
 
 -- the runs from the position's place on are to come
 coming : (c : tie.After-descend)
-    → Coming (start c .args .words .now) (c .descend .last .1 .0) (c .descend .result) (c .before .before .to-physical .result .0) (from (c .before .before .to-physical .result .0) (physicalRuns (start c .args .words .now) (start c .args .v .root)))
+    → Coming (start c .args .words .now) (c .descend .last .1 .0) (c .descend .result) (c .before .before .to-physical .result .0)
+    (from (c .before .before .to-physical .result .0) (physicalRuns (start c .args .words .now) (start c .args .v .root)))
 coming c = root-coming (start c .pre .0) (start c .pre .1) (c .descend .ensures)
 
 to-physical-requires : tie.Need-to-physical-requires
