@@ -1,7 +1,7 @@
 -- A set of an open store that is admitted can be closed, and the store is then sound and as long; one that is refused leaves it. An open store
 -- can be searched. Assumes nothing.
 use Prim.Native.Nat.{ℕ, _≤_}
-use mathlib.Core.Path.{_≡_, refl, sym, ap, subst}
+use mathlib.Core.Path.{_≡_, sym, ap, subst}
 use mathlib.Core.List.{List}
 use lib.ListN.{length}
 use Rattle.model.specs.declared.Count.{Count}

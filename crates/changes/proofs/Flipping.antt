@@ -13,19 +13,21 @@ use Rattle.model.specs.declared.Edge.the-variants.{At}
 use Rattle.model.specs.Numbers.{size, split}
 use Rattle.model.specs.Positions.{Positions, oneIf, stretches, setRange, flipRange}
 use Rattle.model.specs.Positions.Laws.{one-bound}
+use Rattle.model.specs.Positions.Runs.{stretches-cong}
 use Rattle.model.specs.After.{goesOn, set-cong, flip-below, flip-above, stretches-parts}
 use Rattle.store.specs.declared.World.{World}
 use Rattle.store.specs.Layout.{heldIn}
 use Rattle.store.specs.Soundness.{Share, Still, Standing, Limited}
 use Rattle.store.specs.Settle.{Became}
 use Rattle.store.proofs.Nodes.{still-then, still-same}
+use Rattle.store.proofs.Settling.{became-limited}
 use Rattle.reports.specs.declared.physical.Tally.{Tally}
 use Rattle.reports.specs.Reports.{Measured, Next}
 use Rattle.reports.specs.Ranks.{ranges-alternate}
 use Rattle.reports.proofs.Seeking.{Past, none-next}
 use Rattle.reports.proofs.Bounding.{high-end-at}
 use Rattle.changes.specs.Edits.{Makes, Appliable, StretchEnd}
-use Rattle.changes.specs.Neighbours.{heldBelow, heldAbove, stretches-cong}
+use Rattle.changes.specs.Neighbours.{heldBelow, heldAbove}
 use Rattle.changes.specs.FlipRuns.{flip-leaves, flip-one-more, flip-none-more, flip-further}
 use Rattle.changes.proofs.Fitting.{leb-like, logical-most, logical-few}
 
@@ -140,14 +142,6 @@ flips-none {w} {h} {a} {last} l k s limit lim few = record {
     nothing y (inl i) = flip-below a (a - a) (heldIn w h) y i
     nothing y (inr i) = flip-above a (a - a) (heldIn w h) y (omega arith)
 
--- a world after a change that leaves no more runs than it may have
-limited-after : {w w′ : List ℕ} {s : Share} {h k : World} {limit : ℕ} {Q : Positions} → Limited w s h limit → Became w w′ s k Q → stretches Q ≤ limit → Limited w′ s k limit
-limited-after {w′ = w′} {k = k} {Q = Q} lim be few = record {
-  standing = be .shows .standing;
-  fits = omega (arith, few, stretches-cong (heldIn w′ k) Q (be .shows .holds));
-  enough = lim .enough;
-}
-
 module _ {w₀ w : List ℕ} {s : Share} {h₀ h : World} {limit a last x y : ℕ} {more v : Bool} (f : Flipping w₀ w s h₀ h limit a last x more) (t : more ≡ true)
     (en : StretchEnd (heldIn w h) v x last y) where
   -- what is flipped
@@ -203,7 +197,7 @@ module _ {w₀ w : List ℕ} {s : Share} {h₀ h : World} {limit a last x y : �
     -- one more stretch is flipped
     pub flipping-more : y < last → Flipping w₀ w′ s h₀ k limit a last (y + 1) more
     flipping-more l = record {
-      limited = limited-after (f .limited) made stretch-few;
+      limited = became-limited (f .limited) made stretch-few;
       still = still-then (f .still) (made .still);
       from = omega (arith, f .from, en .from);
       upto = omega arith;
@@ -219,7 +213,7 @@ module _ {w₀ w : List ℕ} {s : Share} {h₀ h : World} {limit a last x y : �
     -- the last one is
     pub flipping-last : last ≤ y → Flipping w₀ w′ s h₀ k limit a last x false
     flipping-last l = record {
-      limited = limited-after (f .limited) made stretch-few;
+      limited = became-limited (f .limited) made stretch-few;
       still = still-then (f .still) (made .still);
       from = f .from;
       upto = f .upto;

@@ -111,7 +111,10 @@ module _ {w : List ℕ} {x : Links} {s e : ℕ} {r : Run} (q : Found w x s r) (d
     -- it goes on past e
     stays : e ≤ r .«end» → Holding w w sh x (setRange s (suc e - s) true (mem (inorder t)))
     stays le =
-        raised m (becomes-none (m .kept) (around .is ∙ sym (joined-with ∙ ap (λ (vs : List Run). around .ls ++ vs) (ap (λ (k : ℕ). insert (r .start) k (around .us)) (omega arith) ∙ insert-first (r .start) (r .«end») (r .«end» + 2) (around .us) (omega (arith, parts .2)) (omega arith) (parts .4)))))
+        raised m (becomes-none (m .kept)
+        (around .is ∙ sym (joined-with ∙ ap (λ (vs : List Run). around .ls ++ vs)
+        (ap (λ (k : ℕ). insert (r .start) k (around .us)) (omega arith) ∙ insert-first (r .start) (r .«end»)
+        (r .«end» + 2) (around .us) (omega (arith, parts .2)) (omega arith) (parts .4)))))
 
   -- it may take in what follows
   pub before-absorbable : Settable w x s e true → Absorbable w x (r .start) (r .«end»)

@@ -9,6 +9,7 @@ use mathlib.Core.List.{List}
 use native.Mathlib.Omega.{arith}
 use Rattle.model.specs.Numbers.{size, split}
 use Rattle.model.specs.Positions.{Positions, setRange, stretches, mem}
+use Rattle.model.specs.Positions.Runs.{stretches-cong}
 use Rattle.model.specs.After.{set-cong}
 use Rattle.run_index.specs.Tree.{runs, inorder}
 use Rattle.store.specs.declared.World.{World}
@@ -21,7 +22,6 @@ use Rattle.store.proofs.Nodes.{still-then}
 use Rattle.store.proofs.Opening.{physicalIn, standing-held, standing-none, standing-some}
 use Rattle.changes.specs.Change.{MaySet, Settable, Holding, Sets}
 use Rattle.changes.specs.Edits.{Reached}
-use Rattle.changes.specs.Neighbours.{stretches-cong}
 use Rattle.changes.specs.TurnedSet.{turned-cong, turned-set-whole, turned-set-first, turned-set-parted}
 use Rattle.changes.specs.SetRuns.{set-one-more, physical-one-more}
 

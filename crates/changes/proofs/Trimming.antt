@@ -259,4 +259,6 @@ module _ {w : List ℕ} {x : Links} {s e : ℕ} {r : Run} (q : Found w x s r) wh
         -- and does
         pub both-added : {w2 : List ℕ} {y : Links} → Adds w1 w2 x y (e + 1) (r .«end») → Sets w w2 x y s e false
         both-added {w2} {y} a sh t ns m =
-            lowered m (subst (Becomes w w2 sh y) (sym (both m)) (becomes-added (around m .ls ++ (run (r .start) (s - 1) ∷ [])) (around m .us) (back-becomes m) (e + 1) (r .«end») (both-before m) (both-after m) (omega arith) (both-canon m) (both-few m) a))
+            lowered m (subst (Becomes w w2 sh y) (sym (both m))
+            (becomes-added (around m .ls ++ (run (r .start) (s - 1) ∷ [])) (around m .us) (back-becomes m) (e + 1) (r .«end»)
+            (both-before m) (both-after m) (omega arith) (both-canon m) (both-few m) a))

@@ -10,9 +10,9 @@ use lib.ListN.{length}
 use borrow.Author.Tests.{lt-ltb}
 use Rattle.model.specs.declared.Run.{Run}
 use Rattle.model.specs.Numbers.{size}
-use Rattle.model.specs.Positions.{Positions, oneIf, runsIn, countRanges, stretches, mem}
+use Rattle.model.specs.Positions.{Positions, oneIf, runsIn, countRanges, mem}
 use Rattle.model.specs.Positions.Laws.{among-yes}
-use Rattle.model.specs.Positions.Runs.{runsIn-mem, heldRuns-cong}
+use Rattle.model.specs.Positions.Runs.{runsIn-mem}
 use Rattle.model.specs.After.{goesOn}
 use Rattle.store.specs.Ends.{clash, empty-mem}
 
@@ -75,11 +75,6 @@ pub goesOn-changed-below : (P R : Positions) (x : ℕ) (v : Bool) → ((y : ℕ)
 goesOn-changed-below P R x v f e = goesOn-above R x ∙ ap₂ (λ b d. (ltb (suc x) size && b) && d) (f (suc x) (omega arith)) e
 
 -- ---- how many runs
--- sets that agree below 2^64 have as many
-pub stretches-cong : (P Q : Positions) → ((x : ℕ) → x < size → P x ≡ Q x) → stretches P ≡ stretches Q
-unfolding stretches
-stretches-cong P Q f = ap length (heldRuns-cong P Q f)
-
 -- a range with a held position has a run
 pub ranges-some : (P : Positions) (a n x : ℕ) → a ≤ x → x < a + n → oneIf (P x) ≤ countRanges P true a n
 unfolding countRanges

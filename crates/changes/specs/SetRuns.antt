@@ -8,11 +8,12 @@ use native.Mathlib.Omega.{arith}
 use Rattle.model.specs.Numbers.{size, split}
 use Rattle.model.specs.Positions.{Positions, oneIf, count, countRanges, stretches, setRange}
 use Rattle.model.specs.Positions.Laws.{count-cut, count-all, one-bound}
+use Rattle.model.specs.Positions.Runs.{stretches-cong}
 use Rattle.model.specs.After.{goesOn, goesOn-top, goesOn-zero, set-inside, set-below, set-above, set-runs}
 use Rattle.store.specs.Places.{physicalOf}
 use Rattle.store.specs.Layout.{turned}
 use Rattle.store.specs.Turn.{stretches-zero, stretches-turned}
-use Rattle.changes.specs.Neighbours.{heldBelow, heldAbove, both-second, with-without, goesOn-below, goesOn-above, goesOn-changed-above, goesOn-changed-below, stretches-cong, ranges-some}
+use Rattle.changes.specs.Neighbours.{heldBelow, heldAbove, both-second, with-without, goesOn-below, goesOn-above, goesOn-changed-above, goesOn-changed-below, ranges-some}
 
 -- ---- a range of n positions from a, up to b
 module _ (P : Positions) (a n b : ℕ) (some : 0 < n) (ends : a + n ≡ suc b) (fits : b < size) where

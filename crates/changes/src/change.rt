@@ -1,6 +1,5 @@
 // Giving a range of physical positions a value: runs grow, shrink, go and come. Whatever a run only loses or gains at an end changes
 // in place, and no more nodes are used on the way than in the end. Where the tree and the free chain start is handed in and back.
-ghost use mathlib.Core.Path.{_≡_};
 ghost use mathlib.Core.Bool.{true, false};
 ghost use Rattle.changes.specs.Change.{Settable, Sets, Reaching, Absorbable, Absorbs, Clearable, ClearsFrom};
 use run_index::search::Near;

@@ -15,6 +15,7 @@ use Rattle.model.specs.declared.Operation.{Operation}
 use Rattle.model.specs.declared.Run.{Run}
 use Rattle.model.specs.Numbers.{size}
 use Rattle.model.specs.Positions.{Positions, bounded, stretches, combined, complemented, shiftBy, empty, mem}
+use Rattle.model.specs.Positions.Runs.{stretches-cong}
 use Rattle.model.specs.Refusals.{storeLength, runOrder, beforeCapacity, Condition, _when_, firstGiven, refusal, earnsLength, disordered, setConditions, tooMany}
 use Rattle.model.specs.Refusals
 use Rattle.model.specs.Bytes.{decode}
@@ -28,7 +29,6 @@ use Rattle.store.specs.Free.{Emptied}
 use Rattle.store.specs.Settle.{Settled, Opened, Closing, Closes}
 use Rattle.store.proofs.Opening.{allowance-same}
 use Rattle.streams.specs.Gathering.{Roomy, Gathers}
-use Rattle.changes.specs.Neighbours.{stretches-cong}
 use Rattle.core.specs.Met.{fedOf, outcomeOf, Met, Readable}
 use Rattle.core.specs.Carried.{Carried, completedBy}
 use Rattle.core.proofs.Meeting.{met-by, fed-short, fed-sized}

@@ -10,13 +10,12 @@ use lib.Dec.{ltb, eqb}
 use borrow.Author.Tests.{eq-eqb, ne-eqb, le-ltb}
 use Rattle.model.specs.declared.Bound.{Bound}
 use Rattle.model.specs.declared.Listing.{Listing}
-use Rattle.model.specs.declared.Refusal.{Refusal}
-use Rattle.model.specs.Numbers.{size, refusalNumber}
+use Rattle.model.specs.Numbers.{size}
 use Rattle.model.specs.Range.{firstAllowed, extent}
 use Rattle.model.specs.Positions
 use Rattle.model.specs.Positions.{Positions, firstRun, lastRun, listed, remaining, pastFirst, pastLast, empty, bounded, stretches}
 use Rattle.model.specs.Bytes.{fillOf}
-use Rattle.model.specs.Refusals.{storeLength, window, Condition, _when_, given, refusal, earnsLength, badWindow, tooMany}
+use Rattle.model.specs.Refusals.{window, Condition, _when_, refusal, earnsLength, badWindow, tooMany}
 use Rattle.model.specs.Call.{wrongLength, unsound, holding, Call, Result, done, number, value, around, position, listing, drawn, Answer, refused, gave}
 use Rattle.model.specs.Model.{Outcome, positionsOf, reads, settle, report, overwrite, drawnFirst, drawnLast, serve}
 use Rattle.store.specs.Layout.{capacity, allowance, heldIn, heldBy}
@@ -28,7 +27,6 @@ use Rattle.store.specs.Free.{Emptied}
 use Rattle.store.proofs.Decided.{soundB-yes, soundB-no}
 use Rattle.store.proofs.Emptying.{empty-stretches}
 use Rattle.core.specs.Met.{fedOf, outcomeOf, Leaves, Met, Readable}
-use Rattle.core.proofs.Refusing.{reads-first}
 
 -- ---- what the model is fed
 -- words of no store's length

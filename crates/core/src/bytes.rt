@@ -1,6 +1,5 @@
 // Reading written sets, run lists and maps into a store. What they earn by themselves is tested before the allowance, and that before the
 // first word changes.
-ghost use mathlib.Core.Path.{_≡_};
 ghost use Prim.Native.Nat.{_/_, _≤_};
 ghost use lib.ListN.{length};
 ghost use Rattle.model.specs.Call.{Call};

@@ -9,6 +9,7 @@ ghost use Rattle.streams.specs.Gathering.{Sources, joined};
 ghost use Rattle.core.specs.Met.{Readable, Met};
 ghost use Rattle.core.specs.Carried.{Carried, completedBy, ViewOf};
 use model::Completed;
+use model::Logical;
 use model::Operation;
 use model::Refusal;
 use model::Tested;
@@ -79,7 +80,7 @@ pub fn not(words: &mut [u64], a: &[u64]) -> Completed
         a,
         Feed::Held(x),
         a,
-        Feed::Only(0, u64::MAX),
+        Feed::Only(Logical(0), Logical(u64::MAX)),
     ))
 }
 
@@ -101,20 +102,21 @@ pub fn shifted(words: &mut [u64], distance: u64, left: bool, a: &[u64]) -> Compl
             a,
             Feed::Held(up),
             a,
-            Feed::Only(distance, u64::MAX),
+            Feed::Only(Logical(distance), Logical(u64::MAX)),
         ));
     }
     let down = View {
         root: x.root,
         offset: std::num::wrapping_sub_u64(x.offset, distance),
     };
+    let top = u64::MAX - distance;
     completed(gathered(
         words,
         Operation::And,
         a,
         Feed::Held(down),
         a,
-        Feed::Only(0, u64::MAX - distance),
+        Feed::Only(Logical(0), Logical(top)),
     ))
 }
 

@@ -1,5 +1,4 @@
 // Writing a store's set, and the map of a window, into the front of a lent slice.
-ghost use mathlib.Core.Path.{_≡_};
 ghost use Rattle.model.specs.Call.{Call};
 ghost use Rattle.core.specs.Met.{Readable};
 ghost use Rattle.core.specs.Out.{WritesOut};

@@ -38,7 +38,7 @@ valueOf r = record { refusal = r .refusal; value = r .number }
 abbrev pub runOf : Reply → CRun
 runOf r = record { refusal = r .refusal; start = r .number; «end» = r .«end» }
 
--- find, select
+-- find, select, gap
 abbrev pub positionOf : Reply → CPosition
 positionOf r = record { refusal = r .refusal; found = r .found; position = r .number }
 

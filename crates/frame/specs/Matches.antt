@@ -6,7 +6,6 @@ use mathlib.Core.Logic.{_⊎_, inl, inr}
 use mathlib.Core.Bool.{Bool, true, false, cond}
 use mathlib.Core.List.{List, [], _∷_, _++_}
 use mathlib.Core.Option.{Option, none, some}
-use native.Mathlib.Omega.{arith}
 use lib.Dec.{eqb}
 use Rattle.model.specs.Positions.{Positions, empty}
 use Rattle.model.specs.Bytes.{intoFront}

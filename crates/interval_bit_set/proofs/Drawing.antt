@@ -198,20 +198,26 @@ module _ {M : Type 1} (𝓤 : URA M) (H : Heap 𝓤) (A : Atoms 𝓤) (W : Given
         assigns ! (of-opd ! (load ! (from ! (hop ! (look ! 18 refl) (fld ! refl (stop !)))) (look-in ! 0 (sub ! 2 refl (whole !))))) (from ! (stop !)) (init ! 10 refl (tt, tt)) $
         -- the call
         move ! (6 ∷ 8 ∷ []) $ use2 W (raw (ByParts 𝓤 draw H A .pre to)) (goes-at (first-fits was) (last-fits was)) $
-        calls-at ! fm (ByParts 𝓤 draw H A) known to (and-then ! (load ! (from ! (stop !)) (look ! 19 refl)) (and-then ! (load ! (from ! (stop !)) (look ! 13 refl)) (and-then ! (load ! (from ! (stop !)) (look ! 11 refl)) (and-then ! (load ! (from ! (stop !)) (look ! 9 refl)) (no-more !))))) (λ u.
+        calls-at ! fm (ByParts 𝓤 draw H A) known to
+        (and-then ! (load ! (from ! (stop !)) (look ! 19 refl))
+        (and-then ! (load ! (from ! (stop !)) (look ! 13 refl)) (and-then ! (load ! (from ! (stop !)) (look ! 11 refl))
+        (and-then ! (load ! (from ! (stop !)) (look ! 9 refl)) (no-more !))))) (λ u.
         use1 W (later (some (λ (r : Draw). ((‵ (flft κ q) ⊛ ‵ ftrue) ⊛ ‵ (D.the-row .own r (u ∷ []))) ⊛ raw (ensured 𝓤 H A at.ended (by-parts 𝓤 draw) (κ, tt) given-to tt r)))) (id⊢ 𝓤 _) $ await ! tt $ pick ! (λ r.
         split ! $ move ! (1 ∷ []) $ use1 W (raw (fact 𝓤 (Drew r))) (said r) $ heard ! (Drew r) (λ e. split ! $ move ! (1 ∷ []) $
         peeks ! D.the-row (Is D.the-row) (shows 𝓤 H A D.the-row) r (u ∷ []) (λ is.
         land ! (from ! (stop !)) (init ! 16 refl (LL.lawful D.the-type D′.the-laws 𝓤 H A W .typed r _ is .0)) $ rewrite ! 16 (λ (w : Val). ‵ (fat fullShare D′.mir l₃ 0 w)) (ap only (LL.tells D.the-type D′.the-laws r (u ∷ []) is)) refl $
         -- [what the Draw owns; the slice's token; the listing's cell; what a Listing owns; the open borrow; obs; auth; true; true; Own; _6; …; _5; …; _4; …; _3; …; _2; …; _1; …; room for _0; …]
-        assigns ! (of-opd ! (load ! (from ! (fld ! refl (stop !))) (look-in ! 16 (sub ! 1 refl (whole !))))) (from ! (hop ! (look ! 18 refl) (fld ! refl (stop !)))) (store-in ! 2 (sub ! 0 refl (whole !)) (tt, record { fits = drawn-first r u is })) $
-        assigns ! (of-opd ! (load ! (from ! (fld ! refl (stop !))) (look-in ! 16 (sub ! 2 refl (whole !))))) (from ! (hop ! (look ! 18 refl) (fld ! refl (stop !)))) (store-in ! 2 (sub ! 1 refl (whole !)) (tt, record { fits = drawn-last r u is })) $
+        assigns ! (of-opd ! (load ! (from ! (fld ! refl (stop !))) (look-in ! 16 (sub ! 1 refl (whole !)))))
+        (from ! (hop ! (look ! 18 refl) (fld ! refl (stop !)))) (store-in ! 2 (sub ! 0 refl (whole !)) (tt, record { fits = drawn-first r u is })) $
+        assigns ! (of-opd ! (load ! (from ! (fld ! refl (stop !))) (look-in ! 16 (sub ! 2 refl (whole !)))))
+        (from ! (hop ! (look ! 18 refl) (fld ! refl (stop !)))) (store-in ! 2 (sub ! 1 refl (whole !)) (tt, record { fits = drawn-last r u is })) $
         assigns ! (of-opd ! (load ! (from ! (fld ! refl (stop !))) (look-in ! 16 (sub ! 0 refl (whole !))))) (from ! (stop !)) (init ! 22 refl (EL.lawful E.the-type E′.the-laws 𝓤 H A W tt .typed (r .next) _ (drawn-is r u is) .0)) $
         -- the borrow is closed at the new record
         owned ! T.the-row (Is T.the-row) ((LL.makes T.the-type T′.the-plain) 𝓤 H A) (h′ r) _ (made r (drawn-first r u is) (drawn-last r u is)) $
         move ! (3 ∷ 0 ∷ 5 ∷ 6 ∷ 7 ∷ []) $ closes ! tt T.the-row (h′ r) (mach (r .first) (r .last) ∷ []) b o $
         returns ! (look ! 21 refl) $ forget ! 9 refl $ forget ! 11 refl $ forget ! 13 refl $ forget ! 15 refl $ forget ! 17 refl $ forget ! 19 refl $ forget ! 21 refl $
-        move ! (21 ∷ 22 ∷ []) $ free1 ! $ move ! (19 ∷ 20 ∷ []) $ free1 ! $ move ! (17 ∷ 18 ∷ []) $ free1 ! $ move ! (15 ∷ 16 ∷ []) $ free1 ! $ move ! (13 ∷ 14 ∷ []) $ free1 ! $ move ! (11 ∷ 12 ∷ []) $ free1 ! $ move ! (9 ∷ 10 ∷ []) $ free1 ! $ free0 ! $
+        move ! (21 ∷ 22 ∷ []) $ free1 ! $ move ! (19 ∷ 20 ∷ []) $ free1 ! $ move ! (17 ∷ 18 ∷ []) $ free1 ! $ move ! (15 ∷ 16 ∷ []) $ free1 ! $
+        move ! (13 ∷ 14 ∷ []) $ free1 ! $ move ! (11 ∷ 12 ∷ []) $ free1 ! $ move ! (9 ∷ 10 ∷ []) $ free1 ! $ free0 ! $
         move ! (4 ∷ []) $ split ! $ keep ! (2 ∷ 3 ∷ 4 ∷ 0 ∷ 9 ∷ []) $ by ! (exits r e (drawn-is r u is)))))))))))))))
 
 module _ {M : Type 1} (𝓤 : URA M) (H : Heap 𝓤) (A : Atoms 𝓤) (W : Given 𝓤 H A) (draw : Listing → Call (List ℕ)) (callee : Name) where

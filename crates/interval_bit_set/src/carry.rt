@@ -1,6 +1,5 @@
 // The calls that make a store of others, and the comparison of two. The receiving store may hold anything; those that are read are looked
 // at first. What would be in it is counted before its first word changes.
-ghost use mathlib.Core.Path.{_≡_};
 ghost use Rattle.model.specs.Call.{Call};
 ghost use Rattle.model.specs.Answers.{completedAnswer, testedAnswer};
 ghost use Rattle.core.specs.Met.{Met};

@@ -1,5 +1,4 @@
 // The calls that change a store where it stands.
-ghost use mathlib.Core.Path.{_≡_};
 ghost use Rattle.core.specs.Met.{Met};
 ghost use Rattle.model.specs.Answers.{completedAnswer, countedAnswer};
 ghost use Rattle.model.specs.Call.{Call};

@@ -1,5 +1,4 @@
 // Looking at a store before it is read.
-ghost use mathlib.Core.Path.{_≡_};
 ghost use Rattle.interval_bit_set.specs.Look.{Looked, LookedBoth};
 use model::Refusal;
 use store::Store;

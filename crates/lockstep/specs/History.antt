@@ -4,7 +4,7 @@ use Prim.Native.Nat.{ℕ}
 use mathlib.Core.Path.{_≡_}
 use mathlib.Core.List.{List, [], _∷_}
 use lib.ListN.{take}
-use Rattle.model.specs.Positions.{Positions, empty}
+use Rattle.model.specs.Positions.{Positions}
 use Rattle.model.specs.Call.{Fed, Call, feed, done, written, Answer, gave}
 use Rattle.model.specs.Model.{Outcome, step}
 use Rattle.store.specs.Layout.{capacity, heldBy}

@@ -1,6 +1,5 @@
 // Whole histories of calls (demand 3): the theorems stand in specs/, and speak of nothing but what the public calls promise. The function
 // here uses them.
-ghost use mathlib.Core.Path.{_≡_};
 ghost use Prim.Native.Nat.{_+_, _≤_, _<_};
 ghost use Rattle.model.specs.Numbers.{size};
 ghost use Rattle.lockstep.specs.Meeting.{Lent, SameBytes};

@@ -8,6 +8,7 @@ use mathlib.Core.List.{List}
 use native.Mathlib.Omega.{arith}
 use Rattle.model.specs.Numbers.{size, split}
 use Rattle.model.specs.Positions.{Positions, stretches, setRange, changes}
+use Rattle.model.specs.Positions.Runs.{stretches-cong}
 use Rattle.model.specs.Bytes.{mapBit, mapped}
 use Rattle.model.specs.After.{set-inside, set-below, set-above, set-cong}
 use Rattle.store.specs.declared.World.{World}
@@ -15,9 +16,9 @@ use Rattle.store.specs.Layout.{heldIn}
 use Rattle.store.specs.Soundness.{Share, Limited, Editable}
 use Rattle.store.specs.Settle.{Became}
 use Rattle.store.proofs.Nodes.{still-then, still-same}
+use Rattle.store.proofs.Settling.{became-limited}
 use Rattle.changes.specs.declared.edit.Edit.{Edit}
 use Rattle.changes.specs.Edits.{Makes, Edited, Appliable, StretchEnd}
-use Rattle.changes.specs.Neighbours.{stretches-cong}
 use Rattle.maps.specs.Window.{Window, MayMap}
 use Rattle.maps.proofs.Windows.{mapped-below, mapped-above, mapped-at, changes-nothing}
 use Rattle.maps.proofs.Surveying.{Border, border-first, border-next}
@@ -35,11 +36,6 @@ became-then b c f = record {
   shows = record { standing = c .shows .standing; holds = λ x l. c .shows .holds x l ∙ f x l };
   still = still-then (b .still) (c .still);
 }
-
--- a world stays within its limit
-became-limited : {w w₁ : List ℕ} {s : Share} {h k : World} {limit : ℕ} {Q : Positions} → Limited w s h limit → Became w w₁ s k Q → stretches Q ≤ limit → Limited w₁ s k limit
-became-limited {w₁ = w₁} {k = k} {Q = Q} l b f =
-    record { standing = b .shows .standing; fits = omega (arith, stretches-cong (heldIn w₁ k) Q (b .shows .holds)); enough = l .enough }
 
 -- reading one stretch more is a set
 further : (base : ℕ) (bs : List ℕ) (P : Positions) (i k : ℕ) (v : Bool) → ((z : ℕ) → i ≤ z → z < i + k → mapBit bs z ≡ v)

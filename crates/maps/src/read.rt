@@ -1,11 +1,11 @@
 // Reading a map into a world, stretch by stretch. What it would leave is counted before the first write.
 ghost use mathlib.Core.Path.{_≡_};
-ghost use mathlib.Core.Bool.{Bool, true};
+ghost use mathlib.Core.Bool.{true};
 ghost use Prim.Native.Nat.{_+_, _*_, _-_, _≤_, _<_};
 ghost use lib.Dec.{leb};
 ghost use lib.ListN.{length};
 ghost use Rattle.model.specs.Positions.{stretches, countRanges};
-ghost use Rattle.model.specs.Bytes.{mapBit, mapped, mapLength};
+ghost use Rattle.model.specs.Bytes.{mapBit, mapped};
 ghost use Rattle.store.specs.Layout.{heldIn};
 ghost use Rattle.store.specs.Soundness.{Stands, Editable};
 ghost use Rattle.changes.specs.Edits.{Makes, Edited, StretchEnd};

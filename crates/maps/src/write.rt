@@ -8,6 +8,7 @@ ghost use Rattle.model.specs.Bytes.{mapOf, mapLength, intoFront};
 ghost use Rattle.store.specs.Layout.{heldIn};
 ghost use Rattle.store.specs.Soundness.{Stands};
 ghost use Rattle.maps.specs.Octets.{Placed, Octets, stores, BytesDue, StoresNext};
+use model::Logical;
 use store::World;
 use streams::source::HIGHEST;
 use streams::source::Source;
@@ -32,8 +33,11 @@ fn octet_of(words: &[u64], path: &mut [u64; HIGHEST], v: View, s: Source, x: u64
     requires { ⌜ Placed (now words) (now path) v s x k ⌝ }
     ensures { λ r. ⌜ Octets (now (words .entry)) (now (path .entry)) (now (path .exit)) v s x k r ⌝ }
 {
-    let value = streams::sweep::value_at(s, x);
-    let after = streams::sweep::same_to(s, x) - x;
+    let at = Logical(x);
+    let value = streams::sweep::value_at(s, at);
+    let end = streams::sweep::same_to(s, at);
+    let to = end.0;
+    let after = to - x;
     if k - 1 <= after {
         return Octet {
             bits: alike(value, k),
@@ -42,8 +46,9 @@ fn octet_of(words: &[u64], path: &mut [u64; HIGHEST], v: View, s: Source, x: u64
     }
     let n = after + 1;
     let low = alike(value, n);
-    let t = streams::sweep::moved(words, path, v, s, x + n);
-    let r = octet_of(words, path, v, t, x + n, k - n);
+    let next = x + n;
+    let t = streams::sweep::moved(words, path, v, s, Logical(next));
+    let r = octet_of(words, path, v, t, next, k - n);
     let high = r.bits;
     let u = r.source;
     Octet {
@@ -98,9 +103,12 @@ fn next_bytes(
     requires { ⌜ BytesDue (now words) (now path) v s x left j (now out) ⌝ }
     ensures { λ r. ⌜ StoresNext (now (words .entry)) (now (path .entry)) (now (path .exit)) v s x left j (now (out .entry)) (now (out .exit)) r ⌝ }
 {
-    let after = streams::sweep::same_to(s, x) - x;
+    let at = Logical(x);
+    let end = streams::sweep::same_to(s, at);
+    let to = end.0;
+    let after = to - x;
     if after >= 7 {
-        let byte = alike(streams::sweep::value_at(s, x), 8) as u8;
+        let byte = alike(streams::sweep::value_at(s, at), 8) as u8;
         let n = whole_bytes(after, left);
         fill_bytes(out, j, n as usize, byte);
         return Stored {
@@ -129,7 +137,7 @@ pub fn write_map(words: &[u64], h: World, base: u64, n: u64, out: &mut [u8])
         offset: h.offset,
     };
     let mut path = [0u64; HIGHEST];
-    let mut s = streams::source::open(words, &mut path, v, base);
+    let mut s = streams::source::open(words, &mut path, v, Logical(base));
     let mut x = base;
     let mut left = n;
     let mut j: usize = 0;
@@ -137,7 +145,7 @@ pub fn write_map(words: &[u64], h: World, base: u64, n: u64, out: &mut [u8])
         let r = next_bytes(words, &mut path, v, s, x, left, out, j);
         let t = r.source;
         x += 8 * r.count;
-        s = streams::sweep::moved(words, &mut path, v, t, x);
+        s = streams::sweep::moved(words, &mut path, v, t, Logical(x));
         left -= 8 * r.count;
         j += r.count as usize;
     }

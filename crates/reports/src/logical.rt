@@ -2,7 +2,6 @@
 // the end of the physical positions, at two: from its place to M, and from 0 on.
 ghost use mathlib.Core.Path.{_≡_};
 ghost use Prim.Native.Nat.{suc, _+_, _-_, _≤_, _<_};
-ghost use Rattle.model.specs.Positions.{Positions, countRanges};
 ghost use Rattle.store.specs.Layout.{heldIn};
 ghost use Rattle.store.specs.Soundness.{Stands};
 ghost use Rattle.reports.specs.Reports.{Measured, Next, Previous, Selects};

@@ -7,7 +7,7 @@ use lib.ListN.{length}
 use Rattle.model.specs.declared.Run.{Run}
 use Rattle.run_index.specs.declared.Node.{Node}
 use Rattle.run_index.specs.Cells.{cellAt, Room, Wrote}
-use Rattle.run_index.specs.Tree.{runs, δ}
+use Rattle.run_index.specs.Tree.{δ}
 use Rattle.run_index.specs.Strung.{times, Strung, Laid, Free, Any, runsOf, laidCell, Lays, FreeChain, Filled, Upright}
 use Rattle.run_index.proofs.Trees.{δ-same}
 use Rattle.run_index.proofs.Strings.{times-append, length-both, runsOf-append, runsOf-kept, strung-kept, strung-append}

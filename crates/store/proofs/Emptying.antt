@@ -21,7 +21,7 @@ use Rattle.run_index.proofs.Trees.{δ-same, δ-other, leaf-at}
 use Rattle.run_index.proofs.Strings.{strung-kept}
 use Rattle.store.specs.declared.World.{World}
 use Rattle.store.specs.declared.Links.{Links}
-use Rattle.store.specs.Layout.{capacityOf, worldAt, Headed, capacity, allowance, runsFrom, physicalRuns, turned, heldFrom, heldBy}
+use Rattle.store.specs.Layout.{capacityOf, Headed, capacity, allowance, runsFrom, physicalRuns, turned, heldFrom, heldBy}
 use Rattle.store.specs.Soundness.{Chain, firstOf, lastOf, Share, Kept, Standing, shareOf}
 use Rattle.store.specs.Free.{after, Chained, Emptied}
 use Rattle.store.proofs.Nodes.{sized-length}

@@ -10,16 +10,15 @@ use lib.Dec.{eqb}
 use lib.ListN.{length}
 use Rattle.model.specs.declared.Run.{Run}
 use Rattle.model.specs.Numbers.{size}
-use Rattle.model.specs.Positions.{run}
 use Rattle.model.specs.RunList.{Canon, canon-weaken}
 use Rattle.run_index.specs.declared.Node.{Node}
 use Rattle.run_index.specs.declared.Removed.{Removed}
 use Rattle.run_index.specs.Cells.{cellAt, Room, Wrote}
-use Rattle.run_index.specs.Tree.{Tree, leaf, node, runs, δ, count, inorder, At, Made}
+use Rattle.run_index.specs.Tree.{Tree, leaf, node, δ, count, inorder, At, Made}
 use Rattle.run_index.specs.Order.{pickRuns, removeRun, Rising}
 use Rattle.run_index.specs.Shape.{inserted, removed, numberOf}
 use Rattle.run_index.specs.Promises.{Ready, Inserts, Owned, Freed, Removes}
-use Rattle.run_index.specs.Strung.{times, Strung, Free, freeCell, felled, Felled, Fells}
+use Rattle.run_index.specs.Strung.{times, Free, freeCell, felled, Felled, Fells}
 use Rattle.run_index.proofs.Trees.{δ-same, leaf-at}
 use Rattle.run_index.proofs.Heap.{keep}
 use Rattle.run_index.proofs.Counts.{insert-count}

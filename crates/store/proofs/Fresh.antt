@@ -1,7 +1,7 @@
 -- Words of a store's length can be made an empty store: each node is freed from the last on down, and then the header is written. Only that
 -- such words are there is shown; a call is not asked for them. Assumes nothing.
 use Prim.Native.Nat.{ℕ, zero, suc, _-_, _/_, _≤_}
-use mathlib.Core.Path.{_≡_, refl, ap, subst}
+use mathlib.Core.Path.{refl, ap, subst}
 use mathlib.Core.List.{List}
 use native.Mathlib.Omega.{arith}
 use lib.ListN.{length}

@@ -1,18 +1,18 @@
 -- The nodes of a world: each is in its tree, in the free chain, or another world's, once. A tree and a chain whose cells are as they were are
 -- as they were; and what a change does to cells of the tree and the chain alone leaves others still. Assumes nothing.
 use Prim.Native.Nat.{ℕ, _+_, _*_, _≤_, _<_, _^_}
-use mathlib.Core.Path.{_≡_, refl, sym, ap, _∙_}
+use mathlib.Core.Path.{_≡_, refl, ap, _∙_}
 use mathlib.Core.Logic.{_⊎_, inl, inr}
 use mathlib.Core.List.{List, [], _∷_}
 use native.Mathlib.Omega.{arith}
 use native.Mathlib.Decide.{ℕ-discrete}
 use lib.ListN.{length}
-use Rattle.model.specs.Numbers.{size, split}
+use Rattle.model.specs.Numbers.{split}
 use Rattle.run_index.specs.Cells.{cellAt, Room}
-use Rattle.run_index.specs.Tree.{Tree, runs, count, inorder, Rep}
-use Rattle.run_index.specs.Strung.{times, Strung}
+use Rattle.run_index.specs.Tree.{Tree, runs, count, Rep}
+use Rattle.run_index.specs.Strung.{times}
 use Rattle.run_index.specs.Search.{Index}
-use Rattle.run_index.proofs.Trees.{δ-same, δ-other}
+use Rattle.run_index.proofs.Trees.{δ-other}
 use Rattle.run_index.proofs.Bound.{rep-positive, rep-numbered, few-nodes}
 use Rattle.store.specs.declared.Links.{Links}
 use Rattle.store.proofs.Capacities.{length-capacity}

@@ -1,6 +1,6 @@
 -- What a world that stands gives its readers: its tree at its root, that its positions are the tree's, turned by the offset, and that it holds
 -- some exactly if it has runs. And what a sound store gives: its world stands, with nodes enough for what it may hold. Assumes nothing.
-use Prim.Native.Nat.{ℕ, _+_, _≤_, _<_}
+use Prim.Native.Nat.{ℕ, _≤_, _<_}
 use mathlib.Core.Path.{_≡_, refl, sym, ap, _∙_, subst}
 use mathlib.Core.Bool.{true, false}
 use mathlib.Core.List.{List, [], _∷_}

@@ -1,11 +1,11 @@
 -- The runs reached from a root are those of the tree there: a tree of so few nodes is at most 22 high, and that deep links are followed.
 -- Assumes nothing.
-use Prim.Native.Nat.{ℕ, zero, suc, _+_, _-_, _≤_}
+use Prim.Native.Nat.{ℕ, zero, suc, _-_, _≤_}
 use mathlib.Core.Path.{_≡_, refl, sym, ap, _∙_}
 use mathlib.Core.List.{List, [], _∷_, _++_}
 use native.Mathlib.Omega.{arith}
 use Rattle.model.specs.declared.Run.{Run}
-use Rattle.model.specs.Positions.{Positions, run, mem}
+use Rattle.model.specs.Positions.{run, mem}
 use Rattle.run_index.specs.declared.Node.{Node}
 use Rattle.run_index.specs.Cells.{cellAt}
 use Rattle.run_index.specs.Tree.{Tree, leaf, node, link, height, inorder, cell, At}

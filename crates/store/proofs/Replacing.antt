@@ -1,8 +1,8 @@
 -- Another tree for a world's: its nodes are given back, runs are laid into the first free nodes, and these are linked up. Every node that the
 -- world had or that was free serves again, and others stand still. Assumes nothing.
-use Prim.Native.Nat.{ℕ, _+_, _≤_}
+use Prim.Native.Nat.{ℕ, _≤_}
 use mathlib.Core.Path.{_≡_, refl, ap, subst}
-use mathlib.Core.List.{List, [], _∷_, _++_}
+use mathlib.Core.List.{List, [], _∷_}
 use native.Mathlib.Omega.{arith}
 use lib.ListN.{length, length-append}
 use Rattle.model.specs.declared.Run.{Run}

@@ -2,20 +2,20 @@
 -- that were given runs: these are one balanced tree, and the others stay free. Assumes nothing.
 use Prim.Native.Nat.{ℕ, zero, suc, _+_, _≤_, _<_, _^_}
 use mathlib.Core.Path.{_≡_, refl, sym, ap, _∙_, subst}
-use mathlib.Core.List.{List, [], _∷_, _++_}
+use mathlib.Core.List.{List, [], _∷_}
 use native.Mathlib.Omega.{arith}
 use lib.ListN.{length}
 use Rattle.model.specs.declared.Run.{Run}
 use Rattle.model.specs.Numbers.{size}
 use Rattle.model.specs.Positions.{Positions, mem, heldRuns, stretches}
-use Rattle.model.specs.Positions.Runs.{heldRuns-cong}
+use Rattle.model.specs.Positions.Runs.{stretches-cong}
 use Rattle.model.specs.RunList.{Canon}
 use Rattle.run_index.specs.declared.Node.{Node}
 use Rattle.run_index.specs.declared.chains.Grown.{Grown}
 use Rattle.run_index.specs.Cells.{cellAt, Room}
-use Rattle.run_index.specs.Tree.{Tree, leaf, node, runs, ones, count, inorder, At, Sums}
+use Rattle.run_index.specs.Tree.{Tree, leaf, runs, ones, count, inorder, At, Sums}
 use Rattle.run_index.specs.Search.{Indexed}
-use Rattle.run_index.specs.Strung.{times, Free, runsOf, numbers, Upright, Supply, Filled, Grew, Grows}
+use Rattle.run_index.specs.Strung.{times, Free, Upright, Supply, Filled, Grew, Grows}
 use Rattle.run_index.proofs.Trees.{at-none, room-at, sums-node}
 use Rattle.run_index.proofs.Heap.{frame}
 use Rattle.run_index.proofs.Balance.{halved-balanced}
@@ -23,12 +23,10 @@ use Rattle.run_index.proofs.Strings.{times-append, length-both, count-numbers, 
 use Rattle.run_index.proofs.Laying.{strung-laid}
 use Rattle.store.specs.declared.World.{World}
 use Rattle.store.specs.declared.Links.{Links}
-use Rattle.store.specs.Layout.{capacityOf, worldAt, Headed, linksOf, capacity, allowance, turned, heldFrom, heldIn, heldBy}
-use Rattle.store.specs.Soundness.{Chain, firstOf, lastOf, Share, Still, Kept, Standing, shareOf, Sound}
+use Rattle.store.specs.Layout.{capacityOf, Headed, linksOf, capacity, allowance, turned, heldFrom, heldIn, heldBy}
+use Rattle.store.specs.Soundness.{Chain, firstOf, lastOf, Share, Still, Kept, Standing, Limited, shareOf}
 use Rattle.store.specs.Bounds.{TellsFirst, TellsLast}
-use Rattle.store.specs.Free.{Becomes}
-use Rattle.store.specs.Turn.{turned-at, turned-zero}
-use Rattle.store.specs.Ends.{empty-mem}
+use Rattle.store.specs.Turn.{turned-zero}
 use Rattle.store.specs.Settle.{Settled, Shows, Became, Refreshes, Strewn, LinksUp, Closing, Closes}
 use Rattle.store.proofs.Nodes.{node-once, no-zero, chain-no-zero, kept-index, kept-still, header-room}
 use Rattle.store.proofs.Reached.{kept-held}
@@ -165,12 +163,12 @@ link-links gs re v s q ns rs st =
       still = link-still st gr;
     }
 
--- ---- the whole store
--- equal positions have equally many stretches
-stretches-cong : (P Q : Positions) → ((x : ℕ) → x < size → P x ≡ Q x) → stretches P ≡ stretches Q
-unfolding stretches
-stretches-cong P Q h = ap length (heldRuns-cong P Q h)
+-- a world that became another one with few enough runs is within its limit
+pub became-limited : {w w′ : List ℕ} {s : Share} {h k : World} {limit : ℕ} {Q : Positions} → Limited w s h limit → Became w w′ s k Q → stretches Q ≤ limit → Limited w′ s k limit
+became-limited {w′ = w′} {k = k} {Q = Q} l b few =
+    record { standing = b .shows .standing; fits = omega (arith, few, stretches-cong (heldIn w′ k) Q (b .shows .holds)); enough = l .enough }
 
+-- ---- the whole store
 -- the share that a capacity gives
 abbrev shared : ℕ → Share
 shared c = record { tag = 0; nodes = c + 2; own = c + 2; others = λ m. 0 }

@@ -1,5 +1,5 @@
 -- What `bounds` tells of the tree at a root, turned by an offset. Assumes nothing: these are definitions.
-use Prim.Native.Nat.{ℕ, _<_}
+use Prim.Native.Nat.{ℕ}
 use mathlib.Core.Path.{_≡_}
 use mathlib.Core.Bool.{Bool, _&&_}
 use mathlib.Core.List.{List}

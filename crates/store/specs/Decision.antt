@@ -9,7 +9,7 @@ use Rattle.model.specs.Numbers.{size}
 use Rattle.model.specs.Positions.{heldRuns, stretches}
 use Rattle.run_index.specs.declared.Node.{Node}
 use Rattle.run_index.specs.Cells.{cellAt}
-use Rattle.run_index.specs.Tree.{Tree, runs, ones, width}
+use Rattle.run_index.specs.Tree.{runs, ones, width}
 use Rattle.run_index.specs.Strung.{freeCell}
 use Rattle.store.specs.declared.World.{World}
 use Rattle.store.specs.Layout.{worldAt, spareAt, capacity, allowance, heldIn, heldBy, highest}

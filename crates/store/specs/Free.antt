@@ -1,5 +1,5 @@
 -- What making a store, and adding, removing and resizing a run, ask and promise. Assumes nothing: these are definitions.
-use Prim.Native.Nat.{ℕ, zero, suc, _+_, _≤_, _<_}
+use Prim.Native.Nat.{ℕ, zero, suc, _+_, _≤_}
 use mathlib.Core.Path.{_≡_}
 use mathlib.Core.List.{List, [], _∷_}
 use lib.ListN.{length}

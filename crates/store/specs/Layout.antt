@@ -1,7 +1,7 @@
 -- How a store lies in its words (document 01, "The store"), and which positions it holds. Assumes nothing: these are definitions.
-use Prim.Native.Nat.{ℕ, zero, suc, _+_, _-_, _*_, _/_, _%_, _≤_}
+use Prim.Native.Nat.{ℕ, zero, suc, _-_, _/_, _%_, _≤_}
 use mathlib.Core.Path.{_≡_}
-use mathlib.Core.Bool.{Bool, cond, _&&_}
+use mathlib.Core.Bool.{cond, _&&_}
 use mathlib.Core.List.{List, [], _∷_, _++_}
 use lib.Dec.{ltb, leb, eqb}
 use lib.ListN.{length}
@@ -13,6 +13,7 @@ use Rattle.run_index.specs.declared.Node.{Node}
 use Rattle.run_index.specs.Cells.{cellAt}
 use Rattle.store.specs.Places.{physicalOf}
 use Rattle.store.specs.declared.World.{World}
+use Rattle.store.specs.declared.Header.{Header}
 use Rattle.store.specs.declared.Links.{Links}
 
 -- the header's words: root, free head, offset, ones, physical runs, first and last logical position held, zero. They tell of the store's one
@@ -28,6 +29,9 @@ worldOf v = record {
   first = v .runs;
   last = v .ones;
 }
+
+abbrev pub headerOf : Node → Header
+headerOf v = record { world = worldOf v; spare = v .tag }
 
 abbrev pub worldAt : List ℕ → World
 worldAt w = worldOf (cellAt w 0)

@@ -1,6 +1,5 @@
 // What the tree says of logical positions: the first and the last one held, and how many logical runs there are.
 // Logical positions are physical ones turned by the offset: logical 0 is kept at -offset, and its neighbour below is logical M.
-ghost use mathlib.Core.Path.{_≡_};
 ghost use Rattle.run_index.specs.Search.{Indexed};
 ghost use Rattle.store.specs.Bounds.{TellsHeld, TellsFirst, TellsLast, TellsBoth, Counted, TellsRuns};
 use crate::places::Physical;

@@ -1,7 +1,6 @@
 // The nodes: which belong to the index and which are free. Making a store empty, and adding, removing and resizing a run. Where the tree and
 // the free chain start is handed in and back; no header is read or written on the way.
-ghost use mathlib.Core.Path.{_≡_};
-ghost use Prim.Native.Nat.{_+_, _≤_};
+ghost use Prim.Native.Nat.{_≤_};
 ghost use Rattle.store.specs.Layout.{capacity};
 ghost use Rattle.store.specs.Free.{Chained, Emptied, Addable, Adds, Removable, RemovesRun, Changeable, Changes, Keepable, GivesBack};
 use crate::Links;

@@ -2,8 +2,8 @@
 // 8n to 8n + 7, and the nodes that the index does not have form the free chain. Only this file knows where the header's words lie: other
 // code has a world by value, and the nodes.
 ghost use mathlib.Core.Path.{_≡_};
-ghost use Rattle.run_index.specs.Cells.{Room};
-ghost use Rattle.store.specs.Layout.{capacityOf, worldAt, spareAt, Headed, linksOf, allowance};
+ghost use Rattle.run_index.specs.Cells.{cellAt, Room};
+ghost use Rattle.store.specs.Layout.{capacityOf, headerOf, Headed, linksOf, allowance};
 ghost use Rattle.store.specs.Soundness.{Sound};
 ghost use Rattle.store.specs.Settle.{Opened, Closable, Closes};
 use run_index::Node;
@@ -74,31 +74,31 @@ pub fn links_of(h: World) -> Links
     }
 }
 
-// What the header tells. It lies where a node 0 would.
-fn read_world(words: &[u64]) -> World
-    requires { ⌜ Room (now words) 0 ⌝ }
-    ensures { λ r. ⌜ r ≡ worldAt (now (words .entry)) ⌝ }
-{
-    let v = run_index::read_node(words, 0);
-    World {
-        tag: 0,
-        root: v.start,
-        free: v.end,
-        offset: v.left,
-        ones: v.right,
-        runs: v.height,
-        first: v.runs,
-        last: v.ones,
-    }
+// What the header tells: a world, and a last word, which is 0 in a sound store.
+pub struct Header {
+    pub world: World,
+    pub spare: u64,
 }
 
-// The header's last word, which is 0 in a sound store.
-fn read_spare(words: &[u64]) -> u64
+// The header. It lies where a node 0 would.
+fn read_header(words: &[u64]) -> Header
     requires { ⌜ Room (now words) 0 ⌝ }
-    ensures { λ r. ⌜ r ≡ spareAt (now (words .entry)) ⌝ }
+    ensures { λ r. ⌜ r ≡ headerOf (cellAt (now (words .entry)) 0) ⌝ }
 {
     let v = run_index::read_node(words, 0);
-    v.tag
+    Header {
+        world: World {
+            tag: 0,
+            root: v.start,
+            free: v.end,
+            offset: v.left,
+            ones: v.right,
+            runs: v.height,
+            first: v.runs,
+            last: v.ones,
+        },
+        spare: v.tag,
+    }
 }
 
 // Sets the header, and no other word.
@@ -136,7 +136,8 @@ pub fn open(words: &[u64]) -> World
     requires { ⌜ Sound (now words) ⌝ }
     ensures { λ r. ⌜ Opened (now (words .entry)) r ⌝ }
 {
-    read_world(words)
+    let a = read_header(words);
+    a.world
 }
 
 // Makes a world that was opened, and changed, the store's again.

@@ -387,8 +387,10 @@ pub fn is_sound(words: &[u64]) -> bool
     requires { ⌜ 1 ≤ capacity (now words) ⌝ }
     ensures { λ r. ⌜ r ≡ soundB (now (words .entry)) ⌝ }
 {
-    let h = crate::read_world(words);
-    if crate::read_spare(words) != 0 {
+    let a = crate::read_header(words);
+    let h = a.world;
+    let spare = a.spare;
+    if spare != 0 {
         return false;
     }
     if !world_fits(words, h) {

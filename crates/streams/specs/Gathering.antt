@@ -22,12 +22,12 @@ viewOf (Feed.Only a b) = record { root = 0; offset = 0 }
 -- the positions that a feed of the words w gives
 abbrev pub fedBy : Feed → List ℕ → Positions
 fedBy (Feed.Held v) w = heldFrom w (v .root) (v .offset)
-fedBy (Feed.Only a b) w = mem (run a b ∷ [])
+fedBy (Feed.Only a b) w = mem (run (a .0) (b .0) ∷ [])
 
 -- the feed can be read: there is a tree at its root, or its run does not end before it starts
 abbrev pub Fed : List ℕ → Feed → Type 0
 Fed w (Feed.Held v) = Rooted w (v .root)
-Fed w (Feed.Only a b) = a ≤ b
+Fed w (Feed.Only a b) = a .0 ≤ b .0
 
 -- both can
 pub record Sources (x : List ℕ) (fx : Feed) (y : List ℕ) (fy : Feed) : Type 0 where

@@ -27,10 +27,10 @@ fn propose(h: World, a: Logical, b: Logical) -> Logical {
 }
 
 // Whether the positions from x to y are free: no run is at x, and the next one starts after y.
-fn is_free(words: &[u64], h: World, x: u64, y: u64) -> bool
+fn is_free(words: &[u64], h: World, x: Logical, y: Logical) -> bool
     requires { ⌜ Stands (now words) h ⌝ }
-    requires { ⌜ x ≤ y ⌝ }
-    ensures { λ r. ⌜ TellsFree (heldIn (now (words .entry)) h) x y r ⌝ }
+    requires { ⌜ x .0 ≤ y .0 ⌝ }
+    ensures { λ r. ⌜ TellsFree (heldIn (now (words .entry)) h) (x .0) (y .0) r ⌝ }
 {
     let v = View {
         root: h.root,
@@ -38,7 +38,8 @@ fn is_free(words: &[u64], h: World, x: u64, y: u64) -> bool
     };
     let mut path = [0u64; HIGHEST];
     let s = crate::source::open(words, &mut path, v, x);
-    if s.live { y < s.start } else { true }
+    let last = y.0;
+    if s.live { last < s.start } else { true }
 }
 
 // Whether the n positions from x on are in a..=b, and free.
@@ -56,23 +57,34 @@ fn is_gap(words: &[u64], h: World, a: Logical, b: Logical, n: u64, x: Logical) -
     if b.0 - x.0 < n - 1 {
         return false;
     }
-    is_free(words, h, x.0, x.0 + (n - 1))
+    let last = x.0 + (n - 1);
+    is_free(words, h, x, Logical(last))
 }
 
 // How many positions there are from x on before s.
-fn before(x: u64, s: u64) -> u64
-    ensures { λ r. ⌜ r ≡ s - x ⌝ }
+fn before(x: Logical, s: Logical) -> u64
+    ensures { λ r. ⌜ r ≡ s .0 - x .0 ⌝ }
 {
-    if x < s { s - x } else { 0 }
+    let from = x.0;
+    let to = s.0;
+    if from < to { to - from } else { 0 }
 }
 
 // Whether a gap starts at x, before the next run, which starts at s: only a long enough stretch is looked at.
-fn starts_gap(words: &[u64], h: World, a: Logical, b: Logical, n: u64, x: Logical, s: u64) -> bool
+fn starts_gap(
+    words: &[u64],
+    h: World,
+    a: Logical,
+    b: Logical,
+    n: u64,
+    x: Logical,
+    s: Logical,
+) -> bool
     requires { ⌜ Stands (now words) h ⌝ }
     requires { ⌜ 1 ≤ n ⌝ }
-    ensures { λ r. ⌜ TellsStart (heldIn (now (words .entry)) h) (a .0) (suc (b .0) - a .0) n (x .0) s r ⌝ }
+    ensures { λ r. ⌜ TellsStart (heldIn (now (words .entry)) h) (a .0) (suc (b .0) - a .0) n (x .0) (s .0) r ⌝ }
 {
-    if before(x.0, s) < n {
+    if before(x, s) < n {
         return false;
     }
     is_gap(words, h, a, b, n, x)
@@ -90,9 +102,9 @@ fn sweep(words: &[u64], h: World, a: Logical, b: Logical, n: u64) -> Edge
     };
     let mut path = [0u64; HIGHEST];
     let mut x = a.0;
-    let mut s = crate::source::open(words, &mut path, v, x);
+    let mut s = crate::source::open(words, &mut path, v, a);
     while s.live {
-        if starts_gap(words, h, a, b, n, Logical(x), s.start) {
+        if starts_gap(words, h, a, b, n, Logical(x), Logical(s.start)) {
             return Edge::At(x);
         }
         if s.end >= b.0 {

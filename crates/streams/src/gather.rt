@@ -9,13 +9,14 @@ ghost use Rattle.streams.specs.Gathering.{viewOf, fedBy, Fed, Sources, j
 use crate::source::HIGHEST;
 use crate::source::Source;
 use crate::source::View;
+use model::Logical;
 use model::Operation;
 use store::World;
 
 // What is read: the runs of a set, or one run whatever the words hold.
 pub enum Feed {
     Held(View),
-    Only(u64, u64),
+    Only(Logical, Logical),
 }
 
 // From where a feed is read.
@@ -35,7 +36,7 @@ fn begin(words: &[u64], path: &mut [u64; HIGHEST], f: Feed) -> Source
     ensures { λ r. ⌜ Reads (now (words .entry)) (now (path .exit)) (viewOf f) r 0 (fedBy f (now (words .entry))) ⌝ }
 {
     match f {
-        Feed::Held(v) => crate::source::open(words, path, v, 0),
+        Feed::Held(v) => crate::source::open(words, path, v, Logical(0)),
         Feed::Only(a, b) => crate::source::single(a, b),
     }
 }
@@ -51,7 +52,7 @@ pub fn fits(op: Operation, x: &[u64], fx: Feed, y: &[u64], fy: Feed, limit: u64)
     let yv = view_of(fy);
     let s = begin(x, &mut xp, fx);
     let t = begin(y, &mut yp, fy);
-    let mut j = crate::sweep::next_run(op, x, &mut xp, xv, s, y, &mut yp, yv, t, 0);
+    let mut j = crate::sweep::next_run(op, x, &mut xp, xv, s, y, &mut yp, yv, t, Logical(0));
     let mut left = limit;
     while j.found {
         if left == 0 {
@@ -63,7 +64,8 @@ pub fn fits(op: Operation, x: &[u64], fx: Feed, y: &[u64], fy: Feed, limit: u64)
         }
         let l = j.left;
         let r = j.right;
-        j = crate::sweep::next_run(op, x, &mut xp, xv, l, y, &mut yp, yv, r, j.end + 1);
+        let next = j.end + 1;
+        j = crate::sweep::next_run(op, x, &mut xp, xv, l, y, &mut yp, yv, r, Logical(next));
     }
     true
 }
@@ -79,7 +81,7 @@ fn fill(into: &mut [u64], head: u64, op: Operation, x: &[u64], fx: Feed, y: &[u6
     let yv = view_of(fy);
     let s = begin(x, &mut xp, fx);
     let t = begin(y, &mut yp, fy);
-    let mut j = crate::sweep::next_run(op, x, &mut xp, xv, s, y, &mut yp, yv, t, 0);
+    let mut j = crate::sweep::next_run(op, x, &mut xp, xv, s, y, &mut yp, yv, t, Logical(0));
     let mut at = head;
     let mut n: u64 = 0;
     while j.found {
@@ -90,7 +92,8 @@ fn fill(into: &mut [u64], head: u64, op: Operation, x: &[u64], fx: Feed, y: &[u6
         }
         let l = j.left;
         let r = j.right;
-        j = crate::sweep::next_run(op, x, &mut xp, xv, l, y, &mut yp, yv, r, j.end + 1);
+        let next = j.end + 1;
+        j = crate::sweep::next_run(op, x, &mut xp, xv, l, y, &mut yp, yv, r, Logical(next));
     }
     n
 }

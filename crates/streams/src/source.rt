@@ -50,15 +50,16 @@ fn over() -> Source
 }
 
 // Puts the nodes of the tree at a link on the path, down to the first run that ends at p or later.
-fn descend(words: &[u64], path: &mut [u64; HIGHEST], depth: u64, link: u64, p: u64) -> u64
+fn descend(words: &[u64], path: &mut [u64; HIGHEST], depth: u64, link: u64, p: Physical) -> u64
     requires { ⌜ Descendable (now words) (now path) depth link ⌝ }
-    ensures { λ r. ⌜ Descends (now (words .entry)) (now (path .entry)) (now (path .exit)) depth link p r ⌝ }
+    ensures { λ r. ⌜ Descends (now (words .entry)) (now (path .entry)) (now (path .exit)) depth link (p .0) r ⌝ }
 {
+    let from = p.0;
     let mut k = link;
     let mut d = depth;
     while k != 0 {
         let v = run_index::read_node(words, k);
-        if v.end < p {
+        if v.end < from {
             k = v.right;
         } else {
             path[d as usize] = k;
@@ -76,7 +77,7 @@ fn pop(words: &[u64], path: &mut [u64; HIGHEST], depth: u64) -> Popped
 {
     let k = path[(depth - 1) as usize];
     let v = run_index::read_node(words, k);
-    let d = descend(words, path, depth - 1, v.right, 0);
+    let d = descend(words, path, depth - 1, v.right, Physical(0));
     Popped {
         start: v.start,
         end: v.end,
@@ -85,10 +86,11 @@ fn pop(words: &[u64], path: &mut [u64; HIGHEST], depth: u64) -> Popped
 }
 
 // The next run of the last part, whose runs end at p or later.
-fn from_last(words: &[u64], path: &mut [u64; HIGHEST], v: View, depth: u64, p: u64) -> Source
-    requires { ⌜ LastReady (now words) (now path) v depth p ⌝ }
-    ensures { λ r. ⌜ TellsLast (now (words .entry)) (now (path .entry)) (now (path .exit)) v depth p r ⌝ }
+fn from_last(words: &[u64], path: &mut [u64; HIGHEST], v: View, depth: u64, p: Physical) -> Source
+    requires { ⌜ LastReady (now words) (now path) v depth (p .0) ⌝ }
+    ensures { λ r. ⌜ TellsLast (now (words .entry)) (now (path .entry)) (now (path .exit)) v depth (p .0) r ⌝ }
 {
+    let from = p.0;
     if depth == 0 {
         return over();
     }
@@ -97,7 +99,7 @@ fn from_last(words: &[u64], path: &mut [u64; HIGHEST], v: View, depth: u64, p: u
     if x.start > top {
         return over();
     }
-    let a = store::places::to_logical(Physical(run_index::larger(x.start, p)), v.offset);
+    let a = store::places::to_logical(Physical(run_index::larger(x.start, from)), v.offset);
     if x.end > top {
         return Source {
             live: true,
@@ -130,16 +132,17 @@ fn starts_at_zero(words: &[u64], path: &[u64; HIGHEST], depth: u64) -> bool
 }
 
 // The next run of the first part, whose runs end at p or later; a run that reaches physical M goes on with the one at physical 0.
-fn from_first(words: &[u64], path: &mut [u64; HIGHEST], v: View, depth: u64, p: u64) -> Source
-    requires { ⌜ FirstReady (now words) (now path) v depth p ⌝ }
-    ensures { λ r. ⌜ TellsFirst (now (words .entry)) (now (path .entry)) (now (path .exit)) v depth p r ⌝ }
+fn from_first(words: &[u64], path: &mut [u64; HIGHEST], v: View, depth: u64, p: Physical) -> Source
+    requires { ⌜ FirstReady (now words) (now path) v depth (p .0) ⌝ }
+    ensures { λ r. ⌜ TellsFirst (now (words .entry)) (now (path .entry)) (now (path .exit)) v depth (p .0) r ⌝ }
 {
+    let from = p.0;
     if depth == 0 {
-        let d = descend(words, path, 0, v.root, 0);
-        return from_last(words, path, v, d, 0);
+        let d = descend(words, path, 0, v.root, Physical(0));
+        return from_last(words, path, v, d, Physical(0));
     }
     let x = pop(words, path, depth);
-    let a = store::places::to_logical(Physical(run_index::larger(x.start, p)), v.offset);
+    let a = store::places::to_logical(Physical(run_index::larger(x.start, from)), v.offset);
     if x.end < u64::MAX {
         let b = store::places::to_logical(Physical(x.end), v.offset);
         return Source {
@@ -150,9 +153,9 @@ fn from_first(words: &[u64], path: &mut [u64; HIGHEST], v: View, depth: u64, p: 
             last: false,
         };
     }
-    let d = descend(words, path, 0, v.root, 0);
+    let d = descend(words, path, 0, v.root, Physical(0));
     if starts_at_zero(words, path, d) {
-        let y = from_last(words, path, v, d, 0);
+        let y = from_last(words, path, v, d, Physical(0));
         return Source {
             live: true,
             start: a.0,
@@ -161,27 +164,29 @@ fn from_first(words: &[u64], path: &mut [u64; HIGHEST], v: View, depth: u64, p: 
             last: y.last,
         };
     }
+    let end = v.offset - 1;
     Source {
         live: true,
         start: a.0,
-        end: v.offset - 1,
+        end: end,
         depth: d,
         last: true,
     }
 }
 
 // Begins a reading at a logical position.
-pub fn open(words: &[u64], path: &mut [u64; HIGHEST], v: View, from: u64) -> Source
+pub fn open(words: &[u64], path: &mut [u64; HIGHEST], v: View, from: Logical) -> Source
     requires { ⌜ Rooted (now words) (v .root) ⌝ }
     requires { ⌜ length (now path) ≡ highest ⌝ }
-    ensures { λ r. ⌜ Reads (now (words .entry)) (now (path .exit)) v r from (heldFrom (now (words .entry)) (v .root) (v .offset)) ⌝ }
+    ensures { λ r. ⌜ Reads (now (words .entry)) (now (path .exit)) v r («from» .0) (heldFrom (now (words .entry)) (v .root) (v .offset)) ⌝ }
 {
-    let p = store::places::to_physical(Logical(from), v.offset);
-    let d = descend(words, path, 0, v.root, p.0);
-    if from < v.offset {
-        return from_first(words, path, v, d, p.0);
+    let at = from.0;
+    let p = store::places::to_physical(from, v.offset);
+    let d = descend(words, path, 0, v.root, p);
+    if at < v.offset {
+        return from_first(words, path, v, d, p);
     }
-    from_last(words, path, v, d, p.0)
+    from_last(words, path, v, d, p)
 }
 
 // Goes on to the next run.
@@ -194,23 +199,23 @@ pub fn advance(words: &[u64], path: &mut [u64; HIGHEST], v: View, s: Source) -> 
     }
     let p = store::places::to_physical(Logical(s.end + 1), v.offset);
     if !s.last {
-        return from_first(words, path, v, s.depth, p.0);
+        return from_first(words, path, v, s.depth, p);
     }
     if s.depth == 0 {
         return over();
     }
-    from_last(words, path, v, s.depth, p.0)
+    from_last(words, path, v, s.depth, p)
 }
 
 // A source of one run, which no tree is needed for.
-pub fn single(start: u64, end: u64) -> Source
-    requires { ⌜ start ≤ «end» ⌝ }
-    ensures { λ r. ⌜ Covers r start «end» ⌝ }
+pub fn single(start: Logical, end: Logical) -> Source
+    requires { ⌜ start .0 ≤ «end» .0 ⌝ }
+    ensures { λ r. ⌜ Covers r (start .0) («end» .0) ⌝ }
 {
     Source {
         live: true,
-        start: start,
-        end: end,
+        start: start.0,
+        end: end.0,
         depth: 0,
         last: true,
     }

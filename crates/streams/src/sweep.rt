@@ -6,6 +6,7 @@ ghost use Rattle.streams.specs.Sweeping.{ValueAt, SameTo, Movable, Moves
 use crate::source::HIGHEST;
 use crate::source::Source;
 use crate::source::View;
+use model::Logical;
 use model::Operation;
 
 // The values of two sets, joined.
@@ -20,30 +21,38 @@ fn join(op: Operation, p: bool, q: bool) -> bool
 }
 
 // The value at x, where the source stands.
-pub fn value_at(s: Source, x: u64) -> bool
-    ensures { λ r. ⌜ ValueAt s x r ⌝ }
+pub fn value_at(s: Source, x: Logical) -> bool
+    ensures { λ r. ⌜ ValueAt s (x .0) r ⌝ }
 {
-    if s.live { s.start <= x } else { false }
+    let at = x.0;
+    if s.live { s.start <= at } else { false }
 }
 
 // The last position that surely has the value of x, where the source stands.
-pub fn same_to(s: Source, x: u64) -> u64
-    ensures { λ r. ⌜ SameTo s x r ⌝ }
+pub fn same_to(s: Source, x: Logical) -> Logical
+    ensures { λ r. ⌜ SameTo s (x .0) (r .0) ⌝ }
 {
+    let at = x.0;
     if s.live {
-        if x < s.start { s.start - 1 } else { s.end }
+        if at < s.start {
+            let to = s.start - 1;
+            Logical(to)
+        } else {
+            Logical(s.end)
+        }
     } else {
-        u64::MAX
+        Logical(u64::MAX)
     }
 }
 
 // The source moved on to x, which is at most one past its run.
-pub fn moved(words: &[u64], path: &mut [u64; HIGHEST], v: View, s: Source, x: u64) -> Source
-    requires { ⌜ Movable (now words) (now path) v s x ⌝ }
-    ensures { λ r. ⌜ Moves (now (words .entry)) (now (path .entry)) (now (path .exit)) v s x r ⌝ }
+pub fn moved(words: &[u64], path: &mut [u64; HIGHEST], v: View, s: Source, x: Logical) -> Source
+    requires { ⌜ Movable (now words) (now path) v s (x .0) ⌝ }
+    ensures { λ r. ⌜ Moves (now (words .entry)) (now (path .entry)) (now (path .exit)) v s (x .0) r ⌝ }
 {
+    let at = x.0;
     if s.live {
-        if s.end < x {
+        if s.end < at {
             return crate::source::advance(words, path, v, s);
         }
     }
@@ -75,34 +84,37 @@ fn reach(
     yp: &mut [u64; HIGHEST],
     yv: View,
     t: Source,
-    from: u64,
+    from: Logical,
     value: bool,
 ) -> Reached
-    requires { ⌜ Joinable (now x) (now xp) xv s (now y) (now yp) yv t «from» ⌝ }
-    ensures { λ r. ⌜ Reaches op (now (x .entry)) (now (xp .entry)) (now (xp .exit)) xv s (now (y .entry)) (now (yp .entry)) (now (yp .exit)) yv t «from» value r ⌝ }
+    requires { ⌜ Joinable (now x) (now xp) xv s (now y) (now yp) yv t («from» .0) ⌝ }
+    ensures { λ r. ⌜ Reaches op (now (x .entry)) (now (xp .entry)) (now (xp .exit)) xv s (now (y .entry)) (now (yp .entry)) (now (yp .exit)) yv t («from» .0) value r ⌝ }
 {
     let mut l = s;
     let mut r = t;
     let mut at = from;
     let mut v = join(op, value_at(l, at), value_at(r, at));
     while v != value {
-        let last = smaller(same_to(l, at), same_to(r, at));
+        let a = same_to(l, at);
+        let b = same_to(r, at);
+        let last = smaller(a.0, b.0);
         if last == u64::MAX {
             return Reached {
                 found: false,
-                at: at,
+                at: at.0,
                 left: l,
                 right: r,
             };
         }
-        at = last + 1;
+        let next = last + 1;
+        at = Logical(next);
         l = moved(x, xp, xv, l, at);
         r = moved(y, yp, yv, r, at);
         v = join(op, value_at(l, at), value_at(r, at));
     }
     Reached {
         found: true,
-        at: at,
+        at: at.0,
         left: l,
         right: r,
     }
@@ -128,10 +140,10 @@ pub fn next_run(
     yp: &mut [u64; HIGHEST],
     yv: View,
     t: Source,
-    from: u64,
+    from: Logical,
 ) -> Joint
-    requires { ⌜ Joinable (now x) (now xp) xv s (now y) (now yp) yv t «from» ⌝ }
-    ensures { λ r. ⌜ NextJoint op (now (x .entry)) (now (xp .entry)) (now (xp .exit)) xv s (now (y .entry)) (now (yp .entry)) (now (yp .exit)) yv t «from» r ⌝ }
+    requires { ⌜ Joinable (now x) (now xp) xv s (now y) (now yp) yv t («from» .0) ⌝ }
+    ensures { λ r. ⌜ NextJoint op (now (x .entry)) (now (xp .entry)) (now (xp .exit)) xv s (now (y .entry)) (now (yp .entry)) (now (yp .exit)) yv t («from» .0) r ⌝ }
 {
     let a = reach(op, x, xp, xv, s, y, yp, yv, t, from, true);
     let l = a.left;
@@ -146,14 +158,15 @@ pub fn next_run(
             right: r,
         };
     }
-    let b = reach(op, x, xp, xv, l, y, yp, yv, r, start, false);
+    let b = reach(op, x, xp, xv, l, y, yp, yv, r, Logical(start), false);
     let m = b.left;
     let n = b.right;
     if b.found {
+        let end = b.at - 1;
         return Joint {
             found: true,
             start: start,
-            end: b.at - 1,
+            end: end,
             left: m,
             right: n,
         };

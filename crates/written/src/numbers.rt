@@ -1,6 +1,6 @@
 // Numbers as bytes, big-endian.
 ghost use mathlib.Core.Path.{_≡_};
-ghost use Prim.Native.Nat.{_+_, _≤_, _<_, _^_};
+ghost use Prim.Native.Nat.{_+_, _≤_};
 ghost use lib.ListN.{length, take, drop};
 ghost use Rattle.model.specs.Bytes.{bigEndian, valueOf};
 ghost use Rattle.written.specs.Placed.{placed};

@@ -6,6 +6,7 @@ ghost use Rattle.model.specs.Positions.{stretches, heldRuns};
 ghost use Rattle.model.specs.Bytes.{encode, intoFront};
 ghost use Rattle.store.specs.Layout.{heldIn};
 ghost use Rattle.store.specs.Soundness.{Stands};
+use model::Logical;
 use store::World;
 use streams::source::HIGHEST;
 use streams::source::View;
@@ -24,7 +25,7 @@ pub fn write_set(words: &[u64], h: World, out: &mut [u8])
         offset: h.offset,
     };
     let mut path = [0u64; HIGHEST];
-    let mut s = streams::source::open(words, &mut path, v, 0);
+    let mut s = streams::source::open(words, &mut path, v, Logical(0));
     let mut at: usize = 5;
     while s.live {
         crate::numbers::put_word(out, at, s.start);

@@ -16,6 +16,13 @@ Inv-loop words₀ seed sets z₀ left₀ admitted₀ words z left admitted = Sou
 abbrev μ-loop : tie.MeasureT-loop
 μ-loop words₀ seed sets z₀ left₀ admitted₀ words z left admitted = left
 
+-- the places that the needs look back to
+abbrev in-loop : tie.After-last-of Inv-loop μ-loop → tie.In-loop Inv-loop μ-loop
+in-loop c = c .before .before .before .before
+
+abbrev after-put : tie.After-wrapping-add-u64 Inv-loop μ-loop → tie.After-put Inv-loop μ-loop
+after-put c = c .before .before .before
+
 of-length-requires : tie.Need-of-length-requires Inv-loop μ-loop
 of-length-requires c κs = search needs
 
@@ -44,19 +51,21 @@ last-of-requires : tie.Need-last-of-requires Inv-loop μ-loop
 last-of-requires c κs = search needs
 
 put-requires : tie.Need-put-requires Inv-loop μ-loop
-put-requires c κs = (c .before .before .before .before .before .loop .inv .0, c .last-of .ensures)
+put-requires c κs = (in-loop c .before .loop .inv .0, c .last-of .ensures)
 
 wrapping-add-u64-requires : tie.Need-wrapping-add-u64-requires Inv-loop μ-loop
 wrapping-add-u64-requires c κs = search needs
 
 sub-left : tie.Need-sub-left Inv-loop μ-loop
-sub-left c = omega (arith, c .before .before .before .before .before .before .before .before .loop-test .taken)
+sub-left c = omega (arith, in-loop (after-put c .before) .loop-test .taken)
 
 loop-less : tie.Need-loop-less Inv-loop μ-loop
-loop-less c = omega (arith, c .before .before .before .before .before .before .before .before .loop-test .taken)
+loop-less c = omega (arith, in-loop (after-put c .before) .loop-test .taken)
 
 loop-again : tie.Need-loop-again Inv-loop μ-loop
-loop-again c = (c .before .before .before .put .ensures .0, c .before .before .before .put .ensures .1 ∙ c .before .before .before .before .before .before .before .before .before .loop .inv .1)
+loop-again c =
+    let p = after-put c in
+    (p .put .ensures .0, p .put .ensures .1 ∙ in-loop (p .before) .before .loop .inv .1)
 
 same-length-2 : tie.Need-same-length-2 Inv-loop μ-loop
 same-length-2 c = c .before .loop .inv .1

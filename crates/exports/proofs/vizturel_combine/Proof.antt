@@ -7,6 +7,10 @@ use Rattle.exports.proofs.Returning.{returned}
 use Rattle.exports.proofs.vizturel_combine.Statement.{statement}
 use Rattle.exports.proofs.vizturel_combine.Tie as tie
 
+-- the places that the needs look back to
+abbrev start : tie.After-combine-arg → tie.Start
+start c = c .before .before .before .before
+
 operation-requires : tie.Need-operation-requires
 operation-requires c κs = search needs
 
@@ -20,7 +24,10 @@ same-length : tie.Need-same-length
 same-length c = search needs
 
 returns : tie.Need-returns
-returns c = returned (ap (λ (o : Operation). Call.combine o (c .before .before .before .before .before .before .before .before .before .args .a .now) (c .before .before .before .before .before .before .before .before .before .args .b .now)) (c .before .before .before .before .operation .ensures)) (c .before .before .before .combine .ensures) (c .completed .ensures) refl
+returns c =
+    let co = c .before .before .before in
+    let s = start (co .before .before) in
+    returned (ap (λ (o : Operation). Call.combine o (s .args .a .now) (s .args .b .now)) (co .before .operation .ensures)) (co .combine .ensures) (c .completed .ensures) refl
 
 pub vizturel-combine-spec : {M : Type 1} → statement M
 vizturel-combine-spec = tie.close (tie.spec operation-requires combine-requires completed-requires same-length returns)

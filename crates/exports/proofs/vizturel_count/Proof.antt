@@ -22,7 +22,10 @@ count-requires-2 : tie.Need-count-requires-2
 count-requires-2 c κs = search needs
 
 returns : tie.Need-returns
-returns c = returned (between (λ l u. Call.count l u (truth (c .before .before .before .before .before .before .args .value))) (c .before .before .before .before .bound .ensures) (c .before .before .before .bound2 .ensures)) (c .before .before .count .ensures) (c .before .counted .ensures) (c .count2 .ensures)
+returns c =
+    let b₂ = c .before .before .before in
+    returned (between (λ l u. Call.count l u (truth (b₂ .before .before .before .args .value))) (b₂ .before .bound .ensures) (b₂ .bound2 .ensures))
+    (c .before .before .count .ensures) (c .before .counted .ensures) (c .count2 .ensures)
 
 pub vizturel-count-spec : {M : Type 1} → statement M
 vizturel-count-spec = tie.close (tie.spec bound-requires bound-requires-2 count-requires counted-requires count-requires-2 returns)

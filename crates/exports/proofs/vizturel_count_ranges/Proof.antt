@@ -22,7 +22,11 @@ number-requires : tie.Need-number-requires
 number-requires c κs = search needs
 
 returns : tie.Need-returns
-returns c = returned (between (λ l u. Call.countRanges l u (truth (c .before .before .before .before .before .before .args .value))) (c .before .before .before .before .bound .ensures) (c .before .before .before .bound2 .ensures)) (c .before .before .count-ranges .ensures) (c .before .numbered .ensures) (c .number .ensures)
+returns c =
+    let b₂ = c .before .before .before in
+    returned
+    (between (λ l u. Call.countRanges l u (truth (b₂ .before .before .before .args .value))) (b₂ .before .bound .ensures) (b₂ .bound2 .ensures))
+    (c .before .before .count-ranges .ensures) (c .before .numbered .ensures) (c .number .ensures)
 
 pub vizturel-count-ranges-spec : {M : Type 1} → statement M
 vizturel-count-ranges-spec = tie.close (tie.spec bound-requires bound-requires-2 count-ranges-requires numbered-requires number-requires returns)

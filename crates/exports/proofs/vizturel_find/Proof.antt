@@ -22,7 +22,10 @@ position-requires : tie.Need-position-requires
 position-requires c κs = search needs
 
 returns : tie.Need-returns
-returns c = returned (between (λ l u. Call.find l u (truth (c .before .before .before .before .before .before .args .value))) (c .before .before .before .before .bound .ensures) (c .before .before .before .bound2 .ensures)) (c .before .before .find .ensures) (c .before .found .ensures) (c .position .ensures)
+returns c =
+    let b₂ = c .before .before .before in
+    returned (between (λ l u. Call.find l u (truth (b₂ .before .before .before .args .value))) (b₂ .before .bound .ensures) (b₂ .bound2 .ensures))
+    (c .before .before .find .ensures) (c .before .found .ensures) (c .position .ensures)
 
 pub vizturel-find-spec : {M : Type 1} → statement M
 vizturel-find-spec = tie.close (tie.spec bound-requires bound-requires-2 find-requires found-requires position-requires returns)

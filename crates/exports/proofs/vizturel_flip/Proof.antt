@@ -22,7 +22,9 @@ same-length : tie.Need-same-length
 same-length c = search needs
 
 returns : tie.Need-returns
-returns c = returned (between (λ l u. Call.flip l u) (c .before .before .before .before .before .bound .ensures) (c .before .before .before .before .bound2 .ensures)) (c .before .before .before .flip .ensures) (c .completed .ensures) refl
+returns c =
+    let f = c .before .before .before in
+    returned (between (λ l u. Call.flip l u) (f .before .before .bound .ensures) (f .before .bound2 .ensures)) (f .flip .ensures) (c .completed .ensures) refl
 
 pub vizturel-flip-spec : {M : Type 1} → statement M
 vizturel-flip-spec = tie.close (tie.spec bound-requires bound-requires-2 flip-requires completed-requires same-length returns)

@@ -22,7 +22,10 @@ listing-requires : tie.Need-listing-requires
 listing-requires c κs = search needs
 
 returns : tie.Need-returns
-returns c = returned (between (λ l u. Call.ranges l u (truth (c .before .before .before .before .before .before .args .value))) (c .before .before .before .before .bound .ensures) (c .before .before .before .bound2 .ensures)) (c .before .before .ranges .ensures) (c .before .listed .ensures) (c .listing .ensures)
+returns c =
+    let b₂ = c .before .before .before in
+    returned (between (λ l u. Call.ranges l u (truth (b₂ .before .before .before .args .value))) (b₂ .before .bound .ensures) (b₂ .bound2 .ensures))
+    (c .before .before .ranges .ensures) (c .before .listed .ensures) (c .listing .ensures)
 
 pub vizturel-ranges-spec : {M : Type 1} → statement M
 vizturel-ranges-spec = tie.close (tie.spec bound-requires bound-requires-2 ranges-requires listed-requires listing-requires returns)

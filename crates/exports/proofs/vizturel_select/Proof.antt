@@ -22,7 +22,11 @@ position-requires : tie.Need-position-requires
 position-requires c κs = search needs
 
 returns : tie.Need-returns
-returns c = returned (between (λ l u. Call.select l u (truth (c .before .before .before .before .before .before .args .value)) (c .before .before .before .before .before .before .args .k)) (c .before .before .before .before .bound .ensures) (c .before .before .before .bound2 .ensures)) (c .before .before .select .ensures) (c .before .found .ensures) (c .position .ensures)
+returns c =
+    let s = c .before .before in
+    let b = s .before .before in
+    returned (between (λ l u. Call.select l u (truth (b .before .before .args .value)) (b .before .before .args .k)) (b .bound .ensures)
+    (s .before .bound2 .ensures)) (s .select .ensures) (c .before .found .ensures) (c .position .ensures)
 
 pub vizturel-select-spec : {M : Type 1} → statement M
 vizturel-select-spec = tie.close (tie.spec bound-requires bound-requires-2 select-requires found-requires position-requires returns)

@@ -25,7 +25,11 @@ same-length : tie.Need-same-length
 same-length c = search needs
 
 returns : tie.Need-returns
-returns c = returned (between (λ l u. Call.set l u (truth (c .before .before .before .before .before .before .before .before .before .args .value))) (c .before .before .before .before .before .before .bound .ensures) (c .before .before .before .before .before .bound2 .ensures)) (c .before .before .before .before .set .ensures) (c .before .counted .ensures) (c .count .ensures)
+returns c =
+    let s = c .before .before .before .before in
+    let b = s .before .before in
+    returned (between (λ l u. Call.set l u (truth (b .before .before .before .args .value))) (b .bound .ensures) (s .before .bound2 .ensures))
+    (s .set .ensures) (c .before .counted .ensures) (c .count .ensures)
 
 pub vizturel-set-spec : {M : Type 1} → statement M
 vizturel-set-spec = tie.close (tie.spec bound-requires bound-requires-2 set-requires counted-requires count-requires same-length returns)

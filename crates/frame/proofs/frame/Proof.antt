@@ -5,6 +5,13 @@ use Rattle.frame.proofs.Framing.{turned-away, no-room, playable, framed
 use Rattle.frame.proofs.frame.Statement.{statement}
 use Rattle.frame.proofs.frame.Tie as tie
 
+-- the places that the needs look back to
+abbrev start : tie.After-look-at-arg → tie.Start
+start c = c .before .before .before .before
+
+abbrev after-look-at : tie.Else1 → tie.After-look-at
+after-look-at c = c .before .before .before
+
 look-at-requires : tie.Need-look-at-requires
 look-at-requires c κs = search needs
 
@@ -18,16 +25,26 @@ same-length : tie.Need-same-length
 same-length c = search needs
 
 returns : tie.Need-returns
-returns c = no-room (c .before .before .before .before .before .before .before .before .args .words .now) (c .before .before .before .before .before .before .before .before .args .calls .now) (c .before .before .before .before .before .before .before .before .args .answers .now) (looked-sound _ (c .before .before .before .look-at .ensures) (c .before .enum-told .given .1)) (c .if1 .taken)
+returns c =
+    let l = c .before .before .before in
+    let s = start (l .before) in
+    no-room (s .args .words .now) (s .args .calls .now) (s .args .answers .now) (looked-sound _ (l .look-at .ensures) (c .before .enum-told .given .1)) (c .if1 .taken)
 
 play-requires : tie.Need-play-requires
-play-requires c κs = playable (c .before .before .before .before .before .before .before .before .before .before .args .words .now) (c .before .before .before .before .before .before .before .before .before .before .args .calls .now) (c .before .before .before .before .before .before .before .before .before .before .args .answers .now) (looked-sound _ (c .before .before .before .before .before .look-at .ensures) (c .before .before .before .enum-told .given .1)) (c .before .before .if1 .left)
+play-requires c κs =
+    let e₁ = c .before .before in
+    let s = start (after-look-at e₁ .before) in
+    playable (s .args .words .now) (s .args .calls .now) (s .args .answers .now)
+    (looked-sound _ (after-look-at e₁ .look-at .ensures) (e₁ .before .enum-told .given .1)) (e₁ .if1 .left)
 
 same-length-2 : tie.Need-same-length-2
 same-length-2 c = search needs
 
 returns-2 : tie.Need-returns-2
-returns-2 c = turned-away (c .before .before .before .before .before .before .before .before .args .words .now) (c .before .before .before .before .before .before .before .before .args .calls .now) (c .before .before .before .before .before .before .before .before .args .answers .now) _ (c .before .before .before .look-at .ensures) (c .before .l .given .1)
+returns-2 c =
+    let l = c .before .before .before in
+    let s = start (l .before) in
+    turned-away (s .args .words .now) (s .args .calls .now) (s .args .answers .now) _ (l .look-at .ensures) (c .before .l .given .1)
 
 same-length-3 : tie.Need-same-length-3
 same-length-3 c = search needs
@@ -36,7 +53,12 @@ same-length-4 : tie.Need-same-length-4
 same-length-4 c = search needs
 
 returns-3 : tie.Need-returns-3
-returns-3 c = framed (c .before .before .before .before .before .before .before .before .before .before .before .before .before .before .before .args .words .now) (c .before .before .before .before .before .before .before .before .before .before .before .before .before .before .before .args .calls .now) (c .before .before .before .before .before .before .before .before .before .before .before .before .before .before .before .args .answers .now) (looked-sound _ (c .before .before .before .before .before .before .before .before .before .before .look-at .ensures) (c .before .before .before .before .before .before .before .before .enum-told .given .1)) (c .before .before .before .before .before .before .before .if1 .left) (c .before .before .before .before .play .ensures)
+returns-3 c =
+    let p = c .before .before .before .before in
+    let e₁ = p .before .before .before in
+    let s = start (after-look-at e₁ .before) in
+    framed (s .args .words .now) (s .args .calls .now) (s .args .answers .now)
+    (looked-sound _ (after-look-at e₁ .look-at .ensures) (e₁ .before .enum-told .given .1)) (e₁ .if1 .left) (p .play .ensures)
 
 pub frame-spec : {M : Type 1} → statement M
 frame-spec =

@@ -12,17 +12,29 @@ Inv-loop words₀ calls answers₀ n i₀ words answers i = Playing words₀ cal
 abbrev μ-loop : tie.MeasureT-loop
 μ-loop words₀ calls answers₀ n i₀ words answers i = n - i
 
+-- the places that the needs look back to
+abbrev start : tie.At-loop Inv-loop μ-loop → tie.Start Inv-loop μ-loop
+start c = c .before .before .before .before
+
+abbrev in-loop : tie.After-serve Inv-loop μ-loop → tie.In-loop Inv-loop μ-loop
+in-loop c = c .before .before .before
+
 loop-holds : tie.Need-loop-holds Inv-loop μ-loop
-loop-holds c = none-played (c .before .before .before .args .calls .now) (c .before .before .before .args .answers .now) (c .before .before .before .args .n) (c .before .before .before .pre .readable)
+loop-holds c =
+    let s = c .before .before .before in
+    none-played (s .args .calls .now) (s .args .answers .now) (s .args .n) (s .pre .readable)
 
 read-requires : tie.Need-read-requires Inv-loop μ-loop
-read-requires c κs = omega (arith, c .before .before .before .before .before .pre .given)
+read-requires c κs = omega (arith, start (c .before) .pre .given)
 
 serve-requires : tie.Need-serve-requires Inv-loop μ-loop
 serve-requires c κs = playing-readable (c .before .before .before .loop .inv)
 
 put-requires : tie.Need-put-requires Inv-loop μ-loop
-put-requires c κs = omega (arith, playing-wide (c .before .before .before .before .before .before .before .loop .inv) (c .before .before .before .before .before .before .before .before .before .before .before .pre .room), c .before .before .before .before .before .before .loop-test .taken, c .before .before .before .before .before .before .before .before .before .before .before .pre .room)
+put-requires c κs =
+    let l = in-loop (c .before .before .before) in
+    let s = start (l .before) in
+    omega (arith, playing-wide (l .before .loop .inv) (s .pre .room), l .loop-test .taken, s .pre .room)
 
 add-i : tie.Need-add-i Inv-loop μ-loop
 add-i c = search needs
@@ -31,13 +43,17 @@ loop-less : tie.Need-loop-less Inv-loop μ-loop
 loop-less c = search needs
 
 loop-again : tie.Need-loop-again Inv-loop μ-loop
-loop-again c = more-played (c .before .before .before .before .before .before .before .before .before .before .loop .inv) (c .before .before .before .before .before .before .before .before .before .loop-test .taken) (c .before .before .before .before .before .before .before .before .before .before .before .before .before .before .pre .room) (c .before .before .before .before .before .before .before .before .read .ensures) (c .before .before .before .before .before .before .serve .ensures) (c .before .before .put .ensures)
+loop-again c =
+    let p = c .before .before in
+    let s = p .before .before .before .before in
+    let l = in-loop s in
+    more-played (l .before .loop .inv) (l .loop-test .taken) (start (l .before) .pre .room) (s .before .before .read .ensures) (s .serve .ensures) (p .put .ensures)
 
 same-length : tie.Need-same-length Inv-loop μ-loop
 same-length c = c .before .loop .inv .long
 
 same-length-2 : tie.Need-same-length-2 Inv-loop μ-loop
-same-length-2 c = playing-wide (c .before .loop .inv) (c .before .before .before .before .before .pre .room)
+same-length-2 c = playing-wide (c .before .loop .inv) (start (c .before) .pre .room)
 
 returns : tie.Need-returns Inv-loop μ-loop
 returns c = all-played (c .before .loop .inv) (c .loop-test .left)

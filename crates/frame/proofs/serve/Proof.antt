@@ -1,11 +1,40 @@
 -- `serve` meets its contract: in each arm the call of that kind was made with what the record's words tell. Assumes nothing.
+use Prim.Native.Nat.{ℕ}
+use mathlib.Core.Path.{_≡_}
+use mathlib.Core.List.{List}
 use borrow.Author.Needs.{needs}
-use Rattle.model.specs.Call.{Call}
+use Rattle.model.specs.declared.Bound.{Bound}
+use Rattle.model.specs.Call.{Call, Answer}
+use Rattle.core.specs.Met.{Met}
 use Rattle.frame.specs.declared.entry.Kind.{Kind}
-use Rattle.flat.specs.Flat.{truth}
+use Rattle.flat.specs.declared.Reply.{Reply}
+use Rattle.flat.specs.Flat.{truth, replyOf, boundBy}
+use Rattle.frame.specs.Records.{callBy}
+use Rattle.frame.specs.Serving.{Serves}
 use Rattle.frame.proofs.Arms.{serves, ranged}
 use Rattle.frame.proofs.serve.Statement.{statement}
 use Rattle.frame.proofs.serve.Tie as tie
+
+-- the places that the needs look back to
+abbrev after-bound : tie.After-named → tie.After-bound
+after-bound c = c .before .before .before
+
+abbrev start : tie.After-named → tie.Start
+start c = after-bound c .before .before
+
+abbrev after-bound2 : tie.After-named → tie.After-bound2
+after-bound2 c = c .before .before
+
+-- the reply is that to the record's call, of the kind that was named
+answers : (n : tie.After-named) {w w′ : List ℕ} {r : Reply} {a : Answer} (k : Kind) → n .named .result ≡ k
+    → Met w (callBy k (start n .args .e)) a w′ → r ≡ replyOf a → Serves w (start n .args .e) r w′
+answers n k p = serves (start n .args .e) k p (n .named .ensures)
+
+-- a call with both bounds was made with those of the record
+between : (n : tie.After-named) {w w′ : List ℕ} {a : Answer} (f : Bound → Bound → Call (List ℕ))
+    → Met w (f (after-bound n .bound .result) (after-bound2 n .bound2 .result)) a w′
+    → Met w (f (boundBy (start n .args .e .lower) (start n .args .e .from)) (boundBy (start n .args .e .upper) (start n .args .e .upto))) a w′
+between n f = ranged f (after-bound n .bound .ensures) (after-bound2 n .bound2 .ensures)
 
 bound-requires : tie.Need-bound-requires
 bound-requires c κs = search needs
@@ -146,85 +175,129 @@ same-length : tie.Need-same-length
 same-length c = search needs
 
 returns : tie.Need-returns
-returns c = serves (c .before .before .before .before .before .before .before .before .before .before .before .before .args .e) Kind.New (c .before .before .before .before .before .enum-told .given .1) (c .before .before .before .before .before .before .before .named .ensures) (c .before .before .before .new .ensures) (c .completed .ensures)
+returns c =
+    let m = c .before .before .before in
+    let e = m .before .before in
+    let n = e .before .before in
+    answers n Kind.New (e .enum-told .given .1) (m .new .ensures) (c .completed .ensures)
 
 same-length-2 : tie.Need-same-length-2
 same-length-2 c = search needs
 
 returns-2 : tie.Need-returns-2
-returns-2 c = serves (c .before .before .before .before .before .before .before .before .before .before .before .before .args .e) Kind.Set (c .before .before .before .before .before .enum-told2 .given .1) (c .before .before .before .before .before .before .before .named .ensures) (ranged (λ l u. Call.set l u (truth (c .before .before .before .before .before .before .before .before .before .before .before .before .args .e .value))) (c .before .before .before .before .before .before .before .before .before .before .bound .ensures) (c .before .before .before .before .before .before .before .before .before .bound2 .ensures) (c .before .before .before .set .ensures)) (c .counted .ensures)
+returns-2 c =
+    let s = c .before .before .before in
+    let n = s .before .before .before .before in
+    answers n Kind.Set (s .before .before .enum-told2 .given .1) (between n (λ l u. Call.set l u (truth (start n .args .e .value))) (s .set .ensures)) (c .counted .ensures)
 
 same-length-3 : tie.Need-same-length-3
 same-length-3 c = search needs
 
 returns-3 : tie.Need-returns-3
-returns-3 c = serves (c .before .before .before .before .before .before .before .before .before .before .before .before .args .e) Kind.Flip (c .before .before .before .before .before .enum-told3 .given .1) (c .before .before .before .before .before .before .before .named .ensures) (ranged (λ l u. Call.flip l u) (c .before .before .before .before .before .before .before .before .before .before .bound .ensures) (c .before .before .before .before .before .before .before .before .before .bound2 .ensures) (c .before .before .before .flip .ensures)) (c .completed2 .ensures)
+returns-3 c =
+    let f = c .before .before .before in
+    let n = f .before .before .before .before in
+    answers n Kind.Flip (f .before .before .enum-told3 .given .1) (between n (λ l u. Call.flip l u) (f .flip .ensures)) (c .completed2 .ensures)
 
 same-length-4 : tie.Need-same-length-4
 same-length-4 c = search needs
 
 returns-4 : tie.Need-returns-4
-returns-4 c = serves (c .before .before .before .before .before .before .before .before .before .before .before .before .args .e) Kind.Shift (c .before .before .before .before .before .enum-told4 .given .1) (c .before .before .before .before .before .before .before .named .ensures) (c .before .before .before .shift .ensures) (c .completed3 .ensures)
+returns-4 c =
+    let s = c .before .before .before in
+    let e₄ = s .before .before in
+    let n = e₄ .before .before in
+    answers n Kind.Shift (e₄ .enum-told4 .given .1) (s .shift .ensures) (c .completed3 .ensures)
 
 same-length-5 : tie.Need-same-length-5
 same-length-5 c = search needs
 
 returns-5 : tie.Need-returns-5
-returns-5 c = serves (c .before .before .before .before .before .before .before .before .before .before .args .e) Kind.RunAt (c .before .before .before .enum-told5 .given .1) (c .before .before .before .before .before .named .ensures) (c .before .run-at .ensures) (c .around .ensures)
+returns-5 c =
+    let e₅ = c .before .before .before in
+    let n = e₅ .before .before in
+    answers n Kind.RunAt (e₅ .enum-told5 .given .1) (c .before .run-at .ensures) (c .around .ensures)
 
 same-length-6 : tie.Need-same-length-6
 same-length-6 c = search needs
 
 returns-6 : tie.Need-returns-6
-returns-6 c = serves (c .before .before .before .before .before .before .before .before .before .before .args .e) Kind.Find (c .before .before .before .enum-told6 .given .1) (c .before .before .before .before .before .named .ensures) (ranged (λ l u. Call.find l u (truth (c .before .before .before .before .before .before .before .before .before .before .args .e .value))) (c .before .before .before .before .before .before .before .before .bound .ensures) (c .before .before .before .before .before .before .before .bound2 .ensures) (c .before .find .ensures)) (c .found .ensures)
+returns-6 c =
+    let e₆ = c .before .before .before in
+    let n = e₆ .before .before in
+    answers n Kind.Find (e₆ .enum-told6 .given .1) (between n (λ l u. Call.find l u (truth (start n .args .e .value))) (c .before .find .ensures)) (c .found .ensures)
 
 same-length-7 : tie.Need-same-length-7
 same-length-7 c = search needs
 
 returns-7 : tie.Need-returns-7
-returns-7 c = serves (c .before .before .before .before .before .before .before .before .before .before .args .e) Kind.Count (c .before .before .before .enum-told7 .given .1) (c .before .before .before .before .before .named .ensures) (ranged (λ l u. Call.count l u (truth (c .before .before .before .before .before .before .before .before .before .before .args .e .value))) (c .before .before .before .before .before .before .before .before .bound .ensures) (c .before .before .before .before .before .before .before .bound2 .ensures) (c .before .count .ensures)) (c .counted2 .ensures)
+returns-7 c =
+    let e₇ = c .before .before .before in
+    let n = e₇ .before .before in
+    answers n Kind.Count (e₇ .enum-told7 .given .1) (between n (λ l u. Call.count l u (truth (start n .args .e .value))) (c .before .count .ensures)) (c .counted2 .ensures)
 
 same-length-8 : tie.Need-same-length-8
 same-length-8 c = search needs
 
 returns-8 : tie.Need-returns-8
-returns-8 c = serves (c .before .before .before .before .before .before .before .before .before .before .args .e) Kind.Select (c .before .before .before .enum-told8 .given .1) (c .before .before .before .before .before .named .ensures) (ranged (λ l u. Call.select l u (truth (c .before .before .before .before .before .before .before .before .before .before .args .e .value)) (c .before .before .before .before .before .before .before .before .before .before .args .e .k)) (c .before .before .before .before .before .before .before .before .bound .ensures) (c .before .before .before .before .before .before .before .bound2 .ensures) (c .before .select .ensures)) (c .found2 .ensures)
+returns-8 c =
+    let e₈ = c .before .before .before in
+    let n = e₈ .before .before in
+    answers n Kind.Select (e₈ .enum-told8 .given .1) (between n (λ l u. Call.select l u (truth (start n .args .e .value)) (start n .args .e .k)) (c .before .select .ensures)) (c .found2 .ensures)
 
 same-length-9 : tie.Need-same-length-9
 same-length-9 c = search needs
 
 returns-9 : tie.Need-returns-9
-returns-9 c = serves (c .before .before .before .before .before .before .before .before .before .before .args .e) Kind.CountRanges (c .before .before .before .enum-told9 .given .1) (c .before .before .before .before .before .named .ensures) (ranged (λ l u. Call.countRanges l u (truth (c .before .before .before .before .before .before .before .before .before .before .args .e .value))) (c .before .before .before .before .before .before .before .before .bound .ensures) (c .before .before .before .before .before .before .before .bound2 .ensures) (c .before .count-ranges .ensures)) (c .numbered .ensures)
+returns-9 c =
+    let e₉ = c .before .before .before in
+    let n = e₉ .before .before in
+    answers n Kind.CountRanges (e₉ .enum-told9 .given .1) (between n (λ l u. Call.countRanges l u (truth (start n .args .e .value))) (c .before .count-ranges .ensures)) (c .numbered .ensures)
 
 same-length-10 : tie.Need-same-length-10
 same-length-10 c = search needs
 
 returns-10 : tie.Need-returns-10
-returns-10 c = serves (c .before .before .before .before .before .before .before .before .before .before .args .e) Kind.Ranges (c .before .before .before .enum-told10 .given .1) (c .before .before .before .before .before .named .ensures) (ranged (λ l u. Call.ranges l u (truth (c .before .before .before .before .before .before .before .before .before .before .args .e .value))) (c .before .before .before .before .before .before .before .before .bound .ensures) (c .before .before .before .before .before .before .before .bound2 .ensures) (c .before .ranges .ensures)) (c .listed .ensures)
+returns-10 c =
+    let e₁₀ = c .before .before .before in
+    let n = e₁₀ .before .before in
+    answers n Kind.Ranges (e₁₀ .enum-told10 .given .1) (between n (λ l u. Call.ranges l u (truth (start n .args .e .value))) (c .before .ranges .ensures)) (c .listed .ensures)
 
 same-length-11 : tie.Need-same-length-11
 same-length-11 c = search needs
 
 returns-11 : tie.Need-returns-11
-returns-11 c = serves (c .before .before .before .before .before .before .before .before .before .before .args .e) Kind.DrawFront (c .before .before .before .enum-told11 .given .1) (c .before .before .before .before .before .named .ensures) (c .before .draw-front .ensures) (c .drawn .ensures)
+returns-11 c =
+    let e₁₁ = c .before .before .before in
+    let n = e₁₁ .before .before in
+    answers n Kind.DrawFront (e₁₁ .enum-told11 .given .1) (c .before .draw-front .ensures) (c .drawn .ensures)
 
 same-length-12 : tie.Need-same-length-12
 same-length-12 c = search needs
 
 returns-12 : tie.Need-returns-12
-returns-12 c = serves (c .before .before .before .before .before .before .before .before .before .before .args .e) Kind.DrawBack (c .before .before .before .enum-told12 .given .1) (c .before .before .before .before .before .named .ensures) (c .before .draw-back .ensures) (c .drawn2 .ensures)
+returns-12 c =
+    let e₁₂ = c .before .before .before in
+    let n = e₁₂ .before .before in
+    answers n Kind.DrawBack (e₁₂ .enum-told12 .given .1) (c .before .draw-back .ensures) (c .drawn2 .ensures)
 
 same-length-13 : tie.Need-same-length-13
 same-length-13 c = search needs
 
 returns-13 : tie.Need-returns-13
-returns-13 c = serves (c .before .before .before .before .before .before .before .before .before .before .args .e) Kind.Fill (c .before .before .before .enum-told13 .given .1) (c .before .before .before .before .before .named .ensures) (c .before .fill .ensures) (c .numbered2 .ensures)
+returns-13 c =
+    let e₁₃ = c .before .before .before in
+    let n = e₁₃ .before .before in
+    answers n Kind.Fill (e₁₃ .enum-told13 .given .1) (c .before .fill .ensures) (c .numbered2 .ensures)
 
 same-length-14 : tie.Need-same-length-14
 same-length-14 c = search needs
 
 returns-14 : tie.Need-returns-14
-returns-14 c = serves (c .before .before .before .before .before .before .before .before .before .before .args .e) Kind.Get (c .before .before .before .enum-told14 .given .1) (c .before .before .before .before .before .named .ensures) (c .before .get .ensures) (c .tested .ensures)
+returns-14 c =
+    let e₁₄ = c .before .before .before in
+    let n = e₁₄ .before .before in
+    answers n Kind.Get (e₁₄ .enum-told14 .given .1) (c .before .get .ensures) (c .tested .ensures)
 
 pub serve-spec : {M : Type 1} → statement M
 serve-spec =

@@ -15,10 +15,14 @@ enum-known-l-2 : tie.Need-enum-known-l-2
 enum-known-l-2 c = search needs
 
 returns : tie.Need-returns
-returns c = absurd (listing-refused (now (c .before .before .before .before .before .args .words)) (c .before .before .before .before .before .pre) _ (c .before .before .before .ranges .ensures) (c .before .l .given .1))
+returns c =
+    let r = c .before .before .before in
+    absurd (listing-refused (now (r .before .before .args .words)) (r .before .before .pre) _ (r .ranges .ensures) (c .before .l .given .1))
 
 returns-2 : tie.Need-returns-2
-returns-2 c = listing-told (now (c .before .before .before .before .before .args .words)) (c .before .before .before .before .before .pre) _ (c .before .before .before .ranges .ensures) (c .before .l2 .given .1)
+returns-2 c =
+    let r = c .before .before .before in
+    listing-told (now (r .before .before .args .words)) (r .before .before .pre) _ (r .ranges .ensures) (c .before .l2 .given .1)
 
 pub all-runs-spec : {M : Type 1} → statement M
 all-runs-spec = tie.close (tie.spec ranges-requires enum-known-l enum-known-l-2 returns returns-2)

@@ -7,6 +7,13 @@ use borrow.Author.Needs.{needs}
 use Rattle.listset.proofs.answer.Statement.{statement}
 use Rattle.listset.proofs.answer.Tie as tie
 
+-- the places that the needs look back to
+abbrev start : tie.After-load → tie.Start
+start c = c .before .before .before .before
+
+abbrev after-load : tie.After-put-set-arg → tie.After-load
+after-load c = c .before .before .before .before
+
 slice-aggregate-put : tie.Need-slice-aggregate-put
 slice-aggregate-put c = search needs
 
@@ -15,8 +22,9 @@ put-requires c κs = search needs
 
 returns : tie.Need-returns
 returns c =
+    let t₁ = c .before .before .before in
     let p = put-front (c .put .ensures) in
-    (p .0, p .1 ∙ sym (too-long (now (c .before .before .before .before .before .args .bytes)) (c .before .before .before .if1 .taken)))
+    (p .0, p .1 ∙ sym (too-long (now (t₁ .before .before .args .bytes)) (t₁ .if1 .taken)))
 
 slice-aggregate-load : tie.Need-slice-aggregate-load
 slice-aggregate-load c = search needs
@@ -38,19 +46,26 @@ slice-aggregate-put-set c = search needs
 
 put-set-requires : tie.Need-put-set-requires
 put-set-requires c κs =
-    let d = done-told (now (c .before .before .before .before .before .before .before .before .before .args .bytes)) _ refl _ (c .before .before .before .before .before .load .ensures) (c .before .before .enum-told .given .1) in
+    let l = after-load (c .before) in
+    let d = done-told (now (start l .args .bytes)) _ refl _ (l .load .ensures) (c .before .before .enum-told .given .1) in
     (omega (arith, d .1), d .0)
 
 returns-2 : tie.Need-returns-2
 returns-2 c =
-    let p = put-front (c .put-refused .ensures) in
-    (p .0, p .1 ∙ sym (short-enough (now (c .before .before .before .before .before .before .before .before .before .before .args .bytes)) (c .before .before .before .before .before .before .before .before .if1 .left) ∙ refused-told (now (c .before .before .before .before .before .before .before .before .before .before .args .bytes)) _ refl _ (c .before .before .before .before .before .before .load .ensures) (c .before .before .before .c .given .1)))
+    let c₂ = c .before .before .before in
+    let l = c₂ .before .before .before in
+    let p = put-front (c .put-refused .ensures) in (
+      p .0,
+      p .1 ∙ sym (short-enough (now (start l .args .bytes)) (l .before .before .if1 .left) ∙ refused-told (now (start l .args .bytes)) _ refl _
+          (l .load .ensures) (c₂ .c .given .1)),
+    )
 
 returns-3 : tie.Need-returns-3
 returns-3 c =
+    let l = after-load (c .before .before) in
     let p = put-front (c .put-set .ensures) in
-    let d = done-told (now (c .before .before .before .before .before .before .before .before .before .before .args .bytes)) _ refl _ (c .before .before .before .before .before .before .load .ensures) (c .before .before .before .enum-told .given .1) in
-    (p .0, p .1 ∙ sym (short-enough (now (c .before .before .before .before .before .before .before .before .before .before .args .bytes)) (c .before .before .before .before .before .before .before .before .if1 .left) ∙ d .2))
+    let d = done-told (now (start l .args .bytes)) _ refl _ (l .load .ensures) (c .before .before .before .enum-told .given .1) in
+    (p .0, p .1 ∙ sym (short-enough (now (start l .args .bytes)) (l .before .before .if1 .left) ∙ d .2))
 
 pub answer-spec : {M : Type 1} → statement M
 answer-spec =

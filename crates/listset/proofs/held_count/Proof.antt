@@ -15,10 +15,14 @@ enum-known-n-2 : tie.Need-enum-known-n-2
 enum-known-n-2 c = search needs
 
 returns : tie.Need-returns
-returns c = absurd (ones-refused (now (c .before .before .before .before .before .args .words)) (c .before .before .before .before .before .pre) _ (c .before .before .before .count .ensures) (c .before .n .given .1))
+returns c =
+    let co = c .before .before .before in
+    absurd (ones-refused (now (co .before .before .args .words)) (co .before .before .pre) _ (co .count .ensures) (c .before .n .given .1))
 
 returns-2 : tie.Need-returns-2
-returns-2 c = ones-told (now (c .before .before .before .before .before .args .words)) (c .before .before .before .before .before .pre) _ (c .before .before .before .count .ensures) (c .before .n2 .given .1)
+returns-2 c =
+    let co = c .before .before .before in
+    ones-told (now (co .before .before .args .words)) (co .before .before .pre) _ (co .count .ensures) (c .before .n2 .given .1)
 
 pub held-count-spec : {M : Type 1} → statement M
 held-count-spec = tie.close (tie.spec count-requires enum-known-n enum-known-n-2 returns returns-2)

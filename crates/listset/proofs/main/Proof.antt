@@ -5,6 +5,10 @@ use borrow.Author.Needs.{needs}
 use Rattle.listset.proofs.main.Statement.{statement}
 use Rattle.listset.proofs.main.Tie as tie
 
+-- the places that the needs look back to
+abbrev after-read-all : tie.After-known-told → tie.After-read-all
+after-read-all c = c .before .before .before .before
+
 slice-aggregate-read-all : tie.Need-slice-aggregate-read-all
 slice-aggregate-read-all c = search needs
 
@@ -24,10 +28,12 @@ enum-known-r : tie.Need-enum-known-r
 enum-known-r c = search needs
 
 array-share-prefix-bytes : tie.Need-array-share-prefix-bytes
-array-share-prefix-bytes c = (subst (λ r. Filled r (c .before .before .before .before .read-all .last .0)) (c .before .r .given .1) (c .before .before .before .before .read-all .ensures)) .0
+array-share-prefix-bytes c = (subst (λ r. Filled r (after-read-all c .read-all .last .0)) (c .before .r .given .1) (after-read-all c .read-all .ensures)) .0
 
 slice-aggregate-show : tie.Need-slice-aggregate-show
-slice-aggregate-show c = (subst (λ r. Filled r (c .before .before .before .before .before .read-all .last .0)) (c .before .before .r .given .1) (c .before .before .before .before .before .read-all .ensures)) .1
+slice-aggregate-show c =
+    let ra = after-read-all (c .before) in
+    (subst (λ r. Filled r (ra .read-all .last .0)) (c .before .before .r .given .1) (ra .read-all .ensures)) .1
 
 show-requires : tie.Need-show-requires
 show-requires c κs = search needs

@@ -19,8 +19,11 @@ same-length c = search needs
 
 returns : tie.Need-returns
 returns c =
-    let e : c .before .before .before .before .before .before .before .args .c .low ≡ worth (c .before .before .before .before .before .before .before .args .c) = omega (arith, c .before .before .before .before .if1 .taken) in
-    subst (λ n. Puts (now (c .before .before .before .before .before .before .before .args .out)) (c .before .before .before .before .before .before .before .args .at) (decimal n) (c .before .before .put-number .last .0) (c .before .before .put-number .result)) e (c .before .before .put-number .ensures)
+    let p = c .before .before in
+    let t₁ = p .before .before in
+    let s = t₁ .before .before .before in
+    let e : s .args .c .low ≡ worth (s .args .c) = omega (arith, t₁ .if1 .taken) in
+    subst (λ n. Puts (now (s .args .out)) (s .args .at) (decimal n) (p .put-number .last .0) (p .put-number .result)) e (p .put-number .ensures)
 
 slice-aggregate-put : tie.Need-slice-aggregate-put
 slice-aggregate-put c = search needs
@@ -33,8 +36,11 @@ same-length-2 c = search needs
 
 returns-2 : tie.Need-returns-2
 returns-2 c =
-    let e : 2 ^ 64 ≡ worth (c .before .before .before .before .before .before .before .before .args .c) = omega (arith, c .before .before .before .before .before .if1 .left, c .before .before .before .before .before .before .before .before .pre .1) in
-    subst (λ t. Puts (now (c .before .before .before .before .before .before .before .before .args .out)) (c .before .before .before .before .before .before .before .before .args .at) t (c .before .before .put .last .0) (c .before .before .put .result)) (sym full ∙ ap decimal e) (c .before .before .put .ensures)
+    let p = c .before .before in
+    let e₁ = p .before .before .before in
+    let s = e₁ .before .before .before in
+    let e : 2 ^ 64 ≡ worth (s .args .c) = omega (arith, e₁ .if1 .left, s .pre .1) in
+    subst (λ t. Puts (now (s .args .out)) (s .args .at) t (p .put .last .0) (p .put .result)) (sym full ∙ ap decimal e) (p .put .ensures)
 
 pub put-count-spec : {M : Type 1} → statement M
 put-count-spec =

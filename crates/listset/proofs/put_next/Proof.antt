@@ -8,6 +8,10 @@ use borrow.Author.Needs.{needs}
 use Rattle.listset.proofs.put_next.Statement.{statement}
 use Rattle.listset.proofs.put_next.Tie as tie
 
+-- the places that the needs look back to
+abbrev start : tie.After-draw-front → tie.Start
+start c = c .before .before .before
+
 draw-front-requires : tie.Need-draw-front-requires
 draw-front-requires c κs = search needs
 
@@ -24,18 +28,28 @@ enum-known-d-3 : tie.Need-enum-known-d-3
 enum-known-d-3 c = search needs
 
 returns : tie.Need-returns
-returns c = λ r rs e. absurd (draw-refused (now (c .before .before .before .before .before .before .args .words)) (c .before .before .before .before .before .before .pre .1) _ (c .before .before .before .before .before .before .args .l) (c .before .before .before .draw-front .ensures) e (c .before .d .given .1))
+returns c =
+    let d = c .before .before .before in
+    let s = start d in
+    λ r rs e. absurd (draw-refused (now (s .args .words)) (s .pre .1) _ (s .args .l) (d .draw-front .ensures) e (c .before .d .given .1))
 
 same-length : tie.Need-same-length
 same-length c = search needs
 
 returns-2 : tie.Need-returns-2
-returns-2 c = λ r rs e.
-    let h = draw-told (now (c .before .before .before .before .before .before .before .before .before .before .args .words)) (c .before .before .before .before .before .before .before .before .before .before .pre .1) _ (c .before .before .before .before .before .before .before .before .before .before .args .l) (c .before .before .before .before .before .before .before .draw-front .ensures) e (c .before .before .before .before .before .d2 .given .1) in
-    (subst (λ q. Puts (now (c .before .before .before .before .before .before .before .before .before .before .args .out)) (c .before .before .before .before .before .before .before .before .before .before .args .at) (runLine q) (c .before .before .put-run .last .0) (c .before .before .put-run .result)) (h .0) (c .before .before .put-run .ensures), h .1)
+returns-2 c =
+    let p = c .before .before in
+    let d₂ = p .before .before .before in
+    let s = start (d₂ .before .before) in
+    λ r rs e.
+    let h = draw-told (now (s .args .words)) (s .pre .1) _ (s .args .l) (d₂ .before .before .draw-front .ensures) e (d₂ .d2 .given .1) in
+    (subst (λ q. Puts (now (s .args .out)) (s .args .at) (runLine q) (p .put-run .last .0) (p .put-run .result)) (h .0) (p .put-run .ensures), h .1)
 
 returns-3 : tie.Need-returns-3
-returns-3 c = λ r rs e. absurd (draw-ended (now (c .before .before .before .before .before .before .args .words)) (c .before .before .before .before .before .before .pre .1) _ (c .before .before .before .before .before .before .args .l) (c .before .before .before .draw-front .ensures) e (c .before .d3 .given .1))
+returns-3 c =
+    let d = c .before .before .before in
+    let s = start d in
+    λ r rs e. absurd (draw-ended (now (s .args .words)) (s .pre .1) _ (s .args .l) (d .draw-front .ensures) e (c .before .d3 .given .1))
 
 pub put-next-spec : {M : Type 1} → statement M
 put-next-spec =

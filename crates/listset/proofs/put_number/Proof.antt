@@ -8,6 +8,10 @@ use borrow.Author.Needs.{needs}
 use Rattle.listset.proofs.put_number.Statement.{statement}
 use Rattle.listset.proofs.put_number.Tie as tie
 
+-- the places that the needs look back to
+abbrev start : tie.After-decimal → tie.Start
+start c = c .before .before .before
+
 decimal-requires : tie.Need-decimal-requires
 decimal-requires c κs = search needs
 
@@ -18,16 +22,22 @@ slice-aggregate-put : tie.Need-slice-aggregate-put
 slice-aggregate-put c = search needs
 
 put-requires : tie.Need-put-requires
-put-requires c κs = omega (arith, c .before .before .before .before .before .pre, c .before .before .decimal .ensures, twenty (c .before .before .before .before .before .args .n) (c .before .before .decimal .result) (search needs) (c .before .before .decimal .ensures .1 .0))
+put-requires c κs =
+    let d = c .before .before in
+    omega (arith, start d .pre, d .decimal .ensures, twenty (start d .args .n) (d .decimal .result) (search needs) (d .decimal .ensures .1 .0))
 
 same-length : tie.Need-same-length
 same-length c = search needs
 
 returns : tie.Need-returns
 returns c =
-    subst (λ t. Puts (now (c .before .before .before .before .before .before .before .before .args .out)) (c .before .before .before .before .before .before .before .before .args .at) t (c .before .before .put .last .0) (c .before .before .put .result))
-    (c .before .before .before .before .before .decimal .ensures .1 .1 ∙ decimal-is (c .before .before .before .before .before .before .before .before .args .n) (c .before .before .before .before .before .decimal .result) (c .before .before .before .before .before .decimal .ensures .1 .0) (twenty (c .before .before .before .before .before .before .before .before .args .n) (c .before .before .before .before .before .decimal .result) (search needs) (c .before .before .before .before .before .decimal .ensures .1 .0)))
-    (c .before .before .put .ensures)
+    let p = c .before .before in
+    let d = p .before .before .before in
+    let s = start d in
+    subst (λ t. Puts (now (s .args .out)) (s .args .at) t (p .put .last .0) (p .put .result))
+    (d .decimal .ensures .1 .1 ∙ decimal-is (s .args .n) (d .decimal .result) (d .decimal .ensures .1 .0)
+    (twenty (s .args .n) (d .decimal .result) (search needs) (d .decimal .ensures .1 .0)))
+    (p .put .ensures)
 
 pub put-number-spec : {M : Type 1} → statement M
 put-number-spec =

@@ -9,6 +9,13 @@ use borrow.Author.Needs.{needs}
 use Rattle.listset.proofs.put_refused.Statement.{statement}
 use Rattle.listset.proofs.put_refused.Tie as tie
 
+-- the places that the needs look back to
+abbrev after-put : tie.After-refusal-number → tie.After-put
+after-put c = c .before .before .before .before
+
+abbrev after-put-number : tie.After-put-arg4 → tie.After-put-number
+after-put-number c = c .before .before .before .before
+
 slice-aggregate-put : tie.Need-slice-aggregate-put
 slice-aggregate-put c = search needs
 
@@ -25,7 +32,18 @@ slice-aggregate-put-2 : tie.Need-slice-aggregate-put-2
 slice-aggregate-put-2 c = search needs
 
 put-requires-2 : tie.Need-put-requires-2
-put-requires-2 c κs = omega (arith, c .before .before .before .before .before .before .before .before .before .before .before .before .before .pre, c .before .before .before .before .before .before .before .before .before .put .ensures .ends, c .before .before .before .before .before .before .before .before .before .put .ensures .long, c .before .before .before .before .put-number .ensures .ends, c .before .before .before .before .put-number .ensures .long, decimal-short (c .before .before .before .before .before .refusal-number .result))
+put-requires-2 c κs =
+    let p = after-put-number c in
+    let pu = after-put (p .before) in
+    omega (
+      arith,
+      pu .before .before .before .before .pre,
+      pu .put .ensures .ends,
+      pu .put .ensures .long,
+      p .put-number .ensures .ends,
+      p .put-number .ensures .long,
+      decimal-short (p .before .refusal-number .result),
+    )
 
 same-length : tie.Need-same-length
 same-length c = search needs
@@ -33,7 +51,11 @@ same-length c = search needs
 returns : tie.Need-returns
 unfolding refusedLine
 returns c =
-    and-then (and-then (c .before .before .before .before .before .before .before .before .before .before .before .before .put .ensures) (subst (λ n. Puts (c .before .before .before .before .before .before .before .before .before .before .before .before .put .last .0) (c .before .before .before .before .before .before .before .before .before .before .before .before .put .result) (decimal n) (c .before .before .before .before .before .before .before .put-number .last .0) (c .before .before .before .before .before .before .before .put-number .result)) (c .before .before .before .before .before .before .before .before .refusal-number .ensures) (c .before .before .before .before .before .before .before .put-number .ensures))) (c .before .before .put2 .ensures)
+    let p = after-put-number (c .before .before .before) in
+    let pu = after-put (p .before) in
+    and-then (and-then (pu .put .ensures)
+    (subst (λ n. Puts (pu .put .last .0) (pu .put .result) (decimal n) (p .put-number .last .0) (p .put-number .result))
+    (p .before .refusal-number .ensures) (p .put-number .ensures))) (c .before .before .put2 .ensures)
 
 pub put-refused-spec : {M : Type 1} → statement M
 put-refused-spec =

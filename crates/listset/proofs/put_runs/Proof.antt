@@ -14,10 +14,15 @@ abbrev μ-loop : tie.MeasureT-loop
 μ-loop out₀ at words runs rest₀ i₀ out rest i = runs - i
 
 loop-holds : tie.Need-loop-holds Inv-loop μ-loop
-loop-holds c = progress-start (heldBy (now (c .before .before .args .words))) (now (c .before .before .args .out)) (c .before .before .args .at) (c .before .before .args .first) (c .before .before .args .runs) (c .before .before .pre .1 .1)
+loop-holds c =
+    let s = c .before .before in
+    progress-start (heldBy (now (s .args .words))) (now (s .args .out)) (s .args .at) (s .args .first) (s .args .runs) (s .pre .1 .1)
 
 put-next-requires : tie.Need-put-next-requires Inv-loop μ-loop
-put-next-requires c κs = (progress-room (c .before .before .before .loop .inv) (c .before .before .loop-test .taken) (c .before .before .before .before .before .before .pre .0), c .before .before .before .before .before .before .pre .1 .0)
+put-next-requires c κs =
+    let l = c .before .before in
+    let s = l .before .before .before .before in
+    (progress-room (l .before .loop .inv) (l .loop-test .taken) (s .pre .0), s .pre .1 .0)
 
 add-i : tie.Need-add-i Inv-loop μ-loop
 add-i c = search needs
@@ -26,7 +31,10 @@ loop-less : tie.Need-loop-less Inv-loop μ-loop
 loop-less c = search needs
 
 loop-again : tie.Need-loop-again Inv-loop μ-loop
-loop-again c = progress-step (c .before .before .before .before .before .before .loop .inv) (c .before .before .before .before .before .loop-test .taken) (c .before .before .put-next .ensures)
+loop-again c =
+    let p = c .before .before in
+    let l = p .before .before .before in
+    progress-step (l .before .loop .inv) (l .loop-test .taken) (p .put-next .ensures)
 
 same-length : tie.Need-same-length Inv-loop μ-loop
 same-length c = c .before .loop .inv .put .long

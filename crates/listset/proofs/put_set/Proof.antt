@@ -17,6 +17,16 @@ use borrow.Author.Needs.{needs}
 use Rattle.listset.proofs.put_set.Statement.{statement}
 use Rattle.listset.proofs.put_set.Tie as tie
 
+-- the places that the needs look back to
+abbrev start : tie.After-run-count → tie.Start
+start c = c .before .before .before
+
+abbrev after-put-counts : tie.After-all-runs → tie.After-put-counts
+after-put-counts c = c .before .before .before .before
+
+abbrev after-run-count : tie.After-all-runs → tie.After-run-count
+after-run-count c = after-put-counts c .before .before .before
+
 run-count-requires : tie.Need-run-count-requires
 run-count-requires c κs = search needs
 
@@ -24,7 +34,9 @@ held-count-requires : tie.Need-held-count-requires
 held-count-requires c κs = search needs
 
 put-counts-requires : tie.Need-put-counts-requires
-put-counts-requires c κs = (omega (arith, c .before .before .before .before .before .pre .0), subst (λ k. k ≤ 2 ^ 64) (sym (c .held-count .ensures)) (count-most (heldBy (now (c .before .before .before .before .before .args .words))) true 0 size))
+put-counts-requires c κs =
+    let s = start (c .before .before) in
+    (omega (arith, s .pre .0), subst (λ k. k ≤ 2 ^ 64) (sym (c .held-count .ensures)) (count-most (heldBy (now (s .args .words))) true 0 size))
 
 all-runs-requires : tie.Need-all-runs-requires
 all-runs-requires c κs = search needs
@@ -32,8 +44,16 @@ all-runs-requires c κs = search needs
 put-runs-requires : tie.Need-put-runs-requires
 unfolding stretches allowance
 put-runs-requires c κs = (
-  omega (arith, c .before .before .before .before .before .before .before .before .before .before .pre .0, c .before .before .before .before .put-counts .ensures .ends, c .before .before .before .before .put-counts .ensures .long, counts-short (c .before .before .before .before .before .before .before .run-count .result) (worth (c .before .before .before .before .before .held-count .result)), c .before .before .before .before .before .before .before .run-count .ensures, c .before .before .before .before .before .before .before .before .before .before .pre .1 .fits),
-  (c .before .before .before .before .before .before .before .before .before .before .pre .1, ap length (c .all-runs .ensures) ∙ sym (c .before .before .before .before .before .before .before .run-count .ensures)),
+  omega (
+    arith,
+    start (after-run-count c) .pre .0,
+    after-put-counts c .put-counts .ensures .ends,
+    after-put-counts c .put-counts .ensures .long,
+    counts-short (after-run-count c .run-count .result) (worth (after-put-counts c .before .held-count .result)),
+    after-run-count c .run-count .ensures,
+    start (after-run-count c) .pre .1 .fits,
+  ),
+  (start (after-run-count c) .pre .1, ap length (c .all-runs .ensures) ∙ sym (after-run-count c .run-count .ensures)),
 )
 
 same-length : tie.Need-same-length
@@ -42,11 +62,17 @@ same-length c = search needs
 returns : tie.Need-returns
 unfolding setLines
 returns c =
-    let w = now (c .before .before .before .before .before .before .before .before .before .before .before .before .before .args .words) in
+    let p = c .before .before in
+    let pc = after-put-counts (p .before) in
+    let h = pc .before in
+    let s = start (h .before .before) in
+    let w = now (s .args .words) in
     and-then
-    (subst (λ k. Puts (now (c .before .before .before .before .before .before .before .before .before .before .before .before .before .args .out)) 0 (countLines (stretches (heldBy w)) k) (c .before .before .before .before .before .before .before .put-counts .last .0) (c .before .before .before .before .before .before .before .put-counts .result)) (c .before .before .before .before .before .before .before .before .held-count .ensures)
-    (subst (λ k. Puts (now (c .before .before .before .before .before .before .before .before .before .before .before .before .before .args .out)) 0 (countLines k (worth (c .before .before .before .before .before .before .before .before .held-count .result))) (c .before .before .before .before .before .before .before .put-counts .last .0) (c .before .before .before .before .before .before .before .put-counts .result)) (c .before .before .before .before .before .before .before .before .before .before .run-count .ensures) (c .before .before .before .before .before .before .before .put-counts .ensures)))
-    (subst (λ rs. Puts (c .before .before .before .before .before .before .before .put-counts .last .0) (c .before .before .before .before .before .before .before .put-counts .result) (runLines rs) (c .before .before .put-runs .last .0) (c .before .before .put-runs .result)) (c .before .before .before .all-runs .ensures) (c .before .before .put-runs .ensures))
+    (subst (λ k. Puts (now (s .args .out)) 0 (countLines (stretches (heldBy w)) k) (pc .put-counts .last .0) (pc .put-counts .result)) (h .held-count .ensures)
+    (subst (λ k. Puts (now (s .args .out)) 0 (countLines k (worth (h .held-count .result))) (pc .put-counts .last .0) (pc .put-counts .result))
+    (h .before .before .run-count .ensures) (pc .put-counts .ensures)))
+    (subst (λ rs. Puts (pc .put-counts .last .0) (pc .put-counts .result) (runLines rs) (p .put-runs .last .0) (p .put-runs .result))
+    (p .before .all-runs .ensures) (p .put-runs .ensures))
 
 pub put-set-spec : {M : Type 1} → statement M
 put-set-spec =

@@ -19,6 +19,13 @@ Inv-loop bytes₀ n₀ bytes n = (n ≤ length bytes) × (length bytes ≡ lengt
 abbrev μ-loop : tie.MeasureT-loop
 μ-loop bytes₀ n₀ bytes n = length bytes₀ - n
 
+-- the places that the needs look back to
+abbrev at-loop : tie.After-read-more Inv-loop μ-loop → tie.At-loop Inv-loop μ-loop
+at-loop c = c .before .before .before
+
+abbrev after-read-more : tie.After-r Inv-loop μ-loop → tie.After-read-more Inv-loop μ-loop
+after-read-more c = c .before .before .before .before
+
 loop-holds : tie.Need-loop-holds Inv-loop μ-loop
 loop-holds c = search needs
 
@@ -41,16 +48,32 @@ same-length-2 : tie.Need-same-length-2 Inv-loop μ-loop
 same-length-2 c = search needs
 
 returns-2 : tie.Need-returns-2 Inv-loop μ-loop
-returns-2 c = counted (c .before .before .before .before .before .before .before .before .before .loop .n) (c .before .before .before .before .before .before .read-more .last .0) (omega (arith, c .before .before .before .before .before .before .before .before .before .loop .inv .0, c .before .before .before .before .before .before .read-more .ensures .1))
+returns-2 c =
+    let r = after-read-more (c .before .before) in
+    counted (at-loop r .loop .n) (r .read-more .last .0) (omega (arith, at-loop r .loop .inv .0, r .read-more .ensures .1))
 
 add-n : tie.Need-add-n Inv-loop μ-loop
-add-n c = omega (arith, c .before .before .before .before .before .before .before .before .before .loop .inv .0, subst (λ r. Within r (c .before .before .before .before .before .before .before .before .before .loop .n) (length (c .before .before .before .before .before .before .before .before .before .loop .bytes))) (c .before .before .r .given .1) (c .before .before .before .before .before .before .read-more .ensures .0))
+add-n c =
+    let rm = after-read-more (c .before .before) in
+    let l = at-loop rm in
+    omega (arith, l .loop .inv .0, subst (λ r. Within r (l .loop .n) (length (l .loop .bytes))) (c .before .before .r .given .1) (rm .read-more .ensures .0))
 
 loop-less : tie.Need-loop-less Inv-loop μ-loop
-loop-less c = omega (arith, c .before .before .before .before .before .before .before .before .before .loop .inv .0, c .before .before .before .before .before .before .before .before .before .loop .inv .1, c .if1 .left, c .before .before .before .before .before .before .before .before .loop-test .taken)
+loop-less c =
+    let r = after-read-more (c .before .before) in
+    omega (arith, at-loop r .loop .inv .0, at-loop r .loop .inv .1, c .if1 .left, r .before .before .loop-test .taken)
 
 loop-again : tie.Need-loop-again Inv-loop μ-loop
-loop-again c = (omega (arith, c .before .before .before .before .before .before .read-more .ensures .1, subst (λ r. Within r (c .before .before .before .before .before .before .before .before .before .loop .n) (length (c .before .before .before .before .before .before .before .before .before .loop .bytes))) (c .before .before .r .given .1) (c .before .before .before .before .before .before .read-more .ensures .0)), omega (arith, c .before .before .before .before .before .before .read-more .ensures .1, c .before .before .before .before .before .before .before .before .before .loop .inv .1))
+loop-again c =
+    let rm = after-read-more (c .before .before) in
+    let l = at-loop rm in (
+      omega (
+        arith,
+        rm .read-more .ensures .1,
+        subst (λ r. Within r (l .loop .n) (length (l .loop .bytes))) (c .before .before .r .given .1) (rm .read-more .ensures .0),
+      ),
+      omega (arith, rm .read-more .ensures .1, l .loop .inv .1),
+    )
 
 same-length-3 : tie.Need-same-length-3 Inv-loop μ-loop
 same-length-3 c = search needs

@@ -15,10 +15,14 @@ enum-known-n-2 : tie.Need-enum-known-n-2
 enum-known-n-2 c = search needs
 
 returns : tie.Need-returns
-returns c = absurd (runs-refused (now (c .before .before .before .before .before .args .words)) (c .before .before .before .before .before .pre) _ (c .before .before .before .count-ranges .ensures) (c .before .n .given .1))
+returns c =
+    let cr = c .before .before .before in
+    absurd (runs-refused (now (cr .before .before .args .words)) (cr .before .before .pre) _ (cr .count-ranges .ensures) (c .before .n .given .1))
 
 returns-2 : tie.Need-returns-2
-returns-2 c = runs-told (now (c .before .before .before .before .before .args .words)) (c .before .before .before .before .before .pre) _ (c .before .before .before .count-ranges .ensures) (c .before .n2 .given .1)
+returns-2 c =
+    let cr = c .before .before .before in
+    runs-told (now (cr .before .before .args .words)) (cr .before .before .pre) _ (cr .count-ranges .ensures) (c .before .n2 .given .1)
 
 pub run-count-spec : {M : Type 1} → statement M
 run-count-spec =

@@ -5,6 +5,13 @@ use Rattle.lockstep.proofs.Playing.{same-bytes}
 use Rattle.lockstep.proofs.play_both.Statement.{statement}
 use Rattle.lockstep.proofs.play_both.Tie as tie
 
+-- the places that the needs look back to
+abbrev start : tie.After-slice-known4 → tie.Start
+start c = c .before .before .before .before
+
+abbrev after-write-set : tie.After-write-set-arg4 → tie.After-write-set
+after-write-set c = c .before .before .before .before
+
 new-requires : tie.Need-new-requires
 new-requires c κs = search needs
 
@@ -46,16 +53,23 @@ same-length-4 c = search needs
 
 returns : tie.Need-returns
 returns c =
+    let w = after-write-set (c .before .before .before) in
+    let s = w .before .before .before .before .before in
+    let s₂ = s .before .before .before .before in
+    let n₂ = s₂ .before .before .before .before in
+    let se = n₂ .before .before .before .before in
+    let n = se .before .before .before .before in
+    let st = start (n .before .before) in
     same-bytes
-    (c .before .before .before .before .before .before .before .before .before .before .before .before .before .before .before .before .before .before .before .before .before .before .before .before .before .before .before .before .before .before .before .before .before .before .pre .0)
-    (c .before .before .before .before .before .before .before .before .before .before .before .before .before .before .before .before .before .before .before .before .before .before .before .before .before .before .before .before .before .before .before .before .before .before .pre .1 .0)
-    (c .before .before .before .before .before .before .before .before .before .before .before .before .before .before .before .before .before .before .before .before .before .before .before .before .before .before .before .before .before .before .before .before .before .before .pre .1 .1)
-    (c .before .before .before .before .before .before .before .before .before .before .before .before .before .before .before .before .before .before .before .before .before .before .before .before .before .before .before .before .new .ensures)
-    (c .before .before .before .before .before .before .before .before .before .before .before .before .before .before .before .before .before .before .before .before .before .before .before .before .set .ensures)
-    (c .before .before .before .before .before .before .before .before .before .before .before .before .before .before .before .before .before .before .before .before .new2 .ensures)
-    (c .before .before .before .before .before .before .before .before .before .before .before .before .before .before .before .before .set2 .ensures)
-    (c .before .before .before .before .before .before .before .before .before .before .before .before .shift .ensures)
-    (c .before .before .before .before .before .before .before .write-set .ensures)
+    (st .pre .0)
+    (st .pre .1 .0)
+    (st .pre .1 .1)
+    (n .new .ensures)
+    (se .set .ensures)
+    (n₂ .new2 .ensures)
+    (s₂ .set2 .ensures)
+    (s .shift .ensures)
+    (w .write-set .ensures)
     (c .before .before .write-set2 .ensures)
 
 pub play-both-spec : {M : Type 1} → statement M

@@ -21,9 +21,10 @@ same-length c = search needs
 
 returns : tie.Need-returns
 returns c =
-    let wr = c .before .before .write-node .ensures in
+    let w = c .before .before in
+    let wr = w .write-node .ensures in
     record {
-      here = ap worldOf (wr .here) ∙ own (c .before .before .before .before .before .pre .1);
+      here = ap worldOf (wr .here) ∙ own (w .before .before .before .pre .1);
       spare = ap (λ (v : Node). v .tag) (wr .here);
       there = λ m pos. wr .there m (λ (e : m ≡ 0). omega arith);
       long = wr .long;

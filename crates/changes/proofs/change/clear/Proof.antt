@@ -38,11 +38,17 @@ run-there : (n : tie.After-n) → Found (start (searched n) .args .words .now) (
 run-there n = found _ (searched n .at-or-before .ensures) _ (n .n .given .1)
 
 -- no run goes on from before s
-trimmed : (c : tie.At-match-came) → Trimmed (start (c .before) .args .words .now) (c .match .words) (start (c .before) .args .x) (start (c .before) .args .s .0) (start (c .before) .args .e .0)
+trimmed : (c : tie.At-match-came)
+    → Trimmed (start (c .before) .args .words .now) (c .match .words) (start (c .before) .args .x) (start (c .before) .args .s .0) (start (c .before) .args .e .0)
 trimmed c =
-    ⊎-elim (λ x. trimmed-same (x .11) (trimmed-back (found _ (c .before .at-or-before .ensures) _ (x .1 .given .1)) (x .3 .taken) (leb-true _ _ (x .4 .taken)) (x .6 .ensures) (x .9 .left)))
+    ⊎-elim (λ x.
+    trimmed-same (x .11)
+    (trimmed-back (found _ (c .before .at-or-before .ensures) _ (x .1 .given .1)) (x .3 .taken) (leb-true _ _ (x .4 .taken))
+    (x .6 .ensures) (x .9 .left)))
     (⊎-elim
-    (λ x. trimmed-same (x .4) (⊎-elim (λ y. trimmed-below (found _ (c .before .at-or-before .ensures) _ (x .1 .given .1)) (leb-false _ _ (y .1 .left))) (λ y. trimmed-from (found _ (c .before .at-or-before .ensures) _ (x .1 .given .1)) (y .left)) (x .3 .came)))
+    (λ x.
+    trimmed-same (x .4) (⊎-elim (λ y. trimmed-below (found _ (c .before .at-or-before .ensures) _ (x .1 .given .1)) (leb-false _ _ (y .1 .left)))
+    (λ y. trimmed-from (found _ (c .before .at-or-before .ensures) _ (x .1 .given .1)) (y .left)) (x .3 .came)))
     (λ x. trimmed-same (x .2) (trimmed-none (found-none _ (c .before .at-or-before .ensures) (x .1 .given .1)))))
     (c .match .came)
 
@@ -75,9 +81,10 @@ same-length c = search needs
 returns : tie.Need-returns
 returns c =
     let a = c .before .before in
-    let g = a .before .before .before .before .before in
+    let t₃ = a .before .before in
+    let g = t₃ .before .before .before in
     let t = g .before .before in
-    both-added (run-there (told t)) (t .before .if1 .taken) (leb-true _ _ (t .if2 .taken)) (g .resize-run .ensures) (a .before .before .if3 .taken) (a .add-run .ensures)
+    both-added (run-there (told t)) (t .before .if1 .taken) (leb-true _ _ (t .if2 .taken)) (g .resize-run .ensures) (t₃ .if3 .taken) (a .add-run .ensures)
 
 enum-told : tie.Need-enum-told
 enum-told c = search needs

@@ -27,6 +27,13 @@ runs p = p .before .before .before .before
 abbrev all : tie.After-held-after → tie.After-logical-runs
 all q = runs (q .before .before)
 
+-- further places that the needs look back to
+abbrev after-tally2 : tie.After-held-after → tie.After-tally2
+after-tally2 c = c .before .before .before .before
+
+abbrev after-going-on : tie.After-held-after → tie.After-going-on
+after-going-on c = c .before .before .before
+
 -- few of the neighbours are held
 neighbours : (q : tie.After-held-after) → q .before .held-before .result + q .held-after .result ≤ 2
 neighbours q =
@@ -35,31 +42,31 @@ neighbours q =
 
 -- few runs, with those over the ends twice
 over : (q : tie.After-held-after)
-    → (all q) .logical-runs .result + (q .before .before .before .going-on .result + q .before .before .going-past .result)
-    + (q .before .before .before .going-on .result + q .before .before .going-past .result) ≤ 65570
+    → all q .logical-runs .result + (after-going-on q .going-on .result + q .before .before .going-past .result)
+    + (after-going-on q .going-on .result + q .before .before .going-past .result) ≤ 65570
 over q =
     let r = start (all q) in
     omega (
       arith,
-      logical-told (r .pre .0 .1 .standing) ((all q) .logical-runs .ensures),
+      logical-told (r .pre .0 .1 .standing) (all q .logical-runs .ensures),
       logical-few (r .pre .0 .1),
-      over-few (held r) (r .args .a .0) (r .args .b .0) (q .before .before .before .going-on .ensures) (q .before .before .going-past .ensures),
+      over-few (held r) (r .args .a .0) (r .args .b .0) (after-going-on q .going-on .ensures) (q .before .before .going-past .ensures),
     )
 
 -- few gaps
-gaps : (q : tie.After-held-after) → q .before .before .before .before .tally2 .result .runs ≤ 65569
+gaps : (q : tie.After-held-after) → after-tally2 q .tally2 .result .runs ≤ 65569
 gaps q =
     let r = start (all q) in
-    gaps-few (r .pre .0 .1) _ _ (r .pre .1) (omega (arith, r .good)) (q .before .before .before .before .tally2 .ensures)
+    gaps-few (r .pre .0 .1) _ _ (r .pre .1) (omega (arith, r .good)) (after-tally2 q .tally2 .ensures)
 
 -- the limit and the runs of the range are few
-inside : (q : tie.After-held-after) → (start (all q)) .args .limit + q .before .before .before .before .before .tally .result .runs ≤ 131134
+inside : (q : tie.After-held-after) → start (all q) .args .limit + after-tally2 q .before .tally .result .runs ≤ 131134
 inside q =
     let r = start (all q) in
     omega (
       arith,
       limit-few (r .pre .0 .1),
-      range-few (r .pre .0 .1) (r .args .a .0) (r .args .b .0) (r .pre .1) (omega (arith, r .good)) (q .before .before .before .before .before .tally .ensures),
+      range-few (r .pre .0 .1) (r .args .a .0) (r .args .b .0) (r .pre .1) (omega (arith, r .good)) (after-tally2 q .before .tally .ensures),
     )
 
 add-if1 : tie.Need-add-if1
@@ -117,10 +124,9 @@ add-result-5 c = omega (arith, inside (c .before .before), neighbours (c .before
 returns-2 : tie.Need-returns-2
 returns-2 c =
     let q = c .before .before in
-    let p = q .before .before in
-    let r = start (runs p) in
-    flip-fits-counted (held r) _ _ (r .pre .1) (omega (arith, r .good)) (r .args .limit) (logical-told (r .pre .0 .1 .standing) ((runs p) .logical-runs .ensures))
-    (p .before .before .before .tally .ensures) (p .before .before .tally2 .ensures) (p .before .going-on .ensures) (p .going-past .ensures)
+    let r = start (all q) in
+    flip-fits-counted (held r) _ _ (r .pre .1) (omega (arith, r .good)) (r .args .limit) (logical-told (r .pre .0 .1 .standing) (all q .logical-runs .ensures))
+    (after-tally2 q .before .tally .ensures) (after-tally2 q .tally2 .ensures) (after-going-on q .going-on .ensures) (q .before .before .going-past .ensures)
     (q .before .held-before .ensures) (q .held-after .ensures)
 
 pub flip-fits-spec : {M : Type 1} → statement M

@@ -14,13 +14,20 @@ use Rattle.changes.proofs.edit.shift_down.Tie as tie
 abbrev start : tie.Joined2 → tie.Start
 start j = j .before .before .before .before .before
 
+-- further places that the needs look back to
+abbrev else1 : tie.Then2 → tie.Else1
+else1 c = c .before .before
+
 -- what would leave is cleared
 cleared : (j : tie.Joined2) {s : Share} {limit : ℕ} → Limited ((start j) .args .words .now) s ((start j) .args .h) limit
     → Cleared ((start j) .args .words .now) (j .if2 .words) s ((start j) .args .h) (j .if2 .k) 0 ((start j) .args .d) (shiftRight ((start j) .args .d))
 cleared j lim =
     let r = start j in
     ⊎-elim
-    (λ x. cleared-same (x .5) (x .6) (down-cleared lim (r .pre .2 .some) (omega (arith, r .good)) (omega (arith, r .fits .d)) _ (j .before .before .if1 .left) (omega (arith, r .pre .2 .far)) (x .2 .ensures)))
+    (λ x.
+    cleared-same (x .5) (x .6)
+    (down-cleared lim (r .pre .2 .some) (omega (arith, r .good)) (omega (arith, r .fits .d)) _ (j .before .before .if1 .left)
+    (omega (arith, r .pre .2 .far)) (x .2 .ensures)))
     (λ x. cleared-same (x .1) (x .2) (down-uncleared lim (r .pre .2 .some) (omega (arith, r .good)) (omega (arith, r .fits .d)) (x .0 .left)))
     (j .if2 .came)
 
@@ -33,15 +40,18 @@ same-length c = search needs
 returns : tie.Need-returns
 returns c s limit lim =
     let e = c .before .before in
-    let r = e .before .before .before .before .before in
-    down-empty (r .args .h) (r .args .d) (world-ends (lim .standing) (r .pre .2 .some) (omega (arith, r .good))) (e .before .before .if1 .taken)
+    let t₁ = e .before .before in
+    let r = t₁ .before .before .before in
+    down-empty (r .args .h) (r .args .d) (world-ends (lim .standing) (r .pre .2 .some) (omega (arith, r .good))) (t₁ .if1 .taken)
     (e .emptied .ensures s (lim .standing))
 
 sub-t11 : tie.Need-sub-t11
 sub-t11 c = search needs
 
 apply-set-requires : tie.Need-apply-set-requires
-apply-set-requires c κs = let r = c .before .before .before .before .before .before in down-applies (r .pre .2 .limited) _ (omega (arith, r .fits .d))
+apply-set-requires c κs =
+    let r = else1 (c .before) .before .before .before in
+    down-applies (r .pre .2 .limited) _ (omega (arith, r .fits .d))
 
 wrapping-sub-u64-requires : tie.Need-wrapping-sub-u64-requires
 wrapping-sub-u64-requires c κs = search needs

@@ -15,13 +15,20 @@ use Rattle.changes.proofs.edit.shift_up.Tie as tie
 abbrev start : tie.Joined2 → tie.Start
 start j = j .before .before .before .before .before
 
+-- further places that the needs look back to
+abbrev else1 : tie.Then2 → tie.Else1
+else1 c = c .before .before
+
 -- what would leave is cleared
 cleared : (j : tie.Joined2) {s : Share} {limit : ℕ} → Limited ((start j) .args .words .now) s ((start j) .args .h) limit
     → Cleared ((start j) .args .words .now) (j .if2 .words) s ((start j) .args .h) (j .if2 .k) (size - (start j) .args .d) ((start j) .args .d) (shiftLeft ((start j) .args .d))
 cleared j lim =
     let r = start j in
     ⊎-elim
-    (λ x. cleared-same (x .5) (x .6) (up-cleared lim (r .pre .2 .some) (omega (arith, r .good)) (omega (arith, r .fits .d)) _ _ (omega (arith, j .before .before .if1 .left)) (omega arith) (omega (arith, r .fits .d)) (x .2 .ensures)))
+    (λ x.
+    cleared-same (x .5) (x .6)
+    (up-cleared lim (r .pre .2 .some) (omega (arith, r .good)) (omega (arith, r .fits .d)) _ _
+    (omega (arith, j .before .before .if1 .left)) (omega arith) (omega (arith, r .fits .d)) (x .2 .ensures)))
     (λ x. cleared-same (x .1) (x .2) (up-uncleared lim (r .pre .2 .some) (omega (arith, r .good)) (omega (arith, r .fits .d)) (omega (arith, x .0 .left))))
     (j .if2 .came)
 
@@ -37,15 +44,16 @@ same-length c = search needs
 returns : tie.Need-returns
 returns c s limit lim =
     let e = c .before .before in
-    let r = e .before .before .before .before .before in
-    up-empty (r .args .h) (r .args .d) (world-ends (lim .standing) (r .pre .2 .some) (omega (arith, r .good))) (omega (arith, e .before .before .if1 .taken))
+    let t₁ = e .before .before in
+    let r = t₁ .before .before .before in
+    up-empty (r .args .h) (r .args .d) (world-ends (lim .standing) (r .pre .2 .some) (omega (arith, r .good))) (omega (arith, t₁ .if1 .taken))
     (e .emptied .ensures s (lim .standing))
 
 add-t11 : tie.Need-add-t11
 add-t11 c = search needs
 
 apply-set-requires : tie.Need-apply-set-requires
-apply-set-requires c κs = up-applies (c .before .before .before .before .before .before .pre .2 .limited) _ _ (omega arith) (omega arith)
+apply-set-requires c κs = up-applies (else1 (c .before) .before .before .before .pre .2 .limited) _ _ (omega arith) (omega arith)
 
 wrapping-add-u64-requires : tie.Need-wrapping-add-u64-requires
 wrapping-add-u64-requires c κs = search needs

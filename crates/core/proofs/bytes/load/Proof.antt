@@ -23,6 +23,10 @@ tested e = e .before .before
 abbrev emptied : tie.After-open → tie.After-make
 emptied o = o .before .before .before .before
 
+-- further places that the needs look back to
+abbrev after-runs-told : tie.After-t2 → tie.After-runs-told
+after-runs-told c = c .before .before
+
 runs-told-requires : tie.Need-runs-told-requires
 runs-told-requires c κs = search needs
 
@@ -42,9 +46,9 @@ returns : tie.Need-returns
 returns c =
     let q = c .before in
     let t = telling q in
-    let a = told-accepted _ _ (t .before .before .runs-told .ensures) (t .t2 .given .1) in
-    let m = told-many ((start t) .args .bytes .now) (t .before .before .before .shared-slice-known .given) a in
-    over-full (load-says _ _) ((start t) .pre) _ (a .free) (λ x h. ap (λ rs. mem rs x) (accepted-runs _ a))
+    let a = told-accepted _ _ (after-runs-told t .runs-told .ensures) (t .t2 .given .1) in
+    let m = told-many (start t .args .bytes .now) (after-runs-told t .before .shared-slice-known .given) a in
+    over-full (load-says _ _) (start t .pre) _ (a .free) (λ x h. ap (λ rs. mem rs x) (accepted-runs _ a))
     (omega (arith, m .are, q .allowance .ensures, c .if1 .taken), refl)
 
 make-requires : tie.Need-make-requires
@@ -59,8 +63,8 @@ load-requires c κs =
     let e = emptied o in
     let i = tested e in
     let t = telling (i .before) in
-    let a = told-accepted _ _ (t .before .before .runs-told .ensures) (t .t2 .given .1) in
-    let m = told-many ((start t) .args .bytes .now) (t .before .before .before .shared-slice-known .given) a in
+    let a = told-accepted _ _ (after-runs-told t .runs-told .ensures) (t .t2 .given .1) in
+    let m = told-many (start t .args .bytes .now) (after-runs-told t .before .shared-slice-known .given) a in
     (receive-ready m (i .before .allowance .ensures) (i .if1 .left) (e .make .ensures) (o .«open» .ensures), (omega (arith, a .long), accepted-order _ a))
 
 close-requires : tie.Need-close-requires
@@ -70,8 +74,8 @@ close-requires c κs =
     let e = emptied o in
     let i = tested e in
     let t = telling (i .before) in
-    let a = told-accepted _ _ (t .before .before .runs-told .ensures) (t .t2 .given .1) in
-    let m = told-many ((start t) .args .bytes .now) (t .before .before .before .shared-slice-known .given) a in
+    let a = told-accepted _ _ (after-runs-told t .runs-told .ensures) (t .t2 .given .1) in
+    let m = told-many (start t .args .bytes .now) (after-runs-told t .before .shared-slice-known .given) a in
     (_, _, receive-closing m (i .before .allowance .ensures) (i .if1 .left) (e .make .ensures) (o .«open» .ensures) (l .load .ensures))
 
 returns-2 : tie.Need-returns-2
@@ -91,9 +95,9 @@ returns-3 c =
     let e = emptied o in
     let i = tested e in
     let t = telling (i .before) in
-    let a = told-accepted _ _ (t .before .before .runs-told .ensures) (t .t2 .given .1) in
-    let m = told-many ((start t) .args .bytes .now) (t .before .before .before .shared-slice-known .given) a in
-    overwritten (load-says _ _) ((start t) .pre) _ (a .free) (λ x h. ap (λ rs. mem rs x) (accepted-runs _ a))
+    let a = told-accepted _ _ (after-runs-told t .runs-told .ensures) (t .t2 .given .1) in
+    let m = told-many (start t .args .bytes .now) (after-runs-told t .before .shared-slice-known .given) a in
+    overwritten (load-says _ _) (start t .pre) _ (a .free) (λ x h. ap (λ rs. mem rs x) (accepted-runs _ a))
     (receive-few m (i .before .allowance .ensures) (i .if1 .left) (e .make .ensures) (o .«open» .ensures))
     (receive-settled m (i .before .allowance .ensures) (i .if1 .left) (e .make .ensures) (o .«open» .ensures) (l .load .ensures) (k .close .ensures))
 

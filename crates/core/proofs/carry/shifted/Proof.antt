@@ -14,7 +14,11 @@ wrapping-add-u64-requires : tie.Need-wrapping-add-u64-requires
 wrapping-add-u64-requires c κs = search needs
 
 gathered-requires : tie.Need-gathered-requires
-gathered-requires c κs = search needs
+gathered-requires c κs =
+    let a = c .before in
+    let v = a .before .before in
+    let s = v .before .before .before in
+    (record { left = v .view .ensures .rooted; right = omega (arith, s .fits .distance) }, s .pre .0)
 
 completed-requires : tie.Need-completed-requires
 completed-requires c κs = search needs
@@ -34,8 +38,8 @@ returns c =
 wrapping-sub-u64-requires : tie.Need-wrapping-sub-u64-requires
 wrapping-sub-u64-requires c κs = search needs
 
-sub-t16 : tie.Need-sub-t16
-sub-t16 c = search needs
+sub-top : tie.Need-sub-top
+sub-top c = search needs
 
 gathered-requires-2 : tie.Need-gathered-requires-2
 gathered-requires-2 c κs = search needs
@@ -66,7 +70,7 @@ shifted-spec =
     same-length
     returns
     wrapping-sub-u64-requires
-    sub-t16
+    sub-top
     gathered-requires-2
     completed-requires-2
     same-length-2

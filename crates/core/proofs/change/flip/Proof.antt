@@ -6,6 +6,19 @@ use borrow.Author.Needs.{needs}
 use Rattle.core.proofs.change.flip.Statement.{statement}
 use Rattle.core.proofs.change.flip.Tie as tie
 
+-- the places that the needs look back to
+abbrev start : tie.After-s → tie.Start
+start c = c .before .before .before .before
+
+abbrev after-s : tie.After-open → tie.After-s
+after-s c = c .before .before .before
+
+abbrev after-open : tie.After-allowance → tie.After-open
+after-open c = c .before .before .before
+
+abbrev after-flip : tie.After-slice-known2 → tie.After-flip
+after-flip c = c .before .before
+
 normalize-requires : tie.Need-normalize-requires
 normalize-requires c κs = search needs
 
@@ -16,13 +29,18 @@ enum-known-s : tie.Need-enum-known-s
 enum-known-s c = search needs
 
 open-requires : tie.Need-open-requires
-open-requires c κs = c .before .before .before .before .before .before .pre .sound
+open-requires c κs = start (c .before .before) .pre .sound
 
 allowance-requires : tie.Need-allowance-requires
 allowance-requires c κs = search needs
 
 flip-requires : tie.Need-flip-requires
-flip-requires c κs = (open-editable (c .before .before .before .before .before .before .before .before .before .before .pre) (c .before .before .before .«open» .ensures) (c .allowance .ensures), (span-some (c .before .before .before .before .before .before .before .before .before .before .args .lower) (c .before .before .before .before .before .before .before .before .before .before .args .upper) _ (c .before .before .before .before .before .before .before .before .normalize .ensures) (c .before .before .before .before .before .before .s .given .1)) .order)
+flip-requires c κs =
+    let s = after-s (after-open c) in
+    let st = start s in (
+      open-editable (st .pre) (after-open c .«open» .ensures) (c .allowance .ensures),
+      (span-some (st .args .lower) (st .args .upper) _ (s .before .before .normalize .ensures) (s .s .given .1)) .order,
+    )
 
 enum-told-2 : tie.Need-enum-told-2
 enum-told-2 c = search needs
@@ -31,22 +49,43 @@ enum-known-e : tie.Need-enum-known-e
 enum-known-e c = search needs
 
 close-requires : tie.Need-close-requires
-close-requires c κs = (_, _, fit-closing (c .before .before .before .before .before .before .before .before .before .before .before .before .before .before .before .before .before .pre) (c .before .before .before .before .before .before .before .before .before .before .«open» .ensures) (c .before .before .before .before .before .before .before .allowance .ensures) _ (c .before .before .before .before .before .before .flip .ensures) (c .before .before .e .given .1))
+close-requires c κs =
+    let f = after-flip (c .before .before .before .before) in
+    let o = after-open (f .before) in
+    (_, _, fit-closing (start (after-s o) .pre) (o .«open» .ensures) (f .before .allowance .ensures) _ (f .flip .ensures) (c .before .before .e .given .1))
 
 returns : tie.Need-returns
-returns c = left-so (flip-says _ _ _) refl (c .before .before .before .before .pre) (flip-none _ _ _ (span-none (c .before .before .before .before .args .lower) (c .before .before .before .before .args .upper) _ (c .before .before .normalize .ensures) (c .enum-told .given .1))) refl
+returns c =
+    let s = c .before .before .before .before in
+    left-so (flip-says _ _ _) refl (s .pre) (flip-none _ _ _ (span-none (s .args .lower) (s .args .upper) _ (c .before .before .normalize .ensures) (c .enum-told .given .1))) refl
 
 same-length : tie.Need-same-length
 same-length c = search needs
 
 returns-2 : tie.Need-returns-2
-returns-2 c = fit-full (flip-says _ _ _) refl (c .before .before .before .before .before .before .before .before .before .before .before .before .before .before .before .pre) (c .before .before .before .before .before .before .before .before .«open» .ensures) (flip-within (span-some (c .before .before .before .before .before .before .before .before .before .before .before .before .before .before .before .args .lower) (c .before .before .before .before .before .before .before .before .before .before .before .before .before .before .before .args .upper) _ (c .before .before .before .before .before .before .before .before .before .before .before .before .before .normalize .ensures) (c .before .before .before .before .before .before .before .before .before .before .before .s .given .1)) (c .before .before .before .before .before .before .before .before .«open» .ensures)) (c .before .before .before .before .before .allowance .ensures) _ (c .before .before .before .before .flip .ensures) (c .enum-told2 .given .1)
+returns-2 c =
+    let f = after-flip (c .before .before) in
+    let o = after-open (f .before) in
+    let s = after-s o in
+    let st = start s in
+    fit-full (flip-says _ _ _) refl (st .pre) (o .«open» .ensures)
+    (flip-within (span-some (st .args .lower) (st .args .upper) _ (s .before .before .normalize .ensures) (s .s .given .1)) (o .«open» .ensures))
+    (f .before .allowance .ensures) _ (f .flip .ensures) (c .enum-told2 .given .1)
 
 same-length-2 : tie.Need-same-length-2
 same-length-2 c = search needs
 
 returns-3 : tie.Need-returns-3
-returns-3 c = fit-done (flip-says _ _ _) refl (c .before .before .before .before .before .before .before .before .before .before .before .before .before .before .before .before .before .before .before .before .pre) (c .before .before .before .before .before .before .before .before .before .before .before .before .before .«open» .ensures) (flip-within (span-some (c .before .before .before .before .before .before .before .before .before .before .before .before .before .before .before .before .before .before .before .before .args .lower) (c .before .before .before .before .before .before .before .before .before .before .before .before .before .before .before .before .before .before .before .before .args .upper) _ (c .before .before .before .before .before .before .before .before .before .before .before .before .before .before .before .before .before .before .normalize .ensures) (c .before .before .before .before .before .before .before .before .before .before .before .before .before .before .before .before .s .given .1)) (c .before .before .before .before .before .before .before .before .before .before .before .before .before .«open» .ensures)) (c .before .before .before .before .before .before .before .before .before .before .allowance .ensures) _ (c .before .before .before .before .before .before .before .before .before .flip .ensures) (c .before .before .before .before .before .e .given .1) (c .before .before .close .ensures) refl
+returns-3 c =
+    let cl = c .before .before in
+    let e = cl .before .before .before in
+    let f = after-flip (e .before .before) in
+    let o = after-open (f .before) in
+    let s = after-s o in
+    let st = start s in
+    fit-done (flip-says _ _ _) refl (st .pre) (o .«open» .ensures)
+    (flip-within (span-some (st .args .lower) (st .args .upper) _ (s .before .before .normalize .ensures) (s .s .given .1)) (o .«open» .ensures))
+    (f .before .allowance .ensures) _ (f .flip .ensures) (e .e .given .1) (cl .close .ensures) refl
 
 pub flip-spec : {M : Type 1} → statement M
 flip-spec =

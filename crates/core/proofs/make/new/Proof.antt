@@ -11,7 +11,9 @@ same-length : tie.Need-same-length
 same-length c = search needs
 
 returns : tie.Need-returns
-returns c = make-done _ _ (c .before .before .before .before .before .pre) (c .before .before .make .ensures)
+returns c =
+    let m = c .before .before in
+    make-done _ _ (m .before .before .before .pre) (m .make .ensures)
 
 pub new-spec : {M : Type 1} → statement M
 new-spec = tie.close (tie.spec make-requires same-length returns)

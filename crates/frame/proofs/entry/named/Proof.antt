@@ -59,19 +59,24 @@ returns-13 c = sym (ap kindOf (c .if13 .taken))
 
 returns-14 : tie.Need-returns-14
 returns-14 c =
+    let e₁₁ = c .before .before in
+    let e₉ = e₁₁ .before .before in
+    let e₇ = e₉ .before .before in
+    let e₅ = e₇ .before .before in
+    let e₃ = e₅ .before .before in
     other
-    (c .before .before .before .before .before .before .before .before .before .before .before .before .before .args .n)
-    (c .before .before .before .before .before .before .before .before .before .before .before .before .if1 .left)
-    (c .before .before .before .before .before .before .before .before .before .before .before .if2 .left)
-    (c .before .before .before .before .before .before .before .before .before .before .if3 .left)
-    (c .before .before .before .before .before .before .before .before .before .if4 .left)
-    (c .before .before .before .before .before .before .before .before .if5 .left)
-    (c .before .before .before .before .before .before .before .if6 .left)
-    (c .before .before .before .before .before .before .if7 .left)
-    (c .before .before .before .before .before .if8 .left)
-    (c .before .before .before .before .if9 .left)
-    (c .before .before .before .if10 .left)
-    (c .before .before .if11 .left)
+    (e₃ .before .before .before .args .n)
+    (e₃ .before .before .if1 .left)
+    (e₃ .before .if2 .left)
+    (e₃ .if3 .left)
+    (e₅ .before .if4 .left)
+    (e₅ .if5 .left)
+    (e₇ .before .if6 .left)
+    (e₇ .if7 .left)
+    (e₉ .before .if8 .left)
+    (e₉ .if9 .left)
+    (e₁₁ .before .if10 .left)
+    (e₁₁ .if11 .left)
     (c .before .if12 .left)
     (c .if13 .left)
 

@@ -7,22 +7,26 @@ use borrow.Author.Needs.{needs}
 use Rattle.interval_bit_set.proofs.look.look_at.Statement.{statement}
 use Rattle.interval_bit_set.proofs.look.look_at.Tie as tie
 
+-- the places that the needs look back to
+abbrev start : tie.After-struct-known → tie.Start
+start c = c .before .before .before
+
 of-length-requires : tie.Need-of-length-requires
 of-length-requires c κs = search needs
 
 returns : tie.Need-returns
-returns c = looked-short (c .before .before .before .before .args .words .now) (sym (c .before .before .of-length .ensures) ∙ c .if1 .taken)
+returns c = looked-short (start (c .before) .args .words .now) (sym (c .before .before .of-length .ensures) ∙ c .if1 .taken)
 
 is-sound-requires : tie.Need-is-sound-requires
 is-sound-requires c κs = search needs
 
 returns-2 : tie.Need-returns-2
 returns-2 c =
-    readable (c .before .before .before .before .before .before .args .words .now) (search needs) (sym (c .before .is-sound .ensures) ∙ c .if2 .taken)
+    readable (start (c .before .before .before) .args .words .now) (search needs) (sym (c .before .is-sound .ensures) ∙ c .if2 .taken)
 
 returns-3 : tie.Need-returns-3
 returns-3 c =
-    looked-unsound (c .before .before .before .before .before .before .args .words .now) (search needs) (sym (c .before .is-sound .ensures) ∙ c .if2 .left)
+    looked-unsound (start (c .before .before .before) .args .words .now) (search needs) (sym (c .before .is-sound .ensures) ∙ c .if2 .left)
 
 pub look-at-spec : {M : Type 1} → statement M
 look-at-spec =

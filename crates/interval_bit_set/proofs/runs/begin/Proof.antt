@@ -23,6 +23,10 @@ untouched w a head r e = subst (λ c. BegunFrom w w c head) (sym e) refl
 begun : (w w′ : List ℕ) (a : Verdict) (x : Links) → a .answer ≡ Completed.Done → Begun w w′ x → BegunIf w w′ a (x .free)
 begun w w′ a x e b = subst (λ c. BegunFrom w w′ c (x .free)) (sym e) (subst (Begun w w′) (b .1 .is) b)
 
+-- the places that the needs look back to
+abbrev start : tie.After-enum-told2 → tie.Start
+start c = c .before .before .before
+
 enum-told : tie.Need-enum-told
 enum-told c = search needs
 
@@ -30,7 +34,9 @@ enum-told-2 : tie.Need-enum-told-2
 enum-told-2 c = search needs
 
 begin-requires : tie.Need-begin-requires
-begin-requires c κs = sized (c .before .before .before .before .args .words .now) (c .before .before .before .before .args .a) (c .before .before .before .before .pre) (c .before .enum-told2 .given .1)
+begin-requires c κs =
+    let s = start (c .before) in
+    sized (s .args .words .now) (s .args .a) (s .pre) (c .before .enum-told2 .given .1)
 
 returns : tie.Need-returns
 returns c = untouched (c .before .before .before .args .words .now) (c .before .before .before .args .a) 0 _ (c .enum-told .given .1)
@@ -39,7 +45,10 @@ same-length : tie.Need-same-length
 same-length c = search needs
 
 returns-2 : tie.Need-returns-2
-returns-2 c = begun (c .before .before .before .before .before .before .before .args .words .now) _ (c .before .before .before .before .before .before .before .args .a) _ (c .before .before .before .before .enum-told2 .given .1) (c .before .before .begin .ensures)
+returns-2 c =
+    let b = c .before .before in
+    let s = start (b .before .before) in
+    begun (s .args .words .now) _ (s .args .a) _ (b .before .before .enum-told2 .given .1) (b .begin .ensures)
 
 pub begin-spec : {M : Type 1} → statement M
 begin-spec =

@@ -242,7 +242,8 @@ module _ {M : Type 1} (𝓤 : URA M) (H : Heap 𝓤) (A : Atoms 𝓤) (W : Given
   exits : (r : Completed) (u : Val) (ws : List ℕ) → Met outs (Call.build ys) (completedAnswer r) ws → length ws ≡ m
       → ent 𝓤 (⋆ 𝓤 H A ((‵ (flft κ q) ⊛ ‵ ftrue) ∷ ‵ (flft κ′ q′) ∷ ‵ Own ∷ ‵ (finally u64 γ ws) ∷ ‵ (E.the-row .own r (u ∷ [])) ∷ [])) (Post u)
   exits r u ws e len =
-      qed W ((‵ (flft κ q) ⊛ ‵ ftrue) ∷ ‵ (flft κ′ q′) ∷ ‵ Own ∷ ‵ (finally u64 γ ws) ∷ ‵ (E.the-row .own r (u ∷ [])) ∷ []) ∵ suffices ! _ (ends-at 𝓤 H A f.ended stayed (f.clauses 𝓤 H A at-mem run) W bound u r (ws, (tt, tt)) (len, (tt, tt))) $
+      qed W ((‵ (flft κ q) ⊛ ‵ ftrue) ∷ ‵ (flft κ′ q′) ∷ ‵ Own ∷ ‵ (finally u64 γ ws) ∷ ‵ (E.the-row .own r (u ∷ [])) ∷ []) ∵ suffices ! _
+      (ends-at 𝓤 H A f.ended stayed (f.clauses 𝓤 H A at-mem run) W bound u r (ws, (tt, tt)) (len, (tt, tt))) $
       says ! e $ split ! $ move ! (2 ∷ 1 ∷ []) $ join ! $ move ! (1 ∷ 0 ∷ []) $ join ! $ frame ! $ nothing ! $ move ! (1 ∷ 0 ∷ []) $ fjoin ! $ move ! (1 ∷ 0 ∷ []) $ fjoin ! $ frame ! $ done !
 
   module _ (C : Calls 𝓤 H) (Λ : Loops 𝓤 H) (fm : FmC 𝓤 H (W .laws) C) (known-order : Triple 𝓤 (C #runs·in-order) (Ordering 𝓤 H A at-mem run)) (known-admit : Triple 𝓤 (C #runs·admitted) (Admission 𝓤 H A at-mem run))
@@ -250,7 +251,8 @@ module _ {M : Type 1} (𝓤 : URA M) (H : Heap 𝓤) (A : Atoms 𝓤) (W : Given
     walk : ent 𝓤 (onEntry 𝓤 H A f.signature (κ, (κ′, tt)) (q, (q′, tt)) a vals) (WpFn 𝓤 H C Λ code.function (w ∷ v ∷ []) Post)
     walk =
         qed W ((‵ (flft κ q) ⊛ ‵ (flft κ′ q′) ⊛ ‵ ftrue) ∷ ‵ (owns (MutSlice (named 0) κ u64 ∷ ShrSlice (named 1) κ′ T.the-row ∷ []) a vals) ∷ []) ∵ enter ! C Λ code.function (w ∷ v ∷ []) _ $
-        alloc1 ! (λ l₀. alloc1 ! (λ l₁. alloc1 ! (λ l₂. alloc1 ! (λ l₃. alloc1 ! (λ l₄. alloc1 ! (λ l₅. alloc1 ! (λ l₆. alloc1 ! (λ l₇. alloc1 ! (λ l₈. alloc1 ! (λ l₉. alloc1 ! (λ l₁₀. alloc1 ! (λ l₁₁. alloc1 ! (λ l₁₂. alloc1 ! (λ l₁₃. alloc1 ! (λ l₁₄. alloc0 ! $ params1 ! $
+        alloc1 ! (λ l₀. alloc1 ! (λ l₁. alloc1 ! (λ l₂. alloc1 ! (λ l₃. alloc1 ! (λ l₄. alloc1 ! (λ l₅. alloc1 ! (λ l₆. alloc1 ! (λ l₇.
+        alloc1 ! (λ l₈. alloc1 ! (λ l₉. alloc1 ! (λ l₁₀. alloc1 ! (λ l₁₁. alloc1 ! (λ l₁₂. alloc1 ! (λ l₁₃. alloc1 ! (λ l₁₄. alloc0 ! $ params1 ! $
         pass1 ! (init ! 26 refl (tt, (tt, (record { fits = m-fits }, tt)))) $ pass1 ! (init ! 24 refl (shr-slice-lawful 𝓤 H A W (named 1) κ′ T.the-row .typed s (v ∷ []) p .0)) $ pass0 ! $
         assigns ! (of-opd ! (load ! (from ! (fld ! refl (stop !))) (look-in ! 24 (sub ! 1 refl (whole !))))) (from ! (stop !)) (init ! 22 refl (tt, record { fits = n-fits })) $
         -- of what the runs own one copy goes to `in_order`, one to `put_runs`, and one is kept for the exit
@@ -264,26 +266,36 @@ module _ {M : Type 1} (𝓤 : URA M) (H : Heap 𝓤) (A : Atoms 𝓤) (W : Given
         use1 W (later (some (λ (st : Order). ((‵ (flft κ′ q′) ⊛ ‵ ftrue) ⊛ ‵ (S.the-row .own st (u₁ ∷ []))) ⊛ raw (ensured 𝓤 H A tst.ended (tst.clauses 𝓤 H A at-mem run) (κ′, tt) (s, tt) tt st)))) (id⊢ 𝓤 _) $ await ! tt $ pick ! (λ st.
         split ! $ move ! (1 ∷ []) $ use1 W (raw (fact 𝓤 (InOrder ys st))) (order-said st) $ heard ! (InOrder ys st) (λ seen. split ! $ move ! (1 ∷ []) $
         peeks ! S.the-row (Is S.the-row) (shows 𝓤 H A S.the-row) st (u₁ ∷ []) (λ is₁.
-        land ! (from ! (stop !)) (init ! 26 refl (LL.lawful S.the-type S′.the-laws 𝓤 H A W .typed st _ is₁ .0)) $ rewrite ! 26 (λ (z : Val). ‵ (fat fullShare S′.mir l₄ 0 z)) (ap only (LL.tells S.the-type S′.the-laws st (u₁ ∷ []) is₁)) refl $ drop ! $ split ! $
+        land ! (from ! (stop !)) (init ! 26 refl (LL.lawful S.the-type S′.the-laws 𝓤 H A W .typed st _ is₁ .0)) $
+        rewrite ! 26 (λ (z : Val). ‵ (fat fullShare S′.mir l₄ 0 z)) (ap only (LL.tells S.the-type S′.the-laws st (u₁ ∷ []) is₁)) refl $ drop ! $
+        split ! $
         -- [the runs' token; true; the words' token; Words; Own; Own; _14; …]
         assigns ! (of-opd ! (load ! (from ! (fld ! refl (stop !))) (look-in ! 32 (sub ! 1 refl (whole !))))) (from ! (stop !)) (init ! 20 refl (tt, record { fits = m-fits })) $
         nothing ! $ owned ! S.the-row (Is S.the-row) (LL.makes S.the-type S′.the-plain 𝓤 H A) st _ (subst (Is S.the-row st) (LL.tells S.the-type S′.the-laws st (u₁ ∷ []) is₁) is₁) $ fjoin ! $
         owned ! usize (Is usize) (uint-makes 𝓤 H A W w64) n _ (refl, n-fits) $ fjoin ! $ owned ! usize (Is usize) (uint-makes 𝓤 H A W w64) m _ (refl, m-fits) $ fjoin ! $ nothing ! $
         use2 W (raw (Admission 𝓤 H A at-mem run .pre (to-admit st))) (goes-admit st) $
-        calls-at ! fm (Admission 𝓤 H A at-mem run) known-admit (to-admit st) (and-then ! (load ! (from ! (stop !)) (look ! 21 refl)) (and-then ! (load ! (from ! (stop !)) (look ! 29 refl)) (and-then ! (load ! (from ! (stop !)) (look ! 27 refl)) (no-more !)))) (λ u₂.
+        calls-at ! fm (Admission 𝓤 H A at-mem run) known-admit (to-admit st)
+        (and-then ! (load ! (from ! (stop !)) (look ! 21 refl))
+        (and-then ! (load ! (from ! (stop !)) (look ! 29 refl)) (and-then ! (load ! (from ! (stop !)) (look ! 27 refl)) (no-more !)))) (λ u₂.
         use1 W (later (some (λ (t : Verdict). (‵ ftrue ⊛ ‵ (D.the-row .own t (u₂ ∷ []))) ⊛ raw (ensured 𝓤 H A adm.ended (adm.clauses 𝓤 H A at-mem run) tt (adm-args st) tt t)))) (id⊢ 𝓤 _) $ await ! tt $ pick ! (λ t.
         split ! $ move ! (1 ∷ []) $ use1 W (raw (fact 𝓤 (Admits (capacityOf m) n st t))) (admit-said st t) $ heard ! (Admits (capacityOf m) n st t) (λ rules. split ! $ drop ! $
         peeks ! D.the-row (Is D.the-row) (shows 𝓤 H A D.the-row) t (u₂ ∷ []) (λ is₂.
-        land ! (from ! (stop !)) (init ! 25 refl (LL.lawful D.the-type D′.the-laws 𝓤 H A W .typed t _ is₂ .0)) $ rewrite ! 25 (λ (z : Val). ‵ (fat fullShare D′.mir l₅ 0 z)) (ap only (LL.tells D.the-type D′.the-laws t (u₂ ∷ []) is₂)) refl $ drop ! $
+        land ! (from ! (stop !)) (init ! 25 refl (LL.lawful D.the-type D′.the-laws 𝓤 H A W .typed t _ is₂ .0)) $
+        rewrite ! 25 (λ (z : Val). ‵ (fat fullShare D′.mir l₅ 0 z)) (ap only (LL.tells D.the-type D′.the-laws t (u₂ ∷ []) is₂)) refl $ drop ! $
         -- the words are lent again, for a lifetime ν of the call of `begin`
         assigns ! (addr ! (from ! (fld ! refl (hop ! (look-in ! 32 (sub ! 0 refl (whole !))) (stop !))))) (from ! (stop !)) (init ! 18 refl (tt, tt)) $
-        assigns ! (agg ! (and-then ! (load ! (from ! (stop !)) (look ! 18 refl)) (and-then ! (load ! (from ! (fld ! refl (stop !))) (look-in ! 32 (sub ! 1 refl (whole !)))) (no-more !)))) (from ! (stop !)) (init ! 16 refl (tt, (tt, (record { fits = m-fits }, tt)))) $
+        assigns ! (agg ! (and-then ! (load ! (from ! (stop !)) (look ! 18 refl)) (and-then ! (load ! (from ! (fld ! refl (stop !))) (look-in ! 32
+        (sub ! 1 refl (whole !)))) (no-more !)))) (from ! (stop !)) (init ! 16 refl (tt, (tt, (record { fits = m-fits }, tt)))) $
         lft-new ! tt (λ ν. move ! (4 ∷ 3 ∷ []) $
-        use2 W (later (some (λ (δ : GName). ‵ (MutSlice (named 0) (ν ∷ []) u64 .own (x δ outs) (w ∷ [])) ⊛ ‵ (LentAgain u64 κ (ν ∷ []) q γ b o δ outs)))) (lends-again u64 κ (ν ∷ []) q γ b o 𝓤 H A W (named 0) (named 0) outs) $ await ! tt $ pick ! (λ δ. split ! $
+        use2 W
+        (later (some (λ (δ : GName). ‵ (MutSlice (named 0) (ν ∷ []) u64 .own (x δ outs) (w ∷ [])) ⊛ ‵ (LentAgain u64 κ (ν ∷ []) q γ b o δ outs))))
+        (lends-again u64 κ (ν ∷ []) q γ b o 𝓤 H A W (named 0) (named 0) outs) $ await ! tt $ pick ! (λ δ. split ! $
         -- [the words lent again; what is kept of them; ν's token; the runs' token; true; Own; Own; _14; …]
         move ! (2 ∷ 0 ∷ []) $ use2 W (raw (Begin 𝓤 H A at-mem run .pre (to-begin ν δ t))) (goes-begin ν δ t (subst (Is D.the-row t) (LL.tells D.the-type D′.the-laws t (u₂ ∷ []) is₂) is₂) (admitted-beginning outs seen t rules)) $
         calls-at ! fm (Begin 𝓤 H A at-mem run) known-begin (to-begin ν δ t) (and-then ! (load ! (from ! (stop !)) (look ! 16 refl)) (and-then ! (load ! (from ! (stop !)) (look ! 24 refl)) (no-more !))) (λ u₃.
-        use1 W (later (some (λ (c : ℕ). ((‵ (flft (ν ∷ []) fullShare) ⊛ ‵ ftrue) ⊛ ‵ (u64 .own c (u₃ ∷ []))) ⊛ raw (ensured 𝓤 H A bgn.ended (bgn.clauses 𝓤 H A at-mem run) (ν ∷ [], tt) (bgn-args δ t) tt c)))) (id⊢ 𝓤 _) $ await ! tt $ pick ! (λ c.
+        use1 W
+        (later (some (λ (c : ℕ). ((‵ (flft (ν ∷ []) fullShare) ⊛ ‵ ftrue) ⊛ ‵ (u64 .own c (u₃ ∷ []))) ⊛ raw (ensured 𝓤 H A bgn.ended
+        (bgn.clauses 𝓤 H A at-mem run) (ν ∷ [], tt) (bgn-args δ t) tt c)))) (id⊢ 𝓤 _) $ await ! tt $ pick ! (λ c.
         split ! $ move ! (1 ∷ []) $ use1 W (some (λ (ms : List ℕ × (Unit {0} × Unit {0})). ‵ (lasts bgn.ended (ν ∷ [], tt) (bgn-args δ t) ms) ⊛ raw (fact 𝓤 (BegunIf outs (ms .0) t c)))) (id⊢ 𝓤 _) $ pick ! (λ ms.
         split ! $ move ! (1 ∷ []) $ heard ! (BegunIf outs (ms .0) t c) (λ begun. fsplit ! $ fsplit ! $ move ! (1 ∷ []) $ feqL ! (λ same.
         move ! (2 ∷ []) $ split ! $ move ! (1 ∷ []) $ peeks ! u64 (Is u64) (shows 𝓤 H A u64) c (u₃ ∷ []) (λ is₃.
@@ -295,48 +307,80 @@ module _ {M : Type 1} (𝓤 : URA M) (H : Heap 𝓤) (A : Atoms 𝓤) (W : Given
         keep ! (5 ∷ 6 ∷ 1 ∷ 0 ∷ 7 ∷ 8 ∷ 9 ∷ 10 ∷ 11 ∷ 12 ∷ 13 ∷ 14 ∷ 15 ∷ 16 ∷ 17 ∷ 18 ∷ 19 ∷ 20 ∷ 21 ∷ 22 ∷ 23 ∷ 24 ∷ 25 ∷ 26 ∷ 27 ∷ 28 ∷ 29 ∷ 30 ∷ 31 ∷ 32 ∷ 33 ∷ 34 ∷ 35 ∷ 36 ∷ 37 ∷ 38 ∷ []) $
         -- [the runs' token; true; the words' token; Words; Own; Own; _14; …]
         assigns ! (addr ! (from ! (fld ! refl (hop ! (look-in ! 32 (sub ! 0 refl (whole !))) (stop !))))) (from ! (stop !)) (init ! 12 refl (tt, tt)) $
-        assigns ! (agg ! (and-then ! (load ! (from ! (stop !)) (look ! 12 refl)) (and-then ! (load ! (from ! (fld ! refl (stop !))) (look-in ! 32 (sub ! 1 refl (whole !)))) (no-more !)))) (from ! (stop !)) (init ! 10 refl (tt, (tt, (record { fits = m-fits }, tt)))) $
+        assigns ! (agg ! (and-then ! (load ! (from ! (stop !)) (look ! 12 refl)) (and-then ! (load ! (from ! (fld ! refl (stop !))) (look-in ! 32
+        (sub ! 1 refl (whole !)))) (no-more !)))) (from ! (stop !)) (init ! 10 refl (tt, (tt, (record { fits = m-fits }, tt)))) $
         -- they are lent again, for a lifetime ν′ of the call of `put_runs`
         lft-new ! tt (λ ν′. move ! (4 ∷ 3 ∷ []) $ rewrite ! 0 (λ (k : ℕ). ‵ (MutSlice (named 0) κ u64 .own (x γ (ms .0)) (sliceVal (b, o) k ∷ []))) (sym same) refl $
-        use2 W (later (some (λ (δ′ : GName). ‵ (MutSlice (named 1) (ν′ ∷ []) u64 .own (x δ′ (ms .0)) (sliceVal (b, o) (length (ms .0)) ∷ [])) ⊛ ‵ (LentAgain u64 κ (ν′ ∷ []) q γ b o δ′ (ms .0))))) (lends-again u64 κ (ν′ ∷ []) q γ b o 𝓤 H A W (named 0) (named 1) (ms .0)) $ await ! tt $ pick ! (λ δ′. split ! $
+        use2 W
+        (later (some (λ (δ′ : GName). ‵ (MutSlice (named 1) (ν′ ∷ []) u64 .own (x δ′ (ms .0)) (sliceVal (b, o) (length
+        (ms .0)) ∷ [])) ⊛ ‵ (LentAgain u64 κ (ν′ ∷ []) q γ b o δ′ (ms .0)))))
+        (lends-again u64 κ (ν′ ∷ []) q γ b o 𝓤 H A W (named 0) (named 1) (ms .0)) $ await ! tt $ pick ! (λ δ′. split ! $
         rewrite ! 0 (λ (k : ℕ). ‵ (MutSlice (named 1) (ν′ ∷ []) u64 .own (x δ′ (ms .0)) (sliceVal (b, o) k ∷ []))) same refl $
         -- [the words lent again; what is kept of them; ν′'s token; the runs' token; true; Own; Own; _14; …]
-        move ! (3 ∷ 2 ∷ []) $ join ! $ move ! (0 ∷ 4 ∷ 1 ∷ []) $ use3 W (raw (Writing 𝓤 H A at-mem run .pre (to-put ν′ δ′ (ms .0) c (t .runs)))) (goes-put ν′ δ′ (ms .0) c (t .runs) (is₃ .1) (runs-fit t u₂ is₂) (admitted-putting outs seen t rules begun)) $
+        move ! (3 ∷ 2 ∷ []) $ join ! $ move ! (0 ∷ 4 ∷ 1 ∷ []) $
+        use3 W (raw (Writing 𝓤 H A at-mem run .pre (to-put ν′ δ′ (ms .0) c (t .runs))))
+        (goes-put ν′ δ′ (ms .0) c (t .runs) (is₃ .1) (runs-fit t u₂ is₂) (admitted-putting outs seen t rules begun)) $
         calls-at ! fm (Writing 𝓤 H A at-mem run) known-put (to-put ν′ δ′ (ms .0) c (t .runs))
-        (and-then ! (load ! (from ! (stop !)) (look ! 28 refl)) (and-then ! (load ! (from ! (stop !)) (look ! 8 refl)) (and-then ! (load ! (from ! (stop !)) (look ! 20 refl)) (and-then ! (load ! (from ! (fld ! refl (stop !))) (look-in ! 22 (sub ! 1 refl (whole !)))) (no-more !))))) (λ u₄.
-        use1 W (later (some (λ (d : Unit {0}). ((‵ (flft κ′ q′) ⊛ ‵ (flft (ν′ ∷ []) fullShare) ⊛ ‵ ftrue) ⊛ ‵ (unit .own d (u₄ ∷ []))) ⊛ raw (ensured 𝓤 H A put.ended (put.clauses 𝓤 H A at-mem run) (κ′, (ν′ ∷ [], tt)) (put-args δ′ (ms .0) c (t .runs)) tt d)))) (id⊢ 𝓤 _) $ await ! tt $ pick ! (λ d.
-        split ! $ move ! (1 ∷ []) $ use1 W (some (λ (zs : Unit {0} × (List ℕ × (Unit {0} × (Unit {0} × Unit {0})))). ‵ (lasts put.ended (κ′, (ν′ ∷ [], tt)) (put-args δ′ (ms .0) c (t .runs)) zs) ⊛ raw (fact 𝓤 (Put (ms .0) (zs .1 .0) c ys (t .runs))))) (id⊢ 𝓤 _) $ pick ! (λ zs.
+        (and-then ! (load ! (from ! (stop !)) (look ! 28 refl))
+        (and-then ! (load ! (from ! (stop !)) (look ! 8 refl)) (and-then ! (load ! (from ! (stop !)) (look ! 20 refl))
+        (and-then ! (load ! (from ! (fld ! refl (stop !))) (look-in ! 22 (sub ! 1 refl (whole !)))) (no-more !))))) (λ u₄.
+        use1 W
+        (later (some (λ (d : Unit {0}). ((‵ (flft κ′ q′) ⊛ ‵ (flft (ν′ ∷ []) fullShare) ⊛ ‵ ftrue) ⊛ ‵ (unit .own d (u₄ ∷ []))) ⊛ raw
+        (ensured 𝓤 H A put.ended (put.clauses 𝓤 H A at-mem run) (κ′, (ν′ ∷ [], tt)) (put-args δ′ (ms .0) c (t .runs)) tt d)))) (id⊢ 𝓤 _) $
+        await ! tt $ pick ! (λ d.
+        split ! $ move ! (1 ∷ []) $
+        use1 W
+        (some (λ (zs : Unit {0} × (List ℕ × (Unit {0} × (Unit {0} × Unit {0})))). ‵ (lasts put.ended (κ′, (ν′ ∷ [], tt)) (put-args δ′ (ms .0) c
+        (t .runs)) zs) ⊛ raw (fact 𝓤 (Put (ms .0) (zs .1 .0) c ys (t .runs))))) (id⊢ 𝓤 _) $ pick ! (λ zs.
         split ! $ move ! (1 ∷ []) $ heard ! (Put (ms .0) (zs .1 .0) c ys (t .runs)) (λ written. fsplit ! $ move ! (1 ∷ []) $ fsplit ! $ fsplit ! $ move ! (1 ∷ []) $ feqL ! (λ len.
         move ! (3 ∷ []) $ split ! $ move ! (1 ∷ []) $ peeks ! unit (Is unit) (shows 𝓤 H A unit) d (u₄ ∷ []) (λ is₄.
         land ! (from ! (stop !)) (init ! 16 refl (nothing-lawful 𝓤 H A W .typed d _ is₄ .0)) $
         -- the lifetime is ended, and the words come back at the list that `put_runs` left
         move ! (1 ∷ []) $ split ! $ move ! (1 ∷ []) $ split ! $ lft-end ! tt $ move ! (0 ∷ 7 ∷ 4 ∷ []) $
-        use3 W (later (‵ (MutSlice (named 0) κ u64 .own (x γ (zs .1 .0)) (sliceVal (b, o) (length (ms .0)) ∷ [])) ⊛ ‵ (flft κ q))) (comes-back u64 κ (ν′ ∷ []) q γ b o 𝓤 H A W (named 0) (named 1) (ms .0) δ′ (zs .1 .0) (subst (Room u64) (sym same) room) len) $ await ! tt $ split ! $
+        use3 W (later (‵ (MutSlice (named 0) κ u64 .own (x γ (zs .1 .0)) (sliceVal (b, o) (length (ms .0)) ∷ [])) ⊛ ‵ (flft κ q)))
+        (comes-back u64 κ (ν′ ∷ []) q γ b o 𝓤 H A W (named 0) (named 1) (ms .0) δ′ (zs .1 .0) (subst (Room u64) (sym same) room) len) $ await ! tt $
+        split ! $
         rewrite ! 0 (λ (k : ℕ). ‵ (MutSlice (named 0) κ u64 .own (x γ (zs .1 .0)) (sliceVal (b, o) k ∷ []))) same refl $
         -- [Words; their token; true; the runs' token; what `()` owns; true ×3; Own; _14; …; _0; …]
         assigns ! (addr ! (from ! (fld ! refl (hop ! (look-in ! 35 (sub ! 0 refl (whole !))) (stop !))))) (from ! (stop !)) (init ! 11 refl (tt, tt)) $
-        assigns ! (agg ! (and-then ! (load ! (from ! (stop !)) (look ! 11 refl)) (and-then ! (load ! (from ! (fld ! refl (stop !))) (look-in ! 35 (sub ! 1 refl (whole !)))) (no-more !)))) (from ! (stop !)) (init ! 9 refl (tt, (tt, (record { fits = m-fits }, tt)))) $
-        move ! (1 ∷ 0 ∷ []) $ use2 W (raw (Finish 𝓤 H A at-mem run .pre (to-finish (zs .1 .0) c t))) (goes-finish (zs .1 .0) c t (is₃ .1) (subst (Is D.the-row t) (LL.tells D.the-type D′.the-laws t (u₂ ∷ []) is₂) is₂) (admitted-finishing outs seen t rules begun written)) $
-        calls-at ! fm (Finish 𝓤 H A at-mem run) known-finish (to-finish (zs .1 .0) c t) (and-then ! (load ! (from ! (stop !)) (look ! 8 refl)) (and-then ! (load ! (from ! (stop !)) (look ! 24 refl)) (and-then ! (load ! (from ! (stop !)) (look ! 26 refl)) (no-more !)))) (λ u₅.
-        use1 W (later (some (λ (r : Completed). ((‵ (flft κ q) ⊛ ‵ ftrue) ⊛ ‵ (E.the-row .own r (u₅ ∷ []))) ⊛ raw (ensured 𝓤 H A fin.ended (fin.clauses 𝓤 H A at-mem run) (κ, tt) (fin-args (zs .1 .0) c t) tt r)))) (id⊢ 𝓤 _) $ await ! tt $ pick ! (λ r.
+        assigns ! (agg ! (and-then ! (load ! (from ! (stop !)) (look ! 11 refl)) (and-then ! (load ! (from ! (fld ! refl (stop !))) (look-in ! 35
+        (sub ! 1 refl (whole !)))) (no-more !)))) (from ! (stop !)) (init ! 9 refl (tt, (tt, (record { fits = m-fits }, tt)))) $
+        move ! (1 ∷ 0 ∷ []) $
+        use2 W (raw (Finish 𝓤 H A at-mem run .pre (to-finish (zs .1 .0) c t)))
+        (goes-finish (zs .1 .0) c t (is₃ .1) (subst (Is D.the-row t) (LL.tells D.the-type D′.the-laws t (u₂ ∷ []) is₂) is₂)
+        (admitted-finishing outs seen t rules begun written)) $
+        calls-at ! fm (Finish 𝓤 H A at-mem run) known-finish (to-finish (zs .1 .0) c t)
+        (and-then ! (load ! (from ! (stop !)) (look ! 8 refl))
+        (and-then ! (load ! (from ! (stop !)) (look ! 24 refl)) (and-then ! (load ! (from ! (stop !)) (look ! 26 refl)) (no-more !)))) (λ u₅.
+        use1 W
+        (later (some (λ (r : Completed). ((‵ (flft κ q) ⊛ ‵ ftrue) ⊛ ‵ (E.the-row .own r (u₅ ∷ []))) ⊛ raw (ensured 𝓤 H A fin.ended
+        (fin.clauses 𝓤 H A at-mem run) (κ, tt) (fin-args (zs .1 .0) c t) tt r)))) (id⊢ 𝓤 _) $ await ! tt $ pick ! (λ r.
         split ! $ move ! (1 ∷ []) $ use1 W (some (λ (ws : List ℕ × (Unit {0} × (Unit {0} × Unit {0}))). ‵ (lasts fin.ended (κ, tt) (fin-args (zs .1 .0) c t) ws) ⊛ raw (fact 𝓤 (Finished (zs .1 .0) (ws .0) c t r)))) (id⊢ 𝓤 _) $ pick ! (λ ws.
         split ! $ move ! (1 ∷ []) $ heard ! (Finished (zs .1 .0) (ws .0) c t r) (λ finished. fsplit ! $ fsplit ! $ move ! (1 ∷ []) $ feqL ! (λ len′.
         move ! (2 ∷ []) $ split ! $ move ! (1 ∷ []) $ peeks ! E.the-row (Is E.the-row) (shows 𝓤 H A E.the-row) r (u₅ ∷ []) (λ is₅.
         land ! (from ! (stop !)) (init ! 39 refl (EL.lawful E.the-type E′.the-laws 𝓤 H A W tt .typed r _ is₅ .0)) $
-        returns ! (look ! 39 refl) $ forget ! 11 refl $ forget ! 13 refl $ forget ! 15 refl $ forget ! 17 refl $ forget ! 19 refl $ forget ! 21 refl $ forget ! 23 refl $ forget ! 25 refl $ forget ! 27 refl $ forget ! 29 refl $ forget ! 31 refl $ forget ! 33 refl $ forget ! 35 refl $ forget ! 37 refl $ forget ! 39 refl $
-        move ! (39 ∷ 40 ∷ []) $ free1 ! $ move ! (37 ∷ 38 ∷ []) $ free1 ! $ move ! (35 ∷ 36 ∷ []) $ free1 ! $ move ! (33 ∷ 34 ∷ []) $ free1 ! $ move ! (31 ∷ 32 ∷ []) $ free1 ! $ move ! (29 ∷ 30 ∷ []) $ free1 ! $ move ! (27 ∷ 28 ∷ []) $ free1 ! $ move ! (25 ∷ 26 ∷ []) $ free1 ! $ move ! (23 ∷ 24 ∷ []) $ free1 ! $ move ! (21 ∷ 22 ∷ []) $ free1 ! $ move ! (19 ∷ 20 ∷ []) $ free1 ! $ move ! (17 ∷ 18 ∷ []) $ free1 ! $ move ! (15 ∷ 16 ∷ []) $ free1 ! $ move ! (13 ∷ 14 ∷ []) $ free1 ! $ move ! (11 ∷ 12 ∷ []) $ free1 ! $ free0 ! $
+        returns ! (look ! 39 refl) $ forget ! 11 refl $ forget ! 13 refl $ forget ! 15 refl $ forget ! 17 refl $ forget ! 19 refl $ forget ! 21 refl $
+        forget ! 23 refl $ forget ! 25 refl $ forget ! 27 refl $ forget ! 29 refl $ forget ! 31 refl $ forget ! 33 refl $ forget ! 35 refl $
+        forget ! 37 refl $ forget ! 39 refl $
+        move ! (39 ∷ 40 ∷ []) $ free1 ! $ move ! (37 ∷ 38 ∷ []) $ free1 ! $ move ! (35 ∷ 36 ∷ []) $ free1 ! $ move ! (33 ∷ 34 ∷ []) $ free1 ! $
+        move ! (31 ∷ 32 ∷ []) $ free1 ! $ move ! (29 ∷ 30 ∷ []) $ free1 ! $ move ! (27 ∷ 28 ∷ []) $ free1 ! $ move ! (25 ∷ 26 ∷ []) $ free1 ! $
+        move ! (23 ∷ 24 ∷ []) $ free1 ! $ move ! (21 ∷ 22 ∷ []) $ free1 ! $ move ! (19 ∷ 20 ∷ []) $ free1 ! $ move ! (17 ∷ 18 ∷ []) $ free1 ! $
+        move ! (15 ∷ 16 ∷ []) $ free1 ! $ move ! (13 ∷ 14 ∷ []) $ free1 ! $ move ! (11 ∷ 12 ∷ []) $ free1 ! $ free0 ! $
         keep ! (1 ∷ 5 ∷ 10 ∷ 2 ∷ 0 ∷ []) $ by ! (exits r u₅ (ws .0) (admitted-met outs seen t rules begun written finished) (len′ ∙ len ∙ same)))))))))))))))))))))))))))))))))))))))))))))))
 
 module _ {M : Type 1} (𝓤 : URA M) (H : Heap 𝓤) (A : Atoms 𝓤) (W : Given 𝓤 H A) (mem : Memory → SProp 𝓤) (run : Routine → Fun 𝓤) where
   from-sorted-runs-walks : (C : Calls 𝓤 H) (Λ : Loops 𝓤 H) → FmC 𝓤 H (W .laws) C → Triple 𝓤 (C #runs·in-order) (Ordering 𝓤 H A mem run) → Triple 𝓤 (C #runs·admitted) (Admission 𝓤 H A mem run)
       → Triple 𝓤 (C #runs·begin) (Begin 𝓤 H A mem run) → Triple 𝓤 (C #runs·put-runs) (Writing 𝓤 H A mem run) → Triple 𝓤 (C #runs·finish) (Finish 𝓤 H A mem run)
       → Walks 𝓤 H A f.ended stayed (WpFn 𝓤 H C Λ code.function) (f.clauses 𝓤 H A mem run)
-  from-sorted-runs-walks C Λ fm known-order known-admit known-begin known-put known-finish = walked 𝓤 H A f.ended stayed (f.clauses 𝓤 H A mem run) (WpFn 𝓤 H C Λ code.function) (λ κs. (slice-vals, (slice-vals, tt))) (λ κs. (mut-slice-tells (named 0) (κs .0) u64, (shr-slice-tells (named 1) (κs .1 .0) T.the-row, tt)))
+  from-sorted-runs-walks C Λ fm known-order known-admit known-begin known-put known-finish = walked 𝓤 H A f.ended stayed (f.clauses 𝓤 H A mem run)
+      (WpFn 𝓤 H C Λ code.function) (λ κs. (slice-vals, (slice-vals, tt)))
+      (λ κs. (mut-slice-tells (named 0) (κs .0) u64, (shr-slice-tells (named 1) (κs .1 .0) T.the-row, tt)))
       (λ κs qs bounds a g are. via 𝓤 _ (fst∗ 𝓤 _ (emp 𝓤))
       (walk 𝓤 H A W mem run (κs .0) (κs .1 .0) (qs .0) (qs .1 .0) (a .0 .ptr .0) (a .0 .ptr .1) (a .0 .name) (a .0 .now) (are .0 .0 .1) (a .1 .0) (are .1 .0) C Λ fm known-order known-admit known-begin known-put known-finish))
 
 from-sorted-runs-meets : {M : Type 1} (𝓤 : URA M) (H : Heap 𝓤) (A : Atoms 𝓤) (W : Given 𝓤 H A) (mem : Memory → SProp 𝓤) (run : Routine → Fun 𝓤) (𝓣 : Tables 𝓤 H)
-    → Triple 𝓤 (𝓣 .C #runs·in-order) (Ordering 𝓤 H A mem run) → Triple 𝓤 (𝓣 .C #runs·admitted) (Admission 𝓤 H A mem run) → Triple 𝓤 (𝓣 .C #runs·begin) (Begin 𝓤 H A mem run) → Triple 𝓤 (𝓣 .C #runs·put-runs) (Writing 𝓤 H A mem run) → Triple 𝓤 (𝓣 .C #runs·finish) (Finish 𝓤 H A mem run)
+    → Triple 𝓤 (𝓣 .C #runs·in-order) (Ordering 𝓤 H A mem run) → Triple 𝓤 (𝓣 .C #runs·admitted) (Admission 𝓤 H A mem run) → Triple 𝓤 (𝓣 .C #runs·begin)
+    (Begin 𝓤 H A mem run) → Triple 𝓤 (𝓣 .C #runs·put-runs) (Writing 𝓤 H A mem run) → Triple 𝓤 (𝓣 .C #runs·finish) (Finish 𝓤 H A mem run)
     → Meets 𝓤 H A f.signature (WpFn 𝓤 H (𝓣 .C) (𝓣 .Λ) code.function) (f.spec 𝓤 H A mem run)
 from-sorted-runs-meets 𝓤 H A W mem run 𝓣 known-order known-admit known-begin known-put known-finish =
     walk-meets 𝓤 H A f.ended stayed W (goes-gave-slice 𝓤 H A W 2 0 tt (plain (λ _. u64)), (goes-none-slice 𝓤 H A W 2 (1 ∷ []) tt (plain (λ _. T.the-row)) yes, tt)) (f.clauses 𝓤 H A mem run)

@@ -28,7 +28,8 @@ use contract.Monad.{Fun, fact}
 use contract.Running.{givenOf, tables, tablesOf}
 use types.Kit.{Given, Item, Sq, runs, anyQ, atRet, ‵, raw, some, later, _⊛_, _$_, _∵_, !, qed, by, move, keep, drop, use1, use2, split, join, pick, rewrite, fsplit, fjoin, suffices, frame, await, done}
 use types.Part.{agg, whole, sub, look-in}
-use types.Run.{look, init, store, forget, stop, fld, from, load, lit, true-lit, of-opd, bin, and-then, no-more, assigns, assigns-last, land, first, blocks, stays, leaves-loop, exec, Below, again, loops, returns, enter, alloc1, alloc0, params1, pass1, pass0, free1, free0}
+use types.Run.{look, init, store, forget, stop, fld, from, load, lit, true-lit, of-opd, bin, and-then, no-more, assigns, assigns-last, land, first}
+use types.Run.{blocks, stays, leaves-loop, exec, Below, again, loops, returns, enter, alloc1, alloc0, params1, pass1, pass0, free1, free0}
 use sound.WpLaws.{FmC, fmOf, WpFn-mono}
 use denote.RattleType.{owns}
 use denote.Laws.{Is, shows}
@@ -96,7 +97,8 @@ word = tyInt w64
 abbrev slice : Ty
 slice = sliceTy (tyRef (named 0) imm (pointee (T.the-row .written)))
 
-module _ {M : Type 1} (𝓤 : URA M) (H : Heap 𝓤) (A : Atoms 𝓤) (W : Given 𝓤 H A) (at-mem : Memory → SProp 𝓤) (run : Routine → Fun 𝓤) (κ : Lft) (q : Share) (s : RefT (List Run)) (p : Is (ShrSlice (named 0) κ T.the-row) s (sliceVal (s .ptr) (length (s .now)) ∷ [])) where
+module _ {M : Type 1} (𝓤 : URA M) (H : Heap 𝓤) (A : Atoms 𝓤) (W : Given 𝓤 H A) (at-mem : Memory → SProp 𝓤) (run : Routine → Fun 𝓤) (κ : Lft)
+    (q : Share) (s : RefT (List Run)) (p : Is (ShrSlice (named 0) κ T.the-row) s (sliceVal (s .ptr) (length (s .now)) ∷ [])) where
   abbrev ys : List Run
   ys = s .now
 
@@ -183,7 +185,8 @@ module _ {M : Type 1} (𝓤 : URA M) (H : Heap 𝓤) (A : Atoms 𝓤) (W : Given
 
       abbrev At : Upto → List (Item 𝓤)
       At x = ‵ (flft κ q) ∷ ‵ Own ∷ ‵ (froom tyBool l₆ 0) ∷ ‵ (fdies tyBool l₆) ∷ ‵ (froom word l₅ 0) ∷ ‵ (fdies word l₅) ∷ ‵ (froom T′.mir l₄ 0) ∷ ‵ (fdies T′.mir l₄)
-          ∷ ‵ (fat fullShare word l₃ 0 (vint w64 (x .0))) ∷ ‵ (fdies word l₃) ∷ ‵ (fat fullShare S′.mir l₂ 0 (vorder (x .1))) ∷ ‵ (fdies S′.mir l₂) ∷ ‵ (fat fullShare slice l₁ 0 v) ∷ ‵ (fdies slice l₁) ∷ ‵ (froom S′.mir l₀ 0) ∷ ‵ (fdies S′.mir l₀) ∷ []
+          ∷ ‵ (fat fullShare word l₃ 0 (vint w64 (x .0))) ∷ ‵ (fdies word l₃) ∷ ‵ (fat fullShare S′.mir l₂ 0 (vorder (x .1))) ∷ ‵ (fdies S′.mir l₂) ∷ ‵
+          (fat fullShare slice l₁ 0 v) ∷ ‵ (fdies slice l₁) ∷ ‵ (froom S′.mir l₀ 0) ∷ ‵ (fdies S′.mir l₀) ∷ []
 
       abbrev Turned : Upto → Out → SProp 𝓤
       Turned x = afterTurn 𝓤 H (Below 𝓤 H A Nearer At x) (afterBlock 𝓤 H (afterSeq 𝓤 H (Wp 𝓤 H C Λ En mir.t-4 (atReturn 𝓤 H En Post)) (atReturn 𝓤 H En Post)))
@@ -198,19 +201,24 @@ module _ {M : Type 1} (𝓤 : URA M) (H : Heap 𝓤) (A : Atoms 𝓤) (W : Given
           -- one copy of what the slice owns goes to `run_of`, with the token
           move ! (1 ∷ []) $ use1 W (‵ Own ⊛ ‵ Own) (shr-slice-copy 𝓤 H A W (named 0) κ T.the-row .twice s (v ∷ [])) $ split ! $ move ! (2 ∷ 0 ∷ []) $ use2 W (raw (RunOf 𝓤 H A at-mem run .pre (to-run (x .0)))) (goes-run (x .0) less) $
           calls-at ! fm (RunOf 𝓤 H A at-mem run) known-run (to-run (x .0)) (and-then ! (load ! (from ! (stop !)) (look ! 12 refl)) (and-then ! (load ! (from ! (stop !)) (look ! 8 refl)) (no-more !))) (λ u.
-          use1 W (later (some (λ (r : Run). ((‵ (flft κ q) ⊛ ‵ ftrue) ⊛ ‵ (T.the-row .own r (u ∷ []))) ⊛ raw (ensured 𝓤 H A run-of.ended (run-of.clauses 𝓤 H A at-mem run) (κ, tt) (s, (x .0, tt)) tt r)))) (id⊢ 𝓤 _) $ await ! tt $ pick ! (λ r.
+          use1 W
+          (later (some (λ (r : Run). ((‵ (flft κ q) ⊛ ‵ ftrue) ⊛ ‵ (T.the-row .own r (u ∷ []))) ⊛ raw (ensured 𝓤 H A run-of.ended
+          (run-of.clauses 𝓤 H A at-mem run) (κ, tt) (s, (x .0, tt)) tt r)))) (id⊢ 𝓤 _) $ await ! tt $ pick ! (λ r.
           split ! $ move ! (1 ∷ []) $ use1 W (raw (fact 𝓤 (r ≡ getD ys (x .0) (runOf 0 0)))) (run-said (x .0) r) $ heard ! (r ≡ getD ys (x .0) (runOf 0 0)) (λ e. split ! $ move ! (1 ∷ []) $
           peeks ! T.the-row (Is T.the-row) (shows 𝓤 H A T.the-row) r (u ∷ []) (λ is.
-          land ! (from ! (stop !)) (init ! 7 refl (LL.lawful T.the-type T′.the-laws 𝓤 H A W .typed r _ is .0)) $ rewrite ! 7 (λ (w : Val). ‵ (fat fullShare T′.mir l₄ 0 w)) (ap only (LL.tells T.the-type T′.the-laws r (u ∷ []) is)) refl $ drop ! $
+          land ! (from ! (stop !)) (init ! 7 refl (LL.lawful T.the-type T′.the-laws 𝓤 H A W .typed r _ is .0)) $
+          rewrite ! 7 (λ (w : Val). ‵ (fat fullShare T′.mir l₄ 0 w)) (ap only (LL.tells T.the-type T′.the-laws r (u ∷ []) is)) refl $ drop ! $
           -- [the token; Own; _6; …; _5; …; _4; …; _3; …; _2; …; _1; …; room for _0; …]
           nothing ! $ owned ! u64 (Is u64) (uint-makes 𝓤 H A W w64) (r .«end») _ (refl, end-fits r u is) $ fjoin ! $ owned ! u64 (Is u64) (uint-makes 𝓤 H A W w64) (r .start) _ (refl, start-fits r u is) $ fjoin ! $
           owned ! S.the-row (Is S.the-row) (LL.makes S.the-type S′.the-plain 𝓤 H A) (x .1) _ (x .3) $ fjoin ! $ nothing ! $ use2 W (raw (Step 𝓤 H A at-mem run .pre (to-step (x .1) r))) (goes-step (x .1) r) $
           calls-at ! fm (Step 𝓤 H A at-mem run) known-step (to-step (x .1) r)
-          (and-then ! (load ! (from ! (stop !)) (look ! 11 refl)) (and-then ! (load ! (from ! (fld ! refl (stop !))) (look-in ! 7 (sub ! 0 refl (whole !)))) (and-then ! (load ! (from ! (fld ! refl (stop !))) (look-in ! 7 (sub ! 1 refl (whole !)))) (no-more !)))) (λ u′.
+          (and-then ! (load ! (from ! (stop !)) (look ! 11 refl)) (and-then ! (load ! (from ! (fld ! refl (stop !))) (look-in ! 7 (sub ! 0 refl
+          (whole !)))) (and-then ! (load ! (from ! (fld ! refl (stop !))) (look-in ! 7 (sub ! 1 refl (whole !)))) (no-more !)))) (λ u′.
           use1 W (later (some (λ (t : Order). (‵ ftrue ⊛ ‵ (S.the-row .own t (u′ ∷ []))) ⊛ raw (ensured 𝓤 H A step.ended (step.clauses 𝓤 H A at-mem run) tt (x .1, (r .start, (r .«end», tt))) tt t)))) (id⊢ 𝓤 _) $ await ! tt $ pick ! (λ t.
           split ! $ move ! (1 ∷ []) $ use1 W (raw (fact 𝓤 (t ≡ orderStep (x .1) (r .start) (r .«end»)))) (step-said (x .1) r t) $ heard ! (t ≡ orderStep (x .1) (r .start) (r .«end»)) (λ e′. split ! $ drop ! $
           peeks ! S.the-row (Is S.the-row) (shows 𝓤 H A S.the-row) t (u′ ∷ []) (λ is′.
-          land ! (from ! (stop !)) (store ! 11 refl (LL.lawful S.the-type S′.the-laws 𝓤 H A W .typed t _ is′ .0)) $ rewrite ! 11 (λ (w : Val). ‵ (fat fullShare S′.mir l₂ 0 w)) (ap only (LL.tells S.the-type S′.the-laws t (u′ ∷ []) is′)) refl $ drop ! $
+          land ! (from ! (stop !)) (store ! 11 refl (LL.lawful S.the-type S′.the-laws 𝓤 H A W .typed t _ is′ .0)) $
+          rewrite ! 11 (λ (w : Val). ‵ (fat fullShare S′.mir l₂ 0 w)) (ap only (LL.tells S.the-type S′.the-laws t (u′ ∷ []) is′)) refl $ drop ! $
           assigns-last ! (bin ! (load ! (from ! (stop !)) (look ! 8 refl)) (lit ! tt) (record { fits = next-fits })) (from ! (stop !)) (store ! 8 refl (tt, record { fits = next-fits })) $
           split ! $ move ! (1 ∷ []) $ drop ! $ forget ! 2 refl $ forget ! 4 refl $ forget ! 6 refl $
           again ! Nearer At x (x .0 + 1, t, add-one-le less, subst (Is S.the-row t) (LL.tells S.the-type S′.the-laws t (u′ ∷ []) is′) is′, seen-step ys less e (start-fits r u is) (end-fits r u is) e′ (x .4)) (falls n (x .0) less)))))))))
@@ -227,7 +235,8 @@ module _ {M : Type 1} (𝓤 : URA M) (H : Heap 𝓤) (A : Atoms 𝓤) (W : Given
           rewrite ! 2 (λ (t : Bool). ‵ (fat fullShare tyBool l₆ 0 (vbool t))) (le-ltb (x .0) n past) refl $ leaves-loop ! (load ! (from ! (stop !)) (look ! 2 refl)) $ exec ! C Λ En mir.t-4 (atRet En Post) $
           assigns ! (of-opd ! (load ! (from ! (stop !)) (look ! 10 refl))) (from ! (stop !)) (init ! 14 refl (LL.lawful S.the-type S′.the-laws 𝓤 H A W .typed (x .1) _ (x .3) .0)) $
           returns ! (look ! 14 refl) $ forget ! 2 refl $ forget ! 4 refl $ forget ! 8 refl $ forget ! 10 refl $ forget ! 12 refl $ forget ! 14 refl $
-          move ! (14 ∷ 15 ∷ []) $ free1 ! $ move ! (12 ∷ 13 ∷ []) $ free1 ! $ move ! (10 ∷ 11 ∷ []) $ free1 ! $ move ! (8 ∷ 9 ∷ []) $ free1 ! $ move ! (6 ∷ 7 ∷ []) $ free1 ! $ move ! (4 ∷ 5 ∷ []) $ free1 ! $ move ! (2 ∷ 3 ∷ []) $ free1 ! $ free0 ! $
+          move ! (14 ∷ 15 ∷ []) $ free1 ! $ move ! (12 ∷ 13 ∷ []) $ free1 ! $ move ! (10 ∷ 11 ∷ []) $ free1 ! $ move ! (8 ∷ 9 ∷ []) $ free1 ! $
+          move ! (6 ∷ 7 ∷ []) $ free1 ! $ move ! (4 ∷ 5 ∷ []) $ free1 ! $ move ! (2 ∷ 3 ∷ []) $ free1 ! $ free0 ! $
           by ! (exits (x .1) (seen-all ys past (x .4)) (x .3))
 
       turns : (x : Upto) → Sq W (At x) (runs C Λ En mir.turn-1 (anyQ (Turned x)))
@@ -244,7 +253,8 @@ module _ {M : Type 1} (𝓤 : URA M) (H : Heap 𝓤) (A : Atoms 𝓤) (W : Given
     walk : ent 𝓤 (onEntry 𝓤 H A f.signature (κ, tt) (q, tt) (s, tt) (v ∷ [], tt)) (WpFn 𝓤 H (𝓣 .C) (𝓣 .Λ) code.function (v ∷ []) Post)
     walk =
         qed W ((‵ (flft κ q) ⊛ ‵ ftrue) ∷ ‵ (owns (ShrSlice (named 0) κ T.the-row ∷ []) (s, tt) (v ∷ [], tt)) ∷ []) ∵ enter ! (𝓣 .C) (𝓣 .Λ) code.function (v ∷ []) _ $
-        alloc1 ! (λ l₀. alloc1 ! (λ l₁. alloc1 ! (λ l₂. alloc1 ! (λ l₃. alloc1 ! (λ l₄. alloc1 ! (λ l₅. alloc1 ! (λ l₆. alloc0 ! $ params1 ! $ pass1 ! (init ! 10 refl (shr-slice-lawful 𝓤 H A W (named 0) κ T.the-row .typed s (v ∷ []) p .0)) $ pass0 ! $
+        alloc1 ! (λ l₀. alloc1 ! (λ l₁. alloc1 ! (λ l₂. alloc1 ! (λ l₃. alloc1 ! (λ l₄. alloc1 ! (λ l₅. alloc1 ! (λ l₆. alloc0 ! $ params1 ! $
+        pass1 ! (init ! 10 refl (shr-slice-lawful 𝓤 H A W (named 0) κ T.the-row .typed s (v ∷ []) p .0)) $ pass0 ! $
         assigns ! (agg ! (and-then ! (true-lit !) (and-then ! (true-lit !) (and-then ! (lit ! tt) (no-more !))))) (from ! (stop !)) (init ! 8 refl (tt, (tt, (tt, (record { fits = lit< tt }, tt))))) $
         assigns ! (of-opd ! (lit ! tt)) (from ! (stop !)) (init ! 6 refl (tt, record { fits = lit< tt })) $
         move ! (15 ∷ []) $ fsplit ! $ move ! (16 ∷ []) $ split ! $

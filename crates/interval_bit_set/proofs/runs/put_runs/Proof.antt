@@ -28,7 +28,8 @@ use contract.Monad.{Fun, fact}
 use contract.Running.{givenOf, tables, tablesOf}
 use types.Kit.{Given, Item, Sq, runs, anyQ, atRet, ‵, raw, some, later, _⊛_, ⋆, _$_, _∵_, !, qed, by, move, keep, drop, use1, use2, use3, split, join, pick, rewrite, fsplit, fjoin, feqL, suffices, frame, await, done}
 use types.Part.{agg, whole, sub, look-in}
-use types.Run.{look, init, store, forget, stop, hop, fld, from, load, addr, lit, unit-lit, of-opd, bin, and-then, no-more, assigns, assigns-last, land, first, blocks, stays, leaves-loop, exec, Below, again, loops, returns, enter, alloc1, alloc0, params1, pass1, pass0, free1, free0}
+use types.Run.{look, init, store, forget, stop, hop, fld, from, load, addr, lit, unit-lit, of-opd, bin, and-then, no-more, assigns, assigns-last, land}
+use types.Run.{first, blocks, stays, leaves-loop, exec, Below, again, loops, returns, enter, alloc1, alloc0, params1, pass1, pass0, free1, free0}
 use sound.WpLaws.{FmC, fmOf, WpFn-mono}
 use denote.RattleType.{owns}
 use denote.Laws.{Is, shows}
@@ -95,7 +96,8 @@ numbers = sliceTy (tyRef (named 1) mut (tyInt w64))
 abbrev ref : Ty
 ref = tyRef erased mut (tyInt w64)
 
-module _ {M : Type 1} (𝓤 : URA M) (H : Heap 𝓤) (A : Atoms 𝓤) (W : Given 𝓤 H A) (at-mem : Memory → SProp 𝓤) (run : Routine → Fun 𝓤) (κ κ′ : Lft) (q q′ : Share) (s : RefT (List Run)) (p : Is (ShrSlice (named 0) κ T.the-row) s (sliceVal (s .ptr) (length (s .now)) ∷ []))
+module _ {M : Type 1} (𝓤 : URA M) (H : Heap 𝓤) (A : Atoms 𝓤) (W : Given 𝓤 H A) (at-mem : Memory → SProp 𝓤) (run : Routine → Fun 𝓤) (κ κ′ : Lft)
+    (q q′ : Share) (s : RefT (List Run)) (p : Is (ShrSlice (named 0) κ T.the-row) s (sliceVal (s .ptr) (length (s .now)) ∷ []))
     (b o : ℕ) (γ : GName) (outs : List ℕ) (room : Room u64 (length outs)) (head : ℕ) (head-fits : head < 2 ^ 64) (k : ℕ) (k-fits : k < 2 ^ 64) (putting : Putting outs head (s .now) k) where
   abbrev ys : List Run
   ys = s .now
@@ -143,7 +145,12 @@ module _ {M : Type 1} (𝓤 : URA M) (H : Heap 𝓤) (A : Atoms 𝓤) (W : Given
   exits : (zs : List ℕ) → Put outs zs head ys k → length zs ≡ m → ent 𝓤 (⋆ 𝓤 H A (‵ (flft κ q) ∷ ‵ Own ∷ ‵ (flft κ′ q′) ∷ ‵ (Out zs) ∷ [])) (Post vunit)
   exits zs e len =
       qed W (‵ (flft κ q) ∷ ‵ Own ∷ ‵ (flft κ′ q′) ∷ ‵ (Out zs) ∷ []) ∵ suffices ! _ (ends-at 𝓤 H A f.ended stayed (f.clauses 𝓤 H A at-mem run) W bound vunit tt (tt, (zs, (tt, (tt, tt)))) (tt, (len, (tt, (tt, tt))))) $ says ! e $
-      nothing ! $ move ! (3 ∷ 0 ∷ []) $ join ! $ move ! (1 ∷ 0 ∷ []) $ join ! $ frame ! $ nothing ! $ owned ! usize (Is usize) (uint-makes 𝓤 H A W w64) k _ (refl, k-fits) $ fjoin ! $ owned ! u64 (Is u64) (uint-makes 𝓤 H A W w64) head _ (refl, head-fits) $ fjoin ! $ move ! (2 ∷ 0 ∷ []) $ fjoin ! $ move ! (1 ∷ 0 ∷ []) $ fjoin ! $ frame ! $ owned ! unit (Is unit) (nothing-makes 𝓤 H A W) tt _ refl $ done !
+      nothing ! $ move ! (3 ∷ 0 ∷ []) $ join ! $ move ! (1 ∷ 0 ∷ []) $ join ! $ frame ! $ nothing ! $
+      owned ! usize (Is usize) (uint-makes 𝓤 H A W w64) k _ (refl, k-fits) $ fjoin ! $ owned ! u64 (Is u64) (uint-makes 𝓤 H A W w64) head _ (
+        refl,
+        head-fits,
+      ) $ fjoin ! $ move ! (2 ∷ 0 ∷ []) $ fjoin ! $ move ! (1 ∷ 0 ∷ []) $ fjoin ! $ frame ! $
+      owned ! unit (Is unit) (nothing-makes 𝓤 H A W) tt _ refl $ done !
 
   start-fits : (r : Run) (u : Val) → Is T.the-row r (u ∷ []) → r .start < 2 ^ 64
   start-fits r u g = LL.owed T.the-type T′.the-laws r _ g .0 .1
@@ -222,29 +229,45 @@ module _ {M : Type 1} (𝓤 : URA M) (H : Heap 𝓤) (A : Atoms 𝓤) (W : Given
           -- one copy of what the runs own goes to `run_of`, with the token
           move ! (1 ∷ []) $ use1 W (‵ Own ⊛ ‵ Own) (shr-slice-copy 𝓤 H A W (named 0) κ T.the-row .twice s (v ∷ [])) $ split ! $ move ! (2 ∷ 0 ∷ []) $ use2 W (raw (RunOf 𝓤 H A at-mem run .pre (to-run (y .0)))) (goes-run (y .0) less) $
           calls-at ! fm (RunOf 𝓤 H A at-mem run) known-run (to-run (y .0)) (and-then ! (load ! (from ! (stop !)) (look ! 22 refl)) (and-then ! (load ! (from ! (stop !)) (look ! 14 refl)) (no-more !))) (λ u.
-          use1 W (later (some (λ (r : Run). ((‵ (flft κ q) ⊛ ‵ ftrue) ⊛ ‵ (T.the-row .own r (u ∷ []))) ⊛ raw (ensured 𝓤 H A run-of.ended (run-of.clauses 𝓤 H A at-mem run) (κ, tt) (s, (y .0, tt)) tt r)))) (id⊢ 𝓤 _) $ await ! tt $ pick ! (λ r.
+          use1 W
+          (later (some (λ (r : Run). ((‵ (flft κ q) ⊛ ‵ ftrue) ⊛ ‵ (T.the-row .own r (u ∷ []))) ⊛ raw (ensured 𝓤 H A run-of.ended
+          (run-of.clauses 𝓤 H A at-mem run) (κ, tt) (s, (y .0, tt)) tt r)))) (id⊢ 𝓤 _) $ await ! tt $ pick ! (λ r.
           split ! $ move ! (1 ∷ []) $ use1 W (raw (fact 𝓤 (r ≡ getD ys (y .0) (runOf 0 0)))) (run-said (y .0) r) $ heard ! (r ≡ getD ys (y .0) (runOf 0 0)) (λ e. split ! $ move ! (1 ∷ []) $
           peeks ! T.the-row (Is T.the-row) (shows 𝓤 H A T.the-row) r (u ∷ []) (λ is.
-          land ! (from ! (stop !)) (init ! 11 refl (LL.lawful T.the-type T′.the-laws 𝓤 H A W .typed r _ is .0)) $ rewrite ! 11 (λ (z : Val). ‵ (fat fullShare T′.mir l₇ 0 z)) (ap only (LL.tells T.the-type T′.the-laws r (u ∷ []) is)) refl $ drop ! $
+          land ! (from ! (stop !)) (init ! 11 refl (LL.lawful T.the-type T′.the-laws 𝓤 H A W .typed r _ is .0)) $
+          rewrite ! 11 (λ (z : Val). ‵ (fat fullShare T′.mir l₇ 0 z)) (ap only (LL.tells T.the-type T′.the-laws r (u ∷ []) is)) refl $ drop ! $
           -- [the runs' token; Own; the numbers' token; Out; _10; …; _9; …; _8; …; _7; …; _6; …; _5; …; _4; …; _3; …; _2; …; _1; …; room for _0; …]
           assigns ! (addr ! (from ! (fld ! refl (hop ! (look-in ! 20 (sub ! 0 refl (whole !))) (stop !))))) (from ! (stop !)) (init ! 6 refl (tt, tt)) $
-          assigns ! (agg ! (and-then ! (load ! (from ! (stop !)) (look ! 6 refl)) (and-then ! (load ! (from ! (fld ! refl (stop !))) (look-in ! 20 (sub ! 1 refl (whole !)))) (no-more !)))) (from ! (stop !)) (init ! 4 refl (tt, (tt, (record { fits = room .0 }, tt)))) $
+          assigns ! (agg ! (and-then ! (load ! (from ! (stop !)) (look ! 6 refl)) (and-then ! (load ! (from ! (fld ! refl (stop !))) (look-in ! 20
+          (sub ! 1 refl (whole !)))) (no-more !)))) (from ! (stop !)) (init ! 4 refl (tt, (tt, (record { fits = room .0 }, tt)))) $
           -- the slice of numbers is lent again, for a lifetime ν of the call
           lft-new ! tt (λ ν. move ! (4 ∷ 3 ∷ []) $ rewrite ! 0 (λ (k : ℕ). ‵ (MutSlice (named 1) κ′ u64 .own (x γ (y .1)) (sliceVal (b, o) k ∷ []))) (sym (y .3)) refl $
-          use2 W (later (some (λ (δ : GName). ‵ (MutSlice (named 0) (ν ∷ []) u64 .own (x δ (y .1)) (sliceVal (b, o) (length (y .1)) ∷ [])) ⊛ ‵ (LentAgain u64 κ′ (ν ∷ []) q′ γ b o δ (y .1))))) (lends-again u64 κ′ (ν ∷ []) q′ γ b o 𝓤 H A W (named 1) (named 0) (y .1)) $ await ! tt $ pick ! (λ δ. split ! $
+          use2 W
+          (later (some (λ (δ : GName). ‵ (MutSlice (named 0) (ν ∷ []) u64 .own (x δ (y .1)) (sliceVal (b, o) (length
+          (y .1)) ∷ [])) ⊛ ‵ (LentAgain u64 κ′ (ν ∷ []) q′ γ b o δ (y .1)))))
+          (lends-again u64 κ′ (ν ∷ []) q′ γ b o 𝓤 H A W (named 1) (named 0) (y .1)) $ await ! tt $ pick ! (λ δ. split ! $
           rewrite ! 0 (λ (k : ℕ). ‵ (MutSlice (named 0) (ν ∷ []) u64 .own (x δ (y .1)) (sliceVal (b, o) k ∷ []))) (y .3) refl $
           move ! (2 ∷ 0 ∷ []) $ use2 W (raw (LayNext 𝓤 H A at-mem run .pre (to-lay ν δ (y .1) (y .4) r))) (goes-lay ν δ (y .1) (y .4) (y .0) r less (y .5) (y .6) (start-fits r u is) (end-fits r u is)) $
           calls-at ! fm (LayNext 𝓤 H A at-mem run) known-lay (to-lay ν δ (y .1) (y .4) r)
-          (and-then ! (load ! (from ! (stop !)) (look ! 4 refl)) (and-then ! (load ! (from ! (stop !)) (look ! 12 refl)) (and-then ! (load ! (from ! (fld ! refl (stop !))) (look-in ! 10 (sub ! 0 refl (whole !)))) (and-then ! (load ! (from ! (fld ! refl (stop !))) (look-in ! 10 (sub ! 1 refl (whole !)))) (no-more !))))) (λ u′.
-          use1 W (later (some (λ (t : ℕ). ((‵ (flft (ν ∷ []) fullShare) ⊛ ‵ ftrue) ⊛ ‵ (u64 .own t (u′ ∷ []))) ⊛ raw (ensured 𝓤 H A lay.ended (lay.clauses 𝓤 H A at-mem run) (ν ∷ [], tt) (lay-args δ (y .1) (y .4) r) tt t)))) (id⊢ 𝓤 _) $ await ! tt $ pick ! (λ t.
+          (and-then ! (load ! (from ! (stop !)) (look ! 4 refl)) (and-then ! (load ! (from ! (stop !)) (look ! 12 refl))
+          (and-then ! (load ! (from ! (fld ! refl (stop !))) (look-in ! 10 (sub ! 0 refl (whole !)))) (and-then ! (load ! (from ! (fld ! refl
+          (stop !))) (look-in ! 10 (sub ! 1 refl (whole !)))) (no-more !))))) (λ u′.
+          use1 W
+          (later (some (λ (t : ℕ). ((‵ (flft (ν ∷ []) fullShare) ⊛ ‵ ftrue) ⊛ ‵ (u64 .own t (u′ ∷ []))) ⊛ raw (ensured 𝓤 H A lay.ended
+          (lay.clauses 𝓤 H A at-mem run) (ν ∷ [], tt) (lay-args δ (y .1) (y .4) r) tt t)))) (id⊢ 𝓤 _) $ await ! tt $ pick ! (λ t.
           -- what `lay_next` ensures, at some last list
-          split ! $ move ! (1 ∷ []) $ use1 W (some (λ (zs : List ℕ × (Unit {0} × (Unit {0} × (Unit {0} × Unit {0})))). ‵ (lasts lay.ended (ν ∷ [], tt) (lay-args δ (y .1) (y .4) r) zs) ⊛ raw (fact 𝓤 (Lays (y .1) (zs .0) t (y .4) (r .start) (r .«end»))))) (id⊢ 𝓤 _) $ pick ! (λ zs.
+          split ! $ move ! (1 ∷ []) $
+          use1 W
+          (some (λ (zs : List ℕ × (Unit {0} × (Unit {0} × (Unit {0} × Unit {0})))). ‵ (lasts lay.ended (ν ∷ [], tt) (lay-args δ (y .1)
+          (y .4) r) zs) ⊛ raw (fact 𝓤 (Lays (y .1) (zs .0) t (y .4) (r .start) (r .«end»))))) (id⊢ 𝓤 _) $ pick ! (λ zs.
           split ! $ move ! (1 ∷ []) $ heard ! (Lays (y .1) (zs .0) t (y .4) (r .start) (r .«end»)) (λ e′. fsplit ! $ fsplit ! $ move ! (1 ∷ []) $ feqL ! (λ len.
           move ! (2 ∷ []) $ split ! $ move ! (1 ∷ []) $ peeks ! u64 (Is u64) (shows 𝓤 H A u64) t (u′ ∷ []) (λ is′.
           land ! (from ! (stop !)) (store ! 15 refl (uint-lawful 𝓤 H A W w64 .typed t _ is′ .0)) $ rewrite ! 15 (λ (z : Val). ‵ (fat fullShare word l₆ 0 z)) (ap only (uint-tells w64 t (u′ ∷ []) is′)) refl $
           -- the lifetime is ended, and the slice comes back at that list
           move ! (1 ∷ []) $ split ! $ lft-end ! tt $ move ! (0 ∷ 5 ∷ 3 ∷ []) $
-          use3 W (later (‵ (MutSlice (named 1) κ′ u64 .own (x γ (zs .0)) (sliceVal (b, o) (length (y .1)) ∷ [])) ⊛ ‵ (flft κ′ q′))) (comes-back u64 κ′ (ν ∷ []) q′ γ b o 𝓤 H A W (named 1) (named 0) (y .1) δ (zs .0) (subst (Room u64) (sym (y .3)) room) len) $ await ! tt $ split ! $
+          use3 W (later (‵ (MutSlice (named 1) κ′ u64 .own (x γ (zs .0)) (sliceVal (b, o) (length (y .1)) ∷ [])) ⊛ ‵ (flft κ′ q′)))
+          (comes-back u64 κ′ (ν ∷ []) q′ γ b o 𝓤 H A W (named 1) (named 0) (y .1) δ (zs .0) (subst (Room u64) (sym (y .3)) room) len) $ await ! tt $
+          split ! $
           rewrite ! 0 (λ (k : ℕ). ‵ (MutSlice (named 1) κ′ u64 .own (x γ (zs .0)) (sliceVal (b, o) k ∷ []))) (y .3) refl $
           -- [Out; the numbers' token; true; what the node owns; …; the runs' token; Own; _10; …; _0; …]
           assigns-last ! (bin ! (load ! (from ! (stop !)) (look ! 17 refl)) (lit ! tt) (record { fits = next-fits })) (from ! (stop !)) (store ! 17 refl (tt, record { fits = next-fits })) $
@@ -263,7 +286,9 @@ module _ {M : Type 1} (𝓤 : URA M) (H : Heap 𝓤) (A : Atoms 𝓤) (W : Given
           rewrite ! 8 (λ (t : Bool). ‵ (fat fullShare tyBool l₈ 0 (vbool t))) (le-ltb (y .0) k past) refl $ leaves-loop ! (load ! (from ! (stop !)) (look ! 8 refl)) $ exec ! C Λ En mir.t-4 (atRet En Post) $
           assigns ! (of-opd ! (unit-lit !)) (from ! (stop !)) (init ! 24 refl (tt, tt)) $
           returns ! (look ! 24 refl) $ forget ! 8 refl $ forget ! 12 refl $ forget ! 14 refl $ forget ! 16 refl $ forget ! 18 refl $ forget ! 20 refl $ forget ! 22 refl $ forget ! 24 refl $
-          move ! (24 ∷ 25 ∷ []) $ free1 ! $ move ! (22 ∷ 23 ∷ []) $ free1 ! $ move ! (20 ∷ 21 ∷ []) $ free1 ! $ move ! (18 ∷ 19 ∷ []) $ free1 ! $ move ! (16 ∷ 17 ∷ []) $ free1 ! $ move ! (14 ∷ 15 ∷ []) $ free1 ! $ move ! (12 ∷ 13 ∷ []) $ free1 ! $ move ! (10 ∷ 11 ∷ []) $ free1 ! $ move ! (8 ∷ 9 ∷ []) $ free1 ! $ move ! (6 ∷ 7 ∷ []) $ free1 ! $ move ! (4 ∷ 5 ∷ []) $ free1 ! $ free0 ! $
+          move ! (24 ∷ 25 ∷ []) $ free1 ! $ move ! (22 ∷ 23 ∷ []) $ free1 ! $ move ! (20 ∷ 21 ∷ []) $ free1 ! $ move ! (18 ∷ 19 ∷ []) $ free1 ! $
+          move ! (16 ∷ 17 ∷ []) $ free1 ! $ move ! (14 ∷ 15 ∷ []) $ free1 ! $ move ! (12 ∷ 13 ∷ []) $ free1 ! $ move ! (10 ∷ 11 ∷ []) $ free1 ! $
+          move ! (8 ∷ 9 ∷ []) $ free1 ! $ move ! (6 ∷ 7 ∷ []) $ free1 ! $ move ! (4 ∷ 5 ∷ []) $ free1 ! $ free0 ! $
           by ! (exits (y .1) (put-all (y .2) past (y .6)) (y .3))
 
       turns : (y : Upto) → Sq W (At y) (runs C Λ En mir.turn-1 (anyQ (Turned y)))
@@ -279,7 +304,9 @@ module _ {M : Type 1} (𝓤 : URA M) (H : Heap 𝓤) (A : Atoms 𝓤) (W : Given
 
     walk : ent 𝓤 (onEntry 𝓤 H A f.signature (κ, (κ′, tt)) (q, (q′, tt)) a vals) (WpFn 𝓤 H (𝓣 .C) (𝓣 .Λ) code.function (v ∷ w ∷ vint w64 head ∷ vint w64 k ∷ []) Post)
     walk =
-        qed W ((‵ (flft κ q) ⊛ ‵ (flft κ′ q′) ⊛ ‵ ftrue) ∷ ‵ (owns (ShrSlice (named 0) κ T.the-row ∷ MutSlice (named 1) κ′ u64 ∷ u64 ∷ usize ∷ []) a vals) ∷ []) ∵ enter ! (𝓣 .C) (𝓣 .Λ) code.function (v ∷ w ∷ vint w64 head ∷ vint w64 k ∷ []) _ $
+        qed W
+        ((‵ (flft κ q) ⊛ ‵ (flft κ′ q′) ⊛ ‵ ftrue) ∷ ‵ (owns (ShrSlice (named 0) κ T.the-row ∷ MutSlice
+        (named 1) κ′ u64 ∷ u64 ∷ usize ∷ []) a vals) ∷ []) ∵ enter ! (𝓣 .C) (𝓣 .Λ) code.function (v ∷ w ∷ vint w64 head ∷ vint w64 k ∷ []) _ $
         alloc1 ! (λ l₀. alloc1 ! (λ l₁. alloc1 ! (λ l₂. alloc1 ! (λ l₃. alloc1 ! (λ l₄. alloc1 ! (λ l₅. alloc1 ! (λ l₆. alloc1 ! (λ l₇. alloc1 ! (λ l₈. alloc1 ! (λ l₉. alloc1 ! (λ l₁₀. alloc0 ! $ params1 ! $
         pass1 ! (init ! 18 refl (shr-slice-lawful 𝓤 H A W (named 0) κ T.the-row .typed s (v ∷ []) p .0)) $ pass1 ! (init ! 16 refl (tt, (tt, (record { fits = room .0 }, tt)))) $
         pass1 ! (init ! 14 refl (tt, record { fits = head-fits })) $ pass1 ! (init ! 12 refl (tt, record { fits = k-fits })) $ pass0 ! $
@@ -292,15 +319,24 @@ module _ {M : Type 1} (𝓤 : URA M) (H : Heap 𝓤) (A : Atoms 𝓤) (W : Given
 module _ {M : Type 1} (𝓤 : URA M) (H : Heap 𝓤) (A : Atoms 𝓤) (W : Given 𝓤 H A) (mem : Memory → SProp 𝓤) (run : Routine → Fun 𝓤) where
   put-runs-walks : (𝓣 : Tables 𝓤 H) → FmC 𝓤 H (W .laws) (𝓣 .C) → Triple 𝓤 (𝓣 .C #run-of) (RunOf 𝓤 H A mem run) → Triple 𝓤 (𝓣 .C #lay-next) (LayNext 𝓤 H A mem run)
       → Walks 𝓤 H A f.ended stayed (WpFn 𝓤 H (𝓣 .C) (𝓣 .Λ) code.function) (f.clauses 𝓤 H A mem run)
-  put-runs-walks 𝓣 fm known-run known-lay = walked 𝓤 H A f.ended stayed (f.clauses 𝓤 H A mem run) (WpFn 𝓤 H (𝓣 .C) (𝓣 .Λ) code.function) (λ κs. (slice-vals, (slice-vals, (uint-vals w64, (uint-vals w64, tt))))) (λ κs. (shr-slice-tells (named 0) (κs .0) T.the-row, (mut-slice-tells (named 1) (κs .1 .0) u64, (uint-tells w64, (uint-tells w64, tt)))))
+  put-runs-walks 𝓣 fm known-run known-lay = walked 𝓤 H A f.ended stayed (f.clauses 𝓤 H A mem run) (WpFn 𝓤 H (𝓣 .C) (𝓣 .Λ) code.function)
+      (λ κs. (slice-vals, (slice-vals, (uint-vals w64, (uint-vals w64, tt)))))
+      (λ κs. (shr-slice-tells (named 0) (κs .0) T.the-row, (mut-slice-tells (named 1) (κs .1 .0) u64, (uint-tells w64, (uint-tells w64, tt)))))
       (λ κs qs bounds a g are. needs 𝓤 (Putting (a .1 .0 .now) (a .1 .1 .0) (a .0 .now) (a .1 .1 .1 .0)) _ (λ putting.
-      walk 𝓤 H A W mem run (κs .0) (κs .1 .0) (qs .0) (qs .1 .0) (a .0) (are .0) (a .1 .0 .ptr .0) (a .1 .0 .ptr .1) (a .1 .0 .name) (a .1 .0 .now) (are .1 .0 .0 .1) (a .1 .1 .0) (are .1 .1 .0 .1) (a .1 .1 .1 .0) (are .1 .1 .1 .0 .1) putting 𝓣 fm known-run known-lay))
+      walk 𝓤 H A W mem run (κs .0) (κs .1 .0) (qs .0) (qs .1 .0) (a .0) (are .0) (a .1 .0 .ptr .0) (a .1 .0 .ptr .1) (a .1 .0 .name) (a .1 .0 .now)
+      (are .1 .0 .0 .1) (a .1 .1 .0) (are .1 .1 .0 .1) (a .1 .1 .1 .0) (are .1 .1 .1 .0 .1) putting 𝓣 fm known-run known-lay))
 
 put-runs-meets : {M : Type 1} (𝓤 : URA M) (H : Heap 𝓤) (A : Atoms 𝓤) (W : Given 𝓤 H A) (mem : Memory → SProp 𝓤) (run : Routine → Fun 𝓤) (𝓣 : Tables 𝓤 H)
     → Triple 𝓤 (𝓣 .C #run-of) (RunOf 𝓤 H A mem run) → Triple 𝓤 (𝓣 .C #lay-next) (LayNext 𝓤 H A mem run)
     → Meets 𝓤 H A f.signature (WpFn 𝓤 H (𝓣 .C) (𝓣 .Λ) code.function) (f.spec 𝓤 H A mem run)
 put-runs-meets 𝓤 H A W mem run 𝓣 known-run known-lay =
-    walk-meets 𝓤 H A f.ended stayed W (goes-none-slice 𝓤 H A W 2 (0 ∷ []) tt (plain (λ _. T.the-row)) yes, (goes-slice 𝓤 H A W 2 1 tt (plain (λ _. u64)), (goes-none 𝓤 H A W 2 (λ _. u64) yes (λ κs x f. refl), (goes-none 𝓤 H A W 2 (λ _. usize) yes (λ κs x f. refl), tt)))) (f.clauses 𝓤 H A mem run)
+    walk-meets 𝓤 H A f.ended stayed W (
+      goes-none-slice 𝓤 H A W 2 (0 ∷ []) tt (plain (λ _. T.the-row)) yes,
+      (
+        goes-slice 𝓤 H A W 2 1 tt (plain (λ _. u64)),
+        (goes-none 𝓤 H A W 2 (λ _. u64) yes (λ κs x f. refl), (goes-none 𝓤 H A W 2 (λ _. usize) yes (λ κs x f. refl), tt)),
+      ),
+    ) (f.clauses 𝓤 H A mem run)
     (WpFn 𝓤 H (𝓣 .C) (𝓣 .Λ) code.function) (WpFn-mono 𝓤 H (W .laws) 𝓣 code.function) (put-runs-walks 𝓤 H A W mem run 𝓣 (fmOf 𝓤 H (W .laws) 𝓣) known-run known-lay)
 
 pub put-runs-spec : {M : Type 1} → stated.statement M

@@ -73,7 +73,8 @@ module _ {M : Type 1} (𝓤 : URA M) (H : Heap 𝓤) (A : Atoms 𝓤) (mem : Mem
   abbrev Write : Contract 𝓤
   Write = tripleOf 𝓤 H A write.signature (write.spec 𝓤 H A mem run)
 
-module _ {M : Type 1} (𝓤 : URA M) (H : Heap 𝓤) (A : Atoms 𝓤) (W : Given 𝓤 H A) (mem : Memory → SProp 𝓤) (run : Routine → Fun 𝓤) (κ κ′ : Lft) (q q′ : Share) (w : RefT (List ℕ)) (b o : ℕ) (γ : GName) (ys : List ℕ) (room : Room u8 (length ys)) where
+module _ {M : Type 1} (𝓤 : URA M) (H : Heap 𝓤) (A : Atoms 𝓤) (W : Given 𝓤 H A) (mem : Memory → SProp 𝓤) (run : Routine → Fun 𝓤) (κ κ′ : Lft)
+    (q q′ : Share) (w : RefT (List ℕ)) (b o : ℕ) (γ : GName) (ys : List ℕ) (room : Room u8 (length ys)) where
   -- the borrow of the slice, under the name δ at the list l
   abbrev x : GName → List ℕ → RefT (List ℕ)
   x δ l = record { ptr = (b, o); name = δ; now = l }
@@ -126,22 +127,27 @@ module _ {M : Type 1} (𝓤 : URA M) (H : Heap 𝓤) (A : Atoms 𝓤) (W : Given
       suffices ! _ (ends-at 𝓤 H A f.ended stayed (f.clauses 𝓤 H A mem run) W bound (vfilled m t) (record { refusal = m; part = t }) (tt, (tt, tt)) (tt, (tt, tt))) $
       says ! e $ move ! (1 ∷ 0 ∷ []) $ join ! $ frame ! $ nothing ! $ nothing ! $ fjoin ! $ move ! (2 ∷ 0 ∷ []) $ fjoin ! $ frame ! $ by ! (shuts 𝓤 H A W (record { mir = named 1; lft = κ′ }) m t fits)
 
-  module _ (C : Calls 𝓤 H) (Λ : Loops 𝓤 H) (fm : FmC 𝓤 H (W .laws) C) (known-write : Triple 𝓤 (C write-def.name) (Write 𝓤 H A mem run)) (known-flat : Triple 𝓤 (C flat-def.name) (Flattened 𝓤 H A)) (known-front : Triple 𝓤 (C front-def.name) (Front 𝓤 H A)) where
+  module _ (C : Calls 𝓤 H) (Λ : Loops 𝓤 H) (fm : FmC 𝓤 H (W .laws) C) (known-write : Triple 𝓤 (C write-def.name) (Write 𝓤 H A mem run))
+      (known-flat : Triple 𝓤 (C flat-def.name) (Flattened 𝓤 H A)) (known-front : Triple 𝓤 (C front-def.name) (Front 𝓤 H A)) where
     walk : Is (ShrSlice (named 0) κ u64) w (v ∷ []) → ent 𝓤 (onEntry 𝓤 H A f.signature (κ, (κ′, tt)) (q, (q′, tt)) a vals) (WpFn 𝓤 H C Λ code.function (v ∷ s ∷ []) Post)
     walk p =
         qed W ((‵ (flft κ q) ⊛ ‵ (flft κ′ q′) ⊛ ‵ ftrue) ∷ ‵ (owns (ShrSlice (named 0) κ u64 ∷ MutSlice (named 1) κ′ u8 ∷ []) a vals) ∷ []) ∵ enter ! C Λ code.function (v ∷ s ∷ []) _ $
         alloc1 ! (λ l₀. alloc1 ! (λ l₁. alloc1 ! (λ l₂. alloc1 ! (λ l₃. alloc1 ! (λ l₄. alloc1 ! (λ l₅. alloc1 ! (λ l₆. alloc1 ! (λ l₇. alloc1 ! (λ l₈. alloc1 ! (λ l₉. alloc1 ! (λ l₁₀. alloc0 ! $ params1 ! $
         pass1 ! (init ! 18 refl (shr-slice-lawful 𝓤 H A W (named 0) κ u64 .typed w (v ∷ []) p .0)) $ pass1 ! (init ! 16 refl (tt, (tt, (record { fits = room .0 }, tt)))) $ pass0 ! $
         assigns ! (addr ! (from ! (fld ! refl (hop ! (look-in ! 16 (sub ! 0 refl (whole !))) (stop !))))) (from ! (stop !)) (init ! 8 refl (tt, tt)) $
-        assigns ! (agg ! (and-then ! (load ! (from ! (stop !)) (look ! 8 refl)) (and-then ! (load ! (from ! (fld ! refl (stop !))) (look-in ! 16 (sub ! 1 refl (whole !)))) (no-more !)))) (from ! (stop !)) (init ! 6 refl (tt, (tt, (record { fits = room .0 }, tt)))) $
+        assigns ! (agg ! (and-then ! (load ! (from ! (stop !)) (look ! 8 refl)) (and-then ! (load ! (from ! (fld ! refl (stop !))) (look-in ! 16
+        (sub ! 1 refl (whole !)))) (no-more !)))) (from ! (stop !)) (init ! 6 refl (tt, (tt, (record { fits = room .0 }, tt)))) $
         -- the words are Copy: one copy of what they own is kept for the exit. The slice is lent again, for a lifetime ν of the call
         move ! (23 ∷ []) $ fsplit ! $ use1 W (‵ Own ⊛ ‵ Own) (shr-slice-copy 𝓤 H A W (named 0) κ u64 .twice w (v ∷ [])) $ split ! $
         move ! (2 ∷ []) $ fsplit ! $ move ! (26 ∷ []) $ split ! $ move ! (1 ∷ []) $ split ! $ lft-new ! tt (λ ν. move ! (4 ∷ 1 ∷ []) $
-        use2 W (later (some (λ (δ : GName). ‵ (MutSlice (named 1) (ν ∷ []) u8 .own (x δ ys) (s ∷ [])) ⊛ ‵ (LentAgain u8 κ′ (ν ∷ []) q′ γ b o δ ys)))) (lends-again u8 κ′ (ν ∷ []) q′ γ b o 𝓤 H A W (named 1) (named 1) ys) $ await ! tt $ pick ! (λ δ. split ! $
+        use2 W (later (some (λ (δ : GName). ‵ (MutSlice (named 1) (ν ∷ []) u8 .own (x δ ys) (s ∷ [])) ⊛ ‵ (LentAgain u8 κ′ (ν ∷ []) q′ γ b o δ ys))))
+        (lends-again u8 κ′ (ν ∷ []) q′ γ b o 𝓤 H A W (named 1) (named 1) ys) $ await ! tt $ pick ! (λ δ. split ! $
         -- [the slice lent again; what is kept of it; the token of ν; true; the words' token; true; Own; Own; _10; …]
         move ! (4 ∷ 2 ∷ 6 ∷ 0 ∷ []) $ join ! $ use3 W (raw (Write 𝓤 H A mem run .pre (to-write ν δ))) (goes-write ν δ) $
         calls-at ! fm (Write 𝓤 H A mem run) known-write (to-write ν δ) (and-then ! (load ! (from ! (stop !)) (look ! 23 refl)) (and-then ! (load ! (from ! (stop !)) (look ! 11 refl)) (no-more !))) (λ u.
-        use1 W (later (some (λ (r : Written). ((‵ (flft κ q) ⊛ ‵ (flft (ν ∷ []) fullShare) ⊛ ‵ ftrue) ⊛ ‵ (A′.the-row .own r (u ∷ []))) ⊛ raw (ensured 𝓤 H A write.ended (write.clauses 𝓤 H A mem run) (κ, (ν ∷ [], tt)) (args δ) tt r)))) (id⊢ 𝓤 _) $ await ! tt $ pick ! (λ r.
+        use1 W
+        (later (some (λ (r : Written). ((‵ (flft κ q) ⊛ ‵ (flft (ν ∷ []) fullShare) ⊛ ‵ ftrue) ⊛ ‵ (A′.the-row .own r (u ∷ []))) ⊛ raw
+        (ensured 𝓤 H A write.ended (write.clauses 𝓤 H A mem run) (κ, (ν ∷ [], tt)) (args δ) tt r)))) (id⊢ 𝓤 _) $ await ! tt $ pick ! (λ r.
         split ! $ move ! (1 ∷ []) $ use1 W (some (λ (zs : Unit {0} × (List ℕ × Unit {0})). ‵ (lasts write.ended (κ, (ν ∷ [], tt)) (args δ) zs) ⊛ raw (fact 𝓤 (WritesOut Call.writeSet (w .now) ys r (zs .1 .0))))) (id⊢ 𝓤 _) $ pick ! (λ zs.
         split ! $ move ! (1 ∷ []) $ heard ! (WritesOut Call.writeSet (w .now) ys r (zs .1 .0)) (λ e. fsplit ! $ move ! (1 ∷ []) $ fsplit ! $ fsplit ! $ move ! (1 ∷ []) $ feqL ! (λ len.
         move ! (3 ∷ []) $ split ! $ move ! (1 ∷ []) $ peeks ! A′.the-row (Is A′.the-row) (shows 𝓤 H A A′.the-row) r (u ∷ []) (λ is.
@@ -159,25 +165,36 @@ module _ {M : Type 1} (𝓤 : URA M) (H : Heap 𝓤) (A : Atoms 𝓤) (W : Given
         -- [the number and the count; true; the slice; its token; true; the words' token; true; true; true; true; Own; _10; …]
         assigns ! (of-opd ! (load ! (from ! (fld ! refl (stop !))) (look-in ! 23 (sub ! 1 refl (whole !))))) (from ! (stop !)) (init ! 21 refl (tt, record { fits = bytes-fit k u₁ is₁ })) $
         assigns ! (addr ! (from ! (fld ! refl (hop ! (look-in ! 27 (sub ! 0 refl (whole !))) (stop !))))) (from ! (stop !)) (init ! 13 refl (tt, tt)) $
-        assigns ! (agg ! (and-then ! (load ! (from ! (stop !)) (look ! 13 refl)) (and-then ! (load ! (from ! (fld ! refl (stop !))) (look-in ! 27 (sub ! 1 refl (whole !)))) (no-more !)))) (from ! (stop !)) (init ! 11 refl (tt, (tt, (record { fits = room .0 }, tt)))) $
-        move ! (3 ∷ 2 ∷ []) $ use2 W (raw (Front 𝓤 H A .pre (to-front 𝓤 H A W κ′ q′ b o γ (zs .1 .0) (length ys) k))) (goes-front 𝓤 H A W κ′ q′ b o γ (zs .1 .0) (length ys) k (put-flat (write-set-puts (w .now) ys) r e e₁ .within) (bytes-fit k u₁ is₁)) $
+        assigns ! (agg ! (and-then ! (load ! (from ! (stop !)) (look ! 13 refl)) (and-then ! (load ! (from ! (fld ! refl (stop !))) (look-in ! 27
+        (sub ! 1 refl (whole !)))) (no-more !)))) (from ! (stop !)) (init ! 11 refl (tt, (tt, (record { fits = room .0 }, tt)))) $
+        move ! (3 ∷ 2 ∷ []) $
+        use2 W (raw (Front 𝓤 H A .pre (to-front 𝓤 H A W κ′ q′ b o γ (zs .1 .0) (length ys) k)))
+        (goes-front 𝓤 H A W κ′ q′ b o γ (zs .1 .0) (length ys) k (put-flat (write-set-puts (w .now) ys) r e e₁ .within) (bytes-fit k u₁ is₁)) $
         calls-at ! fm (Front 𝓤 H A) known-front (to-front 𝓤 H A W κ′ q′ b o γ (zs .1 .0) (length ys) k) (and-then ! (load ! (from ! (stop !)) (look ! 10 refl)) (and-then ! (load ! (from ! (stop !)) (look ! 20 refl)) (no-more !))) (λ u₂.
         use1 W (later (some (λ (t : RefT (List ℕ)). ((‵ (flft κ′ q′) ⊛ ‵ ftrue) ⊛ ‵ (MutSlice (named 0) κ′ u8 .own t (u₂ ∷ []))) ⊛ raw (fronted 𝓤 H A W κ′ q′ b o γ (zs .1 .0) (length ys) k t)))) (id⊢ 𝓤 _) $ await ! tt $ pick ! (λ t.
-        split ! $ move ! (1 ∷ []) $ use1 W (raw (fact 𝓤 (Fronts 𝓤 H A W κ′ q′ b o γ (zs .1 .0) (length ys) k t))) (front-said 𝓤 H A W κ′ q′ b o γ (zs .1 .0) (length ys) k t) $ heard ! (Fronts 𝓤 H A W κ′ q′ b o γ (zs .1 .0) (length ys) k t) (λ e₂. split ! $ move ! (1 ∷ []) $
+        split ! $ move ! (1 ∷ []) $
+        use1 W (raw (fact 𝓤 (Fronts 𝓤 H A W κ′ q′ b o γ (zs .1 .0) (length ys) k t))) (front-said 𝓤 H A W κ′ q′ b o γ (zs .1 .0) (length ys) k t) $
+        heard ! (Fronts 𝓤 H A W κ′ q′ b o γ (zs .1 .0) (length ys) k t) (λ e₂. split ! $ move ! (1 ∷ []) $
         peeks ! (MutSlice (named 0) κ′ u8) (Is (MutSlice (named 0) κ′ u8)) (shows 𝓤 H A (MutSlice (named 0) κ′ u8)) t (u₂ ∷ []) (λ is₂.
         land ! (from ! (stop !)) (init ! 15 refl (mut-slice-lawful 𝓤 H A W erased κ′ u8 .typed t (u₂ ∷ []) is₂ .0)) $
         rewrite ! 15 (λ (z : Val). ‵ (fat fullShare (sliceTy (tyRef erased mut (tyInt w8))) l₈ 0 z)) (ap only (mut-slice-tells (named 0) κ′ u8 t (u₂ ∷ []) is₂)) refl $
         rewrite ! 0 (λ (z : List Val). ‵ (MutSlice (named 0) κ′ u8 .own t z)) (mut-slice-tells (named 0) κ′ u8 t (u₂ ∷ []) is₂) refl $
         -- [what the part's borrow owns; its token; the number and the count; true; true; the words' token; true; true; true; true; Own; _10; …]: the struct is made
-        assigns ! (agg ! (and-then ! (load ! (from ! (fld ! refl (stop !))) (look-in ! 23 (sub ! 0 refl (whole !)))) (and-then ! (load ! (from ! (stop !)) (look ! 15 refl)) (no-more !)))) (from ! (stop !)) (init ! 31 refl (tt, (record { fits = refusal-fits k u₁ is₁ }, ((tt, (record { fits = is₂ .0 .1 .0 }, tt)), tt)))) $
-        returns ! (look ! 31 refl) $ forget ! 11 refl $ forget ! 13 refl $ forget ! 15 refl $ forget ! 17 refl $ forget ! 19 refl $ forget ! 21 refl $ forget ! 23 refl $ forget ! 25 refl $ forget ! 27 refl $ forget ! 29 refl $ forget ! 31 refl $
-        move ! (31 ∷ 32 ∷ []) $ free1 ! $ move ! (29 ∷ 30 ∷ []) $ free1 ! $ move ! (27 ∷ 28 ∷ []) $ free1 ! $ move ! (25 ∷ 26 ∷ []) $ free1 ! $ move ! (23 ∷ 24 ∷ []) $ free1 ! $ move ! (21 ∷ 22 ∷ []) $ free1 ! $ move ! (19 ∷ 20 ∷ []) $ free1 ! $ move ! (17 ∷ 18 ∷ []) $ free1 ! $ move ! (15 ∷ 16 ∷ []) $ free1 ! $ move ! (13 ∷ 14 ∷ []) $ free1 ! $ move ! (11 ∷ 12 ∷ []) $ free1 ! $ free0 ! $
+        assigns ! (agg ! (and-then ! (load ! (from ! (fld ! refl (stop !))) (look-in ! 23 (sub ! 0 refl (whole !))))
+        (and-then ! (load ! (from ! (stop !)) (look ! 15 refl)) (no-more !)))) (from ! (stop !))
+        (init ! 31 refl (tt, (record { fits = refusal-fits k u₁ is₁ }, ((tt, (record { fits = is₂ .0 .1 .0 }, tt)), tt)))) $
+        returns ! (look ! 31 refl) $ forget ! 11 refl $ forget ! 13 refl $ forget ! 15 refl $ forget ! 17 refl $ forget ! 19 refl $ forget ! 21 refl $
+        forget ! 23 refl $ forget ! 25 refl $ forget ! 27 refl $ forget ! 29 refl $ forget ! 31 refl $
+        move ! (31 ∷ 32 ∷ []) $ free1 ! $ move ! (29 ∷ 30 ∷ []) $ free1 ! $ move ! (27 ∷ 28 ∷ []) $ free1 ! $ move ! (25 ∷ 26 ∷ []) $ free1 ! $
+        move ! (23 ∷ 24 ∷ []) $ free1 ! $ move ! (21 ∷ 22 ∷ []) $ free1 ! $ move ! (19 ∷ 20 ∷ []) $ free1 ! $ move ! (17 ∷ 18 ∷ []) $ free1 ! $
+        move ! (15 ∷ 16 ∷ []) $ free1 ! $ move ! (13 ∷ 14 ∷ []) $ free1 ! $ move ! (11 ∷ 12 ∷ []) $ free1 ! $ free0 ! $
         keep ! (1 ∷ 5 ∷ 0 ∷ 10 ∷ []) $ by ! (exits (k .refusal) t (refusal-fits k u₁ is₁) (told 𝓤 H A W κ′ q′ b o γ (zs .1 .0) (length ys) k t (put-flat (write-set-puts (w .now) ys) r e e₁) e₂)))))))))))))))))))))))))))))
 
 module _ {M : Type 1} (𝓤 : URA M) (H : Heap 𝓤) (A : Atoms 𝓤) (W : Given 𝓤 H A) (mem : Memory → SProp 𝓤) (run : Routine → Fun 𝓤) where
   walks : (C : Calls 𝓤 H) (Λ : Loops 𝓤 H) → FmC 𝓤 H (W .laws) C → Triple 𝓤 (C write-def.name) (Write 𝓤 H A mem run) → Triple 𝓤 (C flat-def.name) (Flattened 𝓤 H A) → Triple 𝓤 (C front-def.name) (Front 𝓤 H A)
       → Walks 𝓤 H A f.ended stayed (WpFn 𝓤 H C Λ code.function) (f.clauses 𝓤 H A mem run)
-  walks C Λ fm known-write known-flat known-front = walked 𝓤 H A f.ended stayed (f.clauses 𝓤 H A mem run) (WpFn 𝓤 H C Λ code.function) (λ κs. (slice-vals, (slice-vals, tt))) (λ κs. (shr-slice-tells (named 0) (κs .0) u64, (mut-slice-tells (named 1) (κs .1 .0) u8, tt)))
+  walks C Λ fm known-write known-flat known-front = walked 𝓤 H A f.ended stayed (f.clauses 𝓤 H A mem run) (WpFn 𝓤 H C Λ code.function)
+      (λ κs. (slice-vals, (slice-vals, tt))) (λ κs. (shr-slice-tells (named 0) (κs .0) u64, (mut-slice-tells (named 1) (κs .1 .0) u8, tt)))
       (λ κs qs bounds a g are. via 𝓤 _ (fst∗ 𝓤 _ (emp 𝓤))
       (walk 𝓤 H A W mem run (κs .0) (κs .1 .0) (qs .0) (qs .1 .0) (a .0) (a .1 .0 .ptr .0) (a .1 .0 .ptr .1) (a .1 .0 .name) (a .1 .0 .now) (are .1 .0 .0 .1) C Λ fm known-write known-flat known-front (are .0)))
 

@@ -26,7 +26,8 @@ abbrev start : tie.After-going-past → tie.Start
 start r = r .before .before .before .before .before .before
 
 -- what is counted before the bits are asked
-told : (r : tie.After-going-past) → Told (held (start r)) ((start r) .args .base) ((start r) .args .base + ((start r) .args .n - 1)) (r .before .before .before .logical-runs .result)
+told : (r : tie.After-going-past)
+    → Told (held (start r)) ((start r) .args .base) ((start r) .args .base + ((start r) .args .n - 1)) (r .before .before .before .logical-runs .result)
     (r .before .before .tally .result .runs) (r .before .going-on .result) (r .going-past .result)
 told r =
     let s = start r in
@@ -55,7 +56,8 @@ low-is c =
 
 -- and the upper one
 high-is : (c : tie.Joined2) → c .if2 .high
-    ≡ oneIf (heldAbove (held (start (counted c))) ((start (counted c)) .args .base + ((start (counted c)) .args .n - 1)) && mapBit ((start (counted c)) .args .bytes .now) ((start (counted c)) .args .n - 1))
+    ≡ oneIf (heldAbove (held (start (counted c))) ((start (counted c)) .args .base + ((start (counted c)) .args .n - 1)) && mapBit
+    ((start (counted c)) .args .bytes .now) ((start (counted c)) .args .n - 1))
 high-is c =
     let b = heldAbove (held (start (counted c))) ((start (counted c)) .args .base + ((start (counted c)) .args .n - 1)) in
     ⊎-elim (λ x. end-asked b (c .before .bit2 .ensures) (x .0 .taken) (x .1 .ensures) (x .2)) (λ x. end-none b (c .before .bit2 .ensures) (x .0 .left) (x .1)) (c .if2 .came)
@@ -83,10 +85,11 @@ going-on-requires c κs = search needs
 
 add-before-2 : tie.Need-add-before-2
 add-before-2 c =
-    let s = c .before .before .before .before .before in
+    let l = c .before .before in
+    let s = l .before .before .before in
     omega (
       arith,
-      logical-told (s .pre .0 .1 .standing) (c .before .before .logical-runs .ensures),
+      logical-told (s .pre .0 .1 .standing) (l .logical-runs .ensures),
       logical-few (s .pre .0 .1),
       one-most (c .going-on .result) (goesOn (held s) (s .args .base)) (c .going-on .ensures),
     )

@@ -16,7 +16,9 @@ bit-requires : tie.Need-bit-requires Inv-loop μ-loop
 bit-requires c κs = omega arith
 
 loop-holds : tie.Need-loop-holds Inv-loop μ-loop
-loop-holds c = going-one (c .before .before .args .bytes .now) (c .before .before .args .i) (c .before .before .args .n) (c .before .before .pre .0)
+loop-holds c =
+    let s = c .before .before in
+    going-one (s .args .bytes .now) (s .args .i) (s .args .n) (s .pre .0)
 
 add-loop : tie.Need-add-loop Inv-loop μ-loop
 add-loop c = omega arith
@@ -37,7 +39,10 @@ loop-less : tie.Need-loop-less Inv-loop μ-loop
 loop-less c = omega arith
 
 loop-again : tie.Need-loop-again Inv-loop μ-loop
-loop-again c = going-byte (c .before .before .before .before .loop .inv) (c .before .before .before .before .before .bit .ensures) (c .before .whole-byte .result) (c .before .before .if1 .taken) (c .before .whole-byte .ensures) (c .if2 .taken)
+loop-again c =
+    let t₁ = c .before .before in
+    going-byte (t₁ .before .before .loop .inv) (t₁ .before .before .before .bit .ensures) (c .before .whole-byte .result) (t₁ .if1 .taken)
+    (c .before .whole-byte .ensures) (c .if2 .taken)
 
 add-bit : tie.Need-add-bit Inv-loop μ-loop
 add-bit c = omega arith
@@ -46,7 +51,9 @@ bit-requires-2 : tie.Need-bit-requires-2 Inv-loop μ-loop
 bit-requires-2 c κs = omega arith
 
 returns : tie.Need-returns Inv-loop μ-loop
-returns c = going-stops (c .before .before .before .before .loop .inv) (c .before .before .before .before .before .bit .ensures) (c .before .bit2 .ensures) (c .if3 .taken)
+returns c =
+    let l = c .before .before .before .before in
+    going-stops (l .loop .inv) (l .before .bit .ensures) (c .before .bit2 .ensures) (c .if3 .taken)
 
 add-e-2 : tie.Need-add-e-2 Inv-loop μ-loop
 add-e-2 c = omega arith
@@ -55,7 +62,9 @@ loop-less-2 : tie.Need-loop-less-2 Inv-loop μ-loop
 loop-less-2 c = omega arith
 
 loop-again-2 : tie.Need-loop-again-2 Inv-loop μ-loop
-loop-again-2 c = going-bit (c .before .before .before .before .loop .inv) (c .before .before .before .before .before .bit .ensures) (c .before .bit2 .ensures) (c .before .before .before .loop-test .taken) (c .if3 .left)
+loop-again-2 c =
+    let l = c .before .before .before in
+    going-bit (l .before .loop .inv) (l .before .before .bit .ensures) (c .before .bit2 .ensures) (l .loop-test .taken) (c .if3 .left)
 
 returns-2 : tie.Need-returns-2 Inv-loop μ-loop
 returns-2 c = going-ends (c .before .loop .inv) (c .loop-test .left)

@@ -65,14 +65,11 @@ octet-of-add-n t c = omega (arith, c .if1 .left, c .before .before .before .befo
 octet-of-alike-requires-2 : (t : ℕ) → octet-of-lts.Need-alike-requires-2 (octet-of-claims t) (octet-of-at t) octet-of.Post
 octet-of-alike-requires-2 t c κs = omega (arith, c .if1 .left, c .before .before .before .before .pre .1 .1 .few)
 
-octet-of-add-moved : (t : ℕ) → octet-of-lts.Need-add-moved (octet-of-claims t) (octet-of-at t) octet-of.Post
-octet-of-add-moved t c = omega (arith, c .before .before .if1 .left, c .before .before .before .before .before .before .pre .1 .1 .within)
+octet-of-add-next : (t : ℕ) → octet-of-lts.Need-add-next (octet-of-claims t) (octet-of-at t) octet-of.Post
+octet-of-add-next t c = omega (arith, c .before .if1 .left, c .before .before .before .before .before .pre .1 .1 .within)
 
 octet-of-moved-requires : (t : ℕ) → octet-of-lts.Need-moved-requires (octet-of-claims t) (octet-of-at t) octet-of.Post
 octet-of-moved-requires t c κs = (_, _, stood-moves (c .before .before .before .before .before .before .pre .1 .1) (c .before .before .before .same-to .ensures))
-
-octet-of-add-octet-of : (t : ℕ) → octet-of-lts.Need-add-octet-of (octet-of-claims t) (octet-of-at t) octet-of.Post
-octet-of-add-octet-of t c = omega (arith, c .before .before .before .before .if1 .left, c .before .before .before .before .before .before .before .before .pre .1 .1 .within)
 
 octet-of-sub-octet-of : (t : ℕ) → octet-of-lts.Need-sub-octet-of (octet-of-claims t) (octet-of-at t) octet-of.Post
 octet-of-sub-octet-of t c = omega (arith, c .before .before .before .before .if1 .left)
@@ -80,14 +77,14 @@ octet-of-sub-octet-of t c = omega (arith, c .before .before .before .before .if1
 octet-of-octet-of-requires : (t : ℕ) → octet-of-lts.Need-octet-of-requires (octet-of-claims t) (octet-of-at t) octet-of.Post
 octet-of-octet-of-requires t c κs = (omega (arith, c .before .before .before .before .before .before .before .before .pre .0, c .before .before .before .before .if1 .left), (_, stood-next (c .before .before .before .before .before .before .before .before .pre .1 .1) (c .before .before .before .before .before .same-to .ensures) (c .before .before .before .before .if1 .left) (c .before .moved .ensures)))
 
-octet-of-shl-t15 : (t : ℕ) → octet-of-lts.Need-shl-t15 (octet-of-claims t) (octet-of-at t) octet-of.Post
-octet-of-shl-t15 t c = omega (arith, c .before .before .before .before .before .before .if1 .left, c .before .before .before .before .before .before .before .before .before .before .pre .1 .1 .few)
+octet-of-shl-t19 : (t : ℕ) → octet-of-lts.Need-shl-t19 (octet-of-claims t) (octet-of-at t) octet-of.Post
+octet-of-shl-t19 t c = omega (arith, c .before .before .before .before .before .before .if1 .left, c .before .before .before .before .before .before .before .before .before .before .pre .1 .1 .few)
 
 octet-of-returns-2 : (t : ℕ) → octet-of-lts.Need-returns-2 (octet-of-claims t) (octet-of-at t) octet-of.Post
 octet-of-returns-2 t c = octets-more _ _ _ _ _ _ (c .before .before .before .before .before .before .before .before .value-at .ensures) (c .before .before .before .before .before .before .before .same-to .ensures) (c .before .before .before .before .before .before .if1 .left) (c .before .before .before .before .before .alike2 .ensures) (c .before .before .before .moved .ensures) (c .before .octet-of .ensures)
 
-octet-of-add-t20 : (t : ℕ) → octet-of-lts.Need-add-t20 (octet-of-claims t) (octet-of-at t) octet-of.Post
-octet-of-add-t20 t c = omega (arith, octets-small (c .before .before .before .before .before .before .before .before .before .before .pre .1 .1) (octet-of-returns-2 t c))
+octet-of-add-t25 : (t : ℕ) → octet-of-lts.Need-add-t25 (octet-of-claims t) (octet-of-at t) octet-of.Post
+octet-of-add-t25 t c = omega (arith, octets-small (c .before .before .before .before .before .before .before .before .before .before .pre .1 .1) (octet-of-returns-2 t c))
 
 pub +octet-of-spec : {M : Type 1} → statement M
 +octet-of-spec = close μ-octet-of λ t. octet-of-lts.spec (octet-of-claims t)
@@ -101,11 +98,10 @@ pub +octet-of-spec : {M : Type 1} → statement M
     (octet-of-returns t)
     (octet-of-add-n t)
     (octet-of-alike-requires-2 t)
-    (octet-of-add-moved t)
+    (octet-of-add-next t)
     (octet-of-moved-requires t)
-    (octet-of-add-octet-of t)
     (octet-of-sub-octet-of t)
     (octet-of-octet-of-requires t)
-    (octet-of-shl-t15 t)
-    (octet-of-add-t20 t)
+    (octet-of-shl-t19 t)
+    (octet-of-add-t25 t)
     (octet-of-returns-2 t)

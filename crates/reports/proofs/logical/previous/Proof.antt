@@ -24,6 +24,10 @@ lies r = lies-upto (omega (arith, (start r) .good)) (omega (arith, (start r) .go
 abbrev ends : tie.After-previous-physical2 → tie.After-to-physical2
 ends m = m .before .before .before .before .before
 
+-- further places that the needs look back to
+abbrev after-previous-physical : tie.Else3 → tie.After-previous-physical
+after-previous-physical c = c .before .before .before
+
 to-physical-requires : tie.Need-to-physical-requires
 to-physical-requires c κs = search needs
 
@@ -57,17 +61,18 @@ returns-2 c =
     previous-nowhere ((start r) .pre .1) ((start r) .args .value) (lies r) (c .if3 .taken) (s .previous-physical .ensures) (inl (c .before .enum-told .given .1))
 
 previous-physical-requires-2 : tie.Need-previous-physical-requires-2
-previous-physical-requires-2 c κs = standing-indexed ((start (c .before .before .before .before)) .pre .1)
+previous-physical-requires-2 c κs = standing-indexed (start (after-previous-physical c .before) .pre .1)
 
 enum-known-m : tie.Need-enum-known-m
 enum-known-m c = search needs
 
 returns-3 : tie.Need-returns-3
 returns-3 c =
-    let m = c .before .before .before .before in
+    let m₂ = c .before .before in
+    let m = m₂ .before .before in
     let r = ends m in
-    previous-nowhere-parted ((start r) .pre .1) ((start r) .args .value) (lies r) (m .before .if3 .left) (m .before .before .before .before .previous-physical .ensures)
-    (m .before .before .enum-told .given .1) (m .previous-physical2 .ensures) (inr (c .before .before .m .given .0 .0, c .before .before .m .given .1, c .if4 .taken))
+    previous-nowhere-parted (start r .pre .1) (start r .args .value) (lies r) (m .before .if3 .left) (after-previous-physical (m .before) .previous-physical .ensures)
+    (m .before .before .enum-told .given .1) (m .previous-physical2 .ensures) (inr (m₂ .m .given .0 .0, m₂ .m .given .1, c .if4 .taken))
 
 to-logical-requires-2 : tie.Need-to-logical-requires-2
 to-logical-requires-2 c κs = search needs
@@ -85,16 +90,17 @@ returns-4 c =
 
 returns-5 : tie.Need-returns-5
 returns-5 c =
-    let m = c .before .before .before .before .before in
+    let m₂ = c .before .before .before in
+    let m = m₂ .before .before in
     let r = ends m in
-    previous-second ((start r) .pre .1) ((start r) .args .value) (lies r) (m .before .if3 .left) (m .before .before .before .before .previous-physical .ensures)
-    (m .before .before .enum-told .given .1) (m .previous-physical2 .ensures) (c .before .before .before .m .given .1) (c .before .if4 .left) (c .to-logical2 .ensures)
+    previous-second (start r .pre .1) (start r .args .value) (lies r) (m .before .if3 .left) (after-previous-physical (m .before) .previous-physical .ensures)
+    (m .before .before .enum-told .given .1) (m .previous-physical2 .ensures) (m₂ .m .given .1) (c .before .if4 .left) (c .to-logical2 .ensures)
 
 returns-6 : tie.Need-returns-6
 returns-6 c =
     let m = c .before .before in
     let r = ends m in
-    previous-nowhere-parted ((start r) .pre .1) ((start r) .args .value) (lies r) (m .before .if3 .left) (m .before .before .before .before .previous-physical .ensures)
+    previous-nowhere-parted (start r .pre .1) (start r .args .value) (lies r) (m .before .if3 .left) (after-previous-physical (m .before) .previous-physical .ensures)
     (m .before .before .enum-told .given .1) (m .previous-physical2 .ensures) (inl (c .enum-told2 .given .1))
 
 pub previous-spec : {M : Type 1} → statement M

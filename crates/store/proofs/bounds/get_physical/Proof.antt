@@ -19,10 +19,18 @@ enum-told : tie.Need-enum-told
 enum-told c = search needs
 
 returns : tie.Need-returns
-returns c = λ g t i. ap (reaches (c .before .before .before .before .before .before .args .x .0)) (sym (ap nearRun (c .before .before .n .given .1)) ∙ c .before .before .before .before .at-or-before .ensures g t i) ∙ sym (mem-last size 0 (inorder t) (c .before .before .before .before .before .before .args .x .0) (i .canonical))
+returns c =
+    let a = c .before .before .before .before in
+    λ g t i.
+    ap (reaches (a .before .before .args .x .0)) (sym (ap nearRun (c .before .before .n .given .1)) ∙ a .at-or-before .ensures g t i) ∙ sym
+    (mem-last size 0 (inorder t) (a .before .before .args .x .0) (i .canonical))
 
 returns-2 : tie.Need-returns-2
-returns-2 c = λ g t i. ap (reaches (c .before .before .before .before .args .x .0)) (sym (ap nearRun (c .enum-told .given .1)) ∙ c .before .before .at-or-before .ensures g t i) ∙ sym (mem-last size 0 (inorder t) (c .before .before .before .before .args .x .0) (i .canonical))
+returns-2 c =
+    let a = c .before .before in
+    λ g t i.
+    ap (reaches (a .before .before .args .x .0)) (sym (ap nearRun (c .enum-told .given .1)) ∙ a .at-or-before .ensures g t i) ∙ sym
+    (mem-last size 0 (inorder t) (a .before .before .args .x .0) (i .canonical))
 
 pub get-physical-spec : {M : Type 1} → statement M
 get-physical-spec =

@@ -9,6 +9,13 @@ use borrow.Author.Needs.{needs}
 use Rattle.store.proofs.bounds.last_held.Statement.{statement}
 use Rattle.store.proofs.bounds.last_held.Tie as tie
 
+-- the places that the needs look back to
+abbrev after-to-physical : tie.After-at-or-before → tie.After-to-physical
+after-to-physical c = c .before .before .before
+
+abbrev after-at-or-before : tie.After-at-or-before2 → tie.After-at-or-before
+after-at-or-before c = c .before .before .before
+
 to-physical-requires : tie.Need-to-physical-requires
 to-physical-requires c κs = search needs
 
@@ -16,7 +23,11 @@ get-physical-requires : tie.Need-get-physical-requires
 get-physical-requires c κs = search needs
 
 returns : tie.Need-returns
-returns c = λ g t i. last-top (inorder t) (i .canonical) (c .before .before .before .before .args .offset) (omega arith) (c .before .before .to-physical .result .0) (c .before .before .to-physical .ensures) (sym (c .before .get-physical .ensures g t i) ∙ c .if1 .taken)
+returns c =
+    let tp = c .before .before in
+    λ g t i.
+    last-top (inorder t) (i .canonical) (tp .before .before .args .offset) (omega arith) (tp .to-physical .result .0) (tp .to-physical .ensures)
+    (sym (c .before .get-physical .ensures g t i) ∙ c .if1 .taken)
 
 at-or-before-requires : tie.Need-at-or-before-requires
 at-or-before-requires c κs = search needs
@@ -43,13 +54,31 @@ enum-told-2 : tie.Need-enum-told-2
 enum-told-2 c = search needs
 
 returns-2 : tie.Need-returns-2
-returns-2 c = λ g t i. c .to-logical .ensures ∙ last-before (inorder t) (i .canonical) (c .before .before .before .before .before .before .before .before .before .args .offset) (omega arith) (c .before .before .before .before .before .before .before .to-physical .result .0) (c .before .before .n .given .0 .0) (c .before .before .before .before .before .before .before .to-physical .ensures) (sym (c .before .before .before .before .before .before .get-physical .ensures g t i) ∙ c .before .before .before .before .before .if1 .left) (sym (ap nearRun (c .before .before .n .given .1)) ∙ c .before .before .before .before .at-or-before .ensures g t i)
+returns-2 c =
+    let n = c .before .before in
+    let a = n .before .before in
+    let tp = after-to-physical a in
+    λ g t i.
+    c .to-logical .ensures ∙ last-before (inorder t) (i .canonical) (tp .before .before .args .offset) (omega arith) (tp .to-physical .result .0)
+    (n .n .given .0 .0) (tp .to-physical .ensures) (sym (a .before .before .get-physical .ensures g t i) ∙ a .before .if1 .left)
+    (sym (ap nearRun (n .n .given .1)) ∙ a .at-or-before .ensures g t i)
 
 returns-3 : tie.Need-returns-3
-returns-3 c = λ g t i. c .to-logical2 .ensures ∙ last-wrapped (inorder t) (i .canonical) (c .before .before .before .before .before .before .before .before .before .before .before .before .args .offset) (omega arith) (c .before .before .before .before .before .before .before .before .before .before .to-physical .result .0) (c .before .before .m .given .0 .0) (c .before .before .before .before .before .before .before .before .before .before .to-physical .ensures) (sym (ap nearRun (c .before .before .before .before .before .enum-told .given .1)) ∙ c .before .before .before .before .before .before .before .at-or-before .ensures g t i) (sym (ap nearRun (c .before .before .m .given .1)) ∙ c .before .before .before .before .at-or-before2 .ensures g t i)
+returns-3 c =
+    let m = c .before .before in
+    let a₂ = m .before .before in
+    let tp = after-to-physical (after-at-or-before a₂) in
+    λ g t i.
+    c .to-logical2 .ensures ∙ last-wrapped (inorder t) (i .canonical) (tp .before .before .args .offset) (omega arith) (tp .to-physical .result .0)
+    (m .m .given .0 .0) (tp .to-physical .ensures)
+    (sym (ap nearRun (a₂ .before .enum-told .given .1)) ∙ after-at-or-before a₂ .at-or-before .ensures g t i)
+    (sym (ap nearRun (m .m .given .1)) ∙ a₂ .at-or-before2 .ensures g t i)
 
 returns-4 : tie.Need-returns-4
-returns-4 c = λ g t i. last-none (inorder t) (i .canonical) (c .before .before .before .before .before .before .before .before .before .before .args .offset) (omega arith) (sym (ap nearRun (c .enum-told2 .given .1)) ∙ c .before .before .at-or-before2 .ensures g t i)
+returns-4 c =
+    λ g t i.
+    last-none (inorder t) (i .canonical) (after-to-physical (after-at-or-before (c .before .before)) .before .before .args .offset) (omega arith)
+    (sym (ap nearRun (c .enum-told2 .given .1)) ∙ c .before .before .at-or-before2 .ensures g t i)
 
 pub last-held-spec : {M : Type 1} → statement M
 last-held-spec =

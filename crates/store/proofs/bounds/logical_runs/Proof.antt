@@ -7,6 +7,13 @@ use borrow.Author.Needs.{needs}
 use Rattle.store.proofs.bounds.logical_runs.Statement.{statement}
 use Rattle.store.proofs.bounds.logical_runs.Tie as tie
 
+-- the places that the needs look back to
+abbrev start : tie.After-to-physical2 → tie.Start
+start c = c .before .before .before .before
+
+abbrev after-to-physical2 : tie.After-both-held2 → tie.After-to-physical2
+after-to-physical2 c = c .before .before
+
 returns : tie.Need-returns
 returns c = λ g t i. logical-zero i (c .before .before .pre) (c .if1 .taken)
 
@@ -26,19 +33,66 @@ add-result : tie.Need-add-result
 add-result c = search needs
 
 sub-result : tie.Need-sub-result
-sub-result c = let g = c .before .before .before .before .before .before .before .before .pre .0 in let t = c .before .before .before .before .before .before .before .before .pre .1 in let i = c .before .before .before .before .before .before .before .before .pre .2 in omega (arith, logical-runs i (c .before .before .before .before .before .before .before .before .pre) (omega arith) (c .before .before .before .before .before .before .if1 .left) (c .before .before .before .before .before .to-physical .ensures) (c .before .before .before .before .to-physical2 .ensures) (sym (c .before .if2 .left) ∙ c .before .before .before .both-held .ensures g t i) (sym (c .if4 .taken) ∙ c .before .before .both-held2 .ensures g t i))
+sub-result c =
+    let b₂ = c .before .before in
+    let t₂ = after-to-physical2 b₂ in
+    let s = start t₂ in
+    let g = s .pre .0 in
+    let t = s .pre .1 in
+    let i = s .pre .2 in
+    omega (
+      arith,
+      logical-runs i (s .pre) (omega arith) (t₂ .before .before .if1 .left) (t₂ .before .to-physical .ensures) (t₂ .to-physical2 .ensures)
+          (sym (c .before .if2 .left) ∙ b₂ .before .both-held .ensures g t i) (sym (c .if4 .taken) ∙ b₂ .both-held2 .ensures g t i),
+    )
 
 returns-2 : tie.Need-returns-2
-returns-2 c = λ g t i. omega (arith, logical-runs i (c .before .before .before .before .before .before .before .before .pre) (omega arith) (c .before .before .before .before .before .before .if1 .left) (c .before .before .before .before .before .to-physical .ensures) (c .before .before .before .before .to-physical2 .ensures) (sym (c .before .if2 .taken) ∙ c .before .before .before .both-held .ensures g t i) (sym (c .if3 .taken) ∙ c .before .before .both-held2 .ensures g t i))
+returns-2 c =
+    let b₂ = c .before .before in
+    let t₂ = after-to-physical2 b₂ in
+    λ g t i.
+    omega (
+      arith,
+      logical-runs i (start t₂ .pre) (omega arith) (t₂ .before .before .if1 .left) (t₂ .before .to-physical .ensures)
+          (t₂ .to-physical2 .ensures) (sym (c .before .if2 .taken) ∙ b₂ .before .both-held .ensures g t i)
+          (sym (c .if3 .taken) ∙ b₂ .both-held2 .ensures g t i),
+    )
 
 returns-3 : tie.Need-returns-3
-returns-3 c = λ g t i. omega (arith, logical-runs i (c .before .before .before .before .before .before .before .before .pre) (omega arith) (c .before .before .before .before .before .before .if1 .left) (c .before .before .before .before .before .to-physical .ensures) (c .before .before .before .before .to-physical2 .ensures) (sym (c .before .if2 .taken) ∙ c .before .before .before .both-held .ensures g t i) (sym (c .if3 .left) ∙ c .before .before .both-held2 .ensures g t i))
+returns-3 c =
+    let b₂ = c .before .before in
+    let t₂ = after-to-physical2 b₂ in
+    λ g t i.
+    omega (
+      arith,
+      logical-runs i (start t₂ .pre) (omega arith) (t₂ .before .before .if1 .left) (t₂ .before .to-physical .ensures)
+          (t₂ .to-physical2 .ensures) (sym (c .before .if2 .taken) ∙ b₂ .before .both-held .ensures g t i)
+          (sym (c .if3 .left) ∙ b₂ .both-held2 .ensures g t i),
+    )
 
 returns-4 : tie.Need-returns-4
-returns-4 c = λ g t i. omega (arith, logical-runs i (c .before .before .before .before .before .before .before .before .pre) (omega arith) (c .before .before .before .before .before .before .if1 .left) (c .before .before .before .before .before .to-physical .ensures) (c .before .before .before .before .to-physical2 .ensures) (sym (c .before .if2 .left) ∙ c .before .before .before .both-held .ensures g t i) (sym (c .if4 .taken) ∙ c .before .before .both-held2 .ensures g t i))
+returns-4 c =
+    let b₂ = c .before .before in
+    let t₂ = after-to-physical2 b₂ in
+    λ g t i.
+    omega (
+      arith,
+      logical-runs i (start t₂ .pre) (omega arith) (t₂ .before .before .if1 .left) (t₂ .before .to-physical .ensures)
+          (t₂ .to-physical2 .ensures) (sym (c .before .if2 .left) ∙ b₂ .before .both-held .ensures g t i)
+          (sym (c .if4 .taken) ∙ b₂ .both-held2 .ensures g t i),
+    )
 
 returns-5 : tie.Need-returns-5
-returns-5 c = λ g t i. omega (arith, logical-runs i (c .before .before .before .before .before .before .before .before .pre) (omega arith) (c .before .before .before .before .before .before .if1 .left) (c .before .before .before .before .before .to-physical .ensures) (c .before .before .before .before .to-physical2 .ensures) (sym (c .before .if2 .left) ∙ c .before .before .before .both-held .ensures g t i) (sym (c .if4 .left) ∙ c .before .before .both-held2 .ensures g t i))
+returns-5 c =
+    let b₂ = c .before .before in
+    let t₂ = after-to-physical2 b₂ in
+    λ g t i.
+    omega (
+      arith,
+      logical-runs i (start t₂ .pre) (omega arith) (t₂ .before .before .if1 .left) (t₂ .before .to-physical .ensures)
+          (t₂ .to-physical2 .ensures) (sym (c .before .if2 .left) ∙ b₂ .before .both-held .ensures g t i)
+          (sym (c .if4 .left) ∙ b₂ .both-held2 .ensures g t i),
+    )
 
 pub logical-runs-spec : {M : Type 1} → statement M
 logical-runs-spec =

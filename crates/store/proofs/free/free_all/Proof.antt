@@ -14,6 +14,10 @@ Inv-loop words₀ left₀ next₀ words left next = FreeAfter words₀ words lef
 abbrev μ-loop : tie.MeasureT-loop
 μ-loop words₀ left₀ next₀ words left next = left
 
+-- the places that the needs look back to
+abbrev in-loop : tie.After-slice-known2 Inv-loop μ-loop → tie.In-loop Inv-loop μ-loop
+in-loop c = c .before .before .before .before
+
 sub-left : tie.Need-sub-left Inv-loop μ-loop
 sub-left c = omega (arith, sized-length (c .before .args .words .now) (c .before .pre))
 
@@ -24,13 +28,13 @@ write-node-requires : tie.Need-write-node-requires Inv-loop μ-loop
 write-node-requires c κs = free-after-room _ _ _ _ (c .before .before .loop .inv)
 
 sub-left-2 : tie.Need-sub-left-2 Inv-loop μ-loop
-sub-left-2 c = omega (arith, c .before .before .before .before .loop-test .taken)
+sub-left-2 c = omega (arith, in-loop c .loop-test .taken)
 
 loop-less : tie.Need-loop-less Inv-loop μ-loop
-loop-less c = omega (arith, c .before .before .before .before .loop-test .taken)
+loop-less c = omega (arith, in-loop c .loop-test .taken)
 
 loop-again : tie.Need-loop-again Inv-loop μ-loop
-loop-again c = free-after-more _ _ _ _ _ (c .before .before .before .before .loop-test .taken) (c .before .before .before .before .before .loop .inv) (c .before .before .write-node .ensures)
+loop-again c = free-after-more _ _ _ _ _ (in-loop c .loop-test .taken) (in-loop c .before .loop .inv) (c .before .before .write-node .ensures)
 
 same-length : tie.Need-same-length Inv-loop μ-loop
 same-length c = search needs

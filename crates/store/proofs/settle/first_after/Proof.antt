@@ -4,14 +4,18 @@ use Rattle.store.proofs.Resetting.{alone-first, new-first, same-first, 
 use Rattle.store.proofs.settle.first_after.Statement.{statement}
 use Rattle.store.proofs.settle.first_after.Tie as tie
 
+-- the places that the needs look back to
+abbrev start : tie.After-struct-known → tie.Start
+start c = c .before .before .before
+
 returns : tie.Need-returns
-returns c = alone-first (c .before .before .before .before .pre .1) (c .before .before .if1 .taken) (c .if2 .taken)
+returns c = alone-first (start (c .before) .pre .1) (c .before .before .if1 .taken) (c .if2 .taken)
 
 returns-2 : tie.Need-returns-2
-returns-2 c = new-first (c .before .before .before .before .before .pre .1) (c .before .before .before .if1 .taken) (c .before .if2 .left) (c .if3 .taken)
+returns-2 c = new-first (start (c .before .before) .pre .1) (c .before .before .before .if1 .taken) (c .before .if2 .left) (c .if3 .taken)
 
 returns-3 : tie.Need-returns-3
-returns-3 c = same-first (c .before .before .before .before .before .pre .1) (c .before .before .before .if1 .taken) (c .before .if2 .left) (c .if3 .left)
+returns-3 c = same-first (start (c .before .before) .pre .1) (c .before .before .before .if1 .taken) (c .before .if2 .left) (c .if3 .left)
 
 returns-4 : tie.Need-returns-4
 returns-4 c = spared-first (c .before .before .before .pre .1) (c .before .if1 .left) (c .if4 .taken)

@@ -12,7 +12,9 @@ larger-requires : tie.Need-larger-requires
 larger-requires c κs = search needs
 
 returns-2 : tie.Need-returns-2
-returns-2 c = later-last (c .before .before .before .before .before .pre .1) (c .before .before .before .if1 .taken) (c .before .if2 .left) (c .larger .ensures)
+returns-2 c =
+    let t₁ = c .before .before .before in
+    later-last (t₁ .before .before .pre .1) (t₁ .if1 .taken) (c .before .if2 .left) (c .larger .ensures)
 
 returns-3 : tie.Need-returns-3
 returns-3 c = spared-last (c .before .before .before .pre .1) (c .before .if1 .left) (c .if3 .taken)

@@ -8,7 +8,9 @@ build-chain-requires : tie.Need-build-chain-requires
 build-chain-requires c κs = (_, _, link-supply (c .before .before .pre .5))
 
 refresh-requires : tie.Need-refresh-requires
-refresh-requires c κs = (_, _, _, link-kept (c .before .before .before .before .before .before .pre .5) (c .before .before .before .build-chain .ensures _ _ (link-supply (c .before .before .before .before .before .before .pre .5))))
+refresh-requires c κs =
+    let b = c .before .before .before in
+    (_, _, _, link-kept (b .before .before .before .pre .5) (b .build-chain .ensures _ _ (link-supply (b .before .before .before .pre .5))))
 
 same-length : tie.Need-same-length
 same-length c = search needs

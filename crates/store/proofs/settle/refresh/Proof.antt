@@ -4,6 +4,10 @@ use Rattle.store.proofs.Settling.{kept-indexed, root-room, first-told, 
 use Rattle.store.proofs.settle.refresh.Statement.{statement}
 use Rattle.store.proofs.settle.refresh.Tie as tie
 
+-- the places that the needs look back to
+abbrev start : tie.After-read-node → tie.Start
+start c = c .before .before .before
+
 vacant-requires : tie.Need-vacant-requires
 vacant-requires c κs = search needs
 
@@ -14,13 +18,16 @@ read-node-requires : tie.Need-read-node-requires
 read-node-requires c κs = root-room (c .if1 .left) (c .before .before .pre .3)
 
 first-held-requires : tie.Need-first-held-requires
-first-held-requires c κs = kept-indexed (c .before .before .before .pre .3)
+first-held-requires c κs = kept-indexed (start c .pre .3)
 
 last-held-requires : tie.Need-last-held-requires
-last-held-requires c κs = kept-indexed (c .before .before .before .before .pre .3)
+last-held-requires c κs = kept-indexed (start (c .before) .pre .3)
 
 returns-2 : tie.Need-returns-2
-returns-2 c = refresh-told (c .before .before .before .if1 .left) (c .before .before .read-node .ensures) (first-told _ (c .before .before .before .before .before .pre .3) (c .before .first-held .ensures)) (last-told _ (c .before .before .before .before .before .pre .3) (c .last-held .ensures))
+returns-2 c =
+    let r = c .before .before in
+    refresh-told (r .before .if1 .left) (r .read-node .ensures) (first-told _ (start r .pre .3) (c .before .first-held .ensures))
+    (last-told _ (start r .pre .3) (c .last-held .ensures))
 
 pub refresh-spec : {M : Type 1} → statement M
 refresh-spec =

@@ -19,7 +19,11 @@ wrapping-add-u64-requires : tie.Need-wrapping-add-u64-requires
 wrapping-add-u64-requires c κs = search needs
 
 returns : tie.Need-returns
-returns c = heights-last _ _ _ _ _ _ (c .before .before .before .pre) (omega (arith, c .before .before .before .fits)) (omega (arith, c .before .before .before .fits)) (omega (arith, c .before .before .wrapping-sub-u64)) (omega (arith, c .before .wrapping-sub-u642)) (c .before .before .wrapping-sub-u64 .ensures) (c .before .wrapping-sub-u642 .ensures) (c .wrapping-add-u64 .ensures)
+returns c =
+    heights-last _ _ _ _ _ _ (c .before .before .before .pre) (omega (arith, c .before .before .before .fits))
+    (omega (arith, c .before .before .before .fits)) (omega (arith, c .before .before .wrapping-sub-u64))
+    (omega (arith, c .before .wrapping-sub-u642)) (c .before .before .wrapping-sub-u64 .ensures) (c .before .wrapping-sub-u642 .ensures)
+    (c .wrapping-add-u64 .ensures)
 
 pub heights-fit-spec : {M : Type 1} → statement M
 heights-fit-spec =

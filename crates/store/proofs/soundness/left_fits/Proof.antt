@@ -22,6 +22,10 @@ passed c = c .before .before
 abbrev tested : tie.After-leaf-fits → tie.Else3
 tested c = c .before .before .before .before
 
+-- further places that the needs look back to
+abbrev start : tie.After-below → tie.Start
+start c = c .before .before
+
 -- the node's height
 high : (c : tie.After-below) → c .below .result .height ≡ 2
 high c = ap (λ (u : Node). u .height) (c .below .ensures) ∙ c .before .before .pre .1 .0
@@ -31,12 +35,14 @@ no-right : (c : tie.After-below) → c .below .result .right ≡ 0
 no-right c = ap (λ (u : Node). u .right) (c .below .ensures) ∙ c .before .before .pre .1 .1
 
 -- it is one
-seen : (c : tie.After-below) → Seen (c .before .before .args .words .now) (c .before .before .args .link) (c .below .result)
+seen : (c : tie.After-below) → Seen (start c .args .words .now) (start c .args .link) (c .below .result)
 seen c = seen-high (c .below .ensures) (omega (arith, high c)) (c .before .before .pre .0)
 
 -- so is what hangs on its left
-left-seen : (c : tie.Else2) → Seen (c .before .before .before .before .before .before .before .before .args .words .now) (c .before .before .before .before .before .before .below .result .left) (c .before .before .before .below2 .result)
-left-seen c = seen-high (c .before .before .before .below2 .ensures) (omega (arith, c .if2 .left)) (inside-out _ _ (sym (c .before .before .before .before .before .inside .ensures) ∙ not-false _ (c .before .before .before .before .if1 .left)))
+left-seen : (c : tie.Else2) → Seen (start (read (beside c)) .args .words .now) (read (beside c) .below .result .left) (beside c .before .below2 .result)
+left-seen c =
+    let b₂ = beside c .before in
+    seen-high (b₂ .below2 .ensures) (omega (arith, c .if2 .left)) (inside-out _ _ (sym (b₂ .before .before .inside .ensures) ∙ not-false _ (b₂ .before .if1 .left)))
 
 below-requires : tie.Need-below-requires
 below-requires c κs = search needs
@@ -51,7 +57,7 @@ below-requires-2 : tie.Need-below-requires-2
 below-requires-2 c κs = inside-out _ _ (sym (c .before .inside .ensures) ∙ not-false _ (c .if1 .left))
 
 below-requires-3 : tie.Need-below-requires-3
-below-requires-3 c κs = omega (arith, no-right (c .before .before .before), c .before .before .before .before .before .pre .0)
+below-requires-3 c κs = omega (arith, no-right (c .before .before .before), start (c .before .before .before) .pre .0)
 
 returns-2 : tie.Need-returns-2
 returns-2 c = let d = read (c .before .before) in left-alone (seen d) _ _ _ (high d) (no-right d) _ (c .before .before .before .below2 .ensures) (c .if2 .taken)
@@ -60,7 +66,9 @@ node-fits-requires : tie.Need-node-fits-requires
 node-fits-requires c κs = omega (arith, high (read (beside c)))
 
 returns-3 : tie.Need-returns-3
-returns-3 c = let d = read (beside (c .before .before)) in node-fails (seen d) _ _ _ (c .before .before .before .before .before .below2 .ensures) (c .before .before .before .before .below3 .ensures) (c .before .node-fits .ensures) (c .if3 .taken)
+returns-3 c =
+    let b₃ = beside (c .before .before) in
+    node-fails (seen (read b₃)) _ _ _ (b₃ .before .below2 .ensures) (b₃ .below3 .ensures) (c .before .node-fits .ensures) (c .if3 .taken)
 
 returns-4 : tie.Need-returns-4
 returns-4 c = let e = passed (c .before .before) in left-crowded (seen (read (beside e))) _ _ _ (left-seen e .some) (omega (arith, c .if4 .taken))
@@ -70,18 +78,23 @@ leaf-fits-requires c κs = search needs
 
 returns-5 : tie.Need-returns-5
 returns-5 c =
-    let e = passed (tested (c .before)) in
-    let d = read (beside e) in
-    left-fails (seen d) _ _ _ (node-passes (seen d) _ _ _ (c .before .before .before .before .before .before .before .before .before .before .below2 .ensures) (c .before .before .before .before .before .before .before .before .before .below3 .ensures) (c .before .before .before .before .before .before .node-fits .ensures) (c .before .before .before .before .before .if3 .left))
-    (omega (arith, c .before .before .before .if4 .left)) (leaf-decides (left-seen e) _ _ _ (c .before .before .before .before .before .before .before .if2 .left) _ (c .before .leaf-fits .ensures)) (c .if5 .taken)
+    let e₃ = tested (c .before) in
+    let e = passed e₃ in
+    let b₃ = beside e in
+    let d = read b₃ in
+    left-fails (seen d) _ _ _ (node-passes (seen d) _ _ _ (b₃ .before .below2 .ensures) (b₃ .below3 .ensures) (e₃ .before .node-fits .ensures) (e₃ .if3 .left))
+    (omega (arith, c .before .before .before .if4 .left)) (leaf-decides (left-seen e) _ _ _ (e .if2 .left) _ (c .before .leaf-fits .ensures)) (c .if5 .taken)
 
 returns-6 : tie.Need-returns-6
 returns-6 c =
-    let e = passed (tested (c .before)) in
-    let d = read (beside e) in
-    let own = node-passes (seen d) _ _ _ (c .before .before .before .before .before .before .before .before .before .before .below2 .ensures) (c .before .before .before .before .before .before .before .before .before .below3 .ensures) (c .before .before .before .before .before .before .node-fits .ensures) (c .before .before .before .before .before .if3 .left) in
+    let e₃ = tested (c .before) in
+    let e = passed e₃ in
+    let b₃ = beside e in
+    let d = read b₃ in
+    let own = node-passes (seen d) _ _ _ (b₃ .before .below2 .ensures) (b₃ .below3 .ensures) (e₃ .before .node-fits .ensures) (e₃ .if3 .left) in
     right-decides (seen d) _ _ _ own
-    (left-passes (seen d) _ _ _ own (omega (arith, c .before .before .before .if4 .left)) (leaf-decides (left-seen e) _ _ _ (c .before .before .before .before .before .before .before .if2 .left) _ (c .before .leaf-fits .ensures)) (c .if5 .left)) _
+    (left-passes (seen d) _ _ _ own (omega (arith, c .before .before .before .if4 .left))
+    (leaf-decides (left-seen e) _ _ _ (e .if2 .left) _ (c .before .leaf-fits .ensures)) (c .if5 .left)) _
     (tells-none _ _ _ _ _ (no-right d))
 
 pub left-fits-spec : {M : Type 1} → statement M

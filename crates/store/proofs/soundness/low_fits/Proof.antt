@@ -11,9 +11,13 @@ use Rattle.store.proofs.soundness.low_fits.Tie as tie
 abbrev read : tie.Else1 → tie.After-below
 read c = c .before .before
 
+-- further places that the needs look back to
+abbrev start : tie.After-below → tie.Start
+start c = c .before .before
+
 -- it is a node
-seen : (c : tie.After-below) → Seen (c .before .before .args .words .now) (c .before .before .args .link) (c .below .result)
-seen c = record { some = λ z. omega (arith, c .before .before .pre .1 .0, z); room = c .before .before .pre .0; is = c .below .ensures }
+seen : (c : tie.After-below) → Seen (start c .args .words .now) (start c .args .link) (c .below .result)
+seen c = record { some = λ z. omega (arith, start c .pre .1 .0, z); room = start c .pre .0; is = c .below .ensures }
 
 below-requires : tie.Need-below-requires
 below-requires c κs = search needs
@@ -27,7 +31,7 @@ returns c = search needs
 returns-2 : tie.Need-returns-2
 returns-2 c =
     let d = read (c .before .before) in
-    no-height (seen d) _ _ _ (omega (arith, ap (λ (u : Node). u .height) (d .below .ensures), c .before .before .before .before .before .before .pre .1 .1, c .before .before .if1 .left, c .if2 .taken))
+    no-height (seen d) _ _ _ (omega (arith, ap (λ (u : Node). u .height) (d .below .ensures), start d .pre .1 .1, c .before .before .if1 .left, c .if2 .taken))
 
 leaf-fits-requires : tie.Need-leaf-fits-requires
 leaf-fits-requires c κs = search needs

@@ -19,6 +19,10 @@ beside c = c .before .before
 abbrev passed : tie.Else3 → tie.Else2
 passed c = c .before .before
 
+-- further places that the needs look back to
+abbrev start : tie.After-below → tie.Start
+start c = c .before .before
+
 -- the node's height
 high : (c : tie.After-below) → c .below .result .height ≡ 2
 high c = ap (λ (u : Node). u .height) (c .below .ensures) ∙ c .before .before .pre .1 .0
@@ -28,12 +32,14 @@ no-left : (c : tie.After-below) → c .below .result .left ≡ 0
 no-left c = ap (λ (u : Node). u .left) (c .below .ensures) ∙ c .before .before .pre .1 .1
 
 -- it is one
-seen : (c : tie.After-below) → Seen (c .before .before .args .words .now) (c .before .before .args .link) (c .below .result)
+seen : (c : tie.After-below) → Seen (start c .args .words .now) (start c .args .link) (c .below .result)
 seen c = seen-high (c .below .ensures) (omega (arith, high c)) (c .before .before .pre .0)
 
 -- so is what hangs on its right
-right-seen : (c : tie.Else2) → Seen (c .before .before .before .before .before .before .before .before .args .words .now) (c .before .before .before .before .before .before .below .result .right) (c .before .before .below3 .result)
-right-seen c = seen-high (c .before .before .below3 .ensures) (omega (arith, c .if2 .left)) (inside-out _ _ (sym (c .before .before .before .before .before .inside .ensures) ∙ not-false _ (c .before .before .before .before .if1 .left)))
+right-seen : (c : tie.Else2) → Seen (start (read (beside c)) .args .words .now) (read (beside c) .below .result .right) (beside c .below3 .result)
+right-seen c =
+    let b₃ = beside c in
+    seen-high (b₃ .below3 .ensures) (omega (arith, c .if2 .left)) (inside-out _ _ (sym (b₃ .before .before .before .inside .ensures) ∙ not-false _ (b₃ .before .before .if1 .left)))
 
 below-requires : tie.Need-below-requires
 below-requires c κs = search needs
@@ -57,7 +63,9 @@ node-fits-requires : tie.Need-node-fits-requires
 node-fits-requires c κs = omega (arith, high (read (beside c)))
 
 returns-3 : tie.Need-returns-3
-returns-3 c = let d = read (beside (c .before .before)) in node-fails (seen d) _ _ _ (c .before .before .before .before .before .below2 .ensures) (c .before .before .before .before .below3 .ensures) (c .before .node-fits .ensures) (c .if3 .taken)
+returns-3 c =
+    let b₃ = beside (c .before .before) in
+    node-fails (seen (read b₃)) _ _ _ (b₃ .before .below2 .ensures) (b₃ .below3 .ensures) (c .before .node-fits .ensures) (c .if3 .taken)
 
 sub-if4 : tie.Need-sub-if4
 sub-if4 c = search needs
@@ -65,7 +73,8 @@ sub-if4 c = search needs
 returns-4 : tie.Need-returns-4
 returns-4 c =
     let e = passed (c .before .before) in
-    right-crowded (seen (read (beside e))) _ _ _ (right-seen e .some) (omega (arith, c .if4 .taken, c .before .before .before .before .before .before .before .before .before .before .before .before .fits))
+    let b = read (beside e) in
+    right-crowded (seen b) _ _ _ (right-seen e .some) (omega (arith, c .if4 .taken, start b .fits))
 
 add-leaf-fits : tie.Need-add-leaf-fits
 add-leaf-fits c = search needs
@@ -75,11 +84,13 @@ leaf-fits-requires c κs = search needs
 
 returns-5 : tie.Need-returns-5
 returns-5 c =
-    let e = passed (c .before .before .before .before) in
-    let d = read (beside e) in
-    right-decides (seen d) _ _ _ (node-passes (seen d) _ _ _ (c .before .before .before .before .before .before .before .before .before .below2 .ensures) (c .before .before .before .before .before .before .before .before .below3 .ensures) (c .before .before .before .before .before .node-fits .ensures) (c .before .before .before .before .if3 .left))
+    let e₃ = c .before .before .before .before in
+    let e = passed e₃ in
+    let b₃ = beside e in
+    let d = read b₃ in
+    right-decides (seen d) _ _ _ (node-passes (seen d) _ _ _ (b₃ .before .below2 .ensures) (b₃ .below3 .ensures) (e₃ .before .node-fits .ensures) (e₃ .if3 .left))
     (λ k h. tree-none _ _ _ _ _ _ (no-left d)) _
-    (leaf-decides (right-seen e) _ _ _ (c .before .before .before .before .before .before .if2 .left) _ (c .leaf-fits .ensures))
+    (leaf-decides (right-seen e) _ _ _ (e .if2 .left) _ (c .leaf-fits .ensures))
 
 pub right-fits-spec : {M : Type 1} → statement M
 right-fits-spec =

@@ -26,33 +26,48 @@ passed c = c .before .before
 abbrev tested : tie.After-leaf-fits → tie.Else7
 tested c = c .before .before .before .before
 
+-- further places that the needs look back to
+abbrev start : tie.After-below → tie.Start
+start c = c .before .before
+
+abbrev after-inside2 : tie.After-below3 → tie.After-inside2
+after-inside2 c = c .before .before .before
+
 -- the node's height
 high : (c : tie.After-below) → c .below .result .height ≡ 2
 high c = ap (λ (u : Node). u .height) (c .below .ensures) ∙ c .before .before .pre .1
 
 -- it is one
-seen : (c : tie.After-below) → Seen (c .before .before .args .words .now) (c .before .before .args .link) (c .below .result)
+seen : (c : tie.After-below) → Seen (start c .args .words .now) (start c .args .link) (c .below .result)
 seen c = seen-high (c .below .ensures) (omega (arith, high c)) (c .before .before .pre .0)
 
 -- so is what hangs on its left
-left-seen : (c : tie.After-below3) → Seen (c .before .before .before .before .before .before .before .before .before .before .before .before .args .words .now) (c .before .before .before .before .before .before .before .before .before .before .below .result .left) (c .before .below2 .result)
-left-seen c = record { some = c .before .before .before .before .before .before .before .before .if1 .left; room = inside-out _ _ (sym (c .before .before .before .before .before .inside .ensures) ∙ not-false _ (c .before .before .before .before .if3 .left)); is = c .before .below2 .ensures }
+left-seen : (c : tie.After-below3) → Seen (start (read (linked c)) .args .words .now) (read (linked c) .below .result .left) (c .before .below2 .result)
+left-seen c =
+    record
+    { some = linked c .before .before .if1 .left; room = inside-out _ _ (sym (after-inside2 c .before .before .inside .ensures) ∙ not-false _ (after-inside2 c .before .if3 .left)); is = c .before .below2 .ensures }
 
 -- and on its right
-right-seen : (c : tie.After-below3) → Seen (c .before .before .before .before .before .before .before .before .before .before .before .before .args .words .now) (c .before .before .before .before .before .before .before .before .before .before .below .result .right) (c .below3 .result)
-right-seen c = record { some = c .before .before .before .before .before .before .if2 .left; room = inside-out _ _ (sym (c .before .before .before .inside2 .ensures) ∙ not-false _ (c .before .before .if4 .left)); is = c .below3 .ensures }
+right-seen : (c : tie.After-below3) → Seen (start (read (linked c)) .args .words .now) (read (linked c) .below .result .right) (c .below3 .result)
+right-seen c =
+    record
+    { some = linked c .if2 .left; room = inside-out _ _ (sym (after-inside2 c .inside2 .ensures) ∙ not-false _ (c .before .before .if4 .left)); is = c .below3 .ensures }
 
 below-requires : tie.Need-below-requires
 below-requires c κs = search needs
 
 right-fits-requires : tie.Need-right-fits-requires
-right-fits-requires c κs = (c .before .before .before .before .pre .0, (c .before .before .before .before .pre .1, ap (λ (u : Node). u .left) (sym (c .before .before .below .ensures)) ∙ c .if1 .taken))
+right-fits-requires c κs =
+    let s = start (c .before .before) in
+    (s .pre .0, (s .pre .1, ap (λ (u : Node). u .left) (sym (c .before .before .below .ensures)) ∙ c .if1 .taken))
 
 returns : tie.Need-returns
 returns c = search needs
 
 left-fits-requires : tie.Need-left-fits-requires
-left-fits-requires c κs = (c .before .before .before .before .before .before .pre .0, (c .before .before .before .before .before .before .pre .1, ap (λ (u : Node). u .right) (sym (c .before .before .before .before .below .ensures)) ∙ c .if2 .taken))
+left-fits-requires c κs =
+    let b = c .before .before .before .before in
+    (start b .pre .0, (start b .pre .1, ap (λ (u : Node). u .right) (sym (b .below .ensures)) ∙ c .if2 .taken))
 
 returns-2 : tie.Need-returns-2
 returns-2 c = search needs
@@ -76,20 +91,24 @@ below-requires-3 : tie.Need-below-requires-3
 below-requires-3 c κs = inside-out _ _ (sym (c .before .before .inside2 .ensures) ∙ not-false _ (c .before .if4 .left))
 
 returns-5 : tie.Need-returns-5
-returns-5 c = let d = read (linked (c .before .before)) in left-high (seen d) _ _ _ (high d) (c .before .before .before .before .before .before .before .before .before .before .if1 .left) _ (c .before .before .before .below2 .ensures) (c .if5 .taken)
+returns-5 c =
+    let e₂ = linked (c .before .before) in
+    let d = read e₂ in
+    left-high (seen d) _ _ _ (high d) (e₂ .before .before .if1 .left) _ (c .before .before .before .below2 .ensures) (c .if5 .taken)
 
 returns-6 : tie.Need-returns-6
 returns-6 c =
-    let d = read (linked (c .before .before .before .before)) in
-    right-high (seen d) _ _ _ (high d) (c .before .before .before .before .before .before .before .before .before .before .if2 .left) _ (c .before .before .before .before .below3 .ensures) (c .if6 .taken)
+    let b₃ = c .before .before .before .before in
+    let d = read (linked b₃) in
+    right-high (seen d) _ _ _ (high d) (linked b₃ .if2 .left) _ (b₃ .below3 .ensures) (c .if6 .taken)
 
 node-fits-requires : tie.Need-node-fits-requires
 node-fits-requires c κs = omega (arith, high (read (linked (beside c))))
 
 returns-7 : tie.Need-returns-7
 returns-7 c =
-    let d = read (linked (beside (c .before .before))) in
-    node-fails (seen d) _ _ _ (c .before .before .before .before .before .before .before .below2 .ensures) (c .before .before .before .before .before .before .below3 .ensures) (c .before .node-fits .ensures) (c .if7 .taken)
+    let b₃ = beside (c .before .before) in
+    node-fails (seen (read (linked b₃))) _ _ _ (b₃ .before .below2 .ensures) (b₃ .below3 .ensures) (c .before .node-fits .ensures) (c .if7 .taken)
 
 returns-8 : tie.Need-returns-8
 returns-8 c =
@@ -101,10 +120,12 @@ leaf-fits-requires c κs = search needs
 
 returns-9 : tie.Need-returns-9
 returns-9 c =
-    let e = beside (passed (tested (c .before))) in
+    let e₇ = tested (c .before) in
+    let e = beside (passed e₇) in
     let d = read (linked e) in
-    left-fails (seen d) _ _ _ (node-passes (seen d) _ _ _ (e .before .below2 .ensures) (e .below3 .ensures) (c .before .before .before .before .before .before .node-fits .ensures) (c .before .before .before .before .before .if7 .left))
-    (omega (arith, c .before .before .before .if8 .left)) (leaf-decides (left-seen e) _ _ _ (c .before .before .before .before .before .before .before .before .before .if5 .left) _ (c .before .leaf-fits .ensures)) (c .if9 .taken)
+    left-fails (seen d) _ _ _ (node-passes (seen d) _ _ _ (e .before .below2 .ensures) (e .below3 .ensures) (e₇ .before .node-fits .ensures) (e₇ .if7 .left))
+    (omega (arith, c .before .before .before .if8 .left))
+    (leaf-decides (left-seen e) _ _ _ (passed e₇ .before .before .if5 .left) _ (c .before .leaf-fits .ensures)) (c .if9 .taken)
 
 sub-if10 : tie.Need-sub-if10
 sub-if10 c = search needs
@@ -112,7 +133,8 @@ sub-if10 c = search needs
 returns-10 : tie.Need-returns-10
 returns-10 c =
     let e = beside (passed (tested (c .before .before .before))) in
-    right-crowded (seen (read (linked e))) _ _ _ (right-seen e .some) (omega (arith, c .if10 .taken, c .before .before .before .before .before .before .before .before .before .before .before .before .before .before .before .before .before .before .before .before .before .before .before .before .before .fits))
+    let b = read (linked e) in
+    right-crowded (seen b) _ _ _ (right-seen e .some) (omega (arith, c .if10 .taken, start b .fits))
 
 add-leaf-fits : tie.Need-add-leaf-fits
 add-leaf-fits c = search needs
@@ -122,13 +144,16 @@ leaf-fits-requires-2 c κs = search needs
 
 returns-11 : tie.Need-returns-11
 returns-11 c =
-    let o = tested (c .before .before .before .before .before) in
-    let e = beside (passed o) in
+    let e₉ = c .before .before .before .before in
+    let o = tested (e₉ .before) in
+    let e₆ = passed o in
+    let e = beside e₆ in
     let d = read (linked e) in
     let own = node-passes (seen d) _ _ _ (e .before .below2 .ensures) (e .below3 .ensures) (o .before .node-fits .ensures) (o .if7 .left) in
     right-decides (seen d) _ _ _ own
-    (left-passes (seen d) _ _ _ own (omega (arith, c .before .before .before .before .before .before .before .if8 .left)) (leaf-decides (left-seen e) _ _ _ (c .before .before .before .before .before .before .before .before .before .before .before .before .before .if5 .left) _ (c .before .before .before .before .before .leaf-fits .ensures)) (c .before .before .before .before .if9 .left)) _
-    (leaf-decides (right-seen e) _ _ _ (passed o .if6 .left) _ (c .leaf-fits2 .ensures))
+    (left-passes (seen d) _ _ _ own (omega (arith, e₉ .before .before .before .if8 .left))
+    (leaf-decides (left-seen e) _ _ _ (e₆ .before .before .if5 .left) _ (e₉ .before .leaf-fits .ensures)) (e₉ .if9 .left)) _
+    (leaf-decides (right-seen e) _ _ _ (e₆ .if6 .left) _ (c .leaf-fits2 .ensures))
 
 pub twig-fits-spec : {M : Type 1} → statement M
 twig-fits-spec =

@@ -18,11 +18,11 @@ sub-if3 c = search needs
 returns-3 : tie.Need-returns-3
 returns-3 c = gap-not (λ g. omega (arith, g .starts, g .ends))
 
-sub-is-free : tie.Need-sub-is-free
-sub-is-free c = search needs
+sub-last : tie.Need-sub-last
+sub-last c = search needs
 
-add-is-free : tie.Need-add-is-free
-add-is-free c = search needs
+add-last : tie.Need-add-last
+add-last c = search needs
 
 is-free-requires : tie.Need-is-free-requires
 is-free-requires c κs = search needs
@@ -38,7 +38,7 @@ is-gap-spec =
     returns-2
     sub-if3
     returns-3
-    sub-is-free
-    add-is-free
+    sub-last
+    add-last
     is-free-requires
     returns-4)

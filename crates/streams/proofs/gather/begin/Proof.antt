@@ -7,7 +7,9 @@ enum-known-f : tie.Need-enum-known-f
 enum-known-f c = search needs
 
 open-requires : tie.Need-open-requires
-open-requires c κs = (rw (c .before .before .f .given .1) at (c .before .before .before .before .before .pre .0), c .before .before .before .before .before .pre .1)
+open-requires c κs =
+    let f = c .before .before in
+    (rw (f .f .given .1) at (f .before .before .before .pre .0), f .before .before .before .pre .1)
 
 enum-known-f-2 : tie.Need-enum-known-f-2
 enum-known-f-2 c = search needs

@@ -40,17 +40,28 @@ abbrev laid : tie.After-struct-known Inv-loop μ-loop → tie.After-lay-run Inv-
 laid c = c .before .before .before
 
 abbrev onward : tie.After-struct-known2 Inv-loop μ-loop → tie.Else1 Inv-loop μ-loop
-onward c = c .before .before .before .before .before
+onward c = c .before .before .before
+
+-- further places that the needs look back to
+abbrev start-from-view-of : tie.After-view-of Inv-loop μ-loop → tie.Start Inv-loop μ-loop
+start-from-view-of c = c .before .before .before .before
 
 -- both feeds are read from 0 on
 both : (c : tie.After-begin2 Inv-loop μ-loop)
-    → Both (start c .args .x .now) (c .before .before .begin .last .1 .0) (viewed c .before .view-of .result) (c .before .before .begin .result) (start c .args .y .now) (c .begin2 .last .1 .0) (viewed c .view-of2 .result) (c .begin2 .result) 0 (fedBy (start c .args .fx) (start c .args .x .now)) (fedBy (start c .args .fy) (start c .args .y .now))
+    → Both (start c .args .x .now) (c .before .before .begin .last .1 .0) (viewed c .before .view-of .result) (c .before .before .begin .result)
+    (start c .args .y .now) (c .begin2 .last .1 .0) (viewed c .view-of2 .result) (c .begin2 .result) 0
+    (fedBy (start c .args .fx) (start c .args .x .now)) (fedBy (start c .args .fy) (start c .args .y .now))
 both c = begun (start c .pre .sources) (viewed c .before .view-of .ensures) (viewed c .view-of2 .ensures) (c .before .before .begin .ensures) (c .begin2 .ensures)
 
 -- what the invariant says of them, for any chain
 filling : (c : tie.At-loop Inv-loop μ-loop) (ns : List ℕ)
-    → Ample (start (opened c) .args .into .now) (start (opened c) .args .head) ns (joined (start (opened c) .args .op) (start (opened c) .args .x .now) (start (opened c) .args .fx) (start (opened c) .args .y .now) (start (opened c) .args .fy))
-    → Filling (start (opened c) .args .into .now) (c .loop .into) (start (opened c) .args .head) (c .loop .at) (start (opened c) .args .x .now) (c .loop .xp) (viewed (opened c) .before .view-of .result) (start (opened c) .args .y .now) (c .loop .yp) (viewed (opened c) .view-of2 .result) (c .loop .j) (start (opened c) .args .op) (fedBy (start (opened c) .args .fx) (start (opened c) .args .x .now)) (fedBy (start (opened c) .args .fy) (start (opened c) .args .y .now)) (c .loop .n) ns
+    → Ample (start (opened c) .args .into .now) (start (opened c) .args .head) ns
+    (joined (start (opened c) .args .op) (start (opened c) .args .x .now) (start (opened c) .args .fx) (start (opened c) .args .y .now)
+    (start (opened c) .args .fy))
+    → Filling (start (opened c) .args .into .now) (c .loop .into) (start (opened c) .args .head) (c .loop .at) (start (opened c) .args .x .now)
+    (c .loop .xp) (viewed (opened c) .before .view-of .result) (start (opened c) .args .y .now) (c .loop .yp) (viewed (opened c) .view-of2 .result)
+    (c .loop .j) (start (opened c) .args .op) (fedBy (start (opened c) .args .fx) (start (opened c) .args .x .now))
+    (fedBy (start (opened c) .args .fy) (start (opened c) .args .y .now)) (c .loop .n) ns
 filling c ns am = c .loop .inv _ _ ns (c .before .next-run .ensures _ _ (both (opened c))) am
 
 view-of-requires : tie.Need-view-of-requires Inv-loop μ-loop
@@ -60,10 +71,10 @@ view-of-requires-2 : tie.Need-view-of-requires-2 Inv-loop μ-loop
 view-of-requires-2 c κs = search needs
 
 begin-requires : tie.Need-begin-requires Inv-loop μ-loop
-begin-requires c κs = (c .before .before .before .before .before .before .pre .sources .left, refl)
+begin-requires c κs = (start-from-view-of (c .before .before) .pre .sources .left, refl)
 
 begin-requires-2 : tie.Need-begin-requires-2 Inv-loop μ-loop
-begin-requires-2 c κs = (c .before .before .before .before .before .before .before .before .pre .sources .right, refl)
+begin-requires-2 c κs = (start-from-view-of (c .before .before .before .before) .pre .sources .right, refl)
 
 next-run-requires : tie.Need-next-run-requires Inv-loop μ-loop
 next-run-requires c κs = (_, _, both (c .before .before))
@@ -92,8 +103,8 @@ returns c = λ ns am.
 same-length : tie.Need-same-length Inv-loop μ-loop
 same-length c = let p = start (opened (found (laid (c .before)) .before)) .pre in returns c (p .nodes) (p .ample) .filled .long
 
-add-next-run : tie.Need-add-next-run Inv-loop μ-loop
-add-next-run c =
+add-next : tie.Need-add-next Inv-loop μ-loop
+add-next c =
     let t = found (laid (onward c .before)) in
     let p = start (opened (t .before)) .pre in
     let n = stream-after (filling (t .before) (p .nodes) (p .ample) .stream) (t .loop-test .taken) (onward c .if1 .left) in
@@ -101,21 +112,21 @@ add-next-run c =
 
 next-run-requires-2 : tie.Need-next-run-requires-2 Inv-loop μ-loop
 next-run-requires-2 c κs =
-    let t = found (laid (onward c .before)) in
+    let t = found (laid (onward (c .before .before) .before)) in
     let p = start (opened (t .before)) .pre in
-    (_, _, stream-onward (filling (t .before) (p .nodes) (p .ample) .stream) (t .loop-test .taken) (onward c .if1 .left))
+    (_, _, stream-onward (filling (t .before) (p .nodes) (p .ample) .stream) (t .loop-test .taken) (onward (c .before .before) .if1 .left))
 
 loop-less : tie.Need-loop-less Inv-loop μ-loop
 loop-less c =
-    let t = found (laid (onward (c .before) .before)) in
+    let t = found (laid (onward (c .before .before .before) .before)) in
     let p = start (opened (t .before)) .pre in
     let n = fill-few (p .ample) (filling (t .before) (p .nodes) (p .ample)) (t .loop-test .taken) in
     omega arith
 
 loop-again : tie.Need-loop-again Inv-loop μ-loop
 loop-again c = λ Q R ns h am.
-    let l = laid (onward (c .before) .before) in
-    fill-more am (found l .before .loop .inv Q R ns h am) (found l .loop-test .taken) (l .lay-run .ensures) (onward (c .before) .if1 .left) (c .next-run2 .ensures)
+    let l = laid (onward (c .before .before .before) .before) in
+    fill-more am (found l .before .loop .inv Q R ns h am) (found l .loop-test .taken) (l .lay-run .ensures) (onward (c .before .before .before) .if1 .left) (c .next-run2 .ensures)
 
 returns-2 : tie.Need-returns-2 Inv-loop μ-loop
 returns-2 c = λ ns am. fill-all am (filling (c .before) ns am) (c .loop-test .left)
@@ -139,7 +150,7 @@ fill-spec =
     add-n
     same-length
     returns
-    add-next-run
+    add-next
     next-run-requires-2
     loop-less
     loop-again

@@ -29,19 +29,28 @@ abbrev opened : tie.At-loop Inv-loop μ-loop → tie.After-begin2 Inv-loop μ-lo
 opened c = c .before .before .before .before
 
 abbrev onward : tie.After-struct-known2 Inv-loop μ-loop → tie.Else2 Inv-loop μ-loop
-onward c = c .before .before .before .before .before
+onward c = c .before .before .before
 
 abbrev found : tie.Else2 Inv-loop μ-loop → tie.In-loop Inv-loop μ-loop
 found c = c .before .before .before
 
+-- further places that the needs look back to
+abbrev after-view-of : tie.After-xp Inv-loop μ-loop → tie.After-view-of Inv-loop μ-loop
+after-view-of c = c .before .before
+
 -- both feeds are read from 0 on
 both : (c : tie.After-begin2 Inv-loop μ-loop)
-    → Both (start c .args .x .now) (c .before .before .begin .last .1 .0) (viewed c .before .view-of .result) (c .before .before .begin .result) (start c .args .y .now) (c .begin2 .last .1 .0) (viewed c .view-of2 .result) (c .begin2 .result) 0 (fedBy (start c .args .fx) (start c .args .x .now)) (fedBy (start c .args .fy) (start c .args .y .now))
+    → Both (start c .args .x .now) (c .before .before .begin .last .1 .0) (viewed c .before .view-of .result) (c .before .before .begin .result)
+    (start c .args .y .now) (c .begin2 .last .1 .0) (viewed c .view-of2 .result) (c .begin2 .result) 0
+    (fedBy (start c .args .fx) (start c .args .x .now)) (fedBy (start c .args .fy) (start c .args .y .now))
 both c = begun (start c .pre) (viewed c .before .view-of .ensures) (viewed c .view-of2 .ensures) (c .before .before .begin .ensures) (c .begin2 .ensures)
 
 -- what the invariant says of them
 counted : (c : tie.At-loop Inv-loop μ-loop)
-    → Counted (start (opened c) .args .x .now) (c .loop .xp) (viewed (opened c) .before .view-of .result) (start (opened c) .args .y .now) (c .loop .yp) (viewed (opened c) .view-of2 .result) (c .loop .j) (start (opened c) .args .op) (fedBy (start (opened c) .args .fx) (start (opened c) .args .x .now)) (fedBy (start (opened c) .args .fy) (start (opened c) .args .y .now)) (start (opened c) .args .limit) (c .loop .left)
+    → Counted (start (opened c) .args .x .now) (c .loop .xp) (viewed (opened c) .before .view-of .result) (start (opened c) .args .y .now)
+    (c .loop .yp) (viewed (opened c) .view-of2 .result) (c .loop .j) (start (opened c) .args .op)
+    (fedBy (start (opened c) .args .fx) (start (opened c) .args .x .now)) (fedBy (start (opened c) .args .fy) (start (opened c) .args .y .now))
+    (start (opened c) .args .limit) (c .loop .left)
 counted c = c .loop .inv _ _ (c .before .next-run .ensures _ _ (both (opened c)))
 
 view-of-requires : tie.Need-view-of-requires Inv-loop μ-loop
@@ -51,10 +60,10 @@ view-of-requires-2 : tie.Need-view-of-requires-2 Inv-loop μ-loop
 view-of-requires-2 c κs = search needs
 
 begin-requires : tie.Need-begin-requires Inv-loop μ-loop
-begin-requires c κs = (c .before .before .before .before .before .pre .left, refl)
+begin-requires c κs = (after-view-of c .before .before .before .pre .left, refl)
 
 begin-requires-2 : tie.Need-begin-requires-2 Inv-loop μ-loop
-begin-requires-2 c κs = (c .before .before .before .before .before .before .before .pre .right, refl)
+begin-requires-2 c κs = (after-view-of (c .before .before) .before .before .before .pre .right, refl)
 
 next-run-requires : tie.Need-next-run-requires Inv-loop μ-loop
 next-run-requires c κs = (_, _, both (c .before .before))
@@ -69,24 +78,26 @@ sub-left : tie.Need-sub-left Inv-loop μ-loop
 sub-left c = search needs
 
 returns-2 : tie.Need-returns-2 Inv-loop μ-loop
-returns-2 c = count-last (counted (c .before .before .before .before)) (c .before .before .before .loop-test .taken) (c .before .before .if1 .left) (c .if2 .taken)
+returns-2 c =
+    let e₁ = c .before .before in
+    count-last (counted (e₁ .before .before)) (e₁ .before .loop-test .taken) (e₁ .if1 .left) (c .if2 .taken)
 
-add-next-run : tie.Need-add-next-run Inv-loop μ-loop
-add-next-run c =
+add-next : tie.Need-add-next Inv-loop μ-loop
+add-next c =
     let e = onward c in
     let n = stream-after (counted (found e .before) .stream) (found e .loop-test .taken) (e .if2 .left) in
     omega arith
 
 next-run-requires-2 : tie.Need-next-run-requires-2 Inv-loop μ-loop
 next-run-requires-2 c κs =
-    let e = onward c in (_, _, stream-onward (counted (found e .before) .stream) (found e .loop-test .taken) (e .if2 .left))
+    let e = onward (c .before .before) in (_, _, stream-onward (counted (found e .before) .stream) (found e .loop-test .taken) (e .if2 .left))
 
 loop-less : tie.Need-loop-less Inv-loop μ-loop
 loop-less c = search needs
 
 loop-again : tie.Need-loop-again Inv-loop μ-loop
 loop-again c = λ Q R h.
-    let e = onward (c .before) in
+    let e = onward (c .before .before .before) in
     count-more (found e .before .loop .inv Q R h) (found e .loop-test .taken) (e .before .before .if1 .left) (e .if2 .left) (c .next-run2 .ensures)
 
 returns-3 : tie.Need-returns-3 Inv-loop μ-loop
@@ -107,7 +118,7 @@ fits-spec =
     returns
     sub-left
     returns-2
-    add-next-run
+    add-next
     next-run-requires-2
     loop-less
     loop-again

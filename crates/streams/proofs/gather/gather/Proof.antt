@@ -12,6 +12,10 @@ start c = c .before .before .before .before .before .before
 abbrev freed : tie.After-fill → tie.After-give-back
 freed c = c .before .before .before .before
 
+-- further places that the needs look back to
+abbrev after-fill : tie.After-link → tie.After-fill
+after-fill c = c .before .before .before .before
+
 links-of-requires : tie.Need-links-of-requires
 links-of-requires c κs = search needs
 
@@ -31,13 +35,14 @@ link-requires c κs =
     (_, _, _, _, _, gather-strewn (start g .pre .roomy) (g .before .links-of .ensures) (g .give-back .ensures) (f .fill .ensures))
 
 returns : tie.Need-returns
-returns c = λ s ro.
+returns c =
     let l = c .before .before in
-    let f = l .before .before .before .before in
+    let f = after-fill l in
+    λ s ro.
     gather-became ro (freed f .before .links-of .ensures) (freed f .give-back .ensures) (f .fill .ensures) (l .link .ensures)
 
 same-length : tie.Need-same-length
-same-length c = let p = start (freed (c .before .before .before .before .before .before)) .pre in returns c (p .share) (p .roomy) .still .long
+same-length c = let p = start (freed (after-fill (c .before .before))) .pre in returns c (p .share) (p .roomy) .still .long
 
 pub gather-spec : {M : Type 1} → statement M
 gather-spec = tie.close (tie.spec links-of-requires give-back-requires fill-requires link-requires same-length returns)

@@ -21,13 +21,17 @@ placed c = c .before .before .before .before
 abbrev again : tie.After-starts-at-zero → tie.After-descend2
 again c = c .before .before
 
+-- further places that the needs look back to
+abbrev then1 : tie.After-from-last-arg → tie.Then1
+then1 c = c .before .before .before
+
 -- something was on the path
 some : (c : tie.After-pop) → start c .args .depth ≡ 0 → ⊥
 some c = c .before .before .if1 .left
 
 -- the run's first position
 begins : (c : tie.After-to-logical)
-    → c .to-logical .result .0 ≡ logicalOf (max (popped c .pop .result .start) (start (popped c) .args .p)) (start (popped c) .args .v .offset)
+    → c .to-logical .result .0 ≡ logicalOf (max (popped c .pop .result .start) (start (popped c) .args .p .0)) (start (popped c) .args .v .offset)
 begins c = c .to-logical .ensures ∙ ap (λ m. logicalOf m (start (popped c) .args .v .offset)) (c .before .larger .ensures)
 
 descend-requires : tie.Need-descend-requires
@@ -35,11 +39,11 @@ descend-requires c κs = (_, _, root-below (c .before .before .before .pre .2 .r
 
 from-last-requires : tie.Need-from-last-requires
 from-last-requires c κs =
-    let h = c .before .before .before .before .before .pre .2 in (_, _, first-last h (first-over h (c .before .descend .ensures)))
+    let h = then1 c .before .before .pre .2 in (_, _, first-last h (first-over h (c .before .descend .ensures)))
 
 returns : tie.Need-returns
 returns c = λ y Q h.
-    first-none h (c .before .before .before .before .if1 .taken) (c .from-last .ensures _ Q (first-last h (first-over h (c .before .before .descend .ensures))))
+    first-none h (then1 (c .before) .if1 .taken) (c .from-last .ensures _ Q (first-last h (first-over h (c .before .before .descend .ensures))))
 
 pop-requires : tie.Need-pop-requires
 pop-requires c κs = first-on (c .before .before .before .pre .2) (c .before .if1 .left)
@@ -82,8 +86,8 @@ returns-3 c = λ y Q h.
     first-join h (some p) (p .pop .ensures) _ (begins (placed d)) (d .before .before .if2 .left) (c .from-last2 .ensures _ Q (first-last h all))
     (sym (z .starts-at-zero .ensures _ _ all) ∙ c .before .before .if3 .taken)
 
-sub-t16 : tie.Need-sub-t16
-sub-t16 c = search needs
+sub-end : tie.Need-sub-end
+sub-end c = search needs
 
 returns-4 : tie.Need-returns-4
 returns-4 c = λ y Q h.
@@ -109,5 +113,5 @@ from-first-spec =
     starts-at-zero-requires
     from-last-requires-2
     returns-3
-    sub-t16
+    sub-end
     returns-4)

@@ -24,7 +24,7 @@ some c = c .before .before .if1 .left
 
 -- the run's first position
 begins : (c : tie.After-to-logical)
-    → c .to-logical .result .0 ≡ logicalOf (max (popped (inside c) .pop .result .start) (start (popped (inside c)) .args .p)) (start (popped (inside c)) .args .v .offset)
+    → c .to-logical .result .0 ≡ logicalOf (max (popped (inside c) .pop .result .start) (start (popped (inside c)) .args .p .0)) (start (popped (inside c)) .args .v .offset)
 begins c = c .to-logical .ensures ∙ ap (λ m. logicalOf m (start (popped (inside c)) .args .v .offset)) (c .before .larger .ensures)
 
 over-requires : tie.Need-over-requires

@@ -12,11 +12,30 @@ use Rattle.streams.proofs.sweep.reach.Statement.{statement}
 use Rattle.streams.proofs.sweep.reach.Tie as tie
 
 abbrev Inv-loop : tie.InvT-loop
-Inv-loop op x xp₀ xv y yp₀ yv «from» value l₀ r₀ at₀ v₀ xp yp l r at v =
-    (Q R : Positions) → Both x xp₀ xv l₀ y yp₀ yv r₀ «from» Q R → Swept op x xp xv l y yp yv r «from» at value v Q R
+Inv-loop op x xp₀ xv y yp₀ yv value l₀ r₀ at₀ v₀ xp yp l r at v =
+    (Q R : Positions) → Both x xp₀ xv l₀ y yp₀ yv r₀ (at₀ .0) Q R → Swept op x xp xv l y yp yv r (at₀ .0) (at .0) value v Q R
 
 abbrev μ-loop : tie.MeasureT-loop
-μ-loop op x xp₀ xv y yp₀ yv «from» value l₀ r₀ at₀ v₀ xp yp l r at v = size - at
+μ-loop op x xp₀ xv y yp₀ yv value l₀ r₀ at₀ v₀ xp yp l r at v = size - at .0
+
+-- the places that the needs look back to
+abbrev start : tie.After-join Inv-loop μ-loop → tie.Start Inv-loop μ-loop
+start c = c .before .before .before .before .before
+
+abbrev at-loop : tie.After-smaller Inv-loop μ-loop → tie.At-loop Inv-loop μ-loop
+at-loop c = c .before .before .before .before
+
+abbrev start-from-smaller : tie.After-smaller Inv-loop μ-loop → tie.Start Inv-loop μ-loop
+start-from-smaller c = start (at-loop c .before)
+
+abbrev after-same-to : tie.After-smaller Inv-loop μ-loop → tie.After-same-to Inv-loop μ-loop
+after-same-to c = c .before .before
+
+abbrev after-smaller : tie.After-moved Inv-loop μ-loop → tie.After-smaller Inv-loop μ-loop
+after-smaller c = c .before .before .before
+
+abbrev after-moved2 : tie.After-join2 Inv-loop μ-loop → tie.After-moved2 Inv-loop μ-loop
+after-moved2 c = c .before .before .before
 
 value-at-requires : tie.Need-value-at-requires Inv-loop μ-loop
 value-at-requires c κs = search needs
@@ -28,7 +47,11 @@ join-requires : tie.Need-join-requires Inv-loop μ-loop
 join-requires c κs = search needs
 
 loop-holds : tie.Need-loop-holds Inv-loop μ-loop
-loop-holds c = swept-start (c .before .before .before .before .before .args .op) (c .before .before .before .before .before .args .x .now) (c .before .before .before .before .before .args .xp .now) (c .before .before .before .before .before .args .xv) (c .before .before .before .before .before .args .s) (c .before .before .before .before .before .args .y .now) (c .before .before .before .before .before .args .yp .now) (c .before .before .before .before .before .args .yv) (c .before .before .before .before .before .args .t) (c .before .before .before .before .before .args .from) (c .before .before .before .before .before .args .value) (omega (arith, c .before .before .before .before .before .good)) (c .before .before .value-at .ensures) (c .before .value-at2 .ensures) (c .join .ensures)
+loop-holds c =
+    let s = start c in
+    swept-start (s .args .op) (s .args .x .now) (s .args .xp .now) (s .args .xv) (s .args .s) (s .args .y .now) (s .args .yp .now) (s .args .yv)
+    (s .args .t) (s .args .from .0) (s .args .value) (omega (arith, s .good)) (c .before .before .value-at .ensures) (c .before .value-at2 .ensures)
+    (c .join .ensures)
 
 same-to-requires : tie.Need-same-to-requires Inv-loop μ-loop
 same-to-requires c κs = search needs
@@ -40,17 +63,39 @@ smaller-requires : tie.Need-smaller-requires Inv-loop μ-loop
 smaller-requires c κs = search needs
 
 returns : tie.Need-returns Inv-loop μ-loop
-returns c = λ Q R b. swept-none (c .before .before .before .before .before .loop .inv Q R b) (c .before .before .before .same-to .ensures) (c .before .before .same-to2 .ensures) (c .before .smaller .ensures) (differing (c .before .before .before .before .before .loop .v) (c .before .before .before .before .before .before .before .before .before .before .before .args .value) (c .before .before .before .before .loop-test .taken)) (c .if1 .taken)
+returns c =
+    let s = c .before in
+    λ Q R b.
+    swept-none (at-loop s .loop .inv Q R b) (after-same-to s .same-to .ensures) (s .before .same-to2 .ensures) (s .smaller .ensures)
+    (differing (at-loop s .loop .v) (start-from-smaller s .args .value) (after-same-to s .before .loop-test .taken)) (c .if1 .taken)
 
-add-at : tie.Need-add-at Inv-loop μ-loop
-add-at c =
-    let h = swept-small (c .before .before .before .before .before .loop .inv (c .before .before .before .before .before .before .before .before .before .before .before .pre .0) (c .before .before .before .before .before .before .before .before .before .before .before .pre .1) (c .before .before .before .before .before .before .before .before .before .before .before .pre .2)) (c .before .before .before .same-to .ensures) (c .before .before .same-to2 .ensures) (c .before .smaller .ensures) in omega (arith, c .if1 .left)
+add-next : tie.Need-add-next Inv-loop μ-loop
+add-next c =
+    let s = c .before in
+    let st = start-from-smaller s in
+    let h = swept-small (at-loop s .loop .inv (st .pre .0) (st .pre .1) (st .pre .2)) (after-same-to s .same-to .ensures)
+    (s .before .same-to2 .ensures) (s .smaller .ensures) in
+    omega (arith, c .if1 .left)
 
 moved-requires : tie.Need-moved-requires Inv-loop μ-loop
-moved-requires c κs = (c .before .before .before .before .before .before .loop .at, c .before .before .before .before .before .before .before .before .before .before .before .before .pre .0, left-moves (c .before .before .before .before .before .before .loop .inv (c .before .before .before .before .before .before .before .before .before .before .before .before .pre .0) (c .before .before .before .before .before .before .before .before .before .before .before .before .pre .1) (c .before .before .before .before .before .before .before .before .before .before .before .before .pre .2)) (c .before .before .before .before .same-to .ensures) (c .before .before .before .same-to2 .ensures) (c .before .before .smaller .ensures))
+moved-requires c κs =
+    let s = c .before .before in
+    let st = start-from-smaller s in (
+      at-loop s .loop .at .0,
+      st .pre .0,
+      left-moves (at-loop s .loop .inv (st .pre .0) (st .pre .1) (st .pre .2)) (after-same-to s .same-to .ensures)
+          (s .before .same-to2 .ensures) (s .smaller .ensures),
+    )
 
 moved-requires-2 : tie.Need-moved-requires-2 Inv-loop μ-loop
-moved-requires-2 c κs = (c .before .before .before .before .before .before .before .before .loop .at, c .before .before .before .before .before .before .before .before .before .before .before .before .before .before .pre .1, right-moves (c .before .before .before .before .before .before .before .before .loop .inv (c .before .before .before .before .before .before .before .before .before .before .before .before .before .before .pre .0) (c .before .before .before .before .before .before .before .before .before .before .before .before .before .before .pre .1) (c .before .before .before .before .before .before .before .before .before .before .before .before .before .before .pre .2)) (c .before .before .before .before .before .before .same-to .ensures) (c .before .before .before .before .before .same-to2 .ensures) (c .before .before .before .before .smaller .ensures))
+moved-requires-2 c κs =
+    let s = after-smaller (c .before) in
+    let st = start-from-smaller s in (
+      at-loop s .loop .at .0,
+      st .pre .1,
+      right-moves (at-loop s .loop .inv (st .pre .0) (st .pre .1) (st .pre .2)) (after-same-to s .same-to .ensures)
+          (s .before .same-to2 .ensures) (s .smaller .ensures),
+    )
 
 value-at-requires-3 : tie.Need-value-at-requires-3 Inv-loop μ-loop
 value-at-requires-3 c κs = search needs
@@ -63,18 +108,28 @@ join-requires-2 c κs = search needs
 
 loop-less : tie.Need-loop-less Inv-loop μ-loop
 loop-less c =
-    let s = (c .before .before .before .before .before .before .before .before .before .before .before .before .loop .inv (c .before .before .before .before .before .before .before .before .before .before .before .before .before .before .before .before .before .before .pre .0) (c .before .before .before .before .before .before .before .before .before .before .before .before .before .before .before .before .before .before .pre .1) (c .before .before .before .before .before .before .before .before .before .before .before .before .before .before .before .before .before .before .pre .2)) in
-    let h = swept-onward s (c .before .before .before .before .before .before .before .before .before .before .same-to .ensures) (c .before .before .before .before .before .before .before .before .before .same-to2 .ensures) (c .before .before .before .before .before .before .before .before .smaller .ensures) in omega (arith, s .small)
+    let sm = after-smaller (after-moved2 c .before .before) in
+    let st = start-from-smaller sm in
+    let s = (at-loop sm .loop .inv (st .pre .0) (st .pre .1) (st .pre .2)) in
+    let h = swept-onward s (after-same-to sm .same-to .ensures) (sm .before .same-to2 .ensures) (sm .smaller .ensures) in omega (arith, s .small)
 
 loop-again : tie.Need-loop-again Inv-loop μ-loop
-loop-again c = λ Q R b.
-    let s = c .before .before .before .before .before .before .before .before .before .before .before .before .loop .inv Q R b in
-    let h = swept-small s (c .before .before .before .before .before .before .before .before .before .before .same-to .ensures) (c .before .before .before .before .before .before .before .before .before .same-to2 .ensures) (c .before .before .before .before .before .before .before .before .smaller .ensures) in
-    swept-on s (c .before .before .before .before .before .before .before .before .before .before .same-to .ensures) (c .before .before .before .before .before .before .before .before .before .same-to2 .ensures) (c .before .before .before .before .before .before .before .before .smaller .ensures) (c .before .before .before .before .before .moved .last .1 .0) (c .before .before .before .before .before .moved .result) (c .before .before .before .moved2 .last .1 .0) (c .before .before .before .moved2 .result) (differing (c .before .before .before .before .before .before .before .before .before .before .before .before .loop .v) (c .before .before .before .before .before .before .before .before .before .before .before .before .before .before .before .before .before .before .args .value) (c .before .before .before .before .before .before .before .before .before .before .before .loop-test .taken)) (omega (arith, c .before .before .before .before .before .before .before .if1 .left)) (c .before .before .before .before .before .moved .ensures) (c .before .before .before .moved2 .ensures) (c .before .before .value-at3 .ensures) (c .before .value-at4 .ensures) (c .join2 .ensures)
+loop-again c =
+    let m₂ = after-moved2 c in
+    let m = m₂ .before .before in
+    let sm = after-smaller m in
+    λ Q R b.
+    let s = at-loop sm .loop .inv Q R b in
+    let h = swept-small s (after-same-to sm .same-to .ensures) (sm .before .same-to2 .ensures) (sm .smaller .ensures) in
+    swept-on s (after-same-to sm .same-to .ensures) (sm .before .same-to2 .ensures) (sm .smaller .ensures) (m .moved .last .1 .0) (m .moved .result)
+    (m₂ .moved2 .last .1 .0) (m₂ .moved2 .result)
+    (differing (at-loop sm .loop .v) (start-from-smaller sm .args .value) (after-same-to sm .before .loop-test .taken))
+    (omega (arith, m .before .before .if1 .left)) (m .moved .ensures) (m₂ .moved2 .ensures) (c .before .before .value-at3 .ensures)
+    (c .before .value-at4 .ensures) (c .join2 .ensures)
 
 returns-2 : tie.Need-returns-2 Inv-loop μ-loop
 returns-2 c = λ Q R b.
-    let s = c .before .loop .inv Q R b in (swept-found s (agreeing (c .before .loop .v) (c .before .before .before .before .before .before .before .args .value) (c .loop-test .left)), s .both)
+    let s = c .before .loop .inv Q R b in (swept-found s (agreeing (c .before .loop .v) (start (c .before .before) .args .value) (c .loop-test .left)), s .both)
 
 pub reach-spec : {M : Type 1} → statement M
 reach-spec =
@@ -90,7 +145,7 @@ reach-spec =
     same-to-requires-2
     smaller-requires
     returns
-    add-at
+    add-next
     moved-requires
     moved-requires-2
     value-at-requires-3

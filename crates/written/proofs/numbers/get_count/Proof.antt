@@ -6,6 +6,10 @@ use borrow.Author.Needs.{needs}
 use Rattle.written.proofs.numbers.get_count.Statement.{statement}
 use Rattle.written.proofs.numbers.get_count.Tie as tie
 
+-- the places that the needs look back to
+abbrev after-shared-slice-known : tie.After-shared-slice-known4 → tie.After-shared-slice-known
+after-shared-slice-known c = c .before .before .before
+
 shared-slice-read-a : tie.Need-shared-slice-read-a
 shared-slice-read-a c = search needs
 
@@ -46,19 +50,33 @@ shared-slice-read-b-2 : tie.Need-shared-slice-read-b-2
 shared-slice-read-b-2 c = search needs
 
 cast-b-2 : tie.Need-cast-b-2
-cast-b-2 c = omega (arith, c .before .before .before .shared-slice-known .given (c .before .before .before .before .args .at + 3))
+cast-b-2 c = omega (arith, after-shared-slice-known c .shared-slice-known .given (after-shared-slice-known c .before .args .at + 3))
 
 add-b-3 : tie.Need-add-b-3
-add-b-3 c = omega (arith, c .before .before .before .shared-slice-known .given (c .before .before .before .before .args .at + 2), c .before .before .before .shared-slice-known .given (c .before .before .before .before .args .at + 3))
+add-b-3 c =
+    let s = after-shared-slice-known c in
+    omega (arith, s .shared-slice-known .given (s .before .args .at + 2), s .shared-slice-known .given (s .before .args .at + 3))
 
 mul-result : tie.Need-mul-result
-mul-result c = omega (arith, c .before .before .before .shared-slice-known .given (c .before .before .before .before .args .at), c .before .before .before .shared-slice-known .given (c .before .before .before .before .args .at + 1))
+mul-result c =
+    let s = after-shared-slice-known c in
+    omega (arith, s .shared-slice-known .given (s .before .args .at), s .shared-slice-known .given (s .before .args .at + 1))
 
 add-result : tie.Need-add-result
-add-result c = omega (arith, c .before .before .before .shared-slice-known .given (c .before .before .before .before .args .at), c .before .before .before .shared-slice-known .given (c .before .before .before .before .args .at + 1), c .before .before .before .shared-slice-known .given (c .before .before .before .before .args .at + 2), c .before .before .before .shared-slice-known .given (c .before .before .before .before .args .at + 3))
+add-result c =
+    let s = after-shared-slice-known c in
+    omega (
+      arith,
+      s .shared-slice-known .given (s .before .args .at),
+      s .shared-slice-known .given (s .before .args .at + 1),
+      s .shared-slice-known .given (s .before .args .at + 2),
+      s .shared-slice-known .given (s .before .args .at + 3),
+    )
 
 returns : tie.Need-returns
-returns c = count-value (c .before .before .before .before .args .bytes .now) (c .before .before .before .before .args .at) (c .before .before .before .before .pre)
+returns c =
+    let s = after-shared-slice-known c .before in
+    count-value (s .args .bytes .now) (s .args .at) (s .pre)
 
 pub get-count-spec : {M : Type 1} → statement M
 get-count-spec =

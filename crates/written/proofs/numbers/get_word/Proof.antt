@@ -6,6 +6,10 @@ use borrow.Author.Needs.{needs}
 use Rattle.written.proofs.numbers.get_word.Statement.{statement}
 use Rattle.written.proofs.numbers.get_word.Tie as tie
 
+-- the places that the needs look back to
+abbrev start : tie.After-get-count2 → tie.Start
+start c = c .before .before .before
+
 get-count-requires : tie.Need-get-count-requires
 get-count-requires c κs = search needs
 
@@ -16,13 +20,23 @@ get-count-requires-2 : tie.Need-get-count-requires-2
 get-count-requires-2 c κs = search needs
 
 mul-result : tie.Need-mul-result
-mul-result c = omega (arith, count-bound (c .before .before .before .args .bytes .now) (c .before .before .before .args .at) _ (c .before .before .shared-slice-known .given) (c .before .get-count .ensures))
+mul-result c = omega (arith, count-bound (start c .args .bytes .now) (start c .args .at) _ (c .before .before .shared-slice-known .given) (c .before .get-count .ensures))
 
 add-result : tie.Need-add-result
-add-result c = omega (arith, count-bound (c .before .before .before .args .bytes .now) (c .before .before .before .args .at) _ (c .before .before .shared-slice-known .given) (c .before .get-count .ensures), count-bound (c .before .before .before .args .bytes .now) (c .before .before .before .args .at + 4) _ (c .before .before .shared-slice-known .given) (c .get-count2 .ensures))
+add-result c =
+    let s = start c in
+    omega (
+      arith,
+      count-bound (s .args .bytes .now) (s .args .at) _
+          (c .before .before .shared-slice-known .given) (c .before .get-count .ensures),
+      count-bound (s .args .bytes .now) (s .args .at + 4) _
+          (c .before .before .shared-slice-known .given) (c .get-count2 .ensures),
+    )
 
 returns : tie.Need-returns
-returns c = word-value (c .before .before .before .args .bytes .now) (c .before .before .before .args .at) _ _ (c .before .before .before .pre) (c .before .get-count .ensures) (c .get-count2 .ensures)
+returns c =
+    let s = start c in
+    word-value (s .args .bytes .now) (s .args .at) _ _ (s .pre) (c .before .get-count .ensures) (c .get-count2 .ensures)
 
 pub get-word-spec : {M : Type 1} → statement M
 get-word-spec =

@@ -17,7 +17,11 @@ same-length : tie.Need-same-length
 same-length c = search needs
 
 returns : tie.Need-returns
-returns c = word-placed (c .before .before .before .before .before .before .before .before .before .args .out .now) _ _ (c .before .before .before .before .before .before .before .before .before .args .at) (c .before .before .before .before .before .before .before .before .before .args .n) (c .before .before .before .before .before .before .before .before .before .pre) (c .before .before .before .before .before .before .put-count .ensures) (c .before .before .put-count2 .ensures)
+returns c =
+    let p₂ = c .before .before in
+    let p = p₂ .before .before .before .before in
+    let s = p .before .before .before in
+    word-placed (s .args .out .now) _ _ (s .args .at) (s .args .n) (s .pre) (p .put-count .ensures) (p₂ .put-count2 .ensures)
 
 pub put-word-spec : {M : Type 1} → statement M
 put-word-spec =

@@ -38,9 +38,12 @@ follows-requires c κs = search needs
 
 returns : tie.Need-returns Inv-loop μ-loop
 returns c =
-    let t = tested (c .before) in
+    let f = c .before in
+    let t = tested f in
     let a = t .before .before .before .args in
-    passed-fail (t .before .loop .inv .1) (t .loop-test .taken) (set-read (a .n) (a .bytes .now) (t .loop-test .taken) (t .before .loop .inv .0) (c .before .before .before .get-word .ensures) (c .before .before .get-word2 .ensures)) (c .before .follows .ensures) (c .if1 .taken)
+    passed-fail (t .before .loop .inv .1) (t .loop-test .taken)
+    (set-read (a .n) (a .bytes .now) (t .loop-test .taken) (t .before .loop .inv .0) (f .before .before .get-word .ensures)
+    (f .before .get-word2 .ensures)) (f .follows .ensures) (c .if1 .taken)
 
 add-at : tie.Need-add-at Inv-loop μ-loop
 add-at c = search needs
@@ -53,9 +56,14 @@ loop-less c = search needs
 
 loop-again : tie.Need-loop-again Inv-loop μ-loop
 loop-again c =
-    let t = tested (c .before) in
-    let a = t .before .before .before .args in
-    (omega arith, passed-step (t .before .loop .inv .1) (t .loop-test .taken) (set-read (a .n) (a .bytes .now) (t .loop-test .taken) (t .before .loop .inv .0) (c .before .before .before .get-word .ensures) (c .before .before .get-word2 .ensures)) (c .before .follows .ensures) (c .if1 .left))
+    let f = c .before in
+    let t = tested f in
+    let a = t .before .before .before .args in (
+      omega arith,
+      passed-step (t .before .loop .inv .1) (t .loop-test .taken)
+          (set-read (a .n) (a .bytes .now) (t .loop-test .taken) (t .before .loop .inv .0) (f .before .before .get-word .ensures)
+          (f .before .get-word2 .ensures)) (f .follows .ensures) (c .if1 .left),
+    )
 
 returns-2 : tie.Need-returns-2 Inv-loop μ-loop
 returns-2 c = passed-all (c .before .loop .inv .1) (c .loop-test .left)

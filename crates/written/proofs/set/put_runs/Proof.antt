@@ -53,8 +53,12 @@ loop-again : tie.Need-loop-again Inv-loop μ-loop
 loop-again c =
     let l = c .before .before .before in
     let t = tested l in
-    let a = start (t .before) .args in
-    (omega arith, laying-step (t .before .loop .inv .1) (t .loop-test .taken) (set-read (a .n) (a .bytes .now) (t .loop-test .taken) (t .before .loop .inv .0) (l .before .before .get-word .ensures) (l .before .get-word2 .ensures)) (c .before .before .lay-run .ensures))
+    let a = start (t .before) .args in (
+      omega arith,
+      laying-step (t .before .loop .inv .1) (t .loop-test .taken)
+          (set-read (a .n) (a .bytes .now) (t .loop-test .taken) (t .before .loop .inv .0) (l .before .before .get-word .ensures)
+          (l .before .get-word2 .ensures)) (c .before .before .lay-run .ensures),
+    )
 
 same-length : tie.Need-same-length Inv-loop μ-loop
 same-length c = laying-long (c .before .loop .inv .1) (start (c .before) .pre .0)

@@ -40,6 +40,10 @@ started c = c .before .before .before
 abbrev ended : tie.After-path2 Inv-loop μ-loop → tie.After-put-word2 Inv-loop μ-loop
 ended c = c .before .before .before
 
+-- further places that the needs look back to
+abbrev after-run-count : tie.After-put-count Inv-loop μ-loop → tie.After-run-count Inv-loop μ-loop
+after-run-count c = c .before .before
+
 -- the world can be read
 rooted : (c : tie.Start Inv-loop μ-loop) → Rooted (c .args .words .now) (c .args .h .root)
 rooted c = standing-rooted (c .pre .0 .1)
@@ -49,7 +53,8 @@ long : (c : tie.After-put-count Inv-loop μ-loop) → length (c .put-count .last
 long c = let s = start (c .before .before) in front-long (s .args .out .now) (omega (arith, s .pre .1)) _ (c .put-count .ensures)
 
 -- so there is room for the whole set
-fits : (c : tie.After-put-count Inv-loop μ-loop) → 5 + 16 * stretches (heldIn (start (c .before .before) .args .words .now) (start (c .before .before) .args .h)) ≤ length (c .put-count .last .0)
+fits : (c : tie.After-put-count Inv-loop μ-loop)
+    → 5 + 16 * stretches (heldIn (start (after-run-count c) .args .words .now) (start (after-run-count c) .args .h)) ≤ length (c .put-count .last .0)
 fits c = omega (arith, long c, start (c .before .before) .pre .1)
 
 -- and for the run at hand
@@ -101,7 +106,8 @@ loop-again c =
     let a = started (e .before) in
     let t = tested a in
     let b = begun (t .before) in
-    writes-more (t .before .loop .inv) (t .loop-test .taken) (rooted (start (b .before .before))) (held-past _ _ _ size (omega arith)) (fits b) (a .put-word .ensures) (e .put-word2 .ensures) (c .advance .ensures)
+    writes-more (t .before .loop .inv) (t .loop-test .taken) (rooted (start (b .before .before))) (held-past _ _ _ size (omega arith)) (fits b)
+    (a .put-word .ensures) (e .put-word2 .ensures) (c .advance .ensures)
 
 same-length : tie.Need-same-length Inv-loop μ-loop
 same-length c = writes-long (c .before .loop .inv) ∙ long (begun (c .before))
@@ -109,8 +115,8 @@ same-length c = writes-long (c .before .loop .inv) ∙ long (begun (c .before))
 returns : tie.Need-returns Inv-loop μ-loop
 returns c =
     let b = begun (c .before) in
-    let s = start (b .before .before) in
-    writes-set (c .before .loop .inv) (s .args .out .now) (b .before .before .run-count .ensures) (s .pre .1) (b .put-count .ensures) (c .loop-test .left)
+    let s = start (after-run-count b) in
+    writes-set (c .before .loop .inv) (s .args .out .now) (after-run-count b .run-count .ensures) (s .pre .1) (b .put-count .ensures) (c .loop-test .left)
 
 pub write-set-spec : {M : Type 1} → statement M
 write-set-spec =
