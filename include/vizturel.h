@@ -121,7 +121,7 @@ typedef struct {
     uint64_t refusal;
     uint64_t start;
     uint64_t end;
-} vizturel_run;
+} vizturel_around;
 
 /* a position, where found is 1 */
 typedef struct {
@@ -174,7 +174,7 @@ uint64_t vizturel_shift(uint64_t *words, size_t count, uint64_t distance, uint64
 vizturel_tested vizturel_get(const uint64_t *words, size_t count, uint64_t x);
 
 /* The run around x, not clipped, of the value that x has. */
-vizturel_run vizturel_run_at(const uint64_t *words, size_t count, uint64_t x);
+vizturel_around vizturel_run_at(const uint64_t *words, size_t count, uint64_t x);
 
 /* The least position of the value in a range. */
 vizturel_found vizturel_find(const uint64_t *words, size_t count, vizturel_bound lower, vizturel_bound upper, uint64_t value);

@@ -163,15 +163,15 @@ fn answer<T>(refusal: u64, result: T) -> Answer<T> {
     }
 }
 
-fn count(c: raw::Count) -> Answer<u128> {
+fn count(c: raw::Counted) -> Answer<u128> {
     answer(c.refusal, (u128::from(c.carry) << 64) + u128::from(c.low))
 }
 
-fn number(n: raw::Number) -> Answer<u64> {
+fn number(n: raw::Numbered) -> Answer<u64> {
     answer(n.refusal, n.number)
 }
 
-fn position(p: raw::Position) -> Answer<Option<u64>> {
+fn position(p: raw::Found) -> Answer<Option<u64>> {
     answer(p.refusal, (p.found == 1).then_some(p.position))
 }
 

@@ -1,6 +1,6 @@
 //! A small match, frame by frame, for `make run`: builds that are fed the same calls must deal the same slots.
 //!
-//! Bodies, joints and contacts each have a pool, and whatever is spawned gets the lowest free slot of its pool. At one frame a late
+//! Bodies, joints and contacts each have a table, and whatever is spawned gets the lowest free slot of its table. At one frame a late
 //! player is admitted from written sets alone, and the Rust build starts anew from the same bytes. Everything is fixed beforehand: two
 //! runs print the same.
 
@@ -17,28 +17,28 @@ const FRAMES: u32 = 26;
 /// The frame before whose calls the late player is admitted.
 const ADMISSION: u32 = 12;
 const SEED: u64 = 386;
-// More runs than a pool has at any frame.
+// More runs than a table has at any frame.
 const CAPACITY: usize = 64;
 
-/// A pool, by its number.
-pub type Pool = usize;
-const POOLS: [&str; 3] = ["bodies", "joints", "contacts"];
-/// The pools of a build as written sets.
-pub type Written = [Vec<u8>; POOLS.len()];
+/// A table, by its number.
+pub type Table = usize;
+const TABLES: [&str; 3] = ["bodies", "joints", "contacts"];
+/// The tables of a build as written sets.
+pub type Written = [Vec<u8>; TABLES.len()];
 
 /// What a frame asks of every build.
 #[derive(Clone, Debug)]
 pub enum Call {
     /// Deals the lowest free slot.
-    Spawn(Pool),
+    Spawn(Table),
     /// Frees the slot in use that has so many in use below it, if there is one.
-    Despawn(Pool, u64),
+    Despawn(Table, u64),
     /// Frees a whole range.
-    Free(Pool, RangeInclusive<u64>),
+    Free(Table, RangeInclusive<u64>),
     /// Frees what is in use in a range, and takes what is free.
-    Flip(Pool, RangeInclusive<u64>),
+    Flip(Table, RangeInclusive<u64>),
     /// Moves every slot in use up or down.
-    Shift(Pool, u64, bool),
+    Shift(Table, u64, bool),
 }
 
 fn part(range: &RangeInclusive<u64>) -> String {
@@ -51,11 +51,11 @@ fn part(range: &RangeInclusive<u64>) -> String {
 impl fmt::Display for Call {
     fn fmt(&self, f: &mut fmt::Formatter) -> fmt::Result {
         match self {
-            Call::Spawn(p) => write!(f, "spawn of {}", POOLS[*p]),
-            Call::Despawn(p, k) => write!(f, "despawn {k} of {}", POOLS[*p]),
-            Call::Free(p, r) => write!(f, "{} {} freed", POOLS[*p], part(r)),
-            Call::Flip(p, r) => write!(f, "{} {} flipped", POOLS[*p], part(r)),
-            Call::Shift(p, d, up) => write!(f, "{} {} by {d}", POOLS[*p], if *up { "up" } else { "down" }),
+            Call::Spawn(p) => write!(f, "spawn of {}", TABLES[*p]),
+            Call::Despawn(p, k) => write!(f, "despawn {k} of {}", TABLES[*p]),
+            Call::Free(p, r) => write!(f, "{} {} freed", TABLES[*p], part(r)),
+            Call::Flip(p, r) => write!(f, "{} {} flipped", TABLES[*p], part(r)),
+            Call::Shift(p, d, up) => write!(f, "{} {} by {d}", TABLES[*p], if *up { "up" } else { "down" }),
         }
     }
 }
@@ -64,7 +64,7 @@ impl fmt::Display for Call {
 pub trait Build {
     /// Makes a call; the slot that was dealt or freed by [`Call::Spawn`] or [`Call::Despawn`].
     fn call(&mut self, call: &Call) -> Answer<Option<u64>>;
-    /// The pools as written sets.
+    /// The tables as written sets.
     fn write(&self) -> Answer<Written>;
     /// Starts anew from written sets.
     fn load(&mut self, written: &Written) -> Answer<()>;
@@ -72,50 +72,50 @@ pub trait Build {
 
 /// The proved library.
 pub struct Library {
-    pools: [SetBuf; POOLS.len()],
+    tables: [SetBuf; TABLES.len()],
 }
 
 impl Library {
     pub fn new() -> Answer<Library> {
-        let pool = SetBuf::with_capacity(CAPACITY)?;
-        Ok(Library { pools: [pool.clone(), pool.clone(), pool] })
+        let table = SetBuf::with_capacity(CAPACITY)?;
+        Ok(Library { tables: [table.clone(), table.clone(), table] })
     }
 }
 
 impl Build for Library {
     fn call(&mut self, call: &Call) -> Answer<Option<u64>> {
         let slot = match call {
-            Call::Spawn(p) => self.pools[*p].find(.., false)?,
-            Call::Despawn(p, k) => self.pools[*p].select(.., true, *k)?,
+            Call::Spawn(p) => self.tables[*p].find(.., false)?,
+            Call::Despawn(p, k) => self.tables[*p].select(.., true, *k)?,
             _ => None,
         };
         match call {
             Call::Spawn(p) | Call::Despawn(p, _) => {
                 if let Some(x) = slot {
-                    self.pools[*p].set(x..=x, matches!(call, Call::Spawn(_)))?;
+                    self.tables[*p].set(x..=x, matches!(call, Call::Spawn(_)))?;
                 }
             }
             Call::Free(p, range) => {
-                self.pools[*p].set(range.clone(), false)?;
+                self.tables[*p].set(range.clone(), false)?;
             }
-            Call::Flip(p, range) => self.pools[*p].flip(range.clone())?,
-            Call::Shift(p, distance, up) => self.pools[*p].shift(*distance, *up)?,
+            Call::Flip(p, range) => self.tables[*p].flip(range.clone())?,
+            Call::Shift(p, distance, up) => self.tables[*p].shift(*distance, *up)?,
         }
         Ok(slot)
     }
 
     fn write(&self) -> Answer<Written> {
         let mut written = Written::default();
-        for (pool, bytes) in self.pools.iter().zip(&mut written) {
+        for (table, bytes) in self.tables.iter().zip(&mut written) {
             let mut out = vec![0; 5 + 16 * CAPACITY];
-            *bytes = pool.write(&mut out)?.to_vec();
+            *bytes = table.write(&mut out)?.to_vec();
         }
         Ok(written)
     }
 
     fn load(&mut self, written: &Written) -> Answer<()> {
-        for (pool, bytes) in self.pools.iter_mut().zip(written) {
-            *pool = Set::load(room(CAPACITY), bytes)?;
+        for (table, bytes) in self.tables.iter_mut().zip(written) {
+            *table = Set::load(room(CAPACITY), bytes)?;
         }
         Ok(())
     }
@@ -124,7 +124,7 @@ impl Build for Library {
 /// The published IntervalBitSet.
 #[derive(Default)]
 pub struct Rust {
-    pools: [IntervalBitSet; POOLS.len()],
+    tables: [IntervalBitSet; TABLES.len()],
 }
 
 // The oracle's positions are usize, which is 64 bits wide here.
@@ -135,38 +135,38 @@ fn slots(range: &RangeInclusive<u64>) -> RangeInclusive<usize> {
 impl Build for Rust {
     fn call(&mut self, call: &Call) -> Answer<Option<u64>> {
         let slot = match call {
-            Call::Spawn(p) => self.pools[*p].find(.., false),
-            Call::Despawn(p, k) => self.pools[*p].select(.., true, u128::from(*k)),
+            Call::Spawn(p) => self.tables[*p].find(.., false),
+            Call::Despawn(p, k) => self.tables[*p].select(.., true, u128::from(*k)),
             _ => None,
         };
         match call {
             Call::Spawn(p) | Call::Despawn(p, _) => {
                 if let Some(x) = slot {
-                    self.pools[*p].set(x..=x, matches!(call, Call::Spawn(_)));
+                    self.tables[*p].set(x..=x, matches!(call, Call::Spawn(_)));
                 }
             }
             Call::Free(p, range) => {
-                self.pools[*p].set(slots(range), false);
+                self.tables[*p].set(slots(range), false);
             }
-            Call::Flip(p, range) => self.pools[*p].flip(slots(range)),
-            Call::Shift(p, distance, true) => self.pools[*p] <<= *distance as usize,
-            Call::Shift(p, distance, false) => self.pools[*p] >>= *distance as usize,
+            Call::Flip(p, range) => self.tables[*p].flip(slots(range)),
+            Call::Shift(p, distance, true) => self.tables[*p] <<= *distance as usize,
+            Call::Shift(p, distance, false) => self.tables[*p] >>= *distance as usize,
         }
         Ok(slot.map(|x| x as u64))
     }
 
     fn write(&self) -> Answer<Written> {
-        Ok(self.pools.each_ref().map(|pool| {
-            let runs: Vec<_> = pool.ranges(.., true).map(|r| [*r.start() as u64, *r.end() as u64]).collect();
+        Ok(self.tables.each_ref().map(|table| {
+            let runs: Vec<_> = table.ranges(.., true).map(|r| [*r.start() as u64, *r.end() as u64]).collect();
             reference::encode(&runs)
         }))
     }
 
     fn load(&mut self, written: &Written) -> Answer<()> {
-        for (pool, bytes) in self.pools.iter_mut().zip(written) {
-            *pool = IntervalBitSet::new();
+        for (table, bytes) in self.tables.iter_mut().zip(written) {
+            *table = IntervalBitSet::new();
             for [start, end] in reference::decode(bytes)? {
-                pool.set(slots(&(start..=end)), true);
+                table.set(slots(&(start..=end)), true);
             }
         }
         Ok(())
@@ -178,9 +178,9 @@ fn frame(number: u32, random: &mut Random) -> Vec<Call> {
     let [bodies, joints, contacts] = [0, 1, 2];
     let mut calls = Vec::new();
     if number > 1 {
-        for pool in [bodies, joints, contacts, contacts] {
+        for table in [bodies, joints, contacts, contacts] {
             if random.truth() {
-                calls.push(Call::Despawn(pool, random.below(16)));
+                calls.push(Call::Despawn(table, random.below(16)));
             }
         }
     }
@@ -198,18 +198,18 @@ fn frame(number: u32, random: &mut Random) -> Vec<Call> {
         _ => None,
     });
     let spawned = if number == 1 { [8, 3, 6] } else { [1, 0, 1].map(|least| least + random.below(3)) };
-    for (pool, count) in spawned.into_iter().enumerate() {
-        calls.extend((0..count).map(|_| Call::Spawn(pool)));
+    for (table, count) in spawned.into_iter().enumerate() {
+        calls.extend((0..count).map(|_| Call::Spawn(table)));
     }
     calls
 }
 
-// Slots as text, for each pool its first letter and the slots in the order dealt: b0-7 j0-2 c0,4.
-fn told(slots: &[(Pool, u64)]) -> String {
+// Slots as text, for each table its first letter and the slots in the order dealt: b0-7 j0-2 c0,4.
+fn told(slots: &[(Table, u64)]) -> String {
     let mut text = String::new();
-    for (pool, name) in POOLS.iter().enumerate() {
+    for (table, name) in TABLES.iter().enumerate() {
         let mut runs: Vec<(u64, u64)> = Vec::new();
-        for &(_, x) in slots.iter().filter(|(p, _)| *p == pool) {
+        for &(_, x) in slots.iter().filter(|(p, _)| *p == table) {
             match runs.last_mut() {
                 Some((_, last)) if last.checked_add(1) == Some(x) => *last = x,
                 _ => runs.push((x, x)),
@@ -303,7 +303,7 @@ pub fn play(out: &mut impl Write, mut builds: [&mut dyn Build; 3]) -> Result<End
         out,
         "A match of {FRAMES} frames. Every build is fed the same calls: what is freed, what happens to a whole range,"
     )?;
-    writeln!(out, "what is spawned. Each body (b), joint (j) and contact (c) gets the lowest free slot of its pool.")?;
+    writeln!(out, "what is spawned. Each body (b), joint (j) and contact (c) gets the lowest free slot of its table.")?;
     writeln!(out)?;
     row(out, "frame", "freed", "whole range", NAMES.map(|name| format!("dealt: {name}")))?;
     for number in 1..=FRAMES {
@@ -326,12 +326,12 @@ pub fn play(out: &mut impl Write, mut builds: [&mut dyn Build; 3]) -> Result<End
         for call in frame(number, &mut random) {
             let answers: Vec<_> = builds[..here].iter_mut().map(|b| b.call(&call)).collect();
             match call {
-                Call::Spawn(pool) => {
+                Call::Spawn(table) => {
                     for (dealt, answer) in dealt.iter_mut().zip(&answers) {
-                        dealt.extend(answer.ok().flatten().map(|slot| (pool, slot)));
+                        dealt.extend(answer.ok().flatten().map(|slot| (table, slot)));
                     }
                 }
-                Call::Despawn(pool, _) => freed.extend(answers[0].ok().flatten().map(|slot| (pool, slot))),
+                Call::Despawn(table, _) => freed.extend(answers[0].ok().flatten().map(|slot| (table, slot))),
                 _ => range = call.to_string(),
             }
             outcome = agreed(number, &call, answers);

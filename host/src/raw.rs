@@ -8,7 +8,7 @@ pub struct Bound {
 }
 
 #[repr(C)]
-pub struct Count {
+pub struct Counted {
     pub refusal: u64,
     pub carry: u64,
     pub low: u64,
@@ -16,20 +16,20 @@ pub struct Count {
 
 /// A number, a value (0 or 1) or how many bytes were written.
 #[repr(C)]
-pub struct Number {
+pub struct Numbered {
     pub refusal: u64,
     pub number: u64,
 }
 
 #[repr(C)]
-pub struct Run {
+pub struct Around {
     pub refusal: u64,
     pub start: u64,
     pub end: u64,
 }
 
 #[repr(C)]
-pub struct Position {
+pub struct Found {
     pub refusal: u64,
     pub found: u64,
     pub position: u64,
@@ -55,21 +55,20 @@ pub struct Drawn {
 
 unsafe extern "C" {
     pub fn vizturel_new(words: *mut u64, count: usize) -> u64;
-    pub fn vizturel_set(words: *mut u64, count: usize, lower: Bound, upper: Bound, value: u64) -> Count;
+    pub fn vizturel_set(words: *mut u64, count: usize, lower: Bound, upper: Bound, value: u64) -> Counted;
     pub fn vizturel_flip(words: *mut u64, count: usize, lower: Bound, upper: Bound) -> u64;
     pub fn vizturel_shift(words: *mut u64, count: usize, distance: u64, left: u64) -> u64;
-    pub fn vizturel_get(words: *const u64, count: usize, x: u64) -> Number;
-    pub fn vizturel_run_at(words: *const u64, count: usize, x: u64) -> Run;
-    pub fn vizturel_find(words: *const u64, count: usize, lower: Bound, upper: Bound, value: u64) -> Position;
-    pub fn vizturel_count(words: *const u64, count: usize, lower: Bound, upper: Bound, value: u64) -> Count;
-    pub fn vizturel_select(words: *const u64, count: usize, lower: Bound, upper: Bound, value: u64, k: u64)
-    -> Position;
-    pub fn vizturel_count_ranges(words: *const u64, count: usize, lower: Bound, upper: Bound, value: u64) -> Number;
+    pub fn vizturel_get(words: *const u64, count: usize, x: u64) -> Numbered;
+    pub fn vizturel_run_at(words: *const u64, count: usize, x: u64) -> Around;
+    pub fn vizturel_find(words: *const u64, count: usize, lower: Bound, upper: Bound, value: u64) -> Found;
+    pub fn vizturel_count(words: *const u64, count: usize, lower: Bound, upper: Bound, value: u64) -> Counted;
+    pub fn vizturel_select(words: *const u64, count: usize, lower: Bound, upper: Bound, value: u64, k: u64) -> Found;
+    pub fn vizturel_count_ranges(words: *const u64, count: usize, lower: Bound, upper: Bound, value: u64) -> Numbered;
     pub fn vizturel_ranges(words: *const u64, count: usize, lower: Bound, upper: Bound, value: u64) -> Listed;
     pub fn vizturel_draw_front(words: *const u64, count: usize, first: u64, last: u64, value: u64) -> Drawn;
     pub fn vizturel_draw_back(words: *const u64, count: usize, first: u64, last: u64, value: u64) -> Drawn;
-    pub fn vizturel_gap(words: *const u64, count: usize, lower: Bound, upper: Bound, n: u64) -> Position;
-    pub fn vizturel_fill(words: *const u64, count: usize, base: u64, n: u64) -> Number;
+    pub fn vizturel_gap(words: *const u64, count: usize, lower: Bound, upper: Bound, n: u64) -> Found;
+    pub fn vizturel_fill(words: *const u64, count: usize, base: u64, n: u64) -> Numbered;
     pub fn vizturel_combine(
         words: *mut u64,
         count: usize,
@@ -88,7 +87,7 @@ unsafe extern "C" {
         a: *const u64,
         a_count: usize,
     ) -> u64;
-    pub fn vizturel_eq(words: *const u64, count: usize, b: *const u64, b_count: usize) -> Number;
+    pub fn vizturel_eq(words: *const u64, count: usize, b: *const u64, b_count: usize) -> Numbered;
     pub fn vizturel_load(words: *mut u64, count: usize, bytes: *const u8, length: usize) -> u64;
     pub fn vizturel_build(words: *mut u64, count: usize, runs: *const u64, run_words: usize) -> u64;
     pub fn vizturel_read_map(
@@ -98,9 +97,9 @@ unsafe extern "C" {
         n: u64,
         bytes: *const u8,
         length: usize,
-    ) -> Count;
-    pub fn vizturel_clear_map(base: u64, n: u64, map: *mut u8, length: usize) -> Number;
-    pub fn vizturel_write(words: *const u64, count: usize, out: *mut u8, length: usize) -> Number;
+    ) -> Counted;
+    pub fn vizturel_clear_map(base: u64, n: u64, map: *mut u8, length: usize) -> Numbered;
+    pub fn vizturel_write(words: *const u64, count: usize, out: *mut u8, length: usize) -> Numbered;
     pub fn vizturel_write_map(
         words: *const u64,
         count: usize,
@@ -108,7 +107,7 @@ unsafe extern "C" {
         n: u64,
         out: *mut u8,
         length: usize,
-    ) -> Number;
+    ) -> Numbered;
     pub fn vizturel_frame(
         words: *mut u64,
         count: usize,

@@ -63,7 +63,7 @@ static void only(uint64_t *w, size_t n, uint64_t start, uint64_t end) {
 }
 
 static int is_count(vizturel_counted c, uint64_t n) { return c.refusal == 0 && c.carry == 0 && c.low == n; }
-static int is_run(vizturel_run r, uint64_t x, uint64_t y) { return r.refusal == 0 && r.start == x && r.end == y; }
+static int is_run(vizturel_around r, uint64_t x, uint64_t y) { return r.refusal == 0 && r.start == x && r.end == y; }
 static int at(vizturel_found f, uint64_t x) { return f.refusal == 0 && f.found == 1 && f.position == x; }
 static int nowhere(vizturel_found f) { return f.refusal == 0 && f.found == 0; }
 

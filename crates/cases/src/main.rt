@@ -3,8 +3,8 @@
 ghost use Prim.Native.Nat.{_<_};
 ghost use lib.ListN.{length};
 use interval_bit_set::bytes;
-use interval_bit_set::carry;
 use interval_bit_set::change;
+use interval_bit_set::join;
 use interval_bit_set::make;
 use interval_bit_set::report;
 use interval_bit_set::write;
@@ -245,11 +245,11 @@ fn case_8(s: &mut [u64]) {
 
 fn case_9(s: &mut [u64], a: &[u64], b: &[u64]) {
     line(9);
-    completed(carry::combine(s, Operation::And, a, b));
+    completed(join::combine(s, Operation::And, a, b));
     counts(s);
-    completed(carry::combine(s, Operation::Or, a, b));
+    completed(join::combine(s, Operation::Or, a, b));
     counts(s);
-    completed(carry::combine(s, Operation::Xor, a, b));
+    completed(join::combine(s, Operation::Xor, a, b));
     held(s);
     end_line();
 }
@@ -296,9 +296,9 @@ fn case_13(one: &mut [u64]) {
 fn case_14(s: &mut [u64], one: &mut [u64], a: &mut [u64]) {
     line(14);
     only(a, 5, 5);
-    completed(carry::not(s, a));
+    completed(join::not(s, a));
     held(s);
-    completed(carry::not(one, a));
+    completed(join::not(one, a));
     end_line();
 }
 

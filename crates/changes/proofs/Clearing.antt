@@ -11,9 +11,8 @@ use borrow.Author.Tests.{lt-ltb, le-ltb, ltb-false}
 use Rattle.model.specs.declared.Run.{Run}
 use Rattle.model.specs.Numbers.{size}
 use Rattle.model.specs.Positions.{run, firstRun}
-use Rattle.model.specs.RunList.{Canon}
-use Rattle.model.specs.Search.{EndBelow, StartFrom, canon-split}
-use Rattle.model.specs.Edit.{clear}
+use Rattle.model.specs.RunList.{Canon, EndBelow, StartFrom, clear}
+use Rattle.model.proofs.Search.{canon-split}
 use Rattle.run_index.specs.declared.search.Near.{Near}
 use Rattle.run_index.specs.Tree.{Tree}
 use Rattle.run_index.specs.Search.{Indexed, nearRun, TellsAfter}
@@ -23,7 +22,17 @@ use Rattle.store.specs.Free.{Becomes, Removable, RemovesRun, Changeable, Change
 use Rattle.changes.specs.Change.{Cut, Clearable, ClearsFrom}
 use Rattle.changes.proofs.Counting.{runsOf}
 use Rattle.changes.proofs.Lists.{first-after, first-some, first-none, ends-before, canon-shrink}
-use Rattle.changes.proofs.Steps.{becomes-none, becomes-canon, becomes-runs, becomes-indexed, becomes-after, becomes-removable, becomes-removed, becomes-changeable, becomes-changed}
+use Rattle.changes.proofs.Steps.{
+  becomes-none,
+  becomes-canon,
+  becomes-runs,
+  becomes-indexed,
+  becomes-after,
+  becomes-removable,
+  becomes-removed,
+  becomes-changeable,
+  becomes-changed,
+}
 
 -- ---- what `clear` makes of runs
 -- a run that ends before s stays

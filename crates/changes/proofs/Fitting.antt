@@ -8,19 +8,21 @@ use mathlib.Core.List.{List}
 use native.Mathlib.Omega.{arith}
 use lib.Dec.{leb}
 use borrow.Author.Tests.{le-leb, lt-leb, lt-ltb, le-ltb}
-use Rattle.model.specs.Numbers.{size, split}
+use Rattle.model.specs.Numbers.{size}
+use Rattle.model.proofs.Numbers.{split}
 use Rattle.model.specs.Positions.{Positions, oneIf, countRanges, setRange, stretches}
-use Rattle.model.specs.Positions.Laws.{one-bound}
-use Rattle.model.specs.Positions.Runs.{stretches-is}
-use Rattle.model.specs.After.{goesOn, goesOn-zero, goesOn-top, stretches-parts}
+use Rattle.model.proofs.Counting.{one-bound}
+use Rattle.model.proofs.Runs.{stretches-is}
+use Rattle.model.specs.Neighbours.{goesOn, heldBelow, heldAbove}
+use Rattle.model.proofs.After.{goesOn-zero, goesOn-top, stretches-parts}
 use Rattle.run_index.specs.Tree.{inorder}
 use Rattle.run_index.proofs.Totals.{runs-length}
 use Rattle.store.specs.declared.World.{World}
 use Rattle.store.specs.Layout.{heldIn}
 use Rattle.store.specs.Soundness.{Share, Standing, Limited}
 use Rattle.store.proofs.Opening.{physicalIn, standing-held}
-use Rattle.changes.specs.Neighbours.{heldBelow, heldAbove, goesOn-below}
-use Rattle.changes.specs.SetRuns.{set-true-leaves, set-false-leaves, set-one-more, logical-one-more}
+use Rattle.changes.proofs.Neighbours.{goesOn-below}
+use Rattle.changes.proofs.SetRuns.{set-true-leaves, set-false-leaves, set-one-more, logical-one-more}
 
 -- ---- the neighbours
 -- nothing goes on over 0
@@ -93,7 +95,7 @@ module _ {w : List ℕ} {s : Share} {h : World} {limit : ℕ} (lim : Limited w s
   logical-few = omega (arith, lim .fits, limit-few)
 
 -- what is counted of the positions P and of those from a to b: all runs, those inside, and those that go on over either end
-pub record Told (P : Positions) (a b total inside on past : ℕ) : Type 0 where
+pub record Tallied (P : Positions) (a b total inside on past : ℕ) : Type 0 where
   pub ordered : a ≤ b
   pub below : b < size
   pub few : stretches P ≤ 65566
@@ -102,7 +104,7 @@ pub record Told (P : Positions) (a b total inside on past : ℕ) : Type 0 where
   pub on-is : on ≡ oneIf (goesOn P a)
   pub past-is : past ≡ oneIf (goesOn P (suc b))
 
-module _ {P : Positions} {a b total inside on past : ℕ} (t : Told P a b total inside on past) where
+module _ {P : Positions} {a b total inside on past : ℕ} (t : Tallied P a b total inside on past) where
   -- the runs and those over the ends
   pub told-few : total + on + past ≤ 65568
   told-few = omega (arith, t .few, t .total-is, one-most on (goesOn P a) (t .on-is), one-most past (goesOn P (suc b)) (t .past-is))

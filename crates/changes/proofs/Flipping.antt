@@ -10,11 +10,13 @@ use lib.Dec.{leb}
 use borrow.Author.Tests.{le-leb}
 use Rattle.model.specs.declared.Edge.{Edge}
 use Rattle.model.specs.declared.Edge.the-variants.{At}
-use Rattle.model.specs.Numbers.{size, split}
+use Rattle.model.specs.Numbers.{size}
+use Rattle.model.proofs.Numbers.{split}
 use Rattle.model.specs.Positions.{Positions, oneIf, stretches, setRange, flipRange}
-use Rattle.model.specs.Positions.Laws.{one-bound}
-use Rattle.model.specs.Positions.Runs.{stretches-cong}
-use Rattle.model.specs.After.{goesOn, set-cong, flip-below, flip-above, stretches-parts}
+use Rattle.model.proofs.Counting.{one-bound}
+use Rattle.model.proofs.Runs.{stretches-cong}
+use Rattle.model.specs.Neighbours.{goesOn, heldBelow, heldAbove}
+use Rattle.model.proofs.After.{set-cong, flip-below, flip-above, stretches-parts}
 use Rattle.store.specs.declared.World.{World}
 use Rattle.store.specs.Layout.{heldIn}
 use Rattle.store.specs.Soundness.{Share, Still, Standing, Limited}
@@ -23,12 +25,11 @@ use Rattle.store.proofs.Nodes.{still-then, still-same}
 use Rattle.store.proofs.Settling.{became-limited}
 use Rattle.reports.specs.declared.physical.Tally.{Tally}
 use Rattle.reports.specs.Reports.{Measured, Next}
-use Rattle.reports.specs.Ranks.{ranges-alternate}
+use Rattle.reports.proofs.Ranks.{ranges-alternate}
 use Rattle.reports.proofs.Seeking.{Past, none-next}
 use Rattle.reports.proofs.Bounding.{high-end-at}
 use Rattle.changes.specs.Edits.{Makes, Appliable, StretchEnd}
-use Rattle.changes.specs.Neighbours.{heldBelow, heldAbove}
-use Rattle.changes.specs.FlipRuns.{flip-leaves, flip-one-more, flip-none-more, flip-further}
+use Rattle.changes.proofs.FlipRuns.{flip-leaves, flip-one-more, flip-none-more, flip-further}
 use Rattle.changes.proofs.Fitting.{leb-like, logical-most, logical-few}
 
 -- ---- the runs that a flip of a range leaves

@@ -10,10 +10,10 @@ use native.Mathlib.Omega.{arith}
 use Rattle.model.specs.declared.Count.{Count}
 use Rattle.model.specs.Numbers.{size, worth}
 use Rattle.model.specs.Positions.{Positions, run, count, setRange, changes}
-use Rattle.model.specs.Positions.Laws.{count-cong, count-cut, count-all, count-none, count-both}
-use Rattle.model.specs.RunList.{widths, count-mem}
-use Rattle.model.specs.Search.{widths-append}
-use Rattle.model.specs.After.{set-inside, set-below, set-above, changes-set}
+use Rattle.model.proofs.Counting.{count-cong, count-cut, count-all, count-none, count-both}
+use Rattle.model.proofs.RunList.{widths, count-mem}
+use Rattle.model.proofs.Search.{widths-append}
+use Rattle.model.proofs.After.{set-inside, set-below, set-above, changes-set}
 use Rattle.run_index.specs.Tree.{Tree, leaf, node, inorder, At}
 use Rattle.run_index.proofs.Trees.{rep-pos, rep-ordered}
 use Rattle.run_index.proofs.Totals.{ones-widths}
@@ -21,7 +21,8 @@ use Rattle.store.specs.declared.World.{World}
 use Rattle.store.specs.Layout.{turned, heldIn}
 use Rattle.store.specs.Soundness.{Share, Standing}
 use Rattle.store.specs.Settle.{Became}
-use Rattle.store.specs.Turn.{turned-zero, count-parted}
+use Rattle.store.proofs.Turn.{turned-zero}
+use Rattle.store.proofs.Turn.{count-parted}
 use Rattle.store.proofs.Opening.{physicalIn, standing-held}
 use Rattle.changes.specs.Edits.{TellsHeld, Gains}
 

@@ -10,11 +10,12 @@ use lib.Dec.{leb, ltb, eqb}
 use lib.ListN.{length, length-append}
 use borrow.Author.Tests.{le-leb, lt-leb, leb-true, leb-false, ltb-true, ltb-false, eq-eqb, ne-eqb}
 use Rattle.model.specs.declared.Run.{Run}
-use Rattle.model.specs.Numbers.{size, split}
+use Rattle.model.specs.Numbers.{size}
+use Rattle.model.proofs.Numbers.{split}
 use Rattle.model.specs.Positions.{run, firstRun}
-use Rattle.model.specs.RunList.{Canon}
-use Rattle.model.specs.Search.{firstFrom, canon-split, canon-starts, starts-weaken}
-use Rattle.model.specs.Edit.{insert, insert-put, insert-join}
+use Rattle.model.specs.RunList.{Canon, firstFrom, insert}
+use Rattle.model.proofs.Search.{canon-split, canon-starts, starts-weaken}
+use Rattle.model.proofs.Edit.{insert-put, insert-join}
 use Rattle.run_index.specs.declared.search.Near.{Near}
 use Rattle.run_index.specs.Tree.{Tree}
 use Rattle.run_index.specs.Order.{Before}

@@ -11,3 +11,8 @@ pub mod Fitting
 pub mod Gaining
 pub mod Flipping
 pub mod Shifting
+pub mod FlipRuns
+pub mod Neighbours
+pub mod SetRuns
+pub mod Shifted
+pub mod TurnedSet

@@ -11,8 +11,9 @@ use lib.Dec.{leb}
 use borrow.Author.Tests.{lt-ltb, le-ltb, le-leb, lt-leb, leb-true, leb-false, eq-eqb, ne-eqb}
 use Rattle.model.specs.declared.Run.{Run}
 use Rattle.model.specs.Positions.{run, firstRun}
-use Rattle.model.specs.RunList.{Canon, canon-weaken}
-use Rattle.model.specs.Search.{EndBelow, StartFrom, orElse, lastUpTo, firstFrom, canon-ends, canon-split}
+use Rattle.model.specs.RunList.{Canon, EndBelow, StartFrom, orElse, lastUpTo, firstFrom}
+use Rattle.model.proofs.RunList.{canon-weaken}
+use Rattle.model.proofs.Search.{canon-ends, canon-split}
 use Rattle.run_index.specs.Order.{insertRun, removeRun, replaceRun, Before, Starts, Has}
 
 -- ---- what the searches tell

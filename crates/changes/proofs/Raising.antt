@@ -10,9 +10,9 @@ use borrow.Author.Tests.{leb-true, leb-false}
 use Rattle.model.specs.declared.Run.{Run}
 use Rattle.model.specs.Numbers.{size}
 use Rattle.model.specs.Positions.{run, firstRun, setRange, mem}
-use Rattle.model.specs.RunList.{Canon}
-use Rattle.model.specs.Search.{EndBelow, StartFrom, firstFrom, canon-split, canon-starts, starts-weaken}
-use Rattle.model.specs.Edit.{insert, setTo, insert-skip, insert-put, insert-join}
+use Rattle.model.specs.RunList.{Canon, EndBelow, StartFrom, firstFrom, insert}
+use Rattle.model.proofs.Search.{canon-split, canon-starts, starts-weaken}
+use Rattle.model.proofs.Edit.{setTo, insert-skip, insert-put, insert-join}
 use Rattle.run_index.specs.declared.search.Near.{Near}
 use Rattle.run_index.specs.Tree.{Tree, inorder}
 use Rattle.run_index.specs.Order.{Before}
@@ -23,7 +23,19 @@ use Rattle.store.specs.Free.{Becomes, Addable, Adds, Changeable, Changes}
 use Rattle.changes.specs.declared.change.Reach.{Reach}
 use Rattle.changes.specs.Change.{MaySet, Settable, Holding, Sets, Reaching, Parted, Absorbable, Absorbed, Absorbs}
 use Rattle.changes.proofs.Lists.{first-after, first-some, first-none, Around, ends-before, ends-more, ends-last, append-one, canon-below}
-use Rattle.changes.proofs.Steps.{Found, FoundNone, becomes-none, becomes-after, becomes-changeable, becomes-changed, becomes-addable, becomes-added, set-canon, set-few, set-holding}
+use Rattle.changes.proofs.Steps.{
+  FoundRun,
+  FoundNone,
+  becomes-none,
+  becomes-after,
+  becomes-changeable,
+  becomes-changed,
+  becomes-addable,
+  becomes-added,
+  set-canon,
+  set-few,
+  set-holding,
+}
 use Rattle.changes.proofs.Joining.{take-none, insert-first}
 
 -- ---- what `insert` makes of runs
@@ -51,7 +63,7 @@ unfolding setTo
 raised-few m = set-few m
 
 -- ---- the run r at s or before it reaches s
-module _ {w : List ℕ} {x : Links} {s e : ℕ} {r : Run} (q : Found w x s r) (d : Bool) (ed : Reaching (r .«end») s d) (held : d ≡ true) where
+module _ {w : List ℕ} {x : Links} {s e : ℕ} {r : Run} (q : FoundRun w x s r) (d : Bool) (ed : Reaching (r .«end») s d) (held : d ≡ true) where
   module _ {sh : Share} {t : Tree} {ns : List ℕ} (m : MaySet w sh x s e true t ns) where
     -- the runs around r
     around : Around s r (inorder t)
@@ -147,7 +159,7 @@ pub record Passed (w : List ℕ) (x : Links) (s : ℕ) : Type 0 where
   pub parts : {sh : Share} {t : Tree} {ns : List ℕ} → Kept w sh x t ns → Parts s (inorder t)
 
 -- as the last run from before s ends two before it
-pub passed-apart : {w : List ℕ} {x : Links} {s : ℕ} {r : Run} → Found w x s r → (d : Bool) → Reaching (r .«end») s d → d ≡ false → Passed w x s
+pub passed-apart : {w : List ℕ} {x : Links} {s : ℕ} {r : Run} → FoundRun w x s r → (d : Bool) → Reaching (r .«end») s d → d ≡ false → Passed w x s
 passed-apart {w} {x} {s} {r} q d ed off = record { parts = go }
   where
     go : {sh : Share} {t : Tree} {ns : List ℕ} → Kept w sh x t ns → Parts s (inorder t)

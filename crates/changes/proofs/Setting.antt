@@ -7,23 +7,24 @@ use mathlib.Core.Logic.{_⊎_, inl, inr}
 use mathlib.Core.Bool.{Bool}
 use mathlib.Core.List.{List}
 use native.Mathlib.Omega.{arith}
-use Rattle.model.specs.Numbers.{size, split}
+use Rattle.model.specs.Numbers.{size}
+use Rattle.model.proofs.Numbers.{split}
 use Rattle.model.specs.Positions.{Positions, setRange, stretches, mem}
-use Rattle.model.specs.Positions.Runs.{stretches-cong}
-use Rattle.model.specs.After.{set-cong}
+use Rattle.model.proofs.Runs.{stretches-cong}
+use Rattle.model.proofs.After.{set-cong}
 use Rattle.run_index.specs.Tree.{runs, inorder}
 use Rattle.store.specs.declared.World.{World}
 use Rattle.store.specs.declared.Links.{Links}
 use Rattle.store.specs.Layout.{linksOf, turned, heldIn}
 use Rattle.store.specs.Soundness.{Share, Kept, Standing, Limited}
 use Rattle.store.specs.Settle.{Became, Refreshes, Resettable}
-use Rattle.store.specs.Turn.{Lies, first-below, parted-length}
+use Rattle.store.proofs.Turn.{Lies, first-below, parted-length}
 use Rattle.store.proofs.Nodes.{still-then}
 use Rattle.store.proofs.Opening.{physicalIn, standing-held, standing-none, standing-some}
 use Rattle.changes.specs.Change.{MaySet, Settable, Holding, Sets}
 use Rattle.changes.specs.Edits.{Reached}
-use Rattle.changes.specs.TurnedSet.{turned-cong, turned-set-whole, turned-set-first, turned-set-parted}
-use Rattle.changes.specs.SetRuns.{set-one-more, physical-one-more}
+use Rattle.changes.proofs.TurnedSet.{turned-cong, turned-set-whole, turned-set-first, turned-set-parted}
+use Rattle.changes.proofs.SetRuns.{set-one-more, physical-one-more}
 
 -- what the links of a world lead to is kept
 pub links-kept : {w : List ℕ} {s : Share} {h : World} {x : Links} → x ≡ linksOf h → (st : Standing w s h) → Kept w s x (st .tree) (st .free)

@@ -7,9 +7,10 @@ use mathlib.Core.Bool.{Bool, true, false}
 use mathlib.Core.List.{List, []}
 use native.Mathlib.Omega.{arith}
 use Rattle.model.specs.declared.Run.{Run}
-use Rattle.model.specs.Numbers.{size, split}
+use Rattle.model.specs.Numbers.{size}
+use Rattle.model.proofs.Numbers.{split}
 use Rattle.model.specs.Positions.{Positions, mem, heldRuns, stretches, empty, setRange, shiftLeft, shiftRight, shiftBy}
-use Rattle.model.specs.After.{set-inside, set-below, set-above}
+use Rattle.model.proofs.After.{set-inside, set-below, set-above}
 use Rattle.run_index.specs.Tree.{Tree, leaf, node, runs, inorder, At}
 use Rattle.store.specs.declared.World.{World}
 use Rattle.store.specs.declared.Links.{Links}
@@ -18,15 +19,28 @@ use Rattle.store.specs.Layout.{linksOf, turned, heldIn}
 use Rattle.store.specs.Soundness.{firstOf, lastOf, Share, Still, Standing, Limited}
 use Rattle.store.specs.Free.{Becomes, Keepable, GivesBack}
 use Rattle.store.specs.Settle.{Became, Refreshes}
-use Rattle.store.specs.Turn.{turned-zero}
-use Rattle.store.specs.Ends.{clash, empty-mem, Ends, held-ends}
+use Rattle.store.proofs.Turn.{turned-zero}
+use Rattle.store.proofs.Ends.{clash, empty-mem, Ends, held-ends}
 use Rattle.store.proofs.Nodes.{still-same}
 use Rattle.store.proofs.Reached.{kept-held}
 use Rattle.store.proofs.Emptying.{rootless-empty}
 use Rattle.store.proofs.Opening.{physicalIn, standing-held, standing-some}
 use Rattle.changes.specs.Edits.{Makes, Appliable, Empties, Moves}
-use Rattle.changes.specs.SetRuns.{clear-top, clear-bottom}
-use Rattle.changes.specs.Shifted.{left-at, right-at, left-cong, right-cong, left-nothing, right-nothing, shifted-left, shifted-right, left-first, left-last, right-first, right-last}
+use Rattle.changes.proofs.SetRuns.{clear-top, clear-bottom}
+use Rattle.changes.proofs.Shifted.{
+  left-at,
+  right-at,
+  left-cong,
+  right-cong,
+  left-nothing,
+  right-nothing,
+  shifted-left,
+  shifted-right,
+  left-first,
+  left-last,
+  right-first,
+  right-last,
+}
 use Rattle.changes.proofs.Setting.{links-kept}
 
 -- ---- the first and the last position held

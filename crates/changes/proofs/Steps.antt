@@ -10,12 +10,12 @@ use lib.Dec.{leb, ltb}
 use lib.ListN.{length, length-append}
 use borrow.Author.Tests.{lt-ltb, le-ltb, le-leb, lt-leb}
 use Rattle.model.specs.declared.Run.{Run}
-use Rattle.model.specs.Numbers.{size, split}
+use Rattle.model.specs.Numbers.{size}
+use Rattle.model.proofs.Numbers.{split}
 use Rattle.model.specs.Positions.{run, inside, among, setRange, mem}
-use Rattle.model.specs.Positions.Runs.{stretches-is}
-use Rattle.model.specs.RunList.{Canon}
-use Rattle.model.specs.Search.{StartFrom, lastUpTo, firstFrom}
-use Rattle.model.specs.Edit.{setTo, setTo-canon, setTo-mem}
+use Rattle.model.proofs.Runs.{stretches-is}
+use Rattle.model.specs.RunList.{Canon, StartFrom, lastUpTo, firstFrom}
+use Rattle.model.proofs.Edit.{setTo, setTo-canon, setTo-mem}
 use Rattle.run_index.specs.declared.search.Near.{Near}
 use Rattle.run_index.specs.Tree.{Tree, inorder}
 use Rattle.run_index.specs.Order.{insertRun, removeRun, replaceRun, Before, Starts, Has}
@@ -128,7 +128,7 @@ pub settable-indexed : {w : List ℕ} {x : Links} {s e : ℕ} {v : Bool} → Set
 settable-indexed p = (_, _, kept-index (p .3 .kept))
 
 -- r is the last run that starts at s or before it
-pub record Found (w : List ℕ) (x : Links) (s : ℕ) (r : Run) : Type 0 where
+pub record FoundRun (w : List ℕ) (x : Links) (s : ℕ) (r : Run) : Type 0 where
   pub around : {sh : Share} {t : Tree} {ns : List ℕ} → Kept w sh x t ns → Around s r (inorder t)
 
 -- all runs start after s
@@ -137,7 +137,7 @@ pub record FoundNone (w : List ℕ) (x : Links) (s : ℕ) : Type 0 where
 
 module _ {w : List ℕ} {x : Links} {s : ℕ} (n : Near) (f : TellsBefore w (x .root) s n) where
   -- the search has found r
-  pub found : (r : Run) → n ≡ Near.Run r → Found w x s r
+  pub found : (r : Run) → n ≡ Near.Run r → FoundRun w x s r
   found r en = record {
     around = λ {sh} {t} {ns} k. last-around s (inorder t) r (sym (ap nearRun en) ∙ becomes-before (becomes-none k refl) s n f);
   }

@@ -10,9 +10,9 @@ use borrow.Author.Tests.{lt-ltb, le-ltb}
 use Rattle.model.specs.declared.Run.{Run}
 use Rattle.model.specs.Numbers.{size}
 use Rattle.model.specs.Positions.{run, setRange, mem}
-use Rattle.model.specs.RunList.{Canon}
-use Rattle.model.specs.Search.{EndBelow, StartFrom, canon-split, canon-starts, starts-weaken}
-use Rattle.model.specs.Edit.{clear, setTo}
+use Rattle.model.specs.RunList.{Canon, EndBelow, StartFrom, clear}
+use Rattle.model.proofs.Search.{canon-split, canon-starts, starts-weaken}
+use Rattle.model.proofs.Edit.{setTo}
 use Rattle.run_index.specs.Tree.{Tree, inorder}
 use Rattle.run_index.specs.Order.{Before}
 use Rattle.store.specs.declared.Links.{Links}
@@ -20,7 +20,20 @@ use Rattle.store.specs.Soundness.{Share}
 use Rattle.store.specs.Free.{Becomes, Addable, Adds, Changeable, Changes}
 use Rattle.changes.specs.Change.{MaySet, Settable, Holding, Sets, Cut, Clearable, ClearsFrom}
 use Rattle.changes.proofs.Lists.{Around, ends-before, ends-more, ends-last, append-one, canon-shrink, canon-below}
-use Rattle.changes.proofs.Steps.{Found, FoundNone, becomes-none, becomes-canon, becomes-then, becomes-changeable, becomes-changed, becomes-addable, becomes-added, set-canon, set-few, set-holding}
+use Rattle.changes.proofs.Steps.{
+  FoundRun,
+  FoundNone,
+  becomes-none,
+  becomes-canon,
+  becomes-then,
+  becomes-changeable,
+  becomes-changed,
+  becomes-addable,
+  becomes-added,
+  set-canon,
+  set-few,
+  set-holding,
+}
 use Rattle.changes.proofs.Clearing.{clear-below, clear-above}
 
 -- ---- what `clear` makes of a run that goes on from before s
@@ -115,7 +128,7 @@ trimmed-none {s = s} q = record {
 }
 
 -- it is r
-module _ {w : List ℕ} {x : Links} {s e : ℕ} {r : Run} (q : Found w x s r) where
+module _ {w : List ℕ} {x : Links} {s e : ℕ} {r : Run} (q : FoundRun w x s r) where
   module _ {sh : Share} {t : Tree} {ns : List ℕ} (m : MaySet w sh x s e false t ns) where
     -- the runs around r
     around : Around s r (inorder t)

@@ -7,8 +7,7 @@ use lib.Dec.{leb}
 use Rattle.model.specs.declared.Run.{Run}
 use Rattle.model.specs.Numbers.{size}
 use Rattle.model.specs.Positions.{Positions, run, setRange, stretches, mem}
-use Rattle.model.specs.Search.{EndBelow, StartFrom}
-use Rattle.model.specs.Edit.{insert, clear}
+use Rattle.model.specs.RunList.{EndBelow, StartFrom, insert, clear}
 use Rattle.run_index.specs.Tree.{Tree, inorder}
 use Rattle.store.specs.declared.Links.{Links}
 use Rattle.store.specs.Soundness.{Share, Still, Kept}

@@ -4,11 +4,11 @@ ghost use mathlib.Core.Path.{_≡_};
 ghost use Prim.Native.Nat.{suc, _+_, _-_, _≤_, _<_};
 ghost use lib.Dec.{leb};
 ghost use Rattle.model.specs.Positions.{oneIf, setRange, flipRange, shiftBy, shiftLeft, shiftRight, stretches};
-ghost use Rattle.model.specs.After.{goesOn};
+ghost use Rattle.model.specs.Neighbours.{goesOn};
 ghost use Rattle.store.specs.Layout.{heldIn};
 ghost use Rattle.store.specs.Soundness.{Stands, Editable};
 ghost use Rattle.changes.specs.Edits.{Makes, Edited, Fitted, Appliable, Places, Gains, StretchEnd, Empties, Movable, Shiftable, Moves};
-ghost use Rattle.changes.specs.Neighbours.{heldBelow, heldAbove};
+ghost use Rattle.model.specs.Neighbours.{heldBelow, heldAbove};
 use model::Count;
 use model::Edge;
 use model::Logical;
@@ -126,7 +126,7 @@ pub fn apply_set(words: &mut [u64], h: World, a: Logical, b: Logical, value: boo
     ensures { λ r. ⌜ Makes (now (words .entry)) (now (words .exit)) h r (setRange (a .0) (suc (b .0) - a .0) value (heldIn (now (words .entry)) h)) ⌝ }
 {
     let y = place(words, h, a, b, value);
-    store::settle::refresh_set(words, y, h, a, b, value)
+    store::refresh::refresh_set(words, y, h, a, b, value)
 }
 
 // How many positions a world gained, from what it told before and tells after. The sums are kept modulo 2^64, so an empty world that
@@ -241,7 +241,7 @@ fn emptied(words: &mut [u64], h: World) -> World
     ensures { λ r. ⌜ Empties (now (words .entry)) (now (words .exit)) h r ⌝ }
 {
     let x = store::free::give_back(words, store::links_of(h));
-    store::settle::refresh(words, x, 0)
+    store::refresh::refresh(words, x, 0)
 }
 
 // Moves every position by d, up (left) or down, and drops what leaves 0..=M.

@@ -11,10 +11,11 @@ use native.Mathlib.Omega.{arith}
 use borrow.Author.Tests.{lt-ltb, le-ltb}
 use Rattle.model.specs.declared.Bound.{Bound}
 use Rattle.model.specs.declared.Count.{Count}
-use Rattle.model.specs.Numbers.{size, split, worth}
+use Rattle.model.specs.Numbers.{size, worth}
+use Rattle.model.proofs.Numbers.{split}
 use Rattle.model.specs.Range.{firstAllowed, extent}
 use Rattle.model.specs.Positions.{Positions, bounded, stretches, changes, setRange, flipRange, shiftBy}
-use Rattle.model.specs.After.{set-below, set-above, flip-below, flip-above, changes-set}
+use Rattle.model.proofs.After.{set-below, set-above, flip-below, flip-above, changes-set}
 use Rattle.model.specs.Bytes.{mapped}
 use Rattle.model.specs.Refusals.{storeLength, beforeCapacity, Condition, _when_, given, firstGiven, refusal, mapConditions, tooMany}
 use Rattle.model.specs.Refusals
@@ -27,7 +28,7 @@ use Rattle.store.specs.Settle.{Settled, Opened, Closing, Closes}
 use Rattle.changes.specs.declared.edit.Edit.{Edit}
 use Rattle.changes.specs.declared.edit.Fit.{Fit}
 use Rattle.changes.specs.Edits.{Makes, Edited, Fitted, Movable, Moves}
-use Rattle.changes.specs.Shifted.{shift-few}
+use Rattle.changes.proofs.Shifted.{shift-few}
 use Rattle.core.specs.Met.{fedOf, outcomeOf, Met, Readable}
 use Rattle.core.proofs.Meeting.{met-by}
 use Rattle.core.proofs.Refusing.{refused-before, refused-full}

@@ -12,7 +12,7 @@ use Rattle.model.specs.Model.{positionsOf, reads, serve}
 use Rattle.store.specs.Layout.{heldFrom, heldBy}
 use Rattle.streams.specs.declared.source.View.{View}
 use Rattle.core.specs.Met.{fedOf, outcomeOf, Readable}
-use Rattle.core.specs.Carried.{ViewOf}
+use Rattle.core.specs.Joined.{ViewOf}
 use Rattle.core.proofs.Meeting.{Reports}
 use Rattle.core.proofs.Joins.{read-as, same-fits}
 

@@ -10,7 +10,7 @@ use borrow.Author.Tests.{lt-ltb, le-ltb}
 use Rattle.model.specs.declared.Listing.{Listing}
 use Rattle.model.specs.declared.Run.{Run}
 use Rattle.model.specs.Positions.{Positions, firstRun, lastRun, remaining, runsIn, ended, pastFirst, pastLast}
-use Rattle.model.specs.Positions.Runs.{runsIn-none}
+use Rattle.model.proofs.Runs.{runsIn-none}
 use Rattle.model.specs.Call.{drawn}
 use Rattle.run_index.specs.declared.search.Near.{Near}
 use Rattle.run_index.specs.Search.{nearRun}

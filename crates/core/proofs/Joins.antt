@@ -12,20 +12,22 @@ use lib.ListN.{length}
 use borrow.Author.Tests.{le-leb, lt-leb, le-ltb, lt-ltb, ne-eqb}
 use Rattle.model.specs.declared.Run.{Run}
 use Rattle.model.specs.declared.Operation.the-variants.{And, Xor}
-use Rattle.model.specs.Numbers.{size, split}
+use Rattle.model.specs.Numbers.{size}
+use Rattle.model.proofs.Numbers.{split}
 use Rattle.model.specs.Positions.{Positions, run, mem, combined, complemented, shiftLeft, shiftRight, shiftBy, heldRuns, stretches, changes, same}
-use Rattle.model.specs.Positions.Runs.{heldRuns-canon}
-use Rattle.model.specs.Positions.Finds.{count-runs}
-use Rattle.model.specs.RunList.{Canon, widths, mem-in, mem-under, mem-above}
+use Rattle.model.proofs.Runs.{heldRuns-canon}
+use Rattle.model.proofs.Finds.{count-runs}
+use Rattle.model.specs.RunList.{Canon}
+use Rattle.model.proofs.RunList.{widths, mem-in, mem-under, mem-above}
 use Rattle.model.specs.Model.{positionsOf}
 use Rattle.store.specs.Places.{physicalOf, logicalOf}
 use Rattle.store.specs.Layout.{turned, physicalRuns, heldFrom}
-use Rattle.store.specs.Turn.{turned-at}
-use Rattle.store.specs.Ends.{empty-mem}
-use Rattle.changes.specs.Shifted.{turned-further}
+use Rattle.store.proofs.Turn.{turned-at}
+use Rattle.store.proofs.Ends.{empty-mem}
+use Rattle.changes.proofs.Shifted.{turned-further}
 use Rattle.streams.specs.declared.source.View.{View}
 use Rattle.core.specs.Met.{fedOf, Readable}
-use Rattle.core.specs.Carried.{ViewOf}
+use Rattle.core.specs.Joined.{ViewOf}
 
 -- ---- the positions from a to b alone
 -- the others are not there

@@ -7,8 +7,10 @@ pub mod Spans
 pub mod Gaps
 pub mod Changing
 pub mod Draws
-pub mod Carrying
+pub mod Overwriting
 pub mod Receiving
 pub mod Joins
 pub mod Comparing
 pub mod Putting
+pub mod Simulation
+pub mod Served

@@ -12,7 +12,7 @@ use Rattle.model.specs.declared.Refusal.the-variants.{OutputShort, Window}
 use Rattle.model.specs.declared.Written.{Written}
 use Rattle.model.specs.Positions.{Positions, heldRuns, stretches}
 use Rattle.model.specs.Bytes.{encode, mapOf, intoFront}
-use Rattle.model.specs.Codec.{encode-length}
+use Rattle.model.proofs.Codec.{encode-length}
 use Rattle.model.specs.Refusals.{window, outputShort, Condition, _when_, refusal, badWindow, noRoom}
 use Rattle.model.specs.Call.{Call, written}
 use Rattle.model.specs.Model.{positionsOf, serve, write}

@@ -13,9 +13,10 @@ use mir.Syntax.{w8, w64}
 use mir.Val.{Fits}
 use Rattle.model.specs.declared.Refusal.{Refusal}
 use Rattle.model.specs.declared.Run.{Run}
-use Rattle.model.specs.Numbers.{size, split, refusalNumber}
+use Rattle.model.specs.Numbers.{size, refusalNumber}
+use Rattle.model.proofs.Numbers.{split}
 use Rattle.model.specs.Positions.{Positions, empty, stretches, mem}
-use Rattle.model.specs.Positions.Runs.{stretches-is}
+use Rattle.model.proofs.Runs.{stretches-is}
 use Rattle.model.specs.Bytes.{decodeRuns}
 use Rattle.model.specs.Refusals.{runOrder, beforeCapacity, fromCapacity, _when_, firstGiven, refusal, orderedFrom, disordered, setConditions}
 use Rattle.run_index.specs.Tree.{Tree, leaf, node, runs}
@@ -27,15 +28,15 @@ use Rattle.store.specs.Free.{Emptied}
 use Rattle.store.specs.Settle.{Settled, Opened, Closing, Closes, Strewn, Linkable, LinksUp}
 use Rattle.store.proofs.Opening.{standing-some}
 use Rattle.streams.specs.Gathering.{Gathers}
-use Rattle.written.specs.declared.set.Told.{Told}
-use Rattle.written.specs.Told.{Acceptable, TellsRuns}
+use Rattle.written.specs.declared.set.Parsed.{Parsed}
+use Rattle.written.specs.Parsed.{Acceptable, TellsRuns}
 use Rattle.written.specs.Listed.{pairs, Receives, Received}
 use Rattle.model.proofs.Slices.{all-bytes}
 use Rattle.written.proofs.Listing.{pairs-length, pairs-words}
 use Rattle.written.proofs.Telling.{ordered-stretches, disorder-is, accepted-runs, accepted-stretches}
 use Rattle.core.specs.Laid.{Begun, Laying}
 use Rattle.core.proofs.Refusing.{first-alone}
-use Rattle.core.proofs.Carrying.{gather-roomy, gather-closing, gather-settled}
+use Rattle.core.proofs.Overwriting.{gather-roomy, gather-closing, gather-settled}
 
 -- the set of the runs rs has n runs
 pub record Many (n : ℕ) (rs : List Run) : Type 0 where
@@ -57,7 +58,7 @@ pairs-many n ws f o = record { are = sym (ordered-stretches (pairs n ws) (pairs-
 
 -- ---- bytes, by what they tell
 -- a refusal comes before too many runs
-pub told-refused : (bs : List ℕ) {r : Refusal} (t : Told) → TellsRuns bs t → t ≡ Told.Refused r → firstGiven beforeCapacity (setConditions bs) ≡ some (refusalNumber r)
+pub told-refused : (bs : List ℕ) {r : Refusal} (t : Parsed) → TellsRuns bs t → t ≡ Parsed.Refused r → firstGiven beforeCapacity (setConditions bs) ≡ some (refusalNumber r)
 told-refused bs t k e = sym (first-alone beforeCapacity fromCapacity (setConditions bs) refl) ∙ subst (λ s. TellsRuns bs s) e k
 
 -- the set of accepted ones has as many runs as they tell

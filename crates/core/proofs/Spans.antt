@@ -15,9 +15,9 @@ use Rattle.model.specs.declared.Span.{Span}
 use Rattle.model.specs.declared.Span.the-variants.{Empty, Closed}
 use Rattle.model.specs.Range.{firstAllowed, pastAllowed, extent, spanOf}
 use Rattle.model.specs.Positions.{Positions, find, count, select, countRanges, ended, listed}
-use Rattle.model.specs.Positions.Laws.{count-none}
-use Rattle.model.specs.Positions.Runs.{runsIn-none}
-use Rattle.model.specs.Positions.Finds.{find-none, select-none}
+use Rattle.model.proofs.Counting.{count-none}
+use Rattle.model.proofs.Runs.{runsIn-none}
+use Rattle.model.proofs.Finds.{find-none, select-none}
 use Rattle.model.specs.Call.{Answer, gave, position}
 use Rattle.model.specs.Answers.{edgePosition}
 use Rattle.core.specs.Met.{foundEdge}

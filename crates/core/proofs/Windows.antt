@@ -11,9 +11,10 @@ use lib.Dec.{leb, ltb, eqb}
 use lib.ListN.{length}
 use borrow.Author.Tests.{eqb-true, not-false, eq-eqb, ne-eqb, lt-ltb, le-ltb, le-leb, lt-leb}
 use Rattle.model.specs.declared.Count.{Count}
-use Rattle.model.specs.Numbers.{size, worth, split}
+use Rattle.model.specs.Numbers.{size, worth}
+use Rattle.model.proofs.Numbers.{split}
 use Rattle.model.specs.Positions.{Positions, count}
-use Rattle.model.specs.Positions.Laws.{count-both}
+use Rattle.model.proofs.Counting.{count-both}
 use Rattle.model.specs.Bytes.{strayBits, fillOf}
 use Rattle.model.specs.Refusals.{window, beforeCapacity, _when_, firstGiven, refusal, badWindow, badMap, stray, mapConditions}
 use Rattle.maps.specs.Window.{Window}

@@ -1,5 +1,5 @@
 pub mod Met
-pub mod Carried
+pub mod Joined
 pub mod Laid
 pub mod Out
 pub mod Handles

@@ -11,7 +11,7 @@ use changes::edit::Edit;
 use model::Completed;
 use model::Counted;
 use model::Refusal;
-use written::set::Told;
+use written::set::Parsed;
 
 // Makes the store that a written set tells, whatever its words were.
 pub fn load(words: &mut [u64], bytes: &[u8]) -> Completed
@@ -20,8 +20,8 @@ pub fn load(words: &mut [u64], bytes: &[u8]) -> Completed
 {
     let t = written::set::runs_told(bytes);
     match t {
-        Told::Refused(r) => Completed::Refused(r),
-        Told::Runs(n) => {
+        Parsed::Refused(r) => Completed::Refused(r),
+        Parsed::Runs(n) => {
             if n > store::allowance(words) {
                 return Completed::Refused(Refusal::Capacity);
             }

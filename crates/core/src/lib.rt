@@ -2,8 +2,8 @@
 // list of calls can be served after one look, as each leaves a sound store. What a change would leave is counted before the first write,
 // so a refusal finds every word as it was. No public call is here: each of these asks something of its caller.
 pub mod bytes;
-pub mod carry;
 pub mod change;
+pub mod join;
 pub mod listing;
 pub mod make;
 pub mod report;

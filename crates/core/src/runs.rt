@@ -18,6 +18,6 @@ pub fn finish(words: &mut [u64], x: Links, n: u64)
     requires { ⌜ Finishable (now words) x n ⌝ }
     ensures { λ _. ⌜ Finishes (now (words .entry)) (now (words .exit)) x n ⌝ }
 {
-    let k = store::settle::link(words, x, n);
+    let k = store::refresh::link(words, x, n);
     store::close(words, k);
 }

@@ -15,7 +15,7 @@ use Rattle.core.specs.Out.{Unwritten, WritesOut}
 use Rattle.flat.specs.declared.Reply.{Reply}
 use Rattle.flat.specs.Flat.{replyOf}
 use Rattle.frame.specs.Frame.{Framed}
-use Rattle.exports.specs.declared.structs.CPosition.{CPosition}
+use Rattle.exports.specs.declared.structs.CFound.{CFound}
 use Rattle.exports.specs.declared.structs.CWritten.{CWritten}
 use Rattle.exports.specs.Structs.{refusalOf, positionOf, writtenOf}
 use Rattle.exports.specs.Returns.{Returns, ReturnsGap, sliceAfter, Writes, Handed, Frames}
@@ -30,7 +30,7 @@ pub returned : {R : Type 0} {w w′ : List ℕ} {c c′ : Call (List ℕ)} {f : 
 returned {w = w} {w′} {f = f} {a = a} e m p s = record { answer = a; met = subst (λ k. Met w k a w′) e m; flat = s ∙ ap f p }
 
 -- the gap search
-pub returned-gap : {w : List ℕ} {l u x y : Bound} {n : ℕ} {r : CPosition} (a : Answer) {q : Reply} → l ≡ x → u ≡ y → AnswersGap (fedOf w) l u n a
+pub returned-gap : {w : List ℕ} {l u x y : Bound} {n : ℕ} {r : CFound} (a : Answer) {q : Reply} → l ≡ x → u ≡ y → AnswersGap (fedOf w) l u n a
     → q ≡ replyOf a → r ≡ positionOf q → ReturnsGap w x y n r
 returned-gap {w} {l} {u} {x} {y} {n} a d e m p s = record {
   answer = a;

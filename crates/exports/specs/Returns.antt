@@ -12,7 +12,7 @@ use Rattle.interval_bit_set.specs.Out.{onWritten}
 use Rattle.flat.specs.declared.Reply.{Reply}
 use Rattle.flat.specs.Flat.{replyOf}
 use Rattle.frame.specs.Frame.{Framed}
-use Rattle.exports.specs.declared.structs.CPosition.{CPosition}
+use Rattle.exports.specs.declared.structs.CFound.{CFound}
 use Rattle.exports.specs.declared.structs.CWritten.{CWritten}
 use Rattle.exports.specs.Structs.{refusalOf, positionOf, writtenOf}
 
@@ -23,7 +23,7 @@ pub record Returns {R : Type 0} (w : List ℕ) (c : Call (List ℕ)) (f : Reply 
   pub flat : r ≡ f (replyOf answer)
 
 -- the gap search on the words w, of n positions between l and u: r is an answer that its promise allows, laid flat, in every field
-pub record ReturnsGap (w : List ℕ) (l u : Bound) (n : ℕ) (r : CPosition) : Type 0 where
+pub record ReturnsGap (w : List ℕ) (l u : Bound) (n : ℕ) (r : CFound) : Type 0 where
   pub answer : Answer
   pub met : AnswersGap (fedOf w) l u n answer
   pub flat : r ≡ positionOf (replyOf answer)

@@ -4,11 +4,11 @@ use Rattle.model.specs.declared.Bound.{Bound}
 use Rattle.flat.specs.declared.Reply.{Reply}
 use Rattle.flat.specs.Flat.{boundBy}
 use Rattle.exports.specs.declared.structs.CBound.{CBound}
-use Rattle.exports.specs.declared.structs.CCount.{CCount}
-use Rattle.exports.specs.declared.structs.CNumber.{CNumber}
-use Rattle.exports.specs.declared.structs.CValue.{CValue}
-use Rattle.exports.specs.declared.structs.CRun.{CRun}
-use Rattle.exports.specs.declared.structs.CPosition.{CPosition}
+use Rattle.exports.specs.declared.structs.CCounted.{CCounted}
+use Rattle.exports.specs.declared.structs.CNumbered.{CNumbered}
+use Rattle.exports.specs.declared.structs.CTested.{CTested}
+use Rattle.exports.specs.declared.structs.CAround.{CAround}
+use Rattle.exports.specs.declared.structs.CFound.{CFound}
 use Rattle.exports.specs.declared.structs.CListed.{CListed}
 use Rattle.exports.specs.declared.structs.CDrawn.{CDrawn}
 use Rattle.exports.specs.declared.structs.CWritten.{CWritten}
@@ -23,23 +23,23 @@ abbrev pub refusalOf : Reply → ℕ
 refusalOf r = r .refusal
 
 -- set, read_map, count
-abbrev pub countOf : Reply → CCount
+abbrev pub countOf : Reply → CCounted
 countOf r = record { refusal = r .refusal; carry = r .found; low = r .number }
 
 -- count_ranges, fill, clear_map
-abbrev pub numberOf : Reply → CNumber
+abbrev pub numberOf : Reply → CNumbered
 numberOf r = record { refusal = r .refusal; number = r .number }
 
 -- get, eq
-abbrev pub valueOf : Reply → CValue
+abbrev pub valueOf : Reply → CTested
 valueOf r = record { refusal = r .refusal; value = r .number }
 
 -- run_at
-abbrev pub runOf : Reply → CRun
+abbrev pub runOf : Reply → CAround
 runOf r = record { refusal = r .refusal; start = r .number; «end» = r .«end» }
 
 -- find, select, gap
-abbrev pub positionOf : Reply → CPosition
+abbrev pub positionOf : Reply → CFound
 positionOf r = record { refusal = r .refusal; found = r .found; position = r .number }
 
 -- ranges

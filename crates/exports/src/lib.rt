@@ -9,14 +9,14 @@ ghost use Rattle.interval_bit_set.specs.Lent.{listingOf};
 ghost use Rattle.flat.specs.Flat.{operationOf, truth};
 ghost use Rattle.exports.specs.Structs.{boundOf, refusalOf, countOf, numberOf, valueOf, runOf, positionOf, listedOf, drawnOf};
 ghost use Rattle.exports.specs.Returns.{Returns, ReturnsGap, Writes, Handed, Frames};
+use crate::structs::CAround;
 use crate::structs::CBound;
-use crate::structs::CCount;
+use crate::structs::CCounted;
 use crate::structs::CDrawn;
+use crate::structs::CFound;
 use crate::structs::CListed;
-use crate::structs::CNumber;
-use crate::structs::CPosition;
-use crate::structs::CRun;
-use crate::structs::CValue;
+use crate::structs::CNumbered;
+use crate::structs::CTested;
 use crate::structs::CWritten;
 use model::Listing;
 
@@ -37,7 +37,7 @@ pub extern "C" fn vizturel_set(
     lower: CBound,
     upper: CBound,
     value: u64,
-) -> CCount
+) -> CCounted
     ensures { λ r. ⌜ Returns (now (words .entry)) (Call.set (boundOf lower) (boundOf upper) (truth value)) countOf r (now (words .exit)) ⌝ }
 {
     structs::count(flat::counted(interval_bit_set::change::set(
@@ -70,7 +70,7 @@ pub extern "C" fn vizturel_shift(words: &mut [u64], distance: u64, left: u64) ->
 
 // The value of a position.
 #[no_mangle]
-pub extern "C" fn vizturel_get(words: &[u64], x: u64) -> CValue
+pub extern "C" fn vizturel_get(words: &[u64], x: u64) -> CTested
     ensures { λ r. ⌜ Returns (now (words .entry)) (Call.get x) valueOf r (now (words .entry)) ⌝ }
 {
     structs::value(flat::tested(interval_bit_set::report::get(words, x)))
@@ -78,7 +78,7 @@ pub extern "C" fn vizturel_get(words: &[u64], x: u64) -> CValue
 
 // The unclipped run around a position.
 #[no_mangle]
-pub extern "C" fn vizturel_run_at(words: &[u64], x: u64) -> CRun
+pub extern "C" fn vizturel_run_at(words: &[u64], x: u64) -> CAround
     ensures { λ r. ⌜ Returns (now (words .entry)) (Call.runAt x) runOf r (now (words .entry)) ⌝ }
 {
     structs::run(flat::around(interval_bit_set::report::run_at(words, x)))
@@ -86,12 +86,7 @@ pub extern "C" fn vizturel_run_at(words: &[u64], x: u64) -> CRun
 
 // The least position of the value in a range.
 #[no_mangle]
-pub extern "C" fn vizturel_find(
-    words: &[u64],
-    lower: CBound,
-    upper: CBound,
-    value: u64,
-) -> CPosition
+pub extern "C" fn vizturel_find(words: &[u64], lower: CBound, upper: CBound, value: u64) -> CFound
     ensures { λ r. ⌜ Returns (now (words .entry)) (Call.find (boundOf lower) (boundOf upper) (truth value)) positionOf r (now (words .entry)) ⌝ }
 {
     structs::position(flat::found(interval_bit_set::report::find(
@@ -104,7 +99,12 @@ pub extern "C" fn vizturel_find(
 
 // How many positions of a range have the value.
 #[no_mangle]
-pub extern "C" fn vizturel_count(words: &[u64], lower: CBound, upper: CBound, value: u64) -> CCount
+pub extern "C" fn vizturel_count(
+    words: &[u64],
+    lower: CBound,
+    upper: CBound,
+    value: u64,
+) -> CCounted
     ensures { λ r. ⌜ Returns (now (words .entry)) (Call.count (boundOf lower) (boundOf upper) (truth value)) countOf r (now (words .entry)) ⌝ }
 {
     structs::count(flat::counted(interval_bit_set::report::count(
@@ -123,7 +123,7 @@ pub extern "C" fn vizturel_select(
     upper: CBound,
     value: u64,
     k: u64,
-) -> CPosition
+) -> CFound
     ensures { λ r. ⌜ Returns (now (words .entry)) (Call.select (boundOf lower) (boundOf upper) (truth value) k) positionOf r (now (words .entry)) ⌝ }
 {
     structs::position(flat::found(interval_bit_set::report::select(
@@ -137,7 +137,7 @@ pub extern "C" fn vizturel_select(
 
 // The start of some n neighbouring positions of a range that are all free.
 #[no_mangle]
-pub extern "C" fn vizturel_gap(words: &[u64], lower: CBound, upper: CBound, n: u64) -> CPosition
+pub extern "C" fn vizturel_gap(words: &[u64], lower: CBound, upper: CBound, n: u64) -> CFound
     ensures { λ r. ⌜ ReturnsGap (now (words .entry)) (boundOf lower) (boundOf upper) n r ⌝ }
 {
     structs::position(flat::found(interval_bit_set::report::gap(
@@ -155,7 +155,7 @@ pub extern "C" fn vizturel_count_ranges(
     lower: CBound,
     upper: CBound,
     value: u64,
-) -> CNumber
+) -> CNumbered
     ensures { λ r. ⌜ Returns (now (words .entry)) (Call.countRanges (boundOf lower) (boundOf upper) (truth value)) numberOf r (now (words .entry)) ⌝ }
 {
     structs::number(flat::numbered(interval_bit_set::report::count_ranges(
@@ -216,7 +216,7 @@ pub extern "C" fn vizturel_draw_back(words: &[u64], first: u64, last: u64, value
 
 // How full a window is, in thousandths, rounded down.
 #[no_mangle]
-pub extern "C" fn vizturel_fill(words: &[u64], base: u64, n: u64) -> CNumber
+pub extern "C" fn vizturel_fill(words: &[u64], base: u64, n: u64) -> CNumbered
     ensures { λ r. ⌜ Returns (now (words .entry)) (Call.fill base n) numberOf r (now (words .entry)) ⌝ }
 {
     structs::number(flat::numbered(interval_bit_set::report::fill(words, base, n)))
@@ -227,7 +227,7 @@ pub extern "C" fn vizturel_fill(words: &[u64], base: u64, n: u64) -> CNumber
 pub extern "C" fn vizturel_combine(words: &mut [u64], op: u64, a: &[u64], b: &[u64]) -> u64
     ensures { λ r. ⌜ Returns (now (words .entry)) (Call.combine (operationOf op) (now (a .entry)) (now (b .entry))) refusalOf r (now (words .exit)) ⌝ }
 {
-    flat::completed(interval_bit_set::carry::combine(words, flat::operation(op), a, b)).refusal
+    flat::completed(interval_bit_set::join::combine(words, flat::operation(op), a, b)).refusal
 }
 
 // The complement of a set.
@@ -235,7 +235,7 @@ pub extern "C" fn vizturel_combine(words: &mut [u64], op: u64, a: &[u64], b: &[u
 pub extern "C" fn vizturel_not(words: &mut [u64], a: &[u64]) -> u64
     ensures { λ r. ⌜ Returns (now (words .entry)) (Call.complement (now (a .entry))) refusalOf r (now (words .exit)) ⌝ }
 {
-    flat::completed(interval_bit_set::carry::not(words, a)).refusal
+    flat::completed(interval_bit_set::join::not(words, a)).refusal
 }
 
 // The set moved by the distance, up (left) where `left` is not 0, else down.
@@ -243,15 +243,15 @@ pub extern "C" fn vizturel_not(words: &mut [u64], a: &[u64]) -> u64
 pub extern "C" fn vizturel_shifted(words: &mut [u64], distance: u64, left: u64, a: &[u64]) -> u64
     ensures { λ r. ⌜ Returns (now (words .entry)) (Call.shifted distance (truth left) (now (a .entry))) refusalOf r (now (words .exit)) ⌝ }
 {
-    flat::completed(interval_bit_set::carry::shifted(words, distance, left != 0, a)).refusal
+    flat::completed(interval_bit_set::join::shifted(words, distance, left != 0, a)).refusal
 }
 
 // Whether two stores hold the same positions.
 #[no_mangle]
-pub extern "C" fn vizturel_eq(words: &[u64], b: &[u64]) -> CValue
+pub extern "C" fn vizturel_eq(words: &[u64], b: &[u64]) -> CTested
     ensures { λ r. ⌜ Returns (now (words .entry)) (Call.equal (now (b .entry))) valueOf r (now (words .entry)) ⌝ }
 {
-    structs::value(flat::tested(interval_bit_set::carry::eq(words, b)))
+    structs::value(flat::tested(interval_bit_set::join::eq(words, b)))
 }
 
 // Makes the store that a written set tells.
@@ -272,7 +272,7 @@ pub extern "C" fn vizturel_build(words: &mut [u64], runs: &[u64]) -> u64
 
 // Sets a window from a map, and tells how many positions changed.
 #[no_mangle]
-pub extern "C" fn vizturel_read_map(words: &mut [u64], base: u64, n: u64, bytes: &[u8]) -> CCount
+pub extern "C" fn vizturel_read_map(words: &mut [u64], base: u64, n: u64, bytes: &[u8]) -> CCounted
     ensures { λ r. ⌜ Returns (now (words .entry)) (Call.readMap base n (now (bytes .entry))) countOf r (now (words .exit)) ⌝ }
 {
     structs::count(flat::counted(interval_bit_set::bytes::read_map(words, base, n, bytes)))
@@ -280,7 +280,7 @@ pub extern "C" fn vizturel_read_map(words: &mut [u64], base: u64, n: u64, bytes:
 
 // Zeroes the spare bits of a window's map, and tells how many were one. It takes no store.
 #[no_mangle]
-pub extern "C" fn vizturel_clear_map(base: u64, n: u64, map: &mut [u8]) -> CNumber
+pub extern "C" fn vizturel_clear_map(base: u64, n: u64, map: &mut [u8]) -> CNumbered
     ensures { λ r. ⌜ Handed (clearMap base n (now (map .entry))) numberOf r (now (map .exit)) ⌝ }
 {
     structs::number(flat::numbered(interval_bit_set::bytes::clear_map(base, n, map)))

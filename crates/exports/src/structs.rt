@@ -14,7 +14,7 @@ pub struct CBound {
 
 // How many positions: carry times 2^64, and low.
 #[repr(C)]
-pub struct CCount {
+pub struct CCounted {
     pub refusal: u64,
     pub carry: u64,
     pub low: u64,
@@ -22,21 +22,21 @@ pub struct CCount {
 
 // A number of runs, of thousandths, or of bits.
 #[repr(C)]
-pub struct CNumber {
+pub struct CNumbered {
     pub refusal: u64,
     pub number: u64,
 }
 
 // A value: 1 for held or equal, 0 for not.
 #[repr(C)]
-pub struct CValue {
+pub struct CTested {
     pub refusal: u64,
     pub value: u64,
 }
 
 // A run.
 #[repr(C)]
-pub struct CRun {
+pub struct CAround {
     pub refusal: u64,
     pub start: u64,
     pub end: u64,
@@ -44,7 +44,7 @@ pub struct CRun {
 
 // A position, where found is 1.
 #[repr(C)]
-pub struct CPosition {
+pub struct CFound {
     pub refusal: u64,
     pub found: u64,
     pub position: u64,
@@ -85,10 +85,10 @@ pub fn bound(b: CBound) -> Bound
 }
 
 // What set, read_map and count return.
-pub fn count(r: Reply) -> CCount
+pub fn count(r: Reply) -> CCounted
     ensures { λ c. ⌜ c ≡ countOf r ⌝ }
 {
-    CCount {
+    CCounted {
         refusal: r.refusal,
         carry: r.found,
         low: r.number,
@@ -96,30 +96,30 @@ pub fn count(r: Reply) -> CCount
 }
 
 // What count_ranges, fill and clear_map return.
-pub fn number(r: Reply) -> CNumber
+pub fn number(r: Reply) -> CNumbered
     ensures { λ c. ⌜ c ≡ numberOf r ⌝ }
 {
-    CNumber {
+    CNumbered {
         refusal: r.refusal,
         number: r.number,
     }
 }
 
 // What get and eq return.
-pub fn value(r: Reply) -> CValue
+pub fn value(r: Reply) -> CTested
     ensures { λ c. ⌜ c ≡ valueOf r ⌝ }
 {
-    CValue {
+    CTested {
         refusal: r.refusal,
         value: r.number,
     }
 }
 
 // What run_at returns.
-pub fn run(r: Reply) -> CRun
+pub fn run(r: Reply) -> CAround
     ensures { λ c. ⌜ c ≡ runOf r ⌝ }
 {
-    CRun {
+    CAround {
         refusal: r.refusal,
         start: r.number,
         end: r.end,
@@ -127,10 +127,10 @@ pub fn run(r: Reply) -> CRun
 }
 
 // What find and select return.
-pub fn position(r: Reply) -> CPosition
+pub fn position(r: Reply) -> CFound
     ensures { λ c. ⌜ c ≡ positionOf r ⌝ }
 {
-    CPosition {
+    CFound {
         refusal: r.refusal,
         found: r.found,
         position: r.number,

@@ -1,16 +1,13 @@
 -- Every answer laid flat, as numbers, and what the numbers mean that come in. Every number means something. Assumes nothing.
 use Prim.Native.Nat.{ℕ, _/_, _%_}
-use mathlib.Core.Path.{_≡_}
 use mathlib.Core.Bool.{Bool, true, false, cond, not}
 use mathlib.Core.Option.{Option, none, some}
-use native.Mathlib.Omega.{arith}
 use lib.Dec.{eqb}
 use Rattle.model.specs.declared.Bound.{Bound}
 use Rattle.model.specs.declared.Listing.{Listing}
 use Rattle.model.specs.declared.Operation.{Operation}
 use Rattle.model.specs.declared.Run.{Run}
-use Rattle.model.specs.declared.Refusal.{Refusal}
-use Rattle.model.specs.Numbers.{size, refusalNumber, refusal-some}
+use Rattle.model.specs.Numbers.{size}
 use Rattle.model.specs.Call.{Result, done, number, value, around, position, listing, drawn, written, Answer, refused, gave}
 use Rattle.flat.specs.declared.Reply.{Reply}
 
@@ -65,7 +62,3 @@ resultReply (written n bs) = numbersOnly 0 0 n 0
 abbrev pub replyOf : Answer → Reply
 replyOf (refused n) = numbersOnly n 0 0 0
 replyOf (gave r) = resultReply r
-
--- a refusal is never flat as 0, so 0 says that a call was not refused
-pub never-zero : (r : Refusal) → (replyOf (refused (refusalNumber r))) .refusal ≡ 0 → ⊥
-never-zero r e = omega (arith, refusal-some r)

@@ -17,13 +17,13 @@ use Rattle.interval_bit_set.specs.Look.{Looked}
 use Rattle.core.specs.Met.{fedOf, Leaves, Readable}
 use Rattle.core.proofs.Refusing.{reads-first}
 use Rattle.frame.specs.Records.{callsOf, recordsOf}
-use Rattle.frame.specs.Frame.{Outcome, settle, frameOf, outcomeOf, Framed}
+use Rattle.frame.specs.Frame.{FrameOutcome, settleFrame, frameOf, frameOutcome, Framed}
 use Rattle.frame.specs.Serving.{Playable, Plays}
-use Rattle.frame.specs.Told.{fed-as, calls-length, answers-length, records-length}
+use Rattle.frame.proofs.FedCalls.{fed-as, calls-length, answers-length, records-length}
 
 module _ (w cs out : List ℕ) where
   -- the contract holds of an outcome whose positions and slice are left
-  framed-by : {w′ out′ : List ℕ} (o : Outcome) → outcomeOf w cs out ≡ o → Leaves w w′ (o .positions) (o .answer) → out′ ≡ o .slice → Framed w cs out (o .answer) w′ out′
+  framed-by : {w′ out′ : List ℕ} (o : FrameOutcome) → frameOutcome w cs out ≡ o → Leaves w w′ (o .positions) (o .answer) → out′ ≡ o .slice → Framed w cs out (o .answer) w′ out′
   framed-by {w′} o e l s = record {
     answered = sym (ap (λ p. p .answer) e);
     left = subst (λ p. Leaves w w′ (p .positions) (o .answer)) (sym e) l;
@@ -36,10 +36,10 @@ module _ (w cs out : List ℕ) where
 
   -- the refusal that is due is given
   refused-due : {n : ℕ} → refusal (reads (fedOf w) ++ outputShort when noRoom out (dueTo (fedOf w)) ∷ []) ≡ some n → Framed w cs out (refused n) w out
-  unfolding outcomeOf frameOf
+  unfolding frameOutcome frameOf
   refused-due e =
       let P = positionsOf (fedOf w) in
-      framed-by _ (ap (λ o. settle o P (after (capacity w) P (callsOf cs)) (dueTo (fedOf w)) out) e) refl refl
+      framed-by _ (ap (λ o. settleFrame o P (after (capacity w) P (callsOf cs)) (dueTo (fedOf w)) out) e) refl refl
 
   -- so what looking refuses is
   pub turned-away : {r : Refusal} (l : Look) → Looked w l → l ≡ Look.Refused r → Framed w cs out (refused (refusalNumber r)) w out

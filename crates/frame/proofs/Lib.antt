@@ -3,3 +3,4 @@ pub mod Replies
 pub mod Arms
 pub mod Playing
 pub mod Framing
+pub mod FedCalls

@@ -10,18 +10,17 @@ use Rattle.model.specs.Call.{Fed, Call, Answer, refused, gave}
 use Rattle.model.specs.Model.{step, answers, after}
 use Rattle.store.specs.Layout.{capacity, heldBy}
 use Rattle.written.specs.Placed.{placed}
-use Rattle.written.specs.Placing.{placed-nil, placed-length, placed-placed, placed-front}
+use Rattle.written.proofs.Placing.{placed-nil, placed-length, placed-placed, placed-front}
 use Rattle.model.specs.Bytes.{intoFront}
-use Rattle.core.specs.Met.{Readable}
-use Rattle.core.specs.Met.{Leaves, Met}
+use Rattle.core.specs.Met.{Readable, Leaves, Met}
 use Rattle.core.proofs.Meeting.{fed-sound}
-use Rattle.lockstep.specs.Follow.{Holds, answer-is, step-holds}
+use Rattle.core.proofs.Simulation.{Holds, answer-is, step-holds}
 use Rattle.frame.specs.declared.entry.Entry.{Entry}
 use Rattle.flat.specs.declared.Reply.{Reply}
 use Rattle.flat.specs.Flat.{replyOf}
 use Rattle.frame.specs.Records.{entryAt, callOf, callsFrom, wordsOf, recordsOf}
 use Rattle.frame.specs.Serving.{Serves, Plays}
-use Rattle.frame.specs.Told.{fed-same, records-length}
+use Rattle.frame.proofs.FedCalls.{fed-same, records-length}
 
 -- after i of n records, the words are v and the slice is o
 pub record Playing (w cs out : List ℕ) (n i : ℕ) (v o : List ℕ) : Type 0 where

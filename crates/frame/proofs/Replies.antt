@@ -7,7 +7,7 @@ use lib.ListN.{length, set}
 use borrow.Author.Tests.{ne-eqb}
 use Rattle.flat.specs.declared.Reply.{Reply}
 use Rattle.written.specs.Placed.{placed}
-use Rattle.written.specs.Placing.{sets-placed}
+use Rattle.written.proofs.Placing.{sets-placed}
 use Rattle.frame.specs.declared.entry.Kind.{Kind}
 use Rattle.frame.specs.Records.{kindOf, wordsOf}
 

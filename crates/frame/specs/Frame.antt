@@ -14,28 +14,28 @@ use Rattle.core.specs.Met.{fedOf, Leaves}
 use Rattle.frame.specs.Records.{callsOf, recordsOf}
 
 -- what a frame answers, the positions after it, and the slice
-pub record Outcome : Type 0 where
+pub record FrameOutcome : Type 0 where
   pub answer : Answer
   pub positions : Positions
   pub slice : List ℕ
 
 -- refused, all stays; else the records are the front of the slice, and the words after them do not change
-abbrev pub settle : Option ℕ → Positions → Positions → List ℕ → List ℕ → Outcome
-settle none P Q due out = record { answer = gave done; positions = Q; slice = intoFront due out }
-settle (some n) P Q due out = record { answer = refused n; positions = P; slice = out }
+abbrev pub settleFrame : Option ℕ → Positions → Positions → List ℕ → List ℕ → FrameOutcome
+settleFrame none P Q due out = record { answer = gave done; positions = Q; slice = intoFront due out }
+settleFrame (some n) P Q due out = record { answer = refused n; positions = P; slice = out }
 
 -- a list of calls on a store of capacity C that is fed as s: 1, 7, and 2 where the slice is shorter than the words due
-unfoldable pub frameOf : ℕ → Fed → List (Call Fed) → List ℕ → Outcome
+unfoldable pub frameOf : ℕ → Fed → List (Call Fed) → List ℕ → FrameOutcome
 frameOf C s cs out =
-    settle (refusal (reads s ++ outputShort when noRoom out (recordsOf (answers C (positionsOf s) cs)) ∷ []))
+    settleFrame (refusal (reads s ++ outputShort when noRoom out (recordsOf (answers C (positionsOf s) cs)) ∷ []))
     (positionsOf s) (after C (positionsOf s) cs) (recordsOf (answers C (positionsOf s) cs)) out
 
 -- what the model says of the list in the words cs
-unfoldable pub outcomeOf : List ℕ → List ℕ → List ℕ → Outcome
-outcomeOf w cs out = frameOf (capacity w) (fedOf w) (callsOf cs) out
+unfoldable pub frameOutcome : List ℕ → List ℕ → List ℕ → FrameOutcome
+frameOutcome w cs out = frameOf (capacity w) (fedOf w) (callsOf cs) out
 
 -- the frame cs on the words w with the slice out answered a and left w′ and out′
 pub record Framed (w cs out : List ℕ) (a : Answer) (w′ out′ : List ℕ) : Type 0 where
-  pub answered : a ≡ (outcomeOf w cs out) .answer
-  pub left : Leaves w w′ ((outcomeOf w cs out) .positions) a
-  pub wrote : out′ ≡ (outcomeOf w cs out) .slice
+  pub answered : a ≡ (frameOutcome w cs out) .answer
+  pub left : Leaves w w′ ((frameOutcome w cs out) .positions) a
+  pub wrote : out′ ≡ (frameOutcome w cs out) .slice

@@ -8,8 +8,7 @@ use Rattle.model.specs.Call.{Answer}
 use Rattle.model.specs.Model.{answers, after}
 use Rattle.store.specs.Layout.{capacity, heldBy}
 use Rattle.store.specs.Settle.{Settled}
-use Rattle.core.specs.Met.{Readable}
-use Rattle.core.specs.Met.{Met}
+use Rattle.core.specs.Met.{Readable, Met}
 use Rattle.frame.specs.declared.entry.Entry.{Entry}
 use Rattle.flat.specs.declared.Reply.{Reply}
 use Rattle.flat.specs.Flat.{replyOf}

@@ -14,9 +14,9 @@ use Rattle.model.specs.declared.Run.{Run}
 use Rattle.model.specs.declared.Completed.{Completed}
 use Rattle.model.specs.Numbers.{size}
 use Rattle.model.specs.Positions.{run, mem, stretches}
-use Rattle.model.specs.Positions.Runs.{stretches-is}
-use Rattle.model.specs.RunList.{Canon}
-use Rattle.model.specs.Codec.{AllWords, ordered-canon}
+use Rattle.model.proofs.Runs.{stretches-is}
+use Rattle.model.specs.RunList.{Canon, AllWords}
+use Rattle.model.proofs.Codec.{ordered-canon}
 use Rattle.model.specs.Refusals.{storeLength, runOrder, _when_, refusal, earnsLength, orderedFrom, disordered, tooMany}
 use Rattle.model.specs.Refusals
 use Rattle.model.specs.Call.{Call}
@@ -30,11 +30,28 @@ use Rattle.store.proofs.Nodes.{node-once}
 use Rattle.written.specs.Listed.{leastAfter}
 use Rattle.core.specs.Met.{fedOf, Met}
 use Rattle.core.specs.Laid.{Begins, Begun, Laying}
-use Rattle.core.proofs.Carrying.{build-says, refused-due, overwritten}
+use Rattle.core.proofs.Overwriting.{build-says, refused-due, overwritten}
 use Rattle.core.proofs.Meeting.{fed-length}
 use Rattle.interval_bit_set.specs.declared.runs.Order.{Order}
 use Rattle.interval_bit_set.specs.declared.runs.Verdict.{Verdict}
-use Rattle.interval_bit_set.specs.RunSlice.{orderStep, InOrder, buildConditions, Rules, Admits, SizedIf, Beginning, freeFrom, BegunFrom, BegunIf, Putting, Put, FinishableIf, Finishing, FinishesIf, Finished}
+use Rattle.interval_bit_set.specs.RunSlice.{
+  orderStep,
+  InOrder,
+  buildConditions,
+  Rules,
+  Admits,
+  SizedIf,
+  Beginning,
+  freeFrom,
+  BegunFrom,
+  BegunIf,
+  Putting,
+  Put,
+  FinishableIf,
+  Finishing,
+  FinishesIf,
+  Finished,
+}
 
 -- ---- the order test
 -- where it starts

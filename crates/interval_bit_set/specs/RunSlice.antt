@@ -9,7 +9,7 @@ use lib.Dec.{leb, ltb, eqb}
 use lib.ListN.{length, take}
 use Rattle.model.specs.declared.Run.{Run}
 use Rattle.model.specs.declared.Completed.{Completed}
-use Rattle.model.specs.Codec.{AllWords}
+use Rattle.model.specs.RunList.{AllWords}
 use Rattle.model.specs.Numbers.{refusalNumber}
 use Rattle.model.specs.Refusals.{storeLength, runOrder, Condition, _when_, refusal, orderedFrom}
 use Rattle.model.specs.Refusals

@@ -13,8 +13,7 @@ use Rattle.model.specs.declared.Refusal.{Refusal}
 use Rattle.model.specs.Numbers.{refusalNumber}
 use Rattle.model.specs.Positions.{Positions, empty, mem, bounded}
 use Rattle.model.specs.Bytes.{decode}
-use Rattle.model.specs.Refusals.{Condition, _when_, refusal, storeLength, setConditions, tooMany}
-use Rattle.model.specs.Refusals.{capacity as tooMuch}
+use Rattle.model.specs.Refusals.{Condition, _when_, refusal, storeLength, setConditions, tooMany, capacity as tooMuch}
 use Rattle.model.specs.Call.{Call, done, refused, gave}
 use Rattle.model.specs.Answers.{completedAnswer}
 use Rattle.model.specs.Model.{Outcome, positionsOf, overwrites, settle, overwrite, serve, step}
@@ -22,7 +21,7 @@ use Rattle.store.specs.Layout.{capacity, allowance, heldBy}
 use Rattle.store.specs.Soundness.{Sound}
 use Rattle.core.specs.Met.{fedOf, outcomeOf, Met}
 use Rattle.core.proofs.Meeting.{refused-not, fed-sized}
-use Rattle.lockstep.specs.Follow.{overwritten}
+use Rattle.core.proofs.Simulation.{overwritten}
 use Rattle.listset.specs.Text.{tooLongLine, refusedLine, setLines, outcomeLines, loaded, printed}
 use Rattle.listset.specs.Put.{Puts}
 

@@ -17,12 +17,14 @@ use Rattle.model.specs.declared.Numbered.{Numbered}
 use Rattle.model.specs.declared.Counted.{Counted}
 use Rattle.model.specs.declared.Listed.{Listed}
 use Rattle.model.specs.declared.Drawn.{Drawn}
-use Rattle.model.specs.Numbers.{size, split, worth}
+use Rattle.model.specs.Numbers.{size, worth}
+use Rattle.model.proofs.Numbers.{split}
 use Rattle.model.specs.Positions.{Positions, runsIn, remaining, pastFirst, ended, count, stretches, heldRuns, mem}
 use Rattle.model.specs.Positions
-use Rattle.model.specs.Positions.Laws.{among-yes}
-use Rattle.model.specs.Positions.Runs.{runsIn-canon, runsIn-mem, runsIn-is, runsIn-none}
-use Rattle.model.specs.RunList.{Canon, canon-weaken, mem-above}
+use Rattle.model.proofs.Counting.{among-yes}
+use Rattle.model.proofs.Runs.{runsIn-canon, runsIn-mem, runsIn-is, runsIn-none}
+use Rattle.model.specs.RunList.{Canon}
+use Rattle.model.proofs.RunList.{canon-weaken, mem-above}
 use Rattle.model.specs.Call.{Call, number, listing, drawn, Answer, gave}
 use Rattle.model.specs.Answers.{numberedAnswer, countedAnswer, listedAnswer, drawnAnswer}
 use Rattle.model.specs.Model.{report, drawnFirst, serve, step}
@@ -30,7 +32,7 @@ use Rattle.store.specs.Layout.{capacity, heldBy}
 use Rattle.store.specs.Soundness.{Sound}
 use Rattle.core.specs.Met.{Met}
 use Rattle.core.proofs.Meeting.{refused-not}
-use Rattle.lockstep.specs.Follow.{Holds, answer-is}
+use Rattle.core.proofs.Simulation.{Holds, answer-is}
 
 -- what follows the first run
 runsIn-rest : (P : Positions) (v : Bool) (a n : ℕ) (r : Run) (rs : List Run) → runsIn P v a n ≡ r ∷ rs

@@ -1,3 +1,10 @@
 -- What the proof of the function uses.
 pub mod Ways
 pub mod Playing
+pub mod Matches
+pub mod Clearing
+pub mod Empty
+pub mod Following
+pub mod Loading
+pub mod Writing
+pub mod Theorems

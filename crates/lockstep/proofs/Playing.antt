@@ -16,8 +16,9 @@ use Rattle.core.specs.Met.{Met}
 use Rattle.core.specs.Out.{WritesOut}
 use Rattle.core.proofs.Meeting.{refused-not}
 use Rattle.lockstep.specs.History.{rest, call, New, Played, WritesSet}
-use Rattle.lockstep.specs.Empty.{fresh}
-use Rattle.lockstep.specs.Theorems.{Wrote, theorem2-bytes, theorem2-room}
+use Rattle.lockstep.proofs.Empty.{fresh}
+use Rattle.lockstep.specs.Theorems.{Wrote}
+use Rattle.lockstep.proofs.Theorems.{theorem2-bytes, theorem2-room}
 use Rattle.lockstep.specs.Meeting.{Lent, SameBytes}
 use Rattle.lockstep.proofs.Ways.{ways-meet}
 
@@ -57,12 +58,12 @@ module _ {a b left right left′ right′ a₁ a₂ b₁ b₂ b₃ : List ℕ} {
       record { first = a₁; new = made (L .sized) refl ma; answers = _; states = _; history = call sa rest; now = refl } in
       let B : Played (capacity a) (Call.set (Included low) (Included high) true ∷ Call.shift distance true ∷ []) b₃ =
       record { first = b₁; new = made (L .sized) (L .alike) mb; answers = _; states = _; history = call sb (call tb rest); now = refl } in
-      let n = told x left′ (theorem2-room A (L .room) (X .met)) in
-      let m = told y right′ (theorem2-room B (L .room₂) (Y .met)) in
+      let n = told x left′ (theorem2-room _ _ _ _ _ _ A (L .room) (X .met)) in
+      let m = told y right′ (theorem2-room _ _ _ _ _ _ B (L .room₂) (Y .met)) in
       record {
         n = n .0;
         m = m .0;
         first-is = n .1;
         second-is = m .1;
-        bytes = (theorem2-bytes A B (writes X (n .1)) (writes Y (m .1))) .0 (ways-meet (capacity a) distance low high (L .sized) h l);
+        bytes = (theorem2-bytes _ _ _ _ _ _ _ A B (writes X (n .1)) (writes Y (m .1))) .0 (ways-meet (capacity a) distance low high (L .sized) h l);
       }

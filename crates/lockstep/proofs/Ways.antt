@@ -10,10 +10,11 @@ use Rattle.model.specs.declared.Bound.the-variants.{Included}
 use Rattle.model.specs.declared.Run.{Run}
 use Rattle.model.specs.Numbers.{size}
 use Rattle.model.specs.Positions.{Positions, run, empty, setRange, shiftBy, mem, bounded}
-use Rattle.model.specs.Positions.Runs.{stretches-is}
-use Rattle.model.specs.Edit.{insert, setTo, onRange, setRuns}
-use Rattle.model.specs.Ops.{shiftLeftRuns, shiftRuns, set-positions, shift-positions, bounded-below}
-use Rattle.model.specs.Calc.{mem-empty}
+use Rattle.model.proofs.Runs.{stretches-is}
+use Rattle.model.specs.RunList.{insert}
+use Rattle.model.proofs.Edit.{setTo, onRange, setRuns}
+use Rattle.model.proofs.Ops.{shiftLeftRuns, shiftRuns, set-positions, shift-positions, bounded-below}
+use Rattle.model.proofs.Calc.{mem-empty}
 use Rattle.model.specs.Call.{Call, Result, holding}
 use Rattle.model.specs.Model.{change, changed, serve, step, after}
 use Rattle.core.proofs.Changing.{fits-few}

@@ -1,55 +1,18 @@
--- Cleared maps, over what the public calls promise (document 02, Ticket 2): reading the cleared map is document 01's reading of the map as it
--- was, and a map that a store wrote stays as it is. Assumes nothing.
+-- Reading and writing maps, as the theorems of cleared maps name them (document 02, Ticket 2). Assumes nothing: these are definitions.
 use Prim.Native.Nat.{ℕ}
-use mathlib.Core.Path.{_≡_, refl, sym, ap, ap₂, _∙_, subst}
-use mathlib.Core.Bool.{Bool, true, false}
-use mathlib.Core.List.{List, [], _∷_, _++_}
-use mathlib.Core.Option.{none}
-use native.Mathlib.Omega.{arith}
-use lib.ListN.{length, take}
-use Rattle.model.specs.Bytes.{mapOf, intoFront}
-use Rattle.model.specs.Refusals.{_when_, window, outputShort, refusal, badWindow, noRoom}
-use Rattle.model.specs.Call.{Fed, wrongLength, unsound, holding, Call, number, written, Answer, gave}
-use Rattle.model.specs.Model.{Outcome, positionsOf, reads, settle, report, write, serve}
-use Rattle.model.specs.Clearing.{clearMap, documentOneReading}
-use Rattle.model.proofs.Clearing.{clears-no-written-map, clears-twice, clears-none-twice, reads-as-document-one}
+use mathlib.Core.Path.{_≡_}
+use mathlib.Core.List.{List}
+use lib.ListN.{take}
+use Rattle.model.specs.Call.{Call, written, gave}
+use Rattle.model.specs.Model.{Outcome}
+use Rattle.model.specs.Clearing.{documentOneReading}
 use Rattle.store.specs.Layout.{allowance}
-use Rattle.core.specs.Met.{fedOf, outcomeOf, Leaves, Met}
-use Rattle.core.specs.Handles.{Handles}
-use Rattle.lockstep.specs.Steps.{unrefused}
-use Rattle.lockstep.specs.Writing.{take-front}
+use Rattle.core.specs.Met.{fedOf, Met}
 
 -- ---- a cleared map
 -- how document 01 read the map bs into the words w
 abbrev pub oldReading : List ℕ → ℕ → ℕ → List ℕ → Outcome
 oldReading w base n bs = documentOneReading (allowance w) (fedOf w) base n bs
-
-module _ (base n : ℕ) (bs : List ℕ) where
-  -- reading the cleared map makes of the words what that made of them
-  cleared-outcome : {bs′ : List ℕ} {c : Answer} (w : List ℕ) → Handles (clearMap base n bs) c bs′ → outcomeOf w (Call.readMap base n bs′) ≡ oldReading w base n bs
-  unfolding outcomeOf
-  cleared-outcome w h =
-      ap (λ (cs : List ℕ). serve (allowance w) (fedOf w) (Call.readMap base n cs)) (h .left) ∙ sym (reads-as-document-one base n bs (allowance w) (fedOf w))
-
-  -- if clear_map was called on bs and left bs′, then what read_map of bs′ answers and leaves is document 01's reading of bs
-  pub theorem-cleared-reads :
-      {bs′ w w′ : List ℕ} {c a : Answer}
-      → Handles (clearMap base n bs) c bs′ → Met w (Call.readMap base n bs′) a w′
-      → (a ≡ (oldReading w base n bs) .answer) × Leaves w w′ ((oldReading w base n bs) .positions) a
-  theorem-cleared-reads {w = w} {w′} {a = a} h m =
-      let e = cleared-outcome w h in
-      (m .answered ∙ ap (λ o. o .answer) e, subst (λ (o : Outcome). Leaves w w′ (o .positions) a) e (m .left))
-
-  -- a second call leaves what the first one left, and answers 0 if the first was not refused
-  pub theorem-cleared-once :
-      {bs′ bs″ : List ℕ} {c d : Answer}
-      → Handles (clearMap base n bs) c bs′ → Handles (clearMap base n bs′) d bs″
-      → (bs″ ≡ bs′) × ((k : ℕ) → c ≡ gave (number k) → d ≡ gave (number 0))
-  theorem-cleared-once h g =
-      let e = ap (clearMap base n) (h .left) in (
-        g .left ∙ ap (λ o. o .slice) e ∙ clears-twice base n bs ∙ sym (h .left),
-        λ k q. g .answered ∙ ap (λ o. o .answer) e ∙ clears-none-twice base n bs (sym (h .answered) ∙ q),
-      )
 
 -- ---- a written map
 -- the words w wrote bs as the map of n positions from base on
@@ -60,44 +23,3 @@ pub record WritesMap (w : List ℕ) (base n : ℕ) (bs : List ℕ) : Type 0 wher
   pub after : List ℕ
   pub met : Met w (Call.writeMap base n out) (gave (written count slice)) after
   pub bytes : bs ≡ take count slice
-
--- no window is written that is none
-window-good : (s : Fed) (t b : Bool) → refusal (reads s ++ outputShort when t ∷ window when b ∷ []) ≡ none → b ≡ false
-window-good s t false e = refl
-window-good wrongLength t true e = let z : _≡_ {A = ℕ} 0 1 = cc in absurd (omega arith)
-window-good unsound t true e = let z : _≡_ {A = ℕ} 0 1 = cc in absurd (omega arith)
-window-good (holding P) t true e = let z : _≡_ {A = ℕ} 0 1 = cc in absurd (omega arith)
-
--- what was written is the map of the positions held, of a window
-pub record Mapped (w : List ℕ) (base n : ℕ) (bs : List ℕ) : Type 0 where
-  pub good : badWindow base n ≡ false
-  pub is : bs ≡ mapOf (positionsOf (fedOf w)) base n
-
-map-by : (w : List ℕ) (base n : ℕ) (out : List ℕ) → let s = fedOf w in let bs = mapOf (positionsOf s) base n in
-    outcomeOf w (Call.writeMap base n out)
-    ≡ settle (refusal (reads s ++ outputShort when noRoom out bs ∷ window when badWindow base n ∷ [])) (positionsOf s) (written (length bs) (intoFront bs out)) (positionsOf s)
-unfolding outcomeOf serve write report
-map-by w base n out = refl
-
-written-map : {w : List ℕ} {base n : ℕ} {bs : List ℕ} → WritesMap w base n bs → Mapped w base n bs
-written-map {w} {base} {n} {bs} W =
-    let s = fedOf w in
-    let P = positionsOf s in
-    let ms = mapOf P base n in
-    let y = refusal (reads s ++ outputShort when noRoom (W .out) ms ∷ window when badWindow base n ∷ []) in
-    let r = written (length ms) (intoFront ms (W .out)) in
-    let e = W .met .answered ∙ ap (λ o. o .answer) (map-by w base n (W .out)) in
-    let u = unrefused y P r (written (W .count) (W .slice)) P e in
-    let f : gave (written (W .count) (W .slice)) ≡ gave r = e ∙ ap (λ z. (settle z P r P) .answer) u in
-    let k : W .count ≡ length ms = cc in
-    let l : W .slice ≡ intoFront ms (W .out) = cc in
-    record { good = window-good s (noRoom (W .out) ms) (badWindow base n) u; is = W .bytes ∙ ap₂ take k l ∙ take-front ms (W .out) }
-
--- clear_map leaves a map that write_map wrote, and answers 0
-pub theorem-written-stays :
-    {w : List ℕ} {base n : ℕ} {bs bs′ : List ℕ} {a : Answer}
-    → WritesMap w base n bs → Handles (clearMap base n bs) a bs′ → (a ≡ gave (number 0)) × (bs′ ≡ bs)
-theorem-written-stays {w} {base} {n} {bs} W h =
-    let M = written-map W in
-    let e = ap (clearMap base n) (M .is) ∙ clears-no-written-map (positionsOf (fedOf w)) base n (M .good) in
-    (h .answered ∙ ap (λ o. o .answer) e, h .left ∙ ap (λ o. o .slice) e ∙ sym (M .is))

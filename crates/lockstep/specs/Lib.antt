@@ -1,9 +1,5 @@
 pub mod History
-pub mod Steps
-pub mod Follow
-pub mod Writing
-pub mod Empty
-pub mod Loading
-pub mod Theorems
 pub mod Clearing
 pub mod Meeting
+pub mod Matches
+pub mod Theorems

@@ -6,11 +6,12 @@ use mathlib.Core.Logic.{_⊎_, inl, inr}
 use mathlib.Core.Bool.{Bool, true, false}
 use mathlib.Core.List.{List}
 use native.Mathlib.Omega.{arith}
-use Rattle.model.specs.Numbers.{size, split}
+use Rattle.model.specs.Numbers.{size}
+use Rattle.model.proofs.Numbers.{split}
 use Rattle.model.specs.Positions.{Positions, stretches, setRange, changes}
-use Rattle.model.specs.Positions.Runs.{stretches-cong}
+use Rattle.model.proofs.Runs.{stretches-cong}
 use Rattle.model.specs.Bytes.{mapBit, mapped}
-use Rattle.model.specs.After.{set-inside, set-below, set-above, set-cong}
+use Rattle.model.proofs.After.{set-inside, set-below, set-above, set-cong}
 use Rattle.store.specs.declared.World.{World}
 use Rattle.store.specs.Layout.{heldIn}
 use Rattle.store.specs.Soundness.{Share, Limited, Editable}

@@ -10,9 +10,9 @@ use native.Mathlib.Omega.{arith}
 use lib.Dec.{eqb}
 use lib.ListN.{getD}
 use borrow.Author.Tests.{eqb-true}
-use Rattle.model.specs.Numbers.{split}
+use Rattle.model.proofs.Numbers.{split}
 use Rattle.model.specs.Bytes.{mapBit}
-use Rattle.model.specs.After.{differing, agreeing}
+use Rattle.model.proofs.After.{differing, agreeing}
 use Rattle.changes.specs.Edits.{StretchEnd}
 use Rattle.maps.specs.Window.{WholeByte}
 

@@ -8,11 +8,12 @@ use native.Mathlib.Omega.{arith}
 use lib.Dec.{leb}
 use Rattle.model.specs.Positions.{Positions, oneIf, countRanges, stretches}
 use Rattle.model.specs.Bytes.{mapBit, mapped}
-use Rattle.model.specs.MapLaws.{mapped-in}
-use Rattle.model.specs.After.{goesOn, runs-replaced}
+use Rattle.model.proofs.Maps.{mapped-in}
+use Rattle.model.specs.Neighbours.{goesOn, heldBelow, heldAbove}
+use Rattle.model.proofs.After.{runs-replaced}
 use Rattle.reports.proofs.Reading.{ranges-most}
-use Rattle.changes.specs.Neighbours.{heldBelow, heldAbove, goesOn-changed-above, goesOn-changed-below}
-use Rattle.changes.proofs.Fitting.{leb-like, one-most, Told, inside-few, told-few}
+use Rattle.changes.proofs.Neighbours.{goesOn-changed-above, goesOn-changed-below}
+use Rattle.changes.proofs.Fitting.{leb-like, one-most, Tallied, inside-few, told-few}
 use Rattle.maps.specs.Window.{Window}
 use Rattle.maps.proofs.Windows.{mapped-below, mapped-above}
 
@@ -55,7 +56,7 @@ module _ (P : Positions) (base n : ℕ) (bs : List ℕ) (win : Window base n bs)
       )
 
 -- ---- whether they fit
-module _ {P : Positions} {base n : ℕ} {bs : List ℕ} {total inside on past runs : ℕ} (win : Window base n bs) (t : Told P base (base + (n - 1)) total inside on past)
+module _ {P : Positions} {base n : ℕ} {bs : List ℕ} {total inside on past runs : ℕ} (win : Window base n bs) (t : Tallied P base (base + (n - 1)) total inside on past)
     (r : runs ≡ countRanges (mapped base n bs P) true base n) where
   -- the map's runs are few, and so are all that are counted
   pub before-few : total + on + past + runs ≤ 400000

@@ -12,7 +12,7 @@ use lib.ListN.{length, getD, set, length-set}
 use Rattle.model.specs.Numbers.{size}
 use Rattle.model.specs.Positions.{Positions, oneIf}
 use Rattle.model.specs.Bytes.{bits, mapLength, mapOf, intoFront}
-use Rattle.model.specs.MapLaws.{bits-bound, bits-cong, mapOf-length, mapOf-at}
+use Rattle.model.proofs.Maps.{bits-bound, bits-cong, mapOf-length, mapOf-at}
 use Rattle.streams.specs.declared.source.View.{View}
 use Rattle.streams.specs.declared.source.Source.{Source}
 use Rattle.streams.specs.Reading.{Rooted, Stands, Reads}

@@ -6,15 +6,17 @@ use mathlib.Core.Logic.{_⊎_, inl, inr}
 use mathlib.Core.Bool.{Bool, true, false, not, _&&_}
 use mathlib.Core.List.{List}
 use native.Mathlib.Omega.{arith}
-use Rattle.model.specs.Numbers.{size, split}
+use Rattle.model.specs.Numbers.{size}
+use Rattle.model.proofs.Numbers.{split}
 use Rattle.model.specs.Positions.{Positions, oneIf, countRanges, stretches, setRange}
-use Rattle.model.specs.Positions.Runs.{stretches-cong}
+use Rattle.model.proofs.Runs.{stretches-cong}
 use Rattle.model.specs.Bytes.{mapBit, mapped}
-use Rattle.model.specs.MapLaws.{mapped-in}
-use Rattle.model.specs.After.{goesOn, runs-cut, set-inside, set-below, set-above}
+use Rattle.model.proofs.Maps.{mapped-in}
+use Rattle.model.specs.Neighbours.{goesOn}
+use Rattle.model.proofs.After.{runs-cut, set-inside, set-below, set-above}
 use Rattle.changes.specs.Edits.{StretchEnd}
-use Rattle.changes.specs.Neighbours.{goesOn-below}
-use Rattle.changes.specs.SetRuns.{set-false-leaves, below-in, above-in}
+use Rattle.changes.proofs.Neighbours.{goesOn-below}
+use Rattle.changes.proofs.SetRuns.{set-false-leaves, below-in, above-in}
 use Rattle.maps.proofs.Windows.{mapped-below, mapped-above, mapped-at}
 use Rattle.maps.proofs.Surveying.{Border}
 

@@ -10,11 +10,11 @@ use native.Mathlib.Omega.{arith}
 use lib.Pow.{pow-pos, shl-exact}
 use lib.ListN.{length, getD, set, length-set}
 use lib.Seq.{getD-set-same, getD-set-other, ext-getD}
-use Rattle.model.specs.Numbers.{split}
+use Rattle.model.proofs.Numbers.{split}
 use Rattle.model.specs.Positions.{Positions, oneIf, count}
-use Rattle.model.specs.Positions.Laws.{one-bound, beq-true, count-first, count-most}
+use Rattle.model.proofs.Counting.{one-bound, beq-true, count-first, count-most}
 use Rattle.model.specs.Bytes.{bits, mapLength, mapOf, mapBit, strayBits, cleared}
-use Rattle.model.specs.MapLaws.{bits-tell, bits-bound, bits-bit, mapOf-length, mapOf-at, byte-bit}
+use Rattle.model.proofs.Maps.{bits-tell, bits-bound, bits-bit, mapOf-length, mapOf-at, byte-bit}
 use Rattle.maps.proofs.Octeting.{bits-above}
 
 -- ---- the ones of a number

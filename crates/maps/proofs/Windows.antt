@@ -9,12 +9,12 @@ use lib.ListN.{length}
 use Rattle.model.specs.declared.Operation.the-variants.{Xor}
 use Rattle.model.specs.Numbers.{size}
 use Rattle.model.specs.Positions.{Positions, oneIf, count, countRanges, combined, changes}
-use Rattle.model.specs.Positions.Laws.{among-below, among-above, count-cut, count-none, count-hits}
-use Rattle.model.specs.Positions.Runs.{runsIn-all, runsIn-none}
+use Rattle.model.proofs.Counting.{among-below, among-above, count-cut, count-none, count-hits}
+use Rattle.model.proofs.Runs.{runsIn-all, runsIn-none}
 use Rattle.model.specs.Bytes.{mapBit, mapped}
-use Rattle.model.specs.MapLaws.{mapped-in}
-use Rattle.model.specs.After.{set-inside, differ-hit, differ-self, agreeing}
-use Rattle.changes.specs.SetRuns.{set-nothing}
+use Rattle.model.proofs.Maps.{mapped-in}
+use Rattle.model.proofs.After.{set-inside, differ-hit, differ-self, agreeing}
+use Rattle.changes.proofs.SetRuns.{set-nothing}
 
 -- ---- the positions
 -- below the window

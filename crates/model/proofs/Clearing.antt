@@ -10,12 +10,12 @@ use native.Mathlib.Nat.{zero-add, zero-div}
 use native.Mathlib.Omega.{arith}
 use lib.ListN.{length, List·getD-eq-default}
 use borrow.Author.Tests.{eq-eqb, le-ltb}
-use Rattle.model.specs.Numbers.{split}
+use Rattle.model.proofs.Numbers.{split}
 use Rattle.model.specs.Positions.{Positions, among, oneIf, count, bounded, changes}
-use Rattle.model.specs.Positions.Laws.{among-below, among-above, count-cut, count-first, count-none}
+use Rattle.model.proofs.Counting.{among-below, among-above, count-cut, count-first, count-none}
 use Rattle.model.specs.Bytes.{mapLength, mapOf, mapBit, strayBits, cleared, mapped}
-use Rattle.model.specs.Codec.{AllBytes}
-use Rattle.model.specs.MapLaws.{mapOf-length, mapOf-bytes, mapOf-cong, mapOf-bit, mapOf-spare, map-tell}
+use Rattle.model.specs.RunList.{AllBytes}
+use Rattle.model.proofs.Maps.{mapOf-length, mapOf-bytes, mapOf-cong, mapOf-bit, mapOf-spare, map-tell}
 use Rattle.model.specs.Refusals.{window, strayBit, capacity, _when_, refusal, badWindow, badMap, stray, tooMany}
 use Rattle.model.specs.Call.{Fed, wrongLength, unsound, holding, Result, number, Answer, refused, gave, readMap}
 use Rattle.model.specs.Model.{positionsOf, reads, settle, change, changed, serve}

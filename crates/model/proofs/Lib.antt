@@ -1,3 +1,20 @@
 -- What the crates above cite of slices, and of maps that were cleared.
 pub mod Slices
 pub mod Clearing
+pub mod After
+pub mod Calc
+pub mod Cases
+pub mod Clip
+pub mod Codec
+pub mod Edit
+pub mod Maps
+pub mod Numbers
+pub mod Ops
+pub mod Finds
+pub mod Counting
+pub mod Runs
+pub mod Range
+pub mod RoundTrips
+pub mod RunList
+pub mod Search
+pub mod Moved

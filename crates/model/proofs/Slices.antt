@@ -5,7 +5,7 @@ use native.Mathlib.Omega.{arith}
 use lib.ListN.{getD}
 use mir.Syntax.{w8}
 use mir.Val.{Fits}
-use Rattle.model.specs.Codec.{AllBytes}
+use Rattle.model.specs.RunList.{AllBytes}
 
 -- what a slice of bytes has are bytes
 pub all-bytes : (bs : List ℕ) → ((i : ℕ) → Fits w8 (getD bs i 0)) → AllBytes bs

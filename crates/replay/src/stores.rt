@@ -7,7 +7,7 @@ use crate::answer;
 use crate::calls;
 use crate::frames;
 use crate::line;
-use interval_bit_set::carry;
+use interval_bit_set::join;
 use model::Completed;
 
 // How many words a store has. That there are never more than its part holds is tested, which spares an invariant of the lengths.
@@ -75,7 +75,7 @@ fn shifted(words: &mut [u64], lengths: &[usize; 4], s: usize, line: &[u8], at: u
     let n = copy(words, lengths, source, &mut a);
     let from = 536 * s;
     let to = from + length_of(lengths, s);
-    answer::completed(carry::shifted(&mut words[from..to], distance.value, left.value, &a[..n]));
+    answer::completed(join::shifted(&mut words[from..to], distance.value, left.value, &a[..n]));
     true
 }
 
@@ -103,7 +103,7 @@ fn combine(words: &mut [u64], lengths: &[usize; 4], s: usize, line: &[u8], at: u
     let from = 536 * s;
     let to = from + length_of(lengths, s);
     let operation = join.operation;
-    answer::completed(carry::combine(&mut words[from..to], operation, &a[..n], &b[..m]));
+    answer::completed(join::combine(&mut words[from..to], operation, &a[..n], &b[..m]));
     true
 }
 
@@ -122,7 +122,7 @@ fn not(words: &mut [u64], lengths: &[usize; 4], s: usize, line: &[u8], at: usize
     let n = copy(words, lengths, source, &mut a);
     let from = 536 * s;
     let to = from + length_of(lengths, s);
-    answer::completed(carry::not(&mut words[from..to], &a[..n]));
+    answer::completed(join::not(&mut words[from..to], &a[..n]));
     true
 }
 
@@ -138,7 +138,7 @@ fn eq(words: &[u64], lengths: &[usize; 4], s: usize, line: &[u8], at: usize) -> 
     let mut b = [0u64; 536];
     let n = copy(words, lengths, s, &mut a);
     let m = copy(words, lengths, other, &mut b);
-    answer::tested(carry::eq(&a[..n], &b[..m]));
+    answer::tested(join::eq(&a[..n], &b[..m]));
     true
 }
 

@@ -11,10 +11,11 @@ use mir.Syntax.{w64}
 use mir.Val.{Fits}
 use Rattle.model.specs.declared.Edge.{Edge}
 use Rattle.model.specs.declared.Edge.the-variants.{At, Nowhere}
-use Rattle.model.specs.Numbers.{size, split}
+use Rattle.model.specs.Numbers.{size}
+use Rattle.model.proofs.Numbers.{split}
 use Rattle.model.specs.Positions.{Positions, run, find, runsIn, firstRun, lastRun, runAt}
-use Rattle.model.specs.Positions.Runs.{runsIn-none, firstRun-is, lastRun-is, runAt-is}
-use Rattle.model.specs.Positions.Finds.{find-is, find-none}
+use Rattle.model.proofs.Runs.{runsIn-none, firstRun-is, lastRun-is, runAt-is}
+use Rattle.model.proofs.Finds.{find-is, find-none}
 use Rattle.reports.specs.Reports.{Next, Previous, LowEnd, HighEnd}
 use Rattle.reports.proofs.Seeking.{Past, Short, none-next, none-previous}
 

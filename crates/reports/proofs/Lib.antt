@@ -2,3 +2,7 @@
 pub mod Reading
 pub mod Bounding
 pub mod Seeking
+pub mod Edges
+pub mod Joins
+pub mod Parted
+pub mod Ranks

@@ -14,9 +14,9 @@ use Rattle.model.specs.declared.Count.{Count}
 use Rattle.model.specs.declared.Run.{Run}
 use Rattle.model.specs.Numbers.{size, worth}
 use Rattle.model.specs.Positions.{Positions, oneIf, count, select, runsIn, countRanges}
-use Rattle.model.specs.Positions.Laws.{count-cut, count-most}
-use Rattle.model.specs.Positions.Runs.{runsIn-canon}
-use Rattle.model.specs.Positions.Finds.{Selected, select-only, select-none}
+use Rattle.model.proofs.Counting.{count-cut, count-most}
+use Rattle.model.proofs.Runs.{runsIn-canon}
+use Rattle.model.proofs.Finds.{Selected, select-only, select-none}
 use Rattle.model.specs.RunList.{Canon}
 use Rattle.store.specs.declared.World.{World}
 use Rattle.store.specs.Places.{physicalOf, logicalOf}
@@ -25,24 +25,11 @@ use Rattle.store.specs.Layout.{heldIn}
 use Rattle.store.specs.Soundness.{Share, Standing}
 use Rattle.store.specs.Bounds.{TellsHeld}
 use Rattle.reports.specs.Reports.{Measured, TellsTally, Choosable, TellsChosen}
-use Rattle.store.specs.Moved.{move}
-use Rattle.store.specs.Turn.{
-  Lies,
-  turned-at,
-  whole-length,
-  whole-fits,
-  whole-move,
-  parted-move-first,
-  parted-move-second,
-  first-below,
-  count-whole,
-  count-parted,
-  countRanges-whole,
-  countRanges-parted,
-  select-whole,
-}
-use Rattle.reports.specs.Joins.{select-first}
-use Rattle.reports.specs.Parted.{select-in-first, select-in-second}
+use Rattle.model.proofs.Moved.{move}
+use Rattle.store.proofs.Turn.{Lies, turned-at, whole-length, whole-fits, whole-move, parted-move-first, parted-move-second, first-below}
+use Rattle.store.proofs.Turn.{count-whole, count-parted, countRanges-whole, countRanges-parted, select-whole}
+use Rattle.reports.proofs.Joins.{select-first}
+use Rattle.reports.proofs.Parted.{select-in-first, select-in-second}
 use Rattle.store.proofs.Opening.{physicalIn, standing-index, standing-held}
 
 -- ---- how much a range has

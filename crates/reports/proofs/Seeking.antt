@@ -8,14 +8,26 @@ use mathlib.Core.List.{List}
 use native.Mathlib.Omega.{arith}
 use Rattle.model.specs.declared.Edge.{Edge}
 use Rattle.model.specs.declared.Edge.the-variants.{At, Nowhere}
-use Rattle.model.specs.Numbers.{size, split}
+use Rattle.model.specs.Numbers.{size}
+use Rattle.model.proofs.Numbers.{split}
 use Rattle.model.specs.Positions.{Positions}
 use Rattle.store.specs.declared.World.{World}
 use Rattle.store.specs.Places.{physicalOf, logicalOf}
 use Rattle.store.specs.Layout.{turned, heldIn}
 use Rattle.store.specs.Soundness.{Share, Standing}
 use Rattle.reports.specs.Reports.{Next, Previous, TellsNext, TellsPrevious}
-use Rattle.store.specs.Turn.{Lies, lies-from-to, turned-at, turned-logical, whole-move, parted-move-first, parted-move-second, parted-middle, parted-length, whole-last}
+use Rattle.store.proofs.Turn.{
+  Lies,
+  lies-from-to,
+  turned-at,
+  turned-logical,
+  whole-move,
+  parted-move-first,
+  parted-move-second,
+  parted-middle,
+  parted-length,
+  whole-last,
+}
 use Rattle.store.proofs.Opening.{physicalIn, standing-index, standing-held}
 
 -- ---- turned positions

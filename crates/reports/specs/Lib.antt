@@ -1,5 +1,1 @@
 pub mod Reports
-pub mod Joins
-pub mod Parted
-pub mod Ranks
-pub mod Edges

@@ -9,7 +9,7 @@ use Rattle.model.specs.declared.Edge.{Edge}
 use Rattle.model.specs.declared.Edge.the-variants.{At, Nowhere}
 use Rattle.model.specs.Numbers.{size, worth}
 use Rattle.model.specs.Positions.{Positions, count, select, countRanges, mem}
-use Rattle.model.specs.Search.{firstFrom}
+use Rattle.model.specs.RunList.{firstFrom}
 use Rattle.model.specs.Answers.{edgePosition}
 use Rattle.run_index.specs.Tree.{Tree, inorder}
 use Rattle.run_index.specs.Search.{Index}

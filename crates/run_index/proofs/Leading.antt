@@ -8,7 +8,7 @@ use native.Mathlib.Omega.{arith}
 use native.Mathlib.Nat.{add-mod-mod, mod-add-mod}
 use borrow.Author.Tests.{lt-ltb, le-ltb}
 use Rattle.model.specs.declared.Run.{Run}
-use Rattle.model.specs.Numbers.{split}
+use Rattle.model.proofs.Numbers.{split}
 use Rattle.run_index.specs.Tree.{Tree, leaf, node, runs, ones, width, inorder}
 use Rattle.run_index.specs.Order.{Rising, Before, Starts, Has}
 use Rattle.run_index.specs.Shape.{resized, Leads, at-root, on-left, on-right}

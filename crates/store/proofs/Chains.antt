@@ -9,7 +9,7 @@ use native.Mathlib.Decide.{ℕ-discrete}
 use borrow.Author.Tests.{eqb-true, eq-eqb, leb-true, le-leb}
 use lib.Dec.{leb}
 use lib.ListN.{length}
-use Rattle.model.specs.Edit.{and-holds}
+use Rattle.model.proofs.Edit.{and-holds}
 use Rattle.run_index.specs.declared.Node.{Node}
 use Rattle.run_index.specs.Cells.{cellAt}
 use Rattle.run_index.specs.Tree.{δ}
@@ -70,20 +70,20 @@ one-length w k j (x ∷ xs) (y ∷ ys) e p q =
     (ap (λ (n : ℕ). (cellAt w n) .left) (sym (p .0) ∙ e ∙ q .0)) (p .4) (q .4))
 
 -- a node of a chain: it is free, and a chain no longer than the whole starts there
-pub record Met (w : List ℕ) (m c : ℕ) : Type 0 where
+pub record InChain (w : List ℕ) (m c : ℕ) : Type 0 where
   pub free : FreeAt w m
   pub rest : List ℕ
   pub chain : Chain w m rest
   pub short : length rest ≤ c
 
--- each node of a chain is met so
-pub met : (w : List ℕ) (k : ℕ) (ns : List ℕ) → Chain w k ns → (m : ℕ) → 1 ≤ times m ns → Met w m (length ns)
-met w k [] c m i = absurd (omega arith)
-met w k (n ∷ ns) c m i = go (ℕ-discrete m n) (met w ((cellAt w n) .left) ns (c .4) m)
+-- each node of a chain is in-chain so
+pub in-chain : (w : List ℕ) (k : ℕ) (ns : List ℕ) → Chain w k ns → (m : ℕ) → 1 ≤ times m ns → InChain w m (length ns)
+in-chain w k [] c m i = absurd (omega arith)
+in-chain w k (n ∷ ns) c m i = go (ℕ-discrete m n) (in-chain w ((cellAt w n) .left) ns (c .4) m)
   where
-    go : Dec (m ≡ n) → (1 ≤ times m ns → Met w m (length ns)) → Met w m (length (n ∷ ns))
+    go : Dec (m ≡ n) → (1 ≤ times m ns → InChain w m (length ns)) → InChain w m (length (n ∷ ns))
     go (yes e) ih =
-        subst (λ (j : ℕ). Met w j (length (n ∷ ns))) (sym e) (record {
+        subst (λ (j : ℕ). InChain w j (length (n ∷ ns))) (sym e) (record {
           free = record { some = c .1; room = c .2; zeros = c .3 };
           rest = n ∷ ns;
           chain = (refl, c .1, c .2, c .3, c .4);
@@ -93,13 +93,13 @@ met w k (n ∷ ns) c m i = go (ℕ-discrete m n) (met w ((cellAt w n) .left) ns 
         let h = ih (omega (arith, δ-other m n ne)) in
         record { free = h .free; rest = h .rest; chain = h .chain; short = omega (arith, h .short) }
 
--- no node is met twice
+-- no node is in-chain twice
 pub chain-once : (w : List ℕ) (k : ℕ) (ns : List ℕ) → Chain w k ns → (m : ℕ) → times m ns ≤ 1
 chain-once w k [] c m = omega arith
 chain-once w k (n ∷ ns) c m =
-    go (ℕ-discrete m n) (ℕ-discrete (times m ns) 0) (chain-once w ((cellAt w n) .left) ns (c .4) m) (met w ((cellAt w n) .left) ns (c .4) m)
+    go (ℕ-discrete m n) (ℕ-discrete (times m ns) 0) (chain-once w ((cellAt w n) .left) ns (c .4) m) (in-chain w ((cellAt w n) .left) ns (c .4) m)
   where
-    go : Dec (m ≡ n) → Dec (times m ns ≡ 0) → times m ns ≤ 1 → (1 ≤ times m ns → Met w m (length ns)) → δ m n + times m ns ≤ 1
+    go : Dec (m ≡ n) → Dec (times m ns ≡ 0) → times m ns ≤ 1 → (1 ≤ times m ns → InChain w m (length ns)) → δ m n + times m ns ≤ 1
     go (no ne) d ih h = omega (arith, δ-other m n ne)
     go (yes e) (yes z) ih h = omega (arith, δ≤1 m n)
     go (yes e) (no some) ih h =
@@ -109,7 +109,7 @@ chain-once w k (n ∷ ns) c m =
 
 -- a node of a chain is free
 pub chain-free : (w : List ℕ) (k : ℕ) (ns : List ℕ) → Chain w k ns → (m : ℕ) → 1 ≤ times m ns → FreeAt w m
-chain-free w k ns c m i = met w k ns c m i .free
+chain-free w k ns c m i = in-chain w k ns c m i .free
 
 -- its height word is 0
 pub free-low : {w : List ℕ} {m : ℕ} → FreeAt w m → (cellAt w m) .height ≡ 0

@@ -14,7 +14,7 @@ use lib.ListN.{length}
 use Rattle.model.specs.Numbers.{size}
 use Rattle.model.specs.RunList.{Canon}
 use Rattle.model.specs.Positions.{heldRuns, stretches}
-use Rattle.model.specs.Edit.{and-holds}
+use Rattle.model.proofs.Edit.{and-holds}
 use Rattle.run_index.specs.declared.Node.{Node}
 use Rattle.run_index.specs.Cells.{cellAt}
 use Rattle.run_index.specs.Tree.{Tree, leaf, node, link, height, runs, ones, count, inorder, cell, Rep, rep-leaf, rep-node, At, Sums, Balanced}
@@ -26,7 +26,21 @@ use Rattle.store.specs.declared.World.{World}
 use Rattle.store.specs.Layout.{worldAt, spareAt, capacity, allowance, heldIn, heldBy}
 use Rattle.store.specs.Soundness.{Chain, firstOf, lastOf, Share, Standing, shareOf, Sound}
 use Rattle.store.specs.Decision.{insideB, belowOf, agreesB, cellB, treeB, restB, worldB, soundB}
-use Rattle.store.proofs.Tests.{never, both-in, inside-out, inside-in, below-none, below-some, Within, run-out, run-in, heights-out, heights-in, sums-out, sums-in}
+use Rattle.store.proofs.Tests.{
+  never,
+  both-in,
+  inside-out,
+  inside-in,
+  below-none,
+  below-some,
+  Within,
+  run-out,
+  run-in,
+  heights-out,
+  heights-in,
+  sums-out,
+  sums-in,
+}
 use Rattle.store.proofs.Steps.{cell-out, tree-none, tree-node}
 use Rattle.store.proofs.Counting.{Among, each-once}
 use Rattle.store.proofs.Nodes.{sized-length}

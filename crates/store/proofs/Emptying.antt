@@ -12,7 +12,7 @@ use Rattle.model.specs.declared.Run.{Run}
 use Rattle.model.specs.Numbers.{size}
 use Rattle.store.specs.Places.{physicalOf}
 use Rattle.model.specs.Positions.{mem, empty, heldRuns, stretches}
-use Rattle.model.specs.Positions.Runs.{heldRuns-is, stretches-is}
+use Rattle.model.proofs.Runs.{heldRuns-is, stretches-is}
 use Rattle.run_index.specs.declared.Node.{Node}
 use Rattle.run_index.specs.Cells.{cellAt, Room, Wrote}
 use Rattle.run_index.specs.Tree.{leaf, δ}

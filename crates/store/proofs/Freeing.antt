@@ -10,7 +10,8 @@ use lib.Dec.{eqb}
 use lib.ListN.{length}
 use Rattle.model.specs.declared.Run.{Run}
 use Rattle.model.specs.Numbers.{size}
-use Rattle.model.specs.RunList.{Canon, canon-weaken}
+use Rattle.model.specs.RunList.{Canon}
+use Rattle.model.proofs.RunList.{canon-weaken}
 use Rattle.run_index.specs.declared.Node.{Node}
 use Rattle.run_index.specs.declared.Removed.{Removed}
 use Rattle.run_index.specs.Cells.{cellAt, Room, Wrote}

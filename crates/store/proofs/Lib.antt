@@ -19,3 +19,8 @@ pub mod Chains
 pub mod Decided
 pub mod Whole
 pub mod Bounded
+pub mod LogicalRuns
+pub mod Ends
+pub mod Nearby
+pub mod Conversions
+pub mod Turn

@@ -10,7 +10,8 @@ use Rattle.model.specs.declared.Run.{Run}
 use Rattle.model.specs.Numbers.{size}
 use Rattle.store.specs.Places.{physicalOf, logicalOf}
 use Rattle.model.specs.Positions.{Positions, stretches, mem}
-use Rattle.model.specs.RunList.{Canon, mem-in}
+use Rattle.model.specs.RunList.{Canon}
+use Rattle.model.proofs.RunList.{mem-in}
 use Rattle.model.specs.Model
 use Rattle.run_index.specs.Cells.{Room}
 use Rattle.run_index.specs.Tree.{runs, inorder}
@@ -19,9 +20,9 @@ use Rattle.run_index.proofs.Totals.{runs-length}
 use Rattle.store.specs.declared.World.{World}
 use Rattle.store.specs.Layout.{capacityOf, worldAt, allowance, turned, heldIn, heldBy}
 use Rattle.store.specs.Soundness.{Share, Standing, Sound}
-use Rattle.store.specs.Bounds.{Counted, TellsRuns}
-use Rattle.store.specs.Turn.{turned-at, turned-logical}
-use Rattle.store.specs.Ends.{empty-mem}
+use Rattle.store.specs.Bounds.{RunsCounted, TellsRuns}
+use Rattle.store.proofs.Turn.{turned-at, turned-logical}
+use Rattle.store.proofs.Ends.{empty-mem}
 use Rattle.store.specs.Settle.{Opened}
 use Rattle.store.proofs.Nodes.{kept-index, header-room}
 use Rattle.store.proofs.Reached.{kept-held}
@@ -54,7 +55,7 @@ module _ {w : List ℕ} {s : Share} {h : World} (st : Standing w s h) where
   standing-held = kept-held (st .kept) (h .offset)
 
   -- as the count of logical runs asks it
-  pub standing-counted : Counted w (h .root) (h .runs)
+  pub standing-counted : RunsCounted w (h .root) (h .runs)
   standing-counted = (s .tag, st .tree, standing-index, st .runs-are)
 
   -- and what that count tells

@@ -6,14 +6,15 @@ use mathlib.Core.Logic.{_⊎_, inl, inr}
 use mathlib.Core.Bool.{Bool, true, false}
 use mathlib.Core.List.{List}
 use native.Mathlib.Omega.{arith}
-use Rattle.model.specs.Numbers.{size, split}
+use Rattle.model.specs.Numbers.{size}
+use Rattle.model.proofs.Numbers.{split}
 use Rattle.model.specs.Positions.{Positions, setRange, heldRuns}
-use Rattle.model.specs.After.{set-inside, set-below, set-above}
+use Rattle.model.proofs.After.{set-inside, set-below, set-above}
 use Rattle.store.specs.declared.World.{World}
 use Rattle.store.specs.declared.Links.{Links}
 use Rattle.store.specs.Layout.{heldFrom}
 use Rattle.store.specs.Soundness.{firstOf, lastOf}
-use Rattle.store.specs.Ends.{Ends, held-first, held-last, held-none, held-ends}
+use Rattle.store.proofs.Ends.{Ends, held-first, held-last, held-none, held-ends}
 use Rattle.store.specs.Settle.{Altered, Resettable}
 use Rattle.store.proofs.Reached.{kept-held}
 

@@ -8,7 +8,7 @@ use lib.ListN.{length}
 use Rattle.model.specs.declared.Run.{Run}
 use Rattle.model.specs.Numbers.{size}
 use Rattle.model.specs.Positions.{Positions, mem, heldRuns, stretches}
-use Rattle.model.specs.Positions.Runs.{stretches-cong}
+use Rattle.model.proofs.Runs.{stretches-cong}
 use Rattle.model.specs.RunList.{Canon}
 use Rattle.run_index.specs.declared.Node.{Node}
 use Rattle.run_index.specs.declared.chains.Grown.{Grown}
@@ -26,7 +26,7 @@ use Rattle.store.specs.declared.Links.{Links}
 use Rattle.store.specs.Layout.{capacityOf, Headed, linksOf, capacity, allowance, turned, heldFrom, heldIn, heldBy}
 use Rattle.store.specs.Soundness.{Chain, firstOf, lastOf, Share, Still, Kept, Standing, Limited, shareOf}
 use Rattle.store.specs.Bounds.{TellsFirst, TellsLast}
-use Rattle.store.specs.Turn.{turned-zero}
+use Rattle.store.proofs.Turn.{turned-zero}
 use Rattle.store.specs.Settle.{Settled, Shows, Became, Refreshes, Strewn, LinksUp, Closing, Closes}
 use Rattle.store.proofs.Nodes.{node-once, no-zero, chain-no-zero, kept-index, kept-still, header-room}
 use Rattle.store.proofs.Reached.{kept-held}

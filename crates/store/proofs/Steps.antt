@@ -8,13 +8,30 @@ use native.Mathlib.Decide.{ℕ-discrete}
 use lib.Dec.{leb, eqb}
 use lib.Bits.{bitOr, bitXor, xor-self}
 use borrow.Author.Tests.{eq-eqb, ne-eqb, eqb-true, leb-true, le-leb, not-true, not-false}
-use Rattle.model.specs.Edit.{and-holds}
+use Rattle.model.proofs.Edit.{and-holds}
 use Rattle.run_index.specs.declared.Node.{Node}
 use Rattle.run_index.specs.Cells.{cellAt, Room}
 use Rattle.run_index.specs.Tree.{width}
 use Rattle.run_index.specs.Strung.{freeCell}
 use Rattle.store.specs.Decision.{insideB, belowOf, runB, heightsB, sumsB, agreesB, cellB, leafB, treeB, freeB, chainB, restB, Tells}
-use Rattle.store.proofs.Tests.{never, is-false, same, both-in, inside-in, below-none, below-some, heights-out, heights-in, sums-out, sums-in, run-out, run-in, ors-none, none-ors, xor-none}
+use Rattle.store.proofs.Tests.{
+  never,
+  is-false,
+  same,
+  both-in,
+  inside-in,
+  below-none,
+  below-some,
+  heights-out,
+  heights-in,
+  sums-out,
+  sums-in,
+  run-out,
+  run-in,
+  ors-none,
+  none-ors,
+  xor-none,
+}
 
 -- a node by itself: its run, then its height, then its sums
 module _ (v x y : Node) (g lo total : ℕ) (b : Bool) (eb : b ≡ runB (v .start) (v .«end») (v .tag) g lo total) where

@@ -10,7 +10,7 @@ use lib.Dec.{leb, ltb, eqb}
 use lib.Bits.{bitOr, bitXor, or-add-and, xor-add-and, and-le-l, and-le-r, or-lt}
 use lib.ListN.{length}
 use borrow.Author.Tests.{ltb-true, leb-true, eqb-true, lt-ltb, le-leb, eq-eqb}
-use Rattle.model.specs.Edit.{and-holds}
+use Rattle.model.proofs.Edit.{and-holds}
 use Rattle.run_index.specs.declared.Node.{Node}
 use Rattle.run_index.specs.Cells.{cellAt, Room}
 use Rattle.run_index.specs.Tree.{width}

@@ -12,7 +12,7 @@ use Rattle.run_index.specs.Cells.{Room}
 use Rattle.store.specs.declared.World.{World}
 use Rattle.store.specs.Layout.{worldAt, spareAt, capacity, allowance, heldIn, heldBy}
 use Rattle.store.specs.Decision.{restB, worldB, soundB}
-use Rattle.store.specs.Bounds.{Counted, TellsRuns}
+use Rattle.store.specs.Bounds.{RunsCounted, TellsRuns}
 use Rattle.store.proofs.Tests.{never, is-false, same}
 use Rattle.store.proofs.Nodes.{sized-length}
 use Rattle.store.proofs.Reached.{tree-held}
@@ -50,7 +50,7 @@ module _ (w : List ℕ) (h : World) (eh : h ≡ worldAt w) (b : Bool) (eb : b �
     fitting = worldB-yes w h (sym eb ∙ not-false b tb)
 
     -- so it counts the runs of its tree
-    pub counted : Counted w (h .root) (h .runs)
+    pub counted : RunsCounted w (h .root) (h .runs)
     counted = let F = fitting in (h .tag, F .tree .t, hangs-index (F .tree), F .runs-are)
 
     -- what `bounds` tells of the logical runs

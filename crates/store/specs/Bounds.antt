@@ -22,8 +22,8 @@ abbrev pub TellsBoth : List ℕ → ℕ → ℕ → ℕ → Bool → Type 0
 TellsBoth w p x y r = (g : ℕ) (t : Tree) → Index w p g t → r ≡ (mem (inorder t) x && mem (inorder t) y)
 
 -- the tree at the root has n runs
-abbrev pub Counted : List ℕ → ℕ → ℕ → Type 0
-Counted w p n = (g : ℕ) × (t : Tree) × Index w p g t × (n ≡ runs t)
+abbrev pub RunsCounted : List ℕ → ℕ → ℕ → Type 0
+RunsCounted w p n = (g : ℕ) × (t : Tree) × Index w p g t × (n ≡ runs t)
 
 abbrev pub TellsRuns : List ℕ → ℕ → ℕ → ℕ → Type 0
 TellsRuns w p o r = (g : ℕ) (t : Tree) → Index w p g t → r ≡ stretches (turned o (mem (inorder t)))

@@ -4,9 +4,4 @@ pub mod Soundness
 pub mod Decision
 pub mod Bounds
 pub mod Free
-pub mod Moved
-pub mod Turn
-pub mod Ends
-pub mod Nearby
-pub mod Counting
 pub mod Settle

@@ -1,7 +1,7 @@
 // What the tree says of logical positions: the first and the last one held, and how many logical runs there are.
 // Logical positions are physical ones turned by the offset: logical 0 is kept at -offset, and its neighbour below is logical M.
 ghost use Rattle.run_index.specs.Search.{Indexed};
-ghost use Rattle.store.specs.Bounds.{TellsHeld, TellsFirst, TellsLast, TellsBoth, Counted, TellsRuns};
+ghost use Rattle.store.specs.Bounds.{TellsHeld, TellsFirst, TellsLast, TellsBoth, RunsCounted, TellsRuns};
 use crate::places::Physical;
 use model::Logical;
 use run_index::search::Near;
@@ -78,7 +78,7 @@ fn both_held(words: &[u64], root: u64, x: Physical, y: Physical) -> bool
 // How many logical runs the tree's physical ones are. The physical run across the place of logical 0 is two logical ones,
 // and the physical runs at 0 and at M are one logical run where both are there.
 pub fn logical_runs(words: &[u64], root: u64, offset: u64, runs: u64) -> u64
-    requires { ⌜ Counted (now words) root runs ⌝ }
+    requires { ⌜ RunsCounted (now words) root runs ⌝ }
     ensures { λ r. ⌜ TellsRuns (now (words .entry)) root offset r ⌝ }
 {
     if offset == 0 {

@@ -11,7 +11,7 @@ use run_index::Node;
 pub mod bounds;
 pub mod free;
 pub mod places;
-pub mod settle;
+pub mod refresh;
 pub mod soundness;
 
 // A store, as its length tells of it: the most logical runs that it may hold.

@@ -7,10 +7,11 @@ use mathlib.Core.List.{List, [], _∷_, _++_}
 use native.Mathlib.Omega.{arith}
 use borrow.Author.Tests.{lt-ltb, le-ltb}
 use Rattle.model.specs.declared.Run.{Run}
-use Rattle.model.specs.Numbers.{split}
+use Rattle.model.proofs.Numbers.{split}
 use Rattle.model.specs.Positions.{mem}
-use Rattle.model.specs.RunList.{Canon, canon-weaken, mem-above}
-use Rattle.model.specs.Search.{EndBelow, canon-ends}
+use Rattle.model.specs.RunList.{Canon, EndBelow}
+use Rattle.model.proofs.RunList.{canon-weaken, mem-above}
+use Rattle.model.proofs.Search.{canon-ends}
 use Rattle.streams.specs.Reading.{EndsFrom, from}
 
 -- the first run is dropped, or the list stays

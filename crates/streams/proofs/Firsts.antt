@@ -9,17 +9,37 @@ use native.Mathlib.Omega.{arith}
 use borrow.Author.Tests.{eqb-true, eqb-false}
 use lib.ListN.{length}
 use Rattle.model.specs.declared.Run.{Run}
-use Rattle.model.specs.Numbers.{size, split}
+use Rattle.model.specs.Numbers.{size}
+use Rattle.model.proofs.Numbers.{split}
 use Rattle.model.specs.Positions.{Positions, mem}
-use Rattle.model.specs.RunList.{Canon, mem-in, mem-before}
+use Rattle.model.specs.RunList.{Canon}
+use Rattle.model.proofs.RunList.{mem-in, mem-before}
 use Rattle.store.specs.Places.{logicalOf}
 use Rattle.store.specs.Layout.{physicalRuns}
-use Rattle.store.specs.Ends.{empty-mem}
+use Rattle.store.proofs.Ends.{empty-mem}
 use Rattle.streams.specs.declared.source.View.{View}
 use Rattle.streams.specs.declared.source.Source.{Source}
 use Rattle.streams.specs.declared.source.Popped.{Popped}
-use Rattle.streams.specs.Reading.{EndsFrom, Coming, InLast, InFirst, Ahead, spent, lastly, firstly, Stands, Reads, startsAtZero, ReadyLast, ReadyFirst, Told, Descends, Poppable, Pops}
-use Rattle.streams.proofs.Parts.{Found, found-current, part-none, part-head, pop-reach, pop-ordered, pop-found, pop-then}
+use Rattle.streams.specs.Reading.{
+  EndsFrom,
+  Coming,
+  InLast,
+  InFirst,
+  Ahead,
+  spent,
+  lastly,
+  firstly,
+  Stands,
+  Reads,
+  startsAtZero,
+  ReadyLast,
+  ReadyFirst,
+  ReadsFrom,
+  Descends,
+  Poppable,
+  Pops,
+}
+use Rattle.streams.proofs.Parts.{FoundNext, found-current, part-none, part-head, pop-reach, pop-ordered, pop-found, pop-then}
 use Rattle.streams.proofs.Lasts.{wrapped}
 use Rattle.streams.proofs.Starts.{whole-coming}
 
@@ -44,7 +64,7 @@ ahead-as {w} {path} {v} {y} {Q} d l (lastly f i) = lastly (sym l ∙ f) (subst (
 ahead-as {w} {path} {v} {y} {Q} d l (firstly f i) = firstly (sym l ∙ f) (subst (λ n. InFirst w path v n y Q) d i)
 
 -- a reading at o is one at y where nothing is held in between
-earlier : {w path : List ℕ} {v : View} {y n : ℕ} {Q : Positions} {r : Source} → y ≤ n → ((z : ℕ) → y ≤ z → z < n → Q z ≡ false) → Told w path v r n Q → Reads w path v r y Q
+earlier : {w path : List ℕ} {v : View} {y n : ℕ} {Q : Positions} {r : Source} → y ≤ n → ((z : ℕ) → y ≤ z → z < n → Q z ≡ false) → ReadsFrom w path v r n Q → Reads w path v r y Q
 earlier {w} {path} {v} {y} {n} {Q} {r} le free t = go (r .live) (t .late) (t .reads)
   where
     free-to : (m : ℕ) → ((z : ℕ) → n ≤ z → z < m → Q z ≡ false) → (z : ℕ) → y ≤ z → z < m → (z < n) ⊎ (n ≤ z) → Q z ≡ false
@@ -99,7 +119,7 @@ module _ {w path : List ℕ} {v : View} {depth p y : ℕ} {Q : Positions} (h : R
   }
 
   -- the first part is over
-  pub first-none : {path′ : List ℕ} {r : Source} → depth ≡ 0 → Told w path′ v r (v .offset) Q → Reads w path′ v r y Q
+  pub first-none : {path′ : List ℕ} {r : Source} → depth ≡ 0 → ReadsFrom w path′ v r (v .offset) Q → Reads w path′ v r y Q
   first-none e t = let b = h .ready .before in earlier (omega arith) (part-none (h .ready .part) e) t
 
   -- whether o is held
@@ -144,14 +164,14 @@ module _ {w path : List ℕ} {v : View} {depth p y : ℕ} {Q : Positions} (h : R
 
     -- it reaches physical M, and so o
     module _ (l : size - 1 ≤ x .«end») where
-      to-seam : Found a (v .offset - 1) y (v .offset) Q
+      to-seam : FoundNext a (v .offset - 1) y (v .offset) Q
       to-seam =
           let lo = h .ready .before in
           let q = pop-ordered (h .ready .part) ne ps .1 in
           pop-found (h .ready .part) ne ps lo a (v .offset - 1) start-is start-in (omega arith) (omega arith) (λ k. absurd (omega arith))
 
       -- it goes on at o
-      pub first-join : {path″ : List ℕ} {s : Source} → Told w path″ v s (v .offset) Q → startsAtZero (physicalRuns w (v .root)) ≡ true
+      pub first-join : {path″ : List ℕ} {s : Source} → ReadsFrom w path″ v s (v .offset) Q → startsAtZero (physicalRuns w (v .root)) ≡ true
           → Reads w path″ v (record { live = true; start = a; «end» = s .«end»; depth = s .depth; last = s .last }) y Q
       first-join {path″} {s} t z = go (s .live) (t .reads)
         where

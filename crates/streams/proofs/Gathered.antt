@@ -12,7 +12,7 @@ use Rattle.model.specs.declared.Run.{Run}
 use Rattle.model.specs.declared.Operation.{Operation}
 use Rattle.model.specs.Numbers.{size}
 use Rattle.model.specs.Positions.{Positions, run, heldRuns, stretches, combined}
-use Rattle.model.specs.Positions.Runs.{heldRuns-canon, mem-heldRuns}
+use Rattle.model.proofs.Runs.{heldRuns-canon, mem-heldRuns}
 use Rattle.model.specs.RunList.{Canon}
 use Rattle.run_index.specs.Cells.{Room}
 use Rattle.run_index.specs.Tree.{Tree, leaf, node, inorder}
@@ -32,7 +32,8 @@ use Rattle.streams.specs.declared.gather.Feed.{Feed}
 use Rattle.streams.specs.Reading.{Rooted, Reads}
 use Rattle.streams.specs.Sweeping.{Both, Jointly, NextJoint}
 use Rattle.streams.specs.Gathering.{viewOf, fedBy, Fed, Sources, Ample, FilledWith, Fills, Roomy}
-use Rattle.streams.specs.Streamed.{Streaming, stream-none, stream-all, stream-some, stream-last, stream-more}
+use Rattle.streams.proofs.Streamed.{Streaming, stream-none}
+use Rattle.streams.proofs.Streamed.{stream-all, stream-some, stream-last, stream-more}
 use Rattle.streams.proofs.Starts.{rooted-none}
 
 -- ---- the two feeds
@@ -57,16 +58,16 @@ length-more : (rs : List Run) (r : Run) → length (rs ++ (r ∷ [])) ≡ suc (l
 length-more rs r = length-append rs (r ∷ []) ∙ omega arith
 
 -- ---- counting: so many of the limit are left after the runs so far
-pub record Counted (w p : List ℕ) (u : View) (w₂ p₂ : List ℕ) (u₂ : View) (j : Joint) (op : Operation) (Q R : Positions) (limit left : ℕ) : Type 0 where
+pub record JoinedSoFar (w p : List ℕ) (u : View) (w₂ p₂ : List ℕ) (u₂ : View) (j : Joint) (op : Operation) (Q R : Positions) (limit left : ℕ) : Type 0 where
   pub seen : List Run
   pub stream : Streaming w p u w₂ p₂ u₂ j op Q R seen
   pub told : length seen + left ≡ limit
 
 module _ {w p : List ℕ} {u : View} {w₂ p₂ : List ℕ} {u₂ : View} {j : Joint} {op : Operation} {Q R : Positions} {limit : ℕ} where
-  pub count-none : Jointly w p u w₂ p₂ u₂ 0 j op Q R (j .found) → Counted w p u w₂ p₂ u₂ j op Q R limit limit
+  pub count-none : Jointly w p u w₂ p₂ u₂ 0 j op Q R (j .found) → JoinedSoFar w p u w₂ p₂ u₂ j op Q R limit limit
   count-none h = record { seen = []; stream = stream-none h; told = omega arith }
 
-  module _ {left : ℕ} (c : Counted w p u w₂ p₂ u₂ j op Q R limit left) where
+  module _ {left : ℕ} (c : JoinedSoFar w p u w₂ p₂ u₂ j op Q R limit left) where
     pub count-all : j .found ≡ false → true ≡ leb (stretches (combined op Q R)) limit
     unfolding stretches
     count-all e = sym (le-leb (stretches (combined op Q R)) limit (omega (arith, ap length (stream-all (c .stream) e), c .told)))
@@ -88,7 +89,7 @@ module _ {w p : List ℕ} {u : View} {w₂ p₂ : List ℕ} {u₂ : View} {j : J
         count-last h = sym (le-leb (stretches (combined op Q R)) limit (omega (arith, ap length (stream-last (c .stream) e h), length-more (c .seen) (run (j .start) (j .«end»)), less)))
 
         pub count-more : (j .«end» ≡ size - 1 → ⊥) → {p′ p₂′ : List ℕ} {j′ : Joint}
-            → NextJoint op w p p′ u (j .left) w₂ p₂ p₂′ u₂ (j .right) (j .«end» + 1) j′ → Counted w p′ u w₂ p₂′ u₂ j′ op Q R limit (left - 1)
+            → NextJoint op w p p′ u (j .left) w₂ p₂ p₂′ u₂ (j .right) (j .«end» + 1) j′ → JoinedSoFar w p′ u w₂ p₂′ u₂ j′ op Q R limit (left - 1)
         count-more h nj = record {
           seen = c .seen ++ (run (j .start) (j .«end») ∷ []);
           stream = stream-more (c .stream) e h nj;

@@ -9,3 +9,4 @@ pub mod Starts
 pub mod Gathered
 pub mod Sweeps
 pub mod Gapped
+pub mod Streamed

@@ -8,16 +8,18 @@ use mathlib.Core.List.{List, [], _∷_}
 use native.Mathlib.Omega.{arith}
 use lib.ListN.{length}
 use Rattle.model.specs.declared.Run.{Run}
-use Rattle.model.specs.Numbers.{size, split}
+use Rattle.model.specs.Numbers.{size}
+use Rattle.model.proofs.Numbers.{split}
 use Rattle.model.specs.Positions.{Positions, mem}
-use Rattle.model.specs.RunList.{Canon, canon-weaken, mem-in, mem-above, mem-below, mem-before}
-use Rattle.store.specs.Ends.{empty-mem}
+use Rattle.model.specs.RunList.{Canon}
+use Rattle.model.proofs.RunList.{canon-weaken, mem-in, mem-above, mem-below, mem-before}
+use Rattle.store.proofs.Ends.{empty-mem}
 use Rattle.streams.specs.declared.source.Popped.{Popped}
 use Rattle.streams.specs.Reading.{Current, Rest, EndsFrom, InPart, OnPath, Pops}
 use Rattle.streams.proofs.Tops.{rest-none, rest-some}
 
 -- a .. b is the next run of Q from y on, as far as positions below top go
-pub record Found (a b y top : ℕ) (Q : Positions) : Type 0 where
+pub record FoundNext (a b y top : ℕ) (Q : Positions) : Type 0 where
   pub ordered : a ≤ b
   pub late : y ≤ a
   pub below : b < top
@@ -46,7 +48,7 @@ module _ (o s top y : ℕ) (Q : Positions) (r : Run) (rs : List Run) (canon : Ca
       let g = run-late in
       tells (suc b) (omega arith) l ∙ mem-above r rs (suc b + s - o) (omega arith) ∙ mem-below size (r .«end» + 2) rs (suc b + s - o) (canon .3) (omega arith)
 
-  run-found : Found a b y top Q
+  run-found : FoundNext a b y top Q
   run-found = record {
     ordered = run-ordered;
     late = run-late;
@@ -78,7 +80,7 @@ module _ (o s top y : ℕ) (Q : Positions) (r : Run) (rs : List Run) (canon : Ca
       }
 
 -- the run of a part that reaches to its end, or past which nothing is held
-pub found-current : {a b y top : ℕ} {Q : Positions} → Found a b y top Q → top ≤ size → (suc b ≡ top → suc b < size → Q (suc b) ≡ false) → Current a b y Q
+pub found-current : {a b y top : ℕ} {Q : Positions} → FoundNext a b y top Q → top ≤ size → (suc b ≡ top → suc b < size → Q (suc b) ≡ false) → Current a b y Q
 found-current {a} {b} {y} {top} {Q} f h last = record {
   ordered = f .ordered;
   ahead = omega arith;
@@ -145,7 +147,7 @@ module _ {w path path′ : List ℕ} {o s top depth y : ℕ} {Q : Positions} {x 
   module _ (small : y < top) (a b : ℕ) (a-is : a + s ≡ max (x .start) (y + s - o) + o) (a-in : a < top) (b-in : b < top) (b-most : b + s ≤ x .«end» + o)
       (b-is : suc b < top → b + s ≡ x .«end» + o) where
     -- it is the next run, clipped
-    pub pop-found : Found a b y top Q
+    pub pop-found : FoundNext a b y top Q
     pop-found =
         let g = part-head i ne in
         let t = ps (g .r) (g .rs) (g .on) in

@@ -11,8 +11,9 @@ use lib.Seq.{getD-set-same, getD-set-other}
 use Rattle.model.specs.declared.Run.{Run}
 use Rattle.model.specs.Numbers.{size}
 use Rattle.model.specs.Positions.{run}
-use Rattle.model.specs.RunList.{Canon, canon-weaken, canon-wider}
-use Rattle.model.specs.Search.{canon-split}
+use Rattle.model.specs.RunList.{Canon}
+use Rattle.model.proofs.RunList.{canon-weaken, canon-wider}
+use Rattle.model.proofs.Search.{canon-split}
 use Rattle.run_index.specs.declared.Node.{Node}
 use Rattle.run_index.specs.Cells.{cellAt, Room}
 use Rattle.run_index.specs.Tree.{Tree, link, height, inorder, Rep}

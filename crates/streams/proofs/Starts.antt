@@ -8,7 +8,8 @@ use native.Mathlib.Omega.{arith}
 use lib.ListN.{length}
 use Rattle.model.specs.Numbers.{size}
 use Rattle.model.specs.Positions.{Positions, run, mem}
-use Rattle.model.specs.RunList.{Canon, mem-in, mem-under, mem-above}
+use Rattle.model.specs.RunList.{Canon}
+use Rattle.model.proofs.RunList.{mem-in, mem-under, mem-above}
 use Rattle.run_index.specs.Tree.{leaf, inorder}
 use Rattle.run_index.proofs.Trees.{leaf-at}
 use Rattle.store.specs.declared.World.{World}
@@ -16,11 +17,30 @@ use Rattle.store.specs.Places.{physicalOf}
 use Rattle.store.specs.Layout.{physicalRuns, heldFrom}
 use Rattle.store.specs.Soundness.{Share, Standing}
 use Rattle.store.proofs.Reached.{tree-physical, kept-low}
-use Rattle.store.specs.Turn.{turned-at}
-use Rattle.store.specs.Ends.{empty-mem}
+use Rattle.store.proofs.Turn.{turned-at}
+use Rattle.store.proofs.Ends.{empty-mem}
 use Rattle.streams.specs.declared.source.View.{View}
 use Rattle.streams.specs.declared.source.Source.{Source}
-use Rattle.streams.specs.Reading.{Rooted, Clear, Current, Rest, none, Coming, Ahead, spent, lastly, firstly, Stands, AtRun, Covers, from, Below, Descends, ReadyLast, ReadyFirst}
+use Rattle.streams.specs.Reading.{
+  Rooted,
+  Clear,
+  Current,
+  Rest,
+  none,
+  Coming,
+  Ahead,
+  spent,
+  lastly,
+  firstly,
+  Stands,
+  AtRun,
+  Covers,
+  from,
+  Below,
+  Descends,
+  ReadyLast,
+  ReadyFirst,
+}
 use Rattle.streams.proofs.Dropping.{from-zero, from-ends, from-canon, mem-from}
 use Rattle.streams.proofs.Parts.{part-none}
 

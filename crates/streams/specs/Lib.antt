@@ -2,4 +2,3 @@ pub mod Reading
 pub mod Sweeping
 pub mod Gathering
 pub mod Gapping
-pub mod Streamed

@@ -182,12 +182,12 @@ abbrev pub FirstReady : List ℕ → List ℕ → View → ℕ → ℕ → Type 
 FirstReady w path v depth p = (y : ℕ) × (Q : Positions) × ReadyFirst w path v depth p y Q
 
 -- a reading at y whose run, if there is one, does not start before y
-pub record Told (w path : List ℕ) (v : View) (r : Source) (y : ℕ) (Q : Positions) : Type 0 where
+pub record ReadsFrom (w path : List ℕ) (v : View) (r : Source) (y : ℕ) (Q : Positions) : Type 0 where
   pub reads : Reads w path v r y Q
   pub late : r .live ≡ true → y ≤ r .start
 
 abbrev pub TellsLast : List ℕ → List ℕ → List ℕ → View → ℕ → ℕ → Source → Type 0
-TellsLast w path path′ v depth p r = (y : ℕ) (Q : Positions) → ReadyLast w path v depth p y Q → Told w path′ v r y Q
+TellsLast w path path′ v depth p r = (y : ℕ) (Q : Positions) → ReadyLast w path v depth p y Q → ReadsFrom w path′ v r y Q
 
 abbrev pub TellsFirst : List ℕ → List ℕ → List ℕ → View → ℕ → ℕ → Source → Type 0
 TellsFirst w path path′ v depth p r = (y : ℕ) (Q : Positions) → ReadyFirst w path v depth p y Q → Reads w path′ v r y Q

@@ -14,16 +14,16 @@ use model::Edge;
 use model::Logical;
 use store::World;
 
-// Where a gap could start: after the last held position, where a block that is placed after the others fits, or else at a.
-// No promise is made of it.
-fn propose(h: World, a: Logical, b: Logical) -> Logical {
+// Where a gap could start, if there is a place that is likely: after the last held position, where a block that is placed after the others fits.
+// No promise is made of it. The range's start is not proposed: the sweep looks there first.
+fn propose(h: World, a: Logical, b: Logical) -> Edge {
     if h.runs == 0 {
-        return a;
+        return Edge::At(a.0);
     }
     if h.last >= b.0 {
-        return a;
+        return Edge::Nowhere;
     }
-    Logical(run_index::larger(a.0, h.last + 1))
+    Edge::At(run_index::larger(a.0, h.last + 1))
 }
 
 // Whether the positions from x to y are free: no run is at x, and the next one starts after y.
@@ -126,9 +126,14 @@ pub fn some_gap(words: &[u64], h: World, a: Logical, b: Logical, n: u64) -> Edge
     requires { ⌜ (a .0 ≤ b .0) × (1 ≤ n) ⌝ }
     ensures { λ r. ⌜ SomeGap (heldIn (now (words .entry)) h) (a .0) (suc (b .0) - a .0) n (edgePosition r) ⌝ }
 {
-    let x = propose(h, a, b);
-    if is_gap(words, h, a, b, n, x) {
-        return Edge::At(x.0);
+    let p = propose(h, a, b);
+    match p {
+        Edge::At(likely) => {
+            if is_gap(words, h, a, b, n, Logical(likely)) {
+                return Edge::At(likely);
+            }
+        }
+        Edge::Nowhere => {}
     }
     sweep(words, h, a, b, n)
 }

@@ -113,5 +113,5 @@ pub fn gather(
 {
     let k = store::free::give_back(into, store::links_of(h));
     let n = fill(into, k.free, op, x, fx, y, fy);
-    store::settle::link(into, k, n)
+    store::refresh::link(into, k, n)
 }

@@ -12,9 +12,9 @@ use mir.Val.{Fits}
 use Rattle.model.specs.Positions.{run}
 use Rattle.model.specs.Bytes.{bigEndian, valueFrom, valueOf, decodeRuns}
 use Rattle.model.proofs.Slices.{all-bytes}
-use Rattle.model.specs.Codec.{bigEndian-length, bigEndian-bytes, valueFrom-bigEndian, bigEndian-value, drop-bytes, part-bound, decodeRuns-at}
+use Rattle.model.proofs.Codec.{bigEndian-length, bigEndian-bytes, valueFrom-bigEndian, bigEndian-value, drop-bytes, part-bound, decodeRuns-at}
 use Rattle.written.specs.Placed.{placed}
-use Rattle.written.specs.Placing.{sets-placed, placed-placed}
+use Rattle.written.proofs.Placing.{sets-placed, placed-placed}
 
 -- ---- writing
 -- powers of 256 multiply by adding

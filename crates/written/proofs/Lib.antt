@@ -4,3 +4,4 @@ pub mod Ordered
 pub mod Listing
 pub mod Telling
 pub mod Writing
+pub mod Placing

@@ -12,7 +12,8 @@ use mir.Syntax.{w64}
 use mir.Val.{Fits}
 use Rattle.model.specs.declared.Run.{Run}
 use Rattle.model.specs.Positions.{run}
-use Rattle.model.specs.Codec.{AllWords, ordered-canon}
+use Rattle.model.specs.RunList.{AllWords}
+use Rattle.model.proofs.Codec.{ordered-canon}
 use Rattle.model.specs.Refusals.{orderedFrom}
 use Rattle.run_index.specs.Cells.{Room}
 use Rattle.run_index.specs.Strung.{FreeChain, Filled, Fillable}

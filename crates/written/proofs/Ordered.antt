@@ -11,7 +11,7 @@ use lib.ListN.{length, drop, getD, drop-of-length-le}
 use lib.Seq.{drop-cons}
 use borrow.Author.Tests.{not-true, not-false, ne-eqb, le-leb, lt-leb}
 use Rattle.model.specs.declared.Run.{Run}
-use Rattle.model.specs.Numbers.{split}
+use Rattle.model.proofs.Numbers.{split}
 use Rattle.model.specs.Positions.{run}
 use Rattle.model.specs.Refusals.{orderedFrom}
 use Rattle.written.specs.Listed.{leastAfter}

@@ -10,12 +10,13 @@ use lib.ListN.{length, take, drop, getD}
 use borrow.Author.Tests.{eq-eqb, ne-eqb, lt-ltb, le-ltb, not-false}
 use Rattle.model.specs.declared.Run.{Run}
 use Rattle.model.specs.Positions.{stretches, mem}
-use Rattle.model.specs.Positions.Runs.{stretches-is}
+use Rattle.model.proofs.Runs.{stretches-is}
 use Rattle.model.specs.Bytes.{valueOf, runsDue, decodeRuns, decode}
 use Rattle.model.specs.Refusals.{refusal, tooShort, badVersion, badLength, orderedFrom, disordered, setConditions}
-use Rattle.model.specs.Codec.{AllBytes, AllWords, decode-length, decode-words, ordered-canon}
-use Rattle.written.specs.declared.set.Told.{Told}
-use Rattle.written.specs.Told.{Acceptable, TellsRuns}
+use Rattle.model.specs.RunList.{AllBytes, AllWords}
+use Rattle.model.proofs.Codec.{decode-length, decode-words, ordered-canon}
+use Rattle.written.specs.declared.set.Parsed.{Parsed}
+use Rattle.written.specs.Parsed.{Acceptable, TellsRuns}
 
 -- ---- runs in order
 module _ (rs : List Run) where
@@ -106,7 +107,7 @@ module _ (bs : List ℕ) where
 
   -- ---- what is told
   -- runs that are accepted
-  pub told-accepted : {n : ℕ} (t : Told) → TellsRuns bs t → t ≡ Told.Runs n → Acceptable bs n
+  pub told-accepted : {n : ℕ} (t : Parsed) → TellsRuns bs t → t ≡ Parsed.Runs n → Acceptable bs n
   told-accepted t k e = subst (λ s. TellsRuns bs s) e k
 
   module _ {n : ℕ} (a : Acceptable bs n) where

@@ -8,18 +8,20 @@ use mathlib.Core.List.{List, [], _∷_, _++_, append-nil, append-assoc}
 use native.Mathlib.Omega.{arith}
 use lib.ListN.{length, set, length-set, length-append}
 use Rattle.model.specs.declared.Run.{Run}
-use Rattle.model.specs.Numbers.{size, split}
+use Rattle.model.specs.Numbers.{size}
+use Rattle.model.proofs.Numbers.{split}
 use Rattle.model.specs.Positions.{Positions, run, heldRuns, stretches}
 use Rattle.model.specs.Bytes.{bigEndian, encodeRuns, encode, intoFront}
-use Rattle.model.specs.Codec.{bigEndian-length, encodeRuns-length, encodeRuns-append}
-use Rattle.store.specs.Ends.{clash}
+use Rattle.model.proofs.Codec.{bigEndian-length, encodeRuns-length, encodeRuns-append}
+use Rattle.store.proofs.Ends.{clash}
 use Rattle.streams.specs.declared.source.View.{View}
 use Rattle.streams.specs.declared.source.Source.{Source}
 use Rattle.streams.specs.Reading.{Rooted, Current, Stands, Reads, AtRun, Advances}
 use Rattle.streams.specs.Sweeping.{RunFrom}
-use Rattle.streams.specs.Streamed.{Passed, passed-none, passed-more, passed-last, passed-all, passed-some}
+use Rattle.streams.proofs.Streamed.{Passed, passed-none, passed-all}
+use Rattle.streams.proofs.Streamed.{passed-more, passed-last, passed-some}
 use Rattle.written.specs.Placed.{placed}
-use Rattle.written.specs.Placing.{placed-nil, placed-length, placed-set, placed-placed, placed-front}
+use Rattle.written.proofs.Placing.{placed-nil, placed-length, placed-set, placed-placed, placed-front}
 
 -- ---- the runs
 -- all runs are those below 2^64

@@ -1,4 +1,3 @@
 pub mod Placed
-pub mod Placing
 pub mod Listed
-pub mod Told
+pub mod Parsed

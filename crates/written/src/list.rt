@@ -73,5 +73,5 @@ pub fn build(into: &mut [u64], h: World, runs: &[u64], n: u64) -> World
 {
     let k = store::free::give_back(into, store::links_of(h));
     put_runs(into, k.free, runs, n);
-    store::settle::link(into, k, n)
+    store::refresh::link(into, k, n)
 }

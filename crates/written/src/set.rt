@@ -11,33 +11,33 @@ ghost use Rattle.store.specs.Layout.{heldIn};
 ghost use Rattle.store.specs.Soundness.{Stands};
 ghost use Rattle.store.specs.Settle.{Lays};
 ghost use Rattle.written.specs.Listed.{Receives, Received};
-ghost use Rattle.written.specs.Told.{TellsRuns};
+ghost use Rattle.written.specs.Parsed.{TellsRuns};
 use model::Refusal;
 use store::World;
 
 // What bytes are as a written set: the refusal that they earn by themselves, or how many runs they tell.
-pub enum Told {
+pub enum Parsed {
     Refused(Refusal),
     Runs(u64),
 }
 
-pub fn runs_told(bytes: &[u8]) -> Told
+pub fn runs_told(bytes: &[u8]) -> Parsed
     ensures { λ r. ⌜ TellsRuns (now (bytes .entry)) r ⌝ }
 {
     if bytes.len() < 5 {
-        return Told::Refused(Refusal::SetLength);
+        return Parsed::Refused(Refusal::SetLength);
     }
     if bytes[0] != 1 {
-        return Told::Refused(Refusal::SetVersion);
+        return Parsed::Refused(Refusal::SetVersion);
     }
     let n = crate::numbers::get_count(bytes, 1);
     if bytes.len() as u64 != 5 + 16 * n {
-        return Told::Refused(Refusal::SetLength);
+        return Parsed::Refused(Refusal::SetLength);
     }
     if !in_order(bytes, n) {
-        return Told::Refused(Refusal::RunOrder);
+        return Parsed::Refused(Refusal::RunOrder);
     }
-    Told::Runs(n)
+    Parsed::Runs(n)
 }
 
 // How many bytes n runs need.
@@ -103,5 +103,5 @@ pub fn load(into: &mut [u64], h: World, bytes: &[u8], n: u64) -> World
 {
     let k = store::free::give_back(into, store::links_of(h));
     put_runs(into, k.free, bytes, n);
-    store::settle::link(into, k, n)
+    store::refresh::link(into, k, n)
 }

@@ -119,7 +119,7 @@ macro_rules! refusing {
     };
 }
 
-refusing!(Count, Number, Run, Position, Listed, Drawn);
+refusing!(Counted, Numbered, Around, Found, Listed, Drawn);
 
 fn included(value: u64) -> Bound {
     Bound { kind: 1, value }

@@ -11,14 +11,14 @@ pub mod parts;
 pub mod random;
 pub mod records;
 pub mod reference;
-pub mod world;
+pub mod sides;
 
 use std::fmt;
 use std::time::{Duration, Instant};
 
 use calls::{Call, Told};
 use reference::Run;
-use world::World;
+use sides::Sides;
 
 /// The last position, and the first of the upper half.
 pub const M: u64 = u64::MAX;
@@ -113,19 +113,19 @@ impl Tally {
 #[derive(Clone)]
 pub struct Sequence {
     capacities: Vec<usize>,
-    pub world: World,
+    pub sides: Sides,
     calls: Vec<Call>,
 }
 
 impl Sequence {
     pub fn new(capacities: &[usize]) -> Sequence {
-        Sequence { capacities: capacities.to_vec(), world: World::new(capacities), calls: Vec::new() }
+        Sequence { capacities: capacities.to_vec(), sides: Sides::new(capacities), calls: Vec::new() }
     }
 
     /// Makes the next call.
     pub fn call(&mut self, tally: &mut Tally, call: Call) -> Result<(), Difference> {
         let outside = matches!(call, Call::Lend { .. } | Call::Poke { .. });
-        let stepped = self.world.step(&call);
+        let stepped = self.sides.step(&call);
         self.calls.push(call);
         match stepped {
             Ok(_) if outside => Ok(()),
@@ -194,8 +194,8 @@ fn shorten<T: Clone>(all: &mut Vec<T>, mut will_do: impl FnMut(&mut Vec<T>) -> b
 
 // After how many calls there is a difference, and which.
 fn unequal(capacities: &[usize], calls: &[Call]) -> Option<(usize, String)> {
-    let mut world = World::new(capacities);
-    calls.iter().enumerate().find_map(|(i, call)| world.step(call).err().map(|why| (i + 1, why)))
+    let mut sides = Sides::new(capacities);
+    calls.iter().enumerate().find_map(|(i, call)| sides.step(call).err().map(|why| (i + 1, why)))
 }
 
 /// Runs every part, and stops at the first difference.

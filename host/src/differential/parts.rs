@@ -130,7 +130,7 @@ pub fn exhaustive(tally: &mut Tally, options: Options) -> Outcome {
 fn grow(tally: &mut Tally, s: &mut Sequence, random: &mut Random, at: usize, count: u64) -> Outcome {
     for _ in 0..count {
         let kind = random.one_of(&[Kind::Set, Kind::Set, Kind::Set, Kind::Flip, Kind::Shift]);
-        let call = chance::call(random, s.world.stores(), kind, at);
+        let call = chance::call(random, s.sides.stores(), kind, at);
         s.call(tally, call)?;
     }
     Ok(())
@@ -139,10 +139,10 @@ fn grow(tally: &mut Tally, s: &mut Sequence, random: &mut Random, at: usize, cou
 // Every kind of call about a store, and before them a frame on a copy, so that they have the store as it is.
 fn every_kind(tally: &mut Tally, s: &mut Sequence, random: &mut Random, at: usize) -> Outcome {
     let count = random.below(5) as usize;
-    let frame = chance::frame(random, s.world.stores(), at, count);
+    let frame = chance::frame(random, s.sides.stores(), at, count);
     s.clone().call(tally, frame)?;
     for kind in [Kind::Gap].into_iter().chain(KINDS) {
-        let call = chance::call(random, s.world.stores(), kind, at);
+        let call = chance::call(random, s.sides.stores(), kind, at);
         s.call(tally, call)?;
     }
     Ok(())
@@ -165,7 +165,7 @@ pub fn damaged_stores(tally: &mut Tally, options: Options) -> Outcome {
         let count = random.below(40);
         grow(tally, &mut s, &mut random, 0, count)?;
         grow(tally, &mut s, &mut random, 1, 4)?;
-        let words = s.world.words(0).to_vec();
+        let words = s.sides.words(0).to_vec();
         for (word, &was) in words.iter().enumerate() {
             let last = capacity as u64 + 2;
             let beside = random.one_of(&words);
@@ -192,8 +192,8 @@ pub fn damaged_stores(tally: &mut Tally, options: Options) -> Outcome {
         let count = random.below(20);
         grow(tally, &mut s, &mut random, 0, count)?;
         for _ in 0..2 {
-            let word = random.below(s.world.words(0).len() as u64) as usize;
-            let value = word_beside(&mut random, s.world.words(0), word);
+            let word = random.below(s.sides.words(0).len() as u64) as usize;
+            let value = word_beside(&mut random, s.sides.words(0), word);
             s.call(tally, Call::Poke { at: 0, word, value })?;
         }
         every_kind(tally, &mut s, &mut random, 0)?;
@@ -465,9 +465,9 @@ fn wander(tally: &mut Tally, random: &mut Random, capacities: &[usize], calls: u
     for _ in 0..calls {
         let call = if random.once_in(16) {
             let at = random.below(capacities.len() as u64) as usize;
-            chance::call(random, s.world.stores(), Kind::Gap, at)
+            chance::call(random, s.sides.stores(), Kind::Gap, at)
         } else {
-            history.next(random, s.world.stores())
+            history.next(random, s.sides.stores())
         };
         s.call(tally, call)?;
     }
@@ -520,8 +520,8 @@ pub fn large(tally: &mut Tally, options: Options) -> Outcome {
             few_draws(tally, &mut s, &mut random)?;
             // Runs taken from the shallow side, so that the balance is mended all the way up.
             for i in 0..20 {
-                let at = if left { s.world.stores()[0].runs.len() - 1 - 3 * i } else { 3 * i };
-                let [start, end] = s.world.stores()[0].runs[at];
+                let at = if left { s.sides.stores()[0].runs.len() - 1 - 3 * i } else { 3 * i };
+                let [start, end] = s.sides.stores()[0].runs[at];
                 let range = (Bound::Included(start), Bound::Included(end));
                 s.call(tally, Call::Set { at: 0, range, value: false })?;
             }
@@ -535,7 +535,7 @@ pub fn large(tally: &mut Tally, options: Options) -> Outcome {
 fn few_draws(tally: &mut Tally, s: &mut Sequence, random: &mut Random) -> Outcome {
     for kind in [Kind::RunAt, Kind::Find, Kind::Count, Kind::Select, Kind::CountRanges, Kind::Gap, Kind::Draw] {
         for _ in 0..4 {
-            let call = chance::call(random, s.world.stores(), kind, 0);
+            let call = chance::call(random, s.sides.stores(), kind, 0);
             s.call(tally, call)?;
         }
     }
@@ -588,11 +588,11 @@ pub fn frames(tally: &mut Tally, options: Options) -> Outcome {
             play(tally, &mut s, &mut random, count)?;
         }
         // Of a damaged store, and of one with a word too many, no call is made.
-        let word = random.below(s.world.words(0).len() as u64) as usize;
-        let value = word_beside(&mut random, s.world.words(0), word);
+        let word = random.below(s.sides.words(0).len() as u64) as usize;
+        let value = word_beside(&mut random, s.sides.words(0), word);
         s.call(tally, Call::Poke { at: 0, word, value })?;
         play(tally, &mut s, &mut random, 20)?;
-        let words = vec![0; s.world.words(0).len() + 1];
+        let words = vec![0; s.sides.words(0).len() + 1];
         s.call(tally, Call::Lend { at: 0, words })?;
         play(tally, &mut s, &mut random, 20)?;
     }
@@ -601,7 +601,7 @@ pub fn frames(tally: &mut Tally, options: Options) -> Outcome {
 
 // A frame of so many calls by chance.
 fn play(tally: &mut Tally, s: &mut Sequence, random: &mut Random, count: u64) -> Outcome {
-    let frame = chance::frame(random, s.world.stores(), 0, count as usize);
+    let frame = chance::frame(random, s.sides.stores(), 0, count as usize);
     s.call(tally, frame)
 }
 

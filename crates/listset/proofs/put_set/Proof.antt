@@ -6,7 +6,7 @@ use denote.Ref.{now}
 use mathlib.Core.Bool.{true}
 use lib.ListN.{length}
 use Rattle.model.specs.Numbers.{size, worth}
-use Rattle.model.specs.Positions.Laws.{count-most}
+use Rattle.model.proofs.Counting.{count-most}
 use Rattle.model.specs.Positions.{stretches}
 use Rattle.store.specs.Layout.{allowance, heldBy}
 use Rattle.listset.specs.Text.{countLines, runLines, setLines}

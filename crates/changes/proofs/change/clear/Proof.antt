@@ -3,7 +3,7 @@
 use borrow.Author.Needs.{needs}
 use mathlib.Core.Logic.{⊎-elim}
 use borrow.Author.Tests.{leb-true, leb-false}
-use Rattle.changes.proofs.Steps.{settable-indexed, Found, found, found-none}
+use Rattle.changes.proofs.Steps.{settable-indexed, FoundRun, found, found-none}
 use Rattle.changes.proofs.Trimming.{
   Trimmed,
   trimmed-same,
@@ -34,7 +34,7 @@ abbrev told : tie.Then2 → tie.After-n
 told t = t .before .before .before
 
 -- the run at s or before it
-run-there : (n : tie.After-n) → Found (start (searched n) .args .words .now) (start (searched n) .args .x) (start (searched n) .args .s .0) (n .n .given .0 .0)
+run-there : (n : tie.After-n) → FoundRun (start (searched n) .args .words .now) (start (searched n) .args .x) (start (searched n) .args .s .0) (n .n .given .0 .0)
 run-there n = found _ (searched n .at-or-before .ensures) _ (n .n .given .1)
 
 -- no run goes on from before s

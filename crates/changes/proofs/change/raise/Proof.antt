@@ -2,7 +2,7 @@
 -- or a new one comes. Assumes nothing.
 use borrow.Author.Needs.{needs}
 use mathlib.Core.Logic.{⊎-elim}
-use Rattle.changes.proofs.Steps.{settable-indexed, Found, found, found-none}
+use Rattle.changes.proofs.Steps.{settable-indexed, FoundRun, found, found-none}
 use Rattle.changes.proofs.Raising.{
   Passed,
   Alone,
@@ -51,7 +51,7 @@ abbrev asked₂ : tie.After-absorb2 → tie.After-reaches2
 asked₂ a = a .before .before .before .before
 
 -- the run at s or before it
-run-there : (n : tie.After-n) → Found (start (searched n) .args .words .now) (start (searched n) .args .x) (start (searched n) .args .s .0) (n .n .given .0 .0)
+run-there : (n : tie.After-n) → FoundRun (start (searched n) .args .words .now) (start (searched n) .args .x) (start (searched n) .args .s .0) (n .n .given .0 .0)
 run-there n = found _ (searched n .at-or-before .ensures) _ (n .n .given .1)
 
 -- no run reaches s from before it

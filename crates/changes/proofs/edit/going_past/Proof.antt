@@ -3,7 +3,7 @@ use borrow.Author.Needs.{needs}
 use native.Mathlib.Omega.{arith}
 use mathlib.Core.Path.{ap, _∙_}
 use Rattle.model.specs.Positions.{Positions, oneIf}
-use Rattle.model.specs.After.{goesOn}
+use Rattle.model.specs.Neighbours.{goesOn}
 use Rattle.store.specs.Layout.{heldIn}
 use Rattle.changes.proofs.Fitting.{none-past}
 use Rattle.changes.proofs.edit.going_past.Statement.{statement}

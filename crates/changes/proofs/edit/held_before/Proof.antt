@@ -3,7 +3,7 @@ use borrow.Author.Needs.{needs}
 use mathlib.Core.Path.{_≡_, sym, ap, _∙_}
 use Rattle.model.specs.Positions.{oneIf}
 use Rattle.store.specs.Layout.{heldIn}
-use Rattle.changes.specs.Neighbours.{heldBelow}
+use Rattle.model.specs.Neighbours.{heldBelow}
 use Rattle.changes.proofs.Fitting.{below-is}
 use Rattle.changes.proofs.edit.held_before.Statement.{statement}
 use Rattle.changes.proofs.edit.held_before.Tie as tie

@@ -3,7 +3,7 @@
 use borrow.Author.Needs.{needs}
 use native.Mathlib.Omega.{arith}
 use Prim.Native.Nat.{suc, _-_}
-use Rattle.store.specs.Turn.{Lies, lies-from-to}
+use Rattle.store.proofs.Turn.{Lies, lies-from-to}
 use Rattle.changes.proofs.Setting.{whole-settable, whole-reached, first-settable, second-settable, parted-reached}
 use Rattle.changes.proofs.edit.place.Statement.{statement}
 use Rattle.changes.proofs.edit.place.Tie as tie

@@ -2,11 +2,10 @@
 -- neighbours of its ends. Assumes nothing.
 use native.Mathlib.Omega.{arith}
 use Rattle.model.specs.Positions.{Positions}
-use Rattle.model.specs.After.{goesOn}
+use Rattle.model.specs.Neighbours.{goesOn, heldBelow}
 use Rattle.store.specs.Layout.{heldIn}
 use Rattle.store.proofs.Opening.{standing-counted, logical-told}
-use Rattle.changes.specs.Neighbours.{heldBelow}
-use Rattle.changes.proofs.Fitting.{one-most, far-fits, limit-few, logical-few, Told, told-few, inside-few, less-few, true-fits, false-fits}
+use Rattle.changes.proofs.Fitting.{one-most, far-fits, limit-few, logical-few, Tallied, told-few, inside-few, less-few, true-fits, false-fits}
 use borrow.Author.Needs.{needs}
 use Rattle.changes.proofs.edit.set_fits.Statement.{statement}
 use Rattle.changes.proofs.edit.set_fits.Tie as tie
@@ -28,7 +27,7 @@ abbrev ends : tie.After-held-after → tie.After-going-past
 ends q = q .before .before .before .before
 
 -- what is counted before the value is asked
-told : (p : tie.After-going-past) → Told (held (start (runs p))) ((start (runs p)) .args .a .0) ((start (runs p)) .args .b .0) ((runs p) .logical-runs .result)
+told : (p : tie.After-going-past) → Tallied (held (start (runs p))) ((start (runs p)) .args .a .0) ((start (runs p)) .args .b .0) ((runs p) .logical-runs .result)
     (p .before .before .tally .result .runs) (p .before .going-on .result) (p .going-past .result)
 told p =
     let r = start (runs p) in

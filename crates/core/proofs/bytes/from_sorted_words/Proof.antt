@@ -3,7 +3,7 @@
 use mathlib.Core.Path.{refl}
 use native.Mathlib.Omega.{arith}
 use Rattle.written.proofs.Telling.{order-is}
-use Rattle.core.proofs.Carrying.{refused-early, over-full, overwritten, build-says}
+use Rattle.core.proofs.Overwriting.{refused-early, over-full, overwritten, build-says}
 use Rattle.core.proofs.Receiving.{order-refused, order-passes, pairs-many, receive-few, receive-ready, receive-closing, receive-settled}
 use borrow.Author.Needs.{needs}
 use Rattle.core.proofs.bytes.from_sorted_words.Statement.{statement}

@@ -4,7 +4,7 @@ use mathlib.Core.Path.{refl, ap}
 use native.Mathlib.Omega.{arith}
 use Rattle.model.specs.Positions.{mem}
 use Rattle.written.proofs.Telling.{told-accepted, accepted-runs, accepted-order}
-use Rattle.core.proofs.Carrying.{refused-early, over-full, overwritten, load-says}
+use Rattle.core.proofs.Overwriting.{refused-early, over-full, overwritten, load-says}
 use Rattle.core.proofs.Receiving.{told-refused, told-many, receive-few, receive-ready, receive-closing, receive-settled}
 use borrow.Author.Needs.{needs}
 use Rattle.core.proofs.bytes.load.Statement.{statement}

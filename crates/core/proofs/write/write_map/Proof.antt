@@ -4,7 +4,7 @@ use mathlib.Core.Path.{_≡_, sym}
 use mathlib.Core.Bool.{false}
 use native.Mathlib.Omega.{arith}
 use Rattle.model.specs.Refusals.{badWindow}
-use Rattle.model.specs.MapLaws.{mapOf-length}
+use Rattle.model.proofs.Maps.{mapOf-length}
 use Rattle.core.proofs.Windows.{fitting, window-passes, bad-by}
 use Rattle.core.proofs.Changing.{open-stands}
 use Rattle.core.proofs.Putting.{put-short, put-done, write-map-puts, put-no-window, short-after-window}

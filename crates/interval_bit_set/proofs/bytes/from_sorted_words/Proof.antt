@@ -1,6 +1,6 @@
 -- `from_sorted_words` meets its contract: words of no store's length are refused, and else the core's call answers. Assumes nothing.
 use mathlib.Core.Path.{sym, _∙_}
-use Rattle.core.proofs.Carrying.{own-short, build-says}
+use Rattle.core.proofs.Overwriting.{own-short, build-says}
 use borrow.Author.Needs.{needs}
 use Rattle.interval_bit_set.proofs.bytes.from_sorted_words.Statement.{statement}
 use Rattle.interval_bit_set.proofs.bytes.from_sorted_words.Tie as tie

@@ -1,6 +1,6 @@
 -- `load` meets its contract: words of no store's length are refused, and else the core's call answers. Assumes nothing.
 use mathlib.Core.Path.{sym, _∙_}
-use Rattle.core.proofs.Carrying.{own-short, load-says}
+use Rattle.core.proofs.Overwriting.{own-short, load-says}
 use borrow.Author.Needs.{needs}
 use Rattle.interval_bit_set.proofs.bytes.load.Statement.{statement}
 use Rattle.interval_bit_set.proofs.bytes.load.Tie as tie

@@ -1,6 +1,6 @@
 -- `new` meets its contract: words of a store's length become an empty store, others stay. Assumes nothing.
 use mathlib.Core.Path.{sym, _∙_}
-use Rattle.core.proofs.Carrying.{own-short, make-says}
+use Rattle.core.proofs.Overwriting.{own-short, make-says}
 use borrow.Author.Needs.{needs}
 use Rattle.interval_bit_set.proofs.make.new.Statement.{statement}
 use Rattle.interval_bit_set.proofs.make.new.Tie as tie

@@ -8,11 +8,10 @@ use native.Mathlib.Omega.{arith}
 use borrow.Author.Needs.{needs}
 use Rattle.model.specs.Positions.{Positions, oneIf}
 use Rattle.model.specs.Bytes.{mapBit}
-use Rattle.model.specs.After.{goesOn}
+use Rattle.model.specs.Neighbours.{goesOn, heldBelow, heldAbove}
 use Rattle.store.specs.Layout.{heldIn}
 use Rattle.store.proofs.Opening.{standing-counted, logical-told}
-use Rattle.changes.specs.Neighbours.{heldBelow, heldAbove}
-use Rattle.changes.proofs.Fitting.{one-most, limit-few, logical-few, Told, told-few}
+use Rattle.changes.proofs.Fitting.{one-most, limit-few, logical-few, Tallied, told-few}
 use Rattle.maps.proofs.Leaving.{end-asked, end-none, before-few, after-few, map-fits-is}
 use Rattle.maps.proofs.read.map_fits.Statement.{statement}
 use Rattle.maps.proofs.read.map_fits.Tie as tie
@@ -27,7 +26,7 @@ start r = r .before .before .before .before .before .before
 
 -- what is counted before the bits are asked
 told : (r : tie.After-going-past)
-    → Told (held (start r)) ((start r) .args .base) ((start r) .args .base + ((start r) .args .n - 1)) (r .before .before .before .logical-runs .result)
+    → Tallied (held (start r)) ((start r) .args .base) ((start r) .args .base + ((start r) .args .n - 1)) (r .before .before .before .logical-runs .result)
     (r .before .before .tally .result .runs) (r .before .going-on .result) (r .going-past .result)
 told r =
     let s = start r in

@@ -41,6 +41,13 @@ octet-of-claims t = (
   octet-of.Post,
 )
 
+-- the places that the needs look back to
+abbrev start : {t : ℕ} → octet-of-lts.Else1 (octet-of-claims t) (octet-of-at t) octet-of.Post → octet-of-lts.Start (octet-of-claims t) (octet-of-at t) octet-of.Post
+start c = c .before .before .before .before
+
+abbrev else1 : {t : ℕ} → octet-of-lts.After-octet-of-arg (octet-of-claims t) (octet-of-at t) octet-of.Post → octet-of-lts.Else1 (octet-of-claims t) (octet-of-at t) octet-of.Post
+else1 c = c .before .before .before .before
+
 octet-of-value-at-requires : (t : ℕ) → octet-of-lts.Need-value-at-requires (octet-of-claims t) (octet-of-at t) octet-of.Post
 octet-of-value-at-requires t c κs = search needs
 
@@ -60,31 +67,39 @@ octet-of-returns : (t : ℕ) → octet-of-lts.Need-returns (octet-of-claims t) (
 octet-of-returns t c = octets-all _ _ _ _ _ _ (c .before .before .before .value-at .ensures) (c .before .before .same-to .ensures) (c .before .if1 .taken) (c .alike .ensures)
 
 octet-of-add-n : (t : ℕ) → octet-of-lts.Need-add-n (octet-of-claims t) (octet-of-at t) octet-of.Post
-octet-of-add-n t c = omega (arith, c .if1 .left, c .before .before .before .before .pre .1 .1 .few)
+octet-of-add-n t c = omega (arith, c .if1 .left, start c .pre .1 .1 .few)
 
 octet-of-alike-requires-2 : (t : ℕ) → octet-of-lts.Need-alike-requires-2 (octet-of-claims t) (octet-of-at t) octet-of.Post
-octet-of-alike-requires-2 t c κs = omega (arith, c .if1 .left, c .before .before .before .before .pre .1 .1 .few)
+octet-of-alike-requires-2 t c κs = omega (arith, c .if1 .left, start c .pre .1 .1 .few)
 
 octet-of-add-next : (t : ℕ) → octet-of-lts.Need-add-next (octet-of-claims t) (octet-of-at t) octet-of.Post
-octet-of-add-next t c = omega (arith, c .before .if1 .left, c .before .before .before .before .before .pre .1 .1 .within)
+octet-of-add-next t c = omega (arith, c .before .if1 .left, start (c .before) .pre .1 .1 .within)
 
 octet-of-moved-requires : (t : ℕ) → octet-of-lts.Need-moved-requires (octet-of-claims t) (octet-of-at t) octet-of.Post
-octet-of-moved-requires t c κs = (_, _, stood-moves (c .before .before .before .before .before .before .pre .1 .1) (c .before .before .before .same-to .ensures))
+octet-of-moved-requires t c κs = (_, _, stood-moves (start (c .before .before) .pre .1 .1) (c .before .before .before .same-to .ensures))
 
 octet-of-sub-octet-of : (t : ℕ) → octet-of-lts.Need-sub-octet-of (octet-of-claims t) (octet-of-at t) octet-of.Post
-octet-of-sub-octet-of t c = omega (arith, c .before .before .before .before .if1 .left)
+octet-of-sub-octet-of t c = omega (arith, else1 c .if1 .left)
 
 octet-of-octet-of-requires : (t : ℕ) → octet-of-lts.Need-octet-of-requires (octet-of-claims t) (octet-of-at t) octet-of.Post
-octet-of-octet-of-requires t c κs = (omega (arith, c .before .before .before .before .before .before .before .before .pre .0, c .before .before .before .before .if1 .left), (_, stood-next (c .before .before .before .before .before .before .before .before .pre .1 .1) (c .before .before .before .before .before .same-to .ensures) (c .before .before .before .before .if1 .left) (c .before .moved .ensures)))
+octet-of-octet-of-requires t c κs =
+    let e₁ = else1 c in
+    (omega (arith, start e₁ .pre .0, e₁ .if1 .left), (_, stood-next (start e₁ .pre .1 .1) (e₁ .before .same-to .ensures) (e₁ .if1 .left) (c .before .moved .ensures)))
 
 octet-of-shl-t19 : (t : ℕ) → octet-of-lts.Need-shl-t19 (octet-of-claims t) (octet-of-at t) octet-of.Post
-octet-of-shl-t19 t c = omega (arith, c .before .before .before .before .before .before .if1 .left, c .before .before .before .before .before .before .before .before .before .before .pre .1 .1 .few)
+octet-of-shl-t19 t c =
+    let e₁ = else1 (c .before .before) in
+    omega (arith, e₁ .if1 .left, start e₁ .pre .1 .1 .few)
 
 octet-of-returns-2 : (t : ℕ) → octet-of-lts.Need-returns-2 (octet-of-claims t) (octet-of-at t) octet-of.Post
-octet-of-returns-2 t c = octets-more _ _ _ _ _ _ (c .before .before .before .before .before .before .before .before .value-at .ensures) (c .before .before .before .before .before .before .before .same-to .ensures) (c .before .before .before .before .before .before .if1 .left) (c .before .before .before .before .before .alike2 .ensures) (c .before .before .before .moved .ensures) (c .before .octet-of .ensures)
+octet-of-returns-2 t c =
+    let o = c .before in
+    let e₁ = else1 (o .before) in
+    octets-more _ _ _ _ _ _ (e₁ .before .before .value-at .ensures) (e₁ .before .same-to .ensures) (e₁ .if1 .left)
+    (o .before .before .before .before .alike2 .ensures) (o .before .before .moved .ensures) (o .octet-of .ensures)
 
 octet-of-add-t25 : (t : ℕ) → octet-of-lts.Need-add-t25 (octet-of-claims t) (octet-of-at t) octet-of.Post
-octet-of-add-t25 t c = omega (arith, octets-small (c .before .before .before .before .before .before .before .before .before .before .pre .1 .1) (octet-of-returns-2 t c))
+octet-of-add-t25 t c = omega (arith, octets-small (start (else1 (c .before .before)) .pre .1 .1) (octet-of-returns-2 t c))
 
 pub +octet-of-spec : {M : Type 1} → statement M
 +octet-of-spec = close μ-octet-of λ t. octet-of-lts.spec (octet-of-claims t)

@@ -2,7 +2,7 @@
 -- stretch by stretch. Assumes nothing.
 use native.Mathlib.Omega.{arith}
 use borrow.Author.Needs.{needs}
-use Rattle.model.specs.Positions.Laws.{one-bound}
+use Rattle.model.proofs.Counting.{one-bound}
 use Rattle.maps.proofs.Octeting.{stood-same, octets-small, due-stood, due-alike, due-octet}
 use Rattle.maps.proofs.write.next_bytes.Statement.{statement}
 use Rattle.maps.proofs.write.next_bytes.Tie as tie

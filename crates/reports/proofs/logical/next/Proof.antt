@@ -6,7 +6,7 @@ use mathlib.Core.Logic.{inl, inr, ⊎-elim}
 use borrow.Author.Tests.{ltb-true, ltb-false}
 use Rattle.model.specs.Numbers.{size}
 use Rattle.store.proofs.Opening.{standing-indexed}
-use Rattle.store.specs.Turn.{Lies}
+use Rattle.store.proofs.Turn.{Lies}
 use Rattle.reports.proofs.Seeking.{lies-from, next-first, next-second, next-nowhere, next-nowhere-parted}
 use borrow.Author.Needs.{needs}
 use Rattle.reports.proofs.logical.next.Statement.{statement}

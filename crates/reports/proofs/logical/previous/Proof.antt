@@ -5,7 +5,7 @@ use native.Mathlib.Omega.{arith}
 use mathlib.Core.Logic.{inl, inr, ⊎-elim}
 use borrow.Author.Tests.{ltb-true, ltb-false}
 use Rattle.store.proofs.Opening.{standing-indexed}
-use Rattle.store.specs.Turn.{Lies}
+use Rattle.store.proofs.Turn.{Lies}
 use Rattle.reports.proofs.Seeking.{lies-upto, previous-first, previous-second, previous-nowhere, previous-nowhere-parted}
 use borrow.Author.Needs.{needs}
 use Rattle.reports.proofs.logical.previous.Statement.{statement}

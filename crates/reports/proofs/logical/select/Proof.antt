@@ -7,8 +7,17 @@ use borrow.Author.Tests.{leb-true, leb-false, ltb-true, ltb-false}
 use Rattle.model.specs.Numbers.{worth}
 use Rattle.run_index.specs.Search.{Indexed}
 use Rattle.store.proofs.Opening.{standing-indexed}
-use Rattle.reports.proofs.Reading.{choosable-whole, selected-whole, unselected-whole, choosable-first, selected-first, choosable-second, selected-second, unselected-second}
-use Rattle.store.specs.Turn.{Lies, lies-from-to}
+use Rattle.reports.proofs.Reading.{
+  choosable-whole,
+  selected-whole,
+  unselected-whole,
+  choosable-first,
+  selected-first,
+  choosable-second,
+  selected-second,
+  unselected-second,
+}
+use Rattle.store.proofs.Turn.{Lies, lies-from-to}
 use borrow.Author.Needs.{needs}
 use Rattle.reports.proofs.logical.select.Statement.{statement}
 use Rattle.reports.proofs.logical.select.Tie as tie

@@ -6,7 +6,7 @@ use mathlib.Core.Logic.{inl, inr, ⊎-elim}
 use Rattle.run_index.specs.Search.{Indexed}
 use Rattle.store.proofs.Opening.{standing-indexed}
 use Rattle.reports.proofs.Reading.{tally-whole, count-fits, runs-fit, joined-some, tally-joined, tally-apart}
-use Rattle.store.specs.Turn.{Lies, lies-from-to}
+use Rattle.store.proofs.Turn.{Lies, lies-from-to}
 use borrow.Author.Needs.{needs}
 use Rattle.reports.proofs.logical.tally.Statement.{statement}
 use Rattle.reports.proofs.logical.tally.Tie as tie

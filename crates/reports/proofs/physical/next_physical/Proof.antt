@@ -6,7 +6,7 @@ use Rattle.model.specs.Positions.{mem}
 use Rattle.run_index.specs.Tree.{inorder}
 use Rattle.run_index.specs.Search.{nearRun}
 use Rattle.reports.specs.Reports.{Next}
-use Rattle.reports.specs.Edges.{next-here, in-run, past-run, no-run, next-held, next-free, next-none}
+use Rattle.reports.proofs.Edges.{next-here, in-run, past-run, no-run, next-held, next-free, next-none}
 use borrow.Author.Needs.{needs}
 use Rattle.reports.proofs.physical.next_physical.Statement.{statement}
 use Rattle.reports.proofs.physical.next_physical.Tie as tie

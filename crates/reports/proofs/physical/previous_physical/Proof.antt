@@ -5,7 +5,7 @@ use native.Mathlib.Omega.{arith}
 use Rattle.model.specs.Positions.{mem}
 use Rattle.run_index.specs.Tree.{inorder}
 use Rattle.run_index.specs.Search.{nearRun}
-use Rattle.reports.specs.Edges.{previous-here, in-run, past-run, no-run, previous-held, previous-unheld, previous-free, previous-none}
+use Rattle.reports.proofs.Edges.{previous-here, in-run, past-run, no-run, previous-held, previous-unheld, previous-free, previous-none}
 use borrow.Author.Needs.{needs}
 use Rattle.reports.proofs.physical.previous_physical.Statement.{statement}
 use Rattle.reports.proofs.physical.previous_physical.Tie as tie

@@ -1,7 +1,7 @@
 -- `select_physical` meets its contract: among all positions of the value, the one sought has k and those before s before it.
 -- Assumes nothing.
 use native.Mathlib.Omega.{arith}
-use Rattle.reports.specs.Ranks.{chosen-there, chosen-fits, chosen-told, number-zero, number-held, number-free, ones-fit}
+use Rattle.reports.proofs.Ranks.{chosen-there, chosen-fits, chosen-told, number-zero, number-held, number-free, ones-fit}
 use borrow.Author.Needs.{needs}
 use Rattle.reports.proofs.physical.select_physical.Statement.{statement}
 use Rattle.reports.proofs.physical.select_physical.Tie as tie

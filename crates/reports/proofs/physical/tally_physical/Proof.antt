@@ -8,7 +8,8 @@ use Rattle.model.specs.Numbers.{worth}
 use Rattle.model.specs.Positions.{oneIf}
 use Rattle.reports.specs.declared.physical.Tally.{Tally}
 use Rattle.reports.specs.Reports.{TellsTally}
-use Rattle.reports.specs.Ranks.{starts-small, starts-ordered, more-fits, tally-held, tally-free}
+use Rattle.reports.proofs.Ranks.{starts-small, starts-ordered}
+use Rattle.reports.proofs.Ranks.{more-fits, tally-held, tally-free}
 use borrow.Author.Needs.{needs}
 use Rattle.reports.proofs.physical.tally_physical.Statement.{statement}
 use Rattle.reports.proofs.physical.tally_physical.Tie as tie

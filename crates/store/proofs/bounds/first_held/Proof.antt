@@ -4,7 +4,7 @@ use mathlib.Core.Path.{sym, ap, _∙_}
 use native.Mathlib.Omega.{arith}
 use Rattle.run_index.specs.Tree.{inorder}
 use Rattle.run_index.specs.Search.{nearRun}
-use Rattle.store.specs.Nearby.{first-zero, first-after, first-wrapped, first-none}
+use Rattle.store.proofs.Nearby.{first-zero, first-after, first-wrapped, first-none}
 use borrow.Author.Needs.{needs}
 use Rattle.store.proofs.bounds.first_held.Statement.{statement}
 use Rattle.store.proofs.bounds.first_held.Tie as tie

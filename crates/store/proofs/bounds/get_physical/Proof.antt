@@ -2,7 +2,7 @@
 -- Assumes nothing.
 use mathlib.Core.Path.{sym, ap, _∙_}
 use Rattle.model.specs.Numbers.{size}
-use Rattle.model.specs.Search.{reaches, mem-last}
+use Rattle.model.proofs.Search.{reaches, mem-last}
 use Rattle.run_index.specs.Tree.{inorder}
 use Rattle.run_index.specs.Search.{nearRun}
 use borrow.Author.Needs.{needs}

@@ -4,7 +4,7 @@ use mathlib.Core.Path.{sym, ap, _∙_}
 use native.Mathlib.Omega.{arith}
 use Rattle.run_index.specs.Tree.{inorder}
 use Rattle.run_index.specs.Search.{nearRun}
-use Rattle.store.specs.Nearby.{last-top, last-before, last-wrapped, last-none}
+use Rattle.store.proofs.Nearby.{last-top, last-before, last-wrapped, last-none}
 use borrow.Author.Needs.{needs}
 use Rattle.store.proofs.bounds.last_held.Statement.{statement}
 use Rattle.store.proofs.bounds.last_held.Tie as tie

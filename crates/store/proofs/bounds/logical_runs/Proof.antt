@@ -2,7 +2,7 @@
 -- Assumes nothing.
 use mathlib.Core.Path.{sym, _∙_}
 use native.Mathlib.Omega.{arith}
-use Rattle.store.specs.Counting.{logical-zero, logical-runs}
+use Rattle.store.proofs.LogicalRuns.{logical-zero, logical-runs}
 use borrow.Author.Needs.{needs}
 use Rattle.store.proofs.bounds.logical_runs.Statement.{statement}
 use Rattle.store.proofs.bounds.logical_runs.Tie as tie

@@ -7,11 +7,17 @@ use Rattle.streams.proofs.gaps.some_gap.Tie as tie
 propose-requires : tie.Need-propose-requires
 propose-requires c κs = search needs
 
+enum-known-p : tie.Need-enum-known-p
+enum-known-p c = search needs
+
 is-gap-requires : tie.Need-is-gap-requires
 is-gap-requires c κs = search needs
 
 returns : tie.Need-returns
 returns c = c .before .is-gap .ensures .found (c .if1 .taken)
+
+enum-told : tie.Need-enum-told
+enum-told c = search needs
 
 sweep-requires : tie.Need-sweep-requires
 sweep-requires c κs = search needs
@@ -21,4 +27,12 @@ returns-2 c = search needs
 
 pub some-gap-spec : {M : Type 1} → statement M
 some-gap-spec =
-    tie.close (tie.spec propose-requires is-gap-requires returns sweep-requires returns-2)
+    tie.close
+    (tie.spec
+    propose-requires
+    enum-known-p
+    is-gap-requires
+    returns
+    enum-told
+    sweep-requires
+    returns-2)

@@ -10,7 +10,7 @@ use Rattle.model.specs.Numbers.{size}
 use Rattle.model.specs.Positions.{Positions, combined}
 use Rattle.streams.specs.Sweeping.{Both, Jointly}
 use Rattle.streams.specs.Gathering.{fedBy, joined, Ample}
-use Rattle.streams.specs.Streamed.{stream-after, stream-onward}
+use Rattle.streams.proofs.Streamed.{stream-after, stream-onward}
 use Rattle.streams.proofs.Gathered.{begun, Filling, fill-none, fill-all, fill-room, fill-few, fill-last, fill-more}
 use Rattle.streams.proofs.gather.fill.Statement.{statement}
 use Rattle.streams.proofs.gather.fill.Tie as tie

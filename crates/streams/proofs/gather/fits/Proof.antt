@@ -6,14 +6,14 @@ use borrow.Author.Needs.{needs}
 use Rattle.model.specs.Positions.{Positions}
 use Rattle.streams.specs.Sweeping.{Both, Jointly}
 use Rattle.streams.specs.Gathering.{fedBy}
-use Rattle.streams.specs.Streamed.{stream-after, stream-onward}
-use Rattle.streams.proofs.Gathered.{begun, Counted, count-none, count-all, count-over, count-last, count-more}
+use Rattle.streams.proofs.Streamed.{stream-after, stream-onward}
+use Rattle.streams.proofs.Gathered.{begun, JoinedSoFar, count-none, count-all, count-over, count-last, count-more}
 use Rattle.streams.proofs.gather.fits.Statement.{statement}
 use Rattle.streams.proofs.gather.fits.Tie as tie
 
 abbrev Inv-loop : tie.InvT-loop
 Inv-loop op x y limit xp₀ yp₀ xv yv j₀ left₀ xp yp j left =
-    (Q R : Positions) → Jointly x xp₀ xv y yp₀ yv 0 j₀ op Q R (j₀ .found) → Counted x xp xv y yp yv j op Q R limit left
+    (Q R : Positions) → Jointly x xp₀ xv y yp₀ yv 0 j₀ op Q R (j₀ .found) → JoinedSoFar x xp xv y yp yv j op Q R limit left
 
 abbrev μ-loop : tie.MeasureT-loop
 μ-loop op x y limit xp₀ yp₀ xv yv j₀ left₀ xp yp j left = left
@@ -47,7 +47,7 @@ both c = begun (start c .pre) (viewed c .before .view-of .ensures) (viewed c .vi
 
 -- what the invariant says of them
 counted : (c : tie.At-loop Inv-loop μ-loop)
-    → Counted (start (opened c) .args .x .now) (c .loop .xp) (viewed (opened c) .before .view-of .result) (start (opened c) .args .y .now)
+    → JoinedSoFar (start (opened c) .args .x .now) (c .loop .xp) (viewed (opened c) .before .view-of .result) (start (opened c) .args .y .now)
     (c .loop .yp) (viewed (opened c) .view-of2 .result) (c .loop .j) (start (opened c) .args .op)
     (fedBy (start (opened c) .args .fx) (start (opened c) .args .x .now)) (fedBy (start (opened c) .args .fy) (start (opened c) .args .y .now))
     (start (opened c) .args .limit) (c .loop .left)

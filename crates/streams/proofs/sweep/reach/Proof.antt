@@ -6,7 +6,7 @@ use borrow.Author.Needs.{needs}
 use Rattle.model.specs.Numbers.{size}
 use Rattle.model.specs.Positions.{Positions}
 use Rattle.streams.specs.Sweeping.{Both}
-use Rattle.model.specs.After.{differing, agreeing}
+use Rattle.model.proofs.After.{differing, agreeing}
 use Rattle.streams.proofs.Sweeps.{Swept, swept-start, swept-found, swept-onward, swept-small, left-moves, right-moves, swept-none, swept-on}
 use Rattle.streams.proofs.sweep.reach.Statement.{statement}
 use Rattle.streams.proofs.sweep.reach.Tie as tie

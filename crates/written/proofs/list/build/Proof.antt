@@ -1,6 +1,6 @@
 -- `build` meets its contract: the runs are in order and their ends are words, so laid into nodes that were given back they become the world's.
 -- Assumes nothing.
-use Rattle.model.specs.Codec.{AllWords}
+use Rattle.model.specs.RunList.{AllWords}
 use Rattle.written.specs.Listed.{pairs}
 use Rattle.written.proofs.Listing.{pairs-words, receive-keepable, receive-fillable, receive-linkable, received}
 use borrow.Author.Needs.{needs}

@@ -5,7 +5,7 @@ use lib.ListN.{drop}
 use native.Mathlib.Omega.{arith}
 use borrow.Author.Needs.{needs}
 use Rattle.model.specs.Bytes.{decodeRuns}
-use Rattle.model.specs.Codec.{decodeRuns-length}
+use Rattle.model.proofs.Codec.{decodeRuns-length}
 use Rattle.written.proofs.Digits.{set-read}
 use Rattle.written.proofs.Ordered.{Passed, passed-none, passed-step, passed-fail, passed-all}
 use Rattle.written.proofs.set.in_order.Statement.{statement}

@@ -2,7 +2,8 @@
 -- Assumes nothing.
 use lib.ListN.{drop}
 use Rattle.model.specs.Bytes.{decodeRuns}
-use Rattle.model.specs.Codec.{AllWords, drop-bytes, decodeRuns-words}
+use Rattle.model.specs.RunList.{AllWords}
+use Rattle.model.proofs.Codec.{drop-bytes, decodeRuns-words}
 use Rattle.model.proofs.Slices.{all-bytes}
 use Rattle.written.proofs.Listing.{receive-keepable, receive-fillable, receive-linkable, received}
 use borrow.Author.Needs.{needs}

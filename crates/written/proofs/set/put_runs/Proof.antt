@@ -6,7 +6,7 @@ use lib.ListN.{drop}
 use native.Mathlib.Omega.{arith}
 use borrow.Author.Needs.{needs}
 use Rattle.model.specs.Bytes.{decodeRuns}
-use Rattle.model.specs.Codec.{decodeRuns-length}
+use Rattle.model.proofs.Codec.{decodeRuns-length}
 use Rattle.written.proofs.Digits.{set-read}
 use Rattle.written.proofs.Listing.{Laying, laying-none, laying-long, laying-room, laying-step, laying-all}
 use Rattle.written.proofs.set.put_runs.Statement.{statement}

@@ -8,7 +8,7 @@ use lib.ListN.{length}
 use Rattle.model.specs.Numbers.{size}
 use Rattle.model.specs.Positions.{stretches}
 use Rattle.store.specs.Layout.{heldFrom, heldIn}
-use Rattle.store.specs.Turn.{held-past}
+use Rattle.store.proofs.Turn.{held-past}
 use Rattle.streams.specs.Reading.{Rooted}
 use Rattle.streams.proofs.Starts.{standing-rooted}
 use Rattle.written.proofs.Writing.{front-room, front-long, Writes, writes-none, writes-long, writes-room, writes-run, writes-more, writes-set}

@@ -1,0 +1,15 @@
+-- `view` meets its contract: the world of a sound store stands in it, so it can be read from its root.
+-- Assumes nothing.
+use Rattle.streams.proofs.Starts.{standing-rooted}
+use borrow.Author.Needs.{needs}
+use Rattle.core.proofs.join.view.Statement.{statement}
+use Rattle.core.proofs.join.view.Tie as tie
+
+open-requires : tie.Need-open-requires
+open-requires c κs = search needs
+
+returns : tie.Need-returns
+returns c = record { rooted = standing-rooted (c .«open» .ensures .limited .standing); held = c .«open» .ensures .held }
+
+pub view-spec : {M : Type 1} → statement M
+view-spec = tie.close (tie.spec open-requires returns)
