@@ -157,7 +157,8 @@ module _ {M : Type 1} (𝓤 : URA M) (H : Heap 𝓤) (A : Atoms 𝓤) (W : Given
   said r = exE 𝓤 _ (λ ws. snd∗ 𝓤 (sem 𝓤 H A (lasts at.ended (κ, tt) given-to ws)) (fact 𝓤 (Drew r)))
 
   exits : (r : Draw) → Drew r → Is E.the-row (r .next) (EL.vals E.the-type E′.the-laws (r .next))
-      → ent 𝓤 (⋆ 𝓤 H A (‵ (fobs γ (T.the-row .coded .code (h′ r))) ∷ ‵ (fbor κ′ (Body (mem T.the-row) b o γ)) ∷ ‵ (flft κ′ q′) ∷ ‵ (flft κ q) ∷ ‵ Own ∷ [])) (Post (only (EL.vals E.the-type E′.the-laws (r .next))))
+      → ent 𝓤 (⋆ 𝓤 H A (‵ (fobs γ (T.the-row .coded .code (h′ r))) ∷ ‵ (fbor κ′ (Body (mem T.the-row) b o γ)) ∷ ‵ (flft κ′ q′) ∷ ‵ (flft κ q) ∷ ‵ Own ∷ []))
+      (Post (only (EL.vals E.the-type E′.the-laws (r .next))))
   exits r e is =
       qed W (‵ (fobs γ (T.the-row .coded .code (h′ r))) ∷ ‵ (fbor κ′ (Body (mem T.the-row) b o γ)) ∷ ‵ (flft κ′ q′) ∷ ‵ (flft κ q) ∷ ‵ Own ∷ []) ∵
       suffices ! _ (ends-at 𝓤 H A f.ended stayed (lent 𝓤 draw) W (((κ, (κ′, tt)), (q, (q′, tt)), tt, a, vals), tt) _ (r .next) (tt, (h′ r, tt)) (tt, (tt, tt))) $
@@ -202,10 +203,12 @@ module _ {M : Type 1} (𝓤 : URA M) (H : Heap 𝓤) (A : Atoms 𝓤) (W : Given
         (and-then ! (load ! (from ! (stop !)) (look ! 19 refl))
         (and-then ! (load ! (from ! (stop !)) (look ! 13 refl)) (and-then ! (load ! (from ! (stop !)) (look ! 11 refl))
         (and-then ! (load ! (from ! (stop !)) (look ! 9 refl)) (no-more !))))) (λ u.
-        use1 W (later (some (λ (r : Draw). ((‵ (flft κ q) ⊛ ‵ ftrue) ⊛ ‵ (D.the-row .own r (u ∷ []))) ⊛ raw (ensured 𝓤 H A at.ended (by-parts 𝓤 draw) (κ, tt) given-to tt r)))) (id⊢ 𝓤 _) $ await ! tt $ pick ! (λ r.
+        use1 W (later (some (λ (r : Draw). ((‵ (flft κ q) ⊛ ‵ ftrue) ⊛ ‵ (D.the-row .own r (u ∷ []))) ⊛ raw (ensured 𝓤 H A at.ended (by-parts 𝓤 draw) (κ, tt) given-to tt r)))) (id⊢ 𝓤 _) $
+        await ! tt $ pick ! (λ r.
         split ! $ move ! (1 ∷ []) $ use1 W (raw (fact 𝓤 (Drew r))) (said r) $ heard ! (Drew r) (λ e. split ! $ move ! (1 ∷ []) $
         peeks ! D.the-row (Is D.the-row) (shows 𝓤 H A D.the-row) r (u ∷ []) (λ is.
-        land ! (from ! (stop !)) (init ! 16 refl (LL.lawful D.the-type D′.the-laws 𝓤 H A W .typed r _ is .0)) $ rewrite ! 16 (λ (w : Val). ‵ (fat fullShare D′.mir l₃ 0 w)) (ap only (LL.tells D.the-type D′.the-laws r (u ∷ []) is)) refl $
+        land ! (from ! (stop !)) (init ! 16 refl (LL.lawful D.the-type D′.the-laws 𝓤 H A W .typed r _ is .0)) $
+        rewrite ! 16 (λ (w : Val). ‵ (fat fullShare D′.mir l₃ 0 w)) (ap only (LL.tells D.the-type D′.the-laws r (u ∷ []) is)) refl $
         -- [what the Draw owns; the slice's token; the listing's cell; what a Listing owns; the open borrow; obs; auth; true; true; Own; _6; …; _5; …; _4; …; _3; …; _2; …; _1; …; room for _0; …]
         assigns ! (of-opd ! (load ! (from ! (fld ! refl (stop !))) (look-in ! 16 (sub ! 1 refl (whole !)))))
         (from ! (hop ! (look ! 18 refl) (fld ! refl (stop !)))) (store-in ! 2 (sub ! 0 refl (whole !)) (tt, record { fits = drawn-first r u is })) $
@@ -222,7 +225,8 @@ module _ {M : Type 1} (𝓤 : URA M) (H : Heap 𝓤) (A : Atoms 𝓤) (W : Given
 
 module _ {M : Type 1} (𝓤 : URA M) (H : Heap 𝓤) (A : Atoms 𝓤) (W : Given 𝓤 H A) (draw : Listing → Call (List ℕ)) (callee : Name) where
   draws-walk : (C : Calls 𝓤 H) (Λ : Loops 𝓤 H) → FmC 𝓤 H (W .laws) C → Triple 𝓤 (C callee) (ByParts 𝓤 draw H A) → Walks 𝓤 H A f.ended stayed (WpFn 𝓤 H C Λ (function callee)) (lent 𝓤 draw)
-  draws-walk C Λ fm known = walked 𝓤 H A f.ended stayed (lent 𝓤 draw) (WpFn 𝓤 H C Λ (function callee)) (λ κs. (slice-vals, (ptr-vals, tt))) (λ κs. (shr-slice-tells (named 0) (κs .0) u64, (mut-tells (named 1) (κs .1 .0) T.the-row, tt)))
+  draws-walk C Λ fm known = walked 𝓤 H A f.ended stayed (lent 𝓤 draw) (WpFn 𝓤 H C Λ (function callee))
+      (λ κs. (slice-vals, (ptr-vals, tt))) (λ κs. (shr-slice-tells (named 0) (κs .0) u64, (mut-tells (named 1) (κs .1 .0) T.the-row, tt)))
       (λ κs qs bounds a g are. via 𝓤 _ (fst∗ 𝓤 _ (emp 𝓤))
       (walk 𝓤 H A W draw (κs .0) (κs .1 .0) (qs .0) (qs .1 .0) (a .0) (a .1 .0 .ptr .0) (a .1 .0 .ptr .1) (a .1 .0 .name) (a .1 .0 .now) callee C Λ fm known (are .0)))
 

@@ -215,7 +215,8 @@ module _ {M : Type 1} (𝓤 : URA M) (H : Heap 𝓤) (A : Atoms 𝓤) (W : Given
   to-put ν δ ms c k = (((κ′, (ν ∷ [], tt)), (q′, (fullShare, tt)), tt, put-args δ ms c k, (v ∷ [], (w ∷ [], (vint w64 c ∷ [], (vint w64 k ∷ [], tt))))), tt)
 
   goes-put : (ν : ℕ) (δ : GName) (ms : List ℕ) (c k : ℕ) → c < 2 ^ 64 → k < 2 ^ 64 → Putting ms c ys k
-      → ent 𝓤 (sep 𝓤 (sep 𝓤 (A .lft κ′ q′) (A .lft (ν ∷ []) fullShare)) (sep 𝓤 (sem 𝓤 H A Own) (sem 𝓤 H A (MutSlice (named 1) (ν ∷ []) u64 .own (x δ ms) (w ∷ []))))) (Writing 𝓤 H A at-mem run .pre (to-put ν δ ms c k))
+      → ent 𝓤 (sep 𝓤 (sep 𝓤 (A .lft κ′ q′) (A .lft (ν ∷ []) fullShare)) (sep 𝓤 (sem 𝓤 H A Own) (sem 𝓤 H A (MutSlice (named 1) (ν ∷ []) u64 .own (x δ ms) (w ∷ [])))))
+      (Writing 𝓤 H A at-mem run .pre (to-put ν δ ms c k))
   goes-put ν δ ms c k c-fits k-fits putting =
       qed W ((‵ (flft κ′ q′) ⊛ ‵ (flft (ν ∷ []) fullShare)) ∷ ‵ Own ∷ ‵ (MutSlice (named 1) (ν ∷ []) u64 .own (x δ ms) (w ∷ [])) ∷ []) ∵ says ! putting $ split ! $
       nothing ! $ move ! (2 ∷ 0 ∷ []) $ join ! $ move ! (1 ∷ 0 ∷ []) $ join ! $ frame ! $
@@ -259,11 +260,13 @@ module _ {M : Type 1} (𝓤 : URA M) (H : Heap 𝓤) (A : Atoms 𝓤) (W : Given
         move ! (31 ∷ []) $ fsplit ! $ move ! (1 ∷ []) $ fsplit ! $ use1 W (‵ Own ⊛ ‵ Own) (shr-slice-copy 𝓤 H A W (named 1) κ′ T.the-row .twice s (v ∷ [])) $ split ! $
         use1 W (‵ Own ⊛ ‵ Own) (shr-slice-copy 𝓤 H A W (named 1) κ′ T.the-row .twice s (v ∷ [])) $ split ! $ move ! (35 ∷ []) $ split ! $ move ! (1 ∷ []) $ split ! $
         -- [the runs' token; true; the words' token; Own; Own; Own; true; Words; _14; …; _0; …]
-        keep ! (0 ∷ 3 ∷ 2 ∷ 7 ∷ 4 ∷ 5 ∷ 8 ∷ 9 ∷ 10 ∷ 11 ∷ 12 ∷ 13 ∷ 14 ∷ 15 ∷ 16 ∷ 17 ∷ 18 ∷ 19 ∷ 20 ∷ 21 ∷ 22 ∷ 23 ∷ 24 ∷ 25 ∷ 26 ∷ 27 ∷ 28 ∷ 29 ∷ 30 ∷ 31 ∷ 32 ∷ 33 ∷ 34 ∷ 35 ∷ 36 ∷ 37 ∷ []) $
+        keep ! (0 ∷ 3 ∷ 2 ∷ 7 ∷ 4 ∷ 5 ∷ 8 ∷ 9 ∷ 10 ∷ 11 ∷ 12 ∷ 13 ∷ 14 ∷ 15 ∷ 16 ∷ 17 ∷ 18 ∷ 19 ∷ 20
+        ∷ 21 ∷ 22 ∷ 23 ∷ 24 ∷ 25 ∷ 26 ∷ 27 ∷ 28 ∷ 29 ∷ 30 ∷ 31 ∷ 32 ∷ 33 ∷ 34 ∷ 35 ∷ 36 ∷ 37 ∷ []) $
         -- [the runs' token; Own; the words' token; Words; Own; Own; _14; …]
         use2 W (raw (Ordering 𝓤 H A at-mem run .pre to-order)) goes-order $
         calls-at ! fm (Ordering 𝓤 H A at-mem run) known-order to-order (and-then ! (load ! (from ! (stop !)) (look ! 29 refl)) (no-more !)) (λ u₁.
-        use1 W (later (some (λ (st : Order). ((‵ (flft κ′ q′) ⊛ ‵ ftrue) ⊛ ‵ (S.the-row .own st (u₁ ∷ []))) ⊛ raw (ensured 𝓤 H A tst.ended (tst.clauses 𝓤 H A at-mem run) (κ′, tt) (s, tt) tt st)))) (id⊢ 𝓤 _) $ await ! tt $ pick ! (λ st.
+        use1 W (later (some (λ (st : Order). ((‵ (flft κ′ q′) ⊛ ‵ ftrue) ⊛ ‵ (S.the-row .own st (u₁ ∷ []))) ⊛ raw (ensured 𝓤 H A tst.ended (tst.clauses 𝓤 H A at-mem run) (κ′, tt) (s, tt) tt st))))
+        (id⊢ 𝓤 _) $ await ! tt $ pick ! (λ st.
         split ! $ move ! (1 ∷ []) $ use1 W (raw (fact 𝓤 (InOrder ys st))) (order-said st) $ heard ! (InOrder ys st) (λ seen. split ! $ move ! (1 ∷ []) $
         peeks ! S.the-row (Is S.the-row) (shows 𝓤 H A S.the-row) st (u₁ ∷ []) (λ is₁.
         land ! (from ! (stop !)) (init ! 26 refl (LL.lawful S.the-type S′.the-laws 𝓤 H A W .typed st _ is₁ .0)) $
@@ -291,7 +294,8 @@ module _ {M : Type 1} (𝓤 : URA M) (H : Heap 𝓤) (A : Atoms 𝓤) (W : Given
         (later (some (λ (δ : GName). ‵ (MutSlice (named 0) (ν ∷ []) u64 .own (x δ outs) (w ∷ [])) ⊛ ‵ (LentAgain u64 κ (ν ∷ []) q γ b o δ outs))))
         (lends-again u64 κ (ν ∷ []) q γ b o 𝓤 H A W (named 0) (named 0) outs) $ await ! tt $ pick ! (λ δ. split ! $
         -- [the words lent again; what is kept of them; ν's token; the runs' token; true; Own; Own; _14; …]
-        move ! (2 ∷ 0 ∷ []) $ use2 W (raw (Begin 𝓤 H A at-mem run .pre (to-begin ν δ t))) (goes-begin ν δ t (subst (Is D.the-row t) (LL.tells D.the-type D′.the-laws t (u₂ ∷ []) is₂) is₂) (admitted-beginning outs seen t rules)) $
+        move ! (2 ∷ 0 ∷ []) $ use2 W (raw (Begin 𝓤 H A at-mem run .pre (to-begin ν δ t)))
+        (goes-begin ν δ t (subst (Is D.the-row t) (LL.tells D.the-type D′.the-laws t (u₂ ∷ []) is₂) is₂) (admitted-beginning outs seen t rules)) $
         calls-at ! fm (Begin 𝓤 H A at-mem run) known-begin (to-begin ν δ t) (and-then ! (load ! (from ! (stop !)) (look ! 16 refl)) (and-then ! (load ! (from ! (stop !)) (look ! 24 refl)) (no-more !))) (λ u₃.
         use1 W
         (later (some (λ (c : ℕ). ((‵ (flft (ν ∷ []) fullShare) ⊛ ‵ ftrue) ⊛ ‵ (u64 .own c (u₃ ∷ []))) ⊛ raw (ensured 𝓤 H A bgn.ended
@@ -304,7 +308,8 @@ module _ {M : Type 1} (𝓤 : URA M) (H : Heap 𝓤) (A : Atoms 𝓤) (W : Given
         move ! (1 ∷ []) $ split ! $ lft-end ! tt $ move ! (0 ∷ 5 ∷ 3 ∷ []) $
         use3 W (later (‵ (MutSlice (named 0) κ u64 .own (x γ (ms .0)) (w ∷ [])) ⊛ ‵ (flft κ q))) (comes-back u64 κ (ν ∷ []) q γ b o 𝓤 H A W (named 0) (named 0) outs δ (ms .0) room same) $ await ! tt $ split ! $
         -- [Words; their token; true; what the node owns; true; the runs' token; true; Own; Own; _14; …; _0; …]
-        keep ! (5 ∷ 6 ∷ 1 ∷ 0 ∷ 7 ∷ 8 ∷ 9 ∷ 10 ∷ 11 ∷ 12 ∷ 13 ∷ 14 ∷ 15 ∷ 16 ∷ 17 ∷ 18 ∷ 19 ∷ 20 ∷ 21 ∷ 22 ∷ 23 ∷ 24 ∷ 25 ∷ 26 ∷ 27 ∷ 28 ∷ 29 ∷ 30 ∷ 31 ∷ 32 ∷ 33 ∷ 34 ∷ 35 ∷ 36 ∷ 37 ∷ 38 ∷ []) $
+        keep ! (5 ∷ 6 ∷ 1 ∷ 0 ∷ 7 ∷ 8 ∷ 9 ∷ 10 ∷ 11 ∷ 12 ∷ 13 ∷ 14 ∷ 15 ∷ 16 ∷ 17 ∷ 18 ∷ 19 ∷ 20 ∷ 21
+        ∷ 22 ∷ 23 ∷ 24 ∷ 25 ∷ 26 ∷ 27 ∷ 28 ∷ 29 ∷ 30 ∷ 31 ∷ 32 ∷ 33 ∷ 34 ∷ 35 ∷ 36 ∷ 37 ∷ 38 ∷ []) $
         -- [the runs' token; true; the words' token; Words; Own; Own; _14; …]
         assigns ! (addr ! (from ! (fld ! refl (hop ! (look-in ! 32 (sub ! 0 refl (whole !))) (stop !))))) (from ! (stop !)) (init ! 12 refl (tt, tt)) $
         assigns ! (agg ! (and-then ! (load ! (from ! (stop !)) (look ! 12 refl)) (and-then ! (load ! (from ! (fld ! refl (stop !))) (look-in ! 32
@@ -355,7 +360,8 @@ module _ {M : Type 1} (𝓤 : URA M) (H : Heap 𝓤) (A : Atoms 𝓤) (W : Given
         use1 W
         (later (some (λ (r : Completed). ((‵ (flft κ q) ⊛ ‵ ftrue) ⊛ ‵ (E.the-row .own r (u₅ ∷ []))) ⊛ raw (ensured 𝓤 H A fin.ended
         (fin.clauses 𝓤 H A at-mem run) (κ, tt) (fin-args (zs .1 .0) c t) tt r)))) (id⊢ 𝓤 _) $ await ! tt $ pick ! (λ r.
-        split ! $ move ! (1 ∷ []) $ use1 W (some (λ (ws : List ℕ × (Unit {0} × (Unit {0} × Unit {0}))). ‵ (lasts fin.ended (κ, tt) (fin-args (zs .1 .0) c t) ws) ⊛ raw (fact 𝓤 (Finished (zs .1 .0) (ws .0) c t r)))) (id⊢ 𝓤 _) $ pick ! (λ ws.
+        split ! $ move ! (1 ∷ []) $ use1 W (some (λ (ws : List ℕ × (Unit {0} × (Unit {0} × Unit {0}))). ‵ (lasts fin.ended (κ, tt) (fin-args (zs .1 .0) c t) ws) ⊛ raw (fact 𝓤 (Finished (zs .1 .0) (ws .0) c t r))))
+        (id⊢ 𝓤 _) $ pick ! (λ ws.
         split ! $ move ! (1 ∷ []) $ heard ! (Finished (zs .1 .0) (ws .0) c t r) (λ finished. fsplit ! $ fsplit ! $ move ! (1 ∷ []) $ feqL ! (λ len′.
         move ! (2 ∷ []) $ split ! $ move ! (1 ∷ []) $ peeks ! E.the-row (Is E.the-row) (shows 𝓤 H A E.the-row) r (u₅ ∷ []) (λ is₅.
         land ! (from ! (stop !)) (init ! 39 refl (EL.lawful E.the-type E′.the-laws 𝓤 H A W tt .typed r _ is₅ .0)) $
@@ -384,7 +390,8 @@ from-sorted-runs-meets : {M : Type 1} (𝓤 : URA M) (H : Heap 𝓤) (A : Atoms 
     → Meets 𝓤 H A f.signature (WpFn 𝓤 H (𝓣 .C) (𝓣 .Λ) code.function) (f.spec 𝓤 H A mem run)
 from-sorted-runs-meets 𝓤 H A W mem run 𝓣 known-order known-admit known-begin known-put known-finish =
     walk-meets 𝓤 H A f.ended stayed W (goes-gave-slice 𝓤 H A W 2 0 tt (plain (λ _. u64)), (goes-none-slice 𝓤 H A W 2 (1 ∷ []) tt (plain (λ _. T.the-row)) yes, tt)) (f.clauses 𝓤 H A mem run)
-    (WpFn 𝓤 H (𝓣 .C) (𝓣 .Λ) code.function) (WpFn-mono 𝓤 H (W .laws) 𝓣 code.function) (from-sorted-runs-walks 𝓤 H A W mem run (𝓣 .C) (𝓣 .Λ) (fmOf 𝓤 H (W .laws) 𝓣) known-order known-admit known-begin known-put known-finish)
+    (WpFn 𝓤 H (𝓣 .C) (𝓣 .Λ) code.function) (WpFn-mono 𝓤 H (W .laws) 𝓣 code.function)
+    (from-sorted-runs-walks 𝓤 H A W mem run (𝓣 .C) (𝓣 .Λ) (fmOf 𝓤 H (W .laws) 𝓣) known-order known-admit known-begin known-put known-finish)
 
 pub from-sorted-runs-spec : {M : Type 1} → stated.statement M
 unfolding code.routine tablesOf

@@ -199,7 +199,8 @@ module _ {M : Type 1} (𝓤 : URA M) (H : Heap 𝓤) (A : Atoms 𝓤) (W : Given
           assigns ! (bin ! (load ! (from ! (stop !)) (look ! 8 refl)) (load ! (from ! (stop !)) (look ! 4 refl)) tt) (from ! (stop !)) (init ! 2 refl (tt, tt)) $
           rewrite ! 2 (λ (t : Bool). ‵ (fat fullShare tyBool l₆ 0 (vbool t))) (lt-ltb (x .0) n less) refl $ stays ! (load ! (from ! (stop !)) (look ! 2 refl)) $
           -- one copy of what the slice owns goes to `run_of`, with the token
-          move ! (1 ∷ []) $ use1 W (‵ Own ⊛ ‵ Own) (shr-slice-copy 𝓤 H A W (named 0) κ T.the-row .twice s (v ∷ [])) $ split ! $ move ! (2 ∷ 0 ∷ []) $ use2 W (raw (RunOf 𝓤 H A at-mem run .pre (to-run (x .0)))) (goes-run (x .0) less) $
+          move ! (1 ∷ []) $ use1 W (‵ Own ⊛ ‵ Own) (shr-slice-copy 𝓤 H A W (named 0) κ T.the-row .twice s (v ∷ [])) $
+          split ! $ move ! (2 ∷ 0 ∷ []) $ use2 W (raw (RunOf 𝓤 H A at-mem run .pre (to-run (x .0)))) (goes-run (x .0) less) $
           calls-at ! fm (RunOf 𝓤 H A at-mem run) known-run (to-run (x .0)) (and-then ! (load ! (from ! (stop !)) (look ! 12 refl)) (and-then ! (load ! (from ! (stop !)) (look ! 8 refl)) (no-more !))) (λ u.
           use1 W
           (later (some (λ (r : Run). ((‵ (flft κ q) ⊛ ‵ ftrue) ⊛ ‵ (T.the-row .own r (u ∷ []))) ⊛ raw (ensured 𝓤 H A run-of.ended
@@ -214,14 +215,16 @@ module _ {M : Type 1} (𝓤 : URA M) (H : Heap 𝓤) (A : Atoms 𝓤) (W : Given
           calls-at ! fm (Step 𝓤 H A at-mem run) known-step (to-step (x .1) r)
           (and-then ! (load ! (from ! (stop !)) (look ! 11 refl)) (and-then ! (load ! (from ! (fld ! refl (stop !))) (look-in ! 7 (sub ! 0 refl
           (whole !)))) (and-then ! (load ! (from ! (fld ! refl (stop !))) (look-in ! 7 (sub ! 1 refl (whole !)))) (no-more !)))) (λ u′.
-          use1 W (later (some (λ (t : Order). (‵ ftrue ⊛ ‵ (S.the-row .own t (u′ ∷ []))) ⊛ raw (ensured 𝓤 H A step.ended (step.clauses 𝓤 H A at-mem run) tt (x .1, (r .start, (r .«end», tt))) tt t)))) (id⊢ 𝓤 _) $ await ! tt $ pick ! (λ t.
+          use1 W (later (some (λ (t : Order). (‵ ftrue ⊛ ‵ (S.the-row .own t (u′ ∷ []))) ⊛ raw (ensured 𝓤 H A step.ended (step.clauses 𝓤 H A at-mem run) tt (x .1, (r .start, (r .«end», tt))) tt t)))) (id⊢ 𝓤 _) $
+          await ! tt $ pick ! (λ t.
           split ! $ move ! (1 ∷ []) $ use1 W (raw (fact 𝓤 (t ≡ orderStep (x .1) (r .start) (r .«end»)))) (step-said (x .1) r t) $ heard ! (t ≡ orderStep (x .1) (r .start) (r .«end»)) (λ e′. split ! $ drop ! $
           peeks ! S.the-row (Is S.the-row) (shows 𝓤 H A S.the-row) t (u′ ∷ []) (λ is′.
           land ! (from ! (stop !)) (store ! 11 refl (LL.lawful S.the-type S′.the-laws 𝓤 H A W .typed t _ is′ .0)) $
           rewrite ! 11 (λ (w : Val). ‵ (fat fullShare S′.mir l₂ 0 w)) (ap only (LL.tells S.the-type S′.the-laws t (u′ ∷ []) is′)) refl $ drop ! $
           assigns-last ! (bin ! (load ! (from ! (stop !)) (look ! 8 refl)) (lit ! tt) (record { fits = next-fits })) (from ! (stop !)) (store ! 8 refl (tt, record { fits = next-fits })) $
           split ! $ move ! (1 ∷ []) $ drop ! $ forget ! 2 refl $ forget ! 4 refl $ forget ! 6 refl $
-          again ! Nearer At x (x .0 + 1, t, add-one-le less, subst (Is S.the-row t) (LL.tells S.the-type S′.the-laws t (u′ ∷ []) is′) is′, seen-step ys less e (start-fits r u is) (end-fits r u is) e′ (x .4)) (falls n (x .0) less)))))))))
+          again ! Nearer At x (x .0 + 1, t, add-one-le less, subst (Is S.the-row t) (LL.tells S.the-type S′.the-laws t (u′ ∷ []) is′) is′, seen-step ys less e (start-fits r u is) (end-fits r u is) e′ (x .4))
+          (falls n (x .0) less)))))))))
         where
           next-fits : x .0 + 1 < 2 ^ 64
           next-fits = omega (arith, less, n-fits)
@@ -263,7 +266,8 @@ module _ {M : Type 1} (𝓤 : URA M) (H : Heap 𝓤) (A : Atoms 𝓤) (W : Given
 module _ {M : Type 1} (𝓤 : URA M) (H : Heap 𝓤) (A : Atoms 𝓤) (W : Given 𝓤 H A) (mem : Memory → SProp 𝓤) (run : Routine → Fun 𝓤) where
   in-order-walks : (𝓣 : Tables 𝓤 H) → FmC 𝓤 H (W .laws) (𝓣 .C) → Triple 𝓤 (𝓣 .C #run-of) (RunOf 𝓤 H A mem run) → Triple 𝓤 (𝓣 .C #order-step) (Step 𝓤 H A mem run)
       → Walks 𝓤 H A f.ended stayed (WpFn 𝓤 H (𝓣 .C) (𝓣 .Λ) code.function) (f.clauses 𝓤 H A mem run)
-  in-order-walks 𝓣 fm known-run known-step = walked 𝓤 H A f.ended stayed (f.clauses 𝓤 H A mem run) (WpFn 𝓤 H (𝓣 .C) (𝓣 .Λ) code.function) (λ κs. (slice-vals, tt)) (λ κs. (shr-slice-tells (named 0) (κs .0) T.the-row, tt))
+  in-order-walks 𝓣 fm known-run known-step = walked 𝓤 H A f.ended stayed (f.clauses 𝓤 H A mem run)
+      (WpFn 𝓤 H (𝓣 .C) (𝓣 .Λ) code.function) (λ κs. (slice-vals, tt)) (λ κs. (shr-slice-tells (named 0) (κs .0) T.the-row, tt))
       (λ κs qs bounds a g are. via 𝓤 _ (fst∗ 𝓤 _ (emp 𝓤)) (walk 𝓤 H A W mem run (κs .0) (qs .0) (a .0) (are .0) 𝓣 fm known-run known-step))
 
 in-order-meets : {M : Type 1} (𝓤 : URA M) (H : Heap 𝓤) (A : Atoms 𝓤) (W : Given 𝓤 H A) (mem : Memory → SProp 𝓤) (run : Routine → Fun 𝓤) (𝓣 : Tables 𝓤 H)

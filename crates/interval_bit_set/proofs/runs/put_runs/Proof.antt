@@ -144,7 +144,8 @@ module _ {M : Type 1} (𝓤 : URA M) (H : Heap 𝓤) (A : Atoms 𝓤) (W : Given
 
   exits : (zs : List ℕ) → Put outs zs head ys k → length zs ≡ m → ent 𝓤 (⋆ 𝓤 H A (‵ (flft κ q) ∷ ‵ Own ∷ ‵ (flft κ′ q′) ∷ ‵ (Out zs) ∷ [])) (Post vunit)
   exits zs e len =
-      qed W (‵ (flft κ q) ∷ ‵ Own ∷ ‵ (flft κ′ q′) ∷ ‵ (Out zs) ∷ []) ∵ suffices ! _ (ends-at 𝓤 H A f.ended stayed (f.clauses 𝓤 H A at-mem run) W bound vunit tt (tt, (zs, (tt, (tt, tt)))) (tt, (len, (tt, (tt, tt))))) $ says ! e $
+      qed W (‵ (flft κ q) ∷ ‵ Own ∷ ‵ (flft κ′ q′) ∷ ‵ (Out zs) ∷ [])
+      ∵ suffices ! _ (ends-at 𝓤 H A f.ended stayed (f.clauses 𝓤 H A at-mem run) W bound vunit tt (tt, (zs, (tt, (tt, tt)))) (tt, (len, (tt, (tt, tt))))) $ says ! e $
       nothing ! $ move ! (3 ∷ 0 ∷ []) $ join ! $ move ! (1 ∷ 0 ∷ []) $ join ! $ frame ! $ nothing ! $
       owned ! usize (Is usize) (uint-makes 𝓤 H A W w64) k _ (refl, k-fits) $ fjoin ! $ owned ! u64 (Is u64) (uint-makes 𝓤 H A W w64) head _ (
         refl,
@@ -214,8 +215,10 @@ module _ {M : Type 1} (𝓤 : URA M) (H : Heap 𝓤) (A : Atoms 𝓤) (W : Given
       abbrev At : Upto → List (Item 𝓤)
       At y = ‵ (flft κ q) ∷ ‵ Own ∷ ‵ (flft κ′ q′) ∷ ‵ (Out (y .1)) ∷ ‵ (froom (sliceTy ref) l₁₀ 0) ∷ ‵ (fdies (sliceTy ref) l₁₀) ∷ ‵ (froom ref l₉ 0) ∷ ‵ (fdies ref l₉)
           ∷ ‵ (froom tyBool l₈ 0) ∷ ‵ (fdies tyBool l₈) ∷ ‵ (froom T′.mir l₇ 0) ∷ ‵ (fdies T′.mir l₇)
-          ∷ ‵ (fat fullShare word l₆ 0 (vint w64 (y .4))) ∷ ‵ (fdies word l₆) ∷ ‵ (fat fullShare word l₅ 0 (vint w64 (y .0))) ∷ ‵ (fdies word l₅) ∷ ‵ (fat fullShare word l₄ 0 (vint w64 k)) ∷ ‵ (fdies word l₄)
-          ∷ ‵ (fat fullShare word l₃ 0 (vint w64 head)) ∷ ‵ (fdies word l₃) ∷ ‵ (fat fullShare numbers l₂ 0 w) ∷ ‵ (fdies numbers l₂) ∷ ‵ (fat fullShare slice l₁ 0 v) ∷ ‵ (fdies slice l₁) ∷ ‵ (froom tyUnit l₀ 0) ∷ ‵ (fdies tyUnit l₀) ∷ []
+          ∷ ‵ (fat fullShare word l₆ 0 (vint w64 (y .4))) ∷ ‵ (fdies word l₆) ∷ ‵ (fat fullShare word l₅ 0 (vint w64 (y .0)))
+          ∷ ‵ (fdies word l₅) ∷ ‵ (fat fullShare word l₄ 0 (vint w64 k)) ∷ ‵ (fdies word l₄)
+          ∷ ‵ (fat fullShare word l₃ 0 (vint w64 head)) ∷ ‵ (fdies word l₃) ∷ ‵ (fat fullShare numbers l₂ 0 w) ∷ ‵ (fdies numbers l₂)
+          ∷ ‵ (fat fullShare slice l₁ 0 v) ∷ ‵ (fdies slice l₁) ∷ ‵ (froom tyUnit l₀ 0) ∷ ‵ (fdies tyUnit l₀) ∷ []
 
       abbrev Turned : Upto → Outcome → SProp 𝓤
       Turned y = afterTurn 𝓤 H (Below 𝓤 H A Nearer At y) (afterBlock 𝓤 H (afterSeq 𝓤 H (Wp 𝓤 H C Λ En mir.t-4 (atReturn 𝓤 H En Post)) (atReturn 𝓤 H En Post)))
@@ -227,7 +230,8 @@ module _ {M : Type 1} (𝓤 : URA M) (H : Heap 𝓤) (A : Atoms 𝓤) (W : Given
           assigns ! (bin ! (load ! (from ! (stop !)) (look ! 14 refl)) (load ! (from ! (stop !)) (look ! 16 refl)) tt) (from ! (stop !)) (init ! 8 refl (tt, tt)) $
           rewrite ! 8 (λ (t : Bool). ‵ (fat fullShare tyBool l₈ 0 (vbool t))) (lt-ltb (y .0) k less) refl $ stays ! (load ! (from ! (stop !)) (look ! 8 refl)) $
           -- one copy of what the runs own goes to `run_of`, with the token
-          move ! (1 ∷ []) $ use1 W (‵ Own ⊛ ‵ Own) (shr-slice-copy 𝓤 H A W (named 0) κ T.the-row .twice s (v ∷ [])) $ split ! $ move ! (2 ∷ 0 ∷ []) $ use2 W (raw (RunOf 𝓤 H A at-mem run .pre (to-run (y .0)))) (goes-run (y .0) less) $
+          move ! (1 ∷ []) $ use1 W (‵ Own ⊛ ‵ Own) (shr-slice-copy 𝓤 H A W (named 0) κ T.the-row .twice s (v ∷ [])) $
+          split ! $ move ! (2 ∷ 0 ∷ []) $ use2 W (raw (RunOf 𝓤 H A at-mem run .pre (to-run (y .0)))) (goes-run (y .0) less) $
           calls-at ! fm (RunOf 𝓤 H A at-mem run) known-run (to-run (y .0)) (and-then ! (load ! (from ! (stop !)) (look ! 22 refl)) (and-then ! (load ! (from ! (stop !)) (look ! 14 refl)) (no-more !))) (λ u.
           use1 W
           (later (some (λ (r : Run). ((‵ (flft κ q) ⊛ ‵ ftrue) ⊛ ‵ (T.the-row .own r (u ∷ []))) ⊛ raw (ensured 𝓤 H A run-of.ended
@@ -307,14 +311,16 @@ module _ {M : Type 1} (𝓤 : URA M) (H : Heap 𝓤) (A : Atoms 𝓤) (W : Given
         qed W
         ((‵ (flft κ q) ⊛ ‵ (flft κ′ q′) ⊛ ‵ ftrue) ∷ ‵ (owns (ShrSlice (named 0) κ T.the-row ∷ MutSlice
         (named 1) κ′ u64 ∷ u64 ∷ usize ∷ []) a vals) ∷ []) ∵ enter ! (𝓣 .C) (𝓣 .Λ) code.function (v ∷ w ∷ vint w64 head ∷ vint w64 k ∷ []) _ $
-        alloc1 ! (λ l₀. alloc1 ! (λ l₁. alloc1 ! (λ l₂. alloc1 ! (λ l₃. alloc1 ! (λ l₄. alloc1 ! (λ l₅. alloc1 ! (λ l₆. alloc1 ! (λ l₇. alloc1 ! (λ l₈. alloc1 ! (λ l₉. alloc1 ! (λ l₁₀. alloc0 ! $ params1 ! $
+        alloc1 ! (λ l₀. alloc1 ! (λ l₁. alloc1 ! (λ l₂. alloc1 ! (λ l₃. alloc1 ! (λ l₄. alloc1 ! (λ l₅.
+        alloc1 ! (λ l₆. alloc1 ! (λ l₇. alloc1 ! (λ l₈. alloc1 ! (λ l₉. alloc1 ! (λ l₁₀. alloc0 ! $ params1 ! $
         pass1 ! (init ! 18 refl (shr-slice-lawful 𝓤 H A W (named 0) κ T.the-row .typed s (v ∷ []) p .0)) $ pass1 ! (init ! 16 refl (tt, (tt, (record { fits = room .0 }, tt)))) $
         pass1 ! (init ! 14 refl (tt, record { fits = head-fits })) $ pass1 ! (init ! 12 refl (tt, record { fits = k-fits })) $ pass0 ! $
         assigns ! (of-opd ! (lit ! tt)) (from ! (stop !)) (init ! 10 refl (tt, record { fits = lit< tt })) $
         assigns ! (of-opd ! (load ! (from ! (stop !)) (look ! 14 refl))) (from ! (stop !)) (init ! 8 refl (tt, record { fits = head-fits })) $
         move ! (23 ∷ []) $ fsplit ! $ move ! (1 ∷ []) $ fsplit ! $ move ! (25 ∷ []) $ split ! $ move ! (1 ∷ []) $ split ! $
         -- [the numbers' token; true; the runs' token; Out; true; Own; _10; …]
-        keep ! (2 ∷ 5 ∷ 0 ∷ 3 ∷ 6 ∷ 7 ∷ 8 ∷ 9 ∷ 10 ∷ 11 ∷ 12 ∷ 13 ∷ 14 ∷ 15 ∷ 16 ∷ 17 ∷ 18 ∷ 19 ∷ 20 ∷ 21 ∷ 22 ∷ 23 ∷ 24 ∷ 25 ∷ 26 ∷ 27 ∷ []) $ looped l₀ l₁ l₂ l₃ l₄ l₅ l₆ l₇ l₈ l₉ l₁₀)))))))))))
+        keep ! (2 ∷ 5 ∷ 0 ∷ 3 ∷ 6 ∷ 7 ∷ 8 ∷ 9 ∷ 10 ∷ 11 ∷ 12 ∷ 13 ∷ 14 ∷ 15 ∷ 16 ∷ 17 ∷ 18 ∷ 19 ∷ 20 ∷ 21 ∷ 22 ∷ 23 ∷ 24 ∷ 25 ∷ 26 ∷ 27 ∷ []) $
+        looped l₀ l₁ l₂ l₃ l₄ l₅ l₆ l₇ l₈ l₉ l₁₀)))))))))))
 
 module _ {M : Type 1} (𝓤 : URA M) (H : Heap 𝓤) (A : Atoms 𝓤) (W : Given 𝓤 H A) (mem : Memory → SProp 𝓤) (run : Routine → Fun 𝓤) where
   put-runs-walks : (𝓣 : Tables 𝓤 H) → FmC 𝓤 H (W .laws) (𝓣 .C) → Triple 𝓤 (𝓣 .C #run-of) (RunOf 𝓤 H A mem run) → Triple 𝓤 (𝓣 .C #lay-next) (LayNext 𝓤 H A mem run)

@@ -117,7 +117,8 @@ module _ {M : Type 1} (𝓤 : URA M) (H : Heap 𝓤) (A : Atoms 𝓤) (W : Given
   abbrev to-write : ℕ → GName → Write 𝓤 H A mem run .Ghost
   to-write ν δ = (((κ, (ν ∷ [], tt)), (q, (fullShare, tt)), tt, args δ, vals), tt)
 
-  goes-write : (ν : ℕ) (δ : GName) → ent 𝓤 (sep 𝓤 (sep 𝓤 (A .lft κ q) (A .lft (ν ∷ []) fullShare)) (sep 𝓤 (sem 𝓤 H A Own) (sem 𝓤 H A (MutSlice (named 1) (ν ∷ []) u8 .own (x δ ys) (s ∷ []))))) (Write 𝓤 H A mem run .pre (to-write ν δ))
+  goes-write : (ν : ℕ) (δ : GName)
+      → ent 𝓤 (sep 𝓤 (sep 𝓤 (A .lft κ q) (A .lft (ν ∷ []) fullShare)) (sep 𝓤 (sem 𝓤 H A Own) (sem 𝓤 H A (MutSlice (named 1) (ν ∷ []) u8 .own (x δ ys) (s ∷ []))))) (Write 𝓤 H A mem run .pre (to-write ν δ))
   goes-write ν δ =
       qed W ((‵ (flft κ q) ⊛ ‵ (flft (ν ∷ []) fullShare)) ∷ ‵ Own ∷ ‵ (MutSlice (named 1) (ν ∷ []) u8 .own (x δ ys) (s ∷ [])) ∷ []) ∵ split ! $
       nothing ! $ move ! (2 ∷ 0 ∷ []) $ join ! $ move ! (1 ∷ 0 ∷ []) $ join ! $ nothing ! $ move ! (3 ∷ 0 ∷ []) $ fjoin ! $
@@ -141,7 +142,8 @@ module _ {M : Type 1} (𝓤 : URA M) (H : Heap 𝓤) (A : Atoms 𝓤) (W : Given
       (known-flat : Triple 𝓤 (C flat-def.name) (Flattened 𝓤 H A)) (known-front : Triple 𝓤 (C front-def.name) (Front 𝓤 H A)) where
     walk : Is (ShrSlice (named 0) κ u64) w (v ∷ []) → ent 𝓤 (onEntry 𝓤 H A f.signature (κ, (κ′, tt)) (q, (q′, tt)) a vals) (WpFn 𝓤 H C Λ code.function (v ∷ vint w64 base ∷ vint w64 n ∷ s ∷ []) Post)
     walk p =
-        qed W ((‵ (flft κ q) ⊛ ‵ (flft κ′ q′) ⊛ ‵ ftrue) ∷ ‵ (owns (ShrSlice (named 0) κ u64 ∷ u64 ∷ u64 ∷ MutSlice (named 1) κ′ u8 ∷ []) a vals) ∷ []) ∵ enter ! C Λ code.function (v ∷ vint w64 base ∷ vint w64 n ∷ s ∷ []) _ $
+        qed W ((‵ (flft κ q) ⊛ ‵ (flft κ′ q′) ⊛ ‵ ftrue) ∷ ‵ (owns (ShrSlice (named 0) κ u64 ∷ u64 ∷ u64 ∷ MutSlice (named 1) κ′ u8 ∷ []) a vals) ∷ [])
+        ∵ enter ! C Λ code.function (v ∷ vint w64 base ∷ vint w64 n ∷ s ∷ []) _ $
         alloc1 ! (λ l₀. alloc1 ! (λ l₁. alloc1 ! (λ l₂. alloc1 ! (λ l₃. alloc1 ! (λ l₄. alloc1 ! (λ l₅. alloc1 ! (λ l₆. alloc1 ! (λ l₇.
         alloc1 ! (λ l₈. alloc1 ! (λ l₉. alloc1 ! (λ l₁₀. alloc1 ! (λ l₁₁. alloc1 ! (λ l₁₂. alloc0 ! $ params1 ! $
         pass1 ! (init ! 22 refl (shr-slice-lawful 𝓤 H A W (named 0) κ u64 .typed w (v ∷ []) p .0)) $
@@ -168,19 +170,22 @@ module _ {M : Type 1} (𝓤 : URA M) (H : Heap 𝓤) (A : Atoms 𝓤) (W : Given
         use1 W
         (some (λ (zs : Unit {0} × (Unit {0} × (Unit {0} × (List ℕ × Unit {0})))). ‵ (lasts write.ended (κ, (ν ∷ [], tt)) (args δ) zs) ⊛ raw (fact 𝓤
         (WritesOut (Call.writeMap base n) (w .now) ys r (zs .1 .1 .1 .0))))) (id⊢ 𝓤 _) $ pick ! (λ zs.
-        split ! $ move ! (1 ∷ []) $ heard ! (WritesOut (Call.writeMap base n) (w .now) ys r (zs .1 .1 .1 .0)) (λ e. fsplit ! $ drop ! $ fsplit ! $ drop ! $ fsplit ! $ move ! (1 ∷ []) $ fsplit ! $ fsplit ! $ move ! (1 ∷ []) $ feqL ! (λ len.
+        split ! $ move ! (1 ∷ []) $ heard ! (WritesOut (Call.writeMap base n) (w .now) ys r (zs .1 .1 .1 .0)) (λ e. fsplit ! $
+        drop ! $ fsplit ! $ drop ! $ fsplit ! $ move ! (1 ∷ []) $ fsplit ! $ fsplit ! $ move ! (1 ∷ []) $ feqL ! (λ len.
         move ! (3 ∷ []) $ split ! $ move ! (1 ∷ []) $ peeks ! A′.the-row (Is A′.the-row) (shows 𝓤 H A A′.the-row) r (u ∷ []) (λ is.
         land ! (from ! (stop !)) (init ! 23 refl (EL.lawful A′.the-type A″.the-laws 𝓤 H A W tt .typed r (u ∷ []) is .0)) $
         -- the lifetime is ended, and the slice comes back at that list
         move ! (1 ∷ []) $ split ! $ move ! (1 ∷ []) $ split ! $ lft-end ! tt $ move ! (0 ∷ 7 ∷ 4 ∷ []) $
-        use3 W (later (‵ (MutSlice (named 1) κ′ u8 .own (x γ (zs .1 .1 .1 .0)) (s ∷ [])) ⊛ ‵ (flft κ′ q′))) (comes-back u8 κ′ (ν ∷ []) q′ γ b o 𝓤 H A W (named 1) (named 1) ys δ (zs .1 .1 .1 .0) room len) $ await ! tt $ split ! $
+        use3 W (later (‵ (MutSlice (named 1) κ′ u8 .own (x γ (zs .1 .1 .1 .0)) (s ∷ [])) ⊛ ‵ (flft κ′ q′))) (comes-back u8 κ′ (ν ∷ []) q′ γ b o 𝓤 H A W (named 1) (named 1) ys δ (zs .1 .1 .1 .0) room len) $
+        await ! tt $ split ! $
         -- [the slice; its token; true; the words' token; the answer; true; true; true; true; Own; _12; …]
         move ! (4 ∷ []) $ use1 W (raw (Flattened 𝓤 H A .pre (to-flat 𝓤 H A W r u))) (goes-flat 𝓤 H A W r u) $
         calls-at ! fm (Flattened 𝓤 H A) known-flat (to-flat 𝓤 H A W r u) (and-then ! (load ! (from ! (stop !)) (look ! 24 refl)) (no-more !)) (λ u₁.
         use1 W (later (some (λ (k : Flat). (‵ ftrue ⊛ ‵ (F.the-row .own k (u₁ ∷ []))) ⊛ raw (flattened 𝓤 H A W r k)))) (id⊢ 𝓤 _) $ await ! tt $ pick ! (λ k.
         split ! $ move ! (1 ∷ []) $ use1 W (raw (fact 𝓤 (k ≡ flatOf r))) (flat-said 𝓤 H A W r k) $ heard ! (k ≡ flatOf r) (λ e₁. split ! $ move ! (1 ∷ []) $
         peeks ! F.the-row (Is F.the-row) (shows 𝓤 H A F.the-row) k (u₁ ∷ []) (λ is₁.
-        land ! (from ! (stop !)) (init ! 23 refl (LL.lawful F.the-type F′.the-laws 𝓤 H A W .typed k _ is₁ .0)) $ rewrite ! 23 (λ (z : Val). ‵ (fat fullShare F′.mir l₆ 0 z)) (ap only (LL.tells F.the-type F′.the-laws k (u₁ ∷ []) is₁)) refl $
+        land ! (from ! (stop !)) (init ! 23 refl (LL.lawful F.the-type F′.the-laws 𝓤 H A W .typed k _ is₁ .0)) $
+        rewrite ! 23 (λ (z : Val). ‵ (fat fullShare F′.mir l₆ 0 z)) (ap only (LL.tells F.the-type F′.the-laws k (u₁ ∷ []) is₁)) refl $
         -- [the number and the count; true; the slice; its token; true; the words' token; true; true; true; true; Own; _12; …]
         assigns ! (of-opd ! (load ! (from ! (fld ! refl (stop !))) (look-in ! 23 (sub ! 1 refl (whole !))))) (from ! (stop !)) (init ! 21 refl (tt, record { fits = bytes-fit k u₁ is₁ })) $
         assigns ! (addr ! (from ! (fld ! refl (hop ! (look-in ! 27 (sub ! 0 refl (whole !))) (stop !))))) (from ! (stop !)) (init ! 13 refl (tt, tt)) $
@@ -192,7 +197,8 @@ module _ {M : Type 1} (𝓤 : URA M) (H : Heap 𝓤) (A : Atoms 𝓤) (W : Given
         (bytes-fit k u₁ is₁)) $
         calls-at ! fm (Front 𝓤 H A) known-front (to-front 𝓤 H A W κ′ q′ b o γ (zs .1 .1 .1 .0) (length ys) k)
         (and-then ! (load ! (from ! (stop !)) (look ! 10 refl)) (and-then ! (load ! (from ! (stop !)) (look ! 20 refl)) (no-more !))) (λ u₂.
-        use1 W (later (some (λ (t : RefT (List ℕ)). ((‵ (flft κ′ q′) ⊛ ‵ ftrue) ⊛ ‵ (MutSlice (named 0) κ′ u8 .own t (u₂ ∷ []))) ⊛ raw (fronted 𝓤 H A W κ′ q′ b o γ (zs .1 .1 .1 .0) (length ys) k t)))) (id⊢ 𝓤 _) $ await ! tt $ pick ! (λ t.
+        use1 W (later (some (λ (t : RefT (List ℕ)). ((‵ (flft κ′ q′) ⊛ ‵ ftrue) ⊛ ‵ (MutSlice (named 0) κ′ u8 .own t (u₂ ∷ []))) ⊛ raw (fronted 𝓤 H A W κ′ q′ b o γ (zs .1 .1 .1 .0) (length ys) k t))))
+        (id⊢ 𝓤 _) $ await ! tt $ pick ! (λ t.
         split ! $ move ! (1 ∷ []) $
         use1 W (raw (fact 𝓤 (Fronts 𝓤 H A W κ′ q′ b o γ (zs .1 .1 .1 .0) (length ys) k t)))
         (front-said 𝓤 H A W κ′ q′ b o γ (zs .1 .1 .1 .0) (length ys) k t) $
@@ -211,10 +217,12 @@ module _ {M : Type 1} (𝓤 : URA M) (H : Heap 𝓤) (A : Atoms 𝓤) (W : Given
         move ! (27 ∷ 28 ∷ []) $ free1 ! $ move ! (25 ∷ 26 ∷ []) $ free1 ! $ move ! (23 ∷ 24 ∷ []) $ free1 ! $ move ! (21 ∷ 22 ∷ []) $ free1 ! $
         move ! (19 ∷ 20 ∷ []) $ free1 ! $ move ! (17 ∷ 18 ∷ []) $ free1 ! $ move ! (15 ∷ 16 ∷ []) $ free1 ! $ move ! (13 ∷ 14 ∷ []) $ free1 ! $
         move ! (11 ∷ 12 ∷ []) $ free1 ! $ free0 ! $
-        keep ! (1 ∷ 5 ∷ 0 ∷ 10 ∷ []) $ by ! (exits (k .refusal) t (refusal-fits k u₁ is₁) (told 𝓤 H A W κ′ q′ b o γ (zs .1 .1 .1 .0) (length ys) k t (put-flat (write-map-puts (w .now) ys base n) r e e₁) e₂)))))))))))))))))))))))))))))))
+        keep ! (1 ∷ 5 ∷ 0 ∷ 10 ∷ []) $
+        by ! (exits (k .refusal) t (refusal-fits k u₁ is₁) (told 𝓤 H A W κ′ q′ b o γ (zs .1 .1 .1 .0) (length ys) k t (put-flat (write-map-puts (w .now) ys base n) r e e₁) e₂)))))))))))))))))))))))))))))))
 
 module _ {M : Type 1} (𝓤 : URA M) (H : Heap 𝓤) (A : Atoms 𝓤) (W : Given 𝓤 H A) (mem : Memory → SProp 𝓤) (run : Routine → Fun 𝓤) where
-  walks : (C : Calls 𝓤 H) (Λ : Loops 𝓤 H) → FmC 𝓤 H (W .laws) C → Triple 𝓤 (C write-def.name) (Write 𝓤 H A mem run) → Triple 𝓤 (C flat-def.name) (Flattened 𝓤 H A) → Triple 𝓤 (C front-def.name) (Front 𝓤 H A)
+  walks : (C : Calls 𝓤 H) (Λ : Loops 𝓤 H) → FmC 𝓤 H (W .laws) C → Triple 𝓤 (C write-def.name) (Write 𝓤 H A mem run)
+      → Triple 𝓤 (C flat-def.name) (Flattened 𝓤 H A) → Triple 𝓤 (C front-def.name) (Front 𝓤 H A)
       → Walks 𝓤 H A f.ended stayed (WpFn 𝓤 H C Λ code.function) (f.clauses 𝓤 H A mem run)
   walks C Λ fm known-write known-flat known-front = walked 𝓤 H A f.ended stayed (f.clauses 𝓤 H A mem run) (WpFn 𝓤 H C Λ code.function)
       (λ κs. (slice-vals, (uint-vals w64, (uint-vals w64, (slice-vals, tt)))))
