@@ -1,4 +1,4 @@
-# make run                a small match: the library, IntervalBitSet and a late player deal the same slots, frame by frame
+# make run                a small match in four arenas: the library, IntervalBitSet and a late player deal the same slots, frame by frame
 # make test               every test; the last line is 'N passed, M failed'
 # make lib                prove the library and write target/lib/libvizturel.a and target/include/vizturel.h
 # make prove              prove every crate that has changed, and run every program

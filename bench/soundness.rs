@@ -2,8 +2,8 @@
 // up the starts, in plain Rust and bare of bounds tests; and a plain sum of all words. `make bench-soundness` builds and runs it;
 // docs/BENCHMARKS.md tells what it gave.
 //
-// At each capacity, stores are grown by random short sets until 0.9 C runs are there. A repetition times the four, in turn and in
-// changing order, on one store; a figure is the median over all repetitions, a ratio that of two medians. Each store must be judged
+// At each capacity, pools of one world are grown by random short sets until 0.9 C runs are there. A repetition times the four, in turn and in
+// changing order, on one pool; a figure is the median over all repetitions, a ratio that of two medians. Each pool must be judged
 // sound, and damaged copies, one word changed, must not.
 use std::hint::black_box;
 use std::time::Instant;
@@ -14,8 +14,18 @@ extern "C" {
     fn vizturel_bench_grow(words: *mut u64, count: usize, seed: u64, sets: u64) -> u64;
 }
 
-const STORES: u64 = 5;
+const POOLS: u64 = 5;
 const REPETITIONS: usize = 41;
+
+// Words of the record of world 0: its root, its runs, and its limits, which may be other numbers in a sound pool.
+const ROOT: usize = 8;
+const RUNS: usize = 11;
+const LIMITS: std::ops::Range<usize> = 14..16;
+
+// Where the words of a node begin.
+fn node_at(link: u64) -> usize {
+    8 * (16 + link as usize)
+}
 
 fn is_sound(words: &[u64]) -> bool {
     unsafe { vizturel_bench_is_sound(words.as_ptr(), words.len()) }
@@ -26,7 +36,7 @@ fn walk(words: &[u64], link: u64) -> u64 {
     if link == 0 {
         return 0;
     }
-    let at = link as usize * 8;
+    let at = node_at(link);
     let before = walk(words, words[at + 2]);
     let here = words[at];
     before.wrapping_add(here).wrapping_add(walk(words, words[at + 3]))
@@ -38,7 +48,7 @@ unsafe fn bare_walk(words: &[u64], link: u64) -> u64 {
     if link == 0 {
         return 0;
     }
-    let at = link as usize * 8;
+    let at = node_at(link);
     let before = bare_walk(words, *words.get_unchecked(at + 2));
     let here = *words.get_unchecked(at);
     before
@@ -58,7 +68,7 @@ fn next_random(z: &mut u64) -> u64 {
     *z
 }
 
-// Memory of which a part is the store, so that its first word lies `skip` words after a border of 64 bytes.
+// Memory of which a part is the pool, so that its first word lies `skip` words after a border of 64 bytes.
 struct Lent {
     memory: Vec<u64>,
     from: usize,
@@ -83,15 +93,15 @@ impl Lent {
     }
 }
 
-// A store of the capacity with 0.9 C runs.
+// A pool of the capacity with 0.9 C runs.
 fn grown(capacity: u64, seed: u64, skip: usize) -> Lent {
-    let mut lent = Lent::new(8 * (capacity as usize + 3), skip);
+    let mut lent = Lent::new(8 * (capacity as usize + 49), skip);
     let words = lent.words_mut();
     let wanted = capacity * 9 / 10;
     assert!(unsafe { vizturel_bench_new(words.as_mut_ptr(), words.len()) });
     let mut z = seed;
-    while words[4] < wanted {
-        let sets = wanted - words[4];
+    while words[RUNS] < wanted {
+        let sets = wanted - words[RUNS];
         let done = unsafe { vizturel_bench_grow(words.as_mut_ptr(), words.len(), next_random(&mut z), sets) };
         assert_eq!(done, sets);
     }
@@ -102,14 +112,13 @@ fn grown(capacity: u64, seed: u64, skip: usize) -> Lent {
 fn damage(words: &[u64], step: usize, z: &mut u64) -> usize {
     let mut copy = words.to_vec();
     let mut judged = 0;
-    let mut at = next_random(z) as usize % step;
-    while at < copy.len() {
+    let first = next_random(z) as usize % step;
+    for at in (first..words.len()).step_by(step).filter(|at| !LIMITS.contains(at)) {
         let was = copy[at];
         let bits = if judged % 2 == 0 { 1 } else { next_random(z) };
         copy[at] = was ^ bits;
         assert!(!is_sound(&copy), "word {at} changed from {was} to {}, and judged sound", copy[at]);
         copy[at] = was;
-        at += step;
         judged += 1;
     }
     assert!(is_sound(&copy));
@@ -134,15 +143,15 @@ fn load() -> String {
     all.split(' ').next().unwrap_or_default().to_string()
 }
 
-// One row: the medians, over several stores.
+// One row: the medians, over several pools.
 fn row(capacity: u64, skip: usize, judged: &mut usize) {
     let mut taken = [const { Vec::new() }; 4];
     let mut z = 0x9E37_79B9_7F4A_7C15 ^ capacity;
     let mut runs = 0;
-    for seed in 1..=STORES {
+    for seed in 1..=POOLS {
         let lent = grown(capacity, seed * 7_919 + capacity, skip);
         let words = lent.words();
-        runs = words[4];
+        runs = words[RUNS];
         assert!(is_sound(words));
         if skip == 0 {
             let step = if seed == 1 && capacity == 1024 { 1 } else { words.len() / 200 };
@@ -155,10 +164,10 @@ fn row(capacity: u64, skip: usize, judged: &mut usize) {
                 let t = match which {
                     0 => micros(times, || assert!(is_sound(black_box(words)))),
                     1 => micros(times, || {
-                        black_box(walk(black_box(words), words[0]));
+                        black_box(walk(black_box(words), words[ROOT]));
                     }),
                     2 => micros(times, || {
-                        black_box(unsafe { bare_walk(black_box(words), words[0]) });
+                        black_box(unsafe { bare_walk(black_box(words), words[ROOT]) });
                     }),
                     _ => micros(times, || {
                         black_box(sum(black_box(words)));

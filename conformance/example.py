@@ -1,5 +1,5 @@
 #!/usr/bin/env python3
-"""Reads a list of calls on standard input and prints the answers, as README.md says. A set is a plain list of runs."""
+"""Reads a list of calls on standard input and prints the answers, as README.md says. A world's set is a plain list of runs."""
 
 import sys
 
@@ -75,32 +75,33 @@ def window(base, length):
 
 class Store:
     capacity = 0  # none
-    runs = None  # not sound
-
-    def look(self, *others):
-        """Refuses stores that are read."""
-        self.lengths(*others)
-        require(all(store.runs is not None for store in (self, *others)), 7)
-
-    def lengths(self, *others):
-        require(all(store.capacity for store in (self, *others)), 1)
-
-    def keep(self, runs):
-        require(len(runs) <= self.capacity, 8)
-        self.runs = runs
+    worlds = None  # not sound
 
     def words(self, capacity):
-        self.capacity, self.runs = capacity, None
+        self.capacity, self.worlds = capacity, None
 
     def spoil(self):
-        self.runs = None
+        self.worlds = None
 
-    def new(self):
-        self.lengths()
-        self.runs = []
+    def new(self, limits):
+        require(self.capacity, 1)
+        fit = all(floor <= ceiling for floor, ceiling in limits) and sum(floor for floor, _ in limits) <= self.capacity
+        require(1 <= len(limits) <= 16 and fit, 11)
+        self.worlds = [World(self, floor, ceiling) for floor, ceiling in limits]
+
+
+class World:
+    runs = []
+
+    def __init__(self, store, floor, ceiling):
+        self.store, self.floor, self.ceiling = store, floor, ceiling
+
+    def keep(self, runs):
+        beside = sum(max(len(world.runs), world.floor) for world in self.store.worlds if world is not self)
+        require(len(runs) <= self.ceiling and beside + max(len(runs), self.floor) <= self.store.capacity, 8)
+        self.runs = runs
 
     def set(self, first, last, value):
-        self.look()
         if first > last:
             return 0
         changed = size(stretches(self.runs, first, last, not value))
@@ -108,16 +109,13 @@ class Store:
         return changed
 
     def flip(self, first, last):
-        self.look()
         if first <= last:
             self.keep(union(outside(self.runs, first, last) + free(self.runs, first, last)))
 
     def get(self, x):
-        self.look()
         return size(held(self.runs, x, x))
 
     def run_at(self, x):
-        self.look()
         both = self.runs + free(self.runs, 0, LAST)
         return next(run for run in both if run[0] <= x <= run[1])
 
@@ -125,11 +123,9 @@ class Store:
         return self.select(first, last, value, 0)
 
     def count(self, first, last, value):
-        self.look()
         return size(stretches(self.runs, first, last, value))
 
     def select(self, first, last, value, k):
-        self.look()
         for start, end in stretches(self.runs, first, last, value):
             if k <= end - start:
                 return start + k
@@ -137,64 +133,52 @@ class Store:
         return None
 
     def count_ranges(self, first, last, value):
-        self.look()
         return len(stretches(self.runs, first, last, value))
 
     def gap(self, first, last, length):
         """The start of some gap: here of the highest, since any is right."""
-        self.look()
         require(length > 0, 9)
         return max((end - length + 1 for start, end in free(self.runs, first, last) if end - start + 1 >= length), default=None)
 
     def ranges(self, first, last, value):
-        self.look()
         return (first, last, value) if first <= last else (1, 0, value)
 
     def draw_front(self, first, last, value):
         """The run, if there is one, and what is left of the listing."""
-        self.look()
         for start, end in stretches(self.runs, first, last, value):
             return (start, end, *self.ranges(end + 1, last, value))
         return (1, 0, value)
 
     def draw_back(self, first, last, value):
-        self.look()
         for start, end in reversed(stretches(self.runs, first, last, value)):
             return (start, end, *self.ranges(first, start - 1, value))
         return (1, 0, value)
 
     def shift(self, distance, left):
-        self.look()
         self.keep(moved(self.runs, distance, left))
 
     def shifted(self, other, distance, left):
-        self.lengths(other)
-        other.look()
         self.keep(moved(other.runs, distance, left))
 
     def combine(self, operation, a, b):
-        self.lengths(a, b)
-        a.look(b)
         common = [piece for start, end in a.runs for piece in held(b.runs, start, end)]
         both = union(a.runs + b.runs)
         self.keep({"and": common, "or": both, "xor": without(both, common)}[operation])
 
     def complement(self, other):
-        self.lengths(other)
-        other.look()
         self.keep(free(other.runs, 0, LAST))
 
     def eq(self, other):
-        self.look(other)
         return int(self.runs == other.runs)
 
+    def empty(self):
+        self.keep([])
+
     def build(self, runs):
-        self.lengths()
         require(in_order(runs), 5)
         self.keep(runs)
 
     def load(self, written):
-        self.lengths()
         require(len(written) >= 5, 3)
         require(written[0] == 1, 4)
         require(len(written) == 5 + 16 * int.from_bytes(written[1:5], "big"), 3)
@@ -202,12 +186,10 @@ class Store:
         self.build(list(zip(numbers[::2], numbers[1::2])))
 
     def write_set(self, room):
-        self.look()
         runs = b"".join(x.to_bytes(8, "big") for run in self.runs for x in run)
         return fill_front(room, b"\x01" + len(self.runs).to_bytes(4, "big") + runs)
 
     def read_map(self, base, length, bits):
-        self.look()
         first, last = window(base, length)
         require(len(bits) == (length + 7) // 8, 6)
         number = int.from_bytes(bits, "little")
@@ -218,13 +200,11 @@ class Store:
         return size(without(old, new)) + size(without(new, old))
 
     def write_map(self, base, length, room):
-        self.look()
         first, last = window(base, length)
         number = sum((2 ** (end - start + 1) - 1) << start - first for start, end in held(self.runs, first, last))
         return fill_front(room, number.to_bytes((length + 7) // 8, "little"))
 
     def fill(self, base, length):
-        self.look()
         return 1000 * size(held(self.runs, *window(base, length))) // length
 
 
@@ -242,14 +222,14 @@ def fill_front(room, due):
     return len(due), due + b"\xee" * (room - len(due))
 
 
-# The reader. Of each call its arguments after the first store (clear_map has none): s a store, n a number, r both bounds of a range, w a word, b bytes,
-# l a list of runs. Of those that answer more than "done", how the answer begins.
+# The reader. Of each call its arguments: s a store, p the place of a world, n a number, r both bounds of a range, w a word, b bytes, l a list of
+# pairs. Of those that answer more than "done", how the answer begins.
 
 ARGUMENTS = {
-    "words": "n", "spoil": "", "new": "", "set": "rn", "flip": "r", "get": "n", "run_at": "n", "find": "rn", "count": "rn",
-    "select": "rnn", "count_ranges": "rn", "gap": "rn", "ranges": "rn", "draw_front": "nnn", "draw_back": "nnn", "shift": "nn", "shifted": "snn",
-    "combine": "wss", "not": "s", "eq": "s", "load": "b", "build": "l", "write_set": "n", "read_map": "nnb", "write_map": "nnn",
-    "clear_map": "nnb", "fill": "nn",
+    "words": "sn", "spoil": "s", "new": "sl", "set": "prn", "flip": "pr", "get": "pn", "run_at": "pn", "find": "prn", "count": "prn",
+    "select": "prnn", "count_ranges": "prn", "gap": "prn", "ranges": "prn", "draw_front": "pnnn", "draw_back": "pnnn", "shift": "pnn",
+    "shifted": "ppnn", "combine": "pwpp", "not": "pp", "eq": "pp", "load": "pb", "build": "pl", "write_set": "pn", "read_map": "pnnb",
+    "write_map": "pnnn", "clear_map": "nnb", "fill": "pnn",
 }
 ANSWERS = {
     "set": "number", "get": "value", "run_at": "run", "find": "at", "count": "number", "select": "at", "count_ranges": "number", "gap": "at",
@@ -258,11 +238,26 @@ ANSWERS = {
 }
 
 
+def sound(stores):
+    require(all(store.capacity for store in stores), 1)
+    require(all(store.worlds is not None for store in stores), 7)
+
+
+def worlds(places):
+    """The worlds of a call, each a store and a number: 1 for any store, then 7 for any, then 12 for any world."""
+    sound([store for store, _ in places])
+    require(all(number < len(store.worlds) for store, number in places), 12)
+    return [store.worlds[number] for store, number in places]
+
+
 def arguments(kinds, words, stores):
     for kind in kinds:
         word = next(words)
         if kind == "s":
             yield stores[int(word)]
+        elif kind == "p":
+            store, number = map(int, word.split("/"))
+            yield stores[store], number
         elif kind == "r":
             upper = next(words)
             yield 0 if word == "u" else int(word[1:]) + (word[0] == "e")
@@ -277,12 +272,11 @@ def arguments(kinds, words, stores):
 
 def answer(line, stores):
     name, *words = line.split()
-    if name == "clear_map":
-        call = clear_map
-    else:
-        call = getattr(stores[int(words.pop(0))], "complement" if name == "not" else name)
+    given = list(arguments(ARGUMENTS[name], iter(words), stores))
     try:
-        result = call(*arguments(ARGUMENTS[name], iter(words), stores))
+        meant = iter(worlds([one for one in given if isinstance(one, tuple)]))
+        given = [next(meant) if isinstance(one, tuple) else one for one in given]
+        result = clear_map(*given) if name == "clear_map" else getattr(given[0], "complement" if name == "not" else name)(*given[1:])
     except Refused as refused:
         return f"refused {refused}"
     values = result if isinstance(result, tuple) else () if result is None else (result,)
@@ -294,19 +288,19 @@ def answer(line, stores):
 # Frames. Of each number that names a call what it takes of a record: r both bounds, x and y their values, v the truth, k the number.
 
 CALLS = {
-    1: ("new", ""), 2: ("set", "rv"), 3: ("flip", "r"), 4: ("shift", "xv"), 5: ("run_at", "x"), 6: ("find", "rv"), 7: ("count", "rv"),
+    1: ("empty", ""), 2: ("set", "rv"), 3: ("flip", "r"), 4: ("shift", "xv"), 5: ("run_at", "x"), 6: ("find", "rv"), 7: ("count", "rv"),
     8: ("select", "rvk"), 9: ("count_ranges", "rv"), 10: ("ranges", "rv"), 11: ("draw_front", "xyv"), 12: ("draw_back", "xyv"),
     13: ("fill", "xy"),
 }
 
 
-def play(store, number, lower, x, upper, y, value, k, _):
+def play(store, number, lower, x, upper, y, value, k, world):
     """Makes the call that a record means, and tells the record of its answer."""
     name, kinds = CALLS.get(number, ("get", "x"))
     bounds = [x + (lower == 2) if lower in (1, 2) else 0, y - (upper == 2) if upper in (1, 2) else LAST]
     given = {"r": bounds, "x": [x], "y": [y], "v": [int(value != 0)], "k": [k]}
     try:
-        result = getattr(store, name)(*(word for kind in kinds for word in given[kind]))
+        result = getattr(*worlds([(store, world)]), name)(*(word for kind in kinds for word in given[kind]))
     except Refused as refused:
         return [refused, 0, 0, 0, 0, 0, 0, 0]
     begin = ANSWERS.get(name)
@@ -327,7 +321,7 @@ def frame(lines, store, count, room):
     """The answers to a frame and to its records, which are the next lines."""
     records = [[int(word) for word in next(lines).split()[1:]] for _ in range(count)]
     try:
-        store.look()
+        sound([store])
         require(count <= room, 2)
     except Refused as refused:
         return [f"refused {refused}"] + ["-"] * count

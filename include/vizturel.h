@@ -1,36 +1,51 @@
 /* Vizturel: a proved slot allocator for lockstep physics.
  *
- * A set of positions 0 .. 2^64 - 1 (M is 2^64 - 1) is kept in words that the caller lends: a store. A store for at most C runs of held
- * positions, C from 1 to 65,536, has VIZTUREL_WORDS(C) words. Any words may be lent to any call: what is no store, or not a sound one, is
- * refused, and then nothing has changed. No call allocates, keeps a pointer or writes past what is lent. Two stores or slices lent to one
- * call must not overlap, except that a store that is only read may be lent twice.
+ * POOLS AND WORLDS. A world is a set of positions 0 .. 2^64 - 1 (M is 2^64 - 1). Up to 16 worlds are kept together in words that the caller lends: a
+ * pool. A pool for at most C runs of held positions in all its worlds, C from 1 to 65,536, has VIZTUREL_WORDS(C) words. vizturel_new makes it, and
+ * gives each world a floor and a ceiling of runs: room for so many runs as the floor is kept for the world, and it never has more than the
+ * ceiling. What lies between is shared: whichever world needs a run first gets it. Whoever needs one set makes a pool of one world by
+ * vizturel_new_one, and names world 0.
+ *
+ * Every other call names a world by its number, from 0 on, after the pool's words and their count. A further pool is lent in the same way, and
+ * with the number of the world that is meant. A change of one world leaves the positions of all others, and no call but vizturel_new changes a
+ * floor or a ceiling.
+ *
+ * Any words may be lent to any call: what is no pool, or not a sound one, is refused, and then nothing has changed. Only vizturel_new takes words
+ * that hold anything. No call allocates, keeps a pointer or writes past what is lent.
+ *
+ * NO OVERLAP. Two pools or slices lent to one call must not overlap, unless both are only read. So vizturel_eq compares two worlds of one pool as
+ * they are, but a world that is overwritten (by vizturel_combine, vizturel_not or vizturel_shifted) cannot be made of worlds of its own pool:
+ * copy the pool's words first, and lend the copy for what is read.
  *
  * REFUSALS. Every answer begins with a refusal's number, or is one; 0 means that the call was done. A refused call has changed no word and no
- * byte. Where several would hold, the first of this order is given: 1 of any store, 7 of any store, 9, 6, 10, 3 (under 5 bytes), 4, 3, 5,
- * 8, 2.
+ * byte. Where several would hold, the first of this order is given: 1 of any pool, 11, 7 of any pool, 12 of any world, 9, 6, 10, 3 (under 5
+ * bytes), 4, 3, 5, 8, 2. Every call on a pool but vizturel_new may be refused with 1, 7 and 12, of the pool that receives the result too.
  *
- *   1  a store's length is not 8 * (C + 3) words for a C from 1 to 65,536
+ *   1  a pool's length is not 8 * (C + 49) words for a C from 1 to 65,536
  *   2  the output is shorter than what is due
  *   3  a written set has fewer than 5 bytes, or not 5 + 16 * R
  *   4  its version byte is not 1
  *   5  a start exceeds its end, or is below the previous end + 2
  *   6  a window of length 0 or above 524,288, or past 2^64; or a map that has not (length + 7) / 8 bytes
- *   7  a store that the call reads is not sound
- *   8  the result would have more than C runs
+ *   7  a pool is not sound
+ *   8  the world would have more runs than its ceiling, or the sum over all worlds of the larger of runs and floor would exceed C
  *   9  a gap of length 0 is asked for
  *  10  a spare bit of a map to be read is one
+ *  11  a pool is to be made with no world or more than 16, a floor above its ceiling, or floors that together exceed C
+ *  12  no world of that number was opened
  *
- * A store that is only overwritten (new, load, build, combine, not, shifted) may hold anything, and is refused with 1 alone.
+ * 8 is given for no other cause. So a world can always have as many runs as its floor, whatever the others hold, and of the others it feels that
+ * sum alone.
  *
- * THE SOUNDNESS CHECK. Every call that reads a store first passes over all its nodes, used and free ones. The cost goes by the capacity C, not by
- * the runs that are held. vizturel_frame makes many calls after one soundness check.
+ * THE SOUNDNESS CHECK. Every call on a pool, but vizturel_new, first passes over all its nodes, used and free ones. The cost goes by the capacity
+ * C, not by the runs that are held. vizturel_frame makes many calls, at any worlds of a pool, after one soundness check.
  *
- * LOCKSTEP. Two stores of one capacity that hold the same positions answer every call alike, except vizturel_gap: which gap it gives is left open.
- * So builds that have to stay in step must not call vizturel_gap.
+ * LOCKSTEP. Two sound pools of one capacity that opened equally many worlds, with the same positions, floor and ceiling in each, answer every later
+ * list of equal calls alike, except vizturel_gap: which gap it gives is left open. So builds that have to stay in step must not call vizturel_gap.
  *
  * RESERVED NUMBERS. Where numbers have names here (call numbers, kinds of bounds, operations), the named ones stay as they are. All others are
- * reserved, and so is the last word of a call's record, which must be 0: a later version may give them a meaning. This version takes a reserved
- * call number for a get, a reserved kind for no bound and a reserved operation for XOR, and does not read that word. Do not rely on it.
+ * reserved: a later version may give them a meaning. This version takes a reserved call number for a get, a reserved kind for no bound and a
+ * reserved operation for XOR. Do not rely on it.
  *
  * Link libvizturel.a, for x86-64 Linux: `make lib` writes it to target/lib/, and this header to target/include/. Of a C library it needs memset
  * alone. docs/CALLS.md has every call with its cost.
@@ -45,9 +60,10 @@
 extern "C" {
 #endif
 
-/* how many words a store of capacity c has, and how many bytes hold any set that it writes */
-#define VIZTUREL_WORDS(c) (8 * ((size_t)(c) + 3))
+/* how many words a pool of capacity c has, how many bytes hold any set that it writes, and how many worlds it can have */
+#define VIZTUREL_WORDS(c) (8 * ((size_t)(c) + 49))
 #define VIZTUREL_SET_BYTES(c) (5 + 16 * (size_t)(c))
+#define VIZTUREL_WORLDS 16
 
 enum vizturel_refusal {
     VIZTUREL_DONE = 0,
@@ -60,7 +76,9 @@ enum vizturel_refusal {
     VIZTUREL_UNSOUND = 7,
     VIZTUREL_CAPACITY = 8,
     VIZTUREL_GAP_LENGTH = 9,
-    VIZTUREL_STRAY_BIT = 10
+    VIZTUREL_STRAY_BIT = 10,
+    VIZTUREL_WORLD_LIMITS = 11,
+    VIZTUREL_WORLD_UNOPENED = 12
 };
 
 /* Kinds of bounds: none, one that includes its value, one that excludes it. Other numbers are reserved. */
@@ -154,107 +172,123 @@ typedef struct {
     uint64_t bytes;
 } vizturel_written;
 
-/* ---- changes of one store. A value is 0 for false, anything else for true. */
+/* ---- making a pool */
 
-/* Makes a store empty, whatever its words were. Refused with 1. */
-uint64_t vizturel_new(uint64_t *words, size_t count);
+/* Makes a pool in words that may hold anything. The limits are the floor and the ceiling of each world, in turn: worlds 0, 1 and so on are
+ * opened, all empty. A last word without its partner is no world. A ceiling may exceed C. Refused with 1, 11. */
+uint64_t vizturel_new(uint64_t *words, size_t count, const uint64_t *limits, size_t limits_count);
 
-/* Gives a range the value, and tells how many positions changed. Refused with 1, 7, 8. */
-vizturel_counted vizturel_set(uint64_t *words, size_t count, vizturel_bound lower, vizturel_bound upper, uint64_t value);
+/* The same for one world, number 0, which is bounded by C alone. Refused with 1. */
+static inline uint64_t vizturel_new_one(uint64_t *words, size_t count) {
+    const uint64_t limits[2] = {0, UINT64_MAX};
+    return vizturel_new(words, count, limits, 2);
+}
 
-/* Inverts a range. Refused with 1, 7, 8. */
-uint64_t vizturel_flip(uint64_t *words, size_t count, vizturel_bound lower, vizturel_bound upper);
+/* ---- changes of a world. A value is 0 for false, anything else for true. Each is refused with 1, 7, 12; also as is said there. */
 
-/* Moves every position by the distance, up where left is not 0, else down; what leaves 0 .. M is dropped. Refused with 1, 7. */
-uint64_t vizturel_shift(uint64_t *words, size_t count, uint64_t distance, uint64_t left);
+/* Gives a range the value, and tells how many positions changed. Refused with 8. */
+vizturel_counted vizturel_set(uint64_t *words, size_t count, uint64_t world, vizturel_bound lower, vizturel_bound upper, uint64_t value);
 
-/* ---- reports. Each is refused with 1, 7; gap and fill also as is said there. */
+/* Inverts a range. Refused with 8. */
+uint64_t vizturel_flip(uint64_t *words, size_t count, uint64_t world, vizturel_bound lower, vizturel_bound upper);
+
+/* Moves every position by the distance, up where left is not 0, else down; what leaves 0 .. M is dropped. */
+uint64_t vizturel_shift(uint64_t *words, size_t count, uint64_t world, uint64_t distance, uint64_t left);
+
+/* ---- reports of a world. Each is refused with 1, 7, 12; gap and fill also as is said there. */
 
 /* The value of position x. */
-vizturel_tested vizturel_get(const uint64_t *words, size_t count, uint64_t x);
+vizturel_tested vizturel_get(const uint64_t *words, size_t count, uint64_t world, uint64_t x);
 
 /* The run around x, not clipped, of the value that x has. */
-vizturel_around vizturel_run_at(const uint64_t *words, size_t count, uint64_t x);
+vizturel_around vizturel_run_at(const uint64_t *words, size_t count, uint64_t world, uint64_t x);
 
 /* The least position of the value in a range. */
-vizturel_found vizturel_find(const uint64_t *words, size_t count, vizturel_bound lower, vizturel_bound upper, uint64_t value);
+vizturel_found vizturel_find(const uint64_t *words, size_t count, uint64_t world, vizturel_bound lower, vizturel_bound upper, uint64_t value);
 
 /* How many positions of a range have the value. */
-vizturel_counted vizturel_count(const uint64_t *words, size_t count, vizturel_bound lower, vizturel_bound upper, uint64_t value);
+vizturel_counted vizturel_count(const uint64_t *words, size_t count, uint64_t world, vizturel_bound lower, vizturel_bound upper, uint64_t value);
 
 /* The position of a range that has the value and exactly k such positions before it there; not found where k is at least their count. */
-vizturel_found vizturel_select(const uint64_t *words, size_t count, vizturel_bound lower, vizturel_bound upper, uint64_t value, uint64_t k);
+vizturel_found vizturel_select(const uint64_t *words, size_t count, uint64_t world, vizturel_bound lower, vizturel_bound upper, uint64_t value,
+                               uint64_t k);
 
 /* How many runs of the value a range has, clipped to it. */
-vizturel_numbered vizturel_count_ranges(const uint64_t *words, size_t count, vizturel_bound lower, vizturel_bound upper, uint64_t value);
+vizturel_numbered vizturel_count_ranges(const uint64_t *words, size_t count, uint64_t world, vizturel_bound lower, vizturel_bound upper,
+                                        uint64_t value);
 
 /* A listing of the runs of the value in a range, to be drawn from either end. */
-vizturel_listed vizturel_ranges(const uint64_t *words, size_t count, vizturel_bound lower, vizturel_bound upper, uint64_t value);
+vizturel_listed vizturel_ranges(const uint64_t *words, size_t count, uint64_t world, vizturel_bound lower, vizturel_bound upper, uint64_t value);
 
-/* Draws the first run that is left in a listing, in the store as it is then. Go on with the answer's first and last and the same value. */
-vizturel_drawn vizturel_draw_front(const uint64_t *words, size_t count, uint64_t first, uint64_t last, uint64_t value);
+/* Draws the first run that is left in a listing, in the world as it is then. Go on with the answer's first and last and the same value. */
+vizturel_drawn vizturel_draw_front(const uint64_t *words, size_t count, uint64_t world, uint64_t first, uint64_t last, uint64_t value);
 
 /* Draws the last one. */
-vizturel_drawn vizturel_draw_back(const uint64_t *words, size_t count, uint64_t first, uint64_t last, uint64_t value);
+vizturel_drawn vizturel_draw_back(const uint64_t *words, size_t count, uint64_t world, uint64_t first, uint64_t last, uint64_t value);
 
 /* The start of some gap of a range: n neighbouring positions, all in the range and all free. Not found exactly if the range has none.
  *
  * NOT FOR LOCKSTEP BUILDS. Which gap is given, where there are several, is left open: two builds that hold the same positions may get different
  * ones, and so may two versions of the library. The call is for tools that run offline, such as a level editor; it is in no frame.
- * Refused with 1, 7, 9. */
-vizturel_found vizturel_gap(const uint64_t *words, size_t count, vizturel_bound lower, vizturel_bound upper, uint64_t n);
+ * Refused with 9. */
+vizturel_found vizturel_gap(const uint64_t *words, size_t count, uint64_t world, vizturel_bound lower, vizturel_bound upper, uint64_t n);
 
-/* 1000 * held positions / window length, rounded down. Refused with 1, 7, 6. */
-vizturel_numbered vizturel_fill(const uint64_t *words, size_t count, uint64_t base, uint64_t length);
+/* 1000 * held positions / window length, rounded down. Refused with 6. */
+vizturel_numbered vizturel_fill(const uint64_t *words, size_t count, uint64_t world, uint64_t base, uint64_t length);
 
-/* Whether two stores hold the same positions, whatever their capacities. Refused with 1, 7 of either. */
-vizturel_tested vizturel_eq(const uint64_t *words, size_t count, const uint64_t *b, size_t b_count);
+/* Whether two worlds hold the same positions, whatever the capacities and limits. They may be of one pool. */
+vizturel_tested vizturel_eq(const uint64_t *words, size_t count, uint64_t world, const uint64_t *b, size_t b_count, uint64_t b_world);
 
-/* ---- making a store of others, whatever its words were */
+/* ---- overwriting a world, whatever it held, with what is made of others. Each is refused with 1, 7 (of any pool), 12 (of any world), 8. */
 
-/* Joins two sets; op is a vizturel_operation. Refused with 1, 7 (of a or b), 8. */
-uint64_t vizturel_combine(uint64_t *words, size_t count, uint64_t op, const uint64_t *a, size_t a_count, const uint64_t *b, size_t b_count);
+/* Joins two sets; op is a vizturel_operation. */
+uint64_t vizturel_combine(uint64_t *words, size_t count, uint64_t world, uint64_t op, const uint64_t *a, size_t a_count, uint64_t a_world,
+                          const uint64_t *b, size_t b_count, uint64_t b_world);
 
-/* The complement over 0 .. M. Refused with 1, 7 (of a), 8. */
-uint64_t vizturel_not(uint64_t *words, size_t count, const uint64_t *a, size_t a_count);
+/* The complement over 0 .. M. */
+uint64_t vizturel_not(uint64_t *words, size_t count, uint64_t world, const uint64_t *a, size_t a_count, uint64_t a_world);
 
-/* The set moved by the distance, up where left is not 0, else down. Refused with 1, 7 (of a), 8. */
-uint64_t vizturel_shifted(uint64_t *words, size_t count, uint64_t distance, uint64_t left, const uint64_t *a, size_t a_count);
+/* The set moved by the distance, up where left is not 0, else down. */
+uint64_t vizturel_shifted(uint64_t *words, size_t count, uint64_t world, uint64_t distance, uint64_t left, const uint64_t *a, size_t a_count,
+                          uint64_t a_world);
 
-/* ---- written sets, run lists and maps
+/* ---- written sets, run lists and maps. Each that takes a pool is refused with 1, 7, 12, then as is said there.
  *
- * Written sets travel between builds; the words of a store do not, since its offset and the arrangement of its nodes are each build's own. Two
- * stores of one capacity C that hold the same positions answer every later list of equal calls alike, vizturel_gap aside. So all builds of a match
- * need the same C, and a late player has to be told it beside the written set, which does not have it. */
+ * Written sets travel between builds; the words of a pool do not, since offsets and the arrangement of nodes are each build's own. Two sound pools
+ * of one capacity C that opened equally many worlds, with the same positions, floor and ceiling in each, answer every later list of equal calls
+ * alike, vizturel_gap aside. So all builds of a match need the same C and the same limits, and a late player has to be told them beside a written
+ * set for each world, which does not have them. */
 
-/* Makes the store that a written set tells. Refused with 1, 3, 4, 3, 5, 8. */
-uint64_t vizturel_load(uint64_t *words, size_t count, const uint8_t *bytes, size_t bytes_count);
+/* Overwrites a world with the set that a written set tells. Refused with 3, 4, 3, 5, 8. */
+uint64_t vizturel_load(uint64_t *words, size_t count, uint64_t world, const uint8_t *bytes, size_t bytes_count);
 
-/* Makes the store of a run list: start and end of each run, in turn; a last word without its end is no run. Refused with 1, 5, 8. */
-uint64_t vizturel_build(uint64_t *words, size_t count, const uint64_t *runs, size_t runs_count);
+/* Overwrites a world with the set of a run list: start and end of each run, in turn; a last word without its end is no run. Refused with 5, 8. */
+uint64_t vizturel_build(uint64_t *words, size_t count, uint64_t world, const uint64_t *runs, size_t runs_count);
 
-/* Writes a store's set: version byte 1, the number of runs as 4 bytes, then start and end of each run as 8 bytes each, rising, all
- * big-endian. VIZTUREL_SET_BYTES(C) bytes are always enough. Refused with 1, 7, 2. */
-vizturel_written vizturel_write(const uint64_t *words, size_t count, uint8_t *out, size_t out_count);
+/* Writes a world's set: version byte 1, the number of runs as 4 bytes, then start and end of each run as 8 bytes each, rising, all
+ * big-endian. VIZTUREL_SET_BYTES(C) bytes are always enough. Refused with 2. */
+vizturel_written vizturel_write(const uint64_t *words, size_t count, uint64_t world, uint8_t *out, size_t out_count);
 
 /* Writes the map of the window of length positions from base on: bit i (0 is least) of byte j is position base + 8j + i. The spare bits, those of
- * the last byte past the window, are 0. Refused with 1, 7, 6, 2. */
-vizturel_written vizturel_write_map(const uint64_t *words, size_t count, uint64_t base, uint64_t length, uint8_t *out, size_t out_count);
+ * the last byte past the window, are 0. Refused with 6, 2. */
+vizturel_written vizturel_write_map(const uint64_t *words, size_t count, uint64_t world, uint64_t base, uint64_t length, uint8_t *out,
+                                    size_t out_count);
 
 /* Sets the window from a map, leaves the other positions, and tells how many changed. A map with a spare bit that is one is not read.
- * Refused with 1, 7, 6, 10, 8. */
-vizturel_counted vizturel_read_map(uint64_t *words, size_t count, uint64_t base, uint64_t length, const uint8_t *bytes, size_t bytes_count);
+ * Refused with 6, 10, 8. */
+vizturel_counted vizturel_read_map(uint64_t *words, size_t count, uint64_t world, uint64_t base, uint64_t length, const uint8_t *bytes,
+                                   size_t bytes_count);
 
-/* Makes a map of the window fit to be read: zeroes its spare bits, and tells how many were one. The other bits stay. It takes no store. Stored maps
- * whose spare bits may hold anything go through it before vizturel_read_map. Refused with 6. */
+/* Makes a map of the window fit to be read: zeroes its spare bits, and tells how many were one. The other bits stay. It takes no pool. Stored maps
+ * whose spare bits may hold anything go through it before vizturel_read_map. Refused with 6 alone. */
 vizturel_numbered vizturel_clear_map(uint64_t base, uint64_t length, uint8_t *map, size_t map_count);
 
-/* ---- a frame's calls at once: one soundness check, then every call of a list on the store */
+/* ---- a frame's calls at once: one soundness check, then every call of a list, each at a world of the pool */
 
-/* Which call a record is. Other numbers are reserved. */
+/* Which call a record is. Other numbers are reserved. Number 1 empties its world, as vizturel_build of no runs does; no record makes a pool. */
 enum vizturel_call_number {
     VIZTUREL_CALL_GET = 0,
-    VIZTUREL_CALL_NEW = 1,
+    VIZTUREL_CALL_EMPTY = 1,
     VIZTUREL_CALL_SET = 2,
     VIZTUREL_CALL_FLIP = 3,
     VIZTUREL_CALL_SHIFT = 4,
@@ -269,19 +303,19 @@ enum vizturel_call_number {
     VIZTUREL_CALL_FILL = 13
 };
 
-/* A call as a record of eight words; words that the call has no use for are not read, but the last must be 0.
+/* A call as a record of eight words; words that the call has no use for are not read.
  *   lower.value  also the position of get and run_at, the distance of shift, the base of fill, the first position of a draw's listing
  *   upper.value  also the length of fill, the last position of a draw's listing
  *   value        anything but 0 is true; a shift goes up (left) then
  *   k            of select
- *   reserved     must be 0. This version answers as if it were, whatever it is; a later one gives it a meaning */
+ *   world        the number of the call's world, of every call */
 typedef struct {
     uint64_t call;
     vizturel_bound lower;
     vizturel_bound upper;
     uint64_t value;
     uint64_t k;
-    uint64_t reserved;
+    uint64_t world;
 } vizturel_call;
 
 /* An answer as a record of eight words, zeros where the call tells nothing. A refused call tells its refusal alone.
@@ -292,7 +326,7 @@ typedef struct {
  *   find, select         position number, where found is 1
  *   ranges               a listing: first, last and value
  *   draw_front, _back    the run number .. end, where found is 1, and the listing that is left
- *   new, flip, shift     nothing */
+ *   empty, flip, shift   nothing */
 typedef struct {
     uint64_t refusal;
     uint64_t found;
@@ -305,8 +339,8 @@ typedef struct {
 } vizturel_answer;
 
 /* Makes every call of a list in order and writes their answers into the front of a slice; the words after them stay as they were. A call
- * of the list that is refused (with 6 or 8) has changed nothing, and the next one follows. Words of calls after the last whole record are
- * not read. The whole is refused with 1 or 7 of the store before the first call, or 2 where answers is too short for a record of each call:
+ * of the list that is refused (with 12, 6 or 8) has changed nothing, and the next one follows. Words of calls after the last whole record are
+ * not read. The whole is refused with 1 or 7 of the pool before the first call, or 2 where answers is too short for a record of each call:
  * then no call was made. */
 uint64_t vizturel_frame(uint64_t *words, size_t n, const uint64_t *calls, size_t calls_words, uint64_t *answers, size_t answers_words);
 

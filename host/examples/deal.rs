@@ -1,7 +1,7 @@
 //! Deals body slots, and admits a player who comes late from the written set.
-use vizturel::{Answer, Set, SetBuf, room};
+use vizturel::{Answer, SetBuf};
 
-const RUNS: usize = 64; // the store holds at most so many runs of slots in use
+const RUNS: usize = 64; // the set has at most so many runs of slots in use
 
 /// Takes the lowest free slot; none where all 2^64 are in use.
 fn deal(bodies: &mut SetBuf) -> Answer<Option<u64>> {
@@ -24,7 +24,8 @@ fn main() -> Answer<()> {
     let mut out = [0; 5 + 16 * RUNS];
     let written = bodies.write(&mut out)?;
     println!("a written set of {} bytes", written.len());
-    let mut late = Set::load(room(RUNS), written)?;
+    let mut late = SetBuf::with_capacity(RUNS)?;
+    late.load(written)?;
     println!("dealt {:?} and {:?}", deal(&mut bodies)?, deal(&mut late)?); // Some(6) and Some(6)
     Ok(())
 }

@@ -1,5 +1,5 @@
-//! A frame's calls at once: lists of calls on one store, and what each answers. [`Set::frame`](crate::Set::frame) takes [`Call`]s and
-//! tells [`Reply`]s; [`Set::play`](crate::Set::play) takes and fills lent records, and allocates nothing:
+//! A frame's calls at once: lists of calls on the worlds of one pool, and what each answers. [`Pool::frame`](crate::Pool::frame) takes
+//! [`Call`]s with their worlds and tells [`Reply`]s; [`Pool::play`](crate::Pool::play) takes and fills lent records, and allocates nothing:
 //!
 //! ```
 //! use vizturel::SetBuf;
@@ -8,13 +8,13 @@
 //! let mut slots = SetBuf::with_capacity(64)?;
 //! let mut calls = [CallRecord::default(); 256];
 //! let mut answers = [AnswerRecord::default(); 256];
-//! // The three lowest free slots, then all three taken.
+//! // The three lowest free slots, then all three taken: at world 0, the only one.
 //! for (k, record) in calls[..3].iter_mut().enumerate() {
-//!     *record = Call::select(.., false, k as u64).into();
+//!     *record = (0, Call::select(.., false, k as u64)).into();
 //! }
 //! let free = slots.play(&calls[..3], &mut answers)?;
 //! for (record, slot) in calls.iter_mut().zip(free) {
-//!     *record = Call::set(slot.number..=slot.number, true).into();
+//!     *record = (0, Call::set(slot.number..=slot.number, true)).into();
 //! }
 //! slots.play(&calls[..3], &mut answers)?;
 //! assert_eq!(slots.count(..3, true)?, 3);
@@ -29,10 +29,11 @@ use crate::{Answer, Listing, answer};
 /// A lower and an upper bound.
 pub type Range = (Bound<u64>, Bound<u64>);
 
-/// A call of a list: it is the one of [`Set`](crate::Set) that has its name.
+/// A call of a list: it is the one of [`World`](crate::World) that has its name. `Empty` frees every position of the world, as
+/// [`build`](crate::World::build) of no runs does. No call of a list makes a pool.
 #[derive(Clone, Copy, Debug, PartialEq, Eq)]
 pub enum Call {
-    New,
+    Empty,
     Set(Range, bool),
     Flip(Range),
     Shift { distance: u64, left: bool },
@@ -86,7 +87,7 @@ impl Call {
 /// What a call of a list tells.
 #[derive(Clone, Debug, PartialEq, Eq)]
 pub enum Reply {
-    /// `New`, `Flip`, `Shift`.
+    /// `Empty`, `Flip`, `Shift`.
     Done,
     /// `Set`: how many positions changed; `Count`.
     Count(u128),
@@ -104,12 +105,11 @@ pub enum Reply {
     Drawn(Option<RangeInclusive<u64>>, Listing),
 }
 
-/// A call as the library reads it: see `vizturel_call` in `include/vizturel.h`. [`Call`] makes such records; where all words are 0, it is
-/// `Get(0)`.
+/// A call as the library reads it: see `vizturel_call` in `include/vizturel.h`. A world's number and a [`Call`] make such records; where all
+/// words are 0, it is `Get(0)` at world 0.
 ///
-/// Numbers of calls and kinds of bounds that no [`Call`] has are reserved, and so is the last word, which must be 0: a later version may give
-/// them a meaning. This version answers a call number above 13 as `Get`, takes a kind above 2 for no bound, and does not read the last word; do
-/// not rely on that.
+/// Numbers of calls and kinds of bounds that no [`Call`] has are reserved: a later version may give them a meaning. This version answers a call
+/// number above 13 as `Get`, and takes a kind above 2 for no bound; do not rely on that.
 #[repr(C)]
 #[derive(Clone, Copy, Debug, Default, PartialEq, Eq)]
 pub struct CallRecord {
@@ -120,8 +120,7 @@ pub struct CallRecord {
     pub upper: u64,
     pub value: u64,
     pub k: u64,
-    /// Must be 0.
-    pub reserved: u64,
+    pub world: u64,
 }
 
 /// An answer as the library writes it: see `vizturel_answer` in `include/vizturel.h`.
@@ -153,9 +152,9 @@ pub(crate) fn words_of_answers(records: &mut [AnswerRecord]) -> &mut [u64] {
     unsafe { std::slice::from_raw_parts_mut(records.as_mut_ptr().cast(), WORDS * records.len()) }
 }
 
-impl From<Call> for CallRecord {
-    fn from(call: Call) -> CallRecord {
-        let none = CallRecord::default();
+impl From<(u64, Call)> for CallRecord {
+    fn from((world, call): (u64, Call)) -> CallRecord {
+        let none = CallRecord { world, ..CallRecord::default() };
         let over = |call, r: Range| {
             let (lower, upper) = crate::bounds(r);
             CallRecord {
@@ -177,7 +176,7 @@ impl From<Call> for CallRecord {
         };
         match call {
             Call::Get(x) => CallRecord { lower: x, ..none },
-            Call::New => CallRecord { call: 1, ..none },
+            Call::Empty => CallRecord { call: 1, ..none },
             Call::Set(r, value) => of_range(2, r, value),
             Call::Flip(r) => over(3, r),
             Call::Shift { distance, left } => CallRecord { call: 4, lower: distance, value: left.into(), ..none },
@@ -200,7 +199,7 @@ impl AnswerRecord {
         let found = self.found == 1;
         let listing = Listing { first: self.first, last: self.last, value: self.value == 1 };
         let told = match call {
-            Call::New | Call::Flip(_) | Call::Shift { .. } => Reply::Done,
+            Call::Empty | Call::Flip(_) | Call::Shift { .. } => Reply::Done,
             Call::Set(..) | Call::Count(..) => Reply::Count((u128::from(self.found) << 64) + u128::from(self.number)),
             Call::CountRanges(..) | Call::Fill { .. } => Reply::Number(self.number),
             Call::Get(_) => Reply::Value(self.number == 1),

@@ -1,31 +1,41 @@
 //! Safe calls of the proved library: sets of positions 0 ..= 2^64 − 1, kept as runs in a slice of words that the caller lends.
 //!
-//! A store of capacity C is 8 × (C + 3) words and holds at most C runs. [`Set`] is a store over lent words (`Set<&mut [u64]>`),
-//! words to be read only (`Set<&[u64]>`), an array or a vector ([`SetBuf`]). Names are those of IntervalBitSet, which is here as
-//! [`oracle`]; what only makes a set from others ([`Set::combine`], [`Set::not`], [`Set::shifted`], [`Set::from_sorted_runs`],
-//! [`Set::load`]) takes the words that are to hold it, whatever they held before.
+//! A [`Pool`] of capacity C is 8 × (C + 49) words and has 1 to 16 worlds, each a set with a floor and a ceiling of runs ([`Limits`]).
+//! The floors are kept for their worlds; the rest of the C runs goes to whichever world asks first. [`Pool::world`] and
+//! [`Pool::world_mut`] lend a [`World`], which has the calls; world numbers count from 0. A [`Set`] is a pool of one world, for whoever
+//! needs no more: it has every call of that world.
 //!
-//! No call needs a test beforehand: whatever the words, bounds, numbers and bytes are, it answers its result or one [`Refusal`].
-//! A refused call changes nothing. Every call that reads a store may be refused with [`Refusal::StoreLength`] and
-//! [`Refusal::Unsound`]; the others are named where they occur.
+//! All three are over lent words (`Pool<&mut [u64]>`), words to be read only (`Pool<&[u64]>`), an array or a vector ([`PoolBuf`],
+//! [`SetBuf`]). Names are those of IntervalBitSet, which is here as [`oracle`]; what IntervalBitSet makes anew from others
+//! ([`World::combine`], [`World::not`], [`World::shifted`]) overwrites the world that is to hold it.
+//!
+//! No call needs a test beforehand: whatever the words, numbers, bounds and bytes are, it answers its result or one [`Refusal`].
+//! A refused call changes nothing. Every call but those that make a pool may be refused with [`Refusal::StoreLength`],
+//! [`Refusal::Unsound`] and [`Refusal::WorldUnopened`], of the world and of further worlds; the other refusals are named where they
+//! occur.
 //!
 //! ```
-//! use vizturel::SetBuf;
+//! use vizturel::{Limits, PoolBuf, Refusal, SetBuf};
 //! # fn main() -> Result<(), vizturel::Refusal> {
 //! let mut slots = SetBuf::with_capacity(8)?;
 //! assert_eq!(slots.set(2..8, true)?, 6);
 //! assert_eq!(slots.find(4.., false)?, Some(8));
+//!
+//! // Two worlds share eight runs: the first is sure of two, the second may have at most four.
+//! let mut pool = PoolBuf::with_capacity(8, &[Limits { floor: 2, ceiling: 8 }, Limits { floor: 0, ceiling: 4 }])?;
+//! pool.world_mut(0).set(2..8, true)?;
+//! assert_eq!(pool.world(1).count(.., true)?, 0);
+//! assert_eq!(pool.world(2).get(0), Err(Refusal::WorldUnopened));
 //! # Ok(())
 //! # }
 //! ```
 //!
-//! Every call that reads a store makes the soundness check first: one pass over all nodes, used and free ones, whose cost goes by the capacity
-//! and not by the runs. Most calls then need one path down the tree. [`Set::frame`] and [`Set::play`] make a list of calls after one soundness
-//! check.
+//! Every call makes the soundness check first: one pass over all nodes, used and free ones, whose cost goes by the capacity and not by the
+//! runs. Most calls then need one path down the tree. [`Pool::frame`] and [`Pool::play`] make a list of calls after one soundness check.
 
 use std::error;
 use std::fmt;
-use std::ops::{Bound, RangeBounds, RangeInclusive};
+use std::ops::{Bound, Deref, DerefMut, RangeBounds, RangeInclusive};
 
 pub mod bench;
 pub mod conformance;
@@ -40,7 +50,7 @@ mod raw;
 /// Why a call was refused. The numbers are those of the project's README.
 #[derive(Clone, Copy, Debug, PartialEq, Eq)]
 pub enum Refusal {
-    /// A store's length is not 8 × (C + 3) words for a capacity C from 1 to 65,536.
+    /// A pool's length is not 8 × (C + 49) words for a capacity C from 1 to 65,536.
     StoreLength = 1,
     /// The output slice is shorter than what is due.
     OutputShort = 2,
@@ -52,18 +62,24 @@ pub enum Refusal {
     RunOrder = 5,
     /// A window has length 0 or above 524,288 or ends above 2^64, or a map to be read has not length / 8 bytes, rounded up.
     Window = 6,
-    /// A store that the call reads is not sound.
+    /// A pool is not sound.
     Unsound = 7,
-    /// The result would have more runs than the capacity of the store that receives it.
+    /// The world would have more runs than its ceiling, or the larger of runs and floor, summed over the pool's worlds, would exceed the
+    /// capacity.
     Capacity = 8,
     /// A gap of length 0 is asked for.
     GapLength = 9,
     /// A spare bit of a map to be read is one: a bit of its last byte that is past the window. [`clear_map`] zeroes these.
     StrayBit = 10,
+    /// A pool cannot be made with these limits: the worlds are not 1 to 16, a floor is above its ceiling, or the floors together are above
+    /// the capacity.
+    WorldLimits = 11,
+    /// A world of that number was not opened.
+    WorldUnopened = 12,
 }
 
 impl Refusal {
-    const ALL: [Refusal; 10] = [
+    const ALL: [Refusal; 12] = [
         Refusal::StoreLength,
         Refusal::OutputShort,
         Refusal::SetLength,
@@ -74,9 +90,11 @@ impl Refusal {
         Refusal::Capacity,
         Refusal::GapLength,
         Refusal::StrayBit,
+        Refusal::WorldLimits,
+        Refusal::WorldUnopened,
     ];
 
-    /// The number of the refusal, from 1 to 10.
+    /// The number of the refusal, from 1 to 12.
     pub fn number(self) -> u64 {
         self as u64
     }
@@ -85,16 +103,18 @@ impl Refusal {
 impl fmt::Display for Refusal {
     fn fmt(&self, f: &mut fmt::Formatter) -> fmt::Result {
         f.write_str(match self {
-            Refusal::StoreLength => "a store's length is not 8 × (C + 3) words for a capacity C from 1 to 65,536",
+            Refusal::StoreLength => "a pool's length is not 8 × (C + 49) words for a capacity C from 1 to 65,536",
             Refusal::OutputShort => "the output slice is shorter than what is due",
             Refusal::SetLength => "a written set has fewer than 5 bytes, or not 5 + 16 × R",
             Refusal::SetVersion => "a written set's version byte is not 1",
             Refusal::RunOrder => "a run's start exceeds its end, or is below the previous end + 2",
             Refusal::Window => "a window is empty, too long or past 2^64, or a map's length is not the window's",
-            Refusal::Unsound => "a store that the call reads is not sound",
-            Refusal::Capacity => "the result would have more runs than the capacity",
+            Refusal::Unsound => "a pool is not sound",
+            Refusal::Capacity => "the world would have more runs than its ceiling or the pool allows",
             Refusal::GapLength => "a gap of length 0 is asked for",
             Refusal::StrayBit => "a spare bit of a map to be read is one",
+            Refusal::WorldLimits => "worlds not 1 to 16, a floor above its ceiling, or floors above the capacity",
+            Refusal::WorldUnopened => "a world of that number was not opened",
         })
     }
 }
@@ -113,7 +133,7 @@ pub enum Operation {
 }
 
 /// What is left of a listing of runs: those of the value from first to last. It has ended where first is above last. It borrows no
-/// store, so the store may change between two draws.
+/// pool, so the pool may change between two draws.
 #[derive(Clone, Copy, Debug, PartialEq, Eq)]
 pub struct Listing {
     pub first: u64,
@@ -121,37 +141,109 @@ pub struct Listing {
     pub value: bool,
 }
 
-/// The words of a store: see the crate's description.
+/// How many runs a world has room for at any time, and how many it may have at most. The room between the two is the pool's, and is
+/// there as long as no other world has taken it.
+#[repr(C)]
+#[derive(Clone, Copy, Debug, PartialEq, Eq)]
+pub struct Limits {
+    pub floor: u64,
+    /// It may be above the pool's capacity.
+    pub ceiling: u64,
+}
+
+impl Limits {
+    /// No room is kept for the world, and the capacity alone bounds it.
+    pub const NONE: Limits = Limits { floor: 0, ceiling: u64::MAX };
+}
+
+// The library reads limits as words, in turn.
+const _: () = assert!(size_of::<Limits>() == 16 && align_of::<Limits>() == 8);
+
+/// The words of a pool: see the crate's description.
+#[derive(Clone, Debug)]
+pub struct Pool<S> {
+    words: S,
+}
+
+/// A pool that owns its words.
+pub type PoolBuf = Pool<Vec<u64>>;
+
+/// A world of a pool, by its number: see the crate's description. It dereferences to the pool.
+#[derive(Clone, Debug)]
+pub struct World<S> {
+    pool: Pool<S>,
+    number: u64,
+}
+
+/// A pool of one world, whose floor is 0 and whose ceiling is 2^64 − 1, so that it holds as many runs as the capacity. It dereferences to
+/// its world.
 #[derive(Clone, Debug)]
 pub struct Set<S> {
-    words: S,
+    world: World<S>,
 }
 
 /// A set that owns its words.
 pub type SetBuf = Set<Vec<u64>>;
 
-/// Words for a store of the capacity. They are no store yet.
+/// How many words a pool of the capacity has.
+pub const fn words(capacity: usize) -> usize {
+    8 * (capacity + 49)
+}
+
+/// Words for a pool of the capacity. They are no pool yet.
 pub fn room(capacity: usize) -> Vec<u64> {
-    vec![0; 8 * (capacity + 3)]
+    vec![0; words(capacity)]
 }
 
-impl SetBuf {
-    /// The empty set, with room for that many runs. Refused with 1 where the capacity is not from 1 to 65,536.
-    pub fn with_capacity(capacity: usize) -> Answer<SetBuf> {
-        // A capacity beyond the largest is not allocated; one more than the largest is refused just so.
-        Set::new(room(capacity.min(65_537)))
-    }
-}
-
-impl<S> Set<S> {
-    /// Takes words that are a store already, without the soundness check: each call makes it.
-    pub fn over(words: S) -> Set<S> {
-        Set { words }
+impl<S> Pool<S> {
+    /// Takes words that are a pool already, without the soundness check: each call makes it.
+    pub fn from_words(words: S) -> Pool<S> {
+        Pool { words }
     }
 
     /// Hands the words back.
     pub fn into_words(self) -> S {
         self.words
+    }
+}
+
+impl<S> Set<S> {
+    /// Takes words that are a pool already, of which world 0 is meant, without the soundness check: each call makes it.
+    pub fn from_words(words: S) -> Set<S> {
+        Set { world: World { pool: Pool { words }, number: 0 } }
+    }
+
+    /// Hands the words back.
+    pub fn into_words(self) -> S {
+        self.world.pool.words
+    }
+}
+
+impl<S> Deref for World<S> {
+    type Target = Pool<S>;
+
+    fn deref(&self) -> &Pool<S> {
+        &self.pool
+    }
+}
+
+impl<S> DerefMut for World<S> {
+    fn deref_mut(&mut self) -> &mut Pool<S> {
+        &mut self.pool
+    }
+}
+
+impl<S> Deref for Set<S> {
+    type Target = World<S>;
+
+    fn deref(&self) -> &World<S> {
+        &self.world
+    }
+}
+
+impl<S> DerefMut for Set<S> {
+    fn deref_mut(&mut self) -> &mut World<S> {
+        &mut self.world
     }
 }
 
@@ -192,7 +284,7 @@ fn bounds(range: impl RangeBounds<u64>) -> (raw::Bound, raw::Bound) {
 // read and uniquely where it is written, and no exported function asks more of its caller.
 
 /// Makes a map of the window of n positions from base on fit to be read: zeroes its spare bits, those of the last byte past the window,
-/// and tells how many were one. The other bits stay. It takes no store. Refused with 6 alone.
+/// and tells how many were one. The other bits stay. It takes no pool. Refused with 6 alone.
 ///
 /// ```
 /// use vizturel::{Refusal, SetBuf, clear_map};
@@ -211,109 +303,91 @@ pub fn clear_map(base: u64, n: u64, map: &mut [u8]) -> Answer<u64> {
     number(unsafe { raw::vizturel_clear_map(base, n, map.as_mut_ptr(), map.len()) })
 }
 
-/// Calls that make a set in words that may hold anything. They may be refused with 1 of the words, and change them only if they
-/// succeed.
-impl<S: AsMut<[u64]>> Set<S> {
-    /// The empty set.
-    pub fn new(mut words: S) -> Answer<Set<S>> {
+/// Making a pool in words that may hold anything. They change only if it succeeds.
+impl<S: AsMut<[u64]>> Pool<S> {
+    /// Opens a world for each of the limits: worlds 0, 1 and so on, all empty. Refused with 1 of the words, or 11.
+    pub fn new(mut words: S, limits: &[Limits]) -> Answer<Pool<S>> {
         let w = words.as_mut();
-        let refusal = unsafe { raw::vizturel_new(w.as_mut_ptr(), w.len()) };
-        answer(refusal, Set { words })
-    }
-
-    /// The set of a run list: start and end of each run, both in it, rising and not touching. Refused with 5 or 8.
-    pub fn from_sorted_runs(mut words: S, runs: &[[u64; 2]]) -> Answer<Set<S>> {
-        let w = words.as_mut();
-        let r = runs.as_flattened();
-        let refusal = unsafe { raw::vizturel_build(w.as_mut_ptr(), w.len(), r.as_ptr(), r.len()) };
-        answer(refusal, Set { words })
-    }
-
-    /// The set that a written set tells. Refused with 3, 4, 5 or 8.
-    pub fn load(mut words: S, bytes: &[u8]) -> Answer<Set<S>> {
-        let w = words.as_mut();
-        let refusal = unsafe { raw::vizturel_load(w.as_mut_ptr(), w.len(), bytes.as_ptr(), bytes.len()) };
-        answer(refusal, Set { words })
-    }
-
-    /// Two sets joined. Refused with 7 of either, or 8.
-    pub fn combine<A, B>(mut words: S, op: Operation, a: &Set<A>, b: &Set<B>) -> Answer<Set<S>>
-    where
-        A: AsRef<[u64]>,
-        B: AsRef<[u64]>,
-    {
-        let (w, a, b) = (words.as_mut(), a.words.as_ref(), b.words.as_ref());
-        let refusal = unsafe {
-            raw::vizturel_combine(w.as_mut_ptr(), w.len(), op as u64, a.as_ptr(), a.len(), b.as_ptr(), b.len())
-        };
-        answer(refusal, Set { words })
-    }
-
-    /// The complement of a set. Refused with 7 of that set, or 8.
-    pub fn not<A: AsRef<[u64]>>(mut words: S, a: &Set<A>) -> Answer<Set<S>> {
-        let (w, a) = (words.as_mut(), a.words.as_ref());
-        let refusal = unsafe { raw::vizturel_not(w.as_mut_ptr(), w.len(), a.as_ptr(), a.len()) };
-        answer(refusal, Set { words })
-    }
-
-    /// A set moved up (left) or down; what would leave 0 ..= 2^64 − 1 is dropped. Refused with 7 of that set, or 8.
-    pub fn shifted<A: AsRef<[u64]>>(mut words: S, a: &Set<A>, distance: u64, left: bool) -> Answer<Set<S>> {
-        let (w, a) = (words.as_mut(), a.words.as_ref());
-        let refusal =
-            unsafe { raw::vizturel_shifted(w.as_mut_ptr(), w.len(), distance, left.into(), a.as_ptr(), a.len()) };
-        answer(refusal, Set { words })
+        let refusal = unsafe { raw::vizturel_new(w.as_mut_ptr(), w.len(), limits.as_ptr().cast(), 2 * limits.len()) };
+        answer(refusal, Pool { words })
     }
 }
 
-/// Calls that change a set.
+impl PoolBuf {
+    /// Empty worlds of these limits, with room for so many runs together. Refused with 1 where the capacity is not from 1 to 65,536, or
+    /// with 11.
+    pub fn with_capacity(capacity: usize, limits: &[Limits]) -> Answer<PoolBuf> {
+        // A capacity beyond the largest is not allocated; one more than the largest is refused just so.
+        Pool::new(room(capacity.min(65_537)), limits)
+    }
+}
+
 impl<S: AsMut<[u64]>> Set<S> {
-    /// The words, to be changed at the caller's own risk of a store that is not sound.
+    /// The empty set, in words that may hold anything. Refused with 1 of the words.
+    pub fn new(words: S) -> Answer<Set<S>> {
+        Ok(Set::from_words(Pool::new(words, &[Limits::NONE])?.words))
+    }
+}
+
+impl SetBuf {
+    /// The empty set, with room for so many runs. Refused with 1 where the capacity is not from 1 to 65,536.
+    pub fn with_capacity(capacity: usize) -> Answer<SetBuf> {
+        Ok(Set::from_words(PoolBuf::with_capacity(capacity, &[Limits::NONE])?.words))
+    }
+}
+
+/// What is in a pool.
+impl<S: AsRef<[u64]>> Pool<S> {
+    /// The words.
+    pub fn words(&self) -> &[u64] {
+        self.words.as_ref()
+    }
+
+    /// A world, to be read. Its calls are refused with 12 where no world of that number was opened.
+    pub fn world(&self, number: u64) -> World<&[u64]> {
+        World { pool: Pool { words: self.words() }, number }
+    }
+}
+
+impl<S: AsMut<[u64]>> Pool<S> {
+    /// The words, to be changed at the caller's own risk of a pool that is not sound.
     pub fn words_mut(&mut self) -> &mut [u64] {
         self.words.as_mut()
     }
 
-    /// Gives a range the value, and tells how many positions changed. Refused with 8.
-    pub fn set(&mut self, range: impl RangeBounds<u64>, value: bool) -> Answer<u128> {
-        let w = self.words.as_mut();
-        let (lower, upper) = bounds(range);
-        count(unsafe { raw::vizturel_set(w.as_mut_ptr(), w.len(), lower, upper, value.into()) })
+    /// A world, to be changed. Its calls are refused with 12 where no world of that number was opened.
+    pub fn world_mut(&mut self, number: u64) -> World<&mut [u64]> {
+        World { pool: Pool { words: self.words_mut() }, number }
     }
 
-    /// Inverts a range. Refused with 8.
-    pub fn flip(&mut self, range: impl RangeBounds<u64>) -> Answer<()> {
-        let w = self.words.as_mut();
-        let (lower, upper) = bounds(range);
-        answer(unsafe { raw::vizturel_flip(w.as_mut_ptr(), w.len(), lower, upper) }, ())
-    }
-
-    /// Moves every position up (left) or down; what would leave 0 ..= 2^64 − 1 is dropped.
-    pub fn shift(&mut self, distance: u64, left: bool) -> Answer<()> {
-        let w = self.words.as_mut();
-        answer(unsafe { raw::vizturel_shift(w.as_mut_ptr(), w.len(), distance, left.into()) }, ())
-    }
-
-    /// Makes every call of a list, in order, and tells what each answers: see [`frame`]. A call of the list that is refused changes
-    /// nothing, and the next one follows.
+    /// Makes every call of a list at the world beside it, in order, and tells what each answers: see [`frame`]. A call of the list that is
+    /// refused changes nothing, and the next one follows.
     ///
     /// ```
     /// use vizturel::frame::{Call, Reply};
-    /// use vizturel::{Refusal, SetBuf};
+    /// use vizturel::{Limits, PoolBuf, Refusal};
     /// # fn main() -> Result<(), vizturel::Refusal> {
-    /// let mut slots = SetBuf::with_capacity(1)?;
-    /// let told = slots.frame(&[Call::set(2..8, true), Call::set(4..6, false), Call::find(4.., false)])?;
-    /// assert_eq!(told, [Ok(Reply::Count(6)), Err(Refusal::Capacity), Ok(Reply::Position(Some(8)))]);
+    /// let mut pool = PoolBuf::with_capacity(2, &[Limits { floor: 1, ceiling: 2 }, Limits { floor: 1, ceiling: 2 }])?;
+    /// let told = pool.frame(&[
+    ///     (0, Call::set(2..8, true)),
+    ///     (0, Call::set(4..6, false)), // a second run, but the second world is sure of its one
+    ///     (1, Call::set(4..6, true)),
+    ///     (2, Call::Get(0)),
+    /// ])?;
+    /// let (full, none) = (Err(Refusal::Capacity), Err(Refusal::WorldUnopened));
+    /// assert_eq!(told, [Ok(Reply::Count(6)), full, Ok(Reply::Count(2)), none]);
     /// # Ok(())
     /// # }
     /// ```
-    pub fn frame(&mut self, calls: &[frame::Call]) -> Answer<Vec<Answer<frame::Reply>>> {
+    pub fn frame(&mut self, calls: &[(u64, frame::Call)]) -> Answer<Vec<Answer<frame::Reply>>> {
         let asked: Vec<frame::CallRecord> = calls.iter().map(|&call| call.into()).collect();
         let mut answers = vec![frame::AnswerRecord::default(); calls.len()];
         self.play(&asked, &mut answers)?;
-        Ok(calls.iter().zip(&answers).map(|(&call, told)| told.reply(call)).collect())
+        Ok(calls.iter().zip(&answers).map(|(&(_, call), told)| told.reply(call)).collect())
     }
 
-    /// The same over lent records, without allocating: the answers are the front of the lent slice, and that part is handed back.
-    /// Refused with 2 where there are fewer answers than calls; then no call was made.
+    /// The same over lent records, which name their worlds, without allocating: the answers are the front of the lent slice, and that
+    /// part is handed back. Refused with 2 where there are fewer answers than calls; then no call was made.
     pub fn play<'o>(
         &mut self,
         calls: &[frame::CallRecord],
@@ -326,7 +400,7 @@ impl<S: AsMut<[u64]>> Set<S> {
 
     // Over words, of which there may be any number.
     fn play_words(&mut self, calls: &[u64], answers: &mut [u64]) -> Answer<()> {
-        let w = self.words.as_mut();
+        let w = self.words_mut();
         let refusal = unsafe {
             raw::vizturel_frame(
                 w.as_mut_ptr(),
@@ -339,93 +413,180 @@ impl<S: AsMut<[u64]>> Set<S> {
         };
         answer(refusal, ())
     }
+}
 
-    /// Sets the window of n positions from base on as a map says, and tells how many positions changed. Refused with 6, 10 or 8.
+/// Calls that change a world. The other worlds of the pool keep their positions.
+impl<S: AsMut<[u64]>> World<S> {
+    // What every exported function takes of a pool and a world.
+    fn lent_mut(&mut self) -> (*mut u64, usize, u64) {
+        let w = self.pool.words_mut();
+        (w.as_mut_ptr(), w.len(), self.number)
+    }
+
+    /// Gives a range the value, and tells how many positions changed. Refused with 8.
+    pub fn set(&mut self, range: impl RangeBounds<u64>, value: bool) -> Answer<u128> {
+        let (w, n, i) = self.lent_mut();
+        let (lower, upper) = bounds(range);
+        count(unsafe { raw::vizturel_set(w, n, i, lower, upper, value.into()) })
+    }
+
+    /// Inverts a range. Refused with 8.
+    pub fn flip(&mut self, range: impl RangeBounds<u64>) -> Answer<()> {
+        let (w, n, i) = self.lent_mut();
+        let (lower, upper) = bounds(range);
+        answer(unsafe { raw::vizturel_flip(w, n, i, lower, upper) }, ())
+    }
+
+    /// Moves every position up (left) or down; what would leave 0 ..= 2^64 − 1 is dropped.
+    pub fn shift(&mut self, distance: u64, left: bool) -> Answer<()> {
+        let (w, n, i) = self.lent_mut();
+        answer(unsafe { raw::vizturel_shift(w, n, i, distance, left.into()) }, ())
+    }
+
+    /// Makes every call of a list at this world: see [`Pool::frame`].
+    ///
+    /// ```
+    /// use vizturel::frame::{Call, Reply};
+    /// use vizturel::{Refusal, SetBuf};
+    /// # fn main() -> Result<(), vizturel::Refusal> {
+    /// let mut slots = SetBuf::with_capacity(1)?;
+    /// let told = slots.frame(&[Call::set(2..8, true), Call::set(4..6, false), Call::find(4.., false)])?;
+    /// assert_eq!(told, [Ok(Reply::Count(6)), Err(Refusal::Capacity), Ok(Reply::Position(Some(8)))]);
+    /// # Ok(())
+    /// # }
+    /// ```
+    pub fn frame(&mut self, calls: &[frame::Call]) -> Answer<Vec<Answer<frame::Reply>>> {
+        let here: Vec<_> = calls.iter().map(|&call| (self.number, call)).collect();
+        self.pool.frame(&here)
+    }
+
+    /// Sets the window of so many positions from base on as a map says, and tells how many positions changed. Refused with 6, 10 or 8.
     /// A map with a spare bit that is one is not read: [`clear_map`] zeroes these bits.
-    pub fn read_map(&mut self, base: u64, n: u64, map: &[u8]) -> Answer<u128> {
-        let w = self.words.as_mut();
-        count(unsafe { raw::vizturel_read_map(w.as_mut_ptr(), w.len(), base, n, map.as_ptr(), map.len()) })
+    pub fn read_map(&mut self, base: u64, length: u64, map: &[u8]) -> Answer<u128> {
+        let (w, n, i) = self.lent_mut();
+        count(unsafe { raw::vizturel_read_map(w, n, i, base, length, map.as_ptr(), map.len()) })
     }
 }
 
-/// Calls that report of a set.
-impl<S: AsRef<[u64]>> Set<S> {
-    /// The words.
-    pub fn words(&self) -> &[u64] {
-        self.words.as_ref()
+/// Calls that overwrite a world: it then holds what is told, whatever it held. Its limits stay, and so do the other worlds of the pool.
+///
+/// The sets that they are made of are lent beside it, so they cannot be of the same pool: a world that is to be overwritten from its
+/// neighbours is made from a copy of the pool.
+impl<S: AsMut<[u64]>> World<S> {
+    /// Holds the set of a run list: start and end of each run, both in it, rising and not touching. Refused with 5 or 8.
+    pub fn build(&mut self, runs: &[[u64; 2]]) -> Answer<()> {
+        let (w, n, i) = self.lent_mut();
+        let r = runs.as_flattened();
+        answer(unsafe { raw::vizturel_build(w, n, i, r.as_ptr(), r.len()) }, ())
+    }
+
+    /// Holds the set that a written set tells. Refused with 3, 4, 5 or 8.
+    pub fn load(&mut self, bytes: &[u8]) -> Answer<()> {
+        let (w, n, i) = self.lent_mut();
+        answer(unsafe { raw::vizturel_load(w, n, i, bytes.as_ptr(), bytes.len()) }, ())
+    }
+
+    /// Holds two sets joined. Refused with 8.
+    pub fn combine<A, B>(&mut self, op: Operation, a: &World<A>, b: &World<B>) -> Answer<()>
+    where
+        A: AsRef<[u64]>,
+        B: AsRef<[u64]>,
+    {
+        let ((w, n, i), (aw, an, ai), (bw, bn, bi)) = (self.lent_mut(), a.lent(), b.lent());
+        answer(unsafe { raw::vizturel_combine(w, n, i, op as u64, aw, an, ai, bw, bn, bi) }, ())
+    }
+
+    /// Holds the complement of a set. Refused with 8.
+    pub fn not<A: AsRef<[u64]>>(&mut self, a: &World<A>) -> Answer<()> {
+        let ((w, n, i), (aw, an, ai)) = (self.lent_mut(), a.lent());
+        answer(unsafe { raw::vizturel_not(w, n, i, aw, an, ai) }, ())
+    }
+
+    /// Holds a set moved up (left) or down; what would leave 0 ..= 2^64 − 1 is dropped. Refused with 8.
+    pub fn shifted<A: AsRef<[u64]>>(&mut self, a: &World<A>, distance: u64, left: bool) -> Answer<()> {
+        let ((w, n, i), (aw, an, ai)) = (self.lent_mut(), a.lent());
+        answer(unsafe { raw::vizturel_shifted(w, n, i, distance, left.into(), aw, an, ai) }, ())
+    }
+}
+
+/// Calls that report of a world.
+impl<S: AsRef<[u64]>> World<S> {
+    fn lent(&self) -> (*const u64, usize, u64) {
+        let w = self.pool.words();
+        (w.as_ptr(), w.len(), self.number)
     }
 
     /// The value of a position.
     pub fn get(&self, x: u64) -> Answer<bool> {
-        let w = self.words();
-        Ok(number(unsafe { raw::vizturel_get(w.as_ptr(), w.len(), x) })? == 1)
+        let (w, n, i) = self.lent();
+        Ok(number(unsafe { raw::vizturel_get(w, n, i, x) })? == 1)
     }
 
     /// The run around a position, of whichever value it has.
     pub fn run_at(&self, x: u64) -> Answer<RangeInclusive<u64>> {
-        let w = self.words();
-        let r = unsafe { raw::vizturel_run_at(w.as_ptr(), w.len(), x) };
+        let (w, n, i) = self.lent();
+        let r = unsafe { raw::vizturel_run_at(w, n, i, x) };
         answer(r.refusal, r.start..=r.end)
     }
 
     /// The least position of the value in a range.
     pub fn find(&self, range: impl RangeBounds<u64>, value: bool) -> Answer<Option<u64>> {
-        let w = self.words();
+        let (w, n, i) = self.lent();
         let (lower, upper) = bounds(range);
-        position(unsafe { raw::vizturel_find(w.as_ptr(), w.len(), lower, upper, value.into()) })
+        position(unsafe { raw::vizturel_find(w, n, i, lower, upper, value.into()) })
     }
 
     /// How many positions of a range have the value: up to 2^64.
     pub fn count(&self, range: impl RangeBounds<u64>, value: bool) -> Answer<u128> {
-        let w = self.words();
+        let (w, n, i) = self.lent();
         let (lower, upper) = bounds(range);
-        count(unsafe { raw::vizturel_count(w.as_ptr(), w.len(), lower, upper, value.into()) })
+        count(unsafe { raw::vizturel_count(w, n, i, lower, upper, value.into()) })
     }
 
     /// The position of a range that has the value and exactly k such positions before it.
     pub fn select(&self, range: impl RangeBounds<u64>, value: bool, k: u64) -> Answer<Option<u64>> {
-        let w = self.words();
+        let (w, n, i) = self.lent();
         let (lower, upper) = bounds(range);
-        position(unsafe { raw::vizturel_select(w.as_ptr(), w.len(), lower, upper, value.into(), k) })
+        position(unsafe { raw::vizturel_select(w, n, i, lower, upper, value.into(), k) })
     }
 
     /// How many runs of the value a range has, those cut by its ends included.
     pub fn count_ranges(&self, range: impl RangeBounds<u64>, value: bool) -> Answer<u64> {
-        let w = self.words();
+        let (w, n, i) = self.lent();
         let (lower, upper) = bounds(range);
-        number(unsafe { raw::vizturel_count_ranges(w.as_ptr(), w.len(), lower, upper, value.into()) })
+        number(unsafe { raw::vizturel_count_ranges(w, n, i, lower, upper, value.into()) })
     }
 
     /// The runs of the value in a range, clipped to it, from both ends.
     pub fn ranges(&self, range: impl RangeBounds<u64>, value: bool) -> Answer<Ranges<'_>> {
         let listing = self.listing(range, value)?;
-        Ok(Ranges { set: Set { words: self.words() }, listing })
+        Ok(Ranges { world: self.pool.world(self.number), listing })
     }
 
-    /// A listing of the runs of the value in a range, kept beside the set.
+    /// A listing of the runs of the value in a range, kept beside the world.
     pub fn listing(&self, range: impl RangeBounds<u64>, value: bool) -> Answer<Listing> {
-        let w = self.words();
+        let (w, n, i) = self.lent();
         let (lower, upper) = bounds(range);
-        let l = unsafe { raw::vizturel_ranges(w.as_ptr(), w.len(), lower, upper, value.into()) };
+        let l = unsafe { raw::vizturel_ranges(w, n, i, lower, upper, value.into()) };
         answer(l.refusal, Listing { first: l.first, last: l.last, value: l.value == 1 })
     }
 
     /// Draws the first run that is left in a listing, and moves the listing past it.
     pub fn draw_front(&self, listing: &mut Listing) -> Answer<Option<RangeInclusive<u64>>> {
-        let w = self.words();
+        let (w, n, i) = self.lent();
         let Listing { first, last, value } = *listing;
-        drawn(listing, unsafe { raw::vizturel_draw_front(w.as_ptr(), w.len(), first, last, value.into()) })
+        drawn(listing, unsafe { raw::vizturel_draw_front(w, n, i, first, last, value.into()) })
     }
 
     /// Draws the last run that is left in a listing, and moves the listing before it.
     pub fn draw_back(&self, listing: &mut Listing) -> Answer<Option<RangeInclusive<u64>>> {
-        let w = self.words();
+        let (w, n, i) = self.lent();
         let Listing { first, last, value } = *listing;
-        drawn(listing, unsafe { raw::vizturel_draw_back(w.as_ptr(), w.len(), first, last, value.into()) })
+        drawn(listing, unsafe { raw::vizturel_draw_back(w, n, i, first, last, value.into()) })
     }
 
-    /// The start of some gap of a range: n neighbouring positions, all in the range and all free. None exactly if the range has none.
-    /// Refused with 9 where n is 0.
+    /// The start of some gap of a range: so many neighbouring positions, all in the range and all free. None exactly if the range has
+    /// none. Refused with 9 where the length is 0.
     ///
     /// **Lockstep builds must not call this.** Which gap is given, where there are several, is left open: two sets that hold the same
     /// positions may answer differently, and so may two versions of the library. It is for tools that run offline, such as a level
@@ -445,37 +606,37 @@ impl<S: AsRef<[u64]>> Set<S> {
     /// # Ok(())
     /// # }
     /// ```
-    pub fn gap(&self, range: impl RangeBounds<u64>, n: u64) -> Answer<Option<u64>> {
-        let w = self.words();
+    pub fn gap(&self, range: impl RangeBounds<u64>, length: u64) -> Answer<Option<u64>> {
+        let (w, n, i) = self.lent();
         let (lower, upper) = bounds(range);
-        position(unsafe { raw::vizturel_gap(w.as_ptr(), w.len(), lower, upper, n) })
+        position(unsafe { raw::vizturel_gap(w, n, i, lower, upper, length) })
     }
 
-    /// 1000 × held positions / n in the window of n positions from base on, rounded down. Refused with 6.
-    pub fn fill(&self, base: u64, n: u64) -> Answer<u64> {
-        let w = self.words();
-        number(unsafe { raw::vizturel_fill(w.as_ptr(), w.len(), base, n) })
+    /// 1000 × held positions / length in the window of so many positions from base on, rounded down. Refused with 6.
+    pub fn fill(&self, base: u64, length: u64) -> Answer<u64> {
+        let (w, n, i) = self.lent();
+        number(unsafe { raw::vizturel_fill(w, n, i, base, length) })
     }
 
-    /// Whether two sets hold the same positions. Refused with 7 of either.
-    pub fn eq<B: AsRef<[u64]>>(&self, other: &Set<B>) -> Answer<bool> {
-        let (w, b) = (self.words(), other.words());
-        Ok(number(unsafe { raw::vizturel_eq(w.as_ptr(), w.len(), b.as_ptr(), b.len()) })? == 1)
+    /// Whether two worlds, of one pool or of two, hold the same positions.
+    pub fn eq<B: AsRef<[u64]>>(&self, other: &World<B>) -> Answer<bool> {
+        let ((w, n, i), (bw, bn, bi)) = (self.lent(), other.lent());
+        Ok(number(unsafe { raw::vizturel_eq(w, n, i, bw, bn, bi) })? == 1)
     }
 
-    /// Writes the set into the front of a slice, and hands that part back. Refused with 2.
+    /// Writes the world's set into the front of a slice, and hands that part back. Refused with 2.
     pub fn write<'o>(&self, out: &'o mut [u8]) -> Answer<&'o mut [u8]> {
-        let w = self.words();
-        let n = number(unsafe { raw::vizturel_write(w.as_ptr(), w.len(), out.as_mut_ptr(), out.len()) })?;
-        Ok(&mut out[..n as usize])
+        let (w, n, i) = self.lent();
+        let written = number(unsafe { raw::vizturel_write(w, n, i, out.as_mut_ptr(), out.len()) })?;
+        Ok(&mut out[..written as usize])
     }
 
-    /// Writes the map of the window of n positions from base on into the front of a slice, and hands that part back. Refused with
+    /// Writes the map of the window of so many positions from base on into the front of a slice, and hands that part back. Refused with
     /// 6 or 2.
-    pub fn write_map<'o>(&self, base: u64, n: u64, out: &'o mut [u8]) -> Answer<&'o mut [u8]> {
-        let w = self.words();
-        let n = number(unsafe { raw::vizturel_write_map(w.as_ptr(), w.len(), base, n, out.as_mut_ptr(), out.len()) })?;
-        Ok(&mut out[..n as usize])
+    pub fn write_map<'o>(&self, base: u64, length: u64, out: &'o mut [u8]) -> Answer<&'o mut [u8]> {
+        let (w, n, i) = self.lent();
+        let written = number(unsafe { raw::vizturel_write_map(w, n, i, base, length, out.as_mut_ptr(), out.len()) })?;
+        Ok(&mut out[..written as usize])
     }
 }
 
@@ -487,26 +648,26 @@ fn drawn(listing: &mut Listing, d: raw::Drawn) -> Answer<Option<RangeInclusive<u
     Ok((d.found == 1).then_some(d.start..=d.end))
 }
 
-/// The runs of a set in a range, drawn one by one.
+/// The runs of a world in a range, drawn one by one.
 pub struct Ranges<'a> {
-    set: Set<&'a [u64]>,
+    world: World<&'a [u64]>,
     listing: Listing,
 }
 
-// The store was sound when the listing was made, and is lent since.
-const STILL_SOUND: &str = "a lent store stays sound";
+// The pool was sound when the listing was made, and is lent since.
+const STILL_SOUND: &str = "a lent pool stays sound";
 
 impl Iterator for Ranges<'_> {
     type Item = RangeInclusive<u64>;
 
     fn next(&mut self) -> Option<RangeInclusive<u64>> {
-        self.set.draw_front(&mut self.listing).expect(STILL_SOUND)
+        self.world.draw_front(&mut self.listing).expect(STILL_SOUND)
     }
 }
 
 impl DoubleEndedIterator for Ranges<'_> {
     fn next_back(&mut self) -> Option<RangeInclusive<u64>> {
-        self.set.draw_back(&mut self.listing).expect(STILL_SOUND)
+        self.world.draw_back(&mut self.listing).expect(STILL_SOUND)
     }
 }
 

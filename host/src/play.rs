@@ -1,8 +1,8 @@
 //! A small match, frame by frame, for `make run`: builds that are fed the same calls must deal the same slots.
 //!
-//! Bodies, joints and contacts each have a table, and whatever is spawned gets the lowest free slot of its table. At one frame a late
-//! player is admitted from written sets alone, and the Rust build starts anew from the same bytes. Everything is fixed beforehand: two
-//! runs print the same.
+//! A server has four arenas, which are worlds of one pool: each is sure of its floor of runs, and what is left goes to whichever needs it
+//! first. Whatever is spawned gets the lowest free slot of its arena. At one frame a late player is admitted from written sets alone, and
+//! the Rust build starts anew from the same bytes. Everything is fixed beforehand: two runs print the same.
 
 use std::fmt;
 use std::io::{self, Write};
@@ -11,34 +11,47 @@ use std::ops::RangeInclusive;
 use crate::differential::random::Random;
 use crate::differential::reference;
 use crate::oracle::IntervalBitSet;
-use crate::{Answer, Set, SetBuf, room};
+use crate::{Answer, Limits, PoolBuf, Refusal};
 
 const FRAMES: u32 = 26;
 /// The frame before whose calls the late player is admitted.
 const ADMISSION: u32 = 12;
 const SEED: u64 = 386;
-// More runs than a table has at any frame.
-const CAPACITY: usize = 64;
 
-/// A table, by its number.
-pub type Table = usize;
-const TABLES: [&str; 3] = ["bodies", "joints", "contacts"];
-/// The tables of a build as written sets.
-pub type Written = [Vec<u8>; TABLES.len()];
+/// How many runs the arenas have together, at the most.
+pub const CAPACITY: usize = 16;
+/// An arena, by its number: a world of the pool.
+pub type Arena = usize;
+const ARENAS: [&str; 4] = ["north", "east", "south", "west"];
+const LIMITS: [Limits; ARENAS.len()] = [
+    Limits { floor: 4, ceiling: 8 },
+    Limits { floor: 2, ceiling: 4 },
+    Limits { floor: 4, ceiling: 8 },
+    Limits { floor: 0, ceiling: 8 },
+];
+/// The arenas of a build as written sets.
+pub type Written = [Vec<u8>; ARENAS.len()];
 
 /// What a frame asks of every build.
 #[derive(Clone, Debug)]
 pub enum Call {
     /// Deals the lowest free slot.
-    Spawn(Table),
+    Spawn(Arena),
     /// Frees the slot in use that has so many in use below it, if there is one.
-    Despawn(Table, u64),
-    /// Frees a whole range.
-    Free(Table, RangeInclusive<u64>),
+    Despawn(Arena, u64),
+    /// Takes or frees a whole range.
+    Set(Arena, RangeInclusive<u64>, bool),
     /// Frees what is in use in a range, and takes what is free.
-    Flip(Table, RangeInclusive<u64>),
+    Flip(Arena, RangeInclusive<u64>),
     /// Moves every slot in use up or down.
-    Shift(Table, u64, bool),
+    Shift(Arena, u64, bool),
+}
+
+impl Call {
+    fn arena(&self) -> Arena {
+        let (Call::Spawn(i) | Call::Despawn(i, _) | Call::Set(i, ..) | Call::Flip(i, _) | Call::Shift(i, ..)) = *self;
+        i
+    }
 }
 
 fn part(range: &RangeInclusive<u64>) -> String {
@@ -50,12 +63,14 @@ fn part(range: &RangeInclusive<u64>) -> String {
 
 impl fmt::Display for Call {
     fn fmt(&self, f: &mut fmt::Formatter) -> fmt::Result {
+        let name = ARENAS[self.arena()];
         match self {
-            Call::Spawn(p) => write!(f, "spawn of {}", TABLES[*p]),
-            Call::Despawn(p, k) => write!(f, "despawn {k} of {}", TABLES[*p]),
-            Call::Free(p, r) => write!(f, "{} {} freed", TABLES[*p], part(r)),
-            Call::Flip(p, r) => write!(f, "{} {} flipped", TABLES[*p], part(r)),
-            Call::Shift(p, d, up) => write!(f, "{} {} by {d}", TABLES[*p], if *up { "up" } else { "down" }),
+            Call::Spawn(_) => write!(f, "spawn in {name}"),
+            Call::Despawn(_, k) => write!(f, "despawn {k} of {name}"),
+            Call::Set(_, r, true) => write!(f, "{name} {} taken", part(r)),
+            Call::Set(_, r, false) => write!(f, "{name} {} freed", part(r)),
+            Call::Flip(_, r) => write!(f, "{name} {} flipped", part(r)),
+            Call::Shift(_, d, up) => write!(f, "{name} {} by {d}", if *up { "up" } else { "down" }),
         }
     }
 }
@@ -64,67 +79,79 @@ impl fmt::Display for Call {
 pub trait Build {
     /// Makes a call; the slot that was dealt or freed by [`Call::Spawn`] or [`Call::Despawn`].
     fn call(&mut self, call: &Call) -> Answer<Option<u64>>;
-    /// The tables as written sets.
+    /// How many runs each arena has.
+    fn runs(&self) -> Answer<[u64; ARENAS.len()]>;
+    /// The arenas as written sets.
     fn write(&self) -> Answer<Written>;
     /// Starts anew from written sets.
     fn load(&mut self, written: &Written) -> Answer<()>;
 }
 
-/// The proved library.
+/// The proved library: one pool.
 pub struct Library {
-    tables: [SetBuf; TABLES.len()],
+    pool: PoolBuf,
 }
 
 impl Library {
-    pub fn new() -> Answer<Library> {
-        let table = SetBuf::with_capacity(CAPACITY)?;
-        Ok(Library { tables: [table.clone(), table.clone(), table] })
+    pub fn with_capacity(capacity: usize) -> Answer<Library> {
+        Ok(Library { pool: PoolBuf::with_capacity(capacity, &LIMITS)? })
     }
 }
 
 impl Build for Library {
     fn call(&mut self, call: &Call) -> Answer<Option<u64>> {
-        let slot = match call {
-            Call::Spawn(p) => self.tables[*p].find(.., false)?,
-            Call::Despawn(p, k) => self.tables[*p].select(.., true, *k)?,
+        let mut arena = self.pool.world_mut(call.arena() as u64);
+        let slot = match *call {
+            Call::Spawn(_) => arena.find(.., false)?,
+            Call::Despawn(_, k) => arena.select(.., true, k)?,
             _ => None,
         };
         match call {
-            Call::Spawn(p) | Call::Despawn(p, _) => {
+            Call::Spawn(_) | Call::Despawn(..) => {
                 if let Some(x) = slot {
-                    self.tables[*p].set(x..=x, matches!(call, Call::Spawn(_)))?;
+                    arena.set(x..=x, matches!(call, Call::Spawn(_)))?;
                 }
             }
-            Call::Free(p, range) => {
-                self.tables[*p].set(range.clone(), false)?;
+            Call::Set(_, range, value) => {
+                arena.set(range.clone(), *value)?;
             }
-            Call::Flip(p, range) => self.tables[*p].flip(range.clone())?,
-            Call::Shift(p, distance, up) => self.tables[*p].shift(*distance, *up)?,
+            Call::Flip(_, range) => arena.flip(range.clone())?,
+            Call::Shift(_, distance, up) => arena.shift(*distance, *up)?,
         }
         Ok(slot)
     }
 
+    fn runs(&self) -> Answer<[u64; ARENAS.len()]> {
+        let mut runs = [0; ARENAS.len()];
+        for (i, runs) in runs.iter_mut().enumerate() {
+            *runs = self.pool.world(i as u64).count_ranges(.., true)?;
+        }
+        Ok(runs)
+    }
+
     fn write(&self) -> Answer<Written> {
         let mut written = Written::default();
-        for (table, bytes) in self.tables.iter().zip(&mut written) {
-            let mut out = vec![0; 5 + 16 * CAPACITY];
-            *bytes = table.write(&mut out)?.to_vec();
+        for (i, bytes) in written.iter_mut().enumerate() {
+            let mut out = [0; 5 + 16 * CAPACITY];
+            *bytes = self.pool.world(i as u64).write(&mut out)?.to_vec();
         }
         Ok(written)
     }
 
     fn load(&mut self, written: &Written) -> Answer<()> {
-        for (table, bytes) in self.tables.iter_mut().zip(written) {
-            *table = Set::load(room(CAPACITY), bytes)?;
+        // No arena is in the way of another: what does not stand in the bytes, capacity and limits, was told before.
+        *self = Library::with_capacity(CAPACITY)?;
+        for (i, bytes) in written.iter().enumerate() {
+            self.pool.world_mut(i as u64).load(bytes)?;
         }
         Ok(())
     }
 }
 
-/// The published IntervalBitSet.
+/// The published IntervalBitSet: one for each arena. It refuses nothing, so the limits are kept beside it.
 #[derive(Default)]
 pub struct Rust {
-    tables: [IntervalBitSet; TABLES.len()],
+    arenas: [IntervalBitSet; ARENAS.len()],
 }
 
 // The oracle's positions are usize, which is 64 bits wide here.
@@ -132,84 +159,107 @@ fn slots(range: &RangeInclusive<u64>) -> RangeInclusive<usize> {
     *range.start() as usize..=*range.end() as usize
 }
 
+fn runs_of(arena: &IntervalBitSet) -> u64 {
+    arena.count_ranges(.., true) as u64
+}
+
+// What the arenas other than this one claim of the pool: the larger of runs and floor, each.
+fn others_claim(runs: &[u64; ARENAS.len()], arena: Arena) -> u64 {
+    (0..ARENAS.len()).filter(|&i| i != arena).map(|i| runs[i].max(LIMITS[i].floor)).sum()
+}
+
 impl Build for Rust {
     fn call(&mut self, call: &Call) -> Answer<Option<u64>> {
-        let slot = match call {
-            Call::Spawn(p) => self.tables[*p].find(.., false),
-            Call::Despawn(p, k) => self.tables[*p].select(.., true, u128::from(*k)),
+        let i = call.arena();
+        let mut arena = self.arenas[i].clone();
+        let slot = match *call {
+            Call::Spawn(_) => arena.find(.., false),
+            Call::Despawn(_, k) => arena.select(.., true, u128::from(k)),
             _ => None,
         };
         match call {
-            Call::Spawn(p) | Call::Despawn(p, _) => {
+            Call::Spawn(_) | Call::Despawn(..) => {
                 if let Some(x) = slot {
-                    self.tables[*p].set(x..=x, matches!(call, Call::Spawn(_)));
+                    arena.set(x..=x, matches!(call, Call::Spawn(_)));
                 }
             }
-            Call::Free(p, range) => {
-                self.tables[*p].set(slots(range), false);
+            Call::Set(_, range, value) => {
+                arena.set(slots(range), *value);
             }
-            Call::Flip(p, range) => self.tables[*p].flip(slots(range)),
-            Call::Shift(p, distance, true) => self.tables[*p] <<= *distance as usize,
-            Call::Shift(p, distance, false) => self.tables[*p] >>= *distance as usize,
+            Call::Flip(_, range) => arena.flip(slots(range)),
+            Call::Shift(_, distance, true) => arena <<= *distance as usize,
+            Call::Shift(_, distance, false) => arena >>= *distance as usize,
         }
+        let (runs, Limits { floor, ceiling }) = (runs_of(&arena), LIMITS[i]);
+        if runs > ceiling || runs.max(floor) + others_claim(&self.runs()?, i) > CAPACITY as u64 {
+            return Err(Refusal::Capacity);
+        }
+        self.arenas[i] = arena;
         Ok(slot.map(|x| x as u64))
     }
 
+    fn runs(&self) -> Answer<[u64; ARENAS.len()]> {
+        Ok(self.arenas.each_ref().map(runs_of))
+    }
+
     fn write(&self) -> Answer<Written> {
-        Ok(self.tables.each_ref().map(|table| {
-            let runs: Vec<_> = table.ranges(.., true).map(|r| [*r.start() as u64, *r.end() as u64]).collect();
+        Ok(self.arenas.each_ref().map(|arena| {
+            let runs: Vec<_> = arena.ranges(.., true).map(|r| [*r.start() as u64, *r.end() as u64]).collect();
             reference::encode(&runs)
         }))
     }
 
     fn load(&mut self, written: &Written) -> Answer<()> {
-        for (table, bytes) in self.tables.iter_mut().zip(written) {
-            *table = IntervalBitSet::new();
+        for (arena, bytes) in self.arenas.iter_mut().zip(written) {
+            *arena = IntervalBitSet::new();
             for [start, end] in reference::decode(bytes)? {
-                table.set(slots(&(start..=end)), true);
+                arena.set(slots(&(start..=end)), true);
             }
         }
         Ok(())
     }
 }
 
-// The calls of a frame: what is freed, what happens to a whole range, what is spawned.
+// The calls of a frame: what happens to a whole range, what is freed, what is spawned. In some frames eight bodies of one arena leave instead,
+// every second one, so that each leaves a run more behind it.
 fn frame(number: u32, random: &mut Random) -> Vec<Call> {
-    let [bodies, joints, contacts] = [0, 1, 2];
-    let mut calls = Vec::new();
-    if number > 1 {
-        for table in [bodies, joints, contacts, contacts] {
-            if random.truth() {
-                calls.push(Call::Despawn(table, random.below(16)));
-            }
+    let [north, east, south, west] = [0, 1, 2, 3];
+    let leaving = |arena| (1..=8).map(|k| Call::Despawn(arena, k)).collect();
+    let range = match number {
+        4 | 21 => return leaving(north),
+        6 => return leaving(south),
+        20 => return leaving(west),
+        3 | 19 => Some(Call::Set(north, 0..=19, true)),
+        5 => Some(Call::Set(south, 0..=19, true)),
+        7 => Some(Call::Set(north, 0..=u64::MAX, false)),
+        9 => Some(Call::Shift(east, 4, true)),
+        11 => Some(Call::Flip(west, 3..=11)),
+        14 => Some(Call::Shift(south, 5, false)),
+        16 => Some(Call::Flip(east, 1..=u64::MAX)),
+        18 => Some(Call::Set(west, 0..=19, true)),
+        23 => Some(Call::Shift(west, 21, false)),
+        25 => Some(Call::Set(north, 4..=15, false)),
+        _ => None,
+    };
+    let mut calls: Vec<Call> = range.into_iter().collect();
+    for arena in [north, east, south, west] {
+        if number > 1 && random.once_in(3) {
+            calls.push(Call::Despawn(arena, random.below(16)));
         }
     }
-    calls.extend(match number {
-        4 => Some(Call::Free(contacts, 2..=6)),
-        7 => Some(Call::Flip(bodies, 6..=13)),
-        9 => Some(Call::Shift(joints, 4, true)),
-        11 => Some(Call::Flip(contacts, 3..=11)),
-        14 => Some(Call::Shift(bodies, 5, false)),
-        16 => Some(Call::Free(joints, 0..=u64::MAX)),
-        18 => Some(Call::Shift(contacts, 30, true)),
-        20 => Some(Call::Flip(joints, 1..=u64::MAX)),
-        22 => Some(Call::Shift(contacts, 21, false)),
-        24 => Some(Call::Free(bodies, 4..=15)),
-        _ => None,
-    });
-    let spawned = if number == 1 { [8, 3, 6] } else { [1, 0, 1].map(|least| least + random.below(3)) };
-    for (table, count) in spawned.into_iter().enumerate() {
-        calls.extend((0..count).map(|_| Call::Spawn(table)));
+    let spawned = if number == 1 { [8, 3, 6, 4] } else { [0; ARENAS.len()].map(|_: u64| random.below(3)) };
+    for (arena, count) in spawned.into_iter().enumerate() {
+        calls.extend((0..count).map(|_| Call::Spawn(arena)));
     }
     calls
 }
 
-// Slots as text, for each table its first letter and the slots in the order dealt: b0-7 j0-2 c0,4.
-fn told(slots: &[(Table, u64)]) -> String {
+// Slots as text, for each arena its first letter and the slots in the order dealt: n0-7 e0-2 s0,4.
+fn told(slots: &[(Arena, u64)]) -> String {
     let mut text = String::new();
-    for (table, name) in TABLES.iter().enumerate() {
+    for (arena, name) in ARENAS.iter().enumerate() {
         let mut runs: Vec<(u64, u64)> = Vec::new();
-        for &(_, x) in slots.iter().filter(|(p, _)| *p == table) {
+        for &(_, x) in slots.iter().filter(|(i, _)| *i == arena) {
             match runs.last_mut() {
                 Some((_, last)) if last.checked_add(1) == Some(x) => *last = x,
                 _ => runs.push((x, x)),
@@ -233,6 +283,8 @@ fn told(slots: &[(Table, u64)]) -> String {
 pub struct Ending {
     /// How many slots the first build dealt; so did the others, as long as they were there.
     pub dealt: usize,
+    /// How many calls were refused with 8, by all builds.
+    pub refused: usize,
     /// How many bytes the late player was admitted from.
     pub bytes: usize,
 }
@@ -242,6 +294,8 @@ pub struct Ending {
 pub enum Failure {
     /// The builds do not agree.
     Unequal { frame: u32, what: String },
+    /// An arena was refused a run that its floor keeps for it.
+    Floor { frame: u32, what: String },
     /// The match could not be printed.
     Print(io::Error),
 }
@@ -258,6 +312,7 @@ impl fmt::Display for Failure {
     fn fmt(&self, f: &mut fmt::Formatter) -> fmt::Result {
         match self {
             Failure::Unequal { frame, what } => write!(f, "frame {frame}: the builds differ: {what}"),
+            Failure::Floor { frame, what } => write!(f, "frame {frame}: refused below its floor: {what}"),
             Failure::Print(error) => write!(f, "{error}"),
         }
     }
@@ -265,51 +320,78 @@ impl fmt::Display for Failure {
 
 const NAMES: [&str; 3] = ["library", "Rust", "late player"];
 
-// What all builds answered, if it is the same and none refused.
+// What all builds answered, if it is the same.
 fn agreed<T: PartialEq + fmt::Debug>(
     frame: u32,
     what: impl fmt::Display,
     answers: impl IntoIterator<Item = Answer<T>>,
-) -> Result<T, Failure> {
+) -> Result<Answer<T>, Failure> {
     let answers: Vec<_> = answers.into_iter().collect();
     let same = answers.iter().all(|a| *a == answers[0]);
     let each: Vec<_> = NAMES.iter().zip(&answers).map(|(name, a)| format!("{name} {a:?}")).collect();
     match answers.into_iter().next() {
-        Some(Ok(answer)) if same => Ok(answer),
+        Some(answer) if same => Ok(answer),
         _ => Err(Failure::Unequal { frame, what: format!("{what}: {}", each.join(", ")) }),
     }
+}
+
+// The same where none may refuse.
+fn done<T: PartialEq + fmt::Debug>(
+    frame: u32,
+    what: &str,
+    answers: impl IntoIterator<Item = Answer<T>>,
+) -> Result<T, Failure> {
+    agreed(frame, what, answers)?.map_err(|r| Failure::Unequal { frame, what: format!("{what}: {r}") })
 }
 
 fn row(
     out: &mut impl Write,
     frame: impl fmt::Display,
-    freed: &str,
     range: &str,
+    freed: &str,
     cells: impl IntoIterator<Item = String>,
 ) -> io::Result<()> {
-    let mut line = format!("{frame:>5}  {freed:<11} {range:<22}");
+    let mut line = format!("{frame:>5}  {range:<19} {freed:<24}");
     for cell in cells {
-        line += &format!(" {cell:<19}");
+        line += &format!(" {cell:<20}");
     }
     writeln!(out, "{}", line.trim_end())
 }
 
+// How many calls of an arena were refused with 8, and why the first was: the runs of all arenas then.
+fn refusal(arena: Arena, count: usize, runs: &[u64; ARENAS.len()]) -> String {
+    let (name, Limits { floor, ceiling }, own) = (ARENAS[arena], LIMITS[arena], runs[arena]);
+    let why = if own == ceiling {
+        format!("{own} runs are its ceiling")
+    } else {
+        let sure = if own == floor { "its floor of " } else { "" };
+        format!("it has {sure}{own} runs, and the others claim {} of {CAPACITY}", others_claim(runs, arena))
+    };
+    format!("{name}: {count} refused with 8; {why}")
+}
+
 /// Plays the match and prints it: between the first two builds, and from the admission on the third too. The second starts anew there.
 pub fn play(out: &mut impl Write, mut builds: [&mut dyn Build; 3]) -> Result<Ending, Failure> {
-    let mut ending = Ending { dealt: 0, bytes: 0 };
+    let mut ending = Ending { dealt: 0, refused: 0, bytes: 0 };
     let mut random = Random::new(SEED);
     let mut here = 2;
     writeln!(
         out,
-        "A match of {FRAMES} frames. Every build is fed the same calls: what is freed, what happens to a whole range,"
+        "A match of {FRAMES} frames in four arenas, whose slots in use are kept in one pool of {CAPACITY} runs:"
     )?;
-    writeln!(out, "what is spawned. Each body (b), joint (j) and contact (c) gets the lowest free slot of its table.")?;
+    let limits = |(name, Limits { floor, ceiling }): (&&str, &Limits)| format!("{name} {floor} to {ceiling}");
+    let each: Vec<String> = ARENAS.iter().zip(&LIMITS).map(limits).collect();
+    writeln!(out, "{} (floor to ceiling). Every build is fed the same calls: what", each.join(", "))?;
+    writeln!(
+        out,
+        "happens to a whole range, what is freed, what is spawned, which gets the lowest free slot of its arena."
+    )?;
     writeln!(out)?;
-    row(out, "frame", "freed", "whole range", NAMES.map(|name| format!("dealt: {name}")))?;
+    row(out, "frame", "whole range", "freed", NAMES.map(|name| format!("dealt: {name}")))?;
     for number in 1..=FRAMES {
         if number == ADMISSION {
-            let written = agreed(number, "the written sets", builds[..here].iter().map(|b| b.write()))?;
-            agreed(number, "loading the written sets", builds[1..].iter_mut().map(|b| b.load(&written)))?;
+            let written = done(number, "the written sets", builds[..here].iter().map(|b| b.write()))?;
+            done(number, "loading the written sets", builds[1..].iter_mut().map(|b| b.load(&written)))?;
             here = builds.len();
             ending.bytes = written.iter().map(Vec::len).sum();
             writeln!(
@@ -322,30 +404,48 @@ pub fn play(out: &mut impl Write, mut builds: [&mut dyn Build; 3]) -> Result<End
         let mut freed = Vec::new();
         let mut range = String::new();
         let mut dealt = vec![Vec::new(); here];
-        let mut outcome = Ok(None);
+        let mut refused = [(0, [0; ARENAS.len()]); ARENAS.len()];
+        let mut outcome = Ok(());
         for call in frame(number, &mut random) {
+            let arena = call.arena();
             let answers: Vec<_> = builds[..here].iter_mut().map(|b| b.call(&call)).collect();
             match call {
-                Call::Spawn(table) => {
+                Call::Spawn(_) => {
                     for (dealt, answer) in dealt.iter_mut().zip(&answers) {
-                        dealt.extend(answer.ok().flatten().map(|slot| (table, slot)));
+                        dealt.extend(answer.ok().flatten().map(|slot| (arena, slot)));
                     }
                 }
-                Call::Despawn(table, _) => freed.extend(answers[0].ok().flatten().map(|slot| (table, slot))),
+                Call::Despawn(..) => freed.extend(answers[0].ok().flatten().map(|slot| (arena, slot))),
                 _ => range = call.to_string(),
             }
-            outcome = agreed(number, &call, answers);
+            outcome = agreed(number, &call, answers).and_then(|answer| match answer {
+                Ok(_) => Ok(()),
+                Err(Refusal::Capacity) => {
+                    let runs = done(number, "the runs", builds[..here].iter().map(|b| b.runs()))?;
+                    let (count, first) = &mut refused[arena];
+                    *first = if *count == 0 { runs } else { *first };
+                    *count += 1;
+                    let kept = runs[arena] < LIMITS[arena].floor;
+                    if kept { Err(Failure::Floor { frame: number, what: call.to_string() }) } else { Ok(()) }
+                }
+                Err(r) => Err(Failure::Unequal { frame: number, what: format!("{call}: {r}") }),
+            });
             if outcome.is_err() {
                 break;
             }
         }
         ending.dealt += dealt[0].len();
-        row(out, number, &told(&freed), &range, dealt.iter().map(|d| told(d)))?;
+        row(out, number, &range, &told(&freed), dealt.iter().map(|d| told(d)))?;
         outcome?;
+        for (arena, (count, runs)) in refused.iter().enumerate().filter(|(_, (count, _))| *count > 0) {
+            writeln!(out, "       {}", refusal(arena, *count, runs))?;
+            ending.refused += count;
+        }
     }
-    agreed(FRAMES, "the written sets at the end", builds.iter().map(|b| b.write()))?;
+    done(FRAMES, "the written sets at the end", builds.iter().map(|b| b.write()))?;
     writeln!(out)?;
-    let Ending { dealt, bytes } = ending;
+    let Ending { dealt, refused, bytes } = ending;
+    writeln!(out, "{refused} calls refused with 8, none below its arena's floor")?;
     writeln!(out, "{dealt} slots dealt, equal in all builds; written sets of {bytes} bytes admitted the late player")?;
     Ok(ending)
 }

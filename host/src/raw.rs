@@ -54,55 +54,99 @@ pub struct Drawn {
 }
 
 unsafe extern "C" {
-    pub fn vizturel_new(words: *mut u64, count: usize) -> u64;
-    pub fn vizturel_set(words: *mut u64, count: usize, lower: Bound, upper: Bound, value: u64) -> Counted;
-    pub fn vizturel_flip(words: *mut u64, count: usize, lower: Bound, upper: Bound) -> u64;
-    pub fn vizturel_shift(words: *mut u64, count: usize, distance: u64, left: u64) -> u64;
-    pub fn vizturel_get(words: *const u64, count: usize, x: u64) -> Numbered;
-    pub fn vizturel_run_at(words: *const u64, count: usize, x: u64) -> Around;
-    pub fn vizturel_find(words: *const u64, count: usize, lower: Bound, upper: Bound, value: u64) -> Found;
-    pub fn vizturel_count(words: *const u64, count: usize, lower: Bound, upper: Bound, value: u64) -> Counted;
-    pub fn vizturel_select(words: *const u64, count: usize, lower: Bound, upper: Bound, value: u64, k: u64) -> Found;
-    pub fn vizturel_count_ranges(words: *const u64, count: usize, lower: Bound, upper: Bound, value: u64) -> Numbered;
-    pub fn vizturel_ranges(words: *const u64, count: usize, lower: Bound, upper: Bound, value: u64) -> Listed;
-    pub fn vizturel_draw_front(words: *const u64, count: usize, first: u64, last: u64, value: u64) -> Drawn;
-    pub fn vizturel_draw_back(words: *const u64, count: usize, first: u64, last: u64, value: u64) -> Drawn;
-    pub fn vizturel_gap(words: *const u64, count: usize, lower: Bound, upper: Bound, n: u64) -> Found;
-    pub fn vizturel_fill(words: *const u64, count: usize, base: u64, n: u64) -> Numbered;
+    pub fn vizturel_new(words: *mut u64, count: usize, limits: *const u64, limit_words: usize) -> u64;
+    pub fn vizturel_set(words: *mut u64, count: usize, world: u64, lower: Bound, upper: Bound, value: u64) -> Counted;
+    pub fn vizturel_flip(words: *mut u64, count: usize, world: u64, lower: Bound, upper: Bound) -> u64;
+    pub fn vizturel_shift(words: *mut u64, count: usize, world: u64, distance: u64, left: u64) -> u64;
+    pub fn vizturel_get(words: *const u64, count: usize, world: u64, x: u64) -> Numbered;
+    pub fn vizturel_run_at(words: *const u64, count: usize, world: u64, x: u64) -> Around;
+    pub fn vizturel_find(words: *const u64, count: usize, world: u64, lower: Bound, upper: Bound, value: u64) -> Found;
+    pub fn vizturel_count(
+        words: *const u64,
+        count: usize,
+        world: u64,
+        lower: Bound,
+        upper: Bound,
+        value: u64,
+    ) -> Counted;
+    pub fn vizturel_select(
+        words: *const u64,
+        count: usize,
+        world: u64,
+        lower: Bound,
+        upper: Bound,
+        value: u64,
+        k: u64,
+    ) -> Found;
+    pub fn vizturel_count_ranges(
+        words: *const u64,
+        count: usize,
+        world: u64,
+        lower: Bound,
+        upper: Bound,
+        value: u64,
+    ) -> Numbered;
+    pub fn vizturel_ranges(
+        words: *const u64,
+        count: usize,
+        world: u64,
+        lower: Bound,
+        upper: Bound,
+        value: u64,
+    ) -> Listed;
+    pub fn vizturel_draw_front(words: *const u64, count: usize, world: u64, first: u64, last: u64, value: u64)
+    -> Drawn;
+    pub fn vizturel_draw_back(words: *const u64, count: usize, world: u64, first: u64, last: u64, value: u64) -> Drawn;
+    pub fn vizturel_gap(words: *const u64, count: usize, world: u64, lower: Bound, upper: Bound, n: u64) -> Found;
+    pub fn vizturel_fill(words: *const u64, count: usize, world: u64, base: u64, n: u64) -> Numbered;
     pub fn vizturel_combine(
         words: *mut u64,
         count: usize,
+        world: u64,
         op: u64,
         a: *const u64,
         a_count: usize,
+        a_world: u64,
         b: *const u64,
         b_count: usize,
+        b_world: u64,
     ) -> u64;
-    pub fn vizturel_not(words: *mut u64, count: usize, a: *const u64, a_count: usize) -> u64;
+    pub fn vizturel_not(words: *mut u64, count: usize, world: u64, a: *const u64, a_count: usize, a_world: u64) -> u64;
     pub fn vizturel_shifted(
         words: *mut u64,
         count: usize,
+        world: u64,
         distance: u64,
         left: u64,
         a: *const u64,
         a_count: usize,
+        a_world: u64,
     ) -> u64;
-    pub fn vizturel_eq(words: *const u64, count: usize, b: *const u64, b_count: usize) -> Numbered;
-    pub fn vizturel_load(words: *mut u64, count: usize, bytes: *const u8, length: usize) -> u64;
-    pub fn vizturel_build(words: *mut u64, count: usize, runs: *const u64, run_words: usize) -> u64;
+    pub fn vizturel_eq(
+        words: *const u64,
+        count: usize,
+        world: u64,
+        b: *const u64,
+        b_count: usize,
+        b_world: u64,
+    ) -> Numbered;
+    pub fn vizturel_load(words: *mut u64, count: usize, world: u64, bytes: *const u8, length: usize) -> u64;
+    pub fn vizturel_build(words: *mut u64, count: usize, world: u64, runs: *const u64, run_words: usize) -> u64;
     pub fn vizturel_read_map(
         words: *mut u64,
         count: usize,
+        world: u64,
         base: u64,
         n: u64,
         bytes: *const u8,
         length: usize,
     ) -> Counted;
     pub fn vizturel_clear_map(base: u64, n: u64, map: *mut u8, length: usize) -> Numbered;
-    pub fn vizturel_write(words: *const u64, count: usize, out: *mut u8, length: usize) -> Numbered;
+    pub fn vizturel_write(words: *const u64, count: usize, world: u64, out: *mut u8, length: usize) -> Numbered;
     pub fn vizturel_write_map(
         words: *const u64,
         count: usize,
+        world: u64,
         base: u64,
         n: u64,
         out: *mut u8,

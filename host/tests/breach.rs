@@ -10,5 +10,5 @@ fn one_word_less_is_lent_than_told() {
     let sound = SetBuf::with_capacity(1).unwrap().into_words();
     let less = sound[..sound.len() - 1].to_vec();
     let lent = unsafe { slice::from_raw_parts(less.as_ptr(), sound.len()) };
-    println!("{:?}", Set::over(lent).get(0));
+    println!("{:?}", Set::from_words(lent).get(0));
 }

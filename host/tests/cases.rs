@@ -2,7 +2,7 @@
 
 use std::ops::{Bound, RangeInclusive};
 
-use vizturel::{Operation, Refusal, Set, SetBuf, room};
+use vizturel::{Answer, Operation, PoolBuf, Refusal, Set, SetBuf, World, room, words};
 
 const M: u64 = u64::MAX;
 const ALL: u128 = 1 << 64;
@@ -11,11 +11,18 @@ fn empty() -> SetBuf {
     SetBuf::with_capacity(8).unwrap()
 }
 
-fn of(runs: &[[u64; 2]]) -> SetBuf {
-    Set::from_sorted_runs(room(8), runs).unwrap()
+// A set of that capacity that a call has overwritten.
+fn made(capacity: usize, make: impl FnOnce(&mut SetBuf) -> Answer<()>) -> Answer<SetBuf> {
+    let mut set = SetBuf::with_capacity(capacity)?;
+    make(&mut set)?;
+    Ok(set)
 }
 
-fn runs<S: AsRef<[u64]>>(set: &Set<S>) -> Vec<RangeInclusive<u64>> {
+fn of(runs: &[[u64; 2]]) -> SetBuf {
+    made(8, |s| s.build(runs)).unwrap()
+}
+
+fn runs<S: AsRef<[u64]>>(set: &World<S>) -> Vec<RangeInclusive<u64>> {
     set.ranges(.., true).unwrap().collect()
 }
 
@@ -84,7 +91,7 @@ fn case_8() {
 #[test]
 fn case_9() {
     let (a, b) = (of(&[[2, 7]]), of(&[[5, 9]]));
-    let joined = |op| Set::combine(room(2), op, &a, &b).unwrap();
+    let joined = |op| made(2, |s| s.combine(op, &a, &b)).unwrap();
     assert_eq!(joined(Operation::And).count(.., true), Ok(3));
     assert_eq!(joined(Operation::Or).count(.., true), Ok(8));
     assert_eq!(runs(&joined(Operation::Xor)), [2..=4, 8..=9]);
@@ -93,7 +100,7 @@ fn case_9() {
 #[test]
 fn case_10() {
     let mut s = of(&[[M - 1, M]]);
-    let copy = Set::shifted(room(1), &s, 2, true).unwrap();
+    let copy = made(1, |c| c.shifted(&s, 2, true)).unwrap();
     assert_eq!(runs(&copy), []);
     s.shift(1, true).unwrap();
     assert_eq!(runs(&s), [M..=M]);
@@ -104,14 +111,14 @@ fn case_10() {
 #[test]
 fn case_11() {
     let s = of(&[[0, 3]]);
-    assert_eq!(runs(&Set::shifted(room(1), &s, 2, false).unwrap()), [0..=1]);
-    assert_eq!(runs(&Set::shifted(room(1), &s, 4, false).unwrap()), []);
+    assert_eq!(runs(&made(1, |c| c.shifted(&s, 2, false)).unwrap()), [0..=1]);
+    assert_eq!(runs(&made(1, |c| c.shifted(&s, 4, false)).unwrap()), []);
 }
 
 #[test]
 fn case_12() {
     // Two nodes and one run: capacity 1 is enough.
-    let mut s = Set::from_sorted_runs(room(1), &[[10, 19]]).unwrap();
+    let mut s = made(1, |s| s.build(&[[10, 19]])).unwrap();
     s.shift(5, true).unwrap();
     assert_eq!(s.set(0..15, true), Ok(15));
     assert_eq!(runs(&s), [0..=24]);
@@ -119,7 +126,7 @@ fn case_12() {
 
 #[test]
 fn case_13() {
-    let mut s = Set::from_sorted_runs(room(1), &[[2, 7]]).unwrap();
+    let mut s = made(1, |s| s.build(&[[2, 7]])).unwrap();
     assert_eq!(s.set(4..6, false), Err(Refusal::Capacity));
     assert_eq!(runs(&s), [2..=7]);
     assert_eq!(s.set(2..4, false), Ok(2));
@@ -128,8 +135,8 @@ fn case_13() {
 #[test]
 fn case_14() {
     let s = of(&[[5, 5]]);
-    assert_eq!(runs(&Set::not(room(2), &s).unwrap()), [0..=4, 6..=M]);
-    assert_eq!(Set::not(room(1), &s).err(), Some(Refusal::Capacity));
+    assert_eq!(runs(&made(2, |c| c.not(&s)).unwrap()), [0..=4, 6..=M]);
+    assert_eq!(made(1, |c| c.not(&s)).err(), Some(Refusal::Capacity));
 }
 
 #[test]
@@ -140,7 +147,7 @@ fn case_15() {
     let due =
         [1, 0, 0, 0, 2, 0, 0, 0, 0, 0, 0, 0, 2, 0, 0, 0, 0, 0, 0, 0, 3, 0, 0, 0, 0, 0, 0, 0, 8, 0, 0, 0, 0, 0, 0, 0, 9];
     assert_eq!(written, due);
-    assert_eq!(Set::load(room(2), written).unwrap().eq(&s), Ok(true));
+    assert_eq!(made(2, |c| c.load(written)).unwrap().eq(&s), Ok(true));
     assert_eq!(out[37..], [0xEE; 3]);
     assert_eq!(s.write(&mut out[..36]), Err(Refusal::OutputShort));
 
@@ -159,8 +166,8 @@ fn case_16() {
     for number in [2_u64, 3, 4, 5] {
         bytes.extend(number.to_be_bytes());
     }
-    assert_eq!(Set::load(room(8), &bytes).err(), Some(Refusal::RunOrder));
-    assert_eq!(Set::from_sorted_runs(room(8), &[[2, 3], [4, 5]]).err(), Some(Refusal::RunOrder));
+    assert_eq!(made(8, |s| s.load(&bytes)).err(), Some(Refusal::RunOrder));
+    assert_eq!(made(8, |s| s.build(&[[2, 3], [4, 5]])).err(), Some(Refusal::RunOrder));
 }
 
 #[test]
@@ -171,34 +178,36 @@ fn every_refusal_has_its_number() {
     assert_eq!(SetBuf::with_capacity(0).err().map(Refusal::number), Some(1));
     assert_eq!(SetBuf::with_capacity(usize::MAX).err().map(Refusal::number), Some(1));
     assert_eq!(s.write(&mut []).err().map(Refusal::number), Some(2));
-    assert_eq!(Set::load(room(1), &[1, 0, 0, 0]).err().map(Refusal::number), Some(3));
-    assert_eq!(Set::load(room(1), &[2, 0, 0, 0, 0]).err().map(Refusal::number), Some(4));
-    assert_eq!(Set::from_sorted_runs(room(1), &[[4, 3]]).err().map(Refusal::number), Some(5));
+    assert_eq!(s.load(&[1, 0, 0, 0]).err().map(Refusal::number), Some(3));
+    assert_eq!(s.load(&[2, 0, 0, 0, 0]).err().map(Refusal::number), Some(4));
+    assert_eq!(s.build(&[[4, 3]]).err().map(Refusal::number), Some(5));
     assert_eq!(s.fill(M, 2).err().map(Refusal::number), Some(6));
     s.words_mut()[7] = 1;
     assert_eq!(s.get(0).err().map(Refusal::number), Some(7));
     assert_eq!(s.set(.., true).err().map(Refusal::number), Some(7));
     let s = of(&[[2, 7], [10, 14]]);
-    assert_eq!(Set::shifted(room(1), &s, 0, true).err().map(Refusal::number), Some(8));
+    assert_eq!(made(1, |c| c.shifted(&s, 0, true)).err().map(Refusal::number), Some(8));
     assert_eq!(s.gap(.., 0).err().map(Refusal::number), Some(9));
     assert_eq!(of(&[]).read_map(0, 7, &[0x80]).err().map(Refusal::number), Some(10));
-    assert_eq!(Refusal::Capacity.to_string(), "the result would have more runs than the capacity");
+    assert_eq!(PoolBuf::with_capacity(1, &[]).err().map(Refusal::number), Some(11));
+    assert_eq!(s.world(1).get(0).err().map(Refusal::number), Some(12));
+    assert_eq!(Refusal::GapLength.to_string(), "a gap of length 0 is asked for");
 }
 
 #[test]
-fn a_store_is_lent_kept_and_handed_back() {
-    let mut words = [0; 8 * 5];
+fn a_set_is_lent_kept_and_handed_back() {
+    let mut words = [0; words(2)];
     let mut s = Set::new(&mut words[..]).unwrap();
     s.set(3..=5, true).unwrap();
     // Only to be read.
-    assert_eq!(Set::over(&words[..]).count(.., true), Ok(3));
-    let kept = Set::over(words);
+    assert_eq!(Set::from_words(&words[..]).count(.., true), Ok(3));
+    let kept = Set::from_words(words);
     assert_eq!(kept.get(5), Ok(true));
     assert_eq!(kept.into_words(), words);
 }
 
 #[test]
-fn a_listing_goes_on_in_the_changed_store() {
+fn a_listing_goes_on_in_the_changed_set() {
     let mut s = of(&[[2, 7], [10, 14]]);
     let mut listing = s.listing(.., true).unwrap();
     assert_eq!(s.draw_front(&mut listing), Ok(Some(2..=7)));

@@ -4,15 +4,15 @@ use std::ops::Bound;
 
 use vizturel::differential::random::Random;
 use vizturel::frame::{AnswerRecord, Call, CallRecord, Range, Reply};
-use vizturel::{Answer, Listing, Refusal, Set, SetBuf, room};
+use vizturel::{Answer, Limits, Listing, PoolBuf, Refusal, Set, SetBuf, World};
 
 const M: u64 = u64::MAX;
 
 // The same call alone.
-fn single(set: &mut SetBuf, call: Call) -> Answer<Reply> {
+fn single(set: &mut World<&mut [u64]>, call: Call) -> Answer<Reply> {
     Ok(match call {
-        Call::New => {
-            *set = Set::new(set.words().to_vec())?;
+        Call::Empty => {
+            set.build(&[])?;
             Reply::Done
         }
         Call::Set(range, value) => Reply::Count(set.set(range, value)?),
@@ -69,25 +69,36 @@ fn any_call(random: &mut Random) -> Call {
         Call::DrawBack(listing),
         Call::Fill { base: x, n: y },
     ];
-    if random.once_in(60) { Call::New } else { random.one_of(&calls) }
+    if random.once_in(60) { Call::Empty } else { random.one_of(&calls) }
 }
 
 #[test]
 fn a_list_is_its_calls_one_by_one() {
     let mut random = Random::new(1);
     let mut refused = 0;
+    let mut unopened = 0;
     for turn in 0..400 {
-        let mut listed = SetBuf::with_capacity(1 + turn % 4).unwrap();
+        let worlds = 1 + turn / 4 % 3;
+        let limits = [Limits { floor: 0, ceiling: 3 }, Limits { floor: 1, ceiling: 2 }, Limits::NONE];
+        let mut listed = PoolBuf::with_capacity(1 + turn % 4, &limits[..worlds]).unwrap();
         let mut called = listed.clone();
         for _ in 0..4 {
-            let calls: Vec<Call> = (0..random.below(20)).map(|_| any_call(&mut random)).collect();
-            let right: Vec<_> = calls.iter().map(|&call| single(&mut called, call)).collect();
-            refused += right.iter().filter(|told| told.is_err()).count();
+            let calls: Vec<(u64, Call)> = (0..random.below(20))
+                .map(|_| {
+                    let world = if random.once_in(20) { 3 } else { random.below(worlds as u64) };
+                    (world, any_call(&mut random))
+                })
+                .collect();
+            let right: Vec<_> = calls.iter().map(|&(at, call)| single(&mut called.world_mut(at), call)).collect();
+            refused += right.iter().filter(|told| **told == Err(Refusal::Capacity)).count();
+            unopened += right.iter().filter(|told| **told == Err(Refusal::WorldUnopened)).count();
             assert_eq!(listed.frame(&calls), Ok(right), "{calls:?}");
-            assert_eq!(listed.eq(&called), Ok(true), "{calls:?}");
+            for world in 0..worlds as u64 {
+                assert_eq!(listed.world(world).eq(&called.world(world)), Ok(true), "{calls:?}");
+            }
         }
     }
-    assert!(refused > 100, "only {refused} calls were refused");
+    assert!(refused > 100 && unopened > 100, "only {refused} calls were refused with 8, {unopened} with 12");
 }
 
 #[test]
@@ -122,9 +133,9 @@ fn ranges_of_any_kind() {
 fn records_keep_to_named_numbers() {
     let mut random = Random::new(2);
     let mut seen = [0; 14];
-    for _ in 0..4_000 {
-        let record = CallRecord::from(any_call(&mut random));
-        assert!(record.lower_kind <= 2 && record.upper_kind <= 2 && record.reserved == 0, "{record:?}");
+    for world in 0..4_000 {
+        let record = CallRecord::from((world, any_call(&mut random)));
+        assert!(record.lower_kind <= 2 && record.upper_kind <= 2 && record.world == world, "{record:?}");
         seen[record.call as usize] += 1;
     }
     assert!(seen.iter().all(|&n| n > 0), "{seen:?}");
@@ -137,18 +148,18 @@ fn records_are_lent() {
     let stale = AnswerRecord { number: M, reserved: M, ..AnswerRecord::default() };
     let mut answers = [stale; 8];
     for (k, record) in calls[..3].iter_mut().enumerate() {
-        *record = Call::select(.., false, k as u64).into();
+        *record = (0, Call::select(.., false, k as u64)).into();
     }
     let free = slots.play(&calls[..3], &mut answers).unwrap();
     assert_eq!(free.len(), 3);
     for (record, slot) in calls.iter_mut().zip(free) {
         assert_eq!((slot.refusal, slot.found, slot.reserved), (0, 1, 0));
-        *record = Call::set(slot.number..=slot.number, true).into();
+        *record = (0, Call::set(slot.number..=slot.number, true)).into();
     }
     assert_eq!(answers[3..], [stale; 5]);
     slots.play(&calls[..3], &mut answers).unwrap();
     assert_eq!(slots.count(..3, true), Ok(3));
-    // A record of zeros is a get of 0.
+    // A record of zeros is a get of 0 at world 0.
     assert_eq!(slots.play(&[CallRecord::default()], &mut answers).unwrap()[0].number, 1);
 }
 
@@ -156,17 +167,18 @@ fn records_are_lent() {
 fn a_refused_list_changes_nothing() {
     let stale = [AnswerRecord { number: M, ..AnswerRecord::default() }; 2];
     let mut answers = stale;
-    let asked: Vec<CallRecord> = [Call::New, Call::set(.., true)].map(CallRecord::from).to_vec();
-    let mut s = Set::from_sorted_runs(room(2), &[[2, 7]]).unwrap();
+    let asked = [(0, Call::Empty), (0, Call::set(.., true))].map(CallRecord::from);
+    let mut s = SetBuf::with_capacity(2).unwrap();
+    s.build(&[[2, 7]]).unwrap();
     let before = s.words().to_vec();
     assert_eq!(s.play(&asked, &mut answers[..1]).err(), Some(Refusal::OutputShort));
     assert_eq!(s.play(&asked, &mut []).err(), Some(Refusal::OutputShort));
     assert_eq!(s.words(), before);
-    assert_eq!(Set::over(&mut [0; 24][..]).play(&asked, &mut answers).err(), Some(Refusal::StoreLength));
+    assert_eq!(Set::from_words(&mut [0; 24][..]).play(&asked, &mut answers).err(), Some(Refusal::StoreLength));
     s.words_mut()[7] = 1;
     let before = s.words().to_vec();
     assert_eq!(s.play(&asked, &mut answers).err(), Some(Refusal::Unsound));
     assert_eq!(s.play(&asked, &mut []).err(), Some(Refusal::Unsound));
-    assert_eq!(s.frame(&[Call::New]), Err(Refusal::Unsound));
+    assert_eq!(s.frame(&[Call::Empty]), Err(Refusal::Unsound));
     assert_eq!((s.words(), answers), (&before[..], stale));
 }

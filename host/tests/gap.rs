@@ -2,16 +2,18 @@
 
 use std::ops::{Bound, RangeBounds};
 
-use vizturel::{Refusal, Set, SetBuf, room};
+use vizturel::{Refusal, Set, SetBuf, World};
 
 const M: u64 = u64::MAX;
 
 fn of(runs: &[[u64; 2]]) -> SetBuf {
-    Set::from_sorted_runs(room(8), runs).unwrap()
+    let mut set = SetBuf::with_capacity(8).unwrap();
+    set.build(runs).unwrap();
+    set
 }
 
 // A gap was found, and it is one.
-fn some<S: AsRef<[u64]>>(set: &Set<S>, range: impl RangeBounds<u64> + Clone, n: u64) -> u64 {
+fn some<S: AsRef<[u64]>>(set: &World<S>, range: impl RangeBounds<u64> + Clone, n: u64) -> u64 {
     let x = set.gap(range.clone(), n).unwrap().expect("there is a gap");
     let end = x.checked_add(n - 1).expect("a gap ends at M or before");
     assert!(range.contains(&x) && range.contains(&end), "{x} ..= {end} is not in the range");
@@ -94,15 +96,16 @@ fn empty_and_reversed_ranges_have_none() {
 }
 
 #[test]
-fn a_gap_of_no_position_is_refused_after_the_store() {
+fn a_gap_of_no_position_is_refused_after_pool_and_world() {
     let mut s = of(&[[2, 7]]);
     let words = s.words().to_vec();
     assert_eq!(s.gap(.., 0), Err(Refusal::GapLength));
     assert_eq!(Refusal::GapLength.number(), 9);
     assert_eq!(s.words(), words);
+    assert_eq!(s.world(1).gap(.., 0), Err(Refusal::WorldUnopened));
     s.words_mut()[7] = 1;
-    assert_eq!(s.gap(.., 0), Err(Refusal::Unsound));
-    assert_eq!(Set::over([0; 24]).gap(.., 0), Err(Refusal::StoreLength));
+    assert_eq!(s.world(1).gap(.., 0), Err(Refusal::Unsound));
+    assert_eq!(Set::from_words([0; 24]).gap(.., 0), Err(Refusal::StoreLength));
 }
 
 #[test]

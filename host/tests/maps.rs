@@ -1,6 +1,6 @@
 //! Spare bits of maps, through the safe calls and against a plain reading: every length from 1 to 17 with every last byte.
 
-use vizturel::{Refusal, Set, SetBuf, clear_map, room};
+use vizturel::{Refusal, Set, SetBuf, World, clear_map};
 
 const M: u64 = u64::MAX;
 
@@ -21,7 +21,7 @@ fn cleared_plainly(n: u64, map: &[u8]) -> (u64, Vec<u8>) {
     (count.into(), left)
 }
 
-fn window<S: AsRef<[u64]>>(set: &Set<S>, base: u64, n: u64) -> Vec<bool> {
+fn window<S: AsRef<[u64]>>(set: &World<S>, base: u64, n: u64) -> Vec<bool> {
     (0..n).map(|i| set.get(base + i).unwrap()).collect()
 }
 
@@ -89,11 +89,13 @@ fn clearing_is_refused_with_6_alone() {
 
 #[test]
 fn ten_comes_after_6_and_before_8() {
-    let mut set = Set::from_sorted_runs(room(1), &[[2, 7]]).unwrap();
+    let mut set = SetBuf::with_capacity(1).unwrap();
+    set.build(&[[2, 7]]).unwrap();
     assert_eq!(set.read_map(0, 7, &[0xD5, 0]), Err(Refusal::Window));
     assert_eq!(set.read_map(0, 7, &[0xD5]), Err(Refusal::StrayBit));
     assert_eq!(set.read_map(0, 7, &[0x55]), Err(Refusal::Capacity));
+    assert_eq!(set.world_mut(1).read_map(0, 7, &[0xD5, 0]), Err(Refusal::WorldUnopened));
     set.words_mut()[7] = 1;
     assert_eq!(set.read_map(0, 7, &[0xD5]), Err(Refusal::Unsound));
-    assert_eq!(Set::over([0; 24]).read_map(0, 7, &[0xD5]), Err(Refusal::StoreLength));
+    assert_eq!(Set::from_words([0; 24]).read_map(0, 7, &[0xD5]), Err(Refusal::StoreLength));
 }

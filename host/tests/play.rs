@@ -1,12 +1,17 @@
-//! The match of `make run`: it ends equal, prints the same every time, and a build that deals one wrong slot is found out.
+//! The match of `make run`: it ends equal, prints the same every time, and a build that deals one wrong slot, or has another capacity, is
+//! found out.
 
 use vizturel::Answer;
-use vizturel::play::{Build, Call, Failure, Library, Rust, Written, play};
+use vizturel::play::{Build, CAPACITY, Call, Ending, Failure, Library, Rust, Written, play};
 
-fn printed(builds: [&mut dyn Build; 3]) -> (String, Result<(usize, usize), Failure>) {
+fn printed(builds: [&mut dyn Build; 3]) -> (String, Result<Ending, Failure>) {
     let mut out = Vec::new();
-    let ended = play(&mut out, builds).map(|e| (e.dealt, e.bytes));
+    let ended = play(&mut out, builds);
     (String::from_utf8(out).unwrap(), ended)
+}
+
+fn library() -> Library {
+    Library::with_capacity(CAPACITY).unwrap()
 }
 
 /// The library, but that the n-th slot that it deals is the next free one after the lowest.
@@ -26,6 +31,10 @@ impl Build for Wrong {
         self.inner.call(call)
     }
 
+    fn runs(&self) -> Answer<[u64; 4]> {
+        self.inner.runs()
+    }
+
     fn write(&self) -> Answer<Written> {
         self.inner.write()
     }
@@ -36,33 +45,39 @@ impl Build for Wrong {
 }
 
 fn wrong(nth: u32) -> Wrong {
-    Wrong { inner: Library::new().unwrap(), left: nth }
+    Wrong { inner: library(), left: nth }
 }
 
 #[test]
 fn the_match_ends_equal() {
-    let once = || printed([&mut Library::new().unwrap(), &mut Rust::default(), &mut Library::new().unwrap()]);
+    let once = || printed([&mut library(), &mut Rust::default(), &mut library()]);
     let (text, ended) = once();
-    let (dealt, bytes) = ended.unwrap();
-    assert!(dealt > 100 && bytes > 15);
+    let Ending { dealt, refused, bytes } = ended.unwrap();
+    assert!(dealt > 60 && refused > 5 && bytes > 20);
+    // By the ceiling, by what the others claim, and where a floor was all that was left.
+    for why in
+        ["are its ceiling", "it has 5 runs, and the others claim", "it has its floor of 4 runs, and the others claim"]
+    {
+        assert!(text.contains(why), "{why}");
+    }
     let last =
         format!("{dealt} slots dealt, equal in all builds; written sets of {bytes} bytes admitted the late player");
     assert_eq!(text.lines().last(), Some(last.as_str()));
-    assert!((30..=40).contains(&text.lines().count()));
+    assert!((30..=46).contains(&text.lines().count()));
     assert_eq!(once().0, text);
 }
 
 #[test]
 fn a_wrong_slot_is_found_in_any_build() {
-    // The 5th slot is dealt in frame 1; the late player's 4th, at the latest, two frames after it came.
+    // The 5th slot is dealt in frame 1; the late player's 5th at the latest four frames after it came.
     for at in 0..3 {
         let mut builds = [wrong(0), wrong(0), wrong(0)];
         builds[at].left = 5;
         let [library, rust, late] = &mut builds;
         let (text, ended) = printed([library, rust, late]);
         let Err(Failure::Unequal { frame, what }) = ended else { panic!("build {at}: no difference was found") };
-        assert!(if at < 2 { frame == 1 } else { (12..=14).contains(&frame) }, "build {at}: frame {frame}");
-        assert!(what.starts_with("spawn of "), "{what}");
+        assert!(if at < 2 { frame == 1 } else { (12..=16).contains(&frame) }, "build {at}: frame {frame}");
+        assert!(what.starts_with("spawn in "), "{what}");
         assert!(!text.contains("slots dealt, equal"));
     }
 }
@@ -74,6 +89,9 @@ fn a_build_that_loads_nothing_is_found() {
         fn call(&mut self, call: &Call) -> Answer<Option<u64>> {
             self.0.call(call)
         }
+        fn runs(&self) -> Answer<[u64; 4]> {
+            self.0.runs()
+        }
         fn write(&self) -> Answer<Written> {
             self.0.write()
         }
@@ -81,6 +99,14 @@ fn a_build_that_loads_nothing_is_found() {
             Ok(())
         }
     }
-    let (_, ended) = printed([&mut Library::new().unwrap(), &mut Rust::default(), &mut Deaf(Library::new().unwrap())]);
+    let (_, ended) = printed([&mut library(), &mut Rust::default(), &mut Deaf(library())]);
     assert!(matches!(ended, Err(Failure::Unequal { frame: 12, .. })));
+}
+
+#[test]
+fn a_build_of_another_capacity_is_found() {
+    let mut larger = Library::with_capacity(CAPACITY + 1).unwrap();
+    let (_, ended) = printed([&mut larger, &mut Rust::default(), &mut library()]);
+    let Err(Failure::Unequal { what, .. }) = ended else { panic!("no difference was found") };
+    assert!(what.contains("Err(Capacity)"), "{what}");
 }

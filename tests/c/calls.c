@@ -1,5 +1,6 @@
 /* The library through include/vizturel.h: the sixteen cases of the scope document, the gap search, spare bits of maps, each refusal, that
- * a refused call changes nothing, and calls by lists. Compiled as C and as C++. Prints what failed, and last 'N passed, M failed'. */
+ * a refused call changes nothing, calls by lists, and worlds that share a pool. Compiled as C and as C++. Prints what failed, and last
+ * 'N passed, M failed'. */
 #include <stdio.h>
 #include <stdlib.h>
 #include <string.h>
@@ -22,6 +23,7 @@ WORD(vizturel_call, upper.kind, 3);
 WORD(vizturel_call, upper.value, 4);
 WORD(vizturel_call, value, 5);
 WORD(vizturel_call, k, 6);
+WORD(vizturel_call, world, 7);
 WORD(vizturel_answer, refusal, 0);
 WORD(vizturel_answer, found, 1);
 WORD(vizturel_answer, number, 2);
@@ -52,14 +54,28 @@ static uint8_t out[VIZTUREL_SET_BYTES(CAPACITY)];
 #define EX vizturel_excluded
 #define ALL vizturel_unbounded()
 
+/* The world at which calls are made where nothing else is said: the only one of its pool, in a second turn the second of three. */
+static uint64_t here;
+
+/* a pool of which that world is empty; where there is room, each of the others holds a run */
+static void fresh(uint64_t *w, size_t n) {
+    static const uint64_t three[] = {0, M, 0, M, 0, M}, run[] = {3, 9};
+    if (here == 0) {
+        CHECK(vizturel_new_one(w, n) == VIZTUREL_DONE);
+        return;
+    }
+    CHECK(vizturel_new(w, n, three, 6) == VIZTUREL_DONE);
+    if (n >= WORDS) CHECK(vizturel_build(w, n, 0, run, 2) == VIZTUREL_DONE && vizturel_build(w, n, 2, run, 2) == VIZTUREL_DONE);
+}
+
 static vizturel_counted put(uint64_t *w, size_t n, uint64_t from, uint64_t past, uint64_t value) {
-    return vizturel_set(w, n, IN(from), EX(past), value);
+    return vizturel_set(w, n, here, IN(from), EX(past), value);
 }
 
 /* a new set of one run */
 static void only(uint64_t *w, size_t n, uint64_t start, uint64_t end) {
-    CHECK(vizturel_new(w, n) == VIZTUREL_DONE);
-    CHECK(vizturel_set(w, n, IN(start), IN(end), 1).refusal == VIZTUREL_DONE);
+    fresh(w, n);
+    CHECK(vizturel_set(w, n, here, IN(start), IN(end), 1).refusal == VIZTUREL_DONE);
 }
 
 static int is_count(vizturel_counted c, uint64_t n) { return c.refusal == 0 && c.carry == 0 && c.low == n; }
@@ -69,28 +85,28 @@ static int nowhere(vizturel_found f) { return f.refusal == 0 && f.found == 0; }
 
 /* whether the runs of the value in a range are the n given ones, drawn from the front, and again from the back */
 static int lists(const uint64_t *w, size_t count, vizturel_bound lower, vizturel_bound upper, uint64_t value, size_t n, const uint64_t *runs) {
-    vizturel_listed l = vizturel_ranges(w, count, lower, upper, value);
+    vizturel_listed l = vizturel_ranges(w, count, here, lower, upper, value);
     vizturel_drawn d;
     uint64_t first = l.first, last = l.last;
     size_t i;
     if (l.refusal != 0) return 0;
     for (i = 0; i < n; i++) {
-        d = vizturel_draw_front(w, count, first, last, value);
+        d = vizturel_draw_front(w, count, here, first, last, value);
         if (d.refusal != 0 || d.found != 1 || d.start != runs[2 * i] || d.end != runs[2 * i + 1]) return 0;
         first = d.first;
         last = d.last;
     }
-    d = vizturel_draw_front(w, count, first, last, value);
+    d = vizturel_draw_front(w, count, here, first, last, value);
     if (d.refusal != 0 || d.found != 0 || d.first != 1 || d.last != 0) return 0;
     first = l.first;
     last = l.last;
     for (i = n; i > 0; i--) {
-        d = vizturel_draw_back(w, count, first, last, value);
+        d = vizturel_draw_back(w, count, here, first, last, value);
         if (d.refusal != 0 || d.found != 1 || d.start != runs[2 * i - 2] || d.end != runs[2 * i - 1]) return 0;
         first = d.first;
         last = d.last;
     }
-    return vizturel_draw_back(w, count, first, last, value).found == 0;
+    return vizturel_draw_back(w, count, here, first, last, value).found == 0;
 }
 
 static int holds(const uint64_t *w, size_t count, size_t n, const uint64_t *runs) { return lists(w, count, ALL, ALL, 1, n, runs); }
@@ -104,60 +120,60 @@ static void cases(void) {
     vizturel_numbered n;
     uint8_t bytes[37];
 
-    vizturel_new(s, WORDS);
+    fresh(s, WORDS);
     CHECK(is_count(put(s, WORDS, 2, 8, 1), 6));
     CHECK(is_count(put(s, WORDS, 4, 6, 0), 2));
     CHECK(is_count(put(s, WORDS, 2, 4, 1), 0));
 
-    vizturel_new(s, WORDS);
-    full = vizturel_set(s, WORDS, ALL, ALL, 1);
+    fresh(s, WORDS);
+    full = vizturel_set(s, WORDS, here, ALL, ALL, 1);
     CHECK(full.refusal == 0 && full.carry == 1 && full.low == 0);
-    CHECK(is_count(vizturel_set(s, WORDS, ALL, ALL, 1), 0));
-    full = vizturel_count(s, WORDS, ALL, ALL, 1);
+    CHECK(is_count(vizturel_set(s, WORDS, here, ALL, ALL, 1), 0));
+    full = vizturel_count(s, WORDS, here, ALL, ALL, 1);
     CHECK(full.carry == 1 && full.low == 0);
 
-    vizturel_new(s, WORDS);
-    CHECK(is_count(vizturel_set(s, WORDS, EX(M), ALL, 1), 0));
+    fresh(s, WORDS);
+    CHECK(is_count(vizturel_set(s, WORDS, here, EX(M), ALL, 1), 0));
     CHECK(holds(s, WORDS, 0, NULL));
 
     only(s, WORDS, 2, 7);
-    CHECK(is_run(vizturel_run_at(s, WORDS, 4), 2, 7));
-    CHECK(is_run(vizturel_run_at(s, WORDS, 0), 0, 1));
-    CHECK(is_run(vizturel_run_at(s, WORDS, 9), 8, M));
-    CHECK(at(vizturel_find(s, WORDS, IN(4), ALL, 0), 8));
-    CHECK(nowhere(vizturel_find(s, WORDS, IN(2), EX(8), 0)));
-    CHECK(at(vizturel_select(s, WORDS, IN(4), EX(12), 0, 1), 9));
-    CHECK(nowhere(vizturel_select(s, WORDS, IN(4), EX(12), 1, 4)));
-    CHECK(vizturel_get(s, WORDS, 7).value == 1 && vizturel_get(s, WORDS, 8).value == 0);
+    CHECK(is_run(vizturel_run_at(s, WORDS, here, 4), 2, 7));
+    CHECK(is_run(vizturel_run_at(s, WORDS, here, 0), 0, 1));
+    CHECK(is_run(vizturel_run_at(s, WORDS, here, 9), 8, M));
+    CHECK(at(vizturel_find(s, WORDS, here, IN(4), ALL, 0), 8));
+    CHECK(nowhere(vizturel_find(s, WORDS, here, IN(2), EX(8), 0)));
+    CHECK(at(vizturel_select(s, WORDS, here, IN(4), EX(12), 0, 1), 9));
+    CHECK(nowhere(vizturel_select(s, WORDS, here, IN(4), EX(12), 1, 4)));
+    CHECK(vizturel_get(s, WORDS, here, 7).value == 1 && vizturel_get(s, WORDS, here, 8).value == 0);
 
     put(s, WORDS, 10, 15, 1);
     CHECK(lists(s, WORDS, IN(4), EX(12), 1, 2, seven));
     CHECK(lists(s, WORDS, IN(4), EX(12), 0, 1, gap));
-    n = vizturel_count_ranges(s, WORDS, IN(4), EX(12), 1);
+    n = vizturel_count_ranges(s, WORDS, here, IN(4), EX(12), 1);
     CHECK(n.refusal == 0 && n.number == 2);
 
     only(s, WORDS, 2, 7);
-    CHECK(vizturel_flip(s, WORDS, IN(4), EX(10)) == 0);
+    CHECK(vizturel_flip(s, WORDS, here, IN(4), EX(10)) == 0);
     CHECK(holds(s, WORDS, 2, eight));
 
     only(a, WORDS, 2, 7);
     only(b, WORDS, 5, 9);
-    CHECK(vizturel_combine(s, WORDS, 0, a, WORDS, b, WORDS) == 0 && is_count(vizturel_count(s, WORDS, ALL, ALL, 1), 3));
-    CHECK(vizturel_combine(s, WORDS, 1, a, WORDS, b, WORDS) == 0 && is_count(vizturel_count(s, WORDS, ALL, ALL, 1), 8));
-    CHECK(vizturel_combine(s, WORDS, 2, a, WORDS, b, WORDS) == 0 && holds(s, WORDS, 2, nine));
-    CHECK(vizturel_eq(a, WORDS, b, WORDS).value == 0 && vizturel_eq(a, WORDS, a, WORDS).value == 1);
+    CHECK(vizturel_combine(s, WORDS, here, 0, a, WORDS, here, b, WORDS, here) == 0 && is_count(vizturel_count(s, WORDS, here, ALL, ALL, 1), 3));
+    CHECK(vizturel_combine(s, WORDS, here, 1, a, WORDS, here, b, WORDS, here) == 0 && is_count(vizturel_count(s, WORDS, here, ALL, ALL, 1), 8));
+    CHECK(vizturel_combine(s, WORDS, here, 2, a, WORDS, here, b, WORDS, here) == 0 && holds(s, WORDS, 2, nine));
+    CHECK(vizturel_eq(a, WORDS, here, b, WORDS, here).value == 0 && vizturel_eq(a, WORDS, here, a, WORDS, here).value == 1);
 
     only(s, WORDS, M - 1, M);
-    CHECK(vizturel_shift(s, WORDS, 1, 1) == 0 && holds(s, WORDS, 1, top));
+    CHECK(vizturel_shift(s, WORDS, here, 1, 1) == 0 && holds(s, WORDS, 1, top));
     only(a, WORDS, M - 1, M);
-    CHECK(vizturel_shifted(s, WORDS, 2, 1, a, WORDS) == 0 && holds(s, WORDS, 0, NULL));
+    CHECK(vizturel_shifted(s, WORDS, here, 2, 1, a, WORDS, here) == 0 && holds(s, WORDS, 0, NULL));
     only(s, WORDS, 0, 3);
-    CHECK(vizturel_shift(s, WORDS, 2, 0) == 0 && holds(s, WORDS, 1, eleven));
+    CHECK(vizturel_shift(s, WORDS, here, 2, 0) == 0 && holds(s, WORDS, 1, eleven));
     only(a, WORDS, 0, 3);
-    CHECK(vizturel_shifted(s, WORDS, 4, 0, a, WORDS) == 0 && holds(s, WORDS, 0, NULL));
+    CHECK(vizturel_shifted(s, WORDS, here, 4, 0, a, WORDS, here) == 0 && holds(s, WORDS, 0, NULL));
 
     only(s, WORDS, 10, 19);
-    CHECK(vizturel_shift(s, WORDS, 5, 1) == 0);
+    CHECK(vizturel_shift(s, WORDS, here, 5, 1) == 0);
     CHECK(is_count(put(s, WORDS, 0, 15, 1), 15));
     CHECK(holds(s, WORDS, 1, twelve));
 
@@ -168,29 +184,29 @@ static void cases(void) {
     CHECK(is_count(put(one, VIZTUREL_WORDS(1), 2, 4, 0), 2));
 
     only(a, WORDS, 5, 5);
-    CHECK(vizturel_not(s, WORDS, a, WORDS) == 0 && holds(s, WORDS, 2, fourteen));
+    CHECK(vizturel_not(s, WORDS, here, a, WORDS, here) == 0 && holds(s, WORDS, 2, fourteen));
     memcpy(kept, one, sizeof one);
-    CHECK(vizturel_not(one, VIZTUREL_WORDS(1), a, WORDS) == VIZTUREL_CAPACITY);
+    CHECK(vizturel_not(one, VIZTUREL_WORDS(1), here, a, WORDS, here) == VIZTUREL_CAPACITY);
     CHECK(memcmp(kept, one, sizeof one) == 0);
 
     only(s, WORDS, 2, 3);
     put(s, WORDS, 8, 10, 1);
-    w = vizturel_write(s, WORDS, out, sizeof out);
+    w = vizturel_write(s, WORDS, here, out, sizeof out);
     CHECK(w.refusal == 0 && w.bytes == sizeof fifteen && memcmp(out, fifteen, sizeof fifteen) == 0);
-    CHECK(vizturel_load(b, WORDS, fifteen, sizeof fifteen) == 0 && vizturel_eq(s, WORDS, b, WORDS).value == 1);
-    CHECK(vizturel_build(a, WORDS, eight, 4) == 0 && vizturel_eq(s, WORDS, a, WORDS).value == 1);
-    w = vizturel_write_map(s, WORDS, 0, 10, out, sizeof out);
+    CHECK(vizturel_load(b, WORDS, here, fifteen, sizeof fifteen) == 0 && vizturel_eq(s, WORDS, here, b, WORDS, here).value == 1);
+    CHECK(vizturel_build(a, WORDS, here, eight, 4) == 0 && vizturel_eq(s, WORDS, here, a, WORDS, here).value == 1);
+    w = vizturel_write_map(s, WORDS, here, 0, 10, out, sizeof out);
     CHECK(w.refusal == 0 && w.bytes == 2 && out[0] == 0x0C && out[1] == 0x03 && out[2] == fifteen[2]);
-    n = vizturel_fill(s, WORDS, 0, 3);
+    n = vizturel_fill(s, WORDS, here, 0, 3);
     CHECK(n.refusal == 0 && n.number == 333);
-    vizturel_new(a, WORDS);
-    CHECK(is_count(vizturel_read_map(a, WORDS, 0, 10, out, 2), 4) && vizturel_eq(s, WORDS, a, WORDS).value == 1);
+    fresh(a, WORDS);
+    CHECK(is_count(vizturel_read_map(a, WORDS, here, 0, 10, out, 2), 4) && vizturel_eq(s, WORDS, here, a, WORDS, here).value == 1);
 
     memcpy(bytes, fifteen, sizeof fifteen);
     bytes[28] = 4;
     bytes[36] = 5;
     memcpy(kept, s, sizeof s);
-    CHECK(vizturel_load(s, WORDS, bytes, sizeof bytes) == VIZTUREL_RUN_ORDER);
+    CHECK(vizturel_load(s, WORDS, here, bytes, sizeof bytes) == VIZTUREL_RUN_ORDER);
     CHECK(memcmp(kept, s, sizeof s) == 0);
 }
 
@@ -198,7 +214,7 @@ static void cases(void) {
 static int is_gap(vizturel_found f, const uint64_t *w, size_t count, uint64_t first, uint64_t last, uint64_t n) {
     uint64_t x = f.position;
     return f.refusal == 0 && f.found == 1 && first <= x && x <= last && last - x >= n - 1 &&
-           is_count(vizturel_count(w, count, IN(x), IN(x + (n - 1)), 0), n);
+           is_count(vizturel_count(w, count, here, IN(x), IN(x + (n - 1)), 0), n);
 }
 
 static void gaps(void) {
@@ -206,69 +222,69 @@ static void gaps(void) {
     uint64_t n;
 
     /* an empty set: gaps of M start at 0 and at 1 */
-    vizturel_new(s, WORDS);
-    CHECK(is_gap(vizturel_gap(s, WORDS, ALL, ALL, M), s, WORDS, 0, M, M));
-    CHECK(is_gap(vizturel_gap(s, WORDS, ALL, ALL, 1), s, WORDS, 0, M, 1));
-    CHECK(at(vizturel_gap(s, WORDS, IN(1), ALL, M), 1));
-    CHECK(at(vizturel_gap(s, WORDS, ALL, EX(M), M), 0));
-    CHECK(nowhere(vizturel_gap(s, WORDS, IN(1), EX(M), M)));
-    CHECK(at(vizturel_gap(s, WORDS, IN(M), IN(M), 1), M));
-    CHECK(nowhere(vizturel_gap(s, WORDS, IN(M), IN(M), 2)));
+    fresh(s, WORDS);
+    CHECK(is_gap(vizturel_gap(s, WORDS, here, ALL, ALL, M), s, WORDS, 0, M, M));
+    CHECK(is_gap(vizturel_gap(s, WORDS, here, ALL, ALL, 1), s, WORDS, 0, M, 1));
+    CHECK(at(vizturel_gap(s, WORDS, here, IN(1), ALL, M), 1));
+    CHECK(at(vizturel_gap(s, WORDS, here, ALL, EX(M), M), 0));
+    CHECK(nowhere(vizturel_gap(s, WORDS, here, IN(1), EX(M), M)));
+    CHECK(at(vizturel_gap(s, WORDS, here, IN(M), IN(M), 1), M));
+    CHECK(nowhere(vizturel_gap(s, WORDS, here, IN(M), IN(M), 2)));
 
     /* a full set */
-    vizturel_set(s, WORDS, ALL, ALL, 1);
-    CHECK(nowhere(vizturel_gap(s, WORDS, ALL, ALL, 1)));
-    CHECK(nowhere(vizturel_gap(s, WORDS, ALL, ALL, M)));
+    vizturel_set(s, WORDS, here, ALL, ALL, 1);
+    CHECK(nowhere(vizturel_gap(s, WORDS, here, ALL, ALL, 1)));
+    CHECK(nowhere(vizturel_gap(s, WORDS, here, ALL, ALL, M)));
 
     /* a gap at 0, and one that ends at M */
     only(s, WORDS, 4, M - 3);
-    CHECK(at(vizturel_gap(s, WORDS, ALL, ALL, 4), 0));
-    CHECK(nowhere(vizturel_gap(s, WORDS, ALL, ALL, 5)));
-    CHECK(is_gap(vizturel_gap(s, WORDS, ALL, ALL, 3), s, WORDS, 0, M, 3));
-    CHECK(at(vizturel_gap(s, WORDS, IN(1), ALL, 3), 1) || at(vizturel_gap(s, WORDS, IN(1), ALL, 3), M - 2));
-    CHECK(at(vizturel_gap(s, WORDS, IN(2), ALL, 3), M - 2));
-    CHECK(at(vizturel_gap(s, WORDS, EX(1), EX(M), 2), 2) || at(vizturel_gap(s, WORDS, EX(1), EX(M), 2), M - 2));
+    CHECK(at(vizturel_gap(s, WORDS, here, ALL, ALL, 4), 0));
+    CHECK(nowhere(vizturel_gap(s, WORDS, here, ALL, ALL, 5)));
+    CHECK(is_gap(vizturel_gap(s, WORDS, here, ALL, ALL, 3), s, WORDS, 0, M, 3));
+    CHECK(at(vizturel_gap(s, WORDS, here, IN(1), ALL, 3), 1) || at(vizturel_gap(s, WORDS, here, IN(1), ALL, 3), M - 2));
+    CHECK(at(vizturel_gap(s, WORDS, here, IN(2), ALL, 3), M - 2));
+    CHECK(at(vizturel_gap(s, WORDS, here, EX(1), EX(M), 2), 2) || at(vizturel_gap(s, WORDS, here, EX(1), EX(M), 2), M - 2));
 
     /* neither past the range nor on a held position, and none though the last free run is too short by one */
     only(s, WORDS, 10, 19);
     put(s, WORDS, 30, 40, 1);
-    CHECK(at(vizturel_gap(s, WORDS, IN(10), IN(39), 10), 20));
-    CHECK(nowhere(vizturel_gap(s, WORDS, IN(10), IN(39), 11)));
-    CHECK(at(vizturel_gap(s, WORDS, IN(10), IN(50), 11), 40));
-    CHECK(nowhere(vizturel_gap(s, WORDS, IN(10), IN(49), 11)));
-    CHECK(at(vizturel_gap(s, WORDS, IN(15), IN(24), 5), 20));
-    CHECK(nowhere(vizturel_gap(s, WORDS, IN(15), IN(23), 5)));
+    CHECK(at(vizturel_gap(s, WORDS, here, IN(10), IN(39), 10), 20));
+    CHECK(nowhere(vizturel_gap(s, WORDS, here, IN(10), IN(39), 11)));
+    CHECK(at(vizturel_gap(s, WORDS, here, IN(10), IN(50), 11), 40));
+    CHECK(nowhere(vizturel_gap(s, WORDS, here, IN(10), IN(49), 11)));
+    CHECK(at(vizturel_gap(s, WORDS, here, IN(15), IN(24), 5), 20));
+    CHECK(nowhere(vizturel_gap(s, WORDS, here, IN(15), IN(23), 5)));
 
     /* After both shifts position 8 lies at the start of the physical positions, and 7 at their end: gaps go over that place. */
     only(s, WORDS, 0, 2);
     put(s, WORDS, 20, 25, 1);
-    CHECK(vizturel_shift(s, WORDS, 12, 1) == 0 && vizturel_shift(s, WORDS, 4, 0) == 0);
+    CHECK(vizturel_shift(s, WORDS, here, 12, 1) == 0 && vizturel_shift(s, WORDS, here, 4, 0) == 0);
     CHECK(is_count(put(s, WORDS, 0, 2, 1), 2));
     /* held are 0 1, 8 9 10 and 28 .. 32 */
-    for (n = 1; n <= 17; n++) CHECK(is_gap(vizturel_gap(s, WORDS, ALL, IN(32), n), s, WORDS, 0, 32, n));
-    CHECK(nowhere(vizturel_gap(s, WORDS, ALL, IN(32), 18)));
-    CHECK(is_gap(vizturel_gap(s, WORDS, ALL, ALL, 18), s, WORDS, 0, M, 18));
-    CHECK(vizturel_set(s, WORDS, IN(8), IN(10), 0).low == 3);
-    CHECK(at(vizturel_gap(s, WORDS, ALL, IN(30), 26), 2));
-    CHECK(nowhere(vizturel_gap(s, WORDS, ALL, IN(30), 27)));
+    for (n = 1; n <= 17; n++) CHECK(is_gap(vizturel_gap(s, WORDS, here, ALL, IN(32), n), s, WORDS, 0, 32, n));
+    CHECK(nowhere(vizturel_gap(s, WORDS, here, ALL, IN(32), 18)));
+    CHECK(is_gap(vizturel_gap(s, WORDS, here, ALL, ALL, 18), s, WORDS, 0, M, 18));
+    CHECK(vizturel_set(s, WORDS, here, IN(8), IN(10), 0).low == 3);
+    CHECK(at(vizturel_gap(s, WORDS, here, ALL, IN(30), 26), 2));
+    CHECK(nowhere(vizturel_gap(s, WORDS, here, ALL, IN(30), 27)));
 
     /* empty and reversed ranges have none */
-    vizturel_new(s, WORDS);
-    CHECK(nowhere(vizturel_gap(s, WORDS, IN(6), EX(6), 1)));
-    CHECK(nowhere(vizturel_gap(s, WORDS, IN(9), IN(2), 1)));
-    CHECK(nowhere(vizturel_gap(s, WORDS, EX(M), ALL, 1)));
-    CHECK(nowhere(vizturel_gap(s, WORDS, ALL, EX(0), 1)));
+    fresh(s, WORDS);
+    CHECK(nowhere(vizturel_gap(s, WORDS, here, IN(6), EX(6), 1)));
+    CHECK(nowhere(vizturel_gap(s, WORDS, here, IN(9), IN(2), 1)));
+    CHECK(nowhere(vizturel_gap(s, WORDS, here, EX(M), ALL, 1)));
+    CHECK(nowhere(vizturel_gap(s, WORDS, here, ALL, EX(0), 1)));
 
     /* 9, after 1 and 7; a refusal has zeros beside it, and no word has changed */
     memcpy(kept, s, sizeof s);
-    f = vizturel_gap(s, WORDS, ALL, ALL, 0);
+    f = vizturel_gap(s, WORDS, here, ALL, ALL, 0);
     CHECK(f.refusal == VIZTUREL_GAP_LENGTH && f.found == 0 && f.position == 0);
-    CHECK(vizturel_gap(s, WORDS, IN(6), EX(6), 0).refusal == VIZTUREL_GAP_LENGTH);
-    CHECK(vizturel_gap(s, WORDS - 1, ALL, ALL, 0).refusal == VIZTUREL_STORE_LENGTH);
+    CHECK(vizturel_gap(s, WORDS, here, IN(6), EX(6), 0).refusal == VIZTUREL_GAP_LENGTH);
+    CHECK(vizturel_gap(s, WORDS - 1, here, ALL, ALL, 0).refusal == VIZTUREL_STORE_LENGTH);
     CHECK(memcmp(kept, s, sizeof s) == 0);
     s[7] = 1;
-    CHECK(vizturel_gap(s, WORDS, ALL, ALL, 0).refusal == VIZTUREL_UNSOUND);
-    CHECK(vizturel_gap(s, WORDS, ALL, ALL, 1).refusal == VIZTUREL_UNSOUND);
+    CHECK(vizturel_gap(s, WORDS, here, ALL, ALL, 0).refusal == VIZTUREL_UNSOUND);
+    CHECK(vizturel_gap(s, WORDS, here, ALL, ALL, 1).refusal == VIZTUREL_UNSOUND);
 }
 
 /* Maps of every length from 1 to 17 with every last byte, against a reading bit by bit: read_map is refused with 10 exactly if a spare bit is one,
@@ -276,6 +292,7 @@ static void gaps(void) {
 static void spare_bits(void) {
     static const uint64_t runs[] = {1, 2, 6, 8, 30, 40};
     uint64_t length, byte, i;
+    fresh(s, WORDS);
     for (length = 1; length <= 17; length++) {
         size_t bytes = (length + 7) / 8;
         int right = 1;
@@ -291,10 +308,10 @@ static void spare_bits(void) {
                 stray += map[i / 8] >> (i % 8) & 1;
                 used[i / 8] = (uint8_t)(used[i / 8] & ~(1u << (i % 8)));
             }
-            vizturel_build(s, WORDS, runs, 6);
-            for (i = 0; i < length; i++) changed += vizturel_get(s, WORDS, 3 + i).value != (used[i / 8] >> (i % 8) & 1u);
+            vizturel_build(s, WORDS, here, runs, 6);
+            for (i = 0; i < length; i++) changed += vizturel_get(s, WORDS, here, 3 + i).value != (used[i / 8] >> (i % 8) & 1u);
             memcpy(kept, s, sizeof s);
-            c = vizturel_read_map(s, WORDS, 3, length, map, bytes);
+            c = vizturel_read_map(s, WORDS, here, 3, length, map, bytes);
             right &= memcmp(map, kept_map, 3) == 0;
             if (stray > 0) {
                 right &= c.refusal == VIZTUREL_STRAY_BIT && c.carry == 0 && c.low == 0 && memcmp(kept, s, sizeof s) == 0;
@@ -306,11 +323,11 @@ static void spare_bits(void) {
             right &= n.refusal == 0 && n.number == stray && memcmp(map, used, 3) == 0;
             n = vizturel_clear_map(3, length, map, bytes);
             right &= n.refusal == 0 && n.number == 0 && memcmp(map, used, 3) == 0;
-            if (stray > 0) right &= is_count(vizturel_read_map(s, WORDS, 3, length, map, bytes), changed);
+            if (stray > 0) right &= is_count(vizturel_read_map(s, WORDS, here, 3, length, map, bytes), changed);
             for (i = 0; i < 60; i++) {
                 uint64_t held = (1 <= i && i <= 2) || (6 <= i && i <= 8) || (30 <= i && i <= 40);
                 if (3 <= i && i < 3 + length) held = used[(i - 3) / 8] >> ((i - 3) % 8) & 1u;
-                right &= vizturel_get(s, WORDS, i).value == held;
+                right &= vizturel_get(s, WORDS, here, i).value == held;
             }
         }
         check(right, "every last byte of a map", __LINE__);
@@ -318,14 +335,14 @@ static void spare_bits(void) {
     /* 10 comes after 1, 7 and 6, and before 8 */
     only(one, VIZTUREL_WORDS(1), 2, 7);
     out[0] = 0xD5;
-    CHECK(vizturel_read_map(one, VIZTUREL_WORDS(1), 0, 7, out, 1).refusal == VIZTUREL_STRAY_BIT);
-    CHECK(vizturel_read_map(one, VIZTUREL_WORDS(1), 0, 7, out, 2).refusal == VIZTUREL_WINDOW);
-    CHECK(vizturel_read_map(one, VIZTUREL_WORDS(1) - 1, 0, 7, out, 1).refusal == VIZTUREL_STORE_LENGTH);
+    CHECK(vizturel_read_map(one, VIZTUREL_WORDS(1), here, 0, 7, out, 1).refusal == VIZTUREL_STRAY_BIT);
+    CHECK(vizturel_read_map(one, VIZTUREL_WORDS(1), here, 0, 7, out, 2).refusal == VIZTUREL_WINDOW);
+    CHECK(vizturel_read_map(one, VIZTUREL_WORDS(1) - 1, here, 0, 7, out, 1).refusal == VIZTUREL_STORE_LENGTH);
     CHECK(vizturel_clear_map(0, 7, out, 1).number == 1 && out[0] == 0x55);
-    CHECK(vizturel_read_map(one, VIZTUREL_WORDS(1), 0, 7, out, 1).refusal == VIZTUREL_CAPACITY);
+    CHECK(vizturel_read_map(one, VIZTUREL_WORDS(1), here, 0, 7, out, 1).refusal == VIZTUREL_CAPACITY);
     one[7] = 1;
     out[0] = 0xD5;
-    CHECK(vizturel_read_map(one, VIZTUREL_WORDS(1), 0, 7, out, 1).refusal == VIZTUREL_UNSOUND);
+    CHECK(vizturel_read_map(one, VIZTUREL_WORDS(1), here, 0, 7, out, 1).refusal == VIZTUREL_UNSOUND);
     /* clearing is refused with 6 alone, and then no byte has changed */
     CHECK(vizturel_clear_map(0, 0, out, 0).refusal == VIZTUREL_WINDOW);
     CHECK(vizturel_clear_map(0, 7, out, 2).refusal == VIZTUREL_WINDOW);
@@ -340,32 +357,31 @@ static void refusals(void) {
 
     only(s, WORDS, 2, 7);
     memcpy(kept, s, sizeof s);
-    CHECK(vizturel_new(s, WORDS - 1) == VIZTUREL_STORE_LENGTH);
-    CHECK(vizturel_get(s, 24, 0).refusal == VIZTUREL_STORE_LENGTH);
-    CHECK(vizturel_combine(s, WORDS, 0, a, 0, kept, WORDS) == VIZTUREL_STORE_LENGTH);
-    CHECK(vizturel_write(s, WORDS, nothing, sizeof nothing).refusal == VIZTUREL_OUTPUT_SHORT);
-    CHECK(vizturel_write_map(s, WORDS, 0, 65, nothing, sizeof nothing).refusal == VIZTUREL_OUTPUT_SHORT);
-    CHECK(vizturel_load(s, WORDS, version_two, 4) == VIZTUREL_SET_LENGTH);
-    CHECK(vizturel_load(s, WORDS, version_two, 5) == VIZTUREL_SET_VERSION);
-    CHECK(vizturel_fill(s, WORDS, 0, 0).refusal == VIZTUREL_WINDOW);
-    CHECK(vizturel_fill(s, WORDS, M, 2).refusal == VIZTUREL_WINDOW);
-    CHECK(vizturel_read_map(s, WORDS, 0, 10, nothing, 3).refusal == VIZTUREL_WINDOW);
+    CHECK(vizturel_new_one(s, WORDS - 1) == VIZTUREL_STORE_LENGTH);
+    CHECK(vizturel_get(s, 24, here, 0).refusal == VIZTUREL_STORE_LENGTH);
+    CHECK(vizturel_combine(s, WORDS, here, 0, a, 0, here, kept, WORDS, here) == VIZTUREL_STORE_LENGTH);
+    CHECK(vizturel_write(s, WORDS, here, nothing, sizeof nothing).refusal == VIZTUREL_OUTPUT_SHORT);
+    CHECK(vizturel_write_map(s, WORDS, here, 0, 65, nothing, sizeof nothing).refusal == VIZTUREL_OUTPUT_SHORT);
+    CHECK(vizturel_load(s, WORDS, here, version_two, 4) == VIZTUREL_SET_LENGTH);
+    CHECK(vizturel_load(s, WORDS, here, version_two, 5) == VIZTUREL_SET_VERSION);
+    CHECK(vizturel_fill(s, WORDS, here, 0, 0).refusal == VIZTUREL_WINDOW);
+    CHECK(vizturel_fill(s, WORDS, here, M, 2).refusal == VIZTUREL_WINDOW);
+    CHECK(vizturel_read_map(s, WORDS, here, 0, 10, nothing, 3).refusal == VIZTUREL_WINDOW);
     CHECK(memcmp(nothing, same, sizeof same) == 0);
     CHECK(memcmp(kept, s, sizeof s) == 0);
     s[3]++;
     memcpy(kept, s, sizeof s);
-    CHECK(vizturel_get(s, WORDS, 0).refusal == VIZTUREL_UNSOUND);
-    CHECK(vizturel_set(s, WORDS, ALL, ALL, 1).refusal == VIZTUREL_UNSOUND);
-    CHECK(vizturel_draw_front(s, WORDS, 1, 0, 1).refusal == VIZTUREL_UNSOUND);
-    CHECK(vizturel_write(s, WORDS, nothing, sizeof nothing).refusal == VIZTUREL_UNSOUND);
+    CHECK(vizturel_get(s, WORDS, here, 0).refusal == VIZTUREL_UNSOUND);
+    CHECK(vizturel_set(s, WORDS, here, ALL, ALL, 1).refusal == VIZTUREL_UNSOUND);
+    CHECK(vizturel_draw_front(s, WORDS, here, 1, 0, 1).refusal == VIZTUREL_UNSOUND);
+    CHECK(vizturel_write(s, WORDS, here, nothing, sizeof nothing).refusal == VIZTUREL_UNSOUND);
     CHECK(memcmp(kept, s, sizeof s) == 0);
 }
 
 /* ---- lists of calls */
 
-/* a record with 99 in its reserved word, which this version answers as one with 0 */
 static vizturel_call ask(uint64_t call, vizturel_bound lower, vizturel_bound upper, uint64_t value, uint64_t k) {
-    vizturel_call c = {call, lower, upper, value, k, 99};
+    vizturel_call c = {call, lower, upper, value, k, here};
     return c;
 }
 
@@ -378,7 +394,7 @@ static int is(vizturel_answer a, uint64_t refusal, uint64_t found, uint64_t numb
 static vizturel_call list[MANY];
 static vizturel_answer told[MANY + 1], stale[MANY + 1];
 
-/* plays the first n calls of the list on the store s, with room for one answer more: that one stays as it was */
+/* plays the first n calls of the list on the pool s, with room for one answer more: that one stays as it was */
 static uint64_t play(size_t n) {
     uint64_t refusal;
     memset(stale, 0xEE, sizeof stale);
@@ -392,7 +408,7 @@ static uint64_t play(size_t n) {
 static void every_call(void) {
     size_t n = 0;
     only(s, WORDS, 40, 49);
-    list[n++] = ask(VIZTUREL_CALL_NEW, IN(1), EX(2), 3, 4);
+    list[n++] = ask(VIZTUREL_CALL_EMPTY, IN(1), EX(2), 3, 4);
     list[n++] = ask(VIZTUREL_CALL_SET, IN(2), EX(8), 1, 0);
     list[n++] = ask(VIZTUREL_CALL_SET, IN(10), IN(14), M, 0);
     list[n++] = ask(VIZTUREL_CALL_GET, IN(7), ALL, 0, 0);
@@ -488,12 +504,12 @@ static void refused_lists(void) {
     CHECK(is(told[1], VIZTUREL_WINDOW, 0, 0, 0, 0, 0, 0));
     CHECK(is(told[2], VIZTUREL_CAPACITY, 0, 0, 0, 0, 0, 0));
     CHECK(is(told[3], 0, 0, 2, 0, 0, 0, 0));
-    CHECK(is_run(vizturel_run_at(one, VIZTUREL_WORDS(1), 5), 4, 7));
+    CHECK(is_run(vizturel_run_at(one, VIZTUREL_WORDS(1), here, 5), 4, 7));
 
-    /* the whole refused: no word of the store and none of the answers has changed */
+    /* the whole refused: no word of the pool and none of the answers has changed */
     only(s, WORDS, 2, 7);
     memcpy(kept, s, sizeof s);
-    list[0] = ask(VIZTUREL_CALL_NEW, ALL, ALL, 0, 0);
+    list[0] = ask(VIZTUREL_CALL_EMPTY, ALL, ALL, 0, 0);
     list[1] = ask(VIZTUREL_CALL_SET, ALL, ALL, 1, 0);
     memset(told, 0xEE, sizeof told);
     CHECK(vizturel_play(s, WORDS - 1, list, 2, told, 2) == VIZTUREL_STORE_LENGTH);
@@ -517,7 +533,7 @@ static void refused_lists(void) {
     CHECK(vizturel_frame(s, WORDS, (const uint64_t *)(const void *)list, 7, NULL, 0) == VIZTUREL_DONE);
     s[3]++;
     memcpy(kept, s, sizeof s);
-    list[0] = ask(VIZTUREL_CALL_NEW, ALL, ALL, 0, 0);
+    list[0] = ask(VIZTUREL_CALL_EMPTY, ALL, ALL, 0, 0);
     CHECK(play(1) == VIZTUREL_UNSOUND);
     CHECK(memcmp(told, stale, sizeof told) == 0);
     CHECK(vizturel_play(s, WORDS, list, 1, told, 0) == VIZTUREL_UNSOUND);
@@ -525,14 +541,186 @@ static void refused_lists(void) {
     CHECK(memcmp(kept, s, sizeof s) == 0);
 }
 
+/* ---- worlds in one pool */
+
+#define LIMITS(list) list, sizeof list / sizeof *list
+
+/* Whether a world of the pool s admits a run that begins at x and touches none. */
+static uint64_t more(uint64_t world, uint64_t x) { return vizturel_set(s, WORDS, world, IN(x), IN(x), 1).refusal; }
+
+static uint64_t runs_of(uint64_t world) { return vizturel_count_ranges(s, WORDS, world, ALL, ALL, 1).number; }
+
+/* 11, after 1; what a refused making leaves; and what is no mistake */
+static void making(void) {
+    static const uint64_t crossed[] = {0, 5, 4, 3}, past[] = {7, 9, 7, 9}, wrapping[] = {M, M, 2, M}, odd[] = {1, 2, 9};
+    static const uint64_t whole[] = {6, 6, 7, M}, none[] = {0, 0};
+    uint64_t many[2 * (VIZTUREL_WORLDS + 1)];
+    size_t i;
+    for (i = 0; i < 2 * (VIZTUREL_WORLDS + 1); i++) many[i] = 0;
+    only(s, WORDS, 2, 7);
+    memcpy(kept, s, sizeof s);
+    CHECK(vizturel_new(s, WORDS, none, 0) == VIZTUREL_WORLD_LIMITS);
+    CHECK(vizturel_new(s, WORDS, none, 1) == VIZTUREL_WORLD_LIMITS);
+    CHECK(vizturel_new(s, WORDS, NULL, 0) == VIZTUREL_WORLD_LIMITS);
+    CHECK(vizturel_new(s, WORDS, LIMITS(many)) == VIZTUREL_WORLD_LIMITS);
+    CHECK(vizturel_new(s, WORDS, LIMITS(crossed)) == VIZTUREL_WORLD_LIMITS);
+    CHECK(vizturel_new(s, WORDS, LIMITS(past)) == VIZTUREL_WORLD_LIMITS);
+    CHECK(vizturel_new(s, WORDS, LIMITS(wrapping)) == VIZTUREL_WORLD_LIMITS);
+    CHECK(vizturel_new(s, WORDS - 1, LIMITS(many)) == VIZTUREL_STORE_LENGTH);
+    CHECK(memcmp(kept, s, sizeof s) == 0);
+    /* words that hold anything; sixteen worlds, and a word that is no world beside them */
+    memset(s, 0xEE, sizeof s);
+    CHECK(vizturel_new(s, WORDS, many, 2 * VIZTUREL_WORLDS + 1) == VIZTUREL_DONE);
+    CHECK(vizturel_get(s, WORDS, 15, 0).refusal == VIZTUREL_DONE && vizturel_get(s, WORDS, 16, 0).refusal == VIZTUREL_WORLD_UNOPENED);
+    CHECK(more(15, 0) == VIZTUREL_CAPACITY);
+    CHECK(vizturel_new(s, WORDS, LIMITS(odd)) == VIZTUREL_DONE);
+    CHECK(vizturel_get(s, WORDS, 0, 0).refusal == VIZTUREL_DONE && vizturel_get(s, WORDS, 1, 0).refusal == VIZTUREL_WORLD_UNOPENED);
+    /* floors that take all of C, and a ceiling above it */
+    CHECK(vizturel_new(s, WORDS, LIMITS(whole)) == VIZTUREL_DONE);
+    for (i = 0; i < 7; i++) CHECK(more(1, 2 * i) == VIZTUREL_DONE);
+    CHECK(more(1, 14) == VIZTUREL_CAPACITY);
+    for (i = 0; i < 6; i++) CHECK(more(0, 2 * i) == VIZTUREL_DONE);
+    CHECK(more(0, 12) == VIZTUREL_CAPACITY);
+}
+
+/* C is 13: world 0 is sure of 4 runs and has at most 8, world 1 is sure of none, world 2 of 3 and has no more. */
+static const uint64_t limits[] = {4, 8, 0, M, 3, 3};
+
+/* 8 by the ceiling, and by the sum; a world reaches its floor whatever the others hold */
+static void sharing(void) {
+    static const uint64_t two[] = {100, 100, 200, 200};
+    uint64_t i;
+    CHECK(vizturel_new(s, WORDS, LIMITS(limits)) == VIZTUREL_DONE);
+    /* world 1 takes what no floor keeps: 13 - 4 - 3 */
+    for (i = 0; i < 6; i++) CHECK(more(1, 2 * i + 1) == VIZTUREL_DONE);
+    memcpy(kept, s, sizeof s);
+    CHECK(more(1, 13) == VIZTUREL_CAPACITY);
+    CHECK(vizturel_not(s, WORDS, 1, kept, WORDS, 1) == VIZTUREL_CAPACITY);
+    CHECK(vizturel_load(s, WORDS, 1, out, 0) == VIZTUREL_SET_LENGTH);
+    CHECK(memcmp(kept, s, sizeof s) == 0);
+    /* the floors are still there, and nothing above them */
+    for (i = 0; i < 4; i++) CHECK(more(0, 2 * i) == VIZTUREL_DONE);
+    CHECK(more(0, 8) == VIZTUREL_CAPACITY);
+    for (i = 0; i < 3; i++) CHECK(more(2, 2 * i) == VIZTUREL_DONE);
+    CHECK(more(2, 6) == VIZTUREL_CAPACITY);
+    /* what world 1 gives up, world 0 may have, up to its ceiling; a world below its floor frees nothing for others */
+    CHECK(vizturel_set(s, WORDS, 2, ALL, ALL, 0).low == 3 && more(1, 13) == VIZTUREL_CAPACITY);
+    CHECK(vizturel_build(s, WORDS, 1, two, 4) == VIZTUREL_DONE);
+    for (i = 4; i < 8; i++) CHECK(more(0, 2 * i) == VIZTUREL_DONE);
+    CHECK(more(0, 16) == VIZTUREL_CAPACITY);
+    CHECK(runs_of(0) == 8 && runs_of(1) == 2 && runs_of(2) == 0);
+    /* joining runs needs no room, and gives some back */
+    CHECK(vizturel_set(s, WORDS, 0, IN(0), IN(14), 1).refusal == VIZTUREL_DONE && runs_of(0) == 1);
+    for (i = 0; i < 4; i++) CHECK(more(1, 2 * i) == VIZTUREL_DONE);
+    CHECK(more(1, 8) == VIZTUREL_CAPACITY);
+}
+
+/* Changes of one world, and overwriting it, leave the others; each world answers by its own positions. */
+static void apart(void) {
+    static const uint64_t first[] = {2, 7, 20, 29}, third[] = {0, M};
+    uint64_t joined[] = {2, 3, 8, 9, 20, 29};
+    uint8_t written[VIZTUREL_SET_BYTES(2)];
+    vizturel_written w;
+    CHECK(vizturel_new(s, WORDS, LIMITS(limits)) == VIZTUREL_DONE);
+    CHECK(vizturel_build(s, WORDS, 0, first, 4) == VIZTUREL_DONE && vizturel_build(s, WORDS, 2, third, 2) == VIZTUREL_DONE);
+    CHECK(is_count(vizturel_count(s, WORDS, 0, ALL, ALL, 1), 16));
+    CHECK(is_count(vizturel_count(s, WORDS, 1, ALL, ALL, 1), 0));
+    CHECK(vizturel_count(s, WORDS, 2, ALL, ALL, 1).carry == 1);
+    /* two worlds of one pool are compared as they are; one is made of the other by a copy of the pool */
+    CHECK(vizturel_eq(s, WORDS, 0, s, WORDS, 1).value == 0 && vizturel_eq(s, WORDS, 0, s, WORDS, 0).value == 1);
+    memcpy(a, s, sizeof s);
+    CHECK(vizturel_shifted(s, WORDS, 1, 0, 0, a, WORDS, 0) == VIZTUREL_DONE && vizturel_eq(s, WORDS, 0, s, WORDS, 1).value == 1);
+    CHECK(vizturel_flip(s, WORDS, 1, IN(4), EX(10)) == VIZTUREL_DONE);
+    w = vizturel_write(s, WORDS, 0, written, sizeof written);
+    CHECK(w.refusal == VIZTUREL_DONE && w.bytes == sizeof written);
+    here = 1;
+    CHECK(holds(s, WORDS, 3, joined));
+    CHECK(vizturel_load(s, WORDS, 1, written, sizeof written) == VIZTUREL_DONE && holds(s, WORDS, 2, first));
+    CHECK(vizturel_combine(s, WORDS, 1, VIZTUREL_AND, a, WORDS, 0, a, WORDS, 2) == VIZTUREL_DONE && holds(s, WORDS, 2, first));
+    CHECK(vizturel_shift(s, WORDS, 1, 30, 0) == VIZTUREL_DONE && holds(s, WORDS, 0, NULL));
+    here = 0;
+    CHECK(holds(s, WORDS, 2, first) && vizturel_count(s, WORDS, 2, ALL, ALL, 1).carry == 1);
+}
+
+/* 12, after 1 and 7 of any pool and before every other; 7 of the pool that receives */
+static void unopened(void) {
+    static const uint64_t numbers[] = {3, 15, 16, UINT64_C(1) << 32, M}, bad[] = {5, 4};
+    uint8_t nothing[1] = {9};
+    size_t i;
+    CHECK(vizturel_new(s, WORDS, LIMITS(limits)) == VIZTUREL_DONE && vizturel_new(b, WORDS, LIMITS(limits)) == VIZTUREL_DONE);
+    memcpy(kept, s, sizeof s);
+    for (i = 0; i < sizeof numbers / sizeof *numbers; i++) {
+        uint64_t no = numbers[i];
+        CHECK(vizturel_get(s, WORDS, no, 0).refusal == VIZTUREL_WORLD_UNOPENED);
+        CHECK(vizturel_set(s, WORDS, no, ALL, ALL, 1).refusal == VIZTUREL_WORLD_UNOPENED);
+        CHECK(vizturel_gap(s, WORDS, no, ALL, ALL, 0).refusal == VIZTUREL_WORLD_UNOPENED);
+        CHECK(vizturel_fill(s, WORDS, no, 0, 0).refusal == VIZTUREL_WORLD_UNOPENED);
+        CHECK(vizturel_read_map(s, WORDS, no, 0, 7, nothing, 0).refusal == VIZTUREL_WORLD_UNOPENED);
+        CHECK(vizturel_load(s, WORDS, no, nothing, 1) == VIZTUREL_WORLD_UNOPENED);
+        CHECK(vizturel_build(s, WORDS, no, bad, 2) == VIZTUREL_WORLD_UNOPENED);
+        CHECK(vizturel_write(s, WORDS, no, nothing, 1).refusal == VIZTUREL_WORLD_UNOPENED);
+        CHECK(vizturel_eq(s, WORDS, 0, b, WORDS, no).refusal == VIZTUREL_WORLD_UNOPENED);
+        CHECK(vizturel_not(s, WORDS, 0, b, WORDS, no) == VIZTUREL_WORLD_UNOPENED);
+        CHECK(vizturel_combine(s, WORDS, 0, 0, b, WORDS, 0, b, WORDS, no) == VIZTUREL_WORLD_UNOPENED);
+        CHECK(vizturel_combine(s, WORDS, no, 0, b, WORDS, 0, b, WORDS, 0) == VIZTUREL_WORLD_UNOPENED);
+        CHECK(vizturel_get(s, WORDS - 1, no, 0).refusal == VIZTUREL_STORE_LENGTH);
+    }
+    CHECK(memcmp(kept, s, sizeof s) == 0);
+    s[3]++;
+    memcpy(kept, s, sizeof s);
+    CHECK(vizturel_get(s, WORDS, 3, 0).refusal == VIZTUREL_UNSOUND);
+    CHECK(vizturel_load(s, WORDS, 3, nothing, 1) == VIZTUREL_UNSOUND);
+    CHECK(vizturel_build(s, WORDS, 0, bad, 2) == VIZTUREL_UNSOUND);
+    CHECK(vizturel_not(s, WORDS, 3, b, WORDS, 3) == VIZTUREL_UNSOUND);
+    CHECK(vizturel_shifted(b, WORDS, 3, 0, 0, s, WORDS, 3) == VIZTUREL_UNSOUND);
+    CHECK(vizturel_combine(b, WORDS, 3, 0, s, WORDS, 3, one, VIZTUREL_WORDS(1) - 1, 3) == VIZTUREL_STORE_LENGTH);
+    CHECK(memcmp(kept, s, sizeof s) == 0 && nothing[0] == 9);
+}
+
+/* a call of a list at the world */
+static vizturel_call ask_at(uint64_t world, uint64_t call, vizturel_bound lower, vizturel_bound upper, uint64_t value) {
+    vizturel_call c = {call, lower, upper, value, 0, world};
+    return c;
+}
+
+/* one list at several worlds: 12 and 8 stand in the answers, and a world is emptied alone */
+static void lists_of_worlds(void) {
+    size_t i;
+    CHECK(vizturel_new(s, WORDS, LIMITS(limits)) == VIZTUREL_DONE);
+    list[0] = ask_at(0, VIZTUREL_CALL_SET, IN(2), IN(7), 1);
+    list[1] = ask_at(1, VIZTUREL_CALL_SET, IN(4), IN(5), 1);
+    list[2] = ask_at(3, VIZTUREL_CALL_EMPTY, ALL, ALL, 1);
+    list[3] = ask_at(M, VIZTUREL_CALL_FILL, IN(0), IN(0), 0);
+    list[4] = ask_at(1, VIZTUREL_CALL_FIND, ALL, ALL, 1);
+    list[5] = ask_at(0, VIZTUREL_CALL_EMPTY, ALL, ALL, 1);
+    list[6] = ask_at(0, VIZTUREL_CALL_COUNT, ALL, ALL, 1);
+    list[7] = ask_at(1, VIZTUREL_CALL_COUNT, ALL, ALL, 1);
+    for (i = 0; i < 4; i++) list[8 + i] = ask_at(2, VIZTUREL_CALL_SET, IN(2 * i), IN(2 * i), 1);
+    CHECK(play(12) == VIZTUREL_DONE);
+    CHECK(is(told[0], 0, 0, 6, 0, 0, 0, 0) && is(told[1], 0, 0, 2, 0, 0, 0, 0));
+    CHECK(is(told[2], VIZTUREL_WORLD_UNOPENED, 0, 0, 0, 0, 0, 0) && is(told[3], VIZTUREL_WORLD_UNOPENED, 0, 0, 0, 0, 0, 0));
+    CHECK(is(told[4], 0, 1, 4, 0, 0, 0, 0) && is(told[5], 0, 0, 0, 0, 0, 0, 0));
+    CHECK(is(told[6], 0, 0, 0, 0, 0, 0, 0) && is(told[7], 0, 0, 2, 0, 0, 0, 0));
+    CHECK(is(told[10], 0, 0, 1, 0, 0, 0, 0) && is(told[11], VIZTUREL_CAPACITY, 0, 0, 0, 0, 0, 0));
+    CHECK(runs_of(0) == 0 && runs_of(1) == 1 && runs_of(2) == 3);
+}
+
 int main(void) {
-    cases();
-    gaps();
-    spare_bits();
-    refusals();
-    every_call();
-    any_record();
-    refused_lists();
+    for (here = 0; here < 2; here++) {
+        cases();
+        gaps();
+        spare_bits();
+        refusals();
+        every_call();
+        any_record();
+        refused_lists();
+    }
+    here = 0;
+    making();
+    sharing();
+    apart();
+    unopened();
+    lists_of_worlds();
     printf("%d passed, %d failed\n", passed, failed);
     return failed != 0;
 }

@@ -1,4 +1,4 @@
-/* Every exported call on damaged stores, wrong lengths and damaged bytes, with all that is lent placed so that an access past its ends is
+/* Every exported call on damaged pools, wrong lengths and damaged bytes, with all that is lent placed so that an access past its ends is
  * seen, whoever makes it:
  *
  *   memory end    each slice ends where an inaccessible page begins
@@ -7,7 +7,7 @@
  *
  * In the first two, words that are lent to be read only lie in pages that cannot be written. A second word, read or write, makes one call with
  * less memory than its count says, in breach of the header: a run that sees accesses past the ends does not live through it.
- * A number instead makes it one in so many of the damaged stores. The last line is 'N answers, M wrong'. */
+ * A number instead makes it one in so many of the damaged pools. The last line is 'N answers, M wrong'. */
 #define _GNU_SOURCE
 #include <stdio.h>
 #include <stdlib.h>
@@ -71,10 +71,10 @@ typedef struct {
     slice lent;
     uint64_t *words;
     size_t count;
-} store;
+} pool;
 
-static store lend_store(size_t count) {
-    store s;
+static pool lend_pool(size_t count) {
+    pool s;
     s.lent = lend(8 * count);
     s.words = (uint64_t *)(void *)s.lent.at;
     s.count = count;
@@ -89,8 +89,8 @@ static uint64_t chance(uint64_t n) {
     return state % n;
 }
 
-/* a sound store that is lent beside the damaged one, one to be made of it, and sound slices */
-static store partner, receiver;
+/* a sound pool that is lent beside the damaged one, one that receives what is made of it, and sound slices */
+static pool partner, receiver;
 static slice out, map, set_bytes, run_words, calls, told_calls;
 static size_t set_length;
 
@@ -110,49 +110,49 @@ static int inside(vizturel_bound lower, vizturel_bound upper, uint64_t x) {
     return above && below;
 }
 
-/* Every call that only reads the store, or makes another of it. Told is 0, 1 or 7: what each of them must be refused with. */
-static void reading_calls(store s, uint64_t told) {
+/* Every call that only reads the pool, or overwrites a world of another. Told is 0, 1, 7 or 12: what each of them must be refused with. */
+static void reading_calls(pool s, uint64_t at, uint64_t told) {
     const uint64_t *w = s.words;
     size_t n = s.count, i;
     uint64_t v = chance(2), x = chance(2) ? chance(120) : chance(M);
     vizturel_bound lower, upper;
-    CHECK(vizturel_get(w, n, x).refusal == told);
-    CHECK(vizturel_run_at(w, n, x).refusal == told);
+    CHECK(vizturel_get(w, n, at, x).refusal == told);
+    CHECK(vizturel_run_at(w, n, at, x).refusal == told);
     for (i = 0; i < 2; i++) {
         lower = lowers[chance(RANGES)];
         upper = uppers[chance(RANGES)];
-        CHECK(vizturel_find(w, n, lower, upper, v).refusal == told);
-        CHECK(vizturel_count(w, n, lower, upper, v).refusal == told);
-        CHECK(vizturel_select(w, n, lower, upper, v, chance(40)).refusal == told);
-        CHECK(vizturel_count_ranges(w, n, lower, upper, v).refusal == told);
-        CHECK(vizturel_ranges(w, n, lower, upper, v).refusal == told);
+        CHECK(vizturel_find(w, n, at, lower, upper, v).refusal == told);
+        CHECK(vizturel_count(w, n, at, lower, upper, v).refusal == told);
+        CHECK(vizturel_select(w, n, at, lower, upper, v, chance(40)).refusal == told);
+        CHECK(vizturel_count_ranges(w, n, at, lower, upper, v).refusal == told);
+        CHECK(vizturel_ranges(w, n, at, lower, upper, v).refusal == told);
     }
     /* any gap is right: n positions from there on, in the range and free */
     uint64_t length = chance(4) ? 1 + chance(12) : chance(M);
     lower = lowers[chance(RANGES)];
     upper = uppers[chance(RANGES)];
-    vizturel_found gap = vizturel_gap(w, n, lower, upper, length);
+    vizturel_found gap = vizturel_gap(w, n, at, lower, upper, length);
     CHECK(told ? gap.refusal == told : gap.refusal == (length ? 0 : VIZTUREL_GAP_LENGTH));
     if (gap.found) {
         uint64_t start = gap.position, end = start + (length - 1);
-        CHECK(start <= end && vizturel_find(w, n, IN(start), IN(end), 1).found == 0);
+        CHECK(start <= end && vizturel_find(w, n, at, IN(start), IN(end), 1).found == 0);
         CHECK(inside(lower, upper, start) && inside(lower, upper, end));
     }
-    CHECK(vizturel_draw_front(w, n, x, M, v).refusal == told);
-    CHECK(vizturel_draw_back(w, n, 0, x, v).refusal == told);
-    CHECK(vizturel_fill(w, n, x / 2, 1 + chance(200)).refusal == told);
-    CHECK(vizturel_eq(w, n, partner.words, partner.count).refusal == told);
-    CHECK(vizturel_eq(partner.words, partner.count, w, n).refusal == told);
-    CHECK(vizturel_write(w, n, out.at, VIZTUREL_SET_BYTES(MOST)).refusal == told);
-    CHECK(vizturel_write_map(w, n, x / 2, MAP_LENGTH, map.at, MAP_BYTES).refusal == told);
-    /* into another store; there it may also not fit */
-    uint64_t r = vizturel_combine(receiver.words, receiver.count, chance(3), w, n, partner.words, partner.count);
+    CHECK(vizturel_draw_front(w, n, at, x, M, v).refusal == told);
+    CHECK(vizturel_draw_back(w, n, at, 0, x, v).refusal == told);
+    CHECK(vizturel_fill(w, n, at, x / 2, 1 + chance(200)).refusal == told);
+    CHECK(vizturel_eq(w, n, at, partner.words, partner.count, 0).refusal == told);
+    CHECK(vizturel_eq(partner.words, partner.count, 0, w, n, at).refusal == told);
+    CHECK(vizturel_write(w, n, at, out.at, VIZTUREL_SET_BYTES(MOST)).refusal == told);
+    CHECK(vizturel_write_map(w, n, at, x / 2, MAP_LENGTH, map.at, MAP_BYTES).refusal == told);
+    /* into another pool; there it may also not fit */
+    uint64_t r = vizturel_combine(receiver.words, receiver.count, 0, chance(3), w, n, at, partner.words, partner.count, 0);
     CHECK(told ? r == told : r == 0 || r == VIZTUREL_CAPACITY);
-    r = vizturel_combine(receiver.words, receiver.count, chance(3), partner.words, partner.count, w, n);
+    r = vizturel_combine(receiver.words, receiver.count, 0, chance(3), partner.words, partner.count, 0, w, n, at);
     CHECK(told ? r == told : r == 0 || r == VIZTUREL_CAPACITY);
-    r = vizturel_not(receiver.words, receiver.count, w, n);
+    r = vizturel_not(receiver.words, receiver.count, 0, w, n, at);
     CHECK(told ? r == told : r == 0 || r == VIZTUREL_CAPACITY);
-    r = vizturel_shifted(receiver.words, receiver.count, x, v, w, n);
+    r = vizturel_shifted(receiver.words, receiver.count, 0, x, v, w, n, at);
     CHECK(told ? r == told : r == 0 || r == VIZTUREL_CAPACITY);
 }
 
@@ -164,99 +164,184 @@ static int is_stale(slice s, size_t bytes) {
     return 1;
 }
 
-/* Every call at once; told as before. A refused frame has written no answer. */
-static uint64_t frame(store s, uint64_t told) {
-    uint64_t refusal;
+/* Every call at once, at several worlds; told as before, but that 12 stands in answers. A refused frame has written no answer. */
+static void frame(pool s, uint64_t told) {
+    uint64_t refusal, due = told == VIZTUREL_WORLD_UNOPENED ? 0 : told;
     memset(told_calls.at, 0xEE, CALLS * RECORD);
     refusal = vizturel_play(s.words, s.count, (const vizturel_call *)(void *)calls.at, CALLS, (vizturel_answer *)(void *)told_calls.at, CALLS);
-    CHECK(refusal == told && is_stale(told_calls, CALLS * RECORD) == (told != 0));
-    return refusal;
+    CHECK(refusal == due && is_stale(told_calls, CALLS * RECORD) == (due != 0));
 }
 
-/* Every call that changes the store, each on the same words; told as before. A refused one has changed none of them. */
-static void changing_calls(store s, const uint64_t *damaged, uint64_t told) {
+/* Every call that changes the pool, each on the same words; told as before. A refused one has changed none of them. */
+static void changing_calls(pool s, uint64_t at, const uint64_t *damaged, uint64_t told) {
+    static const uint64_t limits[] = {0, M, 1, 1};
     uint64_t v = chance(2), x = chance(2) ? chance(120) : chance(M), refusal = 0;
     vizturel_bound lower = lowers[chance(RANGES)], upper = uppers[chance(RANGES)];
+    const uint64_t *p = partner.words;
+    size_t n = partner.count;
     int which;
-    for (which = 0; which < 11; which++) {
+    for (which = 0; which < 9; which++) {
         switch (which) {
-        case 0: refusal = vizturel_set(s.words, s.count, lower, upper, v).refusal; break;
-        case 1: refusal = vizturel_flip(s.words, s.count, lower, upper); break;
-        case 2: refusal = vizturel_shift(s.words, s.count, x, v); break;
-        case 3: refusal = vizturel_read_map(s.words, s.count, x / 2, MAP_LENGTH, map.at, MAP_BYTES).refusal; break;
-        case 4: refusal = frame(s, told); break;
-        /* these look at no word of it */
-        case 5: refusal = vizturel_new(s.words, s.count); break;
-        case 6: refusal = vizturel_load(s.words, s.count, set_bytes.at, set_length); break;
-        case 7: refusal = vizturel_build(s.words, s.count, (const uint64_t *)(void *)run_words.at, 2 * LIST_RUNS); break;
-        case 8: refusal = vizturel_combine(s.words, s.count, v, partner.words, partner.count, partner.words, partner.count); break;
-        case 9: refusal = vizturel_not(s.words, s.count, partner.words, partner.count); break;
-        case 10: refusal = vizturel_shifted(s.words, s.count, x, v, partner.words, partner.count); break;
+        case 0: refusal = vizturel_set(s.words, s.count, at, lower, upper, v).refusal; break;
+        case 1: refusal = vizturel_flip(s.words, s.count, at, lower, upper); break;
+        case 2: refusal = vizturel_shift(s.words, s.count, at, x, v); break;
+        case 3: refusal = vizturel_read_map(s.words, s.count, at, x / 2, MAP_LENGTH, map.at, MAP_BYTES).refusal; break;
+        case 4: refusal = vizturel_load(s.words, s.count, at, set_bytes.at, set_length); break;
+        case 5: refusal = vizturel_build(s.words, s.count, at, (const uint64_t *)(void *)run_words.at, 2 * LIST_RUNS); break;
+        case 6: refusal = vizturel_combine(s.words, s.count, at, v, p, n, 0, p, n, 0); break;
+        case 7: refusal = vizturel_not(s.words, s.count, at, p, n, 0); break;
+        case 8: refusal = vizturel_shifted(s.words, s.count, at, x, v, p, n, 0); break;
         }
-        if (told == VIZTUREL_STORE_LENGTH || (told == VIZTUREL_UNSOUND && which < 5)) {
-            CHECK(refusal == told);
-        } else {
-            CHECK(refusal == 0 || refusal == VIZTUREL_CAPACITY);
-        }
+        CHECK(told ? refusal == told : refusal == 0 || refusal == VIZTUREL_CAPACITY);
         CHECK(refusal == 0 || memcmp(s.words, damaged, 8 * s.count) == 0);
         memcpy(s.words, damaged, 8 * s.count);
     }
+    frame(s, told);
+    CHECK((told != VIZTUREL_STORE_LENGTH && told != VIZTUREL_UNSOUND) || memcmp(s.words, damaged, 8 * s.count) == 0);
+    /* making looks at no word */
+    memcpy(s.words, damaged, 8 * s.count);
+    refusal = vizturel_new(s.words, s.count, limits, sizeof limits / sizeof *limits);
+    CHECK(refusal == (told == VIZTUREL_STORE_LENGTH ? told : 0));
+    CHECK(refusal != 0 || (vizturel_get(s.words, s.count, 1, 0).refusal == 0 && vizturel_get(s.words, s.count, 2, 0).refusal == VIZTUREL_WORLD_UNOPENED));
 }
 
 static long sound, unsound;
 
-static void every_call(store s, const uint64_t *damaged) {
-    uint64_t told;
+/* Every call, at some world, on these words: whether they are a sound pool. */
+static int every_call(pool s, const uint64_t *damaged) {
+    uint64_t at = chance(4) ? chance(3) : chance(VIZTUREL_WORLDS + 1), told;
     memcpy(s.words, damaged, 8 * s.count);
-    told = vizturel_get(s.words, s.count, 0).refusal;
-    CHECK(told == 0 || told == VIZTUREL_UNSOUND || told == VIZTUREL_STORE_LENGTH);
-    if (told == 0) sound++;
+    told = vizturel_get(s.words, s.count, at, 0).refusal;
+    if (told == 0 || told == VIZTUREL_WORLD_UNOPENED) {
+        CHECK((at < s.words[0]) == (told == 0));
+        sound++;
+    } else {
+        CHECK(told == VIZTUREL_UNSOUND || told == VIZTUREL_STORE_LENGTH);
+    }
     if (told == VIZTUREL_UNSOUND) unsound++;
     writable(s.lent, 0);
-    reading_calls(s, told);
+    reading_calls(s, at, told);
     writable(s.lent, 1);
-    changing_calls(s, damaged, told);
+    changing_calls(s, at, damaged, told);
+    return told == 0 || told == VIZTUREL_WORLD_UNOPENED;
 }
 
-/* a sound store, of which kind there are five */
-static void fill_store(store s, size_t capacity, int kind) {
-    size_t i;
-    CHECK(vizturel_new(s.words, s.count) == 0);
-    if (kind == 1) CHECK(vizturel_set(s.words, s.count, ALL, ALL, 1).refusal == 0);
+/* The words of a world's record, and of a node. */
+#define RECORD_OF(w) (8 * (1 + (size_t)(w)))
+#define NODE(n) (8 * (16 + (size_t)(n)))
+enum { ROOT = 0, OFFSET = 1, RUNS = 3, FLOOR = 6, CEILING = 7, LEFT = 2, RIGHT = 3, HEIGHT = 4, WORLD = 7 };
+
+#define KINDS 7
+#define SHARED 5 /* from this kind on there are several worlds */
+
+/* a sound pool, of which kind there are seven: five of one world, one of three worlds, one of sixteen */
+static void fill_pool(pool s, size_t capacity, int kind) {
+    uint64_t limits[2 * VIZTUREL_WORLDS];
+    uint64_t i, worlds = kind < SHARED ? 1 : kind == SHARED ? 3 : VIZTUREL_WORLDS;
+    for (i = 0; i < worlds; i++) {
+        limits[2 * i] = kind >= SHARED && i < capacity;
+        limits[2 * i + 1] = kind >= SHARED ? capacity : M;
+    }
+    CHECK(vizturel_new(s.words, s.count, limits, 2 * worlds) == 0);
+    if (kind == 1) CHECK(vizturel_set(s.words, s.count, 0, ALL, ALL, 1).refusal == 0);
     if (kind >= 2) {
-        for (i = 0; i < capacity; i++) CHECK(vizturel_set(s.words, s.count, IN(9 * i), IN(9 * i + i % 5), 1).refusal == 0);
+        for (i = 0; i < capacity; i++) CHECK(vizturel_set(s.words, s.count, i % worlds, IN(9 * i), IN(9 * i + i % 5), 1).refusal == 0);
     }
     /* kind 3 goes over the place where physical positions end; in kind 4 nodes have been freed and used again */
     if (kind == 3) {
-        CHECK(vizturel_shift(s.words, s.count, 20, 0) == 0);
-        CHECK(vizturel_shift(s.words, s.count, 33, 1) == 0);
+        CHECK(vizturel_shift(s.words, s.count, 0, 20, 0) == 0);
+        CHECK(vizturel_shift(s.words, s.count, 0, 33, 1) == 0);
     }
     if (kind == 4) {
-        for (i = 0; i < capacity; i += 3) CHECK(vizturel_set(s.words, s.count, IN(9 * i), IN(9 * i + 4), 0).refusal == 0);
-        CHECK(vizturel_set(s.words, s.count, IN(1), IN(2), 1).refusal == 0);
+        for (i = 0; i < capacity; i += 3) CHECK(vizturel_set(s.words, s.count, 0, IN(9 * i), IN(9 * i + 4), 0).refusal == 0);
+        CHECK(vizturel_set(s.words, s.count, 0, IN(1), IN(2), 1).refusal == 0);
     }
 }
 
-static void damaged_stores(size_t capacity, long stride) {
+/* Whether the limits of a pool are kept, whose offsets are 0, so that physical runs are runs. */
+static int limits_kept(const uint64_t *w, size_t capacity) {
+    uint64_t i, left = capacity;
+    for (i = 0; i < w[0]; i++) {
+        const uint64_t *r = w + RECORD_OF(i);
+        uint64_t claim = r[RUNS] > r[FLOOR] ? r[RUNS] : r[FLOOR];
+        if (r[FLOOR] > r[CEILING] || r[RUNS] > r[CEILING] || claim > left) return 0;
+        left -= claim;
+    }
+    return 1;
+}
+
+/* Damage that only worlds in one pool can have: all of it is found. */
+static void crossed_worlds(pool s, const uint64_t *whole, uint64_t *damaged, size_t capacity) {
+    size_t count = s.count, bytes = 8 * count;
+    uint64_t i, j, k, n, nodes = capacity + 32;
+    for (i = 0; i < whole[0]; i++) {
+        for (j = 0; j < whole[0]; j++) {
+            const uint64_t *a = whole + RECORD_OF(i), *b = whole + RECORD_OF(j);
+            if (i == j || a[ROOT] == b[ROOT]) continue;
+            /* two records swapped, and all of one but its limits copied over the other */
+            memcpy(damaged, whole, bytes);
+            memcpy(damaged + RECORD_OF(i), b, 64);
+            memcpy(damaged + RECORD_OF(j), a, 64);
+            CHECK(!every_call(s, damaged));
+            memcpy(damaged, whole, bytes);
+            memcpy(damaged + RECORD_OF(i), b, 8 * FLOOR);
+            CHECK(!every_call(s, damaged));
+        }
+        /* a world's root is any other node, and a limit any other number */
+        for (n = 0; n <= nodes + 1; n++) {
+            if (n == whole[RECORD_OF(i) + ROOT]) continue;
+            memcpy(damaged, whole, bytes);
+            damaged[RECORD_OF(i) + ROOT] = n;
+            CHECK(!every_call(s, damaged));
+            for (k = FLOOR; k <= CEILING; k++) {
+                memcpy(damaged, whole, bytes);
+                damaged[RECORD_OF(i) + k] = n;
+                CHECK(every_call(s, damaged) == limits_kept(damaged, capacity));
+            }
+        }
+    }
+    for (n = 1; n <= nodes; n++) {
+        int used = whole[NODE(n) + HEIGHT] != 0;
+        /* a node of another world, or a free one that names a world */
+        for (k = 0; k <= VIZTUREL_WORLDS; k++) {
+            if (k == whole[NODE(n) + WORLD]) continue;
+            memcpy(damaged, whole, bytes);
+            damaged[NODE(n) + WORLD] = k;
+            CHECK(!every_call(s, damaged));
+        }
+        /* a link to any other node, of a world or free */
+        for (j = 0; j <= nodes + 1; j++) {
+            for (k = LEFT; k <= (used ? RIGHT : LEFT); k++) {
+                if (j == whole[NODE(n) + k]) continue;
+                memcpy(damaged, whole, bytes);
+                damaged[NODE(n) + k] = j;
+                CHECK(!every_call(s, damaged));
+            }
+        }
+    }
+}
+
+static void damaged_pools(size_t capacity, long stride) {
     size_t count = VIZTUREL_WORDS(capacity), i, k;
-    store s = lend_store(count);
+    pool s = lend_pool(count);
     uint64_t *whole = (uint64_t *)malloc(8 * count), *damaged = (uint64_t *)malloc(8 * count);
     long turn = 0;
     int kind;
-    for (kind = 0; kind < 5; kind++) {
-        fill_store(s, capacity, kind);
+    for (kind = 0; kind < KINDS; kind++) {
+        fill_pool(s, capacity, kind);
         memcpy(whole, s.words, 8 * count);
-        every_call(s, whole);
+        CHECK(every_call(s, whole));
         for (i = 0; i < count; i++) {
             uint64_t w = whole[i];
-            /* links just past the last node, and such that eight times them wraps; then each bit */
-            const uint64_t values[] = {0, 1, 2, capacity + 1, capacity + 2, capacity + 3, capacity + 4, count - 1, count, count + 1,
-                w + 1, w - 1, ~w, M, M - 1, UINT64_C(1) << 61, (UINT64_C(1) << 61) + 1, (M >> 3) + 1 + capacity, M >> 3, M >> 1};
-            size_t given = sizeof values / sizeof *values;
-            for (k = 0; k < given + 64; k++) {
+            /* links just past the last node, and such that eight times them wraps; then each bit, but of a 0 these */
+            static const uint64_t few[] = {2, 4, 31, 32, 63};
+            const uint64_t values[] = {0, 1, 2, capacity, capacity + 1, capacity + 32, capacity + 33, capacity + 48, capacity + 49, count - 1, count,
+                w + 1, w - 1, ~w, M - 1, UINT64_C(1) << 61, (UINT64_C(1) << 61) + 1, (M >> 3) + 1 + capacity, M >> 3, M >> 1};
+            size_t given = sizeof values / sizeof *values, bits = w ? 64 : sizeof few / sizeof *few;
+            for (k = 0; k < given + bits; k++) {
                 if (turn++ % stride != 0) continue;
                 memcpy(damaged, whole, 8 * count);
-                damaged[i] = k < given ? values[k] : w ^ UINT64_C(1) << (k - given);
+                damaged[i] = k < given ? values[k] : w ^ UINT64_C(1) << (w ? k - given : few[k - given]);
                 every_call(s, damaged);
             }
         }
@@ -267,24 +352,25 @@ static void damaged_stores(size_t capacity, long stride) {
             memcpy(damaged, whole, 8 * count);
             for (i = 0; i < many; i++) {
                 uint64_t at = chance(count);
-                damaged[at] = chance(2) ? whole[chance(count)] : chance(2) ? chance(capacity + 5) : chance(M);
+                damaged[at] = chance(2) ? whole[chance(count)] : chance(2) ? chance(capacity + 35) : chance(M);
             }
             every_call(s, damaged);
         }
+        if (kind >= SHARED && capacity <= 9 && stride == 1) crossed_worlds(s, whole, damaged, capacity);
     }
     free(whole);
     free(damaged);
     give_back(s.lent);
 }
 
-/* Every length up to 80 words, none of which is a store but 32, 40, .. 80. */
+/* Every length up to 440 words, none of which is a pool but 400, 408, .. 440. */
 static void wrong_lengths(void) {
-    uint64_t garbage[80];
+    uint64_t garbage[440];
     size_t count, i;
-    for (count = 0; count <= 80; count++) {
-        store s = lend_store(count);
-        for (i = 0; i < 80; i++) garbage[i] = chance(2) ? chance(12) : chance(M);
-        every_call(s, garbage);
+    for (count = 0; count <= 440; count++) {
+        pool s = lend_pool(count);
+        for (i = 0; i < 440; i++) garbage[i] = chance(2) ? chance(12) : chance(M);
+        CHECK(!every_call(s, garbage));
         give_back(s.lent);
     }
 }
@@ -292,8 +378,9 @@ static void wrong_lengths(void) {
 /* Written sets of every length up to some, with right and wrong counts of runs; outputs of every length; run lists and maps too. */
 static void damaged_bytes(void) {
     static const uint8_t counts[][4] = {{0, 0, 0, 0}, {0, 0, 0, 1}, {0, 0, 0, 3}, {0, 0, 0, 4}, {255, 255, 255, 255}, {16, 0, 0, 0}, {16, 0, 0, 1}, {128, 0, 0, 0}};
-    store s = lend_store(VIZTUREL_WORDS(3));
+    pool s = lend_pool(VIZTUREL_WORDS(3));
     size_t length, c, i;
+    fill_pool(s, 3, 0);
     for (length = 0; length <= 5 + 16 * 5; length++) {
         slice bytes = lend(length);
         for (c = 0; c < sizeof counts / 4; c++) {
@@ -303,29 +390,29 @@ static void damaged_bytes(void) {
                 if (length > 0) bytes.at[0] = (uint8_t)version;
                 for (i = 1; i < 5 && i < length; i++) bytes.at[i] = counts[c][i - 1];
                 writable(bytes, 0);
-                uint64_t r = vizturel_load(s.words, s.count, bytes.at, length);
+                uint64_t r = vizturel_load(s.words, s.count, 0, bytes.at, length);
                 CHECK(length < 5 ? r == VIZTUREL_SET_LENGTH : version != 1 ? r == VIZTUREL_SET_VERSION : r == 0 || r == VIZTUREL_SET_LENGTH || r == VIZTUREL_CAPACITY);
                 writable(bytes, 1);
             }
         }
         /* a slice to write to, a map to read and a run list, of that length */
-        fill_store(s, 3, 2);
-        vizturel_written w = vizturel_write(s.words, s.count, bytes.at, length);
+        fill_pool(s, 3, 2);
+        vizturel_written w = vizturel_write(s.words, s.count, 0, bytes.at, length);
         CHECK(length < VIZTUREL_SET_BYTES(3) ? w.refusal == VIZTUREL_OUTPUT_SHORT : w.refusal == 0);
-        w = vizturel_write_map(s.words, s.count, 3, 8 * 20, bytes.at, length);
+        w = vizturel_write_map(s.words, s.count, 0, 3, 8 * 20, bytes.at, length);
         CHECK(length < 20 ? w.refusal == VIZTUREL_OUTPUT_SHORT : w.refusal == 0);
         for (i = 0; i < length; i++) bytes.at[i] = 255;
-        uint64_t r = vizturel_read_map(s.words, s.count, 3, 8 * 20, bytes.at, length).refusal;
+        uint64_t r = vizturel_read_map(s.words, s.count, 0, 3, 8 * 20, bytes.at, length).refusal;
         CHECK(length == 20 ? r == 0 : r == VIZTUREL_WINDOW);
         /* all bits are one: those past the window are stray, until they are cleared */
         uint64_t window = 7 * length + 1;
         int fits = (window + 7) / 8 == length;
-        r = vizturel_read_map(s.words, s.count, M - 7 * length, window, bytes.at, length).refusal;
+        r = vizturel_read_map(s.words, s.count, 0, M - 7 * length, window, bytes.at, length).refusal;
         CHECK(!fits ? r == VIZTUREL_WINDOW : window % 8 ? r == VIZTUREL_STRAY_BIT : r == 0 || r == VIZTUREL_CAPACITY);
         vizturel_numbered cleared = vizturel_clear_map(M - 7 * length, window, bytes.at, length);
         CHECK(fits ? cleared.refusal == 0 && cleared.number == 8 * length - window : cleared.refusal == VIZTUREL_WINDOW);
         writable(bytes, 0);
-        r = vizturel_read_map(s.words, s.count, M - 7 * length, window, bytes.at, length).refusal;
+        r = vizturel_read_map(s.words, s.count, 0, M - 7 * length, window, bytes.at, length).refusal;
         CHECK(fits ? r == 0 || r == VIZTUREL_CAPACITY : r == VIZTUREL_WINDOW);
         writable(bytes, 1);
         give_back(bytes);
@@ -334,7 +421,7 @@ static void damaged_bytes(void) {
             uint64_t *runs = (uint64_t *)(void *)list.at;
             for (i = 0; i < length; i++) runs[i] = 5 * i;
             writable(list, 0);
-            r = vizturel_build(s.words, s.count, runs, length);
+            r = vizturel_build(s.words, s.count, 0, runs, length);
             CHECK(length / 2 > 3 ? r == VIZTUREL_CAPACITY : r == 0);
             give_back(list);
         }
@@ -344,9 +431,9 @@ static void damaged_bytes(void) {
 
 /* Lists of calls, of any words, and slices for their answers: each of every number of words up to 40. */
 static void frame_lengths(void) {
-    store s = lend_store(VIZTUREL_WORDS(3));
+    pool s = lend_pool(VIZTUREL_WORDS(3));
     size_t length, room, i;
-    fill_store(s, 3, 2);
+    fill_pool(s, 3, 2);
     for (length = 0; length <= 40; length++) {
         slice list = lend(8 * length);
         uint64_t *words = (uint64_t *)(void *)list.at;
@@ -366,21 +453,21 @@ static void frame_lengths(void) {
 /* One word less than the count says is lent, at the end or, where only the start is watched, before it. */
 static void breach(int write) {
     size_t count = VIZTUREL_WORDS(1);
-    store s = lend_store(count), less = lend_store(count - 1);
+    pool s = lend_pool(count), less = lend_pool(count - 1);
     uint64_t *words = place == START ? less.words - 1 : less.words;
     if (write) {
-        vizturel_new(words, count);
+        vizturel_new_one(words, count);
     } else {
-        vizturel_new(s.words, count);
+        vizturel_new_one(s.words, count);
         memcpy(less.words, s.words + (place == START), 8 * (count - 1));
-        vizturel_get(words, count, 0);
+        vizturel_get(words, count, 0, 0);
     }
     puts("an access past the end was not seen");
 }
 
 int main(int argc, char **argv) {
     static const char *places[] = {"end", "start", "heap"};
-    static const size_t capacities[] = {1, 2, 3, 5, 9, MOST};
+    static const size_t capacities[] = {1, 3, 9, MOST};
     long stride = argc > 2 ? atol(argv[2]) : 1;
     size_t i;
     for (i = 0; i < 3 && argc > 1; i++) {
@@ -394,9 +481,10 @@ int main(int argc, char **argv) {
     }
     if (stride < 1) return 2;
 
-    partner = lend_store(VIZTUREL_WORDS(MOST));
-    receiver = lend_store(VIZTUREL_WORDS(3));
-    fill_store(partner, 9, 3);
+    partner = lend_pool(VIZTUREL_WORDS(MOST));
+    receiver = lend_pool(VIZTUREL_WORDS(3));
+    fill_pool(partner, 9, 3);
+    fill_pool(receiver, 3, 0);
     out = lend(VIZTUREL_SET_BYTES(MOST));
     map = lend(MAP_BYTES);
     memset(map.at, 0x35, MAP_BYTES);
@@ -411,19 +499,19 @@ int main(int argc, char **argv) {
     calls = lend(CALLS * RECORD);
     told_calls = lend(CALLS * RECORD);
     for (i = 0; i < CALLS; i++) {
-        /* the new store last, so that the others have the damaged one */
-        vizturel_call c = {(i + 2) % CALLS, IN(9 * i), IN(9 * i + 40), i % 2, i, M};
+        /* a world is emptied last, so that the others have the damaged one; the last of these was not always opened */
+        vizturel_call c = {(i + 2) % CALLS, IN(9 * i), IN(9 * i + 40), i % 2, i, i % 4};
         ((vizturel_call *)(void *)calls.at)[i] = c;
     }
     writable(calls, 0);
 
-    for (i = 0; i < sizeof capacities / sizeof *capacities; i++) damaged_stores(capacities[i], stride);
+    for (i = 0; i < sizeof capacities / sizeof *capacities; i++) damaged_pools(capacities[i], stride);
     wrong_lengths();
     damaged_bytes();
     frame_lengths();
-    /* a test that met no sound store, or no damaged one, would have tested nothing */
+    /* a test that met no sound pool, or no damaged one, would have tested nothing */
     CHECK(sound > 100 && unsound > 1000);
-    printf("%ld sound stores and %ld others\n", sound, unsound);
+    printf("%ld sound pools and %ld others\n", sound, unsound);
     printf("%ld answers, %ld wrong\n", answers, wrong);
     return wrong != 0;
 }

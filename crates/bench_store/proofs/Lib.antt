@@ -1,2 +1,2 @@
--- What the proof of `put` uses.
+-- What the proofs of several functions use.
 pub mod Grown

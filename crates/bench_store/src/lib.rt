@@ -1,4 +1,4 @@
-// What the benchmarks call. bench/soundness.rs: making a store, growing it by random sets, and deciding its soundness.
+// What the benchmarks call. bench/soundness.rs: making a pool of one world, growing it by random sets, and deciding its soundness.
 // host/src/bench/gaps.rs: searching for gaps many times after one soundness check. No part of the library; nothing depends on it.
 ghost use mathlib.Core.Path.{_≡_};
 ghost use Prim.Native.Nat.{_≤_};
@@ -9,18 +9,19 @@ use model::Edge;
 use model::Logical;
 use store::Store;
 
-// Makes the words an empty store. False where no store has their length.
+// Makes the words a pool of one world, which is empty and may have all that the pool has. False where no pool has their length.
 #[no_mangle]
 pub extern "C" fn vizturel_bench_new(words: &mut [u64]) -> bool {
     let s = Store::of_length(words.len());
     if s.capacity == 0 {
         return false;
     }
-    store::free::make(words);
+    let limits = [0u64, s.capacity];
+    store::free::make(words, &limits, 1);
     true
 }
 
-// Whether the words are a sound store. False where no store has their length.
+// Whether the words are a sound pool. False where no pool has their length.
 #[no_mangle]
 pub extern "C" fn vizturel_bench_is_sound(words: &[u64]) -> bool {
     let s = Store::of_length(words.len());
@@ -48,17 +49,18 @@ fn last_of(first: u64, z: u64) -> u64
     first + more
 }
 
-// Sets first..=last to true, and tells whether the capacity admits it: 1 or 0.
+// Sets first..=last of world 0 to true, and tells whether the capacity admits it: 1 or 0.
 fn put(words: &mut [u64], first: u64, last: u64) -> u64
     requires { ⌜ Sound (now words) ⌝ }
     requires { ⌜ first ≤ last ⌝ }
     ensures { λ r. ⌜ (Sound (now (words .exit))) × (length (now (words .exit)) ≡ length (now (words .entry))) × (r ≤ 1) ⌝ }
 {
-    let h = store::open(words);
+    let h = store::open(words, 0);
+    let limit = store::allowance(words, 0);
     let e = changes::edit::set(
-        words,
+        &mut words[128..],
         h,
-        store::allowance(words),
+        limit,
         Logical(first),
         Logical(last),
         true,
@@ -72,7 +74,7 @@ fn put(words: &mut [u64], first: u64, last: u64) -> u64
     }
 }
 
-// Makes so many random short sets in a sound store, and tells how many the capacity admitted. 0 where the words are no sound store.
+// Makes so many random short sets in a sound pool, and tells how many the capacity admitted. 0 where the words are no sound pool.
 #[no_mangle]
 pub extern "C" fn vizturel_bench_grow(words: &mut [u64], seed: u64, sets: u64) -> u64 {
     let s = Store::of_length(words.len());
@@ -96,20 +98,20 @@ pub extern "C" fn vizturel_bench_grow(words: &mut [u64], seed: u64, sets: u64) -
     admitted
 }
 
-// Searches first..=last for n neighbouring free positions, and tells whether there are any: 1 or 0.
+// Searches first..=last of world 0 for n neighbouring free positions, and tells whether there are any: 1 or 0.
 fn look_for(words: &[u64], first: u64, last: u64, n: u64) -> u64
     requires { ⌜ Sound (now words) ⌝ }
     requires { ⌜ (first ≤ last) × (1 ≤ n) ⌝ }
 {
-    let h = store::open(words);
-    let e = streams::gaps::some_gap(words, h, Logical(first), Logical(last), n);
+    let h = store::open(words, 0);
+    let e = streams::gaps::some_gap(&words[128..], h, Logical(first), Logical(last), n);
     match e {
         Edge::At(_) => 1,
         Edge::Nowhere => 0,
     }
 }
 
-// Makes one soundness check and then so many searches for a gap, and tells how many found one. 0 where the words are no sound store, the
+// Makes one soundness check and then so many searches for a gap, and tells how many found one. 0 where the words are no sound pool, the
 // range is reversed or n is 0.
 #[no_mangle]
 pub extern "C" fn vizturel_bench_gaps(

@@ -1,5 +1,6 @@
 // Document 01's sixteen cases through the public calls: a line for each, with what the calls answer, in the document's order.
-// A run is its start and end with two dots between, both in it. The stores have capacity 13, or 1 where the case says so.
+// A run is its start and end with two dots between, both in it. The pools have capacity 13, or 1 where the case says so, and one world, 0,
+// with floor 0 and the capacity as its ceiling.
 ghost use Prim.Native.Nat.{_<_};
 ghost use lib.ListN.{length};
 use interval_bit_set::bytes;
@@ -22,6 +23,7 @@ use model::Operation;
 use model::Refusal;
 use model::Run;
 use model::Written;
+use store::Store;
 
 // ---- printing
 fn line(n: u64) {
@@ -124,15 +126,22 @@ fn written(w: Written, out: &[u8]) {
     }
 }
 
-// ---- ranges as the document writes them
+// ---- sets and ranges as the document writes them
+// A new set, which is empty.
+fn empty(words: &mut [u64]) {
+    let s = Store::of_length(words.len());
+    let limits = [0u64, s.capacity];
+    make::new(words, &limits);
+}
+
 fn set(words: &mut [u64], a: u64, b: u64, value: bool) -> Counted {
-    change::set(words, Bound::Included(a), Bound::Excluded(b), value)
+    change::set(words, 0, Bound::Included(a), Bound::Excluded(b), value)
 }
 
 // A new set of one run, start..=end.
 fn only(words: &mut [u64], start: u64, end: u64) {
-    make::new(words);
-    change::set(words, Bound::Included(start), Bound::Included(end), true);
+    empty(words);
+    change::set(words, 0, Bound::Included(start), Bound::Included(end), true);
 }
 
 // Prints the runs that are left in a listing, four at most.
@@ -140,7 +149,7 @@ fn draws(words: &[u64], first: Listing) {
     let mut l = first;
     let mut i: u64 = 0;
     while i < 4 {
-        let d = report::draw_front(words, l);
+        let d = report::draw_front(words, 0, l);
         match d {
             Drawn::Refused(r) => refused(r),
             Drawn::Run(r, m) => {
@@ -156,7 +165,7 @@ fn draws(words: &[u64], first: Listing) {
 }
 
 fn ranges(words: &[u64], lower: Bound, upper: Bound, value: bool) {
-    let l = report::ranges(words, lower, upper, value);
+    let l = report::ranges(words, 0, lower, upper, value);
     match l {
         Listed::Refused(r) => refused(r),
         Listed::Listing(m) => draws(words, m),
@@ -171,13 +180,13 @@ fn held(words: &[u64]) {
 }
 
 fn counts(words: &[u64]) {
-    counted(report::count(words, Bound::Unbounded, Bound::Unbounded, true));
+    counted(report::count(words, 0, Bound::Unbounded, Bound::Unbounded, true));
 }
 
 // ---- the cases
 fn case_1(s: &mut [u64]) {
     line(1);
-    make::new(s);
+    empty(s);
     counted(set(s, 2, 8, true));
     counted(set(s, 4, 6, false));
     counted(set(s, 2, 4, true));
@@ -186,16 +195,16 @@ fn case_1(s: &mut [u64]) {
 
 fn case_2(s: &mut [u64]) {
     line(2);
-    make::new(s);
-    counted(change::set(s, Bound::Unbounded, Bound::Unbounded, true));
-    counted(change::set(s, Bound::Unbounded, Bound::Unbounded, true));
+    empty(s);
+    counted(change::set(s, 0, Bound::Unbounded, Bound::Unbounded, true));
+    counted(change::set(s, 0, Bound::Unbounded, Bound::Unbounded, true));
     end_line();
 }
 
 fn case_3(s: &mut [u64]) {
     line(3);
-    make::new(s);
-    counted(change::set(s, Bound::Excluded(u64::MAX), Bound::Unbounded, true));
+    empty(s);
+    counted(change::set(s, 0, Bound::Excluded(u64::MAX), Bound::Unbounded, true));
     held(s);
     end_line();
 }
@@ -203,25 +212,25 @@ fn case_3(s: &mut [u64]) {
 fn case_4(s: &mut [u64]) {
     line(4);
     only(s, 2, 7);
-    around(report::run_at(s, 4));
-    around(report::run_at(s, 0));
-    around(report::run_at(s, 9));
+    around(report::run_at(s, 0, 4));
+    around(report::run_at(s, 0, 0));
+    around(report::run_at(s, 0, 9));
     end_line();
 }
 
 fn case_5(s: &mut [u64]) {
     line(5);
     only(s, 2, 7);
-    found(report::find(s, Bound::Included(4), Bound::Unbounded, false));
-    found(report::find(s, Bound::Included(2), Bound::Excluded(8), false));
+    found(report::find(s, 0, Bound::Included(4), Bound::Unbounded, false));
+    found(report::find(s, 0, Bound::Included(2), Bound::Excluded(8), false));
     end_line();
 }
 
 fn case_6(s: &mut [u64]) {
     line(6);
     only(s, 2, 7);
-    found(report::select(s, Bound::Included(4), Bound::Excluded(12), false, 1));
-    found(report::select(s, Bound::Included(4), Bound::Excluded(12), true, 4));
+    found(report::select(s, 0, Bound::Included(4), Bound::Excluded(12), false, 1));
+    found(report::select(s, 0, Bound::Included(4), Bound::Excluded(12), true, 4));
     end_line();
 }
 
@@ -238,18 +247,18 @@ fn case_7(s: &mut [u64]) {
 fn case_8(s: &mut [u64]) {
     line(8);
     only(s, 2, 7);
-    completed(change::flip(s, Bound::Included(4), Bound::Excluded(10)));
+    completed(change::flip(s, 0, Bound::Included(4), Bound::Excluded(10)));
     held(s);
     end_line();
 }
 
 fn case_9(s: &mut [u64], a: &[u64], b: &[u64]) {
     line(9);
-    completed(join::combine(s, Operation::And, a, b));
+    completed(join::combine(s, 0, Operation::And, a, 0, b, 0));
     counts(s);
-    completed(join::combine(s, Operation::Or, a, b));
+    completed(join::combine(s, 0, Operation::Or, a, 0, b, 0));
     counts(s);
-    completed(join::combine(s, Operation::Xor, a, b));
+    completed(join::combine(s, 0, Operation::Xor, a, 0, b, 0));
     held(s);
     end_line();
 }
@@ -257,10 +266,10 @@ fn case_9(s: &mut [u64], a: &[u64], b: &[u64]) {
 fn case_10(s: &mut [u64]) {
     line(10);
     only(s, u64::MAX - 1, u64::MAX);
-    completed(change::shift(s, 1, true));
+    completed(change::shift(s, 0, 1, true));
     held(s);
     only(s, u64::MAX - 1, u64::MAX);
-    completed(change::shift(s, 2, true));
+    completed(change::shift(s, 0, 2, true));
     held(s);
     end_line();
 }
@@ -268,10 +277,10 @@ fn case_10(s: &mut [u64]) {
 fn case_11(s: &mut [u64]) {
     line(11);
     only(s, 0, 3);
-    completed(change::shift(s, 2, false));
+    completed(change::shift(s, 0, 2, false));
     held(s);
     only(s, 0, 3);
-    completed(change::shift(s, 4, false));
+    completed(change::shift(s, 0, 4, false));
     held(s);
     end_line();
 }
@@ -279,7 +288,7 @@ fn case_11(s: &mut [u64]) {
 fn case_12(s: &mut [u64]) {
     line(12);
     only(s, 10, 19);
-    completed(change::shift(s, 5, true));
+    completed(change::shift(s, 0, 5, true));
     counted(set(s, 0, 15, true));
     held(s);
     end_line();
@@ -296,9 +305,9 @@ fn case_13(one: &mut [u64]) {
 fn case_14(s: &mut [u64], one: &mut [u64], a: &mut [u64]) {
     line(14);
     only(a, 5, 5);
-    completed(join::not(s, a));
+    completed(join::not(s, 0, a, 0));
     held(s);
-    completed(join::not(one, a));
+    completed(join::not(one, 0, a, 0));
     end_line();
 }
 
@@ -306,11 +315,11 @@ fn case_15(s: &mut [u64], out: &mut [u8; 37]) {
     line(15);
     only(s, 2, 3);
     set(s, 8, 10, true);
-    let w = write::write_set(s, out);
+    let w = write::write_set(s, 0, out);
     written(w, out);
-    let m = write::write_map(s, 0, 10, out);
+    let m = write::write_map(s, 0, 0, 10, out);
     written(m, out);
-    numbered(report::fill(s, 0, 3));
+    numbered(report::fill(s, 0, 0, 3));
     end_line();
 }
 
@@ -319,19 +328,19 @@ fn case_16(s: &mut [u64], out: &mut [u8; 37]) {
     line(16);
     only(s, 2, 3);
     set(s, 8, 10, true);
-    write::write_set(s, out);
+    write::write_set(s, 0, out);
     out[28] = 4;
     out[36] = 5;
-    completed(bytes::load(s, out));
+    completed(bytes::load(s, 0, out));
     held(s);
     end_line();
 }
 
 fn main() {
-    let mut s = [0u64; 128];
-    let mut a = [0u64; 128];
-    let mut b = [0u64; 128];
-    let mut one = [0u64; 32];
+    let mut s = [0u64; 496];
+    let mut a = [0u64; 496];
+    let mut b = [0u64; 496];
+    let mut one = [0u64; 400];
     let mut out = [0u8; 37];
     case_1(&mut s);
     case_2(&mut s);

@@ -236,7 +236,7 @@ pub fn flip(words: &mut [u64], h: World, limit: u64, a: Logical, b: Logical) -> 
 }
 
 // A world without runs, whatever it held: its nodes are free.
-fn emptied(words: &mut [u64], h: World) -> World
+pub fn emptied(words: &mut [u64], h: World) -> World
     requires { ⌜ Stands (now words) h ⌝ }
     ensures { λ r. ⌜ Empties (now (words .entry)) (now (words .exit)) h r ⌝ }
 {

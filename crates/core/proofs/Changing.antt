@@ -1,6 +1,6 @@
--- Calls that change a store where it stands meet their contract: refused by what looking tells, then by their conditions, then by too
--- many runs, and else the store holds the model's set. Each is the model's `change`, at the words' allowance and soundness.
--- Assumes nothing.
+-- Calls that change a world, or overwrite it, meet their contract: refused by what looking tells, then by their conditions, then by too
+-- many runs, and else the world holds the model's set. Each is the model's `change`, at the world's allowance. The work is done in the nodes,
+-- which are lent as a part of the words. Assumes nothing.
 use Prim.Native.Nat.{ℕ, suc, _-_, _≤_, _<_}
 use mathlib.Core.Path.{_≡_, refl, sym, ap, ap₂, _∙_, subst, fun-ext}
 use mathlib.Core.Logic.{_⊎_, inl, inr}
@@ -8,6 +8,7 @@ use mathlib.Core.Bool.{Bool, true, false, not, _&&_}
 use mathlib.Core.List.{List, [], _∷_, _++_}
 use mathlib.Core.Option.{Option, none, some}
 use native.Mathlib.Omega.{arith}
+use lib.Dec.{ltb}
 use borrow.Author.Tests.{lt-ltb, le-ltb}
 use Rattle.model.specs.declared.Bound.{Bound}
 use Rattle.model.specs.declared.Count.{Count}
@@ -16,97 +17,113 @@ use Rattle.model.proofs.Numbers.{split}
 use Rattle.model.specs.Range.{firstAllowed, extent}
 use Rattle.model.specs.Positions.{Positions, bounded, stretches, changes, setRange, flipRange, shiftBy}
 use Rattle.model.proofs.After.{set-below, set-above, flip-below, flip-above, changes-set}
+use Rattle.model.proofs.Runs.{stretches-cong}
+use Rattle.model.proofs.Pools.{full-allowance}
 use Rattle.model.specs.Bytes.{mapped}
-use Rattle.model.specs.Refusals.{storeLength, beforeCapacity, Condition, _when_, given, firstGiven, refusal, mapConditions, tooMany}
+use Rattle.model.specs.Refusals.{beforeCapacity, Condition, _when_, firstGiven, refusal, mapConditions, tooMany}
 use Rattle.model.specs.Refusals
 use Rattle.model.specs.Call.{Fed, Call, Result, done, number, refused, gave}
 use Rattle.model.specs.Model.{positionsOf, reads, settle, change, changed, serve}
-use Rattle.store.specs.Layout.{allowance, heldIn, heldBy}
 use Rattle.store.specs.declared.World.{World}
-use Rattle.store.specs.Soundness.{Stands, Limited, Editable, shareOf}
-use Rattle.store.specs.Settle.{Settled, Opened, Closing, Closes}
+use Rattle.store.specs.Layout.{capacity, allowance, heldIn, heldBy, plainAt, worldsOf}
+use Rattle.store.specs.Soundness.{shareOf}
+use Rattle.store.specs.Settle.{Settled, Became, Openable, Opened, Closing, Closes}
+use Rattle.store.proofs.Parts.{lent, back, back-same}
+use Rattle.store.proofs.WorldLists.{opened-world}
+use Rattle.store.proofs.Worlds.{held-allowed}
 use Rattle.changes.specs.declared.edit.Edit.{Edit}
 use Rattle.changes.specs.declared.edit.Fit.{Fit}
-use Rattle.changes.specs.Edits.{Makes, Edited, Fitted, Movable, Moves}
+use Rattle.changes.specs.Edits.{Makes, Edited, Fitted, Moves}
 use Rattle.changes.proofs.Shifted.{shift-few}
-use Rattle.core.specs.Met.{fedOf, outcomeOf, Met, Readable}
-use Rattle.core.proofs.Meeting.{met-by}
+use Rattle.core.specs.Met.{Site, fedOf, fullAt, outcomeOf, Met, Readable}
+use Rattle.core.proofs.Doors.{lent-held, lent-limited, lent-closing, lent-settled}
+use Rattle.core.proofs.Meeting.{met-by, settled-same, settled-as}
 use Rattle.core.proofs.Refusing.{refused-before, refused-full}
 use Rattle.core.proofs.Spans.{Within, of-range, count-nothing}
 
--- the call c has the conditions cs, which are not of its store's length, changes the positions held to Q of them, and gives A of them
-pub record Changes (w : List ℕ) (c : Call (List ℕ)) (cs : List Condition) (Q : Positions → Positions) (A : Positions → Result) : Type 0 where
-  pub said : outcomeOf w c ≡ change (allowance w) (fedOf w) cs (Q (positionsOf (fedOf w))) (A (positionsOf (fedOf w)))
-  pub others : given storeLength cs ≡ false
+-- the call c has the conditions cs, changes the positions held to Q of them, and gives A of them
+pub record Changes (w : List ℕ) (i : ℕ) (c : Call Site) (cs : List Condition) (Q : Positions → Positions) (A : Positions → Result) : Type 0 where
+  pub said : outcomeOf w i c ≡ change (fullAt w i) (fedOf w i) cs (Q (positionsOf (fedOf w i))) (A (positionsOf (fedOf w i)))
 
 -- ---- too many runs
--- at most what it may have
-pub fits-few : (C : ℕ) (Q : Positions) → stretches Q ≤ C → tooMany C Q ≡ false
-unfolding tooMany
-fits-few C Q h = le-ltb C (stretches Q) h
+module _ {w : List ℕ} {i : ℕ} (o : Openable w i) where
+  -- they are those above the allowance
+  pub full-above : fullAt w i ≡ ltb (allowance w i)
+  unfolding fullAt allowance
+  full-above = full-allowance (capacity w) (worldsOf w) i (plainAt w i) (opened-world w i (o .named)) (o .sound .fits)
 
--- more than it
-pub fits-not : (C : ℕ) (Q : Positions) → C < stretches Q → tooMany C Q ≡ true
-unfolding tooMany
-fits-not C Q h = lt-ltb C (stretches Q) h
+  -- at most what it may have
+  pub fits-few : (Q : Positions) → stretches Q ≤ allowance w i → tooMany (fullAt w i) Q ≡ false
+  unfolding tooMany
+  fits-few Q h = ap (λ f. f (stretches Q)) full-above ∙ le-ltb (allowance w i) (stretches Q) h
+
+  -- more than it
+  pub fits-not : (Q : Positions) → allowance w i < stretches Q → tooMany (fullAt w i) Q ≡ true
+  unfolding tooMany
+  fits-not Q h = ap (λ f. f (stretches Q)) full-above ∙ lt-ltb (allowance w i) (stretches Q) h
 
 -- below 2^64 a set is what is kept of it
 pub bounded-is : (Q : Positions) (x : ℕ) → x < size → Q x ≡ bounded Q x
 unfolding bounded
 bounded-is Q x h = sym (ap (λ t. t && Q x) (lt-ltb x size h))
 
-module _ {w : List ℕ} {c : Call (List ℕ)} {cs : List Condition} {Q : Positions → Positions} {A : Positions → Result} (says : Changes w c cs Q A) where
-  -- the refusal that is due at a store that is fed as s
+module _ {w : List ℕ} {i : ℕ} {c : Call Site} {cs : List Condition} {Q : Positions → Positions} {A : Positions → Result} (says : Changes w i c cs Q A) where
+  -- the refusal that is due at a world that is fed as s
   abbrev due : Fed → Option ℕ
-  due s = refusal (reads s ++ Refusals.capacity when tooMany (allowance w) (Q (positionsOf s)) ∷ cs)
+  due s = refusal (reads s ++ Refusals.capacity when tooMany (fullAt w i) (Q (positionsOf s)) ∷ cs)
 
   -- it is given
-  pub refused-due : {w′ : List ℕ} {n : ℕ} → due (fedOf w) ≡ some n → w′ ≡ w → Met w c (refused n) w′
+  pub refused-due : {w′ : List ℕ} {n : ℕ} → due (fedOf w i) ≡ some n → w′ ≡ w → Met w i c (refused n) w′
   unfolding change
   refused-due e q =
-      met-by _ (says .said ∙ ap (λ o. settle o (positionsOf (fedOf w)) (A (positionsOf (fedOf w))) (bounded (Q (positionsOf (fedOf w))))) e) q
+      met-by _ (says .said ∙ ap (λ o. settle o (positionsOf (fedOf w i)) (A (positionsOf (fedOf w i))) (bounded (Q (positionsOf (fedOf w i))))) e) q
 
-  -- a readable store's is that of the runs and the conditions
-  readable-due : {o : Option ℕ} (t : Bool) → Readable w → tooMany (allowance w) (Q (heldBy w)) ≡ t → refusal (Refusals.capacity when t ∷ cs) ≡ o → due (fedOf w) ≡ o
-  readable-due t R e f = ap due (R .fed) ∙ ap (λ m. refusal (Refusals.capacity when m ∷ cs)) e ∙ f
+  module _ (R : Readable w i) where
+    -- a readable world's is that of the runs and the conditions
+    readable-due : {o : Option ℕ} (t : Bool) → tooMany (fullAt w i) (Q (heldBy w i)) ≡ t → refusal (Refusals.capacity when t ∷ cs) ≡ o → due (fedOf w i) ≡ o
+    readable-due t e f = ap due (R .fed) ∙ ap (λ m. refusal (Refusals.capacity when m ∷ cs)) e ∙ f
 
-  -- the conditions come first
-  pub refused-first : {n : ℕ} → Readable w → firstGiven beforeCapacity cs ≡ some n → Met w c (refused n) w
-  refused-first R e = refused-due (readable-due _ R refl (refused-before cs (tooMany (allowance w) (Q (heldBy w))) e)) refl
+    -- the conditions come first
+    pub refused-first : {n : ℕ} → firstGiven beforeCapacity cs ≡ some n → Met w i c (refused n) w
+    refused-first e = refused-due (readable-due _ refl (refused-before cs (tooMany (fullAt w i) (Q (heldBy w i))) e)) refl
 
-  module _ (quiet : refusal cs ≡ none) where
-    -- then more runs than it may have
-    pub full : {w′ : List ℕ} (Q′ : Positions) → Readable w → Q′ ≡ Q (heldBy w) → (allowance w < stretches Q′) × (w′ ≡ w) → Met w c (refused 8) w′
-    full Q′ R f h =
-        refused-due (readable-due true R (fits-not (allowance w) (Q (heldBy w)) (subst (λ S. allowance w < stretches S) f (h .0))) (refused-full cs quiet)) (h .1)
+    module _ (quiet : refusal cs ≡ none) (Q′ : Positions) (alike : (x : ℕ) → x < size → Q′ x ≡ Q (heldBy w i) x) where
+      -- the changed set has as many runs
+      runs-alike : stretches Q′ ≡ stretches (Q (heldBy w i))
+      runs-alike = stretches-cong Q′ (Q (heldBy w i)) alike
 
-    -- and else the store is changed
-    pub changes-to : {w′ : List ℕ} {a : Result} (Q′ : Positions) → Readable w → Q′ ≡ Q (heldBy w) → stretches Q′ ≤ allowance w → Settled w w′ Q′ → a ≡ A (heldBy w) → Met w c (gave a) w′
-    unfolding change
-    changes-to {w′} Q′ R f fits S g =
-        let same : (x : ℕ) → x < size → heldBy w′ x ≡ Q (heldBy w) x = λ x h. S .holds x h ∙ ap (λ T. T x) f in
-        let few : stretches (Q (heldBy w)) ≤ allowance w = subst (λ T. stretches T ≤ allowance w) f fits in
-        let free : due (fedOf w) ≡ none = readable-due false R (fits-few (allowance w) (Q (heldBy w)) few) quiet in
-        subst (λ b. Met w c (gave b) w′) (sym g)
-        (met-by (record { answer = gave (A (heldBy w)); positions = bounded (Q (heldBy w)) })
-        (says .said
-        ∙ ap (λ o. settle o (positionsOf (fedOf w)) (A (positionsOf (fedOf w))) (bounded (Q (positionsOf (fedOf w))))) free
-        ∙ ap (λ s. settle none (positionsOf s) (A (positionsOf s)) (bounded (Q (positionsOf s)))) (R .fed))
-        (record { sound = S .sound; holds = λ x h. same x h ∙ bounded-is (Q (heldBy w)) x h; long = S .long }))
+      -- then more runs than it may have
+      pub full : {w′ : List ℕ} → (allowance w i < stretches Q′) × (w′ ≡ w) → Met w i c (refused 8) w′
+      full h =
+          refused-due (readable-due true (fits-not (R .openable) (Q (heldBy w i)) (subst (λ n. allowance w i < n) runs-alike (h .0))) (refused-full cs quiet)) (h .1)
 
-    -- a store that is its own change to the same set is left
-    pub left-so : {a : Result} → Readable w → heldBy w ≡ Q (heldBy w) → a ≡ A (heldBy w) → Met w c (gave a) w
-    left-so R f g = changes-to (heldBy w) R f (R .sound .fits) (record { sound = R .sound; holds = λ x h. refl; long = refl }) g
+      -- and else the world is changed
+      pub changes-to : {w′ : List ℕ} {a : Result} → stretches Q′ ≤ allowance w i → Settled w w′ i Q′ → a ≡ A (heldBy w i) → Met w i c (gave a) w′
+      unfolding change
+      changes-to {w′} fits S g =
+          let few : stretches (Q (heldBy w i)) ≤ allowance w i = subst (λ n. n ≤ allowance w i) runs-alike fits in
+          let free : due (fedOf w i) ≡ none = readable-due false (fits-few (R .openable) (Q (heldBy w i)) few) quiet in
+          subst (λ b. Met w i c (gave b) w′) (sym g)
+          (met-by (record { answer = gave (A (heldBy w i)); positions = bounded (Q (heldBy w i)) })
+          (says .said
+          ∙ ap (λ o. settle o (positionsOf (fedOf w i)) (A (positionsOf (fedOf w i))) (bounded (Q (positionsOf (fedOf w i))))) free
+          ∙ ap (λ s. settle none (positionsOf s) (A (positionsOf s)) (bounded (Q (positionsOf s)))) (R .fed))
+          (settled-as S (λ x h. alike x h ∙ bounded-is (Q (heldBy w i)) x h)))
+
+    -- a world that is its own change to the same set is left
+    pub left-so : {a : Result} → refusal cs ≡ none → heldBy w i ≡ Q (heldBy w i) → a ≡ A (heldBy w i) → Met w i c (gave a) w
+    left-so quiet f g =
+        changes-to quiet (heldBy w i) (λ x h. ap (λ T. T x) f) (held-allowed w i (R .openable)) (settled-same (R .openable .sound)) g
 
 -- ---- of the positions from a to b, of an open world
-module _ {w : List ℕ} {h : World} {l u : Bound} {a b : ℕ} (W : Within l u a b) (op : Opened w h) where
+module _ {w : List ℕ} {i : ℕ} {h : World} {l u : Bound} {a b : ℕ} (W : Within l u a b) (op : Opened w i h) where
   -- a set of them is one of the range
-  pub set-within : (v : Bool) → setRange a (suc b - a) v (heldIn w h) ≡ setRange (firstAllowed l) (extent l u) v (heldBy w)
-  set-within v = ap (setRange a (suc b - a) v) (op .held) ∙ of-range W (λ x n. setRange x n v (heldBy w)) refl
+  pub set-within : (v : Bool) → setRange a (suc b - a) v (heldIn (lent w) h) ≡ setRange (firstAllowed l) (extent l u) v (heldBy w i)
+  set-within v = ap (setRange a (suc b - a) v) (lent-held op) ∙ of-range W (λ x n. setRange x n v (heldBy w i)) refl
 
   -- so is a flip
-  pub flip-within : flipRange a (suc b - a) (heldIn w h) ≡ flipRange (firstAllowed l) (extent l u) (heldBy w)
-  flip-within = ap (flipRange a (suc b - a)) (op .held) ∙ of-range W (λ x n. flipRange x n (heldBy w)) refl
+  pub flip-within : flipRange a (suc b - a) (heldIn (lent w) h) ≡ flipRange (firstAllowed l) (extent l u) (heldBy w i)
+  flip-within = ap (flipRange a (suc b - a)) (lent-held op) ∙ of-range W (λ x n. flipRange x n (heldBy w i)) refl
 
 -- ---- of no position
 module _ (P : Positions) (a n : ℕ) (e : n ≡ 0) where
@@ -131,100 +148,98 @@ pub changes-none : (P : Positions) (a n : ℕ) (v : Bool) → n ≡ 0 → 0 ≡ 
 changes-none P a n v e =
     count-nothing P (not v) 0 0 refl ∙ sym (changes-set P 0 0 v (omega arith)) ∙ ap (changes P) (sym (set-none P 0 0 refl v) ∙ set-none P a n e v)
 
--- ---- changes of the world of an open store
-module _ {w : List ℕ} {h : World} (R : Readable w) (op : Opened w h) where
-  -- the world stands
-  pub open-stands : Stands w h
-  open-stands = (shareOf w, op .limited .standing)
+-- ---- changes of an open world, in the part that is lent; it comes back as ys
+-- at most as many runs as the limit, which is the allowance
+up-to : {limit a : ℕ} (Q : Positions) → limit ≡ a → stretches Q ≤ limit → stretches Q ≤ a
+up-to Q e l = subst (λ n. stretches Q ≤ n) e l
 
-  -- it may be edited up to the allowance
-  pub open-editable : {limit : ℕ} → limit ≡ allowance w → Editable w h limit
-  open-editable e = (shareOf w, subst (Limited w (shareOf w) h) (sym e) (op .limited))
-
-  -- and moved
-  pub open-movable : Movable w h
-  open-movable = (shareOf w, allowance w, op .limited)
-
-  -- what was made of it can be closed
-  made-closing : {w₁ : List ℕ} {k : World} {Q : Positions} → Makes w w₁ h k Q → stretches Q ≤ allowance w → Closing w w₁ k Q
-  made-closing mk few = record { sized = R .sound .sized; became = mk (shareOf w) (allowance w) (op .limited) few; few = few }
-
+module _ {w : List ℕ} {i : ℕ} {h : World} (R : Readable w i) (op : Opened w i h) where
   -- a shift adds no run
-  pub move-closing : {w₁ : List ℕ} {k : World} (d : ℕ) (left : Bool) → d < size → Moves w w₁ h k (shiftBy d left (heldIn w h)) → Closing w w₁ k (shiftBy d left (heldIn w h))
-  move-closing d left l mv = record {
-    sized = R .sound .sized;
-    became = mv (shareOf w) (allowance w) (op .limited);
-    few = omega (arith, shift-few d left (heldIn w h) l, op .limited .fits);
-  }
+  pub move-became : {ys : List ℕ} {k : World} {Q : Positions} → Moves (lent w) ys h k Q → Became (lent w) ys (shareOf w i) k Q
+  move-became mv = mv (shareOf w i) (allowance w i) (lent-limited op)
+
+  pub move-few : (d : ℕ) (left : Bool) → d < size → stretches (shiftBy d left (heldIn (lent w) h)) ≤ allowance w i
+  move-few d left l = omega (arith, shift-few d left (heldIn (lent w) h) l, (lent-limited op) .fits)
+
+  pub move-closing : (ys : List ℕ) {k : World} (d : ℕ) (left : Bool) → d < size → Moves (lent w) ys h k (shiftBy d left (heldIn (lent w) h))
+      → Closing w (back w ys) k (shiftBy d left (heldIn (lent w) h))
+  move-closing ys d left l mv = lent-closing (R .openable) (move-became mv) (move-few d left l)
 
   -- the positions became Q, if these have no more runs than the limit
-  module _ {limit : ℕ} (el : limit ≡ allowance w) {Q : Positions} where
-    made : {w₁ : List ℕ} {k : World} → (stretches Q ≤ limit) → Makes w w₁ h k Q → Closing w w₁ k Q
-    made l mk = made-closing mk (subst (λ n. stretches Q ≤ n) el l)
+  module _ {limit : ℕ} (el : limit ≡ allowance w i) {Q : Positions} where
+    made : {ys : List ℕ} {k : World} → stretches Q ≤ limit → Makes (lent w) ys h k Q → Became (lent w) ys (shareOf w i) k Q
+    made l mk = mk (shareOf w i) (allowance w i) (lent-limited op) (up-to Q el l)
 
     -- by a change that counts
-    module _ {w₁ : List ℕ} (e : Edit) (ed : Edited w w₁ h limit Q e) {k : World} {n : Count} (q : e ≡ Edit.Changed k n) where
-      pub edit-told : Edited w w₁ h limit Q (Edit.Changed k n)
-      edit-told = subst (Edited w w₁ h limit Q) q ed
+    module _ (ys : List ℕ) (e : Edit) (ed : Edited (lent w) ys h limit Q e) {k : World} {n : Count} (q : e ≡ Edit.Changed k n) where
+      pub edit-told : Edited (lent w) ys h limit Q (Edit.Changed k n)
+      edit-told = subst (Edited (lent w) ys h limit Q) q ed
 
-      pub edit-closing : Closing w w₁ k Q
-      edit-closing = made (edit-told .0) (edit-told .1)
+      pub edit-closing : Closing w (back w ys) k Q
+      edit-closing = lent-closing (R .openable) (made (edit-told .0) (edit-told .1)) (up-to Q el (edit-told .0))
 
     -- by one that does not
-    module _ {w₁ : List ℕ} (e : Fit) (ft : Fitted w w₁ h limit Q e) {k : World} (q : e ≡ Fit.Done k) where
-      pub fit-told : Fitted w w₁ h limit Q (Fit.Done k)
-      fit-told = subst (Fitted w w₁ h limit Q) q ft
+    module _ (ys : List ℕ) (e : Fit) (ft : Fitted (lent w) ys h limit Q e) {k : World} (q : e ≡ Fit.Done k) where
+      pub fit-told : Fitted (lent w) ys h limit Q (Fit.Done k)
+      fit-told = subst (Fitted (lent w) ys h limit Q) q ft
 
-      pub fit-closing : Closing w w₁ k Q
-      fit-closing = made (fit-told .0) (fit-told .1)
+      pub fit-closing : Closing w (back w ys) k Q
+      fit-closing = lent-closing (R .openable) (made (fit-told .0) (fit-told .1)) (up-to Q el (fit-told .0))
 
 -- a call that so changes the world is met
-module _ {w : List ℕ} {c : Call (List ℕ)} {cs : List Condition} {F : Positions → Positions} {A : Positions → Result} (says : Changes w c cs F A) (quiet : refusal cs ≡ none)
-    {h : World} (R : Readable w) (op : Opened w h) {Q : Positions} (same : Q ≡ F (heldBy w)) where
-  -- the world k, closed
-  closed : {w₁ w′ : List ℕ} {k : World} {a : Result} → Closing w w₁ k Q → Closes w₁ w′ k → a ≡ A (heldBy w) → Met w c (gave a) w′
-  closed m cl g = changes-to says quiet Q R same (m .few) (cl _ _ m) g
+module _ {w : List ℕ} {i : ℕ} {c : Call Site} {cs : List Condition} {F : Positions → Positions} {A : Positions → Result} (says : Changes w i c cs F A) (quiet : refusal cs ≡ none)
+    {h : World} (R : Readable w i) (op : Opened w i h) {Q : Positions} (same : Q ≡ F (heldBy w i)) where
+  alike : (x : ℕ) → x < size → Q x ≡ F (heldBy w i) x
+  alike x l = ap (λ T. T x) same
 
-  pub move-done : {w₁ w′ : List ℕ} {k : World} → Closing w w₁ k Q → Closes w₁ w′ k → done ≡ A (heldBy w) → Met w c (gave done) w′
-  move-done = closed
+  -- by a shift
+  pub move-done : (ys : List ℕ) {w′ : List ℕ} {k : World} (d : ℕ) (left : Bool) → d < size → Q ≡ shiftBy d left (heldIn (lent w) h) → Moves (lent w) ys h k Q → Closes (back w ys) w′ k
+      → done ≡ A (heldBy w i) → Met w i c (gave done) w′
+  move-done ys d left l e mv cl g =
+      let few = subst (λ P. stretches P ≤ allowance w i) (sym e) (move-few R op d left l) in
+      changes-to says R quiet Q alike few (lent-settled (R .openable) (move-became R op mv) few cl) g
 
-  module _ {limit : ℕ} (el : limit ≡ allowance w) where
+  module _ {limit : ℕ} (el : limit ≡ allowance w i) where
     -- too many runs
-    over : {w′ : List ℕ} → (limit < stretches Q) × (w′ ≡ w) → Met w c (refused 8) w′
-    over f = full says quiet Q R same (subst (λ n. n < stretches Q) el (f .0), f .1)
+    over : (ys : List ℕ) → (limit < stretches Q) × (ys ≡ lent w) → Met w i c (refused 8) (back w ys)
+    over ys f = full says R quiet Q alike (subst (λ n. n < stretches Q) el (f .0), ap (back w) (f .1) ∙ back-same w)
 
-    pub edit-full : {w₁ : List ℕ} (e : Edit) → Edited w w₁ h limit Q e → e ≡ Edit.Full → Met w c (refused 8) w₁
-    edit-full {w₁} e ed q = over (subst (Edited w w₁ h limit Q) q ed)
+    pub edit-full : (ys : List ℕ) (e : Edit) → Edited (lent w) ys h limit Q e → e ≡ Edit.Full → Met w i c (refused 8) (back w ys)
+    edit-full ys e ed q = over ys (subst (Edited (lent w) ys h limit Q) q ed)
 
-    pub fit-full : {w₁ : List ℕ} (e : Fit) → Fitted w w₁ h limit Q e → e ≡ Fit.Full → Met w c (refused 8) w₁
-    fit-full {w₁} e ft q = over (subst (Fitted w w₁ h limit Q) q ft)
+    pub fit-full : (ys : List ℕ) (e : Fit) → Fitted (lent w) ys h limit Q e → e ≡ Fit.Full → Met w i c (refused 8) (back w ys)
+    fit-full ys e ft q = over ys (subst (Fitted (lent w) ys h limit Q) q ft)
 
-    pub edit-done : {w₁ w′ : List ℕ} (e : Edit) → Edited w w₁ h limit Q e → {k : World} {n : Count} → e ≡ Edit.Changed k n → Closes w₁ w′ k
-        → A (heldBy w) ≡ number (changes (heldBy w) (F (heldBy w))) → Met w c (gave (number (worth n))) w′
-    edit-done e ed q cl g =
-        closed (edit-closing R op el e ed q) cl (ap number ((edit-told R op el e ed q) .2 ∙ ap₂ changes (op .held) same) ∙ sym g)
+    pub edit-done : (ys : List ℕ) {w′ : List ℕ} (e : Edit) → Edited (lent w) ys h limit Q e → {k : World} {n : Count} → e ≡ Edit.Changed k n → Closes (back w ys) w′ k
+        → A (heldBy w i) ≡ number (changes (heldBy w i) (F (heldBy w i))) → Met w i c (gave (number (worth n))) w′
+    edit-done ys e ed q cl g =
+        let t = edit-told R op el ys e ed q in
+        changes-to says R quiet Q alike (up-to Q el (t .0)) (lent-settled (R .openable) (made R op el (t .0) (t .1)) (up-to Q el (t .0)) cl)
+        (ap number (t .2 ∙ ap₂ changes (lent-held op) same) ∙ sym g)
 
-    pub fit-done : {w₁ w′ : List ℕ} (e : Fit) → Fitted w w₁ h limit Q e → {k : World} → e ≡ Fit.Done k → Closes w₁ w′ k → done ≡ A (heldBy w) → Met w c (gave done) w′
-    fit-done e ft q cl g = closed (fit-closing R op el e ft q) cl g
+    pub fit-done : (ys : List ℕ) {w′ : List ℕ} (e : Fit) → Fitted (lent w) ys h limit Q e → {k : World} → e ≡ Fit.Done k → Closes (back w ys) w′ k → done ≡ A (heldBy w i) → Met w i c (gave done) w′
+    fit-done ys e ft q cl g =
+        let t = fit-told R op el ys e ft q in
+        changes-to says R quiet Q alike (up-to Q el (t .0)) (lent-settled (R .openable) (made R op el (t .0) (t .1)) (up-to Q el (t .0)) cl) g
 
 -- which calls change, and to what:
-module _ (w : List ℕ) where
+module _ (w : List ℕ) (i : ℕ) where
   -- a range gets a value
-  pub set-says : (l u : Bound) (v : Bool) → Changes w (Call.set l u v) [] (setRange (firstAllowed l) (extent l u) v) (λ P. number (changes P (setRange (firstAllowed l) (extent l u) v P)))
+  pub set-says : (l u : Bound) (v : Bool) → Changes w i (Call.set l u v) [] (setRange (firstAllowed l) (extent l u) v) (λ P. number (changes P (setRange (firstAllowed l) (extent l u) v P)))
   unfolding outcomeOf serve changed
-  set-says l u v = record { said = refl; others = refl }
+  set-says l u v = record { said = refl }
 
   -- a range is inverted
-  pub flip-says : (l u : Bound) → Changes w (Call.flip l u) [] (flipRange (firstAllowed l) (extent l u)) (λ P. done)
+  pub flip-says : (l u : Bound) → Changes w i (Call.flip l u) [] (flipRange (firstAllowed l) (extent l u)) (λ P. done)
   unfolding outcomeOf serve
-  flip-says l u = record { said = refl; others = refl }
+  flip-says l u = record { said = refl }
 
   -- all positions are moved
-  pub shift-says : (d : ℕ) (left : Bool) → Changes w (Call.shift d left) [] (shiftBy d left) (λ P. done)
+  pub shift-says : (d : ℕ) (left : Bool) → Changes w i (Call.shift d left) [] (shiftBy d left) (λ P. done)
   unfolding outcomeOf serve
-  shift-says d left = record { said = refl; others = refl }
+  shift-says d left = record { said = refl }
 
   -- a window is set from a map
-  pub read-map-says : (base n : ℕ) (bs : List ℕ) → Changes w (Call.readMap base n bs) (mapConditions base n bs) (mapped base n bs) (λ P. number (changes P (mapped base n bs P)))
+  pub read-map-says : (base n : ℕ) (bs : List ℕ) → Changes w i (Call.readMap base n bs) (mapConditions base n bs) (mapped base n bs) (λ P. number (changes P (mapped base n bs P)))
   unfolding outcomeOf serve changed
-  read-map-says base n bs = record { said = refl; others = refl }
+  read-map-says base n bs = record { said = refl }

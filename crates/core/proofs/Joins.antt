@@ -2,7 +2,7 @@
 -- positions; it is shifted by a turn, AND the positions that a shift can reach; two sets are the same where their XOR has no run. All are
 -- told pointwise below 2^64. Assumes nothing.
 use Prim.Native.Nat.{ℕ, _+_, _-_, _≤_, _<_}
-use mathlib.Core.Path.{_≡_, refl, sym, ap, ap₂, _∙_}
+use mathlib.Core.Path.{_≡_, refl, sym, ap, ap₂, _∙_, subst}
 use mathlib.Core.Logic.{_⊎_, inl, inr}
 use mathlib.Core.Bool.{Bool, true, false, not, _&&_, Bool·beq, and-true, and-false}
 use mathlib.Core.List.{List, [], _∷_}
@@ -21,11 +21,13 @@ use Rattle.model.specs.RunList.{Canon}
 use Rattle.model.proofs.RunList.{widths, mem-in, mem-under, mem-above}
 use Rattle.model.specs.Model.{positionsOf}
 use Rattle.store.specs.Places.{physicalOf, logicalOf}
-use Rattle.store.specs.Layout.{turned, physicalRuns, heldFrom}
+use Rattle.store.specs.Layout.{turned, physicalRuns, heldFrom, heldBy}
 use Rattle.store.proofs.Turn.{turned-at}
 use Rattle.store.proofs.Ends.{empty-mem}
+use Rattle.store.proofs.Parts.{lent, lent-nodes}
 use Rattle.changes.proofs.Shifted.{turned-further}
 use Rattle.streams.specs.declared.source.View.{View}
+use Rattle.streams.specs.Reading.{Rooted}
 use Rattle.core.specs.Met.{fedOf, Readable}
 use Rattle.core.specs.Joined.{ViewOf}
 
@@ -86,30 +88,39 @@ module _ (d : ℕ) (Q : Positions) (fits : d < size) where
           and-other (turned down Q) 0 (size - 1 - d) x (only-over 0 (size - 1 - d) x (omega arith))
           ∙ sym (ap (λ t. t && turned o Q (x + d)) (le-ltb (x + d) size l))
 
--- ---- of a readable store
-module _ {w : List ℕ} {v : View} (R : Readable w) (X : ViewOf w v) where
-  -- its view gives what it is fed as
-  pub read-as : heldFrom w (v .root) (v .offset) ≡ positionsOf (fedOf w)
-  read-as = X .held ∙ sym (ap positionsOf (R .fed))
+-- ---- of a readable world, in the part of its pool's words that is lent
+module _ {w : List ℕ} {i : ℕ} {v : View} (X : ViewOf w i v) where
+  -- it can be read from its root
+  pub view-rooted : Rooted (lent w) (v .root)
+  view-rooted = subst (λ l. Rooted l (v .root)) (sym (lent-nodes w)) (X .rooted)
+
+  -- its view gives what it holds
+  pub view-held : heldFrom (lent w) (v .root) (v .offset) ≡ heldBy w i
+  view-held = ap (λ l. heldFrom l (v .root) (v .offset)) (lent-nodes w) ∙ X .held
+
+module _ {w : List ℕ} {i : ℕ} {v : View} (R : Readable w i) (X : ViewOf w i v) where
+  -- which is what it is fed as
+  pub read-as : heldFrom (lent w) (v .root) (v .offset) ≡ positionsOf (fedOf w i)
+  read-as = view-held X ∙ sym (ap positionsOf (R .fed))
 
   -- its complement
-  pub complement-alike : (x : ℕ) → x < size → combined Xor (heldFrom w (v .root) (v .offset)) (mem (run 0 (size - 1) ∷ [])) x ≡ complemented (positionsOf (fedOf w)) x
-  complement-alike x l = xor-all (heldFrom w (v .root) (v .offset)) x l ∙ ap (λ P. complemented P x) read-as
+  pub complement-alike : (x : ℕ) → x < size → combined Xor (heldFrom (lent w) (v .root) (v .offset)) (mem (run 0 (size - 1) ∷ [])) x ≡ complemented (positionsOf (fedOf w i)) x
+  complement-alike x l = xor-all (heldFrom (lent w) (v .root) (v .offset)) x l ∙ ap (λ P. complemented P x) read-as
 
   module _ (d : ℕ) (left : Bool) (fits : d < size) where
     -- its shift up
     pub left-alike : (up : ℕ) → v .offset < size → left ≡ true → up ≡ logicalOf (v .offset) d → (x : ℕ) → x < size
-        → combined And (heldFrom w (v .root) up) (mem (run d (size - 1) ∷ [])) x ≡ shiftBy d left (positionsOf (fedOf w)) x
+        → combined And (heldFrom (lent w) (v .root) up) (mem (run d (size - 1) ∷ [])) x ≡ shiftBy d left (positionsOf (fedOf w i)) x
     unfolding shiftBy heldFrom
     left-alike up small e f x l =
-        left-join d (mem (physicalRuns w (v .root))) fits (v .offset) up x small f l ∙ ap₂ (λ t P. shiftBy d t P x) (sym e) read-as
+        left-join d (mem (physicalRuns (lent w) (v .root))) fits (v .offset) up x small f l ∙ ap₂ (λ t P. shiftBy d t P x) (sym e) read-as
 
     -- its shift down
     pub right-alike : (down : ℕ) → down < size → left ≡ false → logicalOf down d ≡ v .offset → (x : ℕ) → x < size
-        → combined And (heldFrom w (v .root) down) (mem (run 0 (size - 1 - d) ∷ [])) x ≡ shiftBy d left (positionsOf (fedOf w)) x
+        → combined And (heldFrom (lent w) (v .root) down) (mem (run 0 (size - 1 - d) ∷ [])) x ≡ shiftBy d left (positionsOf (fedOf w i)) x
     unfolding shiftBy heldFrom
     right-alike down small e f x l =
-        right-join d (mem (physicalRuns w (v .root))) fits (v .offset) down x small f l ∙ ap₂ (λ t P. shiftBy d t P x) (sym e) read-as
+        right-join d (mem (physicalRuns (lent w) (v .root))) fits (v .offset) down x small f l ∙ ap₂ (λ t P. shiftBy d t P x) (sym e) read-as
 
 -- ---- a join without runs
 -- no run is no position

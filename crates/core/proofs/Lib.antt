@@ -1,5 +1,6 @@
 -- What the proofs of several functions use.
 pub mod Refusing
+pub mod Doors
 pub mod Meeting
 pub mod Windows
 pub mod Clearing
@@ -9,6 +10,7 @@ pub mod Changing
 pub mod Draws
 pub mod Overwriting
 pub mod Receiving
+pub mod Emptying
 pub mod Joins
 pub mod Comparing
 pub mod Putting

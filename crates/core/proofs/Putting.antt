@@ -19,67 +19,69 @@ use Rattle.model.specs.Model.{positionsOf, serve, write}
 use Rattle.store.specs.Layout.{heldIn, heldBy}
 use Rattle.store.specs.declared.World.{World}
 use Rattle.store.specs.Settle.{Opened}
-use Rattle.core.specs.Met.{fedOf, outcomeOf, Readable}
+use Rattle.store.proofs.Parts.{lent}
+use Rattle.core.specs.Met.{Site, fedOf, outcomeOf, Readable}
 use Rattle.core.specs.Out.{WritesOut}
+use Rattle.core.proofs.Doors.{lent-held, lent-limited}
 use Rattle.core.proofs.Meeting.{Reports, refused-by, met}
 
 -- ---- the set of an open world
-module _ {w : List ℕ} {h : World} (op : Opened w h) where
+module _ {w : List ℕ} {i : ℕ} {h : World} (op : Opened w i h) where
   -- it has no more runs than there are nodes
-  pub few-runs : stretches (heldIn w h) ≤ 65568
+  pub few-runs : stretches (heldIn (lent w) h) ≤ 65568
   few-runs =
-      let l = op .limited in
+      let l = lent-limited op in
       let k = l .standing .kept in
       omega (arith, l .fits, l .enough, k .part, k .few)
 
-  -- which tell how many bytes the store's set has
-  pub set-length : 5 + 16 * stretches (heldIn w h) ≡ length (encode (heldRuns (heldBy w)))
+  -- which tell how many bytes the world's set has
+  pub set-length : 5 + 16 * stretches (heldIn (lent w) h) ≡ length (encode (heldRuns (heldBy w i)))
   unfolding stretches
-  set-length = ap (λ P. 5 + 16 * stretches P) (op .held) ∙ sym (encode-length (heldRuns (heldBy w)))
+  set-length = ap (λ P. 5 + 16 * stretches P) (lent-held op) ∙ sym (encode-length (heldRuns (heldBy w i)))
 
 -- ---- calls that write
--- the call c on the words w has the conditions cs, and puts the bytes B of the positions held into a slice
-pub record Puts (w : List ℕ) (c : List ℕ → Call (List ℕ)) (cs : List Condition) (B : Positions → List ℕ) (out : List ℕ) : Type 0 where
-  pub says : Reports w (c out) (outputShort when noRoom out (B (positionsOf (fedOf w))) ∷ cs) (λ P. written (length (B P)) (intoFront (B P) out))
+-- the call c on world i of the words w has the conditions cs, and puts the bytes B of the positions held into a slice
+pub record Puts (w : List ℕ) (i : ℕ) (c : List ℕ → Call Site) (cs : List Condition) (B : Positions → List ℕ) (out : List ℕ) : Type 0 where
+  pub says : Reports w i (c out) (outputShort when noRoom out (B (positionsOf (fedOf w i))) ∷ cs) (λ P. written (length (B P)) (intoFront (B P) out))
 
-module _ {w : List ℕ} {c : List ℕ → Call (List ℕ)} {cs : List Condition} {B : Positions → List ℕ} {out : List ℕ} (puts : Puts w c cs B out) (R : Readable w)
-    {n : ℕ} (k : n ≡ length (B (heldBy w))) where
+module _ {w : List ℕ} {i : ℕ} {c : List ℕ → Call Site} {cs : List Condition} {B : Positions → List ℕ} {out : List ℕ} (puts : Puts w i c cs B out) (R : Readable w i)
+    {n : ℕ} (k : n ≡ length (B (heldBy w i))) where
   -- the condition of room
-  room-by : (t : Bool) → noRoom out (B (heldBy w)) ≡ t → noRoom out (B (positionsOf (fedOf w))) ≡ t
+  room-by : (t : Bool) → noRoom out (B (heldBy w i)) ≡ t → noRoom out (B (positionsOf (fedOf w i))) ≡ t
   room-by t e = ap (λ s. noRoom out (B (positionsOf s))) (R .fed) ∙ e
 
   -- a slice that is too short
-  pub put-short : length out < n → refusal (outputShort when true ∷ cs) ≡ some 2 → WritesOut c w out (Written.Refused OutputShort) out
+  pub put-short : length out < n → refusal (outputShort when true ∷ cs) ≡ some 2 → WritesOut c w i out (Written.Refused OutputShort) out
   unfolding noRoom
   put-short h e = record {
-    met = refused-by (puts .says) 2 R (ap (λ t. refusal (outputShort when t ∷ cs)) (room-by true (lt-ltb (length out) (length (B (heldBy w))) (subst (λ m. length out < m) k h))) ∙ e);
+    met = refused-by (puts .says) 2 R (ap (λ t. refusal (outputShort when t ∷ cs)) (room-by true (lt-ltb (length out) (length (B (heldBy w i))) (subst (λ m. length out < m) k h))) ∙ e);
     unwritten = refl;
   }
 
   -- and one that has room, into which the bytes of its world are put
-  pub put-done : {h : World} {out′ : List ℕ} → Opened w h → refusal cs ≡ none → n ≤ length out → out′ ≡ intoFront (B (heldIn w h)) out → WritesOut c w out (Written.Bytes n) out′
+  pub put-done : {h : World} {out′ : List ℕ} → Opened w i h → refusal cs ≡ none → n ≤ length out → out′ ≡ intoFront (B (heldIn (lent w) h)) out → WritesOut c w i out (Written.Bytes n) out′
   unfolding noRoom
   put-done op e l f = record {
     met =
-        met (puts .says) R (ap (λ t. refusal (outputShort when t ∷ cs)) (room-by false (le-ltb (length out) (length (B (heldBy w))) (subst (λ m. m ≤ length out) k l))) ∙ e)
-        (ap₂ written k (f ∙ ap (λ P. intoFront (B P) out) (op .held)));
+        met (puts .says) R (ap (λ t. refusal (outputShort when t ∷ cs)) (room-by false (le-ltb (length out) (length (B (heldBy w i))) (subst (λ m. m ≤ length out) k l))) ∙ e)
+        (ap₂ written k (f ∙ ap (λ P. intoFront (B P) out) (lent-held op)));
     unwritten = tt;
   }
 
-module _ (w out : List ℕ) where
+module _ (w : List ℕ) (i : ℕ) (out : List ℕ) where
   -- writing the set does so
-  pub write-set-puts : Puts w Call.writeSet [] (λ P. encode (heldRuns P)) out
+  pub write-set-puts : Puts w i Call.writeSet [] (λ P. encode (heldRuns P)) out
   unfolding outcomeOf serve write
   write-set-puts = record { says = record { said = refl } }
 
   module _ (base n : ℕ) where
     -- so does writing a map, of a window
-    pub write-map-puts : Puts w (Call.writeMap base n) (window when badWindow base n ∷ []) (λ P. mapOf P base n) out
+    pub write-map-puts : Puts w i (Call.writeMap base n) (window when badWindow base n ∷ []) (λ P. mapOf P base n) out
     unfolding outcomeOf serve write
     write-map-puts = record { says = record { said = refl } }
 
     -- which is refused where there is none
-    pub put-no-window : Readable w → badWindow base n ≡ true → WritesOut (Call.writeMap base n) w out (Written.Refused Window) out
+    pub put-no-window : Readable w i → badWindow base n ≡ true → WritesOut (Call.writeMap base n) w i out (Written.Refused Window) out
     put-no-window R e = record { met = refused-by (write-map-puts .says) 6 R (rw e); unwritten = refl }
 
 -- of a window the slice's room decides

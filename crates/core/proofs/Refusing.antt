@@ -4,11 +4,32 @@ use Prim.Native.Nat.{ℕ}
 use mathlib.Core.Path.{_≡_, refl, ap}
 use mathlib.Core.Bool.{Bool, true, false, cond}
 use mathlib.Core.List.{List, [], _∷_, _++_}
-use mathlib.Core.Option.{none, some}
+use mathlib.Core.Option.{Option, none, some}
 use native.Mathlib.Omega.{arith}
-use Rattle.model.specs.Refusals.{Cause, storeLength, beforeCapacity, fromCapacity, Condition, _when_, given, firstGiven, numberOf, refusal}
+use Rattle.model.specs.Refusals.{
+  Cause,
+  storeLength,
+  worldLimits,
+  storeUnsound,
+  gapLength,
+  window,
+  strayBit,
+  setShort,
+  setVersion,
+  setLength,
+  runOrder,
+  looks,
+  beforeCapacity,
+  fromCapacity,
+  Condition,
+  _when_,
+  given,
+  firstGiven,
+  numberOf,
+  refusal,
+}
 use Rattle.model.specs.Refusals
-use Rattle.model.specs.Call.{Fed, wrongLength, unsound, holding}
+use Rattle.model.specs.Call.{Fed, wrongLength, unsound, unopened, holding}
 use Rattle.model.specs.Model.{reads}
 
 -- what the first causes give is given
@@ -56,9 +77,41 @@ module _ (cs : List Condition) where
   pub refused-full : refusal cs ≡ none → refusal (Refusals.capacity when true ∷ cs) ≡ some 8
   refused-full e = first-none beforeCapacity fromCapacity (Refusals.capacity when true ∷ cs) (all-none beforeCapacity fromCapacity cs e)
 
--- ---- of calls that read a store, with other conditions beside, none of which is of a store's length
--- what the store earns is given
-pub reads-first : (s : Fed) (cs : List Condition) {n : ℕ} → given storeLength cs ≡ false → refusal (reads s) ≡ some n → refusal (reads s ++ cs) ≡ some n
-reads-first wrongLength cs g e = e
-reads-first unsound cs g e = rw g e
-reads-first (holding P) cs g e = let z : _≡_ {A = ℕ} 0 1 = cc in absurd (omega arith)
+-- ---- of worlds that are looked at, with other conditions beside
+-- the causes that come after those
+abbrev later : List Cause
+later = gapLength ∷ window ∷ strayBit ∷ setShort ∷ setVersion ∷ setLength ∷ runOrder ∷ fromCapacity
+
+-- what a look finds is given
+pub looked-first : (cs : List Condition) {n : ℕ} → firstGiven looks cs ≡ some n → refusal cs ≡ some n
+looked-first cs {n} e = first-some looks later cs n e
+
+-- a test that hands out no number is false
+cond-none : (b : Bool) (n : ℕ) (o : Option ℕ) → cond b (some n) o ≡ none → (b ≡ false) × (o ≡ none)
+cond-none true n o e = let z : _≡_ {A = ℕ} 0 1 = cc in absurd (omega arith)
+cond-none false n o e = (refl, e)
+
+-- what one world earns is given beside conditions of which a look finds none
+pub reads-first : (s : Fed) (cs : List Condition) {n : ℕ} → firstGiven looks cs ≡ none → firstGiven looks (reads s) ≡ some n → refusal (reads s ++ cs) ≡ some n
+reads-first s cs {n} quiet e =
+    let a = cond-none (given storeLength cs) 1 _ quiet in
+    let b = cond-none (given worldLimits cs) 11 _ (a .1) in
+    let c = cond-none (given storeUnsound cs) 7 _ (b .1) in
+    go s (a .0) (b .0) (c .0) e
+  where
+    go : (s : Fed) → given storeLength cs ≡ false → given worldLimits cs ≡ false → given storeUnsound cs ≡ false → firstGiven looks (reads s) ≡ some n
+        → refusal (reads s ++ cs) ≡ some n
+    go wrongLength x y z f = f
+    go unsound x y z f = rw (x, y) f
+    go unopened x y z f = rw (x, y, z) f
+    go (holding P) x y z f = let q : _≡_ {A = ℕ} 0 1 = cc in absurd (omega arith)
+
+-- a call on a world that was not opened is refused, whatever its conditions
+pub unopened-refused : (cs : List Condition) → (n : ℕ) × (refusal (reads unopened ++ cs) ≡ some n)
+unopened-refused cs = go (given storeLength cs) (given worldLimits cs) (given storeUnsound cs)
+  where
+    go : (x y z : Bool) → (n : ℕ) × (cond x (some 1) (cond y (some 11) (cond z (some 7) (some 12))) ≡ some n)
+    go true y z = (1, refl)
+    go false true z = (11, refl)
+    go false false true = (7, refl)
+    go false false false = (12, refl)

@@ -1,8 +1,8 @@
--- What the plain model gives of any call on a set of positions: it is settled by the refusals, so either the call is refused and the positions
--- stay, or it gives a result. Positions above 2^64 − 1 are never held. A new call asks for one more case of `served`. Assumes nothing.
+-- What the plain model gives of any call on a world: it is settled by the refusals, so either the call is refused and the positions stay, or
+-- it gives a result. Positions above 2^64 − 1 are never held. A new call asks for one more case of `served`. Assumes nothing.
 use Prim.Native.Nat.{ℕ, _≤_}
 use mathlib.Core.Path.{_≡_, refl, sym, ap}
-use mathlib.Core.Bool.{false, _&&_}
+use mathlib.Core.Bool.{Bool, false, _&&_}
 use mathlib.Core.List.{List, _∷_, _++_}
 use mathlib.Core.Option.{Option, none, some}
 use borrow.Author.Tests.{le-ltb}
@@ -10,8 +10,8 @@ use Rattle.model.specs.Numbers.{size}
 use Rattle.model.specs.Positions.{Positions, bounded}
 use Rattle.model.specs.Refusals.{Condition, _when_, capacity, refusal, tooMany}
 use Rattle.model.specs.Call
-use Rattle.model.specs.Call.{Fed, holding, Call, Result, done, gave}
-use Rattle.model.specs.Model.{Outcome, reads, overwrites, settle, report, change, overwrite, write, changed, drawnFirst, drawnLast, serve}
+use Rattle.model.specs.Call.{Fed, Call, Result, gave}
+use Rattle.model.specs.Model.{Outcome, positionsOf, reads, settle, report, change, write, changed, drawnFirst, drawnLast, serve}
 use Rattle.core.proofs.Meeting.{refused-not}
 
 -- only 0 .. 2^64 − 1 are held
@@ -23,46 +23,28 @@ pub bounded-ends : (Q : Positions) → Ends (bounded Q)
 unfolding bounded
 bounded-ends Q x h = ap (λ t. t && Q x) (le-ltb x size h)
 
--- the outcome o of a call on P: `why` it is refused, if so, and else what it gives, and the next positions
-pub record Served (P : Positions) (o : Outcome) : Type 0 where
-  pub why : Option ℕ
+-- the outcome o of a call on a world that is fed as s: the conditions beside those of the world, and what it gives, and the next positions
+pub record Served (s : Fed) (o : Outcome) : Type 0 where
+  pub conditions : List Condition
   pub said : Result
   pub next : Positions
-  pub ends : Ends P → Ends next
-  pub is : o ≡ settle why P said next
+  pub ends : Ends (positionsOf s) → Ends next
+  pub is : o ≡ settle (refusal (reads s ++ conditions)) (positionsOf s) said next
 
-module _ (C : ℕ) (P : Positions) where
+module _ (full : ℕ → Bool) (s : Fed) where
   -- a call that reports
-  reports : (cs : List Condition) (a : Result) → Served P (report (holding P) cs a)
+  reports : (cs : List Condition) (a : Result) → Served s (report s cs a)
   unfolding report
-  reports cs a = record { why = refusal (reads (holding P) ++ cs); said = a; next = P; ends = λ h. h; is = refl }
+  reports cs a = record { conditions = cs; said = a; next = positionsOf s; ends = λ h. h; is = refl }
 
   -- one that changes
-  alters : (cs : List Condition) (Q : Positions) (a : Result) → Served P (change C (holding P) cs Q a)
+  alters : (cs : List Condition) (Q : Positions) (a : Result) → Served s (change full s cs Q a)
   unfolding change
-  alters cs Q a = record {
-    why = refusal (reads (holding P) ++ capacity when tooMany C Q ∷ cs);
-    said = a;
-    next = bounded Q;
-    ends = λ _. bounded-ends Q;
-    is = refl;
-  }
-
-  -- one that overwrites
-  replaces : (cs : List Condition) (Q : Positions) → Served P (overwrite C (holding P) cs Q)
-  unfolding overwrite
-  replaces cs Q = record {
-    why = refusal (overwrites (holding P) ++ capacity when tooMany C Q ∷ cs);
-    said = done;
-    next = bounded Q;
-    ends = λ _. bounded-ends Q;
-    is = refl;
-  }
+  alters cs Q a = record { conditions = capacity when tooMany full Q ∷ cs; said = a; next = bounded Q; ends = λ _. bounded-ends Q; is = refl }
 
   -- every call is one of these
-  pub served : (c : Call Fed) → Served P (serve C (holding P) c)
+  pub served : (c : Call Fed) → Served s (serve full s c)
   unfolding serve changed write drawnFirst drawnLast
-  served Call.make = replaces _ _
   served (Call.set l u v) = alters _ _ _
   served (Call.flip l u) = alters _ _ _
   served (Call.get x) = reports _ _
@@ -75,12 +57,12 @@ module _ (C : ℕ) (P : Positions) where
   served (Call.drawFront l) = reports _ _
   served (Call.drawBack l) = reports _ _
   served (Call.shift d left) = alters _ _ _
-  served (Call.shifted d left t) = replaces _ _
-  served (Call.combine op t u) = replaces _ _
-  served (Call.complement t) = replaces _ _
+  served (Call.shifted d left t) = alters _ _ _
+  served (Call.combine op t u) = alters _ _ _
+  served (Call.complement t) = alters _ _ _
   served (Call.equal t) = reports _ _
-  served (Call.load bs) = replaces _ _
-  served (Call.build rs) = replaces _ _
+  served (Call.load bs) = alters _ _ _
+  served (Call.build rs) = alters _ _ _
   served (Call.writeSet out) = reports _ _
   served (Call.readMap base n bs) = alters _ _ _
   served (Call.writeMap base n out) = reports _ _

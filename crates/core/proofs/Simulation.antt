@@ -1,30 +1,38 @@
--- A sound store that holds the model's positions answers each call as the model does, and holds the model's positions after it: by what the
--- call promises (`Met`) alone. Assumes nothing.
-use Prim.Native.Nat.{ℕ, _<_, _≤_}
+-- A sound pool that holds the model's worlds answers each call as the model does, and holds the model's worlds after it: by what the call
+-- promises (`Met`, and `Made` of making) alone. Assumes nothing.
+use Prim.Native.Nat.{ℕ, _+_, _<_, _≤_}
 use mathlib.Core.Path.{_≡_, refl, sym, ap, ap₂, _∙_, subst, fun-ext}
 use mathlib.Core.Logic.{_⊎_, inl, inr}
-use mathlib.Core.List.{List, _∷_, _++_}
+use mathlib.Core.Bool.{Bool, false}
+use mathlib.Core.List.{List, [], _∷_, _++_}
 use mathlib.Core.Option.{Option, none, some}
-use Rattle.model.specs.Numbers.{size}
+use native.Mathlib.Omega.{arith}
+use borrow.Author.Tests.{ne-eqb}
+use Rattle.model.specs.declared.Limits.{Limits}
+use Rattle.model.specs.Numbers.{size, mostWorlds}
 use Rattle.model.proofs.Numbers.{split}
 use Rattle.model.specs.Positions.{Positions, empty, bounded}
 use Rattle.model.proofs.Ops.{bounded-below}
-use Rattle.model.specs.Refusals.{Condition, _when_, refusal, tooMany, capacity as tooMuch}
-use Rattle.model.specs.Call.{Fed, holding, Call, feed, done, Answer, gave}
-use Rattle.model.specs.Model.{Outcome, positionsOf, overwrites, settle, overwrite, serve, step}
-use Rattle.store.specs.Layout.{capacityOf, capacity, allowance, heldBy}
-use Rattle.store.proofs.Turn.{store-past}
+use Rattle.model.specs.Refusals.{worldLimits, Condition, _when_, refusal, badLimits}
+use Rattle.model.specs.Call.{Fed, Call, feed, make, at, Answer}
+use Rattle.model.specs.Model.{Outcome, positionsOf, reads, settle, serve}
+use Rattle.model.specs.Pools.{PlainWorld, worldOf, fedBy, full, withPositions, holdingAt, serveAt, emptyWorlds, PoolOutcome, settleMake, makeBy, step}
+use Rattle.model.proofs.Pools.{holding-fed}
+use Rattle.store.specs.Layout.{capacityOf, capacity, openedAt, floorAt, ceilingAt, heldBy, plainAt, worldsFrom, worldsOf}
 use Rattle.store.specs.Soundness.{Sound}
 use Rattle.store.specs.Settle.{Settled}
-use Rattle.core.specs.Met.{fedOf, outcomeOf, Leaves, Met}
+use Rattle.store.proofs.Turn.{pool-past}
+use Rattle.store.proofs.WorldLists.{worlds-but, opened-world, unopened-world}
+use Rattle.core.specs.Met.{Site, fedAt, fullAt, outcomeOf, Leaves, Met, madeOf, MakeLeaves, Made}
+use Rattle.core.proofs.Refusing.{unopened-refused}
 use Rattle.core.proofs.Meeting.{fed-sound}
-use Rattle.core.proofs.Served.{Ends, bounded-ends, Served, served, unrefused}
+use Rattle.core.proofs.Served.{Ends, bounded-ends, Served, served}
 
--- the words w are a sound store of capacity C that holds P
-pub record Holds (C : ℕ) (P : Positions) (w : List ℕ) : Type 0 where
+-- the words w are a sound pool of capacity C with the worlds ws
+pub record Holds (C : ℕ) (ws : List PlainWorld) (w : List ℕ) : Type 0 where
   pub sound : Sound w
   pub sized : capacity w ≡ C
-  pub held : heldBy w ≡ P
+  pub held : worldsOf w ≡ ws
 
 -- two sets that end and agree below 2^64 are the same
 pub same-positions : (P Q : Positions) → Ends P → Ends Q → ((x : ℕ) → x < size → P x ≡ Q x) → P ≡ Q
@@ -43,54 +51,120 @@ pub empty-ends : Ends empty
 unfolding empty
 empty-ends x h = refl
 
-module _ {C : ℕ} {w w′ : List ℕ} where
-  -- what settles with Q holds Q
-  pub settled-holds : {Q : Positions} → Settled w w′ Q → capacity w ≡ C → Ends Q → Holds C Q w′
-  settled-holds {Q} S e q = record {
-    sound = S .sound;
-    sized = ap capacityOf (S .long) ∙ e;
-    held = same-positions (heldBy w′) Q (store-past w′) q (S .holds);
-  }
+-- ---- the worlds after a call
+-- where world i settles with P, they are those before, with P in world i
+pub worlds-after : {w w′ : List ℕ} {i : ℕ} {P : Positions} → i < openedAt w → Settled w w′ i P → Ends P → worldsOf w′ ≡ holdingAt i P (worldsOf w)
+unfolding worldsOf
+worlds-after {w} {w′} {i} {P} l S ends =
+    ap (worldsFrom w′ 0) (S .opened) ∙ worlds-but w′ w 0 (openedAt w) i P l (here (0 + i) (omega arith))
+    (λ j a b ne. with-limits j (heldBy w j) (omega arith) (S .others j (omega arith) (λ e. ne (omega arith))))
+  where
+    held : heldBy w′ i ≡ P
+    held = same-positions (heldBy w′ i) P (pool-past w′ i) ends (S .holds)
 
-  -- whatever the answer, the positions after a call are the outcome's
-  module _ {P : Positions} (o : Outcome) (S : Served P o) (a : Answer) (H : Holds C P w) (said : a ≡ o .answer) (leaves : Leaves w w′ (o .positions) a) where
-    by-cause : (y : Option ℕ) → o ≡ settle y P (S .said) (S .next) → Holds C (o .positions) w′
-    by-cause none f =
-        let q : o .positions ≡ S .next = ap (λ p. p .positions) f in
-        settled-holds
-        (subst (λ b. Leaves w w′ (o .positions) b) (said ∙ ap (λ p. p .answer) f) leaves)
-        (H .sized)
-        (subst Ends (sym q) (S .ends (subst Ends (H .held) (store-past w))))
-    by-cause (some n) f =
-        let same : w′ ≡ w = subst (λ b. Leaves w w′ (o .positions) b) (said ∙ ap (λ p. p .answer) f) leaves in
-        subst (λ v. Holds C (o .positions) v) (sym same) (subst (λ Q. Holds C Q w) (sym (ap (λ p. p .positions) f)) H)
+    -- a world whose positions are known, with the limits that it had
+    with-limits : (j : ℕ) (Q : Positions) → j < openedAt w → heldBy w′ j ≡ Q → plainAt w′ j ≡ withPositions (plainAt w j) Q
+    with-limits j Q b e =
+        let small : j < mostWorlds = omega (arith, S .opened, S .sound .few) in
+        ap₂ (λ R f. record { positions = R; floor = f; ceiling = ceilingAt w′ j }) e (S .floors j small)
+        ∙ ap (λ c. record { positions = Q; floor = floorAt w j; ceiling = c }) (S .ceilings j small)
 
-    held-after : Holds C (o .positions) w′
-    held-after = by-cause (S .why) (S .is)
+    here : (j : ℕ) → j ≡ i → plainAt w′ j ≡ withPositions (plainAt w j) P
+    here j e = with-limits j P (omega arith) (ap (heldBy w′) e ∙ held)
 
--- the outcome of a call is the model's step
-pub outcome-is : {C : ℕ} {P : Positions} {w : List ℕ} → Holds C P w → (c : Call (List ℕ)) → outcomeOf w c ≡ step C P (feed fedOf c)
-unfolding outcomeOf step allowance
-outcome-is {C} {P} {w} H c = ap₂ (λ k s. serve k s (feed fedOf c)) (H .sized) ((fed-sound w (H .sound)) .fed ∙ ap holding (H .held))
+-- what settles is a pool of the same capacity
+pub settled-holds : {C : ℕ} {w w′ : List ℕ} {i : ℕ} {P : Positions} → capacity w ≡ C → i < openedAt w → Settled w w′ i P → Ends P → Holds C (holdingAt i P (worldsOf w)) w′
+settled-holds e l S ends = record { sound = S .sound; sized = ap capacityOf (S .long) ∙ e; held = worlds-after l S ends }
 
--- one call: the answer is the model's
-pub answer-is : {C : ℕ} {P : Positions} {w w′ : List ℕ} {c : Call (List ℕ)} {a : Answer} → Holds C P w → Met w c a w′ → a ≡ (step C P (feed fedOf c)) .answer
-answer-is {c = c} H m = m .answered ∙ ap (λ o. o .answer) (outcome-is H c)
+module _ {C : ℕ} {ws : List PlainWorld} {w : List ℕ} (H : Holds C ws w) where
+  -- the outcome of a call is the model's
+  pub outcome-is : (i : ℕ) (c : Call Site) → outcomeOf w i c ≡ serveAt C ws i (feed fedAt c)
+  unfolding outcomeOf fullAt serveAt
+  outcome-is i c =
+      ap (λ s. serve (full (capacity w) (worldsOf w) i) s (feed fedAt c)) (fed-sound w i (H .sound))
+      ∙ ap₂ (λ k vs. serve (full k vs i) (fedBy (worldOf vs i)) (feed fedAt c)) (H .sized) (H .held)
 
--- and so are the positions
-pub step-holds : {C : ℕ} {P : Positions} {w w′ : List ℕ} {c : Call (List ℕ)} {a : Answer} → Holds C P w → Met w c a w′ → Holds C ((step C P (feed fedOf c)) .positions) w′
-unfolding step
-step-holds {C} {P} {w} {w′} {c} {a} H m =
-    held-after (serve C (holding P) (feed fedOf c)) (served C P (feed fedOf c)) a H (answer-is H m)
-    (subst (λ o. Leaves w w′ (o .positions) a) (outcome-is H c) (m .left))
+  -- the positions of a world that is fed end
+  fed-ends : (i : ℕ) → Ends (positionsOf (fedBy (worldOf ws i)))
+  fed-ends i = subst (λ vs. Ends (positionsOf (fedBy (worldOf vs i)))) (H .held) (go (split i (openedAt w)))
+    where
+      go : (i < openedAt w) ⊎ (openedAt w ≤ i) → Ends (positionsOf (fedBy (worldOf (worldsOf w) i)))
+      go (inl l) = subst (λ o. Ends (positionsOf (fedBy o))) (sym (opened-world w i l)) (pool-past w i)
+      go (inr l) = subst (λ o. Ends (positionsOf (fedBy o))) (sym (unopened-world w i l)) empty-ends
 
--- an overwriting call that is done was not refused, and leaves what it overwrites with
-pub overwritten : {C : ℕ} {w w′ : List ℕ} {c : Call (List ℕ)} (s : Fed) (cs : List Condition) (Q : Positions) → capacity w ≡ C
-    → outcomeOf w c ≡ overwrite C s cs Q → Met w c (gave done) w′
-    → (refusal (overwrites s ++ tooMuch when tooMany C Q ∷ cs) ≡ none) × Holds C (bounded Q) w′
-unfolding overwrite
-overwritten {C} {w} {w′} s cs Q z e m =
-    let k : List Condition = overwrites s ++ tooMuch when tooMany C Q ∷ cs in
-    let y : refusal k ≡ none = unrefused (refusal k) (positionsOf s) done done (bounded Q) (m .answered ∙ ap (λ o. o .answer) e) in
-    let q = ap (λ o. o .positions) e ∙ ap (λ n. (settle n (positionsOf s) done (bounded Q)) .positions) y in
-    (y, settled-holds (subst (Settled w w′) q (m .left)) z (bounded-ends Q))
+  -- a world that a call does not refuse was opened
+  named : (i : ℕ) (cs : List Condition) → refusal (reads (fedBy (worldOf ws i)) ++ cs) ≡ none → i < openedAt w
+  named i cs e = go (split i (openedAt w))
+    where
+      go : (i < openedAt w) ⊎ (openedAt w ≤ i) → i < openedAt w
+      go (inl l) = l
+      go (inr l) =
+          let f : worldOf ws i ≡ none = ap (λ vs. worldOf vs i) (sym (H .held)) ∙ unopened-world w i l in
+          let r = unopened-refused cs in
+          let g : some (r .0) ≡ none = sym (r .1) ∙ ap (λ o. refusal (reads (fedBy o) ++ cs)) (sym f) ∙ e in
+          let z : _≡_ {A = ℕ} 0 1 = cc in
+          absurd (omega arith)
+
+  -- ---- a call on a world
+  module _ {i : ℕ} {c : Call Site} {a : Answer} {w′ : List ℕ} (m : Met w i c a w′) where
+    -- its answer is the model's
+    pub answer-is : a ≡ (step C ws (at i (feed fedAt c))) .answer
+    unfolding step
+    answer-is = m .answered ∙ ap (λ o. o .answer) (outcome-is i c)
+
+    -- and so are the worlds after it
+    pub step-holds : Holds C ((step C ws (at i (feed fedAt c))) .worlds) w′
+    unfolding step serveAt
+    step-holds = go (refusal (reads s ++ S .conditions)) refl
+      where
+        s : Fed
+        s = fedBy (worldOf ws i)
+
+        o : Outcome
+        o = serveAt C ws i (feed fedAt c)
+
+        S : Served s o
+        S = served (full C ws i) s (feed fedAt c)
+
+        left : Leaves w w′ i (o .positions) (o .answer)
+        left = subst (λ b. Leaves w w′ i (o .positions) b) answer-is (subst (λ p. Leaves w w′ i (p .positions) a) (outcome-is i c) (m .left))
+
+        go : (y : Option ℕ) → refusal (reads s ++ S .conditions) ≡ y → Holds C (holdingAt i (o .positions) ws) w′
+        go none e =
+            let f : o ≡ settle none (positionsOf s) (S .said) (S .next) = S .is ∙ ap (λ y. settle y (positionsOf s) (S .said) (S .next)) e in
+            let t : Settled w w′ i (S .next) = subst (λ p. Leaves w w′ i (p .positions) (p .answer)) f left in
+            subst (λ vs. Holds C vs w′) (ap₂ (λ P vs. holdingAt i P vs) (sym (ap (λ p. p .positions) f)) (H .held))
+            (settled-holds (H .sized) (named i (S .conditions) e) t (S .ends (fed-ends i)))
+        go (some n) e =
+            let f : o ≡ settle (some n) (positionsOf s) (S .said) (S .next) = S .is ∙ ap (λ y. settle y (positionsOf s) (S .said) (S .next)) e in
+            let t : w′ ≡ w = subst (λ p. Leaves w w′ i (p .positions) (p .answer)) f left in
+            subst (λ v. Holds C (holdingAt i (o .positions) ws) v) (sym t)
+            (subst (λ vs. Holds C vs w) (sym (ap (λ p. holdingAt i (p .positions) ws) f ∙ holding-fed ws i)) H)
+
+  -- ---- making
+  module _ {ls : List Limits} {a : Answer} {w′ : List ℕ} (m : Made w ls a w′) where
+    -- what the model says of it
+    made-is : madeOf w ls ≡ makeBy false C ws ls
+    unfolding madeOf
+    made-is =
+        ap (λ z. makeBy z (capacity w) (worldsOf w) ls) (ne-eqb (capacity w) 0 (λ z. omega (arith, H .sound .sized)))
+        ∙ ap₂ (λ k vs. makeBy false k vs ls) (H .sized) (H .held)
+
+    -- its answer is the model's
+    pub made-answer : a ≡ (step C ws (make ls)) .answer
+    unfolding step
+    made-answer = m .answered ∙ ap (λ o. o .answer) made-is
+
+    -- and so are the worlds after it
+    pub made-holds : Holds C ((step C ws (make ls)) .worlds) w′
+    unfolding step makeBy
+    made-holds = go (refusal (worldLimits when badLimits C ls ∷ [])) made-answer-by
+      where
+        made-answer-by : a ≡ (settleMake (refusal (worldLimits when badLimits C ls ∷ [])) ws (emptyWorlds ls)) .answer
+        made-answer-by = m .answered ∙ ap (λ o. o .answer) made-is
+
+        go : (y : Option ℕ) → a ≡ (settleMake y ws (emptyWorlds ls)) .answer → Holds C ((settleMake y ws (emptyWorlds ls)) .worlds) w′
+        go none e =
+            let E = subst (MakeLeaves w w′ ls) e (m .left) in
+            record { sound = E .sound; sized = ap capacityOf (E .long) ∙ H .sized; held = E .worlds }
+        go (some n) e = subst (λ v. Holds C ws v) (sym (subst (MakeLeaves w w′ ls) e (m .left))) H

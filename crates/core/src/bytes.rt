@@ -1,10 +1,9 @@
-// Reading written sets, run lists and maps into a store. What they earn by themselves is tested before the allowance, and that before the
+// Reading written sets, run lists and maps into a world. What they earn by themselves is tested before the allowance, and that before the
 // first word changes.
-ghost use Prim.Native.Nat.{_/_, _≤_};
+ghost use Prim.Native.Nat.{_/_};
 ghost use lib.ListN.{length};
 ghost use Rattle.model.specs.Call.{Call};
 ghost use Rattle.model.specs.Answers.{completedAnswer, countedAnswer};
-ghost use Rattle.store.specs.Layout.{capacity};
 ghost use Rattle.written.specs.Listed.{pairs};
 ghost use Rattle.core.specs.Met.{Readable, Met};
 use changes::edit::Edit;
@@ -13,50 +12,48 @@ use model::Counted;
 use model::Refusal;
 use written::set::Parsed;
 
-// Makes the store that a written set tells, whatever its words were.
-pub fn load(words: &mut [u64], bytes: &[u8]) -> Completed
-    requires { ⌜ 1 ≤ capacity (now words) ⌝ }
-    ensures { λ r. ⌜ Met (now (words .entry)) (Call.load (now (bytes .entry))) (completedAnswer r) (now (words .exit)) ⌝ }
+// Gives a world the set that bytes tell, whatever it held.
+pub fn load(words: &mut [u64], world: u64, bytes: &[u8]) -> Completed
+    requires { ⌜ Readable (now words) world ⌝ }
+    ensures { λ r. ⌜ Met (now (words .entry)) world (Call.load (now (bytes .entry))) (completedAnswer r) (now (words .exit)) ⌝ }
 {
     let t = written::set::runs_told(bytes);
     match t {
         Parsed::Refused(r) => Completed::Refused(r),
         Parsed::Runs(n) => {
-            if n > store::allowance(words) {
+            if n > store::allowance(words, world) {
                 return Completed::Refused(Refusal::Capacity);
             }
-            store::free::make(words);
-            let h = store::open(words);
-            let k = written::set::load(words, h, bytes, n);
+            let h = store::open(words, world);
+            let k = written::set::load(&mut words[128..], h, bytes, n);
             store::close(words, k);
             Completed::Done
         }
     }
 }
 
-// Makes the store of a run list, given as words: start and end of each run, in turn. A last word without its end is no run.
-pub fn from_sorted_words(words: &mut [u64], runs: &[u64]) -> Completed
-    requires { ⌜ 1 ≤ capacity (now words) ⌝ }
-    ensures { λ r. ⌜ Met (now (words .entry)) (Call.build (pairs (length (now (runs .entry)) / 2) (now (runs .entry)))) (completedAnswer r) (now (words .exit)) ⌝ }
+// Gives a world the set of a run list, given as words: start and end of each run, in turn. A last word without its end is no run.
+pub fn from_sorted_words(words: &mut [u64], world: u64, runs: &[u64]) -> Completed
+    requires { ⌜ Readable (now words) world ⌝ }
+    ensures { λ r. ⌜ Met (now (words .entry)) world (Call.build (pairs (length (now (runs .entry)) / 2) (now (runs .entry)))) (completedAnswer r) (now (words .exit)) ⌝ }
 {
     let n = (runs.len() / 2) as u64;
     if !written::list::in_order(runs, n) {
         return Completed::Refused(Refusal::RunOrder);
     }
-    if n > store::allowance(words) {
+    if n > store::allowance(words, world) {
         return Completed::Refused(Refusal::Capacity);
     }
-    store::free::make(words);
-    let h = store::open(words);
-    let k = written::list::build(words, h, runs, n);
+    let h = store::open(words, world);
+    let k = written::list::build(&mut words[128..], h, runs, n);
     store::close(words, k);
     Completed::Done
 }
 
 // Sets a window from a map, leaves the other positions, and returns how many changed.
-pub fn read_map(words: &mut [u64], base: u64, n: u64, bytes: &[u8]) -> Counted
-    requires { ⌜ Readable (now words) ⌝ }
-    ensures { λ r. ⌜ Met (now (words .entry)) (Call.readMap base n (now (bytes .entry))) (countedAnswer r) (now (words .exit)) ⌝ }
+pub fn read_map(words: &mut [u64], world: u64, base: u64, n: u64, bytes: &[u8]) -> Counted
+    requires { ⌜ Readable (now words) world ⌝ }
+    ensures { λ r. ⌜ Met (now (words .entry)) world (Call.readMap base n (now (bytes .entry))) (countedAnswer r) (now (words .exit)) ⌝ }
 {
     if !crate::window::window_fits(base, n) {
         return Counted::Refused(Refusal::Window);
@@ -67,8 +64,9 @@ pub fn read_map(words: &mut [u64], base: u64, n: u64, bytes: &[u8]) -> Counted
     if maps::clear::stray_bits(bytes, n) > 0 {
         return Counted::Refused(Refusal::StrayBit);
     }
-    let h = store::open(words);
-    let e = maps::read::read_map(words, h, store::allowance(words), base, n, bytes);
+    let h = store::open(words, world);
+    let limit = store::allowance(words, world);
+    let e = maps::read::read_map(&mut words[128..], h, limit, base, n, bytes);
     match e {
         Edit::Full => Counted::Refused(Refusal::Capacity),
         Edit::Changed(k, c) => {

@@ -1,4 +1,5 @@
-// The calls that change a store where it stands.
+// The calls that change a world where it stands.
+ghost use mathlib.Core.List.{[]};
 ghost use Rattle.model.specs.Call.{Call};
 ghost use Rattle.model.specs.Answers.{completedAnswer, countedAnswer};
 ghost use Rattle.core.specs.Met.{Readable, Met};
@@ -13,23 +14,17 @@ use model::Refusal;
 use model::Span;
 
 // An empty range changes nothing; another is set where it stands, if the runs it would leave fit.
-pub fn set(words: &mut [u64], lower: Bound, upper: Bound, value: bool) -> Counted
-    requires { ⌜ Readable (now words) ⌝ }
-    ensures { λ r. ⌜ Met (now (words .entry)) (Call.set lower upper value) (countedAnswer r) (now (words .exit)) ⌝ }
+pub fn set(words: &mut [u64], world: u64, lower: Bound, upper: Bound, value: bool) -> Counted
+    requires { ⌜ Readable (now words) world ⌝ }
+    ensures { λ r. ⌜ Met (now (words .entry)) world (Call.set lower upper value) (countedAnswer r) (now (words .exit)) ⌝ }
 {
     let s = model::normalize(lower, upper);
     match s {
         Span::Empty => Counted::Count(Count { carry: 0, low: 0 }),
         Span::Closed(a, b) => {
-            let h = store::open(words);
-            let e = changes::edit::set(
-                words,
-                h,
-                store::allowance(words),
-                Logical(a),
-                Logical(b),
-                value,
-            );
+            let h = store::open(words, world);
+            let limit = store::allowance(words, world);
+            let e = changes::edit::set(&mut words[128..], h, limit, Logical(a), Logical(b), value);
             match e {
                 Edit::Full => Counted::Refused(Refusal::Capacity),
                 Edit::Changed(k, c) => {
@@ -42,16 +37,17 @@ pub fn set(words: &mut [u64], lower: Bound, upper: Bound, value: bool) -> Counte
 }
 
 // An empty range changes nothing; another is inverted where it stands, if the runs it would leave fit.
-pub fn flip(words: &mut [u64], lower: Bound, upper: Bound) -> Completed
-    requires { ⌜ Readable (now words) ⌝ }
-    ensures { λ r. ⌜ Met (now (words .entry)) (Call.flip lower upper) (completedAnswer r) (now (words .exit)) ⌝ }
+pub fn flip(words: &mut [u64], world: u64, lower: Bound, upper: Bound) -> Completed
+    requires { ⌜ Readable (now words) world ⌝ }
+    ensures { λ r. ⌜ Met (now (words .entry)) world (Call.flip lower upper) (completedAnswer r) (now (words .exit)) ⌝ }
 {
     let s = model::normalize(lower, upper);
     match s {
         Span::Empty => Completed::Done,
         Span::Closed(a, b) => {
-            let h = store::open(words);
-            let e = changes::edit::flip(words, h, store::allowance(words), Logical(a), Logical(b));
+            let h = store::open(words, world);
+            let limit = store::allowance(words, world);
+            let e = changes::edit::flip(&mut words[128..], h, limit, Logical(a), Logical(b));
             match e {
                 Fit::Full => Completed::Refused(Refusal::Capacity),
                 Fit::Done(k) => {
@@ -63,13 +59,24 @@ pub fn flip(words: &mut [u64], lower: Bound, upper: Bound) -> Completed
     }
 }
 
-// A moved store has no more runs than before.
-pub fn shift(words: &mut [u64], distance: u64, left: bool) -> Completed
-    requires { ⌜ Readable (now words) ⌝ }
-    ensures { λ r. ⌜ Met (now (words .entry)) (Call.shift distance left) (completedAnswer r) (now (words .exit)) ⌝ }
+// A moved world has no more runs than before.
+pub fn shift(words: &mut [u64], world: u64, distance: u64, left: bool) -> Completed
+    requires { ⌜ Readable (now words) world ⌝ }
+    ensures { λ r. ⌜ Met (now (words .entry)) world (Call.shift distance left) (completedAnswer r) (now (words .exit)) ⌝ }
 {
-    let h = store::open(words);
-    let k = changes::edit::shift(words, h, distance, left);
+    let h = store::open(words, world);
+    let k = changes::edit::shift(&mut words[128..], h, distance, left);
+    store::close(words, k);
+    Completed::Done
+}
+
+// The world holds nothing afterwards: it is built of no runs.
+pub fn empty(words: &mut [u64], world: u64) -> Completed
+    requires { ⌜ Readable (now words) world ⌝ }
+    ensures { λ r. ⌜ Met (now (words .entry)) world (Call.build []) (completedAnswer r) (now (words .exit)) ⌝ }
+{
+    let h = store::open(words, world);
+    let k = changes::edit::emptied(&mut words[128..], h);
     store::close(words, k);
     Completed::Done
 }

@@ -1,12 +1,10 @@
-// The calls that make a store of others, and the comparison of two. The receiving store may hold anything; those that are read are sound.
-// What would be in it is counted before its first word changes.
+// The calls that make a world of others, and the comparison of two. What would be in the receiving world is counted before its first word
+// changes.
 ghost use mathlib.Core.Path.{_≡_};
-ghost use Prim.Native.Nat.{_≤_};
 ghost use Rattle.model.specs.Call.{Call};
 ghost use Rattle.model.specs.Answers.{completedAnswer, testedAnswer};
-ghost use Rattle.store.specs.Layout.{capacity};
 ghost use Rattle.streams.specs.Gathering.{Sources, joined};
-ghost use Rattle.core.specs.Met.{Readable, Met};
+ghost use Rattle.core.specs.Met.{site, Readable, Met};
 ghost use Rattle.core.specs.Joined.{Carried, completedBy, ViewOf};
 use model::Completed;
 use model::Logical;
@@ -16,30 +14,37 @@ use model::Tested;
 use streams::gather::Feed;
 use streams::source::View;
 
-// From where a sound store's set is read.
-fn view(words: &[u64]) -> View
-    requires { ⌜ Readable (now words) ⌝ }
-    ensures { λ r. ⌜ ViewOf (now (words .entry)) r ⌝ }
+// From where a world's set is read, in the nodes of its pool.
+fn view(words: &[u64], world: u64) -> View
+    requires { ⌜ Readable (now words) world ⌝ }
+    ensures { λ r. ⌜ ViewOf (now (words .entry)) world r ⌝ }
 {
-    let h = store::open(words);
+    let h = store::open(words, world);
     View {
         root: h.root,
         offset: h.offset,
     }
 }
 
-// Makes the store of two feeds joined, and returns whether its allowance admits that.
-fn gathered(words: &mut [u64], op: Operation, x: &[u64], fx: Feed, y: &[u64], fy: Feed) -> bool
+// Gives a world two feeds joined, which are read from the nodes x and y, and returns whether its allowance admits that.
+fn gathered(
+    words: &mut [u64],
+    world: u64,
+    op: Operation,
+    x: &[u64],
+    fx: Feed,
+    y: &[u64],
+    fy: Feed,
+) -> bool
     requires { ⌜ Sources (now x) fx (now y) fy ⌝ }
-    requires { ⌜ 1 ≤ capacity (now words) ⌝ }
-    ensures { λ r. ⌜ Carried (now (words .entry)) (now (words .exit)) (joined op (now (x .entry)) fx (now (y .entry)) fy) r ⌝ }
+    requires { ⌜ Readable (now words) world ⌝ }
+    ensures { λ r. ⌜ Carried (now (words .entry)) (now (words .exit)) world (joined op (now (x .entry)) fx (now (y .entry)) fy) r ⌝ }
 {
-    if !streams::gather::fits(op, x, fx, y, fy, store::allowance(words)) {
+    if !streams::gather::fits(op, x, fx, y, fy, store::allowance(words, world)) {
         return false;
     }
-    store::free::make(words);
-    let h = store::open(words);
-    let k = streams::gather::gather(words, h, op, x, fx, y, fy);
+    let h = store::open(words, world);
+    let k = streams::gather::gather(&mut words[128..], h, op, x, fx, y, fy);
     store::close(words, k);
     true
 }
@@ -56,41 +61,65 @@ fn completed(done: bool) -> Completed
 }
 
 // Joins two sets by AND, OR or XOR.
-pub fn combine(words: &mut [u64], op: Operation, a: &[u64], b: &[u64]) -> Completed
-    requires { ⌜ 1 ≤ capacity (now words) ⌝ }
-    requires { ⌜ Readable (now a) ⌝ }
-    requires { ⌜ Readable (now b) ⌝ }
-    ensures { λ r. ⌜ Met (now (words .entry)) (Call.combine op (now (a .entry)) (now (b .entry))) (completedAnswer r) (now (words .exit)) ⌝ }
+pub fn combine(
+    words: &mut [u64],
+    world: u64,
+    op: Operation,
+    a: &[u64],
+    i: u64,
+    b: &[u64],
+    j: u64,
+) -> Completed
+    requires { ⌜ Readable (now words) world ⌝ }
+    requires { ⌜ Readable (now a) i ⌝ }
+    requires { ⌜ Readable (now b) j ⌝ }
+    ensures { λ r. ⌜ Met (now (words .entry)) world (Call.combine op (site (now (a .entry)) i) (site (now (b .entry)) j)) (completedAnswer r) (now (words .exit)) ⌝ }
 {
-    let x = view(a);
-    let y = view(b);
-    completed(gathered(words, op, a, Feed::Held(x), b, Feed::Held(y)))
+    let x = view(a, i);
+    let y = view(b, j);
+    completed(gathered(
+        words,
+        world,
+        op,
+        &a[128..],
+        Feed::Held(x),
+        &b[128..],
+        Feed::Held(y),
+    ))
 }
 
 // The complement over 0..=M: what is in just one of the set and all positions.
-pub fn not(words: &mut [u64], a: &[u64]) -> Completed
-    requires { ⌜ 1 ≤ capacity (now words) ⌝ }
-    requires { ⌜ Readable (now a) ⌝ }
-    ensures { λ r. ⌜ Met (now (words .entry)) (Call.complement (now (a .entry))) (completedAnswer r) (now (words .exit)) ⌝ }
+pub fn not(words: &mut [u64], world: u64, a: &[u64], i: u64) -> Completed
+    requires { ⌜ Readable (now words) world ⌝ }
+    requires { ⌜ Readable (now a) i ⌝ }
+    ensures { λ r. ⌜ Met (now (words .entry)) world (Call.complement (site (now (a .entry)) i)) (completedAnswer r) (now (words .exit)) ⌝ }
 {
-    let x = view(a);
+    let x = view(a, i);
     completed(gathered(
         words,
+        world,
         Operation::Xor,
-        a,
+        &a[128..],
         Feed::Held(x),
-        a,
+        &a[128..],
         Feed::Only(Logical(0), Logical(u64::MAX)),
     ))
 }
 
 // The set moved by the distance, up (left) or down: read under another offset, and what would come in from the other end cut off.
-pub fn shifted(words: &mut [u64], distance: u64, left: bool, a: &[u64]) -> Completed
-    requires { ⌜ 1 ≤ capacity (now words) ⌝ }
-    requires { ⌜ Readable (now a) ⌝ }
-    ensures { λ r. ⌜ Met (now (words .entry)) (Call.shifted distance left (now (a .entry))) (completedAnswer r) (now (words .exit)) ⌝ }
+pub fn shifted(
+    words: &mut [u64],
+    world: u64,
+    distance: u64,
+    left: bool,
+    a: &[u64],
+    i: u64,
+) -> Completed
+    requires { ⌜ Readable (now words) world ⌝ }
+    requires { ⌜ Readable (now a) i ⌝ }
+    ensures { λ r. ⌜ Met (now (words .entry)) world (Call.shifted distance left (site (now (a .entry)) i)) (completedAnswer r) (now (words .exit)) ⌝ }
 {
-    let x = view(a);
+    let x = view(a, i);
     if left {
         let up = View {
             root: x.root,
@@ -98,10 +127,11 @@ pub fn shifted(words: &mut [u64], distance: u64, left: bool, a: &[u64]) -> Compl
         };
         return completed(gathered(
             words,
+            world,
             Operation::And,
-            a,
+            &a[128..],
             Feed::Held(up),
-            a,
+            &a[128..],
             Feed::Only(Logical(distance), Logical(u64::MAX)),
         ));
     }
@@ -112,21 +142,29 @@ pub fn shifted(words: &mut [u64], distance: u64, left: bool, a: &[u64]) -> Compl
     let top = u64::MAX - distance;
     completed(gathered(
         words,
+        world,
         Operation::And,
-        a,
+        &a[128..],
         Feed::Held(down),
-        a,
+        &a[128..],
         Feed::Only(Logical(0), Logical(top)),
     ))
 }
 
-// Whether two stores hold the same positions: none is in just one of them.
-pub fn eq(a: &[u64], b: &[u64]) -> Tested
-    requires { ⌜ Readable (now a) ⌝ }
-    requires { ⌜ Readable (now b) ⌝ }
-    ensures { λ r. ⌜ Met (now (a .entry)) (Call.equal (now (b .entry))) (testedAnswer r) (now (a .entry)) ⌝ }
+// Whether two worlds hold the same positions: none is in just one of them.
+pub fn eq(a: &[u64], i: u64, b: &[u64], j: u64) -> Tested
+    requires { ⌜ Readable (now a) i ⌝ }
+    requires { ⌜ Readable (now b) j ⌝ }
+    ensures { λ r. ⌜ Met (now (a .entry)) i (Call.equal (site (now (b .entry)) j)) (testedAnswer r) (now (a .entry)) ⌝ }
 {
-    let x = view(a);
-    let y = view(b);
-    Tested::Is(streams::gather::fits(Operation::Xor, a, Feed::Held(x), b, Feed::Held(y), 0))
+    let x = view(a, i);
+    let y = view(b, j);
+    Tested::Is(streams::gather::fits(
+        Operation::Xor,
+        &a[128..],
+        Feed::Held(x),
+        &b[128..],
+        Feed::Held(y),
+        0,
+    ))
 }

@@ -1,5 +1,5 @@
-// The calls on stores that are known to be sound: each answers what the public call of its name does, without looking at the store. So a
-// list of calls can be served after one look, as each leaves a sound store. What a change would leave is counted before the first write,
+// The calls on worlds of pools that are known to be sound: each answers what the public call of its name does, without looking at the pool. So
+// a list of calls can be served after one look, as each leaves a sound pool. What a change would leave is counted before the first write,
 // so a refusal finds every word as it was. No public call is here: each of these asks something of its caller.
 pub mod bytes;
 pub mod change;

@@ -21,9 +21,9 @@ fn finished(value: bool) -> Listing
 }
 
 // Draws the first run that is left, and moves the listing past it.
-pub fn draw_front(words: &[u64], l: Listing) -> Drawn
-    requires { ⌜ Readable (now words) ⌝ }
-    ensures { λ r. ⌜ Met (now (words .entry)) (Call.drawFront l) (drawnAnswer r) (now (words .entry)) ⌝ }
+pub fn draw_front(words: &[u64], world: u64, l: Listing) -> Drawn
+    requires { ⌜ Readable (now words) world ⌝ }
+    ensures { λ r. ⌜ Met (now (words .entry)) world (Call.drawFront l) (drawnAnswer r) (now (words .entry)) ⌝ }
 {
     let first = l.first;
     let last = l.last;
@@ -31,8 +31,8 @@ pub fn draw_front(words: &[u64], l: Listing) -> Drawn
     if last < first {
         return Drawn::End(finished(value));
     }
-    let h = store::open(words);
-    let n = reports::runs::first_run(words, h, Logical(first), Logical(last), value);
+    let h = store::open(words, world);
+    let n = reports::runs::first_run(&words[128..], h, Logical(first), Logical(last), value);
     match n {
         Near::Run(r) => {
             let end = r.end;
@@ -53,9 +53,9 @@ pub fn draw_front(words: &[u64], l: Listing) -> Drawn
 }
 
 // Draws the last run that is left, and moves the listing before it.
-pub fn draw_back(words: &[u64], l: Listing) -> Drawn
-    requires { ⌜ Readable (now words) ⌝ }
-    ensures { λ r. ⌜ Met (now (words .entry)) (Call.drawBack l) (drawnAnswer r) (now (words .entry)) ⌝ }
+pub fn draw_back(words: &[u64], world: u64, l: Listing) -> Drawn
+    requires { ⌜ Readable (now words) world ⌝ }
+    ensures { λ r. ⌜ Met (now (words .entry)) world (Call.drawBack l) (drawnAnswer r) (now (words .entry)) ⌝ }
 {
     let first = l.first;
     let last = l.last;
@@ -63,8 +63,8 @@ pub fn draw_back(words: &[u64], l: Listing) -> Drawn
     if last < first {
         return Drawn::End(finished(value));
     }
-    let h = store::open(words);
-    let n = reports::runs::last_run(words, h, Logical(first), Logical(last), value);
+    let h = store::open(words, world);
+    let n = reports::runs::last_run(&words[128..], h, Logical(first), Logical(last), value);
     match n {
         Near::Run(r) => {
             let start = r.start;

@@ -1,16 +1,22 @@
-// Making a store empty, whatever its words were.
+// Making a pool of empty worlds, whatever its words were.
 ghost use Prim.Native.Nat.{_≤_};
-ghost use Rattle.model.specs.Call.{Call};
 ghost use Rattle.model.specs.Answers.{completedAnswer};
+ghost use Rattle.model.specs.Pools.{limitsOf};
 ghost use Rattle.store.specs.Layout.{capacity};
-ghost use Rattle.core.specs.Met.{Met};
+ghost use Rattle.core.specs.Met.{Made};
 use model::Completed;
+use model::Refusal;
+use store::Store;
 
-// A new, empty set in words of a store's length.
-pub fn new(words: &mut [u64]) -> Completed
+// A new pool in words of a store's length: a world, which is empty, for each floor and ceiling of the limits.
+pub fn new(words: &mut [u64], limits: &[u64]) -> Completed
     requires { ⌜ 1 ≤ capacity (now words) ⌝ }
-    ensures { λ r. ⌜ Met (now (words .entry)) Call.make (completedAnswer r) (now (words .exit)) ⌝ }
+    ensures { λ r. ⌜ Made (now (words .entry)) (limitsOf (now (limits .entry))) (completedAnswer r) (now (words .exit)) ⌝ }
 {
-    store::free::make(words);
+    let s = Store::of_length(words.len());
+    if !store::free::limits_fit(limits, s.capacity) {
+        return Completed::Refused(Refusal::WorldLimits);
+    }
+    store::free::make(words, limits, (limits.len() / 2) as u64);
     Completed::Done
 }

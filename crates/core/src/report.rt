@@ -19,21 +19,21 @@ use model::Span;
 use model::Tested;
 
 // The value of position x.
-pub fn get(words: &[u64], x: u64) -> Tested
-    requires { ⌜ Readable (now words) ⌝ }
-    ensures { λ r. ⌜ Met (now (words .entry)) (Call.get x) (testedAnswer r) (now (words .entry)) ⌝ }
+pub fn get(words: &[u64], world: u64, x: u64) -> Tested
+    requires { ⌜ Readable (now words) world ⌝ }
+    ensures { λ r. ⌜ Met (now (words .entry)) world (Call.get x) (testedAnswer r) (now (words .entry)) ⌝ }
 {
-    let h = store::open(words);
-    Tested::Is(reports::logical::get(words, h, Logical(x)))
+    let h = store::open(words, world);
+    Tested::Is(reports::logical::get(&words[128..], h, Logical(x)))
 }
 
 // The run around x.
-pub fn run_at(words: &[u64], x: u64) -> Around
-    requires { ⌜ Readable (now words) ⌝ }
-    ensures { λ r. ⌜ Met (now (words .entry)) (Call.runAt x) (aroundAnswer r) (now (words .entry)) ⌝ }
+pub fn run_at(words: &[u64], world: u64, x: u64) -> Around
+    requires { ⌜ Readable (now words) world ⌝ }
+    ensures { λ r. ⌜ Met (now (words .entry)) world (Call.runAt x) (aroundAnswer r) (now (words .entry)) ⌝ }
 {
-    let h = store::open(words);
-    Around::Run(reports::runs::run_at(words, h, Logical(x)))
+    let h = store::open(words, world);
+    Around::Run(reports::runs::run_at(&words[128..], h, Logical(x)))
 }
 
 // A position that was searched for, as an answer.
@@ -47,31 +47,31 @@ fn found(e: Edge) -> Found
 }
 
 // An empty range has no position.
-pub fn find(words: &[u64], lower: Bound, upper: Bound, value: bool) -> Found
-    requires { ⌜ Readable (now words) ⌝ }
-    ensures { λ r. ⌜ Met (now (words .entry)) (Call.find lower upper value) (foundAnswer r) (now (words .entry)) ⌝ }
+pub fn find(words: &[u64], world: u64, lower: Bound, upper: Bound, value: bool) -> Found
+    requires { ⌜ Readable (now words) world ⌝ }
+    ensures { λ r. ⌜ Met (now (words .entry)) world (Call.find lower upper value) (foundAnswer r) (now (words .entry)) ⌝ }
 {
     let s = model::normalize(lower, upper);
     match s {
         Span::Empty => Found::Nowhere,
         Span::Closed(a, b) => {
-            let h = store::open(words);
-            found(reports::runs::find_in(words, h, Logical(a), Logical(b), value))
+            let h = store::open(words, world);
+            found(reports::runs::find_in(&words[128..], h, Logical(a), Logical(b), value))
         }
     }
 }
 
 // An empty range has no position.
-pub fn count(words: &[u64], lower: Bound, upper: Bound, value: bool) -> Counted
-    requires { ⌜ Readable (now words) ⌝ }
-    ensures { λ r. ⌜ Met (now (words .entry)) (Call.count lower upper value) (countedAnswer r) (now (words .entry)) ⌝ }
+pub fn count(words: &[u64], world: u64, lower: Bound, upper: Bound, value: bool) -> Counted
+    requires { ⌜ Readable (now words) world ⌝ }
+    ensures { λ r. ⌜ Met (now (words .entry)) world (Call.count lower upper value) (countedAnswer r) (now (words .entry)) ⌝ }
 {
     let s = model::normalize(lower, upper);
     match s {
         Span::Empty => Counted::Count(Count { carry: 0, low: 0 }),
         Span::Closed(a, b) => {
-            let h = store::open(words);
-            let t = reports::logical::tally(words, h, Logical(a), Logical(b), value);
+            let h = store::open(words, world);
+            let t = reports::logical::tally(&words[128..], h, Logical(a), Logical(b), value);
             let c = t.count;
             Counted::Count(c)
         }
@@ -79,24 +79,24 @@ pub fn count(words: &[u64], lower: Bound, upper: Bound, value: bool) -> Counted
 }
 
 // An empty range has no position.
-pub fn select(words: &[u64], lower: Bound, upper: Bound, value: bool, k: u64) -> Found
-    requires { ⌜ Readable (now words) ⌝ }
-    ensures { λ r. ⌜ Met (now (words .entry)) (Call.select lower upper value k) (foundAnswer r) (now (words .entry)) ⌝ }
+pub fn select(words: &[u64], world: u64, lower: Bound, upper: Bound, value: bool, k: u64) -> Found
+    requires { ⌜ Readable (now words) world ⌝ }
+    ensures { λ r. ⌜ Met (now (words .entry)) world (Call.select lower upper value k) (foundAnswer r) (now (words .entry)) ⌝ }
 {
     let s = model::normalize(lower, upper);
     match s {
         Span::Empty => Found::Nowhere,
         Span::Closed(a, b) => {
-            let h = store::open(words);
-            found(reports::logical::select(words, h, Logical(a), Logical(b), value, k))
+            let h = store::open(words, world);
+            found(reports::logical::select(&words[128..], h, Logical(a), Logical(b), value, k))
         }
     }
 }
 
 // An empty range has no gap.
-pub fn gap(words: &[u64], lower: Bound, upper: Bound, n: u64) -> Found
-    requires { ⌜ Readable (now words) ⌝ }
-    ensures { λ r. ⌜ AnswersGap (fedOf (now (words .entry))) lower upper n (foundAnswer r) ⌝ }
+pub fn gap(words: &[u64], world: u64, lower: Bound, upper: Bound, n: u64) -> Found
+    requires { ⌜ Readable (now words) world ⌝ }
+    ensures { λ r. ⌜ AnswersGap (fedOf (now (words .entry)) world) lower upper n (foundAnswer r) ⌝ }
 {
     if n == 0 {
         return Found::Refused(Refusal::GapLength);
@@ -105,32 +105,32 @@ pub fn gap(words: &[u64], lower: Bound, upper: Bound, n: u64) -> Found
     match s {
         Span::Empty => Found::Nowhere,
         Span::Closed(a, b) => {
-            let h = store::open(words);
-            found(streams::gaps::some_gap(words, h, Logical(a), Logical(b), n))
+            let h = store::open(words, world);
+            found(streams::gaps::some_gap(&words[128..], h, Logical(a), Logical(b), n))
         }
     }
 }
 
 // An empty range has no run.
-pub fn count_ranges(words: &[u64], lower: Bound, upper: Bound, value: bool) -> Numbered
-    requires { ⌜ Readable (now words) ⌝ }
-    ensures { λ r. ⌜ Met (now (words .entry)) (Call.countRanges lower upper value) (numberedAnswer r) (now (words .entry)) ⌝ }
+pub fn count_ranges(words: &[u64], world: u64, lower: Bound, upper: Bound, value: bool) -> Numbered
+    requires { ⌜ Readable (now words) world ⌝ }
+    ensures { λ r. ⌜ Met (now (words .entry)) world (Call.countRanges lower upper value) (numberedAnswer r) (now (words .entry)) ⌝ }
 {
     let s = model::normalize(lower, upper);
     match s {
         Span::Empty => Numbered::Number(0),
         Span::Closed(a, b) => {
-            let h = store::open(words);
-            let t = reports::logical::tally(words, h, Logical(a), Logical(b), value);
+            let h = store::open(words, world);
+            let t = reports::logical::tally(&words[128..], h, Logical(a), Logical(b), value);
             Numbered::Number(t.runs)
         }
     }
 }
 
 // A listing is the range itself, from its first position to its last.
-pub fn ranges(words: &[u64], lower: Bound, upper: Bound, value: bool) -> Listed
-    requires { ⌜ Readable (now words) ⌝ }
-    ensures { λ r. ⌜ Met (now (words .entry)) (Call.ranges lower upper value) (listedAnswer r) (now (words .entry)) ⌝ }
+pub fn ranges(words: &[u64], world: u64, lower: Bound, upper: Bound, value: bool) -> Listed
+    requires { ⌜ Readable (now words) world ⌝ }
+    ensures { λ r. ⌜ Met (now (words .entry)) world (Call.ranges lower upper value) (listedAnswer r) (now (words .entry)) ⌝ }
 {
     let s = model::normalize(lower, upper);
     match s {
@@ -148,15 +148,21 @@ pub fn ranges(words: &[u64], lower: Bound, upper: Bound, value: bool) -> Listed
 }
 
 // A thousand times the count of a window fits a word.
-pub fn fill(words: &[u64], base: u64, length: u64) -> Numbered
-    requires { ⌜ Readable (now words) ⌝ }
-    ensures { λ r. ⌜ Met (now (words .entry)) (Call.fill base length) (numberedAnswer r) (now (words .entry)) ⌝ }
+pub fn fill(words: &[u64], world: u64, base: u64, length: u64) -> Numbered
+    requires { ⌜ Readable (now words) world ⌝ }
+    ensures { λ r. ⌜ Met (now (words .entry)) world (Call.fill base length) (numberedAnswer r) (now (words .entry)) ⌝ }
 {
     if !crate::window::window_fits(base, length) {
         return Numbered::Refused(Refusal::Window);
     }
-    let h = store::open(words);
-    let t = reports::logical::tally(words, h, Logical(base), Logical(base + (length - 1)), true);
+    let h = store::open(words, world);
+    let t = reports::logical::tally(
+        &words[128..],
+        h,
+        Logical(base),
+        Logical(base + (length - 1)),
+        true,
+    );
     let c = t.count;
     Numbered::Number(1000 * c.low / length)
 }

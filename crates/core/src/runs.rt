@@ -1,23 +1,22 @@
-// The two ends of making a store of runs that a caller lays one by one.
-ghost use Prim.Native.Nat.{_≤_};
-ghost use Rattle.store.specs.Layout.{capacity};
+// The two ends of giving a world runs that a caller lays one by one.
+ghost use Rattle.core.specs.Met.{Readable};
 ghost use Rattle.core.specs.Laid.{Begun, Finishable, Finishes};
 use store::Links;
 
-// Makes the words an empty store, whatever they were, and returns where its free nodes are.
-pub fn begin(words: &mut [u64]) -> Links
-    requires { ⌜ 1 ≤ capacity (now words) ⌝ }
-    ensures { λ r. ⌜ Begun (now (words .entry)) (now (words .exit)) r ⌝ }
+// Gives the nodes of a world back, whatever it held, and returns where the free nodes are. The pool is sound again after `finish`.
+pub fn begin(words: &mut [u64], world: u64) -> Links
+    requires { ⌜ Readable (now words) world ⌝ }
+    ensures { λ r. ⌜ Begun (now (words .entry)) (now (words .exit)) world r ⌝ }
 {
-    store::free::make(words);
-    store::links_of(store::open(words))
+    let h = store::open(words, world);
+    store::free::give_back(&mut words[128..], store::links_of(h))
 }
 
-// Makes the store of the runs that the first n free nodes were given.
+// Gives the world the runs that the first n free nodes were given.
 pub fn finish(words: &mut [u64], x: Links, n: u64)
     requires { ⌜ Finishable (now words) x n ⌝ }
     ensures { λ _. ⌜ Finishes (now (words .entry)) (now (words .exit)) x n ⌝ }
 {
-    let k = store::refresh::link(words, x, n);
+    let k = store::refresh::link(&mut words[128..], x, n);
     store::close(words, k);
 }

@@ -6,24 +6,24 @@ use model::Refusal;
 use model::Written;
 
 // Writes a store's set, and returns how many bytes it has.
-pub fn write_set(words: &[u64], out: &mut [u8]) -> Written
-    requires { ⌜ Readable (now words) ⌝ }
-    ensures { λ r. ⌜ WritesOut Call.writeSet (now (words .entry)) (now (out .entry)) r (now (out .exit)) ⌝ }
+pub fn write_set(words: &[u64], world: u64, out: &mut [u8]) -> Written
+    requires { ⌜ Readable (now words) world ⌝ }
+    ensures { λ r. ⌜ WritesOut Call.writeSet (now (words .entry)) world (now (out .entry)) r (now (out .exit)) ⌝ }
 {
-    let h = store::open(words);
-    let n = written::set::run_count(words, h);
+    let h = store::open(words, world);
+    let n = written::set::run_count(&words[128..], h);
     let due = written::set::length_of(n) as usize;
     if out.len() < due {
         return Written::Refused(Refusal::OutputShort);
     }
-    written::write::write_set(words, h, out);
+    written::write::write_set(&words[128..], h, out);
     Written::Bytes(due)
 }
 
 // Writes the map of a window, and returns how many bytes it has.
-pub fn write_map(words: &[u64], base: u64, n: u64, out: &mut [u8]) -> Written
-    requires { ⌜ Readable (now words) ⌝ }
-    ensures { λ r. ⌜ WritesOut (Call.writeMap base n) (now (words .entry)) (now (out .entry)) r (now (out .exit)) ⌝ }
+pub fn write_map(words: &[u64], world: u64, base: u64, n: u64, out: &mut [u8]) -> Written
+    requires { ⌜ Readable (now words) world ⌝ }
+    ensures { λ r. ⌜ WritesOut (Call.writeMap base n) (now (words .entry)) world (now (out .entry)) r (now (out .exit)) ⌝ }
 {
     if !crate::window::window_fits(base, n) {
         return Written::Refused(Refusal::Window);
@@ -32,7 +32,7 @@ pub fn write_map(words: &[u64], base: u64, n: u64, out: &mut [u8]) -> Written
     if out.len() < due {
         return Written::Refused(Refusal::OutputShort);
     }
-    let h = store::open(words);
-    maps::write::write_map(words, h, base, n, out);
+    let h = store::open(words, world);
+    maps::write::write_map(&words[128..], h, base, n, out);
     Written::Bytes(due)
 }

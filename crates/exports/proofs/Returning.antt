@@ -4,12 +4,13 @@ use Prim.Native.Nat.{ℕ}
 use mathlib.Core.Path.{_≡_, refl, ap, _∙_, subst}
 use mathlib.Core.List.{List}
 use Rattle.model.specs.declared.Bound.{Bound}
+use Rattle.model.specs.declared.Limits.{Limits}
 use Rattle.model.specs.declared.Written.{Written}
 use Rattle.model.specs.Answers.{writtenAnswer}
 use Rattle.model.specs.Call.{Call, Answer}
 use Rattle.model.specs.Gaps.{AnswersGap}
 use Rattle.model.specs.Clearing.{Handled}
-use Rattle.core.specs.Met.{fedOf, Met}
+use Rattle.core.specs.Met.{Site, fedOf, Met, Made}
 use Rattle.core.specs.Handles.{Handles}
 use Rattle.core.specs.Out.{Unwritten, WritesOut}
 use Rattle.flat.specs.declared.Reply.{Reply}
@@ -18,23 +19,27 @@ use Rattle.frame.specs.Frame.{Framed}
 use Rattle.exports.specs.declared.structs.CFound.{CFound}
 use Rattle.exports.specs.declared.structs.CWritten.{CWritten}
 use Rattle.exports.specs.Structs.{refusalOf, positionOf, writtenOf}
-use Rattle.exports.specs.Returns.{Returns, ReturnsGap, sliceAfter, Writes, Handed, Frames}
+use Rattle.exports.specs.Returns.{Makes, Returns, ReturnsGap, sliceAfter, Writes, Handed, Frames}
 
 -- a call between two bounds is the call between what they were made of
-pub between : (f : Bound → Bound → Call (List ℕ)) {p q x y : Bound} → p ≡ x → q ≡ y → f p q ≡ f x y
+pub between : (f : Bound → Bound → Call Site) {p q x y : Bound} → p ≡ x → q ≡ y → f p q ≡ f x y
 between f {p} {q} {x} {y} d e = ap (λ b. f b q) d ∙ ap (f x) e
 
 -- every call that returns: its promise, its answer as a reply q, and the part r of that
-pub returned : {R : Type 0} {w w′ : List ℕ} {c c′ : Call (List ℕ)} {f : Reply → R} {r : R} {a : Answer} {q : Reply} → c ≡ c′ → Met w c a w′
-    → q ≡ replyOf a → r ≡ f q → Returns w c′ f r w′
-returned {w = w} {w′} {f = f} {a = a} e m p s = record { answer = a; met = subst (λ k. Met w k a w′) e m; flat = s ∙ ap f p }
+pub returned : {R : Type 0} {w w′ : List ℕ} {i : ℕ} {c c′ : Call Site} {f : Reply → R} {r : R} {a : Answer} {q : Reply} → c ≡ c′ → Met w i c a w′
+    → q ≡ replyOf a → r ≡ f q → Returns w i c′ f r w′
+returned {w = w} {w′} {i} {f = f} {a = a} e m p s = record { answer = a; met = subst (λ k. Met w i k a w′) e m; flat = s ∙ ap f p }
+
+-- making a pool
+pub makes : {w w′ : List ℕ} {ls : List Limits} {a : Answer} {q : Reply} → Made w ls a w′ → q ≡ replyOf a → Makes w ls (refusalOf q) w′
+makes {a = a} m p = record { answer = a; made = m; flat = ap (λ (q : Reply). refusalOf q) p }
 
 -- the gap search
-pub returned-gap : {w : List ℕ} {l u x y : Bound} {n : ℕ} {r : CFound} (a : Answer) {q : Reply} → l ≡ x → u ≡ y → AnswersGap (fedOf w) l u n a
-    → q ≡ replyOf a → r ≡ positionOf q → ReturnsGap w x y n r
-returned-gap {w} {l} {u} {x} {y} {n} a d e m p s = record {
+pub returned-gap : {w : List ℕ} {i : ℕ} {l u x y : Bound} {n : ℕ} {r : CFound} (a : Answer) {q : Reply} → l ≡ x → u ≡ y
+    → AnswersGap (fedOf w i) l u n a → q ≡ replyOf a → r ≡ positionOf q → ReturnsGap w i x y n r
+returned-gap {w} {i} {l} {u} {x} {y} {n} a d e m p s = record {
   answer = a;
-  met = subst (λ b. AnswersGap (fedOf w) x b n a) e (subst (λ b. AnswersGap (fedOf w) b u n a) d m);
+  met = subst (λ b. AnswersGap (fedOf w i) x b n a) e (subst (λ b. AnswersGap (fedOf w i) b u n a) d m);
   flat = s ∙ ap (λ (q : Reply). positionOf q) p;
 }
 
@@ -43,8 +48,8 @@ slice-is : (out out′ : List ℕ) (a : Written) → Unwritten a out out′ → 
 slice-is out out′ (Written.Refused r) u = u
 slice-is out out′ (Written.Bytes n) u = refl
 
-pub wrote : {c : List ℕ → Call (List ℕ)} {w out out′ : List ℕ} (a : Written) {q : Reply} {r : CWritten} → WritesOut c w out a out′
-    → ((o : List ℕ) → q ≡ replyOf (writtenAnswer a o)) → r ≡ writtenOf q → Writes w c out r out′
+pub wrote : {c : List ℕ → Call Site} {w : List ℕ} {i : ℕ} {out out′ : List ℕ} (a : Written) {q : Reply} {r : CWritten} → WritesOut c w i out a out′
+    → ((o : List ℕ) → q ≡ replyOf (writtenAnswer a o)) → r ≡ writtenOf q → Writes w i c out r out′
 unfolding returned
 wrote {out = out} {out′} a k p s = record { returns = returned refl (k .met) (p out′) s; slice = slice-is out out′ a (k .unwritten) }
 

@@ -4,10 +4,11 @@ use Prim.Native.Nat.{ℕ}
 use mathlib.Core.Path.{_≡_}
 use mathlib.Core.List.{List}
 use Rattle.model.specs.declared.Bound.{Bound}
+use Rattle.model.specs.declared.Limits.{Limits}
 use Rattle.model.specs.Call.{Call, Answer, refused, gave}
 use Rattle.model.specs.Gaps.{AnswersGap}
 use Rattle.model.specs.Clearing.{Handled}
-use Rattle.core.specs.Met.{fedOf, Met}
+use Rattle.core.specs.Met.{Site, fedOf, Met, Made}
 use Rattle.interval_bit_set.specs.Out.{onWritten}
 use Rattle.flat.specs.declared.Reply.{Reply}
 use Rattle.flat.specs.Flat.{replyOf}
@@ -16,16 +17,22 @@ use Rattle.exports.specs.declared.structs.CFound.{CFound}
 use Rattle.exports.specs.declared.structs.CWritten.{CWritten}
 use Rattle.exports.specs.Structs.{refusalOf, positionOf, writtenOf}
 
--- the call c on the words w answered as its promise says, and r is that answer laid flat, the part f of it in every field; w′ is left
-pub record Returns {R : Type 0} (w : List ℕ) (c : Call (List ℕ)) (f : Reply → R) (r : R) (w′ : List ℕ) : Type 0 where
+-- making the words w a pool with the limits ls answered as its promise says; w′ is left
+pub record Makes (w : List ℕ) (ls : List Limits) (r : ℕ) (w′ : List ℕ) : Type 0 where
   pub answer : Answer
-  pub met : Met w c answer w′
+  pub made : Made w ls answer w′
+  pub flat : r ≡ refusalOf (replyOf answer)
+
+-- the call c on world i of the words w answered as its promise says, and r is that answer laid flat, the part f of it in every field; w′ is left
+pub record Returns {R : Type 0} (w : List ℕ) (i : ℕ) (c : Call Site) (f : Reply → R) (r : R) (w′ : List ℕ) : Type 0 where
+  pub answer : Answer
+  pub met : Met w i c answer w′
   pub flat : r ≡ f (replyOf answer)
 
--- the gap search on the words w, of n positions between l and u: r is an answer that its promise allows, laid flat, in every field
-pub record ReturnsGap (w : List ℕ) (l u : Bound) (n : ℕ) (r : CFound) : Type 0 where
+-- the gap search on world i of the words w, of n positions between l and u: r is an answer that its promise allows, laid flat, in every field
+pub record ReturnsGap (w : List ℕ) (i : ℕ) (l u : Bound) (n : ℕ) (r : CFound) : Type 0 where
   pub answer : Answer
-  pub met : AnswersGap (fedOf w) l u n answer
+  pub met : AnswersGap (fedOf w i) l u n answer
   pub flat : r ≡ positionOf (replyOf answer)
 
 -- a slice that was lent to be written: as it was after a refusal, else the answer's
@@ -34,8 +41,8 @@ sliceAfter (refused n) out = out
 sliceAfter (gave r) out = onWritten out (λ n bs. bs) r
 
 -- the same of a call that writes into the slice out: it leaves out′
-pub record Writes (w : List ℕ) (c : List ℕ → Call (List ℕ)) (out : List ℕ) (r : CWritten) (out′ : List ℕ) : Type 0 where
-  pub returns : Returns w (c out) writtenOf r w
+pub record Writes (w : List ℕ) (i : ℕ) (c : List ℕ → Call Site) (out : List ℕ) (r : CWritten) (out′ : List ℕ) : Type 0 where
+  pub returns : Returns w i (c out) writtenOf r w
   pub slice : out′ ≡ sliceAfter (returns .answer) out
 
 -- the same of a call on a lent slice alone, which the model says to be handled as h: it leaves bs, the whole slice

@@ -4,11 +4,13 @@ ghost use Prim.Native.Nat.{_/_};
 ghost use lib.ListN.{length};
 ghost use Rattle.written.specs.Listed.{pairs};
 ghost use Rattle.model.specs.Call.{Call};
+ghost use Rattle.model.specs.Pools.{limitsOf};
 ghost use Rattle.model.specs.Clearing.{clearMap};
+ghost use Rattle.core.specs.Met.{site};
 ghost use Rattle.interval_bit_set.specs.Lent.{listingOf};
 ghost use Rattle.flat.specs.Flat.{operationOf, truth};
 ghost use Rattle.exports.specs.Structs.{boundOf, refusalOf, countOf, numberOf, valueOf, runOf, positionOf, listedOf, drawnOf};
-ghost use Rattle.exports.specs.Returns.{Returns, ReturnsGap, Writes, Handed, Frames};
+ghost use Rattle.exports.specs.Returns.{Makes, Returns, ReturnsGap, Writes, Handed, Frames};
 use crate::structs::CAround;
 use crate::structs::CBound;
 use crate::structs::CCounted;
@@ -22,26 +24,28 @@ use model::Listing;
 
 pub mod structs;
 
-// Makes a store empty.
+// Makes a pool: a world, which is empty, for each floor and ceiling of the limits, in turn.
 #[no_mangle]
-pub extern "C" fn vizturel_new(words: &mut [u64]) -> u64
-    ensures { λ r. ⌜ Returns (now (words .entry)) Call.make refusalOf r (now (words .exit)) ⌝ }
+pub extern "C" fn vizturel_new(words: &mut [u64], limits: &[u64]) -> u64
+    ensures { λ r. ⌜ Makes (now (words .entry)) (limitsOf (now (limits .entry))) r (now (words .exit)) ⌝ }
 {
-    flat::completed(interval_bit_set::make::new(words)).refusal
+    flat::completed(interval_bit_set::make::new(words, limits)).refusal
 }
 
 // Gives a range the value, and tells how many positions changed.
 #[no_mangle]
 pub extern "C" fn vizturel_set(
     words: &mut [u64],
+    world: u64,
     lower: CBound,
     upper: CBound,
     value: u64,
 ) -> CCounted
-    ensures { λ r. ⌜ Returns (now (words .entry)) (Call.set (boundOf lower) (boundOf upper) (truth value)) countOf r (now (words .exit)) ⌝ }
+    ensures { λ r. ⌜ Returns (now (words .entry)) world (Call.set (boundOf lower) (boundOf upper) (truth value)) countOf r (now (words .exit)) ⌝ }
 {
     structs::count(flat::counted(interval_bit_set::change::set(
         words,
+        world,
         structs::bound(lower),
         structs::bound(upper),
         value != 0,
@@ -50,11 +54,12 @@ pub extern "C" fn vizturel_set(
 
 // Inverts a range.
 #[no_mangle]
-pub extern "C" fn vizturel_flip(words: &mut [u64], lower: CBound, upper: CBound) -> u64
-    ensures { λ r. ⌜ Returns (now (words .entry)) (Call.flip (boundOf lower) (boundOf upper)) refusalOf r (now (words .exit)) ⌝ }
+pub extern "C" fn vizturel_flip(words: &mut [u64], world: u64, lower: CBound, upper: CBound) -> u64
+    ensures { λ r. ⌜ Returns (now (words .entry)) world (Call.flip (boundOf lower) (boundOf upper)) refusalOf r (now (words .exit)) ⌝ }
 {
     flat::completed(interval_bit_set::change::flip(
         words,
+        world,
         structs::bound(lower),
         structs::bound(upper),
     )).refusal
@@ -62,35 +67,42 @@ pub extern "C" fn vizturel_flip(words: &mut [u64], lower: CBound, upper: CBound)
 
 // Moves every position by the distance: up (left) where `left` is not 0, else down.
 #[no_mangle]
-pub extern "C" fn vizturel_shift(words: &mut [u64], distance: u64, left: u64) -> u64
-    ensures { λ r. ⌜ Returns (now (words .entry)) (Call.shift distance (truth left)) refusalOf r (now (words .exit)) ⌝ }
+pub extern "C" fn vizturel_shift(words: &mut [u64], world: u64, distance: u64, left: u64) -> u64
+    ensures { λ r. ⌜ Returns (now (words .entry)) world (Call.shift distance (truth left)) refusalOf r (now (words .exit)) ⌝ }
 {
-    flat::completed(interval_bit_set::change::shift(words, distance, left != 0)).refusal
+    flat::completed(interval_bit_set::change::shift(words, world, distance, left != 0)).refusal
 }
 
 // The value of a position.
 #[no_mangle]
-pub extern "C" fn vizturel_get(words: &[u64], x: u64) -> CTested
-    ensures { λ r. ⌜ Returns (now (words .entry)) (Call.get x) valueOf r (now (words .entry)) ⌝ }
+pub extern "C" fn vizturel_get(words: &[u64], world: u64, x: u64) -> CTested
+    ensures { λ r. ⌜ Returns (now (words .entry)) world (Call.get x) valueOf r (now (words .entry)) ⌝ }
 {
-    structs::value(flat::tested(interval_bit_set::report::get(words, x)))
+    structs::value(flat::tested(interval_bit_set::report::get(words, world, x)))
 }
 
 // The unclipped run around a position.
 #[no_mangle]
-pub extern "C" fn vizturel_run_at(words: &[u64], x: u64) -> CAround
-    ensures { λ r. ⌜ Returns (now (words .entry)) (Call.runAt x) runOf r (now (words .entry)) ⌝ }
+pub extern "C" fn vizturel_run_at(words: &[u64], world: u64, x: u64) -> CAround
+    ensures { λ r. ⌜ Returns (now (words .entry)) world (Call.runAt x) runOf r (now (words .entry)) ⌝ }
 {
-    structs::run(flat::around(interval_bit_set::report::run_at(words, x)))
+    structs::run(flat::around(interval_bit_set::report::run_at(words, world, x)))
 }
 
 // The least position of the value in a range.
 #[no_mangle]
-pub extern "C" fn vizturel_find(words: &[u64], lower: CBound, upper: CBound, value: u64) -> CFound
-    ensures { λ r. ⌜ Returns (now (words .entry)) (Call.find (boundOf lower) (boundOf upper) (truth value)) positionOf r (now (words .entry)) ⌝ }
+pub extern "C" fn vizturel_find(
+    words: &[u64],
+    world: u64,
+    lower: CBound,
+    upper: CBound,
+    value: u64,
+) -> CFound
+    ensures { λ r. ⌜ Returns (now (words .entry)) world (Call.find (boundOf lower) (boundOf upper) (truth value)) positionOf r (now (words .entry)) ⌝ }
 {
     structs::position(flat::found(interval_bit_set::report::find(
         words,
+        world,
         structs::bound(lower),
         structs::bound(upper),
         value != 0,
@@ -101,14 +113,16 @@ pub extern "C" fn vizturel_find(words: &[u64], lower: CBound, upper: CBound, val
 #[no_mangle]
 pub extern "C" fn vizturel_count(
     words: &[u64],
+    world: u64,
     lower: CBound,
     upper: CBound,
     value: u64,
 ) -> CCounted
-    ensures { λ r. ⌜ Returns (now (words .entry)) (Call.count (boundOf lower) (boundOf upper) (truth value)) countOf r (now (words .entry)) ⌝ }
+    ensures { λ r. ⌜ Returns (now (words .entry)) world (Call.count (boundOf lower) (boundOf upper) (truth value)) countOf r (now (words .entry)) ⌝ }
 {
     structs::count(flat::counted(interval_bit_set::report::count(
         words,
+        world,
         structs::bound(lower),
         structs::bound(upper),
         value != 0,
@@ -119,15 +133,17 @@ pub extern "C" fn vizturel_count(
 #[no_mangle]
 pub extern "C" fn vizturel_select(
     words: &[u64],
+    world: u64,
     lower: CBound,
     upper: CBound,
     value: u64,
     k: u64,
 ) -> CFound
-    ensures { λ r. ⌜ Returns (now (words .entry)) (Call.select (boundOf lower) (boundOf upper) (truth value) k) positionOf r (now (words .entry)) ⌝ }
+    ensures { λ r. ⌜ Returns (now (words .entry)) world (Call.select (boundOf lower) (boundOf upper) (truth value) k) positionOf r (now (words .entry)) ⌝ }
 {
     structs::position(flat::found(interval_bit_set::report::select(
         words,
+        world,
         structs::bound(lower),
         structs::bound(upper),
         value != 0,
@@ -137,11 +153,18 @@ pub extern "C" fn vizturel_select(
 
 // The start of some n neighbouring positions of a range that are all free.
 #[no_mangle]
-pub extern "C" fn vizturel_gap(words: &[u64], lower: CBound, upper: CBound, n: u64) -> CFound
-    ensures { λ r. ⌜ ReturnsGap (now (words .entry)) (boundOf lower) (boundOf upper) n r ⌝ }
+pub extern "C" fn vizturel_gap(
+    words: &[u64],
+    world: u64,
+    lower: CBound,
+    upper: CBound,
+    n: u64,
+) -> CFound
+    ensures { λ r. ⌜ ReturnsGap (now (words .entry)) world (boundOf lower) (boundOf upper) n r ⌝ }
 {
     structs::position(flat::found(interval_bit_set::report::gap(
         words,
+        world,
         structs::bound(lower),
         structs::bound(upper),
         n,
@@ -152,14 +175,16 @@ pub extern "C" fn vizturel_gap(words: &[u64], lower: CBound, upper: CBound, n: u
 #[no_mangle]
 pub extern "C" fn vizturel_count_ranges(
     words: &[u64],
+    world: u64,
     lower: CBound,
     upper: CBound,
     value: u64,
 ) -> CNumbered
-    ensures { λ r. ⌜ Returns (now (words .entry)) (Call.countRanges (boundOf lower) (boundOf upper) (truth value)) numberOf r (now (words .entry)) ⌝ }
+    ensures { λ r. ⌜ Returns (now (words .entry)) world (Call.countRanges (boundOf lower) (boundOf upper) (truth value)) numberOf r (now (words .entry)) ⌝ }
 {
     structs::number(flat::numbered(interval_bit_set::report::count_ranges(
         words,
+        world,
         structs::bound(lower),
         structs::bound(upper),
         value != 0,
@@ -170,14 +195,16 @@ pub extern "C" fn vizturel_count_ranges(
 #[no_mangle]
 pub extern "C" fn vizturel_ranges(
     words: &[u64],
+    world: u64,
     lower: CBound,
     upper: CBound,
     value: u64,
 ) -> CListed
-    ensures { λ r. ⌜ Returns (now (words .entry)) (Call.ranges (boundOf lower) (boundOf upper) (truth value)) listedOf r (now (words .entry)) ⌝ }
+    ensures { λ r. ⌜ Returns (now (words .entry)) world (Call.ranges (boundOf lower) (boundOf upper) (truth value)) listedOf r (now (words .entry)) ⌝ }
 {
     structs::listing(flat::listed(interval_bit_set::report::ranges(
         words,
+        world,
         structs::bound(lower),
         structs::bound(upper),
         value != 0,
@@ -186,11 +213,18 @@ pub extern "C" fn vizturel_ranges(
 
 // Draws the first run that is left in a listing.
 #[no_mangle]
-pub extern "C" fn vizturel_draw_front(words: &[u64], first: u64, last: u64, value: u64) -> CDrawn
-    ensures { λ r. ⌜ Returns (now (words .entry)) (Call.drawFront (listingOf first last (truth value))) drawnOf r (now (words .entry)) ⌝ }
+pub extern "C" fn vizturel_draw_front(
+    words: &[u64],
+    world: u64,
+    first: u64,
+    last: u64,
+    value: u64,
+) -> CDrawn
+    ensures { λ r. ⌜ Returns (now (words .entry)) world (Call.drawFront (listingOf first last (truth value))) drawnOf r (now (words .entry)) ⌝ }
 {
     structs::draw(flat::drawn(interval_bit_set::report::draw_front(
         words,
+        world,
         Listing {
             first: first,
             last: last,
@@ -201,11 +235,18 @@ pub extern "C" fn vizturel_draw_front(words: &[u64], first: u64, last: u64, valu
 
 // Draws the last run that is left in a listing.
 #[no_mangle]
-pub extern "C" fn vizturel_draw_back(words: &[u64], first: u64, last: u64, value: u64) -> CDrawn
-    ensures { λ r. ⌜ Returns (now (words .entry)) (Call.drawBack (listingOf first last (truth value))) drawnOf r (now (words .entry)) ⌝ }
+pub extern "C" fn vizturel_draw_back(
+    words: &[u64],
+    world: u64,
+    first: u64,
+    last: u64,
+    value: u64,
+) -> CDrawn
+    ensures { λ r. ⌜ Returns (now (words .entry)) world (Call.drawBack (listingOf first last (truth value))) drawnOf r (now (words .entry)) ⌝ }
 {
     structs::draw(flat::drawn(interval_bit_set::report::draw_back(
         words,
+        world,
         Listing {
             first: first,
             last: last,
@@ -216,66 +257,102 @@ pub extern "C" fn vizturel_draw_back(words: &[u64], first: u64, last: u64, value
 
 // How full a window is, in thousandths, rounded down.
 #[no_mangle]
-pub extern "C" fn vizturel_fill(words: &[u64], base: u64, n: u64) -> CNumbered
-    ensures { λ r. ⌜ Returns (now (words .entry)) (Call.fill base n) numberOf r (now (words .entry)) ⌝ }
+pub extern "C" fn vizturel_fill(words: &[u64], world: u64, base: u64, n: u64) -> CNumbered
+    ensures { λ r. ⌜ Returns (now (words .entry)) world (Call.fill base n) numberOf r (now (words .entry)) ⌝ }
 {
-    structs::number(flat::numbered(interval_bit_set::report::fill(words, base, n)))
+    structs::number(flat::numbered(interval_bit_set::report::fill(words, world, base, n)))
 }
 
 // Joins two sets: op 0 is AND, 1 OR, any other XOR.
 #[no_mangle]
-pub extern "C" fn vizturel_combine(words: &mut [u64], op: u64, a: &[u64], b: &[u64]) -> u64
-    ensures { λ r. ⌜ Returns (now (words .entry)) (Call.combine (operationOf op) (now (a .entry)) (now (b .entry))) refusalOf r (now (words .exit)) ⌝ }
+pub extern "C" fn vizturel_combine(
+    words: &mut [u64],
+    world: u64,
+    op: u64,
+    a: &[u64],
+    i: u64,
+    b: &[u64],
+    j: u64,
+) -> u64
+    ensures { λ r. ⌜ Returns (now (words .entry)) world (Call.combine (operationOf op) (site (now (a .entry)) i) (site (now (b .entry)) j)) refusalOf r (now (words .exit)) ⌝ }
 {
-    flat::completed(interval_bit_set::join::combine(words, flat::operation(op), a, b)).refusal
+    flat::completed(interval_bit_set::join::combine(
+        words,
+        world,
+        flat::operation(op),
+        a,
+        i,
+        b,
+        j,
+    )).refusal
 }
 
 // The complement of a set.
 #[no_mangle]
-pub extern "C" fn vizturel_not(words: &mut [u64], a: &[u64]) -> u64
-    ensures { λ r. ⌜ Returns (now (words .entry)) (Call.complement (now (a .entry))) refusalOf r (now (words .exit)) ⌝ }
+pub extern "C" fn vizturel_not(words: &mut [u64], world: u64, a: &[u64], i: u64) -> u64
+    ensures { λ r. ⌜ Returns (now (words .entry)) world (Call.complement (site (now (a .entry)) i)) refusalOf r (now (words .exit)) ⌝ }
 {
-    flat::completed(interval_bit_set::join::not(words, a)).refusal
+    flat::completed(interval_bit_set::join::not(words, world, a, i)).refusal
 }
 
 // The set moved by the distance, up (left) where `left` is not 0, else down.
 #[no_mangle]
-pub extern "C" fn vizturel_shifted(words: &mut [u64], distance: u64, left: u64, a: &[u64]) -> u64
-    ensures { λ r. ⌜ Returns (now (words .entry)) (Call.shifted distance (truth left) (now (a .entry))) refusalOf r (now (words .exit)) ⌝ }
+pub extern "C" fn vizturel_shifted(
+    words: &mut [u64],
+    world: u64,
+    distance: u64,
+    left: u64,
+    a: &[u64],
+    i: u64,
+) -> u64
+    ensures { λ r. ⌜ Returns (now (words .entry)) world (Call.shifted distance (truth left) (site (now (a .entry)) i)) refusalOf r (now (words .exit)) ⌝ }
 {
-    flat::completed(interval_bit_set::join::shifted(words, distance, left != 0, a)).refusal
+    flat::completed(interval_bit_set::join::shifted(
+        words,
+        world,
+        distance,
+        left != 0,
+        a,
+        i,
+    )).refusal
 }
 
-// Whether two stores hold the same positions.
+// Whether two worlds hold the same positions.
 #[no_mangle]
-pub extern "C" fn vizturel_eq(words: &[u64], b: &[u64]) -> CTested
-    ensures { λ r. ⌜ Returns (now (words .entry)) (Call.equal (now (b .entry))) valueOf r (now (words .entry)) ⌝ }
+pub extern "C" fn vizturel_eq(words: &[u64], world: u64, b: &[u64], j: u64) -> CTested
+    ensures { λ r. ⌜ Returns (now (words .entry)) world (Call.equal (site (now (b .entry)) j)) valueOf r (now (words .entry)) ⌝ }
 {
-    structs::value(flat::tested(interval_bit_set::join::eq(words, b)))
+    structs::value(flat::tested(interval_bit_set::join::eq(words, world, b, j)))
 }
 
-// Makes the store that a written set tells.
+// Gives a world the set that bytes tell.
 #[no_mangle]
-pub extern "C" fn vizturel_load(words: &mut [u64], bytes: &[u8]) -> u64
-    ensures { λ r. ⌜ Returns (now (words .entry)) (Call.load (now (bytes .entry))) refusalOf r (now (words .exit)) ⌝ }
+pub extern "C" fn vizturel_load(words: &mut [u64], world: u64, bytes: &[u8]) -> u64
+    ensures { λ r. ⌜ Returns (now (words .entry)) world (Call.load (now (bytes .entry))) refusalOf r (now (words .exit)) ⌝ }
 {
-    flat::completed(interval_bit_set::bytes::load(words, bytes)).refusal
+    flat::completed(interval_bit_set::bytes::load(words, world, bytes)).refusal
 }
 
-// Makes the store of a run list: start and end of each run, in turn.
+// Gives a world the set of a run list: start and end of each run, in turn.
 #[no_mangle]
-pub extern "C" fn vizturel_build(words: &mut [u64], runs: &[u64]) -> u64
-    ensures { λ r. ⌜ Returns (now (words .entry)) (Call.build (pairs (length (now (runs .entry)) / 2) (now (runs .entry)))) refusalOf r (now (words .exit)) ⌝ }
+pub extern "C" fn vizturel_build(words: &mut [u64], world: u64, runs: &[u64]) -> u64
+    ensures { λ r. ⌜ Returns (now (words .entry)) world (Call.build (pairs (length (now (runs .entry)) / 2) (now (runs .entry)))) refusalOf r (now (words .exit)) ⌝ }
 {
-    flat::completed(interval_bit_set::bytes::from_sorted_words(words, runs)).refusal
+    flat::completed(interval_bit_set::bytes::from_sorted_words(words, world, runs)).refusal
 }
 
 // Sets a window from a map, and tells how many positions changed.
 #[no_mangle]
-pub extern "C" fn vizturel_read_map(words: &mut [u64], base: u64, n: u64, bytes: &[u8]) -> CCounted
-    ensures { λ r. ⌜ Returns (now (words .entry)) (Call.readMap base n (now (bytes .entry))) countOf r (now (words .exit)) ⌝ }
+pub extern "C" fn vizturel_read_map(
+    words: &mut [u64],
+    world: u64,
+    base: u64,
+    n: u64,
+    bytes: &[u8],
+) -> CCounted
+    ensures { λ r. ⌜ Returns (now (words .entry)) world (Call.readMap base n (now (bytes .entry))) countOf r (now (words .exit)) ⌝ }
 {
-    structs::count(flat::counted(interval_bit_set::bytes::read_map(words, base, n, bytes)))
+    structs::count(flat::counted(interval_bit_set::bytes::read_map(words, world, base, n, bytes)))
 }
 
 // Zeroes the spare bits of a window's map, and tells how many were one. It takes no store.
@@ -286,23 +363,29 @@ pub extern "C" fn vizturel_clear_map(base: u64, n: u64, map: &mut [u8]) -> CNumb
     structs::number(flat::numbered(interval_bit_set::bytes::clear_map(base, n, map)))
 }
 
-// Writes a store's set into the front of a slice, and tells how many bytes it has.
+// Writes a world's set into the front of a slice, and tells how many bytes it has.
 #[no_mangle]
-pub extern "C" fn vizturel_write(words: &[u64], out: &mut [u8]) -> CWritten
-    ensures { λ r. ⌜ Writes (now (words .entry)) Call.writeSet (now (out .entry)) r (now (out .exit)) ⌝ }
+pub extern "C" fn vizturel_write(words: &[u64], world: u64, out: &mut [u8]) -> CWritten
+    ensures { λ r. ⌜ Writes (now (words .entry)) world Call.writeSet (now (out .entry)) r (now (out .exit)) ⌝ }
 {
-    structs::bytes(flat::written(interval_bit_set::write::write_set(words, out)))
+    structs::bytes(flat::written(interval_bit_set::write::write_set(words, world, out)))
 }
 
 // Writes the map of a window into the front of a slice, and tells how many bytes it has.
 #[no_mangle]
-pub extern "C" fn vizturel_write_map(words: &[u64], base: u64, n: u64, out: &mut [u8]) -> CWritten
-    ensures { λ r. ⌜ Writes (now (words .entry)) (Call.writeMap base n) (now (out .entry)) r (now (out .exit)) ⌝ }
+pub extern "C" fn vizturel_write_map(
+    words: &[u64],
+    world: u64,
+    base: u64,
+    n: u64,
+    out: &mut [u8],
+) -> CWritten
+    ensures { λ r. ⌜ Writes (now (words .entry)) world (Call.writeMap base n) (now (out .entry)) r (now (out .exit)) ⌝ }
 {
-    structs::bytes(flat::written(interval_bit_set::write::write_map(words, base, n, out)))
+    structs::bytes(flat::written(interval_bit_set::write::write_map(words, world, base, n, out)))
 }
 
-// Serves a list of calls, each a record of eight words, after one look at the store, and writes a record of eight words for each answer.
+// Serves a list of calls, each a record of eight words, after one look at the pool, and writes a record of eight words for each answer.
 #[no_mangle]
 pub extern "C" fn vizturel_frame(words: &mut [u64], calls: &[u64], answers: &mut [u64]) -> u64
     ensures { λ r. ⌜ Frames (now (words .entry)) (now (calls .entry)) (now (answers .entry)) r (now (words .exit)) (now (answers .exit)) ⌝ }

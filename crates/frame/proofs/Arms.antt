@@ -1,23 +1,80 @@
--- Serving a record: the call of its kind, with the bounds that its words tell, was made. Assumes nothing.
-use Prim.Native.Nat.{ℕ}
-use mathlib.Core.Path.{_≡_, sym, ap₂, _∙_, subst}
-use mathlib.Core.List.{List}
+-- Serving a record: the call of its kind, with the bounds that its words tell, was made; or its world was not opened. Assumes nothing.
+use Prim.Native.Nat.{ℕ, _≤_}
+use mathlib.Core.Path.{_≡_, refl, sym, ap₂, _∙_, subst}
+use mathlib.Core.List.{List, []}
+use mathlib.Core.Option.{none}
 use Rattle.model.specs.declared.Bound.{Bound}
-use Rattle.model.specs.Call.{Call, Answer}
-use Rattle.core.specs.Met.{Met}
+use Rattle.model.specs.declared.Refusal.the-variants.{WorldUnopened}
+use Rattle.model.specs.Positions.{Positions}
+use Rattle.model.specs.Refusals.{looks, Condition, firstGiven}
+use Rattle.model.specs.Call.{Call, Result, Answer, refused}
+use Rattle.store.specs.Layout.{openedAt}
+use Rattle.store.specs.Soundness.{Sound}
+use Rattle.core.specs.Met.{Site, Met}
+use Rattle.core.proofs.Meeting.{
+  Reports,
+  get-says,
+  run-at-says,
+  find-says,
+  count-says,
+  select-says,
+  count-ranges-says,
+  ranges-says,
+  draw-front-says,
+  draw-back-says,
+  fill-says,
+}
+use Rattle.core.proofs.Changing.{Changes, set-says, flip-says, shift-says}
+use Rattle.core.proofs.Overwriting.{build-says}
+use Rattle.interval_bit_set.specs.declared.look.Look.{Look}
+use Rattle.interval_bit_set.proofs.Looking.{world-unopened, turned-away, sent-away}
 use Rattle.frame.specs.declared.entry.Kind.{Kind}
 use Rattle.frame.specs.declared.entry.Entry.{Entry}
 use Rattle.flat.specs.declared.Reply.{Reply}
 use Rattle.flat.specs.Flat.{replyOf}
-use Rattle.frame.specs.Records.{kindOf, callBy}
+use Rattle.frame.specs.Records.{kindOf, callBy, callOf}
 use Rattle.frame.specs.Serving.{Serves}
 
 -- the kind that was named is that of the record
 pub serves : {w w′ : List ℕ} (e : Entry) {r : Reply} {a : Answer} (k : Kind) {q : Kind} → q ≡ k → q ≡ kindOf (e .call)
-    → Met w (callBy k e) a w′ → r ≡ replyOf a → Serves w e r w′
-serves {w} {w′} e {a = a} k p n m f = (a, subst (λ j. Met w (callBy j e) a w′) (sym p ∙ n) m, f)
+    → Met w (e .world) (callBy k e) a w′ → r ≡ replyOf a → Serves w e r w′
+serves {w} {w′} e {a = a} k p n m f = (a, subst (λ j. Met w (e .world) (callBy j e) a w′) (sym p ∙ n) m, f)
 
 -- the bounds of the call are those told
-pub ranged : {w w′ : List ℕ} {a : Answer} (f : Bound → Bound → Call (List ℕ)) {l u l′ u′ : Bound} → l ≡ l′ → u ≡ u′ → Met w (f l u) a w′
-    → Met w (f l′ u′) a w′
-ranged {w} {w′} {a} f p q m = subst (λ c. Met w c a w′) (ap₂ f p q) m
+pub ranged : {w w′ : List ℕ} {i : ℕ} {a : Answer} (f : Bound → Bound → Call Site) {l u l′ u′ : Bound} → l ≡ l′ → u ≡ u′ → Met w i (f l u) a w′
+    → Met w i (f l′ u′) a w′
+ranged {w} {w′} {i} {a} f p q m = subst (λ c. Met w i c a w′) (ap₂ f p q) m
+
+-- ---- a world that was not opened: 12 stands in the answer, whatever the call
+module _ {w : List ℕ} {i : ℕ} (S : Sound w) (h : openedAt w ≤ i) (e : Entry) where
+  -- what looking at it tells
+  abbrev look : Look
+  look = Look.Refused WorldUnopened
+
+  -- a call that reports
+  away : {c : Call Site} {cs : List Condition} {A : Positions → Result} → Reports w i c cs A → firstGiven looks cs ≡ none → Met w i c (refused 12) w
+  away says quiet = turned-away says look (world-unopened w i S h) refl quiet
+
+  -- one that changes
+  sent : {c : Call Site} {cs : List Condition} {Q : Positions → Positions} {A : Positions → Result} → Changes w i c cs Q A → firstGiven looks cs ≡ none → Met w i c (refused 12) w
+  sent says quiet = sent-away says look (world-unopened w i S h) refl quiet
+
+  twelve : (k : Kind) → Met w i (callBy k e) (refused 12) w
+  twelve Kind.Empty = sent (build-says w i []) refl
+  twelve Kind.Set = sent (set-says w i _ _ _) refl
+  twelve Kind.Flip = sent (flip-says w i _ _) refl
+  twelve Kind.Shift = sent (shift-says w i _ _) refl
+  twelve Kind.RunAt = away (run-at-says w i _) refl
+  twelve Kind.Find = away (find-says w i _ _ _) refl
+  twelve Kind.Count = away (count-says w i _ _ _) refl
+  twelve Kind.Select = away (select-says w i _ _ _ _) refl
+  twelve Kind.CountRanges = away (count-ranges-says w i _ _ _) refl
+  twelve Kind.Ranges = away (ranges-says w i _ _ _) refl
+  twelve Kind.DrawFront = away (draw-front-says w i _) refl
+  twelve Kind.DrawBack = away (draw-back-says w i _) refl
+  twelve Kind.Fill = away (fill-says w i _ _) refl
+  twelve Kind.Get = away (get-says w i _) refl
+
+  -- as a record is served
+  pub unopened-served : {r : Reply} → i ≡ e .world → r ≡ replyOf (refused 12) → Serves w e r w
+  unopened-served p f = (refused 12, subst (λ j. Met w j (callOf e) (refused 12) w) p (twelve (kindOf (e .call))), f)

@@ -1,23 +1,20 @@
--- What the model is fed of a frame: the call of a record reads no further store, so it is fed as it is. Each call has one answer, and each
+-- What the model is fed of a frame: the call of a record names no further pool, so it is fed as it is. Each call has one answer, and each
 -- answer one record. Assumes nothing.
 use Prim.Native.Nat.{ℕ, zero, suc, _*_}
 use mathlib.Core.Path.{_≡_, refl, ap}
 use mathlib.Core.List.{List, [], _∷_}
 use native.Mathlib.Omega.{arith}
 use lib.ListN.{length}
-use Rattle.model.specs.Positions.{Positions}
-use Rattle.model.specs.Call.{Fed, Call, feed, Answer}
-use Rattle.model.specs.Model.{step, answers}
-use Rattle.store.specs.Layout.{capacity}
-use Rattle.core.specs.Met.{fedOf}
+use Rattle.model.specs.Call.{Fed, Call, feed, PoolCall, Answer}
+use Rattle.model.specs.Pools.{PlainWorld, step, answers}
+use Rattle.core.specs.Met.{fedAt}
 use Rattle.frame.specs.declared.entry.Kind.{Kind}
 use Rattle.frame.specs.declared.entry.Entry.{Entry}
-use Rattle.frame.specs.Records.{kindOf, callBy, callOf, callsFrom, callsOf, recordsOf}
-use Rattle.frame.specs.Frame.{frameOf, frameOutcome}
+use Rattle.frame.specs.Records.{kindOf, callBy, callOf, callsFrom, recordsOf}
 
 -- ---- what the model is fed
 fed-kind : {S T : Type 0} (f : S → T) (k : Kind) (e : Entry) → feed f (callBy k e) ≡ callBy k e
-fed-kind f Kind.New e = refl
+fed-kind f Kind.Empty e = refl
 fed-kind f Kind.Set e = refl
 fed-kind f Kind.Flip e = refl
 fed-kind f Kind.Shift e = refl
@@ -32,13 +29,8 @@ fed-kind f Kind.DrawBack e = refl
 fed-kind f Kind.Fill e = refl
 fed-kind f Kind.Get e = refl
 
-pub fed-same : (e : Entry) → feed fedOf (callOf e) ≡ callOf e
-fed-same e = fed-kind fedOf (kindOf (e .call)) e
-
--- what the model says of a frame, by what its store is fed as
-pub fed-as : (w fs out : List ℕ) (s : Fed) → fedOf w ≡ s → frameOutcome w fs out ≡ frameOf (capacity w) s (callsOf fs) out
-unfolding frameOutcome
-fed-as w fs out s e = ap (λ f. frameOf (capacity w) f (callsOf fs) out) e
+pub fed-same : (e : Entry) → feed fedAt (callOf e) ≡ callOf e
+fed-same e = fed-kind fedAt (kindOf (e .call)) e
 
 -- ---- lengths
 pub calls-length : (ws : List ℕ) (i n : ℕ) → length (callsFrom {S = Fed} ws i n) ≡ n
@@ -46,10 +38,10 @@ unfolding callsFrom
 calls-length ws i zero = refl
 calls-length ws i (suc n) = ap suc (calls-length ws (suc i) n)
 
-pub answers-length : (C : ℕ) (P : Positions) (cs : List (Call Fed)) → length (answers C P cs) ≡ length cs
+pub answers-length : (C : ℕ) (ws : List PlainWorld) (cs : List (PoolCall Fed)) → length (answers C ws cs) ≡ length cs
 unfolding answers
-answers-length C P [] = refl
-answers-length C P (c ∷ cs) = ap suc (answers-length C ((step C P c) .positions) cs)
+answers-length C ws [] = refl
+answers-length C ws (c ∷ cs) = ap suc (answers-length C ((step C ws c) .worlds) cs)
 
 -- a record is eight words
 pub records-length : (rs : List Answer) → length (recordsOf rs) ≡ 8 * length rs

@@ -1,4 +1,4 @@
--- The loop of `play`: after i records the store holds the positions that the model has then, and the slice starts with the records of what
+-- The loop of `play`: after i records the pool holds the worlds that the model has then, and the slice starts with the records of what
 -- the model answered so far. Assumes nothing.
 use Prim.Native.Nat.{ℕ, suc, _+_, _-_, _*_, _≤_, _<_}
 use mathlib.Core.Path.{_≡_, refl, sym, ap, ap₂, _∙_, subst}
@@ -6,69 +6,69 @@ use mathlib.Core.List.{List, [], _∷_, _++_, append-assoc, append-nil}
 use native.Mathlib.Omega.{arith}
 use lib.ListN.{length, length-append}
 use Rattle.model.specs.Positions.{Positions}
-use Rattle.model.specs.Call.{Fed, Call, Answer, refused, gave}
-use Rattle.model.specs.Model.{step, answers, after}
-use Rattle.store.specs.Layout.{capacity, heldBy}
+use Rattle.model.specs.Call.{Fed, PoolCall, at, Answer, refused, gave}
+use Rattle.model.specs.Pools.{PlainWorld, step, answers, after}
+use Rattle.store.specs.Layout.{capacity, worldsOf}
+use Rattle.store.specs.Soundness.{Sound}
 use Rattle.written.specs.Placed.{placed}
 use Rattle.written.proofs.Placing.{placed-nil, placed-length, placed-placed, placed-front}
 use Rattle.model.specs.Bytes.{intoFront}
-use Rattle.core.specs.Met.{Readable, Leaves, Met}
-use Rattle.core.proofs.Meeting.{fed-sound}
+use Rattle.core.specs.Met.{Leaves, Met}
 use Rattle.core.proofs.Simulation.{Holds, answer-is, step-holds}
 use Rattle.frame.specs.declared.entry.Entry.{Entry}
 use Rattle.flat.specs.declared.Reply.{Reply}
 use Rattle.flat.specs.Flat.{replyOf}
-use Rattle.frame.specs.Records.{entryAt, callOf, callsFrom, wordsOf, recordsOf}
+use Rattle.frame.specs.Records.{entryAt, callOf, poolCallOf, callsFrom, wordsOf, recordsOf}
 use Rattle.frame.specs.Serving.{Serves, Plays}
 use Rattle.frame.proofs.FedCalls.{fed-same, records-length}
 
 -- after i of n records, the words are v and the slice is o
 pub record Playing (w cs out : List ℕ) (n i : ℕ) (v o : List ℕ) : Type 0 where
   pub most : i ≤ n
-  pub positions : Positions
+  pub worlds : List PlainWorld
   pub said : List Answer
   pub many : length said ≡ i
-  pub kept : Holds (capacity w) positions v
+  pub kept : Holds (capacity w) worlds v
   pub long : length v ≡ length w
   pub wrote : o ≡ placed 0 (recordsOf said) out
-  pub answered : answers (capacity w) (heldBy w) (callsFrom cs 0 n) ≡ said ++ answers (capacity w) positions (callsFrom cs i (n - i))
-  pub after-all : after (capacity w) (heldBy w) (callsFrom cs 0 n) ≡ after (capacity w) positions (callsFrom cs i (n - i))
+  pub answered : answers (capacity w) (worldsOf w) (callsFrom cs 0 n) ≡ said ++ answers (capacity w) worlds (callsFrom cs i (n - i))
+  pub after-all : after (capacity w) (worldsOf w) (callsFrom cs 0 n) ≡ after (capacity w) worlds (callsFrom cs i (n - i))
 
 -- ---- one call
 -- what a call leaves is as long as before
-left-long : (w w′ : List ℕ) (P : Positions) (a : Answer) → Leaves w w′ P a → length w′ ≡ length w
-left-long w w′ P (refused n) l = ap length l
-left-long w w′ P (gave r) l = l .long
+left-long : (w w′ : List ℕ) (i : ℕ) (P : Positions) (a : Answer) → Leaves w w′ i P a → length w′ ≡ length w
+left-long w w′ i P (refused n) l = ap length l
+left-long w w′ i P (gave r) l = l .long
 
-module _ {C : ℕ} {P : Positions} {w w′ : List ℕ} {a : Answer} (e : Entry) (H : Holds C P w) (m : Met w (callOf e) a w′) where
+module _ {C : ℕ} {ws : List PlainWorld} {w w′ : List ℕ} {a : Answer} (e : Entry) (H : Holds C ws w) (m : Met w (e .world) (callOf e) a w′) where
   -- a record is answered as the model answers its call
-  answer-of : a ≡ (step C P (callOf e)) .answer
-  answer-of = answer-is H m ∙ ap (λ c. (step C P c) .answer) (fed-same e)
+  answer-of : a ≡ (step C ws (poolCallOf e)) .answer
+  answer-of = answer-is H m ∙ ap (λ c. (step C ws (at (e .world) c)) .answer) (fed-same e)
 
   -- and leaves what the model does
-  holds-of : Holds C ((step C P (callOf e)) .positions) w′
-  holds-of = subst (λ c. Holds C ((step C P c) .positions) w′) (fed-same e) (step-holds H m)
+  holds-of : Holds C ((step C ws (poolCallOf e)) .worlds) w′
+  holds-of = subst (λ c. Holds C ((step C ws (at (e .world) c)) .worlds) w′) (fed-same e) (step-holds H m)
 
 -- ---- lists
 -- one record, and those after it
-calls-next : (cs : List ℕ) (i n : ℕ) → i < n → callsFrom {S = Fed} cs i (n - i) ≡ callOf (entryAt cs i) ∷ callsFrom cs (i + 1) (n - (i + 1))
+calls-next : (cs : List ℕ) (i n : ℕ) → i < n → callsFrom {S = Fed} cs i (n - i) ≡ poolCallOf (entryAt cs i) ∷ callsFrom cs (i + 1) (n - (i + 1))
 unfolding callsFrom
 calls-next cs i n h =
     let e : n - i ≡ suc (n - (i + 1)) = omega arith in
     let f : suc i ≡ i + 1 = omega arith in
-    ap (callsFrom cs i) e ∙ ap (λ k. callOf (entryAt cs i) ∷ callsFrom cs k (n - (i + 1))) f
+    ap (callsFrom cs i) e ∙ ap (λ k. poolCallOf (entryAt cs i) ∷ callsFrom cs k (n - (i + 1))) f
 
 -- none are left
 calls-none : (cs : List ℕ) (i n : ℕ) → n ≤ i → callsFrom {S = Fed} cs i (n - i) ≡ []
 unfolding callsFrom
 calls-none cs i n h = let e : n - i ≡ 0 = omega arith in ap (callsFrom cs i) e
 
-module _ (C : ℕ) (P : Positions) (c : Call Fed) (cs : List (Call Fed)) where
-  answers-cons : answers C P (c ∷ cs) ≡ (step C P c) .answer ∷ answers C ((step C P c) .positions) cs
+module _ (C : ℕ) (ws : List PlainWorld) (c : PoolCall Fed) (cs : List (PoolCall Fed)) where
+  answers-cons : answers C ws (c ∷ cs) ≡ (step C ws c) .answer ∷ answers C ((step C ws c) .worlds) cs
   unfolding answers
   answers-cons = refl
 
-  after-cons : after C P (c ∷ cs) ≡ after C ((step C P c) .positions) cs
+  after-cons : after C ws (c ∷ cs) ≡ after C ((step C ws c) .worlds) cs
   unfolding after
   after-cons = refl
 
@@ -80,26 +80,26 @@ records-more (b ∷ rs) a = ap (λ l. wordsOf (replyOf b) ++ l) (records-more rs
 
 -- ---- the loop
 -- at first
-pub none-played : {w : List ℕ} (cs out : List ℕ) (n : ℕ) → Readable w → Playing w cs out n 0 w out
+pub none-played : {w : List ℕ} (cs out : List ℕ) (n : ℕ) → Sound w → Playing w cs out n 0 w out
 unfolding recordsOf
-none-played {w} cs out n R =
+none-played {w} cs out n S =
     let e : n ≡ n - 0 = omega arith in
     record {
       most = omega arith;
-      positions = heldBy w;
+      worlds = worldsOf w;
       said = [];
       many = refl;
-      kept = record { sound = R .sound; sized = refl; held = refl };
+      kept = record { sound = S; sized = refl; held = refl };
       long = refl;
       wrote = sym (placed-nil 0 out);
-      answered = ap (λ k. answers (capacity w) (heldBy w) (callsFrom cs 0 k)) e;
-      after-all = ap (λ k. after (capacity w) (heldBy w) (callsFrom cs 0 k)) e;
+      answered = ap (λ k. answers (capacity w) (worldsOf w) (callsFrom cs 0 k)) e;
+      after-all = ap (λ k. after (capacity w) (worldsOf w) (callsFrom cs 0 k)) e;
     }
 
 module _ {w cs out v o : List ℕ} {n i : ℕ} (I : Playing w cs out n i v o) where
-  -- the store can be read on
-  pub playing-readable : Readable v
-  playing-readable = fed-sound v (I .kept .sound)
+  -- the pool stays sound
+  pub playing-sound : Sound v
+  playing-sound = I .kept .sound
 
   -- the slice is as long as before
   pub playing-wide : 8 * n ≤ length out → length o ≡ length out
@@ -116,20 +116,20 @@ module _ {w cs out v o : List ℕ} {n i : ℕ} (I : Playing w cs out n i v o) wh
         ∙ ap (λ s. placed 0 s out) (sym (records-more (I .said) a))
 
     -- one more record is served
-    one-more : {a : Answer} {v′ o′ : List ℕ} → Met v (callOf (entryAt cs i)) a v′ → o′ ≡ placed (8 * i) (wordsOf (replyOf a)) o → Playing w cs out n (i + 1) v′ o′
+    one-more : {a : Answer} {v′ o′ : List ℕ} → Met v ((entryAt cs i) .world) (callOf (entryAt cs i)) a v′ → o′ ≡ placed (8 * i) (wordsOf (replyOf a)) o → Playing w cs out n (i + 1) v′ o′
     one-more {a} m p =
         let C = capacity w in
-        let P = I .positions in
-        let c : Call Fed = callOf (entryAt cs i) in
-        let ds : List (Call Fed) = callsFrom cs (i + 1) (n - (i + 1)) in
-        let Q = (step C P c) .positions in
+        let P = I .worlds in
+        let c : PoolCall Fed = poolCallOf (entryAt cs i) in
+        let ds : List (PoolCall Fed) = callsFrom cs (i + 1) (n - (i + 1)) in
+        let Q = (step C P c) .worlds in
         record {
           most = omega arith;
-          positions = Q;
+          worlds = Q;
           said = I .said ++ a ∷ [];
           many = length-append (I .said) (a ∷ []) ∙ ap (λ k. k + 1) (I .many);
           kept = holds-of (entryAt cs i) (I .kept) m;
-          long = left-long _ _ _ a (m .left) ∙ I .long;
+          long = left-long _ _ _ _ a (m .left) ∙ I .long;
           wrote = more-wrote a p;
           answered =
               I .answered
@@ -140,16 +140,16 @@ module _ {w cs out v o : List ℕ} {n i : ℕ} (I : Playing w cs out n i v o) wh
 
     pub more-played : {e : Entry} {r : Reply} {v′ o′ : List ℕ} → e ≡ entryAt cs i → Serves v e r v′ → o′ ≡ placed (8 * i) (wordsOf r) o → Playing w cs out n (i + 1) v′ o′
     more-played {v′ = v′} p (a, m, f) q =
-        one-more (subst (λ d. Met v (callOf d) a v′) p m) (q ∙ ap (λ s. placed (8 * i) (wordsOf s) o) f)
+        one-more (subst (λ d. Met v (d .world) (callOf d) a v′) p m) (q ∙ ap (λ s. placed (8 * i) (wordsOf s) o) f)
 
   -- at last
   pub all-played : n ≤ i → Plays w cs out n v o
   unfolding answers after
   all-played h =
       let C = capacity w in
-      let s : answers C (heldBy w) (callsFrom cs 0 n) ≡ I .said = I .answered ∙ ap (λ l. I .said ++ answers C (I .positions) l) (calls-none cs i n h) ∙ append-nil (I .said) in
-      let p : after C (heldBy w) (callsFrom cs 0 n) ≡ I .positions = I .after-all ∙ ap (after C (I .positions)) (calls-none cs i n h) in
+      let s : answers C (worldsOf w) (callsFrom cs 0 n) ≡ I .said = I .answered ∙ ap (λ l. I .said ++ answers C (I .worlds) l) (calls-none cs i n h) ∙ append-nil (I .said) in
+      let p : after C (worldsOf w) (callsFrom cs 0 n) ≡ I .worlds = I .after-all ∙ ap (after C (I .worlds)) (calls-none cs i n h) in
       record {
-        settled = record { sound = I .kept .sound; holds = λ x l. ap (λ Q. Q x) (I .kept .held ∙ sym p); long = I .long };
+        pooled = record { sound = I .kept .sound; worlds = I .kept .held ∙ sym p; long = I .long };
         wrote = I .wrote ∙ placed-front (recordsOf (I .said)) out ∙ ap (λ rs. intoFront (recordsOf rs) out) (sym s);
       }

@@ -7,14 +7,14 @@ use lib.Dec.{eqb}
 use lib.ListN.{length, getD}
 use Rattle.model.specs.declared.Bound.{Bound}
 use Rattle.model.specs.declared.Listing.{Listing}
-use Rattle.model.specs.Call.{Call, Answer}
+use Rattle.model.specs.Call.{Call, PoolCall, at, Answer}
 use Rattle.frame.specs.declared.entry.Kind.{Kind}
 use Rattle.frame.specs.declared.entry.Entry.{Entry}
 use Rattle.flat.specs.declared.Reply.{Reply}
 use Rattle.flat.specs.Flat.{boundBy, truth, replyOf}
 
 -- ---- calls
--- the words of record i; the eighth is not read
+-- the words of record i
 unfoldable pub entryAt : List ℕ → ℕ → Entry
 entryAt ws i = record {
   call = getD ws (8 * i) 0;
@@ -24,12 +24,13 @@ entryAt ws i = record {
   upto = getD ws (8 * i + 4) 0;
   value = getD ws (8 * i + 5) 0;
   k = getD ws (8 * i + 6) 0;
+  world = getD ws (8 * i + 7) 0;
 }
 
 -- the call that a number names: 1 to 13, and any other is a get
 unfoldable pub kindOf : ℕ → Kind
 kindOf n =
-    cond (eqb n 1) Kind.New
+    cond (eqb n 1) Kind.Empty
     (cond (eqb n 2) Kind.Set
     (cond (eqb n 3) Kind.Flip
     (cond (eqb n 4) Kind.Shift
@@ -54,7 +55,7 @@ listingBy e = record { first = e .from; last = e .upto; value = truth (e .value)
 
 -- the call of each kind, with its arguments
 abbrev pub callBy : {S : Type 0} → Kind → Entry → Call S
-callBy Kind.New e = Call.make
+callBy Kind.Empty e = Call.build []
 callBy Kind.Set e = Call.set (lowerOf e) (upperOf e) (truth (e .value))
 callBy Kind.Flip e = Call.flip (lowerOf e) (upperOf e)
 callBy Kind.Shift e = Call.shift (e .from) (truth (e .value))
@@ -69,16 +70,20 @@ callBy Kind.DrawBack e = Call.drawBack (listingBy e)
 callBy Kind.Fill e = Call.fill (e .from) (e .upto)
 callBy Kind.Get e = Call.get (e .from)
 
+-- on the world that the record names
 abbrev pub callOf : {S : Type 0} → Entry → Call S
 callOf e = callBy (kindOf (e .call)) e
 
+abbrev pub poolCallOf : {S : Type 0} → Entry → PoolCall S
+poolCallOf e = at (e .world) (callOf e)
+
 -- n records from record i on
-unfoldable pub callsFrom : {S : Type 0} → List ℕ → ℕ → ℕ → List (Call S)
+unfoldable pub callsFrom : {S : Type 0} → List ℕ → ℕ → ℕ → List (PoolCall S)
 callsFrom ws i zero = []
-callsFrom ws i (suc n) = callOf (entryAt ws i) ∷ callsFrom ws (suc i) n
+callsFrom ws i (suc n) = poolCallOf (entryAt ws i) ∷ callsFrom ws (suc i) n
 
 -- all whole records
-unfoldable pub callsOf : {S : Type 0} → List ℕ → List (Call S)
+unfoldable pub callsOf : {S : Type 0} → List ℕ → List (PoolCall S)
 callsOf ws = callsFrom ws 0 (length ws / 8)
 
 -- ---- answers

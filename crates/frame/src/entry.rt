@@ -1,11 +1,11 @@
 // What a record of a call means. Every record means a call: a number that names none is a get, a bound of another kind is none, and a truth
-// value is anything but 0. The last word of a record is not read.
+// value is anything but 0. The last word of a record names the world.
 ghost use mathlib.Core.Path.{_≡_};
 ghost use Rattle.frame.specs.Records.{kindOf};
 
 // Which call it is.
 pub enum Kind {
-    New,
+    Empty,
     Set,
     Flip,
     Shift,
@@ -32,6 +32,7 @@ pub struct Entry {
     pub upto: u64,
     pub value: u64,
     pub k: u64,
+    pub world: u64,
 }
 
 // The call that a number names.
@@ -39,7 +40,7 @@ pub fn named(n: u64) -> Kind
     ensures { λ r. ⌜ r ≡ kindOf n ⌝ }
 {
     if n == 1 {
-        return Kind::New;
+        return Kind::Empty;
     }
     if n == 2 {
         return Kind::Set;

@@ -1,10 +1,12 @@
-// A frame's calls at once: one look at the store, then every call of a list on it, in order; refused calls too, each answered by its number.
+// A frame's calls at once: one look at the pool, then every call of a list on its worlds, in order; refused calls too, each answered by its
+// number.
 // Calls and answers are records of eight words.
 ghost use mathlib.Core.Path.{_≡_};
 ghost use Prim.Native.Nat.{_+_, _*_, _≤_};
 ghost use lib.ListN.{length};
 ghost use Rattle.model.specs.Answers.{completedAnswer};
 ghost use Rattle.written.specs.Placed.{placed};
+ghost use Rattle.store.specs.Soundness.{Sound};
 ghost use Rattle.core.specs.Met.{Readable};
 ghost use Rattle.frame.specs.Frame.{Framed};
 ghost use Rattle.frame.specs.Records.{entryAt, wordsOf};
@@ -33,31 +35,40 @@ fn read(calls: &[u64], i: usize) -> Entry
         upto: calls[at + 4],
         value: calls[at + 5],
         k: calls[at + 6],
+        world: calls[at + 7],
     }
 }
 
-// Serves one call on a store that is known to be sound.
-fn serve(words: &mut [u64], e: Entry) -> Reply
-    requires { ⌜ Readable (now words) ⌝ }
+// Serves one call on a world that was opened, of a pool that is known to be sound.
+fn serve_world(words: &mut [u64], e: Entry) -> Reply
+    requires { ⌜ Readable (now words) (e .world) ⌝ }
     ensures { λ r. ⌜ Serves (now (words .entry)) e r (now (words .exit)) ⌝ }
 {
     let lower = flat::bound(e.lower, e.from);
     let upper = flat::bound(e.upper, e.upto);
     let value = e.value != 0;
+    let world = e.world;
     let k = entry::named(e.call);
     match k {
-        Kind::New => flat::completed(interval_bit_set::make::new(words)),
-        Kind::Set => flat::counted(core::change::set(words, lower, upper, value)),
-        Kind::Flip => flat::completed(core::change::flip(words, lower, upper)),
-        Kind::Shift => flat::completed(core::change::shift(words, e.from, value)),
-        Kind::RunAt => flat::around(core::report::run_at(words, e.from)),
-        Kind::Find => flat::found(core::report::find(words, lower, upper, value)),
-        Kind::Count => flat::counted(core::report::count(words, lower, upper, value)),
-        Kind::Select => flat::found(core::report::select(words, lower, upper, value, e.k)),
-        Kind::CountRanges => flat::numbered(core::report::count_ranges(words, lower, upper, value)),
-        Kind::Ranges => flat::listed(core::report::ranges(words, lower, upper, value)),
+        Kind::Empty => flat::completed(core::change::empty(words, world)),
+        Kind::Set => flat::counted(core::change::set(words, world, lower, upper, value)),
+        Kind::Flip => flat::completed(core::change::flip(words, world, lower, upper)),
+        Kind::Shift => flat::completed(core::change::shift(words, world, e.from, value)),
+        Kind::RunAt => flat::around(core::report::run_at(words, world, e.from)),
+        Kind::Find => flat::found(core::report::find(words, world, lower, upper, value)),
+        Kind::Count => flat::counted(core::report::count(words, world, lower, upper, value)),
+        Kind::Select => flat::found(core::report::select(words, world, lower, upper, value, e.k)),
+        Kind::CountRanges => flat::numbered(core::report::count_ranges(
+            words,
+            world,
+            lower,
+            upper,
+            value,
+        )),
+        Kind::Ranges => flat::listed(core::report::ranges(words, world, lower, upper, value)),
         Kind::DrawFront => flat::drawn(core::listing::draw_front(
             words,
+            world,
             Listing {
                 first: e.from,
                 last: e.upto,
@@ -66,15 +77,27 @@ fn serve(words: &mut [u64], e: Entry) -> Reply
         )),
         Kind::DrawBack => flat::drawn(core::listing::draw_back(
             words,
+            world,
             Listing {
                 first: e.from,
                 last: e.upto,
                 value: value,
             },
         )),
-        Kind::Fill => flat::numbered(core::report::fill(words, e.from, e.upto)),
-        Kind::Get => flat::tested(core::report::get(words, e.from)),
+        Kind::Fill => flat::numbered(core::report::fill(words, world, e.from, e.upto)),
+        Kind::Get => flat::tested(core::report::get(words, world, e.from)),
     }
+}
+
+// Serves one call on a pool that is known to be sound: 12 stands in the answer where the world was not opened.
+fn serve(words: &mut [u64], e: Entry) -> Reply
+    requires { ⌜ Sound (now words) ⌝ }
+    ensures { λ r. ⌜ Serves (now (words .entry)) e r (now (words .exit)) ⌝ }
+{
+    if e.world >= store::opened(words) {
+        return flat::completed(Completed::Refused(Refusal::WorldUnopened));
+    }
+    serve_world(words, e)
 }
 
 // Writes a reply as the record i of a list: its fields in their order, and a 0.
@@ -93,7 +116,7 @@ fn put(answers: &mut [u64], i: usize, r: Reply)
     answers[at + 7] = 0;
 }
 
-// Serves the first n records of a list on a store that is known to be sound.
+// Serves the first n records of a list on a pool that is known to be sound.
 fn play(words: &mut [u64], calls: &[u64], answers: &mut [u64], n: usize)
     requires { ⌜ Playable (now words) (now calls) (now answers) n ⌝ }
     ensures { λ _. ⌜ Plays (now (words .entry)) (now (calls .entry)) (now (answers .entry)) n (now (words .exit)) (now (answers .exit)) ⌝ }
@@ -107,11 +130,11 @@ fn play(words: &mut [u64], calls: &[u64], answers: &mut [u64], n: usize)
     }
 }
 
-// Serves every call of a list. Refused with 1 or 7 of the store, or with 2 where the answers do not fit; then nothing has changed.
+// Serves every call of a list. Refused with 1 or 7 of the pool, or with 2 where the answers do not fit; then nothing has changed.
 pub fn frame(words: &mut [u64], calls: &[u64], answers: &mut [u64]) -> Completed
     ensures { λ r. ⌜ Framed (now (words .entry)) (now (calls .entry)) (now (answers .entry)) (completedAnswer r) (now (words .exit)) (now (answers .exit)) ⌝ }
 {
-    let l = interval_bit_set::look::look_at(words);
+    let l = interval_bit_set::look::look_at_pool(words);
     match l {
         Look::Refused(r) => Completed::Refused(r),
         Look::Sound => {

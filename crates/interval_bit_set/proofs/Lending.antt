@@ -13,7 +13,7 @@ use Rattle.model.specs.Answers.{drawnAnswer}
 use Rattle.model.specs.Positions.{firstRun, lastRun, remaining, pastFirst, pastLast}
 use Rattle.model.specs.Call.{Call, Answer, refused, gave, drawn}
 use Rattle.interval_bit_set.specs.declared.listing.Draw.{Draw}
-use Rattle.core.specs.Met.{outcomeOf, Met}
+use Rattle.core.specs.Met.{Site, outcomeOf, Met}
 use Rattle.interval_bit_set.specs.Lent.{listingOf, movedBy, Draws}
 use Rattle.core.proofs.Meeting.{refused-not, answers-all, draw-front-says, draw-back-says}
 
@@ -47,28 +47,28 @@ module _ (l : Listing) where
   past-last none = refl
   past-last (some r) = chosen (l .value) (ltb (l .first) (r .start)) _ _ refl refl
 
-module _ (draw : Listing → Call (List ℕ)) (w : List ℕ) (l : Listing) (same : Valued (l .value) ((outcomeOf w (draw l)) .answer)) where
+module _ (draw : Listing → Call Site) (w : List ℕ) (i : ℕ) (l : Listing) (same : Valued (l .value) ((outcomeOf w i (draw l)) .answer)) where
   -- the listing that a draw by value answered, told by its ends
-  told : (d : Drawn) → Met w (draw l) (drawnAnswer d) w → Draws draw w l ((movedBy d (l .first) (l .last)) .next) (listingOf ((movedBy d (l .first) (l .last)) .first) ((movedBy d (l .first) (l .last)) .last) (l .value))
+  told : (d : Drawn) → Met w i (draw l) (drawnAnswer d) w → Draws draw w i l ((movedBy d (l .first) (l .last)) .next) (listingOf ((movedBy d (l .first) (l .last)) .first) ((movedBy d (l .first) (l .last)) .last) (l .value))
   told (Drawn.Refused r) m = record { met = m; unmoved = refl }
   told (Drawn.Run r k) m = record {
-    met = subst (λ v. Met w (draw l) (gave (drawn (some r) (listingOf (k .first) (k .last) v))) w) (same (some r) k (sym (m .answered))) m;
+    met = subst (λ v. Met w i (draw l) (gave (drawn (some r) (listingOf (k .first) (k .last) v))) w) (same (some r) k (sym (m .answered))) m;
     unmoved = tt;
   }
   told (Drawn.End k) m = record {
-    met = subst (λ v. Met w (draw l) (gave (drawn none (listingOf (k .first) (k .last) v))) w) (same none k (sym (m .answered))) m;
+    met = subst (λ v. Met w i (draw l) (gave (drawn none (listingOf (k .first) (k .last) v))) w) (same none k (sym (m .answered))) m;
     unmoved = tt;
   }
 
   -- the same of what was made of that answer
-  drew : (d : Drawn) {r : Draw} → Met w (draw l) (drawnAnswer d) w → r ≡ movedBy d (l .first) (l .last) → Draws draw w l (r .next) (listingOf (r .first) (r .last) (l .value))
-  drew d m e = subst (λ (s : Draw). Draws draw w l (s .next) (listingOf (s .first) (s .last) (l .value))) (sym e) (told d m)
+  drew : (d : Drawn) {r : Draw} → Met w i (draw l) (drawnAnswer d) w → r ≡ movedBy d (l .first) (l .last) → Draws draw w i l (r .next) (listingOf (r .first) (r .last) (l .value))
+  drew d m e = subst (λ (s : Draw). Draws draw w i l (s .next) (listingOf (s .first) (s .last) (l .value))) (sym e) (told d m)
 
-module _ (w : List ℕ) (l : Listing) (d : Drawn) {r : Draw} where
+module _ (w : List ℕ) (i : ℕ) (l : Listing) (d : Drawn) {r : Draw} where
   -- a draw from the front
-  pub drew-front : Met w (Call.drawFront l) (drawnAnswer d) w → r ≡ movedBy d (l .first) (l .last) → Draws Call.drawFront w l (r .next) (listingOf (r .first) (r .last) (l .value))
-  drew-front = drew Call.drawFront w l (answers-all (Valued (l .value)) (draw-front-says w l) (refused-valued (l .value)) (λ P. drawn-valued _ _ (past-first l (firstRun (remaining P l))))) d
+  pub drew-front : Met w i (Call.drawFront l) (drawnAnswer d) w → r ≡ movedBy d (l .first) (l .last) → Draws Call.drawFront w i l (r .next) (listingOf (r .first) (r .last) (l .value))
+  drew-front = drew Call.drawFront w i l (answers-all (Valued (l .value)) (draw-front-says w i l) (refused-valued (l .value)) (λ P. drawn-valued _ _ (past-first l (firstRun (remaining P l))))) d
 
   -- and from the back
-  pub drew-back : Met w (Call.drawBack l) (drawnAnswer d) w → r ≡ movedBy d (l .first) (l .last) → Draws Call.drawBack w l (r .next) (listingOf (r .first) (r .last) (l .value))
-  drew-back = drew Call.drawBack w l (answers-all (Valued (l .value)) (draw-back-says w l) (refused-valued (l .value)) (λ P. drawn-valued _ _ (past-last l (lastRun (remaining P l))))) d
+  pub drew-back : Met w i (Call.drawBack l) (drawnAnswer d) w → r ≡ movedBy d (l .first) (l .last) → Draws Call.drawBack w i l (r .next) (listingOf (r .first) (r .last) (l .value))
+  drew-back = drew Call.drawBack w i l (answers-all (Valued (l .value)) (draw-back-says w i l) (refused-valued (l .value)) (λ P. drawn-valued _ _ (past-last l (lastRun (remaining P l))))) d

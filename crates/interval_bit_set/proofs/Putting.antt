@@ -2,18 +2,18 @@
 -- slice. Assumes nothing.
 use Prim.Native.Nat.{ℕ, _≤_}
 use mathlib.Core.Path.{_≡_, refl, sym, subst}
-use mathlib.Core.Bool.{false}
 use mathlib.Core.List.{List}
+use mathlib.Core.Option.{none}
 use native.Mathlib.Omega.{arith}
 use lib.ListN.{length, take, drop, length-append}
 use Rattle.model.specs.declared.Refusal.{Refusal}
 use Rattle.model.specs.declared.Written.{Written}
 use Rattle.model.specs.Positions.{Positions}
 use Rattle.model.specs.Bytes.{intoFront}
-use Rattle.model.specs.Refusals.{storeLength, Condition, given}
+use Rattle.model.specs.Refusals.{looks, Condition, firstGiven}
 use Rattle.model.specs.Answers.{writtenAnswer}
 use Rattle.model.specs.Call.{Call, Answer, gave, written}
-use Rattle.core.specs.Met.{outcomeOf}
+use Rattle.core.specs.Met.{Site, outcomeOf}
 use Rattle.core.specs.Out.{WritesOut}
 use Rattle.core.proofs.Meeting.{refused-not, answers-all}
 use Rattle.core.proofs.Putting.{Puts}
@@ -23,9 +23,9 @@ use Rattle.interval_bit_set.specs.Look.{Looked}
 use Rattle.interval_bit_set.specs.Out.{codeOf, frontOf, flatOf}
 use Rattle.interval_bit_set.proofs.Looking.{turned-away}
 
--- a store that looking refuses
-pub put-turned : {w : List ℕ} {c : List ℕ → Call (List ℕ)} {cs : List Condition} {B : Positions → List ℕ} {out : List ℕ} {r : Refusal} → Puts w c cs B out → (l : Look) → Looked w l
-    → l ≡ Look.Refused r → given storeLength cs ≡ false → WritesOut c w out (Written.Refused r) out
+-- a world that looking refuses
+pub put-turned : {w : List ℕ} {i : ℕ} {c : List ℕ → Call Site} {cs : List Condition} {B : Positions → List ℕ} {out : List ℕ} {r : Refusal} → Puts w i c cs B out → (l : Look) → Looked w i l
+    → l ≡ Look.Refused r → firstGiven looks cs ≡ none → WritesOut c w i out (Written.Refused r) out
 put-turned puts l k e g = record { met = turned-away (puts .says) l k e g; unwritten = refl }
 
 -- ---- what is handed back
@@ -57,9 +57,10 @@ flattens (Written.Refused r) out h = record { code = refl; front = refl; within 
 flattens (Written.Bytes n) out h = record { code = refl; front = refl; within = h n out refl }
 
 -- so what it wrote is told by them
-pub put-flat : {w : List ℕ} {c : List ℕ → Call (List ℕ)} {cs : List Condition} {B : Positions → List ℕ} {out : List ℕ} → Puts w c cs B out → (r : Written) {out′ : List ℕ} {f : Flat}
-    → WritesOut c w out r out′ → f ≡ flatOf r → Flattens ((outcomeOf w (c out)) .answer) f out′
-put-flat {w} {c} {cs} {B} {out} puts r {out′} {f} o e =
-    let k : writtenAnswer r out′ ≡ (outcomeOf w (c out)) .answer = o .met .answered in
-    let h : Within ((outcomeOf w (c out)) .answer) = answers-all Within (puts .says) (λ n m bs q. absurd (refused-not q)) (λ P. written-within _ _ (front-within (B P) out)) in
-    subst (λ (g : Flat). Flattens ((outcomeOf w (c out)) .answer) g out′) (sym e) (subst (λ a. Flattens a (flatOf r) out′) k (flattens r out′ (subst Within (sym k) h)))
+pub put-flat : {w : List ℕ} {i : ℕ} {c : List ℕ → Call Site} {cs : List Condition} {B : Positions → List ℕ} {out : List ℕ} → Puts w i c cs B out → (r : Written) {out′ : List ℕ} {f : Flat}
+    → WritesOut c w i out r out′ → f ≡ flatOf r → Flattens ((outcomeOf w i (c out)) .answer) f out′
+put-flat {w} {i} {c} {cs} {B} {out} puts r {out′} {f} o e =
+    let a : Answer = (outcomeOf w i (c out)) .answer in
+    let k : writtenAnswer r out′ ≡ a = o .met .answered in
+    let h : Within a = answers-all Within (puts .says) (λ n m bs q. absurd (refused-not q)) (λ P. written-within _ _ (front-within (B P) out)) in
+    subst (λ (g : Flat). Flattens a g out′) (sym e) (subst (λ b. Flattens b (flatOf r) out′) k (flattens r out′ (subst Within (sym k) h)))

@@ -1,50 +1,57 @@
--- A store made of a lent slice of runs: each turn of the two loops takes one run more, and what both end with, the tests between them and
+-- A world given a lent slice of runs: each turn of the two loops takes one run more, and what both end with, the tests between them and
 -- the two ends of laying are together the call's contract. The list's order is that of what is left, after what was seen. Assumes nothing.
-use Prim.Native.Nat.{ℕ, suc, _+_, _≤_, _<_, _^_}
-use mathlib.Core.Path.{_≡_, refl, sym, ap, ap₂, _∙_, subst}
+use Prim.Native.Nat.{ℕ, suc, _+_, _*_, _≤_, _<_, _^_}
+use mathlib.Core.Path.{_≡_, refl, sym, ap, ap₂, _∙_, subst, subst₂}
 use mathlib.Core.Bool.{Bool, true, false, _&&_, and-true, not}
 use mathlib.Core.List.{List, [], _∷_, _++_}
 use mathlib.Core.Option.{none, some}
 use native.Mathlib.Omega.{arith}
-use lib.Dec.{leb, ltb, eqb}
+use lib.Dec.{leb}
 use lib.ListN.{length, take, drop, getD, drop-of-length-le}
 use lib.Seq.{drop-cons, take-suc, take-all}
-use borrow.Author.Tests.{eq-eqb, ne-eqb, lt-ltb}
+use borrow.Author.Tests.{lt-ltb}
 use Rattle.model.specs.declared.Run.{Run}
+use Rattle.model.specs.declared.Refusal.{Refusal}
 use Rattle.model.specs.declared.Completed.{Completed}
-use Rattle.model.specs.Numbers.{size}
+use Rattle.model.specs.Numbers.{size, refusalNumber}
 use Rattle.model.specs.Positions.{run, mem, stretches}
 use Rattle.model.proofs.Runs.{stretches-is}
 use Rattle.model.specs.RunList.{Canon, AllWords}
 use Rattle.model.proofs.Codec.{ordered-canon}
-use Rattle.model.specs.Refusals.{storeLength, runOrder, _when_, refusal, earnsLength, orderedFrom, disordered, tooMany}
+use Rattle.model.specs.Refusals.{runOrder, _when_, refusal, orderedFrom, disordered, tooMany}
 use Rattle.model.specs.Refusals
-use Rattle.model.specs.Call.{Call}
+use Rattle.model.specs.Call.{Fed, wrongLength, unsound, unopened, holding, Call}
+use Rattle.model.specs.Model.{reads}
 use Rattle.model.specs.Answers.{completedAnswer}
-use Rattle.run_index.specs.Cells.{Room}
-use Rattle.run_index.specs.Strung.{Lays, FreeChain, Filled}
+use Rattle.run_index.specs.Cells.{cellAt}
+use Rattle.run_index.specs.Strung.{Strung, Free, Lays, FreeChain, Filled}
 use Rattle.run_index.proofs.Laying.{filled-none, filled-step, next-room, left-over}
-use Rattle.store.specs.Layout.{capacityOf, capacity, allowance}
+use Rattle.store.specs.Layout.{worldAt, nodes, allowance}
 use Rattle.store.specs.Settle.{Settled}
 use Rattle.store.proofs.Nodes.{node-once}
+use Rattle.store.proofs.Parts.{lent, back, lent-nodes, back-nodes, back-long}
+use Rattle.store.proofs.Worlds.{opened-told}
 use Rattle.written.specs.Listed.{leastAfter}
-use Rattle.core.specs.Met.{fedOf, Met}
-use Rattle.core.specs.Laid.{Begins, Begun, Laying}
-use Rattle.core.proofs.Overwriting.{build-says, refused-due, overwritten}
-use Rattle.core.proofs.Meeting.{fed-length}
+use Rattle.core.specs.Met.{fedOf, fullAt, Met, Readable}
+use Rattle.core.specs.Laid.{OnlyNodes, Begins, Laying}
+use Rattle.core.proofs.Doors.{nodes-there, back-before}
+use Rattle.core.proofs.Meeting.{readable}
+use Rattle.core.proofs.Refusing.{reads-first}
+use Rattle.core.proofs.Changing.{full-above, refused-due, changes-to}
+use Rattle.core.proofs.Overwriting.{build-says}
+use Rattle.interval_bit_set.specs.declared.look.Look.{Look}
 use Rattle.interval_bit_set.specs.declared.runs.Order.{Order}
 use Rattle.interval_bit_set.specs.declared.runs.Verdict.{Verdict}
+use Rattle.interval_bit_set.specs.Look.{lookNumber, Looked}
 use Rattle.interval_bit_set.specs.RunSlice.{
   orderStep,
   InOrder,
   buildConditions,
+  freeFrom,
   Rules,
   Admits,
-  SizedIf,
-  Beginning,
-  freeFrom,
-  BegunFrom,
-  BegunIf,
+  Ready,
+  LaysNext,
   Putting,
   Put,
   FinishableIf,
@@ -107,30 +114,60 @@ seen-all rs {i} {o} h p = record {
 }
 
 -- ---- laying the runs
+-- words that are as they were
+only-same : (w : List ℕ) → OnlyNodes w w
+only-same w = record { before = λ m l. refl; long = refl }
+
+-- only nodes have changed, twice
+only-then : {u v w : List ℕ} → OnlyNodes u v → OnlyNodes v w → OnlyNodes u w
+only-then p q = record { before = λ m l. q .before m l ∙ p .before m l; long = q .long ∙ p .long }
+
 -- of n runs the first i stand in the free nodes from head on, and the next one is for the node q
 pub record Partly (w w′ : List ℕ) (head q : ℕ) (rs : List Run) (n i : ℕ) : Type 0 where
-  pub laid : (ns : List ℕ) → FreeChain w head ns → n ≤ length ns → Filled w w′ head q i ns (take i rs)
+  pub laid : (ns : List ℕ) → FreeChain (nodes w) head ns → n ≤ length ns → Filled (nodes w) (nodes w′) head q i ns (take i rs)
+  pub only : OnlyNodes w w′
   pub none : i ≡ 0 → w′ ≡ w
 
 -- none is laid yet
 pub put-none : (w : List ℕ) (head : ℕ) (rs : List Run) (n : ℕ) → Partly w w head head rs n 0
-put-none w head rs n = record { laid = λ ns c l. filled-none ns c; none = λ e. refl }
+put-none w head rs n = record { laid = λ ns c l. filled-none ns c; only = only-same w; none = λ e. refl }
 
--- there is room for the next one
-pub put-room : {w₀ w : List ℕ} {head q : ℕ} {rs : List Run} {n i : ℕ} → Putting w₀ head rs n → i < n → Partly w₀ w head q rs n i → Room w q
-put-room {w₀} {w} {head} {q} {rs} {n} {i} p h s =
+-- the first of free nodes is not 0
+next-some : (w : List ℕ) (q : ℕ) (ys : List ℕ) → Strung Free w q ys 0 → 1 ≤ length ys → 1 ≤ q
+next-some w q [] c l = absurd (omega arith)
+next-some w q (n ∷ ys) c l = let pos : 1 ≤ n = c .1 in omega (arith, c .0)
+
+-- there is a node for the next one
+pub put-ready : {w₀ w : List ℕ} {head q : ℕ} {rs : List Run} {n i : ℕ} → Putting w₀ head rs n → i < n → Partly w₀ w head q rs n i → Ready w q
+put-ready {w₀} {w} {head} {q} {rs} {n} {i} p h s =
     let c = p .room (omega arith) in
     let f = s .laid (c .0) (c .1) (c .2) in
-    next-room w q (f .ys) (f .free) (omega (arith, left-over f, c .2))
+    let more : 1 ≤ length (f .ys) = omega (arith, left-over f, c .2) in
+    record {
+      there = omega (arith, p .there (omega arith), s .only .long);
+      some = next-some (nodes w) q (f .ys) (f .free) more;
+      room = next-room (nodes w) q (f .ys) (f .free) more;
+    }
 
--- it is laid
+-- a run is laid in the part that is lent, which comes back as ys
+pub laid-next : {w ys : List ℕ} {r node a b : ℕ} → Ready w node → Lays (lent w) ys r node a b → LaysNext w (back w ys) r node a b
+laid-next {w} {ys} {r} {node} {a} {b} g ly = record {
+  laid = subst₂ (λ u v. Lays u v r node a b) (lent-nodes w) (sym (back-nodes w ys (g .there))) ly;
+  only = record {
+    before = back-before w ys (g .there) (ly .wrote .there 0 (λ e. omega (arith, g .some, e)) ∙ ap (λ v. cellAt v 0) (lent-nodes w));
+    long = back-long w ys (g .there) (ly .wrote .long);
+  };
+}
+
+-- the next one is laid
 pub put-step : {w₀ w w′ : List ℕ} {head q q′ : ℕ} (rs : List Run) {n i : ℕ} {r : Run} → i < n → i < length rs → r ≡ getD rs i (run 0 0) → Partly w₀ w head q rs n i
-    → Lays w w′ q′ q (r .start) (r .«end») → Partly w₀ w′ head q′ rs n (i + 1)
+    → LaysNext w w′ q′ q (r .start) (r .«end») → Partly w₀ w′ head q′ rs n (i + 1)
 put-step {w₀} {w} {w′} {head} {q} {q′} rs {n} {i} {r} l h e s ly =
     let g : i + 1 ≡ suc i = omega arith in
     let k : take i rs ++ (r ∷ []) ≡ take (i + 1) rs = sym (rw (g, e) (take-suc rs i (run 0 0) h)) in
     record {
-      laid = λ ns c m. subst (Filled w₀ w′ head q′ (i + 1) ns) k (filled-step c (s .laid ns c m) (omega (arith, l, m)) ly);
+      laid = λ ns c m. subst (Filled (nodes w₀) (nodes w′) head q′ (i + 1) ns) k (filled-step c (s .laid ns c m) (omega (arith, l, m)) (ly .laid));
+      only = only-then (s .only) (ly .only);
       none = λ z. absurd (omega arith);
     }
 
@@ -138,9 +175,28 @@ put-step {w₀} {w} {w′} {head} {q} {q′} rs {n} {i} {r} l h e s ly =
 pub put-all : {w w′ : List ℕ} {head q : ℕ} {rs : List Run} {i n : ℕ} → i ≤ n → n ≤ i → Partly w w′ head q rs n i → Put w w′ head rs n
 put-all {w} {w′} {head} {q} {rs} {i} {n} le ge p =
     let e : i ≡ n = omega arith in record {
-      laid = λ ns c m. (q, subst (λ j. Filled w w′ head q j ns (take j rs)) e (p .laid ns c m));
+      laid = λ ns c m. (q, subst (λ j. Filled (nodes w) (nodes w′) head q j ns (take j rs)) e (p .laid ns c m));
+      only = p .only;
       none = λ z. p .none (e ∙ z);
     }
+
+-- ---- the tests of the code, one after the other
+module _ (w : List ℕ) (i n : ℕ) (b : Bool) where
+  -- what looking at the world told
+  pub built-looked : {r : Refusal} (l : Look) → Looked w i l → l ≡ Look.Refused r → refusal (buildConditions w i n b) ≡ some (refusalNumber r)
+  built-looked l k e = reads-first (fedOf w i) (Refusals.capacity when fullAt w i n ∷ runOrder when not b ∷ []) refl (sym k ∙ ap lookNumber e)
+
+  module _ (R : Readable w i) where
+    -- runs out of order
+    pub built-disordered : b ≡ false → refusal (buildConditions w i n b) ≡ some 5
+    built-disordered e = ap₂ (λ s t. refusal (reads s ++ Refusals.capacity when fullAt w i n ∷ runOrder when not t ∷ [])) (R .fed) e
+
+    -- more of them than the world may have
+    pub built-full : b ≡ true → allowance w i < n → refusal (buildConditions w i n b) ≡ some 8
+    built-full e h =
+        let many : fullAt w i n ≡ true = ap (λ f. f n) (full-above (R .openable)) ∙ lt-ltb (allowance w i) n h in
+        ap₂ (λ s t. refusal (reads s ++ Refusals.capacity when fullAt w i n ∷ runOrder when not t ∷ [])) (R .fed) e
+        ∙ ap (λ m. refusal (Refusals.capacity when m ∷ [])) many
 
 -- ---- the call
 -- 5, by the order test
@@ -149,118 +205,106 @@ unfolding disordered
 disordered-is rs q = ap not q
 
 -- what is refused before too many runs does not ask how many there are
-order-first : (z m m′ b : Bool) → (b ≡ true → m ≡ m′)
-    → refusal (storeLength when z ∷ Refusals.capacity when m ∷ runOrder when not b ∷ []) ≡ refusal (storeLength when z ∷ Refusals.capacity when m′ ∷ runOrder when not b ∷ [])
-order-first z m m′ true h = ap (λ k. refusal (storeLength when z ∷ Refusals.capacity when k ∷ [])) (h refl)
-order-first true m m′ false h = refl
-order-first false m m′ false h = refl
-
--- a store may have as many runs as its capacity
-allowance-is : (w : List ℕ) → allowance w ≡ capacity w
-unfolding allowance
-allowance-is w = refl
+order-first : (s : Fed) (m m′ b : Bool) → (b ≡ true → m ≡ m′)
+    → refusal (reads s ++ Refusals.capacity when m ∷ runOrder when not b ∷ []) ≡ refusal (reads s ++ Refusals.capacity when m′ ∷ runOrder when not b ∷ [])
+order-first s m m′ true h = ap (λ k. refusal (reads s ++ Refusals.capacity when k ∷ runOrder when false ∷ [])) (h refl)
+order-first wrongLength m m′ false h = refl
+order-first unsound m m′ false h = refl
+order-first unopened m m′ false h = refl
+order-first (holding P) m m′ false h = refl
 
 -- runs in order are those of their set
 canonical : {rs : List Run} {o : Order} → InOrder rs o → o .ordered ≡ true → Canon size 0 rs
 canonical {rs} {o} seen e = ordered-canon 0 rs (seen .words) (sym (seen .told) ∙ e)
 
--- so the model refuses building what the conditions of so many runs do: in order, the list's runs are those of its set
-built-due : (w : List ℕ) {rs : List Run} {o : Order} → InOrder rs o
-    → refusal (storeLength when earnsLength (fedOf w) ∷ Refusals.capacity when tooMany (allowance w) (mem rs) ∷ runOrder when disordered rs ∷ [])
-    ≡ refusal (buildConditions (capacity w) (length rs) (o .ordered))
+-- so the set has as many
+many-runs : {rs : List Run} {o : Order} → InOrder rs o → o .ordered ≡ true → stretches (mem rs) ≡ length rs
+many-runs {rs} seen e = stretches-is (mem rs) rs (canonical seen e) (λ x h. refl)
+
+-- so the model refuses building what the conditions of so many runs do
+built-due : (w : List ℕ) (i : ℕ) {rs : List Run} {o : Order} → InOrder rs o
+    → refusal (reads (fedOf w i) ++ Refusals.capacity when tooMany (fullAt w i) (mem rs) ∷ runOrder when disordered rs ∷ [])
+    ≡ refusal (buildConditions w i (length rs) (o .ordered))
 unfolding tooMany
-built-due w {rs} {o} seen =
-    ap₂ (λ z d. refusal (storeLength when z ∷ Refusals.capacity when tooMany (allowance w) (mem rs) ∷ runOrder when d ∷ [])) (fed-length w) (disordered-is rs (sym (seen .told)))
-    ∙ order-first (eqb (capacity w) 0) (tooMany (allowance w) (mem rs)) (ltb (capacity w) (length rs)) (o .ordered) (λ e. ap₂ ltb (allowance-is w) (long e))
-  where
-    long : o .ordered ≡ true → stretches (mem rs) ≡ length rs
-    long e = stretches-is (mem rs) rs (canonical seen e) (λ x h. refl)
+built-due w i {rs} {o} seen =
+    ap (λ d. refusal (reads (fedOf w i) ++ Refusals.capacity when tooMany (fullAt w i) (mem rs) ∷ runOrder when d ∷ [])) (disordered-is rs (sym (seen .told)))
+    ∙ order-first (fedOf w i) (tooMany (fullAt w i) (mem rs)) (fullAt w i (length rs)) (o .ordered) (λ e. ap (fullAt w i) (many-runs seen e))
 
--- the tests of the code, one after the other
-module _ (C n : ℕ) (b : Bool) where
-  -- no store's length
-  pub built-short : C ≡ 0 → refusal (buildConditions C n b) ≡ some 1
-  built-short e = rw (eq-eqb C 0 e)
+-- ---- a world of words below 2^64
+module _ (w : List ℕ) (i : ℕ) (small : (j : ℕ) → getD w j 0 < 2 ^ 64) where
+  -- offsets are words
+  offsets : (j : ℕ) → (worldAt w j) .offset < size
+  unfolding cellAt
+  offsets j = omega (arith, small (8 * (j + 1) + 1))
 
-  module _ (sized : 1 ≤ C) where
-    -- runs out of order
-    pub built-disordered : b ≡ false → refusal (buildConditions C n b) ≡ some 5
-    built-disordered e = rw (ne-eqb C 0 (λ z. omega arith), e)
+  -- its nodes were given back
+  module _ {w₁ : List ℕ} {head : ℕ} {ns : List ℕ} (b : Begins w w₁ i (freeFrom i head) ns) where
+    -- they are free
+    free-chain : FreeChain (nodes w₁) head ns
+    free-chain = record { chain = b .kept .chained; once = λ m. omega (arith, node-once (b .kept) m) }
 
-    -- more of them than the capacity
-    pub built-full : b ≡ true → C < n → refusal (buildConditions C n b) ≡ some 8
-    built-full e h = rw (ne-eqb C 0 (λ z. omega arith), e, lt-ltb C n h)
+    -- and as many as it may have runs
+    many-free : {k : ℕ} → k ≤ allowance w i → k ≤ length ns
+    many-free l = let op = opened-told w i (b .openable) offsets in omega (arith, l, op .limited .enough, b .kept .counted)
 
-module _ (w : List ℕ) {rs : List Run} {o : Order} (seen : InOrder rs o) (a : Verdict) (rules : Admits (capacity w) (length rs) o a) where
-  -- the words of runs that were admitted have a store's length
-  pub admitted-beginning : Beginning w a
-  admitted-beginning = go (a .answer) (a .runs) rules
-    where
-      go : (c : Completed) (k : ℕ) → Rules (capacity w) (length rs) (o .ordered) c k → SizedIf w c
-      go (Completed.Refused r) k h = tt
-      go Completed.Done k h = h .1
-
-  module _ {w₁ : List ℕ} {head : ℕ} (begun : BegunIf w w₁ a head) where
-    -- the store made has the free nodes
-    free-chain : {ns : List ℕ} → Begins w w₁ (freeFrom head) ns → FreeChain w₁ head ns
-    free-chain b = record { chain = b .kept .chained; once = λ m. omega (arith, node-once (b .kept) m) }
-
-    same-capacity : {ns : List ℕ} → Begins w w₁ (freeFrom head) ns → capacity w₁ ≡ capacity w
-    same-capacity b = ap capacityOf (b .long)
-
-    many-free : {ns : List ℕ} {k : ℕ} → Begins w w₁ (freeFrom head) ns → k ≤ capacity w → k ≤ length ns
-    many-free b l = omega (arith, l, same-capacity b, b .kept .counted)
-
-    -- so they can be laid into it
-    pub admitted-putting : Putting w₁ head rs (a .runs)
-    admitted-putting = go (a .answer) (a .runs) rules begun
+  module _ {rs : List Run} {o : Order} (seen : InOrder rs o) {w₁ : List ℕ} (a : Verdict) (rules : Admits w w₁ i (length rs) o a) where
+    -- runs that were admitted can be laid
+    pub admitted-putting : Putting w₁ (a .head) rs (a .runs)
+    admitted-putting = go (a .answer) (a .runs) (a .head) rules
       where
-        go : (c : Completed) (k : ℕ) → Rules (capacity w) (length rs) (o .ordered) c k → BegunFrom w w₁ c head → Putting w₁ head rs k
-        go (Completed.Refused r) k h b = record { few = omega (arith, h .0); room = λ l. absurd (omega (arith, h .0, l)) }
-        go Completed.Done k h b = record { few = omega (arith, h .0); room = λ l. (b .0, free-chain (b .1), many-free (b .1) (omega (arith, h .0, h .3))) }
+        go : (c : Completed) (k head : ℕ) → Rules w w₁ i (length rs) (o .ordered) c k head → Putting w₁ head rs k
+        go (Completed.Refused r) k head h = record {
+          few = omega (arith, h .0);
+          room = λ l. absurd (omega (arith, h .0, l));
+          there = λ l. absurd (omega (arith, h .0, l));
+        }
+        go Completed.Done k head h =
+            let b = h .3 .1 in record {
+              few = omega (arith, h .0);
+              room = λ l. (h .3 .0, free-chain b, many-free b (omega (arith, h .0, h .2)));
+              there = λ l. omega (arith, nodes-there (b .openable), b .only .long);
+            }
 
-    module _ {w₂ : List ℕ} (put : Put w₁ w₂ head rs (a .runs)) where
+    module _ {w₂ : List ℕ} (put : Put w₁ w₂ (a .head) rs (a .runs)) where
       -- then they stand there, all of them
-      laying : (k : ℕ) → Rules (capacity w) (length rs) (o .ordered) Completed.Done k → (b : Begun w w₁ (freeFrom head)) → Put w₁ w₂ head rs k
-          → (q : ℕ) × Laying w₁ w₂ (freeFrom head) k q (b .0) rs
-      laying k h b p =
-          let f = p .laid (b .0) (free-chain (b .1)) (many-free (b .1) (omega (arith, h .0, h .3))) in (
+      laying : (k head : ℕ) (h : Rules w w₁ i (length rs) (o .ordered) Completed.Done k head) → Put w₁ w₂ head rs k
+          → (q : ℕ) × Laying w w₁ w₂ (freeFrom i head) k q (h .3 .0) rs
+      laying k head h p =
+          let b = h .3 .1 in
+          let f = p .laid (h .3 .0) (free-chain b) (many-free b (omega (arith, h .0, h .2))) in (
             f .0,
             record {
-              sized = b .1 .sized;
-              kept = b .1 .kept;
-              filled = subst (Filled w₁ w₂ head (f .0) k (b .0)) (take-all k rs (omega (arith, h .0))) (f .1);
-              canonical = canonical seen (h .2);
-              few = omega (arith, h .0, h .3, same-capacity (b .1), allowance-is w₁);
+              begins = b;
+              filled = subst (Filled (nodes w₁) (nodes w₂) head (f .0) k (h .3 .0)) (take-all k rs (omega (arith, h .0))) (f .1);
+              only = p .only;
+              canonical = canonical seen (h .1);
+              few = h .2;
             },
           )
 
-      -- and can be made its runs
-      pub admitted-finishing : Finishing w₂ head a
-      admitted-finishing = go (a .answer) (a .runs) rules begun put
+      -- and can be made the world's
+      pub admitted-finishing : Finishing w₂ i a
+      admitted-finishing = go (a .answer) (a .runs) (a .head) rules put
         where
-          go : (c : Completed) (k : ℕ) → Rules (capacity w) (length rs) (o .ordered) c k → BegunFrom w w₁ c head → Put w₁ w₂ head rs k → FinishableIf w₂ head c k
-          go (Completed.Refused r) k h b p = tt
-          go Completed.Done k h b p = let l = laying k h b p in (w₁, l .0, b .0, rs, l .1)
+          go : (c : Completed) (k head : ℕ) → Rules w w₁ i (length rs) (o .ordered) c k head → Put w₁ w₂ head rs k → FinishableIf w₂ i c k head
+          go (Completed.Refused r) k head h p = tt
+          go Completed.Done k head h p = let l = laying k head h p in (w, w₁, l .0, h .3 .0, rs, l .1)
 
       -- so the call meets its contract
-      pub admitted-met : {w₃ : List ℕ} {r : Completed} → Finished w₂ w₃ head a r → Met w (Call.build rs) (completedAnswer r) w₃
-      admitted-met {w₃} {r} f = subst (λ c. Met w (Call.build rs) (completedAnswer c) w₃) (sym (f .answers)) (go (a .answer) (a .runs) rules begun put (f .left))
+      pub admitted-met : {w₃ : List ℕ} {r : Completed} → Finished w₂ w₃ i a r → Met w i (Call.build rs) (completedAnswer r) w₃
+      admitted-met {w₃} {r} f =
+          subst (λ c. Met w i (Call.build rs) (completedAnswer c) w₃) (sym (f .answers)) (go (a .answer) (a .runs) (a .head) rules put (f .left))
         where
-          untouched : (k : ℕ) → k ≡ 0 → w₁ ≡ w → Put w₁ w₂ head rs k → w₃ ≡ w₂ → w₃ ≡ w
-          untouched k e b p l = l ∙ p .none e ∙ b
-
           quiet : o .ordered ≡ true → refusal (runOrder when disordered rs ∷ []) ≡ none
           quiet e = ap (λ b. refusal (runOrder when b ∷ [])) (disordered-is rs (sym (seen .told) ∙ e))
 
-          few : o .ordered ≡ true → length rs ≤ capacity w → stretches (mem rs) ≤ allowance w
-          few e l = omega (arith, l, stretches-is (mem rs) rs (canonical seen e) (λ x h. refl), allowance-is w)
+          few : o .ordered ≡ true → length rs ≤ allowance w i → stretches (mem rs) ≤ allowance w i
+          few e l = omega (arith, l, many-runs seen e)
 
-          settled : Settled w₁ w₃ (mem rs) → length w₁ ≡ length w → Settled w w₃ (mem rs)
-          settled s e = record { sound = s .sound; holds = s .holds; long = s .long ∙ e }
-
-          go : (c : Completed) (k : ℕ) → Rules (capacity w) (length rs) (o .ordered) c k → BegunFrom w w₁ c head → Put w₁ w₂ head rs k → FinishesIf w₂ w₃ head c k → Met w (Call.build rs) (completedAnswer c) w₃
-          go (Completed.Refused r) k h b p l = refused-due (build-says w rs) (built-due w seen ∙ h .1) (untouched k (h .0) b p l)
-          go Completed.Done k h b p l =
-              let y = laying k h b p in
-              overwritten (build-says w rs) (h .1) (mem rs) (quiet (h .2)) (λ x z. refl) (few (h .2) (h .3)) (settled (l w₁ (y .0) (b .0) rs (y .1)) (b .1 .long))
+          go : (c : Completed) (k head : ℕ) → Rules w w₁ i (length rs) (o .ordered) c k head → Put w₁ w₂ head rs k → FinishesIf w₂ w₃ i c k head
+              → Met w i (Call.build rs) (completedAnswer c) w₃
+          go (Completed.Refused r) k head h p l = refused-due (build-says w i rs) (built-due w i seen ∙ h .2) (l ∙ p .none (h .0) ∙ h .1)
+          go Completed.Done k head h p l =
+              let y = laying k head h p in
+              let S : Settled w w₃ i (mem rs) = l w w₁ (y .0) (h .3 .0) rs (y .1) in
+              changes-to (build-says w i rs) (readable (h .3 .1 .openable)) (quiet (h .1)) (mem rs) (λ x z. refl) (few (h .1) (h .2)) S refl

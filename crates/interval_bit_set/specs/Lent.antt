@@ -10,7 +10,7 @@ use Rattle.model.specs.Numbers.{refusalNumber}
 use Rattle.model.specs.Call.{Call, Answer, refused, gave, drawn}
 use Rattle.interval_bit_set.specs.declared.listing.Item.{Item}
 use Rattle.interval_bit_set.specs.declared.listing.Draw.{Draw}
-use Rattle.core.specs.Met.{Met}
+use Rattle.core.specs.Met.{Site, Met}
 
 abbrev pub listingOf : ℕ → ℕ → Bool → Listing
 listingOf a b v = record { first = a; last = b; value = v }
@@ -33,7 +33,7 @@ Unmoved (Item.Refused r) l l′ = l′ ≡ l
 Unmoved (Item.Run r) l l′ = Unit {0}
 Unmoved Item.End l l′ = Unit {0}
 
--- a draw (from the front or the back) of the listing l in the words w answered r and left the listing l′
-pub record Draws (draw : Listing → Call (List ℕ)) (w : List ℕ) (l : Listing) (r : Item) (l′ : Listing) : Type 0 where
-  pub met : Met w (draw l) (itemAnswer r l′) w
+-- a draw (from the front or the back) of the listing l in world i of the words w answered r and left the listing l′
+pub record Draws (draw : Listing → Call Site) (w : List ℕ) (i : ℕ) (l : Listing) (r : Item) (l′ : Listing) : Type 0 where
+  pub met : Met w i (draw l) (itemAnswer r l′) w
   pub unmoved : Unmoved r l l′

@@ -1,4 +1,4 @@
-// Reading written sets, run lists and maps into a store, and making a map fit to be read.
+// Reading written sets, run lists and maps into a world, and making a map fit to be read.
 ghost use mathlib.Core.Path.{_≡_};
 ghost use Prim.Native.Nat.{_/_};
 ghost use lib.ListN.{length};
@@ -12,39 +12,37 @@ use crate::look::Look;
 use model::Completed;
 use model::Counted;
 use model::Numbered;
-use model::Refusal;
-use store::Store;
 
-// Makes the store that a written set tells, whatever its words were.
-pub fn load(words: &mut [u64], bytes: &[u8]) -> Completed
-    ensures { λ r. ⌜ Met (now (words .entry)) (Call.load (now (bytes .entry))) (completedAnswer r) (now (words .exit)) ⌝ }
+// Gives a world the set that bytes tell, whatever it held.
+pub fn load(words: &mut [u64], world: u64, bytes: &[u8]) -> Completed
+    ensures { λ r. ⌜ Met (now (words .entry)) world (Call.load (now (bytes .entry))) (completedAnswer r) (now (words .exit)) ⌝ }
 {
-    let s = Store::of_length(words.len());
-    if s.capacity == 0 {
-        return Completed::Refused(Refusal::StoreLength);
+    let l = crate::look::look_at(words, world);
+    match l {
+        Look::Refused(r) => Completed::Refused(r),
+        Look::Sound => core::bytes::load(words, world, bytes),
     }
-    core::bytes::load(words, bytes)
 }
 
-// Makes the store of a run list, given as words: start and end of each run, in turn. A last word without its end is no run.
-pub fn from_sorted_words(words: &mut [u64], runs: &[u64]) -> Completed
-    ensures { λ r. ⌜ Met (now (words .entry)) (Call.build (pairs (length (now (runs .entry)) / 2) (now (runs .entry)))) (completedAnswer r) (now (words .exit)) ⌝ }
+// Gives a world the set of a run list, given as words: start and end of each run, in turn. A last word without its end is no run.
+pub fn from_sorted_words(words: &mut [u64], world: u64, runs: &[u64]) -> Completed
+    ensures { λ r. ⌜ Met (now (words .entry)) world (Call.build (pairs (length (now (runs .entry)) / 2) (now (runs .entry)))) (completedAnswer r) (now (words .exit)) ⌝ }
 {
-    let s = Store::of_length(words.len());
-    if s.capacity == 0 {
-        return Completed::Refused(Refusal::StoreLength);
+    let l = crate::look::look_at(words, world);
+    match l {
+        Look::Refused(r) => Completed::Refused(r),
+        Look::Sound => core::bytes::from_sorted_words(words, world, runs),
     }
-    core::bytes::from_sorted_words(words, runs)
 }
 
 // Sets a window from a map, leaves the other positions, and returns how many changed.
-pub fn read_map(words: &mut [u64], base: u64, n: u64, bytes: &[u8]) -> Counted
-    ensures { λ r. ⌜ Met (now (words .entry)) (Call.readMap base n (now (bytes .entry))) (countedAnswer r) (now (words .exit)) ⌝ }
+pub fn read_map(words: &mut [u64], world: u64, base: u64, n: u64, bytes: &[u8]) -> Counted
+    ensures { λ r. ⌜ Met (now (words .entry)) world (Call.readMap base n (now (bytes .entry))) (countedAnswer r) (now (words .exit)) ⌝ }
 {
-    let l = crate::look::look_at(words);
+    let l = crate::look::look_at(words, world);
     match l {
         Look::Refused(r) => Counted::Refused(r),
-        Look::Sound => core::bytes::read_map(words, base, n, bytes),
+        Look::Sound => core::bytes::read_map(words, world, base, n, bytes),
     }
 }
 

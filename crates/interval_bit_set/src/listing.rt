@@ -1,4 +1,4 @@
-// The listing in the form that a caller holds: lent beside the store and moved by each draw. The draws by value do the work.
+// The listing in the form that a caller holds: lent beside the pool and moved by each draw. The draws by value do the work.
 ghost use mathlib.Core.Path.{_≡_};
 ghost use Rattle.model.specs.Call.{Call};
 ghost use Rattle.interval_bit_set.specs.Lent.{Draws, movedBy, listingOf};
@@ -45,11 +45,12 @@ fn moved(d: Drawn, first: u64, last: u64) -> Draw
 }
 
 // The draw from the front, on the listing's parts.
-pub fn front_of(words: &[u64], first: u64, last: u64, value: bool) -> Draw
-    ensures { λ r. ⌜ Draws Call.drawFront (now (words .entry)) (listingOf first last value) (r .next) (listingOf (r .first) (r .last) value) ⌝ }
+pub fn front_of(words: &[u64], world: u64, first: u64, last: u64, value: bool) -> Draw
+    ensures { λ r. ⌜ Draws Call.drawFront (now (words .entry)) world (listingOf first last value) (r .next) (listingOf (r .first) (r .last) value) ⌝ }
 {
     let d = crate::report::draw_front(
         words,
+        world,
         Listing {
             first: first,
             last: last,
@@ -60,11 +61,12 @@ pub fn front_of(words: &[u64], first: u64, last: u64, value: bool) -> Draw
 }
 
 // The draw from the back.
-pub fn back_of(words: &[u64], first: u64, last: u64, value: bool) -> Draw
-    ensures { λ r. ⌜ Draws Call.drawBack (now (words .entry)) (listingOf first last value) (r .next) (listingOf (r .first) (r .last) value) ⌝ }
+pub fn back_of(words: &[u64], world: u64, first: u64, last: u64, value: bool) -> Draw
+    ensures { λ r. ⌜ Draws Call.drawBack (now (words .entry)) world (listingOf first last value) (r .next) (listingOf (r .first) (r .last) value) ⌝ }
 {
     let d = crate::report::draw_back(
         words,
+        world,
         Listing {
             first: first,
             last: last,
@@ -75,20 +77,20 @@ pub fn back_of(words: &[u64], first: u64, last: u64, value: bool) -> Draw
 }
 
 // Draws the first run that is left, and moves the listing past it.
-pub fn next(words: &[u64], listing: &mut Listing) -> Item
-    ensures { λ r. ⌜ Draws Call.drawFront (now (words .entry)) (now (listing .entry)) r (now (listing .exit)) ⌝ }
+pub fn next(words: &[u64], world: u64, listing: &mut Listing) -> Item
+    ensures { λ r. ⌜ Draws Call.drawFront (now (words .entry)) world (now (listing .entry)) r (now (listing .exit)) ⌝ }
 {
-    let d = front_of(words, listing.first, listing.last, listing.value);
+    let d = front_of(words, world, listing.first, listing.last, listing.value);
     listing.first = d.first;
     listing.last = d.last;
     d.next
 }
 
 // Draws the last run that is left.
-pub fn next_back(words: &[u64], listing: &mut Listing) -> Item
-    ensures { λ r. ⌜ Draws Call.drawBack (now (words .entry)) (now (listing .entry)) r (now (listing .exit)) ⌝ }
+pub fn next_back(words: &[u64], world: u64, listing: &mut Listing) -> Item
+    ensures { λ r. ⌜ Draws Call.drawBack (now (words .entry)) world (now (listing .entry)) r (now (listing .exit)) ⌝ }
 {
-    let d = back_of(words, listing.first, listing.last, listing.value);
+    let d = back_of(words, world, listing.first, listing.last, listing.value);
     listing.first = d.first;
     listing.last = d.last;
     d.next

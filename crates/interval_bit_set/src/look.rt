@@ -1,16 +1,37 @@
-// Looking at a store before it is read.
-ghost use Rattle.interval_bit_set.specs.Look.{Looked, LookedBoth};
+// Looking at the pools and the worlds that a call names.
+ghost use mathlib.Core.Path.{_≡_};
+ghost use Rattle.interval_bit_set.specs.Look.{lookNumber, earliest, LookedPool, Looked, LookedTwo, LookedThree};
 use model::Refusal;
 use store::Store;
 
-// What a store earns that a call reads: refusal 1 or 7, or none.
+// What they earn: refusal 1, 7 or 12, or none.
 pub enum Look {
     Refused(Refusal),
     Sound,
 }
 
-pub fn look_at(words: &[u64]) -> Look
-    ensures { λ r. ⌜ Looked (now (words .entry)) r ⌝ }
+// The earlier of two refusals. 1, 7 and 12 are in the order of their numbers.
+fn earlier(x: Look, y: Look) -> Look
+    ensures { λ r. ⌜ lookNumber r ≡ earliest (lookNumber x) (lookNumber y) ⌝ }
+{
+    match x {
+        Look::Sound => y,
+        Look::Refused(r) => match y {
+            Look::Sound => Look::Refused(r),
+            Look::Refused(s) => {
+                if model::refusal_number(r) <= model::refusal_number(s) {
+                    Look::Refused(r)
+                } else {
+                    Look::Refused(s)
+                }
+            }
+        },
+    }
+}
+
+// What a pool earns, whichever world is named.
+pub fn look_at_pool(words: &[u64]) -> Look
+    ensures { λ r. ⌜ LookedPool (now (words .entry)) r ⌝ }
 {
     let s = Store::of_length(words.len());
     if s.capacity == 0 {
@@ -22,23 +43,37 @@ pub fn look_at(words: &[u64]) -> Look
     Look::Refused(Refusal::Unsound)
 }
 
-// What two stores earn that a call reads: 1 of either comes before 7 of either.
-pub fn look_at_both(a: &[u64], b: &[u64]) -> Look
-    ensures { λ r. ⌜ LookedBoth (now (a .entry)) (now (b .entry)) r ⌝ }
+// What one world earns.
+pub fn look_at(words: &[u64], world: u64) -> Look
+    ensures { λ r. ⌜ Looked (now (words .entry)) world r ⌝ }
 {
-    let x = Store::of_length(a.len());
-    if x.capacity == 0 {
-        return Look::Refused(Refusal::StoreLength);
+    let l = look_at_pool(words);
+    match l {
+        Look::Refused(r) => Look::Refused(r),
+        Look::Sound => {
+            if world >= store::opened(words) {
+                Look::Refused(Refusal::WorldUnopened)
+            } else {
+                Look::Sound
+            }
+        }
     }
-    let y = Store::of_length(b.len());
-    if y.capacity == 0 {
-        return Look::Refused(Refusal::StoreLength);
-    }
-    if !store::soundness::is_sound(a) {
-        return Look::Refused(Refusal::Unsound);
-    }
-    if !store::soundness::is_sound(b) {
-        return Look::Refused(Refusal::Unsound);
-    }
-    Look::Sound
+}
+
+// What two worlds earn: 1 of either comes before 7 of either, and that before 12.
+pub fn look_at_two(a: &[u64], i: u64, b: &[u64], j: u64) -> Look
+    ensures { λ r. ⌜ LookedTwo (now (a .entry)) i (now (b .entry)) j r ⌝ }
+{
+    let x = look_at(a, i);
+    let y = look_at(b, j);
+    earlier(x, y)
+}
+
+// What three worlds earn.
+pub fn look_at_three(a: &[u64], i: u64, b: &[u64], j: u64, c: &[u64], k: u64) -> Look
+    ensures { λ r. ⌜ LookedThree (now (a .entry)) i (now (b .entry)) j (now (c .entry)) k r ⌝ }
+{
+    let x = look_at(a, i);
+    let y = look_at_two(b, j, c, k);
+    earlier(x, y)
 }

@@ -1,18 +1,19 @@
-// Making a store empty, whatever its words were.
-ghost use Rattle.model.specs.Call.{Call};
+// Making a pool of empty worlds, whatever its words were.
 ghost use Rattle.model.specs.Answers.{completedAnswer};
-ghost use Rattle.core.specs.Met.{Met};
+ghost use Rattle.model.specs.Pools.{limitsOf};
+ghost use Rattle.core.specs.Met.{Made};
 use model::Completed;
 use model::Refusal;
 use store::Store;
 
-// A new, empty set in the words of a store.
-pub fn new(words: &mut [u64]) -> Completed
-    ensures { λ r. ⌜ Met (now (words .entry)) Call.make (completedAnswer r) (now (words .exit)) ⌝ }
+// A new pool in the words of a store: a world, which is empty, for each floor and ceiling of the limits, which are lent in turn. A last word
+// without its partner is no world.
+pub fn new(words: &mut [u64], limits: &[u64]) -> Completed
+    ensures { λ r. ⌜ Made (now (words .entry)) (limitsOf (now (limits .entry))) (completedAnswer r) (now (words .exit)) ⌝ }
 {
     let s = Store::of_length(words.len());
     if s.capacity == 0 {
         return Completed::Refused(Refusal::StoreLength);
     }
-    core::make::new(words)
+    core::make::new(words, limits)
 }

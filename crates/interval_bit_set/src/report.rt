@@ -1,4 +1,4 @@
-// The calls that report, and leave the store as it is.
+// The calls that report, and leave the world as it is.
 ghost use Rattle.model.specs.Call.{Call};
 ghost use Rattle.model.specs.Answers.{countedAnswer, numberedAnswer, testedAnswer, aroundAnswer, foundAnswer, listedAnswer, drawnAnswer};
 ghost use Rattle.model.specs.Gaps.{AnswersGap};
@@ -15,122 +15,122 @@ use model::Numbered;
 use model::Tested;
 
 // The value of position x.
-pub fn get(words: &[u64], x: u64) -> Tested
-    ensures { λ r. ⌜ Met (now (words .entry)) (Call.get x) (testedAnswer r) (now (words .entry)) ⌝ }
+pub fn get(words: &[u64], world: u64, x: u64) -> Tested
+    ensures { λ r. ⌜ Met (now (words .entry)) world (Call.get x) (testedAnswer r) (now (words .entry)) ⌝ }
 {
-    let l = crate::look::look_at(words);
+    let l = crate::look::look_at(words, world);
     match l {
         Look::Refused(r) => Tested::Refused(r),
-        Look::Sound => core::report::get(words, x),
+        Look::Sound => core::report::get(words, world, x),
     }
 }
 
 // The unclipped run around x, of the value that x has.
-pub fn run_at(words: &[u64], x: u64) -> Around
-    ensures { λ r. ⌜ Met (now (words .entry)) (Call.runAt x) (aroundAnswer r) (now (words .entry)) ⌝ }
+pub fn run_at(words: &[u64], world: u64, x: u64) -> Around
+    ensures { λ r. ⌜ Met (now (words .entry)) world (Call.runAt x) (aroundAnswer r) (now (words .entry)) ⌝ }
 {
-    let l = crate::look::look_at(words);
+    let l = crate::look::look_at(words, world);
     match l {
         Look::Refused(r) => Around::Refused(r),
-        Look::Sound => core::report::run_at(words, x),
+        Look::Sound => core::report::run_at(words, world, x),
     }
 }
 
 // The least position of the value in a range.
-pub fn find(words: &[u64], lower: Bound, upper: Bound, value: bool) -> Found
-    ensures { λ r. ⌜ Met (now (words .entry)) (Call.find lower upper value) (foundAnswer r) (now (words .entry)) ⌝ }
+pub fn find(words: &[u64], world: u64, lower: Bound, upper: Bound, value: bool) -> Found
+    ensures { λ r. ⌜ Met (now (words .entry)) world (Call.find lower upper value) (foundAnswer r) (now (words .entry)) ⌝ }
 {
-    let l = crate::look::look_at(words);
+    let l = crate::look::look_at(words, world);
     match l {
         Look::Refused(r) => Found::Refused(r),
-        Look::Sound => core::report::find(words, lower, upper, value),
+        Look::Sound => core::report::find(words, world, lower, upper, value),
     }
 }
 
 // How many positions of a range have the value: a carry and a low word.
-pub fn count(words: &[u64], lower: Bound, upper: Bound, value: bool) -> Counted
-    ensures { λ r. ⌜ Met (now (words .entry)) (Call.count lower upper value) (countedAnswer r) (now (words .entry)) ⌝ }
+pub fn count(words: &[u64], world: u64, lower: Bound, upper: Bound, value: bool) -> Counted
+    ensures { λ r. ⌜ Met (now (words .entry)) world (Call.count lower upper value) (countedAnswer r) (now (words .entry)) ⌝ }
 {
-    let l = crate::look::look_at(words);
+    let l = crate::look::look_at(words, world);
     match l {
         Look::Refused(r) => Counted::Refused(r),
-        Look::Sound => core::report::count(words, lower, upper, value),
+        Look::Sound => core::report::count(words, world, lower, upper, value),
     }
 }
 
 // The position of a range that has the value and exactly k such positions before it there.
-pub fn select(words: &[u64], lower: Bound, upper: Bound, value: bool, k: u64) -> Found
-    ensures { λ r. ⌜ Met (now (words .entry)) (Call.select lower upper value k) (foundAnswer r) (now (words .entry)) ⌝ }
+pub fn select(words: &[u64], world: u64, lower: Bound, upper: Bound, value: bool, k: u64) -> Found
+    ensures { λ r. ⌜ Met (now (words .entry)) world (Call.select lower upper value k) (foundAnswer r) (now (words .entry)) ⌝ }
 {
-    let l = crate::look::look_at(words);
+    let l = crate::look::look_at(words, world);
     match l {
         Look::Refused(r) => Found::Refused(r),
-        Look::Sound => core::report::select(words, lower, upper, value, k),
+        Look::Sound => core::report::select(words, world, lower, upper, value, k),
     }
 }
 
 // The start of some n neighbouring positions of a range that are all free. Which of them is left open.
-pub fn gap(words: &[u64], lower: Bound, upper: Bound, n: u64) -> Found
-    ensures { λ r. ⌜ AnswersGap (fedOf (now (words .entry))) lower upper n (foundAnswer r) ⌝ }
+pub fn gap(words: &[u64], world: u64, lower: Bound, upper: Bound, n: u64) -> Found
+    ensures { λ r. ⌜ AnswersGap (fedOf (now (words .entry)) world) lower upper n (foundAnswer r) ⌝ }
 {
-    let l = crate::look::look_at(words);
+    let l = crate::look::look_at(words, world);
     match l {
         Look::Refused(r) => Found::Refused(r),
-        Look::Sound => core::report::gap(words, lower, upper, n),
+        Look::Sound => core::report::gap(words, world, lower, upper, n),
     }
 }
 
 // How many runs of the value a range has, clipped to it.
-pub fn count_ranges(words: &[u64], lower: Bound, upper: Bound, value: bool) -> Numbered
-    ensures { λ r. ⌜ Met (now (words .entry)) (Call.countRanges lower upper value) (numberedAnswer r) (now (words .entry)) ⌝ }
+pub fn count_ranges(words: &[u64], world: u64, lower: Bound, upper: Bound, value: bool) -> Numbered
+    ensures { λ r. ⌜ Met (now (words .entry)) world (Call.countRanges lower upper value) (numberedAnswer r) (now (words .entry)) ⌝ }
 {
-    let l = crate::look::look_at(words);
+    let l = crate::look::look_at(words, world);
     match l {
         Look::Refused(r) => Numbered::Refused(r),
-        Look::Sound => core::report::count_ranges(words, lower, upper, value),
+        Look::Sound => core::report::count_ranges(words, world, lower, upper, value),
     }
 }
 
 // A listing of the runs of the value in a range, to be drawn from either end.
-pub fn ranges(words: &[u64], lower: Bound, upper: Bound, value: bool) -> Listed
-    ensures { λ r. ⌜ Met (now (words .entry)) (Call.ranges lower upper value) (listedAnswer r) (now (words .entry)) ⌝ }
+pub fn ranges(words: &[u64], world: u64, lower: Bound, upper: Bound, value: bool) -> Listed
+    ensures { λ r. ⌜ Met (now (words .entry)) world (Call.ranges lower upper value) (listedAnswer r) (now (words .entry)) ⌝ }
 {
-    let l = crate::look::look_at(words);
+    let l = crate::look::look_at(words, world);
     match l {
         Look::Refused(r) => Listed::Refused(r),
-        Look::Sound => core::report::ranges(words, lower, upper, value),
+        Look::Sound => core::report::ranges(words, world, lower, upper, value),
     }
 }
 
-// Draws the first run that is left in a listing, in the store as it is.
-pub fn draw_front(words: &[u64], l: Listing) -> Drawn
-    ensures { λ r. ⌜ Met (now (words .entry)) (Call.drawFront l) (drawnAnswer r) (now (words .entry)) ⌝ }
+// Draws the first run that is left in a listing, in the world as it is.
+pub fn draw_front(words: &[u64], world: u64, l: Listing) -> Drawn
+    ensures { λ r. ⌜ Met (now (words .entry)) world (Call.drawFront l) (drawnAnswer r) (now (words .entry)) ⌝ }
 {
-    let look = crate::look::look_at(words);
+    let look = crate::look::look_at(words, world);
     match look {
         Look::Refused(r) => Drawn::Refused(r),
-        Look::Sound => core::listing::draw_front(words, l),
+        Look::Sound => core::listing::draw_front(words, world, l),
     }
 }
 
 // Draws the last run that is left in a listing.
-pub fn draw_back(words: &[u64], l: Listing) -> Drawn
-    ensures { λ r. ⌜ Met (now (words .entry)) (Call.drawBack l) (drawnAnswer r) (now (words .entry)) ⌝ }
+pub fn draw_back(words: &[u64], world: u64, l: Listing) -> Drawn
+    ensures { λ r. ⌜ Met (now (words .entry)) world (Call.drawBack l) (drawnAnswer r) (now (words .entry)) ⌝ }
 {
-    let look = crate::look::look_at(words);
+    let look = crate::look::look_at(words, world);
     match look {
         Look::Refused(r) => Drawn::Refused(r),
-        Look::Sound => core::listing::draw_back(words, l),
+        Look::Sound => core::listing::draw_back(words, world, l),
     }
 }
 
 // How full a window is, in thousandths, rounded down.
-pub fn fill(words: &[u64], base: u64, length: u64) -> Numbered
-    ensures { λ r. ⌜ Met (now (words .entry)) (Call.fill base length) (numberedAnswer r) (now (words .entry)) ⌝ }
+pub fn fill(words: &[u64], world: u64, base: u64, length: u64) -> Numbered
+    ensures { λ r. ⌜ Met (now (words .entry)) world (Call.fill base length) (numberedAnswer r) (now (words .entry)) ⌝ }
 {
-    let l = crate::look::look_at(words);
+    let l = crate::look::look_at(words, world);
     match l {
         Look::Refused(r) => Numbered::Refused(r),
-        Look::Sound => core::report::fill(words, base, length),
+        Look::Sound => core::report::fill(words, world, base, length),
     }
 }

@@ -6,16 +6,13 @@ ghost use lib.ListN.{length, getD};
 ghost use Rattle.model.specs.Positions.{run};
 ghost use Rattle.model.specs.Call.{Call};
 ghost use Rattle.model.specs.Answers.{completedAnswer};
-ghost use Rattle.run_index.specs.Cells.{Room};
-ghost use Rattle.run_index.specs.Strung.{Lays};
-ghost use Rattle.store.specs.Layout.{capacityOf};
 ghost use Rattle.core.specs.Met.{Met};
-ghost use Rattle.interval_bit_set.specs.RunSlice.{orderStep, InOrder, Admits, Beginning, BegunIf, Putting, Put, Finishing, Finished};
+ghost use Rattle.interval_bit_set.specs.RunSlice.{orderStep, InOrder, refusing, Admits, Ready, LaysNext, Putting, Put, Finishing, Finished};
+use crate::look::Look;
 use model::Completed;
 use model::Refusal;
 use model::Run;
 use store::Links;
-use store::Store;
 
 // A run of the list.
 fn run_of(runs: &[Run], i: usize) -> Run
@@ -68,62 +65,54 @@ fn in_order(runs: &[Run]) -> Order
     o
 }
 
-// What comes of a list of runs: the answer, and how many of them go into the store, all or none.
+// What comes of a list of runs: the answer, how many of them go into the world, all or none, and the first node for them.
 struct Verdict {
     answer: Completed,
     runs: usize,
+    head: u64,
 }
 
-// Whether so many words can be the store of a list of n runs, whose order was tested.
-fn admitted(words: usize, n: usize, o: Order) -> Verdict
-    ensures { λ r. ⌜ Admits (capacityOf words) n o r ⌝ }
+// A refusal: nothing is laid.
+fn refuses(r: Refusal) -> Verdict
+    ensures { λ v. ⌜ v ≡ refusing r ⌝ }
 {
-    let s = Store::of_length(words);
-    if s.capacity == 0 {
-        return Verdict {
-            answer: Completed::Refused(Refusal::StoreLength),
-            runs: 0,
-        };
-    }
-    if !o.ordered {
-        return Verdict {
-            answer: Completed::Refused(Refusal::RunOrder),
-            runs: 0,
-        };
-    }
-    if n as u64 > s.capacity {
-        return Verdict {
-            answer: Completed::Refused(Refusal::Capacity),
-            runs: 0,
-        };
-    }
     Verdict {
-        answer: Completed::Done,
-        runs: n,
+        answer: Completed::Refused(r),
+        runs: 0,
+        head: 0,
     }
 }
 
-// Makes the words an empty store, unless the runs were refused, and returns its first free node.
-fn begin(words: &mut [u64], a: Verdict) -> u64
-    requires { ⌜ Beginning (now words) a ⌝ }
-    ensures { λ r. ⌜ BegunIf (now (words .entry)) (now (words .exit)) a r ⌝ }
+// Decides whether a world can have a list of n runs, whose order was tested, and if so gives its nodes back.
+fn begin(words: &mut [u64], world: u64, n: usize, o: Order) -> Verdict
+    ensures { λ r. ⌜ Admits (now (words .entry)) (now (words .exit)) world n o r ⌝ }
 {
-    let c = a.answer;
-    match c {
-        Completed::Refused(_) => 0,
-        Completed::Done => {
-            let x = core::runs::begin(words);
-            x.free
+    let l = crate::look::look_at(words, world);
+    match l {
+        Look::Refused(r) => refuses(r),
+        Look::Sound => {
+            if !o.ordered {
+                return refuses(Refusal::RunOrder);
+            }
+            if n as u64 > store::allowance(words, world) {
+                return refuses(Refusal::Capacity);
+            }
+            let x = core::runs::begin(words, world);
+            Verdict {
+                answer: Completed::Done,
+                runs: n,
+                head: x.free,
+            }
         }
     }
 }
 
 // Lays a run into a free node, and returns the next one.
 fn lay_next(words: &mut [u64], node: u64, start: u64, end: u64) -> u64
-    requires { ⌜ Room (now words) node ⌝ }
-    ensures { λ r. ⌜ Lays (now (words .entry)) (now (words .exit)) r node start «end» ⌝ }
+    requires { ⌜ Ready (now words) node ⌝ }
+    ensures { λ r. ⌜ LaysNext (now (words .entry)) (now (words .exit)) r node start «end» ⌝ }
 {
-    run_index::chains::lay_run(words, node, start, end)
+    run_index::chains::lay_run(&mut words[128..], node, start, end)
 }
 
 // Lays the first n runs into the free chain from `head` on.
@@ -140,10 +129,10 @@ fn put_runs(runs: &[Run], words: &mut [u64], head: u64, n: usize)
     }
 }
 
-// Makes the store of the runs laid from `head` on, unless they were refused.
-fn finish(words: &mut [u64], head: u64, a: Verdict) -> Completed
-    requires { ⌜ Finishing (now words) head a ⌝ }
-    ensures { λ r. ⌜ Finished (now (words .entry)) (now (words .exit)) head a r ⌝ }
+// Gives the world the runs that were laid, unless they were refused.
+fn finish(words: &mut [u64], world: u64, a: Verdict) -> Completed
+    requires { ⌜ Finishing (now words) world a ⌝ }
+    ensures { λ r. ⌜ Finished (now (words .entry)) (now (words .exit)) world a r ⌝ }
 {
     let c = a.answer;
     match c {
@@ -152,9 +141,9 @@ fn finish(words: &mut [u64], head: u64, a: Verdict) -> Completed
             core::runs::finish(
                 words,
                 Links {
-                    tag: 0,
+                    tag: world,
                     root: 0,
-                    free: head,
+                    free: a.head,
                 },
                 a.runs as u64,
             );
@@ -163,14 +152,13 @@ fn finish(words: &mut [u64], head: u64, a: Verdict) -> Completed
     }
 }
 
-// Makes the store of a run list, whatever its words were.
-pub fn from_sorted_runs(words: &mut [u64], runs: &[Run]) -> Completed
-    ensures { λ r. ⌜ Met (now (words .entry)) (Call.build (now (runs .entry))) (completedAnswer r) (now (words .exit)) ⌝ }
+// Gives a world the set of a run list, whatever it held.
+pub fn from_sorted_runs(words: &mut [u64], world: u64, runs: &[Run]) -> Completed
+    ensures { λ r. ⌜ Met (now (words .entry)) world (Call.build (now (runs .entry))) (completedAnswer r) (now (words .exit)) ⌝ }
 {
     let n = runs.len();
     let o = in_order(runs);
-    let a = admitted(words.len(), n, o);
-    let head = begin(words, a);
-    put_runs(runs, words, head, a.runs);
-    finish(words, head, a)
+    let a = begin(words, world, n, o);
+    put_runs(runs, words, a.head, a.runs);
+    finish(words, world, a)
 }

@@ -1,4 +1,4 @@
-// Writing a store's set, and the map of a window, into the front of a lent slice. First the calls that tell how many bytes they wrote; then
+// Writing a world's set, and the map of a window, into the front of a lent slice. First the calls that tell how many bytes they wrote; then
 // the same calls handing back the part that they filled.
 ghost use mathlib.Core.Path.{_≡_};
 ghost use Prim.Native.Nat.{_≤_};
@@ -10,25 +10,25 @@ ghost use Rattle.interval_bit_set.specs.Out.{codeOf, frontOf, flatOf};
 use crate::look::Look;
 use model::Written;
 
-// Writes a store's set, and tells how many bytes it has.
-pub fn write_set(words: &[u64], out: &mut [u8]) -> Written
-    ensures { λ r. ⌜ WritesOut Call.writeSet (now (words .entry)) (now (out .entry)) r (now (out .exit)) ⌝ }
+// Writes a world's set, and tells how many bytes it has.
+pub fn write_set(words: &[u64], world: u64, out: &mut [u8]) -> Written
+    ensures { λ r. ⌜ WritesOut Call.writeSet (now (words .entry)) world (now (out .entry)) r (now (out .exit)) ⌝ }
 {
-    let l = crate::look::look_at(words);
+    let l = crate::look::look_at(words, world);
     match l {
         Look::Refused(r) => Written::Refused(r),
-        Look::Sound => core::write::write_set(words, out),
+        Look::Sound => core::write::write_set(words, world, out),
     }
 }
 
 // Writes the map of a window, and tells how many bytes it has.
-pub fn write_map(words: &[u64], base: u64, n: u64, out: &mut [u8]) -> Written
-    ensures { λ r. ⌜ WritesOut (Call.writeMap base n) (now (words .entry)) (now (out .entry)) r (now (out .exit)) ⌝ }
+pub fn write_map(words: &[u64], world: u64, base: u64, n: u64, out: &mut [u8]) -> Written
+    ensures { λ r. ⌜ WritesOut (Call.writeMap base n) (now (words .entry)) world (now (out .entry)) r (now (out .exit)) ⌝ }
 {
-    let l = crate::look::look_at(words);
+    let l = crate::look::look_at(words, world);
     match l {
         Look::Refused(r) => Written::Refused(r),
-        Look::Sound => core::write::write_map(words, base, n, out),
+        Look::Sound => core::write::write_map(words, world, base, n, out),
     }
 }
 
@@ -67,13 +67,13 @@ pub struct Filled<'a> {
     pub part: &'a mut [u8],
 }
 
-// Writes a store's set, and hands back the part of the slice that it fills.
-pub fn written_set<'a>(words: &[u64], out: &'a mut [u8]) -> Filled<'a>
-    ensures { λ r. ⌜ (r .refusal ≡ codeOf (outcomeOf (now (words .entry)) (Call.writeSet (now (out .entry))) .answer))
-        × (now (r .part) ≡ frontOf (outcomeOf (now (words .entry)) (Call.writeSet (now (out .entry))) .answer))
+// Writes a world's set, and hands back the part of the slice that it fills.
+pub fn written_set<'a>(words: &[u64], world: u64, out: &'a mut [u8]) -> Filled<'a>
+    ensures { λ r. ⌜ (r .refusal ≡ codeOf (outcomeOf (now (words .entry)) world (Call.writeSet (now (out .entry))) .answer))
+        × (now (r .part) ≡ frontOf (outcomeOf (now (words .entry)) world (Call.writeSet (now (out .entry))) .answer))
         × (r .part .ptr ≡ out .entry .ptr) ⌝ }
 {
-    let w = write_set(words, out);
+    let w = write_set(words, world, out);
     let f = flattened(w);
     let n = f.bytes;
     Filled {
@@ -83,12 +83,18 @@ pub fn written_set<'a>(words: &[u64], out: &'a mut [u8]) -> Filled<'a>
 }
 
 // Writes the map of a window, and hands back the part of the slice that it fills.
-pub fn written_map<'a>(words: &[u64], base: u64, n: u64, out: &'a mut [u8]) -> Filled<'a>
-    ensures { λ r. ⌜ (r .refusal ≡ codeOf (outcomeOf (now (words .entry)) (Call.writeMap base n (now (out .entry))) .answer))
-        × (now (r .part) ≡ frontOf (outcomeOf (now (words .entry)) (Call.writeMap base n (now (out .entry))) .answer))
+pub fn written_map<'a>(
+    words: &[u64],
+    world: u64,
+    base: u64,
+    n: u64,
+    out: &'a mut [u8],
+) -> Filled<'a>
+    ensures { λ r. ⌜ (r .refusal ≡ codeOf (outcomeOf (now (words .entry)) world (Call.writeMap base n (now (out .entry))) .answer))
+        × (now (r .part) ≡ frontOf (outcomeOf (now (words .entry)) world (Call.writeMap base n (now (out .entry))) .answer))
         × (r .part .ptr ≡ out .entry .ptr) ⌝ }
 {
-    let w = write_map(words, base, n, out);
+    let w = write_map(words, world, base, n, out);
     let f = flattened(w);
     let m = f.bytes;
     Filled {

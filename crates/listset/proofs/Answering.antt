@@ -1,27 +1,28 @@
 -- The answer to an input: too long, refused, or the lines of the set that it loads. Assumes nothing.
 use Prim.Native.Nat.{ℕ, _≤_, _<_}
 use mathlib.Core.Path.{_≡_, refl, sym, ap, _∙_, subst}
-use mathlib.Core.Bool.{Bool, false, cond}
-use mathlib.Core.List.{List, _∷_, _++_}
-use mathlib.Core.Option.{Option, none, some}
+use mathlib.Core.Bool.{cond}
+use mathlib.Core.List.{List, [], _∷_}
+use mathlib.Core.Option.{some}
 use native.Mathlib.Omega.{arith}
+use lib.Dec.{eqb}
 use lib.ListN.{length, take, length-take}
 use borrow.Author.Tests.{lt-ltb, le-ltb}
 use Rattle.io.specs.Counts.{Counts}
 use Rattle.model.specs.declared.Completed.{Completed}
 use Rattle.model.specs.declared.Refusal.{Refusal}
 use Rattle.model.specs.Numbers.{refusalNumber}
-use Rattle.model.specs.Positions.{Positions, empty, mem, bounded}
-use Rattle.model.specs.Bytes.{decode}
-use Rattle.model.specs.Refusals.{Condition, _when_, refusal, storeLength, setConditions, tooMany, capacity as tooMuch}
-use Rattle.model.specs.Call.{Call, done, refused, gave}
+use Rattle.model.specs.Positions.{Positions, empty}
+use Rattle.model.specs.Refusals.{badLimits}
+use Rattle.model.specs.Call.{Call, Result, done, Answer, refused, gave}
 use Rattle.model.specs.Answers.{completedAnswer}
-use Rattle.model.specs.Model.{Outcome, positionsOf, overwrites, settle, overwrite, serve, step}
-use Rattle.store.specs.Layout.{capacity, allowance, heldBy}
-use Rattle.store.specs.Soundness.{Sound}
-use Rattle.core.specs.Met.{fedOf, outcomeOf, Met}
-use Rattle.core.proofs.Meeting.{refused-not, fed-sized}
-use Rattle.core.proofs.Simulation.{overwritten}
+use Rattle.model.specs.Model.{Outcome, positionsOf}
+use Rattle.model.specs.Pools.{worldOf, fedBy, holdingAt, limitsFrom, limitsOf, emptyWorlds, makeBy, step, alone}
+use Rattle.store.specs.Layout.{capacityOf, capacity, heldBy, plainAt, worldsOf}
+use Rattle.store.specs.Settle.{Openable}
+use Rattle.store.proofs.WorldLists.{opened-world}
+use Rattle.core.specs.Met.{Met, madeOf, MakeLeaves, Made}
+use Rattle.core.proofs.Simulation.{Holds, outcome-is, step-holds}
 use Rattle.listset.specs.Text.{tooLongLine, refusedLine, setLines, outcomeLines, loaded, printed}
 use Rattle.listset.specs.Put.{Puts}
 
@@ -46,51 +47,55 @@ module _ (bs : List ℕ) where
   unfolding printed
   short-enough h = ap (λ t. cond t tooLongLine (lines (loaded bs))) (le-ltb 15205 (length bs) h)
 
-  -- what the bytes hold, and what may be refused
-  held : Positions
-  held = mem (decode bs)
+  -- a refusal and a result, as lines
+  lines-refused : {n : ℕ} → refused n ≡ (loaded bs) .answer → lines (loaded bs) ≡ refusedLine n
+  lines-refused e = ap (λ a. outcomeLines a ((loaded bs) .positions)) (sym e)
 
-  conditions : Bool → List Condition
-  conditions t = storeLength when t ∷ tooMuch when tooMany 950 held ∷ setConditions bs
+  lines-done : {r : Result} {P : Positions} → gave r ≡ (loaded bs) .answer → P ≡ (loaded bs) .positions → lines (loaded bs) ≡ setLines P
+  lines-done e f = ap (λ a. outcomeLines a ((loaded bs) .positions)) (sym e) ∙ ap setLines (sym f)
 
-  loaded-is : loaded bs ≡ settle (refusal (conditions false)) empty done (bounded held)
-  unfolding loaded step serve overwrite held conditions
-  loaded-is = refl
+-- ---- the pool that is made
+-- its limits are not refused, so it has one world, which is empty
+made-answer : (w : List ℕ) → capacity w ≡ 950 → (madeOf w (limitsOf (0 ∷ 950 ∷ []))) .answer ≡ gave done
+unfolding madeOf makeBy limitsOf limitsFrom badLimits
+made-answer w z = ap (λ k. (makeBy (eqb k 0) k (worldsOf w) (limitsOf (0 ∷ 950 ∷ []))) .answer) z
 
-  by-cause : {n : ℕ} (P : Positions) (y : Option ℕ) → refused n ≡ (settle y P done (bounded held)) .answer
-      → lines (settle y empty done (bounded held)) ≡ refusedLine n
-  by-cause P none e = absurd (refused-not e)
-  by-cause {n} P (some k) e = let f : k ≡ n = cc in ap refusedLine f
+made-worlds : emptyWorlds (limitsOf (0 ∷ 950 ∷ [])) ≡ alone 950 empty
+unfolding emptyWorlds limitsOf limitsFrom
+made-worlds = refl
 
-  module _ (w : List ℕ) (z : capacity w ≡ 950) where
-    outcome-is : outcomeOf w (Call.load bs) ≡ overwrite 950 (fedOf w) (setConditions bs) held
-    unfolding outcomeOf serve held allowance
-    outcome-is = ap (λ k. overwrite k (fedOf w) (setConditions bs) held) z
+made-holds : {w w₁ : List ℕ} {a : Answer} → capacity w ≡ 950 → Made w (limitsOf (0 ∷ 950 ∷ [])) a w₁ → Holds 950 (alone 950 empty) w₁
+made-holds {w} {w₁} z m =
+    let e = subst (MakeLeaves w w₁ (limitsOf (0 ∷ 950 ∷ []))) (m .answered ∙ made-answer w z) (m .left) in
+    record { sound = e .sound; sized = ap capacityOf (e .long) ∙ z; held = e .worlds ∙ made-worlds }
 
-    -- the words are a store's, so 1 is not given
-    cause : refusal (overwrites (fedOf w) ++ tooMuch when tooMany 950 held ∷ setConditions bs) ≡ refusal (conditions false)
-    unfolding conditions
-    cause = ap (λ t. refusal (conditions t)) (fed-sized w (omega (arith, z)))
+-- ---- the load into it
+-- the positions of the only world of a pool, which was opened
+only-held : {P : Positions} {w : List ℕ} → Holds 950 (alone 950 P) w → heldBy w 0 ≡ P
+only-held {P} {w} H =
+    let e : some (plainAt w 0) ≡ worldOf (alone 950 P) 0 = sym (opened-world w 0 (H .sound .some)) ∙ ap (λ ws. worldOf ws 0) (H .held) in
+    ap (λ o. positionsOf (fedBy o)) e
 
-    load-done : {w′ : List ℕ} → Met w (Call.load bs) (gave done) w′ → Sound w′ × (capacity w′ ≡ 950) × (lines (loaded bs) ≡ setLines (heldBy w′))
-    load-done m =
-        let o = overwritten (fedOf w) (setConditions bs) held z outcome-is m in (
-          o .1 .sound,
-          o .1 .sized,
-          ap lines (loaded-is ∙ ap (λ y. settle y empty done (bounded held)) (sym cause ∙ o .0)) ∙ ap setLines (sym (o .1 .held)),
+module _ (bs : List ℕ) (w : List ℕ) (z : capacity w ≡ 950) {w₁ w₂ : List ℕ} {a : Answer} (m : Made w (limitsOf (0 ∷ 950 ∷ [])) a w₁) where
+  -- the load is the model's
+  load-answer : {b : Answer} → Met w₁ 0 (Call.load bs) b w₂ → b ≡ (loaded bs) .answer
+  unfolding loaded
+  load-answer l = l .answered ∙ ap (λ o. o .answer) (outcome-is (made-holds z m) 0 (Call.load bs))
+
+  -- and leaves the model's world
+  load-holds : {b : Answer} → Met w₁ 0 (Call.load bs) b w₂ → Holds 950 (alone 950 ((loaded bs) .positions)) w₂
+  unfolding loaded step holdingAt
+  load-holds l = step-holds (made-holds z m) l
+
+  -- by what `load` answered
+  module _ (c : Completed) (l : Met w₁ 0 (Call.load bs) (completedAnswer c) w₂) where
+    pub done-told : c ≡ Completed.Done → Openable w₂ 0 × (capacity w₂ ≡ 950) × (lines (loaded bs) ≡ setLines (heldBy w₂ 0))
+    done-told e =
+        let H = load-holds l in (
+          record { sound = H .sound; named = H .sound .some },
+          H .sized,
+          lines-done bs (ap completedAnswer (sym e) ∙ load-answer l) (only-held H),
         )
 
-    load-refused : {w′ : List ℕ} {n : ℕ} → Met w (Call.load bs) (refused n) w′ → lines (loaded bs) ≡ refusedLine n
-    unfolding overwrite
-    load-refused m =
-        ap lines loaded-is
-        ∙ by-cause (positionsOf (fedOf w)) (refusal (conditions false))
-        (m .answered ∙ ap (λ o. o .answer) outcome-is ∙ ap (λ y. (settle y (positionsOf (fedOf w)) done (bounded held)) .answer) cause)
-
-    -- by what `load` answered
-    module _ {w′ : List ℕ} (c : Completed) (m : Met w (Call.load bs) (completedAnswer c) w′) where
-      pub done-told : c ≡ Completed.Done → Sound w′ × (capacity w′ ≡ 950) × (lines (loaded bs) ≡ setLines (heldBy w′))
-      done-told e = load-done (subst (λ d. Met w (Call.load bs) (completedAnswer d) w′) e m)
-
-      pub refused-told : {r : Refusal} → c ≡ Completed.Refused r → lines (loaded bs) ≡ refusedLine (refusalNumber r)
-      refused-told e = load-refused (subst (λ d. Met w (Call.load bs) (completedAnswer d) w′) e m)
+    pub refused-told : {r : Refusal} → c ≡ Completed.Refused r → lines (loaded bs) ≡ refusedLine (refusalNumber r)
+    refused-told e = lines-refused bs (ap completedAnswer (sym e) ∙ load-answer l)

@@ -1,9 +1,9 @@
--- What is reported of a sound store: all its runs and positions, and a listing that a draw shortens by its first run. Assumes nothing.
+-- What is reported of an opened world: all its runs and positions, and a listing that a draw shortens by its first run. Assumes nothing.
 use Prim.Native.Nat.{ℕ, suc, _+_, _-_, _≤_, _<_}
-use mathlib.Core.Path.{_≡_, refl, sym, ap, _∙_, subst}
+use mathlib.Core.Path.{_≡_, sym, ap, _∙_, subst}
 use mathlib.Core.Logic.{_⊎_, inl, inr}
 use mathlib.Core.Bool.{Bool, true, cond, _&&_, Bool·beq}
-use mathlib.Core.List.{List, _∷_}
+use mathlib.Core.List.{List, [], _∷_}
 use mathlib.Core.Option.{Option, none, some}
 use native.Mathlib.Omega.{arith}
 use lib.Dec.{ltb}
@@ -25,14 +25,15 @@ use Rattle.model.proofs.Counting.{among-yes}
 use Rattle.model.proofs.Runs.{runsIn-canon, runsIn-mem, runsIn-is, runsIn-none}
 use Rattle.model.specs.RunList.{Canon}
 use Rattle.model.proofs.RunList.{canon-weaken, mem-above}
-use Rattle.model.specs.Call.{Call, number, listing, drawn, Answer, gave}
+use Rattle.model.specs.Call.{Call, Result, number, listing, drawn, Answer, gave}
 use Rattle.model.specs.Answers.{numberedAnswer, countedAnswer, listedAnswer, drawnAnswer}
-use Rattle.model.specs.Model.{report, drawnFirst, serve, step}
-use Rattle.store.specs.Layout.{capacity, heldBy}
-use Rattle.store.specs.Soundness.{Sound}
-use Rattle.core.specs.Met.{Met}
-use Rattle.core.proofs.Meeting.{refused-not}
-use Rattle.core.proofs.Simulation.{Holds, answer-is}
+use Rattle.model.specs.Model.{positionsOf, report}
+use Rattle.model.proofs.Pools.{claims-split}
+use Rattle.store.specs.Layout.{capacity, heldBy, plainAt, worldsOf}
+use Rattle.store.specs.Settle.{Openable}
+use Rattle.store.proofs.WorldLists.{opened-world}
+use Rattle.core.specs.Met.{Site, Met}
+use Rattle.core.proofs.Meeting.{refused-not, readable, Reports, count-says, count-ranges-says, ranges-says, draw-front-says}
 
 -- what follows the first run
 runsIn-rest : (P : Positions) (v : Bool) (a n : ℕ) (r : Run) (rs : List Run) → runsIn P v a n ≡ r ∷ rs
@@ -76,66 +77,68 @@ remaining-past P l r rs e = go (split (r .«end») (l .last))
         ∙ runsIn-none P v 1 0 (λ x k m. absurd (omega arith))
         ∙ sym (runsIn-none P v (suc (r .«end»)) (l .first + n - suc (r .«end»)) (λ x k m. absurd (omega (arith, h .0, h .1)))) ∙ h .2
 
--- a sound store holds what it holds
-holds : (w : List ℕ) → Sound w → Holds (capacity w) (heldBy w) w
-holds w S = record { sound = S; sized = refl; held = refl }
+-- an opened world has no more runs than the pool has room for
+pub runs-fit : {w : List ℕ} {i : ℕ} → Openable w i → stretches (heldBy w i) ≤ capacity w
+runs-fit {w} {i} op = omega (arith, op .sound .fits, claims-split (worldsOf w) i (plainAt w i) (opened-world w i (op .named)))
 
 -- there is a run
 abbrev Given : Option Run → Type 0
 Given none = ⊥
 Given (some r) = Unit {0}
 
--- what the calls answer of a sound store: none is refused, and a draw gives the first run that is left
-module _ (w : List ℕ) (S : Sound w) where
-  answers-runs : {a : Answer} → Met w (Call.countRanges Unbounded Unbounded true) a w → a ≡ gave (number (stretches (heldBy w)))
-  unfolding step serve report stretches heldRuns Positions.countRanges
-  answers-runs m = answer-is (holds w S) m
+-- what the calls answer of a world that was opened in a sound pool: none is refused, and a draw gives the first run that is left
+module _ (w : List ℕ) {i : ℕ} (op : Openable w i) where
+  answers : {c : Call Site} {A : Positions → Result} {a : Answer} → Reports w i c [] A → Met w i c a w → a ≡ gave (A (heldBy w i))
+  unfolding report
+  answers {A = A} says m =
+      m .answered ∙ ap (λ o. o .answer) (says .said) ∙ ap (λ s. (report s [] (A (positionsOf s))) .answer) (readable op .fed)
 
-  answers-ones : {a : Answer} → Met w (Call.count Unbounded Unbounded true) a w → a ≡ gave (number (count (heldBy w) true 0 size))
-  unfolding step serve report
-  answers-ones m = answer-is (holds w S) m
+  answers-runs : {a : Answer} → Met w i (Call.countRanges Unbounded Unbounded true) a w → a ≡ gave (number (stretches (heldBy w i)))
+  unfolding stretches heldRuns Positions.countRanges
+  answers-runs m = answers (count-ranges-says w i Unbounded Unbounded true) m
 
-  answers-listing : {a : Answer} → Met w (Call.ranges Unbounded Unbounded true) a w → a ≡ gave (listing (record { first = 0; last = size - 1; value = true }))
-  unfolding step serve report
-  answers-listing m = answer-is (holds w S) m
+  answers-ones : {a : Answer} → Met w i (Call.count Unbounded Unbounded true) a w → a ≡ gave (number (count (heldBy w i) true 0 size))
+  answers-ones m = answers (count-says w i Unbounded Unbounded true) m
 
-  answers-draw : {a : Answer} (l : Listing) {r : Run} {rs : List Run} → remaining (heldBy w) l ≡ r ∷ rs → Met w (Call.drawFront l) a w
+  answers-listing : {a : Answer} → Met w i (Call.ranges Unbounded Unbounded true) a w → a ≡ gave (listing (record { first = 0; last = size - 1; value = true }))
+  answers-listing m = answers (ranges-says w i Unbounded Unbounded true) m
+
+  answers-draw : {a : Answer} (l : Listing) {r : Run} {rs : List Run} → remaining (heldBy w i) l ≡ r ∷ rs → Met w i (Call.drawFront l) a w
       → a ≡ gave (drawn (some r) (pastFirst l (some r)))
-  unfolding step serve report drawnFirst
-  answers-draw l e m = answer-is (holds w S) m ∙ ap (λ ss. gave (drawn (Positions.firstRun ss) (pastFirst l (Positions.firstRun ss)))) e
+  answers-draw l e m = answers (draw-front-says w i l) m ∙ ap (λ ss. gave (drawn (Positions.firstRun ss) (pastFirst l (Positions.firstRun ss)))) e
 
-  module _ (n : Numbered) (m : Met w (Call.countRanges Unbounded Unbounded true) (numberedAnswer n) w) where
-    pub runs-told : {k : ℕ} → n ≡ Numbered.Number k → k ≡ stretches (heldBy w)
-    runs-told {k} e = let h : gave (number k) ≡ gave (number (stretches (heldBy w))) = ap numberedAnswer (sym e) ∙ answers-runs m in cc
+  module _ (n : Numbered) (m : Met w i (Call.countRanges Unbounded Unbounded true) (numberedAnswer n) w) where
+    pub runs-told : {k : ℕ} → n ≡ Numbered.Number k → k ≡ stretches (heldBy w i)
+    runs-told {k} e = let h : gave (number k) ≡ gave (number (stretches (heldBy w i))) = ap numberedAnswer (sym e) ∙ answers-runs m in cc
 
     pub runs-refused : {r : Refusal} → n ≡ Numbered.Refused r → ⊥
     runs-refused e = refused-not (ap numberedAnswer (sym e) ∙ answers-runs m)
 
-  module _ (n : Counted) (m : Met w (Call.count Unbounded Unbounded true) (countedAnswer n) w) where
-    pub ones-told : {k : Count} → n ≡ Counted.Count k → worth k ≡ count (heldBy w) true 0 size
-    ones-told {k} e = let h : gave (number (worth k)) ≡ gave (number (count (heldBy w) true 0 size)) = ap countedAnswer (sym e) ∙ answers-ones m in cc
+  module _ (n : Counted) (m : Met w i (Call.count Unbounded Unbounded true) (countedAnswer n) w) where
+    pub ones-told : {k : Count} → n ≡ Counted.Count k → worth k ≡ count (heldBy w i) true 0 size
+    ones-told {k} e = let h : gave (number (worth k)) ≡ gave (number (count (heldBy w i) true 0 size)) = ap countedAnswer (sym e) ∙ answers-ones m in cc
 
     pub ones-refused : {r : Refusal} → n ≡ Counted.Refused r → ⊥
     ones-refused e = refused-not (ap countedAnswer (sym e) ∙ answers-ones m)
 
-  module _ (n : Listed) (m : Met w (Call.ranges Unbounded Unbounded true) (listedAnswer n) w) where
-    pub listing-told : {k : Listing} → n ≡ Listed.Listing k → remaining (heldBy w) k ≡ heldRuns (heldBy w)
+  module _ (n : Listed) (m : Met w i (Call.ranges Unbounded Unbounded true) (listedAnswer n) w) where
+    pub listing-told : {k : Listing} → n ≡ Listed.Listing k → remaining (heldBy w i) k ≡ heldRuns (heldBy w i)
     unfolding remaining heldRuns
     listing-told {k} e =
         let h : gave (listing k) ≡ gave (listing (record { first = 0; last = size - 1; value = true })) = ap listedAnswer (sym e) ∙ answers-listing m in
         let g : k ≡ record { first = 0; last = size - 1; value = true } = cc in
-        ap (remaining (heldBy w)) g
+        ap (remaining (heldBy w i)) g
 
     pub listing-refused : {r : Refusal} → n ≡ Listed.Refused r → ⊥
     listing-refused e = refused-not (ap listedAnswer (sym e) ∙ answers-listing m)
 
-  module _ (n : Drawn) (l : Listing) (m : Met w (Call.drawFront l) (drawnAnswer n) w) {r : Run} {rs : List Run} (left : remaining (heldBy w) l ≡ r ∷ rs) where
-    pub draw-told : {q : Run} {k : Listing} → n ≡ Drawn.Run q k → (q ≡ r) × (remaining (heldBy w) k ≡ rs)
+  module _ (n : Drawn) (l : Listing) (m : Met w i (Call.drawFront l) (drawnAnswer n) w) {r : Run} {rs : List Run} (left : remaining (heldBy w i) l ≡ r ∷ rs) where
+    pub draw-told : {q : Run} {k : Listing} → n ≡ Drawn.Run q k → (q ≡ r) × (remaining (heldBy w i) k ≡ rs)
     draw-told {q} {k} e =
         let h : gave (drawn (some q) k) ≡ gave (drawn (some r) (pastFirst l (some r))) = ap drawnAnswer (sym e) ∙ answers-draw l left m in
         let g : k ≡ pastFirst l (some r) = cc in
         let f : q ≡ r = cc in
-        (f, ap (remaining (heldBy w)) g ∙ remaining-past (heldBy w) l r rs left)
+        (f, ap (remaining (heldBy w i)) g ∙ remaining-past (heldBy w i) l r rs left)
 
     pub draw-refused : {q : Refusal} → n ≡ Drawn.Refused q → ⊥
     draw-refused e = refused-not (ap drawnAnswer (sym e) ∙ answers-draw l left m)

@@ -10,7 +10,8 @@ use Rattle.model.specs.declared.Run.{Run}
 use Rattle.model.specs.Numbers.{size}
 use Rattle.model.specs.Positions.{Positions, count, heldRuns, stretches, empty}
 use Rattle.model.specs.Call.{Call, Answer, refused, gave}
-use Rattle.model.specs.Model.{Outcome, step}
+use Rattle.model.specs.Model.{Outcome}
+use Rattle.model.specs.Pools.{serveAt, alone}
 
 -- how many decimal digits n has, if not more than f + 1
 unfoldable pub places : ℕ → ℕ → ℕ
@@ -63,9 +64,9 @@ abbrev pub outcomeLines : Answer → Positions → List ℕ
 outcomeLines (refused n) P = refusedLine n
 outcomeLines (gave r) P = setLines P
 
--- what loading the bytes into an empty store of capacity 950 comes to
+-- what loading the bytes into the only world, which is empty, of a pool of capacity 950 comes to: its floor is 0 and its ceiling 950
 unfoldable pub loaded : List ℕ → Outcome
-loaded bs = step 950 empty (Call.load bs)
+loaded bs = serveAt 950 (alone 950 empty) 0 (Call.load bs)
 
 -- WHAT IS PRINTED of the bytes on standard input
 unfoldable pub printed : List ℕ → List ℕ

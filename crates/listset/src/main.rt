@@ -1,5 +1,5 @@
-// Prints the written set that standard input holds: how many runs, how many positions held, and each run. It is read into a store of capacity
-// 950. The whole text is put together before a byte of it is written.
+// Prints the written set that standard input holds: how many runs, how many positions held, and each run. It is read into the only
+// world of a pool of capacity 950, with floor 0 and ceiling 950. The whole text is put together before a byte of it is written.
 ghost use Prim.Native.Nat.{_+_, _*_, _≤_, _^_};
 ghost use mathlib.Core.Path.{_≡_};
 ghost use mathlib.Core.Bool.{true};
@@ -8,10 +8,11 @@ ghost use Rattle.io.specs.Counts.{Counts};
 ghost use Rattle.model.specs.Numbers.{size, worth, refusalNumber};
 ghost use Rattle.model.specs.Positions.{stretches, count, heldRuns, remaining};
 ghost use Rattle.store.specs.Layout.{capacity, heldBy};
-ghost use Rattle.store.specs.Soundness.{Sound};
+ghost use Rattle.store.specs.Settle.{Openable};
 ghost use Rattle.listset.specs.Text.{decimal, runLine, runLines, refusedLine, countLines, setLines, printed};
 ghost use Rattle.listset.specs.Put.{Puts, PutsNext, Within, Filled};
 use interval_bit_set::bytes;
+use interval_bit_set::make;
 use interval_bit_set::report;
 use model::Bound;
 use model::Completed;
@@ -26,9 +27,12 @@ use model::Run;
 
 const CAPACITY: usize = 950;
 
-const WORDS: usize = 8 * (CAPACITY + 3);
+const WORDS: usize = 8 * (CAPACITY + 49);
 
-// The bytes of a written set of as many runs as the store takes.
+// The only world may have as many runs as the pool has room for.
+const CEILING: u64 = 950;
+
+// The bytes of a written set of as many runs as the world takes.
 const MOST: usize = 5 + 16 * CAPACITY;
 
 // Enough for the longest text: 26 bytes for the line of each count, and 42 for that of each run.
@@ -100,12 +104,12 @@ fn put_refused(out: &mut [u8], r: Refusal) -> usize
     put(out, b, b"\n")
 }
 
-// ---- the set: what is reported of a sound store. None of these calls is then refused
+// ---- the set: what is reported of world 0 of a sound pool. None of these calls is then refused
 fn run_count(words: &[u64]) -> u64
-    requires { ⌜ Sound (now words) ⌝ }
-    ensures { λ r. ⌜ r ≡ stretches (heldBy (now (words .entry))) ⌝ }
+    requires { ⌜ Openable (now words) 0 ⌝ }
+    ensures { λ r. ⌜ r ≡ stretches (heldBy (now (words .entry)) 0) ⌝ }
 {
-    let n = report::count_ranges(words, Bound::Unbounded, Bound::Unbounded, true);
+    let n = report::count_ranges(words, 0, Bound::Unbounded, Bound::Unbounded, true);
     match n {
         Numbered::Refused(r) => 0,
         Numbered::Number(k) => k,
@@ -113,10 +117,10 @@ fn run_count(words: &[u64]) -> u64
 }
 
 fn held_count(words: &[u64]) -> Count
-    requires { ⌜ Sound (now words) ⌝ }
-    ensures { λ r. ⌜ worth r ≡ count (heldBy (now (words .entry))) true 0 size ⌝ }
+    requires { ⌜ Openable (now words) 0 ⌝ }
+    ensures { λ r. ⌜ worth r ≡ count (heldBy (now (words .entry)) 0) true 0 size ⌝ }
 {
-    let n = report::count(words, Bound::Unbounded, Bound::Unbounded, true);
+    let n = report::count(words, 0, Bound::Unbounded, Bound::Unbounded, true);
     match n {
         Counted::Refused(r) => Count { carry: 0, low: 0 },
         Counted::Count(c) => c,
@@ -124,10 +128,10 @@ fn held_count(words: &[u64]) -> Count
 }
 
 fn all_runs(words: &[u64]) -> Listing
-    requires { ⌜ Sound (now words) ⌝ }
-    ensures { λ r. ⌜ remaining (heldBy (now (words .entry))) r ≡ heldRuns (heldBy (now (words .entry))) ⌝ }
+    requires { ⌜ Openable (now words) 0 ⌝ }
+    ensures { λ r. ⌜ remaining (heldBy (now (words .entry)) 0) r ≡ heldRuns (heldBy (now (words .entry)) 0) ⌝ }
 {
-    let l = report::ranges(words, Bound::Unbounded, Bound::Unbounded, true);
+    let l = report::ranges(words, 0, Bound::Unbounded, Bound::Unbounded, true);
     match l {
         Listed::Refused(r) => Listing {
             first: 1,
@@ -147,10 +151,10 @@ struct Rest {
 // Puts the next run, if there is one.
 fn put_next(out: &mut [u8], at: usize, words: &[u64], l: Listing) -> Rest
     requires { ⌜ at + 42 ≤ length (now out) ⌝ }
-    requires { ⌜ Sound (now words) ⌝ }
-    ensures { λ r. ⌜ PutsNext (heldBy (now (words .entry))) l (now (out .entry)) at (now (out .exit)) r ⌝ }
+    requires { ⌜ Openable (now words) 0 ⌝ }
+    ensures { λ r. ⌜ PutsNext (heldBy (now (words .entry)) 0) l (now (out .entry)) at (now (out .exit)) r ⌝ }
 {
-    let d = report::draw_front(words, l);
+    let d = report::draw_front(words, 0, l);
     match d {
         Drawn::Refused(r) => Rest { at: at, listing: l },
         Drawn::Run(r, m) => {
@@ -164,9 +168,9 @@ fn put_next(out: &mut [u8], at: usize, words: &[u64], l: Listing) -> Rest
 // Puts all runs of a listing that has so many.
 fn put_runs(out: &mut [u8], at: usize, words: &[u64], first: Listing, runs: u64) -> usize
     requires { ⌜ at + 42 * runs ≤ length (now out) ⌝ }
-    requires { ⌜ Sound (now words) ⌝ }
-    requires { ⌜ length (remaining (heldBy (now words)) first) ≡ runs ⌝ }
-    ensures { λ r. ⌜ Puts (now (out .entry)) at (runLines (remaining (heldBy (now (words .entry))) first)) (now (out .exit)) r ⌝ }
+    requires { ⌜ Openable (now words) 0 ⌝ }
+    requires { ⌜ length (remaining (heldBy (now words) 0) first) ≡ runs ⌝ }
+    ensures { λ r. ⌜ Puts (now (out .entry)) at (runLines (remaining (heldBy (now (words .entry)) 0) first)) (now (out .exit)) r ⌝ }
 {
     let mut rest = Rest {
         at: at,
@@ -184,8 +188,8 @@ fn put_runs(out: &mut [u8], at: usize, words: &[u64], first: Listing, runs: u64)
 
 fn put_set(out: &mut [u8], words: &[u64]) -> usize
     requires { ⌜ 52 + 42 * capacity (now words) ≤ length (now out) ⌝ }
-    requires { ⌜ Sound (now words) ⌝ }
-    ensures { λ r. ⌜ Puts (now (out .entry)) 0 (setLines (heldBy (now (words .entry)))) (now (out .exit)) r ⌝ }
+    requires { ⌜ Openable (now words) 0 ⌝ }
+    ensures { λ r. ⌜ Puts (now (out .entry)) 0 (setLines (heldBy (now (words .entry)) 0)) (now (out .exit)) r ⌝ }
 {
     let runs = run_count(words);
     let a = put_counts(out, runs, held_count(words));
@@ -201,7 +205,9 @@ fn answer(out: &mut [u8; TEXT], bytes: &[u8]) -> usize
         return put(out, 0, b"too long\n");
     }
     let mut words = [0u64; WORDS];
-    let c = bytes::load(&mut words, bytes);
+    let limits = [0u64, CEILING];
+    make::new(&mut words, &limits);
+    let c = bytes::load(&mut words, 0, bytes);
     match c {
         Completed::Refused(r) => put_refused(out, r),
         Completed::Done => put_set(out, &words),

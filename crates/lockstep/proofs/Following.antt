@@ -1,45 +1,55 @@
--- A whole history goes along with the model, call by call, from a new store on. Assumes nothing.
+-- A whole history goes along with the model, call by call, from a new pool on. Assumes nothing.
 use Prim.Native.Nat.{ℕ}
 use mathlib.Core.Path.{_≡_, refl, sym, ap, ap₂, _∙_, subst}
-use mathlib.Core.List.{List, [], _∷_}
-use Rattle.model.specs.Positions.{Positions, empty}
-use Rattle.model.specs.Call.{Call, Answer}
-use Rattle.model.specs.Model.{Outcome, overwrite, serve, after}
-use Rattle.store.specs.Layout.{allowance}
-use Rattle.core.specs.Met.{fedOf, outcomeOf}
-use Rattle.lockstep.specs.History.{History, rest, call, New, Played, told, outcomes, left, Follows, over, next}
-use Rattle.core.proofs.Simulation.{Holds, bounded-same, empty-ends, answer-is, step-holds, overwritten}
+use mathlib.Core.List.{List, _∷_}
+use Rattle.model.specs.declared.Limits.{Limits}
+use Rattle.model.specs.Call.{PoolCall, make, at, feedPool, Answer}
+use Rattle.model.specs.Pools.{PlainWorld, PoolOutcome, emptyWorlds, step, after}
+use Rattle.store.specs.Layout.{capacityOf, worldsOf}
+use Rattle.core.specs.Met.{Site, fedAt}
+use Rattle.lockstep.specs.History.{Stepped, History, rest, call, New, Played, told, outcomes, left, Follows, over, next}
+use Rattle.core.proofs.Simulation.{Holds, answer-is, step-holds, made-answer, made-holds}
 
--- a whole history from there: every answer, and the positions after each call
-pub follows : {C : ℕ} {P : Positions} {w : List ℕ} {cs : List (Call (List ℕ))} {rs : List Answer} {ws : List (List ℕ)}
-    → Holds C P w → History w cs rs ws → Follows rs ws (outcomes C P (told cs))
+-- ---- one call
+pub stepped-answer : {C : ℕ} {vs : List PlainWorld} {w : List ℕ} (w′ : List ℕ) (a : Answer) (c : PoolCall Site) → Holds C vs w → Stepped w c a w′ → a ≡ (step C vs (feedPool fedAt c)) .answer
+stepped-answer w′ a (make ls) H m = made-answer H m
+stepped-answer w′ a (at i c) H m = answer-is H m
+
+pub stepped-holds : {C : ℕ} {vs : List PlainWorld} {w : List ℕ} (w′ : List ℕ) (a : Answer) (c : PoolCall Site) → Holds C vs w → Stepped w c a w′ → Holds C ((step C vs (feedPool fedAt c)) .worlds) w′
+stepped-holds w′ a (make ls) H m = made-holds H m
+stepped-holds w′ a (at i c) H m = step-holds H m
+
+-- ---- a whole history from there
+-- every answer, and the worlds after each call
+pub follows : {C : ℕ} {vs : List PlainWorld} {w : List ℕ} {cs : List (PoolCall Site)} {rs : List Answer} {ws : List (List ℕ)}
+    → Holds C vs w → History w cs rs ws → Follows rs ws (outcomes C vs (told cs))
 follows H rest = over
-follows H (call m h) = let K = step-holds H m in next (answer-is H m) (K .held) (follows K h)
+follows H (call {w′ = w′} {a = a} c m h) = let K = stepped-holds w′ a c H m in next (stepped-answer w′ a c H m) (K .held) (follows K h)
 
--- and the store in the end
-pub left-holds : {C : ℕ} {P : Positions} {w : List ℕ} {cs : List (Call (List ℕ))} {rs : List Answer} {ws : List (List ℕ)}
-    → Holds C P w → History w cs rs ws → Holds C (after C P (told cs)) (left w ws)
+-- and the pool in the end
+pub left-holds : {C : ℕ} {vs : List PlainWorld} {w : List ℕ} {cs : List (PoolCall Site)} {rs : List Answer} {ws : List (List ℕ)}
+    → Holds C vs w → History w cs rs ws → Holds C (after C vs (told cs)) (left w ws)
 unfolding after
 left-holds H rest = H
-left-holds H (call m h) = left-holds (step-holds H m) h
+left-holds H (call {w′ = w′} {a = a} c m h) = left-holds (stepped-holds w′ a c H m) h
 
--- a new store is empty
-pub new-holds : {C : ℕ} {w : List ℕ} → New C w → Holds C empty w
-unfolding outcomeOf serve allowance
-new-holds {C} {w} N =
-    subst (λ P. Holds C P w) (bounded-same empty empty-ends)
-    ((overwritten (fedOf (N .before)) [] empty (N .sized) (ap (λ k. overwrite k (fedOf (N .before)) [] empty) (N .sized)) (N .made)) .1)
+-- a new pool has empty worlds
+pub new-holds : {C : ℕ} {ls : List Limits} {w : List ℕ} → New C ls w → Holds C (emptyWorlds ls) w
+new-holds N = let E = N .made .left in record { sound = E .sound; sized = ap capacityOf (E .long) ∙ N .sized; held = E .worlds }
 
--- a history from a new store leaves the model's positions
-pub played-holds : {C : ℕ} {cs : List (Call (List ℕ))} {w : List ℕ} → Played C cs w → Holds C (after C empty (told cs)) w
-played-holds {C} {cs} p = subst (Holds C (after C empty (told cs))) (sym (p .now)) (left-holds (new-holds (p .new)) (p .history))
+-- a history from a new pool leaves the model's worlds
+pub played-holds : {C : ℕ} {ls : List Limits} {cs : List (PoolCall Site)} {w : List ℕ} → Played C ls cs w → Holds C (after C (emptyWorlds ls) (told cs)) w
+played-holds {C} {ls} {cs} p = subst (Holds C (after C (emptyWorlds ls) (told cs))) (sym (p .now)) (left-holds (new-holds (p .new)) (p .history))
 
 -- two lists of answers that follow the same outcomes are the same
-same-answers : {rs rs′ : List Answer} {ws ws′ : List (List ℕ)} {os : List Outcome} → Follows rs ws os → Follows rs′ ws′ os → rs ≡ rs′
+same-answers : {rs qs : List Answer} {ws vs : List (List ℕ)} {os : List PoolOutcome} → Follows rs ws os → Follows qs vs os → rs ≡ qs
 same-answers over over = refl
 same-answers (next e p f) (next e′ p′ f′) = ap₂ {C = List Answer} (λ a l. a ∷ l) (e ∙ sym e′) (same-answers f f′)
 
--- so stores that hold the same answer equal calls alike
-pub answered-alike : {C : ℕ} {P Q : Positions} {w v : List ℕ} {cs ds : List (Call (List ℕ))} {rs qs : List Answer} {ws vs : List (List ℕ)}
-    → Holds C P w → Holds C Q v → P ≡ Q → told cs ≡ told ds → History w cs rs ws → History v ds qs vs → rs ≡ qs
-answered-alike {C} {rs = rs} {ws = ws} H K e d h k = same-answers (subst (Follows rs ws) (ap₂ (outcomes C) e d) (follows H h)) (follows K k)
+-- so pools with the same worlds answer equal calls alike, and have the same worlds after them
+pub answered-alike : {C : ℕ} {us : List PlainWorld} {w v : List ℕ} {cs ds : List (PoolCall Site)} {rs qs : List Answer} {ws vs : List (List ℕ)}
+    → Holds C us w → Holds C us v → told cs ≡ told ds → History w cs rs ws → History v ds qs vs → (rs ≡ qs) × (worldsOf (left w ws) ≡ worldsOf (left v vs))
+answered-alike {C} {us} {rs = rs} {ws = ws} H K d h k = (
+  same-answers (subst (λ l. Follows rs ws (outcomes C us l)) d (follows H h)) (follows K k),
+  (left-holds H h) .held ∙ ap (after C us) d ∙ sym ((left-holds K k) .held),
+)

@@ -6,5 +6,9 @@ pub mod Clearing
 pub mod Empty
 pub mod Following
 pub mod Loading
+pub mod Lone
+pub mod Reloading
+pub mod Neighbours
+pub mod Floors
 pub mod Writing
 pub mod Theorems

@@ -1,69 +1,110 @@
 -- From what the calls of the two histories promise to what the theorems ask: making is done in words of a capacity, each further call is
 -- one more of the history, and a set written into a slice with room is told by its bytes. Assumes nothing.
 use Prim.Native.Nat.{ℕ, _+_, _≤_, _<_}
-use mathlib.Core.Path.{_≡_, refl, sym, _∙_, subst}
-use mathlib.Core.Bool.{true}
+use mathlib.Core.Path.{_≡_, refl, sym, ap, ap₂, _∙_, subst}
+use mathlib.Core.Bool.{true, false, _||_, or-false}
+use lib.Dec.{ltb}
 use mathlib.Core.List.{List, [], _∷_}
+use mathlib.Core.Option.{Option, none, some}
 use native.Mathlib.Omega.{arith}
+use borrow.Author.Tests.{le-ltb}
 use lib.ListN.{take}
 use Rattle.model.specs.declared.Bound.the-variants.{Included}
+use Rattle.model.specs.declared.Limits.{Limits}
 use Rattle.model.specs.declared.Written.{Written}
 use Rattle.model.specs.Numbers.{size}
+use Rattle.model.specs.Positions.{Positions, empty}
 use Rattle.model.specs.Answers.{writtenAnswer}
-use Rattle.model.specs.Call.{Call, Answer}
-use Rattle.store.specs.Layout.{capacity}
-use Rattle.core.specs.Met.{Met}
+use Rattle.model.specs.Refusals.{badLimits}
+use Rattle.model.specs.Call.{Call, at, Answer}
+use Rattle.model.specs.Pools.{PlainWorld, worldOf, limitsOf, emptyWorlds, after}
+use Rattle.store.specs.Layout.{capacity, heldBy}
+use Rattle.store.proofs.WorldLists.{opened-world}
+use Rattle.core.specs.Met.{Site, Met, Made}
 use Rattle.core.specs.Out.{WritesOut}
 use Rattle.core.proofs.Meeting.{refused-not}
-use Rattle.lockstep.specs.History.{rest, call, New, Played, WritesSet}
-use Rattle.lockstep.proofs.Empty.{fresh}
+use Rattle.core.proofs.Simulation.{Holds}
+use Rattle.lockstep.specs.History.{rest, call, New, Played, told, WritesSet}
 use Rattle.lockstep.specs.Theorems.{Wrote}
-use Rattle.lockstep.proofs.Theorems.{theorem2-bytes, theorem2-room}
 use Rattle.lockstep.specs.Meeting.{Lent, SameBytes}
+use Rattle.lockstep.proofs.Empty.{fresh}
+use Rattle.lockstep.proofs.Following.{played-holds}
+use Rattle.lockstep.proofs.Theorems.{theorem2, theorem2-room}
 use Rattle.lockstep.proofs.Ways.{ways-meet}
 
+-- the limits of one world that may have all are good
+lone-good : (C : ℕ) → 1 ≤ C → badLimits C (record { floor = 0; ceiling = C } ∷ []) ≡ false
+unfolding badLimits
+lone-good C h = ap₂ (λ x y. x || y) (or-false (ltb C 0) ∙ le-ltb C 0 (omega arith)) (le-ltb C (0 + 0) (omega arith))
+
 -- making is done, since `new` may answer nothing else
-made : {w v : List ℕ} {a : Answer} {C : ℕ} → 1 ≤ C → capacity w ≡ C → Met w Call.make a v → New C v
-made {w} {v} h e m =
-    let d = m .answered ∙ sym ((fresh w (omega arith)) .made .answered) in
-    record { before = w; sized = e; made = subst (λ b. Met w Call.make b v) d m }
+made : {w v : List ℕ} (ls : List ℕ) {a : Answer} {C : ℕ} → 1 ≤ C → capacity w ≡ C → limitsOf ls ≡ record { floor = 0; ceiling = C } ∷ [] → Made w (limitsOf ls) a v → New C (limitsOf ls) v
+made {w} {v} ls {C = C} h e f m =
+    let good : badLimits (capacity w) (limitsOf ls) ≡ false = ap₂ badLimits e f ∙ lone-good C h in
+    let d = m .answered ∙ sym ((fresh w ls (omega arith) good) .made .answered) in
+    record { before = w; sized = e; made = subst (λ b. Made w (limitsOf ls) b v) d m }
 
 -- ---- a set written into a slice with room
 -- is told by how many bytes it has
-told : (r : Written) (out : List ℕ) → Wrote (writtenAnswer r out) → (n : ℕ) × (r ≡ Written.Bytes n)
-told (Written.Refused r) out (n, bs, e) = absurd (refused-not e)
-told (Written.Bytes n) out k = (n, refl)
+tells : (r : Written) (out : List ℕ) → Wrote (writtenAnswer r out) → (n : ℕ) × (r ≡ Written.Bytes n)
+tells (Written.Refused r) out (n, bs, e) = absurd (refused-not e)
+tells (Written.Bytes n) out k = (n, refl)
 
 -- so much of the slice is the set
-writes : {w out out′ : List ℕ} {r : Written} {n : ℕ} → WritesOut Call.writeSet w out r out′ → r ≡ Written.Bytes n → WritesSet w (take n out′)
-writes {w} {out} {out′} {n = n} W e = record {
+writes : {w out out′ : List ℕ} {i : ℕ} {r : Written} {n : ℕ} → WritesOut Call.writeSet w i out r out′ → r ≡ Written.Bytes n → WritesSet w i (take n out′)
+writes {w} {out} {out′} {i} {n = n} W e = record {
   out = out;
   count = n;
   slice = out′;
   after = w;
-  met = subst (λ q. Met w (Call.writeSet out) (writtenAnswer q out′) w) e (W .met);
+  met = subst (λ q. Met w i (Call.writeSet out) (writtenAnswer q out′) w) e (W .met);
   bytes = refl;
 }
 
+-- ---- a pool of one world
+-- the positions of a world, if there is one
+abbrev positionsIn : Option PlainWorld → Positions
+positionsIn none = empty
+positionsIn (some x) = x .positions
+
+-- two pools with equal worlds hold the same in the first
+same-held : {C : ℕ} {vs us : List PlainWorld} {w v : List ℕ} → Holds C vs w → Holds C us v → vs ≡ us → heldBy w 0 ≡ heldBy v 0
+same-held {w = w} {v} H K e =
+    let f = sym (opened-world w 0 (H .sound .some)) ∙ ap (λ l. worldOf l 0) (H .held ∙ e ∙ sym (K .held)) ∙ opened-world v 0 (K .sound .some) in
+    ap positionsIn f
+
+-- the plain model's two ways meet
+lone-meet : (C low high distance : ℕ) → 1 ≤ C → low ≤ high → high + distance < size
+    → after C (emptyWorlds (record { floor = 0; ceiling = C } ∷ [])) (at 0 (Call.set (Included (low + distance)) (Included (high + distance)) true) ∷ [])
+    ≡ after C (emptyWorlds (record { floor = 0; ceiling = C } ∷ [])) (at 0 (Call.set (Included low) (Included high) true) ∷ at 0 (Call.shift distance true) ∷ [])
+unfolding emptyWorlds
+lone-meet C low high distance c h l = ways-meet C distance low high c h l
+
 -- ---- the two histories, and what they write
-module _ {a b left right left′ right′ a₁ a₂ b₁ b₂ b₃ : List ℕ} {low high distance : ℕ} {p q r s t : Answer} {x y : Written} where
+module _ {a b limits left right left′ right′ a₁ a₂ b₁ b₂ b₃ : List ℕ} {low high distance : ℕ} {p q r s t : Answer} {x y : Written} where
   pub same-bytes :
-      Lent a b left right → low ≤ high → high + distance < size
-      → Met a Call.make p a₁ → Met a₁ (Call.set (Included (low + distance)) (Included (high + distance)) true) q a₂
-      → Met b Call.make r b₁ → Met b₁ (Call.set (Included low) (Included high) true) s b₂ → Met b₂ (Call.shift distance true) t b₃
-      → WritesOut Call.writeSet a₂ left x left′ → WritesOut Call.writeSet b₃ right y right′
+      Lent a b limits left right → low ≤ high → high + distance < size
+      → Made a (limitsOf limits) p a₁ → Met a₁ 0 (Call.set (Included (low + distance)) (Included (high + distance)) true) q a₂
+      → Made b (limitsOf limits) r b₁ → Met b₁ 0 (Call.set (Included low) (Included high) true) s b₂ → Met b₂ 0 (Call.shift distance true) t b₃
+      → WritesOut Call.writeSet a₂ 0 left x left′ → WritesOut Call.writeSet b₃ 0 right y right′
       → SameBytes (record { first = x; second = y }) left′ right′
   same-bytes L h l ma sa mb sb tb X Y =
-      let A : Played (capacity a) (Call.set (Included (low + distance)) (Included (high + distance)) true ∷ []) a₂ =
-      record { first = a₁; new = made (L .sized) refl ma; answers = _; states = _; history = call sa rest; now = refl } in
-      let B : Played (capacity a) (Call.set (Included low) (Included high) true ∷ Call.shift distance true ∷ []) b₃ =
-      record { first = b₁; new = made (L .sized) (L .alike) mb; answers = _; states = _; history = call sb (call tb rest); now = refl } in
-      let n = told x left′ (theorem2-room _ _ _ _ _ _ A (L .room) (X .met)) in
-      let m = told y right′ (theorem2-room _ _ _ _ _ _ B (L .room₂) (Y .met)) in
+      let C = capacity a in
+      let A : Played C (limitsOf limits) (at 0 (Call.set (Included (low + distance)) (Included (high + distance)) true) ∷ []) a₂ =
+      record { first = a₁; new = made limits (L .sized) refl (L .lone) ma; answers = _; states = _; history = call _ sa rest; now = refl } in
+      let B : Played C (limitsOf limits) (at 0 (Call.set (Included low) (Included high) true) ∷ at 0 (Call.shift distance true) ∷ []) b₃ =
+      record { first = b₁; new = made limits (L .sized) (L .alike) (L .lone) mb; answers = _; states = _; history = call _ sb (call _ tb rest); now = refl } in
+      let H = played-holds A in
+      let K = played-holds B in
+      let e = ap (λ ls. after C (emptyWorlds ls) (told (at 0 (Call.set (Included (low + distance)) (Included (high + distance)) true) ∷ []))) (L .lone)
+      ∙ lone-meet C low high distance (L .sized) h l
+      ∙ sym (ap (λ ls. after C (emptyWorlds ls) (told (at 0 (Call.set (Included low) (Included high) true) ∷ at 0 (Call.shift distance true) ∷ []))) (L .lone)) in
+      let n = tells x left′ (theorem2-room a₂ 0 _ _ _ (H .sound) (H .sound .some) (omega (arith, L .room, H .sized)) (X .met)) in
+      let m = tells y right′ (theorem2-room b₃ 0 _ _ _ (K .sound) (K .sound .some) (omega (arith, L .room₂, K .sized)) (Y .met)) in
       record {
         n = n .0;
         m = m .0;
         first-is = n .1;
         second-is = m .1;
-        bytes = (theorem2-bytes _ _ _ _ _ _ _ A B (writes X (n .1)) (writes Y (m .1))) .0 (ways-meet (capacity a) distance low high (L .sized) h l);
+        bytes = (theorem2 a₂ 0 b₃ 0 _ _ (writes X (n .1)) (writes Y (m .1))) .0 (same-held H K e);
       }

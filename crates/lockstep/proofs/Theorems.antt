@@ -1,47 +1,62 @@
--- The theorems hold (specs/Theorems.antt): each is what the lemma files show of histories, matches, written sets and cleared maps.
+-- The theorems hold (specs/Theorems.antt): each is what the lemma files show of histories, matches, written sets, worlds and cleared maps.
 -- Assumes nothing.
+use mathlib.Core.Path.{refl, sym}
 use native.Mathlib.Nat.{le-trans}
+use Rattle.store.specs.Settle.{Openable}
 use Rattle.lockstep.specs.Theorems.{
   Theorem1,
   Theorem1-matches,
-  Theorem2-bytes,
+  Theorem2,
   Theorem2-room,
-  Theorem2-later,
   Theorem3,
+  Theorem4,
+  Theorem5,
+  Theorem6,
   Cleared-reads,
   Cleared-once,
   Written-stays,
 }
-use Rattle.lockstep.proofs.Following.{follows, new-holds, played-holds, answered-alike}
+use Rattle.lockstep.proofs.Following.{follows, new-holds, answered-alike}
 use Rattle.lockstep.proofs.Matches.{matches}
 use Rattle.lockstep.proofs.Writing.{bytes-few, written-all, written-alike}
-use Rattle.lockstep.proofs.Loading.{loads-writable, writable-loads}
+use Rattle.lockstep.proofs.Loading.{writable-loads}
+use Rattle.lockstep.proofs.Reloading.{loads-writable}
+use Rattle.lockstep.proofs.Floors.{reaches-floor}
+use Rattle.lockstep.proofs.Neighbours.{alike}
 use Rattle.lockstep.proofs.Clearing
 use Rattle.lockstep.proofs.Clearing.{written-stays}
 
 pub theorem1 : Theorem1
-theorem1 C w cs rs ws N h = follows (new-holds N) h
+theorem1 C ls w cs rs vs N h = follows (new-holds N) h
 
 pub theorem1-matches : Theorem1-matches
-theorem1-matches C w w′ cs rs N h = matches N h
+theorem1-matches C ls w w′ cs rs N h = matches N h
 
-pub theorem2-bytes : Theorem2-bytes
-theorem2-bytes C cs cs′ w w′ bs bs′ p p′ W W′ = written-alike (played-holds p) (played-holds p′) W W′
+pub theorem2 : Theorem2
+theorem2 w i v j bs cs W X = written-alike W X
 
 pub theorem2-room : Theorem2-room
-theorem2-room C cs w out v a p h m = let H = played-holds p in (_, _, written-all H (le-trans (bytes-few H) h) m)
-
-pub theorem2-later : Theorem2-later
-theorem2-later C cs cs′ ds ds′ w w′ rs rs′ ws ws′ p p′ e d h h′ = answered-alike (played-holds p) (played-holds p′) e d h h′
+theorem2-room w i out v a S l h m = let o : Openable w i = record { sound = S; named = l } in (_, _, written-all o (le-trans (bytes-few o) h) m)
 
 pub theorem3 : Theorem3
-theorem3 C bs b = (loads-writable b, writable-loads)
+theorem3 w v cs ds rs qs ws vs S T e f d h k =
+    answered-alike (record { sound = S; sized = refl; held = refl }) (record { sound = T; sized = sym e; held = sym f }) d h k
+
+pub theorem4 : Theorem4
+theorem4 C bs b = (loads-writable b, writable-loads)
+
+pub theorem5 : Theorem5
+theorem5 w i c a w′ S l m h e = reaches-floor S i l m h e
+
+pub theorem6 : Theorem6
+theorem6 w v i c d a b w′ v′ S T e f g k m n =
+    alike i (record { sound = S; sized = refl; held = refl }) (record { sound = T; sized = sym e; held = refl }) f g k m n
 
 pub cleared-reads : Cleared-reads
-cleared-reads base n bs bs′ w w′ c a h m = Clearing.clear-then-read base n bs h m
+cleared-reads base n bs bs′ w i w′ c a h m = Clearing.clear-then-read base n bs h m
 
 pub cleared-once : Cleared-once
 cleared-once base n bs bs′ bs″ c d h g = Clearing.clear-twice base n bs h g
 
 pub written-map-stays : Written-stays
-written-map-stays w base n bs bs′ a W h = written-stays W h
+written-map-stays w i base n bs bs′ a W h = written-stays W h

@@ -1,105 +1,125 @@
--- Written sets: a sound store writes the bytes of the runs that it holds, and writes them whenever the slice is long enough. At most C runs
+-- Written sets: an opened world writes the bytes of the runs that it holds, and writes them whenever the slice is long enough. At most C runs
 -- are held, so 5 + 16 × C bytes are; and sets written alike are of the same positions. Assumes nothing.
 use Prim.Native.Nat.{ℕ, _+_, _*_, _≤_}
-use mathlib.Core.Path.{_≡_, refl, sym, ap, ap₂, _∙_, subst}
-use mathlib.Core.List.{List, [], _∷_}
+use mathlib.Core.Path.{_≡_, refl, sym, ap, ap₂, _∙_}
+use mathlib.Core.List.{List, [], _∷_, _++_}
+use mathlib.Core.Option.{Option, none, some}
 use native.Mathlib.Omega.{arith}
 use lib.ListN.{length, take, drop}
 use lib.Seq.{take-at}
 use Rattle.model.specs.Positions.{Positions, heldRuns, stretches}
 use Rattle.model.specs.Bytes.{encode, intoFront}
-use Rattle.model.specs.Refusals.{_when_, outputShort, refusal, noRoom}
-use Rattle.model.specs.Call.{Call, written, Answer, gave}
-use Rattle.model.specs.Model.{settle, report, write, serve, step}
+use mathlib.Core.Bool.{Bool, true, false, cond}
+use Rattle.model.specs.Refusals.{storeLength, worldLimits, outputShort, looks, Condition, _when_, given, firstGiven, refusal, noRoom}
+use Rattle.model.specs.Call.{Fed, wrongLength, unsound, unopened, holding, Call, written, Answer, gave}
+use Rattle.model.specs.Model.{positionsOf, reads, settle, report, write, serve}
 use Rattle.model.proofs.Codec.{encode-length}
 use Rattle.model.proofs.RoundTrips.{written-whole, bytes-tell}
-use Rattle.store.specs.Layout.{capacity, allowance}
-use Rattle.store.proofs.Turn.{store-past}
+use Rattle.store.specs.Layout.{capacity, heldBy}
+use Rattle.store.specs.Settle.{Openable}
+use Rattle.store.proofs.Turn.{pool-past}
 use Rattle.store.proofs.Nodes.{sized-length}
-use Rattle.core.specs.Met.{Met}
-use Rattle.core.proofs.Meeting.{met-by}
+use Rattle.store.proofs.Worlds.{claims-fit}
+use Rattle.core.specs.Met.{fedOf, fullAt, outcomeOf, Readable, Met}
+use Rattle.core.proofs.Meeting.{readable, met-by, settled-same}
+use Rattle.core.proofs.Refusing.{unopened-refused}
+use Rattle.core.proofs.Served.{unrefused}
+use Rattle.core.proofs.Simulation.{same-positions}
+use Rattle.interval_bit_set.proofs.Looking.{looked-sound}
+use Rattle.interval_bit_set.specs.declared.look.Look.{Look}
 use Rattle.lockstep.specs.History.{WritesSet}
-use Rattle.core.proofs.Served.{Ends, unrefused}
-use Rattle.core.proofs.Simulation.{Holds, same-positions, outcome-is, answer-is}
 
 -- the bytes of a set of positions
 abbrev pub bytesOf : Positions → List ℕ
 bytesOf P = encode (heldRuns P)
-
-module _ {C : ℕ} {P : Positions} {w : List ℕ} (H : Holds C P w) where
-  -- no store is of more than 65,536 runs
-  pub sizeable : C ≤ 65536
-  sizeable = omega (arith, H .sized, (sized-length w (H .sound .sized)) .1)
-
-  -- at most C runs are held
-  pub few : stretches P ≤ C
-  unfolding allowance
-  few = subst (λ k. stretches P ≤ k) (H .sized) (subst (λ Q. stretches Q ≤ capacity w) (H .held) (H .sound .fits))
-
-  -- so their bytes are at most 5 + 16 × C
-  pub bytes-few : length (bytesOf P) ≤ 5 + 16 * C
-  unfolding stretches
-  bytes-few = omega (arith, few, encode-length (heldRuns P))
-
-  -- no position above 2^64 − 1 is held
-  pub holds-ends : Ends P
-  holds-ends = subst Ends (H .held) (store-past w)
-
--- what the model gives of writing a set, by the test of the slice's room
-write-by : (C : ℕ) (P : Positions) (out : List ℕ) → step C P (Call.writeSet out)
-    ≡ settle (refusal (outputShort when noRoom out (bytesOf P) ∷ [])) P (written (length (bytesOf P)) (intoFront (bytesOf P) out)) P
-unfolding step serve write report
-write-by C P out = refl
 
 -- bytes in front of a slice are there
 pub take-front : (bs out : List ℕ) → take (length bs) (intoFront bs out) ≡ bs
 unfolding intoFront
 take-front bs out = take-at bs (drop (length bs) out) (length bs) refl
 
-module _ {C : ℕ} {P : Positions} {w : List ℕ} (H : Holds C P w) where
+-- ---- a world that wrote can be read
+-- a refusal of a look refuses whatever else there is
+pub unearned : (s : Fed) (cs : List Condition) → refusal (reads s ++ cs) ≡ none → firstGiven looks (reads s) ≡ none
+unearned (holding P) cs e = refl
+unearned wrongLength cs e = let z : _≡_ {A = ℕ} 0 1 = cc in absurd (omega arith)
+unearned unsound cs e = absurd (go (given storeLength cs) (given worldLimits cs) e)
+  where
+    go : (x y : Bool) → cond {A = Option ℕ} x (some 1) (cond {A = Option ℕ} y (some 11) (some 7)) ≡ none → ⊥
+    go true y f = let z : _≡_ {A = ℕ} 0 1 = cc in omega arith
+    go false true f = let z : _≡_ {A = ℕ} 0 1 = cc in omega arith
+    go false false f = let z : _≡_ {A = ℕ} 0 1 = cc in omega arith
+unearned unopened cs e =
+    let r = unopened-refused cs in
+    let f : some (r .0) ≡ none = sym (r .1) ∙ e in
+    let z : _≡_ {A = ℕ} 0 1 = cc in
+    absurd (omega arith)
+
+-- what the model gives of writing a set, by the test of the slice's room
+write-by : (w : List ℕ) (i : ℕ) (out : List ℕ) → let s = fedOf w i in let bs = bytesOf (positionsOf s) in
+    outcomeOf w i (Call.writeSet out) ≡ settle (refusal (reads s ++ outputShort when noRoom out bs ∷ [])) (positionsOf s) (written (length bs) (intoFront bs out)) (positionsOf s)
+unfolding outcomeOf serve write report
+write-by w i out = refl
+
+module _ {w : List ℕ} {i : ℕ} {bs : List ℕ} (W : WritesSet w i bs) where
+  -- nothing was refused
+  unrefused-write : refusal (reads (fedOf w i) ++ outputShort when noRoom (W .out) (bytesOf (positionsOf (fedOf w i))) ∷ []) ≡ none
+  unrefused-write = unrefused _ _ _ _ _ (W .met .answered ∙ ap (λ o. o .answer) (write-by w i (W .out)))
+
+  pub writer-readable : Readable w i
+  writer-readable = looked-sound Look.Sound (sym (unearned (fedOf w i) (outputShort when noRoom (W .out) (bytesOf (positionsOf (fedOf w i))) ∷ []) unrefused-write)) refl
+
   -- what is written is the bytes of the positions held
-  pub written-is : {bs : List ℕ} → WritesSet w bs → bs ≡ bytesOf P
-  written-is {bs} W =
-      let e = answer-is H (W .met) ∙ ap (λ o. o .answer) (write-by C P (W .out)) in
-      let y = unrefused (refusal (outputShort when noRoom (W .out) (bytesOf P) ∷ [])) P
-      (written (length (bytesOf P)) (intoFront (bytesOf P) (W .out))) (written (W .count) (W .slice)) P e in
-      let f : gave (written (W .count) (W .slice)) ≡ gave (written (length (bytesOf P)) (intoFront (bytesOf P) (W .out))) =
-      e ∙ ap (λ n. (settle n P (written (length (bytesOf P)) (intoFront (bytesOf P) (W .out))) P) .answer) y in
+  pub written-is : bs ≡ bytesOf (heldBy w i)
+  written-is =
+      let P = positionsOf (fedOf w i) in
+      let r = written (length (bytesOf P)) (intoFront (bytesOf P) (W .out)) in
+      let e = W .met .answered ∙ ap (λ o. o .answer) (write-by w i (W .out)) in
+      let f : gave (written (W .count) (W .slice)) ≡ gave r = e ∙ ap (λ n. (settle n P r P) .answer) unrefused-write in
       let n : W .count ≡ length (bytesOf P) = cc in
       let s : W .slice ≡ intoFront (bytesOf P) (W .out) = cc in
-      W .bytes ∙ ap₂ take n s ∙ take-front (bytesOf P) (W .out)
+      W .bytes ∙ ap₂ take n s ∙ take-front (bytesOf P) (W .out) ∙ ap (λ f. bytesOf (positionsOf f)) (writer-readable .fed)
 
-  -- a slice with room gets them
-  pub written-all : {out v : List ℕ} {a : Answer} → length (bytesOf P) ≤ length out → Met w (Call.writeSet out) a v
-      → a ≡ gave (written (length (bytesOf P)) (intoFront (bytesOf P) out))
-  written-all {out} h m = answer-is H m ∙ ap (λ o. o .answer) (written-whole C P out h)
+-- ---- an opened world
+module _ {w : List ℕ} {i : ℕ} (o : Openable w i) where
+  -- at most C runs are held, and no pool is of more than 65,536
+  pub few : stretches (heldBy w i) ≤ capacity w
+  few = omega (arith, claims-fit (o .sound) i (o .named))
 
-  -- and there is such a call
-  pub write-met : (out : List ℕ) → length (bytesOf P) ≤ length out → Met w (Call.writeSet out) (gave (written (length (bytesOf P)) (intoFront (bytesOf P) out))) w
-  write-met out h =
-      met-by (record { answer = gave (written (length (bytesOf P)) (intoFront (bytesOf P) out)); positions = P })
-      (outcome-is H (Call.writeSet out) ∙ written-whole C P out h)
-      (record { sound = H .sound; holds = λ x l. ap (λ Q. Q x) (H .held); long = refl })
+  pub few-all : stretches (heldBy w i) ≤ 65536
+  few-all = omega (arith, few, (sized-length w (o .sound .sized)) .1)
 
-  -- which writes the bytes as a set
-  pub writes : (out : List ℕ) → length (bytesOf P) ≤ length out → WritesSet w (bytesOf P)
+  -- so their bytes are at most 5 + 16 × C
+  pub bytes-few : length (bytesOf (heldBy w i)) ≤ 5 + 16 * capacity w
+  unfolding stretches
+  bytes-few = omega (arith, few, encode-length (heldRuns (heldBy w i)))
+
+  -- what the model gives of writing into a slice with room
+  wrote : (out : List ℕ) → length (bytesOf (heldBy w i)) ≤ length out
+      → outcomeOf w i (Call.writeSet out) ≡ record { answer = gave (written (length (bytesOf (heldBy w i))) (intoFront (bytesOf (heldBy w i)) out)); positions = heldBy w i }
+  unfolding outcomeOf
+  wrote out h = ap (λ s. serve (fullAt w i) s (Call.writeSet out)) ((readable o) .fed) ∙ written-whole (fullAt w i) (heldBy w i) out h
+
+  -- a slice with room gets the bytes
+  pub written-all : {out v : List ℕ} {a : Answer} → length (bytesOf (heldBy w i)) ≤ length out → Met w i (Call.writeSet out) a v
+      → a ≡ gave (written (length (bytesOf (heldBy w i))) (intoFront (bytesOf (heldBy w i)) out))
+  written-all {out} h m = m .answered ∙ ap (λ p. p .answer) (wrote out h)
+
+  -- and there is such a call, which writes them as a set
+  pub writes : (out : List ℕ) → length (bytesOf (heldBy w i)) ≤ length out → WritesSet w i (bytesOf (heldBy w i))
   writes out h = record {
     out = out;
-    count = length (bytesOf P);
-    slice = intoFront (bytesOf P) out;
+    count = length (bytesOf (heldBy w i));
+    slice = intoFront (bytesOf (heldBy w i)) out;
     after = w;
-    met = write-met out h;
-    bytes = sym (take-front (bytesOf P) out);
+    met = met-by _ (wrote out h) (settled-same (o .sound));
+    bytes = sym (take-front (bytesOf (heldBy w i)) out);
   }
 
--- positions are told by their bytes
-same-bytes : {C : ℕ} {P Q : Positions} {w v : List ℕ} → Holds C P w → Holds C Q v → bytesOf P ≡ bytesOf Q → P ≡ Q
-same-bytes {P = P} {Q} H K e =
-    let told = bytes-tell P Q (omega (arith, few H, sizeable H)) (omega (arith, few K, sizeable K)) in
-    same-positions P Q (holds-ends H) (holds-ends K) (told .1 e)
-
--- so two stores write the same set exactly when they hold the same
-pub written-alike : {C : ℕ} {P Q : Positions} {w v bs cs : List ℕ} → Holds C P w → Holds C Q v → WritesSet w bs → WritesSet v cs
-    → (P ≡ Q → bs ≡ cs) × (bs ≡ cs → P ≡ Q)
-written-alike H K W X =
-    (λ e. written-is H W ∙ ap bytesOf e ∙ sym (written-is K X), λ e. same-bytes H K (sym (written-is H W) ∙ e ∙ written-is K X))
+-- ---- two worlds write the same set exactly when they hold the same
+pub written-alike : {w v : List ℕ} {i j : ℕ} {bs cs : List ℕ} → WritesSet w i bs → WritesSet v j cs → (heldBy w i ≡ heldBy v j → bs ≡ cs) × (bs ≡ cs → heldBy w i ≡ heldBy v j)
+written-alike {w} {v} {i} {j} W X =
+    let told = bytes-tell (heldBy w i) (heldBy v j) (few-all ((writer-readable W) .openable)) (few-all ((writer-readable X) .openable)) in (
+      λ e. written-is W ∙ ap bytesOf e ∙ sym (written-is X),
+      λ e. same-positions (heldBy w i) (heldBy v j) (pool-past w i) (pool-past v j) (told .1 (sym (written-is W) ∙ e ∙ written-is X)),
+    )

@@ -6,20 +6,19 @@ use lib.ListN.{take}
 use Rattle.model.specs.Call.{Call, written, gave}
 use Rattle.model.specs.Model.{Outcome}
 use Rattle.model.specs.Clearing.{documentOneReading}
-use Rattle.store.specs.Layout.{allowance}
-use Rattle.core.specs.Met.{fedOf, Met}
+use Rattle.core.specs.Met.{fedOf, fullAt, Met}
 
 -- ---- a cleared map
--- how document 01 read the map bs into the words w
-abbrev pub oldReading : List ℕ → ℕ → ℕ → List ℕ → Outcome
-oldReading w base n bs = documentOneReading (allowance w) (fedOf w) base n bs
+-- how document 01 read the map bs into world i of the words w
+abbrev pub oldReading : List ℕ → ℕ → ℕ → ℕ → List ℕ → Outcome
+oldReading w i base n bs = documentOneReading (fullAt w i) (fedOf w i) base n bs
 
 -- ---- a written map
--- the words w wrote bs as the map of n positions from base on
-pub record WritesMap (w : List ℕ) (base n : ℕ) (bs : List ℕ) : Type 0 where
+-- world i of the words w wrote bs as the map of n positions from base on
+pub record WritesMap (w : List ℕ) (i base n : ℕ) (bs : List ℕ) : Type 0 where
   pub out : List ℕ
   pub count : ℕ
   pub slice : List ℕ
   pub after : List ℕ
-  pub met : Met w (Call.writeMap base n out) (gave (written count slice)) after
+  pub met : Met w i (Call.writeMap base n out) (gave (written count slice)) after
   pub bytes : bs ≡ take count slice

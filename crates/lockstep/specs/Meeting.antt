@@ -1,16 +1,18 @@
--- Two stores of one capacity that write the same bytes. Assumes nothing: these are definitions.
+-- Two pools of one capacity, each of one world, that write the same bytes. Assumes nothing: these are definitions.
 use Prim.Native.Nat.{ℕ, _+_, _*_, _≤_}
 use mathlib.Core.Path.{_≡_}
-use mathlib.Core.List.{List}
+use mathlib.Core.List.{List, [], _∷_}
 use lib.ListN.{length, take}
 use Rattle.model.specs.declared.Written.{Written}
+use Rattle.model.specs.Pools.{limitsOf}
 use Rattle.store.specs.Layout.{capacity}
 use Rattle.lockstep.specs.declared.Sets.{Sets}
 
--- words of one capacity, and slices that are long enough for any set of it
-pub record Lent (a b left right : List ℕ) : Type 0 where
+-- words of one capacity, limits of one world that may have all of it, and slices that are long enough for any set of it
+pub record Lent (a b limits left right : List ℕ) : Type 0 where
   pub sized : 1 ≤ capacity a
   pub alike : capacity b ≡ capacity a
+  pub lone : limitsOf limits ≡ record { floor = 0; ceiling = capacity a } ∷ []
   pub room : 5 + 16 * capacity a ≤ length left
   pub room₂ : 5 + 16 * capacity a ≤ length right
 

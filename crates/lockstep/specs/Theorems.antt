@@ -1,70 +1,90 @@
--- THE THEOREMS. No tree and no offset is mentioned: a store is known by what its calls promise.
+-- THE THEOREMS. No tree and no offset is mentioned: a pool is known by what its calls promise.
 -- Assumes nothing: these are statements. proofs/Theorems.antt proves each under its name, in small letters.
-use Prim.Native.Nat.{ℕ, _+_, _*_, _≤_}
+use Prim.Native.Nat.{ℕ, _+_, _*_, _≤_, _<_}
 use mathlib.Core.Path.{_≡_}
+use mathlib.Core.Bool.{false}
 use mathlib.Core.List.{List}
 use lib.ListN.{length}
+use Rattle.model.specs.declared.Limits.{Limits}
 use Rattle.model.specs.RunList.{AllBytes}
-use Rattle.model.specs.Positions.{empty}
-use Rattle.model.specs.Call.{Call, number, written, Answer, gave}
-use Rattle.model.specs.Model.{answers, after}
+use Rattle.model.specs.Positions.{stretches}
+use Rattle.model.specs.Call.{Call, feed, PoolCall, number, written, Answer, refused, gave}
+use Rattle.model.specs.Model.{serve}
+use Rattle.model.specs.Pools.{PlainWorld, worldOf, otherClaims, emptyWorlds, answers, after}
 use Rattle.model.specs.Clearing.{clearMap}
-use Rattle.store.specs.Layout.{heldBy}
-use Rattle.core.specs.Met.{Leaves, Met}
+use Rattle.store.specs.Layout.{capacity, openedAt, floorAt, heldBy, worldsOf}
+use Rattle.store.specs.Soundness.{Sound}
+use Rattle.core.specs.Met.{Site, fedAt, fedOf, Leaves, Met}
 use Rattle.core.specs.Handles.{Handles}
-use Rattle.lockstep.specs.History.{History, New, Played, told, outcomes, Follows, WritesSet, Loads, Writable}
+use Rattle.lockstep.specs.History.{History, New, told, outcomes, Follows, left, WritesSet, Loads, Writable}
 use Rattle.lockstep.specs.Matches.{Match}
 use Rattle.lockstep.specs.Clearing.{oldReading, WritesMap}
 
--- ---- demand 3
--- Theorem 1: from a new empty store, every answer, refusal and the positions after each call are the plain model's, fed the calls alone
+-- ---- demand 3, and worlds in one pool (document 02, Ticket 3)
+-- Theorem 1: from a new pool, every answer, refusal, and every world's positions, floor and ceiling and the number of worlds after each call are
+-- the plain model's, fed the calls alone
 abbrev pub Theorem1 : Type 0
 Theorem1 =
-    (C : ℕ) (w : List ℕ) (cs : List (Call (List ℕ))) (rs : List Answer) (ws : List (List ℕ))
-    → New C w → History w cs rs ws → Follows rs ws (outcomes C empty (told cs))
+    (C : ℕ) (ls : List Limits) (w : List ℕ) (cs : List (PoolCall Site)) (rs : List Answer) (vs : List (List ℕ))
+    → New C ls w → History w cs rs vs → Follows rs vs (outcomes C (emptyWorlds ls) (told cs))
 
--- the same of a match, whose calls come singly or in frames: its answers, and the positions in the end
+-- the same of a match, whose calls come singly or in frames: its answers, and the worlds in the end
 abbrev pub Theorem1-matches : Type 0
 Theorem1-matches =
-    (C : ℕ) (w w′ : List ℕ) (cs : List (Call (List ℕ))) (rs : List Answer)
-    → New C w → Match w cs rs w′ → (rs ≡ answers C empty (told cs)) × (heldBy w′ ≡ after C empty (told cs))
+    (C : ℕ) (ls : List Limits) (w w′ : List ℕ) (cs : List (PoolCall Site)) (rs : List Answer)
+    → New C ls w → Match w cs rs w′ → (rs ≡ answers C (emptyWorlds ls) (told cs)) × (worldsOf w′ ≡ after C (emptyWorlds ls) (told cs))
 
--- Theorem 2, in three sentences about any two histories at one capacity.
--- Sets written by the two stores are the same bytes exactly when the model's positions are the same
-abbrev pub Theorem2-bytes : Type 0
-Theorem2-bytes =
-    (C : ℕ) (cs cs′ : List (Call (List ℕ))) (w w′ bs bs′ : List ℕ)
-    → Played C cs w → Played C cs′ w′ → WritesSet w bs → WritesSet w′ bs′
-    → (after C empty (told cs) ≡ after C empty (told cs′) → bs ≡ bs′) × (bs ≡ bs′ → after C empty (told cs) ≡ after C empty (told cs′))
+-- Theorem 2: sets written from two worlds, of one pool or of two, however made, are the same bytes exactly when the worlds' positions are the
+-- same
+abbrev pub Theorem2 : Type 0
+Theorem2 =
+    (w : List ℕ) (i : ℕ) (v : List ℕ) (j : ℕ) (bs cs : List ℕ)
+    → WritesSet w i bs → WritesSet v j cs → (heldBy w i ≡ heldBy v j → bs ≡ cs) × (bs ≡ cs → heldBy w i ≡ heldBy v j)
 
 -- an answer that tells of bytes written
 abbrev pub Wrote : Answer → Type 0
 Wrote a = (n : ℕ) × (bs : List ℕ) × (a ≡ gave (written n bs))
 
--- a slice of 5 + 16 × C bytes is long enough: writing a set into it is not refused
+-- a slice of 5 + 16 × C bytes is long enough: writing a world's set into it is not refused
 abbrev pub Theorem2-room : Type 0
 Theorem2-room =
-    (C : ℕ) (cs : List (Call (List ℕ))) (w out v : List ℕ) (a : Answer)
-    → Played C cs w → 5 + 16 * C ≤ length out → Met w (Call.writeSet out) a v → Wrote a
+    (w : List ℕ) (i : ℕ) (out v : List ℕ) (a : Answer)
+    → Sound w → i < openedAt w → 5 + 16 * capacity w ≤ length out → Met w i (Call.writeSet out) a v → Wrote a
 
--- and where the model's positions are the same, the two stores answer every later list of equal calls alike
-abbrev pub Theorem2-later : Type 0
-Theorem2-later =
-    (C : ℕ) (cs cs′ ds ds′ : List (Call (List ℕ))) (w w′ : List ℕ) (rs rs′ : List Answer) (ws ws′ : List (List ℕ))
-    → Played C cs w → Played C cs′ w′ → after C empty (told cs) ≡ after C empty (told cs′) → told ds ≡ told ds′
-    → History w ds rs ws → History w′ ds′ rs′ ws′ → rs ≡ rs′
-
--- Theorem 3: a byte string loads into some store of a capacity exactly when some history at that capacity writes it as a set
+-- Theorem 3: two sound pools of one capacity, however made, that opened equally many worlds, with equal positions, floors and ceilings in each,
+-- answer every later list of equal calls alike, and have equal worlds after it
 abbrev pub Theorem3 : Type 0
-Theorem3 = (C : ℕ) (bs : List ℕ) → AllBytes bs → (Loads C bs → Writable C bs) × (Writable C bs → Loads C bs)
+Theorem3 =
+    (w v : List ℕ) (cs ds : List (PoolCall Site)) (rs qs : List Answer) (ws vs : List (List ℕ))
+    → Sound w → Sound v → capacity w ≡ capacity v → worldsOf w ≡ worldsOf v → told cs ≡ told ds → History w cs rs ws → History v ds qs vs
+    → (rs ≡ qs) × (worldsOf (left w ws) ≡ worldsOf (left v vs))
+
+-- Theorem 4: a byte string loads into some world of some pool of a capacity exactly when some history at that capacity writes it as a set
+abbrev pub Theorem4 : Type 0
+Theorem4 = (C : ℕ) (bs : List ℕ) → AllBytes bs → (Loads C bs → Writable C bs) × (Writable C bs → Loads C bs)
+
+-- Theorem 5: a world may always reach its floor: in a sound pool no call whose result has at most floor runs is refused with 8. Its result is
+-- what it would leave if no number of runs were too many
+abbrev pub Theorem5 : Type 0
+Theorem5 =
+    (w : List ℕ) (i : ℕ) (c : Call Site) (a : Answer) (w′ : List ℕ)
+    → Sound w → i < openedAt w → Met w i c a w′ → stretches ((serve (λ r. false) (fedOf w i) (feed fedAt c)) .positions) ≤ floorAt w i → a ≡ refused 8 → ⊥
+
+-- Theorem 6: neighbours are known through the sum alone: if two sound pools of one capacity agree in world i, and in the sum over the other worlds
+-- of the larger of runs and floor, every call on world i answers alike in both, and leaves world i alike
+abbrev pub Theorem6 : Type 0
+Theorem6 =
+    (w v : List ℕ) (i : ℕ) (c d : Call Site) (a b : Answer) (w′ v′ : List ℕ)
+    → Sound w → Sound v → capacity w ≡ capacity v → worldOf (worldsOf w) i ≡ worldOf (worldsOf v) i → otherClaims (worldsOf w) i ≡ otherClaims (worldsOf v) i
+    → feed fedAt c ≡ feed fedAt d → Met w i c a w′ → Met v i d b v′ → (a ≡ b) × (worldOf (worldsOf w′) i ≡ worldOf (worldsOf v′) i)
 
 -- ---- cleared maps (document 02, Ticket 2)
 -- if clear_map was called on bs and left bs′, then what read_map of bs′ answers and leaves is document 01's reading of bs
 abbrev pub Cleared-reads : Type 0
 Cleared-reads =
-    (base n : ℕ) (bs bs′ w w′ : List ℕ) (c a : Answer)
-    → Handles (clearMap base n bs) c bs′ → Met w (Call.readMap base n bs′) a w′
-    → (a ≡ (oldReading w base n bs) .answer) × Leaves w w′ ((oldReading w base n bs) .positions) a
+    (base n : ℕ) (bs bs′ w : List ℕ) (i : ℕ) (w′ : List ℕ) (c a : Answer)
+    → Handles (clearMap base n bs) c bs′ → Met w i (Call.readMap base n bs′) a w′
+    → (a ≡ (oldReading w i base n bs) .answer) × Leaves w w′ i ((oldReading w i base n bs) .positions) a
 
 -- a second call leaves what the first one left, and answers 0 if the first was not refused
 abbrev pub Cleared-once : Type 0
@@ -76,5 +96,5 @@ Cleared-once =
 -- clear_map leaves a map that write_map wrote, and answers 0
 abbrev pub Written-stays : Type 0
 Written-stays =
-    (w : List ℕ) (base n : ℕ) (bs bs′ : List ℕ) (a : Answer)
-    → WritesMap w base n bs → Handles (clearMap base n bs) a bs′ → (a ≡ gave (number 0)) × (bs′ ≡ bs)
+    (w : List ℕ) (i base n : ℕ) (bs bs′ : List ℕ) (a : Answer)
+    → WritesMap w i base n bs → Handles (clearMap base n bs) a bs′ → (a ≡ gave (number 0)) × (bs′ ≡ bs)

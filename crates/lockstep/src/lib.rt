@@ -6,39 +6,41 @@ ghost use Rattle.lockstep.specs.Meeting.{Lent, SameBytes};
 use model::Bound;
 use model::Written;
 
-// What two stores answered to writing their sets.
+// What two pools answered to writing the sets of their worlds.
 pub struct Sets {
     pub first: Written,
     pub second: Written,
 }
 
-// Two histories that come to the same positions: the first store gets them by one set, the second by a set further down and a left shift,
-// which moves its offset. Then both write their sets: they are the same bytes.
+// Two histories that come to the same positions, each in a pool of one world: the first gets them by one set, the second by a set further down
+// and a left shift, which moves its offset. Then both write their sets: they are the same bytes.
 pub fn play_both(
     a: &mut [u64],
     b: &mut [u64],
+    limits: &[u64],
     low: u64,
     high: u64,
     distance: u64,
     left: &mut [u8],
     right: &mut [u8],
 ) -> Sets
-    requires { ⌜ Lent (now a) (now b) (now left) (now right) ⌝ }
+    requires { ⌜ Lent (now a) (now b) (now limits) (now left) (now right) ⌝ }
     requires { ⌜ (low ≤ high) × (high + distance < size) ⌝ }
     ensures { λ r. ⌜ SameBytes r (now (left .exit)) (now (right .exit)) ⌝ }
 {
-    interval_bit_set::make::new(a);
+    interval_bit_set::make::new(a, limits);
     interval_bit_set::change::set(
         a,
+        0,
         Bound::Included(low + distance),
         Bound::Included(high + distance),
         true,
     );
-    interval_bit_set::make::new(b);
-    interval_bit_set::change::set(b, Bound::Included(low), Bound::Included(high), true);
-    interval_bit_set::change::shift(b, distance, true);
-    let x = interval_bit_set::write::write_set(a, left);
-    let y = interval_bit_set::write::write_set(b, right);
+    interval_bit_set::make::new(b, limits);
+    interval_bit_set::change::set(b, 0, Bound::Included(low), Bound::Included(high), true);
+    interval_bit_set::change::shift(b, 0, distance, true);
+    let x = interval_bit_set::write::write_set(a, 0, left);
+    let y = interval_bit_set::write::write_set(b, 0, right);
     Sets {
         first: x,
         second: y,

@@ -93,7 +93,6 @@ use Rattle.model.specs.Refusals.{
 }
 use Rattle.model.specs.Call.{
   Call,
-  make,
   set,
   flip,
   get,
@@ -129,8 +128,8 @@ use Rattle.model.specs.Call.{
   refused,
   gave,
 }
-use Rattle.model.specs.Model.{Outcome, positionsOf, reads, overwrites, settle, report, change, overwrite, write, changed, drawnFirst, drawnLast, serve}
-use Rattle.model.specs.Cases.{broken, Given, having, noStore, fedAs}
+use Rattle.model.specs.Model.{Outcome, positionsOf, reads, settle, report, change, write, changed, drawnFirst, drawnLast, serve}
+use Rattle.model.specs.Cases.{broken, shut, Given, having, noStore, fedAs}
 
 -- ---- lists of any runs, and maps, as canonical lists
 unfoldable pub union : List Run → List Run
@@ -273,12 +272,14 @@ clipped-runs false a n rs c =
 unfoldable pub runsOf : Given → List Run
 runsOf noStore = []
 runsOf broken = []
+runsOf shut = []
 runsOf (having rs) = union rs
 
 runsOf-canon : (s : Given) → Canon size 0 (runsOf s)
 unfolding runsOf
 runsOf-canon noStore = tt
 runsOf-canon broken = tt
+runsOf-canon shut = tt
 runsOf-canon (having rs) = union-canon rs
 
 pub mem-empty : mem [] ≡ empty
@@ -289,6 +290,7 @@ runsOf-positions : (s : Given) → positionsOf (fedAs s) ≡ mem (runsOf s)
 unfolding fedAs runsOf
 runsOf-positions noStore = sym mem-empty
 runsOf-positions broken = sym mem-empty
+runsOf-positions shut = sym mem-empty
 runsOf-positions (having rs) = sym (union-positions rs)
 
 -- ---- the calls
@@ -307,9 +309,6 @@ reportRuns s cs a = settleRuns (refusal (reads (fedAs s) ++ cs)) (runsOf s) a (r
 unfoldable pub changeRuns : ℕ → Given → List Condition → List Run → Result → RunOutcome
 changeRuns C s cs qs a = settleRuns (refusal (reads (fedAs s) ++ capacity when ltb C (length qs) ∷ cs)) (runsOf s) a qs
 
-unfoldable pub overwriteRuns : ℕ → Given → List Condition → List Run → RunOutcome
-overwriteRuns C s cs qs = settleRuns (refusal (overwrites (fedAs s) ++ capacity when ltb C (length qs) ∷ cs)) (runsOf s) done qs
-
 unfoldable pub writeRuns : Given → List Condition → List ℕ → List ℕ → RunOutcome
 writeRuns s cs bytes out = reportRuns s (outputShort when noRoom out bytes ∷ cs) (written (length bytes) (intoFront bytes out))
 
@@ -320,7 +319,6 @@ unfoldable pub remainingRuns : List Run → Listing → List Run
 remainingRuns rs l = clipped (l .value) (l .first) (suc (l .last) - l .first) rs
 
 unfoldable pub calc : ℕ → Given → Call Given → RunOutcome
-calc C s make = overwriteRuns C s [] []
 calc C s (set l u v) = changedRuns C s [] (setRuns size (firstAllowed l) (extent l u) v (runsOf s))
 calc C s (flip l u) = changeRuns C s [] (flipRuns size (firstAllowed l) (extent l u) (runsOf s)) done
 calc C s (get x) = reportRuns s [] (value (mem (runsOf s) x))
@@ -333,15 +331,15 @@ calc C s (ranges l u v) = reportRuns s [] (listing (listed (firstAllowed l) (ext
 calc C s (drawFront l) = reportRuns s [] (drawnFirst l (firstRun (remainingRuns (runsOf s) l)))
 calc C s (drawBack l) = reportRuns s [] (drawnLast l (lastRun (remainingRuns (runsOf s) l)))
 calc C s (shift d left) = changeRuns C s [] (shiftRuns size d left (runsOf s)) done
-calc C s (shifted d left t) = overwriteRuns C s (reads (fedAs t)) (shiftRuns size d left (runsOf t))
-calc C s (combine op t u) = overwriteRuns C s (reads (fedAs t) ++ reads (fedAs u)) (combineRuns op (runsOf t) (runsOf u))
-calc C s (complement t) = overwriteRuns C s (reads (fedAs t)) (complementRuns size (runsOf t))
+calc C s (shifted d left t) = changeRuns C s (reads (fedAs t)) (shiftRuns size d left (runsOf t)) done
+calc C s (combine op t u) = changeRuns C s (reads (fedAs t) ++ reads (fedAs u)) (combineRuns op (runsOf t) (runsOf u)) done
+calc C s (complement t) = changeRuns C s (reads (fedAs t)) (complementRuns size (runsOf t)) done
 calc C s (equal t) = reportRuns s (reads (fedAs t)) (value (eqb (widths (combineRuns Xor (runsOf s) (runsOf t))) 0))
 calc C s (load bs) =
-    overwriteRuns C s
+    changeRuns C s
     (setShort when tooShort bs ∷ setVersion when badVersion bs ∷ setLength when badLength bs ∷ runOrder when disordered (decode bs) ∷ [])
-    (union (decode bs))
-calc C s (build rs) = overwriteRuns C s (runOrder when disordered rs ∷ []) (union rs)
+    (union (decode bs)) done
+calc C s (build rs) = changeRuns C s (runOrder when disordered rs ∷ []) (union rs) done
 calc C s (writeSet out) = writeRuns s [] (encode (runsOf s)) out
 calc C s (readMap base n bs) =
     changedRuns C s (window when badWindow base n ∷ window when badMap n bs ∷ strayBit when someBit bs n (8 * mapLength n - n) ∷ []) (mapRuns base n bs (runsOf s))
@@ -359,7 +357,7 @@ tied-settle : (o : Option ℕ) (P Q : Positions) (a b : Result) (rs qs : List Ru
 tied-settle none P Q a b rs qs e p q c d = record { answer = ap gave e; positions = q; canonical = d }
 tied-settle (some n) P Q a b rs qs e p q c d = record { answer = refl; positions = p; canonical = c }
 
-room : (C : ℕ) (Q : Positions) (qs : List Run) → Canon size 0 qs → mem qs ≡ bounded Q → tooMany C Q ≡ ltb C (length qs)
+room : (C : ℕ) (Q : Positions) (qs : List Run) → Canon size 0 qs → mem qs ≡ bounded Q → tooMany (ltb C) Q ≡ ltb C (length qs)
 unfolding tooMany
 room C Q qs c e = ap (ltb C) (stretches-is Q qs c (λ x h. ap (λ (P : Positions). P x) e ∙ bounded-below Q x h))
 
@@ -370,19 +368,11 @@ tied-report s cs a b e =
     (runsOf-canon s) (runsOf-canon s)
 
 tied-change : (C : ℕ) (s : Given) (cs : List Condition) (Q : Positions) (qs : List Run) (a b : Result) → a ≡ b → mem qs ≡ bounded Q → Canon size 0 qs
-    → Tied (change C (fedAs s) cs Q a) (changeRuns C s cs qs b)
+    → Tied (change (ltb C) (fedAs s) cs Q a) (changeRuns C s cs qs b)
 unfolding change changeRuns
 tied-change C s cs Q qs a b e q c =
     rw (room C Q qs c q)
     (tied-settle (refusal (reads (fedAs s) ++ capacity when ltb C (length qs) ∷ cs)) (positionsOf (fedAs s)) (bounded Q) a b (runsOf s) qs e (runsOf-positions s) (sym q)
-    (runsOf-canon s) c)
-
-tied-overwrite : (C : ℕ) (s : Given) (cs : List Condition) (Q : Positions) (qs : List Run) → mem qs ≡ bounded Q → Canon size 0 qs
-    → Tied (overwrite C (fedAs s) cs Q) (overwriteRuns C s cs qs)
-unfolding overwrite overwriteRuns
-tied-overwrite C s cs Q qs q c =
-    rw (room C Q qs c q)
-    (tied-settle (refusal (overwrites (fedAs s) ++ capacity when ltb C (length qs) ∷ cs)) (positionsOf (fedAs s)) (bounded Q) done done (runsOf s) qs refl (runsOf-positions s) (sym q)
     (runsOf-canon s) c)
 
 changes-bounded : (P Q : Positions) → changes P (bounded Q) ≡ changes P Q
@@ -391,7 +381,7 @@ changes-bounded P Q =
     count-cong (combined Xor P (bounded Q)) (combined Xor P Q) true 0 size (λ x _ h. ap (λ t. not (Bool·beq (P x) t)) (bounded-below Q x (omega arith)))
 
 tied-changed : (C : ℕ) (s : Given) (cs : List Condition) (Q : Positions) (qs : List Run) → mem qs ≡ bounded Q → Canon size 0 qs
-    → Tied (changed C (fedAs s) cs Q) (changedRuns C s cs qs)
+    → Tied (changed (ltb C) (fedAs s) cs Q) (changedRuns C s cs qs)
 unfolding changed changedRuns
 tied-changed C s cs Q qs q c =
     tied-change C s cs Q qs (number (changes (positionsOf (fedAs s)) Q)) (number (widths (combineRuns Xor (runsOf s) qs)))
@@ -419,12 +409,8 @@ module _ (s : Given) where
   all-runs = ap heldRuns (runsOf-positions s) ∙ heldRuns-mem (runsOf s) (runsOf-canon s)
 
 -- every call, computed on run lists, is the plain model's
-pub calc-tied : (C : ℕ) (s : Given) (c : Call Given) → Tied (serve C (fedAs s) (feed fedAs c)) (calc C s c)
+pub calc-tied : (C : ℕ) (s : Given) (c : Call Given) → Tied (serve (ltb C) (fedAs s) (feed fedAs c)) (calc C s c)
 unfolding serve calc P rs remaining remainingRuns Positions.runAt Positions.countRanges fillOf
-calc-tied C s make = tied-overwrite C s [] empty [] (sym (bounded-none)) tt
-  where
-    bounded-none : bounded empty ≡ mem []
-    bounded-none = ap bounded (sym mem-empty) ∙ bounded-mem [] tt
 calc-tied C s (set l u v) =
     tied-changed C s [] (setRange (firstAllowed l) (extent l u) v (positionsOf (fedAs s))) (setRuns size (firstAllowed l) (extent l u) v (runsOf s))
     (set-positions (firstAllowed l) (extent l u) v (runsOf s) (runsOf-canon s) ∙ ap (λ Q. bounded (setRange (firstAllowed l) (extent l u) v Q)) (sym (runsOf-positions s)))
@@ -461,23 +447,23 @@ calc-tied C s (shift d left) =
     tied-change C s [] (shiftBy d left (positionsOf (fedAs s))) (shiftRuns size d left (runsOf s)) done done refl
     (shift-positions d left (runsOf s) (runsOf-canon s) ∙ ap (λ Q. bounded (shiftBy d left Q)) (sym (runsOf-positions s))) (shift-canon size d left (runsOf s) (runsOf-canon s))
 calc-tied C s (shifted d left t) =
-    tied-overwrite C s (reads (fedAs t)) (shiftBy d left (positionsOf (fedAs t))) (shiftRuns size d left (runsOf t))
+    tied-change C s (reads (fedAs t)) (shiftBy d left (positionsOf (fedAs t))) (shiftRuns size d left (runsOf t)) done done refl
     (shift-positions d left (runsOf t) (runsOf-canon t) ∙ ap (λ Q. bounded (shiftBy d left Q)) (sym (runsOf-positions t))) (shift-canon size d left (runsOf t) (runsOf-canon t))
 calc-tied C s (combine op t u) =
-    tied-overwrite C s (reads (fedAs t) ++ reads (fedAs u)) (combined op (positionsOf (fedAs t)) (positionsOf (fedAs u))) (combineRuns op (runsOf t) (runsOf u))
+    tied-change C s (reads (fedAs t) ++ reads (fedAs u)) (combined op (positionsOf (fedAs t)) (positionsOf (fedAs u))) (combineRuns op (runsOf t) (runsOf u)) done done refl
     (combine-positions op (runsOf t) (runsOf u) (runsOf-canon t) (runsOf-canon u)
     ∙ ap₂ (λ Q R. bounded (combined op Q R)) (sym (runsOf-positions t)) (sym (runsOf-positions u))) (combine-canon size op (runsOf t) (runsOf u) (runsOf-canon t) (runsOf-canon u))
 calc-tied C s (complement t) =
-    tied-overwrite C s (reads (fedAs t)) (complemented (positionsOf (fedAs t))) (complementRuns size (runsOf t))
+    tied-change C s (reads (fedAs t)) (complemented (positionsOf (fedAs t))) (complementRuns size (runsOf t)) done done refl
     (complement-positions (runsOf t) (runsOf-canon t) ∙ ap (λ Q. bounded (complemented Q)) (sym (runsOf-positions t))) (complement-canon size (runsOf t) (runsOf-canon t))
 calc-tied C s (equal t) =
     tied-report s (reads (fedAs t)) (value (same (positionsOf (fedAs s)) (positionsOf (fedAs t)))) (value (eqb (widths (combineRuns Xor (runsOf s) (runsOf t))) 0))
     (ap value (ap₂ same (runsOf-positions s) (runsOf-positions t) ∙ same-runs (runsOf s) (runsOf t) (runsOf-canon s) (runsOf-canon t)))
 calc-tied C s (load bs) =
-    tied-overwrite C s
+    tied-change C s
     (setShort when tooShort bs ∷ setVersion when badVersion bs ∷ setLength when badLength bs ∷ runOrder when disordered (decode bs) ∷ []) (mem (decode bs))
-    (union (decode bs)) (union-positions (decode bs)) (union-canon (decode bs))
-calc-tied C s (build rs′) = tied-overwrite C s (runOrder when disordered rs′ ∷ []) (mem rs′) (union rs′) (union-positions rs′) (union-canon rs′)
+    (union (decode bs)) done done refl (union-positions (decode bs)) (union-canon (decode bs))
+calc-tied C s (build rs′) = tied-change C s (runOrder when disordered rs′ ∷ []) (mem rs′) (union rs′) done done refl (union-positions rs′) (union-canon rs′)
 calc-tied C s (writeSet out) = tied-write s [] (encode (heldRuns (positionsOf (fedAs s)))) (encode (runsOf s)) out (ap encode (all-runs s))
 calc-tied C s (readMap base n bs) =
     rw stray-some

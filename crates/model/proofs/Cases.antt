@@ -4,7 +4,7 @@ use mathlib.Core.List.{List, [], _∷_, map}
 use Prim.Native.Nat.{ℕ}
 use Rattle.model.specs.declared.Run.{Run}
 use Rattle.model.specs.Numbers.{size}
-use Rattle.model.specs.Positions.{Positions, mem, bounded, pastFirst, pastLast}
+use Rattle.model.specs.Positions.{Positions, mem, pastFirst, pastLast}
 use Rattle.model.proofs.Finds.{selectRuns}
 use Rattle.model.specs.RunList.{Canon, insert, clear}
 use Rattle.model.proofs.RunList.{widths}
@@ -27,9 +27,12 @@ use Rattle.model.proofs.Ops.{
 }
 use Rattle.model.specs.Bytes.{bigEndian, valueFrom, valueOf, encodeRuns, encode, runsDue, decodeRuns, decode, bits, bytesFrom, mapOf, mapBit, intoFront}
 use Rattle.model.specs.Refusals.{badWindow, badMap, tooShort, badLength, badVersion, orderedFrom, disordered, noRoom}
-use Rattle.model.specs.Call.{Call, feed, Answer}
-use Rattle.model.specs.Model.{drawnFirst, drawnLast, step, answers, after}
-use Rattle.model.specs.Cases.{Given, having, fedAs, Case, Holds, AllHold, table}
+use lib.Dec.{ltb}
+use Rattle.model.specs.Call.{Call, feed, holding, PoolCall, Answer}
+use Rattle.model.specs.Model.{drawnFirst, drawnLast, serve}
+use Rattle.model.specs.Pools.{PlainWorld, PoolOutcome, step, answers, after, alone}
+use Rattle.model.specs.Cases.{Given, having, fedAs, onFirst, Case, Holds, AllHold, table}
+use Rattle.model.proofs.Pools.{step-alone}
 use Rattle.model.proofs.Calc.{
   runsOf,
   union,
@@ -38,7 +41,6 @@ use Rattle.model.proofs.Calc.{
   clipped,
   reportRuns,
   changeRuns,
-  overwriteRuns,
   writeRuns,
   changedRuns,
   remainingRuns,
@@ -60,27 +62,33 @@ unfoldable left : ℕ → List Run → List (Call Given) → List Run
 left C rs [] = rs
 left C rs (c ∷ cs) = left C ((calc C (having rs) c) .runs) cs
 
-shown-answers : (C : ℕ) (rs : List Run) (cs : List (Call Given)) → Canon size 0 rs → answers C (mem rs) (map (feed fedAs) cs) ≡ shown C rs cs
-unfolding answers shown step fedAs
+-- one call on a world alone is the one computed
+module _ (C : ℕ) (rs : List Run) (c : Canon size 0 rs) (k : Call Given) where
+  same : {T : Type 0} (f : PoolOutcome → T) → f (step C (alone C (mem rs)) (onFirst k)) ≡ f (record {
+    answer = (serve (ltb C) (fedAs (having rs)) (feed fedAs k)) .answer;
+    worlds = alone C ((serve (ltb C) (fedAs (having rs)) (feed fedAs k)) .positions);
+  })
+  unfolding fedAs
+  same f = ap f (step-alone C (mem rs) (feed fedAs k) ∙ ap (λ P. record { answer = (serve (ltb C) (holding P) (feed fedAs k)) .answer; worlds = alone C ((serve (ltb C) (holding P) (feed fedAs k)) .positions) }) (sym (bounded-mem rs c)))
+
+  one-answer : (step C (alone C (mem rs)) (onFirst k)) .answer ≡ (calc C (having rs) k) .answer
+  one-answer = same (λ o. o .answer) ∙ (calc-tied C (having rs) k) .answer
+
+  one-left : (step C (alone C (mem rs)) (onFirst k)) .worlds ≡ alone C (mem ((calc C (having rs) k) .runs))
+  one-left = same (λ o. o .worlds) ∙ ap (alone C) ((calc-tied C (having rs) k) .positions)
+
+shown-answers : (C : ℕ) (rs : List Run) (cs : List (Call Given)) → Canon size 0 rs → answers C (alone C (mem rs)) (map onFirst cs) ≡ shown C rs cs
+unfolding answers shown
 shown-answers C rs [] c = refl
 shown-answers C rs (k ∷ cs) c =
-    let e : bounded (mem rs) ≡ mem rs = bounded-mem rs c in
-    let t = calc-tied C (having rs) k in
-    let u : (step C (mem rs) (feed fedAs k)) .answer ≡ (calc C (having rs) k) .answer =
-    ap (λ (P : Positions). (step C P (feed fedAs k)) .answer) (sym e) ∙ t .answer in
-    let v : (step C (mem rs) (feed fedAs k)) .positions ≡ mem ((calc C (having rs) k) .runs) =
-    ap (λ (P : Positions). (step C P (feed fedAs k)) .positions) (sym e) ∙ t .positions in
-    ap₂ {C = List Answer} (λ a as′. a ∷ as′) u (ap (λ P. answers C P (map (feed fedAs) cs)) v ∙ shown-answers C ((calc C (having rs) k) .runs) cs (t .canonical))
+    ap₂ {C = List Answer} (λ a as′. a ∷ as′) (one-answer C rs c k)
+    (ap (λ ws. answers C ws (map onFirst cs)) (one-left C rs c k) ∙ shown-answers C ((calc C (having rs) k) .runs) cs ((calc-tied C (having rs) k) .canonical))
 
-left-after : (C : ℕ) (rs : List Run) (cs : List (Call Given)) → Canon size 0 rs → after C (mem rs) (map (feed fedAs) cs) ≡ mem (left C rs cs)
-unfolding after left step fedAs
+left-after : (C : ℕ) (rs : List Run) (cs : List (Call Given)) → Canon size 0 rs → after C (alone C (mem rs)) (map onFirst cs) ≡ alone C (mem (left C rs cs))
+unfolding after left
 left-after C rs [] c = refl
 left-after C rs (k ∷ cs) c =
-    let e : bounded (mem rs) ≡ mem rs = bounded-mem rs c in
-    let t = calc-tied C (having rs) k in
-    let v : (step C (mem rs) (feed fedAs k)) .positions ≡ mem ((calc C (having rs) k) .runs) =
-    ap (λ (P : Positions). (step C P (feed fedAs k)) .positions) (sym e) ∙ t .positions in
-    ap (λ P. after C P (map (feed fedAs) cs)) v ∙ left-after C ((calc C (having rs) k) .runs) cs (t .canonical)
+    ap (λ ws. after C ws (map onFirst cs)) (one-left C rs c k) ∙ left-after C ((calc C (having rs) k) .runs) cs ((calc-tied C (having rs) k) .canonical)
 
 abbrev computed : Case → Shown
 computed c = record { answers-are = shown (c .capacity) [] (c .calls); runs-are = left (c .capacity) [] (c .calls) }
@@ -91,11 +99,11 @@ expected c = record { answers-are = c .answers-are; runs-are = c .runs-are }
 row-holds : (c : Case) → computed c ≡ expected c → Holds c
 row-holds c e = record {
   answered =
-      ap (λ P. answers (c .capacity) P (map (feed fedAs) (c .calls))) (sym mem-empty) ∙ shown-answers (c .capacity) [] (c .calls) tt
+      ap (λ P. answers (c .capacity) (alone (c .capacity) P) (map onFirst (c .calls))) (sym mem-empty) ∙ shown-answers (c .capacity) [] (c .calls) tt
       ∙ ap (λ (s : Shown). s .answers-are) e;
   held =
-      ap (λ P. after (c .capacity) P (map (feed fedAs) (c .calls))) (sym mem-empty) ∙ left-after (c .capacity) [] (c .calls) tt
-      ∙ ap (λ (s : Shown). mem (s .runs-are)) e;
+      ap (λ P. after (c .capacity) (alone (c .capacity) P) (map onFirst (c .calls))) (sym mem-empty) ∙ left-after (c .capacity) [] (c .calls) tt
+      ∙ ap (λ (s : Shown). alone (c .capacity) (mem (s .runs-are))) e;
 }
 
 first : Shown → List Shown → Shown
@@ -112,7 +120,7 @@ rows-hold [] e = tt
 rows-hold (c ∷ cs) e = (row-holds c (ap (first (computed c)) e), rows-hold cs (ap rest e))
 
 table-computes : map computed table ≡ map expected table
-unfolding table shown left calc reportRuns changeRuns overwriteRuns writeRuns changedRuns remainingRuns fedAs runsOf union mapRuns someBit clipped clip
+unfolding table shown left calc reportRuns changeRuns writeRuns changedRuns remainingRuns fedAs runsOf union mapRuns someBit clipped clip
     setRuns onRange setTo insert clear combineRuns andRuns orRuns xorRuns minusRuns setAll flipRuns inverted complementRuns shiftRuns shiftLeftRuns
     shiftRightRuns widths mem selectRuns drawnFirst drawnLast pastFirst pastLast bigEndian valueFrom valueOf encodeRuns encode runsDue decodeRuns decode
     bits bytesFrom mapOf mapBit intoFront badWindow badMap tooShort badLength badVersion orderedFrom disordered noRoom

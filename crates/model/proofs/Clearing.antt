@@ -10,14 +10,14 @@ use native.Mathlib.Nat.{zero-add, zero-div}
 use native.Mathlib.Omega.{arith}
 use lib.ListN.{length, List·getD-eq-default}
 use borrow.Author.Tests.{eq-eqb, le-ltb}
-use Rattle.model.proofs.Numbers.{split}
+use Rattle.model.proofs.Numbers.{split, neither-first, neither-second}
 use Rattle.model.specs.Positions.{Positions, among, oneIf, count, bounded, changes}
 use Rattle.model.proofs.Counting.{among-below, among-above, count-cut, count-first, count-none}
 use Rattle.model.specs.Bytes.{mapLength, mapOf, mapBit, strayBits, cleared, mapped}
 use Rattle.model.specs.RunList.{AllBytes}
 use Rattle.model.proofs.Maps.{mapOf-length, mapOf-bytes, mapOf-cong, mapOf-bit, mapOf-spare, map-tell}
 use Rattle.model.specs.Refusals.{window, strayBit, capacity, _when_, refusal, badWindow, badMap, stray, tooMany}
-use Rattle.model.specs.Call.{Fed, wrongLength, unsound, holding, Result, number, Answer, refused, gave, readMap}
+use Rattle.model.specs.Call.{Fed, wrongLength, unsound, unopened, holding, Result, number, Answer, refused, gave, readMap}
 use Rattle.model.specs.Model.{positionsOf, reads, settle, change, changed, serve}
 use Rattle.model.specs.Clearing.{Handled, handle, clearMap, documentOneReading}
 
@@ -119,6 +119,7 @@ refused-alike : (s : Fed) (t b m z : Bool) → (b || m) ≡ true
     → refusal (reads s ++ capacity when t ∷ window when b ∷ window when m ∷ []) ≡ refusal (reads s ++ capacity when t ∷ window when b ∷ window when m ∷ strayBit when z ∷ [])
 refused-alike wrongLength t b m z e = refl
 refused-alike unsound t b m z e = refl
+refused-alike unopened t b m z e = refl
 refused-alike (holding P) t true m z e = refl
 refused-alike (holding P) t false true z e = refl
 refused-alike (holding P) t false false z e = absurd (false≢true e)
@@ -128,6 +129,7 @@ passed-alike : (s : Fed) (t b m : Bool)
     → refusal (reads s ++ capacity when t ∷ window when b ∷ window when m ∷ []) ≡ refusal (reads s ++ capacity when t ∷ window when b ∷ window when m ∷ strayBit when false ∷ [])
 passed-alike wrongLength t b m = refl
 passed-alike unsound t b m = refl
+passed-alike unopened t b m = refl
 passed-alike (holding P) t true m = refl
 passed-alike (holding P) t false true = refl
 passed-alike (holding P) t false false = refl
@@ -176,15 +178,6 @@ module _ (base n : ℕ) (bs : List ℕ) where
       go true e = subst Q (sym (clear-refused e)) (f e)
       go false e = subst Q (sym (clear-done e)) (g e)
 
--- of two conditions of which neither holds, the first does not, nor the second
-neither-first : (b m : Bool) → (b || m) ≡ false → b ≡ false
-neither-first true m e = e
-neither-first false m e = refl
-
-neither-second : (b m : Bool) → (b || m) ≡ false → m ≡ false
-neither-second true m e = absurd (false≢true (sym e))
-neither-second false m e = e
-
 -- ---- THE LAWS
 -- a written map stays, and none of its spare bits is one
 pub clears-no-written-map : (P : Positions) (base n : ℕ) → badWindow base n ≡ false → clearMap base n (mapOf P base n) ≡ untouched (mapOf P base n)
@@ -213,23 +206,23 @@ module _ (base n : ℕ) (bs : List ℕ) where
       no-result : refused 6 ≡ gave a → ⊥
       no-result k = subst Plain (sym k) tt
 
-  module _ (C : ℕ) (s : Fed) where
+  module _ (full : ℕ → Bool) (s : Fed) where
     -- a map that is refused with 6 is read as document 01 read it
-    reads-refused : (badWindow base n || badMap n bs) ≡ true → documentOneReading C s base n bs ≡ serve C s (readMap base n bs)
+    reads-refused : (badWindow base n || badMap n bs) ≡ true → documentOneReading full s base n bs ≡ serve full s (readMap base n bs)
     unfolding documentOneReading serve changed change
     reads-refused e =
         let Q = mapped base n bs (positionsOf s) in
-        ap (λ o. settle o (positionsOf s) (number (changes (positionsOf s) Q)) (bounded Q)) (refused-alike s (tooMany C Q) (badWindow base n) (badMap n bs) (stray n bs) e)
+        ap (λ o. settle o (positionsOf s) (number (changes (positionsOf s) Q)) (bounded Q)) (refused-alike s (tooMany full Q) (badWindow base n) (badMap n bs) (stray n bs) e)
 
     -- and so is the cleared map
-    reads-cleared : (badWindow base n || badMap n bs) ≡ false → documentOneReading C s base n bs ≡ serve C s (readMap base n (cleared n bs))
+    reads-cleared : (badWindow base n || badMap n bs) ≡ false → documentOneReading full s base n bs ≡ serve full s (readMap base n (cleared n bs))
     unfolding documentOneReading serve changed change
     reads-cleared e =
         let Q = mapped base n bs (positionsOf s) in
         let P = positionsOf s in
         rw (cleared-mapped n bs base P, exact-map n (cleared n bs) (cleared-length n bs), clear-map n (cleared n bs) (cleared-none n bs), neither-second (badWindow base n) (badMap n bs) e)
-        (ap (λ o. settle o P (number (changes P Q)) (bounded Q)) (passed-alike s (tooMany C Q) (badWindow base n) false))
+        (ap (λ o. settle o P (number (changes P Q)) (bounded Q)) (passed-alike s (tooMany full Q) (badWindow base n) false))
 
     -- what document 01's reading made of a map is what reading the cleared map makes
-    pub reads-as-document-one : documentOneReading C s base n bs ≡ serve C s (readMap base n ((clearMap base n bs) .slice))
-    reads-as-document-one = either-way base n bs (λ h. documentOneReading C s base n bs ≡ serve C s (readMap base n (h .slice))) reads-refused reads-cleared
+    pub reads-as-document-one : documentOneReading full s base n bs ≡ serve full s (readMap base n ((clearMap base n bs) .slice))
+    reads-as-document-one = either-way base n bs (λ h. documentOneReading full s base n bs ≡ serve full s (readMap base n (h .slice))) reads-refused reads-cleared

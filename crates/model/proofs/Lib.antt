@@ -3,6 +3,7 @@ pub mod Slices
 pub mod Clearing
 pub mod After
 pub mod Calc
+pub mod Pools
 pub mod Cases
 pub mod Clip
 pub mod Codec

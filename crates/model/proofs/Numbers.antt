@@ -1,8 +1,8 @@
--- Numbers: either way of an order, the refusals' numbers, and two-word counts. Assumes nothing.
+-- Numbers: either way of an order, two tests, the refusals' numbers, and two-word counts. Assumes nothing.
 use Prim.Native.Nat.{ℕ, _+_, _-_, _*_, _^_, _≤_, _<_}
-use mathlib.Core.Path.{_≡_, refl}
+use mathlib.Core.Path.{_≡_, refl, sym}
 use mathlib.Core.Logic.{_⊎_, inl, inr}
-use mathlib.Core.Bool.{Bool, true, false}
+use mathlib.Core.Bool.{Bool, true, false, _||_, false≢true}
 use native.Mathlib.Omega.{arith}
 use lib.Dec.{ltb}
 use borrow.Author.Tests.{ltb-true, ltb-false}
@@ -18,6 +18,8 @@ use Rattle.model.specs.declared.Refusal.the-variants.{
   Capacity,
   GapLength,
   StrayBit,
+  WorldLimits,
+  WorldUnopened,
 }
 use Rattle.model.specs.Numbers.{refusalNumber}
 
@@ -28,6 +30,15 @@ split a b = go (ltb a b) refl
     go : (t : Bool) → ltb a b ≡ t → (a < b) ⊎ (b ≤ a)
     go true e = inl (ltb-true a b e)
     go false e = inr (ltb-false a b e)
+
+-- of two tests of which neither holds, the first does not, nor the second
+pub neither-first : (a b : Bool) → (a || b) ≡ false → a ≡ false
+neither-first true b e = e
+neither-first false b e = refl
+
+pub neither-second : (a b : Bool) → (a || b) ≡ false → b ≡ false
+neither-second true b e = absurd (false≢true (sym e))
+neither-second false b e = e
 
 -- none is 0, so 0 says that a call was not refused
 pub refusal-some : (r : Refusal) → 1 ≤ refusalNumber r
@@ -41,6 +52,8 @@ refusal-some Unsound = omega arith
 refusal-some Capacity = omega arith
 refusal-some GapLength = omega arith
 refusal-some StrayBit = omega arith
+refusal-some WorldLimits = omega arith
+refusal-some WorldUnopened = omega arith
 
 -- two-word counts: what the sum and the difference of two of them carry
 pub sum-carry : (p q x y : ℕ) → p * 2 ^ 64 + x + (q * 2 ^ 64 + y) ≤ 2 ^ 64 → p + q ≤ 1

@@ -1,5 +1,6 @@
 -- Clearing a map's spare bits (document 02, Ticket 2). The call has no store, so it is no call of the plain model and in no list of demand 3.
 -- Assumes nothing: these are definitions.
+use mathlib.Core.Bool.{Bool}
 use mathlib.Core.List.{List, [], _∷_}
 use mathlib.Core.Option.{Option, none, some}
 use Prim.Native.Nat.{ℕ}
@@ -23,5 +24,5 @@ unfoldable pub clearMap : ℕ → ℕ → List ℕ → Handled
 clearMap base n bs = handle (refusal (window when badWindow base n ∷ window when badMap n bs ∷ [])) bs (number (strayBits n bs)) (cleared n bs)
 
 -- how document 01 read a map, before this ticket: whatever its spare bits were. Kept for one law alone, that `serve` reads the cleared map so.
-unfoldable pub documentOneReading : ℕ → Fed → ℕ → ℕ → List ℕ → Outcome
-documentOneReading C s base n bs = changed C s (window when badWindow base n ∷ window when badMap n bs ∷ []) (mapped base n bs (positionsOf s))
+unfoldable pub documentOneReading : (ℕ → Bool) → Fed → ℕ → ℕ → List ℕ → Outcome
+documentOneReading full s base n bs = changed full s (window when badWindow base n ∷ window when badMap n bs ∷ []) (mapped base n bs (positionsOf s))

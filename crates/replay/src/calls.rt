@@ -1,4 +1,4 @@
-// The calls on one store. Each function reads what its call takes from a place of the line on, and tells whether it was understood; only then is
+// The calls on one store, most of them at a world of it. Each function reads what its call takes from a place of the line on, and tells whether it was understood; only then is
 // the call made and answered. A call that is added is a function here, and its name below.
 ghost use Prim.Native.Nat.{_≤_};
 ghost use lib.ListN.{length};
@@ -12,17 +12,21 @@ use interval_bit_set::write;
 use model::Completed;
 use model::Listing;
 
-// ---- changes
-fn new(store: &mut [u64], line: &[u8], at: usize) -> bool {
-    if at != line.len() {
+// ---- whole stores
+// Makes a pool, of a floor and a ceiling for each world.
+pub fn new(store: &mut [u64], line: &[u8], at: usize) -> bool {
+    let mut space = [0u64; 64];
+    let limits = line::pairs_at(line, at, &mut space);
+    let n = limits.count;
+    if limits.next != line.len() {
         return false;
     }
-    answer::completed(make::new(store));
+    answer::completed(make::new(store, &space[..n]));
     true
 }
 
 // Not a call of the library: makes a store unsound, which has to have words.
-fn spoil(store: &mut [u64], line: &[u8], at: usize) -> bool {
+pub fn spoil(store: &mut [u64], line: &[u8], at: usize) -> bool {
     if at != line.len() {
         return false;
     }
@@ -34,7 +38,8 @@ fn spoil(store: &mut [u64], line: &[u8], at: usize) -> bool {
     true
 }
 
-fn set(store: &mut [u64], line: &[u8], at: usize) -> bool {
+// ---- changes
+fn set(store: &mut [u64], world: u64, line: &[u8], at: usize) -> bool {
     let lower = line::bound_at(line, at);
     let upper = line::bound_at(line, lower.next);
     let value = line::flag_at(line, upper.next);
@@ -43,11 +48,11 @@ fn set(store: &mut [u64], line: &[u8], at: usize) -> bool {
     }
     let a = lower.bound;
     let b = upper.bound;
-    answer::counted(change::set(store, a, b, value.value));
+    answer::counted(change::set(store, world, a, b, value.value));
     true
 }
 
-fn flip(store: &mut [u64], line: &[u8], at: usize) -> bool {
+fn flip(store: &mut [u64], world: u64, line: &[u8], at: usize) -> bool {
     let lower = line::bound_at(line, at);
     let upper = line::bound_at(line, lower.next);
     if upper.next != line.len() {
@@ -55,50 +60,43 @@ fn flip(store: &mut [u64], line: &[u8], at: usize) -> bool {
     }
     let a = lower.bound;
     let b = upper.bound;
-    answer::completed(change::flip(store, a, b));
+    answer::completed(change::flip(store, world, a, b));
     true
 }
 
-fn shift(store: &mut [u64], line: &[u8], at: usize) -> bool {
+fn shift(store: &mut [u64], world: u64, line: &[u8], at: usize) -> bool {
     let distance = line::number_at(line, at);
     let left = line::flag_at(line, distance.next);
     if left.next != line.len() {
         return false;
     }
-    answer::completed(change::shift(store, distance.value, left.value));
+    answer::completed(change::shift(store, world, distance.value, left.value));
     true
 }
 
-fn load(store: &mut [u64], line: &[u8], at: usize) -> bool {
+fn load(store: &mut [u64], world: u64, line: &[u8], at: usize) -> bool {
     let mut space = [0u8; 1029];
     let b = line::bytes_at(line, at, &mut space);
     let n = b.count;
     if b.next != line.len() {
         return false;
     }
-    answer::completed(bytes::load(store, &space[..n]));
+    answer::completed(bytes::load(store, world, &space[..n]));
     true
 }
 
-fn build(store: &mut [u64], line: &[u8], at: usize) -> bool {
+fn build(store: &mut [u64], world: u64, line: &[u8], at: usize) -> bool {
     let mut space = [0u64; 128];
-    let runs = line::number_at(line, at);
-    let ends = line::numbers_at(line, runs.next, &mut space);
-    let n = ends.count;
-    if ends.next != line.len() {
+    let runs = line::pairs_at(line, at, &mut space);
+    let n = runs.count;
+    if runs.next != line.len() {
         return false;
     }
-    if n % 2 != 0 {
-        return false;
-    }
-    if (n / 2) as u64 != runs.value {
-        return false;
-    }
-    answer::completed(bytes::from_sorted_words(store, &space[..n]));
+    answer::completed(bytes::from_sorted_words(store, world, &space[..n]));
     true
 }
 
-fn read_map(store: &mut [u64], line: &[u8], at: usize) -> bool {
+fn read_map(store: &mut [u64], world: u64, line: &[u8], at: usize) -> bool {
     let mut space = [0u8; 1024];
     let base = line::number_at(line, at);
     let window = line::number_at(line, base.next);
@@ -107,7 +105,7 @@ fn read_map(store: &mut [u64], line: &[u8], at: usize) -> bool {
     if b.next != line.len() {
         return false;
     }
-    answer::counted(bytes::read_map(store, base.value, window.value, &space[..n]));
+    answer::counted(bytes::read_map(store, world, base.value, window.value, &space[..n]));
     true
 }
 
@@ -134,25 +132,25 @@ pub fn clear_map(line: &[u8], at: usize) -> bool {
 }
 
 // ---- reports
-fn get(store: &[u64], line: &[u8], at: usize) -> bool {
+fn get(store: &[u64], world: u64, line: &[u8], at: usize) -> bool {
     let x = line::number_at(line, at);
     if x.next != line.len() {
         return false;
     }
-    answer::tested(report::get(store, x.value));
+    answer::tested(report::get(store, world, x.value));
     true
 }
 
-fn run_at(store: &[u64], line: &[u8], at: usize) -> bool {
+fn run_at(store: &[u64], world: u64, line: &[u8], at: usize) -> bool {
     let x = line::number_at(line, at);
     if x.next != line.len() {
         return false;
     }
-    answer::around(report::run_at(store, x.value));
+    answer::around(report::run_at(store, world, x.value));
     true
 }
 
-fn find(store: &[u64], line: &[u8], at: usize) -> bool {
+fn find(store: &[u64], world: u64, line: &[u8], at: usize) -> bool {
     let lower = line::bound_at(line, at);
     let upper = line::bound_at(line, lower.next);
     let value = line::flag_at(line, upper.next);
@@ -161,11 +159,11 @@ fn find(store: &[u64], line: &[u8], at: usize) -> bool {
     }
     let a = lower.bound;
     let b = upper.bound;
-    answer::found(report::find(store, a, b, value.value));
+    answer::found(report::find(store, world, a, b, value.value));
     true
 }
 
-fn count(store: &[u64], line: &[u8], at: usize) -> bool {
+fn count(store: &[u64], world: u64, line: &[u8], at: usize) -> bool {
     let lower = line::bound_at(line, at);
     let upper = line::bound_at(line, lower.next);
     let value = line::flag_at(line, upper.next);
@@ -174,11 +172,11 @@ fn count(store: &[u64], line: &[u8], at: usize) -> bool {
     }
     let a = lower.bound;
     let b = upper.bound;
-    answer::counted(report::count(store, a, b, value.value));
+    answer::counted(report::count(store, world, a, b, value.value));
     true
 }
 
-fn select(store: &[u64], line: &[u8], at: usize) -> bool {
+fn select(store: &[u64], world: u64, line: &[u8], at: usize) -> bool {
     let lower = line::bound_at(line, at);
     let upper = line::bound_at(line, lower.next);
     let value = line::flag_at(line, upper.next);
@@ -188,11 +186,11 @@ fn select(store: &[u64], line: &[u8], at: usize) -> bool {
     }
     let a = lower.bound;
     let b = upper.bound;
-    answer::found(report::select(store, a, b, value.value, k.value));
+    answer::found(report::select(store, world, a, b, value.value, k.value));
     true
 }
 
-fn count_ranges(store: &[u64], line: &[u8], at: usize) -> bool {
+fn count_ranges(store: &[u64], world: u64, line: &[u8], at: usize) -> bool {
     let lower = line::bound_at(line, at);
     let upper = line::bound_at(line, lower.next);
     let value = line::flag_at(line, upper.next);
@@ -201,11 +199,11 @@ fn count_ranges(store: &[u64], line: &[u8], at: usize) -> bool {
     }
     let a = lower.bound;
     let b = upper.bound;
-    answer::numbered(report::count_ranges(store, a, b, value.value));
+    answer::numbered(report::count_ranges(store, world, a, b, value.value));
     true
 }
 
-fn gap(store: &[u64], line: &[u8], at: usize) -> bool {
+fn gap(store: &[u64], world: u64, line: &[u8], at: usize) -> bool {
     let lower = line::bound_at(line, at);
     let upper = line::bound_at(line, lower.next);
     let n = line::number_at(line, upper.next);
@@ -214,11 +212,11 @@ fn gap(store: &[u64], line: &[u8], at: usize) -> bool {
     }
     let a = lower.bound;
     let b = upper.bound;
-    answer::found(report::gap(store, a, b, n.value));
+    answer::found(report::gap(store, world, a, b, n.value));
     true
 }
 
-fn ranges(store: &[u64], line: &[u8], at: usize) -> bool {
+fn ranges(store: &[u64], world: u64, line: &[u8], at: usize) -> bool {
     let lower = line::bound_at(line, at);
     let upper = line::bound_at(line, lower.next);
     let value = line::flag_at(line, upper.next);
@@ -227,12 +225,12 @@ fn ranges(store: &[u64], line: &[u8], at: usize) -> bool {
     }
     let a = lower.bound;
     let b = upper.bound;
-    answer::listed(report::ranges(store, a, b, value.value));
+    answer::listed(report::ranges(store, world, a, b, value.value));
     true
 }
 
 // Both draws.
-fn draw(store: &[u64], line: &[u8], at: usize, front: bool) -> bool {
+fn draw(store: &[u64], world: u64, line: &[u8], at: usize, front: bool) -> bool {
     let first = line::number_at(line, at);
     let last = line::number_at(line, first.next);
     let value = line::flag_at(line, last.next);
@@ -245,49 +243,49 @@ fn draw(store: &[u64], line: &[u8], at: usize, front: bool) -> bool {
         value: value.value,
     };
     if front {
-        answer::drawn(report::draw_front(store, l));
+        answer::drawn(report::draw_front(store, world, l));
     } else {
-        answer::drawn(report::draw_back(store, l));
+        answer::drawn(report::draw_back(store, world, l));
     }
     true
 }
 
-fn fill(store: &[u64], line: &[u8], at: usize) -> bool {
+fn fill(store: &[u64], world: u64, line: &[u8], at: usize) -> bool {
     let base = line::number_at(line, at);
     let window = line::number_at(line, base.next);
     if window.next != line.len() {
         return false;
     }
-    answer::numbered(report::fill(store, base.value, window.value));
+    answer::numbered(report::fill(store, world, base.value, window.value));
     true
 }
 
 // Writes into the first n bytes.
-fn write_set_to(store: &[u64], space: &mut [u8], n: usize)
+fn write_set_to(store: &[u64], world: u64, space: &mut [u8], n: usize)
     requires { ⌜ n ≤ length (now space) ⌝ }
 {
-    let w = write::write_set(store, &mut space[0..n]);
+    let w = write::write_set(store, world, &mut space[0..n]);
     answer::written(w, &space[0..n]);
 }
 
-fn write_set(store: &[u64], line: &[u8], at: usize) -> bool {
+fn write_set(store: &[u64], world: u64, line: &[u8], at: usize) -> bool {
     let mut space = [0xeeu8; 1029];
     let lent = line::at_most(line, at, 1029);
     if lent.next != line.len() {
         return false;
     }
-    write_set_to(store, &mut space, lent.value as usize);
+    write_set_to(store, world, &mut space, lent.value as usize);
     true
 }
 
-fn write_map_to(store: &[u64], base: u64, window: u64, space: &mut [u8], n: usize)
+fn write_map_to(store: &[u64], world: u64, base: u64, window: u64, space: &mut [u8], n: usize)
     requires { ⌜ n ≤ length (now space) ⌝ }
 {
-    let w = write::write_map(store, base, window, &mut space[0..n]);
+    let w = write::write_map(store, world, base, window, &mut space[0..n]);
     answer::written(w, &space[0..n]);
 }
 
-fn write_map(store: &[u64], line: &[u8], at: usize) -> bool {
+fn write_map(store: &[u64], world: u64, line: &[u8], at: usize) -> bool {
     let mut space = [0xeeu8; 1029];
     let base = line::number_at(line, at);
     let window = line::number_at(line, base.next);
@@ -297,6 +295,7 @@ fn write_map(store: &[u64], line: &[u8], at: usize) -> bool {
     }
     write_map_to(
         store,
+        world,
         base.value,
         window.value,
         &mut space,
@@ -306,74 +305,68 @@ fn write_map(store: &[u64], line: &[u8], at: usize) -> bool {
 }
 
 // ---- names
-fn report_named(store: &[u64], name: &[u8], line: &[u8], at: usize) -> bool {
+fn report_named(store: &[u64], world: u64, name: &[u8], line: &[u8], at: usize) -> bool {
     if check::same(name, b"get") {
-        return get(store, line, at);
+        return get(store, world, line, at);
     }
     if check::same(name, b"run_at") {
-        return run_at(store, line, at);
+        return run_at(store, world, line, at);
     }
     if check::same(name, b"find") {
-        return find(store, line, at);
+        return find(store, world, line, at);
     }
     if check::same(name, b"count") {
-        return count(store, line, at);
+        return count(store, world, line, at);
     }
     if check::same(name, b"select") {
-        return select(store, line, at);
+        return select(store, world, line, at);
     }
     if check::same(name, b"count_ranges") {
-        return count_ranges(store, line, at);
+        return count_ranges(store, world, line, at);
     }
     if check::same(name, b"gap") {
-        return gap(store, line, at);
+        return gap(store, world, line, at);
     }
     if check::same(name, b"ranges") {
-        return ranges(store, line, at);
+        return ranges(store, world, line, at);
     }
     if check::same(name, b"draw_front") {
-        return draw(store, line, at, true);
+        return draw(store, world, line, at, true);
     }
     if check::same(name, b"draw_back") {
-        return draw(store, line, at, false);
+        return draw(store, world, line, at, false);
     }
     if check::same(name, b"fill") {
-        return fill(store, line, at);
+        return fill(store, world, line, at);
     }
     if check::same(name, b"write_set") {
-        return write_set(store, line, at);
+        return write_set(store, world, line, at);
     }
     if check::same(name, b"write_map") {
-        return write_map(store, line, at);
+        return write_map(store, world, line, at);
     }
     false
 }
 
-// The call that a name means.
-pub fn call_named(store: &mut [u64], name: &[u8], line: &[u8], at: usize) -> bool {
-    if check::same(name, b"spoil") {
-        return spoil(store, line, at);
-    }
-    if check::same(name, b"new") {
-        return new(store, line, at);
-    }
+// The call that a name means at a world.
+pub fn call_named(store: &mut [u64], world: u64, name: &[u8], line: &[u8], at: usize) -> bool {
     if check::same(name, b"set") {
-        return set(store, line, at);
+        return set(store, world, line, at);
     }
     if check::same(name, b"flip") {
-        return flip(store, line, at);
+        return flip(store, world, line, at);
     }
     if check::same(name, b"shift") {
-        return shift(store, line, at);
+        return shift(store, world, line, at);
     }
     if check::same(name, b"load") {
-        return load(store, line, at);
+        return load(store, world, line, at);
     }
     if check::same(name, b"build") {
-        return build(store, line, at);
+        return build(store, world, line, at);
     }
     if check::same(name, b"read_map") {
-        return read_map(store, line, at);
+        return read_map(store, world, line, at);
     }
-    report_named(store, name, line, at)
+    report_named(store, world, name, line, at)
 }

@@ -15,6 +15,13 @@ pub struct Number {
     pub next: usize,
 }
 
+// A world of a store.
+pub struct Place {
+    pub store: usize,
+    pub world: u64,
+    pub next: usize,
+}
+
 pub struct Flag {
     pub value: bool,
     pub next: usize,
@@ -163,6 +170,81 @@ pub fn numbers_at(line: &[u8], at: usize, out: &mut [u64]) -> Front
     Front {
         count: n,
         next: next,
+    }
+}
+
+// Pairs of numbers up to the end of the line, after how many there are.
+pub fn pairs_at(line: &[u8], at: usize, out: &mut [u64]) -> Front
+    ensures { λ r. ⌜ Counts (r .count) (now (out .exit)) ⌝ }
+{
+    let told = number_at(line, at);
+    let f = numbers_at(line, told.next, out);
+    if f.count % 2 == 0 {
+        if (f.count / 2) as u64 == told.value {
+            return Front {
+                count: f.count,
+                next: f.next,
+            };
+        }
+    }
+    Front {
+        count: f.count,
+        next: LOST,
+    }
+}
+
+// ---- places
+// The store that a digit names; 4 if it names none.
+fn store_of(b: u8) -> usize
+    ensures { λ r. ⌜ r ≤ 4 ⌝ }
+{
+    if b == b'0' {
+        return 0;
+    }
+    if b == b'1' {
+        return 1;
+    }
+    if b == b'2' {
+        return 2;
+    }
+    if b == b'3' {
+        return 3;
+    }
+    4
+}
+
+fn no_place() -> Place
+    ensures { λ r. ⌜ r .store ≤ 3 ⌝ }
+{
+    Place {
+        store: 0,
+        world: 0,
+        next: LOST,
+    }
+}
+
+// A store, a stroke and the number of a world, which need not be one of the store's.
+pub fn place_at(line: &[u8], at: usize) -> Place
+    ensures { λ r. ⌜ r .store ≤ 3 ⌝ }
+{
+    if at >= line.len() {
+        return no_place();
+    }
+    if line.len() - at < 2 {
+        return no_place();
+    }
+    let s = store_of(line[at]);
+    if s == 4 {
+        return no_place();
+    }
+    if line[at + 1] != b'/' {
+        return no_place();
+    }
+    let n = number_at(line, at + 2);
+    Place {
+        store: s,
+        world: n.value,
+        next: n.next,
     }
 }
 

@@ -1,7 +1,7 @@
 // Replays a list of calls: reads it from standard input, in the form that conformance/README.md describes, makes each call through the public
 // calls, and prints its answer. A line that is not of that form is answered `not understood`. So is a frame that is not followed by all of its
 // records, and each of them, and a record outside of a frame; the line that comes in a record's place is then read as any other.
-// Its stdin and stdout are a sample: the list `refusals`, the first 200 lines of `long`, and lines 7 to 135 of `frames`.
+// Its stdin and stdout are a sample: the list `refusals`, the first 200 lines of `long`, lines 5 to 204 of `worlds` and 7 to 118 of `frames`.
 ghost use Prim.Native.Nat.{_≤_};
 ghost use lib.ListN.{length};
 
@@ -11,9 +11,10 @@ mod frames;
 mod line;
 mod stores;
 
-// Makes the call of a line and prints its answer, or tells that the line is none: a name, a store but for clear_map, and what the call takes.
+// Makes the call of a line and prints its answer, or tells that the line is none: a name, a store or a world but for clear_map, and what
+// the call takes.
 fn understood(
-    words: &mut [u64; 2144],
+    words: &mut [u64; 3616],
     lengths: &mut [usize; 4],
     rows: &mut [u64; 520],
     line: &[u8],
@@ -28,21 +29,25 @@ fn understood(
     if check::same(&line[0..e], b"clear_map") {
         return calls::clear_map(line, e + 1);
     }
-    let s = line::at_most(line, e + 1, 3);
-    stores::call_named(
-        words,
-        lengths,
-        rows,
-        s.value as usize,
-        &line[0..e],
-        line,
-        s.next,
-    )
+    if stores::is_whole(&line[0..e]) {
+        let s = line::at_most(line, e + 1, 3);
+        return stores::whole_named(
+            words,
+            lengths,
+            rows,
+            s.value as usize,
+            &line[0..e],
+            line,
+            s.next,
+        );
+    }
+    let p = line::place_at(line, e + 1);
+    stores::call_named(words, lengths, p.store, p.world, &line[0..e], line, p.next)
 }
 
 // The same for the first n bytes of what is lent, with an answer for every line; those of a frame are answered when its last record is there.
 fn replay(
-    words: &mut [u64; 2144],
+    words: &mut [u64; 3616],
     lengths: &mut [usize; 4],
     rows: &mut [u64; 520],
     line: &[u8],
@@ -72,7 +77,7 @@ fn put(line: &mut [u8; 4096], n: usize, b: u8) -> usize
 
 // Goes on with the line at hand, of which n bytes are there, by one byte, and tells how many are there then.
 fn take(
-    words: &mut [u64; 2144],
+    words: &mut [u64; 3616],
     lengths: &mut [usize; 4],
     rows: &mut [u64; 520],
     line: &mut [u8; 4096],
@@ -88,7 +93,7 @@ fn take(
 }
 
 fn take_all(
-    words: &mut [u64; 2144],
+    words: &mut [u64; 3616],
     lengths: &mut [usize; 4],
     rows: &mut [u64; 520],
     line: &mut [u8; 4096],
@@ -111,7 +116,7 @@ struct Rest {
 }
 
 fn read(
-    words: &mut [u64; 2144],
+    words: &mut [u64; 3616],
     lengths: &mut [usize; 4],
     rows: &mut [u64; 520],
     line: &mut [u8; 4096],
@@ -128,7 +133,7 @@ fn read(
 
 // A proved loop has to end, and nothing says that the input does, so the turns are counted down from a number that no run uses up.
 fn main() {
-    let mut words = [0u64; 2144];
+    let mut words = [0u64; 3616];
     let mut lengths = [0usize; 4];
     let mut rows = [0u64; 520];
     let mut line = [0u8; 4096];

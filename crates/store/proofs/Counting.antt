@@ -1,4 +1,4 @@
--- The nodes of a tree and of a list, counted by their numbers: the counts of the numbers 1 .. n add up to the number of nodes, so if no
+-- The nodes of some trees and of a list, counted by their numbers: the counts of the numbers 1 .. n add up to the number of nodes, so if no
 -- number stands twice and there are n nodes, each number stands once. Assumes nothing.
 use Prim.Native.Nat.{ℕ, zero, suc, _+_, _≤_, _<_}
 use mathlib.Core.Path.{_≡_, refl, ap, _∙_}
@@ -9,6 +9,8 @@ use lib.ListN.{length}
 use Rattle.run_index.specs.Tree.{Tree, leaf, node, runs, δ, count}
 use Rattle.run_index.specs.Strung.{times}
 use Rattle.run_index.proofs.Trees.{δ-same, δ-other}
+use Rattle.store.specs.Soundness.{sumTo}
+use Rattle.store.proofs.Sums.{sum-cong}
 
 -- the sum of f over 1 .. n
 abbrev sum : ℕ → (ℕ → ℕ) → ℕ
@@ -78,11 +80,24 @@ sum-times n (k ∷ ks) h =
     let p = h k (omega (arith, δ-same k)) in
     omega (arith, sum-add n (λ m. δ m k) (λ m. times m ks), sum-δ n k (p .0) (p .1), sum-times n ks (λ m i. h m (omega arith)))
 
-module _ (n : ℕ) (t : Tree) (ks : List ℕ) (ht : Among n (λ m. count m t)) (hk : Among n (λ m. times m ks)) where
-  -- the counts of both add up to all nodes
-  total : sum n (λ m. count m t + times m ks) ≡ runs t + length ks
-  total = omega (arith, sum-add n (λ m. count m t) (λ m. times m ks), sum-count n t ht, sum-times n ks hk)
+-- a sum over numbers and worlds, in either order
+sum-swap : (n k : ℕ) (f : ℕ → ℕ → ℕ) → sum n (λ m. sumTo k (f m)) ≡ sumTo k (λ j. sum n (λ m. f m j))
+unfolding sumTo
+sum-swap n zero f = sum-zero n
+sum-swap n (suc k) f = omega (arith, sum-add n (λ m. sumTo k (f m)) (λ m. f m k), sum-swap n k f)
+
+module _ (n k : ℕ) (ts : ℕ → Tree) (ks : List ℕ) (ht : (j : ℕ) → j < k → Among n (λ m. count m (ts j))) (hk : Among n (λ m. times m ks)) where
+  -- the counts of the first k trees add up to their nodes
+  sum-counts : sum n (λ m. sumTo k (λ j. count m (ts j))) ≡ sumTo k (λ j. runs (ts j))
+  sum-counts =
+      sum-swap n k (λ m j. count m (ts j))
+      ∙ sum-cong k (λ j. sum n (λ m. count m (ts j))) (λ j. runs (ts j)) (λ j l. sum-count n (ts j) (ht j l))
+
+  -- those of the trees and the list, to all nodes
+  total : sum n (λ m. sumTo k (λ j. count m (ts j)) + times m ks) ≡ sumTo k (λ j. runs (ts j)) + length ks
+  total = omega (arith, sum-add n (λ m. sumTo k (λ j. count m (ts j))) (λ m. times m ks), sum-counts, sum-times n ks hk)
 
   -- n nodes, none twice: each number stands once
-  pub each-once : ((m : ℕ) → count m t + times m ks ≤ 1) → runs t + length ks ≡ n → (m : ℕ) → 1 ≤ m → m ≤ n → count m t + times m ks ≡ 1
-  each-once h e = sum-full n (λ m. count m t + times m ks) h (total ∙ e)
+  pub each-once : ((m : ℕ) → sumTo k (λ j. count m (ts j)) + times m ks ≤ 1) → sumTo k (λ j. runs (ts j)) + length ks ≡ n
+      → (m : ℕ) → 1 ≤ m → m ≤ n → sumTo k (λ j. count m (ts j)) + times m ks ≡ 1
+  each-once h e = sum-full n (λ m. sumTo k (λ j. count m (ts j)) + times m ks) h (total ∙ e)

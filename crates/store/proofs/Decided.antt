@@ -1,6 +1,5 @@
--- The tests of specs/Decision.antt decide soundness. A walk that accepts a link has met a tree there, in order and balanced, and each such
--- tree is accepted; what a world's tests say of its tree, its sums and its bounds follows. The chain has the nodes that are left, by
--- counting. Assumes nothing.
+-- The tests of specs/Decision.antt decide whether a world fits. A walk that accepts a link has met a tree there, in order and balanced, and
+-- each such tree is accepted; what a world's tests say of its tree, its sums and its bounds follows. Assumes nothing.
 use Prim.Native.Nat.{ℕ, zero, suc, _+_, _-_, _*_, _^_, _≤_, _<_, max}
 use mathlib.Core.Path.{_≡_, refl, sym, _∙_, subst}
 use mathlib.Core.Bool.{Bool, true, false, not, _||_}
@@ -8,12 +7,12 @@ use mathlib.Core.List.{List}
 use native.Mathlib.Omega.{arith}
 use native.Mathlib.Decide.{ℕ-discrete}
 use native.Mathlib.Nat.{one-le-pow, pow-succ'}
-use borrow.Author.Tests.{eqb-true, eq-eqb, leb-true, le-leb}
+use borrow.Author.Tests.{eqb-true, eq-eqb}
 use lib.Dec.{eqb}
 use lib.ListN.{length}
 use Rattle.model.specs.Numbers.{size}
 use Rattle.model.specs.RunList.{Canon}
-use Rattle.model.specs.Positions.{heldRuns, stretches}
+use Rattle.model.specs.Positions.{heldRuns}
 use Rattle.model.proofs.Edit.{and-holds}
 use Rattle.run_index.specs.declared.Node.{Node}
 use Rattle.run_index.specs.Cells.{cellAt}
@@ -23,9 +22,9 @@ use Rattle.run_index.specs.Strung.{times}
 use Rattle.run_index.proofs.Words.{same-node}
 use Rattle.run_index.proofs.Trees.{rep-pos, rep-room, rep-cell, rep-left, rep-right, sums-leaf, sums-node}
 use Rattle.store.specs.declared.World.{World}
-use Rattle.store.specs.Layout.{worldAt, spareAt, capacity, allowance, heldIn, heldBy}
-use Rattle.store.specs.Soundness.{Chain, firstOf, lastOf, Share, Standing, shareOf, Sound}
-use Rattle.store.specs.Decision.{insideB, belowOf, agreesB, cellB, treeB, restB, worldB, soundB}
+use Rattle.store.specs.Layout.{heldIn}
+use Rattle.store.specs.Soundness.{Chain, firstOf, lastOf, Share, Standing, Planted}
+use Rattle.store.specs.Decision.{insideB, belowOf, agreesB, cellB, treeB, worldB}
 use Rattle.store.proofs.Tests.{
   never,
   both-in,
@@ -42,11 +41,7 @@ use Rattle.store.proofs.Tests.{
   sums-in,
 }
 use Rattle.store.proofs.Steps.{cell-out, tree-none, tree-node}
-use Rattle.store.proofs.Counting.{Among, each-once}
-use Rattle.store.proofs.Nodes.{sized-length}
-use Rattle.store.proofs.Reached.{kept-low}
-use Rattle.store.proofs.Orders.{About, canon-out, canon-in, node-in, distinct}
-use Rattle.store.proofs.Chains.{Rest, restB-yes, restB-no, chain-once, chain-free, free-low}
+use Rattle.store.proofs.Orders.{About, canon-out, canon-in, distinct}
 
 -- ---- trees
 -- the words at a link tell the height and the sums of the tree there
@@ -166,7 +161,7 @@ pub hangs-walked : {d : ℕ} {w : List ℕ} {g k lo total : ℕ} → Hangs d w g
 hangs-walked {d} {w} {g} {k} {lo} {total} T = tree-no w g (T .t) d k lo total (T .at) (T .ordered) (T .balanced) (T .low)
 
 -- a tree at most d high has fewer than 2^d runs
-low-runs : (t : Tree) (d : ℕ) → height t ≤ d → runs t < 2 ^ d
+pub low-runs : (t : Tree) (d : ℕ) → height t ≤ d → runs t < 2 ^ d
 low-runs leaf d le = omega (arith, one-le-pow d 2 (omega arith))
 low-runs (node n a b l r) zero le = absurd (omega arith)
 low-runs (node n a b l r) (suc d) le = rw (pow-succ' 2 d) (omega (arith, low-runs l d (omega arith), low-runs r d (omega arith)))
@@ -264,102 +259,31 @@ world-stands w s h F ns sized few part tagged chain shared counted =
       empty-offset = F .empty-offset;
     }
 
-module _ {w : List ℕ} {s : Share} {h : World} (S : Standing w s h) where
-  -- the tests of a world that stands pass
-  pub standing-fits : Fitting w h
-  standing-fits =
-      record {
-        tree = record {
-          t = S .tree;
-          at = subst (λ (g : ℕ). At w g (h .root) (S .tree)) (sym (S .kept .tagged)) (S .kept .linked);
-          ordered = S .kept .ordered;
-          balanced = S .kept .balanced;
-          low = kept-low (S .kept);
-        };
-        ones-are = S .ones-are;
-        runs-are = S .runs-are;
-        first-is = S .first-is;
-        last-is = S .last-is;
-        empty-offset = S .empty-offset;
-      }
+-- the tests are those of a planted tree
+pub planted-fits : {w : List ℕ} {h : World} → Planted w h → Fitting w h
+planted-fits P = record {
+  tree = record { t = P .tree; at = P .linked; ordered = P .ordered; balanced = P .balanced; low = P .low };
+  ones-are = P .ones-are;
+  runs-are = P .runs-are;
+  first-is = P .first-is;
+  last-is = P .last-is;
+  empty-offset = P .empty-offset;
+}
 
-  -- and its chain has what its tree leaves of its own nodes
-  pub standing-rest : Rest w (s .own) (h .runs) (h .free)
-  standing-rest = record { ns = S .free; chain = S .kept .chained; many = omega (arith, S .runs-are, S .kept .counted) }
-
--- ---- one tree and one chain
--- the nodes of a tree in order and of a chain are among 1 .. n, and the two have none in common
-module _ (w : List ℕ) (n g : ℕ) (t : Tree) (ns : List ℕ) (sized : length w ≡ 8 * (n + 1)) (rep : Rep w g t) (ordered : Canon size 0 (inorder t))
-    (k : ℕ) (chain : Chain w k ns) where
-  -- the nodes of the tree are among them
-  tree-among : Among n (λ m. count m t)
-  tree-among m i = let h = node-in w g t 0 size rep ordered m i in (h .some, omega (arith, h .room))
-
-  -- those of the chain
-  chain-among : Among n (λ m. times m ns)
-  chain-among m i = let h = chain-free w k ns chain m i in (h .some, omega (arith, h .room))
-
-  -- a node of the tree has a height, a free one has none
-  apart : (m : ℕ) → count m t + times m ns ≤ 1
-  apart m = go (ℕ-discrete (count m t) 0) (ℕ-discrete (times m ns) 0)
-    where
-      go : Dec (count m t ≡ 0) → Dec (times m ns ≡ 0) → count m t + times m ns ≤ 1
-      go (yes z) d = omega (arith, chain-once w k ns chain m)
-      go (no s) (yes z) = omega (arith, distinct w g t 0 size rep ordered m)
-      go (no s) (no u) =
-          let h = node-in w g t 0 size rep ordered m (omega arith) in
-          let f = chain-free w k ns chain m (omega arith) in
-          absurd (omega (arith, h .high, free-low f))
-
-  -- so if they have n nodes, each is in one of the two
-  shared-out : runs t + length ns ≡ n → (m : ℕ) → 1 ≤ m → m ≤ n → count m t + times m ns ≡ 1
-  shared-out = each-once n t ns tree-among chain-among apart
-
--- ---- a store
--- its tests, one by one
-pub record Tested (w : List ℕ) : Type 0 where
-  pub spare : spareAt w ≡ 0
-  pub world : worldB w (worldAt w) ≡ true
-  pub rest : restB w (capacity w + 2) ((worldAt w) .runs) ((worldAt w) .free) ≡ true
-  pub fits : stretches (heldBy w) ≤ allowance w
-
--- what the tests say
-pub sound-out : (w : List ℕ) → soundB w ≡ true → Tested w
-unfolding soundB
-sound-out w e =
-    let a = and-holds _ _ e in
-    let b = and-holds _ _ (a .1) in
-    let c = and-holds _ _ (b .1) in
-    record { spare = eqb-true _ _ (a .0); world = b .0; rest = c .0; fits = leb-true _ _ (c .1) }
-
--- and back
-pub sound-in : (w : List ℕ) → Tested w → soundB w ≡ true
-unfolding soundB
-sound-in w T = both-in _ _ (eq-eqb _ _ (T .spare)) (both-in _ _ (T .world) (both-in _ _ (T .rest) (le-leb _ _ (T .fits))))
-
--- where the whole test passes, the store is sound
-pub soundB-yes : (w : List ℕ) → 1 ≤ capacity w → soundB w ≡ true → Sound w
-soundB-yes w sized e =
-    let T = sound-out w e in
-    let F = worldB-yes w (worldAt w) (T .world) in
-    let R = restB-yes w (capacity w + 2) ((worldAt w) .runs) ((worldAt w) .free) (T .rest) in
-    let c = sized-length w sized in
-    let long : length w ≡ 8 * (capacity w + 2 + 1) = omega (arith, c .0) in
-    let many : runs (F .tree .t) + length (R .ns) ≡ capacity w + 2 = omega (arith, F .runs-are, R .many) in
-    let once = shared-out w (capacity w + 2) 0 (F .tree .t) (R .ns) long (F .tree .at .rep) (F .tree .ordered) ((worldAt w) .free) (R .chain) many in
+-- and back: a tree in order meets no node twice
+pub fits-planted : {w : List ℕ} {h : World} → Fitting w h → Planted w h
+fits-planted {w} {h} F =
+    let T = F .tree in
     record {
-      sized = sized;
-      standing = world-stands w (shareOf w) (worldAt w) F (R .ns) long (omega (arith, c .1)) (omega arith) refl (R .chain) (λ m p q. omega (arith, once m p q)) many;
-      spare = T .spare;
-      fits = T .fits;
+      tree = T .t;
+      linked = T .at;
+      once = distinct w (h .tag) (T .t) 0 size (T .at .rep) (T .ordered);
+      ordered = T .ordered;
+      balanced = T .balanced;
+      low = T .low;
+      ones-are = F .ones-are;
+      runs-are = F .runs-are;
+      first-is = F .first-is;
+      last-is = F .last-is;
+      empty-offset = F .empty-offset;
     }
-
--- and where it is sound, the test passes
-pub soundB-no : (w : List ℕ) → Sound w → soundB w ≡ true
-soundB-no w S =
-    sound-in w (record {
-      spare = S .spare;
-      world = worldB-no w (worldAt w) (standing-fits (S .standing));
-      rest = restB-no w (capacity w + 2) ((worldAt w) .runs) ((worldAt w) .free) (standing-rest (S .standing));
-      fits = S .fits;
-    })

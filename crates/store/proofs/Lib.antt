@@ -1,15 +1,22 @@
 -- What the proofs of several functions use.
 pub mod Capacities
+pub mod Parts
+pub mod Sums
+pub mod WorldLists
+pub mod Worlds
+pub mod Closing
 pub mod Nodes
 pub mod Reached
 pub mod Freeing
 pub mod Altering
 pub mod Emptying
+pub mod Limiting
+pub mod Making
+pub mod Fresh
 pub mod Opening
 pub mod Settling
 pub mod Resetting
 pub mod Replacing
-pub mod Fresh
 -- What the soundness of a store means, and how it is decided.
 pub mod Tests
 pub mod Steps
@@ -17,6 +24,9 @@ pub mod Counting
 pub mod Orders
 pub mod Chains
 pub mod Decided
+pub mod Records
+pub mod Sharing
+pub mod Placed
 pub mod Whole
 pub mod Bounded
 pub mod LogicalRuns

@@ -1,7 +1,7 @@
 -- What a world that stands gives its readers: its tree at its root, that its positions are the tree's, turned by the offset, and that it holds
 -- some exactly if it has runs. And what a sound store gives: its world stands, with nodes enough for what it may hold. Assumes nothing.
 use Prim.Native.Nat.{ℕ, _≤_, _<_}
-use mathlib.Core.Path.{_≡_, refl, sym, ap, _∙_, subst}
+use mathlib.Core.Path.{_≡_, sym, ap, _∙_}
 use mathlib.Core.Bool.{true, false}
 use mathlib.Core.List.{List, [], _∷_}
 use native.Mathlib.Omega.{arith}
@@ -12,19 +12,16 @@ use Rattle.store.specs.Places.{physicalOf, logicalOf}
 use Rattle.model.specs.Positions.{Positions, stretches, mem}
 use Rattle.model.specs.RunList.{Canon}
 use Rattle.model.proofs.RunList.{mem-in}
-use Rattle.model.specs.Model
-use Rattle.run_index.specs.Cells.{Room}
 use Rattle.run_index.specs.Tree.{runs, inorder}
 use Rattle.run_index.specs.Search.{Index, Indexed}
 use Rattle.run_index.proofs.Totals.{runs-length}
 use Rattle.store.specs.declared.World.{World}
-use Rattle.store.specs.Layout.{capacityOf, worldAt, allowance, turned, heldIn, heldBy}
-use Rattle.store.specs.Soundness.{Share, Standing, Sound}
+use Rattle.store.specs.Layout.{turned, heldIn}
+use Rattle.store.specs.Soundness.{Share, Standing}
 use Rattle.store.specs.Bounds.{RunsCounted, TellsRuns}
 use Rattle.store.proofs.Turn.{turned-at, turned-logical}
 use Rattle.store.proofs.Ends.{empty-mem}
-use Rattle.store.specs.Settle.{Opened}
-use Rattle.store.proofs.Nodes.{kept-index, header-room}
+use Rattle.store.proofs.Nodes.{kept-index}
 use Rattle.store.proofs.Reached.{kept-held}
 
 -- no runs hold nothing
@@ -74,23 +71,3 @@ module _ {w : List ℕ} {s : Share} {h : World} (st : Standing w s h) where
       let g = runs-hold (inorder (st .tree)) (omega (arith, runs-length (st .tree))) (st .kept .ordered) in
       let x : ℕ = logicalOf (g .0) (h .offset) in
       (x, omega arith, ap (λ (P : Positions). P x) standing-held ∙ turned-logical (h .offset) physicalIn (g .0) (g .1) small ∙ g .2)
-
--- ---- a store
--- what it may hold is told by its length
-pub allowance-same : (w w′ : List ℕ) → length w′ ≡ length w → allowance w′ ≡ allowance w
-unfolding allowance
-allowance-same w w′ e = ap (λ n. Model.allowance (capacityOf n)) e
-
--- a sound one
-module _ {w : List ℕ} (so : Sound w) where
-  -- there is a header
-  pub sound-room : Room w 0
-  sound-room = header-room (so .standing .kept)
-
-  -- it tells of a world within its allowance, which holds what the store does
-  told : Opened w (worldAt w)
-  unfolding heldBy allowance
-  told = record { limited = record { standing = so .standing; fits = so .fits; enough = omega arith }; held = refl }
-
-  pub opened : {h : World} → h ≡ worldAt w → Opened w h
-  opened e = subst (Opened w) (sym e) told

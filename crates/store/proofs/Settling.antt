@@ -1,6 +1,6 @@
 -- Bringing a world into agreement with its tree: the root's node and the searches tell its sums and bounds. And making a tree of free nodes
 -- that were given runs: these are one balanced tree, and the others stay free. Assumes nothing.
-use Prim.Native.Nat.{ℕ, zero, suc, _+_, _≤_, _<_, _^_}
+use Prim.Native.Nat.{ℕ, _+_, _≤_, _<_, _^_}
 use mathlib.Core.Path.{_≡_, refl, sym, ap, _∙_, subst}
 use mathlib.Core.List.{List, [], _∷_}
 use native.Mathlib.Omega.{arith}
@@ -17,18 +17,17 @@ use Rattle.run_index.specs.Tree.{Tree, leaf, runs, ones, count, inorder, At, Su
 use Rattle.run_index.specs.Search.{Indexed}
 use Rattle.run_index.specs.Strung.{times, Free, Upright, Supply, Filled, Grew, Grows}
 use Rattle.run_index.proofs.Trees.{at-none, room-at, sums-node}
-use Rattle.run_index.proofs.Heap.{frame}
 use Rattle.run_index.proofs.Balance.{halved-balanced}
 use Rattle.run_index.proofs.Strings.{times-append, length-both, count-numbers, length-numbers, strung-kept}
 use Rattle.run_index.proofs.Laying.{strung-laid}
 use Rattle.store.specs.declared.World.{World}
 use Rattle.store.specs.declared.Links.{Links}
-use Rattle.store.specs.Layout.{capacityOf, Headed, linksOf, capacity, allowance, turned, heldFrom, heldIn, heldBy}
-use Rattle.store.specs.Soundness.{Chain, firstOf, lastOf, Share, Still, Kept, Standing, Limited, shareOf}
+use Rattle.store.specs.Layout.{linksOf, turned, heldFrom, heldIn}
+use Rattle.store.specs.Soundness.{Chain, firstOf, lastOf, Share, Still, Kept, Standing, Limited}
 use Rattle.store.specs.Bounds.{TellsFirst, TellsLast}
 use Rattle.store.proofs.Turn.{turned-zero}
-use Rattle.store.specs.Settle.{Settled, Shows, Became, Refreshes, Strewn, LinksUp, Closing, Closes}
-use Rattle.store.proofs.Nodes.{node-once, no-zero, chain-no-zero, kept-index, kept-still, header-room}
+use Rattle.store.specs.Settle.{Shows, Became, Refreshes, Strewn, LinksUp}
+use Rattle.store.proofs.Nodes.{node-once, kept-index, kept-still}
 use Rattle.store.proofs.Reached.{kept-held}
 use Rattle.store.proofs.Emptying.{vacantWorld, vacant-standing, rootless-empty}
 
@@ -167,83 +166,3 @@ link-links gs re v s q ns rs st =
 pub became-limited : {w w′ : List ℕ} {s : Share} {h k : World} {limit : ℕ} {Q : Positions} → Limited w s h limit → Became w w′ s k Q → stretches Q ≤ limit → Limited w′ s k limit
 became-limited {w′ = w′} {k = k} {Q = Q} l b few =
     record { standing = b .shows .standing; fits = omega (arith, few, stretches-cong (heldIn w′ k) Q (b .shows .holds)); enough = l .enough }
-
--- ---- the whole store
--- the share that a capacity gives
-abbrev shared : ℕ → Share
-shared c = record { tag = 0; nodes = c + 2; own = c + 2; others = λ m. 0 }
-
--- a header that is written last: the world that it tells stands, and the store is sound
-settles : {w w₁ w₂ : List ℕ} {h : World} {P : Positions} → 1 ≤ capacity w → Became w w₁ (shareOf w) h P → stretches P ≤ allowance w → Headed w₁ w₂ h → Settled w w₂ P
-unfolding heldBy allowance
-settles {w} {w₁} {w₂} {h} {P} sized be fits hd = record {
-  sound = record {
-    sized = omega (arith, cap);
-    standing = subst (λ (z : World). Standing w₂ (shareOf w₂) z) (sym (hd .here)) (subst (λ (c : ℕ). Standing w₂ (shared c) h) cap standing);
-    spare = hd .spare;
-    fits = omega (arith, fits, cap, stretches-cong (heldBy w₂) P holds);
-  };
-  holds = holds;
-  long = hd .long ∙ be .still .long;
-}
-  where
-    cap : capacity w ≡ capacity w₂
-    cap = sym (ap capacityOf (hd .long ∙ be .still .long))
-
-    old : Standing w₁ (shareOf w) h
-    old = be .shows .standing
-
-    -- the nodes are as they were, so all that is said of them holds
-    kept : Kept w₂ (shareOf w) (linksOf h) (old .tree) (old .free)
-    kept =
-        let k = old .kept in
-        record {
-          sized = hd .long ∙ k .sized;
-          few = k .few;
-          part = k .part;
-          linked = record { rep = frame w₁ w₂ 0 (hd .long) (old .tree) (λ m i. hd .there m (tree-some m i)) (k .linked .rep); linked = k .linked .linked };
-          tagged = k .tagged;
-          once = k .once;
-          ordered = k .ordered;
-          balanced = k .balanced;
-          chained = strung-kept Free w₁ w₂ (hd .long) (h .free) (old .free) 0 (λ m i. hd .there m (chain-some m i)) (k .chained);
-          shared = k .shared;
-          counted = k .counted;
-        }
-      where
-        tree-some : (m : ℕ) → 1 ≤ count m (old .tree) → 1 ≤ m
-        tree-some zero i = absurd (omega (arith, no-zero (old .kept)))
-        tree-some (suc m) i = omega arith
-
-        chain-some : (m : ℕ) → 1 ≤ times m (old .free) → 1 ≤ m
-        chain-some zero i = absurd (omega (arith, chain-no-zero (old .kept)))
-        chain-some (suc m) i = omega arith
-
-    same : heldIn w₂ h ≡ heldIn w₁ h
-    same = kept-held kept (h .offset) ∙ sym (kept-held (old .kept) (h .offset))
-
-    standing : Standing w₂ (shareOf w) h
-    standing = record {
-      tree = old .tree;
-      free = old .free;
-      kept = kept;
-      ones-are = old .ones-are;
-      runs-are = old .runs-are;
-      first-is = old .first-is ∙ sym (ap (λ (Q : Positions). firstOf (heldRuns Q)) same);
-      last-is = old .last-is ∙ sym (ap (λ (Q : Positions). lastOf (heldRuns Q)) same);
-      empty-offset = old .empty-offset;
-    }
-
-    holds : (x : ℕ) → x < size → heldBy w₂ x ≡ P x
-    holds x l = ap (λ (z : World). heldFrom w₂ (z .root) (z .offset) x) (hd .here) ∙ ap (λ (Q : Positions). Q x) same ∙ be .shows .holds x l
-
--- so what was opened is closed
-pub closes : {w w′ : List ℕ} {k : World} → Headed w w′ k → Closes w w′ k
-closes hd w₀ P cl = settles (cl .sized) (cl .became) (cl .few) hd
-
--- there is a header to write, and its nodes have the tag 0
-pub closing-room : {w₀ w : List ℕ} {k : World} {P : Positions} → Closing w₀ w k P → Room w 0
-closing-room cl = header-room (cl .became .shows .standing .kept)
-
-pub closing-tag : {w₀ w : List ℕ} {k : World} {P : Positions} → Closing w₀ w k P → k .tag ≡ 0
-closing-tag cl = cl .became .shows .standing .kept .tagged

@@ -16,7 +16,7 @@ use Rattle.model.proofs.Counting.{beq-true, count-cut}
 use Rattle.model.proofs.Runs.{runsIn-length-join, heldRuns-cong}
 use Rattle.store.specs.Places.{physicalOf, logicalOf}
 use Rattle.store.proofs.Conversions.{physical-logical}
-use Rattle.store.specs.Layout.{worldAt, physicalRuns, turned, heldFrom, heldBy}
+use Rattle.store.specs.Layout.{worldAt, nodes, physicalRuns, turned, heldFrom, heldBy}
 use Rattle.model.proofs.Moved.{
   Alike,
   move,
@@ -50,10 +50,10 @@ pub held-past : (w : List ℕ) (p o x : ℕ) → size ≤ x → heldFrom w p o x
 unfolding heldFrom turned
 held-past w p o x h = ap (λ t. t && mem (physicalRuns w p) (physicalOf x o)) (le-ltb x size h)
 
--- nor does a store
-pub store-past : (w : List ℕ) (x : ℕ) → size ≤ x → heldBy w x ≡ false
+-- nor does one of a pool
+pub pool-past : (w : List ℕ) (k x : ℕ) → size ≤ x → heldBy w k x ≡ false
 unfolding heldBy
-store-past w x h = held-past w ((worldAt w) .root) ((worldAt w) .offset) x h
+pool-past w k x h = held-past (nodes w) ((worldAt w k) .root) ((worldAt w k) .offset) x h
 
 -- ---- ranges
 -- with offset o, the first of the n logical positions from a is kept at s and the last at e

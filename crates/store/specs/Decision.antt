@@ -1,21 +1,38 @@
--- Whether words are a sound store, as tests that the code makes one by one. Assumes nothing: these are definitions.
+-- Whether words are a sound pool, as tests that the code makes one by one. Assumes nothing: these are definitions.
 use Prim.Native.Nat.{ℕ, zero, suc, _+_, _-_, _/_, _%_, _^_, _≤_, max}
 use mathlib.Core.Path.{_≡_}
 use mathlib.Core.Bool.{Bool, true, _&&_, _||_, not}
 use mathlib.Core.List.{List}
 use lib.Dec.{leb, ltb, eqb}
 use lib.ListN.{length}
-use Rattle.model.specs.Numbers.{size}
+use Rattle.model.specs.Numbers.{size, mostWorlds}
 use Rattle.model.specs.Positions.{heldRuns, stretches}
+use Rattle.model.specs.Pools.{claims}
 use Rattle.run_index.specs.declared.Node.{Node}
 use Rattle.run_index.specs.Cells.{cellAt}
 use Rattle.run_index.specs.Tree.{runs, ones, width}
 use Rattle.run_index.specs.Strung.{freeCell}
 use Rattle.store.specs.declared.World.{World}
-use Rattle.store.specs.Layout.{worldAt, spareAt, capacity, allowance, heldIn, heldBy, highest}
-use Rattle.store.specs.Soundness.{firstOf, lastOf}
+use Rattle.store.specs.Layout.{
+  openedAt,
+  freeHead,
+  recordAt,
+  worldAt,
+  floorAt,
+  ceilingAt,
+  nodes,
+  capacity,
+  nodeCount,
+  highest,
+  heldIn,
+  heldBy,
+  worldsFrom,
+  worldsOf,
+}
+use Rattle.store.specs.declared.soundness.Checked.{Checked}
+use Rattle.store.specs.Soundness.{firstOf, lastOf, sumTo}
 
--- node n has all its words in w; so has the header, at 0
+-- node n has all its words in w; so has what lies at 0
 unfoldable pub insideB : List ℕ → ℕ → Bool
 insideB w n = ltb n (length w / 8)
 
@@ -90,13 +107,49 @@ worldB w h =
     && (eqb (h .first) (firstOf (heldRuns (heldIn w h)))
     && (eqb (h .last) (lastOf (heldRuns (heldIn w h))) && (not (eqb (h .root) 0) || eqb (h .offset) 0)))))
 
--- whether words of a store's length are a sound store
+-- 1 to 16 worlds were opened, and the header's other words are 0
+unfoldable pub headerB : Node → Bool
+headerB v =
+    leb 1 (v .start)
+    && (leb (v .start) mostWorlds
+    && (eqb (v .left) 0 && (eqb (v .right) 0 && (eqb (v .height) 0 && (eqb (v .runs) 0 && (eqb (v .ones) 0 && eqb (v .tag) 0))))))
+
+-- world k of a pool: the tests of its tree and its record, and its limits
+unfoldable pub placeB : List ℕ → ℕ → Bool
+placeB w k =
+    worldB (nodes w) (worldAt w k) && (leb (floorAt w k) (ceilingAt w k) && leb (stretches (heldBy w k)) (ceilingAt w k))
+
+-- the first n worlds
+unfoldable pub worldsB : List ℕ → ℕ → Bool
+worldsB w zero = true
+worldsB w (suc n) = worldsB w n && placeB w n
+
+-- all words are 0
+unfoldable pub nothingB : Node → Bool
+nothingB v = eqb (v .left) 0 && zerosB v
+
+-- the records of worlds k and above, n of them, are zeros
+unfoldable pub unopenedB : List ℕ → ℕ → ℕ → Bool
+unopenedB w k zero = true
+unopenedB w k (suc n) = nothingB (recordAt w k) && unopenedB w (suc k) n
+
+-- the runs that the records of the first n worlds tell
+abbrev pub toldRuns : List ℕ → ℕ → ℕ
+toldRuns w n = sumTo n (λ k. (worldAt w k) .runs)
+
+-- whether words of a pool's length are a sound pool
 unfoldable pub soundB : List ℕ → Bool
 soundB w =
-    eqb (spareAt w) 0
-    && (worldB w (worldAt w)
-    && (restB w (capacity w + 2) ((worldAt w) .runs) ((worldAt w) .free) && leb (stretches (heldBy w)) (allowance w)))
+    headerB (cellAt w 0)
+    && (worldsB w (openedAt w)
+    && (unopenedB w (openedAt w) (mostWorlds - openedAt w)
+    && (leb (claims (worldsOf w)) (capacity w) && restB (nodes w) (nodeCount w) (toldRuns w (openedAt w)) (freeHead w))))
 
 -- r says whether a tree with the tag g and the runs within lo .. hi hangs at the link k
 abbrev pub Tells : List ℕ → ℕ → ℕ → ℕ → ℕ → Bool → Type 0
 Tells w g k lo hi r = (d : ℕ) → (belowOf w k) .height ≤ d → r ≡ treeB d w g k lo (hi + 1)
+
+-- r says whether the first n worlds fit, and what they claim together; and if so, how many runs they have
+pub record Checks (w : List ℕ) (n : ℕ) (r : Checked) : Type 0 where
+  pub told : r .fits ≡ (worldsB w n && leb (claims (worldsFrom w 0 n)) (capacity w))
+  pub many : r .fits ≡ true → r .runs ≡ toldRuns w n

@@ -1,16 +1,24 @@
--- What making a store, and adding, removing and resizing a run, ask and promise. Assumes nothing: these are definitions.
-use Prim.Native.Nat.{ℕ, zero, suc, _+_, _≤_}
+-- What making a pool, and adding, removing and resizing a run, ask and promise. Assumes nothing: these are definitions.
+use Prim.Native.Nat.{ℕ, zero, suc, _/_, _≤_, _<_}
 use mathlib.Core.Path.{_≡_}
+use mathlib.Core.Logic.{_⊎_}
+use mathlib.Core.Bool.{false, cond}
 use mathlib.Core.List.{List, [], _∷_}
+use lib.Dec.{ltb}
 use lib.ListN.{length}
 use Rattle.model.specs.declared.Run.{Run}
-use Rattle.model.specs.Numbers.{size}
-use Rattle.model.specs.Positions.{run, empty}
+use Rattle.model.specs.Numbers.{size, mostWorlds}
+use Rattle.model.specs.Positions.{run}
+use Rattle.model.specs.declared.Limits.{Limits}
+use Rattle.model.specs.Refusals.{badLimits}
+use Rattle.model.specs.Pools.{PlainWorld, limitsAt, limitsOf, emptyWorlds}
 use Rattle.model.specs.RunList.{Canon}
+use Rattle.run_index.specs.declared.Node.{Node}
+use Rattle.run_index.specs.Cells.{cellAt}
 use Rattle.run_index.specs.Tree.{Tree, inorder}
 use Rattle.run_index.specs.Order.{insertRun, removeRun, replaceRun, Starts, Has}
 use Rattle.store.specs.declared.Links.{Links}
-use Rattle.store.specs.Layout.{capacity, heldBy}
+use Rattle.store.specs.Layout.{recordAt, capacity, worldsOf}
 use Rattle.store.specs.Soundness.{Chain, Share, Still, Kept, Sound}
 
 -- the numbers n + 1 .. n + k
@@ -18,16 +26,42 @@ abbrev pub after : ℕ → ℕ → List ℕ
 after n zero = []
 after n (suc k) = suc n ∷ after (suc n) k
 
--- all nodes are the free chain from r
-pub record Chained (w w′ : List ℕ) (r : ℕ) : Type 0 where
-  pub chain : Chain w′ r (after 0 (capacity w + 2))
+-- all n nodes are the free chain from r
+pub record Chained (w w′ : List ℕ) (n r : ℕ) : Type 0 where
+  pub chain : Chain w′ r (after 0 n)
+  -- what lies before them is as it was
+  pub before : cellAt w′ 0 ≡ cellAt w 0
   pub long : length w′ ≡ length w
 
--- w′ is a sound store that holds nothing
-pub record Emptied (w w′ : List ℕ) : Type 0 where
-  pub sound : Sound w′
-  pub holds : heldBy w′ ≡ empty
+-- the limits of world k, of n that the words ls lend: 0 and 0 where there is no such world
+abbrev pub limitsOrNone : List ℕ → ℕ → ℕ → Limits
+limitsOrNone ls n k = cond (ltb k n) (limitsAt ls k) (record { floor = 0; ceiling = 0 })
+
+-- the record of an empty world with these limits
+abbrev pub emptyRecord : Limits → Node
+emptyRecord l = record { start = 0; «end» = 0; left = 0; right = 0; height = 0; runs = 0; ones = l .floor; tag = l .ceiling }
+
+-- each record is that of its world, and no other word has changed
+pub record Recorded (w w′ ls : List ℕ) (n : ℕ) : Type 0 where
+  pub here : (k : ℕ) → k < mostWorlds → recordAt w′ k ≡ emptyRecord (limitsOrNone ls n k)
+  pub there : (m : ℕ) → (m ≡ 0) ⊎ (mostWorlds < m) → cellAt w′ m ≡ cellAt w m
   pub long : length w′ ≡ length w
+
+-- words of a pool's length, and limits of n worlds that 11 does not refuse
+pub record Makeable (w ls : List ℕ) (n : ℕ) : Type 0 where
+  pub sized : 1 ≤ capacity w
+  pub many : n ≡ length ls / 2
+  pub good : badLimits (capacity w) (limitsOf ls) ≡ false
+
+-- w′ is a sound pool of the same length with the worlds ws
+pub record Pooled (w w′ : List ℕ) (ws : List PlainWorld) : Type 0 where
+  pub sound : Sound w′
+  pub worlds : worldsOf w′ ≡ ws
+  pub long : length w′ ≡ length w
+
+-- one of empty worlds with the limits ls
+abbrev pub Emptied : List ℕ → List ℕ → List Limits → Type 0
+Emptied w w′ ls = Pooled w w′ (emptyWorlds ls)
 
 -- the runs rs are in the tree that the links y lead to; others stand still
 pub record Becomes (w w′ : List ℕ) (s : Share) (y : Links) (rs : List Run) : Type 0 where

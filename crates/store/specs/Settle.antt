@@ -6,20 +6,26 @@ use mathlib.Core.Bool.{Bool, true, false}
 use mathlib.Core.List.{List}
 use lib.ListN.{length}
 use Rattle.model.specs.declared.Run.{Run}
-use Rattle.model.specs.Numbers.{size}
+use Rattle.model.specs.Numbers.{size, mostWorlds}
 use Rattle.model.specs.Positions.{Positions, setRange, heldRuns, stretches, mem}
 use Rattle.model.specs.RunList.{Canon}
+use Rattle.run_index.specs.Cells.{cellAt}
 use Rattle.run_index.specs.Tree.{Tree, leaf, inorder}
 use Rattle.run_index.specs.Strung.{FreeChain, Filled}
 use Rattle.store.specs.declared.World.{World}
 use Rattle.store.specs.declared.Links.{Links}
-use Rattle.store.specs.Layout.{capacity, allowance, turned, heldIn, heldBy}
+use Rattle.store.specs.Layout.{openedAt, floorAt, ceilingAt, nodes, allowance, turned, heldIn, heldBy}
 use Rattle.store.specs.Soundness.{firstOf, lastOf, Share, Still, Kept, Standing, Limited, shareOf, Sound}
 
--- w′ is a sound store of the same length that holds P
-pub record Settled (w w′ : List ℕ) (P : Positions) : Type 0 where
+-- w′ is a sound pool of the same length, whose world k holds P; all else is as it was: how many worlds there are, the positions of the others,
+-- and every floor and ceiling
+pub record Settled (w w′ : List ℕ) (k : ℕ) (P : Positions) : Type 0 where
   pub sound : Sound w′
-  pub holds : (x : ℕ) → x < size → heldBy w′ x ≡ P x
+  pub holds : (x : ℕ) → x < size → heldBy w′ k x ≡ P x
+  pub opened : openedAt w′ ≡ openedAt w
+  pub others : (j : ℕ) → j < openedAt w → (j ≡ k → ⊥) → heldBy w′ j ≡ heldBy w j
+  pub floors : (j : ℕ) → j < mostWorlds → floorAt w′ j ≡ floorAt w j
+  pub ceilings : (j : ℕ) → j < mostWorlds → ceilingAt w′ j ≡ ceilingAt w j
   pub long : length w′ ≡ length w
 
 -- the world h stands in the nodes w and holds P
@@ -73,21 +79,28 @@ Linkable w x n = (v : List ℕ) × (s : Share) × (q : ℕ) × (ns : List ℕ) �
 abbrev pub LinksUp : List ℕ → List ℕ → Links → ℕ → World → Type 0
 LinksUp w w′ x n r = (v : List ℕ) (s : Share) (q : ℕ) (ns : List ℕ) (rs : List Run) → Strewn v w s x n q ns rs → Became v w′ s r (mem rs)
 
--- ---- the door between a store and its world
--- the world h of the words w: it has its allowance, and holds what the store does
-pub record Opened (w : List ℕ) (h : World) : Type 0 where
-  pub limited : Limited w (shareOf w) h (allowance w)
-  pub held : heldIn w h ≡ heldBy w
+-- ---- the door between a pool and a world of it
+-- a world of a sound pool that was opened
+pub record Openable (w : List ℕ) (k : ℕ) : Type 0 where
+  pub sound : Sound w
+  pub named : k < openedAt w
 
--- the store w₀ was opened, and its nodes are w now, in which its world k holds P; P has no more runs than it may have
-pub record Closing (w₀ w : List ℕ) (k : World) (P : Positions) : Type 0 where
-  pub sized : 1 ≤ capacity w₀
-  pub became : Became w₀ w (shareOf w₀) k P
-  pub few : stretches P ≤ allowance w₀
+-- the world h is world k of the words w: it has its allowance, and holds what that does
+pub record Opened (w : List ℕ) (k : ℕ) (h : World) : Type 0 where
+  pub limited : Limited (nodes w) (shareOf w k) h (allowance w k)
+  pub held : heldIn (nodes w) h ≡ heldBy w k
+
+-- in the words w, of which the nodes alone have changed since they were w₀, the world h holds P; P has no more runs than it may have
+pub record Closing (w₀ w : List ℕ) (h : World) (P : Positions) : Type 0 where
+  pub openable : Openable w₀ (h .tag)
+  pub before : (m : ℕ) → m ≤ mostWorlds → cellAt w m ≡ cellAt w₀ m
+  pub long : length w ≡ length w₀
+  pub became : Became (nodes w₀) (nodes w) (shareOf w₀ (h .tag)) h P
+  pub few : stretches P ≤ allowance w₀ (h .tag)
 
 abbrev pub Closable : List ℕ → World → Type 0
-Closable w k = (w₀ : List ℕ) × (P : Positions) × Closing w₀ w k P
+Closable w h = (w₀ : List ℕ) × (P : Positions) × Closing w₀ w h P
 
--- then it is a store that holds P
+-- then the pool settles
 abbrev pub Closes : List ℕ → List ℕ → World → Type 0
-Closes w w′ k = (w₀ : List ℕ) (P : Positions) → Closing w₀ w k P → Settled w₀ w′ P
+Closes w w′ h = (w₀ : List ℕ) (P : Positions) → Closing w₀ w h P → Settled w₀ w′ (h .tag) P

@@ -1,18 +1,38 @@
--- What a sound store is, sentence by sentence (document 01, "The store"). Assumes nothing: these are definitions.
-use Prim.Native.Nat.{ℕ, _+_, _*_, _≤_}
+-- What a sound pool is, sentence by sentence (document 01, "The store", and document 02, Ticket 3). Assumes nothing: these are definitions.
+use Prim.Native.Nat.{ℕ, zero, suc, _+_, _-_, _*_, _≤_, _<_}
 use mathlib.Core.Path.{_≡_}
+use mathlib.Core.Bool.{cond}
 use mathlib.Core.List.{List, [], _∷_}
+use lib.Dec.{eqb}
 use lib.ListN.{length}
 use Rattle.model.specs.declared.Run.{Run}
-use Rattle.model.specs.Numbers.{size}
+use Rattle.model.specs.Numbers.{size, mostWorlds}
 use Rattle.model.specs.Positions.{heldRuns, lastAfter, stretches}
 use Rattle.model.specs.RunList.{Canon}
+use Rattle.model.specs.Pools.{claims}
 use Rattle.run_index.specs.Cells.{cellAt}
-use Rattle.run_index.specs.Tree.{Tree, runs, ones, count, Distinct, inorder, At, Balanced}
-use Rattle.run_index.specs.Strung.{times, Strung, Free}
+use Rattle.run_index.specs.Tree.{Tree, height, runs, ones, count, Distinct, inorder, At, Balanced}
+use Rattle.run_index.specs.Strung.{times, Strung, Free, freeCell}
 use Rattle.store.specs.declared.World.{World}
 use Rattle.store.specs.declared.Links.{Links}
-use Rattle.store.specs.Layout.{worldAt, spareAt, linksOf, capacity, allowance, heldIn, heldBy}
+use Rattle.store.specs.Layout.{
+  openedAt,
+  freeHead,
+  recordAt,
+  worldAt,
+  floorAt,
+  ceilingAt,
+  nodes,
+  headerCell,
+  linksOf,
+  capacity,
+  nodeCount,
+  highest,
+  heldIn,
+  heldBy,
+  treeAt,
+  worldsOf,
+}
 
 -- from the link k the free nodes ns, in order, and then 0
 abbrev pub Chain : List ℕ → ℕ → List ℕ → Type 0
@@ -89,15 +109,69 @@ pub record Limited (w : List ℕ) (s : Share) (h : World) (limit : ℕ) : Type 0
 abbrev pub Editable : List ℕ → World → ℕ → Type 0
 Editable w h limit = (s : Share) × Limited w s h limit
 
--- a store has one world, which has the nodes 1 .. C + 2
-abbrev pub shareOf : List ℕ → Share
-shareOf w = record { tag = 0; nodes = capacity w + 2; own = capacity w + 2; others = λ m. 0 }
+-- the sum of f over 0 .. n - 1, and f without its value at k
+unfoldable pub sumTo : ℕ → (ℕ → ℕ) → ℕ
+sumTo zero f = 0
+sumTo (suc n) f = sumTo n f + f n
+
+abbrev pub without : ℕ → (ℕ → ℕ) → ℕ → ℕ
+without k f j = cond (eqb j k) 0 (f j)
+
+-- how many nodes the trees of all worlds have, and how often m stands in them
+abbrev pub runsAt : List ℕ → ℕ → ℕ
+runsAt w j = runs (treeAt w j)
+
+abbrev pub countAt : List ℕ → ℕ → ℕ → ℕ
+countAt w m j = count m (treeAt w j)
+
+-- the share of world k of a pool: the nodes of the other worlds are not its own
+abbrev pub shareOf : List ℕ → ℕ → Share
+shareOf w k = record {
+  tag = k;
+  nodes = nodeCount w;
+  own = nodeCount w - sumTo (openedAt w) (without k (runsAt w));
+  others = λ m. sumTo (openedAt w) (without k (countAt w m));
+}
+
+-- the tree of a world, and what its record tells of it
+pub record Planted (w : List ℕ) (h : World) : Type 0 where
+  pub tree : Tree
+  -- links name nodes, and each has the world's number; heights and sums are right; links from the root meet each node at most once
+  pub linked : At w (h .tag) (h .root) tree
+  pub once : Distinct tree
+  -- in order, start ≤ end and each start ≥ previous end + 2
+  pub ordered : Canon size 0 (inorder tree)
+  -- child heights differ by at most 1, and the tree's height is at most 22
+  pub balanced : Balanced tree
+  pub low : height tree ≤ highest
+  -- the record agrees
+  pub ones-are : h .ones ≡ ones tree
+  pub runs-are : h .runs ≡ runs tree
+  pub first-is : h .first ≡ firstOf (heldRuns (heldIn w h))
+  pub last-is : h .last ≡ lastOf (heldRuns (heldIn w h))
+  -- an empty world has offset 0
+  pub empty-offset : h .root ≡ 0 → h .offset ≡ 0
+
+-- world k keeps the limits that 11 tests, and its own ceiling
+pub record KeepsLimits (w : List ℕ) (k : ℕ) : Type 0 where
+  pub limits : floorAt w k ≤ ceilingAt w k
+  pub ceiling : stretches (heldBy w k) ≤ ceilingAt w k
 
 pub record Sound (w : List ℕ) : Type 0 where
   -- the length is right
   pub sized : 1 ≤ capacity w
-  -- the header agrees, and its last word is 0
-  pub standing : Standing w (shareOf w) (worldAt w)
-  pub spare : spareAt w ≡ 0
-  -- logical runs ≤ C
-  pub fits : stretches (heldBy w) ≤ allowance w
+  -- 1 to 16 worlds were opened, and the header's other words are 0; so are the records of worlds that were not opened
+  pub some : 1 ≤ openedAt w
+  pub few : openedAt w ≤ mostWorlds
+  pub header : cellAt w 0 ≡ headerCell (openedAt w) (freeHead w)
+  pub unopened : (k : ℕ) → openedAt w ≤ k → k < mostWorlds → recordAt w k ≡ freeCell 0
+  -- each opened world has a tree with which its record agrees
+  pub planted : (k : ℕ) → k < openedAt w → Planted (nodes w) (worldAt w k)
+  -- no node is in two trees; the free chain meets each node of no tree once, and ends in 0
+  pub free : List ℕ
+  pub chained : Chain (nodes w) (freeHead w) free
+  pub shared : (m : ℕ) → 1 ≤ m → m ≤ nodeCount w → sumTo (openedAt w) (countAt w m) + times m free ≡ 1
+  pub counted : sumTo (openedAt w) (runsAt w) + length free ≡ nodeCount w
+  -- each world keeps its limits, and the sum of the larger of runs and floor is at most C
+  pub limited : (k : ℕ) → k < openedAt w → KeepsLimits w k
+  pub fits : claims (worldsOf w) ≤ capacity w

@@ -1,22 +1,41 @@
-// The nodes: which belong to the index and which are free. Making a store empty, and adding, removing and resizing a run. Where the tree and
+// The nodes: which belong to a world's index and which are free. Making a pool, and adding, removing and resizing a run. Where the tree and
 // the free chain start is handed in and back; no header is read or written on the way.
-ghost use Prim.Native.Nat.{_≤_};
-ghost use Rattle.store.specs.Layout.{capacity};
-ghost use Rattle.store.specs.Free.{Chained, Emptied, Addable, Adds, Removable, RemovesRun, Changeable, Changes, Keepable, GivesBack};
+ghost use mathlib.Core.Path.{_≡_};
+ghost use mathlib.Core.Bool.{not};
+ghost use Prim.Native.Nat.{_+_, _*_, _≤_};
+ghost use lib.ListN.{length};
+ghost use Rattle.model.specs.Refusals.{badLimits};
+ghost use Rattle.model.specs.Pools.{limitsOf};
+ghost use Rattle.store.specs.Free.{
+  Chained,
+  limitsOrNone,
+  Recorded,
+  Makeable,
+  Emptied,
+  Addable,
+  Adds,
+  Removable,
+  RemovesRun,
+  Changeable,
+  Changes,
+  Keepable,
+  GivesBack,
+};
 use crate::Links;
-use crate::World;
+use crate::Store;
+use model::Limits;
 use run_index::Node;
 
-// Makes every node free, in order, and returns the head of the chain.
-fn free_all(words: &mut [u64]) -> u64
-    requires { ⌜ 1 ≤ capacity (now words) ⌝ }
-    ensures { λ r. ⌜ Chained (now (words .entry)) (now (words .exit)) r ⌝ }
+// Makes each of n nodes free, in order, and returns the head of the chain.
+fn free_all(nodes: &mut [u64], n: u64) -> u64
+    requires { ⌜ length (now nodes) ≡ 8 * (n + 1) ⌝ }
+    ensures { λ r. ⌜ Chained (now (nodes .entry)) (now (nodes .exit)) n r ⌝ }
 {
-    let mut left = (words.len() / 8 - 1) as u64;
+    let mut left = n;
     let mut next: u64 = 0;
     while left != 0 {
         run_index::write_node(
-            words,
+            nodes,
             left,
             Node {
                 start: 0,
@@ -35,25 +54,100 @@ fn free_all(words: &mut [u64]) -> u64
     next
 }
 
-// Makes the words an empty store, whatever they were.
-pub fn make(words: &mut [u64])
-    requires { ⌜ 1 ≤ capacity (now words) ⌝ }
-    ensures { λ _. ⌜ Emptied (now (words .entry)) (now (words .exit)) ⌝ }
+// The limits of world k, of n: 0 and 0 where there is no such world.
+fn limits_at(limits: &[u64], n: u64, k: u64) -> Limits
+    requires { ⌜ 2 * n ≤ length (now limits) ⌝ }
+    ensures { λ r. ⌜ r ≡ limitsOrNone (now (limits .entry)) n k ⌝ }
 {
-    let free = free_all(words);
-    crate::write_world(
+    if k >= n {
+        return Limits {
+            floor: 0,
+            ceiling: 0,
+        };
+    }
+    let at = (2 * k) as usize;
+    Limits {
+        floor: limits[at],
+        ceiling: limits[at + 1],
+    }
+}
+
+// Writes the records of n empty worlds, and zeros for those that are not opened.
+fn make_records(words: &mut [u64], limits: &[u64], n: u64)
+    requires { ⌜ 8 * 17 ≤ length (now words) ⌝ }
+    requires { ⌜ 2 * n ≤ length (now limits) ⌝ }
+    ensures { λ _. ⌜ Recorded (now (words .entry)) (now (words .exit)) (now (limits .entry)) n ⌝ }
+{
+    let mut k: u64 = 0;
+    while k < Store::MAX_WORLDS {
+        let l = limits_at(limits, n, k);
+        run_index::write_node(
+            words,
+            k + 1,
+            Node {
+                start: 0,
+                end: 0,
+                left: 0,
+                right: 0,
+                height: 0,
+                runs: 0,
+                ones: l.floor,
+                tag: l.ceiling,
+            },
+        );
+        k += 1;
+    }
+}
+
+// Says whether limits are fit to make a pool of capacity c: 1 to 16 worlds, no floor above its ceiling, and floors of at most c together.
+pub fn limits_fit(limits: &[u64], c: u64) -> bool
+    ensures { λ r. ⌜ r ≡ not (badLimits c (limitsOf (now (limits .entry)))) ⌝ }
+{
+    let n = (limits.len() / 2) as u64;
+    if n == 0 {
+        return false;
+    }
+    if n > Store::MAX_WORLDS {
+        return false;
+    }
+    let mut k: u64 = 0;
+    let mut left = c;
+    while k < n {
+        let l = limits_at(limits, n, k);
+        if l.floor > l.ceiling {
+            return false;
+        }
+        if l.floor > left {
+            return false;
+        }
+        left -= l.floor;
+        k += 1;
+    }
+    true
+}
+
+// Makes the words a pool of n empty worlds with these limits, whatever they were.
+pub fn make(words: &mut [u64], limits: &[u64], n: u64)
+    requires { ⌜ Makeable (now words) (now limits) n ⌝ }
+    ensures { λ _. ⌜ Emptied (now (words .entry)) (now (words .exit)) (limitsOf (now (limits .entry))) ⌝ }
+{
+    let nodes = (words.len() / 8 - 17) as u64;
+    let free = free_all(&mut words[128..], nodes);
+    run_index::write_node(
         words,
-        World {
-            tag: 0,
-            root: 0,
-            free: free,
-            offset: 0,
-            ones: 0,
+        0,
+        Node {
+            start: n,
+            end: free,
+            left: 0,
+            right: 0,
+            height: 0,
             runs: 0,
-            first: 0,
-            last: 0,
+            ones: 0,
+            tag: 0,
         },
     );
+    make_records(words, limits, n);
 }
 
 // Puts the run start..=end, which touches no other, into the index, as the first free node.

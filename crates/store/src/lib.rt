@@ -1,11 +1,13 @@
-// The store: a lent slice of words that holds a set of positions. Words 0 to 7 are the header, node n of the run index has the words
-// 8n to 8n + 7, and the nodes that the index does not have form the free chain. Only this file knows where the header's words lie: other
-// code has a world by value, and the nodes.
+// The store: a lent slice of words that is a pool of worlds, each of which holds a set of positions. Words 0 to 7 are the header, world k has its
+// record in the words 8(1 + k) on, and node n of the run index the words 8(16 + n) on; the nodes that no world has form the free chain. Only
+// this crate knows where the words of the header and of the records lie: other code has a world by value, and the nodes.
 ghost use mathlib.Core.Path.{_≡_};
-ghost use Rattle.run_index.specs.Cells.{cellAt, Room};
-ghost use Rattle.store.specs.Layout.{capacityOf, headerOf, Headed, linksOf, allowance};
-ghost use Rattle.store.specs.Soundness.{Sound};
-ghost use Rattle.store.specs.Settle.{Opened, Closable, Closes};
+ghost use Prim.Native.Nat.{_+_};
+ghost use Rattle.model.specs.Pools.{claim};
+ghost use Rattle.run_index.specs.Cells.{Room};
+ghost use Rattle.store.specs.Layout.{capacityOf, openedAt, worldAt, plainAt, nodes, Headed, linksOf, allowance};
+ghost use Rattle.store.specs.Soundness.{Planted, Sound};
+ghost use Rattle.store.specs.Settle.{Openable, Opened, Closable, Closes};
 use run_index::Node;
 
 pub mod bounds;
@@ -14,7 +16,7 @@ pub mod places;
 pub mod refresh;
 pub mod soundness;
 
-// A store, as its length tells of it: the most logical runs that it may hold.
+// A store, as its length tells of it: the most logical runs that its worlds may hold together.
 pub struct Store {
     pub capacity: u64,
 }
@@ -24,6 +26,8 @@ impl Store {
 
     pub const MAX_HEIGHT: u64 = 22;
 
+    pub const MAX_WORLDS: u64 = 16;
+
     // The store that a slice of so many words is; its capacity is 0 if no store has that length.
     pub fn of_length(words: usize) -> Store
         ensures { λ r. ⌜ r .capacity ≡ capacityOf words ⌝ }
@@ -31,11 +35,11 @@ impl Store {
         if words % 8 != 0 {
             return Store { capacity: 0 };
         }
-        let nodes = words / 8;
-        if nodes < 4 {
+        let cells = words / 8;
+        if cells < 50 {
             return Store { capacity: 0 };
         }
-        let c = (nodes - 3) as u64;
+        let c = (cells - 49) as u64;
         if c <= Store::MAX_CAPACITY {
             Store { capacity: c }
         } else {
@@ -44,8 +48,9 @@ impl Store {
     }
 }
 
-// What is kept of a set beside its nodes: the tag that its nodes have, the root of its tree, the head of the free chain, the offset, and
-// what the header tells of the tree: held positions modulo 2^64, runs, and the first and the last logical position held, 0 if there is none.
+// What is kept of a set beside its nodes: the tag that its nodes have, which is its world's number, the root of its tree, the head of the free
+// chain, the offset, and what is told of the tree: held positions modulo 2^64, runs, and the first and the last logical position held, 0 if
+// there is none.
 pub struct World {
     pub tag: u64,
     pub root: u64,
@@ -74,73 +79,114 @@ pub fn links_of(h: World) -> Links
     }
 }
 
-// What the header tells: a world, and a last word, which is 0 in a sound store.
-pub struct Header {
-    pub world: World,
-    pub spare: u64,
+// How many worlds were opened.
+pub fn opened(words: &[u64]) -> u64
+    requires { ⌜ Room (now words) 0 ⌝ }
+    ensures { λ r. ⌜ r ≡ openedAt (now (words .entry)) ⌝ }
+{
+    let a = run_index::read_node(words, 0);
+    a.start
 }
 
-// The header. It lies where a node 0 would.
-fn read_header(words: &[u64]) -> Header
-    requires { ⌜ Room (now words) 0 ⌝ }
-    ensures { λ r. ⌜ r ≡ headerOf (cellAt (now (words .entry)) 0) ⌝ }
+// The world that record k tells. The record lies where a node k + 1 of the whole slice would.
+fn read_world(words: &[u64], k: u64) -> World
+    requires { ⌜ Room (now words) (k + 1) ⌝ }
+    ensures { λ r. ⌜ r ≡ worldAt (now (words .entry)) k ⌝ }
 {
-    let v = run_index::read_node(words, 0);
-    Header {
-        world: World {
-            tag: 0,
-            root: v.start,
-            free: v.end,
-            offset: v.left,
-            ones: v.right,
-            runs: v.height,
-            first: v.runs,
-            last: v.ones,
-        },
-        spare: v.tag,
+    let a = run_index::read_node(words, 0);
+    let v = run_index::read_node(words, k + 1);
+    World {
+        tag: k,
+        root: v.start,
+        free: a.end,
+        offset: v.end,
+        ones: v.left,
+        runs: v.right,
+        first: v.height,
+        last: v.runs,
     }
 }
 
-// Sets the header, and no other word.
+// Sets the record of a world, but for its floor and its ceiling, and the head of the free chain, and no other word.
 fn write_world(words: &mut [u64], h: World)
-    requires { ⌜ Room (now words) 0 ⌝ }
-    requires { ⌜ h .tag ≡ 0 ⌝ }
+    requires { ⌜ Room (now words) (h .tag + 1) ⌝ }
     ensures { λ _. ⌜ Headed (now (words .entry)) (now (words .exit)) h ⌝ }
 {
+    let a = run_index::read_node(words, 0);
+    let v = run_index::read_node(words, h.tag + 1);
     run_index::write_node(
         words,
         0,
         Node {
-            start: h.root,
+            start: a.start,
             end: h.free,
-            left: h.offset,
-            right: h.ones,
-            height: h.runs,
-            runs: h.first,
-            ones: h.last,
+            left: 0,
+            right: 0,
+            height: 0,
+            runs: 0,
+            ones: 0,
             tag: 0,
+        },
+    );
+    run_index::write_node(
+        words,
+        h.tag + 1,
+        Node {
+            start: h.root,
+            end: h.offset,
+            left: h.ones,
+            right: h.runs,
+            height: h.first,
+            runs: h.last,
+            ones: v.ones,
+            tag: v.tag,
         },
     );
 }
 
-// The most runs that the world of a store may have.
-pub fn allowance(words: &[u64]) -> u64
-    ensures { λ r. ⌜ r ≡ allowance (now (words .entry)) ⌝ }
+// What world k claims of the pool: the larger of its runs and its floor.
+fn claim(words: &[u64], k: u64) -> u64
+    requires { ⌜ Room (now words) 16 ⌝ }
+    requires { ⌜ Room (now words) (k + 1) ⌝ }
+    requires { ⌜ Planted (nodes (now words)) (worldAt (now words) k) ⌝ }
+    ensures { λ r. ⌜ r ≡ claim (plainAt (now (words .entry)) k) ⌝ }
+{
+    let h = read_world(words, k);
+    let v = run_index::read_node(words, k + 1);
+    let n = bounds::logical_runs(&words[128..], h.root, h.offset, h.runs);
+    run_index::larger(n, v.ones)
+}
+
+// The most runs that world k may have: no more than its ceiling, and than what the others leave of the capacity.
+pub fn allowance(words: &[u64], k: u64) -> u64
+    requires { ⌜ Openable (now words) k ⌝ }
+    ensures { λ r. ⌜ r ≡ allowance (now (words .entry)) k ⌝ }
 {
     let s = Store::of_length(words.len());
-    s.capacity
+    let n = opened(words);
+    let mut left = s.capacity;
+    let mut j: u64 = 0;
+    while j < n {
+        if j != k {
+            let c = claim(words, j);
+            left -= c;
+        }
+        j += 1;
+    }
+    let v = run_index::read_node(words, k + 1);
+    let ceiling = v.tag;
+    if ceiling < left { ceiling } else { left }
 }
 
-// The world of a sound store.
-pub fn open(words: &[u64]) -> World
-    requires { ⌜ Sound (now words) ⌝ }
-    ensures { λ r. ⌜ Opened (now (words .entry)) r ⌝ }
+// World k of a sound pool.
+pub fn open(words: &[u64], k: u64) -> World
+    requires { ⌜ Openable (now words) k ⌝ }
+    ensures { λ r. ⌜ Opened (now (words .entry)) k r ⌝ }
 {
-    let a = read_header(words);
-    a.world
+    read_world(words, k)
 }
 
-// Makes a world that was opened, and changed, the store's again.
+// Makes a world that was opened, and changed, the pool's again.
 pub fn close(words: &mut [u64], h: World)
     requires { ⌜ Closable (now words) h ⌝ }
     ensures { λ _. ⌜ Closes (now (words .entry)) (now (words .exit)) h ⌝ }

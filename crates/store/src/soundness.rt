@@ -1,19 +1,40 @@
-// Deciding whether words are a sound store: one walk of the tree and one of the free chain, no memory but the stack.
-// Each node is tested against the bounds that the nodes above it leave, so the runs rise in order and no node is met twice; a free node
-// has height 0 and a node of the tree has not, so the chain never meets the tree; and a chain of exactly the nodes that are left, ending
-// in 0, meets each of them once.
+// Deciding whether words are a sound pool: one walk of each tree and one of the free chain, no memory but the stack.
+// Each node is tested against the bounds that the nodes above it leave, so the runs rise in order and no node is met twice; a node has the
+// number of its world, so no two trees meet; a free node has height 0 and a node of a tree has not, so the chain never meets a tree; and a
+// chain of exactly the nodes that are left, ending in 0, meets each of them once.
 ghost use mathlib.Core.Path.{_≡_};
 ghost use mathlib.Core.Bool.{_||_, not};
 ghost use lib.Dec.{eqb};
-ghost use Prim.Native.Nat.{_+_, _≤_};
+ghost use Prim.Native.Nat.{_+_, _-_, _*_, _≤_, _<_};
+ghost use lib.ListN.{length};
+ghost use Rattle.model.specs.Numbers.{mostWorlds};
 ghost use Rattle.run_index.specs.Cells.{Room};
 ghost use Rattle.store.specs.Layout.{capacity};
-ghost use Rattle.store.specs.Decision.{insideB, belowOf, runB, heightsB, sumsB, cellB, leafB, freeB, chainB, restB, worldB, soundB, Tells};
+ghost use Rattle.store.specs.Decision.{
+  insideB,
+  belowOf,
+  runB,
+  heightsB,
+  sumsB,
+  cellB,
+  leafB,
+  freeB,
+  chainB,
+  restB,
+  worldB,
+  headerB,
+  placeB,
+  nothingB,
+  unopenedB,
+  soundB,
+  Tells,
+  Checks,
+};
 use crate::Store;
 use crate::World;
 use run_index::Node;
 
-// Whether a link names a node of the store, or none.
+// Whether a link names a node, or none.
 fn inside(words: &[u64], link: u64) -> bool
     ensures { λ r. ⌜ r ≡ insideB (now (words .entry)) link ⌝ }
 {
@@ -382,23 +403,156 @@ fn rest_fits(words: &[u64], n: u64, runs: u64, free: u64) -> bool
     chain_fits(words, free, n - runs)
 }
 
-// Whether words of a store's length are a sound store.
+// Whether the header's words are those of 1 to 16 worlds.
+fn header_fits(v: Node) -> bool
+    ensures { λ r. ⌜ r ≡ headerB v ⌝ }
+{
+    if v.start < 1 {
+        return false;
+    }
+    if v.start > Store::MAX_WORLDS {
+        return false;
+    }
+    if v.left != 0 {
+        return false;
+    }
+    if v.right != 0 {
+        return false;
+    }
+    if v.height != 0 {
+        return false;
+    }
+    if v.runs != 0 {
+        return false;
+    }
+    if v.ones != 0 {
+        return false;
+    }
+    v.tag == 0
+}
+
+// Whether the tree and the record of world k fit, and it keeps its limits.
+fn place_fits(words: &[u64], k: u64) -> bool
+    requires { ⌜ 8 * 17 ≤ length (now words) ⌝ }
+    requires { ⌜ k < mostWorlds ⌝ }
+    ensures { λ r. ⌜ r ≡ placeB (now (words .entry)) k ⌝ }
+{
+    let h = crate::read_world(words, k);
+    if !world_fits(&words[128..], h) {
+        return false;
+    }
+    let v = run_index::read_node(words, k + 1);
+    let floor = v.ones;
+    let ceiling = v.tag;
+    if floor > ceiling {
+        return false;
+    }
+    let n = crate::bounds::logical_runs(&words[128..], h.root, h.offset, h.runs);
+    n <= ceiling
+}
+
+// Whether the first n worlds fit, and do not claim more than the capacity together; and then, how many runs their trees have.
+pub struct Checked {
+    pub fits: bool,
+    pub runs: u64,
+}
+
+fn worlds_fit(words: &[u64], n: u64) -> Checked
+    requires { ⌜ 1 ≤ capacity (now words) ⌝ }
+    requires { ⌜ n ≤ mostWorlds ⌝ }
+    ensures { λ r. ⌜ Checks (now (words .entry)) n r ⌝ }
+{
+    let s = Store::of_length(words.len());
+    let mut left = s.capacity;
+    let mut runs: u64 = 0;
+    let mut k: u64 = 0;
+    while k < n {
+        if !place_fits(words, k) {
+            return Checked {
+                fits: false,
+                runs: 0,
+            };
+        }
+        let c = crate::claim(words, k);
+        if c > left {
+            return Checked {
+                fits: false,
+                runs: 0,
+            };
+        }
+        let h = crate::read_world(words, k);
+        left -= c;
+        runs += h.runs;
+        k += 1;
+    }
+    Checked {
+        fits: true,
+        runs: runs,
+    }
+}
+
+// Whether all words of a record are 0.
+fn record_is_zero(v: Node) -> bool
+    ensures { λ r. ⌜ r ≡ nothingB v ⌝ }
+{
+    if v.start != 0 {
+        return false;
+    }
+    if v.end != 0 {
+        return false;
+    }
+    if v.left != 0 {
+        return false;
+    }
+    if v.right != 0 {
+        return false;
+    }
+    if v.height != 0 {
+        return false;
+    }
+    if v.runs != 0 {
+        return false;
+    }
+    if v.ones != 0 {
+        return false;
+    }
+    v.tag == 0
+}
+
+// Whether the records of worlds n and above are zeros.
+fn unopened_fit(words: &[u64], n: u64) -> bool
+    requires { ⌜ 8 * 17 ≤ length (now words) ⌝ }
+    requires { ⌜ n ≤ mostWorlds ⌝ }
+    ensures { λ r. ⌜ r ≡ unopenedB (now (words .entry)) n (mostWorlds - n) ⌝ }
+{
+    let mut k = n;
+    while k < Store::MAX_WORLDS {
+        let v = run_index::read_node(words, k + 1);
+        if !record_is_zero(v) {
+            return false;
+        }
+        k += 1;
+    }
+    true
+}
+
+// Whether words of a pool's length are a sound pool.
 pub fn is_sound(words: &[u64]) -> bool
     requires { ⌜ 1 ≤ capacity (now words) ⌝ }
     ensures { λ r. ⌜ r ≡ soundB (now (words .entry)) ⌝ }
 {
-    let a = crate::read_header(words);
-    let h = a.world;
-    let spare = a.spare;
-    if spare != 0 {
+    let a = run_index::read_node(words, 0);
+    if !header_fits(a) {
         return false;
     }
-    if !world_fits(words, h) {
+    let opened = a.start;
+    let free = a.end;
+    let t = worlds_fit(words, opened);
+    if !t.fits {
         return false;
     }
-    if !rest_fits(words, (words.len() / 8 - 1) as u64, h.runs, h.free) {
+    if !unopened_fit(words, opened) {
         return false;
     }
-    let n = crate::bounds::logical_runs(words, h.root, h.offset, h.runs);
-    n <= crate::allowance(words)
+    rest_fits(&words[128..], (words.len() / 8 - 17) as u64, t.runs, free)
 }

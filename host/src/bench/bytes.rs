@@ -2,7 +2,7 @@
 
 use super::measure::{Figures, Progress, Times, both, nanos};
 use super::work::{self, Pair};
-use crate::Set;
+use crate::SetBuf;
 use crate::differential::random::Random;
 use crate::differential::reference::Run;
 use crate::oracle::IntervalBitSet;
@@ -73,13 +73,13 @@ fn read_map(set: &mut IntervalBitSet, map: &[u8]) -> u128 {
     changed
 }
 
-// Writing a set, and loading it into other words.
+// Writing a set, and loading it into another.
 fn written(size: usize, random: &mut Random) -> [Times; 2] {
     let capacity = work::capacity(size);
     let pair = Pair::new(capacity, &work::cells(size, random), random);
     let mut out = vec![0; 5 + 16 * capacity];
     let mut plain = Vec::with_capacity(out.len());
-    let mut words = crate::room(capacity);
+    let mut other = SetBuf::with_capacity(capacity).expect("a capacity");
     let mut times: [Times; 2] = Default::default();
     for repetition in 0..REPETITIONS {
         let mut length = 0;
@@ -91,11 +91,12 @@ fn written(size: usize, random: &mut Random) -> [Times; 2] {
         assert!(out[..length] == plain[..], "the written sets differ");
 
         let mut loaded = IntervalBitSet::new();
-        let ours = || {
-            Set::load(&mut words[..], &plain).expect(DONE);
-        };
-        times[1].push(both(repetition, || nanos(ours), || nanos(|| loaded = load(&plain))));
-        assert!(Set::over(&words[..]).eq(&pair.ours).expect(DONE) && loaded == pair.theirs, "another set was loaded");
+        times[1].push(both(
+            repetition,
+            || nanos(|| other.load(&plain).expect(DONE)),
+            || nanos(|| loaded = load(&plain)),
+        ));
+        assert!(other.eq(&pair.ours).expect(DONE) && loaded == pair.theirs, "another set was loaded");
     }
     times
 }

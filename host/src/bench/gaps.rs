@@ -42,7 +42,7 @@ impl Search {
 
     // Stops where the library gives no gap and there is one, or gives what is none.
     fn compare(&self, pair: &Pair) {
-        let ours = pair.ours.gap(self.first..=self.last, self.n).expect("a sound store");
+        let ours = pair.ours.gap(self.first..=self.last, self.n).expect("a sound pool");
         assert_eq!(ours.is_some(), self.theirs(&pair.theirs).is_some(), "the two sides do not answer the same");
         if let Some(x) = ours {
             let end = x + (self.n - 1);
@@ -85,7 +85,7 @@ fn sides(label: usize, size: usize) -> Sides {
     let mut times = Times::default();
     for repetition in 0..REPETITIONS {
         let ours = || {
-            // The check before or after the searches, in turn, so that neither always finds the store read just then.
+            // The check before or after the searches, in turn, so that neither always finds the pool read just then.
             let mut check = || checks.push(nanos(|| assert_eq!(search.ours(words, 0), 0)));
             if repetition.is_multiple_of(4) {
                 check();

@@ -8,7 +8,7 @@ use super::measure::{Figures, Progress, Sides, Times, both, median, nanos, numbe
 use super::work::{self, Call, Pair, Report, SIZES, Told};
 use crate::differential::random::Random;
 use crate::differential::reference::Run;
-use crate::{SetBuf, raw};
+use crate::{Limits, PoolBuf, raw};
 
 const LABELS: [&str; 7] =
     ["set and flip", "get", "find", "count", "select", "get, find, count, select", "half sets, half reports"];
@@ -43,7 +43,7 @@ fn frame(words: &mut [u64], calls: &[u64], answers: &mut [u64]) {
     assert_eq!(refusal, 0, "a list is refused");
 }
 
-// A call as the library reads it: call, lower kind and value, upper kind and value, value, k, and the reserved word.
+// A call as the library reads it: call, lower kind and value, upper kind and value, value, k, and the world.
 fn record(call: &Call) -> [u64; RECORD] {
     let range = |call: u64, first: u64, last: u64, value: bool, k: u64| [call, 1, first, 1, last, value.into(), k, 0];
     match *call {
@@ -132,7 +132,7 @@ impl Bench {
             || {
                 let rooms = self.answers.chunks_exact_mut(CALLS * RECORD);
                 let play = |(at, (list, room)): (usize, (&Vec<u64>, &mut [u64]))| {
-                    // A frame without calls before or after each, in turn, so that neither always finds the store read just then.
+                    // A frame without calls before or after each, in turn, so that neither always finds the pool read just then.
                     let mut check = |words: &mut [u64]| self.checks.push(each(|| frame(words, &[], &mut [])));
                     if at.is_multiple_of(2) {
                         check(words);
@@ -231,32 +231,48 @@ fn single() -> Sides {
     times.medians()
 }
 
-// Nanoseconds of one soundness check, by capacity: of a new store with the capacity for each of the sizes, then of stores with that many runs or
-// fewer. A store is grown to the most runs, then runs are freed by chance, so that its free nodes too lie anywhere in memory.
+const WORLDS: usize = 16;
+
+// A pool of sixteen worlds that have the runs by turns, each run set in random order.
+fn shared(capacity: usize, runs: &[Run], random: &mut Random) -> PoolBuf {
+    let mut pool = PoolBuf::with_capacity(capacity, &[Limits::NONE; WORLDS]).expect("a capacity");
+    let mut calls: Vec<[u64; RECORD]> =
+        runs.iter().map(|&[first, last]| record(&Call::Set(first, last, true))).collect();
+    calls.iter_mut().enumerate().for_each(|(i, call)| call[RECORD - 1] = (i % WORLDS) as u64);
+    work::shuffle(&mut calls, random);
+    frame(pool.words_mut(), calls.as_flattened(), &mut vec![0; calls.len() * RECORD]);
+    pool
+}
+
+// Nanoseconds of one soundness check, by capacity: of a new pool with the capacity for each of the sizes, then of pools with that many runs or
+// fewer, and last of one that has the most runs in sixteen worlds. A pool is grown to the most runs, then runs are freed by chance, so that its
+// free nodes too lie anywhere in memory.
 fn checks_alone(progress: &Progress) -> Checks {
     let column = |most: usize| {
         let capacity = work::capacity(most);
         progress.tell(&format!("the soundness check, capacity {capacity}"));
         let row = 131_072 / capacity;
         let time = |words: &mut [u64]| nanos(|| (0..row).for_each(|_| frame(words, &[], &mut []))) / row as f64;
-        let check = |store: &mut SetBuf| median((0..CHECKS).map(|_| time(store.words_mut())).collect());
-        let new = check(&mut SetBuf::with_capacity(capacity).expect("a capacity"));
+        let check = |words: &mut [u64]| median((0..CHECKS).map(|_| time(words)).collect());
+        let new = check(PoolBuf::with_capacity(capacity, &[Limits::NONE]).expect("a capacity").words_mut());
 
         let mut random = Random::new(most as u64);
         let mut runs = work::cells(most, &mut random);
-        let mut store = Pair::new(capacity, &runs, &mut random).ours;
+        let among = check(shared(capacity, &runs, &mut random).words_mut());
+        let mut set = Pair::new(capacity, &runs, &mut random).ours;
         work::shuffle(&mut runs, &mut random);
         let mut times = Vec::new();
         for size in SIZES.into_iter().rev().filter(|size| *size <= most) {
             for some in runs.split_off(size).chunks(CALLS) {
                 let calls: Vec<Call> = some.iter().map(|&[first, last]| Call::Set(first, last, false)).collect();
                 let records: Vec<u64> = calls.iter().flat_map(record).collect();
-                frame(store.words_mut(), &records, &mut vec![0; records.len()]);
+                frame(set.words_mut(), &records, &mut vec![0; records.len()]);
             }
-            times.push(check(&mut store));
+            times.push(check(set.words_mut()));
         }
         times.push(new);
         times.reverse();
+        times.push(among);
         times
     };
     SIZES.map(column).into()
@@ -326,11 +342,15 @@ impl Lists {
         let capacities = SIZES.map(|size| format!(" C = {} |", number(work::capacity(size) as f64))).concat();
         println!("| µs a soundness check |{capacities}\n|{}", "---|".repeat(1 + SIZES.len()));
         let runs = SIZES.map(|size| format!("{} runs", number(size as f64)));
-        for (row, label) in ["no runs, a new store".to_string()].into_iter().chain(runs).enumerate() {
-            let cell = |column: &Vec<f64>| column.get(row).map_or(String::new(), |nanos| number(nanos / 1e3));
-            let cells: Vec<String> = self.checks.iter().map(cell).collect();
-            println!("| {label} | {} |", cells.join(" | "));
+        let told = |label: &str, cell: &dyn Fn(&Vec<f64>) -> Option<f64>| {
+            let cells =
+                self.checks.iter().map(|column| cell(column).map_or(String::new(), |nanos| number(nanos / 1e3)));
+            println!("| {label} | {} |", cells.collect::<Vec<_>>().join(" | "));
+        };
+        for (row, label) in ["no runs, a new pool".to_string()].into_iter().chain(runs).enumerate() {
+            told(&label, &|column| column[..column.len() - 1].get(row).copied());
         }
+        told("the most of these runs, in sixteen worlds", &|column| column.last().copied());
         println!();
     }
 

@@ -1,14 +1,15 @@
 //! How much stack each exported call uses: it runs on a stack of its own that was painted before.
 //!
-//! Stores have the largest capacity: trees as deep as can be (height 22, 46,367 runs), by their left and their right side, and an even
-//! one of 60,000 runs. Physical runs lie at 0 and at M; of each store there is one without an offset, and one whose offset joins the
-//! two.
+//! Pools have the largest capacity: trees as deep as can be (height 22, 46,367 runs), by their left and their right side, and an even
+//! one of 60,000 runs. Physical runs lie at 0 and at M; of each tree there is one without an offset, and one whose offset joins the
+//! two, each in a pool of one world and in the last world of sixteen.
 
 use std::arch::asm;
 
 use super::measure::{Progress, commas};
+use crate::SetBuf;
 use crate::differential::random::Random;
-use crate::differential::reference::{self, Run, Shape};
+use crate::differential::reference::{self, Draft, Run, Shape, WORLDS};
 use crate::raw::{self, Bound};
 
 const PAINT: u64 = 0xA5A5_5A5A_C3C3_3C3C;
@@ -149,49 +150,54 @@ fn ranges(runs: &[Run], random: &mut Random) -> Vec<[u64; 2]> {
     all
 }
 
-fn measure_on(painted: &mut Painted, physical: &[Run], offset: u64, shape: Shape, random: &mut Random) {
-    let words = reference::craft(CAPACITY, physical, offset, shape, random);
+// Every call at the last of so many worlds; the others are empty.
+fn measure_on(painted: &mut Painted, physical: &[Run], offset: u64, shape: Shape, worlds: usize, random: &mut Random) {
+    let limit = [0, u64::MAX];
+    let mut drafts: Vec<Draft> = (1..worlds).map(|_| Draft { physical: Vec::new(), offset: 0, limit }).collect();
+    drafts.push(Draft { physical: physical.to_vec(), offset, limit });
+    let words = reference::craft(CAPACITY, &drafts, shape, random);
     let runs = &reference::logical(physical, offset)[..];
+    let i = worlds as u64 - 1;
     let n = words.len();
     let p = words.as_ptr();
     let mut changed = words.clone();
     let c = changed.as_mut_ptr();
-    let spare = &mut crate::room(CAPACITY)[..];
+    let mut spare = SetBuf::with_capacity(CAPACITY).expect("a capacity").into_words();
     let s = spare.as_mut_ptr();
 
     for [first, last] in ranges(runs, random) {
         let (l, u) = (included(first), included(last));
         for value in [0, 1] {
-            on_stack!(painted, vizturel_find(p, n, l, u, value));
-            on_stack!(painted, vizturel_count(p, n, l, u, value));
-            on_stack!(painted, vizturel_select(p, n, l, u, value, (last - first) / 4));
-            on_stack!(painted, vizturel_count_ranges(p, n, l, u, value));
-            on_stack!(painted, vizturel_ranges(p, n, l, u, value));
-            on_stack!(painted, vizturel_draw_front(p, n, first, last, value));
-            on_stack!(painted, vizturel_draw_back(p, n, first, last, value));
-            on_stack!(painted, vizturel_set(c, n, l, u, value));
+            on_stack!(painted, vizturel_find(p, n, i, l, u, value));
+            on_stack!(painted, vizturel_count(p, n, i, l, u, value));
+            on_stack!(painted, vizturel_select(p, n, i, l, u, value, (last - first) / 4));
+            on_stack!(painted, vizturel_count_ranges(p, n, i, l, u, value));
+            on_stack!(painted, vizturel_ranges(p, n, i, l, u, value));
+            on_stack!(painted, vizturel_draw_front(p, n, i, first, last, value));
+            on_stack!(painted, vizturel_draw_back(p, n, i, first, last, value));
+            on_stack!(painted, vizturel_set(c, n, i, l, u, value));
             changed.copy_from_slice(&words);
         }
         // One that fits nearly everywhere, and one that fits nowhere in the range.
         for length in [1, (last - first).saturating_add(2)] {
-            on_stack!(painted, vizturel_gap(p, n, l, u, length));
+            on_stack!(painted, vizturel_gap(p, n, i, l, u, length));
         }
-        on_stack!(painted, vizturel_get(p, n, first));
-        on_stack!(painted, vizturel_run_at(p, n, first));
-        on_stack!(painted, vizturel_fill(p, n, first.min(1 << 63), WINDOW));
+        on_stack!(painted, vizturel_get(p, n, i, first));
+        on_stack!(painted, vizturel_run_at(p, n, i, first));
+        on_stack!(painted, vizturel_fill(p, n, i, first.min(1 << 63), WINDOW));
         // A flip of many runs takes long, and those of few go by the same way.
         if last - first < 100 {
-            on_stack!(painted, vizturel_flip(c, n, l, u));
+            on_stack!(painted, vizturel_flip(c, n, i, l, u));
             changed.copy_from_slice(&words);
         }
     }
-    on_stack!(painted, vizturel_flip(c, n, included(0), included(u64::MAX)));
+    on_stack!(painted, vizturel_flip(c, n, i, included(0), included(u64::MAX)));
     for [first, last] in ranges(runs, random).into_iter().step_by(4) {
         // Lists of one call, of every kind.
         for call in 0..=13 {
             changed.copy_from_slice(&words);
             let upper = if call == 13 { WINDOW } else { last };
-            let record = [call, 1, first, 1, upper, random.below(2), 0, 0];
+            let record = [call, 1, first, 1, upper, random.below(2), 0, i];
             let mut answer = [0; 8];
             on_stack!(painted, vizturel_frame(c, n, record.as_ptr(), 8, answer.as_mut_ptr(), 8));
         }
@@ -199,35 +205,36 @@ fn measure_on(painted: &mut Painted, physical: &[Run], offset: u64, shape: Shape
     let half = runs[runs.len() / 2][0];
     for (distance, left) in [(1, 1), (1, 0), (half, 0), (u64::MAX - half, 1), (u64::MAX, 1)] {
         changed.copy_from_slice(&words);
-        on_stack!(painted, vizturel_shift(c, n, distance, left));
-        on_stack!(painted, vizturel_shifted(s, n, distance, left, p, n));
+        on_stack!(painted, vizturel_shift(c, n, i, distance, left));
+        on_stack!(painted, vizturel_shifted(s, n, 0, distance, left, p, n, i));
     }
     changed.copy_from_slice(&words);
-    on_stack!(painted, vizturel_shift(c, n, 1, 0));
+    on_stack!(painted, vizturel_shift(c, n, i, 1, 0));
     for op in 0..3 {
-        on_stack!(painted, vizturel_combine(s, n, op, p, n, p, n));
+        on_stack!(painted, vizturel_combine(s, n, 0, op, p, n, i, p, n, i));
     }
-    on_stack!(painted, vizturel_eq(p, n, p, n));
-    on_stack!(painted, vizturel_eq(p, n, c, n));
-    on_stack!(painted, vizturel_not(s, n, p, n));
+    on_stack!(painted, vizturel_eq(p, n, i, p, n, i));
+    on_stack!(painted, vizturel_eq(p, n, i, c, n, i));
+    on_stack!(painted, vizturel_not(s, n, 0, p, n, i));
 
     let mut bytes = vec![0; 5 + 16 * CAPACITY];
-    on_stack!(painted, vizturel_write(p, n, bytes.as_mut_ptr(), bytes.len()));
+    on_stack!(painted, vizturel_write(p, n, i, bytes.as_mut_ptr(), bytes.len()));
     let written = 5 + 16 * runs.len();
-    on_stack!(painted, vizturel_load(s, n, bytes.as_ptr(), written));
+    on_stack!(painted, vizturel_load(s, n, 0, bytes.as_ptr(), written));
     let list = runs.as_flattened();
-    on_stack!(painted, vizturel_build(s, n, list.as_ptr(), list.len()));
-    on_stack!(painted, vizturel_new(s, n));
+    on_stack!(painted, vizturel_build(s, n, 0, list.as_ptr(), list.len()));
+    let limits = [limit; WORLDS];
+    on_stack!(painted, vizturel_new(s, n, limits.as_flattened().as_ptr(), 2 * worlds));
     let mut map = vec![0; WINDOW as usize / 8];
     on_stack!(painted, vizturel_clear_map(0, WINDOW - 3, map.as_mut_ptr(), map.len()));
     for base in [runs[0][0], runs[runs.len() - 1][1].saturating_sub(WINDOW - 1)] {
-        on_stack!(painted, vizturel_write_map(p, n, base, WINDOW, map.as_mut_ptr(), map.len()));
+        on_stack!(painted, vizturel_write_map(p, n, i, base, WINDOW, map.as_mut_ptr(), map.len()));
         // All runs away in the window, one position away, and one more there.
         for (byte, bits) in [(0, 0xFF), (map.len() / 2, 0xFF), (map.len() / 3, 1)] {
             let mut other = if byte == 0 { vec![0; map.len()] } else { map.clone() };
             other[byte] ^= bits;
             changed.copy_from_slice(&words);
-            on_stack!(painted, vizturel_read_map(c, n, base, WINDOW, other.as_ptr(), other.len()));
+            on_stack!(painted, vizturel_read_map(c, n, i, base, WINDOW, other.as_ptr(), other.len()));
         }
     }
 }
@@ -244,9 +251,9 @@ pub fn tell(progress: &Progress) {
         let low = (0..count / 3).map(|i| [12 * i, 12 * i + 5]);
         let high = (count / 3..count).map(|i| u64::MAX - 12 * (count - 1 - i)).map(|end| [end - 5, end]);
         let physical: Vec<Run> = low.chain(high).collect();
-        for offset in [0, 12 * count] {
-            progress.tell(&format!("stack, {count} runs, offset {offset}"));
-            measure_on(&mut painted, &physical, offset, shape, &mut random);
+        for (offset, worlds) in [(0, 1), (12 * count, 1), (0, WORLDS), (12 * count, WORLDS)] {
+            progress.tell(&format!("stack, {count} runs, offset {offset}, {worlds} worlds"));
+            measure_on(&mut painted, &physical, offset, shape, worlds, &mut random);
         }
     }
     painted.most.sort_by_key(|m| (std::cmp::Reverse(m.bytes), m.call));

@@ -15,7 +15,7 @@ const BASE: u64 = 1 << 40;
 /// How many runs the measured sets have.
 pub const SIZES: [usize; 4] = [100, 1_000, 10_000, 60_000];
 
-/// The capacity of a store for that many runs.
+/// The capacity of a pool for that many runs.
 pub fn capacity(runs: usize) -> usize {
     match runs {
         100 => 128,
@@ -55,7 +55,7 @@ impl Pair {
         let mut ours = SetBuf::with_capacity(capacity).expect("a capacity");
         for some in order.chunks(1_000) {
             let sets: Vec<frame::Call> = some.iter().map(|&[start, end]| frame::Call::set(start..=end, true)).collect();
-            ours.frame(&sets).expect("a sound store");
+            ours.frame(&sets).expect("a sound pool");
         }
         let mut theirs = IntervalBitSet::new();
         for [start, end] in order {
@@ -71,7 +71,7 @@ impl Pair {
         let runs: Vec<Run> = self.theirs.ranges(.., true).map(|r| [*r.start() as u64, *r.end() as u64]).collect();
         let due = reference::encode(&runs);
         let mut out = vec![0; due.len()];
-        let written = self.ours.write(&mut out).expect("a sound store");
+        let written = self.ours.write(&mut out).expect("a sound pool");
         assert!(*written == due[..], "the two sides do not hold the same positions");
     }
 }

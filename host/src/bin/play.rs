@@ -4,10 +4,11 @@ use std::error::Error;
 use std::io;
 use std::process::ExitCode;
 
-use vizturel::play::{Ending, Library, Rust, play};
+use vizturel::play::{CAPACITY, Ending, Library, Rust, play};
 
 fn match_played() -> Result<Ending, Box<dyn Error>> {
-    let (mut library, mut rust, mut late) = (Library::new()?, Rust::default(), Library::new()?);
+    let (mut library, mut rust, mut late) =
+        (Library::with_capacity(CAPACITY)?, Rust::default(), Library::with_capacity(CAPACITY)?);
     Ok(play(&mut io::stdout().lock(), [&mut library, &mut rust, &mut late])?)
 }
 

@@ -4,12 +4,12 @@
 pub mod lists;
 pub mod text;
 
-use crate::differential::calls::{Call, Told};
+use crate::differential::calls::{Call, Place, Told};
 use crate::differential::chance::{self, Kind};
 use crate::differential::expected::{Expected, Store};
 use crate::differential::random::Random;
 use crate::differential::records;
-use crate::differential::reference::Run;
+use crate::differential::reference::{Limit, Run};
 
 /// How many stores a list has.
 pub const STORES: usize = 4;
@@ -18,6 +18,8 @@ pub const STORES: usize = 4;
 const LINE: usize = 4096;
 /// The greatest capacity.
 const CAPACITY: usize = 64;
+/// The most worlds that a line may ask for: more than a pool may have.
+const WORLDS: usize = 32;
 /// The most bytes of a lent slice and of a written set: those of a full store.
 const SLICE: usize = 5 + 16 * CAPACITY;
 /// The most bytes of a map.
@@ -36,7 +38,8 @@ pub struct List {
 // Whether a call keeps the format's limits.
 fn fits(call: &Call) -> bool {
     match call {
-        Call::Lend { words, .. } => words.len() <= 8 * (CAPACITY + 3),
+        Call::Lend { words, .. } => words.len() <= 8 * (CAPACITY + 49),
+        Call::New { limits, .. } => limits.len() % 2 == 0 && limits.len() <= 2 * WORLDS,
         Call::Load { bytes, .. } => bytes.len() <= SLICE,
         Call::Build { runs, .. } => runs.len() <= CAPACITY,
         Call::ReadMap { map, .. } | Call::ClearMap { map, .. } => map.len() <= MAP,
@@ -82,22 +85,39 @@ impl List {
     }
 
     // Adds a call by chance, if it keeps the limits.
-    fn chance(&mut self, random: &mut Random, kind: Kind, at: usize) {
+    fn chance(&mut self, random: &mut Random, kind: Kind, at: Place) {
         let call = chance::call(random, &self.expected.stores, kind, at);
         if fits(&call) {
             self.call(&call);
         }
     }
 
-    // Makes a store of that capacity with these runs.
-    fn store(&mut self, at: usize, capacity: usize, runs: &[Run]) {
+    // Makes a pool of that capacity with a world for each of the limits.
+    fn pool(&mut self, at: usize, capacity: usize, limits: &[Limit]) {
         self.call(&Call::Lend { at, words: crate::room(capacity) });
-        self.call(&Call::Build { to: at, runs: runs.to_vec() });
+        self.call(&Call::New { to: at, limits: limits.as_flattened().to_vec() });
     }
 
-    // Adds the writing of a store's set, just as long as is due.
-    fn show(&mut self, at: usize) {
-        let room = 5 + 16 * self.expected.stores[at].runs.len();
+    // Makes a pool of one world, which has the capacity to itself, with these runs.
+    fn store(&mut self, at: usize, capacity: usize, runs: &[Run]) {
+        self.pool(at, capacity, &[[0, capacity as u64]]);
+        self.build(Place::first(at), runs);
+    }
+
+    fn build(&mut self, to: Place, runs: &[Run]) {
+        self.call(&Call::Build { to, runs: runs.to_vec() });
+    }
+
+    // Adds the writing of a world's set, just as long as is due.
+    fn show(&mut self, at: Place) {
+        let room = 5 + 16 * self.expected.stores[at.store].runs(at.world).len();
         self.call(&Call::Write { at, room });
+    }
+
+    // The same of every world of a store.
+    fn show_all(&mut self, store: usize) {
+        for world in 0..self.expected.stores[store].opened() {
+            self.show(Place { store, world });
+        }
     }
 }

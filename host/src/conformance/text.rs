@@ -3,7 +3,7 @@
 use std::ops::Bound;
 use std::str::{FromStr, Split};
 
-use crate::differential::calls::{Call, Range, SPARE, Told};
+use crate::differential::calls::{Call, Place, Range, SPARE, Told};
 use crate::differential::records::{self, Record};
 use crate::{Listing, Operation};
 
@@ -16,6 +16,17 @@ impl<'a> Words<'a> {
 
     fn number<T: FromStr>(&mut self) -> Option<T> {
         self.word()?.parse().ok()
+    }
+
+    fn place(&mut self) -> Option<Place> {
+        let (store, world) = self.word()?.split_once('/')?;
+        Some(Place { store: store.parse().ok()?, world: world.parse().ok()? })
+    }
+
+    // Pairs of numbers after how many there are.
+    fn pairs(&mut self) -> Option<Vec<[u64; 2]>> {
+        let count: usize = self.number()?;
+        (0..count).map(|_| Some([self.number()?, self.number()?])).collect()
     }
 
     fn truth(&mut self) -> Option<bool> {
@@ -64,55 +75,53 @@ const OPERATIONS: [(&str, Operation); 3] = [("and", Operation::And), ("or", Oper
 /// The call of the next line, and, of a frame, of the lines of its records after it; none where they are not one.
 pub fn read<'a>(lines: &mut impl Iterator<Item = &'a str>) -> Option<Call> {
     let mut w = Words(lines.next()?.split(' '));
-    let name = w.word()?;
-    if name == "clear_map" {
-        let call = Call::ClearMap { base: w.number()?, n: w.number()?, map: w.bytes()? };
-        return w.word().is_none().then_some(call);
-    }
-    let s = w.number()?;
-    let call = match name {
-        "words" => Call::Lend { at: s, words: crate::room(w.number()?) },
-        "spoil" => Call::Poke { at: s, word: SPARE, value: 1 },
-        "new" => Call::New { to: s },
-        "set" => Call::Set { at: s, range: w.range()?, value: w.truth()? },
-        "flip" => Call::Flip { at: s, range: w.range()? },
-        "get" => Call::Get { at: s, x: w.number()? },
-        "run_at" => Call::RunAt { at: s, x: w.number()? },
-        "find" => Call::Find { at: s, range: w.range()?, value: w.truth()? },
-        "count" => Call::Count { at: s, range: w.range()?, value: w.truth()? },
-        "select" => Call::Select { at: s, range: w.range()?, value: w.truth()?, k: w.number()? },
-        "count_ranges" => Call::CountRanges { at: s, range: w.range()?, value: w.truth()? },
-        "gap" => Call::Gap { at: s, range: w.range()?, n: w.number()? },
-        "ranges" => Call::Ranges { at: s, range: w.range()?, value: w.truth()?, backs: 0 },
-        "draw_front" | "draw_back" => {
-            let listing = Listing { first: w.number()?, last: w.number()?, value: w.truth()? };
-            Call::Draw { at: s, listing, back: name == "draw_back" }
-        }
-        "shift" => Call::Shift { at: s, distance: w.number()?, left: w.truth()? },
-        "shifted" => Call::Shifted { to: s, a: w.number()?, distance: w.number()?, left: w.truth()? },
-        "combine" => Call::Combine { to: s, op: w.operation()?, a: w.number()?, b: w.number()? },
-        "not" => Call::Not { to: s, a: w.number()? },
-        "eq" => Call::Equal { a: s, b: w.number()? },
-        "load" => Call::Load { to: s, bytes: w.bytes()? },
-        "build" => {
-            let count: usize = w.number()?;
-            let runs = (0..count).map(|_| Some([w.number()?, w.number()?])).collect::<Option<_>>()?;
-            Call::Build { to: s, runs }
-        }
-        "write_set" => Call::Write { at: s, room: w.number()? },
-        "read_map" => Call::ReadMap { at: s, base: w.number()?, n: w.number()?, map: w.bytes()? },
-        "write_map" => Call::WriteMap { at: s, base: w.number()?, n: w.number()?, room: w.number()? },
-        "fill" => Call::Fill { at: s, base: w.number()?, n: w.number()? },
+    let call = match w.word()? {
+        "clear_map" => Call::ClearMap { base: w.number()?, n: w.number()?, map: w.bytes()? },
+        "words" => Call::Lend { at: w.number()?, words: crate::room(w.number()?) },
+        "spoil" => Call::Poke { at: w.number()?, word: SPARE, value: 1 },
+        "new" => Call::New { to: w.number()?, limits: w.pairs()?.into_flattened() },
         "frame" => {
-            let (count, room): (usize, usize) = (w.number()?, w.number()?);
+            let (at, count, room): (usize, usize, usize) = (w.number()?, w.number()?, w.number()?);
             let asked: Vec<Record> =
                 lines.take(count).map(|line| Words(line.split(' ')).record()).collect::<Option<_>>()?;
             (asked.len() == count).then_some(())?;
-            Call::Frame { at: s, calls: asked.into_flattened(), room: records::WORDS * room }
+            Call::Frame { at, calls: asked.into_flattened(), room: records::WORDS * room }
         }
-        _ => return None,
+        name => at_world(name, w.place()?, &mut w)?,
     };
     w.word().is_none().then_some(call)
+}
+
+// The call that a name means at a world, by the words that follow.
+fn at_world(name: &str, at: Place, w: &mut Words) -> Option<Call> {
+    Some(match name {
+        "set" => Call::Set { at, range: w.range()?, value: w.truth()? },
+        "flip" => Call::Flip { at, range: w.range()? },
+        "get" => Call::Get { at, x: w.number()? },
+        "run_at" => Call::RunAt { at, x: w.number()? },
+        "find" => Call::Find { at, range: w.range()?, value: w.truth()? },
+        "count" => Call::Count { at, range: w.range()?, value: w.truth()? },
+        "select" => Call::Select { at, range: w.range()?, value: w.truth()?, k: w.number()? },
+        "count_ranges" => Call::CountRanges { at, range: w.range()?, value: w.truth()? },
+        "gap" => Call::Gap { at, range: w.range()?, n: w.number()? },
+        "ranges" => Call::Ranges { at, range: w.range()?, value: w.truth()?, backs: 0 },
+        "draw_front" | "draw_back" => {
+            let listing = Listing { first: w.number()?, last: w.number()?, value: w.truth()? };
+            Call::Draw { at, listing, back: name == "draw_back" }
+        }
+        "shift" => Call::Shift { at, distance: w.number()?, left: w.truth()? },
+        "shifted" => Call::Shifted { to: at, a: w.place()?, distance: w.number()?, left: w.truth()? },
+        "combine" => Call::Combine { to: at, op: w.operation()?, a: w.place()?, b: w.place()? },
+        "not" => Call::Not { to: at, a: w.place()? },
+        "eq" => Call::Equal { a: at, b: w.place()? },
+        "load" => Call::Load { to: at, bytes: w.bytes()? },
+        "build" => Call::Build { to: at, runs: w.pairs()? },
+        "write_set" => Call::Write { at, room: w.number()? },
+        "read_map" => Call::ReadMap { at, base: w.number()?, n: w.number()?, map: w.bytes()? },
+        "write_map" => Call::WriteMap { at, base: w.number()?, n: w.number()?, room: w.number()? },
+        "fill" => Call::Fill { at, base: w.number()?, n: w.number()? },
+        _ => return None,
+    })
 }
 
 fn bound(b: Bound<u64>) -> String {
@@ -136,8 +145,14 @@ fn listing(l: Listing) -> String {
     format!("{} {} {}", l.first, l.last, u8::from(l.value))
 }
 
-fn of_range(name: &str, at: usize, r: Range, value: bool) -> String {
+fn of_range(name: &str, at: Place, r: Range, value: bool) -> String {
     format!("{name} {at} {} {}", range(r), u8::from(value))
+}
+
+// Pairs of numbers after how many there are.
+fn pairs(all: &[[u64; 2]]) -> String {
+    let numbers: String = all.as_flattened().iter().map(|n| format!(" {n}")).collect();
+    format!("{}{numbers}", all.len())
 }
 
 // The line of a record, after the line before it.
@@ -149,9 +164,9 @@ fn record(words: &Record) -> String {
 /// The line of a call; a frame has one more for each record.
 pub fn write(call: &Call) -> String {
     match *call {
-        Call::Lend { at, ref words } => format!("words {at} {}", words.len() / 8 - 3),
+        Call::Lend { at, ref words } => format!("words {at} {}", words.len() / 8 - 49),
         Call::Poke { at, .. } => format!("spoil {at}"),
-        Call::New { to } => format!("new {to}"),
+        Call::New { to, ref limits } => format!("new {to} {}", pairs(limits.as_chunks().0)),
         Call::Set { at, range, value } => of_range("set", at, range, value),
         Call::Flip { at, range: r } => format!("flip {at} {}", range(r)),
         Call::Get { at, x } => format!("get {at} {x}"),
@@ -171,10 +186,7 @@ pub fn write(call: &Call) -> String {
         Call::Not { to, a } => format!("not {to} {a}"),
         Call::Equal { a, b } => format!("eq {a} {b}"),
         Call::Load { to, ref bytes } => format!("load {to} {}", digits(bytes)),
-        Call::Build { to, ref runs } => {
-            let ends: String = runs.iter().map(|[start, end]| format!(" {start} {end}")).collect();
-            format!("build {to} {}{ends}", runs.len())
-        }
+        Call::Build { to, ref runs } => format!("build {to} {}", pairs(runs)),
         Call::Write { at, room } => format!("write_set {at} {room}"),
         Call::ReadMap { at, base, n, ref map } => format!("read_map {at} {base} {n} {}", digits(map)),
         Call::ClearMap { base, n, ref map } => format!("clear_map {base} {n} {}", digits(map)),

@@ -1,5 +1,6 @@
 //! Calls, and what they tell.
 
+use std::fmt;
 use std::ops::{Bound, RangeInclusive};
 
 use super::records::Record;
@@ -8,8 +9,34 @@ use crate::{Listing, Operation, Refusal};
 
 pub type Range = (Bound<u64>, Bound<u64>);
 
-/// A call, with the numbers of the stores that it is about. `Lend` and `Poke` are no calls of the library: they hand in words that
-/// it did not make.
+/// A world of a store, opened or not.
+#[derive(Clone, Copy, PartialEq)]
+pub struct Place {
+    pub store: usize,
+    pub world: u64,
+}
+
+impl Place {
+    /// World 0 of a store, which is the only one of many.
+    pub const fn first(store: usize) -> Place {
+        Place { store, world: 0 }
+    }
+}
+
+impl fmt::Display for Place {
+    fn fmt(&self, f: &mut fmt::Formatter) -> fmt::Result {
+        write!(f, "{}/{}", self.store, self.world)
+    }
+}
+
+impl fmt::Debug for Place {
+    fn fmt(&self, f: &mut fmt::Formatter) -> fmt::Result {
+        fmt::Display::fmt(self, f)
+    }
+}
+
+/// A call, with the worlds that it is about. `Lend` and `Poke` are no calls of the library: they hand in words that it did not make.
+/// A further world may be one of the receiving store: it is then read as it was before the call.
 #[derive(Clone, Debug, PartialEq)]
 pub enum Call {
     Lend {
@@ -21,104 +48,106 @@ pub enum Call {
         word: usize,
         value: u64,
     },
+    /// Makes a pool. Of the limits each pair of words is the floor and the ceiling of a world; a last one may have no partner.
     New {
         to: usize,
+        limits: Vec<u64>,
     },
     Set {
-        at: usize,
+        at: Place,
         range: Range,
         value: bool,
     },
     Flip {
-        at: usize,
+        at: Place,
         range: Range,
     },
     Shift {
-        at: usize,
+        at: Place,
         distance: u64,
         left: bool,
     },
     Get {
-        at: usize,
+        at: Place,
         x: u64,
     },
     RunAt {
-        at: usize,
+        at: Place,
         x: u64,
     },
     Find {
-        at: usize,
+        at: Place,
         range: Range,
         value: bool,
     },
     Count {
-        at: usize,
+        at: Place,
         range: Range,
         value: bool,
     },
     Select {
-        at: usize,
+        at: Place,
         range: Range,
         value: bool,
         k: u64,
     },
     CountRanges {
-        at: usize,
+        at: Place,
         range: Range,
         value: bool,
     },
     Gap {
-        at: usize,
+        at: Place,
         range: Range,
         n: u64,
     },
     /// Bit i of `backs`, counted anew after 64 draws, says that draw i is from the back.
     Ranges {
-        at: usize,
+        at: Place,
         range: Range,
         value: bool,
         backs: u64,
     },
     Draw {
-        at: usize,
+        at: Place,
         listing: Listing,
         back: bool,
     },
     Fill {
-        at: usize,
+        at: Place,
         base: u64,
         n: u64,
     },
     Combine {
-        to: usize,
+        to: Place,
         op: Operation,
-        a: usize,
-        b: usize,
+        a: Place,
+        b: Place,
     },
     Not {
-        to: usize,
-        a: usize,
+        to: Place,
+        a: Place,
     },
     Shifted {
-        to: usize,
-        a: usize,
+        to: Place,
+        a: Place,
         distance: u64,
         left: bool,
     },
     Equal {
-        a: usize,
-        b: usize,
+        a: Place,
+        b: Place,
     },
     Load {
-        to: usize,
+        to: Place,
         bytes: Vec<u8>,
     },
     Build {
-        to: usize,
+        to: Place,
         runs: Vec<Run>,
     },
     ReadMap {
-        at: usize,
+        at: Place,
         base: u64,
         n: u64,
         map: Vec<u8>,
@@ -130,11 +159,11 @@ pub enum Call {
         map: Vec<u8>,
     },
     Write {
-        at: usize,
+        at: Place,
         room: usize,
     },
     WriteMap {
-        at: usize,
+        at: Place,
         base: u64,
         n: u64,
         room: usize,
@@ -151,25 +180,24 @@ impl Call {
     /// The store that the call may change.
     pub fn changes(&self) -> Option<usize> {
         match *self {
-            Call::Set { at, .. }
-            | Call::Flip { at, .. }
-            | Call::Shift { at, .. }
-            | Call::ReadMap { at, .. }
-            | Call::Frame { at, .. } => Some(at),
-            Call::New { to }
-            | Call::Combine { to, .. }
+            Call::New { to, .. } => Some(to),
+            Call::Frame { at, .. } => Some(at),
+            Call::Set { at, .. } | Call::Flip { at, .. } | Call::Shift { at, .. } | Call::ReadMap { at, .. } => {
+                Some(at.store)
+            }
+            Call::Combine { to, .. }
             | Call::Not { to, .. }
             | Call::Shifted { to, .. }
             | Call::Load { to, .. }
-            | Call::Build { to, .. } => Some(to),
+            | Call::Build { to, .. } => Some(to.store),
             _ => None,
         }
     }
 }
 
 /// What a call tells. Of a listing each draw, and how it ended; of a slice how much of it was filled, and all its bytes; of a map how
-/// many bits were zeroed, and all its bytes; of a frame each answer's record, and the words of the slice after them. Of a gap the oracle tells every start that is right, as runs; the library tells
-/// one position, or none.
+/// many bits were zeroed, and all its bytes; of a frame each answer's record, and the words of the slice after them. Of a gap the
+/// oracle tells every start that is right, as runs; the library tells one position, or none.
 #[derive(Debug, PartialEq)]
 pub enum Told {
     Refused(Refusal),
@@ -199,7 +227,7 @@ impl Told {
     }
 }
 
-/// The header word that is 0 in every sound store.
+/// A header word that is 0 in every sound store: the last one.
 pub const SPARE: usize = 7;
 
 /// What an output slice is filled with beforehand, by bytes or by words.

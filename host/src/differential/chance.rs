@@ -2,18 +2,20 @@
 
 use std::ops::Bound;
 
-use super::HALF;
-use super::calls::{Call, Range, ends_of};
+use super::calls::{Call, Place, Range, ends_of};
 use super::expected::{Expected, Store};
 use super::random::Random;
 use super::records::{self, Record};
-use super::reference::{self, Run};
+use super::reference::{self, Limit, Run, WORLDS};
+use super::{HALF, Plan};
 use crate::{Listing, Operation};
 
 /// The kinds of calls.
 #[derive(Clone, Copy, Debug, PartialEq)]
 pub enum Kind {
     New,
+    /// A build of no runs, which empties a world.
+    Empty,
     Set,
     Flip,
     Shift,
@@ -185,28 +187,89 @@ fn slice_room(random: &mut Random, due: usize) -> usize {
     if random.once_in(8) { random.below(due as u64 + 2) as usize } else { due + random.below(4) as usize }
 }
 
-/// A call of the kind, about store `at` or, where the kind makes a store of others, with `at` among them.
-pub fn call(random: &mut Random, stores: &[Store], kind: Kind, at: usize) -> Call {
+/// A world of a store: mostly one that is opened.
+pub fn place(random: &mut Random, stores: &[Store], store: usize) -> Place {
+    let opened = stores[store].opened();
+    let none = [opened, opened + 1, WORLDS as u64 - 1, WORLDS as u64, 1 << 32, HALF, u64::MAX];
+    let world = if opened == 0 || random.once_in(24) { random.one_of(&none) } else { random.below(opened) };
+    Place { store, world }
+}
+
+// Parts of a whole, some of them 0, at random places: most of it, or all.
+fn parts(random: &mut Random, whole: u64, count: usize) -> Vec<u64> {
+    let mut parts = vec![0; count];
+    let mut left = if random.truth() { whole } else { random.below(whole + 1) };
+    while left > 0 {
+        let part = 1 + random.below(left.min(1 + whole / count as u64));
+        parts[random.below(count as u64) as usize] += part;
+        left -= part;
+    }
+    parts
+}
+
+/// Limits of worlds that a pool of the capacity may be made with: floors that take all of it or leave some, and ceilings at the floor,
+/// near it, at the capacity and above.
+pub fn limits(random: &mut Random, capacity: usize) -> Vec<Limit> {
+    let count = random.one_of(&[1, 2, 2, 3, 4, 8, 15, 16]);
+    limits_of(random, capacity, count)
+}
+
+fn limits_of(random: &mut Random, capacity: usize, count: usize) -> Vec<Limit> {
+    let capacity = capacity as u64;
+    let floors = if random.once_in(4) { vec![0; count] } else { parts(random, capacity, count) };
+    let limit = |floor: u64| {
+        let near = floor + random.below(3);
+        [floor, random.one_of(&[floor, near, near, capacity, capacity + 1, u64::MAX])]
+    };
+    floors.into_iter().map(limit).collect()
+}
+
+/// A pool with such limits, of any number of worlds.
+pub fn plan(random: &mut Random, capacity: usize) -> Plan {
+    let any = 1 + random.below(WORLDS as u64) as usize;
+    let count = random.one_of(&[1, 2, WORLDS, any, any, any]);
+    Plan { capacity, limits: limits_of(random, capacity, count) }
+}
+
+// Limits for a pool that is made anew: now and then ones that it may not have.
+fn remade(random: &mut Random, store: &Store) -> Vec<u64> {
+    let capacity = store.capacity().unwrap_or(1);
+    let mut all = limits(random, capacity);
+    let i = random.below(all.len() as u64) as usize;
+    let [floor, ceiling] = all[i];
+    match random.below(24) {
+        0 => all.clear(),
+        1 => all.resize(WORLDS + 1, [0, 1]),
+        2 => all[i] = [ceiling, floor],
+        3 => all[i] = [floor.saturating_add(1), ceiling.max(floor.saturating_add(1))],
+        4 => all[i][0] = random.one_of(&[capacity as u64 + 1, 1 << 32, HALF, u64::MAX]),
+        _ => {}
+    }
+    all.into_flattened()
+}
+
+/// A call of the kind, about the world `at` or, where the kind makes a set of others, with that world among them.
+pub fn call(random: &mut Random, stores: &[Store], kind: Kind, at: Place) -> Call {
     let count = stores.len() as u64;
-    let runs = &stores[at].runs[..];
+    let runs = stores[at.store].runs(at.world);
     let value = random.truth();
     let left = random.truth();
-    let other = random.below(count) as usize;
-    let third = random.below(count) as usize;
-    // A store that is not read by the same call.
-    let mut apart = |used: [usize; 2]| {
-        let free: Vec<usize> = (0..count as usize).filter(|i| !used.contains(i)).collect();
-        random.one_of(&free)
+    // Worlds of any store, this one too.
+    let mut any = || {
+        let store = random.below(count) as usize;
+        place(random, stores, store)
     };
+    let (other, third) = (any(), any());
+    let beside = stores[third.store].runs(third.world);
     match kind {
-        Kind::New => Call::New { to: at },
+        Kind::New => Call::New { to: at.store, limits: remade(random, &stores[at.store]) },
+        Kind::Empty => Call::Build { to: at, runs: Vec::new() },
         Kind::Combine => {
             let (a, b) = if value { (at, other) } else { (other, at) };
-            let to = apart([a, b]);
-            Call::Combine { to, op: random.one_of(&[Operation::And, Operation::Or, Operation::Xor]), a, b }
+            Call::Combine { to: third, op: random.one_of(&[Operation::And, Operation::Or, Operation::Xor]), a, b }
         }
-        Kind::Not => Call::Not { to: apart([at, at]), a: at },
-        Kind::Shifted => Call::Shifted { to: apart([at, at]), a: at, distance: distance(random, runs), left },
+        Kind::Not => Call::Not { to: third, a: at },
+        Kind::Shifted => Call::Shifted { to: third, a: at, distance: distance(random, runs), left },
         Kind::Equal if value => Call::Equal { a: at, b: other },
         Kind::Equal => Call::Equal { a: other, b: at },
         Kind::Set => Call::Set { at, range: range(random, runs), value },
@@ -237,13 +300,13 @@ pub fn call(random: &mut Random, stores: &[Store], kind: Kind, at: usize) -> Cal
         }
         Kind::Fill => Call::Fill { at, base: position(random, runs), n: window(random) },
         Kind::Load => {
-            let mut bytes = reference::encode(&run_list(random, &stores[third].runs));
+            let mut bytes = reference::encode(&run_list(random, beside));
             if random.once_in(4) {
                 spoil(random, &mut bytes);
             }
             Call::Load { to: at, bytes }
         }
-        Kind::Build => Call::Build { to: at, runs: run_list(random, &stores[third].runs) },
+        Kind::Build => Call::Build { to: at, runs: run_list(random, beside) },
         Kind::ReadMap => {
             let n = window(random);
             Call::ReadMap { at, base: position(random, runs), n, map: map(random, n) }
@@ -305,9 +368,9 @@ fn gap_length(random: &mut Random, runs: &[Run], range: Range) -> u64 {
     }
 }
 
-// What a frame's calls are, those that a store grows by more than once.
+// What a frame's calls are, those that a world grows by more than once.
 const LISTED: [Kind; 18] = [
-    Kind::New,
+    Kind::Empty,
     Kind::Set,
     Kind::Set,
     Kind::Set,
@@ -339,34 +402,39 @@ fn word(random: &mut Random, runs: &[Run]) -> u64 {
 
 // A record that is written down as a call's, or has some words that no call writes, or has nothing else.
 fn record(random: &mut Random, store: &Store) -> Record {
-    let runs = &store.runs;
+    let stores = std::slice::from_ref(store);
+    let at = place(random, stores, 0);
+    let runs = store.runs(at.world);
     if random.once_in(8) {
         let mut any = [0; records::WORDS].map(|_| word(random, runs));
         if random.truth() {
             any[0] = random.below(records::LAST + 2);
         }
+        if !random.once_in(4) {
+            any[7] = at.world;
+        }
         return any;
     }
-    // A new store is seldom made, or nothing would grow.
+    // A world is seldom emptied, or nothing would grow.
     let kind = match random.one_of(&LISTED) {
-        Kind::New if !random.once_in(6) => Kind::Set,
+        Kind::Empty if !random.once_in(6) => Kind::Set,
         kind => kind,
     };
-    let made = call(random, std::slice::from_ref(store), kind, 0);
+    let made = call(random, stores, kind, at);
     let mut record = records::record_of(&made).expect("a kind that lists have");
     for _ in 0..random.below(3) {
-        match random.below(4) {
-            // Another truth, another kind of no bound, words that are not read.
+        match random.below(3) {
+            // Another truth, another kind of no bound.
             0 if record[5] != 0 => record[5] = word(random, runs).max(1),
             1 if record[1] == 0 => record[1] = word(random, runs).max(3),
             2 if record[3] == 0 => record[3] = word(random, runs).max(3),
-            _ => record[7] = word(random, runs),
+            _ => {}
         }
     }
     record
 }
 
-/// Records of that many calls on a store, each where something is likely to go wrong after those before it.
+/// Records of that many calls on a pool, each where something is likely to go wrong after those before it.
 pub fn listed(random: &mut Random, store: &Store, count: usize) -> Vec<Record> {
     let mut ahead = Expected { stores: vec![store.clone()] };
     let mut all = Vec::new();
@@ -407,15 +475,15 @@ const MOODS: [&[Kind]; 7] = [
     &[Kind::Ranges, Kind::Draw, Kind::Select, Kind::Set],
 ];
 
-/// A random history of all calls, in stretches that do one thing most and are about one store.
+/// A random history of all calls, in stretches that do one thing most and are about one world.
 pub struct Wander {
     mood: &'static [Kind],
-    at: usize,
+    at: Place,
 }
 
 impl Default for Wander {
     fn default() -> Wander {
-        Wander { mood: MOODS[0], at: 0 }
+        Wander { mood: MOODS[0], at: Place::first(0) }
     }
 }
 
@@ -424,15 +492,17 @@ impl Wander {
     pub fn next(&mut self, random: &mut Random, stores: &[Store]) -> Call {
         if random.once_in(40) {
             self.mood = random.one_of(&MOODS);
-            self.at = random.below(stores.len() as u64) as usize;
+            let store = random.below(stores.len() as u64) as usize;
+            self.at = place(random, stores, store);
         }
-        let at = self.at;
+        // Most calls are about the world of the stretch, and some about its neighbours.
+        let at = if random.once_in(4) { place(random, stores, self.at.store) } else { self.at };
         let kind = if random.truth() { random.one_of(self.mood) } else { random.one_of(&KINDS) };
-        // Making a store anew, filling and emptying come up, but seldom, or nothing would grow.
+        // Making a pool anew, filling and emptying come up, but seldom, or nothing would grow.
         match kind {
             Kind::New if !random.once_in(20) => call(random, stores, Kind::Set, at),
             Kind::Set | Kind::Flip if !random.once_in(6) => {
-                let x = position(random, &stores[at].runs);
+                let x = position(random, stores[at.store].runs(at.world));
                 let range = (Bound::Included(x), Bound::Included(x.saturating_add(random.below(12))));
                 match kind {
                     Kind::Set => Call::Set { at, range, value: !random.once_in(3) },
@@ -441,5 +511,22 @@ impl Wander {
             }
             kind => call(random, stores, kind, at),
         }
+    }
+}
+
+#[cfg(test)]
+mod tests {
+    use super::*;
+
+    #[test]
+    fn pools_have_any_number_of_worlds() {
+        let mut random = Random::new(1);
+        let mut seen = [0; WORLDS + 2];
+        for _ in 0..1000 {
+            seen[plan(&mut random, 8).limits.len()] += 1;
+        }
+        assert_eq!(seen.iter().position(|&n| n > 0), Some(1));
+        assert!(seen[1..=WORLDS].iter().all(|&n| n > 0), "{seen:?}");
+        assert_eq!(seen[WORLDS + 1], 0);
     }
 }

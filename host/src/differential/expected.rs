@@ -2,78 +2,117 @@
 
 use std::ops::{Bound, RangeInclusive};
 
-use super::calls::{Call, Range, SPARE, STALE, STALE_WORD, Told, ends_of, from_back};
+use super::calls::{Call, Place, Range, SPARE, STALE, STALE_WORD, Told, ends_of, from_back};
 use super::records;
-use super::reference::{self, Look, Run};
+use super::reference::{self, Limit, Look, Run, World};
 use crate::oracle::IntervalBitSet;
 use crate::{Answer, Listing, Operation, Refusal};
 
 // The oracle's positions are usize.
 const _: () = assert!(usize::BITS == 64);
 
+/// What the oracle knows of a store.
 #[derive(Clone)]
-enum Held {
+pub enum Store {
     WrongLength,
-    Unsound,
-    Positions(IntervalBitSet),
+    Unsound { capacity: usize },
+    Sound(Pool),
 }
 
-/// What the oracle knows of a store: how many runs it may have, what it holds, and the runs of that.
+/// A sound pool: a set for each world, what their runs and floors take of the capacity together, and the worlds as they are to be read.
 #[derive(Clone)]
-pub struct Store {
-    capacity: Option<usize>,
-    held: Held,
-    pub runs: Vec<Run>,
+pub struct Pool {
+    capacity: usize,
+    sets: Vec<IntervalBitSet>,
+    pub taken: u128,
+    pub worlds: Vec<World>,
 }
 
 impl Store {
     pub fn of(words: &[u64]) -> Store {
-        let (held, runs) = match reference::look(words) {
-            Look::WrongLength => (Held::WrongLength, Vec::new()),
-            Look::Unsound => (Held::Unsound, Vec::new()),
-            Look::Holds(runs) => (Held::Positions(oracle_of(&runs)), runs),
+        let Some(capacity) = reference::capacity(words.len()) else {
+            return Store::WrongLength;
         };
-        Store { capacity: reference::capacity(words.len()), held, runs }
-    }
-
-    // A refusal, or the positions of a store that is read.
-    fn read(&self) -> Answer<&IntervalBitSet> {
-        match &self.held {
-            Held::WrongLength => Err(Refusal::StoreLength),
-            Held::Unsound => Err(Refusal::Unsound),
-            Held::Positions(p) => Ok(p),
+        match reference::look(words) {
+            Look::Holds(worlds) => Store::Sound(Pool::of(capacity, worlds)),
+            _ => Store::Unsound { capacity },
         }
     }
 
-    // A refusal, or the capacity of a store that is overwritten.
-    fn receive(&self) -> Answer<usize> {
-        self.capacity.ok_or(Refusal::StoreLength)
+    /// How many worlds are opened.
+    pub fn opened(&self) -> u64 {
+        self.sound().map_or(0, |pool| pool.worlds.len() as u64)
     }
 
-    fn hold(&mut self, positions: IntervalBitSet) -> Answer<Told> {
-        let runs = runs_of(&positions);
-        if runs.len() > self.receive()? {
+    /// The runs of a world; none where it is not opened.
+    pub fn runs(&self, world: u64) -> &[Run] {
+        let worlds = self.sound().map_or(&[][..], |pool| &pool.worlds);
+        usize::try_from(world).ok().and_then(|i| worlds.get(i)).map_or(&[], |w| &w.runs)
+    }
+
+    /// The capacity, or refusal 1.
+    pub fn capacity(&self) -> Answer<usize> {
+        match *self {
+            Store::WrongLength => Err(Refusal::StoreLength),
+            Store::Unsound { capacity } | Store::Sound(Pool { capacity, .. }) => Ok(capacity),
+        }
+    }
+
+    fn sound(&self) -> Answer<&Pool> {
+        match self {
+            Store::Sound(pool) => Ok(pool),
+            _ => Err(Refusal::Unsound),
+        }
+    }
+
+    // Makes a pool of empty worlds.
+    fn make(&mut self, limits: &[Limit]) -> Answer<Told> {
+        let capacity = self.capacity()?;
+        if !reference::may_open(capacity, limits) {
+            return Err(Refusal::WorldLimits);
+        }
+        let worlds = limits.iter().map(|&limit| World { runs: Vec::new(), limit }).collect();
+        *self = Store::Sound(Pool::of(capacity, worlds));
+        Ok(Told::Done)
+    }
+}
+
+impl Pool {
+    fn of(capacity: usize, worlds: Vec<World>) -> Pool {
+        let sets = worlds.iter().map(|w| oracle_of(&w.runs)).collect();
+        Pool { capacity, sets, taken: reference::taken(&worlds), worlds }
+    }
+
+    // What is taken where a world has that many runs: refused where they are above its ceiling, or that is above the capacity.
+    fn taken_with(&self, world: usize, runs: usize) -> Answer<u128> {
+        let World { runs: were, limit } = &self.worlds[world];
+        let taken = self.taken - reference::takes(*limit, were.len()) + reference::takes(*limit, runs);
+        if runs as u64 > limit[1] || taken > self.capacity as u128 {
             return Err(Refusal::Capacity);
         }
-        self.runs = runs;
-        self.held = Held::Positions(positions);
+        Ok(taken)
+    }
+
+    fn hold(&mut self, world: usize, set: IntervalBitSet) -> Answer<Told> {
+        let runs = runs_of(&set);
+        self.taken = self.taken_with(world, runs.len())?;
+        self.worlds[world].runs = runs;
+        self.sets[world] = set;
         Ok(Told::Done)
     }
 
-    // A change in place, which adds at most that many runs. The positions are copied only where the capacity may forbid it.
-    fn change(&mut self, more: usize, change: impl FnOnce(&mut IntervalBitSet) -> Told) -> Answer<Told> {
-        self.read()?;
-        let capacity = self.receive()?;
-        let Held::Positions(positions) = &mut self.held else { unreachable!("it was read") };
-        if self.runs.len() + more > capacity {
-            let mut copy = positions.clone();
+    // A change in place, which adds at most that many runs. The set is copied only where the limits may forbid it.
+    fn change(&mut self, world: usize, more: usize, change: impl FnOnce(&mut IntervalBitSet) -> Told) -> Answer<Told> {
+        if self.taken_with(world, self.worlds[world].runs.len() + more).is_err() {
+            let mut copy = self.sets[world].clone();
             let told = change(&mut copy);
-            self.hold(copy)?;
+            self.hold(world, copy)?;
             return Ok(told);
         }
-        let told = change(positions);
-        self.runs = runs_of(positions);
-        assert!(self.runs.len() <= capacity, "a change added more runs than was said");
+        let told = change(&mut self.sets[world]);
+        let runs = runs_of(&self.sets[world]);
+        self.taken = self.taken_with(world, runs.len()).expect("a change added more runs than was said");
+        self.worlds[world].runs = runs;
         Ok(told)
     }
 }
@@ -113,6 +152,7 @@ fn moved(listing: Listing, back: bool, drawn: &Option<RangeInclusive<u64>>) -> L
         _ => ended(value),
     }
 }
+
 // A slice with the bytes due in front, or refusal 2.
 fn slice(room: usize, due: Vec<u8>) -> Answer<Told> {
     if room < due.len() {
@@ -136,32 +176,64 @@ impl Expected {
         self.result(call).unwrap_or_else(Told::Refused)
     }
 
-    // The oracle refuses nothing: the order of refusals is 1, 7, 9, 6, 10, 3, 4, 3, 5, 8, 2.
+    // Refuses worlds that cannot be read: 1 for any store, then 7 for any, then 12 for any world.
+    fn read(&self, places: &[Place]) -> Answer<()> {
+        let stores = || places.iter().map(|at| &self.stores[at.store]);
+        stores().try_for_each(|store| store.capacity().map(|_| ()))?;
+        stores().try_for_each(|store| store.sound().map(|_| ()))?;
+        match places.iter().all(|at| at.world < self.stores[at.store].opened()) {
+            true => Ok(()),
+            false => Err(Refusal::WorldUnopened),
+        }
+    }
+
+    // The set of a world that is read.
+    fn set(&self, at: Place) -> Answer<&IntervalBitSet> {
+        self.read(&[at])?;
+        Ok(&self.stores[at.store].sound()?.sets[at.world as usize])
+    }
+
+    // The pool of a world that was read, to be changed there.
+    fn pool(&mut self, at: Place) -> (&mut Pool, usize) {
+        match &mut self.stores[at.store] {
+            Store::Sound(pool) => (pool, at.world as usize),
+            _ => unreachable!("it was read"),
+        }
+    }
+
+    fn hold(&mut self, to: Place, set: IntervalBitSet) -> Answer<Told> {
+        let (pool, world) = self.pool(to);
+        pool.hold(world, set)
+    }
+
+    fn change(&mut self, at: Place, more: usize, change: impl FnOnce(&mut IntervalBitSet) -> Told) -> Answer<Told> {
+        self.read(&[at])?;
+        let (pool, world) = self.pool(at);
+        pool.change(world, more, change)
+    }
+
+    // The oracle refuses nothing: the order of refusals is 1, 11, 7, 12, 9, 6, 10, 3, 4, 3, 5, 8, 2.
     fn result(&mut self, call: &Call) -> Answer<Told> {
-        let stores = &mut self.stores;
         match *call {
             Call::Lend { at, ref words } => {
-                stores[at] = Store::of(words);
+                self.stores[at] = Store::of(words);
                 Ok(Told::Done)
             }
             // The words are not known here, but none are sound with that one.
             Call::Poke { at, word, value } => {
                 assert!(word == SPARE && value != 0, "what other words mean is not known");
-                if stores[at].capacity.is_some() {
-                    stores[at].held = Held::Unsound;
+                if let Ok(capacity) = self.stores[at].capacity() {
+                    self.stores[at] = Store::Unsound { capacity };
                 }
                 Ok(Told::Done)
             }
-            Call::New { to } => {
-                stores[to].receive()?;
-                stores[to].hold(IntervalBitSet::new())
-            }
-            Call::Set { at, range, value } => stores[at].change(1, |p| Told::Count(p.set(bounds(range), value))),
-            Call::Flip { at, range } => stores[at].change(1, |p| {
+            Call::New { to, ref limits } => self.stores[to].make(limits.as_chunks().0),
+            Call::Set { at, range, value } => self.change(at, 1, |p| Told::Count(p.set(bounds(range), value))),
+            Call::Flip { at, range } => self.change(at, 1, |p| {
                 p.flip(bounds(range));
                 Told::Done
             }),
-            Call::Shift { at, distance, left } => stores[at].change(0, |p| {
+            Call::Shift { at, distance, left } => self.change(at, 0, |p| {
                 if left {
                     *p <<= distance as usize;
                 } else {
@@ -169,21 +241,21 @@ impl Expected {
                 }
                 Told::Done
             }),
-            Call::Get { at, x } => Ok(Told::Value(stores[at].read()?.get(x as usize))),
-            Call::RunAt { at, x } => Ok(Told::Run(wide(stores[at].read()?.run_at(x as usize)))),
+            Call::Get { at, x } => Ok(Told::Value(self.set(at)?.get(x as usize))),
+            Call::RunAt { at, x } => Ok(Told::Run(wide(self.set(at)?.run_at(x as usize)))),
             Call::Find { at, range, value } => {
-                Ok(Told::Position(stores[at].read()?.find(bounds(range), value).map(|x| x as u64)))
+                Ok(Told::Position(self.set(at)?.find(bounds(range), value).map(|x| x as u64)))
             }
-            Call::Count { at, range, value } => Ok(Told::Count(stores[at].read()?.count(bounds(range), value))),
+            Call::Count { at, range, value } => Ok(Told::Count(self.set(at)?.count(bounds(range), value))),
             Call::Select { at, range, value, k } => {
-                let found = stores[at].read()?.select(bounds(range), value, k.into());
+                let found = self.set(at)?.select(bounds(range), value, k.into());
                 Ok(Told::Position(found.map(|x| x as u64)))
             }
             Call::CountRanges { at, range, value } => {
-                Ok(Told::Number(stores[at].read()?.count_ranges(bounds(range), value) as u64))
+                Ok(Told::Number(self.set(at)?.count_ranges(bounds(range), value) as u64))
             }
             Call::Gap { at, range, n } => {
-                let p = stores[at].read()?;
+                let p = self.set(at)?;
                 if n == 0 {
                     return Err(Refusal::GapLength);
                 }
@@ -196,7 +268,7 @@ impl Expected {
                 Ok(Told::Starts(free.filter_map(starts).collect()))
             }
             Call::Ranges { at, range, value, backs } => {
-                let mut all = stores[at].read()?.ranges(bounds(range), value);
+                let mut all = self.set(at)?.ranges(bounds(range), value);
                 let made = ends_of(range).map_or(ended(value), |[first, last]| Listing { first, last, value });
                 let mut listing = made;
                 let mut draws = Vec::new();
@@ -212,13 +284,13 @@ impl Expected {
             }
             Call::Draw { at, listing, back } => {
                 let Listing { first, last, value } = listing;
-                let mut all = stores[at].read()?.ranges(first as usize..=last as usize, value);
+                let mut all = self.set(at)?.ranges(first as usize..=last as usize, value);
                 let run = if back { all.next_back() } else { all.next() }.map(wide);
                 let left = moved(listing, back, &run);
                 Ok(Told::Drawn(run, left))
             }
             Call::Fill { at, base, n } => {
-                let p = stores[at].read()?;
+                let p = self.set(at)?;
                 if !reference::is_window(base, n) {
                     return Err(Refusal::Window);
                 }
@@ -226,47 +298,44 @@ impl Expected {
                 Ok(Told::Number((1000 * held / u128::from(n)) as u64))
             }
             Call::Combine { to, op, a, b } => {
-                stores[to].receive()?;
-                stores[a].receive()?;
-                stores[b].receive()?;
-                let (x, y) = (stores[a].read()?, stores[b].read()?);
+                self.read(&[to, a, b])?;
+                let (x, y) = (self.set(a)?, self.set(b)?);
                 let joined = match op {
                     Operation::And => x & y,
                     Operation::Or => x | y,
                     Operation::Xor => x ^ y,
                 };
-                stores[to].hold(joined)
+                self.hold(to, joined)
             }
             Call::Not { to, a } => {
-                stores[to].receive()?;
-                let other = !stores[a].read()?;
-                stores[to].hold(other)
+                self.read(&[to, a])?;
+                let other = !self.set(a)?;
+                self.hold(to, other)
             }
             Call::Shifted { to, a, distance, left } => {
-                stores[to].receive()?;
-                let p = stores[a].read()?;
+                self.read(&[to, a])?;
+                let p = self.set(a)?;
                 let turned = if left { p << distance as usize } else { p >> distance as usize };
-                stores[to].hold(turned)
+                self.hold(to, turned)
             }
             Call::Equal { a, b } => {
-                stores[a].receive()?;
-                stores[b].receive()?;
-                Ok(Told::Value(stores[a].read()? == stores[b].read()?))
+                self.read(&[a, b])?;
+                Ok(Told::Value(self.set(a)? == self.set(b)?))
             }
             Call::Load { to, ref bytes } => {
-                stores[to].receive()?;
+                self.read(&[to])?;
                 let runs = reference::decode(bytes)?;
-                stores[to].hold(oracle_of(&runs))
+                self.hold(to, oracle_of(&runs))
             }
             Call::Build { to, ref runs } => {
-                stores[to].receive()?;
+                self.read(&[to])?;
                 if !reference::in_order(runs) {
                     return Err(Refusal::RunOrder);
                 }
-                stores[to].hold(oracle_of(runs))
+                self.hold(to, oracle_of(runs))
             }
             Call::ReadMap { at, base, n, ref map } => {
-                stores[at].read()?;
+                self.read(&[at])?;
                 if !reference::is_map(base, n, map) {
                     return Err(Refusal::Window);
                 }
@@ -274,7 +343,7 @@ impl Expected {
                     return Err(Refusal::StrayBit);
                 }
                 // A stretch of n positions has at most n / 2 + 1 runs.
-                stores[at].change(n as usize / 2 + 1, |p| {
+                self.change(at, n as usize / 2 + 1, |p| {
                     let mut changed = 0;
                     let mut i = 0;
                     while i < n {
@@ -296,11 +365,11 @@ impl Expected {
                 Ok(Told::Cleared(reference::clear(n, &mut cleared), cleared))
             }
             Call::Write { at, room } => {
-                stores[at].read()?;
-                slice(room, reference::encode(&stores[at].runs))
+                self.read(&[at])?;
+                slice(room, reference::encode(self.stores[at.store].runs(at.world)))
             }
             Call::WriteMap { at, base, n, room } => {
-                let p = stores[at].read()?;
+                let p = self.set(at)?;
                 if !reference::is_window(base, n) {
                     return Err(Refusal::Window);
                 }
@@ -312,8 +381,10 @@ impl Expected {
                 }
                 slice(room, due)
             }
+            // The whole is refused for the pool alone: a world that is not opened is told in its record's answer.
             Call::Frame { at, ref calls, room } => {
-                stores[at].read()?;
+                self.stores[at].capacity()?;
+                self.stores[at].sound()?;
                 let (asked, _) = calls.as_chunks();
                 if room < records::WORDS * asked.len() {
                     return Err(Refusal::OutputShort);

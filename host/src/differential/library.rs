@@ -1,8 +1,8 @@
 //! What the proved library answers.
 
-use super::calls::{Call, STALE, STALE_WORD, Told, from_back};
+use super::calls::{Call, Place, STALE, STALE_WORD, Told, from_back};
 use super::records;
-use crate::{Answer, Set};
+use crate::{Answer, Pool, World, raw};
 
 /// The words of several stores.
 #[derive(Clone)]
@@ -16,19 +16,23 @@ impl Library {
         self.result(call).unwrap_or_else(Told::Refused)
     }
 
-    fn lent(&self, at: usize) -> Set<&[u64]> {
-        Set::over(&self.stores[at])
+    fn lent(&self, at: Place) -> World<&[u64]> {
+        World { pool: Pool::from_words(&self.stores[at.store]), number: at.world }
     }
 
-    fn lent_mut(&mut self, at: usize) -> Set<&mut [u64]> {
-        Set::over(&mut self.stores[at])
+    fn lent_mut(&mut self, at: Place) -> World<&mut [u64]> {
+        World { pool: Pool::from_words(&mut self.stores[at.store]), number: at.world }
     }
 
-    // The words of the store that receives a result are taken out, so that the others can be read meanwhile.
-    fn receiving(&mut self, to: usize, make: impl FnOnce(&Library, &mut [u64]) -> Answer<()>) -> Answer<Told> {
-        let mut words = std::mem::take(&mut self.stores[to]);
-        let done = make(self, &mut words);
-        self.stores[to] = words;
+    // A pool cannot be lent to be read and to be written at once, so a copy receives the result and takes the pool's place.
+    fn receiving(
+        &mut self,
+        to: Place,
+        make: impl FnOnce(&Library, &mut World<&mut [u64]>) -> Answer<()>,
+    ) -> Answer<Told> {
+        let mut words = self.stores[to.store].clone();
+        let done = make(self, &mut World { pool: Pool::from_words(&mut words), number: to.world });
+        self.stores[to.store] = words;
         done.map(|()| Told::Done)
     }
 
@@ -42,7 +46,12 @@ impl Library {
                 self.stores[at][word] = value;
                 Ok(Told::Done)
             }
-            Call::New { to } => self.receiving(to, |_, w| Set::new(w).map(|_| ())),
+            Call::New { to, ref limits } => {
+                let w = &mut self.stores[to];
+                // SAFETY: as of every call in the crate's root. By words, so that a last one without a partner can be handed in.
+                let refusal = unsafe { raw::vizturel_new(w.as_mut_ptr(), w.len(), limits.as_ptr(), limits.len()) };
+                crate::answer(refusal, Told::Done)
+            }
             Call::Set { at, range, value } => self.lent_mut(at).set(range, value).map(Told::Count),
             Call::Flip { at, range } => self.lent_mut(at).flip(range).map(|()| Told::Done),
             Call::Shift { at, distance, left } => self.lent_mut(at).shift(distance, left).map(|()| Told::Done),
@@ -54,13 +63,13 @@ impl Library {
             Call::CountRanges { at, range, value } => self.lent(at).count_ranges(range, value).map(Told::Number),
             Call::Gap { at, range, n } => self.lent(at).gap(range, n).map(Told::Position),
             Call::Ranges { at, range, value, backs } => {
-                let set = self.lent(at);
-                let made = set.listing(range, value)?;
+                let world = self.lent(at);
+                let made = world.listing(range, value)?;
                 let mut listing = made;
                 let mut draws = Vec::new();
                 loop {
                     let back = from_back(backs, draws.len());
-                    let run = if back { set.draw_back(&mut listing)? } else { set.draw_front(&mut listing)? };
+                    let run = if back { world.draw_back(&mut listing)? } else { world.draw_front(&mut listing)? };
                     draws.push((run.clone(), listing));
                     if run.is_none() {
                         return Ok(Told::Draws(made, draws));
@@ -68,9 +77,9 @@ impl Library {
                 }
             }
             Call::Draw { at, listing, back } => {
-                let set = self.lent(at);
+                let world = self.lent(at);
                 let mut left = listing;
-                let drawn = if back { set.draw_back(&mut left) } else { set.draw_front(&mut left) };
+                let drawn = if back { world.draw_back(&mut left) } else { world.draw_front(&mut left) };
                 match drawn {
                     Err(r) if left != listing => Ok(Told::RefusedAndChanged(r)),
                     drawn => Ok(Told::Drawn(drawn?, left)),
@@ -78,15 +87,15 @@ impl Library {
             }
             Call::Fill { at, base, n } => self.lent(at).fill(base, n).map(Told::Number),
             Call::Combine { to, op, a, b } => {
-                self.receiving(to, |library, w| Set::combine(w, op, &library.lent(a), &library.lent(b)).map(|_| ()))
+                self.receiving(to, |library, w| w.combine(op, &library.lent(a), &library.lent(b)))
             }
-            Call::Not { to, a } => self.receiving(to, |library, w| Set::not(w, &library.lent(a)).map(|_| ())),
+            Call::Not { to, a } => self.receiving(to, |library, w| w.not(&library.lent(a))),
             Call::Shifted { to, a, distance, left } => {
-                self.receiving(to, |library, w| Set::shifted(w, &library.lent(a), distance, left).map(|_| ()))
+                self.receiving(to, |library, w| w.shifted(&library.lent(a), distance, left))
             }
             Call::Equal { a, b } => self.lent(a).eq(&self.lent(b)).map(Told::Value),
-            Call::Load { to, ref bytes } => self.receiving(to, |_, w| Set::load(w, bytes).map(|_| ())),
-            Call::Build { to, ref runs } => self.receiving(to, |_, w| Set::from_sorted_runs(w, runs).map(|_| ())),
+            Call::Load { to, ref bytes } => self.lent_mut(to).load(bytes).map(|()| Told::Done),
+            Call::Build { to, ref runs } => self.lent_mut(to).build(runs).map(|()| Told::Done),
             Call::ReadMap { at, base, n, ref map } => self.lent_mut(at).read_map(base, n, map).map(Told::Count),
             Call::ClearMap { base, n, ref map } => {
                 let mut cleared = map.clone();
@@ -107,7 +116,8 @@ impl Library {
             }
             Call::Frame { at, ref calls, room } => {
                 let mut out = vec![STALE_WORD; room];
-                let filled = self.lent_mut(at).play_words(calls, &mut out).map(|()| calls.len() / records::WORDS);
+                let mut pool = Pool::from_words(&mut self.stores[at][..]);
+                let filled = pool.play_words(calls, &mut out).map(|()| calls.len() / records::WORDS);
                 written(filled, out, STALE_WORD, |count, out| {
                     let (told, rest) = out.split_at(out.len().min(records::WORDS * count));
                     Told::Answers(told.as_chunks().0.to_vec(), rest.to_vec())

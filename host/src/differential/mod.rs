@@ -1,6 +1,7 @@
-//! The differential run: every call on the proved library and on the oracle, and after every change all runs. See [`run`].
+//! The differential run: every call on the proved library and on the oracle, a set for each world, and after every change all runs of
+//! all worlds of the pool. See [`run`].
 //!
-//! A [`Call`](calls::Call) carries all its arguments, so a difference is told as a list of calls on new stores, made as short as
+//! A [`Call`](calls::Call) carries all its arguments, so a difference is told as a list of calls on new pools, made as short as
 //! leaving calls out can make it.
 
 pub mod calls;
@@ -17,7 +18,7 @@ use std::fmt;
 use std::time::{Duration, Instant};
 
 use calls::{Call, Told};
-use reference::Run;
+use reference::{Limit, Run};
 use sides::Sides;
 
 /// The last position, and the first of the upper half.
@@ -52,14 +53,17 @@ pub struct Options {
 #[derive(Debug)]
 pub struct Difference {
     part: &'static str,
-    capacities: Vec<usize>,
+    plans: Vec<Plan>,
     calls: Vec<Call>,
     told: String,
 }
 
 impl fmt::Display for Difference {
     fn fmt(&self, f: &mut fmt::Formatter) -> fmt::Result {
-        writeln!(f, "unequal in part '{}', on empty stores of the capacities {:?}:", self.part, self.capacities)?;
+        writeln!(f, "unequal in part '{}', on pools of empty worlds:", self.part)?;
+        for (i, plan) in self.plans.iter().enumerate() {
+            writeln!(f, "   {i}: capacity {}, floors and ceilings {:?}", plan.capacity, plan.limits)?;
+        }
         for (i, call) in self.calls.iter().enumerate() {
             writeln!(f, "{:4}  {call:?}", i + 1)?;
         }
@@ -78,13 +82,13 @@ pub struct Tally {
     /// How many of them were records of a frame.
     pub listed: u64,
     /// How many of them were refused, by number.
-    pub refused: [u64; 11],
+    pub refused: [u64; 13],
 }
 
 impl Tally {
     fn new(progress: bool) -> Tally {
         let now = Instant::now();
-        Tally { part: "", progress, began: now, told: now, compared: 0, listed: 0, refused: [0; 11] }
+        Tally { part: "", progress, began: now, told: now, compared: 0, listed: 0, refused: [0; 13] }
     }
 
     fn begin(&mut self, part: &'static str) {
@@ -109,17 +113,36 @@ impl Tally {
     }
 }
 
-/// A sequence of calls on stores that are empty at first.
+/// A pool to begin with: its capacity, and the limits of each world.
+#[derive(Clone, Debug)]
+pub struct Plan {
+    pub capacity: usize,
+    pub limits: Vec<Limit>,
+}
+
+impl Plan {
+    /// One world, which has the capacity to itself.
+    pub fn alone(capacity: usize) -> Plan {
+        Plan { capacity, limits: vec![[0, capacity as u64]] }
+    }
+}
+
+/// A sequence of calls on pools whose worlds are empty at first.
 #[derive(Clone)]
 pub struct Sequence {
-    capacities: Vec<usize>,
+    plans: Vec<Plan>,
     pub sides: Sides,
     calls: Vec<Call>,
 }
 
 impl Sequence {
-    pub fn new(capacities: &[usize]) -> Sequence {
-        Sequence { capacities: capacities.to_vec(), sides: Sides::new(capacities), calls: Vec::new() }
+    pub fn new(plans: Vec<Plan>) -> Sequence {
+        Sequence { sides: Sides::new(&plans), plans, calls: Vec::new() }
+    }
+
+    /// On pools of one world.
+    pub fn alone(capacities: &[usize]) -> Sequence {
+        Sequence::new(capacities.iter().copied().map(Plan::alone).collect())
     }
 
     /// Makes the next call.
@@ -151,7 +174,7 @@ impl Sequence {
         let mut calls = self.calls.clone();
         let mut told = told;
         shorten(&mut calls, |fewer| {
-            let Some((count, why)) = unequal(&self.capacities, fewer) else { return false };
+            let Some((count, why)) = unequal(&self.plans, fewer) else { return false };
             fewer.truncate(count);
             told = why;
             true
@@ -164,13 +187,13 @@ impl Sequence {
             shorten(&mut asked, |fewer| {
                 let mut all = calls.clone();
                 all[i] = Call::Frame { at, calls: [fewer.as_flattened(), &rest].concat(), room };
-                let Some((_, why)) = unequal(&self.capacities, &all) else { return false };
+                let Some((_, why)) = unequal(&self.plans, &all) else { return false };
                 calls = all;
                 told = why;
                 true
             });
         }
-        Difference { part, capacities: self.capacities.clone(), calls, told }
+        Difference { part, plans: self.plans.clone(), calls, told }
     }
 }
 
@@ -193,8 +216,8 @@ fn shorten<T: Clone>(all: &mut Vec<T>, mut will_do: impl FnMut(&mut Vec<T>) -> b
 }
 
 // After how many calls there is a difference, and which.
-fn unequal(capacities: &[usize], calls: &[Call]) -> Option<(usize, String)> {
-    let mut sides = Sides::new(capacities);
+fn unequal(plans: &[Plan], calls: &[Call]) -> Option<(usize, String)> {
+    let mut sides = Sides::new(plans);
     calls.iter().enumerate().find_map(|(i, call)| sides.step(call).err().map(|why| (i + 1, why)))
 }
 
@@ -202,6 +225,8 @@ fn unequal(capacities: &[usize], calls: &[Call]) -> Option<(usize, String)> {
 pub fn run(options: Options) -> Result<Tally, Difference> {
     let mut tally = Tally::new(options.progress);
     parts::exhaustive(&mut tally, options)?;
+    parts::makings(&mut tally, options)?;
+    parts::shares(&mut tally, options)?;
     parts::damaged_stores(&mut tally, options)?;
     parts::crafted_stores(&mut tally, options)?;
     parts::wrong_lengths(&mut tally, options)?;

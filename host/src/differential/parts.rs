@@ -2,15 +2,18 @@
 
 use std::ops::Bound;
 
-use super::calls::{Call, Range, SPARE};
+use super::calls::{Call, Place, Range, SPARE};
 use super::chance::{self, KINDS, Kind, Wander};
 use super::random::Random;
 use super::records;
-use super::reference::{self, Run, Shape};
-use super::{Difference, HALF, M, Options, Sequence, Tally, WRITTEN};
+use super::reference::{self, Draft, Limit, Run, Shape, WORLDS, node_at, record_at};
+use super::{Difference, HALF, M, Options, Plan, Sequence, Tally, WRITTEN};
 use crate::Operation;
 
 type Outcome = Result<(), Difference>;
+
+// The world of the parts that have one.
+const HERE: Place = Place::first(0);
 
 const ENDS: [u64; 5] = [0, 1, HALF, M - 1, M];
 
@@ -31,28 +34,28 @@ fn every_range(positions: &[u64]) -> Vec<Range> {
 fn changes(ranges: &[Range]) -> Vec<Call> {
     let mut all = Vec::new();
     for &range in ranges {
-        all.push(Call::Set { at: 0, range, value: true });
-        all.push(Call::Set { at: 0, range, value: false });
-        all.push(Call::Flip { at: 0, range });
+        all.push(Call::Set { at: HERE, range, value: true });
+        all.push(Call::Set { at: HERE, range, value: false });
+        all.push(Call::Flip { at: HERE, range });
     }
     for distance in [0, 1, 2, HALF - 1, HALF, M] {
-        all.extend([true, false].map(|left| Call::Shift { at: 0, distance, left }));
+        all.extend([true, false].map(|left| Call::Shift { at: HERE, distance, left }));
     }
     all
 }
 
 // All that is reported of a range.
 fn report(tally: &mut Tally, s: &mut Sequence, range: Range, value: bool, backs: u64) -> Outcome {
-    s.call(tally, Call::Find { at: 0, range, value })?;
-    s.call(tally, Call::Count { at: 0, range, value })?;
-    s.call(tally, Call::CountRanges { at: 0, range, value })?;
-    s.call(tally, Call::Ranges { at: 0, range, value, backs })?;
+    s.call(tally, Call::Find { at: HERE, range, value })?;
+    s.call(tally, Call::Count { at: HERE, range, value })?;
+    s.call(tally, Call::CountRanges { at: HERE, range, value })?;
+    s.call(tally, Call::Ranges { at: HERE, range, value, backs })?;
     for k in [0, 1, HALF - 1, HALF, M - 1, M] {
-        s.call(tally, Call::Select { at: 0, range, value, k })?;
+        s.call(tally, Call::Select { at: HERE, range, value, k })?;
     }
     if !value {
         for n in [0, 1, 2, HALF - 1, HALF, M - 1, M] {
-            s.call(tally, Call::Gap { at: 0, range, n })?;
+            s.call(tally, Call::Gap { at: HERE, range, n })?;
         }
     }
     Ok(())
@@ -65,7 +68,7 @@ pub fn exhaustive(tally: &mut Tally, options: Options) -> Outcome {
     let all = changes(&ranges);
     let mut turn = 0;
     for first in &all {
-        let mut one = Sequence::new(&[5]);
+        let mut one = Sequence::alone(&[5]);
         one.call(tally, first.clone())?;
         for second in &all {
             turn += 1;
@@ -75,8 +78,8 @@ pub fn exhaustive(tally: &mut Tally, options: Options) -> Outcome {
             let mut two = one.clone();
             two.call(tally, second.clone())?;
             for x in ENDS {
-                two.call(tally, Call::Get { at: 0, x })?;
-                two.call(tally, Call::RunAt { at: 0, x })?;
+                two.call(tally, Call::Get { at: HERE, x })?;
+                two.call(tally, Call::RunAt { at: HERE, x })?;
             }
             // Over the turns every range has its turn.
             for i in 0..3 {
@@ -92,7 +95,7 @@ pub fn exhaustive(tally: &mut Tally, options: Options) -> Outcome {
             if turn % options.stride != 0 {
                 continue;
             }
-            let mut s = Sequence::new(&[2]);
+            let mut s = Sequence::alone(&[2]);
             s.call(tally, set.clone())?;
             s.call(tally, shift.clone())?;
             for &range in &ranges {
@@ -107,7 +110,7 @@ pub fn exhaustive(tally: &mut Tally, options: Options) -> Outcome {
         (0..5).flat_map(|i| (i..5).map(move |j| (Bound::Included(ENDS[i]), Bound::Included(ENDS[j])))).collect();
     let all = changes(&closed);
     for (i, first) in all.iter().enumerate() {
-        let mut one = Sequence::new(&[1 + i % 3]);
+        let mut one = Sequence::alone(&[1 + i % 3]);
         one.call(tally, first.clone())?;
         for second in &all {
             let mut two = one.clone();
@@ -126,10 +129,141 @@ pub fn exhaustive(tally: &mut Tally, options: Options) -> Outcome {
     Ok(())
 }
 
-// Some changes by chance.
-fn grow(tally: &mut Tally, s: &mut Sequence, random: &mut Random, at: usize, count: u64) -> Outcome {
+// Worlds of each number from none to more than a pool may have, with limits at and beyond what a capacity allows.
+fn every_making(capacity: u64) -> Vec<Vec<Limit>> {
+    let mut all = Vec::new();
+    for count in 0..=WORLDS + 2 {
+        all.extend([[0, 0], [0, capacity], [1, 1], [1, M], [capacity, M]].map(|limit| vec![limit; count]));
+        // One of them, the first and the last, is odd: a floor above its ceiling, one above the capacity, and one that wraps the sum.
+        for at in [0, count.saturating_sub(1)].into_iter().filter(|&at| at < count) {
+            for limit in [[1, 0], [capacity, capacity - 1], [M, M - 1], [capacity + 1, M], [M, M], [M - 1, M]] {
+                let mut limits = vec![[0, 1], [1, 1]].into_iter().cycle().take(count).collect::<Vec<_>>();
+                limits[at] = limit;
+                all.push(limits);
+            }
+            // Floors that take all of the capacity, and one run more.
+            for more in [0, 1] {
+                let mut limits = vec![[0, 2]; count];
+                limits[at] = [(capacity + more).saturating_sub(1), M];
+                limits[count - 1 - at][0] += 1;
+                all.push(limits);
+            }
+        }
+    }
+    all
+}
+
+/// Pools made with limits of every kind, in words of every kind, and which worlds they have then.
+pub fn makings(tally: &mut Tally, options: Options) -> Outcome {
+    tally.begin("pools made");
+    let mut random = Random::new(options.seed ^ 0x11);
+    let mut turn = 0;
+    let mut make = |tally: &mut Tally, random: &mut Random, capacity: usize, limits: Vec<u64>| {
+        turn += 1;
+        if turn % options.stride != 0 {
+            return Ok(());
+        }
+        let mut s = Sequence::new(vec![chance::plan(random, capacity)]);
+        grow(tally, &mut s, random, 0, 2)?;
+        match turn / options.stride % 4 {
+            0 => s.call(tally, Call::Poke { at: 0, word: SPARE, value: 1 })?,
+            1 => s.call(tally, Call::Lend { at: 0, words: crate::room(capacity) })?,
+            2 => s.call(tally, Call::Lend { at: 0, words: vec![0; 8 * (capacity + 49) - 1] })?,
+            _ => {}
+        }
+        let worlds = limits.len() as u64 / 2;
+        s.call(tally, Call::New { to: 0, limits })?;
+        for world in [worlds.saturating_sub(1), worlds] {
+            let at = Place { store: 0, world };
+            s.call(tally, Call::Set { at, range: (Bound::Included(3), Bound::Included(4)), value: true })?;
+        }
+        Ok(())
+    };
+    for capacity in [1, 2, 3, 15, 16, 17] {
+        for limits in every_making(capacity as u64) {
+            let words = limits.into_flattened();
+            make(tally, &mut random, capacity, words.clone())?;
+            // A last word without its partner is no world.
+            let more = random.one_of(&[0, 1, M]);
+            make(tally, &mut random, capacity, [&words[..], &[more]].concat())?;
+        }
+    }
+    let few = [0, 1, 2, 3, HALF, M - 1, M];
+    for code in 0..7_usize.pow(4) {
+        let limits = (0..4).map(|i| few[code / 7_usize.pow(i) % 7]).collect();
+        make(tally, &mut random, 2, limits)?;
+    }
+    Ok(())
+}
+
+// The limits of two worlds that a capacity allows, up to ceilings above it.
+fn every_pair(capacity: u64) -> Vec<[Limit; 2]> {
+    let of_floor = |floor| (floor..=capacity + 1).map(move |ceiling| [floor, ceiling]);
+    let every = || (0..=capacity).flat_map(of_floor);
+    let pairs = every().flat_map(|a| every().map(move |b| [a, b]));
+    pairs.filter(|[a, b]| a[0] + b[0] <= capacity).collect()
+}
+
+// So many single positions, each a run.
+fn singles(count: usize) -> Vec<Run> {
+    (0..count as u64).map(|i| [2 * i, 2 * i]).collect()
+}
+
+/// Two worlds of small pools with every floor and ceiling and every number of runs: what each change that may add runs makes of that.
+pub fn shares(tally: &mut Tally, options: Options) -> Outcome {
+    tally.begin("what worlds take of their pool");
+    let mut turn = 0;
+    for capacity in 1..=4_usize {
+        for limits in every_pair(capacity as u64) {
+            for code in 0..(capacity + 2).pow(2) {
+                turn += 1;
+                if turn % options.stride == 0 {
+                    let runs = [code / (capacity + 2), code % (capacity + 2)];
+                    share(tally, Plan { capacity, limits: limits.to_vec() }, runs)?;
+                }
+            }
+        }
+    }
+    Ok(())
+}
+
+// Gives world 1 so many runs, then world 0, by each call that can, and then a run more and one less to each.
+fn share(tally: &mut Tally, plan: Plan, [here, beside]: [usize; 2]) -> Outcome {
+    let neighbour = Place { store: 0, world: 1 };
+    let [set, complement] = [0, 1].map(|world| Place { store: 1, world });
+    let mut s = Sequence::new(vec![plan, Plan { capacity: 16, limits: vec![[0, 16]; 2] }]);
+    s.call(tally, Call::Build { to: neighbour, runs: singles(beside) })?;
+    s.call(tally, Call::Build { to: set, runs: singles(here) })?;
+    s.call(tally, Call::Not { to: complement, a: set })?;
+    let map = vec![0x55 & ((1_u16 << (2 * here)) - 1) as u8, if here > 4 { 1 << (2 * (here - 5)) } else { 0 }];
+    for call in [
+        Call::Build { to: HERE, runs: singles(here) },
+        Call::Load { to: HERE, bytes: reference::encode(&singles(here)) },
+        Call::ReadMap { at: HERE, base: 0, n: 16, map },
+        Call::Combine { to: HERE, op: Operation::And, a: set, b: set },
+        Call::Not { to: HERE, a: complement },
+        Call::Shifted { to: HERE, a: set, distance: 1, left: true },
+    ] {
+        let mut t = s.clone();
+        t.call(tally, call)?;
+        let single = |x| (Bound::Included(x), Bound::Included(x));
+        for at in [HERE, neighbour] {
+            t.call(tally, Call::Set { at, range: single(40), value: true })?;
+            t.call(tally, Call::Flip { at, range: single(50) })?;
+        }
+        for at in [neighbour, HERE, neighbour] {
+            t.call(tally, Call::Flip { at, range: single(60) })?;
+            t.call(tally, Call::Set { at, range: (Bound::Unbounded, Bound::Included(1)), value: false })?;
+        }
+    }
+    Ok(())
+}
+
+// Some changes by chance in worlds of a store.
+fn grow(tally: &mut Tally, s: &mut Sequence, random: &mut Random, store: usize, count: u64) -> Outcome {
     for _ in 0..count {
         let kind = random.one_of(&[Kind::Set, Kind::Set, Kind::Set, Kind::Flip, Kind::Shift]);
+        let at = chance::place(random, s.sides.stores(), store);
         let call = chance::call(random, s.sides.stores(), kind, at);
         s.call(tally, call)?;
     }
@@ -137,11 +271,12 @@ fn grow(tally: &mut Tally, s: &mut Sequence, random: &mut Random, at: usize, cou
 }
 
 // Every kind of call about a store, and before them a frame on a copy, so that they have the store as it is.
-fn every_kind(tally: &mut Tally, s: &mut Sequence, random: &mut Random, at: usize) -> Outcome {
+fn every_kind(tally: &mut Tally, s: &mut Sequence, random: &mut Random, store: usize) -> Outcome {
     let count = random.below(5) as usize;
-    let frame = chance::frame(random, s.sides.stores(), at, count);
+    let frame = chance::frame(random, s.sides.stores(), store, count);
     s.clone().call(tally, frame)?;
     for kind in [Kind::Gap].into_iter().chain(KINDS) {
+        let at = chance::place(random, s.sides.stores(), store);
         let call = chance::call(random, s.sides.stores(), kind, at);
         s.call(tally, call)?;
     }
@@ -154,20 +289,20 @@ fn word_beside(random: &mut Random, words: &[u64], word: usize) -> u64 {
     random.one_of(&[few, other, words[word] ^ 1, any])
 }
 
-/// Every word of sound stores changed in many ways, and every kind of call on what is left.
+/// Every word of sound pools changed in many ways, and every kind of call on what is left.
 pub fn damaged_stores(tally: &mut Tally, options: Options) -> Outcome {
-    tally.begin("damaged stores: each word changed");
+    tally.begin("damaged pools: each word changed");
     let mut random = Random::new(options.seed ^ 0xDA);
     let mut turn = 0;
-    for store in 0..48 {
+    for store in 0..24 {
         let capacity = 1 + store % 6;
-        let mut s = Sequence::new(&[capacity, 3, 3]);
+        let mut s = Sequence::new([capacity, 3, 3].map(|c| chance::plan(&mut random, c)).to_vec());
         let count = random.below(40);
         grow(tally, &mut s, &mut random, 0, count)?;
         grow(tally, &mut s, &mut random, 1, 4)?;
         let words = s.sides.words(0).to_vec();
         for (word, &was) in words.iter().enumerate() {
-            let last = capacity as u64 + 2;
+            let last = capacity as u64 + 32;
             let beside = random.one_of(&words);
             let mut values = vec![was.wrapping_add(1), was.wrapping_sub(1), !was, was ^ HALF, was ^ (1 << 32)];
             values.extend([0, 1, 2, 3, last, last + 1, HALF, M, beside, random.number()]);
@@ -183,22 +318,93 @@ pub fn damaged_stores(tally: &mut Tally, options: Options) -> Outcome {
             }
         }
     }
-    tally.begin("damaged stores: two words changed");
-    for turn in 0..20_000 {
+    tally.begin("damaged pools: two words changed, records and nodes mixed up");
+    for turn in 0..40_000 {
         if turn % options.stride != 0 {
             continue;
         }
-        let mut s = Sequence::new(&[1 + turn as usize % 5, 2, 4]);
+        let capacities = [1 + turn as usize / 2 % 5, 2, 4];
+        let mut s = Sequence::new(capacities.map(|c| chance::plan(&mut random, c)).to_vec());
         let count = random.below(20);
         grow(tally, &mut s, &mut random, 0, count)?;
-        for _ in 0..2 {
-            let word = random.below(s.sides.words(0).len() as u64) as usize;
-            let value = word_beside(&mut random, s.sides.words(0), word);
-            s.call(tally, Call::Poke { at: 0, word, value })?;
+        let mut words = s.sides.words(0).to_vec();
+        if (turn / options.stride).is_multiple_of(2) {
+            for _ in 0..2 {
+                let word = random.below(words.len() as u64) as usize;
+                words[word] = word_beside(&mut random, &words, word);
+            }
+        } else {
+            mix(&mut random, &mut words);
         }
+        s.call(tally, Call::Lend { at: 0, words })?;
         every_kind(tally, &mut s, &mut random, 0)?;
     }
     Ok(())
+}
+
+// Two different numbers below one that is at least 2.
+fn two_of(random: &mut Random, below: usize) -> [usize; 2] {
+    let a = random.below(below as u64) as usize;
+    let b = random.below(below as u64 - 1) as usize;
+    [a, if b < a { b } else { b + 1 }]
+}
+
+// Mixes up worlds of a pool. Some of what this leaves is sound: worlds that changed places with all they have, and a world more or less
+// whose record is all 0.
+fn mix(random: &mut Random, words: &mut [u64]) {
+    let opened = words[0] as usize;
+    let nodes = words.len() / 8 - (WORLDS + 1);
+    let [i, j] = two_of(random, WORLDS);
+    let [n, m] = two_of(random, nodes).map(|n| n + 1);
+    let in_use: Vec<usize> = (1..=nodes).filter(|&n| words[node_at(n) + 4] != 0).collect();
+    let swap = |words: &mut [u64], a: usize, b: usize, count: usize| (0..count).for_each(|k| words.swap(a + k, b + k));
+    match random.below(10) {
+        // The records of two worlds, opened or not, with or without their numbers in the nodes.
+        0 => swap(words, record_at(i), record_at(j), 8),
+        1 if opened > 1 => {
+            let [i, j] = two_of(random, opened);
+            swap(words, record_at(i), record_at(j), 8);
+            for &n in &in_use {
+                let world = &mut words[node_at(n) + 7];
+                *world = if *world == i as u64 {
+                    j as u64
+                } else if *world == j as u64 {
+                    i as u64
+                } else {
+                    *world
+                };
+            }
+        }
+        // One word of two records: a root, an offset, a sum, a limit.
+        2 if opened > 1 => {
+            let [i, j] = two_of(random, opened);
+            let word = random.below(8) as usize;
+            words.swap(record_at(i) + word, record_at(j) + word);
+        }
+        // Worlds more or fewer.
+        3 => words[0] = random.one_of(&[opened as u64 + 1, opened as u64 - 1, 16]),
+        // A record that is not opened, and not 0.
+        4 => words[record_at(i) + random.below(8) as usize] = 1 + random.below(3),
+        // Two nodes, and one word of them: a link, a sum, a world's number.
+        5 => swap(words, node_at(n), node_at(m), 8),
+        6 if in_use.len() > 1 => {
+            let [a, b] = two_of(random, in_use.len());
+            let word = 2 + random.below(6) as usize;
+            words.swap(node_at(in_use[a]) + word, node_at(in_use[b]) + word);
+        }
+        // A link into another tree, or into a free node.
+        7 if !in_use.is_empty() => {
+            let from = random.one_of(&in_use);
+            words[node_at(from) + 2 + random.below(2) as usize] = n as u64;
+        }
+        8 => words[record_at(random.below(opened as u64) as usize)] = random.one_of(&[0, n as u64, m as u64]),
+        // A node of another world, and one of none.
+        _ if !in_use.is_empty() => {
+            let number = random.one_of(&[i as u64, j as u64, 16, M]);
+            words[node_at(random.one_of(&in_use)) + 7] = number;
+        }
+        _ => words[1] = n as u64,
+    }
 }
 
 // Runs that rise; now and then they touch, overlap or are reversed. Where `spread` is set they reach up to M.
@@ -227,28 +433,43 @@ fn some_runs(random: &mut Random, most: u64) -> Vec<Run> {
     runs
 }
 
-/// Stores that no call of the library made: any arrangement of nodes, any offset; sound ones and others.
+// A world by chance: full ones, and those with a run or a floor too many, come up often.
+fn some_world(random: &mut Random, most: u64) -> Draft {
+    let physical = some_runs(random, most);
+    let offset = match random.below(4) {
+        0 => 0,
+        1 => chance::position(random, &physical),
+        2 => chance::position(random, &physical).wrapping_neg(),
+        _ => random.number(),
+    };
+    let offset = if physical.is_empty() && !random.once_in(40) { 0 } else { offset };
+    let held = reference::logical(&physical, offset).len() as u64;
+    let ceiling = random.one_of(&[held, held, held + 1, held + 2, M]);
+    let ceiling = if random.once_in(40) { ceiling.saturating_sub(1) } else { ceiling };
+    let floor = random.one_of(&[0, 0, held, held, ceiling.min(held + 1)]);
+    Draft { physical, offset, limit: [floor, ceiling] }
+}
+
+/// Pools that no call of the library made: any arrangement of nodes, any offsets and limits; sound ones and others.
 pub fn crafted_stores(tally: &mut Tally, options: Options) -> Outcome {
-    tally.begin("crafted stores");
+    tally.begin("crafted pools");
     let mut random = Random::new(options.seed ^ 0xC7);
     for turn in 0..60_000 {
         if turn % options.stride != 0 {
             continue;
         }
-        let mut s = Sequence::new(&[1, 2, 3]);
+        let mut s = Sequence::alone(&[1, 2, 3]);
         for at in 0..3 {
             let capacity = 1 + random.below(9) as usize;
-            // Full ones, and those with a run too many, come up often.
-            let most = capacity as u64 + random.below(3);
-            let runs = some_runs(&mut random, most);
-            let offset = match random.below(4) {
-                0 => 0,
-                1 => chance::position(&mut random, &runs),
-                2 => chance::position(&mut random, &runs).wrapping_neg(),
-                _ => random.number(),
-            };
+            let mut left = capacity as u64 + random.below(3);
+            let mut worlds = Vec::new();
+            for _ in 0..random.one_of(&[1, 1, 2, 2, 3, 4, 16]) {
+                let world = some_world(&mut random, left);
+                left -= (world.physical.len() as u64).max(world.limit[0]).min(left);
+                worlds.push(world);
+            }
             let shape = if random.once_in(8) { Shape::Any } else { Shape::Even };
-            let words = reference::craft(capacity, &runs, offset, shape, &mut random);
+            let words = reference::craft(capacity, &worlds, shape, &mut random);
             s.call(tally, Call::Lend { at, words })?;
         }
         for _ in 0..2 {
@@ -258,45 +479,53 @@ pub fn crafted_stores(tally: &mut Tally, options: Options) -> Outcome {
     Ok(())
 }
 
-/// Stores of every wrong length, alone and beside damaged ones.
+/// Stores of every wrong length, alone and beside damaged ones, and worlds that are not opened.
 pub fn wrong_lengths(tally: &mut Tally, options: Options) -> Outcome {
     tally.begin("wrong lengths");
     let mut random = Random::new(options.seed ^ 0x1E);
-    let mut lengths: Vec<usize> = (0..=80).collect();
-    lengths.extend([8 * (65_536 + 3) + 1, 8 * (65_536 + 4)]);
+    let mut lengths: Vec<usize> = (0..=80).chain(8 * 49 - 16..=8 * 52 + 1).collect();
+    lengths.extend([8 * (65_536 + 49) + 1, 8 * (65_536 + 50)]);
     for length in lengths {
-        let mut s = Sequence::new(&[2, 2, 2]);
+        let mut s = Sequence::alone(&[2, 2, 2]);
         s.call(tally, Call::Lend { at: 0, words: vec![0; length] })?;
         every_kind(tally, &mut s, &mut random, 0)?;
     }
-    // Whatever the three stores of a call are: of a wrong length, damaged or sound.
-    for which in 0..27 {
-        let mut s = Sequence::new(&[2, 2, 2]);
-        for at in 0..3 {
-            s.call(tally, Call::Set { at, range: (Bound::Included(3), Bound::Excluded(9)), value: true })?;
-            match which / 3_usize.pow(at as u32) % 3 {
-                0 => s.call(tally, Call::Lend { at, words: vec![0; 39] })?,
-                1 => s.call(tally, Call::Poke { at, word: SPARE, value: 1 })?,
+    // Whatever the three worlds of a call are: in a store of a wrong length or a damaged one, not opened, or good.
+    for which in 0..4_usize.pow(3) {
+        let mut s = Sequence::alone(&[2, 2, 2]);
+        let mut places = [0, 1, 2].map(Place::first);
+        for (store, at) in places.iter_mut().enumerate() {
+            s.call(tally, Call::Set { at: *at, range: (Bound::Included(3), Bound::Excluded(9)), value: true })?;
+            match which / 4_usize.pow(store as u32) % 4 {
+                0 => s.call(tally, Call::Lend { at: store, words: vec![0; 8 * 50 - 1] })?,
+                1 => s.call(tally, Call::Poke { at: store, word: SPARE, value: 1 })?,
+                2 => at.world = random.one_of(&[1, 15, 16, HALF, M]),
                 _ => {}
             }
         }
+        let [at, a, b] = places;
         for op in [Operation::And, Operation::Or, Operation::Xor] {
             let mut t = s.clone();
-            t.call(tally, Call::Combine { to: 0, op, a: 1, b: 2 })?;
+            t.call(tally, Call::Combine { to: at, op, a, b })?;
         }
+        // With arguments that would be refused for themselves, too.
         for call in [
-            Call::Equal { a: 0, b: 1 },
-            Call::Not { to: 0, a: 1 },
-            Call::Shifted { to: 0, a: 1, distance: 3, left: true },
-            Call::Load { to: 0, bytes: vec![] },
-            Call::Load { to: 0, bytes: vec![2, 0, 0, 0, 0] },
-            Call::Build { to: 0, runs: vec![[4, 3]] },
-            Call::ReadMap { at: 0, base: 0, n: 0, map: vec![] },
-            Call::ReadMap { at: 0, base: 0, n: 7, map: vec![0x80] },
-            Call::Fill { at: 0, base: 0, n: 0 },
-            Call::Gap { at: 0, range: (Bound::Unbounded, Bound::Unbounded), n: 0 },
-            Call::Write { at: 0, room: 0 },
-            Call::WriteMap { at: 0, base: M, n: 2, room: 0 },
+            Call::Equal { a: at, b: a },
+            Call::Not { to: at, a },
+            Call::Shifted { to: at, a, distance: 3, left: true },
+            Call::Load { to: at, bytes: vec![] },
+            Call::Load { to: at, bytes: vec![2, 0, 0, 0, 0] },
+            Call::Build { to: at, runs: vec![[4, 3]] },
+            Call::Build { to: at, runs: singles(3) },
+            Call::ReadMap { at, base: 0, n: 0, map: vec![] },
+            Call::ReadMap { at, base: 0, n: 7, map: vec![0x80] },
+            Call::ReadMap { at, base: 0, n: 8, map: vec![0x55] },
+            Call::Fill { at, base: 0, n: 0 },
+            Call::Gap { at, range: (Bound::Unbounded, Bound::Unbounded), n: 0 },
+            Call::Write { at, room: 0 },
+            Call::WriteMap { at, base: M, n: 2, room: 0 },
+            Call::Frame { at: 0, calls: vec![0, 0, 5, 0, 0, 0, 0, at.world], room: 8 },
+            Call::Frame { at: 0, calls: vec![13, 0, 5, 0, 0, 0, 0, at.world], room: 7 },
         ] {
             let mut t = s.clone();
             t.call(tally, call)?;
@@ -312,30 +541,30 @@ pub fn damaged_bytes(tally: &mut Tally, options: Options) -> Outcome {
     for runs in WRITTEN {
         let written = reference::encode(runs);
         for capacity in 1..=4 {
-            let mut s = Sequence::new(&[capacity]);
-            s.call(tally, Call::Set { at: 0, range: (Bound::Included(7), Bound::Unbounded), value: true })?;
+            let mut s = Sequence::alone(&[capacity]);
+            s.call(tally, Call::Set { at: HERE, range: (Bound::Included(7), Bound::Unbounded), value: true })?;
             for length in 0..written.len() + 34 {
                 let mut bytes = written.clone();
                 bytes.resize(length, 0);
-                s.call(tally, Call::Load { to: 0, bytes })?;
+                s.call(tally, Call::Load { to: HERE, bytes })?;
             }
             for i in 0..written.len() {
                 for value in 0..=255 {
                     let mut bytes = written.clone();
                     bytes[i] = value;
-                    s.call(tally, Call::Load { to: 0, bytes })?;
+                    s.call(tally, Call::Load { to: HERE, bytes })?;
                 }
             }
             for room in 0..5 + 16 * capacity + 3 {
-                s.call(tally, Call::Write { at: 0, room })?;
+                s.call(tally, Call::Write { at: HERE, room })?;
             }
         }
     }
     // The version is told before a length that is no set's, and after one below 5.
-    let mut s = Sequence::new(&[2]);
+    let mut s = Sequence::alone(&[2]);
     for length in 0..24 {
         for version in [0, 1, 2, 255] {
-            s.call(tally, Call::Load { to: 0, bytes: vec![version; length] })?;
+            s.call(tally, Call::Load { to: HERE, bytes: vec![version; length] })?;
         }
     }
     tally.begin("run lists in every order");
@@ -344,19 +573,19 @@ pub fn damaged_bytes(tally: &mut Tally, options: Options) -> Outcome {
         let x: Vec<u64> = (0..4).map(|i| few[code / 7_usize.pow(i) % 7]).collect();
         let runs = vec![[x[0], x[1]], [x[2], x[3]]];
         for capacity in 1..=2 {
-            let mut s = Sequence::new(&[capacity]);
-            s.call(tally, Call::Load { to: 0, bytes: reference::encode(&runs) })?;
-            s.call(tally, Call::New { to: 0 })?;
-            s.call(tally, Call::Build { to: 0, runs: runs.clone() })?;
+            let mut s = Sequence::alone(&[capacity]);
+            s.call(tally, Call::Load { to: HERE, bytes: reference::encode(&runs) })?;
+            s.call(tally, Call::Build { to: HERE, runs: Vec::new() })?;
+            s.call(tally, Call::Build { to: HERE, runs: runs.clone() })?;
         }
     }
     for _ in 0..40_000 / options.stride {
-        let mut s = Sequence::new(&[1 + random.below(5) as usize]);
+        let mut s = Sequence::alone(&[1 + random.below(5) as usize]);
         let mut bytes = reference::encode(&some_runs(&mut random, 6));
         for _ in 0..random.below(3) {
             chance::spoil(&mut random, &mut bytes);
         }
-        s.call(tally, Call::Load { to: 0, bytes })?;
+        s.call(tally, Call::Load { to: HERE, bytes })?;
     }
     Ok(())
 }
@@ -365,10 +594,10 @@ pub fn damaged_bytes(tally: &mut Tally, options: Options) -> Outcome {
 fn read_and_cleared(tally: &mut Tally, s: &mut Sequence, base: u64, n: u64, map: Vec<u8>) -> Outcome {
     let mut cleared = map.clone();
     let stray = reference::clear(n, &mut cleared) > 0;
-    s.call(tally, Call::ReadMap { at: 0, base, n, map: map.clone() })?;
+    s.call(tally, Call::ReadMap { at: HERE, base, n, map: map.clone() })?;
     s.call(tally, Call::ClearMap { base, n, map })?;
     if stray {
-        s.call(tally, Call::ReadMap { at: 0, base, n, map: cleared })?;
+        s.call(tally, Call::ReadMap { at: HERE, base, n, map: cleared })?;
     }
     Ok(())
 }
@@ -382,12 +611,12 @@ pub fn windows(tally: &mut Tally, options: Options) -> Outcome {
     for base in bases {
         for n in sizes {
             for turn in 0..4 {
-                let mut s = Sequence::new(&[[1, 2, 8, 200][turn]]);
+                let mut s = Sequence::alone(&[[1, 2, 8, 200][turn]]);
                 grow(tally, &mut s, &mut random, 0, 6)?;
                 let due = n.min(600_000).div_ceil(8) as usize;
-                s.call(tally, Call::Fill { at: 0, base, n })?;
+                s.call(tally, Call::Fill { at: HERE, base, n })?;
                 for room in [0, due.saturating_sub(1), due, due + 1] {
-                    s.call(tally, Call::WriteMap { at: 0, base, n, room })?;
+                    s.call(tally, Call::WriteMap { at: HERE, base, n, room })?;
                 }
                 // The oracle takes long over a large map of single positions.
                 let single = due < 20 || (turn == 0 && base == 0);
@@ -399,10 +628,10 @@ pub fn windows(tally: &mut Tally, options: Options) -> Outcome {
                 }
                 if due < 20 {
                     // What is written is read back elsewhere.
-                    s.call(tally, Call::WriteMap { at: 0, base, n, room: 40 })?;
+                    s.call(tally, Call::WriteMap { at: HERE, base, n, room: 40 })?;
                     let map = (0..due).map(|_| random.number() as u8).collect();
                     read_and_cleared(tally, &mut s, base, n, map)?;
-                    s.call(tally, Call::WriteMap { at: 0, base, n, room: 40 })?;
+                    s.call(tally, Call::WriteMap { at: HERE, base, n, room: 40 })?;
                 }
             }
         }
@@ -426,19 +655,20 @@ pub fn gaps(tally: &mut Tally, options: Options) -> Outcome {
                 if turn % options.stride != 0 {
                     continue;
                 }
-                let mut s = Sequence::new(&[1]);
+                let mut s = Sequence::alone(&[1]);
                 let runs = runs_of_bits(base, held);
                 // Turned back by the offset, which is 0 where nothing is held, they are physical runs.
                 let offset = if runs.is_empty() { 0 } else { offset };
                 let physical = reference::logical(&runs, offset.wrapping_neg());
-                let words = reference::craft(5, &physical, offset, Shape::Even, &mut random);
+                let world = Draft { physical, offset, limit: [0, 5] };
+                let words = reference::craft(5, &[world], Shape::Even, &mut random);
                 s.call(tally, Call::Lend { at: 0, words })?;
                 for _ in 0..4 {
                     let (x, y) = (base + random.below(AROUND), base + random.below(AROUND));
                     let lower = random.one_of(&[Bound::Unbounded, Bound::Included(x), Bound::Excluded(x)]);
                     let upper = random.one_of(&[Bound::Unbounded, Bound::Included(y), Bound::Excluded(y)]);
                     for n in (0..=AROUND + 1).chain([HALF - 4, HALF, M - AROUND, M]) {
-                        s.call(tally, Call::Gap { at: 0, range: (lower, upper), n })?;
+                        s.call(tally, Call::Gap { at: HERE, range: (lower, upper), n })?;
                     }
                 }
             }
@@ -459,12 +689,14 @@ fn runs_of_bits(base: u64, bits: u64) -> Vec<Run> {
     runs
 }
 
-fn wander(tally: &mut Tally, random: &mut Random, capacities: &[usize], calls: u64) -> Outcome {
-    let mut s = Sequence::new(capacities);
+fn wander(tally: &mut Tally, random: &mut Random, plans: Vec<Plan>, calls: u64) -> Outcome {
+    let count = plans.len() as u64;
+    let mut s = Sequence::new(plans);
     let mut history = Wander::default();
     for _ in 0..calls {
         let call = if random.once_in(16) {
-            let at = random.below(capacities.len() as u64) as usize;
+            let store = random.below(count) as usize;
+            let at = chance::place(random, s.sides.stores(), store);
             chance::call(random, s.sides.stores(), Kind::Gap, at)
         } else {
             history.next(random, s.sides.stores())
@@ -474,56 +706,79 @@ fn wander(tally: &mut Tally, random: &mut Random, capacities: &[usize], calls: u
     Ok(())
 }
 
-/// Random sequences at the smallest capacities, where refusal 8 is near at every call.
+/// Random sequences at the smallest capacities, with one world and several, where refusal 8 is near at every call.
 pub fn limits(tally: &mut Tally, options: Options) -> Outcome {
     tally.begin("capacity limits");
     let mut random = Random::new(options.seed ^ 0x8);
     for turn in 0..options.calls / 4 / 300 {
         let capacities = [1 + turn as usize % 3, 1 + random.below(4) as usize, 1 + random.below(3) as usize];
-        wander(tally, &mut random, &capacities, 300)?;
+        let plan = |c| if turn % 4 == 0 { Plan::alone(c) } else { chance::plan(&mut random, c) };
+        let plans = capacities.map(plan).to_vec();
+        wander(tally, &mut random, plans, 300)?;
     }
     Ok(())
 }
 
-/// The largest capacity: filled to the last run, one more refused, and what it gives to others; and the deepest trees that there are.
+/// The largest capacity: filled to the last run, one more refused, and what it gives to others, by one world and by 16; and the deepest
+/// trees that there are.
 pub fn large(tally: &mut Tally, options: Options) -> Outcome {
     tally.begin("the largest capacity");
     let mut random = Random::new(options.seed ^ 0x1A);
     const LARGEST: u64 = 65_536;
     let runs: Vec<Run> = (0..LARGEST).map(|i| [i << 40, (i << 40) + random.below(1 << 39)]).collect();
-    let mut s = Sequence::new(&[LARGEST as usize, LARGEST as usize, 3]);
-    s.call(tally, Call::Build { to: 0, runs: runs.clone() })?;
-    s.call(tally, Call::Load { to: 1, bytes: reference::encode(&runs) })?;
-    s.call(tally, Call::Equal { a: 0, b: 1 })?;
-    s.call(tally, Call::Not { to: 1, a: 0 })?;
-    s.call(tally, Call::Set { at: 0, range: (Bound::Included(M - 3), Bound::Included(M - 3)), value: true })?;
-    s.call(tally, Call::Shift { at: 0, distance: 5 << 40, left: true })?;
-    s.call(tally, Call::Set { at: 0, range: (Bound::Included(3), Bound::Included(3)), value: true })?;
+    let mut s = Sequence::alone(&[LARGEST as usize, LARGEST as usize, 3]);
+    let [second, third] = [1, 2].map(Place::first);
+    s.call(tally, Call::Build { to: HERE, runs: runs.clone() })?;
+    s.call(tally, Call::Load { to: second, bytes: reference::encode(&runs) })?;
+    s.call(tally, Call::Equal { a: HERE, b: second })?;
+    s.call(tally, Call::Not { to: second, a: HERE })?;
+    s.call(tally, Call::Set { at: HERE, range: (Bound::Included(M - 3), Bound::Included(M - 3)), value: true })?;
+    s.call(tally, Call::Shift { at: HERE, distance: 5 << 40, left: true })?;
+    s.call(tally, Call::Set { at: HERE, range: (Bound::Included(3), Bound::Included(3)), value: true })?;
     for op in [Operation::And, Operation::Or, Operation::Xor] {
-        s.call(tally, Call::Combine { to: 2, op, a: 0, b: 1 })?;
+        s.call(tally, Call::Combine { to: third, op, a: HERE, b: second })?;
     }
-    s.call(tally, Call::Combine { to: 1, op: Operation::Xor, a: 0, b: 2 })?;
-    s.call(tally, Call::Write { at: 1, room: 5 + 16 * LARGEST as usize })?;
+    s.call(tally, Call::Combine { to: second, op: Operation::Xor, a: HERE, b: third })?;
+    s.call(tally, Call::Write { at: second, room: 5 + 16 * LARGEST as usize })?;
+    few_draws(tally, &mut s, &mut random)?;
+    tally.begin("the largest capacity, shared by 16 worlds");
+    // One may have all that the floors of the others leave: half of it.
+    let each = LARGEST / 32;
+    let mut limits = vec![[each, each]; WORLDS];
+    limits[0] = [each, M];
+    let mut s = Sequence::new(vec![Plan { capacity: LARGEST as usize, limits }]);
+    let most = LARGEST - 15 * each;
+    for count in [most + 1, most] {
+        s.call(tally, Call::Build { to: HERE, runs: runs[..count as usize].to_vec() })?;
+    }
+    for world in 1..WORLDS as u64 {
+        let to = Place { store: 0, world };
+        s.call(tally, Call::Load { to, bytes: reference::encode(&runs[..each as usize]) })?;
+        s.call(tally, Call::Set { at: to, range: (Bound::Included(M), Bound::Unbounded), value: true })?;
+    }
+    s.call(tally, Call::Set { at: HERE, range: (Bound::Included(M), Bound::Unbounded), value: true })?;
     few_draws(tally, &mut s, &mut random)?;
     tally.begin("the deepest trees");
     let runs = &runs[..reference::least(22)[0] as usize];
     for left in [true, false] {
         for offset in [0, 1 << 63, random.number()] {
-            let words = reference::craft(runs.len() + 1, runs, offset, Shape::Deepest { left }, &mut random);
-            let mut s = Sequence::new(&[1, LARGEST as usize, 3]);
+            let capacity = runs.len() + 1;
+            let world = Draft { physical: runs.to_vec(), offset, limit: [0, capacity as u64] };
+            let words = reference::craft(capacity, &[world], Shape::Deepest { left }, &mut random);
+            let mut s = Sequence::alone(&[1, LARGEST as usize, 3]);
             s.call(tally, Call::Lend { at: 0, words })?;
-            s.call(tally, Call::Shifted { to: 1, a: 0, distance: 7, left })?;
-            s.call(tally, Call::Combine { to: 1, op: Operation::Or, a: 0, b: 0 })?;
-            s.call(tally, Call::Equal { a: 0, b: 1 })?;
-            s.call(tally, Call::Not { to: 1, a: 0 })?;
-            s.call(tally, Call::Write { at: 0, room: 6 + 16 * LARGEST as usize })?;
+            s.call(tally, Call::Shifted { to: second, a: HERE, distance: 7, left })?;
+            s.call(tally, Call::Combine { to: second, op: Operation::Or, a: HERE, b: HERE })?;
+            s.call(tally, Call::Equal { a: HERE, b: second })?;
+            s.call(tally, Call::Not { to: second, a: HERE })?;
+            s.call(tally, Call::Write { at: HERE, room: 6 + 16 * LARGEST as usize })?;
             few_draws(tally, &mut s, &mut random)?;
             // Runs taken from the shallow side, so that the balance is mended all the way up.
             for i in 0..20 {
-                let at = if left { s.sides.stores()[0].runs.len() - 1 - 3 * i } else { 3 * i };
-                let [start, end] = s.sides.stores()[0].runs[at];
+                let held = s.sides.stores()[0].runs(0);
+                let [start, end] = held[if left { held.len() - 1 - 3 * i } else { 3 * i }];
                 let range = (Bound::Included(start), Bound::Included(end));
-                s.call(tally, Call::Set { at: 0, range, value: false })?;
+                s.call(tally, Call::Set { at: HERE, range, value: false })?;
             }
             few_draws(tally, &mut s, &mut random)?;
         }
@@ -531,11 +786,11 @@ pub fn large(tally: &mut Tally, options: Options) -> Outcome {
     Ok(())
 }
 
-// Some reports of a large store: none that lists all of it.
+// Some reports of a large world: none that lists all of it.
 fn few_draws(tally: &mut Tally, s: &mut Sequence, random: &mut Random) -> Outcome {
     for kind in [Kind::RunAt, Kind::Find, Kind::Count, Kind::Select, Kind::CountRanges, Kind::Gap, Kind::Draw] {
         for _ in 0..4 {
-            let call = chance::call(random, s.sides.stores(), kind, 0);
+            let call = chance::call(random, s.sides.stores(), kind, HERE);
             s.call(tally, call)?;
         }
     }
@@ -545,7 +800,8 @@ fn few_draws(tally: &mut Tally, s: &mut Sequence, random: &mut Random) -> Outcom
 // How many of a frame's records are made of edges at once.
 const TOGETHER: usize = 50;
 
-/// Lists of calls at once: records of every kind with every kind of bound at the ends of the positions, then histories of frames.
+/// Lists of calls at once: records of every kind with every kind of bound at the ends of the positions, then histories of frames, all of
+/// them over worlds that are opened and some that are not.
 pub fn frames(tally: &mut Tally, options: Options) -> Outcome {
     tally.begin("frames: records at the edges");
     let mut random = Random::new(options.seed ^ 0xF4);
@@ -560,7 +816,8 @@ pub fn frames(tally: &mut Tally, options: Options) -> Outcome {
                         for [value, k] in [[0, 0], [1, M], [2, 1], [M, HALF]] {
                             turn += 1;
                             if turn % options.stride == 0 {
-                                edges.push([number, lower, from, upper, upto, value, k, turn]);
+                                let world = random.one_of(&[0, 0, 1, 2, turn]);
+                                edges.push([number, lower, from, upper, upto, value, k, world]);
                             }
                         }
                     }
@@ -573,7 +830,7 @@ pub fn frames(tally: &mut Tally, options: Options) -> Outcome {
         edges.swap(i, random.below(i as u64 + 1) as usize);
     }
     for (i, some) in edges.chunks(TOGETHER).enumerate() {
-        let mut s = Sequence::new(&[1 + i % 5]);
+        let mut s = Sequence::new(vec![chance::plan(&mut random, 1 + i % 5)]);
         grow(tally, &mut s, &mut random, 0, 4)?;
         let calls = some.as_flattened().to_vec();
         s.call(tally, Call::Frame { at: 0, room: calls.len(), calls })?;
@@ -582,12 +839,13 @@ pub fn frames(tally: &mut Tally, options: Options) -> Outcome {
     let until = tally.compared + options.calls / 4;
     let capacities = [1, 2, 3, 4, 8, 16, 64, 200, 1000];
     while tally.compared < until {
-        let mut s = Sequence::new(&[random.one_of(&capacities)]);
+        let capacity = random.one_of(&capacities);
+        let mut s = Sequence::new(vec![chance::plan(&mut random, capacity)]);
         for _ in 0..20 {
             let count = if random.once_in(100) { 1000 } else { random.below(51) };
             play(tally, &mut s, &mut random, count)?;
         }
-        // Of a damaged store, and of one with a word too many, no call is made.
+        // In a damaged pool, and in one with a word too many, no call is made.
         let word = random.below(s.sides.words(0).len() as u64) as usize;
         let value = word_beside(&mut random, s.sides.words(0), word);
         s.call(tally, Call::Poke { at: 0, word, value })?;
@@ -605,17 +863,20 @@ fn play(tally: &mut Tally, s: &mut Sequence, random: &mut Random, count: u64) ->
     s.call(tally, frame)
 }
 
-/// Long random sequences of all calls, at capacities from 1 to 1000.
+/// Long random sequences of all calls, at capacities from 1 to 1000, with one world and up to 16.
 pub fn random(tally: &mut Tally, options: Options) -> Outcome {
     tally.begin("random sequences");
     let mut random = Random::new(options.seed);
     let capacities = [1, 2, 3, 4, 5, 6, 8, 8, 12, 16, 24, 32, 64, 200, 1000];
     let until = tally.compared + options.calls;
     while tally.compared < until {
-        let three = [0; 3].map(|_| random.one_of(&capacities));
-        // The larger the stores, the longer they take to fill, and each call takes longer too.
+        let plans = [0; 3].map(|_| {
+            let capacity = random.one_of(&capacities);
+            chance::plan(&mut random, capacity)
+        });
+        // The larger the pools, the longer they take to fill, and each call takes longer too.
         let calls = (until - tally.compared).min(2000);
-        wander(tally, &mut random, &three, calls)?;
+        wander(tally, &mut random, plans.to_vec(), calls)?;
     }
     Ok(())
 }

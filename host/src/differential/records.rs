@@ -3,7 +3,7 @@
 
 use std::ops::Bound;
 
-use super::calls::{Call, Told};
+use super::calls::{Call, Place, Told};
 use crate::Listing;
 
 /// How many words a record has.
@@ -22,14 +22,15 @@ fn bound(kind: u64, value: u64) -> Bound<u64> {
     }
 }
 
-/// The call that a record means, on store `at`.
-pub fn call_of(at: usize, record: Record) -> Call {
-    let [call, lower, from, upper, upto, value, k, _] = record;
+/// The call that a record means, on the world of a store that its last word names.
+pub fn call_of(store: usize, record: Record) -> Call {
+    let [call, lower, from, upper, upto, value, k, world] = record;
+    let at = Place { store, world };
     let value = value != 0;
     let range = (bound(lower, from), bound(upper, upto));
     let listing = Listing { first: from, last: upto, value };
     match call {
-        1 => Call::New { to: at },
+        1 => Call::Build { to: at, runs: Vec::new() },
         2 => Call::Set { at, range, value },
         3 => Call::Flip { at, range },
         4 => Call::Shift { at, distance: from, left: value },
@@ -54,29 +55,29 @@ fn words(b: Bound<u64>) -> [u64; 2] {
     }
 }
 
-/// A record that means the call, or none where no record does.
+/// A record that means the call, or none where no record does: a world is emptied, as by a build of no runs, and no pool made.
 pub fn record_of(call: &Call) -> Option<Record> {
-    let over = |number, range: (Bound<u64>, Bound<u64>), value: bool, k| {
+    let over = |number, at: Place, range: (Bound<u64>, Bound<u64>), value: bool, k| {
         let ([lower, from], [upper, upto]) = (words(range.0), words(range.1));
-        [number, lower, from, upper, upto, value.into(), k, 0]
+        [number, lower, from, upper, upto, value.into(), k, at.world]
     };
-    let plain = |number, from, upto, value: bool| [number, 0, from, 0, upto, value.into(), 0, 0];
+    let plain = |number, at: Place, from, upto, value: bool| [number, 0, from, 0, upto, value.into(), 0, at.world];
     Some(match *call {
-        Call::Get { x, .. } => plain(0, x, 0, false),
-        Call::New { .. } => plain(1, 0, 0, false),
-        Call::Set { range, value, .. } => over(2, range, value, 0),
-        Call::Flip { range, .. } => over(3, range, false, 0),
-        Call::Shift { distance, left, .. } => plain(4, distance, 0, left),
-        Call::RunAt { x, .. } => plain(5, x, 0, false),
-        Call::Find { range, value, .. } => over(6, range, value, 0),
-        Call::Count { range, value, .. } => over(7, range, value, 0),
-        Call::Select { range, value, k, .. } => over(8, range, value, k),
-        Call::CountRanges { range, value, .. } => over(9, range, value, 0),
-        Call::Ranges { range, value, .. } => over(10, range, value, 0),
-        Call::Draw { listing: Listing { first, last, value }, back, .. } => {
-            plain(if back { 12 } else { 11 }, first, last, value)
+        Call::Get { at, x } => plain(0, at, x, 0, false),
+        Call::Build { to, ref runs } if runs.is_empty() => plain(1, to, 0, 0, false),
+        Call::Set { at, range, value } => over(2, at, range, value, 0),
+        Call::Flip { at, range } => over(3, at, range, false, 0),
+        Call::Shift { at, distance, left } => plain(4, at, distance, 0, left),
+        Call::RunAt { at, x } => plain(5, at, x, 0, false),
+        Call::Find { at, range, value } => over(6, at, range, value, 0),
+        Call::Count { at, range, value } => over(7, at, range, value, 0),
+        Call::Select { at, range, value, k } => over(8, at, range, value, k),
+        Call::CountRanges { at, range, value } => over(9, at, range, value, 0),
+        Call::Ranges { at, range, value, .. } => over(10, at, range, value, 0),
+        Call::Draw { at, listing: Listing { first, last, value }, back } => {
+            plain(if back { 12 } else { 11 }, at, first, last, value)
         }
-        Call::Fill { base, n, .. } => plain(13, base, n, false),
+        Call::Fill { at, base, n } => plain(13, at, base, n, false),
         _ => return None,
     })
 }
@@ -114,7 +115,8 @@ mod tests {
         let stores = vec![Store::of(&crate::room(3)); 3];
         let mut numbers = [0; 1 + LAST as usize];
         for turn in 0..100 * KINDS.len() {
-            let mut call = chance::call(&mut random, &stores, KINDS[turn % KINDS.len()], 2);
+            let at = chance::place(&mut random, &stores, 2);
+            let mut call = chance::call(&mut random, &stores, KINDS[turn % KINDS.len()], at);
             if let Some(record) = record_of(&call) {
                 numbers[record[0] as usize] += 1;
                 if let Call::Ranges { backs, .. } = &mut call {

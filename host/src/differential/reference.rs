@@ -1,5 +1,9 @@
-//! What the scope document says of words and bytes, written down plainly and apart from the library: which words are a sound store
-//! and which runs they hold, written sets, and stores of any arrangement to try the library on.
+//! What the scope document and the change requests say of words and bytes, written down plainly and apart from the library: which words
+//! are a sound pool and what its worlds hold, written sets, and pools of any arrangement to try the library on.
+//!
+//! Words 0 to 7 are the header (worlds opened, free head, six zeros), eight words for each of 16 worlds follow (root, offset, ones,
+//! physical runs, first, last, floor, ceiling; zeros if unopened), then node n, from 1 to C + 32: start, end, left, right, height, runs
+//! and ones of its subtree, the number of its world. A free node has the next free one in its left word, zeros elsewhere.
 
 use super::calls::{Range, ends_of};
 use super::random::Random;
@@ -8,18 +12,59 @@ use crate::Refusal;
 /// A run: start and end, both in it.
 pub type Run = [u64; 2];
 
+/// How many runs a world may count on, and how many it may have: its floor and its ceiling.
+pub type Limit = [u64; 2];
+
+/// The most worlds of a pool.
+pub const WORLDS: usize = 16;
+
+/// A world that was opened.
+#[derive(Clone, Debug, PartialEq)]
+pub struct World {
+    pub runs: Vec<Run>,
+    pub limit: Limit,
+}
+
 /// What words are.
 #[derive(Debug, PartialEq)]
 pub enum Look {
     WrongLength,
     Unsound,
-    Holds(Vec<Run>),
+    Holds(Vec<World>),
 }
 
-/// The capacity of a store of that many words, if there is one.
+/// The capacity of a pool of that many words, if there is one.
 pub fn capacity(words: usize) -> Option<usize> {
-    let c = (words / 8).checked_sub(3)?;
+    let c = (words / 8).checked_sub(49)?;
     (words.is_multiple_of(8) && (1..=65_536).contains(&c)).then_some(c)
+}
+
+/// What a world with that many runs takes of the capacity: as many, and no fewer than its floor.
+pub fn takes([floor, _]: Limit, runs: usize) -> u128 {
+    u128::from(floor).max(runs as u128)
+}
+
+/// What worlds take together.
+pub fn taken(worlds: &[World]) -> u128 {
+    worlds.iter().map(|w| takes(w.limit, w.runs.len())).sum()
+}
+
+/// Whether a pool may be made with such worlds: from 1 to 16, no floor above its ceiling, the floors together at most the capacity.
+pub fn may_open(capacity: usize, limits: &[Limit]) -> bool {
+    let floors: u128 = limits.iter().map(|&limit| takes(limit, 0)).sum();
+    (1..=WORLDS).contains(&limits.len())
+        && limits.iter().all(|[floor, ceiling]| floor <= ceiling)
+        && floors <= capacity as u128
+}
+
+/// Where the record of world i begins.
+pub fn record_at(i: usize) -> usize {
+    8 * (1 + i)
+}
+
+/// Where node n begins.
+pub fn node_at(n: usize) -> usize {
+    8 * (WORLDS + n)
 }
 
 // What a subtree is found to be.
@@ -30,31 +75,31 @@ struct Sums {
     ones: u64,
 }
 
-// A tree of at most 65,538 nodes that keeps the balance is far from this deep.
+// A tree of at most 65,568 nodes that keeps the balance is far from this deep.
 const DEEPEST: usize = 64;
 
-fn walk(words: &[u64], link: u64, depth: usize, met: &mut [bool], runs: &mut Vec<Run>) -> Option<Sums> {
+fn walk(words: &[u64], world: u64, link: u64, depth: usize, met: &mut [bool], runs: &mut Vec<Run>) -> Option<Sums> {
     if link == 0 {
         return Some(Sums::default());
     }
     let n = usize::try_from(link).ok().filter(|&n| n < met.len() && !met[n] && depth < DEEPEST)?;
     met[n] = true;
-    let node = &words[8 * n..8 * n + 8];
-    let left = walk(words, node[2], depth + 1, met, runs)?;
+    let node = &words[node_at(n)..node_at(n + 1)];
+    let left = walk(words, world, node[2], depth + 1, met, runs)?;
     let (start, end) = (node[0], node[1]);
     let after_last = runs.last().is_none_or(|&[_, last]| last.checked_add(2).is_some_and(|x| start >= x));
     if start > end || !after_last {
         return None;
     }
     runs.push([start, end]);
-    let right = walk(words, node[3], depth + 1, met, runs)?;
+    let right = walk(words, world, node[3], depth + 1, met, runs)?;
     let sums = Sums {
         height: 1 + left.height.max(right.height),
         runs: 1 + left.runs + right.runs,
         ones: (end - start).wrapping_add(1).wrapping_add(left.ones).wrapping_add(right.ones),
     };
     let told = [node[4], node[5], node[6], node[7]];
-    (left.height.abs_diff(right.height) <= 1 && told == [sums.height, sums.runs, sums.ones, 0]).then_some(sums)
+    (left.height.abs_diff(right.height) <= 1 && told == [sums.height, sums.runs, sums.ones, world]).then_some(sums)
 }
 
 /// Physical runs as logical ones: turned by the offset, cut at 0 and joined where they touch.
@@ -79,7 +124,7 @@ pub fn logical(runs: &[Run], offset: u64) -> Vec<Run> {
     joined
 }
 
-/// Whether words are a sound store, and the runs that it holds.
+/// Whether words are a sound pool, and what its worlds hold.
 pub fn look(words: &[u64]) -> Look {
     let Some(capacity) = capacity(words.len()) else {
         return Look::WrongLength;
@@ -87,26 +132,47 @@ pub fn look(words: &[u64]) -> Look {
     sound(words, capacity).map_or(Look::Unsound, Look::Holds)
 }
 
-fn sound(words: &[u64], capacity: usize) -> Option<Vec<Run>> {
-    let &[root, mut free, offset, ones, count, first, last, spare] = words.first_chunk::<8>()?;
-    let mut met = vec![false; capacity + 3];
-    let mut runs = Vec::new();
-    let sums = walk(words, root, 0, &mut met, &mut runs)?;
+fn sound(words: &[u64], capacity: usize) -> Option<Vec<World>> {
+    let &[opened, free, ref spare @ ..] = words.first_chunk::<8>()?;
+    let opened = usize::try_from(opened).ok().filter(|n| (1..=WORLDS).contains(n))?;
+    let zeros = |words: &[u64]| words.iter().all(|&word| word == 0);
+    if !zeros(spare) || !zeros(&words[record_at(opened)..record_at(WORLDS)]) {
+        return None;
+    }
+    // Node 0 is none.
+    let mut met = vec![false; capacity + 33];
     met[0] = true;
+    let worlds = (0..opened).map(|i| world(words, i, &mut met)).collect::<Option<Vec<World>>>()?;
+    free_chain(words, free, &mut met)?;
+    (met.iter().all(|&m| m) && taken(&worlds) <= capacity as u128).then_some(worlds)
+}
+
+// A world whose tree, record and limits are right.
+fn world(words: &[u64], i: usize, met: &mut [bool]) -> Option<World> {
+    let &[root, offset, ones, count, first, last, floor, ceiling] = words[record_at(i)..].first_chunk::<8>()?;
+    let mut physical = Vec::new();
+    let sums = walk(words, i as u64, root, 0, met, &mut physical)?;
+    let runs = logical(&physical, offset);
+    let ends = [runs.first().map_or(0, |r| r[0]), runs.last().map_or(0, |r| r[1])];
+    let agrees = [ones, count, first, last] == [sums.ones, sums.runs, ends[0], ends[1]];
+    let turned = offset != 0 && runs.is_empty();
+    let limited = floor <= ceiling && runs.len() as u64 <= ceiling;
+    (agrees && !turned && limited).then_some(World { runs, limit: [floor, ceiling] })
+}
+
+// Meets each free node, all words of which are 0 but the link to the next.
+fn free_chain(words: &[u64], first: u64, met: &mut [bool]) -> Option<()> {
+    let mut free = first;
     while free != 0 {
         let n = usize::try_from(free).ok().filter(|&n| n < met.len() && !met[n])?;
         met[n] = true;
-        let node = &words[8 * n..8 * n + 8];
+        let node = &words[node_at(n)..node_at(n + 1)];
         free = node[2];
         if (0..8).any(|i| i != 2 && node[i] != 0) {
             return None;
         }
     }
-    let held = logical(&runs, offset);
-    let ends = [held.first().map_or(0, |r| r[0]), held.last().map_or(0, |r| r[1])];
-    let agrees = [ones, count, first, last, spare] == [sums.ones, sums.runs, ends[0], ends[1], 0];
-    let turned = offset != 0 && runs.is_empty();
-    (met.iter().all(|&m| m) && agrees && !turned && held.len() <= capacity).then_some(held)
+    Some(())
 }
 
 /// Whether a run list rises without touching.
@@ -218,43 +284,63 @@ fn root_of(count: u64, shape: Shape, random: &mut Random) -> u64 {
     }
 }
 
-// Writes a tree of physical runs into nodes with the numbers given, and tells its link and what it sums up to.
-fn plant(words: &mut [u64], runs: &[Run], numbers: &[u64], shape: Shape, random: &mut Random) -> (u64, Sums) {
+// Writes a tree of physical runs of a world into nodes with the numbers given, and tells its link and what it sums up to.
+fn plant(
+    words: &mut [u64],
+    world: u64,
+    runs: &[Run],
+    numbers: &[u64],
+    shape: Shape,
+    random: &mut Random,
+) -> (u64, Sums) {
     if runs.is_empty() {
         return (0, Sums::default());
     }
     let m = root_of(runs.len() as u64, shape, random) as usize;
-    let (left, l) = plant(words, &runs[..m], &numbers[..m], shape, random);
-    let (right, r) = plant(words, &runs[m + 1..], &numbers[m + 1..], shape, random);
+    let (left, l) = plant(words, world, &runs[..m], &numbers[..m], shape, random);
+    let (right, r) = plant(words, world, &runs[m + 1..], &numbers[m + 1..], shape, random);
     let [start, end] = runs[m];
     let sums = Sums {
         height: 1 + l.height.max(r.height),
         runs: 1 + l.runs + r.runs,
         ones: end.wrapping_sub(start).wrapping_add(1).wrapping_add(l.ones).wrapping_add(r.ones),
     };
-    let at = 8 * numbers[m] as usize;
-    words[at..at + 8].copy_from_slice(&[start, end, left, right, sums.height, sums.runs, sums.ones, 0]);
+    let at = node_at(numbers[m] as usize);
+    words[at..at + 8].copy_from_slice(&[start, end, left, right, sums.height, sums.runs, sums.ones, world]);
     (numbers[m], sums)
 }
 
-/// A store of physical runs, at most C + 2, with nodes and free chain by chance: sound where the runs rise without touching,
-/// the shape keeps the balance, the logical runs are at most C and the offset is 0 if there are none.
-pub fn craft(capacity: usize, runs: &[Run], offset: u64, shape: Shape, random: &mut Random) -> Vec<u64> {
+/// A world to be crafted, by physical runs and their offset.
+pub struct Draft {
+    pub physical: Vec<Run>,
+    pub offset: u64,
+    pub limit: Limit,
+}
+
+/// A pool of such worlds, at most 16 with at most C + 32 physical runs together, with nodes and free chain by chance: sound where the
+/// runs of each rise without touching, the shape keeps the balance, the limits are kept and the offset is 0 where there are no runs.
+pub fn craft(capacity: usize, worlds: &[Draft], shape: Shape, random: &mut Random) -> Vec<u64> {
     let mut words = crate::room(capacity);
-    let mut numbers: Vec<u64> = (1..=capacity as u64 + 2).collect();
+    let mut numbers: Vec<u64> = (1..=capacity as u64 + 32).collect();
     for i in 1..numbers.len() {
         numbers.swap(i, random.below(i as u64 + 1) as usize);
     }
-    let (used, unused) = numbers.split_at(runs.len());
-    let (root, sums) = plant(&mut words, runs, used, shape, random);
+    let mut unused = &numbers[..];
+    for (i, Draft { physical, offset, limit }) in worlds.iter().enumerate() {
+        let (used, rest) = unused.split_at(physical.len());
+        unused = rest;
+        let (root, sums) = plant(&mut words, i as u64, physical, used, shape, random);
+        let held = logical(physical, *offset);
+        let ends = [held.first().map_or(0, |r| r[0]), held.last().map_or(0, |r| r[1])];
+        let record = [root, *offset, sums.ones, sums.runs, ends[0], ends[1], limit[0], limit[1]];
+        words[record_at(i)..record_at(i + 1)].copy_from_slice(&record);
+    }
     let mut free = 0;
     for &n in unused {
-        words[8 * n as usize + 2] = free;
+        words[node_at(n as usize) + 2] = free;
         free = n;
     }
-    let held = logical(runs, offset);
-    let ends = [held.first().map_or(0, |r| r[0]), held.last().map_or(0, |r| r[1])];
-    words[..8].copy_from_slice(&[root, free, offset, sums.ones, sums.runs, ends[0], ends[1], 0]);
+    words[..2].copy_from_slice(&[worlds.len() as u64, free]);
     words
 }
 
@@ -270,19 +356,91 @@ mod tests {
         assert_eq!((count, more), (46_367, 75_024));
         let runs: Vec<Run> = (0..count).map(|i| [3 * i, 3 * i + 1]).collect();
         let shape = Shape::Deepest { left: true };
-        let words = craft(count as usize, &runs, 5, shape, &mut Random::new(1));
-        assert_eq!(words[8 * words[0] as usize + 4], 22);
         let up: Vec<Run> = runs.iter().map(|r| r.map(|x| x + 5)).collect();
-        assert_eq!(look(&words), Look::Holds(up));
+        let limit = [0, count];
+        let words = craft(count as usize, &[Draft { physical: runs, offset: 5, limit }], shape, &mut Random::new(1));
+        let root = words[record_at(0)] as usize;
+        assert_eq!(words[node_at(root) + 4], 22);
+        assert_eq!(look(&words), Look::Holds(vec![World { runs: up, limit }]));
     }
 
     #[test]
     fn a_run_that_the_offset_parts_is_joined() {
         // Physical 0..=3 and M − 1..=M, two up: one logical run that starts at 0.
-        let runs = [[0, 3], [u64::MAX - 1, u64::MAX]];
-        assert_eq!(logical(&runs, 2), [[0, 5]]);
-        let words = craft(1, &runs, 2, Shape::Even, &mut Random::new(1));
-        assert_eq!(look(&words), Look::Holds(vec![[0, 5]]));
+        let physical = vec![[0, 3], [u64::MAX - 1, u64::MAX]];
+        assert_eq!(logical(&physical, 2), [[0, 5]]);
+        let words = craft(1, &[Draft { physical, offset: 2, limit: [0, 1] }], Shape::Even, &mut Random::new(1));
+        assert_eq!(look(&words), Look::Holds(vec![World { runs: vec![[0, 5]], limit: [0, 1] }]));
+    }
+
+    // A pool of four worlds, whose runs and floors take all of capacity 7: 2 + 3 + 1 + 1.
+    fn four_worlds() -> Vec<u64> {
+        let draft = |physical: &[Run], limit| Draft { physical: physical.to_vec(), offset: 0, limit };
+        let worlds = [
+            draft(&[[2, 3], [8, 9]], [1, 7]),
+            draft(&[[4, 4], [6, 6], [8, 8]], [3, 3]),
+            draft(&[], [1, u64::MAX]),
+            draft(&[[0, u64::MAX]], [0, 1]),
+        ];
+        craft(7, &worlds, Shape::Even, &mut Random::new(3))
+    }
+
+    #[test]
+    fn worlds_are_read_apart() {
+        let Look::Holds(worlds) = look(&four_worlds()) else { panic!("it is not sound") };
+        let runs: Vec<usize> = worlds.iter().map(|w| w.runs.len()).collect();
+        assert_eq!((runs, taken(&worlds)), (vec![2, 3, 0, 1], 7));
+    }
+
+    #[test]
+    fn what_is_wrong_of_a_pool_is_seen() {
+        let record = |world: usize, word: usize| record_at(world) + word;
+        let root = |words: &[u64], world: usize| words[record_at(world)];
+        let words = four_worlds();
+        let last = words[record_at(0)] as usize;
+        for (word, value) in [
+            (0, 0),
+            (0, 3),
+            (0, 17),
+            (7, 1),
+            // A record that was not opened.
+            (record(4, 7), 1),
+            (record(15, 0), 1),
+            // A floor above its ceiling, one that takes too much, a ceiling below the runs.
+            (record(3, 6), 2),
+            (record(2, 6), 2),
+            (record(0, 6), 3),
+            (record(1, 7), 2),
+            (record(3, 7), 0),
+            // A tree of another world, a node with another number.
+            (record(2, 0), root(&words, 3)),
+            (record(3, 0), root(&words, 1)),
+            (node_at(last) + 7, 1),
+            (node_at(last) + 7, 16),
+        ] {
+            let mut damaged = words.clone();
+            damaged[word] = value;
+            assert_eq!(look(&damaged), Look::Unsound, "word {word} is {value}");
+        }
+        // Limits that are kept are sound, whatever they are, and so is a world more with a record of zeros.
+        for (word, value) in [(record(0, 6), 2), (record(0, 6), 0), (record(2, 7), 1), (record(1, 7), u64::MAX), (0, 5)]
+        {
+            let mut other = words.clone();
+            other[word] = value;
+            assert!(matches!(look(&other), Look::Holds(_)), "word {word} is {value}");
+        }
+    }
+
+    #[test]
+    fn pools_are_made_of_worlds_that_fit() {
+        let m = u64::MAX;
+        for limits in [vec![[0, 0]], vec![[3, 3]], vec![[1, 1], [2, m]], vec![[0, 0]; 16], vec![[0, m]; 16]] {
+            assert!(may_open(3, &limits), "{limits:?}");
+        }
+        // The floors of the last ones are 2^64 + 2 together.
+        for limits in [vec![], vec![[0, 1]; 17], vec![[2, 1]], vec![[4, 4]], vec![[2, 9]; 2], vec![[m, m], [3, 3]]] {
+            assert!(!may_open(3, &limits), "{limits:?}");
+        }
     }
 
     #[test]

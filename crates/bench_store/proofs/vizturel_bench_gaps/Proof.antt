@@ -1,4 +1,4 @@
--- `vizturel_bench_gaps` is safe. The loop's invariant: the store is sound, the range is not reversed and a gap has a position; the measure is the
+-- `vizturel_bench_gaps` is safe. The loop's invariant: the pool is sound, the range is not reversed and a gap has a position; the measure is the
 -- searches that are left. Assumes nothing.
 use Prim.Native.Nat.{_≤_}
 use mathlib.Core.Path.{sym, _∙_}
@@ -6,7 +6,7 @@ use native.Mathlib.Omega.{arith}
 use borrow.Author.Needs.{needs}
 use borrow.Author.Tests.{not-false}
 use Rattle.store.specs.Soundness.{Sound}
-use Rattle.store.proofs.Decided.{soundB-yes}
+use Rattle.store.proofs.Whole.{soundB-yes}
 use Rattle.bench_store.proofs.vizturel_bench_gaps.Statement.{statement}
 use Rattle.bench_store.proofs.vizturel_bench_gaps.Tie as tie
 

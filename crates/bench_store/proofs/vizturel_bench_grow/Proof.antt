@@ -1,4 +1,4 @@
--- `vizturel_bench_grow` is safe. The loop's invariant: the store is sound and as long as it was; the measure is the sets that are left.
+-- `vizturel_bench_grow` is safe. The loop's invariant: the pool is sound and as long as it was; the measure is the sets that are left.
 -- Assumes nothing.
 use mathlib.Core.Path.{_≡_, refl, sym, _∙_}
 use lib.ListN.{length}
@@ -6,7 +6,7 @@ use native.Mathlib.Omega.{arith}
 use borrow.Author.Needs.{needs}
 use borrow.Author.Tests.{not-false}
 use Rattle.store.specs.Soundness.{Sound}
-use Rattle.store.proofs.Decided.{soundB-yes}
+use Rattle.store.proofs.Whole.{soundB-yes}
 use Rattle.bench_store.proofs.vizturel_bench_grow.Statement.{statement}
 use Rattle.bench_store.proofs.vizturel_bench_grow.Tie as tie
 

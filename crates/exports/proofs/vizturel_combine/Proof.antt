@@ -3,6 +3,7 @@ use borrow.Author.Needs.{needs}
 use mathlib.Core.Path.{ap, refl}
 use Rattle.model.specs.declared.Operation.{Operation}
 use Rattle.model.specs.Call.{Call}
+use Rattle.core.specs.Met.{site}
 use Rattle.exports.proofs.Returning.{returned}
 use Rattle.exports.proofs.vizturel_combine.Statement.{statement}
 use Rattle.exports.proofs.vizturel_combine.Tie as tie
@@ -27,7 +28,9 @@ returns : tie.Need-returns
 returns c =
     let co = c .before .before .before in
     let s = start (co .before .before) in
-    returned (ap (λ (o : Operation). Call.combine o (s .args .a .now) (s .args .b .now)) (co .before .operation .ensures)) (co .combine .ensures) (c .completed .ensures) refl
+    returned
+    (ap (λ (o : Operation). Call.combine o (site (s .args .a .now) (s .args .i)) (site (s .args .b .now) (s .args .j))) (co .before .operation .ensures))
+    (co .combine .ensures) (c .completed .ensures) refl
 
 pub vizturel-combine-spec : {M : Type 1} → statement M
 vizturel-combine-spec = tie.close (tie.spec operation-requires combine-requires completed-requires same-length returns)

@@ -1,7 +1,6 @@
 -- `vizturel_new` meets its contract: it is the public call, and its refusal's number. Assumes nothing.
 use borrow.Author.Needs.{needs}
-use mathlib.Core.Path.{refl}
-use Rattle.exports.proofs.Returning.{returned}
+use Rattle.exports.proofs.Returning.{makes}
 use Rattle.exports.proofs.vizturel_new.Statement.{statement}
 use Rattle.exports.proofs.vizturel_new.Tie as tie
 
@@ -15,7 +14,7 @@ same-length : tie.Need-same-length
 same-length c = search needs
 
 returns : tie.Need-returns
-returns c = returned refl (c .before .before .before .new .ensures) (c .completed .ensures) refl
+returns c = makes (c .before .before .before .new .ensures) (c .completed .ensures)
 
 pub vizturel-new-spec : {M : Type 1} → statement M
 vizturel-new-spec = tie.close (tie.spec new-requires completed-requires same-length returns)

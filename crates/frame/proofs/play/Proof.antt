@@ -2,7 +2,7 @@
 use Prim.Native.Nat.{_-_}
 use native.Mathlib.Omega.{arith}
 use borrow.Author.Needs.{needs}
-use Rattle.frame.proofs.Playing.{Playing, none-played, playing-readable, playing-wide, more-played, all-played}
+use Rattle.frame.proofs.Playing.{Playing, none-played, playing-sound, playing-wide, more-played, all-played}
 use Rattle.frame.proofs.play.Statement.{statement}
 use Rattle.frame.proofs.play.Tie as tie
 
@@ -22,13 +22,13 @@ in-loop c = c .before .before .before
 loop-holds : tie.Need-loop-holds Inv-loop μ-loop
 loop-holds c =
     let s = c .before .before .before in
-    none-played (s .args .calls .now) (s .args .answers .now) (s .args .n) (s .pre .readable)
+    none-played (s .args .calls .now) (s .args .answers .now) (s .args .n) (s .pre .sound)
 
 read-requires : tie.Need-read-requires Inv-loop μ-loop
 read-requires c κs = omega (arith, start (c .before) .pre .given)
 
 serve-requires : tie.Need-serve-requires Inv-loop μ-loop
-serve-requires c κs = playing-readable (c .before .before .before .loop .inv)
+serve-requires c κs = playing-sound (c .before .before .before .loop .inv)
 
 put-requires : tie.Need-put-requires Inv-loop μ-loop
 put-requires c κs =

@@ -67,6 +67,15 @@ mul-t28 c = search needs
 shared-slice-read-t30 : tie.Need-shared-slice-read-t30
 shared-slice-read-t30 c = search needs
 
+add-t31 : tie.Need-add-t31
+add-t31 c = search needs
+
+mul-t32 : tie.Need-mul-t32
+mul-t32 c = search needs
+
+shared-slice-read-t34 : tie.Need-shared-slice-read-t34
+shared-slice-read-t34 c = search needs
+
 returns : tie.Need-returns
 unfolding Rattle.frame.specs.Records.entryAt
 returns c = refl
@@ -96,4 +105,7 @@ read-spec =
     add-t27
     mul-t28
     shared-slice-read-t30
+    add-t31
+    mul-t32
+    shared-slice-read-t34
     returns)

@@ -1,378 +1,42 @@
--- `serve` meets its contract: in each arm the call of that kind was made with what the record's words tell. Assumes nothing.
-use Prim.Native.Nat.{ℕ}
-use mathlib.Core.Path.{_≡_}
-use mathlib.Core.List.{List}
+-- `serve` meets its contract: 12 is answered where the world was not opened, and else the call is served on it. Assumes nothing.
+use mathlib.Core.Path.{refl}
+use native.Mathlib.Omega.{arith}
 use borrow.Author.Needs.{needs}
-use Rattle.model.specs.declared.Bound.{Bound}
-use Rattle.model.specs.Call.{Call, Answer}
-use Rattle.core.specs.Met.{Met}
-use Rattle.frame.specs.declared.entry.Kind.{Kind}
-use Rattle.flat.specs.declared.Reply.{Reply}
-use Rattle.flat.specs.Flat.{truth, replyOf, boundBy}
-use Rattle.frame.specs.Records.{callBy}
-use Rattle.frame.specs.Serving.{Serves}
-use Rattle.frame.proofs.Arms.{serves, ranged}
+use Rattle.store.proofs.Worlds.{sound-room}
+use Rattle.core.proofs.Meeting.{readable}
+use Rattle.frame.proofs.Arms.{unopened-served}
 use Rattle.frame.proofs.serve.Statement.{statement}
 use Rattle.frame.proofs.serve.Tie as tie
 
--- the places that the needs look back to
-abbrev after-bound : tie.After-named → tie.After-bound
-after-bound c = c .before .before .before
+-- the place that the needs look back to: where the number of worlds is known
+abbrev start : tie.After-opened → tie.Start
+start c = c .before .before .before
 
-abbrev start : tie.After-named → tie.Start
-start c = after-bound c .before .before
-
-abbrev after-bound2 : tie.After-named → tie.After-bound2
-after-bound2 c = c .before .before
-
--- the reply is that to the record's call, of the kind that was named
-answers : (n : tie.After-named) {w w′ : List ℕ} {r : Reply} {a : Answer} (k : Kind) → n .named .result ≡ k
-    → Met w (callBy k (start n .args .e)) a w′ → r ≡ replyOf a → Serves w (start n .args .e) r w′
-answers n k p = serves (start n .args .e) k p (n .named .ensures)
-
--- a call with both bounds was made with those of the record
-between : (n : tie.After-named) {w w′ : List ℕ} {a : Answer} (f : Bound → Bound → Call (List ℕ))
-    → Met w (f (after-bound n .bound .result) (after-bound2 n .bound2 .result)) a w′
-    → Met w (f (boundBy (start n .args .e .lower) (start n .args .e .from)) (boundBy (start n .args .e .upper) (start n .args .e .upto))) a w′
-between n f = ranged f (after-bound n .bound .ensures) (after-bound2 n .bound2 .ensures)
-
-bound-requires : tie.Need-bound-requires
-bound-requires c κs = search needs
-
-bound-requires-2 : tie.Need-bound-requires-2
-bound-requires-2 c κs = search needs
-
-named-requires : tie.Need-named-requires
-named-requires c κs = search needs
-
-enum-told : tie.Need-enum-told
-enum-told c = search needs
-
-new-requires : tie.Need-new-requires
-new-requires c κs = search needs
+opened-requires : tie.Need-opened-requires
+opened-requires c κs = sound-room (c .before .before .pre) 0 (omega arith)
 
 completed-requires : tie.Need-completed-requires
 completed-requires c κs = search needs
-
-enum-told-2 : tie.Need-enum-told-2
-enum-told-2 c = search needs
-
-set-requires : tie.Need-set-requires
-set-requires c κs = search needs
-
-counted-requires : tie.Need-counted-requires
-counted-requires c κs = search needs
-
-enum-told-3 : tie.Need-enum-told-3
-enum-told-3 c = search needs
-
-flip-requires : tie.Need-flip-requires
-flip-requires c κs = search needs
-
-completed-requires-2 : tie.Need-completed-requires-2
-completed-requires-2 c κs = search needs
-
-enum-told-4 : tie.Need-enum-told-4
-enum-told-4 c = search needs
-
-shift-requires : tie.Need-shift-requires
-shift-requires c κs = search needs
-
-completed-requires-3 : tie.Need-completed-requires-3
-completed-requires-3 c κs = search needs
-
-enum-told-5 : tie.Need-enum-told-5
-enum-told-5 c = search needs
-
-run-at-requires : tie.Need-run-at-requires
-run-at-requires c κs = search needs
-
-around-requires : tie.Need-around-requires
-around-requires c κs = search needs
-
-enum-told-6 : tie.Need-enum-told-6
-enum-told-6 c = search needs
-
-find-requires : tie.Need-find-requires
-find-requires c κs = search needs
-
-found-requires : tie.Need-found-requires
-found-requires c κs = search needs
-
-enum-told-7 : tie.Need-enum-told-7
-enum-told-7 c = search needs
-
-count-requires : tie.Need-count-requires
-count-requires c κs = search needs
-
-counted-requires-2 : tie.Need-counted-requires-2
-counted-requires-2 c κs = search needs
-
-enum-told-8 : tie.Need-enum-told-8
-enum-told-8 c = search needs
-
-select-requires : tie.Need-select-requires
-select-requires c κs = search needs
-
-found-requires-2 : tie.Need-found-requires-2
-found-requires-2 c κs = search needs
-
-enum-told-9 : tie.Need-enum-told-9
-enum-told-9 c = search needs
-
-count-ranges-requires : tie.Need-count-ranges-requires
-count-ranges-requires c κs = search needs
-
-numbered-requires : tie.Need-numbered-requires
-numbered-requires c κs = search needs
-
-enum-told-10 : tie.Need-enum-told-10
-enum-told-10 c = search needs
-
-ranges-requires : tie.Need-ranges-requires
-ranges-requires c κs = search needs
-
-listed-requires : tie.Need-listed-requires
-listed-requires c κs = search needs
-
-enum-told-11 : tie.Need-enum-told-11
-enum-told-11 c = search needs
-
-draw-front-requires : tie.Need-draw-front-requires
-draw-front-requires c κs = search needs
-
-drawn-requires : tie.Need-drawn-requires
-drawn-requires c κs = search needs
-
-enum-told-12 : tie.Need-enum-told-12
-enum-told-12 c = search needs
-
-draw-back-requires : tie.Need-draw-back-requires
-draw-back-requires c κs = search needs
-
-drawn-requires-2 : tie.Need-drawn-requires-2
-drawn-requires-2 c κs = search needs
-
-enum-told-13 : tie.Need-enum-told-13
-enum-told-13 c = search needs
-
-fill-requires : tie.Need-fill-requires
-fill-requires c κs = search needs
-
-numbered-requires-2 : tie.Need-numbered-requires-2
-numbered-requires-2 c κs = search needs
-
-enum-told-14 : tie.Need-enum-told-14
-enum-told-14 c = search needs
-
-get-requires : tie.Need-get-requires
-get-requires c κs = search needs
-
-tested-requires : tie.Need-tested-requires
-tested-requires c κs = search needs
 
 same-length : tie.Need-same-length
 same-length c = search needs
 
 returns : tie.Need-returns
 returns c =
-    let m = c .before .before .before in
-    let e = m .before .before in
-    let n = e .before .before in
-    answers n Kind.New (e .enum-told .given .1) (m .new .ensures) (c .completed .ensures)
+    let o = c .before .before .before in
+    unopened-served (start o .pre) (omega (arith, o .opened .ensures, c .before .if1 .taken)) _ refl (c .completed .ensures)
+
+serve-world-requires : tie.Need-serve-world-requires
+serve-world-requires c κs =
+    let o = c .before .before .before in
+    readable (record { sound = start o .pre; named = omega (arith, o .opened .ensures, c .before .if1 .left) })
 
 same-length-2 : tie.Need-same-length-2
 same-length-2 c = search needs
 
 returns-2 : tie.Need-returns-2
-returns-2 c =
-    let s = c .before .before .before in
-    let n = s .before .before .before .before in
-    answers n Kind.Set (s .before .before .enum-told2 .given .1) (between n (λ l u. Call.set l u (truth (start n .args .e .value))) (s .set .ensures)) (c .counted .ensures)
-
-same-length-3 : tie.Need-same-length-3
-same-length-3 c = search needs
-
-returns-3 : tie.Need-returns-3
-returns-3 c =
-    let f = c .before .before .before in
-    let n = f .before .before .before .before in
-    answers n Kind.Flip (f .before .before .enum-told3 .given .1) (between n (λ l u. Call.flip l u) (f .flip .ensures)) (c .completed2 .ensures)
-
-same-length-4 : tie.Need-same-length-4
-same-length-4 c = search needs
-
-returns-4 : tie.Need-returns-4
-returns-4 c =
-    let s = c .before .before .before in
-    let e₄ = s .before .before in
-    let n = e₄ .before .before in
-    answers n Kind.Shift (e₄ .enum-told4 .given .1) (s .shift .ensures) (c .completed3 .ensures)
-
-same-length-5 : tie.Need-same-length-5
-same-length-5 c = search needs
-
-returns-5 : tie.Need-returns-5
-returns-5 c =
-    let e₅ = c .before .before .before in
-    let n = e₅ .before .before in
-    answers n Kind.RunAt (e₅ .enum-told5 .given .1) (c .before .run-at .ensures) (c .around .ensures)
-
-same-length-6 : tie.Need-same-length-6
-same-length-6 c = search needs
-
-returns-6 : tie.Need-returns-6
-returns-6 c =
-    let e₆ = c .before .before .before in
-    let n = e₆ .before .before in
-    answers n Kind.Find (e₆ .enum-told6 .given .1) (between n (λ l u. Call.find l u (truth (start n .args .e .value))) (c .before .find .ensures)) (c .found .ensures)
-
-same-length-7 : tie.Need-same-length-7
-same-length-7 c = search needs
-
-returns-7 : tie.Need-returns-7
-returns-7 c =
-    let e₇ = c .before .before .before in
-    let n = e₇ .before .before in
-    answers n Kind.Count (e₇ .enum-told7 .given .1) (between n (λ l u. Call.count l u (truth (start n .args .e .value))) (c .before .count .ensures)) (c .counted2 .ensures)
-
-same-length-8 : tie.Need-same-length-8
-same-length-8 c = search needs
-
-returns-8 : tie.Need-returns-8
-returns-8 c =
-    let e₈ = c .before .before .before in
-    let n = e₈ .before .before in
-    answers n Kind.Select (e₈ .enum-told8 .given .1) (between n (λ l u. Call.select l u (truth (start n .args .e .value)) (start n .args .e .k)) (c .before .select .ensures)) (c .found2 .ensures)
-
-same-length-9 : tie.Need-same-length-9
-same-length-9 c = search needs
-
-returns-9 : tie.Need-returns-9
-returns-9 c =
-    let e₉ = c .before .before .before in
-    let n = e₉ .before .before in
-    answers n Kind.CountRanges (e₉ .enum-told9 .given .1) (between n (λ l u. Call.countRanges l u (truth (start n .args .e .value))) (c .before .count-ranges .ensures)) (c .numbered .ensures)
-
-same-length-10 : tie.Need-same-length-10
-same-length-10 c = search needs
-
-returns-10 : tie.Need-returns-10
-returns-10 c =
-    let e₁₀ = c .before .before .before in
-    let n = e₁₀ .before .before in
-    answers n Kind.Ranges (e₁₀ .enum-told10 .given .1) (between n (λ l u. Call.ranges l u (truth (start n .args .e .value))) (c .before .ranges .ensures)) (c .listed .ensures)
-
-same-length-11 : tie.Need-same-length-11
-same-length-11 c = search needs
-
-returns-11 : tie.Need-returns-11
-returns-11 c =
-    let e₁₁ = c .before .before .before in
-    let n = e₁₁ .before .before in
-    answers n Kind.DrawFront (e₁₁ .enum-told11 .given .1) (c .before .draw-front .ensures) (c .drawn .ensures)
-
-same-length-12 : tie.Need-same-length-12
-same-length-12 c = search needs
-
-returns-12 : tie.Need-returns-12
-returns-12 c =
-    let e₁₂ = c .before .before .before in
-    let n = e₁₂ .before .before in
-    answers n Kind.DrawBack (e₁₂ .enum-told12 .given .1) (c .before .draw-back .ensures) (c .drawn2 .ensures)
-
-same-length-13 : tie.Need-same-length-13
-same-length-13 c = search needs
-
-returns-13 : tie.Need-returns-13
-returns-13 c =
-    let e₁₃ = c .before .before .before in
-    let n = e₁₃ .before .before in
-    answers n Kind.Fill (e₁₃ .enum-told13 .given .1) (c .before .fill .ensures) (c .numbered2 .ensures)
-
-same-length-14 : tie.Need-same-length-14
-same-length-14 c = search needs
-
-returns-14 : tie.Need-returns-14
-returns-14 c =
-    let e₁₄ = c .before .before .before in
-    let n = e₁₄ .before .before in
-    answers n Kind.Get (e₁₄ .enum-told14 .given .1) (c .before .get .ensures) (c .tested .ensures)
+returns-2 c = search needs
 
 pub serve-spec : {M : Type 1} → statement M
 serve-spec =
-    tie.close
-    (tie.spec
-    bound-requires
-    bound-requires-2
-    named-requires
-    enum-told
-    new-requires
-    completed-requires
-    enum-told-2
-    set-requires
-    counted-requires
-    enum-told-3
-    flip-requires
-    completed-requires-2
-    enum-told-4
-    shift-requires
-    completed-requires-3
-    enum-told-5
-    run-at-requires
-    around-requires
-    enum-told-6
-    find-requires
-    found-requires
-    enum-told-7
-    count-requires
-    counted-requires-2
-    enum-told-8
-    select-requires
-    found-requires-2
-    enum-told-9
-    count-ranges-requires
-    numbered-requires
-    enum-told-10
-    ranges-requires
-    listed-requires
-    enum-told-11
-    draw-front-requires
-    drawn-requires
-    enum-told-12
-    draw-back-requires
-    drawn-requires-2
-    enum-told-13
-    fill-requires
-    numbered-requires-2
-    enum-told-14
-    get-requires
-    tested-requires
-    same-length
-    returns
-    same-length-2
-    returns-2
-    same-length-3
-    returns-3
-    same-length-4
-    returns-4
-    same-length-5
-    returns-5
-    same-length-6
-    returns-6
-    same-length-7
-    returns-7
-    same-length-8
-    returns-8
-    same-length-9
-    returns-9
-    same-length-10
-    returns-10
-    same-length-11
-    returns-11
-    same-length-12
-    returns-12
-    same-length-13
-    returns-13
-    same-length-14
-    returns-14)
+    tie.close (tie.spec opened-requires completed-requires same-length returns serve-world-requires same-length-2 returns-2)

@@ -1,4 +1,4 @@
--- `all_runs`: a sound store is not refused. Assumes nothing.
+-- `all_runs`: a world that was opened in a sound pool is not refused. Assumes nothing.
 use Rattle.listset.proofs.Drawing.{listing-told, listing-refused}
 use denote.Ref.{now}
 use borrow.Author.Needs.{needs}

@@ -8,8 +8,14 @@ use Rattle.listset.proofs.answer.Statement.{statement}
 use Rattle.listset.proofs.answer.Tie as tie
 
 -- the places that the needs look back to
-abbrev start : tie.After-load → tie.Start
-start c = c .before .before .before .before
+abbrev after-new : tie.After-load → tie.After-new
+after-new c = c .before .before .before
+
+abbrev short : tie.After-new → tie.Else1
+short c = c .before .before .before
+
+abbrev start : tie.After-new → tie.Start
+start c = short c .before .before
 
 abbrev after-load : tie.After-put-set-arg → tie.After-load
 after-load c = c .before .before .before .before
@@ -25,6 +31,15 @@ returns c =
     let t₁ = c .before .before .before in
     let p = put-front (c .put .ensures) in
     (p .0, p .1 ∙ sym (too-long (now (t₁ .before .before .args .bytes)) (t₁ .if1 .taken)))
+
+slice-aggregate-new : tie.Need-slice-aggregate-new
+slice-aggregate-new c = search needs
+
+slice-aggregate-new-2 : tie.Need-slice-aggregate-new-2
+slice-aggregate-new-2 c = search needs
+
+new-requires : tie.Need-new-requires
+new-requires c κs = search needs
 
 slice-aggregate-load : tie.Need-slice-aggregate-load
 slice-aggregate-load c = search needs
@@ -47,25 +62,28 @@ slice-aggregate-put-set c = search needs
 put-set-requires : tie.Need-put-set-requires
 put-set-requires c κs =
     let l = after-load (c .before) in
-    let d = done-told (now (start l .args .bytes)) _ refl _ (l .load .ensures) (c .before .before .enum-told .given .1) in
+    let n = after-new l in
+    let d = done-told (now (start n .args .bytes)) _ refl (n .new .ensures) _ (l .load .ensures) (c .before .before .enum-told .given .1) in
     (omega (arith, d .1), d .0)
 
 returns-2 : tie.Need-returns-2
 returns-2 c =
     let c₂ = c .before .before .before in
     let l = c₂ .before .before .before in
+    let n = after-new l in
     let p = put-front (c .put-refused .ensures) in (
       p .0,
-      p .1 ∙ sym (short-enough (now (start l .args .bytes)) (l .before .before .if1 .left) ∙ refused-told (now (start l .args .bytes)) _ refl _
-          (l .load .ensures) (c₂ .c .given .1)),
+      p .1 ∙ sym (short-enough (now (start n .args .bytes)) (short n .if1 .left) ∙ refused-told (now (start n .args .bytes)) _ refl
+          (n .new .ensures) _ (l .load .ensures) (c₂ .c .given .1)),
     )
 
 returns-3 : tie.Need-returns-3
 returns-3 c =
     let l = after-load (c .before .before) in
     let p = put-front (c .put-set .ensures) in
-    let d = done-told (now (start l .args .bytes)) _ refl _ (l .load .ensures) (c .before .before .before .enum-told .given .1) in
-    (p .0, p .1 ∙ sym (short-enough (now (start l .args .bytes)) (l .before .before .if1 .left) ∙ d .2))
+    let n = after-new l in
+    let d = done-told (now (start n .args .bytes)) _ refl (n .new .ensures) _ (l .load .ensures) (c .before .before .before .enum-told .given .1) in
+    (p .0, p .1 ∙ sym (short-enough (now (start n .args .bytes)) (short n .if1 .left) ∙ d .2))
 
 pub answer-spec : {M : Type 1} → statement M
 answer-spec =
@@ -74,6 +92,9 @@ answer-spec =
     slice-aggregate-put
     put-requires
     returns
+    slice-aggregate-new
+    slice-aggregate-new-2
+    new-requires
     slice-aggregate-load
     load-requires
     enum-known-c

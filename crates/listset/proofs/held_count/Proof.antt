@@ -1,4 +1,4 @@
--- `held_count`: a sound store is not refused. Assumes nothing.
+-- `held_count`: a world that was opened in a sound pool is not refused. Assumes nothing.
 use Rattle.listset.proofs.Drawing.{ones-told, ones-refused}
 use denote.Ref.{now}
 use borrow.Author.Needs.{needs}

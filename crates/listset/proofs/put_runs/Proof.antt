@@ -8,7 +8,7 @@ use Rattle.listset.proofs.put_runs.Statement.{statement}
 use Rattle.listset.proofs.put_runs.Tie as tie
 
 abbrev Inv-loop : tie.InvT-loop
-Inv-loop out₀ at words runs rest₀ i₀ out rest i = Progress (heldBy words) out₀ at (rest₀ .listing) runs i out rest
+Inv-loop out₀ at words runs rest₀ i₀ out rest i = Progress (heldBy words 0) out₀ at (rest₀ .listing) runs i out rest
 
 abbrev μ-loop : tie.MeasureT-loop
 μ-loop out₀ at words runs rest₀ i₀ out rest i = runs - i
@@ -16,7 +16,7 @@ abbrev μ-loop : tie.MeasureT-loop
 loop-holds : tie.Need-loop-holds Inv-loop μ-loop
 loop-holds c =
     let s = c .before .before in
-    progress-start (heldBy (now (s .args .words))) (now (s .args .out)) (s .args .at) (s .args .first) (s .args .runs) (s .pre .1 .1)
+    progress-start (heldBy (now (s .args .words)) 0) (now (s .args .out)) (s .args .at) (s .args .first) (s .args .runs) (s .pre .1 .1)
 
 put-next-requires : tie.Need-put-next-requires Inv-loop μ-loop
 put-next-requires c κs =

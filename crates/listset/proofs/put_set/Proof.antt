@@ -1,4 +1,4 @@
--- `put_set` puts the lines of a sound store: the counts, then the runs. Assumes nothing.
+-- `put_set` puts the lines of a world's set: the counts, then the runs. Assumes nothing.
 use Prim.Native.Nat.{_^_, _≤_}
 use mathlib.Core.Path.{sym, ap, _∙_, subst}
 use native.Mathlib.Omega.{arith}
@@ -8,11 +8,12 @@ use lib.ListN.{length}
 use Rattle.model.specs.Numbers.{size, worth}
 use Rattle.model.proofs.Counting.{count-most}
 use Rattle.model.specs.Positions.{stretches}
-use Rattle.store.specs.Layout.{allowance, heldBy}
+use Rattle.store.specs.Layout.{heldBy}
 use Rattle.listset.specs.Text.{countLines, runLines, setLines}
 use Rattle.listset.specs.Put.{Puts}
 use Rattle.listset.proofs.Putting.{and-then}
 use Rattle.listset.proofs.Lines.{counts-short}
+use Rattle.listset.proofs.Drawing.{runs-fit}
 use borrow.Author.Needs.{needs}
 use Rattle.listset.proofs.put_set.Statement.{statement}
 use Rattle.listset.proofs.put_set.Tie as tie
@@ -36,13 +37,13 @@ held-count-requires c κs = search needs
 put-counts-requires : tie.Need-put-counts-requires
 put-counts-requires c κs =
     let s = start (c .before .before) in
-    (omega (arith, s .pre .0), subst (λ k. k ≤ 2 ^ 64) (sym (c .held-count .ensures)) (count-most (heldBy (now (s .args .words))) true 0 size))
+    (omega (arith, s .pre .0), subst (λ k. k ≤ 2 ^ 64) (sym (c .held-count .ensures)) (count-most (heldBy (now (s .args .words)) 0) true 0 size))
 
 all-runs-requires : tie.Need-all-runs-requires
 all-runs-requires c κs = search needs
 
 put-runs-requires : tie.Need-put-runs-requires
-unfolding stretches allowance
+unfolding stretches
 put-runs-requires c κs = (
   omega (
     arith,
@@ -51,7 +52,7 @@ put-runs-requires c κs = (
     after-put-counts c .put-counts .ensures .long,
     counts-short (after-run-count c .run-count .result) (worth (after-put-counts c .before .held-count .result)),
     after-run-count c .run-count .ensures,
-    start (after-run-count c) .pre .1 .fits,
+    runs-fit (start (after-run-count c) .pre .1),
   ),
   (start (after-run-count c) .pre .1, ap length (c .all-runs .ensures) ∙ sym (after-run-count c .run-count .ensures)),
 )
@@ -68,7 +69,7 @@ returns c =
     let s = start (h .before .before) in
     let w = now (s .args .words) in
     and-then
-    (subst (λ k. Puts (now (s .args .out)) 0 (countLines (stretches (heldBy w)) k) (pc .put-counts .last .0) (pc .put-counts .result)) (h .held-count .ensures)
+    (subst (λ k. Puts (now (s .args .out)) 0 (countLines (stretches (heldBy w 0)) k) (pc .put-counts .last .0) (pc .put-counts .result)) (h .held-count .ensures)
     (subst (λ k. Puts (now (s .args .out)) 0 (countLines k (worth (h .held-count .result))) (pc .put-counts .last .0) (pc .put-counts .result))
     (h .before .before .run-count .ensures) (pc .put-counts .ensures)))
     (subst (λ rs. Puts (pc .put-counts .last .0) (pc .put-counts .result) (runLines rs) (p .put-runs .last .0) (p .put-runs .result))

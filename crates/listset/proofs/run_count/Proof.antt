@@ -1,4 +1,4 @@
--- `run_count`: a sound store is not refused. Assumes nothing.
+-- `run_count`: a world that was opened in a sound pool is not refused. Assumes nothing.
 use Rattle.listset.proofs.Drawing.{runs-told, runs-refused}
 use denote.Ref.{now}
 use borrow.Author.Needs.{needs}

@@ -1,34 +1,56 @@
--- `write_world` meets its contract: cell 0 is written, and no other. Assumes nothing.
+-- `write_world` meets its contract: the header's cell and the record's are written, and no other. Assumes nothing.
 use borrow.Author.Needs.{needs}
-use native.Mathlib.Omega.{arith}
-use Prim.Native.Nat.{ℕ}
-use mathlib.Core.Path.{_≡_, sym, ap, _∙_}
-use Rattle.run_index.specs.declared.Node.{Node}
-use Rattle.store.specs.declared.World.{World}
-use Rattle.store.specs.Layout.{worldOf}
+use Rattle.store.proofs.Closing.{headed}
 use Rattle.store.proofs.write_world.Statement.{statement}
 use Rattle.store.proofs.write_world.Tie as tie
 
--- a world with the tag 0 is the one that the header tells
-own : {h : World} → h .tag ≡ 0 → record { tag = 0; root = h .root; free = h .free; offset = h .offset; ones = h .ones; runs = h .runs; first = h .first; last = h .last } ≡ h
-own {h} e = sym (ap (λ (g : ℕ). record { tag = g; root = h .root; free = h .free; offset = h .offset; ones = h .ones; runs = h .runs; first = h .first; last = h .last }) e)
+-- the places that the needs look back to: the two cells read, and the header written
+abbrev read : tie.After-read-node2 → tie.After-read-node
+read c = c .before .before .before
+
+abbrev read-both : tie.After-write-node → tie.After-read-node2
+read-both c = c .before .before
+
+abbrev written : tie.After-write-node2 → tie.After-write-node
+written c = c .before .before .before .before .before
+
+read-node-requires : tie.Need-read-node-requires
+read-node-requires c κs = search needs
+
+add-read-node : tie.Need-add-read-node
+add-read-node c = search needs
+
+read-node-requires-2 : tie.Need-read-node-requires-2
+read-node-requires-2 c κs = search needs
 
 write-node-requires : tie.Need-write-node-requires
 write-node-requires c κs = search needs
+
+add-write-node : tie.Need-add-write-node
+add-write-node c = search needs
+
+write-node-requires-2 : tie.Need-write-node-requires-2
+write-node-requires-2 c κs = search needs
 
 same-length : tie.Need-same-length
 same-length c = search needs
 
 returns : tie.Need-returns
 returns c =
-    let w = c .before .before in
-    let wr = w .write-node .ensures in
-    record {
-      here = ap worldOf (wr .here) ∙ own (w .before .before .before .pre .1);
-      spare = ap (λ (v : Node). v .tag) (wr .here);
-      there = λ m pos. wr .there m (λ (e : m ≡ 0). omega arith);
-      long = wr .long;
-    }
+    let z = c .before .before in
+    let y = written z in
+    let x = read-both y in
+    headed (read x .read-node .ensures) (x .read-node2 .ensures) (y .write-node .ensures) (z .write-node2 .ensures)
 
 pub write-world-spec : {M : Type 1} → statement M
-write-world-spec = tie.close (tie.spec write-node-requires same-length returns)
+write-world-spec =
+    tie.close
+    (tie.spec
+    read-node-requires
+    add-read-node
+    read-node-requires-2
+    write-node-requires
+    add-write-node
+    write-node-requires-2
+    same-length
+    returns)

@@ -2,6 +2,7 @@
 
 use super::{HALF, M};
 use crate::conformance::List;
+use crate::differential::calls::Place;
 
 // No bound, and each position included and excluded.
 fn every_bound(positions: &[u64]) -> Vec<String> {
@@ -15,15 +16,16 @@ fn every_bound(positions: &[u64]) -> Vec<String> {
 /// The list.
 pub fn list() -> List {
     let mut list = List::new("bounds");
-    list.store(0, 4, &[[0, 1], [HALF - 1, HALF + 1], [M, M]]);
-    // The same set, in part moved there.
-    list.store(3, 4, &[[0, 0], [HALF - 2, HALF], [M - 1, M - 1]]);
-    list.say("shift 3 1 1\nset 3 i0 i0 1\neq 0 3\nwords 1 4\nnew 1");
+    list.pool(0, 8, &[[0, 4], [2, 8], [3, 4]]);
+    list.build(Place::first(0), &[[0, 1], [HALF - 1, HALF + 1], [M, M]]);
+    // The same set in another world, in part moved there, and a world between that holds everything else.
+    list.build(Place { store: 0, world: 2 }, &[[0, 0], [HALF - 2, HALF], [M - 1, M - 1]]);
+    list.say("shift 0/2 1 1\nset 0/2 i0 i0 1\neq 0/0 0/2\nnot 0/1 0/0\nwords 1 4\nnew 1 1 0 4");
     let bounds = every_bound(&[0, HALF - 1, HALF, M]);
     for (i, (lower, upper)) in bounds.iter().flat_map(|l| bounds.iter().map(move |u| (l, u))).enumerate() {
         let range = format!("{lower} {upper}");
         let (v, w) = (i % 2, 1 - i % 2);
-        let (k, s) = ([0, 1, 3, HALF - 3, HALF, M][i % 6], [0, 3][i / 2 % 2]);
+        let (k, s) = ([0, 1, 3, HALF - 3, HALF, M][i % 6], ["0/0", "0/2"][i / 2 % 2]);
         list.say(&format!(
             "find {s} {range} {v}
             find {s} {range} {w}
@@ -31,23 +33,25 @@ pub fn list() -> List {
             count_ranges {s} {range} {v}
             ranges {s} {range} {w}
             select {s} {range} {v} {k}
-            set 1 {range} {}
-            flip 1 {range}
-            count 1 u u 1",
+            set 1/0 {range} {}
+            flip 1/0 {range}
+            count 1/0 u u 1",
             i / 3 % 2
         ));
     }
     for x in [0, 1, 2, HALF - 2, HALF - 1, HALF, HALF + 1, HALF + 2, M - 1, M] {
-        list.say(&format!("get 0 {x}\nrun_at 0 {x}\nrun_at 3 {x}"));
+        list.say(&format!("get 0/0 {x}\nrun_at 0/0 {x}\nrun_at 0/1 {x}\nrun_at 0/2 {x}"));
     }
     // The whole of a full set and of an empty one.
     list.say("words 2 1");
-    for (made, value) in [("new 2\nset 2 u u 1", 1), ("new 2", 0)] {
+    for (made, value) in [("new 2 1 0 1\nset 2/0 u u 1", 1), ("new 2 1 0 1", 0)] {
         list.say(made);
         for k in [0, 1, HALF, M - 1, M] {
-            list.say(&format!("select 2 u u {value} {k}"));
+            list.say(&format!("select 2/0 u u {value} {k}"));
         }
-        list.say(&format!("count 2 u u {value}\ncount 2 e0 u {value}\ncount 2 u e{M} {value}\nrun_at 2 {HALF}"));
+        list.say(&format!(
+            "count 2/0 u u {value}\ncount 2/0 e0 u {value}\ncount 2/0 u e{M} {value}\nrun_at 2/0 {HALF}"
+        ));
     }
     list
 }

@@ -3,7 +3,7 @@
 use super::{HALF, M};
 use crate::conformance::{List, SLICE};
 use crate::differential::WRITTEN;
-use crate::differential::calls::Call;
+use crate::differential::calls::{Call, Place};
 use crate::differential::chance;
 use crate::differential::random::Random;
 use crate::differential::reference::{self, Run};
@@ -12,44 +12,49 @@ use crate::differential::reference::{self, Run};
 pub fn list() -> List {
     let mut list = List::new("bytes");
     let mut random = Random::new(0xB7);
-    list.say("words 0 4");
+    // The neighbour is sure of as many runs as the world of the bytes.
+    list.pool(0, 8, &[[4, 4], [1, 4]]);
+    list.build(Place::first(0), &[[5, 6], [8, M]]);
+    let at = Place { store: 0, world: 1 };
     for runs in WRITTEN {
         let written = reference::encode(runs);
-        list.call(&Call::Load { to: 0, bytes: written.clone() });
+        list.call(&Call::Load { to: at, bytes: written.clone() });
         for room in [0, written.len() - 1, written.len(), written.len() + 3] {
-            list.call(&Call::Write { at: 0, room });
+            list.call(&Call::Write { at, room });
         }
         for i in 0..written.len() {
             let mut bytes = written.clone();
             bytes[i] = random.one_of(&[written[i] ^ 1, 0xFF - written[i]]);
-            list.call(&Call::Load { to: 0, bytes });
+            list.call(&Call::Load { to: at, bytes });
         }
         for _ in 0..4 {
             let mut bytes = written.clone();
             chance::spoil(&mut random, &mut bytes);
-            list.call(&Call::Load { to: 0, bytes });
+            list.call(&Call::Load { to: at, bytes });
         }
-        list.show(0);
+        list.show(at);
     }
-    // A full store of the largest capacity of a list, and the largest map.
+    list.show(Place::first(0));
+    // A full world of the largest capacity of a list, and the largest map.
     let many: Vec<Run> = (0..64).map(|i| [i << 58, (i << 58) + random.below(1 << 57)]).collect();
-    list.say("words 1 64");
-    list.call(&Call::Load { to: 1, bytes: reference::encode(&many) });
-    list.say(&format!("write_set 1 {}\nwrite_set 1 {SLICE}\nset 1 i{M} i{M} 1\nnew 1", SLICE - 1));
+    list.pool(1, 64, &[[0, 64]]);
+    let at = Place::first(1);
+    list.call(&Call::Load { to: at, bytes: reference::encode(&many) });
+    list.say(&format!("write_set 1/0 {}\nwrite_set 1/0 {SLICE}\nset 1/0 i{M} i{M} 1\nbuild 1/0 0", SLICE - 1));
     let map: Vec<u8> = (0..1024).map(|i| if i % 32 < 16 { 0x0F << (i % 5) } else { 0xFF }).collect();
     for base in [0, M - 8191] {
-        list.call(&Call::ReadMap { at: 1, base, n: 8192, map: map.clone() });
+        list.call(&Call::ReadMap { at, base, n: 8192, map: map.clone() });
     }
     let few: Vec<u8> = (0..1024).map(|i| if i / 20 % 2 == 0 { 0xFF } else { 0 }).collect();
-    read_and_cleared(&mut list, 1, 3, 8190, few);
-    list.say("fill 1 0 8192\nwrite_map 1 0 8192 1024\nwrite_map 1 5 8180 1023\nwrite_map 1 0 8192 1023");
+    read_and_cleared(&mut list, at, 3, 8190, few);
+    list.say("fill 1/0 0 8192\nwrite_map 1/0 0 8192 1024\nwrite_map 1/0 5 8180 1023\nwrite_map 1/0 0 8192 1023");
     windows(&mut list, &mut random);
     spare_bits(&mut list);
     list
 }
 
 // Reads a map, clears it and reads what that leaves.
-fn read_and_cleared(list: &mut List, at: usize, base: u64, n: u64, map: Vec<u8>) {
+fn read_and_cleared(list: &mut List, at: Place, base: u64, n: u64, map: Vec<u8>) {
     let mut cleared = map.clone();
     reference::clear(n, &mut cleared);
     list.call(&Call::ReadMap { at, base, n, map: map.clone() });
@@ -60,25 +65,29 @@ fn read_and_cleared(list: &mut List, at: usize, base: u64, n: u64, map: Vec<u8>)
 // Every spare bit of the last byte by itself, at every length up to two bytes.
 fn spare_bits(list: &mut List) {
     list.store(0, 9, &[[4, 6]]);
+    let at = Place::first(0);
     for n in 1..=17_u64 {
         let due = n.div_ceil(8) as usize;
         for i in n..8 * due as u64 {
             let mut map = vec![0xA5; due];
             reference::clear(n, &mut map);
             map[due - 1] |= 1 << (i % 8);
-            list.call(&Call::ReadMap { at: 0, base: 1, n, map: map.clone() });
+            list.call(&Call::ReadMap { at, base: 1, n, map: map.clone() });
             list.call(&Call::ClearMap { base: 1, n, map });
         }
         let mut map = vec![0x5A; due];
         reference::clear(n, &mut map);
-        list.call(&Call::ReadMap { at: 0, base: 1, n, map });
+        list.call(&Call::ReadMap { at, base: 1, n, map });
     }
-    list.show(0);
+    list.show(at);
 }
 
 // Windows at every limit, of sizes about whole bytes.
 fn windows(list: &mut List, random: &mut Random) {
-    list.store(0, 12, &[[3, 9], [HALF, HALF + 40], [M - 5, M]]);
+    // The neighbour takes 8 of 20 runs.
+    list.pool(0, 20, &[[8, 9], [0, 20]]);
+    let at = Place { store: 0, world: 1 };
+    list.build(at, &[[3, 9], [HALF, HALF + 40], [M - 5, M]]);
     for n in [1, 2, 7, 8, 9, 15, 16, 17, 64, 65] {
         for base in [0, 1, HALF - 4, M - (n - 1)] {
             let due = n.div_ceil(8) as usize;
@@ -86,11 +95,11 @@ fn windows(list: &mut List, random: &mut Random) {
             // Spare bits of both values.
             let spare = (!0_u16 << ((n - 1) % 8 + 1)) as u8;
             map[due - 1] = if random.truth() { map[due - 1] | spare } else { map[due - 1] & !spare };
-            read_and_cleared(list, 0, base, n, map);
+            read_and_cleared(list, at, base, n, map);
             for room in [due - 1, due, due + 2] {
-                list.call(&Call::WriteMap { at: 0, base, n, room });
+                list.call(&Call::WriteMap { at, base, n, room });
             }
-            list.say(&format!("fill 0 {base} {n}\ncount 0 u u 1"));
+            list.say(&format!("fill {at} {base} {n}\ncount {at} u u 1"));
         }
     }
 }

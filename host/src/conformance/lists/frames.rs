@@ -1,11 +1,13 @@
-//! Lists of calls at once: records of every kind, records that no one writes, and refusals of the whole and of single calls.
+//! Lists of calls at once: records of every kind and at several worlds, records that no one writes, and refusals of the whole and of
+//! single calls.
 
 use super::{HALF, M};
 use crate::conformance::{CALLS, List, text};
-use crate::differential::calls::Call;
+use crate::differential::calls::{Call, Place};
 use crate::differential::chance;
 use crate::differential::random::Random;
 use crate::differential::records::{self, Record};
+use crate::differential::reference::Limit;
 
 // The records of calls that are written as lines.
 fn of(lines: &str) -> Vec<Record> {
@@ -25,55 +27,56 @@ impl List {
         self.call(&Call::Frame { at: 0, calls, room: records::WORDS * room });
     }
 
-    // A frame with just the room that is due, and the store after it.
+    // A frame with just the room that is due, and the worlds after it.
     fn play(&mut self, asked: &[Record]) {
         self.frame(asked, asked.len());
-        self.show(0);
+        self.show_all(0);
     }
 }
 
-// Every kind of call, some of them refused in a store of capacity 2.
-fn every_kind() -> Vec<Record> {
-    of(&format!(
-        "set 0 i2 e8 1
-        set 0 i10 i14 1
-        set 0 i12 i12 0
-        get 0 7
-        get 0 8
-        run_at 0 4
-        run_at 0 9
-        run_at 0 {M}
-        find 0 i4 u 0
-        find 0 i2 e8 0
-        count 0 u u 1
-        count 0 e2 e12 0
-        select 0 i4 e12 1 5
-        select 0 i4 e12 1 6
-        count_ranges 0 i4 e12 1
-        ranges 0 i4 e12 0
-        ranges 0 i9 i4 1
-        draw_front 0 4 11 1
-        draw_back 0 4 11 1
-        draw_front 0 15 {M} 1
-        draw_back 0 5 4 0
-        fill 0 0 3
-        fill 0 {M} 2
-        fill 0 0 0
-        flip 0 i4 e6
-        flip 0 i8 i9
-        shift 0 3 0
-        shift 0 {HALF} 1
-        count 0 u u 1
-        flip 0 u u
-        new 0
-        set 0 u u 1
-        count 0 u u 1
-        set 0 i1 i{} 0
-        shift 0 1 1
-        set 0 e{M} u 1
-        count 0 u u 1",
+// Every kind of call on a world, some of them refused where it has room for two runs.
+fn every_kind(world: u64) -> Vec<Record> {
+    let lines = format!(
+        "set AT i2 e8 1
+        set AT i10 i14 1
+        set AT i12 i12 0
+        get AT 7
+        get AT 8
+        run_at AT 4
+        run_at AT 9
+        run_at AT {M}
+        find AT i4 u 0
+        find AT i2 e8 0
+        count AT u u 1
+        count AT e2 e12 0
+        select AT i4 e12 1 5
+        select AT i4 e12 1 6
+        count_ranges AT i4 e12 1
+        ranges AT i4 e12 0
+        ranges AT i9 i4 1
+        draw_front AT 4 11 1
+        draw_back AT 4 11 1
+        draw_front AT 15 {M} 1
+        draw_back AT 5 4 0
+        fill AT 0 3
+        fill AT {M} 2
+        fill AT 0 0
+        flip AT i4 e6
+        flip AT i8 i9
+        shift AT 3 0
+        shift AT {HALF} 1
+        count AT u u 1
+        flip AT u u
+        build AT 0
+        set AT u u 1
+        count AT u u 1
+        set AT i1 i{} 0
+        shift AT 1 1
+        set AT e{M} u 1
+        count AT u u 1",
         M - 1
-    ))
+    );
+    of(&lines.replace("AT", &format!("0/{world}")))
 }
 
 // Words where a record has a kind, a value or a number: what none of the rules names means something too.
@@ -90,48 +93,72 @@ fn odd_records() -> Vec<Record> {
     }
     // Truths, and words that are not read.
     for truth in [0, 1, 2, 256, HALF, M] {
-        all.push([2, 1, 20, 2, 22, truth, M, 1]);
-        all.push([10, 1, 20, 2, 22, truth, 3, M]);
-        all.push([11, 2, 0, 3, M, truth, 1, 1]);
-        all.push([4, 1, 1, 1, 1, truth, 1, 1]);
+        all.push([2, 1, 20, 2, 22, truth, M, 0]);
+        all.push([10, 1, 20, 2, 22, truth, 3, 0]);
+        all.push([11, 2, 0, 3, M, truth, 1, 0]);
+        all.push([4, 1, 1, 1, 1, truth, 1, 0]);
     }
     all
+}
+
+// Every number with a world that is not opened, and one that empties a world after all of them.
+fn strangers() -> Vec<Record> {
+    let worlds = [3, 15, 16, 1 << 32, M];
+    let of_number = |number: u64| [number, 1, 4, 1, 0, 1, 0, worlds[number as usize % worlds.len()]];
+    (0..=records::LAST + 1).map(of_number).chain([[1, 0, 0, 0, 0, 0, 0, 1]]).collect()
 }
 
 /// The list.
 pub fn list() -> List {
     let mut list = List::new("frames");
-    // 1: no words at all, then 24 of them. 7: no sound store. Each before 2, and of an empty frame too.
-    for lent in ["", "words 0 0", "words 0 2", "build 0 1 2 7\nspoil 0"] {
+    // 1: no words at all, then those of capacity 0. 7: no sound pool. Each before 2, before 12, and of an empty frame too.
+    for lent in ["", "words 0 0", "words 0 4", "new 0 3 1 4 0 4 1 1\nbuild 0/1 1 2 7\nspoil 0"] {
         list.say(lent);
-        list.frame(&of("new 0\nset 0 u u 1"), 2);
-        list.frame(&of("get 0 0"), 0);
+        list.frame(&of("build 0/1 0\nset 0/2 u u 1"), 2);
+        list.frame(&of("get 0/3 0"), 0);
         list.frame(&[], 0);
     }
     // 2: room for fewer. More room than is due is as good.
-    list.say("build 0 1 2 7");
+    list.say("new 0 3 1 4 0 4 1 1\nbuild 0/1 1 2 7");
     for room in 0..=3 {
-        list.frame(&of("set 0 i4 i4 0\nset 0 i9 i9 1"), room);
-        list.show(0);
+        list.frame(&of("set 0/1 i4 i4 0\nset 0/2 i9 i9 1"), room);
+        list.show_all(0);
     }
     list.frame(&[], 0);
     list.frame(&[], CALLS);
-    list.play(&every_kind());
-    list.say("words 0 3\nbuild 0 1 2 7");
+    // 12 stands in the answer of a record, and the next one follows.
+    list.play(&strangers());
+    list.say("words 0 2\nnew 0 1 0 2");
+    list.play(&every_kind(0));
+    list.say("words 0 3\nnew 0 1 0 3\nbuild 0/0 1 2 7");
     list.play(&odd_records());
-    // A frame is its calls, one by one: the same in a store beside it.
-    list.store(0, 2, &[[40, 49]]);
-    list.store(1, 2, &[[40, 49]]);
-    for record in every_kind() {
-        list.frame(&[record], 1);
-        list.call(&records::call_of(1, record));
+    // A frame is its calls, one by one, at whichever world: the same in a pool beside it.
+    list.pool(0, 4, &[[2, 2], [0, 4]]);
+    list.pool(1, 4, &[[2, 2], [0, 4]]);
+    for world in [1, 0] {
+        for record in every_kind(world) {
+            list.frame(&[record], 1);
+            list.call(&records::call_of(1, record));
+        }
+        list.say("eq 0/0 1/0\neq 0/1 1/1");
     }
-    list.say("eq 0 1");
+    // Worlds in turn, which take the last runs from each other.
+    list.say("new 0 3 1 4 0 4 1 2");
+    let in_turn = |i: usize| every_kind([2, 0, 1][i % 3])[i / 3];
+    list.play(&(0..CALLS).map(in_turn).collect::<Vec<_>>());
     let mut random = Random::new(0xF4);
-    for (capacity, counts) in
-        [(1, [4, 11, 7]), (2, [9, 1, 12]), (3, [12, 5, 8]), (8, [10, 14, 3]), (64, [2, 20, CALLS])]
+    let pools: [(usize, &[Limit]); 5] = [
+        (1, &[[0, 1]]),
+        (2, &[[0, 2], [0, 2]]),
+        (3, &[[1, 1], [1, 3]]),
+        (8, &[[2, 3], [0, 8], [1, M], [0, 0]]),
+        (64, &[[4, 4]; 16]),
+    ];
+    for ((capacity, limits), counts) in
+        pools.into_iter().zip([[4, 11, 7], [9, 1, 12], [12, 5, 8], [10, 14, 3], [2, 20, CALLS]])
     {
-        list.store(0, capacity, &[[2, 7]]);
+        list.pool(0, capacity, limits);
+        list.build(Place::first(0), &[[2, 7]]);
         for count in counts {
             let asked = chance::listed(&mut random, &list.expected.stores[0], count);
             list.play(&asked);

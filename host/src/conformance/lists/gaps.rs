@@ -2,6 +2,7 @@
 
 use super::{HALF, M};
 use crate::conformance::List;
+use crate::differential::calls::Place;
 use crate::differential::chance::Kind;
 use crate::differential::random::Random;
 use crate::differential::reference::Run;
@@ -9,9 +10,9 @@ use crate::differential::reference::Run;
 /// The list.
 pub fn list() -> List {
     let mut list = List::new("gaps");
-    // 1 and 7 before 9, and 9 before any gap.
-    for made in ["", "words 0 5", "new 0", "spoil 0"] {
-        list.say(&format!("{made}\ngap 0 u u 0\ngap 0 i6 e6 0\ngap 0 u u 1"));
+    // 1, 7 and 12 before 9, and 9 before any gap.
+    for made in ["", "words 0 5", "new 0 2 1 5 1 5", "spoil 0"] {
+        list.say(&format!("{made}\ngap 0/1 u u 0\ngap 0/1 i6 e6 0\ngap 0/1 u u 1\ngap 0/2 u u 0\ngap 0/2 u u 1"));
     }
     let sets: [&[Run]; 9] = [
         &[],
@@ -45,7 +46,7 @@ pub fn list() -> List {
         list.store(0, 5, runs);
         for range in ranges {
             for n in [1, 3, HALF, M] {
-                list.say(&format!("gap 0 {range} {n}"));
+                list.say(&format!("gap 0/0 {range} {n}"));
             }
         }
     }
@@ -54,31 +55,40 @@ pub fn list() -> List {
     list
 }
 
-// Gaps over the place where the positions wrap in memory, which a shift moves, and sets to true where it lies.
+// Gaps over the place where the positions wrap in memory, which a shift moves, and sets to true where it lies; in the second of two
+// worlds, beside one that is full.
 fn shifted(list: &mut List) {
     for (distance, left) in [(1, 1), (5, 1), (HALF, 1), (1, 0), (3, 0), (HALF, 0)] {
-        list.store(0, 5, &[[0, 1], [6, 7], [HALF, HALF + 3], [M - 5, M - 4]]);
-        list.say(&format!("shift 0 {distance} {left}\nset 0 i{0} i{0} 1", M - 1));
+        list.pool(0, 6, &[[0, 1], [5, 5]]);
+        list.say("set 0/0 u u 1");
+        list.build(Place { store: 0, world: 1 }, &[[0, 1], [6, 7], [HALF, HALF + 3], [M - 5, M - 4]]);
+        list.say(&format!("shift 0/1 {distance} {left}\nset 0/1 i{0} i{0} 1", M - 1));
         for range in ["u u", "i0 i14", "i2 i9", &format!("i{} u", M - 9), &format!("i{} i{}", HALF - 9, HALF + 9)] {
             for n in [1, 2, 3, 4, 5, 9, HALF - 4] {
-                list.say(&format!("gap 0 {range} {n}"));
+                list.say(&format!("gap 0/1 {range} {n}"));
             }
         }
     }
 }
 
-// Ranges and lengths by chance, in stores that change between.
+// Ranges and lengths by chance, in worlds that change between.
 fn chances(list: &mut List) {
     let mut random = Random::new(0x6A);
     for capacity in [2, 5, 12, 64] {
         let runs: Vec<Run> = (0..capacity as u64 / 2).map(|i| [20 * i + 3, 20 * i + 4 + random.below(12)]).collect();
-        list.store(0, capacity, &runs);
+        // Two worlds, each with a part of them.
+        let most = capacity as u64;
+        list.pool(0, capacity, &[[most / 2, most], [0, most]]);
+        let (some, others) = runs.split_at(runs.len() / 2);
+        list.build(Place::first(0), some);
+        list.build(Place { store: 0, world: 1 }, others);
         for _ in 0..24 {
+            let at = Place { store: 0, world: random.below(2) };
             let kind = random.one_of(&[Kind::Set, Kind::Set, Kind::Flip, Kind::Shift]);
-            list.chance(&mut random, kind, 0);
-            list.chance(&mut random, Kind::Gap, 0);
-            list.chance(&mut random, Kind::Gap, 0);
+            list.chance(&mut random, kind, at);
+            list.chance(&mut random, Kind::Gap, at);
+            list.chance(&mut random, Kind::Gap, at);
         }
-        list.show(0);
+        list.show_all(0);
     }
 }

@@ -1,8 +1,9 @@
-//! Random histories of all calls.
+//! Random histories of all calls, in pools of one world and of several.
 
 use super::M;
 use crate::conformance::{List, fits};
-use crate::differential::chance::Wander;
+use crate::differential::calls::Place;
+use crate::differential::chance::{self, Wander};
 use crate::differential::random::Random;
 use crate::differential::reference::Run;
 
@@ -18,7 +19,16 @@ pub fn list() -> List {
                 .map(|i| 2 * i * step)
                 .map(|start| [start, start + random.below(step)])
                 .collect();
-            list.store(at, capacity, &runs);
+            // The first is of one world; a world of the others may have room for fewer runs.
+            if at == 0 {
+                list.store(at, capacity, &runs);
+            } else {
+                let limits = chance::limits(&mut random, capacity);
+                list.pool(at, capacity, &limits);
+                for (world, some) in runs.chunks(capacity.div_ceil(limits.len())).enumerate() {
+                    list.build(Place { store: at, world: world as u64 }, some);
+                }
+            }
         }
         let mut history = Wander::default();
         for _ in 0..200 {

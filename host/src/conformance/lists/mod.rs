@@ -11,6 +11,7 @@ mod listings;
 mod long;
 mod refusals;
 mod shifts;
+mod worlds;
 
 use super::List;
 use crate::differential::{HALF, M};
@@ -28,6 +29,7 @@ pub fn all() -> Vec<List> {
         capacity::list(),
         frames::list(),
         gaps::list(),
+        worlds::list(),
         long::list(),
     ]
 }

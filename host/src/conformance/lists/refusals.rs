@@ -3,11 +3,13 @@
 use super::{HALF, M};
 use crate::conformance::List;
 use crate::conformance::text::digits;
-use crate::differential::calls::Call;
+use crate::differential::calls::{Call, Place};
 use crate::differential::reference::{self, Run};
 
-// Calls that read store s, with two others.
-fn reading(s: usize, t: usize, u: usize) -> String {
+const HERE: Place = Place::first(0);
+
+// Calls on world s, with two others.
+fn calls(s: &str, t: &str, u: &str) -> String {
     format!(
         "set {s} i4 e6 1
         flip {s} i4 e6
@@ -32,59 +34,79 @@ fn reading(s: usize, t: usize, u: usize) -> String {
         eq {s} {t}
         eq {t} {s}
         eq {s} {s}
+        load {s} 0100000000
+        build {s} 1 3 4
+        shifted {s} {t} 1 1
         shifted {t} {s} 1 1
+        not {s} {t}
         not {t} {s}
+        combine {s} and {t} {u}
         combine {t} and {s} {u}
         combine {t} or {u} {s}
         combine {t} xor {s} {s}"
     )
 }
 
-// Calls that make store s anew, with two others.
-fn making(s: usize, t: usize, u: usize) -> [String; 6] {
-    [
-        format!("new {s}"),
-        format!("load {s} 0100000000"),
-        format!("build {s} 1 3 4"),
-        format!("not {s} {t}"),
-        format!("shifted {s} {t} 1 1"),
-        format!("combine {s} and {t} {u}"),
-    ]
-}
+// Calls whose other arguments are refused too, in a world of one run.
+const WRONG: &str = "
+    load AT -
+    load AT 02
+    load AT 0200000000
+    load AT 010000000100000000000000040000000000000003
+    load AT 01000000020000000000000002000000000000000300000000000000080000000000000009
+    build AT 1 4 3
+    build AT 2 2 3 4 5
+    build AT 2 2 3 5 6
+    read_map AT 0 0 -
+    read_map AT 0 7 80
+    read_map AT 0 8 55
+    fill AT 0 0
+    write_set AT 0
+    write_map AT 0 0 0
+    write_map AT 0 8 0
+    gap AT u u 0
+    set AT i4 e6 0";
 
-// What a store is made before a call: of a length that is none, not sound, or sound.
-const STATES: [&str; 3] = ["words S 0", "words S 2", "words S 2\nbuild S 1 3 9"];
+// What a world is before a call: in a store of no capacity, in one that is not sound, not opened, or there.
+const STATES: [&str; 4] =
+    ["words S 0", "words S 2", "words S 2\nnew S 1 0 2", "words S 2\nnew S 2 0 1 0 2\nbuild S/1 1 3 9"];
 
 /// The list.
 pub fn list() -> List {
     let mut list = List::new("refusals");
-    list.say("words 1 3\nbuild 1 1 3 9\nwords 2 3\nbuild 2 1 6 12");
-    // 1: no words at all, then 24 of them.
-    for lent in ["", "words 0 0"] {
+    list.say("words 1 4\nnew 1 1 0 4\nbuild 1/0 1 3 9\nwords 2 3\nnew 2 2 1 1 0 3\nbuild 2/1 1 6 12");
+    // 1: no words at all, then those of capacity 0. 7: words that are all 0, then a sound pool with a header word set.
+    for lent in ["", "words 0 0", "words 0 3", "new 0 1 0 3\nbuild 0/0 2 2 7 10 14\nspoil 0"] {
         list.say(lent);
-        list.say(&reading(0, 1, 2));
-        making(0, 1, 2).iter().for_each(|line| list.say(line));
+        list.say(&calls("0/0", "1/0", "2/1"));
     }
-    // 7: words that are all 0, then a sound store with its spare word set. What makes a store anew makes no soundness check of it.
-    for lent in ["words 0 3", "build 0 2 2 7 10 14\nspoil 0"] {
-        list.say(lent);
-        list.say(&reading(0, 1, 2));
-        for line in making(0, 1, 2) {
-            list.say(&line);
-            list.show(0);
-            list.say("spoil 0\nget 0 5");
+    // 12: of a pool of three worlds, then of 16.
+    let (sixteen, last) = (format!("16{}", " 0 3".repeat(16)), format!("0/{M}"));
+    for (made, worlds) in [("3 0 3 0 3 0 3", ["0/3", "0/15", "0/16"]), (&sixteen, ["0/16", "0/4294967296", &last])] {
+        list.say(&format!("new 0 {made}"));
+        for world in worlds {
+            list.say(&calls(world, "1/0", "2/1"));
         }
     }
-    // 1 of any store before 7 of any.
-    for which in 0..27 {
-        let states = [which / 9, which / 3 % 3, which % 3];
+    // Making a pool reads nothing of it but its length.
+    for lent in ["", "spoil 0", "words 0 3", "words 0 0"] {
+        list.say(&format!("{lent}\nnew 0 1 0 3\nget 0/0 5\nget 0/1 5"));
+    }
+    // 1 of any store before 7 of any, and that before 12 of any world.
+    for which in 0..64 {
+        let states = [which / 16, which / 4 % 4, which % 4];
         for (at, state) in states.iter().enumerate() {
             list.say(&STATES[*state].replace('S', &at.to_string()));
         }
-        list.say("combine 0 or 1 2");
-        if states[2] == 2 {
-            list.say("eq 0 1\nnot 0 1\nshifted 0 1 3 1");
+        list.say("combine 0/1 or 1/1 2/1");
+        if states[2] == 3 {
+            list.say("eq 0/1 1/1\nnot 0/1 1/1\nshifted 0/1 1/1 3 1");
         }
+    }
+    // Each of 1, 7 and 12 before any other.
+    for lent in ["words 1 0", "words 1 1", "new 1 1 0 1"] {
+        list.say(lent);
+        list.say(&WRONG.replace("AT", "1/1"));
     }
     windows_refused(&mut list);
     bytes_refused(&mut list);
@@ -93,60 +115,37 @@ pub fn list() -> List {
         "
         # 2
         words 0 2
-        build 0 2 2 3 8 9
-        write_set 0 0
-        write_set 0 4
-        write_set 0 5
-        write_set 0 36
-        write_set 0 37
-        write_map 0 0 8 0
-        write_map 0 0 8 1
-        write_map 0 0 9 1
-        write_map 0 0 9 2
-        write_map 0 0 524288 1029
-        new 0
-        write_set 0 4
-        write_set 0 5
-        # 1 before any other
-        words 1 0
-        load 1 -
-        load 1 02
-        load 1 0200000000
-        load 1 010000000100000000000000040000000000000003
-        build 1 1 4 3
-        build 1 2 2 3 4 5
-        read_map 1 0 0 -
-        read_map 1 0 7 80
-        fill 1 0 0
-        write_set 1 0
-        write_map 1 0 0 0
-        write_map 1 0 8 0
-        gap 1 u u 0
-        # 7 before any other
-        words 1 1
-        read_map 1 0 0 -
-        read_map 1 0 7 80
-        read_map 1 0 8 55
-        fill 1 0 0
-        write_set 1 0
-        write_map 1 0 0 0
-        write_map 1 0 8 0
-        gap 1 u u 0
-        set 1 i4 e6 0
+        new 0 1 0 2
+        build 0/0 2 2 3 8 9
+        write_set 0/0 0
+        write_set 0/0 4
+        write_set 0/0 5
+        write_set 0/0 36
+        write_set 0/0 37
+        write_map 0/0 0 8 0
+        write_map 0/0 0 8 1
+        write_map 0/0 0 9 1
+        write_map 0/0 0 9 2
+        write_map 0/0 0 524288 1029
+        build 0/0 0
+        write_set 0/0 4
+        write_set 0/0 5
         # 9
-        build 1 1 2 7
-        gap 1 u u 0
-        gap 1 i4 e4 0
-        gap 1 i2 i7 1
+        words 1 1
+        new 1 1 0 1
+        build 1/0 1 2 7
+        gap 1/0 u u 0
+        gap 1/0 i4 e4 0
+        gap 1/0 i2 i7 1
         # 10, after 6 and before 8
-        read_map 1 0 7 ff
-        read_map 1 0 7 80
-        read_map 1 0 7 d5
-        read_map 1 0 7 55
-        read_map 1 0 9 fffe
-        read_map 1 0 7 ffff
-        read_map 1 0 15 ff
-        read_map 1 18446744073709551615 7 ff
+        read_map 1/0 0 7 ff
+        read_map 1/0 0 7 80
+        read_map 1/0 0 7 d5
+        read_map 1/0 0 7 55
+        read_map 1/0 0 9 fffe
+        read_map 1/0 0 7 ffff
+        read_map 1/0 0 15 ff
+        read_map 1/0 18446744073709551615 7 ff
         # Clearing is refused with 6 alone, and then no byte changes.
         clear_map 0 0 -
         clear_map 0 0 ff
@@ -159,20 +158,20 @@ pub fn list() -> List {
         clear_map 0 8 ff
         clear_map 0 9 ffff
         # 6 before 8 and 2
-        read_map 1 0 8 5555
-        read_map 1 0 0 55
-        write_map 1 0 0 0
-        write_map 1 0 524289 0
+        read_map 1/0 0 8 5555
+        read_map 1/0 0 0 55
+        write_map 1/0 0 0 0
+        write_map 1/0 0 524289 0
         # 3 of fewer than 5 bytes before 4, 4 before 3, 3 before 5, 5 before 8
-        load 1 02
-        load 1 02000000
-        load 1 0200000000ff
-        load 1 020000000200000000000000040000000000000003
-        load 1 010000000200000000000000040000000000000003
-        load 1 0100000002000000000000000400000000000000050000000000000006000000000000000a
-        build 1 2 4 5 6 10
-        build 1 3 0 0 2 2 3 9
-        write_set 1 21
+        load 1/0 02
+        load 1/0 02000000
+        load 1/0 0200000000ff
+        load 1/0 020000000200000000000000040000000000000003
+        load 1/0 010000000200000000000000040000000000000003
+        load 1/0 0100000002000000000000000400000000000000050000000000000006000000000000000a
+        build 1/0 2 4 5 6 10
+        build 1/0 3 0 0 2 2 3 9
+        write_set 1/0 21
         ",
     );
     list
@@ -180,7 +179,7 @@ pub fn list() -> List {
 
 // 6, and windows that are just good enough.
 fn windows_refused(list: &mut List) {
-    list.say("words 0 3\nbuild 0 1 3 9");
+    list.store(0, 3, &[[3, 9]]);
     for (base, n) in [
         (0, 0),
         (M, 0),
@@ -198,29 +197,29 @@ fn windows_refused(list: &mut List) {
         (M, 2),
         (M, M),
     ] {
-        list.say(&format!("fill 0 {base} {n}\nwrite_map 0 {base} {n} 2\nread_map 0 {base} {n} 00"));
+        list.say(&format!("fill 0/0 {base} {n}\nwrite_map 0/0 {base} {n} 2\nread_map 0/0 {base} {n} 00"));
     }
     for (n, length) in [(8, 0), (8, 2), (9, 1), (9, 3), (16, 1), (17, 2), (1, 0), (1, 2), (524_288, 4)] {
-        list.say(&format!("read_map 0 0 {n} {}", digits(&vec![0xFF; length])));
+        list.say(&format!("read_map 0/0 0 {n} {}", digits(&vec![0xFF; length])));
     }
-    list.show(0);
+    list.show(HERE);
 }
 
 // 3, 4 and 5: written sets and run lists.
 fn bytes_refused(list: &mut List) {
-    list.say("words 0 3\nbuild 0 1 3 9");
+    list.store(0, 3, &[[3, 9]]);
     let written = reference::encode(&[[2, 3], [8, 9]]);
     for length in [0, 1, 4, 5, 6, 20, 21, 22, 36] {
-        list.call(&Call::Load { to: 0, bytes: written[..length].to_vec() });
+        list.call(&Call::Load { to: HERE, bytes: written[..length].to_vec() });
     }
     let longer = |more: usize| [&written[..], &vec![0; more]].concat();
     for more in [1, 15, 16] {
-        list.call(&Call::Load { to: 0, bytes: longer(more) });
+        list.call(&Call::Load { to: HERE, bytes: longer(more) });
     }
     for (at, byte) in [(0, 0), (0, 2), (0, 255), (1, 1), (2, 1), (3, 1), (4, 0), (4, 1), (4, 3)] {
         let mut bytes = written.clone();
         bytes[at] = byte;
-        list.call(&Call::Load { to: 0, bytes });
+        list.call(&Call::Load { to: HERE, bytes });
     }
     let wrong: [&[Run]; 10] = [
         &[[4, 3]],
@@ -235,32 +234,45 @@ fn bytes_refused(list: &mut List) {
         &[[0, 0], [2, 2], [3, 3]],
     ];
     for runs in wrong {
-        list.call(&Call::Build { to: 0, runs: runs.to_vec() });
-        list.call(&Call::Load { to: 0, bytes: reference::encode(runs) });
+        list.call(&Call::Build { to: HERE, runs: runs.to_vec() });
+        list.call(&Call::Load { to: HERE, bytes: reference::encode(runs) });
     }
-    list.show(0);
+    list.show(HERE);
 }
 
-// 8 by every call that may make too many runs, and the same with room for one more.
+// 8 by every call that may make too many runs, and the same with room for one more: by the capacity, by the ceiling, and by what the
+// floor or the runs of another world leave.
 fn full(list: &mut List) {
-    list.say("words 1 2\nbuild 1 1 2 7\nwords 2 2\nbuild 2 1 4 5\nwords 3 2\nbuild 3 2 0 1 20 21");
-    for call in [
-        "set 0 i4 i5 0",
-        "set 0 i9 u 1",
-        "flip 0 i9 i10",
-        "flip 0 i4 i5",
-        "read_map 0 0 8 41",
-        "load 0 01000000020000000000000002000000000000000300000000000000080000000000000009",
-        "build 0 2 2 3 8 9",
-        "combine 0 xor 1 2",
-        "combine 0 or 3 3",
-        "combine 0 and 3 3",
-        "not 0 2",
-        "shifted 0 3 1 1",
-    ] {
-        for capacity in [1, 2] {
-            list.say(&format!("words 0 {capacity}\nbuild 0 1 2 7\n{call}"));
-            list.show(0);
+    list.store(1, 2, &[[2, 7]]);
+    list.store(2, 2, &[[4, 5]]);
+    list.store(3, 2, &[[0, 1], [20, 21]]);
+    let rooms = [
+        ["words 0 1\nnew 0 1 0 1", "words 0 2\nnew 0 1 0 2"],
+        ["words 0 8\nnew 0 2 0 1 2 8", "words 0 8\nnew 0 2 0 2 2 8"],
+        ["words 0 4\nnew 0 2 0 4 3 4", "words 0 4\nnew 0 2 1 4 2 4"],
+        ["words 0 3\nnew 0 2 0 3 0 3\nbuild 0/1 2 0 0 9 9", "words 0 3\nnew 0 2 2 2 0 3\nbuild 0/1 1 0 9"],
+    ];
+    for (i, call) in [
+        "set 0/0 i4 i5 0",
+        "set 0/0 i9 u 1",
+        "flip 0/0 i9 i10",
+        "flip 0/0 i4 i5",
+        "read_map 0/0 0 8 41",
+        "load 0/0 01000000020000000000000002000000000000000300000000000000080000000000000009",
+        "build 0/0 2 2 3 8 9",
+        "combine 0/0 xor 1/0 2/0",
+        "combine 0/0 or 3/0 3/0",
+        "combine 0/0 and 3/0 3/0",
+        "not 0/0 2/0",
+        "shifted 0/0 3/0 1 1",
+    ]
+    .into_iter()
+    .enumerate()
+    {
+        // By the capacity each, by the others in turn.
+        for made in [rooms[0], rooms[1 + i % 3]].as_flattened() {
+            list.say(&format!("{made}\nbuild 0/0 1 2 7\n{call}"));
+            list.show_all(0);
         }
     }
 }

@@ -2,6 +2,7 @@
 
 use super::{HALF, M};
 use crate::conformance::List;
+use crate::differential::calls::Place;
 use crate::differential::chance::Kind;
 use crate::differential::random::Random;
 use crate::differential::reference::Run;
@@ -18,18 +19,21 @@ pub fn list() -> List {
         &[[1, HALF - 1], [HALF + 1, M - 1]],
     ];
     for runs in sets {
+        // Within a world, into another one of its pool, and into one of another pool.
         list.store(2, 3, runs);
-        list.say("words 0 3\nwords 1 3");
+        list.pool(0, 9, &[[3, 3], [0, 3], [3, 6]]);
         for distance in [0, 1, 63, 64, HALF, M] {
             for left in 0..2 {
                 list.say(&format!(
-                    "shifted 1 2 {distance} {left}
-                    shifted 0 2 0 1
-                    shift 0 {distance} {left}
-                    eq 0 1"
+                    "shifted 0/2 2/0 0 1
+                    shifted 0/1 0/2 {distance} {left}
+                    shifted 0/0 2/0 {distance} {left}
+                    shift 0/2 {distance} {left}
+                    eq 0/0 0/1
+                    eq 0/0 0/2"
                 ));
-                list.show(0);
-                list.say(&format!("run_at 0 0\ncount_ranges 0 u u 0\nflip 0 i{} u\nrun_at 0 {M}", M - 1));
+                list.show(Place::first(0));
+                list.say(&format!("run_at 0/2 0\ncount_ranges 0/2 u u 0\nflip 0/2 i{} u\nrun_at 0/2 {M}", M - 1));
             }
         }
     }
@@ -37,16 +41,20 @@ pub fn list() -> List {
     let kinds =
         [Kind::Shift, Kind::Shift, Kind::Set, Kind::Flip, Kind::RunAt, Kind::CountRanges, Kind::Select, Kind::Shifted];
     for capacity in [2, 5] {
-        for (at, runs) in [[5, 9], [0, M], [0, 0], [M, M]].into_iter().enumerate() {
-            list.store(at, capacity, &[runs]);
+        let most = capacity as u64;
+        list.pool(3, capacity, &[[0, most]]);
+        list.pool(0, 2 * capacity, &[[most, most], [1, 2 * most]]);
+        list.pool(1, 2 * capacity, &[[most, most], [1, 2 * most]]);
+        for (i, runs) in [[5, 9], [0, M], [0, 0], [M, M]].into_iter().enumerate() {
+            list.build(Place { store: i / 2, world: i as u64 % 2 }, &[runs]);
         }
         for _ in 0..50 {
             let kind = random.one_of(&kinds);
-            let at = random.below(2) as usize;
+            let at = Place { store: random.below(2) as usize, world: random.below(2) };
             list.chance(&mut random, kind, at);
         }
-        list.show(0);
-        list.show(1);
+        list.show_all(0);
+        list.show_all(1);
     }
     list
 }

@@ -1,23 +1,31 @@
 -- `flip` meets its contract: the range is inverted from its first position to its last, an empty one changes nothing. Assumes nothing.
 use mathlib.Core.Path.{refl}
-use Rattle.core.proofs.Spans.{span-none, span-some}
-use Rattle.core.proofs.Changing.{left-so, open-editable, fit-full, fit-closing, fit-done, flip-within, flip-none, flip-says}
+use Rattle.core.proofs.Spans.{Within, span-none, span-some}
+use Rattle.core.proofs.Doors.{nodes-there, lent-editable}
+use Rattle.core.proofs.Changing.{left-so, fit-full, fit-closing, fit-done, flip-within, flip-none, flip-says}
 use borrow.Author.Needs.{needs}
 use Rattle.core.proofs.change.flip.Statement.{statement}
 use Rattle.core.proofs.change.flip.Tie as tie
 
--- the places that the needs look back to
+-- the places that the needs look back to: the start, where the range is known, the world open, its limit told, and the world edited
 abbrev start : tie.After-s → tie.Start
 start c = c .before .before .before .before
 
-abbrev after-s : tie.After-open → tie.After-s
-after-s c = c .before .before .before
+abbrev ranged : tie.After-open → tie.After-s
+ranged c = c .before .before .before
 
-abbrev after-open : tie.After-allowance → tie.After-open
-after-open c = c .before .before .before
+abbrev opened : tie.After-allowance → tie.After-open
+opened c = c .before .before
 
-abbrev after-flip : tie.After-slice-known2 → tie.After-flip
-after-flip c = c .before .before
+abbrev limited : tie.After-flip → tie.After-allowance
+limited c = c .before .before
+
+abbrev edited : tie.After-e → tie.After-flip
+edited c = c .before .before .before .before
+
+-- the positions of the range
+within : (r : tie.After-s) → Within (start r .args .lower) (start r .args .upper) (r .s .given .0 .0) (r .s .given .0 .1 .0)
+within r = span-some (start r .args .lower) (start r .args .upper) _ (r .before .before .normalize .ensures) (r .s .given .1)
 
 normalize-requires : tie.Need-normalize-requires
 normalize-requires c κs = search needs
@@ -29,18 +37,25 @@ enum-known-s : tie.Need-enum-known-s
 enum-known-s c = search needs
 
 open-requires : tie.Need-open-requires
-open-requires c κs = start (c .before .before) .pre .sound
+open-requires c κs = start (c .before .before) .pre .openable
 
 allowance-requires : tie.Need-allowance-requires
-allowance-requires c κs = search needs
+allowance-requires c κs = start (ranged (c .before)) .pre .openable
+
+sub-flip : tie.Need-sub-flip
+sub-flip c = nodes-there (start (ranged (opened c)) .pre .openable)
+
+part-flip-start : tie.Need-part-flip-start
+part-flip-start c = nodes-there (start (ranged (opened c)) .pre .openable)
+
+part-flip-end : tie.Need-part-flip-end
+part-flip-end c = search needs
 
 flip-requires : tie.Need-flip-requires
 flip-requires c κs =
-    let s = after-s (after-open c) in
-    let st = start s in (
-      open-editable (st .pre) (after-open c .«open» .ensures) (c .allowance .ensures),
-      (span-some (st .args .lower) (st .args .upper) _ (s .before .before .normalize .ensures) (s .s .given .1)) .order,
-    )
+    let l = c .before in
+    let o = opened l in
+    (lent-editable (o .«open» .ensures) (l .allowance .ensures), (within (ranged o)) .order)
 
 enum-told-2 : tie.Need-enum-told-2
 enum-told-2 c = search needs
@@ -50,42 +65,40 @@ enum-known-e c = search needs
 
 close-requires : tie.Need-close-requires
 close-requires c κs =
-    let f = after-flip (c .before .before .before .before) in
-    let o = after-open (f .before) in
-    (_, _, fit-closing (start (after-s o) .pre) (o .«open» .ensures) (f .before .allowance .ensures) _ (f .flip .ensures) (c .before .before .e .given .1))
+    let s = edited (c .before .before) in
+    let l = limited s in
+    let o = opened l in
+    (_, _, fit-closing (start (ranged o) .pre) (o .«open» .ensures) (l .allowance .ensures) _ _ (s .flip .ensures) (c .before .before .e .given .1))
 
 returns : tie.Need-returns
 returns c =
     let s = c .before .before .before .before in
-    left-so (flip-says _ _ _) refl (s .pre) (flip-none _ _ _ (span-none (s .args .lower) (s .args .upper) _ (c .before .before .normalize .ensures) (c .enum-told .given .1))) refl
+    let e = span-none (s .args .lower) (s .args .upper) _ (c .before .before .normalize .ensures) (c .enum-told .given .1) in
+    left-so (flip-says _ _ _ _) (s .pre) refl (flip-none _ _ _ e) refl
 
 same-length : tie.Need-same-length
 same-length c = search needs
 
 returns-2 : tie.Need-returns-2
 returns-2 c =
-    let f = after-flip (c .before .before) in
-    let o = after-open (f .before) in
-    let s = after-s o in
-    let st = start s in
-    fit-full (flip-says _ _ _) refl (st .pre) (o .«open» .ensures)
-    (flip-within (span-some (st .args .lower) (st .args .upper) _ (s .before .before .normalize .ensures) (s .s .given .1)) (o .«open» .ensures))
-    (f .before .allowance .ensures) _ (f .flip .ensures) (c .enum-told2 .given .1)
+    let s = c .before .before .before .before in
+    let l = limited s in
+    let o = opened l in
+    fit-full (flip-says _ _ _ _) refl (start (ranged o) .pre) (o .«open» .ensures) (flip-within (within (ranged o)) (o .«open» .ensures)) (l .allowance .ensures)
+    _ _ (s .flip .ensures) (c .enum-told2 .given .1)
 
 same-length-2 : tie.Need-same-length-2
 same-length-2 c = search needs
 
 returns-3 : tie.Need-returns-3
 returns-3 c =
-    let cl = c .before .before in
-    let e = cl .before .before .before in
-    let f = after-flip (e .before .before) in
-    let o = after-open (f .before) in
-    let s = after-s o in
-    let st = start s in
-    fit-done (flip-says _ _ _) refl (st .pre) (o .«open» .ensures)
-    (flip-within (span-some (st .args .lower) (st .args .upper) _ (s .before .before .normalize .ensures) (s .s .given .1)) (o .«open» .ensures))
-    (f .before .allowance .ensures) _ (f .flip .ensures) (e .e .given .1) (cl .close .ensures) refl
+    let k = c .before .before in
+    let e = k .before .before .before in
+    let s = edited e in
+    let l = limited s in
+    let o = opened l in
+    fit-done (flip-says _ _ _ _) refl (start (ranged o) .pre) (o .«open» .ensures) (flip-within (within (ranged o)) (o .«open» .ensures)) (l .allowance .ensures)
+    _ _ (s .flip .ensures) (e .e .given .1) (k .close .ensures) refl
 
 pub flip-spec : {M : Type 1} → statement M
 flip-spec =
@@ -96,6 +109,9 @@ flip-spec =
     enum-known-s
     open-requires
     allowance-requires
+    sub-flip
+    part-flip-start
+    part-flip-end
     flip-requires
     enum-told-2
     enum-known-e

@@ -1,12 +1,11 @@
--- `view` meets its contract: the world of a sound store stands in it, so it can be read from its root.
+-- `view` meets its contract: an opened world stands in the nodes of its pool, so it can be read from its root.
 -- Assumes nothing.
 use Rattle.streams.proofs.Starts.{standing-rooted}
-use borrow.Author.Needs.{needs}
 use Rattle.core.proofs.join.view.Statement.{statement}
 use Rattle.core.proofs.join.view.Tie as tie
 
 open-requires : tie.Need-open-requires
-open-requires c κs = search needs
+open-requires c κs = c .before .pre .openable
 
 returns : tie.Need-returns
 returns c = record { rooted = standing-rooted (c .«open» .ensures .limited .standing); held = c .«open» .ensures .held }

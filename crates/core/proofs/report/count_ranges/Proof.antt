@@ -4,7 +4,7 @@ use mathlib.Core.Path.{refl, ap}
 use Rattle.model.specs.Positions.{countRanges}
 use Rattle.core.proofs.Spans.{Within, span-none, span-some, of-range, ranges-nothing}
 use Rattle.model.specs.Call.{number}
-use Rattle.core.proofs.Changing.{open-stands}
+use Rattle.core.proofs.Doors.{nodes-there, lent-stands}
 use Rattle.core.proofs.Meeting.{met, met-in, count-ranges-says}
 use borrow.Author.Needs.{needs}
 use Rattle.core.proofs.report.count_ranges.Statement.{statement}
@@ -28,26 +28,47 @@ enum-known-s : tie.Need-enum-known-s
 enum-known-s c = search needs
 
 open-requires : tie.Need-open-requires
-open-requires c κs = (start (c .before)) .pre .sound
+open-requires c κs = (start (c .before)) .pre .openable
+
+sub-tally : tie.Need-sub-tally
+sub-tally c = nodes-there ((start (c .before .before)) .pre .openable)
+
+part-tally-start : tie.Need-part-tally-start
+part-tally-start c = nodes-there ((start (c .before .before)) .pre .openable)
+
+part-tally-end : tie.Need-part-tally-end
+part-tally-end c = search needs
 
 tally-requires : tie.Need-tally-requires
 tally-requires c κs =
-    let r = c .before .before in
-    (open-stands ((start r) .pre) (c .«open» .ensures), (within r) .order)
+    let o = c .before in
+    let r = o .before .before in
+    (lent-stands (o .«open» .ensures), (within r) .order)
 
 returns : tie.Need-returns
 returns c =
     let b = c .before .before .before .before in
     let e = span-none (b .args .lower) (b .args .upper) _ (c .before .before .normalize .ensures) (c .enum-told .given .1) in
-    met (count-ranges-says _ _ _ _) (b .pre) refl (ap number (ranges-nothing _ _ _ _ e))
+    met (count-ranges-says _ _ _ _ _) (b .pre) refl (ap number (ranges-nothing _ _ _ _ e))
 
 returns-2 : tie.Need-returns-2
 returns-2 c =
-    let o = c .before in
+    let o = c .before .before in
     let r = o .before .before in
-    met-in (count-ranges-says _ _ _ _) ((start r) .pre) (o .«open» .ensures) refl
+    met-in (count-ranges-says _ _ _ _ _) ((start r) .pre) (o .«open» .ensures) refl
     (ap number (of-range (within r) (countRanges _ _) (c .tally .ensures .runs-are)))
 
 pub count-ranges-spec : {M : Type 1} → statement M
 count-ranges-spec =
-    tie.close (tie.spec normalize-requires enum-told enum-known-s open-requires tally-requires returns returns-2)
+    tie.close
+    (tie.spec
+    normalize-requires
+    enum-told
+    enum-known-s
+    open-requires
+    sub-tally
+    part-tally-start
+    part-tally-end
+    tally-requires
+    returns
+    returns-2)

@@ -6,7 +6,7 @@ use native.Mathlib.Omega.{arith}
 use Rattle.model.specs.Refusals.{badWindow}
 use Rattle.model.specs.Call.{number}
 use Rattle.core.proofs.Windows.{fitting, window-refused, window-passes, fill-fits, fill-is, bad-by}
-use Rattle.core.proofs.Changing.{open-stands}
+use Rattle.core.proofs.Doors.{nodes-there, lent-stands}
 use Rattle.core.proofs.Meeting.{refused-by, met-in, fill-says}
 use borrow.Author.Needs.{needs}
 use Rattle.core.proofs.report.fill.Statement.{statement}
@@ -24,34 +24,43 @@ window-fits-requires : tie.Need-window-fits-requires
 window-fits-requires c κs = search needs
 
 returns : tie.Need-returns
-returns c = refused-by (fill-says _ _ _) 6 (c .before .before .before .pre) (window-refused _ _ (bad-by _ _ _ (c .before .window-fits .ensures) (c .if1 .taken)))
+returns c = refused-by (fill-says _ _ _ _) 6 (c .before .before .before .pre) (window-refused _ _ (bad-by _ _ _ (c .before .window-fits .ensures) (c .if1 .taken)))
 
 open-requires : tie.Need-open-requires
-open-requires c κs = (start c) .pre .sound
+open-requires c κs = (start c) .pre .openable
 
-sub-t11 : tie.Need-sub-t11
-sub-t11 c = (fitting _ _ (good (c .before))) .some
+sub-tally : tie.Need-sub-tally
+sub-tally c = nodes-there ((start (c .before)) .pre .openable)
 
-add-t12 : tie.Need-add-t12
-add-t12 c = let f = fitting _ _ (good (c .before)) in omega arith
+part-tally-start : tie.Need-part-tally-start
+part-tally-start c = nodes-there ((start (c .before)) .pre .openable)
+
+part-tally-end : tie.Need-part-tally-end
+part-tally-end c = search needs
+
+sub-t16 : tie.Need-sub-t16
+sub-t16 c = (fitting _ _ (good (c .before .before))) .some
+
+add-t17 : tie.Need-add-t17
+add-t17 c = let f = fitting _ _ (good (c .before .before)) in omega arith
 
 tally-requires : tie.Need-tally-requires
-tally-requires c κs = (open-stands ((start (c .before)) .pre) (c .«open» .ensures), omega arith)
+tally-requires c κs = (lent-stands (c .before .«open» .ensures), omega arith)
 
-mul-t11 : tie.Need-mul-t11
-mul-t11 c =
-    let r = c .before .before .before .before in
+mul-t16 : tie.Need-mul-t16
+mul-t16 c =
+    let r = c .before .before .before .before .before in
     let h = fill-fits _ _ _ _ (fitting _ _ (good r)) (c .before .before .tally .ensures .count-is) in
     omega arith
 
-div-t12 : tie.Need-div-t12
-div-t12 c = (fitting _ _ (good (c .before .before .before .before))) .some
+div-t17 : tie.Need-div-t17
+div-t17 c = (fitting _ _ (good (c .before .before .before .before .before))) .some
 
 returns-2 : tie.Need-returns-2
 returns-2 c =
-    let o = c .before .before .before in
+    let o = c .before .before .before .before in
     let r = o .before in
-    met-in (fill-says _ _ _) ((start r) .pre) (o .«open» .ensures) (window-passes _ _ (good r))
+    met-in (fill-says _ _ _ _) ((start r) .pre) (o .«open» .ensures) (window-passes _ _ (good r))
     (ap number (fill-is _ _ _ _ (fitting _ _ (good r)) (c .before .before .tally .ensures .count-is)))
 
 pub fill-spec : {M : Type 1} → statement M
@@ -61,9 +70,12 @@ fill-spec =
     window-fits-requires
     returns
     open-requires
-    sub-t11
-    add-t12
+    sub-tally
+    part-tally-start
+    part-tally-end
+    sub-t16
+    add-t17
     tally-requires
-    mul-t11
-    div-t12
+    mul-t16
+    div-t17
     returns-2)

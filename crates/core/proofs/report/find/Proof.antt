@@ -4,7 +4,7 @@ use mathlib.Core.Path.{refl, ap}
 use Rattle.model.specs.Positions.{find}
 use Rattle.core.proofs.Spans.{Within, span-none, span-some, of-range, find-nothing, found-as}
 use Rattle.model.specs.Call.{position}
-use Rattle.core.proofs.Changing.{open-stands}
+use Rattle.core.proofs.Doors.{nodes-there, lent-stands}
 use Rattle.core.proofs.Meeting.{met, met-in-as, find-says}
 use borrow.Author.Needs.{needs}
 use Rattle.core.proofs.report.find.Statement.{statement}
@@ -28,12 +28,22 @@ enum-known-s : tie.Need-enum-known-s
 enum-known-s c = search needs
 
 open-requires : tie.Need-open-requires
-open-requires c κs = (start (c .before)) .pre .sound
+open-requires c κs = (start (c .before)) .pre .openable
+
+sub-find-in : tie.Need-sub-find-in
+sub-find-in c = nodes-there ((start (c .before .before)) .pre .openable)
+
+part-find-in-start : tie.Need-part-find-in-start
+part-find-in-start c = nodes-there ((start (c .before .before)) .pre .openable)
+
+part-find-in-end : tie.Need-part-find-in-end
+part-find-in-end c = search needs
 
 find-in-requires : tie.Need-find-in-requires
 find-in-requires c κs =
-    let r = c .before .before in
-    (open-stands ((start r) .pre) (c .«open» .ensures), (within r) .order)
+    let o = c .before in
+    let r = o .before .before in
+    (lent-stands (o .«open» .ensures), (within r) .order)
 
 found-requires : tie.Need-found-requires
 found-requires c κs = search needs
@@ -42,15 +52,27 @@ returns : tie.Need-returns
 returns c =
     let b = c .before .before .before .before in
     let e = span-none (b .args .lower) (b .args .upper) _ (c .before .before .normalize .ensures) (c .enum-told .given .1) in
-    met (find-says _ _ _ _) (b .pre) refl (ap position (find-nothing _ _ _ _ e))
+    met (find-says _ _ _ _ _) (b .pre) refl (ap position (find-nothing _ _ _ _ e))
 
 returns-2 : tie.Need-returns-2
 returns-2 c =
-    let o = c .before .before in
+    let o = c .before .before .before in
     let r = o .before .before in
-    met-in-as (find-says _ _ _ _) ((start r) .pre) (o .«open» .ensures) refl
+    met-in-as (find-says _ _ _ _ _) ((start r) .pre) (o .«open» .ensures) refl
     (found-as (c .before .find-in .result) (c .found .ensures) (of-range (within r) (find _ _) (c .before .find-in .ensures)))
 
 pub find-spec : {M : Type 1} → statement M
 find-spec =
-    tie.close (tie.spec normalize-requires enum-told enum-known-s open-requires find-in-requires found-requires returns returns-2)
+    tie.close
+    (tie.spec
+    normalize-requires
+    enum-told
+    enum-known-s
+    open-requires
+    sub-find-in
+    part-find-in-start
+    part-find-in-end
+    find-in-requires
+    found-requires
+    returns
+    returns-2)

@@ -21,14 +21,14 @@ returns : tie.Need-returns
 returns c =
     let b = c .before .before .before .before in
     let e = span-none (b .args .lower) (b .args .upper) _ (c .before .before .normalize .ensures) (c .enum-told .given .1) in
-    met (ranges-says _ _ _ _) (b .pre) refl (ap listing (listed-nothing _ _ _ e))
+    met (ranges-says _ _ _ _ _) (b .pre) refl (ap listing (listed-nothing _ _ _ e))
 
 returns-2 : tie.Need-returns-2
 returns-2 c =
     let r = c .before in
     let b = r .before .before .before .before in
     let W = span-some (b .args .lower) (b .args .upper) _ (r .before .before .normalize .ensures) (r .s .given .1) in
-    met (ranges-says _ _ _ _) (b .pre) refl (ap listing (listed-some W _))
+    met (ranges-says _ _ _ _ _) (b .pre) refl (ap listing (listed-some W _))
 
 pub ranges-spec : {M : Type 1} → statement M
 ranges-spec = tie.close (tie.spec normalize-requires enum-told enum-known-s returns returns-2)

@@ -3,7 +3,7 @@
 use mathlib.Core.Path.{refl, ap}
 use Rattle.core.proofs.Spans.{Within, span-none, span-some, select-range, select-nothing, found-as}
 use Rattle.model.specs.Call.{position}
-use Rattle.core.proofs.Changing.{open-stands}
+use Rattle.core.proofs.Doors.{nodes-there, lent-stands}
 use Rattle.core.proofs.Meeting.{met, met-in-as, select-says}
 use borrow.Author.Needs.{needs}
 use Rattle.core.proofs.report.select.Statement.{statement}
@@ -27,12 +27,22 @@ enum-known-s : tie.Need-enum-known-s
 enum-known-s c = search needs
 
 open-requires : tie.Need-open-requires
-open-requires c κs = (start (c .before)) .pre .sound
+open-requires c κs = (start (c .before)) .pre .openable
+
+sub-select : tie.Need-sub-select
+sub-select c = nodes-there ((start (c .before .before)) .pre .openable)
+
+part-select-start : tie.Need-part-select-start
+part-select-start c = nodes-there ((start (c .before .before)) .pre .openable)
+
+part-select-end : tie.Need-part-select-end
+part-select-end c = search needs
 
 select-requires : tie.Need-select-requires
 select-requires c κs =
-    let r = c .before .before in
-    (open-stands ((start r) .pre) (c .«open» .ensures), (within r) .order)
+    let o = c .before in
+    let r = o .before .before in
+    (lent-stands (o .«open» .ensures), (within r) .order)
 
 found-requires : tie.Need-found-requires
 found-requires c κs = search needs
@@ -41,15 +51,27 @@ returns : tie.Need-returns
 returns c =
     let b = c .before .before .before .before in
     let e = span-none (b .args .lower) (b .args .upper) _ (c .before .before .normalize .ensures) (c .enum-told .given .1) in
-    met (select-says _ _ _ _ _) (b .pre) refl (ap position (select-nothing _ _ _ _ e _))
+    met (select-says _ _ _ _ _ _) (b .pre) refl (ap position (select-nothing _ _ _ _ e _))
 
 returns-2 : tie.Need-returns-2
 returns-2 c =
-    let o = c .before .before in
+    let o = c .before .before .before in
     let r = o .before .before in
-    met-in-as (select-says _ _ _ _ _) ((start r) .pre) (o .«open» .ensures) refl
+    met-in-as (select-says _ _ _ _ _ _) ((start r) .pre) (o .«open» .ensures) refl
     (found-as (c .before .select .result) (c .found .ensures) (select-range (within r) _ _ _ (c .before .select .ensures)))
 
 pub select-spec : {M : Type 1} → statement M
 select-spec =
-    tie.close (tie.spec normalize-requires enum-told enum-known-s open-requires select-requires found-requires returns returns-2)
+    tie.close
+    (tie.spec
+    normalize-requires
+    enum-told
+    enum-known-s
+    open-requires
+    sub-select
+    part-select-start
+    part-select-end
+    select-requires
+    found-requires
+    returns
+    returns-2)

@@ -1,30 +1,54 @@
--- `begin` meets its contract: the store is made empty, so all its nodes are free. Assumes nothing.
-use native.Mathlib.Omega.{arith}
-use Rattle.core.proofs.Receiving.{begun}
+-- `begin` meets its contract: the nodes of the world are given back. Assumes nothing.
+use Rattle.core.proofs.Doors.{nodes-there}
+use Rattle.core.proofs.Receiving.{begun, begin-keepable}
 use borrow.Author.Needs.{needs}
 use Rattle.core.proofs.runs.begin.Statement.{statement}
 use Rattle.core.proofs.runs.begin.Tie as tie
 
--- where the store is made empty
-abbrev emptied : tie.After-open → tie.After-make
-emptied c = c .before .before .before .before
+-- the places: the start, and the world open
+abbrev start : tie.After-open → tie.Start
+start c = c .before .before .before
 
-make-requires : tie.Need-make-requires
-make-requires c κs = search needs
+abbrev opened : tie.After-links-of → tie.After-open
+opened c = c .before .before
 
 open-requires : tie.Need-open-requires
-open-requires c κs = search needs
+open-requires c κs = c .before .before .pre .openable
+
+sub-give-back : tie.Need-sub-give-back
+sub-give-back c = nodes-there (start c .pre .openable)
+
+part-give-back-start : tie.Need-part-give-back-start
+part-give-back-start c = nodes-there (start c .pre .openable)
+
+part-give-back-end : tie.Need-part-give-back-end
+part-give-back-end c = search needs
 
 links-of-requires : tie.Need-links-of-requires
 links-of-requires c κs = search needs
+
+give-back-requires : tie.Need-give-back-requires
+give-back-requires c κs = begin-keepable ((opened c) .«open» .ensures) (c .links-of .ensures)
 
 same-length : tie.Need-same-length
 same-length c = search needs
 
 returns : tie.Need-returns
 returns c =
-    let o = c .before in
-    begun ((emptied o) .make .ensures) (o .«open» .ensures) (omega (arith, o .«open» .ok)) (c .links-of .ensures)
+    let g = c .before .before in
+    let l = g .before in
+    let o = opened l in
+    begun (o .«open» .ensures) (l .links-of .ensures) _ (start o .pre) (g .give-back .ensures)
 
 pub begin-spec : {M : Type 1} → statement M
-begin-spec = tie.close (tie.spec make-requires open-requires links-of-requires same-length returns)
+begin-spec =
+    tie.close
+    (tie.spec
+    open-requires
+    sub-give-back
+    part-give-back-start
+    part-give-back-end
+    links-of-requires
+    give-back-requires
+    same-length
+    returns)

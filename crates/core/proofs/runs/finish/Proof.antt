@@ -1,25 +1,38 @@
--- `finish` meets its contract: the nodes that were given runs are linked up, and the world that has them is the store's. Assumes nothing.
-use Rattle.core.proofs.Receiving.{laid-linkable, laid-closing}
+-- `finish` meets its contract: the nodes that were given runs are linked up, and the world that has them is the pool's. Assumes nothing.
+use Rattle.core.proofs.Receiving.{laid-linkable, laid-there, laid-closing, laid-settled}
 use borrow.Author.Needs.{needs}
 use Rattle.core.proofs.runs.finish.Statement.{statement}
 use Rattle.core.proofs.runs.finish.Tie as tie
 
+-- the place where the nodes are linked up
+abbrev start : tie.After-link → tie.Start
+start k = k .before .before .before
+
+sub-link : tie.Need-sub-link
+sub-link c = laid-there (c .before .pre .5)
+
+part-link-start : tie.Need-part-link-start
+part-link-start c = laid-there (c .before .pre .5)
+
+part-link-end : tie.Need-part-link-end
+part-link-end c = search needs
+
 link-requires : tie.Need-link-requires
-link-requires c κs = laid-linkable (c .before .before .pre .4)
+link-requires c κs = laid-linkable (c .before .before .pre .5)
 
 close-requires : tie.Need-close-requires
 close-requires c κs =
     let k = c .before .before .before in
-    (_, _, laid-closing (k .before .before .before .pre .4) (k .link .ensures))
+    (_, _, laid-closing (start k .pre .5) _ (k .link .ensures))
 
 same-length : tie.Need-same-length
 same-length c = search needs
 
 returns : tie.Need-returns
-returns c v q ns rs l =
+returns c w₀ v q ns rs l =
     let e = c .before .before in
     let k = e .before .before .before .before in
-    e .close .ensures _ _ (laid-closing l (k .link .ensures))
+    laid-settled l _ (k .link .ensures) (e .close .ensures)
 
 pub finish-spec : {M : Type 1} → statement M
-finish-spec = tie.close (tie.spec link-requires close-requires same-length returns)
+finish-spec = tie.close (tie.spec sub-link part-link-start part-link-end link-requires close-requires same-length returns)

@@ -6,7 +6,7 @@ use native.Mathlib.Omega.{arith}
 use Rattle.model.specs.Refusals.{badWindow}
 use Rattle.model.proofs.Maps.{mapOf-length}
 use Rattle.core.proofs.Windows.{fitting, window-passes, bad-by}
-use Rattle.core.proofs.Changing.{open-stands}
+use Rattle.core.proofs.Doors.{nodes-there, lent-stands}
 use Rattle.core.proofs.Putting.{put-short, put-done, write-map-puts, put-no-window, short-after-window}
 use borrow.Author.Needs.{needs}
 use Rattle.core.proofs.write.write_map.Statement.{statement}
@@ -24,7 +24,7 @@ window-fits-requires : tie.Need-window-fits-requires
 window-fits-requires c κs = search needs
 
 returns : tie.Need-returns
-returns c = put-no-window _ _ _ _ (c .before .before .before .before .pre) (bad-by _ _ _ (c .before .window-fits .ensures) (c .if1 .taken))
+returns c = put-no-window _ _ _ _ _ (c .before .before .before .before .pre) (bad-by _ _ _ (c .before .window-fits .ensures) (c .if1 .taken))
 
 add-due : tie.Need-add-due
 add-due c = let f = fitting _ _ (good c) in omega arith
@@ -32,17 +32,26 @@ add-due c = let f = fitting _ _ (good c) in omega arith
 returns-2 : tie.Need-returns-2
 returns-2 c =
     let r = c .before in
-    put-short (write-map-puts _ _ _ _) ((start r) .pre) (sym (mapOf-length _ _ _)) (c .if2 .taken) (short-after-window _ _ (good r))
+    put-short (write-map-puts _ _ _ _ _) ((start r) .pre) (sym (mapOf-length _ _ _)) (c .if2 .taken) (short-after-window _ _ (good r))
 
 open-requires : tie.Need-open-requires
-open-requires c κs = (start (c .before)) .pre .sound
+open-requires c κs = (start (c .before)) .pre .openable
+
+sub-write-map : tie.Need-sub-write-map
+sub-write-map c = nodes-there ((start (c .before .before)) .pre .openable)
+
+part-write-map-start : tie.Need-part-write-map-start
+part-write-map-start c = nodes-there ((start (c .before .before)) .pre .openable)
+
+part-write-map-end : tie.Need-part-write-map-end
+part-write-map-end c = search needs
 
 write-map-requires : tie.Need-write-map-requires
 write-map-requires c κs =
-    let o = c .before in
+    let o = c .before .before in
     let r = o .before .before in
     let f = fitting _ _ (good r) in
-    (open-stands ((start r) .pre) (o .«open» .ensures), ((f .some, f .below), o .before .if2 .left))
+    (lent-stands (o .«open» .ensures), ((f .some, f .below), o .before .if2 .left))
 
 same-length : tie.Need-same-length
 same-length c = search needs
@@ -50,9 +59,9 @@ same-length c = search needs
 returns-3 : tie.Need-returns-3
 returns-3 c =
     let m = c .before .before in
-    let o = m .before .before in
+    let o = m .before .before .before in
     let r = o .before .before in
-    put-done (write-map-puts _ _ _ _) ((start r) .pre) (sym (mapOf-length _ _ _)) (o .«open» .ensures) (window-passes _ _ (good r)) (o .before .if2 .left) (m .write-map .ensures)
+    put-done (write-map-puts _ _ _ _ _) ((start r) .pre) (sym (mapOf-length _ _ _)) (o .«open» .ensures) (window-passes _ _ (good r)) (o .before .if2 .left) (m .write-map .ensures)
 
 pub write-map-spec : {M : Type 1} → statement M
 write-map-spec =
@@ -63,6 +72,9 @@ write-map-spec =
     add-due
     returns-2
     open-requires
+    sub-write-map
+    part-write-map-start
+    part-write-map-end
     write-map-requires
     same-length
     returns-3)

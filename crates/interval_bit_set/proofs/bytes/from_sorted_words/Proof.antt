@@ -1,21 +1,32 @@
--- `from_sorted_words` meets its contract: words of no store's length are refused, and else the core's call answers. Assumes nothing.
-use mathlib.Core.Path.{sym, _∙_}
-use Rattle.core.proofs.Overwriting.{own-short, build-says}
+-- `from_sorted_words` meets its contract: a world that looking refuses stays, another is overwritten by the core's call.
+-- Assumes nothing.
+use mathlib.Core.Path.{refl}
+use Rattle.interval_bit_set.proofs.Looking.{looked-sound, sent-away}
+use Rattle.core.proofs.Overwriting.{build-says}
 use borrow.Author.Needs.{needs}
 use Rattle.interval_bit_set.proofs.bytes.from_sorted_words.Statement.{statement}
 use Rattle.interval_bit_set.proofs.bytes.from_sorted_words.Tie as tie
 
-of-length-requires : tie.Need-of-length-requires
-of-length-requires c κs = search needs
+look-at-requires : tie.Need-look-at-requires
+look-at-requires c κs = search needs
 
-returns : tie.Need-returns
-returns c = own-short (build-says _ _) (sym (c .before .before .of-length .ensures) ∙ c .if1 .taken)
+enum-known-l : tie.Need-enum-known-l
+enum-known-l c = search needs
+
+enum-told : tie.Need-enum-told
+enum-told c = search needs
 
 from-sorted-words-requires : tie.Need-from-sorted-words-requires
-from-sorted-words-requires c κs = search needs
+from-sorted-words-requires c κs = looked-sound _ (c .before .before .before .look-at .ensures) (c .before .enum-told .given .1)
 
 same-length : tie.Need-same-length
 same-length c = search needs
+
+returns : tie.Need-returns
+returns c = sent-away (build-says _ _ _) _ (c .before .before .before .look-at .ensures) (c .before .l .given .1) refl
+
+same-length-2 : tie.Need-same-length-2
+same-length-2 c = search needs
 
 returns-2 : tie.Need-returns-2
 returns-2 c = search needs
@@ -23,4 +34,12 @@ returns-2 c = search needs
 pub from-sorted-words-spec : {M : Type 1} → statement M
 from-sorted-words-spec =
     tie.close
-    (tie.spec of-length-requires returns from-sorted-words-requires same-length returns-2)
+    (tie.spec
+    look-at-requires
+    enum-known-l
+    enum-told
+    from-sorted-words-requires
+    same-length
+    returns
+    same-length-2
+    returns-2)

@@ -1,4 +1,5 @@
--- `read_map` meets its contract: a store that looking refuses stays, another is changed by the core's call. Assumes nothing.
+-- `read_map` meets its contract: a world that looking refuses stays, another is changed by the core's call. Assumes nothing.
+use mathlib.Core.Path.{refl}
 use Rattle.core.proofs.Changing.{read-map-says}
 use Rattle.interval_bit_set.proofs.Looking.{looked-sound, sent-away}
 use borrow.Author.Needs.{needs}
@@ -21,7 +22,7 @@ same-length : tie.Need-same-length
 same-length c = search needs
 
 returns : tie.Need-returns
-returns c = sent-away (read-map-says _ _ _ _) _ (c .before .before .before .look-at .ensures) (c .before .l .given .1)
+returns c = sent-away (read-map-says _ _ _ _ _) _ (c .before .before .before .look-at .ensures) (c .before .l .given .1) refl
 
 same-length-2 : tie.Need-same-length-2
 same-length-2 c = search needs

@@ -1,7 +1,7 @@
--- `set` meets its contract: a store that looking refuses stays, another is changed by the core's call.
+-- `set` meets its contract: a world that looking refuses stays, another is changed by the core's call.
 -- Assumes nothing.
-use Rattle.interval_bit_set.proofs.Looking.{looked-sound}
-use Rattle.interval_bit_set.proofs.Looking.{sent-away}
+use mathlib.Core.Path.{refl}
+use Rattle.interval_bit_set.proofs.Looking.{looked-sound, sent-away}
 use Rattle.core.proofs.Changing.{set-says}
 use borrow.Author.Needs.{needs}
 use Rattle.interval_bit_set.proofs.change.set.Statement.{statement}
@@ -23,7 +23,7 @@ same-length : tie.Need-same-length
 same-length c = search needs
 
 returns : tie.Need-returns
-returns c = sent-away (set-says _ _ _ _) _ (c .before .before .before .look-at .ensures) (c .before .l .given .1)
+returns c = sent-away (set-says _ _ _ _ _) _ (c .before .before .before .look-at .ensures) (c .before .l .given .1) refl
 
 same-length-2 : tie.Need-same-length-2
 same-length-2 c = search needs

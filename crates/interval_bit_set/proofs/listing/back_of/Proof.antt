@@ -11,7 +11,7 @@ moved-requires : tie.Need-moved-requires
 moved-requires c κs = search needs
 
 returns : tie.Need-returns
-returns c = drew-back _ _ (c .before .draw-back .result) (c .before .draw-back .ensures) (c .moved .ensures)
+returns c = drew-back _ _ _ (c .before .draw-back .result) (c .before .draw-back .ensures) (c .moved .ensures)
 
 pub back-of-spec : {M : Type 1} → statement M
 back-of-spec = tie.close (tie.spec draw-back-requires moved-requires returns)

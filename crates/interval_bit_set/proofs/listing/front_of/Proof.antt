@@ -11,7 +11,7 @@ moved-requires : tie.Need-moved-requires
 moved-requires c κs = search needs
 
 returns : tie.Need-returns
-returns c = drew-front _ _ (c .before .draw-front .result) (c .before .draw-front .ensures) (c .moved .ensures)
+returns c = drew-front _ _ _ (c .before .draw-front .result) (c .before .draw-front .ensures) (c .moved .ensures)
 
 pub front-of-spec : {M : Type 1} → statement M
 front-of-spec = tie.close (tie.spec draw-front-requires moved-requires returns)

@@ -1,33 +1,49 @@
--- `look_at` meets its contract: what it tests is what the model is fed by.
+-- `look_at` meets its contract: what the pool earns, each of its worlds does; of a sound pool's worlds those are readable that were opened.
 -- Assumes nothing.
-use mathlib.Core.Path.{sym, _∙_}
-use Rattle.core.proofs.Meeting.{readable}
-use Rattle.interval_bit_set.proofs.Looking.{looked-short, looked-unsound}
+use mathlib.Core.Path.{sym}
+use native.Mathlib.Omega.{arith}
+use Rattle.store.specs.Soundness.{Sound}
+use Rattle.store.proofs.Worlds.{sound-room}
+use Rattle.interval_bit_set.proofs.Looking.{pool-refused, pool-readable, pool-first, world-unopened, world-sound}
 use borrow.Author.Needs.{needs}
 use Rattle.interval_bit_set.proofs.look.look_at.Statement.{statement}
 use Rattle.interval_bit_set.proofs.look.look_at.Tie as tie
 
--- the places that the needs look back to
-abbrev start : tie.After-struct-known → tie.Start
-start c = c .before .before .before
+-- the start, and that the pool is sound
+abbrev start : tie.After-enum-told → tie.Start
+start c = c .before .before .before .before
 
-of-length-requires : tie.Need-of-length-requires
-of-length-requires c κs = search needs
+sound : (c : tie.After-enum-told) → Sound (start c .args .words .now)
+sound c = pool-readable _ (c .before .before .look-at-pool .ensures) (c .enum-told .given .1)
+
+look-at-pool-requires : tie.Need-look-at-pool-requires
+look-at-pool-requires c κs = search needs
+
+enum-known-l : tie.Need-enum-known-l
+enum-known-l c = search needs
+
+enum-told : tie.Need-enum-told
+enum-told c = search needs
+
+opened-requires : tie.Need-opened-requires
+opened-requires c κs = sound-room (sound c) 0 (omega arith)
 
 returns : tie.Need-returns
-returns c = looked-short (start (c .before) .args .words .now) (sym (c .before .before .of-length .ensures) ∙ c .if1 .taken)
-
-is-sound-requires : tie.Need-is-sound-requires
-is-sound-requires c κs = search needs
+returns c =
+    let p = c .before .before .before in
+    let s = p .before .before in
+    sym (pool-first (s .args .words .now) _ (pool-refused (s .args .words .now) _ (p .look-at-pool .ensures) (c .before .l .given .1)))
 
 returns-2 : tie.Need-returns-2
 returns-2 c =
-    readable (start (c .before .before .before) .args .words .now) (search needs) (sym (c .before .is-sound .ensures) ∙ c .if2 .taken)
+    let o = c .before in
+    world-unopened _ _ (sound (o .before)) (omega (arith, o .opened .ensures, c .if1 .taken))
 
 returns-3 : tie.Need-returns-3
 returns-3 c =
-    looked-unsound (start (c .before .before .before) .args .words .now) (search needs) (sym (c .before .is-sound .ensures) ∙ c .if2 .left)
+    let o = c .before in
+    world-sound _ _ (sound (o .before)) (omega (arith, o .opened .ensures, c .if1 .left))
 
 pub look-at-spec : {M : Type 1} → statement M
 look-at-spec =
-    tie.close (tie.spec of-length-requires returns is-sound-requires returns-2 returns-3)
+    tie.close (tie.spec look-at-pool-requires enum-known-l enum-told opened-requires returns returns-2 returns-3)

@@ -1,6 +1,6 @@
--- `new` meets its contract: words of a store's length become an empty store, others stay. Assumes nothing.
+-- `new` meets its contract: words of a store's length are made by the core's call, others stay. Assumes nothing.
 use mathlib.Core.Path.{sym, _∙_}
-use Rattle.core.proofs.Overwriting.{own-short, make-says}
+use Rattle.core.proofs.Meeting.{make-short}
 use borrow.Author.Needs.{needs}
 use Rattle.interval_bit_set.proofs.make.new.Statement.{statement}
 use Rattle.interval_bit_set.proofs.make.new.Tie as tie
@@ -9,7 +9,7 @@ of-length-requires : tie.Need-of-length-requires
 of-length-requires c κs = search needs
 
 returns : tie.Need-returns
-returns c = own-short (make-says _) (sym (c .before .before .of-length .ensures) ∙ c .if1 .taken)
+returns c = make-short _ _ (sym (c .before .before .of-length .ensures) ∙ c .if1 .taken)
 
 new-requires : tie.Need-new-requires
 new-requires c κs = search needs

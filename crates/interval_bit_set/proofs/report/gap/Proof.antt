@@ -1,4 +1,4 @@
--- `gap` meets its contract: a store that looking refuses earns that refusal, of another the core's call answers.
+-- `gap` meets its contract: a world that looking refuses earns that refusal, of another the core's call answers.
 -- Assumes nothing.
 use Rattle.interval_bit_set.proofs.Looking.{looked-refused, looked-sound}
 use Rattle.core.proofs.Gaps.{gap-turned}
@@ -22,7 +22,7 @@ returns : tie.Need-returns
 returns c =
     let l = c .before .before .before in
     let a = l .before .before .args in
-    gap-turned _ (a .lower) (a .upper) (a .n) (looked-refused _ _ (l .look-at .ensures) (c .before .l .given .1))
+    gap-turned _ _ (a .lower) (a .upper) (a .n) (looked-refused (a .words .now) (a .world) _ (l .look-at .ensures) (c .before .l .given .1))
 
 returns-2 : tie.Need-returns-2
 returns-2 c = search needs

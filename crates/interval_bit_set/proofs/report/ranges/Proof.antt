@@ -1,4 +1,4 @@
--- `ranges` meets its contract: a store that looking refuses earns that refusal, of another the core's call answers.
+-- `ranges` meets its contract: a world that looking refuses earns that refusal, of another the core's call answers.
 -- Assumes nothing.
 use mathlib.Core.Path.{refl}
 use Rattle.interval_bit_set.proofs.Looking.{looked-sound, turned-away}
@@ -20,7 +20,7 @@ ranges-requires : tie.Need-ranges-requires
 ranges-requires c κs = looked-sound _ (c .before .before .look-at .ensures) (c .enum-told .given .1)
 
 returns : tie.Need-returns
-returns c = turned-away (ranges-says _ _ _ _) _ (c .before .before .before .look-at .ensures) (c .before .l .given .1) refl
+returns c = turned-away (ranges-says _ _ _ _ _) _ (c .before .before .before .look-at .ensures) (c .before .l .given .1) refl
 
 returns-2 : tie.Need-returns-2
 returns-2 c = search needs

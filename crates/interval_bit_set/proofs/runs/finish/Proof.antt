@@ -1,4 +1,4 @@
--- `finish` meets its contract: a refusal is handed on, and of runs that were admitted the store is made.
+-- `finish` meets its contract: a refusal is handed on, and of runs that were admitted the world is made.
 -- Assumes nothing.
 use Prim.Native.Nat.{ℕ}
 use mathlib.Core.Path.{_≡_, refl, sym, subst}
@@ -12,14 +12,15 @@ use borrow.Author.Needs.{needs}
 use Rattle.interval_bit_set.proofs.runs.finish.Statement.{statement}
 use Rattle.interval_bit_set.proofs.runs.finish.Tie as tie
 
-finishable : (w : List ℕ) (head : ℕ) (a : Verdict) → Finishing w head a → a .answer ≡ Completed.Done → Finishable w (freeFrom head) (a .runs)
-finishable w head a f e = subst (λ c. FinishableIf w head c (a .runs)) e f
+module _ (w : List ℕ) (i : ℕ) (a : Verdict) where
+  finishable : Finishing w i a → a .answer ≡ Completed.Done → Finishable w (freeFrom i (a .head)) (a .runs)
+  finishable f e = subst (λ c. FinishableIf w i c (a .runs) (a .head)) e f
 
-finished : (w w′ : List ℕ) (head : ℕ) (a : Verdict) → a .answer ≡ Completed.Done → Finishes w w′ (freeFrom head) (a .runs) → Finished w w′ head a Completed.Done
-finished w w′ head a e l = record { answers = sym e; left = subst (λ c. FinishesIf w w′ head c (a .runs)) (sym e) l }
+  finished : (w′ : List ℕ) → a .answer ≡ Completed.Done → Finishes w w′ (freeFrom i (a .head)) (a .runs) → Finished w w′ i a Completed.Done
+  finished w′ e l = record { answers = sym e; left = subst (λ c. FinishesIf w w′ i c (a .runs) (a .head)) (sym e) l }
 
-handed-on : (w : List ℕ) (head : ℕ) (a : Verdict) (r : Refusal) → a .answer ≡ Completed.Refused r → Finished w w head a (Completed.Refused r)
-handed-on w head a r e = record { answers = sym e; left = subst (λ c. FinishesIf w w head c (a .runs)) (sym e) refl }
+  handed-on : (r : Refusal) → a .answer ≡ Completed.Refused r → Finished w w i a (Completed.Refused r)
+  handed-on r e = record { answers = sym e; left = subst (λ c. FinishesIf w w i c (a .runs) (a .head)) (sym e) refl }
 
 enum-known-c : tie.Need-enum-known-c
 enum-known-c c = search needs

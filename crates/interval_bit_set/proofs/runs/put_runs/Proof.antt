@@ -51,9 +51,8 @@ use denote.Triple.Table.{entered, cited}
 use denote.Triple.Walked.{says, needs, Stays, stay-none, stay-none-slice, stay-slice, walkOf, goes-none, goes-none-slice, goes-slice, Walks, ends-at, walked, walk-meets}
 use denote.Exit.{yes}
 use Rattle.model.specs.Positions.{run as runOf}
-use Rattle.run_index.specs.Strung.{Lays}
-use Rattle.interval_bit_set.specs.RunSlice.{Putting, Put}
-use Rattle.interval_bit_set.proofs.Slices.{Partly, put-none, put-room, put-step, put-all}
+use Rattle.interval_bit_set.specs.RunSlice.{LaysNext, Putting, Put}
+use Rattle.interval_bit_set.proofs.Slices.{Partly, put-none, put-ready, put-step, put-all}
 use Rattle.model.specs.declared.Run.{Run}
 use Rattle.interval_bit_set.proofs.Again.{LentAgain, lends-again, comes-back}
 use Rattle.model.proofs.Run as T
@@ -187,7 +186,7 @@ module _ {M : Type 1} (𝓤 : URA M) (H : Heap 𝓤) (A : Atoms 𝓤) (W : Given
   goes-lay : (ν : ℕ) (δ : GName) (zs : List ℕ) (c i : ℕ) (r : Run) → i < k → c < 2 ^ 64 → Partly outs zs head c ys k i → r .start < 2 ^ 64 → r .«end» < 2 ^ 64
       → ent 𝓤 (sep 𝓤 (A .lft (ν ∷ []) fullShare) (sem 𝓤 H A (MutSlice (named 0) (ν ∷ []) u64 .own (x δ zs) (w ∷ [])))) (LayNext 𝓤 H A at-mem run .pre (to-lay ν δ zs c r))
   goes-lay ν δ zs c i r l c-fits done-so-far sf ef =
-      qed W (‵ (flft (ν ∷ []) fullShare) ∷ ‵ (MutSlice (named 0) (ν ∷ []) u64 .own (x δ zs) (w ∷ [])) ∷ []) ∵ says ! (put-room putting l done-so-far) $ nothing ! $ move ! (1 ∷ 0 ∷ []) $ join ! $ frame ! $
+      qed W (‵ (flft (ν ∷ []) fullShare) ∷ ‵ (MutSlice (named 0) (ν ∷ []) u64 .own (x δ zs) (w ∷ [])) ∷ []) ∵ says ! (put-ready putting l done-so-far) $ nothing ! $ move ! (1 ∷ 0 ∷ []) $ join ! $ frame ! $
       nothing ! $ owned ! u64 (Is u64) (uint-makes 𝓤 H A W w64) (r .«end») _ (refl, ef) $ fjoin ! $ owned ! u64 (Is u64) (uint-makes 𝓤 H A W w64) (r .start) _ (refl, sf) $ fjoin ! $
       owned ! u64 (Is u64) (uint-makes 𝓤 H A W w64) c _ (refl, c-fits) $ fjoin ! $ move ! (1 ∷ 0 ∷ []) $ fjoin ! $ done !
 
@@ -263,8 +262,8 @@ module _ {M : Type 1} (𝓤 : URA M) (H : Heap 𝓤) (A : Atoms 𝓤) (W : Given
           split ! $ move ! (1 ∷ []) $
           use1 W
           (some (λ (zs : List ℕ × (Unit {0} × (Unit {0} × (Unit {0} × Unit {0})))). ‵ (lasts lay.ended (ν ∷ [], tt) (lay-args δ (y .1)
-          (y .4) r) zs) ⊛ raw (fact 𝓤 (Lays (y .1) (zs .0) t (y .4) (r .start) (r .«end»))))) (id⊢ 𝓤 _) $ pick ! (λ zs.
-          split ! $ move ! (1 ∷ []) $ heard ! (Lays (y .1) (zs .0) t (y .4) (r .start) (r .«end»)) (λ e′. fsplit ! $ fsplit ! $ move ! (1 ∷ []) $ feqL ! (λ len.
+          (y .4) r) zs) ⊛ raw (fact 𝓤 (LaysNext (y .1) (zs .0) t (y .4) (r .start) (r .«end»))))) (id⊢ 𝓤 _) $ pick ! (λ zs.
+          split ! $ move ! (1 ∷ []) $ heard ! (LaysNext (y .1) (zs .0) t (y .4) (r .start) (r .«end»)) (λ e′. fsplit ! $ fsplit ! $ move ! (1 ∷ []) $ feqL ! (λ len.
           move ! (2 ∷ []) $ split ! $ move ! (1 ∷ []) $ peeks ! u64 (Is u64) (shows 𝓤 H A u64) t (u′ ∷ []) (λ is′.
           land ! (from ! (stop !)) (store ! 15 refl (uint-lawful 𝓤 H A W w64 .typed t _ is′ .0)) $ rewrite ! 15 (λ (z : Val). ‵ (fat fullShare word l₆ 0 z)) (ap only (uint-tells w64 t (u′ ∷ []) is′)) refl $
           -- the lifetime is ended, and the slice comes back at that list

@@ -1,4 +1,4 @@
--- `write_map` meets its contract: a store that looking refuses earns that refusal, of another the core's call answers. Assumes nothing.
+-- `write_map` meets its contract: a world that looking refuses earns that refusal, of another the core's call answers. Assumes nothing.
 use mathlib.Core.Path.{refl}
 use Rattle.core.proofs.Putting.{write-map-puts}
 use Rattle.interval_bit_set.proofs.Looking.{looked-sound}
@@ -20,7 +20,7 @@ write-map-requires : tie.Need-write-map-requires
 write-map-requires c κs = looked-sound _ (c .before .before .before .look-at .ensures) (c .before .enum-told .given .1)
 
 returns : tie.Need-returns
-returns c = put-turned (write-map-puts _ _ _ _) _ (c .before .before .before .look-at .ensures) (c .before .l .given .1) refl
+returns c = put-turned (write-map-puts _ _ _ _ _) _ (c .before .before .before .look-at .ensures) (c .before .l .given .1) refl
 
 same-length : tie.Need-same-length
 same-length c = search needs

@@ -7,10 +7,10 @@ use Rattle.replay.proofs.stores.clear.Statement.{statement}
 use Rattle.replay.proofs.stores.clear.Tie as tie
 
 abbrev Inv-loop : tie.InvT-loop
-Inv-loop words₀ s i₀ words i = length words ≡ 2144
+Inv-loop words₀ s i₀ words i = length words ≡ 3616
 
 abbrev μ-loop : tie.MeasureT-loop
-μ-loop words₀ s i₀ words i = 536 - i
+μ-loop words₀ s i₀ words i = 904 - i
 
 loop-holds : tie.Need-loop-holds Inv-loop μ-loop
 loop-holds c = search needs

@@ -8,10 +8,10 @@ use Rattle.replay.proofs.stores.copy.Statement.{statement}
 use Rattle.replay.proofs.stores.copy.Tie as tie
 
 abbrev Inv-loop : tie.InvT-loop
-Inv-loop words lengths s out₀ i₀ out i = length out ≡ 536
+Inv-loop words lengths s out₀ i₀ out i = length out ≡ 904
 
 abbrev μ-loop : tie.MeasureT-loop
-μ-loop words lengths s out₀ i₀ out i = 536 - i
+μ-loop words lengths s out₀ i₀ out i = 904 - i
 
 loop-holds : tie.Need-loop-holds Inv-loop μ-loop
 loop-holds c = search needs

@@ -1,91 +1,115 @@
--- `is_sound` meets its contract: the tests are the definition's, in its order, and the logical runs of the tree are those of the positions
--- held. Assumes nothing.
-use mathlib.Core.Path.{_≡_, refl, ap}
+-- `is_sound` meets its contract: the tests are the definition's, in its order but for the claims, which are tested with the worlds. Assumes
+-- nothing.
+use Prim.Native.Nat.{_*_, _≤_}
+use mathlib.Core.Path.{refl}
 use native.Mathlib.Omega.{arith}
 use borrow.Author.Needs.{needs}
-use Rattle.run_index.specs.Cells.{Room}
-use Rattle.store.specs.declared.Header.{Header}
-use Rattle.store.specs.Layout.{worldAt, spareAt}
-use Rattle.store.proofs.Whole.{first-room, spare-fails, world-fails, rest-fails, counted, runs-decide}
+use lib.ListN.{length}
+use Rattle.model.specs.Numbers.{mostWorlds}
+use Rattle.store.proofs.Nodes.{sized-length}
+use Rattle.store.proofs.Whole.{header-fails, opened-few, worlds-fail, unopened-fail, rest-decides}
 use Rattle.store.proofs.soundness.is_sound.Statement.{statement}
 use Rattle.store.proofs.soundness.is_sound.Tie as tie
 
--- the places that the needs look back to: the start, the header read, its spare word 0, the world's tests passed, the rest's too
-abbrev start : tie.After-read-header → tie.Start
+-- the places that the needs look back to: the start, the header read, its tests passed, those of the worlds, and of the other records
+abbrev start : tie.After-read-node → tie.Start
 start c = c .before .before
 
-abbrev read : tie.Else1 → tie.After-read-header
+abbrev read : tie.Else1 → tie.After-read-node
 read c = c .before .before
 
-abbrev spared : tie.Else2 → tie.Else1
-spared c = c .before .before
+abbrev headed : tie.Else2 → tie.Else1
+headed c = c .before .before .before
 
 abbrev fitted : tie.Else3 → tie.Else2
 fitted c = c .before .before
 
--- there is room for the header
-header : (c : tie.Start) → Room (c .args .words .now) 0
-header c = first-room (c .args .words .now) (c .pre)
+abbrev worlds : tie.Else2 → tie.After-worlds-fit
+worlds c = c .before .before
 
--- what the header tells
-world-is : (c : tie.After-read-header) → c .read-header .result .world ≡ worldAt (start c .args .words .now)
-world-is c = ap (λ (a : Header). a .world) (c .read-header .ensures)
+abbrev first : tie.Else3 → tie.Start
+first c = start (read (headed (fitted c)))
 
-spare-is : (c : tie.After-read-header) → c .read-header .result .spare ≡ spareAt (start c .args .words .now)
-spare-is c = ap (λ (a : Header). a .spare) (c .read-header .ensures)
+-- the header, the records and two nodes have room
+room : (c : tie.Start) → 8 * 50 ≤ length (c .args .words .now)
+room c = omega (arith, sized-length (c .args .words .now) (c .pre) .0, c .pre)
 
-read-header-requires : tie.Need-read-header-requires
-read-header-requires c κs = header (c .before)
+-- the header tells of 16 worlds at most
+few : (c : tie.Else1) → read c .read-node .result .start ≤ mostWorlds
+few c = let r = read c in opened-few _ (r .read-node .result) (r .read-node .ensures) _ (c .before .header-fits .ensures) (c .if1 .left)
+
+read-node-requires : tie.Need-read-node-requires
+read-node-requires c κs = omega (arith, room (c .before))
+
+header-fits-requires : tie.Need-header-fits-requires
+header-fits-requires c κs = search needs
 
 returns : tie.Need-returns
-returns c = spare-fails _ _ (spare-is (c .before .before)) (c .if1 .taken)
+returns c =
+    let r = c .before .before in
+    header-fails _ (r .read-node .result) (r .read-node .ensures) _ (c .before .header-fits .ensures) (c .if1 .taken)
 
-world-fits-requires : tie.Need-world-fits-requires
-world-fits-requires c κs = header (start (read c))
+worlds-fit-requires : tie.Need-worlds-fit-requires
+worlds-fit-requires c κs = (start (read c) .pre, few c)
 
 returns-2 : tie.Need-returns-2
-returns-2 c = let r = read (c .before .before) in world-fails _ _ (world-is r) _ (c .before .world-fits .ensures) (c .if2 .taken)
+returns-2 c =
+    let t = c .before .before in
+    let e = t .before in
+    let r = read e in
+    worlds-fail _ (r .read-node .result) (r .read-node .ensures) _ (e .before .header-fits .ensures) (e .if1 .left)
+    (t .worlds-fit .result) (t .worlds-fit .ensures) (c .if2 .taken)
+
+unopened-fit-requires : tie.Need-unopened-fit-requires
+unopened-fit-requires c κs = let e = headed c in (omega (arith, room (start (read e))), few e)
+
+returns-3 : tie.Need-returns-3
+returns-3 c =
+    let f = c .before .before in
+    let e = headed f in
+    let r = read e in
+    unopened-fail _ (r .read-node .result) (r .read-node .ensures) _ (e .before .header-fits .ensures) (e .if1 .left)
+    (worlds f .worlds-fit .result) (worlds f .worlds-fit .ensures) (f .if2 .left) _ (c .before .unopened-fit .ensures) (c .if3 .taken)
 
 sub-rest-fits : tie.Need-sub-rest-fits
-sub-rest-fits c = omega (arith, header (start (read (spared c))))
+sub-rest-fits c = omega (arith, room (first c))
+
+part-rest-fits-start : tie.Need-part-rest-fits-start
+part-rest-fits-start c = omega (arith, room (first c))
+
+part-rest-fits-end : tie.Need-part-rest-fits-end
+part-rest-fits-end c = search needs
+
+sub-rest-fits-2 : tie.Need-sub-rest-fits-2
+sub-rest-fits-2 c = omega (arith, room (first (c .before)))
 
 rest-fits-requires : tie.Need-rest-fits-requires
 rest-fits-requires c κs = search needs
 
-returns-3 : tie.Need-returns-3
-returns-3 c =
-    let e = c .before .before in
-    let r = read (spared e) in
-    rest-fails _ _ (world-is r) _ (e .before .world-fits .ensures) (e .if2 .left) (start r .pre) _ refl _ (c .before .rest-fits .ensures) (c .if3 .taken)
-
-logical-runs-requires : tie.Need-logical-runs-requires
-logical-runs-requires c κs =
-    let e = fitted c in
-    let r = read (spared e) in
-    counted _ (r .read-header .result .world) (world-is r) _ (e .before .world-fits .ensures) (e .if2 .left)
-
-allowance-requires : tie.Need-allowance-requires
-allowance-requires c κs = search needs
-
 returns-4 : tie.Need-returns-4
 returns-4 c =
-    let f = c .before .before in
-    let e = fitted f in
-    let r = read (spared e) in
-    runs-decide _ _ (world-is r) _ (e .before .world-fits .ensures) (e .if2 .left) (start r .pre) _ refl _ (f .before .rest-fits .ensures) (f .if3 .left)
-    _ (spare-is r) (spared e .if1 .left) _ (c .before .logical-runs .ensures) _ (c .allowance .ensures)
+    let u = c .before .before in
+    let f = fitted u in
+    let e = headed f in
+    let r = read e in
+    rest-decides (start r .args .words .now) (r .read-node .result) (r .read-node .ensures) _ (e .before .header-fits .ensures) (e .if1 .left)
+    (worlds f .worlds-fit .result) (worlds f .worlds-fit .ensures) (f .if2 .left) _ (u .before .unopened-fit .ensures) (u .if3 .left)
+    (start r .pre) _ refl _ (c .rest-fits .ensures)
 
 pub is-sound-spec : {M : Type 1} → statement M
 is-sound-spec =
     tie.close
     (tie.spec
-    read-header-requires
+    read-node-requires
+    header-fits-requires
     returns
-    world-fits-requires
+    worlds-fit-requires
     returns-2
-    sub-rest-fits
-    rest-fits-requires
+    unopened-fit-requires
     returns-3
-    logical-runs-requires
-    allowance-requires
+    sub-rest-fits
+    part-rest-fits-start
+    part-rest-fits-end
+    sub-rest-fits-2
+    rest-fits-requires
     returns-4)

@@ -1,0 +1,179 @@
+-- A world may always reach its floor (document 02, Ticket 3): a call is refused with 8 only where the runs of what it would leave are too many,
+-- and in a sound pool as many runs as the floor never are. Assumes nothing.
+use Prim.Native.Nat.{ℕ, _+_, _≤_, _<_, max}
+use mathlib.Core.Path.{_≡_, refl, sym, ap, _∙_, subst}
+use mathlib.Core.Bool.{Bool, true, false, cond, true≢false}
+use mathlib.Core.List.{List, [], _∷_, _++_}
+use mathlib.Core.Option.{Option, none, some}
+use native.Mathlib.Omega.{arith}
+use borrow.Author.Tests.{le-ltb}
+use Rattle.model.specs.Positions.{Positions, bounded, stretches}
+use Rattle.model.proofs.Runs.{stretches-cong}
+use Rattle.model.specs.Refusals.{
+  Cause,
+  storeLength,
+  worldLimits,
+  storeUnsound,
+  worldUnopened,
+  gapLength,
+  window,
+  strayBit,
+  setShort,
+  setVersion,
+  setLength,
+  runOrder,
+  outputShort,
+  numberOf,
+  beforeCapacity,
+  fromCapacity,
+  order,
+  Condition,
+  _when_,
+  given,
+  firstGiven,
+  refusal,
+  tooMany,
+}
+use Rattle.model.specs.Refusals
+use Rattle.model.specs.Call
+use Rattle.model.specs.Call.{Fed, Call, feed, Result, Answer, refused}
+use Rattle.model.specs.Model.{positionsOf, reads, settle, report, change, write, changed, drawnFirst, drawnLast, serve}
+use Rattle.model.specs.Pools.{full, exceeds, otherClaims}
+use Rattle.model.proofs.Pools.{claims-split}
+use Rattle.store.specs.Layout.{capacity, openedAt, floorAt, plainAt, worldsOf}
+use Rattle.store.specs.Soundness.{Sound}
+use Rattle.store.proofs.WorldLists.{opened-world}
+use Rattle.core.specs.Met.{Site, fedAt, fedOf, fullAt, outcomeOf, Met}
+use Rattle.core.proofs.Changing.{bounded-is}
+use Rattle.core.proofs.Refusing.{refused-before, first-alone}
+
+-- ---- the number 8
+-- a number that is given is that of a cause that is given
+given-number : (ks : List Cause) (cs : List Condition) {n : ℕ} → firstGiven ks cs ≡ some n → (k : Cause) × (numberOf k ≡ n) × (given k cs ≡ true)
+given-number [] cs e = let z : _≡_ {A = ℕ} 0 1 = cc in absurd (omega arith)
+given-number (k ∷ ks) cs {n} e = go (given k cs) refl (given-number ks cs) e
+  where
+    go : (b : Bool) → given k cs ≡ b → (firstGiven ks cs ≡ some n → (k : Cause) × (numberOf k ≡ n) × (given k cs ≡ true)) → cond b (some (numberOf k)) (firstGiven ks cs) ≡ some n
+        → (k : Cause) × (numberOf k ≡ n) × (given k cs ≡ true)
+    go true f ih p = (k, (let q : numberOf k ≡ n = cc in q), f)
+    go false f ih p = ih p
+
+-- 8 is the number of one cause
+eight-is : (k : Cause) → numberOf k ≡ 8 → k ≡ Refusals.capacity
+eight-is storeLength e = absurd (omega arith)
+eight-is worldLimits e = absurd (omega arith)
+eight-is storeUnsound e = absurd (omega arith)
+eight-is worldUnopened e = absurd (omega arith)
+eight-is gapLength e = absurd (omega arith)
+eight-is window e = absurd (omega arith)
+eight-is strayBit e = absurd (omega arith)
+eight-is setShort e = absurd (omega arith)
+eight-is setVersion e = absurd (omega arith)
+eight-is setLength e = absurd (omega arith)
+eight-is runOrder e = absurd (omega arith)
+eight-is Refusals.capacity e = refl
+eight-is outputShort e = absurd (omega arith)
+
+-- so it is given where that cause is
+eight-given : (ks : List Cause) (cs : List Condition) → firstGiven ks cs ≡ some 8 → given Refusals.capacity cs ≡ true
+eight-given ks cs e = let g = given-number ks cs e in subst (λ k. given k cs ≡ true) (eight-is (g .0) (g .1)) (g .2)
+
+-- ---- the calls
+module _ (full : ℕ → Bool) (s : Fed) where
+  -- that many runs were too many, of what the call would leave if no number were
+  abbrev TooMany : Call Fed → Type 0
+  TooMany c = (serve full s c) .answer ≡ refused 8 → full (stretches ((serve (λ r. false) s c) .positions)) ≡ true
+
+  -- no call that reports is refused with 8
+  reports-not : (cs : List Condition) (a : Result) → given Refusals.capacity cs ≡ false → (report s cs a) .answer ≡ refused 8 → ⊥
+  unfolding report
+  reports-not cs a quiet e = go (refusal (reads s ++ cs)) refl e
+    where
+      go : (o : Option ℕ) → refusal (reads s ++ cs) ≡ o → (settle o (positionsOf s) a (positionsOf s)) .answer ≡ refused 8 → ⊥
+      go none f p = let z : _≡_ {A = ℕ} 0 1 = cc in omega arith
+      go (some n) f p =
+          let q : n ≡ 8 = cc in
+          true≢false (sym (eight-given order (reads s ++ cs) (f ∙ ap some q)) ∙ quiet)
+
+  -- one that changes is where the runs of what it changes to are too many
+  module _ (cs : List Condition) (Q : Positions) (a : Result) (quiet : given Refusals.capacity cs ≡ false) (written : given outputShort cs ≡ false) where
+    -- the refusal, by whether they are
+    due : Bool → Option ℕ
+    due t = refusal (Refusals.capacity when t ∷ (reads s ++ cs))
+
+    -- then nothing else refuses it
+    free : due true ≡ some 8 → due false ≡ none
+    unfolding due
+    free e = go (firstGiven beforeCapacity (reads s ++ cs)) refl
+      where
+        go : (o : Option ℕ) → firstGiven beforeCapacity (reads s ++ cs) ≡ o → refusal (Refusals.capacity when false ∷ (reads s ++ cs)) ≡ none
+        go none f = first-alone beforeCapacity fromCapacity (Refusals.capacity when false ∷ (reads s ++ cs)) (rw (quiet, written)) ∙ f
+        go (some n) f =
+            let g : some n ≡ some 8 = sym (refused-before (reads s ++ cs) true f) ∙ e in
+            let q : n ≡ 8 = cc in
+            absurd (true≢false (sym (eight-given beforeCapacity (reads s ++ cs) (f ∙ ap some q)) ∙ quiet))
+
+    pub alters-many : (change full s cs Q a) .answer ≡ refused 8 → full (stretches ((change (λ r. false) s cs Q a) .positions)) ≡ true
+    unfolding change tooMany due
+    alters-many e = go (full (stretches Q)) refl
+      where
+        eight : (o : Option ℕ) → (settle o (positionsOf s) a (bounded Q)) .answer ≡ refused 8 → o ≡ some 8
+        eight none p = let z : _≡_ {A = ℕ} 0 1 = cc in absurd (omega arith)
+        eight (some n) p = let q : n ≡ 8 = cc in ap some q
+
+        was : due (full (stretches Q)) ≡ some 8
+        was = eight (refusal (reads s ++ Refusals.capacity when full (stretches Q) ∷ cs)) e
+
+        go : (t : Bool) → full (stretches Q) ≡ t → full (stretches ((settle (due false) (positionsOf s) a (bounded Q)) .positions)) ≡ true
+        go true f =
+            ap (λ o. full (stretches ((settle o (positionsOf s) a (bounded Q)) .positions))) (free (sym (ap due f) ∙ was))
+            ∙ ap full (stretches-cong (bounded Q) Q (λ x h. sym (bounded-is Q x h))) ∙ f
+        go false f =
+            let g = eight-given order (Refusals.capacity when false ∷ (reads s ++ cs)) (sym (ap due f) ∙ was) in
+            absurd (true≢false (sym g ∙ quiet))
+
+  -- every call is one of these
+  many : (c : Call Fed) → TooMany c
+  unfolding serve changed write drawnFirst drawnLast
+  many (Call.set l u v) = alters-many _ _ _ refl refl
+  many (Call.flip l u) = alters-many _ _ _ refl refl
+  many (Call.get x) = λ e. absurd (reports-not _ _ refl e)
+  many (Call.runAt x) = λ e. absurd (reports-not _ _ refl e)
+  many (Call.find l u v) = λ e. absurd (reports-not _ _ refl e)
+  many (Call.count l u v) = λ e. absurd (reports-not _ _ refl e)
+  many (Call.select l u v k) = λ e. absurd (reports-not _ _ refl e)
+  many (Call.countRanges l u v) = λ e. absurd (reports-not _ _ refl e)
+  many (Call.ranges l u v) = λ e. absurd (reports-not _ _ refl e)
+  many (Call.drawFront l) = λ e. absurd (reports-not _ _ refl e)
+  many (Call.drawBack l) = λ e. absurd (reports-not _ _ refl e)
+  many (Call.shift d left) = alters-many _ _ _ refl refl
+  many (Call.shifted d left t) = alters-many _ _ _ refl refl
+  many (Call.combine op t u) = alters-many _ _ _ refl refl
+  many (Call.complement t) = alters-many _ _ _ refl refl
+  many (Call.equal t) = λ e. absurd (reports-not _ _ refl e)
+  many (Call.load bs) = alters-many _ _ _ refl refl
+  many (Call.build rs) = alters-many _ _ _ refl refl
+  many (Call.writeSet out) = λ e. absurd (reports-not _ _ refl e)
+  many (Call.readMap base n bs) = alters-many _ _ _ refl refl
+  many (Call.writeMap base n out) = λ e. absurd (reports-not _ _ refl e)
+  many (Call.fill base n) = λ e. absurd (reports-not _ _ refl e)
+
+-- ---- a sound pool
+module _ {w : List ℕ} (S : Sound w) (i : ℕ) (l : i < openedAt w) where
+  -- as many runs as the floor are not too many
+  floor-fits : (r : ℕ) → r ≤ floorAt w i → fullAt w i r ≡ false
+  unfolding fullAt full
+  floor-fits r h =
+      let x = plainAt w i in
+      let o = otherClaims (worldsOf w) i in
+      ap (λ p. exceeds (capacity w) o p r) (opened-world w i l)
+      ∙ rw (
+        le-ltb (x .ceiling) r (omega (arith, h, (S .limited i l) .limits)),
+        le-ltb (capacity w) (max r (x .floor) + o) (omega (arith, h, claims-split (worldsOf w) i x (opened-world w i l), S .fits)),
+      )
+
+  -- so no call that would leave at most so many is refused with 8
+  pub reaches-floor : {c : Call Site} {a : Answer} {w′ : List ℕ} → Met w i c a w′ → stretches ((serve (λ r. false) (fedOf w i) (feed fedAt c)) .positions) ≤ floorAt w i → a ≡ refused 8 → ⊥
+  unfolding outcomeOf
+  reaches-floor {c} m h e =
+      true≢false (sym (many (fullAt w i) (fedOf w i) (feed fedAt c) (sym (m .answered) ∙ e)) ∙ floor-fits _ h)
