@@ -1,4 +1,4 @@
--- A shift that drops nothing is a turn by the distance, so a store shifts by changing its offset. What it drops, it does not look at.
+-- A shift that drops nothing is a turn by the distance, so a world shifts by changing its offset. What it drops, it does not look at.
 -- The runs of what is left are moved by the distance: as many, the first and the last position too. So no shift adds a run. Assumes nothing.
 use Prim.Native.Nat.{ℕ, _+_, _-_, _*_, _/_, _%_, _≤_, _<_}
 use mathlib.Core.Path.{_≡_, refl, sym, ap, _∙_}

@@ -1,4 +1,4 @@
--- Calls on a lent slice alone, without a store. Assumes nothing: these are definitions.
+-- Calls on a lent slice alone, without a pool. Assumes nothing: these are definitions.
 use Prim.Native.Nat.{ℕ}
 use mathlib.Core.Path.{_≡_}
 use mathlib.Core.List.{List}

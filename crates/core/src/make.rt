@@ -8,7 +8,7 @@ use model::Completed;
 use model::Refusal;
 use store::Store;
 
-// A new pool in words of a store's length: a world, which is empty, for each floor and ceiling of the limits.
+// A new pool in words of a pool's length: a world, which is empty, for each floor and ceiling of the limits.
 pub fn new(words: &mut [u64], limits: &[u64]) -> Completed
     requires { ⌜ 1 ≤ capacity (now words) ⌝ }
     ensures { λ r. ⌜ Made (now (words .entry)) (limitsOf (now (limits .entry))) (completedAnswer r) (now (words .exit)) ⌝ }

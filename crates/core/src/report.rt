@@ -1,4 +1,4 @@
-// The calls that report, and leave the store as it is.
+// The calls that report, and leave the pool as it is.
 ghost use mathlib.Core.Path.{_≡_};
 ghost use Rattle.model.specs.Call.{Call};
 ghost use Rattle.model.specs.Answers.{countedAnswer, numberedAnswer, testedAnswer, aroundAnswer, foundAnswer, listedAnswer};

@@ -34,7 +34,7 @@ pub fn map_length_fits(bytes: &[u8], n: u64) -> bool
     bytes.len() as u64 == (n + 7) / 8
 }
 
-// Zeroes the spare bits of a window's map, and returns how many were one. No store is at hand.
+// Zeroes the spare bits of a window's map, and returns how many were one. No pool is at hand.
 pub fn clear_map(base: u64, n: u64, map: &mut [u8]) -> Numbered
     ensures { λ r. ⌜ Handles (clearMap base n (now (map .entry))) (numberedAnswer r) (now (map .exit)) ⌝ }
 {

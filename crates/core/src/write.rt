@@ -1,11 +1,11 @@
-// Writing a store's set, and the map of a window, into the front of a lent slice.
+// Writing a world's set, and the map of a window, into the front of a lent slice.
 ghost use Rattle.model.specs.Call.{Call};
 ghost use Rattle.core.specs.Met.{Readable};
 ghost use Rattle.core.specs.Out.{WritesOut};
 use model::Refusal;
 use model::Written;
 
-// Writes a store's set, and returns how many bytes it has.
+// Writes a world's set, and returns how many bytes it has.
 pub fn write_set(words: &[u64], world: u64, out: &mut [u8]) -> Written
     requires { ⌜ Readable (now words) world ⌝ }
     ensures { λ r. ⌜ WritesOut Call.writeSet (now (words .entry)) world (now (out .entry)) r (now (out .exit)) ⌝ }

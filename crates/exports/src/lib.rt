@@ -355,7 +355,7 @@ pub extern "C" fn vizturel_read_map(
     structs::count(flat::counted(interval_bit_set::bytes::read_map(words, world, base, n, bytes)))
 }
 
-// Zeroes the spare bits of a window's map, and tells how many were one. It takes no store.
+// Zeroes the spare bits of a window's map, and tells how many were one. It takes no pool.
 #[no_mangle]
 pub extern "C" fn vizturel_clear_map(base: u64, n: u64, map: &mut [u8]) -> CNumbered
     ensures { λ r. ⌜ Handed (clearMap base n (now (map .entry))) numberOf r (now (map .exit)) ⌝ }

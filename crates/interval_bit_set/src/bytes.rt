@@ -46,7 +46,7 @@ pub fn read_map(words: &mut [u64], world: u64, base: u64, n: u64, bytes: &[u8]) 
     }
 }
 
-// Zeroes the spare bits of a window's map, and returns how many were one. It takes no store, so there is none to look at.
+// Zeroes the spare bits of a window's map, and returns how many were one. It takes no pool, so there is none to look at.
 pub fn clear_map(base: u64, n: u64, map: &mut [u8]) -> Numbered
     ensures { λ r. ⌜ Handles (clearMap base n (now (map .entry))) (numberedAnswer r) (now (map .exit)) ⌝ }
 {

@@ -6,7 +6,7 @@ use model::Completed;
 use model::Refusal;
 use store::Store;
 
-// A new pool in the words of a store: a world, which is empty, for each floor and ceiling of the limits, which are lent in turn. A last word
+// A new pool in lent words: a world, which is empty, for each floor and ceiling of the limits, which are lent in turn. A last word
 // without its partner is no world.
 pub fn new(words: &mut [u64], limits: &[u64]) -> Completed
     ensures { λ r. ⌜ Made (now (words .entry)) (limitsOf (now (limits .entry))) (completedAnswer r) (now (words .exit)) ⌝ }

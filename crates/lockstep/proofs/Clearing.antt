@@ -1,5 +1,5 @@
 -- Cleared maps, over what the public calls promise (document 02, Ticket 2): reading the cleared map is document 01's reading of the map as it
--- was, and a map that a store wrote stays as it is. Assumes nothing.
+-- was, and a map that a world wrote stays as it is. Assumes nothing.
 use Prim.Native.Nat.{ℕ}
 use mathlib.Core.Path.{_≡_, refl, sym, ap, ap₂, _∙_, subst}
 use mathlib.Core.Bool.{Bool, true, false}

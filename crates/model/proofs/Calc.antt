@@ -1,5 +1,5 @@
 -- The plain model computed on run lists: each report and change of part 5 on canonical lists, and that it is the plain model's.
--- By the laws of each definition; a store that holds a run list is fed as that list. Assumes nothing.
+-- By the laws of each definition; a world that holds a run list is fed as that list. Assumes nothing.
 use mathlib.Core.Path.{_≡_, refl, sym, ap, ap₂, _∙_, fun-ext}
 use mathlib.Core.Logic.{_⊎_, inl, inr}
 use mathlib.Core.Bool.{Bool, true, false, cond, not, _&&_, _||_, Bool·beq}

@@ -1,4 +1,4 @@
--- Clearing a map's spare bits (document 02, Ticket 2). The call has no store, so it is no call of the plain model and in no list of demand 3.
+-- Clearing a map's spare bits (document 02, Ticket 2). The call has no pool, so it is no call of the plain model and in no list of demand 3.
 -- Assumes nothing: these are definitions.
 use mathlib.Core.Bool.{Bool}
 use mathlib.Core.List.{List, [], _∷_}

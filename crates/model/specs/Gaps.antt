@@ -1,4 +1,4 @@
--- A gap for the editor (document 02, Ticket 1). WHICH gap is LEFT OPEN: two stores that hold the same positions may answer with two gaps. So it
+-- A gap for the editor (document 02, Ticket 1). WHICH gap is LEFT OPEN: two worlds that hold the same positions may answer with two gaps. So it
 -- is no call of the plain model, and no theorem over histories knows it; what is said here is what holds of the answer.
 -- Assumes nothing: these are definitions.
 use mathlib.Core.List.{List, [], _∷_, _++_}
@@ -29,6 +29,6 @@ abbrev pub GapBy : Option ℕ → Positions → Bound → Bound → ℕ → Answ
 GapBy (some r) P l u n a = a ≡ refused r
 GapBy none P l u n a = (o : Option ℕ) × (a ≡ gave (position o)) × SomeGap P (firstAllowed l) (extent l u) n o
 
--- THE CONTRACT of the gap search on a store that is fed as s: refused with 1, 7 or 9, or some gap of the range
+-- THE CONTRACT of the gap search on a world that is fed as s: refused with 1, 7, 12 or 9, or some gap of the range
 abbrev pub AnswersGap : Fed → Bound → Bound → ℕ → Answer → Type 0
 AnswersGap s l u n a = GapBy (refusal (reads s ++ gapLength when badGap n ∷ [])) (positionsOf s) l u n a

@@ -17,7 +17,7 @@ pub mod Opening
 pub mod Settling
 pub mod Resetting
 pub mod Replacing
--- What the soundness of a store means, and how it is decided.
+-- What the soundness of a pool means, and how it is decided.
 pub mod Tests
 pub mod Steps
 pub mod Counting

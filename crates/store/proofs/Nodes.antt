@@ -36,7 +36,7 @@ tree-outside w g t h m out = go (ℕ-discrete (count m t) 0) (ℕ-discrete m 0)
     go (no some) (yes e) = ap (λ (j : ℕ). count j t) e ∙ rep-positive w g t h
     go (no some) (no pos) = absurd (out (omega arith) (rep-numbered w g t h m (omega arith)))
 
--- the length of a store, and how many nodes it may have
+-- the length of a pool, and how many nodes it may have
 pub sized-length : (w : List ℕ) → 1 ≤ capacity w → (length w ≡ 8 * (capacity w + 49)) × (capacity w ≤ 65536)
 sized-length w h = length-capacity (length w) h
 

@@ -1,5 +1,5 @@
 -- What a world that stands gives its readers: its tree at its root, that its positions are the tree's, turned by the offset, and that it holds
--- some exactly if it has runs. And what a sound store gives: its world stands, with nodes enough for what it may hold. Assumes nothing.
+-- some exactly if it has runs. And what a sound pool gives: its world stands, with nodes enough for what it may hold. Assumes nothing.
 use Prim.Native.Nat.{ℕ, _≤_, _<_}
 use mathlib.Core.Path.{_≡_, sym, ap, _∙_}
 use mathlib.Core.Bool.{true, false}

@@ -226,7 +226,7 @@ zeros-in v e =
     (both-in _ _ (eq-eqb _ _ (ap (λ (u : Node). u .runs) e))
     (both-in _ _ (eq-eqb _ _ (ap (λ (u : Node). u .ones) e)) (eq-eqb _ _ (ap (λ (u : Node). u .tag) e)))))))
 
--- a free node of the store
+-- a free node of the pool
 pub record FreeAt (w : List ℕ) (n : ℕ) : Type 0 where
   pub some : 1 ≤ n
   pub room : Room w n

@@ -100,7 +100,7 @@ treeFrom (suc d) w zero = leaf
 treeFrom (suc d) w (suc k) =
     node (suc k) ((cellAt w (suc k)) .start) ((cellAt w (suc k)) .«end») (treeFrom d w ((cellAt w (suc k)) .left)) (treeFrom d w ((cellAt w (suc k)) .right))
 
--- the greatest height of a tree: higher ones have more nodes than a store
+-- the greatest height of a tree: higher ones have more nodes than a pool
 abbrev pub highest : ℕ
 highest = 22
 

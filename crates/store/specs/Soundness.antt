@@ -66,7 +66,7 @@ pub record Still (w w′ : List ℕ) (s : Share) : Type 0 where
 
 -- the tree t and the free chain ns of the links x share the nodes out, beside those of other worlds: what holds also within a call
 pub record Kept (w : List ℕ) (s : Share) (x : Links) (t : Tree) (ns : List ℕ) : Type 0 where
-  -- w has as many nodes, and no more than the largest store
+  -- w has as many nodes, and no more than the largest pool
   pub sized : length w ≡ 8 * (s .nodes + 1)
   pub few : s .nodes ≤ 65568
   pub part : s .own ≤ s .nodes

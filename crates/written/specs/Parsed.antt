@@ -1,4 +1,4 @@
--- What bytes are as a written set, before any store is asked. Assumes nothing: these are definitions.
+-- What bytes are as a written set, before any world is asked. Assumes nothing: these are definitions.
 use Prim.Native.Nat.{ℕ, _+_, _*_}
 use mathlib.Core.Path.{_≡_}
 use mathlib.Core.Bool.{true}

@@ -1,4 +1,4 @@
--- `new` meets its contract: words of a store's length are made by the core's call, others stay. Assumes nothing.
+-- `new` meets its contract: words of a pool's length are made by the core's call, others stay. Assumes nothing.
 use mathlib.Core.Path.{sym, _∙_}
 use Rattle.core.proofs.Meeting.{make-short}
 use borrow.Author.Needs.{needs}
