@@ -30,7 +30,6 @@ use Rattle.store.specs.Layout.{
   floorAt,
   ceilingAt,
   nodes,
-  headerCell,
   recordCell,
   Headed,
   heldBy,
@@ -42,7 +41,7 @@ use Rattle.store.proofs.Nodes.{node-once, no-zero, few-runs, kept-still}
 use Rattle.store.proofs.Emptying.{vacantWorld, vacant-standing, rootless-empty, empty-stretches}
 use Rattle.store.proofs.Turn.{pool-past}
 use Rattle.store.proofs.Worlds.{sound-length, sound-room, world-standing}
-use Rattle.store.proofs.Closing.{headed, closes}
+use Rattle.store.proofs.Closing.{headedBy, headed, closing-header, closes}
 
 -- ---- the nodes of a tree
 module _ (n a b : ℕ) (l r : Tree) (w : List ℕ) (g k : ℕ) (h : Rep w g (node n a b l r)) (once : Distinct (node n a b l r)) (few : runs l + runs r + 1 < 2 ^ 62) where
@@ -151,14 +150,14 @@ module _ (w : List ℕ) (j : ℕ) (S : Sound w) (l : j < openedAt w) where
     closed : (w′ : List ℕ) × Settled w w′ j empty
     closed =
         let a : Node = cellAt w₁ 0 in
-        let v : Node = recordAt w₁ j in
-        let hc : Node = headerCell (a .start) f in
-        let rc : Node = recordCell (vacant j f) (v .ones) (v .tag) in
+        let hc : Node = headedBy a f in
         let w₂ : List ℕ = stored w₁ 0 hc in
+        let v : Node = recordAt w₂ j in
+        let rc : Node = recordCell (vacant j f) (v .ones) (v .tag) in
         let w₃ : List ℕ = stored w₂ (j + 1) rc in
         let p : Wrote w₁ w₂ 0 hc = stored-wrote w₁ 0 hc (omega (arith, sound-room S 0 (omega arith), c .long)) in
         let q : Wrote w₂ w₃ (j + 1) rc = stored-wrote w₂ (j + 1) rc (omega (arith, sound-room S (j + 1) (omega (arith, S .few)), c .long, p .long)) in
-        let hd : Headed w₁ w₃ (vacant j f) = headed {h = vacant j f} {a = a} {v = v} refl refl p q in
+        let hd : Headed w₁ w₃ (vacant j f) = headed {h = vacant j f} {a = a} {v = v} (closing-header closing) refl refl p q in
         (w₃, closes hd w empty closing)
 
   -- so one world can be emptied

@@ -46,13 +46,26 @@ use Rattle.store.proofs.Nodes.{chain-no-zero}
 use Rattle.store.proofs.Reached.{tree-reached, tree-held, kept-low}
 use Rattle.store.proofs.Worlds.{planted-tree, claimAt, allowance-is, claims-fit, sound-room}
 
--- the two writes are those of a world
-pub headed : {w w₁ w₂ : List ℕ} {h : World} {a v : Node} → a ≡ cellAt w 0 → v ≡ recordAt w (h .tag) → Wrote w w₁ 0 (headerCell (a .start) (h .free))
-    → Wrote w₁ w₂ (h .tag + 1) (recordCell h (v .ones) (v .tag)) → Headed w w₂ h
-headed {h = h} ea ev p q = record {
-  header = q .there 0 (λ e. omega arith) ∙ p .here ∙ ap (λ (z : Node). headerCell (z .start) (h .free)) ea;
-  here = q .here ∙ ap (λ (z : Node). recordCell h (z .ones) (z .tag)) ev;
-  there = λ m pos ne. q .there m ne ∙ p .there m (λ e. omega arith);
+-- a header with another free head
+abbrev pub headedBy : Node → ℕ → Node
+headedBy a free = record {
+  start = a .start;
+  «end» = free;
+  left = a .left;
+  right = a .right;
+  height = a .height;
+  runs = a .runs;
+  ones = a .ones;
+  tag = a .tag;
+}
+
+-- the two writes are those of a world, where the header was one
+pub headed : {w w₁ w₂ : List ℕ} {h : World} {a v : Node} → cellAt w 0 ≡ headerCell (openedAt w) (freeHead w) → a ≡ cellAt w 0 → v ≡ recordAt w₁ (h .tag)
+    → Wrote w w₁ 0 (headedBy a (h .free)) → Wrote w₁ w₂ (h .tag + 1) (recordCell h (v .ones) (v .tag)) → Headed w w₂ h
+headed {h = h} e ea ev p q = record {
+  header = q .there 0 (λ i. omega arith) ∙ p .here ∙ ap (λ (z : Node). headedBy z (h .free)) (ea ∙ e);
+  here = q .here ∙ ap (λ (z : Node). recordCell h (z .ones) (z .tag)) (ev ∙ p .there (h .tag + 1) (λ i. omega arith));
+  there = λ m pos ne. q .there m ne ∙ p .there m (λ i. omega arith);
   long = q .long ∙ p .long;
 }
 
@@ -325,6 +338,11 @@ module _ {w₀ w w′ : List ℕ} {h : World} {P : Positions} (cl : Closing w₀
           capacity-kept,
         );
   }
+
+-- the header is as it was
+pub closing-header : {w₀ w : List ℕ} {h : World} {P : Positions} → Closing w₀ w h P → cellAt w 0 ≡ headerCell (openedAt w) (freeHead w)
+closing-header cl =
+    subst (λ (z : Node). z ≡ headerCell (z .start) (z .«end»)) (sym (cl .before 0 (omega arith))) (cl .openable .sound .header)
 
 -- there is a record to write
 pub closing-room : {w₀ w : List ℕ} {h : World} {P : Positions} → Closing w₀ w h P → Room w (h .tag + 1)

@@ -4,8 +4,8 @@
 ghost use mathlib.Core.Path.{_≡_};
 ghost use Prim.Native.Nat.{_+_};
 ghost use Rattle.model.specs.Pools.{claim};
-ghost use Rattle.run_index.specs.Cells.{Room};
-ghost use Rattle.store.specs.Layout.{capacityOf, openedAt, worldAt, plainAt, nodes, Headed, linksOf, allowance};
+ghost use Rattle.run_index.specs.Cells.{cellAt, Room};
+ghost use Rattle.store.specs.Layout.{capacityOf, openedAt, freeHead, worldAt, plainAt, nodes, headerCell, Headed, linksOf, allowance};
 ghost use Rattle.store.specs.Soundness.{Planted, Sound};
 ghost use Rattle.store.specs.Settle.{Openable, Opened, Closable, Closes};
 use run_index::Node;
@@ -107,27 +107,29 @@ fn read_world(words: &[u64], k: u64) -> World
     }
 }
 
-// Sets the record of a world, but for its floor and its ceiling, and the head of the free chain, and no other word.
+// Sets the record of a world, but for its floor and its ceiling, and the head of the free chain, and no other word. The words that stay
+// are written back as they were read, each cell read right before it is written: so no store of them is left in the compiled code.
 fn write_world(words: &mut [u64], h: World)
     requires { ⌜ Room (now words) (h .tag + 1) ⌝ }
+    requires { ⌜ cellAt (now words) 0 ≡ headerCell (openedAt (now words)) (freeHead (now words)) ⌝ }
     ensures { λ _. ⌜ Headed (now (words .entry)) (now (words .exit)) h ⌝ }
 {
     let a = run_index::read_node(words, 0);
-    let v = run_index::read_node(words, h.tag + 1);
     run_index::write_node(
         words,
         0,
         Node {
             start: a.start,
             end: h.free,
-            left: 0,
-            right: 0,
-            height: 0,
-            runs: 0,
-            ones: 0,
-            tag: 0,
+            left: a.left,
+            right: a.right,
+            height: a.height,
+            runs: a.runs,
+            ones: a.ones,
+            tag: a.tag,
         },
     );
+    let v = run_index::read_node(words, h.tag + 1);
     run_index::write_node(
         words,
         h.tag + 1,
