@@ -193,21 +193,26 @@ module _ (rs : List Run) (c : Canon size 0 rs) (o : ℕ) (small : o < size) wher
       let q : logicalOf z o ≡ size - 1 = omega arith in
       sym (turned-last o (mem rs) small z (omega arith) h (λ y l t. absurd (omega arith)) ∙ q)
 
-  -- a run starts at or before the place of logical M
-  pub last-before : (z : ℕ) (r : Run) → z ≡ physicalOf (size - 1) o → mem rs z ≡ false → some r ≡ lastUpTo z rs
+  -- the last run that starts at or before the place of logical M holds it
+  pub last-inside : (z : ℕ) (r : Run) → z ≡ physicalOf (size - 1) o → some r ≡ lastUpTo z rs → z ≤ r .«end» → size - 1 ≡ lastOf (heldRuns (turned o (mem rs)))
+  last-inside z r e n i =
+      let b : Before rs size z r = subst (Earlier rs size z) (sym n) (earlier size 0 rs z c) in
+      last-top z e (b .member .held z (b .starts) i)
+
+  -- it ends before that place
+  pub last-before : (z : ℕ) (r : Run) → z ≡ physicalOf (size - 1) o → some r ≡ lastUpTo z rs → r .«end» < z
       → logicalOf (r .«end») o ≡ lastOf (heldRuns (turned o (mem rs)))
-  last-before z r e h n = go (subst (Earlier rs size z) (sym n) (earlier size 0 rs z c)) (split z (r .«end»))
+  last-before z r e n i = go (subst (Earlier rs size z) (sym n) (earlier size 0 rs z c))
     where
-      go : Before rs size z r → (z < r .«end») ⊎ (r .«end» ≤ z) → logicalOf (r .«end») o ≡ lastOf (heldRuns (turned o (mem rs)))
-      go b (inl i) = clash (b .member .held z (b .starts) (omega arith)) h
-      go b (inr i) =
+      go : Before rs size z r → logicalOf (r .«end») o ≡ lastOf (heldRuns (turned o (mem rs)))
+      go b =
           sym (turned-last o (mem rs) small (r .«end») (b .member .bounded) (b .member .held (r .«end») (b .member .ordered) (omega arith))
           (λ y t u. b .free y (over y (r .«end») t (b .member .bounded) i u) (upto y (r .«end») t (b .member .bounded) i u)))
         where
-          over : (y s : ℕ) → y < size → s < size → s ≤ z → logicalOf s o < logicalOf y o → s < y
+          over : (y s : ℕ) → y < size → s < size → s < z → logicalOf s o < logicalOf y o → s < y
           over y s t l i u = omega arith
 
-          upto : (y s : ℕ) → y < size → s < size → s ≤ z → logicalOf s o < logicalOf y o → y ≤ z
+          upto : (y s : ℕ) → y < size → s < size → s < z → logicalOf s o < logicalOf y o → y ≤ z
           upto y s t l i u = omega arith
 
   -- none does, but one starts above
@@ -235,3 +240,30 @@ module _ (rs : List Run) (c : Canon size 0 rs) (o : ℕ) (small : o < size) wher
   last-none n =
       let f : (y : ℕ) → y ≤ size - 1 → mem rs y ≡ false = subst (Earlier rs size (size - 1)) (sym n) (earlier size 0 rs (size - 1) c) in
       sym (ap lastOf (turned-none o (mem rs) small (λ y l. f y (omega arith))))
+
+  -- ---- where nothing is turned, the first run of all and the last one tell them
+  pub first-straight : (r : Run) → o ≡ 0 → some r ≡ firstFrom 0 rs → r .start ≡ firstOf (heldRuns (turned o (mem rs)))
+  first-straight r e n = go (subst (Later rs size 0) (sym n) (later size 0 rs 0 c (inr refl)))
+    where
+      go : After rs size 0 r → r .start ≡ firstOf (heldRuns (turned o (mem rs)))
+      go a =
+          let l : r .start < size = omega (arith, a .member .ordered, a .member .bounded) in
+          let q : r .start ≡ logicalOf (r .start) o = omega arith in
+          q ∙ sym (turned-first o (mem rs) small (r .start) l (a .member .held (r .start) (omega arith) (a .member .ordered))
+          (λ y t u. a .free y (omega arith) (under y (r .start) t l u)))
+        where
+          under : (y s : ℕ) → y < size → s < size → logicalOf y o < logicalOf s o → y < s
+          under y s t l u = omega arith
+
+  pub last-straight : (r : Run) → o ≡ 0 → some r ≡ lastUpTo (size - 1) rs → r .«end» ≡ lastOf (heldRuns (turned o (mem rs)))
+  last-straight r e n = go (subst (Earlier rs size (size - 1)) (sym n) (earlier size 0 rs (size - 1) c))
+    where
+      go : Before rs size (size - 1) r → r .«end» ≡ lastOf (heldRuns (turned o (mem rs)))
+      go b =
+          let l : r .«end» < size = b .member .bounded in
+          let q : r .«end» ≡ logicalOf (r .«end») o = omega arith in
+          q ∙ sym (turned-last o (mem rs) small (r .«end») l (b .member .held (r .«end») (b .member .ordered) (omega arith))
+          (λ y t u. b .free y (over y (r .«end») t l u) (omega arith)))
+        where
+          over : (y s : ℕ) → y < size → s < size → logicalOf s o < logicalOf y o → s < y
+          over y s t l u = omega arith

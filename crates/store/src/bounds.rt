@@ -19,8 +19,8 @@ pub fn get_physical(words: &[u64], root: u64, x: Physical) -> bool
     }
 }
 
-// The first logical position held, 0 if there is none.
-pub fn first_held(words: &[u64], root: u64, offset: u64) -> Logical
+// The first logical position held under an offset, 0 if there is none: the place of logical 0, else the first run after it, else the first of all.
+fn first_turned(words: &[u64], root: u64, offset: u64) -> Logical
     requires { ⌜ Indexed (now words) root ⌝ }
     ensures { λ r. ⌜ TellsFirst (now (words .entry)) root offset (r .0) ⌝ }
 {
@@ -41,18 +41,36 @@ pub fn first_held(words: &[u64], root: u64, offset: u64) -> Logical
     }
 }
 
-// The last logical position held, 0 if there is none.
-pub fn last_held(words: &[u64], root: u64, offset: u64) -> Logical
+// The same under any offset. Where nothing is turned, the first run of all tells it, to which only left links lead.
+pub fn first_held(words: &[u64], root: u64, offset: u64) -> Logical
+    requires { ⌜ Indexed (now words) root ⌝ }
+    ensures { λ r. ⌜ TellsFirst (now (words .entry)) root offset (r .0) ⌝ }
+{
+    if offset != 0 {
+        return first_turned(words, root, offset);
+    }
+    let n = run_index::search::at_or_after(words, root, 0);
+    match n {
+        Near::Run(r) => Logical(r.start),
+        Near::None => Logical(0),
+    }
+}
+
+// The last logical position held under an offset, 0 if there is none.
+fn last_turned(words: &[u64], root: u64, offset: u64) -> Logical
     requires { ⌜ Indexed (now words) root ⌝ }
     ensures { λ r. ⌜ TellsLast (now (words .entry)) root offset (r .0) ⌝ }
 {
     let top = crate::places::to_physical(Logical(u64::MAX), offset);
-    if get_physical(words, root, top) {
-        return Logical(u64::MAX);
-    }
-    let n = run_index::search::at_or_before(words, root, top.0);
+    let at = top.0;
+    let n = run_index::search::at_or_before(words, root, at);
     match n {
-        Near::Run(r) => crate::places::to_logical(Physical(r.end), offset),
+        Near::Run(r) => {
+            if at <= r.end {
+                return Logical(u64::MAX);
+            }
+            crate::places::to_logical(Physical(r.end), offset)
+        }
         Near::None => {
             let m = run_index::search::at_or_before(words, root, u64::MAX);
             match m {
@@ -60,6 +78,21 @@ pub fn last_held(words: &[u64], root: u64, offset: u64) -> Logical
                 Near::None => Logical(0),
             }
         }
+    }
+}
+
+// The same under any offset.
+pub fn last_held(words: &[u64], root: u64, offset: u64) -> Logical
+    requires { ⌜ Indexed (now words) root ⌝ }
+    ensures { λ r. ⌜ TellsLast (now (words .entry)) root offset (r .0) ⌝ }
+{
+    if offset != 0 {
+        return last_turned(words, root, offset);
+    }
+    let n = run_index::search::at_or_before(words, root, u64::MAX);
+    match n {
+        Near::Run(r) => Logical(r.end),
+        Near::None => Logical(0),
     }
 }
 
