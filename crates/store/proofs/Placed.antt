@@ -1,13 +1,13 @@
 -- The tests of a pool's worlds as facts, and back: a world passes exactly if its tree and its record fit and it keeps its limits. What
 -- `place_fits` and `worlds_fit` return follows, test by test: each that fails is a part of the definition that fails. Assumes nothing.
-use Prim.Native.Nat.{ℕ, zero, suc, _+_, _-_, _*_, _^_, _≤_, _<_}
-use mathlib.Core.Path.{_≡_, refl, sym, ap, _∙_, subst}
+use Prim.Native.Nat.{ℕ, zero, suc, _+_, _-_, _*_, _^_, _≤_, _<_, max}
+use mathlib.Core.Path.{_≡_, refl, sym, ap, ap₂, _∙_, subst}
 use mathlib.Core.Bool.{Bool, true, false, not}
 use mathlib.Core.List.{List}
 use native.Mathlib.Omega.{arith}
 use native.Mathlib.Decide.{ℕ-discrete}
 use lib.Dec.{leb}
-use borrow.Author.Tests.{not-true, not-false, leb-true, le-leb}
+use borrow.Author.Tests.{not-true, not-false, leb-true, le-leb, lt-leb}
 use Rattle.model.specs.Numbers.{mostWorlds}
 use Rattle.model.specs.Positions.{stretches}
 use Rattle.model.specs.Pools.{claim, claims}
@@ -16,9 +16,10 @@ use Rattle.run_index.specs.declared.Node.{Node}
 use Rattle.run_index.specs.Cells.{cellAt}
 use Rattle.run_index.specs.Tree.{runs}
 use Rattle.store.specs.declared.World.{World}
+use Rattle.store.specs.declared.soundness.Place.{Place}
 use Rattle.store.specs.Layout.{worldAt, floorAt, ceilingAt, nodes, capacity, heldIn, heldBy, plainAt, worldsFrom}
 use Rattle.store.specs.Soundness.{sumTo, runsAt, Planted, KeepsLimits}
-use Rattle.store.specs.Decision.{worldB, placeB, worldsB, toldRuns, Checks}
+use Rattle.store.specs.Decision.{worldB, placeB, worldsB, toldRuns, ChecksPlace, Checks}
 use Rattle.store.specs.Bounds.{RunsCounted, TellsRuns}
 use Rattle.store.proofs.Parts.{lent, lent-nodes}
 use Rattle.store.proofs.Sums.{sum-more, sum-nothing, sum-cong, sum-front}
@@ -53,6 +54,10 @@ place-in w k P =
 misplaced : (w : List ℕ) (k : ℕ) → (Placed w k → ⊥) → false ≡ placeB w k
 misplaced w k f = sym (is-false (placeB w k) (λ e. f (place-out w k e)))
 
+-- what is told of a world that does not fit
+unplaced : (w : List ℕ) (k : ℕ) → false ≡ placeB w k → ChecksPlace w k (record { fits = false; claim = 0; runs = 0 })
+unplaced w k e = record { told = e; claimed = λ t. never t; many = λ t. never t }
+
 -- its positions are those in its nodes
 held-world : (w : List ℕ) (k : ℕ) → heldIn (nodes w) (worldAt w k) ≡ heldBy w k
 unfolding heldBy
@@ -67,8 +72,8 @@ module _ (w : List ℕ) (k : ℕ) (v : Node) (ev : v ≡ cellAt w (k + 1)) where
   ceiling-is = ap (λ (u : Node). u .tag) ev
 
   -- the floor is above the ceiling
-  pub limits-fail : v .tag < v .ones → false ≡ placeB w k
-  limits-fail lt = misplaced w k (λ P. omega (arith, P .limited .limits, floor-is, ceiling-is))
+  pub limits-fail : v .tag < v .ones → ChecksPlace w k (record { fits = false; claim = 0; runs = 0 })
+  limits-fail lt = unplaced w k (misplaced w k (λ P. omega (arith, P .limited .limits, floor-is, ceiling-is)))
 
 -- a world that fits, as it was read
 module _ (w : List ℕ) (k : ℕ) (F : Fitting (nodes w) (worldAt w k)) (h : World) (eh : h ≡ worldAt w k) where
@@ -92,8 +97,8 @@ module _ (w : List ℕ) (k : ℕ) (h : World) (eh : h ≡ worldAt w k) (b : Bool
   world-is = eb ∙ ap (λ l. worldB l h) (lent-nodes w) ∙ ap (worldB (nodes w)) eh
 
   -- these do not fit
-  pub world-fails : not b ≡ true → false ≡ placeB w k
-  world-fails t = misplaced w k (λ P. never (sym (not-true b t) ∙ world-is ∙ worldB-no (nodes w) (worldAt w k) (P .fitting)))
+  pub world-fails : not b ≡ true → ChecksPlace w k (record { fits = false; claim = 0; runs = 0 })
+  world-fails t = unplaced w k (misplaced w k (λ P. never (sym (not-true b t) ∙ world-is ∙ worldB-no (nodes w) (worldAt w k) (P .fitting))))
 
   module _ (tb : not b ≡ false) where
     -- these do
@@ -105,16 +110,25 @@ module _ (w : List ℕ) (k : ℕ) (h : World) (eh : h ≡ worldAt w k) (b : Bool
     world-counted = runs-counted w k world-fitting h eh
 
     -- the number of logical runs decides, if the floor is not above the ceiling
-    pub runs-decide : (v : Node) → v ≡ cellAt w (k + 1) → v .ones ≤ v .tag → (n : ℕ) → TellsRuns (lent w) (h .root) (h .offset) n
-        → leb n (v .tag) ≡ placeB w k
-    runs-decide v ev le n tn =
-        let many : n ≡ stretches (heldBy w k) = runs-told w k world-fitting h eh n tn in
-        same (leb n (v .tag)) (placeB w k)
-        (λ e. place-in w k (record {
+    module _ (v : Node) (ev : v ≡ cellAt w (k + 1)) (le : v .ones ≤ v .tag) (n : ℕ) (tn : TellsRuns (lent w) (h .root) (h .offset) n) where
+      -- what it counts
+      many-are : n ≡ stretches (heldBy w k)
+      many-are = runs-told w k world-fitting h eh n tn
+
+      -- there are too many
+      pub runs-fail : v .tag < n → ChecksPlace w k (record { fits = false; claim = 0; runs = 0 })
+      runs-fail over = unplaced w k (misplaced w k (λ P. omega (arith, P .limited .ceiling, many-are, ceiling-is w k v ev)))
+
+      -- there are not; the larger of it and the floor is what the world claims
+      pub runs-fit : n ≤ v .tag → (c : ℕ) → c ≡ max n (v .ones) → ChecksPlace w k (record { fits = true; claim = c; runs = h .runs })
+      runs-fit few c ec = record {
+        told = sym (place-in w k (record {
           fitting = world-fitting;
-          limited = record { limits = omega (arith, floor-is w k v ev, ceiling-is w k v ev); ceiling = omega (arith, leb-true n (v .tag) e, ceiling-is w k v ev) };
-        }))
-        (λ e. le-leb n (v .tag) (omega (arith, place-out w k e .limited .ceiling, ceiling-is w k v ev)))
+          limited = record { limits = omega (arith, floor-is w k v ev, ceiling-is w k v ev); ceiling = omega (arith, many-are, ceiling-is w k v ev) };
+        }));
+        claimed = λ t. ec ∙ ap₂ max many-are (floor-is w k v ev);
+        many = λ t. ap (λ (x : World). x .runs) eh;
+      }
 
 -- ---- the first n worlds
 -- what their tests say
@@ -190,21 +204,20 @@ module _ (w : List ℕ) (n left runs k : ℕ) (C : Checking w n left runs k) whe
         many = λ e. C .told ∙ ap (toldRuns w) is;
       }
 
-  module _ (lt : k < n) (b : Bool) (eb : b ≡ placeB w k) where
+  module _ (lt : k < n) (r : Place) (er : ChecksPlace w k r) where
     -- world k does not fit
-    pub place-fails : not b ≡ true → Checks w n (record { fits = false; runs = 0 })
-    place-fails t = unchecked w n (λ h u. never (sym (not-true b t) ∙ eb ∙ place-in w k (h k lt)))
+    pub place-fails : not (r .fits) ≡ true → Checks w n (record { fits = false; runs = 0 })
+    place-fails t = unchecked w n (λ h u. never (sym (not-true (r .fits) t) ∙ er .told ∙ place-in w k (h k lt)))
 
-    module _ (tb : not b ≡ false) where
+    module _ (tb : not (r .fits) ≡ false) where
       -- it does
+      fits : r .fits ≡ true
+      fits = not-false (r .fits) tb
+
       placed : Placed w k
-      placed = place-out w k (sym eb ∙ not-false b tb)
+      placed = place-out w k (sym (er .told) ∙ fits)
 
-      -- so its tree is planted
-      pub planted : Planted (nodes w) (worldAt w k)
-      planted = place-planted w k placed
-
-      -- and one world more fits
+      -- so one world more fits
       places : (j : ℕ) → j < suc k → Placed w j
       places j l = go (ℕ-discrete k j)
         where
@@ -212,27 +225,26 @@ module _ (w : List ℕ) (n left runs k : ℕ) (C : Checking w n left runs k) whe
           go (yes i) = subst (Placed w) i placed
           go (no ne) = worlds-out w k (C .fit) j (omega arith)
 
-      module _ (c : ℕ) (ec : c ≡ claim (plainAt w k)) where
-        -- it claims more than is left
-        pub claim-fails : left < c → Checks w n (record { fits = false; runs = 0 })
-        claim-fails over = unchecked w n (λ h u. omega (arith, sum-front n (suc k) (claimAt w) (omega arith), sum-more k (claimAt w), C .unclaimed))
+      -- it claims more than is left
+      pub claim-fails : left < r .claim → Checks w n (record { fits = false; runs = 0 })
+      claim-fails over =
+          unchecked w n (λ h u. omega (arith, er .claimed fits, sum-front n (suc k) (claimAt w) (omega arith), sum-more k (claimAt w), C .unclaimed))
 
-        module _ (h : World) (eh : h ≡ worldAt w k) where
-          -- one term more
-          told-more : runs + h .runs ≡ toldRuns w (suc k)
-          told-more = omega (arith, C .told, sum-more k (λ j. (worldAt w j) .runs), ap (λ (x : World). x .runs) eh)
+      -- one term more
+      told-more : runs + r .runs ≡ toldRuns w (suc k)
+      told-more = omega (arith, C .told, sum-more k (λ j. (worldAt w j) .runs), er .many fits)
 
-          -- the runs are still few
-          pub runs-few : n ≤ mostWorlds → runs + h .runs < 2 ^ 64
-          runs-few le = omega (arith, told-more, told-few w (suc k) places)
+      -- the runs are still few
+      pub runs-few : n ≤ mostWorlds → runs + r .runs < 2 ^ 64
+      runs-few le = omega (arith, told-more, told-few w (suc k) places)
 
-          -- the next world
-          pub checking-more : c ≤ left → Checking w n (left - c) (runs + h .runs) (k + 1)
-          checking-more le =
-              let s : suc k ≡ k + 1 = omega arith in
-              subst (Checking w n (left - c) (runs + h .runs)) s (record {
-                within = omega arith;
-                fit = worlds-in w (suc k) places;
-                told = told-more;
-                unclaimed = omega (arith, sum-more k (claimAt w), C .unclaimed);
-              })
+      -- the next world
+      pub checking-more : r .claim ≤ left → Checking w n (left - r .claim) (runs + r .runs) (k + 1)
+      checking-more le =
+          let s : suc k ≡ k + 1 = omega arith in
+          subst (Checking w n (left - r .claim) (runs + r .runs)) s (record {
+            within = omega arith;
+            fit = worlds-in w (suc k) places;
+            told = told-more;
+            unclaimed = omega (arith, er .claimed fits, sum-more k (claimAt w), C .unclaimed);
+          })

@@ -7,7 +7,7 @@ use lib.Dec.{leb, ltb, eqb}
 use lib.ListN.{length}
 use Rattle.model.specs.Numbers.{size, mostWorlds}
 use Rattle.model.specs.Positions.{heldRuns, stretches}
-use Rattle.model.specs.Pools.{claims}
+use Rattle.model.specs.Pools.{claim, claims}
 use Rattle.run_index.specs.declared.Node.{Node}
 use Rattle.run_index.specs.Cells.{cellAt}
 use Rattle.run_index.specs.Tree.{runs, ones, width}
@@ -26,9 +26,11 @@ use Rattle.store.specs.Layout.{
   highest,
   heldIn,
   heldBy,
+  plainAt,
   worldsFrom,
   worldsOf,
 }
+use Rattle.store.specs.declared.soundness.Place.{Place}
 use Rattle.store.specs.declared.soundness.Checked.{Checked}
 use Rattle.store.specs.Soundness.{firstOf, lastOf, sumTo}
 
@@ -148,6 +150,12 @@ soundB w =
 -- r says whether a tree with the tag g and the runs within lo .. hi hangs at the link k
 abbrev pub Tells : List ℕ → ℕ → ℕ → ℕ → ℕ → Bool → Type 0
 Tells w g k lo hi r = (d : ℕ) → (belowOf w k) .height ≤ d → r ≡ treeB d w g k lo (hi + 1)
+
+-- r says whether world k fits; and if so, what it claims, and how many runs its tree has
+pub record ChecksPlace (w : List ℕ) (k : ℕ) (r : Place) : Type 0 where
+  pub told : r .fits ≡ placeB w k
+  pub claimed : r .fits ≡ true → r .claim ≡ claim (plainAt w k)
+  pub many : r .fits ≡ true → r .runs ≡ (worldAt w k) .runs
 
 -- r says whether the first n worlds fit, and what they claim together; and if so, how many runs they have
 pub record Checks (w : List ℕ) (n : ℕ) (r : Checked) : Type 0 where

@@ -3,7 +3,7 @@
 // number of its world, so no two trees meet; a free node has height 0 and a node of a tree has not, so the chain never meets a tree; and a
 // chain of exactly the nodes that are left, ending in 0, meets each of them once.
 ghost use mathlib.Core.Path.{_≡_};
-ghost use mathlib.Core.Bool.{_||_, not};
+ghost use mathlib.Core.Bool.{false, _||_, not};
 ghost use lib.Dec.{eqb};
 ghost use Prim.Native.Nat.{_+_, _-_, _*_, _≤_, _<_};
 ghost use lib.ListN.{length};
@@ -23,11 +23,11 @@ ghost use Rattle.store.specs.Decision.{
   restB,
   worldB,
   headerB,
-  placeB,
   nothingB,
   unopenedB,
   soundB,
   Tells,
+  ChecksPlace,
   Checks,
 };
 use crate::Store;
@@ -431,24 +431,49 @@ fn header_fits(v: Node) -> bool
     v.tag == 0
 }
 
-// Whether the tree and the record of world k fit, and it keeps its limits.
-fn place_fits(words: &[u64], k: u64) -> bool
+// Whether a world fits; and then, what it claims of the pool, and how many runs its tree has.
+pub struct Place {
+    pub fits: bool,
+    pub claim: u64,
+    pub runs: u64,
+}
+
+// What is told of a world that does not.
+fn misfit() -> Place
+    ensures { λ r. ⌜ r ≡ record { fits = false; claim = 0; runs = 0 } ⌝ }
+{
+    Place {
+        fits: false,
+        claim: 0,
+        runs: 0,
+    }
+}
+
+// Whether the tree and the record of world k fit, and it keeps its limits. Its logical runs are counted once, for the ceiling and for its claim.
+fn place_fits(words: &[u64], k: u64) -> Place
     requires { ⌜ 8 * 17 ≤ length (now words) ⌝ }
     requires { ⌜ k < mostWorlds ⌝ }
-    ensures { λ r. ⌜ r ≡ placeB (now (words .entry)) k ⌝ }
+    ensures { λ r. ⌜ ChecksPlace (now (words .entry)) k r ⌝ }
 {
     let h = crate::read_world(words, k);
     if !world_fits(&words[128..], h) {
-        return false;
+        return misfit();
     }
     let v = run_index::read_node(words, k + 1);
     let floor = v.ones;
     let ceiling = v.tag;
     if floor > ceiling {
-        return false;
+        return misfit();
     }
     let n = crate::bounds::logical_runs(&words[128..], h.root, h.offset, h.runs);
-    n <= ceiling
+    if n > ceiling {
+        return misfit();
+    }
+    Place {
+        fits: true,
+        claim: run_index::larger(n, floor),
+        runs: h.runs,
+    }
 }
 
 // Whether the first n worlds fit, and do not claim more than the capacity together; and then, how many runs their trees have.
@@ -467,22 +492,22 @@ fn worlds_fit(words: &[u64], n: u64) -> Checked
     let mut runs: u64 = 0;
     let mut k: u64 = 0;
     while k < n {
-        if !place_fits(words, k) {
+        let p = place_fits(words, k);
+        if !p.fits {
             return Checked {
                 fits: false,
                 runs: 0,
             };
         }
-        let c = crate::claim(words, k);
+        let c = p.claim;
         if c > left {
             return Checked {
                 fits: false,
                 runs: 0,
             };
         }
-        let h = crate::read_world(words, k);
         left -= c;
-        runs += h.runs;
+        runs += p.runs;
         k += 1;
     }
     Checked {

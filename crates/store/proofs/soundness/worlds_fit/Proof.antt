@@ -6,7 +6,7 @@ use borrow.Author.Needs.{needs}
 use lib.ListN.{length}
 use Rattle.model.specs.Numbers.{mostWorlds}
 use Rattle.store.proofs.Nodes.{sized-length}
-use Rattle.store.proofs.Placed.{Checking, checking-none, checked, place-fails, planted, claim-fails, runs-few, checking-more}
+use Rattle.store.proofs.Placed.{Checking, checking-none, checked, place-fails, claim-fails, runs-few, checking-more}
 use Rattle.store.proofs.soundness.worlds_fit.Statement.{statement}
 use Rattle.store.proofs.soundness.worlds_fit.Tie as tie
 
@@ -22,18 +22,18 @@ of-length-requires c κs = search needs
 loop-holds : tie.Need-loop-holds Inv-loop μ-loop
 loop-holds c = checking-none _ _ _ (c .of-length .ensures)
 
--- the places that the needs look back to: the start, the loop's body, the world's tests passed, and its claim
+-- the places that the needs look back to: the start, the loop's body, the world's tests made and passed, and its claim
 abbrev start : tie.In-loop Inv-loop μ-loop → tie.Start Inv-loop μ-loop
 start c = c .before .before .before .before
 
-abbrev body : tie.Else1 Inv-loop μ-loop → tie.In-loop Inv-loop μ-loop
-body c = c .before .before
+abbrev body : tie.After-place-fits Inv-loop μ-loop → tie.In-loop Inv-loop μ-loop
+body c = c .before
 
-abbrev fitted : tie.Else2 Inv-loop μ-loop → tie.Else1 Inv-loop μ-loop
-fitted c = c .before .before
+abbrev tested : tie.Else1 Inv-loop μ-loop → tie.After-place-fits Inv-loop μ-loop
+tested c = c .before .before
 
-abbrev claimed : tie.After-struct-known Inv-loop μ-loop → tie.Else2 Inv-loop μ-loop
-claimed c = c .before .before
+abbrev claimed : tie.After-struct-known2 Inv-loop μ-loop → tie.Else2 Inv-loop μ-loop
+claimed c = c .before
 
 -- the header and the records have room, and k is one of the worlds
 room : (c : tie.In-loop Inv-loop μ-loop) → (8 * 17 ≤ length (start c .args .words .now)) × (c .before .loop .k < mostWorlds)
@@ -46,51 +46,38 @@ place-fits-requires c κs = room c
 
 returns : tie.Need-returns Inv-loop μ-loop
 returns c =
-    let b = c .before .before in
-    place-fails _ _ _ _ _ (b .before .loop .inv) (omega (arith, b .loop-test .taken)) _ (c .before .place-fits .ensures) (c .if1 .taken)
-
-claim-requires : tie.Need-claim-requires Inv-loop μ-loop
-claim-requires c κs =
-    let b = body c in (
-      omega (arith, room b .0),
-      (
-        omega (arith, room b .0, room b .1),
-        planted _ _ _ _ _ (b .before .loop .inv) (omega (arith, b .loop-test .taken)) _ (c .before .place-fits .ensures) (c .if1 .left),
-      ),
-    )
+    let p = c .before .before in
+    let b = body p in
+    place-fails _ _ _ _ _ (b .before .loop .inv) (omega (arith, b .loop-test .taken)) _ (p .place-fits .ensures) (c .if1 .taken)
 
 returns-2 : tie.Need-returns-2 Inv-loop μ-loop
 returns-2 c =
-    let e = c .before .before in
-    let b = body e in
-    claim-fails _ _ _ _ _ (b .before .loop .inv) (omega (arith, b .loop-test .taken)) _ (e .before .place-fits .ensures) (e .if1 .left)
-    _ (c .before .claim .ensures) (omega (arith, c .if2 .taken))
-
-read-world-requires : tie.Need-read-world-requires Inv-loop μ-loop
-read-world-requires c κs = let r = room (body (fitted c)) in omega (arith, r .0, r .1)
+    let e = c .before in
+    let p = tested e in
+    let b = body p in
+    claim-fails _ _ _ _ _ (b .before .loop .inv) (omega (arith, b .loop-test .taken)) _ (p .place-fits .ensures) (e .if1 .left) (omega (arith, c .if2 .taken))
 
 add-runs : tie.Need-add-runs Inv-loop μ-loop
 add-runs c =
-    let d = claimed c in
-    let e = fitted d in
-    let b = body e in
-    let few = runs-few _ _ _ _ _ (b .before .loop .inv) (omega (arith, b .loop-test .taken)) _ (e .before .place-fits .ensures) (e .if1 .left)
-    _ (d .before .claim .ensures) _ (c .before .read-world .ensures) (start b .pre .1) in
+    let e = claimed c .before in
+    let p = tested e in
+    let b = body p in
+    let few = runs-few _ _ _ _ _ (b .before .loop .inv) (omega (arith, b .loop-test .taken)) _ (p .place-fits .ensures) (e .if1 .left) (start b .pre .1) in
     omega (arith, few)
 
 add-k : tie.Need-add-k Inv-loop μ-loop
-add-k c = let r = room (body (fitted (claimed c))) in omega (arith, r .1)
+add-k c = let r = room (body (tested (claimed c .before))) in omega (arith, r .1)
 
 loop-less : tie.Need-loop-less Inv-loop μ-loop
-loop-less c = omega (arith, body (fitted (claimed c)) .loop-test .taken)
+loop-less c = omega (arith, body (tested (claimed c .before)) .loop-test .taken)
 
 loop-again : tie.Need-loop-again Inv-loop μ-loop
 loop-again c =
     let d = claimed c in
-    let e = fitted d in
-    let b = body e in
-    checking-more _ _ _ _ _ (b .before .loop .inv) (omega (arith, b .loop-test .taken)) _ (e .before .place-fits .ensures) (e .if1 .left)
-    _ (d .before .claim .ensures) _ (c .before .read-world .ensures) (omega (arith, d .if2 .left))
+    let e = d .before in
+    let p = tested e in
+    let b = body p in
+    checking-more _ _ _ _ _ (b .before .loop .inv) (omega (arith, b .loop-test .taken)) _ (p .place-fits .ensures) (e .if1 .left) (omega (arith, d .if2 .left))
 
 returns-3 : tie.Need-returns-3 Inv-loop μ-loop
 returns-3 c = checked _ _ _ _ _ (c .before .loop .inv) (omega (arith, c .loop-test .left))
@@ -105,9 +92,7 @@ worlds-fit-spec =
     loop-holds
     place-fits-requires
     returns
-    claim-requires
     returns-2
-    read-world-requires
     add-runs
     add-k
     loop-less
