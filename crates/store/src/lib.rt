@@ -159,7 +159,8 @@ fn claim(words: &[u64], k: u64) -> u64
     run_index::larger(n, v.ones)
 }
 
-// The most runs that world k may have: no more than its ceiling, and than what the others leave of the capacity.
+// The most runs that world k may have: no more than its ceiling, and than what the others leave of the capacity. Those before it and those after
+// it are passed over apart: so the only world of a pool passes over none.
 pub fn allowance(words: &[u64], k: u64) -> u64
     requires { ⌜ Openable (now words) k ⌝ }
     ensures { λ r. ⌜ r ≡ allowance (now (words .entry)) k ⌝ }
@@ -167,12 +168,16 @@ pub fn allowance(words: &[u64], k: u64) -> u64
     let s = Store::of_length(words.len());
     let n = opened(words);
     let mut left = s.capacity;
-    let mut j: u64 = 0;
+    let mut i: u64 = 0;
+    while i < k {
+        let c = claim(words, i);
+        left -= c;
+        i += 1;
+    }
+    let mut j = k + 1;
     while j < n {
-        if j != k {
-            let c = claim(words, j);
-            left -= c;
-        }
+        let c = claim(words, j);
+        left -= c;
         j += 1;
     }
     let v = run_index::read_node(words, k + 1);
