@@ -1,4 +1,5 @@
-// The calls that change a world where it stands.
+// The calls that change a world where it stands. What the world may have is asked before it is opened: a world at hand would have to be kept
+// aside while the others are passed over.
 ghost use mathlib.Core.List.{[]};
 ghost use Rattle.model.specs.Call.{Call};
 ghost use Rattle.model.specs.Answers.{completedAnswer, countedAnswer};
@@ -22,8 +23,8 @@ pub fn set(words: &mut [u64], world: u64, lower: Bound, upper: Bound, value: boo
     match s {
         Span::Empty => Counted::Count(Count { carry: 0, low: 0 }),
         Span::Closed(a, b) => {
-            let h = store::open(words, world);
             let limit = store::allowance(words, world);
+            let h = store::open(words, world);
             let e = changes::edit::set(&mut words[128..], h, limit, Logical(a), Logical(b), value);
             match e {
                 Edit::Full => Counted::Refused(Refusal::Capacity),
@@ -45,8 +46,8 @@ pub fn flip(words: &mut [u64], world: u64, lower: Bound, upper: Bound) -> Comple
     match s {
         Span::Empty => Completed::Done,
         Span::Closed(a, b) => {
-            let h = store::open(words, world);
             let limit = store::allowance(words, world);
+            let h = store::open(words, world);
             let e = changes::edit::flip(&mut words[128..], h, limit, Logical(a), Logical(b));
             match e {
                 Fit::Full => Completed::Refused(Refusal::Capacity),

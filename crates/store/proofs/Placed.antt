@@ -7,7 +7,7 @@ use mathlib.Core.List.{List}
 use native.Mathlib.Omega.{arith}
 use native.Mathlib.Decide.{ℕ-discrete}
 use lib.Dec.{leb}
-use borrow.Author.Tests.{not-true, not-false, leb-true, le-leb, lt-leb}
+use borrow.Author.Tests.{not-true, not-false, leb-true, le-leb}
 use Rattle.model.specs.Numbers.{mostWorlds}
 use Rattle.model.specs.Positions.{stretches}
 use Rattle.model.specs.Pools.{claim, claims}

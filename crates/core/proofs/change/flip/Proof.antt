@@ -7,18 +7,18 @@ use borrow.Author.Needs.{needs}
 use Rattle.core.proofs.change.flip.Statement.{statement}
 use Rattle.core.proofs.change.flip.Tie as tie
 
--- the places that the needs look back to: the start, where the range is known, the world open, its limit told, and the world edited
+-- the places that the needs look back to: the start, where the range is known, the world's limit told, the world open, and edited
 abbrev start : tie.After-s → tie.Start
 start c = c .before .before .before .before
 
-abbrev ranged : tie.After-open → tie.After-s
+abbrev ranged : tie.After-allowance → tie.After-s
 ranged c = c .before .before .before
 
-abbrev opened : tie.After-allowance → tie.After-open
-opened c = c .before .before
-
-abbrev limited : tie.After-flip → tie.After-allowance
+abbrev limited : tie.After-open → tie.After-allowance
 limited c = c .before .before
+
+abbrev opened : tie.After-flip → tie.After-open
+opened c = c .before .before
 
 abbrev edited : tie.After-e → tie.After-flip
 edited c = c .before .before .before .before
@@ -36,26 +36,26 @@ enum-told c = search needs
 enum-known-s : tie.Need-enum-known-s
 enum-known-s c = search needs
 
-open-requires : tie.Need-open-requires
-open-requires c κs = start (c .before .before) .pre .openable
-
 allowance-requires : tie.Need-allowance-requires
-allowance-requires c κs = start (ranged (c .before)) .pre .openable
+allowance-requires c κs = start (c .before .before) .pre .openable
+
+open-requires : tie.Need-open-requires
+open-requires c κs = start (ranged (c .before)) .pre .openable
 
 sub-flip : tie.Need-sub-flip
-sub-flip c = nodes-there (start (ranged (opened c)) .pre .openable)
+sub-flip c = nodes-there (start (ranged (limited c)) .pre .openable)
 
 part-flip-start : tie.Need-part-flip-start
-part-flip-start c = nodes-there (start (ranged (opened c)) .pre .openable)
+part-flip-start c = nodes-there (start (ranged (limited c)) .pre .openable)
 
 part-flip-end : tie.Need-part-flip-end
 part-flip-end c = search needs
 
 flip-requires : tie.Need-flip-requires
 flip-requires c κs =
-    let l = c .before in
-    let o = opened l in
-    (lent-editable (o .«open» .ensures) (l .allowance .ensures), (within (ranged o)) .order)
+    let o = c .before in
+    let l = limited o in
+    (lent-editable (o .«open» .ensures) (l .allowance .ensures), (within (ranged l)) .order)
 
 enum-told-2 : tie.Need-enum-told-2
 enum-told-2 c = search needs
@@ -66,9 +66,9 @@ enum-known-e c = search needs
 close-requires : tie.Need-close-requires
 close-requires c κs =
     let s = edited (c .before .before) in
-    let l = limited s in
-    let o = opened l in
-    (_, _, fit-closing (start (ranged o) .pre) (o .«open» .ensures) (l .allowance .ensures) _ _ (s .flip .ensures) (c .before .before .e .given .1))
+    let o = opened s in
+    let l = limited o in
+    (_, _, fit-closing (start (ranged l) .pre) (o .«open» .ensures) (l .allowance .ensures) _ _ (s .flip .ensures) (c .before .before .e .given .1))
 
 returns : tie.Need-returns
 returns c =
@@ -82,9 +82,9 @@ same-length c = search needs
 returns-2 : tie.Need-returns-2
 returns-2 c =
     let s = c .before .before .before .before in
-    let l = limited s in
-    let o = opened l in
-    fit-full (flip-says _ _ _ _) refl (start (ranged o) .pre) (o .«open» .ensures) (flip-within (within (ranged o)) (o .«open» .ensures)) (l .allowance .ensures)
+    let o = opened s in
+    let l = limited o in
+    fit-full (flip-says _ _ _ _) refl (start (ranged l) .pre) (o .«open» .ensures) (flip-within (within (ranged l)) (o .«open» .ensures)) (l .allowance .ensures)
     _ _ (s .flip .ensures) (c .enum-told2 .given .1)
 
 same-length-2 : tie.Need-same-length-2
@@ -95,9 +95,9 @@ returns-3 c =
     let k = c .before .before in
     let e = k .before .before .before in
     let s = edited e in
-    let l = limited s in
-    let o = opened l in
-    fit-done (flip-says _ _ _ _) refl (start (ranged o) .pre) (o .«open» .ensures) (flip-within (within (ranged o)) (o .«open» .ensures)) (l .allowance .ensures)
+    let o = opened s in
+    let l = limited o in
+    fit-done (flip-says _ _ _ _) refl (start (ranged l) .pre) (o .«open» .ensures) (flip-within (within (ranged l)) (o .«open» .ensures)) (l .allowance .ensures)
     _ _ (s .flip .ensures) (e .e .given .1) (k .close .ensures) refl
 
 pub flip-spec : {M : Type 1} → statement M
@@ -107,8 +107,8 @@ flip-spec =
     normalize-requires
     enum-told
     enum-known-s
-    open-requires
     allowance-requires
+    open-requires
     sub-flip
     part-flip-start
     part-flip-end

@@ -8,18 +8,18 @@ use borrow.Author.Needs.{needs}
 use Rattle.core.proofs.change.set.Statement.{statement}
 use Rattle.core.proofs.change.set.Tie as tie
 
--- the places that the needs look back to: the start, where the range is known, the world open, its limit told, and the world edited
+-- the places that the needs look back to: the start, where the range is known, the world's limit told, the world open, and edited
 abbrev start : tie.After-s → tie.Start
 start c = c .before .before .before .before
 
-abbrev ranged : tie.After-open → tie.After-s
+abbrev ranged : tie.After-allowance → tie.After-s
 ranged c = c .before .before .before
 
-abbrev opened : tie.After-allowance → tie.After-open
-opened c = c .before .before
-
-abbrev limited : tie.After-set → tie.After-allowance
+abbrev limited : tie.After-open → tie.After-allowance
 limited c = c .before .before
+
+abbrev opened : tie.After-set → tie.After-open
+opened c = c .before .before
 
 abbrev edited : tie.After-e → tie.After-set
 edited c = c .before .before .before .before
@@ -37,26 +37,26 @@ enum-told c = search needs
 enum-known-s : tie.Need-enum-known-s
 enum-known-s c = search needs
 
-open-requires : tie.Need-open-requires
-open-requires c κs = start (c .before .before) .pre .openable
-
 allowance-requires : tie.Need-allowance-requires
-allowance-requires c κs = start (ranged (c .before)) .pre .openable
+allowance-requires c κs = start (c .before .before) .pre .openable
+
+open-requires : tie.Need-open-requires
+open-requires c κs = start (ranged (c .before)) .pre .openable
 
 sub-set : tie.Need-sub-set
-sub-set c = nodes-there (start (ranged (opened c)) .pre .openable)
+sub-set c = nodes-there (start (ranged (limited c)) .pre .openable)
 
 part-set-start : tie.Need-part-set-start
-part-set-start c = nodes-there (start (ranged (opened c)) .pre .openable)
+part-set-start c = nodes-there (start (ranged (limited c)) .pre .openable)
 
 part-set-end : tie.Need-part-set-end
 part-set-end c = search needs
 
 set-requires : tie.Need-set-requires
 set-requires c κs =
-    let l = c .before in
-    let o = opened l in
-    (lent-editable (o .«open» .ensures) (l .allowance .ensures), (within (ranged o)) .order)
+    let o = c .before in
+    let l = limited o in
+    (lent-editable (o .«open» .ensures) (l .allowance .ensures), (within (ranged l)) .order)
 
 enum-told-2 : tie.Need-enum-told-2
 enum-told-2 c = search needs
@@ -67,9 +67,9 @@ enum-known-e c = search needs
 close-requires : tie.Need-close-requires
 close-requires c κs =
     let s = edited (c .before .before) in
-    let l = limited s in
-    let o = opened l in
-    (_, _, edit-closing (start (ranged o) .pre) (o .«open» .ensures) (l .allowance .ensures) _ _ (s .set .ensures) (c .before .before .e .given .1))
+    let o = opened s in
+    let l = limited o in
+    (_, _, edit-closing (start (ranged l) .pre) (o .«open» .ensures) (l .allowance .ensures) _ _ (s .set .ensures) (c .before .before .e .given .1))
 
 returns : tie.Need-returns
 returns c =
@@ -83,9 +83,9 @@ same-length c = search needs
 returns-2 : tie.Need-returns-2
 returns-2 c =
     let s = c .before .before .before .before in
-    let l = limited s in
-    let o = opened l in
-    edit-full (set-says _ _ _ _ _) refl (start (ranged o) .pre) (o .«open» .ensures) (set-within (within (ranged o)) (o .«open» .ensures) _) (l .allowance .ensures)
+    let o = opened s in
+    let l = limited o in
+    edit-full (set-says _ _ _ _ _) refl (start (ranged l) .pre) (o .«open» .ensures) (set-within (within (ranged l)) (o .«open» .ensures) _) (l .allowance .ensures)
     _ _ (s .set .ensures) (c .enum-told2 .given .1)
 
 same-length-2 : tie.Need-same-length-2
@@ -96,9 +96,9 @@ returns-3 c =
     let k = c .before .before in
     let e = k .before .before .before in
     let s = edited e in
-    let l = limited s in
-    let o = opened l in
-    edit-done (set-says _ _ _ _ _) refl (start (ranged o) .pre) (o .«open» .ensures) (set-within (within (ranged o)) (o .«open» .ensures) _) (l .allowance .ensures)
+    let o = opened s in
+    let l = limited o in
+    edit-done (set-says _ _ _ _ _) refl (start (ranged l) .pre) (o .«open» .ensures) (set-within (within (ranged l)) (o .«open» .ensures) _) (l .allowance .ensures)
     _ _ (s .set .ensures) (e .e .given .1) (k .close .ensures) refl
 
 pub set-spec : {M : Type 1} → statement M
@@ -108,8 +108,8 @@ set-spec =
     normalize-requires
     enum-told
     enum-known-s
-    open-requires
     allowance-requires
+    open-requires
     sub-set
     part-set-start
     part-set-end
