@@ -8,9 +8,10 @@
 # make conformance        write the lists of conformance/ anew, with the answers of IntervalBitSet
 # make bench              every benchmark, against IntervalBitSet and plain readings of the same words (docs/BENCHMARKS.md)
 # make bench-gaps         how long the gap search takes, against a plain Rust loop (docs/BENCHMARKS.md)
+# make bench-maps         how long maps take by words and by single bytes, against plain Rust loops (docs/BENCHMARKS.md)
 # make bench-soundness    how long the soundness check takes, against readings of the same words (docs/BENCHMARKS.md)
 # make bench-growth       how many instructions it takes, at four capacities (needs valgrind)
-.PHONY: run test lib prove host differential differential-long conformance bench bench-store bench-gaps bench-soundness bench-growth
+.PHONY: run test lib prove host differential differential-long conformance bench bench-store bench-gaps bench-maps bench-soundness bench-growth
 ARCHIVE := target/lib/libvizturel.a
 HEADER := target/include/vizturel.h
 # the crates that the archive is made of; exports, the last one, is proved where the archive is written
@@ -59,6 +60,8 @@ bench-store:
 	rt staticlib bench_store > target/bench-store.log 2>&1 || { cat target/bench-store.log; exit 1; }
 bench-gaps: $(ARCHIVE) bench-store
 	cargo run --offline --profile fast --features bench_store --manifest-path host/Cargo.toml --bin bench -- gaps
+bench-maps: $(ARCHIVE)
+	cargo run --offline --profile fast --manifest-path host/Cargo.toml --bin bench -- maps
 bench-soundness: bench-store
 	rustc --edition 2021 -C opt-level=3 -L native=target/staticlib -l static=bench_store -o target/bench-soundness bench/soundness.rs
 	target/bench-soundness

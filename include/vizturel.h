@@ -274,10 +274,18 @@ vizturel_written vizturel_write(const uint64_t *words, size_t count, uint64_t wo
 vizturel_written vizturel_write_map(const uint64_t *words, size_t count, uint64_t world, uint64_t base, uint64_t length, uint8_t *out,
                                     size_t out_count);
 
+/* The same by single bytes, for whoever compares: the same answer, refusals and bytes. */
+vizturel_written vizturel_write_map_by_bytes(const uint64_t *words, size_t count, uint64_t world, uint64_t base, uint64_t length, uint8_t *out,
+                                             size_t out_count);
+
 /* Sets the window from a map, leaves the other positions, and tells how many changed. A map with a spare bit that is one is not read.
  * Refused with 6, 10, 8. */
 vizturel_counted vizturel_read_map(uint64_t *words, size_t count, uint64_t world, uint64_t base, uint64_t length, const uint8_t *bytes,
                                    size_t bytes_count);
+
+/* The same by single bytes, for whoever compares: the same answer, refusals and positions. */
+vizturel_counted vizturel_read_map_by_bytes(uint64_t *words, size_t count, uint64_t world, uint64_t base, uint64_t length, const uint8_t *bytes,
+                                            size_t bytes_count);
 
 /* Makes a map of the window fit to be read: zeroes its spare bits, and tells how many were one. The other bits stay. It takes no pool. Stored maps
  * whose spare bits may hold anything go through it before vizturel_read_map. Refused with 6 alone. */

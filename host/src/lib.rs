@@ -466,6 +466,12 @@ impl<S: AsMut<[u64]>> World<S> {
         let (w, n, i) = self.lent_mut();
         count(unsafe { raw::vizturel_read_map(w, n, i, base, length, map.as_ptr(), map.len()) })
     }
+
+    /// [`World::read_map`] by single bytes, for whoever compares the two: the same answer, refusals and positions.
+    pub fn read_map_by_bytes(&mut self, base: u64, length: u64, map: &[u8]) -> Answer<u128> {
+        let (w, n, i) = self.lent_mut();
+        count(unsafe { raw::vizturel_read_map_by_bytes(w, n, i, base, length, map.as_ptr(), map.len()) })
+    }
 }
 
 /// Calls that overwrite a world: it then holds what is told, whatever it held. Its limits stay, and so do the other worlds of the pool.
@@ -636,6 +642,14 @@ impl<S: AsRef<[u64]>> World<S> {
     pub fn write_map<'o>(&self, base: u64, length: u64, out: &'o mut [u8]) -> Answer<&'o mut [u8]> {
         let (w, n, i) = self.lent();
         let written = number(unsafe { raw::vizturel_write_map(w, n, i, base, length, out.as_mut_ptr(), out.len()) })?;
+        Ok(&mut out[..written as usize])
+    }
+
+    /// [`World::write_map`] by single bytes, for whoever compares the two: the same answer, refusals and bytes.
+    pub fn write_map_by_bytes<'o>(&self, base: u64, length: u64, out: &'o mut [u8]) -> Answer<&'o mut [u8]> {
+        let (w, n, i) = self.lent();
+        let (to, room) = (out.as_mut_ptr(), out.len());
+        let written = number(unsafe { raw::vizturel_write_map_by_bytes(w, n, i, base, length, to, room) })?;
         Ok(&mut out[..written as usize])
     }
 }

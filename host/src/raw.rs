@@ -141,9 +141,27 @@ unsafe extern "C" {
         bytes: *const u8,
         length: usize,
     ) -> Counted;
+    pub fn vizturel_read_map_by_bytes(
+        words: *mut u64,
+        count: usize,
+        world: u64,
+        base: u64,
+        n: u64,
+        bytes: *const u8,
+        length: usize,
+    ) -> Counted;
     pub fn vizturel_clear_map(base: u64, n: u64, map: *mut u8, length: usize) -> Numbered;
     pub fn vizturel_write(words: *const u64, count: usize, world: u64, out: *mut u8, length: usize) -> Numbered;
     pub fn vizturel_write_map(
+        words: *const u64,
+        count: usize,
+        world: u64,
+        base: u64,
+        n: u64,
+        out: *mut u8,
+        length: usize,
+    ) -> Numbered;
+    pub fn vizturel_write_map_by_bytes(
         words: *const u64,
         count: usize,
         world: u64,

@@ -8,6 +8,7 @@ fn short(seed: u64) {
         Ok(tally) => {
             assert!(tally.compared > 300_000, "only {} calls were compared", tally.compared);
             assert!(tally.listed > 10_000, "only {} of them in frames", tally.listed);
+            assert!(tally.mapped > 10_000, "only {} of them on maps", tally.mapped);
             // Each refusal came up, so that each was compared.
             for (number, count) in tally.refused.iter().enumerate() {
                 assert!(*count > 100, "refusal {number} came up {count} times");

@@ -1,6 +1,6 @@
-/* The library through include/vizturel.h: the sixteen cases of the scope document, the gap search, spare bits of maps, each refusal, that
- * a refused call changes nothing, calls by lists, and worlds that share a pool. Compiled as C and as C++. Prints what failed, and last
- * 'N passed, M failed'. */
+/* The library through include/vizturel.h: the sixteen cases of the scope document, the gap search, spare bits of maps, maps by words and by
+ * single bytes, each refusal, that a refused call changes nothing, calls by lists, and worlds that share a pool. Compiled as C and as C++.
+ * Prints what failed, and last 'N passed, M failed'. */
 #include <stdio.h>
 #include <stdlib.h>
 #include <string.h>
@@ -349,6 +349,68 @@ static void spare_bits(void) {
     CHECK(vizturel_clear_map(M, 2, out, 1).refusal == VIZTUREL_WINDOW);
     CHECK(vizturel_clear_map(0, 524289, out, 1).refusal == VIZTUREL_WINDOW);
     CHECK(out[0] == 0xD5);
+}
+
+/* Both forms of a map's calls, by words and by single bytes: windows of every length up to 140 against a map made bit by bit, the bytes after it,
+ * what reading leaves, and each refusal. */
+static void both_forms(void) {
+    static const uint64_t runs[] = {1, 2, 6, 8, 30, 99, 103, 103, 120, M};
+    static const uint64_t moved[] = {0, 0, 5, 8, 31, 64, 66, 67, 104, 120, 130, 135};
+    uint8_t map[24], by_words[24], by_bytes[24];
+    uint64_t length, i;
+    vizturel_written w;
+    fresh(s, WORDS);
+    CHECK(vizturel_build(s, WORDS, here, runs, 10) == VIZTUREL_DONE);
+    fresh(b, WORDS);
+    CHECK(vizturel_build(b, WORDS, here, moved, 12) == VIZTUREL_DONE);
+    for (length = 1; length <= 140; length++) {
+        size_t bytes = (size_t)(length + 7) / 8;
+        int right = 1;
+        vizturel_counted c, d;
+        /* written, also the bytes after the map; one byte less is refused with 2 and stays */
+        memset(map, 0xEE, sizeof map);
+        memset(by_words, 0xEE, sizeof by_words);
+        memset(by_bytes, 0xEE, sizeof by_bytes);
+        right &= vizturel_write_map(s, WORDS, here, 1, length, by_words, bytes - 1).refusal == VIZTUREL_OUTPUT_SHORT;
+        right &= vizturel_write_map_by_bytes(s, WORDS, here, 1, length, by_bytes, bytes - 1).refusal == VIZTUREL_OUTPUT_SHORT;
+        right &= memcmp(by_words, map, sizeof map) == 0 && memcmp(by_bytes, map, sizeof map) == 0;
+        memset(map, 0, bytes);
+        for (i = 0; i < length; i++) map[i / 8] = (uint8_t)(map[i / 8] | vizturel_get(s, WORDS, here, 1 + i).value << (i % 8));
+        w = vizturel_write_map(s, WORDS, here, 1, length, by_words, sizeof by_words);
+        right &= w.refusal == 0 && w.bytes == bytes && memcmp(by_words, map, sizeof map) == 0;
+        w = vizturel_write_map_by_bytes(s, WORDS, here, 1, length, by_bytes, sizeof by_bytes);
+        right &= w.refusal == 0 && w.bytes == bytes && memcmp(by_bytes, map, sizeof map) == 0;
+        /* the map of another set is read: the same number, the same positions */
+        right &= vizturel_write_map(b, WORDS, here, 1, length, map, sizeof map).refusal == 0;
+        memcpy(a, s, sizeof s);
+        memcpy(kept, s, sizeof s);
+        c = vizturel_read_map(a, WORDS, here, 1, length, map, bytes);
+        d = vizturel_read_map_by_bytes(kept, WORDS, here, 1, length, map, bytes);
+        right &= c.refusal == 0 && d.refusal == 0 && c.carry == 0 && d.carry == 0 && c.low == d.low;
+        right &= vizturel_eq(a, WORDS, here, kept, WORDS, here).value == 1;
+        for (i = 0; i < 144; i++) {
+            const uint64_t *from = 1 <= i && i <= length ? b : s;
+            right &= vizturel_get(kept, WORDS, here, i).value == vizturel_get(from, WORDS, here, i).value;
+        }
+        check(right, "both forms of a window's map", __LINE__);
+    }
+    /* 1, 7, 12, 6, 10 and 8 of the forms by single bytes */
+    only(one, VIZTUREL_WORDS(1), 2, 7);
+    memcpy(kept, one, sizeof one);
+    map[0] = 0xD5;
+    CHECK(vizturel_read_map_by_bytes(one, VIZTUREL_WORDS(1) - 1, here, 0, 7, map, 1).refusal == VIZTUREL_STORE_LENGTH);
+    CHECK(vizturel_write_map_by_bytes(one, VIZTUREL_WORDS(1) - 1, here, 0, 7, map, 1).refusal == VIZTUREL_STORE_LENGTH);
+    CHECK(vizturel_read_map_by_bytes(one, VIZTUREL_WORDS(1), 3, 0, 0, map, 1).refusal == VIZTUREL_WORLD_UNOPENED);
+    CHECK(vizturel_write_map_by_bytes(one, VIZTUREL_WORDS(1), 3, 0, 0, map, 1).refusal == VIZTUREL_WORLD_UNOPENED);
+    CHECK(vizturel_read_map_by_bytes(one, VIZTUREL_WORDS(1), here, 0, 7, map, 2).refusal == VIZTUREL_WINDOW);
+    CHECK(vizturel_write_map_by_bytes(one, VIZTUREL_WORDS(1), here, M, 2, map, 0).refusal == VIZTUREL_WINDOW);
+    CHECK(vizturel_read_map_by_bytes(one, VIZTUREL_WORDS(1), here, 0, 7, map, 1).refusal == VIZTUREL_STRAY_BIT);
+    map[0] = 0x55;
+    CHECK(vizturel_read_map_by_bytes(one, VIZTUREL_WORDS(1), here, 0, 7, map, 1).refusal == VIZTUREL_CAPACITY);
+    CHECK(memcmp(kept, one, sizeof one) == 0 && map[0] == 0x55);
+    one[7] = 1;
+    CHECK(vizturel_read_map_by_bytes(one, VIZTUREL_WORDS(1), here, 0, 7, map, 1).refusal == VIZTUREL_UNSOUND);
+    CHECK(vizturel_write_map_by_bytes(one, VIZTUREL_WORDS(1), here, 0, 7, map, 1).refusal == VIZTUREL_UNSOUND && map[0] == 0x55);
 }
 
 static void refusals(void) {
@@ -710,6 +772,7 @@ int main(void) {
         cases();
         gaps();
         spare_bits();
+        both_forms();
         refusals();
         every_call();
         any_record();

@@ -145,6 +145,7 @@ static void reading_calls(pool s, uint64_t at, uint64_t told) {
     CHECK(vizturel_eq(partner.words, partner.count, 0, w, n, at).refusal == told);
     CHECK(vizturel_write(w, n, at, out.at, VIZTUREL_SET_BYTES(MOST)).refusal == told);
     CHECK(vizturel_write_map(w, n, at, x / 2, MAP_LENGTH, map.at, MAP_BYTES).refusal == told);
+    CHECK(vizturel_write_map_by_bytes(w, n, at, x / 2, MAP_LENGTH, map.at, MAP_BYTES).refusal == told);
     /* into another pool; there it may also not fit */
     uint64_t r = vizturel_combine(receiver.words, receiver.count, 0, chance(3), w, n, at, partner.words, partner.count, 0);
     CHECK(told ? r == told : r == 0 || r == VIZTUREL_CAPACITY);
@@ -180,7 +181,7 @@ static void changing_calls(pool s, uint64_t at, const uint64_t *damaged, uint64_
     const uint64_t *p = partner.words;
     size_t n = partner.count;
     int which;
-    for (which = 0; which < 9; which++) {
+    for (which = 0; which < 10; which++) {
         switch (which) {
         case 0: refusal = vizturel_set(s.words, s.count, at, lower, upper, v).refusal; break;
         case 1: refusal = vizturel_flip(s.words, s.count, at, lower, upper); break;
@@ -191,6 +192,7 @@ static void changing_calls(pool s, uint64_t at, const uint64_t *damaged, uint64_
         case 6: refusal = vizturel_combine(s.words, s.count, at, v, p, n, 0, p, n, 0); break;
         case 7: refusal = vizturel_not(s.words, s.count, at, p, n, 0); break;
         case 8: refusal = vizturel_shifted(s.words, s.count, at, x, v, p, n, 0); break;
+        case 9: refusal = vizturel_read_map_by_bytes(s.words, s.count, at, x / 2, MAP_LENGTH, map.at, MAP_BYTES).refusal; break;
         }
         CHECK(told ? refusal == told : refusal == 0 || refusal == VIZTUREL_CAPACITY);
         CHECK(refusal == 0 || memcmp(s.words, damaged, 8 * s.count) == 0);
@@ -401,8 +403,12 @@ static void damaged_bytes(void) {
         CHECK(length < VIZTUREL_SET_BYTES(3) ? w.refusal == VIZTUREL_OUTPUT_SHORT : w.refusal == 0);
         w = vizturel_write_map(s.words, s.count, 0, 3, 8 * 20, bytes.at, length);
         CHECK(length < 20 ? w.refusal == VIZTUREL_OUTPUT_SHORT : w.refusal == 0);
+        w = vizturel_write_map_by_bytes(s.words, s.count, 0, 3, 8 * 20, bytes.at, length);
+        CHECK(length < 20 ? w.refusal == VIZTUREL_OUTPUT_SHORT : w.refusal == 0);
         for (i = 0; i < length; i++) bytes.at[i] = 255;
         uint64_t r = vizturel_read_map(s.words, s.count, 0, 3, 8 * 20, bytes.at, length).refusal;
+        CHECK(length == 20 ? r == 0 : r == VIZTUREL_WINDOW);
+        r = vizturel_read_map_by_bytes(s.words, s.count, 0, 3, 8 * 20, bytes.at, length).refusal;
         CHECK(length == 20 ? r == 0 : r == VIZTUREL_WINDOW);
         /* all bits are one: those past the window are stray, until they are cleared */
         uint64_t window = 7 * length + 1;
@@ -427,6 +433,52 @@ static void damaged_bytes(void) {
         }
     }
     give_back(s.lent);
+}
+
+/* Maps of 1 to 24 bytes, each in a slice of just its length, written and read by words and by single bytes: a word that goes past the last byte,
+ * or begins before the first, is seen. */
+static void map_lengths(void) {
+    size_t capacity = 9, count = VIZTUREL_WORDS(9), bytes, i;
+    pool s = lend_pool(count), wide = lend_pool(count), narrow = lend_pool(count);
+    int kind, which;
+    uint64_t n;
+    for (kind = 0; kind < KINDS; kind++) {
+        uint64_t at = kind < SHARED ? 0 : 1;
+        fill_pool(s, capacity, kind);
+        writable(s.lent, 0);
+        for (bytes = 1; bytes <= 24; bytes++) {
+            slice by_words = lend(bytes), by_bytes = lend(bytes);
+            for (n = 8 * bytes - 7; n <= 8 * bytes; n++) {
+                const uint64_t bases[] = {0, 5, M - (n - 1)};
+                for (i = 0; i < sizeof bases / sizeof *bases; i++) {
+                    vizturel_written w = vizturel_write_map(s.words, count, at, bases[i], n, by_words.at, bytes);
+                    vizturel_written b = vizturel_write_map_by_bytes(s.words, count, at, bases[i], n, by_bytes.at, bytes);
+                    CHECK(w.refusal == 0 && w.bytes == bytes && b.refusal == 0 && b.bytes == bytes);
+                    CHECK(memcmp(by_words.at, by_bytes.at, bytes) == 0);
+                    /* the map itself, which changes nothing; the same turned over, and all ones */
+                    for (which = 0; which < 3; which++) {
+                        size_t j;
+                        for (j = 0; j < bytes; j++) by_bytes.at[j] = which == 0 ? by_words.at[j] : which == 1 ? (uint8_t)~by_words.at[j] : 0xFF;
+                        CHECK(vizturel_clear_map(bases[i], n, by_bytes.at, bytes).refusal == 0);
+                        memcpy(wide.words, s.words, 8 * count);
+                        memcpy(narrow.words, s.words, 8 * count);
+                        writable(by_bytes, 0);
+                        vizturel_counted c = vizturel_read_map(wide.words, count, at, bases[i], n, by_bytes.at, bytes);
+                        vizturel_counted d = vizturel_read_map_by_bytes(narrow.words, count, at, bases[i], n, by_bytes.at, bytes);
+                        writable(by_bytes, 1);
+                        CHECK(c.refusal == d.refusal && c.carry == d.carry && c.low == d.low && (which || (c.refusal == 0 && c.low == 0)));
+                        CHECK(vizturel_eq(wide.words, count, at, narrow.words, count, at).value == 1);
+                    }
+                }
+            }
+            give_back(by_words);
+            give_back(by_bytes);
+        }
+        writable(s.lent, 1);
+    }
+    give_back(s.lent);
+    give_back(wide.lent);
+    give_back(narrow.lent);
 }
 
 /* Lists of calls, of any words, and slices for their answers: each of every number of words up to 40. */
@@ -508,6 +560,7 @@ int main(int argc, char **argv) {
     for (i = 0; i < sizeof capacities / sizeof *capacities; i++) damaged_pools(capacities[i], stride);
     wrong_lengths();
     damaged_bytes();
+    map_lengths();
     frame_lengths();
     /* a test that met no sound pool, or no damaged one, would have tested nothing */
     CHECK(sound > 100 && unsound > 1000);

@@ -10,11 +10,12 @@ use Rattle.model.specs.Positions.{Positions, stretches}
 use Rattle.run_index.specs.Cells.{cellAt}
 use Rattle.store.specs.declared.World.{World}
 use Rattle.store.specs.Layout.{nodes, allowance, heldIn, heldBy}
-use Rattle.store.specs.Soundness.{Share, Still, Stands, Limited, Editable, shareOf}
+use Rattle.store.specs.Soundness.{Share, Apart, Still, Stands, Limited, Editable, shareOf}
 use Rattle.store.specs.Settle.{Settled, Became, Openable, Opened, Closing, Closes}
 use Rattle.store.proofs.Nodes.{sized-length}
 use Rattle.store.proofs.Parts.{lent, back, lent-nodes, back-nodes, back-front, back-long, cells-before}
 use Rattle.changes.specs.Edits.{Movable}
+use Rattle.maps.specs.Painted.{Scannable}
 
 -- the nodes are there to be lent
 pub nodes-there : {w : List ℕ} {i : ℕ} → Openable w i → 128 ≤ length w
@@ -33,6 +34,13 @@ module _ {w : List ℕ} {i : ℕ} {h : World} (op : Opened w i h) where
   -- so it stands
   pub lent-stands : Stands (lent w) h
   lent-stands = (shareOf w i, lent-limited .standing)
+
+  -- and its nodes are told by their tag
+  pub lent-scannable : Scannable (lent w) h
+  lent-scannable = (
+    shareOf w i,
+    record { standing = lent-limited .standing; apart = subst (λ v. Apart v (shareOf w i)) (sym (lent-nodes w)) (op .apart) },
+  )
 
   -- it may be edited up to the allowance
   pub lent-editable : {limit : ℕ} → limit ≡ allowance w i → Editable (lent w) h limit

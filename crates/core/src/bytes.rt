@@ -50,8 +50,16 @@ pub fn from_sorted_words(words: &mut [u64], world: u64, runs: &[u64]) -> Complet
     Completed::Done
 }
 
-// Sets a window from a map, leaves the other positions, and returns how many changed.
-pub fn read_map(words: &mut [u64], world: u64, base: u64, n: u64, bytes: &[u8]) -> Counted
+// Sets a window from a map, a word at a time or, where `wide` is false, by single bytes; leaves the other positions, and returns how many
+// changed.
+pub fn read_map(
+    words: &mut [u64],
+    world: u64,
+    base: u64,
+    n: u64,
+    bytes: &[u8],
+    wide: bool,
+) -> Counted
     requires { ⌜ Readable (now words) world ⌝ }
     ensures { λ r. ⌜ Met (now (words .entry)) world (Call.readMap base n (now (bytes .entry))) (countedAnswer r) (now (words .exit)) ⌝ }
 {
@@ -66,7 +74,7 @@ pub fn read_map(words: &mut [u64], world: u64, base: u64, n: u64, bytes: &[u8]) 
     }
     let h = store::open(words, world);
     let limit = store::allowance(words, world);
-    let e = maps::read::read_map(&mut words[128..], h, limit, base, n, bytes);
+    let e = maps::read::read_map(&mut words[128..], h, limit, base, n, bytes, wide);
     match e {
         Edit::Full => Counted::Refused(Refusal::Capacity),
         Edit::Changed(k, c) => {

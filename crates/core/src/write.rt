@@ -20,8 +20,15 @@ pub fn write_set(words: &[u64], world: u64, out: &mut [u8]) -> Written
     Written::Bytes(due)
 }
 
-// Writes the map of a window, and returns how many bytes it has.
-pub fn write_map(words: &[u64], world: u64, base: u64, n: u64, out: &mut [u8]) -> Written
+// Writes the map of a window, a word at a time or, where `wide` is false, by single bytes, and returns how many bytes it has.
+pub fn write_map(
+    words: &[u64],
+    world: u64,
+    base: u64,
+    n: u64,
+    out: &mut [u8],
+    wide: bool,
+) -> Written
     requires { ⌜ Readable (now words) world ⌝ }
     ensures { λ r. ⌜ WritesOut (Call.writeMap base n) (now (words .entry)) world (now (out .entry)) r (now (out .exit)) ⌝ }
 {
@@ -33,6 +40,10 @@ pub fn write_map(words: &[u64], world: u64, base: u64, n: u64, out: &mut [u8]) -
         return Written::Refused(Refusal::OutputShort);
     }
     let h = store::open(words, world);
-    maps::write::write_map(&words[128..], h, base, n, out);
+    if wide {
+        maps::write::write_map(&words[128..], h, base, n, out);
+    } else {
+        maps::write::write_map_by_bytes(&words[128..], h, base, n, out);
+    }
     Written::Bytes(due)
 }

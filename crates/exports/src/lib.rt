@@ -355,6 +355,26 @@ pub extern "C" fn vizturel_read_map(
     structs::count(flat::counted(interval_bit_set::bytes::read_map(words, world, base, n, bytes)))
 }
 
+// The same by single bytes.
+#[no_mangle]
+pub extern "C" fn vizturel_read_map_by_bytes(
+    words: &mut [u64],
+    world: u64,
+    base: u64,
+    n: u64,
+    bytes: &[u8],
+) -> CCounted
+    ensures { λ r. ⌜ Returns (now (words .entry)) world (Call.readMap base n (now (bytes .entry))) countOf r (now (words .exit)) ⌝ }
+{
+    structs::count(flat::counted(interval_bit_set::bytes::read_map_by_bytes(
+        words,
+        world,
+        base,
+        n,
+        bytes,
+    )))
+}
+
 // Zeroes the spare bits of a window's map, and tells how many were one. It takes no pool.
 #[no_mangle]
 pub extern "C" fn vizturel_clear_map(base: u64, n: u64, map: &mut [u8]) -> CNumbered
@@ -383,6 +403,26 @@ pub extern "C" fn vizturel_write_map(
     ensures { λ r. ⌜ Writes (now (words .entry)) world (Call.writeMap base n) (now (out .entry)) r (now (out .exit)) ⌝ }
 {
     structs::bytes(flat::written(interval_bit_set::write::write_map(words, world, base, n, out)))
+}
+
+// The same by single bytes.
+#[no_mangle]
+pub extern "C" fn vizturel_write_map_by_bytes(
+    words: &[u64],
+    world: u64,
+    base: u64,
+    n: u64,
+    out: &mut [u8],
+) -> CWritten
+    ensures { λ r. ⌜ Writes (now (words .entry)) world (Call.writeMap base n) (now (out .entry)) r (now (out .exit)) ⌝ }
+{
+    structs::bytes(flat::written(interval_bit_set::write::write_map_by_bytes(
+        words,
+        world,
+        base,
+        n,
+        out,
+    )))
 }
 
 // Serves a list of calls, each a record of eight words, after one look at the pool, and writes a record of eight words for each answer.

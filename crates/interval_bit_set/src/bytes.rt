@@ -35,15 +35,37 @@ pub fn from_sorted_words(words: &mut [u64], world: u64, runs: &[u64]) -> Complet
     }
 }
 
-// Sets a window from a map, leaves the other positions, and returns how many changed.
-pub fn read_map(words: &mut [u64], world: u64, base: u64, n: u64, bytes: &[u8]) -> Counted
+// Sets a window from a map, a word at a time or, where `wide` is false, by single bytes; leaves the other positions, and returns how many
+// changed.
+fn read_map_as(
+    words: &mut [u64],
+    world: u64,
+    base: u64,
+    n: u64,
+    bytes: &[u8],
+    wide: bool,
+) -> Counted
     ensures { λ r. ⌜ Met (now (words .entry)) world (Call.readMap base n (now (bytes .entry))) (countedAnswer r) (now (words .exit)) ⌝ }
 {
     let l = crate::look::look_at(words, world);
     match l {
         Look::Refused(r) => Counted::Refused(r),
-        Look::Sound => core::bytes::read_map(words, world, base, n, bytes),
+        Look::Sound => core::bytes::read_map(words, world, base, n, bytes, wide),
     }
+}
+
+// Sets a window from a map, leaves the other positions, and returns how many changed. Eight bytes of the map are read as a word.
+pub fn read_map(words: &mut [u64], world: u64, base: u64, n: u64, bytes: &[u8]) -> Counted
+    ensures { λ r. ⌜ Met (now (words .entry)) world (Call.readMap base n (now (bytes .entry))) (countedAnswer r) (now (words .exit)) ⌝ }
+{
+    read_map_as(words, world, base, n, bytes, true)
+}
+
+// The same by single bytes: the plain form, which the other is proved to agree with.
+pub fn read_map_by_bytes(words: &mut [u64], world: u64, base: u64, n: u64, bytes: &[u8]) -> Counted
+    ensures { λ r. ⌜ Met (now (words .entry)) world (Call.readMap base n (now (bytes .entry))) (countedAnswer r) (now (words .exit)) ⌝ }
+{
+    read_map_as(words, world, base, n, bytes, false)
 }
 
 // Zeroes the spare bits of a window's map, and returns how many were one. It takes no pool, so there is none to look at.

@@ -21,15 +21,29 @@ pub fn write_set(words: &[u64], world: u64, out: &mut [u8]) -> Written
     }
 }
 
-// Writes the map of a window, and tells how many bytes it has.
-pub fn write_map(words: &[u64], world: u64, base: u64, n: u64, out: &mut [u8]) -> Written
+// Writes the map of a window, a word at a time or, where `wide` is false, by single bytes, and tells how many bytes it has.
+fn write_map_as(words: &[u64], world: u64, base: u64, n: u64, out: &mut [u8], wide: bool) -> Written
     ensures { λ r. ⌜ WritesOut (Call.writeMap base n) (now (words .entry)) world (now (out .entry)) r (now (out .exit)) ⌝ }
 {
     let l = crate::look::look_at(words, world);
     match l {
         Look::Refused(r) => Written::Refused(r),
-        Look::Sound => core::write::write_map(words, world, base, n, out),
+        Look::Sound => core::write::write_map(words, world, base, n, out, wide),
     }
+}
+
+// Writes the map of a window, and tells how many bytes it has. Eight bytes of the map are written as a word.
+pub fn write_map(words: &[u64], world: u64, base: u64, n: u64, out: &mut [u8]) -> Written
+    ensures { λ r. ⌜ WritesOut (Call.writeMap base n) (now (words .entry)) world (now (out .entry)) r (now (out .exit)) ⌝ }
+{
+    write_map_as(words, world, base, n, out, true)
+}
+
+// The same by single bytes: the plain form, which the other is proved to agree with.
+pub fn write_map_by_bytes(words: &[u64], world: u64, base: u64, n: u64, out: &mut [u8]) -> Written
+    ensures { λ r. ⌜ WritesOut (Call.writeMap base n) (now (words .entry)) world (now (out .entry)) r (now (out .exit)) ⌝ }
+{
+    write_map_as(words, world, base, n, out, false)
 }
 
 // A refusal's number, or 0, and how many bytes were written.

@@ -11,4 +11,5 @@ pub mod Reloading
 pub mod Neighbours
 pub mod Floors
 pub mod Writing
+pub mod Forms
 pub mod Theorems

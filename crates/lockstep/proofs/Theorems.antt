@@ -15,6 +15,7 @@ use Rattle.lockstep.specs.Theorems.{
   Cleared-reads,
   Cleared-once,
   Written-stays,
+  Forms-agree,
 }
 use Rattle.lockstep.proofs.Following.{follows, new-holds, answered-alike}
 use Rattle.lockstep.proofs.Matches.{matches}
@@ -23,6 +24,7 @@ use Rattle.lockstep.proofs.Loading.{writable-loads}
 use Rattle.lockstep.proofs.Reloading.{loads-writable}
 use Rattle.lockstep.proofs.Floors.{reaches-floor}
 use Rattle.lockstep.proofs.Neighbours.{alike}
+use Rattle.lockstep.proofs.Forms.{met-alike, writes-alike}
 use Rattle.lockstep.proofs.Clearing
 use Rattle.lockstep.proofs.Clearing.{written-stays}
 
@@ -60,3 +62,6 @@ cleared-once base n bs bs′ bs″ c d h g = Clearing.clear-twice base n bs h g
 
 pub written-map-stays : Written-stays
 written-map-stays w i base n bs bs′ a W h = written-stays W h
+
+pub forms-agree : Forms-agree
+forms-agree = (λ w i base n bs a b w′ v′ m k. met-alike m k, λ w i base n out r s out′ out″ m k. writes-alike m k)

@@ -6,6 +6,8 @@ use mathlib.Core.Bool.{false}
 use mathlib.Core.List.{List}
 use lib.ListN.{length}
 use Rattle.model.specs.declared.Limits.{Limits}
+use Rattle.model.specs.declared.Written.{Written}
+use Rattle.model.specs.Answers.{writtenAnswer}
 use Rattle.model.specs.RunList.{AllBytes}
 use Rattle.model.specs.Positions.{stretches}
 use Rattle.model.specs.Call.{Call, feed, PoolCall, number, written, Answer, refused, gave}
@@ -15,6 +17,7 @@ use Rattle.model.specs.Clearing.{clearMap}
 use Rattle.store.specs.Layout.{capacity, openedAt, floorAt, heldBy, worldsOf}
 use Rattle.store.specs.Soundness.{Sound}
 use Rattle.core.specs.Met.{Site, fedAt, fedOf, Leaves, Met}
+use Rattle.core.specs.Out.{WritesOut}
 use Rattle.core.specs.Handles.{Handles}
 use Rattle.lockstep.specs.History.{History, New, told, outcomes, Follows, left, WritesSet, Loads, Writable}
 use Rattle.lockstep.specs.Matches.{Match}
@@ -98,3 +101,13 @@ abbrev pub Written-stays : Type 0
 Written-stays =
     (w : List ℕ) (i base n : ℕ) (bs bs′ : List ℕ) (a : Answer)
     → WritesMap w i base n bs → Handles (clearMap base n bs) a bs′ → (a ≡ gave (number 0)) × (bs′ ≡ bs)
+
+-- ---- maps a word at a time (document 02, Ticket 4)
+-- `read_map` and `read_map_by_bytes` promise the same `Met`, `write_map` and `write_map_by_bytes` the same `WritesOut`. So on every input the two
+-- forms of reading answer alike, refusals included, and leave the same worlds; and those of writing answer alike and leave the same slice
+abbrev pub Forms-agree : Type 0
+Forms-agree =
+    ((w : List ℕ) (i base n : ℕ) (bs : List ℕ) (a b : Answer) (w′ v′ : List ℕ)
+    → Met w i (Call.readMap base n bs) a w′ → Met w i (Call.readMap base n bs) b v′ → (a ≡ b) × (worldsOf w′ ≡ worldsOf v′))
+    × ((w : List ℕ) (i base n : ℕ) (out : List ℕ) (r s : Written) (out′ out″ : List ℕ)
+    → WritesOut (Call.writeMap base n) w i out r out′ → WritesOut (Call.writeMap base n) w i out s out″ → (writtenAnswer r out′ ≡ writtenAnswer s out″) × (out′ ≡ out″))

@@ -8,3 +8,8 @@ pub mod Applying
 pub mod Storing
 pub mod Octeting
 pub mod Sparing
+pub mod Masks
+pub mod Painting
+pub mod Rounds
+pub mod Showing
+pub mod Words

@@ -46,7 +46,7 @@ reads-later w path u s x z Q ro r l m = go (s .live) refl
 
 -- ---- the bits of a byte
 -- those of n positions of one value
-same-bits : (v : Bool) (x n : ℕ) → oneIf v * (2 ^ n - 1) ≡ bits (λ _. v) x n
+pub same-bits : (v : Bool) (x n : ℕ) → oneIf v * (2 ^ n - 1) ≡ bits (λ _. v) x n
 unfolding bits
 same-bits false x zero = refl
 same-bits false x (suc n) = omega (arith, same-bits false (suc x) n)

@@ -49,7 +49,7 @@ none-left P rest found total h (x, k, e, f) = let z : count P true x k ≡ 0 = n
 
 -- ---- the last byte
 -- a byte is the bits of its eight positions
-byte-is : (bs : List ℕ) (j : ℕ) → getD bs j 0 < 256 → getD bs j 0 ≡ bits (mapBit bs) (8 * j) 8
+pub byte-is : (bs : List ℕ) (j : ℕ) → getD bs j 0 < 256 → getD bs j 0 ≡ bits (mapBit bs) (8 * j) 8
 byte-is bs j h = bits-tell 8 (getD bs j 0) (bits (mapBit bs) (8 * j) 8) h (bits-bound (mapBit bs) (8 * j) 8) (λ i g. byte-bit bs j i g ∙ sym (bits-bit (mapBit bs) (8 * j) 8 i g))
 
 module _ (n : ℕ) (bs : List ℕ) (some : n % 8 ≡ 0 → ⊥) (small : getD bs (n / 8) 0 < 256) where

@@ -1,13 +1,21 @@
--- Bytes stored one after the other, and a slice with the first bytes of some in front: storing the next ones there makes it more. Assumes nothing.
-use Prim.Native.Nat.{ℕ, zero, suc, _+_, _≤_, _<_}
+-- Bytes stored one after the other, and a slice with the first bytes of some in front: storing the next ones there makes it more,
+-- and zeros have no bit that is 1. Assumes nothing.
+use Prim.Native.Nat.{ℕ, zero, suc, _+_, _-_, _/_, _%_, _^_, _≤_, _<_}
 use mathlib.Core.Path.{_≡_, refl, ap, ap₂, _∙_}
+use mathlib.Core.Logic.{_⊎_, inl, inr}
+use mathlib.Core.Bool.{false}
 use mathlib.Core.List.{List, _++_}
-use native.Mathlib.Nat.{zero-add}
+use native.Mathlib.Nat.{zero-add, zero-div}
+use native.Mathlib.Decide.{ℕ-discrete}
 use native.Mathlib.Numerals.{add-one}
 use native.Mathlib.Omega.{arith}
-use lib.ListN.{length, take, drop, getD, set, length-set}
-use lib.Seq.{paste-suc, length-paste, take-length}
-use Rattle.model.specs.Bytes.{intoFront}
+use lib.Dec.{eqb}
+use lib.ListN.{length, take, drop, getD, set, length-set, List·getD-eq-default}
+use lib.Seq.{paste-suc, length-paste, take-length, getD-set-same, getD-set-other}
+use Rattle.model.specs.Positions.{Positions}
+use Rattle.model.specs.Bytes.{mapOf, mapBit, intoFront}
+use Rattle.model.proofs.Numbers.{split}
+use Rattle.model.proofs.Maps.{mapOf-length}
 use Rattle.maps.specs.Octets.{stores}
 
 -- ---- bytes stored from j on
@@ -64,3 +72,32 @@ fronted-length bs out j h g = simp zero-add at (length-paste out 0 bs j (rw zero
 pub fronted-all : (bs out : List ℕ) (j : ℕ) → j ≡ length bs → fronted bs out j ≡ intoFront bs out
 unfolding intoFront
 fronted-all bs out j e = rw (e, take-length)
+
+-- a map in a part of its length, as the code has it, and what lay behind
+pub map-front : (P : Positions) (base n : ℕ) (out : List ℕ) {ys : List ℕ} → 1 ≤ n → ys ≡ mapOf P base n → ys ++ drop ((n - 1) / 8 + 1 - 0) out ≡ intoFront (mapOf P base n) out
+unfolding intoFront
+map-front P base n out h e =
+    let d : (n - 1) / 8 + 1 - 0 ≡ length (mapOf P base n) = omega (arith, mapOf-length P base n) in
+    ap₂ (λ (l : List ℕ) (k : ℕ). l ++ drop k out) e d
+
+-- ---- zeros
+-- a byte of the first n after n zeros are stored from the front
+zeros-at : (n : ℕ) (out : List ℕ) → n ≤ length out → (k : ℕ) → k < n → getD (stores (λ _. 0) 0 n out) k 0 ≡ 0
+unfolding stores
+zeros-at zero out h k l = absurd (omega arith)
+zeros-at (suc n) out h k l = go (ℕ-discrete k (0 + n)) (zeros-at n out (omega arith) k)
+  where
+    go : Dec (k ≡ 0 + n) → (k < n → getD (stores (λ _. 0) 0 n out) k 0 ≡ 0) → getD (set (stores (λ _. 0) 0 n out) (0 + n) 0) k 0 ≡ 0
+    go (yes e) r = rw e (getD-set-same (stores (λ _. 0) 0 n out) (0 + n) 0 0 (omega (arith, stores-length (λ _. 0) 0 n out)))
+    go (no ne) r = getD-set-other (stores (λ _. 0) 0 n out) (0 + n) k 0 0 ne ∙ r (omega arith)
+
+-- where all bytes are zeros no bit is 1
+pub zeros-bit-none : (out : List ℕ) (i : ℕ) → mapBit (stores (λ _. 0) 0 (length out) out) i ≡ false
+unfolding mapBit
+zeros-bit-none out i = go (split (i / 8) (length out))
+  where
+    go : (i / 8 < length out) ⊎ (length out ≤ i / 8) → eqb (getD (stores (λ _. 0) 0 (length out) out) (i / 8) 0 / 2 ^ (i % 8) % 2) 1 ≡ false
+    go (inl l) = rw (zeros-at (length out) out (omega arith) (i / 8) l, zero-div)
+    go (inr l) =
+        let g : length (stores (λ _. 0) 0 (length out) out) ≤ i / 8 = omega (arith, stores-length (λ _. 0) 0 (length out) out) in
+        rw (List·getD-eq-default (stores (λ _. 0) 0 (length out) out) 0 g, zero-div)

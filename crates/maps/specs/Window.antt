@@ -19,10 +19,10 @@ pub record Window (base n : ℕ) (bs : List ℕ) : Type 0 where
   pub within : base + n ≤ size
   pub exact : length bs ≡ mapLength n
 
--- a byte whose bits are all of the value, told only where it is so
-abbrev pub WholeByte : List ℕ → ℕ → Bool → Bool → Type 0
-WholeByte bs i v true = (k : ℕ) → k < 8 → mapBit bs (i + k) ≡ v
-WholeByte bs i v false = Unit {0}
+-- n bits from i on that all have the value, told only where it is so
+abbrev pub Whole : ℕ → List ℕ → ℕ → Bool → Bool → Type 0
+Whole n bs i v true = (k : ℕ) → k < n → mapBit bs (i + k) ≡ v
+Whole n bs i v false = Unit {0}
 
 pub record Surveyed (P : Positions) (base n : ℕ) (bs : List ℕ) (s : Survey) : Type 0 where
   pub runs-are : s .runs ≡ countRanges (mapped base n bs P) true base n

@@ -1,4 +1,5 @@
-// Reading a map into a world, stretch by stretch. What it would leave is counted before the first write.
+// Reading a map into a world, stretch by stretch. What it would leave is counted before the first write. A stretch passes whole words where
+// `wide` is true, and bytes and bits alone where it is not: the form by single bytes.
 ghost use mathlib.Core.Path.{_≡_};
 ghost use mathlib.Core.Bool.{true};
 ghost use Prim.Native.Nat.{_+_, _*_, _-_, _≤_, _<_};
@@ -9,7 +10,7 @@ ghost use Rattle.model.specs.Bytes.{mapBit, mapped};
 ghost use Rattle.store.specs.Layout.{heldIn};
 ghost use Rattle.store.specs.Soundness.{Stands, Editable};
 ghost use Rattle.changes.specs.Edits.{Makes, Edited, StretchEnd};
-ghost use Rattle.maps.specs.Window.{Window, WholeByte, Surveyed, MayMap};
+ghost use Rattle.maps.specs.Window.{Window, Whole, Surveyed, MayMap};
 use changes::edit::Edit;
 use model::Count;
 use model::Logical;
@@ -27,7 +28,7 @@ fn bit(bytes: &[u8], i: u64) -> bool
 // Whether the eight bits from i on, the first of a byte, all have the value.
 fn whole_byte(bytes: &[u8], i: u64, value: bool) -> bool
     requires { ⌜ i < 8 * length (now bytes) ⌝ }
-    ensures { λ r. ⌜ WholeByte (now (bytes .entry)) i value r ⌝ }
+    ensures { λ r. ⌜ Whole 8 (now (bytes .entry)) i value r ⌝ }
 {
     if i % 8 != 0 {
         return false;
@@ -37,7 +38,7 @@ fn whole_byte(bytes: &[u8], i: u64, value: bool) -> bool
 }
 
 // The last of n bits that has the value of bit i, all between having it too.
-fn stretch(bytes: &[u8], i: u64, n: u64) -> u64
+fn stretch(bytes: &[u8], i: u64, n: u64, wide: bool) -> u64
     requires { ⌜ i < n ⌝ }
     requires { ⌜ n ≤ 8 * length (now bytes) ⌝ }
     ensures { λ r. ⌜ StretchEnd (mapBit (now (bytes .entry))) (mapBit (now (bytes .entry)) i) i (n - 1) r ⌝ }
@@ -45,13 +46,17 @@ fn stretch(bytes: &[u8], i: u64, n: u64) -> u64
     let value = bit(bytes, i);
     let mut e = i;
     while e + 1 < n {
-        if n - e > 8 && whole_byte(bytes, e + 1, value) {
-            e += 8;
+        if wide && n - e > 64 && crate::word::whole_word(bytes, e + 1, value) {
+            e += 64;
         } else {
-            if bit(bytes, e + 1) != value {
-                return e;
+            if n - e > 8 && whole_byte(bytes, e + 1, value) {
+                e += 8;
+            } else {
+                if bit(bytes, e + 1) != value {
+                    return e;
+                }
+                e += 1;
             }
-            e += 1;
         }
     }
     e
@@ -63,7 +68,7 @@ pub struct Survey {
     pub changed: u64,
 }
 
-fn survey_map(words: &[u64], h: World, base: u64, n: u64, bytes: &[u8]) -> Survey
+fn survey_map(words: &[u64], h: World, base: u64, n: u64, bytes: &[u8], wide: bool) -> Survey
     requires { ⌜ Stands (now words) h ⌝ }
     requires { ⌜ Window base n (now bytes) ⌝ }
     ensures { λ r. ⌜ Surveyed (heldIn (now (words .entry)) h) base n (now (bytes .entry)) r ⌝ }
@@ -73,7 +78,7 @@ fn survey_map(words: &[u64], h: World, base: u64, n: u64, bytes: &[u8]) -> Surve
     let mut changed: u64 = 0;
     while i < n {
         let value = bit(bytes, i);
-        let e = stretch(bytes, i, n);
+        let e = stretch(bytes, i, n, wide);
         let t = reports::logical::tally(words, h, Logical(base + i), Logical(base + e), !value);
         let c = t.count;
         changed += c.low;
@@ -117,18 +122,18 @@ fn map_fits(words: &[u64], h: World, limit: u64, base: u64, n: u64, bytes: &[u8]
 
 // Gives the window the map's values, where what it leaves fits. A map of one value is one set; else the window is cleared first, and
 // then no set on the way leaves more runs than the last one.
-fn apply_map(words: &mut [u64], h: World, base: u64, n: u64, bytes: &[u8]) -> World
+fn apply_map(words: &mut [u64], h: World, base: u64, n: u64, bytes: &[u8], wide: bool) -> World
     requires { ⌜ MayMap (now words) h base n (now bytes) ⌝ }
     ensures { λ r. ⌜ Makes (now (words .entry)) (now (words .exit)) h r (mapped base n (now (bytes .entry)) (heldIn (now (words .entry)) h)) ⌝ }
 {
-    let mut e = stretch(bytes, 0, n);
+    let mut e = stretch(bytes, 0, n, wide);
     if e + 1 == n {
         return changes::edit::apply_set(words, h, Logical(base), Logical(base + e), bit(bytes, 0));
     }
     let mut at = changes::edit::apply_set(words, h, Logical(base), Logical(base + (n - 1)), false);
     let mut i: u64 = 0;
     while i < n {
-        e = stretch(bytes, i, n);
+        e = stretch(bytes, i, n, wide);
         if bit(bytes, i) {
             at = changes::edit::apply_set(words, at, Logical(base + i), Logical(base + e), true);
         }
@@ -138,12 +143,20 @@ fn apply_map(words: &mut [u64], h: World, base: u64, n: u64, bytes: &[u8]) -> Wo
 }
 
 // Sets a window from a map, leaves the other positions, and returns how many changed.
-pub fn read_map(words: &mut [u64], h: World, limit: u64, base: u64, n: u64, bytes: &[u8]) -> Edit
+pub fn read_map(
+    words: &mut [u64],
+    h: World,
+    limit: u64,
+    base: u64,
+    n: u64,
+    bytes: &[u8],
+    wide: bool,
+) -> Edit
     requires { ⌜ Editable (now words) h limit ⌝ }
     requires { ⌜ Window base n (now bytes) ⌝ }
     ensures { λ r. ⌜ Edited (now (words .entry)) (now (words .exit)) h limit (mapped base n (now (bytes .entry)) (heldIn (now (words .entry)) h)) r ⌝ }
 {
-    let s = survey_map(words, h, base, n, bytes);
+    let s = survey_map(words, h, base, n, bytes, wide);
     let changed = s.changed;
     if changed == 0 {
         return Edit::Changed(h, Count { carry: 0, low: 0 });
@@ -151,7 +164,7 @@ pub fn read_map(words: &mut [u64], h: World, limit: u64, base: u64, n: u64, byte
     if !map_fits(words, h, limit, base, n, bytes, s.runs) {
         return Edit::Full;
     }
-    let k = apply_map(words, h, base, n, bytes);
+    let k = apply_map(words, h, base, n, bytes, wide);
     Edit::Changed(
         k,
         Count {

@@ -1,4 +1,5 @@
-// Writing the map of a window: bytes that lie in one stretch at once, the others stretch by stretch.
+// Writing the map of a window: painted a word at a time, or by single bytes, those that lie in one stretch at once and the others stretch by
+// stretch.
 ghost use mathlib.Core.Path.{_≡_};
 ghost use Prim.Native.Nat.{_+_, _-_, _*_, _/_, _^_, _≤_, min};
 ghost use lib.ListN.{length};
@@ -7,6 +8,7 @@ ghost use Rattle.model.specs.Positions.{oneIf};
 ghost use Rattle.model.specs.Bytes.{mapOf, mapLength, intoFront};
 ghost use Rattle.store.specs.Layout.{heldIn};
 ghost use Rattle.store.specs.Soundness.{Stands};
+ghost use Rattle.maps.specs.Painted.{Scannable};
 ghost use Rattle.maps.specs.Octets.{Placed, Octets, stores, BytesDue, StoresNext};
 use model::Logical;
 use store::World;
@@ -58,7 +60,7 @@ fn octet_of(words: &[u64], path: &mut [u64; HIGHEST], v: View, s: Source, x: u64
 }
 
 // Stores n copies of a byte from j on.
-fn fill_bytes(out: &mut [u8], j: usize, n: usize, byte: u8)
+pub fn fill_bytes(out: &mut [u8], j: usize, n: usize, byte: u8)
     requires { ⌜ j + n ≤ length (now out) ⌝ }
     ensures { λ _. ⌜ now (out .exit) ≡ stores (λ _. byte) j n (now (out .entry)) ⌝ }
 {
@@ -125,8 +127,19 @@ fn next_bytes(
     }
 }
 
-// Writes the map of n positions from base on into the front of a slice that has room for it.
+// Writes the map of n positions from base on into the front of a slice that has room for it, a word at a time.
 pub fn write_map(words: &[u64], h: World, base: u64, n: u64, out: &mut [u8])
+    requires { ⌜ Scannable (now words) h ⌝ }
+    requires { ⌜ (1 ≤ n) × (base + n ≤ size) ⌝ }
+    requires { ⌜ mapLength n ≤ length (now out) ⌝ }
+    ensures { λ _. ⌜ now (out .exit) ≡ intoFront (mapOf (heldIn (now (words .entry)) h) base n) (now (out .entry)) ⌝ }
+{
+    let due = ((n - 1) / 8 + 1) as usize;
+    crate::paint::fill_map(words, h, base, n, &mut out[0..due]);
+}
+
+// The same by single bytes.
+pub fn write_map_by_bytes(words: &[u64], h: World, base: u64, n: u64, out: &mut [u8])
     requires { ⌜ Stands (now words) h ⌝ }
     requires { ⌜ (1 ≤ n) × (base + n ≤ size) ⌝ }
     requires { ⌜ mapLength n ≤ length (now out) ⌝ }

@@ -2,7 +2,7 @@
 -- node has none, so the free chain meets no tree. So where the trees and the chain have as many nodes as there are, each node is in one of
 -- them, once, by counting. Assumes nothing.
 use Prim.Native.Nat.{ℕ, _+_, _*_, _≤_, _<_}
-use mathlib.Core.Path.{_≡_, sym, ap}
+use mathlib.Core.Path.{_≡_, sym, ap, _∙_}
 use mathlib.Core.List.{List}
 use native.Mathlib.Omega.{arith}
 use native.Mathlib.Decide.{ℕ-discrete}
@@ -13,8 +13,8 @@ use Rattle.run_index.specs.Tree.{count}
 use Rattle.run_index.specs.Strung.{times}
 use Rattle.run_index.proofs.Apart.{rep-tagged}
 use Rattle.store.specs.Layout.{freeHead, worldAt, nodes, treeAt}
-use Rattle.store.specs.Soundness.{Chain, sumTo, runsAt, countAt, Planted}
-use Rattle.store.proofs.Sums.{sum-some, sum-single}
+use Rattle.store.specs.Soundness.{Chain, sumTo, without, runsAt, countAt, Planted}
+use Rattle.store.proofs.Sums.{sum-some, sum-single, without-here, without-there}
 use Rattle.store.proofs.Counting.{Among, each-once}
 use Rattle.store.proofs.Reached.{tree-reached}
 use Rattle.store.proofs.Orders.{node-in}
@@ -77,3 +77,12 @@ module _ (w : List ℕ) (c n : ℕ) (planted : (k : ℕ) → k < n → Planted (
 
       chain-among : Among c (λ m. times m ns)
       chain-among m i = let h = chain-free (nodes w) (freeHead w) ns chain m i in (h .some, omega (arith, h .room))
+
+-- a node that is in another world's tree does not have this one's number
+pub others-apart : (w : List ℕ) (n k : ℕ) → ((j : ℕ) → j < n → Planted (nodes w) (worldAt w j))
+    → (m : ℕ) → 1 ≤ sumTo n (without k (countAt w m)) → (cellAt (nodes w) m) .tag ≡ k → ⊥
+others-apart w n k planted m i e = let r = sum-some n (without k (countAt w m)) i in go (r .0) (r .1) (r .2) (ℕ-discrete (r .0) k)
+  where
+    go : (j : ℕ) → j < n → 1 ≤ without k (countAt w m) j → Dec (j ≡ k) → ⊥
+    go j l h (yes q) = absurd (omega (arith, without-here k (countAt w m) j q))
+    go j l h (no ne) = ne (sym (node-of w j (planted j l) m (omega (arith, without-there k (countAt w m) j ne)) .tagged) ∙ e)

@@ -30,6 +30,7 @@ use Rattle.store.proofs.Parts.{lent, lent-nodes, of-nodes, nodes-length
 use Rattle.store.proofs.Turn.{stretches-zero, stretches-turned}
 use Rattle.store.proofs.Nodes.{sized-length}
 use Rattle.store.proofs.Reached.{tree-reached, tree-held}
+use Rattle.store.proofs.Sharing.{others-apart}
 use Rattle.store.proofs.Decided.{Fitting, hangs-index, planted-fits, world-stands}
 
 -- ---- a planted tree
@@ -228,4 +229,5 @@ opened-told w k o small =
         enough = omega (arith, allowance-is w k l, others-claimed S small k, claims-fit S k l);
       };
       held = refl;
+      apart = λ m i. others-apart w (openedAt w) k (S .planted) m i;
     }

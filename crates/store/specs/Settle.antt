@@ -15,7 +15,7 @@ use Rattle.run_index.specs.Strung.{FreeChain, Filled}
 use Rattle.store.specs.declared.World.{World}
 use Rattle.store.specs.declared.Links.{Links}
 use Rattle.store.specs.Layout.{openedAt, floorAt, ceilingAt, nodes, allowance, turned, heldIn, heldBy}
-use Rattle.store.specs.Soundness.{firstOf, lastOf, Share, Still, Kept, Standing, Limited, shareOf, Sound}
+use Rattle.store.specs.Soundness.{firstOf, lastOf, Share, Apart, Still, Kept, Standing, Limited, shareOf, Sound}
 
 -- w′ is a sound pool of the same length, whose world k holds P; all else is as it was: how many worlds there are, the positions of the others,
 -- and every floor and ceiling
@@ -85,10 +85,11 @@ pub record Openable (w : List ℕ) (k : ℕ) : Type 0 where
   pub sound : Sound w
   pub named : k < openedAt w
 
--- the world h is world k of the words w: it has its allowance, and holds what that does
+-- the world h is world k of the words w: it has its allowance, and holds what that does; its nodes are told by their tag
 pub record Opened (w : List ℕ) (k : ℕ) (h : World) : Type 0 where
   pub limited : Limited (nodes w) (shareOf w k) h (allowance w k)
   pub held : heldIn (nodes w) h ≡ heldBy w k
+  pub apart : Apart (nodes w) (shareOf w k)
 
 -- in the words w, of which the nodes alone have changed since they were w₀, the world h holds P; P has no more runs than it may have
 pub record Closing (w₀ w : List ℕ) (h : World) (P : Positions) : Type 0 where

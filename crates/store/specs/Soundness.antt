@@ -64,6 +64,10 @@ pub record Still (w w′ : List ℕ) (s : Share) : Type 0 where
   pub cells : (m : ℕ) → Foreign s m → cellAt w′ m ≡ cellAt w m
   pub long : length w′ ≡ length w
 
+-- no node of another world has this one's tag
+abbrev pub Apart : List ℕ → Share → Type 0
+Apart w s = (m : ℕ) → 1 ≤ s .others m → (cellAt w m) .tag ≡ s .tag → ⊥
+
 -- the tree t and the free chain ns of the links x share the nodes out, beside those of other worlds: what holds also within a call
 pub record Kept (w : List ℕ) (s : Share) (x : Links) (t : Tree) (ns : List ℕ) : Type 0 where
   -- w has as many nodes, and no more than the largest pool

@@ -1,13 +1,15 @@
-//! Written sets and maps against the same made and read by plain Rust loops over IntervalBitSet's ranges.
+//! Written sets and maps against the same made and read by plain Rust loops over IntervalBitSet's ranges; maps also by words against by
+//! single bytes.
 
-use super::measure::{Figures, Progress, Times, both, nanos};
+use super::measure::{Figures, Progress, Sides, Times, both, in_turn, nanos, number};
 use super::work::{self, Pair};
 use crate::SetBuf;
 use crate::differential::random::Random;
 use crate::differential::reference::Run;
 use crate::oracle::IntervalBitSet;
 
-const LABELS: [&str; 4] = ["write", "load", "write_map", "read_map"];
+const LABELS: &[&str] = &["write", "load", "write_map", "write_map_by_bytes", "read_map", "read_map_by_bytes"];
+const MAPS: &[&str] = LABELS.split_at(2).1;
 const REPETITIONS: usize = 41;
 const DONE: &str = "no call is refused";
 const BASE: u64 = 1 << 40;
@@ -101,8 +103,9 @@ fn written(size: usize, random: &mut Random) -> [Times; 2] {
     times
 }
 
-// Writing the map of a window, and reading one that moves each run by one position, to and fro.
-fn maps(size: usize, random: &mut Random) -> [Times; 2] {
+// Writing the map of a window, and reading one that moves each run by one position, to and fro: each by words and by single bytes, both
+// beside the same times of the plain loop.
+fn maps(size: usize, random: &mut Random) -> [Times; 4] {
     let distance = WINDOW / size as u64;
     let [runs, moved] = [0, 1].map(|by| -> Vec<Run> {
         let start = |i: u64| BASE + by + i * distance;
@@ -114,26 +117,38 @@ fn maps(size: usize, random: &mut Random) -> [Times; 2] {
         map
     });
     let mut pair = Pair::new(work::capacity(size), &runs, random);
-    let mut out = maps.clone();
-    let mut times: [Times; 2] = Default::default();
+    let mut narrow = pair.ours.clone();
+    let mut out = [&maps[0]; 3].map(Vec::clone);
+    let mut times: [Times; 4] = Default::default();
     for repetition in 0..REPETITIONS {
-        let [ours, theirs] = &mut out;
-        times[0].push(both(
+        let [by_words, by_bytes, plain] = &mut out;
+        let [words, bytes, theirs] = in_turn(
             repetition,
-            || nanos(|| assert!(pair.ours.write_map(BASE, WINDOW, ours).is_ok())),
-            || nanos(|| write_map(&pair.theirs, theirs)),
-        ));
-        assert!(ours == theirs, "the maps differ");
+            [
+                &mut || nanos(|| assert!(pair.ours.write_map(BASE, WINDOW, by_words).is_ok())),
+                &mut || nanos(|| assert!(pair.ours.write_map_by_bytes(BASE, WINDOW, by_bytes).is_ok())),
+                &mut || nanos(|| write_map(&pair.theirs, plain)),
+            ],
+        );
+        times[0].push((words, theirs));
+        times[1].push((bytes, theirs));
+        assert!(by_words == plain && by_bytes == plain, "the maps differ");
 
-        let mut changed = [0, 0];
-        let [a, b] = &mut changed;
+        let mut changed = [0; 3];
+        let [a, b, c] = &mut changed;
         let map = &maps[0];
-        times[1].push(both(
+        let [words, bytes, theirs] = in_turn(
             repetition,
-            || nanos(|| *a = pair.ours.read_map(BASE, WINDOW, map).expect(DONE)),
-            || nanos(|| *b = read_map(&mut pair.theirs, map)),
-        ));
-        assert!(changed == [2 * size as u128; 2], "the map changes other positions");
+            [
+                &mut || nanos(|| *a = pair.ours.read_map(BASE, WINDOW, map).expect(DONE)),
+                &mut || nanos(|| *b = narrow.read_map_by_bytes(BASE, WINDOW, map).expect(DONE)),
+                &mut || nanos(|| *c = read_map(&mut pair.theirs, map)),
+            ],
+        );
+        times[2].push((words, theirs));
+        times[3].push((bytes, theirs));
+        assert!(changed == [2 * size as u128; 3], "the map changes other positions");
+        assert!(narrow.eq(&pair.ours).expect(DONE), "the two forms leave other positions");
         pair.compare();
         maps.reverse();
     }
@@ -142,9 +157,34 @@ fn maps(size: usize, random: &mut Random) -> [Times; 2] {
 
 /// Medians of nanoseconds for each call.
 pub fn measure(progress: &Progress) -> Figures {
-    Figures::measure(&LABELS, "written sets and maps", progress, |size| {
+    Figures::measure(LABELS, "written sets and maps", progress, |size| {
         let mut random = Random::new(size as u64);
-        let all = [written(size, &mut random), maps(size, &mut random)];
-        all.into_iter().flatten().map(Times::medians).collect()
+        let written = written(size, &mut random);
+        written.into_iter().chain(maps(size, &mut random)).map(Times::medians).collect()
     })
+}
+
+/// Those of maps alone.
+pub fn measure_maps(progress: &Progress) -> Figures {
+    Figures::measure(MAPS, "maps", progress, |size| {
+        maps(size, &mut Random::new(size as u64)).into_iter().map(Times::medians).collect()
+    })
+}
+
+/// Prints what was measured, and how much longer each call on maps takes by single bytes than by words.
+pub fn tell(figures: &Figures) {
+    figures.tell("µs a call", 1e3);
+    let [words, bytes] =
+        [["write_map", "read_map"], ["write_map_by_bytes", "read_map_by_bytes"]].map(|labels| figures.rows(&labels));
+    let against = |(bytes, words): (Vec<Sides>, Vec<Sides>)| -> Vec<Sides> {
+        bytes.iter().zip(words).map(|(b, w)| Sides { ours: b.ours, theirs: w.ours }).collect()
+    };
+    let columns = bytes.into_iter().zip(words).map(against).collect();
+    Figures { labels: &["write_map", "read_map"], columns }.table("by bytes / by words", |_, s| number(s.ratio()));
+}
+
+/// Without the forms by single bytes, for the plot.
+pub fn by_words(figures: &Figures) -> Figures {
+    let labels: &[&str] = &["write", "load", "write_map", "read_map"];
+    Figures { labels, columns: figures.rows(labels) }
 }

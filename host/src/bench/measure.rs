@@ -69,6 +69,16 @@ pub fn both<A, B>(repetition: usize, ours: impl FnOnce() -> A, theirs: impl FnOn
     }
 }
 
+/// Does each of three, in every order by turns, so that none finds more in the caches than another: what each gives.
+pub fn in_turn(repetition: usize, all: [&mut dyn FnMut() -> f64; 3]) -> [f64; 3] {
+    const ORDERS: [[usize; 3]; 6] = [[0, 1, 2], [2, 1, 0], [1, 2, 0], [0, 2, 1], [2, 0, 1], [1, 0, 2]];
+    let mut given = [0.0; 3];
+    for i in ORDERS[repetition % ORDERS.len()] {
+        given[i] = all[i]();
+    }
+    given
+}
+
 /// The times of both sides.
 #[derive(Clone, Default)]
 pub struct Times {
@@ -119,6 +129,12 @@ impl Figures {
             column(size)
         });
         Figures { labels, columns: columns.into() }
+    }
+
+    /// What was measured of some labels, at each number of runs.
+    pub fn rows(&self, labels: &[&str]) -> Vec<Vec<Sides>> {
+        let row = |label: &&str| self.labels.iter().position(|l| l == label).expect("a label of these figures");
+        self.columns.iter().map(|column| labels.iter().map(|label| column[row(label)]).collect()).collect()
     }
 
     /// A table with a row for each label and a column for each number of runs; a cell is told its column and its row.

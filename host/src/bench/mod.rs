@@ -31,6 +31,14 @@ pub fn run_gaps() {
     println!("load {} after", load());
 }
 
+/// Measures maps alone, by words and by single bytes, and prints Markdown.
+pub fn run_maps() {
+    println!("load {} before\n", load());
+    println!("## Maps\n");
+    bytes::tell(&bytes::measure_maps(&Progress::begin()));
+    println!("load {} after", load());
+}
+
 /// Measures everything, prints Markdown, and draws the ratios into a file.
 pub fn run(plot: &str) {
     let progress = Progress::begin();
@@ -49,17 +57,18 @@ pub fn run(plot: &str) {
     tell_gaps(&progress);
     println!("## Written sets and maps\n");
     let bytes = bytes::measure(&progress);
-    bytes.tell("µs a call", 1e3);
+    bytes::tell(&bytes);
     #[cfg(target_arch = "x86_64")]
     {
         println!("## Stack\n");
         stack::tell(&progress);
     }
+    let by_words = bytes::by_words(&bytes);
     let panels = [
         Panel { title: "Frames of 10, 100 and 1,000 calls", figures: &lists.frames },
         Panel { title: "Frames of 1,000 calls of a kind", figures: &lists.fresh },
         Panel { title: "Single public calls", figures: &public },
-        Panel { title: "Written sets and maps", figures: &bytes },
+        Panel { title: "Written sets and maps", figures: &by_words },
     ];
     plot::write(plot, &panels);
     println!("load {} after", load());

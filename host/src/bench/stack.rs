@@ -228,6 +228,7 @@ fn measure_on(painted: &mut Painted, physical: &[Run], offset: u64, shape: Shape
     let mut map = vec![0; WINDOW as usize / 8];
     on_stack!(painted, vizturel_clear_map(0, WINDOW - 3, map.as_mut_ptr(), map.len()));
     for base in [runs[0][0], runs[runs.len() - 1][1].saturating_sub(WINDOW - 1)] {
+        on_stack!(painted, vizturel_write_map_by_bytes(p, n, i, base, WINDOW, map.as_mut_ptr(), map.len()));
         on_stack!(painted, vizturel_write_map(p, n, i, base, WINDOW, map.as_mut_ptr(), map.len()));
         // All runs away in the window, one position away, and one more there.
         for (byte, bits) in [(0, 0xFF), (map.len() / 2, 0xFF), (map.len() / 3, 1)] {
@@ -235,6 +236,8 @@ fn measure_on(painted: &mut Painted, physical: &[Run], offset: u64, shape: Shape
             other[byte] ^= bits;
             changed.copy_from_slice(&words);
             on_stack!(painted, vizturel_read_map(c, n, i, base, WINDOW, other.as_ptr(), other.len()));
+            changed.copy_from_slice(&words);
+            on_stack!(painted, vizturel_read_map_by_bytes(c, n, i, base, WINDOW, other.as_ptr(), other.len()));
         }
     }
 }

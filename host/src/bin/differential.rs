@@ -37,6 +37,7 @@ fn main() -> ExitCode {
                 println!("refused with {number}: {count}");
             }
             println!("in frames: {}", tally.listed);
+            println!("on maps, each by words and by single bytes: {}", tally.mapped);
             println!("{} calls compared, 0 unequal", tally.compared);
             ExitCode::SUCCESS
         }

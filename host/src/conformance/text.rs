@@ -223,6 +223,7 @@ pub fn tell(call: &Call, told: &Told) -> String {
         Told::Slice(filled, bytes) => format!("written {filled} {}", digits(bytes)),
         Told::Cleared(count, bytes) => format!("cleared {count} {}", digits(bytes)),
         Told::RefusedAndChanged(r) => format!("changed something, and refused {}", r.number()),
+        Told::FormsDiffer(told) => format!("by words and by single bytes: {told:?}"),
     }
 }
 

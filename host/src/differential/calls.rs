@@ -193,11 +193,17 @@ impl Call {
             _ => None,
         }
     }
+
+    /// Whether the call has two forms, by words and by single bytes.
+    pub fn has_forms(&self) -> bool {
+        matches!(self, Call::ReadMap { .. } | Call::WriteMap { .. })
+    }
 }
 
 /// What a call tells. Of a listing each draw, and how it ended; of a slice how much of it was filled, and all its bytes; of a map how
 /// many bits were zeroed, and all its bytes; of a frame each answer's record, and the words of the slice after them. Of a gap the
-/// oracle tells every start that is right, as runs; the library tells one position, or none.
+/// oracle tells every start that is right, as runs; the library tells one position, or none. A call on a map is made in both forms, by
+/// words and by single bytes: where they do not agree, it is told what each told; if that is the same, they left different positions.
 #[derive(Debug, PartialEq)]
 pub enum Told {
     Refused(Refusal),
@@ -214,6 +220,7 @@ pub enum Told {
     Cleared(u64, Vec<u8>),
     Answers(Vec<Record>, Vec<u64>),
     RefusedAndChanged(Refusal),
+    FormsDiffer(Box<[Told; 2]>),
 }
 
 impl Told {

@@ -2,6 +2,7 @@
 
 use super::calls::{Call, Place, STALE, STALE_WORD, Told, from_back};
 use super::records;
+use super::reference::{self, Look};
 use crate::{Answer, Pool, World, raw};
 
 /// The words of several stores.
@@ -96,7 +97,16 @@ impl Library {
             Call::Equal { a, b } => self.lent(a).eq(&self.lent(b)).map(Told::Value),
             Call::Load { to, ref bytes } => self.lent_mut(to).load(bytes).map(|()| Told::Done),
             Call::Build { to, ref runs } => self.lent_mut(to).build(runs).map(|()| Told::Done),
-            Call::ReadMap { at, base, n, ref map } => self.lent_mut(at).read_map(base, n, map).map(Told::Count),
+            Call::ReadMap { at, base, n, ref map } => {
+                let mut copy = self.stores[at.store].clone();
+                let by_words = self.lent_mut(at).read_map(base, n, map);
+                let mut other = World { pool: Pool::from_words(&mut copy), number: at.world };
+                let by_bytes = other.read_map_by_bytes(base, n, map);
+                // A refused call leaves every word. Of one that was done the nodes may lie anywhere: what they hold is compared.
+                let words = &self.stores[at.store];
+                let left_alike = *words == copy || by_words.is_ok() && hold_alike(words, &copy);
+                agreed([by_words, by_bytes].map(|told| told.map(Told::Count)), left_alike)
+            }
             Call::ClearMap { base, n, ref map } => {
                 let mut cleared = map.clone();
                 match crate::clear_map(base, n, &mut cleared) {
@@ -110,9 +120,11 @@ impl Library {
                 written(filled, out, STALE, Told::Slice)
             }
             Call::WriteMap { at, base, n, room } => {
-                let mut out = vec![STALE; room];
-                let filled = self.lent(at).write_map(base, n, &mut out).map(|part| part.len());
-                written(filled, out, STALE, Told::Slice)
+                let [mut out, mut other] = [vec![STALE; room], vec![STALE; room]];
+                let by_words = self.lent(at).write_map(base, n, &mut out).map(|part| part.len());
+                let by_bytes = self.lent(at).write_map_by_bytes(base, n, &mut other).map(|part| part.len());
+                let told = [(by_words, out), (by_bytes, other)];
+                agreed(told.map(|(filled, out)| written(filled, out, STALE, Told::Slice)), true)
             }
             Call::Frame { at, ref calls, room } => {
                 let mut out = vec![STALE_WORD; room];
@@ -137,4 +149,19 @@ fn written<T: PartialEq>(
         Err(r) if out.iter().any(|x| *x != stale) => Ok(Told::RefusedAndChanged(r)),
         filled => Ok(told(filled?, out)),
     }
+}
+
+// What both forms of a call on a map tell, by words and by single bytes, where they agree.
+fn agreed(forms: [Answer<Told>; 2], left_alike: bool) -> Answer<Told> {
+    let [by_words, by_bytes] = forms;
+    if by_words == by_bytes && left_alike {
+        return by_words;
+    }
+    let told = [by_words, by_bytes].map(|told| told.unwrap_or_else(Told::Refused));
+    Ok(Told::FormsDiffer(Box::new(told)))
+}
+
+// Whether two sound pools have the same worlds.
+fn hold_alike(a: &[u64], b: &[u64]) -> bool {
+    matches!((reference::look(a), reference::look(b)), (Look::Holds(a), Look::Holds(b)) if a == b)
 }

@@ -81,6 +81,8 @@ pub struct Tally {
     pub compared: u64,
     /// How many of them were records of a frame.
     pub listed: u64,
+    /// How many of them were calls on maps: each is one call here, though the library makes it in both forms.
+    pub mapped: u64,
     /// How many of them were refused, by number.
     pub refused: [u64; 13],
 }
@@ -88,7 +90,7 @@ pub struct Tally {
 impl Tally {
     fn new(progress: bool) -> Tally {
         let now = Instant::now();
-        Tally { part: "", progress, began: now, told: now, compared: 0, listed: 0, refused: [0; 13] }
+        Tally { part: "", progress, began: now, told: now, compared: 0, listed: 0, mapped: 0, refused: [0; 13] }
     }
 
     fn begin(&mut self, part: &'static str) {
@@ -149,6 +151,7 @@ impl Sequence {
     pub fn call(&mut self, tally: &mut Tally, call: Call) -> Result<(), Difference> {
         let outside = matches!(call, Call::Lend { .. } | Call::Poke { .. });
         let stepped = self.sides.step(&call);
+        tally.mapped += u64::from(call.has_forms());
         self.calls.push(call);
         match stepped {
             Ok(_) if outside => Ok(()),

@@ -1,12 +1,22 @@
 -- `write_map` meets its contract: a window has at most 524,288 positions, so the bytes due fit a word; the slice has room for them or is
--- too short. Assumes nothing.
+-- too short; both forms write the same map. Assumes nothing.
+use Prim.Native.Nat.{ℕ, _+_, _≤_}
 use mathlib.Core.Path.{_≡_, sym}
 use mathlib.Core.Bool.{false}
+use mathlib.Core.List.{List}
 use native.Mathlib.Omega.{arith}
+use lib.ListN.{length}
+use Rattle.model.specs.declared.Written.{Written}
+use Rattle.model.specs.Numbers.{size}
+use Rattle.model.specs.Bytes.{mapLength, mapOf, intoFront}
+use Rattle.model.specs.Call.{Call}
 use Rattle.model.specs.Refusals.{badWindow}
 use Rattle.model.proofs.Maps.{mapOf-length}
+use Rattle.store.specs.Layout.{heldIn}
+use Rattle.store.proofs.Parts.{lent}
+use Rattle.core.specs.Out.{WritesOut}
 use Rattle.core.proofs.Windows.{fitting, window-passes, bad-by}
-use Rattle.core.proofs.Doors.{nodes-there, lent-stands}
+use Rattle.core.proofs.Doors.{nodes-there, lent-stands, lent-scannable}
 use Rattle.core.proofs.Putting.{put-short, put-done, write-map-puts, put-no-window, short-after-window}
 use borrow.Author.Needs.{needs}
 use Rattle.core.proofs.write.write_map.Statement.{statement}
@@ -19,6 +29,28 @@ start r = r .before .before .before .before
 -- it is one
 good : (r : tie.Else1) → badWindow ((start r) .args .base) ((start r) .args .n) ≡ false
 good r = bad-by _ _ _ (r .before .window-fits .ensures) (r .if1 .left)
+
+-- the same, once the world is open
+abbrev window : tie.After-open → tie.Else1
+window o = o .before .before
+
+-- the nodes are there to be lent
+there : (o : tie.After-open) → 128 ≤ length ((start (window o)) .args .words .now)
+there o = nodes-there ((start (window o)) .pre .openable)
+
+-- there is a window, and room for its map
+room : (o : tie.After-open)
+    → let a = (start (window o)) .args in ((1 ≤ a .n) × (a .base + a .n ≤ size)) × (mapLength (a .n) ≤ length (a .out .now))
+room o = let f = fitting _ _ (good (window o)) in ((f .some, f .below), o .before .if2 .left)
+
+-- and the map is there, in whichever way it was written
+done : (o : tie.After-open) {out : List ℕ}
+    → let a = (start (window o)) .args in
+    out ≡ intoFront (mapOf (heldIn (lent (a .words .now)) (o .«open» .result)) (a .base) (a .n)) (a .out .now)
+    → WritesOut (Call.writeMap (a .base) (a .n)) (a .words .now) (a .world) (a .out .now) (Written.Bytes (mapLength (a .n))) out
+done o =
+    let r = window o in
+    put-done (write-map-puts _ _ _ _ _) ((start r) .pre) (sym (mapOf-length _ _ _)) (o .«open» .ensures) (window-passes _ _ (good r)) (o .before .if2 .left)
 
 window-fits-requires : tie.Need-window-fits-requires
 window-fits-requires c κs = search needs
@@ -38,20 +70,32 @@ open-requires : tie.Need-open-requires
 open-requires c κs = (start (c .before)) .pre .openable
 
 sub-write-map : tie.Need-sub-write-map
-sub-write-map c = nodes-there ((start (c .before .before)) .pre .openable)
+sub-write-map c = there (c .before)
 
 part-write-map-start : tie.Need-part-write-map-start
-part-write-map-start c = nodes-there ((start (c .before .before)) .pre .openable)
+part-write-map-start c = there (c .before)
 
 part-write-map-end : tie.Need-part-write-map-end
 part-write-map-end c = search needs
 
 write-map-requires : tie.Need-write-map-requires
 write-map-requires c κs =
-    let o = c .before .before in
-    let r = o .before .before in
-    let f = fitting _ _ (good r) in
-    (lent-stands (o .«open» .ensures), ((f .some, f .below), o .before .if2 .left))
+    let o = c .before .before .before in
+    (lent-scannable (o .«open» .ensures), room o)
+
+sub-write-map-by-bytes : tie.Need-sub-write-map-by-bytes
+sub-write-map-by-bytes c = there (c .before)
+
+part-write-map-by-bytes-start : tie.Need-part-write-map-by-bytes-start
+part-write-map-by-bytes-start c = there (c .before)
+
+part-write-map-by-bytes-end : tie.Need-part-write-map-by-bytes-end
+part-write-map-by-bytes-end c = search needs
+
+write-map-by-bytes-requires : tie.Need-write-map-by-bytes-requires
+write-map-by-bytes-requires c κs =
+    let o = c .before .before .before in
+    (lent-stands (o .«open» .ensures), room o)
 
 same-length : tie.Need-same-length
 same-length c = search needs
@@ -59,9 +103,15 @@ same-length c = search needs
 returns-3 : tie.Need-returns-3
 returns-3 c =
     let m = c .before .before in
-    let o = m .before .before .before in
-    let r = o .before .before in
-    put-done (write-map-puts _ _ _ _ _) ((start r) .pre) (sym (mapOf-length _ _ _)) (o .«open» .ensures) (window-passes _ _ (good r)) (o .before .if2 .left) (m .write-map .ensures)
+    done (m .before .before .before .before) (m .write-map .ensures)
+
+same-length-2 : tie.Need-same-length-2
+same-length-2 c = search needs
+
+returns-4 : tie.Need-returns-4
+returns-4 c =
+    let m = c .before .before in
+    done (m .before .before .before .before) (m .write-map-by-bytes .ensures)
 
 pub write-map-spec : {M : Type 1} → statement M
 write-map-spec =
@@ -76,5 +126,11 @@ write-map-spec =
     part-write-map-start
     part-write-map-end
     write-map-requires
+    sub-write-map-by-bytes
+    part-write-map-by-bytes-start
+    part-write-map-by-bytes-end
+    write-map-by-bytes-requires
     same-length
-    returns-3)
+    returns-3
+    same-length-2
+    returns-4)

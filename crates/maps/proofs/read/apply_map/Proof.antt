@@ -8,10 +8,10 @@ use Rattle.maps.proofs.read.apply_map.Statement.{statement}
 use Rattle.maps.proofs.read.apply_map.Tie as tie
 
 abbrev Inv-loop : tie.InvT-loop
-Inv-loop words₀ base n bytes e₀ at₀ i₀ words e at i = Applying words₀ words at₀ at base n bytes i
+Inv-loop words₀ base n bytes wide e₀ at₀ i₀ words e at i = Applying words₀ words at₀ at base n bytes i
 
 abbrev μ-loop : tie.MeasureT-loop
-μ-loop words₀ base n bytes e₀ at₀ i₀ words e at i = n - i
+μ-loop words₀ base n bytes wide e₀ at₀ i₀ words e at i = n - i
 
 -- where the call started
 abbrev start : tie.After-stretch Inv-loop μ-loop → tie.Start Inv-loop μ-loop
@@ -34,8 +34,8 @@ stretch-requires c κs = (c .before .before .pre .2 .window .some, omega (arith,
 add-if1 : tie.Need-add-if1 Inv-loop μ-loop
 add-if1 c = omega (arith, c .stretch .ensures .upto, (start c) .pre .2 .window .few)
 
-add-t14 : tie.Need-add-t14 Inv-loop μ-loop
-add-t14 c =
+add-t15 : tie.Need-add-t15 Inv-loop μ-loop
+add-t15 c =
     let r = c .before .before in
     omega (arith, r .stretch .ensures .upto, (start r) .pre .2 .window .some, (start r) .pre .2 .window .within)
 
@@ -57,11 +57,11 @@ same-length c =
     let s = start (only (c .before .before .before)) in
     (returns c (s .pre .0) (s .pre .1) (s .pre .2 .limited) (s .pre .2 .few)) .still .long
 
-sub-t9 : tie.Need-sub-t9 Inv-loop μ-loop
-sub-t9 c = (start (c .before .before)) .pre .2 .window .some
+sub-t10 : tie.Need-sub-t10 Inv-loop μ-loop
+sub-t10 c = (start (c .before .before)) .pre .2 .window .some
 
-add-t20 : tie.Need-add-t20 Inv-loop μ-loop
-add-t20 c =
+add-t21 : tie.Need-add-t21 Inv-loop μ-loop
+add-t21 c =
     let s = start (c .before .before) in
     omega (arith, s .pre .2 .window .some, s .pre .2 .window .within)
 
@@ -81,13 +81,13 @@ stretch-requires-2 c κs = (c .loop-test .taken, omega (arith, c .before .loop .
 bit-requires-2 : tie.Need-bit-requires-2 Inv-loop μ-loop
 bit-requires-2 c κs = omega (arith, c .before .loop-test .taken, c .before .before .loop .inv .may .2 .window .exact)
 
-add-t26 : tie.Need-add-t26 Inv-loop μ-loop
-add-t26 c =
+add-t27 : tie.Need-add-t27 Inv-loop μ-loop
+add-t27 c =
     let l = turn (c .before .before) in
     omega (arith, l .loop-test .taken, l .before .loop .inv .may .2 .window .within)
 
-add-t28 : tie.Need-add-t28 Inv-loop μ-loop
-add-t28 c =
+add-t29 : tie.Need-add-t29 Inv-loop μ-loop
+add-t29 c =
     let l = turn (c .before .before) in
     omega (arith, c .before .before .before .stretch2 .ensures .upto, l .before .loop .inv .may .2 .window .some, l .before .loop .inv .may .2 .window .within)
 
@@ -128,19 +128,19 @@ apply-map-spec =
     μ-loop
     stretch-requires
     add-if1
-    add-t14
+    add-t15
     bit-requires
     apply-set-requires
     same-length
     returns
-    sub-t9
-    add-t20
+    sub-t10
+    add-t21
     apply-set-requires-2
     loop-holds
     stretch-requires-2
     bit-requires-2
-    add-t26
-    add-t28
+    add-t27
+    add-t29
     apply-set-requires-3
     add-i
     loop-less

@@ -9,10 +9,10 @@ use Rattle.maps.proofs.read.survey_map.Statement.{statement}
 use Rattle.maps.proofs.read.survey_map.Tie as tie
 
 abbrev Inv-loop : tie.InvT-loop
-Inv-loop words h base n bytes i₀ runs₀ changed₀ i runs changed = Surveying (heldIn words h) base n bytes i runs changed
+Inv-loop words h base n bytes wide i₀ runs₀ changed₀ i runs changed = Surveying (heldIn words h) base n bytes i runs changed
 
 abbrev μ-loop : tie.MeasureT-loop
-μ-loop words h base n bytes i₀ runs₀ changed₀ i runs changed = n - i
+μ-loop words h base n bytes wide i₀ runs₀ changed₀ i runs changed = n - i
 
 -- where the call started, from the loop
 abbrev start : tie.At-loop Inv-loop μ-loop → tie.Start Inv-loop μ-loop
@@ -37,11 +37,11 @@ bit-requires c κs = omega (arith, c .loop-test .taken, (start (c .before)) .pre
 stretch-requires : tie.Need-stretch-requires Inv-loop μ-loop
 stretch-requires c κs = (c .before .loop-test .taken, omega (arith, (start (c .before .before)) .pre .1 .exact))
 
-add-t14 : tie.Need-add-t14 Inv-loop μ-loop
-add-t14 c = omega (arith, (turn c) .loop-test .taken, (start ((turn c) .before)) .pre .1 .within)
+add-t15 : tie.Need-add-t15 Inv-loop μ-loop
+add-t15 c = omega (arith, (turn c) .loop-test .taken, (start ((turn c) .before)) .pre .1 .within)
 
-add-t16 : tie.Need-add-t16 Inv-loop μ-loop
-add-t16 c = omega (arith, (turn c) .loop-test .taken, c .stretch .ensures .upto, (start ((turn c) .before)) .pre .1 .within)
+add-t17 : tie.Need-add-t17 Inv-loop μ-loop
+add-t17 c = omega (arith, (turn c) .loop-test .taken, c .stretch .ensures .upto, (start ((turn c) .before)) .pre .1 .within)
 
 tally-requires : tie.Need-tally-requires Inv-loop μ-loop
 tally-requires c κs = ((start ((turn c) .before)) .pre .0, omega (arith, c .stretch .ensures .from))
@@ -91,8 +91,8 @@ survey-map-spec =
     loop-holds
     bit-requires
     stretch-requires
-    add-t14
-    add-t16
+    add-t15
+    add-t17
     tally-requires
     add-changed
     add-runs

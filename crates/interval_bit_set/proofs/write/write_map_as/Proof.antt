@@ -1,11 +1,11 @@
--- `write_map` meets its contract: a world that looking refuses earns that refusal, of another the core's call answers. Assumes nothing.
+-- `write_map_as` meets its contract: a world that looking refuses earns that refusal, of another the core's call answers. Assumes nothing.
 use mathlib.Core.Path.{refl}
 use Rattle.core.proofs.Putting.{write-map-puts}
 use Rattle.interval_bit_set.proofs.Looking.{looked-sound}
 use Rattle.interval_bit_set.proofs.Putting.{put-turned}
 use borrow.Author.Needs.{needs}
-use Rattle.interval_bit_set.proofs.write.write_map.Statement.{statement}
-use Rattle.interval_bit_set.proofs.write.write_map.Tie as tie
+use Rattle.interval_bit_set.proofs.write.write_map_as.Statement.{statement}
+use Rattle.interval_bit_set.proofs.write.write_map_as.Tie as tie
 
 look-at-requires : tie.Need-look-at-requires
 look-at-requires c κs = search needs
@@ -28,8 +28,8 @@ same-length c = search needs
 returns-2 : tie.Need-returns-2
 returns-2 c = search needs
 
-pub write-map-spec : {M : Type 1} → statement M
-write-map-spec =
+pub write-map-as-spec : {M : Type 1} → statement M
+write-map-as-spec =
     tie.close
     (tie.spec
     look-at-requires

@@ -1,10 +1,10 @@
--- `read_map` meets its contract: a world that looking refuses stays, another is changed by the core's call. Assumes nothing.
+-- `read_map_as` meets its contract: a world that looking refuses stays, another is changed by the core's call. Assumes nothing.
 use mathlib.Core.Path.{refl}
 use Rattle.core.proofs.Changing.{read-map-says}
 use Rattle.interval_bit_set.proofs.Looking.{looked-sound, sent-away}
 use borrow.Author.Needs.{needs}
-use Rattle.interval_bit_set.proofs.bytes.read_map.Statement.{statement}
-use Rattle.interval_bit_set.proofs.bytes.read_map.Tie as tie
+use Rattle.interval_bit_set.proofs.bytes.read_map_as.Statement.{statement}
+use Rattle.interval_bit_set.proofs.bytes.read_map_as.Tie as tie
 
 look-at-requires : tie.Need-look-at-requires
 look-at-requires c κs = search needs
@@ -30,8 +30,8 @@ same-length-2 c = search needs
 returns-2 : tie.Need-returns-2
 returns-2 c = search needs
 
-pub read-map-spec : {M : Type 1} → statement M
-read-map-spec =
+pub read-map-as-spec : {M : Type 1} → statement M
+read-map-as-spec =
     tie.close
     (tie.spec
     look-at-requires
