@@ -136,9 +136,8 @@ class World:
         return len(stretches(self.runs, first, last, value))
 
     def gap(self, first, last, length):
-        """The start of some gap: here of the highest, since any is right."""
         require(length > 0, 9)
-        return max((end - length + 1 for start, end in free(self.runs, first, last) if end - start + 1 >= length), default=None)
+        return next((start for start, end in free(self.runs, first, last) if end - start + 1 >= length), None)
 
     def ranges(self, first, last, value):
         return (first, last, value) if first <= last else (1, 0, value)
@@ -290,7 +289,7 @@ def answer(line, stores):
 CALLS = {
     1: ("empty", ""), 2: ("set", "rv"), 3: ("flip", "r"), 4: ("shift", "xv"), 5: ("run_at", "x"), 6: ("find", "rv"), 7: ("count", "rv"),
     8: ("select", "rvk"), 9: ("count_ranges", "rv"), 10: ("ranges", "rv"), 11: ("draw_front", "xyv"), 12: ("draw_back", "xyv"),
-    13: ("fill", "xy"),
+    13: ("fill", "xy"), 14: ("gap", "rk"),
 }
 
 

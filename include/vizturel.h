@@ -41,7 +41,7 @@
  * C, not by the runs that are held. vizturel_frame makes many calls, at any worlds of a pool, after one soundness check.
  *
  * LOCKSTEP. Two sound pools of one capacity that opened equally many worlds, with the same positions, floor and ceiling in each, answer every later
- * list of equal calls alike, except vizturel_gap: which gap it gives is left open. So builds that have to stay in step must not call vizturel_gap.
+ * list of equal calls alike.
  *
  * RESERVED NUMBERS. Where numbers have names here (call numbers, kinds of bounds, operations), the named ones stay as they are. All others are
  * reserved: a later version may give them a meaning. This version takes a reserved call number for a get, a reserved kind for no bound and a
@@ -226,11 +226,8 @@ vizturel_drawn vizturel_draw_front(const uint64_t *words, size_t count, uint64_t
 /* Draws the last one. */
 vizturel_drawn vizturel_draw_back(const uint64_t *words, size_t count, uint64_t world, uint64_t first, uint64_t last, uint64_t value);
 
-/* The start of some gap of a range: n neighbouring positions, all in the range and all free. Not found exactly if the range has none.
- *
- * NOT FOR LOCKSTEP BUILDS. Which gap is given, where there are several, is left open: two builds that hold the same positions may get different
- * ones, and so may two versions of the library. The call is for tools that run offline, such as a level editor; it is in no frame.
- * Refused with 9. */
+/* The start of the lowest gap of a range: the least position x such that x .. x + n - 1 are all in the range and all free. Not found exactly if
+ * there is none. Refused with 9. */
 vizturel_found vizturel_gap(const uint64_t *words, size_t count, uint64_t world, vizturel_bound lower, vizturel_bound upper, uint64_t n);
 
 /* 1000 * held positions / window length, rounded down. Refused with 6. */
@@ -256,8 +253,8 @@ uint64_t vizturel_shifted(uint64_t *words, size_t count, uint64_t world, uint64_
  *
  * Written sets travel between builds; the words of a pool do not, since offsets and the arrangement of nodes are each build's own. Two sound pools
  * of one capacity C that opened equally many worlds, with the same positions, floor and ceiling in each, answer every later list of equal calls
- * alike, vizturel_gap aside. So all builds of a match need the same C and the same limits, and a late player has to be told them beside a written
- * set for each world, which does not have them. */
+ * alike. So all builds of a match need the same C and the same limits, and a late player has to be told them beside a written set for each world,
+ * which does not have them. */
 
 /* Overwrites a world with the set that a written set tells. Refused with 3, 4, 3, 5, 8. */
 uint64_t vizturel_load(uint64_t *words, size_t count, uint64_t world, const uint8_t *bytes, size_t bytes_count);
@@ -308,14 +305,15 @@ enum vizturel_call_number {
     VIZTUREL_CALL_RANGES = 10,
     VIZTUREL_CALL_DRAW_FRONT = 11,
     VIZTUREL_CALL_DRAW_BACK = 12,
-    VIZTUREL_CALL_FILL = 13
+    VIZTUREL_CALL_FILL = 13,
+    VIZTUREL_CALL_GAP = 14
 };
 
 /* A call as a record of eight words; words that the call has no use for are not read.
  *   lower.value  also the position of get and run_at, the distance of shift, the base of fill, the first position of a draw's listing
  *   upper.value  also the length of fill, the last position of a draw's listing
  *   value        anything but 0 is true; a shift goes up (left) then
- *   k            of select
+ *   k            of select; also the length of gap
  *   world        the number of the call's world, of every call */
 typedef struct {
     uint64_t call;
@@ -331,7 +329,7 @@ typedef struct {
  *   count_ranges, fill   number
  *   get                  number, 0 or 1
  *   run_at               the run number .. end
- *   find, select         position number, where found is 1
+ *   find, select, gap    position number, where found is 1
  *   ranges               a listing: first, last and value
  *   draw_front, _back    the run number .. end, where found is 1, and the listing that is left
  *   empty, flip, shift   nothing */
@@ -347,7 +345,7 @@ typedef struct {
 } vizturel_answer;
 
 /* Makes every call of a list in order and writes their answers into the front of a slice; the words after them stay as they were. A call
- * of the list that is refused (with 12, 6 or 8) has changed nothing, and the next one follows. Words of calls after the last whole record are
+ * of the list that is refused (with 12, 9, 6 or 8) has changed nothing, and the next one follows. Words of calls after the last whole record are
  * not read. The whole is refused with 1 or 7 of the pool before the first call, or 2 where answers is too short for a record of each call:
  * then no call was made. */
 uint64_t vizturel_frame(uint64_t *words, size_t n, const uint64_t *calls, size_t calls_words, uint64_t *answers, size_t answers_words);

@@ -43,6 +43,7 @@ pub enum Call {
     Count(Range, bool),
     Select(Range, bool, u64),
     CountRanges(Range, bool),
+    Gap(Range, u64),
     Listing(Range, bool),
     DrawFront(Listing),
     DrawBack(Listing),
@@ -79,6 +80,10 @@ impl Call {
         Call::CountRanges(range(r), value)
     }
 
+    pub fn gap(r: impl RangeBounds<u64>, length: u64) -> Call {
+        Call::Gap(range(r), length)
+    }
+
     pub fn listing(r: impl RangeBounds<u64>, value: bool) -> Call {
         Call::Listing(range(r), value)
     }
@@ -97,7 +102,7 @@ pub enum Reply {
     Value(bool),
     /// `RunAt`.
     Run(RangeInclusive<u64>),
-    /// `Find`, `Select`.
+    /// `Find`, `Select`, `Gap`.
     Position(Option<u64>),
     /// `Listing`.
     Listing(Listing),
@@ -109,7 +114,7 @@ pub enum Reply {
 /// words are 0, it is `Get(0)` at world 0.
 ///
 /// Numbers of calls and kinds of bounds that no [`Call`] has are reserved: a later version may give them a meaning. This version answers a call
-/// number above 13 as `Get`, and takes a kind above 2 for no bound; do not rely on that.
+/// number above 14 as `Get`, and takes a kind above 2 for no bound; do not rely on that.
 #[repr(C)]
 #[derive(Clone, Copy, Debug, Default, PartialEq, Eq)]
 pub struct CallRecord {
@@ -189,6 +194,7 @@ impl From<(u64, Call)> for CallRecord {
             Call::DrawFront(l) => of_listing(11, l),
             Call::DrawBack(l) => of_listing(12, l),
             Call::Fill { base, n } => CallRecord { call: 13, lower: base, upper: n, ..none },
+            Call::Gap(r, length) => CallRecord { k: length, ..over(14, r) },
         }
     }
 }
@@ -204,7 +210,7 @@ impl AnswerRecord {
             Call::CountRanges(..) | Call::Fill { .. } => Reply::Number(self.number),
             Call::Get(_) => Reply::Value(self.number == 1),
             Call::RunAt(_) => Reply::Run(self.number..=self.end),
-            Call::Find(..) | Call::Select(..) => Reply::Position(found.then_some(self.number)),
+            Call::Find(..) | Call::Select(..) | Call::Gap(..) => Reply::Position(found.then_some(self.number)),
             Call::Listing(..) => Reply::Listing(listing),
             Call::DrawFront(_) | Call::DrawBack(_) => Reply::Drawn(found.then_some(self.number..=self.end), listing),
         };

@@ -591,12 +591,8 @@ impl<S: AsRef<[u64]>> World<S> {
         drawn(listing, unsafe { raw::vizturel_draw_back(w, n, i, first, last, value.into()) })
     }
 
-    /// The start of some gap of a range: so many neighbouring positions, all in the range and all free. None exactly if the range has
-    /// none. Refused with 9 where the length is 0.
-    ///
-    /// **Lockstep builds must not call this.** Which gap is given, where there are several, is left open: two sets that hold the same
-    /// positions may answer differently, and so may two versions of the library. It is for tools that run offline, such as a level
-    /// editor, and no [`frame`] has it.
+    /// The start of the lowest gap of a range: so many neighbouring positions, all in the range and all free. None exactly if the range
+    /// has no gap. Refused with 9 where the length is 0.
     ///
     /// ```
     /// use vizturel::{Refusal, SetBuf};
@@ -605,8 +601,8 @@ impl<S: AsRef<[u64]>> World<S> {
     /// slots.set(2..8, true)?;
     /// slots.set(10..15, true)?;
     /// // In 0..12 the positions 0, 1, 8 and 9 are free: two gaps of two, and none of three.
-    /// let x = slots.gap(0..12, 2)?.expect("there is a gap");
-    /// assert!(x == 0 || x == 8);
+    /// assert_eq!(slots.gap(0..12, 2), Ok(Some(0)));
+    /// assert_eq!(slots.gap(1..12, 2), Ok(Some(8)));
     /// assert_eq!(slots.gap(0..12, 3), Ok(None));
     /// assert_eq!(slots.gap(0..12, 0), Err(Refusal::GapLength));
     /// # Ok(())

@@ -1,8 +1,9 @@
 //! A small match, frame by frame, for `make run`: builds that are fed the same calls must deal the same slots.
 //!
 //! A server has four arenas, which are worlds of one pool: each is sure of its floor of runs, and what is left goes to whichever needs it
-//! first. Whatever is spawned gets the lowest free slot of its arena. At one frame a late player is admitted from written sets alone, and
-//! the Rust build starts anew from the same bytes. Everything is fixed beforehand: two runs print the same.
+//! first. Whatever is spawned gets the lowest free slot of its arena, and a block of neighbouring bodies the lowest gap that is long enough.
+//! At one frame a late player is admitted from written sets alone, and the Rust build starts anew from the same bytes. Everything is fixed
+//! beforehand: two runs print the same.
 
 use std::fmt;
 use std::io::{self, Write};
@@ -29,6 +30,8 @@ const LIMITS: [Limits; ARENAS.len()] = [
     Limits { floor: 4, ceiling: 8 },
     Limits { floor: 0, ceiling: 8 },
 ];
+/// Where blocks may lie, in every arena.
+const BLOCKS: RangeInclusive<u64> = 0..=31;
 /// The arenas of a build as written sets.
 pub type Written = [Vec<u8>; ARENAS.len()];
 
@@ -37,6 +40,8 @@ pub type Written = [Vec<u8>; ARENAS.len()];
 pub enum Call {
     /// Deals the lowest free slot.
     Spawn(Arena),
+    /// Places a block of so many neighbouring bodies in the lowest gap of [`BLOCKS`], if there is one.
+    Block(Arena, u64),
     /// Frees the slot in use that has so many in use below it, if there is one.
     Despawn(Arena, u64),
     /// Takes or frees a whole range.
@@ -49,8 +54,19 @@ pub enum Call {
 
 impl Call {
     fn arena(&self) -> Arena {
-        let (Call::Spawn(i) | Call::Despawn(i, _) | Call::Set(i, ..) | Call::Flip(i, _) | Call::Shift(i, ..)) = *self;
+        let (Call::Spawn(i)
+        | Call::Block(i, _)
+        | Call::Despawn(i, _)
+        | Call::Set(i, ..)
+        | Call::Flip(i, _)
+        | Call::Shift(i, ..)) = *self;
         i
+    }
+
+    // The slots that a call deals or frees, of which it answers the first.
+    fn slots_from(&self, first: u64) -> RangeInclusive<u64> {
+        let more = if let Call::Block(_, n) = self { n - 1 } else { 0 };
+        first..=first + more
     }
 }
 
@@ -66,6 +82,7 @@ impl fmt::Display for Call {
         let name = ARENAS[self.arena()];
         match self {
             Call::Spawn(_) => write!(f, "spawn in {name}"),
+            Call::Block(_, n) => write!(f, "block of {n} in {name}"),
             Call::Despawn(_, k) => write!(f, "despawn {k} of {name}"),
             Call::Set(_, r, true) => write!(f, "{name} {} taken", part(r)),
             Call::Set(_, r, false) => write!(f, "{name} {} freed", part(r)),
@@ -77,7 +94,7 @@ impl fmt::Display for Call {
 
 /// One player's build of the slot allocator.
 pub trait Build {
-    /// Makes a call; the slot that was dealt or freed by [`Call::Spawn`] or [`Call::Despawn`].
+    /// Makes a call; the slot that was dealt or freed by [`Call::Spawn`] or [`Call::Despawn`], the first one of a [`Call::Block`].
     fn call(&mut self, call: &Call) -> Answer<Option<u64>>;
     /// How many runs each arena has.
     fn runs(&self) -> Answer<[u64; ARENAS.len()]>;
@@ -103,13 +120,14 @@ impl Build for Library {
         let mut arena = self.pool.world_mut(call.arena() as u64);
         let slot = match *call {
             Call::Spawn(_) => arena.find(.., false)?,
+            Call::Block(_, n) => arena.gap(BLOCKS, n)?,
             Call::Despawn(_, k) => arena.select(.., true, k)?,
             _ => None,
         };
         match call {
-            Call::Spawn(_) | Call::Despawn(..) => {
+            Call::Spawn(_) | Call::Block(..) | Call::Despawn(..) => {
                 if let Some(x) = slot {
-                    arena.set(x..=x, matches!(call, Call::Spawn(_)))?;
+                    arena.set(call.slots_from(x), !matches!(call, Call::Despawn(..)))?;
                 }
             }
             Call::Set(_, range, value) => {
@@ -174,13 +192,18 @@ impl Build for Rust {
         let mut arena = self.arenas[i].clone();
         let slot = match *call {
             Call::Spawn(_) => arena.find(.., false),
+            // It has no such call: the lowest gap starts with the first free run that is long enough.
+            Call::Block(_, n) => {
+                let mut free = arena.ranges(slots(&BLOCKS), false);
+                free.find(|run| run.end() - run.start() >= n as usize - 1).map(|run| *run.start())
+            }
             Call::Despawn(_, k) => arena.select(.., true, u128::from(k)),
             _ => None,
         };
         match call {
-            Call::Spawn(_) | Call::Despawn(..) => {
+            Call::Spawn(_) | Call::Block(..) | Call::Despawn(..) => {
                 if let Some(x) = slot {
-                    arena.set(x..=x, matches!(call, Call::Spawn(_)));
+                    arena.set(slots(&call.slots_from(x as u64)), !matches!(call, Call::Despawn(..)));
                 }
             }
             Call::Set(_, range, value) => {
@@ -220,7 +243,7 @@ impl Build for Rust {
     }
 }
 
-// The calls of a frame: what happens to a whole range, what is freed, what is spawned. In some frames eight bodies of one arena leave instead,
+// The calls of a frame: what happens to a whole range, what is freed, which block is placed, what is spawned. In some frames eight bodies of one arena leave instead,
 // every second one, so that each leaves a run more behind it.
 fn frame(number: u32, random: &mut Random) -> Vec<Call> {
     let [north, east, south, west] = [0, 1, 2, 3];
@@ -247,6 +270,20 @@ fn frame(number: u32, random: &mut Random) -> Vec<Call> {
             calls.push(Call::Despawn(arena, random.below(16)));
         }
     }
+    calls.extend(match number {
+        2 => Some(Call::Block(north, 3)),
+        8 => Some(Call::Block(south, 4)),
+        10 => Some(Call::Block(east, 3)),
+        12 => Some(Call::Block(west, 4)),
+        13 => Some(Call::Block(north, 5)),
+        15 => Some(Call::Block(south, 2)),
+        17 => Some(Call::Block(east, 3)),
+        22 => Some(Call::Block(west, 6)),
+        24 => Some(Call::Block(south, 3)),
+        25 => Some(Call::Block(south, 6)),
+        26 => Some(Call::Block(north, 4)),
+        _ => None,
+    });
     let spawned = if number == 1 { [8, 3, 6, 4] } else { [0; ARENAS.len()].map(|_: u64| random.below(3)) };
     for (arena, count) in spawned.into_iter().enumerate() {
         calls.extend((0..count).map(|_| Call::Spawn(arena)));
@@ -254,28 +291,46 @@ fn frame(number: u32, random: &mut Random) -> Vec<Call> {
     calls
 }
 
-// Slots as text, for each arena its first letter and the slots in the order dealt: n0-7 e0-2 s0,4.
-fn told(slots: &[(Arena, u64)]) -> String {
-    let mut text = String::new();
+// Slots that were dealt or freed: one, or those of a block.
+#[derive(Clone)]
+struct Dealt {
+    arena: Arena,
+    slots: RangeInclusive<u64>,
+    block: bool,
+}
+
+// What a call dealt or freed, by its answer.
+fn dealt_by(call: &Call, answer: &Answer<Option<u64>>) -> Option<Dealt> {
+    let slots = call.slots_from(answer.ok().flatten()?);
+    Some(Dealt { arena: call.arena(), slots, block: matches!(call, Call::Block(..)) })
+}
+
+// Slots as text, for each arena its first letter and the slots in the order dealt, a block in brackets: n0-7 e0-2 s0,[4-6].
+fn told(all: &[Dealt]) -> String {
+    let mut words = Vec::new();
     for (arena, name) in ARENAS.iter().enumerate() {
-        let mut runs: Vec<(u64, u64)> = Vec::new();
-        for &(_, x) in slots.iter().filter(|(i, _)| *i == arena) {
-            match runs.last_mut() {
-                Some((_, last)) if last.checked_add(1) == Some(x) => *last = x,
-                _ => runs.push((x, x)),
+        // Neighbours that were dealt one after the other stand together.
+        let mut stretches: Vec<Dealt> = Vec::new();
+        for dealt in all.iter().filter(|d| d.arena == arena) {
+            let (first, last) = (*dealt.slots.start(), *dealt.slots.end());
+            match stretches.last_mut() {
+                Some(d) if !d.block && !dealt.block && d.slots.end().checked_add(1) == Some(first) => {
+                    d.slots = *d.slots.start()..=last;
+                }
+                _ => stretches.push(dealt.clone()),
             }
         }
-        for (i, (start, end)) in runs.into_iter().enumerate() {
-            let before = match (i, text.is_empty()) {
-                (0, true) => &name[..1],
-                (0, false) => &format!(" {}", &name[..1]),
-                _ => ",",
-            };
-            text += before;
-            text += &if start == end { start.to_string() } else { format!("{start}-{end}") };
+        let stretch = |d: &Dealt| {
+            let (start, end) = (d.slots.start(), d.slots.end());
+            let slots = if start == end { start.to_string() } else { format!("{start}-{end}") };
+            if d.block { format!("[{slots}]") } else { slots }
+        };
+        if !stretches.is_empty() {
+            let each: Vec<String> = stretches.iter().map(stretch).collect();
+            words.push(format!("{}{}", &name[..1], each.join(",")));
         }
     }
-    text
+    words.join(" ")
 }
 
 /// How a match ended in which all builds dealt the same.
@@ -283,6 +338,8 @@ fn told(slots: &[(Arena, u64)]) -> String {
 pub struct Ending {
     /// How many slots the first build dealt; so did the others, as long as they were there.
     pub dealt: usize,
+    /// How many blocks some of them were dealt in.
+    pub blocks: usize,
     /// How many calls were refused with 8, by all builds.
     pub refused: usize,
     /// How many bytes the late player was admitted from.
@@ -353,7 +410,7 @@ fn row(
 ) -> io::Result<()> {
     let mut line = format!("{frame:>5}  {range:<19} {freed:<24}");
     for cell in cells {
-        line += &format!(" {cell:<20}");
+        line += &format!(" {cell:<22}");
     }
     writeln!(out, "{}", line.trim_end())
 }
@@ -372,7 +429,7 @@ fn refusal(arena: Arena, count: usize, runs: &[u64; ARENAS.len()]) -> String {
 
 /// Plays the match and prints it: between the first two builds, and from the admission on the third too. The second starts anew there.
 pub fn play(out: &mut impl Write, mut builds: [&mut dyn Build; 3]) -> Result<Ending, Failure> {
-    let mut ending = Ending { dealt: 0, refused: 0, bytes: 0 };
+    let mut ending = Ending { dealt: 0, blocks: 0, refused: 0, bytes: 0 };
     let mut random = Random::new(SEED);
     let mut here = 2;
     writeln!(
@@ -384,7 +441,13 @@ pub fn play(out: &mut impl Write, mut builds: [&mut dyn Build; 3]) -> Result<End
     writeln!(out, "{} (floor to ceiling). Every build is fed the same calls: what", each.join(", "))?;
     writeln!(
         out,
-        "happens to a whole range, what is freed, what is spawned, which gets the lowest free slot of its arena."
+        "happens to a whole range, what is freed, what is spawned, which gets the lowest free slot of its arena, and where a"
+    )?;
+    writeln!(
+        out,
+        "block of neighbours is placed: in the lowest gap of slots {} to {} that is long enough, shown in brackets.",
+        BLOCKS.start(),
+        BLOCKS.end()
     )?;
     writeln!(out)?;
     row(out, "frame", "whole range", "freed", NAMES.map(|name| format!("dealt: {name}")))?;
@@ -404,19 +467,23 @@ pub fn play(out: &mut impl Write, mut builds: [&mut dyn Build; 3]) -> Result<End
         let mut freed = Vec::new();
         let mut range = String::new();
         let mut dealt = vec![Vec::new(); here];
+        let mut unplaced = None;
         let mut refused = [(0, [0; ARENAS.len()]); ARENAS.len()];
         let mut outcome = Ok(());
         for call in frame(number, &mut random) {
             let arena = call.arena();
             let answers: Vec<_> = builds[..here].iter_mut().map(|b| b.call(&call)).collect();
             match call {
-                Call::Spawn(_) => {
+                Call::Spawn(_) | Call::Block(..) => {
                     for (dealt, answer) in dealt.iter_mut().zip(&answers) {
-                        dealt.extend(answer.ok().flatten().map(|slot| (arena, slot)));
+                        dealt.extend(dealt_by(&call, answer));
                     }
                 }
-                Call::Despawn(..) => freed.extend(answers[0].ok().flatten().map(|slot| (arena, slot))),
+                Call::Despawn(..) => freed.extend(dealt_by(&call, &answers[0])),
                 _ => range = call.to_string(),
+            }
+            if let (Call::Block(_, n), Ok(None)) = (&call, answers[0]) {
+                unplaced = Some(format!("{}: no gap of {n}, so the block is not placed", ARENAS[arena]));
             }
             outcome = agreed(number, &call, answers).and_then(|answer| match answer {
                 Ok(_) => Ok(()),
@@ -434,9 +501,13 @@ pub fn play(out: &mut impl Write, mut builds: [&mut dyn Build; 3]) -> Result<End
                 break;
             }
         }
-        ending.dealt += dealt[0].len();
+        ending.dealt += dealt[0].iter().map(|d| d.slots.clone().count()).sum::<usize>();
+        ending.blocks += dealt[0].iter().filter(|d| d.block).count();
         row(out, number, &range, &told(&freed), dealt.iter().map(|d| told(d)))?;
         outcome?;
+        if let Some(why) = unplaced {
+            writeln!(out, "       {why}")?;
+        }
         for (arena, (count, runs)) in refused.iter().enumerate().filter(|(_, (count, _))| *count > 0) {
             writeln!(out, "       {}", refusal(arena, *count, runs))?;
             ending.refused += count;
@@ -444,8 +515,11 @@ pub fn play(out: &mut impl Write, mut builds: [&mut dyn Build; 3]) -> Result<End
     }
     done(FRAMES, "the written sets at the end", builds.iter().map(|b| b.write()))?;
     writeln!(out)?;
-    let Ending { dealt, refused, bytes } = ending;
+    let Ending { dealt, blocks, refused, bytes } = ending;
     writeln!(out, "{refused} calls refused with 8, none below its arena's floor")?;
-    writeln!(out, "{dealt} slots dealt, equal in all builds; written sets of {bytes} bytes admitted the late player")?;
+    writeln!(
+        out,
+        "{dealt} slots dealt, those of {blocks} blocks among them, equal in all builds; written sets of {bytes} bytes admitted the late player"
+    )?;
     Ok(ending)
 }

@@ -30,6 +30,7 @@ fn single(set: &mut World<&mut [u64]>, call: Call) -> Answer<Reply> {
         Call::Count(range, value) => Reply::Count(set.count(range, value)?),
         Call::Select(range, value, k) => Reply::Position(set.select(range, value, k)?),
         Call::CountRanges(range, value) => Reply::Number(set.count_ranges(range, value)?),
+        Call::Gap(range, n) => Reply::Position(set.gap(range, n)?),
         Call::Listing(range, value) => Reply::Listing(set.listing(range, value)?),
         Call::DrawFront(mut l) => Reply::Drawn(set.draw_front(&mut l)?, l),
         Call::DrawBack(mut l) => Reply::Drawn(set.draw_back(&mut l)?, l),
@@ -64,6 +65,7 @@ fn any_call(random: &mut Random) -> Call {
         Call::Count(r, v),
         Call::Select(r, v, y),
         Call::CountRanges(r, v),
+        Call::Gap(r, y % 6),
         Call::Listing(r, v),
         Call::DrawFront(listing),
         Call::DrawBack(listing),
@@ -77,6 +79,7 @@ fn a_list_is_its_calls_one_by_one() {
     let mut random = Random::new(1);
     let mut refused = 0;
     let mut unopened = 0;
+    let mut no_length = 0;
     for turn in 0..400 {
         let worlds = 1 + turn / 4 % 3;
         let limits = [Limits { floor: 0, ceiling: 3 }, Limits { floor: 1, ceiling: 2 }, Limits::NONE];
@@ -92,6 +95,7 @@ fn a_list_is_its_calls_one_by_one() {
             let right: Vec<_> = calls.iter().map(|&(at, call)| single(&mut called.world_mut(at), call)).collect();
             refused += right.iter().filter(|told| **told == Err(Refusal::Capacity)).count();
             unopened += right.iter().filter(|told| **told == Err(Refusal::WorldUnopened)).count();
+            no_length += right.iter().filter(|told| **told == Err(Refusal::GapLength)).count();
             assert_eq!(listed.frame(&calls), Ok(right), "{calls:?}");
             for world in 0..worlds as u64 {
                 assert_eq!(listed.world(world).eq(&called.world(world)), Ok(true), "{calls:?}");
@@ -99,6 +103,7 @@ fn a_list_is_its_calls_one_by_one() {
         }
     }
     assert!(refused > 100 && unopened > 100, "only {refused} calls were refused with 8, {unopened} with 12");
+    assert!(no_length > 100, "only {no_length} calls were refused with 9");
 }
 
 #[test]
@@ -112,6 +117,8 @@ fn ranges_of_any_kind() {
         Call::count(..=4, false),
         Call::select(1..=4, false, 2),
         Call::count_ranges(..9, true),
+        Call::gap(1.., 2),
+        Call::gap(1..9, 0),
         Call::listing(3..3, true),
     ];
     let ended = Listing { first: 1, last: 0, value: true };
@@ -121,6 +128,8 @@ fn ranges_of_any_kind() {
         Ok(Reply::Count(2)),
         Ok(Reply::Position(None)),
         Ok(Reply::Number(1)),
+        Ok(Reply::Position(Some(8))),
+        Err(Refusal::GapLength),
         Ok(Reply::Listing(ended)),
     ];
     assert_eq!(s.frame(&all).unwrap(), right);
@@ -132,7 +141,7 @@ fn ranges_of_any_kind() {
 #[test]
 fn records_keep_to_named_numbers() {
     let mut random = Random::new(2);
-    let mut seen = [0; 14];
+    let mut seen = [0; 15];
     for world in 0..4_000 {
         let record = CallRecord::from((world, any_call(&mut random)));
         assert!(record.lower_kind <= 2 && record.upper_kind <= 2 && record.world == world, "{record:?}");

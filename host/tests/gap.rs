@@ -1,8 +1,9 @@
-//! The gap search through the safe calls. Which gap is left open, so every test but those with one right answer takes any.
+//! The search for the lowest gap through the safe calls.
 
-use std::ops::{Bound, RangeBounds};
+use std::ops::Bound;
 
-use vizturel::{Refusal, Set, SetBuf, World};
+use vizturel::frame::{Call, Reply};
+use vizturel::{Refusal, Set, SetBuf};
 
 const M: u64 = u64::MAX;
 
@@ -12,20 +13,12 @@ fn of(runs: &[[u64; 2]]) -> SetBuf {
     set
 }
 
-// A gap was found, and it is one.
-fn some<S: AsRef<[u64]>>(set: &World<S>, range: impl RangeBounds<u64> + Clone, n: u64) -> u64 {
-    let x = set.gap(range.clone(), n).unwrap().expect("there is a gap");
-    let end = x.checked_add(n - 1).expect("a gap ends at M or before");
-    assert!(range.contains(&x) && range.contains(&end), "{x} ..= {end} is not in the range");
-    assert_eq!(set.count(x..=end, true), Ok(0), "{x} ..= {end} is not free");
-    x
-}
-
 #[test]
 fn an_empty_set_has_every_gap() {
     let s = of(&[]);
-    assert!(some(&s, .., M) <= 1);
-    some(&s, .., 1);
+    assert_eq!(s.gap(.., M), Ok(Some(0)));
+    assert_eq!(s.gap(.., 1), Ok(Some(0)));
+    assert_eq!(s.gap(7.., 1), Ok(Some(7)));
     assert_eq!(s.gap(1.., M), Ok(Some(1)));
     assert_eq!(s.gap(..M, M), Ok(Some(0)));
     assert_eq!(s.gap(1..M, M), Ok(None));
@@ -44,8 +37,24 @@ fn a_gap_at_either_end() {
     let s = of(&[[4, M - 3]]);
     assert_eq!(s.gap(.., 4), Ok(Some(0)));
     assert_eq!(s.gap(2.., 3), Ok(Some(M - 2)));
-    some(&s, .., 3);
+    assert_eq!(s.gap(.., 3), Ok(Some(0)));
     assert_eq!(s.gap(.., 5), Ok(None));
+}
+
+#[test]
+fn the_lowest_of_several() {
+    let s = of(&[[0, 9], [12, 19], [23, 29], [34, 39]]);
+    assert_eq!(s.gap(.., 1), Ok(Some(10)));
+    assert_eq!(s.gap(.., 2), Ok(Some(10)));
+    assert_eq!(s.gap(.., 3), Ok(Some(20)));
+    assert_eq!(s.gap(.., 4), Ok(Some(30)));
+    assert_eq!(s.gap(.., 5), Ok(Some(40)));
+    // From the range's start on, also where that lies within a free run or on a run's last position.
+    assert_eq!(s.gap(11.., 1), Ok(Some(11)));
+    assert_eq!(s.gap(11.., 2), Ok(Some(20)));
+    assert_eq!(s.gap(19.., 3), Ok(Some(20)));
+    assert_eq!(s.gap(21.., 3), Ok(Some(30)));
+    assert_eq!(s.gap(50.., 3), Ok(Some(50)));
 }
 
 #[test]
@@ -54,7 +63,9 @@ fn the_last_free_run_alone_is_long_enough() {
     assert_eq!(s.gap(0..43, 3), Ok(Some(40)));
     assert_eq!(s.gap(0..42, 3), Ok(None));
     assert_eq!(s.gap(0..40, 3), Ok(None));
-    some(&s, 0..42, 2);
+    assert_eq!(s.gap(0..42, 2), Ok(Some(10)));
+    assert_eq!(s.gap(31..42, 2), Ok(Some(40)));
+    assert_eq!(s.gap(31..41, 2), Ok(None));
 }
 
 #[test]
@@ -68,9 +79,9 @@ fn a_gap_over_the_place_where_positions_wrap_in_memory() {
     s.set(4..7, false).unwrap();
     assert_eq!(s.gap(..29, 22), Ok(Some(2)));
     assert_eq!(s.gap(..29, 23), Ok(None));
-    for n in 1..22 {
-        some(&s, ..29, n);
-        some(&s, 1..28, n);
+    for n in 1..=22 {
+        assert_eq!(s.gap(..29, n), Ok(Some(2)));
+        assert_eq!(s.gap(3..28, n), Ok((n < 22).then_some(3)));
     }
     // All but a stretch over both ends of the positions is held, and the stretch is no gap: M and 0 are no neighbours.
     let mut s = of(&[[3, M - 3]]);
@@ -113,6 +124,38 @@ fn the_example_of_the_documentation() {
     let mut slots = SetBuf::with_capacity(8).unwrap();
     slots.set(2..8, true).unwrap();
     slots.set(10..15, true).unwrap();
-    assert!([0, 8].contains(&some(&slots, 0..12, 2)));
+    assert_eq!(slots.gap(0..12, 2), Ok(Some(0)));
+    assert_eq!(slots.gap(1..12, 2), Ok(Some(8)));
     assert_eq!(slots.gap(0..12, 3), Ok(None));
+}
+
+#[test]
+fn equal_positions_have_equal_gaps_however_they_came() {
+    let s = of(&[[4, 6], [9, 12], [20, 30]]);
+    // Moved to and fro, so that its positions are kept elsewhere in memory.
+    let mut t = of(&[[9, 12], [24, 26]]);
+    t.shift(20, false).unwrap();
+    t.set(9..=12, true).unwrap();
+    t.set(20..=30, true).unwrap();
+    assert_eq!(s.eq(&t), Ok(true));
+    for first in 0..32 {
+        for n in 1..16 {
+            assert_eq!(s.gap(first..40, n), t.gap(first..40, n), "{first}..40, {n}");
+        }
+    }
+}
+
+#[test]
+fn blocks_are_placed_in_a_frame() {
+    let mut s = of(&[[2, 3], [8, 9]]);
+    let told =
+        s.frame(&[Call::gap(.., 3), Call::set(4..7, true), Call::gap(.., 3), Call::gap(..12, 3), Call::gap(.., 0)]);
+    let right = [
+        Ok(Reply::Position(Some(4))),
+        Ok(Reply::Count(3)),
+        Ok(Reply::Position(Some(10))),
+        Ok(Reply::Position(None)),
+        Err(Refusal::GapLength),
+    ];
+    assert_eq!(told, Ok(right.to_vec()));
 }

@@ -1,5 +1,5 @@
-//! The match of `make run`: it ends equal, prints the same every time, and a build that deals one wrong slot, or has another capacity, is
-//! found out.
+//! The match of `make run`: it ends equal, prints the same every time, and a build that deals one wrong slot, places a block elsewhere, or
+//! has another capacity, is found out.
 
 use vizturel::Answer;
 use vizturel::play::{Build, CAPACITY, Call, Ending, Failure, Library, Rust, Written, play};
@@ -14,15 +14,22 @@ fn library() -> Library {
     Library::with_capacity(CAPACITY).unwrap()
 }
 
-/// The library, but that the n-th slot that it deals is the next free one after the lowest.
+/// The library, but that the n-th slot that it deals is the next free one after the lowest, or the n-th block that it places is in the
+/// next gap.
 struct Wrong {
     inner: Library,
+    blocks: bool,
     left: u32,
 }
 
 impl Build for Wrong {
     fn call(&mut self, call: &Call) -> Answer<Option<u64>> {
-        if matches!(call, Call::Spawn(_)) {
+        let counted = match call {
+            Call::Spawn(_) => !self.blocks,
+            Call::Block(..) => self.blocks,
+            _ => false,
+        };
+        if counted {
             self.left = self.left.wrapping_sub(1);
             if self.left == 0 {
                 self.inner.call(call)?;
@@ -44,24 +51,29 @@ impl Build for Wrong {
     }
 }
 
-fn wrong(nth: u32) -> Wrong {
-    Wrong { inner: library(), left: nth }
+fn wrong(blocks: bool) -> Wrong {
+    Wrong { inner: library(), blocks, left: 0 }
 }
 
 #[test]
 fn the_match_ends_equal() {
     let once = || printed([&mut library(), &mut Rust::default(), &mut library()]);
     let (text, ended) = once();
-    let Ending { dealt, refused, bytes } = ended.unwrap();
-    assert!(dealt > 60 && refused > 5 && bytes > 20);
+    let Ending { dealt, blocks, refused, bytes } = ended.unwrap();
+    assert!(dealt > 60 && blocks > 5 && refused > 5 && bytes > 20);
+    // Blocks in a gap between bodies, after the last one, and in none.
+    for block in ["n[3-6]", "s[21-24]", "south: no gap of 6"] {
+        assert!(text.contains(block), "{block}");
+    }
     // By the ceiling, by what the others claim, and where a floor was all that was left.
     for why in
         ["are its ceiling", "it has 5 runs, and the others claim", "it has its floor of 4 runs, and the others claim"]
     {
         assert!(text.contains(why), "{why}");
     }
-    let last =
-        format!("{dealt} slots dealt, equal in all builds; written sets of {bytes} bytes admitted the late player");
+    let last = format!(
+        "{dealt} slots dealt, those of {blocks} blocks among them, equal in all builds; written sets of {bytes} bytes admitted the late player"
+    );
     assert_eq!(text.lines().last(), Some(last.as_str()));
     assert!((30..=46).contains(&text.lines().count()));
     assert_eq!(once().0, text);
@@ -71,14 +83,29 @@ fn the_match_ends_equal() {
 fn a_wrong_slot_is_found_in_any_build() {
     // The 5th slot is dealt in frame 1; the late player's 5th at the latest four frames after it came.
     for at in 0..3 {
-        let mut builds = [wrong(0), wrong(0), wrong(0)];
+        let mut builds = [wrong(false), wrong(false), wrong(false)];
         builds[at].left = 5;
         let [library, rust, late] = &mut builds;
         let (text, ended) = printed([library, rust, late]);
         let Err(Failure::Unequal { frame, what }) = ended else { panic!("build {at}: no difference was found") };
         assert!(if at < 2 { frame == 1 } else { (12..=16).contains(&frame) }, "build {at}: frame {frame}");
         assert!(what.starts_with("spawn in "), "{what}");
-        assert!(!text.contains("slots dealt, equal"));
+        assert!(!text.contains("slots dealt"));
+    }
+}
+
+#[test]
+fn a_block_elsewhere_is_found_in_any_build() {
+    // The 3rd block is placed in frame 10, the late player's 3rd in frame 15.
+    for at in 0..3 {
+        let mut builds = [wrong(true), wrong(true), wrong(true)];
+        builds[at].left = 3;
+        let [library, rust, late] = &mut builds;
+        let (text, ended) = printed([library, rust, late]);
+        let Err(Failure::Unequal { frame, what }) = ended else { panic!("build {at}: no difference was found") };
+        assert_eq!(frame, if at < 2 { 10 } else { 15 }, "build {at}");
+        assert!(what.starts_with("block of "), "{what}");
+        assert!(!text.contains("slots dealt"));
     }
 }
 

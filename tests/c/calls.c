@@ -1,4 +1,4 @@
-/* The library through include/vizturel.h: the sixteen cases of the scope document, the gap search, spare bits of maps, maps by words and by
+/* The library through include/vizturel.h: the sixteen cases of the scope document, the lowest gap, spare bits of maps, maps by words and by
  * single bytes, each refusal, that a refused call changes nothing, calls by lists, and worlds that share a pool. Compiled as C and as C++.
  * Prints what failed, and last 'N passed, M failed'. */
 #include <stdio.h>
@@ -210,21 +210,15 @@ static void cases(void) {
     CHECK(memcmp(kept, s, sizeof s) == 0);
 }
 
-/* whether f is the start of n neighbouring positions of first .. last that are all free; which of them is left open */
-static int is_gap(vizturel_found f, const uint64_t *w, size_t count, uint64_t first, uint64_t last, uint64_t n) {
-    uint64_t x = f.position;
-    return f.refusal == 0 && f.found == 1 && first <= x && x <= last && last - x >= n - 1 &&
-           is_count(vizturel_count(w, count, here, IN(x), IN(x + (n - 1)), 0), n);
-}
-
 static void gaps(void) {
     vizturel_found f;
     uint64_t n;
 
     /* an empty set: gaps of M start at 0 and at 1 */
     fresh(s, WORDS);
-    CHECK(is_gap(vizturel_gap(s, WORDS, here, ALL, ALL, M), s, WORDS, 0, M, M));
-    CHECK(is_gap(vizturel_gap(s, WORDS, here, ALL, ALL, 1), s, WORDS, 0, M, 1));
+    CHECK(at(vizturel_gap(s, WORDS, here, ALL, ALL, M), 0));
+    CHECK(at(vizturel_gap(s, WORDS, here, ALL, ALL, 1), 0));
+    CHECK(at(vizturel_gap(s, WORDS, here, IN(7), ALL, 1), 7));
     CHECK(at(vizturel_gap(s, WORDS, here, IN(1), ALL, M), 1));
     CHECK(at(vizturel_gap(s, WORDS, here, ALL, EX(M), M), 0));
     CHECK(nowhere(vizturel_gap(s, WORDS, here, IN(1), EX(M), M)));
@@ -240,12 +234,14 @@ static void gaps(void) {
     only(s, WORDS, 4, M - 3);
     CHECK(at(vizturel_gap(s, WORDS, here, ALL, ALL, 4), 0));
     CHECK(nowhere(vizturel_gap(s, WORDS, here, ALL, ALL, 5)));
-    CHECK(is_gap(vizturel_gap(s, WORDS, here, ALL, ALL, 3), s, WORDS, 0, M, 3));
-    CHECK(at(vizturel_gap(s, WORDS, here, IN(1), ALL, 3), 1) || at(vizturel_gap(s, WORDS, here, IN(1), ALL, 3), M - 2));
+    CHECK(at(vizturel_gap(s, WORDS, here, ALL, ALL, 3), 0));
+    CHECK(at(vizturel_gap(s, WORDS, here, IN(1), ALL, 3), 1));
     CHECK(at(vizturel_gap(s, WORDS, here, IN(2), ALL, 3), M - 2));
-    CHECK(at(vizturel_gap(s, WORDS, here, EX(1), EX(M), 2), 2) || at(vizturel_gap(s, WORDS, here, EX(1), EX(M), 2), M - 2));
+    CHECK(at(vizturel_gap(s, WORDS, here, EX(1), EX(M), 2), 2));
+    CHECK(at(vizturel_gap(s, WORDS, here, EX(2), EX(M), 2), M - 2));
+    CHECK(nowhere(vizturel_gap(s, WORDS, here, EX(2), EX(M), 3)));
 
-    /* neither past the range nor on a held position, and none though the last free run is too short by one */
+    /* the lowest one: neither past the range nor on a held position, and none though the last free run is too short by one */
     only(s, WORDS, 10, 19);
     put(s, WORDS, 30, 40, 1);
     CHECK(at(vizturel_gap(s, WORDS, here, IN(10), IN(39), 10), 20));
@@ -254,6 +250,11 @@ static void gaps(void) {
     CHECK(nowhere(vizturel_gap(s, WORDS, here, IN(10), IN(49), 11)));
     CHECK(at(vizturel_gap(s, WORDS, here, IN(15), IN(24), 5), 20));
     CHECK(nowhere(vizturel_gap(s, WORDS, here, IN(15), IN(23), 5)));
+    CHECK(at(vizturel_gap(s, WORDS, here, ALL, ALL, 10), 0));
+    CHECK(at(vizturel_gap(s, WORDS, here, IN(1), ALL, 10), 20));
+    CHECK(at(vizturel_gap(s, WORDS, here, IN(21), ALL, 10), 40));
+    CHECK(at(vizturel_gap(s, WORDS, here, IN(19), IN(20), 1), 20));
+    CHECK(at(vizturel_gap(s, WORDS, here, IN(21), IN(23), 3), 21));
 
     /* After both shifts position 8 lies at the start of the physical positions, and 7 at their end: gaps go over that place. */
     only(s, WORDS, 0, 2);
@@ -261,9 +262,9 @@ static void gaps(void) {
     CHECK(vizturel_shift(s, WORDS, here, 12, 1) == 0 && vizturel_shift(s, WORDS, here, 4, 0) == 0);
     CHECK(is_count(put(s, WORDS, 0, 2, 1), 2));
     /* held are 0 1, 8 9 10 and 28 .. 32 */
-    for (n = 1; n <= 17; n++) CHECK(is_gap(vizturel_gap(s, WORDS, here, ALL, IN(32), n), s, WORDS, 0, 32, n));
+    for (n = 1; n <= 17; n++) CHECK(at(vizturel_gap(s, WORDS, here, ALL, IN(32), n), n <= 6 ? 2 : 11));
     CHECK(nowhere(vizturel_gap(s, WORDS, here, ALL, IN(32), 18)));
-    CHECK(is_gap(vizturel_gap(s, WORDS, here, ALL, ALL, 18), s, WORDS, 0, M, 18));
+    CHECK(at(vizturel_gap(s, WORDS, here, ALL, ALL, 18), 33));
     CHECK(vizturel_set(s, WORDS, here, IN(8), IN(10), 0).low == 3);
     CHECK(at(vizturel_gap(s, WORDS, here, ALL, IN(30), 26), 2));
     CHECK(nowhere(vizturel_gap(s, WORDS, here, ALL, IN(30), 27)));
@@ -530,11 +531,24 @@ static void every_call(void) {
     CHECK(is(told[1], 0, 1, 0, 0, 0, 0, 0));
     CHECK(is(told[2], 0, 0, 0, 0, 0, 0, 0));
     CHECK(holds(s, WORDS, 0, NULL));
+    /* gaps: the lowest, the next one when it was taken, none, and one of no position */
+    only(s, WORDS, 2, 7);
+    put(s, WORDS, 10, 15, 1);
+    list[0] = ask(VIZTUREL_CALL_GAP, IN(1), ALL, 0, 2);
+    list[1] = ask(VIZTUREL_CALL_SET, IN(8), IN(9), 1, 0);
+    list[2] = ask(VIZTUREL_CALL_GAP, IN(1), ALL, M, 2);
+    list[3] = ask(VIZTUREL_CALL_GAP, IN(1), IN(15), 0, 2);
+    list[4] = ask(VIZTUREL_CALL_GAP, ALL, ALL, 0, 0);
+    CHECK(play(5) == VIZTUREL_DONE);
+    CHECK(is(told[0], 0, 1, 8, 0, 0, 0, 0));
+    CHECK(is(told[2], 0, 1, 15, 0, 0, 0, 0));
+    CHECK(is(told[3], 0, 0, 0, 0, 0, 0, 0));
+    CHECK(is(told[4], VIZTUREL_GAP_LENGTH, 0, 0, 0, 0, 0, 0));
 }
 
 /* reserved numbers, as this version answers them: calls are gets, kinds of bounds are no bound */
 static void any_record(void) {
-    static const uint64_t gets[] = {0, 14, 15, 258, (UINT64_C(1) << 32) + 2, (UINT64_C(1) << 63) + 2, M};
+    static const uint64_t gets[] = {0, 15, 16, 258, (UINT64_C(1) << 32) + 2, (UINT64_C(1) << 63) + 2, M};
     static const uint64_t run[] = {2, 7};
     const vizturel_bound odd = {3, 5}, odder = {M, 6};
     size_t i, n = sizeof gets / sizeof *gets;

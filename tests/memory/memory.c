@@ -97,17 +97,19 @@ static size_t set_length;
 #define MAP_LENGTH 100
 #define MAP_BYTES ((MAP_LENGTH + 7) / 8)
 #define LIST_RUNS 3
-#define CALLS 15 /* each call of a frame once, and a number that names none */
+#define CALLS 16 /* each call of a frame once, and a number that names none */
 #define RECORD sizeof(vizturel_call)
 
 static const vizturel_bound lowers[] = {{0, 0}, {1, 0}, {1, 40}, {2, M}, {1, M}, {1, UINT64_C(1) << 63}};
 static const vizturel_bound uppers[] = {{0, 0}, {2, 0}, {1, 90}, {1, 3}, {1, M}, {2, UINT64_C(1) << 63}};
 #define RANGES (sizeof lowers / sizeof *lowers)
 
-static int inside(vizturel_bound lower, vizturel_bound upper, uint64_t x) {
-    int above = lower.kind == 0 || (lower.kind == 1 ? x >= lower.value : x > lower.value);
-    int below = upper.kind == 0 || (upper.kind == 1 ? x <= upper.value : x < upper.value);
-    return above && below;
+/* the first run of free positions in a range that has so many, drawn from the front */
+static vizturel_drawn first_fit(pool s, uint64_t at, vizturel_bound lower, vizturel_bound upper, uint64_t length) {
+    vizturel_listed l = vizturel_ranges(s.words, s.count, at, lower, upper, 0);
+    vizturel_drawn d = vizturel_draw_front(s.words, s.count, at, l.first, l.last, 0);
+    while (d.found && d.end - d.start < length - 1) d = vizturel_draw_front(s.words, s.count, at, d.first, d.last, 0);
+    return d;
 }
 
 /* Every call that only reads the pool, or overwrites a world of another. Told is 0, 1, 7 or 12: what each of them must be refused with. */
@@ -127,16 +129,15 @@ static void reading_calls(pool s, uint64_t at, uint64_t told) {
         CHECK(vizturel_count_ranges(w, n, at, lower, upper, v).refusal == told);
         CHECK(vizturel_ranges(w, n, at, lower, upper, v).refusal == told);
     }
-    /* any gap is right: n positions from there on, in the range and free */
+    /* the lowest gap starts with the first free run that is long enough */
     uint64_t length = chance(4) ? 1 + chance(12) : chance(M);
     lower = lowers[chance(RANGES)];
     upper = uppers[chance(RANGES)];
     vizturel_found gap = vizturel_gap(w, n, at, lower, upper, length);
     CHECK(told ? gap.refusal == told : gap.refusal == (length ? 0 : VIZTUREL_GAP_LENGTH));
-    if (gap.found) {
-        uint64_t start = gap.position, end = start + (length - 1);
-        CHECK(start <= end && vizturel_find(w, n, at, IN(start), IN(end), 1).found == 0);
-        CHECK(inside(lower, upper, start) && inside(lower, upper, end));
+    if (gap.refusal == 0) {
+        vizturel_drawn fit = first_fit(s, at, lower, upper, length);
+        CHECK(fit.refusal == 0 && gap.found == fit.found && gap.position == fit.start);
     }
     CHECK(vizturel_draw_front(w, n, at, x, M, v).refusal == told);
     CHECK(vizturel_draw_back(w, n, at, 0, x, v).refusal == told);

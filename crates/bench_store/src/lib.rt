@@ -104,7 +104,7 @@ fn look_for(words: &[u64], first: u64, last: u64, n: u64) -> u64
     requires { ⌜ (first ≤ last) × (1 ≤ n) ⌝ }
 {
     let h = store::open(words, 0);
-    let e = streams::gaps::some_gap(&words[128..], h, Logical(first), Logical(last), n);
+    let e = streams::gaps::lowest_gap(&words[128..], h, Logical(first), Logical(last), n);
     match e {
         Edge::At(_) => 1,
         Edge::Nowhere => 0,

@@ -15,7 +15,7 @@ use Rattle.model.specs.Range.{firstAllowed, extent}
 use Rattle.model.specs.Positions
 use Rattle.model.specs.Positions.{Positions, firstRun, lastRun, listed, remaining, pastFirst, pastLast}
 use Rattle.model.specs.Bytes.{fillOf}
-use Rattle.model.specs.Refusals.{storeLength, worldLimits, window, Condition, _when_, refusal, badLimits, badWindow}
+use Rattle.model.specs.Refusals.{storeLength, worldLimits, gapLength, window, Condition, _when_, refusal, badLimits, badGap, badWindow}
 use Rattle.model.specs.Call.{wrongLength, unsound, unopened, Call, Result, done, number, value, around, position, listing, drawn, Answer, refused, gave}
 use Rattle.model.specs.Model.{Outcome, positionsOf, reads, settle, report, drawnFirst, drawnLast, serve}
 use Rattle.model.specs.Pools.{worldOf, fedBy, emptyWorlds, PoolOutcome, settleMake, makeBy}
@@ -176,6 +176,11 @@ module _ (w : List ℕ) (i : ℕ) where
   pub count-ranges-says : (l u : Bound) (v : Bool) → Reports w i (Call.countRanges l u v) [] (λ P. number (Positions.countRanges P v (firstAllowed l) (extent l u)))
   unfolding outcomeOf serve
   count-ranges-says l u v = record { said = refl }
+
+  -- the lowest gap of a range
+  pub gap-says : (l u : Bound) (n : ℕ) → Reports w i (Call.gap l u n) (gapLength when badGap n ∷ []) (λ P. position (Positions.gap P (firstAllowed l) (extent l u) n))
+  unfolding outcomeOf serve
+  gap-says l u n = record { said = refl }
 
   -- a listing of a range
   pub ranges-says : (l u : Bound) (v : Bool) → Reports w i (Call.ranges l u v) [] (λ P. listing (listed (firstAllowed l) (extent l u) v))

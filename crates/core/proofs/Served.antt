@@ -53,6 +53,7 @@ module _ (full : ℕ → Bool) (s : Fed) where
   served (Call.count l u v) = reports _ _
   served (Call.select l u v k) = reports _ _
   served (Call.countRanges l u v) = reports _ _
+  served (Call.gap l u n) = reports _ _
   served (Call.ranges l u v) = reports _ _
   served (Call.drawFront l) = reports _ _
   served (Call.drawBack l) = reports _ _

@@ -14,7 +14,7 @@ use Rattle.model.specs.declared.Edge.the-variants.{At, Nowhere}
 use Rattle.model.specs.declared.Span.{Span}
 use Rattle.model.specs.declared.Span.the-variants.{Empty, Closed}
 use Rattle.model.specs.Range.{firstAllowed, pastAllowed, extent, spanOf}
-use Rattle.model.specs.Positions.{Positions, find, count, select, countRanges, ended, listed}
+use Rattle.model.specs.Positions.{Positions, find, count, select, countRanges, gap, ended, listed}
 use Rattle.model.proofs.Counting.{count-none}
 use Rattle.model.proofs.Runs.{runsIn-none}
 use Rattle.model.proofs.Finds.{find-none, select-none}
@@ -58,6 +58,10 @@ module _ {l u : Bound} {a b : ℕ} (W : Within l u a b) where
   -- so is their k-th position
   pub select-range : {t : Option ℕ} (P : Positions) (v : Bool) (k : ℕ) → t ≡ select P v a (suc b - a) k → t ≡ select P v (firstAllowed l) (extent l u) k
   select-range P v k e = of-range (λ x n. select P v x n k) e
+
+  -- and their lowest gap
+  pub gap-range : {t : Option ℕ} (P : Positions) (n : ℕ) → t ≡ gap P a (suc b - a) n → t ≡ gap P (firstAllowed l) (extent l u) n
+  gap-range P n e = of-range (λ x k. gap P x k n) e
 
   -- the listing of the positions from a to b
   pub listed-some : (v : Bool) → record { first = a; last = b; value = v } ≡ listed (firstAllowed l) (extent l u) v

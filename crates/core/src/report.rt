@@ -2,8 +2,7 @@
 ghost use mathlib.Core.Path.{_≡_};
 ghost use Rattle.model.specs.Call.{Call};
 ghost use Rattle.model.specs.Answers.{countedAnswer, numberedAnswer, testedAnswer, aroundAnswer, foundAnswer, listedAnswer};
-ghost use Rattle.model.specs.Gaps.{AnswersGap};
-ghost use Rattle.core.specs.Met.{fedOf, Readable, Met, foundEdge};
+ghost use Rattle.core.specs.Met.{Readable, Met, foundEdge};
 use model::Around;
 use model::Bound;
 use model::Count;
@@ -96,7 +95,7 @@ pub fn select(words: &[u64], world: u64, lower: Bound, upper: Bound, value: bool
 // An empty range has no gap.
 pub fn gap(words: &[u64], world: u64, lower: Bound, upper: Bound, n: u64) -> Found
     requires { ⌜ Readable (now words) world ⌝ }
-    ensures { λ r. ⌜ AnswersGap (fedOf (now (words .entry)) world) lower upper n (foundAnswer r) ⌝ }
+    ensures { λ r. ⌜ Met (now (words .entry)) world (Call.gap lower upper n) (foundAnswer r) (now (words .entry)) ⌝ }
 {
     if n == 0 {
         return Found::Refused(Refusal::GapLength);
@@ -106,7 +105,7 @@ pub fn gap(words: &[u64], world: u64, lower: Bound, upper: Bound, n: u64) -> Fou
         Span::Empty => Found::Nowhere,
         Span::Closed(a, b) => {
             let h = store::open(words, world);
-            found(streams::gaps::some_gap(&words[128..], h, Logical(a), Logical(b), n))
+            found(streams::gaps::lowest_gap(&words[128..], h, Logical(a), Logical(b), n))
         }
     }
 }

@@ -8,18 +8,16 @@ use Rattle.model.specs.declared.Limits.{Limits}
 use Rattle.model.specs.declared.Written.{Written}
 use Rattle.model.specs.Answers.{writtenAnswer}
 use Rattle.model.specs.Call.{Call, Answer}
-use Rattle.model.specs.Gaps.{AnswersGap}
 use Rattle.model.specs.Clearing.{Handled}
-use Rattle.core.specs.Met.{Site, fedOf, Met, Made}
+use Rattle.core.specs.Met.{Site, Met, Made}
 use Rattle.core.specs.Handles.{Handles}
 use Rattle.core.specs.Out.{Unwritten, WritesOut}
 use Rattle.flat.specs.declared.Reply.{Reply}
 use Rattle.flat.specs.Flat.{replyOf}
 use Rattle.frame.specs.Frame.{Framed}
-use Rattle.exports.specs.declared.structs.CFound.{CFound}
 use Rattle.exports.specs.declared.structs.CWritten.{CWritten}
-use Rattle.exports.specs.Structs.{refusalOf, positionOf, writtenOf}
-use Rattle.exports.specs.Returns.{Makes, Returns, ReturnsGap, sliceAfter, Writes, Handed, Frames}
+use Rattle.exports.specs.Structs.{refusalOf, writtenOf}
+use Rattle.exports.specs.Returns.{Makes, Returns, sliceAfter, Writes, Handed, Frames}
 
 -- a call between two bounds is the call between what they were made of
 pub between : (f : Bound → Bound → Call Site) {p q x y : Bound} → p ≡ x → q ≡ y → f p q ≡ f x y
@@ -33,15 +31,6 @@ returned {w = w} {w′} {i} {f = f} {a = a} e m p s = record { answer = a; met =
 -- making a pool
 pub makes : {w w′ : List ℕ} {ls : List Limits} {a : Answer} {q : Reply} → Made w ls a w′ → q ≡ replyOf a → Makes w ls (refusalOf q) w′
 makes {a = a} m p = record { answer = a; made = m; flat = ap (λ (q : Reply). refusalOf q) p }
-
--- the gap search
-pub returned-gap : {w : List ℕ} {i : ℕ} {l u x y : Bound} {n : ℕ} {r : CFound} (a : Answer) {q : Reply} → l ≡ x → u ≡ y
-    → AnswersGap (fedOf w i) l u n a → q ≡ replyOf a → r ≡ positionOf q → ReturnsGap w i x y n r
-returned-gap {w} {i} {l} {u} {x} {y} {n} a d e m p s = record {
-  answer = a;
-  met = subst (λ b. AnswersGap (fedOf w i) x b n a) e (subst (λ b. AnswersGap (fedOf w i) b u n a) d m);
-  flat = s ∙ ap (λ (q : Reply). positionOf q) p;
-}
 
 -- a slice that is written, or left
 slice-is : (out out′ : List ℕ) (a : Written) → Unwritten a out out′ → out′ ≡ sliceAfter (writtenAnswer a out′) out

@@ -3,19 +3,16 @@
 use Prim.Native.Nat.{ℕ}
 use mathlib.Core.Path.{_≡_}
 use mathlib.Core.List.{List}
-use Rattle.model.specs.declared.Bound.{Bound}
 use Rattle.model.specs.declared.Limits.{Limits}
 use Rattle.model.specs.Call.{Call, Answer, refused, gave}
-use Rattle.model.specs.Gaps.{AnswersGap}
 use Rattle.model.specs.Clearing.{Handled}
-use Rattle.core.specs.Met.{Site, fedOf, Met, Made}
+use Rattle.core.specs.Met.{Site, Met, Made}
 use Rattle.interval_bit_set.specs.Out.{onWritten}
 use Rattle.flat.specs.declared.Reply.{Reply}
 use Rattle.flat.specs.Flat.{replyOf}
 use Rattle.frame.specs.Frame.{Framed}
-use Rattle.exports.specs.declared.structs.CFound.{CFound}
 use Rattle.exports.specs.declared.structs.CWritten.{CWritten}
-use Rattle.exports.specs.Structs.{refusalOf, positionOf, writtenOf}
+use Rattle.exports.specs.Structs.{refusalOf, writtenOf}
 
 -- making the words w a pool with the limits ls answered as its promise says; w′ is left
 pub record Makes (w : List ℕ) (ls : List Limits) (r : ℕ) (w′ : List ℕ) : Type 0 where
@@ -28,12 +25,6 @@ pub record Returns {R : Type 0} (w : List ℕ) (i : ℕ) (c : Call Site) (f : Re
   pub answer : Answer
   pub met : Met w i c answer w′
   pub flat : r ≡ f (replyOf answer)
-
--- the gap search on world i of the words w, of n positions between l and u: r is an answer that its promise allows, laid flat, in every field
-pub record ReturnsGap (w : List ℕ) (i : ℕ) (l u : Bound) (n : ℕ) (r : CFound) : Type 0 where
-  pub answer : Answer
-  pub met : AnswersGap (fedOf w i) l u n answer
-  pub flat : r ≡ positionOf (replyOf answer)
 
 -- a slice that was lent to be written: as it was after a refusal, else the answer's
 abbrev pub sliceAfter : Answer → List ℕ → List ℕ

@@ -10,7 +10,7 @@ ghost use Rattle.core.specs.Met.{site};
 ghost use Rattle.interval_bit_set.specs.Lent.{listingOf};
 ghost use Rattle.flat.specs.Flat.{operationOf, truth};
 ghost use Rattle.exports.specs.Structs.{boundOf, refusalOf, countOf, numberOf, valueOf, runOf, positionOf, listedOf, drawnOf};
-ghost use Rattle.exports.specs.Returns.{Makes, Returns, ReturnsGap, Writes, Handed, Frames};
+ghost use Rattle.exports.specs.Returns.{Makes, Returns, Writes, Handed, Frames};
 use crate::structs::CAround;
 use crate::structs::CBound;
 use crate::structs::CCounted;
@@ -151,7 +151,7 @@ pub extern "C" fn vizturel_select(
     )))
 }
 
-// The start of some n neighbouring positions of a range that are all free.
+// The lowest start of n neighbouring positions of a range that are all free.
 #[no_mangle]
 pub extern "C" fn vizturel_gap(
     words: &[u64],
@@ -160,7 +160,7 @@ pub extern "C" fn vizturel_gap(
     upper: CBound,
     n: u64,
 ) -> CFound
-    ensures { λ r. ⌜ ReturnsGap (now (words .entry)) world (boundOf lower) (boundOf upper) n r ⌝ }
+    ensures { λ r. ⌜ Returns (now (words .entry)) world (Call.gap (boundOf lower) (boundOf upper) n) positionOf r (now (words .entry)) ⌝ }
 {
     structs::position(flat::found(interval_bit_set::report::gap(
         words,

@@ -23,6 +23,7 @@ use Rattle.core.proofs.Meeting.{
   draw-front-says,
   draw-back-says,
   fill-says,
+  gap-says,
 }
 use Rattle.core.proofs.Changing.{Changes, set-says, flip-says, shift-says}
 use Rattle.core.proofs.Overwriting.{build-says}
@@ -73,6 +74,7 @@ module _ {w : List ℕ} {i : ℕ} (S : Sound w) (h : openedAt w ≤ i) (e : Entr
   twelve Kind.DrawFront = away (draw-front-says w i _) refl
   twelve Kind.DrawBack = away (draw-back-says w i _) refl
   twelve Kind.Fill = away (fill-says w i _ _) refl
+  twelve Kind.Gap = away (gap-says w i _ _ _) refl
   twelve Kind.Get = away (get-says w i _) refl
 
   -- as a record is served

@@ -27,6 +27,7 @@ fed-kind f Kind.Ranges e = refl
 fed-kind f Kind.DrawFront e = refl
 fed-kind f Kind.DrawBack e = refl
 fed-kind f Kind.Fill e = refl
+fed-kind f Kind.Gap e = refl
 fed-kind f Kind.Get e = refl
 
 pub fed-same : (e : Entry) → feed fedAt (callOf e) ≡ callOf e

@@ -14,7 +14,7 @@ use Rattle.frame.specs.Records.{kindOf, wordsOf}
 -- ---- calls
 -- any other number is a get
 module _ (n : ℕ) (h₁ : n ≡ 1 → ⊥) (h₂ : n ≡ 2 → ⊥) (h₃ : n ≡ 3 → ⊥) (h₄ : n ≡ 4 → ⊥) (h₅ : n ≡ 5 → ⊥) (h₆ : n ≡ 6 → ⊥) (h₇ : n ≡ 7 → ⊥)
-    (h₈ : n ≡ 8 → ⊥) (h₉ : n ≡ 9 → ⊥) (h₁₀ : n ≡ 10 → ⊥) (h₁₁ : n ≡ 11 → ⊥) (h₁₂ : n ≡ 12 → ⊥) (h₁₃ : n ≡ 13 → ⊥) where
+    (h₈ : n ≡ 8 → ⊥) (h₉ : n ≡ 9 → ⊥) (h₁₀ : n ≡ 10 → ⊥) (h₁₁ : n ≡ 11 → ⊥) (h₁₂ : n ≡ 12 → ⊥) (h₁₃ : n ≡ 13 → ⊥) (h₁₄ : n ≡ 14 → ⊥) where
   pub other : Kind.Get ≡ kindOf n
   unfolding kindOf
   other =
@@ -32,6 +32,7 @@ module _ (n : ℕ) (h₁ : n ≡ 1 → ⊥) (h₂ : n ≡ 2 → ⊥) (h₃ : n �
         ne-eqb n 11 h₁₁,
         ne-eqb n 12 h₁₂,
         ne-eqb n 13 h₁₃,
+        ne-eqb n 14 h₁₄,
       )
 
 -- ---- records in a slice

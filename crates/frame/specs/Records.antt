@@ -27,7 +27,7 @@ entryAt ws i = record {
   world = getD ws (8 * i + 7) 0;
 }
 
--- the call that a number names: 1 to 13, and any other is a get
+-- the call that a number names: 1 to 14, and any other is a get
 unfoldable pub kindOf : ℕ → Kind
 kindOf n =
     cond (eqb n 1) Kind.Empty
@@ -42,7 +42,8 @@ kindOf n =
     (cond (eqb n 10) Kind.Ranges
     (cond (eqb n 11) Kind.DrawFront
     (cond (eqb n 12) Kind.DrawBack
-    (cond (eqb n 13) Kind.Fill Kind.Get))))))))))))
+    (cond (eqb n 13) Kind.Fill
+    (cond (eqb n 14) Kind.Gap Kind.Get)))))))))))))
 
 abbrev pub lowerOf : Entry → Bound
 lowerOf e = boundBy (e .lower) (e .from)
@@ -68,6 +69,7 @@ callBy Kind.Ranges e = Call.ranges (lowerOf e) (upperOf e) (truth (e .value))
 callBy Kind.DrawFront e = Call.drawFront (listingBy e)
 callBy Kind.DrawBack e = Call.drawBack (listingBy e)
 callBy Kind.Fill e = Call.fill (e .from) (e .upto)
+callBy Kind.Gap e = Call.gap (lowerOf e) (upperOf e) (e .k)
 callBy Kind.Get e = Call.get (e .from)
 
 -- on the world that the record names

@@ -18,12 +18,13 @@ pub enum Kind {
     DrawFront,
     DrawBack,
     Fill,
+    Gap,
     Get,
 }
 
 // The words of a record. `lower` and `upper` are the kinds of the bounds, `from` and `upto` their values. `from` is also the position of get
 // and run_at, the distance of shift, the base of fill and the first position of a listing; `upto` is the length of fill and the last position
-// of a listing; `value` tells a shift to go left.
+// of a listing; `value` tells a shift to go left; `k` is also how many positions a gap has.
 pub struct Entry {
     pub call: u64,
     pub lower: u64,
@@ -77,6 +78,9 @@ pub fn named(n: u64) -> Kind
     }
     if n == 13 {
         return Kind::Fill;
+    }
+    if n == 14 {
+        return Kind::Gap;
     }
     Kind::Get
 }

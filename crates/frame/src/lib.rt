@@ -85,6 +85,7 @@ fn serve_world(words: &mut [u64], e: Entry) -> Reply
             },
         )),
         Kind::Fill => flat::numbered(core::report::fill(words, world, e.from, e.upto)),
+        Kind::Gap => flat::found(core::report::gap(words, world, lower, upper, e.k)),
         Kind::Get => flat::tested(core::report::get(words, world, e.from)),
     }
 }

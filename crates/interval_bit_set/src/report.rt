@@ -1,8 +1,7 @@
 // The calls that report, and leave the world as it is.
 ghost use Rattle.model.specs.Call.{Call};
 ghost use Rattle.model.specs.Answers.{countedAnswer, numberedAnswer, testedAnswer, aroundAnswer, foundAnswer, listedAnswer, drawnAnswer};
-ghost use Rattle.model.specs.Gaps.{AnswersGap};
-ghost use Rattle.core.specs.Met.{fedOf, Met};
+ghost use Rattle.core.specs.Met.{Met};
 use crate::look::Look;
 use model::Around;
 use model::Bound;
@@ -69,9 +68,9 @@ pub fn select(words: &[u64], world: u64, lower: Bound, upper: Bound, value: bool
     }
 }
 
-// The start of some n neighbouring positions of a range that are all free. Which of them is left open.
+// The lowest start of n neighbouring positions of a range that are all free.
 pub fn gap(words: &[u64], world: u64, lower: Bound, upper: Bound, n: u64) -> Found
-    ensures { λ r. ⌜ AnswersGap (fedOf (now (words .entry)) world) lower upper n (foundAnswer r) ⌝ }
+    ensures { λ r. ⌜ Met (now (words .entry)) world (Call.gap lower upper n) (foundAnswer r) (now (words .entry)) ⌝ }
 {
     let l = crate::look::look_at(words, world);
     match l {

@@ -143,6 +143,7 @@ module _ (full : ℕ → Bool) (s : Fed) where
   many (Call.count l u v) = λ e. absurd (reports-not _ _ refl e)
   many (Call.select l u v k) = λ e. absurd (reports-not _ _ refl e)
   many (Call.countRanges l u v) = λ e. absurd (reports-not _ _ refl e)
+  many (Call.gap l u n) = λ e. absurd (reports-not _ _ refl e)
   many (Call.ranges l u v) = λ e. absurd (reports-not _ _ refl e)
   many (Call.drawFront l) = λ e. absurd (reports-not _ _ refl e)
   many (Call.drawBack l) = λ e. absurd (reports-not _ _ refl e)

@@ -44,6 +44,7 @@ use Rattle.model.specs.Positions.{
 use Rattle.model.proofs.Counting.{Place, below, within, above, place, among-yes, among-below, among-above, count-cong, count-first, count-most}
 use Rattle.model.proofs.Runs.{runsIn-is, heldRuns-mem, stretches-is}
 use Rattle.model.proofs.Finds.{startOf, find-runs, count-runs, selectRuns, select-runs}
+use Rattle.model.proofs.Gaps.{firstLong, gap-runs}
 use Rattle.model.specs.RunList.{Canon}
 use Rattle.model.proofs.RunList.{canon-weaken, canon-wider, widths}
 use Rattle.model.proofs.Clip.{clip, clip-canon, clip-mem, clip-runs}
@@ -70,6 +71,7 @@ use Rattle.model.proofs.Ops.{
 }
 use Rattle.model.specs.Bytes.{encode, decode, mapLength, mapOf, mapBit, strayBits, mapped, fillOf, intoFront}
 use Rattle.model.specs.Refusals.{
+  gapLength,
   window,
   strayBit,
   setShort,
@@ -81,6 +83,7 @@ use Rattle.model.specs.Refusals.{
   Condition,
   _when_,
   refusal,
+  badGap,
   badWindow,
   badMap,
   stray,
@@ -101,6 +104,7 @@ use Rattle.model.specs.Call.{
   count,
   select,
   countRanges,
+  gap,
   ranges,
   drawFront,
   drawBack,
@@ -327,6 +331,7 @@ calc C s (find l u v) = reportRuns s [] (position (startOf (firstRun (clipped v 
 calc C s (count l u v) = reportRuns s [] (number (widths (clipped v (firstAllowed l) (extent l u) (runsOf s))))
 calc C s (select l u v k) = reportRuns s [] (position (selectRuns (clipped v (firstAllowed l) (extent l u) (runsOf s)) k))
 calc C s (countRanges l u v) = reportRuns s [] (number (length (clipped v (firstAllowed l) (extent l u) (runsOf s))))
+calc C s (gap l u n) = reportRuns s (gapLength when badGap n ∷ []) (position (firstLong n (clipped false (firstAllowed l) (extent l u) (runsOf s))))
 calc C s (ranges l u v) = reportRuns s [] (listing (listed (firstAllowed l) (extent l u) v))
 calc C s (drawFront l) = reportRuns s [] (drawnFirst l (firstRun (remainingRuns (runsOf s) l)))
 calc C s (drawBack l) = reportRuns s [] (drawnLast l (lastRun (remainingRuns (runsOf s) l)))
@@ -366,6 +371,19 @@ unfolding report reportRuns
 tied-report s cs a b e =
     tied-settle (refusal (reads (fedAs s) ++ cs)) (positionsOf (fedAs s)) (positionsOf (fedAs s)) a b (runsOf s) (runsOf s) e (runsOf-positions s) (runsOf-positions s)
     (runsOf-canon s) (runsOf-canon s)
+
+-- a refused report is tied, whatever it would have given
+tied-refused : (s : Given) (cs : List Condition) (a b : Result) {n : ℕ} → refusal (reads (fedAs s) ++ cs) ≡ some n → Tied (report (fedAs s) cs a) (reportRuns s cs b)
+unfolding report reportRuns
+tied-refused s cs a b e = rw e (record { answer = refl; positions = runsOf-positions s; canonical = runsOf-canon s })
+
+-- as a gap of no position is, of every world
+no-length : (s : Given) → (n : ℕ) × (refusal (reads (fedAs s) ++ gapLength when badGap 0 ∷ []) ≡ some n)
+unfolding fedAs
+no-length noStore = (1, refl)
+no-length broken = (7, refl)
+no-length shut = (12, refl)
+no-length (having rs) = (9, refl)
 
 tied-change : (C : ℕ) (s : Given) (cs : List Condition) (Q : Positions) (qs : List Run) (a b : Result) → a ≡ b → mem qs ≡ bounded Q → Canon size 0 qs
     → Tied (change (ltb C) (fedAs s) cs Q a) (changeRuns C s cs qs b)
@@ -436,6 +454,12 @@ calc-tied C s (select l u v k) =
 calc-tied C s (countRanges l u v) =
     tied-report s [] (number (Positions.countRanges (positionsOf (fedAs s)) v (firstAllowed l) (extent l u))) (number (length (clipped v (firstAllowed l) (extent l u) (runsOf s))))
     (ap (λ ss. number (length ss)) (in-range s v (firstAllowed l) (extent l u)))
+calc-tied C s (gap l u zero) = tied-refused s (gapLength when badGap 0 ∷ []) _ _ (no-length s .1)
+calc-tied C s (gap l u (suc n)) =
+    tied-report s (gapLength when badGap (suc n) ∷ []) (position (Positions.gap (positionsOf (fedAs s)) (firstAllowed l) (extent l u) (suc n)))
+    (position (firstLong (suc n) (clipped false (firstAllowed l) (extent l u) (runsOf s))))
+    (ap position
+    (gap-runs (positionsOf (fedAs s)) (firstAllowed l) (extent l u) (suc n) (omega arith) ∙ ap (firstLong (suc n)) (in-range s false (firstAllowed l) (extent l u))))
 calc-tied C s (ranges l u v) = tied-report s [] (listing (listed (firstAllowed l) (extent l u) v)) (listing (listed (firstAllowed l) (extent l u) v)) refl
 calc-tied C s (drawFront l) =
     tied-report s [] (drawnFirst l (firstRun (remaining (positionsOf (fedAs s)) l))) (drawnFirst l (firstRun (remainingRuns (runsOf s) l)))

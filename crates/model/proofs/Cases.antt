@@ -6,6 +6,7 @@ use Rattle.model.specs.declared.Run.{Run}
 use Rattle.model.specs.Numbers.{size}
 use Rattle.model.specs.Positions.{Positions, mem, pastFirst, pastLast}
 use Rattle.model.proofs.Finds.{selectRuns}
+use Rattle.model.proofs.Gaps.{firstLong}
 use Rattle.model.specs.RunList.{Canon, insert, clear}
 use Rattle.model.proofs.RunList.{widths}
 use Rattle.model.proofs.Clip.{clip}
@@ -122,7 +123,7 @@ rows-hold (c ∷ cs) e = (row-holds c (ap (first (computed c)) e), rows-hold cs 
 table-computes : map computed table ≡ map expected table
 unfolding table shown left calc reportRuns changeRuns writeRuns changedRuns remainingRuns fedAs runsOf union mapRuns someBit clipped clip
     setRuns onRange setTo insert clear combineRuns andRuns orRuns xorRuns minusRuns setAll flipRuns inverted complementRuns shiftRuns shiftLeftRuns
-    shiftRightRuns widths mem selectRuns drawnFirst drawnLast pastFirst pastLast bigEndian valueFrom valueOf encodeRuns encode runsDue decodeRuns decode
+    shiftRightRuns widths mem selectRuns firstLong drawnFirst drawnLast pastFirst pastLast bigEndian valueFrom valueOf encodeRuns encode runsDue decodeRuns decode
     bits bytesFrom mapOf mapBit intoFront badWindow badMap tooShort badLength badVersion orderedFrom disordered noRoom
 table-computes = refl
 

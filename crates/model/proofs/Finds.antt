@@ -1,6 +1,6 @@
 -- What the plain searches find, for any positions: from the facts that a search ends with, from the runs of the range,
 -- and the other way, what a found position is. Assumes nothing.
-use mathlib.Core.Path.{_≡_, refl, sym, ap, _∙_}
+use mathlib.Core.Path.{_≡_, refl, sym, ap, ap₂, _∙_}
 use mathlib.Core.Logic.{_⊎_, inl, inr}
 use mathlib.Core.Bool.{Bool, true, false, cond, not, Bool·beq}
 use mathlib.Core.List.{List, [], _∷_}
@@ -33,6 +33,17 @@ find-is P v a (suc n) x ax xn e h = go (λ l. find-is P v (suc a) n x l (omega a
     go : (suc a ≤ x → find P v (suc a) n ≡ some x) → (a < x) ⊎ (x ≤ a) → cond (Bool·beq (P a) v) (some a) (find P v (suc a) n) ≡ some x
     go ih (inl l) = rw (h a (omega arith) l, beq-not v) (ih l)
     go ih (inr l) = let q : a ≡ x = omega arith in rw (ap P q ∙ e, beq-self v) (ap some q)
+
+-- where none of the first m has the value, it is that of the rest
+pub find-past : (P : Positions) (v : Bool) (a n m : ℕ) → ((y : ℕ) → a ≤ y → y < a + m → y < a + n → P y ≡ not v) → find P v a n ≡ find P v (a + m) (n - m)
+unfolding find
+find-past P v a n zero h = let e : n ≡ n - 0 = omega arith in ap₂ (find P v) (sym (add-zero a)) e
+find-past P v a zero (suc m) h = sym (find-none P v (a + suc m) (zero - suc m) (λ y k l. absurd (omega arith)))
+find-past P v a (suc n) (suc m) h =
+    let e : suc a + m ≡ a + suc m = omega arith in
+    let d : n - m ≡ suc n - suc m = omega arith in
+    rw (h a (omega arith) (omega arith) (omega arith), beq-not v)
+    (find-past P v (suc a) n m (λ y k l i. h y (omega arith) (omega arith) (omega arith)) ∙ ap₂ (find P v) e d)
 
 -- ---- select, by the place m of the position in the range
 pub select-is : (P : Positions) (v : Bool) (a n m k : ℕ) → m < n → P (a + m) ≡ v → count P v a m ≡ k → select P v a n k ≡ some (a + m)

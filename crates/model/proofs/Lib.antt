@@ -12,6 +12,7 @@ pub mod Maps
 pub mod Numbers
 pub mod Ops
 pub mod Finds
+pub mod Gaps
 pub mod Counting
 pub mod Runs
 pub mod Range

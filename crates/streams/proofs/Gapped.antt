@@ -1,105 +1,38 @@
--- Gaps and the runs that a source reads: what a source that stands at x tells of the positions from x on, and why no gap starts before the
--- place where a search stands. From the definition of a gap and what a source promises. Assumes nothing.
-use Prim.Native.Nat.{ℕ, suc, _+_, _-_, _≤_, _<_, max}
-use mathlib.Core.Path.{_≡_, sym, _∙_, subst}
-use mathlib.Core.Logic.{_⊎_, inl, inr}
-use mathlib.Core.Bool.{Bool, true, false, true≢false, false≢true}
+-- The lowest gap and the runs that a source reads: what a source that stands at x tells of the lowest gap from x on. From the laws of a gap
+-- (model/proofs/Gaps.antt) and what a source promises. Assumes nothing.
+use Prim.Native.Nat.{ℕ, suc, _+_, _-_, _≤_, _<_, min, max}
+use mathlib.Core.Path.{_≡_, refl, sym, _∙_, subst}
+use mathlib.Core.Bool.{true, false}
 use mathlib.Core.List.{List}
+use mathlib.Core.Option.{none, some}
 use native.Mathlib.Omega.{arith}
 use native.Mathlib.Numerals.{add-one}
-use lib.Dec.{ltb}
-use borrow.Author.Tests.{ltb-true, ltb-false}
 use Rattle.model.specs.Numbers.{size}
-use Rattle.model.proofs.Numbers.{split}
-use Rattle.model.specs.Positions.{Positions}
-use Rattle.model.specs.Gaps.{Gap}
+use Rattle.model.specs.Positions.{Positions, gap}
+use Rattle.model.proofs.Gaps.{Taken, gap-here, gap-from, gap-none}
 use Rattle.streams.specs.declared.source.View.{View}
 use Rattle.streams.specs.declared.source.Source.{Source}
-use Rattle.streams.specs.Reading.{Rooted, Clear, Current, Ahead, Stands, Reads, AtRun, Advanceable, Advances}
-use Rattle.streams.specs.Gapping.{TellsFree, TellsGap, TellsStart}
+use Rattle.streams.specs.Reading.{Rooted, Current, Stands, Reads, Advanceable, Advances}
 
--- ---- whether positions are free
--- where the next run starts at a, those up to y are free if a is after y
-pub run-tells : {a b x y : ℕ} {Q : Positions} → Current a b x Q → x ≤ y → TellsFree Q x y (ltb y a)
-run-tells {a} {b} {x} {y} {Q} k h = record {
-  free = λ e z i j. k .clear z i (omega (arith, ltb-true y a e));
-  held = λ e.
-      let l = ltb-false y a e in
-      (max x a, omega arith, omega arith, k .held (max x a) (omega arith) (omega arith) (omega (arith, k .ordered, k .ahead)));
-}
+-- a range with fewer than n positions has no gap
+pub gap-short : (Q : Positions) (a b n : ℕ) → a ≤ b → b - a < n - 1 → gap Q a (suc b - a) n ≡ none
+gap-short Q a b n h l = gap-none Q a (suc b - a) n (omega arith)
 
--- where there is no run any more, they are
-pub over-tells : {x y : ℕ} {Q : Positions} → Clear x Q → y < size → TellsFree Q x y true
-over-tells c h = record { free = λ e z i j. c z i (omega arith); held = λ e. absurd (true≢false e) }
-
--- ---- whether n positions are a gap
--- what is none for another reason than its positions
-pub gap-not : {Q : Positions} {a k n x : ℕ} → (Gap Q a k n x → ⊥) → TellsGap Q a k n x false
-gap-not h = record { found = λ e. absurd (false≢true e); missed = λ e. h }
-
--- those that lie in the range are one if they are free
-pub gap-free : {Q : Positions} {a b n x : ℕ} {r : Bool} → a ≤ x → x ≤ b → 1 ≤ n → n - 1 ≤ b - x → TellsFree Q x (x + (n - 1)) r → TellsGap Q a (suc b - a) n x r
-gap-free h l i m f = record {
-  found = λ e. record { starts = h; ends = omega arith; free = λ y j k. f .free e y j (omega arith) };
-  missed = λ e g. let z = f .held e in true≢false (sym (z .3) ∙ g .free (z .0) (z .1) (omega (arith, z .2)));
-}
-
--- where there are fewer than n positions before the next run
-pub start-short : {Q : Positions} {a k n x s : ℕ} → s - x < n → TellsStart Q a k n x s false
-start-short h = record { found = λ e. absurd (false≢true e); missed = λ e. inl h }
-
--- where there are not, the check tells
-pub start-told : {Q : Positions} {a k n x s : ℕ} {r : Bool} → TellsGap Q a k n x r → TellsStart Q a k n x s r
-start-told g = record { found = g .found; missed = λ e. inr (g .missed e) }
-
--- ---- where no gap starts: none of the n positions among those from a to b starts before x
-abbrev Past : Positions → ℕ → ℕ → ℕ → ℕ → Type 0
-Past Q a b n x = (y : ℕ) → Gap Q a (suc b - a) n y → x ≤ y
-
--- what is known of x where none starts at it and the next held position is s
-abbrev pub Misses : Positions → ℕ → ℕ → ℕ → ℕ → ℕ → Type 0
-Misses Q a k n x s = (s - x < n) ⊎ (Gap Q a k n x → ⊥)
-
-module _ {Q : Positions} {a b n x : ℕ} (starts : a ≤ x) (within : x ≤ b) (small : b < size) (some : 1 ≤ n) where
-  -- where the n positions from x on are free, but are no gap, they end after the range, and so do those from a later one
-  none-from : ((z : ℕ) → x ≤ z → z < x + n → z < size → Q z ≡ false) → (Gap Q a (suc b - a) n x → ⊥) → (y : ℕ) → Gap Q a (suc b - a) n y → x ≤ y → ⊥
-  none-from f miss y g h = miss (record { starts = starts; ends = omega (arith, g .ends); free = λ z i j. f z i j (omega (arith, g .ends)) })
-
-  module _ {c d : ℕ} (k : Current c d x Q) where
-    -- none starts in a run
-    none-in : (y : ℕ) → Gap Q a (suc b - a) n y → x ≤ y → c ≤ y → y ≤ d → ⊥
-    none-in y g h i j = true≢false (sym (k .held y h i j) ∙ g .free y (omega arith) (omega arith))
-
-    -- nor before it: with fewer than n positions there it would have the run's first
-    none-before : Misses Q a (suc b - a) n x c → (y : ℕ) → Gap Q a (suc b - a) n y → x ≤ y → y < c → ⊥
-    none-before t y g h i = go (split (c - x) n) t
-      where
-        go : (c - x < n) ⊎ (n ≤ c - x) → Misses Q a (suc b - a) n x c → ⊥
-        go (inl l) e = true≢false (sym (k .held c (omega arith) (omega arith) (k .ordered)) ∙ g .free c (omega arith) (omega arith))
-        go (inr l) (inl m) = omega arith
-        go (inr l) (inr miss) = none-from (λ z p q r. k .clear z p (omega arith)) miss y g h
-
-    -- so none starts before the place after the run
-    pub past-run : Past Q a b n x → Misses Q a (suc b - a) n x c → Past Q a b n (suc d)
-    past-run p t y g = go (split d y) (split y c)
-      where
-        go : (d < y) ⊎ (y ≤ d) → (y < c) ⊎ (c ≤ y) → suc d ≤ y
-        go (inl l) e = omega arith
-        go (inr l) (inl i) = absurd (none-before t y g (p y g) i)
-        go (inr l) (inr i) = absurd (none-in y g (p y g) i l)
-
--- ---- a search that stands at x: the source reads there, and no gap starts before
+-- a search of the range from a to b that stands at x: the source reads there, n positions are left, and the lowest gap is that of what is left
 pub record Sought (w path : List ℕ) (v : View) (s : Source) (a b n x : ℕ) (Q : Positions) : Type 0 where
   pub reads : Reads w path v s x Q
-  pub starts : a ≤ x
-  pub within : x ≤ b
-  pub past : Past Q a b n x
+  pub room : x + n ≤ suc b
+  pub same : gap Q a (suc b - a) n ≡ gap Q x (suc b - x) n
 
 -- at the range's first position
-pub sought-first : {w path : List ℕ} {v : View} {s : Source} {a b n : ℕ} {Q : Positions} → a ≤ b → Reads w path v s a Q → Sought w path v s a b n a Q
-sought-first h r = record { reads = r; starts = omega arith; within = h; past = λ y g. g .starts }
+pub sought-first : {w path : List ℕ} {v : View} {s : Source} {a b n : ℕ} {Q : Positions} → a ≤ b → 1 ≤ n → n - 1 ≤ b - a → Reads w path v s a Q → Sought w path v s a b n a Q
+sought-first h one l r = record { reads = r; room = omega arith; same = refl }
 
 module _ {w path : List ℕ} {v : View} {s : Source} {a b n x : ℕ} {Q : Positions} (k : Sought w path v s a b n x Q) where
+  -- n free positions from x on are the lowest gap
+  found : ((z : ℕ) → x ≤ z → z < x + n → Q z ≡ false) → gap Q a (suc b - a) n ≡ some x
+  found f = k .same ∙ gap-here Q x (suc b - x) n (omega (arith, k .room)) f
+
   module _ (e : s .live ≡ true) where
     -- there is a run
     pub sought-run : Current (s .start) (s .«end») x Q
@@ -109,26 +42,34 @@ module _ {w path : List ℕ} {v : View} {s : Source} {a b n x : ℕ} {Q : Positi
     pub sought-advances : Rooted w (v .root) → Advanceable w path v s
     sought-advances r = (x, Q, record { rooted = r; alive = e; reads = k .reads })
 
-    module _ (small : b < size) (some : 1 ≤ n) (t : Misses Q a (suc b - a) n x (s .start)) where
-      -- no gap starts before the place after it
-      after : Past Q a b n (suc (s .«end»))
-      after = past-run (k .starts) (k .within) small some sought-run (k .past) t
+    -- n positions before it are free
+    pub sought-before : n ≤ s .start - x → gap Q a (suc b - a) n ≡ some x
+    sought-before l = found (λ z i j. sought-run .clear z i (omega arith))
 
-      -- it reaches the range's last position
-      pub sought-over : b ≤ s .«end» → (y : ℕ) → Gap Q a (suc b - a) n y → ⊥
-      sought-over l y g = omega (arith, after y g, g .ends, k .starts, k .within)
+    module _ (one : 1 ≤ n) (few : s .start - x < n) where
+      -- with fewer before it, what starts before it has its first position, and what starts in it is held
+      taken : (y : ℕ) → x ≤ y → y ≤ s .«end» → Taken Q y n
+      taken y i j =
+          let z = max y (s .start) in
+          (z, omega arith, omega arith, sought-run .held z (omega arith) (omega arith) (omega (arith, sought-run .ordered)))
 
-      -- or the search goes on after it
-      pub sought-on : Rooted w (v .root) → s .«end» < b → {path′ : List ℕ} {s′ : Source} → Advances w path path′ v s s′ → Sought w path′ v s′ a b n (s .«end» + 1) Q
+      -- so there is no gap where fewer are left after it
+      pub sought-over : b - s .«end» < n → gap Q a (suc b - a) n ≡ none
+      sought-over l =
+          let z = min (suc (s .«end»)) (suc b) in
+          k .same ∙ gap-from Q x z (suc b) n (omega (arith, k .room, sought-run .ahead)) (omega arith) one (λ y i j m. taken y i (omega arith))
+          ∙ gap-none Q z (suc b - z) n (omega arith)
+
+      -- and else the search goes on after it
+      pub sought-on : Rooted w (v .root) → n ≤ b - s .«end» → {path′ : List ℕ} {s′ : Source} → Advances w path path′ v s s′ → Sought w path′ v s′ a b n (s .«end» + 1) Q
       sought-on r l {path′} {s′} g = record {
         reads = subst (λ z. Reads w path′ v s′ z Q) (sym (add-one (s .«end»))) (g x Q (record { rooted = r; alive = e; reads = k .reads }));
-        starts = omega (arith, k .starts, sought-run .ahead);
-        within = omega arith;
-        past = subst (λ z. Past Q a b n z) (sym (add-one (s .«end»))) after;
+        room = omega arith;
+        same =
+            k .same
+            ∙ gap-from Q x (s .«end» + 1) (suc b) n (omega (arith, sought-run .ahead)) (omega arith) one (λ y i j m. taken y i (omega arith));
       }
 
-  -- no run is left: where no gap starts at x, there is none
-  pub sought-none : b < size → 1 ≤ n → s .live ≡ false → (Gap Q a (suc b - a) n x → ⊥) → (y : ℕ) → Gap Q a (suc b - a) n y → ⊥
-  sought-none small some e miss y g =
-      let c = subst (Stands w path v s x Q) e (k .reads) in
-      none-from (k .starts) (k .within) small some (λ z i j m. c z i m) miss y g (k .past y g)
+  -- no run is left
+  pub sought-clear : b < size → s .live ≡ false → gap Q a (suc b - a) n ≡ some x
+  sought-clear small e = let c = subst (Stands w path v s x Q) e (k .reads) in found (λ z i j. c z i (omega (arith, k .room)))

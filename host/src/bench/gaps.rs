@@ -1,7 +1,8 @@
-//! The gap search after the soundness check, against a plain Rust loop over IntervalBitSet's free runs that stops at the first fit.
+//! The search for the lowest gap after the soundness check, against a plain Rust loop over IntervalBitSet's free runs that stops at the first
+//! fit.
 //!
-//! A single call is mostly its soundness check, and no frame has this one. So the proved search is called by a function of the crate
-//! `bench_store`, many times after one check; what the check takes is timed beside it and taken away.
+//! A single call is mostly its soundness check. So the proved search is called by a function of the crate `bench_store`, many times after
+//! one check; what the check takes is timed beside it and taken away.
 
 use super::measure::{Figures, Progress, Sides, Times, both, median, nanos};
 use super::work::{self, Pair};
@@ -9,7 +10,7 @@ use crate::differential::random::Random;
 use crate::oracle::IntervalBitSet;
 
 const LABELS: [&str; 5] =
-    ["fits early", "fits late", "fits nowhere", "fits after the last held position", "fits at the range's start"];
+    ["fits early", "fits late", "fits nowhere", "fits only after the last run", "fits at the range's start"];
 const REPETITIONS: usize = 21;
 // Longer than what is free between two neighbouring cells' runs, shorter than what is free where one is missing.
 const LENGTH: u64 = 1_024;
@@ -40,20 +41,14 @@ impl Search {
             .map(|run| *run.start())
     }
 
-    // Stops where the library gives no gap and there is one, or gives what is none.
     fn compare(&self, pair: &Pair) {
         let ours = pair.ours.gap(self.first..=self.last, self.n).expect("a sound pool");
-        assert_eq!(ours.is_some(), self.theirs(&pair.theirs).is_some(), "the two sides do not answer the same");
-        if let Some(x) = ours {
-            let end = x + (self.n - 1);
-            assert!(self.first <= x && end <= self.last, "a gap is not in the range");
-            assert_eq!(pair.theirs.count(x as usize..=end as usize, true), 0, "a gap is not free");
-        }
+        assert_eq!(ours, self.theirs(&pair.theirs).map(|x| x as u64), "the two sides do not answer the same");
     }
 }
 
-// The set without one run, and a search that the label names. The range begins on a held position and ends with the last run, so that
-// neither of the places that are tried first is a gap; but for the last two labels, where one of them is.
+// The set without one run, and a search that the label names. The range goes from the first held position to the last, so that only
+// between two runs is anything free; but for the last two labels, where it ends at M, or begins after a run in the middle.
 fn setting(label: usize, size: usize, random: &mut Random) -> (Pair, Search) {
     let mut runs = work::cells(size, random);
     let (first, last) = (runs[0][0], runs[size - 1][1]);
@@ -78,9 +73,8 @@ fn sides(label: usize, size: usize) -> Sides {
     let (pair, search) = setting(label, size, &mut random);
     let words = pair.ours.words();
     // Of searches that pass over all runs, and take about as long as the check, a few are enough; of short ones so many are made that the
-    // check is little beside them. Only the library finds the gap after the last held position in a short way.
-    let count = |passes_all: bool| if passes_all { 40 } else { 10_000 };
-    let (our_searches, their_searches) = (count(label == 1 || label == 2), count((1..=3).contains(&label)));
+    // check is little beside them.
+    let searches: u64 = if (1..=3).contains(&label) { 40 } else { 10_000 };
     let mut checks = Vec::new();
     let mut times = Times::default();
     for repetition in 0..REPETITIONS {
@@ -91,24 +85,24 @@ fn sides(label: usize, size: usize) -> Sides {
                 check();
             }
             let mut found = 0;
-            let time = nanos(|| found = search.ours(words, our_searches));
+            let time = nanos(|| found = search.ours(words, searches));
             if !repetition.is_multiple_of(4) {
                 check();
             }
-            assert!(found == if label == 2 { 0 } else { our_searches }, "not every search answered the same");
+            assert!(found == if label == 2 { 0 } else { searches }, "not every search answered the same");
             time
         };
         let theirs = || {
             nanos(|| {
-                for _ in 0..their_searches {
+                for _ in 0..searches {
                     std::hint::black_box(search.theirs(std::hint::black_box(&pair.theirs)));
                 }
-            }) / their_searches as f64
+            }) / searches as f64
         };
         times.push(both(repetition, ours, theirs));
     }
     let check = median(checks);
-    times.ours.iter_mut().for_each(|time| *time = (*time - check) / our_searches as f64);
+    times.ours.iter_mut().for_each(|time| *time = (*time - check) / searches as f64);
     times.medians()
 }
 

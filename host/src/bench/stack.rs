@@ -9,6 +9,7 @@ use std::arch::asm;
 use super::measure::{Progress, commas};
 use crate::SetBuf;
 use crate::differential::random::Random;
+use crate::differential::records;
 use crate::differential::reference::{self, Draft, Run, Shape, WORLDS};
 use crate::raw::{self, Bound};
 
@@ -178,8 +179,8 @@ fn measure_on(painted: &mut Painted, physical: &[Run], offset: u64, shape: Shape
             on_stack!(painted, vizturel_set(c, n, i, l, u, value));
             changed.copy_from_slice(&words);
         }
-        // One that fits nearly everywhere, and one that fits nowhere in the range.
-        for length in [1, (last - first).saturating_add(2)] {
+        // One that fits nearly everywhere, one that fits between no two runs, and one that fits only where all is free.
+        for length in [1, 7, (last - first).saturating_add(1)] {
             on_stack!(painted, vizturel_gap(p, n, i, l, u, length));
         }
         on_stack!(painted, vizturel_get(p, n, i, first));
@@ -194,10 +195,11 @@ fn measure_on(painted: &mut Painted, physical: &[Run], offset: u64, shape: Shape
     on_stack!(painted, vizturel_flip(c, n, i, included(0), included(u64::MAX)));
     for [first, last] in ranges(runs, random).into_iter().step_by(4) {
         // Lists of one call, of every kind.
-        for call in 0..=13 {
+        for call in 0..=records::LAST {
             changed.copy_from_slice(&words);
             let upper = if call == 13 { WINDOW } else { last };
-            let record = [call, 1, first, 1, upper, random.below(2), 0, i];
+            let k = if call == 14 { 7 } else { 0 };
+            let record = [call, 1, first, 1, upper, random.below(2), k, i];
             let mut answer = [0; 8];
             on_stack!(painted, vizturel_frame(c, n, record.as_ptr(), 8, answer.as_mut_ptr(), 8));
         }

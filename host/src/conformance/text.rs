@@ -212,11 +212,6 @@ pub fn tell(call: &Call, told: &Told) -> String {
         Told::Run(run) => format!("run {} {}", run.start(), run.end()),
         Told::Position(Some(x)) => format!("at {x}"),
         Told::Position(None) => "none".to_string(),
-        Told::Starts(all) if all.is_empty() => "none".to_string(),
-        Told::Starts(all) => {
-            let ends: String = all.iter().map(|[first, last]| format!(" {first} {last}")).collect();
-            format!("starts{ends}")
-        }
         Told::Drawn(Some(run), left) => format!("drawn {} {} {}", run.start(), run.end(), listing(*left)),
         Told::Drawn(None, left) => format!("end {}", listing(*left)),
         Told::Draws(made, _) => format!("listing {}", listing(*made)),
@@ -224,32 +219,5 @@ pub fn tell(call: &Call, told: &Told) -> String {
         Told::Cleared(count, bytes) => format!("cleared {count} {}", digits(bytes)),
         Told::RefusedAndChanged(r) => format!("changed something, and refused {}", r.number()),
         Told::FormsDiffer(told) => format!("by words and by single bytes: {told:?}"),
-    }
-}
-
-/// Whether an answer is right, where the pack has the line `due`: it is that line, or, where that names starts, one of them.
-pub fn admits(due: &str, answer: &str) -> bool {
-    let Some(starts) = due.strip_prefix("starts ") else {
-        return due == answer;
-    };
-    let numbers: Vec<u64> = starts.split(' ').filter_map(|word| word.parse().ok()).collect();
-    let named = |x: u64| numbers.as_chunks().0.iter().any(|&[first, last]| (first..=last).contains(&x));
-    answer.strip_prefix("at ").and_then(|x| x.parse().ok()).is_some_and(named)
-}
-
-#[cfg(test)]
-mod tests {
-    use super::*;
-
-    #[test]
-    fn any_named_start_is_admitted() {
-        let due = "starts 3 7 20 20 18446744073709551610 18446744073709551615";
-        for right in ["at 3", "at 5", "at 7", "at 20", "at 18446744073709551610", "at 18446744073709551615"] {
-            assert!(admits(due, right), "{right}");
-        }
-        for wrong in ["at 2", "at 8", "at 19", "at 21", "at 18446744073709551609", "at", "at ", "none", "3", due] {
-            assert!(!admits(due, wrong), "{wrong}");
-        }
-        assert!(admits("none", "none") && !admits("none", "at 3") && !admits("at 3", "at 4"));
     }
 }

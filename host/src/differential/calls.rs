@@ -201,9 +201,9 @@ impl Call {
 }
 
 /// What a call tells. Of a listing each draw, and how it ended; of a slice how much of it was filled, and all its bytes; of a map how
-/// many bits were zeroed, and all its bytes; of a frame each answer's record, and the words of the slice after them. Of a gap the
-/// oracle tells every start that is right, as runs; the library tells one position, or none. A call on a map is made in both forms, by
-/// words and by single bytes: where they do not agree, it is told what each told; if that is the same, they left different positions.
+/// many bits were zeroed, and all its bytes; of a frame each answer's record, and the words of the slice after them. A call on a map is
+/// made in both forms, by words and by single bytes: where they do not agree, it is told what each told; if that is the same, they left
+/// different positions.
 #[derive(Debug, PartialEq)]
 pub enum Told {
     Refused(Refusal),
@@ -213,7 +213,6 @@ pub enum Told {
     Value(bool),
     Run(RangeInclusive<u64>),
     Position(Option<u64>),
-    Starts(Vec<Run>),
     Drawn(Option<RangeInclusive<u64>>, Listing),
     Draws(Listing, Vec<(Option<RangeInclusive<u64>>, Listing)>),
     Slice(usize, Vec<u8>),
@@ -221,17 +220,6 @@ pub enum Told {
     Answers(Vec<Record>, Vec<u64>),
     RefusedAndChanged(Refusal),
     FormsDiffer(Box<[Told; 2]>),
-}
-
-impl Told {
-    /// Whether what the library tells is right, where this is what the oracle tells.
-    pub fn admits(&self, told: &Told) -> bool {
-        match (self, told) {
-            (Told::Starts(all), Told::Position(Some(x))) => all.iter().any(|[first, last]| (first..=last).contains(&x)),
-            (Told::Starts(all), Told::Position(None)) => all.is_empty(),
-            _ => self == told,
-        }
-    }
 }
 
 /// A header word that is 0 in every sound store: the last one.

@@ -41,14 +41,15 @@ pub enum Kind {
     WriteMap,
 }
 
-/// The kinds that have one right answer. [`Kind::Gap`], the other one, is in no list of calls whose answers are written down.
-pub const KINDS: [Kind; 23] = [
+/// Every kind but [`Kind::Empty`], which is a build.
+pub const KINDS: [Kind; 24] = [
     Kind::Get,
     Kind::RunAt,
     Kind::Find,
     Kind::Count,
     Kind::Select,
     Kind::CountRanges,
+    Kind::Gap,
     Kind::Ranges,
     Kind::Draw,
     Kind::Fill,
@@ -286,8 +287,8 @@ pub fn call(random: &mut Random, stores: &[Store], kind: Kind, at: Place) -> Cal
         }
         Kind::CountRanges => Call::CountRanges { at, range: range(random, runs), value },
         Kind::Gap => {
-            let range = range(random, runs);
-            Call::Gap { at, range, n: gap_length(random, runs, range) }
+            let (range, n) = gap(random, runs);
+            Call::Gap { at, range, n }
         }
         Kind::Ranges => {
             let mixed = random.number();
@@ -345,9 +346,33 @@ fn order(random: &mut Random, runs: &[Run], range: Range, value: bool) -> u64 {
     k.min(u128::from(u64::MAX)) as u64
 }
 
-// How long a gap is to be: none at all, just as long as a free run of the range, a little less or more, and any length.
-fn gap_length(random: &mut Random, runs: &[Run], range: Range) -> u64 {
+// How many positions a run has, but that all 2^64 are one too many.
+fn length([first, last]: Run) -> u64 {
+    (last - first).saturating_add(1)
+}
+
+// A range, and how long a gap of it is to be. Often the range ends within a free run, and leaves of it just as many positions as are asked
+// for, one less or one more; if it can be, all free runs before are shorter.
+fn gap(random: &mut Random, runs: &[Run]) -> (Range, u64) {
+    let range = range(random, runs);
     let free = reference::free_runs(runs, range);
+    if free.is_empty() || random.truth() {
+        return (range, gap_length(random, &free));
+    }
+    let i = random.below(free.len() as u64) as usize;
+    let before = free[..i].iter().copied().map(length).max().unwrap_or(0);
+    let n = before.saturating_add(1 + random.below(3)).min(length(free[i]));
+    let left = (n - 1).saturating_add(random.below(3));
+    let upper = match free[i][0].checked_add(left) {
+        None => Bound::Unbounded,
+        Some(end) if end > 0 && random.truth() => Bound::Included(end - 1),
+        Some(end) => Bound::Excluded(end),
+    };
+    ((range.0, upper), n)
+}
+
+// How long a gap is to be: none at all, just as long as a free run, a little less or more, and any length.
+fn gap_length(random: &mut Random, free: &[Run]) -> u64 {
     let any = random.number();
     match random.below(8) {
         0 => 0,
@@ -355,9 +380,8 @@ fn gap_length(random: &mut Random, runs: &[Run], range: Range) -> u64 {
         2 => 1 + random.below(12),
         _ if free.is_empty() => 1 + random.below(3),
         kind => {
-            let length = |[first, last]: Run| (last - first).saturating_add(1);
             let longest = free.iter().copied().map(length).max().expect("there is a run");
-            let some = length(random.one_of(&free));
+            let some = length(random.one_of(free));
             match kind {
                 3 => longest,
                 4 => longest.saturating_add(1),
@@ -369,7 +393,7 @@ fn gap_length(random: &mut Random, runs: &[Run], range: Range) -> u64 {
 }
 
 // What a frame's calls are, those that a world grows by more than once.
-const LISTED: [Kind; 18] = [
+const LISTED: [Kind; 19] = [
     Kind::Empty,
     Kind::Set,
     Kind::Set,
@@ -384,6 +408,7 @@ const LISTED: [Kind; 18] = [
     Kind::Count,
     Kind::Select,
     Kind::CountRanges,
+    Kind::Gap,
     Kind::Ranges,
     Kind::Draw,
     Kind::Draw,
@@ -465,7 +490,7 @@ pub fn frame(random: &mut Random, stores: &[Store], at: usize, count: usize) -> 
 }
 
 // What a stretch of a random history does most.
-const MOODS: [&[Kind]; 7] = [
+const MOODS: [&[Kind]; 8] = [
     &[Kind::Set],
     &[Kind::Set, Kind::Flip],
     &[Kind::Shift, Kind::Shift, Kind::Set],
@@ -473,6 +498,7 @@ const MOODS: [&[Kind]; 7] = [
     &[Kind::Load, Kind::Build, Kind::Write, Kind::Set],
     &[Kind::ReadMap, Kind::WriteMap, Kind::ClearMap, Kind::Fill, Kind::Shift],
     &[Kind::Ranges, Kind::Draw, Kind::Select, Kind::Set],
+    &[Kind::Gap, Kind::Gap, Kind::Set, Kind::Shift],
 ];
 
 /// A random history of all calls, in stretches that do one thing most and are about one world.

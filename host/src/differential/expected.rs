@@ -259,13 +259,9 @@ impl Expected {
                 if n == 0 {
                     return Err(Refusal::GapLength);
                 }
-                // The oracle has no such call: a gap lies in one of its free runs, n positions before the run's end or earlier.
-                let free = p.ranges(bounds(range), false).map(wide);
-                let starts = |run: RangeInclusive<u64>| {
-                    let last = (run.end() - run.start()).checked_sub(n - 1)?;
-                    Some([*run.start(), run.start() + last])
-                };
-                Ok(Told::Starts(free.filter_map(starts).collect()))
+                // The oracle has no such call: the lowest gap starts with the first of its free runs that is long enough.
+                let mut free = p.ranges(bounds(range), false).map(wide);
+                Ok(Told::Position(free.find(|run| run.end() - run.start() >= n - 1).map(|run| *run.start())))
             }
             Call::Ranges { at, range, value, backs } => {
                 let mut all = self.set(at)?.ranges(bounds(range), value);

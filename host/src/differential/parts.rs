@@ -275,7 +275,7 @@ fn every_kind(tally: &mut Tally, s: &mut Sequence, random: &mut Random, store: u
     let count = random.below(5) as usize;
     let frame = chance::frame(random, s.sides.stores(), store, count);
     s.clone().call(tally, frame)?;
-    for kind in [Kind::Gap].into_iter().chain(KINDS) {
+    for kind in KINDS {
         let at = chance::place(random, s.sides.stores(), store);
         let call = chance::call(random, s.sides.stores(), kind, at);
         s.call(tally, call)?;
@@ -690,17 +690,10 @@ fn runs_of_bits(base: u64, bits: u64) -> Vec<Run> {
 }
 
 fn wander(tally: &mut Tally, random: &mut Random, plans: Vec<Plan>, calls: u64) -> Outcome {
-    let count = plans.len() as u64;
     let mut s = Sequence::new(plans);
     let mut history = Wander::default();
     for _ in 0..calls {
-        let call = if random.once_in(16) {
-            let store = random.below(count) as usize;
-            let at = chance::place(random, s.sides.stores(), store);
-            chance::call(random, s.sides.stores(), Kind::Gap, at)
-        } else {
-            history.next(random, s.sides.stores())
-        };
+        let call = history.next(random, s.sides.stores());
         s.call(tally, call)?;
     }
     Ok(())

@@ -12,7 +12,7 @@ pub const WORDS: usize = 8;
 pub type Record = [u64; WORDS];
 
 /// The greatest number that names a call other than get.
-pub const LAST: u64 = 13;
+pub const LAST: u64 = 14;
 
 fn bound(kind: u64, value: u64) -> Bound<u64> {
     match kind {
@@ -43,6 +43,7 @@ pub fn call_of(store: usize, record: Record) -> Call {
         11 => Call::Draw { at, listing, back: false },
         12 => Call::Draw { at, listing, back: true },
         13 => Call::Fill { at, base: from, n: upto },
+        14 => Call::Gap { at, range, n: k },
         _ => Call::Get { at, x: from },
     }
 }
@@ -78,6 +79,7 @@ pub fn record_of(call: &Call) -> Option<Record> {
             plain(if back { 12 } else { 11 }, at, first, last, value)
         }
         Call::Fill { at, base, n } => plain(13, at, base, n, false),
+        Call::Gap { at, range, n } => over(14, at, range, false, n),
         _ => return None,
     })
 }

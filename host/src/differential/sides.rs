@@ -47,7 +47,7 @@ impl Sides {
             return Ok(told);
         }
         let right = self.expected.answer(call);
-        if !right.admits(&told) {
+        if right != told {
             return Err(format!("the library tells {told:?}\nand the oracle   {right:?}"));
         }
         let refused = matches!(told, Told::Refused(_));

@@ -11,17 +11,17 @@ start c = c .before .before
 open-requires : tie.Need-open-requires
 open-requires c κs = opened (c .before .pre .0)
 
-sub-some-gap : tie.Need-sub-some-gap
-sub-some-gap c = nodes-there (start c .pre .0)
+sub-lowest-gap : tie.Need-sub-lowest-gap
+sub-lowest-gap c = nodes-there (start c .pre .0)
 
-part-some-gap-start : tie.Need-part-some-gap-start
-part-some-gap-start c = nodes-there (start c .pre .0)
+part-lowest-gap-start : tie.Need-part-lowest-gap-start
+part-lowest-gap-start c = nodes-there (start c .pre .0)
 
-part-some-gap-end : tie.Need-part-some-gap-end
-part-some-gap-end c = search needs
+part-lowest-gap-end : tie.Need-part-lowest-gap-end
+part-lowest-gap-end c = search needs
 
-some-gap-requires : tie.Need-some-gap-requires
-some-gap-requires c κs = (open-stands (c .before .«open» .ensures), start (c .before) .pre .1)
+lowest-gap-requires : tie.Need-lowest-gap-requires
+lowest-gap-requires c κs = (open-stands (c .before .«open» .ensures), start (c .before) .pre .1)
 
 enum-told : tie.Need-enum-told
 enum-told c = search needs
@@ -40,10 +40,10 @@ look-for-spec =
     tie.close
     (tie.spec
     open-requires
-    sub-some-gap
-    part-some-gap-start
-    part-some-gap-end
-    some-gap-requires
+    sub-lowest-gap
+    part-lowest-gap-start
+    part-lowest-gap-end
+    lowest-gap-requires
     enum-told
     enum-told-2
     returns

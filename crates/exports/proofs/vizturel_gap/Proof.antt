@@ -1,6 +1,7 @@
 -- `vizturel_gap` meets its contract: it is the public call, its answer laid flat, and the part that crosses. Assumes nothing.
 use borrow.Author.Needs.{needs}
-use Rattle.exports.proofs.Returning.{returned-gap}
+use Rattle.model.specs.Call.{Call}
+use Rattle.exports.proofs.Returning.{between, returned}
 use Rattle.exports.proofs.vizturel_gap.Statement.{statement}
 use Rattle.exports.proofs.vizturel_gap.Tie as tie
 
@@ -21,9 +22,9 @@ position-requires c κs = search needs
 
 returns : tie.Need-returns
 returns c =
-    let g = c .before .before in
-    let b = g .before in
-    returned-gap _ (b .before .bound .ensures) (b .bound2 .ensures) (g .gap .ensures) (c .before .found .ensures) (c .position .ensures)
+    let b₂ = c .before .before .before in
+    returned (between (λ l u. Call.gap l u (b₂ .before .before .before .args .n)) (b₂ .before .bound .ensures) (b₂ .bound2 .ensures)) (c .before .before .gap .ensures)
+    (c .before .found .ensures) (c .position .ensures)
 
 pub vizturel-gap-spec : {M : Type 1} → statement M
 vizturel-gap-spec = tie.close (tie.spec bound-requires bound-requires-2 gap-requires found-requires position-requires returns)

@@ -165,6 +165,15 @@ numbered-requires-2 c κs = search needs
 enum-told-14 : tie.Need-enum-told-14
 enum-told-14 c = search needs
 
+gap-requires : tie.Need-gap-requires
+gap-requires c κs = search needs
+
+found-requires-3 : tie.Need-found-requires-3
+found-requires-3 c κs = search needs
+
+enum-told-15 : tie.Need-enum-told-15
+enum-told-15 c = search needs
+
 get-requires : tie.Need-get-requires
 get-requires c κs = search needs
 
@@ -297,7 +306,16 @@ returns-14 : tie.Need-returns-14
 returns-14 c =
     let e₁₄ = c .before .before .before in
     let n = e₁₄ .before .before in
-    answers n Kind.Get (e₁₄ .enum-told14 .given .1) (c .before .get .ensures) (c .tested .ensures)
+    answers n Kind.Gap (e₁₄ .enum-told14 .given .1) (between n (λ l u. Call.gap l u (start n .args .e .k)) (c .before .gap .ensures)) (c .found3 .ensures)
+
+same-length-15 : tie.Need-same-length-15
+same-length-15 c = search needs
+
+returns-15 : tie.Need-returns-15
+returns-15 c =
+    let e₁₅ = c .before .before .before in
+    let n = e₁₅ .before .before in
+    answers n Kind.Get (e₁₅ .enum-told15 .given .1) (c .before .get .ensures) (c .tested .ensures)
 
 pub serve-world-spec : {M : Type 1} → statement M
 serve-world-spec =
@@ -346,6 +364,9 @@ serve-world-spec =
     fill-requires
     numbered-requires-2
     enum-told-14
+    gap-requires
+    found-requires-3
+    enum-told-15
     get-requires
     tested-requires
     same-length
@@ -375,4 +396,6 @@ serve-world-spec =
     same-length-13
     returns-13
     same-length-14
-    returns-14)
+    returns-14
+    same-length-15
+    returns-15)

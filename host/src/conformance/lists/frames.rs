@@ -52,6 +52,10 @@ fn every_kind(world: u64) -> Vec<Record> {
         select AT i4 e12 1 5
         select AT i4 e12 1 6
         count_ranges AT i4 e12 1
+        gap AT i1 u 2
+        gap AT i1 e11 3
+        gap AT i1 u 3
+        gap AT u u 0
         ranges AT i4 e12 0
         ranges AT i9 i4 1
         draw_front AT 4 11 1
@@ -83,7 +87,7 @@ fn every_kind(world: u64) -> Vec<Record> {
 fn odd_records() -> Vec<Record> {
     let mut all = Vec::new();
     // Numbers that name no call, each with the words of a set that would change something.
-    for number in [0, 14, 15, 16, 255, 258, (1 << 32) + 2, HALF + 2, M] {
+    for number in [0, 15, 16, 17, 255, 258, (1 << 32) + 2, HALF + 2, M] {
         all.push([number, 1, 7, 1, 9, 0, 0, 0]);
     }
     // Kinds of no bound, with values beside them.
@@ -97,6 +101,7 @@ fn odd_records() -> Vec<Record> {
         all.push([10, 1, 20, 2, 22, truth, 3, 0]);
         all.push([11, 2, 0, 3, M, truth, 1, 0]);
         all.push([4, 1, 1, 1, 1, truth, 1, 0]);
+        all.push([14, 1, 2, 3, 22, truth, 2, 0]);
     }
     all
 }

@@ -1,4 +1,4 @@
-//! The gap search. Which gap is left open, so an answer names every start that is right.
+//! The search for the lowest gap.
 
 use super::{HALF, M};
 use crate::conformance::List;
@@ -50,9 +50,23 @@ pub fn list() -> List {
             }
         }
     }
+    cut(&mut list);
     shifted(&mut list);
     chances(&mut list);
     list
+}
+
+// Free runs of one to four positions, and a last one of which the range leaves as many as are asked for, one less, one more.
+fn cut(list: &mut List) {
+    list.store(0, 5, &[[0, 1], [3, 5], [8, 11], [15, 20], [25, 29]]);
+    for lower in ["u", "i2", "i7", "e9", "i13", "i20"] {
+        for n in 1..=5 {
+            for left in [n - 1, n, n + 1] {
+                list.say(&format!("gap 0/0 {lower} e{} {n}", 30 + left));
+            }
+        }
+        list.say(&format!("gap 0/0 {lower} e25 4\ngap 0/0 {lower} i23 4"));
+    }
 }
 
 // Gaps over the place where the positions wrap in memory, which a shift moves, and sets to true where it lies; in the second of two

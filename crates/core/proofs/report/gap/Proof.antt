@@ -1,10 +1,14 @@
--- `gap` meets its contract: a gap of no position is refused, an empty range has none, and of another the world's gap is the range's.
--- Assumes nothing.
+-- `gap` meets its contract: a gap of no position is refused, an empty range has none, and of another it is the lowest from the range's first
+-- position to its last. Assumes nothing.
+use Prim.Native.Nat.{_≤_}
+use mathlib.Core.Path.{ap}
 use native.Mathlib.Omega.{arith}
 use borrow.Author.Needs.{needs}
-use Rattle.core.proofs.Spans.{Within, span-none, span-some}
+use Rattle.model.specs.Call.{position}
+use Rattle.core.proofs.Spans.{Within, span-none, span-some, gap-range, found-as}
+use Rattle.core.proofs.Gaps.{gap-refused, gap-passes, gap-nothing}
 use Rattle.core.proofs.Doors.{nodes-there, lent-stands}
-use Rattle.core.proofs.Gaps.{gap-nought, gap-nothing, gap-found}
+use Rattle.core.proofs.Meeting.{refused-by, met, met-in-as, gap-says}
 use Rattle.core.proofs.report.gap.Statement.{statement}
 use Rattle.core.proofs.report.gap.Tie as tie
 
@@ -12,15 +16,19 @@ use Rattle.core.proofs.report.gap.Tie as tie
 abbrev start : tie.Else1 → tie.Start
 start c = c .before .before
 
-abbrev some : tie.After-s → tie.Else1
-some r = r .before .before .before
+abbrev long : tie.After-s → tie.Else1
+long r = r .before .before .before
+
+-- it has some
+some : (c : tie.Else1) → 1 ≤ (start c) .args .n
+some c = omega (arith, c .if1 .left)
 
 -- its positions
-within : (r : tie.After-s) → Within ((start (some r)) .args .lower) ((start (some r)) .args .upper) (r .s .given .0 .0) (r .s .given .0 .1 .0)
-within r = span-some ((start (some r)) .args .lower) ((start (some r)) .args .upper) _ (r .before .before .normalize .ensures) (r .s .given .1)
+within : (r : tie.After-s) → Within ((start (long r)) .args .lower) ((start (long r)) .args .upper) (r .s .given .0 .0) (r .s .given .0 .1 .0)
+within r = span-some ((start (long r)) .args .lower) ((start (long r)) .args .upper) _ (r .before .before .normalize .ensures) (r .s .given .1)
 
 returns : tie.Need-returns
-returns c = let b = c .before .before in gap-nought _ _ (b .args .lower) (b .args .upper) (b .args .n) (b .pre) (c .if1 .taken)
+returns c = refused-by (gap-says _ _ _ _ _) 9 (c .before .before .pre) (gap-refused _ (c .if1 .taken))
 
 normalize-requires : tie.Need-normalize-requires
 normalize-requires c κs = search needs
@@ -32,40 +40,40 @@ enum-known-s : tie.Need-enum-known-s
 enum-known-s c = search needs
 
 open-requires : tie.Need-open-requires
-open-requires c κs = (start (some (c .before))) .pre .openable
+open-requires c κs = (start (long (c .before))) .pre .openable
 
-sub-some-gap : tie.Need-sub-some-gap
-sub-some-gap c = nodes-there ((start (some (c .before .before))) .pre .openable)
+sub-lowest-gap : tie.Need-sub-lowest-gap
+sub-lowest-gap c = nodes-there ((start (long (c .before .before))) .pre .openable)
 
-part-some-gap-start : tie.Need-part-some-gap-start
-part-some-gap-start c = nodes-there ((start (some (c .before .before))) .pre .openable)
+part-lowest-gap-start : tie.Need-part-lowest-gap-start
+part-lowest-gap-start c = nodes-there ((start (long (c .before .before))) .pre .openable)
 
-part-some-gap-end : tie.Need-part-some-gap-end
-part-some-gap-end c = search needs
+part-lowest-gap-end : tie.Need-part-lowest-gap-end
+part-lowest-gap-end c = search needs
 
-some-gap-requires : tie.Need-some-gap-requires
-some-gap-requires c κs =
+lowest-gap-requires : tie.Need-lowest-gap-requires
+lowest-gap-requires c κs =
     let o = c .before in
     let r = o .before .before in
-    (lent-stands (o .«open» .ensures), ((within r) .order, omega arith))
+    (lent-stands (o .«open» .ensures), ((within r) .order, some (long r)))
 
 found-requires : tie.Need-found-requires
 found-requires c κs = search needs
 
 returns-2 : tie.Need-returns-2
 returns-2 c =
-    let s = c .before .before .before in
-    let b = start s in
-    gap-nothing _ _ (b .args .lower) (b .args .upper) (b .args .n) (b .pre) (s .if1 .left)
-    (span-none (b .args .lower) (b .args .upper) _ (c .before .before .normalize .ensures) (c .enum-told .given .1))
+    let l = c .before .before .before in
+    let b = start l in
+    let e = span-none (b .args .lower) (b .args .upper) _ (c .before .before .normalize .ensures) (c .enum-told .given .1) in
+    met (gap-says _ _ _ _ _) (b .pre) (gap-passes _ (some l)) (ap position (gap-nothing _ (some l) _ _ _ e))
 
 returns-3 : tie.Need-returns-3
 returns-3 c =
     let o = c .before .before .before in
     let r = o .before .before in
-    let b = start (some r) in
-    gap-found _ _ (b .args .lower) (b .args .upper) (b .args .n) (b .pre) ((some r) .if1 .left) (c .before .some-gap .result) (within r) (o .«open» .ensures)
-    (c .found .ensures) (c .before .some-gap .ensures)
+    let b = start (long r) in
+    met-in-as (gap-says _ _ _ _ _) (b .pre) (o .«open» .ensures) (gap-passes _ (some (long r)))
+    (found-as (c .before .lowest-gap .result) (c .found .ensures) (gap-range (within r) _ _ (c .before .lowest-gap .ensures)))
 
 pub gap-spec : {M : Type 1} → statement M
 gap-spec =
@@ -76,10 +84,10 @@ gap-spec =
     enum-told
     enum-known-s
     open-requires
-    sub-some-gap
-    part-some-gap-start
-    part-some-gap-end
-    some-gap-requires
+    sub-lowest-gap
+    part-lowest-gap-start
+    part-lowest-gap-end
+    lowest-gap-requires
     found-requires
     returns-2
     returns-3)

@@ -1,7 +1,8 @@
 -- `gap` meets its contract: a world that looking refuses earns that refusal, of another the core's call answers.
 -- Assumes nothing.
-use Rattle.interval_bit_set.proofs.Looking.{looked-refused, looked-sound}
-use Rattle.core.proofs.Gaps.{gap-turned}
+use mathlib.Core.Path.{refl}
+use Rattle.interval_bit_set.proofs.Looking.{looked-sound, turned-away}
+use Rattle.core.proofs.Meeting.{gap-says}
 use borrow.Author.Needs.{needs}
 use Rattle.interval_bit_set.proofs.report.gap.Statement.{statement}
 use Rattle.interval_bit_set.proofs.report.gap.Tie as tie
@@ -19,10 +20,7 @@ gap-requires : tie.Need-gap-requires
 gap-requires c κs = looked-sound _ (c .before .before .look-at .ensures) (c .enum-told .given .1)
 
 returns : tie.Need-returns
-returns c =
-    let l = c .before .before .before in
-    let a = l .before .before .args in
-    gap-turned _ _ (a .lower) (a .upper) (a .n) (looked-refused (a .words .now) (a .world) _ (l .look-at .ensures) (c .before .l .given .1))
+returns c = turned-away (gap-says _ _ _ _ _) _ (c .before .before .before .look-at .ensures) (c .before .l .given .1) refl
 
 returns-2 : tie.Need-returns-2
 returns-2 c = search needs
