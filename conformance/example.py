@@ -122,8 +122,9 @@ class World:
     def find(self, first, last, value):
         return self.select(first, last, value, 0)
 
-    def count(self, first, last, value):
-        return size(stretches(self.runs, first, last, value))
+    def tally(self, first, last, value):
+        runs = stretches(self.runs, first, last, value)
+        return size(runs), len(runs)
 
     def select(self, first, last, value, k):
         for start, end in stretches(self.runs, first, last, value):
@@ -131,9 +132,6 @@ class World:
                 return start + k
             k -= end - start + 1
         return None
-
-    def count_ranges(self, first, last, value):
-        return len(stretches(self.runs, first, last, value))
 
     def gap(self, first, last, length):
         require(length > 0, 9)
@@ -225,13 +223,13 @@ def fill_front(room, due):
 # pairs. Of those that answer more than "done", how the answer begins.
 
 ARGUMENTS = {
-    "words": "sn", "spoil": "s", "new": "sl", "set": "prn", "flip": "pr", "get": "pn", "run_at": "pn", "find": "prn", "count": "prn",
-    "select": "prnn", "count_ranges": "prn", "gap": "prn", "ranges": "prn", "draw_front": "pnnn", "draw_back": "pnnn", "shift": "pnn",
+    "words": "sn", "spoil": "s", "new": "sl", "set": "prn", "flip": "pr", "get": "pn", "run_at": "pn", "find": "prn", "tally": "prn",
+    "select": "prnn", "gap": "prn", "ranges": "prn", "draw_front": "pnnn", "draw_back": "pnnn", "shift": "pnn",
     "shifted": "ppnn", "combine": "pwpp", "not": "pp", "eq": "pp", "load": "pb", "build": "pl", "write_set": "pn", "read_map": "pnnb",
     "write_map": "pnnn", "clear_map": "nnb", "fill": "pnn",
 }
 ANSWERS = {
-    "set": "number", "get": "value", "run_at": "run", "find": "at", "count": "number", "select": "at", "count_ranges": "number", "gap": "at",
+    "set": "number", "get": "value", "run_at": "run", "find": "at", "tally": "number", "select": "at", "gap": "at",
     "ranges": "listing", "draw_front": "drawn", "draw_back": "drawn", "eq": "value", "write_set": "written", "read_map": "number",
     "write_map": "written", "clear_map": "cleared", "fill": "number",
 }
@@ -284,18 +282,20 @@ def answer(line, stores):
     return " ".join([begin, *(v.hex() if isinstance(v, bytes) else str(v) for v in values)])
 
 
-# Frames. Of each number that names a call what it takes of a record: r both bounds, x and y their values, v the truth, k the number.
+# Frames. Of each number that names a call what it takes of a record: r both bounds, x and y their values, v the truth, k the number. A record
+# with a withdrawn number asks at a world that no pool has.
 
 CALLS = {
-    1: ("empty", ""), 2: ("set", "rv"), 3: ("flip", "r"), 4: ("shift", "xv"), 5: ("run_at", "x"), 6: ("find", "rv"), 7: ("count", "rv"),
-    8: ("select", "rvk"), 9: ("count_ranges", "rv"), 10: ("ranges", "rv"), 11: ("draw_front", "xyv"), 12: ("draw_back", "xyv"),
-    13: ("fill", "xy"), 14: ("gap", "rk"),
+    1: ("empty", ""), 2: ("set", "rv"), 3: ("flip", "r"), 4: ("shift", "xv"), 5: ("run_at", "x"), 6: ("find", "rv"), 8: ("select", "rvk"),
+    10: ("ranges", "rv"), 11: ("draw_front", "xyv"), 12: ("draw_back", "xyv"), 13: ("fill", "xy"), 14: ("gap", "rk"), 15: ("tally", "rv"),
 }
+WITHDRAWN = {7, 9}
 
 
 def play(store, number, lower, x, upper, y, value, k, world):
     """Makes the call that a record means, and tells the record of its answer."""
     name, kinds = CALLS.get(number, ("get", "x"))
+    world = LAST if number in WITHDRAWN else world
     bounds = [x + (lower == 2) if lower in (1, 2) else 0, y - (upper == 2) if upper in (1, 2) else LAST]
     given = {"r": bounds, "x": [x], "y": [y], "v": [int(value != 0)], "k": [k]}
     try:
@@ -305,6 +305,8 @@ def play(store, number, lower, x, upper, y, value, k, world):
     begin = ANSWERS.get(name)
     if result is None:
         told = [0, 0, 0]
+    elif name == "tally":
+        told = [result[0] >> 64, result[0] & LAST, result[1]]
     elif begin in ("number", "value"):
         told = [result >> 64, result & LAST, 0]
     elif begin == "at":

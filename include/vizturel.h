@@ -43,7 +43,8 @@
  * LOCKSTEP. Two sound pools of one capacity that opened equally many worlds, with the same positions, floor and ceiling in each, answer every later
  * list of equal calls alike.
  *
- * RESERVED NUMBERS. Where numbers have names here (call numbers, kinds of bounds, operations), the named ones stay as they are. All others are
+ * RESERVED NUMBERS. Where numbers have names here (call numbers, kinds of bounds, operations), the named ones stay as they are. The call numbers 7
+ * and 9 are withdrawn and stay so: such a record is answered with 12, whatever world it names, and not as another call. All other numbers are
  * reserved: a later version may give them a meaning. This version takes a reserved call number for a get, a reserved kind for no bound and a
  * reserved operation for XOR. Do not rely on it.
  *
@@ -122,6 +123,14 @@ typedef struct {
     uint64_t carry;
     uint64_t low;
 } vizturel_counted;
+
+/* the same, and in how many runs these positions lie */
+typedef struct {
+    uint64_t refusal;
+    uint64_t carry;
+    uint64_t low;
+    uint64_t runs;
+} vizturel_tallied;
 
 typedef struct {
     uint64_t refusal;
@@ -206,16 +215,12 @@ vizturel_around vizturel_run_at(const uint64_t *words, size_t count, uint64_t wo
 /* The least position of the value in a range. */
 vizturel_found vizturel_find(const uint64_t *words, size_t count, uint64_t world, vizturel_bound lower, vizturel_bound upper, uint64_t value);
 
-/* How many positions of a range have the value. */
-vizturel_counted vizturel_count(const uint64_t *words, size_t count, uint64_t world, vizturel_bound lower, vizturel_bound upper, uint64_t value);
+/* How many positions of a range have the value, and in how many runs they lie, clipped to the range. */
+vizturel_tallied vizturel_tally(const uint64_t *words, size_t count, uint64_t world, vizturel_bound lower, vizturel_bound upper, uint64_t value);
 
 /* The position of a range that has the value and exactly k such positions before it there; not found where k is at least their count. */
 vizturel_found vizturel_select(const uint64_t *words, size_t count, uint64_t world, vizturel_bound lower, vizturel_bound upper, uint64_t value,
                                uint64_t k);
-
-/* How many runs of the value a range has, clipped to it. */
-vizturel_numbered vizturel_count_ranges(const uint64_t *words, size_t count, uint64_t world, vizturel_bound lower, vizturel_bound upper,
-                                        uint64_t value);
 
 /* A listing of the runs of the value in a range, to be drawn from either end. */
 vizturel_listed vizturel_ranges(const uint64_t *words, size_t count, uint64_t world, vizturel_bound lower, vizturel_bound upper, uint64_t value);
@@ -290,7 +295,8 @@ vizturel_numbered vizturel_clear_map(uint64_t base, uint64_t length, uint8_t *ma
 
 /* ---- a frame's calls at once: one soundness check, then every call of a list, each at a world of the pool */
 
-/* Which call a record is. Other numbers are reserved. Number 1 empties its world, as vizturel_build of no runs does; no record makes a pool. */
+/* Which call a record is. 7 and 9 are withdrawn, others reserved. Number 1 empties its world, as vizturel_build of no runs does; no record makes
+ * a pool. */
 enum vizturel_call_number {
     VIZTUREL_CALL_GET = 0,
     VIZTUREL_CALL_EMPTY = 1,
@@ -299,14 +305,13 @@ enum vizturel_call_number {
     VIZTUREL_CALL_SHIFT = 4,
     VIZTUREL_CALL_RUN_AT = 5,
     VIZTUREL_CALL_FIND = 6,
-    VIZTUREL_CALL_COUNT = 7,
     VIZTUREL_CALL_SELECT = 8,
-    VIZTUREL_CALL_COUNT_RANGES = 9,
     VIZTUREL_CALL_RANGES = 10,
     VIZTUREL_CALL_DRAW_FRONT = 11,
     VIZTUREL_CALL_DRAW_BACK = 12,
     VIZTUREL_CALL_FILL = 13,
-    VIZTUREL_CALL_GAP = 14
+    VIZTUREL_CALL_GAP = 14,
+    VIZTUREL_CALL_TALLY = 15
 };
 
 /* A call as a record of eight words; words that the call has no use for are not read.
@@ -325,8 +330,9 @@ typedef struct {
 } vizturel_call;
 
 /* An answer as a record of eight words, zeros where the call tells nothing. A refused call tells its refusal alone.
- *   set, count           found * 2^64 + number positions
- *   count_ranges, fill   number
+ *   set                  found * 2^64 + number positions
+ *   tally                found * 2^64 + number positions, in as many runs as end says
+ *   fill                 number
  *   get                  number, 0 or 1
  *   run_at               the run number .. end
  *   find, select, gap    position number, where found is 1

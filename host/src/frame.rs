@@ -17,14 +17,14 @@
 //!     *record = (0, Call::set(slot.number..=slot.number, true)).into();
 //! }
 //! slots.play(&calls[..3], &mut answers)?;
-//! assert_eq!(slots.count(..3, true)?, 3);
+//! assert_eq!(slots.tally(..3, true)?.positions, 3);
 //! # Ok(())
 //! # }
 //! ```
 
 use std::ops::{Bound, RangeBounds, RangeInclusive};
 
-use crate::{Answer, Listing, answer};
+use crate::{Answer, Listing, Tally, answer, positions};
 
 /// A lower and an upper bound.
 pub type Range = (Bound<u64>, Bound<u64>);
@@ -40,9 +40,8 @@ pub enum Call {
     Get(u64),
     RunAt(u64),
     Find(Range, bool),
-    Count(Range, bool),
+    Tally(Range, bool),
     Select(Range, bool, u64),
-    CountRanges(Range, bool),
     Gap(Range, u64),
     Listing(Range, bool),
     DrawFront(Listing),
@@ -68,16 +67,12 @@ impl Call {
         Call::Find(range(r), value)
     }
 
-    pub fn count(r: impl RangeBounds<u64>, value: bool) -> Call {
-        Call::Count(range(r), value)
+    pub fn tally(r: impl RangeBounds<u64>, value: bool) -> Call {
+        Call::Tally(range(r), value)
     }
 
     pub fn select(r: impl RangeBounds<u64>, value: bool, k: u64) -> Call {
         Call::Select(range(r), value, k)
-    }
-
-    pub fn count_ranges(r: impl RangeBounds<u64>, value: bool) -> Call {
-        Call::CountRanges(range(r), value)
     }
 
     pub fn gap(r: impl RangeBounds<u64>, length: u64) -> Call {
@@ -94,9 +89,11 @@ impl Call {
 pub enum Reply {
     /// `Empty`, `Flip`, `Shift`.
     Done,
-    /// `Set`: how many positions changed; `Count`.
+    /// `Set`: how many positions changed.
     Count(u128),
-    /// `CountRanges`, `Fill`.
+    /// `Tally`.
+    Tally(Tally),
+    /// `Fill`.
     Number(u64),
     /// `Get`.
     Value(bool),
@@ -113,8 +110,9 @@ pub enum Reply {
 /// A call as the library reads it: see `vizturel_call` in `include/vizturel.h`. A world's number and a [`Call`] make such records; where all
 /// words are 0, it is `Get(0)` at world 0.
 ///
-/// Numbers of calls and kinds of bounds that no [`Call`] has are reserved: a later version may give them a meaning. This version answers a call
-/// number above 14 as `Get`, and takes a kind above 2 for no bound; do not rely on that.
+/// 7 and 9 are withdrawn: records with these numbers are answered with 12, whatever world they name. All other numbers of calls and kinds of
+/// bounds that no [`Call`] has are reserved: a later version may give them a meaning. This version answers a call number above 15 as `Get`, and
+/// takes a kind above 2 for no bound; do not rely on that.
 #[repr(C)]
 #[derive(Clone, Copy, Debug, Default, PartialEq, Eq)]
 pub struct CallRecord {
@@ -187,14 +185,13 @@ impl From<(u64, Call)> for CallRecord {
             Call::Shift { distance, left } => CallRecord { call: 4, lower: distance, value: left.into(), ..none },
             Call::RunAt(x) => CallRecord { call: 5, lower: x, ..none },
             Call::Find(r, value) => of_range(6, r, value),
-            Call::Count(r, value) => of_range(7, r, value),
             Call::Select(r, value, k) => CallRecord { k, ..of_range(8, r, value) },
-            Call::CountRanges(r, value) => of_range(9, r, value),
             Call::Listing(r, value) => of_range(10, r, value),
             Call::DrawFront(l) => of_listing(11, l),
             Call::DrawBack(l) => of_listing(12, l),
             Call::Fill { base, n } => CallRecord { call: 13, lower: base, upper: n, ..none },
             Call::Gap(r, length) => CallRecord { k: length, ..over(14, r) },
+            Call::Tally(r, value) => of_range(15, r, value),
         }
     }
 }
@@ -206,8 +203,9 @@ impl AnswerRecord {
         let listing = Listing { first: self.first, last: self.last, value: self.value == 1 };
         let told = match call {
             Call::Empty | Call::Flip(_) | Call::Shift { .. } => Reply::Done,
-            Call::Set(..) | Call::Count(..) => Reply::Count((u128::from(self.found) << 64) + u128::from(self.number)),
-            Call::CountRanges(..) | Call::Fill { .. } => Reply::Number(self.number),
+            Call::Set(..) => Reply::Count(positions(self.found, self.number)),
+            Call::Tally(..) => Reply::Tally(Tally { positions: positions(self.found, self.number), runs: self.end }),
+            Call::Fill { .. } => Reply::Number(self.number),
             Call::Get(_) => Reply::Value(self.number == 1),
             Call::RunAt(_) => Reply::Run(self.number..=self.end),
             Call::Find(..) | Call::Select(..) | Call::Gap(..) => Reply::Position(found.then_some(self.number)),

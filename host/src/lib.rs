@@ -24,7 +24,7 @@
 //! // Two worlds share eight runs: the first is sure of two, the second may have at most four.
 //! let mut pool = PoolBuf::with_capacity(8, &[Limits { floor: 2, ceiling: 8 }, Limits { floor: 0, ceiling: 4 }])?;
 //! pool.world_mut(0).set(2..8, true)?;
-//! assert_eq!(pool.world(1).count(.., true)?, 0);
+//! assert_eq!(pool.world(1).tally(.., true)?.positions, 0);
 //! assert_eq!(pool.world(2).get(0), Err(Refusal::WorldUnopened));
 //! # Ok(())
 //! # }
@@ -141,6 +141,15 @@ pub struct Listing {
     pub value: bool,
 }
 
+/// How many positions of a range have a value, and in how many runs they lie.
+#[derive(Clone, Copy, Debug, Default, PartialEq, Eq)]
+pub struct Tally {
+    /// Up to 2^64.
+    pub positions: u128,
+    /// Those that the range's ends cut are among them.
+    pub runs: u64,
+}
+
 /// How many runs a world has room for at any time, and how many it may have at most. The room between the two is the pool's, and is
 /// there as long as no other world has taken it.
 #[repr(C)]
@@ -255,8 +264,13 @@ fn answer<T>(refusal: u64, result: T) -> Answer<T> {
     }
 }
 
+// How many positions, up to 2^64.
+fn positions(carry: u64, low: u64) -> u128 {
+    (u128::from(carry) << 64) + u128::from(low)
+}
+
 fn count(c: raw::Counted) -> Answer<u128> {
-    answer(c.refusal, (u128::from(c.carry) << 64) + u128::from(c.low))
+    answer(c.refusal, positions(c.carry, c.low))
 }
 
 fn number(n: raw::Numbered) -> Answer<u64> {
@@ -542,11 +556,24 @@ impl<S: AsRef<[u64]>> World<S> {
         position(unsafe { raw::vizturel_find(w, n, i, lower, upper, value.into()) })
     }
 
-    /// How many positions of a range have the value: up to 2^64.
-    pub fn count(&self, range: impl RangeBounds<u64>, value: bool) -> Answer<u128> {
+    /// How many positions of a range have the value, and in how many runs they lie, those included that the range's ends cut.
+    ///
+    /// ```
+    /// use vizturel::{SetBuf, Tally};
+    /// # fn main() -> Result<(), vizturel::Refusal> {
+    /// let mut slots = SetBuf::with_capacity(8)?;
+    /// slots.set(2..8, true)?;
+    /// slots.set(10..15, true)?;
+    /// assert_eq!(slots.tally(4..12, true)?, Tally { positions: 6, runs: 2 });
+    /// assert_eq!(slots.tally(4..12, false)?, Tally { positions: 2, runs: 1 });
+    /// # Ok(())
+    /// # }
+    /// ```
+    pub fn tally(&self, range: impl RangeBounds<u64>, value: bool) -> Answer<Tally> {
         let (w, n, i) = self.lent();
         let (lower, upper) = bounds(range);
-        count(unsafe { raw::vizturel_count(w, n, i, lower, upper, value.into()) })
+        let t = unsafe { raw::vizturel_tally(w, n, i, lower, upper, value.into()) };
+        answer(t.refusal, Tally { positions: positions(t.carry, t.low), runs: t.runs })
     }
 
     /// The position of a range that has the value and exactly k such positions before it.
@@ -554,13 +581,6 @@ impl<S: AsRef<[u64]>> World<S> {
         let (w, n, i) = self.lent();
         let (lower, upper) = bounds(range);
         position(unsafe { raw::vizturel_select(w, n, i, lower, upper, value.into(), k) })
-    }
-
-    /// How many runs of the value a range has, those cut by its ends included.
-    pub fn count_ranges(&self, range: impl RangeBounds<u64>, value: bool) -> Answer<u64> {
-        let (w, n, i) = self.lent();
-        let (lower, upper) = bounds(range);
-        number(unsafe { raw::vizturel_count_ranges(w, n, i, lower, upper, value.into()) })
     }
 
     /// The runs of the value in a range, clipped to it, from both ends.

@@ -142,7 +142,7 @@ impl Build for Library {
     fn runs(&self) -> Answer<[u64; ARENAS.len()]> {
         let mut runs = [0; ARENAS.len()];
         for (i, runs) in runs.iter_mut().enumerate() {
-            *runs = self.pool.world(i as u64).count_ranges(.., true)?;
+            *runs = self.pool.world(i as u64).tally(.., true)?.runs;
         }
         Ok(runs)
     }
@@ -178,7 +178,7 @@ fn slots(range: &RangeInclusive<u64>) -> RangeInclusive<usize> {
 }
 
 fn runs_of(arena: &IntervalBitSet) -> u64 {
-    arena.count_ranges(.., true) as u64
+    arena.ranges(.., true).count() as u64
 }
 
 // What the arenas other than this one claim of the pool: the larger of runs and floor, each.

@@ -14,6 +14,14 @@ pub struct Counted {
     pub low: u64,
 }
 
+#[repr(C)]
+pub struct Tallied {
+    pub refusal: u64,
+    pub carry: u64,
+    pub low: u64,
+    pub runs: u64,
+}
+
 /// A number, a value (0 or 1) or how many bytes were written.
 #[repr(C)]
 pub struct Numbered {
@@ -61,14 +69,14 @@ unsafe extern "C" {
     pub fn vizturel_get(words: *const u64, count: usize, world: u64, x: u64) -> Numbered;
     pub fn vizturel_run_at(words: *const u64, count: usize, world: u64, x: u64) -> Around;
     pub fn vizturel_find(words: *const u64, count: usize, world: u64, lower: Bound, upper: Bound, value: u64) -> Found;
-    pub fn vizturel_count(
+    pub fn vizturel_tally(
         words: *const u64,
         count: usize,
         world: u64,
         lower: Bound,
         upper: Bound,
         value: u64,
-    ) -> Counted;
+    ) -> Tallied;
     pub fn vizturel_select(
         words: *const u64,
         count: usize,
@@ -78,14 +86,6 @@ unsafe extern "C" {
         value: u64,
         k: u64,
     ) -> Found;
-    pub fn vizturel_count_ranges(
-        words: *const u64,
-        count: usize,
-        world: u64,
-        lower: Bound,
-        upper: Bound,
-        value: u64,
-    ) -> Numbered;
     pub fn vizturel_ranges(
         words: *const u64,
         count: usize,

@@ -2,7 +2,7 @@
 
 use std::ops::{Bound, RangeInclusive};
 
-use vizturel::{Answer, Operation, PoolBuf, Refusal, Set, SetBuf, World, room, words};
+use vizturel::{Answer, Operation, PoolBuf, Refusal, Set, SetBuf, Tally, World, room, words};
 
 const M: u64 = u64::MAX;
 const ALL: u128 = 1 << 64;
@@ -39,7 +39,7 @@ fn case_2() {
     let mut s = empty();
     assert_eq!(s.set(.., true), Ok(ALL));
     assert_eq!(s.set(.., true), Ok(0));
-    assert_eq!(s.count(.., true), Ok(ALL));
+    assert_eq!(s.tally(.., true), Ok(Tally { positions: ALL, runs: 1 }));
 }
 
 #[test]
@@ -78,7 +78,7 @@ fn case_7() {
     assert_eq!(s.ranges(4..12, true).unwrap().collect::<Vec<_>>(), [4..=7, 10..=11]);
     assert_eq!(s.ranges(4..12, false).unwrap().collect::<Vec<_>>(), [8..=9]);
     assert_eq!(s.ranges(4..12, true).unwrap().rev().collect::<Vec<_>>(), [10..=11, 4..=7]);
-    assert_eq!(s.count_ranges(4..12, true), Ok(2));
+    assert_eq!(s.tally(4..12, true), Ok(Tally { positions: 6, runs: 2 }));
 }
 
 #[test]
@@ -92,8 +92,8 @@ fn case_8() {
 fn case_9() {
     let (a, b) = (of(&[[2, 7]]), of(&[[5, 9]]));
     let joined = |op| made(2, |s| s.combine(op, &a, &b)).unwrap();
-    assert_eq!(joined(Operation::And).count(.., true), Ok(3));
-    assert_eq!(joined(Operation::Or).count(.., true), Ok(8));
+    assert_eq!(joined(Operation::And).tally(.., true), Ok(Tally { positions: 3, runs: 1 }));
+    assert_eq!(joined(Operation::Or).tally(.., true), Ok(Tally { positions: 8, runs: 1 }));
     assert_eq!(runs(&joined(Operation::Xor)), [2..=4, 8..=9]);
 }
 
@@ -200,7 +200,7 @@ fn a_set_is_lent_kept_and_handed_back() {
     let mut s = Set::new(&mut words[..]).unwrap();
     s.set(3..=5, true).unwrap();
     // Only to be read.
-    assert_eq!(Set::from_words(&words[..]).count(.., true), Ok(3));
+    assert_eq!(Set::from_words(&words[..]).tally(.., true).unwrap().positions, 3);
     let kept = Set::from_words(words);
     assert_eq!(kept.get(5), Ok(true));
     assert_eq!(kept.into_words(), words);

@@ -5,12 +5,12 @@ use vizturel::differential::{Options, run};
 fn short(seed: u64) {
     let options = Options { seed, calls: 60_000, stride: 60, progress: false };
     match run(options) {
-        Ok(tally) => {
-            assert!(tally.compared > 300_000, "only {} calls were compared", tally.compared);
-            assert!(tally.listed > 10_000, "only {} of them in frames", tally.listed);
-            assert!(tally.mapped > 10_000, "only {} of them on maps", tally.mapped);
+        Ok(score) => {
+            assert!(score.compared > 300_000, "only {} calls were compared", score.compared);
+            assert!(score.listed > 10_000, "only {} of them in frames", score.listed);
+            assert!(score.mapped > 10_000, "only {} of them on maps", score.mapped);
             // Each refusal came up, so that each was compared.
-            for (number, count) in tally.refused.iter().enumerate() {
+            for (number, count) in score.refused.iter().enumerate() {
                 assert!(*count > 100, "refusal {number} came up {count} times");
             }
         }

@@ -4,9 +4,12 @@ use std::ops::Bound;
 
 use vizturel::differential::random::Random;
 use vizturel::frame::{AnswerRecord, Call, CallRecord, Range, Reply};
-use vizturel::{Answer, Limits, Listing, PoolBuf, Refusal, Set, SetBuf, World};
+use vizturel::{Answer, Limits, Listing, PoolBuf, Refusal, Set, SetBuf, Tally, World};
 
 const M: u64 = u64::MAX;
+
+// Numbers of records that name no call, below those that do.
+const WITHDRAWN: [u64; 2] = [7, 9];
 
 // The same call alone.
 fn single(set: &mut World<&mut [u64]>, call: Call) -> Answer<Reply> {
@@ -27,9 +30,8 @@ fn single(set: &mut World<&mut [u64]>, call: Call) -> Answer<Reply> {
         Call::Get(x) => Reply::Value(set.get(x)?),
         Call::RunAt(x) => Reply::Run(set.run_at(x)?),
         Call::Find(range, value) => Reply::Position(set.find(range, value)?),
-        Call::Count(range, value) => Reply::Count(set.count(range, value)?),
+        Call::Tally(range, value) => Reply::Tally(set.tally(range, value)?),
         Call::Select(range, value, k) => Reply::Position(set.select(range, value, k)?),
-        Call::CountRanges(range, value) => Reply::Number(set.count_ranges(range, value)?),
         Call::Gap(range, n) => Reply::Position(set.gap(range, n)?),
         Call::Listing(range, value) => Reply::Listing(set.listing(range, value)?),
         Call::DrawFront(mut l) => Reply::Drawn(set.draw_front(&mut l)?, l),
@@ -62,9 +64,8 @@ fn any_call(random: &mut Random) -> Call {
         Call::Get(x),
         Call::RunAt(x),
         Call::Find(r, v),
-        Call::Count(r, v),
+        Call::Tally(r, v),
         Call::Select(r, v, y),
-        Call::CountRanges(r, v),
         Call::Gap(r, y % 6),
         Call::Listing(r, v),
         Call::DrawFront(listing),
@@ -112,28 +113,30 @@ fn ranges_of_any_kind() {
     let told = s.frame(&[Call::set(2..8, true), Call::set(4..6, false), Call::find(4.., false)]).unwrap();
     assert_eq!(told, [Ok(Reply::Count(6)), Err(Refusal::Capacity), Ok(Reply::Position(Some(8)))]);
     let all = [
-        Call::count(.., true),
+        Call::tally(.., true),
         Call::flip(..),
-        Call::count(..=4, false),
+        Call::tally(..=4, false),
         Call::select(1..=4, false, 2),
-        Call::count_ranges(..9, true),
+        Call::tally(..1, true),
         Call::gap(1.., 2),
         Call::gap(1..9, 0),
         Call::listing(3..3, true),
     ];
     let ended = Listing { first: 1, last: 0, value: true };
     let right = [
-        Ok(Reply::Count(6)),
+        Ok(Reply::Tally(Tally { positions: 6, runs: 1 })),
         Err(Refusal::Capacity),
-        Ok(Reply::Count(2)),
+        Ok(Reply::Tally(Tally { positions: 2, runs: 1 })),
         Ok(Reply::Position(None)),
-        Ok(Reply::Number(1)),
+        Ok(Reply::Tally(Tally::default())),
         Ok(Reply::Position(Some(8))),
         Err(Refusal::GapLength),
         Ok(Reply::Listing(ended)),
     ];
     assert_eq!(s.frame(&all).unwrap(), right);
     assert_eq!(s.frame(&[Call::set(.., true)]).unwrap(), [Ok(Reply::Count((1 << 64) - 6))]);
+    let full = Tally { positions: 1 << 64, runs: 1 };
+    assert_eq!(s.frame(&[Call::tally(.., true)]).unwrap(), [Ok(Reply::Tally(full))]);
     assert_eq!(s.frame(&[Call::set(.., false)]).unwrap(), [Ok(Reply::Count(1 << 64))]);
     assert_eq!(s.frame(&[]), Ok(vec![]));
 }
@@ -141,13 +144,32 @@ fn ranges_of_any_kind() {
 #[test]
 fn records_keep_to_named_numbers() {
     let mut random = Random::new(2);
-    let mut seen = [0; 15];
+    let mut seen = [0; 16];
     for world in 0..4_000 {
         let record = CallRecord::from((world, any_call(&mut random)));
         assert!(record.lower_kind <= 2 && record.upper_kind <= 2 && record.world == world, "{record:?}");
         seen[record.call as usize] += 1;
     }
-    assert!(seen.iter().all(|&n| n > 0), "{seen:?}");
+    for (number, &count) in (0..).zip(&seen) {
+        assert_eq!(count == 0, WITHDRAWN.contains(&number), "number {number} came up {count} times");
+    }
+}
+
+#[test]
+fn a_withdrawn_number_is_refused() {
+    let mut s = SetBuf::with_capacity(2).unwrap();
+    s.build(&[[2, 7]]).unwrap();
+    let set = CallRecord::from((0, Call::set(4..6, false)));
+    let get = CallRecord::from((0, Call::Get(4)));
+    let mut answers = [AnswerRecord { number: M, ..AnswerRecord::default() }; 3];
+    for number in WITHDRAWN {
+        for world in [0, 1, 15, M] {
+            let asked = [CallRecord { call: number, world, ..set }, CallRecord { call: number, world, ..get }, get];
+            let refused = AnswerRecord { refusal: Refusal::WorldUnopened.number(), ..AnswerRecord::default() };
+            let held = AnswerRecord { number: 1, ..AnswerRecord::default() };
+            assert_eq!(s.play(&asked, &mut answers).unwrap(), [refused, refused, held], "{number} at {world}");
+        }
+    }
 }
 
 #[test]
@@ -167,7 +189,7 @@ fn records_are_lent() {
     }
     assert_eq!(answers[3..], [stale; 5]);
     slots.play(&calls[..3], &mut answers).unwrap();
-    assert_eq!(slots.count(..3, true), Ok(3));
+    assert_eq!(slots.tally(..3, true).unwrap().positions, 3);
     // A record of zeros is a get of 0 at world 0.
     assert_eq!(slots.play(&[CallRecord::default()], &mut answers).unwrap()[0].number, 1);
 }

@@ -38,8 +38,8 @@ fn every_last_byte_of_every_length() {
             before.set(base.saturating_sub(3)..=base, true).unwrap();
             before.set(base + n / 2..=base.saturating_add(n + 2), true).unwrap();
             let outside = |set: &SetBuf| {
-                let below = set.count(..base, true).unwrap();
-                below + (base + (n - 1)).checked_add(1).map_or(0, |from| set.count(from.., true).unwrap())
+                let below = set.tally(..base, true).unwrap().positions;
+                below + (base + (n - 1)).checked_add(1).map_or(0, |from| set.tally(from.., true).unwrap().positions)
             };
             for last in 0..=255_u8 {
                 let mut map = vec![0xA5; due];
@@ -121,7 +121,7 @@ struct Held {
 impl Held {
     fn of(pool: PoolBuf, world: u64, runs: Vec<Run>) -> Held {
         let others = (0..pool.words()[0]).filter(|&other| other != world);
-        let taken: u64 = others.map(|other| pool.world(other).count_ranges(.., true).unwrap()).sum();
+        let taken: u64 = others.map(|other| pool.world(other).tally(.., true).unwrap().runs).sum();
         let capacity = pool.words().len() / 8 - 49;
         Held { pool, world, runs, room: capacity - taken as usize }
     }

@@ -1,6 +1,6 @@
 //! Worlds in one pool, through the safe calls: limits, refusals 8, 11 and 12, and that a world leaves the others alone.
 
-use vizturel::{Answer, Limits, Operation, Pool, PoolBuf, Refusal, room, words};
+use vizturel::{Answer, Limits, Operation, Pool, PoolBuf, Refusal, Tally, room, words};
 
 const M: u64 = u64::MAX;
 
@@ -28,7 +28,7 @@ fn grow(pool: &mut PoolBuf, world: u64) -> u64 {
 }
 
 fn runs(pool: &PoolBuf, world: u64) -> Answer<u64> {
-    pool.world(world).count_ranges(.., true)
+    Ok(pool.world(world).tally(.., true)?.runs)
 }
 
 #[test]
@@ -48,7 +48,7 @@ fn a_pool_is_made_with_limits_that_it_can_keep() {
     assert_eq!(Pool::new(&mut lent[1..], &[]).err(), Some(Refusal::StoreLength));
     assert_eq!(Pool::new(&mut lent[..], &[]).err(), Some(Refusal::WorldLimits));
     assert!(lent.iter().all(|&word| word == 7) && lent.len() == words(8));
-    assert_eq!(Pool::new(&mut lent[..], &[Limits::NONE]).unwrap().world(0).count(.., true), Ok(0));
+    assert_eq!(Pool::new(&mut lent[..], &[Limits::NONE]).unwrap().world(0).tally(.., true), Ok(Tally::default()));
 }
 
 #[test]
@@ -94,7 +94,7 @@ fn a_world_leaves_the_others_alone() {
         assert_eq!(pool.world(world).eq(&copy.world(world)), Ok(true));
     }
     assert_eq!(pool.world(0).eq(&pool.world(2)), Ok(false));
-    assert_eq!(pool.world(1).count(.., true), Ok(0));
+    assert_eq!(pool.world(1).tally(.., true), Ok(Tally::default()));
 
     // A written set goes into any world that has room for it.
     let mut out = [0; 64];

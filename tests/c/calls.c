@@ -79,6 +79,8 @@ static void only(uint64_t *w, size_t n, uint64_t start, uint64_t end) {
 }
 
 static int is_count(vizturel_counted c, uint64_t n) { return c.refusal == 0 && c.carry == 0 && c.low == n; }
+static int is_tally(vizturel_tallied t, uint64_t n, uint64_t runs) { return t.refusal == 0 && t.carry == 0 && t.low == n && t.runs == runs; }
+static int is_full(vizturel_tallied t) { return t.refusal == 0 && t.carry == 1 && t.low == 0 && t.runs == 1; }
 static int is_run(vizturel_around r, uint64_t x, uint64_t y) { return r.refusal == 0 && r.start == x && r.end == y; }
 static int at(vizturel_found f, uint64_t x) { return f.refusal == 0 && f.found == 1 && f.position == x; }
 static int nowhere(vizturel_found f) { return f.refusal == 0 && f.found == 0; }
@@ -129,8 +131,8 @@ static void cases(void) {
     full = vizturel_set(s, WORDS, here, ALL, ALL, 1);
     CHECK(full.refusal == 0 && full.carry == 1 && full.low == 0);
     CHECK(is_count(vizturel_set(s, WORDS, here, ALL, ALL, 1), 0));
-    full = vizturel_count(s, WORDS, here, ALL, ALL, 1);
-    CHECK(full.carry == 1 && full.low == 0);
+    CHECK(is_full(vizturel_tally(s, WORDS, here, ALL, ALL, 1)));
+    CHECK(is_tally(vizturel_tally(s, WORDS, here, ALL, ALL, 0), 0, 0));
 
     fresh(s, WORDS);
     CHECK(is_count(vizturel_set(s, WORDS, here, EX(M), ALL, 1), 0));
@@ -149,8 +151,9 @@ static void cases(void) {
     put(s, WORDS, 10, 15, 1);
     CHECK(lists(s, WORDS, IN(4), EX(12), 1, 2, seven));
     CHECK(lists(s, WORDS, IN(4), EX(12), 0, 1, gap));
-    n = vizturel_count_ranges(s, WORDS, here, IN(4), EX(12), 1);
-    CHECK(n.refusal == 0 && n.number == 2);
+    CHECK(is_tally(vizturel_tally(s, WORDS, here, IN(4), EX(12), 1), 6, 2));
+    CHECK(is_tally(vizturel_tally(s, WORDS, here, IN(4), EX(12), 0), 2, 1));
+    CHECK(is_tally(vizturel_tally(s, WORDS, here, IN(12), EX(4), 1), 0, 0));
 
     only(s, WORDS, 2, 7);
     CHECK(vizturel_flip(s, WORDS, here, IN(4), EX(10)) == 0);
@@ -158,8 +161,8 @@ static void cases(void) {
 
     only(a, WORDS, 2, 7);
     only(b, WORDS, 5, 9);
-    CHECK(vizturel_combine(s, WORDS, here, 0, a, WORDS, here, b, WORDS, here) == 0 && is_count(vizturel_count(s, WORDS, here, ALL, ALL, 1), 3));
-    CHECK(vizturel_combine(s, WORDS, here, 1, a, WORDS, here, b, WORDS, here) == 0 && is_count(vizturel_count(s, WORDS, here, ALL, ALL, 1), 8));
+    CHECK(vizturel_combine(s, WORDS, here, 0, a, WORDS, here, b, WORDS, here) == 0 && is_tally(vizturel_tally(s, WORDS, here, ALL, ALL, 1), 3, 1));
+    CHECK(vizturel_combine(s, WORDS, here, 1, a, WORDS, here, b, WORDS, here) == 0 && is_tally(vizturel_tally(s, WORDS, here, ALL, ALL, 1), 8, 1));
     CHECK(vizturel_combine(s, WORDS, here, 2, a, WORDS, here, b, WORDS, here) == 0 && holds(s, WORDS, 2, nine));
     CHECK(vizturel_eq(a, WORDS, here, b, WORDS, here).value == 0 && vizturel_eq(a, WORDS, here, a, WORDS, here).value == 1);
 
@@ -479,10 +482,10 @@ static void every_call(void) {
     list[n++] = ask(VIZTUREL_CALL_RUN_AT, IN(9), ALL, 0, 0);
     list[n++] = ask(VIZTUREL_CALL_FIND, IN(4), ALL, 0, 0);
     list[n++] = ask(VIZTUREL_CALL_FIND, IN(2), EX(8), 0, 0);
-    list[n++] = ask(VIZTUREL_CALL_COUNT, ALL, ALL, 1, 0);
+    list[n++] = ask(VIZTUREL_CALL_TALLY, ALL, ALL, 1, 0);
     list[n++] = ask(VIZTUREL_CALL_SELECT, IN(4), EX(12), 1, 4);
     list[n++] = ask(VIZTUREL_CALL_SELECT, IN(4), EX(12), 1, 6);
-    list[n++] = ask(VIZTUREL_CALL_COUNT_RANGES, IN(4), EX(12), 1, 0);
+    list[n++] = ask(VIZTUREL_CALL_TALLY, IN(4), EX(12), 7, 0);
     list[n++] = ask(VIZTUREL_CALL_RANGES, IN(4), EX(12), 7, 0);
     list[n++] = ask(VIZTUREL_CALL_DRAW_FRONT, IN(4), IN(11), 7, 0);
     list[n++] = ask(VIZTUREL_CALL_DRAW_BACK, IN(4), IN(11), 0, 0);
@@ -491,7 +494,7 @@ static void every_call(void) {
     list[n++] = ask(VIZTUREL_CALL_FLIP, IN(4), EX(12), 0, 0);
     list[n++] = ask(VIZTUREL_CALL_SHIFT, IN(2), ALL, 0, 0);
     list[n++] = ask(VIZTUREL_CALL_SHIFT, IN(5), ALL, 2, 0);
-    list[n++] = ask(VIZTUREL_CALL_COUNT, ALL, ALL, 0, 0);
+    list[n++] = ask(VIZTUREL_CALL_TALLY, ALL, ALL, 0, 0);
     list[n++] = ask(VIZTUREL_CALL_FLIP, ALL, ALL, 0, 0);
     list[n++] = ask(VIZTUREL_CALL_SET, ALL, ALL, 1, 0);
     list[n++] = ask(VIZTUREL_CALL_SET, EX(M), ALL, 0, 0);
@@ -505,10 +508,10 @@ static void every_call(void) {
     CHECK(is(told[5], 0, 0, 8, 9, 0, 0, 0));
     CHECK(is(told[6], 0, 1, 8, 0, 0, 0, 0));
     CHECK(is(told[7], 0, 0, 0, 0, 0, 0, 0));
-    CHECK(is(told[8], 0, 0, 11, 0, 0, 0, 0));
+    CHECK(is(told[8], 0, 0, 11, 2, 0, 0, 0));
     CHECK(is(told[9], 0, 1, 10, 0, 0, 0, 0));
     CHECK(is(told[10], 0, 0, 0, 0, 0, 0, 0));
-    CHECK(is(told[11], 0, 0, 2, 0, 0, 0, 0));
+    CHECK(is(told[11], 0, 0, 6, 2, 0, 0, 0));
     CHECK(is(told[12], 0, 0, 0, 0, 4, 11, 1));
     CHECK(is(told[13], 0, 1, 4, 7, 8, 11, 1));
     CHECK(is(told[14], 0, 1, 8, 9, 4, 7, 0));
@@ -518,16 +521,16 @@ static void every_call(void) {
     CHECK(is(told[17], 0, 0, 0, 0, 0, 0, 0));
     CHECK(is(told[18], 0, 0, 0, 0, 0, 0, 0));
     CHECK(is(told[19], 0, 0, 0, 0, 0, 0, 0));
-    CHECK(is(told[20], 0, 0, M - 6, 0, 0, 0, 0));
+    CHECK(is(told[20], 0, 0, M - 6, 4, 0, 0, 0));
     CHECK(is(told[21], 0, 0, 0, 0, 0, 0, 0));
     CHECK(is(told[22], 0, 0, 7, 0, 0, 0, 0));
     CHECK(is(told[23], 0, 0, 0, 0, 0, 0, 0));
     /* all 2^64 positions: a carry */
-    list[0] = ask(VIZTUREL_CALL_COUNT, ALL, ALL, 1, 0);
+    list[0] = ask(VIZTUREL_CALL_TALLY, ALL, ALL, 1, 0);
     list[1] = ask(VIZTUREL_CALL_SET, ALL, ALL, 0, 0);
-    list[2] = ask(VIZTUREL_CALL_COUNT, ALL, ALL, 1, 0);
+    list[2] = ask(VIZTUREL_CALL_TALLY, ALL, ALL, 1, 0);
     CHECK(play(3) == VIZTUREL_DONE);
-    CHECK(is(told[0], 0, 1, 0, 0, 0, 0, 0));
+    CHECK(is(told[0], 0, 1, 0, 1, 0, 0, 0));
     CHECK(is(told[1], 0, 1, 0, 0, 0, 0, 0));
     CHECK(is(told[2], 0, 0, 0, 0, 0, 0, 0));
     CHECK(holds(s, WORDS, 0, NULL));
@@ -546,9 +549,9 @@ static void every_call(void) {
     CHECK(is(told[4], VIZTUREL_GAP_LENGTH, 0, 0, 0, 0, 0, 0));
 }
 
-/* reserved numbers, as this version answers them: calls are gets, kinds of bounds are no bound */
+/* reserved numbers, as this version answers them: calls are gets, kinds of bounds are no bound; and withdrawn ones, which are refused */
 static void any_record(void) {
-    static const uint64_t gets[] = {0, 15, 16, 258, (UINT64_C(1) << 32) + 2, (UINT64_C(1) << 63) + 2, M};
+    static const uint64_t gets[] = {0, 16, 17, 258, (UINT64_C(1) << 32) + 2, (UINT64_C(1) << 63) + 2, M};
     static const uint64_t run[] = {2, 7};
     const vizturel_bound odd = {3, 5}, odder = {M, 6};
     size_t i, n = sizeof gets / sizeof *gets;
@@ -557,11 +560,18 @@ static void any_record(void) {
     CHECK(play(n) == VIZTUREL_DONE);
     for (i = 0; i < n; i++) CHECK(is(told[i], 0, 0, 1, 0, 0, 0, 0));
     CHECK(holds(s, WORDS, 1, run));
-    list[0] = ask(VIZTUREL_CALL_COUNT, odd, odder, 1, 0);
-    list[1] = ask(VIZTUREL_CALL_COUNT, IN(4), odder, 1, 0);
-    list[2] = ask(VIZTUREL_CALL_COUNT, odd, EX(4), 1, 0);
+    list[0] = ask(VIZTUREL_CALL_TALLY, odd, odder, 1, 0);
+    list[1] = ask(VIZTUREL_CALL_TALLY, IN(4), odder, 1, 0);
+    list[2] = ask(VIZTUREL_CALL_TALLY, odd, EX(4), 1, 0);
     CHECK(play(3) == VIZTUREL_DONE);
-    CHECK(is(told[0], 0, 0, 6, 0, 0, 0, 0) && is(told[1], 0, 0, 4, 0, 0, 0, 0) && is(told[2], 0, 0, 2, 0, 0, 0, 0));
+    CHECK(is(told[0], 0, 0, 6, 1, 0, 0, 0) && is(told[1], 0, 0, 4, 1, 0, 0, 0) && is(told[2], 0, 0, 2, 1, 0, 0, 0));
+    /* a withdrawn number at a world that is opened, and the call after it */
+    list[0] = ask(7, ALL, ALL, 1, 0);
+    list[1] = ask(9, IN(4), EX(6), 0, 0);
+    list[2] = ask(VIZTUREL_CALL_GET, IN(4), ALL, 0, 0);
+    CHECK(play(3) == VIZTUREL_DONE);
+    CHECK(is(told[0], VIZTUREL_WORLD_UNOPENED, 0, 0, 0, 0, 0, 0) && is(told[1], VIZTUREL_WORLD_UNOPENED, 0, 0, 0, 0, 0, 0));
+    CHECK(is(told[2], 0, 0, 1, 0, 0, 0, 0) && holds(s, WORDS, 1, run));
 }
 
 static void refused_lists(void) {
@@ -624,7 +634,7 @@ static void refused_lists(void) {
 /* Whether a world of the pool s admits a run that begins at x and touches none. */
 static uint64_t more(uint64_t world, uint64_t x) { return vizturel_set(s, WORDS, world, IN(x), IN(x), 1).refusal; }
 
-static uint64_t runs_of(uint64_t world) { return vizturel_count_ranges(s, WORDS, world, ALL, ALL, 1).number; }
+static uint64_t runs_of(uint64_t world) { return vizturel_tally(s, WORDS, world, ALL, ALL, 1).runs; }
 
 /* 11, after 1; what a refused making leaves; and what is no mistake */
 static void making(void) {
@@ -699,9 +709,9 @@ static void apart(void) {
     vizturel_written w;
     CHECK(vizturel_new(s, WORDS, LIMITS(limits)) == VIZTUREL_DONE);
     CHECK(vizturel_build(s, WORDS, 0, first, 4) == VIZTUREL_DONE && vizturel_build(s, WORDS, 2, third, 2) == VIZTUREL_DONE);
-    CHECK(is_count(vizturel_count(s, WORDS, 0, ALL, ALL, 1), 16));
-    CHECK(is_count(vizturel_count(s, WORDS, 1, ALL, ALL, 1), 0));
-    CHECK(vizturel_count(s, WORDS, 2, ALL, ALL, 1).carry == 1);
+    CHECK(is_tally(vizturel_tally(s, WORDS, 0, ALL, ALL, 1), 16, 2));
+    CHECK(is_tally(vizturel_tally(s, WORDS, 1, ALL, ALL, 1), 0, 0));
+    CHECK(is_full(vizturel_tally(s, WORDS, 2, ALL, ALL, 1)));
     /* two worlds of one pool are compared as they are; one is made of the other by a copy of the pool */
     CHECK(vizturel_eq(s, WORDS, 0, s, WORDS, 1).value == 0 && vizturel_eq(s, WORDS, 0, s, WORDS, 0).value == 1);
     memcpy(a, s, sizeof s);
@@ -715,7 +725,7 @@ static void apart(void) {
     CHECK(vizturel_combine(s, WORDS, 1, VIZTUREL_AND, a, WORDS, 0, a, WORDS, 2) == VIZTUREL_DONE && holds(s, WORDS, 2, first));
     CHECK(vizturel_shift(s, WORDS, 1, 30, 0) == VIZTUREL_DONE && holds(s, WORDS, 0, NULL));
     here = 0;
-    CHECK(holds(s, WORDS, 2, first) && vizturel_count(s, WORDS, 2, ALL, ALL, 1).carry == 1);
+    CHECK(holds(s, WORDS, 2, first) && is_full(vizturel_tally(s, WORDS, 2, ALL, ALL, 1)));
 }
 
 /* 12, after 1 and 7 of any pool and before every other; 7 of the pool that receives */
@@ -769,14 +779,14 @@ static void lists_of_worlds(void) {
     list[3] = ask_at(M, VIZTUREL_CALL_FILL, IN(0), IN(0), 0);
     list[4] = ask_at(1, VIZTUREL_CALL_FIND, ALL, ALL, 1);
     list[5] = ask_at(0, VIZTUREL_CALL_EMPTY, ALL, ALL, 1);
-    list[6] = ask_at(0, VIZTUREL_CALL_COUNT, ALL, ALL, 1);
-    list[7] = ask_at(1, VIZTUREL_CALL_COUNT, ALL, ALL, 1);
+    list[6] = ask_at(0, VIZTUREL_CALL_TALLY, ALL, ALL, 1);
+    list[7] = ask_at(1, VIZTUREL_CALL_TALLY, ALL, ALL, 1);
     for (i = 0; i < 4; i++) list[8 + i] = ask_at(2, VIZTUREL_CALL_SET, IN(2 * i), IN(2 * i), 1);
     CHECK(play(12) == VIZTUREL_DONE);
     CHECK(is(told[0], 0, 0, 6, 0, 0, 0, 0) && is(told[1], 0, 0, 2, 0, 0, 0, 0));
     CHECK(is(told[2], VIZTUREL_WORLD_UNOPENED, 0, 0, 0, 0, 0, 0) && is(told[3], VIZTUREL_WORLD_UNOPENED, 0, 0, 0, 0, 0, 0));
     CHECK(is(told[4], 0, 1, 4, 0, 0, 0, 0) && is(told[5], 0, 0, 0, 0, 0, 0, 0));
-    CHECK(is(told[6], 0, 0, 0, 0, 0, 0, 0) && is(told[7], 0, 0, 2, 0, 0, 0, 0));
+    CHECK(is(told[6], 0, 0, 0, 0, 0, 0, 0) && is(told[7], 0, 0, 2, 1, 0, 0, 0));
     CHECK(is(told[10], 0, 0, 1, 0, 0, 0, 0) && is(told[11], VIZTUREL_CAPACITY, 0, 0, 0, 0, 0, 0));
     CHECK(runs_of(0) == 0 && runs_of(1) == 1 && runs_of(2) == 3);
 }

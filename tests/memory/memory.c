@@ -97,7 +97,7 @@ static size_t set_length;
 #define MAP_LENGTH 100
 #define MAP_BYTES ((MAP_LENGTH + 7) / 8)
 #define LIST_RUNS 3
-#define CALLS 16 /* each call of a frame once, and a number that names none */
+#define CALLS 17 /* each number up to the last that names a call once, and one that names none */
 #define RECORD sizeof(vizturel_call)
 
 static const vizturel_bound lowers[] = {{0, 0}, {1, 0}, {1, 40}, {2, M}, {1, M}, {1, UINT64_C(1) << 63}};
@@ -124,9 +124,8 @@ static void reading_calls(pool s, uint64_t at, uint64_t told) {
         lower = lowers[chance(RANGES)];
         upper = uppers[chance(RANGES)];
         CHECK(vizturel_find(w, n, at, lower, upper, v).refusal == told);
-        CHECK(vizturel_count(w, n, at, lower, upper, v).refusal == told);
+        CHECK(vizturel_tally(w, n, at, lower, upper, v).refusal == told);
         CHECK(vizturel_select(w, n, at, lower, upper, v, chance(40)).refusal == told);
-        CHECK(vizturel_count_ranges(w, n, at, lower, upper, v).refusal == told);
         CHECK(vizturel_ranges(w, n, at, lower, upper, v).refusal == told);
     }
     /* the lowest gap starts with the first free run that is long enough */

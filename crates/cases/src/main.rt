@@ -22,6 +22,7 @@ use model::Numbered;
 use model::Operation;
 use model::Refusal;
 use model::Run;
+use model::Tallied;
 use model::Written;
 use store::Store;
 
@@ -82,6 +83,14 @@ fn numbered(n: Numbered) {
     match n {
         Numbered::Refused(r) => refused(r),
         Numbered::Number(k) => number(k),
+    }
+}
+
+// The positions of a tally.
+fn tallied(t: Tallied) {
+    match t {
+        Tallied::Refused(r) => refused(r),
+        Tallied::Tally(n) => count(n.count),
     }
 }
 
@@ -180,7 +189,7 @@ fn held(words: &[u64]) {
 }
 
 fn counts(words: &[u64]) {
-    counted(report::count(words, 0, Bound::Unbounded, Bound::Unbounded, true));
+    tallied(report::tally(words, 0, Bound::Unbounded, Bound::Unbounded, true));
 }
 
 // ---- the cases

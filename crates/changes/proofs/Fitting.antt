@@ -10,7 +10,7 @@ use lib.Dec.{leb}
 use borrow.Author.Tests.{le-leb, lt-leb, lt-ltb, le-ltb}
 use Rattle.model.specs.Numbers.{size}
 use Rattle.model.proofs.Numbers.{split}
-use Rattle.model.specs.Positions.{Positions, oneIf, countRanges, setRange, stretches}
+use Rattle.model.specs.Positions.{Positions, oneIf, runCount, setRange, stretches}
 use Rattle.model.proofs.Counting.{one-bound}
 use Rattle.model.proofs.Runs.{stretches-is}
 use Rattle.model.specs.Neighbours.{goesOn, heldBelow, heldAbove}
@@ -100,7 +100,7 @@ pub record Tallied (P : Positions) (a b total inside on past : ℕ) : Type 0 whe
   pub below : b < size
   pub few : stretches P ≤ 65566
   pub total-is : total ≡ stretches P
-  pub inside-is : inside ≡ countRanges P true a (suc b - a)
+  pub inside-is : inside ≡ runCount P true a (suc b - a)
   pub on-is : on ≡ oneIf (goesOn P a)
   pub past-is : past ≡ oneIf (goesOn P (suc b))
 

@@ -8,7 +8,7 @@ use native.Mathlib.Omega.{arith}
 use borrow.Author.Tests.{lt-ltb}
 use Rattle.model.specs.Numbers.{size}
 use Rattle.model.proofs.Numbers.{split}
-use Rattle.model.specs.Positions.{Positions, oneIf, countRanges, stretches, setRange, flipRange}
+use Rattle.model.specs.Positions.{Positions, oneIf, runCount, stretches, setRange, flipRange}
 use Rattle.model.specs.Neighbours.{goesOn, heldBelow, heldAbove}
 use Rattle.model.proofs.After.{set-inside, set-below, set-above, flip-inside, flip-below, flip-above, flip-runs}
 use Rattle.reports.proofs.Ranks.{ranges-alternate}
@@ -27,8 +27,8 @@ module _ (P : Positions) (a n b : ℕ) (some : 0 < n) (ends : a + n ≡ suc b) (
       ∙ goesOn-changed-below P (flipRange a n P) b (not (P b)) (λ y l. flip-above a n P y (omega arith)) (flip-inside a n P b (omega arith) (omega arith))
 
   -- the runs after a flip
-  pub flip-leaves : stretches (flipRange a n P) + countRanges P true a n + oneIf (heldBelow P a) + oneIf (heldAbove P b)
-      ≡ stretches P + 2 * oneIf (goesOn P a) + 2 * oneIf (goesOn P (suc b)) + countRanges P false a n
+  pub flip-leaves : stretches (flipRange a n P) + runCount P true a n + oneIf (heldBelow P a) + oneIf (heldAbove P b)
+      ≡ stretches P + 2 * oneIf (goesOn P a) + 2 * oneIf (goesOn P (suc b)) + runCount P false a n
   flip-leaves =
       omega (
         arith,
@@ -43,10 +43,10 @@ module _ (P : Positions) (a n b : ℕ) (some : 0 < n) (ends : a + n ≡ suc b) (
       )
 
   -- runs and gaps alternate in the range
-  alternate : countRanges P false a n + oneIf (P a) + oneIf (P b) ≡ countRanges P true a n + 1
+  alternate : runCount P false a n + oneIf (P a) + oneIf (P b) ≡ runCount P true a n + 1
   alternate =
       let q : suc b - a ≡ n = omega arith in
-      subst (λ k. countRanges P false a k + oneIf (P a) + oneIf (P b) ≡ countRanges P true a k + 1) q (ranges-alternate P a b (omega arith))
+      subst (λ k. runCount P false a k + oneIf (P a) + oneIf (P b) ≡ runCount P true a k + 1) q (ranges-alternate P a b (omega arith))
 
   -- the bound, by the upper end and its neighbour
   bound : stretches (flipRange a n P) + oneIf (heldAbove P b) + oneIf (P b) ≤ stretches P + 2 * oneIf (goesOn P (suc b)) + 1

@@ -10,6 +10,7 @@ use lib.Dec.{leb}
 use borrow.Author.Tests.{le-leb}
 use Rattle.model.specs.declared.Edge.{Edge}
 use Rattle.model.specs.declared.Edge.the-variants.{At}
+use Rattle.model.specs.declared.Tally.{Tally}
 use Rattle.model.specs.Numbers.{size}
 use Rattle.model.proofs.Numbers.{split}
 use Rattle.model.specs.Positions.{Positions, oneIf, stretches, setRange, flipRange}
@@ -23,7 +24,6 @@ use Rattle.store.specs.Soundness.{Share, Still, Standing, Limited}
 use Rattle.store.specs.Settle.{Became}
 use Rattle.store.proofs.Nodes.{still-then, still-same}
 use Rattle.store.proofs.Settling.{became-limited}
-use Rattle.reports.specs.declared.physical.Tally.{Tally}
 use Rattle.reports.specs.Reports.{Measured, Next}
 use Rattle.reports.proofs.Ranks.{ranges-alternate}
 use Rattle.reports.proofs.Seeking.{Past, none-next}

@@ -10,7 +10,7 @@ use lib.ListN.{length}
 use borrow.Author.Tests.{lt-ltb}
 use Rattle.model.specs.declared.Run.{Run}
 use Rattle.model.specs.Numbers.{size}
-use Rattle.model.specs.Positions.{Positions, oneIf, runsIn, countRanges, mem}
+use Rattle.model.specs.Positions.{Positions, oneIf, runsIn, runCount, mem}
 use Rattle.model.proofs.Counting.{among-yes}
 use Rattle.model.proofs.Runs.{runsIn-mem}
 use Rattle.model.specs.Neighbours.{goesOn, heldBelow, heldAbove}
@@ -67,8 +67,8 @@ goesOn-changed-below P R x v f e = goesOn-above R x ∙ ap₂ (λ b d. (ltb (suc
 
 -- ---- how many runs
 -- a range with a held position has a run
-pub ranges-some : (P : Positions) (a n x : ℕ) → a ≤ x → x < a + n → oneIf (P x) ≤ countRanges P true a n
-unfolding countRanges
+pub ranges-some : (P : Positions) (a n x : ℕ) → a ≤ x → x < a + n → oneIf (P x) ≤ runCount P true a n
+unfolding runCount
 ranges-some P a n x h l = go (P x) refl (runsIn P true a n) (runsIn-mem P true a n x ∙ ap (λ t. t && Bool·beq (P x) true) (among-yes a n x h l))
   where
     go : (b : Bool) → P x ≡ b → (rs : List Run) → mem rs x ≡ Bool·beq (P x) true → oneIf b ≤ length rs

@@ -7,7 +7,7 @@ use mathlib.Core.Bool.{Bool, true, false, not, _&&_, and-true, and-false, and-co
 use native.Mathlib.Omega.{arith}
 use Rattle.model.specs.Numbers.{size}
 use Rattle.model.proofs.Numbers.{split}
-use Rattle.model.specs.Positions.{Positions, oneIf, count, countRanges, stretches, setRange}
+use Rattle.model.specs.Positions.{Positions, oneIf, count, runCount, stretches, setRange}
 use Rattle.model.proofs.Counting.{count-cut, count-all, one-bound}
 use Rattle.model.proofs.Runs.{stretches-cong}
 use Rattle.model.specs.Neighbours.{goesOn, heldBelow, heldAbove}
@@ -32,7 +32,7 @@ module _ (P : Positions) (a n b : ℕ) (some : 0 < n) (ends : a + n ≡ suc b) (
 
   -- the runs after a set to either value
   set-leaves : (v : Bool)
-      → stretches (setRange a n v P) + countRanges P true a n + oneIf (heldBelow P a && v) + oneIf (v && heldAbove P b)
+      → stretches (setRange a n v P) + runCount P true a n + oneIf (heldBelow P a && v) + oneIf (v && heldAbove P b)
       ≡ stretches P + oneIf (goesOn P a) + oneIf (goesOn P (suc b)) + oneIf v
   set-leaves v =
       omega (
@@ -44,24 +44,24 @@ module _ (P : Positions) (a n b : ℕ) (some : 0 < n) (ends : a + n ≡ suc b) (
       )
 
   -- the runs after a set to true
-  pub set-true-leaves : stretches (setRange a n true P) + countRanges P true a n + oneIf (heldBelow P a) + oneIf (heldAbove P b)
+  pub set-true-leaves : stretches (setRange a n true P) + runCount P true a n + oneIf (heldBelow P a) + oneIf (heldAbove P b)
       ≡ stretches P + oneIf (goesOn P a) + oneIf (goesOn P (suc b)) + 1
   set-true-leaves = omega (arith, set-leaves true, ap oneIf (and-true (heldBelow P a)))
 
   -- the runs after a set to false
-  pub set-false-leaves : stretches (setRange a n false P) + countRanges P true a n ≡ stretches P + oneIf (goesOn P a) + oneIf (goesOn P (suc b))
+  pub set-false-leaves : stretches (setRange a n false P) + runCount P true a n ≡ stretches P + oneIf (goesOn P a) + oneIf (goesOn P (suc b))
   set-false-leaves = omega (arith, set-leaves false, ap oneIf (and-false (heldBelow P a)))
 
   -- a run that goes on over an end x of the range is in the range
-  end-in : (y x : ℕ) (h : Bool) → goesOn P y ≡ (h && P x) → a ≤ x → x < a + n → oneIf (goesOn P y) ≤ countRanges P true a n
+  end-in : (y x : ℕ) (h : Bool) → goesOn P y ≡ (h && P x) → a ≤ x → x < a + n → oneIf (goesOn P y) ≤ runCount P true a n
   end-in y x h e l u = omega (arith, ap oneIf e, both-second h (P x), ranges-some P a n x l u)
 
   -- over the lower end
-  pub below-in : oneIf (goesOn P a) ≤ countRanges P true a n
+  pub below-in : oneIf (goesOn P a) ≤ runCount P true a n
   below-in = end-in a a (heldBelow P a) (goesOn-below P a (omega arith)) (omega arith) (omega arith)
 
   -- over the upper one
-  pub above-in : oneIf (goesOn P (suc b)) ≤ countRanges P true a n
+  pub above-in : oneIf (goesOn P (suc b)) ≤ runCount P true a n
   above-in = end-in (suc b) b (heldAbove P b) (goesOn-above P b) (omega arith) (omega arith)
 
   -- at most one run more
@@ -116,7 +116,7 @@ clear-end : (P : Positions) (a n : ℕ) → (a ≡ 0) ⊎ (a + n ≡ size) → a
 clear-end P a zero end t = omega (arith, stretches-cong (setRange a 0 false P) P (λ x h. set-nothing P a 0 false (count-all P true a 0 (λ y k l. absurd (omega arith))) x))
 clear-end P a (suc m) end t = go end
   where
-    leaves : stretches (setRange a (suc m) false P) + countRanges P true a (suc m) ≡ stretches P + oneIf (goesOn P a) + oneIf (goesOn P (suc (a + m)))
+    leaves : stretches (setRange a (suc m) false P) + runCount P true a (suc m) ≡ stretches P + oneIf (goesOn P a) + oneIf (goesOn P (suc (a + m)))
     leaves = set-false-leaves P a (suc m) (a + m) (omega arith) (omega arith) (omega arith)
 
     go : (a ≡ 0) ⊎ (a + suc m ≡ size) → stretches (setRange a (suc m) false P) ≤ stretches P

@@ -16,7 +16,7 @@ use Rattle.model.specs.Positions
 use Rattle.model.specs.Positions.{Positions, firstRun, lastRun, listed, remaining, pastFirst, pastLast}
 use Rattle.model.specs.Bytes.{fillOf}
 use Rattle.model.specs.Refusals.{storeLength, worldLimits, gapLength, window, Condition, _when_, refusal, badLimits, badGap, badWindow}
-use Rattle.model.specs.Call.{wrongLength, unsound, unopened, Call, Result, done, number, value, around, position, listing, drawn, Answer, refused, gave}
+use Rattle.model.specs.Call.{wrongLength, unsound, unopened, Call, Result, done, number, tallied, value, around, position, listing, drawn, Answer, refused, gave}
 use Rattle.model.specs.Model.{Outcome, positionsOf, reads, settle, report, drawnFirst, drawnLast, serve}
 use Rattle.model.specs.Pools.{worldOf, fedBy, emptyWorlds, PoolOutcome, settleMake, makeBy}
 use Rattle.store.specs.declared.World.{World}
@@ -162,20 +162,16 @@ module _ (w : List ℕ) (i : ℕ) where
   unfolding outcomeOf serve
   find-says l u v = record { said = refl }
 
-  -- how many positions a range has
-  pub count-says : (l u : Bound) (v : Bool) → Reports w i (Call.count l u v) [] (λ P. number (Positions.count P v (firstAllowed l) (extent l u)))
+  -- how many positions a range has, and how many runs
+  pub tally-says : (l u : Bound) (v : Bool)
+      → Reports w i (Call.tally l u v) [] (λ P. tallied (Positions.count P v (firstAllowed l) (extent l u)) (Positions.runCount P v (firstAllowed l) (extent l u)))
   unfolding outcomeOf serve
-  count-says l u v = record { said = refl }
+  tally-says l u v = record { said = refl }
 
   -- the k-th position of a range
   pub select-says : (l u : Bound) (v : Bool) (k : ℕ) → Reports w i (Call.select l u v k) [] (λ P. position (Positions.select P v (firstAllowed l) (extent l u) k))
   unfolding outcomeOf serve
   select-says l u v k = record { said = refl }
-
-  -- how many runs a range has
-  pub count-ranges-says : (l u : Bound) (v : Bool) → Reports w i (Call.countRanges l u v) [] (λ P. number (Positions.countRanges P v (firstAllowed l) (extent l u)))
-  unfolding outcomeOf serve
-  count-ranges-says l u v = record { said = refl }
 
   -- the lowest gap of a range
   pub gap-says : (l u : Bound) (n : ℕ) → Reports w i (Call.gap l u n) (gapLength when badGap n ∷ []) (λ P. position (Positions.gap P (firstAllowed l) (extent l u) n))

@@ -50,9 +50,8 @@ module _ (full : ℕ → Bool) (s : Fed) where
   served (Call.get x) = reports _ _
   served (Call.runAt x) = reports _ _
   served (Call.find l u v) = reports _ _
-  served (Call.count l u v) = reports _ _
+  served (Call.tally l u v) = reports _ _
   served (Call.select l u v k) = reports _ _
-  served (Call.countRanges l u v) = reports _ _
   served (Call.gap l u n) = reports _ _
   served (Call.ranges l u v) = reports _ _
   served (Call.drawFront l) = reports _ _

@@ -14,7 +14,7 @@ use Rattle.model.specs.declared.Edge.the-variants.{At, Nowhere}
 use Rattle.model.specs.declared.Span.{Span}
 use Rattle.model.specs.declared.Span.the-variants.{Empty, Closed}
 use Rattle.model.specs.Range.{firstAllowed, pastAllowed, extent, spanOf}
-use Rattle.model.specs.Positions.{Positions, find, count, select, countRanges, gap, ended, listed}
+use Rattle.model.specs.Positions.{Positions, find, count, select, runCount, gap, ended, listed}
 use Rattle.model.proofs.Counting.{count-none}
 use Rattle.model.proofs.Runs.{runsIn-none}
 use Rattle.model.proofs.Finds.{find-none, select-none}
@@ -89,8 +89,8 @@ module _ (P : Positions) (v : Bool) (a n : ℕ) (e : n ≡ 0) where
   select-nothing k = sym (select-none P v a n k (omega (arith, count-nothing)))
 
   -- no run
-  pub ranges-nothing : 0 ≡ countRanges P v a n
-  unfolding countRanges
+  pub ranges-nothing : 0 ≡ runCount P v a n
+  unfolding runCount
   ranges-nothing = sym (ap length (runsIn-none P v a n nothing))
 
 -- a listing of it has ended

@@ -1,12 +1,11 @@
 // The calls that report, and leave the pool as it is.
 ghost use mathlib.Core.Path.{_≡_};
 ghost use Rattle.model.specs.Call.{Call};
-ghost use Rattle.model.specs.Answers.{countedAnswer, numberedAnswer, testedAnswer, aroundAnswer, foundAnswer, listedAnswer};
+ghost use Rattle.model.specs.Answers.{numberedAnswer, talliedAnswer, testedAnswer, aroundAnswer, foundAnswer, listedAnswer};
 ghost use Rattle.core.specs.Met.{Readable, Met, foundEdge};
 use model::Around;
 use model::Bound;
 use model::Count;
-use model::Counted;
 use model::Edge;
 use model::Found;
 use model::Listed;
@@ -15,6 +14,8 @@ use model::Logical;
 use model::Numbered;
 use model::Refusal;
 use model::Span;
+use model::Tallied;
+use model::Tally;
 use model::Tested;
 
 // The value of position x.
@@ -60,19 +61,20 @@ pub fn find(words: &[u64], world: u64, lower: Bound, upper: Bound, value: bool) 
     }
 }
 
-// An empty range has no position.
-pub fn count(words: &[u64], world: u64, lower: Bound, upper: Bound, value: bool) -> Counted
+// An empty range has no position and no run.
+pub fn tally(words: &[u64], world: u64, lower: Bound, upper: Bound, value: bool) -> Tallied
     requires { ⌜ Readable (now words) world ⌝ }
-    ensures { λ r. ⌜ Met (now (words .entry)) world (Call.count lower upper value) (countedAnswer r) (now (words .entry)) ⌝ }
+    ensures { λ r. ⌜ Met (now (words .entry)) world (Call.tally lower upper value) (talliedAnswer r) (now (words .entry)) ⌝ }
 {
     let s = model::normalize(lower, upper);
     match s {
-        Span::Empty => Counted::Count(Count { carry: 0, low: 0 }),
+        Span::Empty => Tallied::Tally(Tally {
+            count: Count { carry: 0, low: 0 },
+            runs: 0,
+        }),
         Span::Closed(a, b) => {
             let h = store::open(words, world);
-            let t = reports::logical::tally(&words[128..], h, Logical(a), Logical(b), value);
-            let c = t.count;
-            Counted::Count(c)
+            Tallied::Tally(reports::logical::tally(&words[128..], h, Logical(a), Logical(b), value))
         }
     }
 }
@@ -106,22 +108,6 @@ pub fn gap(words: &[u64], world: u64, lower: Bound, upper: Bound, n: u64) -> Fou
         Span::Closed(a, b) => {
             let h = store::open(words, world);
             found(streams::gaps::lowest_gap(&words[128..], h, Logical(a), Logical(b), n))
-        }
-    }
-}
-
-// An empty range has no run.
-pub fn count_ranges(words: &[u64], world: u64, lower: Bound, upper: Bound, value: bool) -> Numbered
-    requires { ⌜ Readable (now words) world ⌝ }
-    ensures { λ r. ⌜ Met (now (words .entry)) world (Call.countRanges lower upper value) (numberedAnswer r) (now (words .entry)) ⌝ }
-{
-    let s = model::normalize(lower, upper);
-    match s {
-        Span::Empty => Numbered::Number(0),
-        Span::Closed(a, b) => {
-            let h = store::open(words, world);
-            let t = reports::logical::tally(&words[128..], h, Logical(a), Logical(b), value);
-            Numbered::Number(t.runs)
         }
     }
 }

@@ -6,6 +6,7 @@ use Rattle.flat.specs.Flat.{boundBy}
 use Rattle.exports.specs.declared.structs.CBound.{CBound}
 use Rattle.exports.specs.declared.structs.CCounted.{CCounted}
 use Rattle.exports.specs.declared.structs.CNumbered.{CNumbered}
+use Rattle.exports.specs.declared.structs.CTallied.{CTallied}
 use Rattle.exports.specs.declared.structs.CTested.{CTested}
 use Rattle.exports.specs.declared.structs.CAround.{CAround}
 use Rattle.exports.specs.declared.structs.CFound.{CFound}
@@ -22,13 +23,17 @@ boundOf b = boundBy (b .kind) (b .value)
 abbrev pub refusalOf : Reply → ℕ
 refusalOf r = r .refusal
 
--- set, read_map, count
+-- set, read_map
 abbrev pub countOf : Reply → CCounted
 countOf r = record { refusal = r .refusal; carry = r .found; low = r .number }
 
--- count_ranges, fill, clear_map
+-- fill, clear_map
 abbrev pub numberOf : Reply → CNumbered
 numberOf r = record { refusal = r .refusal; number = r .number }
+
+-- tally
+abbrev pub talliedOf : Reply → CTallied
+talliedOf r = record { refusal = r .refusal; carry = r .found; low = r .number; runs = r .«end» }
 
 -- get, eq
 abbrev pub valueOf : Reply → CTested

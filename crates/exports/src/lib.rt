@@ -9,7 +9,7 @@ ghost use Rattle.model.specs.Clearing.{clearMap};
 ghost use Rattle.core.specs.Met.{site};
 ghost use Rattle.interval_bit_set.specs.Lent.{listingOf};
 ghost use Rattle.flat.specs.Flat.{operationOf, truth};
-ghost use Rattle.exports.specs.Structs.{boundOf, refusalOf, countOf, numberOf, valueOf, runOf, positionOf, listedOf, drawnOf};
+ghost use Rattle.exports.specs.Structs.{boundOf, refusalOf, countOf, numberOf, talliedOf, valueOf, runOf, positionOf, listedOf, drawnOf};
 ghost use Rattle.exports.specs.Returns.{Makes, Returns, Writes, Handed, Frames};
 use crate::structs::CAround;
 use crate::structs::CBound;
@@ -18,6 +18,7 @@ use crate::structs::CDrawn;
 use crate::structs::CFound;
 use crate::structs::CListed;
 use crate::structs::CNumbered;
+use crate::structs::CTallied;
 use crate::structs::CTested;
 use crate::structs::CWritten;
 use model::Listing;
@@ -109,18 +110,18 @@ pub extern "C" fn vizturel_find(
     )))
 }
 
-// How many positions of a range have the value.
+// How many positions of a range have the value, and in how many runs.
 #[no_mangle]
-pub extern "C" fn vizturel_count(
+pub extern "C" fn vizturel_tally(
     words: &[u64],
     world: u64,
     lower: CBound,
     upper: CBound,
     value: u64,
-) -> CCounted
-    ensures { λ r. ⌜ Returns (now (words .entry)) world (Call.count (boundOf lower) (boundOf upper) (truth value)) countOf r (now (words .entry)) ⌝ }
+) -> CTallied
+    ensures { λ r. ⌜ Returns (now (words .entry)) world (Call.tally (boundOf lower) (boundOf upper) (truth value)) talliedOf r (now (words .entry)) ⌝ }
 {
-    structs::count(flat::counted(interval_bit_set::report::count(
+    structs::tally(flat::tallied(interval_bit_set::report::tally(
         words,
         world,
         structs::bound(lower),
@@ -168,26 +169,6 @@ pub extern "C" fn vizturel_gap(
         structs::bound(lower),
         structs::bound(upper),
         n,
-    )))
-}
-
-// How many runs of the value a range has.
-#[no_mangle]
-pub extern "C" fn vizturel_count_ranges(
-    words: &[u64],
-    world: u64,
-    lower: CBound,
-    upper: CBound,
-    value: u64,
-) -> CNumbered
-    ensures { λ r. ⌜ Returns (now (words .entry)) world (Call.countRanges (boundOf lower) (boundOf upper) (truth value)) numberOf r (now (words .entry)) ⌝ }
-{
-    structs::number(flat::numbered(interval_bit_set::report::count_ranges(
-        words,
-        world,
-        structs::bound(lower),
-        structs::bound(upper),
-        value != 0,
     )))
 }
 

@@ -1,7 +1,7 @@
 // What crosses to C: numbers, slices and structs of numbers. A bound is a kind and a value; an answer is the part of a reply that its call
 // gives, and begins with its refusal's number, 0 where the call was not refused.
 ghost use mathlib.Core.Path.{_≡_};
-ghost use Rattle.exports.specs.Structs.{boundOf, countOf, numberOf, valueOf, runOf, positionOf, listedOf, drawnOf, writtenOf};
+ghost use Rattle.exports.specs.Structs.{boundOf, countOf, numberOf, talliedOf, valueOf, runOf, positionOf, listedOf, drawnOf, writtenOf};
 use flat::Reply;
 use model::Bound;
 
@@ -12,7 +12,7 @@ pub struct CBound {
     pub value: u64,
 }
 
-// How many positions: carry times 2^64, and low.
+// How many positions changed: carry times 2^64, and low.
 #[repr(C)]
 pub struct CCounted {
     pub refusal: u64,
@@ -20,11 +20,20 @@ pub struct CCounted {
     pub low: u64,
 }
 
-// A number of runs, of thousandths, or of bits.
+// A number of thousandths, or of bits.
 #[repr(C)]
 pub struct CNumbered {
     pub refusal: u64,
     pub number: u64,
+}
+
+// How many positions, carry times 2^64, and low; and in how many runs.
+#[repr(C)]
+pub struct CTallied {
+    pub refusal: u64,
+    pub carry: u64,
+    pub low: u64,
+    pub runs: u64,
 }
 
 // A value: 1 for held or equal, 0 for not.
@@ -84,7 +93,7 @@ pub fn bound(b: CBound) -> Bound
     flat::bound(b.kind, b.value)
 }
 
-// What set, read_map and count return.
+// What set and read_map return.
 pub fn count(r: Reply) -> CCounted
     ensures { λ c. ⌜ c ≡ countOf r ⌝ }
 {
@@ -95,13 +104,25 @@ pub fn count(r: Reply) -> CCounted
     }
 }
 
-// What count_ranges, fill and clear_map return.
+// What fill and clear_map return.
 pub fn number(r: Reply) -> CNumbered
     ensures { λ c. ⌜ c ≡ numberOf r ⌝ }
 {
     CNumbered {
         refusal: r.refusal,
         number: r.number,
+    }
+}
+
+// What tally returns.
+pub fn tally(r: Reply) -> CTallied
+    ensures { λ c. ⌜ c ≡ talliedOf r ⌝ }
+{
+    CTallied {
+        refusal: r.refusal,
+        carry: r.found,
+        low: r.number,
+        runs: r.end,
     }
 }
 

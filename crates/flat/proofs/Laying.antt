@@ -48,8 +48,9 @@ carry-is a b h = omega arith
 low-is : (a b : ℕ) → b < size → (a * size + b) % size ≡ b
 low-is a b h = omega arith
 
-pub count-reply : (c : Count) → c .low < size → numbersOnly 0 (c .carry) (c .low) 0 ≡ numbersOnly 0 (worth c / size) (worth c % size) 0
-count-reply c h = ap₂ (λ a b. numbersOnly 0 a b 0) (sym (carry-is (c .carry) (c .low) h)) (sym (low-is (c .carry) (c .low) h))
+-- so is a count laid flat, before any last number r
+pub count-reply : (c : Count) (r : ℕ) → c .low < size → numbersOnly 0 (c .carry) (c .low) r ≡ numbersOnly 0 (worth c / size) (worth c % size) r
+count-reply c r h = ap₂ (λ a b. numbersOnly 0 a b r) (sym (carry-is (c .carry) (c .low) h)) (sym (low-is (c .carry) (c .low) h))
 
 -- a number below 2^64 carries nothing
 pub number-reply : (n : ℕ) → n < size → numbersOnly 0 0 n 0 ≡ numbersOnly 0 (n / size) (n % size) 0

@@ -8,7 +8,7 @@ use Rattle.model.specs.declared.Listing.{Listing}
 use Rattle.model.specs.declared.Operation.{Operation}
 use Rattle.model.specs.declared.Run.{Run}
 use Rattle.model.specs.Numbers.{size}
-use Rattle.model.specs.Call.{Result, done, number, value, around, position, listing, drawn, written, Answer, refused, gave}
+use Rattle.model.specs.Call.{Result, done, number, tallied, value, around, position, listing, drawn, written, Answer, refused, gave}
 use Rattle.flat.specs.declared.Reply.{Reply}
 
 -- ---- what comes in
@@ -47,10 +47,11 @@ abbrev pub positionReply : Option ℕ → Reply
 positionReply none = numbersOnly 0 0 0 0
 positionReply (some x) = numbersOnly 0 1 x 0
 
--- a result; of bytes written, how many
+-- a result; of a tally the positions' carry and low word, and the runs; of bytes written, how many
 abbrev pub resultReply : Result → Reply
 resultReply done = numbersOnly 0 0 0 0
 resultReply (number n) = numbersOnly 0 (n / size) (n % size) 0
+resultReply (tallied n r) = numbersOnly 0 (n / size) (n % size) r
 resultReply (value b) = numbersOnly 0 0 (bitOf b) 0
 resultReply (around r) = numbersOnly 0 0 (r .start) (r .«end»)
 resultReply (position o) = positionReply o

@@ -3,7 +3,7 @@
 ghost use mathlib.Core.Path.{_≡_};
 ghost use mathlib.Core.List.{List};
 ghost use Prim.Native.Nat.{ℕ};
-ghost use Rattle.model.specs.Answers.{completedAnswer, countedAnswer, numberedAnswer, testedAnswer, aroundAnswer, foundAnswer, listedAnswer, drawnAnswer, writtenAnswer};
+ghost use Rattle.model.specs.Answers.{completedAnswer, countedAnswer, numberedAnswer, talliedAnswer, testedAnswer, aroundAnswer, foundAnswer, listedAnswer, drawnAnswer, writtenAnswer};
 ghost use Rattle.flat.specs.Flat.{boundBy, operationOf, bitOf, numbersOnly, withListing, replyOf};
 use model::Around;
 use model::Bound;
@@ -16,12 +16,13 @@ use model::Listing;
 use model::Numbered;
 use model::Operation;
 use model::Refusal;
+use model::Tallied;
 use model::Tested;
 use model::Written;
 
 // An answer: the refusal's number, 0 where there is none, and then what the call gives, with zeros elsewhere. `found` is also a count's carry;
-// `number` is a count's low word, a number, a value, a position, a number of bytes, or the start of a run, and `end` its end; `first`, `last`
-// and `value` are a listing.
+// `number` is a count's low word, a number, a value, a position, a number of bytes, or the start of a run, and `end` its end; of a tally
+// `found` and `number` are the positions' carry and low word, and `end` is the number of runs; `first`, `last` and `value` are a listing.
 pub struct Reply {
     pub refusal: u64,
     pub found: u64,
@@ -112,7 +113,7 @@ pub fn completed(a: Completed) -> Reply
     }
 }
 
-// The answer of set, map reading and count.
+// The answer of set and map reading.
 pub fn counted(a: Counted) -> Reply
     ensures { λ r. ⌜ r ≡ replyOf (countedAnswer a) ⌝ }
 {
@@ -122,13 +123,23 @@ pub fn counted(a: Counted) -> Reply
     }
 }
 
-// The answer of count_ranges and fill.
+// The answer of fill and clear_map.
 pub fn numbered(a: Numbered) -> Reply
     ensures { λ r. ⌜ r ≡ replyOf (numberedAnswer a) ⌝ }
 {
     match a {
         Numbered::Refused(r) => refused(r),
         Numbered::Number(n) => numbers(0, 0, n, 0),
+    }
+}
+
+// The answer of tally.
+pub fn tallied(a: Tallied) -> Reply
+    ensures { λ r. ⌜ r ≡ replyOf (talliedAnswer a) ⌝ }
+{
+    match a {
+        Tallied::Refused(r) => refused(r),
+        Tallied::Tally(t) => numbers(0, t.count.carry, t.count.low, t.runs),
     }
 }
 

@@ -1,10 +1,13 @@
 -- Serving a record: the call of its kind, with the bounds that its words tell, was made; or its world was not opened. Assumes nothing.
-use Prim.Native.Nat.{ℕ, _≤_}
-use mathlib.Core.Path.{_≡_, refl, sym, ap₂, _∙_, subst}
+use Prim.Native.Nat.{ℕ, _-_, _≤_}
+use mathlib.Core.Path.{_≡_, refl, sym, ap, ap₂, _∙_, subst}
+use mathlib.Core.Bool.{true, cond}
 use mathlib.Core.List.{List, []}
 use mathlib.Core.Option.{none}
+use native.Mathlib.Omega.{arith}
 use Rattle.model.specs.declared.Bound.{Bound}
 use Rattle.model.specs.declared.Refusal.the-variants.{WorldUnopened}
+use Rattle.model.specs.Numbers.{size}
 use Rattle.model.specs.Positions.{Positions}
 use Rattle.model.specs.Refusals.{looks, Condition, firstGiven}
 use Rattle.model.specs.Call.{Call, Result, Answer, refused}
@@ -16,14 +19,13 @@ use Rattle.core.proofs.Meeting.{
   get-says,
   run-at-says,
   find-says,
-  count-says,
   select-says,
-  count-ranges-says,
   ranges-says,
   draw-front-says,
   draw-back-says,
   fill-says,
   gap-says,
+  tally-says,
 }
 use Rattle.core.proofs.Changing.{Changes, set-says, flip-says, shift-says}
 use Rattle.core.proofs.Overwriting.{build-says}
@@ -33,13 +35,17 @@ use Rattle.frame.specs.declared.entry.Kind.{Kind}
 use Rattle.frame.specs.declared.entry.Entry.{Entry}
 use Rattle.flat.specs.declared.Reply.{Reply}
 use Rattle.flat.specs.Flat.{replyOf}
-use Rattle.frame.specs.Records.{kindOf, callBy, callOf}
-use Rattle.frame.specs.Serving.{Serves}
+use Rattle.frame.specs.Records.{kindOf, callBy, withdrawn, worldBy}
+use Rattle.frame.specs.Serving.{ServesAt, Serves}
 
 -- the kind that was named is that of the record
-pub serves : {w w′ : List ℕ} (e : Entry) {r : Reply} {a : Answer} (k : Kind) {q : Kind} → q ≡ k → q ≡ kindOf (e .call)
-    → Met w (e .world) (callBy k e) a w′ → r ≡ replyOf a → Serves w e r w′
-serves {w} {w′} e {a = a} k p n m f = (a, subst (λ j. Met w (e .world) (callBy j e) a w′) (sym p ∙ n) m, f)
+pub serves : {w w′ : List ℕ} {i : ℕ} (e : Entry) {r : Reply} {a : Answer} (k : Kind) {q : Kind} → q ≡ k → q ≡ kindOf (e .call)
+    → Met w i (callBy k e) a w′ → r ≡ replyOf a → ServesAt w i e r w′
+serves {w} {w′} {i} e {a = a} k p n m f = (a, subst (λ j. Met w i (callBy j e) a w′) (sym p ∙ n) m, f)
+
+-- the world is the one that the record asks at
+pub serves-there : {w w′ : List ℕ} {i : ℕ} (e : Entry) {r : Reply} → i ≡ worldBy e → ServesAt w i e r w′ → Serves w e r w′
+serves-there {w} {w′} e {r} p s = subst (λ j. ServesAt w j e r w′) p s
 
 -- the bounds of the call are those told
 pub ranged : {w w′ : List ℕ} {i : ℕ} {a : Answer} (f : Bound → Bound → Call Site) {l u l′ u′ : Bound} → l ≡ l′ → u ≡ u′ → Met w i (f l u) a w′
@@ -67,16 +73,21 @@ module _ {w : List ℕ} {i : ℕ} (S : Sound w) (h : openedAt w ≤ i) (e : Entr
   twelve Kind.Shift = sent (shift-says w i _ _) refl
   twelve Kind.RunAt = away (run-at-says w i _) refl
   twelve Kind.Find = away (find-says w i _ _ _) refl
-  twelve Kind.Count = away (count-says w i _ _ _) refl
   twelve Kind.Select = away (select-says w i _ _ _ _) refl
-  twelve Kind.CountRanges = away (count-ranges-says w i _ _ _) refl
   twelve Kind.Ranges = away (ranges-says w i _ _ _) refl
   twelve Kind.DrawFront = away (draw-front-says w i _) refl
   twelve Kind.DrawBack = away (draw-back-says w i _) refl
   twelve Kind.Fill = away (fill-says w i _ _) refl
   twelve Kind.Gap = away (gap-says w i _ _ _) refl
+  twelve Kind.Tally = away (tally-says w i _ _ _) refl
   twelve Kind.Get = away (get-says w i _) refl
 
   -- as a record is served
-  pub unopened-served : {r : Reply} → i ≡ e .world → r ≡ replyOf (refused 12) → Serves w e r w
-  unopened-served p f = (refused 12, subst (λ j. Met w j (callOf e) (refused 12) w) p (twelve (kindOf (e .call))), f)
+  pub unopened-served : {r : Reply} → i ≡ worldBy e → r ≡ replyOf (refused 12) → Serves w e r w
+  unopened-served p f = serves-there e p (refused 12, twelve (kindOf (e .call)), f)
+
+-- so a record of 7 or of 9 is refused with 12, whatever world it names: no pool has as many as the one that it asks at
+pub withdrawn-served : {w : List ℕ} (e : Entry) {r : Reply} → Sound w → withdrawn (e .call) ≡ true → r ≡ replyOf (refused 12) → Serves w e r w
+withdrawn-served {w} e S h f =
+    let far : openedAt w ≤ size - 1 = omega (arith, S .few) in
+    unopened-served S far e (sym (ap (λ t. cond t (size - 1) (e .world)) h)) f

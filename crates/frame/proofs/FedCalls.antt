@@ -20,14 +20,13 @@ fed-kind f Kind.Flip e = refl
 fed-kind f Kind.Shift e = refl
 fed-kind f Kind.RunAt e = refl
 fed-kind f Kind.Find e = refl
-fed-kind f Kind.Count e = refl
 fed-kind f Kind.Select e = refl
-fed-kind f Kind.CountRanges e = refl
 fed-kind f Kind.Ranges e = refl
 fed-kind f Kind.DrawFront e = refl
 fed-kind f Kind.DrawBack e = refl
 fed-kind f Kind.Fill e = refl
 fed-kind f Kind.Gap e = refl
+fed-kind f Kind.Tally e = refl
 fed-kind f Kind.Get e = refl
 
 pub fed-same : (e : Entry) → feed fedAt (callOf e) ≡ callOf e

@@ -18,7 +18,7 @@ use Rattle.core.proofs.Simulation.{Holds, answer-is, step-holds}
 use Rattle.frame.specs.declared.entry.Entry.{Entry}
 use Rattle.flat.specs.declared.Reply.{Reply}
 use Rattle.flat.specs.Flat.{replyOf}
-use Rattle.frame.specs.Records.{entryAt, callOf, poolCallOf, callsFrom, wordsOf, recordsOf}
+use Rattle.frame.specs.Records.{entryAt, callOf, worldBy, poolCallOf, callsFrom, wordsOf, recordsOf}
 use Rattle.frame.specs.Serving.{Serves, Plays}
 use Rattle.frame.proofs.FedCalls.{fed-same, records-length}
 
@@ -40,14 +40,14 @@ left-long : (w w′ : List ℕ) (i : ℕ) (P : Positions) (a : Answer) → Leave
 left-long w w′ i P (refused n) l = ap length l
 left-long w w′ i P (gave r) l = l .long
 
-module _ {C : ℕ} {ws : List PlainWorld} {w w′ : List ℕ} {a : Answer} (e : Entry) (H : Holds C ws w) (m : Met w (e .world) (callOf e) a w′) where
+module _ {C : ℕ} {ws : List PlainWorld} {w w′ : List ℕ} {a : Answer} (e : Entry) (H : Holds C ws w) (m : Met w (worldBy e) (callOf e) a w′) where
   -- a record is answered as the model answers its call
   answer-of : a ≡ (step C ws (poolCallOf e)) .answer
-  answer-of = answer-is H m ∙ ap (λ c. (step C ws (at (e .world) c)) .answer) (fed-same e)
+  answer-of = answer-is H m ∙ ap (λ c. (step C ws (at (worldBy e) c)) .answer) (fed-same e)
 
   -- and leaves what the model does
   holds-of : Holds C ((step C ws (poolCallOf e)) .worlds) w′
-  holds-of = subst (λ c. Holds C ((step C ws (at (e .world) c)) .worlds) w′) (fed-same e) (step-holds H m)
+  holds-of = subst (λ c. Holds C ((step C ws (at (worldBy e) c)) .worlds) w′) (fed-same e) (step-holds H m)
 
 -- ---- lists
 -- one record, and those after it
@@ -116,7 +116,7 @@ module _ {w cs out v o : List ℕ} {n i : ℕ} (I : Playing w cs out n i v o) wh
         ∙ ap (λ s. placed 0 s out) (sym (records-more (I .said) a))
 
     -- one more record is served
-    one-more : {a : Answer} {v′ o′ : List ℕ} → Met v ((entryAt cs i) .world) (callOf (entryAt cs i)) a v′ → o′ ≡ placed (8 * i) (wordsOf (replyOf a)) o → Playing w cs out n (i + 1) v′ o′
+    one-more : {a : Answer} {v′ o′ : List ℕ} → Met v (worldBy (entryAt cs i)) (callOf (entryAt cs i)) a v′ → o′ ≡ placed (8 * i) (wordsOf (replyOf a)) o → Playing w cs out n (i + 1) v′ o′
     one-more {a} m p =
         let C = capacity w in
         let P = I .worlds in
@@ -140,7 +140,7 @@ module _ {w cs out v o : List ℕ} {n i : ℕ} (I : Playing w cs out n i v o) wh
 
     pub more-played : {e : Entry} {r : Reply} {v′ o′ : List ℕ} → e ≡ entryAt cs i → Serves v e r v′ → o′ ≡ placed (8 * i) (wordsOf r) o → Playing w cs out n (i + 1) v′ o′
     more-played {v′ = v′} p (a, m, f) q =
-        one-more (subst (λ d. Met v (d .world) (callOf d) a v′) p m) (q ∙ ap (λ s. placed (8 * i) (wordsOf s) o) f)
+        one-more (subst (λ d. Met v (worldBy d) (callOf d) a v′) p m) (q ∙ ap (λ s. placed (8 * i) (wordsOf s) o) f)
 
   -- at last
   pub all-played : n ≤ i → Plays w cs out n v o

@@ -1,12 +1,13 @@
 -- Calls and answers as records of eight words. Every record of a call means one, and every answer has one record. Assumes nothing: these are
 -- definitions.
-use Prim.Native.Nat.{ℕ, zero, suc, _+_, _*_, _/_}
-use mathlib.Core.Bool.{cond}
+use Prim.Native.Nat.{ℕ, zero, suc, _+_, _-_, _*_, _/_}
+use mathlib.Core.Bool.{Bool, cond, _||_}
 use mathlib.Core.List.{List, [], _∷_, _++_}
 use lib.Dec.{eqb}
 use lib.ListN.{length, getD}
 use Rattle.model.specs.declared.Bound.{Bound}
 use Rattle.model.specs.declared.Listing.{Listing}
+use Rattle.model.specs.Numbers.{size}
 use Rattle.model.specs.Call.{Call, PoolCall, at, Answer}
 use Rattle.frame.specs.declared.entry.Kind.{Kind}
 use Rattle.frame.specs.declared.entry.Entry.{Entry}
@@ -27,7 +28,7 @@ entryAt ws i = record {
   world = getD ws (8 * i + 7) 0;
 }
 
--- the call that a number names: 1 to 14, and any other is a get
+-- the call that a number names: 1 to 6, 8, 10 to 15, and any other is a get
 unfoldable pub kindOf : ℕ → Kind
 kindOf n =
     cond (eqb n 1) Kind.Empty
@@ -36,14 +37,13 @@ kindOf n =
     (cond (eqb n 4) Kind.Shift
     (cond (eqb n 5) Kind.RunAt
     (cond (eqb n 6) Kind.Find
-    (cond (eqb n 7) Kind.Count
     (cond (eqb n 8) Kind.Select
-    (cond (eqb n 9) Kind.CountRanges
     (cond (eqb n 10) Kind.Ranges
     (cond (eqb n 11) Kind.DrawFront
     (cond (eqb n 12) Kind.DrawBack
     (cond (eqb n 13) Kind.Fill
-    (cond (eqb n 14) Kind.Gap Kind.Get)))))))))))))
+    (cond (eqb n 14) Kind.Gap
+    (cond (eqb n 15) Kind.Tally Kind.Get))))))))))))
 
 abbrev pub lowerOf : Entry → Bound
 lowerOf e = boundBy (e .lower) (e .from)
@@ -62,22 +62,28 @@ callBy Kind.Flip e = Call.flip (lowerOf e) (upperOf e)
 callBy Kind.Shift e = Call.shift (e .from) (truth (e .value))
 callBy Kind.RunAt e = Call.runAt (e .from)
 callBy Kind.Find e = Call.find (lowerOf e) (upperOf e) (truth (e .value))
-callBy Kind.Count e = Call.count (lowerOf e) (upperOf e) (truth (e .value))
 callBy Kind.Select e = Call.select (lowerOf e) (upperOf e) (truth (e .value)) (e .k)
-callBy Kind.CountRanges e = Call.countRanges (lowerOf e) (upperOf e) (truth (e .value))
 callBy Kind.Ranges e = Call.ranges (lowerOf e) (upperOf e) (truth (e .value))
 callBy Kind.DrawFront e = Call.drawFront (listingBy e)
 callBy Kind.DrawBack e = Call.drawBack (listingBy e)
 callBy Kind.Fill e = Call.fill (e .from) (e .upto)
 callBy Kind.Gap e = Call.gap (lowerOf e) (upperOf e) (e .k)
+callBy Kind.Tally e = Call.tally (lowerOf e) (upperOf e) (truth (e .value))
 callBy Kind.Get e = Call.get (e .from)
 
--- on the world that the record names
 abbrev pub callOf : {S : Type 0} → Entry → Call S
 callOf e = callBy (kindOf (e .call)) e
 
+-- 7 and 9 were calls once: a record of one asks at a world that no pool has, so that it is refused with 12 and not answered as another call
+unfoldable pub withdrawn : ℕ → Bool
+withdrawn n = eqb n 7 || eqb n 9
+
+abbrev pub worldBy : Entry → ℕ
+worldBy e = cond (withdrawn (e .call)) (size - 1) (e .world)
+
+-- on the world that the record names, or on that one
 abbrev pub poolCallOf : {S : Type 0} → Entry → PoolCall S
-poolCallOf e = at (e .world) (callOf e)
+poolCallOf e = at (worldBy e) (callOf e)
 
 -- n records from record i on
 unfoldable pub callsFrom : {S : Type 0} → List ℕ → ℕ → ℕ → List (PoolCall S)

@@ -13,11 +13,15 @@ use Rattle.core.specs.Met.{Met}
 use Rattle.frame.specs.declared.entry.Entry.{Entry}
 use Rattle.flat.specs.declared.Reply.{Reply}
 use Rattle.flat.specs.Flat.{replyOf}
-use Rattle.frame.specs.Records.{callOf, callsFrom, recordsOf}
+use Rattle.frame.specs.Records.{callOf, worldBy, callsFrom, recordsOf}
 
--- the record e on the words w was answered r, as its call promises, and left w′
+-- the record e at world i of the words w was answered r, as its call promises, and left w′
+abbrev pub ServesAt : List ℕ → ℕ → Entry → Reply → List ℕ → Type 0
+ServesAt w i e r w′ = (a : Answer) × Met w i (callOf e) a w′ × (r ≡ replyOf a)
+
+-- at the world that it asks at
 abbrev pub Serves : List ℕ → Entry → Reply → List ℕ → Type 0
-Serves w e r w′ = (a : Answer) × Met w (e .world) (callOf e) a w′ × (r ≡ replyOf a)
+Serves w e r w′ = ServesAt w (worldBy e) e r w′
 
 -- n records can be served, and their answers fit
 pub record Playable (w cs out : List ℕ) (n : ℕ) : Type 0 where

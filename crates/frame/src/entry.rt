@@ -1,7 +1,7 @@
 // What a record of a call means. Every record means a call: a number that names none is a get, a bound of another kind is none, and a truth
-// value is anything but 0. The last word of a record names the world.
+// value is anything but 0. The last word of a record names the world, but that 7 and 9 ask at one that no pool has.
 ghost use mathlib.Core.Path.{_≡_};
-ghost use Rattle.frame.specs.Records.{kindOf};
+ghost use Rattle.frame.specs.Records.{kindOf, worldBy};
 
 // Which call it is.
 pub enum Kind {
@@ -11,14 +11,13 @@ pub enum Kind {
     Shift,
     RunAt,
     Find,
-    Count,
     Select,
-    CountRanges,
     Ranges,
     DrawFront,
     DrawBack,
     Fill,
     Gap,
+    Tally,
     Get,
 }
 
@@ -58,14 +57,8 @@ pub fn named(n: u64) -> Kind
     if n == 6 {
         return Kind::Find;
     }
-    if n == 7 {
-        return Kind::Count;
-    }
     if n == 8 {
         return Kind::Select;
-    }
-    if n == 9 {
-        return Kind::CountRanges;
     }
     if n == 10 {
         return Kind::Ranges;
@@ -82,5 +75,22 @@ pub fn named(n: u64) -> Kind
     if n == 14 {
         return Kind::Gap;
     }
+    if n == 15 {
+        return Kind::Tally;
+    }
     Kind::Get
+}
+
+// The world that a record asks at. 7 and 9 are withdrawn: a record of one is refused with 12, and not answered as another call.
+pub fn world_of(e: Entry) -> u64
+    ensures { λ r. ⌜ r ≡ worldBy e ⌝ }
+{
+    let n = e.call;
+    if n == 7 {
+        return u64::MAX;
+    }
+    if n == 9 {
+        return u64::MAX;
+    }
+    e.world
 }

@@ -10,7 +10,7 @@ ghost use Rattle.store.specs.Soundness.{Sound};
 ghost use Rattle.core.specs.Met.{Readable};
 ghost use Rattle.frame.specs.Frame.{Framed};
 ghost use Rattle.frame.specs.Records.{entryAt, wordsOf};
-ghost use Rattle.frame.specs.Serving.{Serves, Playable, Plays};
+ghost use Rattle.frame.specs.Serving.{ServesAt, Serves, Playable, Plays};
 use crate::entry::Entry;
 use crate::entry::Kind;
 use flat::Reply;
@@ -40,14 +40,13 @@ fn read(calls: &[u64], i: usize) -> Entry
 }
 
 // Serves one call on a world that was opened, of a pool that is known to be sound.
-fn serve_world(words: &mut [u64], e: Entry) -> Reply
-    requires { ⌜ Readable (now words) (e .world) ⌝ }
-    ensures { λ r. ⌜ Serves (now (words .entry)) e r (now (words .exit)) ⌝ }
+fn serve_world(words: &mut [u64], e: Entry, world: u64) -> Reply
+    requires { ⌜ Readable (now words) world ⌝ }
+    ensures { λ r. ⌜ ServesAt (now (words .entry)) world e r (now (words .exit)) ⌝ }
 {
     let lower = flat::bound(e.lower, e.from);
     let upper = flat::bound(e.upper, e.upto);
     let value = e.value != 0;
-    let world = e.world;
     let k = entry::named(e.call);
     match k {
         Kind::Empty => flat::completed(core::change::empty(words, world)),
@@ -56,15 +55,7 @@ fn serve_world(words: &mut [u64], e: Entry) -> Reply
         Kind::Shift => flat::completed(core::change::shift(words, world, e.from, value)),
         Kind::RunAt => flat::around(core::report::run_at(words, world, e.from)),
         Kind::Find => flat::found(core::report::find(words, world, lower, upper, value)),
-        Kind::Count => flat::counted(core::report::count(words, world, lower, upper, value)),
         Kind::Select => flat::found(core::report::select(words, world, lower, upper, value, e.k)),
-        Kind::CountRanges => flat::numbered(core::report::count_ranges(
-            words,
-            world,
-            lower,
-            upper,
-            value,
-        )),
         Kind::Ranges => flat::listed(core::report::ranges(words, world, lower, upper, value)),
         Kind::DrawFront => flat::drawn(core::listing::draw_front(
             words,
@@ -86,6 +77,7 @@ fn serve_world(words: &mut [u64], e: Entry) -> Reply
         )),
         Kind::Fill => flat::numbered(core::report::fill(words, world, e.from, e.upto)),
         Kind::Gap => flat::found(core::report::gap(words, world, lower, upper, e.k)),
+        Kind::Tally => flat::tallied(core::report::tally(words, world, lower, upper, value)),
         Kind::Get => flat::tested(core::report::get(words, world, e.from)),
     }
 }
@@ -95,10 +87,11 @@ fn serve(words: &mut [u64], e: Entry) -> Reply
     requires { ⌜ Sound (now words) ⌝ }
     ensures { λ r. ⌜ Serves (now (words .entry)) e r (now (words .exit)) ⌝ }
 {
-    if e.world >= store::opened(words) {
+    let world = entry::world_of(e);
+    if world >= store::opened(words) {
         return flat::completed(Completed::Refused(Refusal::WorldUnopened));
     }
-    serve_world(words, e)
+    serve_world(words, e, world)
 }
 
 // Writes a reply as the record i of a list: its fields in their order, and a 0.

@@ -4,13 +4,14 @@ use mathlib.Core.List.{List, []}
 use lib.ListN.{take}
 use Rattle.model.specs.declared.Written.{Written}
 use Rattle.model.specs.Numbers.{refusalNumber}
-use Rattle.model.specs.Call.{Result, done, number, value, around, position, listing, drawn, written, Answer, refused, gave}
+use Rattle.model.specs.Call.{Result, done, number, tallied, value, around, position, listing, drawn, written, Answer, refused, gave}
 use Rattle.interval_bit_set.specs.declared.write.Flat.{Flat}
 
 -- what f makes of the bytes that a result wrote: how many they are, and the whole slice. Any other result gives d
 abbrev pub onWritten : {T : Type 0} → T → (ℕ → List ℕ → T) → Result → T
 onWritten d f done = d
 onWritten d f (number n) = d
+onWritten d f (tallied n r) = d
 onWritten d f (value b) = d
 onWritten d f (around r) = d
 onWritten d f (position o) = d

@@ -1,16 +1,16 @@
 // The calls that report, and leave the world as it is.
 ghost use Rattle.model.specs.Call.{Call};
-ghost use Rattle.model.specs.Answers.{countedAnswer, numberedAnswer, testedAnswer, aroundAnswer, foundAnswer, listedAnswer, drawnAnswer};
+ghost use Rattle.model.specs.Answers.{numberedAnswer, talliedAnswer, testedAnswer, aroundAnswer, foundAnswer, listedAnswer, drawnAnswer};
 ghost use Rattle.core.specs.Met.{Met};
 use crate::look::Look;
 use model::Around;
 use model::Bound;
-use model::Counted;
 use model::Drawn;
 use model::Found;
 use model::Listed;
 use model::Listing;
 use model::Numbered;
+use model::Tallied;
 use model::Tested;
 
 // The value of position x.
@@ -46,14 +46,14 @@ pub fn find(words: &[u64], world: u64, lower: Bound, upper: Bound, value: bool) 
     }
 }
 
-// How many positions of a range have the value: a carry and a low word.
-pub fn count(words: &[u64], world: u64, lower: Bound, upper: Bound, value: bool) -> Counted
-    ensures { λ r. ⌜ Met (now (words .entry)) world (Call.count lower upper value) (countedAnswer r) (now (words .entry)) ⌝ }
+// How many positions of a range have the value, as a carry and a low word, and in how many runs, clipped to the range.
+pub fn tally(words: &[u64], world: u64, lower: Bound, upper: Bound, value: bool) -> Tallied
+    ensures { λ r. ⌜ Met (now (words .entry)) world (Call.tally lower upper value) (talliedAnswer r) (now (words .entry)) ⌝ }
 {
     let l = crate::look::look_at(words, world);
     match l {
-        Look::Refused(r) => Counted::Refused(r),
-        Look::Sound => core::report::count(words, world, lower, upper, value),
+        Look::Refused(r) => Tallied::Refused(r),
+        Look::Sound => core::report::tally(words, world, lower, upper, value),
     }
 }
 
@@ -76,17 +76,6 @@ pub fn gap(words: &[u64], world: u64, lower: Bound, upper: Bound, n: u64) -> Fou
     match l {
         Look::Refused(r) => Found::Refused(r),
         Look::Sound => core::report::gap(words, world, lower, upper, n),
-    }
-}
-
-// How many runs of the value a range has, clipped to it.
-pub fn count_ranges(words: &[u64], world: u64, lower: Bound, upper: Bound, value: bool) -> Numbered
-    ensures { λ r. ⌜ Met (now (words .entry)) world (Call.countRanges lower upper value) (numberedAnswer r) (now (words .entry)) ⌝ }
-{
-    let l = crate::look::look_at(words, world);
-    match l {
-        Look::Refused(r) => Numbered::Refused(r),
-        Look::Sound => core::report::count_ranges(words, world, lower, upper, value),
     }
 }
 

@@ -11,29 +11,29 @@ use borrow.Author.Tests.{lt-ltb, le-ltb}
 use Rattle.model.specs.declared.Bound.the-variants.{Unbounded}
 use Rattle.model.specs.declared.Run.{Run}
 use Rattle.model.specs.declared.Listing.{Listing}
-use Rattle.model.specs.declared.Count.{Count}
 use Rattle.model.specs.declared.Refusal.{Refusal}
-use Rattle.model.specs.declared.Numbered.{Numbered}
-use Rattle.model.specs.declared.Counted.{Counted}
+use Rattle.model.specs.declared.Tally.{Tally}
+use Rattle.model.specs.declared.Tallied.{Tallied}
 use Rattle.model.specs.declared.Listed.{Listed}
 use Rattle.model.specs.declared.Drawn.{Drawn}
 use Rattle.model.specs.Numbers.{size, worth}
 use Rattle.model.proofs.Numbers.{split}
-use Rattle.model.specs.Positions.{Positions, runsIn, remaining, pastFirst, ended, count, stretches, heldRuns, mem}
+use Rattle.model.specs.Positions.{Positions, runsIn, remaining, pastFirst, ended, count, runCount, stretches, heldRuns, mem}
 use Rattle.model.specs.Positions
 use Rattle.model.proofs.Counting.{among-yes}
 use Rattle.model.proofs.Runs.{runsIn-canon, runsIn-mem, runsIn-is, runsIn-none}
 use Rattle.model.specs.RunList.{Canon}
 use Rattle.model.proofs.RunList.{canon-weaken, mem-above}
-use Rattle.model.specs.Call.{Call, Result, number, listing, drawn, Answer, gave}
-use Rattle.model.specs.Answers.{numberedAnswer, countedAnswer, listedAnswer, drawnAnswer}
+use Rattle.model.specs.Call.{Call, Result, tallied, listing, drawn, Answer, gave}
+use Rattle.model.specs.Answers.{talliedAnswer, listedAnswer, drawnAnswer}
 use Rattle.model.specs.Model.{positionsOf, report}
 use Rattle.model.proofs.Pools.{claims-split}
 use Rattle.store.specs.Layout.{capacity, heldBy, plainAt, worldsOf}
 use Rattle.store.specs.Settle.{Openable}
 use Rattle.store.proofs.WorldLists.{opened-world}
+use Rattle.reports.specs.Reports.{Measured}
 use Rattle.core.specs.Met.{Site, Met}
-use Rattle.core.proofs.Meeting.{refused-not, readable, Reports, count-says, count-ranges-says, ranges-says, draw-front-says}
+use Rattle.core.proofs.Meeting.{refused-not, readable, Reports, tally-says, ranges-says, draw-front-says}
 
 -- what follows the first run
 runsIn-rest : (P : Positions) (v : Bool) (a n : ℕ) (r : Run) (rs : List Run) → runsIn P v a n ≡ r ∷ rs
@@ -81,6 +81,11 @@ remaining-past P l r rs e = go (split (r .«end») (l .last))
 pub runs-fit : {w : List ℕ} {i : ℕ} → Openable w i → stretches (heldBy w i) ≤ capacity w
 runs-fit {w} {i} op = omega (arith, op .sound .fits, claims-split (worldsOf w) i (plainAt w i) (opened-world w i (op .named)))
 
+-- the runs of a tally of all held positions are its stretches
+pub all-stretches : {P : Positions} {t : Tally} → Measured P true 0 size t → t .runs ≡ stretches P
+unfolding stretches heldRuns runCount
+all-stretches m = m .runs-are
+
 -- there is a run
 abbrev Given : Option Run → Type 0
 Given none = ⊥
@@ -93,12 +98,8 @@ module _ (w : List ℕ) {i : ℕ} (op : Openable w i) where
   answers {A = A} says m =
       m .answered ∙ ap (λ o. o .answer) (says .said) ∙ ap (λ s. (report s [] (A (positionsOf s))) .answer) (readable op .fed)
 
-  answers-runs : {a : Answer} → Met w i (Call.countRanges Unbounded Unbounded true) a w → a ≡ gave (number (stretches (heldBy w i)))
-  unfolding stretches heldRuns Positions.countRanges
-  answers-runs m = answers (count-ranges-says w i Unbounded Unbounded true) m
-
-  answers-ones : {a : Answer} → Met w i (Call.count Unbounded Unbounded true) a w → a ≡ gave (number (count (heldBy w i) true 0 size))
-  answers-ones m = answers (count-says w i Unbounded Unbounded true) m
+  answers-tally : {a : Answer} → Met w i (Call.tally Unbounded Unbounded true) a w → a ≡ gave (tallied (count (heldBy w i) true 0 size) (runCount (heldBy w i) true 0 size))
+  answers-tally m = answers (tally-says w i Unbounded Unbounded true) m
 
   answers-listing : {a : Answer} → Met w i (Call.ranges Unbounded Unbounded true) a w → a ≡ gave (listing (record { first = 0; last = size - 1; value = true }))
   answers-listing m = answers (ranges-says w i Unbounded Unbounded true) m
@@ -107,19 +108,17 @@ module _ (w : List ℕ) {i : ℕ} (op : Openable w i) where
       → a ≡ gave (drawn (some r) (pastFirst l (some r)))
   answers-draw l e m = answers (draw-front-says w i l) m ∙ ap (λ ss. gave (drawn (Positions.firstRun ss) (pastFirst l (Positions.firstRun ss)))) e
 
-  module _ (n : Numbered) (m : Met w i (Call.countRanges Unbounded Unbounded true) (numberedAnswer n) w) where
-    pub runs-told : {k : ℕ} → n ≡ Numbered.Number k → k ≡ stretches (heldBy w i)
-    runs-told {k} e = let h : gave (number k) ≡ gave (number (stretches (heldBy w i))) = ap numberedAnswer (sym e) ∙ answers-runs m in cc
+  module _ (n : Tallied) (m : Met w i (Call.tally Unbounded Unbounded true) (talliedAnswer n) w) where
+    pub tally-told : {t : Tally} → n ≡ Tallied.Tally t → Measured (heldBy w i) true 0 size t
+    tally-told {t} e =
+        let h : gave (tallied (worth (t .count)) (t .runs)) ≡ gave (tallied (count (heldBy w i) true 0 size) (runCount (heldBy w i) true 0 size)) =
+        ap talliedAnswer (sym e) ∙ answers-tally m in
+        let k : worth (t .count) ≡ count (heldBy w i) true 0 size = cc in
+        let r : t .runs ≡ runCount (heldBy w i) true 0 size = cc in
+        record { count-is = k; runs-are = r }
 
-    pub runs-refused : {r : Refusal} → n ≡ Numbered.Refused r → ⊥
-    runs-refused e = refused-not (ap numberedAnswer (sym e) ∙ answers-runs m)
-
-  module _ (n : Counted) (m : Met w i (Call.count Unbounded Unbounded true) (countedAnswer n) w) where
-    pub ones-told : {k : Count} → n ≡ Counted.Count k → worth k ≡ count (heldBy w i) true 0 size
-    ones-told {k} e = let h : gave (number (worth k)) ≡ gave (number (count (heldBy w i) true 0 size)) = ap countedAnswer (sym e) ∙ answers-ones m in cc
-
-    pub ones-refused : {r : Refusal} → n ≡ Counted.Refused r → ⊥
-    ones-refused e = refused-not (ap countedAnswer (sym e) ∙ answers-ones m)
+    pub tally-refused : {r : Refusal} → n ≡ Tallied.Refused r → ⊥
+    tally-refused e = refused-not (ap talliedAnswer (sym e) ∙ answers-tally m)
 
   module _ (n : Listed) (m : Met w i (Call.ranges Unbounded Unbounded true) (listedAnswer n) w) where
     pub listing-told : {k : Listing} → n ≡ Listed.Listing k → remaining (heldBy w i) k ≡ heldRuns (heldBy w i)

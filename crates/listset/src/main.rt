@@ -6,9 +6,10 @@ ghost use mathlib.Core.Bool.{true};
 ghost use lib.ListN.{length, take};
 ghost use Rattle.io.specs.Counts.{Counts};
 ghost use Rattle.model.specs.Numbers.{size, worth, refusalNumber};
-ghost use Rattle.model.specs.Positions.{stretches, count, heldRuns, remaining};
+ghost use Rattle.model.specs.Positions.{heldRuns, remaining};
 ghost use Rattle.store.specs.Layout.{capacity, heldBy};
 ghost use Rattle.store.specs.Settle.{Openable};
+ghost use Rattle.reports.specs.Reports.{Measured};
 ghost use Rattle.listset.specs.Text.{decimal, runLine, runLines, refusedLine, countLines, setLines, printed};
 ghost use Rattle.listset.specs.Put.{Puts, PutsNext, Within, Filled};
 use interval_bit_set::bytes;
@@ -17,13 +18,13 @@ use interval_bit_set::report;
 use model::Bound;
 use model::Completed;
 use model::Count;
-use model::Counted;
 use model::Drawn;
 use model::Listed;
 use model::Listing;
-use model::Numbered;
 use model::Refusal;
 use model::Run;
+use model::Tallied;
+use model::Tally;
 
 const CAPACITY: usize = 950;
 
@@ -105,25 +106,17 @@ fn put_refused(out: &mut [u8], r: Refusal) -> usize
 }
 
 // ---- the set: what is reported of world 0 of a sound pool. None of these calls is then refused
-fn run_count(words: &[u64]) -> u64
+fn held_tally(words: &[u64]) -> Tally
     requires { ⌜ Openable (now words) 0 ⌝ }
-    ensures { λ r. ⌜ r ≡ stretches (heldBy (now (words .entry)) 0) ⌝ }
+    ensures { λ r. ⌜ Measured (heldBy (now (words .entry)) 0) true 0 size r ⌝ }
 {
-    let n = report::count_ranges(words, 0, Bound::Unbounded, Bound::Unbounded, true);
+    let n = report::tally(words, 0, Bound::Unbounded, Bound::Unbounded, true);
     match n {
-        Numbered::Refused(r) => 0,
-        Numbered::Number(k) => k,
-    }
-}
-
-fn held_count(words: &[u64]) -> Count
-    requires { ⌜ Openable (now words) 0 ⌝ }
-    ensures { λ r. ⌜ worth r ≡ count (heldBy (now (words .entry)) 0) true 0 size ⌝ }
-{
-    let n = report::count(words, 0, Bound::Unbounded, Bound::Unbounded, true);
-    match n {
-        Counted::Refused(r) => Count { carry: 0, low: 0 },
-        Counted::Count(c) => c,
+        Tallied::Refused(r) => Tally {
+            count: Count { carry: 0, low: 0 },
+            runs: 0,
+        },
+        Tallied::Tally(t) => t,
     }
 }
 
@@ -191,9 +184,9 @@ fn put_set(out: &mut [u8], words: &[u64]) -> usize
     requires { ⌜ Openable (now words) 0 ⌝ }
     ensures { λ r. ⌜ Puts (now (out .entry)) 0 (setLines (heldBy (now (words .entry)) 0)) (now (out .exit)) r ⌝ }
 {
-    let runs = run_count(words);
-    let a = put_counts(out, runs, held_count(words));
-    put_runs(out, a, words, all_runs(words), runs)
+    let t = held_tally(words);
+    let a = put_counts(out, t.runs, t.count);
+    put_runs(out, a, words, all_runs(words), t.runs)
 }
 
 // ---- the whole answer to the bytes of an input

@@ -13,7 +13,7 @@ use Rattle.store.specs.Free.{Pooled}
 use Rattle.core.specs.Met.{Site, poolReads}
 use Rattle.core.proofs.Meeting.{refused-not}
 use Rattle.core.proofs.Simulation.{Holds}
-use Rattle.frame.specs.Records.{entryAt, callsFrom, callsOf, recordsOf}
+use Rattle.frame.specs.Records.{entryAt, worldBy, callsFrom, callsOf, recordsOf}
 use Rattle.frame.specs.Frame.{frameOf, frameOutcome, FrameOutcome, settleFrame, Framed}
 use Rattle.frame.proofs.FedCalls.{fed-same}
 use Rattle.lockstep.specs.History.{told, New}
@@ -25,7 +25,7 @@ told-from : (ws : List ℕ) (i n : ℕ) (cs : List (PoolCall Site)) → told (ca
 unfolding callsFrom
 told-from ws i zero cs = refl
 told-from ws i (suc n) cs =
-    ap₂ {C = List (PoolCall Fed)} (λ c l. c ∷ l) (ap (at ((entryAt ws i) .world)) (fed-same (entryAt ws i))) (told-from ws (suc i) n cs)
+    ap₂ {C = List (PoolCall Fed)} (λ c l. c ∷ l) (ap (at (worldBy (entryAt ws i))) (fed-same (entryAt ws i))) (told-from ws (suc i) n cs)
 
 told-frame : (fs : List ℕ) (cs : List (PoolCall Site)) → told (callsOf fs ++ cs) ≡ callsOf fs ++ told cs
 unfolding callsOf

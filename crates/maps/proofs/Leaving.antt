@@ -6,7 +6,7 @@ use mathlib.Core.Bool.{Bool, true, false, _&&_, and-true, and-false}
 use mathlib.Core.List.{List}
 use native.Mathlib.Omega.{arith}
 use lib.Dec.{leb}
-use Rattle.model.specs.Positions.{Positions, oneIf, countRanges, stretches}
+use Rattle.model.specs.Positions.{Positions, oneIf, runCount, stretches}
 use Rattle.model.specs.Bytes.{mapBit, mapped}
 use Rattle.model.proofs.Maps.{mapped-in}
 use Rattle.model.specs.Neighbours.{goesOn, heldBelow, heldAbove}
@@ -42,8 +42,8 @@ module _ (P : Positions) (base n : ℕ) (bs : List ℕ) (win : Window base n bs)
       (mapped-in base n bs P (n - 1) (omega (arith, win .some)))
 
   -- all runs
-  map-leaves : stretches (mapped base n bs P) + countRanges P true base n + oneIf (heldBelow P base && mapBit bs 0) + oneIf (heldAbove P (base + (n - 1)) && mapBit bs (n - 1))
-      ≡ stretches P + oneIf (goesOn P base) + oneIf (goesOn P (suc (base + (n - 1)))) + countRanges (mapped base n bs P) true base n
+  map-leaves : stretches (mapped base n bs P) + runCount P true base n + oneIf (heldBelow P base && mapBit bs 0) + oneIf (heldAbove P (base + (n - 1)) && mapBit bs (n - 1))
+      ≡ stretches P + oneIf (goesOn P base) + oneIf (goesOn P (suc (base + (n - 1)))) + runCount (mapped base n bs P) true base n
   map-leaves =
       let q : base + n ≡ suc (base + (n - 1)) = omega (arith, win .some) in
       omega (
@@ -57,7 +57,7 @@ module _ (P : Positions) (base n : ℕ) (bs : List ℕ) (win : Window base n bs)
 
 -- ---- whether they fit
 module _ {P : Positions} {base n : ℕ} {bs : List ℕ} {total inside on past runs : ℕ} (win : Window base n bs) (t : Tallied P base (base + (n - 1)) total inside on past)
-    (r : runs ≡ countRanges (mapped base n bs P) true base n) where
+    (r : runs ≡ runCount (mapped base n bs P) true base n) where
   -- the map's runs are few, and so are all that are counted
   pub before-few : total + on + past + runs ≤ 400000
   before-few = omega (arith, told-few t, r, ranges-most (mapped base n bs P) true base n, win .few)
@@ -79,4 +79,4 @@ module _ {P : Positions} {base n : ℕ} {bs : List ℕ} {total inside on past ru
     map-fits-is =
         let q : suc (base + (n - 1)) - base ≡ n = omega (arith, win .some) in
         leb-like (stretches (mapped base n bs P)) limit (total + on + past + runs) (limit + inside + low + high) (inside + low + high)
-        (omega (arith, map-leaves P base n bs win, t .total-is, t .inside-is, t .on-is, t .past-is, r, el, eh, ap (countRanges P true base) q)) (omega arith)
+        (omega (arith, map-leaves P base n bs win, t .total-is, t .inside-is, t .on-is, t .past-is, r, el, eh, ap (runCount P true base) q)) (omega arith)

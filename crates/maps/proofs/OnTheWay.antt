@@ -8,7 +8,7 @@ use mathlib.Core.List.{List}
 use native.Mathlib.Omega.{arith}
 use Rattle.model.specs.Numbers.{size}
 use Rattle.model.proofs.Numbers.{split}
-use Rattle.model.specs.Positions.{Positions, oneIf, countRanges, stretches, setRange}
+use Rattle.model.specs.Positions.{Positions, oneIf, runCount, stretches, setRange}
 use Rattle.model.proofs.Runs.{stretches-cong}
 use Rattle.model.specs.Bytes.{mapBit, mapped}
 use Rattle.model.proofs.Maps.{mapped-in}
@@ -30,7 +30,7 @@ border-goes : (Q : Positions) (y : ℕ) → suc y < size → Q (suc y) ≡ not (
 border-goes Q y h e = goesOn-below Q (suc y) h ∙ ap (λ b. Q y && b) e ∙ both-not (Q y)
 
 -- a part with as many runs as go on over its ends is cleared, and there are no more runs
-clear-more : (Q : Positions) (a n b : ℕ) → 0 < n → a + n ≡ suc b → b < size → oneIf (goesOn Q a) + oneIf (goesOn Q (suc b)) ≤ countRanges Q true a n
+clear-more : (Q : Positions) (a n b : ℕ) → 0 < n → a + n ≡ suc b → b < size → oneIf (goesOn Q a) + oneIf (goesOn Q (suc b)) ≤ runCount Q true a n
     → stretches (setRange a n false Q) ≤ stretches Q
 clear-more Q a n b some ends fits h = omega (arith, set-false-leaves Q a n b some ends fits)
 
@@ -108,11 +108,11 @@ module _ (base n : ℕ) (bs : List ℕ) (P : Positions) (within : base + n ≤ s
       apart : goesOn Q (base + suc e) ≡ false
       apart = bits-apart e (omega arith) (s .stop (omega arith) ∙ ap not (sym (s .same e (omega arith) (omega arith))))
 
-      cut : countRanges Q true base n + oneIf (goesOn Q (base + suc e)) ≡ countRanges Q true base (suc e) + countRanges Q true (base + suc e) (n - suc e)
+      cut : runCount Q true base n + oneIf (goesOn Q (base + suc e)) ≡ runCount Q true base (suc e) + runCount Q true (base + suc e) (n - suc e)
       cut = runs-cut Q base (suc e) (base + suc e) (n - suc e) n refl (omega arith) (omega arith) (omega arith) (omega arith)
 
-      low : oneIf (goesOn Q base) ≤ countRanges Q true base (suc e)
+      low : oneIf (goesOn Q base) ≤ runCount Q true base (suc e)
       low = below-in Q base (suc e) (base + e) (omega arith) (omega arith) (omega arith)
 
-      high : oneIf (goesOn Q (suc b)) ≤ countRanges Q true (base + suc e) (n - suc e)
+      high : oneIf (goesOn Q (suc b)) ≤ runCount Q true (base + suc e) (n - suc e)
       high = above-in Q (base + suc e) (n - suc e) b (omega arith) (omega arith) (omega arith)

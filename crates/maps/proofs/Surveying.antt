@@ -9,11 +9,11 @@ use native.Mathlib.Omega.{arith}
 use lib.ListN.{length, length-append}
 use borrow.Author.Tests.{not-true}
 use Rattle.model.specs.declared.Operation.the-variants.{Xor}
-use Rattle.model.specs.Positions.{Positions, oneIf, count, runsIn, countRanges, combined}
+use Rattle.model.specs.Positions.{Positions, oneIf, count, runsIn, runCount, combined}
 use Rattle.model.proofs.Counting.{count-cut, count-both, count-most}
 use Rattle.model.proofs.Runs.{runsIn-join, runsIn-none}
 use Rattle.model.specs.Bytes.{mapBit, mapped}
-use Rattle.reports.specs.declared.physical.Tally.{Tally}
+use Rattle.model.specs.declared.Tally.{Tally}
 use Rattle.reports.specs.Reports.{Measured}
 use Rattle.changes.specs.Edits.{StretchEnd}
 use Rattle.maps.specs.Window.{Window, Surveyed}
@@ -38,14 +38,14 @@ border-next bs n {i} {e} s z q l =
 pub record Surveying (P : Positions) (base n : ℕ) (bs : List ℕ) (i runs changed : ℕ) : Type 0 where
   pub upto : i ≤ n
   pub border : Border bs n i
-  pub runs-are : runs ≡ countRanges (mapped base n bs P) true base i
+  pub runs-are : runs ≡ runCount (mapped base n bs P) true base i
   pub few : runs ≤ i
   pub changed-are : changed ≡ count (combined Xor P (mapped base n bs P)) true base i
   pub less : changed ≤ i
 
 -- of no bit
 pub surveying-none : (P : Positions) (base n : ℕ) (bs : List ℕ) → Surveying P base n bs 0 0 0
-unfolding countRanges
+unfolding runCount
 surveying-none P base n bs = record {
   upto = omega arith;
   border = border-first bs n;
@@ -76,8 +76,8 @@ module _ {P : Positions} {base n : ℕ} {bs : List ℕ} {i runs changed : ℕ} (
       mapped-at base n bs P y l (omega arith) ∙ not-true (mapBit bs (y - base)) (sym (s .border (y - base) (omega arith) more) ∙ sym value ∙ q))
 
   -- its runs
-  stretch-runs : countRanges (mapped base n bs P) true base (i + (suc e - i)) ≡ countRanges (mapped base n bs P) true base i + oneIf v
-  unfolding countRanges
+  stretch-runs : runCount (mapped base n bs P) true base (i + (suc e - i)) ≡ runCount (mapped base n bs P) true base i + oneIf v
+  unfolding runCount
   stretch-runs =
       ap length (runsIn-join (mapped base n bs P) true base i (suc e - i) (seam v refl))
       ∙ length-append (runsIn (mapped base n bs P) true base i) (runsIn (mapped base n bs P) true (base + i) (suc e - i))
@@ -102,7 +102,7 @@ module _ {P : Positions} {base n : ℕ} {bs : List ℕ} {i runs changed : ℕ} (
         record {
           upto = omega (arith, st .upto);
           border = border-next bs n st;
-          runs-are = omega (arith, s .runs-are, stretch-runs, ap (countRanges (mapped base n bs P) true base) k);
+          runs-are = omega (arith, s .runs-are, stretch-runs, ap (runCount (mapped base n bs P) true base) k);
           few = one-more q;
           changed-are =
               omega (
@@ -128,7 +128,7 @@ pub surveying-done : {P : Positions} {base n : ℕ} {bs : List ℕ} {i runs chan
 surveying-done {P} {base} {n} {bs} {i} w s l =
     let q : i ≡ n = omega (arith, s .upto) in
     record {
-      runs-are = s .runs-are ∙ ap (countRanges (mapped base n bs P) true base) q;
+      runs-are = s .runs-are ∙ ap (runCount (mapped base n bs P) true base) q;
       changed-are =
           s .changed-are ∙ ap (count (combined Xor P (mapped base n bs P)) true base) q
           ∙ sym (changes-in P (mapped base n bs P) base n (w .within) (mapped-below base n bs P) (mapped-above base n bs P));

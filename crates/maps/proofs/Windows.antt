@@ -8,7 +8,7 @@ use native.Mathlib.Omega.{arith}
 use lib.ListN.{length}
 use Rattle.model.specs.declared.Operation.the-variants.{Xor}
 use Rattle.model.specs.Numbers.{size}
-use Rattle.model.specs.Positions.{Positions, oneIf, count, countRanges, combined, changes}
+use Rattle.model.specs.Positions.{Positions, oneIf, count, runCount, combined, changes}
 use Rattle.model.proofs.Counting.{among-below, among-above, count-cut, count-none, count-hits}
 use Rattle.model.proofs.Runs.{runsIn-all, runsIn-none}
 use Rattle.model.specs.Bytes.{mapBit, mapped}
@@ -66,8 +66,8 @@ changes-nothing P Q e x l =
 
 -- ---- runs
 -- a range of one value is one run, or none
-pub one-value : (Q : Positions) (a n : ℕ) (v : Bool) → 0 < n → ((x : ℕ) → a ≤ x → x < a + n → Q x ≡ v) → countRanges Q true a n ≡ oneIf v
-unfolding countRanges
+pub one-value : (Q : Positions) (a n : ℕ) (v : Bool) → 0 < n → ((x : ℕ) → a ≤ x → x < a + n → Q x ≡ v) → runCount Q true a n ≡ oneIf v
+unfolding runCount
 one-value Q a zero v h f = absurd (omega arith)
 one-value Q a (suc n) true h f = ap length (runsIn-all Q true a n f)
 one-value Q a (suc n) false h f = ap length (runsIn-none Q true a (suc n) f)

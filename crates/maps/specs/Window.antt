@@ -5,7 +5,7 @@ use mathlib.Core.Bool.{Bool, true, false}
 use mathlib.Core.List.{List}
 use lib.ListN.{length}
 use Rattle.model.specs.Numbers.{size, longest}
-use Rattle.model.specs.Positions.{Positions, countRanges, stretches, changes}
+use Rattle.model.specs.Positions.{Positions, runCount, stretches, changes}
 use Rattle.model.specs.Bytes.{mapBit, mapped, mapLength}
 use Rattle.store.specs.declared.World.{World}
 use Rattle.store.specs.Layout.{heldIn}
@@ -25,7 +25,7 @@ Whole n bs i v true = (k : ℕ) → k < n → mapBit bs (i + k) ≡ v
 Whole n bs i v false = Unit {0}
 
 pub record Surveyed (P : Positions) (base n : ℕ) (bs : List ℕ) (s : Survey) : Type 0 where
-  pub runs-are : s .runs ≡ countRanges (mapped base n bs P) true base n
+  pub runs-are : s .runs ≡ runCount (mapped base n bs P) true base n
   pub changed-are : s .changed ≡ changes P (mapped base n bs P)
 
 -- a window of a world may get the map's values: at most as many runs are left as the world may have

@@ -5,7 +5,7 @@ ghost use mathlib.Core.Bool.{true};
 ghost use Prim.Native.Nat.{_+_, _*_, _-_, _≤_, _<_};
 ghost use lib.Dec.{leb};
 ghost use lib.ListN.{length};
-ghost use Rattle.model.specs.Positions.{stretches, countRanges};
+ghost use Rattle.model.specs.Positions.{stretches, runCount};
 ghost use Rattle.model.specs.Bytes.{mapBit, mapped};
 ghost use Rattle.store.specs.Layout.{heldIn};
 ghost use Rattle.store.specs.Soundness.{Stands, Editable};
@@ -97,7 +97,7 @@ fn survey_map(words: &[u64], h: World, base: u64, n: u64, bytes: &[u8], wide: bo
 fn map_fits(words: &[u64], h: World, limit: u64, base: u64, n: u64, bytes: &[u8], runs: u64) -> bool
     requires { ⌜ Editable (now words) h limit ⌝ }
     requires { ⌜ Window base n (now bytes) ⌝ }
-    requires { ⌜ runs ≡ countRanges (mapped base n (now bytes) (heldIn (now words) h)) true base n ⌝ }
+    requires { ⌜ runs ≡ runCount (mapped base n (now bytes) (heldIn (now words) h)) true base n ⌝ }
     ensures { λ r. ⌜ r ≡ leb (stretches (mapped base n (now (bytes .entry)) (heldIn (now (words .entry)) h))) limit ⌝ }
 {
     let a = Logical(base);

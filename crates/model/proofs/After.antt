@@ -10,22 +10,22 @@ use borrow.Author.Tests.{lt-ltb, le-ltb}
 use Rattle.model.specs.declared.Operation.the-variants.{Xor}
 use Rattle.model.specs.Numbers.{size}
 use Rattle.model.proofs.Numbers.{split}
-use Rattle.model.specs.Positions.{Positions, among, oneIf, count, runsIn, countRanges, heldRuns, stretches, setRange, flipRange, combined, changes}
+use Rattle.model.specs.Positions.{Positions, among, oneIf, count, runsIn, runCount, heldRuns, stretches, setRange, flipRange, combined, changes}
 use Rattle.model.proofs.Counting.{among-yes, among-below, among-above, beq-true, count-cut, count-none, count-hits}
 use Rattle.model.proofs.Runs.{runsIn-canon, runsIn-mem, runsIn-is, runsIn-cong, runsIn-all, runsIn-none, runsIn-length-join}
 use Rattle.model.specs.Neighbours.{goesOn}
 
 -- a range cut in two at x: the runs of both parts, but one that goes on over x counts once
 cut-here : (P : Positions) (a m k : ℕ) → suc (a + m) < size
-    → countRanges P true a (suc m + suc k) + oneIf (goesOn P (suc (a + m))) ≡ countRanges P true a (suc m) + countRanges P true (suc (a + m)) (suc k)
-unfolding countRanges goesOn
+    → runCount P true a (suc m + suc k) + oneIf (goesOn P (suc (a + m))) ≡ runCount P true a (suc m) + runCount P true (suc (a + m)) (suc k)
+unfolding runCount goesOn
 cut-here P a m k h =
     ap (λ t. length (runsIn P true a (suc m + suc k)) + oneIf t)
     (ap (λ t. t && (P (a + m) && P (suc (a + m)))) (lt-ltb (suc (a + m)) size h) ∙ sym (ap₂ _&&_ (beq-true (P (a + m))) (beq-true (P (suc (a + m))))))
     ∙ runsIn-length-join P true a m k
 
 pub runs-cut : (P : Positions) (a m x k n : ℕ) → x ≡ a + m → n ≡ m + k → 0 < m → 0 < k → x < size
-    → countRanges P true a n + oneIf (goesOn P x) ≡ countRanges P true a m + countRanges P true x k
+    → runCount P true a n + oneIf (goesOn P x) ≡ runCount P true a m + runCount P true x k
 runs-cut P a zero x k n e f h g l = absurd (omega arith)
 runs-cut P a (suc m) x zero n e f h g l = absurd (omega arith)
 runs-cut P a (suc m) x (suc k) n e f h g l =
@@ -42,13 +42,13 @@ pub goesOn-zero : (P : Positions) → goesOn P 0 ≡ false
 unfolding goesOn
 goesOn-zero P = refl
 
-none-zero : (P : Positions) (a : ℕ) → countRanges P true a 0 ≡ 0
-unfolding countRanges
+none-zero : (P : Positions) (a : ℕ) → runCount P true a 0 ≡ 0
+unfolding runCount
 none-zero P a = ap length (runsIn-none P true a 0 (λ x h l. absurd (omega arith)))
 
 -- the same with parts that may have no position
 pub runs-cut-any : (P : Positions) (a m x k n : ℕ) → x ≡ a + m → n ≡ m + k → a + n ≤ size → (0 < m ⊎ (a ≡ 0)) → (0 < k ⊎ (x ≡ size))
-    → countRanges P true a n + oneIf (goesOn P x) ≡ countRanges P true a m + countRanges P true x k
+    → runCount P true a n + oneIf (goesOn P x) ≡ runCount P true a m + runCount P true x k
 runs-cut-any P a zero x k n e f t (inl h) r = absurd (omega arith)
 runs-cut-any P a zero x k n e f t (inr h) r =
     let p : x ≡ 0 = omega arith in
@@ -64,18 +64,18 @@ runs-cut-any P a (suc m) x zero n e f t l r =
     top (inr h) = h
 runs-cut-any P a (suc m) x (suc k) n e f t l r = runs-cut P a (suc m) x (suc k) n e f (omega arith) (omega arith) (omega arith)
 
-ranges-cong : (P Q : Positions) (a n : ℕ) → ((x : ℕ) → a ≤ x → x < a + n → P x ≡ Q x) → countRanges P true a n ≡ countRanges Q true a n
-unfolding countRanges
+ranges-cong : (P Q : Positions) (a n : ℕ) → ((x : ℕ) → a ≤ x → x < a + n → P x ≡ Q x) → runCount P true a n ≡ runCount Q true a n
+unfolding runCount
 ranges-cong P Q a n h = ap length (runsIn-cong P Q true a n h)
 
-whole-is : (P : Positions) → countRanges P true 0 size ≡ length (runsIn P true 0 size)
-unfolding countRanges
+whole-is : (P : Positions) → runCount P true 0 size ≡ length (runsIn P true 0 size)
+unfolding runCount
 whole-is P = refl
 
 -- all runs, by a range of n positions from a: those before it, in it and after it
 pub stretches-parts : (P : Positions) (a n : ℕ) → 0 < n → a + n ≤ size
     → stretches P + oneIf (goesOn P a) + oneIf (goesOn P (a + n))
-    ≡ countRanges P true 0 a + countRanges P true a n + countRanges P true (a + n) (size - (a + n))
+    ≡ runCount P true 0 a + runCount P true a n + runCount P true (a + n) (size - (a + n))
 unfolding stretches heldRuns
 stretches-parts P a n h t =
     let k : ℕ = size - a in
@@ -83,7 +83,7 @@ stretches-parts P a n h t =
     let two = runs-cut-any P a n (a + n) (size - (a + n)) k refl (omega arith) (omega arith) (inl h) (some-or-all (split (a + n) size)) in
     omega (arith, one, two, whole)
   where
-    whole : countRanges P true 0 size ≡ length (runsIn P true 0 size)
+    whole : runCount P true 0 size ≡ length (runsIn P true 0 size)
     whole = whole-is P
 
     some-or-none : (0 < a) ⊎ (a ≤ 0) → (0 < a) ⊎ _≡_ {A = ℕ} 0 0
@@ -96,15 +96,15 @@ stretches-parts P a n h t =
 
 -- THE LAW: two sets that agree outside a range have as many runs outside it
 pub runs-replaced : (P Q : Positions) (a n : ℕ) → 0 < n → a + n ≤ size → ((x : ℕ) → x < a → P x ≡ Q x) → ((x : ℕ) → a + n ≤ x → x < size → P x ≡ Q x)
-    → stretches Q + (oneIf (goesOn Q a) + oneIf (goesOn Q (a + n))) + countRanges P true a n
-    ≡ stretches P + (oneIf (goesOn P a) + oneIf (goesOn P (a + n))) + countRanges Q true a n
+    → stretches Q + (oneIf (goesOn Q a) + oneIf (goesOn Q (a + n))) + runCount P true a n
+    ≡ stretches P + (oneIf (goesOn P a) + oneIf (goesOn P (a + n))) + runCount Q true a n
 runs-replaced P Q a n h t under over =
     omega (arith, stretches-parts P a n h t, stretches-parts Q a n h t, left, right)
   where
-    left : countRanges P true 0 a ≡ countRanges Q true 0 a
+    left : runCount P true 0 a ≡ runCount Q true 0 a
     left = ranges-cong P Q 0 a (λ x _ l. under x (omega arith))
 
-    right : countRanges P true (a + n) (size - (a + n)) ≡ countRanges Q true (a + n) (size - (a + n))
+    right : runCount P true (a + n) (size - (a + n)) ≡ runCount Q true (a + n) (size - (a + n))
     right = ranges-cong P Q (a + n) (size - (a + n)) (λ x g l. over x g (omega arith))
 
 -- ---- a range set to a value
@@ -125,15 +125,15 @@ pub set-cong : (a n : ℕ) (v : Bool) (P Q : Positions) (x : ℕ) → P x ≡ Q 
 unfolding setRange
 set-cong a n v P Q x e = ap (cond (among a n x) v) e
 
-pub set-one-run : (a n : ℕ) (v : Bool) (P : Positions) → 0 < n → countRanges (setRange a n v P) true a n ≡ oneIf v
-unfolding countRanges
+pub set-one-run : (a n : ℕ) (v : Bool) (P : Positions) → 0 < n → runCount (setRange a n v P) true a n ≡ oneIf v
+unfolding runCount
 set-one-run a zero v P h = absurd (omega arith)
 set-one-run a (suc n) true P h = ap length (runsIn-all (setRange a (suc n) true P) true a n (λ x g l. set-inside a (suc n) true P x g l))
 set-one-run a (suc n) false P h = ap length (runsIn-none (setRange a (suc n) false P) true a (suc n) (λ x g l. set-inside a (suc n) false P x g l))
 
 -- how many runs there are when a range is set
 pub set-runs : (P : Positions) (a n : ℕ) (v : Bool) → 0 < n → a + n ≤ size
-    → stretches (setRange a n v P) + (oneIf (goesOn (setRange a n v P) a) + oneIf (goesOn (setRange a n v P) (a + n))) + countRanges P true a n
+    → stretches (setRange a n v P) + (oneIf (goesOn (setRange a n v P) a) + oneIf (goesOn (setRange a n v P) (a + n))) + runCount P true a n
     ≡ stretches P + (oneIf (goesOn P a) + oneIf (goesOn P (a + n))) + oneIf v
 set-runs P a n v h t =
     runs-replaced P (setRange a n v P) a n h t (λ x l. sym (set-below a n v P x l)) (λ x l _. sym (set-above a n v P x l))
@@ -153,8 +153,8 @@ unfolding flipRange
 flip-above a n P x h = ap (λ t. cond t (not (P x)) (P x)) (among-above a n x h)
 
 -- the runs of a flipped range are the gaps that were there
-pub flip-gaps : (a n : ℕ) (P : Positions) → countRanges (flipRange a n P) true a n ≡ countRanges P false a n
-unfolding countRanges
+pub flip-gaps : (a n : ℕ) (P : Positions) → runCount (flipRange a n P) true a n ≡ runCount P false a n
+unfolding runCount
 flip-gaps a n P =
     ap length
     (runsIn-is (flipRange a n P) true a n (runsIn P false a n) (runsIn-canon P false (a + n) a n (omega arith))
@@ -166,8 +166,8 @@ flip-gaps a n P =
 
 -- how many runs there are when a range is flipped
 pub flip-runs : (P : Positions) (a n : ℕ) → 0 < n → a + n ≤ size
-    → stretches (flipRange a n P) + (oneIf (goesOn (flipRange a n P) a) + oneIf (goesOn (flipRange a n P) (a + n))) + countRanges P true a n
-    ≡ stretches P + (oneIf (goesOn P a) + oneIf (goesOn P (a + n))) + countRanges P false a n
+    → stretches (flipRange a n P) + (oneIf (goesOn (flipRange a n P) a) + oneIf (goesOn (flipRange a n P) (a + n))) + runCount P true a n
+    ≡ stretches P + (oneIf (goesOn P a) + oneIf (goesOn P (a + n))) + runCount P false a n
 flip-runs P a n h t =
     runs-replaced P (flipRange a n P) a n h t (λ x l. sym (flip-below a n P x l)) (λ x l _. sym (flip-above a n P x l))
     ∙ ap (λ k. stretches P + (oneIf (goesOn P a) + oneIf (goesOn P (a + n))) + k) (flip-gaps a n P)

@@ -101,9 +101,8 @@ use Rattle.model.specs.Call.{
   get,
   runAt,
   find,
-  count,
+  tally,
   select,
-  countRanges,
   gap,
   ranges,
   drawFront,
@@ -123,6 +122,7 @@ use Rattle.model.specs.Call.{
   Result,
   done,
   number,
+  tallied,
   value,
   around,
   position,
@@ -328,9 +328,9 @@ calc C s (flip l u) = changeRuns C s [] (flipRuns size (firstAllowed l) (extent 
 calc C s (get x) = reportRuns s [] (value (mem (runsOf s) x))
 calc C s (runAt x) = reportRuns s [] (around (runWith x (clipped (mem (runsOf s) x) 0 size (runsOf s))))
 calc C s (find l u v) = reportRuns s [] (position (startOf (firstRun (clipped v (firstAllowed l) (extent l u) (runsOf s)))))
-calc C s (count l u v) = reportRuns s [] (number (widths (clipped v (firstAllowed l) (extent l u) (runsOf s))))
+calc C s (tally l u v) =
+    reportRuns s [] (tallied (widths (clipped v (firstAllowed l) (extent l u) (runsOf s))) (length (clipped v (firstAllowed l) (extent l u) (runsOf s))))
 calc C s (select l u v k) = reportRuns s [] (position (selectRuns (clipped v (firstAllowed l) (extent l u) (runsOf s)) k))
-calc C s (countRanges l u v) = reportRuns s [] (number (length (clipped v (firstAllowed l) (extent l u) (runsOf s))))
 calc C s (gap l u n) = reportRuns s (gapLength when badGap n ∷ []) (position (firstLong n (clipped false (firstAllowed l) (extent l u) (runsOf s))))
 calc C s (ranges l u v) = reportRuns s [] (listing (listed (firstAllowed l) (extent l u) v))
 calc C s (drawFront l) = reportRuns s [] (drawnFirst l (firstRun (remainingRuns (runsOf s) l)))
@@ -428,7 +428,7 @@ module _ (s : Given) where
 
 -- every call, computed on run lists, is the plain model's
 pub calc-tied : (C : ℕ) (s : Given) (c : Call Given) → Tied (serve (ltb C) (fedAs s) (feed fedAs c)) (calc C s c)
-unfolding serve calc P rs remaining remainingRuns Positions.runAt Positions.countRanges fillOf
+unfolding serve calc P rs remaining remainingRuns Positions.runAt Positions.runCount fillOf
 calc-tied C s (set l u v) =
     tied-changed C s [] (setRange (firstAllowed l) (extent l u) v (positionsOf (fedAs s))) (setRuns size (firstAllowed l) (extent l u) v (runsOf s))
     (set-positions (firstAllowed l) (extent l u) v (runsOf s) (runsOf-canon s) ∙ ap (λ Q. bounded (setRange (firstAllowed l) (extent l u) v Q)) (sym (runsOf-positions s)))
@@ -445,15 +445,15 @@ calc-tied C s (runAt x) =
 calc-tied C s (find l u v) =
     tied-report s [] (position (Positions.find (positionsOf (fedAs s)) v (firstAllowed l) (extent l u))) (position (startOf (firstRun (clipped v (firstAllowed l) (extent l u) (runsOf s)))))
     (ap position (find-runs (positionsOf (fedAs s)) v (firstAllowed l) (extent l u) ∙ ap (λ ss. startOf (firstRun ss)) (in-range s v (firstAllowed l) (extent l u))))
-calc-tied C s (count l u v) =
-    tied-report s [] (number (Positions.count (positionsOf (fedAs s)) v (firstAllowed l) (extent l u))) (number (widths (clipped v (firstAllowed l) (extent l u) (runsOf s))))
-    (ap number (count-runs (positionsOf (fedAs s)) v (firstAllowed l) (extent l u) ∙ ap widths (in-range s v (firstAllowed l) (extent l u))))
+calc-tied C s (tally l u v) =
+    tied-report s []
+    (tallied (Positions.count (positionsOf (fedAs s)) v (firstAllowed l) (extent l u)) (Positions.runCount (positionsOf (fedAs s)) v (firstAllowed l) (extent l u)))
+    (tallied (widths (clipped v (firstAllowed l) (extent l u) (runsOf s))) (length (clipped v (firstAllowed l) (extent l u) (runsOf s))))
+    (ap₂ tallied (count-runs (positionsOf (fedAs s)) v (firstAllowed l) (extent l u) ∙ ap widths (in-range s v (firstAllowed l) (extent l u)))
+    (ap length (in-range s v (firstAllowed l) (extent l u))))
 calc-tied C s (select l u v k) =
     tied-report s [] (position (Positions.select (positionsOf (fedAs s)) v (firstAllowed l) (extent l u) k)) (position (selectRuns (clipped v (firstAllowed l) (extent l u) (runsOf s)) k))
     (ap position (select-runs (positionsOf (fedAs s)) v (firstAllowed l) (extent l u) k ∙ ap (λ ss. selectRuns ss k) (in-range s v (firstAllowed l) (extent l u))))
-calc-tied C s (countRanges l u v) =
-    tied-report s [] (number (Positions.countRanges (positionsOf (fedAs s)) v (firstAllowed l) (extent l u))) (number (length (clipped v (firstAllowed l) (extent l u) (runsOf s))))
-    (ap (λ ss. number (length ss)) (in-range s v (firstAllowed l) (extent l u)))
 calc-tied C s (gap l u zero) = tied-refused s (gapLength when badGap 0 ∷ []) _ _ (no-length s .1)
 calc-tied C s (gap l u (suc n)) =
     tied-report s (gapLength when badGap (suc n) ∷ []) (position (Positions.gap (positionsOf (fedAs s)) (firstAllowed l) (extent l u) (suc n)))

@@ -11,7 +11,7 @@ use native.Mathlib.Omega.{arith}
 use lib.ListN.{length}
 use Rattle.model.specs.declared.Run.{Run}
 use Rattle.model.proofs.Numbers.{split}
-use Rattle.model.specs.Positions.{Positions, run, inside, count, find, select, runsIn, countRanges, firstRun, lastAfter, lastRun, mem}
+use Rattle.model.specs.Positions.{Positions, run, inside, count, find, select, runsIn, runCount, firstRun, lastAfter, lastRun, mem}
 use Rattle.model.proofs.Counting.{Place, below, within, above, place, inside-yes, inside-below, inside-above, among-yes}
 use Rattle.model.proofs.Runs.{runsIn-canon, runsIn-mem, runsIn-is}
 use Rattle.model.proofs.Finds.{find-runs, count-runs, select-runs, selectRuns, selectRuns-in, selectRuns-past, startOf}
@@ -133,10 +133,10 @@ module _ (P Q : Positions) (v : Bool) (a b n : ℕ) (alike : Alike P Q a b n) wh
   count-moved =
       count-runs P v a n ∙ ap widths runsIn-moved ∙ moved-widths b a (b + n) b (runsIn Q v b n) (omega arith) canonical ∙ sym (count-runs Q v b n)
 
-  -- count_ranges
-  pub countRanges-moved : countRanges P v a n ≡ countRanges Q v b n
-  unfolding countRanges
-  countRanges-moved = ap length runsIn-moved ∙ moved-length b a (runsIn Q v b n)
+  -- the number of runs
+  pub runCount-moved : runCount P v a n ≡ runCount Q v b n
+  unfolding runCount
+  runCount-moved = ap length runsIn-moved ∙ moved-length b a (runsIn Q v b n)
 
   -- the first run
   pub firstRun-moved : firstRun (runsIn P v a n) ≡ Option·map (moveRun b a) (firstRun (runsIn Q v b n))

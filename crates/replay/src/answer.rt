@@ -10,6 +10,7 @@ use model::Listing;
 use model::Numbered;
 use model::Refusal;
 use model::Run;
+use model::Tallied;
 use model::Tested;
 use model::Written;
 
@@ -99,6 +100,19 @@ pub fn numbered(n: Numbered) {
         Numbered::Number(k) => {
             io::write_all(1, b"number");
             number(k);
+        }
+    }
+    end_line();
+}
+
+// The positions, then the runs.
+pub fn tallied(t: Tallied) {
+    match t {
+        Tallied::Refused(r) => refused(r),
+        Tallied::Tally(n) => {
+            io::write_all(1, b"number");
+            count(n.count);
+            number(n.runs);
         }
     }
     end_line();

@@ -163,7 +163,7 @@ fn find(store: &[u64], world: u64, line: &[u8], at: usize) -> bool {
     true
 }
 
-fn count(store: &[u64], world: u64, line: &[u8], at: usize) -> bool {
+fn tally(store: &[u64], world: u64, line: &[u8], at: usize) -> bool {
     let lower = line::bound_at(line, at);
     let upper = line::bound_at(line, lower.next);
     let value = line::flag_at(line, upper.next);
@@ -172,7 +172,7 @@ fn count(store: &[u64], world: u64, line: &[u8], at: usize) -> bool {
     }
     let a = lower.bound;
     let b = upper.bound;
-    answer::counted(report::count(store, world, a, b, value.value));
+    answer::tallied(report::tally(store, world, a, b, value.value));
     true
 }
 
@@ -187,19 +187,6 @@ fn select(store: &[u64], world: u64, line: &[u8], at: usize) -> bool {
     let a = lower.bound;
     let b = upper.bound;
     answer::found(report::select(store, world, a, b, value.value, k.value));
-    true
-}
-
-fn count_ranges(store: &[u64], world: u64, line: &[u8], at: usize) -> bool {
-    let lower = line::bound_at(line, at);
-    let upper = line::bound_at(line, lower.next);
-    let value = line::flag_at(line, upper.next);
-    if value.next != line.len() {
-        return false;
-    }
-    let a = lower.bound;
-    let b = upper.bound;
-    answer::numbered(report::count_ranges(store, world, a, b, value.value));
     true
 }
 
@@ -315,14 +302,11 @@ fn report_named(store: &[u64], world: u64, name: &[u8], line: &[u8], at: usize) 
     if check::same(name, b"find") {
         return find(store, world, line, at);
     }
-    if check::same(name, b"count") {
-        return count(store, world, line, at);
+    if check::same(name, b"tally") {
+        return tally(store, world, line, at);
     }
     if check::same(name, b"select") {
         return select(store, world, line, at);
-    }
-    if check::same(name, b"count_ranges") {
-        return count_ranges(store, world, line, at);
     }
     if check::same(name, b"gap") {
         return gap(store, world, line, at);

@@ -12,9 +12,10 @@ use lib.Dec.{ltb}
 use lib.ListN.{length}
 use borrow.Author.Tests.{lt-ltb, le-ltb}
 use Rattle.model.specs.declared.Run.{Run}
+use Rattle.model.specs.declared.Tally.{Tally}
 use Rattle.model.specs.Numbers.{size, worth}
 use Rattle.model.proofs.Numbers.{split}
-use Rattle.model.specs.Positions.{Positions, oneIf, count, select, runsIn, countRanges, mem}
+use Rattle.model.specs.Positions.{Positions, oneIf, count, select, runsIn, runCount, mem}
 use Rattle.model.proofs.Counting.{Place, below, within, above, place, count-cut, count-all, count-none, count-both, count-most}
 use Rattle.model.proofs.Runs.{runsIn-length-one, runsIn-length-join}
 use Rattle.model.specs.RunList.{Canon, startsBelow}
@@ -23,7 +24,6 @@ use Rattle.model.proofs.Clip.{clip, clip-some, clip-none, clip-runs}
 use Rattle.run_index.specs.declared.search.Rank.{Rank}
 use Rattle.run_index.specs.Tree.{Tree, inorder}
 use Rattle.run_index.specs.Search.{Index, TellsRank, Selectable, TellsSelected}
-use Rattle.reports.specs.declared.physical.Tally.{Tally}
 use Rattle.reports.specs.Reports.{Measured, TellsTally, Choosable, TellsChosen}
 use Rattle.run_index.proofs.Totals.{runs-length}
 use Rattle.reports.proofs.Joins.{select-second}
@@ -124,8 +124,8 @@ runs-alternate P a (suc m) =
 
 -- the same from s to e
 pub ranges-alternate : (P : Positions) (s e : ℕ) → s ≤ e
-    → countRanges P false s (suc e - s) + oneIf (P s) + oneIf (P e) ≡ countRanges P true s (suc e - s) + 1
-unfolding countRanges
+    → runCount P false s (suc e - s) + oneIf (P s) + oneIf (P e) ≡ runCount P true s (suc e - s) + 1
+unfolding runCount
 ranges-alternate P s e h =
     let q : suc (e - s) ≡ suc e - s = omega arith in
     let p : s + (e - s) ≡ e = omega arith in
@@ -160,8 +160,8 @@ module _ {w : List ℕ} {p s e : ℕ} {under upto : Rank} (rise : s ≤ e) (low 
       ∙ ap (λ j. j + count (mem (inorder t)) true (s + 1) (e - s)) (count-one (mem (inorder t)) s ∙ ap oneIf (sym ((low g t i) .held-is)))
 
   -- the runs of them are the one at s, if it is held, and those that start above
-  held-runs : {g : ℕ} {t : Tree} → Index w p g t → countRanges (mem (inorder t)) true s (suc e - s) ≡ upto .starts - under .starts + oneIf (under .held)
-  unfolding countRanges
+  held-runs : {g : ℕ} {t : Tree} → Index w p g t → runCount (mem (inorder t)) true s (suc e - s) ≡ upto .starts - under .starts + oneIf (under .held)
+  unfolding runCount
   held-runs {g} {t} i =
       ap length (clip-runs size 0 s (suc e - s) (inorder t) (i .canonical))
       ∙ omega (

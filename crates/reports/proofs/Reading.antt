@@ -12,22 +12,22 @@ use mir.Syntax.{w64}
 use mir.Val.{Fits}
 use Rattle.model.specs.declared.Count.{Count}
 use Rattle.model.specs.declared.Run.{Run}
+use Rattle.model.specs.declared.Tally.{Tally}
 use Rattle.model.specs.Numbers.{size, worth}
-use Rattle.model.specs.Positions.{Positions, oneIf, count, select, runsIn, countRanges}
+use Rattle.model.specs.Positions.{Positions, oneIf, count, select, runsIn, runCount}
 use Rattle.model.proofs.Counting.{count-cut, count-most}
 use Rattle.model.proofs.Runs.{runsIn-canon}
 use Rattle.model.proofs.Finds.{Selected, select-only, select-none}
 use Rattle.model.specs.RunList.{Canon}
 use Rattle.store.specs.declared.World.{World}
 use Rattle.store.specs.Places.{physicalOf, logicalOf}
-use Rattle.reports.specs.declared.physical.Tally.{Tally}
 use Rattle.store.specs.Layout.{heldIn}
 use Rattle.store.specs.Soundness.{Share, Standing}
 use Rattle.store.specs.Bounds.{TellsHeld}
 use Rattle.reports.specs.Reports.{Measured, TellsTally, Choosable, TellsChosen}
 use Rattle.model.proofs.Moved.{move}
 use Rattle.store.proofs.Turn.{Lies, turned-at, whole-length, whole-fits, whole-move, parted-move-first, parted-move-second, first-below}
-use Rattle.store.proofs.Turn.{count-whole, count-parted, countRanges-whole, countRanges-parted, select-whole}
+use Rattle.store.proofs.Turn.{count-whole, count-parted, runCount-whole, runCount-parted, select-whole}
 use Rattle.reports.proofs.Joins.{select-first}
 use Rattle.reports.proofs.Parted.{select-in-first, select-in-second}
 use Rattle.store.proofs.Opening.{physicalIn, standing-index, standing-held}
@@ -39,8 +39,8 @@ canon-most total k [] c = omega arith
 canon-most total k (r ∷ rs) c = omega (arith, c .0, c .1, c .2, canon-most total (r .«end» + 2) rs (c .3))
 
 -- so a range has at most half as many runs as positions, and one
-pub ranges-most : (P : Positions) (v : Bool) (a n : ℕ) → 2 * countRanges P v a n ≤ n + 1
-unfolding countRanges
+pub ranges-most : (P : Positions) (v : Bool) (a n : ℕ) → 2 * runCount P v a n ≤ n + 1
+unfolding runCount
 ranges-most P v a n = omega (arith, canon-most (a + n) a (runsIn P v a n) (runsIn-canon P v (a + n) a n (omega arith)))
 
 -- a longer range has as many positions of a value, or more
@@ -68,7 +68,7 @@ module _ {w : List ℕ} {share : Share} {h : World} (st : Standing w share h) wh
         let m : Measured (physicalIn st) v s (suc e - s) r = t (share .tag) (st .tree) (standing-index st) in
         subst (λ P. Measured P v a n r) (sym (standing-held st)) (record {
           count-is = m .count-is ∙ sym (count-whole lies (physicalIn st) v i ∙ ap (count (physicalIn st) v s) (whole-length lies i));
-          runs-are = m .runs-are ∙ sym (countRanges-whole lies (physicalIn st) v i ∙ ap (countRanges (physicalIn st) v s) (whole-length lies i));
+          runs-are = m .runs-are ∙ sym (runCount-whole lies (physicalIn st) v i ∙ ap (runCount (physicalIn st) v s) (whole-length lies i));
         })
 
     -- its k-th position can be selected from s on
@@ -129,23 +129,23 @@ module _ {w : List ℕ} {share : Share} {h : World} (st : Standing w share h) wh
 
       -- the run across physical M and 0 is counted twice
       runs-both-parts : {high low : Bool} → TellsHeld w (h .root) (size - 1) high → TellsHeld w (h .root) 0 low
-          → one .runs + two .runs ≡ countRanges (heldIn w h) v a n + oneIf (Bool·beq high v && Bool·beq low v)
+          → one .runs + two .runs ≡ runCount (heldIn w h) v a n + oneIf (Bool·beq high v && Bool·beq low v)
       runs-both-parts {high} {low} x y =
-          ap₂ _+_ ((first-part t) .runs-are) ((second-part u) .runs-are) ∙ sym (countRanges-parted lies (physicalIn st) v parted)
-          ∙ ap₂ (λ P b. countRanges P v a n + oneIf b) (sym (standing-held st))
+          ap₂ _+_ ((first-part t) .runs-are) ((second-part u) .runs-are) ∙ sym (runCount-parted lies (physicalIn st) v parted)
+          ∙ ap₂ (λ P b. runCount P v a n + oneIf b) (sym (standing-held st))
           (ap₂ (λ p q. Bool·beq p v && Bool·beq q v) (sym (x (share .tag) (st .tree) (standing-index st))) (sym (y (share .tag) (st .tree) (standing-index st))))
 
       module _ {high low : Bool} (x : TellsHeld w (h .root) (size - 1) high) (y : TellsHeld w (h .root) 0 low) where
         -- a run goes on from the first part into the second
-        runs-joined : Bool·beq high v ≡ true → Bool·beq low v ≡ true → one .runs + two .runs ≡ countRanges (heldIn w h) v a n + 1
-        runs-joined p q = runs-both-parts x y ∙ ap₂ (λ b d. countRanges (heldIn w h) v a n + oneIf (b && d)) p q
+        runs-joined : Bool·beq high v ≡ true → Bool·beq low v ≡ true → one .runs + two .runs ≡ runCount (heldIn w h) v a n + 1
+        runs-joined p q = runs-both-parts x y ∙ ap₂ (λ b d. runCount (heldIn w h) v a n + oneIf (b && d)) p q
 
         -- none does
-        runs-apart : (Bool·beq high v ≡ false) ⊎ (Bool·beq low v ≡ false) → one .runs + two .runs ≡ countRanges (heldIn w h) v a n
-        runs-apart (inl p) = runs-both-parts x y ∙ ap (λ b. countRanges (heldIn w h) v a n + oneIf (b && Bool·beq low v)) p ∙ omega arith
+        runs-apart : (Bool·beq high v ≡ false) ⊎ (Bool·beq low v ≡ false) → one .runs + two .runs ≡ runCount (heldIn w h) v a n
+        runs-apart (inl p) = runs-both-parts x y ∙ ap (λ b. runCount (heldIn w h) v a n + oneIf (b && Bool·beq low v)) p ∙ omega arith
         runs-apart (inr p) =
-            runs-both-parts x y ∙ ap (λ b. countRanges (heldIn w h) v a n + oneIf (Bool·beq high v && b)) p
-            ∙ ap (λ b. countRanges (heldIn w h) v a n + oneIf b) (and-false (Bool·beq high v)) ∙ omega arith
+            runs-both-parts x y ∙ ap (λ b. runCount (heldIn w h) v a n + oneIf (Bool·beq high v && b)) p
+            ∙ ap (λ b. runCount (heldIn w h) v a n + oneIf b) (and-false (Bool·beq high v)) ∙ omega arith
 
         -- then there is a run
         pub joined-some : Bool·beq high v ≡ true → Bool·beq low v ≡ true → 1 ≤ one .runs + two .runs

@@ -7,18 +7,18 @@ use mathlib.Core.Option.{Option, none, some}
 use Rattle.model.specs.declared.Run.{Run}
 use Rattle.model.specs.declared.Edge.{Edge}
 use Rattle.model.specs.declared.Edge.the-variants.{At, Nowhere}
+use Rattle.model.specs.declared.Tally.{Tally}
 use Rattle.model.specs.Numbers.{size, worth}
-use Rattle.model.specs.Positions.{Positions, count, select, countRanges, mem}
+use Rattle.model.specs.Positions.{Positions, count, select, runCount, mem}
 use Rattle.model.specs.RunList.{firstFrom}
 use Rattle.model.specs.Answers.{edgePosition}
 use Rattle.run_index.specs.Tree.{Tree, inorder}
 use Rattle.run_index.specs.Search.{Index}
-use Rattle.reports.specs.declared.physical.Tally.{Tally}
 
 -- the positions of a value among the n from a, and the runs of it there
 pub record Measured (P : Positions) (v : Bool) (a n : ℕ) (r : Tally) : Type 0 where
   pub count-is : worth (r .count) ≡ count P v a n
-  pub runs-are : r .runs ≡ countRanges P v a n
+  pub runs-are : r .runs ≡ runCount P v a n
 
 abbrev pub TellsTally : List ℕ → ℕ → ℕ → ℕ → Bool → Tally → Type 0
 TellsTally w p s e v r = (g : ℕ) (t : Tree) → Index w p g t → Measured (mem (inorder t)) v s (suc e - s) r

@@ -5,9 +5,9 @@ ghost use Prim.Native.Nat.{suc, _+_, _-_, _≤_, _<_};
 ghost use Rattle.store.specs.Layout.{heldIn};
 ghost use Rattle.store.specs.Soundness.{Stands};
 ghost use Rattle.reports.specs.Reports.{Measured, Next, Previous, Selects};
-use crate::physical::Tally;
 use model::Edge;
 use model::Logical;
+use model::Tally;
 use store::World;
 use store::places::Physical;
 

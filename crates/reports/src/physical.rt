@@ -6,14 +6,9 @@ ghost use Rattle.run_index.specs.Search.{Indexed};
 ghost use Rattle.reports.specs.Reports.{TellsTally, Choosable, TellsChosen, TellsNext, TellsPrevious, TellsStart};
 use model::Count;
 use model::Edge;
+use model::Tally;
 use run_index::search::Near;
 use store::places::Physical;
-
-// The positions of a value in a range, and the runs of it, clipped to the range.
-pub struct Tally {
-    pub count: Count,
-    pub runs: u64,
-}
 
 // One more than x.
 fn past(x: u64) -> Count

@@ -11,7 +11,7 @@ use native.Mathlib.Omega.{arith}
 use lib.ListN.{length}
 use borrow.Author.Tests.{lt-ltb, le-ltb}
 use Rattle.model.specs.Numbers.{size}
-use Rattle.model.specs.Positions.{Positions, oneIf, count, find, select, runsIn, countRanges, heldRuns, stretches, firstRun, lastRun, mem}
+use Rattle.model.specs.Positions.{Positions, oneIf, count, find, select, runsIn, runCount, heldRuns, stretches, firstRun, lastRun, mem}
 use Rattle.model.proofs.Counting.{beq-true, count-cut}
 use Rattle.model.proofs.Runs.{runsIn-length-join, heldRuns-cong}
 use Rattle.store.specs.Places.{physicalOf, logicalOf}
@@ -24,7 +24,7 @@ use Rattle.model.proofs.Moved.{
   moveRuns,
   runsIn-moved,
   count-moved,
-  countRanges-moved,
+  runCount-moved,
   firstRun-moved,
   lastRun-moved,
   find-moved,
@@ -157,15 +157,15 @@ module _ {o a n s e : ℕ} (lies : Lies o a n s e) where
           count-cut (turned o Q) v a n (size - s) (a + (size - s)) (e + 1) (parted-length h) refl
           ∙ ap₂ _+_ (count-moved (turned o Q) Q v a s (size - s) (parted-first h)) (count-moved (turned o Q) Q v (a + (size - s)) 0 (e + 1) (parted-second h))
 
-      -- count_ranges, in a whole range
-      pub countRanges-whole : s ≤ e → countRanges (turned o Q) v a n ≡ countRanges Q v s n
-      countRanges-whole h = countRanges-moved (turned o Q) Q v a s n (whole-alike h)
+      -- the number of runs, in a whole range
+      pub runCount-whole : s ≤ e → runCount (turned o Q) v a n ≡ runCount Q v s n
+      runCount-whole h = runCount-moved (turned o Q) Q v a s n (whole-alike h)
 
-      -- count_ranges, in a parted range: the run across physical M and 0 is counted once
-      pub countRanges-parted : e < s
-          → countRanges (turned o Q) v a n + oneIf (Bool·beq (Q (size - 1)) v && Bool·beq (Q 0) v) ≡ countRanges Q v s (size - s) + countRanges Q v 0 (e + 1)
-      unfolding countRanges
-      countRanges-parted h =
+      -- the number of runs, in a parted range: the run across physical M and 0 is counted once
+      pub runCount-parted : e < s
+          → runCount (turned o Q) v a n + oneIf (Bool·beq (Q (size - 1)) v && Bool·beq (Q 0) v) ≡ runCount Q v s (size - s) + runCount Q v 0 (e + 1)
+      unfolding runCount
+      runCount-parted h =
           go (size - s - 1) (omega arith)
           (ap (turned o Q) (omega arith) ∙ parted-first h (size - s - 1) (omega arith) ∙ ap Q (omega arith))
           (ap (turned o Q) (omega arith) ∙ parted-second h 0 (omega arith))
@@ -173,11 +173,11 @@ module _ {o a n s e : ℕ} (lies : Lies o a n s e) where
           P : Positions
           P = turned o Q
 
-          one : countRanges P v a (size - s) ≡ countRanges Q v s (size - s)
-          one = countRanges-moved P Q v a s (size - s) (parted-first h)
+          one : runCount P v a (size - s) ≡ runCount Q v s (size - s)
+          one = runCount-moved P Q v a s (size - s) (parted-first h)
 
-          two : countRanges P v (a + (size - s)) (e + 1) ≡ countRanges Q v 0 (e + 1)
-          two = countRanges-moved P Q v (a + (size - s)) 0 (e + 1) (parted-second h)
+          two : runCount P v (a + (size - s)) (e + 1) ≡ runCount Q v 0 (e + 1)
+          two = runCount-moved P Q v (a + (size - s)) 0 (e + 1) (parted-second h)
 
           go : (m : ℕ) → size - s ≡ suc m → P (a + m) ≡ Q (size - 1) → P (suc (a + m)) ≡ Q 0
               → length (runsIn P v a n) + oneIf (Bool·beq (Q (size - 1)) v && Bool·beq (Q 0) v) ≡ length (runsIn Q v s (size - s)) + length (runsIn Q v 0 (e + 1))
@@ -236,10 +236,10 @@ runs-at Q total z h k = go (z - 1) (total - z - 1) (omega arith) (omega arith) (
 -- the stretch across physical M and 0 is one, and that across the place z of logical 0 is two
 pub stretches-turned : (o z : ℕ) (Q : Positions) → o < size → 1 ≤ o → z ≡ physicalOf 0 o
     → stretches (turned o Q) + oneIf (Q (size - 1) && Q 0) ≡ stretches Q + oneIf (Q (z - 1) && Q z)
-unfolding stretches heldRuns countRanges
+unfolding stretches heldRuns runCount
 stretches-turned o z Q h k q =
     ap (λ b. length (runsIn (turned o Q) true 0 size) + oneIf b) (sym (ap₂ _&&_ (beq-true (Q (size - 1))) (beq-true (Q 0))))
-    ∙ countRanges-parted (lies-all o z h k q) Q true (omega arith)
+    ∙ runCount-parted (lies-all o z h k q) Q true (omega arith)
     ∙ ap (λ n. length (runsIn Q true z (size - z)) + length (runsIn Q true 0 n)) (omega arith)
     ∙ add-comm (length (runsIn Q true z (size - z))) (length (runsIn Q true 0 z))
     ∙ sym (runs-at Q size z (omega arith) (omega arith))

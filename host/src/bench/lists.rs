@@ -10,15 +10,23 @@ use crate::differential::random::Random;
 use crate::differential::reference::Run;
 use crate::{Limits, PoolBuf, raw};
 
-const LABELS: [&str; 7] =
-    ["set and flip", "get", "find", "count", "select", "get, find, count, select", "half sets, half reports"];
+const LABELS: [&str; 8] = [
+    "set and flip",
+    "get",
+    "find",
+    "tally",
+    "tally, against count",
+    "select",
+    "get, find, tally, select",
+    "half sets, half reports",
+];
 const CALLS: usize = 1_000;
 const ROW: usize = 8;
 const REPETITIONS: usize = 9;
 const CHECKS: usize = 41;
 
 // The labels whose lists are also played in shorter frames, how many calls these have, and the names of both together.
-const MIXED: [usize; 3] = [0, 5, 6];
+const MIXED: [usize; 3] = [0, 6, 7];
 const LENGTHS: [usize; 3] = [10, 100, CALLS];
 const FRAMES: [&str; MIXED.len() * LENGTHS.len()] = [
     "set and flip, 10",
@@ -53,20 +61,20 @@ fn record(call: &Call) -> [u64; RECORD] {
         Call::Shift(distance, left) => range(4, distance, 0, left, 0),
         Call::RunAt(x) => range(5, x, 0, false, 0),
         Call::Find(first, last, value) => range(6, first, last, value, 0),
-        Call::Count(first, last, value) => range(7, first, last, value, 0),
         Call::Select(first, last, value, k) => range(8, first, last, value, k),
-        Call::CountRanges(first, last, value) => range(9, first, last, value, 0),
+        Call::Tally(first, last, value) | Call::Positions(first, last, value) => range(15, first, last, value, 0),
         Call::Draws(..) => unreachable!("lists have no draws"),
     }
 }
 
-// What answers tell.
-fn told(answers: &[u64]) -> Vec<Told> {
-    let tell = |a: &[u64]| {
+// What answers tell, but the runs that no one asked for.
+fn told<'a>(calls: impl Iterator<Item = &'a Call>, answers: &[u64]) -> Vec<Told> {
+    let tell = |(call, a): (&Call, &[u64])| {
         assert_eq!(a[0], 0, "a call of a list is refused");
-        Told { found: a[1], number: a[2], end: a[3] }
+        let end = if let Call::Positions(..) = call { 0 } else { a[3] };
+        Told { found: a[1], number: a[2], end }
     };
-    answers.chunks_exact(RECORD).map(tell).collect()
+    calls.zip(answers.chunks_exact(RECORD)).map(tell).collect()
 }
 
 // A list that leaves the set as it was.
@@ -84,12 +92,15 @@ fn list(label: usize, runs: &[Run], random: &mut Random) -> Vec<Call> {
         0 => blocks(20, 10, random),
         1 => reports(&[Report::Get], CALLS, random),
         2 => reports(&[Report::Find], CALLS, random),
-        3 => reports(&[Report::Count], CALLS, random),
-        4 => reports(&[Report::Select], CALLS, random),
-        5 => reports(&[Report::Get, Report::Find, Report::Count, Report::Select], CALLS, random),
+        3 => reports(&[Report::Tally], CALLS, random),
+        4 => reports(&[Report::Positions], CALLS, random),
+        5 => reports(&[Report::Select], CALLS, random),
+        // Of these four IntervalBitSet has each as one call.
+        6 => reports(&[Report::Get, Report::Find, Report::Positions, Report::Select], CALLS, random),
         _ => {
             let changes = blocks(12, 1, random);
-            let reports = reports(&Report::ALL[..6], changes.len(), random);
+            let all = [Report::Get, Report::RunAt, Report::Find, Report::Tally, Report::Select];
+            let reports = reports(&all, changes.len(), random);
             changes.into_iter().zip(reports).flat_map(|(change, report)| [change, report]).collect()
         }
     };
@@ -148,10 +159,8 @@ impl Bench {
             },
             || lists.iter().map(|list| each(|| work::theirs(&mut self.pair.theirs, list, &mut self.told))).collect(),
         );
-        assert!(
-            told(&self.answers[..lists.len() * CALLS * RECORD]) == self.told,
-            "the two sides do not answer the same"
-        );
+        let answered = told(lists.iter().flatten(), &self.answers);
+        assert!(answered == self.told, "the two sides do not answer the same");
         times
     }
 

@@ -13,9 +13,9 @@ const LABELS: [&str; 11] = [
     "get",
     "run_at",
     "find",
-    "count",
+    "tally",
+    "tally, against count",
     "select",
-    "count_ranges",
     "draw",
 ];
 

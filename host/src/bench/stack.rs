@@ -121,7 +121,7 @@ macro_rules! refusing {
     };
 }
 
-refusing!(Counted, Numbered, Around, Found, Listed, Drawn);
+refusing!(Counted, Tallied, Numbered, Around, Found, Listed, Drawn);
 
 fn included(value: u64) -> Bound {
     Bound { kind: 1, value }
@@ -170,9 +170,8 @@ fn measure_on(painted: &mut Painted, physical: &[Run], offset: u64, shape: Shape
         let (l, u) = (included(first), included(last));
         for value in [0, 1] {
             on_stack!(painted, vizturel_find(p, n, i, l, u, value));
-            on_stack!(painted, vizturel_count(p, n, i, l, u, value));
+            on_stack!(painted, vizturel_tally(p, n, i, l, u, value));
             on_stack!(painted, vizturel_select(p, n, i, l, u, value, (last - first) / 4));
-            on_stack!(painted, vizturel_count_ranges(p, n, i, l, u, value));
             on_stack!(painted, vizturel_ranges(p, n, i, l, u, value));
             on_stack!(painted, vizturel_draw_front(p, n, i, first, last, value));
             on_stack!(painted, vizturel_draw_back(p, n, i, first, last, value));

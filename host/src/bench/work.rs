@@ -6,7 +6,7 @@
 use crate::differential::random::Random;
 use crate::differential::reference::{self, Run};
 use crate::oracle::IntervalBitSet;
-use crate::{SetBuf, frame};
+use crate::{SetBuf, Tally, frame};
 
 const CELL: u64 = 1024;
 // Below and above the cells lie more positions than any shift moves.
@@ -85,9 +85,11 @@ pub enum Call {
     Get(u64),
     RunAt(u64),
     Find(u64, u64, bool),
-    Count(u64, u64, bool),
+    /// Of IntervalBitSet it is `count` and `count_ranges`, one after the other.
+    Tally(u64, u64, bool),
+    /// A tally whose runs no one asked for: of IntervalBitSet it is `count` alone.
+    Positions(u64, u64, bool),
     Select(u64, u64, bool, u64),
-    CountRanges(u64, u64, bool),
     /// So many draws from the front of one listing, of all runs of the value from a position on.
     Draws(u64, bool, u64),
 }
@@ -99,7 +101,8 @@ impl Call {
     }
 }
 
-/// What a call told: a number with its carry, or a run, or a position that was found; of draws, how many gave a run, and sums.
+/// What a call told: a number with its carry, or a run, or a position that was found; of a tally, the positions with their carry, and the runs;
+/// of draws, how many gave a run, and sums.
 #[derive(Clone, Copy, Debug, Default, PartialEq)]
 pub struct Told {
     pub found: u64,
@@ -114,6 +117,10 @@ impl Told {
 
     fn count(count: u128) -> Told {
         Told { found: (count >> 64) as u64, number: count as u64, end: 0 }
+    }
+
+    fn tally(positions: u128, runs: u64) -> Told {
+        Told { end: runs, ..Told::count(positions) }
     }
 
     fn position(x: Option<u64>) -> Told {
@@ -148,9 +155,12 @@ pub fn ours(set: &mut SetBuf, calls: &[Call], told: &mut Vec<Told>) {
                 Told { found: 0, number: *run.start(), end: *run.end() }
             }
             Call::Find(first, last, value) => Told::position(set.find(first..=last, value).expect(DONE)),
-            Call::Count(first, last, value) => Told::count(set.count(first..=last, value).expect(DONE)),
+            Call::Tally(first, last, value) => {
+                let Tally { positions, runs } = set.tally(first..=last, value).expect(DONE);
+                Told::tally(positions, runs)
+            }
+            Call::Positions(first, last, value) => Told::count(set.tally(first..=last, value).expect(DONE).positions),
             Call::Select(first, last, value, k) => Told::position(set.select(first..=last, value, k).expect(DONE)),
-            Call::CountRanges(first, last, value) => Told::number(set.count_ranges(first..=last, value).expect(DONE)),
             Call::Draws(first, value, n) => {
                 let mut sums = Told::default();
                 let mut listing = set.listing(first.., value).expect(DONE);
@@ -191,9 +201,12 @@ pub fn theirs(set: &mut IntervalBitSet, calls: &[Call], told: &mut Vec<Told>) {
                 Told { found: 0, number: *run.start() as u64, end: *run.end() as u64 }
             }
             Call::Find(first, last, value) => position(set.find(range(first, last), value)),
-            Call::Count(first, last, value) => Told::count(set.count(range(first, last), value)),
+            Call::Tally(first, last, value) => {
+                let positions = set.count(range(first, last), value);
+                Told::tally(positions, set.count_ranges(range(first, last), value) as u64)
+            }
+            Call::Positions(first, last, value) => Told::count(set.count(range(first, last), value)),
             Call::Select(first, last, value, k) => position(set.select(range(first, last), value, k.into())),
-            Call::CountRanges(first, last, value) => Told::number(set.count_ranges(range(first, last), value) as u64),
             Call::Draws(first, value, n) => {
                 let mut sums = Told::default();
                 for run in set.ranges(first as usize.., value).take(n as usize) {
@@ -273,15 +286,15 @@ pub enum Report {
     Get,
     RunAt,
     Find,
-    Count,
+    Tally,
+    Positions,
     Select,
-    CountRanges,
     Draws,
 }
 
 impl Report {
     pub const ALL: [Report; 7] =
-        [Report::Get, Report::RunAt, Report::Find, Report::Count, Report::Select, Report::CountRanges, Report::Draws];
+        [Report::Get, Report::RunAt, Report::Find, Report::Tally, Report::Positions, Report::Select, Report::Draws];
 }
 
 /// A report: of a position in any cell, or of a range between two such; `find` looks through five cells.
@@ -293,10 +306,10 @@ pub fn report(kind: Report, runs: &[Run], random: &mut Random) -> Call {
         Report::Get => Call::Get(x),
         Report::RunAt => Call::RunAt(x),
         Report::Find => Call::Find(x, x + 5 * CELL, value),
-        Report::Count => Call::Count(first, last, value),
+        Report::Tally => Call::Tally(first, last, value),
+        Report::Positions => Call::Positions(first, last, value),
         // About a quarter of the positions are held: most are found.
         Report::Select => Call::Select(first, last, value, random.below((last - first) / 5 + 1)),
-        Report::CountRanges => Call::CountRanges(first, last, value),
         Report::Draws => Call::Draws(BASE + random.below(runs.len() as u64 - 60) * CELL, value, 50),
     }
 }

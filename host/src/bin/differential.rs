@@ -32,13 +32,13 @@ fn main() -> ExitCode {
     };
     println!("seed {}, {} random calls, stride {}", options.seed, options.calls, options.stride);
     match differential::run(options) {
-        Ok(tally) => {
-            for (number, count) in tally.refused.iter().enumerate().skip(1) {
+        Ok(score) => {
+            for (number, count) in score.refused.iter().enumerate().skip(1) {
                 println!("refused with {number}: {count}");
             }
-            println!("in frames: {}", tally.listed);
-            println!("on maps, each by words and by single bytes: {}", tally.mapped);
-            println!("{} calls compared, 0 unequal", tally.compared);
+            println!("in frames: {}", score.listed);
+            println!("on maps, each by words and by single bytes: {}", score.mapped);
+            println!("{} calls compared, 0 unequal", score.compared);
             ExitCode::SUCCESS
         }
         Err(difference) => {

@@ -5,7 +5,7 @@ use std::str::{FromStr, Split};
 
 use crate::differential::calls::{Call, Place, Range, SPARE, Told};
 use crate::differential::records::{self, Record};
-use crate::{Listing, Operation};
+use crate::{Listing, Operation, Tally};
 
 struct Words<'a>(Split<'a, char>);
 
@@ -100,9 +100,8 @@ fn at_world(name: &str, at: Place, w: &mut Words) -> Option<Call> {
         "get" => Call::Get { at, x: w.number()? },
         "run_at" => Call::RunAt { at, x: w.number()? },
         "find" => Call::Find { at, range: w.range()?, value: w.truth()? },
-        "count" => Call::Count { at, range: w.range()?, value: w.truth()? },
+        "tally" => Call::Tally { at, range: w.range()?, value: w.truth()? },
         "select" => Call::Select { at, range: w.range()?, value: w.truth()?, k: w.number()? },
-        "count_ranges" => Call::CountRanges { at, range: w.range()?, value: w.truth()? },
         "gap" => Call::Gap { at, range: w.range()?, n: w.number()? },
         "ranges" => Call::Ranges { at, range: w.range()?, value: w.truth()?, backs: 0 },
         "draw_front" | "draw_back" => {
@@ -172,9 +171,8 @@ pub fn write(call: &Call) -> String {
         Call::Get { at, x } => format!("get {at} {x}"),
         Call::RunAt { at, x } => format!("run_at {at} {x}"),
         Call::Find { at, range, value } => of_range("find", at, range, value),
-        Call::Count { at, range, value } => of_range("count", at, range, value),
+        Call::Tally { at, range, value } => of_range("tally", at, range, value),
         Call::Select { at, range, value, k } => format!("{} {k}", of_range("select", at, range, value)),
-        Call::CountRanges { at, range, value } => of_range("count_ranges", at, range, value),
         Call::Gap { at, range: r, n } => format!("gap {at} {} {n}", range(r)),
         Call::Ranges { at, range, value, .. } => of_range("ranges", at, range, value),
         Call::Draw { at, listing: l, back } => {
@@ -207,6 +205,7 @@ pub fn tell(call: &Call, told: &Told) -> String {
         Told::Refused(r) => format!("refused {}{}", r.number(), "\n-".repeat(due)),
         Told::Done => "done".to_string(),
         Told::Count(n) => format!("number {n}"),
+        Told::Tally(Tally { positions, runs }) => format!("number {positions} {runs}"),
         Told::Number(n) => format!("number {n}"),
         Told::Value(v) => format!("value {}", u8::from(*v)),
         Told::Run(run) => format!("run {} {}", run.start(), run.end()),

@@ -5,7 +5,7 @@ use std::ops::{Bound, RangeInclusive};
 
 use super::records::Record;
 use super::reference::Run;
-use crate::{Listing, Operation, Refusal};
+use crate::{Listing, Operation, Refusal, Tally};
 
 pub type Range = (Bound<u64>, Bound<u64>);
 
@@ -80,7 +80,7 @@ pub enum Call {
         range: Range,
         value: bool,
     },
-    Count {
+    Tally {
         at: Place,
         range: Range,
         value: bool,
@@ -90,11 +90,6 @@ pub enum Call {
         range: Range,
         value: bool,
         k: u64,
-    },
-    CountRanges {
-        at: Place,
-        range: Range,
-        value: bool,
     },
     Gap {
         at: Place,
@@ -209,6 +204,7 @@ pub enum Told {
     Refused(Refusal),
     Done,
     Count(u128),
+    Tally(Tally),
     Number(u64),
     Value(bool),
     Run(RangeInclusive<u64>),

@@ -22,9 +22,8 @@ pub enum Kind {
     Get,
     RunAt,
     Find,
-    Count,
+    Tally,
     Select,
-    CountRanges,
     Gap,
     Ranges,
     Draw,
@@ -42,13 +41,12 @@ pub enum Kind {
 }
 
 /// Every kind but [`Kind::Empty`], which is a build.
-pub const KINDS: [Kind; 24] = [
+pub const KINDS: [Kind; 23] = [
     Kind::Get,
     Kind::RunAt,
     Kind::Find,
-    Kind::Count,
+    Kind::Tally,
     Kind::Select,
-    Kind::CountRanges,
     Kind::Gap,
     Kind::Ranges,
     Kind::Draw,
@@ -279,13 +277,12 @@ pub fn call(random: &mut Random, stores: &[Store], kind: Kind, at: Place) -> Cal
         Kind::Get => Call::Get { at, x: position(random, runs) },
         Kind::RunAt => Call::RunAt { at, x: position(random, runs) },
         Kind::Find => Call::Find { at, range: range(random, runs), value },
-        Kind::Count => Call::Count { at, range: range(random, runs), value },
+        Kind::Tally => Call::Tally { at, range: range(random, runs), value },
         Kind::Select => {
             let range = range(random, runs);
             let k = order(random, runs, range, value);
             Call::Select { at, range, value, k }
         }
-        Kind::CountRanges => Call::CountRanges { at, range: range(random, runs), value },
         Kind::Gap => {
             let (range, n) = gap(random, runs);
             Call::Gap { at, range, n }
@@ -393,7 +390,7 @@ fn gap_length(random: &mut Random, free: &[Run]) -> u64 {
 }
 
 // What a frame's calls are, those that a world grows by more than once.
-const LISTED: [Kind; 19] = [
+const LISTED: [Kind; 18] = [
     Kind::Empty,
     Kind::Set,
     Kind::Set,
@@ -405,9 +402,8 @@ const LISTED: [Kind; 19] = [
     Kind::Get,
     Kind::RunAt,
     Kind::Find,
-    Kind::Count,
+    Kind::Tally,
     Kind::Select,
-    Kind::CountRanges,
     Kind::Gap,
     Kind::Ranges,
     Kind::Draw,

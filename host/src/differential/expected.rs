@@ -6,7 +6,7 @@ use super::calls::{Call, Place, Range, SPARE, STALE, STALE_WORD, Told, ends_of, 
 use super::records;
 use super::reference::{self, Limit, Look, Run, World};
 use crate::oracle::IntervalBitSet;
-use crate::{Answer, Listing, Operation, Refusal};
+use crate::{Answer, Listing, Operation, Refusal, Tally};
 
 // The oracle's positions are usize.
 const _: () = assert!(usize::BITS == 64);
@@ -246,13 +246,15 @@ impl Expected {
             Call::Find { at, range, value } => {
                 Ok(Told::Position(self.set(at)?.find(bounds(range), value).map(|x| x as u64)))
             }
-            Call::Count { at, range, value } => Ok(Told::Count(self.set(at)?.count(bounds(range), value))),
+            // The oracle has each half as a call of its own.
+            Call::Tally { at, range, value } => {
+                let p = self.set(at)?;
+                let runs = p.count_ranges(bounds(range), value) as u64;
+                Ok(Told::Tally(Tally { positions: p.count(bounds(range), value), runs }))
+            }
             Call::Select { at, range, value, k } => {
                 let found = self.set(at)?.select(bounds(range), value, k.into());
                 Ok(Told::Position(found.map(|x| x as u64)))
-            }
-            Call::CountRanges { at, range, value } => {
-                Ok(Told::Number(self.set(at)?.count_ranges(bounds(range), value) as u64))
             }
             Call::Gap { at, range, n } => {
                 let p = self.set(at)?;

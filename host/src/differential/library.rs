@@ -59,9 +59,8 @@ impl Library {
             Call::Get { at, x } => self.lent(at).get(x).map(Told::Value),
             Call::RunAt { at, x } => self.lent(at).run_at(x).map(Told::Run),
             Call::Find { at, range, value } => self.lent(at).find(range, value).map(Told::Position),
-            Call::Count { at, range, value } => self.lent(at).count(range, value).map(Told::Count),
+            Call::Tally { at, range, value } => self.lent(at).tally(range, value).map(Told::Tally),
             Call::Select { at, range, value, k } => self.lent(at).select(range, value, k).map(Told::Position),
-            Call::CountRanges { at, range, value } => self.lent(at).count_ranges(range, value).map(Told::Number),
             Call::Gap { at, range, n } => self.lent(at).gap(range, n).map(Told::Position),
             Call::Ranges { at, range, value, backs } => {
                 let world = self.lent(at);

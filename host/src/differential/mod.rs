@@ -72,7 +72,7 @@ impl fmt::Display for Difference {
 }
 
 /// What was compared so far.
-pub struct Tally {
+pub struct Score {
     part: &'static str,
     progress: bool,
     began: Instant,
@@ -87,10 +87,10 @@ pub struct Tally {
     pub refused: [u64; 13],
 }
 
-impl Tally {
-    fn new(progress: bool) -> Tally {
+impl Score {
+    fn new(progress: bool) -> Score {
         let now = Instant::now();
-        Tally { part: "", progress, began: now, told: now, compared: 0, listed: 0, mapped: 0, refused: [0; 13] }
+        Score { part: "", progress, began: now, told: now, compared: 0, listed: 0, mapped: 0, refused: [0; 13] }
     }
 
     fn begin(&mut self, part: &'static str) {
@@ -148,27 +148,27 @@ impl Sequence {
     }
 
     /// Makes the next call.
-    pub fn call(&mut self, tally: &mut Tally, call: Call) -> Result<(), Difference> {
+    pub fn call(&mut self, score: &mut Score, call: Call) -> Result<(), Difference> {
         let outside = matches!(call, Call::Lend { .. } | Call::Poke { .. });
         let stepped = self.sides.step(&call);
-        tally.mapped += u64::from(call.has_forms());
+        score.mapped += u64::from(call.has_forms());
         self.calls.push(call);
         match stepped {
             Ok(_) if outside => Ok(()),
             Ok(Told::Refused(r)) => {
-                tally.count(r.number());
+                score.count(r.number());
                 Ok(())
             }
             // A frame is a call, and so is each of its records.
             Ok(told) => {
-                tally.count(0);
+                score.count(0);
                 if let Told::Answers(all, _) = told {
-                    tally.listed += all.len() as u64;
-                    all.iter().for_each(|&[refusal, ..]| tally.count(refusal));
+                    score.listed += all.len() as u64;
+                    all.iter().for_each(|&[refusal, ..]| score.count(refusal));
                 }
                 Ok(())
             }
-            Err(told) => Err(self.shortest(tally.part, told)),
+            Err(told) => Err(self.shortest(score.part, told)),
         }
     }
 
@@ -225,21 +225,21 @@ fn unequal(plans: &[Plan], calls: &[Call]) -> Option<(usize, String)> {
 }
 
 /// Runs every part, and stops at the first difference.
-pub fn run(options: Options) -> Result<Tally, Difference> {
-    let mut tally = Tally::new(options.progress);
-    parts::exhaustive(&mut tally, options)?;
-    parts::makings(&mut tally, options)?;
-    parts::shares(&mut tally, options)?;
-    parts::damaged_stores(&mut tally, options)?;
-    parts::crafted_stores(&mut tally, options)?;
-    parts::wrong_lengths(&mut tally, options)?;
-    parts::damaged_bytes(&mut tally, options)?;
-    parts::windows(&mut tally, options)?;
-    parts::gaps(&mut tally, options)?;
-    parts::limits(&mut tally, options)?;
-    parts::large(&mut tally, options)?;
-    parts::frames(&mut tally, options)?;
-    parts::random(&mut tally, options)?;
-    tally.tell();
-    Ok(tally)
+pub fn run(options: Options) -> Result<Score, Difference> {
+    let mut score = Score::new(options.progress);
+    parts::exhaustive(&mut score, options)?;
+    parts::makings(&mut score, options)?;
+    parts::shares(&mut score, options)?;
+    parts::damaged_stores(&mut score, options)?;
+    parts::crafted_stores(&mut score, options)?;
+    parts::wrong_lengths(&mut score, options)?;
+    parts::damaged_bytes(&mut score, options)?;
+    parts::windows(&mut score, options)?;
+    parts::gaps(&mut score, options)?;
+    parts::limits(&mut score, options)?;
+    parts::large(&mut score, options)?;
+    parts::frames(&mut score, options)?;
+    parts::random(&mut score, options)?;
+    score.tell();
+    Ok(score)
 }

@@ -7,7 +7,7 @@ use super::chance::{self, KINDS, Kind, Wander};
 use super::random::Random;
 use super::records;
 use super::reference::{self, Draft, Limit, Run, Shape, WORLDS, node_at, record_at};
-use super::{Difference, HALF, M, Options, Plan, Sequence, Tally, WRITTEN};
+use super::{Difference, HALF, M, Options, Plan, Score, Sequence, WRITTEN};
 use crate::Operation;
 
 type Outcome = Result<(), Difference>;
@@ -45,50 +45,49 @@ fn changes(ranges: &[Range]) -> Vec<Call> {
 }
 
 // All that is reported of a range.
-fn report(tally: &mut Tally, s: &mut Sequence, range: Range, value: bool, backs: u64) -> Outcome {
-    s.call(tally, Call::Find { at: HERE, range, value })?;
-    s.call(tally, Call::Count { at: HERE, range, value })?;
-    s.call(tally, Call::CountRanges { at: HERE, range, value })?;
-    s.call(tally, Call::Ranges { at: HERE, range, value, backs })?;
+fn report(score: &mut Score, s: &mut Sequence, range: Range, value: bool, backs: u64) -> Outcome {
+    s.call(score, Call::Find { at: HERE, range, value })?;
+    s.call(score, Call::Tally { at: HERE, range, value })?;
+    s.call(score, Call::Ranges { at: HERE, range, value, backs })?;
     for k in [0, 1, HALF - 1, HALF, M - 1, M] {
-        s.call(tally, Call::Select { at: HERE, range, value, k })?;
+        s.call(score, Call::Select { at: HERE, range, value, k })?;
     }
     if !value {
         for n in [0, 1, 2, HALF - 1, HALF, M - 1, M] {
-            s.call(tally, Call::Gap { at: HERE, range, n })?;
+            s.call(score, Call::Gap { at: HERE, range, n })?;
         }
     }
     Ok(())
 }
 
 /// Every short sequence of changes at 0, around 2^63 and at M, with every kind of bound, and reports after each.
-pub fn exhaustive(tally: &mut Tally, options: Options) -> Outcome {
-    tally.begin("exhaustive: two changes, every bound, some reports");
+pub fn exhaustive(score: &mut Score, options: Options) -> Outcome {
+    score.begin("exhaustive: two changes, every bound, some reports");
     let ranges = every_range(&ENDS);
     let all = changes(&ranges);
     let mut turn = 0;
     for first in &all {
         let mut one = Sequence::alone(&[5]);
-        one.call(tally, first.clone())?;
+        one.call(score, first.clone())?;
         for second in &all {
             turn += 1;
             if turn % options.stride != 0 {
                 continue;
             }
             let mut two = one.clone();
-            two.call(tally, second.clone())?;
+            two.call(score, second.clone())?;
             for x in ENDS {
-                two.call(tally, Call::Get { at: HERE, x })?;
-                two.call(tally, Call::RunAt { at: HERE, x })?;
+                two.call(score, Call::Get { at: HERE, x })?;
+                two.call(score, Call::RunAt { at: HERE, x })?;
             }
             // Over the turns every range has its turn.
             for i in 0..3 {
                 let range = ranges[(3 * turn + i) as usize % ranges.len()];
-                report(tally, &mut two, range, turn / 121 % 2 == 0, turn)?;
+                report(score, &mut two, range, turn / 121 % 2 == 0, turn)?;
             }
         }
     }
-    tally.begin("exhaustive: a set and a shift, every report");
+    score.begin("exhaustive: a set and a shift, every report");
     for set in all.iter().filter(|c| matches!(c, Call::Set { value: true, .. })) {
         for shift in all.iter().filter(|c| matches!(c, Call::Shift { .. })) {
             turn += 1;
@@ -96,33 +95,33 @@ pub fn exhaustive(tally: &mut Tally, options: Options) -> Outcome {
                 continue;
             }
             let mut s = Sequence::alone(&[2]);
-            s.call(tally, set.clone())?;
-            s.call(tally, shift.clone())?;
+            s.call(score, set.clone())?;
+            s.call(score, shift.clone())?;
             for &range in &ranges {
                 for value in [true, false] {
-                    report(tally, &mut s, range, value, turn)?;
+                    report(score, &mut s, range, value, turn)?;
                 }
             }
         }
     }
-    tally.begin("exhaustive: three changes of closed ranges at capacities 1 to 3");
+    score.begin("exhaustive: three changes of closed ranges at capacities 1 to 3");
     let closed: Vec<Range> =
         (0..5).flat_map(|i| (i..5).map(move |j| (Bound::Included(ENDS[i]), Bound::Included(ENDS[j])))).collect();
     let all = changes(&closed);
     for (i, first) in all.iter().enumerate() {
         let mut one = Sequence::alone(&[1 + i % 3]);
-        one.call(tally, first.clone())?;
+        one.call(score, first.clone())?;
         for second in &all {
             let mut two = one.clone();
-            two.call(tally, second.clone())?;
+            two.call(score, second.clone())?;
             for third in &all {
                 turn += 1;
                 if turn % options.stride != 0 {
                     continue;
                 }
                 let mut three = two.clone();
-                three.call(tally, third.clone())?;
-                report(tally, &mut three, closed[turn as usize % closed.len()], turn / 15 % 2 == 0, turn)?;
+                three.call(score, third.clone())?;
+                report(score, &mut three, closed[turn as usize % closed.len()], turn / 15 % 2 == 0, turn)?;
             }
         }
     }
@@ -154,44 +153,44 @@ fn every_making(capacity: u64) -> Vec<Vec<Limit>> {
 }
 
 /// Pools made with limits of every kind, in words of every kind, and which worlds they have then.
-pub fn makings(tally: &mut Tally, options: Options) -> Outcome {
-    tally.begin("pools made");
+pub fn makings(score: &mut Score, options: Options) -> Outcome {
+    score.begin("pools made");
     let mut random = Random::new(options.seed ^ 0x11);
     let mut turn = 0;
-    let mut make = |tally: &mut Tally, random: &mut Random, capacity: usize, limits: Vec<u64>| {
+    let mut make = |score: &mut Score, random: &mut Random, capacity: usize, limits: Vec<u64>| {
         turn += 1;
         if turn % options.stride != 0 {
             return Ok(());
         }
         let mut s = Sequence::new(vec![chance::plan(random, capacity)]);
-        grow(tally, &mut s, random, 0, 2)?;
+        grow(score, &mut s, random, 0, 2)?;
         match turn / options.stride % 4 {
-            0 => s.call(tally, Call::Poke { at: 0, word: SPARE, value: 1 })?,
-            1 => s.call(tally, Call::Lend { at: 0, words: crate::room(capacity) })?,
-            2 => s.call(tally, Call::Lend { at: 0, words: vec![0; 8 * (capacity + 49) - 1] })?,
+            0 => s.call(score, Call::Poke { at: 0, word: SPARE, value: 1 })?,
+            1 => s.call(score, Call::Lend { at: 0, words: crate::room(capacity) })?,
+            2 => s.call(score, Call::Lend { at: 0, words: vec![0; 8 * (capacity + 49) - 1] })?,
             _ => {}
         }
         let worlds = limits.len() as u64 / 2;
-        s.call(tally, Call::New { to: 0, limits })?;
+        s.call(score, Call::New { to: 0, limits })?;
         for world in [worlds.saturating_sub(1), worlds] {
             let at = Place { store: 0, world };
-            s.call(tally, Call::Set { at, range: (Bound::Included(3), Bound::Included(4)), value: true })?;
+            s.call(score, Call::Set { at, range: (Bound::Included(3), Bound::Included(4)), value: true })?;
         }
         Ok(())
     };
     for capacity in [1, 2, 3, 15, 16, 17] {
         for limits in every_making(capacity as u64) {
             let words = limits.into_flattened();
-            make(tally, &mut random, capacity, words.clone())?;
+            make(score, &mut random, capacity, words.clone())?;
             // A last word without its partner is no world.
             let more = random.one_of(&[0, 1, M]);
-            make(tally, &mut random, capacity, [&words[..], &[more]].concat())?;
+            make(score, &mut random, capacity, [&words[..], &[more]].concat())?;
         }
     }
     let few = [0, 1, 2, 3, HALF, M - 1, M];
     for code in 0..7_usize.pow(4) {
         let limits = (0..4).map(|i| few[code / 7_usize.pow(i) % 7]).collect();
-        make(tally, &mut random, 2, limits)?;
+        make(score, &mut random, 2, limits)?;
     }
     Ok(())
 }
@@ -210,8 +209,8 @@ fn singles(count: usize) -> Vec<Run> {
 }
 
 /// Two worlds of small pools with every floor and ceiling and every number of runs: what each change that may add runs makes of that.
-pub fn shares(tally: &mut Tally, options: Options) -> Outcome {
-    tally.begin("what worlds take of their pool");
+pub fn shares(score: &mut Score, options: Options) -> Outcome {
+    score.begin("what worlds take of their pool");
     let mut turn = 0;
     for capacity in 1..=4_usize {
         for limits in every_pair(capacity as u64) {
@@ -219,7 +218,7 @@ pub fn shares(tally: &mut Tally, options: Options) -> Outcome {
                 turn += 1;
                 if turn % options.stride == 0 {
                     let runs = [code / (capacity + 2), code % (capacity + 2)];
-                    share(tally, Plan { capacity, limits: limits.to_vec() }, runs)?;
+                    share(score, Plan { capacity, limits: limits.to_vec() }, runs)?;
                 }
             }
         }
@@ -228,13 +227,13 @@ pub fn shares(tally: &mut Tally, options: Options) -> Outcome {
 }
 
 // Gives world 1 so many runs, then world 0, by each call that can, and then a run more and one less to each.
-fn share(tally: &mut Tally, plan: Plan, [here, beside]: [usize; 2]) -> Outcome {
+fn share(score: &mut Score, plan: Plan, [here, beside]: [usize; 2]) -> Outcome {
     let neighbour = Place { store: 0, world: 1 };
     let [set, complement] = [0, 1].map(|world| Place { store: 1, world });
     let mut s = Sequence::new(vec![plan, Plan { capacity: 16, limits: vec![[0, 16]; 2] }]);
-    s.call(tally, Call::Build { to: neighbour, runs: singles(beside) })?;
-    s.call(tally, Call::Build { to: set, runs: singles(here) })?;
-    s.call(tally, Call::Not { to: complement, a: set })?;
+    s.call(score, Call::Build { to: neighbour, runs: singles(beside) })?;
+    s.call(score, Call::Build { to: set, runs: singles(here) })?;
+    s.call(score, Call::Not { to: complement, a: set })?;
     let map = vec![0x55 & ((1_u16 << (2 * here)) - 1) as u8, if here > 4 { 1 << (2 * (here - 5)) } else { 0 }];
     for call in [
         Call::Build { to: HERE, runs: singles(here) },
@@ -245,40 +244,40 @@ fn share(tally: &mut Tally, plan: Plan, [here, beside]: [usize; 2]) -> Outcome {
         Call::Shifted { to: HERE, a: set, distance: 1, left: true },
     ] {
         let mut t = s.clone();
-        t.call(tally, call)?;
+        t.call(score, call)?;
         let single = |x| (Bound::Included(x), Bound::Included(x));
         for at in [HERE, neighbour] {
-            t.call(tally, Call::Set { at, range: single(40), value: true })?;
-            t.call(tally, Call::Flip { at, range: single(50) })?;
+            t.call(score, Call::Set { at, range: single(40), value: true })?;
+            t.call(score, Call::Flip { at, range: single(50) })?;
         }
         for at in [neighbour, HERE, neighbour] {
-            t.call(tally, Call::Flip { at, range: single(60) })?;
-            t.call(tally, Call::Set { at, range: (Bound::Unbounded, Bound::Included(1)), value: false })?;
+            t.call(score, Call::Flip { at, range: single(60) })?;
+            t.call(score, Call::Set { at, range: (Bound::Unbounded, Bound::Included(1)), value: false })?;
         }
     }
     Ok(())
 }
 
 // Some changes by chance in worlds of a store.
-fn grow(tally: &mut Tally, s: &mut Sequence, random: &mut Random, store: usize, count: u64) -> Outcome {
+fn grow(score: &mut Score, s: &mut Sequence, random: &mut Random, store: usize, count: u64) -> Outcome {
     for _ in 0..count {
         let kind = random.one_of(&[Kind::Set, Kind::Set, Kind::Set, Kind::Flip, Kind::Shift]);
         let at = chance::place(random, s.sides.stores(), store);
         let call = chance::call(random, s.sides.stores(), kind, at);
-        s.call(tally, call)?;
+        s.call(score, call)?;
     }
     Ok(())
 }
 
 // Every kind of call about a store, and before them a frame on a copy, so that they have the store as it is.
-fn every_kind(tally: &mut Tally, s: &mut Sequence, random: &mut Random, store: usize) -> Outcome {
+fn every_kind(score: &mut Score, s: &mut Sequence, random: &mut Random, store: usize) -> Outcome {
     let count = random.below(5) as usize;
     let frame = chance::frame(random, s.sides.stores(), store, count);
-    s.clone().call(tally, frame)?;
+    s.clone().call(score, frame)?;
     for kind in KINDS {
         let at = chance::place(random, s.sides.stores(), store);
         let call = chance::call(random, s.sides.stores(), kind, at);
-        s.call(tally, call)?;
+        s.call(score, call)?;
     }
     Ok(())
 }
@@ -290,16 +289,16 @@ fn word_beside(random: &mut Random, words: &[u64], word: usize) -> u64 {
 }
 
 /// Every word of sound pools changed in many ways, and every kind of call on what is left.
-pub fn damaged_stores(tally: &mut Tally, options: Options) -> Outcome {
-    tally.begin("damaged pools: each word changed");
+pub fn damaged_stores(score: &mut Score, options: Options) -> Outcome {
+    score.begin("damaged pools: each word changed");
     let mut random = Random::new(options.seed ^ 0xDA);
     let mut turn = 0;
     for store in 0..24 {
         let capacity = 1 + store % 6;
         let mut s = Sequence::new([capacity, 3, 3].map(|c| chance::plan(&mut random, c)).to_vec());
         let count = random.below(40);
-        grow(tally, &mut s, &mut random, 0, count)?;
-        grow(tally, &mut s, &mut random, 1, 4)?;
+        grow(score, &mut s, &mut random, 0, count)?;
+        grow(score, &mut s, &mut random, 1, 4)?;
         let words = s.sides.words(0).to_vec();
         for (word, &was) in words.iter().enumerate() {
             let last = capacity as u64 + 32;
@@ -313,12 +312,12 @@ pub fn damaged_stores(tally: &mut Tally, options: Options) -> Outcome {
                     continue;
                 }
                 let mut damaged = s.clone();
-                damaged.call(tally, Call::Poke { at: 0, word, value })?;
-                every_kind(tally, &mut damaged, &mut random, 0)?;
+                damaged.call(score, Call::Poke { at: 0, word, value })?;
+                every_kind(score, &mut damaged, &mut random, 0)?;
             }
         }
     }
-    tally.begin("damaged pools: two words changed, records and nodes mixed up");
+    score.begin("damaged pools: two words changed, records and nodes mixed up");
     for turn in 0..40_000 {
         if turn % options.stride != 0 {
             continue;
@@ -326,7 +325,7 @@ pub fn damaged_stores(tally: &mut Tally, options: Options) -> Outcome {
         let capacities = [1 + turn as usize / 2 % 5, 2, 4];
         let mut s = Sequence::new(capacities.map(|c| chance::plan(&mut random, c)).to_vec());
         let count = random.below(20);
-        grow(tally, &mut s, &mut random, 0, count)?;
+        grow(score, &mut s, &mut random, 0, count)?;
         let mut words = s.sides.words(0).to_vec();
         if (turn / options.stride).is_multiple_of(2) {
             for _ in 0..2 {
@@ -336,8 +335,8 @@ pub fn damaged_stores(tally: &mut Tally, options: Options) -> Outcome {
         } else {
             mix(&mut random, &mut words);
         }
-        s.call(tally, Call::Lend { at: 0, words })?;
-        every_kind(tally, &mut s, &mut random, 0)?;
+        s.call(score, Call::Lend { at: 0, words })?;
+        every_kind(score, &mut s, &mut random, 0)?;
     }
     Ok(())
 }
@@ -451,8 +450,8 @@ fn some_world(random: &mut Random, most: u64) -> Draft {
 }
 
 /// Pools that no call of the library made: any arrangement of nodes, any offsets and limits; sound ones and others.
-pub fn crafted_stores(tally: &mut Tally, options: Options) -> Outcome {
-    tally.begin("crafted pools");
+pub fn crafted_stores(score: &mut Score, options: Options) -> Outcome {
+    score.begin("crafted pools");
     let mut random = Random::new(options.seed ^ 0xC7);
     for turn in 0..60_000 {
         if turn % options.stride != 0 {
@@ -470,35 +469,35 @@ pub fn crafted_stores(tally: &mut Tally, options: Options) -> Outcome {
             }
             let shape = if random.once_in(8) { Shape::Any } else { Shape::Even };
             let words = reference::craft(capacity, &worlds, shape, &mut random);
-            s.call(tally, Call::Lend { at, words })?;
+            s.call(score, Call::Lend { at, words })?;
         }
         for _ in 0..2 {
-            every_kind(tally, &mut s, &mut random, 0)?;
+            every_kind(score, &mut s, &mut random, 0)?;
         }
     }
     Ok(())
 }
 
 /// Stores of every wrong length, alone and beside damaged ones, and worlds that are not opened.
-pub fn wrong_lengths(tally: &mut Tally, options: Options) -> Outcome {
-    tally.begin("wrong lengths");
+pub fn wrong_lengths(score: &mut Score, options: Options) -> Outcome {
+    score.begin("wrong lengths");
     let mut random = Random::new(options.seed ^ 0x1E);
     let mut lengths: Vec<usize> = (0..=80).chain(8 * 49 - 16..=8 * 52 + 1).collect();
     lengths.extend([8 * (65_536 + 49) + 1, 8 * (65_536 + 50)]);
     for length in lengths {
         let mut s = Sequence::alone(&[2, 2, 2]);
-        s.call(tally, Call::Lend { at: 0, words: vec![0; length] })?;
-        every_kind(tally, &mut s, &mut random, 0)?;
+        s.call(score, Call::Lend { at: 0, words: vec![0; length] })?;
+        every_kind(score, &mut s, &mut random, 0)?;
     }
     // Whatever the three worlds of a call are: in a store of a wrong length or a damaged one, not opened, or good.
     for which in 0..4_usize.pow(3) {
         let mut s = Sequence::alone(&[2, 2, 2]);
         let mut places = [0, 1, 2].map(Place::first);
         for (store, at) in places.iter_mut().enumerate() {
-            s.call(tally, Call::Set { at: *at, range: (Bound::Included(3), Bound::Excluded(9)), value: true })?;
+            s.call(score, Call::Set { at: *at, range: (Bound::Included(3), Bound::Excluded(9)), value: true })?;
             match which / 4_usize.pow(store as u32) % 4 {
-                0 => s.call(tally, Call::Lend { at: store, words: vec![0; 8 * 50 - 1] })?,
-                1 => s.call(tally, Call::Poke { at: store, word: SPARE, value: 1 })?,
+                0 => s.call(score, Call::Lend { at: store, words: vec![0; 8 * 50 - 1] })?,
+                1 => s.call(score, Call::Poke { at: store, word: SPARE, value: 1 })?,
                 2 => at.world = random.one_of(&[1, 15, 16, HALF, M]),
                 _ => {}
             }
@@ -506,7 +505,7 @@ pub fn wrong_lengths(tally: &mut Tally, options: Options) -> Outcome {
         let [at, a, b] = places;
         for op in [Operation::And, Operation::Or, Operation::Xor] {
             let mut t = s.clone();
-            t.call(tally, Call::Combine { to: at, op, a, b })?;
+            t.call(score, Call::Combine { to: at, op, a, b })?;
         }
         // With arguments that would be refused for themselves, too.
         for call in [
@@ -528,35 +527,35 @@ pub fn wrong_lengths(tally: &mut Tally, options: Options) -> Outcome {
             Call::Frame { at: 0, calls: vec![13, 0, 5, 0, 0, 0, 0, at.world], room: 7 },
         ] {
             let mut t = s.clone();
-            t.call(tally, call)?;
+            t.call(score, call)?;
         }
     }
     Ok(())
 }
 
 /// Written sets cut, lengthened and with each byte changed; run lists in every order.
-pub fn damaged_bytes(tally: &mut Tally, options: Options) -> Outcome {
-    tally.begin("damaged written sets");
+pub fn damaged_bytes(score: &mut Score, options: Options) -> Outcome {
+    score.begin("damaged written sets");
     let mut random = Random::new(options.seed ^ 0xB7);
     for runs in WRITTEN {
         let written = reference::encode(runs);
         for capacity in 1..=4 {
             let mut s = Sequence::alone(&[capacity]);
-            s.call(tally, Call::Set { at: HERE, range: (Bound::Included(7), Bound::Unbounded), value: true })?;
+            s.call(score, Call::Set { at: HERE, range: (Bound::Included(7), Bound::Unbounded), value: true })?;
             for length in 0..written.len() + 34 {
                 let mut bytes = written.clone();
                 bytes.resize(length, 0);
-                s.call(tally, Call::Load { to: HERE, bytes })?;
+                s.call(score, Call::Load { to: HERE, bytes })?;
             }
             for i in 0..written.len() {
                 for value in 0..=255 {
                     let mut bytes = written.clone();
                     bytes[i] = value;
-                    s.call(tally, Call::Load { to: HERE, bytes })?;
+                    s.call(score, Call::Load { to: HERE, bytes })?;
                 }
             }
             for room in 0..5 + 16 * capacity + 3 {
-                s.call(tally, Call::Write { at: HERE, room })?;
+                s.call(score, Call::Write { at: HERE, room })?;
             }
         }
     }
@@ -564,19 +563,19 @@ pub fn damaged_bytes(tally: &mut Tally, options: Options) -> Outcome {
     let mut s = Sequence::alone(&[2]);
     for length in 0..24 {
         for version in [0, 1, 2, 255] {
-            s.call(tally, Call::Load { to: HERE, bytes: vec![version; length] })?;
+            s.call(score, Call::Load { to: HERE, bytes: vec![version; length] })?;
         }
     }
-    tally.begin("run lists in every order");
+    score.begin("run lists in every order");
     let few = [0, 1, 2, 3, M - 2, M - 1, M];
     for code in 0..7_usize.pow(4) {
         let x: Vec<u64> = (0..4).map(|i| few[code / 7_usize.pow(i) % 7]).collect();
         let runs = vec![[x[0], x[1]], [x[2], x[3]]];
         for capacity in 1..=2 {
             let mut s = Sequence::alone(&[capacity]);
-            s.call(tally, Call::Load { to: HERE, bytes: reference::encode(&runs) })?;
-            s.call(tally, Call::Build { to: HERE, runs: Vec::new() })?;
-            s.call(tally, Call::Build { to: HERE, runs: runs.clone() })?;
+            s.call(score, Call::Load { to: HERE, bytes: reference::encode(&runs) })?;
+            s.call(score, Call::Build { to: HERE, runs: Vec::new() })?;
+            s.call(score, Call::Build { to: HERE, runs: runs.clone() })?;
         }
     }
     for _ in 0..40_000 / options.stride {
@@ -585,26 +584,26 @@ pub fn damaged_bytes(tally: &mut Tally, options: Options) -> Outcome {
         for _ in 0..random.below(3) {
             chance::spoil(&mut random, &mut bytes);
         }
-        s.call(tally, Call::Load { to: HERE, bytes })?;
+        s.call(score, Call::Load { to: HERE, bytes })?;
     }
     Ok(())
 }
 
 // Reads a map, clears it and, where a spare bit was one, reads what that leaves.
-fn read_and_cleared(tally: &mut Tally, s: &mut Sequence, base: u64, n: u64, map: Vec<u8>) -> Outcome {
+fn read_and_cleared(score: &mut Score, s: &mut Sequence, base: u64, n: u64, map: Vec<u8>) -> Outcome {
     let mut cleared = map.clone();
     let stray = reference::clear(n, &mut cleared) > 0;
-    s.call(tally, Call::ReadMap { at: HERE, base, n, map: map.clone() })?;
-    s.call(tally, Call::ClearMap { base, n, map })?;
+    s.call(score, Call::ReadMap { at: HERE, base, n, map: map.clone() })?;
+    s.call(score, Call::ClearMap { base, n, map })?;
     if stray {
-        s.call(tally, Call::ReadMap { at: HERE, base, n, map: cleared })?;
+        s.call(score, Call::ReadMap { at: HERE, base, n, map: cleared })?;
     }
     Ok(())
 }
 
 /// Windows and maps of every size near a limit, and slices of every room.
-pub fn windows(tally: &mut Tally, options: Options) -> Outcome {
-    tally.begin("windows and maps");
+pub fn windows(score: &mut Score, options: Options) -> Outcome {
+    score.begin("windows and maps");
     let mut random = Random::new(options.seed ^ 0x3A);
     let bases = [0, 1, 7, 8, HALF - 4, M - 524_287, M - 524_286, M - 16, M - 8, M - 7, M - 1, M];
     let sizes = [0, 1, 2, 7, 8, 9, 15, 16, 17, 63, 64, 65, 524_288, 524_289, 1 << 32, HALF, M];
@@ -612,26 +611,26 @@ pub fn windows(tally: &mut Tally, options: Options) -> Outcome {
         for n in sizes {
             for turn in 0..4 {
                 let mut s = Sequence::alone(&[[1, 2, 8, 200][turn]]);
-                grow(tally, &mut s, &mut random, 0, 6)?;
+                grow(score, &mut s, &mut random, 0, 6)?;
                 let due = n.min(600_000).div_ceil(8) as usize;
-                s.call(tally, Call::Fill { at: HERE, base, n })?;
+                s.call(score, Call::Fill { at: HERE, base, n })?;
                 for room in [0, due.saturating_sub(1), due, due + 1] {
-                    s.call(tally, Call::WriteMap { at: HERE, base, n, room })?;
+                    s.call(score, Call::WriteMap { at: HERE, base, n, room })?;
                 }
                 // The oracle takes long over a large map of single positions.
                 let single = due < 20 || (turn == 0 && base == 0);
                 let bytes = if single { vec![0, 0xFF, 0x55, random.number() as u8] } else { vec![0, 0xFF] };
                 for length in [due.saturating_sub(1), due, due + 1] {
                     for &byte in &bytes {
-                        read_and_cleared(tally, &mut s, base, n, vec![byte; length])?;
+                        read_and_cleared(score, &mut s, base, n, vec![byte; length])?;
                     }
                 }
                 if due < 20 {
                     // What is written is read back elsewhere.
-                    s.call(tally, Call::WriteMap { at: HERE, base, n, room: 40 })?;
+                    s.call(score, Call::WriteMap { at: HERE, base, n, room: 40 })?;
                     let map = (0..due).map(|_| random.number() as u8).collect();
-                    read_and_cleared(tally, &mut s, base, n, map)?;
-                    s.call(tally, Call::WriteMap { at: HERE, base, n, room: 40 })?;
+                    read_and_cleared(score, &mut s, base, n, map)?;
+                    s.call(score, Call::WriteMap { at: HERE, base, n, room: 40 })?;
                 }
             }
         }
@@ -644,8 +643,8 @@ const AROUND: u64 = 8;
 
 /// The gap search on every set of eight neighbouring positions at 0, around 2^63 and at M, with the place where physical positions end
 /// before, among and after them, in ranges of every kind about them and for every length that could fit.
-pub fn gaps(tally: &mut Tally, options: Options) -> Outcome {
-    tally.begin("gaps");
+pub fn gaps(score: &mut Score, options: Options) -> Outcome {
+    score.begin("gaps");
     let mut random = Random::new(options.seed ^ 0x6A);
     let mut turn = 0;
     for base in [0, HALF - AROUND / 2, M - (AROUND - 1)] {
@@ -662,13 +661,13 @@ pub fn gaps(tally: &mut Tally, options: Options) -> Outcome {
                 let physical = reference::logical(&runs, offset.wrapping_neg());
                 let world = Draft { physical, offset, limit: [0, 5] };
                 let words = reference::craft(5, &[world], Shape::Even, &mut random);
-                s.call(tally, Call::Lend { at: 0, words })?;
+                s.call(score, Call::Lend { at: 0, words })?;
                 for _ in 0..4 {
                     let (x, y) = (base + random.below(AROUND), base + random.below(AROUND));
                     let lower = random.one_of(&[Bound::Unbounded, Bound::Included(x), Bound::Excluded(x)]);
                     let upper = random.one_of(&[Bound::Unbounded, Bound::Included(y), Bound::Excluded(y)]);
                     for n in (0..=AROUND + 1).chain([HALF - 4, HALF, M - AROUND, M]) {
-                        s.call(tally, Call::Gap { at: HERE, range: (lower, upper), n })?;
+                        s.call(score, Call::Gap { at: HERE, range: (lower, upper), n })?;
                     }
                 }
             }
@@ -689,52 +688,52 @@ fn runs_of_bits(base: u64, bits: u64) -> Vec<Run> {
     runs
 }
 
-fn wander(tally: &mut Tally, random: &mut Random, plans: Vec<Plan>, calls: u64) -> Outcome {
+fn wander(score: &mut Score, random: &mut Random, plans: Vec<Plan>, calls: u64) -> Outcome {
     let mut s = Sequence::new(plans);
     let mut history = Wander::default();
     for _ in 0..calls {
         let call = history.next(random, s.sides.stores());
-        s.call(tally, call)?;
+        s.call(score, call)?;
     }
     Ok(())
 }
 
 /// Random sequences at the smallest capacities, with one world and several, where refusal 8 is near at every call.
-pub fn limits(tally: &mut Tally, options: Options) -> Outcome {
-    tally.begin("capacity limits");
+pub fn limits(score: &mut Score, options: Options) -> Outcome {
+    score.begin("capacity limits");
     let mut random = Random::new(options.seed ^ 0x8);
     for turn in 0..options.calls / 4 / 300 {
         let capacities = [1 + turn as usize % 3, 1 + random.below(4) as usize, 1 + random.below(3) as usize];
         let plan = |c| if turn % 4 == 0 { Plan::alone(c) } else { chance::plan(&mut random, c) };
         let plans = capacities.map(plan).to_vec();
-        wander(tally, &mut random, plans, 300)?;
+        wander(score, &mut random, plans, 300)?;
     }
     Ok(())
 }
 
 /// The largest capacity: filled to the last run, one more refused, and what it gives to others, by one world and by 16; and the deepest
 /// trees that there are.
-pub fn large(tally: &mut Tally, options: Options) -> Outcome {
-    tally.begin("the largest capacity");
+pub fn large(score: &mut Score, options: Options) -> Outcome {
+    score.begin("the largest capacity");
     let mut random = Random::new(options.seed ^ 0x1A);
     const LARGEST: u64 = 65_536;
     let runs: Vec<Run> = (0..LARGEST).map(|i| [i << 40, (i << 40) + random.below(1 << 39)]).collect();
     let mut s = Sequence::alone(&[LARGEST as usize, LARGEST as usize, 3]);
     let [second, third] = [1, 2].map(Place::first);
-    s.call(tally, Call::Build { to: HERE, runs: runs.clone() })?;
-    s.call(tally, Call::Load { to: second, bytes: reference::encode(&runs) })?;
-    s.call(tally, Call::Equal { a: HERE, b: second })?;
-    s.call(tally, Call::Not { to: second, a: HERE })?;
-    s.call(tally, Call::Set { at: HERE, range: (Bound::Included(M - 3), Bound::Included(M - 3)), value: true })?;
-    s.call(tally, Call::Shift { at: HERE, distance: 5 << 40, left: true })?;
-    s.call(tally, Call::Set { at: HERE, range: (Bound::Included(3), Bound::Included(3)), value: true })?;
+    s.call(score, Call::Build { to: HERE, runs: runs.clone() })?;
+    s.call(score, Call::Load { to: second, bytes: reference::encode(&runs) })?;
+    s.call(score, Call::Equal { a: HERE, b: second })?;
+    s.call(score, Call::Not { to: second, a: HERE })?;
+    s.call(score, Call::Set { at: HERE, range: (Bound::Included(M - 3), Bound::Included(M - 3)), value: true })?;
+    s.call(score, Call::Shift { at: HERE, distance: 5 << 40, left: true })?;
+    s.call(score, Call::Set { at: HERE, range: (Bound::Included(3), Bound::Included(3)), value: true })?;
     for op in [Operation::And, Operation::Or, Operation::Xor] {
-        s.call(tally, Call::Combine { to: third, op, a: HERE, b: second })?;
+        s.call(score, Call::Combine { to: third, op, a: HERE, b: second })?;
     }
-    s.call(tally, Call::Combine { to: second, op: Operation::Xor, a: HERE, b: third })?;
-    s.call(tally, Call::Write { at: second, room: 5 + 16 * LARGEST as usize })?;
-    few_draws(tally, &mut s, &mut random)?;
-    tally.begin("the largest capacity, shared by 16 worlds");
+    s.call(score, Call::Combine { to: second, op: Operation::Xor, a: HERE, b: third })?;
+    s.call(score, Call::Write { at: second, room: 5 + 16 * LARGEST as usize })?;
+    few_draws(score, &mut s, &mut random)?;
+    score.begin("the largest capacity, shared by 16 worlds");
     // One may have all that the floors of the others leave: half of it.
     let each = LARGEST / 32;
     let mut limits = vec![[each, each]; WORLDS];
@@ -742,16 +741,16 @@ pub fn large(tally: &mut Tally, options: Options) -> Outcome {
     let mut s = Sequence::new(vec![Plan { capacity: LARGEST as usize, limits }]);
     let most = LARGEST - 15 * each;
     for count in [most + 1, most] {
-        s.call(tally, Call::Build { to: HERE, runs: runs[..count as usize].to_vec() })?;
+        s.call(score, Call::Build { to: HERE, runs: runs[..count as usize].to_vec() })?;
     }
     for world in 1..WORLDS as u64 {
         let to = Place { store: 0, world };
-        s.call(tally, Call::Load { to, bytes: reference::encode(&runs[..each as usize]) })?;
-        s.call(tally, Call::Set { at: to, range: (Bound::Included(M), Bound::Unbounded), value: true })?;
+        s.call(score, Call::Load { to, bytes: reference::encode(&runs[..each as usize]) })?;
+        s.call(score, Call::Set { at: to, range: (Bound::Included(M), Bound::Unbounded), value: true })?;
     }
-    s.call(tally, Call::Set { at: HERE, range: (Bound::Included(M), Bound::Unbounded), value: true })?;
-    few_draws(tally, &mut s, &mut random)?;
-    tally.begin("the deepest trees");
+    s.call(score, Call::Set { at: HERE, range: (Bound::Included(M), Bound::Unbounded), value: true })?;
+    few_draws(score, &mut s, &mut random)?;
+    score.begin("the deepest trees");
     let runs = &runs[..reference::least(22)[0] as usize];
     for left in [true, false] {
         for offset in [0, 1 << 63, random.number()] {
@@ -759,32 +758,32 @@ pub fn large(tally: &mut Tally, options: Options) -> Outcome {
             let world = Draft { physical: runs.to_vec(), offset, limit: [0, capacity as u64] };
             let words = reference::craft(capacity, &[world], Shape::Deepest { left }, &mut random);
             let mut s = Sequence::alone(&[1, LARGEST as usize, 3]);
-            s.call(tally, Call::Lend { at: 0, words })?;
-            s.call(tally, Call::Shifted { to: second, a: HERE, distance: 7, left })?;
-            s.call(tally, Call::Combine { to: second, op: Operation::Or, a: HERE, b: HERE })?;
-            s.call(tally, Call::Equal { a: HERE, b: second })?;
-            s.call(tally, Call::Not { to: second, a: HERE })?;
-            s.call(tally, Call::Write { at: HERE, room: 6 + 16 * LARGEST as usize })?;
-            few_draws(tally, &mut s, &mut random)?;
+            s.call(score, Call::Lend { at: 0, words })?;
+            s.call(score, Call::Shifted { to: second, a: HERE, distance: 7, left })?;
+            s.call(score, Call::Combine { to: second, op: Operation::Or, a: HERE, b: HERE })?;
+            s.call(score, Call::Equal { a: HERE, b: second })?;
+            s.call(score, Call::Not { to: second, a: HERE })?;
+            s.call(score, Call::Write { at: HERE, room: 6 + 16 * LARGEST as usize })?;
+            few_draws(score, &mut s, &mut random)?;
             // Runs taken from the shallow side, so that the balance is mended all the way up.
             for i in 0..20 {
                 let held = s.sides.stores()[0].runs(0);
                 let [start, end] = held[if left { held.len() - 1 - 3 * i } else { 3 * i }];
                 let range = (Bound::Included(start), Bound::Included(end));
-                s.call(tally, Call::Set { at: HERE, range, value: false })?;
+                s.call(score, Call::Set { at: HERE, range, value: false })?;
             }
-            few_draws(tally, &mut s, &mut random)?;
+            few_draws(score, &mut s, &mut random)?;
         }
     }
     Ok(())
 }
 
 // Some reports of a large world: none that lists all of it.
-fn few_draws(tally: &mut Tally, s: &mut Sequence, random: &mut Random) -> Outcome {
-    for kind in [Kind::RunAt, Kind::Find, Kind::Count, Kind::Select, Kind::CountRanges, Kind::Gap, Kind::Draw] {
+fn few_draws(score: &mut Score, s: &mut Sequence, random: &mut Random) -> Outcome {
+    for kind in [Kind::RunAt, Kind::Find, Kind::Tally, Kind::Select, Kind::Gap, Kind::Draw] {
         for _ in 0..4 {
             let call = chance::call(random, s.sides.stores(), kind, HERE);
-            s.call(tally, call)?;
+            s.call(score, call)?;
         }
     }
     Ok(())
@@ -795,8 +794,8 @@ const TOGETHER: usize = 50;
 
 /// Lists of calls at once: records of every kind with every kind of bound at the ends of the positions, then histories of frames, all of
 /// them over worlds that are opened and some that are not.
-pub fn frames(tally: &mut Tally, options: Options) -> Outcome {
-    tally.begin("frames: records at the edges");
+pub fn frames(score: &mut Score, options: Options) -> Outcome {
+    score.begin("frames: records at the edges");
     let mut random = Random::new(options.seed ^ 0xF4);
     let kinds = [0, 1, 2, 3, M];
     let mut edges = Vec::new();
@@ -824,52 +823,52 @@ pub fn frames(tally: &mut Tally, options: Options) -> Outcome {
     }
     for (i, some) in edges.chunks(TOGETHER).enumerate() {
         let mut s = Sequence::new(vec![chance::plan(&mut random, 1 + i % 5)]);
-        grow(tally, &mut s, &mut random, 0, 4)?;
+        grow(score, &mut s, &mut random, 0, 4)?;
         let calls = some.as_flattened().to_vec();
-        s.call(tally, Call::Frame { at: 0, room: calls.len(), calls })?;
+        s.call(score, Call::Frame { at: 0, room: calls.len(), calls })?;
     }
-    tally.begin("frames: random lists, up to 50 calls and 1000");
-    let until = tally.compared + options.calls / 4;
+    score.begin("frames: random lists, up to 50 calls and 1000");
+    let until = score.compared + options.calls / 4;
     let capacities = [1, 2, 3, 4, 8, 16, 64, 200, 1000];
-    while tally.compared < until {
+    while score.compared < until {
         let capacity = random.one_of(&capacities);
         let mut s = Sequence::new(vec![chance::plan(&mut random, capacity)]);
         for _ in 0..20 {
             let count = if random.once_in(100) { 1000 } else { random.below(51) };
-            play(tally, &mut s, &mut random, count)?;
+            play(score, &mut s, &mut random, count)?;
         }
         // In a damaged pool, and in one with a word too many, no call is made.
         let word = random.below(s.sides.words(0).len() as u64) as usize;
         let value = word_beside(&mut random, s.sides.words(0), word);
-        s.call(tally, Call::Poke { at: 0, word, value })?;
-        play(tally, &mut s, &mut random, 20)?;
+        s.call(score, Call::Poke { at: 0, word, value })?;
+        play(score, &mut s, &mut random, 20)?;
         let words = vec![0; s.sides.words(0).len() + 1];
-        s.call(tally, Call::Lend { at: 0, words })?;
-        play(tally, &mut s, &mut random, 20)?;
+        s.call(score, Call::Lend { at: 0, words })?;
+        play(score, &mut s, &mut random, 20)?;
     }
     Ok(())
 }
 
 // A frame of so many calls by chance.
-fn play(tally: &mut Tally, s: &mut Sequence, random: &mut Random, count: u64) -> Outcome {
+fn play(score: &mut Score, s: &mut Sequence, random: &mut Random, count: u64) -> Outcome {
     let frame = chance::frame(random, s.sides.stores(), 0, count as usize);
-    s.call(tally, frame)
+    s.call(score, frame)
 }
 
 /// Long random sequences of all calls, at capacities from 1 to 1000, with one world and up to 16.
-pub fn random(tally: &mut Tally, options: Options) -> Outcome {
-    tally.begin("random sequences");
+pub fn random(score: &mut Score, options: Options) -> Outcome {
+    score.begin("random sequences");
     let mut random = Random::new(options.seed);
     let capacities = [1, 2, 3, 4, 5, 6, 8, 8, 12, 16, 24, 32, 64, 200, 1000];
-    let until = tally.compared + options.calls;
-    while tally.compared < until {
+    let until = score.compared + options.calls;
+    while score.compared < until {
         let plans = [0; 3].map(|_| {
             let capacity = random.one_of(&capacities);
             chance::plan(&mut random, capacity)
         });
         // The larger the pools, the longer they take to fill, and each call takes longer too.
-        let calls = (until - tally.compared).min(2000);
-        wander(tally, &mut random, plans.to_vec(), calls)?;
+        let calls = (until - score.compared).min(2000);
+        wander(score, &mut random, plans.to_vec(), calls)?;
     }
     Ok(())
 }

@@ -4,7 +4,7 @@
 use std::ops::Bound;
 
 use super::calls::{Call, Place, Told};
-use crate::Listing;
+use crate::{Listing, Tally};
 
 /// How many words a record has.
 pub const WORDS: usize = 8;
@@ -12,7 +12,10 @@ pub const WORDS: usize = 8;
 pub type Record = [u64; WORDS];
 
 /// The greatest number that names a call other than get.
-pub const LAST: u64 = 14;
+pub const LAST: u64 = 15;
+
+/// Numbers below it that name none: such a record asks at a world that no pool has, so that it is refused and not answered as another call.
+pub const WITHDRAWN: [u64; 2] = [7, 9];
 
 fn bound(kind: u64, value: u64) -> Bound<u64> {
     match kind {
@@ -25,7 +28,7 @@ fn bound(kind: u64, value: u64) -> Bound<u64> {
 /// The call that a record means, on the world of a store that its last word names.
 pub fn call_of(store: usize, record: Record) -> Call {
     let [call, lower, from, upper, upto, value, k, world] = record;
-    let at = Place { store, world };
+    let at = Place { store, world: if WITHDRAWN.contains(&call) { u64::MAX } else { world } };
     let value = value != 0;
     let range = (bound(lower, from), bound(upper, upto));
     let listing = Listing { first: from, last: upto, value };
@@ -36,14 +39,13 @@ pub fn call_of(store: usize, record: Record) -> Call {
         4 => Call::Shift { at, distance: from, left: value },
         5 => Call::RunAt { at, x: from },
         6 => Call::Find { at, range, value },
-        7 => Call::Count { at, range, value },
         8 => Call::Select { at, range, value, k },
-        9 => Call::CountRanges { at, range, value },
         10 => Call::Ranges { at, range, value, backs: 0 },
         11 => Call::Draw { at, listing, back: false },
         12 => Call::Draw { at, listing, back: true },
         13 => Call::Fill { at, base: from, n: upto },
         14 => Call::Gap { at, range, n: k },
+        15 => Call::Tally { at, range, value },
         _ => Call::Get { at, x: from },
     }
 }
@@ -71,15 +73,14 @@ pub fn record_of(call: &Call) -> Option<Record> {
         Call::Shift { at, distance, left } => plain(4, at, distance, 0, left),
         Call::RunAt { at, x } => plain(5, at, x, 0, false),
         Call::Find { at, range, value } => over(6, at, range, value, 0),
-        Call::Count { at, range, value } => over(7, at, range, value, 0),
         Call::Select { at, range, value, k } => over(8, at, range, value, k),
-        Call::CountRanges { at, range, value } => over(9, at, range, value, 0),
         Call::Ranges { at, range, value, .. } => over(10, at, range, value, 0),
         Call::Draw { at, listing: Listing { first, last, value }, back } => {
             plain(if back { 12 } else { 11 }, at, first, last, value)
         }
         Call::Fill { at, base, n } => plain(13, at, base, n, false),
         Call::Gap { at, range, n } => over(14, at, range, false, n),
+        Call::Tally { at, range, value } => over(15, at, range, value, 0),
         _ => return None,
     })
 }
@@ -92,6 +93,7 @@ pub fn answer_of(told: &Told) -> Record {
         Told::Refused(r) => [r.number(), 0, 0, 0, 0, 0, 0, 0],
         Told::Done => numbers(0, 0, 0),
         Told::Count(n) => numbers((n >> 64) as u64, *n as u64, 0),
+        Told::Tally(Tally { positions, runs }) => numbers((positions >> 64) as u64, *positions as u64, *runs),
         Told::Number(n) => numbers(0, *n, 0),
         Told::Value(v) => numbers(0, u64::from(*v), 0),
         Told::Run(run) => numbers(0, *run.start(), *run.end()),
@@ -127,6 +129,8 @@ mod tests {
                 assert_eq!(call_of(2, record), call);
             }
         }
-        assert!(numbers.iter().all(|&n| n > 0), "{numbers:?}");
+        for (number, &count) in (0..).zip(&numbers) {
+            assert_eq!(count == 0, WITHDRAWN.contains(&number), "number {number} came up {count} times");
+        }
     }
 }

@@ -24,7 +24,7 @@ returns : tie.Need-returns
 returns c = c .refused .ensures ∙ sym (ap (λ (x : Counted). replyOf (countedAnswer x)) (c .before .before .a .given .1))
 
 returns-2 : tie.Need-returns-2
-returns-2 c = c .numbers .ensures ∙ count-reply (c .before .before .a2 .given .0 .0) (search needs) ∙ sym (ap (λ (x : Counted). replyOf (countedAnswer x)) (c .before .before .a2 .given .1))
+returns-2 c = c .numbers .ensures ∙ count-reply (c .before .before .a2 .given .0 .0) 0 (search needs) ∙ sym (ap (λ (x : Counted). replyOf (countedAnswer x)) (c .before .before .a2 .given .1))
 
 pub counted-spec : {M : Type 1} → statement M
 counted-spec =

@@ -10,7 +10,7 @@ use Rattle.frame.specs.declared.entry.Kind.{Kind}
 use Rattle.flat.specs.declared.Reply.{Reply}
 use Rattle.flat.specs.Flat.{truth, replyOf, boundBy}
 use Rattle.frame.specs.Records.{callBy}
-use Rattle.frame.specs.Serving.{Serves}
+use Rattle.frame.specs.Serving.{ServesAt}
 use Rattle.frame.proofs.Arms.{serves, ranged}
 use Rattle.frame.proofs.serve_world.Statement.{statement}
 use Rattle.frame.proofs.serve_world.Tie as tie
@@ -26,8 +26,8 @@ abbrev after-bound2 : tie.After-named → tie.After-bound2
 after-bound2 c = c .before .before
 
 -- the reply is that to the record's call, of the kind that was named
-answers : (n : tie.After-named) {w w′ : List ℕ} {r : Reply} {a : Answer} (k : Kind) → n .named .result ≡ k
-    → Met w (start n .args .e .world) (callBy k (start n .args .e)) a w′ → r ≡ replyOf a → Serves w (start n .args .e) r w′
+answers : (n : tie.After-named) {w w′ : List ℕ} {i : ℕ} {r : Reply} {a : Answer} (k : Kind) → n .named .result ≡ k
+    → Met w i (callBy k (start n .args .e)) a w′ → r ≡ replyOf a → ServesAt w i (start n .args .e) r w′
 answers n k p = serves (start n .args .e) k p (n .named .ensures)
 
 -- a call with both bounds was made with those of the record
@@ -102,32 +102,14 @@ found-requires c κs = search needs
 enum-told-7 : tie.Need-enum-told-7
 enum-told-7 c = search needs
 
-count-requires : tie.Need-count-requires
-count-requires c κs = search needs
-
-counted-requires-2 : tie.Need-counted-requires-2
-counted-requires-2 c κs = search needs
-
-enum-told-8 : tie.Need-enum-told-8
-enum-told-8 c = search needs
-
 select-requires : tie.Need-select-requires
 select-requires c κs = search needs
 
 found-requires-2 : tie.Need-found-requires-2
 found-requires-2 c κs = search needs
 
-enum-told-9 : tie.Need-enum-told-9
-enum-told-9 c = search needs
-
-count-ranges-requires : tie.Need-count-ranges-requires
-count-ranges-requires c κs = search needs
-
-numbered-requires : tie.Need-numbered-requires
-numbered-requires c κs = search needs
-
-enum-told-10 : tie.Need-enum-told-10
-enum-told-10 c = search needs
+enum-told-8 : tie.Need-enum-told-8
+enum-told-8 c = search needs
 
 ranges-requires : tie.Need-ranges-requires
 ranges-requires c κs = search needs
@@ -135,8 +117,8 @@ ranges-requires c κs = search needs
 listed-requires : tie.Need-listed-requires
 listed-requires c κs = search needs
 
-enum-told-11 : tie.Need-enum-told-11
-enum-told-11 c = search needs
+enum-told-9 : tie.Need-enum-told-9
+enum-told-9 c = search needs
 
 draw-front-requires : tie.Need-draw-front-requires
 draw-front-requires c κs = search needs
@@ -144,8 +126,8 @@ draw-front-requires c κs = search needs
 drawn-requires : tie.Need-drawn-requires
 drawn-requires c κs = search needs
 
-enum-told-12 : tie.Need-enum-told-12
-enum-told-12 c = search needs
+enum-told-10 : tie.Need-enum-told-10
+enum-told-10 c = search needs
 
 draw-back-requires : tie.Need-draw-back-requires
 draw-back-requires c κs = search needs
@@ -153,17 +135,17 @@ draw-back-requires c κs = search needs
 drawn-requires-2 : tie.Need-drawn-requires-2
 drawn-requires-2 c κs = search needs
 
-enum-told-13 : tie.Need-enum-told-13
-enum-told-13 c = search needs
+enum-told-11 : tie.Need-enum-told-11
+enum-told-11 c = search needs
 
 fill-requires : tie.Need-fill-requires
 fill-requires c κs = search needs
 
-numbered-requires-2 : tie.Need-numbered-requires-2
-numbered-requires-2 c κs = search needs
+numbered-requires : tie.Need-numbered-requires
+numbered-requires c κs = search needs
 
-enum-told-14 : tie.Need-enum-told-14
-enum-told-14 c = search needs
+enum-told-12 : tie.Need-enum-told-12
+enum-told-12 c = search needs
 
 gap-requires : tie.Need-gap-requires
 gap-requires c κs = search needs
@@ -171,8 +153,17 @@ gap-requires c κs = search needs
 found-requires-3 : tie.Need-found-requires-3
 found-requires-3 c κs = search needs
 
-enum-told-15 : tie.Need-enum-told-15
-enum-told-15 c = search needs
+enum-told-13 : tie.Need-enum-told-13
+enum-told-13 c = search needs
+
+tally-requires : tie.Need-tally-requires
+tally-requires c κs = search needs
+
+tallied-requires : tie.Need-tallied-requires
+tallied-requires c κs = search needs
+
+enum-told-14 : tie.Need-enum-told-14
+enum-told-14 c = search needs
 
 get-requires : tie.Need-get-requires
 get-requires c κs = search needs
@@ -186,37 +177,39 @@ same-length c = search needs
 returns : tie.Need-returns
 returns c =
     let m = c .before .before .before in
-    let e = m .before .before in
-    let n = e .before .before in
-    answers n Kind.Empty (e .enum-told .given .1) (m .empty .ensures) (c .completed .ensures)
+    let e₁ = m .before .before in
+    let n = e₁ .before .before in
+    answers n Kind.Empty (e₁ .enum-told .given .1) (m .empty .ensures) (c .completed .ensures)
 
 same-length-2 : tie.Need-same-length-2
 same-length-2 c = search needs
 
 returns-2 : tie.Need-returns-2
 returns-2 c =
-    let s = c .before .before .before in
-    let n = s .before .before .before .before in
-    answers n Kind.Set (s .before .before .enum-told2 .given .1) (between n (λ l u. Call.set l u (truth (start n .args .e .value))) (s .set .ensures)) (c .counted .ensures)
+    let m = c .before .before .before in
+    let e₂ = m .before .before in
+    let n = e₂ .before .before in
+    answers n Kind.Set (e₂ .enum-told2 .given .1) (between n (λ l u. Call.set l u (truth (start n .args .e .value))) (m .set .ensures)) (c .counted .ensures)
 
 same-length-3 : tie.Need-same-length-3
 same-length-3 c = search needs
 
 returns-3 : tie.Need-returns-3
 returns-3 c =
-    let f = c .before .before .before in
-    let n = f .before .before .before .before in
-    answers n Kind.Flip (f .before .before .enum-told3 .given .1) (between n (λ l u. Call.flip l u) (f .flip .ensures)) (c .completed2 .ensures)
+    let m = c .before .before .before in
+    let e₃ = m .before .before in
+    let n = e₃ .before .before in
+    answers n Kind.Flip (e₃ .enum-told3 .given .1) (between n (λ l u. Call.flip l u) (m .flip .ensures)) (c .completed2 .ensures)
 
 same-length-4 : tie.Need-same-length-4
 same-length-4 c = search needs
 
 returns-4 : tie.Need-returns-4
 returns-4 c =
-    let s = c .before .before .before in
-    let e₄ = s .before .before in
+    let m = c .before .before .before in
+    let e₄ = m .before .before in
     let n = e₄ .before .before in
-    answers n Kind.Shift (e₄ .enum-told4 .given .1) (s .shift .ensures) (c .completed3 .ensures)
+    answers n Kind.Shift (e₄ .enum-told4 .given .1) (m .shift .ensures) (c .completed3 .ensures)
 
 same-length-5 : tie.Need-same-length-5
 same-length-5 c = search needs
@@ -243,7 +236,7 @@ returns-7 : tie.Need-returns-7
 returns-7 c =
     let e₇ = c .before .before .before in
     let n = e₇ .before .before in
-    answers n Kind.Count (e₇ .enum-told7 .given .1) (between n (λ l u. Call.count l u (truth (start n .args .e .value))) (c .before .count .ensures)) (c .counted2 .ensures)
+    answers n Kind.Select (e₇ .enum-told7 .given .1) (between n (λ l u. Call.select l u (truth (start n .args .e .value)) (start n .args .e .k)) (c .before .select .ensures)) (c .found2 .ensures)
 
 same-length-8 : tie.Need-same-length-8
 same-length-8 c = search needs
@@ -252,7 +245,7 @@ returns-8 : tie.Need-returns-8
 returns-8 c =
     let e₈ = c .before .before .before in
     let n = e₈ .before .before in
-    answers n Kind.Select (e₈ .enum-told8 .given .1) (between n (λ l u. Call.select l u (truth (start n .args .e .value)) (start n .args .e .k)) (c .before .select .ensures)) (c .found2 .ensures)
+    answers n Kind.Ranges (e₈ .enum-told8 .given .1) (between n (λ l u. Call.ranges l u (truth (start n .args .e .value))) (c .before .ranges .ensures)) (c .listed .ensures)
 
 same-length-9 : tie.Need-same-length-9
 same-length-9 c = search needs
@@ -261,7 +254,7 @@ returns-9 : tie.Need-returns-9
 returns-9 c =
     let e₉ = c .before .before .before in
     let n = e₉ .before .before in
-    answers n Kind.CountRanges (e₉ .enum-told9 .given .1) (between n (λ l u. Call.countRanges l u (truth (start n .args .e .value))) (c .before .count-ranges .ensures)) (c .numbered .ensures)
+    answers n Kind.DrawFront (e₉ .enum-told9 .given .1) (c .before .draw-front .ensures) (c .drawn .ensures)
 
 same-length-10 : tie.Need-same-length-10
 same-length-10 c = search needs
@@ -270,7 +263,7 @@ returns-10 : tie.Need-returns-10
 returns-10 c =
     let e₁₀ = c .before .before .before in
     let n = e₁₀ .before .before in
-    answers n Kind.Ranges (e₁₀ .enum-told10 .given .1) (between n (λ l u. Call.ranges l u (truth (start n .args .e .value))) (c .before .ranges .ensures)) (c .listed .ensures)
+    answers n Kind.DrawBack (e₁₀ .enum-told10 .given .1) (c .before .draw-back .ensures) (c .drawn2 .ensures)
 
 same-length-11 : tie.Need-same-length-11
 same-length-11 c = search needs
@@ -279,7 +272,7 @@ returns-11 : tie.Need-returns-11
 returns-11 c =
     let e₁₁ = c .before .before .before in
     let n = e₁₁ .before .before in
-    answers n Kind.DrawFront (e₁₁ .enum-told11 .given .1) (c .before .draw-front .ensures) (c .drawn .ensures)
+    answers n Kind.Fill (e₁₁ .enum-told11 .given .1) (c .before .fill .ensures) (c .numbered .ensures)
 
 same-length-12 : tie.Need-same-length-12
 same-length-12 c = search needs
@@ -288,7 +281,7 @@ returns-12 : tie.Need-returns-12
 returns-12 c =
     let e₁₂ = c .before .before .before in
     let n = e₁₂ .before .before in
-    answers n Kind.DrawBack (e₁₂ .enum-told12 .given .1) (c .before .draw-back .ensures) (c .drawn2 .ensures)
+    answers n Kind.Gap (e₁₂ .enum-told12 .given .1) (between n (λ l u. Call.gap l u (start n .args .e .k)) (c .before .gap .ensures)) (c .found3 .ensures)
 
 same-length-13 : tie.Need-same-length-13
 same-length-13 c = search needs
@@ -297,7 +290,7 @@ returns-13 : tie.Need-returns-13
 returns-13 c =
     let e₁₃ = c .before .before .before in
     let n = e₁₃ .before .before in
-    answers n Kind.Fill (e₁₃ .enum-told13 .given .1) (c .before .fill .ensures) (c .numbered2 .ensures)
+    answers n Kind.Tally (e₁₃ .enum-told13 .given .1) (between n (λ l u. Call.tally l u (truth (start n .args .e .value))) (c .before .tally .ensures)) (c .tallied .ensures)
 
 same-length-14 : tie.Need-same-length-14
 same-length-14 c = search needs
@@ -306,16 +299,7 @@ returns-14 : tie.Need-returns-14
 returns-14 c =
     let e₁₄ = c .before .before .before in
     let n = e₁₄ .before .before in
-    answers n Kind.Gap (e₁₄ .enum-told14 .given .1) (between n (λ l u. Call.gap l u (start n .args .e .k)) (c .before .gap .ensures)) (c .found3 .ensures)
-
-same-length-15 : tie.Need-same-length-15
-same-length-15 c = search needs
-
-returns-15 : tie.Need-returns-15
-returns-15 c =
-    let e₁₅ = c .before .before .before in
-    let n = e₁₅ .before .before in
-    answers n Kind.Get (e₁₅ .enum-told15 .given .1) (c .before .get .ensures) (c .tested .ensures)
+    answers n Kind.Get (e₁₄ .enum-told14 .given .1) (c .before .get .ensures) (c .tested .ensures)
 
 pub serve-world-spec : {M : Type 1} → statement M
 serve-world-spec =
@@ -343,30 +327,27 @@ serve-world-spec =
     find-requires
     found-requires
     enum-told-7
-    count-requires
-    counted-requires-2
-    enum-told-8
     select-requires
     found-requires-2
-    enum-told-9
-    count-ranges-requires
-    numbered-requires
-    enum-told-10
+    enum-told-8
     ranges-requires
     listed-requires
-    enum-told-11
+    enum-told-9
     draw-front-requires
     drawn-requires
-    enum-told-12
+    enum-told-10
     draw-back-requires
     drawn-requires-2
-    enum-told-13
+    enum-told-11
     fill-requires
-    numbered-requires-2
-    enum-told-14
+    numbered-requires
+    enum-told-12
     gap-requires
     found-requires-3
-    enum-told-15
+    enum-told-13
+    tally-requires
+    tallied-requires
+    enum-told-14
     get-requires
     tested-requires
     same-length
@@ -396,6 +377,4 @@ serve-world-spec =
     same-length-13
     returns-13
     same-length-14
-    returns-14
-    same-length-15
-    returns-15)
+    returns-14)

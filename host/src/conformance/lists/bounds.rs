@@ -29,13 +29,13 @@ pub fn list() -> List {
         list.say(&format!(
             "find {s} {range} {v}
             find {s} {range} {w}
-            count {s} {range} {v}
-            count_ranges {s} {range} {v}
+            tally {s} {range} {v}
+            tally {s} {range} {w}
             ranges {s} {range} {w}
             select {s} {range} {v} {k}
             set 1/0 {range} {}
             flip 1/0 {range}
-            count 1/0 u u 1",
+            tally 1/0 u u 1",
             i / 3 % 2
         ));
     }
@@ -50,7 +50,7 @@ pub fn list() -> List {
             list.say(&format!("select 2/0 u u {value} {k}"));
         }
         list.say(&format!(
-            "count 2/0 u u {value}\ncount 2/0 e0 u {value}\ncount 2/0 u e{M} {value}\nrun_at 2/0 {HALF}"
+            "tally 2/0 u u {value}\ntally 2/0 e0 u {value}\ntally 2/0 u e{M} {value}\nrun_at 2/0 {HALF}"
         ));
     }
     list

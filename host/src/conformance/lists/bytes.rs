@@ -99,7 +99,7 @@ fn windows(list: &mut List, random: &mut Random) {
             for room in [due - 1, due, due + 2] {
                 list.call(&Call::WriteMap { at, base, n, room });
             }
-            list.say(&format!("fill {at} {base} {n}\ncount {at} u u 1"));
+            list.say(&format!("fill {at} {base} {n}\ntally {at} u u 1"));
         }
     }
 }

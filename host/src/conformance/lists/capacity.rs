@@ -17,7 +17,7 @@ pub fn list() -> List {
             for change in ["set 0/0 RANGE 1", "set 0/0 RANGE 0", "flip 0/0 RANGE"] {
                 list.say("build 0/0 1 2 3");
                 list.say(&change.replace("RANGE", &format!("i{a} i{b}")));
-                list.say("count 0/0 u u 1");
+                list.say("tally 0/0 u u 1");
             }
         }
     }
@@ -29,7 +29,7 @@ pub fn list() -> List {
             for b in &ends[i..] {
                 let change = if i % 2 == 0 { format!("flip 0/0 i{a} i{b}") } else { format!("set 0/0 i{a} i{b} 1") };
                 for shift in ["shift 0/0 3 1", "shift 0/0 2 0"] {
-                    list.say(&format!("build 0/0 1 0 {M}\n{shift}\n{change}\ncount_ranges 0/0 u u 1"));
+                    list.say(&format!("build 0/0 1 0 {M}\n{shift}\n{change}\ntally 0/0 u u 1"));
                 }
             }
         }

@@ -18,7 +18,7 @@ pub fn list() -> List {
         new 0 1 0 8
         set 0/0 u u 1
         set 0/0 u u 1
-        count 0/0 u u 1
+        tally 0/0 u u 1
         # 3
         build 0/0 1 2 7
         set 0/0 e{M} u 1
@@ -56,9 +56,9 @@ pub fn list() -> List {
         words 2 2
         new 2 1 0 2
         combine 2/0 and 0/0 1/0
-        count 2/0 u u 1
+        tally 2/0 u u 1
         combine 2/0 or 0/0 1/0
-        count 2/0 u u 1
+        tally 2/0 u u 1
         combine 2/0 xor 0/0 1/0
         write_set 2/0 37
         # 10
@@ -81,7 +81,7 @@ pub fn list() -> List {
         build 0/0 1 10 19
         shift 0/0 5 1
         set 0/0 i0 e15 1
-        count_ranges 0/0 u u 1
+        tally 0/0 u u 1
         run_at 0/0 7
         # 13
         build 0/0 1 2 7

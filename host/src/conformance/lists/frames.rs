@@ -47,11 +47,11 @@ fn every_kind(world: u64) -> Vec<Record> {
         run_at AT {M}
         find AT i4 u 0
         find AT i2 e8 0
-        count AT u u 1
-        count AT e2 e12 0
+        tally AT u u 1
+        tally AT e2 e12 0
         select AT i4 e12 1 5
         select AT i4 e12 1 6
-        count_ranges AT i4 e12 1
+        tally AT i4 e12 1
         gap AT i1 u 2
         gap AT i1 e11 3
         gap AT i1 u 3
@@ -69,15 +69,15 @@ fn every_kind(world: u64) -> Vec<Record> {
         flip AT i8 i9
         shift AT 3 0
         shift AT {HALF} 1
-        count AT u u 1
+        tally AT u u 1
         flip AT u u
         build AT 0
         set AT u u 1
-        count AT u u 1
+        tally AT u u 1
         set AT i1 i{} 0
         shift AT 1 1
         set AT e{M} u 1
-        count AT u u 1",
+        tally AT u u 1",
         M - 1
     );
     of(&lines.replace("AT", &format!("0/{world}")))
@@ -87,13 +87,19 @@ fn every_kind(world: u64) -> Vec<Record> {
 fn odd_records() -> Vec<Record> {
     let mut all = Vec::new();
     // Numbers that name no call, each with the words of a set that would change something.
-    for number in [0, 15, 16, 17, 255, 258, (1 << 32) + 2, HALF + 2, M] {
+    for number in [0, 16, 17, 18, 255, 258, (1 << 32) + 2, HALF + 2, M] {
         all.push([number, 1, 7, 1, 9, 0, 0, 0]);
+    }
+    // Withdrawn ones, at a world that is opened and at others: 12, and nothing else is told.
+    for number in records::WITHDRAWN {
+        for world in [0, 1, M] {
+            all.push([number, 1, 4, 1, 6, 1, 0, world]);
+        }
     }
     // Kinds of no bound, with values beside them.
     for kind in [0, 3, 4, 257, HALF + 1, M] {
-        all.push([7, kind, 5, 1, 6, 1, 0, 0]);
-        all.push([7, 1, 4, kind, 6, 1, 0, 0]);
+        all.push([15, kind, 5, 1, 6, 1, 0, 0]);
+        all.push([15, 1, 4, kind, 6, 1, 0, 0]);
     }
     // Truths, and words that are not read.
     for truth in [0, 1, 2, 256, HALF, M] {

@@ -27,7 +27,7 @@ pub fn list() -> List {
         list.build(Place::first(1), a);
         list.say("not 0/0 1/0");
         list.show(result);
-        list.say("not 1/1 1/0\ncount 1/1 u u 1\neq 1/0 1/0\neq 1/1 1/0\nbuild 1/1 0");
+        list.say("not 1/1 1/0\ntally 1/1 u u 1\neq 1/0 1/0\neq 1/1 1/0\nbuild 1/1 0");
         for (j, b) in sets.iter().enumerate() {
             let other = if j % 2 == 0 { Place { store: 1, world: 2 } } else { Place::first(2) };
             list.pool(2, 3, &[[0, 3]]);
@@ -37,9 +37,9 @@ pub fn list() -> List {
                 list.say(&format!("combine 0/0 {op} 1/0 {other}"));
                 list.show(result);
             }
-            list.say(&format!("combine 1/1 {} {other} 1/0\ncount 1/1 u u 1", ["and", "or", "xor"][(i + j) % 3]));
+            list.say(&format!("combine 1/1 {} {other} 1/0\ntally 1/1 u u 1", ["and", "or", "xor"][(i + j) % 3]));
         }
-        list.say("combine 0/0 and 1/0 1/0\neq 0/0 1/0\ncombine 0/0 xor 1/0 1/0\ncount 0/0 u u 1");
+        list.say("combine 0/0 and 1/0 1/0\neq 0/0 1/0\ncombine 0/0 xor 1/0 1/0\ntally 0/0 u u 1");
         // Into a world that is read too.
         list.say("combine 1/0 or 1/0 1/2\nnot 1/2 1/2\nshifted 1/0 1/0 1 1");
         list.show_all(1);

@@ -16,9 +16,8 @@ fn calls(s: &str, t: &str, u: &str) -> String {
         get {s} 5
         run_at {s} 5
         find {s} u u 1
-        count {s} u u 1
+        tally {s} u u 1
         select {s} u u 1 0
-        count_ranges {s} u u 1
         gap {s} u u 1
         ranges {s} u u 1
         ranges {s} i6 e6 1

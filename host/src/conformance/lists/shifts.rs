@@ -33,13 +33,13 @@ pub fn list() -> List {
                     eq 0/0 0/2"
                 ));
                 list.show(Place::first(0));
-                list.say(&format!("run_at 0/2 0\ncount_ranges 0/2 u u 0\nflip 0/2 i{} u\nrun_at 0/2 {M}", M - 1));
+                list.say(&format!("run_at 0/2 0\ntally 0/2 u u 0\nflip 0/2 i{} u\nrun_at 0/2 {M}", M - 1));
             }
         }
     }
     let mut random = Random::new(0x5F);
     let kinds =
-        [Kind::Shift, Kind::Shift, Kind::Set, Kind::Flip, Kind::RunAt, Kind::CountRanges, Kind::Select, Kind::Shifted];
+        [Kind::Shift, Kind::Shift, Kind::Set, Kind::Flip, Kind::RunAt, Kind::Tally, Kind::Select, Kind::Shifted];
     for capacity in [2, 5] {
         let most = capacity as u64;
         list.pool(3, capacity, &[[0, most]]);

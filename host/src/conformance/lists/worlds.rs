@@ -116,7 +116,7 @@ fn sums(list: &mut List) {
             for third in [2, 1, 3] {
                 list.build(at(2), &runs(third));
             }
-            list.say("count_ranges 0/0 u u 1\ncount_ranges 0/1 u u 1\ncount_ranges 0/2 u u 1");
+            list.say("tally 0/0 u u 1\ntally 0/1 u u 1\ntally 0/2 u u 1");
         }
     }
 }

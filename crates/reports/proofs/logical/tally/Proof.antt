@@ -78,9 +78,12 @@ sub-t20 c =
     let p = c .before .before .before .before in
     let m = parts p in
     let r = ends m in
-    joined-some ((start r) .pre .0 .1) (lies r) ((start r) .args .value) (m .before .before .if1 .left) (m .before .tally-physical2 .ensures)
-    (m .tally-physical3 .ensures) (p .before .get-physical2 .ensures) (p .before .before .get-physical .ensures) (c .before .before .if3 .taken)
-    (c .before .before .before .if2 .taken)
+    omega (
+      arith,
+      joined-some ((start r) .pre .0 .1) (lies r) ((start r) .args .value) (m .before .before .if1 .left) (m .before .tally-physical2 .ensures)
+          (m .tally-physical3 .ensures) (p .before .get-physical2 .ensures) (p .before .before .get-physical .ensures) (c .before .before .if3 .taken)
+          (c .before .before .before .if2 .taken),
+    )
 
 returns-2 : tie.Need-returns-2
 returns-2 c =

@@ -4,9 +4,9 @@ use Prim.Native.Nat.{_+_, _-_}
 use mathlib.Core.Path.{_≡_}
 use mathlib.Core.Bool.{Bool, true, false, not}
 use native.Mathlib.Omega.{arith}
+use Rattle.model.specs.declared.Tally.{Tally}
 use Rattle.model.specs.Numbers.{worth}
 use Rattle.model.specs.Positions.{oneIf}
-use Rattle.reports.specs.declared.physical.Tally.{Tally}
 use Rattle.reports.specs.Reports.{TellsTally}
 use Rattle.reports.proofs.Ranks.{starts-small, starts-ordered}
 use Rattle.reports.proofs.Ranks.{more-fits, tally-held, tally-free}

@@ -1,14 +1,14 @@
--- `count` meets its contract: the tally from the range's first position to its last, 0 of an empty range.
+-- `tally` meets its contract: the tally from the range's first position to its last, 0 and 0 of an empty range.
 -- Assumes nothing.
-use mathlib.Core.Path.{refl, ap}
-use Rattle.model.specs.Positions.{count}
-use Rattle.core.proofs.Spans.{Within, span-none, span-some, of-range, count-nothing}
-use Rattle.model.specs.Call.{number}
+use mathlib.Core.Path.{refl, ap₂}
+use Rattle.model.specs.Positions.{count, runCount}
+use Rattle.core.proofs.Spans.{Within, span-none, span-some, of-range, count-nothing, ranges-nothing}
+use Rattle.model.specs.Call.{tallied}
 use Rattle.core.proofs.Doors.{nodes-there, lent-stands}
-use Rattle.core.proofs.Meeting.{met, met-in, count-says}
+use Rattle.core.proofs.Meeting.{met, met-in, tally-says}
 use borrow.Author.Needs.{needs}
-use Rattle.core.proofs.report.count.Statement.{statement}
-use Rattle.core.proofs.report.count.Tie as tie
+use Rattle.core.proofs.report.tally.Statement.{statement}
+use Rattle.core.proofs.report.tally.Tie as tie
 
 -- where the call started, of a range that is not empty
 abbrev start : tie.After-s → tie.Start
@@ -49,17 +49,17 @@ returns : tie.Need-returns
 returns c =
     let b = c .before .before .before .before in
     let e = span-none (b .args .lower) (b .args .upper) _ (c .before .before .normalize .ensures) (c .enum-told .given .1) in
-    met (count-says _ _ _ _ _) (b .pre) refl (ap number (count-nothing _ _ _ _ e))
+    met (tally-says _ _ _ _ _) (b .pre) refl (ap₂ tallied (count-nothing _ _ _ _ e) (ranges-nothing _ _ _ _ e))
 
 returns-2 : tie.Need-returns-2
 returns-2 c =
-    let o = c .before .before .before in
+    let o = c .before .before in
     let r = o .before .before in
-    met-in (count-says _ _ _ _ _) ((start r) .pre) (o .«open» .ensures) refl
-    (ap number (of-range (within r) (count _ _) (c .before .tally .ensures .count-is)))
+    met-in (tally-says _ _ _ _ _) ((start r) .pre) (o .«open» .ensures) refl
+    (ap₂ tallied (of-range (within r) (count _ _) (c .tally .ensures .count-is)) (of-range (within r) (runCount _ _) (c .tally .ensures .runs-are)))
 
-pub count-spec : {M : Type 1} → statement M
-count-spec =
+pub tally-spec : {M : Type 1} → statement M
+tally-spec =
     tie.close
     (tie.spec
     normalize-requires
