@@ -202,7 +202,7 @@ class World:
         return fill_front(room, number.to_bytes((length + 7) // 8, "little"))
 
     def fill(self, base, length):
-        return 1000 * size(held(self.runs, *window(base, length))) // length
+        return (1000 * size(held(self.runs, *window(base, length))) + length - 1) // length
 
 
 def clear_map(base, length, bits):

@@ -235,7 +235,7 @@ vizturel_drawn vizturel_draw_back(const uint64_t *words, size_t count, uint64_t 
  * there is none. Refused with 9. */
 vizturel_found vizturel_gap(const uint64_t *words, size_t count, uint64_t world, vizturel_bound lower, vizturel_bound upper, uint64_t n);
 
-/* 1000 * held positions / window length, rounded down. Refused with 6. */
+/* 1000 * held positions / window length, rounded up: 0 exactly where none is held, and 1000 where all are. Refused with 6. */
 vizturel_numbered vizturel_fill(const uint64_t *words, size_t count, uint64_t world, uint64_t base, uint64_t length);
 
 /* Whether two worlds hold the same positions, whatever the capacities and limits. They may be of one pool. */

@@ -634,7 +634,7 @@ impl<S: AsRef<[u64]>> World<S> {
         position(unsafe { raw::vizturel_gap(w, n, i, lower, upper, length) })
     }
 
-    /// 1000 × held positions / length in the window of so many positions from base on, rounded down. Refused with 6.
+    /// 1000 × held positions / length in the window of so many positions from base on, rounded up: 0 exactly where none is held. Refused with 6.
     pub fn fill(&self, base: u64, length: u64) -> Answer<u64> {
         let (w, n, i) = self.lent();
         number(unsafe { raw::vizturel_fill(w, n, i, base, length) })

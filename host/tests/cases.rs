@@ -157,7 +157,22 @@ fn case_15() {
     let mut t = empty();
     assert_eq!(t.read_map(0, 10, &map[..2]), Ok(4));
     assert_eq!(t.eq(&s), Ok(true));
-    assert_eq!(s.fill(0, 3), Ok(333));
+    assert_eq!(s.fill(0, 3), Ok(334));
+}
+
+#[test]
+fn fill_is_rounded_up() {
+    let mut s = empty();
+    assert_eq!(s.fill(0, 524_288), Ok(0));
+    assert_eq!(s.set(7..8, true), Ok(1));
+    assert_eq!(s.fill(0, 524_288), Ok(1));
+    assert_eq!(s.fill(0, 7), Ok(0));
+    assert_eq!(s.fill(7, 1), Ok(1000));
+    assert_eq!(s.set(0..524_288, true), Ok(524_287));
+    assert_eq!(s.fill(0, 524_288), Ok(1000));
+    // One position is free: that shows in a window of 999 positions, but not in one of 1,001.
+    assert_eq!(s.fill(524_289 - 999, 999), Ok(999));
+    assert_eq!(s.fill(524_289 - 1001, 1001), Ok(1000));
 }
 
 #[test]

@@ -201,7 +201,10 @@ static void cases(void) {
     w = vizturel_write_map(s, WORDS, here, 0, 10, out, sizeof out);
     CHECK(w.refusal == 0 && w.bytes == 2 && out[0] == 0x0C && out[1] == 0x03 && out[2] == fifteen[2]);
     n = vizturel_fill(s, WORDS, here, 0, 3);
-    CHECK(n.refusal == 0 && n.number == 333);
+    CHECK(n.refusal == 0 && n.number == 334);
+    /* rounded up: one slot of the longest window shows, none does not, and all of a window are 1000 */
+    CHECK(vizturel_fill(s, WORDS, here, 9, 524288).number == 1 && vizturel_fill(s, WORDS, here, 10, 524288).number == 0);
+    CHECK(vizturel_fill(s, WORDS, here, 8, 2).number == 1000);
     fresh(a, WORDS);
     CHECK(is_count(vizturel_read_map(a, WORDS, here, 0, 10, out, 2), 4) && vizturel_eq(s, WORDS, here, a, WORDS, here).value == 1);
 
@@ -516,7 +519,7 @@ static void every_call(void) {
     CHECK(is(told[13], 0, 1, 4, 7, 8, 11, 1));
     CHECK(is(told[14], 0, 1, 8, 9, 4, 7, 0));
     CHECK(is(told[15], 0, 0, 0, 0, 1, 0, 1));
-    CHECK(is(told[16], 0, 0, 333, 0, 0, 0, 0));
+    CHECK(is(told[16], 0, 0, 334, 0, 0, 0, 0));
     /* the flip leaves 2 3, 8 9 and 12 .. 14; after both shifts these seven are 5 6, 11 12 and 15 .. 17 */
     CHECK(is(told[17], 0, 0, 0, 0, 0, 0, 0));
     CHECK(is(told[18], 0, 0, 0, 0, 0, 0, 0));

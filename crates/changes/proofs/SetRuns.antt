@@ -8,7 +8,7 @@ use native.Mathlib.Omega.{arith}
 use Rattle.model.specs.Numbers.{size}
 use Rattle.model.proofs.Numbers.{split}
 use Rattle.model.specs.Positions.{Positions, oneIf, count, runCount, stretches, setRange}
-use Rattle.model.proofs.Counting.{count-cut, count-all, one-bound}
+use Rattle.model.proofs.Counting.{count-all, counted-none, one-bound}
 use Rattle.model.proofs.Runs.{stretches-cong}
 use Rattle.model.specs.Neighbours.{goesOn, heldBelow, heldAbove}
 use Rattle.model.proofs.After.{goesOn-top, goesOn-zero, set-inside, set-below, set-above, set-runs}
@@ -81,25 +81,6 @@ module _ (P : Positions) (a n b : ℕ) (some : 0 < n) (ends : a + n ≡ suc b) (
 -- a set adds at most one run
 pub set-one-more : (P : Positions) (a n : ℕ) (v : Bool) → 0 < n → a + n ≤ size → stretches (setRange a n v P) ≤ stretches P + 1
 set-one-more P a n v h t = one-more P a n (a + n - 1) h (omega arith) (omega arith) v
-
--- none of the other value is counted: all have the value
-counted-none : (P : Positions) (v : Bool) (a n : ℕ) → count P (not v) a n ≡ 0 → (x : ℕ) → a ≤ x → x < a + n → P x ≡ v
-counted-none P v a n e x h l = go v (P x) refl e
-  where
-    one : (w : Bool) → P x ≡ w → count P w a n ≡ 0 → ⊥
-    one w p z =
-        omega (
-          arith,
-          count-cut P w a n (x - a) x (n - (x - a)) (omega arith) (omega arith),
-          count-cut P w x (n - (x - a)) 1 (x + 1) (n - (x - a) - 1) (omega arith) refl,
-          count-all P w x 1 (λ y k m. ap P (omega arith) ∙ p),
-        )
-
-    go : (v b : Bool) → P x ≡ b → count P (not v) a n ≡ 0 → b ≡ v
-    go true true p z = refl
-    go true false p z = absurd (one false p z)
-    go false true p z = absurd (one true p z)
-    go false false p z = refl
 
 -- where there is nothing to change, a set changes nothing
 pub set-nothing : (P : Positions) (a n : ℕ) (v : Bool) → count P (not v) a n ≡ 0 → (x : ℕ) → setRange a n v P x ≡ P x

@@ -122,14 +122,14 @@ module _ (base n : ℕ) where
         let k : worth c ≡ count P true base n = e ∙ ap (count P true base) (omega (arith, f .some)) in
         omega (arith, f .few, k, count-both P base n)
 
-    -- so a thousand times that fits
-    pub fill-fits : 1000 * c .low < size
+    -- so a thousand times that and the length fit
+    pub fill-fits : 1000 * c .low + n < size
     fill-fits = omega (arith, f .few, low-count, count-both P base n)
 
-    -- and is the fill, over the length
-    pub fill-is : 1000 * c .low / n ≡ fillOf P base n
+    -- and that, rounded up over the length, is the fill
+    pub fill-is : (1000 * c .low + (n - 1)) / n ≡ fillOf P base n
     unfolding fillOf
-    fill-is = ap (λ k. 1000 * k / n) low-count
+    fill-is = ap (λ k. (1000 * k + (n - 1)) / n) low-count
 
 -- what a test tells that was asked the other way round
 pub bad-by : (t r b : Bool) → r ≡ not t → not r ≡ b → t ≡ b

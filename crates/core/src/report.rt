@@ -132,7 +132,7 @@ pub fn ranges(words: &[u64], world: u64, lower: Bound, upper: Bound, value: bool
     }
 }
 
-// A thousand times the count of a window fits a word.
+// Rounded up. A thousand times the count of a window and its length fit a word.
 pub fn fill(words: &[u64], world: u64, base: u64, length: u64) -> Numbered
     requires { ⌜ Readable (now words) world ⌝ }
     ensures { λ r. ⌜ Met (now (words .entry)) world (Call.fill base length) (numberedAnswer r) (now (words .entry)) ⌝ }
@@ -149,5 +149,5 @@ pub fn fill(words: &[u64], world: u64, base: u64, length: u64) -> Numbered
         true,
     );
     let c = t.count;
-    Numbered::Number(1000 * c.low / length)
+    Numbered::Number((1000 * c.low + (length - 1)) / length)
 }

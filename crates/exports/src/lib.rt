@@ -236,7 +236,7 @@ pub extern "C" fn vizturel_draw_back(
     )))
 }
 
-// How full a window is, in thousandths, rounded down.
+// How full a window is, in thousandths, rounded up.
 #[no_mangle]
 pub extern "C" fn vizturel_fill(words: &[u64], world: u64, base: u64, n: u64) -> CNumbered
     ensures { λ r. ⌜ Returns (now (words .entry)) world (Call.fill base n) numberOf r (now (words .entry)) ⌝ }

@@ -112,7 +112,7 @@ pub fn draw_back(words: &[u64], world: u64, l: Listing) -> Drawn
     }
 }
 
-// How full a window is, in thousandths, rounded down.
+// How full a window is, in thousandths, rounded up.
 pub fn fill(words: &[u64], world: u64, base: u64, length: u64) -> Numbered
     ensures { λ r. ⌜ Met (now (words .entry)) world (Call.fill base length) (numberedAnswer r) (now (words .entry)) ⌝ }
 {

@@ -46,8 +46,8 @@ module _ (base n : ℕ) (bs : List ℕ) where
         λ k q. g .answered ∙ ap (λ o. o .answer) e ∙ clears-none-twice base n bs (sym (h .answered) ∙ q),
       )
 
--- no window is written that is none
-window-good : (s : Fed) (t b : Bool) → refusal (reads s ++ outputShort when t ∷ window when b ∷ []) ≡ none → b ≡ false
+-- no window is written or reported that is none
+pub window-good : (s : Fed) (t b : Bool) → refusal (reads s ++ outputShort when t ∷ window when b ∷ []) ≡ none → b ≡ false
 window-good s t false e = refl
 window-good wrongLength t true e = let z : _≡_ {A = ℕ} 0 1 = cc in absurd (omega arith)
 window-good unsound t true e = let z : _≡_ {A = ℕ} 0 1 = cc in absurd (omega arith)

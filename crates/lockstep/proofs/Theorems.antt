@@ -1,4 +1,4 @@
--- The theorems hold (specs/Theorems.antt): each is what the lemma files show of histories, matches, written sets, worlds and cleared maps.
+-- The theorems hold (specs/Theorems.antt): each is what the lemma files show of histories, matches, written sets, worlds, cleared maps and fills.
 -- Assumes nothing.
 use mathlib.Core.Path.{refl, sym}
 use native.Mathlib.Nat.{le-trans}
@@ -16,6 +16,8 @@ use Rattle.lockstep.specs.Theorems.{
   Cleared-once,
   Written-stays,
   Forms-agree,
+  Fill-none,
+  Fill-full,
 }
 use Rattle.lockstep.proofs.Following.{follows, new-holds, answered-alike}
 use Rattle.lockstep.proofs.Matches.{matches}
@@ -27,6 +29,7 @@ use Rattle.lockstep.proofs.Neighbours.{alike}
 use Rattle.lockstep.proofs.Forms.{met-alike, writes-alike}
 use Rattle.lockstep.proofs.Clearing
 use Rattle.lockstep.proofs.Clearing.{written-stays}
+use Rattle.lockstep.proofs.Filling.{none-held, all-held}
 
 pub theorem1 : Theorem1
 theorem1 C ls w cs rs vs N h = follows (new-holds N) h
@@ -65,3 +68,9 @@ written-map-stays w i base n bs bs′ a W h = written-stays W h
 
 pub forms-agree : Forms-agree
 forms-agree = (λ w i base n bs a b w′ v′ m k. met-alike m k, λ w i base n out r s out′ out″ m k. writes-alike m k)
+
+pub fill-none : Fill-none
+fill-none w i base n k w′ m = none-held m
+
+pub fill-full : Fill-full
+fill-full w i base n k w′ m = all-held m

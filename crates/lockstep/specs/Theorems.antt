@@ -2,7 +2,7 @@
 -- Assumes nothing: these are statements. proofs/Theorems.antt proves each under its name, in small letters.
 use Prim.Native.Nat.{ℕ, _+_, _*_, _≤_, _<_}
 use mathlib.Core.Path.{_≡_}
-use mathlib.Core.Bool.{false}
+use mathlib.Core.Bool.{true, false}
 use mathlib.Core.List.{List}
 use lib.ListN.{length}
 use Rattle.model.specs.declared.Limits.{Limits}
@@ -111,3 +111,17 @@ Forms-agree =
     → Met w i (Call.readMap base n bs) a w′ → Met w i (Call.readMap base n bs) b v′ → (a ≡ b) × (worldsOf w′ ≡ worldsOf v′))
     × ((w : List ℕ) (i base n : ℕ) (out : List ℕ) (r s : Written) (out′ out″ : List ℕ)
     → WritesOut (Call.writeMap base n) w i out r out′ → WritesOut (Call.writeMap base n) w i out s out″ → (writtenAnswer r out′ ≡ writtenAnswer s out″) × (out′ ≡ out″))
+
+-- ---- fill (document 02, Ticket 7)
+-- a fill that is not refused is 0 exactly where nothing of the window is held
+abbrev pub Fill-none : Type 0
+Fill-none =
+    (w : List ℕ) (i base n k : ℕ) (w′ : List ℕ)
+    → Met w i (Call.fill base n) (gave (number k)) w′
+    → (k ≡ 0 → (x : ℕ) → base ≤ x → x < base + n → heldBy w i x ≡ false) × (((x : ℕ) → base ≤ x → x < base + n → heldBy w i x ≡ false) → k ≡ 0)
+
+-- and 1000 where all of it is
+abbrev pub Fill-full : Type 0
+Fill-full =
+    (w : List ℕ) (i base n k : ℕ) (w′ : List ℕ)
+    → Met w i (Call.fill base n) (gave (number k)) w′ → ((x : ℕ) → base ≤ x → x < base + n → heldBy w i x ≡ true) → k ≡ 1000

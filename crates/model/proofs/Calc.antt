@@ -349,7 +349,7 @@ calc C s (writeSet out) = writeRuns s [] (encode (runsOf s)) out
 calc C s (readMap base n bs) =
     changedRuns C s (window when badWindow base n ∷ window when badMap n bs ∷ strayBit when someBit bs n (8 * mapLength n - n) ∷ []) (mapRuns base n bs (runsOf s))
 calc C s (writeMap base n out) = writeRuns s (window when badWindow base n ∷ []) (mapOf (mem (runsOf s)) base n) out
-calc C s (fill base n) = reportRuns s (window when badWindow base n ∷ []) (number (1000 * widths (clipped true base n (runsOf s)) / n))
+calc C s (fill base n) = reportRuns s (window when badWindow base n ∷ []) (number ((1000 * widths (clipped true base n (runsOf s)) + (n - 1)) / n))
 
 -- ---- what ties an outcome of the model to one on run lists
 pub record Tied (o : Outcome) (r : RunOutcome) : Type 0 where
@@ -498,5 +498,5 @@ calc-tied C s (writeMap base n out) =
     tied-write s (window when badWindow base n ∷ []) (mapOf (positionsOf (fedAs s)) base n) (mapOf (mem (runsOf s)) base n) out
     (ap (λ Q. mapOf Q base n) (runsOf-positions s))
 calc-tied C s (fill base n) =
-    tied-report s (window when badWindow base n ∷ []) (number (fillOf (positionsOf (fedAs s)) base n)) (number (1000 * widths (clipped true base n (runsOf s)) / n))
-    (ap (λ k. number (1000 * k / n)) (count-runs (positionsOf (fedAs s)) true base n ∙ ap widths (in-range s true base n)))
+    tied-report s (window when badWindow base n ∷ []) (number (fillOf (positionsOf (fedAs s)) base n)) (number ((1000 * widths (clipped true base n (runsOf s)) + (n - 1)) / n))
+    (ap (λ k. number ((1000 * k + (n - 1)) / n)) (count-runs (positionsOf (fedAs s)) true base n ∙ ap widths (in-range s true base n)))

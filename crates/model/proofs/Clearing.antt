@@ -3,16 +3,16 @@
 -- ask that the elements are bytes: of a number above 255 clearing keeps eight bits. Assumes nothing.
 use mathlib.Core.Path.{_≡_, refl, sym, ap, ap₂, _∙_, subst, fun-ext}
 use mathlib.Core.Logic.{_⊎_, inl, inr}
-use mathlib.Core.Bool.{Bool, true, false, cond, not, _||_, Bool·beq, false≢true}
+use mathlib.Core.Bool.{Bool, true, false, cond, not, _||_, false≢true}
 use mathlib.Core.List.{List, [], _∷_, _++_}
-use Prim.Native.Nat.{ℕ, suc, _+_, _-_, _*_, _/_, _≤_, _<_}
+use Prim.Native.Nat.{ℕ, _+_, _-_, _*_, _/_, _≤_, _<_}
 use native.Mathlib.Nat.{zero-add, zero-div}
 use native.Mathlib.Omega.{arith}
 use lib.ListN.{length, List·getD-eq-default}
 use borrow.Author.Tests.{eq-eqb, le-ltb}
 use Rattle.model.proofs.Numbers.{split, neither-first, neither-second}
-use Rattle.model.specs.Positions.{Positions, among, oneIf, count, bounded, changes}
-use Rattle.model.proofs.Counting.{among-below, among-above, count-cut, count-first, count-none}
+use Rattle.model.specs.Positions.{Positions, among, bounded, changes}
+use Rattle.model.proofs.Counting.{among-below, among-above, count-none, counted-none}
 use Rattle.model.specs.Bytes.{mapLength, mapOf, mapBit, strayBits, cleared, mapped}
 use Rattle.model.specs.RunList.{AllBytes}
 use Rattle.model.proofs.Maps.{mapOf-length, mapOf-bytes, mapOf-cong, mapOf-bit, mapOf-spare, map-tell}
@@ -77,18 +77,6 @@ pub written-none : (P : Positions) (base n : ℕ) → strayBits n (mapOf P base 
 unfolding strayBits
 written-none P base n = count-none (mapBit (mapOf P base n)) true n (8 * mapLength n - n) (λ i h l. mapOf-spare P base n i h)
 
--- a spare bit that is not counted is 0
-none-at : (P : Positions) (a k x : ℕ) → count P true a k ≡ 0 → a ≤ x → x < a + k → P x ≡ false
-none-at P a k x e h l =
-    let m : ℕ = a + k - suc x in
-    let p : count P true a k ≡ count P true a (x - a) + count P true x (suc m) = count-cut P true a k (x - a) x (suc m) (omega arith) (omega arith) in
-    let q : count P true x (suc m) ≡ oneIf (Bool·beq (P x) true) + count P true (suc x) m = count-first P true x m in
-    go (P x) (omega arith)
-  where
-    go : (b : Bool) → oneIf (Bool·beq b true) ≡ 0 → b ≡ false
-    go true z = absurd (omega arith)
-    go false z = refl
-
 -- beyond a map's bytes every bit is 0
 past-map : (bs : List ℕ) (i : ℕ) → length bs ≤ i / 8 → mapBit bs i ≡ false
 unfolding mapBit
@@ -100,7 +88,7 @@ unfolding strayBits
 clear-stays n bs b l z = sym (clear-is n bs bs b l (λ i h. refl) (λ i h. go i h (split i (8 * mapLength n))))
   where
     go : (i : ℕ) → n ≤ i → (i < 8 * mapLength n) ⊎ (8 * mapLength n ≤ i) → mapBit bs i ≡ false
-    go i h (inl k) = none-at (mapBit bs) n (8 * mapLength n - n) i z h (omega arith)
+    go i h (inl k) = counted-none (mapBit bs) false n (8 * mapLength n - n) z i h (omega arith)
     go i h (inr k) = past-map bs i (omega arith)
 
 -- ---- the conditions of a map

@@ -87,6 +87,25 @@ count-none P v a zero h = refl
 count-none P v a (suc n) h =
     rw (h a (omega arith) (omega arith), beq-not v, count-none P v (suc a) n (λ x k l. h x (omega arith) (omega arith))) (omega arith)
 
+-- none of the other value is counted: all have the value
+pub counted-none : (P : Positions) (v : Bool) (a n : ℕ) → count P (not v) a n ≡ 0 → (x : ℕ) → a ≤ x → x < a + n → P x ≡ v
+counted-none P v a n e x h l = go v (P x) refl e
+  where
+    one : (w : Bool) → P x ≡ w → count P w a n ≡ 0 → ⊥
+    one w p z =
+        omega (
+          arith,
+          count-cut P w a n (x - a) x (n - (x - a)) (omega arith) (omega arith),
+          count-cut P w x (n - (x - a)) 1 (x + 1) (n - (x - a) - 1) (omega arith) refl,
+          count-all P w x 1 (λ y k m. ap P (omega arith) ∙ p),
+        )
+
+    go : (v b : Bool) → P x ≡ b → count P (not v) a n ≡ 0 → b ≡ v
+    go true true p z = refl
+    go true false p z = absurd (one false p z)
+    go false true p z = absurd (one true p z)
+    go false false p z = refl
+
 -- two counts with the same hits
 pub count-hits : (P Q : Positions) (v w : Bool) (a n : ℕ) → ((x : ℕ) → a ≤ x → x < a + n → Bool·beq (P x) v ≡ Bool·beq (Q x) w) → count P v a n ≡ count Q w a n
 unfolding count

@@ -293,7 +293,7 @@ impl Expected {
                     return Err(Refusal::Window);
                 }
                 let held = p.count(base as usize..=(base + (n - 1)) as usize, true);
-                Ok(Told::Number((1000 * held / u128::from(n)) as u64))
+                Ok(Told::Number((1000 * held).div_ceil(u128::from(n)) as u64))
             }
             Call::Combine { to, op, a, b } => {
                 self.read(&[to, a, b])?;

@@ -50,6 +50,7 @@ pub fn list() -> List {
     list.say("fill 1/0 0 8192\nwrite_map 1/0 0 8192 1024\nwrite_map 1/0 5 8180 1023\nwrite_map 1/0 0 8192 1023");
     windows(&mut list, &mut random);
     spare_bits(&mut list);
+    fills(&mut list);
     list
 }
 
@@ -80,6 +81,15 @@ fn spare_bits(list: &mut List) {
         list.call(&Call::ReadMap { at, base: 1, n, map });
     }
     list.show(at);
+}
+
+// Fill is rounded up: windows about a thousand positions long and the longest one, with none, one, all and all but one of them held.
+fn fills(list: &mut List) {
+    for n in [1, 2, 3, 999, 1000, 1001, 1002, 524_288] {
+        list.store(0, 2, &[]);
+        list.say(&format!("fill 0/0 5 {n}\nset 0/0 i5 i5 1\nfill 0/0 5 {n}"));
+        list.say(&format!("set 0/0 i5 e{} 1\nfill 0/0 5 {n}\nfill 0/0 6 {n}", 5 + n));
+    }
 }
 
 // Windows at every limit, of sizes about whole bytes.

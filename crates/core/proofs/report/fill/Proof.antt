@@ -1,4 +1,4 @@
--- `fill` meets its contract: a window that is none is refused, and of another a thousand times its count fits a word.
+-- `fill` meets its contract: a window that is none is refused, and of another a thousand times its count and its length fit a word.
 -- Assumes nothing.
 use mathlib.Core.Path.{_≡_, ap}
 use mathlib.Core.Bool.{false}
@@ -15,6 +15,10 @@ use Rattle.core.proofs.report.fill.Tie as tie
 -- where the call started, of a window that is one
 abbrev start : tie.Else1 → tie.Start
 start r = r .before .before .before
+
+-- and where its tally is known
+abbrev asked : tie.After-tally → tie.Else1
+asked t = t .before .before .before
 
 -- it is one
 good : (r : tie.Else1) → badWindow ((start r) .args .base) ((start r) .args .length) ≡ false
@@ -49,19 +53,28 @@ tally-requires c κs = (lent-stands (c .before .«open» .ensures), omega arith)
 
 mul-t16 : tie.Need-mul-t16
 mul-t16 c =
-    let r = c .before .before .before .before .before in
-    let h = fill-fits _ _ _ _ (fitting _ _ (good r)) (c .before .before .tally .ensures .count-is) in
+    let t = c .before .before in
+    let h = fill-fits _ _ _ _ (fitting _ _ (good (asked t))) (t .tally .ensures .count-is) in
     omega arith
 
-div-t17 : tie.Need-div-t17
-div-t17 c = (fitting _ _ (good (c .before .before .before .before .before))) .some
+sub-t17 : tie.Need-sub-t17
+sub-t17 c = let f = fitting _ _ (good (asked (c .before .before))) in omega arith
+
+add-t19 : tie.Need-add-t19
+add-t19 c =
+    let t = c .before .before in
+    let h = fill-fits _ _ _ _ (fitting _ _ (good (asked t))) (t .tally .ensures .count-is) in
+    omega arith
+
+div-t20 : tie.Need-div-t20
+div-t20 c = (fitting _ _ (good (asked (c .before .before)))) .some
 
 returns-2 : tie.Need-returns-2
 returns-2 c =
-    let o = c .before .before .before .before in
-    let r = o .before in
-    met-in (fill-says _ _ _ _) ((start r) .pre) (o .«open» .ensures) (window-passes _ _ (good r))
-    (ap number (fill-is _ _ _ _ (fitting _ _ (good r)) (c .before .before .tally .ensures .count-is)))
+    let t = c .before .before in
+    let r = asked t in
+    met-in (fill-says _ _ _ _) ((start r) .pre) (t .before .before .«open» .ensures) (window-passes _ _ (good r))
+    (ap number (fill-is _ _ _ _ (fitting _ _ (good r)) (t .tally .ensures .count-is)))
 
 pub fill-spec : {M : Type 1} → statement M
 fill-spec =
@@ -77,5 +90,7 @@ fill-spec =
     add-t17
     tally-requires
     mul-t16
-    div-t17
+    sub-t17
+    add-t19
+    div-t20
     returns-2)
