@@ -11,7 +11,8 @@
 # make bench-maps         how long maps take by words and by single bytes, against plain Rust loops (docs/BENCHMARKS.md)
 # make bench-soundness    how long the soundness check takes, against readings of the same words (docs/BENCHMARKS.md)
 # make bench-growth       how many instructions it takes, at four capacities (needs valgrind)
-.PHONY: run test lib prove host differential differential-long conformance bench bench-store bench-gaps bench-maps bench-soundness bench-growth
+# make bench-calls        how many instructions a call takes in a frame, and the soundness check with one world and sixteen (needs valgrind)
+.PHONY: run test lib prove host differential differential-long conformance bench bench-store bench-gaps bench-maps bench-soundness bench-growth bench-calls
 ARCHIVE := target/lib/libvizturel.a
 HEADER := target/include/vizturel.h
 # the crates that the archive is made of; exports, the last one, is proved where the archive is written
@@ -28,7 +29,7 @@ prove:
 # Crate by crate, so that it can say which one is being proved. The archive is written only if everything in it is proved.
 $(ARCHIVE): crates.txt $(shell find crates -name '*.rt' -o -name '*.antt')
 	@mkdir -p target/lib
-	@echo "proving the library: about 6 minutes from nothing, up to a minute where its crates have been proved"
+	@echo "proving the library: about 8 minutes from nothing, up to a minute where its crates have been proved"
 	@at=0; began=$$(date +%s); \
 	for crate in $(PARTS) exports; do \
 	    at=$$((at + 1)); from=$$(date +%s); \
@@ -70,4 +71,15 @@ bench-growth: bench-store
 	@for c in 1024 2048 8192 65536; do \
 	    valgrind --tool=callgrind --callgrind-out-file=/dev/null --toggle-collect=vizturel_bench_is_sound target/bench-growth $$c 2>&1 \
 	        | awk -v c=$$c '/Collected/ { printf "| %d | %d | %.1f |\n", c, $$NF, $$NF / c }'; \
+	done
+bench-calls: $(ARCHIVE)
+	gcc -O2 -Wall -Wextra -Iinclude -o target/bench-calls bench/calls.c $(ARCHIVE)
+	@count() { valgrind --tool=callgrind --callgrind-out-file=/dev/null --toggle-collect=vizturel_frame target/bench-calls "$$@" 2>&1 | awk '/Collected/ { print $$NF }'; }; \
+	none=$$(count set 1100 1000 0 1); \
+	for kind in set flip shift get find tally select run_at; do \
+	    echo "$$kind $$(count $$kind 1100 1000 1000 1) $$none" | awk '{ printf "| %s | %.1f |\n", $$1, ($$2 - $$3) / 1000 }'; \
+	done; \
+	for c in 128 1100 11000; do \
+	    runs=$$((c == 128 ? 100 : c * 10 / 11)); \
+	    echo "| C = $$c | $$(count set $$c $$runs 0 1) with one world | $$(count set $$c $$runs 0 16) with sixteen |"; \
 	done
