@@ -176,15 +176,10 @@ class World:
         self.keep(runs)
 
     def load(self, written):
-        require(len(written) >= 5, 3)
-        require(written[0] == 1, 4)
-        require(len(written) == 5 + 16 * int.from_bytes(written[1:5], "big"), 3)
-        numbers = [int.from_bytes(written[i : i + 8], "big") for i in range(5, len(written), 8)]
-        self.build(list(zip(numbers[::2], numbers[1::2])))
+        self.build(runs_told(written))
 
-    def write_set(self, room):
-        runs = b"".join(x.to_bytes(8, "big") for run in self.runs for x in run)
-        return fill_front(room, b"\x01" + len(self.runs).to_bytes(4, "big") + runs)
+    def write_set(self, edition, room):
+        return fill_front(room, encoded(self.runs, edition == 2))
 
     def read_map(self, base, length, bits):
         first, last = window(base, length)
@@ -203,6 +198,29 @@ class World:
 
     def fill(self, base, length):
         return (1000 * size(held(self.runs, *window(base, length))) + length - 1) // length
+
+
+def encoded(runs, by_columns):
+    """The written set of runs: each has sixteen bytes, which stand together, or each with those of its place in the other runs."""
+    table = [start.to_bytes(8, "big") + end.to_bytes(8, "big") for start, end in runs]
+    table = [bytes(column) for column in zip(*table)] if by_columns else table
+    return bytes([2 if by_columns else 1]) + len(runs).to_bytes(4, "big") + b"".join(table)
+
+
+def runs_told(written):
+    """The runs of a written set, in order or not."""
+    require(len(written) >= 5, 3)
+    require(written[0] in (1, 2), 4)
+    count, rest = int.from_bytes(written[1:5], "big"), written[5:]
+    require(len(rest) == 16 * count, 3)
+    table = [rest[i::count] for i in range(count)] if written[0] == 2 else [rest[16 * i : 16 * i + 16] for i in range(count)]
+    return [(int.from_bytes(run[:8], "big"), int.from_bytes(run[8:], "big")) for run in table]
+
+
+def convert(written, room):
+    runs = runs_told(written)
+    require(in_order(runs), 5)
+    return fill_front(room, encoded(runs, written[0] == 1))
 
 
 def clear_map(base, length, bits):
@@ -225,14 +243,15 @@ def fill_front(room, due):
 ARGUMENTS = {
     "words": "sn", "spoil": "s", "new": "sl", "set": "prn", "flip": "pr", "get": "pn", "run_at": "pn", "find": "prn", "tally": "prn",
     "select": "prnn", "gap": "prn", "ranges": "prn", "draw_front": "pnnn", "draw_back": "pnnn", "shift": "pnn",
-    "shifted": "ppnn", "combine": "pwpp", "not": "pp", "eq": "pp", "load": "pb", "build": "pl", "write_set": "pn", "read_map": "pnnb",
-    "write_map": "pnnn", "clear_map": "nnb", "fill": "pnn",
+    "shifted": "ppnn", "combine": "pwpp", "not": "pp", "eq": "pp", "load": "pb", "build": "pl", "write_set": "pnn", "read_map": "pnnb",
+    "write_map": "pnnn", "clear_map": "nnb", "convert": "bn", "fill": "pnn",
 }
 ANSWERS = {
     "set": "number", "get": "value", "run_at": "run", "find": "at", "tally": "number", "select": "at", "gap": "at",
     "ranges": "listing", "draw_front": "drawn", "draw_back": "drawn", "eq": "value", "write_set": "written", "read_map": "number",
-    "write_map": "written", "clear_map": "cleared", "fill": "number",
+    "write_map": "written", "clear_map": "cleared", "convert": "written", "fill": "number",
 }
+STORELESS = {"clear_map": clear_map, "convert": convert}
 
 
 def sound(stores):
@@ -273,7 +292,8 @@ def answer(line, stores):
     try:
         meant = iter(worlds([one for one in given if isinstance(one, tuple)]))
         given = [next(meant) if isinstance(one, tuple) else one for one in given]
-        result = clear_map(*given) if name == "clear_map" else getattr(given[0], "complement" if name == "not" else name)(*given[1:])
+        call = STORELESS.get(name) or getattr(type(given[0]), "complement" if name == "not" else name)
+        result = call(*given)
     except Refused as refused:
         return f"refused {refused}"
     values = result if isinstance(result, tuple) else () if result is None else (result,)

@@ -27,7 +27,7 @@ int main(void) {
         if (!deal(&slot)) return 1;
         printf("dealt %d\n", (int)slot); /* 2, then 5 */
     }
-    vizturel_written w = vizturel_write(pool, WORDS, BODIES, written, sizeof written);
+    vizturel_written w = vizturel_write(pool, WORDS, BODIES, VIZTUREL_ROWS, written, sizeof written);
     printf("a written set of %d bytes\n", (int)w.bytes);
     return w.refusal != 0;
 }

@@ -24,7 +24,7 @@
  *   1  a pool's length is not 8 * (C + 49) words for a C from 1 to 65,536
  *   2  the output is shorter than what is due
  *   3  a written set has fewer than 5 bytes, or not 5 + 16 * R
- *   4  its version byte is not 1
+ *   4  its version byte is neither 1 nor 2
  *   5  a start exceeds its end, or is below the previous end + 2
  *   6  a window of length 0 or above 524,288, or past 2^64; or a map that has not (length + 7) / 8 bytes
  *   7  a pool is not sound
@@ -43,10 +43,10 @@
  * LOCKSTEP. Two sound pools of one capacity that opened equally many worlds, with the same positions, floor and ceiling in each, answer every later
  * list of equal calls alike.
  *
- * RESERVED NUMBERS. Where numbers have names here (call numbers, kinds of bounds, operations), the named ones stay as they are. The call numbers 7
- * and 9 are withdrawn and stay so: such a record is answered with 12, whatever world it names, and not as another call. All other numbers are
- * reserved: a later version may give them a meaning. This version takes a reserved call number for a get, a reserved kind for no bound and a
- * reserved operation for XOR. Do not rely on it.
+ * RESERVED NUMBERS. Where numbers have names here (call numbers, kinds of bounds, operations, editions), the named ones stay as they are. The call
+ * numbers 7 and 9 are withdrawn and stay so: such a record is answered with 12, whatever world it names, and not as another call. All other
+ * numbers are reserved: a later version may give them a meaning. This version takes a reserved call number for a get, a reserved kind for no
+ * bound, a reserved operation for XOR and a reserved edition for rows. Do not rely on it.
  *
  * Link libvizturel.a, for x86-64 Linux: `make lib` writes it to target/lib/, and this header to target/include/. Of a C library it needs memset
  * alone. docs/CALLS.md has every call with its cost.
@@ -115,6 +115,15 @@ enum vizturel_operation {
     VIZTUREL_AND = 0,
     VIZTUREL_OR = 1,
     VIZTUREL_XOR = 2
+};
+
+/* How a written set arranges its bytes. It has a version byte, which is the edition's number, then the number of runs as 4 bytes; then come 16 bytes
+ * of each run, its start and its end as 8 bytes each, runs rising, all numbers big-endian. By rows the 16 bytes of a run stand together. By
+ * columns the first byte of every run comes first, then the second of every run, up to the sixteenth: like bytes stand together, for whoever packs
+ * them. Readers take both; one that knows edition 1 alone refuses edition 2 with 4. Other numbers are reserved. */
+enum vizturel_edition {
+    VIZTUREL_ROWS = 1,
+    VIZTUREL_COLUMNS = 2
 };
 
 /* How many positions: carry * 2^64 + low. The carry is 1 only for all 2^64 of them. */
@@ -254,22 +263,28 @@ uint64_t vizturel_not(uint64_t *words, size_t count, uint64_t world, const uint6
 uint64_t vizturel_shifted(uint64_t *words, size_t count, uint64_t world, uint64_t distance, uint64_t left, const uint64_t *a, size_t a_count,
                           uint64_t a_world);
 
-/* ---- written sets, run lists and maps. Each that takes a pool is refused with 1, 7, 12, then as is said there.
+/* ---- written sets, run lists and maps. Each that takes a pool is refused with 1, 7, 12, then as is said there. vizturel_convert and
+ * vizturel_clear_map take none.
  *
  * Written sets travel between builds; the words of a pool do not, since offsets and the arrangement of nodes are each build's own. Two sound pools
  * of one capacity C that opened equally many worlds, with the same positions, floor and ceiling in each, answer every later list of equal calls
  * alike. So all builds of a match need the same C and the same limits, and a late player has to be told them beside a written set for each world,
  * which does not have them. */
 
-/* Overwrites a world with the set that a written set tells. Refused with 3, 4, 3, 5, 8. */
+/* Overwrites a world with the set that a written set of either edition tells. Refused with 3, 4, 3, 5, 8. */
 uint64_t vizturel_load(uint64_t *words, size_t count, uint64_t world, const uint8_t *bytes, size_t bytes_count);
 
 /* Overwrites a world with the set of a run list: start and end of each run, in turn; a last word without its end is no run. Refused with 5, 8. */
 uint64_t vizturel_build(uint64_t *words, size_t count, uint64_t world, const uint64_t *runs, size_t runs_count);
 
-/* Writes a world's set: version byte 1, the number of runs as 4 bytes, then start and end of each run as 8 bytes each, rising, all
- * big-endian. VIZTUREL_SET_BYTES(C) bytes are always enough. Refused with 2. */
-vizturel_written vizturel_write(const uint64_t *words, size_t count, uint64_t world, uint8_t *out, size_t out_count);
+/* Writes a world's set; edition is a vizturel_edition. Worlds with equal positions are written as equal bytes in each edition.
+ * VIZTUREL_SET_BYTES(C) bytes are always enough. Refused with 2. */
+vizturel_written vizturel_write(const uint64_t *words, size_t count, uint64_t world, uint64_t edition, uint8_t *out, size_t out_count);
+
+/* Turns a written set into the other edition: the version byte tells which it has. The set that is written has as many bytes as the one that is
+ * read, and the bytes of out after it stay. The two slices must not overlap. It takes no pool. Refused with 3, 4, 3, 5 as vizturel_load is,
+ * then with 2. */
+vizturel_written vizturel_convert(const uint8_t *bytes, size_t bytes_count, uint8_t *out, size_t out_count);
 
 /* Writes the map of the window of length positions from base on: bit i (0 is least) of byte j is position base + 8j + i. The spare bits, those of
  * the last byte past the window, are 0. Refused with 6, 2. */

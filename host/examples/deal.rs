@@ -1,5 +1,5 @@
 //! Deals body slots, and admits a player who comes late from the written set.
-use vizturel::{Answer, SetBuf};
+use vizturel::{Answer, Edition, SetBuf};
 
 const RUNS: usize = 64; // the set has at most so many runs of slots in use
 
@@ -22,7 +22,7 @@ fn main() -> Answer<()> {
     println!("dealt {:?}", deal(&mut bodies)?); // Some(5)
 
     let mut out = [0; 5 + 16 * RUNS];
-    let written = bodies.write(&mut out)?;
+    let written = bodies.write(Edition::Rows, &mut out)?;
     println!("a written set of {} bytes", written.len());
     let mut late = SetBuf::with_capacity(RUNS)?;
     late.load(written)?;

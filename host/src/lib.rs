@@ -56,7 +56,7 @@ pub enum Refusal {
     OutputShort = 2,
     /// A written set has fewer than 5 bytes, or not 5 + 16 × R.
     SetLength = 3,
-    /// Its version byte is not 1.
+    /// Its version byte is neither 1 nor 2.
     SetVersion = 4,
     /// In a run list or written set a start exceeds its end, or a start is below the previous end + 2.
     RunOrder = 5,
@@ -106,7 +106,7 @@ impl fmt::Display for Refusal {
             Refusal::StoreLength => "a pool's length is not 8 × (C + 49) words for a capacity C from 1 to 65,536",
             Refusal::OutputShort => "the output slice is shorter than what is due",
             Refusal::SetLength => "a written set has fewer than 5 bytes, or not 5 + 16 × R",
-            Refusal::SetVersion => "a written set's version byte is not 1",
+            Refusal::SetVersion => "a written set's version byte is neither 1 nor 2",
             Refusal::RunOrder => "a run's start exceeds its end, or is below the previous end + 2",
             Refusal::Window => "a window is empty, too long or past 2^64, or a map's length is not the window's",
             Refusal::Unsound => "a pool is not sound",
@@ -130,6 +130,18 @@ pub enum Operation {
     And = 0,
     Or = 1,
     Xor = 2,
+}
+
+/// How a written set arranges its bytes after the version byte, which is the edition's number, and the number of runs. A run has sixteen:
+/// its start and its end, eight bytes each, the highest first. Every reader takes both editions, and [`convert`] turns either into the
+/// other.
+#[derive(Clone, Copy, Debug, PartialEq, Eq)]
+pub enum Edition {
+    /// The sixteen bytes of each run together.
+    Rows = 1,
+    /// The first byte of every run, then the second of every run, up to the sixteenth: like bytes stand together, for whoever packs them.
+    /// A reader that knows edition 1 alone refuses it with 4.
+    Columns = 2,
 }
 
 /// What is left of a listing of runs: those of the value from first to last. It has ended where first is above last. It borrows no
@@ -317,6 +329,31 @@ pub fn clear_map(base: u64, n: u64, map: &mut [u8]) -> Answer<u64> {
     number(unsafe { raw::vizturel_clear_map(base, n, map.as_mut_ptr(), map.len()) })
 }
 
+/// Turns a written set of either edition into the other, in the front of a slice, and hands that part back. Both have the same length;
+/// the rest of the slice stays. It takes no pool. Refused with 3, 4 or 5 as [`World::load`] is, or with 2; then the slice stays.
+///
+/// ```
+/// use vizturel::{Edition, SetBuf, convert};
+/// # fn main() -> Result<(), vizturel::Refusal> {
+/// let mut slots = SetBuf::with_capacity(8)?;
+/// slots.set(2..4, true)?;
+/// slots.set(8..10, true)?;
+/// let [mut rows, mut columns, mut again] = [[0; 64]; 3];
+/// let rows = slots.write(Edition::Rows, &mut rows)?;
+/// let columns = convert(rows, &mut columns)?;
+/// // The eighth byte of each start stands beside the other, and so does the eighth of each end.
+/// assert_eq!((columns[0], &columns[5 + 2 * 7..][..2], &columns[5 + 2 * 15..]), (2, &[2, 8][..], &[3, 9][..]));
+/// assert_eq!(columns, slots.write(Edition::Columns, &mut again)?);
+/// assert_eq!(convert(columns, &mut again)?, rows);
+/// # Ok(())
+/// # }
+/// ```
+pub fn convert<'o>(bytes: &[u8], out: &'o mut [u8]) -> Answer<&'o mut [u8]> {
+    let (from, to) = (bytes.as_ptr(), out.as_mut_ptr());
+    let written = number(unsafe { raw::vizturel_convert(from, bytes.len(), to, out.len()) })?;
+    Ok(&mut out[..written as usize])
+}
+
 /// Making a pool in words that may hold anything. They change only if it succeeds.
 impl<S: AsMut<[u64]>> Pool<S> {
     /// Opens a world for each of the limits: worlds 0, 1 and so on, all empty. Refused with 1 of the words, or 11.
@@ -500,7 +537,7 @@ impl<S: AsMut<[u64]>> World<S> {
         answer(unsafe { raw::vizturel_build(w, n, i, r.as_ptr(), r.len()) }, ())
     }
 
-    /// Holds the set that a written set tells. Refused with 3, 4, 5 or 8.
+    /// Holds the set that a written set of either edition tells. Refused with 3, 4, 5 or 8.
     pub fn load(&mut self, bytes: &[u8]) -> Answer<()> {
         let (w, n, i) = self.lent_mut();
         answer(unsafe { raw::vizturel_load(w, n, i, bytes.as_ptr(), bytes.len()) }, ())
@@ -646,10 +683,11 @@ impl<S: AsRef<[u64]>> World<S> {
         Ok(number(unsafe { raw::vizturel_eq(w, n, i, bw, bn, bi) })? == 1)
     }
 
-    /// Writes the world's set into the front of a slice, and hands that part back. Refused with 2.
-    pub fn write<'o>(&self, out: &'o mut [u8]) -> Answer<&'o mut [u8]> {
+    /// Writes the world's set in an edition into the front of a slice, and hands that part back. Refused with 2.
+    pub fn write<'o>(&self, edition: Edition, out: &'o mut [u8]) -> Answer<&'o mut [u8]> {
         let (w, n, i) = self.lent();
-        let written = number(unsafe { raw::vizturel_write(w, n, i, out.as_mut_ptr(), out.len()) })?;
+        let (to, room) = (out.as_mut_ptr(), out.len());
+        let written = number(unsafe { raw::vizturel_write(w, n, i, edition as u64, to, room) })?;
         Ok(&mut out[..written as usize])
     }
 

@@ -12,7 +12,7 @@ use std::ops::RangeInclusive;
 use crate::differential::random::Random;
 use crate::differential::reference;
 use crate::oracle::IntervalBitSet;
-use crate::{Answer, Limits, PoolBuf, Refusal};
+use crate::{Answer, Edition, Limits, PoolBuf, Refusal};
 
 const FRAMES: u32 = 26;
 /// The frame before whose calls the late player is admitted.
@@ -151,7 +151,7 @@ impl Build for Library {
         let mut written = Written::default();
         for (i, bytes) in written.iter_mut().enumerate() {
             let mut out = [0; 5 + 16 * CAPACITY];
-            *bytes = self.pool.world(i as u64).write(&mut out)?.to_vec();
+            *bytes = self.pool.world(i as u64).write(Edition::Rows, &mut out)?.to_vec();
         }
         Ok(written)
     }
@@ -228,14 +228,15 @@ impl Build for Rust {
     fn write(&self) -> Answer<Written> {
         Ok(self.arenas.each_ref().map(|arena| {
             let runs: Vec<_> = arena.ranges(.., true).map(|r| [*r.start() as u64, *r.end() as u64]).collect();
-            reference::encode(&runs)
+            reference::encode(Edition::Rows, &runs)
         }))
     }
 
     fn load(&mut self, written: &Written) -> Answer<()> {
         for (arena, bytes) in self.arenas.iter_mut().zip(written) {
             *arena = IntervalBitSet::new();
-            for [start, end] in reference::decode(bytes)? {
+            let (_, runs) = reference::decode(bytes)?;
+            for [start, end] in runs {
                 arena.set(slots(&(start..=end)), true);
             }
         }

@@ -151,7 +151,15 @@ unsafe extern "C" {
         length: usize,
     ) -> Counted;
     pub fn vizturel_clear_map(base: u64, n: u64, map: *mut u8, length: usize) -> Numbered;
-    pub fn vizturel_write(words: *const u64, count: usize, world: u64, out: *mut u8, length: usize) -> Numbered;
+    pub fn vizturel_convert(bytes: *const u8, length: usize, out: *mut u8, room: usize) -> Numbered;
+    pub fn vizturel_write(
+        words: *const u64,
+        count: usize,
+        world: u64,
+        edition: u64,
+        out: *mut u8,
+        length: usize,
+    ) -> Numbered;
     pub fn vizturel_write_map(
         words: *const u64,
         count: usize,

@@ -2,7 +2,7 @@
 
 use std::ops::{Bound, RangeInclusive};
 
-use vizturel::{Answer, Operation, PoolBuf, Refusal, Set, SetBuf, Tally, World, room, words};
+use vizturel::{Answer, Edition, Operation, PoolBuf, Refusal, Set, SetBuf, Tally, World, room, words};
 
 const M: u64 = u64::MAX;
 const ALL: u128 = 1 << 64;
@@ -143,13 +143,13 @@ fn case_14() {
 fn case_15() {
     let s = of(&[[2, 3], [8, 9]]);
     let mut out = [0xEE; 40];
-    let written = s.write(&mut out).unwrap();
+    let written = s.write(Edition::Rows, &mut out).unwrap();
     let due =
         [1, 0, 0, 0, 2, 0, 0, 0, 0, 0, 0, 0, 2, 0, 0, 0, 0, 0, 0, 0, 3, 0, 0, 0, 0, 0, 0, 0, 8, 0, 0, 0, 0, 0, 0, 0, 9];
     assert_eq!(written, due);
     assert_eq!(made(2, |c| c.load(written)).unwrap().eq(&s), Ok(true));
     assert_eq!(out[37..], [0xEE; 3]);
-    assert_eq!(s.write(&mut out[..36]), Err(Refusal::OutputShort));
+    assert_eq!(s.write(Edition::Rows, &mut out[..36]), Err(Refusal::OutputShort));
 
     let mut map = [0xEE; 3];
     assert_eq!(s.write_map(0, 10, &mut map).unwrap(), [0x0C, 0x03]);
@@ -192,9 +192,9 @@ fn every_refusal_has_its_number() {
     assert_eq!(Set::new([0; 24]).err().map(Refusal::number), Some(1));
     assert_eq!(SetBuf::with_capacity(0).err().map(Refusal::number), Some(1));
     assert_eq!(SetBuf::with_capacity(usize::MAX).err().map(Refusal::number), Some(1));
-    assert_eq!(s.write(&mut []).err().map(Refusal::number), Some(2));
+    assert_eq!(s.write(Edition::Rows, &mut []).err().map(Refusal::number), Some(2));
     assert_eq!(s.load(&[1, 0, 0, 0]).err().map(Refusal::number), Some(3));
-    assert_eq!(s.load(&[2, 0, 0, 0, 0]).err().map(Refusal::number), Some(4));
+    assert_eq!(s.load(&[3, 0, 0, 0, 0]).err().map(Refusal::number), Some(4));
     assert_eq!(s.build(&[[4, 3]]).err().map(Refusal::number), Some(5));
     assert_eq!(s.fill(M, 2).err().map(Refusal::number), Some(6));
     s.words_mut()[7] = 1;

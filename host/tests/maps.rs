@@ -3,7 +3,7 @@
 
 use vizturel::differential::random::Random;
 use vizturel::differential::reference::{Draft, Run, Shape, craft, encode, logical};
-use vizturel::{Answer, Limits, PoolBuf, Refusal, Set, SetBuf, World, clear_map};
+use vizturel::{Answer, Edition, Limits, PoolBuf, Refusal, Set, SetBuf, World, clear_map};
 
 const M: u64 = u64::MAX;
 
@@ -322,9 +322,9 @@ fn both_forms_read_every_window() {
                         assert!(pool.words() == set.pool.words(), "{}: refused, and changed words", at());
                         continue;
                     }
-                    let due = encode(&after);
+                    let due = encode(Edition::Rows, &after);
                     let mut out = vec![STALE; due.len()];
-                    let written = pool.world(set.world).write(&mut out);
+                    let written = pool.world(set.world).write(Edition::Rows, &mut out);
                     assert!(written.is_ok_and(|bytes| bytes == &due[..]), "{}: other positions", at());
                     for other in (0..pool.words()[0]).filter(|other| *other != set.world) {
                         assert_eq!(pool.world(other).eq(&set.pool.world(other)), Ok(true), "{}: world {other}", at());

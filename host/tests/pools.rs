@@ -1,5 +1,6 @@
 //! Worlds in one pool, through the safe calls: limits, refusals 8, 11 and 12, and that a world leaves the others alone.
 
+use vizturel::differential::EDITIONS;
 use vizturel::{Answer, Limits, Operation, Pool, PoolBuf, Refusal, Tally, room, words};
 
 const M: u64 = u64::MAX;
@@ -98,9 +99,12 @@ fn a_world_leaves_the_others_alone() {
 
     // A written set goes into any world that has room for it.
     let mut out = [0; 64];
-    let written = pool.world(0).write(&mut out).unwrap();
-    pool.world_mut(1).load(written).unwrap();
-    assert_eq!(pool.world(0).eq(&pool.world(1)), Ok(true));
+    for edition in EDITIONS {
+        let written = pool.world(0).write(edition, &mut out).unwrap();
+        pool.world_mut(1).load(written).unwrap();
+        assert_eq!(pool.world(0).eq(&pool.world(1)), Ok(true));
+        pool.world_mut(1).build(&[]).unwrap();
+    }
 }
 
 #[test]

@@ -1,5 +1,6 @@
-/* The library through include/vizturel.h: the sixteen cases of the scope document, the lowest gap, spare bits of maps, maps by words and by
- * single bytes, each refusal, that a refused call changes nothing, calls by lists, and worlds that share a pool. Compiled as C and as C++.
+/* The library through include/vizturel.h: the sixteen cases of the scope document, the editions of written sets, the lowest gap, spare bits of maps,
+ * maps by words and by single bytes, each refusal, that a refused call changes nothing, calls by lists, and worlds that share a pool. Compiled as
+ * C and as C++.
  * Prints what failed, and last 'N passed, M failed'. */
 #include <stdio.h>
 #include <stdlib.h>
@@ -194,7 +195,7 @@ static void cases(void) {
 
     only(s, WORDS, 2, 3);
     put(s, WORDS, 8, 10, 1);
-    w = vizturel_write(s, WORDS, here, out, sizeof out);
+    w = vizturel_write(s, WORDS, here, VIZTUREL_ROWS, out, sizeof out);
     CHECK(w.refusal == 0 && w.bytes == sizeof fifteen && memcmp(out, fifteen, sizeof fifteen) == 0);
     CHECK(vizturel_load(b, WORDS, here, fifteen, sizeof fifteen) == 0 && vizturel_eq(s, WORDS, here, b, WORDS, here).value == 1);
     CHECK(vizturel_build(a, WORDS, here, eight, 4) == 0 && vizturel_eq(s, WORDS, here, a, WORDS, here).value == 1);
@@ -214,6 +215,86 @@ static void cases(void) {
     memcpy(kept, s, sizeof s);
     CHECK(vizturel_load(s, WORDS, here, bytes, sizeof bytes) == VIZTUREL_RUN_ORDER);
     CHECK(memcmp(kept, s, sizeof s) == 0);
+}
+
+/* Written sets by rows and by columns: of every number of runs that there is room for, against bytes put one by one; loaded, converted, and
+ * converted back; the bytes after a set; numbers that name no edition; and the converter's refusals, in their order. */
+static void editions(void) {
+    static const uint64_t numbers[] = {0, 3, 258, UINT64_C(1) << 32, M};
+    static const uint8_t no_edition[] = {0, 3, 255};
+    /* 2 3 and 4 5, which touch, by rows and by columns */
+    static const uint8_t touching[][37] = {
+        {1, 0, 0, 0, 2, 0, 0, 0, 0, 0, 0, 0, 2, 0, 0, 0, 0, 0, 0, 0, 3, 0, 0, 0, 0, 0, 0, 0, 4, 0, 0, 0, 0, 0, 0, 0, 5},
+        {2, 0, 0, 0, 2, 0, 0, 0, 0, 0, 0, 0, 0, 0, 0, 0, 0, 0, 0, 2, 4, 0, 0, 0, 0, 0, 0, 0, 0, 0, 0, 0, 0, 0, 0, 3, 5}};
+    uint8_t rows[sizeof out], columns[sizeof out], turned[sizeof out], stale[sizeof out];
+    uint64_t runs[2 * CAPACITY];
+    /* where the others of the pool leave room */
+    size_t most = here == 0 ? CAPACITY : CAPACITY - 2, n, i, j, length;
+    vizturel_written w;
+    memset(stale, 0xEE, sizeof stale);
+    for (n = 0; n <= most; n++) {
+        int right = 1;
+        length = VIZTUREL_SET_BYTES(n);
+        for (i = 0; i < 2 * n; i++) runs[i] = UINT64_C(0x0123456789ABCDEF) * (i + 1) / 2;
+        memcpy(rows, stale, sizeof rows);
+        memcpy(columns, stale, sizeof columns);
+        memset(rows, 0, 5);
+        memset(columns, 0, 5);
+        rows[0] = 1;
+        columns[0] = 2;
+        rows[4] = columns[4] = (uint8_t)n;
+        for (i = 0; i < n; i++) {
+            for (j = 0; j < 16; j++) rows[5 + 16 * i + j] = columns[5 + n * j + i] = (uint8_t)(runs[2 * i + j / 8] >> (56 - 8 * (j % 8)));
+        }
+        fresh(s, WORDS);
+        right &= vizturel_build(s, WORDS, here, runs, 2 * n) == 0;
+        memcpy(turned, stale, sizeof turned);
+        w = vizturel_write(s, WORDS, here, VIZTUREL_COLUMNS, turned, length - 1);
+        right &= w.refusal == VIZTUREL_OUTPUT_SHORT && w.bytes == 0 && memcmp(turned, stale, sizeof turned) == 0;
+        w = vizturel_write(s, WORDS, here, VIZTUREL_COLUMNS, turned, sizeof turned);
+        right &= w.refusal == 0 && w.bytes == length && memcmp(turned, columns, sizeof turned) == 0;
+        memcpy(turned, stale, sizeof turned);
+        w = vizturel_write(s, WORDS, here, VIZTUREL_ROWS, turned, sizeof turned);
+        right &= w.refusal == 0 && w.bytes == length && memcmp(turned, rows, sizeof turned) == 0;
+        fresh(b, WORDS);
+        right &= vizturel_load(b, WORDS, here, columns, length) == 0 && vizturel_eq(s, WORDS, here, b, WORDS, here).value == 1;
+        fresh(b, WORDS);
+        right &= vizturel_load(b, WORDS, here, rows, length) == 0 && vizturel_eq(s, WORDS, here, b, WORDS, here).value == 1;
+        /* each into the other; one byte less is refused with 2 and stays */
+        memcpy(turned, stale, sizeof turned);
+        w = vizturel_convert(rows, length, turned, length - 1);
+        right &= w.refusal == VIZTUREL_OUTPUT_SHORT && w.bytes == 0 && memcmp(turned, stale, sizeof turned) == 0;
+        w = vizturel_convert(rows, length, turned, sizeof turned);
+        right &= w.refusal == 0 && w.bytes == length && memcmp(turned, columns, sizeof turned) == 0;
+        memcpy(turned, stale, sizeof turned);
+        w = vizturel_convert(columns, length, turned, length);
+        right &= w.refusal == 0 && w.bytes == length && memcmp(turned, rows, sizeof turned) == 0;
+        check(right, "a written set in both editions", __LINE__);
+    }
+    /* the last set again: this version writes rows where a number names no edition */
+    length = VIZTUREL_SET_BYTES(most);
+    for (i = 0; i < sizeof numbers / sizeof *numbers; i++) {
+        memcpy(turned, stale, sizeof turned);
+        w = vizturel_write(s, WORDS, here, numbers[i], turned, sizeof turned);
+        CHECK(w.refusal == 0 && w.bytes == length && memcmp(turned, rows, sizeof turned) == 0);
+    }
+    /* 3 under 5 bytes, 4, 3, 5 of touching runs, whether there is room or not */
+    memcpy(turned, stale, sizeof turned);
+    for (i = 0; i < 4; i++) {
+        size_t room = i / 2 * sizeof turned;
+        memcpy(rows, touching[i % 2], sizeof touching[0]);
+        CHECK(vizturel_convert(rows, sizeof touching[0], turned, room).refusal == VIZTUREL_RUN_ORDER);
+        CHECK(vizturel_convert(rows, sizeof touching[0] - 1, turned, room).refusal == VIZTUREL_SET_LENGTH);
+        CHECK(vizturel_convert(rows, 4, turned, room).refusal == VIZTUREL_SET_LENGTH);
+        CHECK(vizturel_convert(NULL, 0, turned, room).refusal == VIZTUREL_SET_LENGTH);
+        for (j = 0; j < sizeof no_edition; j++) {
+            rows[0] = no_edition[j];
+            CHECK(vizturel_convert(rows, 4, turned, room).refusal == VIZTUREL_SET_LENGTH);
+            CHECK(vizturel_convert(rows, 5, turned, room).refusal == VIZTUREL_SET_VERSION);
+            CHECK(vizturel_convert(rows, sizeof touching[0], turned, room).refusal == VIZTUREL_SET_VERSION);
+        }
+    }
+    CHECK(memcmp(turned, stale, sizeof turned) == 0);
 }
 
 static void gaps(void) {
@@ -421,7 +502,7 @@ static void both_forms(void) {
 }
 
 static void refusals(void) {
-    static const uint8_t version_two[] = {2, 0, 0, 0, 0};
+    static const uint8_t version_three[] = {3, 0, 0, 0, 0};
     uint8_t nothing[8] = {9, 9, 9, 9, 9, 9, 9, 9}, same[8] = {9, 9, 9, 9, 9, 9, 9, 9};
 
     only(s, WORDS, 2, 7);
@@ -429,10 +510,11 @@ static void refusals(void) {
     CHECK(vizturel_new_one(s, WORDS - 1) == VIZTUREL_STORE_LENGTH);
     CHECK(vizturel_get(s, 24, here, 0).refusal == VIZTUREL_STORE_LENGTH);
     CHECK(vizturel_combine(s, WORDS, here, 0, a, 0, here, kept, WORDS, here) == VIZTUREL_STORE_LENGTH);
-    CHECK(vizturel_write(s, WORDS, here, nothing, sizeof nothing).refusal == VIZTUREL_OUTPUT_SHORT);
+    CHECK(vizturel_write(s, WORDS, here, VIZTUREL_ROWS, nothing, sizeof nothing).refusal == VIZTUREL_OUTPUT_SHORT);
+    CHECK(vizturel_write(s, WORDS, here, VIZTUREL_COLUMNS, nothing, sizeof nothing).refusal == VIZTUREL_OUTPUT_SHORT);
     CHECK(vizturel_write_map(s, WORDS, here, 0, 65, nothing, sizeof nothing).refusal == VIZTUREL_OUTPUT_SHORT);
-    CHECK(vizturel_load(s, WORDS, here, version_two, 4) == VIZTUREL_SET_LENGTH);
-    CHECK(vizturel_load(s, WORDS, here, version_two, 5) == VIZTUREL_SET_VERSION);
+    CHECK(vizturel_load(s, WORDS, here, version_three, 4) == VIZTUREL_SET_LENGTH);
+    CHECK(vizturel_load(s, WORDS, here, version_three, 5) == VIZTUREL_SET_VERSION);
     CHECK(vizturel_fill(s, WORDS, here, 0, 0).refusal == VIZTUREL_WINDOW);
     CHECK(vizturel_fill(s, WORDS, here, M, 2).refusal == VIZTUREL_WINDOW);
     CHECK(vizturel_read_map(s, WORDS, here, 0, 10, nothing, 3).refusal == VIZTUREL_WINDOW);
@@ -443,7 +525,8 @@ static void refusals(void) {
     CHECK(vizturel_get(s, WORDS, here, 0).refusal == VIZTUREL_UNSOUND);
     CHECK(vizturel_set(s, WORDS, here, ALL, ALL, 1).refusal == VIZTUREL_UNSOUND);
     CHECK(vizturel_draw_front(s, WORDS, here, 1, 0, 1).refusal == VIZTUREL_UNSOUND);
-    CHECK(vizturel_write(s, WORDS, here, nothing, sizeof nothing).refusal == VIZTUREL_UNSOUND);
+    CHECK(vizturel_write(s, WORDS, here, VIZTUREL_ROWS, nothing, sizeof nothing).refusal == VIZTUREL_UNSOUND);
+    CHECK(vizturel_write(s, WORDS, here, VIZTUREL_COLUMNS, nothing, sizeof nothing).refusal == VIZTUREL_UNSOUND);
     CHECK(memcmp(kept, s, sizeof s) == 0);
 }
 
@@ -720,7 +803,7 @@ static void apart(void) {
     memcpy(a, s, sizeof s);
     CHECK(vizturel_shifted(s, WORDS, 1, 0, 0, a, WORDS, 0) == VIZTUREL_DONE && vizturel_eq(s, WORDS, 0, s, WORDS, 1).value == 1);
     CHECK(vizturel_flip(s, WORDS, 1, IN(4), EX(10)) == VIZTUREL_DONE);
-    w = vizturel_write(s, WORDS, 0, written, sizeof written);
+    w = vizturel_write(s, WORDS, 0, VIZTUREL_COLUMNS, written, sizeof written);
     CHECK(w.refusal == VIZTUREL_DONE && w.bytes == sizeof written);
     here = 1;
     CHECK(holds(s, WORDS, 3, joined));
@@ -747,7 +830,8 @@ static void unopened(void) {
         CHECK(vizturel_read_map(s, WORDS, no, 0, 7, nothing, 0).refusal == VIZTUREL_WORLD_UNOPENED);
         CHECK(vizturel_load(s, WORDS, no, nothing, 1) == VIZTUREL_WORLD_UNOPENED);
         CHECK(vizturel_build(s, WORDS, no, bad, 2) == VIZTUREL_WORLD_UNOPENED);
-        CHECK(vizturel_write(s, WORDS, no, nothing, 1).refusal == VIZTUREL_WORLD_UNOPENED);
+        CHECK(vizturel_write(s, WORDS, no, VIZTUREL_ROWS, nothing, 1).refusal == VIZTUREL_WORLD_UNOPENED);
+        CHECK(vizturel_write(s, WORDS, no, VIZTUREL_COLUMNS, nothing, 1).refusal == VIZTUREL_WORLD_UNOPENED);
         CHECK(vizturel_eq(s, WORDS, 0, b, WORDS, no).refusal == VIZTUREL_WORLD_UNOPENED);
         CHECK(vizturel_not(s, WORDS, 0, b, WORDS, no) == VIZTUREL_WORLD_UNOPENED);
         CHECK(vizturel_combine(s, WORDS, 0, 0, b, WORDS, 0, b, WORDS, no) == VIZTUREL_WORLD_UNOPENED);
@@ -797,6 +881,7 @@ static void lists_of_worlds(void) {
 int main(void) {
     for (here = 0; here < 2; here++) {
         cases();
+        editions();
         gaps();
         spare_bits();
         both_forms();

@@ -143,7 +143,8 @@ static void reading_calls(pool s, uint64_t at, uint64_t told) {
     CHECK(vizturel_fill(w, n, at, x / 2, 1 + chance(200)).refusal == told);
     CHECK(vizturel_eq(w, n, at, partner.words, partner.count, 0).refusal == told);
     CHECK(vizturel_eq(partner.words, partner.count, 0, w, n, at).refusal == told);
-    CHECK(vizturel_write(w, n, at, out.at, VIZTUREL_SET_BYTES(MOST)).refusal == told);
+    CHECK(vizturel_write(w, n, at, VIZTUREL_ROWS, out.at, VIZTUREL_SET_BYTES(MOST)).refusal == told);
+    CHECK(vizturel_write(w, n, at, VIZTUREL_COLUMNS, out.at, VIZTUREL_SET_BYTES(MOST)).refusal == told);
     CHECK(vizturel_write_map(w, n, at, x / 2, MAP_LENGTH, map.at, MAP_BYTES).refusal == told);
     CHECK(vizturel_write_map_by_bytes(w, n, at, x / 2, MAP_LENGTH, map.at, MAP_BYTES).refusal == told);
     /* into another pool; there it may also not fit */
@@ -377,7 +378,20 @@ static void wrong_lengths(void) {
     }
 }
 
-/* Written sets of every length up to some, with right and wrong counts of runs; outputs of every length; run lists and maps too. */
+/* As many runs as so many bytes can tell, as a written set, by columns where that is its version; the version and the number of runs may be others. */
+static void fill_set(slice s, size_t length, uint8_t version, const uint8_t *count) {
+    size_t i, runs = length < 21 ? 1 : (length - 5) / 16;
+    memset(s.at, 0, length);
+    for (i = 5; i < length; i++) {
+        size_t run = version == 2 ? (i - 5) % runs : (i - 5) / 16, byte = version == 2 ? (i - 5) / runs : (i - 5) % 16;
+        if (byte % 8 == 7) s.at[i] = (uint8_t)(3 * (2 * run + byte / 8));
+    }
+    if (length > 0) s.at[0] = version;
+    for (i = 1; i < 5 && i < length; i++) s.at[i] = count[i - 1];
+}
+
+/* Written sets of every length up to some, of every version up to 3, with right and wrong counts of runs, loaded and converted; outputs of every
+ * length; run lists and maps too. */
 static void damaged_bytes(void) {
     static const uint8_t counts[][4] = {{0, 0, 0, 0}, {0, 0, 0, 1}, {0, 0, 0, 3}, {0, 0, 0, 4}, {255, 255, 255, 255}, {16, 0, 0, 0}, {16, 0, 0, 1}, {128, 0, 0, 0}};
     pool s = lend_pool(VIZTUREL_WORDS(3));
@@ -386,20 +400,36 @@ static void damaged_bytes(void) {
     for (length = 0; length <= 5 + 16 * 5; length++) {
         slice bytes = lend(length);
         for (c = 0; c < sizeof counts / 4; c++) {
-            int version;
-            for (version = 0; version < 3; version++) {
-                for (i = 0; i < length; i++) bytes.at[i] = (uint8_t)(i < 5 ? 0 : (i - 5) / 8 * 3 * ((i - 5) % 8 == 7));
-                if (length > 0) bytes.at[0] = (uint8_t)version;
-                for (i = 1; i < 5 && i < length; i++) bytes.at[i] = counts[c][i - 1];
+            uint8_t version;
+            for (version = 0; version < 4; version++) {
+                slice turned = lend(length), shorter = lend(length > 0 ? length - 1 : 0);
+                vizturel_written w;
+                int known = version == 1 || version == 2;
+                fill_set(bytes, length, version, counts[c]);
                 writable(bytes, 0);
                 uint64_t r = vizturel_load(s.words, s.count, 0, bytes.at, length);
-                CHECK(length < 5 ? r == VIZTUREL_SET_LENGTH : version != 1 ? r == VIZTUREL_SET_VERSION : r == 0 || r == VIZTUREL_SET_LENGTH || r == VIZTUREL_CAPACITY);
+                CHECK(length < 5 ? r == VIZTUREL_SET_LENGTH : !known ? r == VIZTUREL_SET_VERSION : r == 0 || r == VIZTUREL_SET_LENGTH || r == VIZTUREL_CAPACITY);
+                /* the converter refuses as a reader does, but that it asks for no capacity; what it writes is converted back */
+                w = vizturel_convert(bytes.at, length, turned.at, length);
+                CHECK(r == 0 || r == VIZTUREL_CAPACITY ? w.refusal == 0 && w.bytes == length : w.refusal == r && w.bytes == 0);
+                if (w.refusal == 0) {
+                    slice back = lend(length);
+                    writable(turned, 0);
+                    CHECK(vizturel_convert(turned.at, length, back.at, length).refusal == 0 && memcmp(back.at, bytes.at, length) == 0);
+                    give_back(back);
+                }
+                w = vizturel_convert(bytes.at, length, shorter.at, length > 0 ? length - 1 : 0);
+                CHECK(r == 0 || r == VIZTUREL_CAPACITY ? w.refusal == VIZTUREL_OUTPUT_SHORT : w.refusal == r);
                 writable(bytes, 1);
+                give_back(turned);
+                give_back(shorter);
             }
         }
         /* a slice to write to, a map to read and a run list, of that length */
         fill_pool(s, 3, 2);
-        vizturel_written w = vizturel_write(s.words, s.count, 0, bytes.at, length);
+        vizturel_written w = vizturel_write(s.words, s.count, 0, VIZTUREL_ROWS, bytes.at, length);
+        CHECK(length < VIZTUREL_SET_BYTES(3) ? w.refusal == VIZTUREL_OUTPUT_SHORT : w.refusal == 0);
+        w = vizturel_write(s.words, s.count, 0, VIZTUREL_COLUMNS, bytes.at, length);
         CHECK(length < VIZTUREL_SET_BYTES(3) ? w.refusal == VIZTUREL_OUTPUT_SHORT : w.refusal == 0);
         w = vizturel_write_map(s.words, s.count, 0, 3, 8 * 20, bytes.at, length);
         CHECK(length < 20 ? w.refusal == VIZTUREL_OUTPUT_SHORT : w.refusal == 0);

@@ -1,4 +1,5 @@
-// Document 01's sixteen cases through the public calls: a line for each, with what the calls answer, in the document's order.
+// Document 01's sixteen cases through the public calls: a line for each, with what the calls answer, in the document's order, and a line more
+// for the set of case 15 in edition 2.
 // A run is its start and end with two dots between, both in it. The pools have capacity 13, or 1 where the case says so, and one world, 0,
 // with floor 0 and the capacity as its ceiling.
 ghost use Prim.Native.Nat.{_<_};
@@ -15,6 +16,7 @@ use model::Completed;
 use model::Count;
 use model::Counted;
 use model::Drawn;
+use model::Edition;
 use model::Found;
 use model::Listed;
 use model::Listing;
@@ -324,11 +326,24 @@ fn case_15(s: &mut [u64], out: &mut [u8; 37]) {
     line(15);
     only(s, 2, 3);
     set(s, 8, 10, true);
-    let w = write::write_set(s, 0, out);
+    let w = write::write_set(s, 0, Edition::Rows, out);
     written(w, out);
     let m = write::write_map(s, 0, 0, 10, out);
     written(m, out);
     numbered(report::fill(s, 0, 0, 3));
+    end_line();
+}
+
+// The set of case 15 in edition 2, and in edition 1 after a load of that (document 02, Ticket 8).
+fn case_15_columns(s: &mut [u64], out: &mut [u8; 37]) {
+    io::write_all(1, b"15, edition 2:");
+    only(s, 2, 3);
+    set(s, 8, 10, true);
+    let c = write::write_set(s, 0, Edition::Columns, out);
+    written(c, out);
+    completed(bytes::load(s, 0, out));
+    let w = write::write_set(s, 0, Edition::Rows, out);
+    written(w, out);
     end_line();
 }
 
@@ -337,7 +352,7 @@ fn case_16(s: &mut [u64], out: &mut [u8; 37]) {
     line(16);
     only(s, 2, 3);
     set(s, 8, 10, true);
-    write::write_set(s, 0, out);
+    write::write_set(s, 0, Edition::Rows, out);
     out[28] = 4;
     out[36] = 5;
     completed(bytes::load(s, 0, out));
@@ -368,5 +383,6 @@ fn main() {
     case_13(&mut one);
     case_14(&mut s, &mut one, &mut a);
     case_15(&mut s, &mut out);
+    case_15_columns(&mut s, &mut out);
     case_16(&mut s, &mut out);
 }

@@ -5,7 +5,8 @@ use mathlib.Core.Bool.{true, false, _||_}
 use mathlib.Core.List.{List}
 use Rattle.model.specs.Refusals.{badWindow, badMap}
 use Rattle.model.specs.Call.{number, refused, gave}
-use Rattle.model.specs.Clearing.{Handled, clearMap}
+use Rattle.model.specs.Handled.{Handled}
+use Rattle.model.specs.Clearing.{clearMap}
 use Rattle.model.proofs.Clearing.{clear-refused, clear-done}
 use Rattle.maps.specs.Spare.{Clears}
 use Rattle.core.specs.Handles.{Handles}

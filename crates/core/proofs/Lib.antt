@@ -10,6 +10,7 @@ pub mod Changing
 pub mod Draws
 pub mod Overwriting
 pub mod Receiving
+pub mod Converting
 pub mod Emptying
 pub mod Joins
 pub mod Comparing

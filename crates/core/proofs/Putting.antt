@@ -10,6 +10,7 @@ use lib.ListN.{length}
 use borrow.Author.Tests.{lt-ltb, le-ltb}
 use Rattle.model.specs.declared.Refusal.the-variants.{OutputShort, Window}
 use Rattle.model.specs.declared.Written.{Written}
+use Rattle.model.specs.declared.Edition.{Edition}
 use Rattle.model.specs.Positions.{Positions, heldRuns, stretches}
 use Rattle.model.specs.Bytes.{encode, mapOf, intoFront}
 use Rattle.model.proofs.Codec.{encode-length}
@@ -35,9 +36,9 @@ module _ {w : List ℕ} {i : ℕ} {h : World} (op : Opened w i h) where
       omega (arith, l .fits, l .enough, k .part, k .few)
 
   -- which tell how many bytes the world's set has
-  pub set-length : 5 + 16 * stretches (heldIn (lent w) h) ≡ length (encode (heldRuns (heldBy w i)))
+  pub set-length : (e : Edition) → 5 + 16 * stretches (heldIn (lent w) h) ≡ length (encode e (heldRuns (heldBy w i)))
   unfolding stretches
-  set-length = ap (λ P. 5 + 16 * stretches P) (lent-held op) ∙ sym (encode-length (heldRuns (heldBy w i)))
+  set-length e = ap (λ P. 5 + 16 * stretches P) (lent-held op) ∙ sym (encode-length e (heldRuns (heldBy w i)))
 
 -- ---- calls that write
 -- the call c on world i of the words w has the conditions cs, and puts the bytes B of the positions held into a slice
@@ -69,10 +70,10 @@ module _ {w : List ℕ} {i : ℕ} {c : List ℕ → Call Site} {cs : List Condit
   }
 
 module _ (w : List ℕ) (i : ℕ) (out : List ℕ) where
-  -- writing the set does so
-  pub write-set-puts : Puts w i Call.writeSet [] (λ P. encode (heldRuns P)) out
+  -- writing the set does so, in either edition
+  pub write-set-puts : (e : Edition) → Puts w i (Call.writeSet e) [] (λ P. encode e (heldRuns P)) out
   unfolding outcomeOf serve write
-  write-set-puts = record { says = record { said = refl } }
+  write-set-puts e = record { says = record { said = refl } }
 
   module _ (base n : ℕ) where
     -- so does writing a map, of a window

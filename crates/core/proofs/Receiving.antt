@@ -12,10 +12,11 @@ use mir.Syntax.{w8, w64}
 use mir.Val.{Fits}
 use Rattle.model.specs.declared.Refusal.{Refusal}
 use Rattle.model.specs.declared.Run.{Run}
+use Rattle.model.specs.declared.Edition.{Edition}
 use Rattle.model.specs.Numbers.{refusalNumber}
 use Rattle.model.specs.Positions.{Positions, stretches, mem}
 use Rattle.model.proofs.Runs.{stretches-is}
-use Rattle.model.specs.Bytes.{decodeRuns}
+use Rattle.model.specs.Bytes.{runsTold}
 use Rattle.model.specs.Refusals.{runOrder, beforeCapacity, fromCapacity, _when_, firstGiven, refusal, orderedFrom, disordered, setConditions}
 use Rattle.run_index.specs.Cells.{cellAt}
 use Rattle.run_index.specs.Tree.{Tree, leaf, node, runs}
@@ -66,7 +67,7 @@ pub told-refused : (bs : List ℕ) {r : Refusal} (t : Parsed) → TellsRuns bs t
 told-refused bs t k e = sym (first-alone beforeCapacity fromCapacity (setConditions bs) refl) ∙ subst (λ s. TellsRuns bs s) e k
 
 -- the set of accepted ones has as many runs as they tell
-pub told-many : (bs : List ℕ) {n : ℕ} → ((i : ℕ) → Fits w8 (getD bs i 0)) → Acceptable bs n → Many n (decodeRuns n (drop 5 bs))
+pub told-many : (bs : List ℕ) {e : Edition} {n : ℕ} → ((i : ℕ) → Fits w8 (getD bs i 0)) → Acceptable bs e n → Many n (runsTold e n (drop 5 bs))
 told-many bs f a = record { are = accepted-stretches bs a (all-bytes bs f) ∙ ap (λ rs. stretches (mem rs)) (sym (accepted-runs bs a)) }
 
 -- ---- n runs are given to an open world, which is no more than the limit that was told

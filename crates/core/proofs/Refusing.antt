@@ -27,6 +27,7 @@ use Rattle.model.specs.Refusals.{
   firstGiven,
   numberOf,
   refusal,
+  setConditions,
 }
 use Rattle.model.specs.Refusals
 use Rattle.model.specs.Call.{Fed, wrongLength, unsound, unopened, holding}
@@ -76,6 +77,16 @@ module _ (cs : List Condition) where
   -- it counts where they do not
   pub refused-full : refusal cs ≡ none → refusal (Refusals.capacity when true ∷ cs) ≡ some 8
   refused-full e = first-none beforeCapacity fromCapacity (Refusals.capacity when true ∷ cs) (all-none beforeCapacity fromCapacity cs e)
+
+-- ---- of calls that have to have room in a slice, with other conditions beside
+-- what comes before too many runs comes before that
+pub refused-earlier : (cs : List Condition) (t : Bool) {n : ℕ} → firstGiven beforeCapacity cs ≡ some n → refusal (Refusals.outputShort when t ∷ cs) ≡ some n
+refused-earlier cs t {n} e = first-some beforeCapacity fromCapacity (Refusals.outputShort when t ∷ cs) n e
+
+-- beside the conditions of a written set it counts where they do not
+pub refused-short : (bs : List ℕ) → refusal (setConditions bs) ≡ none → refusal (Refusals.outputShort when true ∷ setConditions bs) ≡ some 2
+refused-short bs e =
+    first-none beforeCapacity fromCapacity (Refusals.outputShort when true ∷ setConditions bs) (all-none beforeCapacity fromCapacity (setConditions bs) e)
 
 -- ---- of worlds that are looked at, with other conditions beside
 -- the causes that come after those

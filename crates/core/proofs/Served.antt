@@ -63,7 +63,7 @@ module _ (full : ℕ → Bool) (s : Fed) where
   served (Call.equal t) = reports _ _
   served (Call.load bs) = alters _ _ _
   served (Call.build rs) = alters _ _ _
-  served (Call.writeSet out) = reports _ _
+  served (Call.writeSet e out) = reports _ _
   served (Call.readMap base n bs) = alters _ _ _
   served (Call.writeMap base n out) = reports _ _
   served (Call.fill base n) = reports _ _

@@ -20,12 +20,12 @@ pub fn load(words: &mut [u64], world: u64, bytes: &[u8]) -> Completed
     let t = written::set::runs_told(bytes);
     match t {
         Parsed::Refused(r) => Completed::Refused(r),
-        Parsed::Runs(n) => {
+        Parsed::Runs(e, n) => {
             if n > store::allowance(words, world) {
                 return Completed::Refused(Refusal::Capacity);
             }
             let h = store::open(words, world);
-            let k = written::set::load(&mut words[128..], h, bytes, n);
+            let k = written::set::load(&mut words[128..], h, bytes, e, n);
             store::close(words, k);
             Completed::Done
         }

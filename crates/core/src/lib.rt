@@ -3,6 +3,7 @@
 // so a refusal finds every word as it was. No public call is here: each of these asks something of its caller.
 pub mod bytes;
 pub mod change;
+pub mod convert;
 pub mod join;
 pub mod listing;
 pub mod make;

@@ -2,13 +2,14 @@
 ghost use Rattle.model.specs.Call.{Call};
 ghost use Rattle.core.specs.Met.{Readable};
 ghost use Rattle.core.specs.Out.{WritesOut};
+use model::Edition;
 use model::Refusal;
 use model::Written;
 
 // Writes a world's set, and returns how many bytes it has.
-pub fn write_set(words: &[u64], world: u64, out: &mut [u8]) -> Written
+pub fn write_set(words: &[u64], world: u64, edition: Edition, out: &mut [u8]) -> Written
     requires { ⌜ Readable (now words) world ⌝ }
-    ensures { λ r. ⌜ WritesOut Call.writeSet (now (words .entry)) world (now (out .entry)) r (now (out .exit)) ⌝ }
+    ensures { λ r. ⌜ WritesOut (Call.writeSet edition) (now (words .entry)) world (now (out .entry)) r (now (out .exit)) ⌝ }
 {
     let h = store::open(words, world);
     let n = written::set::run_count(&words[128..], h);
@@ -16,7 +17,7 @@ pub fn write_set(words: &[u64], world: u64, out: &mut [u8]) -> Written
     if out.len() < due {
         return Written::Refused(Refusal::OutputShort);
     }
-    written::write::write_set(&words[128..], h, out);
+    written::write::write_set(&words[128..], h, edition, out);
     Written::Bytes(due)
 }
 

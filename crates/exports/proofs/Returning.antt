@@ -8,7 +8,7 @@ use Rattle.model.specs.declared.Limits.{Limits}
 use Rattle.model.specs.declared.Written.{Written}
 use Rattle.model.specs.Answers.{writtenAnswer}
 use Rattle.model.specs.Call.{Call, Answer}
-use Rattle.model.specs.Clearing.{Handled}
+use Rattle.model.specs.Handled.{Handled}
 use Rattle.core.specs.Met.{Site, Met, Made}
 use Rattle.core.specs.Handles.{Handles}
 use Rattle.core.specs.Out.{Unwritten, WritesOut}
@@ -37,10 +37,10 @@ slice-is : (out out′ : List ℕ) (a : Written) → Unwritten a out out′ → 
 slice-is out out′ (Written.Refused r) u = u
 slice-is out out′ (Written.Bytes n) u = refl
 
-pub wrote : {c : List ℕ → Call Site} {w : List ℕ} {i : ℕ} {out out′ : List ℕ} (a : Written) {q : Reply} {r : CWritten} → WritesOut c w i out a out′
-    → ((o : List ℕ) → q ≡ replyOf (writtenAnswer a o)) → r ≡ writtenOf q → Writes w i c out r out′
+pub wrote : {c c′ : List ℕ → Call Site} {w : List ℕ} {i : ℕ} {out out′ : List ℕ} (a : Written) {q : Reply} {r : CWritten} → c ≡ c′ → WritesOut c w i out a out′
+    → ((o : List ℕ) → q ≡ replyOf (writtenAnswer a o)) → r ≡ writtenOf q → Writes w i c′ out r out′
 unfolding returned
-wrote {out = out} {out′} a k p s = record { returns = returned refl (k .met) (p out′) s; slice = slice-is out out′ a (k .unwritten) }
+wrote {out = out} {out′} a e k p s = record { returns = returned (ap (λ f. f out) e) (k .met) (p out′) s; slice = slice-is out out′ a (k .unwritten) }
 
 -- a call on a slice alone
 pub handed : {R : Type 0} {h : Handled} {f : Reply → R} {r : R} {a : Answer} {q : Reply} {bs : List ℕ} → Handles h a bs → q ≡ replyOf a → r ≡ f q → Handed h f r bs

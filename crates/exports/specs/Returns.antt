@@ -5,7 +5,7 @@ use mathlib.Core.Path.{_≡_}
 use mathlib.Core.List.{List}
 use Rattle.model.specs.declared.Limits.{Limits}
 use Rattle.model.specs.Call.{Call, Answer, refused, gave}
-use Rattle.model.specs.Clearing.{Handled}
+use Rattle.model.specs.Handled.{Handled}
 use Rattle.core.specs.Met.{Site, Met, Made}
 use Rattle.interval_bit_set.specs.Out.{onWritten}
 use Rattle.flat.specs.declared.Reply.{Reply}

@@ -55,6 +55,6 @@ listedOf r = record { refusal = r .refusal; first = r .first; last = r .last; va
 abbrev pub drawnOf : Reply → CDrawn
 drawnOf r = record { refusal = r .refusal; found = r .found; start = r .number; «end» = r .«end»; first = r .first; last = r .last }
 
--- write, write_map
+-- write, write_map, convert
 abbrev pub writtenOf : Reply → CWritten
 writtenOf r = record { refusal = r .refusal; bytes = r .number }

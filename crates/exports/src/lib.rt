@@ -5,11 +5,13 @@ ghost use lib.ListN.{length};
 ghost use Rattle.written.specs.Listed.{pairs};
 ghost use Rattle.model.specs.Call.{Call};
 ghost use Rattle.model.specs.Pools.{limitsOf};
+ghost use Rattle.model.specs.Bytes.{editionBy};
 ghost use Rattle.model.specs.Clearing.{clearMap};
+ghost use Rattle.model.specs.Converting.{convert};
 ghost use Rattle.core.specs.Met.{site};
 ghost use Rattle.interval_bit_set.specs.Lent.{listingOf};
 ghost use Rattle.flat.specs.Flat.{operationOf, truth};
-ghost use Rattle.exports.specs.Structs.{boundOf, refusalOf, countOf, numberOf, talliedOf, valueOf, runOf, positionOf, listedOf, drawnOf};
+ghost use Rattle.exports.specs.Structs.{boundOf, refusalOf, countOf, numberOf, talliedOf, valueOf, runOf, positionOf, listedOf, drawnOf, writtenOf};
 ghost use Rattle.exports.specs.Returns.{Makes, Returns, Writes, Handed, Frames};
 use crate::structs::CAround;
 use crate::structs::CBound;
@@ -364,12 +366,31 @@ pub extern "C" fn vizturel_clear_map(base: u64, n: u64, map: &mut [u8]) -> CNumb
     structs::number(flat::numbered(interval_bit_set::bytes::clear_map(base, n, map)))
 }
 
-// Writes a world's set into the front of a slice, and tells how many bytes it has.
+// Turns a written set of either edition into the other, in the front of a slice, and tells how many bytes it has. It takes no pool.
 #[no_mangle]
-pub extern "C" fn vizturel_write(words: &[u64], world: u64, out: &mut [u8]) -> CWritten
-    ensures { λ r. ⌜ Writes (now (words .entry)) world Call.writeSet (now (out .entry)) r (now (out .exit)) ⌝ }
+pub extern "C" fn vizturel_convert(bytes: &[u8], out: &mut [u8]) -> CWritten
+    ensures { λ r. ⌜ Handed (convert (now (bytes .entry)) (now (out .entry))) writtenOf r (now (out .exit)) ⌝ }
 {
-    structs::bytes(flat::written(interval_bit_set::write::write_set(words, world, out)))
+    structs::bytes(flat::written(interval_bit_set::bytes::convert(bytes, out)))
+}
+
+// Writes a world's set into the front of a slice, and tells how many bytes it has. Edition 2 is written by columns; any other number stands for
+// edition 1.
+#[no_mangle]
+pub extern "C" fn vizturel_write(
+    words: &[u64],
+    world: u64,
+    edition: u64,
+    out: &mut [u8],
+) -> CWritten
+    ensures { λ r. ⌜ Writes (now (words .entry)) world (Call.writeSet (editionBy edition)) (now (out .entry)) r (now (out .exit)) ⌝ }
+{
+    structs::bytes(flat::written(interval_bit_set::write::write_set(
+        words,
+        world,
+        model::edition_by(edition),
+        out,
+    )))
 }
 
 // Writes the map of a window into the front of a slice, and tells how many bytes it has.

@@ -1,10 +1,11 @@
-// Reading written sets, run lists and maps into a world, and making a map fit to be read.
+// Reading written sets, run lists and maps into a world; making a map fit to be read, and turning a written set into the other edition.
 ghost use mathlib.Core.Path.{_≡_};
 ghost use Prim.Native.Nat.{_/_};
 ghost use lib.ListN.{length};
 ghost use Rattle.model.specs.Call.{Call};
-ghost use Rattle.model.specs.Answers.{completedAnswer, countedAnswer, numberedAnswer};
+ghost use Rattle.model.specs.Answers.{completedAnswer, countedAnswer, numberedAnswer, writtenAnswer};
 ghost use Rattle.model.specs.Clearing.{clearMap};
+ghost use Rattle.model.specs.Converting.{convert};
 ghost use Rattle.written.specs.Listed.{pairs};
 ghost use Rattle.core.specs.Met.{Met};
 ghost use Rattle.core.specs.Handles.{Handles};
@@ -12,6 +13,7 @@ use crate::look::Look;
 use model::Completed;
 use model::Counted;
 use model::Numbered;
+use model::Written;
 
 // Gives a world the set that bytes tell, whatever it held.
 pub fn load(words: &mut [u64], world: u64, bytes: &[u8]) -> Completed
@@ -73,4 +75,11 @@ pub fn clear_map(base: u64, n: u64, map: &mut [u8]) -> Numbered
     ensures { λ r. ⌜ Handles (clearMap base n (now (map .entry))) (numberedAnswer r) (now (map .exit)) ⌝ }
 {
     core::window::clear_map(base, n, map)
+}
+
+// Turns a written set of either edition into the other, and tells how many bytes it has. It takes no pool.
+pub fn convert(bytes: &[u8], out: &mut [u8]) -> Written
+    ensures { λ r. ⌜ Handles (convert (now (bytes .entry)) (now (out .entry))) (writtenAnswer r (now (out .exit))) (now (out .exit)) ⌝ }
+{
+    core::convert::convert(bytes, out)
 }

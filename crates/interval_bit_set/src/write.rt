@@ -8,16 +8,17 @@ ghost use Rattle.core.specs.Met.{outcomeOf};
 ghost use Rattle.core.specs.Out.{WritesOut};
 ghost use Rattle.interval_bit_set.specs.Out.{codeOf, frontOf, flatOf};
 use crate::look::Look;
+use model::Edition;
 use model::Written;
 
 // Writes a world's set, and tells how many bytes it has.
-pub fn write_set(words: &[u64], world: u64, out: &mut [u8]) -> Written
-    ensures { λ r. ⌜ WritesOut Call.writeSet (now (words .entry)) world (now (out .entry)) r (now (out .exit)) ⌝ }
+pub fn write_set(words: &[u64], world: u64, edition: Edition, out: &mut [u8]) -> Written
+    ensures { λ r. ⌜ WritesOut (Call.writeSet edition) (now (words .entry)) world (now (out .entry)) r (now (out .exit)) ⌝ }
 {
     let l = crate::look::look_at(words, world);
     match l {
         Look::Refused(r) => Written::Refused(r),
-        Look::Sound => core::write::write_set(words, world, out),
+        Look::Sound => core::write::write_set(words, world, edition, out),
     }
 }
 
@@ -82,12 +83,12 @@ pub struct Filled<'a> {
 }
 
 // Writes a world's set, and hands back the part of the slice that it fills.
-pub fn written_set<'a>(words: &[u64], world: u64, out: &'a mut [u8]) -> Filled<'a>
-    ensures { λ r. ⌜ (r .refusal ≡ codeOf (outcomeOf (now (words .entry)) world (Call.writeSet (now (out .entry))) .answer))
-        × (now (r .part) ≡ frontOf (outcomeOf (now (words .entry)) world (Call.writeSet (now (out .entry))) .answer))
+pub fn written_set<'a>(words: &[u64], world: u64, edition: Edition, out: &'a mut [u8]) -> Filled<'a>
+    ensures { λ r. ⌜ (r .refusal ≡ codeOf (outcomeOf (now (words .entry)) world (Call.writeSet edition (now (out .entry))) .answer))
+        × (now (r .part) ≡ frontOf (outcomeOf (now (words .entry)) world (Call.writeSet edition (now (out .entry))) .answer))
         × (r .part .ptr ≡ out .entry .ptr) ⌝ }
 {
-    let w = write_set(words, world, out);
+    let w = write_set(words, world, edition, out);
     let f = flattened(w);
     let n = f.bytes;
     Filled {

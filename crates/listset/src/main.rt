@@ -1,5 +1,5 @@
-// Prints the written set that standard input holds: how many runs, how many positions held, and each run. It is read into the only
-// world of a pool of capacity 950, with floor 0 and ceiling 950. The whole text is put together before a byte of it is written.
+// Prints the written set, of either edition, that standard input holds: how many runs, how many positions held, and each run. It is read into
+// the only world of a pool of capacity 950, with floor 0 and ceiling 950. The whole text is put together before a byte of it is written.
 ghost use Prim.Native.Nat.{_+_, _*_, _≤_, _^_};
 ghost use mathlib.Core.Path.{_≡_};
 ghost use mathlib.Core.Bool.{true};

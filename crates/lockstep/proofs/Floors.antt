@@ -153,7 +153,7 @@ module _ (full : ℕ → Bool) (s : Fed) where
   many (Call.equal t) = λ e. absurd (reports-not _ _ refl e)
   many (Call.load bs) = alters-many _ _ _ refl refl
   many (Call.build rs) = alters-many _ _ _ refl refl
-  many (Call.writeSet out) = λ e. absurd (reports-not _ _ refl e)
+  many (Call.writeSet e out) = λ f. absurd (reports-not _ _ refl f)
   many (Call.readMap base n bs) = alters-many _ _ _ refl refl
   many (Call.writeMap base n out) = λ e. absurd (reports-not _ _ refl e)
   many (Call.fill base n) = λ e. absurd (reports-not _ _ refl e)

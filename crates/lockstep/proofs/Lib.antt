@@ -3,6 +3,7 @@ pub mod Ways
 pub mod Playing
 pub mod Matches
 pub mod Clearing
+pub mod Converting
 pub mod Filling
 pub mod Empty
 pub mod Following

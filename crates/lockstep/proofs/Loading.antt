@@ -2,10 +2,10 @@
 -- holds after it. So what was written loads. Assumes nothing.
 use Prim.Native.Nat.{ℕ}
 use mathlib.Core.Path.{_≡_, refl, sym, ap, _∙_, subst}
-use mathlib.Core.Bool.{Bool}
 use mathlib.Core.List.{List, _∷_}
 use mathlib.Core.Option.{none}
-use Rattle.model.specs.Positions.{Positions, mem, bounded}
+use Rattle.model.specs.declared.Edition.{Edition}
+use Rattle.model.specs.Positions.{mem, bounded}
 use Rattle.model.proofs.Ops.{bounded-below}
 use Rattle.model.specs.Bytes.{decode}
 use Rattle.model.specs.Refusals.{capacity as tooMuch, _when_, refusal, setConditions, tooMany}
@@ -21,7 +21,7 @@ use Rattle.core.proofs.Changing.{fits-few}
 use Rattle.core.proofs.Served.{unrefused}
 use Rattle.interval_bit_set.specs.declared.look.Look.{Look}
 use Rattle.interval_bit_set.proofs.Looking.{looked-sound}
-use Rattle.lockstep.specs.History.{WritesSet, Loads, Writable}
+use Rattle.lockstep.specs.History.{Loads, Writable}
 use Rattle.lockstep.proofs.Following.{played-holds}
 use Rattle.lockstep.proofs.Writing.{bytesOf, unearned, few-all, writer-readable, written-is}
 
@@ -60,15 +60,15 @@ module _ {C : ℕ} {bs : List ℕ} (L : Loads C bs) where
 
 -- ---- what was written
 -- the bytes of the positions that a world holds are accepted there
-bytes-accepted : {w : List ℕ} {i : ℕ} → Openable w i → Accepted (fullAt w i) (bytesOf (heldBy w i))
+bytes-accepted : {w : List ℕ} {i : ℕ} (e : Edition) → Openable w i → Accepted (fullAt w i) (bytesOf e (heldBy w i))
 unfolding tooMany
-bytes-accepted {w} {i} o = held-accepted (fullAt w i) (heldBy w i) (few-all o) (fits-few o (heldBy w i) (held-allowed w i o))
+bytes-accepted {w} {i} e o = held-accepted (fullAt w i) e (heldBy w i) (few-all o) (fits-few o (heldBy w i) (held-allowed w i o))
 
 -- and are read as these positions
-bytes-settled : {w : List ℕ} {i : ℕ} → Openable w i → Settled w w i (bounded (mem (decode (bytesOf (heldBy w i)))))
-bytes-settled {w} {i} o =
+bytes-settled : {w : List ℕ} {i : ℕ} (e : Edition) → Openable w i → Settled w w i (bounded (mem (decode (bytesOf e (heldBy w i)))))
+bytes-settled {w} {i} e o =
     let P = heldBy w i in
-    let d : bounded (mem (decode (bytesOf P))) ≡ bounded P = ap (λ rs. bounded (mem rs)) (held-read P (few-all o)) ∙ bounded-held P in
+    let d : bounded (mem (decode (bytesOf e P))) ≡ bounded P = ap (λ rs. bounded (mem rs)) (held-read e P (few-all o)) ∙ bounded-held P in
     settled-as (settled-same (o .sound)) (λ x h. sym (ap (λ Q. Q x) d ∙ bounded-below P x h))
 
 -- so the world that wrote bytes can load them
@@ -81,5 +81,5 @@ writable-loads {C} {bs} W =
       world = W .world;
       sized = (played-holds (W .played)) .sized;
       after = W .pool;
-      met = load-met o (bytes-accepted o) (bytes-settled o);
+      met = load-met o (bytes-accepted (W .edition) o) (bytes-settled (W .edition) o);
     })

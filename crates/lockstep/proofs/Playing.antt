@@ -10,7 +10,7 @@ use native.Mathlib.Omega.{arith}
 use borrow.Author.Tests.{le-ltb}
 use lib.ListN.{take}
 use Rattle.model.specs.declared.Bound.the-variants.{Included}
-use Rattle.model.specs.declared.Limits.{Limits}
+use Rattle.model.specs.declared.Edition.{Edition}
 use Rattle.model.specs.declared.Written.{Written}
 use Rattle.model.specs.Numbers.{size}
 use Rattle.model.specs.Positions.{Positions, empty}
@@ -20,7 +20,7 @@ use Rattle.model.specs.Call.{Call, at, Answer}
 use Rattle.model.specs.Pools.{PlainWorld, worldOf, limitsOf, emptyWorlds, after}
 use Rattle.store.specs.Layout.{capacity, heldBy}
 use Rattle.store.proofs.WorldLists.{opened-world}
-use Rattle.core.specs.Met.{Site, Met, Made}
+use Rattle.core.specs.Met.{Met, Made}
 use Rattle.core.specs.Out.{WritesOut}
 use Rattle.core.proofs.Meeting.{refused-not}
 use Rattle.core.proofs.Simulation.{Holds}
@@ -51,13 +51,14 @@ tells (Written.Refused r) out (n, bs, e) = absurd (refused-not e)
 tells (Written.Bytes n) out k = (n, refl)
 
 -- so much of the slice is the set
-writes : {w out out′ : List ℕ} {i : ℕ} {r : Written} {n : ℕ} → WritesOut Call.writeSet w i out r out′ → r ≡ Written.Bytes n → WritesSet w i (take n out′)
-writes {w} {out} {out′} {i} {n = n} W e = record {
+writes : {e : Edition} {w out out′ : List ℕ} {i : ℕ} {r : Written} {n : ℕ} → WritesOut (Call.writeSet e) w i out r out′ → r ≡ Written.Bytes n
+    → WritesSet w i e (take n out′)
+writes {e} {w} {out} {out′} {i} {n = n} W is = record {
   out = out;
   count = n;
   slice = out′;
   after = w;
-  met = subst (λ q. Met w i (Call.writeSet out) (writtenAnswer q out′) w) e (W .met);
+  met = subst (λ q. Met w i (Call.writeSet e out) (writtenAnswer q out′) w) is (W .met);
   bytes = refl;
 }
 
@@ -81,12 +82,12 @@ unfolding emptyWorlds
 lone-meet C low high distance c h l = ways-meet C distance low high c h l
 
 -- ---- the two histories, and what they write
-module _ {a b limits left right left′ right′ a₁ a₂ b₁ b₂ b₃ : List ℕ} {low high distance : ℕ} {p q r s t : Answer} {x y : Written} where
+module _ {a b limits left right left′ right′ a₁ a₂ b₁ b₂ b₃ : List ℕ} {low high distance : ℕ} {p q r s t : Answer} {x y : Written} {e : Edition} where
   pub same-bytes :
       Lent a b limits left right → low ≤ high → high + distance < size
       → Made a (limitsOf limits) p a₁ → Met a₁ 0 (Call.set (Included (low + distance)) (Included (high + distance)) true) q a₂
       → Made b (limitsOf limits) r b₁ → Met b₁ 0 (Call.set (Included low) (Included high) true) s b₂ → Met b₂ 0 (Call.shift distance true) t b₃
-      → WritesOut Call.writeSet a₂ 0 left x left′ → WritesOut Call.writeSet b₃ 0 right y right′
+      → WritesOut (Call.writeSet e) a₂ 0 left x left′ → WritesOut (Call.writeSet e) b₃ 0 right y right′
       → SameBytes (record { first = x; second = y }) left′ right′
   same-bytes L h l ma sa mb sb tb X Y =
       let C = capacity a in
@@ -96,15 +97,15 @@ module _ {a b limits left right left′ right′ a₁ a₂ b₁ b₂ b₃ : List
       record { first = b₁; new = made limits (L .sized) (L .alike) (L .lone) mb; answers = _; states = _; history = call _ sb (call _ tb rest); now = refl } in
       let H = played-holds A in
       let K = played-holds B in
-      let e = ap (λ ls. after C (emptyWorlds ls) (told (at 0 (Call.set (Included (low + distance)) (Included (high + distance)) true) ∷ []))) (L .lone)
+      let same = ap (λ ls. after C (emptyWorlds ls) (told (at 0 (Call.set (Included (low + distance)) (Included (high + distance)) true) ∷ []))) (L .lone)
       ∙ lone-meet C low high distance (L .sized) h l
       ∙ sym (ap (λ ls. after C (emptyWorlds ls) (told (at 0 (Call.set (Included low) (Included high) true) ∷ at 0 (Call.shift distance true) ∷ []))) (L .lone)) in
-      let n = tells x left′ (theorem2-room a₂ 0 _ _ _ (H .sound) (H .sound .some) (omega (arith, L .room, H .sized)) (X .met)) in
-      let m = tells y right′ (theorem2-room b₃ 0 _ _ _ (K .sound) (K .sound .some) (omega (arith, L .room₂, K .sized)) (Y .met)) in
+      let n = tells x left′ (theorem2-room a₂ 0 e _ _ _ (H .sound) (H .sound .some) (omega (arith, L .room, H .sized)) (X .met)) in
+      let m = tells y right′ (theorem2-room b₃ 0 e _ _ _ (K .sound) (K .sound .some) (omega (arith, L .room₂, K .sized)) (Y .met)) in
       record {
         n = n .0;
         m = m .0;
         first-is = n .1;
         second-is = m .1;
-        bytes = (theorem2 a₂ 0 b₃ 0 _ _ (writes X (n .1)) (writes Y (m .1))) .0 (same-held H K e);
+        bytes = (theorem2 e a₂ 0 b₃ 0 _ _ (writes X (n .1)) (writes Y (m .1))) .0 (same-held H K same);
       }

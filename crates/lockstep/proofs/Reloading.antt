@@ -11,7 +11,8 @@ use borrow.Author.Tests.{le-ltb, ne-eqb}
 use Rattle.model.specs.declared.Limits.{Limits}
 use Rattle.model.specs.Numbers.{size, mostWorlds}
 use Rattle.model.specs.Positions.{Positions, empty, mem, bounded, stretches}
-use Rattle.model.specs.Bytes.{decode}
+use Rattle.model.specs.declared.Edition.{Edition}
+use Rattle.model.specs.Bytes.{editionOf, decode}
 use Rattle.model.specs.RunList.{AllBytes}
 use Rattle.model.specs.Refusals.{floors, crossed, badLimits, tooMany}
 use Rattle.model.specs.Call.{Call, at, done, gave}
@@ -25,7 +26,7 @@ use Rattle.store.specs.Settle.{Settled, Openable}
 use Rattle.store.proofs.Worlds.{held-allowed}
 use Rattle.store.proofs.Turn.{pool-past}
 use Rattle.store.proofs.WorldLists.{opened-world}
-use Rattle.core.specs.Met.{fullAt, Met, Made}
+use Rattle.core.specs.Met.{fullAt}
 use Rattle.core.proofs.Changing.{fits-few, bounded-is}
 use Rattle.core.proofs.Meeting.{make-done}
 use Rattle.core.proofs.Served.{bounded-ends}
@@ -133,10 +134,7 @@ full-same {w} {v} {i} P S l t =
 accept-there : {w v bs : List ℕ} {i : ℕ} {full : ℕ → Bool} → Openable w i → Openable v i → Settled w v i (bounded (mem (decode bs))) → Accepted full bs → Accepted (fullAt w i) bs
 unfolding tooMany
 accept-there {w} {v} {bs} {i} o p t A = record {
-  long = A .long;
-  version = A .version;
-  length-fits = A .length-fits;
-  ordered = A .ordered;
+  intact = A .intact;
   fits =
       ap (λ f. f (stretches (mem (decode bs)))) (sym (full-same (mem (decode bs)) (o .sound) (o .named) t))
       ∙ ap (fullAt v i) (stretches-cong (mem (decode bs)) (heldBy v i) (λ x h. bounded-is (mem (decode bs)) x h ∙ sym (t .holds x h)))
@@ -164,12 +162,14 @@ loads-writable {C} {bs} b L =
     let openable : Openable w i = record { sound = E .sound; named = omega (arith, named′, E .opened) } in
     let accepted : Accepted (fullAt w i) bs = accept-there openable (record { sound = A .sound; named = named′ }) back (loaded-accepted L) in
     let here : heldBy v i ≡ P = same-positions (heldBy v i) P (pool-past v i) (bounded-ends (mem (decode bs))) held in
-    let e : bytesOf (heldBy v i) ≡ bs = ap bytesOf here ∙ (accepted-bytes (fullAt w i) bs b accepted) .1 in
+    let told : Edition = editionOf bs in
+    let e : bytesOf told (heldBy v i) ≡ bs = ap (bytesOf told) here ∙ (accepted-bytes (fullAt w i) bs b accepted) .1 in
     record {
       limits = limits (E .sound) none;
       calls = at i (Call.load bs) ∷ [];
       pool = v;
       world = i;
+      edition = told;
       played = record {
         first = w;
         new = subst (λ c. New c (limits (E .sound) none) w) cap (new-pool (E .sound) none v (E .long));
@@ -178,5 +178,5 @@ loads-writable {C} {bs} b L =
         history = call (at i (Call.load bs)) (load-met openable accepted back) rest;
         now = refl;
       };
-      writes = subst (WritesSet v i) e (writes (record { sound = A .sound; named = named′ }) bs (omega (arith, ap length e)));
+      writes = subst (WritesSet v i told) e (writes (record { sound = A .sound; named = named′ }) told bs (omega (arith, ap length e)));
     }

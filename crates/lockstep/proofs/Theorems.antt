@@ -1,5 +1,5 @@
--- The theorems hold (specs/Theorems.antt): each is what the lemma files show of histories, matches, written sets, worlds, cleared maps and fills.
--- Assumes nothing.
+-- The theorems hold (specs/Theorems.antt): each is what the lemma files show of histories, matches, written sets, worlds, cleared maps, fills and
+-- converted sets. Assumes nothing.
 use mathlib.Core.Path.{refl, sym}
 use native.Mathlib.Nat.{le-trans}
 use Rattle.store.specs.Settle.{Openable}
@@ -18,6 +18,10 @@ use Rattle.lockstep.specs.Theorems.{
   Forms-agree,
   Fill-none,
   Fill-full,
+  Converted-back,
+  Converted-loads,
+  Loads-converts,
+  Old-reader,
 }
 use Rattle.lockstep.proofs.Following.{follows, new-holds, answered-alike}
 use Rattle.lockstep.proofs.Matches.{matches}
@@ -30,6 +34,7 @@ use Rattle.lockstep.proofs.Forms.{met-alike, writes-alike}
 use Rattle.lockstep.proofs.Clearing
 use Rattle.lockstep.proofs.Clearing.{written-stays}
 use Rattle.lockstep.proofs.Filling.{none-held, all-held}
+use Rattle.lockstep.proofs.Converting.{convert-back, convert-then-load, load-converts, old-refused}
 
 pub theorem1 : Theorem1
 theorem1 C ls w cs rs vs N h = follows (new-holds N) h
@@ -38,10 +43,10 @@ pub theorem1-matches : Theorem1-matches
 theorem1-matches C ls w w′ cs rs N h = matches N h
 
 pub theorem2 : Theorem2
-theorem2 w i v j bs cs W X = written-alike W X
+theorem2 e w i v j bs cs W X = written-alike W X
 
 pub theorem2-room : Theorem2-room
-theorem2-room w i out v a S l h m = let o : Openable w i = record { sound = S; named = l } in (_, _, written-all o (le-trans (bytes-few o) h) m)
+theorem2-room w i e out v a S l h m = let o : Openable w i = record { sound = S; named = l } in (_, _, written-all o e (le-trans (bytes-few o e) h) m)
 
 pub theorem3 : Theorem3
 theorem3 w v cs ds rs qs ws vs S T e f d h k =
@@ -74,3 +79,15 @@ fill-none w i base n k w′ m = none-held m
 
 pub fill-full : Fill-full
 fill-full w i base n k w′ m = all-held m
+
+pub converted-back : Converted-back
+converted-back bs out cs n out₂ ds a b h g l = convert-back bs out h out₂ b g l
+
+pub converted-loads : Converted-loads
+converted-loads bs out cs n w i a a₂ w′ v′ b h m k = convert-then-load bs out h b m k
+
+pub loads-converts : Loads-converts
+loads-converts C bs out cs a b L h l = load-converts bs out L h l
+
+pub old-reader : Old-reader
+old-reader w i bs W = old-refused W

@@ -6,6 +6,7 @@ use mathlib.Core.Path.{_≡_}
 use mathlib.Core.List.{List, [], _∷_}
 use lib.ListN.{take}
 use Rattle.model.specs.declared.Limits.{Limits}
+use Rattle.model.specs.declared.Edition.{Edition}
 use Rattle.model.specs.Call.{Fed, Call, PoolCall, make, at, feedPool, done, written, Answer, gave}
 use Rattle.model.specs.Pools.{PlainWorld, PoolOutcome, step}
 use Rattle.store.specs.Layout.{capacity, worldsOf}
@@ -65,13 +66,13 @@ pub record Played (C : ℕ) (ls : List Limits) (cs : List (PoolCall Site)) (w : 
   pub history : History first cs answers states
   pub now : w ≡ left first states
 
--- world i of the words w writes bs as a set
-pub record WritesSet (w : List ℕ) (i : ℕ) (bs : List ℕ) : Type 0 where
+-- world i of the words w writes bs as a set of edition e
+pub record WritesSet (w : List ℕ) (i : ℕ) (e : Edition) (bs : List ℕ) : Type 0 where
   pub out : List ℕ
   pub count : ℕ
   pub slice : List ℕ
   pub after : List ℕ
-  pub met : Met w i (Call.writeSet out) (gave (written count slice)) after
+  pub met : Met w i (Call.writeSet e out) (gave (written count slice)) after
   pub bytes : bs ≡ take count slice
 
 -- bs loads into some world of some pool of capacity C
@@ -82,11 +83,12 @@ pub record Loads (C : ℕ) (bs : List ℕ) : Type 0 where
   pub after : List ℕ
   pub met : Met pool world (Call.load bs) (gave done) after
 
--- some history at capacity C writes bs as a set
+-- some history at capacity C writes bs as a set, in some edition
 pub record Writable (C : ℕ) (bs : List ℕ) : Type 0 where
   pub limits : List Limits
   pub calls : List (PoolCall Site)
   pub pool : List ℕ
   pub world : ℕ
+  pub edition : Edition
   pub played : Played C limits calls pool
-  pub writes : WritesSet pool world bs
+  pub writes : WritesSet pool world edition bs

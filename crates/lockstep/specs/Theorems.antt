@@ -4,7 +4,10 @@ use Prim.Native.Nat.{ℕ, _+_, _*_, _≤_, _<_}
 use mathlib.Core.Path.{_≡_}
 use mathlib.Core.Bool.{true, false}
 use mathlib.Core.List.{List}
-use lib.ListN.{length}
+use mathlib.Core.Option.{some}
+use lib.ListN.{length, take}
+use Rattle.model.specs.declared.Edition.{Edition}
+use Rattle.model.specs.declared.Edition.the-variants.{Columns}
 use Rattle.model.specs.declared.Limits.{Limits}
 use Rattle.model.specs.declared.Written.{Written}
 use Rattle.model.specs.Answers.{writtenAnswer}
@@ -14,6 +17,7 @@ use Rattle.model.specs.Call.{Call, feed, PoolCall, number, written, Answer, ref
 use Rattle.model.specs.Model.{serve}
 use Rattle.model.specs.Pools.{PlainWorld, worldOf, otherClaims, emptyWorlds, answers, after}
 use Rattle.model.specs.Clearing.{clearMap}
+use Rattle.model.specs.Converting.{convert, documentOneRefusal}
 use Rattle.store.specs.Layout.{capacity, openedAt, floorAt, heldBy, worldsOf}
 use Rattle.store.specs.Soundness.{Sound}
 use Rattle.core.specs.Met.{Site, fedAt, fedOf, Leaves, Met}
@@ -37,22 +41,22 @@ Theorem1-matches =
     (C : ℕ) (ls : List Limits) (w w′ : List ℕ) (cs : List (PoolCall Site)) (rs : List Answer)
     → New C ls w → Match w cs rs w′ → (rs ≡ answers C (emptyWorlds ls) (told cs)) × (worldsOf w′ ≡ after C (emptyWorlds ls) (told cs))
 
--- Theorem 2: sets written from two worlds, of one pool or of two, however made, are the same bytes exactly when the worlds' positions are the
--- same
+-- Theorem 2: sets written in one edition from two worlds, of one pool or of two, however made, are the same bytes exactly when the worlds'
+-- positions are the same
 abbrev pub Theorem2 : Type 0
 Theorem2 =
-    (w : List ℕ) (i : ℕ) (v : List ℕ) (j : ℕ) (bs cs : List ℕ)
-    → WritesSet w i bs → WritesSet v j cs → (heldBy w i ≡ heldBy v j → bs ≡ cs) × (bs ≡ cs → heldBy w i ≡ heldBy v j)
+    (e : Edition) (w : List ℕ) (i : ℕ) (v : List ℕ) (j : ℕ) (bs cs : List ℕ)
+    → WritesSet w i e bs → WritesSet v j e cs → (heldBy w i ≡ heldBy v j → bs ≡ cs) × (bs ≡ cs → heldBy w i ≡ heldBy v j)
 
 -- an answer that tells of bytes written
 abbrev pub Wrote : Answer → Type 0
 Wrote a = (n : ℕ) × (bs : List ℕ) × (a ≡ gave (written n bs))
 
--- a slice of 5 + 16 × C bytes is long enough: writing a world's set into it is not refused
+-- a slice of 5 + 16 × C bytes is long enough: writing a world's set into it, in either edition, is not refused
 abbrev pub Theorem2-room : Type 0
 Theorem2-room =
-    (w : List ℕ) (i : ℕ) (out v : List ℕ) (a : Answer)
-    → Sound w → i < openedAt w → 5 + 16 * capacity w ≤ length out → Met w i (Call.writeSet out) a v → Wrote a
+    (w : List ℕ) (i : ℕ) (e : Edition) (out v : List ℕ) (a : Answer)
+    → Sound w → i < openedAt w → 5 + 16 * capacity w ≤ length out → Met w i (Call.writeSet e out) a v → Wrote a
 
 -- Theorem 3: two sound pools of one capacity, however made, that opened equally many worlds, with equal positions, floors and ceilings in each,
 -- answer every later list of equal calls alike, and have equal worlds after it
@@ -62,7 +66,8 @@ Theorem3 =
     → Sound w → Sound v → capacity w ≡ capacity v → worldsOf w ≡ worldsOf v → told cs ≡ told ds → History w cs rs ws → History v ds qs vs
     → (rs ≡ qs) × (worldsOf (left w ws) ≡ worldsOf (left v vs))
 
--- Theorem 4: a byte string loads into some world of some pool of a capacity exactly when some history at that capacity writes it as a set
+-- Theorem 4: a byte string loads into some world of some pool of a capacity exactly when some history at that capacity writes it as a set, in
+-- some edition
 abbrev pub Theorem4 : Type 0
 Theorem4 = (C : ℕ) (bs : List ℕ) → AllBytes bs → (Loads C bs → Writable C bs) × (Writable C bs → Loads C bs)
 
@@ -125,3 +130,29 @@ abbrev pub Fill-full : Type 0
 Fill-full =
     (w : List ℕ) (i base n k : ℕ) (w′ : List ℕ)
     → Met w i (Call.fill base n) (gave (number k)) w′ → ((x : ℕ) → base ≤ x → x < base + n → heldBy w i x ≡ true) → k ≡ 1000
+
+-- ---- written sets of two editions (document 02, Ticket 8)
+-- a set that was converted is converted back, byte for byte, into any slice that has room for it
+abbrev pub Converted-back : Type 0
+Converted-back =
+    (bs out cs : List ℕ) (n : ℕ) (out₂ ds : List ℕ) (a : Answer)
+    → AllBytes bs → Handles (convert bs out) (gave (written n cs)) cs → Handles (convert (take n cs) out₂) a ds → n ≤ length out₂
+    → (a ≡ gave (written n ds)) × (take n ds ≡ bs)
+
+-- a load of the converted set answers what a load of the set itself does, refusals included, and leaves the same worlds
+abbrev pub Converted-loads : Type 0
+Converted-loads =
+    (bs out cs : List ℕ) (n : ℕ) (w : List ℕ) (i : ℕ) (a b : Answer) (w′ v′ : List ℕ)
+    → AllBytes bs → Handles (convert bs out) (gave (written n cs)) cs → Met w i (Call.load bs) a w′ → Met w i (Call.load (take n cs)) b v′
+    → (a ≡ b) × (worldsOf w′ ≡ worldsOf v′)
+
+-- what is converted is refused as a load is, but for its world and its capacity: a byte string that loads into some pool is converted wherever
+-- there is room
+abbrev pub Loads-converts : Type 0
+Loads-converts =
+    (C : ℕ) (bs out cs : List ℕ) (a : Answer)
+    → AllBytes bs → Loads C bs → Handles (convert bs out) a cs → length bs ≤ length out → a ≡ gave (written (length bs) cs)
+
+-- document 01's reader refuses every set of edition 2 with 4
+abbrev pub Old-reader : Type 0
+Old-reader = (w : List ℕ) (i : ℕ) (bs : List ℕ) → WritesSet w i Columns bs → documentOneRefusal bs ≡ some 4

@@ -345,7 +345,7 @@ calc C s (load bs) =
     (setShort when tooShort bs ∷ setVersion when badVersion bs ∷ setLength when badLength bs ∷ runOrder when disordered (decode bs) ∷ [])
     (union (decode bs)) done
 calc C s (build rs) = changeRuns C s (runOrder when disordered rs ∷ []) (union rs) done
-calc C s (writeSet out) = writeRuns s [] (encode (runsOf s)) out
+calc C s (writeSet e out) = writeRuns s [] (encode e (runsOf s)) out
 calc C s (readMap base n bs) =
     changedRuns C s (window when badWindow base n ∷ window when badMap n bs ∷ strayBit when someBit bs n (8 * mapLength n - n) ∷ []) (mapRuns base n bs (runsOf s))
 calc C s (writeMap base n out) = writeRuns s (window when badWindow base n ∷ []) (mapOf (mem (runsOf s)) base n) out
@@ -488,7 +488,7 @@ calc-tied C s (load bs) =
     (setShort when tooShort bs ∷ setVersion when badVersion bs ∷ setLength when badLength bs ∷ runOrder when disordered (decode bs) ∷ []) (mem (decode bs))
     (union (decode bs)) done done refl (union-positions (decode bs)) (union-canon (decode bs))
 calc-tied C s (build rs′) = tied-change C s (runOrder when disordered rs′ ∷ []) (mem rs′) (union rs′) done done refl (union-positions rs′) (union-canon rs′)
-calc-tied C s (writeSet out) = tied-write s [] (encode (heldRuns (positionsOf (fedAs s)))) (encode (runsOf s)) out (ap encode (all-runs s))
+calc-tied C s (writeSet e out) = tied-write s [] (encode e (heldRuns (positionsOf (fedAs s)))) (encode e (runsOf s)) out (ap (encode e) (all-runs s))
 calc-tied C s (readMap base n bs) =
     rw stray-some
     (tied-changed C s (window when badWindow base n ∷ window when badMap n bs ∷ strayBit when someBit bs n (8 * mapLength n - n) ∷ [])

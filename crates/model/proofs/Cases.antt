@@ -26,7 +26,26 @@ use Rattle.model.proofs.Ops.{
   shiftRuns,
   bounded-mem,
 }
-use Rattle.model.specs.Bytes.{bigEndian, valueFrom, valueOf, encodeRuns, encode, runsDue, decodeRuns, decode, bits, bytesFrom, mapOf, mapBit, intoFront}
+use Rattle.model.specs.Bytes.{
+  bigEndian,
+  valueFrom,
+  valueOf,
+  encodeRuns,
+  column,
+  columnsFrom,
+  columns,
+  encode,
+  runsDue,
+  editionOf,
+  decodeRuns,
+  runsTold,
+  decode,
+  bits,
+  bytesFrom,
+  mapOf,
+  mapBit,
+  intoFront,
+}
 use Rattle.model.specs.Refusals.{badWindow, badMap, tooShort, badLength, badVersion, orderedFrom, disordered, noRoom}
 use lib.Dec.{ltb}
 use Rattle.model.specs.Call.{Call, feed, holding, PoolCall, Answer}
@@ -123,8 +142,8 @@ rows-hold (c ∷ cs) e = (row-holds c (ap (first (computed c)) e), rows-hold cs 
 table-computes : map computed table ≡ map expected table
 unfolding table shown left calc reportRuns changeRuns writeRuns changedRuns remainingRuns fedAs runsOf union mapRuns someBit clipped clip
     setRuns onRange setTo insert clear combineRuns andRuns orRuns xorRuns minusRuns setAll flipRuns inverted complementRuns shiftRuns shiftLeftRuns
-    shiftRightRuns widths mem selectRuns firstLong drawnFirst drawnLast pastFirst pastLast bigEndian valueFrom valueOf encodeRuns encode runsDue decodeRuns decode
-    bits bytesFrom mapOf mapBit intoFront badWindow badMap tooShort badLength badVersion orderedFrom disordered noRoom
+    shiftRightRuns widths mem selectRuns firstLong drawnFirst drawnLast pastFirst pastLast bigEndian valueFrom valueOf encodeRuns column columnsFrom columns encode
+    runsDue editionOf decodeRuns runsTold decode bits bytesFrom mapOf mapBit intoFront badWindow badMap tooShort badLength badVersion orderedFrom disordered noRoom
 table-computes = refl
 
 -- THE CASES

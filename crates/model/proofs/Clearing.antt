@@ -19,7 +19,8 @@ use Rattle.model.proofs.Maps.{mapOf-length, mapOf-bytes, mapOf-cong, ma
 use Rattle.model.specs.Refusals.{window, strayBit, capacity, _when_, refusal, badWindow, badMap, stray, tooMany}
 use Rattle.model.specs.Call.{Fed, wrongLength, unsound, unopened, holding, Result, number, Answer, refused, gave, readMap}
 use Rattle.model.specs.Model.{positionsOf, reads, settle, change, changed, serve}
-use Rattle.model.specs.Clearing.{Handled, handle, clearMap, documentOneReading}
+use Rattle.model.specs.Handled.{Handled, handle}
+use Rattle.model.specs.Clearing.{clearMap, documentOneReading}
 
 -- ---- the cleared map
 module _ (n : ℕ) (bs : List ℕ) where

@@ -1,8 +1,8 @@
--- Written sets: numbers as bytes and back, run lists as bytes and back, and that the written sets which are accepted are just the encodings
--- of canonical run lists. A byte is a remainder by 256, so everything goes by the quotient of a byte list's value by a power of 256.
--- Assumes nothing.
+-- Written sets: numbers as bytes and back, run lists as bytes and back in either edition, and that the written sets which are accepted are
+-- just the encodings of canonical run lists. A byte is a remainder by 256, so everything goes by the quotient of a byte list's value by a
+-- power of 256. Assumes nothing.
 use mathlib.Core.Path.{_≡_, refl, sym, ap, _∙_}
-use mathlib.Core.Bool.{true, false, _&&_, and-eq-true-iff}
+use mathlib.Core.Bool.{Bool, true, false, cond, _&&_, _||_, or-false, and-eq-true-iff}
 use mathlib.Core.List.{List, [], _∷_, _++_, append-assoc}
 use Prim.Native.Nat.{ℕ, zero, suc, _+_, _*_, _/_, _%_, _^_, _≤_, _<_}
 use native.Mathlib.Nat.{
@@ -29,9 +29,30 @@ use borrow.Author.Tests.{eqb-true, leb-true, ltb-false, le-leb, le-ltb, eq-eqb, 
 use Rattle.model.specs.declared.Run.{Run}
 use Rattle.model.specs.Numbers.{size}
 use Rattle.model.specs.Positions.{run}
-use Rattle.model.specs.Bytes.{bigEndian, valueFrom, valueOf, encodeRuns, encode, runsDue, decodeRuns, decode}
+use Rattle.model.specs.declared.Edition.{Edition}
+use Rattle.model.specs.declared.Edition.the-variants.{Rows, Columns}
+use Rattle.model.specs.Bytes.{
+  bigEndian,
+  valueFrom,
+  valueOf,
+  encodeRuns,
+  column,
+  columnsFrom,
+  columns,
+  versionOf,
+  arranged,
+  encode,
+  runsDue,
+  editionBy,
+  editionOf,
+  decodeRuns,
+  inRows,
+  runsTold,
+  decode,
+}
 use Rattle.model.specs.Refusals.{tooShort, badLength, badVersion, orderedFrom, disordered}
 use Rattle.model.specs.RunList.{Canon, AllBytes, AllWords}
+use Rattle.model.proofs.Columns.{arranged-length, inRows-length, inRows-arranged, arranged-inRows}
 
 -- ---- numbers
 -- k bytes are k
@@ -119,6 +140,34 @@ bytes-at [] j h = omega arith
 bytes-at (b ∷ bs) zero h = h .0
 bytes-at (b ∷ bs) (suc j) h = bytes-at bs j (h .1)
 
+-- and so is a column of a table of them
+column-bytes : (R C j : ℕ) (bs : List ℕ) → AllBytes bs → AllBytes (column R C j bs)
+unfolding column
+column-bytes zero C j bs h = tt
+column-bytes (suc R) C j bs h = (bytes-at bs j h, column-bytes R C j (drop C bs) (drop-bytes C bs h))
+
+-- and some columns
+columnsFrom-bytes : (k R C j : ℕ) (bs : List ℕ) → AllBytes bs → AllBytes (columnsFrom k R C j bs)
+unfolding columnsFrom
+columnsFrom-bytes zero R C j bs h = tt
+columnsFrom-bytes (suc k) R C j bs h =
+    append-bytes (column R C j bs) (columnsFrom k R C (suc j) bs) (column-bytes R C j bs h) (columnsFrom-bytes k R C (suc j) bs h)
+
+-- and all columns
+pub columns-bytes : (R C : ℕ) (bs : List ℕ) → AllBytes bs → AllBytes (columns R C bs)
+unfolding columns
+columns-bytes R C bs h = columnsFrom-bytes C R C 0 bs h
+
+-- so bytes stay bytes as an edition arranges them
+pub arranged-bytes : (e : Edition) (R : ℕ) (bs : List ℕ) → AllBytes bs → AllBytes (arranged e R bs)
+arranged-bytes Rows R bs h = h
+arranged-bytes Columns R bs h = columns-bytes R 16 bs h
+
+-- and as they are read from it
+pub inRows-bytes : (e : Edition) (R : ℕ) (bs : List ℕ) → AllBytes bs → AllBytes (inRows e R bs)
+inRows-bytes Rows R bs h = h
+inRows-bytes Columns R bs h = columns-bytes 16 R bs h
+
 -- the value of at most k bytes is below 256 ^ k
 pub part-bound : (k : ℕ) (bs : List ℕ) → AllBytes bs → valueOf (take k bs) < 256 ^ k
 part-bound k bs h =
@@ -139,10 +188,10 @@ unfolding encodeRuns
 encodeRuns-length [] = refl
 encodeRuns-length (r ∷ rs) = simp (length-append, bigEndian-length, encodeRuns-length rs) (omega arith)
 
--- and 5 before them
-pub encode-length : (rs : List Run) → length (encode rs) ≡ 5 + 16 * length rs
+-- and 5 before them, in either edition
+pub encode-length : (e : Edition) (rs : List Run) → length (encode e rs) ≡ 5 + 16 * length rs
 unfolding encode
-encode-length rs = simp (length-append, bigEndian-length, encodeRuns-length) (omega arith)
+encode-length e rs = simp (length-append, bigEndian-length, arranged-length e (length rs) (encodeRuns rs) (encodeRuns-length rs)) (omega arith)
 
 -- whatever the runs are, they are written in bytes
 pub encodeRuns-bytes : (rs : List Run) → AllBytes (encodeRuns rs)
@@ -152,11 +201,18 @@ encodeRuns-bytes (r ∷ rs) =
     append-bytes (bigEndian 8 (r .start)) (bigEndian 8 (r .«end») ++ encodeRuns rs) (bigEndian-bytes 8 (r .start))
     (append-bytes (bigEndian 8 (r .«end»)) (encodeRuns rs) (bigEndian-bytes 8 (r .«end»)) (encodeRuns-bytes rs))
 
--- and so is what stands before them
-pub encode-bytes : (rs : List Run) → AllBytes (encode rs)
+-- a version is a byte
+version-byte : (e : Edition) → versionOf e < 256
+version-byte Rows = omega arith
+version-byte Columns = omega arith
+
+-- so a written set is bytes
+pub encode-bytes : (e : Edition) (rs : List Run) → AllBytes (encode e rs)
 unfolding encode
-encode-bytes rs =
-    (omega arith, append-bytes (bigEndian 4 (length rs)) (encodeRuns rs) (bigEndian-bytes 4 (length rs)) (encodeRuns-bytes rs))
+encode-bytes e rs =
+    let R : ℕ = length rs in
+    let cs : List ℕ = arranged e R (encodeRuns rs) in
+    (version-byte e, append-bytes (bigEndian 4 R) cs (bigEndian-bytes 4 R) (arranged-bytes e R (encodeRuns rs) (encodeRuns-bytes rs)))
 
 -- run lists are written one after the other
 pub encodeRuns-append : (rs ss : List Run) → encodeRuns (rs ++ ss) ≡ encodeRuns rs ++ encodeRuns ss
@@ -173,14 +229,20 @@ pub drop-front : (k n : ℕ) (cs : List ℕ) → drop k (bigEndian k n ++ cs) �
 drop-front k n cs = drop-at (bigEndian k n) cs k (bigEndian-length k n)
 
 -- R is how many runs there are
-pub runsDue-encode : (rs : List Run) → length rs < 2 ^ 32 → runsDue (encode rs) ≡ length rs
+pub runsDue-encode : (e : Edition) (rs : List Run) → length rs < 2 ^ 32 → runsDue (encode e rs) ≡ length rs
 unfolding runsDue encode
-runsDue-encode rs h = value-front 4 (length rs) (encodeRuns rs) h
+runsDue-encode e rs h = value-front 4 (length rs) (arranged e (length rs) (encodeRuns rs)) h
+
+-- the version tells the edition
+pub editionOf-encode : (e : Edition) (rs : List Run) → editionOf (encode e rs) ≡ e
+unfolding editionOf encode
+editionOf-encode Rows rs = refl
+editionOf-encode Columns rs = refl
 
 -- the runs stand behind the first 5 bytes
-pub encode-rest : (rs : List Run) → drop 5 (encode rs) ≡ encodeRuns rs
+pub encode-rest : (e : Edition) (rs : List Run) → drop 5 (encode e rs) ≡ arranged e (length rs) (encodeRuns rs)
 unfolding encode
-encode-rest rs = drop-front 4 (length rs) (encodeRuns rs)
+encode-rest e rs = drop-front 4 (length rs) (arranged e (length rs) (encodeRuns rs))
 
 -- the runs come back
 pub decodeRuns-encodeRuns : (rs : List Run) → AllWords rs → decodeRuns (length rs) (encodeRuns rs) ≡ rs
@@ -194,13 +256,16 @@ decodeRuns-encodeRuns (r ∷ rs) h =
     rw (value-front 8 (r .start) cs (h .0), t, value-front 8 (r .«end») (encodeRuns rs) (h .1), u, decodeRuns-encodeRuns rs (h .2))
 
 -- a run list comes back from what is written of it
-pub decode-encode : (rs : List Run) → AllWords rs → length rs < 2 ^ 32 → decode (encode rs) ≡ rs
-unfolding decode
-decode-encode rs h k = rw (runsDue-encode rs k, encode-rest rs) (decodeRuns-encodeRuns rs h)
+pub decode-encode : (e : Edition) (rs : List Run) → AllWords rs → length rs < 2 ^ 32 → decode (encode e rs) ≡ rs
+unfolding decode runsTold
+decode-encode e rs h k =
+    rw (editionOf-encode e rs, runsDue-encode e rs k, encode-rest e rs, inRows-arranged e (length rs) (encodeRuns rs) (encodeRuns-length rs))
+    (decodeRuns-encodeRuns rs h)
 
--- so no two run lists are written alike
-pub encode-injective : (rs ss : List Run) → AllWords rs → AllWords ss → length rs < 2 ^ 32 → length ss < 2 ^ 32 → encode rs ≡ encode ss → rs ≡ ss
-encode-injective rs ss h k m n e = cc (decode-encode rs h m, decode-encode ss k n)
+-- so no two run lists are written alike in one edition
+pub encode-injective :
+    (e : Edition) (rs ss : List Run) → AllWords rs → AllWords ss → length rs < 2 ^ 32 → length ss < 2 ^ 32 → encode e rs ≡ encode e ss → rs ≡ ss
+encode-injective e rs ss h k m n p = cc (decode-encode e rs h m, decode-encode e ss k n)
 
 -- ---- reading any bytes
 -- as many runs are read as are asked for
@@ -209,10 +274,15 @@ unfolding decodeRuns
 decodeRuns-length zero bs = refl
 decodeRuns-length (suc n) bs = ap suc (decodeRuns-length n (drop 16 bs))
 
+-- in either edition
+pub runsTold-length : (e : Edition) (n : ℕ) (bs : List ℕ) → length (runsTold e n bs) ≡ n
+unfolding runsTold
+runsTold-length e n bs = decodeRuns-length n (inRows e n bs)
+
 -- as many as the set says
 pub decode-length : (bs : List ℕ) → length (decode bs) ≡ runsDue bs
 unfolding decode
-decode-length bs = decodeRuns-length (runsDue bs) (drop 5 bs)
+decode-length bs = runsTold-length (editionOf bs) (runsDue bs) (drop 5 bs)
 
 -- and their ends are words
 pub decodeRuns-words : (n : ℕ) (bs : List ℕ) → AllBytes bs → AllWords (decodeRuns n bs)
@@ -221,10 +291,15 @@ decodeRuns-words zero bs h = tt
 decodeRuns-words (suc n) bs h =
     (part-bound 8 bs h, part-bound 8 (drop 8 bs) (drop-bytes 8 bs h), decodeRuns-words n (drop 16 bs) (drop-bytes 16 bs h))
 
+-- in either edition
+pub runsTold-words : (e : Edition) (n : ℕ) (bs : List ℕ) → AllBytes bs → AllWords (runsTold e n bs)
+unfolding runsTold
+runsTold-words e n bs h = decodeRuns-words n (inRows e n bs) (inRows-bytes e n bs h)
+
 -- so it is for a whole set
 pub decode-words : (bs : List ℕ) → AllBytes bs → AllWords (decode bs)
 unfolding decode
-decode-words bs h = decodeRuns-words (runsDue bs) (drop 5 bs) (drop-bytes 5 bs h)
+decode-words bs h = runsTold-words (editionOf bs) (runsDue bs) (drop 5 bs) (drop-bytes 5 bs h)
 
 -- run i is read from byte 16 i on
 pub decodeRuns-at : (n : ℕ) (bs : List ℕ) (i : ℕ) (d : Run) → i < n
@@ -248,17 +323,39 @@ encodeRuns-decodeRuns (suc n) bs h e =
     rw (part-back 8 bs h (omega arith), part-back 8 (drop 8 bs) (drop-bytes 8 bs h) g, i)
     (ap (λ (l : List ℕ). take 8 bs ++ (take 8 (drop 8 bs) ++ l)) (sym (drop-drop 8 8 bs)) ∙ rw (take-append-drop 8 (drop 8 bs)) (take-append-drop 8 bs))
 
--- the whole of a written set comes back, if its length and its version are right
-pub encode-decode : (bs : List ℕ) → AllBytes bs → tooShort bs ≡ false → badVersion bs ≡ false → badLength bs ≡ false → encode (decode bs) ≡ bs
-unfolding encode decode runsDue tooShort badVersion badLength
+-- in either edition
+pub arranged-runsTold : (e : Edition) (n : ℕ) (bs : List ℕ) → AllBytes bs → length bs ≡ 16 * n → arranged e n (encodeRuns (runsTold e n bs)) ≡ bs
+unfolding runsTold
+arranged-runsTold e n bs h l =
+    rw (encodeRuns-decodeRuns n (inRows e n bs) (inRows-bytes e n bs h) (inRows-length e n bs l)) (arranged-inRows e n bs l)
+
+-- and the version, where it is that of an edition
+version-back : (b : ℕ) → (eqb b 1 || eqb b 2) ≡ true → versionOf (editionBy b) ≡ b
+version-back b h = go (eqb b 2) refl h
+  where
+    go : (t : Bool) → eqb b 2 ≡ t → (eqb b 1 || t) ≡ true → versionOf (cond t Columns Rows) ≡ b
+    go true f g = sym (eqb-true b 2 f)
+    go false f g = sym (eqb-true b 1 (sym (or-false (eqb b 1)) ∙ g))
+
+-- the length of a set that has the right one
+pub due-length : (bs : List ℕ) → badLength bs ≡ false → length bs ≡ 5 + 16 * runsDue bs
+unfolding badLength
+due-length bs l = eqb-true (length bs) (5 + 16 * runsDue bs) (not-false (eqb (length bs) (5 + 16 * runsDue bs)) l)
+
+-- the whole of a written set comes back in its edition, if its length and its version are right
+pub encode-decode :
+    (bs : List ℕ) → AllBytes bs → tooShort bs ≡ false → badVersion bs ≡ false → badLength bs ≡ false → encode (editionOf bs) (decode bs) ≡ bs
+unfolding encode editionOf decode runsDue tooShort badVersion
 encode-decode [] h s v l = absurd (omega (arith, ltb-false 0 5 s))
 encode-decode (b ∷ bs) h s v l =
-    let one : b ≡ 1 = eqb-true b 1 (not-false (eqb b 1) v) in
+    let version : versionOf (editionBy b) ≡ b = version-back b (not-false (eqb b 1 || eqb b 2) v) in
     let four : 4 ≤ length bs = omega (arith, ltb-false (suc (length bs)) 5 s) in
     let n : ℕ = valueOf (take 4 bs) in
-    let e : suc (length bs) ≡ 5 + 16 * n = eqb-true (suc (length bs)) (5 + 16 * n) (not-false (eqb (suc (length bs)) (5 + 16 * n)) l) in
-    let rest : encodeRuns (decodeRuns n (drop 4 bs)) ≡ drop 4 bs = encodeRuns-decodeRuns n (drop 4 bs) (drop-bytes 4 bs (h .1)) (simp length-drop (omega arith)) in
-    rw (decodeRuns-length n (drop 4 bs), part-back 4 bs (h .1) four, rest, take-append-drop 4 bs, one)
+    let e : suc (length bs) ≡ 5 + 16 * n = due-length (b ∷ bs) l in
+    let long : length (drop 4 bs) ≡ 16 * n = simp length-drop (omega arith) in
+    let rest : arranged (editionBy b) n (encodeRuns (runsTold (editionBy b) n (drop 4 bs))) ≡ drop 4 bs =
+    arranged-runsTold (editionBy b) n (drop 4 bs) (drop-bytes 4 bs (h .1)) long in
+    rw (runsTold-length (editionBy b) n (drop 4 bs), part-back 4 bs (h .1) four, rest, take-append-drop 4 bs, version)
 
 -- ---- the order of runs
 -- what passes the order test is canonical
@@ -283,21 +380,38 @@ canon-words k [] c = tt
 canon-words k (r ∷ rs) c = (omega arith, c .2, canon-words (r .«end» + 2) rs (c .3))
 
 -- ---- what is accepted
--- a written canonical list meets none of the refusals of written sets
-pub encode-accepted : (rs : List Run) → Canon size 0 rs → length rs < 2 ^ 32
-    → (tooShort (encode rs) ≡ false) × (badVersion (encode rs) ≡ false) × (badLength (encode rs) ≡ false) × (disordered (decode (encode rs)) ≡ false)
-unfolding tooShort badVersion badLength disordered
-encode-accepted rs c h =
-    let first : getD (encode rs) 0 0 ≡ 1 = unfold encode in refl in (
-      simp encode-length (le-ltb (5 + 16 * length rs) 5 (omega arith)),
-      rw first,
-      rw (encode-length rs, runsDue-encode rs h, eq-eqb (5 + 16 * length rs) (5 + 16 * length rs) refl),
-      rw (decode-encode rs (canon-words 0 rs c) h, canon-ordered size 0 rs c),
-    )
+-- a written set has its first 5 bytes
+pub encode-long : (e : Edition) (rs : List Run) → tooShort (encode e rs) ≡ false
+unfolding tooShort
+encode-long e rs = simp encode-length (le-ltb (5 + 16 * length rs) 5 (omega arith))
 
--- bytes that meet none are the encoding of the canonical list that is read from them
-pub accepted-encode : (bs : List ℕ) → AllBytes bs → tooShort bs ≡ false → badVersion bs ≡ false → badLength bs ≡ false → disordered (decode bs) ≡ false
-    → (encode (decode bs) ≡ bs) × Canon size 0 (decode bs)
+-- the version of an edition is one that a reader knows
+version-known : (e : Edition) (rs : List Run) → badVersion (encode e rs) ≡ false
+unfolding badVersion encode
+version-known Rows rs = refl
+version-known Columns rs = refl
+
+-- bytes that meet none of the refusals of written sets
+pub record Intact (bs : List ℕ) : Type 0 where
+  pub long : tooShort bs ≡ false
+  pub version : badVersion bs ≡ false
+  pub length-fits : badLength bs ≡ false
+  pub ordered : disordered (decode bs) ≡ false
+
+-- a written canonical list is such
+pub encode-intact : (e : Edition) (rs : List Run) → Canon size 0 rs → length rs < 2 ^ 32 → Intact (encode e rs)
+unfolding badLength disordered
+encode-intact e rs c h = record {
+  long = encode-long e rs;
+  version = version-known e rs;
+  length-fits = rw (encode-length e rs, runsDue-encode e rs h, eq-eqb (5 + 16 * length rs) (5 + 16 * length rs) refl);
+  ordered = rw (decode-encode e rs (canon-words 0 rs c) h, canon-ordered size 0 rs c);
+}
+
+-- and such bytes are the encoding, in their edition, of the canonical list that is read from them
+pub intact-canon : (bs : List ℕ) → AllBytes bs → Intact bs → Canon size 0 (decode bs)
 unfolding disordered
-accepted-encode bs h s v l o =
-    (encode-decode bs h s v l, ordered-canon 0 (decode bs) (decode-words bs h) (not-false (orderedFrom 0 (decode bs)) o))
+intact-canon bs h I = ordered-canon 0 (decode bs) (decode-words bs h) (not-false (orderedFrom 0 (decode bs)) (I .ordered))
+
+pub intact-encode : (bs : List ℕ) → AllBytes bs → Intact bs → encode (editionOf bs) (decode bs) ≡ bs
+intact-encode bs h I = encode-decode bs h (I .long) (I .version) (I .length-fits)

@@ -1,11 +1,13 @@
 -- What the crates above cite of slices, and of maps that were cleared.
 pub mod Slices
 pub mod Clearing
+pub mod Converting
 pub mod After
 pub mod Calc
 pub mod Pools
 pub mod Cases
 pub mod Clip
+pub mod Columns
 pub mod Codec
 pub mod Edit
 pub mod Maps

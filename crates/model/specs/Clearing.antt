@@ -2,22 +2,12 @@
 -- Assumes nothing: these are definitions.
 use mathlib.Core.Bool.{Bool}
 use mathlib.Core.List.{List, [], _∷_}
-use mathlib.Core.Option.{Option, none, some}
 use Prim.Native.Nat.{ℕ}
 use Rattle.model.specs.Bytes.{strayBits, cleared, mapped}
 use Rattle.model.specs.Refusals.{window, _when_, refusal, badWindow, badMap}
-use Rattle.model.specs.Call.{Fed, Result, number, Answer, refused, gave}
+use Rattle.model.specs.Call.{Fed, number}
+use Rattle.model.specs.Handled.{Handled, handle}
 use Rattle.model.specs.Model.{Outcome, positionsOf, changed}
-
--- what a call on a lent slice alone answers, and the whole slice after it
-pub record Handled : Type 0 where
-  pub answer : Answer
-  pub slice : List ℕ
-
--- a refused call answers its number alone, and the slice stays
-abbrev pub handle : Option ℕ → List ℕ → Result → List ℕ → Handled
-handle none bs a cs = record { answer = gave a; slice = cs }
-handle (some n) bs a cs = record { answer = refused n; slice = bs }
 
 -- zeroes the spare bits, and answers how many were one; refused with 6 only
 unfoldable pub clearMap : ℕ → ℕ → List ℕ → Handled

@@ -10,6 +10,7 @@ use interval_bit_set::make;
 use interval_bit_set::report;
 use interval_bit_set::write;
 use model::Completed;
+use model::Edition;
 use model::Listing;
 
 // ---- whole stores
@@ -131,6 +132,27 @@ pub fn clear_map(line: &[u8], at: usize) -> bool {
     true
 }
 
+// Converts into the first n bytes.
+fn convert_to(set: &[u8], space: &mut [u8], n: usize)
+    requires { ⌜ n ≤ length (now space) ⌝ }
+{
+    let w = bytes::convert(set, &mut space[0..n]);
+    answer::written(w, &space[0..n]);
+}
+
+pub fn convert(line: &[u8], at: usize) -> bool {
+    let mut set = [0u8; 1029];
+    let mut space = [0xeeu8; 1029];
+    let b = line::bytes_at(line, at, &mut set);
+    let lent = line::at_most(line, b.next, 1029);
+    let n = b.count;
+    if lent.next != line.len() {
+        return false;
+    }
+    convert_to(&set[..n], &mut space, lent.value as usize);
+    true
+}
+
 // ---- reports
 fn get(store: &[u64], world: u64, line: &[u8], at: usize) -> bool {
     let x = line::number_at(line, at);
@@ -248,20 +270,22 @@ fn fill(store: &[u64], world: u64, line: &[u8], at: usize) -> bool {
 }
 
 // Writes into the first n bytes.
-fn write_set_to(store: &[u64], world: u64, space: &mut [u8], n: usize)
+fn write_set_to(store: &[u64], world: u64, edition: Edition, space: &mut [u8], n: usize)
     requires { ⌜ n ≤ length (now space) ⌝ }
 {
-    let w = write::write_set(store, world, &mut space[0..n]);
+    let w = write::write_set(store, world, edition, &mut space[0..n]);
     answer::written(w, &space[0..n]);
 }
 
 fn write_set(store: &[u64], world: u64, line: &[u8], at: usize) -> bool {
     let mut space = [0xeeu8; 1029];
-    let lent = line::at_most(line, at, 1029);
+    let edition = line::number_at(line, at);
+    let lent = line::at_most(line, edition.next, 1029);
     if lent.next != line.len() {
         return false;
     }
-    write_set_to(store, world, &mut space, lent.value as usize);
+    let e = model::edition_by(edition.value);
+    write_set_to(store, world, e, &mut space, lent.value as usize);
     true
 }
 

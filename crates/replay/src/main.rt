@@ -11,8 +11,8 @@ mod frames;
 mod line;
 mod stores;
 
-// Makes the call of a line and prints its answer, or tells that the line is none: a name, a store or a world but for clear_map, and what
-// the call takes.
+// Makes the call of a line and prints its answer, or tells that the line is none: a name, a store or a world but for clear_map and convert,
+// and what the call takes.
 fn understood(
     words: &mut [u64; 3616],
     lengths: &mut [usize; 4],
@@ -28,6 +28,9 @@ fn understood(
     }
     if check::same(&line[0..e], b"clear_map") {
         return calls::clear_map(line, e + 1);
+    }
+    if check::same(&line[0..e], b"convert") {
+        return calls::convert(line, e + 1);
     }
     if stores::is_whole(&line[0..e]) {
         let s = line::at_most(line, e + 1, 3);

@@ -1,5 +1,5 @@
 -- Numbers as bytes, in parts: the bytes of a number are those of its high part and of its low part, and the value of bytes is that of the
--- first ones, shifted, plus that of the others. So are counts, words and the runs of a written set read and written. Assumes nothing.
+-- first ones, shifted, plus that of the others. So are counts and words read and written. Assumes nothing.
 use Prim.Native.Nat.{ℕ, zero, suc, _+_, _*_, _/_, _%_, _^_, _≤_, _<_}
 use mathlib.Core.Path.{_≡_, refl, sym, ap, _∙_}
 use mathlib.Core.List.{List, [], _∷_, _++_}
@@ -9,10 +9,9 @@ use lib.ListN.{length, take, drop, set, getD, length-drop}
 use lib.Seq.{drop-cons, drop-drop, take-add, length-take-le}
 use mir.Syntax.{w8}
 use mir.Val.{Fits}
-use Rattle.model.specs.Positions.{run}
-use Rattle.model.specs.Bytes.{bigEndian, valueFrom, valueOf, decodeRuns}
+use Rattle.model.specs.Bytes.{bigEndian, valueFrom, valueOf}
 use Rattle.model.proofs.Slices.{all-bytes}
-use Rattle.model.proofs.Codec.{bigEndian-length, bigEndian-bytes, valueFrom-bigEndian, bigEndian-value, drop-bytes, part-bound, decodeRuns-at}
+use Rattle.model.proofs.Codec.{bigEndian-length, bigEndian-bytes, valueFrom-bigEndian, bigEndian-value, drop-bytes, part-bound}
 use Rattle.written.specs.Placed.{placed}
 use Rattle.written.proofs.Placing.{sets-placed, placed-placed}
 
@@ -106,10 +105,3 @@ word-value l i a b h p q =
 -- a count is below 2^32
 pub count-bound : (l : List ℕ) (i a : ℕ) → ((j : ℕ) → Fits w8 (getD l j 0)) → a ≡ valueOf (take 4 (drop i l)) → a < 4294967296
 count-bound l i a f e = omega (arith, part-bound 4 (drop i l) (drop-bytes i l (all-bytes l f)))
-
--- run i of a written set, as the code reads it
-pub set-read : (n : ℕ) (bs : List ℕ) {i at a b : ℕ} → i < n → at ≡ 5 + 16 * i → a ≡ valueOf (take 8 (drop at bs)) → b ≡ valueOf (take 8 (drop (at + 8) bs))
-    → getD (decodeRuns n (drop 5 bs)) i (run 0 0) ≡ run a b
-set-read n bs {i} {at} lt e p q =
-    let f : 5 + (16 * i + 8) ≡ at + 8 = omega arith in
-    decodeRuns-at n (drop 5 bs) i (run 0 0) lt ∙ rw (drop-drop (16 * i) 5 bs, drop-drop (16 * i + 8) 5 bs, ← e, f, ← p, ← q)

@@ -5,3 +5,6 @@ pub mod Listing
 pub mod Telling
 pub mod Writing
 pub mod Placing
+pub mod Apart
+pub mod Spots
+pub mod Strewing

@@ -1,11 +1,11 @@
 -- The laws of putting bytes into a slice: byte by byte, part after part, and from the front. What is put is what a chain of element
 -- writes leaves, so each law is one of such chains. Assumes nothing.
-use Prim.Native.Nat.{ℕ, suc, _+_, _≤_}
+use Prim.Native.Nat.{ℕ, suc, _+_, _-_, _≤_, _<_}
 use mathlib.Core.Path.{_≡_, sym, ap, _∙_}
 use mathlib.Core.List.{List, [], _∷_, _++_, append-assoc}
 use native.Mathlib.Omega.{arith}
-use lib.ListN.{length, take, drop, set, length-append, length-set, take-append-drop}
-use lib.Seq.{sets, length-sets, sets-eq}
+use lib.ListN.{length, take, drop, set, getD, length-append, length-set, take-append-drop, List·getD-append}
+use lib.Seq.{sets, length-sets, sets-eq, length-take-le, getD-take, getD-drop, getD-append-add}
 use Rattle.model.specs.Bytes.{intoFront}
 use Rattle.written.specs.Placed.{placed}
 
@@ -43,6 +43,34 @@ placed-placed i bs cs out h =
     ∙ sym (sets-placed cs (sets out i bs) (i + length bs) (omega (arith, length-sets out i bs)))
     ∙ sets-append bs cs out i
     ∙ sets-placed (bs ++ cs) out i (omega (arith, length-append bs cs))
+
+-- ---- byte by byte
+-- what stands before
+pub placed-before : (i : ℕ) (bs out : List ℕ) (p : ℕ) → p < i → i ≤ length out → getD (placed i bs out) p 0 ≡ getD out p 0
+unfolding placed
+placed-before i bs out p l h =
+    let t : p < length (take i out) = rw (length-take-le i out h) l in
+    List·getD-append (take i out) (bs ++ drop (i + length bs) out) 0 p t ∙ getD-take i out p 0 l
+
+module _ (i : ℕ) (bs out : List ℕ) (p : ℕ) where
+  -- byte p of what is put, and of what stands after
+  placed-from : i ≤ length out → getD (placed i bs out) (i + p) 0 ≡ getD (bs ++ drop (i + length bs) out) p 0
+  unfolding placed
+  placed-from h =
+      let e : i + p ≡ length (take i out) + p = rw (length-take-le i out h) in
+      rw e (getD-append-add (take i out) (bs ++ drop (i + length bs) out) p 0)
+
+  -- what is put
+  pub placed-inside : i ≤ length out → p < length bs → getD (placed i bs out) (i + p) 0 ≡ getD bs p 0
+  placed-inside h l = placed-from h ∙ List·getD-append bs (drop (i + length bs) out) 0 p l
+
+-- what stands after
+pub placed-after : (i : ℕ) (bs out : List ℕ) (p : ℕ) → i + length bs ≤ p → i ≤ length out → getD (placed i bs out) p 0 ≡ getD out p 0
+placed-after i bs out p l h =
+    let e : p ≡ i + (length bs + (p - (i + length bs))) = omega arith in
+    let f : i + length bs + (p - (i + length bs)) ≡ p = omega arith in
+    ap (λ (q : ℕ). getD (placed i bs out) q 0) e ∙ placed-from i bs out (length bs + (p - (i + length bs))) h
+    ∙ getD-append-add bs (drop (i + length bs) out) (p - (i + length bs)) 0 ∙ getD-drop (i + length bs) out (p - (i + length bs)) 0 ∙ rw f
 
 -- put from the start on, they are the front
 pub placed-front : (bs out : List ℕ) → placed 0 bs out ≡ intoFront bs out

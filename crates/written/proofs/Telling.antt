@@ -3,15 +3,16 @@
 -- Assumes nothing.
 use Prim.Native.Nat.{ℕ, _+_, _*_, _≤_, _<_}
 use mathlib.Core.Path.{_≡_, refl, sym, ap, _∙_, subst}
-use mathlib.Core.Bool.{Bool, true, false, not}
+use mathlib.Core.Bool.{Bool, true, false, not, or-true}
 use mathlib.Core.List.{List}
 use mathlib.Core.Option.{some}
 use lib.ListN.{length, take, drop, getD}
 use borrow.Author.Tests.{eq-eqb, ne-eqb, lt-ltb, le-ltb, not-false}
 use Rattle.model.specs.declared.Run.{Run}
+use Rattle.model.specs.declared.Edition.{Edition}
 use Rattle.model.specs.Positions.{stretches, mem}
 use Rattle.model.proofs.Runs.{stretches-is}
-use Rattle.model.specs.Bytes.{valueOf, runsDue, decodeRuns, decode}
+use Rattle.model.specs.Bytes.{valueOf, runsDue, editionBy, editionOf, runsTold, decode}
 use Rattle.model.specs.Refusals.{refusal, tooShort, badVersion, badLength, orderedFrom, disordered, setConditions}
 use Rattle.model.specs.RunList.{AllBytes, AllWords}
 use Rattle.model.proofs.Codec.{decode-length, decode-words, ordered-canon}
@@ -51,21 +52,31 @@ module _ (bs : List ℕ) where
     unfolding tooShort
     long-is = le-ltb (length bs) 5 long
 
-    -- by the version
-    version-not : (getD bs 0 0 ≡ 1 → ⊥) → badVersion bs ≡ true
-    unfolding badVersion
-    version-not h = ap not (ne-eqb (getD bs 0 0) 1 h)
-
-    -- one that is not 1 is refused
-    pub told-version : (getD bs 0 0 ≡ 1 → ⊥) → refusal (setConditions bs) ≡ some 4
-    told-version h = rw (long-is, version-not h)
-
-    module _ (version : getD bs 0 0 ≡ 1) {n : ℕ} (count : n ≡ valueOf (take 4 (drop 1 bs))) where
-      -- the right one
-      version-is : badVersion bs ≡ false
+    module _ {v : ℕ} (read : v ≡ getD bs 0 0) where
+      -- a version that is neither 1 nor 2
+      version-not : (v ≡ 1 → ⊥) → (v ≡ 2 → ⊥) → badVersion bs ≡ true
       unfolding badVersion
-      version-is = ap not (eq-eqb (getD bs 0 0) 1 version)
+      version-not h k = rw (← read, ne-eqb v 1 h, ne-eqb v 2 k)
 
+      -- is refused
+      pub told-version : (v ≡ 1 → ⊥) → (v ≡ 2 → ⊥) → refusal (setConditions bs) ≡ some 4
+      told-version h k = rw (long-is, version-not h k)
+
+      -- 1 is not, nor is 2
+      pub version-one : v ≡ 1 → badVersion bs ≡ false
+      unfolding badVersion
+      version-one h = rw (← read, eq-eqb v 1 h)
+
+      pub version-two : v ≡ 2 → badVersion bs ≡ false
+      unfolding badVersion
+      version-two h = rw (← read, eq-eqb v 2 h, or-true)
+
+      -- it tells the edition
+      pub edition-is : {e : Edition} → e ≡ editionBy v → e ≡ editionOf bs
+      unfolding editionOf
+      edition-is h = h ∙ ap editionBy read
+
+    module _ (version-is : badVersion bs ≡ false) {e : Edition} (edition : e ≡ editionOf bs) {n : ℕ} (count : n ≡ valueOf (take 4 (drop 1 bs))) where
       -- the count is of runs
       due-is : n ≡ runsDue bs
       unfolding runsDue
@@ -74,13 +85,13 @@ module _ (bs : List ℕ) where
       -- by the length that it tells
       length-not : (length bs ≡ 5 + 16 * n → ⊥) → badLength bs ≡ true
       unfolding badLength
-      length-not h = ap not (ne-eqb (length bs) (5 + 16 * runsDue bs) (λ e. h (e ∙ ap (λ k. 5 + 16 * k) (sym due-is))))
+      length-not h = ap not (ne-eqb (length bs) (5 + 16 * runsDue bs) (λ q. h (q ∙ ap (λ k. 5 + 16 * k) (sym due-is))))
 
       -- another one is refused
       pub told-length : (length bs ≡ 5 + 16 * n → ⊥) → refusal (setConditions bs) ≡ some 3
       told-length h = rw (long-is, version-is, length-not h)
 
-      module _ (exact : length bs ≡ 5 + 16 * n) {r : Bool} (tested : r ≡ orderedFrom 0 (decodeRuns n (drop 5 bs))) where
+      module _ (exact : length bs ≡ 5 + 16 * n) {r : Bool} (tested : r ≡ orderedFrom 0 (runsTold e n (drop 5 bs))) where
         -- that one
         length-is : badLength bs ≡ false
         unfolding badLength
@@ -89,17 +100,18 @@ module _ (bs : List ℕ) where
         -- the runs tested are those told
         told-tested : r ≡ orderedFrom 0 (decode bs)
         unfolding decode
-        told-tested = tested ∙ ap (λ k. orderedFrom 0 (decodeRuns k (drop 5 bs))) due-is
+        told-tested = tested ∙ rw (edition, due-is)
 
         -- out of order they are refused
         pub told-order : not r ≡ true → refusal (setConditions bs) ≡ some 5
         told-order h = rw (long-is, version-is, length-is, disorder-is (decode bs) told-tested true h)
 
         -- and else accepted
-        pub told-runs : not r ≡ false → Acceptable bs n
+        pub told-runs : not r ≡ false → Acceptable bs e n
         told-runs h =
             record {
               free = rw (long-is, version-is, length-is, disorder-is (decode bs) told-tested false h);
+              edition = edition;
               due = due-is;
               long = exact;
               ordered = order-is (decode bs) told-tested h;
@@ -107,17 +119,17 @@ module _ (bs : List ℕ) where
 
   -- ---- what is told
   -- runs that are accepted
-  pub told-accepted : {n : ℕ} (t : Parsed) → TellsRuns bs t → t ≡ Parsed.Runs n → Acceptable bs n
+  pub told-accepted : {e : Edition} {n : ℕ} (t : Parsed) → TellsRuns bs t → t ≡ Parsed.Runs e n → Acceptable bs e n
   told-accepted t k e = subst (λ s. TellsRuns bs s) e k
 
-  module _ {n : ℕ} (a : Acceptable bs n) where
+  module _ {e : Edition} {n : ℕ} (a : Acceptable bs e n) where
     -- as the code reads them
-    pub accepted-runs : decodeRuns n (drop 5 bs) ≡ decode bs
+    pub accepted-runs : runsTold e n (drop 5 bs) ≡ decode bs
     unfolding decode
-    accepted-runs = ap (λ k. decodeRuns k (drop 5 bs)) (a .due)
+    accepted-runs = rw (a .edition, a .due)
 
     -- in order
-    pub accepted-order : orderedFrom 0 (decodeRuns n (drop 5 bs)) ≡ true
+    pub accepted-order : orderedFrom 0 (runsTold e n (drop 5 bs)) ≡ true
     accepted-order = ap (orderedFrom 0) accepted-runs ∙ a .ordered
 
     -- as many as their set has

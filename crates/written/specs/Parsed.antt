@@ -5,18 +5,20 @@ use mathlib.Core.Bool.{true}
 use mathlib.Core.List.{List}
 use mathlib.Core.Option.{none, some}
 use lib.ListN.{length}
+use Rattle.model.specs.declared.Edition.{Edition}
 use Rattle.model.specs.Numbers.{refusalNumber}
-use Rattle.model.specs.Bytes.{runsDue, decode}
+use Rattle.model.specs.Bytes.{runsDue, editionOf, decode}
 use Rattle.model.specs.Refusals.{refusal, setConditions, orderedFrom}
 use Rattle.written.specs.declared.set.Parsed.{Parsed}
 
--- bytes that earn no refusal tell n runs in order
-pub record Acceptable (bs : List ℕ) (n : ℕ) : Type 0 where
+-- bytes that earn no refusal tell n runs in order, in the edition e
+pub record Acceptable (bs : List ℕ) (e : Edition) (n : ℕ) : Type 0 where
   pub free : refusal (setConditions bs) ≡ none
+  pub edition : e ≡ editionOf bs
   pub due : n ≡ runsDue bs
   pub long : length bs ≡ 5 + 16 * n
   pub ordered : orderedFrom 0 (decode bs) ≡ true
 
 abbrev pub TellsRuns : List ℕ → Parsed → Type 0
 TellsRuns bs (Parsed.Refused r) = refusal (setConditions bs) ≡ some (refusalNumber r)
-TellsRuns bs (Parsed.Runs n) = Acceptable bs n
+TellsRuns bs (Parsed.Runs e n) = Acceptable bs e n

@@ -1,10 +1,12 @@
-// A world's set as bytes, and back: version byte 1, the number of runs as 4 bytes, then start and end of each run, 8 bytes each.
+// Reading a written set: the version byte, the number of runs as 4 bytes, then start and end of each run, 8 bytes each, as the edition arranges
+// them.
 ghost use mathlib.Core.Path.{_≡_};
 ghost use mathlib.Core.Bool.{true};
-ghost use Prim.Native.Nat.{_+_, _*_, _≤_};
-ghost use lib.ListN.{length, drop};
-ghost use Rattle.model.specs.Positions.{stretches};
-ghost use Rattle.model.specs.Bytes.{decodeRuns};
+ghost use Prim.Native.Nat.{_+_, _*_, _≤_, _<_};
+ghost use lib.ListN.{length, drop, getD};
+ghost use Rattle.model.specs.declared.Edition.the-variants.{Columns};
+ghost use Rattle.model.specs.Positions.{run, stretches};
+ghost use Rattle.model.specs.Bytes.{runsTold};
 ghost use Rattle.model.specs.Refusals.{orderedFrom};
 ghost use Rattle.run_index.specs.Strung.{Fillable};
 ghost use Rattle.store.specs.Layout.{heldIn};
@@ -12,13 +14,46 @@ ghost use Rattle.store.specs.Soundness.{Stands};
 ghost use Rattle.store.specs.Settle.{Lays};
 ghost use Rattle.written.specs.Listed.{Receives, Received};
 ghost use Rattle.written.specs.Parsed.{TellsRuns};
+use model::Edition;
 use model::Refusal;
+use model::Run;
 use store::World;
 
-// What bytes are as a written set: the refusal that they earn by themselves, or how many runs they tell.
+// What bytes are as a written set: the refusal that they earn by themselves, or their edition and how many runs they tell.
 pub enum Parsed {
     Refused(Refusal),
-    Runs(u64),
+    Runs(Edition, u64),
+}
+
+// Run i of the n runs that bytes tell from the fifth on, by columns. It stands alone: in one function with the other edition the compiler reads both
+// byte by byte.
+fn column_told(bytes: &[u8], n: u64, i: u64) -> Run
+    requires { ⌜ (5 + 16 * n ≤ length (now bytes)) × (i < n) ⌝ }
+    ensures { λ r. ⌜ r ≡ getD (runsTold Columns n (drop 5 (now (bytes .entry)))) i (run 0 0) ⌝ }
+{
+    let at = (5 + i) as usize;
+    let step = n as usize;
+    Run {
+        start: crate::numbers::get_apart(bytes, at, step),
+        end: crate::numbers::get_apart(bytes, at + 8 * step, step),
+    }
+}
+
+// The same in either edition.
+pub fn run_told(bytes: &[u8], edition: Edition, n: u64, i: u64) -> Run
+    requires { ⌜ (5 + 16 * n ≤ length (now bytes)) × (i < n) ⌝ }
+    ensures { λ r. ⌜ r ≡ getD (runsTold edition n (drop 5 (now (bytes .entry)))) i (run 0 0) ⌝ }
+{
+    match edition {
+        Edition::Rows => {
+            let at = (5 + 16 * i) as usize;
+            Run {
+                start: crate::numbers::get_word(bytes, at),
+                end: crate::numbers::get_word(bytes, at + 8),
+            }
+        }
+        Edition::Columns => column_told(bytes, n, i),
+    }
 }
 
 pub fn runs_told(bytes: &[u8]) -> Parsed
@@ -27,17 +62,19 @@ pub fn runs_told(bytes: &[u8]) -> Parsed
     if bytes.len() < 5 {
         return Parsed::Refused(Refusal::SetLength);
     }
-    if bytes[0] != 1 {
+    let version = bytes[0] as u64;
+    if version != 1 && version != 2 {
         return Parsed::Refused(Refusal::SetVersion);
     }
+    let e = model::edition_by(version);
     let n = crate::numbers::get_count(bytes, 1);
     if bytes.len() as u64 != 5 + 16 * n {
         return Parsed::Refused(Refusal::SetLength);
     }
-    if !in_order(bytes, n) {
+    if !in_order(bytes, e, n) {
         return Parsed::Refused(Refusal::RunOrder);
     }
-    Parsed::Runs(n)
+    Parsed::Runs(e, n)
 }
 
 // How many bytes n runs need.
@@ -57,51 +94,45 @@ pub fn run_count(words: &[u64], h: World) -> u64
 }
 
 // Whether the n runs that bytes tell from the fifth on are in order.
-pub fn in_order(bytes: &[u8], n: u64) -> bool
+pub fn in_order(bytes: &[u8], edition: Edition, n: u64) -> bool
     requires { ⌜ 5 + 16 * n ≤ length (now bytes) ⌝ }
-    ensures { λ r. ⌜ r ≡ orderedFrom 0 (decodeRuns n (drop 5 (now (bytes .entry)))) ⌝ }
+    ensures { λ r. ⌜ r ≡ orderedFrom 0 (runsTold edition n (drop 5 (now (bytes .entry)))) ⌝ }
 {
     let mut i: u64 = 0;
-    let mut at: usize = 5;
     let mut last: u64 = 0;
     while i < n {
-        let start = crate::numbers::get_word(bytes, at);
-        let end = crate::numbers::get_word(bytes, at + 8);
-        if !crate::list::follows(i == 0, last, start, end) {
+        let r = run_told(bytes, edition, n, i);
+        if !crate::list::follows(i == 0, last, r.start, r.end) {
             return false;
         }
-        last = end;
-        at += 16;
+        last = r.end;
         i += 1;
     }
     true
 }
 
 // Lays the n runs that bytes tell into the free chain from `head` on.
-pub fn put_runs(into: &mut [u64], head: u64, bytes: &[u8], n: u64)
+pub fn put_runs(into: &mut [u64], head: u64, bytes: &[u8], edition: Edition, n: u64)
     requires { ⌜ Fillable (now into) head n ⌝ }
     requires { ⌜ 5 + 16 * n ≤ length (now bytes) ⌝ }
-    ensures { λ _. ⌜ Lays (now (into .entry)) (now (into .exit)) head n (decodeRuns n (drop 5 (now (bytes .entry)))) ⌝ }
+    ensures { λ _. ⌜ Lays (now (into .entry)) (now (into .exit)) head n (runsTold edition n (drop 5 (now (bytes .entry)))) ⌝ }
 {
     let mut i: u64 = 0;
-    let mut at: usize = 5;
     let mut node = head;
     while i < n {
-        let start = crate::numbers::get_word(bytes, at);
-        let end = crate::numbers::get_word(bytes, at + 8);
-        node = run_index::chains::lay_run(into, node, start, end);
+        let r = run_told(bytes, edition, n, i);
+        node = run_index::chains::lay_run(into, node, r.start, r.end);
         i += 1;
-        at += 16;
     }
 }
 
 // Gives a world the n runs that bytes tell, which are in order, whatever it held.
-pub fn load(into: &mut [u64], h: World, bytes: &[u8], n: u64) -> World
+pub fn load(into: &mut [u64], h: World, bytes: &[u8], edition: Edition, n: u64) -> World
     requires { ⌜ Receives (now into) h n ⌝ }
-    requires { ⌜ (5 + 16 * n ≤ length (now bytes)) × (orderedFrom 0 (decodeRuns n (drop 5 (now bytes))) ≡ true) ⌝ }
-    ensures { λ r. ⌜ Received (now (into .entry)) (now (into .exit)) h n r (decodeRuns n (drop 5 (now (bytes .entry)))) ⌝ }
+    requires { ⌜ (5 + 16 * n ≤ length (now bytes)) × (orderedFrom 0 (runsTold edition n (drop 5 (now bytes))) ≡ true) ⌝ }
+    ensures { λ r. ⌜ Received (now (into .entry)) (now (into .exit)) h n r (runsTold edition n (drop 5 (now (bytes .entry)))) ⌝ }
 {
     let k = store::free::give_back(into, store::links_of(h));
-    put_runs(into, k.free, bytes, n);
+    put_runs(into, k.free, bytes, edition, n);
     store::refresh::link(into, k, n)
 }

@@ -3,10 +3,10 @@
 
 use super::measure::{Figures, Progress, Sides, Times, both, in_turn, nanos, number};
 use super::work::{self, Pair};
-use crate::SetBuf;
 use crate::differential::random::Random;
 use crate::differential::reference::Run;
 use crate::oracle::IntervalBitSet;
+use crate::{Edition, SetBuf};
 
 const LABELS: &[&str] = &["write", "load", "write_map", "write_map_by_bytes", "read_map", "read_map_by_bytes"];
 const MAPS: &[&str] = LABELS.split_at(2).1;
@@ -87,7 +87,7 @@ fn written(size: usize, random: &mut Random) -> [Times; 2] {
         let mut length = 0;
         times[0].push(both(
             repetition,
-            || nanos(|| length = pair.ours.write(&mut out).expect(DONE).len()),
+            || nanos(|| length = pair.ours.write(Edition::Rows, &mut out).expect(DONE).len()),
             || nanos(|| write(&pair.theirs, &mut plain)),
         ));
         assert!(out[..length] == plain[..], "the written sets differ");

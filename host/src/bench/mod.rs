@@ -3,6 +3,7 @@
 //! What a side answers is compared with the other's outside the timed part, so a wrong answer ends the run.
 
 mod bytes;
+mod editions;
 #[cfg(feature = "bench_store")]
 mod gaps;
 mod lists;
@@ -39,6 +40,18 @@ pub fn run_maps() {
     println!("load {} after", load());
 }
 
+fn tell_editions(progress: &Progress) {
+    println!("## Editions of written sets\n");
+    editions::tell(&editions::measure(progress));
+}
+
+/// Measures the editions of written sets and the converter alone, and prints Markdown.
+pub fn run_editions() {
+    println!("load {} before\n", load());
+    tell_editions(&Progress::begin());
+    println!("load {} after", load());
+}
+
 /// Measures everything, prints Markdown, and draws the ratios into a file.
 pub fn run(plot: &str) {
     let progress = Progress::begin();
@@ -58,6 +71,7 @@ pub fn run(plot: &str) {
     println!("## Written sets and maps\n");
     let bytes = bytes::measure(&progress);
     bytes::tell(&bytes);
+    tell_editions(&progress);
     #[cfg(target_arch = "x86_64")]
     {
         println!("## Stack\n");

@@ -219,9 +219,13 @@ fn measure_on(painted: &mut Painted, physical: &[Run], offset: u64, shape: Shape
     on_stack!(painted, vizturel_not(s, n, 0, p, n, i));
 
     let mut bytes = vec![0; 5 + 16 * CAPACITY];
-    on_stack!(painted, vizturel_write(p, n, i, bytes.as_mut_ptr(), bytes.len()));
+    let mut other = bytes.clone();
     let written = 5 + 16 * runs.len();
-    on_stack!(painted, vizturel_load(s, n, 0, bytes.as_ptr(), written));
+    for edition in [1, 2] {
+        on_stack!(painted, vizturel_write(p, n, i, edition, bytes.as_mut_ptr(), bytes.len()));
+        on_stack!(painted, vizturel_load(s, n, 0, bytes.as_ptr(), written));
+        on_stack!(painted, vizturel_convert(bytes.as_ptr(), written, other.as_mut_ptr(), other.len()));
+    }
     let list = runs.as_flattened();
     on_stack!(painted, vizturel_build(s, n, 0, list.as_ptr(), list.len()));
     let limits = [limit; WORLDS];

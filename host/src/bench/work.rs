@@ -6,7 +6,7 @@
 use crate::differential::random::Random;
 use crate::differential::reference::{self, Run};
 use crate::oracle::IntervalBitSet;
-use crate::{SetBuf, Tally, frame};
+use crate::{Edition, SetBuf, Tally, frame};
 
 const CELL: u64 = 1024;
 // Below and above the cells lie more positions than any shift moves.
@@ -69,9 +69,9 @@ impl Pair {
     /// Stops where the two sides do not hold the same positions.
     pub fn compare(&self) {
         let runs: Vec<Run> = self.theirs.ranges(.., true).map(|r| [*r.start() as u64, *r.end() as u64]).collect();
-        let due = reference::encode(&runs);
+        let due = reference::encode(Edition::Rows, &runs);
         let mut out = vec![0; due.len()];
-        let written = self.ours.write(&mut out).expect("a sound pool");
+        let written = self.ours.write(Edition::Rows, &mut out).expect("a sound pool");
         assert!(*written == due[..], "the two sides do not hold the same positions");
     }
 }

@@ -43,6 +43,7 @@ fn fits(call: &Call) -> bool {
         Call::Load { bytes, .. } => bytes.len() <= SLICE,
         Call::Build { runs, .. } => runs.len() <= CAPACITY,
         Call::ReadMap { map, .. } | Call::ClearMap { map, .. } => map.len() <= MAP,
+        Call::Convert { bytes, room } => bytes.len() <= SLICE && *room <= SLICE,
         Call::Write { room, .. } | Call::WriteMap { room, .. } => *room <= SLICE,
         Call::Frame { calls, room, .. } => {
             [calls.len(), *room].iter().all(|n| n % records::WORDS == 0 && n / records::WORDS <= CALLS)
@@ -108,10 +109,16 @@ impl List {
         self.call(&Call::Build { to, runs: runs.to_vec() });
     }
 
-    // Adds the writing of a world's set, just as long as is due.
+    // Adds what the readers of a written set make of bytes: load, and convert into a slice of as many.
+    fn read(&mut self, to: Place, bytes: Vec<u8>) {
+        self.call(&Call::Load { to, bytes: bytes.clone() });
+        self.call(&Call::Convert { room: bytes.len(), bytes });
+    }
+
+    // Adds the writing of a world's set in edition 1, just as long as is due.
     fn show(&mut self, at: Place) {
         let room = 5 + 16 * self.expected.stores[at.store].runs(at.world).len();
-        self.call(&Call::Write { at, room });
+        self.call(&Call::Write { at, edition: 1, room });
     }
 
     // The same of every world of a store.

@@ -77,6 +77,7 @@ pub fn read<'a>(lines: &mut impl Iterator<Item = &'a str>) -> Option<Call> {
     let mut w = Words(lines.next()?.split(' '));
     let call = match w.word()? {
         "clear_map" => Call::ClearMap { base: w.number()?, n: w.number()?, map: w.bytes()? },
+        "convert" => Call::Convert { bytes: w.bytes()?, room: w.number()? },
         "words" => Call::Lend { at: w.number()?, words: crate::room(w.number()?) },
         "spoil" => Call::Poke { at: w.number()?, word: SPARE, value: 1 },
         "new" => Call::New { to: w.number()?, limits: w.pairs()?.into_flattened() },
@@ -115,7 +116,7 @@ fn at_world(name: &str, at: Place, w: &mut Words) -> Option<Call> {
         "eq" => Call::Equal { a: at, b: w.place()? },
         "load" => Call::Load { to: at, bytes: w.bytes()? },
         "build" => Call::Build { to: at, runs: w.pairs()? },
-        "write_set" => Call::Write { at, room: w.number()? },
+        "write_set" => Call::Write { at, edition: w.number()?, room: w.number()? },
         "read_map" => Call::ReadMap { at, base: w.number()?, n: w.number()?, map: w.bytes()? },
         "write_map" => Call::WriteMap { at, base: w.number()?, n: w.number()?, room: w.number()? },
         "fill" => Call::Fill { at, base: w.number()?, n: w.number()? },
@@ -185,7 +186,8 @@ pub fn write(call: &Call) -> String {
         Call::Equal { a, b } => format!("eq {a} {b}"),
         Call::Load { to, ref bytes } => format!("load {to} {}", digits(bytes)),
         Call::Build { to, ref runs } => format!("build {to} {}", pairs(runs)),
-        Call::Write { at, room } => format!("write_set {at} {room}"),
+        Call::Convert { ref bytes, room } => format!("convert {} {room}", digits(bytes)),
+        Call::Write { at, edition, room } => format!("write_set {at} {edition} {room}"),
         Call::ReadMap { at, base, n, ref map } => format!("read_map {at} {base} {n} {}", digits(map)),
         Call::ClearMap { base, n, ref map } => format!("clear_map {base} {n} {}", digits(map)),
         Call::WriteMap { at, base, n, room } => format!("write_map {at} {base} {n} {room}"),

@@ -153,8 +153,15 @@ pub enum Call {
         n: u64,
         map: Vec<u8>,
     },
+    /// About no store: the set that bytes tell, in the other edition.
+    Convert {
+        bytes: Vec<u8>,
+        room: usize,
+    },
+    /// The edition by its number, as C names it, which may be any.
     Write {
         at: Place,
+        edition: u64,
         room: usize,
     },
     WriteMap {

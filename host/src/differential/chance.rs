@@ -7,7 +7,7 @@ use super::expected::{Expected, Store};
 use super::random::Random;
 use super::records::{self, Record};
 use super::reference::{self, Limit, Run, WORLDS};
-use super::{HALF, Plan};
+use super::{EDITIONS, HALF, Plan};
 use crate::{Listing, Operation};
 
 /// The kinds of calls.
@@ -36,12 +36,13 @@ pub enum Kind {
     Build,
     ReadMap,
     ClearMap,
+    Convert,
     Write,
     WriteMap,
 }
 
 /// Every kind but [`Kind::Empty`], which is a build.
-pub const KINDS: [Kind; 23] = [
+pub const KINDS: [Kind; 24] = [
     Kind::Get,
     Kind::RunAt,
     Kind::Find,
@@ -55,6 +56,7 @@ pub const KINDS: [Kind; 23] = [
     Kind::Write,
     Kind::WriteMap,
     Kind::ClearMap,
+    Kind::Convert,
     Kind::Combine,
     Kind::Not,
     Kind::Shifted,
@@ -181,6 +183,20 @@ pub fn spoil(random: &mut Random, bytes: &mut Vec<u8>) {
     }
 }
 
+/// Runs as a written set of either edition; now and then spoiled.
+pub fn written(random: &mut Random, runs: &[Run]) -> Vec<u8> {
+    let mut bytes = reference::encode(random.one_of(&EDITIONS), runs);
+    if random.once_in(4) {
+        spoil(random, &mut bytes);
+    }
+    bytes
+}
+
+// The number of an edition: now and then one that names none.
+fn edition(random: &mut Random) -> u64 {
+    if random.once_in(8) { random.one_of(&[0, 3, 258, 1 << 32, HALF + 2, u64::MAX]) } else { 1 + random.below(2) }
+}
+
 // How long an output slice is: mostly long enough.
 fn slice_room(random: &mut Random, due: usize) -> usize {
     if random.once_in(8) { random.below(due as u64 + 2) as usize } else { due + random.below(4) as usize }
@@ -298,11 +314,13 @@ pub fn call(random: &mut Random, stores: &[Store], kind: Kind, at: Place) -> Cal
         }
         Kind::Fill => Call::Fill { at, base: position(random, runs), n: window(random) },
         Kind::Load => {
-            let mut bytes = reference::encode(&run_list(random, beside));
-            if random.once_in(4) {
-                spoil(random, &mut bytes);
-            }
-            Call::Load { to: at, bytes }
+            let runs = run_list(random, beside);
+            Call::Load { to: at, bytes: written(random, &runs) }
+        }
+        Kind::Convert => {
+            let runs = run_list(random, beside);
+            let bytes = written(random, &runs);
+            Call::Convert { room: slice_room(random, bytes.len()), bytes }
         }
         Kind::Build => Call::Build { to: at, runs: run_list(random, beside) },
         Kind::ReadMap => {
@@ -313,7 +331,7 @@ pub fn call(random: &mut Random, stores: &[Store], kind: Kind, at: Place) -> Cal
             let n = window(random);
             Call::ClearMap { base: position(random, runs), n, map: map(random, n) }
         }
-        Kind::Write => Call::Write { at, room: slice_room(random, 5 + 16 * runs.len()) },
+        Kind::Write => Call::Write { at, edition: edition(random), room: slice_room(random, 5 + 16 * runs.len()) },
         Kind::WriteMap => {
             let n = window(random);
             let room = slice_room(random, n.min(600_000).div_ceil(8) as usize);
@@ -491,7 +509,7 @@ const MOODS: [&[Kind]; 8] = [
     &[Kind::Set, Kind::Flip],
     &[Kind::Shift, Kind::Shift, Kind::Set],
     &[Kind::Combine, Kind::Not, Kind::Shifted, Kind::Set],
-    &[Kind::Load, Kind::Build, Kind::Write, Kind::Set],
+    &[Kind::Load, Kind::Build, Kind::Write, Kind::Convert, Kind::Set],
     &[Kind::ReadMap, Kind::WriteMap, Kind::ClearMap, Kind::Fill, Kind::Shift],
     &[Kind::Ranges, Kind::Draw, Kind::Select, Kind::Set],
     &[Kind::Gap, Kind::Gap, Kind::Set, Kind::Shift],

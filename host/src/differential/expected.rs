@@ -322,7 +322,7 @@ impl Expected {
             }
             Call::Load { to, ref bytes } => {
                 self.read(&[to])?;
-                let runs = reference::decode(bytes)?;
+                let (_, runs) = reference::decode(bytes)?;
                 self.hold(to, oracle_of(&runs))
             }
             Call::Build { to, ref runs } => {
@@ -362,9 +362,11 @@ impl Expected {
                 let mut cleared = map.clone();
                 Ok(Told::Cleared(reference::clear(n, &mut cleared), cleared))
             }
-            Call::Write { at, room } => {
+            Call::Convert { ref bytes, room } => slice(room, reference::converted(bytes)?),
+            // The oracle's ranges, encoded apart from the library.
+            Call::Write { at, edition, room } => {
                 self.read(&[at])?;
-                slice(room, reference::encode(self.stores[at.store].runs(at.world)))
+                slice(room, reference::encode(reference::edition(edition), self.stores[at.store].runs(at.world)))
             }
             Call::WriteMap { at, base, n, room } => {
                 let p = self.set(at)?;

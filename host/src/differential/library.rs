@@ -113,9 +113,18 @@ impl Library {
                     told => Ok(Told::Cleared(told?, cleared)),
                 }
             }
-            Call::Write { at, room } => {
+            Call::Convert { ref bytes, room } => {
                 let mut out = vec![STALE; room];
-                let filled = self.lent(at).write(&mut out).map(|part| part.len());
+                let filled = crate::convert(bytes, &mut out).map(|part| part.len());
+                written(filled, out, STALE, Told::Slice)
+            }
+            Call::Write { at, edition, room } => {
+                let mut out = vec![STALE; room];
+                let w = &self.stores[at.store];
+                let to = out.as_mut_ptr();
+                // SAFETY: as of every call in the crate's root. By number, so that one that names no edition can be handed in.
+                let told = unsafe { raw::vizturel_write(w.as_ptr(), w.len(), at.world, edition, to, room) };
+                let filled = crate::number(told).map(|bytes| bytes as usize);
                 written(filled, out, STALE, Told::Slice)
             }
             Call::WriteMap { at, base, n, room } => {

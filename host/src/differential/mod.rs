@@ -21,6 +21,8 @@ use calls::{Call, Told};
 use reference::{Limit, Run};
 use sides::Sides;
 
+use crate::Edition;
+
 /// The last position, and the first of the upper half.
 pub const M: u64 = u64::MAX;
 pub const HALF: u64 = 1 << 63;
@@ -35,6 +37,9 @@ pub const WRITTEN: [&[Run]; 7] = [
     &[[0, HALF - 1], [HALF + 1, M]],
     &[[1, 1], [3, 3], [5, 255], [257, M - 2]],
 ];
+
+/// How they are written.
+pub const EDITIONS: [Edition; 2] = [Edition::Rows, Edition::Columns];
 
 /// How much is run.
 #[derive(Clone, Copy, Debug)]

@@ -7,8 +7,8 @@ use super::chance::{self, KINDS, Kind, Wander};
 use super::random::Random;
 use super::records;
 use super::reference::{self, Draft, Limit, Run, Shape, WORLDS, node_at, record_at};
-use super::{Difference, HALF, M, Options, Plan, Score, Sequence, WRITTEN};
-use crate::Operation;
+use super::{Difference, EDITIONS, HALF, M, Options, Plan, Score, Sequence, WRITTEN};
+use crate::{Edition, Operation};
 
 type Outcome = Result<(), Difference>;
 
@@ -237,7 +237,8 @@ fn share(score: &mut Score, plan: Plan, [here, beside]: [usize; 2]) -> Outcome {
     let map = vec![0x55 & ((1_u16 << (2 * here)) - 1) as u8, if here > 4 { 1 << (2 * (here - 5)) } else { 0 }];
     for call in [
         Call::Build { to: HERE, runs: singles(here) },
-        Call::Load { to: HERE, bytes: reference::encode(&singles(here)) },
+        Call::Load { to: HERE, bytes: reference::encode(Edition::Rows, &singles(here)) },
+        Call::Load { to: HERE, bytes: reference::encode(Edition::Columns, &singles(here)) },
         Call::ReadMap { at: HERE, base: 0, n: 16, map },
         Call::Combine { to: HERE, op: Operation::And, a: set, b: set },
         Call::Not { to: HERE, a: complement },
@@ -513,7 +514,7 @@ pub fn wrong_lengths(score: &mut Score, options: Options) -> Outcome {
             Call::Not { to: at, a },
             Call::Shifted { to: at, a, distance: 3, left: true },
             Call::Load { to: at, bytes: vec![] },
-            Call::Load { to: at, bytes: vec![2, 0, 0, 0, 0] },
+            Call::Load { to: at, bytes: vec![3, 0, 0, 0, 0] },
             Call::Build { to: at, runs: vec![[4, 3]] },
             Call::Build { to: at, runs: singles(3) },
             Call::ReadMap { at, base: 0, n: 0, map: vec![] },
@@ -521,7 +522,8 @@ pub fn wrong_lengths(score: &mut Score, options: Options) -> Outcome {
             Call::ReadMap { at, base: 0, n: 8, map: vec![0x55] },
             Call::Fill { at, base: 0, n: 0 },
             Call::Gap { at, range: (Bound::Unbounded, Bound::Unbounded), n: 0 },
-            Call::Write { at, room: 0 },
+            Call::Write { at, edition: 1, room: 0 },
+            Call::Write { at, edition: 2, room: 0 },
             Call::WriteMap { at, base: M, n: 2, room: 0 },
             Call::Frame { at: 0, calls: vec![0, 0, 5, 0, 0, 0, 0, at.world], room: 8 },
             Call::Frame { at: 0, calls: vec![13, 0, 5, 0, 0, 0, 0, at.world], room: 7 },
@@ -533,37 +535,62 @@ pub fn wrong_lengths(score: &mut Score, options: Options) -> Outcome {
     Ok(())
 }
 
-/// Written sets cut, lengthened and with each byte changed; run lists in every order.
+// Converts bytes into a slice of so much room and, where they are a written set, what that gives back again.
+fn convert_twice(score: &mut Score, s: &mut Sequence, bytes: Vec<u8>, room: usize) -> Outcome {
+    let other = reference::converted(&bytes);
+    s.call(score, Call::Convert { bytes, room })?;
+    match other {
+        Ok(bytes) => s.call(score, Call::Convert { bytes, room }),
+        Err(_) => Ok(()),
+    }
+}
+
+// A written set cut and lengthened, and with each byte given each value.
+fn damaged(written: &[u8]) -> impl Iterator<Item = Vec<u8>> {
+    let cut = (0..written.len() + 34).map(|length| {
+        let mut bytes = written.to_vec();
+        bytes.resize(length, 0);
+        bytes
+    });
+    let changed = (0..written.len()).flat_map(|i| (0..=255).map(move |value| (i, value)));
+    cut.chain(changed.map(|(i, value)| {
+        let mut bytes = written.to_vec();
+        bytes[i] = value;
+        bytes
+    }))
+}
+
+/// Written sets of both editions cut, lengthened and with each byte changed, loaded and converted; run lists in every order.
 pub fn damaged_bytes(score: &mut Score, options: Options) -> Outcome {
     score.begin("damaged written sets");
     let mut random = Random::new(options.seed ^ 0xB7);
-    for runs in WRITTEN {
-        let written = reference::encode(runs);
+    for (runs, edition) in WRITTEN.into_iter().flat_map(|runs| EDITIONS.map(|edition| (runs, edition))) {
+        let written = reference::encode(edition, runs);
         for capacity in 1..=4 {
             let mut s = Sequence::alone(&[capacity]);
             s.call(score, Call::Set { at: HERE, range: (Bound::Included(7), Bound::Unbounded), value: true })?;
-            for length in 0..written.len() + 34 {
-                let mut bytes = written.clone();
-                bytes.resize(length, 0);
+            for bytes in damaged(&written) {
                 s.call(score, Call::Load { to: HERE, bytes })?;
             }
-            for i in 0..written.len() {
-                for value in 0..=255 {
-                    let mut bytes = written.clone();
-                    bytes[i] = value;
-                    s.call(score, Call::Load { to: HERE, bytes })?;
-                }
-            }
             for room in 0..5 + 16 * capacity + 3 {
-                s.call(score, Call::Write { at: HERE, room })?;
+                s.call(score, Call::Write { at: HERE, edition: edition as u64, room })?;
             }
+        }
+        let mut s = Sequence::alone(&[1]);
+        for bytes in damaged(&written) {
+            convert_twice(score, &mut s, bytes, written.len() + 3)?;
+        }
+        for room in 0..written.len() + 3 {
+            convert_twice(score, &mut s, written.clone(), room)?;
         }
     }
     // The version is told before a length that is no set's, and after one below 5.
     let mut s = Sequence::alone(&[2]);
     for length in 0..24 {
-        for version in [0, 1, 2, 255] {
-            s.call(score, Call::Load { to: HERE, bytes: vec![version; length] })?;
+        for version in [0, 1, 2, 3, 255] {
+            let bytes = vec![version; length];
+            s.call(score, Call::Convert { bytes: bytes.clone(), room: 40 })?;
+            s.call(score, Call::Load { to: HERE, bytes })?;
         }
     }
     score.begin("run lists in every order");
@@ -573,17 +600,23 @@ pub fn damaged_bytes(score: &mut Score, options: Options) -> Outcome {
         let runs = vec![[x[0], x[1]], [x[2], x[3]]];
         for capacity in 1..=2 {
             let mut s = Sequence::alone(&[capacity]);
-            s.call(score, Call::Load { to: HERE, bytes: reference::encode(&runs) })?;
-            s.call(score, Call::Build { to: HERE, runs: Vec::new() })?;
+            for edition in EDITIONS {
+                let bytes = reference::encode(edition, &runs);
+                convert_twice(score, &mut s, bytes.clone(), bytes.len())?;
+                s.call(score, Call::Load { to: HERE, bytes })?;
+                s.call(score, Call::Build { to: HERE, runs: Vec::new() })?;
+            }
             s.call(score, Call::Build { to: HERE, runs: runs.clone() })?;
         }
     }
     for _ in 0..40_000 / options.stride {
         let mut s = Sequence::alone(&[1 + random.below(5) as usize]);
-        let mut bytes = reference::encode(&some_runs(&mut random, 6));
+        let mut bytes = reference::encode(random.one_of(&EDITIONS), &some_runs(&mut random, 6));
         for _ in 0..random.below(3) {
             chance::spoil(&mut random, &mut bytes);
         }
+        let room = bytes.len() + random.below(4) as usize;
+        convert_twice(score, &mut s, bytes.clone(), room)?;
         s.call(score, Call::Load { to: HERE, bytes })?;
     }
     Ok(())
@@ -721,8 +754,14 @@ pub fn large(score: &mut Score, options: Options) -> Outcome {
     let mut s = Sequence::alone(&[LARGEST as usize, LARGEST as usize, 3]);
     let [second, third] = [1, 2].map(Place::first);
     s.call(score, Call::Build { to: HERE, runs: runs.clone() })?;
-    s.call(score, Call::Load { to: second, bytes: reference::encode(&runs) })?;
-    s.call(score, Call::Equal { a: HERE, b: second })?;
+    for edition in EDITIONS {
+        let bytes = reference::encode(edition, &runs);
+        let room = bytes.len();
+        convert_twice(score, &mut s, bytes.clone(), room)?;
+        s.call(score, Call::Load { to: second, bytes })?;
+        s.call(score, Call::Equal { a: HERE, b: second })?;
+        s.call(score, Call::Write { at: HERE, edition: edition as u64, room })?;
+    }
     s.call(score, Call::Not { to: second, a: HERE })?;
     s.call(score, Call::Set { at: HERE, range: (Bound::Included(M - 3), Bound::Included(M - 3)), value: true })?;
     s.call(score, Call::Shift { at: HERE, distance: 5 << 40, left: true })?;
@@ -731,7 +770,7 @@ pub fn large(score: &mut Score, options: Options) -> Outcome {
         s.call(score, Call::Combine { to: third, op, a: HERE, b: second })?;
     }
     s.call(score, Call::Combine { to: second, op: Operation::Xor, a: HERE, b: third })?;
-    s.call(score, Call::Write { at: second, room: 5 + 16 * LARGEST as usize })?;
+    s.call(score, Call::Write { at: second, edition: 1, room: 5 + 16 * LARGEST as usize })?;
     few_draws(score, &mut s, &mut random)?;
     score.begin("the largest capacity, shared by 16 worlds");
     // One may have all that the floors of the others leave: half of it.
@@ -745,7 +784,8 @@ pub fn large(score: &mut Score, options: Options) -> Outcome {
     }
     for world in 1..WORLDS as u64 {
         let to = Place { store: 0, world };
-        s.call(score, Call::Load { to, bytes: reference::encode(&runs[..each as usize]) })?;
+        let bytes = reference::encode(EDITIONS[world as usize % 2], &runs[..each as usize]);
+        s.call(score, Call::Load { to, bytes })?;
         s.call(score, Call::Set { at: to, range: (Bound::Included(M), Bound::Unbounded), value: true })?;
     }
     s.call(score, Call::Set { at: HERE, range: (Bound::Included(M), Bound::Unbounded), value: true })?;
@@ -763,7 +803,9 @@ pub fn large(score: &mut Score, options: Options) -> Outcome {
             s.call(score, Call::Combine { to: second, op: Operation::Or, a: HERE, b: HERE })?;
             s.call(score, Call::Equal { a: HERE, b: second })?;
             s.call(score, Call::Not { to: second, a: HERE })?;
-            s.call(score, Call::Write { at: HERE, room: 6 + 16 * LARGEST as usize })?;
+            for edition in [1, 2] {
+                s.call(score, Call::Write { at: HERE, edition, room: 6 + 16 * LARGEST as usize })?;
+            }
             few_draws(score, &mut s, &mut random)?;
             // Runs taken from the shallow side, so that the balance is mended all the way up.
             for i in 0..20 {

@@ -7,7 +7,7 @@
 
 use super::calls::{Range, ends_of};
 use super::random::Random;
-use crate::Refusal;
+use crate::{Edition, Refusal};
 
 /// A run: start and end, both in it.
 pub type Run = [u64; 2];
@@ -201,30 +201,52 @@ pub fn free_runs(runs: &[Run], range: Range) -> Vec<Run> {
     free
 }
 
-/// The written set of runs.
-pub fn encode(runs: &[Run]) -> Vec<u8> {
-    let mut bytes = vec![1];
+/// The edition that a number stands for where a set is written: 2 for columns, any other for rows.
+pub fn edition(number: u64) -> Edition {
+    if number == 2 { Edition::Columns } else { Edition::Rows }
+}
+
+// Byte j of a run's sixteen.
+fn byte(run: &Run, j: usize) -> u8 {
+    run[j / 8].to_be_bytes()[j % 8]
+}
+
+/// The written set of runs, byte by byte.
+pub fn encode(edition: Edition, runs: &[Run]) -> Vec<u8> {
+    let mut bytes = vec![edition as u8];
     bytes.extend((runs.len() as u32).to_be_bytes());
-    for number in runs.as_flattened() {
-        bytes.extend(number.to_be_bytes());
+    match edition {
+        Edition::Rows => bytes.extend(runs.iter().flat_map(|run| (0..16).map(|j| byte(run, j)))),
+        Edition::Columns => bytes.extend((0..16).flat_map(|j| runs.iter().map(move |run| byte(run, j)))),
     }
     bytes
 }
 
-/// The runs of a written set.
-pub fn decode(bytes: &[u8]) -> Result<Vec<Run>, Refusal> {
+/// The edition and the runs of a written set.
+pub fn decode(bytes: &[u8]) -> Result<(Edition, Vec<Run>), Refusal> {
     let Some((&[version, a, b, c, d], rest)) = bytes.split_first_chunk::<5>() else {
         return Err(Refusal::SetLength);
     };
-    if version != 1 {
-        return Err(Refusal::SetVersion);
-    }
-    if rest.len() as u64 != 16 * u64::from(u32::from_be_bytes([a, b, c, d])) {
+    let edition = match version {
+        1 => Edition::Rows,
+        2 => Edition::Columns,
+        _ => return Err(Refusal::SetVersion),
+    };
+    let count = u32::from_be_bytes([a, b, c, d]) as usize;
+    if rest.len() != 16 * count {
         return Err(Refusal::SetLength);
     }
-    let number = |bytes: &[u8]| bytes.iter().fold(0, |n, &b| n << 8 | u64::from(b));
-    let runs: Vec<Run> = rest.chunks(16).map(|r| [number(&r[..8]), number(&r[8..])]).collect();
-    if in_order(&runs) { Ok(runs) } else { Err(Refusal::RunOrder) }
+    let place = |i: usize, j: usize| if edition == Edition::Rows { 16 * i + j } else { count * j + i };
+    let number = |i: usize, from: usize| (from..from + 8).fold(0, |n, j| n << 8 | u64::from(rest[place(i, j)]));
+    let runs: Vec<Run> = (0..count).map(|i| [number(i, 0), number(i, 8)]).collect();
+    if in_order(&runs) { Ok((edition, runs)) } else { Err(Refusal::RunOrder) }
+}
+
+/// A written set in the other edition.
+pub fn converted(bytes: &[u8]) -> Result<Vec<u8>, Refusal> {
+    let (edition, runs) = decode(bytes)?;
+    let other = if edition == Edition::Rows { Edition::Columns } else { Edition::Rows };
+    Ok(encode(other, &runs))
 }
 
 /// Whether a window is one.
@@ -472,10 +494,32 @@ mod tests {
 
     #[test]
     fn a_written_set_is_read_back() {
-        let runs = vec![[2, 3], [8, 9]];
-        assert_eq!(decode(&encode(&runs)), Ok(runs));
-        assert_eq!(decode(&[2, 0, 0, 0]), Err(Refusal::SetLength));
-        assert_eq!(decode(&[2, 0, 0, 0, 1]), Err(Refusal::SetVersion));
-        assert_eq!(decode(&encode(&[[2, 3], [4, 5]])), Err(Refusal::RunOrder));
+        let runs = vec![[2, 0x0123_4567_89AB_CDEF], [u64::MAX - 1, u64::MAX]];
+        for edition in [Edition::Rows, Edition::Columns] {
+            assert_eq!(decode(&encode(edition, &runs)), Ok((edition, runs.clone())));
+            assert_eq!(decode(&encode(edition, &[])), Ok((edition, Vec::new())));
+            assert_eq!(decode(&encode(edition, &[[2, 3], [4, 5]])), Err(Refusal::RunOrder));
+            let version = edition as u8;
+            assert_eq!(decode(&[version, 0, 0, 0]), Err(Refusal::SetLength));
+            assert_eq!(decode(&[version, 0, 0, 0, 1]), Err(Refusal::SetLength));
+        }
+        assert_eq!(decode(&[3, 0, 0, 0]), Err(Refusal::SetLength));
+        assert_eq!(decode(&[3, 0, 0, 0, 1]), Err(Refusal::SetVersion));
+    }
+
+    #[test]
+    fn columns_are_rows_turned() {
+        let runs = [[2, 3], [8, 9]];
+        let mut due = [0; 37];
+        (due[0], due[4]) = (2, 2);
+        due[19..21].copy_from_slice(&[2, 8]);
+        due[35..].copy_from_slice(&[3, 9]);
+        assert_eq!(encode(Edition::Columns, &runs), due);
+        assert_eq!(converted(&due), Ok(encode(Edition::Rows, &runs)));
+        assert_eq!(converted(&encode(Edition::Rows, &runs)), Ok(due.to_vec()));
+        // One run is the same in both, but for the version byte.
+        let one = [1, 2].map(|number| encode(edition(number), &[[5, u64::MAX]]));
+        assert_eq!(one.each_ref().map(|bytes| bytes[0]), [1, 2]);
+        assert_eq!(one[0][1..], one[1][1..]);
     }
 }

@@ -15,11 +15,11 @@ after-write-set c = c .before .before .before .before
 new-requires : tie.Need-new-requires
 new-requires c κs = search needs
 
-add-t17 : tie.Need-add-t17
-add-t17 c = search needs
+add-t18 : tie.Need-add-t18
+add-t18 c = search needs
 
-add-t19 : tie.Need-add-t19
-add-t19 c = search needs
+add-t20 : tie.Need-add-t20
+add-t20 c = search needs
 
 set-requires : tie.Need-set-requires
 set-requires c κs = search needs
@@ -77,8 +77,8 @@ play-both-spec =
     tie.close
     (tie.spec
     new-requires
-    add-t17
-    add-t19
+    add-t18
+    add-t20
     set-requires
     new-requires-2
     set-requires-2

@@ -1,6 +1,7 @@
-//! Written sets and maps: whole and damaged ones, slices that are too short, spare bits.
+//! Written sets of edition 1 and maps: whole and damaged ones, slices that are too short, spare bits.
 
 use super::{HALF, M};
+use crate::Edition;
 use crate::conformance::{List, SLICE};
 use crate::differential::WRITTEN;
 use crate::differential::calls::{Call, Place};
@@ -17,10 +18,10 @@ pub fn list() -> List {
     list.build(Place::first(0), &[[5, 6], [8, M]]);
     let at = Place { store: 0, world: 1 };
     for runs in WRITTEN {
-        let written = reference::encode(runs);
+        let written = reference::encode(Edition::Rows, runs);
         list.call(&Call::Load { to: at, bytes: written.clone() });
         for room in [0, written.len() - 1, written.len(), written.len() + 3] {
-            list.call(&Call::Write { at, room });
+            list.call(&Call::Write { at, edition: 1, room });
         }
         for i in 0..written.len() {
             let mut bytes = written.clone();
@@ -39,8 +40,8 @@ pub fn list() -> List {
     let many: Vec<Run> = (0..64).map(|i| [i << 58, (i << 58) + random.below(1 << 57)]).collect();
     list.pool(1, 64, &[[0, 64]]);
     let at = Place::first(1);
-    list.call(&Call::Load { to: at, bytes: reference::encode(&many) });
-    list.say(&format!("write_set 1/0 {}\nwrite_set 1/0 {SLICE}\nset 1/0 i{M} i{M} 1\nbuild 1/0 0", SLICE - 1));
+    list.call(&Call::Load { to: at, bytes: reference::encode(Edition::Rows, &many) });
+    list.say(&format!("write_set 1/0 1 {}\nwrite_set 1/0 1 {SLICE}\nset 1/0 i{M} i{M} 1\nbuild 1/0 0", SLICE - 1));
     let map: Vec<u8> = (0..1024).map(|i| if i % 32 < 16 { 0x0F << (i % 5) } else { 0xFF }).collect();
     for base in [0, M - 8191] {
         list.call(&Call::ReadMap { at, base, n: 8192, map: map.clone() });

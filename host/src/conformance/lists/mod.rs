@@ -4,6 +4,7 @@ mod bounds;
 mod bytes;
 mod capacity;
 mod cases;
+mod editions;
 mod frames;
 mod gaps;
 mod joined;
@@ -26,6 +27,7 @@ pub fn all() -> Vec<List> {
         shifts::list(),
         joined::list(),
         bytes::list(),
+        editions::list(),
         capacity::list(),
         frames::list(),
         gaps::list(),

@@ -3,6 +3,7 @@
 use super::{HALF, M};
 use crate::conformance::List;
 use crate::conformance::text::digits;
+use crate::differential::EDITIONS;
 use crate::differential::calls::{Call, Place};
 use crate::differential::reference::{self, Run};
 
@@ -26,7 +27,8 @@ fn calls(s: &str, t: &str, u: &str) -> String {
         draw_front {s} 1 0 1
         shift {s} 0 1
         shift {s} 1 0
-        write_set {s} 64
+        write_set {s} 1 64
+        write_set {s} 2 64
         read_map {s} 0 8 0c
         write_map {s} 0 8 1
         fill {s} 0 8
@@ -34,6 +36,7 @@ fn calls(s: &str, t: &str, u: &str) -> String {
         eq {t} {s}
         eq {s} {s}
         load {s} 0100000000
+        load {s} 0200000000
         build {s} 1 3 4
         shifted {s} {t} 1 1
         shifted {t} {s} 1 1
@@ -49,10 +52,12 @@ fn calls(s: &str, t: &str, u: &str) -> String {
 // Calls whose other arguments are refused too, in a world of one run.
 const WRONG: &str = "
     load AT -
-    load AT 02
-    load AT 0200000000
+    load AT 03
+    load AT 0300000000
     load AT 010000000100000000000000040000000000000003
+    load AT 020000000100000000000000040000000000000003
     load AT 01000000020000000000000002000000000000000300000000000000080000000000000009
+    load AT 02000000020000000000000000000000000000020800000000000000000000000000000309
     build AT 1 4 3
     build AT 2 2 3 4 5
     build AT 2 2 3 5 6
@@ -60,7 +65,8 @@ const WRONG: &str = "
     read_map AT 0 7 80
     read_map AT 0 8 55
     fill AT 0 0
-    write_set AT 0
+    write_set AT 1 0
+    write_set AT 2 0
     write_map AT 0 0 0
     write_map AT 0 8 0
     gap AT u u 0
@@ -116,19 +122,26 @@ pub fn list() -> List {
         words 0 2
         new 0 1 0 2
         build 0/0 2 2 3 8 9
-        write_set 0/0 0
-        write_set 0/0 4
-        write_set 0/0 5
-        write_set 0/0 36
-        write_set 0/0 37
+        write_set 0/0 1 0
+        write_set 0/0 2 0
+        write_set 0/0 1 4
+        write_set 0/0 2 4
+        write_set 0/0 1 5
+        write_set 0/0 2 5
+        write_set 0/0 1 36
+        write_set 0/0 2 36
+        write_set 0/0 1 37
+        write_set 0/0 2 37
         write_map 0/0 0 8 0
         write_map 0/0 0 8 1
         write_map 0/0 0 9 1
         write_map 0/0 0 9 2
         write_map 0/0 0 524288 1029
         build 0/0 0
-        write_set 0/0 4
-        write_set 0/0 5
+        write_set 0/0 1 4
+        write_set 0/0 2 4
+        write_set 0/0 1 5
+        write_set 0/0 2 5
         # 9
         words 1 1
         new 1 1 0 1
@@ -162,15 +175,39 @@ pub fn list() -> List {
         write_map 1/0 0 0 0
         write_map 1/0 0 524289 0
         # 3 of fewer than 5 bytes before 4, 4 before 3, 3 before 5, 5 before 8
-        load 1/0 02
-        load 1/0 02000000
-        load 1/0 0200000000ff
-        load 1/0 020000000200000000000000040000000000000003
+        load 1/0 03
+        load 1/0 03000000
+        load 1/0 0300000000ff
+        load 1/0 030000000200000000000000040000000000000003
         load 1/0 010000000200000000000000040000000000000003
+        load 1/0 020000000200000000000000040000000000000003
         load 1/0 0100000002000000000000000400000000000000050000000000000006000000000000000a
+        load 1/0 0200000002000000000000000000000000000004060000000000000000000000000000050a
+        # The same of converting, and all of them before 2
+        convert - 0
+        convert 03 0
+        convert 03000000 0
+        convert 02000000 0
+        convert 0300000000ff 0
+        convert 0000000000 0
+        convert ff00000000 5
+        convert 030000000200000000000000040000000000000003 0
+        convert 010000000200000000000000040000000000000003 0
+        convert 020000000200000000000000040000000000000003 0
+        convert 0100000002000000000000000400000000000000050000000000000006000000000000000a 0
+        convert 0200000002000000000000000000000000000004060000000000000000000000000000050a 0
+        convert 0100000000 0
+        convert 0200000000 4
+        convert 0100000000 5
+        convert 0200000000 6
+        convert 01000000020000000000000002000000000000000300000000000000080000000000000009 36
+        convert 02000000020000000000000000000000000000020800000000000000000000000000000309 36
+        convert 01000000020000000000000002000000000000000300000000000000080000000000000009 37
+        convert 02000000020000000000000000000000000000020800000000000000000000000000000309 38
         build 1/0 2 4 5 6 10
         build 1/0 3 0 0 2 2 3 9
-        write_set 1/0 21
+        write_set 1/0 1 21
+        write_set 1/0 2 21
         ",
     );
     list
@@ -204,21 +241,23 @@ fn windows_refused(list: &mut List) {
     list.show(HERE);
 }
 
-// 3, 4 and 5: written sets and run lists.
+// 3, 4 and 5: written sets of both editions and run lists.
 fn bytes_refused(list: &mut List) {
     list.store(0, 3, &[[3, 9]]);
-    let written = reference::encode(&[[2, 3], [8, 9]]);
-    for length in [0, 1, 4, 5, 6, 20, 21, 22, 36] {
-        list.call(&Call::Load { to: HERE, bytes: written[..length].to_vec() });
-    }
-    let longer = |more: usize| [&written[..], &vec![0; more]].concat();
-    for more in [1, 15, 16] {
-        list.call(&Call::Load { to: HERE, bytes: longer(more) });
-    }
-    for (at, byte) in [(0, 0), (0, 2), (0, 255), (1, 1), (2, 1), (3, 1), (4, 0), (4, 1), (4, 3)] {
-        let mut bytes = written.clone();
-        bytes[at] = byte;
-        list.call(&Call::Load { to: HERE, bytes });
+    for edition in EDITIONS {
+        let written = reference::encode(edition, &[[2, 3], [8, 9]]);
+        for length in [0, 1, 4, 5, 6, 20, 21, 22, 36] {
+            list.read(HERE, written[..length].to_vec());
+        }
+        for more in [1, 15, 16] {
+            list.read(HERE, [&written[..], &vec![0; more]].concat());
+        }
+        // A version that is the other edition's, and two that are none's.
+        for (at, byte) in [(0, 0), (0, 1), (0, 2), (0, 3), (0, 255), (1, 1), (2, 1), (3, 1), (4, 0), (4, 1), (4, 3)] {
+            let mut bytes = written.clone();
+            bytes[at] = byte;
+            list.read(HERE, bytes);
+        }
     }
     let wrong: [&[Run]; 10] = [
         &[[4, 3]],
@@ -234,7 +273,9 @@ fn bytes_refused(list: &mut List) {
     ];
     for runs in wrong {
         list.call(&Call::Build { to: HERE, runs: runs.to_vec() });
-        list.call(&Call::Load { to: HERE, bytes: reference::encode(runs) });
+        for edition in EDITIONS {
+            list.read(HERE, reference::encode(edition, runs));
+        }
     }
     list.show(HERE);
 }
@@ -258,6 +299,7 @@ fn full(list: &mut List) {
         "flip 0/0 i4 i5",
         "read_map 0/0 0 8 41",
         "load 0/0 01000000020000000000000002000000000000000300000000000000080000000000000009",
+        "load 0/0 02000000020000000000000000000000000000020800000000000000000000000000000309",
         "build 0/0 2 2 3 8 9",
         "combine 0/0 xor 1/0 2/0",
         "combine 0/0 or 3/0 3/0",

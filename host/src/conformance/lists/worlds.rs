@@ -138,6 +138,7 @@ fn neighbours(list: &mut List) {
         "read_map AT 8 16 aa0f",
         "read_map AT 8 16 ff00",
         "load AT 010000000100000000000000040000000000000007",
+        "load AT 02000000020000000000000000000000000000020800000000000000000000000000000309",
         "combine AT or 1/0 0/2",
         "combine AT xor 0/0 0/1",
         "not AT 0/0",

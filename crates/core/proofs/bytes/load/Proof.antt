@@ -4,7 +4,7 @@ use mathlib.Core.Path.{refl, ap}
 use native.Mathlib.Omega.{arith}
 use Rattle.model.specs.Positions.{mem}
 use Rattle.written.specs.Parsed.{Acceptable}
-use Rattle.model.specs.Bytes.{decodeRuns}
+use Rattle.model.specs.Bytes.{runsTold}
 use lib.ListN.{drop}
 use Rattle.written.proofs.Telling.{told-accepted, accepted-runs, accepted-order}
 use Rattle.core.proofs.Doors.{nodes-there}
@@ -29,10 +29,10 @@ abbrev opened : tie.After-load → tie.After-open
 opened l = l .before .before
 
 -- the bytes are accepted, and tell so many runs
-accepted : (t : tie.After-t2) → Acceptable (start t .args .bytes .now) (t .t2 .given .0 .0)
+accepted : (t : tie.After-t2) → Acceptable (start t .args .bytes .now) (t .t2 .given .0 .0) (t .t2 .given .0 .1 .0)
 accepted t = told-accepted _ _ (t .before .before .runs-told .ensures) (t .t2 .given .1)
 
-many : (t : tie.After-t2) → Many (t .t2 .given .0 .0) (decodeRuns (t .t2 .given .0 .0) (drop 5 (start t .args .bytes .now)))
+many : (t : tie.After-t2) → Many (t .t2 .given .0 .1 .0) (runsTold (t .t2 .given .0 .0) (t .t2 .given .0 .1 .0) (drop 5 (start t .args .bytes .now)))
 many t = told-many (start t .args .bytes .now) (t .before .before .before .shared-slice-known .given) (accepted t)
 
 runs-told-requires : tie.Need-runs-told-requires

@@ -24,8 +24,9 @@ abbrev known : tie.After-length-of → tie.After-open
 known c = opened (c .before)
 
 -- the bytes due are those of the world's set
-due : (c : tie.After-length-of) → 5 + 16 * c .before .run-count .result ≡ length (encode (heldRuns (heldBy ((start (known c)) .args .words .now) ((start (known c)) .args .world))))
-due c = ap (λ n. 5 + 16 * n) (c .before .run-count .ensures) ∙ set-length ((known c) .«open» .ensures)
+due : (c : tie.After-length-of) → 5 + 16 * c .before .run-count .result
+    ≡ (let a = (start (known c)) .args in length (encode (a .edition) (heldRuns (heldBy (a .words .now) (a .world)))))
+due c = ap (λ n. 5 + 16 * n) (c .before .run-count .ensures) ∙ set-length ((known c) .«open» .ensures) ((start (known c)) .args .edition)
 
 open-requires : tie.Need-open-requires
 open-requires c κs = c .before .before .pre .openable
@@ -48,7 +49,7 @@ length-of-requires c κs = omega (arith, few-runs ((opened c) .«open» .ensures
 returns : tie.Need-returns
 returns c =
     let d = c .before in
-    put-short (write-set-puts _ _ _) ((start (known d)) .pre) (d .length-of .ensures ∙ due d) (c .if1 .taken) refl
+    put-short (write-set-puts _ _ _ _) ((start (known d)) .pre) (d .length-of .ensures ∙ due d) (c .if1 .taken) refl
 
 sub-write-set : tie.Need-sub-write-set
 sub-write-set c = nodes-there ((start (known (c .before))) .pre .openable)
@@ -74,7 +75,7 @@ returns-2 c =
     let e = m .before .before .before in
     let d = e .before in
     let o = known d in
-    put-done (write-set-puts _ _ _) ((start o) .pre) (d .length-of .ensures ∙ due d) (o .«open» .ensures) refl (e .if1 .left) (m .write-set .ensures)
+    put-done (write-set-puts _ _ _ _) ((start o) .pre) (d .length-of .ensures ∙ due d) (o .«open» .ensures) refl (e .if1 .left) (m .write-set .ensures)
 
 pub write-set-spec : {M : Type 1} → statement M
 write-set-spec =

@@ -20,7 +20,7 @@ write-set-requires : tie.Need-write-set-requires
 write-set-requires c κs = looked-sound _ (c .before .before .before .look-at .ensures) (c .before .enum-told .given .1)
 
 returns : tie.Need-returns
-returns c = put-turned (write-set-puts _ _ _) _ (c .before .before .before .look-at .ensures) (c .before .l .given .1) refl
+returns c = put-turned (write-set-puts _ _ _ _) _ (c .before .before .before .look-at .ensures) (c .before .l .given .1) refl
 
 same-length : tie.Need-same-length
 same-length c = search needs

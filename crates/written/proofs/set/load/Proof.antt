@@ -1,9 +1,9 @@
 -- `load` meets its contract: the runs are in order and their ends are words, so laid into nodes that were given back they become the world's.
 -- Assumes nothing.
 use lib.ListN.{drop}
-use Rattle.model.specs.Bytes.{decodeRuns}
+use Rattle.model.specs.Bytes.{runsTold}
 use Rattle.model.specs.RunList.{AllWords}
-use Rattle.model.proofs.Codec.{drop-bytes, decodeRuns-words}
+use Rattle.model.proofs.Codec.{drop-bytes, runsTold-words}
 use Rattle.model.proofs.Slices.{all-bytes}
 use Rattle.written.proofs.Listing.{receive-keepable, receive-fillable, receive-linkable, received}
 use borrow.Author.Needs.{needs}
@@ -21,10 +21,10 @@ abbrev laid : tie.After-link-arg → tie.After-put-runs
 laid c = c .before .before .before
 
 -- the runs' ends are words
-words : (c : tie.After-links-of) → AllWords (decodeRuns (start c .args .n) (drop 5 (start c .args .bytes .now)))
+words : (c : tie.After-links-of) → AllWords (runsTold (start c .args .edition) (start c .args .n) (drop 5 (start c .args .bytes .now)))
 words c =
     let bs = start c .args .bytes .now in
-    decodeRuns-words (start c .args .n) (drop 5 bs) (drop-bytes 5 bs (all-bytes bs (c .before .before .shared-slice-known .given)))
+    runsTold-words (start c .args .edition) (start c .args .n) (drop 5 bs) (drop-bytes 5 bs (all-bytes bs (c .before .before .shared-slice-known .given)))
 
 links-of-requires : tie.Need-links-of-requires
 links-of-requires c κs = search needs

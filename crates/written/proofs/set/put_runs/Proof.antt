@@ -1,50 +1,42 @@
 -- `put_runs` meets its contract. The loop's invariant: the first nodes of the chain hold the first i runs, and the others are free from
 -- `node` on. Assumes nothing.
-use Prim.Native.Nat.{_+_, _-_, _*_}
-use mathlib.Core.Path.{_≡_}
+use Prim.Native.Nat.{_-_}
+use mathlib.Core.Path.{sym}
 use lib.ListN.{drop}
-use native.Mathlib.Omega.{arith}
-use borrow.Author.Needs.{needs}
-use Rattle.model.specs.Bytes.{decodeRuns}
-use Rattle.model.proofs.Codec.{decodeRuns-length}
-use Rattle.written.proofs.Digits.{set-read}
+use Rattle.model.specs.Bytes.{runsTold}
+use Rattle.model.proofs.Codec.{runsTold-length}
 use Rattle.written.proofs.Listing.{Laying, laying-none, laying-long, laying-room, laying-step, laying-all}
+use borrow.Author.Needs.{needs}
 use Rattle.written.proofs.set.put_runs.Statement.{statement}
 use Rattle.written.proofs.set.put_runs.Tie as tie
 
 abbrev Inv-loop : tie.InvT-loop
-Inv-loop into₀ head bytes n i₀ at₀ node₀ into i at node = (at ≡ 5 + 16 * i) × Laying into₀ into head n node i (decodeRuns n (drop 5 bytes))
+Inv-loop into₀ head bytes edition n i₀ node₀ into i node = Laying into₀ into head n node i (runsTold edition n (drop 5 bytes))
 
 abbrev μ-loop : tie.MeasureT-loop
-μ-loop into₀ head bytes n i₀ at₀ node₀ into i at node = n - i
+μ-loop into₀ head bytes edition n i₀ node₀ into i node = n - i
 
--- the places that the needs look back to: the start, and the test passed before a run is laid
+-- the places that the needs look back to: the start, a run read, and the test passed before
 abbrev start : tie.At-loop Inv-loop μ-loop → tie.Start Inv-loop μ-loop
 start c = c .before .before .before
 
+abbrev told : tie.After-lay-run-arg Inv-loop μ-loop → tie.After-run-told Inv-loop μ-loop
+told c = c .before
+
 abbrev tested : tie.After-lay-run-arg Inv-loop μ-loop → tie.In-loop Inv-loop μ-loop
-tested c = c .before .before .before
+tested c = c .before .before
 
 loop-holds : tie.Need-loop-holds Inv-loop μ-loop
-loop-holds c = (search needs, laying-none _ (decodeRuns-length (c .before .before .args .n) (drop 5 (c .before .before .args .bytes .now))))
+loop-holds c = let a = c .before .before .args in laying-none _ (runsTold-length (a .edition) (a .n) (drop 5 (a .bytes .now)))
 
-get-word-requires : tie.Need-get-word-requires Inv-loop μ-loop
-get-word-requires c κs = search needs
-
-add-get-word : tie.Need-add-get-word Inv-loop μ-loop
-add-get-word c = search needs
-
-get-word-requires-2 : tie.Need-get-word-requires-2 Inv-loop μ-loop
-get-word-requires-2 c κs = search needs
+run-told-requires : tie.Need-run-told-requires Inv-loop μ-loop
+run-told-requires c κs = search needs
 
 lay-run-requires : tie.Need-lay-run-requires Inv-loop μ-loop
-lay-run-requires c κs = let t = tested c in laying-room (t .before .loop .inv .1) (start (t .before) .pre .0) (t .loop-test .taken)
+lay-run-requires c κs = let t = tested c in laying-room (t .before .loop .inv) (start (t .before) .pre .0) (t .loop-test .taken)
 
 add-i : tie.Need-add-i Inv-loop μ-loop
 add-i c = search needs
-
-add-at : tie.Need-add-at Inv-loop μ-loop
-add-at c = search needs
 
 loop-less : tie.Need-loop-less Inv-loop μ-loop
 loop-less c = search needs
@@ -53,18 +45,13 @@ loop-again : tie.Need-loop-again Inv-loop μ-loop
 loop-again c =
     let l = c .before .before .before in
     let t = tested l in
-    let a = start (t .before) .args in (
-      omega arith,
-      laying-step (t .before .loop .inv .1) (t .loop-test .taken)
-          (set-read (a .n) (a .bytes .now) (t .loop-test .taken) (t .before .loop .inv .0) (l .before .before .get-word .ensures)
-          (l .before .get-word2 .ensures)) (c .before .before .lay-run .ensures),
-    )
+    laying-step (t .before .loop .inv) (t .loop-test .taken) (sym (told l .run-told .ensures)) (c .before .before .lay-run .ensures)
 
 same-length : tie.Need-same-length Inv-loop μ-loop
-same-length c = laying-long (c .before .loop .inv .1) (start (c .before) .pre .0)
+same-length c = laying-long (c .before .loop .inv) (start (c .before) .pre .0)
 
 returns : tie.Need-returns Inv-loop μ-loop
-returns c = laying-all (c .before .loop .inv .1) (c .loop-test .left)
+returns c = laying-all (c .before .loop .inv) (c .loop-test .left)
 
 pub put-runs-spec : {M : Type 1} → statement M
 put-runs-spec =
@@ -73,12 +60,9 @@ put-runs-spec =
     Inv-loop
     μ-loop
     loop-holds
-    get-word-requires
-    add-get-word
-    get-word-requires-2
+    run-told-requires
     lay-run-requires
     add-i
-    add-at
     loop-less
     loop-again
     same-length
