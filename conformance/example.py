@@ -96,9 +96,12 @@ class World:
     def __init__(self, store, floor, ceiling):
         self.store, self.floor, self.ceiling = store, floor, ceiling
 
-    def keep(self, runs):
+    def has_room(self, runs):
         beside = sum(max(len(world.runs), world.floor) for world in self.store.worlds if world is not self)
         require(len(runs) <= self.ceiling and beside + max(len(runs), self.floor) <= self.store.capacity, 8)
+
+    def keep(self, runs):
+        self.has_room(runs)
         self.runs = runs
 
     def set(self, first, last, value):
@@ -178,6 +181,14 @@ class World:
     def load(self, written):
         self.build(runs_told(written))
 
+    def mend(self, written, room, report_room):
+        runs = runs_told(written)
+        outcome = union([(start, end) for start, end in runs if start <= end])
+        self.has_room(outcome)
+        filled = fill_front(room, encoded(outcome, written[0] == 2)) + fill_front(report_room, fates(runs, outcome))
+        self.runs = outcome
+        return filled
+
     def write_set(self, edition, room):
         return fill_front(room, encoded(self.runs, edition == 2))
 
@@ -217,6 +228,13 @@ def runs_told(written):
     return [(int.from_bytes(run[:8], "big"), int.from_bytes(run[8:], "big")) for run in table]
 
 
+def fates(runs, outcome):
+    """What became of each run: 0 dropped, 1 joined, 2 kept."""
+    within = [[start for start, end in runs if first <= start <= end <= last] for first, last in outcome]
+    joined = {start for starts in within if len(starts) > 1 for start in starts}
+    return bytes(0 if start > end else 1 if start in joined else 2 for start, end in runs)
+
+
 def convert(written, room):
     runs = runs_told(written)
     require(in_order(runs), 5)
@@ -243,12 +261,12 @@ def fill_front(room, due):
 ARGUMENTS = {
     "words": "sn", "spoil": "s", "new": "sl", "set": "prn", "flip": "pr", "get": "pn", "run_at": "pn", "find": "prn", "tally": "prn",
     "select": "prnn", "gap": "prn", "ranges": "prn", "draw_front": "pnnn", "draw_back": "pnnn", "shift": "pnn",
-    "shifted": "ppnn", "combine": "pwpp", "not": "pp", "eq": "pp", "load": "pb", "build": "pl", "write_set": "pnn", "read_map": "pnnb",
+    "shifted": "ppnn", "combine": "pwpp", "not": "pp", "eq": "pp", "load": "pb", "mend": "pbnn", "build": "pl", "write_set": "pnn", "read_map": "pnnb",
     "write_map": "pnnn", "clear_map": "nnb", "convert": "bn", "fill": "pnn",
 }
 ANSWERS = {
     "set": "number", "get": "value", "run_at": "run", "find": "at", "tally": "number", "select": "at", "gap": "at",
-    "ranges": "listing", "draw_front": "drawn", "draw_back": "drawn", "eq": "value", "write_set": "written", "read_map": "number",
+    "ranges": "listing", "draw_front": "drawn", "draw_back": "drawn", "eq": "value", "mend": "written", "write_set": "written", "read_map": "number",
     "write_map": "written", "clear_map": "cleared", "convert": "written", "fill": "number",
 }
 STORELESS = {"clear_map": clear_map, "convert": convert}
@@ -299,7 +317,7 @@ def answer(line, stores):
     values = result if isinstance(result, tuple) else () if result is None else (result,)
     begin = ANSWERS.get(name, "done")
     begin = {("at", 0): "none", ("drawn", 3): "end"}.get((begin, len(values)), begin)
-    return " ".join([begin, *(v.hex() if isinstance(v, bytes) else str(v) for v in values)])
+    return " ".join([begin, *(v.hex() or "-" if isinstance(v, bytes) else str(v) for v in values)])
 
 
 # Frames. Of each number that names a call what it takes of a record: r both bounds, x and y their values, v the truth, k the number. A record

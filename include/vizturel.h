@@ -22,7 +22,7 @@
  * bytes), 4, 3, 5, 8, 2. Every call on a pool but vizturel_new may be refused with 1, 7 and 12, of the pool that receives the result too.
  *
  *   1  a pool's length is not 8 * (C + 49) words for a C from 1 to 65,536
- *   2  the output is shorter than what is due
+ *   2  an output is shorter than what is due
  *   3  a written set has fewer than 5 bytes, or not 5 + 16 * R
  *   4  its version byte is neither 1 nor 2
  *   5  a start exceeds its end, or is below the previous end + 2
@@ -49,7 +49,7 @@
  * bound, a reserved operation for XOR and a reserved edition for rows. Do not rely on it.
  *
  * Link libvizturel.a, for x86-64 Linux: `make lib` writes it to target/lib/, and this header to target/include/. Of a C library it needs memset
- * alone. docs/CALLS.md has every call with its cost.
+ * and memmove alone. docs/CALLS.md has every call with its cost.
  */
 #ifndef VIZTUREL_H
 #define VIZTUREL_H
@@ -126,6 +126,14 @@ enum vizturel_edition {
     VIZTUREL_COLUMNS = 2
 };
 
+/* What became of a run of a written set that was mended: its start is above its end; it shares its run of the outcome with another one; it is alone
+ * there. */
+enum vizturel_fate {
+    VIZTUREL_DROPPED = 0,
+    VIZTUREL_JOINED = 1,
+    VIZTUREL_KEPT = 2
+};
+
 /* How many positions: carry * 2^64 + low. The carry is 1 only for all 2^64 of them. */
 typedef struct {
     uint64_t refusal;
@@ -189,6 +197,13 @@ typedef struct {
     uint64_t refusal;
     uint64_t bytes;
 } vizturel_written;
+
+/* the same of the two slices of vizturel_mend: the bytes of the set, and those of the report */
+typedef struct {
+    uint64_t refusal;
+    uint64_t bytes;
+    uint64_t report;
+} vizturel_mended;
 
 /* ---- making a pool */
 
@@ -273,6 +288,15 @@ uint64_t vizturel_shifted(uint64_t *words, size_t count, uint64_t world, uint64_
 
 /* Overwrites a world with the set that a written set of either edition tells. Refused with 3, 4, 3, 5, 8. */
 uint64_t vizturel_load(uint64_t *words, size_t count, uint64_t world, const uint8_t *bytes, size_t bytes_count);
+
+/* Overwrites a world with the set of a written set of either edition whose runs may stand in any order, touch and overlap: every position of all
+ * runs whose start is not above their end. Writes that set, the outcome, in the edition read, to the front of out, and a vizturel_fate for each
+ * run, a byte each in the order read, to the front of report; the rest of both stays. A run is joined if its run of the outcome has another run
+ * in it that was not dropped, one that is equal or only touches included. What vizturel_load takes comes back byte for byte, all kept. bytes_count
+ * bytes are always enough for out, and a byte for each run read for report. No two of the slices may overlap. It keeps 8 KiB on the stack. Refused
+ * with 3, 4, 3, then 8 for the runs of the outcome, then 2 for either slice; never with 5. */
+vizturel_mended vizturel_mend(uint64_t *words, size_t count, uint64_t world, const uint8_t *bytes, size_t bytes_count, uint8_t *out, size_t out_count,
+                              uint8_t *report, size_t report_count);
 
 /* Overwrites a world with the set of a run list: start and end of each run, in turn; a last word without its end is no run. Refused with 5, 8. */
 uint64_t vizturel_build(uint64_t *words, size_t count, uint64_t world, const uint64_t *runs, size_t runs_count);

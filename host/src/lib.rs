@@ -52,13 +52,13 @@ mod raw;
 pub enum Refusal {
     /// A pool's length is not 8 × (C + 49) words for a capacity C from 1 to 65,536.
     StoreLength = 1,
-    /// The output slice is shorter than what is due.
+    /// An output slice is shorter than what is due.
     OutputShort = 2,
     /// A written set has fewer than 5 bytes, or not 5 + 16 × R.
     SetLength = 3,
     /// Its version byte is neither 1 nor 2.
     SetVersion = 4,
-    /// In a run list or written set a start exceeds its end, or a start is below the previous end + 2.
+    /// In a run list or written set a start exceeds its end, or a start is below the previous end + 2. [`World::mend`] mends such a set.
     RunOrder = 5,
     /// A window has length 0 or above 524,288 or ends above 2^64, or a map to be read has not length / 8 bytes, rounded up.
     Window = 6,
@@ -104,7 +104,7 @@ impl fmt::Display for Refusal {
     fn fmt(&self, f: &mut fmt::Formatter) -> fmt::Result {
         f.write_str(match self {
             Refusal::StoreLength => "a pool's length is not 8 × (C + 49) words for a capacity C from 1 to 65,536",
-            Refusal::OutputShort => "the output slice is shorter than what is due",
+            Refusal::OutputShort => "an output slice is shorter than what is due",
             Refusal::SetLength => "a written set has fewer than 5 bytes, or not 5 + 16 × R",
             Refusal::SetVersion => "a written set's version byte is neither 1 nor 2",
             Refusal::RunOrder => "a run's start exceeds its end, or is below the previous end + 2",
@@ -142,6 +142,31 @@ pub enum Edition {
     /// The first byte of every run, then the second of every run, up to the sixteenth: like bytes stand together, for whoever packs them.
     /// A reader that knows edition 1 alone refuses it with 4.
     Columns = 2,
+}
+
+/// What became of a run of a written set that was mended: see [`World::mend`].
+#[repr(u8)]
+#[derive(Clone, Copy, Debug, PartialEq, Eq)]
+pub enum Fate {
+    /// Its start is above its end, so it has no position.
+    Dropped = 0,
+    /// It shares its run of the outcome with another run that was not dropped: they overlap, only touch, or are equal, or others
+    /// between them join the two.
+    Joined = 1,
+    /// It is alone in its run of the outcome, and so is that run.
+    Kept = 2,
+}
+
+// The library writes a byte for each run, 0, 1 or 2.
+const _: () = assert!(size_of::<Fate>() == 1);
+
+/// What mending wrote: the fronts of the two slices that were lent.
+#[derive(Debug, PartialEq, Eq)]
+pub struct Mended<'o> {
+    /// The outcome as a written set, in the edition read.
+    pub set: &'o mut [u8],
+    /// What became of each run that was read, in the order read.
+    pub fates: &'o mut [Fate],
 }
 
 /// What is left of a listing of runs: those of the value from first to last. It has ended where first is above last. It borrows no
@@ -541,6 +566,39 @@ impl<S: AsMut<[u64]>> World<S> {
     pub fn load(&mut self, bytes: &[u8]) -> Answer<()> {
         let (w, n, i) = self.lent_mut();
         answer(unsafe { raw::vizturel_load(w, n, i, bytes.as_ptr(), bytes.len()) }, ())
+    }
+
+    /// Holds every position of a written set of either edition whose runs may stand in any order, touch and overlap. A run whose start is
+    /// above its end has none. The set that comes of it is written, in the edition read, into the front of a slice, and what became of
+    /// each run, in the order read, into the front of another; both parts are handed back, and the rest of both slices stays. A set that
+    /// [`World::load`] takes comes back byte for byte, with every run kept. Refused with 3 or 4 as a load is, with 8 for the runs of the
+    /// outcome, or with 2 for either slice; never with 5.
+    ///
+    /// ```
+    /// use vizturel::{Edition, Fate, Refusal, SetBuf};
+    /// # fn main() -> Result<(), vizturel::Refusal> {
+    /// let mut slots = SetBuf::with_capacity(2)?;
+    /// // By rows: 8 9, then 2 3 and 4 5, which touch, then 7 6, whose start is above its end.
+    /// let runs = [[8_u64, 9], [2, 3], [4, 5], [7, 6]];
+    /// let mut bytes = vec![1, 0, 0, 0, runs.len() as u8];
+    /// bytes.extend(runs.as_flattened().iter().flat_map(|x| x.to_be_bytes()));
+    /// assert_eq!(slots.load(&bytes), Err(Refusal::RunOrder));
+    /// // The outcome never has more bytes than the set that is read.
+    /// let (mut out, mut report) = (vec![0; bytes.len()], [Fate::Dropped; 4]);
+    /// let mended = slots.mend(&bytes, &mut out, &mut report)?;
+    /// assert_eq!(mended.fates, [Fate::Kept, Fate::Joined, Fate::Joined, Fate::Dropped]);
+    /// assert!(slots.ranges(.., true)?.eq([2..=5, 8..=9]));
+    /// assert_eq!(mended.set, slots.write(Edition::Rows, &mut [0; 64])?);
+    /// # Ok(())
+    /// # }
+    /// ```
+    pub fn mend<'o>(&mut self, bytes: &[u8], out: &'o mut [u8], report: &'o mut [Fate]) -> Answer<Mended<'o>> {
+        let (w, n, i) = self.lent_mut();
+        // A fate is a byte, and the library leaves 0, 1 or 2 in those that it writes.
+        let (to, fates) = (out.as_mut_ptr(), report.as_mut_ptr().cast());
+        let m = unsafe { raw::vizturel_mend(w, n, i, bytes.as_ptr(), bytes.len(), to, out.len(), fates, report.len()) };
+        let [filled, told] = answer(m.refusal, [m.bytes, m.report])?;
+        Ok(Mended { set: &mut out[..filled as usize], fates: &mut report[..told as usize] })
     }
 
     /// Holds two sets joined. Refused with 8.

@@ -61,6 +61,14 @@ pub struct Drawn {
     pub last: u64,
 }
 
+/// How many bytes of a mended set were written, and how many of its report.
+#[repr(C)]
+pub struct Mended {
+    pub refusal: u64,
+    pub bytes: u64,
+    pub report: u64,
+}
+
 unsafe extern "C" {
     pub fn vizturel_new(words: *mut u64, count: usize, limits: *const u64, limit_words: usize) -> u64;
     pub fn vizturel_set(words: *mut u64, count: usize, world: u64, lower: Bound, upper: Bound, value: u64) -> Counted;
@@ -131,6 +139,17 @@ unsafe extern "C" {
         b_world: u64,
     ) -> Numbered;
     pub fn vizturel_load(words: *mut u64, count: usize, world: u64, bytes: *const u8, length: usize) -> u64;
+    pub fn vizturel_mend(
+        words: *mut u64,
+        count: usize,
+        world: u64,
+        bytes: *const u8,
+        length: usize,
+        out: *mut u8,
+        out_length: usize,
+        report: *mut u8,
+        report_length: usize,
+    ) -> Mended;
     pub fn vizturel_build(words: *mut u64, count: usize, world: u64, runs: *const u64, run_words: usize) -> u64;
     pub fn vizturel_read_map(
         words: *mut u64,

@@ -1,6 +1,6 @@
-/* The library through include/vizturel.h: the sixteen cases of the scope document, the editions of written sets, the lowest gap, spare bits of maps,
- * maps by words and by single bytes, each refusal, that a refused call changes nothing, calls by lists, and worlds that share a pool. Compiled as
- * C and as C++.
+/* The library through include/vizturel.h: the sixteen cases of the scope document, the editions of written sets, mended sets, the lowest gap, spare
+ * bits of maps, maps by words and by single bytes, each refusal, that a refused call changes nothing, calls by lists, and worlds that share a pool.
+ * Compiled as C and as C++.
  * Prints what failed, and last 'N passed, M failed'. */
 #include <stdio.h>
 #include <stdlib.h>
@@ -217,6 +217,21 @@ static void cases(void) {
     CHECK(memcmp(kept, s, sizeof s) == 0);
 }
 
+/* Puts the written set of n runs, fewer than 256, byte by byte, and tells how many bytes it has. */
+static size_t put_set(uint8_t *bytes, uint64_t edition, size_t n, const uint64_t *runs) {
+    size_t i, j;
+    memset(bytes, 0, 5);
+    bytes[0] = (uint8_t)edition;
+    bytes[4] = (uint8_t)n;
+    for (i = 0; i < n; i++) {
+        for (j = 0; j < 16; j++) {
+            size_t place = edition == VIZTUREL_ROWS ? 16 * i + j : n * j + i;
+            bytes[5 + place] = (uint8_t)(runs[2 * i + j / 8] >> (56 - 8 * (j % 8)));
+        }
+    }
+    return VIZTUREL_SET_BYTES(n);
+}
+
 /* Written sets by rows and by columns: of every number of runs that there is room for, against bytes put one by one; loaded, converted, and
  * converted back; the bytes after a set; numbers that name no edition; and the converter's refusals, in their order. */
 static void editions(void) {
@@ -238,14 +253,8 @@ static void editions(void) {
         for (i = 0; i < 2 * n; i++) runs[i] = UINT64_C(0x0123456789ABCDEF) * (i + 1) / 2;
         memcpy(rows, stale, sizeof rows);
         memcpy(columns, stale, sizeof columns);
-        memset(rows, 0, 5);
-        memset(columns, 0, 5);
-        rows[0] = 1;
-        columns[0] = 2;
-        rows[4] = columns[4] = (uint8_t)n;
-        for (i = 0; i < n; i++) {
-            for (j = 0; j < 16; j++) rows[5 + 16 * i + j] = columns[5 + n * j + i] = (uint8_t)(runs[2 * i + j / 8] >> (56 - 8 * (j % 8)));
-        }
+        put_set(rows, VIZTUREL_ROWS, n, runs);
+        put_set(columns, VIZTUREL_COLUMNS, n, runs);
         fresh(s, WORDS);
         right &= vizturel_build(s, WORDS, here, runs, 2 * n) == 0;
         memcpy(turned, stale, sizeof turned);
@@ -295,6 +304,79 @@ static void editions(void) {
         }
     }
     CHECK(memcmp(turned, stale, sizeof turned) == 0);
+}
+
+/* Runs in any order, in both editions: the outcome, where every run of it is written and held, and what became of each; the bytes after both; each
+ * slice one byte too short, which changes neither; and one run more than there is room for. */
+static void mended(void) {
+    static const struct {
+        size_t n, outcome;
+        uint64_t runs[12], due[8];
+        uint8_t fates[6];
+    } given[] = {
+        {0, 0, {0}, {0}, {0}},
+        {1, 0, {4, 3}, {0}, {0}},
+        {2, 2, {2, 3, 8, 9}, {2, 3, 8, 9}, {2, 2}},
+        {2, 2, {8, 9, 2, 3}, {2, 3, 8, 9}, {2, 2}},
+        {2, 1, {4, 5, 2, 3}, {2, 5}, {1, 1}},
+        {2, 2, {5, 6, 2, 3}, {2, 3, 5, 6}, {2, 2}},
+        {3, 1, {2, 3, 2, 3, 3, 2}, {2, 3}, {1, 1, 0}},
+        {3, 1, {2, 9, 4, 5, M, 0}, {2, 9}, {1, 1, 0}},
+        {2, 2, {M, M, 0, 0}, {0, 0, M, M}, {2, 2}},
+        {4, 1, {M, M, 0, 0, M - 1, M - 1, 1, M - 2}, {0, M}, {1, 1, 1, 1}},
+        {6, 3, {20, 21, 2, 3, 9, 8, 5, 7, 4, 4, 12, 12}, {2, 7, 12, 12, 20, 21}, {2, 1, 0, 1, 1, 2}},
+    };
+    uint8_t bytes[sizeof out], due[sizeof out], set[sizeof out], stale[sizeof out], report[8];
+    uint64_t edition;
+    size_t i, length, filled;
+    vizturel_mended m;
+    ASSERT(sizeof(vizturel_mended) == 24, "three words");
+    memset(stale, 0xEE, sizeof stale);
+    for (i = 0; i < sizeof given / sizeof *given; i++) {
+        for (edition = VIZTUREL_ROWS; edition <= VIZTUREL_COLUMNS; edition++) {
+            size_t n = given[i].n;
+            int right = 1;
+            length = put_set(bytes, edition, n, given[i].runs);
+            memcpy(due, stale, sizeof due);
+            filled = put_set(due, edition, given[i].outcome, given[i].due);
+            only(s, WORDS, 30, 40);
+            memcpy(kept, s, sizeof s);
+            memcpy(set, stale, sizeof set);
+            memcpy(report, stale, sizeof report);
+            m = vizturel_mend(s, WORDS, here, bytes, length, set, filled - 1, report, sizeof report);
+            right &= m.refusal == VIZTUREL_OUTPUT_SHORT && m.bytes == 0 && m.report == 0;
+            if (n > 0) right &= vizturel_mend(s, WORDS, here, bytes, length, set, sizeof set, report, n - 1).refusal == VIZTUREL_OUTPUT_SHORT;
+            right &= memcmp(s, kept, sizeof s) == 0 && memcmp(set, stale, sizeof set) == 0 && memcmp(report, stale, sizeof report) == 0;
+            m = vizturel_mend(s, WORDS, here, bytes, length, set, sizeof set, report, sizeof report);
+            right &= m.refusal == VIZTUREL_DONE && m.bytes == filled && m.report == n && memcmp(set, due, sizeof set) == 0;
+            right &= memcmp(report, given[i].fates, n) == 0 && memcmp(report + n, stale, sizeof report - n) == 0;
+            right &= holds(s, WORDS, given[i].outcome, given[i].due);
+            memcpy(set, stale, sizeof set);
+            right &= vizturel_mend(s, WORDS, here, bytes, length, set, filled, report, n).refusal == VIZTUREL_DONE && memcmp(set, due, sizeof set) == 0;
+            check(right, "a mended set", __LINE__);
+        }
+    }
+    /* 3 under 5 bytes, 4, 3, then 8 by the outcome's runs, whether there is room or not; a pool for one run */
+    only(one, VIZTUREL_WORDS(1), 30, 40);
+    memcpy(kept, one, sizeof one);
+    memcpy(set, stale, sizeof set);
+    memcpy(report, stale, sizeof report);
+    for (i = 0; i < 4; i++) {
+        size_t room = i / 2 * sizeof set, told = i / 2 * sizeof report;
+        length = put_set(bytes, 1 + i % 2, 2, given[3].runs);
+        CHECK(vizturel_mend(one, VIZTUREL_WORDS(1), here, bytes, length, set, room, report, told).refusal == VIZTUREL_CAPACITY);
+        CHECK(vizturel_mend(one, VIZTUREL_WORDS(1), here, bytes, length - 1, set, room, report, told).refusal == VIZTUREL_SET_LENGTH);
+        CHECK(vizturel_mend(one, VIZTUREL_WORDS(1), here, bytes, 4, set, room, report, told).refusal == VIZTUREL_SET_LENGTH);
+        CHECK(vizturel_mend(one, VIZTUREL_WORDS(1), here, NULL, 0, set, room, report, told).refusal == VIZTUREL_SET_LENGTH);
+        bytes[0] = 3;
+        CHECK(vizturel_mend(one, VIZTUREL_WORDS(1), here, bytes, length - 1, set, room, report, told).refusal == VIZTUREL_SET_VERSION);
+        CHECK(vizturel_mend(one, VIZTUREL_WORDS(1), here, bytes, 4, set, room, report, told).refusal == VIZTUREL_SET_LENGTH);
+    }
+    CHECK(memcmp(one, kept, sizeof one) == 0 && memcmp(set, stale, sizeof set) == 0 && memcmp(report, stale, sizeof report) == 0);
+    /* two runs that make one do fit */
+    length = put_set(bytes, VIZTUREL_COLUMNS, 2, given[4].runs);
+    m = vizturel_mend(one, VIZTUREL_WORDS(1), here, bytes, length, set, 21, report, 2);
+    CHECK(m.refusal == VIZTUREL_DONE && m.bytes == 21 && m.report == 2 && holds(one, VIZTUREL_WORDS(1), 1, given[4].due));
 }
 
 static void gaps(void) {
@@ -515,6 +597,8 @@ static void refusals(void) {
     CHECK(vizturel_write_map(s, WORDS, here, 0, 65, nothing, sizeof nothing).refusal == VIZTUREL_OUTPUT_SHORT);
     CHECK(vizturel_load(s, WORDS, here, version_three, 4) == VIZTUREL_SET_LENGTH);
     CHECK(vizturel_load(s, WORDS, here, version_three, 5) == VIZTUREL_SET_VERSION);
+    CHECK(vizturel_mend(s, WORDS - 1, here, version_three, 5, nothing, sizeof nothing, NULL, 0).refusal == VIZTUREL_STORE_LENGTH);
+    CHECK(vizturel_mend(s, WORDS, here, version_three, 5, nothing, sizeof nothing, NULL, 0).refusal == VIZTUREL_SET_VERSION);
     CHECK(vizturel_fill(s, WORDS, here, 0, 0).refusal == VIZTUREL_WINDOW);
     CHECK(vizturel_fill(s, WORDS, here, M, 2).refusal == VIZTUREL_WINDOW);
     CHECK(vizturel_read_map(s, WORDS, here, 0, 10, nothing, 3).refusal == VIZTUREL_WINDOW);
@@ -527,6 +611,8 @@ static void refusals(void) {
     CHECK(vizturel_draw_front(s, WORDS, here, 1, 0, 1).refusal == VIZTUREL_UNSOUND);
     CHECK(vizturel_write(s, WORDS, here, VIZTUREL_ROWS, nothing, sizeof nothing).refusal == VIZTUREL_UNSOUND);
     CHECK(vizturel_write(s, WORDS, here, VIZTUREL_COLUMNS, nothing, sizeof nothing).refusal == VIZTUREL_UNSOUND);
+    CHECK(vizturel_mend(s, WORDS, here, version_three, 5, nothing, sizeof nothing, NULL, 0).refusal == VIZTUREL_UNSOUND);
+    CHECK(memcmp(nothing, same, sizeof same) == 0);
     CHECK(memcmp(kept, s, sizeof s) == 0);
 }
 
@@ -829,6 +915,7 @@ static void unopened(void) {
         CHECK(vizturel_fill(s, WORDS, no, 0, 0).refusal == VIZTUREL_WORLD_UNOPENED);
         CHECK(vizturel_read_map(s, WORDS, no, 0, 7, nothing, 0).refusal == VIZTUREL_WORLD_UNOPENED);
         CHECK(vizturel_load(s, WORDS, no, nothing, 1) == VIZTUREL_WORLD_UNOPENED);
+        CHECK(vizturel_mend(s, WORDS, no, nothing, 1, NULL, 0, NULL, 0).refusal == VIZTUREL_WORLD_UNOPENED);
         CHECK(vizturel_build(s, WORDS, no, bad, 2) == VIZTUREL_WORLD_UNOPENED);
         CHECK(vizturel_write(s, WORDS, no, VIZTUREL_ROWS, nothing, 1).refusal == VIZTUREL_WORLD_UNOPENED);
         CHECK(vizturel_write(s, WORDS, no, VIZTUREL_COLUMNS, nothing, 1).refusal == VIZTUREL_WORLD_UNOPENED);
@@ -882,6 +969,7 @@ int main(void) {
     for (here = 0; here < 2; here++) {
         cases();
         editions();
+        mended();
         gaps();
         spare_bits();
         both_forms();

@@ -92,11 +92,15 @@ static uint64_t chance(uint64_t n) {
 /* a sound pool that is lent beside the damaged one, one that receives what is made of it, and sound slices */
 static pool partner, receiver;
 static slice out, map, set_bytes, run_words, calls, told_calls;
+/* a written set to be mended, and slices of just what is due of it */
+static slice mixed, mended, fates;
 static size_t set_length;
 
 #define MAP_LENGTH 100
 #define MAP_BYTES ((MAP_LENGTH + 7) / 8)
 #define LIST_RUNS 3
+#define MIXED_RUNS 4
+#define MENDED_RUNS 2
 #define CALLS 17 /* each number up to the last that names a call once, and one that names none */
 #define RECORD sizeof(vizturel_call)
 
@@ -182,7 +186,7 @@ static void changing_calls(pool s, uint64_t at, const uint64_t *damaged, uint64_
     const uint64_t *p = partner.words;
     size_t n = partner.count;
     int which;
-    for (which = 0; which < 10; which++) {
+    for (which = 0; which < 11; which++) {
         switch (which) {
         case 0: refusal = vizturel_set(s.words, s.count, at, lower, upper, v).refusal; break;
         case 1: refusal = vizturel_flip(s.words, s.count, at, lower, upper); break;
@@ -194,6 +198,10 @@ static void changing_calls(pool s, uint64_t at, const uint64_t *damaged, uint64_
         case 7: refusal = vizturel_not(s.words, s.count, at, p, n, 0); break;
         case 8: refusal = vizturel_shifted(s.words, s.count, at, x, v, p, n, 0); break;
         case 9: refusal = vizturel_read_map_by_bytes(s.words, s.count, at, x / 2, MAP_LENGTH, map.at, MAP_BYTES).refusal; break;
+        case 10:
+            refusal = vizturel_mend(s.words, s.count, at, mixed.at, VIZTUREL_SET_BYTES(MIXED_RUNS), mended.at, VIZTUREL_SET_BYTES(MENDED_RUNS),
+                                    fates.at, MIXED_RUNS).refusal;
+            break;
         }
         CHECK(told ? refusal == told : refusal == 0 || refusal == VIZTUREL_CAPACITY);
         CHECK(refusal == 0 || memcmp(s.words, damaged, 8 * s.count) == 0);
@@ -390,6 +398,66 @@ static void fill_set(slice s, size_t length, uint8_t version, const uint8_t *cou
     for (i = 1; i < 5 && i < length; i++) s.at[i] = count[i - 1];
 }
 
+/* What the runs of a mixed set are, in turn: one position, two, up to the one before it in the set, none, and three. */
+enum { SINGLE, REACHED, REACHING, REVERSED, THREE, IN_TURN };
+
+/* Fills a slice with a written set of n runs that fall, by fives of these kinds, and tells how many runs its positions have. */
+static size_t mix(slice s, size_t n, uint64_t edition) {
+    static const uint64_t ends[IN_TURN] = {4, 5, 7, 3, 6};
+    size_t i, j, outcome = 0;
+    memset(s.at, 0, 5);
+    s.at[0] = (uint8_t)edition;
+    s.at[3] = (uint8_t)(n >> 8);
+    s.at[4] = (uint8_t)n;
+    for (i = 0; i < n; i++) {
+        uint64_t below = 4 * (n - i), run[2];
+        run[0] = below + 4;
+        run[1] = below + ends[i % IN_TURN];
+        outcome += i % IN_TURN != REVERSED && i % IN_TURN != REACHING;
+        for (j = 0; j < 16; j++) s.at[5 + (edition == VIZTUREL_ROWS ? 16 * i + j : n * j + i)] = (uint8_t)(run[j / 8] >> (56 - 8 * (j % 8)));
+    }
+    return outcome;
+}
+
+/* Mixed sets of a few runs and of about as many as the library takes at once, in a slice of just their length, mended into slices of just what is
+ * due, and of a byte less. */
+static void mend_lengths(void) {
+    static const size_t counts[] = {0, 1, 2, 3, 4, 5, 6, 11, 511, 512, 513, 1024, 1025};
+    pool s = lend_pool(VIZTUREL_WORDS(1025));
+    size_t c, i;
+    uint64_t edition;
+    for (c = 0; c < sizeof counts / sizeof *counts; c++) {
+        for (edition = VIZTUREL_ROWS; edition <= VIZTUREL_COLUMNS; edition++) {
+            size_t n = counts[c], length = VIZTUREL_SET_BYTES(n), due;
+            slice bytes = lend(length);
+            due = VIZTUREL_SET_BYTES(mix(bytes, n, edition));
+            slice set = lend(due), less = lend(due - 1), report = lend(n), fewer = lend(n > 0 ? n - 1 : 0);
+            writable(bytes, 0);
+            CHECK(vizturel_new_one(s.words, s.count) == 0);
+            CHECK(vizturel_mend(s.words, s.count, 0, bytes.at, length, less.at, due - 1, report.at, n).refusal == VIZTUREL_OUTPUT_SHORT);
+            CHECK(n == 0 || vizturel_mend(s.words, s.count, 0, bytes.at, length, set.at, due, fewer.at, n - 1).refusal == VIZTUREL_OUTPUT_SHORT);
+            CHECK(vizturel_mend(s.words, s.count, 0, bytes.at, length > 5 ? length - 1 : 4, set.at, due, report.at, n).refusal == VIZTUREL_SET_LENGTH);
+            vizturel_mended m = vizturel_mend(s.words, s.count, 0, bytes.at, length, set.at, due, report.at, n);
+            CHECK(m.refusal == 0 && m.bytes == due && m.report == n);
+            /* what was written loads, in the edition read, and is written again */
+            CHECK(set.at[0] == edition && vizturel_load(s.words, s.count, 0, set.at, due) == 0);
+            slice again = lend(due);
+            CHECK(vizturel_write(s.words, s.count, 0, edition, again.at, due).refusal == 0 && memcmp(again.at, set.at, due) == 0);
+            for (i = 0; i < n; i++) {
+                int joined = i % IN_TURN == REACHING || (i % IN_TURN == REACHED && i + 1 < n);
+                CHECK(report.at[i] == (i % IN_TURN == REVERSED ? VIZTUREL_DROPPED : joined ? VIZTUREL_JOINED : VIZTUREL_KEPT));
+            }
+            give_back(bytes);
+            give_back(set);
+            give_back(less);
+            give_back(report);
+            give_back(fewer);
+            give_back(again);
+        }
+    }
+    give_back(s.lent);
+}
+
 /* Written sets of every length up to some, of every version up to 3, with right and wrong counts of runs, loaded and converted; outputs of every
  * length; run lists and maps too. */
 static void damaged_bytes(void) {
@@ -420,6 +488,12 @@ static void damaged_bytes(void) {
                 }
                 w = vizturel_convert(bytes.at, length, shorter.at, length > 0 ? length - 1 : 0);
                 CHECK(r == 0 || r == VIZTUREL_CAPACITY ? w.refusal == VIZTUREL_OUTPUT_SHORT : w.refusal == r);
+                /* mending too, where there is room: these runs are right already, and come back */
+                slice kept = lend(length / 16);
+                writable(turned, 1);
+                vizturel_mended m = vizturel_mend(s.words, s.count, 0, bytes.at, length, turned.at, length, kept.at, length / 16);
+                CHECK(m.refusal == r && (r != 0 || (m.bytes == length && m.report == length / 16 && memcmp(turned.at, bytes.at, length) == 0)));
+                give_back(kept);
                 writable(bytes, 1);
                 give_back(turned);
                 give_back(shorter);
@@ -578,6 +652,11 @@ int main(int argc, char **argv) {
     memset(set_bytes.at, 0, set_length);
     set_bytes.at[0] = set_bytes.at[4] = 1;
     set_bytes.at[20] = 9;
+    mixed = lend(VIZTUREL_SET_BYTES(MIXED_RUNS));
+    mended = lend(VIZTUREL_SET_BYTES(MENDED_RUNS));
+    CHECK(mix(mixed, MIXED_RUNS, VIZTUREL_COLUMNS) == MENDED_RUNS);
+    fates = lend(MIXED_RUNS);
+    writable(mixed, 0);
     calls = lend(CALLS * RECORD);
     told_calls = lend(CALLS * RECORD);
     for (i = 0; i < CALLS; i++) {
@@ -590,6 +669,7 @@ int main(int argc, char **argv) {
     for (i = 0; i < sizeof capacities / sizeof *capacities; i++) damaged_pools(capacities[i], stride);
     wrong_lengths();
     damaged_bytes();
+    mend_lengths();
     map_lengths();
     frame_lengths();
     /* a test that met no sound pool, or no damaged one, would have tested nothing */

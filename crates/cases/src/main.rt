@@ -20,6 +20,7 @@ use model::Edition;
 use model::Found;
 use model::Listed;
 use model::Listing;
+use model::Mended;
 use model::Numbered;
 use model::Operation;
 use model::Refusal;
@@ -133,6 +134,18 @@ fn written(w: Written, out: &[u8]) {
         Written::Bytes(n) => {
             io::write_all(1, b" ");
             hexes(out, n);
+        }
+    }
+}
+
+fn mended(m: Mended, out: &[u8], report: &[u8]) {
+    match m {
+        Mended::Refused(r) => refused(r),
+        Mended::Bytes(n, k) => {
+            io::write_all(1, b" ");
+            hexes(out, n);
+            io::write_all(1, b" ");
+            hexes(report, k);
         }
     }
 }
@@ -360,6 +373,16 @@ fn case_16(s: &mut [u64], out: &mut [u8; 37]) {
     end_line();
 }
 
+// The same bytes mended: the two runs touch, so both are joined (document 02, Ticket 9).
+fn case_16_mended(s: &mut [u64], told: &[u8; 37], out: &mut [u8; 21], report: &mut [u8; 2]) {
+    io::write_all(1, b"16, mended:");
+    only(s, 8, 9);
+    let m = bytes::mend(s, 0, told, out, report);
+    mended(m, out, report);
+    held(s);
+    end_line();
+}
+
 fn main() {
     let mut s = [0u64; 496];
     let mut a = [0u64; 496];
@@ -385,4 +408,7 @@ fn main() {
     case_15(&mut s, &mut out);
     case_15_columns(&mut s, &mut out);
     case_16(&mut s, &mut out);
+    let mut whole = [0u8; 21];
+    let mut notes = [0u8; 2];
+    case_16_mended(&mut s, &out, &mut whole, &mut notes);
 }

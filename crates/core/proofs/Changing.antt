@@ -38,7 +38,7 @@ use Rattle.changes.proofs.Shifted.{shift-few}
 use Rattle.core.specs.Met.{Site, fedOf, fullAt, outcomeOf, Met, Readable}
 use Rattle.core.proofs.Doors.{lent-held, lent-limited, lent-closing, lent-settled}
 use Rattle.core.proofs.Meeting.{met-by, settled-same, settled-as}
-use Rattle.core.proofs.Refusing.{refused-before, refused-full}
+use Rattle.core.proofs.Refusing.{refused-before, none-before, refused-full}
 use Rattle.core.proofs.Spans.{Within, of-range, count-nothing}
 
 -- the call c has the conditions cs, changes the positions held to Q of them, and gives A of them
@@ -87,15 +87,22 @@ module _ {w : List ℕ} {i : ℕ} {c : Call Site} {cs : List Condition} {Q : Pos
     pub refused-first : {n : ℕ} → firstGiven beforeCapacity cs ≡ some n → Met w i c (refused n) w
     refused-first e = refused-due (readable-due _ refl (refused-before cs (tooMany (fullAt w i) (Q (heldBy w i))) e)) refl
 
+    -- then more runs than it may have
+    pub full-before : firstGiven beforeCapacity cs ≡ none → {w′ : List ℕ} → (allowance w i < stretches (Q (heldBy w i))) × (w′ ≡ w) → Met w i c (refused 8) w′
+    full-before early h = refused-due (readable-due true (fits-not (R .openable) (Q (heldBy w i)) (h .0)) (refused-full cs early)) (h .1)
+
+    -- then the conditions that come after these
+    pub refused-after : {n : ℕ} → stretches (Q (heldBy w i)) ≤ allowance w i → refusal cs ≡ some n → Met w i c (refused n) w
+    refused-after fits e = refused-due (readable-due false (fits-few (R .openable) (Q (heldBy w i)) fits) e) refl
+
     module _ (quiet : refusal cs ≡ none) (Q′ : Positions) (alike : (x : ℕ) → x < size → Q′ x ≡ Q (heldBy w i) x) where
       -- the changed set has as many runs
       runs-alike : stretches Q′ ≡ stretches (Q (heldBy w i))
       runs-alike = stretches-cong Q′ (Q (heldBy w i)) alike
 
-      -- then more runs than it may have
+      -- more than it may have
       pub full : {w′ : List ℕ} → (allowance w i < stretches Q′) × (w′ ≡ w) → Met w i c (refused 8) w′
-      full h =
-          refused-due (readable-due true (fits-not (R .openable) (Q (heldBy w i)) (subst (λ n. allowance w i < n) runs-alike (h .0))) (refused-full cs quiet)) (h .1)
+      full h = full-before (none-before cs quiet) (subst (λ n. allowance w i < n) runs-alike (h .0), h .1)
 
       -- and else the world is changed
       pub changes-to : {w′ : List ℕ} {a : Result} → stretches Q′ ≤ allowance w i → Settled w w′ i Q′ → a ≡ A (heldBy w i) → Met w i c (gave a) w′

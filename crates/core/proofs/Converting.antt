@@ -54,7 +54,7 @@ module _ (bs out : List ℕ) where
         → Handles (convert bs out) (gave (written (length bs) out′)) out′
     unfolding converted
     convert-handles {out′} h p =
-        let told : encode (otherEdition e) (runsTold e n (drop 5 bs)) ≡ converted bs = ap₂ (λ d rs. encode (otherEdition d) rs) (a .edition) (accepted-runs bs a) in
+        let told : encode (otherEdition e) (runsTold e n (drop 5 bs)) ≡ converted bs = ap₂ (λ d rs. encode (otherEdition d) rs) (a .shaped .edition) (accepted-runs bs a) in
         let q : out′ ≡ intoFront (converted bs) out = p ∙ ap (λ l. intoFront l out) told in
         let k : length bs ≡ length (converted bs) = sym (converted-length bs (intact .length-fits)) in
         let w = handles (convert-done bs out intact h) in

@@ -11,6 +11,7 @@ pub mod Draws
 pub mod Overwriting
 pub mod Receiving
 pub mod Converting
+pub mod Mending
 pub mod Emptying
 pub mod Joins
 pub mod Comparing

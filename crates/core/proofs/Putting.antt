@@ -6,7 +6,8 @@ use mathlib.Core.Bool.{Bool, true, false}
 use mathlib.Core.List.{List, [], _∷_}
 use mathlib.Core.Option.{none, some}
 use native.Mathlib.Omega.{arith}
-use lib.ListN.{length}
+use lib.ListN.{length, take, drop}
+use lib.Seq.{take-at}
 use borrow.Author.Tests.{lt-ltb, le-ltb}
 use Rattle.model.specs.declared.Refusal.the-variants.{OutputShort, Window}
 use Rattle.model.specs.declared.Written.{Written}
@@ -25,6 +26,11 @@ use Rattle.core.specs.Met.{Site, fedOf, outcomeOf, Readable}
 use Rattle.core.specs.Out.{WritesOut}
 use Rattle.core.proofs.Doors.{lent-held, lent-limited}
 use Rattle.core.proofs.Meeting.{Reports, refused-by, met}
+
+-- bytes in front of a slice are there
+pub take-front : (bs out : List ℕ) → take (length bs) (intoFront bs out) ≡ bs
+unfolding intoFront
+take-front bs out = take-at bs (drop (length bs) out) (length bs) refl
 
 -- ---- the set of an open world
 module _ {w : List ℕ} {i : ℕ} {h : World} (op : Opened w i h) where

@@ -1,8 +1,8 @@
 -- The order of refusals: what the causes before too many runs give is given, and where they give nothing, the others count.
 -- Each law goes through the causes one by one. Assumes nothing.
 use Prim.Native.Nat.{ℕ}
-use mathlib.Core.Path.{_≡_, refl, ap}
-use mathlib.Core.Bool.{Bool, true, false, cond}
+use mathlib.Core.Path.{_≡_, refl, ap, _∙_}
+use mathlib.Core.Bool.{Bool, true, false, cond, _||_}
 use mathlib.Core.List.{List, [], _∷_, _++_}
 use mathlib.Core.Option.{Option, none, some}
 use native.Mathlib.Omega.{arith}
@@ -27,6 +27,7 @@ use Rattle.model.specs.Refusals.{
   firstGiven,
   numberOf,
   refusal,
+  shapeConditions,
   setConditions,
 }
 use Rattle.model.specs.Refusals
@@ -74,9 +75,13 @@ module _ (cs : List Condition) where
   pub refused-before : (t : Bool) {n : ℕ} → firstGiven beforeCapacity cs ≡ some n → refusal (Refusals.capacity when t ∷ cs) ≡ some n
   refused-before t {n} e = first-some beforeCapacity fromCapacity (Refusals.capacity when t ∷ cs) n e
 
+  -- those of none that is given
+  pub none-before : refusal cs ≡ none → firstGiven beforeCapacity cs ≡ none
+  none-before e = all-none beforeCapacity fromCapacity cs e
+
   -- it counts where they do not
-  pub refused-full : refusal cs ≡ none → refusal (Refusals.capacity when true ∷ cs) ≡ some 8
-  refused-full e = first-none beforeCapacity fromCapacity (Refusals.capacity when true ∷ cs) (all-none beforeCapacity fromCapacity cs e)
+  pub refused-full : firstGiven beforeCapacity cs ≡ none → refusal (Refusals.capacity when true ∷ cs) ≡ some 8
+  refused-full e = first-none beforeCapacity fromCapacity (Refusals.capacity when true ∷ cs) e
 
 -- ---- of calls that have to have room in a slice, with other conditions beside
 -- what comes before too many runs comes before that
@@ -86,7 +91,19 @@ refused-earlier cs t {n} e = first-some beforeCapacity fromCapacity (Refusals.ou
 -- beside the conditions of a written set it counts where they do not
 pub refused-short : (bs : List ℕ) → refusal (setConditions bs) ≡ none → refusal (Refusals.outputShort when true ∷ setConditions bs) ≡ some 2
 refused-short bs e =
-    first-none beforeCapacity fromCapacity (Refusals.outputShort when true ∷ setConditions bs) (all-none beforeCapacity fromCapacity (setConditions bs) e)
+    first-none beforeCapacity fromCapacity (Refusals.outputShort when true ∷ setConditions bs) (none-before (setConditions bs) e)
+
+-- beside those of a set's shape it counts so for either of two slices
+pub refused-room : (bs : List ℕ) (a b : Bool) → refusal (shapeConditions bs) ≡ none
+    → refusal (Refusals.outputShort when a ∷ Refusals.outputShort when b ∷ shapeConditions bs) ≡ cond {A = Option ℕ} (a || b) (some 2) none
+refused-room bs a b e =
+    first-none beforeCapacity fromCapacity (Refusals.outputShort when a ∷ Refusals.outputShort when b ∷ shapeConditions bs) (none-before (shapeConditions bs) e)
+    ∙ go a b
+  where
+    go : (a b : Bool) → cond {A = Option ℕ} (a || (b || false)) (some 2) none ≡ cond {A = Option ℕ} (a || b) (some 2) none
+    go true b = refl
+    go false true = refl
+    go false false = refl
 
 -- ---- of worlds that are looked at, with other conditions beside
 -- the causes that come after those

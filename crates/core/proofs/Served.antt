@@ -11,7 +11,7 @@ use Rattle.model.specs.Positions.{Positions, bounded}
 use Rattle.model.specs.Refusals.{Condition, _when_, capacity, refusal, tooMany}
 use Rattle.model.specs.Call
 use Rattle.model.specs.Call.{Fed, Call, Result, gave}
-use Rattle.model.specs.Model.{Outcome, positionsOf, reads, settle, report, change, write, changed, drawnFirst, drawnLast, serve}
+use Rattle.model.specs.Model.{Outcome, positionsOf, reads, settle, report, change, write, mending, changed, drawnFirst, drawnLast, serve}
 use Rattle.core.proofs.Meeting.{refused-not}
 
 -- only 0 .. 2^64 − 1 are held
@@ -44,7 +44,7 @@ module _ (full : ℕ → Bool) (s : Fed) where
 
   -- every call is one of these
   pub served : (c : Call Fed) → Served s (serve full s c)
-  unfolding serve changed write drawnFirst drawnLast
+  unfolding serve changed write mending drawnFirst drawnLast
   served (Call.set l u v) = alters _ _ _
   served (Call.flip l u) = alters _ _ _
   served (Call.get x) = reports _ _
@@ -62,6 +62,7 @@ module _ (full : ℕ → Bool) (s : Fed) where
   served (Call.complement t) = alters _ _ _
   served (Call.equal t) = reports _ _
   served (Call.load bs) = alters _ _ _
+  served (Call.mend bs out report) = alters _ _ _
   served (Call.build rs) = alters _ _ _
   served (Call.writeSet e out) = reports _ _
   served (Call.readMap base n bs) = alters _ _ _

@@ -7,6 +7,7 @@ pub mod convert;
 pub mod join;
 pub mod listing;
 pub mod make;
+pub mod mend;
 pub mod report;
 pub mod runs;
 pub mod window;

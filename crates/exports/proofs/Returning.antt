@@ -1,23 +1,25 @@
 -- From what the public call promises, how its answer is laid flat and which part of that crosses, to what the exported function returns.
 -- Assumes nothing.
 use Prim.Native.Nat.{ℕ}
-use mathlib.Core.Path.{_≡_, refl, ap, _∙_, subst}
+use mathlib.Core.Path.{_≡_, refl, ap, ap₂, _∙_, subst}
 use mathlib.Core.List.{List}
 use Rattle.model.specs.declared.Bound.{Bound}
 use Rattle.model.specs.declared.Limits.{Limits}
 use Rattle.model.specs.declared.Written.{Written}
-use Rattle.model.specs.Answers.{writtenAnswer}
+use Rattle.model.specs.declared.Mended.{Mended}
+use Rattle.model.specs.Answers.{writtenAnswer, mendedAnswer}
 use Rattle.model.specs.Call.{Call, Answer}
 use Rattle.model.specs.Handled.{Handled}
 use Rattle.core.specs.Met.{Site, Met, Made}
 use Rattle.core.specs.Handles.{Handles}
-use Rattle.core.specs.Out.{Unwritten, WritesOut}
+use Rattle.core.specs.Out.{Unwritten, WritesOut, Unmended, Mends}
 use Rattle.flat.specs.declared.Reply.{Reply}
 use Rattle.flat.specs.Flat.{replyOf}
 use Rattle.frame.specs.Frame.{Framed}
 use Rattle.exports.specs.declared.structs.CWritten.{CWritten}
-use Rattle.exports.specs.Structs.{refusalOf, writtenOf}
-use Rattle.exports.specs.Returns.{Makes, Returns, sliceAfter, Writes, Handed, Frames}
+use Rattle.exports.specs.declared.structs.CMended.{CMended}
+use Rattle.exports.specs.Structs.{refusalOf, writtenOf, mendedOf}
+use Rattle.exports.specs.Returns.{Makes, Returns, sliceAfter, Writes, slicesAfter, MendsFlat, Handed, Frames}
 
 -- a call between two bounds is the call between what they were made of
 pub between : (f : Bound → Bound → Call Site) {p q x y : Bound} → p ≡ x → q ≡ y → f p q ≡ f x y
@@ -41,6 +43,19 @@ pub wrote : {c c′ : List ℕ → Call Site} {w : List ℕ} {i : ℕ} {out out�
     → ((o : List ℕ) → q ≡ replyOf (writtenAnswer a o)) → r ≡ writtenOf q → Writes w i c′ out r out′
 unfolding returned
 wrote {out = out} {out′} a e k p s = record { returns = returned (ap (λ f. f out) e) (k .met) (p out′) s; slice = slice-is out out′ a (k .unwritten) }
+
+-- two slices that are written, or left
+slices-are : (out out′ report report′ : List ℕ) (a : Mended) → Unmended a out out′ report report′ → (out′, report′) ≡ slicesAfter (mendedAnswer a out′ report′) out report
+slices-are out out′ report report′ (Mended.Refused r) u = ap₂ (λ x y. (x, y)) (u .0) (u .1)
+slices-are out out′ report report′ (Mended.Bytes n m) u = refl
+
+pub mends : {w w′ : List ℕ} {i : ℕ} {bs out report out′ report′ : List ℕ} (a : Mended) {q : Reply} {r : CMended} → Mends w i bs out report a w′ out′ report′
+    → ((o p : List ℕ) → q ≡ replyOf (mendedAnswer a o p)) → r ≡ mendedOf q → MendsFlat w i bs out report r w′ out′ report′
+unfolding returned
+mends {out = out} {report} {out′} {report′} a k p s = record {
+  returns = returned refl (k .met) (p out′ report′) s;
+  slices = slices-are out out′ report report′ a (k .unmended);
+}
 
 -- a call on a slice alone
 pub handed : {R : Type 0} {h : Handled} {f : Reply → R} {r : R} {a : Answer} {q : Reply} {bs : List ℕ} → Handles h a bs → q ≡ replyOf a → r ≡ f q → Handed h f r bs

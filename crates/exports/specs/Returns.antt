@@ -7,12 +7,13 @@ use Rattle.model.specs.declared.Limits.{Limits}
 use Rattle.model.specs.Call.{Call, Answer, refused, gave}
 use Rattle.model.specs.Handled.{Handled}
 use Rattle.core.specs.Met.{Site, Met, Made}
-use Rattle.interval_bit_set.specs.Out.{onWritten}
+use Rattle.interval_bit_set.specs.Out.{onWritten, onMended}
 use Rattle.flat.specs.declared.Reply.{Reply}
 use Rattle.flat.specs.Flat.{replyOf}
 use Rattle.frame.specs.Frame.{Framed}
 use Rattle.exports.specs.declared.structs.CWritten.{CWritten}
-use Rattle.exports.specs.Structs.{refusalOf, writtenOf}
+use Rattle.exports.specs.declared.structs.CMended.{CMended}
+use Rattle.exports.specs.Structs.{refusalOf, writtenOf, mendedOf}
 
 -- making the words w a pool with the limits ls answered as its promise says; w′ is left
 pub record Makes (w : List ℕ) (ls : List Limits) (r : ℕ) (w′ : List ℕ) : Type 0 where
@@ -35,6 +36,15 @@ sliceAfter (gave r) out = onWritten out (λ n bs. bs) r
 pub record Writes (w : List ℕ) (i : ℕ) (c : List ℕ → Call Site) (out : List ℕ) (r : CWritten) (out′ : List ℕ) : Type 0 where
   pub returns : Returns w i (c out) writtenOf r w
   pub slice : out′ ≡ sliceAfter (returns .answer) out
+
+-- and of mending, which writes into two slices: it leaves w′, out′ and report′
+abbrev pub slicesAfter : Answer → List ℕ → List ℕ → List ℕ × List ℕ
+slicesAfter (refused n) out report = (out, report)
+slicesAfter (gave r) out report = onMended (out, report) (λ n bs m cs. (bs, cs)) r
+
+pub record MendsFlat (w : List ℕ) (i : ℕ) (bs out report : List ℕ) (r : CMended) (w′ out′ report′ : List ℕ) : Type 0 where
+  pub returns : Returns w i (Call.mend bs out report) mendedOf r w′
+  pub slices : (out′, report′) ≡ slicesAfter (returns .answer) out report
 
 -- the same of a call on a lent slice alone, which the model says to be handled as h: it leaves bs, the whole slice
 pub record Handed {R : Type 0} (h : Handled) (f : Reply → R) (r : R) (bs : List ℕ) : Type 0 where

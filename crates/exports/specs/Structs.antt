@@ -13,6 +13,7 @@ use Rattle.exports.specs.declared.structs.CFound.{CFound}
 use Rattle.exports.specs.declared.structs.CListed.{CListed}
 use Rattle.exports.specs.declared.structs.CDrawn.{CDrawn}
 use Rattle.exports.specs.declared.structs.CWritten.{CWritten}
+use Rattle.exports.specs.declared.structs.CMended.{CMended}
 
 -- ---- what comes in
 abbrev pub boundOf : CBound → Bound
@@ -58,3 +59,7 @@ drawnOf r = record { refusal = r .refusal; found = r .found; start = r .number; 
 -- write, write_map, convert
 abbrev pub writtenOf : Reply → CWritten
 writtenOf r = record { refusal = r .refusal; bytes = r .number }
+
+-- mend
+abbrev pub mendedOf : Reply → CMended
+mendedOf r = record { refusal = r .refusal; bytes = r .number; report = r .«end» }

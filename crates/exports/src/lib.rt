@@ -12,13 +12,14 @@ ghost use Rattle.core.specs.Met.{site};
 ghost use Rattle.interval_bit_set.specs.Lent.{listingOf};
 ghost use Rattle.flat.specs.Flat.{operationOf, truth};
 ghost use Rattle.exports.specs.Structs.{boundOf, refusalOf, countOf, numberOf, talliedOf, valueOf, runOf, positionOf, listedOf, drawnOf, writtenOf};
-ghost use Rattle.exports.specs.Returns.{Makes, Returns, Writes, Handed, Frames};
+ghost use Rattle.exports.specs.Returns.{Makes, Returns, Writes, MendsFlat, Handed, Frames};
 use crate::structs::CAround;
 use crate::structs::CBound;
 use crate::structs::CCounted;
 use crate::structs::CDrawn;
 use crate::structs::CFound;
 use crate::structs::CListed;
+use crate::structs::CMended;
 use crate::structs::CNumbered;
 use crate::structs::CTallied;
 use crate::structs::CTested;
@@ -364,6 +365,22 @@ pub extern "C" fn vizturel_clear_map(base: u64, n: u64, map: &mut [u8]) -> CNumb
     ensures { λ r. ⌜ Handed (clearMap base n (now (map .entry))) numberOf r (now (map .exit)) ⌝ }
 {
     structs::number(flat::numbered(interval_bit_set::bytes::clear_map(base, n, map)))
+}
+
+// Gives a world the union of the runs that bytes tell, in whatever order they stand, touching and overlapping; writes it as a set into the front of
+// one slice, and what became of each run into the front of another: 0 dropped, 1 joined, 2 kept. Tells how many bytes both have.
+#[no_mangle]
+pub extern "C" fn vizturel_mend(
+    words: &mut [u64],
+    world: u64,
+    bytes: &[u8],
+    out: &mut [u8],
+    report: &mut [u8],
+) -> CMended
+    ensures { λ r. ⌜ MendsFlat (now (words .entry)) world (now (bytes .entry)) (now (out .entry)) (now (report .entry)) r
+        (now (words .exit)) (now (out .exit)) (now (report .exit)) ⌝ }
+{
+    structs::mended(flat::mended(interval_bit_set::bytes::mend(words, world, bytes, out, report)))
 }
 
 // Turns a written set of either edition into the other, in the front of a slice, and tells how many bytes it has. It takes no pool.

@@ -1,7 +1,7 @@
 // What crosses to C: numbers, slices and structs of numbers. A bound is a kind and a value; an answer is the part of a reply that its call
 // gives, and begins with its refusal's number, 0 where the call was not refused.
 ghost use mathlib.Core.Path.{_≡_};
-ghost use Rattle.exports.specs.Structs.{boundOf, countOf, numberOf, talliedOf, valueOf, runOf, positionOf, listedOf, drawnOf, writtenOf};
+ghost use Rattle.exports.specs.Structs.{boundOf, countOf, numberOf, talliedOf, valueOf, runOf, positionOf, listedOf, drawnOf, writtenOf, mendedOf};
 use flat::Reply;
 use model::Bound;
 
@@ -84,6 +84,14 @@ pub struct CDrawn {
 pub struct CWritten {
     pub refusal: u64,
     pub bytes: u64,
+}
+
+// How many bytes of a mended set were written, and how many of its report.
+#[repr(C)]
+pub struct CMended {
+    pub refusal: u64,
+    pub bytes: u64,
+    pub report: u64,
 }
 
 // The bound that C hands in.
@@ -191,5 +199,16 @@ pub fn bytes(r: Reply) -> CWritten
     CWritten {
         refusal: r.refusal,
         bytes: r.number,
+    }
+}
+
+// What mend returns.
+pub fn mended(r: Reply) -> CMended
+    ensures { λ c. ⌜ c ≡ mendedOf r ⌝ }
+{
+    CMended {
+        refusal: r.refusal,
+        bytes: r.number,
+        report: r.end,
     }
 }

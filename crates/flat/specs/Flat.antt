@@ -8,7 +8,7 @@ use Rattle.model.specs.declared.Listing.{Listing}
 use Rattle.model.specs.declared.Operation.{Operation}
 use Rattle.model.specs.declared.Run.{Run}
 use Rattle.model.specs.Numbers.{size}
-use Rattle.model.specs.Call.{Result, done, number, tallied, value, around, position, listing, drawn, written, Answer, refused, gave}
+use Rattle.model.specs.Call.{Result, done, number, tallied, value, around, position, listing, drawn, written, mended, Answer, refused, gave}
 use Rattle.flat.specs.declared.Reply.{Reply}
 
 -- ---- what comes in
@@ -47,7 +47,7 @@ abbrev pub positionReply : Option ℕ → Reply
 positionReply none = numbersOnly 0 0 0 0
 positionReply (some x) = numbersOnly 0 1 x 0
 
--- a result; of a tally the positions' carry and low word, and the runs; of bytes written, how many
+-- a result; of a tally the positions' carry and low word, and the runs; of bytes written, how many, and of a second slice's, too
 abbrev pub resultReply : Result → Reply
 resultReply done = numbersOnly 0 0 0 0
 resultReply (number n) = numbersOnly 0 (n / size) (n % size) 0
@@ -58,6 +58,7 @@ resultReply (position o) = positionReply o
 resultReply (listing l) = withListing 0 0 0 l
 resultReply (drawn o l) = drawnReply o l
 resultReply (written n bs) = numbersOnly 0 0 n 0
+resultReply (mended n bs m cs) = numbersOnly 0 0 n m
 
 -- AN ANSWER, FLAT: a refusal's number alone, or what the call gives
 abbrev pub replyOf : Answer → Reply

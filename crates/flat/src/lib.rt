@@ -3,7 +3,7 @@
 ghost use mathlib.Core.Path.{_≡_};
 ghost use mathlib.Core.List.{List};
 ghost use Prim.Native.Nat.{ℕ};
-ghost use Rattle.model.specs.Answers.{completedAnswer, countedAnswer, numberedAnswer, talliedAnswer, testedAnswer, aroundAnswer, foundAnswer, listedAnswer, drawnAnswer, writtenAnswer};
+ghost use Rattle.model.specs.Answers.{completedAnswer, countedAnswer, numberedAnswer, talliedAnswer, testedAnswer, aroundAnswer, foundAnswer, listedAnswer, drawnAnswer, writtenAnswer, mendedAnswer};
 ghost use Rattle.flat.specs.Flat.{boundBy, operationOf, bitOf, numbersOnly, withListing, replyOf};
 use model::Around;
 use model::Bound;
@@ -13,6 +13,7 @@ use model::Drawn;
 use model::Found;
 use model::Listed;
 use model::Listing;
+use model::Mended;
 use model::Numbered;
 use model::Operation;
 use model::Refusal;
@@ -21,8 +22,9 @@ use model::Tested;
 use model::Written;
 
 // An answer: the refusal's number, 0 where there is none, and then what the call gives, with zeros elsewhere. `found` is also a count's carry;
-// `number` is a count's low word, a number, a value, a position, a number of bytes, or the start of a run, and `end` its end; of a tally
-// `found` and `number` are the positions' carry and low word, and `end` is the number of runs; `first`, `last` and `value` are a listing.
+// `number` is a count's low word, a number, a value, a position, a number of bytes, or the start of a run, and `end` its end, or the number of
+// bytes of a second slice; of a tally `found` and `number` are the positions' carry and low word, and `end` is the number of runs; `first`, `last`
+// and `value` are a listing.
 pub struct Reply {
     pub refusal: u64,
     pub found: u64,
@@ -202,5 +204,15 @@ pub fn written(a: Written) -> Reply
     match a {
         Written::Refused(r) => refused(r),
         Written::Bytes(n) => numbers(0, 0, n as u64, 0),
+    }
+}
+
+// The answer of mending: how many bytes of the set, and how many of the report; the slices have them.
+pub fn mended(a: Mended) -> Reply
+    ensures { λ r. ⌜ ((out report : List ℕ) → r ≡ replyOf (mendedAnswer a out report)) ⌝ }
+{
+    match a {
+        Mended::Refused(r) => refused(r),
+        Mended::Bytes(n, m) => numbers(0, 0, n as u64, m as u64),
     }
 }

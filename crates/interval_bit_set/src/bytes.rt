@@ -8,10 +8,12 @@ ghost use Rattle.model.specs.Clearing.{clearMap};
 ghost use Rattle.model.specs.Converting.{convert};
 ghost use Rattle.written.specs.Listed.{pairs};
 ghost use Rattle.core.specs.Met.{Met};
+ghost use Rattle.core.specs.Out.{Mends};
 ghost use Rattle.core.specs.Handles.{Handles};
 use crate::look::Look;
 use model::Completed;
 use model::Counted;
+use model::Mended;
 use model::Numbered;
 use model::Written;
 
@@ -23,6 +25,25 @@ pub fn load(words: &mut [u64], world: u64, bytes: &[u8]) -> Completed
     match l {
         Look::Refused(r) => Completed::Refused(r),
         Look::Sound => core::bytes::load(words, world, bytes),
+    }
+}
+
+// Gives a world the union of the runs that bytes tell, in whatever order they stand, touching and overlapping; writes it as a set into the front of
+// one slice, and what became of each run into the front of another: 0 dropped, 1 joined, 2 kept. Tells how many bytes both have.
+pub fn mend(
+    words: &mut [u64],
+    world: u64,
+    bytes: &[u8],
+    out: &mut [u8],
+    report: &mut [u8],
+) -> Mended
+    ensures { λ r. ⌜ Mends (now (words .entry)) world (now (bytes .entry)) (now (out .entry)) (now (report .entry)) r
+        (now (words .exit)) (now (out .exit)) (now (report .exit)) ⌝ }
+{
+    let l = crate::look::look_at(words, world);
+    match l {
+        Look::Refused(r) => Mended::Refused(r),
+        Look::Sound => core::mend::mend(words, world, bytes, out, report),
     }
 }
 

@@ -16,7 +16,7 @@ use Rattle.model.proofs.Clearing.{clears-no-written-map, clears-twice, clears-n
 use Rattle.core.specs.Met.{fedOf, fullAt, outcomeOf, Leaves, Met}
 use Rattle.core.specs.Handles.{Handles}
 use Rattle.core.proofs.Served.{unrefused}
-use Rattle.lockstep.proofs.Writing.{take-front}
+use Rattle.core.proofs.Putting.{take-front}
 use Rattle.lockstep.specs.Clearing.{oldReading, WritesMap}
 
 module _ (base n : ℕ) (bs : List ℕ) where

@@ -26,9 +26,10 @@ use Rattle.model.proofs.Converting.{
 use Rattle.store.specs.Layout.{heldBy, worldsOf}
 use Rattle.core.specs.Met.{fedOf, fullAt, outcomeOf, Leaves, Met}
 use Rattle.core.specs.Handles.{Handles}
+use Rattle.core.proofs.Putting.{take-front}
 use Rattle.lockstep.specs.History.{WritesSet, Loads}
 use Rattle.lockstep.proofs.Forms.{met-alike}
-use Rattle.lockstep.proofs.Writing.{take-front, written-is}
+use Rattle.lockstep.proofs.Writing.{written-is}
 use Rattle.lockstep.proofs.Loading.{loaded-accepted}
 
 -- ---- a call of convert

@@ -24,8 +24,6 @@ use Rattle.model.specs.Refusals.{
   runOrder,
   outputShort,
   numberOf,
-  beforeCapacity,
-  fromCapacity,
   order,
   Condition,
   _when_,
@@ -36,8 +34,9 @@ use Rattle.model.specs.Refusals.{
 }
 use Rattle.model.specs.Refusals
 use Rattle.model.specs.Call
-use Rattle.model.specs.Call.{Fed, Call, feed, Result, Answer, refused}
-use Rattle.model.specs.Model.{positionsOf, reads, settle, report, change, write, changed, drawnFirst, drawnLast, serve}
+use Rattle.model.specs.Call.{Fed, Call, feed, Result, Answer, refused, gave}
+use Rattle.model.specs.Model.{positionsOf, reads, settle, report, change, write, mending, changed, drawnFirst, drawnLast, serve}
+use Rattle.model.specs.Mending.{mendedPositions}
 use Rattle.model.specs.Pools.{full, exceeds, otherClaims}
 use Rattle.model.proofs.Pools.{claims-split}
 use Rattle.store.specs.Layout.{capacity, openedAt, floorAt, plainAt, worldsOf}
@@ -45,7 +44,7 @@ use Rattle.store.specs.Soundness.{Sound}
 use Rattle.store.proofs.WorldLists.{opened-world}
 use Rattle.core.specs.Met.{Site, fedAt, fedOf, fullAt, outcomeOf, Met}
 use Rattle.core.proofs.Changing.{bounded-is}
-use Rattle.core.proofs.Refusing.{refused-before, first-alone}
+use Rattle.core.proofs.Served.{unrefused}
 
 -- ---- the number 8
 -- a number that is given is that of a cause that is given
@@ -80,9 +79,11 @@ eight-given ks cs e = let g = given-number ks cs e in subst (λ k. given k cs �
 
 -- ---- the calls
 module _ (full : ℕ → Bool) (s : Fed) where
-  -- that many runs were too many, of what the call would leave if no number were
+  -- that many runs were too many, of what the call would leave if no number were, where it would be done then
   abbrev TooMany : Call Fed → Type 0
-  TooMany c = (serve full s c) .answer ≡ refused 8 → full (stretches ((serve (λ r. false) s c) .positions)) ≡ true
+  TooMany c =
+      (serve full s c) .answer ≡ refused 8 → (r : Result) → (serve (λ r. false) s c) .answer ≡ gave r
+      → full (stretches ((serve (λ r. false) s c) .positions)) ≡ true
 
   -- no call that reports is refused with 8
   reports-not : (cs : List Condition) (a : Result) → given Refusals.capacity cs ≡ false → (report s cs a) .answer ≡ refused 8 → ⊥
@@ -96,47 +97,50 @@ module _ (full : ℕ → Bool) (s : Fed) where
           true≢false (sym (eight-given order (reads s ++ cs) (f ∙ ap some q)) ∙ quiet)
 
   -- one that changes is where the runs of what it changes to are too many
-  module _ (cs : List Condition) (Q : Positions) (a : Result) (quiet : given Refusals.capacity cs ≡ false) (written : given outputShort cs ≡ false) where
+  module _ (cs : List Condition) (Q : Positions) (a : Result) where
     -- the refusal, by whether they are
     due : Bool → Option ℕ
-    due t = refusal (Refusals.capacity when t ∷ (reads s ++ cs))
+    due t = refusal (reads s ++ Refusals.capacity when t ∷ cs)
 
-    -- then nothing else refuses it
-    free : due true ≡ some 8 → due false ≡ none
-    unfolding due
-    free e = go (firstGiven beforeCapacity (reads s ++ cs)) refl
-      where
-        go : (o : Option ℕ) → firstGiven beforeCapacity (reads s ++ cs) ≡ o → refusal (Refusals.capacity when false ∷ (reads s ++ cs)) ≡ none
-        go none f = first-alone beforeCapacity fromCapacity (Refusals.capacity when false ∷ (reads s ++ cs)) (rw (quiet, written)) ∙ f
-        go (some n) f =
-            let g : some n ≡ some 8 = sym (refused-before (reads s ++ cs) true f) ∙ e in
-            let q : n ≡ 8 = cc in
-            absurd (true≢false (sym (eight-given beforeCapacity (reads s ++ cs) (f ∙ ap some q)) ∙ quiet))
-
-    pub alters-many : (change full s cs Q a) .answer ≡ refused 8 → full (stretches ((change (λ r. false) s cs Q a) .positions)) ≡ true
+    -- which is 8
+    eight-due : (change full s cs Q a) .answer ≡ refused 8 → due (full (stretches Q)) ≡ some 8
     unfolding change tooMany due
-    alters-many e = go (full (stretches Q)) refl
+    eight-due e = go (refusal (reads s ++ Refusals.capacity when full (stretches Q) ∷ cs)) e
       where
-        eight : (o : Option ℕ) → (settle o (positionsOf s) a (bounded Q)) .answer ≡ refused 8 → o ≡ some 8
-        eight none p = let z : _≡_ {A = ℕ} 0 1 = cc in absurd (omega arith)
-        eight (some n) p = let q : n ≡ 8 = cc in ap some q
+        go : (o : Option ℕ) → (settle o (positionsOf s) a (bounded Q)) .answer ≡ refused 8 → o ≡ some 8
+        go none p = let z : _≡_ {A = ℕ} 0 1 = cc in absurd (omega arith)
+        go (some n) p = let q : n ≡ 8 = cc in ap some q
 
-        was : due (full (stretches Q)) ≡ some 8
-        was = eight (refusal (reads s ++ Refusals.capacity when full (stretches Q) ∷ cs)) e
+    -- it is refused with 8 only where they are, if nothing else gives 8
+    pub alters-over : given Refusals.capacity cs ≡ false → (change full s cs Q a) .answer ≡ refused 8 → full (stretches Q) ≡ true
+    unfolding change tooMany due
+    alters-over quiet e = go (full (stretches Q)) refl
+      where
+        go : (t : Bool) → full (stretches Q) ≡ t → full (stretches Q) ≡ true
+        go true f = f
+        go false f = absurd (true≢false (sym (eight-given order (reads s ++ Refusals.capacity when false ∷ cs) (sym (ap due f) ∙ eight-due e)) ∙ quiet))
+
+    pub alters-many : (change full s cs Q a) .answer ≡ refused 8 → (r : Result) → (change (λ r. false) s cs Q a) .answer ≡ gave r
+        → full (stretches ((change (λ r. false) s cs Q a) .positions)) ≡ true
+    unfolding change tooMany due
+    alters-many e r d = go (full (stretches Q)) refl
+      where
+        free : due false ≡ none
+        free = unrefused (due false) (positionsOf s) a r (bounded Q) (sym d)
 
         go : (t : Bool) → full (stretches Q) ≡ t → full (stretches ((settle (due false) (positionsOf s) a (bounded Q)) .positions)) ≡ true
         go true f =
-            ap (λ o. full (stretches ((settle o (positionsOf s) a (bounded Q)) .positions))) (free (sym (ap due f) ∙ was))
+            ap (λ o. full (stretches ((settle o (positionsOf s) a (bounded Q)) .positions))) free
             ∙ ap full (stretches-cong (bounded Q) Q (λ x h. sym (bounded-is Q x h))) ∙ f
         go false f =
-            let g = eight-given order (Refusals.capacity when false ∷ (reads s ++ cs)) (sym (ap due f) ∙ was) in
-            absurd (true≢false (sym g ∙ quiet))
+            let g : _≡_ {A = Option ℕ} none (some 8) = sym free ∙ sym (ap due f) ∙ eight-due e in
+            let z : _≡_ {A = ℕ} 0 1 = cc in absurd (omega arith)
 
   -- every call is one of these
   many : (c : Call Fed) → TooMany c
-  unfolding serve changed write drawnFirst drawnLast
-  many (Call.set l u v) = alters-many _ _ _ refl refl
-  many (Call.flip l u) = alters-many _ _ _ refl refl
+  unfolding serve changed write mending drawnFirst drawnLast
+  many (Call.set l u v) = alters-many _ _ _
+  many (Call.flip l u) = alters-many _ _ _
   many (Call.get x) = λ e. absurd (reports-not _ _ refl e)
   many (Call.runAt x) = λ e. absurd (reports-not _ _ refl e)
   many (Call.find l u v) = λ e. absurd (reports-not _ _ refl e)
@@ -146,15 +150,16 @@ module _ (full : ℕ → Bool) (s : Fed) where
   many (Call.ranges l u v) = λ e. absurd (reports-not _ _ refl e)
   many (Call.drawFront l) = λ e. absurd (reports-not _ _ refl e)
   many (Call.drawBack l) = λ e. absurd (reports-not _ _ refl e)
-  many (Call.shift d left) = alters-many _ _ _ refl refl
-  many (Call.shifted d left t) = alters-many _ _ _ refl refl
-  many (Call.combine op t u) = alters-many _ _ _ refl refl
-  many (Call.complement t) = alters-many _ _ _ refl refl
+  many (Call.shift d left) = alters-many _ _ _
+  many (Call.shifted d left t) = alters-many _ _ _
+  many (Call.combine op t u) = alters-many _ _ _
+  many (Call.complement t) = alters-many _ _ _
   many (Call.equal t) = λ e. absurd (reports-not _ _ refl e)
-  many (Call.load bs) = alters-many _ _ _ refl refl
-  many (Call.build rs) = alters-many _ _ _ refl refl
+  many (Call.load bs) = alters-many _ _ _
+  many (Call.mend bs out report) = alters-many _ _ _
+  many (Call.build rs) = alters-many _ _ _
   many (Call.writeSet e out) = λ f. absurd (reports-not _ _ refl f)
-  many (Call.readMap base n bs) = alters-many _ _ _ refl refl
+  many (Call.readMap base n bs) = alters-many _ _ _
   many (Call.writeMap base n out) = λ e. absurd (reports-not _ _ refl e)
   many (Call.fill base n) = λ e. absurd (reports-not _ _ refl e)
 
@@ -172,8 +177,16 @@ module _ {w : List ℕ} (S : Sound w) (i : ℕ) (l : i < openedAt w) where
         le-ltb (capacity w) (max r (x .floor) + o) (omega (arith, h, claims-split (worldsOf w) i x (opened-world w i l), S .fits)),
       )
 
-  -- so no call that would leave at most so many is refused with 8
-  pub reaches-floor : {c : Call Site} {a : Answer} {w′ : List ℕ} → Met w i c a w′ → stretches ((serve (λ r. false) (fedOf w i) (feed fedAt c)) .positions) ≤ floorAt w i → a ≡ refused 8 → ⊥
+  -- so no call that would be done and leave at most so many is refused with 8
+  pub reaches-floor : {c : Call Site} {a : Answer} {w′ : List ℕ} {r : Result} → Met w i c a w′ → (serve (λ r. false) (fedOf w i) (feed fedAt c)) .answer ≡ gave r
+      → stretches ((serve (λ r. false) (fedOf w i) (feed fedAt c)) .positions) ≤ floorAt w i → a ≡ refused 8 → ⊥
   unfolding outcomeOf
-  reaches-floor {c} m h e =
-      true≢false (sym (many (fullAt w i) (fedOf w i) (feed fedAt c) (sym (m .answered) ∙ e)) ∙ floor-fits _ h)
+  reaches-floor {c} m d h e =
+      true≢false (sym (many (fullAt w i) (fedOf w i) (feed fedAt c) (sym (m .answered) ∙ e) _ d) ∙ floor-fits _ h)
+
+  -- nor is a mend whose outcome has at most so many, whatever slices are lent
+  pub mend-reaches-floor : {bs out report : List ℕ} {a : Answer} {w′ : List ℕ} → Met w i (Call.mend bs out report) a w′ → stretches (mendedPositions bs) ≤ floorAt w i
+      → a ≡ refused 8 → ⊥
+  unfolding outcomeOf serve mending
+  mend-reaches-floor {bs} m h e =
+      true≢false (sym (alters-over (fullAt w i) (fedOf w i) _ (mendedPositions bs) _ refl (sym (m .answered) ∙ e)) ∙ floor-fits _ h)

@@ -4,6 +4,7 @@ pub mod Playing
 pub mod Matches
 pub mod Clearing
 pub mod Converting
+pub mod Mending
 pub mod Filling
 pub mod Empty
 pub mod Following

@@ -1,5 +1,5 @@
--- The theorems hold (specs/Theorems.antt): each is what the lemma files show of histories, matches, written sets, worlds, cleared maps, fills and
--- converted sets. Assumes nothing.
+-- The theorems hold (specs/Theorems.antt): each is what the lemma files show of histories, matches, written sets, worlds, cleared maps, fills,
+-- converted sets and mended ones. Assumes nothing.
 use mathlib.Core.Path.{refl, sym}
 use native.Mathlib.Nat.{le-trans}
 use Rattle.store.specs.Settle.{Openable}
@@ -22,19 +22,23 @@ use Rattle.lockstep.specs.Theorems.{
   Converted-loads,
   Loads-converts,
   Old-reader,
+  Mended-right,
+  Mended-loads,
+  Mended-floor,
 }
 use Rattle.lockstep.proofs.Following.{follows, new-holds, answered-alike}
 use Rattle.lockstep.proofs.Matches.{matches}
 use Rattle.lockstep.proofs.Writing.{bytes-few, written-all, written-alike}
 use Rattle.lockstep.proofs.Loading.{writable-loads}
 use Rattle.lockstep.proofs.Reloading.{loads-writable}
-use Rattle.lockstep.proofs.Floors.{reaches-floor}
+use Rattle.lockstep.proofs.Floors.{reaches-floor, mend-reaches-floor}
 use Rattle.lockstep.proofs.Neighbours.{alike}
 use Rattle.lockstep.proofs.Forms.{met-alike, writes-alike}
 use Rattle.lockstep.proofs.Clearing
 use Rattle.lockstep.proofs.Clearing.{written-stays}
 use Rattle.lockstep.proofs.Filling.{none-held, all-held}
 use Rattle.lockstep.proofs.Converting.{convert-back, convert-then-load, load-converts, old-refused}
+use Rattle.lockstep.proofs.Mending.{right-comes-back, outcome-loads}
 
 pub theorem1 : Theorem1
 theorem1 C ls w cs rs vs N h = follows (new-holds N) h
@@ -56,7 +60,7 @@ pub theorem4 : Theorem4
 theorem4 C bs b = (loads-writable b, writable-loads)
 
 pub theorem5 : Theorem5
-theorem5 w i c a w′ S l m h e = reaches-floor S i l m h e
+theorem5 w i c a w′ r S l m d h e = reaches-floor S i l m d h e
 
 pub theorem6 : Theorem6
 theorem6 w v i c d a b w′ v′ S T e f g k m n =
@@ -91,3 +95,12 @@ loads-converts C bs out cs a b L h l = load-converts bs out L h l
 
 pub old-reader : Old-reader
 old-reader w i bs W = old-refused W
+
+pub mended-right : Mended-right
+mended-right w i bs out report out′ report′ n m C w′ b L M = right-comes-back w i bs out report M b L
+
+pub mended-loads : Mended-loads
+mended-loads w i bs out report out′ report′ n m w′ a v′ b M k = outcome-loads w i bs out report M k
+
+pub mended-floor : Mended-floor
+mended-floor w i bs out report a w′ S l m h e = mend-reaches-floor S i l m h e

@@ -5,8 +5,7 @@ use mathlib.Core.Path.{_≡_, refl, sym, ap, ap₂, _∙_}
 use mathlib.Core.List.{List, [], _∷_, _++_}
 use mathlib.Core.Option.{Option, none, some}
 use native.Mathlib.Omega.{arith}
-use lib.ListN.{length, take, drop}
-use lib.Seq.{take-at}
+use lib.ListN.{length, take}
 use Rattle.model.specs.declared.Edition.{Edition}
 use Rattle.model.specs.Positions.{Positions, heldRuns, stretches}
 use Rattle.model.specs.Bytes.{encode, intoFront}
@@ -24,6 +23,7 @@ use Rattle.store.proofs.Worlds.{claims-fit}
 use Rattle.core.specs.Met.{fedOf, fullAt, outcomeOf, Readable, Met}
 use Rattle.core.proofs.Meeting.{readable, met-by, settled-same}
 use Rattle.core.proofs.Refusing.{unopened-refused}
+use Rattle.core.proofs.Putting.{take-front}
 use Rattle.core.proofs.Served.{unrefused}
 use Rattle.core.proofs.Simulation.{same-positions}
 use Rattle.interval_bit_set.proofs.Looking.{looked-sound}
@@ -33,11 +33,6 @@ use Rattle.lockstep.specs.History.{WritesSet}
 -- the bytes of a set of positions, in an edition
 abbrev pub bytesOf : Edition → Positions → List ℕ
 bytesOf e P = encode e (heldRuns P)
-
--- bytes in front of a slice are there
-pub take-front : (bs out : List ℕ) → take (length bs) (intoFront bs out) ≡ bs
-unfolding intoFront
-take-front bs out = take-at bs (drop (length bs) out) (length bs) refl
 
 -- ---- a world that wrote can be read
 -- a refusal of a look refuses whatever else there is

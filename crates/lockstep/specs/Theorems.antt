@@ -5,7 +5,7 @@ use mathlib.Core.Path.{_≡_}
 use mathlib.Core.Bool.{true, false}
 use mathlib.Core.List.{List}
 use mathlib.Core.Option.{some}
-use lib.ListN.{length, take}
+use lib.ListN.{length, take, replicate}
 use Rattle.model.specs.declared.Edition.{Edition}
 use Rattle.model.specs.declared.Edition.the-variants.{Columns}
 use Rattle.model.specs.declared.Limits.{Limits}
@@ -13,10 +13,11 @@ use Rattle.model.specs.declared.Written.{Written}
 use Rattle.model.specs.Answers.{writtenAnswer}
 use Rattle.model.specs.RunList.{AllBytes}
 use Rattle.model.specs.Positions.{stretches}
-use Rattle.model.specs.Call.{Call, feed, PoolCall, number, written, Answer, refused, gave}
+use Rattle.model.specs.Call.{Call, feed, PoolCall, Result, done, number, written, mended, Answer, refused, gave}
 use Rattle.model.specs.Model.{serve}
 use Rattle.model.specs.Pools.{PlainWorld, worldOf, otherClaims, emptyWorlds, answers, after}
 use Rattle.model.specs.Clearing.{clearMap}
+use Rattle.model.specs.Mending.{mendedPositions}
 use Rattle.model.specs.Converting.{convert, documentOneRefusal}
 use Rattle.store.specs.Layout.{capacity, openedAt, floorAt, heldBy, worldsOf}
 use Rattle.store.specs.Soundness.{Sound}
@@ -71,12 +72,13 @@ Theorem3 =
 abbrev pub Theorem4 : Type 0
 Theorem4 = (C : ℕ) (bs : List ℕ) → AllBytes bs → (Loads C bs → Writable C bs) × (Writable C bs → Loads C bs)
 
--- Theorem 5: a world may always reach its floor: in a sound pool no call whose result has at most floor runs is refused with 8. Its result is
--- what it would leave if no number of runs were too many
+-- Theorem 5: a world may always reach its floor: in a sound pool no call that would be done if no number of runs were too many, and would leave at
+-- most floor runs then, is refused with 8
 abbrev pub Theorem5 : Type 0
 Theorem5 =
-    (w : List ℕ) (i : ℕ) (c : Call Site) (a : Answer) (w′ : List ℕ)
-    → Sound w → i < openedAt w → Met w i c a w′ → stretches ((serve (λ r. false) (fedOf w i) (feed fedAt c)) .positions) ≤ floorAt w i → a ≡ refused 8 → ⊥
+    (w : List ℕ) (i : ℕ) (c : Call Site) (a : Answer) (w′ : List ℕ) (r : Result)
+    → Sound w → i < openedAt w → Met w i c a w′ → (serve (λ r. false) (fedOf w i) (feed fedAt c)) .answer ≡ gave r
+    → stretches ((serve (λ r. false) (fedOf w i) (feed fedAt c)) .positions) ≤ floorAt w i → a ≡ refused 8 → ⊥
 
 -- Theorem 6: neighbours are known through the sum alone: if two sound pools of one capacity agree in world i, and in the sum over the other worlds
 -- of the larger of runs and floor, every call on world i answers alike in both, and leaves world i alike
@@ -156,3 +158,24 @@ Loads-converts =
 -- document 01's reader refuses every set of edition 2 with 4
 abbrev pub Old-reader : Type 0
 Old-reader = (w : List ℕ) (i : ℕ) (bs : List ℕ) → WritesSet w i Columns bs → documentOneRefusal bs ≡ some 4
+
+-- ---- mending (document 02, Ticket 9)
+-- a set that loads, and so is right already, comes back byte for byte, and every run of it is kept
+abbrev pub Mended-right : Type 0
+Mended-right =
+    (w : List ℕ) (i : ℕ) (bs out report out′ report′ : List ℕ) (n m : ℕ) (C : ℕ) (w′ : List ℕ)
+    → AllBytes bs → Loads C bs → Met w i (Call.mend bs out report) (gave (mended n out′ m report′)) w′
+    → (take n out′ ≡ bs) × (take m report′ ≡ replicate m 2)
+
+-- what mending writes as a set loads, and leaves the world that mending left
+abbrev pub Mended-loads : Type 0
+Mended-loads =
+    (w : List ℕ) (i : ℕ) (bs out report out′ report′ : List ℕ) (n m : ℕ) (w′ : List ℕ) (a : Answer) (v′ : List ℕ)
+    → AllBytes bs → Met w i (Call.mend bs out report) (gave (mended n out′ m report′)) w′ → Met w i (Call.load (take n out′)) a v′
+    → (a ≡ gave done) × (worldsOf v′ ≡ worldsOf w′)
+
+-- a world may reach its floor by mending too, whatever slices are lent: an outcome of at most floor runs is not refused with 8
+abbrev pub Mended-floor : Type 0
+Mended-floor =
+    (w : List ℕ) (i : ℕ) (bs out report : List ℕ) (a : Answer) (w′ : List ℕ)
+    → Sound w → i < openedAt w → Met w i (Call.mend bs out report) a w′ → stretches (mendedPositions bs) ≤ floorAt w i → a ≡ refused 8 → ⊥

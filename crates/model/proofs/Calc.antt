@@ -42,7 +42,7 @@ use Rattle.model.specs.Positions.{
   same,
 }
 use Rattle.model.proofs.Counting.{Place, below, within, above, place, among-yes, among-below, among-above, count-cong, count-first, count-most}
-use Rattle.model.proofs.Runs.{runsIn-is, heldRuns-mem, stretches-is}
+use Rattle.model.proofs.Runs.{runsIn-is, runsIn-cong, heldRuns-mem, heldRuns-cong, stretches-is}
 use Rattle.model.proofs.Finds.{startOf, find-runs, count-runs, selectRuns, select-runs}
 use Rattle.model.proofs.Gaps.{firstLong, gap-runs}
 use Rattle.model.specs.RunList.{Canon}
@@ -69,14 +69,12 @@ use Rattle.model.proofs.Ops.{
   same-runs,
   bounded-below,
 }
-use Rattle.model.specs.Bytes.{encode, decode, mapLength, mapOf, mapBit, strayBits, mapped, fillOf, intoFront}
+use Rattle.model.specs.Bytes.{encode, editionOf, decode, mapLength, mapOf, mapBit, strayBits, mapped, fillOf, intoFront}
+use Rattle.model.specs.Mending.{mendedSet, another, fate, fatesFrom, mendReport}
 use Rattle.model.specs.Refusals.{
   gapLength,
   window,
   strayBit,
-  setShort,
-  setVersion,
-  setLength,
   runOrder,
   capacity,
   outputShort,
@@ -87,10 +85,9 @@ use Rattle.model.specs.Refusals.{
   badWindow,
   badMap,
   stray,
-  tooShort,
-  badLength,
-  badVersion,
   disordered,
+  shapeConditions,
+  setConditions,
   tooMany,
   noRoom,
 }
@@ -113,6 +110,7 @@ use Rattle.model.specs.Call.{
   complement,
   equal,
   load,
+  mend,
   build,
   writeSet,
   readMap,
@@ -128,11 +126,12 @@ use Rattle.model.specs.Call.{
   position,
   listing,
   written,
+  mended,
   Answer,
   refused,
   gave,
 }
-use Rattle.model.specs.Model.{Outcome, positionsOf, reads, settle, report, change, write, changed, drawnFirst, drawnLast, serve}
+use Rattle.model.specs.Model.{Outcome, positionsOf, reads, settle, report, change, write, mending, changed, drawnFirst, drawnLast, serve}
 use Rattle.model.specs.Cases.{broken, shut, Given, having, noStore, fedAs}
 
 -- ---- lists of any runs, and maps, as canonical lists
@@ -297,6 +296,28 @@ runsOf-positions broken = sym mem-empty
 runsOf-positions shut = sym mem-empty
 runsOf-positions (having rs) = sym (union-positions rs)
 
+-- ---- mending
+-- the run around x in the union of a list
+unfoldable pub unionAt : List Run → ℕ → Run
+unionAt rs x = runWith x (clipped (mem rs x) 0 size (union rs))
+
+union-around : (rs : List Run) (x : ℕ) → Positions.runAt (mem rs) x ≡ unionAt rs x
+unfolding Positions.runAt unionAt bounded
+union-around rs x =
+    ap (runWith x)
+    (runsIn-cong (mem rs) (mem (union rs)) (mem rs x) 0 size (λ y _ h. sym (ap (λ (P : Positions). P y) (union-positions rs) ∙ bounded-below (mem rs) y (omega arith)))
+    ∙ clipped-runs (mem rs x) 0 size (union rs) (union-canon rs))
+
+-- what became of each run, by it
+unfoldable pub fatesRuns : List Run → ℕ → List Run → List ℕ
+fatesRuns rs p [] = []
+fatesRuns rs p (q ∷ qs) = cond (ltb (q .«end») (q .start)) 0 (cond (another (unionAt rs (q .start)) p 0 rs) 1 2) ∷ fatesRuns rs (suc p) qs
+
+fates-runs : (rs : List Run) (p : ℕ) (qs : List Run) → fatesFrom rs p qs ≡ fatesRuns rs p qs
+unfolding fatesFrom fatesRuns fate
+fates-runs rs p [] = refl
+fates-runs rs p (q ∷ qs) = rw (union-around rs (q .start), fates-runs rs (suc p) qs)
+
 -- ---- the calls
 -- what a call answers, and the runs held after it
 pub record RunOutcome : Type 0 where
@@ -319,6 +340,11 @@ writeRuns s cs bytes out = reportRuns s (outputShort when noRoom out bytes ∷ c
 unfoldable pub changedRuns : ℕ → Given → List Condition → List Run → RunOutcome
 changedRuns C s cs qs = changeRuns C s cs qs (number (widths (combineRuns Xor (runsOf s) qs)))
 
+unfoldable pub mendRuns : ℕ → Given → List ℕ → List ℕ → List ℕ → List ℕ → List ℕ → RunOutcome
+mendRuns C s bs due told out report =
+    changeRuns C s (outputShort when noRoom out due ∷ outputShort when noRoom report told ∷ shapeConditions bs) (union (decode bs))
+    (mended (length due) (intoFront due out) (length told) (intoFront told report))
+
 unfoldable pub remainingRuns : List Run → Listing → List Run
 remainingRuns rs l = clipped (l .value) (l .first) (suc (l .last) - l .first) rs
 
@@ -340,10 +366,9 @@ calc C s (shifted d left t) = changeRuns C s (reads (fedAs t)) (shiftRuns size d
 calc C s (combine op t u) = changeRuns C s (reads (fedAs t) ++ reads (fedAs u)) (combineRuns op (runsOf t) (runsOf u)) done
 calc C s (complement t) = changeRuns C s (reads (fedAs t)) (complementRuns size (runsOf t)) done
 calc C s (equal t) = reportRuns s (reads (fedAs t)) (value (eqb (widths (combineRuns Xor (runsOf s) (runsOf t))) 0))
-calc C s (load bs) =
-    changeRuns C s
-    (setShort when tooShort bs ∷ setVersion when badVersion bs ∷ setLength when badLength bs ∷ runOrder when disordered (decode bs) ∷ [])
-    (union (decode bs)) done
+calc C s (load bs) = changeRuns C s (setConditions bs) (union (decode bs)) done
+calc C s (mend bs out report) =
+    mendRuns C s bs (encode (editionOf bs) (union (decode bs))) (fatesRuns (decode bs) 0 (decode bs)) out report
 calc C s (build rs) = changeRuns C s (runOrder when disordered rs ∷ []) (union rs) done
 calc C s (writeSet e out) = writeRuns s [] (encode e (runsOf s)) out
 calc C s (readMap base n bs) =
@@ -409,6 +434,18 @@ tied-write : (s : Given) (cs : List Condition) (bs ds out : List ℕ) → bs ≡
 unfolding write writeRuns
 tied-write s cs bs ds out e =
     rw e (tied-report s (outputShort when noRoom out ds ∷ cs) (written (length ds) (intoFront ds out)) (written (length ds) (intoFront ds out)) refl)
+
+tied-mend : (C : ℕ) (s : Given) (bs out report : List ℕ) → Tied (mending (ltb C) (fedAs s) bs out report)
+    (mendRuns C s bs (encode (editionOf bs) (union (decode bs))) (fatesRuns (decode bs) 0 (decode bs)) out report)
+unfolding mending mendRuns mendedSet mendReport
+tied-mend C s bs out report =
+    rw (runs-are, fates-runs (decode bs) 0 (decode bs)) (tied-change C s _ (mem (decode bs)) (union (decode bs)) _ _ refl (union-positions (decode bs)) (union-canon (decode bs)))
+  where
+    runs-are : heldRuns (mem (decode bs)) ≡ union (decode bs)
+    runs-are =
+        heldRuns-cong (mem (decode bs)) (mem (union (decode bs)))
+        (λ x h. sym (ap (λ (P : Positions). P x) (union-positions (decode bs)) ∙ bounded-below (mem (decode bs)) x h))
+        ∙ heldRuns-mem (union (decode bs)) (union-canon (decode bs))
 
 -- a report on the positions fed is one on the runs told
 module _ (s : Given) where
@@ -484,9 +521,8 @@ calc-tied C s (equal t) =
     tied-report s (reads (fedAs t)) (value (same (positionsOf (fedAs s)) (positionsOf (fedAs t)))) (value (eqb (widths (combineRuns Xor (runsOf s) (runsOf t))) 0))
     (ap value (ap₂ same (runsOf-positions s) (runsOf-positions t) ∙ same-runs (runsOf s) (runsOf t) (runsOf-canon s) (runsOf-canon t)))
 calc-tied C s (load bs) =
-    tied-change C s
-    (setShort when tooShort bs ∷ setVersion when badVersion bs ∷ setLength when badLength bs ∷ runOrder when disordered (decode bs) ∷ []) (mem (decode bs))
-    (union (decode bs)) done done refl (union-positions (decode bs)) (union-canon (decode bs))
+    tied-change C s (setConditions bs) (mem (decode bs)) (union (decode bs)) done done refl (union-positions (decode bs)) (union-canon (decode bs))
+calc-tied C s (mend bs out report) = tied-mend C s bs out report
 calc-tied C s (build rs′) = tied-change C s (runOrder when disordered rs′ ∷ []) (mem rs′) (union rs′) done done refl (union-positions rs′) (union-canon rs′)
 calc-tied C s (writeSet e out) = tied-write s [] (encode e (heldRuns (positionsOf (fedAs s)))) (encode e (runsOf s)) out (ap (encode e) (all-runs s))
 calc-tied C s (readMap base n bs) =

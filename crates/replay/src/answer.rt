@@ -7,6 +7,7 @@ use model::Drawn;
 use model::Found;
 use model::Listed;
 use model::Listing;
+use model::Mended;
 use model::Numbered;
 use model::Refusal;
 use model::Run;
@@ -203,18 +204,36 @@ pub fn cleared(n: Numbered, map: &[u8]) {
     end_line();
 }
 
-// How many bytes were written, and the whole slice.
+// How many bytes of a slice were written, and the whole slice.
+fn slice(n: usize, out: &[u8]) {
+    number(n as u64);
+    io::write_all(1, b" ");
+    if out.len() == 0 {
+        io::write_all(1, b"-");
+    }
+    hexes(out);
+}
+
+// The same of a set or a map.
 pub fn written(w: Written, out: &[u8]) {
     match w {
         Written::Refused(r) => refused(r),
         Written::Bytes(n) => {
             io::write_all(1, b"written");
-            number(n as u64);
-            io::write_all(1, b" ");
-            if out.len() == 0 {
-                io::write_all(1, b"-");
-            }
-            hexes(out);
+            slice(n, out);
+        }
+    }
+    end_line();
+}
+
+// And of a mended set, and of its report.
+pub fn mended(w: Mended, out: &[u8], report: &[u8]) {
+    match w {
+        Mended::Refused(r) => refused(r),
+        Mended::Bytes(n, m) => {
+            io::write_all(1, b"written");
+            slice(n, out);
+            slice(m, report);
         }
     }
     end_line();

@@ -86,6 +86,45 @@ fn load(store: &mut [u64], world: u64, line: &[u8], at: usize) -> bool {
     true
 }
 
+// Mends into the first n bytes of one slice, and the first m of another.
+fn mend_to(
+    store: &mut [u64],
+    world: u64,
+    set: &[u8],
+    space: &mut [u8],
+    n: usize,
+    notes: &mut [u8],
+    m: usize,
+)
+    requires { ⌜ (n ≤ length (now space)) × (m ≤ length (now notes)) ⌝ }
+{
+    let w = bytes::mend(store, world, set, &mut space[0..n], &mut notes[0..m]);
+    answer::mended(w, &space[0..n], &notes[0..m]);
+}
+
+fn mend(store: &mut [u64], world: u64, line: &[u8], at: usize) -> bool {
+    let mut set = [0u8; 1029];
+    let mut space = [0xeeu8; 1029];
+    let mut notes = [0xeeu8; 1029];
+    let b = line::bytes_at(line, at, &mut set);
+    let lent = line::at_most(line, b.next, 1029);
+    let noted = line::at_most(line, lent.next, 1029);
+    let n = b.count;
+    if noted.next != line.len() {
+        return false;
+    }
+    mend_to(
+        store,
+        world,
+        &set[..n],
+        &mut space,
+        lent.value as usize,
+        &mut notes,
+        noted.value as usize,
+    );
+    true
+}
+
 fn build(store: &mut [u64], world: u64, line: &[u8], at: usize) -> bool {
     let mut space = [0u64; 128];
     let runs = line::pairs_at(line, at, &mut space);
@@ -369,6 +408,9 @@ pub fn call_named(store: &mut [u64], world: u64, name: &[u8], line: &[u8], at: u
     }
     if check::same(name, b"load") {
         return load(store, world, line, at);
+    }
+    if check::same(name, b"mend") {
+        return mend(store, world, line, at);
     }
     if check::same(name, b"build") {
         return build(store, world, line, at);

@@ -8,15 +8,24 @@ use lib.ListN.{length}
 use Rattle.model.specs.declared.Edition.{Edition}
 use Rattle.model.specs.Numbers.{refusalNumber}
 use Rattle.model.specs.Bytes.{runsDue, editionOf, decode}
-use Rattle.model.specs.Refusals.{refusal, setConditions, orderedFrom}
+use Rattle.model.specs.Refusals.{refusal, shapeConditions, setConditions, orderedFrom}
 use Rattle.written.specs.declared.set.Parsed.{Parsed}
 
--- bytes that earn no refusal tell n runs in order, in the edition e
-pub record Acceptable (bs : List ℕ) (e : Edition) (n : ℕ) : Type 0 where
-  pub free : refusal (setConditions bs) ≡ none
+-- bytes that can be mended tell n runs, in the edition e
+pub record Shaped (bs : List ℕ) (e : Edition) (n : ℕ) : Type 0 where
+  pub free : refusal (shapeConditions bs) ≡ none
   pub edition : e ≡ editionOf bs
   pub due : n ≡ runsDue bs
   pub long : length bs ≡ 5 + 16 * n
+
+abbrev pub TellsShape : List ℕ → Parsed → Type 0
+TellsShape bs (Parsed.Refused r) = refusal (shapeConditions bs) ≡ some (refusalNumber r)
+TellsShape bs (Parsed.Runs e n) = Shaped bs e n
+
+-- bytes that can be read tell them in order
+pub record Acceptable (bs : List ℕ) (e : Edition) (n : ℕ) : Type 0 where
+  pub shaped : Shaped bs e n
+  pub free : refusal (setConditions bs) ≡ none
   pub ordered : orderedFrom 0 (decode bs) ≡ true
 
 abbrev pub TellsRuns : List ℕ → Parsed → Type 0

@@ -13,7 +13,7 @@ ghost use Rattle.store.specs.Layout.{heldIn};
 ghost use Rattle.store.specs.Soundness.{Stands};
 ghost use Rattle.store.specs.Settle.{Lays};
 ghost use Rattle.written.specs.Listed.{Receives, Received};
-ghost use Rattle.written.specs.Parsed.{TellsRuns};
+ghost use Rattle.written.specs.Parsed.{TellsShape, TellsRuns};
 use model::Edition;
 use model::Refusal;
 use model::Run;
@@ -56,8 +56,9 @@ pub fn run_told(bytes: &[u8], edition: Edition, n: u64, i: u64) -> Run
     }
 }
 
-pub fn runs_told(bytes: &[u8]) -> Parsed
-    ensures { λ r. ⌜ TellsRuns (now (bytes .entry)) r ⌝ }
+// The tests that a set has to pass to be mended: its length is five at least, its version known, and its length as its runs ask.
+pub fn shape_told(bytes: &[u8]) -> Parsed
+    ensures { λ r. ⌜ TellsShape (now (bytes .entry)) r ⌝ }
 {
     if bytes.len() < 5 {
         return Parsed::Refused(Refusal::SetLength);
@@ -71,10 +72,23 @@ pub fn runs_told(bytes: &[u8]) -> Parsed
     if bytes.len() as u64 != 5 + 16 * n {
         return Parsed::Refused(Refusal::SetLength);
     }
-    if !in_order(bytes, e, n) {
-        return Parsed::Refused(Refusal::RunOrder);
-    }
     Parsed::Runs(e, n)
+}
+
+// And to be read: its runs are in order too.
+pub fn runs_told(bytes: &[u8]) -> Parsed
+    ensures { λ r. ⌜ TellsRuns (now (bytes .entry)) r ⌝ }
+{
+    let t = shape_told(bytes);
+    match t {
+        Parsed::Refused(r) => Parsed::Refused(r),
+        Parsed::Runs(e, n) => {
+            if !in_order(bytes, e, n) {
+                return Parsed::Refused(Refusal::RunOrder);
+            }
+            Parsed::Runs(e, n)
+        }
+    }
 }
 
 // How many bytes n runs need.

@@ -82,7 +82,7 @@ fn list(label: usize, runs: &[Run], random: &mut Random) -> Vec<Call> {
     let blocks = |sets: usize, flips: usize, random: &mut Random| {
         let mut blocks: Vec<Vec<Call>> = (0..sets).map(|_| work::sets(runs, random).concat()).collect();
         blocks.extend((0..flips).map(|_| work::flips(runs, random)));
-        work::shuffle(&mut blocks, random);
+        random.shuffle(&mut blocks);
         blocks.concat()
     };
     let reports = |kinds: &[Report], count: usize, random: &mut Random| -> Vec<Call> {
@@ -248,7 +248,7 @@ fn shared(capacity: usize, runs: &[Run], random: &mut Random) -> PoolBuf {
     let mut calls: Vec<[u64; RECORD]> =
         runs.iter().map(|&[first, last]| record(&Call::Set(first, last, true))).collect();
     calls.iter_mut().enumerate().for_each(|(i, call)| call[RECORD - 1] = (i % WORLDS) as u64);
-    work::shuffle(&mut calls, random);
+    random.shuffle(&mut calls);
     frame(pool.words_mut(), calls.as_flattened(), &mut vec![0; calls.len() * RECORD]);
     pool
 }
@@ -269,7 +269,7 @@ fn checks_alone(progress: &Progress) -> Checks {
         let mut runs = work::cells(most, &mut random);
         let among = check(shared(capacity, &runs, &mut random).words_mut());
         let mut set = Pair::new(capacity, &runs, &mut random).ours;
-        work::shuffle(&mut runs, &mut random);
+        random.shuffle(&mut runs);
         let mut times = Vec::new();
         for size in SIZES.into_iter().rev().filter(|size| *size <= most) {
             for some in runs.split_off(size).chunks(CALLS) {

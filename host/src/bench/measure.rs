@@ -139,13 +139,11 @@ impl Figures {
 
     /// A table with a row for each label and a column for each number of runs; a cell is told its column and its row.
     pub fn table(&self, title: &str, cell: impl Fn([usize; 2], &Sides) -> String) {
-        println!("| {title} |{}", SIZES.map(|size| format!(" {} runs |", number(size as f64))).concat());
-        println!("|{}", "---|".repeat(1 + SIZES.len()));
-        for (row, label) in self.labels.iter().enumerate() {
-            let cells: Vec<String> = self.columns.iter().enumerate().map(|(at, c)| cell([at, row], &c[row])).collect();
-            println!("| {label} | {} |", cells.join(" | "));
-        }
-        println!();
+        let rows = self.labels.iter().enumerate().map(|(row, &label)| {
+            let cells = self.columns.iter().enumerate().map(|(at, c)| cell([at, row], &c[row]));
+            (label, cells.collect())
+        });
+        table(title, &SIZES, rows);
     }
 
     /// Two tables: ratios, and times in a unit of so many nanoseconds.
@@ -154,6 +152,16 @@ impl Figures {
         let time = |t: f64| number(t / nanos);
         self.table(unit, |_, s| format!("{} / {}", time(s.ours), time(s.theirs)));
     }
+}
+
+/// A table with a row for each label and a column for each number of runs.
+pub fn table<'a>(title: &str, sizes: &[usize], rows: impl Iterator<Item = (&'a str, Vec<String>)>) {
+    let heads: String = sizes.iter().map(|&size| format!(" {} runs |", number(size as f64))).collect();
+    println!("| {title} |{heads}\n|{}", "---|".repeat(1 + sizes.len()));
+    for (label, cells) in rows {
+        println!("| {label} | {} |", cells.join(" | "));
+    }
+    println!();
 }
 
 /// A number with three digits at the least, and commas.

@@ -8,6 +8,7 @@ mod editions;
 mod gaps;
 mod lists;
 mod measure;
+mod mending;
 mod plot;
 mod public;
 #[cfg(target_arch = "x86_64")]
@@ -52,6 +53,18 @@ pub fn run_editions() {
     println!("load {} after", load());
 }
 
+fn tell_mending(progress: &Progress) {
+    println!("## Mended sets\n");
+    mending::tell(&mending::measure(progress));
+}
+
+/// Measures mending alone, and prints Markdown.
+pub fn run_mending() {
+    println!("load {} before\n", load());
+    tell_mending(&Progress::begin());
+    println!("load {} after", load());
+}
+
 /// Measures everything, prints Markdown, and draws the ratios into a file.
 pub fn run(plot: &str) {
     let progress = Progress::begin();
@@ -72,6 +85,7 @@ pub fn run(plot: &str) {
     let bytes = bytes::measure(&progress);
     bytes::tell(&bytes);
     tell_editions(&progress);
+    tell_mending(&progress);
     #[cfg(target_arch = "x86_64")]
     {
         println!("## Stack\n");

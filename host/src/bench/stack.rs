@@ -8,6 +8,7 @@ use std::arch::asm;
 
 use super::measure::{Progress, commas};
 use crate::SetBuf;
+use crate::differential::EDITIONS;
 use crate::differential::random::Random;
 use crate::differential::records;
 use crate::differential::reference::{self, Draft, Run, Shape, WORLDS};
@@ -121,7 +122,7 @@ macro_rules! refusing {
     };
 }
 
-refusing!(Counted, Tallied, Numbered, Around, Found, Listed, Drawn);
+refusing!(Counted, Tallied, Numbered, Around, Found, Listed, Drawn, Mended);
 
 fn included(value: u64) -> Bound {
     Bound { kind: 1, value }
@@ -225,6 +226,16 @@ fn measure_on(painted: &mut Painted, physical: &[Run], offset: u64, shape: Shape
         on_stack!(painted, vizturel_write(p, n, i, edition, bytes.as_mut_ptr(), bytes.len()));
         on_stack!(painted, vizturel_load(s, n, 0, bytes.as_ptr(), written));
         on_stack!(painted, vizturel_convert(bytes.as_ptr(), written, other.as_mut_ptr(), other.len()));
+    }
+    // As it stands, which is copied, and with the runs in any order.
+    let mut mixed = runs.to_vec();
+    random.shuffle(&mut mixed);
+    for edition in EDITIONS {
+        for list in [runs, &mixed] {
+            let set = reference::encode(edition, list);
+            let (from, to, report) = (set.as_ptr(), other.as_mut_ptr(), bytes.as_mut_ptr());
+            on_stack!(painted, vizturel_mend(s, n, 0, from, set.len(), to, other.len(), report, bytes.len()));
+        }
     }
     let list = runs.as_flattened();
     on_stack!(painted, vizturel_build(s, n, 0, list.as_ptr(), list.len()));

@@ -34,12 +34,6 @@ pub fn cells(runs: usize, random: &mut Random) -> Vec<Run> {
     all
 }
 
-pub fn shuffle<T>(all: &mut [T], random: &mut Random) {
-    for i in 1..all.len() {
-        all.swap(i, random.below(i as u64 + 1) as usize);
-    }
-}
-
 /// One set on both sides.
 #[derive(Clone)]
 pub struct Pair {
@@ -51,7 +45,7 @@ impl Pair {
     /// The set of the runs, which both sides got in the same random order: so neighbours lie anywhere in memory.
     pub fn new(capacity: usize, runs: &[Run], random: &mut Random) -> Pair {
         let mut order = runs.to_vec();
-        shuffle(&mut order, random);
+        random.shuffle(&mut order);
         let mut ours = SetBuf::with_capacity(capacity).expect("a capacity");
         for some in order.chunks(1_000) {
             let sets: Vec<frame::Call> = some.iter().map(|&[start, end]| frame::Call::set(start..=end, true)).collect();
@@ -247,7 +241,7 @@ pub fn sets(runs: &[Run], random: &mut Random) -> [Vec<Call>; 3] {
     let mut each = [(&away[..], false), (&[&away[..], &there[..]].concat(), true), (&there[..], false)]
         .map(|(ranges, v)| ranges.iter().map(|&[first, last]| Call::Set(first, last, v)).collect::<Vec<_>>());
     for calls in &mut each {
-        shuffle(calls, random);
+        random.shuffle(calls);
     }
     each
 }
@@ -258,7 +252,7 @@ pub fn flips(runs: &[Run], random: &mut Random) -> Vec<Call> {
     let mut there: Vec<Call> =
         pick(10, runs, random).into_iter().map(|[_, end]| Call::Flip(end - some(random), end + some(random))).collect();
     let mut back = there.clone();
-    shuffle(&mut back, random);
+    random.shuffle(&mut back);
     there.append(&mut back);
     there
 }

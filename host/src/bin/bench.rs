@@ -5,11 +5,14 @@ use std::process::ExitCode;
 fn main() -> ExitCode {
     match std::env::args().nth(1).as_deref() {
         None => {
-            eprintln!("usage: bench PLOT.svg, or one part alone: bench gaps, bench maps, bench editions");
+            eprintln!(
+                "usage: bench PLOT.svg, or one part alone: bench gaps, bench maps, bench editions, bench mending"
+            );
             return ExitCode::from(2);
         }
         Some("maps") => vizturel::bench::run_maps(),
         Some("editions") => vizturel::bench::run_editions(),
+        Some("mending") => vizturel::bench::run_mending(),
         #[cfg(feature = "bench_store")]
         Some("gaps") => vizturel::bench::run_gaps(),
         Some(plot) => vizturel::bench::run(plot),

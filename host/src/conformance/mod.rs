@@ -22,6 +22,8 @@ const CAPACITY: usize = 64;
 const WORLDS: usize = 32;
 /// The most bytes of a lent slice and of a written set: those of a full store.
 const SLICE: usize = 5 + 16 * CAPACITY;
+/// The most bytes of the slice for the report on a mended set: twice the runs of a written set.
+const REPORT: usize = 2 * CAPACITY;
 /// The most bytes of a map.
 const MAP: usize = 1024;
 /// The most calls of a frame, and answers that there is room for.
@@ -44,6 +46,7 @@ fn fits(call: &Call) -> bool {
         Call::Build { runs, .. } => runs.len() <= CAPACITY,
         Call::ReadMap { map, .. } | Call::ClearMap { map, .. } => map.len() <= MAP,
         Call::Convert { bytes, room } => bytes.len() <= SLICE && *room <= SLICE,
+        Call::Mend { bytes, rooms: [room, report], .. } => bytes.len() <= SLICE && *room <= SLICE && *report <= REPORT,
         Call::Write { room, .. } | Call::WriteMap { room, .. } => *room <= SLICE,
         Call::Frame { calls, room, .. } => {
             [calls.len(), *room].iter().all(|n| n % records::WORDS == 0 && n / records::WORDS <= CALLS)

@@ -115,6 +115,7 @@ fn at_world(name: &str, at: Place, w: &mut Words) -> Option<Call> {
         "not" => Call::Not { to: at, a: w.place()? },
         "eq" => Call::Equal { a: at, b: w.place()? },
         "load" => Call::Load { to: at, bytes: w.bytes()? },
+        "mend" => Call::Mend { to: at, bytes: w.bytes()?, rooms: [w.number()?, w.number()?] },
         "build" => Call::Build { to: at, runs: w.pairs()? },
         "write_set" => Call::Write { at, edition: w.number()?, room: w.number()? },
         "read_map" => Call::ReadMap { at, base: w.number()?, n: w.number()?, map: w.bytes()? },
@@ -185,6 +186,9 @@ pub fn write(call: &Call) -> String {
         Call::Not { to, a } => format!("not {to} {a}"),
         Call::Equal { a, b } => format!("eq {a} {b}"),
         Call::Load { to, ref bytes } => format!("load {to} {}", digits(bytes)),
+        Call::Mend { to, ref bytes, rooms: [room, report] } => {
+            format!("mend {to} {} {room} {report}", digits(bytes))
+        }
         Call::Build { to, ref runs } => format!("build {to} {}", pairs(runs)),
         Call::Convert { ref bytes, room } => format!("convert {} {room}", digits(bytes)),
         Call::Write { at, edition, room } => format!("write_set {at} {edition} {room}"),
@@ -217,6 +221,9 @@ pub fn tell(call: &Call, told: &Told) -> String {
         Told::Drawn(None, left) => format!("end {}", listing(*left)),
         Told::Draws(made, _) => format!("listing {}", listing(*made)),
         Told::Slice(filled, bytes) => format!("written {filled} {}", digits(bytes)),
+        Told::Slices([(filled, bytes), (told, report)]) => {
+            format!("written {filled} {} {told} {}", digits(bytes), digits(report))
+        }
         Told::Cleared(count, bytes) => format!("cleared {count} {}", digits(bytes)),
         Told::RefusedAndChanged(r) => format!("changed something, and refused {}", r.number()),
         Told::FormsDiffer(told) => format!("by words and by single bytes: {told:?}"),

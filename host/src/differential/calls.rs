@@ -137,6 +137,12 @@ pub enum Call {
         to: Place,
         bytes: Vec<u8>,
     },
+    /// A written set whose runs may stand in any order, and how long the two slices are: that of the outcome, that of the report.
+    Mend {
+        to: Place,
+        bytes: Vec<u8>,
+        rooms: [usize; 2],
+    },
     Build {
         to: Place,
         runs: Vec<Run>,
@@ -191,6 +197,7 @@ impl Call {
             | Call::Not { to, .. }
             | Call::Shifted { to, .. }
             | Call::Load { to, .. }
+            | Call::Mend { to, .. }
             | Call::Build { to, .. } => Some(to.store),
             _ => None,
         }
@@ -202,8 +209,8 @@ impl Call {
     }
 }
 
-/// What a call tells. Of a listing each draw, and how it ended; of a slice how much of it was filled, and all its bytes; of a map how
-/// many bits were zeroed, and all its bytes; of a frame each answer's record, and the words of the slice after them. A call on a map is
+/// What a call tells. Of a listing each draw, and how it ended; of each slice how much of it was filled, and all its bytes; of a map
+/// how many bits were zeroed, and all its bytes; of a frame each answer's record, and the words of the slice after them. A call on a map is
 /// made in both forms, by words and by single bytes: where they do not agree, it is told what each told; if that is the same, they left
 /// different positions.
 #[derive(Debug, PartialEq)]
@@ -219,6 +226,7 @@ pub enum Told {
     Drawn(Option<RangeInclusive<u64>>, Listing),
     Draws(Listing, Vec<(Option<RangeInclusive<u64>>, Listing)>),
     Slice(usize, Vec<u8>),
+    Slices([(usize, Vec<u8>); 2]),
     Cleared(u64, Vec<u8>),
     Answers(Vec<Record>, Vec<u64>),
     RefusedAndChanged(Refusal),

@@ -33,6 +33,7 @@ pub enum Kind {
     Shifted,
     Equal,
     Load,
+    Mend,
     Build,
     ReadMap,
     ClearMap,
@@ -42,7 +43,7 @@ pub enum Kind {
 }
 
 /// Every kind but [`Kind::Empty`], which is a build.
-pub const KINDS: [Kind; 24] = [
+pub const KINDS: [Kind; 25] = [
     Kind::Get,
     Kind::RunAt,
     Kind::Find,
@@ -61,6 +62,7 @@ pub const KINDS: [Kind; 24] = [
     Kind::Not,
     Kind::Shifted,
     Kind::Load,
+    Kind::Mend,
     Kind::Build,
     Kind::Set,
     Kind::Flip,
@@ -167,6 +169,40 @@ fn run_list(random: &mut Random, runs: &[Run]) -> Vec<Run> {
         list[i][random.below(2) as usize] = position(random, runs);
     }
     list
+}
+
+/// Runs in any order, those given among them: some more than once, some beside others or over them, some whose start is above their end.
+pub fn jumble(random: &mut Random, runs: &[Run], more: u64) -> Vec<Run> {
+    let mut list = runs.to_vec();
+    for _ in 0..random.below(more + 1) {
+        let any = [position(random, runs), position(random, runs)];
+        let [start, end] = if list.is_empty() { any } else { random.one_of(&list) };
+        let some = random.below(4);
+        list.push(match random.below(8) {
+            0 => [start, end],
+            1 => [end.saturating_add(1), end.saturating_add(1 + some)],
+            2 => [start.saturating_sub(1 + some), start.saturating_sub(1)],
+            3 => [end.saturating_add(2), end.saturating_add(2 + some)],
+            4 => [start.saturating_add(some), end.saturating_add(some)],
+            5 => [end, start],
+            6 => [any[0], any[0].saturating_add(some)],
+            _ => any,
+        });
+    }
+    match random.below(4) {
+        0 => {}
+        1 => list.sort_unstable_by(|a, b| b.cmp(a)),
+        _ => random.shuffle(&mut list),
+    }
+    list
+}
+
+/// Mends a list of runs, or bytes that are no written set, with slices of all that is due and mostly more.
+pub fn mend(random: &mut Random, to: Place, runs: &[Run]) -> Call {
+    let bytes = written(random, runs);
+    let outcome = 5 + 16 * reference::united(runs).len();
+    let rooms = [outcome, runs.len()].map(|due| slice_room(random, due));
+    Call::Mend { to, bytes, rooms }
 }
 
 /// Changes bytes here and there, or how many there are.
@@ -316,6 +352,11 @@ pub fn call(random: &mut Random, stores: &[Store], kind: Kind, at: Place) -> Cal
         Kind::Load => {
             let runs = run_list(random, beside);
             Call::Load { to: at, bytes: written(random, &runs) }
+        }
+        Kind::Mend => {
+            let runs = run_list(random, beside);
+            let runs = jumble(random, &runs, 6);
+            mend(random, at, &runs)
         }
         Kind::Convert => {
             let runs = run_list(random, beside);
@@ -509,7 +550,7 @@ const MOODS: [&[Kind]; 8] = [
     &[Kind::Set, Kind::Flip],
     &[Kind::Shift, Kind::Shift, Kind::Set],
     &[Kind::Combine, Kind::Not, Kind::Shifted, Kind::Set],
-    &[Kind::Load, Kind::Build, Kind::Write, Kind::Convert, Kind::Set],
+    &[Kind::Load, Kind::Mend, Kind::Build, Kind::Write, Kind::Convert, Kind::Set],
     &[Kind::ReadMap, Kind::WriteMap, Kind::ClearMap, Kind::Fill, Kind::Shift],
     &[Kind::Ranges, Kind::Draw, Kind::Select, Kind::Set],
     &[Kind::Gap, Kind::Gap, Kind::Set, Kind::Shift],

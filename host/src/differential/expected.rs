@@ -153,15 +153,19 @@ fn moved(listing: Listing, back: bool, drawn: &Option<RangeInclusive<u64>>) -> L
     }
 }
 
-// A slice with the bytes due in front, or refusal 2.
-fn slice(room: usize, due: Vec<u8>) -> Answer<Told> {
+// How many bytes are due, and a slice that has them in front; or refusal 2.
+fn front(room: usize, due: Vec<u8>) -> Answer<(usize, Vec<u8>)> {
     if room < due.len() {
         return Err(Refusal::OutputShort);
     }
     let filled = due.len();
     let mut all = due;
     all.resize(room, STALE);
-    Ok(Told::Slice(filled, all))
+    Ok((filled, all))
+}
+
+fn slice(room: usize, due: Vec<u8>) -> Answer<Told> {
+    front(room, due).map(|(filled, all)| Told::Slice(filled, all))
 }
 
 /// Several stores.
@@ -324,6 +328,20 @@ impl Expected {
                 self.read(&[to])?;
                 let (_, runs) = reference::decode(bytes)?;
                 self.hold(to, oracle_of(&runs))
+            }
+            // Every run that is not dropped is set, in the order read.
+            Call::Mend { to, ref bytes, rooms: [room, report] } => {
+                self.read(&[to])?;
+                let (edition, told) = reference::parse(bytes)?;
+                let undropped: Vec<Run> = told.iter().copied().filter(|[start, end]| start <= end).collect();
+                let outcome = oracle_of(&undropped);
+                let runs = runs_of(&outcome);
+                let (pool, world) = self.pool(to);
+                pool.taken_with(world, runs.len())?;
+                let set = front(room, reference::encode(edition, &runs))?;
+                let fates = front(report, reference::fates(&told, &runs))?;
+                pool.hold(world, outcome)?;
+                Ok(Told::Slices([set, fates]))
             }
             Call::Build { to, ref runs } => {
                 self.read(&[to])?;

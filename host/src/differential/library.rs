@@ -95,6 +95,31 @@ impl Library {
             }
             Call::Equal { a, b } => self.lent(a).eq(&self.lent(b)).map(Told::Value),
             Call::Load { to, ref bytes } => self.lent_mut(to).load(bytes).map(|()| Told::Done),
+            Call::Mend { to, ref bytes, rooms } => {
+                let [mut out, mut report] = rooms.map(|room| vec![STALE; room]);
+                let w = &mut self.stores[to.store];
+                // SAFETY: as of every call in the crate's root. The report as bytes, so that those after it can be seen to stay.
+                let told = unsafe {
+                    raw::vizturel_mend(
+                        w.as_mut_ptr(),
+                        w.len(),
+                        to.world,
+                        bytes.as_ptr(),
+                        bytes.len(),
+                        out.as_mut_ptr(),
+                        out.len(),
+                        report.as_mut_ptr(),
+                        report.len(),
+                    )
+                };
+                let filled = crate::answer(told.refusal, [told.bytes, told.report].map(|n| n as usize));
+                match filled {
+                    Err(r) if [&out, &report].into_iter().flatten().any(|&x| x != STALE) => {
+                        Ok(Told::RefusedAndChanged(r))
+                    }
+                    filled => filled.map(|[set, fates]| Told::Slices([(set, out), (fates, report)])),
+                }
+            }
             Call::Build { to, ref runs } => self.lent_mut(to).build(runs).map(|()| Told::Done),
             Call::ReadMap { at, base, n, ref map } => {
                 let mut copy = self.stores[at.store].clone();

@@ -239,6 +239,7 @@ pub fn run(options: Options) -> Result<Score, Difference> {
     parts::crafted_stores(&mut score, options)?;
     parts::wrong_lengths(&mut score, options)?;
     parts::damaged_bytes(&mut score, options)?;
+    parts::mendings(&mut score, options)?;
     parts::windows(&mut score, options)?;
     parts::gaps(&mut score, options)?;
     parts::limits(&mut score, options)?;

@@ -515,6 +515,10 @@ pub fn wrong_lengths(score: &mut Score, options: Options) -> Outcome {
             Call::Shifted { to: at, a, distance: 3, left: true },
             Call::Load { to: at, bytes: vec![] },
             Call::Load { to: at, bytes: vec![3, 0, 0, 0, 0] },
+            Call::Mend { to: at, bytes: vec![1], rooms: [0, 0] },
+            Call::Mend { to: at, bytes: vec![3, 0, 0, 0, 0], rooms: [0, 0] },
+            Call::Mend { to: at, bytes: reference::encode(Edition::Rows, &singles(3)), rooms: [0, 0] },
+            Call::Mend { to: at, bytes: reference::encode(Edition::Columns, &[[4, 3], [2, 2]]), rooms: [21, 1] },
             Call::Build { to: at, runs: vec![[4, 3]] },
             Call::Build { to: at, runs: singles(3) },
             Call::ReadMap { at, base: 0, n: 0, map: vec![] },
@@ -570,7 +574,8 @@ pub fn damaged_bytes(score: &mut Score, options: Options) -> Outcome {
             let mut s = Sequence::alone(&[capacity]);
             s.call(score, Call::Set { at: HERE, range: (Bound::Included(7), Bound::Unbounded), value: true })?;
             for bytes in damaged(&written) {
-                s.call(score, Call::Load { to: HERE, bytes })?;
+                s.call(score, Call::Load { to: HERE, bytes: bytes.clone() })?;
+                s.call(score, Call::Mend { to: HERE, bytes, rooms: [written.len(), runs.len()] })?;
             }
             for room in 0..5 + 16 * capacity + 3 {
                 s.call(score, Call::Write { at: HERE, edition: edition as u64, room })?;
@@ -590,6 +595,7 @@ pub fn damaged_bytes(score: &mut Score, options: Options) -> Outcome {
         for version in [0, 1, 2, 3, 255] {
             let bytes = vec![version; length];
             s.call(score, Call::Convert { bytes: bytes.clone(), room: 40 })?;
+            s.call(score, Call::Mend { to: HERE, bytes: bytes.clone(), rooms: [40, 2] })?;
             s.call(score, Call::Load { to: HERE, bytes })?;
         }
     }
@@ -603,6 +609,7 @@ pub fn damaged_bytes(score: &mut Score, options: Options) -> Outcome {
             for edition in EDITIONS {
                 let bytes = reference::encode(edition, &runs);
                 convert_twice(score, &mut s, bytes.clone(), bytes.len())?;
+                s.call(score, Call::Mend { to: HERE, bytes: bytes.clone(), rooms: [40, 3] })?;
                 s.call(score, Call::Load { to: HERE, bytes })?;
                 s.call(score, Call::Build { to: HERE, runs: Vec::new() })?;
             }
@@ -618,6 +625,72 @@ pub fn damaged_bytes(score: &mut Score, options: Options) -> Outcome {
         let room = bytes.len() + random.below(4) as usize;
         convert_twice(score, &mut s, bytes.clone(), room)?;
         s.call(score, Call::Load { to: HERE, bytes })?;
+    }
+    Ok(())
+}
+
+// Mends runs in an edition where there is just the room that is due, one byte less of either slice, and more of both; each time in the
+// world as it is.
+fn mend_closely(score: &mut Score, s: &mut Sequence, edition: Edition, runs: &[Run]) -> Outcome {
+    let due = [5 + 16 * reference::united(runs).len(), runs.len()];
+    let bytes = reference::encode(edition, runs);
+    for (less, more) in [([1, 0], 0), ([0, 1], 0), ([0, 0], 2), ([0, 0], 0)] {
+        let rooms = [0, 1].map(|i| (due[i] + more).saturating_sub(less[i]));
+        s.call(score, Call::Mend { to: HERE, bytes: bytes.clone(), rooms })?;
+    }
+    Ok(())
+}
+
+// How many runs the library takes from the bytes at once.
+const BLOCK: u64 = 512;
+
+/// Written sets whose runs stand in any order: every three of some runs, lists by chance in worlds of little room, and lists of about as many
+/// runs as the library takes at once, and twice and thrice as many.
+pub fn mendings(score: &mut Score, options: Options) -> Outcome {
+    score.begin("mended sets, every three runs");
+    let mut random = Random::new(options.seed ^ 0x4E);
+    let ends = [0, 1, 2, 3, M - 1, M];
+    let all: Vec<Run> = ends.iter().flat_map(|&start| ends.map(|end| [start, end])).collect();
+    for code in (0..all.len().pow(3) as u64).step_by(options.stride as usize) {
+        let code = code as usize;
+        let runs = [code, code / all.len(), code / all.len().pow(2)].map(|i| all[i % all.len()]);
+        let mut s = Sequence::alone(&[1 + code % 3]);
+        s.call(score, Call::Build { to: HERE, runs: vec![[7, 7]] })?;
+        mend_closely(score, &mut s, EDITIONS[code / 3 % 2], &runs)?;
+    }
+    score.begin("mended sets by chance");
+    for _ in 0..40_000 / options.stride {
+        let capacity = 1 + random.below(6) as usize;
+        let plan = chance::plan(&mut random, capacity);
+        let mut s = Sequence::new(vec![plan]);
+        grow(score, &mut s, &mut random, 0, 3)?;
+        let runs = some_runs(&mut random, 6);
+        let runs = chance::jumble(&mut random, &runs, 8);
+        let call = chance::mend(&mut random, HERE, &runs);
+        s.call(score, call)?;
+    }
+    score.begin("mended sets of many runs");
+    for count in [BLOCK - 1, BLOCK, BLOCK + 1, 2 * BLOCK, 2 * BLOCK + 1, 3 * BLOCK + 2] {
+        let apart: Vec<Run> = (0..count).map(|i| [4 * i, 4 * i + random.below(3)]).collect();
+        let touching: Vec<Run> = (0..count).map(|i| [4 * i, 4 * i + random.below(5)]).collect();
+        // A block ends among runs of one start, or in a run of the outcome that goes on in the next.
+        let equal = vec![[9, 12]; count as usize];
+        let nested: Vec<Run> = (0..count).map(|i| [i, M - i]).collect();
+        let dropped: Vec<Run> = (0..count).map(|i| [4 * i + i % 3, 4 * i + 1]).collect();
+        let high: Vec<Run> = (0..count).map(|i| [M - 3 * i, M - 3 * i]).collect();
+        for (i, mut runs) in [apart, touching, equal, nested, dropped, high].into_iter().enumerate() {
+            let mut s = Sequence::alone(&[count as usize]);
+            mend_closely(score, &mut s, EDITIONS[i % 2], &runs)?;
+            runs.reverse();
+            mend_closely(score, &mut s, EDITIONS[i % 2], &runs)?;
+            random.shuffle(&mut runs);
+            mend_closely(score, &mut s, EDITIONS[(i + 1) % 2], &runs)?;
+            // One run less than the outcome has.
+            let less = reference::united(&runs).len() - 1;
+            if less > 0 {
+                mend_closely(score, &mut Sequence::alone(&[less]), EDITIONS[i % 2], &runs)?;
+            }
+        }
     }
     Ok(())
 }
@@ -761,6 +834,15 @@ pub fn large(score: &mut Score, options: Options) -> Outcome {
         s.call(score, Call::Load { to: second, bytes })?;
         s.call(score, Call::Equal { a: HERE, b: second })?;
         s.call(score, Call::Write { at: HERE, edition: edition as u64, room })?;
+    }
+    // More runs than a world can have, but no more in the outcome; then one more there.
+    let mut many: Vec<Run> = [&runs[..], &runs[..1000]].concat();
+    random.shuffle(&mut many);
+    for edition in EDITIONS {
+        let rooms = [5 + 16 * LARGEST as usize, many.len()];
+        s.call(score, Call::Mend { to: second, bytes: reference::encode(edition, &many), rooms })?;
+        s.call(score, Call::Equal { a: HERE, b: second })?;
+        many.push([M, M]);
     }
     s.call(score, Call::Not { to: second, a: HERE })?;
     s.call(score, Call::Set { at: HERE, range: (Bound::Included(M - 3), Bound::Included(M - 3)), value: true })?;

@@ -36,4 +36,11 @@ impl Random {
     pub fn one_of<T: Clone>(&mut self, all: &[T]) -> T {
         all[self.below(all.len() as u64) as usize].clone()
     }
+
+    /// Puts things in any order.
+    pub fn shuffle<T>(&mut self, all: &mut [T]) {
+        for i in 1..all.len() {
+            all.swap(i, self.below(i as u64 + 1) as usize);
+        }
+    }
 }

@@ -222,8 +222,8 @@ pub fn encode(edition: Edition, runs: &[Run]) -> Vec<u8> {
     bytes
 }
 
-/// The edition and the runs of a written set.
-pub fn decode(bytes: &[u8]) -> Result<(Edition, Vec<Run>), Refusal> {
+/// The edition and the runs of a written set, in whatever order they stand.
+pub fn parse(bytes: &[u8]) -> Result<(Edition, Vec<Run>), Refusal> {
     let Some((&[version, a, b, c, d], rest)) = bytes.split_first_chunk::<5>() else {
         return Err(Refusal::SetLength);
     };
@@ -238,8 +238,42 @@ pub fn decode(bytes: &[u8]) -> Result<(Edition, Vec<Run>), Refusal> {
     }
     let place = |i: usize, j: usize| if edition == Edition::Rows { 16 * i + j } else { count * j + i };
     let number = |i: usize, from: usize| (from..from + 8).fold(0, |n, j| n << 8 | u64::from(rest[place(i, j)]));
-    let runs: Vec<Run> = (0..count).map(|i| [number(i, 0), number(i, 8)]).collect();
+    Ok((edition, (0..count).map(|i| [number(i, 0), number(i, 8)]).collect()))
+}
+
+/// The same of one whose runs rise without touching.
+pub fn decode(bytes: &[u8]) -> Result<(Edition, Vec<Run>), Refusal> {
+    let (edition, runs) = parse(bytes)?;
     if in_order(&runs) { Ok((edition, runs)) } else { Err(Refusal::RunOrder) }
+}
+
+/// The runs of all positions that a list of runs in any order has.
+pub fn united(runs: &[Run]) -> Vec<Run> {
+    let mut all: Vec<Run> = runs.iter().copied().filter(|[start, end]| start <= end).collect();
+    all.sort_unstable();
+    let mut united: Vec<Run> = Vec::new();
+    for [start, end] in all {
+        match united.last_mut() {
+            Some(last) if start <= last[1].saturating_add(1) => last[1] = last[1].max(end),
+            _ => united.push([start, end]),
+        }
+    }
+    united
+}
+
+/// What became of each run of a list whose positions are those of the outcome's runs: 0 dropped, its start is above its end; 1 joined, its
+/// run of the outcome has another one in it; 2 kept.
+pub fn fates(runs: &[Run], outcome: &[Run]) -> Vec<u8> {
+    // Which run of the outcome has a position.
+    let place = |x: u64| outcome.partition_point(|&[_, end]| end < x);
+    let mut within = vec![0; outcome.len()];
+    runs.iter().filter(|[start, end]| start <= end).for_each(|&[start, _]| within[place(start)] += 1);
+    let fate = |&[start, end]: &Run| match () {
+        _ if start > end => 0,
+        _ if within[place(start)] > 1 => 1,
+        _ => 2,
+    };
+    runs.iter().map(fate).collect()
 }
 
 /// A written set in the other edition.
@@ -344,9 +378,7 @@ pub struct Draft {
 pub fn craft(capacity: usize, worlds: &[Draft], shape: Shape, random: &mut Random) -> Vec<u64> {
     let mut words = crate::room(capacity);
     let mut numbers: Vec<u64> = (1..=capacity as u64 + 32).collect();
-    for i in 1..numbers.len() {
-        numbers.swap(i, random.below(i as u64 + 1) as usize);
-    }
+    random.shuffle(&mut numbers);
     let mut unused = &numbers[..];
     for (i, Draft { physical, offset, limit }) in worlds.iter().enumerate() {
         let (used, rest) = unused.split_at(physical.len());
@@ -505,6 +537,27 @@ mod tests {
         }
         assert_eq!(decode(&[3, 0, 0, 0]), Err(Refusal::SetLength));
         assert_eq!(decode(&[3, 0, 0, 0, 1]), Err(Refusal::SetVersion));
+    }
+
+    #[test]
+    fn runs_are_dropped_joined_or_kept() {
+        let m = u64::MAX;
+        for (runs, outcome, due) in [
+            (&[][..], &[][..], &[][..]),
+            (&[[4, 3]], &[], &[0]),
+            (&[[4, 3], [4, 4]], &[[4, 4]], &[0, 2]),
+            // Equal ones, ones that touch, and two that a third joins.
+            (&[[2, 3], [2, 3]], &[[2, 3]], &[1, 1]),
+            (&[[4, 5], [2, 3]], &[[2, 5]], &[1, 1]),
+            (&[[8, 9], [2, 3], [3, 9]], &[[2, 9]], &[1, 1, 1]),
+            // One free position between, and the ends of the positions, which do not touch.
+            (&[[5, 6], [2, 3]], &[[2, 3], [5, 6]], &[2, 2]),
+            (&[[m, m], [0, 0]], &[[0, 0], [m, m]], &[2, 2]),
+            (&[[m, m], [m, 0], [0, m]], &[[0, m]], &[1, 0, 1]),
+        ] {
+            assert_eq!(united(runs), outcome, "{runs:?}");
+            assert_eq!(fates(runs, outcome), due, "{runs:?}");
+        }
     }
 
     #[test]

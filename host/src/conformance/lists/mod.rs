@@ -10,6 +10,7 @@ mod gaps;
 mod joined;
 mod listings;
 mod long;
+mod mended;
 mod refusals;
 mod shifts;
 mod worlds;
@@ -28,6 +29,7 @@ pub fn all() -> Vec<List> {
         joined::list(),
         bytes::list(),
         editions::list(),
+        mended::list(),
         capacity::list(),
         frames::list(),
         gaps::list(),

@@ -75,7 +75,7 @@ load-requires c κs =
     let i = tested o in
     let t = telling (i .before) in
     let a = accepted t in
-    (receive-ready (start t .pre) (many t) (i .before .allowance .ensures) (i .if1 .left) (o .«open» .ensures), (omega (arith, a .long), accepted-order _ a))
+    (receive-ready (start t .pre) (many t) (i .before .allowance .ensures) (i .if1 .left) (o .«open» .ensures), (omega (arith, a .shaped .long), accepted-order _ a))
 
 close-requires : tie.Need-close-requires
 close-requires c κs =

@@ -36,7 +36,7 @@ convert-requires c κs =
     let e = c .before in
     let t = telling (e .before) in
     let a = accepted t in
-    (omega (arith, a .long), omega (arith, a .long, e .if1 .left))
+    (omega (arith, a .shaped .long), omega (arith, a .shaped .long, e .if1 .left))
 
 returns-2 : tie.Need-returns-2
 returns-2 c = let t = c .before in let m = t .before .before in convert-turned _ (m .before .before .before .args .out .now) _ (m .runs-told .ensures) (t .t .given .1)

@@ -1,102 +1,47 @@
--- `runs_told` meets its contract: it makes the tests of a written set one by one, in the order of refusals.
--- Assumes nothing.
-use Prim.Native.Nat.{_<_}
-use mathlib.Core.Path.{_≡_, refl}
-use mathlib.Core.Logic.{⊎-elim}
-use mathlib.Core.Bool.{false}
+-- `runs_told` meets its contract: the shape is told first, and then the order is tested. Assumes nothing.
 use native.Mathlib.Omega.{arith}
-use borrow.Author.Tests.{not-true, not-false, eqb-true, eqb-false}
-use Rattle.model.specs.Bytes.{editionOf}
-use Rattle.model.specs.Refusals.{badVersion}
-use Rattle.written.proofs.Digits.{count-bound}
-use Rattle.written.proofs.Telling.{told-short, told-version, version-one, version-two, edition-is, told-length, told-order, told-runs}
 use borrow.Author.Needs.{needs}
+use Rattle.written.specs.Parsed.{Shaped}
+use Rattle.written.proofs.Telling.{shape-refused, told-shaped, told-order, told-runs}
 use Rattle.written.proofs.set.runs_told.Statement.{statement}
 use Rattle.written.proofs.set.runs_told.Tie as tie
 
--- the places that the needs look back to: bytes long enough, a version known, and the number of runs read
-abbrev long : tie.Joined2 → tie.Else1
-long c = c .before .before
+-- the place where the shape is told: the bytes have that of a set
+abbrev telling : tie.After-in-order → tie.After-t2
+telling q = q .before .before
 
-abbrev known : tie.After-get-count → tie.Joined2
-known c = c .before .before
+shaped : (t : tie.After-t2) → Shaped (t .before .before .before .before .args .bytes .now) (t .t2 .given .0 .0) (t .t2 .given .0 .1 .0)
+shaped t = told-shaped _ _ (t .before .before .shape-told .ensures) (t .t2 .given .1)
 
-abbrev start : tie.Joined2 → tie.Start
-start c = long c .before .before
+shape-told-requires : tie.Need-shape-told-requires
+shape-told-requires c κs = search needs
 
-abbrev counted : tie.After-in-order → tie.After-get-count
-counted c = c .before .before
+enum-known-t : tie.Need-enum-known-t
+enum-known-t c = search needs
 
--- the version is 1 or 2
-version : (c : tie.Joined2) → badVersion (start c .args .bytes .now) ≡ false
-version c =
-    ⊎-elim (λ x. version-two _ (long c .if1 .left) refl (eqb-true _ 2 (not-false _ (x .1 .left)))) (λ x. version-one _ (long c .if1 .left) refl (x .left)) (c .if2 .came)
-
--- and tells the edition
-edition : (c : tie.After-get-count) → c .before .edition-by .result ≡ editionOf (start (known c) .args .bytes .now)
-edition c = edition-is _ (long (known c) .if1 .left) refl (c .before .edition-by .ensures)
-
--- the number of runs is below 2^32
-few : (c : tie.After-get-count) → c .get-count .result < 4294967296
-few c =
-    let l = long (known c) in
-    count-bound (l .before .before .args .bytes .now) 1 (c .get-count .result) (l .before .shared-slice-known .given) (c .get-count .ensures)
-
-returns : tie.Need-returns
-returns c = told-short _ (c .if1 .taken)
-
-shared-slice-read-version : tie.Need-shared-slice-read-version
-shared-slice-read-version c = search needs
-
-cast-version : tie.Need-cast-version
-cast-version c = omega (arith, c .before .before .shared-slice-known .given 0)
-
-returns-2 : tie.Need-returns-2
-returns-2 c = told-version _ (c .before .before .before .if1 .left) refl (c .before .if2 .taken) (eqb-false _ 2 (not-true _ (c .if3 .taken)))
-
-edition-by-requires : tie.Need-edition-by-requires
-edition-by-requires c κs = search needs
-
-get-count-requires : tie.Need-get-count-requires
-get-count-requires c κs = search needs
-
-mul-if4 : tie.Need-mul-if4
-mul-if4 c = omega (arith, few c)
-
-add-if4 : tie.Need-add-if4
-add-if4 c = omega (arith, few c)
-
-returns-3 : tie.Need-returns-3
-returns-3 c = let g = c .before in told-length _ (long (known g) .if1 .left) (version (known g)) (edition g) (g .get-count .ensures) (c .if4 .taken)
+enum-known-t-2 : tie.Need-enum-known-t-2
+enum-known-t-2 c = search needs
 
 in-order-requires : tie.Need-in-order-requires
-in-order-requires c κs = search needs
+in-order-requires c κs = omega (arith, (shaped (c .before)) .long)
 
-returns-4 : tie.Need-returns-4
-returns-4 c =
-    let g = counted (c .before) in
-    told-order _ (long (known g) .if1 .left) (version (known g)) (edition g) (g .get-count .ensures) (c .before .before .if4 .left)
-    (c .before .in-order .ensures) (c .if5 .taken)
+returns : tie.Need-returns
+returns c = told-order _ (shaped (telling (c .before))) (c .before .in-order .ensures) (c .if1 .taken)
 
-returns-5 : tie.Need-returns-5
-returns-5 c =
-    let g = counted (c .before) in
-    told-runs _ (long (known g) .if1 .left) (version (known g)) (edition g) (g .get-count .ensures) (c .before .before .if4 .left)
-    (c .before .in-order .ensures) (c .if5 .left)
+returns-2 : tie.Need-returns-2
+returns-2 c = shape-refused _ _ (c .before .before .before .shape-told .ensures) (c .before .t .given .1)
+
+returns-3 : tie.Need-returns-3
+returns-3 c = told-runs _ (shaped (telling (c .before))) (c .before .in-order .ensures) (c .if1 .left)
 
 pub runs-told-spec : {M : Type 1} → statement M
 runs-told-spec =
     tie.close
     (tie.spec
-    returns
-    shared-slice-read-version
-    cast-version
-    returns-2
-    edition-by-requires
-    get-count-requires
-    mul-if4
-    add-if4
-    returns-3
+    shape-told-requires
+    enum-known-t
+    enum-known-t-2
     in-order-requires
-    returns-4
-    returns-5)
+    returns
+    returns-2
+    returns-3)

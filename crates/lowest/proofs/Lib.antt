@@ -1,0 +1,16 @@
+pub mod Entries
+pub mod Grouping
+pub mod Completing
+pub mod Fating
+pub mod Halving
+pub mod Sliding
+pub mod Slipping
+pub mod Holding
+pub mod Blocks
+pub mod Sweeping
+pub mod Windows
+pub mod Noting
+pub mod Fronts
+pub mod Uniting
+pub mod Joining
+pub mod Rounds
