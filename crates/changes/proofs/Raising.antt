@@ -2,6 +2,7 @@
 -- the code leaves are those of the model's `insert`, so they are canonical and have the positions that they should have. Assumes nothing.
 use Prim.Native.Nat.{ℕ, suc, _+_, _-_, _≤_, _<_, max}
 use mathlib.Core.Path.{_≡_, refl, sym, ap, ap₂, _∙_, subst}
+use mathlib.Core.Logic.{_⊎_, inl, inr}
 use mathlib.Core.Bool.{Bool, true, false}
 use mathlib.Core.List.{List, [], _∷_, _++_}
 use native.Mathlib.Omega.{arith}
@@ -10,7 +11,8 @@ use borrow.Author.Tests.{leb-true, leb-false}
 use Rattle.model.specs.declared.Run.{Run}
 use Rattle.model.specs.Numbers.{size}
 use Rattle.model.specs.Positions.{run, firstRun, setRange, mem}
-use Rattle.model.specs.RunList.{Canon, EndBelow, StartFrom, firstFrom, insert}
+use Rattle.model.specs.RunList.{Canon, EndBelow, StartFrom, TouchesNone, firstFrom, insert}
+use Rattle.model.proofs.RunList.{touch-within}
 use Rattle.model.proofs.Search.{canon-split, canon-starts, starts-weaken}
 use Rattle.model.proofs.Edit.{setTo, insert-skip, insert-put, insert-join}
 use Rattle.run_index.specs.declared.search.Near.{Near}
@@ -18,8 +20,10 @@ use Rattle.run_index.specs.Tree.{Tree, inorder}
 use Rattle.run_index.specs.Order.{Before}
 use Rattle.run_index.specs.Search.{nearRun, TellsAfter}
 use Rattle.store.specs.declared.Links.{Links}
+use Rattle.store.specs.Layout.{treeFrom, highest}
 use Rattle.store.specs.Soundness.{Share, Kept}
 use Rattle.store.specs.Free.{Becomes, Addable, Adds, Changeable, Changes}
+use Rattle.store.proofs.Reached.{kept-tree}
 use Rattle.changes.specs.declared.change.Reach.{Reach}
 use Rattle.changes.specs.Change.{MaySet, Settable, Holding, Sets, Reaching, Parted, Absorbable, Absorbed, Absorbs}
 use Rattle.changes.proofs.Lists.{first-after, first-some, first-none, Around, ends-before, ends-more, ends-last, append-one, canon-below}
@@ -77,6 +81,14 @@ module _ {w : List ℕ} {x : Links} {s e : ℕ} {r : Run} (q : FoundRun w x s r)
     parts : (Canon (r .start - 1) 0 (around .ls)) × (0 ≤ r .start) × (r .start ≤ r .«end») × (r .«end» < size) × Canon size (r .«end» + 2) (around .us)
     parts = canon-split size 0 (around .ls) r (around .us) canon-around
 
+    -- so r is touched
+    before-held : TouchesNone s e (inorder t) → ⊥
+    before-held n = go (touch-within s e (around .ls) r (around .us) (subst (TouchesNone s e) (around .is) n))
+      where
+        go : (r .«end» + 1 < s) ⊎ (e + 1 < r .start) → ⊥
+        go (inl l) = omega (arith, leb-true s (r .«end» + 1) (sym ed ∙ held))
+        go (inr l) = omega (arith, around .at, m .ordered)
+
     -- the runs set are those before r, and r with what is set and what follows
     joined-with : insert s e (inorder t) ≡ around .ls ++ insert (r .start) (max e (r .«end»)) (around .us)
     joined-with =
@@ -127,6 +139,10 @@ module _ {w : List ℕ} {x : Links} {s e : ℕ} {r : Run} (q : FoundRun w x s r)
         (around .is ∙ sym (joined-with ∙ ap (λ (vs : List Run). around .ls ++ vs)
         (ap (λ (k : ℕ). insert (r .start) k (around .us)) (omega arith) ∙ insert-first (r .start) (r .«end»)
         (r .«end» + 2) (around .us) (omega (arith, parts .2)) (omega arith) (parts .4)))))
+
+  -- a run of the tree is touched
+  pub before-touched : Settable w x s e true → TouchesNone s e (inorder (treeFrom highest w (x .root))) → ⊥
+  before-touched p n = before-held (p .3) (subst (λ (t : Tree). TouchesNone s e (inorder t)) (kept-tree (p .3 .kept)) n)
 
   -- it may take in what follows
   pub before-absorbable : Settable w x s e true → Absorbable w x (r .start) (r .«end»)
@@ -240,6 +256,15 @@ module _ {w : List ℕ} {x : Links} {s e : ℕ} (q : Passed w x s) (n : Near) (f
       parted-after : Parted w sh x (sides m .ls) (run (r .start) (r .«end») ∷ rest .0) t ns
       parted-after = record { kept = m .kept; runs-are = sides m .is ∙ ap (λ (vs : List Run). sides m .ls ++ vs) (rest .1) }
 
+      -- so it is touched if it is reached from e
+      after-held : d ≡ true → TouchesNone s e (inorder t) → ⊥
+      after-held held n =
+          go (touch-within s e (sides m .ls) r (rest .0) (subst (TouchesNone s e) (sides m .is ∙ ap (λ (vs : List Run). sides m .ls ++ vs) (rest .1)) n))
+        where
+          go : (r .«end» + 1 < s) ⊎ (e + 1 < r .start) → ⊥
+          go (inl l) = omega (arith, from-s, in-order)
+          go (inr l) = omega (arith, leb-true (r .start) (e + 1) (sym ed ∙ held))
+
       -- and touches e
       module _ (held : d ≡ true) (k : ℕ) (ek : k ≡ max e (r .«end»)) {w1 : List ℕ} (far : Reach) (ab : Absorbs w w1 x (r .start) (r .«end») k far) where
         -- what `absorb` leaves
@@ -273,6 +298,10 @@ module _ {w : List ℕ} {x : Links} {s e : ℕ} (q : Passed w x s) (n : Near) (f
         stretch-held : {w2 : List ℕ} → Changes w1 w2 (far .links) (r .start) (r .«end») s (far .«end» .0) → Holding w w2 sh (far .links) (setRange s (suc e - s) true (mem (inorder t)))
         stretch-held {w2} g =
             raised m (subst (Becomes w w2 sh (far .links)) (sym stretched) (becomes-changed (sides m .ls) (run (r .start) (r .«end»)) (taken-after .left) (taken-after .becomes) s (far .«end» .0) stretched-ordered stretched-canon g))
+
+    -- a run of the tree is touched
+    pub after-touched : d ≡ true → Settable w x s e true → TouchesNone s e (inorder (treeFrom highest w (x .root))) → ⊥
+    after-touched held p n = after-held (p .3) held (subst (λ (t : Tree). TouchesNone s e (inorder t)) (kept-tree (p .3 .kept)) n)
 
     -- it may take in what follows
     pub after-absorbable : Settable w x s e true → Absorbable w x (r .start) (r .«end»)

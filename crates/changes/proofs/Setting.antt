@@ -17,12 +17,13 @@ use Rattle.store.specs.declared.World.{World}
 use Rattle.store.specs.declared.Links.{Links}
 use Rattle.store.specs.Layout.{linksOf, turned, heldIn}
 use Rattle.store.specs.Soundness.{Share, Kept, Standing, Limited}
-use Rattle.store.specs.Settle.{Became, Refreshes, Resettable}
+use Rattle.store.specs.Settle.{Became, Refreshes, Rooted, Resettable}
+use Rattle.store.specs.Free.{Sprouts}
 use Rattle.store.proofs.Turn.{Lies, first-below, parted-length}
 use Rattle.store.proofs.Nodes.{still-then}
 use Rattle.store.proofs.Opening.{physicalIn, standing-held, standing-none, standing-some}
 use Rattle.changes.specs.Change.{MaySet, Settable, Holding, Sets}
-use Rattle.changes.specs.Edits.{Reached}
+use Rattle.changes.specs.Edits.{Reached, PutsIn, Grows}
 use Rattle.changes.proofs.TurnedSet.{turned-cong, turned-set-whole, turned-set-first, turned-set-parted}
 use Rattle.changes.proofs.SetRuns.{set-one-more, physical-one-more}
 
@@ -35,6 +36,10 @@ pub reached-became : {w w′ : List ℕ} {s : Share} {y : Links} {o : ℕ} {P : 
 reached-became {s = s} r re =
     let sh = re s (r .tree) (r .nodes) (r .kept) in
     record { shows = record { standing = sh .standing; holds = λ x l. sh .holds x l ∙ r .holds x l }; still = r .still }
+
+-- its tree is the one at the links
+pub puts-grows : (w w′ : List ℕ) (h k : World) (a b : ℕ) (v : Bool) {y : Links} → PutsIn w w′ h (y .root) a b v → Rooted y (h .offset) k → Grows w w′ h k a b v
+puts-grows w w′ h k a b v p r = (subst (λ q. PutsIn w w′ h q a b v) (sym (r .root-is)) p, r .no-offset)
 
 -- the world tells of what was held, so little is left to find out
 pub reached-resettable : {w w′ : List ℕ} {s : Share} {h : World} {y : Links} (a b : ℕ) (v : Bool) → Standing w s h → h .offset < size → a ≤ b → b < size
@@ -70,6 +75,22 @@ holding-reached {X = X} o k f = record {
   holds = λ x l. turned-cong o (mem (inorder (k .tree))) X (k .positions-are) x l ∙ f x l;
   still = k .still;
 }
+
+-- without an offset the range lies where it is
+unturned : {o a b s e : ℕ} → Lies o a (suc b - a) s e → o ≡ 0 → a ≤ b → (s ≡ a) × (e ≡ b)
+unturned l z le = (omega (arith, l .fits, l .first-at), omega (arith, l .fits, l .last-at))
+
+-- so it is one range
+pub never-parted : {o a b s e : ℕ} → Lies o a (suc b - a) s e → o ≡ 0 → a ≤ b → e < s → ⊥
+never-parted l z le lt = let u = unturned l z le in omega (arith, u .0, u .1)
+
+-- and what is put in there is put in
+pub whole-puts : (w w′ : List ℕ) (h : World) (q : ℕ) (v : Bool) {x : Links} {a b s e : ℕ} → x ≡ linksOf h → Lies (h .offset) a (suc b - a) s e → a ≤ b
+    → Sprouts w w′ (x .root) q s e v → PutsIn w w′ h q a b v
+whole-puts w w′ h q v {x} {a} {b} {s} {e} ex l le g z =
+    let u = unturned l z le in
+    subst (λ p. Sprouts w w′ p q a b v) (ap (λ (y : Links). y .root) ex)
+    (subst (λ i. Sprouts w w′ (x .root) q i b v) (u .0) (subst (λ j. Sprouts w w′ (x .root) q s j v) (u .1) g))
 
 module _ {w : List ℕ} {h : World} {x : Links} {a n s e : ℕ} (v : Bool) (ex : x ≡ linksOf h) (lies : Lies (h .offset) a n s e) {sh : Share} {limit : ℕ} (lim : Limited w sh h limit) where
   -- its physical positions

@@ -14,6 +14,7 @@ use Rattle.store.specs.declared.Links.{Links}
 use Rattle.store.specs.Layout.{turned, heldIn}
 use Rattle.store.specs.Soundness.{Share, Still, Kept, Standing, Limited}
 use Rattle.store.specs.Settle.{Became}
+use Rattle.store.specs.Free.{Sprouts}
 
 -- whatever share the world h has of the nodes w, and whatever limit, it became k and holds Q
 abbrev pub Makes : List ℕ → List ℕ → World → World → Positions → Type 0
@@ -25,7 +26,20 @@ abbrev pub Edited : List ℕ → List ℕ → World → ℕ → Positions → Ed
 Edited w w′ h limit Q Edit.Full = (limit < stretches Q) × (w′ ≡ w)
 Edited w w′ h limit Q (Edit.Changed k c) = (stretches Q ≤ limit) × Makes w w′ h k Q × (worth c ≡ changes (heldIn w h) Q)
 
--- the same of a change that counts nothing
+-- where the world h has no offset, and a .. b are to be held and touch none of its runs, they were put into its tree, which is at p
+abbrev pub PutsIn : List ℕ → List ℕ → World → ℕ → ℕ → ℕ → Bool → Type 0
+PutsIn w w′ h p a b v = h .offset ≡ 0 → Sprouts w w′ (h .root) p a b v
+
+-- so they were where it became the world k, which has no offset either
+abbrev pub Grows : List ℕ → List ℕ → World → World → ℕ → ℕ → Bool → Type 0
+Grows w w′ h k a b v = PutsIn w w′ h (k .root) a b v × (h .offset ≡ 0 → k .offset ≡ 0)
+
+-- unless the change was refused
+abbrev pub GrowsBy : List ℕ → List ℕ → World → ℕ → ℕ → Bool → Edit → Type 0
+GrowsBy w w′ h a b v Edit.Full = Unit
+GrowsBy w w′ h a b v (Edit.Changed k c) = Grows w w′ h k a b v
+
+-- as `Edited`, of a change that counts nothing
 abbrev pub Fitted : List ℕ → List ℕ → World → ℕ → Positions → Fit → Type 0
 Fitted w w′ h limit Q Fit.Full = (limit < stretches Q) × (w′ ≡ w)
 Fitted w w′ h limit Q (Fit.Done k) = (stretches Q ≤ limit) × Makes w w′ h k Q

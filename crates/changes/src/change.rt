@@ -1,6 +1,7 @@
 // Giving a range of physical positions a value: runs grow, shrink, go and come. Whatever a run only loses or gains at an end changes
 // in place, and no more nodes are used on the way than in the end. Where the tree and the free chain start is handed in and back.
 ghost use mathlib.Core.Bool.{true, false};
+ghost use Rattle.store.specs.Free.{Sprouts};
 ghost use Rattle.changes.specs.Change.{Settable, Sets, Reaching, Absorbable, Absorbs, Clearable, ClearsFrom};
 use run_index::search::Near;
 use store::Links;
@@ -9,7 +10,7 @@ use store::places::Physical;
 // Gives the positions from s to e the value.
 pub fn set_physical(words: &mut [u64], x: Links, s: Physical, e: Physical, value: bool) -> Links
     requires { ⌜ Settable (now words) x (s .0) (e .0) value ⌝ }
-    ensures { λ r. ⌜ Sets (now (words .entry)) (now (words .exit)) x r (s .0) (e .0) value ⌝ }
+    ensures { λ r. ⌜ Sets (now (words .entry)) (now (words .exit)) x r (s .0) (e .0) value × Sprouts (now (words .entry)) (now (words .exit)) (x .root) (r .root) (s .0) (e .0) value ⌝ }
 {
     if value {
         raise(words, x, s, e)
@@ -21,7 +22,7 @@ pub fn set_physical(words: &mut [u64], x: Links, s: Physical, e: Physical, value
 // Holds the positions from s to e: the runs that hold or touch them become one, which is one of them grown, or a new one.
 fn raise(words: &mut [u64], x: Links, s: Physical, e: Physical) -> Links
     requires { ⌜ Settable (now words) x (s .0) (e .0) true ⌝ }
-    ensures { λ r. ⌜ Sets (now (words .entry)) (now (words .exit)) x r (s .0) (e .0) true ⌝ }
+    ensures { λ r. ⌜ Sets (now (words .entry)) (now (words .exit)) x r (s .0) (e .0) true × Sprouts (now (words .entry)) (now (words .exit)) (x .root) (r .root) (s .0) (e .0) true ⌝ }
 {
     let from = s.0;
     let to = e.0;

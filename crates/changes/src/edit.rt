@@ -7,7 +7,7 @@ ghost use Rattle.model.specs.Positions.{oneIf, setRange, flipRange, shiftBy, sh
 ghost use Rattle.model.specs.Neighbours.{goesOn};
 ghost use Rattle.store.specs.Layout.{heldIn};
 ghost use Rattle.store.specs.Soundness.{Stands, Editable};
-ghost use Rattle.changes.specs.Edits.{Makes, Edited, Fitted, Appliable, Places, Gains, StretchEnd, Empties, Movable, Shiftable, Moves};
+ghost use Rattle.changes.specs.Edits.{Makes, Edited, Grows, GrowsBy, Fitted, Appliable, Places, PutsIn, Gains, StretchEnd, Empties, Movable, Shiftable, Moves};
 ghost use Rattle.model.specs.Neighbours.{heldBelow, heldAbove};
 use model::Count;
 use model::Edge;
@@ -106,7 +106,7 @@ pub fn set_fits(words: &[u64], h: World, limit: u64, a: Logical, b: Logical, val
 // Gives a..=b the value where it lies: at one physical range, or at two if it goes over the place where physical positions end.
 fn place(words: &mut [u64], h: World, a: Logical, b: Logical, value: bool) -> Links
     requires { ⌜ Appliable (now words) h (a .0) (b .0) value ⌝ }
-    ensures { λ r. ⌜ Places (now (words .entry)) (now (words .exit)) h r (setRange (a .0) (suc (b .0) - a .0) value (heldIn (now (words .entry)) h)) ⌝ }
+    ensures { λ r. ⌜ Places (now (words .entry)) (now (words .exit)) h r (setRange (a .0) (suc (b .0) - a .0) value (heldIn (now (words .entry)) h)) × PutsIn (now (words .entry)) (now (words .exit)) h (r .root) (a .0) (b .0) value ⌝ }
 {
     let s = store::places::to_physical(a, h.offset);
     let e = store::places::to_physical(b, h.offset);
@@ -123,7 +123,7 @@ fn place(words: &mut [u64], h: World, a: Logical, b: Logical, value: bool) -> Li
 // Sets a..=b to the value, where what it leaves fits.
 pub fn apply_set(words: &mut [u64], h: World, a: Logical, b: Logical, value: bool) -> World
     requires { ⌜ Appliable (now words) h (a .0) (b .0) value ⌝ }
-    ensures { λ r. ⌜ Makes (now (words .entry)) (now (words .exit)) h r (setRange (a .0) (suc (b .0) - a .0) value (heldIn (now (words .entry)) h)) ⌝ }
+    ensures { λ r. ⌜ Makes (now (words .entry)) (now (words .exit)) h r (setRange (a .0) (suc (b .0) - a .0) value (heldIn (now (words .entry)) h)) × Grows (now (words .entry)) (now (words .exit)) h r (a .0) (b .0) value ⌝ }
 {
     let y = place(words, h, a, b, value);
     store::refresh::refresh_set(words, y, h, a, b, value)
@@ -149,7 +149,7 @@ fn gained(root: u64, ones: u64, new_root: u64, new_ones: u64) -> Count
 pub fn set(words: &mut [u64], h: World, limit: u64, a: Logical, b: Logical, value: bool) -> Edit
     requires { ⌜ Editable (now words) h limit ⌝ }
     requires { ⌜ a .0 ≤ b .0 ⌝ }
-    ensures { λ r. ⌜ Edited (now (words .entry)) (now (words .exit)) h limit (setRange (a .0) (suc (b .0) - a .0) value (heldIn (now (words .entry)) h)) r ⌝ }
+    ensures { λ r. ⌜ Edited (now (words .entry)) (now (words .exit)) h limit (setRange (a .0) (suc (b .0) - a .0) value (heldIn (now (words .entry)) h)) r × GrowsBy (now (words .entry)) (now (words .exit)) h (a .0) (b .0) value r ⌝ }
 {
     if !set_fits(words, h, limit, a, b, value) {
         return Edit::Full;

@@ -22,3 +22,4 @@ pub mod RoundTrips
 pub mod RunList
 pub mod Search
 pub mod Moved
+pub mod Deepest

@@ -2,7 +2,7 @@
 use mathlib.Core.Path.{_≡_, refl, sym, ap, ap₂, _∙_}
 use mathlib.Core.Logic.{_⊎_, inl, inr}
 use mathlib.Core.Bool.{true, false, _||_, true≢false, false≢true}
-use mathlib.Core.List.{List, [], _∷_}
+use mathlib.Core.List.{List, [], _∷_, _++_}
 use Prim.Native.Nat.{ℕ, suc, _+_, _-_, _≤_, _<_}
 use native.Mathlib.Nat.{le-antisymm}
 use native.Mathlib.Omega.{arith}
@@ -10,7 +10,7 @@ use Rattle.model.specs.declared.Run.{Run}
 use Rattle.model.proofs.Numbers.{split}
 use Rattle.model.specs.Positions.{Positions, count, mem}
 use Rattle.model.proofs.Counting.{inside-yes, inside-below, inside-above, count-cut, count-all, count-none, count-cong}
-use Rattle.model.specs.RunList.{Canon}
+use Rattle.model.specs.RunList.{Canon, TouchesNone}
 
 pub mem-in : (r : Run) (rs : List Run) (x : ℕ) → r.start ≤ x → x ≤ r.«end» → mem (r ∷ rs) x ≡ true
 unfolding mem
@@ -45,6 +45,22 @@ canon-weaken total k l (r ∷ rs) h c = (omega arith, c .1, c .2, c .3)
 pub canon-wider : (t total k : ℕ) (rs : List Run) → t ≤ total → Canon t k rs → Canon total k rs
 canon-wider t total k [] h c = tt
 canon-wider t total k (r ∷ rs) h c = (c .0, c .1, omega (arith, c .2), canon-wider t total (r .«end» + 2) rs h (c .3))
+
+-- ---- runs that a range does not touch
+-- where none of a list is touched, the one in its midst is not
+pub touch-within : (s e : ℕ) (xs : List Run) (r : Run) (ys : List Run) → TouchesNone s e (xs ++ r ∷ ys) → (r .«end» + 1 < s) ⊎ (e + 1 < r .start)
+touch-within s e [] r ys t = t .0
+touch-within s e (x ∷ xs) r ys t = touch-within s e xs r ys (t .1)
+
+-- none is of two lists, where none is of either
+pub touch-both : (s e : ℕ) (xs ys : List Run) → TouchesNone s e xs → TouchesNone s e ys → TouchesNone s e (xs ++ ys)
+touch-both s e [] ys p q = q
+touch-both s e (x ∷ xs) ys p q = (p .0, touch-both s e xs ys (p .1) q)
+
+-- and none of either, where none is of both
+pub touch-parts : (s e : ℕ) (xs ys : List Run) → TouchesNone s e (xs ++ ys) → TouchesNone s e xs × TouchesNone s e ys
+touch-parts s e [] ys p = (tt, p)
+touch-parts s e (x ∷ xs) ys p = let q = touch-parts s e xs ys (p .1) in ((p .0, q .0), q .1)
 
 -- ---- one canonical list for one set of positions
 run-path : (r s : Run) → r.start ≡ s.start → r.«end» ≡ s.«end» → r ≡ s

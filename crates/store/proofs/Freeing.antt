@@ -30,8 +30,9 @@ use Rattle.run_index.proofs.Bound.{rep-numbered}
 use Rattle.run_index.proofs.Strings.{times-append, length-both, count-felled, length-felled, strung-kept, strung-append}
 use Rattle.store.specs.declared.Links.{Links}
 use Rattle.store.specs.Soundness.{Chain, Share, Kept}
-use Rattle.store.specs.Free.{RoomFor, Adds, HasRun, RemovesRun, GivesBack}
+use Rattle.store.specs.Free.{RoomFor, Sprouted, Adds, HasRun, RemovesRun, GivesBack}
 use Rattle.store.proofs.Nodes.{node-once, no-zero, few-runs, kept-still}
+use Rattle.store.proofs.Reached.{kept-tree}
 
 -- canonical runs rise
 pub canon-rising : (total k lo : ℕ) (rs : List Run) → lo ≤ k → Canon total k rs → Rising lo rs
@@ -123,6 +124,13 @@ add-becomes {w} {w′} {x} {a} {b} ev ins s t (f ∷ ns) r =
       runs-are = insert-inorder (x .free) a b 0 t (kept-rising (r .kept));
       still = kept-still (r .kept) (λ m z. md .kept m (omega (arith, ap (δ m) (r .kept .chained .0)))) (md .long);
     }
+
+-- and its tree is the old one with the run put in
+pub add-sprouted : {w w′ : List ℕ} {s : Share} {x : Links} {a b p : ℕ} {v : Node} {t : Tree} (ns : List ℕ) → v ≡ cellAt w (x .free)
+    → Inserts w w′ p (x .root) (x .free) a b (x .tag) → RoomFor w s x a b t ns → Sprouted w w′ (x .root) p a b
+add-sprouted [] ev ins r = absurd (omega (arith, r .some))
+add-sprouted {x = x} {a = a} {b = b} {t = t} (f ∷ ns) ev ins r =
+    (x .free, kept-tree (add-kept f ns ev r (ins t (add-ready (f ∷ ns) r))) ∙ ap (inserted (x .free) a b) (sym (kept-tree (r .kept))))
 
 -- ---- removing
 module _ {w : List ℕ} {s : Share} {x : Links} {a : ℕ} {t : Tree} {ns : List ℕ} (r : HasRun w s x a t ns) where

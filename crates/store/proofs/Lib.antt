@@ -26,6 +26,7 @@ pub mod Chains
 pub mod Decided
 pub mod Records
 pub mod Sharing
+pub mod Heights
 pub mod Placed
 pub mod Whole
 pub mod Bounded

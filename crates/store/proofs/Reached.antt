@@ -62,6 +62,10 @@ module _ {w : List ℕ} {s : Share} {x : Links} {t : Tree} {ns : List ℕ} (k : 
   pub kept-physical : physicalRuns w (x .root) ≡ inorder t
   kept-physical = tree-physical (k .linked) kept-low
 
+  -- so it is what is reached from its root
+  pub kept-tree : treeFrom highest w (x .root) ≡ t
+  kept-tree = tree-reached (k .linked) kept-low
+
   -- and what is held from its root
   pub kept-held : (o : ℕ) → heldFrom w (x .root) o ≡ turned o (mem (inorder t))
   kept-held o = tree-held o (k .linked) kept-low

@@ -26,7 +26,7 @@ use Rattle.store.specs.Layout.{linksOf, turned, heldFrom, heldIn}
 use Rattle.store.specs.Soundness.{Chain, firstOf, lastOf, Share, Still, Kept, Standing, Limited}
 use Rattle.store.specs.Bounds.{TellsFirst, TellsLast}
 use Rattle.store.proofs.Turn.{turned-zero}
-use Rattle.store.specs.Settle.{Shows, Became, Refreshes, Strewn, LinksUp}
+use Rattle.store.specs.Settle.{Shows, Became, Refreshes, Rooted, Strewn, LinksUp}
 use Rattle.store.proofs.Nodes.{node-once, kept-index, kept-still}
 use Rattle.store.proofs.Reached.{kept-held}
 use Rattle.store.proofs.Emptying.{vacantWorld, vacant-standing, rootless-empty}
@@ -92,6 +92,10 @@ module _ {w : List ℕ} {x : Links} where
   refresh-told {v = v} nz ev ea eb s t ns k =
       let su : Sums v t = sums-node w (x .root) v ev nz (s .tag) t (k .linked) in
       agreed k (record { ones-are = su .ones-is; runs-are = su .runs-is; first-is = ea; last-is = eb; empty-offset = λ z. absurd (nz z) })
+
+-- a world that holds nothing has the links' root, which is none, and no offset
+pub rooted-empty : {x : Links} (o : ℕ) {r : World} → x .root ≡ 0 → r ≡ vacantWorld x → Rooted x o r
+rooted-empty o z e = record { root-is = ap (λ (h : World). h .root) e ∙ sym z; no-offset = λ q. ap (λ (h : World). h .offset) e }
 
 -- ---- linking
 -- canonical runs are upright

@@ -2,7 +2,7 @@
 use Prim.Native.Nat.{ℕ, zero, suc, _/_, _≤_, _<_}
 use mathlib.Core.Path.{_≡_}
 use mathlib.Core.Logic.{_⊎_}
-use mathlib.Core.Bool.{false, cond}
+use mathlib.Core.Bool.{Bool, true, false, cond}
 use mathlib.Core.List.{List, [], _∷_}
 use lib.Dec.{ltb}
 use lib.ListN.{length}
@@ -12,13 +12,14 @@ use Rattle.model.specs.Positions.{run}
 use Rattle.model.specs.declared.Limits.{Limits}
 use Rattle.model.specs.Refusals.{badLimits}
 use Rattle.model.specs.Pools.{PlainWorld, limitsAt, limitsOf, emptyWorlds}
-use Rattle.model.specs.RunList.{Canon}
+use Rattle.model.specs.RunList.{Canon, TouchesNone}
 use Rattle.run_index.specs.declared.Node.{Node}
 use Rattle.run_index.specs.Cells.{cellAt}
 use Rattle.run_index.specs.Tree.{Tree, inorder}
+use Rattle.run_index.specs.Shape.{inserted}
 use Rattle.run_index.specs.Order.{insertRun, removeRun, replaceRun, Starts, Has}
 use Rattle.store.specs.declared.Links.{Links}
-use Rattle.store.specs.Layout.{recordAt, capacity, worldsOf}
+use Rattle.store.specs.Layout.{recordAt, capacity, worldsOf, treeFrom, highest}
 use Rattle.store.specs.Soundness.{Chain, Share, Still, Kept, Sound}
 
 -- the numbers n + 1 .. n + k
@@ -83,6 +84,14 @@ Addable w x a b = (s : Share) × (t : Tree) × (ns : List ℕ) × RoomFor w s x 
 
 abbrev pub Adds : List ℕ → List ℕ → Links → Links → ℕ → ℕ → Type 0
 Adds w w′ x y a b = (s : Share) (t : Tree) (ns : List ℕ) → RoomFor w s x a b t ns → Becomes w w′ s y (insertRun (run a b) (inorder t))
+
+-- the tree from q is the one that was from p, with the run a .. b put in
+abbrev pub Sprouted : List ℕ → List ℕ → ℕ → ℕ → ℕ → ℕ → Type 0
+Sprouted w w′ p q a b = (f : ℕ) × (treeFrom highest w′ q ≡ inserted f a b (treeFrom highest w p))
+
+-- it is so where a .. b are to be held and no run of that tree touches them
+abbrev pub Sprouts : List ℕ → List ℕ → ℕ → ℕ → ℕ → ℕ → Bool → Type 0
+Sprouts w w′ p q a b v = v ≡ true → TouchesNone a b (inorder (treeFrom highest w p)) → Sprouted w w′ p q a b
 
 -- a run starts at a
 pub record HasRun (w : List ℕ) (s : Share) (x : Links) (a : ℕ) (t : Tree) (ns : List ℕ) : Type 0 where

@@ -42,6 +42,11 @@ pub record Became (w w′ : List ℕ) (s : Share) (h : World) (P : Positions) : 
 abbrev pub Refreshes : List ℕ → Links → ℕ → World → Type 0
 Refreshes w x o r = (s : Share) (t : Tree) (ns : List ℕ) → Kept w s x t ns → Shows w s r (turned o (mem (inorder t)))
 
+-- the world r has the root of the links x, and no offset if o is none
+pub record Rooted (x : Links) (o : ℕ) (r : World) : Type 0 where
+  pub root-is : r .root ≡ x .root
+  pub no-offset : o ≡ 0 → r .offset ≡ 0
+
 -- the world h still tells of the positions P, and the tree t keeps P with a .. b set to v
 pub record Altered (h : World) (t : Tree) (a b : ℕ) (v : Bool) (P : Positions) : Type 0 where
   pub ordered : a ≤ b

@@ -14,6 +14,7 @@ ghost use Rattle.store.specs.Free.{
   Emptied,
   Addable,
   Adds,
+  Sprouted,
   Removable,
   RemovesRun,
   Changeable,
@@ -153,7 +154,7 @@ pub fn make(words: &mut [u64], limits: &[u64], n: u64)
 // Puts the run start..=end, which touches no other, into the index, as the first free node.
 pub fn add_run(words: &mut [u64], x: Links, start: u64, end: u64) -> Links
     requires { ⌜ Addable (now words) x start «end» ⌝ }
-    ensures { λ r. ⌜ Adds (now (words .entry)) (now (words .exit)) x r start «end» ⌝ }
+    ensures { λ r. ⌜ Adds (now (words .entry)) (now (words .exit)) x r start «end» × Sprouted (now (words .entry)) (now (words .exit)) (x .root) (r .root) start «end» ⌝ }
 {
     let v = run_index::read_node(words, x.free);
     let root = run_index::insert(words, x.root, x.free, start, end, x.tag);

@@ -4,7 +4,7 @@ ghost use Rattle.model.specs.Positions.{heldRuns};
 ghost use Rattle.store.specs.Layout.{heldFrom};
 ghost use Rattle.store.specs.Soundness.{firstOf, lastOf};
 ghost use Rattle.store.specs.Free.{Keepable};
-ghost use Rattle.store.specs.Settle.{Refreshes, Resettable, ResettableFrom, ResettableTo, Linkable, LinksUp};
+ghost use Rattle.store.specs.Settle.{Refreshes, Rooted, Resettable, ResettableFrom, ResettableTo, Linkable, LinksUp};
 use crate::Links;
 use crate::World;
 use model::Logical;
@@ -93,7 +93,7 @@ fn last_after(words: &[u64], x: Links, h: World, b: Logical, value: bool) -> u64
 // need a search only where they were freed.
 pub fn refresh_set(words: &[u64], x: Links, h: World, a: Logical, b: Logical, value: bool) -> World
     requires { ⌜ Resettable (now words) x h (a .0) (b .0) value ⌝ }
-    ensures { λ r. ⌜ Refreshes (now (words .entry)) x (h .offset) r ⌝ }
+    ensures { λ r. ⌜ Refreshes (now (words .entry)) x (h .offset) r × Rooted x (h .offset) r ⌝ }
 {
     let root = x.root;
     if root == 0 {

@@ -51,7 +51,7 @@ close-requires c κs =
     let s = edited e in
     let l = limited s in
     let o = after-open l in
-    (_, _, changed-closing (o .«open» .ensures) (l .allowance .ensures) (start o .pre .0) _ _ _ (s .set .ensures) (e .e .given .1))
+    (_, _, changed-closing (o .«open» .ensures) (l .allowance .ensures) (start o .pre .0) _ _ _ (s .set .ensures .0) (e .e .given .1))
 
 same-length : tie.Need-same-length
 same-length c = search needs
@@ -62,7 +62,7 @@ returns c =
     let l = limited s in
     let o = after-open l in
     let h = same-sound (start o .pre .0)
-    (full-same (o .«open» .ensures) (l .allowance .ensures) (start o .pre .0) _ _ _ (s .set .ensures) (c .enum-told .given .1)) in
+    (full-same (o .«open» .ensures) (l .allowance .ensures) (start o .pre .0) _ _ _ (s .set .ensures .0) (c .enum-told .given .1)) in
     (h .0, h .1, omega arith)
 
 same-length-2 : tie.Need-same-length-2
@@ -76,7 +76,7 @@ returns-2 c =
     let l = limited s in
     let o = after-open l in
     let t = cl .close .ensures _ _
-    (changed-closing (o .«open» .ensures) (l .allowance .ensures) (start o .pre .0) _ _ _ (s .set .ensures) (e .e .given .1)) in
+    (changed-closing (o .«open» .ensures) (l .allowance .ensures) (start o .pre .0) _ _ _ (s .set .ensures .0) (e .e .given .1)) in
     (t .sound, t .long, omega arith)
 
 pub put-spec : {M : Type 1} → statement M

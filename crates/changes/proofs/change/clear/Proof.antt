@@ -84,7 +84,7 @@ returns c =
     let t₃ = a .before .before in
     let g = t₃ .before .before .before in
     let t = g .before .before in
-    both-added (run-there (told t)) (t .before .if1 .taken) (leb-true _ _ (t .if2 .taken)) (g .resize-run .ensures) (t₃ .if3 .taken) (a .add-run .ensures)
+    both-added (run-there (told t)) (t .before .if1 .taken) (leb-true _ _ (t .if2 .taken)) (g .resize-run .ensures) (t₃ .if3 .taken) (a .add-run .ensures .0)
 
 enum-told : tie.Need-enum-told
 enum-told c = search needs

@@ -6,12 +6,14 @@ use Rattle.changes.proofs.Steps.{settable-indexed, FoundRun, found, fou
 use Rattle.changes.proofs.Raising.{
   Passed,
   Alone,
+  before-touched,
   before-absorbable,
   before-changeable,
   before-grown,
   before-stays,
   passed-apart,
   passed-none,
+  after-touched,
   after-absorbable,
   after-changeable,
   after-grown,
@@ -98,16 +100,20 @@ returns c =
     let g = c .before .before in
     let a = g .before .before .before .before .before in
     let d = asked a in
-    before-grown (run-there (told d)) _ (d .reaches .ensures) (a .before .before .before .if1 .taken) (a .before .before .if2 .taken) _ (a .absorb .ensures)
-    (g .resize-run .ensures)
+    let t = a .before .before .before .if1 .taken in (
+      before-grown (run-there (told d)) _ (d .reaches .ensures) t (a .before .before .if2 .taken) _ (a .absorb .ensures) (g .resize-run .ensures),
+      λ v n. absurd (before-touched (run-there (told d)) _ (d .reaches .ensures) t (start (searched (told d)) .pre) n),
+    )
 
 same-length-2 : tie.Need-same-length-2
 same-length-2 c = search needs
 
 returns-2 : tie.Need-returns-2
 returns-2 c =
-    let d = c .before .before in
-    before-stays (run-there (told d)) _ (d .reaches .ensures) (c .before .if1 .taken) (c .if2 .left)
+    let d = c .before .before in (
+      before-stays (run-there (told d)) _ (d .reaches .ensures) (c .before .if1 .taken) (c .if2 .left),
+      λ v n. absurd (before-touched (run-there (told d)) _ (d .reaches .ensures) (c .before .if1 .taken) (start (searched (told d)) .pre) n),
+    )
 
 enum-told : tie.Need-enum-told
 enum-told c = search needs
@@ -150,8 +156,11 @@ returns-3 c =
     let d = asked₂ a in
     let n = told₂ d in
     let f = n .before .before in
-    after-grown (passed (past f)) _ (f .at-or-after .ensures) _ (n .m .given .1) _ (d .reaches2 .ensures) (a .before .before .before .if3 .taken) _ (a .before .larger .ensures)
-    _ (a .absorb2 .ensures) (g .resize-run2 .ensures)
+    let t = a .before .before .before .if3 .taken in (
+      after-grown (passed (past f)) _ (f .at-or-after .ensures) _ (n .m .given .1) _ (d .reaches2 .ensures) t _ (a .before .larger .ensures) _ (a .absorb2 .ensures)
+          (g .resize-run2 .ensures),
+      λ v k. absurd (after-touched (passed (past f)) _ (f .at-or-after .ensures) _ (n .m .given .1) _ (d .reaches2 .ensures) t (start (past f .before) .pre) k),
+    )
 
 enum-told-2 : tie.Need-enum-told-2
 enum-told-2 c = search needs
@@ -165,7 +174,7 @@ same-length-4 c = search needs
 returns-4 : tie.Need-returns-4
 returns-4 c =
     let g = c .before .before in
-    alone-added (alone (g .before .before)) (g .add-run .ensures)
+    (alone-added (alone (g .before .before)) (g .add-run .ensures .0), λ v n. g .add-run .ensures .1)
 
 pub raise-spec : {M : Type 1} → statement M
 raise-spec =

@@ -77,7 +77,7 @@ loop-less c = omega (arith, c .before .before .before .before .before .stretch-e
 loop-again : tie.Need-loop-again Inv-loop μ-loop
 loop-again c s limit lim few =
     let a = c .before .before .before in
-    flipping-more ((looped a) .loop .inv s limit lim few) ((tested a) .loop-test .taken) (a .before .before .stretch-end .ensures) (a .apply-set .ensures) (c .if2 .taken)
+    flipping-more ((looped a) .loop .inv s limit lim few) ((tested a) .loop-test .taken) (a .before .before .stretch-end .ensures) (a .apply-set .ensures .0) (c .if2 .taken)
 
 loop-less-2 : tie.Need-loop-less-2 Inv-loop μ-loop
 loop-less-2 c = stop-less _ _ ((tested (c .before .before .before)) .loop-test .taken)
@@ -85,7 +85,7 @@ loop-less-2 c = stop-less _ _ ((tested (c .before .before .before)) .loop-test .
 loop-again-2 : tie.Need-loop-again-2 Inv-loop μ-loop
 loop-again-2 c s limit lim few =
     let a = c .before .before .before in
-    flipping-last ((looped a) .loop .inv s limit lim few) ((tested a) .loop-test .taken) (a .before .before .stretch-end .ensures) (a .apply-set .ensures) (c .if2 .left)
+    flipping-last ((looped a) .loop .inv s limit lim few) ((tested a) .loop-test .taken) (a .before .before .stretch-end .ensures) (a .apply-set .ensures .0) (c .if2 .left)
 
 same-length-2 : tie.Need-same-length-2 Inv-loop μ-loop
 same-length-2 c = (here (c .before)) .still .long

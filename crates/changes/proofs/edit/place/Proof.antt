@@ -4,7 +4,7 @@ use borrow.Author.Needs.{needs}
 use native.Mathlib.Omega.{arith}
 use Prim.Native.Nat.{suc, _-_}
 use Rattle.store.proofs.Turn.{Lies, lies-from-to}
-use Rattle.changes.proofs.Setting.{whole-settable, whole-reached, first-settable, second-settable, parted-reached}
+use Rattle.changes.proofs.Setting.{never-parted, whole-puts, whole-settable, whole-reached, first-settable, second-settable, parted-reached}
 use Rattle.changes.proofs.edit.place.Statement.{statement}
 use Rattle.changes.proofs.edit.place.Tie as tie
 
@@ -38,10 +38,13 @@ same-length : tie.Need-same-length
 same-length c = search needs
 
 returns : tie.Need-returns
-returns c s limit lim few =
+returns c =
     let p = c .before .before in
     let x = p .before .before .before in
-    whole-reached (start x .args .value) (x .links-of .ensures) (lies x) lim (p .before .before .if1 .taken) few (p .set-physical .ensures)
+    let r = start x in (
+      λ s limit lim few. whole-reached (r .args .value) (x .links-of .ensures) (lies x) lim (p .before .before .if1 .taken) few (p .set-physical .ensures .0),
+      whole-puts _ _ (r .args .h) _ _ (x .links-of .ensures) (lies x) (r .pre .2 .ordered) (p .set-physical .ensures .1),
+    )
 
 set-physical-requires-2 : tie.Need-set-physical-requires-2
 set-physical-requires-2 c κs =
@@ -54,17 +57,21 @@ set-physical-requires-3 c κs =
     let p = c .before .before .before in
     let x = p .before .before .before in
     let r = start x in
-    second-settable (r .args .value) (x .links-of .ensures) (lies x) (r .pre .2 .limited) (p .before .before .if1 .left) (p .set-physical2 .ensures) (r .pre .2 .few)
+    second-settable (r .args .value) (x .links-of .ensures) (lies x) (r .pre .2 .limited) (p .before .before .if1 .left) (p .set-physical2 .ensures .0) (r .pre .2 .few)
 
 same-length-2 : tie.Need-same-length-2
 same-length-2 c = search needs
 
 returns-2 : tie.Need-returns-2
-returns-2 c s limit lim few =
+returns-2 c =
     let q = c .before .before in
     let p = q .before .before .before .before in
     let x = p .before .before .before in
-    parted-reached (start x .args .value) (x .links-of .ensures) (lies x) lim (p .before .before .if1 .left) (p .set-physical2 .ensures) few (q .set-physical3 .ensures)
+    let r = start x in
+    let l = p .before .before .if1 .left in (
+      λ s limit lim few. parted-reached (r .args .value) (x .links-of .ensures) (lies x) lim l (p .set-physical2 .ensures .0) few (q .set-physical3 .ensures .0),
+      λ z. absurd (never-parted (lies x) z (r .pre .2 .ordered) l),
+    )
 
 pub place-spec : {M : Type 1} → statement M
 place-spec =

@@ -28,7 +28,7 @@ same-length : tie.Need-same-length
 same-length c = search needs
 
 returns : tie.Need-returns
-returns c = (leb-false _ _ (sym (c .before .set-fits .ensures) ∙ not-true _ (c .if1 .taken)), refl)
+returns c = ((leb-false _ _ (sym (c .before .set-fits .ensures) ∙ not-true _ (c .if1 .taken)), refl), tt)
 
 apply-set-requires : tie.Need-apply-set-requires
 apply-set-requires c κs =
@@ -46,11 +46,14 @@ returns-2 c =
     let k = c .before .before .before .before in
     let f = k .before .before in
     let r = start f in (
-      few f,
-      k .apply-set .ensures,
-      gained-changes (r .pre .0 .1 .standing) (r .args .a .0) (r .args .b .0) (r .args .value) (r .pre .1) (omega (arith, r .good))
-          (k .apply-set .ensures (r .pre .0 .0) (r .args .limit) (r .pre .0 .1) (few f)) (omega (arith, r .good)) (omega (arith, k .apply-set .ok)) (c .gained .result)
-          (c .before .if2 .taken) (c .gained .ensures),
+      (
+        few f,
+        k .apply-set .ensures .0,
+        gained-changes (r .pre .0 .1 .standing) (r .args .a .0) (r .args .b .0) (r .args .value) (r .pre .1) (omega (arith, r .good))
+            (k .apply-set .ensures .0 (r .pre .0 .0) (r .args .limit) (r .pre .0 .1) (few f)) (omega (arith, r .good)) (omega (arith, k .apply-set .ok)) (c .gained .result)
+            (c .before .if2 .taken) (c .gained .ensures),
+      ),
+      k .apply-set .ensures .1,
     )
 
 gained-requires-2 : tie.Need-gained-requires-2
@@ -64,11 +67,14 @@ returns-3 c =
     let k = c .before .before .before .before in
     let f = k .before .before in
     let r = start f in (
-      few f,
-      k .apply-set .ensures,
-      lost-changes (r .pre .0 .1 .standing) (r .args .a .0) (r .args .b .0) (r .args .value) (r .pre .1) (omega (arith, r .good))
-          (k .apply-set .ensures (r .pre .0 .0) (r .args .limit) (r .pre .0 .1) (few f)) (omega (arith, r .good)) (omega (arith, k .apply-set .ok)) (c .gained2 .result)
-          (c .before .if2 .left) (c .gained2 .ensures),
+      (
+        few f,
+        k .apply-set .ensures .0,
+        lost-changes (r .pre .0 .1 .standing) (r .args .a .0) (r .args .b .0) (r .args .value) (r .pre .1) (omega (arith, r .good))
+            (k .apply-set .ensures .0 (r .pre .0 .0) (r .args .limit) (r .pre .0 .1) (few f)) (omega (arith, r .good)) (omega (arith, k .apply-set .ok)) (c .gained2 .result)
+            (c .before .if2 .left) (c .gained2 .ensures),
+      ),
+      k .apply-set .ensures .1,
     )
 
 pub set-spec : {M : Type 1} → statement M

@@ -27,7 +27,7 @@ cleared j lim =
     (λ x.
     cleared-same (x .5) (x .6)
     (down-cleared lim (r .pre .2 .some) (omega (arith, r .good)) (omega (arith, r .fits .d)) _ (j .before .before .if1 .left)
-    (omega (arith, r .pre .2 .far)) (x .2 .ensures)))
+    (omega (arith, r .pre .2 .far)) (x .2 .ensures .0)))
     (λ x. cleared-same (x .1) (x .2) (down-uncleared lim (r .pre .2 .some) (omega (arith, r .good)) (omega (arith, r .fits .d)) (x .0 .left)))
     (j .if2 .came)
 

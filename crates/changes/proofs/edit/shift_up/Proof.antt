@@ -28,7 +28,7 @@ cleared j lim =
     (λ x.
     cleared-same (x .5) (x .6)
     (up-cleared lim (r .pre .2 .some) (omega (arith, r .good)) (omega (arith, r .fits .d)) _ _
-    (omega (arith, j .before .before .if1 .left)) (omega arith) (omega (arith, r .fits .d)) (x .2 .ensures)))
+    (omega (arith, j .before .before .if1 .left)) (omega arith) (omega (arith, r .fits .d)) (x .2 .ensures .0)))
     (λ x. cleared-same (x .1) (x .2) (up-uncleared lim (r .pre .2 .some) (omega (arith, r .good)) (omega (arith, r .fits .d)) (omega (arith, x .0 .left))))
     (j .if2 .came)
 

@@ -69,7 +69,7 @@ close-requires c κs =
     let s = edited (c .before .before) in
     let o = opened s in
     let l = limited o in
-    (_, _, edit-closing (start (ranged l) .pre) (o .«open» .ensures) (l .allowance .ensures) _ _ (s .set .ensures) (c .before .before .e .given .1))
+    (_, _, edit-closing (start (ranged l) .pre) (o .«open» .ensures) (l .allowance .ensures) _ _ (s .set .ensures .0) (c .before .before .e .given .1))
 
 returns : tie.Need-returns
 returns c =
@@ -86,7 +86,7 @@ returns-2 c =
     let o = opened s in
     let l = limited o in
     edit-full (set-says _ _ _ _ _) refl (start (ranged l) .pre) (o .«open» .ensures) (set-within (within (ranged l)) (o .«open» .ensures) _) (l .allowance .ensures)
-    _ _ (s .set .ensures) (c .enum-told2 .given .1)
+    _ _ (s .set .ensures .0) (c .enum-told2 .given .1)
 
 same-length-2 : tie.Need-same-length-2
 same-length-2 c = search needs
@@ -99,7 +99,7 @@ returns-3 c =
     let o = opened s in
     let l = limited o in
     edit-done (set-says _ _ _ _ _) refl (start (ranged l) .pre) (o .«open» .ensures) (set-within (within (ranged l)) (o .«open» .ensures) _) (l .allowance .ensures)
-    _ _ (s .set .ensures) (e .e .given .1) (k .close .ensures) refl
+    _ _ (s .set .ensures .0) (e .e .given .1) (k .close .ensures) refl
 
 pub set-spec : {M : Type 1} → statement M
 set-spec =

@@ -50,7 +50,7 @@ apply-set-requires c κs = one-settable ((start (only c)) .pre) ((only c) .stret
 returns : tie.Need-returns Inv-loop μ-loop
 returns c =
     let b = c .before .before .before in
-    one-done ((start (only b)) .pre) ((only b) .stretch .ensures) (b .before .before .if1 .taken) (b .bit .ensures) (c .before .before .apply-set .ensures)
+    one-done ((start (only b)) .pre) ((only b) .stretch .ensures) (b .before .before .if1 .taken) (b .bit .ensures) (c .before .before .apply-set .ensures .0)
 
 same-length : tie.Need-same-length Inv-loop μ-loop
 same-length c =
@@ -73,7 +73,7 @@ apply-set-requires-2 c κs =
 loop-holds : tie.Need-loop-holds Inv-loop μ-loop
 loop-holds c =
     let r = first c in
-    applying-none ((start r) .pre) (r .stretch .ensures) (c .before .before .before .before .if1 .left) (c .before .before .apply-set2 .ensures)
+    applying-none ((start r) .pre) (r .stretch .ensures) (c .before .before .before .before .if1 .left) (c .before .before .apply-set2 .ensures .0)
 
 stretch-requires-2 : tie.Need-stretch-requires-2 Inv-loop μ-loop
 stretch-requires-2 c κs = (c .loop-test .taken, omega (arith, c .before .loop .inv .may .2 .window .exact))
@@ -106,13 +106,13 @@ loop-again : tie.Need-loop-again Inv-loop μ-loop
 loop-again c =
     let b = c .before in
     ⊎-elim
-    (λ x. applying-set ((turn b) .before .loop .inv) ((turn b) .loop-test .taken) (b .before .stretch2 .ensures) (b .bit2 .ensures) (x .0 .taken) (x .2 .ensures) (x .5) (x .6))
+    (λ x. applying-set ((turn b) .before .loop .inv) ((turn b) .loop-test .taken) (b .before .stretch2 .ensures) (b .bit2 .ensures) (x .0 .taken) (x .2 .ensures .0) (x .5) (x .6))
     (λ x. applying-left ((turn b) .before .loop .inv) ((turn b) .loop-test .taken) (b .before .stretch2 .ensures) (b .bit2 .ensures) (x .0 .left) (x .1) (x .2)) (c .if2 .came)
 
 returns-2 : tie.Need-returns-2 Inv-loop μ-loop
 returns-2 c =
     let k = c .before .before in
-    applying-done ((start (first k)) .pre) ((first k) .stretch .ensures) (k .before .before .before .before .if1 .left) (k .before .before .apply-set2 .ensures)
+    applying-done ((start (first k)) .pre) ((first k) .stretch .ensures) (k .before .before .before .before .if1 .left) (k .before .before .apply-set2 .ensures .0)
     (c .before .loop .inv) (c .loop-test .left)
 
 same-length-2 : tie.Need-same-length-2 Inv-loop μ-loop
