@@ -25,8 +25,7 @@ pub enum Parsed {
     Runs(Edition, u64),
 }
 
-// Run i of the n runs that bytes tell from the fifth on, by columns. It stands alone: in one function with the other edition the compiler reads both
-// byte by byte.
+// Run i of the n runs that bytes tell from the fifth on, by columns.
 fn column_told(bytes: &[u8], n: u64, i: u64) -> Run
     requires { ⌜ (5 + 16 * n ≤ length (now bytes)) × (i < n) ⌝ }
     ensures { λ r. ⌜ r ≡ getD (runsTold Columns n (drop 5 (now (bytes .entry)))) i (run 0 0) ⌝ }

@@ -35,7 +35,7 @@ pub fn put_head(out: &mut [u8], edition: Edition, n: u64)
     crate::numbers::put_count(out, 1, n);
 }
 
-// Writes run i of n by columns. It stands alone, as `column_told` does.
+// Writes run i of n by columns.
 fn put_column(out: &mut [u8], n: u64, i: u64, start: u64, end: u64)
     requires { ⌜ (5 + 16 * n ≤ length (now out)) × (i < n) ⌝ }
     ensures { λ _. ⌜ now (out .exit) ≡ putRun Columns n i start «end» (now (out .entry)) ⌝ }
