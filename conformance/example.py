@@ -89,6 +89,14 @@ class Store:
         require(1 <= len(limits) <= 16 and fit, 11)
         self.worlds = [World(self, floor, ceiling) for floor, ceiling in limits]
 
+    def deepest(self, height, room):
+        require(self.capacity, 1)
+        require(1 <= height <= 22, 13)
+        require(fewest(height) <= self.capacity, 8)
+        words = [end for rank in level_by_level(height) for end in (2 * rank, 2 * rank)]
+        require(len(words) <= room, 2)
+        return (len(words), *words, *[0xEEEEEEEEEEEEEEEE] * (room - len(words)))
+
 
 class World:
     runs = []
@@ -211,6 +219,25 @@ class World:
         return (1000 * size(held(self.runs, *window(base, length))) + length - 1) // length
 
 
+def fewest(height):
+    """How many runs a tree of the height has at least."""
+    return fewest(height - 1) + fewest(height - 2) + 1 if height > 0 else 0
+
+
+def level_by_level(height):
+    """The ranks of such a tree, the right side of every node the higher one. Any list that makes the height will do, and this is not the pack's."""
+    ranks, level = [], [(0, height)]
+    while level:
+        below = []
+        for first, high in level:
+            if high > 0:
+                rank = first + fewest(high - 2)
+                ranks.append(rank)
+                below += [(first, high - 2), (rank + 1, high - 1)]
+        level = below
+    return ranks
+
+
 def encoded(runs, by_columns):
     """The written set of runs: each has sixteen bytes, which stand together, or each with those of its place in the other runs."""
     table = [start.to_bytes(8, "big") + end.to_bytes(8, "big") for start, end in runs]
@@ -259,7 +286,7 @@ def fill_front(room, due):
 # pairs. Of those that answer more than "done", how the answer begins.
 
 ARGUMENTS = {
-    "words": "sn", "spoil": "s", "new": "sl", "set": "prn", "flip": "pr", "get": "pn", "run_at": "pn", "find": "prn", "tally": "prn",
+    "words": "sn", "spoil": "s", "new": "sl", "deepest": "snn", "set": "prn", "flip": "pr", "get": "pn", "run_at": "pn", "find": "prn", "tally": "prn",
     "select": "prnn", "gap": "prn", "ranges": "prn", "draw_front": "pnnn", "draw_back": "pnnn", "shift": "pnn",
     "shifted": "ppnn", "combine": "pwpp", "not": "pp", "eq": "pp", "load": "pb", "mend": "pbnn", "build": "pl", "write_set": "pnn", "read_map": "pnnb",
     "write_map": "pnnn", "clear_map": "nnb", "convert": "bn", "fill": "pnn",
@@ -267,7 +294,7 @@ ARGUMENTS = {
 ANSWERS = {
     "set": "number", "get": "value", "run_at": "run", "find": "at", "tally": "number", "select": "at", "gap": "at",
     "ranges": "listing", "draw_front": "drawn", "draw_back": "drawn", "eq": "value", "mend": "written", "write_set": "written", "read_map": "number",
-    "write_map": "written", "clear_map": "cleared", "convert": "written", "fill": "number",
+    "write_map": "written", "clear_map": "cleared", "convert": "written", "deepest": "worded", "fill": "number",
 }
 STORELESS = {"clear_map": clear_map, "convert": convert}
 

@@ -6,20 +6,22 @@
  * ceiling. What lies between is shared: whichever world needs a run first gets it. Whoever needs one set makes a pool of one world by
  * vizturel_new_one, and names world 0.
  *
- * Every other call names a world by its number, from 0 on, after the pool's words and their count. A further pool is lent in the same way, and
- * with the number of the world that is meant. A change of one world leaves the positions of all others, and no call but vizturel_new changes a
- * floor or a ceiling.
+ * Every other call but vizturel_deepest names a world by its number, from 0 on, after the pool's words and their count. A further pool is lent in
+ * the same way, and with the number of the world that is meant. A change of one world leaves the positions of all others, and no call but
+ * vizturel_new changes a floor or a ceiling.
  *
- * Any words may be lent to any call: what is no pool, or not a sound one, is refused, and then nothing has changed. Only vizturel_new takes words
- * that hold anything. No call allocates, keeps a pointer or writes past what is lent.
+ * Any words may be lent to any call: what is no pool, or not a sound one, is refused, and then nothing has changed. Only vizturel_new, and
+ * vizturel_deepest, which asks how long a pool is and no more, take words that hold anything. No call allocates, keeps a pointer or writes past
+ * what is lent.
  *
  * NO OVERLAP. Two pools or slices lent to one call must not overlap, unless both are only read. So vizturel_eq compares two worlds of one pool as
  * they are, but a world that is overwritten (by vizturel_combine, vizturel_not or vizturel_shifted) cannot be made of worlds of its own pool:
  * copy the pool's words first, and lend the copy for what is read.
  *
  * REFUSALS. Every answer begins with a refusal's number, or is one; 0 means that the call was done. A refused call has changed no word and no
- * byte. Where several would hold, the first of this order is given: 1 of any pool, 11, 7 of any pool, 12 of any world, 9, 6, 10, 3 (under 5
- * bytes), 4, 3, 5, 8, 2. Every call on a pool but vizturel_new may be refused with 1, 7 and 12, of the pool that receives the result too.
+ * byte. Where several would hold, the first of this order is given: 1 of any pool, 11, 7 of any pool, 12 of any world, 13, 9, 6, 10, 3 (under 5
+ * bytes), 4, 3, 5, 8, 2. Every call on a pool but vizturel_new and vizturel_deepest may be refused with 1, 7 and 12, of the pool that receives the
+ * result too.
  *
  *   1  a pool's length is not 8 * (C + 49) words for a C from 1 to 65,536
  *   2  an output is shorter than what is due
@@ -28,17 +30,19 @@
  *   5  a start exceeds its end, or is below the previous end + 2
  *   6  a window of length 0 or above 524,288, or past 2^64; or a map that has not (length + 7) / 8 bytes
  *   7  a pool is not sound
- *   8  the world would have more runs than its ceiling, or the sum over all worlds of the larger of runs and floor would exceed C
+ *   8  the world would have more runs than its ceiling, or the sum over all worlds of the larger of runs and floor would exceed C; of
+ *      vizturel_deepest: its list has more runs than C
  *   9  a gap of length 0 is asked for
  *  10  a spare bit of a map to be read is one
  *  11  a pool is to be made with no world or more than 16, a floor above its ceiling, or floors that together exceed C
  *  12  no world of that number was opened
+ *  13  the height of a tree is not from 1 to 22
  *
  * 8 is given for no other cause. So a world can always have as many runs as its floor, whatever the others hold, and of the others it feels that
  * sum alone.
  *
- * THE SOUNDNESS CHECK. Every call on a pool, but vizturel_new, first passes over all its nodes, used and free ones. The cost goes by the capacity
- * C, not by the runs that are held. vizturel_frame makes many calls, at any worlds of a pool, after one soundness check.
+ * THE SOUNDNESS CHECK. Every call on a pool, but vizturel_new and vizturel_deepest, first passes over all its nodes, used and free ones. The cost
+ * goes by the capacity C, not by the runs that are held. vizturel_frame makes many calls, at any worlds of a pool, after one soundness check.
  *
  * LOCKSTEP. Two sound pools of one capacity that opened equally many worlds, with the same positions, floor and ceiling in each, answer every later
  * list of equal calls alike.
@@ -61,10 +65,11 @@
 extern "C" {
 #endif
 
-/* how many words a pool of capacity c has, how many bytes hold any set that it writes, and how many worlds it can have */
+/* how many words a pool of capacity c has, how many bytes hold any set that it writes, how many worlds it can have, and how high the tree of one */
 #define VIZTUREL_WORDS(c) (8 * ((size_t)(c) + 49))
 #define VIZTUREL_SET_BYTES(c) (5 + 16 * (size_t)(c))
 #define VIZTUREL_WORLDS 16
+#define VIZTUREL_HEIGHT 22
 
 enum vizturel_refusal {
     VIZTUREL_DONE = 0,
@@ -79,7 +84,8 @@ enum vizturel_refusal {
     VIZTUREL_GAP_LENGTH = 9,
     VIZTUREL_STRAY_BIT = 10,
     VIZTUREL_WORLD_LIMITS = 11,
-    VIZTUREL_WORLD_UNOPENED = 12
+    VIZTUREL_WORLD_UNOPENED = 12,
+    VIZTUREL_TREE_HEIGHT = 13
 };
 
 /* Kinds of bounds: none, one that includes its value, one that excludes it. Other numbers are reserved. */
@@ -204,6 +210,12 @@ typedef struct {
     uint64_t bytes;
     uint64_t report;
 } vizturel_mended;
+
+/* how many words were written into the front of the slice; the others are as they were */
+typedef struct {
+    uint64_t refusal;
+    uint64_t words;
+} vizturel_worded;
 
 /* ---- making a pool */
 
@@ -331,6 +343,16 @@ vizturel_counted vizturel_read_map_by_bytes(uint64_t *words, size_t count, uint6
 /* Makes a map of the window fit to be read: zeroes its spare bits, and tells how many were one. The other bits stay. It takes no pool. Stored maps
  * whose spare bits may hold anything go through it before vizturel_read_map. Refused with 6 alone. */
 vizturel_numbered vizturel_clear_map(uint64_t base, uint64_t length, uint8_t *map, size_t map_count);
+
+/* ---- the deepest tree, for whoever sizes a stack by how high a tree can be. It names no world. */
+
+/* Writes the shortest list of runs that makes a tree of the height h, from 1 to VIZTUREL_HEIGHT, if they are set one by one in that order into an
+ * empty world: start and end of each run, two words each, to the front of out; the rest of out stays. Heights 1 to 5 take 1, 2, 4, 7 and 12 runs,
+ * each height one more than the two before it together, and height 22 takes 46,367. No world of a sound pool has so high a tree with fewer nodes;
+ * one that was shifted may have one run less than nodes. Which list it is follows from h alone. The pool is asked for its length, so for its C, and
+ * for nothing else: it need not be sound, and every word of it stays. 2 * C words are always enough for out. Refused with 1, then 13, then 8 where
+ * the list has more runs than C, then 2; never with 7 or 12. */
+vizturel_worded vizturel_deepest(const uint64_t *words, size_t count, uint64_t h, uint64_t *out, size_t out_count);
 
 /* ---- a frame's calls at once: one soundness check, then every call of a list, each at a world of the pool */
 

@@ -10,9 +10,9 @@
 //! ([`World::combine`], [`World::not`], [`World::shifted`]) overwrites the world that is to hold it.
 //!
 //! No call needs a test beforehand: whatever the words, numbers, bounds and bytes are, it answers its result or one [`Refusal`].
-//! A refused call changes nothing. Every call but those that make a pool may be refused with [`Refusal::StoreLength`],
-//! [`Refusal::Unsound`] and [`Refusal::WorldUnopened`], of the world and of further worlds; the other refusals are named where they
-//! occur.
+//! A refused call changes nothing. Every call but those that make a pool, and [`Pool::deepest`], which only measures one, may be refused
+//! with [`Refusal::StoreLength`], [`Refusal::Unsound`] and [`Refusal::WorldUnopened`], of the world and of further worlds; the other
+//! refusals are named where they occur.
 //!
 //! ```
 //! use vizturel::{Limits, PoolBuf, Refusal, SetBuf};
@@ -30,7 +30,7 @@
 //! # }
 //! ```
 //!
-//! Every call makes the soundness check first: one pass over all nodes, used and free ones, whose cost goes by the capacity and not by the
+//! Every other call makes the soundness check first: one pass over all nodes, used and free ones, whose cost goes by the capacity and not by the
 //! runs. Most calls then need one path down the tree. [`Pool::frame`] and [`Pool::play`] make a list of calls after one soundness check.
 
 use std::error;
@@ -65,7 +65,7 @@ pub enum Refusal {
     /// A pool is not sound.
     Unsound = 7,
     /// The world would have more runs than its ceiling, or the larger of runs and floor, summed over the pool's worlds, would exceed the
-    /// capacity.
+    /// capacity. Of [`Pool::deepest`]: its list has more runs than the capacity.
     Capacity = 8,
     /// A gap of length 0 is asked for.
     GapLength = 9,
@@ -76,10 +76,12 @@ pub enum Refusal {
     WorldLimits = 11,
     /// A world of that number was not opened.
     WorldUnopened = 12,
+    /// The height of a tree is not from 1 to [`HEIGHT`].
+    TreeHeight = 13,
 }
 
 impl Refusal {
-    const ALL: [Refusal; 12] = [
+    const ALL: [Refusal; 13] = [
         Refusal::StoreLength,
         Refusal::OutputShort,
         Refusal::SetLength,
@@ -92,9 +94,10 @@ impl Refusal {
         Refusal::StrayBit,
         Refusal::WorldLimits,
         Refusal::WorldUnopened,
+        Refusal::TreeHeight,
     ];
 
-    /// The number of the refusal, from 1 to 12.
+    /// The number of the refusal, from 1 to 13.
     pub fn number(self) -> u64 {
         self as u64
     }
@@ -110,11 +113,12 @@ impl fmt::Display for Refusal {
             Refusal::RunOrder => "a run's start exceeds its end, or is below the previous end + 2",
             Refusal::Window => "a window is empty, too long or past 2^64, or a map's length is not the window's",
             Refusal::Unsound => "a pool is not sound",
-            Refusal::Capacity => "the world would have more runs than its ceiling or the pool allows",
+            Refusal::Capacity => "there would be more runs than the world's ceiling or the pool allows",
             Refusal::GapLength => "a gap of length 0 is asked for",
             Refusal::StrayBit => "a spare bit of a map to be read is one",
             Refusal::WorldLimits => "worlds not 1 to 16, a floor above its ceiling, or floors above the capacity",
             Refusal::WorldUnopened => "a world of that number was not opened",
+            Refusal::TreeHeight => "the height of a tree is not from 1 to 22",
         })
     }
 }
@@ -230,6 +234,9 @@ pub struct Set<S> {
 
 /// A set that owns its words.
 pub type SetBuf = Set<Vec<u64>>;
+
+/// How high the tree of a world can be, at the largest capacity.
+pub const HEIGHT: u64 = 22;
 
 /// How many words a pool of the capacity has.
 pub const fn words(capacity: usize) -> usize {
@@ -422,6 +429,35 @@ impl<S: AsRef<[u64]>> Pool<S> {
     /// A world, to be read. Its calls are refused with 12 where no world of that number was opened.
     pub fn world(&self, number: u64) -> World<&[u64]> {
         World { pool: Pool { words: self.words() }, number }
+    }
+
+    /// Writes the shortest list of runs that makes a tree of the height, if they are set one by one in that order into an empty world,
+    /// into the front of a slice, and hands that part back: start and end of each run, both in it. The rest of the slice stays. Which
+    /// list it is follows from the height alone. No world of a sound pool has so high a tree with fewer nodes; one that was shifted may
+    /// have one run less than nodes. As many runs as the capacity are always enough for the slice.
+    ///
+    /// The pool is asked how long it is, and no more: it need not be sound, and no world is meant. Refused with 1, with 13 where the
+    /// height is not from 1 to [`HEIGHT`], with 8 where the list has more runs than the capacity, or with 2; then the slice stays.
+    ///
+    /// ```
+    /// use vizturel::{Refusal, SetBuf};
+    /// # fn main() -> Result<(), vizturel::Refusal> {
+    /// let mut slots = SetBuf::with_capacity(4)?;
+    /// let mut runs = [[0; 2]; 4];
+    /// for &mut [start, end] in slots.deepest(3, &mut runs)? {
+    ///     slots.set(start..=end, true)?;
+    /// }
+    /// assert_eq!(slots.tally(.., true)?.runs, 4); // a tree of height 3 has no fewer
+    /// assert_eq!(slots.deepest(4, &mut runs), Err(Refusal::Capacity)); // one of height 4 has 7
+    /// # Ok(())
+    /// # }
+    /// ```
+    pub fn deepest<'o>(&self, height: u64, out: &'o mut [[u64; 2]]) -> Answer<&'o mut [[u64; 2]]> {
+        let w = self.words();
+        let to = out.as_flattened_mut();
+        let (to, room) = (to.as_mut_ptr(), to.len());
+        let written = number(unsafe { raw::vizturel_deepest(w.as_ptr(), w.len(), height, to, room) })?;
+        Ok(&mut out[..written as usize / 2])
     }
 }
 

@@ -22,7 +22,7 @@ pub struct Tallied {
     pub runs: u64,
 }
 
-/// A number, a value (0 or 1) or how many bytes were written.
+/// A number, a value (0 or 1) or how many bytes or words were written.
 #[repr(C)]
 pub struct Numbered {
     pub refusal: u64,
@@ -171,6 +171,7 @@ unsafe extern "C" {
     ) -> Counted;
     pub fn vizturel_clear_map(base: u64, n: u64, map: *mut u8, length: usize) -> Numbered;
     pub fn vizturel_convert(bytes: *const u8, length: usize, out: *mut u8, room: usize) -> Numbered;
+    pub fn vizturel_deepest(words: *const u64, count: usize, h: u64, out: *mut u64, room: usize) -> Numbered;
     pub fn vizturel_write(
         words: *const u64,
         count: usize,

@@ -1,6 +1,6 @@
 /* The library through include/vizturel.h: the sixteen cases of the scope document, the editions of written sets, mended sets, the lowest gap, spare
- * bits of maps, maps by words and by single bytes, each refusal, that a refused call changes nothing, calls by lists, and worlds that share a pool.
- * Compiled as C and as C++.
+ * bits of maps, maps by words and by single bytes, the deepest trees, each refusal, that a refused call changes nothing, calls by lists, and worlds
+ * that share a pool. Compiled as C and as C++.
  * Prints what failed, and last 'N passed, M failed'. */
 #include <stdio.h>
 #include <stdlib.h>
@@ -583,6 +583,68 @@ static void both_forms(void) {
     CHECK(vizturel_write_map_by_bytes(one, VIZTUREL_WORDS(1), here, 0, 7, map, 1).refusal == VIZTUREL_UNSOUND && map[0] == 0x55);
 }
 
+/* How high a world's tree is: its root stands first in its record, and the height is word 4 of a node. */
+static uint64_t height_of(const uint64_t *w, uint64_t world) {
+    uint64_t root = w[8 * (1 + world)];
+    return root == 0 ? 0 : w[8 * (16 + root) + 4];
+}
+
+/* The lists for heights: set run by run into an empty world, each makes its height with its last run. Slices of a word less, and of more; a pool that
+ * is not sound; and the refusals, in their order. */
+static void deepest(void) {
+    static const size_t least[] = {0, 1, 2, 4, 7, 12, 20};
+    static const uint64_t no_height[] = {0, VIZTUREL_HEIGHT + 1, UINT64_C(1) << 32, (UINT64_C(1) << 32) + 1, M};
+    uint64_t list[2 * CAPACITY + 1], same[2 * CAPACITY + 1], unwritten[2 * CAPACITY + 1];
+    /* where the others of the pool leave room */
+    uint64_t most = here == 0 ? 5 : 4, h;
+    vizturel_worded d;
+    size_t i, n;
+    memset(unwritten, 0xEE, sizeof unwritten);
+    for (h = 1; h <= most; h++) {
+        int right = 1;
+        n = least[h];
+        fresh(s, WORDS);
+        memcpy(kept, s, sizeof s);
+        memcpy(list, unwritten, sizeof list);
+        d = vizturel_deepest(s, WORDS, h, list, 2 * n - 1);
+        right &= d.refusal == VIZTUREL_OUTPUT_SHORT && d.words == 0 && memcmp(list, unwritten, sizeof list) == 0;
+        d = vizturel_deepest(s, WORDS, h, list, sizeof list / sizeof *list);
+        right &= d.refusal == VIZTUREL_DONE && d.words == 2 * n && memcmp(list + 2 * n, unwritten, sizeof list - 16 * n) == 0;
+        right &= memcmp(kept, s, sizeof s) == 0;
+        for (i = 0; i < n; i++) {
+            right &= height_of(s, here) < h;
+            right &= vizturel_set(s, WORDS, here, IN(list[2 * i]), IN(list[2 * i + 1]), 1).refusal == VIZTUREL_DONE;
+        }
+        right &= height_of(s, here) == h;
+        /* equal calls get equal lists: in a slice of just what is due, of a pool that is not sound, and of words that are none */
+        s[3]++;
+        memcpy(same, unwritten, sizeof same);
+        d = vizturel_deepest(s, WORDS, h, same, 2 * n);
+        right &= d.refusal == VIZTUREL_DONE && d.words == 2 * n && memcmp(same, list, sizeof list) == 0;
+        memset(a, 0xEE, sizeof a);
+        memcpy(same, unwritten, sizeof same);
+        d = vizturel_deepest(a, WORDS, h, same, 2 * n + 1);
+        right &= d.refusal == VIZTUREL_DONE && d.words == 2 * n && memcmp(same, list, sizeof list) == 0;
+        check(right, "the list for a height", __LINE__);
+    }
+    /* 1, then 13, then 8, then 2 */
+    memcpy(kept, s, sizeof s);
+    memcpy(list, unwritten, sizeof list);
+    for (i = 0; i < sizeof no_height / sizeof *no_height; i++) {
+        CHECK(vizturel_deepest(s, WORDS - 1, no_height[i], list, 0).refusal == VIZTUREL_STORE_LENGTH);
+        CHECK(vizturel_deepest(s, WORDS, no_height[i], list, 0).refusal == VIZTUREL_TREE_HEIGHT);
+        CHECK(vizturel_deepest(s, WORDS, no_height[i], list, 2 * CAPACITY).refusal == VIZTUREL_TREE_HEIGHT);
+    }
+    CHECK(vizturel_deepest(s, WORDS, 6, list, 0).refusal == VIZTUREL_CAPACITY && vizturel_deepest(s, WORDS, 6, list, 2 * CAPACITY).refusal == VIZTUREL_CAPACITY);
+    CHECK(vizturel_deepest(s, WORDS, VIZTUREL_HEIGHT, list, 2 * CAPACITY).refusal == VIZTUREL_CAPACITY);
+    CHECK(vizturel_deepest(s, VIZTUREL_WORDS(11), 5, list, 2 * CAPACITY).refusal == VIZTUREL_CAPACITY);
+    CHECK(vizturel_deepest(s, VIZTUREL_WORDS(12), 5, list, 23).refusal == VIZTUREL_OUTPUT_SHORT);
+    CHECK(vizturel_deepest(s, VIZTUREL_WORDS(1), 1, NULL, 0).refusal == VIZTUREL_OUTPUT_SHORT);
+    CHECK(vizturel_deepest(NULL, 0, 1, list, 2 * CAPACITY).refusal == VIZTUREL_STORE_LENGTH);
+    CHECK(memcmp(list, unwritten, sizeof list) == 0 && memcmp(kept, s, sizeof s) == 0);
+    CHECK(vizturel_deepest(s, VIZTUREL_WORDS(12), 5, list, 24).words == 24);
+}
+
 static void refusals(void) {
     static const uint8_t version_three[] = {3, 0, 0, 0, 0};
     uint8_t nothing[8] = {9, 9, 9, 9, 9, 9, 9, 9}, same[8] = {9, 9, 9, 9, 9, 9, 9, 9};
@@ -973,6 +1035,7 @@ int main(void) {
         gaps();
         spare_bits();
         both_forms();
+        deepest();
         refusals();
         every_call();
         any_record();

@@ -95,6 +95,9 @@ static slice out, map, set_bytes, run_words, calls, told_calls;
 /* a written set to be mended, and slices of just what is due of it */
 static slice mixed, mended, fates;
 static size_t set_length;
+/* slices of just what is due of the list for each height; the last one has more runs than any of the pools */
+static slice lists[7];
+static const size_t least[] = {0, 1, 2, 4, 7, 12, 20};
 
 #define MAP_LENGTH 100
 #define MAP_BYTES ((MAP_LENGTH + 7) / 8)
@@ -114,6 +117,19 @@ static vizturel_drawn first_fit(pool s, uint64_t at, vizturel_bound lower, viztu
     vizturel_drawn d = vizturel_draw_front(s.words, s.count, at, l.first, l.last, 0);
     while (d.found && d.end - d.start < length - 1) d = vizturel_draw_front(s.words, s.count, at, d.first, d.last, 0);
     return d;
+}
+
+/* The list for each height in turn, with a word less than is due every other time. The pool is only measured, sound or not: its length decides. */
+static void measuring_call(pool s) {
+    static uint64_t turn;
+    uint64_t h = turn / 2 % 7;
+    size_t due = 2 * least[h], room = due - (h > 0 && turn % 2);
+    vizturel_worded d = vizturel_deepest(s.words, s.count, h, (uint64_t *)(void *)lists[h].at, room);
+    int fits = s.count % 8 == 0 && s.count >= VIZTUREL_WORDS(1);
+    turn++;
+    CHECK(d.refusal == (!fits ? VIZTUREL_STORE_LENGTH : h == 0 ? VIZTUREL_TREE_HEIGHT : VIZTUREL_WORDS(least[h]) > s.count ? VIZTUREL_CAPACITY
+                        : room < due ? VIZTUREL_OUTPUT_SHORT : VIZTUREL_DONE));
+    CHECK(d.words == (d.refusal == VIZTUREL_DONE ? due : 0));
 }
 
 /* Every call that only reads the pool, or overwrites a world of another. Told is 0, 1, 7 or 12: what each of them must be refused with. */
@@ -147,6 +163,7 @@ static void reading_calls(pool s, uint64_t at, uint64_t told) {
     CHECK(vizturel_fill(w, n, at, x / 2, 1 + chance(200)).refusal == told);
     CHECK(vizturel_eq(w, n, at, partner.words, partner.count, 0).refusal == told);
     CHECK(vizturel_eq(partner.words, partner.count, 0, w, n, at).refusal == told);
+    measuring_call(s);
     CHECK(vizturel_write(w, n, at, VIZTUREL_ROWS, out.at, VIZTUREL_SET_BYTES(MOST)).refusal == told);
     CHECK(vizturel_write(w, n, at, VIZTUREL_COLUMNS, out.at, VIZTUREL_SET_BYTES(MOST)).refusal == told);
     CHECK(vizturel_write_map(w, n, at, x / 2, MAP_LENGTH, map.at, MAP_BYTES).refusal == told);
@@ -585,6 +602,34 @@ static void map_lengths(void) {
     give_back(narrow.lent);
 }
 
+/* The list for each height up to 10, in slices of just what is due, of some words less, and of more. */
+static void list_lengths(void) {
+    pool s = lend_pool(VIZTUREL_WORDS(143));
+    size_t runs = 0, next = 1, room, i;
+    uint64_t h;
+    memset(s.words, 0xEE, 8 * s.count);
+    writable(s.lent, 0);
+    for (h = 1; h <= 10; h++) {
+        size_t more = runs + next + 1;
+        runs = next;
+        next = more;
+        for (room = 2 * runs > 5 ? 2 * runs - 5 : 0; room <= 2 * runs + 5; room++) {
+            slice list = lend(8 * room);
+            memset(list.at, 0xEE, 8 * room);
+            vizturel_worded d = vizturel_deepest(s.words, s.count, h, (uint64_t *)(void *)list.at, room);
+            if (room < 2 * runs) {
+                CHECK(d.refusal == VIZTUREL_OUTPUT_SHORT && d.words == 0 && is_stale(list, 8 * room));
+            } else {
+                CHECK(d.refusal == VIZTUREL_DONE && d.words == 2 * runs);
+                for (i = 16 * runs; i < 8 * room; i++) CHECK(list.at[i] == 0xEE);
+            }
+            give_back(list);
+        }
+    }
+    writable(s.lent, 1);
+    give_back(s.lent);
+}
+
 /* Lists of calls, of any words, and slices for their answers: each of every number of words up to 40. */
 static void frame_lengths(void) {
     pool s = lend_pool(VIZTUREL_WORDS(3));
@@ -657,6 +702,7 @@ int main(int argc, char **argv) {
     CHECK(mix(mixed, MIXED_RUNS, VIZTUREL_COLUMNS) == MENDED_RUNS);
     fates = lend(MIXED_RUNS);
     writable(mixed, 0);
+    for (i = 0; i < 7; i++) lists[i] = lend(16 * least[i]);
     calls = lend(CALLS * RECORD);
     told_calls = lend(CALLS * RECORD);
     for (i = 0; i < CALLS; i++) {
@@ -671,6 +717,7 @@ int main(int argc, char **argv) {
     damaged_bytes();
     mend_lengths();
     map_lengths();
+    list_lengths();
     frame_lengths();
     /* a test that met no sound pool, or no damaged one, would have tested nothing */
     CHECK(sound > 100 && unsound > 1000);

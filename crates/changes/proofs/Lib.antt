@@ -16,4 +16,3 @@ pub mod Neighbours
 pub mod SetRuns
 pub mod Shifted
 pub mod TurnedSet
-pub mod Deepening

@@ -1,4 +1,3 @@
-// Changes of a world's positions: physical ones in the tree, logical ones, and those of the list that makes the deepest tree.
+// Changes of a world's positions: physical ones in the tree, and logical ones.
 pub mod change;
-pub mod deepest;
 pub mod edit;

@@ -18,3 +18,4 @@ pub mod Comparing
 pub mod Putting
 pub mod Simulation
 pub mod Served
+pub mod Measuring

@@ -11,14 +11,8 @@ use Rattle.model.specs.Refusals.{
   storeLength,
   worldLimits,
   storeUnsound,
-  gapLength,
-  window,
-  strayBit,
-  setShort,
-  setVersion,
-  setLength,
-  runOrder,
   looks,
+  ofArguments,
   beforeCapacity,
   fromCapacity,
   Condition,
@@ -108,7 +102,7 @@ refused-room bs a b e =
 -- ---- of worlds that are looked at, with other conditions beside
 -- the causes that come after those
 abbrev later : List Cause
-later = gapLength ∷ window ∷ strayBit ∷ setShort ∷ setVersion ∷ setLength ∷ runOrder ∷ fromCapacity
+later = ofArguments ++ fromCapacity
 
 -- what a look finds is given
 pub looked-first : (cs : List Condition) {n : ℕ} → firstGiven looks cs ≡ some n → refusal cs ≡ some n

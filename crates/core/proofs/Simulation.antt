@@ -1,5 +1,5 @@
 -- A sound pool that holds the model's worlds answers each call as the model does, and holds the model's worlds after it: by what the call
--- promises (`Met`, and `Made` of making) alone. Assumes nothing.
+-- promises (`Met`, `Made` of making, `Measured` of measuring) alone. Assumes nothing.
 use Prim.Native.Nat.{ℕ, _+_, _<_, _≤_}
 use mathlib.Core.Path.{_≡_, refl, sym, ap, ap₂, _∙_, subst, fun-ext}
 use mathlib.Core.Logic.{_⊎_, inl, inr}
@@ -7,6 +7,8 @@ use mathlib.Core.Bool.{Bool, false}
 use mathlib.Core.List.{List, [], _∷_, _++_}
 use mathlib.Core.Option.{Option, none, some}
 use native.Mathlib.Omega.{arith}
+use lib.Dec.{eqb}
+use lib.ListN.{length}
 use borrow.Author.Tests.{ne-eqb}
 use Rattle.model.specs.declared.Limits.{Limits}
 use Rattle.model.specs.Numbers.{size, mostWorlds}
@@ -14,16 +16,19 @@ use Rattle.model.proofs.Numbers.{split}
 use Rattle.model.specs.Positions.{Positions, empty, bounded}
 use Rattle.model.proofs.Ops.{bounded-below}
 use Rattle.model.specs.Refusals.{worldLimits, Condition, _when_, refusal, badLimits}
-use Rattle.model.specs.Call.{Fed, Call, feed, make, at, Answer}
+use Rattle.model.specs.Bytes.{intoFront}
+use Rattle.model.specs.Deepest.{deepestWords}
+use Rattle.model.specs.Call.{Fed, Call, feed, make, deepest, at, Result, written, Answer}
 use Rattle.model.specs.Model.{Outcome, positionsOf, reads, settle, serve}
 use Rattle.model.specs.Pools.{PlainWorld, worldOf, fedBy, full, withPositions, holdingAt, serveAt, emptyWorlds, PoolOutcome, settleMake, makeBy, step}
+use Rattle.model.specs.Pools.{settleMeasured, deepestConditions, deepestBy}
 use Rattle.model.proofs.Pools.{holding-fed}
 use Rattle.store.specs.Layout.{capacityOf, capacity, openedAt, floorAt, ceilingAt, heldBy, plainAt, worldsFrom, worldsOf}
 use Rattle.store.specs.Soundness.{Sound}
 use Rattle.store.specs.Settle.{Settled}
 use Rattle.store.proofs.Turn.{pool-past}
 use Rattle.store.proofs.WorldLists.{worlds-but, opened-world, unopened-world}
-use Rattle.core.specs.Met.{Site, fedAt, fullAt, outcomeOf, Leaves, Met, madeOf, MakeLeaves, Made}
+use Rattle.core.specs.Met.{Site, fedAt, fullAt, outcomeOf, Leaves, Met, madeOf, MakeLeaves, Made, deepestOf, Measured}
 use Rattle.core.proofs.Refusing.{unopened-refused}
 use Rattle.core.proofs.Meeting.{fed-sound}
 use Rattle.core.proofs.Served.{Ends, bounded-ends, Served, served}
@@ -141,14 +146,17 @@ module _ {C : ℕ} {ws : List PlainWorld} {w : List ℕ} (H : Holds C ws w) wher
             subst (λ v. Holds C (holdingAt i (o .positions) ws) v) (sym t)
             (subst (λ vs. Holds C vs w) (sym (ap (λ p. holdingAt i (p .positions) ws) f ∙ holding-fed ws i)) H)
 
+  -- ---- a call on the pool
+  -- what the model says of it is told by the capacity and the worlds
+  pool-is : (f : Bool → ℕ → List PlainWorld → PoolOutcome) → f (eqb (capacity w) 0) (capacity w) (worldsOf w) ≡ f false C ws
+  pool-is f = ap (λ z. f z (capacity w) (worldsOf w)) (ne-eqb (capacity w) 0 (λ z. omega (arith, H .sound .sized))) ∙ ap₂ (f false) (H .sized) (H .held)
+
   -- ---- making
   module _ {ls : List Limits} {a : Answer} {w′ : List ℕ} (m : Made w ls a w′) where
     -- what the model says of it
     made-is : madeOf w ls ≡ makeBy false C ws ls
     unfolding madeOf
-    made-is =
-        ap (λ z. makeBy z (capacity w) (worldsOf w) ls) (ne-eqb (capacity w) 0 (λ z. omega (arith, H .sound .sized)))
-        ∙ ap₂ (λ k vs. makeBy false k vs ls) (H .sized) (H .held)
+    made-is = pool-is (λ z k vs. makeBy z k vs ls)
 
     -- its answer is the model's
     pub made-answer : a ≡ (step C ws (make ls)) .answer
@@ -168,3 +176,21 @@ module _ {C : ℕ} {ws : List PlainWorld} {w : List ℕ} (H : Holds C ws w) wher
             let E = subst (MakeLeaves w w′ ls) e (m .left) in
             record { sound = E .sound; sized = ap capacityOf (E .long) ∙ H .sized; held = E .worlds }
         go (some n) e = subst (λ v. Holds C ws v) (sym (subst (MakeLeaves w w′ ls) e (m .left))) H
+
+  -- ---- measuring
+  module _ {h : ℕ} {out : List ℕ} {a : Answer} {w′ : List ℕ} (m : Measured w h out a w′) where
+    -- its answer is the model's
+    pub measured-answer : a ≡ (step C ws (deepest h out)) .answer
+    unfolding step deepestOf
+    measured-answer = m .answered ∙ ap (λ o. o .answer) (pool-is (λ z k vs. deepestBy z k vs h out))
+
+    -- and so are the worlds after it, which stay
+    pub measured-holds : Holds C ((step C ws (deepest h out)) .worlds) w′
+    unfolding step deepestBy
+    measured-holds =
+        subst (λ v. Holds C ((step C ws (deepest h out)) .worlds) v) (sym (m .left))
+        (go (refusal (deepestConditions false C h out)) (written (length (deepestWords h)) (intoFront (deepestWords h) out)))
+      where
+        go : (y : Option ℕ) (r : Result) → Holds C ((settleMeasured y ws r) .worlds) w
+        go none r = H
+        go (some n) r = H

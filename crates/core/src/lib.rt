@@ -4,6 +4,7 @@
 pub mod bytes;
 pub mod change;
 pub mod convert;
+pub mod deepest;
 pub mod join;
 pub mod listing;
 pub mod make;

@@ -7,19 +7,21 @@ use Rattle.model.specs.declared.Bound.{Bound}
 use Rattle.model.specs.declared.Limits.{Limits}
 use Rattle.model.specs.declared.Written.{Written}
 use Rattle.model.specs.declared.Mended.{Mended}
-use Rattle.model.specs.Answers.{writtenAnswer, mendedAnswer}
+use Rattle.model.specs.declared.Worded.{Worded}
+use Rattle.model.specs.Answers.{writtenAnswer, mendedAnswer, wordedAnswer}
 use Rattle.model.specs.Call.{Call, Answer}
 use Rattle.model.specs.Handled.{Handled}
 use Rattle.core.specs.Met.{Site, Met, Made}
 use Rattle.core.specs.Handles.{Handles}
-use Rattle.core.specs.Out.{Unwritten, WritesOut, Unmended, Mends}
+use Rattle.core.specs.Out.{Unwritten, WritesOut, Unworded, WritesDeepest, Unmended, Mends}
 use Rattle.flat.specs.declared.Reply.{Reply}
 use Rattle.flat.specs.Flat.{replyOf}
 use Rattle.frame.specs.Frame.{Framed}
 use Rattle.exports.specs.declared.structs.CWritten.{CWritten}
 use Rattle.exports.specs.declared.structs.CMended.{CMended}
-use Rattle.exports.specs.Structs.{refusalOf, writtenOf, mendedOf}
-use Rattle.exports.specs.Returns.{Makes, Returns, sliceAfter, Writes, slicesAfter, MendsFlat, Handed, Frames}
+use Rattle.exports.specs.declared.structs.CWorded.{CWorded}
+use Rattle.exports.specs.Structs.{refusalOf, writtenOf, mendedOf, wordedOf}
+use Rattle.exports.specs.Returns.{Makes, Returns, sliceAfter, Writes, Measures, slicesAfter, MendsFlat, Handed, Frames}
 
 -- a call between two bounds is the call between what they were made of
 pub between : (f : Bound → Bound → Call Site) {p q x y : Bound} → p ≡ x → q ≡ y → f p q ≡ f x y
@@ -43,6 +45,20 @@ pub wrote : {c c′ : List ℕ → Call Site} {w : List ℕ} {i : ℕ} {out out�
     → ((o : List ℕ) → q ≡ replyOf (writtenAnswer a o)) → r ≡ writtenOf q → Writes w i c′ out r out′
 unfolding returned
 wrote {out = out} {out′} a e k p s = record { returns = returned (ap (λ f. f out) e) (k .met) (p out′) s; slice = slice-is out out′ a (k .unwritten) }
+
+-- the same of words, by a call that measures
+words-are : (out out′ : List ℕ) (a : Worded) → Unworded a out out′ → out′ ≡ sliceAfter (wordedAnswer a out′) out
+words-are out out′ (Worded.Refused r) u = u
+words-are out out′ (Worded.Words n) u = refl
+
+pub measures : {w : List ℕ} {h : ℕ} {out out′ : List ℕ} (a : Worded) {q : Reply} {r : CWorded} → WritesDeepest w h out a out′
+    → ((o : List ℕ) → q ≡ replyOf (wordedAnswer a o)) → r ≡ wordedOf q → Measures w h out r out′
+measures {out = out} {out′} a k p s = record {
+  answer = wordedAnswer a out′;
+  measured = k .measured;
+  flat = s ∙ ap wordedOf (p out′);
+  slice = words-are out out′ a (k .unworded);
+}
 
 -- two slices that are written, or left
 slices-are : (out out′ report report′ : List ℕ) (a : Mended) → Unmended a out out′ report report′ → (out′, report′) ≡ slicesAfter (mendedAnswer a out′ report′) out report

@@ -6,14 +6,15 @@ use mathlib.Core.List.{List}
 use Rattle.model.specs.declared.Limits.{Limits}
 use Rattle.model.specs.Call.{Call, Answer, refused, gave}
 use Rattle.model.specs.Handled.{Handled}
-use Rattle.core.specs.Met.{Site, Met, Made}
+use Rattle.core.specs.Met.{Site, Met, Made, Measured}
 use Rattle.interval_bit_set.specs.Out.{onWritten, onMended}
 use Rattle.flat.specs.declared.Reply.{Reply}
 use Rattle.flat.specs.Flat.{replyOf}
 use Rattle.frame.specs.Frame.{Framed}
 use Rattle.exports.specs.declared.structs.CWritten.{CWritten}
 use Rattle.exports.specs.declared.structs.CMended.{CMended}
-use Rattle.exports.specs.Structs.{refusalOf, writtenOf, mendedOf}
+use Rattle.exports.specs.declared.structs.CWorded.{CWorded}
+use Rattle.exports.specs.Structs.{refusalOf, writtenOf, mendedOf, wordedOf}
 
 -- making the words w a pool with the limits ls answered as its promise says; w′ is left
 pub record Makes (w : List ℕ) (ls : List Limits) (r : ℕ) (w′ : List ℕ) : Type 0 where
@@ -36,6 +37,13 @@ sliceAfter (gave r) out = onWritten out (λ n bs. bs) r
 pub record Writes (w : List ℕ) (i : ℕ) (c : List ℕ → Call Site) (out : List ℕ) (r : CWritten) (out′ : List ℕ) : Type 0 where
   pub returns : Returns w i (c out) writtenOf r w
   pub slice : out′ ≡ sliceAfter (returns .answer) out
+
+-- and of a call that measures the words w, and writes words into the slice out: it leaves out′, and every word of w
+pub record Measures (w : List ℕ) (h : ℕ) (out : List ℕ) (r : CWorded) (out′ : List ℕ) : Type 0 where
+  pub answer : Answer
+  pub measured : Measured w h out answer w
+  pub flat : r ≡ wordedOf (replyOf answer)
+  pub slice : out′ ≡ sliceAfter answer out
 
 -- and of mending, which writes into two slices: it leaves w′, out′ and report′
 abbrev pub slicesAfter : Answer → List ℕ → List ℕ → List ℕ × List ℕ

@@ -14,6 +14,7 @@ use Rattle.exports.specs.declared.structs.CListed.{CListed}
 use Rattle.exports.specs.declared.structs.CDrawn.{CDrawn}
 use Rattle.exports.specs.declared.structs.CWritten.{CWritten}
 use Rattle.exports.specs.declared.structs.CMended.{CMended}
+use Rattle.exports.specs.declared.structs.CWorded.{CWorded}
 
 -- ---- what comes in
 abbrev pub boundOf : CBound → Bound
@@ -63,3 +64,7 @@ writtenOf r = record { refusal = r .refusal; bytes = r .number }
 -- mend
 abbrev pub mendedOf : Reply → CMended
 mendedOf r = record { refusal = r .refusal; bytes = r .number; report = r .«end» }
+
+-- deepest
+abbrev pub wordedOf : Reply → CWorded
+wordedOf r = record { refusal = r .refusal; words = r .number }

@@ -12,7 +12,7 @@ ghost use Rattle.core.specs.Met.{site};
 ghost use Rattle.interval_bit_set.specs.Lent.{listingOf};
 ghost use Rattle.flat.specs.Flat.{operationOf, truth};
 ghost use Rattle.exports.specs.Structs.{boundOf, refusalOf, countOf, numberOf, talliedOf, valueOf, runOf, positionOf, listedOf, drawnOf, writtenOf};
-ghost use Rattle.exports.specs.Returns.{Makes, Returns, Writes, MendsFlat, Handed, Frames};
+ghost use Rattle.exports.specs.Returns.{Makes, Returns, Writes, MendsFlat, Measures, Handed, Frames};
 use crate::structs::CAround;
 use crate::structs::CBound;
 use crate::structs::CCounted;
@@ -23,6 +23,7 @@ use crate::structs::CMended;
 use crate::structs::CNumbered;
 use crate::structs::CTallied;
 use crate::structs::CTested;
+use crate::structs::CWorded;
 use crate::structs::CWritten;
 use model::Listing;
 
@@ -381,6 +382,15 @@ pub extern "C" fn vizturel_mend(
         (now (words .exit)) (now (out .exit)) (now (report .exit)) ⌝ }
 {
     structs::mended(flat::mended(interval_bit_set::bytes::mend(words, world, bytes, out, report)))
+}
+
+// Writes the shortest list of runs that makes a tree of the height h, set one by one in that order into an empty world, into the front of a slice:
+// start and end of each run, in turn. Tells how many words it has. The pool is only measured, and need not be sound.
+#[no_mangle]
+pub extern "C" fn vizturel_deepest(words: &[u64], h: u64, out: &mut [u64]) -> CWorded
+    ensures { λ r. ⌜ Measures (now (words .entry)) h (now (out .entry)) r (now (out .exit)) ⌝ }
+{
+    structs::words(flat::worded(interval_bit_set::measure::deepest(words, h, out)))
 }
 
 // Turns a written set of either edition into the other, in the front of a slice, and tells how many bytes it has. It takes no pool.

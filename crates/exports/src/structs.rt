@@ -1,7 +1,7 @@
 // What crosses to C: numbers, slices and structs of numbers. A bound is a kind and a value; an answer is the part of a reply that its call
 // gives, and begins with its refusal's number, 0 where the call was not refused.
 ghost use mathlib.Core.Path.{_≡_};
-ghost use Rattle.exports.specs.Structs.{boundOf, countOf, numberOf, talliedOf, valueOf, runOf, positionOf, listedOf, drawnOf, writtenOf, mendedOf};
+ghost use Rattle.exports.specs.Structs.{boundOf, countOf, numberOf, talliedOf, valueOf, runOf, positionOf, listedOf, drawnOf, writtenOf, mendedOf, wordedOf};
 use flat::Reply;
 use model::Bound;
 
@@ -84,6 +84,13 @@ pub struct CDrawn {
 pub struct CWritten {
     pub refusal: u64,
     pub bytes: u64,
+}
+
+// How many words were written.
+#[repr(C)]
+pub struct CWorded {
+    pub refusal: u64,
+    pub words: u64,
 }
 
 // How many bytes of a mended set were written, and how many of its report.
@@ -210,5 +217,15 @@ pub fn mended(r: Reply) -> CMended
         refusal: r.refusal,
         bytes: r.number,
         report: r.end,
+    }
+}
+
+// What deepest returns.
+pub fn words(r: Reply) -> CWorded
+    ensures { λ c. ⌜ c ≡ wordedOf r ⌝ }
+{
+    CWorded {
+        refusal: r.refusal,
+        words: r.number,
     }
 }

@@ -6,6 +6,7 @@ pub mod join;
 pub mod listing;
 pub mod look;
 pub mod make;
+pub mod measure;
 pub mod report;
 pub mod runs;
 pub mod write;

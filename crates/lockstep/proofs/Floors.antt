@@ -15,6 +15,7 @@ use Rattle.model.specs.Refusals.{
   worldLimits,
   storeUnsound,
   worldUnopened,
+  treeHeight,
   gapLength,
   window,
   strayBit,
@@ -63,6 +64,7 @@ eight-is storeLength e = absurd (omega arith)
 eight-is worldLimits e = absurd (omega arith)
 eight-is storeUnsound e = absurd (omega arith)
 eight-is worldUnopened e = absurd (omega arith)
+eight-is treeHeight e = absurd (omega arith)
 eight-is gapLength e = absurd (omega arith)
 eight-is window e = absurd (omega arith)
 eight-is strayBit e = absurd (omega arith)

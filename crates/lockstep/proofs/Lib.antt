@@ -5,6 +5,7 @@ pub mod Matches
 pub mod Clearing
 pub mod Converting
 pub mod Mending
+pub mod Measuring
 pub mod Filling
 pub mod Empty
 pub mod Following

@@ -1,5 +1,5 @@
 -- The theorems hold (specs/Theorems.antt): each is what the lemma files show of histories, matches, written sets, worlds, cleared maps, fills,
--- converted sets and mended ones. Assumes nothing.
+-- converted sets, mended ones and heights. Assumes nothing.
 use mathlib.Core.Path.{refl, sym}
 use native.Mathlib.Nat.{le-trans}
 use Rattle.store.specs.Settle.{Openable}
@@ -25,6 +25,7 @@ use Rattle.lockstep.specs.Theorems.{
   Mended-right,
   Mended-loads,
   Mended-floor,
+  Deepest-shortest,
 }
 use Rattle.lockstep.proofs.Following.{follows, new-holds, answered-alike}
 use Rattle.lockstep.proofs.Matches.{matches}
@@ -39,6 +40,8 @@ use Rattle.lockstep.proofs.Clearing.{written-stays}
 use Rattle.lockstep.proofs.Filling.{none-held, all-held}
 use Rattle.lockstep.proofs.Converting.{convert-back, convert-then-load, load-converts, old-refused}
 use Rattle.lockstep.proofs.Mending.{right-comes-back, outcome-loads}
+use Rattle.lockstep.proofs.Measuring.{list-long, list-is}
+use Rattle.store.proofs.Heights.{world-lower}
 
 pub theorem1 : Theorem1
 theorem1 C ls w cs rs vs N h = follows (new-holds N) h
@@ -104,3 +107,6 @@ mended-loads w i bs out report out′ report′ n m w′ a v′ b M k = outcome-
 
 pub mended-floor : Mended-floor
 mended-floor w i bs out report a w′ S l m h e = mend-reaches-floor S i l m h e
+
+pub deepest-shortest : Deepest-shortest
+deepest-shortest w h out out′ n w′ m = (list-long m, list-is m, λ v i S named few. world-lower v i h S named few)

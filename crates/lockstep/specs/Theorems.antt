@@ -1,4 +1,4 @@
--- THE THEOREMS. No tree and no offset is mentioned: a pool is known by what its calls promise.
+-- THE THEOREMS. No tree and no offset is mentioned, but in the last one, which is about trees: a pool is known by what its calls promise.
 -- Assumes nothing: these are statements. proofs/Theorems.antt proves each under its name, in small letters.
 use Prim.Native.Nat.{ℕ, _+_, _*_, _≤_, _<_}
 use mathlib.Core.Path.{_≡_}
@@ -18,10 +18,12 @@ use Rattle.model.specs.Model.{serve}
 use Rattle.model.specs.Pools.{PlainWorld, worldOf, otherClaims, emptyWorlds, answers, after}
 use Rattle.model.specs.Clearing.{clearMap}
 use Rattle.model.specs.Mending.{mendedPositions}
+use Rattle.model.specs.Deepest.{least, deepestWords}
 use Rattle.model.specs.Converting.{convert, documentOneRefusal}
-use Rattle.store.specs.Layout.{capacity, openedAt, floorAt, heldBy, worldsOf}
-use Rattle.store.specs.Soundness.{Sound}
-use Rattle.core.specs.Met.{Site, fedAt, fedOf, Leaves, Met}
+use Rattle.run_index.specs.Tree.{height}
+use Rattle.store.specs.Layout.{capacity, openedAt, floorAt, heldBy, worldsOf, treeAt}
+use Rattle.store.specs.Soundness.{runsAt, Sound}
+use Rattle.core.specs.Met.{Site, fedAt, fedOf, Leaves, Met, Measured}
 use Rattle.core.specs.Out.{WritesOut}
 use Rattle.core.specs.Handles.{Handles}
 use Rattle.lockstep.specs.History.{History, New, told, outcomes, Follows, left, WritesSet, Loads, Writable}
@@ -179,3 +181,14 @@ abbrev pub Mended-floor : Type 0
 Mended-floor =
     (w : List ℕ) (i : ℕ) (bs out report : List ℕ) (a : Answer) (w′ : List ℕ)
     → Sound w → i < openedAt w → Met w i (Call.mend bs out report) a w′ → stretches (mendedPositions bs) ≤ floorAt w i → a ≡ refused 8 → ⊥
+
+-- ---- the deepest tree (document 02, Ticket 10)
+-- a list for the height h that is not refused has `least h` runs, start and end of each in turn; and in no sound pool is a world of fewer physical runs
+-- that high. That the list makes the height, set one by one by the function that `set` calls, and that no shorter list does, is what
+-- `heights::plant` promises
+abbrev pub Deepest-shortest : Type 0
+Deepest-shortest =
+    (w : List ℕ) (h : ℕ) (out out′ : List ℕ) (n : ℕ) (w′ : List ℕ)
+    → Measured w h out (gave (written n out′)) w′
+    → (n ≡ 2 * least h) × (take n out′ ≡ deepestWords h)
+    × ((v : List ℕ) (i : ℕ) → Sound v → i < openedAt v → runsAt v i < least h → height (treeAt v i) < h)

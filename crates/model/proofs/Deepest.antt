@@ -8,13 +8,13 @@ use mathlib.Core.List.{List, [], _∷_, _++_}
 use native.Mathlib.Omega.{arith}
 use native.Mathlib.Decide.{decLe}
 use lib.Dec.{eqb}
-use lib.ListN.{length}
+use lib.ListN.{length, length-append}
 use borrow.Author.Tests.{eq-eqb, ne-eqb}
 use Rattle.model.specs.declared.Run.{Run}
 use Rattle.model.specs.Positions.{run, oneIf}
 use Rattle.model.specs.RunList.{TouchesNone}
 use Rattle.model.proofs.RunList.{touch-within}
-use Rattle.model.specs.Deepest.{least, middles, middlesUpTo, runsAt, deepestRuns}
+use Rattle.model.specs.Deepest.{least, middles, middlesUpTo, runsAt, deepestRuns, wordsOf, deepestWords}
 
 -- ---- how many there are
 -- no tree has no run
@@ -27,6 +27,25 @@ pub least-parts : (h : ℕ) → least (suc h) ≡ least h + least (h - 1) + 1
 unfolding least
 least-parts zero = refl
 least-parts (suc h) = let e : suc h - 1 ≡ h = omega arith in omega (arith, ap least e)
+
+-- the same of a height that is not 0
+pub least-halves : (h : ℕ) → 1 ≤ h → least h ≡ least (h - 1) + least (h - 2) + 1
+least-halves h some =
+    let e : suc (h - 1) ≡ h = omega arith in
+    let f : h - 1 - 1 ≡ h - 2 = omega arith in
+    omega (arith, least-parts (h - 1), ap least e, ap least f)
+
+-- each is one more than the last two together
+pub least-next : (h : ℕ) → least (h + 2) ≡ least (h + 1) + least h + 1
+least-next h =
+    let e : h + 2 - 1 ≡ h + 1 = omega arith in
+    let f : h + 2 - 2 ≡ h = omega arith in
+    omega (arith, least-halves (h + 2) (omega arith), ap least e, ap least f)
+
+-- a tree of height 1 has one
+pub least-one : least 1 ≡ 1
+unfolding least
+least-one = refl
 
 -- a higher tree has more runs
 pub least-up : (h : ℕ) → least h ≤ least (suc h)
@@ -67,6 +86,20 @@ pub no-middles : (d k : ℕ) → middles d zero k ≡ []
 unfolding middles
 no-middles zero k = refl
 no-middles (suc d) k = rw (no-middles d k, no-middles d (k + least 0 + 1))
+
+-- after no parting: the middle one
+pub middles-first : (h k : ℕ) → 1 ≤ h → middles 0 h k ≡ (k + least (h - 1)) ∷ []
+unfolding middles
+middles-first zero k some = absurd (omega arith)
+middles-first (suc h) k some = let e : h ≡ suc h - 1 = omega arith in ap (λ j. (k + least j) ∷ []) e
+
+-- after others: those of the two parts
+pub middles-next : (d h k : ℕ) → 1 ≤ d → middles d h k ≡ middles (d - 1) (h - 1) k ++ middles (d - 1) (h - 2) (k + least (h - 1) + 1)
+unfolding middles
+middles-next zero h k some = absurd (omega arith)
+middles-next (suc d) h k some =
+    let e : d ≡ suc d - 1 = omega arith in
+    ap (λ j. middles j (h - 1) k ++ middles j (h - 2) (k + least (h - 1) + 1)) e
 
 -- those of the two parts
 pub middles-parts : (d h k : ℕ) → middles (suc d) (suc h) k ≡ middles d h k ++ middles d (h - 1) (k + least h + 1)
@@ -276,3 +309,81 @@ below-single m (k ∷ ks) b (x ∷ xs) r ys e = below-single m ks (b .2) xs r ys
 pub deepest-single : (h : ℕ) (xs : List Run) (r : Run) (ys : List Run) → deepestRuns h ≡ xs ++ r ∷ ys → (r .start ≡ r .«end») × (r .«end» < 2 * least h)
 unfolding deepestRuns
 deepest-single h xs r ys e = below-single (least h) (middlesUpTo h h) (ranks-below h h) xs r ys e
+
+-- ---- as words
+-- the runs of two lists of ranks
+pub runs-append : (xs ys : List ℕ) → runsAt (xs ++ ys) ≡ runsAt xs ++ runsAt ys
+unfolding runsAt
+runs-append [] ys = refl
+runs-append (x ∷ xs) ys = ap (λ (rs : List Run). run (2 * x) (2 * x) ∷ rs) (runs-append xs ys)
+
+-- the words of two lists of runs
+words-append : (xs ys : List Run) → wordsOf (xs ++ ys) ≡ wordsOf xs ++ wordsOf ys
+unfolding wordsOf
+words-append [] ys = refl
+words-append (x ∷ xs) ys = ap (λ (ws : List ℕ). x .start ∷ (x .«end» ∷ ws)) (words-append xs ys)
+
+-- a run is two words
+words-length : (rs : List Run) → length (wordsOf rs) ≡ 2 * length rs
+unfolding wordsOf
+words-length [] = refl
+words-length (r ∷ rs) = omega (arith, words-length rs)
+
+-- no rank, no word
+pub no-ranks : wordsOf (runsAt []) ≡ []
+unfolding runsAt wordsOf
+no-ranks = refl
+
+-- the words of one rank
+pub rank-words : (k : ℕ) → wordsOf (runsAt (k ∷ [])) ≡ 2 * k ∷ (2 * k ∷ [])
+unfolding runsAt wordsOf
+rank-words k = refl
+
+-- those of two lists of ranks
+pub ranks-append : (xs ys : List ℕ) → wordsOf (runsAt (xs ++ ys)) ≡ wordsOf (runsAt xs) ++ wordsOf (runsAt ys)
+ranks-append xs ys = ap wordsOf (runs-append xs ys) ∙ words-append (runsAt xs) (runsAt ys)
+
+-- a rank is one run
+runs-length : (ks : List ℕ) → length (runsAt ks) ≡ length ks
+unfolding runsAt
+runs-length [] = refl
+runs-length (k ∷ ks) = ap suc (runs-length ks)
+
+-- so it is two words
+pub ranks-length : (ks : List ℕ) → length (wordsOf (runsAt ks)) ≡ 2 * length ks
+ranks-length ks = omega (arith, words-length (runsAt ks), runs-length ks)
+
+-- THE WORDS of the list for the height h: how many there are
+pub deepest-words : (h : ℕ) → length (deepestWords h) ≡ 2 * least h
+unfolding deepestWords
+deepest-words h = omega (arith, words-length (deepestRuns h), deepest-length h)
+
+-- and that they are those of h partings
+pub deepest-ranks : (h : ℕ) → deepestWords h ≡ wordsOf (runsAt (middlesUpTo h h))
+unfolding deepestWords deepestRuns
+deepest-ranks h = refl
+
+-- the ranks with one parting more
+pub up-to-next : (d h : ℕ) → middlesUpTo (suc d) h ≡ middlesUpTo d h ++ middles d h 0
+unfolding middlesUpTo
+up-to-next d h = refl
+
+-- no parting, no rank
+pub up-to-none : (h : ℕ) → middlesUpTo 0 h ≡ []
+unfolding middlesUpTo
+up-to-none h = refl
+
+-- fewer partings have no more ranks
+up-to-rises : (e d h : ℕ) → length (middlesUpTo d h) ≤ length (middlesUpTo (e + d) h)
+up-to-rises zero d h = let q : zero + d ≡ d = omega arith in omega (arith, ap (λ j. length (middlesUpTo j h)) q)
+up-to-rises (suc e) d h =
+    let q : suc e + d ≡ suc (e + d) = omega arith in
+    let more : length (middlesUpTo (suc (e + d)) h) ≡ length (middlesUpTo (e + d) h) + length (middles (e + d) h 0) =
+    ap length (up-to-next (e + d) h) ∙ length-append (middlesUpTo (e + d) h) (middles (e + d) h 0) in
+    omega (arith, ap (λ j. length (middlesUpTo j h)) q, up-to-rises e d h, more)
+
+-- so those of at most h partings are no more than the list has
+pub up-to-least : (d h : ℕ) → d ≤ h → length (middlesUpTo d h) ≤ least h
+up-to-least d h le =
+    let q : (h - d) + d ≡ h = omega arith in
+    omega (arith, ap (λ j. length (middlesUpTo j h)) q, up-to-rises (h - d) d h, ranks-length (middlesUpTo h h), ap length (deepest-ranks h), deepest-words h)

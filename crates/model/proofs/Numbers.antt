@@ -20,6 +20,7 @@ use Rattle.model.specs.declared.Refusal.the-variants.{
   StrayBit,
   WorldLimits,
   WorldUnopened,
+  TreeHeight,
 }
 use Rattle.model.specs.Numbers.{refusalNumber}
 
@@ -54,6 +55,7 @@ refusal-some GapLength = omega arith
 refusal-some StrayBit = omega arith
 refusal-some WorldLimits = omega arith
 refusal-some WorldUnopened = omega arith
+refusal-some TreeHeight = omega arith
 
 -- two-word counts: what the sum and the difference of two of them carry
 pub sum-carry : (p q x y : ℕ) → p * 2 ^ 64 + x + (q * 2 ^ 64 + y) ≤ 2 ^ 64 → p + q ≤ 1

@@ -34,3 +34,11 @@ runsAt (k ∷ ks) = run (2 * k) (2 * k) ∷ runsAt ks
 -- the list for the height h
 unfoldable pub deepestRuns : ℕ → List Run
 deepestRuns h = runsAt (middlesUpTo h h)
+
+-- it as words: start and end of each run, in turn
+unfoldable pub wordsOf : List Run → List ℕ
+wordsOf [] = []
+wordsOf (r ∷ rs) = r .start ∷ (r .«end» ∷ wordsOf rs)
+
+unfoldable pub deepestWords : ℕ → List ℕ
+deepestWords h = wordsOf (deepestRuns h)

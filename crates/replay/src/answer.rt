@@ -13,6 +13,7 @@ use model::Refusal;
 use model::Run;
 use model::Tallied;
 use model::Tested;
+use model::Worded;
 use model::Written;
 
 fn end_line() {
@@ -234,6 +235,27 @@ pub fn mended(w: Mended, out: &[u8], report: &[u8]) {
             io::write_all(1, b"written");
             slice(n, out);
             slice(m, report);
+        }
+    }
+    end_line();
+}
+
+fn words(all: &[u64]) {
+    let mut i: usize = 0;
+    while i < all.len() {
+        number(all[i]);
+        i += 1;
+    }
+}
+
+// How many words of a slice were written, and the whole slice.
+pub fn worded(w: Worded, out: &[u64]) {
+    match w {
+        Worded::Refused(r) => refused(r),
+        Worded::Words(n) => {
+            io::write_all(1, b"worded");
+            number(n as u64);
+            words(out);
         }
     }
     end_line();

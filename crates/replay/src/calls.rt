@@ -7,6 +7,7 @@ use crate::line;
 use interval_bit_set::bytes;
 use interval_bit_set::change;
 use interval_bit_set::make;
+use interval_bit_set::measure;
 use interval_bit_set::report;
 use interval_bit_set::write;
 use model::Completed;
@@ -36,6 +37,26 @@ pub fn spoil(store: &mut [u64], line: &[u8], at: usize) -> bool {
     }
     store[7] = 1;
     answer::completed(Completed::Done);
+    true
+}
+
+// Writes into the first n words.
+fn deepest_to(store: &[u64], h: u64, space: &mut [u64], n: usize)
+    requires { ⌜ n ≤ length (now space) ⌝ }
+{
+    let w = measure::deepest(store, h, &mut space[0..n]);
+    answer::worded(w, &space[0..n]);
+}
+
+// The list for the deepest tree of a height, which only measures the store.
+pub fn deepest(store: &[u64], line: &[u8], at: usize) -> bool {
+    let mut space = [0xeeeeeeeeeeeeeeeeu64; 128];
+    let height = line::number_at(line, at);
+    let lent = line::at_most(line, height.next, 128);
+    if lent.next != line.len() {
+        return false;
+    }
+    deepest_to(store, height.value, &mut space, lent.value as usize);
     true
 }
 

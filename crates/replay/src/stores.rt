@@ -173,6 +173,9 @@ pub fn is_whole(name: &[u8]) -> bool {
     if check::same(name, b"new") {
         return true;
     }
+    if check::same(name, b"deepest") {
+        return true;
+    }
     check::same(name, b"frame")
 }
 
@@ -198,6 +201,9 @@ pub fn whole_named(
     let to = from + length_of(lengths, s);
     if check::same(name, b"spoil") {
         return calls::spoil(&mut words[from..to], line, at);
+    }
+    if check::same(name, b"deepest") {
+        return calls::deepest(&words[from..to], line, at);
     }
     calls::new(&mut words[from..to], line, at)
 }

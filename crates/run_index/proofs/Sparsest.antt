@@ -8,10 +8,9 @@ use mathlib.Core.List.{List, [], _∷_, _++_}
 use native.Mathlib.Omega.{arith}
 use borrow.Author.Tests.{lt-ltb, le-ltb}
 use Rattle.model.specs.declared.Run.{Run}
-use Rattle.model.specs.Positions.{run}
 use Rattle.model.specs.RunList.{StartFrom}
 use Rattle.model.specs.Deepest.{least, middles, middlesUpTo, runsAt, deepestRuns}
-use Rattle.model.proofs.Deepest.{no-middles, Between, middles-between}
+use Rattle.model.proofs.Deepest.{no-middles, Between, middles-between, runs-append}
 use Rattle.run_index.specs.Tree.{Tree, leaf, node, height, Balanced}
 use Rattle.run_index.specs.Shape.{rebalanced, inserted, Sown}
 use Rattle.run_index.specs.Order.{Before}
@@ -107,12 +106,6 @@ cut-balanced (suc d) h k (node n a b l r) c =
     let hl : height l ≡ min d (h - 1) = cut-height d (h - 1) k l (c .2) in
     let hr : height r ≡ min d (h - 2) = cut-height d (h - 2) (k + least (h - 1) + 1) r (c .3) in
     (omega arith, omega arith, cut-balanced d (h - 1) k l (c .2), cut-balanced d (h - 2) (k + least (h - 1) + 1) r (c .3))
-
--- the runs of two lists of ranks
-runs-append : (xs ys : List ℕ) → runsAt (xs ++ ys) ≡ runsAt xs ++ runsAt ys
-unfolding runsAt
-runs-append [] ys = refl
-runs-append (x ∷ xs) ys = ap (λ (rs : List Run). run (2 * x) (2 * x) ∷ rs) (runs-append xs ys)
 
 -- the runs of ranks below another one start before its run
 runs-before : (lo hi : ℕ) (ks : List ℕ) → Between lo hi ks → Before (2 * hi) (runsAt ks)

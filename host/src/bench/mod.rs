@@ -6,6 +6,7 @@ mod bytes;
 mod editions;
 #[cfg(feature = "bench_store")]
 mod gaps;
+mod heights;
 mod lists;
 mod measure;
 mod mending;
@@ -65,6 +66,23 @@ pub fn run_mending() {
     println!("load {} after", load());
 }
 
+fn tell_heights(progress: &Progress) {
+    println!("## Lists for heights\n");
+    heights::tell(progress);
+    #[cfg(target_arch = "x86_64")]
+    {
+        println!("## Stack\n");
+        stack::tell(progress);
+    }
+}
+
+/// Measures the lists for heights, and the stack on the trees that they make, alone, and prints Markdown.
+pub fn run_heights() {
+    println!("load {} before\n", load());
+    tell_heights(&Progress::begin());
+    println!("load {} after", load());
+}
+
 /// Measures everything, prints Markdown, and draws the ratios into a file.
 pub fn run(plot: &str) {
     let progress = Progress::begin();
@@ -86,11 +104,7 @@ pub fn run(plot: &str) {
     bytes::tell(&bytes);
     tell_editions(&progress);
     tell_mending(&progress);
-    #[cfg(target_arch = "x86_64")]
-    {
-        println!("## Stack\n");
-        stack::tell(&progress);
-    }
+    tell_heights(&progress);
     let by_words = bytes::by_words(&bytes);
     let panels = [
         Panel { title: "Frames of 10, 100 and 1,000 calls", figures: &lists.frames },

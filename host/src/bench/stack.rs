@@ -1,18 +1,20 @@
 //! How much stack each exported call uses: it runs on a stack of its own that was painted before.
 //!
-//! Pools have the largest capacity: trees as deep as can be (height 22, 46,367 runs), by their left and their right side, and an even
-//! one of 60,000 runs. Physical runs lie at 0 and at M; of each tree there is one without an offset, and one whose offset joins the
-//! two, each in a pool of one world and in the last world of sixteen.
+//! Pools have the largest capacity: trees as high as can be (height 22, 46,367 runs), by their left and their right side, each made by
+//! setting the runs of the list that `vizturel_deepest` gives, in its order; and an even one of 60,000 runs. Physical runs lie at 0 and
+//! at M; of each tree there is one without an offset, and one whose offset joins the two, each in a pool of one world and in the last
+//! world of sixteen.
 
 use std::arch::asm;
 
 use super::measure::{Progress, commas};
-use crate::SetBuf;
 use crate::differential::EDITIONS;
 use crate::differential::random::Random;
 use crate::differential::records;
-use crate::differential::reference::{self, Draft, Run, Shape, WORLDS};
+use crate::differential::reference::{self, Draft, Run, Shape, WORLDS, node_at, record_at};
+use crate::frame::Call;
 use crate::raw::{self, Bound};
+use crate::{HEIGHT, Limits, PoolBuf, SetBuf};
 
 const PAINT: u64 = 0xA5A5_5A5A_C3C3_3C3C;
 const CAPACITY: usize = 65_536;
@@ -152,17 +154,46 @@ fn ranges(runs: &[Run], random: &mut Random) -> Vec<[u64; 2]> {
     all
 }
 
-// Every call at the last of so many worlds; the others are empty.
-fn measure_on(painted: &mut Painted, physical: &[Run], offset: u64, shape: Shape, worlds: usize, random: &mut Random) {
-    let limit = [0, u64::MAX];
-    let mut drafts: Vec<Draft> = (1..worlds).map(|_| Draft { physical: Vec::new(), offset: 0, limit }).collect();
-    drafts.push(Draft { physical: physical.to_vec(), offset, limit });
-    let words = reference::craft(CAPACITY, &drafts, shape, random);
-    let runs = &reference::logical(physical, offset)[..];
+// The limits of each world.
+const LIMIT: [u64; 2] = [0, u64::MAX];
+
+// A pool of which the last world has a tree as high as can be, the others none. The list tells in which order the runs are set; its run of
+// rank k is the kth of those given, or the kth from behind where the right sides are to be the higher ones. They are physical: the root, which
+// is set first, is shifted by the offset, and the others are set where it puts them.
+fn deepest_pool(physical: &[Run], offset: u64, left: bool, worlds: usize) -> Vec<u64> {
+    let mut pool = PoolBuf::with_capacity(CAPACITY, &vec![Limits::NONE; worlds]).expect("worlds");
+    let mut list = vec![[0; 2]; physical.len()];
+    let list = pool.deepest(HEIGHT, &mut list).expect("a height");
+    let mut rising = list.to_vec();
+    rising.sort_unstable();
+    let ranks = list.iter().map(|run| rising.binary_search(run).expect("it is one of them"));
+    let mut runs = ranks.map(|rank| physical[if left { rank } else { physical.len() - 1 - rank }]);
+    let [start, end] = runs.next().expect("a root");
+    let mut calls = vec![Call::set(start..=end, true), Call::Shift { distance: offset, left: true }];
+    calls.extend(runs.map(|run| run.map(|x| x.wrapping_add(offset))).map(|[s, e]| Call::set(s..=e, true)));
+    let world = worlds as u64 - 1;
+    let told = pool.frame(&calls.into_iter().map(|call| (world, call)).collect::<Vec<_>>());
+    assert!(told.expect("a sound pool").iter().all(Result::is_ok));
+    let words = pool.into_words();
+    let record = record_at(worlds - 1);
+    let root = words[record] as usize;
+    assert_eq!((words[record + 1], words[node_at(root) + 4]), (offset, HEIGHT));
+    words
+}
+
+// The same with an even tree.
+fn even_pool(physical: &[Run], offset: u64, worlds: usize, random: &mut Random) -> Vec<u64> {
+    let mut drafts: Vec<Draft> = (1..worlds).map(|_| Draft { physical: Vec::new(), offset: 0, limit: LIMIT }).collect();
+    drafts.push(Draft { physical: physical.to_vec(), offset, limit: LIMIT });
+    reference::craft(CAPACITY, &drafts, Shape::Even, random)
+}
+
+// Every call at the last world of a pool, which has these runs; the others are empty.
+fn measure_on(painted: &mut Painted, words: &[u64], runs: &[Run], worlds: usize, random: &mut Random) {
     let i = worlds as u64 - 1;
     let n = words.len();
     let p = words.as_ptr();
-    let mut changed = words.clone();
+    let mut changed = words.to_vec();
     let c = changed.as_mut_ptr();
     let mut spare = SetBuf::with_capacity(CAPACITY).expect("a capacity").into_words();
     let s = spare.as_mut_ptr();
@@ -177,7 +208,7 @@ fn measure_on(painted: &mut Painted, physical: &[Run], offset: u64, shape: Shape
             on_stack!(painted, vizturel_draw_front(p, n, i, first, last, value));
             on_stack!(painted, vizturel_draw_back(p, n, i, first, last, value));
             on_stack!(painted, vizturel_set(c, n, i, l, u, value));
-            changed.copy_from_slice(&words);
+            changed.copy_from_slice(words);
         }
         // One that fits nearly everywhere, one that fits between no two runs, and one that fits only where all is free.
         for length in [1, 7, (last - first).saturating_add(1)] {
@@ -189,14 +220,14 @@ fn measure_on(painted: &mut Painted, physical: &[Run], offset: u64, shape: Shape
         // A flip of many runs takes long, and those of few go by the same way.
         if last - first < 100 {
             on_stack!(painted, vizturel_flip(c, n, i, l, u));
-            changed.copy_from_slice(&words);
+            changed.copy_from_slice(words);
         }
     }
     on_stack!(painted, vizturel_flip(c, n, i, included(0), included(u64::MAX)));
     for [first, last] in ranges(runs, random).into_iter().step_by(4) {
         // Lists of one call, of every kind.
         for call in 0..=records::LAST {
-            changed.copy_from_slice(&words);
+            changed.copy_from_slice(words);
             let upper = if call == 13 { WINDOW } else { last };
             let k = if call == 14 { 7 } else { 0 };
             let record = [call, 1, first, 1, upper, random.below(2), k, i];
@@ -206,11 +237,11 @@ fn measure_on(painted: &mut Painted, physical: &[Run], offset: u64, shape: Shape
     }
     let half = runs[runs.len() / 2][0];
     for (distance, left) in [(1, 1), (1, 0), (half, 0), (u64::MAX - half, 1), (u64::MAX, 1)] {
-        changed.copy_from_slice(&words);
+        changed.copy_from_slice(words);
         on_stack!(painted, vizturel_shift(c, n, i, distance, left));
         on_stack!(painted, vizturel_shifted(s, n, 0, distance, left, p, n, i));
     }
-    changed.copy_from_slice(&words);
+    changed.copy_from_slice(words);
     on_stack!(painted, vizturel_shift(c, n, i, 1, 0));
     for op in 0..3 {
         on_stack!(painted, vizturel_combine(s, n, 0, op, p, n, i, p, n, i));
@@ -239,7 +270,9 @@ fn measure_on(painted: &mut Painted, physical: &[Run], offset: u64, shape: Shape
     }
     let list = runs.as_flattened();
     on_stack!(painted, vizturel_build(s, n, 0, list.as_ptr(), list.len()));
-    let limits = [limit; WORLDS];
+    let mut heights = vec![0; 2 * CAPACITY];
+    on_stack!(painted, vizturel_deepest(p, n, HEIGHT, heights.as_mut_ptr(), heights.len()));
+    let limits = [LIMIT; WORLDS];
     on_stack!(painted, vizturel_new(s, n, limits.as_flattened().as_ptr(), 2 * worlds));
     let mut map = vec![0; WINDOW as usize / 8];
     on_stack!(painted, vizturel_clear_map(0, WINDOW - 3, map.as_mut_ptr(), map.len()));
@@ -250,9 +283,9 @@ fn measure_on(painted: &mut Painted, physical: &[Run], offset: u64, shape: Shape
         for (byte, bits) in [(0, 0xFF), (map.len() / 2, 0xFF), (map.len() / 3, 1)] {
             let mut other = if byte == 0 { vec![0; map.len()] } else { map.clone() };
             other[byte] ^= bits;
-            changed.copy_from_slice(&words);
+            changed.copy_from_slice(words);
             on_stack!(painted, vizturel_read_map(c, n, i, base, WINDOW, other.as_ptr(), other.len()));
-            changed.copy_from_slice(&words);
+            changed.copy_from_slice(words);
             on_stack!(painted, vizturel_read_map_by_bytes(c, n, i, base, WINDOW, other.as_ptr(), other.len()));
         }
     }
@@ -262,17 +295,20 @@ fn measure_on(painted: &mut Painted, physical: &[Run], offset: u64, shape: Shape
 pub fn tell(progress: &Progress) {
     let mut random = Random::new(1);
     let mut painted = Painted::new();
-    let [deepest, _] = reference::least(22);
-    let all =
-        [(deepest, Shape::Deepest { left: true }), (deepest, Shape::Deepest { left: false }), (60_000, Shape::Even)];
-    for (count, shape) in all {
-        // A third of the runs from 0 on, the others up to M.
-        let low = (0..count / 3).map(|i| [12 * i, 12 * i + 5]);
-        let high = (count / 3..count).map(|i| u64::MAX - 12 * (count - 1 - i)).map(|end| [end - 5, end]);
+    let [deepest, _] = reference::least(HEIGHT as u32);
+    // By which side a tree is the higher one, if by any.
+    for (count, higher) in [(deepest, Some(true)), (deepest, Some(false)), (60_000, None)] {
+        // Two thirds of the runs from 0 on, the roots among them, the others up to M.
+        let low = (0..2 * count / 3).map(|i| [12 * i, 12 * i + 5]);
+        let high = (2 * count / 3..count).map(|i| u64::MAX - 12 * (count - 1 - i)).map(|end| [end - 5, end]);
         let physical: Vec<Run> = low.chain(high).collect();
         for (offset, worlds) in [(0, 1), (12 * count, 1), (0, WORLDS), (12 * count, WORLDS)] {
             progress.tell(&format!("stack, {count} runs, offset {offset}, {worlds} worlds"));
-            measure_on(&mut painted, &physical, offset, shape, worlds, &mut random);
+            let words = match higher {
+                Some(left) => deepest_pool(&physical, offset, left, worlds),
+                None => even_pool(&physical, offset, worlds, &mut random),
+            };
+            measure_on(&mut painted, &words, &reference::logical(&physical, offset), worlds, &mut random);
         }
     }
     painted.most.sort_by_key(|m| (std::cmp::Reverse(m.bytes), m.call));

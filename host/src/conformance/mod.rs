@@ -24,6 +24,8 @@ const WORLDS: usize = 32;
 const SLICE: usize = 5 + 16 * CAPACITY;
 /// The most bytes of the slice for the report on a mended set: twice the runs of a written set.
 const REPORT: usize = 2 * CAPACITY;
+/// The most words of a lent slice: those of the runs of a full store.
+const ROOM: usize = 2 * CAPACITY;
 /// The most bytes of a map.
 const MAP: usize = 1024;
 /// The most calls of a frame, and answers that there is room for.
@@ -48,11 +50,17 @@ fn fits(call: &Call) -> bool {
         Call::Convert { bytes, room } => bytes.len() <= SLICE && *room <= SLICE,
         Call::Mend { bytes, rooms: [room, report], .. } => bytes.len() <= SLICE && *room <= SLICE && *report <= REPORT,
         Call::Write { room, .. } | Call::WriteMap { room, .. } => *room <= SLICE,
+        Call::Deepest { room, .. } => *room <= ROOM,
         Call::Frame { calls, room, .. } => {
             [calls.len(), *room].iter().all(|n| n % records::WORDS == 0 && n / records::WORDS <= CALLS)
         }
         _ => true,
     }
+}
+
+// Whether a call by chance may go into a list: not if its answer is left open.
+fn may_be(call: &Call) -> bool {
+    fits(call) && !matches!(call, Call::Deepest { .. })
 }
 
 fn push(lines: &mut String, more: &str) {
@@ -91,7 +99,7 @@ impl List {
     // Adds a call by chance, if it keeps the limits.
     fn chance(&mut self, random: &mut Random, kind: Kind, at: Place) {
         let call = chance::call(random, &self.expected.stores, kind, at);
-        if fits(&call) {
+        if may_be(&call) {
             self.call(&call);
         }
     }

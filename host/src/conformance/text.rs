@@ -81,6 +81,7 @@ pub fn read<'a>(lines: &mut impl Iterator<Item = &'a str>) -> Option<Call> {
         "words" => Call::Lend { at: w.number()?, words: crate::room(w.number()?) },
         "spoil" => Call::Poke { at: w.number()?, word: SPARE, value: 1 },
         "new" => Call::New { to: w.number()?, limits: w.pairs()?.into_flattened() },
+        "deepest" => Call::Deepest { at: w.number()?, height: w.number()?, room: w.number()? },
         "frame" => {
             let (at, count, room): (usize, usize, usize) = (w.number()?, w.number()?, w.number()?);
             let asked: Vec<Record> =
@@ -152,14 +153,17 @@ fn of_range(name: &str, at: Place, r: Range, value: bool) -> String {
 
 // Pairs of numbers after how many there are.
 fn pairs(all: &[[u64; 2]]) -> String {
-    let numbers: String = all.as_flattened().iter().map(|n| format!(" {n}")).collect();
-    format!("{}{numbers}", all.len())
+    format!("{}{}", all.len(), words(all.as_flattened()))
+}
+
+// Words, each after a space.
+fn words(all: &[u64]) -> String {
+    all.iter().map(|w| format!(" {w}")).collect()
 }
 
 // The line of a record, after the line before it.
-fn record(words: &Record) -> String {
-    let words: String = words.iter().map(|w| format!(" {w}")).collect();
-    format!("\nrecord{words}")
+fn record(record: &Record) -> String {
+    format!("\nrecord{}", words(record))
 }
 
 /// The line of a call; a frame has one more for each record.
@@ -191,6 +195,7 @@ pub fn write(call: &Call) -> String {
         }
         Call::Build { to, ref runs } => format!("build {to} {}", pairs(runs)),
         Call::Convert { ref bytes, room } => format!("convert {} {room}", digits(bytes)),
+        Call::Deepest { at, height, room } => format!("deepest {at} {height} {room}"),
         Call::Write { at, edition, room } => format!("write_set {at} {edition} {room}"),
         Call::ReadMap { at, base, n, ref map } => format!("read_map {at} {base} {n} {}", digits(map)),
         Call::ClearMap { base, n, ref map } => format!("clear_map {base} {n} {}", digits(map)),
@@ -224,6 +229,7 @@ pub fn tell(call: &Call, told: &Told) -> String {
         Told::Slices([(filled, bytes), (told, report)]) => {
             format!("written {filled} {} {told} {}", digits(bytes), digits(report))
         }
+        Told::Words(filled, all) => format!("worded {filled}{}", words(all)),
         Told::Cleared(count, bytes) => format!("cleared {count} {}", digits(bytes)),
         Told::RefusedAndChanged(r) => format!("changed something, and refused {}", r.number()),
         Told::FormsDiffer(told) => format!("by words and by single bytes: {told:?}"),

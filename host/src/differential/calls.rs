@@ -164,6 +164,12 @@ pub enum Call {
         bytes: Vec<u8>,
         room: usize,
     },
+    /// About no world: the list of runs for a height, and how many words there are for it.
+    Deepest {
+        at: usize,
+        height: u64,
+        room: usize,
+    },
     /// The edition by its number, as C names it, which may be any.
     Write {
         at: Place,
@@ -209,7 +215,7 @@ impl Call {
     }
 }
 
-/// What a call tells. Of a listing each draw, and how it ended; of each slice how much of it was filled, and all its bytes; of a map
+/// What a call tells. Of a listing each draw, and how it ended; of each slice how much of it was filled, and all its bytes or words; of a map
 /// how many bits were zeroed, and all its bytes; of a frame each answer's record, and the words of the slice after them. A call on a map is
 /// made in both forms, by words and by single bytes: where they do not agree, it is told what each told; if that is the same, they left
 /// different positions.
@@ -227,6 +233,7 @@ pub enum Told {
     Draws(Listing, Vec<(Option<RangeInclusive<u64>>, Listing)>),
     Slice(usize, Vec<u8>),
     Slices([(usize, Vec<u8>); 2]),
+    Words(usize, Vec<u64>),
     Cleared(u64, Vec<u8>),
     Answers(Vec<Record>, Vec<u64>),
     RefusedAndChanged(Refusal),

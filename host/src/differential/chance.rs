@@ -8,7 +8,7 @@ use super::random::Random;
 use super::records::{self, Record};
 use super::reference::{self, Limit, Run, WORLDS};
 use super::{EDITIONS, HALF, Plan};
-use crate::{Listing, Operation};
+use crate::{HEIGHT, Listing, Operation};
 
 /// The kinds of calls.
 #[derive(Clone, Copy, Debug, PartialEq)]
@@ -38,12 +38,13 @@ pub enum Kind {
     ReadMap,
     ClearMap,
     Convert,
+    Deepest,
     Write,
     WriteMap,
 }
 
 /// Every kind but [`Kind::Empty`], which is a build.
-pub const KINDS: [Kind; 25] = [
+pub const KINDS: [Kind; 26] = [
     Kind::Get,
     Kind::RunAt,
     Kind::Find,
@@ -58,6 +59,7 @@ pub const KINDS: [Kind; 25] = [
     Kind::WriteMap,
     Kind::ClearMap,
     Kind::Convert,
+    Kind::Deepest,
     Kind::Combine,
     Kind::Not,
     Kind::Shifted,
@@ -238,6 +240,27 @@ fn slice_room(random: &mut Random, due: usize) -> usize {
     if random.once_in(8) { random.below(due as u64 + 2) as usize } else { due + random.below(4) as usize }
 }
 
+// How high a tree is to be: often one higher than the capacity allows, and now and then as no tree is.
+fn height(random: &mut Random, capacity: usize) -> u64 {
+    let most = (1..=HEIGHT as u32).take_while(|&height| reference::least(height)[0] <= capacity as u64).count() as u64;
+    match random.below(6) {
+        0 => random.one_of(&[0, HEIGHT + 1, HEIGHT + 2, 1 << 32 | 3, HALF + 1, u64::MAX]),
+        1 => most + 1,
+        2 => 1 + random.below(HEIGHT),
+        _ => 1 + random.below(most),
+    }
+}
+
+/// Asks for the list for a height, with room for all of it, for a word less, or for more.
+pub fn deepest(random: &mut Random, store: &Store, at: usize) -> Call {
+    let capacity = store.capacity().unwrap_or(1);
+    let height = height(random, capacity);
+    // No more than a list that is not refused can have.
+    let due = 2 * capacity.min(reference::least(height.min(HEIGHT) as u32)[0] as usize);
+    let room = if random.once_in(4) { due.saturating_sub(1) } else { slice_room(random, due) };
+    Call::Deepest { at, height, room }
+}
+
 /// A world of a store: mostly one that is opened.
 pub fn place(random: &mut Random, stores: &[Store], store: usize) -> Place {
     let opened = stores[store].opened();
@@ -363,6 +386,7 @@ pub fn call(random: &mut Random, stores: &[Store], kind: Kind, at: Place) -> Cal
             let bytes = written(random, &runs);
             Call::Convert { room: slice_room(random, bytes.len()), bytes }
         }
+        Kind::Deepest => deepest(random, &stores[at.store], at.store),
         Kind::Build => Call::Build { to: at, runs: run_list(random, beside) },
         Kind::ReadMap => {
             let n = window(random);

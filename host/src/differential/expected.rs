@@ -6,7 +6,7 @@ use super::calls::{Call, Place, Range, SPARE, STALE, STALE_WORD, Told, ends_of, 
 use super::records;
 use super::reference::{self, Limit, Look, Run, World};
 use crate::oracle::IntervalBitSet;
-use crate::{Answer, Listing, Operation, Refusal, Tally};
+use crate::{Answer, HEIGHT, Listing, Operation, Refusal, Tally};
 
 // The oracle's positions are usize.
 const _: () = assert!(usize::BITS == 64);
@@ -153,19 +153,19 @@ fn moved(listing: Listing, back: bool, drawn: &Option<RangeInclusive<u64>>) -> L
     }
 }
 
-// How many bytes are due, and a slice that has them in front; or refusal 2.
-fn front(room: usize, due: Vec<u8>) -> Answer<(usize, Vec<u8>)> {
+// How many bytes or words are due, and a slice that has them in front; or refusal 2.
+fn front<T: Clone>(room: usize, due: Vec<T>, stale: T) -> Answer<(usize, Vec<T>)> {
     if room < due.len() {
         return Err(Refusal::OutputShort);
     }
     let filled = due.len();
     let mut all = due;
-    all.resize(room, STALE);
+    all.resize(room, stale);
     Ok((filled, all))
 }
 
 fn slice(room: usize, due: Vec<u8>) -> Answer<Told> {
-    front(room, due).map(|(filled, all)| Told::Slice(filled, all))
+    front(room, due, STALE).map(|(filled, all)| Told::Slice(filled, all))
 }
 
 /// Several stores.
@@ -216,7 +216,7 @@ impl Expected {
         pool.change(world, more, change)
     }
 
-    // The oracle refuses nothing: the order of refusals is 1, 11, 7, 12, 9, 6, 10, 3, 4, 3, 5, 8, 2.
+    // The oracle refuses nothing: the order of refusals is 1, 11, 7, 12, 13, 9, 6, 10, 3, 4, 3, 5, 8, 2.
     fn result(&mut self, call: &Call) -> Answer<Told> {
         match *call {
             Call::Lend { at, ref words } => {
@@ -338,8 +338,8 @@ impl Expected {
                 let runs = runs_of(&outcome);
                 let (pool, world) = self.pool(to);
                 pool.taken_with(world, runs.len())?;
-                let set = front(room, reference::encode(edition, &runs))?;
-                let fates = front(report, reference::fates(&told, &runs))?;
+                let set = front(room, reference::encode(edition, &runs), STALE)?;
+                let fates = front(report, reference::fates(&told, &runs), STALE)?;
                 pool.hold(world, outcome)?;
                 Ok(Told::Slices([set, fates]))
             }
@@ -381,6 +381,18 @@ impl Expected {
                 Ok(Told::Cleared(reference::clear(n, &mut cleared), cleared))
             }
             Call::Convert { ref bytes, room } => slice(room, reference::converted(bytes)?),
+            // The oracle tells nothing of its tree. The store is only measured: whether it is sound does not matter.
+            Call::Deepest { at, height, room } => {
+                let capacity = self.stores[at].capacity()?;
+                if !(1..=HEIGHT).contains(&height) {
+                    return Err(Refusal::TreeHeight);
+                }
+                if reference::least(height as u32)[0] > capacity as u64 {
+                    return Err(Refusal::Capacity);
+                }
+                let due = reference::deepest(height as u32).into_flattened();
+                front(room, due, STALE_WORD).map(|(filled, all)| Told::Words(filled, all))
+            }
             // The oracle's ranges, encoded apart from the library.
             Call::Write { at, edition, room } => {
                 self.read(&[at])?;

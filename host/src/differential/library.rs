@@ -143,6 +143,15 @@ impl Library {
                 let filled = crate::convert(bytes, &mut out).map(|part| part.len());
                 written(filled, out, STALE, Told::Slice)
             }
+            Call::Deepest { at, height, room } => {
+                let mut out = vec![STALE_WORD; room];
+                let w = &self.stores[at];
+                let to = out.as_mut_ptr();
+                // SAFETY: as of every call in the crate's root. By words, so that half a run's room can be handed in.
+                let told = unsafe { raw::vizturel_deepest(w.as_ptr(), w.len(), height, to, room) };
+                let filled = crate::number(told).map(|words| words as usize);
+                written(filled, out, STALE_WORD, Told::Words)
+            }
             Call::Write { at, edition, room } => {
                 let mut out = vec![STALE; room];
                 let w = &self.stores[at.store];

@@ -89,13 +89,13 @@ pub struct Score {
     /// How many of them were calls on maps: each is one call here, though the library makes it in both forms.
     pub mapped: u64,
     /// How many of them were refused, by number.
-    pub refused: [u64; 13],
+    pub refused: [u64; 14],
 }
 
 impl Score {
     fn new(progress: bool) -> Score {
         let now = Instant::now();
-        Score { part: "", progress, began: now, told: now, compared: 0, listed: 0, mapped: 0, refused: [0; 13] }
+        Score { part: "", progress, began: now, told: now, compared: 0, listed: 0, mapped: 0, refused: [0; 14] }
     }
 
     fn begin(&mut self, part: &'static str) {
@@ -240,6 +240,7 @@ pub fn run(options: Options) -> Result<Score, Difference> {
     parts::wrong_lengths(&mut score, options)?;
     parts::damaged_bytes(&mut score, options)?;
     parts::mendings(&mut score, options)?;
+    parts::heights(&mut score, options)?;
     parts::windows(&mut score, options)?;
     parts::gaps(&mut score, options)?;
     parts::limits(&mut score, options)?;

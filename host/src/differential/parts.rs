@@ -8,7 +8,7 @@ use super::random::Random;
 use super::records;
 use super::reference::{self, Draft, Limit, Run, Shape, WORLDS, node_at, record_at};
 use super::{Difference, EDITIONS, HALF, M, Options, Plan, Score, Sequence, WRITTEN};
-use crate::{Edition, Operation};
+use crate::{Edition, HEIGHT, Operation};
 
 type Outcome = Result<(), Difference>;
 
@@ -526,6 +526,10 @@ pub fn wrong_lengths(score: &mut Score, options: Options) -> Outcome {
             Call::ReadMap { at, base: 0, n: 8, map: vec![0x55] },
             Call::Fill { at, base: 0, n: 0 },
             Call::Gap { at, range: (Bound::Unbounded, Bound::Unbounded), n: 0 },
+            Call::Deepest { at: 0, height: 0, room: 0 },
+            Call::Deepest { at: 0, height: 3, room: 0 },
+            Call::Deepest { at: 0, height: 2, room: 3 },
+            Call::Deepest { at: 0, height: 2, room: 5 },
             Call::Write { at, edition: 1, room: 0 },
             Call::Write { at, edition: 2, room: 0 },
             Call::WriteMap { at, base: M, n: 2, room: 0 },
@@ -690,6 +694,42 @@ pub fn mendings(score: &mut Score, options: Options) -> Outcome {
             if less > 0 {
                 mend_closely(score, &mut Sequence::alone(&[less]), EDITIONS[i % 2], &runs)?;
             }
+        }
+    }
+    Ok(())
+}
+
+/// The lists for all heights, at every capacity around the number of their runs, in pools that are sound and others, and in words of a wrong
+/// length.
+pub fn heights(score: &mut Score, options: Options) -> Outcome {
+    score.begin("lists for heights");
+    let mut random = Random::new(options.seed ^ 0xDE);
+    for highest in 1..=HEIGHT {
+        let [runs, _] = reference::least(highest as u32).map(|count| count as usize);
+        for capacity in [runs - 1, runs, runs + 1].into_iter().filter(|&capacity| capacity > 0) {
+            let mut s = Sequence::new(vec![chance::plan(&mut random, capacity)]);
+            grow(score, &mut s, &mut random, 0, 2)?;
+            every_height(score, &mut s, capacity, highest)?;
+            s.call(score, Call::Poke { at: 0, word: SPARE, value: 1 })?;
+            every_height(score, &mut s, capacity, highest)?;
+            let words = (0..8 * (capacity + 49)).map(|_| random.number()).collect();
+            s.call(score, Call::Lend { at: 0, words })?;
+            every_height(score, &mut s, capacity, highest)?;
+            let words = vec![0; 8 * (capacity + 49) + 1 + random.below(7) as usize];
+            s.call(score, Call::Lend { at: 0, words })?;
+            every_height(score, &mut s, capacity, highest)?;
+        }
+    }
+    Ok(())
+}
+
+// Asks a store for the lists for heights about one, and for heights that there are none of, with room for none of it, for a word less than is
+// due, for just that, and for more.
+fn every_height(score: &mut Score, s: &mut Sequence, capacity: usize, about: u64) -> Outcome {
+    for height in [about - 1, about, about + 1, HEIGHT, HEIGHT + 1, 1 << 32 | about, M] {
+        let due = 2 * capacity.min(reference::least(height.min(HEIGHT) as u32)[0] as usize);
+        for room in [0, due.saturating_sub(1), due, due + 3] {
+            s.call(score, Call::Deepest { at: 0, height, room })?;
         }
     }
     Ok(())

@@ -5,6 +5,8 @@
 //! physical runs, first, last, floor, ceiling; zeros if unopened), then node n, from 1 to C + 32: start, end, left, right, height, runs
 //! and ones of its subtree, the number of its world. A free node has the next free one in its left word, zeros elsewhere.
 
+use std::collections::VecDeque;
+
 use super::calls::{Range, ends_of};
 use super::random::Random;
 use crate::{Edition, Refusal};
@@ -329,6 +331,21 @@ pub fn least(height: u32) -> [u64; 2] {
     (0..height).fold([0, 1], |[a, b], _| [b, a + b + 1])
 }
 
+/// The runs of the smallest tree of a height whose left sides are the deeper ones, level by level, each from left to right; the run of rank
+/// k is 2k alone. A subtree waits in a queue by the least of its ranks and its height, and its two follow behind.
+pub fn deepest(height: u32) -> Vec<Run> {
+    let mut runs = Vec::new();
+    let mut waiting = VecDeque::from([(0, height)]);
+    while let Some((from, height)) = waiting.pop_front() {
+        if height > 0 {
+            let rank = from + least(height - 1)[0];
+            runs.push([2 * rank; 2]);
+            waiting.extend([(from, height - 1), (rank + 1, height.saturating_sub(2))]);
+        }
+    }
+    runs
+}
+
 fn root_of(count: u64, shape: Shape, random: &mut Random) -> u64 {
     match shape {
         Shape::Even => (count - random.below(2)) / 2,
@@ -416,6 +433,21 @@ mod tests {
         let root = words[record_at(0)] as usize;
         assert_eq!(words[node_at(root) + 4], 22);
         assert_eq!(look(&words), Look::Holds(vec![World { runs: up, limit }]));
+    }
+
+    // Four runs make height 3 and seven make 4: the root, the two below it, and so on.
+    #[test]
+    fn the_list_for_a_height_goes_level_by_level() {
+        assert_eq!(deepest(1), [[0, 0]]);
+        assert_eq!(deepest(2), [[2, 2], [0, 0]]);
+        assert_eq!(deepest(3), [[4, 4], [2, 2], [6, 6], [0, 0]]);
+        assert_eq!(deepest(4), [4, 2, 6, 1, 3, 5, 0].map(|rank| [2 * rank; 2]));
+        for height in 1..=22 {
+            let mut runs = deepest(height);
+            assert_eq!(runs.len() as u64, least(height)[0]);
+            runs.sort_unstable();
+            assert!(in_order(&runs));
+        }
     }
 
     #[test]

@@ -1,7 +1,7 @@
 //! Random histories of all calls, in pools of one world and of several.
 
 use super::M;
-use crate::conformance::{List, fits};
+use crate::conformance::{List, may_be};
 use crate::differential::calls::Place;
 use crate::differential::chance::{self, Wander};
 use crate::differential::random::Random;
@@ -33,7 +33,7 @@ pub fn list() -> List {
         let mut history = Wander::default();
         for _ in 0..200 {
             let call = history.next(&mut random, &list.expected.stores);
-            if fits(&call) {
+            if may_be(&call) {
                 list.call(&call);
             }
         }

@@ -4,6 +4,7 @@ mod bounds;
 mod bytes;
 mod capacity;
 mod cases;
+mod deepest;
 mod editions;
 mod frames;
 mod gaps;
@@ -30,6 +31,7 @@ pub fn all() -> Vec<List> {
         bytes::list(),
         editions::list(),
         mended::list(),
+        deepest::list(),
         capacity::list(),
         frames::list(),
         gaps::list(),

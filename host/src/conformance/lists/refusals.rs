@@ -150,6 +150,32 @@ pub fn list() -> List {
         write_set 0/0 2 4
         write_set 0/0 1 5
         write_set 0/0 2 5
+        # 13, after 1, before 8 and 2, and 8 before 2, whether the pool is sound or not
+        words 3 0
+        deepest 3 0 0
+        deepest 3 23 0
+        deepest 3 3 0
+        words 3 3
+        deepest 3 0 0
+        deepest 3 0 128
+        deepest 3 23 0
+        deepest 3 23 128
+        deepest 3 4294967297 128
+        deepest 3 18446744073709551615 128
+        deepest 3 3 0
+        deepest 3 3 128
+        deepest 3 22 128
+        deepest 3 1 1
+        deepest 3 2 3
+        new 3 1 0 3
+        build 3/0 2 2 3 8 9
+        deepest 3 0 0
+        deepest 3 23 128
+        deepest 3 3 0
+        deepest 3 3 128
+        deepest 3 1 0
+        deepest 3 2 3
+        write_set 3/0 1 37
         # 9
         words 1 1
         new 1 1 0 1

@@ -1,7 +1,7 @@
 //! Worlds in one pool: which may be made, how floors, ceilings and their sum bound each, and that a world leaves the others as they are.
 
 use super::{HALF, M};
-use crate::conformance::{List, fits};
+use crate::conformance::{List, may_be};
 use crate::differential::calls::Place;
 use crate::differential::chance::{self, Wander};
 use crate::differential::random::Random;
@@ -189,7 +189,7 @@ fn histories(list: &mut List) {
         let mut history = Wander::default();
         for _ in 0..100 {
             let call = history.next(&mut random, &list.expected.stores[..2]);
-            if fits(&call) {
+            if may_be(&call) {
                 list.call(&call);
             }
         }

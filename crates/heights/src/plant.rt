@@ -1,14 +1,14 @@
-// The shortest list of runs that makes a tree of a height, set one by one into an empty world.
-ghost use Rattle.changes.specs.Planting.{Plantable, Deepens};
-use crate::edit::Edit;
-use crate::edit::Fit;
+// Runs set one by one into an empty world: how high a tree they make. The shortest list for a height is measured by it.
+ghost use Rattle.heights.specs.Planting.{Plantable, Plants};
+use changes::edit::Edit;
+use changes::edit::Fit;
 use model::Logical;
 use store::World;
 
-// Sets the first n runs of a list of words, start and end in turn, one by one.
+// Sets the first n runs of a list of words, start and end in turn, one by one. No call needs it: it says what a caller who makes these sets gets.
 pub fn plant(words: &mut [u64], h: World, limit: u64, runs: &[u64], n: u64) -> Fit
     requires { ⌜ Plantable (now words) h limit n (now runs) ⌝ }
-    ensures { λ r. ⌜ Deepens (now (words .entry)) (now (words .exit)) h limit n (now (runs .entry)) r ⌝ }
+    ensures { λ r. ⌜ Plants (now (words .entry)) (now (words .exit)) h limit n (now (runs .entry)) r ⌝ }
 {
     let mut i: u64 = 0;
     let mut at: usize = 0;
@@ -16,7 +16,7 @@ pub fn plant(words: &mut [u64], h: World, limit: u64, runs: &[u64], n: u64) -> F
     while i < n {
         let start = runs[at];
         let end = runs[at + 1];
-        let e = crate::edit::set(words, k, limit, Logical(start), Logical(end), true);
+        let e = changes::edit::set(words, k, limit, Logical(start), Logical(end), true);
         match e {
             Edit::Changed(grown, _) => {
                 k = grown;
