@@ -123,6 +123,18 @@ class World:
         if first <= last:
             self.keep(union(outside(self.runs, first, last) + free(self.runs, first, last)))
 
+    def set_strict(self, first, last, value):
+        require(first <= last + 1, 14)
+        return self.set(first, last, value)
+
+    def flip_strict(self, first, last):
+        require(first <= last + 1, 14)
+        self.flip(first, last)
+
+    def tally_strict(self, first, last, value):
+        require(first <= last + 1, 14)
+        return self.tally(first, last, value)
+
     def get(self, x):
         return size(held(self.runs, x, x))
 
@@ -289,12 +301,13 @@ ARGUMENTS = {
     "words": "sn", "spoil": "s", "new": "sl", "deepest": "snn", "set": "prn", "flip": "pr", "get": "pn", "run_at": "pn", "find": "prn", "tally": "prn",
     "select": "prnn", "gap": "prn", "ranges": "prn", "draw_front": "pnnn", "draw_back": "pnnn", "shift": "pnn",
     "shifted": "ppnn", "combine": "pwpp", "not": "pp", "eq": "pp", "load": "pb", "mend": "pbnn", "build": "pl", "write_set": "pnn", "read_map": "pnnb",
-    "write_map": "pnnn", "clear_map": "nnb", "convert": "bn", "fill": "pnn",
+    "write_map": "pnnn", "clear_map": "nnb", "convert": "bn", "fill": "pnn", "set_strict": "prn", "flip_strict": "pr", "tally_strict": "prn",
 }
 ANSWERS = {
     "set": "number", "get": "value", "run_at": "run", "find": "at", "tally": "number", "select": "at", "gap": "at",
     "ranges": "listing", "draw_front": "drawn", "draw_back": "drawn", "eq": "value", "mend": "written", "write_set": "written", "read_map": "number",
-    "write_map": "written", "clear_map": "cleared", "convert": "written", "deepest": "worded", "fill": "number",
+    "write_map": "written", "clear_map": "cleared", "convert": "written", "deepest": "worded", "fill": "number", "set_strict": "number",
+    "tally_strict": "number",
 }
 STORELESS = {"clear_map": clear_map, "convert": convert}
 
@@ -353,6 +366,7 @@ def answer(line, stores):
 CALLS = {
     1: ("empty", ""), 2: ("set", "rv"), 3: ("flip", "r"), 4: ("shift", "xv"), 5: ("run_at", "x"), 6: ("find", "rv"), 8: ("select", "rvk"),
     10: ("ranges", "rv"), 11: ("draw_front", "xyv"), 12: ("draw_back", "xyv"), 13: ("fill", "xy"), 14: ("gap", "rk"), 15: ("tally", "rv"),
+    16: ("set_strict", "rv"), 17: ("flip_strict", "r"), 18: ("tally_strict", "rv"),
 }
 WITHDRAWN = {7, 9}
 
@@ -370,7 +384,7 @@ def play(store, number, lower, x, upper, y, value, k, world):
     begin = ANSWERS.get(name)
     if result is None:
         told = [0, 0, 0]
-    elif name == "tally":
+    elif name in ("tally", "tally_strict"):
         told = [result[0] >> 64, result[0] & LAST, result[1]]
     elif begin in ("number", "value"):
         told = [result >> 64, result & LAST, 0]

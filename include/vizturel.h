@@ -19,8 +19,8 @@
  * copy the pool's words first, and lend the copy for what is read.
  *
  * REFUSALS. Every answer begins with a refusal's number, or is one; 0 means that the call was done. A refused call has changed no word and no
- * byte. Where several would hold, the first of this order is given: 1 of any pool, 11, 7 of any pool, 12 of any world, 13, 9, 6, 10, 3 (under 5
- * bytes), 4, 3, 5, 8, 2. Every call on a pool but vizturel_new and vizturel_deepest may be refused with 1, 7 and 12, of the pool that receives the
+ * byte. Where several would hold, the first of this order is given: 1 of any pool, 11, 7 of any pool, 12 of any world, 13, 9, 14, 6, 10, 3 (under
+ * 5 bytes), 4, 3, 5, 8, 2. Every call on a pool but vizturel_new and vizturel_deepest may be refused with 1, 7 and 12, of the pool that receives the
  * result too.
  *
  *   1  a pool's length is not 8 * (C + 49) words for a C from 1 to 65,536
@@ -37,6 +37,7 @@
  *  11  a pool is to be made with no world or more than 16, a floor above its ceiling, or floors that together exceed C
  *  12  no world of that number was opened
  *  13  the height of a tree is not from 1 to 22
+ *  14  the range of a strict call is reversed
  *
  * 8 is given for no other cause. So a world can always have as many runs as its floor, whatever the others hold, and of the others it feels that
  * sum alone.
@@ -85,7 +86,8 @@ enum vizturel_refusal {
     VIZTUREL_STRAY_BIT = 10,
     VIZTUREL_WORLD_LIMITS = 11,
     VIZTUREL_WORLD_UNOPENED = 12,
-    VIZTUREL_TREE_HEIGHT = 13
+    VIZTUREL_TREE_HEIGHT = 13,
+    VIZTUREL_RANGE_REVERSED = 14
 };
 
 /* Kinds of bounds: none, one that includes its value, one that excludes it. Other numbers are reserved. */
@@ -95,7 +97,9 @@ enum vizturel_bound_kind {
     VIZTUREL_EXCLUDED = 2
 };
 
-/* One end of a range. Empty and reversed ranges are no mistake: they change nothing, count 0, list nothing and find none. */
+/* One end of a range. Let s be the first position that the lower bound allows, possibly 2^64, and e the last that the upper one allows, possibly
+ * -1: the range is empty if s = e + 1, and reversed if s exceeds e + 1. Neither is a mistake: they change nothing, count 0, list nothing and find
+ * none. The strict calls refuse a reversed range, and take an empty one. */
 typedef struct {
     uint64_t kind;
     uint64_t value;
@@ -237,10 +241,14 @@ vizturel_counted vizturel_set(uint64_t *words, size_t count, uint64_t world, viz
 /* Inverts a range. Refused with 8. */
 uint64_t vizturel_flip(uint64_t *words, size_t count, uint64_t world, vizturel_bound lower, vizturel_bound upper);
 
+/* The same as vizturel_set and vizturel_flip, but that a reversed range is refused. Refused with 14, 8. */
+vizturel_counted vizturel_set_strict(uint64_t *words, size_t count, uint64_t world, vizturel_bound lower, vizturel_bound upper, uint64_t value);
+uint64_t vizturel_flip_strict(uint64_t *words, size_t count, uint64_t world, vizturel_bound lower, vizturel_bound upper);
+
 /* Moves every position by the distance, up where left is not 0, else down; what leaves 0 .. M is dropped. */
 uint64_t vizturel_shift(uint64_t *words, size_t count, uint64_t world, uint64_t distance, uint64_t left);
 
-/* ---- reports of a world. Each is refused with 1, 7, 12; gap and fill also as is said there. */
+/* ---- reports of a world. Each is refused with 1, 7, 12; the strict tally, gap and fill also as is said there. */
 
 /* The value of position x. */
 vizturel_tested vizturel_get(const uint64_t *words, size_t count, uint64_t world, uint64_t x);
@@ -253,6 +261,10 @@ vizturel_found vizturel_find(const uint64_t *words, size_t count, uint64_t world
 
 /* How many positions of a range have the value, and in how many runs they lie, clipped to the range. */
 vizturel_tallied vizturel_tally(const uint64_t *words, size_t count, uint64_t world, vizturel_bound lower, vizturel_bound upper, uint64_t value);
+
+/* The same, but that a reversed range is refused. Refused with 14. */
+vizturel_tallied vizturel_tally_strict(const uint64_t *words, size_t count, uint64_t world, vizturel_bound lower, vizturel_bound upper,
+                                       uint64_t value);
 
 /* The position of a range that has the value and exactly k such positions before it there; not found where k is at least their count. */
 vizturel_found vizturel_select(const uint64_t *words, size_t count, uint64_t world, vizturel_bound lower, vizturel_bound upper, uint64_t value,
@@ -372,7 +384,10 @@ enum vizturel_call_number {
     VIZTUREL_CALL_DRAW_BACK = 12,
     VIZTUREL_CALL_FILL = 13,
     VIZTUREL_CALL_GAP = 14,
-    VIZTUREL_CALL_TALLY = 15
+    VIZTUREL_CALL_TALLY = 15,
+    VIZTUREL_CALL_SET_STRICT = 16,
+    VIZTUREL_CALL_FLIP_STRICT = 17,
+    VIZTUREL_CALL_TALLY_STRICT = 18
 };
 
 /* A call as a record of eight words; words that the call has no use for are not read.
@@ -399,7 +414,8 @@ typedef struct {
  *   find, select, gap    position number, where found is 1
  *   ranges               a listing: first, last and value
  *   draw_front, _back    the run number .. end, where found is 1, and the listing that is left
- *   empty, flip, shift   nothing */
+ *   empty, flip, shift   nothing
+ *   set_strict, flip_strict and tally_strict tell what set, flip and tally do */
 typedef struct {
     uint64_t refusal;
     uint64_t found;
@@ -412,8 +428,8 @@ typedef struct {
 } vizturel_answer;
 
 /* Makes every call of a list in order and writes their answers into the front of a slice; the words after them stay as they were. A call
- * of the list that is refused (with 12, 9, 6 or 8) has changed nothing, and the next one follows. Words of calls after the last whole record are
- * not read. The whole is refused with 1 or 7 of the pool before the first call, or 2 where answers is too short for a record of each call:
+ * of the list that is refused (with 12, 9, 14, 6 or 8) has changed nothing, and the next one follows. Words of calls after the last whole record
+ * are not read. The whole is refused with 1 or 7 of the pool before the first call, or 2 where answers is too short for a record of each call:
  * then no call was made. */
 uint64_t vizturel_frame(uint64_t *words, size_t n, const uint64_t *calls, size_t calls_words, uint64_t *answers, size_t answers_words);
 

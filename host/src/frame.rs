@@ -41,6 +41,9 @@ pub enum Call {
     RunAt(u64),
     Find(Range, bool),
     Tally(Range, bool),
+    SetStrict(Range, bool),
+    FlipStrict(Range),
+    TallyStrict(Range, bool),
     Select(Range, bool, u64),
     Gap(Range, u64),
     Listing(Range, bool),
@@ -71,6 +74,18 @@ impl Call {
         Call::Tally(range(r), value)
     }
 
+    pub fn set_strict(r: impl RangeBounds<u64>, value: bool) -> Call {
+        Call::SetStrict(range(r), value)
+    }
+
+    pub fn flip_strict(r: impl RangeBounds<u64>) -> Call {
+        Call::FlipStrict(range(r))
+    }
+
+    pub fn tally_strict(r: impl RangeBounds<u64>, value: bool) -> Call {
+        Call::TallyStrict(range(r), value)
+    }
+
     pub fn select(r: impl RangeBounds<u64>, value: bool, k: u64) -> Call {
         Call::Select(range(r), value, k)
     }
@@ -87,11 +102,11 @@ impl Call {
 /// What a call of a list tells.
 #[derive(Clone, Debug, PartialEq, Eq)]
 pub enum Reply {
-    /// `Empty`, `Flip`, `Shift`.
+    /// `Empty`, `Flip`, `FlipStrict`, `Shift`.
     Done,
-    /// `Set`: how many positions changed.
+    /// `Set`, `SetStrict`: how many positions changed.
     Count(u128),
-    /// `Tally`.
+    /// `Tally`, `TallyStrict`.
     Tally(Tally),
     /// `Fill`.
     Number(u64),
@@ -111,7 +126,7 @@ pub enum Reply {
 /// words are 0, it is `Get(0)` at world 0.
 ///
 /// 7 and 9 are withdrawn: records with these numbers are answered with 12, whatever world they name. All other numbers of calls and kinds of
-/// bounds that no [`Call`] has are reserved: a later version may give them a meaning. This version answers a call number above 15 as `Get`, and
+/// bounds that no [`Call`] has are reserved: a later version may give them a meaning. This version answers a call number above 18 as `Get`, and
 /// takes a kind above 2 for no bound; do not rely on that.
 #[repr(C)]
 #[derive(Clone, Copy, Debug, Default, PartialEq, Eq)]
@@ -192,6 +207,9 @@ impl From<(u64, Call)> for CallRecord {
             Call::Fill { base, n } => CallRecord { call: 13, lower: base, upper: n, ..none },
             Call::Gap(r, length) => CallRecord { k: length, ..over(14, r) },
             Call::Tally(r, value) => of_range(15, r, value),
+            Call::SetStrict(r, value) => of_range(16, r, value),
+            Call::FlipStrict(r) => over(17, r),
+            Call::TallyStrict(r, value) => of_range(18, r, value),
         }
     }
 }
@@ -202,9 +220,11 @@ impl AnswerRecord {
         let found = self.found == 1;
         let listing = Listing { first: self.first, last: self.last, value: self.value == 1 };
         let told = match call {
-            Call::Empty | Call::Flip(_) | Call::Shift { .. } => Reply::Done,
-            Call::Set(..) => Reply::Count(positions(self.found, self.number)),
-            Call::Tally(..) => Reply::Tally(Tally { positions: positions(self.found, self.number), runs: self.end }),
+            Call::Empty | Call::Flip(_) | Call::FlipStrict(_) | Call::Shift { .. } => Reply::Done,
+            Call::Set(..) | Call::SetStrict(..) => Reply::Count(positions(self.found, self.number)),
+            Call::Tally(..) | Call::TallyStrict(..) => {
+                Reply::Tally(Tally { positions: positions(self.found, self.number), runs: self.end })
+            }
             Call::Fill { .. } => Reply::Number(self.number),
             Call::Get(_) => Reply::Value(self.number == 1),
             Call::RunAt(_) => Reply::Run(self.number..=self.end),

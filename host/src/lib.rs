@@ -78,10 +78,13 @@ pub enum Refusal {
     WorldUnopened = 12,
     /// The height of a tree is not from 1 to [`HEIGHT`].
     TreeHeight = 13,
+    /// The range of a strict call is reversed: its lower bound allows no position up to the one after the last that its upper bound allows.
+    RangeReversed = 14,
 }
 
 impl Refusal {
-    const ALL: [Refusal; 13] = [
+    /// Every refusal, by its number.
+    pub const ALL: [Refusal; 14] = [
         Refusal::StoreLength,
         Refusal::OutputShort,
         Refusal::SetLength,
@@ -95,9 +98,10 @@ impl Refusal {
         Refusal::WorldLimits,
         Refusal::WorldUnopened,
         Refusal::TreeHeight,
+        Refusal::RangeReversed,
     ];
 
-    /// The number of the refusal, from 1 to 13.
+    /// The number of the refusal, from 1 to 14.
     pub fn number(self) -> u64 {
         self as u64
     }
@@ -119,6 +123,7 @@ impl fmt::Display for Refusal {
             Refusal::WorldLimits => "worlds not 1 to 16, a floor above its ceiling, or floors above the capacity",
             Refusal::WorldUnopened => "a world of that number was not opened",
             Refusal::TreeHeight => "the height of a tree is not from 1 to 22",
+            Refusal::RangeReversed => "the range of a strict call is reversed",
         })
     }
 }
@@ -304,7 +309,7 @@ impl<S> DerefMut for Set<S> {
 fn answer<T>(refusal: u64, result: T) -> Answer<T> {
     match refusal {
         0 => Ok(result),
-        n => Err(Refusal::ALL[n as usize - 1]),
+        n => Err(Refusal::ALL.into_iter().find(|refusal| refusal.number() == n).expect("a refusal's number")),
     }
 }
 
@@ -315,6 +320,10 @@ fn positions(carry: u64, low: u64) -> u128 {
 
 fn count(c: raw::Counted) -> Answer<u128> {
     answer(c.refusal, positions(c.carry, c.low))
+}
+
+fn tallied(t: raw::Tallied) -> Answer<Tally> {
+    answer(t.refusal, Tally { positions: positions(t.carry, t.low), runs: t.runs })
 }
 
 fn number(n: raw::Numbered) -> Answer<u64> {
@@ -549,6 +558,35 @@ impl<S: AsMut<[u64]>> World<S> {
         answer(unsafe { raw::vizturel_flip(w, n, i, lower, upper) }, ())
     }
 
+    /// Gives a range the value as [`set`](World::set) does, and refuses a reversed one. A range is reversed where its lower bound allows
+    /// no position up to the one after the last that its upper bound allows; else it has no position, and is empty, or some. Refused with
+    /// 14, 8.
+    ///
+    /// ```
+    /// use std::ops::Bound::Excluded;
+    /// use vizturel::{Refusal, SetBuf};
+    /// # fn main() -> Result<(), vizturel::Refusal> {
+    /// let mut slots = SetBuf::with_capacity(8)?;
+    /// assert_eq!(slots.set_strict(8..2, true), Err(Refusal::RangeReversed));
+    /// assert_eq!(slots.set_strict((Excluded(5), Excluded(5)), true), Err(Refusal::RangeReversed));
+    /// assert_eq!(slots.set_strict((Excluded(5), Excluded(6)), true), Ok(0));
+    /// assert_eq!(slots.set(8..2, true), Ok(0));
+    /// # Ok(())
+    /// # }
+    /// ```
+    pub fn set_strict(&mut self, range: impl RangeBounds<u64>, value: bool) -> Answer<u128> {
+        let (w, n, i) = self.lent_mut();
+        let (lower, upper) = bounds(range);
+        count(unsafe { raw::vizturel_set_strict(w, n, i, lower, upper, value.into()) })
+    }
+
+    /// Inverts a range as [`flip`](World::flip) does, and refuses a reversed one. Refused with 14, 8.
+    pub fn flip_strict(&mut self, range: impl RangeBounds<u64>) -> Answer<()> {
+        let (w, n, i) = self.lent_mut();
+        let (lower, upper) = bounds(range);
+        answer(unsafe { raw::vizturel_flip_strict(w, n, i, lower, upper) }, ())
+    }
+
     /// Moves every position up (left) or down; what would leave 0 ..= 2^64 − 1 is dropped.
     pub fn shift(&mut self, distance: u64, left: bool) -> Answer<()> {
         let (w, n, i) = self.lent_mut();
@@ -703,8 +741,14 @@ impl<S: AsRef<[u64]>> World<S> {
     pub fn tally(&self, range: impl RangeBounds<u64>, value: bool) -> Answer<Tally> {
         let (w, n, i) = self.lent();
         let (lower, upper) = bounds(range);
-        let t = unsafe { raw::vizturel_tally(w, n, i, lower, upper, value.into()) };
-        answer(t.refusal, Tally { positions: positions(t.carry, t.low), runs: t.runs })
+        tallied(unsafe { raw::vizturel_tally(w, n, i, lower, upper, value.into()) })
+    }
+
+    /// The tally of a range, as [`tally`](World::tally) gives it, and a reversed one is refused. Refused with 14.
+    pub fn tally_strict(&self, range: impl RangeBounds<u64>, value: bool) -> Answer<Tally> {
+        let (w, n, i) = self.lent();
+        let (lower, upper) = bounds(range);
+        tallied(unsafe { raw::vizturel_tally_strict(w, n, i, lower, upper, value.into()) })
     }
 
     /// The position of a range that has the value and exactly k such positions before it.

@@ -73,11 +73,28 @@ unsafe extern "C" {
     pub fn vizturel_new(words: *mut u64, count: usize, limits: *const u64, limit_words: usize) -> u64;
     pub fn vizturel_set(words: *mut u64, count: usize, world: u64, lower: Bound, upper: Bound, value: u64) -> Counted;
     pub fn vizturel_flip(words: *mut u64, count: usize, world: u64, lower: Bound, upper: Bound) -> u64;
+    pub fn vizturel_set_strict(
+        words: *mut u64,
+        count: usize,
+        world: u64,
+        lower: Bound,
+        upper: Bound,
+        value: u64,
+    ) -> Counted;
+    pub fn vizturel_flip_strict(words: *mut u64, count: usize, world: u64, lower: Bound, upper: Bound) -> u64;
     pub fn vizturel_shift(words: *mut u64, count: usize, world: u64, distance: u64, left: u64) -> u64;
     pub fn vizturel_get(words: *const u64, count: usize, world: u64, x: u64) -> Numbered;
     pub fn vizturel_run_at(words: *const u64, count: usize, world: u64, x: u64) -> Around;
     pub fn vizturel_find(words: *const u64, count: usize, world: u64, lower: Bound, upper: Bound, value: u64) -> Found;
     pub fn vizturel_tally(
+        words: *const u64,
+        count: usize,
+        world: u64,
+        lower: Bound,
+        upper: Bound,
+        value: u64,
+    ) -> Tallied;
+    pub fn vizturel_tally_strict(
         words: *const u64,
         count: usize,
         world: u64,

@@ -1,5 +1,6 @@
 //! The differential run, shortened: fixed seeds, a part of the exhaustive and damaged cases.
 
+use vizturel::Refusal;
 use vizturel::differential::{Options, run};
 
 fn short(seed: u64) {
@@ -10,8 +11,9 @@ fn short(seed: u64) {
             assert!(score.listed > 10_000, "only {} of them in frames", score.listed);
             assert!(score.mapped > 10_000, "only {} of them on maps", score.mapped);
             // Each refusal came up, so that each was compared.
-            for (number, count) in score.refused.iter().enumerate() {
-                assert!(*count > 100, "refusal {number} came up {count} times");
+            for refusal in Refusal::ALL {
+                let count = score.refused[refusal.number() as usize];
+                assert!(count > 100, "{refusal:?} came up {count} times");
             }
         }
         Err(difference) => panic!("{difference}"),

@@ -31,6 +31,12 @@ fn single(set: &mut World<&mut [u64]>, call: Call) -> Answer<Reply> {
         Call::RunAt(x) => Reply::Run(set.run_at(x)?),
         Call::Find(range, value) => Reply::Position(set.find(range, value)?),
         Call::Tally(range, value) => Reply::Tally(set.tally(range, value)?),
+        Call::SetStrict(range, value) => Reply::Count(set.set_strict(range, value)?),
+        Call::FlipStrict(range) => {
+            set.flip_strict(range)?;
+            Reply::Done
+        }
+        Call::TallyStrict(range, value) => Reply::Tally(set.tally_strict(range, value)?),
         Call::Select(range, value, k) => Reply::Position(set.select(range, value, k)?),
         Call::Gap(range, n) => Reply::Position(set.gap(range, n)?),
         Call::Listing(range, value) => Reply::Listing(set.listing(range, value)?),
@@ -65,6 +71,9 @@ fn any_call(random: &mut Random) -> Call {
         Call::RunAt(x),
         Call::Find(r, v),
         Call::Tally(r, v),
+        Call::SetStrict(r, v),
+        Call::FlipStrict(r),
+        Call::TallyStrict(r, v),
         Call::Select(r, v, y),
         Call::Gap(r, y % 6),
         Call::Listing(r, v),
@@ -81,6 +90,7 @@ fn a_list_is_its_calls_one_by_one() {
     let mut refused = 0;
     let mut unopened = 0;
     let mut no_length = 0;
+    let mut reversed = 0;
     for turn in 0..400 {
         let worlds = 1 + turn / 4 % 3;
         let limits = [Limits { floor: 0, ceiling: 3 }, Limits { floor: 1, ceiling: 2 }, Limits::NONE];
@@ -97,6 +107,7 @@ fn a_list_is_its_calls_one_by_one() {
             refused += right.iter().filter(|told| **told == Err(Refusal::Capacity)).count();
             unopened += right.iter().filter(|told| **told == Err(Refusal::WorldUnopened)).count();
             no_length += right.iter().filter(|told| **told == Err(Refusal::GapLength)).count();
+            reversed += right.iter().filter(|told| **told == Err(Refusal::RangeReversed)).count();
             assert_eq!(listed.frame(&calls), Ok(right), "{calls:?}");
             for world in 0..worlds as u64 {
                 assert_eq!(listed.world(world).eq(&called.world(world)), Ok(true), "{calls:?}");
@@ -104,7 +115,7 @@ fn a_list_is_its_calls_one_by_one() {
         }
     }
     assert!(refused > 100 && unopened > 100, "only {refused} calls were refused with 8, {unopened} with 12");
-    assert!(no_length > 100, "only {no_length} calls were refused with 9");
+    assert!(no_length > 100 && reversed > 100, "only {no_length} calls were refused with 9, {reversed} with 14");
 }
 
 #[test]
@@ -144,7 +155,7 @@ fn ranges_of_any_kind() {
 #[test]
 fn records_keep_to_named_numbers() {
     let mut random = Random::new(2);
-    let mut seen = [0; 16];
+    let mut seen = [0; 19];
     for world in 0..4_000 {
         let record = CallRecord::from((world, any_call(&mut random)));
         assert!(record.lower_kind <= 2 && record.upper_kind <= 2 && record.world == world, "{record:?}");

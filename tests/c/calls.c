@@ -1,6 +1,6 @@
-/* The library through include/vizturel.h: the sixteen cases of the scope document, the editions of written sets, mended sets, the lowest gap, spare
- * bits of maps, maps by words and by single bytes, the deepest trees, each refusal, that a refused call changes nothing, calls by lists, and worlds
- * that share a pool. Compiled as C and as C++.
+/* The library through include/vizturel.h: the sixteen cases of the scope document, the editions of written sets, mended sets, the lowest gap, strict
+ * calls, spare bits of maps, maps by words and by single bytes, the deepest trees, each refusal, that a refused call changes nothing, calls by lists,
+ * and worlds that share a pool. Compiled as C and as C++.
  * Prints what failed, and last 'N passed, M failed'. */
 #include <stdio.h>
 #include <stdlib.h>
@@ -457,6 +457,41 @@ static void gaps(void) {
     CHECK(vizturel_gap(s, WORDS, here, ALL, ALL, 1).refusal == VIZTUREL_UNSOUND);
 }
 
+/* Strict set, flip and tally: 14 for a reversed range, after 1, 7 and 12; an empty one changes nothing, and any other is set, inverted and
+ * tallied. */
+static void strict_calls(void) {
+    const vizturel_bound reversed[][2] = {{EX(5), EX(5)}, {EX(M), IN(M - 1)}, {IN(1), EX(0)}, {IN(9), IN(3)}, {EX(M), EX(0)}};
+    const vizturel_bound empty[][2] = {{EX(5), EX(6)}, {IN(5), EX(5)}, {EX(M), ALL}, {ALL, EX(0)}, {EX(M), IN(M)}, {IN(0), EX(0)}};
+    static const uint64_t left[] = {2, 3, 6, 9};
+    size_t i;
+    only(s, WORDS, 2, 7);
+    memcpy(kept, s, sizeof s);
+    for (i = 0; i < sizeof reversed / sizeof *reversed; i++) {
+        vizturel_bound lower = reversed[i][0], upper = reversed[i][1];
+        vizturel_counted c = vizturel_set_strict(s, WORDS, here, lower, upper, 1);
+        vizturel_tallied t = vizturel_tally_strict(s, WORDS, here, lower, upper, 1);
+        CHECK(c.refusal == VIZTUREL_RANGE_REVERSED && c.carry == 0 && c.low == 0);
+        CHECK(t.refusal == VIZTUREL_RANGE_REVERSED && t.carry == 0 && t.low == 0 && t.runs == 0);
+        CHECK(vizturel_flip_strict(s, WORDS, here, lower, upper) == VIZTUREL_RANGE_REVERSED);
+        CHECK(is_count(vizturel_set(s, WORDS, here, lower, upper, 1), 0) && vizturel_flip(s, WORDS, here, lower, upper) == 0);
+        CHECK(vizturel_set_strict(s, WORDS - 1, here, lower, upper, 1).refusal == VIZTUREL_STORE_LENGTH);
+        CHECK(vizturel_flip_strict(s, WORDS, 3, lower, upper) == VIZTUREL_WORLD_UNOPENED);
+    }
+    for (i = 0; i < sizeof empty / sizeof *empty; i++) {
+        vizturel_bound lower = empty[i][0], upper = empty[i][1];
+        CHECK(is_count(vizturel_set_strict(s, WORDS, here, lower, upper, 1), 0) && vizturel_flip_strict(s, WORDS, here, lower, upper) == 0);
+        CHECK(is_tally(vizturel_tally_strict(s, WORDS, here, lower, upper, 0), 0, 0));
+    }
+    CHECK(memcmp(kept, s, sizeof s) == 0);
+    CHECK(is_count(vizturel_set_strict(s, WORDS, here, IN(6), EX(10), 1), 2) && vizturel_flip_strict(s, WORDS, here, IN(4), IN(5)) == 0);
+    CHECK(is_tally(vizturel_tally_strict(s, WORDS, here, IN(3), EX(8), 1), 3, 2) && holds(s, WORDS, 2, left));
+    only(one, VIZTUREL_WORDS(1), 2, 7);
+    CHECK(vizturel_set_strict(one, VIZTUREL_WORDS(1), here, IN(4), EX(6), 0).refusal == VIZTUREL_CAPACITY);
+    CHECK(vizturel_flip_strict(one, VIZTUREL_WORDS(1), here, IN(9), IN(9)) == VIZTUREL_CAPACITY);
+    s[7] = 1;
+    CHECK(vizturel_tally_strict(s, WORDS, 3, IN(9), IN(3), 1).refusal == VIZTUREL_UNSOUND);
+}
+
 /* Maps of every length from 1 to 17 with every last byte, against a reading bit by bit: read_map is refused with 10 exactly if a spare bit is one,
  * and else sets the window; clear_map zeroes the spare bits, tells how many were one, and what it leaves is read as the map without them. */
 static void spare_bits(void) {
@@ -781,11 +816,23 @@ static void every_call(void) {
     CHECK(is(told[2], 0, 1, 15, 0, 0, 0, 0));
     CHECK(is(told[3], 0, 0, 0, 0, 0, 0, 0));
     CHECK(is(told[4], VIZTUREL_GAP_LENGTH, 0, 0, 0, 0, 0, 0));
+    /* strict calls, of a reversed range and of another */
+    only(s, WORDS, 2, 7);
+    list[0] = ask(VIZTUREL_CALL_SET_STRICT, IN(9), IN(3), 1, 0);
+    list[1] = ask(VIZTUREL_CALL_FLIP_STRICT, IN(9), IN(3), 0, 0);
+    list[2] = ask(VIZTUREL_CALL_TALLY_STRICT, IN(9), IN(3), 1, 0);
+    list[3] = ask(VIZTUREL_CALL_SET_STRICT, IN(7), EX(10), M, 0);
+    list[4] = ask(VIZTUREL_CALL_FLIP_STRICT, IN(4), EX(6), 0, 0);
+    list[5] = ask(VIZTUREL_CALL_TALLY_STRICT, EX(2), ALL, 1, 0);
+    CHECK(play(6) == VIZTUREL_DONE);
+    CHECK(is(told[0], VIZTUREL_RANGE_REVERSED, 0, 0, 0, 0, 0, 0) && is(told[1], VIZTUREL_RANGE_REVERSED, 0, 0, 0, 0, 0, 0));
+    CHECK(is(told[2], VIZTUREL_RANGE_REVERSED, 0, 0, 0, 0, 0, 0) && is(told[3], 0, 0, 2, 0, 0, 0, 0));
+    CHECK(is(told[4], 0, 0, 0, 0, 0, 0, 0) && is(told[5], 0, 0, 5, 2, 0, 0, 0));
 }
 
 /* reserved numbers, as this version answers them: calls are gets, kinds of bounds are no bound; and withdrawn ones, which are refused */
 static void any_record(void) {
-    static const uint64_t gets[] = {0, 16, 17, 258, (UINT64_C(1) << 32) + 2, (UINT64_C(1) << 63) + 2, M};
+    static const uint64_t gets[] = {0, 19, 20, 258, (UINT64_C(1) << 32) + 2, (UINT64_C(1) << 63) + 2, M};
     static const uint64_t run[] = {2, 7};
     const vizturel_bound odd = {3, 5}, odder = {M, 6};
     size_t i, n = sizeof gets / sizeof *gets;
@@ -1033,6 +1080,7 @@ int main(void) {
         editions();
         mended();
         gaps();
+        strict_calls();
         spare_bits();
         both_forms();
         deepest();

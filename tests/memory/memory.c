@@ -104,7 +104,7 @@ static const size_t least[] = {0, 1, 2, 4, 7, 12, 20};
 #define LIST_RUNS 3
 #define MIXED_RUNS 4
 #define MENDED_RUNS 2
-#define CALLS 17 /* each number up to the last that names a call once, and one that names none */
+#define CALLS 20 /* each number up to the last that names a call once, and one that names none */
 #define RECORD sizeof(vizturel_call)
 
 static const vizturel_bound lowers[] = {{0, 0}, {1, 0}, {1, 40}, {2, M}, {1, M}, {1, UINT64_C(1) << 63}};
@@ -136,7 +136,7 @@ static void measuring_call(pool s) {
 static void reading_calls(pool s, uint64_t at, uint64_t told) {
     const uint64_t *w = s.words;
     size_t n = s.count, i;
-    uint64_t v = chance(2), x = chance(2) ? chance(120) : chance(M);
+    uint64_t v = chance(2), x = chance(2) ? chance(120) : chance(M), r;
     vizturel_bound lower, upper;
     CHECK(vizturel_get(w, n, at, x).refusal == told);
     CHECK(vizturel_run_at(w, n, at, x).refusal == told);
@@ -145,6 +145,8 @@ static void reading_calls(pool s, uint64_t at, uint64_t told) {
         upper = uppers[chance(RANGES)];
         CHECK(vizturel_find(w, n, at, lower, upper, v).refusal == told);
         CHECK(vizturel_tally(w, n, at, lower, upper, v).refusal == told);
+        r = vizturel_tally_strict(w, n, at, lower, upper, v).refusal;
+        CHECK(told ? r == told : r == 0 || r == VIZTUREL_RANGE_REVERSED);
         CHECK(vizturel_select(w, n, at, lower, upper, v, chance(40)).refusal == told);
         CHECK(vizturel_ranges(w, n, at, lower, upper, v).refusal == told);
     }
@@ -169,7 +171,7 @@ static void reading_calls(pool s, uint64_t at, uint64_t told) {
     CHECK(vizturel_write_map(w, n, at, x / 2, MAP_LENGTH, map.at, MAP_BYTES).refusal == told);
     CHECK(vizturel_write_map_by_bytes(w, n, at, x / 2, MAP_LENGTH, map.at, MAP_BYTES).refusal == told);
     /* into another pool; there it may also not fit */
-    uint64_t r = vizturel_combine(receiver.words, receiver.count, 0, chance(3), w, n, at, partner.words, partner.count, 0);
+    r = vizturel_combine(receiver.words, receiver.count, 0, chance(3), w, n, at, partner.words, partner.count, 0);
     CHECK(told ? r == told : r == 0 || r == VIZTUREL_CAPACITY);
     r = vizturel_combine(receiver.words, receiver.count, 0, chance(3), partner.words, partner.count, 0, w, n, at);
     CHECK(told ? r == told : r == 0 || r == VIZTUREL_CAPACITY);
@@ -203,7 +205,7 @@ static void changing_calls(pool s, uint64_t at, const uint64_t *damaged, uint64_
     const uint64_t *p = partner.words;
     size_t n = partner.count;
     int which;
-    for (which = 0; which < 11; which++) {
+    for (which = 0; which < 13; which++) {
         switch (which) {
         case 0: refusal = vizturel_set(s.words, s.count, at, lower, upper, v).refusal; break;
         case 1: refusal = vizturel_flip(s.words, s.count, at, lower, upper); break;
@@ -219,8 +221,10 @@ static void changing_calls(pool s, uint64_t at, const uint64_t *damaged, uint64_
             refusal = vizturel_mend(s.words, s.count, at, mixed.at, VIZTUREL_SET_BYTES(MIXED_RUNS), mended.at, VIZTUREL_SET_BYTES(MENDED_RUNS),
                                     fates.at, MIXED_RUNS).refusal;
             break;
+        case 11: refusal = vizturel_set_strict(s.words, s.count, at, lower, upper, v).refusal; break;
+        case 12: refusal = vizturel_flip_strict(s.words, s.count, at, lower, upper); break;
         }
-        CHECK(told ? refusal == told : refusal == 0 || refusal == VIZTUREL_CAPACITY);
+        CHECK(told ? refusal == told : refusal == 0 || refusal == VIZTUREL_CAPACITY || (which >= 11 && refusal == VIZTUREL_RANGE_REVERSED));
         CHECK(refusal == 0 || memcmp(s.words, damaged, 8 * s.count) == 0);
         memcpy(s.words, damaged, 8 * s.count);
     }

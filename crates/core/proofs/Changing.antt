@@ -23,7 +23,7 @@ use Rattle.model.specs.Bytes.{mapped}
 use Rattle.model.specs.Refusals.{beforeCapacity, Condition, _when_, firstGiven, refusal, mapConditions, tooMany}
 use Rattle.model.specs.Refusals
 use Rattle.model.specs.Call.{Fed, Call, Result, done, number, refused, gave}
-use Rattle.model.specs.Model.{positionsOf, reads, settle, change, changed, serve}
+use Rattle.model.specs.Model.{positionsOf, reads, settle, change, changed, setting, flipping, strict, serve}
 use Rattle.store.specs.declared.World.{World}
 use Rattle.store.specs.Layout.{capacity, allowance, heldIn, heldBy, plainAt, worldsOf}
 use Rattle.store.specs.Soundness.{shareOf}
@@ -233,12 +233,12 @@ module _ {w : List ℕ} {i : ℕ} {c : Call Site} {cs : List Condition} {F : Pos
 module _ (w : List ℕ) (i : ℕ) where
   -- a range gets a value
   pub set-says : (l u : Bound) (v : Bool) → Changes w i (Call.set l u v) [] (setRange (firstAllowed l) (extent l u) v) (λ P. number (changes P (setRange (firstAllowed l) (extent l u) v P)))
-  unfolding outcomeOf serve changed
+  unfolding outcomeOf serve changed setting
   set-says l u v = record { said = refl }
 
   -- a range is inverted
   pub flip-says : (l u : Bound) → Changes w i (Call.flip l u) [] (flipRange (firstAllowed l) (extent l u)) (λ P. done)
-  unfolding outcomeOf serve
+  unfolding outcomeOf serve flipping
   flip-says l u = record { said = refl }
 
   -- all positions are moved
@@ -250,3 +250,14 @@ module _ (w : List ℕ) (i : ℕ) where
   pub read-map-says : (base n : ℕ) (bs : List ℕ) → Changes w i (Call.readMap base n bs) (mapConditions base n bs) (mapped base n bs) (λ P. number (changes P (mapped base n bs P)))
   unfolding outcomeOf serve changed
   read-map-says base n bs = record { said = refl }
+
+  -- a range gets a value, strictly
+  pub set-strict-says : (l u : Bound) (v : Bool)
+      → Changes w i (Call.setStrict l u v) (strict l u) (setRange (firstAllowed l) (extent l u) v) (λ P. number (changes P (setRange (firstAllowed l) (extent l u) v P)))
+  unfolding outcomeOf serve changed setting
+  set-strict-says l u v = record { said = refl }
+
+  -- a range is inverted, strictly
+  pub flip-strict-says : (l u : Bound) → Changes w i (Call.flipStrict l u) (strict l u) (flipRange (firstAllowed l) (extent l u)) (λ P. done)
+  unfolding outcomeOf serve flipping
+  flip-strict-says l u = record { said = refl }

@@ -7,6 +7,7 @@ pub mod Clearing
 pub mod Spans
 pub mod Gaps
 pub mod Changing
+pub mod Strict
 pub mod Draws
 pub mod Overwriting
 pub mod Receiving

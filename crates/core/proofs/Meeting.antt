@@ -17,7 +17,7 @@ use Rattle.model.specs.Positions.{Positions, firstRun, lastRun, listed, remaini
 use Rattle.model.specs.Bytes.{fillOf}
 use Rattle.model.specs.Refusals.{storeLength, worldLimits, gapLength, window, Condition, _when_, refusal, badLimits, badGap, badWindow}
 use Rattle.model.specs.Call.{wrongLength, unsound, unopened, Call, Result, done, number, tallied, value, around, position, listing, drawn, Answer, refused, gave}
-use Rattle.model.specs.Model.{Outcome, positionsOf, reads, settle, report, drawnFirst, drawnLast, serve}
+use Rattle.model.specs.Model.{Outcome, positionsOf, reads, settle, report, tallying, strict, drawnFirst, drawnLast, serve}
 use Rattle.model.specs.Pools.{worldOf, fedBy, emptyWorlds, PoolOutcome, settleMake, makeBy}
 use Rattle.store.specs.declared.World.{World}
 use Rattle.store.specs.Layout.{capacity, openedAt, heldIn, heldBy, worldsOf}
@@ -165,7 +165,7 @@ module _ (w : List ℕ) (i : ℕ) where
   -- how many positions a range has, and how many runs
   pub tally-says : (l u : Bound) (v : Bool)
       → Reports w i (Call.tally l u v) [] (λ P. tallied (Positions.count P v (firstAllowed l) (extent l u)) (Positions.runCount P v (firstAllowed l) (extent l u)))
-  unfolding outcomeOf serve
+  unfolding outcomeOf serve tallying
   tally-says l u v = record { said = refl }
 
   -- the k-th position of a range
@@ -197,6 +197,12 @@ module _ (w : List ℕ) (i : ℕ) where
   pub fill-says : (base n : ℕ) → Reports w i (Call.fill base n) (window when badWindow base n ∷ []) (λ P. number (fillOf P base n))
   unfolding outcomeOf serve
   fill-says base n = record { said = refl }
+
+  -- the tally of a range, strictly
+  pub tally-strict-says : (l u : Bound) (v : Bool)
+      → Reports w i (Call.tallyStrict l u v) (strict l u) (λ P. tallied (Positions.count P v (firstAllowed l) (extent l u)) (Positions.runCount P v (firstAllowed l) (extent l u)))
+  unfolding outcomeOf serve tallying
+  tally-strict-says l u v = record { said = refl }
 
 -- ---- a new pool
 -- words of a pool's length, by whether the limits are refused

@@ -11,7 +11,7 @@ use Rattle.model.specs.Positions.{Positions, bounded}
 use Rattle.model.specs.Refusals.{Condition, _when_, capacity, refusal, tooMany}
 use Rattle.model.specs.Call
 use Rattle.model.specs.Call.{Fed, Call, Result, gave}
-use Rattle.model.specs.Model.{Outcome, positionsOf, reads, settle, report, change, write, mending, changed, drawnFirst, drawnLast, serve}
+use Rattle.model.specs.Model.{Outcome, positionsOf, reads, settle, report, change, write, mending, changed, setting, flipping, tallying, drawnFirst, drawnLast, serve}
 use Rattle.core.proofs.Meeting.{refused-not}
 
 -- only 0 .. 2^64 − 1 are held
@@ -44,7 +44,7 @@ module _ (full : ℕ → Bool) (s : Fed) where
 
   -- every call is one of these
   pub served : (c : Call Fed) → Served s (serve full s c)
-  unfolding serve changed write mending drawnFirst drawnLast
+  unfolding serve changed setting flipping tallying write mending drawnFirst drawnLast
   served (Call.set l u v) = alters _ _ _
   served (Call.flip l u) = alters _ _ _
   served (Call.get x) = reports _ _
@@ -68,6 +68,9 @@ module _ (full : ℕ → Bool) (s : Fed) where
   served (Call.readMap base n bs) = alters _ _ _
   served (Call.writeMap base n out) = reports _ _
   served (Call.fill base n) = reports _ _
+  served (Call.setStrict l u v) = alters _ _ _
+  served (Call.flipStrict l u) = alters _ _ _
+  served (Call.tallyStrict l u v) = reports _ _
 
 -- a call that gave a result was not refused
 pub unrefused : (y : Option ℕ) (P : Positions) (a b : Result) (Q : Positions) → gave b ≡ (settle y P a Q) .answer → y ≡ none

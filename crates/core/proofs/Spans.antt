@@ -1,19 +1,24 @@
--- What a range's bounds come to in each call: none of its positions where `normalize` found it empty, else those from a to b.
+-- What a range's bounds come to in each call: none of its positions where `normalize` found it empty or reversed, else those from a to b.
 -- Of no position every report is the least. Assumes nothing.
 use Prim.Native.Nat.{ℕ, suc, _+_, _-_, _≤_, _<_}
-use mathlib.Core.Path.{_≡_, refl, sym, ap, ap₂, _∙_}
+use mathlib.Core.Path.{_≡_, refl, sym, ap, ap₂, _∙_, subst}
+use mathlib.Core.Logic.{inl, inr}
+use mathlib.Core.List.{[], _∷_}
 use mathlib.Core.Bool.{Bool, true, false, cond, not}
 use mathlib.Core.Option.{Option, none}
 use native.Mathlib.Omega.{arith}
 use lib.Dec.{ltb}
 use lib.ListN.{length}
 use borrow.Author.Tests.{ltb-true, ltb-false}
+use types.Run.{OneOf}
+use denote.Enum.Declared.{tagOf}
+use Rattle.model.proofs.Span.{the-type}
 use Rattle.model.specs.declared.Bound.{Bound}
 use Rattle.model.specs.declared.Edge.{Edge}
 use Rattle.model.specs.declared.Edge.the-variants.{At, Nowhere}
 use Rattle.model.specs.declared.Span.{Span}
-use Rattle.model.specs.declared.Span.the-variants.{Empty, Closed}
-use Rattle.model.specs.Range.{firstAllowed, pastAllowed, extent, spanOf}
+use Rattle.model.specs.declared.Span.the-variants.{Empty, Reversed, Closed}
+use Rattle.model.specs.Range.{firstAllowed, pastAllowed, extent, reversed, spanOf}
 use Rattle.model.specs.Positions.{Positions, find, count, select, runCount, gap, ended, listed}
 use Rattle.model.proofs.Counting.{count-none}
 use Rattle.model.proofs.Runs.{runsIn-none}
@@ -30,25 +35,33 @@ pub record Within (l u : Bound) (a b : ℕ) : Type 0 where
   pub order : a ≤ b
 
 module _ (l u : Bound) where
-  -- an empty range has no position
-  pub span-none : (s : Span) → s ≡ spanOf l u → s ≡ Empty → extent l u ≡ 0
-  span-none s e k = go (ltb (firstAllowed l) (pastAllowed u)) refl (sym e ∙ k)
+  -- the range as it is answered, by whether it is reversed and whether it has a position
+  abbrev spanBy : Bool → Bool → Span
+  spanBy r t = cond r Reversed (cond t (Closed (firstAllowed l) (pastAllowed u - 1)) Empty)
+
+  -- one of the first two forms, empty or reversed, has no position
+  pub span-none : (s : Span) → s ≡ spanOf l u → OneOf (0 ∷ 1 ∷ []) (tagOf the-type s) → extent l u ≡ 0
+  span-none s e k =
+      go (reversed l u) (ltb (firstAllowed l) (pastAllowed u)) refl refl (subst (λ x. OneOf (0 ∷ 1 ∷ []) (tagOf the-type x)) e k)
     where
-      go : (t : Bool) → ltb (firstAllowed l) (pastAllowed u) ≡ t → cond t (Closed (firstAllowed l) (pastAllowed u - 1)) Empty ≡ Empty → extent l u ≡ 0
-      go true p q = let z : _≡_ {A = ℕ} 0 1 = cc in absurd (omega arith)
-      go false p q = omega (arith, ltb-false (firstAllowed l) (pastAllowed u) p)
+      go : (r t : Bool) → ltb (pastAllowed u) (firstAllowed l) ≡ r → ltb (firstAllowed l) (pastAllowed u) ≡ t → OneOf (0 ∷ 1 ∷ []) (tagOf the-type (spanBy r t)) → extent l u ≡ 0
+      go true t p q h = omega (arith, ltb-true (pastAllowed u) (firstAllowed l) p)
+      go false true p q (inl h) = let z : _≡_ {A = ℕ} 2 0 = h in absurd (omega arith)
+      go false true p q (inr h) = let z : _≡_ {A = ℕ} 2 1 = h in absurd (omega arith)
+      go false false p q h = omega (arith, ltb-false (firstAllowed l) (pastAllowed u) q)
 
   -- another has those from its first to its last
   pub span-some : {a b : ℕ} (s : Span) → s ≡ spanOf l u → s ≡ Closed a b → Within l u a b
-  span-some {a} {b} s e k = go (ltb (firstAllowed l) (pastAllowed u)) refl (sym e ∙ k)
+  span-some {a} {b} s e k = go (reversed l u) (ltb (firstAllowed l) (pastAllowed u)) refl (sym e ∙ k)
     where
-      go : (t : Bool) → ltb (firstAllowed l) (pastAllowed u) ≡ t → cond t (Closed (firstAllowed l) (pastAllowed u - 1)) Empty ≡ Closed a b → Within l u a b
-      go true p q =
+      go : (r t : Bool) → ltb (firstAllowed l) (pastAllowed u) ≡ t → spanBy r t ≡ Closed a b → Within l u a b
+      go true t p q = let z : _≡_ {A = ℕ} 0 1 = cc in absurd (omega arith)
+      go false true p q =
           let f : firstAllowed l ≡ a = cc in
           let g : pastAllowed u - 1 ≡ b = cc in
           let h = ltb-true (firstAllowed l) (pastAllowed u) p in
           record { first = f; many = omega arith; order = omega arith }
-      go false p q = let z : _≡_ {A = ℕ} 0 1 = cc in absurd (omega arith)
+      go false false p q = let z : _≡_ {A = ℕ} 0 1 = cc in absurd (omega arith)
 
 module _ {l u : Bound} {a b : ℕ} (W : Within l u a b) where
   -- what is told of the positions from a to b is told of the range

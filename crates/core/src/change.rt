@@ -14,14 +14,14 @@ use model::Logical;
 use model::Refusal;
 use model::Span;
 
-// An empty range changes nothing; another is set where it stands, if the runs it would leave fit.
+// An empty range or a reversed one changes nothing; another is set where it stands, if the runs it would leave fit.
 pub fn set(words: &mut [u64], world: u64, lower: Bound, upper: Bound, value: bool) -> Counted
     requires { ⌜ Readable (now words) world ⌝ }
     ensures { λ r. ⌜ Met (now (words .entry)) world (Call.set lower upper value) (countedAnswer r) (now (words .exit)) ⌝ }
 {
     let s = model::normalize(lower, upper);
     match s {
-        Span::Empty => Counted::Count(Count { carry: 0, low: 0 }),
+        Span::Empty | Span::Reversed => Counted::Count(Count { carry: 0, low: 0 }),
         Span::Closed(a, b) => {
             let limit = store::allowance(words, world);
             let h = store::open(words, world);
@@ -37,14 +37,14 @@ pub fn set(words: &mut [u64], world: u64, lower: Bound, upper: Bound, value: boo
     }
 }
 
-// An empty range changes nothing; another is inverted where it stands, if the runs it would leave fit.
+// An empty range or a reversed one changes nothing; another is inverted where it stands, if the runs it would leave fit.
 pub fn flip(words: &mut [u64], world: u64, lower: Bound, upper: Bound) -> Completed
     requires { ⌜ Readable (now words) world ⌝ }
     ensures { λ r. ⌜ Met (now (words .entry)) world (Call.flip lower upper) (completedAnswer r) (now (words .exit)) ⌝ }
 {
     let s = model::normalize(lower, upper);
     match s {
-        Span::Empty => Completed::Done,
+        Span::Empty | Span::Reversed => Completed::Done,
         Span::Closed(a, b) => {
             let limit = store::allowance(words, world);
             let h = store::open(words, world);
@@ -58,6 +58,28 @@ pub fn flip(words: &mut [u64], world: u64, lower: Bound, upper: Bound) -> Comple
             }
         }
     }
+}
+
+// A reversed range is refused; any other is set as `set` does.
+pub fn set_strict(words: &mut [u64], world: u64, lower: Bound, upper: Bound, value: bool) -> Counted
+    requires { ⌜ Readable (now words) world ⌝ }
+    ensures { λ r. ⌜ Met (now (words .entry)) world (Call.setStrict lower upper value) (countedAnswer r) (now (words .exit)) ⌝ }
+{
+    if model::is_reversed(lower, upper) {
+        return Counted::Refused(Refusal::RangeReversed);
+    }
+    set(words, world, lower, upper, value)
+}
+
+// A reversed range is refused; any other is inverted as `flip` does.
+pub fn flip_strict(words: &mut [u64], world: u64, lower: Bound, upper: Bound) -> Completed
+    requires { ⌜ Readable (now words) world ⌝ }
+    ensures { λ r. ⌜ Met (now (words .entry)) world (Call.flipStrict lower upper) (completedAnswer r) (now (words .exit)) ⌝ }
+{
+    if model::is_reversed(lower, upper) {
+        return Completed::Refused(Refusal::RangeReversed);
+    }
+    flip(words, world, lower, upper)
 }
 
 // A moved world has no more runs than before.

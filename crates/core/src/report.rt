@@ -46,14 +46,14 @@ fn found(e: Edge) -> Found
     }
 }
 
-// An empty range has no position.
+// An empty range or a reversed one has no position.
 pub fn find(words: &[u64], world: u64, lower: Bound, upper: Bound, value: bool) -> Found
     requires { ⌜ Readable (now words) world ⌝ }
     ensures { λ r. ⌜ Met (now (words .entry)) world (Call.find lower upper value) (foundAnswer r) (now (words .entry)) ⌝ }
 {
     let s = model::normalize(lower, upper);
     match s {
-        Span::Empty => Found::Nowhere,
+        Span::Empty | Span::Reversed => Found::Nowhere,
         Span::Closed(a, b) => {
             let h = store::open(words, world);
             found(reports::runs::find_in(&words[128..], h, Logical(a), Logical(b), value))
@@ -61,14 +61,14 @@ pub fn find(words: &[u64], world: u64, lower: Bound, upper: Bound, value: bool) 
     }
 }
 
-// An empty range has no position and no run.
+// An empty range or a reversed one has no position and no run.
 pub fn tally(words: &[u64], world: u64, lower: Bound, upper: Bound, value: bool) -> Tallied
     requires { ⌜ Readable (now words) world ⌝ }
     ensures { λ r. ⌜ Met (now (words .entry)) world (Call.tally lower upper value) (talliedAnswer r) (now (words .entry)) ⌝ }
 {
     let s = model::normalize(lower, upper);
     match s {
-        Span::Empty => Tallied::Tally(Tally {
+        Span::Empty | Span::Reversed => Tallied::Tally(Tally {
             count: Count { carry: 0, low: 0 },
             runs: 0,
         }),
@@ -79,14 +79,25 @@ pub fn tally(words: &[u64], world: u64, lower: Bound, upper: Bound, value: bool)
     }
 }
 
-// An empty range has no position.
+// A reversed range is refused; any other is tallied as `tally` does.
+pub fn tally_strict(words: &[u64], world: u64, lower: Bound, upper: Bound, value: bool) -> Tallied
+    requires { ⌜ Readable (now words) world ⌝ }
+    ensures { λ r. ⌜ Met (now (words .entry)) world (Call.tallyStrict lower upper value) (talliedAnswer r) (now (words .entry)) ⌝ }
+{
+    if model::is_reversed(lower, upper) {
+        return Tallied::Refused(Refusal::RangeReversed);
+    }
+    tally(words, world, lower, upper, value)
+}
+
+// An empty range or a reversed one has no position.
 pub fn select(words: &[u64], world: u64, lower: Bound, upper: Bound, value: bool, k: u64) -> Found
     requires { ⌜ Readable (now words) world ⌝ }
     ensures { λ r. ⌜ Met (now (words .entry)) world (Call.select lower upper value k) (foundAnswer r) (now (words .entry)) ⌝ }
 {
     let s = model::normalize(lower, upper);
     match s {
-        Span::Empty => Found::Nowhere,
+        Span::Empty | Span::Reversed => Found::Nowhere,
         Span::Closed(a, b) => {
             let h = store::open(words, world);
             found(reports::logical::select(&words[128..], h, Logical(a), Logical(b), value, k))
@@ -94,7 +105,7 @@ pub fn select(words: &[u64], world: u64, lower: Bound, upper: Bound, value: bool
     }
 }
 
-// An empty range has no gap.
+// An empty range or a reversed one has no gap.
 pub fn gap(words: &[u64], world: u64, lower: Bound, upper: Bound, n: u64) -> Found
     requires { ⌜ Readable (now words) world ⌝ }
     ensures { λ r. ⌜ Met (now (words .entry)) world (Call.gap lower upper n) (foundAnswer r) (now (words .entry)) ⌝ }
@@ -104,7 +115,7 @@ pub fn gap(words: &[u64], world: u64, lower: Bound, upper: Bound, n: u64) -> Fou
     }
     let s = model::normalize(lower, upper);
     match s {
-        Span::Empty => Found::Nowhere,
+        Span::Empty | Span::Reversed => Found::Nowhere,
         Span::Closed(a, b) => {
             let h = store::open(words, world);
             found(streams::gaps::lowest_gap(&words[128..], h, Logical(a), Logical(b), n))
@@ -119,7 +130,7 @@ pub fn ranges(words: &[u64], world: u64, lower: Bound, upper: Bound, value: bool
 {
     let s = model::normalize(lower, upper);
     match s {
-        Span::Empty => Listed::Listing(Listing {
+        Span::Empty | Span::Reversed => Listed::Listing(Listing {
             first: 1,
             last: 0,
             value: value,

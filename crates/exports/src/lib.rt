@@ -70,6 +70,44 @@ pub extern "C" fn vizturel_flip(words: &mut [u64], world: u64, lower: CBound, up
     )).refusal
 }
 
+// Gives a range the value as `vizturel_set` does, and refuses a reversed one.
+#[no_mangle]
+pub extern "C" fn vizturel_set_strict(
+    words: &mut [u64],
+    world: u64,
+    lower: CBound,
+    upper: CBound,
+    value: u64,
+) -> CCounted
+    ensures { λ r. ⌜ Returns (now (words .entry)) world (Call.setStrict (boundOf lower) (boundOf upper) (truth value)) countOf r (now (words .exit)) ⌝ }
+{
+    structs::count(flat::counted(interval_bit_set::change::set_strict(
+        words,
+        world,
+        structs::bound(lower),
+        structs::bound(upper),
+        value != 0,
+    )))
+}
+
+// Inverts a range as `vizturel_flip` does, and refuses a reversed one.
+#[no_mangle]
+pub extern "C" fn vizturel_flip_strict(
+    words: &mut [u64],
+    world: u64,
+    lower: CBound,
+    upper: CBound,
+) -> u64
+    ensures { λ r. ⌜ Returns (now (words .entry)) world (Call.flipStrict (boundOf lower) (boundOf upper)) refusalOf r (now (words .exit)) ⌝ }
+{
+    flat::completed(interval_bit_set::change::flip_strict(
+        words,
+        world,
+        structs::bound(lower),
+        structs::bound(upper),
+    )).refusal
+}
+
 // Moves every position by the distance: up (left) where `left` is not 0, else down.
 #[no_mangle]
 pub extern "C" fn vizturel_shift(words: &mut [u64], world: u64, distance: u64, left: u64) -> u64
@@ -126,6 +164,26 @@ pub extern "C" fn vizturel_tally(
     ensures { λ r. ⌜ Returns (now (words .entry)) world (Call.tally (boundOf lower) (boundOf upper) (truth value)) talliedOf r (now (words .entry)) ⌝ }
 {
     structs::tally(flat::tallied(interval_bit_set::report::tally(
+        words,
+        world,
+        structs::bound(lower),
+        structs::bound(upper),
+        value != 0,
+    )))
+}
+
+// The tally of a range as `vizturel_tally` gives it, and a reversed one is refused.
+#[no_mangle]
+pub extern "C" fn vizturel_tally_strict(
+    words: &[u64],
+    world: u64,
+    lower: CBound,
+    upper: CBound,
+    value: u64,
+) -> CTallied
+    ensures { λ r. ⌜ Returns (now (words .entry)) world (Call.tallyStrict (boundOf lower) (boundOf upper) (truth value)) talliedOf r (now (words .entry)) ⌝ }
+{
+    structs::tally(flat::tallied(interval_bit_set::report::tally_strict(
         words,
         world,
         structs::bound(lower),

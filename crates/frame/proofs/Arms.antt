@@ -26,8 +26,9 @@ use Rattle.core.proofs.Meeting.{
   fill-says,
   gap-says,
   tally-says,
+  tally-strict-says,
 }
-use Rattle.core.proofs.Changing.{Changes, set-says, flip-says, shift-says}
+use Rattle.core.proofs.Changing.{Changes, set-says, flip-says, shift-says, set-strict-says, flip-strict-says}
 use Rattle.core.proofs.Overwriting.{build-says}
 use Rattle.interval_bit_set.specs.declared.look.Look.{Look}
 use Rattle.interval_bit_set.proofs.Looking.{world-unopened, turned-away, sent-away}
@@ -80,6 +81,9 @@ module _ {w : List ℕ} {i : ℕ} (S : Sound w) (h : openedAt w ≤ i) (e : Entr
   twelve Kind.Fill = away (fill-says w i _ _) refl
   twelve Kind.Gap = away (gap-says w i _ _ _) refl
   twelve Kind.Tally = away (tally-says w i _ _ _) refl
+  twelve Kind.SetStrict = sent (set-strict-says w i _ _ _) refl
+  twelve Kind.FlipStrict = sent (flip-strict-says w i _ _) refl
+  twelve Kind.TallyStrict = away (tally-strict-says w i _ _ _) refl
   twelve Kind.Get = away (get-says w i _) refl
 
   -- as a record is served

@@ -27,6 +27,9 @@ fed-kind f Kind.DrawBack e = refl
 fed-kind f Kind.Fill e = refl
 fed-kind f Kind.Gap e = refl
 fed-kind f Kind.Tally e = refl
+fed-kind f Kind.SetStrict e = refl
+fed-kind f Kind.FlipStrict e = refl
+fed-kind f Kind.TallyStrict e = refl
 fed-kind f Kind.Get e = refl
 
 pub fed-same : (e : Entry) → feed fedAt (callOf e) ≡ callOf e

@@ -28,7 +28,7 @@ entryAt ws i = record {
   world = getD ws (8 * i + 7) 0;
 }
 
--- the call that a number names: 1 to 6, 8, 10 to 15, and any other is a get
+-- the call that a number names: 1 to 6, 8, 10 to 18, and any other is a get
 unfoldable pub kindOf : ℕ → Kind
 kindOf n =
     cond (eqb n 1) Kind.Empty
@@ -43,7 +43,10 @@ kindOf n =
     (cond (eqb n 12) Kind.DrawBack
     (cond (eqb n 13) Kind.Fill
     (cond (eqb n 14) Kind.Gap
-    (cond (eqb n 15) Kind.Tally Kind.Get))))))))))))
+    (cond (eqb n 15) Kind.Tally
+    (cond (eqb n 16) Kind.SetStrict
+    (cond (eqb n 17) Kind.FlipStrict
+    (cond (eqb n 18) Kind.TallyStrict Kind.Get)))))))))))))))
 
 abbrev pub lowerOf : Entry → Bound
 lowerOf e = boundBy (e .lower) (e .from)
@@ -69,6 +72,9 @@ callBy Kind.DrawBack e = Call.drawBack (listingBy e)
 callBy Kind.Fill e = Call.fill (e .from) (e .upto)
 callBy Kind.Gap e = Call.gap (lowerOf e) (upperOf e) (e .k)
 callBy Kind.Tally e = Call.tally (lowerOf e) (upperOf e) (truth (e .value))
+callBy Kind.SetStrict e = Call.setStrict (lowerOf e) (upperOf e) (truth (e .value))
+callBy Kind.FlipStrict e = Call.flipStrict (lowerOf e) (upperOf e)
+callBy Kind.TallyStrict e = Call.tallyStrict (lowerOf e) (upperOf e) (truth (e .value))
 callBy Kind.Get e = Call.get (e .from)
 
 abbrev pub callOf : {S : Type 0} → Entry → Call S

@@ -18,6 +18,9 @@ pub enum Kind {
     Fill,
     Gap,
     Tally,
+    SetStrict,
+    FlipStrict,
+    TallyStrict,
     Get,
 }
 
@@ -77,6 +80,15 @@ pub fn named(n: u64) -> Kind
     }
     if n == 15 {
         return Kind::Tally;
+    }
+    if n == 16 {
+        return Kind::SetStrict;
+    }
+    if n == 17 {
+        return Kind::FlipStrict;
+    }
+    if n == 18 {
+        return Kind::TallyStrict;
     }
     Kind::Get
 }

@@ -78,6 +78,21 @@ fn serve_world(words: &mut [u64], e: Entry, world: u64) -> Reply
         Kind::Fill => flat::numbered(core::report::fill(words, world, e.from, e.upto)),
         Kind::Gap => flat::found(core::report::gap(words, world, lower, upper, e.k)),
         Kind::Tally => flat::tallied(core::report::tally(words, world, lower, upper, value)),
+        Kind::SetStrict => flat::counted(core::change::set_strict(
+            words,
+            world,
+            lower,
+            upper,
+            value,
+        )),
+        Kind::FlipStrict => flat::completed(core::change::flip_strict(words, world, lower, upper)),
+        Kind::TallyStrict => flat::tallied(core::report::tally_strict(
+            words,
+            world,
+            lower,
+            upper,
+            value,
+        )),
         Kind::Get => flat::tested(core::report::get(words, world, e.from)),
     }
 }

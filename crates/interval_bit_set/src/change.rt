@@ -39,3 +39,25 @@ pub fn shift(words: &mut [u64], world: u64, distance: u64, left: bool) -> Comple
         Look::Sound => core::change::shift(words, world, distance, left),
     }
 }
+
+// Gives a range the value as `set` does, and refuses a reversed one.
+pub fn set_strict(words: &mut [u64], world: u64, lower: Bound, upper: Bound, value: bool) -> Counted
+    ensures { λ r. ⌜ Met (now (words .entry)) world (Call.setStrict lower upper value) (countedAnswer r) (now (words .exit)) ⌝ }
+{
+    let l = crate::look::look_at(words, world);
+    match l {
+        Look::Refused(r) => Counted::Refused(r),
+        Look::Sound => core::change::set_strict(words, world, lower, upper, value),
+    }
+}
+
+// Inverts a range as `flip` does, and refuses a reversed one.
+pub fn flip_strict(words: &mut [u64], world: u64, lower: Bound, upper: Bound) -> Completed
+    ensures { λ r. ⌜ Met (now (words .entry)) world (Call.flipStrict lower upper) (completedAnswer r) (now (words .exit)) ⌝ }
+{
+    let l = crate::look::look_at(words, world);
+    match l {
+        Look::Refused(r) => Completed::Refused(r),
+        Look::Sound => core::change::flip_strict(words, world, lower, upper),
+    }
+}

@@ -57,6 +57,17 @@ pub fn tally(words: &[u64], world: u64, lower: Bound, upper: Bound, value: bool)
     }
 }
 
+// The tally of a range, as `tally` gives it, and a reversed one is refused.
+pub fn tally_strict(words: &[u64], world: u64, lower: Bound, upper: Bound, value: bool) -> Tallied
+    ensures { λ r. ⌜ Met (now (words .entry)) world (Call.tallyStrict lower upper value) (talliedAnswer r) (now (words .entry)) ⌝ }
+{
+    let l = crate::look::look_at(words, world);
+    match l {
+        Look::Refused(r) => Tallied::Refused(r),
+        Look::Sound => core::report::tally_strict(words, world, lower, upper, value),
+    }
+}
+
 // The position of a range that has the value and exactly k such positions before it there.
 pub fn select(words: &[u64], world: u64, lower: Bound, upper: Bound, value: bool, k: u64) -> Found
     ensures { λ r. ⌜ Met (now (words .entry)) world (Call.select lower upper value k) (foundAnswer r) (now (words .entry)) ⌝ }

@@ -17,6 +17,7 @@ use Rattle.model.specs.Refusals.{
   worldUnopened,
   treeHeight,
   gapLength,
+  rangeReversed,
   window,
   strayBit,
   setShort,
@@ -36,7 +37,7 @@ use Rattle.model.specs.Refusals.{
 use Rattle.model.specs.Refusals
 use Rattle.model.specs.Call
 use Rattle.model.specs.Call.{Fed, Call, feed, Result, Answer, refused, gave}
-use Rattle.model.specs.Model.{positionsOf, reads, settle, report, change, write, mending, changed, drawnFirst, drawnLast, serve}
+use Rattle.model.specs.Model.{positionsOf, reads, settle, report, change, write, mending, changed, setting, flipping, tallying, drawnFirst, drawnLast, serve}
 use Rattle.model.specs.Mending.{mendedPositions}
 use Rattle.model.specs.Pools.{full, exceeds, otherClaims}
 use Rattle.model.proofs.Pools.{claims-split}
@@ -66,6 +67,7 @@ eight-is storeUnsound e = absurd (omega arith)
 eight-is worldUnopened e = absurd (omega arith)
 eight-is treeHeight e = absurd (omega arith)
 eight-is gapLength e = absurd (omega arith)
+eight-is rangeReversed e = absurd (omega arith)
 eight-is window e = absurd (omega arith)
 eight-is strayBit e = absurd (omega arith)
 eight-is setShort e = absurd (omega arith)
@@ -140,7 +142,7 @@ module _ (full : ℕ → Bool) (s : Fed) where
 
   -- every call is one of these
   many : (c : Call Fed) → TooMany c
-  unfolding serve changed write mending drawnFirst drawnLast
+  unfolding serve changed setting flipping tallying write mending drawnFirst drawnLast
   many (Call.set l u v) = alters-many _ _ _
   many (Call.flip l u) = alters-many _ _ _
   many (Call.get x) = λ e. absurd (reports-not _ _ refl e)
@@ -164,6 +166,9 @@ module _ (full : ℕ → Bool) (s : Fed) where
   many (Call.readMap base n bs) = alters-many _ _ _
   many (Call.writeMap base n out) = λ e. absurd (reports-not _ _ refl e)
   many (Call.fill base n) = λ e. absurd (reports-not _ _ refl e)
+  many (Call.setStrict l u v) = alters-many _ _ _
+  many (Call.flipStrict l u) = alters-many _ _ _
+  many (Call.tallyStrict l u v) = λ e. absurd (reports-not _ _ refl e)
 
 -- ---- a sound pool
 module _ {w : List ℕ} (S : Sound w) (i : ℕ) (l : i < openedAt w) where

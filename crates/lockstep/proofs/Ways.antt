@@ -18,7 +18,7 @@ use Rattle.model.proofs.Ops.{shiftLeftRuns, shiftRuns, set-positions, shift-pos
 use Rattle.model.proofs.Calc.{mem-empty}
 use Rattle.model.specs.Refusals.{tooMany}
 use Rattle.model.specs.Call.{Call, at, Result, holding}
-use Rattle.model.specs.Model.{change, changed, serve}
+use Rattle.model.specs.Model.{change, changed, setting, serve}
 use Rattle.model.specs.Pools.{step, after, alone}
 use Rattle.model.proofs.Pools.{step-alone}
 
@@ -48,7 +48,7 @@ one-kept C a b P Q said c h l e =
 
 -- a range set in the empty set
 set-step : (C a b : ℕ) → 1 ≤ C → a ≤ b → b < size → (step C (alone C empty) (at 0 (Call.set (Included a) (Included b) true))) .worlds ≡ alone C (mem (one a b))
-unfolding serve changed
+unfolding serve setting changed
 set-step C a b c h l =
     ap (λ o. o .worlds) (step-alone C empty (Call.set (Included a) (Included b) true))
     ∙ ap (alone C) (one-kept C a b empty (setRange a (b + 1 - a) true empty) _ c h l

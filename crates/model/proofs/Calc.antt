@@ -11,6 +11,7 @@ use native.Mathlib.Omega.{arith}
 use lib.Dec.{ltb, eqb}
 use lib.ListN.{length}
 use borrow.Author.Tests.{lt-ltb, le-ltb}
+use Rattle.model.specs.declared.Bound.{Bound}
 use Rattle.model.specs.declared.Run.{Run}
 use Rattle.model.specs.declared.Listing.{Listing}
 use Rattle.model.specs.declared.Operation.the-variants.{Xor}
@@ -116,6 +117,9 @@ use Rattle.model.specs.Call.{
   readMap,
   writeMap,
   fill,
+  setStrict,
+  flipStrict,
+  tallyStrict,
   feed,
   Result,
   done,
@@ -131,7 +135,7 @@ use Rattle.model.specs.Call.{
   refused,
   gave,
 }
-use Rattle.model.specs.Model.{Outcome, positionsOf, reads, settle, report, change, write, mending, changed, drawnFirst, drawnLast, serve}
+use Rattle.model.specs.Model.{Outcome, positionsOf, reads, settle, report, change, write, mending, changed, setting, flipping, tallying, strict, drawnFirst, drawnLast, serve}
 use Rattle.model.specs.Cases.{broken, shut, Given, having, noStore, fedAs}
 
 -- ---- lists of any runs, and maps, as canonical lists
@@ -348,14 +352,24 @@ mendRuns C s bs due told out report =
 unfoldable pub remainingRuns : List Run → Listing → List Run
 remainingRuns rs l = clipped (l .value) (l .first) (suc (l .last) - l .first) rs
 
+-- set, flip and tally of a range, under further conditions
+unfoldable pub settingRuns : ℕ → Given → List Condition → Bound → Bound → Bool → RunOutcome
+settingRuns C s cs l u v = changedRuns C s cs (setRuns size (firstAllowed l) (extent l u) v (runsOf s))
+
+unfoldable pub flippingRuns : ℕ → Given → List Condition → Bound → Bound → RunOutcome
+flippingRuns C s cs l u = changeRuns C s cs (flipRuns size (firstAllowed l) (extent l u) (runsOf s)) done
+
+unfoldable pub tallyingRuns : Given → List Condition → Bound → Bound → Bool → RunOutcome
+tallyingRuns s cs l u v =
+    reportRuns s cs (tallied (widths (clipped v (firstAllowed l) (extent l u) (runsOf s))) (length (clipped v (firstAllowed l) (extent l u) (runsOf s))))
+
 unfoldable pub calc : ℕ → Given → Call Given → RunOutcome
-calc C s (set l u v) = changedRuns C s [] (setRuns size (firstAllowed l) (extent l u) v (runsOf s))
-calc C s (flip l u) = changeRuns C s [] (flipRuns size (firstAllowed l) (extent l u) (runsOf s)) done
+calc C s (set l u v) = settingRuns C s [] l u v
+calc C s (flip l u) = flippingRuns C s [] l u
 calc C s (get x) = reportRuns s [] (value (mem (runsOf s) x))
 calc C s (runAt x) = reportRuns s [] (around (runWith x (clipped (mem (runsOf s) x) 0 size (runsOf s))))
 calc C s (find l u v) = reportRuns s [] (position (startOf (firstRun (clipped v (firstAllowed l) (extent l u) (runsOf s)))))
-calc C s (tally l u v) =
-    reportRuns s [] (tallied (widths (clipped v (firstAllowed l) (extent l u) (runsOf s))) (length (clipped v (firstAllowed l) (extent l u) (runsOf s))))
+calc C s (tally l u v) = tallyingRuns s [] l u v
 calc C s (select l u v k) = reportRuns s [] (position (selectRuns (clipped v (firstAllowed l) (extent l u) (runsOf s)) k))
 calc C s (gap l u n) = reportRuns s (gapLength when badGap n ∷ []) (position (firstLong n (clipped false (firstAllowed l) (extent l u) (runsOf s))))
 calc C s (ranges l u v) = reportRuns s [] (listing (listed (firstAllowed l) (extent l u) v))
@@ -375,6 +389,9 @@ calc C s (readMap base n bs) =
     changedRuns C s (window when badWindow base n ∷ window when badMap n bs ∷ strayBit when someBit bs n (8 * mapLength n - n) ∷ []) (mapRuns base n bs (runsOf s))
 calc C s (writeMap base n out) = writeRuns s (window when badWindow base n ∷ []) (mapOf (mem (runsOf s)) base n) out
 calc C s (fill base n) = reportRuns s (window when badWindow base n ∷ []) (number ((1000 * widths (clipped true base n (runsOf s)) + (n - 1)) / n))
+calc C s (setStrict l u v) = settingRuns C s (strict l u) l u v
+calc C s (flipStrict l u) = flippingRuns C s (strict l u) l u
+calc C s (tallyStrict l u v) = tallyingRuns s (strict l u) l u v
 
 -- ---- what ties an outcome of the model to one on run lists
 pub record Tied (o : Outcome) (r : RunOutcome) : Type 0 where
@@ -463,17 +480,34 @@ module _ (s : Given) where
   unfolding P rs
   all-runs = ap heldRuns (runsOf-positions s) ∙ heldRuns-mem (runsOf s) (runsOf-canon s)
 
--- every call, computed on run lists, is the plain model's
-pub calc-tied : (C : ℕ) (s : Given) (c : Call Given) → Tied (serve (ltb C) (fedAs s) (feed fedAs c)) (calc C s c)
-unfolding serve calc P rs remaining remainingRuns Positions.runAt Positions.runCount fillOf
-calc-tied C s (set l u v) =
-    tied-changed C s [] (setRange (firstAllowed l) (extent l u) v (positionsOf (fedAs s))) (setRuns size (firstAllowed l) (extent l u) v (runsOf s))
+tied-setting : (C : ℕ) (s : Given) (cs : List Condition) (l u : Bound) (v : Bool) → Tied (setting (ltb C) (fedAs s) cs l u v) (settingRuns C s cs l u v)
+unfolding setting settingRuns
+tied-setting C s cs l u v =
+    tied-changed C s cs (setRange (firstAllowed l) (extent l u) v (positionsOf (fedAs s))) (setRuns size (firstAllowed l) (extent l u) v (runsOf s))
     (set-positions (firstAllowed l) (extent l u) v (runsOf s) (runsOf-canon s) ∙ ap (λ Q. bounded (setRange (firstAllowed l) (extent l u) v Q)) (sym (runsOf-positions s)))
     (setRuns-canon size (firstAllowed l) (extent l u) v (runsOf s) (runsOf-canon s))
-calc-tied C s (flip l u) =
-    tied-change C s [] (flipRange (firstAllowed l) (extent l u) (positionsOf (fedAs s))) (flipRuns size (firstAllowed l) (extent l u) (runsOf s)) done done refl
+
+tied-flipping : (C : ℕ) (s : Given) (cs : List Condition) (l u : Bound) → Tied (flipping (ltb C) (fedAs s) cs l u) (flippingRuns C s cs l u)
+unfolding flipping flippingRuns
+tied-flipping C s cs l u =
+    tied-change C s cs (flipRange (firstAllowed l) (extent l u) (positionsOf (fedAs s))) (flipRuns size (firstAllowed l) (extent l u) (runsOf s)) done done refl
     (flip-positions (firstAllowed l) (extent l u) (runsOf s) (runsOf-canon s) ∙ ap (λ Q. bounded (flipRange (firstAllowed l) (extent l u) Q)) (sym (runsOf-positions s)))
     (flip-canon size (firstAllowed l) (extent l u) (runsOf s) (runsOf-canon s))
+
+tied-tallying : (s : Given) (cs : List Condition) (l u : Bound) (v : Bool) → Tied (tallying (fedAs s) cs l u v) (tallyingRuns s cs l u v)
+unfolding tallying tallyingRuns P rs Positions.runCount
+tied-tallying s cs l u v =
+    tied-report s cs
+    (tallied (Positions.count (positionsOf (fedAs s)) v (firstAllowed l) (extent l u)) (Positions.runCount (positionsOf (fedAs s)) v (firstAllowed l) (extent l u)))
+    (tallied (widths (clipped v (firstAllowed l) (extent l u) (runsOf s))) (length (clipped v (firstAllowed l) (extent l u) (runsOf s))))
+    (ap₂ tallied (count-runs (positionsOf (fedAs s)) v (firstAllowed l) (extent l u) ∙ ap widths (in-range s v (firstAllowed l) (extent l u)))
+    (ap length (in-range s v (firstAllowed l) (extent l u))))
+
+-- every call, computed on run lists, is the plain model's
+pub calc-tied : (C : ℕ) (s : Given) (c : Call Given) → Tied (serve (ltb C) (fedAs s) (feed fedAs c)) (calc C s c)
+unfolding serve calc P rs remaining remainingRuns Positions.runAt fillOf
+calc-tied C s (set l u v) = tied-setting C s [] l u v
+calc-tied C s (flip l u) = tied-flipping C s [] l u
 calc-tied C s (get x) =
     tied-report s [] (value (positionsOf (fedAs s) x)) (value (mem (runsOf s) x)) (ap (λ (Q : Positions). value (Q x)) (runsOf-positions s))
 calc-tied C s (runAt x) =
@@ -482,12 +516,7 @@ calc-tied C s (runAt x) =
 calc-tied C s (find l u v) =
     tied-report s [] (position (Positions.find (positionsOf (fedAs s)) v (firstAllowed l) (extent l u))) (position (startOf (firstRun (clipped v (firstAllowed l) (extent l u) (runsOf s)))))
     (ap position (find-runs (positionsOf (fedAs s)) v (firstAllowed l) (extent l u) ∙ ap (λ ss. startOf (firstRun ss)) (in-range s v (firstAllowed l) (extent l u))))
-calc-tied C s (tally l u v) =
-    tied-report s []
-    (tallied (Positions.count (positionsOf (fedAs s)) v (firstAllowed l) (extent l u)) (Positions.runCount (positionsOf (fedAs s)) v (firstAllowed l) (extent l u)))
-    (tallied (widths (clipped v (firstAllowed l) (extent l u) (runsOf s))) (length (clipped v (firstAllowed l) (extent l u) (runsOf s))))
-    (ap₂ tallied (count-runs (positionsOf (fedAs s)) v (firstAllowed l) (extent l u) ∙ ap widths (in-range s v (firstAllowed l) (extent l u)))
-    (ap length (in-range s v (firstAllowed l) (extent l u))))
+calc-tied C s (tally l u v) = tied-tallying s [] l u v
 calc-tied C s (select l u v k) =
     tied-report s [] (position (Positions.select (positionsOf (fedAs s)) v (firstAllowed l) (extent l u) k)) (position (selectRuns (clipped v (firstAllowed l) (extent l u) (runsOf s)) k))
     (ap position (select-runs (positionsOf (fedAs s)) v (firstAllowed l) (extent l u) k ∙ ap (λ ss. selectRuns ss k) (in-range s v (firstAllowed l) (extent l u))))
@@ -536,3 +565,6 @@ calc-tied C s (writeMap base n out) =
 calc-tied C s (fill base n) =
     tied-report s (window when badWindow base n ∷ []) (number (fillOf (positionsOf (fedAs s)) base n)) (number ((1000 * widths (clipped true base n (runsOf s)) + (n - 1)) / n))
     (ap (λ k. number ((1000 * k + (n - 1)) / n)) (count-runs (positionsOf (fedAs s)) true base n ∙ ap widths (in-range s true base n)))
+calc-tied C s (setStrict l u v) = tied-setting C s (strict l u) l u v
+calc-tied C s (flipStrict l u) = tied-flipping C s (strict l u) l u
+calc-tied C s (tallyStrict l u v) = tied-tallying s (strict l u) l u v

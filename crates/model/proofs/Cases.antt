@@ -68,6 +68,9 @@ use Rattle.model.proofs.Calc.{
   fatesRuns,
   changedRuns,
   remainingRuns,
+  settingRuns,
+  flippingRuns,
+  tallyingRuns,
   calc,
   calc-tied,
   mem-empty,
@@ -144,7 +147,7 @@ rows-hold [] e = tt
 rows-hold (c ∷ cs) e = (row-holds c (ap (first (computed c)) e), rows-hold cs (ap rest e))
 
 table-computes : map computed table ≡ map expected table
-unfolding table shown left calc reportRuns changeRuns writeRuns mendRuns unionAt fatesRuns another changedRuns remainingRuns fedAs runsOf union mapRuns someBit clipped clip
+unfolding table shown left calc reportRuns changeRuns writeRuns mendRuns unionAt fatesRuns another changedRuns remainingRuns settingRuns flippingRuns tallyingRuns fedAs runsOf union mapRuns someBit clipped clip
     setRuns onRange setTo insert clear combineRuns andRuns orRuns xorRuns minusRuns setAll flipRuns inverted complementRuns shiftRuns shiftLeftRuns
     shiftRightRuns widths mem selectRuns firstLong drawnFirst drawnLast pastFirst pastLast bigEndian valueFrom valueOf encodeRuns column columnsFrom columns encode
     runsDue editionOf decodeRuns runsTold decode bits bytesFrom mapOf mapBit intoFront badWindow badMap tooShort badLength badVersion orderedFrom disordered noRoom

@@ -11,8 +11,9 @@ use lib.Dec.{ltb}
 use borrow.Author.Tests.{lt-ltb, le-ltb}
 use Rattle.model.proofs.Numbers.{split}
 use Rattle.model.specs.Positions.{Positions}
-use Rattle.model.specs.Call.{Fed, unopened, holding, Call, fill, PoolCall, at, Answer, refused}
-use Rattle.model.specs.Model.{positionsOf, report, serve}
+use Rattle.model.specs.declared.Bound.{Bound}
+use Rattle.model.specs.Call.{Fed, unopened, holding, Call, fill, tallyStrict, PoolCall, at, Answer, refused}
+use Rattle.model.specs.Model.{positionsOf, report, tallying, serve}
 use Rattle.model.specs.Pools.{
   PlainWorld,
   worldOf,
@@ -39,6 +40,11 @@ use Rattle.model.specs.Pools.{
 pub unopened-first : (full : ℕ → Bool) (base n : ℕ) → (serve full unopened (fill base n)) .answer ≡ refused 12
 unfolding serve report
 unopened-first full base n = refl
+
+-- and before the range of a strict call is
+pub unopened-strict : (full : ℕ → Bool) (l u : Bound) (v : Bool) → (serve full unopened (tallyStrict l u v)) .answer ≡ refused 12
+unfolding serve tallying report
+unopened-strict full l u v = refl
 
 -- ---- refusal 8
 -- the two conditions of the ticket are one, where the floor fits beside what the others claim

@@ -12,8 +12,9 @@ use Rattle.model.specs.declared.Bound.{Bound}
 use Rattle.model.specs.declared.Bound.the-variants.{Included, Excluded, Unbounded}
 use Rattle.model.specs.declared.Edge.{Edge}
 use Rattle.model.specs.declared.Edge.the-variants.{At, Nowhere}
-use Rattle.model.specs.declared.Span.the-variants.{Empty, Closed}
-use Rattle.model.specs.Range.{firstAllowed, pastAllowed, extent, edgeAt, firstEdge, edgeBefore, lastEdge, spanOf, Last}
+use Rattle.model.specs.declared.Span.{Span}
+use Rattle.model.specs.declared.Span.the-variants.{Empty, Reversed, Closed}
+use Rattle.model.specs.Range.{firstAllowed, pastAllowed, extent, edgeAt, firstEdge, edgeBefore, lastEdge, reversed, spanOf, First, Last}
 
 -- which positions satisfy a lower and an upper bound
 abbrev pub lowerAllows : Bound → ℕ → Bool
@@ -36,17 +37,17 @@ before-some : (x : ℕ) → 0 < x → edgeBefore x ≡ At (x - 1)
 before-some x h = rw (lt-ltb 0 x h)
 
 -- what `first_of` and `last_of` promise
-pub first-included : (l : Bound) (v : ℕ) → l ≡ Included v → v < size → At v ≡ firstEdge l
-first-included l v e h = sym (ap firstEdge e ∙ edge-in v h)
+pub first-included : (l : Bound) (v : ℕ) → l ≡ Included v → v < size → First l (At v)
+first-included l v e h = record { edge = sym (ap firstEdge e ∙ edge-in v h); within = omega (arith, ap firstAllowed e) }
 
-pub first-excluded : (l : Bound) (v : ℕ) → l ≡ Excluded v → v + 1 < size → At (v + 1) ≡ firstEdge l
-first-excluded l v e h = sym (ap firstEdge e ∙ edge-in (v + 1) h)
+pub first-excluded : (l : Bound) (v : ℕ) → l ≡ Excluded v → v + 1 < size → First l (At (v + 1))
+first-excluded l v e h = record { edge = sym (ap firstEdge e ∙ edge-in (v + 1) h); within = omega (arith, ap firstAllowed e) }
 
-pub first-nowhere : (l : Bound) (v : ℕ) → l ≡ Excluded v → size ≤ v + 1 → Nowhere ≡ firstEdge l
-first-nowhere l v e h = sym (ap firstEdge e ∙ edge-out (v + 1) h)
+pub first-nowhere : (l : Bound) (v : ℕ) → l ≡ Excluded v → v + 1 ≡ size → First l Nowhere
+first-nowhere l v e h = record { edge = sym (ap firstEdge e ∙ edge-out (v + 1) (omega arith)); within = omega (arith, ap firstAllowed e) }
 
-pub first-unbounded : (l : Bound) → l ≡ Unbounded → At 0 ≡ firstEdge l
-first-unbounded l e = sym (ap firstEdge e)
+pub first-unbounded : (l : Bound) → l ≡ Unbounded → First l (At 0)
+first-unbounded l e = record { edge = sym (ap firstEdge e); within = omega (arith, ap firstAllowed e) }
 
 pub last-included : (u : Bound) (v : ℕ) → u ≡ Included v → v < size → Last u (At v)
 last-included u v e h = record {
@@ -92,24 +93,44 @@ before-nowhere x e = go (ltb 0 x) refl e
     go true p q = let z : _≡_ {A = ℕ} 0 1 = cc in absurd (omega arith)
     go false p q = omega (arith, ltb-false 0 x p)
 
-pub span-empty : (l u : Bound) → pastAllowed u ≤ firstAllowed l → Empty ≡ spanOf l u
-span-empty l u h = sym (rw (le-ltb (firstAllowed l) (pastAllowed u) h))
+pub first-at : (l : Bound) (r : Edge) (a : ℕ) → First l r → r ≡ At a → firstAllowed l ≡ a
+first-at l r a f e = edge-at (firstAllowed l) a (sym (f .edge) ∙ e)
 
-pub span-closed : (l u : Bound) (a b : ℕ) → At a ≡ firstEdge l → At b ≡ lastEdge u → a ≤ b → Closed a b ≡ spanOf l u
-span-closed l u a b e f h =
-    let p : firstAllowed l ≡ a = edge-at (firstAllowed l) a (sym e) in
-    let q : pastAllowed u ≡ b + 1 = before-at (pastAllowed u) b (sym f) in
-    sym (rw (lt-ltb (firstAllowed l) (pastAllowed u) (omega arith)) (ap₂ Closed p (omega arith)))
+pub first-past : (l : Bound) (r : Edge) → First l r → r ≡ Nowhere → firstAllowed l ≡ size
+first-past l r f e = omega (arith, edge-nowhere (firstAllowed l) (sym (f .edge) ∙ e), f .within)
 
-pub span-reversed : (l u : Bound) (a b : ℕ) → At a ≡ firstEdge l → At b ≡ lastEdge u → b < a → Empty ≡ spanOf l u
-span-reversed l u a b e f h =
-    span-empty l u (omega (arith, edge-at (firstAllowed l) a (sym e), before-at (pastAllowed u) b (sym f)))
+pub last-at : (u : Bound) (r : Edge) (b : ℕ) → Last u r → r ≡ At b → pastAllowed u ≡ b + 1
+last-at u r b f e = before-at (pastAllowed u) b (sym (f .edge) ∙ e)
 
-pub span-no-first : (l u : Bound) (r : Edge) → Nowhere ≡ firstEdge l → Last u r → Empty ≡ spanOf l u
-span-no-first l u r e h = span-empty l u (omega (arith, edge-nowhere (firstAllowed l) (sym e), h .within))
+pub last-none : (u : Bound) (r : Edge) → Last u r → r ≡ Nowhere → pastAllowed u ≡ 0
+last-none u r f e = before-nowhere (pastAllowed u) (sym (f .edge) ∙ e)
 
-pub span-no-last : (l u : Bound) → Nowhere ≡ lastEdge u → Empty ≡ spanOf l u
-span-no-last l u e = span-empty l u (omega (arith, before-nowhere (pastAllowed u) (sym e)))
+-- what the range then is
+pub span-reversed : (l u : Bound) → pastAllowed u < firstAllowed l → Reversed ≡ spanOf l u
+span-reversed l u h = sym (rw (lt-ltb (pastAllowed u) (firstAllowed l) h))
+
+pub span-empty : (l u : Bound) → firstAllowed l ≡ pastAllowed u → Empty ≡ spanOf l u
+span-empty l u h =
+    sym (rw (le-ltb (firstAllowed l) (pastAllowed u) (omega arith), le-ltb (pastAllowed u) (firstAllowed l) (omega arith)))
+
+pub span-closed : (l u : Bound) (a b : ℕ) → firstAllowed l ≡ a → pastAllowed u ≡ b + 1 → a ≤ b → Closed a b ≡ spanOf l u
+span-closed l u a b p q h =
+    sym
+    (rw (le-ltb (pastAllowed u) (firstAllowed l) (omega arith), lt-ltb (firstAllowed l) (pastAllowed u) (omega arith)) (ap₂ Closed p (omega arith)))
+
+-- whether a range as it is answered is a reversed one
+abbrev pub isReversed : Span → Bool
+isReversed Empty = false
+isReversed Reversed = true
+isReversed (Closed a b) = false
+
+pub span-tells : (l u : Bound) → isReversed (spanOf l u) ≡ reversed l u
+span-tells l u = go (reversed l u) (ltb (firstAllowed l) (pastAllowed u))
+  where
+    go : (r c : Bool) → isReversed (cond r Reversed (cond c (Closed (firstAllowed l) (pastAllowed u - 1)) Empty)) ≡ r
+    go true c = refl
+    go false true = refl
+    go false false = refl
 
 -- the `extent` positions from `firstAllowed` on are those that satisfy both bounds
 first-allows : (l : Bound) (x : ℕ) → leb (firstAllowed l) x ≡ lowerAllows l x

@@ -61,7 +61,8 @@ pub fn deepest(store: &[u64], line: &[u8], at: usize) -> bool {
 }
 
 // ---- changes
-fn set(store: &mut [u64], world: u64, line: &[u8], at: usize) -> bool {
+// Sets of a range, strict or not.
+fn set(store: &mut [u64], world: u64, line: &[u8], at: usize, strict: bool) -> bool {
     let lower = line::bound_at(line, at);
     let upper = line::bound_at(line, lower.next);
     let value = line::flag_at(line, upper.next);
@@ -70,11 +71,16 @@ fn set(store: &mut [u64], world: u64, line: &[u8], at: usize) -> bool {
     }
     let a = lower.bound;
     let b = upper.bound;
-    answer::counted(change::set(store, world, a, b, value.value));
+    if strict {
+        answer::counted(change::set_strict(store, world, a, b, value.value));
+    } else {
+        answer::counted(change::set(store, world, a, b, value.value));
+    }
     true
 }
 
-fn flip(store: &mut [u64], world: u64, line: &[u8], at: usize) -> bool {
+// Flips of a range, strict or not.
+fn flip(store: &mut [u64], world: u64, line: &[u8], at: usize, strict: bool) -> bool {
     let lower = line::bound_at(line, at);
     let upper = line::bound_at(line, lower.next);
     if upper.next != line.len() {
@@ -82,7 +88,11 @@ fn flip(store: &mut [u64], world: u64, line: &[u8], at: usize) -> bool {
     }
     let a = lower.bound;
     let b = upper.bound;
-    answer::completed(change::flip(store, world, a, b));
+    if strict {
+        answer::completed(change::flip_strict(store, world, a, b));
+    } else {
+        answer::completed(change::flip(store, world, a, b));
+    }
     true
 }
 
@@ -245,7 +255,8 @@ fn find(store: &[u64], world: u64, line: &[u8], at: usize) -> bool {
     true
 }
 
-fn tally(store: &[u64], world: u64, line: &[u8], at: usize) -> bool {
+// Tallies of a range, strict or not.
+fn tally(store: &[u64], world: u64, line: &[u8], at: usize, strict: bool) -> bool {
     let lower = line::bound_at(line, at);
     let upper = line::bound_at(line, lower.next);
     let value = line::flag_at(line, upper.next);
@@ -254,7 +265,11 @@ fn tally(store: &[u64], world: u64, line: &[u8], at: usize) -> bool {
     }
     let a = lower.bound;
     let b = upper.bound;
-    answer::tallied(report::tally(store, world, a, b, value.value));
+    if strict {
+        answer::tallied(report::tally_strict(store, world, a, b, value.value));
+    } else {
+        answer::tallied(report::tally(store, world, a, b, value.value));
+    }
     true
 }
 
@@ -387,7 +402,10 @@ fn report_named(store: &[u64], world: u64, name: &[u8], line: &[u8], at: usize) 
         return find(store, world, line, at);
     }
     if check::same(name, b"tally") {
-        return tally(store, world, line, at);
+        return tally(store, world, line, at, false);
+    }
+    if check::same(name, b"tally_strict") {
+        return tally(store, world, line, at, true);
     }
     if check::same(name, b"select") {
         return select(store, world, line, at);
@@ -419,10 +437,16 @@ fn report_named(store: &[u64], world: u64, name: &[u8], line: &[u8], at: usize) 
 // The call that a name means at a world.
 pub fn call_named(store: &mut [u64], world: u64, name: &[u8], line: &[u8], at: usize) -> bool {
     if check::same(name, b"set") {
-        return set(store, world, line, at);
+        return set(store, world, line, at, false);
+    }
+    if check::same(name, b"set_strict") {
+        return set(store, world, line, at, true);
     }
     if check::same(name, b"flip") {
-        return flip(store, world, line, at);
+        return flip(store, world, line, at, false);
+    }
+    if check::same(name, b"flip_strict") {
+        return flip(store, world, line, at, true);
     }
     if check::same(name, b"shift") {
         return shift(store, world, line, at);

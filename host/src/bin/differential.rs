@@ -3,6 +3,7 @@
 
 use std::process::ExitCode;
 
+use vizturel::Refusal;
 use vizturel::differential::{self, Options};
 
 const USAGE: &str = "usage: differential [--calls N] [--seed S] [--stride K]
@@ -33,8 +34,8 @@ fn main() -> ExitCode {
     println!("seed {}, {} random calls, stride {}", options.seed, options.calls, options.stride);
     match differential::run(options) {
         Ok(score) => {
-            for (number, count) in score.refused.iter().enumerate().skip(1) {
-                println!("refused with {number}: {count}");
+            for number in Refusal::ALL.map(Refusal::number) {
+                println!("refused with {number}: {}", score.refused[number as usize]);
             }
             println!("in frames: {}", score.listed);
             println!("on maps, each by words and by single bytes: {}", score.mapped);

@@ -85,6 +85,20 @@ pub enum Call {
         range: Range,
         value: bool,
     },
+    SetStrict {
+        at: Place,
+        range: Range,
+        value: bool,
+    },
+    FlipStrict {
+        at: Place,
+        range: Range,
+    },
+    TallyStrict {
+        at: Place,
+        range: Range,
+        value: bool,
+    },
     Select {
         at: Place,
         range: Range,
@@ -196,9 +210,12 @@ impl Call {
         match *self {
             Call::New { to, .. } => Some(to),
             Call::Frame { at, .. } => Some(at),
-            Call::Set { at, .. } | Call::Flip { at, .. } | Call::Shift { at, .. } | Call::ReadMap { at, .. } => {
-                Some(at.store)
-            }
+            Call::Set { at, .. }
+            | Call::Flip { at, .. }
+            | Call::SetStrict { at, .. }
+            | Call::FlipStrict { at, .. }
+            | Call::Shift { at, .. }
+            | Call::ReadMap { at, .. } => Some(at.store),
             Call::Combine { to, .. }
             | Call::Not { to, .. }
             | Call::Shifted { to, .. }
@@ -250,6 +267,22 @@ pub const STALE_WORD: u64 = u64::from_ne_bytes([STALE; 8]);
 /// Whether a draw of a listing drawn to its end is from the back.
 pub fn from_back(backs: u64, draw: usize) -> bool {
     backs >> (draw % 64) & 1 == 1
+}
+
+/// Whether a range is reversed. With s the first position that the lower bound allows, possibly 2^64, and e the last that the upper one
+/// allows, possibly −1, it is empty if s = e + 1 and reversed if s exceeds e + 1.
+pub fn is_reversed(range: Range) -> bool {
+    let s = match range.0 {
+        Bound::Included(x) => i128::from(x),
+        Bound::Excluded(x) => i128::from(x) + 1,
+        Bound::Unbounded => 0,
+    };
+    let e = match range.1 {
+        Bound::Included(x) => i128::from(x),
+        Bound::Excluded(x) => i128::from(x) - 1,
+        Bound::Unbounded => i128::from(u64::MAX),
+    };
+    s > e + 1
 }
 
 /// The first and the last position of a range.

@@ -23,6 +23,9 @@ pub enum Kind {
     RunAt,
     Find,
     Tally,
+    SetStrict,
+    FlipStrict,
+    TallyStrict,
     Select,
     Gap,
     Ranges,
@@ -44,11 +47,12 @@ pub enum Kind {
 }
 
 /// Every kind but [`Kind::Empty`], which is a build.
-pub const KINDS: [Kind; 26] = [
+pub const KINDS: [Kind; 29] = [
     Kind::Get,
     Kind::RunAt,
     Kind::Find,
     Kind::Tally,
+    Kind::TallyStrict,
     Kind::Select,
     Kind::Gap,
     Kind::Ranges,
@@ -68,6 +72,8 @@ pub const KINDS: [Kind; 26] = [
     Kind::Build,
     Kind::Set,
     Kind::Flip,
+    Kind::SetStrict,
+    Kind::FlipStrict,
     Kind::Shift,
     Kind::ReadMap,
     Kind::New,
@@ -105,6 +111,17 @@ pub fn range(random: &mut Random, runs: &[Run]) -> Range {
     }
     let y = position(random, runs);
     let (x, y) = if random.once_in(8) { (x, y) } else { (x.min(y), x.max(y)) };
+    (bound(random, x), bound(random, y))
+}
+
+// A range for a strict call: often one whose bounds meet or just miss each other, at any position, so that it is empty, reversed, or has one or
+// two positions.
+fn strict_range(random: &mut Random, runs: &[Run]) -> Range {
+    if random.truth() {
+        return range(random, runs);
+    }
+    let x = position(random, runs);
+    let y = x.wrapping_add(random.below(5)).wrapping_sub(2);
     (bound(random, x), bound(random, y))
 }
 
@@ -353,6 +370,9 @@ pub fn call(random: &mut Random, stores: &[Store], kind: Kind, at: Place) -> Cal
         Kind::RunAt => Call::RunAt { at, x: position(random, runs) },
         Kind::Find => Call::Find { at, range: range(random, runs), value },
         Kind::Tally => Call::Tally { at, range: range(random, runs), value },
+        Kind::SetStrict => Call::SetStrict { at, range: strict_range(random, runs), value },
+        Kind::FlipStrict => Call::FlipStrict { at, range: strict_range(random, runs) },
+        Kind::TallyStrict => Call::TallyStrict { at, range: strict_range(random, runs), value },
         Kind::Select => {
             let range = range(random, runs);
             let k = order(random, runs, range, value);
@@ -473,7 +493,7 @@ fn gap_length(random: &mut Random, free: &[Run]) -> u64 {
 }
 
 // What a frame's calls are, those that a world grows by more than once.
-const LISTED: [Kind; 18] = [
+const LISTED: [Kind; 21] = [
     Kind::Empty,
     Kind::Set,
     Kind::Set,
@@ -492,6 +512,9 @@ const LISTED: [Kind; 18] = [
     Kind::Draw,
     Kind::Draw,
     Kind::Fill,
+    Kind::SetStrict,
+    Kind::FlipStrict,
+    Kind::TallyStrict,
 ];
 
 // Any word: often one that means something elsewhere in a record.

@@ -2,7 +2,7 @@
 
 use std::ops::{Bound, RangeInclusive};
 
-use super::calls::{Call, Place, Range, SPARE, STALE, STALE_WORD, Told, ends_of, from_back};
+use super::calls::{Call, Place, Range, SPARE, STALE, STALE_WORD, Told, ends_of, from_back, is_reversed};
 use super::records;
 use super::reference::{self, Limit, Look, Run, World};
 use crate::oracle::IntervalBitSet;
@@ -216,7 +216,16 @@ impl Expected {
         pool.change(world, more, change)
     }
 
-    // The oracle refuses nothing: the order of refusals is 1, 11, 7, 12, 13, 9, 6, 10, 3, 4, 3, 5, 8, 2.
+    // A call on a range that is refused where it is reversed.
+    fn strict(&mut self, at: Place, range: Range, call: Call) -> Answer<Told> {
+        self.read(&[at])?;
+        if is_reversed(range) {
+            return Err(Refusal::RangeReversed);
+        }
+        self.result(&call)
+    }
+
+    // The oracle refuses nothing: the order of refusals is 1, 11, 7, 12, 13, 9, 14, 6, 10, 3, 4, 3, 5, 8, 2.
     fn result(&mut self, call: &Call) -> Answer<Told> {
         match *call {
             Call::Lend { at, ref words } => {
@@ -256,6 +265,10 @@ impl Expected {
                 let runs = p.count_ranges(bounds(range), value) as u64;
                 Ok(Told::Tally(Tally { positions: p.count(bounds(range), value), runs }))
             }
+            // A strict call is the other one, where the range is not reversed.
+            Call::SetStrict { at, range, value } => self.strict(at, range, Call::Set { at, range, value }),
+            Call::FlipStrict { at, range } => self.strict(at, range, Call::Flip { at, range }),
+            Call::TallyStrict { at, range, value } => self.strict(at, range, Call::Tally { at, range, value }),
             Call::Select { at, range, value, k } => {
                 let found = self.set(at)?.select(bounds(range), value, k.into());
                 Ok(Told::Position(found.map(|x| x as u64)))

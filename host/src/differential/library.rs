@@ -60,6 +60,9 @@ impl Library {
             Call::RunAt { at, x } => self.lent(at).run_at(x).map(Told::Run),
             Call::Find { at, range, value } => self.lent(at).find(range, value).map(Told::Position),
             Call::Tally { at, range, value } => self.lent(at).tally(range, value).map(Told::Tally),
+            Call::SetStrict { at, range, value } => self.lent_mut(at).set_strict(range, value).map(Told::Count),
+            Call::FlipStrict { at, range } => self.lent_mut(at).flip_strict(range).map(|()| Told::Done),
+            Call::TallyStrict { at, range, value } => self.lent(at).tally_strict(range, value).map(Told::Tally),
             Call::Select { at, range, value, k } => self.lent(at).select(range, value, k).map(Told::Position),
             Call::Gap { at, range, n } => self.lent(at).gap(range, n).map(Told::Position),
             Call::Ranges { at, range, value, backs } => {

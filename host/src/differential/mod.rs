@@ -88,14 +88,14 @@ pub struct Score {
     pub listed: u64,
     /// How many of them were calls on maps: each is one call here, though the library makes it in both forms.
     pub mapped: u64,
-    /// How many of them were refused, by number.
-    pub refused: [u64; 14],
+    /// How many of them were refused, by number; those that were not stand at 0.
+    pub refused: [u64; 15],
 }
 
 impl Score {
     fn new(progress: bool) -> Score {
         let now = Instant::now();
-        Score { part: "", progress, began: now, told: now, compared: 0, listed: 0, mapped: 0, refused: [0; 14] }
+        Score { part: "", progress, began: now, told: now, compared: 0, listed: 0, mapped: 0, refused: [0; 15] }
     }
 
     fn begin(&mut self, part: &'static str) {

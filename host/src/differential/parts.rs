@@ -48,6 +48,7 @@ fn changes(ranges: &[Range]) -> Vec<Call> {
 fn report(score: &mut Score, s: &mut Sequence, range: Range, value: bool, backs: u64) -> Outcome {
     s.call(score, Call::Find { at: HERE, range, value })?;
     s.call(score, Call::Tally { at: HERE, range, value })?;
+    s.call(score, Call::TallyStrict { at: HERE, range, value })?;
     s.call(score, Call::Ranges { at: HERE, range, value, backs })?;
     for k in [0, 1, HALF - 1, HALF, M - 1, M] {
         s.call(score, Call::Select { at: HERE, range, value, k })?;

@@ -12,7 +12,7 @@ pub const WORDS: usize = 8;
 pub type Record = [u64; WORDS];
 
 /// The greatest number that names a call other than get.
-pub const LAST: u64 = 15;
+pub const LAST: u64 = 18;
 
 /// Numbers below it that name none: such a record asks at a world that no pool has, so that it is refused and not answered as another call.
 pub const WITHDRAWN: [u64; 2] = [7, 9];
@@ -46,6 +46,9 @@ pub fn call_of(store: usize, record: Record) -> Call {
         13 => Call::Fill { at, base: from, n: upto },
         14 => Call::Gap { at, range, n: k },
         15 => Call::Tally { at, range, value },
+        16 => Call::SetStrict { at, range, value },
+        17 => Call::FlipStrict { at, range },
+        18 => Call::TallyStrict { at, range, value },
         _ => Call::Get { at, x: from },
     }
 }
@@ -81,6 +84,9 @@ pub fn record_of(call: &Call) -> Option<Record> {
         Call::Fill { at, base, n } => plain(13, at, base, n, false),
         Call::Gap { at, range, n } => over(14, at, range, false, n),
         Call::Tally { at, range, value } => over(15, at, range, value, 0),
+        Call::SetStrict { at, range, value } => over(16, at, range, value, 0),
+        Call::FlipStrict { at, range } => over(17, at, range, false, 0),
+        Call::TallyStrict { at, range, value } => over(18, at, range, value, 0),
         _ => return None,
     })
 }

@@ -165,6 +165,33 @@ tallied-requires c κs = search needs
 enum-told-14 : tie.Need-enum-told-14
 enum-told-14 c = search needs
 
+set-strict-requires : tie.Need-set-strict-requires
+set-strict-requires c κs = search needs
+
+counted-requires-2 : tie.Need-counted-requires-2
+counted-requires-2 c κs = search needs
+
+enum-told-15 : tie.Need-enum-told-15
+enum-told-15 c = search needs
+
+flip-strict-requires : tie.Need-flip-strict-requires
+flip-strict-requires c κs = search needs
+
+completed-requires-4 : tie.Need-completed-requires-4
+completed-requires-4 c κs = search needs
+
+enum-told-16 : tie.Need-enum-told-16
+enum-told-16 c = search needs
+
+tally-strict-requires : tie.Need-tally-strict-requires
+tally-strict-requires c κs = search needs
+
+tallied-requires-2 : tie.Need-tallied-requires-2
+tallied-requires-2 c κs = search needs
+
+enum-told-17 : tie.Need-enum-told-17
+enum-told-17 c = search needs
+
 get-requires : tie.Need-get-requires
 get-requires c κs = search needs
 
@@ -297,9 +324,38 @@ same-length-14 c = search needs
 
 returns-14 : tie.Need-returns-14
 returns-14 c =
-    let e₁₄ = c .before .before .before in
+    let m = c .before .before .before in
+    let e₁₄ = m .before .before in
     let n = e₁₄ .before .before in
-    answers n Kind.Get (e₁₄ .enum-told14 .given .1) (c .before .get .ensures) (c .tested .ensures)
+    answers n Kind.SetStrict (e₁₄ .enum-told14 .given .1) (between n (λ l u. Call.setStrict l u (truth (start n .args .e .value))) (m .set-strict .ensures)) (c .counted2 .ensures)
+
+same-length-15 : tie.Need-same-length-15
+same-length-15 c = search needs
+
+returns-15 : tie.Need-returns-15
+returns-15 c =
+    let m = c .before .before .before in
+    let e₁₅ = m .before .before in
+    let n = e₁₅ .before .before in
+    answers n Kind.FlipStrict (e₁₅ .enum-told15 .given .1) (between n (λ l u. Call.flipStrict l u) (m .flip-strict .ensures)) (c .completed4 .ensures)
+
+same-length-16 : tie.Need-same-length-16
+same-length-16 c = search needs
+
+returns-16 : tie.Need-returns-16
+returns-16 c =
+    let e₁₆ = c .before .before .before in
+    let n = e₁₆ .before .before in
+    answers n Kind.TallyStrict (e₁₆ .enum-told16 .given .1) (between n (λ l u. Call.tallyStrict l u (truth (start n .args .e .value))) (c .before .tally-strict .ensures)) (c .tallied2 .ensures)
+
+same-length-17 : tie.Need-same-length-17
+same-length-17 c = search needs
+
+returns-17 : tie.Need-returns-17
+returns-17 c =
+    let e₁₇ = c .before .before .before in
+    let n = e₁₇ .before .before in
+    answers n Kind.Get (e₁₇ .enum-told17 .given .1) (c .before .get .ensures) (c .tested .ensures)
 
 pub serve-world-spec : {M : Type 1} → statement M
 serve-world-spec =
@@ -348,6 +404,15 @@ serve-world-spec =
     tally-requires
     tallied-requires
     enum-told-14
+    set-strict-requires
+    counted-requires-2
+    enum-told-15
+    flip-strict-requires
+    completed-requires-4
+    enum-told-16
+    tally-strict-requires
+    tallied-requires-2
+    enum-told-17
     get-requires
     tested-requires
     same-length
@@ -377,4 +442,10 @@ serve-world-spec =
     same-length-13
     returns-13
     same-length-14
-    returns-14)
+    returns-14
+    same-length-15
+    returns-15
+    same-length-16
+    returns-16
+    same-length-17
+    returns-17)

@@ -7,10 +7,37 @@ use crate::differential::calls::Place;
 // No bound, and each position included and excluded.
 fn every_bound(positions: &[u64]) -> Vec<String> {
     let mut all = vec!["u".to_string()];
-    for x in positions {
-        all.extend([format!("i{x}"), format!("e{x}")]);
-    }
+    all.extend(positions.iter().copied().flat_map(each));
     all
+}
+
+fn each(x: u64) -> [String; 2] {
+    [format!("i{x}"), format!("e{x}")]
+}
+
+// Ranges whose bounds meet or just miss each other, at 0, in the middle and at M: empty, reversed, or of one position.
+fn strict(list: &mut List) {
+    list.say("new 1 1 0 4\nset 1/0 i2 i9 1");
+    for x in [0, 5, HALF, M] {
+        let bounds: Vec<String> = [x.saturating_sub(1), x, x.saturating_add(1)].into_iter().flat_map(each).collect();
+        for (lower, upper) in bounds.iter().flat_map(|l| bounds.iter().map(move |u| (l, u))) {
+            list.say(&format!("tally_strict 1/0 {lower} {upper} 0"));
+        }
+    }
+    list.say(&format!(
+        "set_strict 1/0 e5 e5 0
+        set_strict 1/0 e5 e6 0
+        set_strict 1/0 i5 e5 0
+        set_strict 1/0 e{M} u 1
+        set_strict 1/0 e{M} i{} 1
+        set_strict 1/0 u e0 1
+        set_strict 1/0 i1 e0 1
+        flip_strict 1/0 i9 i2
+        flip_strict 1/0 i9 i8
+        flip_strict 1/0 i5 i6
+        tally 1/0 u u 1",
+        M - 1
+    ));
 }
 
 /// The list.
@@ -35,10 +62,16 @@ pub fn list() -> List {
             select {s} {range} {v} {k}
             set 1/0 {range} {}
             flip 1/0 {range}
+            tally 1/0 u u 1
+            tally_strict {s} {range} {v}
+            set_strict 1/0 {range} {}
+            flip_strict 1/0 {range}
             tally 1/0 u u 1",
-            i / 3 % 2
+            i / 3 % 2,
+            i / 5 % 2
         ));
     }
+    strict(&mut list);
     for x in [0, 1, 2, HALF - 2, HALF - 1, HALF, HALF + 1, HALF + 2, M - 1, M] {
         list.say(&format!("get 0/0 {x}\nrun_at 0/0 {x}\nrun_at 0/1 {x}\nrun_at 0/2 {x}"));
     }

@@ -77,7 +77,16 @@ fn every_kind(world: u64) -> Vec<Record> {
         set AT i1 i{} 0
         shift AT 1 1
         set AT e{M} u 1
-        tally AT u u 1",
+        tally AT u u 1
+        set_strict AT i3 i2 0
+        set_strict AT i3 i1 0
+        flip_strict AT e5 e5
+        flip_strict AT e5 e6
+        tally_strict AT e{M} i{M} 1
+        tally_strict AT e{M} e{M} 1
+        set_strict AT i2 i8 0
+        flip_strict AT i4 i6
+        tally_strict AT i1 i9 1",
         M - 1
     );
     of(&lines.replace("AT", &format!("0/{world}")))
@@ -87,7 +96,7 @@ fn every_kind(world: u64) -> Vec<Record> {
 fn odd_records() -> Vec<Record> {
     let mut all = Vec::new();
     // Numbers that name no call, each with the words of a set that would change something.
-    for number in [0, 16, 17, 18, 255, 258, (1 << 32) + 2, HALF + 2, M] {
+    for number in [0, 19, 20, 21, 255, 258, (1 << 32) + 2, HALF + 2, M] {
         all.push([number, 1, 7, 1, 9, 0, 0, 0]);
     }
     // Withdrawn ones, at a world that is opened and at others: 12, and nothing else is told.

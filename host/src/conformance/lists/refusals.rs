@@ -14,6 +14,9 @@ fn calls(s: &str, t: &str, u: &str) -> String {
     format!(
         "set {s} i4 e6 1
         flip {s} i4 e6
+        set_strict {s} i4 e6 1
+        flip_strict {s} i4 e6
+        tally_strict {s} u u 1
         get {s} 5
         run_at {s} 5
         find {s} u u 1
@@ -78,6 +81,9 @@ const WRONG: &str = "
     write_map AT 0 0 0
     write_map AT 0 8 0
     gap AT u u 0
+    set_strict AT i6 i4 0
+    flip_strict AT i6 i4
+    tally_strict AT i6 i4 0
     set AT i4 e6 0";
 
 // What a world is before a call: in a store of no capacity, in one that is not sound, not opened, or there.
@@ -183,6 +189,15 @@ pub fn list() -> List {
         gap 1/0 u u 0
         gap 1/0 i4 e4 0
         gap 1/0 i2 i7 1
+        # 14, and 8 of a range that is not reversed
+        set_strict 1/0 i6 i4 0
+        set_strict 1/0 i6 i5 0
+        set_strict 1/0 i5 i5 0
+        flip_strict 1/0 i6 i4
+        flip_strict 1/0 i6 i5
+        flip_strict 1/0 i5 i5
+        tally_strict 1/0 i6 i4 0
+        tally_strict 1/0 i6 i5 0
         # 10, after 6 and before 8
         read_map 1/0 0 7 ff
         read_map 1/0 0 7 80

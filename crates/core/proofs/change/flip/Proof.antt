@@ -1,4 +1,4 @@
--- `flip` meets its contract: the range is inverted from its first position to its last, an empty one changes nothing. Assumes nothing.
+-- `flip` meets its contract: the range is inverted from its first position to its last, an empty or reversed one changes nothing. Assumes nothing.
 use mathlib.Core.Path.{refl}
 use Rattle.core.proofs.Spans.{Within, span-none, span-some}
 use Rattle.core.proofs.Doors.{nodes-there, lent-editable}
@@ -30,9 +30,6 @@ within r = span-some (start r .args .lower) (start r .args .upper) _ (r .before 
 normalize-requires : tie.Need-normalize-requires
 normalize-requires c κs = search needs
 
-enum-told : tie.Need-enum-told
-enum-told c = search needs
-
 enum-known-s : tie.Need-enum-known-s
 enum-known-s c = search needs
 
@@ -57,8 +54,8 @@ flip-requires c κs =
     let l = limited o in
     (lent-editable (o .«open» .ensures) (l .allowance .ensures), (within (ranged l)) .order)
 
-enum-told-2 : tie.Need-enum-told-2
-enum-told-2 c = search needs
+enum-told : tie.Need-enum-told
+enum-told c = search needs
 
 enum-known-e : tie.Need-enum-known-e
 enum-known-e c = search needs
@@ -72,8 +69,8 @@ close-requires c κs =
 
 returns : tie.Need-returns
 returns c =
-    let s = c .before .before .before .before in
-    let e = span-none (s .args .lower) (s .args .upper) _ (c .before .before .normalize .ensures) (c .enum-told .given .1) in
+    let s = c .before .before .before in
+    let e = span-none (s .args .lower) (s .args .upper) _ (c .before .normalize .ensures) (c .match .keys1) in
     left-so (flip-says _ _ _ _) (s .pre) refl (flip-none _ _ _ e) refl
 
 same-length : tie.Need-same-length
@@ -85,7 +82,7 @@ returns-2 c =
     let o = opened s in
     let l = limited o in
     fit-full (flip-says _ _ _ _) refl (start (ranged l) .pre) (o .«open» .ensures) (flip-within (within (ranged l)) (o .«open» .ensures)) (l .allowance .ensures)
-    _ _ (s .flip .ensures) (c .enum-told2 .given .1)
+    _ _ (s .flip .ensures) (c .enum-told .given .1)
 
 same-length-2 : tie.Need-same-length-2
 same-length-2 c = search needs
@@ -105,7 +102,6 @@ flip-spec =
     tie.close
     (tie.spec
     normalize-requires
-    enum-told
     enum-known-s
     allowance-requires
     open-requires
@@ -113,7 +109,7 @@ flip-spec =
     part-flip-start
     part-flip-end
     flip-requires
-    enum-told-2
+    enum-told
     enum-known-e
     close-requires
     returns

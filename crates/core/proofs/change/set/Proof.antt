@@ -1,4 +1,4 @@
--- `set` meets its contract: the range is set from its first position to its last, an empty one changes nothing. Assumes nothing.
+-- `set` meets its contract: the range is set from its first position to its last, an empty or reversed one changes nothing. Assumes nothing.
 use mathlib.Core.Path.{refl, ap}
 use Rattle.model.specs.Call.{number}
 use Rattle.core.proofs.Spans.{Within, span-none, span-some}
@@ -31,9 +31,6 @@ within r = span-some (start r .args .lower) (start r .args .upper) _ (r .before 
 normalize-requires : tie.Need-normalize-requires
 normalize-requires c κs = search needs
 
-enum-told : tie.Need-enum-told
-enum-told c = search needs
-
 enum-known-s : tie.Need-enum-known-s
 enum-known-s c = search needs
 
@@ -58,8 +55,8 @@ set-requires c κs =
     let l = limited o in
     (lent-editable (o .«open» .ensures) (l .allowance .ensures), (within (ranged l)) .order)
 
-enum-told-2 : tie.Need-enum-told-2
-enum-told-2 c = search needs
+enum-told : tie.Need-enum-told
+enum-told c = search needs
 
 enum-known-e : tie.Need-enum-known-e
 enum-known-e c = search needs
@@ -73,8 +70,8 @@ close-requires c κs =
 
 returns : tie.Need-returns
 returns c =
-    let s = c .before .before .before .before in
-    let e = span-none (s .args .lower) (s .args .upper) _ (c .before .before .normalize .ensures) (c .enum-told .given .1) in
+    let s = c .before .before .before in
+    let e = span-none (s .args .lower) (s .args .upper) _ (c .before .normalize .ensures) (c .match .keys1) in
     left-so (set-says _ _ _ _ _) (s .pre) refl (set-none _ _ _ e _) (ap number (changes-none _ _ _ _ e))
 
 same-length : tie.Need-same-length
@@ -86,7 +83,7 @@ returns-2 c =
     let o = opened s in
     let l = limited o in
     edit-full (set-says _ _ _ _ _) refl (start (ranged l) .pre) (o .«open» .ensures) (set-within (within (ranged l)) (o .«open» .ensures) _) (l .allowance .ensures)
-    _ _ (s .set .ensures .0) (c .enum-told2 .given .1)
+    _ _ (s .set .ensures .0) (c .enum-told .given .1)
 
 same-length-2 : tie.Need-same-length-2
 same-length-2 c = search needs
@@ -106,7 +103,6 @@ set-spec =
     tie.close
     (tie.spec
     normalize-requires
-    enum-told
     enum-known-s
     allowance-requires
     open-requires
@@ -114,7 +110,7 @@ set-spec =
     part-set-start
     part-set-end
     set-requires
-    enum-told-2
+    enum-told
     enum-known-e
     close-requires
     returns

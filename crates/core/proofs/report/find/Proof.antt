@@ -21,9 +21,6 @@ within r = span-some ((start r) .args .lower) ((start r) .args .upper) _ (r .bef
 normalize-requires : tie.Need-normalize-requires
 normalize-requires c κs = search needs
 
-enum-told : tie.Need-enum-told
-enum-told c = search needs
-
 enum-known-s : tie.Need-enum-known-s
 enum-known-s c = search needs
 
@@ -50,8 +47,8 @@ found-requires c κs = search needs
 
 returns : tie.Need-returns
 returns c =
-    let b = c .before .before .before .before in
-    let e = span-none (b .args .lower) (b .args .upper) _ (c .before .before .normalize .ensures) (c .enum-told .given .1) in
+    let b = c .before .before .before in
+    let e = span-none (b .args .lower) (b .args .upper) _ (c .before .normalize .ensures) (c .match .keys1) in
     met (find-says _ _ _ _ _) (b .pre) refl (ap position (find-nothing _ _ _ _ e))
 
 returns-2 : tie.Need-returns-2
@@ -66,7 +63,6 @@ find-spec =
     tie.close
     (tie.spec
     normalize-requires
-    enum-told
     enum-known-s
     open-requires
     sub-find-in

@@ -1,4 +1,4 @@
--- `gap` meets its contract: a gap of no position is refused, an empty range has none, and of another it is the lowest from the range's first
+-- `gap` meets its contract: a gap of no position is refused, an empty or reversed range has none, and of another it is the lowest from the range's first
 -- position to its last. Assumes nothing.
 use Prim.Native.Nat.{_≤_}
 use mathlib.Core.Path.{ap}
@@ -33,9 +33,6 @@ returns c = refused-by (gap-says _ _ _ _ _) 9 (c .before .before .pre) (gap-refu
 normalize-requires : tie.Need-normalize-requires
 normalize-requires c κs = search needs
 
-enum-told : tie.Need-enum-told
-enum-told c = search needs
-
 enum-known-s : tie.Need-enum-known-s
 enum-known-s c = search needs
 
@@ -62,9 +59,9 @@ found-requires c κs = search needs
 
 returns-2 : tie.Need-returns-2
 returns-2 c =
-    let l = c .before .before .before in
+    let l = c .before .before in
     let b = start l in
-    let e = span-none (b .args .lower) (b .args .upper) _ (c .before .before .normalize .ensures) (c .enum-told .given .1) in
+    let e = span-none (b .args .lower) (b .args .upper) _ (c .before .normalize .ensures) (c .match .keys1) in
     met (gap-says _ _ _ _ _) (b .pre) (gap-passes _ (some l)) (ap position (gap-nothing _ (some l) _ _ _ e))
 
 returns-3 : tie.Need-returns-3
@@ -81,7 +78,6 @@ gap-spec =
     (tie.spec
     returns
     normalize-requires
-    enum-told
     enum-known-s
     open-requires
     sub-lowest-gap

@@ -1,4 +1,4 @@
--- `ranges` meets its contract: a listing has the range's first position and its last; one of an empty range has ended.
+-- `ranges` meets its contract: a listing has the range's first position and its last; one of an empty or reversed range has ended.
 -- Assumes nothing.
 use mathlib.Core.Path.{refl, ap}
 use Rattle.core.proofs.Spans.{span-none, span-some, listed-some, listed-nothing}
@@ -11,16 +11,13 @@ use Rattle.core.proofs.report.ranges.Tie as tie
 normalize-requires : tie.Need-normalize-requires
 normalize-requires c κs = search needs
 
-enum-told : tie.Need-enum-told
-enum-told c = search needs
-
 enum-known-s : tie.Need-enum-known-s
 enum-known-s c = search needs
 
 returns : tie.Need-returns
 returns c =
-    let b = c .before .before .before .before in
-    let e = span-none (b .args .lower) (b .args .upper) _ (c .before .before .normalize .ensures) (c .enum-told .given .1) in
+    let b = c .before .before .before in
+    let e = span-none (b .args .lower) (b .args .upper) _ (c .before .normalize .ensures) (c .match .keys1) in
     met (ranges-says _ _ _ _ _) (b .pre) refl (ap listing (listed-nothing _ _ _ e))
 
 returns-2 : tie.Need-returns-2
@@ -31,4 +28,4 @@ returns-2 c =
     met (ranges-says _ _ _ _ _) (b .pre) refl (ap listing (listed-some W _))
 
 pub ranges-spec : {M : Type 1} → statement M
-ranges-spec = tie.close (tie.spec normalize-requires enum-told enum-known-s returns returns-2)
+ranges-spec = tie.close (tie.spec normalize-requires enum-known-s returns returns-2)

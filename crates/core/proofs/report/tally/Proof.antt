@@ -1,4 +1,4 @@
--- `tally` meets its contract: the tally from the range's first position to its last, 0 and 0 of an empty range.
+-- `tally` meets its contract: the tally from the range's first position to its last, 0 and 0 of an empty or reversed range.
 -- Assumes nothing.
 use mathlib.Core.Path.{refl, ap₂}
 use Rattle.model.specs.Positions.{count, runCount}
@@ -20,9 +20,6 @@ within r = span-some ((start r) .args .lower) ((start r) .args .upper) _ (r .bef
 
 normalize-requires : tie.Need-normalize-requires
 normalize-requires c κs = search needs
-
-enum-told : tie.Need-enum-told
-enum-told c = search needs
 
 enum-known-s : tie.Need-enum-known-s
 enum-known-s c = search needs
@@ -47,8 +44,8 @@ tally-requires c κs =
 
 returns : tie.Need-returns
 returns c =
-    let b = c .before .before .before .before in
-    let e = span-none (b .args .lower) (b .args .upper) _ (c .before .before .normalize .ensures) (c .enum-told .given .1) in
+    let b = c .before .before .before in
+    let e = span-none (b .args .lower) (b .args .upper) _ (c .before .normalize .ensures) (c .match .keys1) in
     met (tally-says _ _ _ _ _) (b .pre) refl (ap₂ tallied (count-nothing _ _ _ _ e) (ranges-nothing _ _ _ _ e))
 
 returns-2 : tie.Need-returns-2
@@ -63,7 +60,6 @@ tally-spec =
     tie.close
     (tie.spec
     normalize-requires
-    enum-told
     enum-known-s
     open-requires
     sub-tally

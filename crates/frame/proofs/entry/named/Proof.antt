@@ -58,27 +58,44 @@ unfolding kindOf
 returns-13 c = sym (ap kindOf (c .if13 .taken))
 
 returns-14 : tie.Need-returns-14
-returns-14 c =
-    let e₁₁ = c .before .before in
-    let e₉ = e₁₁ .before .before in
-    let e₇ = e₉ .before .before in
-    let e₅ = e₇ .before .before in
-    let e₃ = e₅ .before .before in
+unfolding kindOf
+returns-14 c = sym (ap kindOf (c .if14 .taken))
+
+returns-15 : tie.Need-returns-15
+unfolding kindOf
+returns-15 c = sym (ap kindOf (c .if15 .taken))
+
+returns-16 : tie.Need-returns-16
+unfolding kindOf
+returns-16 c = sym (ap kindOf (c .if16 .taken))
+
+returns-17 : tie.Need-returns-17
+returns-17 c =
+    let e₁₄ = c .before .before in
+    let e₁₂ = e₁₄ .before .before in
+    let e₁₀ = e₁₂ .before .before in
+    let e₈ = e₁₀ .before .before in
+    let e₆ = e₈ .before .before in
+    let e₄ = e₆ .before .before in
+    let e₂ = e₄ .before .before in
     other
-    (e₃ .before .before .before .args .n)
-    (e₃ .before .before .if1 .left)
-    (e₃ .before .if2 .left)
-    (e₃ .if3 .left)
-    (e₅ .before .if4 .left)
-    (e₅ .if5 .left)
-    (e₇ .before .if6 .left)
-    (e₇ .if7 .left)
-    (e₉ .before .if8 .left)
-    (e₉ .if9 .left)
-    (e₁₁ .before .if10 .left)
-    (e₁₁ .if11 .left)
-    (c .before .if12 .left)
-    (c .if13 .left)
+    (e₂ .before .before .args .n)
+    (e₂ .before .if1 .left)
+    (e₂ .if2 .left)
+    (e₄ .before .if3 .left)
+    (e₄ .if4 .left)
+    (e₆ .before .if5 .left)
+    (e₆ .if6 .left)
+    (e₈ .before .if7 .left)
+    (e₈ .if8 .left)
+    (e₁₀ .before .if9 .left)
+    (e₁₀ .if10 .left)
+    (e₁₂ .before .if11 .left)
+    (e₁₂ .if12 .left)
+    (e₁₄ .before .if13 .left)
+    (e₁₄ .if14 .left)
+    (c .before .if15 .left)
+    (c .if16 .left)
 
 pub named-spec : {M : Type 1} → statement M
 named-spec =
@@ -97,4 +114,7 @@ named-spec =
     returns-11
     returns-12
     returns-13
-    returns-14)
+    returns-14
+    returns-15
+    returns-16
+    returns-17)
