@@ -1,3 +1,4 @@
+-- `is_reversed` meets its contract: it is what `normalize` reports. Assumes nothing.
 use mathlib.Core.Path.{_≡_, sym, ap, _∙_}
 use Rattle.model.specs.Range.{reversed}
 use Rattle.model.proofs.Range.{isReversed, span-tells}
@@ -9,31 +10,24 @@ use Rattle.model.proofs.is_reversed.Tie as tie
 tells : (c : tie.After-normalize) → isReversed (c .normalize .result) ≡ reversed (c .before .args .lower) (c .before .args .upper)
 tells c = ap isReversed (c .normalize .ensures) ∙ span-tells (c .before .args .lower) (c .before .args .upper)
 
--- src/lib.rt:245:11
 normalize-requires : tie.Need-normalize-requires
 normalize-requires c κs = search needs
 
--- src/lib.rt:246:27
 enum-told : tie.Need-enum-told
 enum-told c = search needs
 
--- src/lib.rt:247:24
 enum-told-2 : tie.Need-enum-told-2
 enum-told-2 c = search needs
 
--- src/lib.rt:248:31
 enum-told-3 : tie.Need-enum-told-3
 enum-told-3 c = search needs
 
--- src/lib.rt:242:1
 returns : tie.Need-returns
 returns c = sym (ap isReversed (c .enum-told .given .1)) ∙ tells (c .before .before)
 
--- src/lib.rt:242:1
 returns-2 : tie.Need-returns-2
 returns-2 c = sym (ap isReversed (c .enum-told2 .given .1)) ∙ tells (c .before .before)
 
--- src/lib.rt:242:1
 returns-3 : tie.Need-returns-3
 returns-3 c = sym (ap isReversed (c .enum-told3 .given .1)) ∙ tells (c .before .before)
 

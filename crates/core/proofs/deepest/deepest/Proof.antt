@@ -14,12 +14,18 @@ use Rattle.core.proofs.Measuring.{good-height, no-height, over-height, 
 use Rattle.core.proofs.deepest.deepest.Statement.{statement}
 use Rattle.core.proofs.deepest.deepest.Tie as tie
 
--- the places: a pool's length, a height that is not 0, one that is not above 22, and how many runs its list has
+-- the places: the length asked, a pool's length, a height that is not 0 nor above 22, and how many runs its list has
+abbrev asked : tie.Else1 → tie.After-of-length
+asked c = c .before .before
+
 abbrev start : tie.Else1 → tie.Start
-start c = c .before .before .before .before .before
+start c = asked c .before .before .before
+
+abbrev some : tie.Else3 → tie.Else2
+some c = c .before
 
 abbrev pool : tie.Else3 → tie.Else1
-pool c = c .before .before
+pool c = some c .before
 
 abbrev counted : tie.Else4 → tie.After-least-runs
 counted c = c .before .before
@@ -29,19 +35,19 @@ tried c = counted c .before
 
 -- what is known there: the capacity is some, the height is good, the list has so many runs, and these fit
 sized : (c : tie.Else1) → 1 ≤ capacity ((start c) .args .words .now)
-sized c = omega (arith, c .if1 .left, c .before .before .of-length .ensures)
+sized c = omega (arith, c .if1 .left, asked c .of-length .ensures)
 
 low : (c : tie.Else3) → (start (pool c)) .args .h ≤ 22
 low c = omega (arith, c .if3 .left)
 
 good : (c : tie.Else3) → badHeight ((start (pool c)) .args .h) ≡ false
-good c = good-height _ (omega (arith, c .before .if2 .left)) (low c)
+good c = good-height _ (omega (arith, some c .if2 .left)) (low c)
 
 many : (c : tie.Else4) → (counted c) .least-runs .result ≡ least ((start (pool (tried c))) .args .h)
 many c = (counted c) .least-runs .ensures
 
 fits : (c : tie.Else4) → least ((start (pool (tried c))) .args .h) ≤ capacity ((start (pool (tried c))) .args .words .now)
-fits c = omega (arith, c .if4 .left, many c, (pool (tried c)) .before .before .of-length .ensures)
+fits c = omega (arith, c .if4 .left, many c, asked (pool (tried c)) .of-length .ensures)
 
 of-length-requires : tie.Need-of-length-requires
 of-length-requires c κs = search needs
@@ -62,7 +68,7 @@ returns-4 : tie.Need-returns-4
 returns-4 c =
     let n = c .before .before in
     let t = n .before in
-    deepest-over _ _ _ (sized (pool t)) (good t) (omega (arith, c .if4 .taken, n .least-runs .ensures, (pool t) .before .before .of-length .ensures))
+    deepest-over _ _ _ (sized (pool t)) (good t) (omega (arith, c .if4 .taken, n .least-runs .ensures, asked (pool t) .of-length .ensures))
 
 mul-due : tie.Need-mul-due
 mul-due c = omega (arith, many c, least-most _ (low (tried c)))
@@ -79,7 +85,7 @@ put-deepest-requires c κs =
     let e = l .before in
     let t = tried e in
     let s = start (pool t) in
-    record { some = omega (arith, t .before .if2 .left); low = low t; many = many e; room = list-fits (s .args .h) (s .args .out .now) (omega (arith, l .if5 .left, many e)) }
+    record { some = omega (arith, some t .if2 .left); low = low t; many = many e; room = list-fits (s .args .h) (s .args .out .now) (omega (arith, l .if5 .left, many e)) }
 
 same-length : tie.Need-same-length
 same-length c = search needs

@@ -14,18 +14,24 @@ Inv-loop h a₀ b₀ i₀ a b i = (i ≤ h) × (a ≡ least i) × (b ≡ least (
 abbrev μ-loop : tie.MeasureT-loop
 μ-loop h a₀ b₀ i₀ a b i = h - i
 
--- where the call started, from a turn of the loop
-abbrev start : tie.In-loop Inv-loop μ-loop → tie.Start Inv-loop μ-loop
-start t = t .before .before
+-- the places: where a turn of the loop began, and where the call started
+abbrev begun : tie.In-loop Inv-loop μ-loop → tie.At-loop Inv-loop μ-loop
+begun t = t .before
 
--- the next number, and that all are few
-next : (t : tie.In-loop Inv-loop μ-loop) → t .before .loop .a + t .before .loop .b + 1 ≡ least (t .before .loop .i + 2)
-next t = let inv = t .before .loop .inv in omega (arith, least-next (t .before .loop .i), inv .1, inv .2)
+abbrev start : tie.At-loop Inv-loop μ-loop → tie.Start Inv-loop μ-loop
+start l = l .before
 
-few : (t : tie.In-loop Inv-loop μ-loop) → t .before .loop .a + t .before .loop .b ≤ 92734
+-- the next number
+next : (l : tie.At-loop Inv-loop μ-loop) → l .loop .a + l .loop .b + 1 ≡ least (l .loop .i + 2)
+next l = omega (arith, least-next (l .loop .i), l .loop .inv .1, l .loop .inv .2)
+
+-- and that all are few
+few : (t : tie.In-loop Inv-loop μ-loop) → (begun t) .loop .a + (begun t) .loop .b ≤ 92734
 few t =
-    let l = t .before in
-    omega (arith, l .loop .inv .1, l .loop .inv .2, least-most (l .loop .i) (omega (arith, l .loop .inv .0, (start t) .pre)), least-most (l .loop .i + 1) (omega (arith, t .loop-test .taken, (start t) .pre)))
+    let l = begun t in
+    let inv = l .loop .inv in
+    let low = (start l) .pre in
+    omega (arith, inv .1, inv .2, least-most (l .loop .i) (omega (arith, inv .0, low)), least-most (l .loop .i + 1) (omega (arith, t .loop-test .taken, low)))
 
 loop-holds : tie.Need-loop-holds Inv-loop μ-loop
 loop-holds c = (omega arith, sym least-none, sym least-one)
@@ -44,14 +50,15 @@ loop-less c = search needs
 
 loop-again : tie.Need-loop-again Inv-loop μ-loop
 loop-again c =
-    let e : c .before .loop .i + 2 ≡ c .before .loop .i + 1 + 1 = omega arith in
-    (omega (arith, c .loop-test .taken), c .before .loop .inv .2, next c ∙ ap least e)
+    let l = begun c in
+    let e : l .loop .i + 2 ≡ l .loop .i + 1 + 1 = omega arith in
+    (omega (arith, c .loop-test .taken), l .loop .inv .2, next l ∙ ap least e)
 
 returns : tie.Need-returns Inv-loop μ-loop
 returns c =
-    let inv = c .before .loop .inv in
-    let all : c .before .loop .i ≡ c .before .before .args .h = omega (arith, inv .0, c .loop-test .left) in
-    inv .1 ∙ ap least all
+    let l = c .before in
+    let all : l .loop .i ≡ (start l) .args .h = omega (arith, l .loop .inv .0, c .loop-test .left) in
+    l .loop .inv .1 ∙ ap least all
 
 pub least-runs-spec : {M : Type 1} → statement M
 least-runs-spec =

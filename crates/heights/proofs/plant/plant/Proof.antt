@@ -4,6 +4,7 @@ use Prim.Native.Nat.{ℕ, _+_, _-_, _*_, _≤_, _<_}
 use mathlib.Core.Path.{_≡_, refl, ap, _∙_}
 use native.Mathlib.Omega.{arith}
 use borrow.Author.Needs.{needs}
+use mathlib.Core.List.{List}
 use lib.ListN.{getD}
 use Rattle.model.specs.Numbers.{size}
 use Rattle.store.specs.Soundness.{Share}
@@ -21,31 +22,43 @@ Inv-loop words₀ limit runs n i₀ at₀ k₀ words i at k =
 abbrev μ-loop : tie.MeasureT-loop
 μ-loop words₀ limit runs n i₀ at₀ k₀ words i at k = n - i
 
--- where the call started, from the loop
+-- the places: where the call started, from the loop; a turn of the loop, from where the run was read, and where it began; and the run set
 abbrev start : tie.At-loop Inv-loop μ-loop → tie.Start Inv-loop μ-loop
 start l = l .before .before .before
 
--- where the loop's test was met, from where the run was read
-abbrev tested : tie.After-set-arg Inv-loop μ-loop → tie.In-loop Inv-loop μ-loop
-tested a = a .before .before .before
+abbrev turn : tie.After-set-arg Inv-loop μ-loop → tie.In-loop Inv-loop μ-loop
+turn a = a .before .before .before
+
+abbrev begun : tie.In-loop Inv-loop μ-loop → tie.At-loop Inv-loop μ-loop
+begun t = t .before
+
+abbrev tried : tie.After-set Inv-loop μ-loop → tie.In-loop Inv-loop μ-loop
+tried r = turn (r .before)
+
+abbrev refused : tie.After-enum-told Inv-loop μ-loop → tie.After-set Inv-loop μ-loop
+refused c = c .before .before .before .before
+
+-- the words of the list
+abbrev told : tie.At-loop Inv-loop μ-loop → List ℕ
+told l = (start l) .args .runs .now
 
 -- how far the loop has come
 here : (l : tie.At-loop Inv-loop μ-loop) → Growing ((start l) .args .words .now) (l .loop .words) ((start l) .pre .0) ((start l) .args .limit) (l .loop .i) (l .loop .k)
 here l = l .loop .inv .2 ((start l) .pre .0) ((start l) .pre .1) .0
 
--- the run that was read: its start is not above its end, which is a position
-pair : (t : tie.In-loop Inv-loop μ-loop) → (getD ((start (t .before)) .args .runs .now) (t .before .loop .at) 0 ≤ getD ((start (t .before)) .args .runs .now) (t .before .loop .at + 1) 0)
-    × (getD ((start (t .before)) .args .runs .now) (t .before .loop .at + 1) 0 < size)
+-- the run that is read: its start is not above its end, which is a position
+pair : (t : tie.In-loop Inv-loop μ-loop)
+    → (getD (told (begun t)) ((begun t) .loop .at) 0 ≤ getD (told (begun t)) ((begun t) .loop .at + 1) 0) × (getD (told (begun t)) ((begun t) .loop .at + 1) 0 < size)
 pair t =
-    let l = t .before in
-    pair-read ((start l) .args .runs .now) ((start l) .args .n) (l .loop .i) (l .loop .at) (l .loop .inv .0) ((start l) .pre .1 .pairs) (t .loop-test .taken)
+    let l = begun t in
+    pair-read (told l) ((start l) .args .n) (l .loop .i) (l .loop .at) (l .loop .inv .0) ((start l) .pre .1 .pairs) (t .loop-test .taken)
 
 -- it stands at twice its place
-at-start : (t : tie.In-loop Inv-loop μ-loop) → getD ((start (t .before)) .args .runs .now) (t .before .loop .at) 0 ≡ getD ((start (t .before)) .args .runs .now) (2 * t .before .loop .i) 0
-at-start t = ap (λ j. getD ((start (t .before)) .args .runs .now) j 0) (t .before .loop .inv .0)
+at-start : (l : tie.At-loop Inv-loop μ-loop) → getD (told l) (l .loop .at) 0 ≡ getD (told l) (2 * l .loop .i) 0
+at-start l = ap (λ j. getD (told l) j 0) (l .loop .inv .0)
 
-at-end : (t : tie.In-loop Inv-loop μ-loop) → getD ((start (t .before)) .args .runs .now) (t .before .loop .at + 1) 0 ≡ getD ((start (t .before)) .args .runs .now) (2 * t .before .loop .i + 1) 0
-at-end t = ap (λ j. getD ((start (t .before)) .args .runs .now) (j + 1) 0) (t .before .loop .inv .0)
+at-end : (l : tie.At-loop Inv-loop μ-loop) → getD (told l) (l .loop .at + 1) 0 ≡ getD (told l) (2 * l .loop .i + 1) 0
+at-end l = ap (λ j. getD (told l) (j + 1) 0) (l .loop .inv .0)
 
 loop-holds : tie.Need-loop-holds Inv-loop μ-loop
 loop-holds c = (search needs, search needs, λ s m. (growing-none m, λ d h. deepening-none (bare-tree m)))
@@ -66,7 +79,7 @@ shared-slice-read-end : tie.Need-shared-slice-read-end Inv-loop μ-loop
 shared-slice-read-end c = search needs
 
 set-requires : tie.Need-set-requires Inv-loop μ-loop
-set-requires c κs = let t = tested c in (((start (t .before)) .pre .0, (here (t .before)) .limited), pair t .0)
+set-requires c κs = let l = begun (turn c) in (((start l) .pre .0, (here l) .limited), pair (turn c) .0)
 
 enum-known-e : tie.Need-enum-known-e Inv-loop μ-loop
 enum-known-e c = search needs
@@ -76,18 +89,19 @@ enum-told c = search needs
 
 same-length : tie.Need-same-length Inv-loop μ-loop
 same-length c =
-    let r = c .before .before .before .before in
-    let t = tested (r .before) in
-    next-refused (here (t .before)) _ _ (pair t .0) (pair t .1) _ _ (r .set .ensures .0) (c .enum-told .given .1) .long
+    let r = refused c in
+    let t = tried r in
+    next-refused (here (begun t)) _ _ (pair t .0) (pair t .1) _ _ (r .set .ensures .0) (c .enum-told .given .1) .long
 
 returns : tie.Need-returns Inv-loop μ-loop
 returns c =
-    let r = c .before .before .before .before in
-    let t = tested (r .before) in
-    let inv = t .before .loop .inv in
+    let r = refused c in
+    let t = tried r in
+    let l = begun t in
+    let inv = l .loop .inv in
     λ s m. (
       next-refused (inv .2 s m .0) _ _ (pair t .0) (pair t .1) _ _ (r .set .ensures .0) (c .enum-told .given .1),
-      λ d h. next-fits h (inv .2 s m .0) (inv .2 s m .1 d h) (t .loop-test .taken) _ _ (at-start t) (at-end t)
+      λ d h. next-fits h (inv .2 s m .0) (inv .2 s m .1 d h) (t .loop-test .taken) _ _ (at-start l) (at-end l)
           (pair t .0) (pair t .1) _ _ (r .set .ensures .0) (c .enum-told .given .1),
     )
 
@@ -102,15 +116,17 @@ loop-less c = search needs
 
 loop-again : tie.Need-loop-again Inv-loop μ-loop
 loop-again c =
-    let r = c .before .before .before .before .before in
-    let t = tested (r .before) in
-    let inv = t .before .loop .inv in (
+    let e = c .before in
+    let r = e .before .before .before .before in
+    let t = tried r in
+    let l = begun t in
+    let inv = l .loop .inv in (
       omega (arith, inv .0),
       omega (arith, t .loop-test .taken),
       λ s m. (
-        growing-more (inv .2 s m .0) _ _ (pair t .0) (pair t .1) _ _ (r .set .ensures .0) (r .set .ensures .1) _ _ (c .before .e .given .1),
-        λ d h. deepening-more h (inv .2 s m .0) (inv .2 s m .1 d h) (t .loop-test .taken) _ _ (at-start t) (at-end t)
-            (pair t .0) (pair t .1) _ _ (r .set .ensures .0) (r .set .ensures .1) _ _ (c .before .e .given .1),
+        growing-more (inv .2 s m .0) _ _ (pair t .0) (pair t .1) _ _ (r .set .ensures .0) (r .set .ensures .1) _ _ (e .e .given .1),
+        λ d h. deepening-more h (inv .2 s m .0) (inv .2 s m .1 d h) (t .loop-test .taken) _ _ (at-start l) (at-end l)
+            (pair t .0) (pair t .1) _ _ (r .set .ensures .0) (r .set .ensures .1) _ _ (e .e .given .1),
       ),
     )
 
@@ -119,8 +135,9 @@ same-length-2 c = here (c .before) .still .long
 
 returns-2 : tie.Need-returns-2 Inv-loop μ-loop
 returns-2 c =
-    let inv = c .before .loop .inv in
-    let all : c .before .loop .i ≡ (start (c .before)) .args .n = omega (arith, inv .1, c .loop-test .left) in
+    let l = c .before in
+    let inv = l .loop .inv in
+    let all : l .loop .i ≡ (start l) .args .n = omega (arith, inv .1, c .loop-test .left) in
     λ s m. (growing-all (inv .2 s m .0) all, λ d h. deepening-all h (inv .2 s m .1 d h) all)
 
 pub plant-spec : {M : Type 1} → statement M
