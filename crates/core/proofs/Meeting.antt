@@ -22,12 +22,12 @@ use Rattle.model.specs.Pools.{worldOf, fedBy, emptyWorlds, PoolOutcome, settleM
 use Rattle.store.specs.declared.World.{World}
 use Rattle.store.specs.Layout.{capacity, openedAt, heldIn, heldBy, worldsOf}
 use Rattle.store.specs.Soundness.{Sound}
-use Rattle.store.specs.Decision.{soundB}
+use Rattle.soundness.specs.Decision.{soundB}
 use Rattle.store.specs.Free.{Emptied}
 use Rattle.store.specs.Settle.{Settled, Openable, Opened}
 use Rattle.store.proofs.Parts.{lent}
 use Rattle.store.proofs.WorldLists.{opened-world, unopened-world}
-use Rattle.store.proofs.Whole.{soundB-no}
+use Rattle.soundness.proofs.Whole.{soundB-no}
 use Rattle.core.specs.Met.{Site, fedOf, outcomeOf, Leaves, Met, madeOf, Made, Readable}
 use Rattle.core.proofs.Doors.{lent-held}
 

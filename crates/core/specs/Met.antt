@@ -16,7 +16,7 @@ use Rattle.model.specs.Call.{Fed, wrongLength, unsound, holding, Call, feed, An
 use Rattle.model.specs.Model.{Outcome, serve}
 use Rattle.model.specs.Pools.{worldOf, fedBy, full, PoolOutcome, makeBy, deepestBy}
 use Rattle.store.specs.Layout.{capacity, heldBy, worldsOf}
-use Rattle.store.specs.Decision.{soundB}
+use Rattle.soundness.specs.Decision.{soundB}
 use Rattle.store.specs.Free.{Emptied}
 use Rattle.store.specs.Settle.{Settled, Openable}
 

@@ -14,8 +14,8 @@ use Rattle.model.specs.Call.{done, refused, gave}
 use Rattle.model.specs.Pools.{answers, after}
 use Rattle.store.specs.Layout.{capacity, worldsOf}
 use Rattle.store.specs.Soundness.{Sound}
-use Rattle.store.specs.Decision.{soundB}
-use Rattle.store.proofs.Whole.{soundB-no}
+use Rattle.soundness.specs.Decision.{soundB}
+use Rattle.soundness.proofs.Whole.{soundB-no}
 use Rattle.interval_bit_set.specs.declared.look.Look.{Look}
 use Rattle.interval_bit_set.specs.Look.{LookedPool}
 use Rattle.interval_bit_set.proofs.Looking.{pool-refused}

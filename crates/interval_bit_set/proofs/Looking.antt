@@ -35,8 +35,8 @@ use Rattle.model.specs.Model.{positionsOf, reads}
 use Rattle.model.specs.Pools.{worldOf, fedBy}
 use Rattle.store.specs.Layout.{capacity, openedAt, worldsOf}
 use Rattle.store.specs.Soundness.{Sound}
-use Rattle.store.specs.Decision.{soundB}
-use Rattle.store.proofs.Whole.{soundB-yes}
+use Rattle.soundness.specs.Decision.{soundB}
+use Rattle.soundness.proofs.Whole.{soundB-yes}
 use Rattle.interval_bit_set.specs.declared.look.Look.{Look}
 use Rattle.core.specs.Met.{Site, poolReads, fedOf, fullAt, Readable, Met}
 use Rattle.core.proofs.Refusing.{looked-first, reads-first}

@@ -37,7 +37,7 @@ pub fn look_at_pool(words: &[u64]) -> Look
     if s.capacity == 0 {
         return Look::Refused(Refusal::StoreLength);
     }
-    if store::soundness::is_sound(words) {
+    if soundness::is_sound(words) {
         return Look::Sound;
     }
     Look::Refused(Refusal::Unsound)

@@ -32,7 +32,7 @@ use Rattle.store.specs.Soundness.{Share}
 use Rattle.store.proofs.Chains.{chain-free, free-low}
 use Rattle.store.proofs.Orders.{Node-in, node-in}
 use Rattle.store.proofs.Reached.{kept-held}
-use Rattle.store.proofs.Tests.{same}
+use Rattle.store.proofs.Truths.{same}
 use Rattle.store.proofs.Turn.{turned-at}
 use Rattle.maps.specs.Painted.{round, shows, shownTo, PaintsRun, PaintsNodes, Scans}
 use Rattle.maps.proofs.Rounds.{turned-inside}

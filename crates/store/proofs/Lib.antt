@@ -17,19 +17,13 @@ pub mod Opening
 pub mod Settling
 pub mod Resetting
 pub mod Replacing
--- What the soundness of a pool means, and how it is decided.
-pub mod Tests
-pub mod Steps
-pub mod Counting
+-- What the soundness of a pool means.
+pub mod Truths
 pub mod Orders
 pub mod Chains
-pub mod Decided
-pub mod Records
+pub mod Hanging
 pub mod Sharing
 pub mod Heights
-pub mod Placed
-pub mod Whole
-pub mod Bounded
 pub mod LogicalRuns
 pub mod Ends
 pub mod Nearby

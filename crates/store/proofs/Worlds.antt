@@ -31,7 +31,7 @@ use Rattle.store.proofs.Turn.{stretches-zero, stretches-turned}
 use Rattle.store.proofs.Nodes.{sized-length}
 use Rattle.store.proofs.Reached.{tree-reached, tree-held}
 use Rattle.store.proofs.Sharing.{others-apart}
-use Rattle.store.proofs.Decided.{Fitting, hangs-index, planted-fits, world-stands}
+use Rattle.store.proofs.Hanging.{Fitting, hangs-index, planted-fits, world-stands}
 
 -- ---- a planted tree
 module _ (w : List ℕ) (k : ℕ) (P : Planted (nodes w) (worldAt w k)) where

@@ -1,7 +1,6 @@
 pub mod Places
 pub mod Layout
 pub mod Soundness
-pub mod Decision
 pub mod Bounds
 pub mod Free
 pub mod Settle

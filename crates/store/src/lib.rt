@@ -14,7 +14,6 @@ pub mod bounds;
 pub mod free;
 pub mod places;
 pub mod refresh;
-pub mod soundness;
 
 // A store, as its length tells of it: the most logical runs that its worlds may hold together.
 pub struct Store {
@@ -89,7 +88,7 @@ pub fn opened(words: &[u64]) -> u64
 }
 
 // The world that record k tells. The record lies where a node k + 1 of the whole slice would.
-fn read_world(words: &[u64], k: u64) -> World
+pub fn read_world(words: &[u64], k: u64) -> World
     requires { ⌜ Room (now words) (k + 1) ⌝ }
     ensures { λ r. ⌜ r ≡ worldAt (now (words .entry)) k ⌝ }
 {

@@ -6,7 +6,7 @@ use native.Mathlib.Omega.{arith}
 use borrow.Author.Needs.{needs}
 use borrow.Author.Tests.{not-false}
 use Rattle.store.specs.Soundness.{Sound}
-use Rattle.store.proofs.Whole.{soundB-yes}
+use Rattle.soundness.proofs.Whole.{soundB-yes}
 use Rattle.bench_store.proofs.vizturel_bench_grow.Statement.{statement}
 use Rattle.bench_store.proofs.vizturel_bench_grow.Tie as tie
 
