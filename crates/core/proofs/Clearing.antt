@@ -8,7 +8,7 @@ use Rattle.model.specs.Call.{number, refused, gave}
 use Rattle.model.specs.Handled.{Handled}
 use Rattle.model.specs.Clearing.{clearMap}
 use Rattle.model.proofs.Clearing.{clear-refused, clear-done}
-use Rattle.maps.specs.Spare.{Clears}
+use Rattle.spare.specs.Spare.{Clears}
 use Rattle.core.specs.Handles.{Handles}
 
 module _ (base n : ℕ) (bs : List ℕ) where

@@ -69,7 +69,7 @@ pub fn read_map(
     if !crate::window::map_length_fits(bytes, n) {
         return Counted::Refused(Refusal::Window);
     }
-    if maps::clear::stray_bits(bytes, n) > 0 {
+    if spare::stray_bits(bytes, n) > 0 {
         return Counted::Refused(Refusal::StrayBit);
     }
     let h = store::open(words, world);

@@ -44,5 +44,5 @@ pub fn clear_map(base: u64, n: u64, map: &mut [u8]) -> Numbered
     if !map_length_fits(map, n) {
         return Numbered::Refused(Refusal::Window);
     }
-    Numbered::Number(maps::clear::clear(map, n))
+    Numbered::Number(spare::clear(map, n))
 }

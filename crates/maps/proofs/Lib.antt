@@ -7,7 +7,6 @@ pub mod OnTheWay
 pub mod Applying
 pub mod Storing
 pub mod Octeting
-pub mod Sparing
 pub mod Masks
 pub mod Painting
 pub mod Rounds

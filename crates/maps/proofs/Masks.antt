@@ -12,7 +12,8 @@ use borrow.Author.Tests.{le-leb, lt-leb}
 use Rattle.model.specs.Positions.{Positions, oneIf, inside}
 use Rattle.model.specs.Bytes.{bits}
 use Rattle.model.proofs.Maps.{bits-bound, bits-cong, bits-bit}
-use Rattle.maps.proofs.Octeting.{same-bits, bits-above}
+use Rattle.spare.proofs.Bytes.{bits-above}
+use Rattle.maps.proofs.Octeting.{same-bits}
 
 -- ---- bits of numbers
 -- bit i of a number

@@ -5,7 +5,7 @@ use Prim.Native.Nat.{ℕ, zero, suc, _+_, _-_, _*_, _/_, _%_, _^_, _≤_, _<_, m
 use mathlib.Core.Path.{_≡_, refl, sym, ap, ap₂, _∙_, subst}
 use mathlib.Core.Bool.{Bool, true, false}
 use mathlib.Core.List.{List}
-use native.Mathlib.Nat.{add-zero, add-suc, suc-add, mul-left-comm, pow-succ', pow-le-pow-right}
+use native.Mathlib.Nat.{pow-succ', pow-le-pow-right}
 use native.Mathlib.Omega.{arith}
 use lib.Pow.{pow-pos, shl-exact}
 use lib.ListN.{length, getD, set, length-set}
@@ -13,6 +13,7 @@ use Rattle.model.specs.Numbers.{size}
 use Rattle.model.specs.Positions.{Positions, oneIf}
 use Rattle.model.specs.Bytes.{bits, mapLength, mapOf, intoFront}
 use Rattle.model.proofs.Maps.{bits-bound, bits-cong, mapOf-length, mapOf-at}
+use Rattle.spare.proofs.Bytes.{bits-above}
 use Rattle.streams.specs.declared.source.View.{View}
 use Rattle.streams.specs.declared.source.Source.{Source}
 use Rattle.streams.specs.Reading.{Rooted, Stands, Reads}
@@ -62,14 +63,6 @@ alike-no n e = rw e (omega arith)
 
 pub alike-some : (n : ℕ) → n ≤ 8 → 1 ≤ (1 * 2 ^ n) % 2 ^ 64
 alike-some n l = rw (shl-exact {a = 1} 1 n 64 (omega arith) (omega arith)) (omega (arith, pow-pos n))
-
--- the bits of k positions more lie above those of n
-pub bits-above : (Q : Positions) (x n k : ℕ) → bits Q x n + bits Q (x + n) k * 2 ^ n ≡ bits Q x (n + k)
-unfolding bits
-bits-above Q x zero k =
-    let e : 0 + k ≡ k = omega arith in rw (e, add-zero) (omega arith)
-bits-above Q x (suc n) k =
-    rw (pow-succ', suc-add, add-suc, ← suc-add, ← bits-above Q (suc x) n k, mul-left-comm) (omega arith)
 
 -- ---- k positions: those of the stretch that the source is in, and the others
 module _ {w path : List ℕ} {u : View} {s : Source} {x k : ℕ} {Q : Positions} (h : Stood w path u s x k Q) where

@@ -16,8 +16,7 @@ use Rattle.model.specs.Positions.{Positions}
 use Rattle.model.specs.Bytes.{bits, mapBit}
 use Rattle.model.proofs.Maps.{bits-bound, bits-cong}
 use Rattle.maps.specs.Painted.{Puts}
-use Rattle.maps.proofs.Octeting.{bits-above}
-use Rattle.maps.proofs.Sparing.{byte-is}
+use Rattle.spare.proofs.Bytes.{bits-above, byte-is}
 
 -- ---- reading
 -- the bits of k positions and, shifted up, of the next k are those of both

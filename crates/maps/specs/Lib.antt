@@ -1,4 +1,3 @@
 pub mod Window
 pub mod Octets
-pub mod Spare
 pub mod Painted

@@ -7,7 +7,7 @@ use borrow.Author.Needs.{needs}
 use lib.ListN.{getD}
 use Rattle.model.specs.Bytes.{bits, mapBit}
 use Rattle.maps.proofs.Bits.{whole-is}
-use Rattle.maps.proofs.Sparing.{byte-is}
+use Rattle.spare.proofs.Bytes.{byte-is}
 use Rattle.maps.proofs.read.whole_byte.Statement.{statement}
 use Rattle.maps.proofs.read.whole_byte.Tie as tie
 

@@ -3,7 +3,7 @@ use Prim.Native.Nat.{_+_, _*_}
 use native.Mathlib.Omega.{arith}
 use borrow.Author.Needs.{needs}
 use Rattle.model.specs.Bytes.{mapBit}
-use Rattle.maps.proofs.Sparing.{byte-is}
+use Rattle.spare.proofs.Bytes.{byte-is}
 use Rattle.maps.proofs.Words.{joined}
 use Rattle.maps.proofs.word.pair_at.Statement.{statement}
 use Rattle.maps.proofs.word.pair_at.Tie as tie

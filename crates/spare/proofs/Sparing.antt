@@ -14,8 +14,8 @@ use Rattle.model.proofs.Numbers.{split}
 use Rattle.model.specs.Positions.{Positions, oneIf, count}
 use Rattle.model.proofs.Counting.{one-bound, beq-true, count-first, count-most}
 use Rattle.model.specs.Bytes.{bits, mapLength, mapOf, mapBit, strayBits, cleared}
-use Rattle.model.proofs.Maps.{bits-tell, bits-bound, bits-bit, mapOf-length, mapOf-at, byte-bit}
-use Rattle.maps.proofs.Octeting.{bits-above}
+use Rattle.model.proofs.Maps.{bits-bound, mapOf-length, mapOf-at}
+use Rattle.spare.proofs.Bytes.{bits-above, byte-is}
 
 -- ---- the ones of a number
 -- of the positions whose bits are 0 none is held
@@ -48,10 +48,6 @@ pub none-left : (P : Positions) (rest found total : ℕ) → rest ≡ 0 → Left
 none-left P rest found total h (x, k, e, f) = let z : count P true x k ≡ 0 = none-held P x k (sym e ∙ h) in omega arith
 
 -- ---- the last byte
--- a byte is the bits of its eight positions
-pub byte-is : (bs : List ℕ) (j : ℕ) → getD bs j 0 < 256 → getD bs j 0 ≡ bits (mapBit bs) (8 * j) 8
-byte-is bs j h = bits-tell 8 (getD bs j 0) (bits (mapBit bs) (8 * j) 8) h (bits-bound (mapBit bs) (8 * j) 8) (λ i g. byte-bit bs j i g ∙ sym (bits-bit (mapBit bs) (8 * j) 8 i g))
-
 module _ (n : ℕ) (bs : List ℕ) (some : n % 8 ≡ 0 → ⊥) (small : getD bs (n / 8) 0 < 256) where
   -- the used bits and, above them, the spare ones
   last-is : getD bs (n / 8) 0 ≡ bits (mapBit bs) (8 * (n / 8)) (n % 8) + bits (mapBit bs) n (8 * mapLength n - n) * 2 ^ (n % 8)

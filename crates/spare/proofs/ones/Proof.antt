@@ -6,9 +6,9 @@ use mathlib.Core.Bool.{true}
 use native.Mathlib.Omega.{arith}
 use Rattle.model.specs.Positions.{Positions, count}
 use Rattle.model.specs.Bytes.{bits}
-use Rattle.maps.proofs.Sparing.{Left, all-left, one-less, none-left}
-use Rattle.maps.proofs.clear.ones.Statement.{statement}
-use Rattle.maps.proofs.clear.ones.Tie as tie
+use Rattle.spare.proofs.Sparing.{Left, all-left, one-less, none-left}
+use Rattle.spare.proofs.ones.Statement.{statement}
+use Rattle.spare.proofs.ones.Tie as tie
 
 -- no more is found than was there, and what is left is left of any positions whose bits the number is
 abbrev Inv-loop : tie.InvT-loop

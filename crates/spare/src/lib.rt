@@ -3,7 +3,7 @@ ghost use mathlib.Core.Path.{_≡_};
 ghost use Prim.Native.Nat.{_*_, _-_, _≤_};
 ghost use lib.ListN.{length};
 ghost use Rattle.model.specs.Bytes.{bits, mapBit, mapLength, strayBits};
-ghost use Rattle.maps.specs.Spare.{Ones, Clears};
+ghost use Rattle.spare.specs.Spare.{Ones, Clears};
 
 // How many bits of a number are one.
 fn ones(b: u64) -> u64

@@ -4,9 +4,9 @@ use Prim.Native.Nat.{_-_}
 use lib.ListN.{length}
 use native.Mathlib.Omega.{arith}
 use borrow.Author.Needs.{needs}
-use Rattle.maps.proofs.Sparing.{spare-none, spare-last}
-use Rattle.maps.proofs.clear.spare_bits.Statement.{statement}
-use Rattle.maps.proofs.clear.spare_bits.Tie as tie
+use Rattle.spare.proofs.Sparing.{spare-none, spare-last}
+use Rattle.spare.proofs.spare_bits.Statement.{statement}
+use Rattle.spare.proofs.spare_bits.Tie as tie
 
 returns : tie.Need-returns
 returns c = spare-none _ _ (c .if1 .taken)

@@ -8,9 +8,9 @@ use borrow.Author.Needs.{needs}
 use lib.ListN.{length, getD}
 use Rattle.model.proofs.Slices.{all-bytes}
 use Rattle.model.proofs.Clearing.{clear-stays}
-use Rattle.maps.proofs.Sparing.{stray-some, one-some, used-small, used-clears}
-use Rattle.maps.proofs.clear.clear.Statement.{statement}
-use Rattle.maps.proofs.clear.clear.Tie as tie
+use Rattle.spare.proofs.Sparing.{stray-some, one-some, used-small, used-clears}
+use Rattle.spare.proofs.clear.Statement.{statement}
+use Rattle.spare.proofs.clear.Tie as tie
 
 -- where the call started, once the spare bits are counted
 abbrev start : tie.After-stray-bits → tie.Start

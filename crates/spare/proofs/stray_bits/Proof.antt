@@ -1,8 +1,8 @@
 -- `stray_bits` meets its contract: the ones of the spare bits' number. Assumes nothing.
 use borrow.Author.Needs.{needs}
 use Rattle.model.specs.Bytes.{strayBits}
-use Rattle.maps.proofs.clear.stray_bits.Statement.{statement}
-use Rattle.maps.proofs.clear.stray_bits.Tie as tie
+use Rattle.spare.proofs.stray_bits.Statement.{statement}
+use Rattle.spare.proofs.stray_bits.Tie as tie
 
 spare-bits-requires : tie.Need-spare-bits-requires
 spare-bits-requires c κs = search needs
