@@ -15,10 +15,10 @@ use Rattle.store.specs.Settle.{Became, Opened, Closing, Closes}
 use Rattle.store.proofs.Emptying.{empty-stretches}
 use Rattle.store.proofs.Parts.{lent, back}
 use Rattle.changes.specs.Edits.{Empties}
-use Rattle.core.specs.Met.{Met, Readable}
-use Rattle.core.proofs.Doors.{lent-limited, lent-closing, lent-settled}
-use Rattle.core.proofs.Changing.{changes-to}
-use Rattle.core.proofs.Overwriting.{build-says}
+use Rattle.promises.specs.Met.{Met, Readable}
+use Rattle.promises.proofs.Doors.{lent-limited, lent-closing, lent-settled}
+use Rattle.promises.proofs.Changing.{changes-to}
+use Rattle.promises.proofs.Overwriting.{build-says}
 
 -- no runs are in order
 none-ordered : refusal (runOrder when disordered [] ∷ []) ≡ none

@@ -9,9 +9,9 @@ use Rattle.model.specs.Range.{reversed}
 use Rattle.model.specs.Refusals.{beforeCapacity, rangeReversed, _when_, firstGiven, refusal}
 use Rattle.model.specs.Call.{Call, Answer, refused}
 use Rattle.model.specs.Model.{report, change, changed, setting, flipping, tallying, serve}
-use Rattle.core.specs.Met.{Site, fedOf, fullAt, outcomeOf, Leaves, Met, Readable}
-use Rattle.core.proofs.Meeting.{refused-by, tally-strict-says}
-use Rattle.core.proofs.Changing.{refused-first, set-strict-says, flip-strict-says}
+use Rattle.promises.specs.Met.{Site, fedOf, fullAt, outcomeOf, Leaves, Met, Readable}
+use Rattle.promises.proofs.Meeting.{refused-by, tally-strict-says}
+use Rattle.promises.proofs.Changing.{refused-first, set-strict-says, flip-strict-says}
 
 -- a call whose outcome is another's is met as that is
 met-same : {w w′ : List ℕ} {i : ℕ} {c d : Call Site} {a : Answer} → outcomeOf w i d ≡ outcomeOf w i c → Met w i d a w′ → Met w i c a w′

@@ -3,7 +3,7 @@
 ghost use mathlib.Core.List.{[]};
 ghost use Rattle.model.specs.Call.{Call};
 ghost use Rattle.model.specs.Answers.{completedAnswer, countedAnswer};
-ghost use Rattle.core.specs.Met.{Readable, Met};
+ghost use Rattle.promises.specs.Met.{Readable, Met};
 use changes::edit::Edit;
 use changes::edit::Fit;
 use model::Bound;

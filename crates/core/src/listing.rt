@@ -3,7 +3,7 @@ ghost use mathlib.Core.Path.{_≡_};
 ghost use Rattle.model.specs.Positions.{ended};
 ghost use Rattle.model.specs.Call.{Call};
 ghost use Rattle.model.specs.Answers.{drawnAnswer};
-ghost use Rattle.core.specs.Met.{Readable, Met};
+ghost use Rattle.promises.specs.Met.{Readable, Met};
 use model::Drawn;
 use model::Listing;
 use model::Logical;

@@ -2,7 +2,7 @@
 ghost use mathlib.Core.Path.{_≡_};
 ghost use Rattle.model.specs.Call.{Call};
 ghost use Rattle.model.specs.Answers.{numberedAnswer, talliedAnswer, testedAnswer, aroundAnswer, foundAnswer, listedAnswer};
-ghost use Rattle.core.specs.Met.{Readable, Met, foundEdge};
+ghost use Rattle.promises.specs.Met.{Readable, Met, foundEdge};
 use model::Around;
 use model::Bound;
 use model::Count;
@@ -148,7 +148,7 @@ pub fn fill(words: &[u64], world: u64, base: u64, length: u64) -> Numbered
     requires { ⌜ Readable (now words) world ⌝ }
     ensures { λ r. ⌜ Met (now (words .entry)) world (Call.fill base length) (numberedAnswer r) (now (words .entry)) ⌝ }
 {
-    if !crate::window::window_fits(base, length) {
+    if !promises::window::window_fits(base, length) {
         return Numbered::Refused(Refusal::Window);
     }
     let h = store::open(words, world);

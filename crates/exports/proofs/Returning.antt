@@ -11,9 +11,9 @@ use Rattle.model.specs.declared.Worded.{Worded}
 use Rattle.model.specs.Answers.{writtenAnswer, mendedAnswer, wordedAnswer}
 use Rattle.model.specs.Call.{Call, Answer}
 use Rattle.model.specs.Handled.{Handled}
-use Rattle.core.specs.Met.{Site, Met, Made}
-use Rattle.core.specs.Handles.{Handles}
-use Rattle.core.specs.Out.{Unwritten, WritesOut, Unworded, WritesDeepest, Unmended, Mends}
+use Rattle.promises.specs.Met.{Site, Met, Made}
+use Rattle.promises.specs.Handles.{Handles}
+use Rattle.promises.specs.Out.{Unwritten, WritesOut, Unworded, WritesDeepest, Unmended, Mends}
 use Rattle.flat.specs.declared.Reply.{Reply}
 use Rattle.flat.specs.Flat.{replyOf}
 use Rattle.frame.specs.Frame.{Framed}

@@ -6,7 +6,7 @@ use mathlib.Core.List.{List}
 use Rattle.model.specs.declared.Limits.{Limits}
 use Rattle.model.specs.Call.{Call, Answer, refused, gave}
 use Rattle.model.specs.Handled.{Handled}
-use Rattle.core.specs.Met.{Site, Met, Made, Measured}
+use Rattle.promises.specs.Met.{Site, Met, Made, Measured}
 use Rattle.interval_bit_set.specs.Out.{onWritten, onMended}
 use Rattle.flat.specs.declared.Reply.{Reply}
 use Rattle.flat.specs.Flat.{replyOf}

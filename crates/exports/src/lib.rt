@@ -8,7 +8,7 @@ ghost use Rattle.model.specs.Pools.{limitsOf};
 ghost use Rattle.model.specs.Bytes.{editionBy};
 ghost use Rattle.model.specs.Clearing.{clearMap};
 ghost use Rattle.model.specs.Converting.{convert};
-ghost use Rattle.core.specs.Met.{site};
+ghost use Rattle.promises.specs.Met.{site};
 ghost use Rattle.interval_bit_set.specs.Lent.{listingOf};
 ghost use Rattle.flat.specs.Flat.{operationOf, truth};
 ghost use Rattle.exports.specs.Structs.{boundOf, refusalOf, countOf, numberOf, talliedOf, valueOf, runOf, positionOf, listedOf, drawnOf, writtenOf};

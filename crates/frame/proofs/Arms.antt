@@ -13,8 +13,8 @@ use Rattle.model.specs.Refusals.{looks, Condition, firstGiven}
 use Rattle.model.specs.Call.{Call, Result, Answer, refused}
 use Rattle.store.specs.Layout.{openedAt}
 use Rattle.store.specs.Soundness.{Sound}
-use Rattle.core.specs.Met.{Site, Met}
-use Rattle.core.proofs.Meeting.{
+use Rattle.promises.specs.Met.{Site, Met}
+use Rattle.promises.proofs.Meeting.{
   Reports,
   get-says,
   run-at-says,
@@ -28,8 +28,8 @@ use Rattle.core.proofs.Meeting.{
   tally-says,
   tally-strict-says,
 }
-use Rattle.core.proofs.Changing.{Changes, set-says, flip-says, shift-says, set-strict-says, flip-strict-says}
-use Rattle.core.proofs.Overwriting.{build-says}
+use Rattle.promises.proofs.Changing.{Changes, set-says, flip-says, shift-says, set-strict-says, flip-strict-says}
+use Rattle.promises.proofs.Overwriting.{build-says}
 use Rattle.interval_bit_set.specs.declared.look.Look.{Look}
 use Rattle.interval_bit_set.proofs.Looking.{world-unopened, turned-away, sent-away}
 use Rattle.frame.specs.declared.entry.Kind.{Kind}

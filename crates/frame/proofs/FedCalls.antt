@@ -7,7 +7,7 @@ use native.Mathlib.Omega.{arith}
 use lib.ListN.{length}
 use Rattle.model.specs.Call.{Fed, Call, feed, PoolCall, Answer}
 use Rattle.model.specs.Pools.{PlainWorld, step, answers}
-use Rattle.core.specs.Met.{fedAt}
+use Rattle.promises.specs.Met.{fedAt}
 use Rattle.frame.specs.declared.entry.Kind.{Kind}
 use Rattle.frame.specs.declared.entry.Entry.{Entry}
 use Rattle.frame.specs.Records.{kindOf, callBy, callOf, callsFrom, recordsOf}

@@ -19,8 +19,8 @@ use Rattle.soundness.proofs.Whole.{soundB-no}
 use Rattle.interval_bit_set.specs.declared.look.Look.{Look}
 use Rattle.interval_bit_set.specs.Look.{LookedPool}
 use Rattle.interval_bit_set.proofs.Looking.{pool-refused}
-use Rattle.core.specs.Met.{poolReads}
-use Rattle.core.proofs.Refusing.{looked-first}
+use Rattle.promises.specs.Met.{poolReads}
+use Rattle.promises.proofs.Refusing.{looked-first}
 use Rattle.frame.specs.Records.{callsOf, recordsOf}
 use Rattle.frame.specs.Frame.{FrameOutcome, settleFrame, frameOf, frameOutcome, FrameLeaves, Framed}
 use Rattle.frame.specs.Serving.{Playable, Plays}

@@ -13,8 +13,8 @@ use Rattle.store.specs.Soundness.{Sound}
 use Rattle.written.specs.Placed.{placed}
 use Rattle.written.proofs.Placing.{placed-nil, placed-length, placed-placed, placed-front}
 use Rattle.model.specs.Bytes.{intoFront}
-use Rattle.core.specs.Met.{Leaves, Met}
-use Rattle.core.proofs.Simulation.{Holds, answer-is, step-holds}
+use Rattle.promises.specs.Met.{Leaves, Met}
+use Rattle.promises.proofs.Simulation.{Holds, answer-is, step-holds}
 use Rattle.frame.specs.declared.entry.Entry.{Entry}
 use Rattle.flat.specs.declared.Reply.{Reply}
 use Rattle.flat.specs.Flat.{replyOf}

@@ -10,7 +10,7 @@ use Rattle.model.specs.Call.{Fed, PoolCall, done, Answer, refused, gave}
 use Rattle.model.specs.Pools.{PlainWorld, answers, after}
 use Rattle.store.specs.Layout.{capacity, worldsOf}
 use Rattle.store.specs.Free.{Pooled}
-use Rattle.core.specs.Met.{poolReads}
+use Rattle.promises.specs.Met.{poolReads}
 use Rattle.frame.specs.Records.{callsOf, recordsOf}
 
 -- what a frame answers, the worlds after it, and the slice

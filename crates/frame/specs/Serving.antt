@@ -9,7 +9,7 @@ use Rattle.model.specs.Pools.{answers, after}
 use Rattle.store.specs.Layout.{capacity, worldsOf}
 use Rattle.store.specs.Soundness.{Sound}
 use Rattle.store.specs.Free.{Pooled}
-use Rattle.core.specs.Met.{Met}
+use Rattle.promises.specs.Met.{Met}
 use Rattle.frame.specs.declared.entry.Entry.{Entry}
 use Rattle.flat.specs.declared.Reply.{Reply}
 use Rattle.flat.specs.Flat.{replyOf}

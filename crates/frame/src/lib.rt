@@ -7,7 +7,7 @@ ghost use lib.ListN.{length};
 ghost use Rattle.model.specs.Answers.{completedAnswer};
 ghost use Rattle.written.specs.Placed.{placed};
 ghost use Rattle.store.specs.Soundness.{Sound};
-ghost use Rattle.core.specs.Met.{Readable};
+ghost use Rattle.promises.specs.Met.{Readable};
 ghost use Rattle.frame.specs.Frame.{Framed};
 ghost use Rattle.frame.specs.Records.{entryAt, wordsOf};
 ghost use Rattle.frame.specs.Serving.{ServesAt, Serves, Playable, Plays};

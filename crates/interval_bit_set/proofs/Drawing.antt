@@ -42,7 +42,7 @@ use denote.Triple.Walked.{says, Stays, stay-ref, stay-none, stay-none-slice, wal
 use denote.Exit.{yes}
 use Rattle.model.specs.declared.Listing.{Listing}
 use Rattle.model.specs.Call.{Call}
-use Rattle.core.specs.Met.{Site}
+use Rattle.promises.specs.Met.{Site}
 use Rattle.interval_bit_set.specs.declared.listing.Draw.{Draw}
 use Rattle.interval_bit_set.specs.Lent.{listingOf, Draws}
 use Rattle.model.proofs.Listing as T

@@ -13,9 +13,9 @@ use Rattle.model.specs.Answers.{drawnAnswer}
 use Rattle.model.specs.Positions.{firstRun, lastRun, remaining, pastFirst, pastLast}
 use Rattle.model.specs.Call.{Call, Answer, refused, gave, drawn}
 use Rattle.interval_bit_set.specs.declared.listing.Draw.{Draw}
-use Rattle.core.specs.Met.{Site, outcomeOf, Met}
+use Rattle.promises.specs.Met.{Site, outcomeOf, Met}
 use Rattle.interval_bit_set.specs.Lent.{listingOf, movedBy, Draws}
-use Rattle.core.proofs.Meeting.{refused-not, answers-all, draw-front-says, draw-back-says}
+use Rattle.promises.proofs.Meeting.{refused-not, answers-all, draw-front-says, draw-back-says}
 
 -- a draw's listing is of the value v
 abbrev Valued : Bool → Answer → Type 0

@@ -38,10 +38,10 @@ use Rattle.store.specs.Soundness.{Sound}
 use Rattle.soundness.specs.Decision.{soundB}
 use Rattle.soundness.proofs.Whole.{soundB-yes}
 use Rattle.interval_bit_set.specs.declared.look.Look.{Look}
-use Rattle.core.specs.Met.{Site, poolReads, fedOf, fullAt, Readable, Met}
-use Rattle.core.proofs.Refusing.{looked-first, reads-first}
-use Rattle.core.proofs.Meeting.{fed-unopened, readable, Reports, refused-both}
-use Rattle.core.proofs.Changing.{Changes, refused-due}
+use Rattle.promises.specs.Met.{Site, poolReads, fedOf, fullAt, Readable, Met}
+use Rattle.promises.proofs.Refusing.{looked-first, reads-first}
+use Rattle.promises.proofs.Meeting.{fed-unopened, readable, Reports, refused-both}
+use Rattle.promises.proofs.Changing.{Changes, refused-due}
 use Rattle.interval_bit_set.specs.Look.{lookNumber, earliest, LookedPool, Looked, LookedTwo, LookedThree}
 
 -- no number is none

@@ -13,10 +13,10 @@ use Rattle.model.specs.Bytes.{intoFront}
 use Rattle.model.specs.Refusals.{looks, Condition, firstGiven}
 use Rattle.model.specs.Answers.{writtenAnswer}
 use Rattle.model.specs.Call.{Call, Answer, gave, written}
-use Rattle.core.specs.Met.{Site, outcomeOf}
-use Rattle.core.specs.Out.{WritesOut}
-use Rattle.core.proofs.Meeting.{refused-not, answers-all}
-use Rattle.core.proofs.Putting.{Puts}
+use Rattle.promises.specs.Met.{Site, outcomeOf}
+use Rattle.promises.specs.Out.{WritesOut}
+use Rattle.promises.proofs.Meeting.{refused-not, answers-all}
+use Rattle.promises.proofs.Putting.{Puts}
 use Rattle.interval_bit_set.specs.declared.look.Look.{Look}
 use Rattle.interval_bit_set.specs.declared.write.Flat.{Flat}
 use Rattle.interval_bit_set.specs.Look.{Looked}

@@ -32,13 +32,13 @@ use Rattle.store.proofs.Nodes.{node-once}
 use Rattle.store.proofs.Parts.{lent, back, lent-nodes, back-nodes, back-long}
 use Rattle.store.proofs.Worlds.{opened-told}
 use Rattle.written.specs.Listed.{leastAfter}
-use Rattle.core.specs.Met.{fedOf, fullAt, Met, Readable}
-use Rattle.core.specs.Laid.{OnlyNodes, Begins, Laying}
-use Rattle.core.proofs.Doors.{nodes-there, back-before}
-use Rattle.core.proofs.Meeting.{readable}
-use Rattle.core.proofs.Refusing.{reads-first}
-use Rattle.core.proofs.Changing.{full-above, refused-due, changes-to}
-use Rattle.core.proofs.Overwriting.{build-says}
+use Rattle.promises.specs.Met.{fedOf, fullAt, Met, Readable}
+use Rattle.promises.specs.Laid.{OnlyNodes, Begins, Laying}
+use Rattle.promises.proofs.Doors.{nodes-there, back-before}
+use Rattle.promises.proofs.Meeting.{readable}
+use Rattle.promises.proofs.Refusing.{reads-first}
+use Rattle.promises.proofs.Changing.{full-above, refused-due, changes-to}
+use Rattle.promises.proofs.Overwriting.{build-says}
 use Rattle.interval_bit_set.specs.declared.look.Look.{Look}
 use Rattle.interval_bit_set.specs.declared.runs.Order.{Order}
 use Rattle.interval_bit_set.specs.declared.runs.Verdict.{Verdict}

@@ -10,7 +10,7 @@ use Rattle.model.specs.Numbers.{refusalNumber}
 use Rattle.model.specs.Call.{Call, Answer, refused, gave, drawn}
 use Rattle.interval_bit_set.specs.declared.listing.Item.{Item}
 use Rattle.interval_bit_set.specs.declared.listing.Draw.{Draw}
-use Rattle.core.specs.Met.{Site, Met}
+use Rattle.promises.specs.Met.{Site, Met}
 
 abbrev pub listingOf : ℕ → ℕ → Bool → Listing
 listingOf a b v = record { first = a; last = b; value = v }

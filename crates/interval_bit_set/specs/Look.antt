@@ -6,7 +6,7 @@ use mathlib.Core.Option.{Option, none, some}
 use Rattle.model.specs.Numbers.{refusalNumber}
 use Rattle.model.specs.Refusals.{looks, firstGiven}
 use Rattle.model.specs.Model.{reads}
-use Rattle.core.specs.Met.{fedOf, poolReads}
+use Rattle.promises.specs.Met.{fedOf, poolReads}
 use Rattle.interval_bit_set.specs.declared.look.Look.{Look}
 
 -- the number of the refusal, if there is one

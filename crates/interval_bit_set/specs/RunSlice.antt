@@ -22,8 +22,8 @@ use Rattle.store.specs.declared.Links.{Links}
 use Rattle.store.specs.Layout.{nodes, allowance}
 use Rattle.store.specs.Settle.{Lays}
 use Rattle.written.specs.Listed.{leastAfter}
-use Rattle.core.specs.Met.{fedOf, fullAt}
-use Rattle.core.specs.Laid.{OnlyNodes, Begun, Finishable, Finishes}
+use Rattle.promises.specs.Met.{fedOf, fullAt}
+use Rattle.promises.specs.Laid.{OnlyNodes, Begun, Finishable, Finishes}
 use Rattle.interval_bit_set.specs.declared.runs.Order.{Order}
 use Rattle.interval_bit_set.specs.declared.runs.Verdict.{Verdict}
 

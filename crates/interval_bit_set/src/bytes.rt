@@ -7,9 +7,9 @@ ghost use Rattle.model.specs.Answers.{completedAnswer, countedAnswer, numberedA
 ghost use Rattle.model.specs.Clearing.{clearMap};
 ghost use Rattle.model.specs.Converting.{convert};
 ghost use Rattle.written.specs.Listed.{pairs};
-ghost use Rattle.core.specs.Met.{Met};
-ghost use Rattle.core.specs.Out.{Mends};
-ghost use Rattle.core.specs.Handles.{Handles};
+ghost use Rattle.promises.specs.Met.{Met};
+ghost use Rattle.promises.specs.Out.{Mends};
+ghost use Rattle.promises.specs.Handles.{Handles};
 use crate::look::Look;
 use model::Completed;
 use model::Counted;
@@ -24,7 +24,7 @@ pub fn load(words: &mut [u64], world: u64, bytes: &[u8]) -> Completed
     let l = crate::look::look_at(words, world);
     match l {
         Look::Refused(r) => Completed::Refused(r),
-        Look::Sound => core::bytes::load(words, world, bytes),
+        Look::Sound => sets::bytes::load(words, world, bytes),
     }
 }
 
@@ -43,7 +43,7 @@ pub fn mend(
     let l = crate::look::look_at(words, world);
     match l {
         Look::Refused(r) => Mended::Refused(r),
-        Look::Sound => core::mend::mend(words, world, bytes, out, report),
+        Look::Sound => sets::mend::mend(words, world, bytes, out, report),
     }
 }
 
@@ -54,7 +54,7 @@ pub fn from_sorted_words(words: &mut [u64], world: u64, runs: &[u64]) -> Complet
     let l = crate::look::look_at(words, world);
     match l {
         Look::Refused(r) => Completed::Refused(r),
-        Look::Sound => core::bytes::from_sorted_words(words, world, runs),
+        Look::Sound => sets::bytes::from_sorted_words(words, world, runs),
     }
 }
 
@@ -73,7 +73,7 @@ fn read_map_as(
     let l = crate::look::look_at(words, world);
     match l {
         Look::Refused(r) => Counted::Refused(r),
-        Look::Sound => core::bytes::read_map(words, world, base, n, bytes, wide),
+        Look::Sound => sets::bytes::read_map(words, world, base, n, bytes, wide),
     }
 }
 
@@ -95,12 +95,12 @@ pub fn read_map_by_bytes(words: &mut [u64], world: u64, base: u64, n: u64, bytes
 pub fn clear_map(base: u64, n: u64, map: &mut [u8]) -> Numbered
     ensures { λ r. ⌜ Handles (clearMap base n (now (map .entry))) (numberedAnswer r) (now (map .exit)) ⌝ }
 {
-    core::window::clear_map(base, n, map)
+    sets::clear::clear_map(base, n, map)
 }
 
 // Turns a written set of either edition into the other, and tells how many bytes it has. It takes no pool.
 pub fn convert(bytes: &[u8], out: &mut [u8]) -> Written
     ensures { λ r. ⌜ Handles (convert (now (bytes .entry)) (now (out .entry))) (writtenAnswer r (now (out .exit))) (now (out .exit)) ⌝ }
 {
-    core::convert::convert(bytes, out)
+    sets::convert::convert(bytes, out)
 }

@@ -1,5 +1,5 @@
 // The calls that change a world where it stands.
-ghost use Rattle.core.specs.Met.{Met};
+ghost use Rattle.promises.specs.Met.{Met};
 ghost use Rattle.model.specs.Answers.{completedAnswer, countedAnswer};
 ghost use Rattle.model.specs.Call.{Call};
 use crate::look::Look;

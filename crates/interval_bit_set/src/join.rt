@@ -2,7 +2,7 @@
 // in it is counted before its first word changes.
 ghost use Rattle.model.specs.Call.{Call};
 ghost use Rattle.model.specs.Answers.{completedAnswer, testedAnswer};
-ghost use Rattle.core.specs.Met.{site, Met};
+ghost use Rattle.promises.specs.Met.{site, Met};
 use crate::look::Look;
 use model::Completed;
 use model::Operation;
@@ -23,7 +23,7 @@ pub fn combine(
     let l = crate::look::look_at_three(words, world, a, i, b, j);
     match l {
         Look::Refused(r) => Completed::Refused(r),
-        Look::Sound => core::join::combine(words, world, op, a, i, b, j),
+        Look::Sound => sets::join::combine(words, world, op, a, i, b, j),
     }
 }
 
@@ -34,7 +34,7 @@ pub fn not(words: &mut [u64], world: u64, a: &[u64], i: u64) -> Completed
     let l = crate::look::look_at_two(words, world, a, i);
     match l {
         Look::Refused(r) => Completed::Refused(r),
-        Look::Sound => core::join::not(words, world, a, i),
+        Look::Sound => sets::join::not(words, world, a, i),
     }
 }
 
@@ -52,7 +52,7 @@ pub fn shifted(
     let l = crate::look::look_at_two(words, world, a, i);
     match l {
         Look::Refused(r) => Completed::Refused(r),
-        Look::Sound => core::join::shifted(words, world, distance, left, a, i),
+        Look::Sound => sets::join::shifted(words, world, distance, left, a, i),
     }
 }
 
@@ -63,6 +63,6 @@ pub fn eq(a: &[u64], i: u64, b: &[u64], j: u64) -> Tested
     let l = crate::look::look_at_two(a, i, b, j);
     match l {
         Look::Refused(r) => Tested::Refused(r),
-        Look::Sound => core::join::eq(a, i, b, j),
+        Look::Sound => sets::join::eq(a, i, b, j),
     }
 }

@@ -1,7 +1,7 @@
 // Making a pool of empty worlds, whatever its words were.
 ghost use Rattle.model.specs.Answers.{completedAnswer};
 ghost use Rattle.model.specs.Pools.{limitsOf};
-ghost use Rattle.core.specs.Met.{Made};
+ghost use Rattle.promises.specs.Met.{Made};
 use model::Completed;
 use model::Refusal;
 use store::Store;
@@ -15,5 +15,5 @@ pub fn new(words: &mut [u64], limits: &[u64]) -> Completed
     if s.capacity == 0 {
         return Completed::Refused(Refusal::StoreLength);
     }
-    core::make::new(words, limits)
+    sets::make::new(words, limits)
 }

@@ -1,7 +1,7 @@
 // The calls that report, and leave the world as it is.
 ghost use Rattle.model.specs.Call.{Call};
 ghost use Rattle.model.specs.Answers.{numberedAnswer, talliedAnswer, testedAnswer, aroundAnswer, foundAnswer, listedAnswer, drawnAnswer};
-ghost use Rattle.core.specs.Met.{Met};
+ghost use Rattle.promises.specs.Met.{Met};
 use crate::look::Look;
 use model::Around;
 use model::Bound;

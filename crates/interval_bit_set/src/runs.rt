@@ -6,7 +6,7 @@ ghost use lib.ListN.{length, getD};
 ghost use Rattle.model.specs.Positions.{run};
 ghost use Rattle.model.specs.Call.{Call};
 ghost use Rattle.model.specs.Answers.{completedAnswer};
-ghost use Rattle.core.specs.Met.{Met};
+ghost use Rattle.promises.specs.Met.{Met};
 ghost use Rattle.interval_bit_set.specs.RunSlice.{orderStep, InOrder, refusing, Admits, Ready, LaysNext, Putting, Put, Finishing, Finished};
 use crate::look::Look;
 use model::Completed;
@@ -97,7 +97,7 @@ fn begin(words: &mut [u64], world: u64, n: usize, o: Order) -> Verdict
             if n as u64 > store::allowance(words, world) {
                 return refuses(Refusal::Capacity);
             }
-            let x = core::runs::begin(words, world);
+            let x = sets::runs::begin(words, world);
             Verdict {
                 answer: Completed::Done,
                 runs: n,
@@ -138,7 +138,7 @@ fn finish(words: &mut [u64], world: u64, a: Verdict) -> Completed
     match c {
         Completed::Refused(r) => Completed::Refused(r),
         Completed::Done => {
-            core::runs::finish(
+            sets::runs::finish(
                 words,
                 Links {
                     tag: world,

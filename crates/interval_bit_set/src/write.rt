@@ -4,8 +4,8 @@ ghost use mathlib.Core.Path.{_≡_};
 ghost use Prim.Native.Nat.{_≤_};
 ghost use lib.ListN.{length, take};
 ghost use Rattle.model.specs.Call.{Call};
-ghost use Rattle.core.specs.Met.{outcomeOf};
-ghost use Rattle.core.specs.Out.{WritesOut};
+ghost use Rattle.promises.specs.Met.{outcomeOf};
+ghost use Rattle.promises.specs.Out.{WritesOut};
 ghost use Rattle.interval_bit_set.specs.Out.{codeOf, frontOf, flatOf};
 use crate::look::Look;
 use model::Edition;
@@ -18,7 +18,7 @@ pub fn write_set(words: &[u64], world: u64, edition: Edition, out: &mut [u8]) ->
     let l = crate::look::look_at(words, world);
     match l {
         Look::Refused(r) => Written::Refused(r),
-        Look::Sound => core::write::write_set(words, world, edition, out),
+        Look::Sound => sets::write::write_set(words, world, edition, out),
     }
 }
 
@@ -29,7 +29,7 @@ fn write_map_as(words: &[u64], world: u64, base: u64, n: u64, out: &mut [u8], wi
     let l = crate::look::look_at(words, world);
     match l {
         Look::Refused(r) => Written::Refused(r),
-        Look::Sound => core::write::write_map(words, world, base, n, out, wide),
+        Look::Sound => sets::write::write_map(words, world, base, n, out, wide),
     }
 }
 

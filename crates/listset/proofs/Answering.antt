@@ -21,8 +21,8 @@ use Rattle.model.specs.Pools.{worldOf, fedBy, holdingAt, limitsFrom, limitsOf, 
 use Rattle.store.specs.Layout.{capacityOf, capacity, heldBy, plainAt, worldsOf}
 use Rattle.store.specs.Settle.{Openable}
 use Rattle.store.proofs.WorldLists.{opened-world}
-use Rattle.core.specs.Met.{Met, madeOf, MakeLeaves, Made}
-use Rattle.core.proofs.Simulation.{Holds, outcome-is, step-holds}
+use Rattle.promises.specs.Met.{Met, madeOf, MakeLeaves, Made}
+use Rattle.promises.proofs.Simulation.{Holds, outcome-is, step-holds}
 use Rattle.listset.specs.Text.{tooLongLine, refusedLine, setLines, outcomeLines, loaded, printed}
 use Rattle.listset.specs.Put.{Puts}
 

@@ -32,8 +32,8 @@ use Rattle.store.specs.Layout.{capacity, heldBy, plainAt, worldsOf}
 use Rattle.store.specs.Settle.{Openable}
 use Rattle.store.proofs.WorldLists.{opened-world}
 use Rattle.reports.specs.Reports.{Measured}
-use Rattle.core.specs.Met.{Site, Met}
-use Rattle.core.proofs.Meeting.{refused-not, readable, Reports, tally-says, ranges-says, draw-front-says}
+use Rattle.promises.specs.Met.{Site, Met}
+use Rattle.promises.proofs.Meeting.{refused-not, readable, Reports, tally-says, ranges-says, draw-front-says}
 
 -- what follows the first run
 runsIn-rest : (P : Positions) (v : Bool) (a n : ℕ) (r : Run) (rs : List Run) → runsIn P v a n ≡ r ∷ rs

@@ -13,10 +13,10 @@ use Rattle.model.specs.Call.{Fed, wrongLength, unsound, unopened, holding, Call
 use Rattle.model.specs.Model.{Outcome, positionsOf, reads, settle, report, write, serve}
 use Rattle.model.specs.Clearing.{clearMap}
 use Rattle.model.proofs.Clearing.{clears-no-written-map, clears-twice, clears-none-twice, reads-as-document-one}
-use Rattle.core.specs.Met.{fedOf, fullAt, outcomeOf, Leaves, Met}
-use Rattle.core.specs.Handles.{Handles}
-use Rattle.core.proofs.Served.{unrefused}
-use Rattle.core.proofs.Putting.{take-front}
+use Rattle.promises.specs.Met.{fedOf, fullAt, outcomeOf, Leaves, Met}
+use Rattle.promises.specs.Handles.{Handles}
+use Rattle.promises.proofs.Served.{unrefused}
+use Rattle.promises.proofs.Putting.{take-front}
 use Rattle.lockstep.specs.Clearing.{oldReading, WritesMap}
 
 module _ (base n : ℕ) (bs : List ℕ) where

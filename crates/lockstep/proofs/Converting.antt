@@ -24,9 +24,9 @@ use Rattle.model.proofs.Converting.{
   columns-refused,
 }
 use Rattle.store.specs.Layout.{heldBy, worldsOf}
-use Rattle.core.specs.Met.{fedOf, fullAt, outcomeOf, Leaves, Met}
-use Rattle.core.specs.Handles.{Handles}
-use Rattle.core.proofs.Putting.{take-front}
+use Rattle.promises.specs.Met.{fedOf, fullAt, outcomeOf, Leaves, Met}
+use Rattle.promises.specs.Handles.{Handles}
+use Rattle.promises.proofs.Putting.{take-front}
 use Rattle.lockstep.specs.History.{WritesSet, Loads}
 use Rattle.lockstep.proofs.Forms.{met-alike}
 use Rattle.lockstep.proofs.Writing.{written-is}

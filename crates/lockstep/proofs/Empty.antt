@@ -9,8 +9,8 @@ use Rattle.model.specs.Call.{done, gave}
 use Rattle.model.specs.Pools.{limitsOf}
 use Rattle.store.specs.Layout.{capacity}
 use Rattle.store.proofs.Fresh.{emptied}
-use Rattle.core.specs.Met.{Made}
-use Rattle.core.proofs.Meeting.{make-done}
+use Rattle.promises.specs.Met.{Made}
+use Rattle.promises.proofs.Meeting.{make-done}
 
 -- what `new` may leave
 pub record Fresh (w ls : List ℕ) : Type 0 where

@@ -14,10 +14,10 @@ use Rattle.model.specs.Call.{holding, Call, number, gave}
 use Rattle.model.specs.Model.{positionsOf, reads, settle, report}
 use Rattle.model.proofs.Counting.{count-all, count-none, counted-none}
 use Rattle.store.specs.Layout.{heldBy}
-use Rattle.core.specs.Met.{fedOf, Readable, Met}
-use Rattle.core.proofs.Meeting.{fill-says}
-use Rattle.core.proofs.Served.{unrefused}
-use Rattle.core.proofs.Windows.{fitting}
+use Rattle.promises.specs.Met.{fedOf, Readable, Met}
+use Rattle.promises.proofs.Meeting.{fill-says}
+use Rattle.promises.proofs.Served.{unrefused}
+use Rattle.promises.proofs.Windows.{fitting}
 use Rattle.interval_bit_set.proofs.Looking.{looked-sound}
 use Rattle.interval_bit_set.specs.declared.look.Look.{Look}
 use Rattle.lockstep.proofs.Writing.{unearned}

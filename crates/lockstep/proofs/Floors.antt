@@ -44,9 +44,9 @@ use Rattle.model.proofs.Pools.{claims-split}
 use Rattle.store.specs.Layout.{capacity, openedAt, floorAt, plainAt, worldsOf}
 use Rattle.store.specs.Soundness.{Sound}
 use Rattle.store.proofs.WorldLists.{opened-world}
-use Rattle.core.specs.Met.{Site, fedAt, fedOf, fullAt, outcomeOf, Met}
-use Rattle.core.proofs.Changing.{bounded-is}
-use Rattle.core.proofs.Served.{unrefused}
+use Rattle.promises.specs.Met.{Site, fedAt, fedOf, fullAt, outcomeOf, Met}
+use Rattle.promises.proofs.Changing.{bounded-is}
+use Rattle.promises.proofs.Served.{unrefused}
 
 -- ---- the number 8
 -- a number that is given is that of a cause that is given

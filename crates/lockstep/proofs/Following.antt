@@ -6,9 +6,9 @@ use Rattle.model.specs.declared.Limits.{Limits}
 use Rattle.model.specs.Call.{PoolCall, make, deepest, at, feedPool, Answer}
 use Rattle.model.specs.Pools.{PlainWorld, PoolOutcome, emptyWorlds, step, after}
 use Rattle.store.specs.Layout.{capacityOf, worldsOf}
-use Rattle.core.specs.Met.{Site, fedAt}
+use Rattle.promises.specs.Met.{Site, fedAt}
 use Rattle.lockstep.specs.History.{Stepped, History, rest, call, New, Played, told, outcomes, left, Follows, over, next}
-use Rattle.core.proofs.Simulation.{Holds, answer-is, step-holds, made-answer, made-holds, measured-answer, measured-holds}
+use Rattle.promises.proofs.Simulation.{Holds, answer-is, step-holds, made-answer, made-holds, measured-answer, measured-holds}
 
 -- ---- one call
 pub stepped-answer : {C : ℕ} {vs : List PlainWorld} {w : List ℕ} (w′ : List ℕ) (a : Answer) (c : PoolCall Site) → Holds C vs w → Stepped w c a w′ → a ≡ (step C vs (feedPool fedAt c)) .answer

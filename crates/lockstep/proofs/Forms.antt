@@ -14,9 +14,9 @@ use Rattle.store.specs.Layout.{openedAt, floorAt, ceilingAt, heldBy, plainAt, w
 use Rattle.store.specs.Settle.{Settled}
 use Rattle.store.proofs.Turn.{pool-past}
 use Rattle.store.proofs.WorldLists.{worlds-same}
-use Rattle.core.specs.Met.{Site, outcomeOf, Leaves, Met}
-use Rattle.core.specs.Out.{Unwritten, WritesOut}
-use Rattle.core.proofs.Simulation.{same-positions}
+use Rattle.promises.specs.Met.{Site, outcomeOf, Leaves, Met}
+use Rattle.promises.specs.Out.{Unwritten, WritesOut}
+use Rattle.promises.proofs.Simulation.{same-positions}
 
 -- where world i settles with the same positions twice, all worlds are the same
 settled-alike : {w w′ v′ : List ℕ} {i : ℕ} {P : Positions} → Settled w w′ i P → Settled w v′ i P → worldsOf w′ ≡ worldsOf v′

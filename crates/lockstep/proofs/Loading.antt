@@ -15,10 +15,10 @@ use Rattle.model.proofs.RoundTrips.{conditions, Accepted, unrefused-accepted, a
 use Rattle.store.specs.Layout.{heldBy}
 use Rattle.store.specs.Settle.{Settled, Openable}
 use Rattle.store.proofs.Worlds.{held-allowed}
-use Rattle.core.specs.Met.{fedOf, fullAt, outcomeOf, Readable, Met}
-use Rattle.core.proofs.Meeting.{readable, met-by, settled-same, settled-as}
-use Rattle.core.proofs.Changing.{fits-few}
-use Rattle.core.proofs.Served.{unrefused}
+use Rattle.promises.specs.Met.{fedOf, fullAt, outcomeOf, Readable, Met}
+use Rattle.promises.proofs.Meeting.{readable, met-by, settled-same, settled-as}
+use Rattle.promises.proofs.Changing.{fits-few}
+use Rattle.promises.proofs.Served.{unrefused}
 use Rattle.interval_bit_set.specs.declared.look.Look.{Look}
 use Rattle.interval_bit_set.proofs.Looking.{looked-sound}
 use Rattle.lockstep.specs.History.{Loads, Writable}

@@ -10,9 +10,9 @@ use Rattle.model.specs.Call.{Fed, PoolCall, at, Answer, done, gave}
 use Rattle.model.specs.Pools.{PlainWorld, emptyWorlds, step, answers, after}
 use Rattle.store.specs.Layout.{capacityOf, capacity, worldsOf}
 use Rattle.store.specs.Free.{Pooled}
-use Rattle.core.specs.Met.{Site, poolReads}
-use Rattle.core.proofs.Meeting.{refused-not}
-use Rattle.core.proofs.Simulation.{Holds}
+use Rattle.promises.specs.Met.{Site, poolReads}
+use Rattle.promises.proofs.Meeting.{refused-not}
+use Rattle.promises.proofs.Simulation.{Holds}
 use Rattle.frame.specs.Records.{entryAt, worldBy, callsFrom, callsOf, recordsOf}
 use Rattle.frame.specs.Frame.{frameOf, frameOutcome, FrameOutcome, settleFrame, Framed}
 use Rattle.frame.proofs.FedCalls.{fed-same}

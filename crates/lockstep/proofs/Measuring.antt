@@ -14,8 +14,8 @@ use Rattle.model.specs.Refusals.{refusal}
 use Rattle.model.specs.Call.{Result, written, Answer, refused, gave}
 use Rattle.model.specs.Pools.{PlainWorld, PoolOutcome, settleMeasured, deepestConditions, deepestBy}
 use Rattle.store.specs.Layout.{capacity, worldsOf}
-use Rattle.core.specs.Met.{deepestOf, Measured}
-use Rattle.core.proofs.Putting.{take-front}
+use Rattle.promises.specs.Met.{deepestOf, Measured}
+use Rattle.promises.proofs.Putting.{take-front}
 
 -- an answer that is no refusal is what is due
 unrefused : (y : Option ℕ) (ws : List PlainWorld) (n k : ℕ) (bs cs : List ℕ) → gave (written n bs) ≡ (settleMeasured y ws (written k cs)) .answer → (n ≡ k) × (bs ≡ cs)

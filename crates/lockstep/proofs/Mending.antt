@@ -20,12 +20,12 @@ use Rattle.model.proofs.RoundTrips.{Accepted, accepted-bytes, held-read, held-a
 use Rattle.store.specs.Layout.{allowance, worldsOf}
 use Rattle.store.specs.Settle.{Settled}
 use Rattle.lowest.proofs.Fating.{fates-length, ordered-fates}
-use Rattle.core.specs.Met.{fedOf, fullAt, outcomeOf, Readable, Met}
-use Rattle.core.proofs.Refusing.{none-before, refused-full}
-use Rattle.core.proofs.Changing.{full-above}
-use Rattle.core.proofs.Putting.{take-front}
-use Rattle.core.proofs.Served.{unrefused}
-use Rattle.core.proofs.Mending.{allowed-most, conditions}
+use Rattle.promises.specs.Met.{fedOf, fullAt, outcomeOf, Readable, Met}
+use Rattle.promises.proofs.Refusing.{none-before, refused-full}
+use Rattle.promises.proofs.Changing.{full-above}
+use Rattle.promises.proofs.Putting.{take-front}
+use Rattle.promises.proofs.Served.{unrefused}
+use Rattle.sets.proofs.Mending.{allowed-most, conditions}
 use Rattle.interval_bit_set.specs.declared.look.Look.{Look}
 use Rattle.interval_bit_set.proofs.Looking.{looked-sound}
 use Rattle.lockstep.specs.History.{Loads}

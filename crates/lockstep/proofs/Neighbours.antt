@@ -9,8 +9,8 @@ use Rattle.model.specs.Call.{Fed, Call, feed, Answer}
 use Rattle.model.specs.Model.{serve}
 use Rattle.model.specs.Pools.{PlainWorld, worldOf, fedBy, otherClaims, exceeds, full, withPositions, holdingAt, serveAt, step}
 use Rattle.store.specs.Layout.{worldsOf}
-use Rattle.core.specs.Met.{Site, fedAt, Met}
-use Rattle.core.proofs.Simulation.{Holds, answer-is, step-holds}
+use Rattle.promises.specs.Met.{Site, fedAt, Met}
+use Rattle.promises.proofs.Simulation.{Holds, answer-is, step-holds}
 
 -- a world with other positions, if there is one
 abbrev replaced : Positions → Option PlainWorld → Option PlainWorld

@@ -20,10 +20,10 @@ use Rattle.model.specs.Call.{Call, at, Answer}
 use Rattle.model.specs.Pools.{PlainWorld, worldOf, limitsOf, emptyWorlds, after}
 use Rattle.store.specs.Layout.{capacity, heldBy}
 use Rattle.store.proofs.WorldLists.{opened-world}
-use Rattle.core.specs.Met.{Met, Made}
-use Rattle.core.specs.Out.{WritesOut}
-use Rattle.core.proofs.Meeting.{refused-not}
-use Rattle.core.proofs.Simulation.{Holds}
+use Rattle.promises.specs.Met.{Met, Made}
+use Rattle.promises.specs.Out.{WritesOut}
+use Rattle.promises.proofs.Meeting.{refused-not}
+use Rattle.promises.proofs.Simulation.{Holds}
 use Rattle.lockstep.specs.History.{rest, call, New, Played, told, WritesSet}
 use Rattle.lockstep.specs.Theorems.{Wrote}
 use Rattle.lockstep.specs.Meeting.{Lent, SameBytes}

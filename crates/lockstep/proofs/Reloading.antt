@@ -26,11 +26,11 @@ use Rattle.store.specs.Settle.{Settled, Openable}
 use Rattle.store.proofs.Worlds.{held-allowed}
 use Rattle.store.proofs.Turn.{pool-past}
 use Rattle.store.proofs.WorldLists.{opened-world}
-use Rattle.core.specs.Met.{fullAt}
-use Rattle.core.proofs.Changing.{fits-few, bounded-is}
-use Rattle.core.proofs.Meeting.{make-done}
-use Rattle.core.proofs.Served.{bounded-ends}
-use Rattle.core.proofs.Simulation.{same-positions, worlds-after}
+use Rattle.promises.specs.Met.{fullAt}
+use Rattle.promises.proofs.Changing.{fits-few, bounded-is}
+use Rattle.promises.proofs.Meeting.{make-done}
+use Rattle.promises.proofs.Served.{bounded-ends}
+use Rattle.promises.proofs.Simulation.{same-positions, worlds-after}
 use Rattle.lockstep.specs.History.{rest, call, New, WritesSet, Loads, Writable}
 use Rattle.lockstep.proofs.Writing.{bytesOf, writes}
 use Rattle.lockstep.proofs.Loading.{load-met, loaded-readable, loaded-accepted, loaded-settled}

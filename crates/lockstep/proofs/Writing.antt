@@ -20,12 +20,12 @@ use Rattle.store.specs.Settle.{Openable}
 use Rattle.store.proofs.Turn.{pool-past}
 use Rattle.store.proofs.Nodes.{sized-length}
 use Rattle.store.proofs.Worlds.{claims-fit}
-use Rattle.core.specs.Met.{fedOf, fullAt, outcomeOf, Readable, Met}
-use Rattle.core.proofs.Meeting.{readable, met-by, settled-same}
-use Rattle.core.proofs.Refusing.{unopened-refused}
-use Rattle.core.proofs.Putting.{take-front}
-use Rattle.core.proofs.Served.{unrefused}
-use Rattle.core.proofs.Simulation.{same-positions}
+use Rattle.promises.specs.Met.{fedOf, fullAt, outcomeOf, Readable, Met}
+use Rattle.promises.proofs.Meeting.{readable, met-by, settled-same}
+use Rattle.promises.proofs.Refusing.{unopened-refused}
+use Rattle.promises.proofs.Putting.{take-front}
+use Rattle.promises.proofs.Served.{unrefused}
+use Rattle.promises.proofs.Simulation.{same-positions}
 use Rattle.interval_bit_set.proofs.Looking.{looked-sound}
 use Rattle.interval_bit_set.specs.declared.look.Look.{Look}
 use Rattle.lockstep.specs.History.{WritesSet}

@@ -6,7 +6,7 @@ use lib.ListN.{take}
 use Rattle.model.specs.Call.{Call, written, gave}
 use Rattle.model.specs.Model.{Outcome}
 use Rattle.model.specs.Clearing.{documentOneReading}
-use Rattle.core.specs.Met.{fedOf, fullAt, Met}
+use Rattle.promises.specs.Met.{fedOf, fullAt, Met}
 
 -- ---- a cleared map
 -- how document 01 read the map bs into world i of the words w

@@ -10,7 +10,7 @@ use Rattle.model.specs.declared.Edition.{Edition}
 use Rattle.model.specs.Call.{Fed, Call, PoolCall, make, deepest, at, feedPool, done, written, Answer, gave}
 use Rattle.model.specs.Pools.{PlainWorld, PoolOutcome, step}
 use Rattle.store.specs.Layout.{capacity, worldsOf}
-use Rattle.core.specs.Met.{Site, fedAt, Met, Made, Measured}
+use Rattle.promises.specs.Met.{Site, fedAt, Met, Made, Measured}
 
 -- the call c on the words w answered a and left w′, as it promises
 abbrev pub Stepped : List ℕ → PoolCall Site → Answer → List ℕ → Type 0

@@ -5,7 +5,7 @@ use mathlib.Core.List.{List, [], _∷_, _++_}
 use Rattle.model.specs.Call.{PoolCall, done, Answer, refused, gave}
 use Rattle.model.specs.Pools.{answers}
 use Rattle.store.specs.Layout.{capacity, worldsOf}
-use Rattle.core.specs.Met.{Site}
+use Rattle.promises.specs.Met.{Site}
 use Rattle.frame.specs.Records.{callsOf}
 use Rattle.frame.specs.Frame.{Framed}
 use Rattle.lockstep.specs.History.{Stepped}

@@ -23,9 +23,9 @@ use Rattle.model.specs.Converting.{convert, documentOneRefusal}
 use Rattle.run_index.specs.Tree.{height}
 use Rattle.store.specs.Layout.{capacity, openedAt, floorAt, heldBy, worldsOf, treeAt}
 use Rattle.store.specs.Soundness.{runsAt, Sound}
-use Rattle.core.specs.Met.{Site, fedAt, fedOf, Leaves, Met, Measured}
-use Rattle.core.specs.Out.{WritesOut}
-use Rattle.core.specs.Handles.{Handles}
+use Rattle.promises.specs.Met.{Site, fedAt, fedOf, Leaves, Met, Measured}
+use Rattle.promises.specs.Out.{WritesOut}
+use Rattle.promises.specs.Handles.{Handles}
 use Rattle.lockstep.specs.History.{History, New, told, outcomes, Follows, left, WritesSet, Loads, Writable}
 use Rattle.lockstep.specs.Matches.{Match}
 use Rattle.lockstep.specs.Clearing.{oldReading, WritesMap}

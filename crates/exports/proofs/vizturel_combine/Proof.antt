@@ -3,7 +3,7 @@ use borrow.Author.Needs.{needs}
 use mathlib.Core.Path.{ap, refl}
 use Rattle.model.specs.declared.Operation.{Operation}
 use Rattle.model.specs.Call.{Call}
-use Rattle.core.specs.Met.{site}
+use Rattle.promises.specs.Met.{site}
 use Rattle.exports.proofs.Returning.{returned}
 use Rattle.exports.proofs.vizturel_combine.Statement.{statement}
 use Rattle.exports.proofs.vizturel_combine.Tie as tie

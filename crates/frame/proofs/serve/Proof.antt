@@ -3,7 +3,7 @@ use mathlib.Core.Path.{_≡_}
 use native.Mathlib.Omega.{arith}
 use borrow.Author.Needs.{needs}
 use Rattle.store.proofs.Worlds.{sound-room}
-use Rattle.core.proofs.Meeting.{readable}
+use Rattle.promises.proofs.Meeting.{readable}
 use Rattle.frame.proofs.Arms.{serves-there, unopened-served}
 use Rattle.frame.specs.Records.{worldBy}
 use Rattle.frame.proofs.serve.Statement.{statement}

@@ -5,7 +5,7 @@ use mathlib.Core.List.{List}
 use borrow.Author.Needs.{needs}
 use Rattle.model.specs.declared.Bound.{Bound}
 use Rattle.model.specs.Call.{Call, Answer}
-use Rattle.core.specs.Met.{Site, Met}
+use Rattle.promises.specs.Met.{Site, Met}
 use Rattle.frame.specs.declared.entry.Kind.{Kind}
 use Rattle.flat.specs.declared.Reply.{Reply}
 use Rattle.flat.specs.Flat.{truth, replyOf, boundBy}

@@ -1,5 +1,5 @@
 -- `empty` meets its contract: the world's nodes are given back, and it has no run. Assumes nothing.
-use Rattle.core.proofs.Doors.{nodes-there, lent-stands}
+use Rattle.promises.proofs.Doors.{nodes-there, lent-stands}
 use Rattle.core.proofs.Emptying.{empty-closing, empty-done}
 use borrow.Author.Needs.{needs}
 use Rattle.core.proofs.change.empty.Statement.{statement}

@@ -1,8 +1,8 @@
 -- `flip` meets its contract: the range is inverted from its first position to its last, an empty or reversed one changes nothing. Assumes nothing.
 use mathlib.Core.Path.{refl}
-use Rattle.core.proofs.Spans.{Within, span-none, span-some}
-use Rattle.core.proofs.Doors.{nodes-there, lent-editable}
-use Rattle.core.proofs.Changing.{left-so, fit-full, fit-closing, fit-done, flip-within, flip-none, flip-says}
+use Rattle.promises.proofs.Spans.{Within, span-none, span-some}
+use Rattle.promises.proofs.Doors.{nodes-there, lent-editable}
+use Rattle.promises.proofs.Changing.{left-so, fit-full, fit-closing, fit-done, flip-within, flip-none, flip-says}
 use borrow.Author.Needs.{needs}
 use Rattle.core.proofs.change.flip.Statement.{statement}
 use Rattle.core.proofs.change.flip.Tie as tie

@@ -1,9 +1,9 @@
 -- `set` meets its contract: the range is set from its first position to its last, an empty or reversed one changes nothing. Assumes nothing.
 use mathlib.Core.Path.{refl, ap}
 use Rattle.model.specs.Call.{number}
-use Rattle.core.proofs.Spans.{Within, span-none, span-some}
-use Rattle.core.proofs.Doors.{nodes-there, lent-editable}
-use Rattle.core.proofs.Changing.{left-so, edit-full, edit-closing, edit-done, set-within, set-none, changes-none, set-says}
+use Rattle.promises.proofs.Spans.{Within, span-none, span-some}
+use Rattle.promises.proofs.Doors.{nodes-there, lent-editable}
+use Rattle.promises.proofs.Changing.{left-so, edit-full, edit-closing, edit-done, set-within, set-none, changes-none, set-says}
 use borrow.Author.Needs.{needs}
 use Rattle.core.proofs.change.set.Statement.{statement}
 use Rattle.core.proofs.change.set.Tie as tie

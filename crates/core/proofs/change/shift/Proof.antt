@@ -2,8 +2,8 @@
 use mathlib.Core.Path.{refl, ap}
 use native.Mathlib.Omega.{arith}
 use Rattle.model.specs.Positions.{shiftBy}
-use Rattle.core.proofs.Doors.{nodes-there, lent-held, lent-movable}
-use Rattle.core.proofs.Changing.{move-closing, move-done, shift-says}
+use Rattle.promises.proofs.Doors.{nodes-there, lent-held, lent-movable}
+use Rattle.promises.proofs.Changing.{move-closing, move-done, shift-says}
 use borrow.Author.Needs.{needs}
 use Rattle.core.proofs.change.shift.Statement.{statement}
 use Rattle.core.proofs.change.shift.Tie as tie

@@ -3,8 +3,8 @@
 use mathlib.Core.Path.{refl, ap}
 use Rattle.model.specs.Positions.{lastRun}
 use Rattle.core.proofs.Draws.{none-left, last-left, back-none, back-more, back-end}
-use Rattle.core.proofs.Doors.{nodes-there, lent-stands}
-use Rattle.core.proofs.Meeting.{met, met-in, draw-back-says}
+use Rattle.promises.proofs.Doors.{nodes-there, lent-stands}
+use Rattle.promises.proofs.Meeting.{met, met-in, draw-back-says}
 use borrow.Author.Needs.{needs}
 use Rattle.core.proofs.listing.draw_back.Statement.{statement}
 use Rattle.core.proofs.listing.draw_back.Tie as tie

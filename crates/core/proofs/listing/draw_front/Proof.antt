@@ -3,8 +3,8 @@
 use mathlib.Core.Path.{refl, ap}
 use Rattle.model.specs.Positions.{firstRun}
 use Rattle.core.proofs.Draws.{none-left, first-left, front-none, front-more, front-end}
-use Rattle.core.proofs.Doors.{nodes-there, lent-stands}
-use Rattle.core.proofs.Meeting.{met, met-in, draw-front-says}
+use Rattle.promises.proofs.Doors.{nodes-there, lent-stands}
+use Rattle.promises.proofs.Meeting.{met, met-in, draw-front-says}
 use borrow.Author.Needs.{needs}
 use Rattle.core.proofs.listing.draw_front.Statement.{statement}
 use Rattle.core.proofs.listing.draw_front.Tie as tie

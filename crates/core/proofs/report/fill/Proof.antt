@@ -5,9 +5,9 @@ use mathlib.Core.Bool.{false}
 use native.Mathlib.Omega.{arith}
 use Rattle.model.specs.Refusals.{badWindow}
 use Rattle.model.specs.Call.{number}
-use Rattle.core.proofs.Windows.{fitting, window-refused, window-passes, fill-fits, fill-is, bad-by}
-use Rattle.core.proofs.Doors.{nodes-there, lent-stands}
-use Rattle.core.proofs.Meeting.{refused-by, met-in, fill-says}
+use Rattle.promises.proofs.Windows.{fitting, window-refused, window-passes, fill-fits, fill-is, bad-by}
+use Rattle.promises.proofs.Doors.{nodes-there, lent-stands}
+use Rattle.promises.proofs.Meeting.{refused-by, met-in, fill-says}
 use borrow.Author.Needs.{needs}
 use Rattle.core.proofs.report.fill.Statement.{statement}
 use Rattle.core.proofs.report.fill.Tie as tie

@@ -2,10 +2,10 @@
 -- Assumes nothing.
 use mathlib.Core.Path.{refl, ap}
 use Rattle.model.specs.Positions.{find}
-use Rattle.core.proofs.Spans.{Within, span-none, span-some, of-range, find-nothing, found-as}
+use Rattle.promises.proofs.Spans.{Within, span-none, span-some, of-range, find-nothing, found-as}
 use Rattle.model.specs.Call.{position}
-use Rattle.core.proofs.Doors.{nodes-there, lent-stands}
-use Rattle.core.proofs.Meeting.{met, met-in-as, find-says}
+use Rattle.promises.proofs.Doors.{nodes-there, lent-stands}
+use Rattle.promises.proofs.Meeting.{met, met-in-as, find-says}
 use borrow.Author.Needs.{needs}
 use Rattle.core.proofs.report.find.Statement.{statement}
 use Rattle.core.proofs.report.find.Tie as tie

@@ -1,7 +1,7 @@
 -- `found` meets its contract: the two cases of a search are the two of an answer.
 -- Assumes nothing.
 use mathlib.Core.Path.{sym, ap}
-use Rattle.core.specs.Met.{foundEdge}
+use Rattle.promises.specs.Met.{foundEdge}
 use borrow.Author.Needs.{needs}
 use Rattle.core.proofs.report.found.Statement.{statement}
 use Rattle.core.proofs.report.found.Tie as tie

@@ -5,10 +5,10 @@ use mathlib.Core.Path.{ap}
 use native.Mathlib.Omega.{arith}
 use borrow.Author.Needs.{needs}
 use Rattle.model.specs.Call.{position}
-use Rattle.core.proofs.Spans.{Within, span-none, span-some, gap-range, found-as}
+use Rattle.promises.proofs.Spans.{Within, span-none, span-some, gap-range, found-as}
 use Rattle.core.proofs.Gaps.{gap-refused, gap-passes, gap-nothing}
-use Rattle.core.proofs.Doors.{nodes-there, lent-stands}
-use Rattle.core.proofs.Meeting.{refused-by, met, met-in-as, gap-says}
+use Rattle.promises.proofs.Doors.{nodes-there, lent-stands}
+use Rattle.promises.proofs.Meeting.{refused-by, met, met-in-as, gap-says}
 use Rattle.core.proofs.report.gap.Statement.{statement}
 use Rattle.core.proofs.report.gap.Tie as tie
 

@@ -1,9 +1,9 @@
 -- `ranges` meets its contract: a listing has the range's first position and its last; one of an empty or reversed range has ended.
 -- Assumes nothing.
 use mathlib.Core.Path.{refl, ap}
-use Rattle.core.proofs.Spans.{span-none, span-some, listed-some, listed-nothing}
+use Rattle.promises.proofs.Spans.{span-none, span-some, listed-some, listed-nothing}
 use Rattle.model.specs.Call.{listing}
-use Rattle.core.proofs.Meeting.{met, ranges-says}
+use Rattle.promises.proofs.Meeting.{met, ranges-says}
 use borrow.Author.Needs.{needs}
 use Rattle.core.proofs.report.ranges.Statement.{statement}
 use Rattle.core.proofs.report.ranges.Tie as tie

@@ -2,8 +2,8 @@
 -- Assumes nothing.
 use mathlib.Core.Path.{refl, ap}
 use Rattle.model.specs.Call.{around}
-use Rattle.core.proofs.Doors.{nodes-there, lent-stands}
-use Rattle.core.proofs.Meeting.{met-in, run-at-says}
+use Rattle.promises.proofs.Doors.{nodes-there, lent-stands}
+use Rattle.promises.proofs.Meeting.{met-in, run-at-says}
 use borrow.Author.Needs.{needs}
 use Rattle.core.proofs.report.run_at.Statement.{statement}
 use Rattle.core.proofs.report.run_at.Tie as tie

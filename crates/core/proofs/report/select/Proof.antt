@@ -1,10 +1,10 @@
 -- `select` meets its contract: the k-th position from the range's first to its last, none in an empty range.
 -- Assumes nothing.
 use mathlib.Core.Path.{refl, ap}
-use Rattle.core.proofs.Spans.{Within, span-none, span-some, select-range, select-nothing, found-as}
+use Rattle.promises.proofs.Spans.{Within, span-none, span-some, select-range, select-nothing, found-as}
 use Rattle.model.specs.Call.{position}
-use Rattle.core.proofs.Doors.{nodes-there, lent-stands}
-use Rattle.core.proofs.Meeting.{met, met-in-as, select-says}
+use Rattle.promises.proofs.Doors.{nodes-there, lent-stands}
+use Rattle.promises.proofs.Meeting.{met, met-in-as, select-says}
 use borrow.Author.Needs.{needs}
 use Rattle.core.proofs.report.select.Statement.{statement}
 use Rattle.core.proofs.report.select.Tie as tie

@@ -2,10 +2,10 @@
 -- Assumes nothing.
 use mathlib.Core.Path.{refl, ap₂}
 use Rattle.model.specs.Positions.{count, runCount}
-use Rattle.core.proofs.Spans.{Within, span-none, span-some, of-range, count-nothing, ranges-nothing}
+use Rattle.promises.proofs.Spans.{Within, span-none, span-some, of-range, count-nothing, ranges-nothing}
 use Rattle.model.specs.Call.{tallied}
-use Rattle.core.proofs.Doors.{nodes-there, lent-stands}
-use Rattle.core.proofs.Meeting.{met, met-in, tally-says}
+use Rattle.promises.proofs.Doors.{nodes-there, lent-stands}
+use Rattle.promises.proofs.Meeting.{met, met-in, tally-says}
 use borrow.Author.Needs.{needs}
 use Rattle.core.proofs.report.tally.Statement.{statement}
 use Rattle.core.proofs.report.tally.Tie as tie

@@ -1,8 +1,8 @@
--- `from_sorted_words` meets its contract: a world that looking refuses stays, another is overwritten by the core's call.
+-- `from_sorted_words` meets its contract: a world that looking refuses stays, another is overwritten by the call of `sets`.
 -- Assumes nothing.
 use mathlib.Core.Path.{refl}
 use Rattle.interval_bit_set.proofs.Looking.{looked-sound, sent-away}
-use Rattle.core.proofs.Overwriting.{build-says}
+use Rattle.promises.proofs.Overwriting.{build-says}
 use borrow.Author.Needs.{needs}
 use Rattle.interval_bit_set.proofs.bytes.from_sorted_words.Statement.{statement}
 use Rattle.interval_bit_set.proofs.bytes.from_sorted_words.Tie as tie

@@ -1,8 +1,8 @@
--- `load` meets its contract: a world that looking refuses stays, another is overwritten by the core's call.
+-- `load` meets its contract: a world that looking refuses stays, another is overwritten by the call of `sets`.
 -- Assumes nothing.
 use mathlib.Core.Path.{refl}
 use Rattle.interval_bit_set.proofs.Looking.{looked-sound, sent-away}
-use Rattle.core.proofs.Overwriting.{load-says}
+use Rattle.promises.proofs.Overwriting.{load-says}
 use borrow.Author.Needs.{needs}
 use Rattle.interval_bit_set.proofs.bytes.load.Statement.{statement}
 use Rattle.interval_bit_set.proofs.bytes.load.Tie as tie

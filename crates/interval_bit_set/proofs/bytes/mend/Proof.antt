@@ -1,8 +1,8 @@
--- `mend` meets its contract: a world that looking refuses stays, and so do the slices; another is mended by the core's call.
+-- `mend` meets its contract: a world that looking refuses stays, and so do the slices; another is mended by the call of `sets`.
 -- Assumes nothing.
 use mathlib.Core.Path.{refl}
 use Rattle.interval_bit_set.proofs.Looking.{looked-sound, sent-away}
-use Rattle.core.proofs.Mending.{mend-says}
+use Rattle.sets.proofs.Mending.{mend-says}
 use borrow.Author.Needs.{needs}
 use Rattle.interval_bit_set.proofs.bytes.mend.Statement.{statement}
 use Rattle.interval_bit_set.proofs.bytes.mend.Tie as tie

@@ -1,6 +1,6 @@
--- `read_map_as` meets its contract: a world that looking refuses stays, another is changed by the core's call. Assumes nothing.
+-- `read_map_as` meets its contract: a world that looking refuses stays, another is changed by the call of `sets`. Assumes nothing.
 use mathlib.Core.Path.{refl}
-use Rattle.core.proofs.Changing.{read-map-says}
+use Rattle.promises.proofs.Changing.{read-map-says}
 use Rattle.interval_bit_set.proofs.Looking.{looked-sound, sent-away}
 use borrow.Author.Needs.{needs}
 use Rattle.interval_bit_set.proofs.bytes.read_map_as.Statement.{statement}

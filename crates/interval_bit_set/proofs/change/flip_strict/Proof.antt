@@ -2,7 +2,7 @@
 -- Assumes nothing.
 use mathlib.Core.Path.{refl}
 use Rattle.interval_bit_set.proofs.Looking.{looked-sound, sent-away}
-use Rattle.core.proofs.Changing.{flip-strict-says}
+use Rattle.promises.proofs.Changing.{flip-strict-says}
 use borrow.Author.Needs.{needs}
 use Rattle.interval_bit_set.proofs.change.flip_strict.Statement.{statement}
 use Rattle.interval_bit_set.proofs.change.flip_strict.Tie as tie

@@ -2,7 +2,7 @@
 -- Assumes nothing.
 use mathlib.Core.Path.{refl}
 use Rattle.interval_bit_set.proofs.Looking.{looked-sound, sent-away}
-use Rattle.core.proofs.Changing.{set-says}
+use Rattle.promises.proofs.Changing.{set-says}
 use borrow.Author.Needs.{needs}
 use Rattle.interval_bit_set.proofs.change.set.Statement.{statement}
 use Rattle.interval_bit_set.proofs.change.set.Tie as tie

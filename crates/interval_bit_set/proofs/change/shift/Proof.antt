@@ -2,7 +2,7 @@
 -- Assumes nothing.
 use mathlib.Core.Path.{refl}
 use Rattle.interval_bit_set.proofs.Looking.{looked-sound, sent-away}
-use Rattle.core.proofs.Changing.{shift-says}
+use Rattle.promises.proofs.Changing.{shift-says}
 use borrow.Author.Needs.{needs}
 use Rattle.interval_bit_set.proofs.change.shift.Statement.{statement}
 use Rattle.interval_bit_set.proofs.change.shift.Tie as tie

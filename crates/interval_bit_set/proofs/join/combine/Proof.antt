@@ -1,7 +1,7 @@
--- `combine` meets its contract: what the worlds named earn is refused, and else the core's call makes the world.
+-- `combine` meets its contract: what the worlds named earn is refused, and else the call of `sets` makes the world.
 -- Assumes nothing.
 use Rattle.interval_bit_set.proofs.Looking.{three-readable, all-sent}
-use Rattle.core.proofs.Overwriting.{combine-says}
+use Rattle.promises.proofs.Overwriting.{combine-says}
 use borrow.Author.Needs.{needs}
 use Rattle.interval_bit_set.proofs.join.combine.Statement.{statement}
 use Rattle.interval_bit_set.proofs.join.combine.Tie as tie

@@ -1,7 +1,7 @@
--- `eq` meets its contract: what the worlds named earn is refused, and else the core's call answers.
+-- `eq` meets its contract: what the worlds named earn is refused, and else the call of `sets` answers.
 -- Assumes nothing.
 use Rattle.interval_bit_set.proofs.Looking.{two-readable, both-turned}
-use Rattle.core.proofs.Comparing.{equal-says}
+use Rattle.sets.proofs.Comparing.{equal-says}
 use borrow.Author.Needs.{needs}
 use Rattle.interval_bit_set.proofs.join.eq.Statement.{statement}
 use Rattle.interval_bit_set.proofs.join.eq.Tie as tie

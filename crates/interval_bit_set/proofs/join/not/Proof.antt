@@ -1,7 +1,7 @@
--- `not` meets its contract: what the worlds named earn is refused, and else the core's call makes the world.
+-- `not` meets its contract: what the worlds named earn is refused, and else the call of `sets` makes the world.
 -- Assumes nothing.
 use Rattle.interval_bit_set.proofs.Looking.{two-readable, both-sent}
-use Rattle.core.proofs.Overwriting.{complement-says}
+use Rattle.promises.proofs.Overwriting.{complement-says}
 use borrow.Author.Needs.{needs}
 use Rattle.interval_bit_set.proofs.join.not.Statement.{statement}
 use Rattle.interval_bit_set.proofs.join.not.Tie as tie

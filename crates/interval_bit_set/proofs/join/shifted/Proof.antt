@@ -1,7 +1,7 @@
--- `shifted` meets its contract: what the worlds named earn is refused, and else the core's call makes the world.
+-- `shifted` meets its contract: what the worlds named earn is refused, and else the call of `sets` makes the world.
 -- Assumes nothing.
 use Rattle.interval_bit_set.proofs.Looking.{two-readable, both-sent}
-use Rattle.core.proofs.Overwriting.{shifted-says}
+use Rattle.promises.proofs.Overwriting.{shifted-says}
 use borrow.Author.Needs.{needs}
 use Rattle.interval_bit_set.proofs.join.shifted.Statement.{statement}
 use Rattle.interval_bit_set.proofs.join.shifted.Tie as tie

@@ -1,6 +1,6 @@
--- `new` meets its contract: words of a pool's length are made by the core's call, others stay. Assumes nothing.
+-- `new` meets its contract: words of a pool's length are made by the call of `sets`, others stay. Assumes nothing.
 use mathlib.Core.Path.{sym, _∙_}
-use Rattle.core.proofs.Meeting.{make-short}
+use Rattle.promises.proofs.Meeting.{make-short}
 use borrow.Author.Needs.{needs}
 use Rattle.interval_bit_set.proofs.make.new.Statement.{statement}
 use Rattle.interval_bit_set.proofs.make.new.Tie as tie

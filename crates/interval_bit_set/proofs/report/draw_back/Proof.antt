@@ -2,7 +2,7 @@
 -- Assumes nothing.
 use mathlib.Core.Path.{refl}
 use Rattle.interval_bit_set.proofs.Looking.{looked-sound, turned-away}
-use Rattle.core.proofs.Meeting.{draw-back-says}
+use Rattle.promises.proofs.Meeting.{draw-back-says}
 use borrow.Author.Needs.{needs}
 use Rattle.interval_bit_set.proofs.report.draw_back.Statement.{statement}
 use Rattle.interval_bit_set.proofs.report.draw_back.Tie as tie

@@ -2,7 +2,7 @@
 -- Assumes nothing.
 use mathlib.Core.Path.{refl}
 use Rattle.interval_bit_set.proofs.Looking.{looked-sound, turned-away}
-use Rattle.core.proofs.Meeting.{find-says}
+use Rattle.promises.proofs.Meeting.{find-says}
 use borrow.Author.Needs.{needs}
 use Rattle.interval_bit_set.proofs.report.find.Statement.{statement}
 use Rattle.interval_bit_set.proofs.report.find.Tie as tie

@@ -2,7 +2,7 @@
 -- Assumes nothing.
 use mathlib.Core.Path.{refl}
 use Rattle.interval_bit_set.proofs.Looking.{looked-sound, turned-away}
-use Rattle.core.proofs.Meeting.{get-says}
+use Rattle.promises.proofs.Meeting.{get-says}
 use borrow.Author.Needs.{needs}
 use Rattle.interval_bit_set.proofs.report.get.Statement.{statement}
 use Rattle.interval_bit_set.proofs.report.get.Tie as tie

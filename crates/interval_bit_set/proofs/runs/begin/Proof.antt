@@ -11,8 +11,8 @@ use Rattle.model.specs.declared.Refusal.{Refusal}
 use Rattle.model.specs.Numbers.{refusalNumber}
 use Rattle.model.specs.Refusals.{refusal}
 use Rattle.store.specs.declared.Links.{Links}
-use Rattle.core.specs.Laid.{Begun}
-use Rattle.core.specs.Met.{Readable}
+use Rattle.promises.specs.Laid.{Begun}
+use Rattle.promises.specs.Met.{Readable}
 use Rattle.interval_bit_set.specs.declared.runs.Order.{Order}
 use Rattle.interval_bit_set.specs.declared.runs.Verdict.{Verdict}
 use Rattle.interval_bit_set.specs.RunSlice.{refusing, buildConditions, freeFrom, Admits}

@@ -5,7 +5,7 @@ use mathlib.Core.Path.{_≡_, refl, sym, subst}
 use mathlib.Core.List.{List}
 use Rattle.model.specs.declared.Completed.{Completed}
 use Rattle.model.specs.declared.Refusal.{Refusal}
-use Rattle.core.specs.Laid.{Finishable, Finishes}
+use Rattle.promises.specs.Laid.{Finishable, Finishes}
 use Rattle.interval_bit_set.specs.declared.runs.Verdict.{Verdict}
 use Rattle.interval_bit_set.specs.RunSlice.{freeFrom, FinishableIf, Finishing, FinishesIf, Finished}
 use borrow.Author.Needs.{needs}

@@ -53,7 +53,7 @@ use Rattle.model.specs.declared.Run.{Run}
 use Rattle.model.specs.declared.Completed.{Completed}
 use Rattle.model.specs.Call.{Call}
 use Rattle.model.specs.Answers.{completedAnswer}
-use Rattle.core.specs.Met.{Met}
+use Rattle.promises.specs.Met.{Met}
 use Rattle.interval_bit_set.specs.declared.runs.Order.{Order}
 use Rattle.interval_bit_set.specs.declared.runs.Verdict.{Verdict}
 use Rattle.interval_bit_set.specs.RunSlice.{InOrder, Admits, Putting, Put, Finishing, Finished}

@@ -1,6 +1,6 @@
--- `write_map_as` meets its contract: a world that looking refuses earns that refusal, of another the core's call answers. Assumes nothing.
+-- `write_map_as` meets its contract: a world that looking refuses earns that refusal, of another the call of `sets` answers. Assumes nothing.
 use mathlib.Core.Path.{refl}
-use Rattle.core.proofs.Putting.{write-map-puts}
+use Rattle.promises.proofs.Putting.{write-map-puts}
 use Rattle.interval_bit_set.proofs.Looking.{looked-sound}
 use Rattle.interval_bit_set.proofs.Putting.{put-turned}
 use borrow.Author.Needs.{needs}

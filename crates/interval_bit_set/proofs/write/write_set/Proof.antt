@@ -1,6 +1,6 @@
--- `write_set` meets its contract: a world that looking refuses earns that refusal, of another the core's call answers. Assumes nothing.
+-- `write_set` meets its contract: a world that looking refuses earns that refusal, of another the call of `sets` answers. Assumes nothing.
 use mathlib.Core.Path.{refl}
-use Rattle.core.proofs.Putting.{write-set-puts}
+use Rattle.promises.proofs.Putting.{write-set-puts}
 use Rattle.interval_bit_set.proofs.Looking.{looked-sound}
 use Rattle.interval_bit_set.proofs.Putting.{put-turned}
 use borrow.Author.Needs.{needs}

@@ -44,15 +44,15 @@ use denote.Exit.{yes, no}
 use Rattle.model.specs.declared.Written.{Written}
 use Rattle.model.specs.Call.{Call, Answer}
 use Rattle.interval_bit_set.specs.declared.write.Flat.{Flat}
-use Rattle.core.specs.Met.{outcomeOf}
-use Rattle.core.specs.Out.{WritesOut}
+use Rattle.promises.specs.Met.{outcomeOf}
+use Rattle.promises.specs.Out.{WritesOut}
 use Rattle.interval_bit_set.specs.Out.{codeOf, frontOf, flatOf}
 use Rattle.model.proofs.Written as A′
 use Rattle.model.proofs.Written.Laws as A″
 use Rattle.interval_bit_set.proofs.write.Flat as F
 use Rattle.interval_bit_set.proofs.write.Flat.Laws as F′
 use Rattle.interval_bit_set.proofs.Again.{LentAgain, lends-again, comes-back}
-use Rattle.core.proofs.Putting.{write-map-puts}
+use Rattle.promises.proofs.Putting.{write-map-puts}
 use Rattle.interval_bit_set.proofs.Putting.{put-flat}
 use Rattle.interval_bit_set.proofs.Handing.{vref, vfilled, refusal-fits, bytes-fit, Flattened, Front, to-flat, goes-flat, flattened, flat-said, to-front, goes-front, Fronts, fronted, front-said, told, shuts}
 use Rattle.interval_bit_set.proofs.write.write_map as write
