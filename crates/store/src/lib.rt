@@ -1,6 +1,6 @@
 // The store: a lent slice of words that is a pool of worlds, each of which holds a set of positions. Words 0 to 7 are the header, world k has its
 // record in the words 8(1 + k) on, and node n of the run index the words 8(16 + n) on; the nodes that no world has form the free chain. Only
-// this crate knows where the words of the header and of the records lie: other code has a world by value, and the nodes.
+// this crate and `soundness` know where the words of the header and of the records lie: other code has a world by value, and the nodes.
 ghost use mathlib.Core.Path.{_≡_};
 ghost use Prim.Native.Nat.{_+_};
 ghost use Rattle.model.specs.Pools.{claim};
