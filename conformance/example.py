@@ -6,6 +6,8 @@ import sys
 # The sets: lists of runs (start, end), both held, in order and with a gap between any two.
 
 LAST = 2**64 - 1
+SIDE = 65536  # rows and columns of the plane of cells; the cell at a row and a column is row * SIDE + column
+STALE = 0xEEEEEEEEEEEEEEEE  # what each word of a lent slice is
 
 
 class Refused(Exception):
@@ -95,7 +97,7 @@ class Store:
         require(fewest(height) <= self.capacity, 8)
         words = [end for rank in level_by_level(height) for end in (2 * rank, 2 * rank)]
         require(len(words) <= room, 2)
-        return (len(words), *words, *[0xEEEEEEEEEEEEEEEE] * (room - len(words)))
+        return worded(room, words)
 
 
 class World:
@@ -227,8 +229,36 @@ class World:
         number = sum((2 ** (end - start + 1) - 1) << start - first for start, end in held(self.runs, first, last))
         return fill_front(room, number.to_bytes((length + 7) // 8, "little"))
 
+    def set_rect(self, top, left, bottom, right, value):
+        cells, old = union(rows(top, left, bottom, right)), self.runs
+        self.keep(union(old + cells) if value else without(old, cells))
+        return size(without(cells, old)) if value else size(without(old, self.runs))
+
+    def count_rect(self, top, left, bottom, right):
+        return sum(size(held(self.runs, first, last)) for first, last in rows(top, left, bottom, right))
+
+    def survey(self, row, column, k, room):
+        require(k <= 8 and max(row, column) + 2**k <= SIDE, 15)
+        return worded(room, self.pieces(row, column, 2**k, 2**k))
+
+    def pieces(self, row, column, high, wide):
+        count = self.count_rect(row, column, row + high - 1, column + wide - 1)
+        if count in (0, high * wide):
+            return [row, column, high, wide, int(count > 0)]
+        if high == wide:  # a square is halved by column, and what is left of one by row
+            wide //= 2
+            return self.pieces(row, column, high, wide) + self.pieces(row, column + wide, high, wide)
+        high //= 2
+        return self.pieces(row, column, high, wide) + self.pieces(row + high, column, high, wide)
+
     def fill(self, base, length):
         return (1000 * size(held(self.runs, *window(base, length))) + length - 1) // length
+
+
+def rows(top, left, bottom, right):
+    """The rows of a rectangle, each as a run."""
+    require(top <= bottom < SIDE and left <= right < SIDE, 15)
+    return [(row * SIDE + left, row * SIDE + right) for row in range(top, bottom + 1)]
 
 
 def fewest(height):
@@ -294,6 +324,12 @@ def fill_front(room, due):
     return len(due), due + b"\xee" * (room - len(due))
 
 
+def worded(room, due):
+    """The same of words."""
+    require(len(due) <= room, 2)
+    return (len(due), *due, *[STALE] * (room - len(due)))
+
+
 # The reader. Of each call its arguments: s a store, p the place of a world, n a number, r both bounds of a range, w a word, b bytes, l a list of
 # pairs. Of those that answer more than "done", how the answer begins.
 
@@ -302,12 +338,13 @@ ARGUMENTS = {
     "select": "prnn", "gap": "prn", "ranges": "prn", "draw_front": "pnnn", "draw_back": "pnnn", "shift": "pnn",
     "shifted": "ppnn", "combine": "pwpp", "not": "pp", "eq": "pp", "load": "pb", "mend": "pbnn", "build": "pl", "write_set": "pnn", "read_map": "pnnb",
     "write_map": "pnnn", "clear_map": "nnb", "convert": "bn", "fill": "pnn", "set_strict": "prn", "flip_strict": "pr", "tally_strict": "prn",
+    "set_rect": "pnnnnn", "count_rect": "pnnnn", "survey": "pnnnn",
 }
 ANSWERS = {
     "set": "number", "get": "value", "run_at": "run", "find": "at", "tally": "number", "select": "at", "gap": "at",
     "ranges": "listing", "draw_front": "drawn", "draw_back": "drawn", "eq": "value", "mend": "written", "write_set": "written", "read_map": "number",
     "write_map": "written", "clear_map": "cleared", "convert": "written", "deepest": "worded", "fill": "number", "set_strict": "number",
-    "tally_strict": "number",
+    "tally_strict": "number", "set_rect": "number", "count_rect": "number", "survey": "worded",
 }
 STORELESS = {"clear_map": clear_map, "convert": convert}
 
@@ -360,13 +397,13 @@ def answer(line, stores):
     return " ".join([begin, *(v.hex() or "-" if isinstance(v, bytes) else str(v) for v in values)])
 
 
-# Frames. Of each number that names a call what it takes of a record: r both bounds, x and y their values, v the truth, k the number. A record
-# with a withdrawn number asks at a world that no pool has.
+# Frames. Of each number that names a call what it takes of a record: r both bounds, x and y their values, q the four words of both as corners, v the
+# truth, k the number. A record with a withdrawn number asks at a world that no pool has.
 
 CALLS = {
     1: ("empty", ""), 2: ("set", "rv"), 3: ("flip", "r"), 4: ("shift", "xv"), 5: ("run_at", "x"), 6: ("find", "rv"), 8: ("select", "rvk"),
     10: ("ranges", "rv"), 11: ("draw_front", "xyv"), 12: ("draw_back", "xyv"), 13: ("fill", "xy"), 14: ("gap", "rk"), 15: ("tally", "rv"),
-    16: ("set_strict", "rv"), 17: ("flip_strict", "r"), 18: ("tally_strict", "rv"),
+    16: ("set_strict", "rv"), 17: ("flip_strict", "r"), 18: ("tally_strict", "rv"), 19: ("set_rect", "qv"), 20: ("count_rect", "q"),
 }
 WITHDRAWN = {7, 9}
 
@@ -376,7 +413,7 @@ def play(store, number, lower, x, upper, y, value, k, world):
     name, kinds = CALLS.get(number, ("get", "x"))
     world = LAST if number in WITHDRAWN else world
     bounds = [x + (lower == 2) if lower in (1, 2) else 0, y - (upper == 2) if upper in (1, 2) else LAST]
-    given = {"r": bounds, "x": [x], "y": [y], "v": [int(value != 0)], "k": [k]}
+    given = {"r": bounds, "x": [x], "y": [y], "q": [lower, x, upper, y], "v": [int(value != 0)], "k": [k]}
     try:
         result = getattr(*worlds([(store, world)]), name)(*(word for kind in kinds for word in given[kind]))
     except Refused as refused:

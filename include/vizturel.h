@@ -19,9 +19,9 @@
  * copy the pool's words first, and lend the copy for what is read.
  *
  * REFUSALS. Every answer begins with a refusal's number, or is one; 0 means that the call was done. A refused call has changed no word and no
- * byte. Where several would hold, the first of this order is given: 1 of any pool, 11, 7 of any pool, 12 of any world, 13, 9, 14, 6, 10, 3 (under
- * 5 bytes), 4, 3, 5, 8, 2. Every call on a pool but vizturel_new and vizturel_deepest may be refused with 1, 7 and 12, of the pool that receives the
- * result too.
+ * byte. Where several would hold, the first of this order is given: 1 of any pool, 11, 7 of any pool, 12 of any world, 13, 9, 14, 15, 6, 10, 3
+ * (under 5 bytes), 4, 3, 5, 8, 2. Every call on a pool but vizturel_new and vizturel_deepest may be refused with 1, 7 and 12, of the pool that
+ * receives the result too.
  *
  *   1  a pool's length is not 8 * (C + 49) words for a C from 1 to 65,536
  *   2  an output is shorter than what is due
@@ -38,6 +38,8 @@
  *  12  no world of that number was opened
  *  13  the height of a tree is not from 1 to 22
  *  14  the range of a strict call is reversed
+ *  15  a rectangle or a square is not one of the plane of cells: a corner's row or column above 65,535, a first corner beyond the second in row or in
+ *      column, a k of vizturel_survey above 8, or a square that is not wholly on the plane
  *
  * 8 is given for no other cause. So a world can always have as many runs as its floor, whatever the others hold, and of the others it feels that
  * sum alone.
@@ -72,6 +74,10 @@ extern "C" {
 #define VIZTUREL_WORLDS 16
 #define VIZTUREL_HEIGHT 22
 
+/* how many rows, and how many columns, the plane of cells has; how many words hold any survey of a square of side 2^k */
+#define VIZTUREL_SIDE 65536
+#define VIZTUREL_SURVEY_WORDS(k) (5 * ((size_t)1 << (2 * (k))))
+
 enum vizturel_refusal {
     VIZTUREL_DONE = 0,
     VIZTUREL_STORE_LENGTH = 1,
@@ -87,7 +93,8 @@ enum vizturel_refusal {
     VIZTUREL_WORLD_LIMITS = 11,
     VIZTUREL_WORLD_UNOPENED = 12,
     VIZTUREL_TREE_HEIGHT = 13,
-    VIZTUREL_RANGE_REVERSED = 14
+    VIZTUREL_RANGE_REVERSED = 14,
+    VIZTUREL_OFF_PLANE = 15
 };
 
 /* Kinds of bounds: none, one that includes its value, one that excludes it. Other numbers are reserved. */
@@ -118,6 +125,24 @@ static inline vizturel_bound vizturel_excluded(uint64_t value) {
 static inline vizturel_bound vizturel_unbounded(void) {
     vizturel_bound b = {VIZTUREL_UNBOUNDED, 0};
     return b;
+}
+
+/* A rectangle of cells by its two corners, which both belong to it: rows top to bottom and columns left to right. The plane has rows and columns 0 to
+ * 65,535; the cell at a row and a column is the position that vizturel_cell tells, row * 65,536 + column. */
+typedef struct {
+    uint64_t top;
+    uint64_t left;
+    uint64_t bottom;
+    uint64_t right;
+} vizturel_rect;
+
+static inline vizturel_rect vizturel_corners(uint64_t top, uint64_t left, uint64_t bottom, uint64_t right) {
+    vizturel_rect r = {top, left, bottom, right};
+    return r;
+}
+
+static inline uint64_t vizturel_cell(uint16_t row, uint16_t column) {
+    return (uint64_t)row * VIZTUREL_SIDE + column;
 }
 
 /* How two sets are joined. Other numbers are reserved. */
@@ -245,10 +270,14 @@ uint64_t vizturel_flip(uint64_t *words, size_t count, uint64_t world, vizturel_b
 vizturel_counted vizturel_set_strict(uint64_t *words, size_t count, uint64_t world, vizturel_bound lower, vizturel_bound upper, uint64_t value);
 uint64_t vizturel_flip_strict(uint64_t *words, size_t count, uint64_t world, vizturel_bound lower, vizturel_bound upper);
 
+/* Gives the cells of a rectangle the value, and tells how many changed. 8 goes by the runs after the whole rectangle: where they do not fit, no row
+ * is changed. Refused with 15, 8. */
+vizturel_counted vizturel_set_rect(uint64_t *words, size_t count, uint64_t world, vizturel_rect rect, uint64_t value);
+
 /* Moves every position by the distance, up where left is not 0, else down; what leaves 0 .. M is dropped. */
 uint64_t vizturel_shift(uint64_t *words, size_t count, uint64_t world, uint64_t distance, uint64_t left);
 
-/* ---- reports of a world. Each is refused with 1, 7, 12; the strict tally, gap and fill also as is said there. */
+/* ---- reports of a world. Each is refused with 1, 7, 12; the strict tally, gap, fill and those of cells also as is said there. */
 
 /* The value of position x. */
 vizturel_tested vizturel_get(const uint64_t *words, size_t count, uint64_t world, uint64_t x);
@@ -285,6 +314,17 @@ vizturel_found vizturel_gap(const uint64_t *words, size_t count, uint64_t world,
 
 /* 1000 * held positions / window length, rounded up: 0 exactly where none is held, and 1000 where all are. Refused with 6. */
 vizturel_numbered vizturel_fill(const uint64_t *words, size_t count, uint64_t world, uint64_t base, uint64_t length);
+
+/* How many cells of a rectangle are held. Refused with 15. */
+vizturel_numbered vizturel_count_rect(const uint64_t *words, size_t count, uint64_t world, vizturel_rect rect);
+
+/* Surveys the square of side 2^k, k from 0 to 8, whose first cell is at the row and the column: writes its pieces to the front of out, five words
+ * each, first row, first column, rows, columns and value, 1 for held and 0 for free; the rest of out stays. A piece that has one value is listed, and
+ * any other is halved: the square by column, its halves by row, their halves by column, and so on; the left half comes before the right one, the
+ * upper before the lower. So every cell is in one piece, and worlds that hold the same cells are surveyed alike. VIZTUREL_SURVEY_WORDS(k) words are
+ * always enough. Refused with 15, 2. */
+vizturel_worded vizturel_survey(const uint64_t *words, size_t count, uint64_t world, uint64_t row, uint64_t column, uint64_t k, uint64_t *out,
+                                size_t out_count);
 
 /* Whether two worlds hold the same positions, whatever the capacities and limits. They may be of one pool. */
 vizturel_tested vizturel_eq(const uint64_t *words, size_t count, uint64_t world, const uint64_t *b, size_t b_count, uint64_t b_world);
@@ -387,7 +427,9 @@ enum vizturel_call_number {
     VIZTUREL_CALL_TALLY = 15,
     VIZTUREL_CALL_SET_STRICT = 16,
     VIZTUREL_CALL_FLIP_STRICT = 17,
-    VIZTUREL_CALL_TALLY_STRICT = 18
+    VIZTUREL_CALL_TALLY_STRICT = 18,
+    VIZTUREL_CALL_SET_RECT = 19,
+    VIZTUREL_CALL_COUNT_RECT = 20
 };
 
 /* A call as a record of eight words; words that the call has no use for are not read.
@@ -395,7 +437,9 @@ enum vizturel_call_number {
  *   upper.value  also the length of fill, the last position of a draw's listing
  *   value        anything but 0 is true; a shift goes up (left) then
  *   k            of select; also the length of gap
- *   world        the number of the call's world, of every call */
+ *   world        the number of the call's world, of every call
+ * Of set_rect and count_rect lower.kind, lower.value, upper.kind and upper.value are the first row, the first column, the last row and the last
+ * column. */
 typedef struct {
     uint64_t call;
     vizturel_bound lower;
@@ -406,9 +450,9 @@ typedef struct {
 } vizturel_call;
 
 /* An answer as a record of eight words, zeros where the call tells nothing. A refused call tells its refusal alone.
- *   set                  found * 2^64 + number positions
+ *   set, set_rect        found * 2^64 + number positions
  *   tally                found * 2^64 + number positions, in as many runs as end says
- *   fill                 number
+ *   fill, count_rect     number
  *   get                  number, 0 or 1
  *   run_at               the run number .. end
  *   find, select, gap    position number, where found is 1
@@ -428,7 +472,7 @@ typedef struct {
 } vizturel_answer;
 
 /* Makes every call of a list in order and writes their answers into the front of a slice; the words after them stay as they were. A call
- * of the list that is refused (with 12, 9, 14, 6 or 8) has changed nothing, and the next one follows. Words of calls after the last whole record
+ * of the list that is refused (with 12, 9, 14, 15, 6 or 8) has changed nothing, and the next one follows. Words of calls after the last whole record
  * are not read. The whole is refused with 1 or 7 of the pool before the first call, or 2 where answers is too short for a record of each call:
  * then no call was made. */
 uint64_t vizturel_frame(uint64_t *words, size_t n, const uint64_t *calls, size_t calls_words, uint64_t *answers, size_t answers_words);

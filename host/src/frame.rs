@@ -24,7 +24,7 @@
 
 use std::ops::{Bound, RangeBounds, RangeInclusive};
 
-use crate::{Answer, Listing, Tally, answer, positions};
+use crate::{Answer, Listing, Rect, Tally, answer, positions};
 
 /// A lower and an upper bound.
 pub type Range = (Bound<u64>, Bound<u64>);
@@ -50,6 +50,8 @@ pub enum Call {
     DrawFront(Listing),
     DrawBack(Listing),
     Fill { base: u64, n: u64 },
+    SetRect(Rect, bool),
+    CountRect(Rect),
 }
 
 fn range(r: impl RangeBounds<u64>) -> Range {
@@ -104,11 +106,11 @@ impl Call {
 pub enum Reply {
     /// `Empty`, `Flip`, `FlipStrict`, `Shift`.
     Done,
-    /// `Set`, `SetStrict`: how many positions changed.
+    /// `Set`, `SetStrict`, `SetRect`: how many positions changed.
     Count(u128),
     /// `Tally`, `TallyStrict`.
     Tally(Tally),
-    /// `Fill`.
+    /// `Fill`, `CountRect`.
     Number(u64),
     /// `Get`.
     Value(bool),
@@ -126,8 +128,9 @@ pub enum Reply {
 /// words are 0, it is `Get(0)` at world 0.
 ///
 /// 7 and 9 are withdrawn: records with these numbers are answered with 12, whatever world they name. All other numbers of calls and kinds of
-/// bounds that no [`Call`] has are reserved: a later version may give them a meaning. This version answers a call number above 18 as `Get`, and
-/// takes a kind above 2 for no bound; do not rely on that.
+/// bounds that no [`Call`] has are reserved: a later version may give them a meaning. This version answers a call number above 20 as `Get`, and
+/// takes a kind above 2 for no bound; do not rely on that. The two calls on a rectangle have no bounds: the four words of these are the first row, the
+/// first column, the last row and the last column.
 #[repr(C)]
 #[derive(Clone, Copy, Debug, Default, PartialEq, Eq)]
 pub struct CallRecord {
@@ -185,6 +188,14 @@ impl From<(u64, Call)> for CallRecord {
             }
         };
         let of_range = |call, r, value: bool| CallRecord { value: value.into(), ..over(call, r) };
+        let of_rect = |call, Rect { top, left, bottom, right }: Rect| CallRecord {
+            call,
+            lower_kind: top,
+            lower: left,
+            upper_kind: bottom,
+            upper: right,
+            ..none
+        };
         let of_listing = |call, Listing { first, last, value }: Listing| CallRecord {
             call,
             lower: first,
@@ -210,6 +221,8 @@ impl From<(u64, Call)> for CallRecord {
             Call::SetStrict(r, value) => of_range(16, r, value),
             Call::FlipStrict(r) => over(17, r),
             Call::TallyStrict(r, value) => of_range(18, r, value),
+            Call::SetRect(rect, value) => CallRecord { value: value.into(), ..of_rect(19, rect) },
+            Call::CountRect(rect) => of_rect(20, rect),
         }
     }
 }
@@ -221,11 +234,11 @@ impl AnswerRecord {
         let listing = Listing { first: self.first, last: self.last, value: self.value == 1 };
         let told = match call {
             Call::Empty | Call::Flip(_) | Call::FlipStrict(_) | Call::Shift { .. } => Reply::Done,
-            Call::Set(..) | Call::SetStrict(..) => Reply::Count(positions(self.found, self.number)),
+            Call::Set(..) | Call::SetStrict(..) | Call::SetRect(..) => Reply::Count(positions(self.found, self.number)),
             Call::Tally(..) | Call::TallyStrict(..) => {
                 Reply::Tally(Tally { positions: positions(self.found, self.number), runs: self.end })
             }
-            Call::Fill { .. } => Reply::Number(self.number),
+            Call::Fill { .. } | Call::CountRect(_) => Reply::Number(self.number),
             Call::Get(_) => Reply::Value(self.number == 1),
             Call::RunAt(_) => Reply::Run(self.number..=self.end),
             Call::Find(..) | Call::Select(..) | Call::Gap(..) => Reply::Position(found.then_some(self.number)),

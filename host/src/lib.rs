@@ -80,11 +80,14 @@ pub enum Refusal {
     TreeHeight = 13,
     /// The range of a strict call is reversed: its lower bound allows no position up to the one after the last that its upper bound allows.
     RangeReversed = 14,
+    /// A rectangle or a square is not one of the plane: a corner's row or column is above 65,535, the first corner is beyond the second in
+    /// row or in column, k of a survey is above 8, or its square is not wholly on the plane.
+    OffPlane = 15,
 }
 
 impl Refusal {
     /// Every refusal, by its number.
-    pub const ALL: [Refusal; 14] = [
+    pub const ALL: [Refusal; 15] = [
         Refusal::StoreLength,
         Refusal::OutputShort,
         Refusal::SetLength,
@@ -99,9 +102,10 @@ impl Refusal {
         Refusal::WorldUnopened,
         Refusal::TreeHeight,
         Refusal::RangeReversed,
+        Refusal::OffPlane,
     ];
 
-    /// The number of the refusal, from 1 to 14.
+    /// The number of the refusal, from 1 to 15.
     pub fn number(self) -> u64 {
         self as u64
     }
@@ -124,6 +128,9 @@ impl fmt::Display for Refusal {
             Refusal::WorldUnopened => "a world of that number was not opened",
             Refusal::TreeHeight => "the height of a tree is not from 1 to 22",
             Refusal::RangeReversed => "the range of a strict call is reversed",
+            Refusal::OffPlane => {
+                "a rectangle's corners are not in order or not on the plane, or a square is not wholly on it"
+            }
         })
     }
 }
@@ -213,6 +220,73 @@ impl Limits {
 
 // The library reads limits as words, in turn.
 const _: () = assert!(size_of::<Limits>() == 16 && align_of::<Limits>() == 8);
+
+/// How many rows the plane of cells has, and how many columns.
+pub const SIDE: u64 = 65_536;
+
+/// The position of the cell at a row and a column: row × 65,536 + column.
+pub const fn cell(row: u16, column: u16) -> u64 {
+    row as u64 * SIDE + column as u64
+}
+
+/// A rectangle of cells: the rows from top to bottom and the columns from left to right, the last ones included. Any numbers make one; a call
+/// refuses it with 15 where a row or a column is above 65,535, or the last before the first.
+#[repr(C)]
+#[derive(Clone, Copy, Debug, PartialEq, Eq)]
+pub struct Rect {
+    pub top: u64,
+    pub left: u64,
+    pub bottom: u64,
+    pub right: u64,
+}
+
+impl Rect {
+    /// Every cell of the plane.
+    pub const PLANE: Rect = Rect::new((0, 0), (SIDE - 1, SIDE - 1));
+
+    /// From its first corner to its second, each a row and a column, and both in it. They are not put in order.
+    pub const fn new(first: (u64, u64), second: (u64, u64)) -> Rect {
+        Rect { top: first.0, left: first.1, bottom: second.0, right: second.1 }
+    }
+
+    /// One cell.
+    pub const fn cell(row: u64, column: u64) -> Rect {
+        Rect::new((row, column), (row, column))
+    }
+}
+
+// The library takes a rectangle as four words.
+const _: () = assert!(size_of::<Rect>() == 32 && align_of::<Rect>() == 8);
+
+/// A piece of a survey: so many rows and columns from a cell on, all of one value, 1 where they are held and 0 where they are free.
+#[repr(C)]
+#[derive(Clone, Copy, Debug, Default, PartialEq, Eq)]
+pub struct Piece {
+    pub row: u64,
+    pub column: u64,
+    pub rows: u64,
+    pub columns: u64,
+    pub value: u64,
+}
+
+impl Piece {
+    /// How many words a piece has.
+    pub const WORDS: usize = 5;
+
+    /// Whether its cells are held.
+    pub const fn is_held(self) -> bool {
+        self.value == 1
+    }
+
+    /// Its cells as a rectangle; a piece that the library wrote has some.
+    pub const fn rect(self) -> Rect {
+        let (bottom, right) = (self.row + self.rows - 1, self.column + self.columns - 1);
+        Rect { top: self.row, left: self.column, bottom, right }
+    }
+}
+
+// The library writes a piece as five words.
+const _: () = assert!(size_of::<Piece>() == 8 * Piece::WORDS && align_of::<Piece>() == 8);
 
 /// The words of a pool: see the crate's description.
 #[derive(Clone, Debug)]
@@ -587,6 +661,29 @@ impl<S: AsMut<[u64]>> World<S> {
         answer(unsafe { raw::vizturel_flip_strict(w, n, i, lower, upper) }, ())
     }
 
+    /// Gives the cells of a rectangle the value, and tells how many changed. Where the runs that it would leave do not fit, no row is changed.
+    /// Refused with 15, or with 8 for the runs after the whole rectangle.
+    ///
+    /// ```
+    /// use vizturel::{Rect, Refusal, SetBuf, cell};
+    /// # fn main() -> Result<(), vizturel::Refusal> {
+    /// let mut cells = SetBuf::with_capacity(8)?;
+    /// // Four rows of three columns, then a hole of one cell.
+    /// let block = Rect::new((10, 20), (13, 22));
+    /// assert_eq!(cells.set_rect(block, true), Ok(12));
+    /// assert_eq!(cells.set_rect(Rect::cell(11, 21), false), Ok(1));
+    /// assert_eq!(cells.count_rect(block), Ok(11));
+    /// assert_eq!(cells.get(cell(11, 21)), Ok(false));
+    /// // The corners stand in order.
+    /// assert_eq!(cells.set_rect(Rect::new((13, 22), (10, 20)), true), Err(Refusal::OffPlane));
+    /// # Ok(())
+    /// # }
+    /// ```
+    pub fn set_rect(&mut self, rect: Rect, value: bool) -> Answer<u128> {
+        let (w, n, i) = self.lent_mut();
+        count(unsafe { raw::vizturel_set_rect(w, n, i, rect, value.into()) })
+    }
+
     /// Moves every position up (left) or down; what would leave 0 ..= 2^64 − 1 is dropped.
     pub fn shift(&mut self, distance: u64, left: bool) -> Answer<()> {
         let (w, n, i) = self.lent_mut();
@@ -813,6 +910,41 @@ impl<S: AsRef<[u64]>> World<S> {
     pub fn fill(&self, base: u64, length: u64) -> Answer<u64> {
         let (w, n, i) = self.lent();
         number(unsafe { raw::vizturel_fill(w, n, i, base, length) })
+    }
+
+    /// How many cells of a rectangle are held: see [`set_rect`](World::set_rect). Refused with 15.
+    pub fn count_rect(&self, rect: Rect) -> Answer<u64> {
+        let (w, n, i) = self.lent();
+        number(unsafe { raw::vizturel_count_rect(w, n, i, rect) })
+    }
+
+    /// Surveys the square of side 2^k, k from 0 to 8, whose first cell is given by row and column, into the front of a slice, and hands that
+    /// part back; the rest of the slice stays. A piece that has one value is listed, and any other is halved: the square by column, its halves
+    /// by row, their halves by column, and so on. The left half stands before the right one, the upper before the lower. Every cell is in one
+    /// piece, and worlds that hold the same cells are surveyed alike. 4^k pieces are always enough. Refused with 15, or with 2; then the slice
+    /// stays.
+    ///
+    /// ```
+    /// use vizturel::{Piece, Rect, SetBuf};
+    /// # fn main() -> Result<(), vizturel::Refusal> {
+    /// let mut cells = SetBuf::with_capacity(8)?;
+    /// cells.set_rect(Rect::new((0, 0), (1, 3)), true)?;
+    /// // A square of four by four: its upper half is held, but columns are halved first.
+    /// let mut out = [Piece::default(); 16];
+    /// let pieces = cells.survey(0, 0, 2, &mut out)?;
+    /// let of = |row, column, value| Piece { row, column, rows: 2, columns: 2, value };
+    /// assert_eq!(pieces, [of(0, 0, 1), of(2, 0, 0), of(0, 2, 1), of(2, 2, 0)]);
+    /// let held: u64 = pieces.iter().filter(|piece| piece.is_held()).map(|piece| piece.rows * piece.columns).sum();
+    /// assert_eq!(held, cells.count_rect(Rect::new((0, 0), (3, 3)))?);
+    /// # Ok(())
+    /// # }
+    /// ```
+    pub fn survey<'o>(&self, row: u64, column: u64, k: u64, out: &'o mut [Piece]) -> Answer<&'o mut [Piece]> {
+        let (w, n, i) = self.lent();
+        // Any words are a piece, and the library writes whole ones.
+        let (to, room) = (out.as_mut_ptr().cast(), Piece::WORDS * out.len());
+        let written = number(unsafe { raw::vizturel_survey(w, n, i, row, column, k, to, room) })?;
+        Ok(&mut out[..written as usize / Piece::WORDS])
     }
 
     /// Whether two worlds, of one pool or of two, hold the same positions.

@@ -1,5 +1,7 @@
 //! The exported functions as C sees them: a slice is a pointer and a count, an answer begins with its refusal's number, or 0.
 
+use crate::Rect;
+
 #[repr(C)]
 #[derive(Clone, Copy)]
 pub struct Bound {
@@ -124,6 +126,18 @@ unsafe extern "C" {
     pub fn vizturel_draw_back(words: *const u64, count: usize, world: u64, first: u64, last: u64, value: u64) -> Drawn;
     pub fn vizturel_gap(words: *const u64, count: usize, world: u64, lower: Bound, upper: Bound, n: u64) -> Found;
     pub fn vizturel_fill(words: *const u64, count: usize, world: u64, base: u64, n: u64) -> Numbered;
+    pub fn vizturel_set_rect(words: *mut u64, count: usize, world: u64, rect: Rect, value: u64) -> Counted;
+    pub fn vizturel_count_rect(words: *const u64, count: usize, world: u64, rect: Rect) -> Numbered;
+    pub fn vizturel_survey(
+        words: *const u64,
+        count: usize,
+        world: u64,
+        row: u64,
+        column: u64,
+        k: u64,
+        out: *mut u64,
+        room: usize,
+    ) -> Numbered;
     pub fn vizturel_combine(
         words: *mut u64,
         count: usize,

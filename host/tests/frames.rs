@@ -4,7 +4,7 @@ use std::ops::Bound;
 
 use vizturel::differential::random::Random;
 use vizturel::frame::{AnswerRecord, Call, CallRecord, Range, Reply};
-use vizturel::{Answer, Limits, Listing, PoolBuf, Refusal, Set, SetBuf, Tally, World};
+use vizturel::{Answer, Limits, Listing, PoolBuf, Rect, Refusal, Set, SetBuf, Tally, World};
 
 const M: u64 = u64::MAX;
 
@@ -43,6 +43,8 @@ fn single(set: &mut World<&mut [u64]>, call: Call) -> Answer<Reply> {
         Call::DrawFront(mut l) => Reply::Drawn(set.draw_front(&mut l)?, l),
         Call::DrawBack(mut l) => Reply::Drawn(set.draw_back(&mut l)?, l),
         Call::Fill { base, n } => Reply::Number(set.fill(base, n)?),
+        Call::SetRect(rect, value) => Reply::Count(set.set_rect(rect, value)?),
+        Call::CountRect(rect) => Reply::Number(set.count_rect(rect)?),
     })
 }
 
@@ -62,6 +64,8 @@ fn range(random: &mut Random) -> Range {
 fn any_call(random: &mut Random) -> Call {
     let (r, x, y, v) = (range(random), position(random), position(random), random.truth());
     let listing = Listing { first: x, last: y, value: v };
+    let rows = [random.below(3), random.below(3)];
+    let rect = Rect::new((rows[0], x), (rows[1], y));
     let calls = [
         Call::Set((Bound::Included(x), Bound::Included(y)), v),
         Call::Set(r, v),
@@ -80,6 +84,8 @@ fn any_call(random: &mut Random) -> Call {
         Call::DrawFront(listing),
         Call::DrawBack(listing),
         Call::Fill { base: x, n: y },
+        Call::SetRect(rect, v),
+        Call::CountRect(rect),
     ];
     if random.once_in(60) { Call::Empty } else { random.one_of(&calls) }
 }
@@ -91,6 +97,7 @@ fn a_list_is_its_calls_one_by_one() {
     let mut unopened = 0;
     let mut no_length = 0;
     let mut reversed = 0;
+    let mut off_plane = 0;
     for turn in 0..400 {
         let worlds = 1 + turn / 4 % 3;
         let limits = [Limits { floor: 0, ceiling: 3 }, Limits { floor: 1, ceiling: 2 }, Limits::NONE];
@@ -108,6 +115,7 @@ fn a_list_is_its_calls_one_by_one() {
             unopened += right.iter().filter(|told| **told == Err(Refusal::WorldUnopened)).count();
             no_length += right.iter().filter(|told| **told == Err(Refusal::GapLength)).count();
             reversed += right.iter().filter(|told| **told == Err(Refusal::RangeReversed)).count();
+            off_plane += right.iter().filter(|told| **told == Err(Refusal::OffPlane)).count();
             assert_eq!(listed.frame(&calls), Ok(right), "{calls:?}");
             for world in 0..worlds as u64 {
                 assert_eq!(listed.world(world).eq(&called.world(world)), Ok(true), "{calls:?}");
@@ -116,6 +124,7 @@ fn a_list_is_its_calls_one_by_one() {
     }
     assert!(refused > 100 && unopened > 100, "only {refused} calls were refused with 8, {unopened} with 12");
     assert!(no_length > 100 && reversed > 100, "only {no_length} calls were refused with 9, {reversed} with 14");
+    assert!(off_plane > 100, "only {off_plane} calls were refused with 15");
 }
 
 #[test]
@@ -155,9 +164,10 @@ fn ranges_of_any_kind() {
 #[test]
 fn records_keep_to_named_numbers() {
     let mut random = Random::new(2);
-    let mut seen = [0; 19];
+    let mut seen = [0; 21];
     for world in 0..4_000 {
         let record = CallRecord::from((world, any_call(&mut random)));
+        // Of a rectangle the words of the kinds are rows, and there are three.
         assert!(record.lower_kind <= 2 && record.upper_kind <= 2 && record.world == world, "{record:?}");
         seen[record.call as usize] += 1;
     }

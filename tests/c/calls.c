@@ -1,6 +1,6 @@
 /* The library through include/vizturel.h: the sixteen cases of the scope document, the editions of written sets, mended sets, the lowest gap, strict
- * calls, spare bits of maps, maps by words and by single bytes, the deepest trees, each refusal, that a refused call changes nothing, calls by lists,
- * and worlds that share a pool. Compiled as C and as C++.
+ * calls, spare bits of maps, maps by words and by single bytes, the deepest trees, cells of a grid, each refusal, that a refused call changes nothing,
+ * calls by lists, and worlds that share a pool. Compiled as C and as C++.
  * Prints what failed, and last 'N passed, M failed'. */
 #include <stdio.h>
 #include <stdlib.h>
@@ -25,6 +25,12 @@ WORD(vizturel_call, upper.value, 4);
 WORD(vizturel_call, value, 5);
 WORD(vizturel_call, k, 6);
 WORD(vizturel_call, world, 7);
+/* a rectangle is four words */
+ASSERT(sizeof(vizturel_rect) == 32, "a rectangle has four words");
+WORD(vizturel_rect, top, 0);
+WORD(vizturel_rect, left, 1);
+WORD(vizturel_rect, bottom, 2);
+WORD(vizturel_rect, right, 3);
 WORD(vizturel_answer, refusal, 0);
 WORD(vizturel_answer, found, 1);
 WORD(vizturel_answer, number, 2);
@@ -680,6 +686,134 @@ static void deepest(void) {
     CHECK(vizturel_deepest(s, VIZTUREL_WORDS(12), 5, list, 24).words == 24);
 }
 
+#define RECT vizturel_corners
+static int is_number(vizturel_numbered n, uint64_t x) { return n.refusal == 0 && n.number == x; }
+
+/* Whether words are a survey of a square of the pool s, as told: every cell in one piece, and of its value; no two pieces that are halves of one and
+ * of one value, which would have been listed as that one. */
+static int is_survey(uint64_t row, uint64_t column, uint64_t side, const uint64_t *p, size_t words) {
+    uint8_t met[64];
+    uint64_t r, c;
+    size_t i;
+    memset(met, 0, sizeof met);
+    if (words % 5 != 0 || side > 8) return 0;
+    for (i = 0; i < words; i += 5) {
+        if (p[i] < row || p[i + 1] < column || p[i] + p[i + 2] > row + side || p[i + 1] + p[i + 3] > column + side) return 0;
+        for (r = p[i]; r < p[i] + p[i + 2]; r++) {
+            for (c = p[i + 1]; c < p[i + 1] + p[i + 3]; c++) {
+                if (met[8 * (r - row) + c - column]++) return 0;
+                if (vizturel_get(s, WORDS, here, vizturel_cell((uint16_t)r, (uint16_t)c)).value != p[i + 4]) return 0;
+            }
+        }
+        if (i >= 5 && p[i - 1] == p[i + 4] && p[i - 3] == p[i + 2] && p[i - 2] == p[i + 3]) {
+            int above = p[i - 4] == p[i + 1] && p[i - 5] + p[i + 2] == p[i] && p[i + 2] == p[i + 3] && (p[i - 5] - row) % (2 * p[i + 2]) == 0;
+            int before = p[i - 5] == p[i] && p[i - 4] + p[i + 3] == p[i + 1] && p[i + 2] == 2 * p[i + 3] && (p[i - 4] - column) % (2 * p[i + 3]) == 0;
+            if (above || before) return 0;
+        }
+    }
+    for (r = 0; r < side; r++) {
+        for (c = 0; c < side; c++) {
+            if (!met[8 * r + c]) return 0;
+        }
+    }
+    return 1;
+}
+
+/* Cells of a grid: rectangles at the plane's corners, of full width and of all cells; with no room for a run more; surveys against single cells, in
+ * slices of just what is due, of a word less and of more; and the refusals, in their order. */
+static void cells(void) {
+    static const uint64_t block[] = {65538, 65540, 131074, 131076, 196610, 196612}, row[] = {131072, 196607};
+    static const uint64_t due[] = {0, 0, 4, 2, 0, 0, 2, 1, 1, 0, 1, 2, 1, 1, 1, 0, 3, 1, 1, 0, 1, 3, 1, 1, 1, 2, 2, 2, 2, 1};
+    static const uint64_t no_side[] = {9, 10, 63, 64, UINT64_C(1) << 32, M};
+    static const uint64_t off[] = {65536, 65537, UINT64_C(1) << 32, M - 65535, M};
+    enum { DUE = sizeof due / sizeof *due };
+    uint64_t pieces[VIZTUREL_SURVEY_WORDS(3)], unwritten[VIZTUREL_SURVEY_WORDS(3)], i, k;
+    /* where the others of the pool leave room */
+    uint64_t most = here == 0 ? CAPACITY : CAPACITY - 2;
+    vizturel_worded d;
+    memset(unwritten, 0xEE, sizeof unwritten);
+
+    fresh(s, WORDS);
+    CHECK(is_count(vizturel_set_rect(s, WORDS, here, RECT(1, 2, 3, 4), 1), 9) && holds(s, WORDS, 3, block));
+    CHECK(is_count(vizturel_set_rect(s, WORDS, here, RECT(1, 2, 3, 4), M), 0));
+    CHECK(is_number(vizturel_count_rect(s, WORDS, here, RECT(0, 0, 1, 9)), 3) && is_number(vizturel_count_rect(s, WORDS, here, RECT(2, 3, 2, 3)), 1));
+    CHECK(is_number(vizturel_count_rect(s, WORDS, here, RECT(0, 0, 65535, 65535)), 9) && is_number(vizturel_count_rect(s, WORDS, here, RECT(4, 2, 4, 4)), 0));
+    memcpy(kept, s, sizeof s);
+    memcpy(pieces, unwritten, sizeof pieces);
+    d = vizturel_survey(s, WORDS, here, 0, 0, 2, pieces, DUE - 1);
+    CHECK(d.refusal == VIZTUREL_OUTPUT_SHORT && d.words == 0 && memcmp(pieces, unwritten, sizeof pieces) == 0);
+    CHECK(vizturel_survey(s, WORDS, here, 0, 0, 2, NULL, 0).refusal == VIZTUREL_OUTPUT_SHORT);
+    d = vizturel_survey(s, WORDS, here, 0, 0, 2, pieces, sizeof pieces / sizeof *pieces);
+    CHECK(d.refusal == VIZTUREL_DONE && d.words == DUE && memcmp(pieces, due, sizeof due) == 0);
+    CHECK(memcmp(pieces + DUE, unwritten + DUE, sizeof pieces - sizeof due) == 0);
+    memcpy(pieces, unwritten, sizeof pieces);
+    d = vizturel_survey(s, WORDS, here, 0, 0, 2, pieces, DUE);
+    CHECK(d.words == DUE && memcmp(pieces, due, sizeof due) == 0);
+    CHECK(memcmp(kept, s, sizeof s) == 0);
+    for (k = 0; k <= 3; k++) {
+        for (i = 0; i < 25; i++) {
+            d = vizturel_survey(s, WORDS, here, i / 5, i % 5, k, pieces, VIZTUREL_SURVEY_WORDS(k));
+            CHECK(d.refusal == VIZTUREL_DONE && is_survey(i / 5, i % 5, UINT64_C(1) << k, pieces, d.words));
+        }
+    }
+    d = vizturel_survey(s, WORDS, here, 65280, 65280, 8, pieces, 5);
+    CHECK(d.words == 5 && pieces[0] == 65280 && pieces[1] == 65280 && pieces[2] == 256 && pieces[3] == 256 && pieces[4] == 0);
+
+    /* full width is one run, and so is the plane; its corners are its first and last positions */
+    fresh(s, WORDS);
+    CHECK(is_count(vizturel_set_rect(s, WORDS, here, RECT(2, 0, 2, 65535), 1), 65536) && holds(s, WORDS, 1, row));
+    CHECK(is_count(vizturel_set_rect(s, WORDS, here, RECT(0, 0, 65535, 65535), 1), (UINT64_C(1) << 32) - 65536));
+    CHECK(is_run(vizturel_run_at(s, WORDS, here, 7), 0, (UINT64_C(1) << 32) - 1));
+    CHECK(is_count(vizturel_set_rect(s, WORDS, here, RECT(65535, 65535, 65535, 65535), 0), 1) && vizturel_get(s, WORDS, here, 4294967295).value == 0);
+    CHECK(is_number(vizturel_count_rect(s, WORDS, here, RECT(0, 0, 65535, 65535)), (UINT64_C(1) << 32) - 1));
+    CHECK(vizturel_set_rect(s, WORDS, here, RECT(0, 9, 65535, 9), 0).refusal == VIZTUREL_CAPACITY);
+
+    /* row 1 has as many runs as there is room for: row 0 may have one where these are joined, and not alone */
+    fresh(s, WORDS);
+    for (i = 0; i < most; i++) CHECK(is_count(vizturel_set_rect(s, WORDS, here, RECT(1, 2 * i, 1, 2 * i), 1), 1));
+    memcpy(kept, s, sizeof s);
+    CHECK(vizturel_set_rect(s, WORDS, here, RECT(0, 0, 0, 25), 1).refusal == VIZTUREL_CAPACITY);
+    CHECK(vizturel_set_rect(s, WORDS, here, RECT(0, 0, most, 0), 1).refusal == VIZTUREL_CAPACITY && memcmp(kept, s, sizeof s) == 0);
+    CHECK(is_count(vizturel_set_rect(s, WORDS, here, RECT(0, 0, 1, 25), 1), 2 * 26 - most) && is_tally(vizturel_tally(s, WORDS, here, ALL, ALL, 1), 52, 2));
+
+    /* 15 for each number of the corners, for corners that are swapped, for k and for squares; before 8 and 2, after 1 and 12 */
+    only(one, VIZTUREL_WORDS(1), 2, 7);
+    memcpy(kept, one, sizeof one);
+    memcpy(pieces, unwritten, sizeof pieces);
+    for (i = 0; i < sizeof off / sizeof *off; i++) {
+        uint64_t n = off[i];
+        const vizturel_rect rects[] = {RECT(n, 9, 65535, 9), RECT(0, n, 0, 65535), RECT(0, 9, n, 9), RECT(0, 9, 0, n), RECT(n, n, n, n)};
+        for (k = 0; k < sizeof rects / sizeof *rects; k++) {
+            vizturel_counted c = vizturel_set_rect(one, VIZTUREL_WORDS(1), here, rects[k], 1);
+            vizturel_numbered held = vizturel_count_rect(one, VIZTUREL_WORDS(1), here, rects[k]);
+            CHECK(c.refusal == VIZTUREL_OFF_PLANE && c.carry == 0 && c.low == 0 && held.refusal == VIZTUREL_OFF_PLANE && held.number == 0);
+            CHECK(vizturel_set_rect(one, VIZTUREL_WORDS(1) - 1, here, rects[k], 1).refusal == VIZTUREL_STORE_LENGTH);
+            CHECK(vizturel_count_rect(one, VIZTUREL_WORDS(1), 3, rects[k]).refusal == VIZTUREL_WORLD_UNOPENED);
+        }
+        CHECK(vizturel_survey(one, VIZTUREL_WORDS(1), here, n, 0, 0, pieces, 5).refusal == VIZTUREL_OFF_PLANE);
+        CHECK(vizturel_survey(one, VIZTUREL_WORDS(1), here, 0, n, 0, pieces, 0).refusal == VIZTUREL_OFF_PLANE);
+    }
+    CHECK(vizturel_set_rect(one, VIZTUREL_WORDS(1), here, RECT(1, 9, 0, 9), 1).refusal == VIZTUREL_OFF_PLANE);
+    CHECK(vizturel_set_rect(one, VIZTUREL_WORDS(1), here, RECT(0, 9, 0, 8), 1).refusal == VIZTUREL_OFF_PLANE);
+    CHECK(vizturel_count_rect(one, VIZTUREL_WORDS(1), here, RECT(1, 1, 0, 0)).refusal == VIZTUREL_OFF_PLANE);
+    for (i = 0; i < sizeof no_side / sizeof *no_side; i++) {
+        CHECK(vizturel_survey(one, VIZTUREL_WORDS(1), here, 0, 0, no_side[i], pieces, 0).refusal == VIZTUREL_OFF_PLANE);
+        CHECK(vizturel_survey(one, VIZTUREL_WORDS(1), 3, 0, 0, no_side[i], pieces, 0).refusal == VIZTUREL_WORLD_UNOPENED);
+        CHECK(vizturel_survey(one, VIZTUREL_WORDS(1) - 1, here, 0, 0, no_side[i], pieces, 0).refusal == VIZTUREL_STORE_LENGTH);
+    }
+    for (k = 0; k <= 8; k++) {
+        CHECK(vizturel_survey(one, VIZTUREL_WORDS(1), here, 65537 - (UINT64_C(1) << k), 0, k, pieces, 5).refusal == VIZTUREL_OFF_PLANE);
+        CHECK(vizturel_survey(one, VIZTUREL_WORDS(1), here, 0, 65537 - (UINT64_C(1) << k), k, pieces, 0).refusal == VIZTUREL_OFF_PLANE);
+        CHECK(vizturel_survey(one, VIZTUREL_WORDS(1), here, 65536 - (UINT64_C(1) << k), 0, k, pieces, 4).refusal == VIZTUREL_OUTPUT_SHORT);
+    }
+    CHECK(vizturel_set_rect(one, VIZTUREL_WORDS(1), here, RECT(0, 9, 0, 9), 1).refusal == VIZTUREL_CAPACITY);
+    CHECK(memcmp(kept, one, sizeof one) == 0 && memcmp(pieces, unwritten, sizeof pieces) == 0);
+    one[7] = 1;
+    CHECK(vizturel_set_rect(one, VIZTUREL_WORDS(1), 3, RECT(1, 9, 0, 9), 1).refusal == VIZTUREL_UNSOUND);
+    CHECK(vizturel_count_rect(one, VIZTUREL_WORDS(1), 3, RECT(1, 9, 0, 9)).refusal == VIZTUREL_UNSOUND);
+    CHECK(vizturel_survey(one, VIZTUREL_WORDS(1), 3, 0, 0, 9, pieces, 0).refusal == VIZTUREL_UNSOUND);
+}
+
 static void refusals(void) {
     static const uint8_t version_three[] = {3, 0, 0, 0, 0};
     uint8_t nothing[8] = {9, 9, 9, 9, 9, 9, 9, 9}, same[8] = {9, 9, 9, 9, 9, 9, 9, 9};
@@ -830,9 +964,27 @@ static void every_call(void) {
     CHECK(is(told[4], 0, 0, 0, 0, 0, 0, 0) && is(told[5], 0, 0, 5, 2, 0, 0, 0));
 }
 
+/* rectangles in a list: their corners stand in the words of the bounds */
+static void rectangles(void) {
+    const vizturel_bound first = {1, 2}, last = {2, 4}, plane_first = {0, 0}, plane_last = {65535, 65535}, past = {2, 65536};
+    only(s, WORDS, 2, 7);
+    list[0] = ask(VIZTUREL_CALL_SET_RECT, first, last, M, 9);
+    list[1] = ask(VIZTUREL_CALL_COUNT_RECT, plane_first, plane_last, 0, 9);
+    list[2] = ask(VIZTUREL_CALL_SET_RECT, last, first, 1, 0);
+    list[3] = ask(VIZTUREL_CALL_COUNT_RECT, first, past, 1, 0);
+    list[4] = ask(VIZTUREL_CALL_SET_RECT, plane_first, last, 0, 0);
+    list[5] = ask(VIZTUREL_CALL_COUNT_RECT, plane_first, last, 1, 0);
+    list[6] = ask(VIZTUREL_CALL_TALLY, ALL, ALL, 1, 0);
+    CHECK(play(7) == VIZTUREL_DONE);
+    CHECK(is(told[0], 0, 0, 6, 0, 0, 0, 0) && is(told[1], 0, 0, 12, 0, 0, 0, 0));
+    CHECK(is(told[2], VIZTUREL_OFF_PLANE, 0, 0, 0, 0, 0, 0) && is(told[3], VIZTUREL_OFF_PLANE, 0, 0, 0, 0, 0, 0));
+    /* columns 0 to 4 of rows 0 to 2: of the run 2 .. 7 three cells, and all six of the rectangle */
+    CHECK(is(told[4], 0, 0, 9, 0, 0, 0, 0) && is(told[5], 0, 0, 0, 0, 0, 0, 0) && is(told[6], 0, 0, 3, 1, 0, 0, 0));
+}
+
 /* reserved numbers, as this version answers them: calls are gets, kinds of bounds are no bound; and withdrawn ones, which are refused */
 static void any_record(void) {
-    static const uint64_t gets[] = {0, 19, 20, 258, (UINT64_C(1) << 32) + 2, (UINT64_C(1) << 63) + 2, M};
+    static const uint64_t gets[] = {0, 21, 22, 258, (UINT64_C(1) << 32) + 2, (UINT64_C(1) << 63) + 2, M};
     static const uint64_t run[] = {2, 7};
     const vizturel_bound odd = {3, 5}, odder = {M, 6};
     size_t i, n = sizeof gets / sizeof *gets;
@@ -1023,6 +1175,8 @@ static void unopened(void) {
         CHECK(vizturel_gap(s, WORDS, no, ALL, ALL, 0).refusal == VIZTUREL_WORLD_UNOPENED);
         CHECK(vizturel_fill(s, WORDS, no, 0, 0).refusal == VIZTUREL_WORLD_UNOPENED);
         CHECK(vizturel_read_map(s, WORDS, no, 0, 7, nothing, 0).refusal == VIZTUREL_WORLD_UNOPENED);
+        CHECK(vizturel_set_rect(s, WORDS, no, RECT(1, 1, 0, 0), 1).refusal == VIZTUREL_WORLD_UNOPENED);
+        CHECK(vizturel_survey(s, WORDS, no, 0, 0, 9, NULL, 0).refusal == VIZTUREL_WORLD_UNOPENED);
         CHECK(vizturel_load(s, WORDS, no, nothing, 1) == VIZTUREL_WORLD_UNOPENED);
         CHECK(vizturel_mend(s, WORDS, no, nothing, 1, NULL, 0, NULL, 0).refusal == VIZTUREL_WORLD_UNOPENED);
         CHECK(vizturel_build(s, WORDS, no, bad, 2) == VIZTUREL_WORLD_UNOPENED);
@@ -1084,8 +1238,10 @@ int main(void) {
         spare_bits();
         both_forms();
         deepest();
+        cells();
         refusals();
         every_call();
+        rectangles();
         any_record();
         refused_lists();
     }

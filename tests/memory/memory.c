@@ -98,13 +98,15 @@ static size_t set_length;
 /* slices of just what is due of the list for each height; the last one has more runs than any of the pools */
 static slice lists[7];
 static const size_t least[] = {0, 1, 2, 4, 7, 12, 20};
+/* a slice of just the words of one piece of a survey */
+static slice piece;
 
 #define MAP_LENGTH 100
 #define MAP_BYTES ((MAP_LENGTH + 7) / 8)
 #define LIST_RUNS 3
 #define MIXED_RUNS 4
 #define MENDED_RUNS 2
-#define CALLS 20 /* each number up to the last that names a call once, and one that names none */
+#define CALLS 22 /* each number up to the last that names a call once, and one that names none */
 #define RECORD sizeof(vizturel_call)
 
 static const vizturel_bound lowers[] = {{0, 0}, {1, 0}, {1, 40}, {2, M}, {1, M}, {1, UINT64_C(1) << 63}};
@@ -130,6 +132,32 @@ static void measuring_call(pool s) {
     CHECK(d.refusal == (!fits ? VIZTUREL_STORE_LENGTH : h == 0 ? VIZTUREL_TREE_HEIGHT : VIZTUREL_WORDS(least[h]) > s.count ? VIZTUREL_CAPACITY
                         : room < due ? VIZTUREL_OUTPUT_SHORT : VIZTUREL_DONE));
     CHECK(d.words == (d.refusal == VIZTUREL_DONE ? due : 0));
+}
+
+/* Rectangles of a few rows at the plane's corners and among the runs, some of them off it. */
+static vizturel_rect some_rect(void) {
+    uint64_t top = chance(2) ? chance(3) : 65533 + chance(4), left = chance(2) ? chance(120) : chance(2) ? 0 : 65530 + chance(7);
+    vizturel_rect q = {top, left, top + chance(3), chance(4) ? left + chance(9) : 65535};
+    return chance(8) ? q : vizturel_corners(q.bottom, q.right, q.top, q.left);
+}
+
+static int on_plane(vizturel_rect q) { return q.top <= q.bottom && q.left <= q.right && q.bottom <= 65535 && q.right <= 65535; }
+
+/* A count and a survey. The slice has just the words that are due of one piece, which is what is due of a square without cells of both values. */
+static void reports_of_cells(pool s, uint64_t at, uint64_t told) {
+    vizturel_rect q = some_rect();
+    uint64_t r = vizturel_count_rect(s.words, s.count, at, q).refusal, k = chance(10), row = chance(3), column = chance(2) ? chance(200) : 65536 - chance(300);
+    CHECK(r == (told ? told : on_plane(q) ? VIZTUREL_DONE : VIZTUREL_OFF_PLANE));
+    vizturel_worded d = vizturel_survey(s.words, s.count, at, row, column, k, (uint64_t *)(void *)piece.at, 5);
+    if (told) {
+        CHECK(d.refusal == told && d.words == 0);
+    } else if (k > 8 || column + (UINT64_C(1) << k) > 65536) {
+        CHECK(d.refusal == VIZTUREL_OFF_PLANE && d.words == 0);
+    } else {
+        uint64_t side = UINT64_C(1) << k;
+        uint64_t held = vizturel_count_rect(s.words, s.count, at, vizturel_corners(row, column, row + side - 1, column + side - 1)).number;
+        CHECK(held == 0 || held == side * side ? d.refusal == 0 && d.words == 5 : d.refusal == VIZTUREL_OUTPUT_SHORT && d.words == 0);
+    }
 }
 
 /* Every call that only reads the pool, or overwrites a world of another. Told is 0, 1, 7 or 12: what each of them must be refused with. */
@@ -166,6 +194,7 @@ static void reading_calls(pool s, uint64_t at, uint64_t told) {
     CHECK(vizturel_eq(w, n, at, partner.words, partner.count, 0).refusal == told);
     CHECK(vizturel_eq(partner.words, partner.count, 0, w, n, at).refusal == told);
     measuring_call(s);
+    reports_of_cells(s, at, told);
     CHECK(vizturel_write(w, n, at, VIZTUREL_ROWS, out.at, VIZTUREL_SET_BYTES(MOST)).refusal == told);
     CHECK(vizturel_write(w, n, at, VIZTUREL_COLUMNS, out.at, VIZTUREL_SET_BYTES(MOST)).refusal == told);
     CHECK(vizturel_write_map(w, n, at, x / 2, MAP_LENGTH, map.at, MAP_BYTES).refusal == told);
@@ -204,8 +233,9 @@ static void changing_calls(pool s, uint64_t at, const uint64_t *damaged, uint64_
     vizturel_bound lower = lowers[chance(RANGES)], upper = uppers[chance(RANGES)];
     const uint64_t *p = partner.words;
     size_t n = partner.count;
+    vizturel_rect q = some_rect();
     int which;
-    for (which = 0; which < 13; which++) {
+    for (which = 0; which < 14; which++) {
         switch (which) {
         case 0: refusal = vizturel_set(s.words, s.count, at, lower, upper, v).refusal; break;
         case 1: refusal = vizturel_flip(s.words, s.count, at, lower, upper); break;
@@ -223,8 +253,11 @@ static void changing_calls(pool s, uint64_t at, const uint64_t *damaged, uint64_
             break;
         case 11: refusal = vizturel_set_strict(s.words, s.count, at, lower, upper, v).refusal; break;
         case 12: refusal = vizturel_flip_strict(s.words, s.count, at, lower, upper); break;
+        case 13: refusal = vizturel_set_rect(s.words, s.count, at, q, v).refusal; break;
         }
-        CHECK(told ? refusal == told : refusal == 0 || refusal == VIZTUREL_CAPACITY || (which >= 11 && refusal == VIZTUREL_RANGE_REVERSED));
+        CHECK(told ? refusal == told : refusal == 0 || refusal == VIZTUREL_CAPACITY || (which >= 11 && which < 13 && refusal == VIZTUREL_RANGE_REVERSED) ||
+              (which == 13 && refusal == VIZTUREL_OFF_PLANE));
+        CHECK(told || which != 13 || (refusal == VIZTUREL_OFF_PLANE) == !on_plane(q));
         CHECK(refusal == 0 || memcmp(s.words, damaged, 8 * s.count) == 0);
         memcpy(s.words, damaged, 8 * s.count);
     }
@@ -634,6 +667,36 @@ static void list_lengths(void) {
     give_back(s.lent);
 }
 
+/* Surveys of a block in squares of every side up to 16, in slices of just what is due, of some words less, and of more. */
+static void survey_lengths(void) {
+    pool s = lend_pool(VIZTUREL_WORDS(16));
+    size_t room, i;
+    uint64_t k;
+    CHECK(vizturel_new_one(s.words, s.count) == 0);
+    CHECK(vizturel_set_rect(s.words, s.count, 0, vizturel_corners(1, 1, 14, 14), 1).low == 14 * 14);
+    writable(s.lent, 0);
+    for (k = 0; k <= 4; k++) {
+        slice all = lend(8 * VIZTUREL_SURVEY_WORDS(k));
+        size_t due = (size_t)vizturel_survey(s.words, s.count, 0, 0, 0, k, (uint64_t *)(void *)all.at, VIZTUREL_SURVEY_WORDS(k)).words;
+        CHECK(due >= 5 && due % 5 == 0);
+        for (room = due > 7 ? due - 7 : 0; room <= due + 7; room++) {
+            slice list = lend(8 * room);
+            memset(list.at, 0xEE, 8 * room);
+            vizturel_worded d = vizturel_survey(s.words, s.count, 0, 0, 0, k, (uint64_t *)(void *)list.at, room);
+            if (room < due) {
+                CHECK(d.refusal == VIZTUREL_OUTPUT_SHORT && d.words == 0 && is_stale(list, 8 * room));
+            } else {
+                CHECK(d.refusal == VIZTUREL_DONE && d.words == due && memcmp(list.at, all.at, 8 * due) == 0);
+                for (i = 8 * due; i < 8 * room; i++) CHECK(list.at[i] == 0xEE);
+            }
+            give_back(list);
+        }
+        give_back(all);
+    }
+    writable(s.lent, 1);
+    give_back(s.lent);
+}
+
 /* Lists of calls, of any words, and slices for their answers: each of every number of words up to 40. */
 static void frame_lengths(void) {
     pool s = lend_pool(VIZTUREL_WORDS(3));
@@ -707,6 +770,7 @@ int main(int argc, char **argv) {
     fates = lend(MIXED_RUNS);
     writable(mixed, 0);
     for (i = 0; i < 7; i++) lists[i] = lend(16 * least[i]);
+    piece = lend(8 * 5);
     calls = lend(CALLS * RECORD);
     told_calls = lend(CALLS * RECORD);
     for (i = 0; i < CALLS; i++) {
@@ -722,6 +786,7 @@ int main(int argc, char **argv) {
     mend_lengths();
     map_lengths();
     list_lengths();
+    survey_lengths();
     frame_lengths();
     /* a test that met no sound pool, or no damaged one, would have tested nothing */
     CHECK(sound > 100 && unsound > 1000);

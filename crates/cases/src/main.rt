@@ -131,7 +131,7 @@ fn hexes(out: &[u8], n: usize) {
 fn written(w: Written, out: &[u8]) {
     match w {
         Written::Refused(r) => refused(r),
-        Written::Bytes(n) => {
+        Written::Front(n) => {
             io::write_all(1, b" ");
             hexes(out, n);
         }

@@ -1,19 +1,19 @@
--- How many positions a set changes, from what the world tells before and after it. Its sum is how many positions it holds,
+-- How many positions a change makes differ, from what the world tells before and after it. Its sum is how many positions it holds,
 -- modulo 2^64, and only an empty world has no root, so the two tell a full world from an empty one. A set to true only adds positions, and
 -- one to false only frees some: so the difference is what changed. Assumes nothing.
 use Prim.Native.Nat.{ℕ, zero, suc, _+_, _-_, _^_, _%_, _≤_, _<_}
 use mathlib.Core.Path.{_≡_, refl, sym, ap, _∙_}
 use mathlib.Core.Logic.{_⊎_, inl, inr}
-use mathlib.Core.Bool.{Bool, true, false, not}
+use mathlib.Core.Bool.{Bool, true, false, cond, not, Bool·beq, true≢false}
 use mathlib.Core.List.{List, _∷_}
 use native.Mathlib.Omega.{arith}
 use Rattle.model.specs.declared.Count.{Count}
+use Rattle.model.specs.declared.Operation.the-variants.{Xor}
 use Rattle.model.specs.Numbers.{size, worth}
-use Rattle.model.specs.Positions.{Positions, run, count, setRange, changes}
-use Rattle.model.proofs.Counting.{count-cong, count-cut, count-all, count-none, count-both}
+use Rattle.model.specs.Positions.{Positions, run, among, oneIf, count, setRange, combined, changes}
+use Rattle.model.proofs.Counting.{count-cong, count-cut, count-both}
 use Rattle.model.proofs.RunList.{widths, count-mem}
 use Rattle.model.proofs.Search.{widths-append}
-use Rattle.model.proofs.After.{set-inside, set-below, set-above, changes-set}
 use Rattle.run_index.specs.Tree.{Tree, leaf, node, inorder, At}
 use Rattle.run_index.proofs.Trees.{rep-pos, rep-ordered}
 use Rattle.run_index.proofs.Totals.{ones-widths}
@@ -79,62 +79,83 @@ gains-some wraps small (inr (inl a)) m n p q le =
     omega (arith, some, p .sum, q .most, q .sum)
 gains-some wraps small (inr (inr a)) m n p q le = omega (arith, q .none a, p .sum, q .sum)
 
--- ---- what a set changes
-module _ (P : Positions) (a n : ℕ) (t : a + n ≤ size) where
-  -- outside the range as many are held as before
-  set-counts : (v : Bool) → count (setRange a n v P) true 0 size + count P true a n ≡ count P true 0 size + count (setRange a n v P) true a n
-  set-counts v =
-      let Q : Positions = setRange a n v P in
-      let q : ℕ = size - (a + n) in
-      let under : count Q true 0 a ≡ count P true 0 a = count-cong Q P true 0 a (λ x _ l. set-below a n v P x (omega arith)) in
-      let over : count Q true (a + n) q ≡ count P true (a + n) q = count-cong Q P true (a + n) q (λ x l _. set-above a n v P x l) in
-      omega (arith, under, over, parts P, parts Q)
-    where
-      parts : (R : Positions) → count R true 0 size ≡ count R true 0 a + (count R true a n + count R true (a + n) (size - (a + n)))
-      parts R =
-          count-cut R true 0 size a a (n + (size - (a + n))) (omega arith) (omega arith)
-          ∙ ap (λ k. count R true 0 a + k) (count-cut R true a (n + (size - (a + n))) n (a + n) (size - (a + n)) refl refl)
+-- ---- what a change leaves that only adds
+-- a position that was held is held: it differs exactly if it is new
+adds-here : (p q : Bool) → (p ≡ true → q ≡ true) → oneIf (Bool·beq q true) ≡ oneIf (Bool·beq p true) + oneIf (Bool·beq (not (Bool·beq p q)) true)
+adds-here true true f = refl
+adds-here true false f = absurd (true≢false (sym (f refl)))
+adds-here false true f = refl
+adds-here false false f = refl
 
-  -- to true it adds what it changes
-  set-adds : (v : Bool) → v ≡ true → count (setRange a n v P) true 0 size ≡ count P true 0 size + changes P (setRange a n v P)
-  set-adds v e =
-      omega (
-        arith,
-        set-counts v,
-        changes-set P a n v t,
-        ap (λ u. count P (not u) a n) e,
-        count-both P a n,
-        count-all (setRange a n v P) true a n (λ x k l. set-inside a n v P x k l ∙ e),
-      )
+-- so with what differs as many are held as afterwards
+more-counts : (P Q : Positions) (a n : ℕ) → ((x : ℕ) → a ≤ x → x < a + n → P x ≡ true → Q x ≡ true)
+    → count Q true a n ≡ count P true a n + count (combined Xor P Q) true a n
+unfolding count combined
+more-counts P Q a zero f = refl
+more-counts P Q a (suc n) f =
+    omega (
+      arith,
+      adds-here (P a) (Q a) (f a (omega arith) (omega arith)),
+      more-counts P Q (suc a) n (λ x k l. f x (omega arith) (omega arith)),
+    )
 
-  -- to false it frees what it changes
-  set-frees : (v : Bool) → v ≡ false → count P true 0 size ≡ count (setRange a n v P) true 0 size + changes P (setRange a n v P)
-  set-frees v e =
-      omega (
-        arith,
-        set-counts v,
-        changes-set P a n v t,
-        ap (λ u. count P (not u) a n) e,
-        count-none (setRange a n v P) true a n (λ x k l. set-inside a n v P x k l ∙ e),
-      )
+-- of all positions
+more-changes : (P Q : Positions) → ((x : ℕ) → x < size → P x ≡ true → Q x ≡ true) → count Q true 0 size ≡ count P true 0 size + changes P Q
+unfolding changes
+more-changes P Q f = more-counts P Q 0 size (λ x _ l. f x (omega arith))
 
--- ---- a world and what a set makes of it
-module _ {w w′ : List ℕ} {s : Share} {h k : World} (st : Standing w s h) (a b : ℕ) (v : Bool) (i : a ≤ b) (l : b < size)
-    (be : Became w w′ s k (setRange a (suc b - a) v (heldIn w h))) (oh : h .offset < size) (ok : k .offset < size) (c : Count) where
-  -- it holds as many as the set leaves
-  after : count (heldIn w′ k) true 0 size ≡ count (setRange a (suc b - a) v (heldIn w h)) true 0 size
-  after = count-cong (heldIn w′ k) (setRange a (suc b - a) v (heldIn w h)) true 0 size (λ x _ u. be .shows .holds x (omega arith))
+-- what differs does so either way
+changes-either : (P Q : Positions) → changes P Q ≡ changes Q P
+unfolding changes combined
+changes-either P Q = count-cong (combined Xor P Q) (combined Xor Q P) true 0 size (λ x _ _. either (P x) (Q x))
+  where
+    either : (p q : Bool) → not (Bool·beq p q) ≡ not (Bool·beq q p)
+    either true true = refl
+    either true false = refl
+    either false true = refl
+    either false false = refl
 
-  -- what is gained is what a set to true changes
-  pub gained-changes : v ≡ true → Gains (h .root) (h .ones) (k .root) (k .ones) c → worth c ≡ changes (heldIn w h) (setRange a (suc b - a) v (heldIn w h))
-  gained-changes e g =
-      let sum = after ∙ set-adds (heldIn w h) a (suc b - a) (omega arith) v e in
+-- ---- a set only adds positions, or only frees some
+-- to true: what was held is held
+pub cond-adds : (b v p : Bool) → v ≡ true → p ≡ true → cond b v p ≡ true
+cond-adds true v p e f = e
+cond-adds false v p e f = f
+
+-- to false: what is held was held
+pub cond-frees : (b v p : Bool) → v ≡ false → cond b v p ≡ true → p ≡ true
+cond-frees true v p e f = absurd (true≢false (sym f ∙ e))
+cond-frees false v p e f = f
+
+module _ (a n : ℕ) (v : Bool) (P : Positions) (x : ℕ) where
+  -- of a range
+  pub set-adds : v ≡ true → P x ≡ true → setRange a n v P x ≡ true
+  unfolding setRange
+  set-adds = cond-adds (among a n x) v (P x)
+
+  -- and so the other way
+  pub set-frees : v ≡ false → setRange a n v P x ≡ true → P x ≡ true
+  unfolding setRange
+  set-frees = cond-frees (among a n x) v (P x)
+
+-- ---- a world and what a change makes of it
+module _ {w w′ : List ℕ} {s : Share} {h k : World} {Q : Positions} (st : Standing w s h) (be : Became w w′ s k Q) (oh : h .offset < size) (ok : k .offset < size)
+    (c : Count) where
+  -- it holds as many as the change leaves
+  after : count (heldIn w′ k) true 0 size ≡ count Q true 0 size
+  after = count-cong (heldIn w′ k) Q true 0 size (λ x _ u. be .shows .holds x (omega arith))
+
+  -- what is gained is what differs, where the change only adds
+  pub gained-changes : ((x : ℕ) → x < size → heldIn w h x ≡ true → Q x ≡ true) → Gains (h .root) (h .ones) (k .root) (k .ones) c
+      → worth c ≡ changes (heldIn w h) Q
+  gained-changes f g =
+      let sum = after ∙ more-changes (heldIn w h) Q f in
       g (count (heldIn w h) true 0 size) (count (heldIn w′ k) true 0 size) (world-tells st oh) (world-tells (be .shows .standing) ok) (omega (arith, sum))
       ∙ omega (arith, sum)
 
-  -- and what is lost is what one to false changes
-  pub lost-changes : v ≡ false → Gains (k .root) (k .ones) (h .root) (h .ones) c → worth c ≡ changes (heldIn w h) (setRange a (suc b - a) v (heldIn w h))
-  lost-changes e g =
-      let sum = set-frees (heldIn w h) a (suc b - a) (omega arith) v e in
+  -- and so is what is lost, where it only frees
+  pub lost-changes : ((x : ℕ) → x < size → Q x ≡ true → heldIn w h x ≡ true) → Gains (k .root) (k .ones) (h .root) (h .ones) c
+      → worth c ≡ changes (heldIn w h) Q
+  lost-changes f g =
+      let sum = more-changes Q (heldIn w h) f in
       g (count (heldIn w′ k) true 0 size) (count (heldIn w h) true 0 size) (world-tells (be .shows .standing) ok) (world-tells st oh) (omega (arith, sum, after))
-      ∙ omega (arith, sum, after)
+      ∙ omega (arith, sum, after, changes-either (heldIn w h) Q)

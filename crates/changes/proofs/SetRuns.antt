@@ -31,7 +31,7 @@ module _ (P : Positions) (a n b : ℕ) (some : 0 < n) (ends : a + n ≡ suc b) (
       ∙ and-comm (heldAbove P b) v
 
   -- the runs after a set to either value
-  set-leaves : (v : Bool)
+  pub set-leaves : (v : Bool)
       → stretches (setRange a n v P) + runCount P true a n + oneIf (heldBelow P a && v) + oneIf (v && heldAbove P b)
       ≡ stretches P + oneIf (goesOn P a) + oneIf (goesOn P (suc b)) + oneIf v
   set-leaves v =

@@ -131,7 +131,7 @@ pub fn apply_set(words: &mut [u64], h: World, a: Logical, b: Logical, value: boo
 
 // How many positions a world gained, from what it told before and tells after. The sums are kept modulo 2^64, so an empty world that
 // became full shows no difference: it gained 2^64.
-fn gained(root: u64, ones: u64, new_root: u64, new_ones: u64) -> Count
+pub fn gained(root: u64, ones: u64, new_root: u64, new_ones: u64) -> Count
     ensures { λ r. ⌜ Gains root ones «new_root» «new_ones» r ⌝ }
 {
     let more = std::num::wrapping_sub_u64(new_ones, ones);

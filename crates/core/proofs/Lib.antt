@@ -3,3 +3,4 @@ pub mod Gaps
 pub mod Strict
 pub mod Draws
 pub mod Emptying
+pub mod Planes

@@ -7,20 +7,18 @@ use Rattle.model.specs.declared.Bound.{Bound}
 use Rattle.model.specs.declared.Limits.{Limits}
 use Rattle.model.specs.declared.Written.{Written}
 use Rattle.model.specs.declared.Mended.{Mended}
-use Rattle.model.specs.declared.Worded.{Worded}
-use Rattle.model.specs.Answers.{writtenAnswer, mendedAnswer, wordedAnswer}
+use Rattle.model.specs.Answers.{writtenAnswer, mendedAnswer}
 use Rattle.model.specs.Call.{Call, Answer}
 use Rattle.model.specs.Handled.{Handled}
 use Rattle.promises.specs.Met.{Site, Met, Made}
 use Rattle.promises.specs.Handles.{Handles}
-use Rattle.promises.specs.Out.{Unwritten, WritesOut, Unworded, WritesDeepest, Unmended, Mends}
+use Rattle.promises.specs.Out.{Unwritten, WritesOut, WritesDeepest, Unmended, Mends}
 use Rattle.flat.specs.declared.Reply.{Reply}
 use Rattle.flat.specs.Flat.{replyOf}
 use Rattle.frame.specs.Frame.{Framed}
-use Rattle.exports.specs.declared.structs.CWritten.{CWritten}
 use Rattle.exports.specs.declared.structs.CMended.{CMended}
 use Rattle.exports.specs.declared.structs.CWorded.{CWorded}
-use Rattle.exports.specs.Structs.{refusalOf, writtenOf, mendedOf, wordedOf}
+use Rattle.exports.specs.Structs.{refusalOf, mendedOf, wordedOf}
 use Rattle.exports.specs.Returns.{Makes, Returns, sliceAfter, Writes, Measures, slicesAfter, MendsFlat, Handed, Frames}
 
 -- a call between two bounds is the call between what they were made of
@@ -39,25 +37,21 @@ makes {a = a} m p = record { answer = a; made = m; flat = ap (λ (q : Reply). re
 -- a slice that is written, or left
 slice-is : (out out′ : List ℕ) (a : Written) → Unwritten a out out′ → out′ ≡ sliceAfter (writtenAnswer a out′) out
 slice-is out out′ (Written.Refused r) u = u
-slice-is out out′ (Written.Bytes n) u = refl
+slice-is out out′ (Written.Front n) u = refl
 
-pub wrote : {c c′ : List ℕ → Call Site} {w : List ℕ} {i : ℕ} {out out′ : List ℕ} (a : Written) {q : Reply} {r : CWritten} → c ≡ c′ → WritesOut c w i out a out′
-    → ((o : List ℕ) → q ≡ replyOf (writtenAnswer a o)) → r ≡ writtenOf q → Writes w i c′ out r out′
+pub wrote : {R : Type 0} {c c′ : List ℕ → Call Site} {w : List ℕ} {i : ℕ} {out out′ : List ℕ} (a : Written) {f : Reply → R} {q : Reply} {r : R} → c ≡ c′ → WritesOut c w i out a out′
+    → ((o : List ℕ) → q ≡ replyOf (writtenAnswer a o)) → r ≡ f q → Writes w i c′ out f r out′
 unfolding returned
 wrote {out = out} {out′} a e k p s = record { returns = returned (ap (λ f. f out) e) (k .met) (p out′) s; slice = slice-is out out′ a (k .unwritten) }
 
--- the same of words, by a call that measures
-words-are : (out out′ : List ℕ) (a : Worded) → Unworded a out out′ → out′ ≡ sliceAfter (wordedAnswer a out′) out
-words-are out out′ (Worded.Refused r) u = u
-words-are out out′ (Worded.Words n) u = refl
-
-pub measures : {w : List ℕ} {h : ℕ} {out out′ : List ℕ} (a : Worded) {q : Reply} {r : CWorded} → WritesDeepest w h out a out′
-    → ((o : List ℕ) → q ≡ replyOf (wordedAnswer a o)) → r ≡ wordedOf q → Measures w h out r out′
+-- the same by a call that measures
+pub measures : {w : List ℕ} {h : ℕ} {out out′ : List ℕ} (a : Written) {q : Reply} {r : CWorded} → WritesDeepest w h out a out′
+    → ((o : List ℕ) → q ≡ replyOf (writtenAnswer a o)) → r ≡ wordedOf q → Measures w h out r out′
 measures {out = out} {out′} a k p s = record {
-  answer = wordedAnswer a out′;
+  answer = writtenAnswer a out′;
   measured = k .measured;
   flat = s ∙ ap wordedOf (p out′);
-  slice = words-are out out′ a (k .unworded);
+  slice = slice-is out out′ a (k .unwritten);
 }
 
 -- two slices that are written, or left

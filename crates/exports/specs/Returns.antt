@@ -11,10 +11,9 @@ use Rattle.interval_bit_set.specs.Out.{onWritten, onMended}
 use Rattle.flat.specs.declared.Reply.{Reply}
 use Rattle.flat.specs.Flat.{replyOf}
 use Rattle.frame.specs.Frame.{Framed}
-use Rattle.exports.specs.declared.structs.CWritten.{CWritten}
 use Rattle.exports.specs.declared.structs.CMended.{CMended}
 use Rattle.exports.specs.declared.structs.CWorded.{CWorded}
-use Rattle.exports.specs.Structs.{refusalOf, writtenOf, mendedOf, wordedOf}
+use Rattle.exports.specs.Structs.{refusalOf, mendedOf, wordedOf}
 
 -- making the words w a pool with the limits ls answered as its promise says; w′ is left
 pub record Makes (w : List ℕ) (ls : List Limits) (r : ℕ) (w′ : List ℕ) : Type 0 where
@@ -33,9 +32,9 @@ abbrev pub sliceAfter : Answer → List ℕ → List ℕ
 sliceAfter (refused n) out = out
 sliceAfter (gave r) out = onWritten out (λ n bs. bs) r
 
--- the same of a call that writes into the slice out: it leaves out′
-pub record Writes (w : List ℕ) (i : ℕ) (c : List ℕ → Call Site) (out : List ℕ) (r : CWritten) (out′ : List ℕ) : Type 0 where
-  pub returns : Returns w i (c out) writtenOf r w
+-- the same of a call that writes bytes or words into the slice out: it leaves out′
+pub record Writes {R : Type 0} (w : List ℕ) (i : ℕ) (c : List ℕ → Call Site) (out : List ℕ) (f : Reply → R) (r : R) (out′ : List ℕ) : Type 0 where
+  pub returns : Returns w i (c out) f r w
   pub slice : out′ ≡ sliceAfter (returns .answer) out
 
 -- and of a call that measures the words w, and writes words into the slice out: it leaves out′, and every word of w

@@ -1,9 +1,11 @@
 -- What crosses to C: each struct is a part of a reply, and each field of it a field of the reply. Assumes nothing: these are definitions.
 use Prim.Native.Nat.{ℕ}
 use Rattle.model.specs.declared.Bound.{Bound}
+use Rattle.model.specs.declared.Rect.{Rect}
 use Rattle.flat.specs.declared.Reply.{Reply}
 use Rattle.flat.specs.Flat.{boundBy}
 use Rattle.exports.specs.declared.structs.CBound.{CBound}
+use Rattle.exports.specs.declared.structs.CRect.{CRect}
 use Rattle.exports.specs.declared.structs.CCounted.{CCounted}
 use Rattle.exports.specs.declared.structs.CNumbered.{CNumbered}
 use Rattle.exports.specs.declared.structs.CTallied.{CTallied}
@@ -20,16 +22,19 @@ use Rattle.exports.specs.declared.structs.CWorded.{CWorded}
 abbrev pub boundOf : CBound → Bound
 boundOf b = boundBy (b .kind) (b .value)
 
+abbrev pub rectOf : CRect → Rect
+rectOf q = record { top = q .top; left = q .left; bottom = q .bottom; right = q .right }
+
 -- ---- what goes out
 -- the refusal's number alone, of the calls that return no more
 abbrev pub refusalOf : Reply → ℕ
 refusalOf r = r .refusal
 
--- set, read_map
+-- set, set_rect, read_map
 abbrev pub countOf : Reply → CCounted
 countOf r = record { refusal = r .refusal; carry = r .found; low = r .number }
 
--- fill, clear_map
+-- fill, count_rect, clear_map
 abbrev pub numberOf : Reply → CNumbered
 numberOf r = record { refusal = r .refusal; number = r .number }
 
@@ -65,6 +70,6 @@ writtenOf r = record { refusal = r .refusal; bytes = r .number }
 abbrev pub mendedOf : Reply → CMended
 mendedOf r = record { refusal = r .refusal; bytes = r .number; report = r .«end» }
 
--- deepest
+-- deepest, survey
 abbrev pub wordedOf : Reply → CWorded
 wordedOf r = record { refusal = r .refusal; words = r .number }

@@ -11,7 +11,7 @@ ghost use Rattle.model.specs.Converting.{convert};
 ghost use Rattle.promises.specs.Met.{site};
 ghost use Rattle.interval_bit_set.specs.Lent.{listingOf};
 ghost use Rattle.flat.specs.Flat.{operationOf, truth};
-ghost use Rattle.exports.specs.Structs.{boundOf, refusalOf, countOf, numberOf, talliedOf, valueOf, runOf, positionOf, listedOf, drawnOf, writtenOf};
+ghost use Rattle.exports.specs.Structs.{boundOf, refusalOf, countOf, numberOf, talliedOf, valueOf, runOf, positionOf, listedOf, drawnOf, writtenOf, wordedOf, rectOf};
 ghost use Rattle.exports.specs.Returns.{Makes, Returns, Writes, MendsFlat, Measures, Handed, Frames};
 use crate::structs::CAround;
 use crate::structs::CBound;
@@ -21,6 +21,7 @@ use crate::structs::CFound;
 use crate::structs::CListed;
 use crate::structs::CMended;
 use crate::structs::CNumbered;
+use crate::structs::CRect;
 use crate::structs::CTallied;
 use crate::structs::CTested;
 use crate::structs::CWorded;
@@ -53,6 +54,24 @@ pub extern "C" fn vizturel_set(
         world,
         structs::bound(lower),
         structs::bound(upper),
+        value != 0,
+    )))
+}
+
+// Gives the cells of a rectangle the value, and tells how many changed.
+#[no_mangle]
+pub extern "C" fn vizturel_set_rect(
+    words: &mut [u64],
+    world: u64,
+    rect: CRect,
+    value: u64,
+) -> CCounted
+    ensures { λ r. ⌜ Returns (now (words .entry)) world (Call.setRect (rectOf rect) (truth value)) countOf r (now (words .exit)) ⌝ }
+{
+    structs::count(flat::counted(interval_bit_set::cells::set_rect(
+        words,
+        world,
+        structs::rect(rect),
         value != 0,
     )))
 }
@@ -306,6 +325,18 @@ pub extern "C" fn vizturel_fill(words: &[u64], world: u64, base: u64, n: u64) ->
     structs::number(flat::numbered(interval_bit_set::report::fill(words, world, base, n)))
 }
 
+// How many cells of a rectangle are held.
+#[no_mangle]
+pub extern "C" fn vizturel_count_rect(words: &[u64], world: u64, rect: CRect) -> CNumbered
+    ensures { λ r. ⌜ Returns (now (words .entry)) world (Call.countRect (rectOf rect)) numberOf r (now (words .entry)) ⌝ }
+{
+    structs::number(flat::numbered(interval_bit_set::cells::count_rect(
+        words,
+        world,
+        structs::rect(rect),
+    )))
+}
+
 // Joins two sets: op 0 is AND, 1 OR, any other XOR.
 #[no_mangle]
 pub extern "C" fn vizturel_combine(
@@ -448,7 +479,29 @@ pub extern "C" fn vizturel_mend(
 pub extern "C" fn vizturel_deepest(words: &[u64], h: u64, out: &mut [u64]) -> CWorded
     ensures { λ r. ⌜ Measures (now (words .entry)) h (now (out .entry)) r (now (out .exit)) ⌝ }
 {
-    structs::words(flat::worded(interval_bit_set::measure::deepest(words, h, out)))
+    structs::words(flat::written(interval_bit_set::measure::deepest(words, h, out)))
+}
+
+// Writes the pieces of a square of side 2^k into the front of a slice, five words each, and tells how many words they are.
+#[no_mangle]
+pub extern "C" fn vizturel_survey(
+    words: &[u64],
+    world: u64,
+    row: u64,
+    column: u64,
+    k: u64,
+    out: &mut [u64],
+) -> CWorded
+    ensures { λ r. ⌜ Writes (now (words .entry)) world (Call.survey row column k) (now (out .entry)) wordedOf r (now (out .exit)) ⌝ }
+{
+    structs::words(flat::written(interval_bit_set::cells::survey(
+        words,
+        world,
+        row,
+        column,
+        k,
+        out,
+    )))
 }
 
 // Turns a written set of either edition into the other, in the front of a slice, and tells how many bytes it has. It takes no pool.
@@ -468,7 +521,7 @@ pub extern "C" fn vizturel_write(
     edition: u64,
     out: &mut [u8],
 ) -> CWritten
-    ensures { λ r. ⌜ Writes (now (words .entry)) world (Call.writeSet (editionBy edition)) (now (out .entry)) r (now (out .exit)) ⌝ }
+    ensures { λ r. ⌜ Writes (now (words .entry)) world (Call.writeSet (editionBy edition)) (now (out .entry)) writtenOf r (now (out .exit)) ⌝ }
 {
     structs::bytes(flat::written(interval_bit_set::write::write_set(
         words,
@@ -487,7 +540,7 @@ pub extern "C" fn vizturel_write_map(
     n: u64,
     out: &mut [u8],
 ) -> CWritten
-    ensures { λ r. ⌜ Writes (now (words .entry)) world (Call.writeMap base n) (now (out .entry)) r (now (out .exit)) ⌝ }
+    ensures { λ r. ⌜ Writes (now (words .entry)) world (Call.writeMap base n) (now (out .entry)) writtenOf r (now (out .exit)) ⌝ }
 {
     structs::bytes(flat::written(interval_bit_set::write::write_map(words, world, base, n, out)))
 }
@@ -501,7 +554,7 @@ pub extern "C" fn vizturel_write_map_by_bytes(
     n: u64,
     out: &mut [u8],
 ) -> CWritten
-    ensures { λ r. ⌜ Writes (now (words .entry)) world (Call.writeMap base n) (now (out .entry)) r (now (out .exit)) ⌝ }
+    ensures { λ r. ⌜ Writes (now (words .entry)) world (Call.writeMap base n) (now (out .entry)) writtenOf r (now (out .exit)) ⌝ }
 {
     structs::bytes(flat::written(interval_bit_set::write::write_map_by_bytes(
         words,

@@ -1,15 +1,25 @@
 // What crosses to C: numbers, slices and structs of numbers. A bound is a kind and a value; an answer is the part of a reply that its call
 // gives, and begins with its refusal's number, 0 where the call was not refused.
 ghost use mathlib.Core.Path.{_≡_};
-ghost use Rattle.exports.specs.Structs.{boundOf, countOf, numberOf, talliedOf, valueOf, runOf, positionOf, listedOf, drawnOf, writtenOf, mendedOf, wordedOf};
+ghost use Rattle.exports.specs.Structs.{boundOf, countOf, numberOf, talliedOf, valueOf, runOf, positionOf, listedOf, drawnOf, writtenOf, mendedOf, wordedOf, rectOf};
 use flat::Reply;
 use model::Bound;
+use model::Rect;
 
 // One end of a range: kind 1 includes the value, 2 excludes it, and any other has no bound.
 #[repr(C)]
 pub struct CBound {
     pub kind: u64,
     pub value: u64,
+}
+
+// A rectangle of cells: rows from top to bottom, columns from left to right.
+#[repr(C)]
+pub struct CRect {
+    pub top: u64,
+    pub left: u64,
+    pub bottom: u64,
+    pub right: u64,
 }
 
 // How many positions changed: carry times 2^64, and low.
@@ -20,7 +30,7 @@ pub struct CCounted {
     pub low: u64,
 }
 
-// A number of thousandths, or of bits.
+// A number of thousandths, of bits, or of cells.
 #[repr(C)]
 pub struct CNumbered {
     pub refusal: u64,
@@ -108,7 +118,19 @@ pub fn bound(b: CBound) -> Bound
     flat::bound(b.kind, b.value)
 }
 
-// What set and read_map return.
+// The rectangle that C hands in.
+pub fn rect(q: CRect) -> Rect
+    ensures { λ r. ⌜ r ≡ rectOf q ⌝ }
+{
+    Rect {
+        top: q.top,
+        left: q.left,
+        bottom: q.bottom,
+        right: q.right,
+    }
+}
+
+// What set, set_rect and read_map return.
 pub fn count(r: Reply) -> CCounted
     ensures { λ c. ⌜ c ≡ countOf r ⌝ }
 {
@@ -119,7 +141,7 @@ pub fn count(r: Reply) -> CCounted
     }
 }
 
-// What fill and clear_map return.
+// What fill, count_rect and clear_map return.
 pub fn number(r: Reply) -> CNumbered
     ensures { λ c. ⌜ c ≡ numberOf r ⌝ }
 {

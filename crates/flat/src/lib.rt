@@ -3,7 +3,7 @@
 ghost use mathlib.Core.Path.{_≡_};
 ghost use mathlib.Core.List.{List};
 ghost use Prim.Native.Nat.{ℕ};
-ghost use Rattle.model.specs.Answers.{completedAnswer, countedAnswer, numberedAnswer, talliedAnswer, testedAnswer, aroundAnswer, foundAnswer, listedAnswer, drawnAnswer, writtenAnswer, wordedAnswer, mendedAnswer};
+ghost use Rattle.model.specs.Answers.{completedAnswer, countedAnswer, numberedAnswer, talliedAnswer, testedAnswer, aroundAnswer, foundAnswer, listedAnswer, drawnAnswer, writtenAnswer, mendedAnswer};
 ghost use Rattle.flat.specs.Flat.{boundBy, operationOf, bitOf, numbersOnly, withListing, replyOf};
 use model::Around;
 use model::Bound;
@@ -19,7 +19,6 @@ use model::Operation;
 use model::Refusal;
 use model::Tallied;
 use model::Tested;
-use model::Worded;
 use model::Written;
 
 // An answer: the refusal's number, 0 where there is none, and then what the call gives, with zeros elsewhere. `found` is also a count's carry;
@@ -204,7 +203,7 @@ pub fn written(a: Written) -> Reply
 {
     match a {
         Written::Refused(r) => refused(r),
-        Written::Bytes(n) => numbers(0, 0, n as u64, 0),
+        Written::Front(n) => numbers(0, 0, n as u64, 0),
     }
 }
 
@@ -215,15 +214,5 @@ pub fn mended(a: Mended) -> Reply
     match a {
         Mended::Refused(r) => refused(r),
         Mended::Bytes(n, m) => numbers(0, 0, n as u64, m as u64),
-    }
-}
-
-// The answer of writing words: how many; the slice has them.
-pub fn worded(a: Worded) -> Reply
-    ensures { λ r. ⌜ ((out : List ℕ) → r ≡ replyOf (wordedAnswer a out)) ⌝ }
-{
-    match a {
-        Worded::Refused(r) => refused(r),
-        Worded::Words(n) => numbers(0, 0, n as u64, 0),
     }
 }

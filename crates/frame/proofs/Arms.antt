@@ -6,6 +6,7 @@ use mathlib.Core.List.{List, []}
 use mathlib.Core.Option.{none}
 use native.Mathlib.Omega.{arith}
 use Rattle.model.specs.declared.Bound.{Bound}
+use Rattle.model.specs.declared.Rect.{Rect}
 use Rattle.model.specs.declared.Refusal.the-variants.{WorldUnopened}
 use Rattle.model.specs.Numbers.{size}
 use Rattle.model.specs.Positions.{Positions}
@@ -27,8 +28,9 @@ use Rattle.promises.proofs.Meeting.{
   gap-says,
   tally-says,
   tally-strict-says,
+  count-rect-says,
 }
-use Rattle.promises.proofs.Changing.{Changes, set-says, flip-says, shift-says, set-strict-says, flip-strict-says}
+use Rattle.promises.proofs.Changing.{Changes, set-says, flip-says, shift-says, set-strict-says, flip-strict-says, set-rect-says}
 use Rattle.promises.proofs.Overwriting.{build-says}
 use Rattle.interval_bit_set.specs.declared.look.Look.{Look}
 use Rattle.interval_bit_set.proofs.Looking.{world-unopened, turned-away, sent-away}
@@ -52,6 +54,10 @@ serves-there {w} {w′} e {r} p s = subst (λ j. ServesAt w j e r w′) p s
 pub ranged : {w w′ : List ℕ} {i : ℕ} {a : Answer} (f : Bound → Bound → Call Site) {l u l′ u′ : Bound} → l ≡ l′ → u ≡ u′ → Met w i (f l u) a w′
     → Met w i (f l′ u′) a w′
 ranged {w} {w′} {i} {a} f p q m = subst (λ c. Met w i c a w′) (ap₂ f p q) m
+
+-- and its rectangle is the one told
+pub of-cells : {w w′ : List ℕ} {i : ℕ} {a : Answer} (f : Rect → Call Site) {q q′ : Rect} → q ≡ q′ → Met w i (f q) a w′ → Met w i (f q′) a w′
+of-cells {w} {w′} {i} {a} f p m = subst (λ c. Met w i c a w′) (ap f p) m
 
 -- ---- a world that was not opened: 12 stands in the answer, whatever the call
 module _ {w : List ℕ} {i : ℕ} (S : Sound w) (h : openedAt w ≤ i) (e : Entry) where
@@ -84,6 +90,8 @@ module _ {w : List ℕ} {i : ℕ} (S : Sound w) (h : openedAt w ≤ i) (e : Entr
   twelve Kind.SetStrict = sent (set-strict-says w i _ _ _) refl
   twelve Kind.FlipStrict = sent (flip-strict-says w i _ _) refl
   twelve Kind.TallyStrict = away (tally-strict-says w i _ _ _) refl
+  twelve Kind.SetRect = sent (set-rect-says w i _ _) refl
+  twelve Kind.CountRect = away (count-rect-says w i _) refl
   twelve Kind.Get = away (get-says w i _) refl
 
   -- as a record is served

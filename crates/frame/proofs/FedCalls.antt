@@ -30,6 +30,8 @@ fed-kind f Kind.Tally e = refl
 fed-kind f Kind.SetStrict e = refl
 fed-kind f Kind.FlipStrict e = refl
 fed-kind f Kind.TallyStrict e = refl
+fed-kind f Kind.SetRect e = refl
+fed-kind f Kind.CountRect e = refl
 fed-kind f Kind.Get e = refl
 
 pub fed-same : (e : Entry) → feed fedAt (callOf e) ≡ callOf e

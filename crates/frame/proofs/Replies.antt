@@ -17,7 +17,7 @@ use Rattle.frame.specs.Records.{kindOf, withdrawn, worldBy, wordsOf}
 -- any other number is a get
 module _ (n : ℕ) (h₁ : n ≡ 1 → ⊥) (h₂ : n ≡ 2 → ⊥) (h₃ : n ≡ 3 → ⊥) (h₄ : n ≡ 4 → ⊥) (h₅ : n ≡ 5 → ⊥) (h₆ : n ≡ 6 → ⊥) (h₈ : n ≡ 8 → ⊥)
     (h₁₀ : n ≡ 10 → ⊥) (h₁₁ : n ≡ 11 → ⊥) (h₁₂ : n ≡ 12 → ⊥) (h₁₃ : n ≡ 13 → ⊥) (h₁₄ : n ≡ 14 → ⊥) (h₁₅ : n ≡ 15 → ⊥) (h₁₆ : n ≡ 16 → ⊥)
-    (h₁₇ : n ≡ 17 → ⊥) (h₁₈ : n ≡ 18 → ⊥) where
+    (h₁₇ : n ≡ 17 → ⊥) (h₁₈ : n ≡ 18 → ⊥) (h₁₉ : n ≡ 19 → ⊥) (h₂₀ : n ≡ 20 → ⊥) where
   pub other : Kind.Get ≡ kindOf n
   unfolding kindOf
   other =
@@ -38,6 +38,8 @@ module _ (n : ℕ) (h₁ : n ≡ 1 → ⊥) (h₂ : n ≡ 2 → ⊥) (h₃ : n �
         ne-eqb n 16 h₁₆,
         ne-eqb n 17 h₁₇,
         ne-eqb n 18 h₁₈,
+        ne-eqb n 19 h₁₉,
+        ne-eqb n 20 h₂₀,
       )
 
 -- the world that a record asks at: none that a pool has of 7 and of 9, and else the one that it names

@@ -7,6 +7,7 @@ use lib.Dec.{eqb}
 use lib.ListN.{length, getD}
 use Rattle.model.specs.declared.Bound.{Bound}
 use Rattle.model.specs.declared.Listing.{Listing}
+use Rattle.model.specs.declared.Rect.{Rect}
 use Rattle.model.specs.Numbers.{size}
 use Rattle.model.specs.Call.{Call, PoolCall, at, Answer}
 use Rattle.frame.specs.declared.entry.Kind.{Kind}
@@ -28,7 +29,7 @@ entryAt ws i = record {
   world = getD ws (8 * i + 7) 0;
 }
 
--- the call that a number names: 1 to 6, 8, 10 to 18, and any other is a get
+-- the call that a number names: 1 to 6, 8, 10 to 20, and any other is a get
 unfoldable pub kindOf : ℕ → Kind
 kindOf n =
     cond (eqb n 1) Kind.Empty
@@ -46,7 +47,9 @@ kindOf n =
     (cond (eqb n 15) Kind.Tally
     (cond (eqb n 16) Kind.SetStrict
     (cond (eqb n 17) Kind.FlipStrict
-    (cond (eqb n 18) Kind.TallyStrict Kind.Get)))))))))))))))
+    (cond (eqb n 18) Kind.TallyStrict
+    (cond (eqb n 19) Kind.SetRect
+    (cond (eqb n 20) Kind.CountRect Kind.Get)))))))))))))))))
 
 abbrev pub lowerOf : Entry → Bound
 lowerOf e = boundBy (e .lower) (e .from)
@@ -56,6 +59,10 @@ upperOf e = boundBy (e .upper) (e .upto)
 
 abbrev pub listingBy : Entry → Listing
 listingBy e = record { first = e .from; last = e .upto; value = truth (e .value) }
+
+-- the first corner in the words of the lower bound, the last one in those of the upper
+abbrev pub rectBy : Entry → Rect
+rectBy e = record { top = e .lower; left = e .from; bottom = e .upper; right = e .upto }
 
 -- the call of each kind, with its arguments
 abbrev pub callBy : {S : Type 0} → Kind → Entry → Call S
@@ -75,6 +82,8 @@ callBy Kind.Tally e = Call.tally (lowerOf e) (upperOf e) (truth (e .value))
 callBy Kind.SetStrict e = Call.setStrict (lowerOf e) (upperOf e) (truth (e .value))
 callBy Kind.FlipStrict e = Call.flipStrict (lowerOf e) (upperOf e)
 callBy Kind.TallyStrict e = Call.tallyStrict (lowerOf e) (upperOf e) (truth (e .value))
+callBy Kind.SetRect e = Call.setRect (rectBy e) (truth (e .value))
+callBy Kind.CountRect e = Call.countRect (rectBy e)
 callBy Kind.Get e = Call.get (e .from)
 
 abbrev pub callOf : {S : Type 0} → Entry → Call S

@@ -21,12 +21,15 @@ pub enum Kind {
     SetStrict,
     FlipStrict,
     TallyStrict,
+    SetRect,
+    CountRect,
     Get,
 }
 
 // The words of a record. `lower` and `upper` are the kinds of the bounds, `from` and `upto` their values. `from` is also the position of get
 // and run_at, the distance of shift, the base of fill and the first position of a listing; `upto` is the length of fill and the last position
-// of a listing; `value` tells a shift to go left; `k` is also how many positions a gap has.
+// of a listing; `value` tells a shift to go left; `k` is also how many positions a gap has. Of a rectangle `lower` and `from` are the row and
+// column of its first corner, `upper` and `upto` those of its last.
 pub struct Entry {
     pub call: u64,
     pub lower: u64,
@@ -89,6 +92,12 @@ pub fn named(n: u64) -> Kind
     }
     if n == 18 {
         return Kind::TallyStrict;
+    }
+    if n == 19 {
+        return Kind::SetRect;
+    }
+    if n == 20 {
+        return Kind::CountRect;
     }
     Kind::Get
 }

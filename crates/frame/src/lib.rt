@@ -9,7 +9,7 @@ ghost use Rattle.written.specs.Placed.{placed};
 ghost use Rattle.store.specs.Soundness.{Sound};
 ghost use Rattle.promises.specs.Met.{Readable};
 ghost use Rattle.frame.specs.Frame.{Framed};
-ghost use Rattle.frame.specs.Records.{entryAt, wordsOf};
+ghost use Rattle.frame.specs.Records.{entryAt, rectBy, wordsOf};
 ghost use Rattle.frame.specs.Serving.{ServesAt, Serves, Playable, Plays};
 use crate::entry::Entry;
 use crate::entry::Kind;
@@ -17,6 +17,7 @@ use flat::Reply;
 use interval_bit_set::look::Look;
 use model::Completed;
 use model::Listing;
+use model::Rect;
 use model::Refusal;
 
 pub mod entry;
@@ -36,6 +37,18 @@ fn read(calls: &[u64], i: usize) -> Entry
         value: calls[at + 5],
         k: calls[at + 6],
         world: calls[at + 7],
+    }
+}
+
+// The rectangle that a record tells.
+fn rect(e: Entry) -> Rect
+    ensures { λ r. ⌜ r ≡ rectBy e ⌝ }
+{
+    Rect {
+        top: e.lower,
+        left: e.from,
+        bottom: e.upper,
+        right: e.upto,
     }
 }
 
@@ -93,6 +106,8 @@ fn serve_world(words: &mut [u64], e: Entry, world: u64) -> Reply
             upper,
             value,
         )),
+        Kind::SetRect => flat::counted(core::cells::set_rect(words, world, rect(e), value)),
+        Kind::CountRect => flat::numbered(core::cells::count_rect(words, world, rect(e))),
         Kind::Get => flat::tested(core::report::get(words, world, e.from)),
     }
 }

@@ -54,7 +54,7 @@ pub record Flattens (a : Answer) (f : Flat) (out : List ℕ) : Type 0 where
 -- an answer of a call that writes does so
 flattens : (r : Written) (out : List ℕ) → Within (writtenAnswer r out) → Flattens (writtenAnswer r out) (flatOf r) out
 flattens (Written.Refused r) out h = record { code = refl; front = refl; within = omega arith }
-flattens (Written.Bytes n) out h = record { code = refl; front = refl; within = h n out refl }
+flattens (Written.Front n) out h = record { code = refl; front = refl; within = h n out refl }
 
 -- so what it wrote is told by them
 pub put-flat : {w : List ℕ} {i : ℕ} {c : List ℕ → Call Site} {cs : List Condition} {B : Positions → List ℕ} {out : List ℕ} → Puts w i c cs B out → (r : Written) {out′ : List ℕ} {f : Flat}

@@ -44,4 +44,4 @@ frontOf (gave r) = onWritten [] take r
 
 abbrev pub flatOf : Written → Flat
 flatOf (Written.Refused r) = record { refusal = refusalNumber r; bytes = 0 }
-flatOf (Written.Bytes n) = record { refusal = 0; bytes = n }
+flatOf (Written.Front n) = record { refusal = 0; bytes = n }

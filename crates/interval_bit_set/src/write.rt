@@ -61,7 +61,7 @@ fn flattened(w: Written) -> Flat
             refusal: model::refusal_number(r),
             bytes: 0,
         },
-        Written::Bytes(n) => Flat {
+        Written::Front(n) => Flat {
             refusal: 0,
             bytes: n,
         },

@@ -18,6 +18,7 @@ use Rattle.model.specs.Refusals.{
   treeHeight,
   gapLength,
   rangeReversed,
+  offPlane,
   window,
   strayBit,
   setShort,
@@ -68,6 +69,7 @@ eight-is worldUnopened e = absurd (omega arith)
 eight-is treeHeight e = absurd (omega arith)
 eight-is gapLength e = absurd (omega arith)
 eight-is rangeReversed e = absurd (omega arith)
+eight-is offPlane e = absurd (omega arith)
 eight-is window e = absurd (omega arith)
 eight-is strayBit e = absurd (omega arith)
 eight-is setShort e = absurd (omega arith)
@@ -169,6 +171,9 @@ module _ (full : ℕ → Bool) (s : Fed) where
   many (Call.setStrict l u v) = alters-many _ _ _
   many (Call.flipStrict l u) = alters-many _ _ _
   many (Call.tallyStrict l u v) = λ e. absurd (reports-not _ _ refl e)
+  many (Call.setRect q v) = alters-many _ _ _
+  many (Call.countRect q) = λ e. absurd (reports-not _ _ refl e)
+  many (Call.survey r c k out) = λ e. absurd (reports-not _ _ refl e)
 
 -- ---- a sound pool
 module _ {w : List ℕ} (S : Sound w) (i : ℕ) (l : i < openedAt w) where

@@ -53,9 +53,9 @@ met-alike {w} {i} {c} {a} {b} {w′} {v′} m n =
 -- equal answers of such a call have equal slices, where a refusal leaves the slice
 slices-alike : (r s : Written) (out out′ out″ : List ℕ) → writtenAnswer r out′ ≡ writtenAnswer s out″ → Unwritten r out out′ → Unwritten s out out″ → out′ ≡ out″
 slices-alike (Written.Refused r) (Written.Refused s) out out′ out″ e f g = f ∙ sym g
-slices-alike (Written.Refused r) (Written.Bytes n) out out′ out″ e f g = cc
-slices-alike (Written.Bytes n) (Written.Refused s) out out′ out″ e f g = cc
-slices-alike (Written.Bytes n) (Written.Bytes m) out out′ out″ e f g = cc
+slices-alike (Written.Refused r) (Written.Front n) out out′ out″ e f g = cc
+slices-alike (Written.Front n) (Written.Refused s) out out′ out″ e f g = cc
+slices-alike (Written.Front n) (Written.Front m) out out′ out″ e f g = cc
 
 pub writes-alike : {c : List ℕ → Call Site} {w : List ℕ} {i : ℕ} {out : List ℕ} {r s : Written} {out′ out″ : List ℕ} → WritesOut c w i out r out′ → WritesOut c w i out s out″
     → (writtenAnswer r out′ ≡ writtenAnswer s out″) × (out′ ≡ out″)

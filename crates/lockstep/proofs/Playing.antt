@@ -46,12 +46,12 @@ made {w} {v} ls {C = C} h e f m =
 
 -- ---- a set written into a slice with room
 -- is told by how many bytes it has
-tells : (r : Written) (out : List ℕ) → Wrote (writtenAnswer r out) → (n : ℕ) × (r ≡ Written.Bytes n)
+tells : (r : Written) (out : List ℕ) → Wrote (writtenAnswer r out) → (n : ℕ) × (r ≡ Written.Front n)
 tells (Written.Refused r) out (n, bs, e) = absurd (refused-not e)
-tells (Written.Bytes n) out k = (n, refl)
+tells (Written.Front n) out k = (n, refl)
 
 -- so much of the slice is the set
-writes : {e : Edition} {w out out′ : List ℕ} {i : ℕ} {r : Written} {n : ℕ} → WritesOut (Call.writeSet e) w i out r out′ → r ≡ Written.Bytes n
+writes : {e : Edition} {w out out′ : List ℕ} {i : ℕ} {r : Written} {n : ℕ} → WritesOut (Call.writeSet e) w i out r out′ → r ≡ Written.Front n
     → WritesSet w i e (take n out′)
 writes {e} {w} {out} {out′} {i} {n = n} W is = record {
   out = out;

@@ -20,6 +20,6 @@ pub record Lent (a b limits left right : List ℕ) : Type 0 where
 pub record SameBytes (s : Sets) (left right : List ℕ) : Type 0 where
   pub n : ℕ
   pub m : ℕ
-  pub first-is : s .first ≡ Written.Bytes n
-  pub second-is : s .second ≡ Written.Bytes m
+  pub first-is : s .first ≡ Written.Front n
+  pub second-is : s .second ≡ Written.Front m
   pub bytes : take n left ≡ take m right

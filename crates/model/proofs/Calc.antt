@@ -18,6 +18,7 @@ use Rattle.model.specs.declared.Operation.the-variants.{Xor}
 use Rattle.model.specs.Numbers.{size}
 use Rattle.model.proofs.Numbers.{split}
 use Rattle.model.specs.Range.{firstAllowed, extent}
+use Rattle.model.specs.Grid
 use Rattle.model.specs.Positions
 use Rattle.model.specs.Positions.{
   Positions,
@@ -43,7 +44,7 @@ use Rattle.model.specs.Positions.{
   same,
 }
 use Rattle.model.proofs.Counting.{Place, below, within, above, place, among-yes, among-below, among-above, count-cong, count-first, count-most}
-use Rattle.model.proofs.Runs.{runsIn-is, runsIn-cong, heldRuns-mem, heldRuns-cong, stretches-is}
+use Rattle.model.proofs.Runs.{runsIn-is, runsIn-cong, heldRuns-mem, heldRuns-canon, mem-heldRuns, heldRuns-cong, stretches-is}
 use Rattle.model.proofs.Finds.{startOf, find-runs, count-runs, selectRuns, select-runs}
 use Rattle.model.proofs.Gaps.{firstLong, gap-runs}
 use Rattle.model.specs.RunList.{Canon}
@@ -74,6 +75,7 @@ use Rattle.model.specs.Bytes.{encode, editionOf, decode, mapLength, mapO
 use Rattle.model.specs.Mending.{mendedSet, another, fate, fatesFrom, mendReport}
 use Rattle.model.specs.Refusals.{
   gapLength,
+  offPlane,
   window,
   strayBit,
   runOrder,
@@ -83,6 +85,8 @@ use Rattle.model.specs.Refusals.{
   _when_,
   refusal,
   badGap,
+  badRect,
+  badSquare,
   badWindow,
   badMap,
   stray,
@@ -120,6 +124,9 @@ use Rattle.model.specs.Call.{
   setStrict,
   flipStrict,
   tallyStrict,
+  setRect,
+  countRect,
+  survey,
   feed,
   Result,
   done,
@@ -392,6 +399,9 @@ calc C s (fill base n) = reportRuns s (window when badWindow base n ∷ []) (num
 calc C s (setStrict l u v) = settingRuns C s (strict l u) l u v
 calc C s (flipStrict l u) = flippingRuns C s (strict l u) l u
 calc C s (tallyStrict l u v) = tallyingRuns s (strict l u) l u v
+calc C s (setRect q v) = changedRuns C s (offPlane when badRect q ∷ []) (heldRuns (Grid.setRect q v (mem (runsOf s))))
+calc C s (countRect q) = reportRuns s (offPlane when badRect q ∷ []) (number (Grid.countRect q (mem (runsOf s))))
+calc C s (survey r c k out) = writeRuns s (offPlane when badSquare r c k ∷ []) (Grid.survey (mem (runsOf s)) k r c) out
 
 -- ---- what ties an outcome of the model to one on run lists
 pub record Tied (o : Outcome) (r : RunOutcome) : Type 0 where
@@ -446,6 +456,15 @@ unfolding changed changedRuns
 tied-changed C s cs Q qs q c =
     tied-change C s cs Q qs (number (changes (positionsOf (fedAs s)) Q)) (number (widths (combineRuns Xor (runsOf s) qs)))
     (ap number (sym (changes-bounded (positionsOf (fedAs s)) Q) ∙ ap₂ changes (runsOf-positions s) (sym q) ∙ changes-runs (runsOf s) qs (runsOf-canon s) c)) q c
+
+-- the runs held are all positions below 2^64
+held-positions : (Q : Positions) → mem (heldRuns Q) ≡ bounded Q
+unfolding bounded
+held-positions Q = sym (bounded-mem (heldRuns Q) (heldRuns-canon Q)) ∙ fun-ext (λ x. go x (split x size))
+  where
+    go : (x : ℕ) → (x < size) ⊎ (size ≤ x) → bounded (mem (heldRuns Q)) x ≡ bounded Q x
+    go x (inl h) = ap (λ t. ltb x size && t) (mem-heldRuns Q x h)
+    go x (inr h) = rw (le-ltb x size h)
 
 tied-write : (s : Given) (cs : List Condition) (bs ds out : List ℕ) → bs ≡ ds → Tied (write (fedAs s) cs bs out) (writeRuns s cs ds out)
 unfolding write writeRuns
@@ -568,3 +587,12 @@ calc-tied C s (fill base n) =
 calc-tied C s (setStrict l u v) = tied-setting C s (strict l u) l u v
 calc-tied C s (flipStrict l u) = tied-flipping C s (strict l u) l u
 calc-tied C s (tallyStrict l u v) = tied-tallying s (strict l u) l u v
+calc-tied C s (setRect q v) =
+    tied-changed C s (offPlane when badRect q ∷ []) (Grid.setRect q v (positionsOf (fedAs s))) (heldRuns (Grid.setRect q v (mem (runsOf s))))
+    (held-positions (Grid.setRect q v (mem (runsOf s))) ∙ ap (λ Q. bounded (Grid.setRect q v Q)) (sym (runsOf-positions s))) (heldRuns-canon (Grid.setRect q v (mem (runsOf s))))
+calc-tied C s (countRect q) =
+    tied-report s (offPlane when badRect q ∷ []) (number (Grid.countRect q (positionsOf (fedAs s)))) (number (Grid.countRect q (mem (runsOf s))))
+    (ap (λ Q. number (Grid.countRect q Q)) (runsOf-positions s))
+calc-tied C s (survey r c k out) =
+    tied-write s (offPlane when badSquare r c k ∷ []) (Grid.survey (positionsOf (fedAs s)) k r c) (Grid.survey (mem (runsOf s)) k r c) out
+    (ap (λ Q. Grid.survey Q k r c) (runsOf-positions s))

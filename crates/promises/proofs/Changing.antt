@@ -20,7 +20,9 @@ use Rattle.model.proofs.After.{set-below, set-above, flip-below, flip-above, ch
 use Rattle.model.proofs.Runs.{stretches-cong}
 use Rattle.model.proofs.Pools.{full-allowance}
 use Rattle.model.specs.Bytes.{mapped}
-use Rattle.model.specs.Refusals.{beforeCapacity, Condition, _when_, firstGiven, refusal, mapConditions, tooMany}
+use Rattle.model.specs.declared.Rect.{Rect}
+use Rattle.model.specs.Grid
+use Rattle.model.specs.Refusals.{offPlane, badRect, beforeCapacity, Condition, _when_, firstGiven, refusal, mapConditions, tooMany}
 use Rattle.model.specs.Refusals
 use Rattle.model.specs.Call.{Fed, Call, Result, done, number, refused, gave}
 use Rattle.model.specs.Model.{positionsOf, reads, settle, change, changed, setting, flipping, strict, serve}
@@ -250,6 +252,11 @@ module _ (w : List ℕ) (i : ℕ) where
   pub read-map-says : (base n : ℕ) (bs : List ℕ) → Changes w i (Call.readMap base n bs) (mapConditions base n bs) (mapped base n bs) (λ P. number (changes P (mapped base n bs P)))
   unfolding outcomeOf serve changed
   read-map-says base n bs = record { said = refl }
+
+  -- a rectangle gets a value
+  pub set-rect-says : (q : Rect) (v : Bool) → Changes w i (Call.setRect q v) (offPlane when badRect q ∷ []) (Grid.setRect q v) (λ P. number (changes P (Grid.setRect q v P)))
+  unfolding outcomeOf serve changed
+  set-rect-says q v = record { said = refl }
 
   -- a range gets a value, strictly
   pub set-strict-says : (l u : Bound) (v : Bool)

@@ -15,7 +15,9 @@ use Rattle.model.specs.Range.{firstAllowed, extent}
 use Rattle.model.specs.Positions
 use Rattle.model.specs.Positions.{Positions, firstRun, lastRun, listed, remaining, pastFirst, pastLast}
 use Rattle.model.specs.Bytes.{fillOf}
-use Rattle.model.specs.Refusals.{storeLength, worldLimits, gapLength, window, Condition, _when_, refusal, badLimits, badGap, badWindow}
+use Rattle.model.specs.declared.Rect.{Rect}
+use Rattle.model.specs.Grid
+use Rattle.model.specs.Refusals.{storeLength, worldLimits, gapLength, offPlane, window, Condition, _when_, refusal, badLimits, badGap, badRect, badWindow}
 use Rattle.model.specs.Call.{wrongLength, unsound, unopened, Call, Result, done, number, tallied, value, around, position, listing, drawn, Answer, refused, gave}
 use Rattle.model.specs.Model.{Outcome, positionsOf, reads, settle, report, tallying, strict, drawnFirst, drawnLast, serve}
 use Rattle.model.specs.Pools.{worldOf, fedBy, emptyWorlds, PoolOutcome, settleMake, makeBy}
@@ -203,6 +205,11 @@ module _ (w : List ℕ) (i : ℕ) where
       → Reports w i (Call.tallyStrict l u v) (strict l u) (λ P. tallied (Positions.count P v (firstAllowed l) (extent l u)) (Positions.runCount P v (firstAllowed l) (extent l u)))
   unfolding outcomeOf serve tallying
   tally-strict-says l u v = record { said = refl }
+
+  -- how many cells of a rectangle are held
+  pub count-rect-says : (q : Rect) → Reports w i (Call.countRect q) (offPlane when badRect q ∷ []) (λ P. number (Grid.countRect q P))
+  unfolding outcomeOf serve
+  count-rect-says q = record { said = refl }
 
 -- ---- a new pool
 -- words of a pool's length, by whether the limits are refused

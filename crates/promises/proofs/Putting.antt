@@ -9,13 +9,14 @@ use native.Mathlib.Omega.{arith}
 use lib.ListN.{length, take, drop}
 use lib.Seq.{take-at}
 use borrow.Author.Tests.{lt-ltb, le-ltb}
-use Rattle.model.specs.declared.Refusal.the-variants.{OutputShort, Window}
+use Rattle.model.specs.declared.Refusal.the-variants.{OutputShort, Window, OffPlane}
 use Rattle.model.specs.declared.Written.{Written}
 use Rattle.model.specs.declared.Edition.{Edition}
 use Rattle.model.specs.Positions.{Positions, heldRuns, stretches}
 use Rattle.model.specs.Bytes.{encode, mapOf, intoFront}
 use Rattle.model.proofs.Codec.{encode-length}
-use Rattle.model.specs.Refusals.{window, outputShort, Condition, _when_, refusal, badWindow, noRoom}
+use Rattle.model.specs.Grid.{survey}
+use Rattle.model.specs.Refusals.{offPlane, window, outputShort, Condition, _when_, refusal, badSquare, badWindow, noRoom}
 use Rattle.model.specs.Call.{Call, written}
 use Rattle.model.specs.Model.{positionsOf, serve, write}
 use Rattle.store.specs.Layout.{heldIn, heldBy}
@@ -66,7 +67,7 @@ module _ {w : List ℕ} {i : ℕ} {c : List ℕ → Call Site} {cs : List Condit
   }
 
   -- and one that has room, into which the bytes of its world are put
-  pub put-done : {h : World} {out′ : List ℕ} → Opened w i h → refusal cs ≡ none → n ≤ length out → out′ ≡ intoFront (B (heldIn (lent w) h)) out → WritesOut c w i out (Written.Bytes n) out′
+  pub put-done : {h : World} {out′ : List ℕ} → Opened w i h → refusal cs ≡ none → n ≤ length out → out′ ≡ intoFront (B (heldIn (lent w) h)) out → WritesOut c w i out (Written.Front n) out′
   unfolding noRoom
   put-done op e l f = record {
     met =
@@ -81,6 +82,16 @@ module _ (w : List ℕ) (i : ℕ) (out : List ℕ) where
   unfolding outcomeOf serve write
   write-set-puts e = record { says = record { said = refl } }
 
+  module _ (r c k : ℕ) where
+    -- so does a survey, of a square
+    pub survey-puts : Puts w i (Call.survey r c k) (offPlane when badSquare r c k ∷ []) (λ P. survey P k r c) out
+    unfolding outcomeOf serve write
+    survey-puts = record { says = record { said = refl } }
+
+    -- which is refused where it is not on the plane
+    pub put-no-square : Readable w i → badSquare r c k ≡ true → WritesOut (Call.survey r c k) w i out (Written.Refused OffPlane) out
+    put-no-square R e = record { met = refused-by (survey-puts .says) 15 R (rw e); unwritten = refl }
+
   module _ (base n : ℕ) where
     -- so does writing a map, of a window
     pub write-map-puts : Puts w i (Call.writeMap base n) (window when badWindow base n ∷ []) (λ P. mapOf P base n) out
@@ -94,3 +105,10 @@ module _ (w : List ℕ) (i : ℕ) (out : List ℕ) where
 -- of a window the slice's room decides
 pub short-after-window : (base n : ℕ) → badWindow base n ≡ false → refusal (outputShort when true ∷ window when badWindow base n ∷ []) ≡ some 2
 short-after-window base n e = rw e
+
+-- and so it does of a square on the plane
+pub short-after-square : (r c k : ℕ) → badSquare r c k ≡ false → refusal (outputShort when true ∷ offPlane when badSquare r c k ∷ []) ≡ some 2
+short-after-square r c k e = rw e
+
+pub square-passes : (r c k : ℕ) → badSquare r c k ≡ false → refusal (offPlane when badSquare r c k ∷ []) ≡ none
+square-passes r c k e = rw e

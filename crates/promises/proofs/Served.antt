@@ -71,6 +71,9 @@ module _ (full : ℕ → Bool) (s : Fed) where
   served (Call.setStrict l u v) = alters _ _ _
   served (Call.flipStrict l u) = alters _ _ _
   served (Call.tallyStrict l u v) = reports _ _
+  served (Call.setRect q v) = alters _ _ _
+  served (Call.countRect q) = reports _ _
+  served (Call.survey r c k out) = reports _ _
 
 -- a call that gave a result was not refused
 pub unrefused : (y : Option ℕ) (P : Positions) (a b : Result) (Q : Positions) → gave b ≡ (settle y P a Q) .answer → y ≡ none

@@ -5,9 +5,8 @@ use mathlib.Core.Bool.{Bool}
 use mathlib.Core.List.{List}
 use Rattle.model.specs.declared.Edition.{Edition}
 use Rattle.model.specs.declared.Written.{Written}
-use Rattle.model.specs.declared.Worded.{Worded}
 use Rattle.model.specs.declared.Mended.{Mended}
-use Rattle.model.specs.Answers.{writtenAnswer, wordedAnswer, mendedAnswer}
+use Rattle.model.specs.Answers.{writtenAnswer, mendedAnswer}
 use Rattle.model.specs.Bytes.{decode}
 use Rattle.model.specs.Refusals.{orderedFrom}
 use Rattle.model.specs.Call.{Call}
@@ -17,7 +16,7 @@ use Rattle.promises.specs.Met.{Site, Met, Measured}
 -- a refusal leaves the slice
 abbrev pub Unwritten : Written → List ℕ → List ℕ → Type 0
 Unwritten (Written.Refused r) out out′ = out′ ≡ out
-Unwritten (Written.Bytes n) out out′ = Unit {0}
+Unwritten (Written.Front n) out out′ = Unit {0}
 
 -- the call c on world i of the words w and the slice out answered r and left the slice out′
 pub record WritesOut (c : List ℕ → Call Site) (w : List ℕ) (i : ℕ) (out : List ℕ) (r : Written) (out′ : List ℕ) : Type 0 where
@@ -25,15 +24,10 @@ pub record WritesOut (c : List ℕ → Call Site) (w : List ℕ) (i : ℕ) (out 
   pub unwritten : Unwritten r out out′
 
 -- ---- the list for the deepest tree (document 02, Ticket 10)
--- a refusal leaves the slice
-abbrev pub Unworded : Worded → List ℕ → List ℕ → Type 0
-Unworded (Worded.Refused r) out out′ = out′ ≡ out
-Unworded (Worded.Words n) out out′ = Unit {0}
-
 -- the list for the height h, asked for at the words w with the slice out, answered r and left the slice out′
-pub record WritesDeepest (w : List ℕ) (h : ℕ) (out : List ℕ) (r : Worded) (out′ : List ℕ) : Type 0 where
-  pub measured : Measured w h out (wordedAnswer r out′) w
-  pub unworded : Unworded r out out′
+pub record WritesDeepest (w : List ℕ) (h : ℕ) (out : List ℕ) (r : Written) (out′ : List ℕ) : Type 0 where
+  pub measured : Measured w h out (writtenAnswer r out′) w
+  pub unwritten : Unwritten r out out′
 
 -- ---- mending (document 02, Ticket 9)
 -- a refusal leaves both slices

@@ -13,7 +13,6 @@ use model::Refusal;
 use model::Run;
 use model::Tallied;
 use model::Tested;
-use model::Worded;
 use model::Written;
 
 fn end_line() {
@@ -219,7 +218,7 @@ fn slice(n: usize, out: &[u8]) {
 pub fn written(w: Written, out: &[u8]) {
     match w {
         Written::Refused(r) => refused(r),
-        Written::Bytes(n) => {
+        Written::Front(n) => {
             io::write_all(1, b"written");
             slice(n, out);
         }
@@ -249,10 +248,10 @@ fn words(all: &[u64]) {
 }
 
 // How many words of a slice were written, and the whole slice.
-pub fn worded(w: Worded, out: &[u64]) {
+pub fn worded(w: Written, out: &[u64]) {
     match w {
-        Worded::Refused(r) => refused(r),
-        Worded::Words(n) => {
+        Written::Refused(r) => refused(r),
+        Written::Front(n) => {
             io::write_all(1, b"worded");
             number(n as u64);
             words(out);

@@ -5,6 +5,7 @@ ghost use lib.ListN.{length};
 use crate::answer;
 use crate::line;
 use interval_bit_set::bytes;
+use interval_bit_set::cells;
 use interval_bit_set::change;
 use interval_bit_set::make;
 use interval_bit_set::measure;
@@ -103,6 +104,17 @@ fn shift(store: &mut [u64], world: u64, line: &[u8], at: usize) -> bool {
         return false;
     }
     answer::completed(change::shift(store, world, distance.value, left.value));
+    true
+}
+
+fn set_rect(store: &mut [u64], world: u64, line: &[u8], at: usize) -> bool {
+    let corners = line::rect_at(line, at);
+    let value = line::flag_at(line, corners.next);
+    if value.next != line.len() {
+        return false;
+    }
+    let q = corners.rect;
+    answer::counted(cells::set_rect(store, world, q, value.value));
     true
 }
 
@@ -344,6 +356,45 @@ fn fill(store: &[u64], world: u64, line: &[u8], at: usize) -> bool {
     true
 }
 
+fn count_rect(store: &[u64], world: u64, line: &[u8], at: usize) -> bool {
+    let corners = line::rect_at(line, at);
+    if corners.next != line.len() {
+        return false;
+    }
+    let q = corners.rect;
+    answer::numbered(cells::count_rect(store, world, q));
+    true
+}
+
+// Writes into the first n words.
+fn survey_to(store: &[u64], world: u64, row: u64, column: u64, k: u64, space: &mut [u64], n: usize)
+    requires { ⌜ n ≤ length (now space) ⌝ }
+{
+    let w = cells::survey(store, world, row, column, k, &mut space[0..n]);
+    answer::worded(w, &space[0..n]);
+}
+
+fn survey(store: &[u64], world: u64, line: &[u8], at: usize) -> bool {
+    let mut space = [0xeeeeeeeeeeeeeeeeu64; 128];
+    let row = line::number_at(line, at);
+    let column = line::number_at(line, row.next);
+    let k = line::number_at(line, column.next);
+    let lent = line::at_most(line, k.next, 128);
+    if lent.next != line.len() {
+        return false;
+    }
+    survey_to(
+        store,
+        world,
+        row.value,
+        column.value,
+        k.value,
+        &mut space,
+        lent.value as usize,
+    );
+    true
+}
+
 // Writes into the first n bytes.
 fn write_set_to(store: &[u64], world: u64, edition: Edition, space: &mut [u8], n: usize)
     requires { ⌜ n ≤ length (now space) ⌝ }
@@ -425,6 +476,12 @@ fn report_named(store: &[u64], world: u64, name: &[u8], line: &[u8], at: usize) 
     if check::same(name, b"fill") {
         return fill(store, world, line, at);
     }
+    if check::same(name, b"count_rect") {
+        return count_rect(store, world, line, at);
+    }
+    if check::same(name, b"survey") {
+        return survey(store, world, line, at);
+    }
     if check::same(name, b"write_set") {
         return write_set(store, world, line, at);
     }
@@ -447,6 +504,9 @@ pub fn call_named(store: &mut [u64], world: u64, name: &[u8], line: &[u8], at: u
     }
     if check::same(name, b"flip_strict") {
         return flip(store, world, line, at, true);
+    }
+    if check::same(name, b"set_rect") {
+        return set_rect(store, world, line, at);
     }
     if check::same(name, b"shift") {
         return shift(store, world, line, at);

@@ -5,6 +5,7 @@ ghost use Prim.Native.Nat.{_≤_};
 ghost use Rattle.io.specs.Counts.{Counts};
 use model::Bound;
 use model::Operation;
+use model::Rect;
 
 // No place of any line.
 const LOST: usize = usize::MAX;
@@ -34,6 +35,11 @@ pub struct Limit {
 
 pub struct Join {
     pub operation: Operation,
+    pub next: usize,
+}
+
+pub struct Corners {
+    pub rect: Rect,
     pub next: usize,
 }
 
@@ -307,6 +313,24 @@ pub fn operation_at(line: &[u8], at: usize) -> Join {
     Join {
         operation: Operation::Xor,
         next: LOST,
+    }
+}
+
+// ---- rectangles
+// Both corners, each its row and its column.
+pub fn rect_at(line: &[u8], at: usize) -> Corners {
+    let top = number_at(line, at);
+    let left = number_at(line, top.next);
+    let bottom = number_at(line, left.next);
+    let right = number_at(line, bottom.next);
+    Corners {
+        rect: Rect {
+            top: top.value,
+            left: left.value,
+            bottom: bottom.value,
+            right: right.value,
+        },
+        next: right.next,
     }
 }
 

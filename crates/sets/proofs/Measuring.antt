@@ -8,7 +8,7 @@ use lib.Dec.{eqb, ltb}
 use lib.ListN.{length}
 use borrow.Author.Tests.{eq-eqb, ne-eqb, lt-ltb, le-ltb}
 use Rattle.model.specs.declared.Refusal.the-variants.{StoreLength, TreeHeight, Capacity, OutputShort}
-use Rattle.model.specs.declared.Worded.{Worded}
+use Rattle.model.specs.declared.Written.{Written}
 use Rattle.model.specs.Bytes.{intoFront}
 use Rattle.model.specs.Deepest.{least, deepestWords}
 use Rattle.model.specs.Refusals
@@ -52,10 +52,10 @@ module _ (w : List ℕ) (h : ℕ) (out : List ℕ) where
   by-tests s b c r = λ i. settleMeasured (refusal (tests (s i) (b i) (c i) (r i))) (worldsOf w) due
 
   -- 1: words of no pool's length
-  pub deepest-no-pool : capacity w ≡ 0 → WritesDeepest w h out (Worded.Refused StoreLength) out
+  pub deepest-no-pool : capacity w ≡ 0 → WritesDeepest w h out (Written.Refused StoreLength) out
   deepest-no-pool e = record {
     measured = record { answered = sym (ap (λ o. o .answer) (by-tests (eq-eqb (capacity w) 0 e) refl refl refl)); left = refl };
-    unworded = refl;
+    unwritten = refl;
   }
 
   module _ (sized : 1 ≤ capacity w) where
@@ -64,34 +64,34 @@ module _ (w : List ℕ) (h : ℕ) (out : List ℕ) where
     pool = ne-eqb (capacity w) 0 (λ z. omega arith)
 
     -- 13: no such height
-    pub deepest-no-height : badHeight h ≡ true → WritesDeepest w h out (Worded.Refused TreeHeight) out
+    pub deepest-no-height : badHeight h ≡ true → WritesDeepest w h out (Written.Refused TreeHeight) out
     deepest-no-height e = record {
       measured = record { answered = sym (ap (λ o. o .answer) (by-tests pool e refl refl)); left = refl };
-      unworded = refl;
+      unwritten = refl;
     }
 
     module _ (good : badHeight h ≡ false) where
       -- 8: the list has more runs than the pool may have
-      pub deepest-over : capacity w < least h → WritesDeepest w h out (Worded.Refused Capacity) out
+      pub deepest-over : capacity w < least h → WritesDeepest w h out (Written.Refused Capacity) out
       deepest-over l = record {
         measured = record { answered = sym (ap (λ o. o .answer) (by-tests pool good (lt-ltb (capacity w) (least h) l) refl)); left = refl };
-        unworded = refl;
+        unwritten = refl;
       }
 
       module _ (fits : least h ≤ capacity w) where
         -- 2: the slice is too short
-        pub deepest-short : length out < 2 * least h → WritesDeepest w h out (Worded.Refused OutputShort) out
+        pub deepest-short : length out < 2 * least h → WritesDeepest w h out (Written.Refused OutputShort) out
         deepest-short l =
             let short : length out < length (deepestWords h) = rw (deepest-words h) l in record {
               measured = record {
                 answered = sym (ap (λ o. o .answer) (by-tests pool good (le-ltb (capacity w) (least h) fits) (lt-ltb (length out) (length (deepestWords h)) short)));
                 left = refl;
               };
-              unworded = refl;
+              unwritten = refl;
             }
 
         -- and else the list is in front
-        pub deepest-done : {out′ : List ℕ} (n : ℕ) → n ≡ least h → 2 * least h ≤ length out → out′ ≡ intoFront (deepestWords h) out → WritesDeepest w h out (Worded.Words (2 * n)) out′
+        pub deepest-done : {out′ : List ℕ} (n : ℕ) → n ≡ least h → 2 * least h ≤ length out → out′ ≡ intoFront (deepestWords h) out → WritesDeepest w h out (Written.Front (2 * n)) out′
         deepest-done n is l e =
             let room : length (deepestWords h) ≤ length out = list-fits h out l in record {
               measured = record {
@@ -100,5 +100,5 @@ module _ (w : List ℕ) (h : ℕ) (out : List ℕ) where
                     ∙ sym (ap (λ o. o .answer) (by-tests pool good (le-ltb (capacity w) (least h) fits) (le-ltb (length out) (length (deepestWords h)) room)));
                 left = refl;
               };
-              unworded = tt;
+              unwritten = tt;
             }

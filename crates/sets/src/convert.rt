@@ -20,7 +20,7 @@ pub fn convert(bytes: &[u8], out: &mut [u8]) -> Written
                 return Written::Refused(Refusal::OutputShort);
             }
             written::write::convert(bytes, e, n, out);
-            Written::Bytes(due)
+            Written::Front(due)
         }
     }
 }

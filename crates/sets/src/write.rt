@@ -18,7 +18,7 @@ pub fn write_set(words: &[u64], world: u64, edition: Edition, out: &mut [u8]) ->
         return Written::Refused(Refusal::OutputShort);
     }
     written::write::write_set(&words[128..], h, edition, out);
-    Written::Bytes(due)
+    Written::Front(due)
 }
 
 // Writes the map of a window, a word at a time or, where `wide` is false, by single bytes, and returns how many bytes it has.
@@ -46,5 +46,5 @@ pub fn write_map(
     } else {
         maps::write::write_map_by_bytes(&words[128..], h, base, n, out);
     }
-    Written::Bytes(due)
+    Written::Front(due)
 }

@@ -156,8 +156,13 @@ impl Figures {
 
 /// A table with a row for each label and a column for each number of runs.
 pub fn table<'a>(title: &str, sizes: &[usize], rows: impl Iterator<Item = (&'a str, Vec<String>)>) {
-    let heads: String = sizes.iter().map(|&size| format!(" {} runs |", number(size as f64))).collect();
-    println!("| {title} |{heads}\n|{}", "---|".repeat(1 + sizes.len()));
+    let heads: Vec<String> = sizes.iter().map(|&size| format!("{} runs", number(size as f64))).collect();
+    headed(title, &heads, rows);
+}
+
+/// A table with a row for each label and a column for each head.
+pub fn headed<'a>(title: &str, heads: &[String], rows: impl Iterator<Item = (&'a str, Vec<String>)>) {
+    println!("| {title} | {} |\n|{}", heads.join(" | "), "---|".repeat(1 + heads.len()));
     for (label, cells) in rows {
         println!("| {label} | {} |", cells.join(" | "));
     }

@@ -6,6 +6,7 @@ mod bytes;
 mod editions;
 #[cfg(feature = "bench_store")]
 mod gaps;
+mod grid;
 mod heights;
 mod lists;
 mod measure;
@@ -66,6 +67,18 @@ pub fn run_mending() {
     println!("load {} after", load());
 }
 
+fn tell_grid(progress: &Progress) {
+    println!("## Cells of a grid\n");
+    grid::tell(progress);
+}
+
+/// Measures rectangles and surveys of cells alone, and prints Markdown.
+pub fn run_grid() {
+    println!("load {} before\n", load());
+    tell_grid(&Progress::begin());
+    println!("load {} after", load());
+}
+
 fn tell_heights(progress: &Progress) {
     println!("## Lists for heights\n");
     heights::tell(progress);
@@ -104,6 +117,7 @@ pub fn run(plot: &str) {
     bytes::tell(&bytes);
     tell_editions(&progress);
     tell_mending(&progress);
+    tell_grid(&progress);
     tell_heights(&progress);
     let by_words = bytes::by_words(&bytes);
     let panels = [

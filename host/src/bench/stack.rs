@@ -14,7 +14,7 @@ use crate::differential::records;
 use crate::differential::reference::{self, Draft, Run, Shape, WORLDS, node_at, record_at};
 use crate::frame::Call;
 use crate::raw::{self, Bound};
-use crate::{HEIGHT, Limits, PoolBuf, SetBuf};
+use crate::{HEIGHT, Limits, Piece, PoolBuf, Rect, SIDE, SetBuf};
 
 const PAINT: u64 = 0xA5A5_5A5A_C3C3_3C3C;
 const CAPACITY: usize = 65_536;
@@ -230,7 +230,11 @@ fn measure_on(painted: &mut Painted, words: &[u64], runs: &[Run], worlds: usize,
             changed.copy_from_slice(words);
             let upper = if call == 13 { WINDOW } else { last };
             let k = if call == 14 { 7 } else { 0 };
-            let record = [call, 1, first, 1, upper, random.below(2), k, i];
+            let record = match call {
+                // A rectangle of some rows, in which most of the lower runs lie.
+                19 | 20 => [call, 0, first % SIDE, 40, SIDE - 1, random.below(2), k, i],
+                _ => [call, 1, first, 1, upper, random.below(2), k, i],
+            };
             let mut answer = [0; 8];
             on_stack!(painted, vizturel_frame(c, n, record.as_ptr(), 8, answer.as_mut_ptr(), 8));
         }
@@ -267,6 +271,17 @@ fn measure_on(painted: &mut Painted, words: &[u64], runs: &[Run], worlds: usize,
             let (from, to, report) = (set.as_ptr(), other.as_mut_ptr(), bytes.as_mut_ptr());
             on_stack!(painted, vizturel_mend(s, n, 0, from, set.len(), to, other.len(), report, bytes.len()));
         }
+    }
+    // Rectangles and squares that most of the lower runs lie in, and others.
+    let mut pieces = vec![0; Piece::WORDS << 16];
+    for (row, column) in [(0, 0), (3, 7), (SIDE - 256, SIDE - 256)] {
+        let rect = Rect::new((row, column), (row + 255, column + 200));
+        on_stack!(painted, vizturel_count_rect(p, n, i, rect));
+        for value in [0, 1] {
+            changed.copy_from_slice(words);
+            on_stack!(painted, vizturel_set_rect(c, n, i, rect, value));
+        }
+        on_stack!(painted, vizturel_survey(p, n, i, row, column, 8, pieces.as_mut_ptr(), pieces.len()));
     }
     let list = runs.as_flattened();
     on_stack!(painted, vizturel_build(s, n, 0, list.as_ptr(), list.len()));

@@ -24,7 +24,7 @@ const WORLDS: usize = 32;
 const SLICE: usize = 5 + 16 * CAPACITY;
 /// The most bytes of the slice for the report on a mended set: twice the runs of a written set.
 const REPORT: usize = 2 * CAPACITY;
-/// The most words of a lent slice: those of the runs of a full store.
+/// The most words of a lent slice: those of the runs of a full store, or of 25 pieces of a survey and three more.
 const ROOM: usize = 2 * CAPACITY;
 /// The most bytes of a map.
 const MAP: usize = 1024;
@@ -50,7 +50,7 @@ fn fits(call: &Call) -> bool {
         Call::Convert { bytes, room } => bytes.len() <= SLICE && *room <= SLICE,
         Call::Mend { bytes, rooms: [room, report], .. } => bytes.len() <= SLICE && *room <= SLICE && *report <= REPORT,
         Call::Write { room, .. } | Call::WriteMap { room, .. } => *room <= SLICE,
-        Call::Deepest { room, .. } => *room <= ROOM,
+        Call::Deepest { room, .. } | Call::Survey { room, .. } => *room <= ROOM,
         Call::Frame { calls, room, .. } => {
             [calls.len(), *room].iter().all(|n| n % records::WORDS == 0 && n / records::WORDS <= CALLS)
         }

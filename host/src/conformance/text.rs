@@ -5,7 +5,7 @@ use std::str::{FromStr, Split};
 
 use crate::differential::calls::{Call, Place, Range, SPARE, Told};
 use crate::differential::records::{self, Record};
-use crate::{Listing, Operation, Tally};
+use crate::{Listing, Operation, Rect, Tally};
 
 struct Words<'a>(Split<'a, char>);
 
@@ -44,6 +44,11 @@ impl<'a> Words<'a> {
 
     fn range(&mut self) -> Option<Range> {
         Some((self.bound()?, self.bound()?))
+    }
+
+    fn rect(&mut self) -> Option<Rect> {
+        let mut corner = || Some((self.number()?, self.number()?));
+        Some(Rect::new(corner()?, corner()?))
     }
 
     fn bytes(&mut self) -> Option<Vec<u8>> {
@@ -125,6 +130,9 @@ fn at_world(name: &str, at: Place, w: &mut Words) -> Option<Call> {
         "read_map" => Call::ReadMap { at, base: w.number()?, n: w.number()?, map: w.bytes()? },
         "write_map" => Call::WriteMap { at, base: w.number()?, n: w.number()?, room: w.number()? },
         "fill" => Call::Fill { at, base: w.number()?, n: w.number()? },
+        "set_rect" => Call::SetRect { at, rect: w.rect()?, value: w.truth()? },
+        "count_rect" => Call::CountRect { at, rect: w.rect()? },
+        "survey" => Call::Survey { at, row: w.number()?, column: w.number()?, k: w.number()?, room: w.number()? },
         _ => return None,
     })
 }
@@ -152,6 +160,11 @@ fn listing(l: Listing) -> String {
 
 fn of_range(name: &str, at: Place, r: Range, value: bool) -> String {
     format!("{name} {at} {} {}", range(r), u8::from(value))
+}
+
+// Both corners, each its row and its column.
+fn corners(Rect { top, left, bottom, right }: Rect) -> String {
+    format!("{top} {left} {bottom} {right}")
 }
 
 // Pairs of numbers after how many there are.
@@ -207,6 +220,9 @@ pub fn write(call: &Call) -> String {
         Call::ClearMap { base, n, ref map } => format!("clear_map {base} {n} {}", digits(map)),
         Call::WriteMap { at, base, n, room } => format!("write_map {at} {base} {n} {room}"),
         Call::Fill { at, base, n } => format!("fill {at} {base} {n}"),
+        Call::SetRect { at, rect, value } => format!("set_rect {at} {} {}", corners(rect), u8::from(value)),
+        Call::CountRect { at, rect } => format!("count_rect {at} {}", corners(rect)),
+        Call::Survey { at, row, column, k, room } => format!("survey {at} {row} {column} {k} {room}"),
         Call::Frame { at, ref calls, room } => {
             let asked: String = calls.as_chunks().0.iter().map(record).collect();
             format!("frame {at} {} {}{asked}", calls.len() / records::WORDS, room / records::WORDS)

@@ -5,7 +5,7 @@ use std::ops::{Bound, RangeInclusive};
 
 use super::records::Record;
 use super::reference::Run;
-use crate::{Listing, Operation, Refusal, Tally};
+use crate::{Listing, Operation, Rect, Refusal, Tally};
 
 pub type Range = (Bound<u64>, Bound<u64>);
 
@@ -127,6 +127,23 @@ pub enum Call {
         base: u64,
         n: u64,
     },
+    SetRect {
+        at: Place,
+        rect: Rect,
+        value: bool,
+    },
+    CountRect {
+        at: Place,
+        rect: Rect,
+    },
+    /// The square of side 2^k from a row and a column on, and how many words there are for its pieces.
+    Survey {
+        at: Place,
+        row: u64,
+        column: u64,
+        k: u64,
+        room: usize,
+    },
     Combine {
         to: Place,
         op: Operation,
@@ -214,6 +231,7 @@ impl Call {
             | Call::Flip { at, .. }
             | Call::SetStrict { at, .. }
             | Call::FlipStrict { at, .. }
+            | Call::SetRect { at, .. }
             | Call::Shift { at, .. }
             | Call::ReadMap { at, .. } => Some(at.store),
             Call::Combine { to, .. }

@@ -8,7 +8,7 @@ use super::random::Random;
 use super::records::{self, Record};
 use super::reference::{self, Limit, Run, WORLDS};
 use super::{EDITIONS, HALF, Plan};
-use crate::{HEIGHT, Listing, Operation};
+use crate::{HEIGHT, Listing, Operation, Piece, Rect, SIDE};
 
 /// The kinds of calls.
 #[derive(Clone, Copy, Debug, PartialEq)]
@@ -31,6 +31,9 @@ pub enum Kind {
     Ranges,
     Draw,
     Fill,
+    SetRect,
+    CountRect,
+    Survey,
     Combine,
     Not,
     Shifted,
@@ -47,7 +50,7 @@ pub enum Kind {
 }
 
 /// Every kind but [`Kind::Empty`], which is a build.
-pub const KINDS: [Kind; 29] = [
+pub const KINDS: [Kind; 32] = [
     Kind::Get,
     Kind::RunAt,
     Kind::Find,
@@ -58,6 +61,8 @@ pub const KINDS: [Kind; 29] = [
     Kind::Ranges,
     Kind::Draw,
     Kind::Fill,
+    Kind::CountRect,
+    Kind::Survey,
     Kind::Equal,
     Kind::Write,
     Kind::WriteMap,
@@ -74,6 +79,7 @@ pub const KINDS: [Kind; 29] = [
     Kind::Flip,
     Kind::SetStrict,
     Kind::FlipStrict,
+    Kind::SetRect,
     Kind::Shift,
     Kind::ReadMap,
     Kind::New,
@@ -278,6 +284,87 @@ pub fn deepest(random: &mut Random, store: &Store, at: usize) -> Call {
     Call::Deepest { at, height, room }
 }
 
+// A cell: at a corner or an edge of the plane, at a run's end or beside it, or anywhere.
+fn cell(random: &mut Random, runs: &[Run]) -> [u64; 2] {
+    let last = SIDE - 1;
+    let held: Vec<Run> = runs.iter().copied().filter(|run| run[1] < SIDE * SIDE).collect();
+    match random.below(6) {
+        0 => [0; 2].map(|_| random.one_of(&[0, 1, last - 1, last])),
+        1 => [random.below(8), random.one_of(&[0, 1, 2, last - 1, last])],
+        2 => [random.below(SIDE), random.below(SIDE)],
+        _ if held.is_empty() => [random.below(8), random.below(8)],
+        _ => {
+            let x = random.one_of(&held)[random.below(2) as usize];
+            [x / SIDE, x % SIDE].map(|n| (n + random.below(3)).saturating_sub(1).min(last))
+        }
+    }
+}
+
+// What a number of a corner may be instead, so that it is above 65,535.
+fn off_plane(random: &mut Random, n: u64) -> u64 {
+    random.one_of(&[SIDE, SIDE + n, 1 << 32 | n, HALF, u64::MAX - n, u64::MAX])
+}
+
+/// A rectangle: mostly a few rows and columns, now and then of full width or one column less, seldom of all rows; and now and then none of the
+/// plane.
+pub fn rect(random: &mut Random, runs: &[Run]) -> Rect {
+    let last = SIDE - 1;
+    let [top, left] = cell(random, runs);
+    let rows = match random.below(2000) {
+        0 => SIDE,
+        1..=20 => random.below(400),
+        21..=500 => 0,
+        _ => random.below(6),
+    };
+    let (left, right) = match random.below(12) {
+        0 => (0, last),
+        1 => random.one_of(&[(0, last - 1), (1, last), (left, last), (0, left)]),
+        2 => (left, left),
+        _ => (left, (left + random.below(7)).min(last)),
+    };
+    let mut rect = Rect::new((top, left), ((top + rows).min(last), right));
+    if random.once_in(10) {
+        match random.below(6) {
+            0 => rect.top = off_plane(random, rect.top),
+            1 => rect.left = off_plane(random, rect.left),
+            2 => rect.bottom = off_plane(random, rect.bottom),
+            3 => rect.right = off_plane(random, rect.right),
+            // Beyond the other corner by one row or column, where there is one.
+            4 => (rect.top, rect.bottom) = (rect.bottom.max(rect.top + 1), rect.top),
+            _ => (rect.left, rect.right) = (rect.right.max(rect.left + 1), rect.left),
+        }
+    }
+    rect
+}
+
+// A survey of cells, with room for all of its pieces, for a word less, or for more. A large square comes up seldom, and so does one that is not
+// wholly on the plane.
+fn survey(random: &mut Random, runs: &[Run], at: Place) -> Call {
+    let k = match random.below(60) {
+        0 => 5 + random.below(4),
+        1..=3 => random.one_of(&[9, 10, 16, 63, 64, 1 << 32, HALF | 3, u64::MAX]),
+        _ => random.below(5),
+    };
+    let side = 1 << k.min(8);
+    let [row, column] = cell(random, runs).map(|n| n.saturating_sub(random.below(side)));
+    let [mut row, mut column] = [row, column].map(|n| if random.truth() { n / side * side } else { n });
+    if random.once_in(10) {
+        let over = SIDE - side + 1;
+        let (some, off) = (random.below(side), off_plane(random, row));
+        let beyond = random.one_of(&[over, over + some, SIDE, off]);
+        *if random.truth() { &mut row } else { &mut column } = beyond;
+    } else {
+        [row, column] = [row, column].map(|n| n.min(SIDE - side));
+    }
+    let held = |x: u64| runs[..runs.partition_point(|run| run[0] <= x)].last().is_some_and(|run| x <= run[1]);
+    let due = match reference::is_square(row, column, k) {
+        true => reference::survey(row, column, k, held).len(),
+        false => Piece::WORDS,
+    };
+    let room = if random.once_in(4) { due.saturating_sub(1) } else { slice_room(random, due) };
+    Call::Survey { at, row, column, k, room }
+}
+
 /// A world of a store: mostly one that is opened.
 pub fn place(random: &mut Random, stores: &[Store], store: usize) -> Place {
     let opened = stores[store].opened();
@@ -392,6 +479,9 @@ pub fn call(random: &mut Random, stores: &[Store], kind: Kind, at: Place) -> Cal
             Call::Draw { at, listing, back: left }
         }
         Kind::Fill => Call::Fill { at, base: position(random, runs), n: window(random) },
+        Kind::SetRect => Call::SetRect { at, rect: rect(random, runs), value },
+        Kind::CountRect => Call::CountRect { at, rect: rect(random, runs) },
+        Kind::Survey => survey(random, runs, at),
         Kind::Load => {
             let runs = run_list(random, beside);
             Call::Load { to: at, bytes: written(random, &runs) }
@@ -493,7 +583,7 @@ fn gap_length(random: &mut Random, free: &[Run]) -> u64 {
 }
 
 // What a frame's calls are, those that a world grows by more than once.
-const LISTED: [Kind; 21] = [
+const LISTED: [Kind; 23] = [
     Kind::Empty,
     Kind::Set,
     Kind::Set,
@@ -515,6 +605,8 @@ const LISTED: [Kind; 21] = [
     Kind::SetStrict,
     Kind::FlipStrict,
     Kind::TallyStrict,
+    Kind::SetRect,
+    Kind::CountRect,
 ];
 
 // Any word: often one that means something elsewhere in a record.
@@ -592,7 +684,7 @@ pub fn frame(random: &mut Random, stores: &[Store], at: usize, count: usize) -> 
 }
 
 // What a stretch of a random history does most.
-const MOODS: [&[Kind]; 8] = [
+const MOODS: [&[Kind]; 9] = [
     &[Kind::Set],
     &[Kind::Set, Kind::Flip],
     &[Kind::Shift, Kind::Shift, Kind::Set],
@@ -601,6 +693,7 @@ const MOODS: [&[Kind]; 8] = [
     &[Kind::ReadMap, Kind::WriteMap, Kind::ClearMap, Kind::Fill, Kind::Shift],
     &[Kind::Ranges, Kind::Draw, Kind::Select, Kind::Set],
     &[Kind::Gap, Kind::Gap, Kind::Set, Kind::Shift],
+    &[Kind::SetRect, Kind::SetRect, Kind::CountRect, Kind::Survey, Kind::Shift],
 ];
 
 /// A random history of all calls, in stretches that do one thing most and are about one world.
@@ -656,5 +749,18 @@ mod tests {
         assert_eq!(seen.iter().position(|&n| n > 0), Some(1));
         assert!(seen[1..=WORLDS].iter().all(|&n| n > 0), "{seen:?}");
         assert_eq!(seen[WORLDS + 1], 0);
+    }
+
+    #[test]
+    fn rectangles_and_squares_are_on_the_plane_and_off_it() {
+        let mut random = Random::new(1);
+        let runs = [[2, 7], [3 * SIDE + 5, 3 * SIDE + 9], [9 * SIDE - 1, 9 * SIDE]];
+        let mut seen = [[0; 2]; 2];
+        for _ in 0..2000 {
+            seen[0][usize::from(reference::is_rect(rect(&mut random, &runs)))] += 1;
+            let Call::Survey { row, column, k, .. } = survey(&mut random, &runs, Place::first(0)) else { panic!() };
+            seen[1][usize::from(reference::is_square(row, column, k))] += 1;
+        }
+        assert!(seen.as_flattened().iter().all(|&n| n > 100), "{seen:?}");
     }
 }

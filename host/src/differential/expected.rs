@@ -6,7 +6,7 @@ use super::calls::{Call, Place, Range, SPARE, STALE, STALE_WORD, Told, ends_of, 
 use super::records;
 use super::reference::{self, Limit, Look, Run, World};
 use crate::oracle::IntervalBitSet;
-use crate::{Answer, HEIGHT, Listing, Operation, Refusal, Tally};
+use crate::{Answer, HEIGHT, Listing, Operation, Rect, Refusal, SIDE, Tally};
 
 // The oracle's positions are usize.
 const _: () = assert!(usize::BITS == 64);
@@ -168,6 +168,11 @@ fn slice(room: usize, due: Vec<u8>) -> Answer<Told> {
     front(room, due, STALE).map(|(filled, all)| Told::Slice(filled, all))
 }
 
+// The rows of a rectangle of the plane, each a range of positions.
+fn rows(rect: Rect) -> impl Iterator<Item = RangeInclusive<usize>> {
+    (rect.top..=rect.bottom).map(move |row| (row * SIDE + rect.left) as usize..=(row * SIDE + rect.right) as usize)
+}
+
 /// Several stores.
 #[derive(Clone)]
 pub struct Expected {
@@ -225,7 +230,7 @@ impl Expected {
         self.result(&call)
     }
 
-    // The oracle refuses nothing: the order of refusals is 1, 11, 7, 12, 13, 9, 14, 6, 10, 3, 4, 3, 5, 8, 2.
+    // The oracle refuses nothing: the order of refusals is 1, 11, 7, 12, 13, 9, 14, 15, 6, 10, 3, 4, 3, 5, 8, 2.
     fn result(&mut self, call: &Call) -> Answer<Told> {
         match *call {
             Call::Lend { at, ref words } => {
@@ -311,6 +316,30 @@ impl Expected {
                 }
                 let held = p.count(base as usize..=(base + (n - 1)) as usize, true);
                 Ok(Told::Number((1000 * held).div_ceil(u128::from(n)) as u64))
+            }
+            // The oracle has no rectangles: row by row. Each row adds a run at most.
+            Call::SetRect { at, rect, value } => {
+                self.read(&[at])?;
+                if !reference::is_rect(rect) {
+                    return Err(Refusal::OffPlane);
+                }
+                let more = (rect.bottom - rect.top) as usize + 1;
+                self.change(at, more, |p| Told::Count(rows(rect).map(|row| p.set(row, value)).sum()))
+            }
+            Call::CountRect { at, rect } => {
+                let p = self.set(at)?;
+                if !reference::is_rect(rect) {
+                    return Err(Refusal::OffPlane);
+                }
+                Ok(Told::Number(rows(rect).map(|row| p.count(row, true) as u64).sum()))
+            }
+            Call::Survey { at, row, column, k, room } => {
+                let p = self.set(at)?;
+                if !reference::is_square(row, column, k) {
+                    return Err(Refusal::OffPlane);
+                }
+                let due = reference::survey(row, column, k, |x| p.get(x as usize));
+                front(room, due, STALE_WORD).map(|(filled, all)| Told::Words(filled, all))
             }
             Call::Combine { to, op, a, b } => {
                 self.read(&[to, a, b])?;

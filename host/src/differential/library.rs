@@ -89,6 +89,17 @@ impl Library {
                 }
             }
             Call::Fill { at, base, n } => self.lent(at).fill(base, n).map(Told::Number),
+            Call::SetRect { at, rect, value } => self.lent_mut(at).set_rect(rect, value).map(Told::Count),
+            Call::CountRect { at, rect } => self.lent(at).count_rect(rect).map(Told::Number),
+            Call::Survey { at, row, column, k, room } => {
+                let mut out = vec![STALE_WORD; room];
+                let w = &self.stores[at.store];
+                let to = out.as_mut_ptr();
+                // SAFETY: as of every call in the crate's root. By words, so that a part of a piece's room can be handed in.
+                let told = unsafe { raw::vizturel_survey(w.as_ptr(), w.len(), at.world, row, column, k, to, room) };
+                let filled = crate::number(told).map(|words| words as usize);
+                written(filled, out, STALE_WORD, Told::Words)
+            }
             Call::Combine { to, op, a, b } => {
                 self.receiving(to, |library, w| w.combine(op, &library.lent(a), &library.lent(b)))
             }

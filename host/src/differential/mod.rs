@@ -89,13 +89,13 @@ pub struct Score {
     /// How many of them were calls on maps: each is one call here, though the library makes it in both forms.
     pub mapped: u64,
     /// How many of them were refused, by number; those that were not stand at 0.
-    pub refused: [u64; 15],
+    pub refused: [u64; 16],
 }
 
 impl Score {
     fn new(progress: bool) -> Score {
         let now = Instant::now();
-        Score { part: "", progress, began: now, told: now, compared: 0, listed: 0, mapped: 0, refused: [0; 15] }
+        Score { part: "", progress, began: now, told: now, compared: 0, listed: 0, mapped: 0, refused: [0; 16] }
     }
 
     fn begin(&mut self, part: &'static str) {
@@ -243,6 +243,7 @@ pub fn run(options: Options) -> Result<Score, Difference> {
     parts::heights(&mut score, options)?;
     parts::windows(&mut score, options)?;
     parts::gaps(&mut score, options)?;
+    parts::grids(&mut score, options)?;
     parts::limits(&mut score, options)?;
     parts::large(&mut score, options)?;
     parts::frames(&mut score, options)?;

@@ -8,7 +8,7 @@ use super::random::Random;
 use super::records;
 use super::reference::{self, Draft, Limit, Run, Shape, WORLDS, node_at, record_at};
 use super::{Difference, EDITIONS, HALF, M, Options, Plan, Score, Sequence, WRITTEN};
-use crate::{Edition, HEIGHT, Operation};
+use crate::{Edition, HEIGHT, Operation, Rect, SIDE};
 
 type Outcome = Result<(), Difference>;
 
@@ -833,6 +833,141 @@ fn runs_of_bits(base: u64, bits: u64) -> Vec<Run> {
         }
     }
     runs
+}
+
+// How many rows and columns of cells the rectangles of a patch have.
+const PATCH: u64 = 4;
+
+// The rectangles of a patch of cells.
+fn every_rect(row: u64, column: u64) -> Vec<Rect> {
+    let ends = || (0..PATCH).flat_map(|i| (i..PATCH).map(move |j| (i, j)));
+    let rect = |(top, bottom), (left, right)| Rect::new((row + top, column + left), (row + bottom, column + right));
+    ends().flat_map(|rows| ends().map(move |columns| rect(rows, columns))).collect()
+}
+
+// Lends a pool of one world with these runs, room for so many more, and physical positions that end at a cell.
+fn lend_cells(
+    score: &mut Score,
+    s: &mut Sequence,
+    random: &mut Random,
+    runs: &[Run],
+    more: usize,
+    offset: u64,
+) -> Outcome {
+    let capacity = (runs.len() + more).max(1);
+    let offset = if runs.is_empty() { 0 } else { offset };
+    let physical = reference::logical(runs, offset.wrapping_neg());
+    let world = Draft { physical, offset, limit: [0, capacity as u64] };
+    let words = reference::craft(capacity, &[world], Shape::Even, random);
+    s.call(score, Call::Lend { at: 0, words })
+}
+
+/// Rectangles and surveys of cells: every rectangle of patches at the plane's corners, edges and middle, each cell of them held or not, with no room
+/// for a run more, and little; then rows that are nearly as wide as the plane, so that one cell lies between two of them; then many rows.
+pub fn grids(score: &mut Score, options: Options) -> Outcome {
+    score.begin("cells of a grid: every rectangle of a patch");
+    let mut random = Random::new(options.seed ^ 0x12);
+    let last = SIDE - PATCH;
+    let patches = [[0, 0], [0, last], [last, 0], [last, last], [7, 9], [SIDE / 2, SIDE - 2 * PATCH], [last - 1, 1]];
+    for turn in 0..600 {
+        if turn % options.stride.min(40) != 0 {
+            continue;
+        }
+        let [row, column] = random.one_of(&patches);
+        let whole = Rect::new((row, column), (row + PATCH - 1, column + PATCH - 1));
+        // Cells by chance, with the cells before and after each row of the patch, where there are some.
+        let dense = 1 + random.below(3);
+        let cells = (row..row + PATCH).flat_map(|r| (r * SIDE + column).saturating_sub(1)..=r * SIDE + column + PATCH);
+        let held: Vec<Run> = cells.filter(|_| random.below(4) < dense).map(|x| [x, x]).collect();
+        let runs = reference::united(&held);
+        let offset = random.one_of(&[0, row * SIDE + column + 1, (row + 1) * SIDE + column, HALF]);
+        let mut s = Sequence::alone(&[1]);
+        lend_cells(score, &mut s, &mut random, &runs, room_for(turn), offset)?;
+        for k in 0..=2 {
+            s.call(score, Call::Survey { at: HERE, row, column, k, room: 5 * 16 })?;
+        }
+        for rect in every_rect(row, column) {
+            s.call(score, Call::CountRect { at: HERE, rect })?;
+            for value in [true, false] {
+                let mut t = s.clone();
+                t.call(score, Call::SetRect { at: HERE, rect, value })?;
+                t.call(score, Call::CountRect { at: HERE, rect: whole })?;
+                t.call(score, Call::Survey { at: HERE, row, column, k: 2, room: 5 * 16 })?;
+            }
+        }
+    }
+    score.begin("cells of a grid: rows nearly as wide as the plane");
+    for turn in 0..2000_u64 {
+        if turn % options.stride.min(40) != 0 {
+            continue;
+        }
+        let top = random.one_of(&[0, 1, 5, SIDE - 4]);
+        let rows = 1 + random.below(4);
+        // Cells at the ends of the rows, those before the first row and after the last among them.
+        let ends = (top..=top + rows).flat_map(|r| (r * SIDE).saturating_sub(3)..r * SIDE + 3);
+        let cells: Vec<Run> = ends.filter(|&x| x < SIDE * SIDE && !random.once_in(3)).map(|x| [x, x]).collect();
+        let runs = reference::united(&cells);
+        let offset = random.one_of(&[0, top * SIDE, (top + 1) * SIDE - 1, (top + 1) * SIDE + 1, HALF]);
+        let mut s = Sequence::alone(&[1]);
+        lend_cells(score, &mut s, &mut random, &runs, room_for(turn), offset)?;
+        let around = Rect::new((top.saturating_sub(1), 0), ((top + rows).min(SIDE - 1), SIDE - 1));
+        for (left, right) in [(0, SIDE - 1), (0, SIDE - 2), (1, SIDE - 1), (1, SIDE - 2), (2, SIDE - 1), (0, 0)] {
+            let rect = Rect::new((top, left), (top + rows - 1, right));
+            s.call(score, Call::CountRect { at: HERE, rect })?;
+            for value in [true, false] {
+                let mut t = s.clone();
+                t.call(score, Call::SetRect { at: HERE, rect, value })?;
+                t.call(score, Call::CountRect { at: HERE, rect: around })?;
+            }
+        }
+    }
+    many_rows(score, &mut random)
+}
+
+// Room for no run more in every other turn, else for a few.
+fn room_for(turn: u64) -> usize {
+    [0, 1, 0, 2, 0, 3, 0, 8][turn as usize % 8]
+}
+
+// A rectangle of as many rows as the plane has, at the largest capacity, which is as many runs: then what adds one is refused, and what joins
+// runs or takes some away is not.
+fn many_rows(score: &mut Score, random: &mut Random) -> Outcome {
+    score.begin("cells of a grid: as many rows as the plane has");
+    let last = SIDE - 1;
+    let column = |left, right| Rect::new((0, left), (last, right));
+    let mut s = Sequence::alone(&[SIDE as usize]);
+    s.call(score, Call::SetRect { at: HERE, rect: column(3, 4), value: true })?;
+    for (rect, value) in [
+        (Rect::cell(9, 9), true),
+        (column(0, last - 1), false),
+        (column(3, 4), true),
+        (column(5, 7), true),
+        // A hole in every row would be a run more in each.
+        (column(5, 5), false),
+        (Rect::new((0, 0), (400, last)), false),
+        (Rect::new((0, 0), (800, 5)), true),
+        (Rect::new((402, 6), (700, 6)), false),
+        (Rect::new((380, 6), (420, 6)), false),
+        (Rect::new((0, 0), (400, 6)), false),
+        (Rect::new((500, 6), (701, 6)), false),
+        // 401 rows gain a run, and those after them lose one: a run too many, and then none too many. Not all of the first fit at first.
+        (Rect::new((0, 6), (700, 7)), true),
+        (Rect::new((0, 6), (701, 7)), true),
+        (Rect::PLANE, true),
+        (column(3, 4), false),
+        (Rect::PLANE, false),
+    ] {
+        s.call(score, Call::SetRect { at: HERE, rect, value })?;
+        s.call(score, Call::CountRect { at: HERE, rect: Rect::PLANE })?;
+        for _ in 0..4 {
+            let call = chance::call(random, s.sides.stores(), Kind::CountRect, HERE);
+            s.call(score, call)?;
+        }
+        for (row, column, k) in [(0, 0, 8), (300, 0, 8), (256, 5, 3), (SIDE - 256, SIDE - 256, 8)] {
+            s.call(score, Call::Survey { at: HERE, row, column, k, room: 5 << 16 })?;
+        }
+    }
+    Ok(())
 }
 
 fn wander(score: &mut Score, random: &mut Random, plans: Vec<Plan>, calls: u64) -> Outcome {

@@ -4,7 +4,7 @@
 use std::ops::Bound;
 
 use super::calls::{Call, Place, Told};
-use crate::{Listing, Tally};
+use crate::{Listing, Rect, Tally};
 
 /// How many words a record has.
 pub const WORDS: usize = 8;
@@ -12,7 +12,7 @@ pub const WORDS: usize = 8;
 pub type Record = [u64; WORDS];
 
 /// The greatest number that names a call other than get.
-pub const LAST: u64 = 18;
+pub const LAST: u64 = 20;
 
 /// Numbers below it that name none: such a record asks at a world that no pool has, so that it is refused and not answered as another call.
 pub const WITHDRAWN: [u64; 2] = [7, 9];
@@ -32,6 +32,8 @@ pub fn call_of(store: usize, record: Record) -> Call {
     let value = value != 0;
     let range = (bound(lower, from), bound(upper, upto));
     let listing = Listing { first: from, last: upto, value };
+    // A rectangle has no bounds: the words of these are its corners.
+    let rect = Rect::new((lower, from), (upper, upto));
     match call {
         1 => Call::Build { to: at, runs: Vec::new() },
         2 => Call::Set { at, range, value },
@@ -49,6 +51,8 @@ pub fn call_of(store: usize, record: Record) -> Call {
         16 => Call::SetStrict { at, range, value },
         17 => Call::FlipStrict { at, range },
         18 => Call::TallyStrict { at, range, value },
+        19 => Call::SetRect { at, rect, value },
+        20 => Call::CountRect { at, rect },
         _ => Call::Get { at, x: from },
     }
 }
@@ -68,6 +72,9 @@ pub fn record_of(call: &Call) -> Option<Record> {
         [number, lower, from, upper, upto, value.into(), k, at.world]
     };
     let plain = |number, at: Place, from, upto, value: bool| [number, 0, from, 0, upto, value.into(), 0, at.world];
+    let cornered = |number, at: Place, Rect { top, left, bottom, right }: Rect, value: bool| {
+        [number, top, left, bottom, right, value.into(), 0, at.world]
+    };
     Some(match *call {
         Call::Get { at, x } => plain(0, at, x, 0, false),
         Call::Build { to, ref runs } if runs.is_empty() => plain(1, to, 0, 0, false),
@@ -87,6 +94,8 @@ pub fn record_of(call: &Call) -> Option<Record> {
         Call::SetStrict { at, range, value } => over(16, at, range, value, 0),
         Call::FlipStrict { at, range } => over(17, at, range, false, 0),
         Call::TallyStrict { at, range, value } => over(18, at, range, value, 0),
+        Call::SetRect { at, rect, value } => cornered(19, at, rect, value),
+        Call::CountRect { at, rect } => cornered(20, at, rect, false),
         _ => return None,
     })
 }

@@ -9,7 +9,7 @@ use std::collections::VecDeque;
 
 use super::calls::{Range, ends_of};
 use super::random::Random;
-use crate::{Edition, Refusal};
+use crate::{Edition, Rect, Refusal, SIDE};
 
 /// A run: start and end, both in it.
 pub type Run = [u64; 2];
@@ -313,6 +313,50 @@ pub fn clear(n: u64, map: &mut [u8]) -> u64 {
 /// Whether a spare bit of a map is one.
 pub fn has_stray_bit(n: u64, map: &[u8]) -> bool {
     clear(n, &mut map.to_vec()) > 0
+}
+
+/// Whether a rectangle is one of the plane, its first corner not beyond its second.
+pub fn is_rect(Rect { top, left, bottom, right }: Rect) -> bool {
+    [top, left, bottom, right].iter().all(|&n| n < SIDE) && top <= bottom && left <= right
+}
+
+/// Whether a square of side 2^k has a k of at most 8 and is wholly on the plane.
+pub fn is_square(row: u64, column: u64, k: u64) -> bool {
+    k <= 8 && [row, column].iter().all(|&n| u128::from(n) + (1 << k) <= SIDE.into())
+}
+
+/// The pieces of a square, five words each, by the value of every cell.
+pub fn survey(row: u64, column: u64, k: u64, held: impl Fn(u64) -> bool) -> Vec<u64> {
+    let side = 1 << k;
+    let values = |r: u64| (0..side).map(|c| held((row + r) * SIDE + column + c)).collect();
+    let table: Vec<Vec<bool>> = (0..side).map(values).collect();
+    let mut words = Vec::new();
+    pieces(&table, [0, 0], [side as usize; 2], &mut |[r, c], [rows, columns], value| {
+        words.extend([row + r as u64, column + c as u64, rows as u64, columns as u64, value.into()]);
+    });
+    words
+}
+
+// Hands on each piece of a part of a table: the part itself, where it has one value, else those of its halves. A square is halved by column,
+// and what is left of one by row.
+fn pieces(
+    table: &[Vec<bool>],
+    [r, c]: [usize; 2],
+    [rows, columns]: [usize; 2],
+    list: &mut impl FnMut([usize; 2], [usize; 2], bool),
+) {
+    let value = table[r][c];
+    if table[r..r + rows].iter().all(|row| row[c..c + columns].iter().all(|&v| v == value)) {
+        list([r, c], [rows, columns], value);
+    } else if rows == columns {
+        let half = columns / 2;
+        pieces(table, [r, c], [rows, half], list);
+        pieces(table, [r, c + half], [rows, half], list);
+    } else {
+        let half = rows / 2;
+        pieces(table, [r, c], [half, columns], list);
+        pieces(table, [r + half, c], [half, columns], list);
+    }
 }
 
 /// Which run is the root of a tree of runs, and of each part of it.

@@ -5,14 +5,14 @@ use Rattle.exports.proofs.vizturel_deepest.Statement.{statement}
 use Rattle.exports.proofs.vizturel_deepest.Tie as tie
 
 -- where the list was asked for
-abbrev asking : tie.After-worded → tie.After-deepest
+abbrev asking : tie.After-written → tie.After-deepest
 asking c = c .before .before .before
 
 deepest-requires : tie.Need-deepest-requires
 deepest-requires c κs = search needs
 
-worded-requires : tie.Need-worded-requires
-worded-requires c κs = search needs
+written-requires : tie.Need-written-requires
+written-requires c κs = search needs
 
 words-requires : tie.Need-words-requires
 words-requires c κs = search needs
@@ -24,7 +24,7 @@ returns : tie.Need-returns
 returns c =
     let f = c .before in
     let m = asking f in
-    measures (m .deepest .result) (m .deepest .ensures) (f .worded .ensures) (c .words .ensures)
+    measures (m .deepest .result) (m .deepest .ensures) (f .written .ensures) (c .words .ensures)
 
 pub vizturel-deepest-spec : {M : Type 1} → statement M
-vizturel-deepest-spec = tie.close (tie.spec deepest-requires worded-requires words-requires same-length returns)
+vizturel-deepest-spec = tie.close (tie.spec deepest-requires written-requires words-requires same-length returns)

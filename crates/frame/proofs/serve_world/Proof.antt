@@ -11,7 +11,7 @@ use Rattle.flat.specs.declared.Reply.{Reply}
 use Rattle.flat.specs.Flat.{truth, replyOf, boundBy}
 use Rattle.frame.specs.Records.{callBy}
 use Rattle.frame.specs.Serving.{ServesAt}
-use Rattle.frame.proofs.Arms.{serves, ranged}
+use Rattle.frame.proofs.Arms.{serves, ranged, of-cells}
 use Rattle.frame.proofs.serve_world.Statement.{statement}
 use Rattle.frame.proofs.serve_world.Tie as tie
 
@@ -192,6 +192,30 @@ tallied-requires-2 c κs = search needs
 enum-told-17 : tie.Need-enum-told-17
 enum-told-17 c = search needs
 
+rect-requires : tie.Need-rect-requires
+rect-requires c κs = search needs
+
+set-rect-requires : tie.Need-set-rect-requires
+set-rect-requires c κs = search needs
+
+counted-requires-3 : tie.Need-counted-requires-3
+counted-requires-3 c κs = search needs
+
+enum-told-18 : tie.Need-enum-told-18
+enum-told-18 c = search needs
+
+rect-requires-2 : tie.Need-rect-requires-2
+rect-requires-2 c κs = search needs
+
+count-rect-requires : tie.Need-count-rect-requires
+count-rect-requires c κs = search needs
+
+numbered-requires-2 : tie.Need-numbered-requires-2
+numbered-requires-2 c κs = search needs
+
+enum-told-19 : tie.Need-enum-told-19
+enum-told-19 c = search needs
+
 get-requires : tie.Need-get-requires
 get-requires c κs = search needs
 
@@ -353,9 +377,30 @@ same-length-17 c = search needs
 
 returns-17 : tie.Need-returns-17
 returns-17 c =
-    let e₁₇ = c .before .before .before in
+    let m = c .before .before .before in
+    let q = m .before in
+    let e₁₇ = q .before .before in
     let n = e₁₇ .before .before in
-    answers n Kind.Get (e₁₇ .enum-told17 .given .1) (c .before .get .ensures) (c .tested .ensures)
+    answers n Kind.SetRect (e₁₇ .enum-told17 .given .1) (of-cells (λ q. Call.setRect q (truth (start n .args .e .value))) (q .rect .ensures) (m .set-rect .ensures)) (c .counted3 .ensures)
+
+same-length-18 : tie.Need-same-length-18
+same-length-18 c = search needs
+
+returns-18 : tie.Need-returns-18
+returns-18 c =
+    let q = c .before .before in
+    let e₁₈ = q .before .before in
+    let n = e₁₈ .before .before in
+    answers n Kind.CountRect (e₁₈ .enum-told18 .given .1) (of-cells (λ q. Call.countRect q) (q .rect2 .ensures) (c .before .count-rect .ensures)) (c .numbered2 .ensures)
+
+same-length-19 : tie.Need-same-length-19
+same-length-19 c = search needs
+
+returns-19 : tie.Need-returns-19
+returns-19 c =
+    let e₁₉ = c .before .before .before in
+    let n = e₁₉ .before .before in
+    answers n Kind.Get (e₁₉ .enum-told19 .given .1) (c .before .get .ensures) (c .tested .ensures)
 
 pub serve-world-spec : {M : Type 1} → statement M
 serve-world-spec =
@@ -413,6 +458,14 @@ serve-world-spec =
     tally-strict-requires
     tallied-requires-2
     enum-told-17
+    rect-requires
+    set-rect-requires
+    counted-requires-3
+    enum-told-18
+    rect-requires-2
+    count-rect-requires
+    numbered-requires-2
+    enum-told-19
     get-requires
     tested-requires
     same-length
@@ -448,4 +501,8 @@ serve-world-spec =
     same-length-16
     returns-16
     same-length-17
-    returns-17)
+    returns-17
+    same-length-18
+    returns-18
+    same-length-19
+    returns-19)

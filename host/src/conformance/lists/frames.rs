@@ -86,7 +86,15 @@ fn every_kind(world: u64) -> Vec<Record> {
         tally_strict AT e{M} e{M} 1
         set_strict AT i2 i8 0
         flip_strict AT i4 i6
-        tally_strict AT i1 i9 1",
+        tally_strict AT i1 i9 1
+        set_rect AT 0 3 1 5 1
+        set_rect AT 0 2 0 8 1
+        set_rect AT 1 3 0 5 0
+        set_rect AT 0 5 65536 5 0
+        count_rect AT 0 0 1 9
+        count_rect AT 0 1 0 0
+        count_rect AT 0 0 65535 65535
+        set_rect AT 0 0 65535 65535 0",
         M - 1
     );
     of(&lines.replace("AT", &format!("0/{world}")))
@@ -96,7 +104,7 @@ fn every_kind(world: u64) -> Vec<Record> {
 fn odd_records() -> Vec<Record> {
     let mut all = Vec::new();
     // Numbers that name no call, each with the words of a set that would change something.
-    for number in [0, 19, 20, 21, 255, 258, (1 << 32) + 2, HALF + 2, M] {
+    for number in [0, 21, 22, 23, 255, 258, (1 << 32) + 2, HALF + 2, M] {
         all.push([number, 1, 7, 1, 9, 0, 0, 0]);
     }
     // Withdrawn ones, at a world that is opened and at others: 12, and nothing else is told.
@@ -117,6 +125,7 @@ fn odd_records() -> Vec<Record> {
         all.push([11, 2, 0, 3, M, truth, 1, 0]);
         all.push([4, 1, 1, 1, 1, truth, 1, 0]);
         all.push([14, 1, 2, 3, 22, truth, 2, 0]);
+        all.push([19, 0, 20, 0, 22, truth, M, 0]);
     }
     all
 }

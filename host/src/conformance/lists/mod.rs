@@ -8,6 +8,7 @@ mod deepest;
 mod editions;
 mod frames;
 mod gaps;
+mod grid;
 mod joined;
 mod listings;
 mod long;
@@ -35,6 +36,7 @@ pub fn all() -> Vec<List> {
         capacity::list(),
         frames::list(),
         gaps::list(),
+        grid::list(),
         worlds::list(),
         long::list(),
     ]

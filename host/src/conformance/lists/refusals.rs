@@ -35,6 +35,9 @@ fn calls(s: &str, t: &str, u: &str) -> String {
         read_map {s} 0 8 0c
         write_map {s} 0 8 1
         fill {s} 0 8
+        set_rect {s} 0 4 1 5 1
+        count_rect {s} 0 0 3 65535
+        survey {s} 0 0 3 128
         eq {s} {t}
         eq {t} {s}
         eq {s} {s}
@@ -84,6 +87,14 @@ const WRONG: &str = "
     set_strict AT i6 i4 0
     flip_strict AT i6 i4
     tally_strict AT i6 i4 0
+    set_rect AT 1 0 0 9 1
+    set_rect AT 0 65536 0 65536 1
+    set_rect AT 0 5 1 5 0
+    count_rect AT 0 9 1 8
+    count_rect AT 0 0 65536 0
+    survey AT 0 0 9 0
+    survey AT 0 65536 0 0
+    survey AT 0 0 3 0
     set AT i4 e6 0";
 
 // What a world is before a call: in a store of no capacity, in one that is not sound, not opened, or there.
@@ -198,6 +209,39 @@ pub fn list() -> List {
         flip_strict 1/0 i5 i5
         tally_strict 1/0 i6 i4 0
         tally_strict 1/0 i6 i5 0
+        # 15: a corner above 65535, corners that are swapped in row or in column, k above 8, a square that is not wholly on the plane; before 8 and 2
+        set_rect 1/0 65536 0 65536 0 1
+        set_rect 1/0 0 65536 0 65536 1
+        set_rect 1/0 0 9 65536 9 1
+        set_rect 1/0 0 9 0 65536 1
+        set_rect 1/0 18446744073709551615 9 0 9 1
+        set_rect 1/0 0 9 4294967296 9 1
+        set_rect 1/0 1 9 0 9 1
+        set_rect 1/0 0 9 0 8 1
+        set_rect 1/0 1 4 1 3 0
+        set_rect 1/0 0 9 0 9 1
+        set_rect 1/0 0 4 0 4 0
+        set_rect 1/0 65535 65535 65535 65535 1
+        count_rect 1/0 1 0 0 0
+        count_rect 1/0 0 1 0 0
+        count_rect 1/0 0 0 65536 0
+        count_rect 1/0 0 0 0 65536
+        count_rect 1/0 0 0 65535 65535
+        survey 1/0 0 0 9 128
+        survey 1/0 0 0 9 0
+        survey 1/0 0 0 64 128
+        survey 1/0 0 0 18446744073709551615 128
+        survey 1/0 65536 0 0 128
+        survey 1/0 0 65536 0 0
+        survey 1/0 65535 0 1 128
+        survey 1/0 0 65281 8 128
+        survey 1/0 18446744073709551615 0 0 128
+        survey 1/0 0 18446744073709551360 8 0
+        survey 1/0 65280 65280 8 4
+        survey 1/0 65280 65280 8 5
+        survey 1/0 65535 65535 0 128
+        survey 1/0 0 0 3 0
+        survey 1/0 0 0 3 128
         # 10, after 6 and before 8
         read_map 1/0 0 7 ff
         read_map 1/0 0 7 80
@@ -369,6 +413,10 @@ fn full(list: &mut List) {
         "set 0/0 i4 i5 0",
         "set 0/0 i9 u 1",
         "flip 0/0 i9 i10",
+        "set_rect 0/0 0 9 0 9 1",
+        "set_rect 0/0 0 3 0 4 0",
+        // The first row goes on with the run that is there, and the second is one more.
+        "set_rect 0/0 0 8 1 8 1",
         "flip 0/0 i4 i5",
         "read_map 0/0 0 8 41",
         "load 0/0 01000000020000000000000002000000000000000300000000000000080000000000000009",

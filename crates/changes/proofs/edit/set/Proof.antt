@@ -5,9 +5,9 @@ use borrow.Author.Needs.{needs}
 use native.Mathlib.Omega.{arith}
 use borrow.Author.Tests.{leb-true, leb-false, not-true, not-false}
 use mathlib.Core.Path.{refl, sym, _∙_}
-use Rattle.model.specs.Positions.{setRange, stretches}
+use Rattle.model.specs.Positions.{Positions, setRange, stretches}
 use Rattle.store.specs.Layout.{heldIn}
-use Rattle.changes.proofs.Gaining.{gained-changes, lost-changes}
+use Rattle.changes.proofs.Gaining.{gained-changes, lost-changes, set-adds, set-frees}
 use Rattle.changes.proofs.edit.set.Statement.{statement}
 use Rattle.changes.proofs.edit.set.Tie as tie
 
@@ -15,10 +15,14 @@ use Rattle.changes.proofs.edit.set.Tie as tie
 abbrev start : tie.Else1 → tie.Start
 start f = f .before .before .before .before
 
+-- the positions that the world holds there
+abbrev held : tie.Start → Positions
+held r = heldIn (r .args .words .now) (r .args .h)
+
 -- what it leaves is few enough
 few : (f : tie.Else1)
     → stretches (setRange ((start f) .args .a .0) (suc ((start f) .args .b .0) - (start f) .args .a .0) ((start f) .args .value)
-    (heldIn ((start f) .args .words .now) ((start f) .args .h))) ≤ (start f) .args .limit
+    (held (start f))) ≤ (start f) .args .limit
 few f = leb-true _ _ (sym (f .before .set-fits .ensures) ∙ not-false _ (f .if1 .left))
 
 set-fits-requires : tie.Need-set-fits-requires
@@ -49,9 +53,9 @@ returns-2 c =
       (
         few f,
         k .apply-set .ensures .0,
-        gained-changes (r .pre .0 .1 .standing) (r .args .a .0) (r .args .b .0) (r .args .value) (r .pre .1) (omega (arith, r .good))
-            (k .apply-set .ensures .0 (r .pre .0 .0) (r .args .limit) (r .pre .0 .1) (few f)) (omega (arith, r .good)) (omega (arith, k .apply-set .ok)) (c .gained .result)
-            (c .before .if2 .taken) (c .gained .ensures),
+        gained-changes (r .pre .0 .1 .standing) (k .apply-set .ensures .0 (r .pre .0 .0) (r .args .limit) (r .pre .0 .1) (few f)) (omega (arith, r .good))
+            (omega (arith, k .apply-set .ok)) (c .gained .result) (λ x _. set-adds (r .args .a .0) (suc (r .args .b .0) - r .args .a .0) (r .args .value) (held r) x (c .before .if2 .taken))
+            (c .gained .ensures),
       ),
       k .apply-set .ensures .1,
     )
@@ -70,9 +74,9 @@ returns-3 c =
       (
         few f,
         k .apply-set .ensures .0,
-        lost-changes (r .pre .0 .1 .standing) (r .args .a .0) (r .args .b .0) (r .args .value) (r .pre .1) (omega (arith, r .good))
-            (k .apply-set .ensures .0 (r .pre .0 .0) (r .args .limit) (r .pre .0 .1) (few f)) (omega (arith, r .good)) (omega (arith, k .apply-set .ok)) (c .gained2 .result)
-            (c .before .if2 .left) (c .gained2 .ensures),
+        lost-changes (r .pre .0 .1 .standing) (k .apply-set .ensures .0 (r .pre .0 .0) (r .args .limit) (r .pre .0 .1) (few f)) (omega (arith, r .good))
+            (omega (arith, k .apply-set .ok)) (c .gained2 .result) (λ x _. set-frees (r .args .a .0) (suc (r .args .b .0) - r .args .a .0) (r .args .value) (held r) x (c .before .if2 .left))
+            (c .gained2 .ensures),
       ),
       k .apply-set .ensures .1,
     )

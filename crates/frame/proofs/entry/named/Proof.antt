@@ -70,8 +70,17 @@ unfolding kindOf
 returns-16 c = sym (ap kindOf (c .if16 .taken))
 
 returns-17 : tie.Need-returns-17
-returns-17 c =
-    let e₁₄ = c .before .before in
+unfolding kindOf
+returns-17 c = sym (ap kindOf (c .if17 .taken))
+
+returns-18 : tie.Need-returns-18
+unfolding kindOf
+returns-18 c = sym (ap kindOf (c .if18 .taken))
+
+returns-19 : tie.Need-returns-19
+returns-19 c =
+    let e₁₆ = c .before .before in
+    let e₁₄ = e₁₆ .before .before in
     let e₁₂ = e₁₄ .before .before in
     let e₁₀ = e₁₂ .before .before in
     let e₈ = e₁₀ .before .before in
@@ -94,8 +103,10 @@ returns-17 c =
     (e₁₂ .if12 .left)
     (e₁₄ .before .if13 .left)
     (e₁₄ .if14 .left)
-    (c .before .if15 .left)
-    (c .if16 .left)
+    (e₁₆ .before .if15 .left)
+    (e₁₆ .if16 .left)
+    (c .before .if17 .left)
+    (c .if18 .left)
 
 pub named-spec : {M : Type 1} → statement M
 named-spec =
@@ -117,4 +128,6 @@ named-spec =
     returns-14
     returns-15
     returns-16
-    returns-17)
+    returns-17
+    returns-18
+    returns-19)

@@ -48,7 +48,7 @@ room o = let f = fitting _ _ (good (window o)) in ((f .some, f .below), o .befor
 done : (o : tie.After-open) {out : List ℕ}
     → let a = (start (window o)) .args in
     out ≡ intoFront (mapOf (heldIn (lent (a .words .now)) (o .«open» .result)) (a .base) (a .n)) (a .out .now)
-    → WritesOut (Call.writeMap (a .base) (a .n)) (a .words .now) (a .world) (a .out .now) (Written.Bytes (mapLength (a .n))) out
+    → WritesOut (Call.writeMap (a .base) (a .n)) (a .words .now) (a .world) (a .out .now) (Written.Front (mapLength (a .n))) out
 done o =
     let r = window o in
     put-done (write-map-puts _ _ _ _ _) ((start r) .pre) (sym (mapOf-length _ _ _)) (o .«open» .ensures) (window-passes _ _ (good r)) (o .before .if2 .left)
