@@ -12,11 +12,12 @@
 # make bench-editions     how long written sets take by columns and by rows, and the converter against a plain Rust loop (docs/BENCHMARKS.md)
 # make bench-mending      how long mending takes, against IntervalBitSet's sets of the same runs, and against a load (docs/BENCHMARKS.md)
 # make bench-grid         how long rectangles of cells and surveys take, against plain Rust over IntervalBitSet (docs/BENCHMARKS.md)
+# make bench-why          how long it takes to tell why a list of ranges is refused, against plain Rust over IntervalBitSet (docs/BENCHMARKS.md)
 # make bench-heights      how long the lists for heights take, and how much stack each exported call uses on the trees that they make (docs/BENCHMARKS.md)
 # make bench-soundness    how long the soundness check takes, against readings of the same words (docs/BENCHMARKS.md)
 # make bench-growth       how many instructions it takes, at four capacities (needs valgrind)
 # make bench-calls        how many instructions a call takes in a frame, and the soundness check with one world and sixteen (needs valgrind)
-.PHONY: run test lib prove host differential differential-long conformance bench bench-store bench-gaps bench-maps bench-editions bench-mending bench-grid bench-heights bench-soundness bench-growth bench-calls
+.PHONY: run test lib prove host differential differential-long conformance bench bench-store bench-gaps bench-maps bench-editions bench-mending bench-grid bench-why bench-heights bench-soundness bench-growth bench-calls
 ARCHIVE := target/lib/libvizturel.a
 HEADER := target/include/vizturel.h
 # the crates that the archive is made of; exports, the last one, is proved where the archive is written
@@ -73,6 +74,8 @@ bench-mending: $(ARCHIVE)
 	cargo run --offline --profile fast --manifest-path host/Cargo.toml --bin bench -- mending
 bench-grid: $(ARCHIVE)
 	cargo run --offline --profile fast --manifest-path host/Cargo.toml --bin bench -- grid
+bench-why: $(ARCHIVE)
+	cargo run --offline --profile fast --manifest-path host/Cargo.toml --bin bench -- why
 bench-heights: $(ARCHIVE)
 	cargo run --offline --profile fast --manifest-path host/Cargo.toml --bin bench -- heights
 bench-soundness: bench-store

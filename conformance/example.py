@@ -70,6 +70,11 @@ def in_order(runs):
     return rising and all(start <= end for start, end in runs)
 
 
+def between(lower, x, upper, y):
+    """The first and the last position between two bounds by their kinds and values."""
+    return x + (lower == 2) if lower in (1, 2) else 0, y - (upper == 2) if upper in (1, 2) else LAST
+
+
 def window(base, length):
     require(1 <= length <= 524288 and base + length <= 2**64, 6)
     return base, base + length - 1
@@ -98,6 +103,16 @@ class Store:
         words = [end for rank in level_by_level(height) for end in (2 * rank, 2 * rank)]
         require(len(words) <= room, 2)
         return worded(room, words)
+
+    def why_full(self, room, bounds):
+        require(self.capacity, 1)
+        listed = []
+        for lower, upper in zip(bounds[::2], bounds[1::2]):
+            listed.append(between(*lower, *upper))
+            runs = union([run for run in listed if run[0] <= run[1]])
+            if len(runs) > self.capacity:
+                return worded(room, sorted(next(i for i, run in enumerate(listed) if start <= run[0] <= run[1] <= end) for start, end in runs))
+        raise Refused(16)
 
 
 class World:
@@ -334,8 +349,8 @@ def worded(room, due):
 # pairs. Of those that answer more than "done", how the answer begins.
 
 ARGUMENTS = {
-    "words": "sn", "spoil": "s", "new": "sl", "deepest": "snn", "set": "prn", "flip": "pr", "get": "pn", "run_at": "pn", "find": "prn", "tally": "prn",
-    "select": "prnn", "gap": "prn", "ranges": "prn", "draw_front": "pnnn", "draw_back": "pnnn", "shift": "pnn",
+    "words": "sn", "spoil": "s", "new": "sl", "deepest": "snn", "why_full": "snl", "set": "prn", "flip": "pr", "get": "pn", "run_at": "pn",
+    "find": "prn", "tally": "prn", "select": "prnn", "gap": "prn", "ranges": "prn", "draw_front": "pnnn", "draw_back": "pnnn", "shift": "pnn",
     "shifted": "ppnn", "combine": "pwpp", "not": "pp", "eq": "pp", "load": "pb", "mend": "pbnn", "build": "pl", "write_set": "pnn", "read_map": "pnnb",
     "write_map": "pnnn", "clear_map": "nnb", "convert": "bn", "fill": "pnn", "set_strict": "prn", "flip_strict": "pr", "tally_strict": "prn",
     "set_rect": "pnnnnn", "count_rect": "pnnnn", "survey": "pnnnn",
@@ -343,8 +358,8 @@ ARGUMENTS = {
 ANSWERS = {
     "set": "number", "get": "value", "run_at": "run", "find": "at", "tally": "number", "select": "at", "gap": "at",
     "ranges": "listing", "draw_front": "drawn", "draw_back": "drawn", "eq": "value", "mend": "written", "write_set": "written", "read_map": "number",
-    "write_map": "written", "clear_map": "cleared", "convert": "written", "deepest": "worded", "fill": "number", "set_strict": "number",
-    "tally_strict": "number", "set_rect": "number", "count_rect": "number", "survey": "worded",
+    "write_map": "written", "clear_map": "cleared", "convert": "written", "deepest": "worded", "why_full": "worded", "fill": "number",
+    "set_strict": "number", "tally_strict": "number", "set_rect": "number", "count_rect": "number", "survey": "worded",
 }
 STORELESS = {"clear_map": clear_map, "convert": convert}
 
@@ -412,8 +427,7 @@ def play(store, number, lower, x, upper, y, value, k, world):
     """Makes the call that a record means, and tells the record of its answer."""
     name, kinds = CALLS.get(number, ("get", "x"))
     world = LAST if number in WITHDRAWN else world
-    bounds = [x + (lower == 2) if lower in (1, 2) else 0, y - (upper == 2) if upper in (1, 2) else LAST]
-    given = {"r": bounds, "x": [x], "y": [y], "q": [lower, x, upper, y], "v": [int(value != 0)], "k": [k]}
+    given = {"r": between(lower, x, upper, y), "x": [x], "y": [y], "q": [lower, x, upper, y], "v": [int(value != 0)], "k": [k]}
     try:
         result = getattr(*worlds([(store, world)]), name)(*(word for kind in kinds for word in given[kind]))
     except Refused as refused:

@@ -6,22 +6,22 @@
  * ceiling. What lies between is shared: whichever world needs a run first gets it. Whoever needs one set makes a pool of one world by
  * vizturel_new_one, and names world 0.
  *
- * Every other call but vizturel_deepest names a world by its number, from 0 on, after the pool's words and their count. A further pool is lent in
- * the same way, and with the number of the world that is meant. A change of one world leaves the positions of all others, and no call but
- * vizturel_new changes a floor or a ceiling.
+ * Every other call but vizturel_deepest and vizturel_why_full names a world by its number, from 0 on, after the pool's words and their count. A
+ * further pool is lent in the same way, and with the number of the world that is meant. A change of one world leaves the positions of all others,
+ * and no call but vizturel_new changes a floor or a ceiling.
  *
  * Any words may be lent to any call: what is no pool, or not a sound one, is refused, and then nothing has changed. Only vizturel_new, and
- * vizturel_deepest, which asks how long a pool is and no more, take words that hold anything. No call allocates, keeps a pointer or writes past
- * what is lent.
+ * vizturel_deepest and vizturel_why_full, which ask how long a pool is and no more, take words that hold anything. No call allocates, keeps a
+ * pointer or writes past what is lent.
  *
  * NO OVERLAP. Two pools or slices lent to one call must not overlap, unless both are only read. So vizturel_eq compares two worlds of one pool as
  * they are, but a world that is overwritten (by vizturel_combine, vizturel_not or vizturel_shifted) cannot be made of worlds of its own pool:
  * copy the pool's words first, and lend the copy for what is read.
  *
  * REFUSALS. Every answer begins with a refusal's number, or is one; 0 means that the call was done. A refused call has changed no word and no
- * byte. Where several would hold, the first of this order is given: 1 of any pool, 11, 7 of any pool, 12 of any world, 13, 9, 14, 15, 6, 10, 3
- * (under 5 bytes), 4, 3, 5, 8, 2. Every call on a pool but vizturel_new and vizturel_deepest may be refused with 1, 7 and 12, of the pool that
- * receives the result too.
+ * byte. Where several would hold, the first of this order is given: 1 of any pool, 11, 7 of any pool, 12 of any world, 13, 16, 9, 14, 15, 6, 10, 3
+ * (under 5 bytes), 4, 3, 5, 8, 2. Every call on a pool but vizturel_new, vizturel_deepest and vizturel_why_full may be refused with 1, 7 and 12, of
+ * the pool that receives the result too.
  *
  *   1  a pool's length is not 8 * (C + 49) words for a C from 1 to 65,536
  *   2  an output is shorter than what is due
@@ -40,12 +40,14 @@
  *  14  the range of a strict call is reversed
  *  15  a rectangle or a square is not one of the plane of cells: a corner's row or column above 65,535, a first corner beyond the second in row or in
  *      column, a k of vizturel_survey above 8, or a square that is not wholly on the plane
+ *  16  no call of the list of vizturel_why_full is refused
  *
  * 8 is given for no other cause. So a world can always have as many runs as its floor, whatever the others hold, and of the others it feels that
  * sum alone.
  *
- * THE SOUNDNESS CHECK. Every call on a pool, but vizturel_new and vizturel_deepest, first passes over all its nodes, used and free ones. The cost
- * goes by the capacity C, not by the runs that are held. vizturel_frame makes many calls, at any worlds of a pool, after one soundness check.
+ * THE SOUNDNESS CHECK. Every call on a pool, but vizturel_new, vizturel_deepest and vizturel_why_full, first passes over all its nodes, used and
+ * free ones. The cost goes by the capacity C, not by the runs that are held. vizturel_frame makes many calls, at any worlds of a pool, after one
+ * soundness check.
  *
  * LOCKSTEP. Two sound pools of one capacity that opened equally many worlds, with the same positions, floor and ceiling in each, answer every later
  * list of equal calls alike.
@@ -94,7 +96,8 @@ enum vizturel_refusal {
     VIZTUREL_WORLD_UNOPENED = 12,
     VIZTUREL_TREE_HEIGHT = 13,
     VIZTUREL_RANGE_REVERSED = 14,
-    VIZTUREL_OFF_PLANE = 15
+    VIZTUREL_OFF_PLANE = 15,
+    VIZTUREL_NOT_REFUSED = 16
 };
 
 /* Kinds of bounds: none, one that includes its value, one that excludes it. Other numbers are reserved. */
@@ -125,6 +128,17 @@ static inline vizturel_bound vizturel_excluded(uint64_t value) {
 static inline vizturel_bound vizturel_unbounded(void) {
     vizturel_bound b = {VIZTUREL_UNBOUNDED, 0};
     return b;
+}
+
+/* A range of a list: four words. */
+typedef struct {
+    vizturel_bound lower;
+    vizturel_bound upper;
+} vizturel_range;
+
+static inline vizturel_range vizturel_between(vizturel_bound lower, vizturel_bound upper) {
+    vizturel_range r = {lower, upper};
+    return r;
 }
 
 /* A rectangle of cells by its two corners, which both belong to it: rows top to bottom and columns left to right. The plane has rows and columns 0 to
@@ -405,6 +419,23 @@ vizturel_numbered vizturel_clear_map(uint64_t base, uint64_t length, uint8_t *ma
  * for nothing else: it need not be sound, and every word of it stays. 2 * C words are always enough for out. Refused with 1, then 13, then 8 where
  * the list has more runs than C, then 2; never with 7 or 12. */
 vizturel_worded vizturel_deepest(const uint64_t *words, size_t count, uint64_t h, uint64_t *out, size_t out_count);
+
+/* ---- why a list stopped, for whoever is sent a list of ranges that was refused for want of room. It names no world. */
+
+/* A list of ranges, each four words (the kind and the value of its lower bound, then of its upper one), set to true one by one into the empty world
+ * of a pool of one world with floor 0 and ceiling C, is refused with 8 at some call. Writes the smallest part of the list that is refused when it is
+ * set in the same way: the places of its ranges in the list, counted from 0, rising, a word each, to the front of out; the rest of out stays. It has
+ * C + 1 ranges, and no fewer of the list are ever refused: from each run of all that is held with the first refused range, the first range listed
+ * that has a position in that run. Ranges that are empty or reversed hold nothing, are never refused and never among them. Words after the last
+ * whole range are not read. The pool is asked for its length, so for its C, and for nothing else: it need not be sound, and every word of it stays.
+ * C + 1 words are enough for out. It keeps 8 KiB on the stack. Refused with 1, then 16 where no call of the list is refused, then 2; never with 7, 12 or 8. */
+vizturel_worded vizturel_why_full(const uint64_t *words, size_t count, const uint64_t *ranges, size_t ranges_words, uint64_t *out, size_t out_count);
+
+/* The same over structs: n ranges. */
+static inline vizturel_worded vizturel_why(const uint64_t *words, size_t count, const vizturel_range *ranges, size_t n, uint64_t *out,
+                                           size_t out_count) {
+    return vizturel_why_full(words, count, (const uint64_t *)(const void *)ranges, 4 * n, out, out_count);
+}
 
 /* ---- a frame's calls at once: one soundness check, then every call of a list, each at a world of the pool */
 

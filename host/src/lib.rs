@@ -10,9 +10,9 @@
 //! ([`World::combine`], [`World::not`], [`World::shifted`]) overwrites the world that is to hold it.
 //!
 //! No call needs a test beforehand: whatever the words, numbers, bounds and bytes are, it answers its result or one [`Refusal`].
-//! A refused call changes nothing. Every call but those that make a pool, and [`Pool::deepest`], which only measures one, may be refused
-//! with [`Refusal::StoreLength`], [`Refusal::Unsound`] and [`Refusal::WorldUnopened`], of the world and of further worlds; the other
-//! refusals are named where they occur.
+//! A refused call changes nothing. Every call but those that make a pool, and [`Pool::deepest`] and [`Pool::why_full`], which only measure
+//! one, may be refused with [`Refusal::StoreLength`], [`Refusal::Unsound`] and [`Refusal::WorldUnopened`], of the world and of further
+//! worlds; the other refusals are named where they occur.
 //!
 //! ```
 //! use vizturel::{Limits, PoolBuf, Refusal, SetBuf};
@@ -83,11 +83,13 @@ pub enum Refusal {
     /// A rectangle or a square is not one of the plane: a corner's row or column is above 65,535, the first corner is beyond the second in
     /// row or in column, k of a survey is above 8, or its square is not wholly on the plane.
     OffPlane = 15,
+    /// No call of the list of [`Pool::why_full`] is refused.
+    NotRefused = 16,
 }
 
 impl Refusal {
     /// Every refusal, by its number.
-    pub const ALL: [Refusal; 15] = [
+    pub const ALL: [Refusal; 16] = [
         Refusal::StoreLength,
         Refusal::OutputShort,
         Refusal::SetLength,
@@ -103,9 +105,10 @@ impl Refusal {
         Refusal::TreeHeight,
         Refusal::RangeReversed,
         Refusal::OffPlane,
+        Refusal::NotRefused,
     ];
 
-    /// The number of the refusal, from 1 to 15.
+    /// The number of the refusal, from 1 to 16.
     pub fn number(self) -> u64 {
         self as u64
     }
@@ -131,6 +134,7 @@ impl fmt::Display for Refusal {
             Refusal::OffPlane => {
                 "a rectangle's corners are not in order or not on the plane, or a square is not wholly on it"
             }
+            Refusal::NotRefused => "no call of the list is refused",
         })
     }
 }
@@ -288,6 +292,41 @@ impl Piece {
 // The library writes a piece as five words.
 const _: () = assert!(size_of::<Piece>() == 8 * Piece::WORDS && align_of::<Piece>() == 8);
 
+/// A range of a list, as the library reads it: see `vizturel_range` in `include/vizturel.h`. [`RangeRecord::new`] makes it of any range, and it
+/// is one itself, so that it can be set. Kinds above 2 are reserved; this version takes them for no bound.
+#[repr(C)]
+#[derive(Clone, Copy, Debug, Default, PartialEq, Eq)]
+pub struct RangeRecord {
+    pub lower_kind: u64,
+    pub lower: u64,
+    pub upper_kind: u64,
+    pub upper: u64,
+}
+
+impl RangeRecord {
+    /// How many words a range has.
+    pub const WORDS: usize = 4;
+
+    /// The record of a range.
+    pub fn new(range: impl RangeBounds<u64>) -> RangeRecord {
+        let (lower, upper) = bounds(range);
+        RangeRecord { lower_kind: lower.kind, lower: lower.value, upper_kind: upper.kind, upper: upper.value }
+    }
+}
+
+impl RangeBounds<u64> for RangeRecord {
+    fn start_bound(&self) -> Bound<&u64> {
+        bound_of(self.lower_kind, &self.lower)
+    }
+
+    fn end_bound(&self) -> Bound<&u64> {
+        bound_of(self.upper_kind, &self.upper)
+    }
+}
+
+// The library reads a range as four words.
+const _: () = assert!(size_of::<RangeRecord>() == 8 * RangeRecord::WORDS && align_of::<RangeRecord>() == 8);
+
 /// The words of a pool: see the crate's description.
 #[derive(Clone, Debug)]
 pub struct Pool<S> {
@@ -417,6 +456,15 @@ fn bound(b: Bound<&u64>) -> raw::Bound {
     raw::Bound { kind, value }
 }
 
+// What a kind and a value mean.
+fn bound_of(kind: u64, value: &u64) -> Bound<&u64> {
+    match kind {
+        1 => Bound::Included(value),
+        2 => Bound::Excluded(value),
+        _ => Bound::Unbounded,
+    }
+}
+
 fn bounds(range: impl RangeBounds<u64>) -> (raw::Bound, raw::Bound) {
     (bound(range.start_bound()), bound(range.end_bound()))
 }
@@ -541,6 +589,39 @@ impl<S: AsRef<[u64]>> Pool<S> {
         let (to, room) = (to.as_mut_ptr(), to.len());
         let written = number(unsafe { raw::vizturel_deepest(w.as_ptr(), w.len(), height, to, room) })?;
         Ok(&mut out[..written as usize / 2])
+    }
+
+    /// Tells why a list of ranges, set to true one by one into the empty set of a new [`Set`] of this capacity C, is refused with 8: writes
+    /// the smallest part of the list that is refused when it is set in the same way into the front of a slice, as places in the list,
+    /// counted from 0 and rising, and hands that part back. The rest of the slice stays. There are C + 1 places, and no fewer ranges of
+    /// the list are ever refused: from each run of what all ranges up to the first refused one hold, the first range listed that has a
+    /// position in it. Ranges that are empty or reversed hold nothing, and are never among them.
+    ///
+    /// The pool is asked how long it is, and no more: it need not be sound, and no world is meant. Refused with 1, with 16 where no call of
+    /// the list is refused, or with 2 where the slice has fewer than C + 1 words; then the slice stays.
+    ///
+    /// ```
+    /// use vizturel::{RangeRecord, Refusal, SetBuf};
+    /// # fn main() -> Result<(), vizturel::Refusal> {
+    /// let mut slots = SetBuf::with_capacity(2)?;
+    /// let list = [2..4, 4..6, 9..9, 20..30, 25..40, 50..60, 70..80].map(RangeRecord::new);
+    /// for range in &list[..5] {
+    ///     slots.set(*range, true)?; // 2..6 and 20..40
+    /// }
+    /// assert_eq!(slots.set(list[5], true), Err(Refusal::Capacity));
+    /// let mut places = [0; 3];
+    /// assert_eq!(slots.why_full(&list, &mut places)?, [0, 3, 5]); // a third run, whatever the others are
+    /// assert_eq!(slots.why_full(&list[..5], &mut places), Err(Refusal::NotRefused));
+    /// # Ok(())
+    /// # }
+    /// ```
+    pub fn why_full<'o>(&self, ranges: &[RangeRecord], out: &'o mut [u64]) -> Answer<&'o mut [u64]> {
+        let w = self.words();
+        // Any four words are a range.
+        let (from, length) = (ranges.as_ptr().cast(), RangeRecord::WORDS * ranges.len());
+        let (to, room) = (out.as_mut_ptr(), out.len());
+        let written = number(unsafe { raw::vizturel_why_full(w.as_ptr(), w.len(), from, length, to, room) })?;
+        Ok(&mut out[..written as usize])
     }
 }
 

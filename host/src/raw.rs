@@ -203,6 +203,14 @@ unsafe extern "C" {
     pub fn vizturel_clear_map(base: u64, n: u64, map: *mut u8, length: usize) -> Numbered;
     pub fn vizturel_convert(bytes: *const u8, length: usize, out: *mut u8, room: usize) -> Numbered;
     pub fn vizturel_deepest(words: *const u64, count: usize, h: u64, out: *mut u64, room: usize) -> Numbered;
+    pub fn vizturel_why_full(
+        words: *const u64,
+        count: usize,
+        ranges: *const u64,
+        ranges_words: usize,
+        out: *mut u64,
+        room: usize,
+    ) -> Numbered;
     pub fn vizturel_write(
         words: *const u64,
         count: usize,

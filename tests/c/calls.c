@@ -1,6 +1,6 @@
 /* The library through include/vizturel.h: the sixteen cases of the scope document, the editions of written sets, mended sets, the lowest gap, strict
- * calls, spare bits of maps, maps by words and by single bytes, the deepest trees, cells of a grid, each refusal, that a refused call changes nothing,
- * calls by lists, and worlds that share a pool. Compiled as C and as C++.
+ * calls, spare bits of maps, maps by words and by single bytes, the deepest trees, why lists stop, cells of a grid, each refusal, that a refused call
+ * changes nothing, calls by lists, and worlds that share a pool. Compiled as C and as C++.
  * Prints what failed, and last 'N passed, M failed'. */
 #include <stdio.h>
 #include <stdlib.h>
@@ -25,6 +25,12 @@ WORD(vizturel_call, upper.value, 4);
 WORD(vizturel_call, value, 5);
 WORD(vizturel_call, k, 6);
 WORD(vizturel_call, world, 7);
+/* a range of a list is four words */
+ASSERT(sizeof(vizturel_range) == 32, "a range has four words");
+WORD(vizturel_range, lower.kind, 0);
+WORD(vizturel_range, lower.value, 1);
+WORD(vizturel_range, upper.kind, 2);
+WORD(vizturel_range, upper.value, 3);
 /* a rectangle is four words */
 ASSERT(sizeof(vizturel_rect) == 32, "a rectangle has four words");
 WORD(vizturel_rect, top, 0);
@@ -689,6 +695,98 @@ static void deepest(void) {
 #define RECT vizturel_corners
 static int is_number(vizturel_numbered n, uint64_t x) { return n.refusal == 0 && n.number == x; }
 
+/* Why lists of ranges are refused, over structs and over words: of every list of up to four of some ranges the places told are refused when they are
+ * set into an empty pool, at the last of them, and the list stops there; without any one of them they are not; and each is the first in its run.
+ * Slices of a word less, and of more; a pool that is not sound; and the refusals, in their order. */
+#define SPAWNS 9
+static void why_full(void) {
+    const vizturel_range some[SPAWNS] = {
+        vizturel_between(IN(0), IN(0)), vizturel_between(ALL, EX(2)), vizturel_between(IN(2), IN(2)), vizturel_between(EX(3), IN(5)),
+        vizturel_between(IN(M), ALL), vizturel_between(EX(M - 3), EX(M - 1)), vizturel_between(IN(4), EX(M - 2)), vizturel_between(EX(5), EX(6)),
+        vizturel_between(IN(9), IN(3))};
+    /* the first position of each but the last two, which have none */
+    static const uint64_t firsts[] = {0, 0, 2, 4, M, M - 2, 4};
+    const size_t holding = sizeof firsts / sizeof *firsts;
+    size_t which[4];
+    vizturel_range spawn[4];
+    uint64_t told[6], unwritten[6];
+    const uint64_t *flat = (const uint64_t *)(const void *)spawn;
+    size_t c, n, i, j, code, codes, stops;
+    vizturel_worded d;
+    memset(unwritten, 0xEE, sizeof unwritten);
+    for (c = 1; c <= 3; c++) {
+        size_t words = VIZTUREL_WORDS(c);
+        int right = 1, refused = 0;
+        for (n = 0, codes = 1; n <= 4; n++, codes *= SPAWNS) {
+            for (code = 0; code < codes; code++) {
+                for (i = 0, j = code; i < n; i++, j /= SPAWNS) which[i] = j % SPAWNS;
+                for (i = 0; i < n; i++) spawn[i] = some[which[i]];
+                vizturel_new_one(a, words);
+                for (stops = 0; stops < n && vizturel_set(a, words, 0, spawn[stops].lower, spawn[stops].upper, 1).refusal == 0; stops++);
+                memcpy(told, unwritten, sizeof told);
+                memcpy(kept, a, sizeof a);
+                d = vizturel_why(a, words, spawn, n, told, c);
+                right &= d.refusal == (stops < n ? VIZTUREL_OUTPUT_SHORT : VIZTUREL_NOT_REFUSED) && d.words == 0;
+                right &= memcmp(told, unwritten, sizeof told) == 0;
+                d = vizturel_why(a, words, spawn, n, told, 6);
+                right &= memcmp(kept, a, sizeof a) == 0;
+                if (stops == n) {
+                    right &= d.refusal == VIZTUREL_NOT_REFUSED && d.words == 0 && memcmp(told, unwritten, sizeof told) == 0;
+                    continue;
+                }
+                refused++;
+                right &= d.refusal == VIZTUREL_DONE && d.words == c + 1 && memcmp(told + c + 1, unwritten, sizeof told - 8 * (c + 1)) == 0;
+                right &= told[c] == stops;
+                for (i = 0; i < c; i++) right &= told[i] < told[i + 1];
+                for (i = 0; i <= c && right; i++) right &= which[told[i]] < holding;
+                if (!right) break;
+                /* all of them, and then all but one: i is the one that is left out, if there is one */
+                for (i = 0; i <= c + 1; i++) {
+                    vizturel_new_one(a, words);
+                    for (j = 0; j <= c; j++) {
+                        uint64_t due = i == c + 1 && j == c ? VIZTUREL_CAPACITY : VIZTUREL_DONE;
+                        if (i != j) right &= vizturel_set(a, words, 0, spawn[told[j]].lower, spawn[told[j]].upper, 1).refusal == due;
+                    }
+                }
+                /* what all ranges up to that one hold, where there is room for it: no range before one that is told has a position in its run */
+                vizturel_new_one(b, WORDS);
+                for (i = 0; i <= stops; i++) vizturel_set(b, WORDS, 0, spawn[i].lower, spawn[i].upper, 1);
+                for (i = 0; i <= c; i++) {
+                    uint64_t run = vizturel_run_at(b, WORDS, 0, firsts[which[told[i]]]).start;
+                    for (j = 0; j < told[i]; j++)
+                        right &= which[j] >= holding || vizturel_run_at(b, WORDS, 0, firsts[which[j]]).start != run;
+                }
+                /* by words, with some after the last range */
+                if (n == 3) {
+                    spawn[3] = some[0];
+                    right &= vizturel_why_full(a, words, flat, 12 + code % 4, told, 6).words == c + 1 && told[c] == stops;
+                }
+            }
+        }
+        check(right, "why lists stop", __LINE__);
+        CHECK(refused > 100);
+    }
+    /* the pool is only measured: any words of that length, whatever their worlds and limits are */
+    for (i = 0; i < 3; i++) spawn[i] = some[2 * i];
+    fresh(s, VIZTUREL_WORDS(2));
+    s[3]++;
+    memset(a, 0xEE, sizeof a);
+    CHECK(vizturel_why(s, VIZTUREL_WORDS(2), spawn, 3, told, 3).words == 3 && told[0] == 0 && told[1] == 1 && told[2] == 2);
+    CHECK(vizturel_why(a, VIZTUREL_WORDS(2), spawn, 3, told, 3).words == 3 && told[0] == 0 && told[1] == 1 && told[2] == 2);
+    /* 1, then 16, then 2 */
+    memcpy(told, unwritten, sizeof told);
+    CHECK(vizturel_why(a, VIZTUREL_WORDS(2) - 1, spawn, 3, told, 0).refusal == VIZTUREL_STORE_LENGTH);
+    CHECK(vizturel_why(a, VIZTUREL_WORDS(0), spawn, 3, told, 6).refusal == VIZTUREL_STORE_LENGTH);
+    CHECK(vizturel_why(NULL, 0, spawn, 0, told, 6).refusal == VIZTUREL_STORE_LENGTH);
+    CHECK(vizturel_why(a, VIZTUREL_WORDS(2), spawn, 2, told, 0).refusal == VIZTUREL_NOT_REFUSED);
+    CHECK(vizturel_why(a, VIZTUREL_WORDS(3), spawn, 3, NULL, 0).refusal == VIZTUREL_NOT_REFUSED);
+    CHECK(vizturel_why(a, VIZTUREL_WORDS(2), NULL, 0, NULL, 0).refusal == VIZTUREL_NOT_REFUSED);
+    CHECK(vizturel_why_full(a, VIZTUREL_WORDS(2), flat, 11, told, 6).refusal == VIZTUREL_NOT_REFUSED);
+    CHECK(vizturel_why(a, VIZTUREL_WORDS(2), spawn, 3, NULL, 0).refusal == VIZTUREL_OUTPUT_SHORT);
+    CHECK(vizturel_why(a, VIZTUREL_WORDS(2), spawn, 3, told, 2).refusal == VIZTUREL_OUTPUT_SHORT);
+    CHECK(memcmp(told, unwritten, sizeof told) == 0);
+}
+
 /* Whether words are a survey of a square of the pool s, as told: every cell in one piece, and of its value; no two pieces that are halves of one and
  * of one value, which would have been listed as that one. */
 static int is_survey(uint64_t row, uint64_t column, uint64_t side, const uint64_t *p, size_t words) {
@@ -1238,6 +1336,7 @@ int main(void) {
         spare_bits();
         both_forms();
         deepest();
+        why_full();
         cells();
         refusals();
         every_call();

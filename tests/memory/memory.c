@@ -100,10 +100,13 @@ static slice lists[7];
 static const size_t least[] = {0, 1, 2, 4, 7, 12, 20};
 /* a slice of just the words of one piece of a survey */
 static slice piece;
+/* a list of ranges, each a run more than those before it, and slices of just as many places as are due at each capacity up to three */
+static slice spawns, chosen[4];
 
 #define MAP_LENGTH 100
 #define MAP_BYTES ((MAP_LENGTH + 7) / 8)
 #define LIST_RUNS 3
+#define SPAWNS 4
 #define MIXED_RUNS 4
 #define MENDED_RUNS 2
 #define CALLS 22 /* each number up to the last that names a call once, and one that names none */
@@ -132,6 +135,18 @@ static void measuring_call(pool s) {
     CHECK(d.refusal == (!fits ? VIZTUREL_STORE_LENGTH : h == 0 ? VIZTUREL_TREE_HEIGHT : VIZTUREL_WORDS(least[h]) > s.count ? VIZTUREL_CAPACITY
                         : room < due ? VIZTUREL_OUTPUT_SHORT : VIZTUREL_DONE));
     CHECK(d.words == (d.refusal == VIZTUREL_DONE ? due : 0));
+}
+
+/* Why the list of ranges is refused, or the part of it that the capacity has room for, with a word less than is due now and then. */
+static void stopping_call(pool s) {
+    static uint64_t turn;
+    int fits = s.count % 8 == 0 && s.count >= VIZTUREL_WORDS(1);
+    size_t c = fits ? s.count / 8 - 49 : 1, n = turn % 2 || c >= SPAWNS ? SPAWNS : c, room = c < SPAWNS ? c + (turn % 3 > 0) : 0;
+    slice to = chosen[c < SPAWNS ? c : 0];
+    vizturel_worded d = vizturel_why_full(s.words, s.count, (const uint64_t *)(void *)spawns.at, 4 * n, (uint64_t *)(void *)to.at, room);
+    turn++;
+    CHECK(d.refusal == (!fits ? VIZTUREL_STORE_LENGTH : n <= c ? VIZTUREL_NOT_REFUSED : room <= c ? VIZTUREL_OUTPUT_SHORT : VIZTUREL_DONE));
+    CHECK(d.words == (d.refusal == VIZTUREL_DONE ? c + 1 : 0));
 }
 
 /* Rectangles of a few rows at the plane's corners and among the runs, some of them off it. */
@@ -194,6 +209,7 @@ static void reading_calls(pool s, uint64_t at, uint64_t told) {
     CHECK(vizturel_eq(w, n, at, partner.words, partner.count, 0).refusal == told);
     CHECK(vizturel_eq(partner.words, partner.count, 0, w, n, at).refusal == told);
     measuring_call(s);
+    stopping_call(s);
     reports_of_cells(s, at, told);
     CHECK(vizturel_write(w, n, at, VIZTUREL_ROWS, out.at, VIZTUREL_SET_BYTES(MOST)).refusal == told);
     CHECK(vizturel_write(w, n, at, VIZTUREL_COLUMNS, out.at, VIZTUREL_SET_BYTES(MOST)).refusal == told);
@@ -667,6 +683,62 @@ static void list_lengths(void) {
     give_back(s.lent);
 }
 
+/* Why lists of any words are refused, in slices of just the list's words, of every number up to 40, and for the places, of every number up to 8; and
+ * lists of so many ranges that they are taken in several parts. */
+static void why_lengths(void) {
+    size_t capacity, length, room, i, stopped = 0, ended = 0;
+    for (capacity = 1; capacity <= 4; capacity++) {
+        pool s = lend_pool(VIZTUREL_WORDS(capacity));
+        memset(s.words, 0xEE, 8 * s.count);
+        writable(s.lent, 0);
+        for (length = 0; length <= 40; length++) {
+            slice list = lend(8 * length);
+            uint64_t *words = (uint64_t *)(void *)list.at, due = 0;
+            for (i = 0; i < length; i++) words[i] = i % 2 == 0 ? chance(8) ? 1 : chance(4) : i % 4 == 1 ? chance(60) : words[i - 2] + chance(3);
+            writable(list, 0);
+            for (room = 8; room <= 8; room--) {
+                slice to = lend(8 * room);
+                memset(to.at, 0xEE, 8 * room);
+                vizturel_worded d = vizturel_why_full(s.words, s.count, words, length, (uint64_t *)(void *)to.at, room);
+                /* whether the list is refused, as it was told where there was room for any */
+                if (room == 8) due = d.refusal == VIZTUREL_DONE;
+                if (due) stopped++;
+                else ended++;
+                CHECK(d.refusal == (!due ? VIZTUREL_NOT_REFUSED : room <= capacity ? VIZTUREL_OUTPUT_SHORT : VIZTUREL_DONE));
+                CHECK(d.words == (d.refusal == VIZTUREL_DONE ? capacity + 1 : 0));
+                for (i = (size_t)d.words * 8; i < 8 * room; i++) CHECK(to.at[i] == 0xEE);
+                give_back(to);
+            }
+            give_back(list);
+        }
+        writable(s.lent, 1);
+        give_back(s.lent);
+    }
+    CHECK(stopped > 100 && ended > 100);
+    for (capacity = 510; capacity <= 1026; capacity += capacity == 514 ? 508 : 1) {
+        pool s = lend_pool(VIZTUREL_WORDS(capacity));
+        slice list = lend(32 * (capacity + 1)), to = lend(8 * (capacity + 1));
+        uint64_t *words = (uint64_t *)(void *)list.at;
+        for (i = 0; i <= capacity; i++) {
+            /* in an order that is neither rising nor falling */
+            uint64_t x = 3 * (7 * i % 1031);
+            const uint64_t range[] = {1, x, 2, x + 1};
+            memcpy(words + 4 * i, range, sizeof range);
+        }
+        writable(list, 0);
+        vizturel_worded d = vizturel_why_full(s.words, s.count, words, 4 * capacity, (uint64_t *)(void *)to.at, capacity + 1);
+        CHECK(d.refusal == VIZTUREL_NOT_REFUSED && d.words == 0);
+        d = vizturel_why_full(s.words, s.count, words, 4 * (capacity + 1), (uint64_t *)(void *)to.at, capacity);
+        CHECK(d.refusal == VIZTUREL_OUTPUT_SHORT && d.words == 0);
+        d = vizturel_why_full(s.words, s.count, words, 4 * (capacity + 1), (uint64_t *)(void *)to.at, capacity + 1);
+        CHECK(d.refusal == VIZTUREL_DONE && d.words == capacity + 1);
+        for (i = 0; i <= capacity; i++) CHECK(((const uint64_t *)(void *)to.at)[i] == i);
+        give_back(to);
+        give_back(list);
+        give_back(s.lent);
+    }
+}
+
 /* Surveys of a block in squares of every side up to 16, in slices of just what is due, of some words less, and of more. */
 static void survey_lengths(void) {
     pool s = lend_pool(VIZTUREL_WORDS(16));
@@ -771,6 +843,10 @@ int main(int argc, char **argv) {
     writable(mixed, 0);
     for (i = 0; i < 7; i++) lists[i] = lend(16 * least[i]);
     piece = lend(8 * 5);
+    spawns = lend(SPAWNS * sizeof(vizturel_range));
+    for (i = 0; i < SPAWNS; i++) ((vizturel_range *)(void *)spawns.at)[i] = vizturel_between(IN(40 - 9 * i), IN(41 - 9 * i));
+    writable(spawns, 0);
+    for (i = 0; i < SPAWNS; i++) chosen[i] = lend(i == 0 ? 0 : 8 * (i + 1));
     calls = lend(CALLS * RECORD);
     told_calls = lend(CALLS * RECORD);
     for (i = 0; i < CALLS; i++) {
@@ -786,6 +862,7 @@ int main(int argc, char **argv) {
     mend_lengths();
     map_lengths();
     list_lengths();
+    why_lengths();
     survey_lengths();
     frame_lengths();
     /* a test that met no sound pool, or no damaged one, would have tested nothing */

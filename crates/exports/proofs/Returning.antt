@@ -8,11 +8,11 @@ use Rattle.model.specs.declared.Limits.{Limits}
 use Rattle.model.specs.declared.Written.{Written}
 use Rattle.model.specs.declared.Mended.{Mended}
 use Rattle.model.specs.Answers.{writtenAnswer, mendedAnswer}
-use Rattle.model.specs.Call.{Call, Answer}
+use Rattle.model.specs.Call.{Call, Measure, Answer}
 use Rattle.model.specs.Handled.{Handled}
 use Rattle.promises.specs.Met.{Site, Met, Made}
 use Rattle.promises.specs.Handles.{Handles}
-use Rattle.promises.specs.Out.{Unwritten, WritesOut, WritesDeepest, Unmended, Mends}
+use Rattle.promises.specs.Out.{Unwritten, WritesOut, WritesMeasured, Unmended, Mends}
 use Rattle.flat.specs.declared.Reply.{Reply}
 use Rattle.flat.specs.Flat.{replyOf}
 use Rattle.frame.specs.Frame.{Framed}
@@ -45,8 +45,8 @@ unfolding returned
 wrote {out = out} {out′} a e k p s = record { returns = returned (ap (λ f. f out) e) (k .met) (p out′) s; slice = slice-is out out′ a (k .unwritten) }
 
 -- the same by a call that measures
-pub measures : {w : List ℕ} {h : ℕ} {out out′ : List ℕ} (a : Written) {q : Reply} {r : CWorded} → WritesDeepest w h out a out′
-    → ((o : List ℕ) → q ≡ replyOf (writtenAnswer a o)) → r ≡ wordedOf q → Measures w h out r out′
+pub measures : {w : List ℕ} {m : Measure} {out out′ : List ℕ} (a : Written) {q : Reply} {r : CWorded} → WritesMeasured w m out a out′
+    → ((o : List ℕ) → q ≡ replyOf (writtenAnswer a o)) → r ≡ wordedOf q → Measures w m out r out′
 measures {out = out} {out′} a k p s = record {
   answer = writtenAnswer a out′;
   measured = k .measured;

@@ -4,7 +4,7 @@ use Prim.Native.Nat.{ℕ}
 use mathlib.Core.Path.{_≡_}
 use mathlib.Core.List.{List}
 use Rattle.model.specs.declared.Limits.{Limits}
-use Rattle.model.specs.Call.{Call, Answer, refused, gave}
+use Rattle.model.specs.Call.{Call, Measure, Answer, refused, gave}
 use Rattle.model.specs.Handled.{Handled}
 use Rattle.promises.specs.Met.{Site, Met, Made, Measured}
 use Rattle.interval_bit_set.specs.Out.{onWritten, onMended}
@@ -38,9 +38,9 @@ pub record Writes {R : Type 0} (w : List ℕ) (i : ℕ) (c : List ℕ → Call S
   pub slice : out′ ≡ sliceAfter (returns .answer) out
 
 -- and of a call that measures the words w, and writes words into the slice out: it leaves out′, and every word of w
-pub record Measures (w : List ℕ) (h : ℕ) (out : List ℕ) (r : CWorded) (out′ : List ℕ) : Type 0 where
+pub record Measures (w : List ℕ) (q : Measure) (out : List ℕ) (r : CWorded) (out′ : List ℕ) : Type 0 where
   pub answer : Answer
-  pub measured : Measured w h out answer w
+  pub measured : Measured w q out answer w
   pub flat : r ≡ wordedOf (replyOf answer)
   pub slice : out′ ≡ sliceAfter answer out
 

@@ -3,7 +3,7 @@ use Prim.Native.Nat.{ℕ}
 use Rattle.model.specs.declared.Bound.{Bound}
 use Rattle.model.specs.declared.Rect.{Rect}
 use Rattle.flat.specs.declared.Reply.{Reply}
-use Rattle.flat.specs.Flat.{boundBy}
+use Rattle.model.specs.Range.{boundBy}
 use Rattle.exports.specs.declared.structs.CBound.{CBound}
 use Rattle.exports.specs.declared.structs.CRect.{CRect}
 use Rattle.exports.specs.declared.structs.CCounted.{CCounted}
@@ -70,6 +70,6 @@ writtenOf r = record { refusal = r .refusal; bytes = r .number }
 abbrev pub mendedOf : Reply → CMended
 mendedOf r = record { refusal = r .refusal; bytes = r .number; report = r .«end» }
 
--- deepest, survey
+-- deepest, why_full, survey
 abbrev pub wordedOf : Reply → CWorded
 wordedOf r = record { refusal = r .refusal; words = r .number }

@@ -3,7 +3,7 @@
 ghost use Prim.Native.Nat.{_/_};
 ghost use lib.ListN.{length};
 ghost use Rattle.written.specs.Listed.{pairs};
-ghost use Rattle.model.specs.Call.{Call};
+ghost use Rattle.model.specs.Call.{Call, Measure};
 ghost use Rattle.model.specs.Pools.{limitsOf};
 ghost use Rattle.model.specs.Bytes.{editionBy};
 ghost use Rattle.model.specs.Clearing.{clearMap};
@@ -477,9 +477,18 @@ pub extern "C" fn vizturel_mend(
 // start and end of each run, in turn. Tells how many words it has. The pool is only measured, and need not be sound.
 #[no_mangle]
 pub extern "C" fn vizturel_deepest(words: &[u64], h: u64, out: &mut [u64]) -> CWorded
-    ensures { λ r. ⌜ Measures (now (words .entry)) h (now (out .entry)) r (now (out .exit)) ⌝ }
+    ensures { λ r. ⌜ Measures (now (words .entry)) (Measure.deepest h) (now (out .entry)) r (now (out .exit)) ⌝ }
 {
     structs::words(flat::written(interval_bit_set::measure::deepest(words, h, out)))
+}
+
+// Writes why a list of ranges, set to true one by one from an empty store of one world, is refused into the front of a slice: the places, rising, of the
+// smallest sublist that is still refused. Tells how many they are. The pool is only measured, and need not be sound.
+#[no_mangle]
+pub extern "C" fn vizturel_why_full(words: &[u64], ranges: &[u64], out: &mut [u64]) -> CWorded
+    ensures { λ r. ⌜ Measures (now (words .entry)) (Measure.whyFull (now (ranges .entry))) (now (out .entry)) r (now (out .exit)) ⌝ }
+{
+    structs::words(flat::written(interval_bit_set::measure::why_full(words, ranges, out)))
 }
 
 // Writes the pieces of a square of side 2^k into the front of a slice, five words each, and tells how many words they are.

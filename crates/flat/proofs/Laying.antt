@@ -7,7 +7,8 @@ use Rattle.model.specs.declared.Bound.{Bound}
 use Rattle.model.specs.declared.Count.{Count}
 use Rattle.model.specs.declared.Operation.{Operation}
 use Rattle.model.specs.Numbers.{size, worth}
-use Rattle.flat.specs.Flat.{boundBy, operationOf, numbersOnly}
+use Rattle.model.specs.Range.{boundBy}
+use Rattle.flat.specs.Flat.{operationOf, numbersOnly}
 
 -- ---- bounds
 module _ (k v : ℕ) where

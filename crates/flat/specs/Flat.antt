@@ -3,7 +3,6 @@ use Prim.Native.Nat.{ℕ, _/_, _%_}
 use mathlib.Core.Bool.{Bool, true, false, cond, not}
 use mathlib.Core.Option.{Option, none, some}
 use lib.Dec.{eqb}
-use Rattle.model.specs.declared.Bound.{Bound}
 use Rattle.model.specs.declared.Listing.{Listing}
 use Rattle.model.specs.declared.Operation.{Operation}
 use Rattle.model.specs.declared.Run.{Run}
@@ -12,10 +11,6 @@ use Rattle.model.specs.Call.{Result, done, number, tallied, value, around, posi
 use Rattle.flat.specs.declared.Reply.{Reply}
 
 -- ---- what comes in
--- a bound: 1 includes the value, 2 excludes it, and any other is none
-unfoldable pub boundBy : ℕ → ℕ → Bound
-boundBy k v = cond (eqb k 1) (Bound.Included v) (cond (eqb k 2) (Bound.Excluded v) Bound.Unbounded)
-
 -- an operation: 0 is AND, 1 is OR, and any other XOR
 abbrev pub operationOf : ℕ → Operation
 operationOf n = cond (eqb n 0) Operation.And (cond (eqb n 1) Operation.Or Operation.Xor)

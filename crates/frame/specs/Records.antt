@@ -13,7 +13,8 @@ use Rattle.model.specs.Call.{Call, PoolCall, at, Answer}
 use Rattle.frame.specs.declared.entry.Kind.{Kind}
 use Rattle.frame.specs.declared.entry.Entry.{Entry}
 use Rattle.flat.specs.declared.Reply.{Reply}
-use Rattle.flat.specs.Flat.{boundBy, truth, replyOf}
+use Rattle.model.specs.Range.{boundBy}
+use Rattle.flat.specs.Flat.{truth, replyOf}
 
 -- ---- calls
 -- the words of record i

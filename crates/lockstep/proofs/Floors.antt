@@ -19,6 +19,7 @@ use Rattle.model.specs.Refusals.{
   gapLength,
   rangeReversed,
   offPlane,
+  notRefused,
   window,
   strayBit,
   setShort,
@@ -70,6 +71,7 @@ eight-is treeHeight e = absurd (omega arith)
 eight-is gapLength e = absurd (omega arith)
 eight-is rangeReversed e = absurd (omega arith)
 eight-is offPlane e = absurd (omega arith)
+eight-is notRefused e = absurd (omega arith)
 eight-is window e = absurd (omega arith)
 eight-is strayBit e = absurd (omega arith)
 eight-is setShort e = absurd (omega arith)

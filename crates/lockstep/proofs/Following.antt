@@ -3,7 +3,7 @@ use Prim.Native.Nat.{ℕ}
 use mathlib.Core.Path.{_≡_, refl, sym, ap, ap₂, _∙_, subst}
 use mathlib.Core.List.{List, _∷_}
 use Rattle.model.specs.declared.Limits.{Limits}
-use Rattle.model.specs.Call.{PoolCall, make, deepest, at, feedPool, Answer}
+use Rattle.model.specs.Call.{PoolCall, make, measure, at, feedPool, Answer}
 use Rattle.model.specs.Pools.{PlainWorld, PoolOutcome, emptyWorlds, step, after}
 use Rattle.store.specs.Layout.{capacityOf, worldsOf}
 use Rattle.promises.specs.Met.{Site, fedAt}
@@ -13,12 +13,12 @@ use Rattle.promises.proofs.Simulation.{Holds, answer-is, step-holds, made-answe
 -- ---- one call
 pub stepped-answer : {C : ℕ} {vs : List PlainWorld} {w : List ℕ} (w′ : List ℕ) (a : Answer) (c : PoolCall Site) → Holds C vs w → Stepped w c a w′ → a ≡ (step C vs (feedPool fedAt c)) .answer
 stepped-answer w′ a (make ls) H m = made-answer H m
-stepped-answer w′ a (deepest h out) H m = measured-answer H m
+stepped-answer w′ a (measure q out) H m = measured-answer H m
 stepped-answer w′ a (at i c) H m = answer-is H m
 
 pub stepped-holds : {C : ℕ} {vs : List PlainWorld} {w : List ℕ} (w′ : List ℕ) (a : Answer) (c : PoolCall Site) → Holds C vs w → Stepped w c a w′ → Holds C ((step C vs (feedPool fedAt c)) .worlds) w′
 stepped-holds w′ a (make ls) H m = made-holds H m
-stepped-holds w′ a (deepest h out) H m = measured-holds H m
+stepped-holds w′ a (measure q out) H m = measured-holds H m
 stepped-holds w′ a (at i c) H m = step-holds H m
 
 -- ---- a whole history from there

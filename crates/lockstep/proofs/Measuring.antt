@@ -11,10 +11,10 @@ use Rattle.model.specs.Bytes.{intoFront}
 use Rattle.model.specs.Deepest.{least, deepestWords}
 use Rattle.model.proofs.Deepest.{deepest-words}
 use Rattle.model.specs.Refusals.{refusal}
-use Rattle.model.specs.Call.{Result, written, Answer, refused, gave}
-use Rattle.model.specs.Pools.{PlainWorld, PoolOutcome, settleMeasured, deepestConditions, deepestBy}
+use Rattle.model.specs.Call.{deepest, Result, written, Answer, refused, gave}
+use Rattle.model.specs.Pools.{PlainWorld, PoolOutcome, settleMeasured, measureConditions, measureBy}
 use Rattle.store.specs.Layout.{capacity, worldsOf}
-use Rattle.promises.specs.Met.{deepestOf, Measured}
+use Rattle.promises.specs.Met.{measuredOf, Measured}
 use Rattle.promises.proofs.Putting.{take-front}
 
 -- an answer that is no refusal is what is due
@@ -22,12 +22,12 @@ unrefused : (y : Option ℕ) (ws : List PlainWorld) (n k : ℕ) (bs cs : List �
 unrefused none ws n k bs cs e = (cc e, cc e)
 unrefused (some m) ws n k bs cs e = let z : _≡_ {A = ℕ} 0 1 = cc e in absurd (omega arith)
 
-module _ {w : List ℕ} {h : ℕ} {out out′ : List ℕ} {n : ℕ} {w′ : List ℕ} (m : Measured w h out (gave (written n out′)) w′) where
+module _ {w : List ℕ} {h : ℕ} {out out′ : List ℕ} {n : ℕ} {w′ : List ℕ} (m : Measured w (deepest h) out (gave (written n out′)) w′) where
   -- the number and the slice are those of the list
   told : (n ≡ length (deepestWords h)) × (out′ ≡ intoFront (deepestWords h) out)
-  unfolding deepestOf deepestBy
+  unfolding measuredOf measureBy
   told =
-      unrefused (refusal (deepestConditions (eqb (capacity w) 0) (capacity w) h out)) (worldsOf w) n (length (deepestWords h)) out′ (intoFront (deepestWords h) out)
+      unrefused (refusal (measureConditions (eqb (capacity w) 0) (capacity w) (deepest h) out)) (worldsOf w) n (length (deepestWords h)) out′ (intoFront (deepestWords h) out)
       (m .answered)
 
   -- so it has as many words

@@ -26,6 +26,8 @@ use Rattle.lockstep.specs.Theorems.{
   Mended-loads,
   Mended-floor,
   Deepest-shortest,
+  Why-smallest,
+  Why-none,
 }
 use Rattle.lockstep.proofs.Following.{follows, new-holds, answered-alike}
 use Rattle.lockstep.proofs.Matches.{matches}
@@ -41,6 +43,7 @@ use Rattle.lockstep.proofs.Filling.{none-held, all-held}
 use Rattle.lockstep.proofs.Converting.{convert-back, convert-then-load, load-converts, old-refused}
 use Rattle.lockstep.proofs.Mending.{right-comes-back, outcome-loads}
 use Rattle.lockstep.proofs.Measuring.{list-long, list-is}
+use Rattle.lockstep.proofs.Stopping.{many-are, rising-are, listed-are, refused-are, fewer-given, none-given}
 use Rattle.store.proofs.Heights.{world-lower}
 
 pub theorem1 : Theorem1
@@ -110,3 +113,10 @@ mended-floor w i bs out report a w′ S l m h e = mend-reaches-floor S i l m h e
 
 pub deepest-shortest : Deepest-shortest
 deepest-shortest w h out out′ n w′ m = (list-long m, list-is m, λ v i S named few. world-lower v i h S named few)
+
+pub why-smallest : Why-smallest
+why-smallest w ranges out out′ n w′ d W m =
+    (many-are w ranges out W m, rising-are w ranges out W m, listed-are w ranges out W m, refused-are w ranges out W m d, fewer-given w ranges out W m d)
+
+pub why-none : Why-none
+why-none w ranges out w′ m = none-given w ranges out m

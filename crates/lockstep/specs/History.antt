@@ -7,7 +7,7 @@ use mathlib.Core.List.{List, [], _∷_}
 use lib.ListN.{take}
 use Rattle.model.specs.declared.Limits.{Limits}
 use Rattle.model.specs.declared.Edition.{Edition}
-use Rattle.model.specs.Call.{Fed, Call, PoolCall, make, deepest, at, feedPool, done, written, Answer, gave}
+use Rattle.model.specs.Call.{Fed, Call, PoolCall, make, measure, at, feedPool, done, written, Answer, gave}
 use Rattle.model.specs.Pools.{PlainWorld, PoolOutcome, step}
 use Rattle.store.specs.Layout.{capacity, worldsOf}
 use Rattle.promises.specs.Met.{Site, fedAt, Met, Made, Measured}
@@ -15,7 +15,7 @@ use Rattle.promises.specs.Met.{Site, fedAt, Met, Made, Measured}
 -- the call c on the words w answered a and left w′, as it promises
 abbrev pub Stepped : List ℕ → PoolCall Site → Answer → List ℕ → Type 0
 Stepped w (make ls) a w′ = Made w ls a w′
-Stepped w (deepest h out) a w′ = Measured w h out a w′
+Stepped w (measure q out) a w′ = Measured w q out a w′
 Stepped w (at i c) a w′ = Met w i c a w′
 
 -- the words w, after the calls cs, which got the answers rs, and were the words ws after each call

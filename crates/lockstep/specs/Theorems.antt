@@ -5,17 +5,19 @@ use mathlib.Core.Path.{_≡_}
 use mathlib.Core.Bool.{true, false}
 use mathlib.Core.List.{List}
 use mathlib.Core.Option.{some}
-use lib.ListN.{length, take, replicate}
+use lib.ListN.{length, take, replicate, getD}
 use Rattle.model.specs.declared.Edition.{Edition}
 use Rattle.model.specs.declared.Edition.the-variants.{Columns}
+use Rattle.model.specs.Numbers.{size}
 use Rattle.model.specs.declared.Limits.{Limits}
 use Rattle.model.specs.declared.Written.{Written}
 use Rattle.model.specs.Answers.{writtenAnswer}
 use Rattle.model.specs.RunList.{AllBytes}
-use Rattle.model.specs.Positions.{stretches}
-use Rattle.model.specs.Call.{Call, feed, PoolCall, Result, done, number, written, mended, Answer, refused, gave}
+use Rattle.model.specs.Positions.{empty, stretches}
+use Rattle.model.specs.Call.{Call, feed, deepest, whyFull, PoolCall, Result, done, number, written, mended, Answer, refused, gave}
 use Rattle.model.specs.Model.{serve}
-use Rattle.model.specs.Pools.{PlainWorld, worldOf, otherClaims, emptyWorlds, answers, after}
+use Rattle.model.specs.Pools.{PlainWorld, worldOf, otherClaims, emptyWorlds, answers, after, alone}
+use Rattle.model.specs.Spawning.{Range, rangesOf, setsOf, pick, AllGiven, StopsAt}
 use Rattle.model.specs.Clearing.{clearMap}
 use Rattle.model.specs.Mending.{mendedPositions}
 use Rattle.model.specs.Deepest.{least, deepestWords}
@@ -23,6 +25,8 @@ use Rattle.model.specs.Converting.{convert, documentOneRefusal}
 use Rattle.run_index.specs.Tree.{height}
 use Rattle.store.specs.Layout.{capacity, openedAt, floorAt, heldBy, worldsOf, treeAt}
 use Rattle.store.specs.Soundness.{runsAt, Sound}
+use Rattle.lowest.specs.Entries.{In}
+use Rattle.spawn.specs.Placing.{Climbing}
 use Rattle.promises.specs.Met.{Site, fedAt, fedOf, Leaves, Met, Measured}
 use Rattle.promises.specs.Out.{WritesOut}
 use Rattle.promises.specs.Handles.{Handles}
@@ -189,6 +193,29 @@ Mended-floor =
 abbrev pub Deepest-shortest : Type 0
 Deepest-shortest =
     (w : List ℕ) (h : ℕ) (out out′ : List ℕ) (n : ℕ) (w′ : List ℕ)
-    → Measured w h out (gave (written n out′)) w′
+    → Measured w (deepest h) out (gave (written n out′)) w′
     → (n ≡ 2 * least h) × (take n out′ ≡ deepestWords h)
     × ((v : List ℕ) (i : ℕ) → Sound v → i < openedAt v → runsAt v i < least h → height (treeAt v i) < h)
+
+-- ---- why a list stopped (document 02, Ticket 13)
+-- what a pool of one world that may have C runs, which is empty, answers to the ranges rs, set to true one by one
+abbrev pub spawned : ℕ → List Range → List Answer
+spawned C rs = answers C (alone C empty) (setsOf rs)
+
+-- a list lent as words
+abbrev pub Words : List ℕ → Type 0
+Words ws = ((i : ℕ) → getD ws i 0 < size) × (length ws < size)
+
+-- places that are told are C + 1, rising, and of the list. The ranges at them are refused with 8 at the last of them, and not before; and the ranges at
+-- fewer places, whichever, are not refused
+abbrev pub Why-smallest : Type 0
+Why-smallest =
+    (w ranges out out′ : List ℕ) (n : ℕ) (w′ : List ℕ) (d : Range)
+    → Words ranges → Measured w (whyFull ranges) out (gave (written n out′)) w′
+    → (n ≡ capacity w + 1) × Climbing 0 (take n out′) × ((p : ℕ) → In p (take n out′) → p < length (rangesOf ranges))
+    × StopsAt (capacity w) (spawned (capacity w) (pick d (rangesOf ranges) (take n out′)))
+    × ((qs : List ℕ) → length qs < n → AllGiven (spawned (capacity w) (pick d (rangesOf ranges) qs)))
+
+-- 16 is given only where no call of the list is refused
+abbrev pub Why-none : Type 0
+Why-none = (w ranges out w′ : List ℕ) → Measured w (whyFull ranges) out (refused 16) w′ → AllGiven (spawned (capacity w) (rangesOf ranges))

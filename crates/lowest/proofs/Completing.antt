@@ -4,7 +4,7 @@ use Prim.Native.Nat.{ℕ, zero, suc, _+_, _*_, _≤_, _<_}
 use mathlib.Core.Path.{_≡_, refl, sym, ap, subst}
 use mathlib.Core.Logic.{_⊎_, inl, inr}
 use mathlib.Core.List.{List, [], _∷_, _++_, append-nil, append-assoc}
-use native.Mathlib.Nat.{le-add-right, le-add-left}
+use native.Mathlib.Nat.{le-refl, le-add-right, le-add-left}
 use native.Mathlib.Omega.{arith}
 use lib.ListN.{length, length-append}
 use Rattle.model.specs.declared.Run.{Run}
@@ -26,7 +26,7 @@ use Rattle.lowest.proofs.Entries.{
   lists-slip,
   lists-more,
 }
-use Rattle.lowest.proofs.Grouping.{lists-end, whole-stretches}
+use Rattle.lowest.proofs.Grouping.{Whole, lists-end, whole-stretches}
 
 -- ---- the places that are left
 -- places in rising order, parted by where their entries start
@@ -145,3 +145,11 @@ groups-room es u ps qs gs w h s d =
   where
     bound : (a b c : ℕ) → a ≤ b → c ≡ b → a ≤ c
     bound a b c l e = omega arith
+
+-- ---- the groups of all
+-- every list has them
+pub whole-some : (es : List Run) → AllWords es → length es < size → (ps : List ℕ) × (gs : List Group) × Whole es ps gs
+whole-some es w h =
+    let all = lists-some es (length es) 0 (size * size) h in
+    let d = more-all es [] (all .0) [] none in
+    (all .0, d .groups, lists-end es (size * size) (all .0) (d .groups) w h (le-refl (size * size)) (all .1) (d .grouped))

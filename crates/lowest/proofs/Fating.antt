@@ -68,7 +68,7 @@ one-run (g ∷ gs) h (inl e) = (0, omega arith, ap (λ (f : Group). run (f .star
 one-run (g ∷ gs) h (inr m) = let t = one-run gs h m in (suc (t .0), omega (arith, t .1), t .2)
 
 -- the run around a position of a group is that of the group
-whole-run : (es : List Run) (ps : List ℕ) (gs : List Group) (h : Group) (x : ℕ) → Whole es ps gs → OneOf h gs → h .start ≤ x → x ≤ h .«end» → mem es x ≡ true
+pub whole-run : (es : List Run) (ps : List ℕ) (gs : List Group) (h : Group) (x : ℕ) → Whole es ps gs → OneOf h gs → h .start ≤ x → x ≤ h .«end» → mem es x ≡ true
     → runAt (mem es) x ≡ run (h .start) (h .«end»)
 whole-run es ps gs h x t m l k e =
     let p = one-run gs h m in

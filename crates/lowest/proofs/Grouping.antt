@@ -97,12 +97,13 @@ pub record Two (es : List Run) (ps : List ℕ) (h : Group) : Type 0 where
   pub these : Starts es ps h this
   pub those : Starts es ps h that
 
--- a group of entries at the places ps: an entry starts it, each position is of an entry, its place is that of an entry in it; if it is sole, no
--- other entry starts in it, and else two do
+-- a group of entries at the places ps: an entry starts it, each position is of an entry, its place is that of an entry in it, and the least such;
+-- if it is sole, no other entry starts in it, and else two do
 pub record Fits (es : List Run) (ps : List ℕ) (h : Group) : Type 0 where
   pub begun : (q : ℕ) × In q ps × ((entry es q) .start ≡ h .start)
   pub tight : (x : ℕ) → h .start ≤ x → x ≤ h .«end» → (q : ℕ) × In q ps × ((entry es q) .start ≤ x) × (x ≤ (entry es q) .«end»)
   pub placed : Starts es ps h (h .place)
+  pub foremost : (q : ℕ) → Starts es ps h q → h .place ≤ q
   pub single : h .sole ≡ true → (q : ℕ) → Starts es ps h q → q ≡ h .place
   pub several : h .sole ≡ false → Two es ps h
 
@@ -137,7 +138,8 @@ fits-more es ps h p f l = record {
   begun = let b = f .begun in (b .0, in-left (b .0) ps (p ∷ []) (b .1), b .2);
   tight = λ x m n. let t = f .tight x m n in (t .0, in-left (t .0) ps (p ∷ []) (t .1), t .2, t .3);
   placed = starts-more es ps h (h .place) p (f .placed);
-  single = λ e q s. go e q s (in-both q ps (p ∷ []) (s .listed));
+  foremost = λ q s. f .foremost q (before q s (in-both q ps (p ∷ []) (s .listed)));
+  single = λ e q s. f .single e q (before q s (in-both q ps (p ∷ []) (s .listed)));
   several = λ e.
       let t = f .several e in
       record {
@@ -149,9 +151,10 @@ fits-more es ps h p f l = record {
       };
 }
   where
-    go : h .sole ≡ true → (q : ℕ) → Starts es (ps ++ p ∷ []) h q → In q ps ⊎ In q (p ∷ []) → q ≡ h .place
-    go e q s (inl m) = f .single e q (record { listed = m; from = s .from; to = s .to })
-    go e q s (inr m) = absurd (omega (arith, s .to, ap (λ k. (entry es k) .start) (in-one q p m)))
+    -- what starts in it did so before
+    before : (q : ℕ) → Starts es (ps ++ p ∷ []) h q → In q ps ⊎ In q (p ∷ []) → Starts es ps h q
+    before q s (inl m) = record { listed = m; from = s .from; to = s .to }
+    before q s (inr m) = absurd (omega (arith, s .to, ap (λ k. (entry es k) .start) (in-one q p m)))
 
 -- the group of an entry alone is right where all others start before it
 fits-alone : (es : List Run) (ps : List ℕ) (p : ℕ) → Counts es p → ((q : ℕ) → In q ps → (entry es q) .start < (entry es p) .start)
@@ -160,6 +163,7 @@ fits-alone es ps p c before = record {
   begun = (p, in-last p ps, refl);
   tight = λ x m n. (p, in-last p ps, m, n);
   placed = record { listed = in-last p ps; from = omega arith; to = c .ordered };
+  foremost = λ q s. omega (arith, go q s (in-both q ps (p ∷ []) (s .listed)));
   single = λ e q s. go q s (in-both q ps (p ∷ []) (s .listed));
   several = λ e. absurd (true≢false e);
 }
@@ -243,6 +247,13 @@ right-joins es ps gs g p w n r l = record {
     least (inl m) = subst (Starts es (ps ++ p ∷ []) (joining es g p)) (omega arith) (longer (g .place) (old .placed))
     least (inr m) = subst (Starts es (ps ++ p ∷ []) (joining es g p)) (omega arith) starts
 
+    -- an entry that starts in the longer one and not in the group is this one, or starts right behind the group, where no entry of before does
+    first-of : (q : ℕ) → Starts es (ps ++ p ∷ []) (joining es g p) q → In q ps ⊎ In q (p ∷ []) → (g .«end» < (entry es q) .start) ⊎ ((entry es q) .start ≤ g .«end»)
+        → min (g .place) p ≤ q
+    first-of q s (inr m) k = omega (arith, in-one q p m)
+    first-of q s (inl m) (inr k) = omega (arith, old .foremost q (record { listed = m; from = s .from; to = k }))
+    first-of q s (inl m) (inl k) = let y = r .lies q m in absurd (omega (arith, y .counts .ordered, y .ends, canon-most size 0 gs g (y .group) (r .canon) (y .one)))
+
     tight : (x : ℕ) → g .start ≤ x → x ≤ max (g .«end») ((entry es p) .«end») → (g .«end» < x) ⊎ (x ≤ g .«end»)
         → (q : ℕ) × In q (ps ++ p ∷ []) × ((entry es q) .start ≤ x) × (x ≤ (entry es q) .«end»)
     tight x a b (inl m) = (p, in-last p ps, omega arith, omega arith)
@@ -253,6 +264,7 @@ right-joins es ps gs g p w n r l = record {
       begun = let b = old .begun in (b .0, in-left (b .0) ps (p ∷ []) (b .1), b .2);
       tight = λ x a b. tight x a b (split (g .«end») x);
       placed = least (split (g .place) p);
+      foremost = λ q s. first-of q s (in-both q ps (p ∷ []) (s .listed)) (split (g .«end») ((entry es q) .start));
       single = λ e. absurd (false≢true e);
       several = λ e. record {
         this = g .place;
@@ -384,7 +396,7 @@ pub right-of : (es : List Run) (ps : List ℕ) (gs : List Group) (x : ℕ) → R
 right-of es ps gs x r e = let h = group-of gs x e in r .fits (h .0) (h .1) .tight x (h .2) (h .3)
 
 -- two tests that hold together are the same
-both-or-none : (a b : Bool) → (a ≡ true → b ≡ true) → (b ≡ true → a ≡ true) → a ≡ b
+pub both-or-none : (a b : Bool) → (a ≡ true → b ≡ true) → (b ≡ true → a ≡ true) → a ≡ b
 both-or-none true b f g = sym (f refl)
 both-or-none false true f g = g refl
 both-or-none false false f g = refl

@@ -11,6 +11,8 @@ pub mod Sweeping
 pub mod Windows
 pub mod Noting
 pub mod Fronts
+pub mod Steps
 pub mod Uniting
+pub mod Mended
 pub mod Joining
 pub mod Rounds

@@ -23,6 +23,7 @@ use Rattle.model.specs.declared.Refusal.the-variants.{
   TreeHeight,
   RangeReversed,
   OffPlane,
+  NotRefused,
 }
 use Rattle.model.specs.Numbers.{refusalNumber}
 
@@ -60,6 +61,7 @@ refusal-some WorldUnopened = omega arith
 refusal-some TreeHeight = omega arith
 refusal-some RangeReversed = omega arith
 refusal-some OffPlane = omega arith
+refusal-some NotRefused = omega arith
 
 -- two-word counts: what the sum and the difference of two of them carry
 pub sum-carry : (p q x y : ℕ) → p * 2 ^ 64 + x + (q * 2 ^ 64 + y) ≤ 2 ^ 64 → p + q ≤ 1

@@ -10,8 +10,10 @@ use Rattle.model.specs.declared.Limits.{Limits}
 use Rattle.model.specs.Positions.{Positions, empty, stretches}
 use Rattle.model.specs.Bytes.{intoFront}
 use Rattle.model.specs.Deepest.{least, deepestWords}
-use Rattle.model.specs.Refusals.{storeLength, worldLimits, treeHeight, capacity, outputShort, Condition, _when_, refusal, badLimits, badHeight, noRoom}
-use Rattle.model.specs.Call.{Fed, unopened, holding, Call, PoolCall, make, deepest, at, Result, done, written, Answer, refused, gave}
+use Rattle.model.specs.Spawning
+use Rattle.model.specs.Spawning.{rangesOf, entriesOf, noneRefused, placesTold}
+use Rattle.model.specs.Refusals.{storeLength, worldLimits, treeHeight, notRefused, capacity, outputShort, Condition, _when_, refusal, badLimits, badHeight, noRoom}
+use Rattle.model.specs.Call.{Fed, unopened, holding, Call, Measure, deepest, whyFull, PoolCall, make, measure, at, Result, done, written, Answer, refused, gave}
 use Rattle.model.specs.Model.{Outcome, serve}
 
 pub record PlainWorld : Type 0 where
@@ -104,24 +106,36 @@ settleMake (some n) ws new = record { answer = refused n; worlds = ws }
 unfoldable pub makeBy : Bool → ℕ → List PlainWorld → List Limits → PoolOutcome
 makeBy short C ws ls = settleMake (refusal (makeConditions short C ls)) ws (emptyWorlds ls)
 
--- the list for the deepest tree (document 02, Ticket 10): 1, then 13, then 8 for a capacity below the list's length, then 2. The pool is measured,
--- and no more, so the worlds stay
+-- measuring: 1, then what the question asks, then 2. The pool is measured, and no more, so the worlds stay
 abbrev pub settleMeasured : Option ℕ → List PlainWorld → Result → PoolOutcome
 settleMeasured none ws a = record { answer = gave a; worlds = ws }
 settleMeasured (some n) ws a = record { answer = refused n; worlds = ws }
 
-abbrev pub deepestConditions : Bool → ℕ → ℕ → List ℕ → List Condition
-deepestConditions short C h out =
-    storeLength when short ∷ treeHeight when badHeight h ∷ capacity when ltb C (least h) ∷ outputShort when noRoom out (deepestWords h) ∷ []
+-- why the list of ranges that words tell is refused, at the capacity C
+abbrev pub stopped : ℕ → List ℕ → Option (List ℕ)
+stopped C rs = Spawning.whyFull C (entriesOf (rangesOf rs))
 
-unfoldable pub deepestBy : Bool → ℕ → List PlainWorld → ℕ → List ℕ → PoolOutcome
-deepestBy short C ws h out =
-    settleMeasured (refusal (deepestConditions short C h out)) ws (written (length (deepestWords h)) (intoFront (deepestWords h) out))
+-- the list for the deepest tree asks 13, then 8 for a capacity below its length (document 02, Ticket 10); why a list is refused asks 16 (Ticket 13)
+abbrev pub asks : Measure → ℕ → List Condition
+asks (deepest h) C = treeHeight when badHeight h ∷ capacity when ltb C (least h) ∷ []
+asks (whyFull rs) C = notRefused when noneRefused (stopped C rs) ∷ []
+
+-- the words that are due: that list; the places of the ranges
+abbrev pub wordsDue : Measure → ℕ → List ℕ
+wordsDue (deepest h) C = deepestWords h
+wordsDue (whyFull rs) C = placesTold (stopped C rs)
+
+abbrev pub measureConditions : Bool → ℕ → Measure → List ℕ → List Condition
+measureConditions short C q out = storeLength when short ∷ outputShort when noRoom out (wordsDue q C) ∷ asks q C
+
+unfoldable pub measureBy : Bool → ℕ → List PlainWorld → Measure → List ℕ → PoolOutcome
+measureBy short C ws q out =
+    settleMeasured (refusal (measureConditions short C q out)) ws (written (length (wordsDue q C)) (intoFront (wordsDue q C) out))
 
 -- THE MODEL: one call on a capacity and worlds
 unfoldable pub step : ℕ → List PlainWorld → PoolCall Fed → PoolOutcome
 step C ws (make ls) = makeBy false C ws ls
-step C ws (deepest h out) = deepestBy false C ws h out
+step C ws (measure q out) = measureBy false C ws q out
 step C ws (at i c) = leaving ws i (serveAt C ws i c)
 
 -- lists of calls: every answer, and the worlds after the last call

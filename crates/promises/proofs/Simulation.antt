@@ -17,18 +17,17 @@ use Rattle.model.specs.Positions.{Positions, empty, bounded}
 use Rattle.model.proofs.Ops.{bounded-below}
 use Rattle.model.specs.Refusals.{worldLimits, Condition, _when_, refusal, badLimits}
 use Rattle.model.specs.Bytes.{intoFront}
-use Rattle.model.specs.Deepest.{deepestWords}
-use Rattle.model.specs.Call.{Fed, Call, feed, make, deepest, at, Result, written, Answer}
+use Rattle.model.specs.Call.{Fed, Call, feed, Measure, make, measure, at, Result, written, Answer}
 use Rattle.model.specs.Model.{Outcome, positionsOf, reads, settle, serve}
 use Rattle.model.specs.Pools.{PlainWorld, worldOf, fedBy, full, withPositions, holdingAt, serveAt, emptyWorlds, PoolOutcome, settleMake, makeBy, step}
-use Rattle.model.specs.Pools.{settleMeasured, deepestConditions, deepestBy}
+use Rattle.model.specs.Pools.{settleMeasured, wordsDue, measureConditions, measureBy}
 use Rattle.model.proofs.Pools.{holding-fed}
 use Rattle.store.specs.Layout.{capacityOf, capacity, openedAt, floorAt, ceilingAt, heldBy, plainAt, worldsFrom, worldsOf}
 use Rattle.store.specs.Soundness.{Sound}
 use Rattle.store.specs.Settle.{Settled}
 use Rattle.store.proofs.Turn.{pool-past}
 use Rattle.store.proofs.WorldLists.{worlds-but, opened-world, unopened-world}
-use Rattle.promises.specs.Met.{Site, fedAt, fullAt, outcomeOf, Leaves, Met, madeOf, MakeLeaves, Made, deepestOf, Measured}
+use Rattle.promises.specs.Met.{Site, fedAt, fullAt, outcomeOf, Leaves, Met, madeOf, MakeLeaves, Made, measuredOf, Measured}
 use Rattle.promises.proofs.Refusing.{unopened-refused}
 use Rattle.promises.proofs.Meeting.{fed-sound}
 use Rattle.promises.proofs.Served.{Ends, bounded-ends, Served, served}
@@ -178,18 +177,18 @@ module _ {C : ℕ} {ws : List PlainWorld} {w : List ℕ} (H : Holds C ws w) wher
         go (some n) e = subst (λ v. Holds C ws v) (sym (subst (MakeLeaves w w′ ls) e (m .left))) H
 
   -- ---- measuring
-  module _ {h : ℕ} {out : List ℕ} {a : Answer} {w′ : List ℕ} (m : Measured w h out a w′) where
+  module _ {q : Measure} {out : List ℕ} {a : Answer} {w′ : List ℕ} (m : Measured w q out a w′) where
     -- its answer is the model's
-    pub measured-answer : a ≡ (step C ws (deepest h out)) .answer
-    unfolding step deepestOf
-    measured-answer = m .answered ∙ ap (λ o. o .answer) (pool-is (λ z k vs. deepestBy z k vs h out))
+    pub measured-answer : a ≡ (step C ws (measure q out)) .answer
+    unfolding step measuredOf
+    measured-answer = m .answered ∙ ap (λ o. o .answer) (pool-is (λ z k vs. measureBy z k vs q out))
 
     -- and so are the worlds after it, which stay
-    pub measured-holds : Holds C ((step C ws (deepest h out)) .worlds) w′
-    unfolding step deepestBy
+    pub measured-holds : Holds C ((step C ws (measure q out)) .worlds) w′
+    unfolding step measureBy
     measured-holds =
-        subst (λ v. Holds C ((step C ws (deepest h out)) .worlds) v) (sym (m .left))
-        (go (refusal (deepestConditions false C h out)) (written (length (deepestWords h)) (intoFront (deepestWords h) out)))
+        subst (λ v. Holds C ((step C ws (measure q out)) .worlds) v) (sym (m .left))
+        (go (refusal (measureConditions false C q out)) (written (length (wordsDue q C)) (intoFront (wordsDue q C) out)))
       where
         go : (y : Option ℕ) (r : Result) → Holds C ((settleMeasured y ws r) .worlds) w
         go none r = H

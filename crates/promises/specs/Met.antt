@@ -12,9 +12,9 @@ use Rattle.model.specs.declared.Edge.the-variants.{At, Nowhere}
 use Rattle.model.specs.declared.Limits.{Limits}
 use Rattle.model.specs.Positions.{Positions}
 use Rattle.model.specs.Refusals.{storeLength, storeUnsound, Condition, _when_}
-use Rattle.model.specs.Call.{Fed, wrongLength, unsound, holding, Call, feed, Answer, refused, gave, position}
+use Rattle.model.specs.Call.{Fed, wrongLength, unsound, holding, Call, feed, Measure, Answer, refused, gave, position}
 use Rattle.model.specs.Model.{Outcome, serve}
-use Rattle.model.specs.Pools.{worldOf, fedBy, full, PoolOutcome, makeBy, deepestBy}
+use Rattle.model.specs.Pools.{worldOf, fedBy, full, PoolOutcome, makeBy, measureBy}
 use Rattle.store.specs.Layout.{capacity, heldBy, worldsOf}
 use Rattle.soundness.specs.Decision.{soundB}
 use Rattle.store.specs.Free.{Emptied}
@@ -73,13 +73,13 @@ pub record Made (w : List ℕ) (ls : List Limits) (a : Answer) (w′ : List ℕ)
   pub left : MakeLeaves w w′ ls a
 
 -- ---- measuring
--- what the model says of the list for the deepest tree of height h, at the words w
-unfoldable pub deepestOf : List ℕ → ℕ → List ℕ → PoolOutcome
-deepestOf w h out = deepestBy (eqb (capacity w) 0) (capacity w) (worldsOf w) h out
+-- what the model says of measuring the words w for q, with the slice out
+unfoldable pub measuredOf : List ℕ → Measure → List ℕ → PoolOutcome
+measuredOf w q out = measureBy (eqb (capacity w) 0) (capacity w) (worldsOf w) q out
 
 -- THE CONTRACT of that call, which answered a and left w′: all as it was, sound or not
-pub record Measured (w : List ℕ) (h : ℕ) (out : List ℕ) (a : Answer) (w′ : List ℕ) : Type 0 where
-  pub answered : a ≡ (deepestOf w h out) .answer
+pub record Measured (w : List ℕ) (q : Measure) (out : List ℕ) (a : Answer) (w′ : List ℕ) : Type 0 where
+  pub answered : a ≡ (measuredOf w q out) .answer
   pub left : w′ ≡ w
 
 -- ---- a world that can be read: its pool is sound, it was opened, and it is fed as its positions

@@ -9,7 +9,7 @@ use Rattle.model.specs.declared.Mended.{Mended}
 use Rattle.model.specs.Answers.{writtenAnswer, mendedAnswer}
 use Rattle.model.specs.Bytes.{decode}
 use Rattle.model.specs.Refusals.{orderedFrom}
-use Rattle.model.specs.Call.{Call}
+use Rattle.model.specs.Call.{Call, Measure}
 use Rattle.written.specs.Parsed.{Shaped}
 use Rattle.promises.specs.Met.{Site, Met, Measured}
 
@@ -23,10 +23,10 @@ pub record WritesOut (c : List ℕ → Call Site) (w : List ℕ) (i : ℕ) (out 
   pub met : Met w i (c out) (writtenAnswer r out′) w
   pub unwritten : Unwritten r out out′
 
--- ---- the list for the deepest tree (document 02, Ticket 10)
--- the list for the height h, asked for at the words w with the slice out, answered r and left the slice out′
-pub record WritesDeepest (w : List ℕ) (h : ℕ) (out : List ℕ) (r : Written) (out′ : List ℕ) : Type 0 where
-  pub measured : Measured w h out (writtenAnswer r out′) w
+-- ---- measuring
+-- measuring the words w for q, with the slice out, answered r and left the slice out′
+pub record WritesMeasured (w : List ℕ) (q : Measure) (out : List ℕ) (r : Written) (out′ : List ℕ) : Type 0 where
+  pub measured : Measured w q out (writtenAnswer r out′) w
   pub unwritten : Unwritten r out out′
 
 -- ---- mending (document 02, Ticket 9)

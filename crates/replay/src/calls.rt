@@ -61,6 +61,28 @@ pub fn deepest(store: &[u64], line: &[u8], at: usize) -> bool {
     true
 }
 
+// Writes into the first n words.
+fn why_full_to(store: &[u64], ranges: &[u64], space: &mut [u64], n: usize)
+    requires { ⌜ n ≤ length (now space) ⌝ }
+{
+    let w = measure::why_full(store, ranges, &mut space[0..n]);
+    answer::worded(w, &space[0..n]);
+}
+
+// Why a list of ranges is refused, which only measures the store. The list is read by bounds, a kind and a value each.
+pub fn why_full(store: &[u64], line: &[u8], at: usize) -> bool {
+    let mut list = [0u64; 128];
+    let mut space = [0xeeeeeeeeeeeeeeeeu64; 128];
+    let lent = line::at_most(line, at, 128);
+    let bounds = line::pairs_at(line, lent.next, &mut list);
+    let n = bounds.count;
+    if bounds.next != line.len() {
+        return false;
+    }
+    why_full_to(store, &list[..n], &mut space, lent.value as usize);
+    true
+}
+
 // ---- changes
 // Sets of a range, strict or not.
 fn set(store: &mut [u64], world: u64, line: &[u8], at: usize, strict: bool) -> bool {

@@ -176,6 +176,9 @@ pub fn is_whole(name: &[u8]) -> bool {
     if check::same(name, b"deepest") {
         return true;
     }
+    if check::same(name, b"why_full") {
+        return true;
+    }
     check::same(name, b"frame")
 }
 
@@ -204,6 +207,9 @@ pub fn whole_named(
     }
     if check::same(name, b"deepest") {
         return calls::deepest(&words[from..to], line, at);
+    }
+    if check::same(name, b"why_full") {
+        return calls::why_full(&words[from..to], line, at);
     }
     calls::new(&mut words[from..to], line, at)
 }

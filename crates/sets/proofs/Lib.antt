@@ -7,3 +7,4 @@ pub mod Mending
 pub mod Joins
 pub mod Comparing
 pub mod Measuring
+pub mod Stopping

@@ -13,12 +13,12 @@ use Rattle.model.specs.Bytes.{intoFront}
 use Rattle.model.specs.Deepest.{least, deepestWords}
 use Rattle.model.specs.Refusals
 use Rattle.model.specs.Refusals.{storeLength, treeHeight, outputShort, Condition, _when_, refusal, badHeight, noRoom}
-use Rattle.model.specs.Call.{Result, written, gave}
-use Rattle.model.specs.Pools.{PoolOutcome, settleMeasured, deepestBy}
+use Rattle.model.specs.Call.{deepest, Result, written, gave}
+use Rattle.model.specs.Pools.{PoolOutcome, settleMeasured, measureBy}
 use Rattle.model.proofs.Deepest.{deepest-words}
 use Rattle.store.specs.Layout.{capacity, worldsOf}
-use Rattle.promises.specs.Met.{deepestOf, Measured}
-use Rattle.promises.specs.Out.{WritesDeepest}
+use Rattle.promises.specs.Met.{measuredOf, Measured}
+use Rattle.promises.specs.Out.{WritesMeasured}
 
 -- a height from 1 to 22 is none that is refused
 pub good-height : (h : ℕ) → 1 ≤ h → h ≤ 22 → badHeight h ≡ false
@@ -39,7 +39,7 @@ list-fits h out le = rw (deepest-words h) le
 module _ (w : List ℕ) (h : ℕ) (out : List ℕ) where
   -- the conditions, by the four tests
   abbrev tests : Bool → Bool → Bool → Bool → List Condition
-  tests s b c r = storeLength when s ∷ treeHeight when b ∷ Refusals.capacity when c ∷ outputShort when r ∷ []
+  tests s b c r = storeLength when s ∷ outputShort when r ∷ treeHeight when b ∷ Refusals.capacity when c ∷ []
 
   -- what is due
   abbrev due : Result
@@ -47,12 +47,12 @@ module _ (w : List ℕ) (h : ℕ) (out : List ℕ) where
 
   -- what the model says, by them
   by-tests : {s b c r : Bool} → eqb (capacity w) 0 ≡ s → badHeight h ≡ b → ltb (capacity w) (least h) ≡ c → ltb (length out) (length (deepestWords h)) ≡ r
-      → deepestOf w h out ≡ settleMeasured (refusal (tests s b c r)) (worldsOf w) due
-  unfolding deepestOf deepestBy noRoom
+      → measuredOf w (deepest h) out ≡ settleMeasured (refusal (tests s b c r)) (worldsOf w) due
+  unfolding measuredOf measureBy noRoom
   by-tests s b c r = λ i. settleMeasured (refusal (tests (s i) (b i) (c i) (r i))) (worldsOf w) due
 
   -- 1: words of no pool's length
-  pub deepest-no-pool : capacity w ≡ 0 → WritesDeepest w h out (Written.Refused StoreLength) out
+  pub deepest-no-pool : capacity w ≡ 0 → WritesMeasured w (deepest h) out (Written.Refused StoreLength) out
   deepest-no-pool e = record {
     measured = record { answered = sym (ap (λ o. o .answer) (by-tests (eq-eqb (capacity w) 0 e) refl refl refl)); left = refl };
     unwritten = refl;
@@ -64,7 +64,7 @@ module _ (w : List ℕ) (h : ℕ) (out : List ℕ) where
     pool = ne-eqb (capacity w) 0 (λ z. omega arith)
 
     -- 13: no such height
-    pub deepest-no-height : badHeight h ≡ true → WritesDeepest w h out (Written.Refused TreeHeight) out
+    pub deepest-no-height : badHeight h ≡ true → WritesMeasured w (deepest h) out (Written.Refused TreeHeight) out
     deepest-no-height e = record {
       measured = record { answered = sym (ap (λ o. o .answer) (by-tests pool e refl refl)); left = refl };
       unwritten = refl;
@@ -72,7 +72,7 @@ module _ (w : List ℕ) (h : ℕ) (out : List ℕ) where
 
     module _ (good : badHeight h ≡ false) where
       -- 8: the list has more runs than the pool may have
-      pub deepest-over : capacity w < least h → WritesDeepest w h out (Written.Refused Capacity) out
+      pub deepest-over : capacity w < least h → WritesMeasured w (deepest h) out (Written.Refused Capacity) out
       deepest-over l = record {
         measured = record { answered = sym (ap (λ o. o .answer) (by-tests pool good (lt-ltb (capacity w) (least h) l) refl)); left = refl };
         unwritten = refl;
@@ -80,7 +80,7 @@ module _ (w : List ℕ) (h : ℕ) (out : List ℕ) where
 
       module _ (fits : least h ≤ capacity w) where
         -- 2: the slice is too short
-        pub deepest-short : length out < 2 * least h → WritesDeepest w h out (Written.Refused OutputShort) out
+        pub deepest-short : length out < 2 * least h → WritesMeasured w (deepest h) out (Written.Refused OutputShort) out
         deepest-short l =
             let short : length out < length (deepestWords h) = rw (deepest-words h) l in record {
               measured = record {
@@ -91,7 +91,7 @@ module _ (w : List ℕ) (h : ℕ) (out : List ℕ) where
             }
 
         -- and else the list is in front
-        pub deepest-done : {out′ : List ℕ} (n : ℕ) → n ≡ least h → 2 * least h ≤ length out → out′ ≡ intoFront (deepestWords h) out → WritesDeepest w h out (Written.Front (2 * n)) out′
+        pub deepest-done : {out′ : List ℕ} (n : ℕ) → n ≡ least h → 2 * least h ≤ length out → out′ ≡ intoFront (deepestWords h) out → WritesMeasured w (deepest h) out (Written.Front (2 * n)) out′
         deepest-done n is l e =
             let room : length (deepestWords h) ≤ length out = list-fits h out l in record {
               measured = record {

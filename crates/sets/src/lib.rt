@@ -9,4 +9,5 @@ pub mod join;
 pub mod make;
 pub mod mend;
 pub mod runs;
+pub mod why;
 pub mod write;

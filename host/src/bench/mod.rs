@@ -15,6 +15,7 @@ mod plot;
 mod public;
 #[cfg(target_arch = "x86_64")]
 mod stack;
+mod why;
 mod work;
 
 use lists::Lists;
@@ -79,6 +80,18 @@ pub fn run_grid() {
     println!("load {} after", load());
 }
 
+fn tell_why(progress: &Progress) {
+    println!("## Why lists stop\n");
+    why::tell(progress);
+}
+
+/// Measures why lists are refused alone, and prints Markdown.
+pub fn run_why() {
+    println!("load {} before\n", load());
+    tell_why(&Progress::begin());
+    println!("load {} after", load());
+}
+
 fn tell_heights(progress: &Progress) {
     println!("## Lists for heights\n");
     heights::tell(progress);
@@ -118,6 +131,7 @@ pub fn run(plot: &str) {
     tell_editions(&progress);
     tell_mending(&progress);
     tell_grid(&progress);
+    tell_why(&progress);
     tell_heights(&progress);
     let by_words = bytes::by_words(&bytes);
     let panels = [

@@ -287,6 +287,11 @@ fn measure_on(painted: &mut Painted, words: &[u64], runs: &[Run], worlds: usize,
     on_stack!(painted, vizturel_build(s, n, 0, list.as_ptr(), list.len()));
     let mut heights = vec![0; 2 * CAPACITY];
     on_stack!(painted, vizturel_deepest(p, n, HEIGHT, heights.as_mut_ptr(), heights.len()));
+    // A list that is refused with its last range, in more than one part; of the pool only the length is asked, so some of its words will do.
+    let spawns: Vec<u64> = mixed[..1_300].iter().flat_map(|&[start, end]| [1, start, 1, end]).collect();
+    let mut places = vec![0; 1_300];
+    let (from, to) = (spawns.as_ptr(), places.as_mut_ptr());
+    on_stack!(painted, vizturel_why_full(p, crate::words(1_299), from, spawns.len(), to, places.len()));
     let limits = [LIMIT; WORLDS];
     on_stack!(painted, vizturel_new(s, n, limits.as_flattened().as_ptr(), 2 * worlds));
     let mut map = vec![0; WINDOW as usize / 8];

@@ -6,7 +6,8 @@ fn main() -> ExitCode {
     match std::env::args().nth(1).as_deref() {
         None => {
             eprintln!(
-                "usage: bench PLOT.svg, or one part alone: bench gaps, bench maps, bench editions, bench mending, bench grid, bench heights"
+                "usage: bench PLOT.svg, or one part alone: bench gaps, bench maps, bench editions, bench mending, bench grid, bench why, \
+                 bench heights"
             );
             return ExitCode::from(2);
         }
@@ -14,6 +15,7 @@ fn main() -> ExitCode {
         Some("editions") => vizturel::bench::run_editions(),
         Some("mending") => vizturel::bench::run_mending(),
         Some("grid") => vizturel::bench::run_grid(),
+        Some("why") => vizturel::bench::run_why(),
         Some("heights") => vizturel::bench::run_heights(),
         #[cfg(feature = "bench_store")]
         Some("gaps") => vizturel::bench::run_gaps(),

@@ -26,6 +26,8 @@ const SLICE: usize = 5 + 16 * CAPACITY;
 const REPORT: usize = 2 * CAPACITY;
 /// The most words of a lent slice: those of the runs of a full store, or of 25 pieces of a survey and three more.
 const ROOM: usize = 2 * CAPACITY;
+/// The most bounds of a list of ranges: those of 32.
+const BOUNDS: usize = 64;
 /// The most bytes of a map.
 const MAP: usize = 1024;
 /// The most calls of a frame, and answers that there is room for.
@@ -51,6 +53,7 @@ fn fits(call: &Call) -> bool {
         Call::Mend { bytes, rooms: [room, report], .. } => bytes.len() <= SLICE && *room <= SLICE && *report <= REPORT,
         Call::Write { room, .. } | Call::WriteMap { room, .. } => *room <= SLICE,
         Call::Deepest { room, .. } | Call::Survey { room, .. } => *room <= ROOM,
+        Call::WhyFull { ranges, room, .. } => ranges.len() % 2 == 0 && ranges.len() <= 2 * BOUNDS && *room <= ROOM,
         Call::Frame { calls, room, .. } => {
             [calls.len(), *room].iter().all(|n| n % records::WORDS == 0 && n / records::WORDS <= CALLS)
         }

@@ -87,6 +87,10 @@ pub fn read<'a>(lines: &mut impl Iterator<Item = &'a str>) -> Option<Call> {
         "spoil" => Call::Poke { at: w.number()?, word: SPARE, value: 1 },
         "new" => Call::New { to: w.number()?, limits: w.pairs()?.into_flattened() },
         "deepest" => Call::Deepest { at: w.number()?, height: w.number()?, room: w.number()? },
+        "why_full" => {
+            let (at, room) = (w.number()?, w.number()?);
+            Call::WhyFull { at, ranges: w.pairs()?.into_flattened(), room }
+        }
         "frame" => {
             let (at, count, room): (usize, usize, usize) = (w.number()?, w.number()?, w.number()?);
             let asked: Vec<Record> =
@@ -215,6 +219,7 @@ pub fn write(call: &Call) -> String {
         Call::Build { to, ref runs } => format!("build {to} {}", pairs(runs)),
         Call::Convert { ref bytes, room } => format!("convert {} {room}", digits(bytes)),
         Call::Deepest { at, height, room } => format!("deepest {at} {height} {room}"),
+        Call::WhyFull { at, ref ranges, room } => format!("why_full {at} {room} {}", pairs(ranges.as_chunks().0)),
         Call::Write { at, edition, room } => format!("write_set {at} {edition} {room}"),
         Call::ReadMap { at, base, n, ref map } => format!("read_map {at} {base} {n} {}", digits(map)),
         Call::ClearMap { base, n, ref map } => format!("clear_map {base} {n} {}", digits(map)),

@@ -201,6 +201,13 @@ pub enum Call {
         height: u64,
         room: usize,
     },
+    /// About no world: the words of a list of ranges, four for each, of which a last one may have fewer, and how many words there are for the
+    /// places.
+    WhyFull {
+        at: usize,
+        ranges: Vec<u64>,
+        room: usize,
+    },
     /// The edition by its number, as C names it, which may be any.
     Write {
         at: Place,

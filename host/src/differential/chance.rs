@@ -45,12 +45,13 @@ pub enum Kind {
     ClearMap,
     Convert,
     Deepest,
+    WhyFull,
     Write,
     WriteMap,
 }
 
 /// Every kind but [`Kind::Empty`], which is a build.
-pub const KINDS: [Kind; 32] = [
+pub const KINDS: [Kind; 33] = [
     Kind::Get,
     Kind::RunAt,
     Kind::Find,
@@ -69,6 +70,7 @@ pub const KINDS: [Kind; 32] = [
     Kind::ClearMap,
     Kind::Convert,
     Kind::Deepest,
+    Kind::WhyFull,
     Kind::Combine,
     Kind::Not,
     Kind::Shifted,
@@ -284,6 +286,59 @@ pub fn deepest(random: &mut Random, store: &Store, at: usize) -> Call {
     Call::Deepest { at, height, room }
 }
 
+/// The four words of a range with these ends. A bound may exclude the position beside it, or, at the ends of all positions, be none, of any
+/// kind but 1 and 2 and with any value. Where the end is one below the start the range is empty, and further below reversed.
+pub fn spelled(random: &mut Random, [start, end]: Run) -> [u64; 4] {
+    let none = [random.one_of(&[0, 0, 3, 1 << 32 | 1, HALF + 2, u64::MAX]), random.number()];
+    let lower = match random.below(3) {
+        0 if start > 0 => [2, start - 1],
+        0 => none,
+        _ => [1, start],
+    };
+    let upper = match random.below(3) {
+        0 if end < u64::MAX => [2, end + 1],
+        0 => none,
+        _ => [1, end],
+    };
+    [lower[0], lower[1], upper[0], upper[1]]
+}
+
+/// Ranges of a list, up to so many: most of them short, in as narrow a place that they come to have about as many runs as the capacity; some
+/// that join many, some that were there before, and some that hold nothing.
+pub fn spawns(random: &mut Random, capacity: u64, most: u64) -> Vec<Run> {
+    let width = 4 + 3 * capacity + random.below(9 * capacity);
+    let from = random.one_of(&[0, HALF - width / 2, u64::MAX - width - 2]);
+    let count =
+        if random.once_in(4) { random.below(capacity + 2) } else { capacity + 1 + random.below(2 * capacity + 3) };
+    let mut list: Vec<Run> = Vec::new();
+    for _ in 0..count.min(most) {
+        let x = from + random.below(width);
+        list.push(match random.below(16) {
+            0 if random.once_in(1 + capacity / 4) => [x, x + random.below(from + width - x)],
+            1 => [x + 1 + random.below(2), x],
+            2 if !list.is_empty() => random.one_of(&list),
+            _ => [x, x + random.below(2)],
+        });
+    }
+    list
+}
+
+/// Asks why a list of up to 30 ranges is refused, with room for all places, for one less, or for more; now and then with words after the last
+/// range.
+pub fn why_full(random: &mut Random, store: &Store, at: usize) -> Call {
+    let capacity = store.capacity().unwrap_or(1);
+    let list = spawns(random, capacity.min(30) as u64, 30);
+    let mut ranges: Vec<u64> = list.into_iter().flat_map(|run| spelled(random, run)).collect();
+    if random.once_in(4) {
+        let more = random.below(4);
+        ranges.extend((0..more).map(|_| random.below(3)));
+    }
+    // No more than a list that is refused can have.
+    let due = capacity.min(30) + 1;
+    let room = if random.once_in(4) { due - 1 } else { slice_room(random, due) };
+    Call::WhyFull { at, ranges, room }
+}
+
 // A cell: at a corner or an edge of the plane, at a run's end or beside it, or anywhere.
 fn cell(random: &mut Random, runs: &[Run]) -> [u64; 2] {
     let last = SIDE - 1;
@@ -497,6 +552,7 @@ pub fn call(random: &mut Random, stores: &[Store], kind: Kind, at: Place) -> Cal
             Call::Convert { room: slice_room(random, bytes.len()), bytes }
         }
         Kind::Deepest => deepest(random, &stores[at.store], at.store),
+        Kind::WhyFull => why_full(random, &stores[at.store], at.store),
         Kind::Build => Call::Build { to: at, runs: run_list(random, beside) },
         Kind::ReadMap => {
             let n = window(random);
@@ -738,6 +794,8 @@ impl Wander {
 #[cfg(test)]
 mod tests {
     use super::*;
+    use crate::Refusal;
+    use crate::differential::calls::Told;
 
     #[test]
     fn pools_have_any_number_of_worlds() {
@@ -749,6 +807,36 @@ mod tests {
         assert_eq!(seen.iter().position(|&n| n > 0), Some(1));
         assert!(seen[1..=WORLDS].iter().all(|&n| n > 0), "{seen:?}");
         assert_eq!(seen[WORLDS + 1], 0);
+    }
+
+    #[test]
+    fn lists_are_refused_and_not() {
+        let mut random = Random::new(1);
+        let mut seen = [0; 3];
+        for turn in 0..3000 {
+            let store = Store::of(&crate::room(1 + turn % 12));
+            let call = why_full(&mut random, &store, 0);
+            seen[match (Expected { stores: vec![store] }).answer(&call) {
+                Told::Words(..) => 0,
+                Told::Refused(Refusal::NotRefused) => 1,
+                Told::Refused(Refusal::OutputShort) => 2,
+                told => panic!("{call:?} tells {told:?}"),
+            }] += 1;
+        }
+        assert!(seen.iter().all(|&n| n > 300), "{seen:?}");
+    }
+
+    // Each way of writing a range down has the same positions, or none.
+    #[test]
+    fn spelled_ranges_have_their_ends() {
+        let mut random = Random::new(1);
+        for turn in 0..2000_u64 {
+            let x = random.one_of(&[0, 1, 7, HALF, u64::MAX - 2]);
+            let run = [[x, x], [x, x + 2], [0, x], [x, u64::MAX], [x + 1, x], [x + 2, x]][turn as usize % 6];
+            let ranges = records::ranges_of(&spelled(&mut random, run));
+            let due = (run[0] <= run[1]).then_some(run);
+            assert_eq!(ranges.into_iter().map(ends_of).collect::<Vec<_>>(), [due], "{run:?}");
+        }
     }
 
     #[test]

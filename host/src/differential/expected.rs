@@ -168,6 +168,27 @@ fn slice(room: usize, due: Vec<u8>) -> Answer<Told> {
     front(room, due, STALE).map(|(filled, all)| Told::Slice(filled, all))
 }
 
+// Sets ranges one by one until there are more runs than the capacity: the places of the ranges that are the first in a run then, rising. None
+// where there never are so many.
+fn why_full(capacity: usize, list: &[Range]) -> Option<Vec<u64>> {
+    let mut set = IntervalBitSet::new();
+    let refused = list.iter().position(|&range| {
+        set.set(bounds(range), true);
+        set.count_ranges(.., true) > capacity
+    })?;
+    // Every range that has a position lies in one of the runs: that in which its first position is.
+    let runs = runs_of(&set);
+    let mut first = vec![None; runs.len()];
+    for (place, &range) in (0..).zip(&list[..=refused]) {
+        if let Some([start, _]) = ends_of(range) {
+            first[runs.partition_point(|&[_, end]| end < start)].get_or_insert(place);
+        }
+    }
+    let mut places: Vec<u64> = first.into_iter().map(|place| place.expect("each run is of some range")).collect();
+    places.sort_unstable();
+    Some(places)
+}
+
 // The rows of a rectangle of the plane, each a range of positions.
 fn rows(rect: Rect) -> impl Iterator<Item = RangeInclusive<usize>> {
     (rect.top..=rect.bottom).map(move |row| (row * SIDE + rect.left) as usize..=(row * SIDE + rect.right) as usize)
@@ -230,7 +251,7 @@ impl Expected {
         self.result(&call)
     }
 
-    // The oracle refuses nothing: the order of refusals is 1, 11, 7, 12, 13, 9, 14, 15, 6, 10, 3, 4, 3, 5, 8, 2.
+    // The oracle refuses nothing: the order of refusals is 1, 11, 7, 12, 13, 16, 9, 14, 15, 6, 10, 3, 4, 3, 5, 8, 2.
     fn result(&mut self, call: &Call) -> Answer<Told> {
         match *call {
             Call::Lend { at, ref words } => {
@@ -433,6 +454,12 @@ impl Expected {
                     return Err(Refusal::Capacity);
                 }
                 let due = reference::deepest(height as u32).into_flattened();
+                front(room, due, STALE_WORD).map(|(filled, all)| Told::Words(filled, all))
+            }
+            // The store is only measured here, too.
+            Call::WhyFull { at, ref ranges, room } => {
+                let capacity = self.stores[at].capacity()?;
+                let due = why_full(capacity, &records::ranges_of(ranges)).ok_or(Refusal::NotRefused)?;
                 front(room, due, STALE_WORD).map(|(filled, all)| Told::Words(filled, all))
             }
             // The oracle's ranges, encoded apart from the library.

@@ -166,6 +166,15 @@ impl Library {
                 let filled = crate::number(told).map(|words| words as usize);
                 written(filled, out, STALE_WORD, Told::Words)
             }
+            Call::WhyFull { at, ref ranges, room } => {
+                let mut out = vec![STALE_WORD; room];
+                let w = &self.stores[at];
+                let (from, to) = (ranges.as_ptr(), out.as_mut_ptr());
+                // SAFETY: as of every call in the crate's root. By words, so that a part of a range and any kind of bound can be handed in.
+                let told = unsafe { raw::vizturel_why_full(w.as_ptr(), w.len(), from, ranges.len(), to, room) };
+                let filled = crate::number(told).map(|words| words as usize);
+                written(filled, out, STALE_WORD, Told::Words)
+            }
             Call::Write { at, edition, room } => {
                 let mut out = vec![STALE; room];
                 let w = &self.stores[at.store];

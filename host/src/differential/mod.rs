@@ -89,13 +89,13 @@ pub struct Score {
     /// How many of them were calls on maps: each is one call here, though the library makes it in both forms.
     pub mapped: u64,
     /// How many of them were refused, by number; those that were not stand at 0.
-    pub refused: [u64; 16],
+    pub refused: [u64; 17],
 }
 
 impl Score {
     fn new(progress: bool) -> Score {
         let now = Instant::now();
-        Score { part: "", progress, began: now, told: now, compared: 0, listed: 0, mapped: 0, refused: [0; 16] }
+        Score { part: "", progress, began: now, told: now, compared: 0, listed: 0, mapped: 0, refused: [0; 17] }
     }
 
     fn begin(&mut self, part: &'static str) {
@@ -241,6 +241,7 @@ pub fn run(options: Options) -> Result<Score, Difference> {
     parts::damaged_bytes(&mut score, options)?;
     parts::mendings(&mut score, options)?;
     parts::heights(&mut score, options)?;
+    parts::stopped(&mut score, options)?;
     parts::windows(&mut score, options)?;
     parts::gaps(&mut score, options)?;
     parts::grids(&mut score, options)?;

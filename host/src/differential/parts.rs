@@ -531,6 +531,9 @@ pub fn wrong_lengths(score: &mut Score, options: Options) -> Outcome {
             Call::Deepest { at: 0, height: 3, room: 0 },
             Call::Deepest { at: 0, height: 2, room: 3 },
             Call::Deepest { at: 0, height: 2, room: 5 },
+            Call::WhyFull { at: 0, ranges: vec![], room: 0 },
+            Call::WhyFull { at: 0, ranges: words_of(&singles(3)), room: 2 },
+            Call::WhyFull { at: 0, ranges: words_of(&singles(3)), room: 4 },
             Call::Write { at, edition: 1, room: 0 },
             Call::Write { at, edition: 2, room: 0 },
             Call::WriteMap { at, base: M, n: 2, room: 0 },
@@ -734,6 +737,131 @@ fn every_height(score: &mut Score, s: &mut Sequence, capacity: usize, about: u64
         }
     }
     Ok(())
+}
+
+// The words of ranges that include their ends.
+fn words_of(runs: &[Run]) -> Vec<u64> {
+    runs.iter().flat_map(|&[start, end]| [1, start, 1, end]).collect()
+}
+
+// Asks why a list is refused at a capacity, with room for all places, for one less, for none, and for some more; once with words after the last
+// range.
+fn why_closely(score: &mut Score, s: &mut Sequence, capacity: usize, ranges: &[u64], more: usize) -> Outcome {
+    for room in [capacity, capacity + 1, capacity + 2, 0, capacity + 6] {
+        s.call(score, Call::WhyFull { at: 0, ranges: ranges.to_vec(), room })?;
+    }
+    let ranges = [ranges, &[1, 7, 1][..more]].concat();
+    s.call(score, Call::WhyFull { at: 0, ranges, room: capacity + 1 })
+}
+
+/// Lists of ranges that are refused, and others: every list of up to four of some ranges at both ends of the positions, with bounds of every
+/// kind, at capacities 1 to 3; lists by chance; lists of as many ranges as the library takes at once, and twice and thrice as many; in pools
+/// that are sound and others, and in words of a wrong length.
+pub fn stopped(score: &mut Score, options: Options) -> Outcome {
+    score.begin("lists that stop, up to four ranges");
+    let mut random = Random::new(options.seed ^ 0x50);
+    // Single positions, neighbours, ranges that join others, all positions, one that is empty and one that is reversed.
+    let some: [Run; 14] = [
+        [0, 0],
+        [1, 1],
+        [2, 2],
+        [0, 1],
+        [2, 4],
+        [4, 4],
+        [M - 2, M - 2],
+        [M - 1, M],
+        [M, M],
+        [M - 2, M - 1],
+        [1, M - 1],
+        [0, M],
+        [3, 2],
+        [M, 4],
+    ];
+    let mut pools = [1, 2, 3].map(|capacity| Sequence::alone(&[capacity]));
+    let mut turn = 0;
+    for count in 0..=4 {
+        for code in 0..some.len().pow(count) {
+            for (pool, capacity) in pools.iter_mut().zip(1..) {
+                turn += 1;
+                if turn % options.stride != 0 {
+                    continue;
+                }
+                let list = (0..count).map(|i| some[code / some.len().pow(i) % some.len()]);
+                let ranges: Vec<u64> = list.flat_map(|run| chance::spelled(&mut random, run)).collect();
+                // Over the turns every length has its turn, and some lists have them all.
+                if turn % 16 == 0 {
+                    why_closely(score, pool, capacity, &ranges, turn as usize / 16 % 4)?;
+                }
+                let room = capacity + [0, 1, 1, 2][turn as usize % 4];
+                pool.call(score, Call::WhyFull { at: 0, ranges, room })?;
+            }
+        }
+    }
+    score.begin("lists that stop, by chance");
+    for turn in 0..6_000 / options.stride {
+        let capacity = [1, 2, 3, 4, 7, 16, 33, 64, 120][turn as usize % 9];
+        let mut s = Sequence::alone(&[capacity]);
+        let list = chance::spawns(&mut random, capacity as u64, M);
+        let ranges: Vec<u64> = list.into_iter().flat_map(|run| chance::spelled(&mut random, run)).collect();
+        why_closely(score, &mut s, capacity, &ranges, turn as usize / 9 % 4)?;
+    }
+    for turn in 0..6 {
+        let capacity = [200, 500, 1000][turn % 3];
+        let mut s = Sequence::alone(&[capacity]);
+        let list = chance::spawns(&mut random, capacity as u64, M);
+        why_closely(score, &mut s, capacity, &words_of(&list), turn % 4)?;
+    }
+    score.begin("lists that stop, of many ranges");
+    for runs in [BLOCK - 1, BLOCK, BLOCK + 1, 2 * BLOCK, 2 * BLOCK + 1, 3 * BLOCK + 2] {
+        for list in many_ranges(&mut random, runs) {
+            // One run less than there are at the last call, as many, and one more.
+            for capacity in [runs - 2, runs - 1, runs] {
+                let mut s = Sequence::alone(&[capacity as usize]);
+                why_closely(score, &mut s, capacity as usize, &words_of(&list), 1)?;
+            }
+        }
+    }
+    score.begin("lists that stop, in words of any kind");
+    for capacity in [1, 2, 3, 9, 40] {
+        let list: Vec<Run> = (0..=capacity as u64).rev().map(|i| [3 * i, 3 * i + 1]).collect();
+        for ranges in [words_of(&list), words_of(&list[1..])] {
+            let mut s = Sequence::new(vec![chance::plan(&mut random, capacity)]);
+            grow(score, &mut s, &mut random, 0, 4)?;
+            why_closely(score, &mut s, capacity, &ranges, 3)?;
+            s.call(score, Call::Poke { at: 0, word: SPARE, value: 1 })?;
+            why_closely(score, &mut s, capacity, &ranges, 2)?;
+            let length = 8 * (capacity + 49);
+            for words in [vec![0; length], vec![M; length], (0..length).map(|_| random.number()).collect()] {
+                s.call(score, Call::Lend { at: 0, words })?;
+                why_closely(score, &mut s, capacity, &ranges, 1)?;
+            }
+            for length in [0, 8 * 49, length - 8, length - 1, length + 1, length + 7, length + 8, 8 * (65_536 + 50)] {
+                s.call(score, Call::Lend { at: 0, words: vec![0; length] })?;
+                why_closely(score, &mut s, capacity, &ranges, 1)?;
+            }
+        }
+    }
+    Ok(())
+}
+
+// Lists of which the union comes to have so many runs with the last range: rising, falling, in any order, each range once more and more than
+// once, with ranges that hold nothing, and such that the runs go up and down by one all the while.
+fn many_ranges(random: &mut Random, runs: u64) -> Vec<Vec<Run>> {
+    let rising: Vec<Run> = (0..runs).map(|i| [4 * i, 4 * i + random.below(3)]).collect();
+    let falling = rising.iter().rev().copied().collect();
+    let mut mixed = rising.clone();
+    random.shuffle(&mut mixed);
+    let mut again: Vec<Run> = rising[..rising.len() - 1].iter().flat_map(|&run| [run, [run[1], run[0]], run]).collect();
+    random.shuffle(&mut again);
+    again.push([M, M]);
+    // Two runs less than that, then turn by turn a run more and a range that joins it to the one before it.
+    let mut hovering: Vec<Run> = rising[..rising.len() - 3].to_vec();
+    for i in 0..200 {
+        let x = 4 * runs + 4 * i;
+        hovering.extend([[x, x], [x - 4, x]]);
+    }
+    hovering.extend([[M - 2, M - 2], [M, M]]);
+    vec![rising, falling, mixed, again, hovering]
 }
 
 // Reads a map, clears it and, where a spare bit was one, reads what that leaves.
@@ -1019,6 +1147,13 @@ pub fn large(score: &mut Score, options: Options) -> Outcome {
         s.call(score, Call::Mend { to: second, bytes: reference::encode(edition, &many), rooms })?;
         s.call(score, Call::Equal { a: HERE, b: second })?;
         many.push([M, M]);
+    }
+    // As many ranges as fit, the first of them in any order, and then one more.
+    let mut list = runs.clone();
+    random.shuffle(&mut list[..8192]);
+    for _ in 0..2 {
+        s.call(score, Call::WhyFull { at: 0, ranges: words_of(&list), room: LARGEST as usize + 2 })?;
+        list.push([M, M]);
     }
     s.call(score, Call::Not { to: second, a: HERE })?;
     s.call(score, Call::Set { at: HERE, range: (Bound::Included(M - 3), Bound::Included(M - 3)), value: true })?;

@@ -1,9 +1,9 @@
-//! Records of calls and of answers, by the rules of `docs/CALLS.md` and apart from the library: what eight words mean, whatever they
-//! are, and which eight words tell an answer.
+//! Records of calls, of answers and of ranges, by the rules of `docs/CALLS.md` and apart from the library: what eight words mean, whatever they
+//! are, and which eight words tell an answer; what four words of a list of ranges mean.
 
 use std::ops::Bound;
 
-use super::calls::{Call, Place, Told};
+use super::calls::{Call, Place, Range, Told};
 use crate::{Listing, Rect, Tally};
 
 /// How many words a record has.
@@ -65,10 +65,22 @@ fn words(b: Bound<u64>) -> [u64; 2] {
     }
 }
 
+/// The ranges of a list, four words each. What comes after the last whole one is none.
+pub fn ranges_of(list: &[u64]) -> Vec<Range> {
+    let range = |&[lower, from, upper, upto]: &[u64; 4]| (bound(lower, from), bound(upper, upto));
+    list.as_chunks().0.iter().map(range).collect()
+}
+
+/// The four words of a range.
+pub fn words_of(range: Range) -> [u64; 4] {
+    let ([lower, from], [upper, upto]) = (words(range.0), words(range.1));
+    [lower, from, upper, upto]
+}
+
 /// A record that means the call, or none where no record does: a world is emptied, as by a build of no runs, and no pool made.
 pub fn record_of(call: &Call) -> Option<Record> {
     let over = |number, at: Place, range: (Bound<u64>, Bound<u64>), value: bool, k| {
-        let ([lower, from], [upper, upto]) = (words(range.0), words(range.1));
+        let [lower, from, upper, upto] = words_of(range);
         [number, lower, from, upper, upto, value.into(), k, at.world]
     };
     let plain = |number, at: Place, from, upto, value: bool| [number, 0, from, 0, upto, value.into(), 0, at.world];

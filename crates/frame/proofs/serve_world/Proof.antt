@@ -8,7 +8,8 @@ use Rattle.model.specs.Call.{Call, Answer}
 use Rattle.promises.specs.Met.{Site, Met}
 use Rattle.frame.specs.declared.entry.Kind.{Kind}
 use Rattle.flat.specs.declared.Reply.{Reply}
-use Rattle.flat.specs.Flat.{truth, replyOf, boundBy}
+use Rattle.model.specs.Range.{boundBy}
+use Rattle.flat.specs.Flat.{truth, replyOf}
 use Rattle.frame.specs.Records.{callBy}
 use Rattle.frame.specs.Serving.{ServesAt}
 use Rattle.frame.proofs.Arms.{serves, ranged, of-cells}

@@ -15,6 +15,7 @@ mod long;
 mod mended;
 mod refusals;
 mod shifts;
+mod why_full;
 mod worlds;
 
 use super::List;
@@ -33,6 +34,7 @@ pub fn all() -> Vec<List> {
         editions::list(),
         mended::list(),
         deepest::list(),
+        why_full::list(),
         capacity::list(),
         frames::list(),
         gaps::list(),

@@ -193,6 +193,26 @@ pub fn list() -> List {
         deepest 3 1 0
         deepest 3 2 3
         write_set 3/0 1 37
+        # 16, after 1 and before 2, whether the pool is sound or not
+        words 3 0
+        why_full 3 0 0
+        why_full 3 8 4 1 2 1 2 1 4 1 4
+        words 3 1
+        why_full 3 0 0
+        why_full 3 8 2 1 4 1 4
+        why_full 3 0 6 1 4 1 4 1 5 1 5 1 9 1 8
+        why_full 3 0 4 1 2 1 2 1 4 1 4
+        why_full 3 1 4 1 2 1 2 1 4 1 4
+        why_full 3 2 4 1 2 1 2 1 4 1 4
+        new 3 1 0 3
+        build 3/0 1 2 7
+        why_full 3 0 2 1 20 1 20
+        why_full 3 1 4 1 2 1 2 1 4 1 4
+        why_full 3 3 4 1 2 1 2 1 4 1 4
+        spoil 3
+        why_full 3 0 2 1 20 1 20
+        why_full 3 1 4 1 2 1 2 1 4 1 4
+        why_full 3 3 4 1 2 1 2 1 4 1 4
         # 9
         words 1 1
         new 1 1 0 1

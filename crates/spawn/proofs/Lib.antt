@@ -1,0 +1,11 @@
+pub mod Adding
+pub mod Refusing
+pub mod Leaping
+pub mod Climbing
+pub mod Ranges
+pub mod Leading
+pub mod Sublists
+pub mod Ordering
+pub mod Handing
+pub mod Calls
+pub mod Answering
