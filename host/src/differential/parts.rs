@@ -812,7 +812,8 @@ pub fn stopped(score: &mut Score, options: Options) -> Outcome {
         why_closely(score, &mut s, capacity, &words_of(&list), turn % 4)?;
     }
     score.begin("lists that stop, of many ranges");
-    for runs in [BLOCK - 1, BLOCK, BLOCK + 1, 2 * BLOCK, 2 * BLOCK + 1, 3 * BLOCK + 2] {
+    let sizes = [BLOCK, BLOCK + 1, BLOCK - 1, 2 * BLOCK, 2 * BLOCK + 1, 3 * BLOCK + 2];
+    for runs in sizes.into_iter().take(if options.stride > 1 { 2 } else { sizes.len() }) {
         for list in many_ranges(&mut random, runs) {
             // One run less than there are at the last call, as many, and one more.
             for capacity in [runs - 2, runs - 1, runs] {
