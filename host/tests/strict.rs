@@ -1,5 +1,8 @@
 //! Strict set, flip and tally through the safe calls: which ranges they refuse, and that they do else what the other calls do.
 
+// Reversed ranges are what is tried here.
+#![allow(clippy::reversed_empty_ranges)]
+
 use std::ops::Bound::{self, Excluded, Included, Unbounded};
 
 use vizturel::frame::{Call, Reply};
