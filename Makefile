@@ -34,7 +34,7 @@ prove:
 # Crate by crate, so that it can say which one is being proved. The archive is written only if everything in it is proved.
 $(ARCHIVE): crates.txt $(shell find crates -name '*.rt' -o -name '*.antt')
 	@mkdir -p target/lib
-	@echo "proving the library: about 8 minutes from nothing, up to a minute where its crates have been proved"
+	@echo "proving the library: about 15 minutes from nothing, up to a minute where its crates have been proved"
 	@at=0; began=$$(date +%s); \
 	for crate in $(PARTS) exports; do \
 	    at=$$((at + 1)); from=$$(date +%s); \
