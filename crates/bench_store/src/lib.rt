@@ -1,5 +1,7 @@
 // What the benchmarks call. bench/soundness.rs: making a pool of one world, growing it by random sets, and deciding its soundness.
 // host/src/bench/gaps.rs: searching for gaps many times after one soundness check. No part of the library; nothing depends on it.
+#![tactic(auto)]
+
 ghost use Rattle.std.specs.Prelude.{◌≡◌, ◌≤◌, length};
 ghost use Rattle.store.specs.Soundness.{Sound};
 

@@ -2,6 +2,8 @@
 // for the set of case 15 in edition 2.
 // A run is its start and end with two dots between, both in it. The pools have capacity 13, or 1 where the case says so, and one world, 0,
 // with floor 0 and the capacity as its ceiling.
+#![tactic(auto)]
+
 ghost use Rattle.std.specs.Prelude.{◌<◌, length};
 
 use interval_bit_set::{bytes, change, join, make, report, write};

@@ -80,7 +80,7 @@ fn reaches(end: Physical, x: Physical) -> bool
 }
 
 // How far a run reaches that took others in, and the links after these went.
-#[derive(Drop)]
+#[derive(Clone, Copy)]
 pub struct Reach {
     pub links: Links,
     pub end: Physical,

@@ -13,7 +13,7 @@ use store::places::Physical;
 use store::{Links, World};
 
 // A change that a limit may forbid: too many runs, or the world then and how many positions changed.
-#[derive(Drop)]
+#[derive(Clone, Copy)]
 pub enum Edit {
     Full,
     Changed(World, Count),
@@ -159,7 +159,7 @@ pub fn set(words: &mut [u64], h: World, limit: u64, a: Logical, b: Logical, valu
 }
 
 // A change that counts nothing: too many runs, or the world then.
-#[derive(Drop)]
+#[derive(Clone, Copy)]
 pub enum Fit {
     Full,
     Done(World),

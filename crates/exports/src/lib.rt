@@ -1,5 +1,7 @@
 // The library as C sees it: every public call, on numbers, slices (a pointer and a count) and structs of numbers. include/vizturel.h
 // documents them one by one.
+#![tactic(auto)]
+
 ghost use Rattle.std.specs.Prelude.{◌/◌, length};
 ghost use Rattle.written.specs.Listed.{pairs};
 ghost use Rattle.model.specs.Call.{Call, Measure};

@@ -8,7 +8,7 @@ use model::{Bound, Rect};
 
 // One end of a range: kind 1 includes the value, 2 excludes it, and any other has no bound.
 #[repr(C)]
-#[derive(Drop)]
+#[derive(Clone, Copy)]
 pub struct CBound {
     pub kind: u64,
     pub value: u64,
@@ -16,7 +16,7 @@ pub struct CBound {
 
 // A rectangle of cells: rows from top to bottom, columns from left to right.
 #[repr(C)]
-#[derive(Drop)]
+#[derive(Clone, Copy)]
 pub struct CRect {
     pub top: u64,
     pub left: u64,
@@ -26,7 +26,7 @@ pub struct CRect {
 
 // How many positions changed: carry times 2^64, and low.
 #[repr(C)]
-#[derive(Drop)]
+#[derive(Clone, Copy)]
 pub struct CCounted {
     pub refusal: u64,
     pub carry: u64,
@@ -35,7 +35,7 @@ pub struct CCounted {
 
 // A number of thousandths, of bits, or of cells.
 #[repr(C)]
-#[derive(Drop)]
+#[derive(Clone, Copy)]
 pub struct CNumbered {
     pub refusal: u64,
     pub number: u64,
@@ -43,7 +43,7 @@ pub struct CNumbered {
 
 // How many positions, carry times 2^64, and low; and in how many runs.
 #[repr(C)]
-#[derive(Drop)]
+#[derive(Clone, Copy)]
 pub struct CTallied {
     pub refusal: u64,
     pub carry: u64,
@@ -53,7 +53,7 @@ pub struct CTallied {
 
 // A value: 1 for held or equal, 0 for not.
 #[repr(C)]
-#[derive(Drop)]
+#[derive(Clone, Copy)]
 pub struct CTested {
     pub refusal: u64,
     pub value: u64,
@@ -61,7 +61,7 @@ pub struct CTested {
 
 // A run.
 #[repr(C)]
-#[derive(Drop)]
+#[derive(Clone, Copy)]
 pub struct CAround {
     pub refusal: u64,
     pub start: u64,
@@ -70,7 +70,7 @@ pub struct CAround {
 
 // A position, where found is 1.
 #[repr(C)]
-#[derive(Drop)]
+#[derive(Clone, Copy)]
 pub struct CFound {
     pub refusal: u64,
     pub found: u64,
@@ -79,7 +79,7 @@ pub struct CFound {
 
 // What is left of a listing: the runs of the value (1 or 0) from first to last.
 #[repr(C)]
-#[derive(Drop)]
+#[derive(Clone, Copy)]
 pub struct CListed {
     pub refusal: u64,
     pub first: u64,
@@ -89,7 +89,7 @@ pub struct CListed {
 
 // A run drawn, where found is 1, and the ends of the listing after it. They are zeros where the draw was refused: the listing stays.
 #[repr(C)]
-#[derive(Drop)]
+#[derive(Clone, Copy)]
 pub struct CDrawn {
     pub refusal: u64,
     pub found: u64,
@@ -101,7 +101,7 @@ pub struct CDrawn {
 
 // How many bytes were written.
 #[repr(C)]
-#[derive(Drop)]
+#[derive(Clone, Copy)]
 pub struct CWritten {
     pub refusal: u64,
     pub bytes: u64,
@@ -109,7 +109,7 @@ pub struct CWritten {
 
 // How many words were written.
 #[repr(C)]
-#[derive(Drop)]
+#[derive(Clone, Copy)]
 pub struct CWorded {
     pub refusal: u64,
     pub words: u64,
@@ -117,7 +117,7 @@ pub struct CWorded {
 
 // How many bytes of a mended set were written, and how many of its report.
 #[repr(C)]
-#[derive(Drop)]
+#[derive(Clone, Copy)]
 pub struct CMended {
     pub refusal: u64,
     pub bytes: u64,

@@ -1,5 +1,7 @@
 // Every answer laid flat, as numbers: once for the records of a frame and for the structs that cross to C. And what the numbers mean that come
 // in: bounds and operations.
+#![tactic(auto)]
+
 ghost use Rattle.std.specs.Prelude.{◌≡◌, List, ℕ};
 ghost use Rattle.model.specs.Answers.{completed_answer, counted_answer, numbered_answer, tallied_answer, tested_answer, around_answer, found_answer, listed_answer, drawn_answer, written_answer, mended_answer};
 ghost use Rattle.model.specs.Range.{bound_by};
@@ -14,7 +16,7 @@ use model::{
 // `number` is a count's low word, a number, a value, a position, a number of bytes, or the start of a run, and `end` its end, or the number of
 // bytes of a second slice; of a tally `found` and `number` are the positions' carry and low word, and `end` is the number of runs; `first`, `last`
 // and `value` are a listing.
-#[derive(Drop)]
+#[derive(Clone, Copy)]
 pub struct Reply {
     pub refusal: u64,
     pub found: u64,

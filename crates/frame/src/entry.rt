@@ -1,10 +1,10 @@
 // What a record of a call means. Every record means a call: a number that names none is a get, a bound of another kind is none, and a truth
 // value is anything but 0. The last word of a record names the world, but that 7 and 9 ask at one that no pool has.
-ghost use Rattle.core.specs.Prelude.{◌≡◌};
+ghost use Rattle.ranges.specs.Prelude.{◌≡◌};
 ghost use Rattle.frame.specs.Records.{kind_of, world_by};
 
 // Which call it is.
-#[derive(Drop)]
+#[derive(Clone, Copy)]
 pub enum Kind {
     Empty,
     Set,
@@ -31,7 +31,7 @@ pub enum Kind {
 // and run_at, the distance of shift, the base of fill and the first position of a listing; `upto` is the length of fill and the last position
 // of a listing; `value` tells a shift to go left; `k` is also how many positions a gap has. Of a rectangle `lower` and `from` are the row and
 // column of its first corner, `upper` and `upto` those of its last.
-#[derive(Drop)]
+#[derive(Clone, Copy)]
 pub struct Entry {
     pub call: u64,
     pub lower: u64,

@@ -1,7 +1,9 @@
 // A frame's calls at once: one look at the pool, then every call of a list on its worlds, in order; refused calls too, each answered by its
 // number.
 // Calls and answers are records of eight words.
-ghost use Rattle.core.specs.Prelude.{◌≡◌, ◌+◌, ◌*◌, ◌≤◌, length};
+#![tactic(auto)]
+
+ghost use Rattle.ranges.specs.Prelude.{◌≡◌, ◌+◌, ◌*◌, ◌≤◌, length};
 ghost use Rattle.model.specs.Answers.{completed_answer};
 ghost use Rattle.written.specs.Placed.{placed};
 ghost use Rattle.store.specs.Soundness.{Sound};
@@ -57,15 +59,15 @@ fn serve_world(words: &mut [u64], e: Entry, world: u64) -> Reply
     let value = e.value != 0;
     let k = entry::named(e.call);
     match k {
-        Kind::Empty => flat::completed(core::change::empty(words, world)),
-        Kind::Set => flat::counted(core::change::set(words, world, lower, upper, value)),
-        Kind::Flip => flat::completed(core::change::flip(words, world, lower, upper)),
-        Kind::Shift => flat::completed(core::change::shift(words, world, e.from, value)),
-        Kind::RunAt => flat::around(core::report::run_at(words, world, e.from)),
-        Kind::Find => flat::found(core::report::find(words, world, lower, upper, value)),
-        Kind::Select => flat::found(core::report::select(words, world, lower, upper, value, e.k)),
-        Kind::Ranges => flat::listed(core::report::ranges(words, world, lower, upper, value)),
-        Kind::DrawFront => flat::drawn(core::listing::draw_front(
+        Kind::Empty => flat::completed(ranges::change::empty(words, world)),
+        Kind::Set => flat::counted(ranges::change::set(words, world, lower, upper, value)),
+        Kind::Flip => flat::completed(ranges::change::flip(words, world, lower, upper)),
+        Kind::Shift => flat::completed(ranges::change::shift(words, world, e.from, value)),
+        Kind::RunAt => flat::around(ranges::report::run_at(words, world, e.from)),
+        Kind::Find => flat::found(ranges::report::find(words, world, lower, upper, value)),
+        Kind::Select => flat::found(ranges::report::select(words, world, lower, upper, value, e.k)),
+        Kind::Ranges => flat::listed(ranges::report::ranges(words, world, lower, upper, value)),
+        Kind::DrawFront => flat::drawn(ranges::listing::draw_front(
             words,
             world,
             Listing {
@@ -74,7 +76,7 @@ fn serve_world(words: &mut [u64], e: Entry, world: u64) -> Reply
                 value: value,
             },
         )),
-        Kind::DrawBack => flat::drawn(core::listing::draw_back(
+        Kind::DrawBack => flat::drawn(ranges::listing::draw_back(
             words,
             world,
             Listing {
@@ -83,19 +85,21 @@ fn serve_world(words: &mut [u64], e: Entry, world: u64) -> Reply
                 value: value,
             },
         )),
-        Kind::Fill => flat::numbered(core::report::fill(words, world, e.from, e.upto)),
-        Kind::Gap => flat::found(core::report::gap(words, world, lower, upper, e.k)),
-        Kind::Tally => flat::tallied(core::report::tally(words, world, lower, upper, value)),
-        Kind::SetStrict => flat::counted(core::change::set_strict(
+        Kind::Fill => flat::numbered(ranges::report::fill(words, world, e.from, e.upto)),
+        Kind::Gap => flat::found(ranges::report::gap(words, world, lower, upper, e.k)),
+        Kind::Tally => flat::tallied(ranges::report::tally(words, world, lower, upper, value)),
+        Kind::SetStrict => flat::counted(ranges::change::set_strict(
             words, world, lower, upper, value,
         )),
-        Kind::FlipStrict => flat::completed(core::change::flip_strict(words, world, lower, upper)),
-        Kind::TallyStrict => flat::tallied(core::report::tally_strict(
+        Kind::FlipStrict => flat::completed(ranges::change::flip_strict(
+            words, world, lower, upper,
+        )),
+        Kind::TallyStrict => flat::tallied(ranges::report::tally_strict(
             words, world, lower, upper, value,
         )),
-        Kind::SetRect => flat::counted(core::cells::set_rect(words, world, rect(e), value)),
-        Kind::CountRect => flat::numbered(core::cells::count_rect(words, world, rect(e))),
-        Kind::Get => flat::tested(core::report::get(words, world, e.from)),
+        Kind::SetRect => flat::counted(ranges::cells::set_rect(words, world, rect(e), value)),
+        Kind::CountRect => flat::numbered(ranges::cells::count_rect(words, world, rect(e))),
+        Kind::Get => flat::tested(ranges::report::get(words, world, e.from)),
     }
 }
 

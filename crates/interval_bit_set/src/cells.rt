@@ -14,7 +14,7 @@ pub fn set_rect(words: &mut [u64], world: u64, q: Rect, value: bool) -> Counted
     let l = crate::look::look_at(words, world);
     match l {
         Look::Refused(r) => Counted::Refused(r),
-        Look::Sound => core::cells::set_rect(words, world, q, value),
+        Look::Sound => ranges::cells::set_rect(words, world, q, value),
     }
 }
 
@@ -25,7 +25,7 @@ pub fn count_rect(words: &[u64], world: u64, q: Rect) -> Numbered
     let l = crate::look::look_at(words, world);
     match l {
         Look::Refused(r) => Numbered::Refused(r),
-        Look::Sound => core::cells::count_rect(words, world, q),
+        Look::Sound => ranges::cells::count_rect(words, world, q),
     }
 }
 
@@ -36,6 +36,6 @@ pub fn survey(words: &[u64], world: u64, row: u64, column: u64, k: u64, out: &mu
     let l = crate::look::look_at(words, world);
     match l {
         Look::Refused(r) => Written::Refused(r),
-        Look::Sound => core::cells::survey(words, world, row, column, k, out),
+        Look::Sound => ranges::cells::survey(words, world, row, column, k, out),
     }
 }

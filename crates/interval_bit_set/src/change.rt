@@ -13,7 +13,7 @@ pub fn set(words: &mut [u64], world: u64, lower: Bound, upper: Bound, value: boo
     let l = crate::look::look_at(words, world);
     match l {
         Look::Refused(r) => Counted::Refused(r),
-        Look::Sound => core::change::set(words, world, lower, upper, value),
+        Look::Sound => ranges::change::set(words, world, lower, upper, value),
     }
 }
 
@@ -24,7 +24,7 @@ pub fn flip(words: &mut [u64], world: u64, lower: Bound, upper: Bound) -> Comple
     let l = crate::look::look_at(words, world);
     match l {
         Look::Refused(r) => Completed::Refused(r),
-        Look::Sound => core::change::flip(words, world, lower, upper),
+        Look::Sound => ranges::change::flip(words, world, lower, upper),
     }
 }
 
@@ -35,7 +35,7 @@ pub fn shift(words: &mut [u64], world: u64, distance: u64, left: bool) -> Comple
     let l = crate::look::look_at(words, world);
     match l {
         Look::Refused(r) => Completed::Refused(r),
-        Look::Sound => core::change::shift(words, world, distance, left),
+        Look::Sound => ranges::change::shift(words, world, distance, left),
     }
 }
 
@@ -46,7 +46,7 @@ pub fn set_strict(words: &mut [u64], world: u64, lower: Bound, upper: Bound, val
     let l = crate::look::look_at(words, world);
     match l {
         Look::Refused(r) => Counted::Refused(r),
-        Look::Sound => core::change::set_strict(words, world, lower, upper, value),
+        Look::Sound => ranges::change::set_strict(words, world, lower, upper, value),
     }
 }
 
@@ -57,6 +57,6 @@ pub fn flip_strict(words: &mut [u64], world: u64, lower: Bound, upper: Bound) ->
     let l = crate::look::look_at(words, world);
     match l {
         Look::Refused(r) => Completed::Refused(r),
-        Look::Sound => core::change::flip_strict(words, world, lower, upper),
+        Look::Sound => ranges::change::flip_strict(words, world, lower, upper),
     }
 }

@@ -1,12 +1,12 @@
 // The listing in the form that a caller holds: lent beside the pool and moved by each draw. The draws by value do the work.
-ghost use Rattle.core.specs.Prelude.{◌≡◌};
+ghost use Rattle.ranges.specs.Prelude.{◌≡◌};
 ghost use Rattle.model.specs.Call.{Call};
 ghost use Rattle.interval_bit_set.specs.Lent.{Draws, moved_by, listing_of};
 
 use model::{Drawn, Listing, Refusal, Run};
 
 // A draw's answer beside the listing that it moved.
-#[derive(Drop)]
+#[derive(Clone, Copy)]
 pub enum Item {
     Refused(Refusal),
     Run(Run),
@@ -14,7 +14,7 @@ pub enum Item {
 }
 
 // A draw's answer, and the ends of what is left.
-#[derive(Drop)]
+#[derive(Clone, Copy)]
 pub struct Draw {
     pub next: Item,
     pub first: u64,

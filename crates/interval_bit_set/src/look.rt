@@ -1,12 +1,12 @@
 // Looking at the pools and the worlds that a call names.
-ghost use Rattle.core.specs.Prelude.{◌≡◌};
+ghost use Rattle.ranges.specs.Prelude.{◌≡◌};
 ghost use Rattle.interval_bit_set.specs.Look.{look_number, earliest, LookedPool, Looked, LookedTwo, LookedThree};
 
 use model::Refusal;
 use store::Store;
 
 // What they earn: refusal 1, 7 or 12, or none.
-#[derive(Drop)]
+#[derive(Clone, Copy)]
 pub enum Look {
     Refused(Refusal),
     Sound,

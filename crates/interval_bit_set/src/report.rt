@@ -13,7 +13,7 @@ pub fn get(words: &[u64], world: u64, x: u64) -> Tested
     let l = crate::look::look_at(words, world);
     match l {
         Look::Refused(r) => Tested::Refused(r),
-        Look::Sound => core::report::get(words, world, x),
+        Look::Sound => ranges::report::get(words, world, x),
     }
 }
 
@@ -24,7 +24,7 @@ pub fn run_at(words: &[u64], world: u64, x: u64) -> Around
     let l = crate::look::look_at(words, world);
     match l {
         Look::Refused(r) => Around::Refused(r),
-        Look::Sound => core::report::run_at(words, world, x),
+        Look::Sound => ranges::report::run_at(words, world, x),
     }
 }
 
@@ -35,7 +35,7 @@ pub fn find(words: &[u64], world: u64, lower: Bound, upper: Bound, value: bool) 
     let l = crate::look::look_at(words, world);
     match l {
         Look::Refused(r) => Found::Refused(r),
-        Look::Sound => core::report::find(words, world, lower, upper, value),
+        Look::Sound => ranges::report::find(words, world, lower, upper, value),
     }
 }
 
@@ -46,7 +46,7 @@ pub fn tally(words: &[u64], world: u64, lower: Bound, upper: Bound, value: bool)
     let l = crate::look::look_at(words, world);
     match l {
         Look::Refused(r) => Tallied::Refused(r),
-        Look::Sound => core::report::tally(words, world, lower, upper, value),
+        Look::Sound => ranges::report::tally(words, world, lower, upper, value),
     }
 }
 
@@ -57,7 +57,7 @@ pub fn tally_strict(words: &[u64], world: u64, lower: Bound, upper: Bound, value
     let l = crate::look::look_at(words, world);
     match l {
         Look::Refused(r) => Tallied::Refused(r),
-        Look::Sound => core::report::tally_strict(words, world, lower, upper, value),
+        Look::Sound => ranges::report::tally_strict(words, world, lower, upper, value),
     }
 }
 
@@ -68,7 +68,7 @@ pub fn select(words: &[u64], world: u64, lower: Bound, upper: Bound, value: bool
     let l = crate::look::look_at(words, world);
     match l {
         Look::Refused(r) => Found::Refused(r),
-        Look::Sound => core::report::select(words, world, lower, upper, value, k),
+        Look::Sound => ranges::report::select(words, world, lower, upper, value, k),
     }
 }
 
@@ -79,7 +79,7 @@ pub fn gap(words: &[u64], world: u64, lower: Bound, upper: Bound, n: u64) -> Fou
     let l = crate::look::look_at(words, world);
     match l {
         Look::Refused(r) => Found::Refused(r),
-        Look::Sound => core::report::gap(words, world, lower, upper, n),
+        Look::Sound => ranges::report::gap(words, world, lower, upper, n),
     }
 }
 
@@ -90,7 +90,7 @@ pub fn ranges(words: &[u64], world: u64, lower: Bound, upper: Bound, value: bool
     let l = crate::look::look_at(words, world);
     match l {
         Look::Refused(r) => Listed::Refused(r),
-        Look::Sound => core::report::ranges(words, world, lower, upper, value),
+        Look::Sound => ranges::report::ranges(words, world, lower, upper, value),
     }
 }
 
@@ -101,7 +101,7 @@ pub fn draw_front(words: &[u64], world: u64, l: Listing) -> Drawn
     let look = crate::look::look_at(words, world);
     match look {
         Look::Refused(r) => Drawn::Refused(r),
-        Look::Sound => core::listing::draw_front(words, world, l),
+        Look::Sound => ranges::listing::draw_front(words, world, l),
     }
 }
 
@@ -112,7 +112,7 @@ pub fn draw_back(words: &[u64], world: u64, l: Listing) -> Drawn
     let look = crate::look::look_at(words, world);
     match look {
         Look::Refused(r) => Drawn::Refused(r),
-        Look::Sound => core::listing::draw_back(words, world, l),
+        Look::Sound => ranges::listing::draw_back(words, world, l),
     }
 }
 
@@ -123,6 +123,6 @@ pub fn fill(words: &[u64], world: u64, base: u64, length: u64) -> Numbered
     let l = crate::look::look_at(words, world);
     match l {
         Look::Refused(r) => Numbered::Refused(r),
-        Look::Sound => core::report::fill(words, world, base, length),
+        Look::Sound => ranges::report::fill(words, world, base, length),
     }
 }

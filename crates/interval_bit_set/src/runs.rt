@@ -1,6 +1,6 @@
 // A run list as the caller holds it: a lent slice of runs. Two loops go over it, each by a covered step; everything else is in covered
 // functions, and the call itself has no branch.
-ghost use Rattle.core.specs.Prelude.{◌≡◌, ◌+◌, ◌<◌, length, slice_index_or};
+ghost use Rattle.ranges.specs.Prelude.{◌≡◌, ◌+◌, ◌<◌, length, slice_index_or};
 ghost use Rattle.model.specs.Positions.{run};
 ghost use Rattle.model.specs.Call.{Call};
 ghost use Rattle.model.specs.Answers.{completed_answer};
@@ -20,7 +20,7 @@ fn run_of(runs: &[Run], i: usize) -> Run
 }
 
 // How far the order of a list was tested: whether the runs so far are in order, whether there were none, and where the last one ended.
-#[derive(Drop)]
+#[derive(Clone, Copy)]
 struct Order {
     ordered: bool,
     first: bool,
@@ -64,7 +64,7 @@ fn in_order(runs: &[Run]) -> Order
 }
 
 // What comes of a list of runs: the answer, how many of them go into the world, all or none, and the first node for them.
-#[derive(Drop)]
+#[derive(Clone, Copy)]
 struct Verdict {
     answer: Completed,
     runs: usize,

@@ -1,6 +1,6 @@
 // Writing a world's set, and the map of a window, into the front of a lent slice. First the calls that tell how many bytes they wrote; then
 // the same calls handing back the part that they filled.
-ghost use Rattle.core.specs.Prelude.{◌≡◌, ◌≤◌, length, take};
+ghost use Rattle.ranges.specs.Prelude.{◌≡◌, ◌≤◌, length, take};
 ghost use Rattle.model.specs.Call.{Call};
 ghost use Rattle.promises.specs.Met.{outcome_of};
 ghost use Rattle.promises.specs.Out.{WritesOut};
@@ -46,7 +46,7 @@ pub fn write_map_by_bytes(words: &[u64], world: u64, base: u64, n: u64, out: &mu
 }
 
 // A refusal's number, or 0, and how many bytes were written.
-#[derive(Drop)]
+#[derive(Clone, Copy)]
 pub struct Flat {
     pub refusal: u64,
     pub bytes: usize,
@@ -76,7 +76,7 @@ fn front<'a>(out: &'a mut [u8], n: usize) -> &'a mut [u8]
 }
 
 // A refusal's number and no part, or 0 and the part that was filled.
-#[derive(Drop)]
+#[derive(Clone, Copy)]
 pub struct Filled<'a> {
     pub refusal: u64,
     pub part: &'a mut [u8],

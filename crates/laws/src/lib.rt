@@ -1,11 +1,13 @@
 // Laws for the batcher (document 02, Ticket 14): the statements stand in specs/, and speak of nothing but what the public calls promise. The
 // functions here play the case that shows why the refusal law cannot be turned round.
+#![tactic(auto)]
+
 ghost use Rattle.laws.specs.Played.{Lent, MadeNew, MadeOne, Ready, RefusedThenDone};
 
 use model::{Bound, Completed, Operation};
 
 // What two ORs into one world answered: of two sets, and of the same sets shifted.
-#[derive(Drop)]
+#[derive(Clone, Copy)]
 pub struct Joins {
     pub before: Completed,
     pub after: Completed,

@@ -1,5 +1,7 @@
 // Prints the written set, of either edition, that standard input holds: how many runs, how many positions held, and each run. It is read into
 // the only world of a pool of capacity 950, with floor 0 and ceiling 950. The whole text is put together before a byte of it is written.
+#![tactic(auto)]
+
 ghost use Rattle.std.specs.Prelude.{◌+◌, ◌*◌, ◌≤◌, ◌^◌, ◌≡◌, true, length, take};
 ghost use Rattle.io.specs.Counts.{IsPrefixLen};
 ghost use Rattle.model.specs.Numbers.{size, worth, refusal_number};
@@ -123,7 +125,7 @@ fn all_runs(words: &[u64]) -> Listing
 }
 
 // What is left of a listing, and where its text goes.
-#[derive(Drop)]
+#[derive(Clone, Copy)]
 struct Rest {
     at: usize,
     listing: Listing,
@@ -197,7 +199,7 @@ fn answer(out: &mut [u8; TEXT], bytes: &[u8]) -> usize
 
 // ---- standard input and output
 // What a reading came to.
-#[derive(Drop)]
+#[derive(Clone, Copy)]
 enum Reading {
     Failed,
     Bytes(usize),

@@ -1,5 +1,7 @@
 // Whole histories of calls (demand 3): the theorems stand in specs/, and speak of nothing but what the public calls promise. The function
 // here uses them.
+#![tactic(auto)]
+
 ghost use Rattle.std.specs.Prelude.{◌+◌, ◌≤◌, ◌<◌};
 ghost use Rattle.model.specs.Numbers.{size};
 ghost use Rattle.lockstep.specs.Meeting.{Lent, SameBytes};
@@ -7,7 +9,7 @@ ghost use Rattle.lockstep.specs.Meeting.{Lent, SameBytes};
 use model::{Bound, Edition, Written};
 
 // What two pools answered to writing the sets of their worlds.
-#[derive(Drop)]
+#[derive(Clone, Copy)]
 pub struct Sets {
     pub first: Written,
     pub second: Written,

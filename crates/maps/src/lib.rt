@@ -1,4 +1,6 @@
 // Maps of a window: bit i of byte j is position base + 8j + i. The window and the slices are right here; the public calls test that.
+#![tactic(auto)]
+
 pub mod paint;
 pub mod read;
 pub mod word;

@@ -59,7 +59,7 @@ fn stretch(bytes: &[u8], i: u64, n: u64, wide: bool) -> u64
 }
 
 // What a map says of a window: how many runs are in it, and how many positions of the world it changes.
-#[derive(Drop)]
+#[derive(Clone, Copy)]
 pub struct Survey {
     pub runs: u64,
     pub changed: u64,

@@ -14,7 +14,7 @@ use store::World;
 use streams::source::{HIGHEST, Source, View};
 
 // A byte of a map, and the source at its last position.
-#[derive(Drop)]
+#[derive(Clone, Copy)]
 pub struct Octet {
     pub bits: u64,
     pub source: Source,
@@ -83,7 +83,7 @@ fn whole_bytes(after: u64, left: u64) -> u64
 }
 
 // Bytes of a map that were stored, and the source at their last position.
-#[derive(Drop)]
+#[derive(Clone, Copy)]
 pub struct Stored {
     pub count: u64,
     pub source: Source,

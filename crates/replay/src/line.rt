@@ -10,46 +10,46 @@ use model::{Bound, Operation, Rect};
 const LOST: usize = usize::MAX;
 
 // What a word tells, and the place after it.
-#[derive(Drop)]
+#[derive(Clone, Copy)]
 pub struct Number {
     pub value: u64,
     pub next: usize,
 }
 
 // A world of a store.
-#[derive(Drop)]
+#[derive(Clone, Copy)]
 pub struct Place {
     pub store: usize,
     pub world: u64,
     pub next: usize,
 }
 
-#[derive(Drop)]
+#[derive(Clone, Copy)]
 pub struct Flag {
     pub value: bool,
     pub next: usize,
 }
 
-#[derive(Drop)]
+#[derive(Clone, Copy)]
 pub struct Limit {
     pub bound: Bound,
     pub next: usize,
 }
 
-#[derive(Drop)]
+#[derive(Clone, Copy)]
 pub struct Join {
     pub operation: Operation,
     pub next: usize,
 }
 
-#[derive(Drop)]
+#[derive(Clone, Copy)]
 pub struct Corners {
     pub rect: Rect,
     pub next: usize,
 }
 
 // How many elements were read into the front of a lent slice.
-#[derive(Drop)]
+#[derive(Clone, Copy)]
 pub struct Front {
     pub count: usize,
     pub next: usize,
@@ -82,7 +82,7 @@ fn after(line: &[u8], i: usize) -> usize {
 }
 
 // ---- numbers
-#[derive(Drop)]
+#[derive(Clone, Copy)]
 enum Digits {
     Worth(u64),
     Wrong,
@@ -342,7 +342,7 @@ pub fn rect_at(line: &[u8], at: usize) -> Corners {
 }
 
 // ---- bytes
-#[derive(Drop)]
+#[derive(Clone, Copy)]
 enum Octet {
     Byte(u8, usize),
     Wrong,

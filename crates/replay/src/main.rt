@@ -3,6 +3,8 @@
 // records, and each of them, and a record outside of a frame; the line that comes in a record's place is then read as any other.
 // Its stdin and stdout are a sample: the list `refusals`, lines 7 to 106 of `deepest`, 7 to 206 of `why_full`, the first 200 of `long`, lines 5 to
 // 204 of `worlds`, 7 to 214 of `frames` and 13 to 212 of `grid`.
+#![tactic(auto)]
+
 ghost use Rattle.std.specs.Prelude.{◌≤◌, length};
 
 mod answer;
@@ -113,7 +115,7 @@ fn take_all(
 }
 
 // What one reading of the input left: how many bytes of the line at hand are there, and whether more may come.
-#[derive(Drop)]
+#[derive(Clone, Copy)]
 struct Rest {
     bytes: usize,
     more: bool,

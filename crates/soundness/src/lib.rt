@@ -2,6 +2,8 @@
 // Each node is tested against the bounds that the nodes above it leave, so the runs rise in order and no node is met twice; a node has the
 // number of its world, so no two trees meet; a free node has height 0 and a node of a tree has not, so the chain never meets a tree; and a
 // chain of exactly the nodes that are left, ending in 0, meets each of them once.
+#![tactic(auto)]
+
 ghost use Rattle.std.specs.Prelude.{◌≡◌, ◌+◌, ◌-◌, ◌*◌, ◌<◌, ◌≤◌, false, not, ◌||◌, length, ◌==◌};
 ghost use Rattle.model.specs.Numbers.{most_worlds};
 ghost use Rattle.run_index.specs.Cells.{Room};
@@ -421,7 +423,7 @@ fn header_fits(v: Node) -> bool
 }
 
 // Whether a world fits; and then, what it claims of the pool, and how many runs its tree has.
-#[derive(Drop)]
+#[derive(Clone, Copy)]
 pub struct Place {
     pub fits: bool,
     pub claim: u64,
@@ -467,7 +469,7 @@ fn place_fits(words: &[u64], k: u64) -> Place
 }
 
 // Whether the first n worlds fit, and do not claim more than the capacity together; and then, how many runs their trees have.
-#[derive(Drop)]
+#[derive(Clone, Copy)]
 pub struct Checked {
     pub fits: bool,
     pub runs: u64,

@@ -1,4 +1,6 @@
 // The spare bits of a map of n positions, those from bit n on: how many are one, and zeroing them.
+#![tactic(auto)]
+
 ghost use Rattle.std.specs.Prelude.{◌≡◌, ◌*◌, ◌-◌, ◌≤◌, length};
 ghost use Rattle.model.specs.Bytes.{bits, map_bit, map_length, stray_bits};
 ghost use Rattle.spare.specs.Spare.{Ones, Clears};

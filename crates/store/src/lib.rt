@@ -1,6 +1,8 @@
 // The store: a lent slice of words that is a pool of worlds, each of which holds a set of positions. Words 0 to 7 are the header, world k has its
 // record in the words 8(1 + k) on, and node n of the run index the words 8(16 + n) on; the nodes that no world has form the free chain. Only
 // this crate and `soundness` know where the words of the header and of the records lie: other code has a world by value, and the nodes.
+#![tactic(auto)]
+
 ghost use Rattle.std.specs.Prelude.{◌≡◌, ◌+◌};
 ghost use Rattle.model.specs.Pools.{claim};
 ghost use Rattle.run_index.specs.Cells.{cell_at, Room};
@@ -16,7 +18,7 @@ pub mod places;
 pub mod refresh;
 
 // A store, as its length tells of it: the most logical runs that its worlds may hold together.
-#[derive(Drop)]
+#[derive(Clone, Copy)]
 pub struct Store {
     pub capacity: u64,
 }
@@ -51,7 +53,7 @@ impl Store {
 // What is kept of a set beside its nodes: the tag that its nodes have, which is its world's number, the root of its tree, the head of the free
 // chain, the offset, and what is told of the tree: held positions modulo 2^64, runs, and the first and the last logical position held, 0 if
 // there is none.
-#[derive(Drop)]
+#[derive(Clone, Copy)]
 pub struct World {
     pub tag: u64,
     pub root: u64,
@@ -64,7 +66,7 @@ pub struct World {
 }
 
 // The part of it that says where nodes are.
-#[derive(Drop)]
+#[derive(Clone, Copy)]
 pub struct Links {
     pub tag: u64,
     pub root: u64,

@@ -5,7 +5,7 @@ ghost use Rattle.store.specs.Places.{physical_of, logical_of};
 use model::Logical;
 
 // A position as the store keeps it: logical - offset, modulo 2^64.
-#[derive(Drop)]
+#[derive(Clone, Copy)]
 pub struct Physical(pub u64);
 
 // Where a logical position is kept.

@@ -10,7 +10,7 @@ use model::{Logical, Operation};
 use store::World;
 
 // What is read: the runs of a set, or one run whatever the words hold.
-#[derive(Drop)]
+#[derive(Clone, Copy)]
 pub enum Feed {
     Held(View),
     Only(Logical, Logical),

@@ -13,14 +13,14 @@ use store::places::Physical;
 pub const HIGHEST: usize = 22;
 
 // From where a set is read: the root of its tree, and the offset.
-#[derive(Drop)]
+#[derive(Clone, Copy)]
 pub struct View {
     pub root: u64,
     pub offset: u64,
 }
 
 // The run at hand, if there is one; how many nodes are on the path; and whether the last part is being read.
-#[derive(Drop)]
+#[derive(Clone, Copy)]
 pub struct Source {
     pub live: bool,
     pub start: u64,
@@ -30,7 +30,7 @@ pub struct Source {
 }
 
 // A run taken off the path, and how many nodes are on it then.
-#[derive(Drop)]
+#[derive(Clone, Copy)]
 pub struct Popped {
     pub start: u64,
     pub end: u64,

@@ -63,7 +63,7 @@ fn smaller(a: u64, b: u64) -> u64
 }
 
 // A position that was reached, and the sources there.
-#[derive(Drop)]
+#[derive(Clone, Copy)]
 pub struct Reached {
     pub found: bool,
     pub at: u64,
@@ -119,7 +119,7 @@ fn reach(
 }
 
 // A run of the join, and the sources after it.
-#[derive(Drop)]
+#[derive(Clone, Copy)]
 pub struct Joint {
     pub found: bool,
     pub start: u64,

@@ -16,7 +16,7 @@ use model::{Edition, Refusal, Run};
 use store::World;
 
 // What bytes are as a written set: the refusal that they earn by themselves, or their edition and how many runs they tell.
-#[derive(Drop)]
+#[derive(Clone, Copy)]
 pub enum Parsed {
     Refused(Refusal),
     Runs(Edition, u64),

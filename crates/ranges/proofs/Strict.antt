@@ -1,0 +1,42 @@
+-- Strict calls: a reversed range is refused with 14, and of any other the model's outcome is that of the call that is not strict.
+-- Assumes nothing.
+use Rattle.ranges.specs.Prelude.{◌≡◌, ℕ, Bool, true, false, List, [], ◌∷◌}
+use mathlib.Core.Path.{sym, ap, ◌∙◌, subst}
+use Rattle.model.specs.declared.Bound.{Bound}
+use Rattle.model.specs.Range.{reversed}
+use Rattle.model.specs.Refusals.{before_capacity, range_reversed, ◌when◌, first_given, refusal}
+use Rattle.model.specs.Call.{Call, Answer, refused}
+use Rattle.model.specs.Model.{report, change, changed, setting, flipping, tallying, serve}
+use Rattle.promises.specs.Met.{Site, fed_of, full_at, outcome_of, Leaves, Met, Readable}
+use Rattle.promises.proofs.Meeting.{refused-by, tally-strict-says}
+use Rattle.promises.proofs.Changing.{refused-first, set-strict-says, flip-strict-says}
+
+-- a call whose outcome is another's is met as that is
+met-same : {w w' : List ℕ} {i : ℕ} {c d : Call Site} {a : Answer} → outcome_of w i d ≡ outcome_of w i c → Met w i d a w' → Met w i c a w'
+met-same {w} {w'} {i} {a = a} e m = record { answered = m.answered ∙ ap (λ o. o.answer) e; left = subst (λ o. Leaves w w' i o.positions a) e m.left }
+
+module _ {w : List ℕ} {i : ℕ} {l u : Bound} where
+  -- a reversed range
+  module _ (R : Readable w i) (e : true ≡ reversed l u) where
+    pub set-reversed : (v : Bool) → Met w i (Call.set_strict l u v) (refused 14) w
+    set-reversed v = refused-first (set-strict-says w i l u v) R (ap (λ t. first_given before_capacity (range_reversed when t ∷ [])) (sym e))
+
+    pub flip-reversed : Met w i (Call.flip_strict l u) (refused 14) w
+    flip-reversed = refused-first (flip-strict-says w i l u) R (ap (λ t. first_given before_capacity (range_reversed when t ∷ [])) (sym e))
+
+    pub tally-reversed : (v : Bool) → Met w i (Call.tally_strict l u v) (refused 14) w
+    tally-reversed v = refused-by (tally-strict-says w i l u v) 14 R (ap (λ t. refusal (range_reversed when t ∷ [])) (sym e))
+
+  -- any other
+  module _ {w' : List ℕ} {a : Answer} (e : false ≡ reversed l u) where
+    pub set-straight : {v : Bool} → Met w i (Call.set l u v) a w' → Met w i (Call.set_strict l u v) a w'
+    unfolding outcome_of serve setting changed change
+    set-straight {v} m = met-same (ap (λ t. setting (full_at w i) (fed_of w i) (range_reversed when t ∷ []) l u v) e) m
+
+    pub flip-straight : Met w i (Call.flip l u) a w' → Met w i (Call.flip_strict l u) a w'
+    unfolding outcome_of serve flipping change
+    flip-straight m = met-same (ap (λ t. flipping (full_at w i) (fed_of w i) (range_reversed when t ∷ []) l u) e) m
+
+    pub tally-straight : {v : Bool} → Met w i (Call.tally l u v) a w' → Met w i (Call.tally_strict l u v) a w'
+    unfolding outcome_of serve tallying report
+    tally-straight {v} m = met-same (ap (λ t. tallying (fed_of w i) (range_reversed when t ∷ []) l u v) e) m

@@ -1,0 +1,155 @@
+// The calls that report, and leave the pool as it is.
+ghost use Rattle.ranges.specs.Prelude.{◌≡◌};
+ghost use Rattle.model.specs.Call.{Call};
+ghost use Rattle.model.specs.Answers.{numbered_answer, tallied_answer, tested_answer, around_answer, found_answer, listed_answer};
+ghost use Rattle.promises.specs.Met.{Readable, Met, found_edge};
+
+use model::{
+    Around, Bound, Count, Edge, Found, Listed, Listing, Logical, Numbered, Refusal, Span, Tallied,
+    Tally, Tested,
+};
+
+// The value of position x.
+pub fn get(words: &[u64], world: u64, x: u64) -> Tested
+    requires { Readable words.now world }
+    ensures { Met words.now world (Call.get x) (tested_answer result) words.now }
+{
+    let h = store::open(words, world);
+    Tested::Is(reports::logical::get(&words[128..], h, Logical(x)))
+}
+
+// The run around x.
+pub fn run_at(words: &[u64], world: u64, x: u64) -> Around
+    requires { Readable words.now world }
+    ensures { Met words.now world (Call.run_at x) (around_answer result) words.now }
+{
+    let h = store::open(words, world);
+    Around::Run(reports::runs::run_at(&words[128..], h, Logical(x)))
+}
+
+// A position that was searched for, as an answer.
+fn found(e: Edge) -> Found
+    ensures { found_answer result ≡ found_edge e }
+{
+    match e {
+        Edge::At(x) => Found::At(x),
+        Edge::Nowhere => Found::Nowhere,
+    }
+}
+
+// An empty range or a reversed one has no position.
+pub fn find(words: &[u64], world: u64, lower: Bound, upper: Bound, value: bool) -> Found
+    requires { Readable words.now world }
+    ensures { Met words.now world (Call.find lower upper value) (found_answer result) words.now }
+{
+    let s = model::normalize(lower, upper);
+    match s {
+        Span::Empty | Span::Reversed => Found::Nowhere,
+        Span::Closed(a, b) => {
+            let h = store::open(words, world);
+            found(reports::runs::find_in(&words[128..], h, Logical(a), Logical(b), value))
+        }
+    }
+}
+
+// An empty range or a reversed one has no position and no run.
+pub fn tally(words: &[u64], world: u64, lower: Bound, upper: Bound, value: bool) -> Tallied
+    requires { Readable words.now world }
+    ensures { Met words.now world (Call.tally lower upper value) (tallied_answer result) words.now }
+{
+    let s = model::normalize(lower, upper);
+    match s {
+        Span::Empty | Span::Reversed => Tallied::Tally(Tally {
+            count: Count { carry: 0, low: 0 },
+            runs: 0,
+        }),
+        Span::Closed(a, b) => {
+            let h = store::open(words, world);
+            Tallied::Tally(reports::logical::tally(&words[128..], h, Logical(a), Logical(b), value))
+        }
+    }
+}
+
+// A reversed range is refused; any other is tallied as `tally` does.
+pub fn tally_strict(words: &[u64], world: u64, lower: Bound, upper: Bound, value: bool) -> Tallied
+    requires { Readable words.now world }
+    ensures { Met words.now world (Call.tally_strict lower upper value) (tallied_answer result) words.now }
+{
+    if model::is_reversed(lower, upper) {
+        return Tallied::Refused(Refusal::RangeReversed);
+    }
+    tally(words, world, lower, upper, value)
+}
+
+// An empty range or a reversed one has no position.
+pub fn select(words: &[u64], world: u64, lower: Bound, upper: Bound, value: bool, k: u64) -> Found
+    requires { Readable words.now world }
+    ensures { Met words.now world (Call.select lower upper value k) (found_answer result) words.now }
+{
+    let s = model::normalize(lower, upper);
+    match s {
+        Span::Empty | Span::Reversed => Found::Nowhere,
+        Span::Closed(a, b) => {
+            let h = store::open(words, world);
+            found(reports::logical::select(&words[128..], h, Logical(a), Logical(b), value, k))
+        }
+    }
+}
+
+// An empty range or a reversed one has no gap.
+pub fn gap(words: &[u64], world: u64, lower: Bound, upper: Bound, n: u64) -> Found
+    requires { Readable words.now world }
+    ensures { Met words.now world (Call.gap lower upper n) (found_answer result) words.now }
+{
+    if n == 0 {
+        return Found::Refused(Refusal::GapLength);
+    }
+    let s = model::normalize(lower, upper);
+    match s {
+        Span::Empty | Span::Reversed => Found::Nowhere,
+        Span::Closed(a, b) => {
+            let h = store::open(words, world);
+            found(streams::gaps::lowest_gap(&words[128..], h, Logical(a), Logical(b), n))
+        }
+    }
+}
+
+// A listing is the range itself, from its first position to its last.
+pub fn ranges(words: &[u64], world: u64, lower: Bound, upper: Bound, value: bool) -> Listed
+    requires { Readable words.now world }
+    ensures { Met words.now world (Call.ranges lower upper value) (listed_answer result) words.now }
+{
+    let s = model::normalize(lower, upper);
+    match s {
+        Span::Empty | Span::Reversed => Listed::Listing(Listing {
+            first: 1,
+            last: 0,
+            value: value,
+        }),
+        Span::Closed(a, b) => Listed::Listing(Listing {
+            first: a,
+            last: b,
+            value: value,
+        }),
+    }
+}
+
+// Rounded up. A thousand times the count of a window and its length fit a word.
+pub fn fill(words: &[u64], world: u64, base: u64, length: u64) -> Numbered
+    requires { Readable words.now world }
+    ensures { Met words.now world (Call.fill base length) (numbered_answer result) words.now }
+{
+    if !promises::window::window_fits(base, length) {
+        return Numbered::Refused(Refusal::Window);
+    }
+    let h = store::open(words, world);
+    let t = reports::logical::tally(
+        &words[128..],
+        h,
+        Logical(base),
+        Logical(base + (length - 1)),
+        true,
+    );
+    let c = t.count;
+    Numbered::Number((1000 * c.low + (length - 1)) / length)
+}
