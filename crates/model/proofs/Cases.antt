@@ -4,7 +4,7 @@ use mathlib.Core.List.{List, [], ◌∷◌, map}
 use Prim.Native.Nat.{ℕ}
 use Rattle.model.specs.declared.Run.{Run}
 use Rattle.model.specs.Numbers.{size}
-use Rattle.model.specs.Positions.{Positions, mem, past_first, past_last}
+use Rattle.model.specs.Positions.{mem, past_first, past_last}
 use Rattle.model.proofs.Finds.{select_runs}
 use Rattle.model.proofs.Gaps.{first_long}
 use Rattle.model.specs.RunList.{Canon, insert, clear}
@@ -49,9 +49,9 @@ use Rattle.model.specs.Bytes.{
 use Rattle.model.specs.Mending.{another}
 use Rattle.model.specs.Refusals.{bad_window, bad_map, too_short, bad_length, bad_version, ordered_from, disordered, no_room}
 use lib.Dec.{ltb}
-use Rattle.model.specs.Call.{Call, feed, holding, PoolCall, Answer}
+use Rattle.model.specs.Call.{Call, feed, holding, Answer}
 use Rattle.model.specs.Model.{drawn_first, drawn_last, serve}
-use Rattle.model.specs.Pools.{PlainWorld, PoolOutcome, step, answers, after, alone}
+use Rattle.model.specs.Pools.{PoolOutcome, step, answers, after, alone}
 use Rattle.model.specs.Cases.{Given, having, fed_as, on_first, Case, Holds, AllHold, table}
 use Rattle.model.proofs.Pools.{step-alone}
 use Rattle.model.proofs.Calc.{

@@ -5,35 +5,16 @@ use mathlib.Core.Path.{◌≡◌, refl, sym, ap, ◌∙◌, fun_ext}
 use mathlib.Core.Logic.{◌⊎◌, inl, inr}
 use mathlib.Core.Bool.{Bool, ◌||◌}
 use mathlib.Core.List.{List, [], ◌∷◌}
-use mathlib.Core.Option.{Option, some}
+use mathlib.Core.Option.{some}
 use native.Mathlib.Omega.{arith}
 use lib.Dec.{ltb}
 use borrow.Author.Tests.{lt-ltb, le-ltb}
 use Rattle.model.proofs.Numbers.{split}
 use Rattle.model.specs.Positions.{Positions}
 use Rattle.model.specs.declared.Bound.{Bound}
-use Rattle.model.specs.Call.{Fed, unopened, holding, Call, fill, tally_strict, PoolCall, at, Answer, refused}
+use Rattle.model.specs.Call.{Fed, unopened, holding, Call, fill, tally_strict, at, refused}
 use Rattle.model.specs.Model.{positions_of, report, tallying, serve}
-use Rattle.model.specs.Pools.{
-  PlainWorld,
-  world_of,
-  fed_by,
-  claim_with,
-  claim,
-  claims,
-  other_claims,
-  exceeds,
-  full,
-  with_positions,
-  holding_at,
-  PoolOutcome,
-  serve_at,
-  leaving,
-  step,
-  alone,
-  allowance_of,
-  allowance,
-}
+use Rattle.model.specs.Pools.{PlainWorld, world_of, fed_by, claim_with, claim, claims, other_claims, exceeds, full, with_positions, holding_at, serve_at, leaving, step, alone, allowance_of, allowance}
 
 -- ---- refusal 12
 -- a world that is not open is refused before the call's window is looked at
