@@ -26,6 +26,7 @@ module _ {k d n a b : ℕ} {l r : Tree} where
 
 -- it leads to some run
 pub leads-some : {k d : ℕ} (t : Tree) → Leads k d t → 1 ≤ runs t
+leads-some leaf h = elim h [ ]
 leads-some (node n a b l r) h = omega arith
 
 -- ---- the sum of positions
@@ -43,6 +44,7 @@ gain-right x y z m = simp (mod-add-mod, add-mod-mod) (ap (λ n. n % 2 ^ 64) (ome
 
 -- a tree gains what the run gains
 pub resize-ones : (k d a b more : ℕ) → (width k d + more) % 2 ^ 64 ≡ width a b → (t : Tree) → Leads k d t → ones (resized k a b t) ≡ (ones t + more) % 2 ^ 64
+resize-ones k d a b more g leaf h = elim h [ ]
 resize-ones k d a b more g (node n c e l r) (at-root ec ee) =
     rw (le-ltb k c (omega arith), le-ltb c k (omega arith), ← g, ← ec, ← ee) (gain-root (ones l + ones r) (width c e) more)
 resize-ones k d a b more g (node n c e l r) (on-left lt h) =
