@@ -29,9 +29,9 @@ use Rattle.store.proofs.Making.{
 
 -- all nodes are freed, one after the other
 freed : {w₀ w : List ℕ} {n next : ℕ} (l : ℕ) → FreeAfter w₀ w n l next → (w' : List ℕ) × (f : ℕ) × Chained w₀ w' n f
-freed {w₀} {w} {n} {next} zero a = (w, next, free-after-chained w₀ w n 0 next refl a)
-freed {w₀} {w} {n} {next} (suc l) a =
-    freed l
+freed {w₀ = w₀} {w = w} {n = n} {next = next} zero a = (w, next, free-after-chained w₀ w n 0 next refl a)
+freed {w₀ = w₀} {w = w} {n = n} {next = next} (suc l) a =
+    freed {w₀ = w₀} {w = stored w (suc l) (free_cell next)} {n = n} {next = suc l} l
     (subst (λ j. FreeAfter w₀ (stored w (suc l) (free_cell next)) n j (suc l)) (omega arith)
     (free-after-more w₀ w (stored w (suc l) (free_cell next)) n (suc l) next (λ e. omega arith) a
     (stored-wrote w (suc l) (free_cell next) (free-after-room w₀ w n (suc l) next a))))

@@ -19,7 +19,7 @@ use Rattle.run_index.proofs.Laying.{strung-laid}
 use Rattle.store.specs.declared.World.{World}
 use Rattle.store.specs.declared.Links.{Links}
 use Rattle.store.specs.Layout.{links_of, turned, held_from, held_in}
-use Rattle.store.specs.Soundness.{Chain, first_of, last_of, Share, Still, Kept, Standing, Limited}
+use Rattle.store.specs.Soundness.{Chain, first_of, last_of, Share, Still, Kept, Limited}
 use Rattle.store.specs.Bounds.{TellsFirst, TellsLast}
 use Rattle.store.proofs.Turn.{turned_zero}
 use Rattle.store.specs.Settle.{Shows, Became, Refreshes, Rooted, Strewn, LinksUp}

@@ -1,6 +1,6 @@
 -- The worlds of a pool as a list: which one has a number, what they claim together, and when two lists are the same. Assumes nothing.
 use Rattle.std.proofs.Common.{◌≡◌, ℕ, zero, suc, ◌+◌, ◌<◌, ◌≤◌, List, ◌∷◌, length, sym, refl, ap, ◌∙◌, ap₂, arith}
-use mathlib.Core.Option.{Option, none, some}
+use mathlib.Core.Option.{none, some}
 use native.Mathlib.Decide.{ℕ_discrete}
 use Rattle.model.specs.Positions.{Positions}
 use Rattle.model.specs.Pools.{PlainWorld, world_of, claim, claims, other_claims, with_positions, holding_at}

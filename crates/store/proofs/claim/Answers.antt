@@ -1,0 +1,21 @@
+-- `claim` meets its contract: the count of logical runs is asked of the nodes, and tells those of the positions held. Assumes nothing.
+use Rattle.std.proofs.Common.{◌∙◌}
+use Rattle.store.specs.Layout.{world_at, nodes}
+use Rattle.store.specs.Soundness.{Planted}
+use Rattle.store.proofs.Worlds.{planted-counted, claim-told}
+use Rattle.store.proofs.claim.Goals as goal
+use Rattle.store.proofs.claim.Goals.{Start}
+
+-- the world's tree
+planted : (c : Start) → Planted (nodes c.args.words.now) (world_at c.args.words.now c.args.k)
+planted c = c.requires.planted
+
+pub logical_runs-n-requires : goal.logical_runs-n-requires
+logical_runs-n-requires c =
+    planted-counted c.args.words.now c.args.k (planted (goal.at.logical_runs-n-requires c).Start) c.read_world-h.result c.read_world-h.ensures
+
+pub returns : goal.returns
+returns c =
+    c.larger.ensures
+    ∙ claim-told c.args.words.now c.args.k (planted (goal.at.returns c).Start) c.read_world-h.result c.read_node-v.result c.logical_runs-n.result
+    c.read_world-h.ensures c.read_node-v.ensures c.logical_runs-n.ensures

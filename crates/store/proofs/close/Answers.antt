@@ -1,0 +1,6 @@
+-- `close` meets its contract: the header and the record are written last. Assumes nothing.
+use Rattle.store.proofs.Closing.{closes}
+use Rattle.store.proofs.close.Goals as goal
+
+pub returns : goal.returns
+returns c = closes c.write_world.ensures
