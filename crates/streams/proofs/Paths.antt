@@ -16,7 +16,7 @@ use Rattle.model.proofs.RunList.{canon-weaken, canon-wider}
 use Rattle.model.proofs.Search.{canon-split}
 use Rattle.run_index.specs.declared.Node.{Node}
 use Rattle.run_index.specs.Cells.{cell_at, Room}
-use Rattle.run_index.specs.Tree.{Tree, link, height, inorder, Rep}
+use Rattle.run_index.specs.Tree.{Tree, height, inorder, Rep}
 use Rattle.run_index.proofs.Trees.{at_none}
 use Rattle.run_index.proofs.Heap.{View, view, height_at, left-falls, right-falls}
 use Rattle.streams.specs.Reading.{Rest, none, more, from, Below, Descends}

@@ -1,0 +1,27 @@
+-- `last_run` meets its contract: to the previous position of the value from the one behind the previous of the other value, or from a.
+-- Assumes nothing.
+use Rattle.std.proofs.Common.{inl, inr}
+use Rattle.reports.proofs.Bounding.{no-last-run, last-run-starts, last-run-clipped}
+use Rattle.reports.proofs.runs.last_run.Goals as goal
+
+pub returns-then-x-first : goal.returns-then-x-first
+returns-then-x-first c =
+    no-last-run _ _ _ _ c.previous-n.result c.previous-n.ensures (inr (c.in-At.x, c.in-At.is, c.if-x-first.true))
+
+pub returns-then-y-first : goal.returns-then-y-first
+returns-then-y-first c =
+    last-run-clipped _ _ _ _ c.previous-n.result c.previous-m.result c.previous-n.ensures c.in-At.is c.if-x-first.false
+    c.previous-m.ensures (inr (c.in-At-m.y, c.in-At-m.is, c.if-y-first.true))
+
+pub returns-else-y-first : goal.returns-else-y-first
+returns-else-y-first c =
+    last-run-starts _ _ _ _ c.previous-n.result c.previous-m.result c.previous-n.ensures c.in-At.is c.previous-m.ensures c.in-At-m.is c.if-y-first.false
+
+pub returns-in-Nowhere-m : goal.returns-in-Nowhere-m
+returns-in-Nowhere-m c =
+    last-run-clipped _ _ _ _ c.previous-n.result c.previous-m.result c.previous-n.ensures c.in-At.is c.if-x-first.false
+    c.previous-m.ensures (inl c.in-Nowhere-m.is)
+
+pub returns-in-Nowhere : goal.returns-in-Nowhere
+returns-in-Nowhere c =
+    no-last-run _ _ _ _ c.previous-n.result c.previous-n.ensures (inl c.in-Nowhere.is)

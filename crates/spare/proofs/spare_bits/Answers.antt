@@ -1,0 +1,12 @@
+-- `spare_bits` meets its contract: whole bytes have no spare bit, and else the last byte shifted down by the used bits is the spare ones.
+-- Assumes nothing.
+use native.Mathlib.Omega.{arith}
+use Rattle.spare.proofs.Sparing.{spare-none, spare-last}
+use Rattle.spare.proofs.spare_bits.Goals as goal
+
+pub returns-then-used-eq0 : goal.returns-then-used-eq0
+returns-then-used-eq0 c = spare-none _ _ c.if-used-eq0.true
+
+pub returns : goal.returns
+returns c =
+    spare-last c.args.n c.args.bytes.now c.if-used-eq0.false c.requires.bytes_len (λ j. omega (arith, c.type_inv.bytes j))
