@@ -4,132 +4,119 @@
 // with floor 0 and the capacity as its ceiling.
 #![tactic(auto)]
 
-ghost use Rattle.std.specs.Prelude.{◌<◌, length};
-
 use interval_bit_set::{bytes, change, join, make, report, write};
 use model::{
     Around, Bound, Completed, Count, Counted, Drawn, Edition, Found, Listed, Listing, Mended,
     Numbered, Operation, Refusal, Run, Tallied, Written,
 };
+use std::io;
 use store::Store;
 
 // ---- printing
-fn line(n: u64) {
-    io::print_decimal(1, n);
-    io::write_all(1, b":");
+fn line(rt: &impl Print, n: u64) -> io::Result<()> {
+    print!(rt; "{n}:")
 }
 
-fn end_line() {
-    io::write_all(1, b"\n");
+fn end_line(rt: &impl Print) -> io::Result<()> {
+    println!(rt;)
 }
 
-fn number(n: u64) {
-    io::write_all(1, b" ");
-    io::print_decimal(1, n);
+fn number(rt: &impl Print, n: u64) -> io::Result<()> {
+    print!(rt; " {n}")
 }
 
-fn count(c: Count) {
+fn count(rt: &impl Print, c: Count) -> io::Result<()> {
     if c.carry == 0 {
-        number(c.low);
+        number(rt, c.low)
     } else {
-        io::write_all(1, b" 18446744073709551616");
+        print!(rt; " 18446744073709551616")
     }
 }
 
-fn run(r: Run) {
-    number(r.start);
-    io::write_all(1, b"..");
-    io::print_decimal(1, r.end);
+fn run(rt: &impl Print, r: Run) -> io::Result<()> {
+    print!(rt; " {}..{}", r.start, r.end)
 }
 
-fn refused(r: Refusal) {
-    io::write_all(1, b" refused");
-    number(model::refusal_number(r));
+fn refused(rt: &impl Print, r: Refusal) -> io::Result<()> {
+    print!(rt; " refused")?;
+    number(rt, model::refusal_number(r))
 }
 
-fn none() {
-    io::write_all(1, b" none");
+fn none(rt: &impl Print) -> io::Result<()> {
+    print!(rt; " none")
 }
 
 // ---- answers
-fn completed(c: Completed) {
+fn completed(rt: &impl Print, c: Completed) -> io::Result<()> {
     match c {
-        Completed::Refused(r) => refused(r),
-        Completed::Done => {}
+        Completed::Refused(r) => refused(rt, r),
+        Completed::Done => Ok(()),
     }
 }
 
-fn counted(c: Counted) {
+fn counted(rt: &impl Print, c: Counted) -> io::Result<()> {
     match c {
-        Counted::Refused(r) => refused(r),
-        Counted::Count(n) => count(n),
+        Counted::Refused(r) => refused(rt, r),
+        Counted::Count(n) => count(rt, n),
     }
 }
 
-fn numbered(n: Numbered) {
+fn numbered(rt: &impl Print, n: Numbered) -> io::Result<()> {
     match n {
-        Numbered::Refused(r) => refused(r),
-        Numbered::Number(k) => number(k),
+        Numbered::Refused(r) => refused(rt, r),
+        Numbered::Number(k) => number(rt, k),
     }
 }
 
 // The positions of a tally.
-fn tallied(t: Tallied) {
+fn tallied(rt: &impl Print, t: Tallied) -> io::Result<()> {
     match t {
-        Tallied::Refused(r) => refused(r),
-        Tallied::Tally(n) => count(n.count),
+        Tallied::Refused(r) => refused(rt, r),
+        Tallied::Tally(n) => count(rt, n.count),
     }
 }
 
-fn around(a: Around) {
+fn around(rt: &impl Print, a: Around) -> io::Result<()> {
     match a {
-        Around::Refused(r) => refused(r),
-        Around::Run(r) => run(r),
+        Around::Refused(r) => refused(rt, r),
+        Around::Run(r) => run(rt, r),
     }
 }
 
-fn found(f: Found) {
+fn found(rt: &impl Print, f: Found) -> io::Result<()> {
     match f {
-        Found::Refused(r) => refused(r),
-        Found::At(x) => number(x),
-        Found::Nowhere => none(),
+        Found::Refused(r) => refused(rt, r),
+        Found::At(x) => number(rt, x),
+        Found::Nowhere => none(rt),
     }
 }
 
-fn byte(out: &[u8], i: usize) -> u64
-    requires { i < length out.now }
-{
-    out[i] as u64
-}
-
-fn hexes(out: &[u8], n: usize) {
-    let mut i: usize = 0;
-    while i < n {
-        if i < out.len() {
-            io::print_hex(1, byte(out, i), 2);
-        }
-        i += 1;
+// The first n bytes, or all of them where there are fewer.
+fn hexes(rt: &impl Print, out: &[u8], n: usize) -> io::Result<()> {
+    for b in out.iter().take(n) {
+        print!(rt; "{b:02x}")?;
     }
+    Ok(())
 }
 
-fn written(w: Written, out: &[u8]) {
+fn written(rt: &impl Print, w: Written, out: &[u8]) -> io::Result<()> {
     match w {
-        Written::Refused(r) => refused(r),
+        Written::Refused(r) => refused(rt, r),
         Written::Front(n) => {
-            io::write_all(1, b" ");
-            hexes(out, n);
+            print!(rt; " ")?;
+            hexes(rt, out, n)
         }
     }
 }
 
-fn mended(m: Mended, out: &[u8], report: &[u8]) {
+fn mended(rt: &impl Print, m: Mended, out: &[u8], report: &[u8]) -> io::Result<()> {
     match m {
-        Mended::Refused(r) => refused(r),
+        Mended::Refused(r) => refused(rt, r),
         Mended::Bytes(n, k) => {
-            io::write_all(1, b" ");
-            hexes(out, n);
-            io::write_all(1, b" ");
-            hexes(report, k);
+            print!(rt; " ")?;
+            hexes(rt, out, n)?;
+            print!(rt; " ")?;
+            hexes(rt, report, k)
         }
     }
 }
@@ -153,246 +140,284 @@ fn only(words: &mut [u64], start: u64, end: u64) {
 }
 
 // Prints the runs that are left in a listing, four at most.
-fn draws(words: &[u64], first: Listing) {
+fn draws(rt: &impl Print, words: &[u64], first: Listing) -> io::Result<()> {
     let mut l = first;
-    let mut i: u64 = 0;
-    while i < 4 {
+    for _ in 0..4 {
         let d = report::draw_front(words, 0, l);
         match d {
-            Drawn::Refused(r) => refused(r),
+            Drawn::Refused(r) => refused(rt, r)?,
             Drawn::Run(r, m) => {
-                run(r);
+                run(rt, r)?;
                 l = m;
             }
             Drawn::End(m) => {
                 l = m;
             }
         }
-        i += 1;
     }
+    Ok(())
 }
 
-fn ranges(words: &[u64], lower: Bound, upper: Bound, value: bool) {
+fn ranges(
+    rt: &impl Print,
+    words: &[u64],
+    lower: Bound,
+    upper: Bound,
+    value: bool,
+) -> io::Result<()> {
     let l = report::ranges(words, 0, lower, upper, value);
     match l {
-        Listed::Refused(r) => refused(r),
-        Listed::Listing(m) => draws(words, m),
+        Listed::Refused(r) => refused(rt, r),
+        Listed::Listing(m) => draws(rt, words, m),
     }
 }
 
 // All runs held, between braces.
-fn held(words: &[u64]) {
-    io::write_all(1, b" {");
-    ranges(words, Bound::Unbounded, Bound::Unbounded, true);
-    io::write_all(1, b" }");
+fn held(rt: &impl Print, words: &[u64]) -> io::Result<()> {
+    print!(rt; " {{")?;
+    ranges(rt, words, Bound::Unbounded, Bound::Unbounded, true)?;
+    print!(rt; " }}")
 }
 
-fn counts(words: &[u64]) {
-    tallied(report::tally(words, 0, Bound::Unbounded, Bound::Unbounded, true));
+fn counts(rt: &impl Print, words: &[u64]) -> io::Result<()> {
+    tallied(
+        rt,
+        report::tally(words, 0, Bound::Unbounded, Bound::Unbounded, true),
+    )
 }
 
 // ---- the cases
-fn case_1(s: &mut [u64]) {
-    line(1);
+fn case_1(rt: &impl Print, s: &mut [u64]) -> io::Result<()> {
+    line(rt, 1)?;
     empty(s);
-    counted(set(s, 2, 8, true));
-    counted(set(s, 4, 6, false));
-    counted(set(s, 2, 4, true));
-    end_line();
+    counted(rt, set(s, 2, 8, true))?;
+    counted(rt, set(s, 4, 6, false))?;
+    counted(rt, set(s, 2, 4, true))?;
+    end_line(rt)
 }
 
-fn case_2(s: &mut [u64]) {
-    line(2);
+fn case_2(rt: &impl Print, s: &mut [u64]) -> io::Result<()> {
+    line(rt, 2)?;
     empty(s);
-    counted(change::set(s, 0, Bound::Unbounded, Bound::Unbounded, true));
-    counted(change::set(s, 0, Bound::Unbounded, Bound::Unbounded, true));
-    end_line();
+    counted(
+        rt,
+        change::set(s, 0, Bound::Unbounded, Bound::Unbounded, true),
+    )?;
+    counted(
+        rt,
+        change::set(s, 0, Bound::Unbounded, Bound::Unbounded, true),
+    )?;
+    end_line(rt)
 }
 
-fn case_3(s: &mut [u64]) {
-    line(3);
+fn case_3(rt: &impl Print, s: &mut [u64]) -> io::Result<()> {
+    line(rt, 3)?;
     empty(s);
-    counted(change::set(s, 0, Bound::Excluded(u64::MAX), Bound::Unbounded, true));
-    held(s);
-    end_line();
+    counted(
+        rt,
+        change::set(s, 0, Bound::Excluded(u64::MAX), Bound::Unbounded, true),
+    )?;
+    held(rt, s)?;
+    end_line(rt)
 }
 
-fn case_4(s: &mut [u64]) {
-    line(4);
+fn case_4(rt: &impl Print, s: &mut [u64]) -> io::Result<()> {
+    line(rt, 4)?;
     only(s, 2, 7);
-    around(report::run_at(s, 0, 4));
-    around(report::run_at(s, 0, 0));
-    around(report::run_at(s, 0, 9));
-    end_line();
+    around(rt, report::run_at(s, 0, 4))?;
+    around(rt, report::run_at(s, 0, 0))?;
+    around(rt, report::run_at(s, 0, 9))?;
+    end_line(rt)
 }
 
-fn case_5(s: &mut [u64]) {
-    line(5);
+fn case_5(rt: &impl Print, s: &mut [u64]) -> io::Result<()> {
+    line(rt, 5)?;
     only(s, 2, 7);
-    found(report::find(s, 0, Bound::Included(4), Bound::Unbounded, false));
-    found(report::find(s, 0, Bound::Included(2), Bound::Excluded(8), false));
-    end_line();
+    found(
+        rt,
+        report::find(s, 0, Bound::Included(4), Bound::Unbounded, false),
+    )?;
+    found(
+        rt,
+        report::find(s, 0, Bound::Included(2), Bound::Excluded(8), false),
+    )?;
+    end_line(rt)
 }
 
-fn case_6(s: &mut [u64]) {
-    line(6);
+fn case_6(rt: &impl Print, s: &mut [u64]) -> io::Result<()> {
+    line(rt, 6)?;
     only(s, 2, 7);
-    found(report::select(s, 0, Bound::Included(4), Bound::Excluded(12), false, 1));
-    found(report::select(s, 0, Bound::Included(4), Bound::Excluded(12), true, 4));
-    end_line();
+    found(
+        rt,
+        report::select(s, 0, Bound::Included(4), Bound::Excluded(12), false, 1),
+    )?;
+    found(
+        rt,
+        report::select(s, 0, Bound::Included(4), Bound::Excluded(12), true, 4),
+    )?;
+    end_line(rt)
 }
 
-fn case_7(s: &mut [u64]) {
-    line(7);
+fn case_7(rt: &impl Print, s: &mut [u64]) -> io::Result<()> {
+    line(rt, 7)?;
     only(s, 2, 7);
     set(s, 10, 15, true);
-    ranges(s, Bound::Included(4), Bound::Excluded(12), true);
-    io::write_all(1, b" false");
-    ranges(s, Bound::Included(4), Bound::Excluded(12), false);
-    end_line();
+    ranges(rt, s, Bound::Included(4), Bound::Excluded(12), true)?;
+    print!(rt; " false")?;
+    ranges(rt, s, Bound::Included(4), Bound::Excluded(12), false)?;
+    end_line(rt)
 }
 
-fn case_8(s: &mut [u64]) {
-    line(8);
+fn case_8(rt: &impl Print, s: &mut [u64]) -> io::Result<()> {
+    line(rt, 8)?;
     only(s, 2, 7);
-    completed(change::flip(s, 0, Bound::Included(4), Bound::Excluded(10)));
-    held(s);
-    end_line();
+    completed(
+        rt,
+        change::flip(s, 0, Bound::Included(4), Bound::Excluded(10)),
+    )?;
+    held(rt, s)?;
+    end_line(rt)
 }
 
-fn case_9(s: &mut [u64], a: &[u64], b: &[u64]) {
-    line(9);
-    completed(join::combine(s, 0, Operation::And, a, 0, b, 0));
-    counts(s);
-    completed(join::combine(s, 0, Operation::Or, a, 0, b, 0));
-    counts(s);
-    completed(join::combine(s, 0, Operation::Xor, a, 0, b, 0));
-    held(s);
-    end_line();
+fn case_9(rt: &impl Print, s: &mut [u64], a: &[u64], b: &[u64]) -> io::Result<()> {
+    line(rt, 9)?;
+    completed(rt, join::combine(s, 0, Operation::And, a, 0, b, 0))?;
+    counts(rt, s)?;
+    completed(rt, join::combine(s, 0, Operation::Or, a, 0, b, 0))?;
+    counts(rt, s)?;
+    completed(rt, join::combine(s, 0, Operation::Xor, a, 0, b, 0))?;
+    held(rt, s)?;
+    end_line(rt)
 }
 
-fn case_10(s: &mut [u64]) {
-    line(10);
+fn case_10(rt: &impl Print, s: &mut [u64]) -> io::Result<()> {
+    line(rt, 10)?;
     only(s, u64::MAX - 1, u64::MAX);
-    completed(change::shift(s, 0, 1, true));
-    held(s);
+    completed(rt, change::shift(s, 0, 1, true))?;
+    held(rt, s)?;
     only(s, u64::MAX - 1, u64::MAX);
-    completed(change::shift(s, 0, 2, true));
-    held(s);
-    end_line();
+    completed(rt, change::shift(s, 0, 2, true))?;
+    held(rt, s)?;
+    end_line(rt)
 }
 
-fn case_11(s: &mut [u64]) {
-    line(11);
+fn case_11(rt: &impl Print, s: &mut [u64]) -> io::Result<()> {
+    line(rt, 11)?;
     only(s, 0, 3);
-    completed(change::shift(s, 0, 2, false));
-    held(s);
+    completed(rt, change::shift(s, 0, 2, false))?;
+    held(rt, s)?;
     only(s, 0, 3);
-    completed(change::shift(s, 0, 4, false));
-    held(s);
-    end_line();
+    completed(rt, change::shift(s, 0, 4, false))?;
+    held(rt, s)?;
+    end_line(rt)
 }
 
-fn case_12(s: &mut [u64]) {
-    line(12);
+fn case_12(rt: &impl Print, s: &mut [u64]) -> io::Result<()> {
+    line(rt, 12)?;
     only(s, 10, 19);
-    completed(change::shift(s, 0, 5, true));
-    counted(set(s, 0, 15, true));
-    held(s);
-    end_line();
+    completed(rt, change::shift(s, 0, 5, true))?;
+    counted(rt, set(s, 0, 15, true))?;
+    held(rt, s)?;
+    end_line(rt)
 }
 
-fn case_13(one: &mut [u64]) {
-    line(13);
+fn case_13(rt: &impl Print, one: &mut [u64]) -> io::Result<()> {
+    line(rt, 13)?;
     only(one, 2, 7);
-    counted(set(one, 4, 6, false));
-    counted(set(one, 2, 4, false));
-    end_line();
+    counted(rt, set(one, 4, 6, false))?;
+    counted(rt, set(one, 2, 4, false))?;
+    end_line(rt)
 }
 
-fn case_14(s: &mut [u64], one: &mut [u64], a: &mut [u64]) {
-    line(14);
+fn case_14(rt: &impl Print, s: &mut [u64], one: &mut [u64], a: &mut [u64]) -> io::Result<()> {
+    line(rt, 14)?;
     only(a, 5, 5);
-    completed(join::not(s, 0, a, 0));
-    held(s);
-    completed(join::not(one, 0, a, 0));
-    end_line();
+    completed(rt, join::not(s, 0, a, 0))?;
+    held(rt, s)?;
+    completed(rt, join::not(one, 0, a, 0))?;
+    end_line(rt)
 }
 
-fn case_15(s: &mut [u64], out: &mut [u8; 37]) {
-    line(15);
+fn case_15(rt: &impl Print, s: &mut [u64], out: &mut [u8; 37]) -> io::Result<()> {
+    line(rt, 15)?;
     only(s, 2, 3);
     set(s, 8, 10, true);
     let w = write::write_set(s, 0, Edition::Rows, out);
-    written(w, out);
+    written(rt, w, out)?;
     let m = write::write_map(s, 0, 0, 10, out);
-    written(m, out);
-    numbered(report::fill(s, 0, 0, 3));
-    end_line();
+    written(rt, m, out)?;
+    numbered(rt, report::fill(s, 0, 0, 3))?;
+    end_line(rt)
 }
 
 // The set of case 15 in edition 2, and in edition 1 after a load of that (document 02, Ticket 8).
-fn case_15_columns(s: &mut [u64], out: &mut [u8; 37]) {
-    io::write_all(1, b"15, edition 2:");
+fn case_15_columns(rt: &impl Print, s: &mut [u64], out: &mut [u8; 37]) -> io::Result<()> {
+    print!(rt; "15, edition 2:")?;
     only(s, 2, 3);
     set(s, 8, 10, true);
     let c = write::write_set(s, 0, Edition::Columns, out);
-    written(c, out);
-    completed(bytes::load(s, 0, out));
+    written(rt, c, out)?;
+    completed(rt, bytes::load(s, 0, out))?;
     let w = write::write_set(s, 0, Edition::Rows, out);
-    written(w, out);
-    end_line();
+    written(rt, w, out)?;
+    end_line(rt)
 }
 
 // The bytes of case 15 with 4 and 5 in place of 8 and 9.
-fn case_16(s: &mut [u64], out: &mut [u8; 37]) {
-    line(16);
+fn case_16(rt: &impl Print, s: &mut [u64], out: &mut [u8; 37]) -> io::Result<()> {
+    line(rt, 16)?;
     only(s, 2, 3);
     set(s, 8, 10, true);
     write::write_set(s, 0, Edition::Rows, out);
     out[28] = 4;
     out[36] = 5;
-    completed(bytes::load(s, 0, out));
-    held(s);
-    end_line();
+    completed(rt, bytes::load(s, 0, out))?;
+    held(rt, s)?;
+    end_line(rt)
 }
 
 // The same bytes mended: the two runs touch, so both are joined (document 02, Ticket 9).
-fn case_16_mended(s: &mut [u64], told: &[u8; 37], out: &mut [u8; 21], report: &mut [u8; 2]) {
-    io::write_all(1, b"16, mended:");
+fn case_16_mended(
+    rt: &impl Print,
+    s: &mut [u64],
+    told: &[u8; 37],
+    out: &mut [u8; 21],
+    report: &mut [u8; 2],
+) -> io::Result<()> {
+    print!(rt; "16, mended:")?;
     only(s, 8, 9);
     let m = bytes::mend(s, 0, told, out, report);
-    mended(m, out, report);
-    held(s);
-    end_line();
+    mended(rt, m, out, report)?;
+    held(rt, s)?;
+    end_line(rt)
 }
 
-fn main() {
+fn main(rt: HostRuntime) -> io::Result<()> {
     let mut s = [0u64; 496];
     let mut a = [0u64; 496];
     let mut b = [0u64; 496];
     let mut one = [0u64; 400];
     let mut out = [0u8; 37];
-    case_1(&mut s);
-    case_2(&mut s);
-    case_3(&mut s);
-    case_4(&mut s);
-    case_5(&mut s);
-    case_6(&mut s);
-    case_7(&mut s);
-    case_8(&mut s);
+    case_1(&rt, &mut s)?;
+    case_2(&rt, &mut s)?;
+    case_3(&rt, &mut s)?;
+    case_4(&rt, &mut s)?;
+    case_5(&rt, &mut s)?;
+    case_6(&rt, &mut s)?;
+    case_7(&rt, &mut s)?;
+    case_8(&rt, &mut s)?;
     only(&mut a, 2, 7);
     only(&mut b, 5, 9);
-    case_9(&mut s, &a, &b);
-    case_10(&mut s);
-    case_11(&mut s);
-    case_12(&mut s);
-    case_13(&mut one);
-    case_14(&mut s, &mut one, &mut a);
-    case_15(&mut s, &mut out);
-    case_15_columns(&mut s, &mut out);
-    case_16(&mut s, &mut out);
+    case_9(&rt, &mut s, &a, &b)?;
+    case_10(&rt, &mut s)?;
+    case_11(&rt, &mut s)?;
+    case_12(&rt, &mut s)?;
+    case_13(&rt, &mut one)?;
+    case_14(&rt, &mut s, &mut one, &mut a)?;
+    case_15(&rt, &mut s, &mut out)?;
+    case_15_columns(&rt, &mut s, &mut out)?;
+    case_16(&rt, &mut s, &mut out)?;
     let mut whole = [0u8; 21];
     let mut notes = [0u8; 2];
-    case_16_mended(&mut s, &out, &mut whole, &mut notes);
+    case_16_mended(&rt, &mut s, &out, &mut whole, &mut notes)
 }
