@@ -1,6 +1,6 @@
 -- Text put into a slice, and bytes read into one. Assumes nothing: these are definitions.
 use Rattle.std.specs.Prelude.{ℕ, ◌+◌, ◌≤◌, ◌≡◌, List, ◌∷◌, ◌++◌, length, take}
-use Rattle.io.specs.Counts.{IsPrefixLen}
+use Rattle.listset.specs.Counts.{IsPrefixLen}
 use Rattle.model.specs.declared.Run.{Run}
 use Rattle.model.specs.declared.Listing.{Listing}
 use Rattle.model.specs.Positions.{Positions, remaining}

@@ -1,7 +1,7 @@
 -- What `listset` prints of its input, as ASCII (document 01, "Written sets, maps, fill").
 -- Assumes nothing: these are definitions.
 use Rattle.std.specs.Prelude.{ℕ, zero, suc, ◌/◌, true, cond, List, [], ◌∷◌, ◌++◌, ltb, length}
-use Rattle.io.specs.Digits.{last_digits}
+use Rattle.listset.specs.Digits.{last_digits}
 use Rattle.model.specs.declared.Run.{Run}
 use Rattle.model.specs.Numbers.{size}
 use Rattle.model.specs.Positions.{Positions, count, held_runs, stretches, empty}

@@ -3,17 +3,20 @@
 #![tactic(auto)]
 
 ghost use Rattle.std.specs.Prelude.{◌+◌, ◌*◌, ◌≤◌, ◌^◌, ◌≡◌, true, length, take};
-ghost use Rattle.io.specs.Counts.{IsPrefixLen};
 ghost use Rattle.model.specs.Numbers.{size, worth, refusal_number};
 ghost use Rattle.model.specs.Positions.{held_runs, remaining};
 ghost use Rattle.store.specs.Layout.{capacity, held_by};
 ghost use Rattle.store.specs.Settle.{Openable};
 ghost use Rattle.reports.specs.Reports.{Measured};
+ghost use Rattle.listset.specs.Counts.{IsPrefixLen};
 ghost use Rattle.listset.specs.Text.{decimal, run_line, run_lines, refused_line, count_lines, set_lines, printed};
 ghost use Rattle.listset.specs.Put.{Puts, PutsNext, Within, Filled};
 
 use interval_bit_set::{bytes, make, report};
+use itoa::Buffer;
 use model::{Bound, Completed, Count, Drawn, Listed, Listing, Refusal, Run, Tallied, Tally};
+use std::io;
+use std::io::Read;
 
 const CAPACITY: usize = 950;
 
@@ -45,9 +48,8 @@ fn put_number(out: &mut [u8], at: usize, n: u64) -> usize
     requires { at + 20 ≤ length out.old }
     ensures { Puts out.old at (decimal n) out.new result }
 {
-    let mut digits = [0u8; 20];
-    let k = io::decimal(n, &mut digits);
-    put(out, at, &digits[..k])
+    let mut digits = Buffer::new();
+    put(out, at, digits.format(n).as_bytes())
 }
 
 // A count of positions: at most 2^64, and only that has a carry.
@@ -206,25 +208,24 @@ enum Reading {
 }
 
 // Reads once, into the bytes from n on, and tells how many came: none where the input has ended.
-fn read_more(bytes: &mut [u8], n: usize) -> Reading
+fn read_more(input: &mut impl Read, bytes: &mut [u8], n: usize) -> Reading
     requires { n ≤ length bytes.old }
     ensures within { Within result n (length bytes.old) }
     ensures bytes_len_unchanged { length bytes.new ≡ length bytes.old }
 {
-    let got = libc::read(libc::STDIN_FILENO, &mut bytes[n..]);
-    if got < 0 {
-        return Reading::Failed;
+    match input.read(&mut bytes[n..]) {
+        Ok(k) => Reading::Bytes(k),
+        Err(_) => Reading::Failed,
     }
-    Reading::Bytes(io::count(got, &bytes[n..]))
 }
 
 // Reads until the input ends or the bytes are full, and tells how many there are.
-fn read_all(bytes: &mut [u8]) -> Reading
+fn read_all(input: &mut impl Read, bytes: &mut [u8]) -> Reading
     ensures { Filled result bytes.new }
 {
     let mut n: usize = 0;
     while n < bytes.len() {
-        let r = read_more(bytes, n);
+        let r = read_more(input, bytes, n);
         match r {
             Reading::Failed => {
                 return Reading::Failed;
@@ -240,28 +241,23 @@ fn read_all(bytes: &mut [u8]) -> Reading
     Reading::Bytes(n)
 }
 
-fn show(bytes: &[u8]) {
+fn show(rt: &(impl Print + Eprint), bytes: &[u8]) -> io::Result<()> {
     let mut text = [0u8; TEXT];
     let n = answer(&mut text, bytes);
-    if !io::write_all(libc::STDOUT_FILENO, &text[..n]) {
-        io::write_all(
-            libc::STDERR_FILENO,
-            b"listset: cannot write standard output\n",
-        );
+    if rt.write_all(&text[..n]).is_err() {
+        eprintln!(rt; "listset: cannot write standard output")?;
     }
+    Ok(())
 }
 
-fn main() {
+// That the input cannot be read, or the text not be written, is said on standard error, and the program ends as it does otherwise. Where that
+// cannot be said either, it hands the error back.
+fn main(rt: HostRuntime) -> io::Result<()> {
     // A byte more than is taken, so that a longer input shows.
     let mut bytes = [0u8; MOST + 1];
-    let r = read_all(&mut bytes);
+    let r = read_all(&mut rt.stdin(), &mut bytes);
     match r {
-        Reading::Failed => {
-            io::write_all(
-                libc::STDERR_FILENO,
-                b"listset: cannot read standard input\n",
-            );
-        }
-        Reading::Bytes(n) => show(&bytes[..n]),
+        Reading::Failed => eprintln!(rt; "listset: cannot read standard input"),
+        Reading::Bytes(n) => show(&rt, &bytes[..n]),
     }
 }

@@ -1,280 +1,268 @@
-// Answers as lines on standard output.
+// Answers as lines on standard output. Each function hands a failed write back.
 use model::{
     Around, Completed, Count, Counted, Drawn, Found, Listed, Listing, Mended, Numbered, Refusal,
     Run, Tallied, Tested, Written,
 };
+use std::io;
 
-fn end_line() {
-    io::write_all(1, b"\n");
+fn end_line(rt: &impl Print) -> io::Result<()> {
+    println!(rt;)
 }
 
-fn number(n: u64) {
-    io::write_all(1, b" ");
-    io::print_decimal(1, n);
+fn number(rt: &impl Print, n: u64) -> io::Result<()> {
+    print!(rt; " {n}")
 }
 
-fn flag(value: bool) {
+fn flag(rt: &impl Print, value: bool) -> io::Result<()> {
     if value {
-        io::write_all(1, b" 1");
+        print!(rt; " 1")
     } else {
-        io::write_all(1, b" 0");
+        print!(rt; " 0")
     }
 }
 
-fn count(c: Count) {
+fn count(rt: &impl Print, c: Count) -> io::Result<()> {
     if c.carry == 0 {
-        number(c.low);
+        number(rt, c.low)
     } else {
-        io::write_all(1, b" 18446744073709551616");
+        print!(rt; " 18446744073709551616")
     }
 }
 
-fn wide(b: u8) -> u64 {
-    b as u64
+fn run(rt: &impl Print, r: Run) -> io::Result<()> {
+    number(rt, r.start)?;
+    number(rt, r.end)
 }
 
-fn run(r: Run) {
-    number(r.start);
-    number(r.end);
+fn listing(rt: &impl Print, l: Listing) -> io::Result<()> {
+    number(rt, l.first)?;
+    number(rt, l.last)?;
+    flag(rt, l.value)
 }
 
-fn listing(l: Listing) {
-    number(l.first);
-    number(l.last);
-    flag(l.value);
-}
-
-fn refused(r: Refusal) {
-    io::write_all(1, b"refused");
-    number(model::refusal_number(r));
+fn refused(rt: &impl Print, r: Refusal) -> io::Result<()> {
+    print!(rt; "refused")?;
+    number(rt, model::refusal_number(r))
 }
 
 // The same line so many times.
-fn repeated(line: &[u8], times: usize) {
-    let mut i: usize = 0;
-    while i < times {
-        io::write_all(1, line);
-        i += 1;
+fn repeated(rt: &impl Print, line: &str, times: usize) -> io::Result<()> {
+    for _ in 0..times {
+        println!(rt; "{line}")?;
     }
+    Ok(())
 }
 
 // The answer to each of so many lines.
-pub fn not_understood(lines: usize) {
-    repeated(b"not understood\n", lines);
+pub fn not_understood(rt: &impl Print, lines: usize) -> io::Result<()> {
+    repeated(rt, "not understood", lines)
 }
 
-pub fn completed(c: Completed) {
+pub fn completed(rt: &impl Print, c: Completed) -> io::Result<()> {
     match c {
-        Completed::Refused(r) => refused(r),
-        Completed::Done => {
-            io::write_all(1, b"done");
-        }
+        Completed::Refused(r) => refused(rt, r)?,
+        Completed::Done => print!(rt; "done")?,
     }
-    end_line();
+    end_line(rt)
 }
 
-pub fn counted(c: Counted) {
+pub fn counted(rt: &impl Print, c: Counted) -> io::Result<()> {
     match c {
-        Counted::Refused(r) => refused(r),
+        Counted::Refused(r) => refused(rt, r)?,
         Counted::Count(n) => {
-            io::write_all(1, b"number");
-            count(n);
+            print!(rt; "number")?;
+            count(rt, n)?;
         }
     }
-    end_line();
+    end_line(rt)
 }
 
-pub fn numbered(n: Numbered) {
+pub fn numbered(rt: &impl Print, n: Numbered) -> io::Result<()> {
     match n {
-        Numbered::Refused(r) => refused(r),
+        Numbered::Refused(r) => refused(rt, r)?,
         Numbered::Number(k) => {
-            io::write_all(1, b"number");
-            number(k);
+            print!(rt; "number")?;
+            number(rt, k)?;
         }
     }
-    end_line();
+    end_line(rt)
 }
 
 // The positions, then the runs.
-pub fn tallied(t: Tallied) {
+pub fn tallied(rt: &impl Print, t: Tallied) -> io::Result<()> {
     match t {
-        Tallied::Refused(r) => refused(r),
+        Tallied::Refused(r) => refused(rt, r)?,
         Tallied::Tally(n) => {
-            io::write_all(1, b"number");
-            count(n.count);
-            number(n.runs);
+            print!(rt; "number")?;
+            count(rt, n.count)?;
+            number(rt, n.runs)?;
         }
     }
-    end_line();
+    end_line(rt)
 }
 
-pub fn tested(t: Tested) {
+pub fn tested(rt: &impl Print, t: Tested) -> io::Result<()> {
     match t {
-        Tested::Refused(r) => refused(r),
+        Tested::Refused(r) => refused(rt, r)?,
         Tested::Is(v) => {
-            io::write_all(1, b"value");
-            flag(v);
+            print!(rt; "value")?;
+            flag(rt, v)?;
         }
     }
-    end_line();
+    end_line(rt)
 }
 
-pub fn around(a: Around) {
+pub fn around(rt: &impl Print, a: Around) -> io::Result<()> {
     match a {
-        Around::Refused(r) => refused(r),
+        Around::Refused(r) => refused(rt, r)?,
         Around::Run(r) => {
-            io::write_all(1, b"run");
-            run(r);
+            print!(rt; "run")?;
+            run(rt, r)?;
         }
     }
-    end_line();
+    end_line(rt)
 }
 
-pub fn found(f: Found) {
+pub fn found(rt: &impl Print, f: Found) -> io::Result<()> {
     match f {
-        Found::Refused(r) => refused(r),
+        Found::Refused(r) => refused(rt, r)?,
         Found::At(x) => {
-            io::write_all(1, b"at");
-            number(x);
+            print!(rt; "at")?;
+            number(rt, x)?;
         }
-        Found::Nowhere => {
-            io::write_all(1, b"none");
-        }
+        Found::Nowhere => print!(rt; "none")?,
     }
-    end_line();
+    end_line(rt)
 }
 
-pub fn listed(l: Listed) {
+pub fn listed(rt: &impl Print, l: Listed) -> io::Result<()> {
     match l {
-        Listed::Refused(r) => refused(r),
+        Listed::Refused(r) => refused(rt, r)?,
         Listed::Listing(m) => {
-            io::write_all(1, b"listing");
-            listing(m);
+            print!(rt; "listing")?;
+            listing(rt, m)?;
         }
     }
-    end_line();
+    end_line(rt)
 }
 
-pub fn drawn(d: Drawn) {
+pub fn drawn(rt: &impl Print, d: Drawn) -> io::Result<()> {
     match d {
-        Drawn::Refused(r) => refused(r),
+        Drawn::Refused(r) => refused(rt, r)?,
         Drawn::Run(r, l) => {
-            io::write_all(1, b"drawn");
-            run(r);
-            listing(l);
+            print!(rt; "drawn")?;
+            run(rt, r)?;
+            listing(rt, l)?;
         }
         Drawn::End(l) => {
-            io::write_all(1, b"end");
-            listing(l);
+            print!(rt; "end")?;
+            listing(rt, l)?;
         }
     }
-    end_line();
+    end_line(rt)
 }
 
-fn hexes(out: &[u8]) {
-    let mut i: usize = 0;
-    while i < out.len() {
-        io::print_hex(1, wide(out[i]), 2);
-        i += 1;
+fn hexes(rt: &impl Print, out: &[u8]) -> io::Result<()> {
+    for b in out {
+        print!(rt; "{b:02x}")?;
     }
+    Ok(())
 }
 
 // How many bits were zeroed, and the map.
-pub fn cleared(n: Numbered, map: &[u8]) {
+pub fn cleared(rt: &impl Print, n: Numbered, map: &[u8]) -> io::Result<()> {
     match n {
-        Numbered::Refused(r) => refused(r),
+        Numbered::Refused(r) => refused(rt, r)?,
         Numbered::Number(k) => {
-            io::write_all(1, b"cleared");
-            number(k);
-            io::write_all(1, b" ");
-            hexes(map);
+            print!(rt; "cleared")?;
+            number(rt, k)?;
+            print!(rt; " ")?;
+            hexes(rt, map)?;
         }
     }
-    end_line();
+    end_line(rt)
 }
 
 // How many bytes of a slice were written, and the whole slice.
-fn slice(n: usize, out: &[u8]) {
-    number(n as u64);
-    io::write_all(1, b" ");
-    if out.len() == 0 {
-        io::write_all(1, b"-");
+fn slice(rt: &impl Print, n: usize, out: &[u8]) -> io::Result<()> {
+    number(rt, n as u64)?;
+    print!(rt; " ")?;
+    if out.is_empty() {
+        print!(rt; "-")?;
     }
-    hexes(out);
+    hexes(rt, out)
 }
 
 // The same of a set or a map.
-pub fn written(w: Written, out: &[u8]) {
+pub fn written(rt: &impl Print, w: Written, out: &[u8]) -> io::Result<()> {
     match w {
-        Written::Refused(r) => refused(r),
+        Written::Refused(r) => refused(rt, r)?,
         Written::Front(n) => {
-            io::write_all(1, b"written");
-            slice(n, out);
+            print!(rt; "written")?;
+            slice(rt, n, out)?;
         }
     }
-    end_line();
+    end_line(rt)
 }
 
 // And of a mended set, and of its report.
-pub fn mended(w: Mended, out: &[u8], report: &[u8]) {
+pub fn mended(rt: &impl Print, w: Mended, out: &[u8], report: &[u8]) -> io::Result<()> {
     match w {
-        Mended::Refused(r) => refused(r),
+        Mended::Refused(r) => refused(rt, r)?,
         Mended::Bytes(n, m) => {
-            io::write_all(1, b"written");
-            slice(n, out);
-            slice(m, report);
+            print!(rt; "written")?;
+            slice(rt, n, out)?;
+            slice(rt, m, report)?;
         }
     }
-    end_line();
+    end_line(rt)
 }
 
-fn words(all: &[u64]) {
-    let mut i: usize = 0;
-    while i < all.len() {
-        number(all[i]);
-        i += 1;
+fn words(rt: &impl Print, all: &[u64]) -> io::Result<()> {
+    for w in all {
+        number(rt, *w)?;
     }
+    Ok(())
 }
 
 // How many words of a slice were written, and the whole slice.
-pub fn worded(w: Written, out: &[u64]) {
+pub fn worded(rt: &impl Print, w: Written, out: &[u64]) -> io::Result<()> {
     match w {
-        Written::Refused(r) => refused(r),
+        Written::Refused(r) => refused(rt, r)?,
         Written::Front(n) => {
-            io::write_all(1, b"worded");
-            number(n as u64);
-            words(out);
+            print!(rt; "worded")?;
+            number(rt, n as u64)?;
+            words(rt, out)?;
         }
     }
-    end_line();
+    end_line(rt)
 }
 
 // Records of eight words, a line for each.
-fn records(words: &[u64]) {
-    let mut i: usize = 0;
-    while i < words.len() {
+fn records(rt: &impl Print, words: &[u64]) -> io::Result<()> {
+    for (i, w) in words.iter().enumerate() {
         if i % 8 == 0 {
-            io::write_all(1, b"record");
+            print!(rt; "record")?;
         }
-        number(words[i]);
+        number(rt, *w)?;
         if i % 8 == 7 {
-            end_line();
+            end_line(rt)?;
         }
-        i += 1;
     }
+    Ok(())
 }
 
 // A frame, and the records that answer its own; none of them is answered where the frame is refused.
-pub fn framed(c: Completed, answers: &[u64]) {
+pub fn framed(rt: &impl Print, c: Completed, answers: &[u64]) -> io::Result<()> {
     match c {
         Completed::Refused(r) => {
-            refused(r);
-            end_line();
-            repeated(b"-\n", answers.len() / 8);
+            refused(rt, r)?;
+            end_line(rt)?;
+            repeated(rt, "-", answers.len() / 8)
         }
         Completed::Done => {
-            io::write_all(1, b"done\n");
-            records(answers);
+            println!(rt; "done")?;
+            records(rt, answers)
         }
     }
 }

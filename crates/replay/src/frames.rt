@@ -4,6 +4,7 @@
 ghost use Rattle.std.specs.Prelude.{◌≡◌, ◌≤◌, ◌<◌, length};
 
 use crate::{answer, line};
+use std::io;
 
 // What a word of row 0 tells, which is at most another number.
 fn told(rows: &[u64], i: usize, most: u64) -> u64
@@ -72,7 +73,7 @@ pub fn record(rows: &mut [u64], line: &[u8]) -> bool
     if e >= line.len() {
         return false;
     }
-    if !check::same(&line[0..e], b"record") {
+    if &line[0..e] != b"record".as_slice() {
         return false;
     }
     let from = 8 * k;
@@ -88,28 +89,36 @@ pub fn record(rows: &mut [u64], line: &[u8]) -> bool
 }
 
 // Gives up the frame at hand, whose records did not follow: none of its lines is understood.
-pub fn give_up(rows: &mut [u64; 520]) {
-    answer::not_understood(gathered(rows));
+pub fn give_up(rt: &impl Print, rows: &mut [u64; 520]) -> io::Result<()> {
+    answer::not_understood(rt, gathered(rows))?;
     rows[3] = 0;
+    Ok(())
 }
 
 // Makes the n calls of the frame at hand, with an array that lends the room for their answers, and answers its lines.
-fn serve(store: &mut [u64], rows: &[u64], n: usize, answers: &mut [u64])
+fn serve(
+    rt: &impl Print,
+    store: &mut [u64],
+    rows: &[u64],
+    n: usize,
+    answers: &mut [u64],
+) -> io::Result<()>
     requires { (length rows.now ≡ 520) × (n ≤ 64) × (length answers.old ≡ 512) }
 {
     let to = 8 * n + 8;
     let m = 8 * room(rows);
     let r = frame::frame(store, &rows[8..to], &mut answers[0..m]);
-    answer::framed(r, &answers[0..8 * n]);
+    answer::framed(rt, r, &answers[0..8 * n])
 }
 
 // Makes the frame at hand on its store, if all of its lines are there.
-pub fn make(store: &mut [u64], rows: &mut [u64; 520]) {
+pub fn make(rt: &impl Print, store: &mut [u64], rows: &mut [u64; 520]) -> io::Result<()> {
     let n = calls(rows);
     if gathered(rows) != n + 1 {
-        return;
+        return Ok(());
     }
     let mut answers = [0u64; 512];
-    serve(store, rows, n, &mut answers);
+    serve(rt, store, rows, n, &mut answers)?;
     rows[3] = 0;
+    Ok(())
 }

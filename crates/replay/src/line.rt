@@ -2,7 +2,7 @@
 // start; the place after the last word is the line's length. A word that is not of its form leads to no place, and neither does any that is
 // read from there on, so that one test at the end shows whether a line was understood.
 ghost use Rattle.std.specs.Prelude.{◌≤◌};
-ghost use Rattle.io.specs.Counts.{IsPrefixLen};
+ghost use Rattle.replay.specs.Counts.{IsPrefixLen};
 
 use model::{Bound, Operation, Rect};
 
@@ -296,24 +296,26 @@ pub fn operation_at(line: &[u8], at: usize) -> Join {
     let e = word_end(line, at);
     if at <= e {
         if e < line.len() {
-            let name = &line[at..e];
-            if check::same(name, b"and") {
-                return Join {
-                    operation: Operation::And,
-                    next: e + 1,
-                };
-            }
-            if check::same(name, b"or") {
-                return Join {
-                    operation: Operation::Or,
-                    next: e + 1,
-                };
-            }
-            if check::same(name, b"xor") {
-                return Join {
-                    operation: Operation::Xor,
-                    next: e + 1,
-                };
+            match &line[at..e] {
+                b"and" => {
+                    return Join {
+                        operation: Operation::And,
+                        next: e + 1,
+                    };
+                }
+                b"or" => {
+                    return Join {
+                        operation: Operation::Or,
+                        next: e + 1,
+                    };
+                }
+                b"xor" => {
+                    return Join {
+                        operation: Operation::Xor,
+                        next: e + 1,
+                    };
+                }
+                _ => {}
             }
         }
     }

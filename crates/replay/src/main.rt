@@ -13,60 +13,66 @@ mod frames;
 mod line;
 mod stores;
 
+use std::io;
+use std::io::Read;
+
 // Makes the call of a line and prints its answer, or tells that the line is none: a name, a store or a world but for clear_map and convert,
 // and what the call takes.
 fn understood(
+    rt: &impl Print,
     words: &mut [u64; 3616],
     lengths: &mut [usize; 4],
     rows: &mut [u64; 520],
     line: &[u8],
-) -> bool {
+) -> io::Result<bool> {
     let e = line::word_end(line, 0);
     if e >= line.len() {
-        return false;
+        return Ok(false);
     }
     if line[line.len() - 1] != b'\n' {
-        return false;
+        return Ok(false);
     }
-    if check::same(&line[0..e], b"clear_map") {
-        return calls::clear_map(line, e + 1);
+    let name = &line[0..e];
+    match name {
+        b"clear_map" => return calls::clear_map(rt, line, e + 1),
+        b"convert" => return calls::convert(rt, line, e + 1),
+        _ => {}
     }
-    if check::same(&line[0..e], b"convert") {
-        return calls::convert(line, e + 1);
-    }
-    if stores::is_whole(&line[0..e]) {
+    if stores::is_whole(name) {
         let s = line::at_most(line, e + 1, 3);
         return stores::whole_named(
+            rt,
             words,
             lengths,
             rows,
             s.value as usize,
-            &line[0..e],
+            name,
             line,
             s.next,
         );
     }
     let p = line::place_at(line, e + 1);
-    stores::call_named(words, lengths, p.store, p.world, &line[0..e], line, p.next)
+    stores::call_named(rt, words, lengths, p.store, p.world, name, line, p.next)
 }
 
 // The same for the first n bytes of what is lent, with an answer for every line; those of a frame are answered when its last record is there.
 fn replay(
+    rt: &impl Print,
     words: &mut [u64; 3616],
     lengths: &mut [usize; 4],
     rows: &mut [u64; 520],
     line: &[u8],
     n: usize,
-)
+) -> io::Result<()>
     requires { n ≤ length line.now }
 {
     if !frames::record(rows, &line[0..n]) {
-        frames::give_up(rows);
-        if !understood(words, lengths, rows, &line[0..n]) {
-            answer::not_understood(1);
+        frames::give_up(rt, rows)?;
+        if !understood(rt, words, lengths, rows, &line[0..n])? {
+            answer::not_understood(rt, 1)?;
         }
     }
-    stores::frame(words, lengths, rows);
+    stores::frame(rt, words, lengths, rows)
 }
 
 // One byte more of a line; what comes after 4,096 bytes is dropped, the line feed with it.
@@ -82,36 +88,36 @@ fn put(line: &mut [u8; 4096], n: usize, b: u8) -> usize
 
 // Goes on with the line at hand, of which n bytes are there, by one byte, and tells how many are there then.
 fn take(
+    rt: &impl Print,
     words: &mut [u64; 3616],
     lengths: &mut [usize; 4],
     rows: &mut [u64; 520],
     line: &mut [u8; 4096],
     n: usize,
     b: u8,
-) -> usize {
+) -> io::Result<usize> {
     let k = put(line, n, b);
     if b != b'\n' {
-        return k;
+        return Ok(k);
     }
-    replay(words, lengths, rows, line, k);
-    0
+    replay(rt, words, lengths, rows, line, k)?;
+    Ok(0)
 }
 
 fn take_all(
+    rt: &impl Print,
     words: &mut [u64; 3616],
     lengths: &mut [usize; 4],
     rows: &mut [u64; 520],
     line: &mut [u8; 4096],
     n: usize,
     bytes: &[u8],
-) -> usize {
+) -> io::Result<usize> {
     let mut k = n;
-    let mut i: usize = 0;
-    while i < bytes.len() {
-        k = take(words, lengths, rows, line, k, bytes[i]);
-        i += 1;
+    for b in bytes {
+        k = take(rt, words, lengths, rows, line, k, *b)?;
     }
-    k
+    Ok(k)
 }
 
 // What one reading of the input left: how many bytes of the line at hand are there, and whether more may come.
@@ -122,23 +128,25 @@ struct Rest {
 }
 
 fn read(
+    rt: &impl Print,
+    input: &mut impl Read,
     words: &mut [u64; 3616],
     lengths: &mut [usize; 4],
     rows: &mut [u64; 520],
     line: &mut [u8; 4096],
     n: usize,
-) -> Rest {
-    let mut piece = io::buffer();
-    let got = libc::read(0, &mut piece);
-    let k = io::count(got, &piece);
-    Rest {
-        bytes: take_all(words, lengths, rows, line, n, &piece[..k]),
+) -> io::Result<Rest> {
+    let mut piece = [0u8; 4096];
+    let k = input.read(&mut piece)?;
+    Ok(Rest {
+        bytes: take_all(rt, words, lengths, rows, line, n, &piece[..k])?,
         more: k > 0,
-    }
+    })
 }
 
-// A proved loop has to end, and nothing says that the input does, so the turns are counted down from a number that no run uses up.
-fn main() {
+// A proved loop has to end, and nothing says that the input does, so the turns are counted, up to a number that no run uses up. A read or a
+// write that fails ends the program with its error.
+fn main(rt: HostRuntime) -> io::Result<()> {
     let mut words = [0u64; 3616];
     let mut lengths = [0usize; 4];
     let mut rows = [0u64; 520];
@@ -147,16 +155,24 @@ fn main() {
         bytes: 0,
         more: true,
     };
-    let mut turns = u64::MAX;
-    while turns > 0 {
+    let mut input = rt.stdin();
+    for _ in 0..u64::MAX {
         if !rest.more {
             break;
         }
-        rest = read(&mut words, &mut lengths, &mut rows, &mut line, rest.bytes);
-        turns -= 1;
+        rest = read(
+            &rt,
+            &mut input,
+            &mut words,
+            &mut lengths,
+            &mut rows,
+            &mut line,
+            rest.bytes,
+        )?;
     }
-    frames::give_up(&mut rows);
+    frames::give_up(&rt, &mut rows)?;
     if rest.bytes > 0 {
-        answer::not_understood(1);
+        answer::not_understood(&rt, 1)?;
     }
+    Ok(())
 }
