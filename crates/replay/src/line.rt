@@ -61,12 +61,10 @@ fn ends_word(b: u8) -> bool {
 
 // Where the word that starts at a place ends.
 pub fn word_end(line: &[u8], at: usize) -> usize {
-    let mut i = at;
-    while i < line.len() {
+    for i in at..line.len() {
         if ends_word(line[i]) {
             return i;
         }
-        i += 1;
     }
     LOST
 }
@@ -123,8 +121,7 @@ fn no_number() -> Number
 // Decimal, without leading zeros.
 pub fn number_at(line: &[u8], at: usize) -> Number {
     let mut value: u64 = 0;
-    let mut i = at;
-    while i < line.len() {
+    for i in at..line.len() {
         let b = line[i];
         if i > at {
             if ends_word(b) {
@@ -141,7 +138,6 @@ pub fn number_at(line: &[u8], at: usize) -> Number {
             return no_number();
         };
         value = v;
-        i += 1;
     }
     no_number()
 }

@@ -41,10 +41,8 @@ fn lend(
 fn clear(words: &mut [u64], s: usize)
     requires { (s < 4) × (length words.old ≡ 3616) }
 {
-    let mut i: usize = 0;
-    while i < 904 {
+    for i in 0..904 {
         words[904 * s + i] = 0;
-        i += 1;
     }
 }
 
@@ -53,10 +51,8 @@ fn copy(words: &[u64], lengths: &[usize; 4], s: usize, out: &mut [u64]) -> usize
     requires { (s < 4) × (length words.now ≡ 3616) × (length out.old ≡ 904) }
     ensures { IsPrefixLen result out.new }
 {
-    let mut i: usize = 0;
-    while i < 904 {
+    for i in 0..904 {
         out[i] = words[904 * s + i];
-        i += 1;
     }
     length_of(lengths, s)
 }
