@@ -1,15 +1,17 @@
--- Decimals: `decimal` has the fewest digits that hold its number, and 20 at most. Assumes nothing.
-use Prim.Native.Nat.{ℕ, zero, suc, ◌+◌, ◌-◌, ◌/◌, ◌%◌, ◌^◌, ◌≤◌, ◌<◌}
+-- Decimals: `decimal` has 20 digits at most, and is what std writes of a word. Assumes nothing.
+use Prim.Native.Nat.{ℕ, zero, suc, ◌+◌, ◌/◌, ◌%◌, ◌^◌, ◌≤◌, ◌<◌}
 use mathlib.Core.Path.{◌≡◌, refl, sym, ap, ◌∙◌, subst}
 use mathlib.Core.Logic.{◌⊎◌, inl, inr}
-use mathlib.Core.Bool.{cond}
-use mathlib.Core.List.{[], ◌∷◌}
+use mathlib.Core.Bool.{false, cond}
+use mathlib.Core.List.{List, [], ◌∷◌, ◌++◌, append_assoc, append-nil}
 use native.Mathlib.Omega.{arith}
 use lib.Dec.{ltb}
 use lib.ListN.{length, length-append}
-use borrow.Author.Tests.{lt-ltb, le-ltb}
-use Rattle.io.specs.Digits.{last_digits, hex_digit_ascii, IsDigitCount}
+use borrow.Author.Tests.{lt-ltb, le-ltb, eq-eqb, ne_eqb}
+use Rattle.std.specs.Fmt
+use Rattle.std.specs.Fmt.{digits_onto}
 use Rattle.model.proofs.Numbers.{split}
+use Rattle.listset.specs.Digits.{last_digits, hex_digit_ascii}
 use Rattle.listset.specs.Text.{places, decimal}
 
 -- k digits are k bytes
@@ -32,45 +34,38 @@ pub decimal-short : (n : ℕ) → length (decimal n) ≤ 20
 unfolding decimal
 decimal-short n = omega (arith, digits-length 10 (places 19 n) n, places-few 19 n)
 
--- a power of ten is not 0
-power : (k : ℕ) → 1 ≤ 10 ^ k
-power zero = omega arith
-power (suc k) = omega (arith, power k)
+-- what is printed of a number that is written with as many digits at most, before what follows it: std's digits, one after another
+module _ (k n : ℕ) (acc : List ℕ) where
+  abbrev digit : ℕ
+  digit = hex_digit_ascii (n % 10)
 
--- a number that needs two digits or more
-at_least : (n j : ℕ) → IsDigitCount 10 1 n (suc (suc j)) → 10 ^ suc j ≤ n
-at_least n j h = subst (λ k. 10 ^ k ≤ n) (omega arith) (h.2 (omega arith))
+  last-one : n < 10 → digits_onto (suc k) 10 false n acc ≡ digit ∷ acc
+  last-one h = ap (λ t. cond t (digit ∷ acc) (digits_onto k 10 false (n / 10) (digit ∷ acc))) (eq-eqb (n / 10) 0 (omega arith))
 
--- one digit less holds a tenth of it
-fewer : (n j : ℕ) → IsDigitCount 10 1 n (suc (suc j)) → IsDigitCount 10 1 (n / 10) (suc j)
-fewer n j h = (omega arith, omega (arith, h.1), λ m. subst (λ k. 10 ^ k ≤ n / 10) {x = j} (omega arith) (omega (arith, at_least n j h)))
+  one-more : 10 ≤ n → digits_onto (suc k) 10 false n acc ≡ digits_onto k 10 false (n / 10) (digit ∷ acc)
+  one-more h = ap (λ t. cond t (digit ∷ acc) (digits_onto k 10 false (n / 10) (digit ∷ acc))) (ne_eqb (n / 10) 0 (λ e. omega (arith, e)))
 
--- the fewest digits that hold n are its places
-places-fewest : (f n k : ℕ) → IsDigitCount 10 1 n k → k ≤ suc f → places f n ≡ k
+-- the places of a number are enough for it
+onto : (f k n : ℕ) (acc : List ℕ) → n < 10 ^ suc f → f < k → digits_onto k 10 false n acc ≡ last_digits 10 (places f n) n ++ acc
 unfolding places
-places-fewest zero n k h l = omega (arith, h.0)
-places-fewest (suc f) n zero h l = absurd (omega (arith, h.0))
-places-fewest (suc f) n (suc zero) h l = ap (λ t. cond t 1 (suc (places f (n / 10)))) (lt-ltb n 10 (omega (arith, h.1)))
-places-fewest (suc f) n (suc (suc j)) h l =
-    ap (λ t. cond t 1 (suc (places f (n / 10)))) (le-ltb n 10 (omega (arith, at_least n j h, power j)))
-    ∙ ap suc (places-fewest f (n / 10) (suc j) (fewer n j h) (omega arith))
-
--- 20 digits hold every word
-power-more : (j : ℕ) → 10 ^ 20 ≤ 10 ^ (j + 20)
-power-more zero = subst (λ k. 10 ^ 20 ≤ 10 ^ k) {x = 20} {y = zero + 20} (omega arith) (omega arith)
-power-more (suc j) = subst (λ k. 10 ^ 20 ≤ 10 ^ k) {x = suc (j + 20)} {y = suc j + 20} (omega arith) (omega (arith, power-more j))
-
-pub twenty : (n k : ℕ) → n < 2 ^ 64 → IsDigitCount 10 1 n k → k ≤ 20
-twenty n k l h = go (split 20 k)
+onto f zero n acc h l = absurd (omega (arith, l))
+onto zero (suc k) n acc h l = last-one k n acc (omega (arith, h))
+onto (suc f) (suc k) n acc h l = go (split n 10) (λ g. onto f k (n / 10) (hex_digit_ascii (n % 10) ∷ acc) (omega (arith, h)) (omega (arith, l)))
   where
-    go : (20 < k) ⊎ (k ≤ 20) → k ≤ 20
-    go (inr g) = g
-    go (inl g) = absurd (omega (arith, subst (λ j. 10 ^ 20 ≤ 10 ^ j) {x = k - 21 + 20} {y = k - 1} (omega arith) (power-more (k - 21)), h.2 (omega arith)))
+    go : (n < 10) ⊎ (10 ≤ n)
+        → (10 ≤ n → digits_onto k 10 false (n / 10) (hex_digit_ascii (n % 10) ∷ acc) ≡ last_digits 10 (places f (n / 10)) (n / 10) ++ hex_digit_ascii (n % 10) ∷ acc)
+        → digits_onto (suc k) 10 false n acc ≡ last_digits 10 (cond (ltb n 10) 1 (suc (places f (n / 10)))) n ++ acc
+    go (inl g) rest = last-one k n acc g ∙ ap (λ t. last_digits 10 (cond t 1 (suc (places f (n / 10)))) n ++ acc) (sym (lt-ltb n 10 g))
+    go (inr g) rest =
+        one-more k n acc g
+        ∙ rest g
+        ∙ sym (append_assoc (last_digits 10 (places f (n / 10)) (n / 10)) (hex_digit_ascii (n % 10) ∷ []) acc)
+        ∙ ap (λ t. last_digits 10 (cond t 1 (suc (places f (n / 10)))) n ++ acc) (sym (le-ltb n 10 g))
 
--- so they are the decimal
-pub decimal-is : (n k : ℕ) → IsDigitCount 10 1 n k → k ≤ 20 → last_digits 10 k n ≡ decimal n
-unfolding decimal
-decimal-is n k h l = ap (λ j. last_digits 10 j n) (sym (places-fewest 19 n k h l))
+-- std's decimal of a word is the same
+pub decimal-is : (n : ℕ) → n < 2 ^ 64 → Fmt.decimal n ≡ decimal n
+unfolding decimal Fmt.digits
+decimal-is n h = onto 19 64 n [] (omega (arith, h)) (omega arith) ∙ append-nil (last_digits 10 (places 19 n) n)
 
 -- all positions, in decimal
 pub full : decimal (2 ^ 64)
