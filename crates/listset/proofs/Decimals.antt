@@ -34,7 +34,7 @@ pub decimal-short : (n : ℕ) → length (decimal n) ≤ 20
 unfolding decimal
 decimal-short n = omega (arith, digits-length 10 (places 19 n) n, places-few 19 n)
 
--- what is printed of a number that is written with as many digits at most, before what follows it: std's digits, one after another
+-- std's digits of a number, put before what follows them: the last digit, and before it those of a tenth of the number
 module _ (k n : ℕ) (acc : List ℕ) where
   abbrev digit : ℕ
   digit = hex_digit_ascii (n % 10)
@@ -45,7 +45,7 @@ module _ (k n : ℕ) (acc : List ℕ) where
   one-more : 10 ≤ n → digits_onto (suc k) 10 false n acc ≡ digits_onto k 10 false (n / 10) (digit ∷ acc)
   one-more h = ap (λ t. cond t (digit ∷ acc) (digits_onto k 10 false (n / 10) (digit ∷ acc))) (ne_eqb (n / 10) 0 (λ e. omega (arith, e)))
 
--- the places of a number are enough for it
+-- they are as many as its places
 onto : (f k n : ℕ) (acc : List ℕ) → n < 10 ^ suc f → f < k → digits_onto k 10 false n acc ≡ last_digits 10 (places f n) n ++ acc
 unfolding places
 onto f zero n acc h l = absurd (omega (arith, l))
