@@ -1,5 +1,5 @@
 -- Serving a record: the call of its kind, with the bounds that its words tell, was made; or its world was not opened. Assumes nothing.
-use Rattle.ranges.specs.Prelude.{◌≡◌, ℕ, ◌-◌, ◌≤◌, true, cond, List, []}
+use Rattle.std.specs.Prelude.{◌≡◌, ℕ, ◌-◌, ◌≤◌, true, cond, List, []}
 use mathlib.Core.Path.{refl, sym, ap, ap₂, ◌∙◌, subst}
 use mathlib.Core.Option.{none}
 use native.Mathlib.Omega.{arith}

@@ -1,6 +1,6 @@
 -- What the model is fed of a frame: the call of a record names no further pool, so it is fed as it is. Each call has one answer, and each
 -- answer one record. Assumes nothing.
-use Rattle.ranges.specs.Prelude.{◌≡◌, ℕ, zero, suc, ◌*◌, List, [], ◌∷◌, length}
+use Rattle.std.specs.Prelude.{◌≡◌, ℕ, zero, suc, ◌*◌, List, [], ◌∷◌, length}
 use mathlib.Core.Path.{refl, ap}
 use native.Mathlib.Omega.{arith}
 use Rattle.model.specs.Call.{Fed, Call, feed, PoolCall, Answer}

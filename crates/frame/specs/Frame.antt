@@ -1,6 +1,6 @@
 -- THE CONTRACT of a frame: its answers, the worlds after it and the whole slice are the plain model's over the list of its calls. Assumes
 -- nothing: these are definitions.
-use Rattle.ranges.specs.Prelude.{◌≡◌, ℕ, List, [], ◌∷◌, ◌++◌}
+use Rattle.std.specs.Prelude.{◌≡◌, ℕ, List, [], ◌∷◌, ◌++◌}
 use Rattle.std.proofs.Math.Option.{Option, none, some}
 use Rattle.model.specs.Bytes.{into_front}
 use Rattle.model.specs.Refusals.{output_short, ◌when◌, refusal, no_room}

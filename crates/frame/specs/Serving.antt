@@ -1,5 +1,5 @@
 -- What serving one record, and a list of them, on a sound pool asks and promises. Assumes nothing: these are definitions.
-use Rattle.ranges.specs.Prelude.{◌≡◌, ℕ, ◌*◌, ◌≤◌, List, length}
+use Rattle.std.specs.Prelude.{◌≡◌, ℕ, ◌*◌, ◌≤◌, List, length}
 use Rattle.model.specs.Bytes.{into_front}
 use Rattle.model.specs.Call.{Answer}
 use Rattle.model.specs.Pools.{answers, after}

@@ -3,7 +3,7 @@
 // Calls and answers are records of eight words.
 #![tactic(auto)]
 
-ghost use Rattle.ranges.specs.Prelude.{◌≡◌, ◌+◌, ◌*◌, ◌≤◌, length};
+ghost use Rattle.std.specs.Prelude.{◌≡◌, ◌+◌, ◌*◌, ◌≤◌, length};
 ghost use Rattle.model.specs.Answers.{completed_answer};
 ghost use Rattle.written.specs.Placed.{placed};
 ghost use Rattle.store.specs.Soundness.{Sound};

@@ -1,6 +1,6 @@
 -- A `&κ mut [T]` that is lent again for a lifetime κ' of a call, and comes back. Meanwhile its holder keeps the lender's part at κ', and
 -- its own borrow at κ, open, with both halves of its ghost variable. Assumes nothing but the logic's own laws, which each walk is given.
-use Rattle.ranges.specs.Prelude.{◌≡◌, ℕ, List, [], ◌∷◌, length}
+use Rattle.std.specs.Prelude.{◌≡◌, ℕ, List, [], ◌∷◌, length}
 use mathlib.Core.Path.{sym, ap, subst}
 use seplogic.Ra.Ura.{Ura}
 use seplogic.Ra.TreeShare.{full_share}

@@ -3,7 +3,7 @@
 -- The two functions differ only in the function that they call: so its name and the call that it answers are parameters here, and the
 -- signatures of the front's functions stand for both. All that is known of the function called is its contract. Assumes nothing.
 use mathlib.Core.Path.{refl, ap}
-use Rattle.ranges.specs.Prelude.{ℕ, ◌^◌, ◌<◌, Bool, List, [], ◌∷◌, length}
+use Rattle.std.specs.Prelude.{ℕ, ◌^◌, ◌<◌, Bool, List, [], ◌∷◌, length}
 use seplogic.Ra.Ura.{Ura}
 use seplogic.Ra.TreeShare.{full_share}
 use mir.Syntax.{named, w64, imm, mut, ty_int, ty_bool, ty_ref, Name, Place, place, copy, rv_opd, field, deref, seq, assign, call, return, local, value_local, Fn}

@@ -1,6 +1,6 @@
 -- What the two functions that hand back the part of a slice that they filled have in common: the answer is made a number and a count, and
 -- the front part of that count is taken. All that is known of the functions called is their contracts. Assumes nothing.
-use Rattle.ranges.specs.Prelude.{◌≡◌, ℕ, ◌^◌, ◌<◌, ◌≤◌, List, [], ◌∷◌, length, take}
+use Rattle.std.specs.Prelude.{◌≡◌, ℕ, ◌^◌, ◌<◌, ◌≤◌, List, [], ◌∷◌, length, take}
 use mathlib.Core.Path.{refl, ◌∙◌}
 use seplogic.Ra.Ura.{Ura}
 use mir.Syntax.{named, w64}

@@ -1,6 +1,6 @@
 -- What a draw by value says of the lent listing: every draw keeps the listing's value, so the two ends tell the listing that is left.
 -- Assumes nothing.
-use Rattle.ranges.specs.Prelude.{◌≡◌, ℕ, Bool, true, false, cond, ltb, List}
+use Rattle.std.specs.Prelude.{◌≡◌, ℕ, Bool, true, false, cond, ltb, List}
 use mathlib.Core.Path.{refl, sym, ap, ◌∙◌, subst}
 use mathlib.Core.Option.{Option, none, some}
 use Rattle.model.specs.declared.Drawn.{Drawn}

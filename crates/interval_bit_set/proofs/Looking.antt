@@ -1,6 +1,6 @@
 -- Looking at the pools and worlds that a call names: what the model's conditions of them then refuse. The first refusal of several worlds is the
 -- earliest of what each earns, as 1, 7 and 12 are in the order of their numbers. What they refuse, a call is refused by. Assumes nothing.
-use Rattle.ranges.specs.Prelude.{◌≡◌, ℕ, zero, suc, ◌<◌, ◌≤◌, Bool, true, false, cond, not, ◌||◌, eqb, List, [], ◌∷◌, ◌++◌}
+use Rattle.std.specs.Prelude.{◌≡◌, ℕ, zero, suc, ◌<◌, ◌≤◌, Bool, true, false, cond, not, ◌||◌, eqb, List, [], ◌∷◌, ◌++◌}
 use mathlib.Core.Path.{refl, sym, ap, ap₂, ◌∙◌}
 use mathlib.Core.Logic.{inl, inr}
 use mathlib.Core.Option.{Option, none, some}

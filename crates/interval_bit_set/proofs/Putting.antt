@@ -1,6 +1,6 @@
 -- Calls that write into the front of a lent slice, as the public crate has them: refused by what looking told, and what is handed back of the
 -- slice. Assumes nothing.
-use Rattle.ranges.specs.Prelude.{◌≡◌, ℕ, ◌≤◌, List, length, take, drop}
+use Rattle.std.specs.Prelude.{◌≡◌, ℕ, ◌≤◌, List, length, take, drop}
 use mathlib.Core.Path.{refl, sym, subst}
 use mathlib.Core.Option.{none}
 use native.Mathlib.Omega.{arith}

@@ -1,6 +1,6 @@
 -- A world given a lent slice of runs: each turn of the two loops takes one run more, and what both end with, the tests between them and
 -- the two ends of laying are together the call's contract. The list's order is that of what is left, after what was seen. Assumes nothing.
-use Rattle.ranges.specs.Prelude.{◌≡◌, ℕ, suc, ◌+◌, ◌*◌, ◌^◌, ◌<◌, ◌≤◌, Bool, true, false, not, ◌&&◌, leb, List, [], ◌∷◌, ◌++◌, length, get_or, take, drop}
+use Rattle.std.specs.Prelude.{◌≡◌, ℕ, suc, ◌+◌, ◌*◌, ◌^◌, ◌<◌, ◌≤◌, Bool, true, false, not, ◌&&◌, leb, List, [], ◌∷◌, ◌++◌, length, get_or, take, drop}
 use mathlib.Core.Path.{refl, sym, ap, ap₂, ◌∙◌, subst, subst₂}
 use mathlib.Core.Bool.{and-true}
 use mathlib.Core.Option.{none, some}

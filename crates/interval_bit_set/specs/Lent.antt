@@ -1,5 +1,5 @@
 -- The lent listing: what a draw that moves it answers. Assumes nothing: these are definitions.
-use Rattle.ranges.specs.Prelude.{◌≡◌, ℕ, Bool, List}
+use Rattle.std.specs.Prelude.{◌≡◌, ℕ, Bool, List}
 use Rattle.std.proofs.Math.Option.{none, some}
 use Rattle.model.specs.declared.Drawn.{Drawn}
 use Rattle.model.specs.declared.Listing.{Listing}

@@ -1,5 +1,5 @@
 -- What looking at pools and worlds for 1, 7 and 12 tells. Assumes nothing: these are definitions.
-use Rattle.ranges.specs.Prelude.{◌≡◌, ℕ, min, List, ◌++◌}
+use Rattle.std.specs.Prelude.{◌≡◌, ℕ, min, List, ◌++◌}
 use Rattle.std.proofs.Math.Option.{Option, none, some}
 use Rattle.model.specs.Numbers.{refusal_number}
 use Rattle.model.specs.Refusals.{looks, first_given}

@@ -1,5 +1,5 @@
 -- What calls that write into a lent slice hand back. Assumes nothing: these are definitions.
-use Rattle.ranges.specs.Prelude.{ℕ, List, [], take}
+use Rattle.std.specs.Prelude.{ℕ, List, [], take}
 use Rattle.model.specs.declared.Written.{Written}
 use Rattle.model.specs.Numbers.{refusal_number}
 use Rattle.model.specs.Call.{Result, done, number, tallied, value, around, position, listing, drawn, written, mended, Answer, refused, gave}

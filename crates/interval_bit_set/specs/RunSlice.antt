@@ -1,6 +1,6 @@
 -- Giving a world a lent slice of runs: what the order test, the tests of the world and the steps of laying them tell and ask.
 -- Assumes nothing: these are definitions.
-use Rattle.ranges.specs.Prelude.{◌≡◌, ℕ, ◌≤◌, Bool, true, false, not, ◌&&◌, List, [], ◌∷◌, ◌++◌, length, take, nat_le}
+use Rattle.std.specs.Prelude.{◌≡◌, ℕ, ◌≤◌, Bool, true, false, not, ◌&&◌, List, [], ◌∷◌, ◌++◌, length, take, nat_le}
 use Rattle.std.proofs.Math.Option.{some}
 use Rattle.model.specs.declared.Run.{Run}
 use Rattle.model.specs.declared.Refusal.{Refusal}

@@ -1,5 +1,5 @@
 // Reading written sets, run lists and maps into a world; making a map fit to be read, and turning a written set into the other edition.
-ghost use Rattle.ranges.specs.Prelude.{◌≡◌, ◌/◌, length};
+ghost use Rattle.std.specs.Prelude.{◌≡◌, ◌/◌, length};
 ghost use Rattle.model.specs.Call.{Call};
 ghost use Rattle.model.specs.Answers.{completed_answer, counted_answer, numbered_answer, written_answer};
 ghost use Rattle.model.specs.Clearing.{clear_map};

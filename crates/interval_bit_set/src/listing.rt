@@ -1,5 +1,5 @@
 // The listing in the form that a caller holds: lent beside the pool and moved by each draw. The draws by value do the work.
-ghost use Rattle.ranges.specs.Prelude.{◌≡◌};
+ghost use Rattle.std.specs.Prelude.{◌≡◌};
 ghost use Rattle.model.specs.Call.{Call};
 ghost use Rattle.interval_bit_set.specs.Lent.{Draws, moved_by, listing_of};
 

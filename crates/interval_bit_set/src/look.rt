@@ -1,5 +1,5 @@
 // Looking at the pools and the worlds that a call names.
-ghost use Rattle.ranges.specs.Prelude.{◌≡◌};
+ghost use Rattle.std.specs.Prelude.{◌≡◌};
 ghost use Rattle.interval_bit_set.specs.Look.{look_number, earliest, LookedPool, Looked, LookedTwo, LookedThree};
 
 use model::Refusal;

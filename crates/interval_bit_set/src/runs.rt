@@ -1,6 +1,6 @@
 // A run list as the caller holds it: a lent slice of runs. Two loops go over it, each by a covered step; everything else is in covered
 // functions, and the call itself has no branch.
-ghost use Rattle.ranges.specs.Prelude.{◌≡◌, ◌+◌, ◌<◌, length, slice_index_or};
+ghost use Rattle.std.specs.Prelude.{◌≡◌, ◌+◌, ◌<◌, length, slice_index_or};
 ghost use Rattle.model.specs.Positions.{run};
 ghost use Rattle.model.specs.Call.{Call};
 ghost use Rattle.model.specs.Answers.{completed_answer};

@@ -1,6 +1,6 @@
 // Writing a world's set, and the map of a window, into the front of a lent slice. First the calls that tell how many bytes they wrote; then
 // the same calls handing back the part that they filled.
-ghost use Rattle.ranges.specs.Prelude.{◌≡◌, ◌≤◌, length, take};
+ghost use Rattle.std.specs.Prelude.{◌≡◌, ◌≤◌, length, take};
 ghost use Rattle.model.specs.Call.{Call};
 ghost use Rattle.promises.specs.Met.{outcome_of};
 ghost use Rattle.promises.specs.Out.{WritesOut};
@@ -76,7 +76,7 @@ fn front<'a>(out: &'a mut [u8], n: usize) -> &'a mut [u8]
 }
 
 // A refusal's number and no part, or 0 and the part that was filled.
-#[derive(Clone, Copy)]
+#[derive(Drop)]
 pub struct Filled<'a> {
     pub refusal: u64,
     pub part: &'a mut [u8],

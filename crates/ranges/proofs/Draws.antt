@@ -1,6 +1,6 @@
 -- What a draw from either end of a listing answers, by what the listing still has. A listing whose first position is past its last
 -- has nothing left. Assumes nothing.
-use Rattle.ranges.specs.Prelude.{◌≡◌, suc, ◌+◌, ◌-◌, ◌<◌, ◌≤◌, []}
+use Rattle.std.specs.Prelude.{◌≡◌, suc, ◌+◌, ◌-◌, ◌<◌, ◌≤◌, []}
 use mathlib.Core.Path.{sym, ap, ◌∙◌}
 use mathlib.Core.Option.{Option, none, some}
 use native.Mathlib.Omega.{arith}

@@ -1,5 +1,5 @@
 -- A world that is emptied: it is built of no runs, which are in order and not too many. Assumes nothing.
-use Rattle.ranges.specs.Prelude.{◌≡◌, ℕ, ◌≤◌, List, [], ◌∷◌}
+use Rattle.std.specs.Prelude.{◌≡◌, ℕ, ◌≤◌, List, [], ◌∷◌}
 use mathlib.Core.Path.{refl, sym, ap}
 use mathlib.Core.Option.{none}
 use native.Mathlib.Omega.{arith}

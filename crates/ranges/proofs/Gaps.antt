@@ -1,5 +1,5 @@
 -- The lowest gap: that of no position is refused, and no position has one. Assumes nothing.
-use Rattle.ranges.specs.Prelude.{◌≡◌, ℕ, ◌≤◌, [], ◌∷◌}
+use Rattle.std.specs.Prelude.{◌≡◌, ℕ, ◌≤◌, [], ◌∷◌}
 use mathlib.Core.Path.{sym}
 use mathlib.Core.Option.{none, some}
 use native.Mathlib.Omega.{arith}

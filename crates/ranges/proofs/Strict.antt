@@ -1,6 +1,6 @@
 -- Strict calls: a reversed range is refused with 14, and of any other the model's outcome is that of the call that is not strict.
 -- Assumes nothing.
-use Rattle.ranges.specs.Prelude.{◌≡◌, ℕ, Bool, true, false, List, [], ◌∷◌}
+use Rattle.std.specs.Prelude.{◌≡◌, ℕ, Bool, true, false, List, [], ◌∷◌}
 use mathlib.Core.Path.{sym, ap, ◌∙◌, subst}
 use Rattle.model.specs.declared.Bound.{Bound}
 use Rattle.model.specs.Range.{reversed}

@@ -1,5 +1,5 @@
 // Calls on the cells of a grid.
-ghost use Rattle.ranges.specs.Prelude.{◌≡◌, not};
+ghost use Rattle.std.specs.Prelude.{◌≡◌, not};
 ghost use Rattle.model.specs.Call.{Call};
 ghost use Rattle.model.specs.Answers.{counted_answer, numbered_answer};
 ghost use Rattle.model.specs.Refusals.{bad_rect, bad_square};

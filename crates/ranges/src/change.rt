@@ -1,6 +1,6 @@
 // The calls that change a world where it stands. What the world may have is asked before it is opened: a world at hand would have to be kept
 // aside while the others are passed over.
-ghost use Rattle.ranges.specs.Prelude.{[]};
+ghost use Rattle.std.specs.Prelude.{[]};
 ghost use Rattle.model.specs.Call.{Call};
 ghost use Rattle.model.specs.Answers.{completed_answer, counted_answer};
 ghost use Rattle.promises.specs.Met.{Readable, Met};

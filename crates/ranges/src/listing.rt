@@ -1,5 +1,5 @@
 // Drawing runs from a listing, by value: the answer has the listing moved past the run.
-ghost use Rattle.ranges.specs.Prelude.{◌≡◌};
+ghost use Rattle.std.specs.Prelude.{◌≡◌};
 ghost use Rattle.model.specs.Positions.{ended};
 ghost use Rattle.model.specs.Call.{Call};
 ghost use Rattle.model.specs.Answers.{drawn_answer};

@@ -1,5 +1,5 @@
 // The calls that report, and leave the pool as it is.
-ghost use Rattle.ranges.specs.Prelude.{◌≡◌};
+ghost use Rattle.std.specs.Prelude.{◌≡◌};
 ghost use Rattle.model.specs.Call.{Call};
 ghost use Rattle.model.specs.Answers.{numbered_answer, tallied_answer, tested_answer, around_answer, found_answer, listed_answer};
 ghost use Rattle.promises.specs.Met.{Readable, Met, found_edge};

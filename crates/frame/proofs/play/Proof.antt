@@ -1,5 +1,5 @@
 -- `play` meets its contract. The loop's invariant: i records were served as the model serves their calls. Assumes nothing.
-use Rattle.ranges.specs.Prelude.{◌-◌}
+use Rattle.std.specs.Prelude.{◌-◌}
 use native.Mathlib.Omega.{arith}
 use borrow.Author.Rules.{rules}
 use Rattle.frame.proofs.Playing.{Playing, none-played, playing-sound, playing-wide, more-played, all-played}

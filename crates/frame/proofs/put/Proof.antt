@@ -2,7 +2,7 @@
 use native.Mathlib.Omega.{arith}
 use lib.ListN.{length-set}
 use Rattle.frame.proofs.Replies.{reply-placed}
-use Rattle.ranges.specs.Prelude.{◌*◌}
+use Rattle.std.specs.Prelude.{◌*◌}
 use borrow.Author.Rules.{rules}
 use Rattle.frame.proofs.put.Statement.{statement}
 use Rattle.frame.proofs.put.Tie as tie

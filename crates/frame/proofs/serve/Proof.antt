@@ -1,5 +1,5 @@
 -- `serve` meets its contract: 12 is answered where the world was not opened, and else the call is served on it. Assumes nothing.
-use Rattle.ranges.specs.Prelude.{◌≡◌}
+use Rattle.std.specs.Prelude.{◌≡◌}
 use native.Mathlib.Omega.{arith}
 use borrow.Author.Rules.{rules}
 use Rattle.store.proofs.Worlds.{sound-room}

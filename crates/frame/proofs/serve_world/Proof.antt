@@ -1,5 +1,5 @@
 -- `serve_world` meets its contract: in each arm the call of that kind was made with what the record's words tell. Assumes nothing.
-use Rattle.ranges.specs.Prelude.{◌≡◌, ℕ, List}
+use Rattle.std.specs.Prelude.{◌≡◌, ℕ, List}
 use borrow.Author.Rules.{rules}
 use Rattle.model.specs.declared.Bound.{Bound}
 use Rattle.model.specs.Call.{Call, Answer}

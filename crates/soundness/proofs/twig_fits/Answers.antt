@@ -62,7 +62,7 @@ returns-then-not-leaf_fits c =
 
 pub returns-then-v : goal.returns-then-v
 returns-then-v c =
-    right-crowded (seen (goal.at.returns-then-v c).After-below-v) _ _ _ (right-seen (goal.at.returns-then-v c).After-below-y).some (omega (arith, c.if-v.true, c.fits))
+    right-crowded (seen (goal.at.returns-then-v c).After-below-v) _ _ _ (right-seen (goal.at.returns-then-v c).After-below-y).some (omega (arith, c.if-v.true, c.ranges.hi.fits))
 
 pub returns : goal.returns
 returns c =

@@ -1,6 +1,6 @@
 -- `earlier` meets its contract: where both are refusals, the one with the lesser number is given.
 -- Assumes nothing.
-use Rattle.ranges.specs.Prelude.{◌≡◌, ◌<◌, ◌≤◌}
+use Rattle.std.specs.Prelude.{◌≡◌, ◌<◌, ◌≤◌}
 use mathlib.Core.Path.{sym, ap, ap₂, ◌∙◌}
 use mathlib.Core.Option.{some}
 use native.Mathlib.Omega.{arith}

@@ -1,6 +1,6 @@
 -- `begin` meets its contract: the tests for 1, 7 and 12, for 5 and for 8, in this order, and then the nodes of the world are given back.
 -- Assumes nothing.
-use Rattle.ranges.specs.Prelude.{◌≡◌, ℕ, List}
+use Rattle.std.specs.Prelude.{◌≡◌, ℕ, List}
 use mathlib.Core.Path.{refl, sym, subst}
 use mathlib.Core.Option.{some}
 use native.Mathlib.Omega.{arith}

@@ -1,6 +1,6 @@
 -- `finish` meets its contract: a refusal is handed on, and of runs that were admitted the world is made.
 -- Assumes nothing.
-use Rattle.ranges.specs.Prelude.{◌≡◌, ℕ, List}
+use Rattle.std.specs.Prelude.{◌≡◌, ℕ, List}
 use mathlib.Core.Path.{refl, sym, subst}
 use Rattle.model.specs.declared.Completed.{Completed}
 use Rattle.model.specs.declared.Refusal.{Refusal}

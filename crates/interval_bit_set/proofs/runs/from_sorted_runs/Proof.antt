@@ -1,7 +1,7 @@
 -- `from_sorted_runs` meets its contract: a walk of its MIR, by hand. The runs are read by `in_order`; the words are lent again to
 -- `begin`, come back, are lent again to `put_runs`, come back, and go to `finish` for good. All that the proof knows of the four functions
 -- called is that each meets its contract; what they say together, of words below 2^64, is in `Slices.antt`. Assumes nothing.
-use Rattle.ranges.specs.Prelude.{◌≡◌, ℕ, ◌^◌, ◌<◌, List, [], ◌∷◌, length, get_or}
+use Rattle.std.specs.Prelude.{◌≡◌, ℕ, ◌^◌, ◌<◌, List, [], ◌∷◌, length, get_or}
 use mathlib.Core.Path.{refl, sym, ap, ◌∙◌, subst}
 use lib.Dec.{lit<}
 use seplogic.Ra.Ura.{Ura}

@@ -1,7 +1,7 @@
 -- `in_order` meets its contract: a walk of its MIR, by hand, with a loop. Each turn reads one run by `run_of` and hands its two ends, with
 -- the state, to `order_step`. The slice is Copy: a copy of what it owns goes to `run_of` in each turn, and one is kept. All that the proof
 -- knows of the two is that each meets its contract. Assumes nothing.
-use Rattle.ranges.specs.Prelude.{◌≡◌, ℕ, ◌+◌, ◌-◌, ◌^◌, ◌<◌, ◌≤◌, Bool, true, false, ltb, List, [], ◌∷◌, length, get_or}
+use Rattle.std.specs.Prelude.{◌≡◌, ℕ, ◌+◌, ◌-◌, ◌^◌, ◌<◌, ◌≤◌, Bool, true, false, ltb, List, [], ◌∷◌, length, get_or}
 use mathlib.Core.Path.{refl, ap, subst}
 use mathlib.Core.WellFounded.InvImage
 use mathlib.Core.WellFounded.{WellFounded}

@@ -1,6 +1,6 @@
 -- `order_step` meets its contract: whether the next run may follow is what `follows` tells, by either answer.
 -- Assumes nothing.
-use Rattle.ranges.specs.Prelude.{◌≡◌, ℕ, Bool, true, false, not, ◌&&◌}
+use Rattle.std.specs.Prelude.{◌≡◌, ℕ, Bool, true, false, not, ◌&&◌}
 use mathlib.Core.Path.{sym, ap, ◌∙◌}
 use mathlib.Core.Bool.{and-true, and-false}
 use borrow.Author.Rules.{rules}

@@ -1,7 +1,7 @@
 -- `put_runs` meets its contract: a walk of its MIR, by hand, with a loop. Each turn reads one run by `run_of` and hands its two ends, with
 -- the node at hand, to `lay_next`, to which the words are lent again for a lifetime of the call; they come back as the list that `lay_next`
 -- left, and the node is the one that it returned. All that the proof knows of the two is that each meets its contract. Assumes nothing.
-use Rattle.ranges.specs.Prelude.{◌≡◌, ℕ, ◌+◌, ◌-◌, ◌^◌, ◌<◌, ◌≤◌, Bool, true, false, ltb, List, [], ◌∷◌, length, get_or}
+use Rattle.std.specs.Prelude.{◌≡◌, ℕ, ◌+◌, ◌-◌, ◌^◌, ◌<◌, ◌≤◌, Bool, true, false, ltb, List, [], ◌∷◌, length, get_or}
 use mathlib.Core.Path.{refl, sym, ap, ◌∙◌, subst}
 use mathlib.Core.WellFounded.InvImage
 use mathlib.Core.WellFounded.{WellFounded}

@@ -1,7 +1,7 @@
 -- `run_of` meets its contract: a walk of its MIR, by hand. The place of `runs[i]` is 16 i past the slice's pointer, and the run is read
 -- there, whole. The code has no check of the bound: it is the contract's to ask. Assumes nothing.
 use mathlib.Core.Path.{refl, sym}
-use Rattle.ranges.specs.Prelude.{ℕ, ◌*◌, ◌^◌, ◌<◌, List, [], ◌∷◌, length, get_or}
+use Rattle.std.specs.Prelude.{ℕ, ◌*◌, ◌^◌, ◌<◌, List, [], ◌∷◌, length, get_or}
 use native.Mathlib.Omega.{arith}
 use seplogic.Ra.Ura.{Ura}
 use seplogic.Ra.TreeShare.{full_share}

@@ -2,7 +2,7 @@
 -- call, and comes back at the list that `write_set` left; its answer is flattened; then the slice is handed to `front` for good, and the part
 -- that `front` hands back goes into the struct, beside the number. All that is known of the functions called is their contracts.
 -- Assumes nothing.
-use Rattle.ranges.specs.Prelude.{◌≡◌, ℕ, ◌^◌, ◌<◌, List, [], ◌∷◌, length}
+use Rattle.std.specs.Prelude.{◌≡◌, ℕ, ◌^◌, ◌<◌, List, [], ◌∷◌, length}
 use mathlib.Core.Path.{refl, ap}
 use seplogic.Ra.Ura.{Ura}
 use seplogic.Ra.TreeShare.{full_share}

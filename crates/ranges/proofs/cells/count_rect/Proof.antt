@@ -1,5 +1,5 @@
 -- `count_rect` meets its contract: a rectangle that is none of the plane is refused, and of another the cells are counted. Assumes nothing.
-use Rattle.ranges.specs.Prelude.{◌≡◌, false}
+use Rattle.std.specs.Prelude.{◌≡◌, false}
 use mathlib.Core.Path.{ap}
 use Rattle.model.specs.Refusals.{bad_rect}
 use Rattle.model.specs.Call.{number}

@@ -1,5 +1,5 @@
 -- `set_rect` meets its contract: a rectangle that is none of the plane is refused, and the cells of another get the value. Assumes nothing.
-use Rattle.ranges.specs.Prelude.{◌≡◌, false}
+use Rattle.std.specs.Prelude.{◌≡◌, false}
 use mathlib.Core.Path.{refl, ap}
 use Rattle.model.specs.Refusals.{bad_rect}
 use Rattle.model.specs.Grid

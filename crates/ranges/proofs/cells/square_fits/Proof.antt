@@ -1,5 +1,5 @@
 -- `square_fits` meets its contract: it makes the tests of a square one by one. Assumes nothing.
-use Rattle.ranges.specs.Prelude.{◌≡◌, ◌*◌, ◌%◌, ◌^◌, ◌≤◌}
+use Rattle.std.specs.Prelude.{◌≡◌, ◌*◌, ◌%◌, ◌^◌, ◌≤◌}
 use mathlib.Core.Path.{◌∙◌}
 use native.Mathlib.Omega.{arith}
 use native.Mathlib.Nat.{one-mul}

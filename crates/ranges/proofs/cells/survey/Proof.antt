@@ -1,6 +1,6 @@
 -- `survey` meets its contract: a square that is not on the plane is refused; of another the pieces are counted, and put where there is room.
 -- Assumes nothing.
-use Rattle.ranges.specs.Prelude.{◌≡◌, false, length}
+use Rattle.std.specs.Prelude.{◌≡◌, false, length}
 use mathlib.Core.Path.{ap, ◌∙◌}
 use native.Mathlib.Omega.{arith}
 use Rattle.model.specs.Refusals.{bad_square}

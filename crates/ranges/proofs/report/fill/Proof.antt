@@ -1,6 +1,6 @@
 -- `fill` meets its contract: a window that is none is refused, and of another a thousand times its count and its length fit a word.
 -- Assumes nothing.
-use Rattle.ranges.specs.Prelude.{◌≡◌, false}
+use Rattle.std.specs.Prelude.{◌≡◌, false}
 use mathlib.Core.Path.{ap}
 use native.Mathlib.Omega.{arith}
 use Rattle.model.specs.Refusals.{bad_window}

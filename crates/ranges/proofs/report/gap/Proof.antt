@@ -1,6 +1,6 @@
 -- `gap` meets its contract: a gap of no position is refused, an empty or reversed range has none, and of another it is the lowest from the range's first
 -- position to its last. Assumes nothing.
-use Rattle.ranges.specs.Prelude.{◌≤◌}
+use Rattle.std.specs.Prelude.{◌≤◌}
 use mathlib.Core.Path.{ap}
 use native.Mathlib.Omega.{arith}
 use borrow.Author.Rules.{rules}
