@@ -76,7 +76,6 @@ fn front<'a>(out: &'a mut [u8], n: usize) -> &'a mut [u8]
 }
 
 // A refusal's number and no part, or 0 and the part that was filled.
-#[derive(Clone, Copy)]
 pub struct Filled<'a> {
     pub refusal: u64,
     pub part: &'a mut [u8],
