@@ -2,6 +2,8 @@
 # make test               every test; the last line is 'N passed, M failed'
 # make lib                prove the library and write target/lib/libvizturel.a and target/include/vizturel.h
 # make prove              prove every crate that has changed, and run every program
+# make listset            prove and build the program listset, crates/listset/out/listset
+# make replay             prove and build the program replay, crates/replay/out/replay
 # make host               build the Rust host over the proved archive and run its tests
 # make differential       the library against IntervalBitSet: exhaustive, damaged and random calls (under a minute)
 # make differential-long  the same with thirty million random calls, and the seed SEED=S (default 2)
@@ -17,11 +19,14 @@
 # make bench-soundness    how long the soundness check takes, against readings of the same words (docs/BENCHMARKS.md)
 # make bench-growth       how many instructions it takes, at four capacities (needs valgrind)
 # make bench-calls        how many instructions a call takes in a frame, and the soundness check with one world and sixteen (needs valgrind)
-.PHONY: run test lib prove host differential differential-long conformance bench bench-store bench-gaps bench-maps bench-editions bench-mending bench-grid bench-why bench-heights bench-soundness bench-growth bench-calls
+.PHONY: run test lib prove listset replay host differential differential-long conformance bench bench-store bench-gaps bench-maps bench-editions bench-mending bench-grid bench-why bench-heights bench-soundness bench-growth bench-calls
 ARCHIVE := target/lib/libvizturel.a
 HEADER := target/include/vizturel.h
-# the crates that the archive is made of; exports, the last one, is proved where the archive is written
-PARTS := $(shell sed -n 's/^exports: //p' crates.txt | tr ' ' '\n' | tac)
+BENCH_STORE := target/lib/libbench_store.a
+PROGRAMS := crates/listset/out/listset crates/replay/out/replay
+SOURCES := crates.txt $(shell find crates -name out -prune -o \( -name '*.rt' -o -name '*.antt' \) -print)
+# the repository's crates that the archive is made of; exports, the last one, is proved where the archive is written
+PARTS := $(foreach crate,$(shell sed -n 's/^exports staticlib: //p' crates.txt | tr ' ' '\n' | tac),$(if $(wildcard crates/$(crate)/src),$(crate)))
 SEED ?= 2
 run: $(ARCHIVE)
 	@cargo run --quiet --offline --release --manifest-path host/Cargo.toml --bin play
@@ -30,21 +35,28 @@ test:
 lib: $(ARCHIVE) $(HEADER)
 	@echo "$(ARCHIVE) (x86-64 Linux) and $(HEADER) are there"
 prove:
-	rt check
+	rt all test
+listset: crates/listset/out/listset
+replay: crates/replay/out/replay
+# The program is there after `rt ci` too. `rt run` builds one only if all of it is proved, and runs it; where it had nothing to do, the file gets
+# the time of now, so that it is not asked again.
+$(PROGRAMS): $(SOURCES)
+	@mkdir -p target
+	@cd crates/$(@F) && rt run < stdin > ../../target/$(@F).out 2> ../../target/$(@F).log || { cat ../../target/$(@F).log; exit 1; }
+	@touch $@
 # Crate by crate, so that it can say which one is being proved. The archive is written only if everything in it is proved.
-$(ARCHIVE): crates.txt $(shell find crates -name '*.rt' -o -name '*.antt')
+$(ARCHIVE): $(SOURCES)
 	@mkdir -p target/lib
-	@echo "proving the library: about 15 minutes from nothing, up to a minute where its crates have been proved"
+	@echo "proving the library: many minutes from nothing, up to a minute where its crates have been proved"
 	@at=0; began=$$(date +%s); \
 	for crate in $(PARTS) exports; do \
 	    at=$$((at + 1)); from=$$(date +%s); \
 	    printf '%2d of %d  %s ...' $$at $(words $(PARTS) exports) $$crate; \
-	    if [ $$crate = exports ]; then how=staticlib; else how=check; fi; \
-	    rt $$how $$crate > target/lib.log 2>&1 || { echo; cat target/lib.log; exit 1; }; \
+	    (cd crates/$$crate && rt lib) > target/lib.log 2>&1 || { echo; cat target/lib.log; exit 1; }; \
 	    echo " $$(($$(date +%s) - from)) s"; \
 	done; \
 	echo "proved in $$(($$(date +%s) - began)) s"
-	@mv target/staticlib/libexports.a $@
+	@cp crates/exports/out/libexports.a $@
 $(HEADER): include/vizturel.h
 	@mkdir -p target/include
 	@cp $< $@
@@ -61,9 +73,11 @@ conformance: $(ARCHIVE)
 bench: $(ARCHIVE) bench-store
 	cargo run --offline --profile fast --features bench_store --manifest-path host/Cargo.toml --bin bench -- docs/benchmarks.svg
 	@$(MAKE) --no-print-directory bench-soundness
-bench-store:
-	@mkdir -p target
-	rt staticlib bench_store > target/bench-store.log 2>&1 || { cat target/bench-store.log; exit 1; }
+bench-store: $(BENCH_STORE)
+$(BENCH_STORE): $(SOURCES)
+	@mkdir -p target/lib
+	@(cd crates/bench_store && rt lib) > target/bench-store.log 2>&1 || { cat target/bench-store.log; exit 1; }
+	@cp crates/bench_store/out/libbench_store.a $@
 bench-gaps: $(ARCHIVE) bench-store
 	cargo run --offline --profile fast --features bench_store --manifest-path host/Cargo.toml --bin bench -- gaps
 bench-maps: $(ARCHIVE)
@@ -79,10 +93,10 @@ bench-why: $(ARCHIVE)
 bench-heights: $(ARCHIVE)
 	cargo run --offline --profile fast --manifest-path host/Cargo.toml --bin bench -- heights
 bench-soundness: bench-store
-	rustc --edition 2021 -C opt-level=3 -L native=target/staticlib -l static=bench_store -o target/bench-soundness bench/soundness.rs
+	rustc --edition 2021 -C opt-level=3 -L native=target/lib -l static=bench_store -o target/bench-soundness bench/soundness.rs
 	target/bench-soundness
 bench-growth: bench-store
-	gcc -O2 -Wall -Wextra -o target/bench-growth bench/growth.c target/staticlib/libbench_store.a
+	gcc -O2 -Wall -Wextra -o target/bench-growth bench/growth.c $(BENCH_STORE)
 	@for c in 1024 2048 8192 65536; do \
 	    valgrind --tool=callgrind --callgrind-out-file=/dev/null --toggle-collect=vizturel_bench_is_sound target/bench-growth $$c 2>&1 \
 	        | awk -v c=$$c '/Collected/ { printf "| %d | %d | %.1f |\n", c, $$NF, $$NF / c }'; \

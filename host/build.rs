@@ -13,7 +13,7 @@ fn main() {
     println!("cargo:rustc-link-search=native={}", folder.display());
     println!("cargo:rustc-link-lib=static=vizturel");
     if env::var_os("CARGO_FEATURE_BENCH_STORE").is_some() {
-        let folder = Path::new(env!("CARGO_MANIFEST_DIR")).join("../target/staticlib");
+        let folder = Path::new(env!("CARGO_MANIFEST_DIR")).join("../target/lib");
         println!("cargo:rerun-if-changed={}", folder.join("libbench_store.a").display());
         println!("cargo:rustc-link-search=native={}", folder.display());
         println!("cargo:rustc-link-lib=static=bench_store");

@@ -204,8 +204,8 @@ module _ {w : List ℕ} {i : ℕ} (v : List ℕ) (j : ℕ) {c : Call Site} {r : 
       refused-due says (looked-first (reads (fed_of w i) ++ Refusals.capacity when too_many (full_at w i) (Q (positions_of (fed_of w i))) ∷ reads (fed_of v j)) (sym k ∙ ap look_number e)) refl
 
 -- one that makes a world of two
-pub all-sent : {w : List ℕ} {i : ℕ} (u : List ℕ) (j : ℕ) (v : List ℕ) (k : ℕ) {c : Call Site} {Q : Positions → Positions} {A : Positions → Result} {r : Refusal} → Changes w i c (reads (fed_of u j) ++ reads (fed_of v k)) Q A
-    → (l : Look) → LookedThree w i u j v k l → l ≡ Look.Refused r → Met w i c (refused (refusal_number r)) w
+pub all-sent : {w : List ℕ} {i : ℕ} (u : List ℕ) (j : ℕ) (v : List ℕ) (k : ℕ) {c : Call Site} {Q : Positions → Positions} {A : Positions → Result} {r : Refusal}
+    → Changes w i c (reads (fed_of u j) ++ reads (fed_of v k)) Q A → (l : Look) → LookedThree w i u j v k l → l ≡ Look.Refused r → Met w i c (refused (refusal_number r)) w
 all-sent {w} {i} u j v k {Q = Q} says l p e =
     refused-due says (looked-first (reads (fed_of w i) ++ Refusals.capacity when too_many (full_at w i) (Q (positions_of (fed_of w i))) ∷ (reads (fed_of u j) ++ reads (fed_of v k)))
     (sym p ∙ ap look_number e)) refl
