@@ -19,7 +19,7 @@ use Rattle.store.specs.Bounds.{RunsCounted, TellsRuns}
 use Rattle.store.proofs.Parts.{lent, lent-nodes}
 use Rattle.store.proofs.Sums.{sum_more, sum-nothing, sum-cong, sum-front}
 use Rattle.store.proofs.WorldLists.{claims-first}
-use Rattle.store.proofs.Truths.{never, is_false, same, both-in}
+use Rattle.store.proofs.Truths.{never, is_false, both-in}
 use Rattle.store.proofs.Reached.{tree-held}
 use Rattle.store.proofs.Hanging.{Fitting, hangs-index, low-runs, fits-planted}
 use Rattle.soundness.proofs.Decided.{world_b-yes, world_b-no}

@@ -5,7 +5,7 @@ use Rattle.model.specs.Positions.{held_runs, stretches}
 use Rattle.model.specs.Pools.{claim, claims}
 use Rattle.run_index.specs.declared.Node.{Node}
 use Rattle.run_index.specs.Cells.{cell_at}
-use Rattle.run_index.specs.Tree.{runs, ones, width}
+use Rattle.run_index.specs.Tree.{width}
 use Rattle.run_index.specs.Strung.{free_cell}
 use Rattle.store.specs.declared.World.{World}
 use Rattle.store.specs.Layout.{

@@ -55,11 +55,10 @@ returns-then-v-lt2 t c =
     whole t (goal.at.returns-then-v-lt2 t c).After-below-v _ (left-crowded (seen t (goal.at.returns-then-v-lt2 t c).After-below-v) _ _ _ c.if-v-eq0.false (omega (arith, c.if-v-lt2.true)))
 
 pub tree_fits-requires : goal.tree_fits-requires
-tree_fits-requires t c =
-    (
-      omega (arith, c.decreases, c.loop-k.invariant.lower, left-lower (seen t (goal.at.tree_fits-requires t c).After-below-v) _ _ _ (own t (goal.at.tree_fits-requires t c).Else-not-node_fits)),
-      inside-out _ _ (sym c.inside.ensures ∙ c.if-not-inside.false),
-    )
+tree_fits-requires t c = (
+  omega (arith, c.decreases, c.loop-k.invariant.lower, left-lower (seen t (goal.at.tree_fits-requires t c).After-below-v) _ _ _ (own t (goal.at.tree_fits-requires t c).Else-not-node_fits)),
+  inside-out _ _ (sym c.inside.ensures ∙ c.if-not-inside.false),
+)
 
 pub returns-then-not-tree_fits : goal.returns-then-not-tree_fits
 returns-then-not-tree_fits t c =

@@ -10,12 +10,11 @@ returns-then-not-record_is_zero c =
     ∙ c.loop-k.invariant.1
 
 pub loop-k-preserved : goal.loop-k-preserved
-loop-k-preserved c =
-    (
-      omega (arith, c.loop-k-test.true),
-      unopened-more _ _ (omega (arith, c.loop-k-test.true)) c.read_node-v.result c.read_node-v.ensures _ c.record_is_zero.ensures (ap not c.if-not-record_is_zero.false)
-          ∙ c.loop-k.invariant.1,
-    )
+loop-k-preserved c = (
+  omega (arith, c.loop-k-test.true),
+  unopened-more _ _ (omega (arith, c.loop-k-test.true)) c.read_node-v.result c.read_node-v.ensures _ c.record_is_zero.ensures (ap not c.if-not-record_is_zero.false)
+      ∙ c.loop-k.invariant.1,
+)
 
 pub returns : goal.returns
 returns c = unopened-none _ _ _ (omega arith) ∙ c.loop-k.invariant.1

@@ -1,6 +1,6 @@
 -- `select` meets its contract: the k-th position of one physical range, or of two, where those of the second follow those of the first.
 -- Assumes nothing.
-use Rattle.std.proofs.Common.{suc, ◌-◌, ◌<◌, ◌≤◌, ⊎_elim, arith, ltb-true, leb-false}
+use Rattle.std.proofs.Common.{suc, ◌-◌, ◌<◌, ◌≤◌, ⊎_elim, arith}
 use Rattle.model.specs.Numbers.{worth}
 use Rattle.reports.proofs.Reading.{choosable-whole, selected-whole, unselected-whole, selected-first, choosable-second, selected-second, unselected-second}
 use Rattle.store.proofs.Turn.{Lies, lies-from-to}
@@ -33,8 +33,10 @@ past_first c = c.if-k-before.false
 more-second : (c : Joined-else-m-eq0) → c.args.k - c.tally_physical-n-2.result.count.low
     < worth c.tally_physical-m.result.count
 more-second c =
-    elim c.else-m-eq0.branch [ else-m-eq0-via-then-m-eq0+else-m-k w ↦ omega (arith, w.if-m-eq0.true, w.if-m-k.false)
-    | else-m-eq0-via-else-m-eq0 w ↦ omega (arith, w.if-m-eq0.false, c.ranges.k.fits) ]
+    elim c.else-m-eq0.branch [
+      | else-m-eq0-via-then-m-eq0+else-m-k w ↦ omega (arith, w.if-m-eq0.true, w.if-m-k.false)
+      | else-m-eq0-via-else-m-eq0 w ↦ omega (arith, w.if-m-eq0.false, c.ranges.k.fits)
+    ]
 
 pub returns-then-n-k : goal.returns-then-n-k
 returns-then-n-k c =

@@ -1,6 +1,6 @@
 -- `tally` meets its contract: of one physical range, or of two, where the run across physical M and 0 is counted once.
 -- Assumes nothing.
-use Rattle.std.proofs.Common.{suc, ◌-◌, inl, inr, ⊎_elim, arith}
+use Rattle.std.proofs.Common.{suc, ◌-◌, inl, inr, arith}
 use Rattle.reports.proofs.Reading.{tally-whole, count_fits, runs_fit, joined-some, tally-joined, tally-apart}
 use Rattle.store.proofs.Turn.{Lies, lies-from-to}
 use Rattle.reports.proofs.logical.tally.Goals as goal
@@ -49,5 +49,7 @@ pub returns : goal.returns
 returns c =
     tally-apart c.requires.stands.1 (lies (goal.at.returns c).After-to_physical-e) c.args.value c.if-from-to.false c.tally_physical-one.ensures
     c.tally_physical-two.ensures c.get_physical-high.ensures c.get_physical-low.ensures
-    (elim c.else-low-value.branch [ else-low-value-via-then-low-value+else-high-value w ↦ inl w.if-high-value.false
-    | else-low-value-via-else-low-value w ↦ inr w.if-low-value.false ]) c.plus-count.ensures
+    (elim c.else-low-value.branch [
+      | else-low-value-via-then-low-value+else-high-value w ↦ inl w.if-high-value.false
+      | else-low-value-via-else-low-value w ↦ inr w.if-low-value.false
+    ]) c.plus-count.ensures

@@ -5,7 +5,6 @@ use mathlib.Core.Path.{◌≡◌, refl}
 use mathlib.Core.Logic.{⊎_elim}
 use mathlib.Core.Bool.{false}
 use native.Mathlib.Omega.{arith}
-use borrow.Author.Tests.{not-false, eqb-true}
 use Rattle.model.specs.Bytes.{edition_of}
 use Rattle.model.specs.Refusals.{bad_version}
 use Rattle.written.proofs.Digits.{count-bound}

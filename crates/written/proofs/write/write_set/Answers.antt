@@ -1,6 +1,6 @@
 -- `write_set` meets its contract. The loop's invariant: behind the head the runs read so far are put, and the reading stands where those
 -- runs end. The measure is how many are left: the run at hand is one of the n. Assumes nothing.
-use Prim.Native.Nat.{◌+◌, ◌-◌, ◌*◌, ◌≤◌, ◌<◌}
+use Prim.Native.Nat.{◌+◌, ◌*◌, ◌≤◌, ◌<◌}
 use mathlib.Core.Path.{◌≡◌}
 use native.Mathlib.Omega.{arith}
 use lib.ListN.{length}
