@@ -54,7 +54,6 @@ overflow_add-less c =
       c.loop-r.invariant.3,
       on.low,
       limit-few c.requires.editable.1,
-      c.row_loss-less.ensures,
       loss-few q on (held_in c.args.words.now c.args.h) c.args.value c.loop-r.r,
       sum-few (row_loss q c.args.value (held_in c.args.words.now c.args.h)) q.top (c.loop-r.r - q.top) (loss-few q on (held_in c.args.words.now c.args.h) c.args.value),
     )
@@ -65,7 +64,7 @@ loop-r-preserved c =
       omega (arith, c.loop-r.invariant.0),
       omega (arith, c.loop-r-test.true),
       omega (arith, c.loop-r.invariant.2, c.row_gain-more.ensures, sum-next (row_gain q c.args.value (held_in c.args.words.now c.args.h)) q.top c.loop-r.r c.loop-r.invariant.0),
-      omega (arith, c.loop-r.invariant.3, c.row_loss-less.ensures, sum-next (row_loss q c.args.value (held_in c.args.words.now c.args.h)) q.top c.loop-r.r c.loop-r.invariant.0),
+      omega (arith, c.loop-r.invariant.3, sum-next (row_loss q c.args.value (held_in c.args.words.now c.args.h)) q.top c.loop-r.r c.loop-r.invariant.0),
     )
 
 pub returns : goal.returns
