@@ -1,18 +1,14 @@
 -- What a range's bounds come to in each call: none of its positions where `normalize` found it empty or reversed, else those from a to b.
 -- Of no position every report is the least. Assumes nothing.
 use Prim.Native.Nat.{ℕ, suc, ◌+◌, ◌-◌, ◌≤◌, ◌<◌}
-use mathlib.Core.Path.{◌≡◌, refl, sym, ap, ap₂, ◌∙◌, subst}
-use mathlib.Core.Logic.{inl, inr}
-use mathlib.Core.List.{[], ◌∷◌}
+use mathlib.Core.Path.{◌≡◌, refl, sym, ap, ap₂, ◌∙◌}
+use mathlib.Core.Logic.{◌⊎◌, inl, inr, ⊎_elim}
 use mathlib.Core.Bool.{Bool, true, false, cond, not}
 use mathlib.Core.Option.{Option, none}
 use native.Mathlib.Omega.{arith}
 use lib.Dec.{ltb}
 use lib.ListN.{length}
 use borrow.Author.Tests.{ltb-true, ltb-false}
-use types.Run.{OneOf}
-use denote.Enum.Declared.{tag_of}
-use Rattle.model.specs.contracts.Span.{the_type}
 use Rattle.model.specs.declared.Bound.{Bound}
 use Rattle.model.specs.declared.Edge.{Edge}
 use Rattle.model.specs.declared.Edge.TheVariants.{At, Nowhere}
@@ -40,14 +36,15 @@ module _ (l u : Bound) where
   span_by r t = cond r Reversed (cond t (Closed (first_allowed l) (past_allowed u - 1)) Empty)
 
   -- one of the first two forms, empty or reversed, has no position
-  pub span_none : (s : Span) → s ≡ span_of l u → OneOf (0 ∷ 1 ∷ []) (tag_of the_type s) → extent l u ≡ 0
+  pub span_none : (s : Span) → s ≡ span_of l u → (s ≡ Empty) ⊎ (s ≡ Reversed) → extent l u ≡ 0
   span_none s e k =
-      go (reversed l u) (ltb (first_allowed l) (past_allowed u)) refl refl (subst (λ x. OneOf (0 ∷ 1 ∷ []) (tag_of the_type x)) e k)
+      go (reversed l u) (ltb (first_allowed l) (past_allowed u)) refl refl (⊎_elim (λ a. inl (sym e ∙ a)) (λ b. inr (sym e ∙ b)) k)
     where
-      go : (r t : Bool) → ltb (past_allowed u) (first_allowed l) ≡ r → ltb (first_allowed l) (past_allowed u) ≡ t → OneOf (0 ∷ 1 ∷ []) (tag_of the_type (span_by r t)) → extent l u ≡ 0
+      go : (r t : Bool) → ltb (past_allowed u) (first_allowed l) ≡ r → ltb (first_allowed l) (past_allowed u) ≡ t
+          → (span_by r t ≡ Empty) ⊎ (span_by r t ≡ Reversed) → extent l u ≡ 0
       go true t p q h = omega (arith, ltb-true (past_allowed u) (first_allowed l) p)
-      go false true p q (inl h) = let z : ◌≡◌ {A = ℕ} 2 0 = h in absurd (omega arith)
-      go false true p q (inr h) = let z : ◌≡◌ {A = ℕ} 2 1 = h in absurd (omega arith)
+      go false true p q (inl h) = let z : ◌≡◌ {A = ℕ} 2 0 = cc in absurd (omega arith)
+      go false true p q (inr h) = let z : ◌≡◌ {A = ℕ} 2 1 = cc in absurd (omega arith)
       go false false p q h = omega (arith, ltb-false (first_allowed l) (past_allowed u) q)
 
   -- another has those from its first to its last

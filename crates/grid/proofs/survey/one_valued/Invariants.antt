@@ -1,0 +1,15 @@
+-- `one_valued` meets its contract. The loop's invariant: the cells of the rows before row r have the first cell's value; the measure is the rows
+-- that are left. Assumes nothing.
+use Prim.Native.Nat.{◌+◌, ◌-◌, ◌≤◌}
+use mathlib.Core.Path.{◌≡◌}
+use Rattle.store.specs.Layout.{held_in}
+use Rattle.model.specs.Grid.{cell}
+use Rattle.grid.proofs.Alike.{Alike}
+use Rattle.grid.proofs.survey.one_valued.Given as goal
+
+abbrev pub invariant-loop-r : goal.invariant-loop-r
+invariant-loop-r l =
+    (l.row ≤ l.r) × (l.value ≡ held_in l.words l.h (cell l.row l.column)) × Alike (held_in l.words l.h) l.row l.column (l.r - l.row) l.columns l.value
+
+abbrev pub decreases-loop-r : goal.decreases-loop-r
+decreases-loop-r l = l.row + l.rows - l.r

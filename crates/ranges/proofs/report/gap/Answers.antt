@@ -1,0 +1,33 @@
+-- `gap` meets its contract: a gap of no position is refused, an empty or reversed range has none, and of another it is the lowest from the range's first
+-- position to its last. Assumes nothing.
+use Rattle.std.specs.Prelude.{◌≤◌}
+use mathlib.Core.Path.{ap}
+use native.Mathlib.Omega.{arith}
+use Rattle.model.specs.Call.{position}
+use Rattle.promises.proofs.Spans.{span_none, span-some, gap-range, found_as}
+use Rattle.ranges.proofs.Gaps.{gap-refused, gap-passes, gap-nothing}
+use Rattle.promises.proofs.Doors.{lent-stands}
+use Rattle.promises.proofs.Meeting.{refused-by, met, met-in-as, gap-says}
+use Rattle.ranges.proofs.report.gap.Goals as goal
+use Rattle.ranges.proofs.report.gap.Goals.{Else-n-eq0}
+
+-- it has some
+some : (c : Else-n-eq0) → 1 ≤ c.args.n
+some c = omega (arith, c.if-n-eq0.false)
+
+pub returns-then-n-eq0 : goal.returns-then-n-eq0
+returns-then-n-eq0 c = refused-by (gap-says _ _ _ _ _) 9 c.requires (gap-refused _ c.if-n-eq0.true)
+
+pub lowest_gap-requires-clause-stands : goal.lowest_gap-requires-clause-stands
+lowest_gap-requires-clause-stands c =
+    lent-stands c.open-h.ensures
+
+pub returns-in-Empty : goal.returns-in-Empty
+returns-in-Empty c =
+    let e = span_none c.args.lower c.args.upper _ c.normalize-s.ensures c.in-Empty.is in
+    met (gap-says _ _ _ _ _) c.requires (gap-passes _ (some (goal.at.returns-in-Empty c).Else-n-eq0)) (ap position (gap-nothing _ (some (goal.at.returns-in-Empty c).Else-n-eq0) _ _ _ e))
+
+pub returns-in-Closed : goal.returns-in-Closed
+returns-in-Closed c =
+    met-in-as (gap-says _ _ _ _ _) c.requires c.open-h.ensures (gap-passes _ (some (goal.at.returns-in-Closed c).Else-n-eq0))
+    (found_as c.lowest_gap.result c.found.ensures (gap-range (span-some c.args.lower c.args.upper _ c.normalize-s.ensures c.in-Closed.is) _ _ c.lowest_gap.ensures))
