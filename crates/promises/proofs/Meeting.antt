@@ -20,7 +20,7 @@ use Rattle.model.specs.Grid
 use Rattle.model.specs.Refusals.{store_length, world_limits, gap_length, off_plane, window, Condition, ◌when◌, refusal, bad_limits, bad_gap, bad_rect, bad_window}
 use Rattle.model.specs.Call.{wrong_length, unsound, unopened, Call, Result, done, number, tallied, value, around, position, listing, drawn, Answer, refused, gave}
 use Rattle.model.specs.Model.{Outcome, positions_of, reads, settle, report, tallying, strict, drawn_first, drawn_last, serve}
-use Rattle.model.specs.Pools.{world_of, fed_by, empty_worlds, PoolOutcome, settle_make, make_by}
+use Rattle.model.specs.Pools.{world_of, fed_by, empty_worlds, settle_make, make_by}
 use Rattle.store.specs.declared.World.{World}
 use Rattle.store.specs.Layout.{capacity, opened_at, held_in, held_by, worlds_of}
 use Rattle.store.specs.Soundness.{Sound}

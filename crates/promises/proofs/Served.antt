@@ -9,7 +9,6 @@ use borrow.Author.Tests.{le-ltb}
 use Rattle.model.specs.Numbers.{size}
 use Rattle.model.specs.Positions.{Positions, bounded}
 use Rattle.model.specs.Refusals.{Condition, ◌when◌, capacity, refusal, too_many}
-use Rattle.model.specs.Call
 use Rattle.model.specs.Call.{Fed, Call, Result, gave}
 use Rattle.model.specs.Model.{Outcome, positions_of, reads, settle, report, change, write, mending, changed, setting, flipping, tallying, drawn_first, drawn_last, serve}
 use Rattle.promises.proofs.Meeting.{refused-not}

@@ -1,55 +1,52 @@
 -- `raise` meets its contract: the run at s or before it reaches s and grows, or the run after s is reached from e and grows to both sides,
 -- or a new one comes. Assumes nothing.
-use Rattle.std.proofs.Common.{⊎_elim}
-use Rattle.changes.proofs.Steps.{FoundRun, found, found_none}
+use Rattle.changes.proofs.Steps.{found, found_none}
 use Rattle.changes.proofs.Raising.{Passed, Alone, before-touched, before-absorbable, before-changeable, before-grown, before-stays, passed_apart, passed_none, after-touched, after-absorbable, after-changeable, after-grown, alone-apart, alone-none, alone-addable, alone-added}
 use Rattle.changes.proofs.change.raise.Goals as goal
-use Rattle.changes.proofs.change.raise.Goals.{In-Run-2, Joined-m, Joined-n}
-
--- the run at s or before it
-run-there : (n : In-Run-2) → FoundRun n.args.words.now n.args.x n.args.s.0 n.in-Run.r
-run-there n = found _ n.at_or_before-n.ensures _ n.in-Run.is
+use Rattle.changes.proofs.change.raise.Goals.{Joined-m, Joined-n, in-Run+else-reaches, in-None, in-Run-m+else-reaches-2, in-None-m}
 
 -- no run reaches s from before it
 passed : (c : Joined-n) → Passed c.args.words.now c.args.x c.args.s.0
 passed c =
-    ⊎_elim (λ x. passed_apart (found _ c.at_or_before-n.ensures _ x.1.given.1) _ x.3.ensures x.4)
-    (λ x. passed_none (found_none _ c.at_or_before-n.ensures x.1.given.1))
-    c.match-n.either
+    elim c.match-n.branch [
+      | in-Run+else-reaches w ↦ passed_apart (found _ c.at_or_before-n.ensures _ w.in-Run.is) _ w.reaches.ensures w.if-reaches.false
+      | in-None w ↦ passed_none (found_none _ c.at_or_before-n.ensures w.in-None.is)
+    ]
 
 -- and none is reached from e
 alone : (c : Joined-m) → Alone c.args.words.now c.args.x c.args.s.0 c.args.e.0
 alone c =
-    ⊎_elim (λ x. alone-apart ((⊎_elim (λ x. passed_apart (found _ c.at_or_before-n.ensures _ x.1.given.1) _ x.3.ensures x.4)
-    (λ x. passed_none (found_none _ c.at_or_before-n.ensures x.1.given.1))
-    c.match-n.either)) _ c.at_or_after-m.ensures _ x.1.given.1 _ x.3.ensures x.4)
-    (λ x. alone-none ((⊎_elim (λ x. passed_apart (found _ c.at_or_before-n.ensures _ x.1.given.1) _ x.3.ensures x.4)
-    (λ x. passed_none (found_none _ c.at_or_before-n.ensures x.1.given.1))
-    c.match-n.either)) _ c.at_or_after-m.ensures x.1.given.1)
-    c.match-m.either
+    let p : Passed c.args.words.now c.args.x c.args.s.0 =
+    elim c.match-n.branch [
+      | in-Run+else-reaches w ↦ passed_apart (found _ c.at_or_before-n.ensures _ w.in-Run.is) _ w.reaches.ensures w.if-reaches.false
+      | in-None w ↦ passed_none (found_none _ c.at_or_before-n.ensures w.in-None.is)
+    ] in
+    elim c.match-m.branch [
+      | in-Run-m+else-reaches-2 w ↦ alone-apart p _ c.at_or_after-m.ensures _ w.in-Run-m.is _ w.reaches-in-Run-m.ensures w.if-reaches-2.false
+      | in-None-m w ↦ alone-none p _ c.at_or_after-m.ensures w.in-None-m.is
+    ]
 
 pub absorb-a-requires : goal.absorb-a-requires
 absorb-a-requires c =
-    before-absorbable (run-there (goal.at.absorb-a-requires c).In-Run-2) _ c.reaches.ensures c.if-reaches.true c.requires
+    before-absorbable (found _ c.at_or_before-n.ensures _ c.in-Run.is) _ c.reaches.ensures c.if-reaches.true c.requires
 
 pub resize_run-requires : goal.resize_run-requires
 resize_run-requires c =
-    before-changeable (run-there (goal.at.resize_run-requires c).In-Run-2) _ c.reaches.ensures c.if-reaches.true c.if-end-to.true _ c.absorb-a.ensures
+    before-changeable (found _ c.at_or_before-n.ensures _ c.in-Run.is) _ c.reaches.ensures c.if-reaches.true c.if-end-to.true _ c.absorb-a.ensures
     c.requires
 
 pub returns-then-end-to : goal.returns-then-end-to
 returns-then-end-to c =
     let t = c.if-reaches.true in (
-      before-grown (run-there (goal.at.returns-then-end-to c).In-Run-2) _ c.reaches.ensures t c.if-end-to.true _ c.absorb-a.ensures c.resize_run.ensures,
-      λ v n. absurd (before-touched (run-there (goal.at.returns-then-end-to c).In-Run-2) _ c.reaches.ensures t c.requires n),
+      before-grown (found _ c.at_or_before-n.ensures _ c.in-Run.is) _ c.reaches.ensures t c.if-end-to.true _ c.absorb-a.ensures c.resize_run.ensures,
+      λ v n. absurd (before-touched (found _ c.at_or_before-n.ensures _ c.in-Run.is) _ c.reaches.ensures t c.requires n),
     )
 
 pub returns-then-reaches : goal.returns-then-reaches
-returns-then-reaches c =
-    (
-      before-stays (run-there (goal.at.returns-then-reaches c).In-Run-2) _ c.reaches.ensures c.if-reaches.true c.if-end-to.false,
-      λ v n. absurd (before-touched (run-there (goal.at.returns-then-reaches c).In-Run-2) _ c.reaches.ensures c.if-reaches.true c.requires n),
-    )
+returns-then-reaches c = (
+  before-stays (found _ c.at_or_before-n.ensures _ c.in-Run.is) _ c.reaches.ensures c.if-reaches.true c.if-end-to.false,
+  λ v n. absurd (before-touched (found _ c.at_or_before-n.ensures _ c.in-Run.is) _ c.reaches.ensures c.if-reaches.true c.requires n),
+)
 
 pub absorb-a-requires-then-reaches-2 : goal.absorb-a-requires-then-reaches-2
 absorb-a-requires-then-reaches-2 c =

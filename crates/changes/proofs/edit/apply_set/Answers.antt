@@ -9,8 +9,7 @@ refresh_set-requires c =
     reached-resettable _ _ _ p.limited.standing (omega (arith, c.well_formed)) p.ordered (omega (arith, c.well_formed)) (c.place-y.ensures.0 c.requires.0 c.requires.1 p.limited p.few)
 
 pub returns : goal.returns
-returns c =
-    (
-      λ s limit lim few. reached-became (c.place-y.ensures.0 s limit lim few) c.refresh_set.ensures.0,
-      puts-grows _ _ c.args.h c.refresh_set.result _ _ _ c.place-y.ensures.1 c.refresh_set.ensures.1,
-    )
+returns c = (
+  λ s limit lim few. reached-became (c.place-y.ensures.0 s limit lim few) c.refresh_set.ensures.0,
+  puts-grows _ _ c.args.h c.refresh_set.result _ _ _ c.place-y.ensures.1 c.refresh_set.ensures.1,
+)

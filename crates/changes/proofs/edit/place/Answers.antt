@@ -17,11 +17,10 @@ set_physical-requires c =
     whole-settable c.args.value c.links_of-x.ensures (lies (goal.at.set_physical-requires c).After-links_of-x) c.requires.2.limited c.if-from-to.true c.requires.2.few
 
 pub returns-then-from-to : goal.returns-then-from-to
-returns-then-from-to c =
-    (
-      λ s limit lim few. whole-reached c.args.value c.links_of-x.ensures (lies (goal.at.returns-then-from-to c).After-links_of-x) lim c.if-from-to.true few c.set_physical.ensures.0,
-      whole-puts _ _ c.args.h _ _ c.links_of-x.ensures (lies (goal.at.returns-then-from-to c).After-links_of-x) c.requires.2.ordered c.set_physical.ensures.1,
-    )
+returns-then-from-to c = (
+  λ s limit lim few. whole-reached c.args.value c.links_of-x.ensures (lies (goal.at.returns-then-from-to c).After-links_of-x) lim c.if-from-to.true few c.set_physical.ensures.0,
+  whole-puts _ _ c.args.h _ _ c.links_of-x.ensures (lies (goal.at.returns-then-from-to c).After-links_of-x) c.requires.2.ordered c.set_physical.ensures.1,
+)
 
 pub set_physical-y-requires : goal.set_physical-y-requires
 set_physical-y-requires c =

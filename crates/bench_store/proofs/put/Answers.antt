@@ -1,0 +1,24 @@
+-- `put` meets its contract: whatever the set answers, the pool is sound and as long. Assumes nothing.
+use Rattle.std.proofs.Common.{arith}
+use Rattle.bench_store.proofs.Grown.{editable, full-same, changed-closing, same-sound}
+use Rattle.bench_store.proofs.put.Goals as goal
+
+pub set-e-requires-clause-editable : goal.set-e-requires-clause-editable
+set-e-requires-clause-editable c =
+    editable c.open-h.ensures c.allowance-limit.ensures
+
+pub close-requires : goal.close-requires
+close-requires c =
+    (_, _, changed-closing c.open-h.ensures c.allowance-limit.ensures c.requires.sound _ _ _ c.set-e.ensures.0 c.in-Changed.is)
+
+pub returns-in-Full : goal.returns-in-Full
+returns-in-Full c =
+    let h = same-sound c.requires.sound
+    (full-same c.open-h.ensures c.allowance-limit.ensures c.requires.sound _ _ _ c.set-e.ensures.0 c.in-Full.is) in
+    (h.0, h.1, omega arith)
+
+pub returns-in-Changed : goal.returns-in-Changed
+returns-in-Changed c =
+    let t = c.close.ensures _ _
+    (changed-closing c.open-h.ensures c.allowance-limit.ensures c.requires.sound _ _ _ c.set-e.ensures.0 c.in-Changed.is) in
+    (t.sound, t.long, omega arith)

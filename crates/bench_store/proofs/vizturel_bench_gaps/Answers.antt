@@ -1,0 +1,9 @@
+-- `vizturel_bench_gaps` is safe. The loop's invariant: the pool is sound, the range is not reversed and a gap has a position; the measure is the
+-- searches that are left. Assumes nothing.
+use Rattle.std.proofs.Common.{sym, ◌∙◌, rules}
+use Rattle.soundness.proofs.Whole.{sound_b-yes}
+use Rattle.bench_store.proofs.vizturel_bench_gaps.Goals as goal
+
+pub loop-left-init : goal.loop-left-init
+loop-left-init c =
+    (sound_b-yes _ (search rules) (sym c.is_sound.ensures ∙ c.if-not-is_sound.false), (c.if-last-first.false, c.if-n-lt1.false))
