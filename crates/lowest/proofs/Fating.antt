@@ -57,6 +57,7 @@ run_with-is t k (r ∷ rs) (suc p) x c h l m =
 
 -- each group has a place among the runs
 one-run : (gs : List Group) (h : Group) → OneOf h gs → (p : ℕ) × (p < length (runs_of gs)) × (entry (runs_of gs) p ≡ run h.start h.«end»)
+one-run [] h m = elim m [ ]
 one-run (g ∷ gs) h (inl e) = (0, omega arith, ap (λ (f : Group). run f.start f.«end») (sym e))
 one-run (g ∷ gs) h (inr m) = let t = one-run gs h m in (suc t.0, omega (arith, t.1), t.2)
 
@@ -126,6 +127,7 @@ kept_more p (f ∷ gs) g =
 -- a sole group keeps its place
 pub kept-one : (p : ℕ) (gs : List Group) (h : Group) → OneOf h gs → h.sole ≡ true → h.place ≡ p → kept p gs ≡ true
 unfolding kept
+kept-one p [] h m s q = elim m [ ]
 kept-one p (g ∷ gs) h (inl e) s q =
     rw (sym (ap (λ (f : Group). f.sole) e) ∙ s, eq-eqb g.place p (sym (ap (λ (f : Group). f.place) e) ∙ q))
 kept-one p (g ∷ gs) h (inr m) s q = ap (λ b. (g.sole && eqb g.place p) || b) (kept-one p gs h m s q) ∙ or-true (g.sole && eqb g.place p)

@@ -22,6 +22,7 @@ below_both t a b h k = omega arith
 -- ---- one of the groups
 -- it stays one when others are put behind them
 pub one_left : (h : Group) (gs hs : List Group) → OneOf h gs → OneOf h (gs ++ hs)
+one_left h [] hs m = elim m [ ]
 one_left h (g ∷ gs) hs (inl e) = inl e
 one_left h (g ∷ gs) hs (inr m) = inr (one_left h gs hs m)
 
@@ -33,6 +34,7 @@ one_last g (h ∷ gs) = inr (one_last g gs)
 -- one of those before the last, or the last one
 pub one-either : (h : Group) (gs : List Group) (g : Group) → OneOf h (gs ++ g ∷ []) → OneOf h gs ⊎ (h ≡ g)
 one-either h [] g (inl e) = inr e
+one-either h [] g (inr m) = elim m [ ]
 one-either h (f ∷ gs) g (inl e) = inl (inl e)
 one-either h (f ∷ gs) g (inr m) = go (one-either h gs g m)
   where
@@ -43,11 +45,13 @@ one-either h (f ∷ gs) g (inr m) = go (one-either h gs g m)
 -- ---- canonical groups
 -- a group of canonical ones starts at their bound or after it, and has a position
 pub canon-from : (t k : ℕ) (gs : List Group) (h : Group) → Canon t k (runs_of gs) → OneOf h gs → (k ≤ h.start) × (h.start ≤ h.«end»)
+canon-from t k [] h c m = elim m [ ]
 canon-from t k (g ∷ gs) h c (inl e) = subst (λ (f : Group). (k ≤ f.start) × (f.start ≤ f.«end»)) (sym e) (c.0, c.1)
 canon-from t k (g ∷ gs) h c (inr m) = let f = canon-from t (g.«end» + 2) gs h c.3 m in (omega (arith, c.0, c.1, f.0), f.1)
 
 -- one that is before the last one ends two before it
 pub canon-before : (t k : ℕ) (gs : List Group) (g h : Group) → Canon t k (runs_of (gs ++ g ∷ [])) → OneOf h gs → h.«end» + 2 ≤ g.start
+canon-before t k [] g h c m = elim m [ ]
 canon-before t k (f ∷ gs) g h c (inl e) =
     subst (λ (x : Group). x.«end» + 2 ≤ g.start) (sym e) (canon-from t (f.«end» + 2) (gs ++ g ∷ []) g c.3 (one_last g gs)).0
 canon-before t k (f ∷ gs) g h c (inr m) = canon-before t (f.«end» + 2) gs g h c.3 m
@@ -62,6 +66,7 @@ canon-most t k gs g h c m = go (one-either h gs g m)
 
 -- each ends below the bound
 pub canon-below : (t k : ℕ) (gs : List Group) (h : Group) → Canon t k (runs_of gs) → OneOf h gs → h.«end» < t
+canon-below t k [] h c m = elim m [ ]
 canon-below t k (g ∷ gs) h c (inl e) = subst (λ (f : Group). f.«end» < t) (sym e) c.2
 canon-below t k (g ∷ gs) h c (inr m) = canon-below t (g.«end» + 2) gs h c.3 m
 
@@ -357,6 +362,7 @@ runs-length (g ∷ gs) = ap suc (runs-length gs)
 -- the positions of each group
 pub group-holds : (gs : List Group) (h : Group) (x : ℕ) → OneOf h gs → h.start ≤ x → x ≤ h.«end» → mem (runs_of gs) x ≡ true
 unfolding mem
+group-holds [] h x m l k = elim m [ ]
 group-holds (g ∷ gs) h x (inl e) l k =
     mem-in (run g.start g.«end») (runs_of gs) x (omega (arith, ap (λ (f : Group). f.start) e)) (omega (arith, ap (λ (f : Group). f.«end») e))
 group-holds (g ∷ gs) h x (inr m) l k =

@@ -7,10 +7,10 @@ use Rattle.model.specs.Deepest.{least, deepest_words}
 use Rattle.model.specs.Refusals
 use Rattle.model.specs.Refusals.{store_length, tree_height, output_short, Condition, ◌when◌, refusal, bad_height, no_room}
 use Rattle.model.specs.Call.{deepest, Result, written, gave}
-use Rattle.model.specs.Pools.{PoolOutcome, settle_measured, measure_by}
+use Rattle.model.specs.Pools.{settle_measured, measure_by}
 use Rattle.model.proofs.Deepest.{deepest-words}
 use Rattle.store.specs.Layout.{capacity, worlds_of}
-use Rattle.promises.specs.Met.{measured_of, Measured}
+use Rattle.promises.specs.Met.{measured_of}
 use Rattle.promises.specs.Out.{WritesMeasured}
 
 -- a height from 1 to 22 is none that is refused

@@ -7,7 +7,7 @@ use Rattle.model.specs.declared.Refusal.{Refusal}
 use Rattle.model.specs.declared.Run.{Run}
 use Rattle.model.specs.declared.Edition.{Edition}
 use Rattle.model.specs.Numbers.{refusal_number}
-use Rattle.model.specs.Positions.{Positions, stretches, mem}
+use Rattle.model.specs.Positions.{stretches, mem}
 use Rattle.model.proofs.Runs.{stretches-is}
 use Rattle.model.specs.Bytes.{runs_told}
 use Rattle.model.specs.Refusals.{run_order, before_capacity, from_capacity, ◌when◌, first_given, refusal, ordered_from, disordered, set_conditions}

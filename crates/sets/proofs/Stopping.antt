@@ -1,5 +1,5 @@
 -- Why a list of ranges is refused: what the call answers, by its three tests in their order. Assumes nothing.
-use Rattle.std.proofs.Common.{◌≡◌, ℕ, ◌<◌, ◌≤◌, Bool, true, false, eqb, ltb, List, [], ◌∷◌, length, sym, refl, ap, ◌∙◌, ap₂, arith, le-ltb, lt-ltb, eq-eqb, ne_eqb}
+use Rattle.std.proofs.Common.{◌≡◌, ℕ, ◌<◌, ◌≤◌, Bool, false, eqb, ltb, List, [], ◌∷◌, length, sym, refl, ap, ◌∙◌, ap₂, arith, le-ltb, lt-ltb, eq-eqb, ne_eqb}
 use mathlib.Core.Option.{Option, none, some}
 use Rattle.model.specs.declared.Refusal.TheVariants.{StoreLength, NotRefused, OutputShort}
 use Rattle.model.specs.declared.Written.{Written}
@@ -7,9 +7,9 @@ use Rattle.model.specs.Bytes.{into_front}
 use Rattle.model.specs.Spawning.{none_refused, places_told}
 use Rattle.model.specs.Refusals.{store_length, not_refused, output_short, Condition, ◌when◌, refusal, no_room}
 use Rattle.model.specs.Call.{why_full, Result, written, gave}
-use Rattle.model.specs.Pools.{PoolOutcome, settle_measured, stopped, measure_by}
+use Rattle.model.specs.Pools.{settle_measured, stopped, measure_by}
 use Rattle.store.specs.Layout.{capacity, worlds_of}
-use Rattle.promises.specs.Met.{measured_of, Measured}
+use Rattle.promises.specs.Met.{measured_of}
 use Rattle.promises.specs.Out.{WritesMeasured}
 
 module _ (w rs out : List ℕ) where

@@ -74,6 +74,7 @@ places_of-length [] = refl
 places_of-length (g ∷ gs) = ap suc (places_of-length gs)
 
 of-in : (gs : List Group) (h : Group) → OneOf h gs → In h.place (places_of gs)
+of-in [] h m = elim m [ ]
 of-in (g ∷ gs) h (inl e) = subst (λ (x : Group). In x.place (g.place ∷ places_of gs)) (sym e) (in_head g.place (places_of gs))
 of-in (g ∷ gs) h (inr m) = in_tail h.place g.place (places_of gs) (of-in gs h m)
 

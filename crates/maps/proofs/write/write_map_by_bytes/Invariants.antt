@@ -1,0 +1,11 @@
+-- `write_map_by_bytes` meets its contract. The loop's invariant: j bytes of the map are in front of the slice, and the source stands at the first
+-- position of the next one. The measure is how many positions are left. Assumes nothing.
+use Rattle.store.specs.Layout.{held_from}
+use Rattle.maps.proofs.Octeting.{Writing}
+use Rattle.maps.proofs.write.write_map_by_bytes.Given as goal
+
+abbrev pub invariant-loop-left : goal.invariant-loop-left
+invariant-loop-left l = Writing l.words l.path l.v l.s l.base l.n l.x l.left l.j l.initial.out l.out (held_from l.words l.v.root l.v.offset)
+
+abbrev pub decreases-loop-left : goal.decreases-loop-left
+decreases-loop-left l = l.left

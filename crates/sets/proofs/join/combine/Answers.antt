@@ -1,0 +1,17 @@
+-- `combine` meets its contract: two opened worlds, each read by its view, are joined if the allowance admits it.
+-- Assumes nothing.
+use Rattle.std.proofs.Common.{ap₂}
+use Rattle.model.specs.Positions.{combined}
+use Rattle.sets.proofs.Joins.{view-rooted, read_as}
+use Rattle.promises.proofs.Overwriting.{both-none, carried, combine-says}
+use Rattle.sets.proofs.join.combine.Goals as goal
+
+pub gathered-requires-clause-sources : goal.gathered-requires-clause-sources
+gathered-requires-clause-sources c =
+    record { left = view-rooted c.view-x.ensures; right = view-rooted c.view-y.ensures }
+
+pub returns : goal.returns
+returns c =
+    let p = read_as c.requires.readable_2 c.view-x.ensures in
+    let q = read_as c.requires.readable_3 c.view-y.ensures in
+    carried (combine-says _ _ _ _ _) c.requires.readable _ (both-none c.requires.readable_2 c.requires.readable_3) (λ x h. ap₂ (λ P Q. combined c.args.op P Q x) p q) c.gathered.result c.gathered.ensures c.completed.ensures

@@ -1,0 +1,17 @@
+-- `eq` meets its contract: two opened worlds, each read by its view, are the same if their XOR has no run.
+-- Assumes nothing.
+use Rattle.std.proofs.Common.{ap}
+use Rattle.model.specs.Call.{value}
+use Rattle.promises.proofs.Meeting.{met}
+use Rattle.sets.proofs.Joins.{view-rooted}
+use Rattle.promises.proofs.Overwriting.{reads_none}
+use Rattle.sets.proofs.Comparing.{equal-says, same-as}
+use Rattle.sets.proofs.join.eq.Goals as goal
+
+pub fits-requires : goal.fits-requires
+fits-requires c = record { left = view-rooted c.view-x.ensures; right = view-rooted c.view-y.ensures }
+
+pub returns : goal.returns
+returns c =
+    let p = c.requires in
+    met (equal-says _ _ _ _) p.readable (reads_none p.readable_2) (ap value (same-as p.readable_2 c.view-x.ensures c.view-y.ensures c.fits.ensures))

@@ -1,0 +1,14 @@
+-- `not` meets its contract: what is in just one of an opened world and all positions is its complement.
+-- Assumes nothing.
+use Rattle.std.proofs.Common.{arith}
+use Rattle.sets.proofs.Joins.{view-rooted, complement-alike}
+use Rattle.promises.proofs.Overwriting.{reads_none, carried, complement-says}
+use Rattle.sets.proofs.join.not.Goals as goal
+
+pub gathered-requires-clause-sources : goal.gathered-requires-clause-sources
+gathered-requires-clause-sources c = record { left = view-rooted c.view-x.ensures; right = omega arith }
+
+pub returns : goal.returns
+returns c =
+    let p = c.requires in
+    carried (complement-says _ _ _) p.readable _ (reads_none p.readable_2) (complement-alike p.readable_2 c.view-x.ensures) c.gathered.result c.gathered.ensures c.completed.ensures
