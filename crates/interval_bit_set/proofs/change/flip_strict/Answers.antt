@@ -1,0 +1,12 @@
+-- `flip_strict` meets its contract: a world that looking refuses stays, another is changed by the core's call.
+-- Assumes nothing.
+use mathlib.Core.Path.{refl}
+use Rattle.interval_bit_set.proofs.Looking.{looked-sound, sent-away}
+use Rattle.promises.proofs.Changing.{flip-strict-says}
+use Rattle.interval_bit_set.proofs.change.flip_strict.Goals as goal
+
+pub flip_strict-requires : goal.flip_strict-requires
+flip_strict-requires c = looked-sound _ c.look_at-l.ensures c.in-Sound.is
+
+pub returns-in-Refused : goal.returns-in-Refused
+returns-in-Refused c = sent-away (flip-strict-says _ _ _ _) _ c.look_at-l.ensures c.in-Refused.is refl

@@ -1,0 +1,12 @@
+-- `set_strict` meets its contract: a world that looking refuses stays, another is changed by the core's call.
+-- Assumes nothing.
+use mathlib.Core.Path.{refl}
+use Rattle.interval_bit_set.proofs.Looking.{looked-sound, sent-away}
+use Rattle.promises.proofs.Changing.{set-strict-says}
+use Rattle.interval_bit_set.proofs.change.set_strict.Goals as goal
+
+pub set_strict-requires : goal.set_strict-requires
+set_strict-requires c = looked-sound _ c.look_at-l.ensures c.in-Sound.is
+
+pub returns-in-Refused : goal.returns-in-Refused
+returns-in-Refused c = sent-away (set-strict-says _ _ _ _ _) _ c.look_at-l.ensures c.in-Refused.is refl

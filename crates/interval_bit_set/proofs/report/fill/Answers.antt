@@ -1,0 +1,12 @@
+-- `fill` meets its contract: a world that looking refuses earns that refusal, of another the core's call answers.
+-- Assumes nothing.
+use mathlib.Core.Path.{refl}
+use Rattle.interval_bit_set.proofs.Looking.{looked-sound, turned-away}
+use Rattle.promises.proofs.Meeting.{fill-says}
+use Rattle.interval_bit_set.proofs.report.fill.Goals as goal
+
+pub fill-requires : goal.fill-requires
+fill-requires c = looked-sound _ c.look_at-l.ensures c.in-Sound.is
+
+pub returns-in-Refused : goal.returns-in-Refused
+returns-in-Refused c = turned-away (fill-says _ _ _ _) _ c.look_at-l.ensures c.in-Refused.is refl

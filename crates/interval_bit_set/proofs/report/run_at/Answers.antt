@@ -1,0 +1,12 @@
+-- `run_at` meets its contract: a world that looking refuses earns that refusal, of another the core's call answers.
+-- Assumes nothing.
+use mathlib.Core.Path.{refl}
+use Rattle.interval_bit_set.proofs.Looking.{looked-sound, turned-away}
+use Rattle.promises.proofs.Meeting.{run-at-says}
+use Rattle.interval_bit_set.proofs.report.run_at.Goals as goal
+
+pub run_at-requires : goal.run_at-requires
+run_at-requires c = looked-sound _ c.look_at-l.ensures c.in-Sound.is
+
+pub returns-in-Refused : goal.returns-in-Refused
+returns-in-Refused c = turned-away (run-at-says _ _ _) _ c.look_at-l.ensures c.in-Refused.is refl

@@ -1,0 +1,12 @@
+-- `tally_strict` meets its contract: a world that looking refuses earns that refusal, of another the core's call answers.
+-- Assumes nothing.
+use mathlib.Core.Path.{refl}
+use Rattle.interval_bit_set.proofs.Looking.{looked-sound, turned-away}
+use Rattle.promises.proofs.Meeting.{tally-strict-says}
+use Rattle.interval_bit_set.proofs.report.tally_strict.Goals as goal
+
+pub tally_strict-requires : goal.tally_strict-requires
+tally_strict-requires c = looked-sound _ c.look_at-l.ensures c.in-Sound.is
+
+pub returns-in-Refused : goal.returns-in-Refused
+returns-in-Refused c = turned-away (tally-strict-says _ _ _ _ _) _ c.look_at-l.ensures c.in-Refused.is refl
