@@ -3,7 +3,7 @@
 use Rattle.std.specs.Prelude.{◌≡◌, ℕ, zero, suc, ◌*◌, List, [], ◌∷◌, length}
 use mathlib.Core.Path.{refl, ap}
 use native.Mathlib.Omega.{arith}
-use Rattle.model.specs.Call.{Fed, Call, feed, PoolCall, Answer}
+use Rattle.model.specs.Call.{Fed, feed, PoolCall, Answer}
 use Rattle.model.specs.Pools.{PlainWorld, step, answers}
 use Rattle.promises.specs.Met.{fed_at}
 use Rattle.frame.specs.declared.entry.Kind.{Kind}
