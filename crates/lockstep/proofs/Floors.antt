@@ -37,7 +37,6 @@ use Rattle.model.specs.Refusals.{
   too_many,
 }
 use Rattle.model.specs.Refusals
-use Rattle.model.specs.Call
 use Rattle.model.specs.Call.{Fed, Call, feed, Result, Answer, refused, gave}
 use Rattle.model.specs.Model.{positions_of, reads, settle, report, change, write, mending, changed, setting, flipping, tallying, drawn_first, drawn_last, serve}
 use Rattle.model.specs.Mending.{mended_positions}

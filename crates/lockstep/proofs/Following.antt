@@ -26,14 +26,17 @@ stepped-holds w' a (at i c) H m = step-holds H m
 pub follows : {C : ℕ} {vs : List PlainWorld} {w : List ℕ} {cs : List (PoolCall Site)} {rs : List Answer} {ws : List (List ℕ)}
     → Holds C vs w → History w cs rs ws → Follows rs ws (outcomes C vs (told cs))
 follows H rest = over
-follows H (call {w' = w'} {a = a} c m h) = let K = stepped-holds w' a c H m in next (stepped-answer w' a c H m) K.held (follows K h)
+follows {C = C} {vs = vs} H (call {w' = w'} {a = a} c m h) =
+    let K = stepped-holds w' a c H m in
+    next (stepped-answer w' a c H m) K.held (follows {C = C} {vs = (step C vs (feed_pool fed_at c)).worlds} K h)
 
 -- and the pool in the end
 pub left-holds : {C : ℕ} {vs : List PlainWorld} {w : List ℕ} {cs : List (PoolCall Site)} {rs : List Answer} {ws : List (List ℕ)}
     → Holds C vs w → History w cs rs ws → Holds C (after C vs (told cs)) (left w ws)
 unfolding after
 left-holds H rest = H
-left-holds H (call {w' = w'} {a = a} c m h) = left-holds (stepped-holds w' a c H m) h
+left-holds {C = C} {vs = vs} H (call {w' = w'} {a = a} c m h) =
+    left-holds {C = C} {vs = (step C vs (feed_pool fed_at c)).worlds} (stepped-holds w' a c H m) h
 
 -- a new pool has empty worlds
 pub new-holds : {C : ℕ} {ls : List Limits} {w : List ℕ} → New C ls w → Holds C (empty_worlds ls) w

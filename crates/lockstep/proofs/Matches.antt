@@ -6,11 +6,11 @@ use mathlib.Core.Option.{Option, none, some}
 use Rattle.model.specs.declared.Limits.{Limits}
 use Rattle.model.specs.Bytes.{into_front}
 use Rattle.model.specs.Refusals.{output_short, ◌when◌, refusal, no_room}
-use Rattle.model.specs.Call.{Fed, PoolCall, at, Answer, done, gave}
+use Rattle.model.specs.Call.{Fed, feed_pool, PoolCall, at, Answer, done, gave}
 use Rattle.model.specs.Pools.{PlainWorld, empty_worlds, step, answers, after}
 use Rattle.store.specs.Layout.{capacity_of, capacity, worlds_of}
 use Rattle.store.specs.Free.{Pooled}
-use Rattle.promises.specs.Met.{Site, pool_reads}
+use Rattle.promises.specs.Met.{Site, fed_at, pool_reads}
 use Rattle.promises.proofs.Meeting.{refused-not}
 use Rattle.promises.proofs.Simulation.{Holds}
 use Rattle.frame.specs.Records.{entry_at, world_by, calls_from, calls_of, records_of}
@@ -90,11 +90,11 @@ module _ {C : ℕ} where
   goes : {ws : List PlainWorld} {w w' : List ℕ} {cs : List (PoolCall Site)} {rs : List Answer} → Holds C ws w → Match w cs rs w' → Goes C ws (told cs) rs w'
   unfolding answers after
   goes H rest = record { answered = refl; kept = H }
-  goes H (call {w' = v} {a = a} c m h) =
-      let G = goes (stepped-holds v a c H m) h in
+  goes {ws = ws} H (call {w' = v} {a = a} c m h) =
+      let G = goes {ws = (step C ws (feed_pool fed_at c)).worlds} (stepped-holds v a c H m) h in
       record { answered = ap₂ {C = List Answer} (λ a l. a ∷ l) (stepped-answer v a c H m) G.answered; kept = G.kept }
-  goes {ws} {w} {w'} {rs = _} H (frame {fs = fs} {cs = cs} {rs = rs} F h) =
-      let G = goes (frame-holds H F) h in
+  goes {ws = ws} {w = w} {w' = w'} {rs = _} H (frame {fs = fs} {cs = cs} {rs = rs} F h) =
+      let G = goes {ws = after C ws (calls_of fs)} (frame-holds H F) h in
       record {
         answered =
             ap₂ (λ (k : ℕ) vs. answers k vs (calls_of fs) ++ rs) H.sized H.held
@@ -103,7 +103,7 @@ module _ {C : ℕ} where
             ∙ ap (answers C ws) (sym (told-frame fs cs));
         kept = subst (λ vs. Holds C vs w') (sym (after-append C ws (calls_of fs) (told cs)) ∙ ap (after C ws) (sym (told-frame fs cs))) G.kept;
       }
-  goes {ws} H (refused_frame F h) = goes (subst (Holds C ws) (sym F.left) H) h
+  goes {ws = ws} H (refused_frame F h) = goes {ws = ws} (subst (Holds C ws) (sym F.left) H) h
 
 -- from a new pool on, all answers of a match and the worlds after it are the model's, fed the calls alone
 pub matches : {C : ℕ} {ls : List Limits} {w w' : List ℕ} {cs : List (PoolCall Site)} {rs : List Answer} → New C ls w → Match w cs rs w'

@@ -1,7 +1,7 @@
 -- The list for the deepest tree, over what its call promises (document 02, Ticket 10): where it is not refused, the front of the slice is the list.
 -- Assumes nothing.
 use Prim.Native.Nat.{ℕ, ◌*◌}
-use mathlib.Core.Path.{◌≡◌, sym, ap, ap₂, ◌∙◌}
+use mathlib.Core.Path.{◌≡◌, ap₂, ◌∙◌}
 use mathlib.Core.List.{List}
 use mathlib.Core.Option.{Option, none, some}
 use native.Mathlib.Omega.{arith}
@@ -11,8 +11,8 @@ use Rattle.model.specs.Bytes.{into_front}
 use Rattle.model.specs.Deepest.{least, deepest_words}
 use Rattle.model.proofs.Deepest.{deepest-words}
 use Rattle.model.specs.Refusals.{refusal}
-use Rattle.model.specs.Call.{deepest, Result, written, Answer, refused, gave}
-use Rattle.model.specs.Pools.{PlainWorld, PoolOutcome, settle_measured, measure_conditions, measure_by}
+use Rattle.model.specs.Call.{deepest, written, gave}
+use Rattle.model.specs.Pools.{PlainWorld, settle_measured, measure_conditions, measure_by}
 use Rattle.store.specs.Layout.{capacity, worlds_of}
 use Rattle.promises.specs.Met.{measured_of, Measured}
 use Rattle.promises.proofs.Putting.{take-front}

@@ -1,12 +1,12 @@
 -- Why a list stopped, over what its call promises (document 02, Ticket 13): where it is not refused, the front of the slice has the places, and with 16
 -- no call of the list is refused. Assumes nothing.
-use Prim.Native.Nat.{ℕ, ◌+◌, ◌/◌, ◌<◌}
-use mathlib.Core.Path.{◌≡◌, refl, sym, ap, ap₂, ◌∙◌, subst}
+use Prim.Native.Nat.{ℕ, ◌+◌, ◌<◌}
+use mathlib.Core.Path.{◌≡◌, refl, sym, ap₂, ◌∙◌, subst}
 use mathlib.Core.Bool.{Bool, true, false}
 use mathlib.Core.List.{List, [], ◌∷◌}
 use mathlib.Core.Option.{Option, none, some}
 use native.Mathlib.Omega.{arith}
-use lib.Dec.{eqb, ltb}
+use lib.Dec.{eqb}
 use lib.ListN.{length, take}
 use Rattle.model.specs.Numbers.{size}
 use Rattle.model.specs.Bytes.{into_front}
@@ -14,7 +14,7 @@ use Rattle.model.specs.Spawning
 use Rattle.model.specs.Spawning.{Range, ranges_of, entries_of, first_refused, why_full_up_to, none_refused, places_told, pick, AllGiven, StopsAt}
 use Rattle.model.specs.Refusals.{store_length, not_refused, output_short, ◌when◌, refusal, no_room}
 use Rattle.model.specs.Call.{why_full, written, Answer, refused, gave}
-use Rattle.model.specs.Pools.{PlainWorld, PoolOutcome, settle_measured, stopped, measure_by}
+use Rattle.model.specs.Pools.{settle_measured, stopped, measure_by}
 use Rattle.store.specs.Layout.{capacity, worlds_of}
 use Rattle.lowest.specs.Entries.{In}
 use Rattle.spawn.specs.Placing.{Climbing}

@@ -12,7 +12,7 @@ use Rattle.model.specs.RunList.{AllBytes}
 use Rattle.model.specs.Positions.{empty, stretches}
 use Rattle.model.specs.Call.{Call, feed, deepest, why_full, PoolCall, Result, done, number, written, mended, Answer, refused, gave}
 use Rattle.model.specs.Model.{serve}
-use Rattle.model.specs.Pools.{PlainWorld, world_of, other_claims, empty_worlds, answers, after, alone}
+use Rattle.model.specs.Pools.{world_of, other_claims, empty_worlds, answers, after, alone}
 use Rattle.model.specs.Spawning.{Range, ranges_of, sets_of, pick, AllGiven, StopsAt}
 use Rattle.model.specs.Clearing.{clear_map}
 use Rattle.model.specs.Mending.{mended_positions}
