@@ -11,7 +11,6 @@ use Rattle.model.specs.Call.{Fed, wrong_length, unsound, unopened, holding, Call
 use Rattle.model.specs.Model.{positions_of, reads, settle, serve}
 use Rattle.model.specs.Pools.{PlainWorld, holding_at}
 use Rattle.store.specs.Layout.{capacity_of, capacity, held_by, worlds_of}
-use Rattle.store.specs.Soundness.{Sound}
 use Rattle.store.specs.Settle.{Settled}
 use Rattle.store.proofs.Turn.{pool-past}
 use Rattle.promises.specs.Met.{Site, fed_at, fed_of, full_at, outcome_of, Readable, Met}
