@@ -38,7 +38,9 @@ pub returns-then-not-inside : goal.returns-then-not-inside
 returns-then-not-inside t c = whole t (goal.at.returns-then-not-inside t c).After-below-v _ (left-outside (seen t (goal.at.returns-then-not-inside t c).After-below-v) _ _ _ _ c.inside.ensures (ap not c.if-not-inside.true))
 
 pub returns-then-not-inside-2 : goal.returns-then-not-inside-2
-returns-then-not-inside-2 t c = whole t (goal.at.returns-then-not-inside-2 t c).After-below-v _ (right-outside (seen t (goal.at.returns-then-not-inside-2 t c).After-below-v) _ _ _ _ c.inside-in-loop-k.ensures (ap not c.if-not-inside-2.true))
+returns-then-not-inside-2 t c =
+    whole t (goal.at.returns-then-not-inside-2 t c).After-below-v _ (right-outside (seen t (goal.at.returns-then-not-inside-2 t c).After-below-v) _ _ _ _ c.inside-in-loop-k.ensures
+    (ap not c.if-not-inside-2.true))
 
 pub below-x-requires : goal.below-x-requires
 below-x-requires t c = inside-out _ _ (sym c.inside.ensures ∙ c.if-not-inside.false)
@@ -63,7 +65,8 @@ tree_fits-requires t c = (
 pub returns-then-not-tree_fits : goal.returns-then-not-tree_fits
 returns-then-not-tree_fits t c =
     whole t (goal.at.returns-then-not-tree_fits t c).After-below-v _
-    (left-fails (seen t (goal.at.returns-then-not-tree_fits t c).After-below-v) _ _ _ (own t (goal.at.returns-then-not-tree_fits t c).Else-not-node_fits) (omega (arith, c.if-v-lt2.false)) c.tree_fits.ensures (ap not c.if-not-tree_fits.true))
+    (left-fails (seen t (goal.at.returns-then-not-tree_fits t c).After-below-v) _ _ _ (own t (goal.at.returns-then-not-tree_fits t c).Else-not-node_fits) (omega (arith, c.if-v-lt2.false))
+    c.tree_fits.ensures (ap not c.if-not-tree_fits.true))
 
 pub returns-then-v : goal.returns-then-v
 returns-then-v t c =

@@ -56,7 +56,8 @@ returns-then-v-lt2 c =
 
 pub returns-then-not-leaf_fits : goal.returns-then-not-leaf_fits
 returns-then-not-leaf_fits c =
-    left-fails (seen (goal.at.returns-then-not-leaf_fits c).After-below-v) _ _ _ (node-passes (seen (goal.at.returns-then-not-leaf_fits c).After-below-v) _ _ _ c.below-x.ensures c.below-y.ensures c.node_fits.ensures (ap not c.if-not-node_fits.false))
+    left-fails (seen (goal.at.returns-then-not-leaf_fits c).After-below-v) _ _ _ (node-passes (seen (goal.at.returns-then-not-leaf_fits c).After-below-v) _ _ _ c.below-x.ensures c.below-y.ensures
+    c.node_fits.ensures (ap not c.if-not-node_fits.false))
     (omega (arith, c.if-v-lt2.false))
     (leaf-decides (left-seen (goal.at.returns-then-not-leaf_fits c).After-below-y) _ _ _ c.if-x-ne1.false _ c.leaf_fits.ensures) (ap not c.if-not-leaf_fits.true)
 

@@ -26,7 +26,8 @@ returns-then-value c =
     let few : stretches (set_rect c.args.q c.args.value (held_in c.args.words.now c.args.h)) ≤ c.args.limit = leb-true _ _ (sym c.fits.ensures ∙ c.if-not-fits.false) in (
       few,
       c.passes-k.ensures,
-      gained-changes {Q = set_rect c.args.q c.args.value (held_in c.args.words.now c.args.h)} c.requires.editable.1.standing (c.passes-k.ensures c.requires.editable.0 c.args.limit c.requires.editable.1 few) (omega (arith, c.well_formed)) (omega (arith, c.passes-k.type_inv)) c.gained.result
+      gained-changes {Q = set_rect c.args.q c.args.value (held_in c.args.words.now c.args.h)} c.requires.editable.1.standing
+          (c.passes-k.ensures c.requires.editable.0 c.args.limit c.requires.editable.1 few) (omega (arith, c.well_formed)) (omega (arith, c.passes-k.type_inv)) c.gained.result
           (λ x _. rect-adds c.args.q c.args.value (held_in c.args.words.now c.args.h) x c.if-value.true) c.gained.ensures,
     )
 
@@ -35,6 +36,7 @@ returns c =
     let few : stretches (set_rect c.args.q c.args.value (held_in c.args.words.now c.args.h)) ≤ c.args.limit = leb-true _ _ (sym c.fits.ensures ∙ c.if-not-fits.false) in (
       few,
       c.passes-k.ensures,
-      lost-changes {Q = set_rect c.args.q c.args.value (held_in c.args.words.now c.args.h)} c.requires.editable.1.standing (c.passes-k.ensures c.requires.editable.0 c.args.limit c.requires.editable.1 few) (omega (arith, c.well_formed)) (omega (arith, c.passes-k.type_inv)) c.gained-2.result
+      lost-changes {Q = set_rect c.args.q c.args.value (held_in c.args.words.now c.args.h)} c.requires.editable.1.standing
+          (c.passes-k.ensures c.requires.editable.0 c.args.limit c.requires.editable.1 few) (omega (arith, c.well_formed)) (omega (arith, c.passes-k.type_inv)) c.gained-2.result
           (λ x _. rect-frees c.args.q c.args.value (held_in c.args.words.now c.args.h) x c.if-value.false) c.gained-2.ensures,
     )

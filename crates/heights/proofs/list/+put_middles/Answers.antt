@@ -62,17 +62,28 @@ pub returns-then-h-eq1 : goal.returns-then-h-eq1
 returns-then-h-eq1 t c = neither-put _ _ _ _ _ (given (goal.at.returns-then-h-eq1 t c).Else-h-eq0) (some (goal.at.returns-then-h-eq1 t c).Else-h-eq0) (parted (goal.at.returns-then-h-eq1 t c).Else-d-eq0) c.if-h-eq1.true
 
 pub overflow_sub-c : goal.overflow_sub-c
-overflow_sub-c t c = omega (arith, lesser-more _ _ _ _ _ (given (goal.at.overflow_sub-c t c).Else-h-eq0) (some (goal.at.overflow_sub-c t c).Else-h-eq0) (parted (goal.at.overflow_sub-c t c).Else-d-eq0) (high (goal.at.overflow_sub-c t c).Else-h-eq1))
+overflow_sub-c t c =
+    omega (
+      arith,
+      lesser-more _ _ _ _ _ (given (goal.at.overflow_sub-c t c).Else-h-eq0) (some (goal.at.overflow_sub-c t c).Else-h-eq0) (parted (goal.at.overflow_sub-c t c).Else-d-eq0)
+          (high (goal.at.overflow_sub-c t c).Else-h-eq1),
+    )
 
 pub overflow_sub-c-2 : goal.overflow_sub-c-2
-overflow_sub-c-2 t c = omega (arith, lesser-more _ _ _ _ _ (given (goal.at.overflow_sub-c-2 t c).Else-h-eq0) (some (goal.at.overflow_sub-c-2 t c).Else-h-eq0) (parted (goal.at.overflow_sub-c-2 t c).Else-d-eq0) (high (goal.at.overflow_sub-c-2 t c).Else-h-eq1))
+overflow_sub-c-2 t c =
+    omega (
+      arith,
+      lesser-more _ _ _ _ _ (given (goal.at.overflow_sub-c-2 t c).Else-h-eq0) (some (goal.at.overflow_sub-c-2 t c).Else-h-eq0) (parted (goal.at.overflow_sub-c-2 t c).Else-d-eq0)
+          (high (goal.at.overflow_sub-c-2 t c).Else-h-eq1),
+    )
 
 pub put_middles-next-requires : goal.put_middles-next-requires
 put_middles-next-requires t c = (omega (arith, c.decreases, some (goal.at.put_middles-next-requires t c).Else-h-eq0), lesser-ready (goal.at.put_middles-next-requires t c).Else-h-eq1)
 
 pub returns-then-h-eq2 : goal.returns-then-h-eq2
 returns-then-h-eq2 t c =
-    lesser-put _ _ _ _ _ (given (goal.at.returns-then-h-eq2 t c).Else-h-eq0) (some (goal.at.returns-then-h-eq2 t c).Else-h-eq0) (parted (goal.at.returns-then-h-eq2 t c).Else-d-eq0) (omega (arith, c.if-h-eq2.true)) _ _ c.put_middles-next.ensures
+    lesser-put _ _ _ _ _ (given (goal.at.returns-then-h-eq2 t c).Else-h-eq0) (some (goal.at.returns-then-h-eq2 t c).Else-h-eq0) (parted (goal.at.returns-then-h-eq2 t c).Else-d-eq0)
+    (omega (arith, c.if-h-eq2.true)) _ _ c.put_middles-next.ensures
 
 pub overflow_add-m-2 : goal.overflow_add-m-2
 overflow_add-m-2 t c = omega (arith, few (goal.at.overflow_add-m-2 t c).Else-h-eq0)
@@ -84,8 +95,12 @@ pub overflow_sub-b-2 : goal.overflow_sub-b-2
 overflow_sub-b-2 t c = omega (arith, greater-less (goal.at.overflow_sub-b-2 t c).After-put_middles-arg-2-1)
 
 pub put_middles-requires : goal.put_middles-requires
-put_middles-requires t c =
-    (omega (arith, c.decreases, high (goal.at.put_middles-requires t c).Else-h-eq1), greater-puttable _ _ _ _ _ (given (goal.at.put_middles-requires t c).Else-h-eq0) (some (goal.at.put_middles-requires t c).Else-h-eq0) (parted (goal.at.put_middles-requires t c).Else-d-eq0) (high (goal.at.put_middles-requires t c).Else-h-eq1) (higher (goal.at.put_middles-requires t c).After-put_middles-arg-2-1) _ _ c.put_middles-next.ensures)
+put_middles-requires t c = (
+  omega (arith, c.decreases, high (goal.at.put_middles-requires t c).Else-h-eq1),
+  greater-puttable _ _ _ _ _ (given (goal.at.put_middles-requires t c).Else-h-eq0)
+      (some (goal.at.put_middles-requires t c).Else-h-eq0) (parted (goal.at.put_middles-requires t c).Else-d-eq0) (high (goal.at.put_middles-requires t c).Else-h-eq1)
+      (higher (goal.at.put_middles-requires t c).After-put_middles-arg-2-1) _ _ c.put_middles-next.ensures,
+)
 
 pub returns : goal.returns
 returns t c =

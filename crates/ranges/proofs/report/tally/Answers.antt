@@ -20,4 +20,5 @@ returns-in-Empty c =
 pub returns-in-Closed : goal.returns-in-Closed
 returns-in-Closed c =
     met-in (tally-says _ _ _ _ _) c.requires c.open-h.ensures refl
-    (ap₂ tallied (of_range (span-some c.args.lower c.args.upper _ c.normalize-s.ensures c.in-Closed.is) (count _ _) c.tally.ensures.count-is) (of_range (span-some c.args.lower c.args.upper _ c.normalize-s.ensures c.in-Closed.is) (run_count _ _) c.tally.ensures.runs-are))
+    (ap₂ tallied (of_range (span-some c.args.lower c.args.upper _ c.normalize-s.ensures c.in-Closed.is) (count _ _) c.tally.ensures.count-is)
+    (of_range (span-some c.args.lower c.args.upper _ c.normalize-s.ensures c.in-Closed.is) (run_count _ _) c.tally.ensures.runs-are))

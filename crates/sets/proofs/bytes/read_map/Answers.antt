@@ -53,7 +53,8 @@ stray_bits-requires-clause-bytes_len c = (readable (goal.at.stray_bits-requires-
 pub returns-then-stray_bits-gt0 : goal.returns-then-stray_bits-gt0
 returns-then-stray_bits-gt0 c =
     refused-first (read-map-says _ _ _ _ _) c.requires
-    (map-stray-refused _ _ _ (good (goal.at.returns-then-stray_bits-gt0 c).Else-not-window_fits) (exact (goal.at.returns-then-stray_bits-gt0 c).Else-not-map_length_fits) (subst (λ k. 0 < k) c.stray_bits.ensures (omega (arith, c.if-stray_bits-gt0.true))))
+    (map-stray-refused _ _ _ (good (goal.at.returns-then-stray_bits-gt0 c).Else-not-window_fits) (exact (goal.at.returns-then-stray_bits-gt0 c).Else-not-map_length_fits)
+    (subst (λ k. 0 < k) c.stray_bits.ensures (omega (arith, c.if-stray_bits-gt0.true))))
 
 pub read_map-e-requires-clause-editable : goal.read_map-e-requires-clause-editable
 read_map-e-requires-clause-editable c =

@@ -38,12 +38,20 @@ returns-then-n-s c =
 
 pub returns-then-out-due : goal.returns-then-out-due
 returns-then-out-due c =
-    deepest-short _ _ _ (sized (goal.at.returns-then-out-due c).Else-s-eq0) (good (goal.at.returns-then-out-due c).Else-h-gt-MAX_HEIGHT) (fits (goal.at.returns-then-out-due c).Else-n-s) (omega (arith, c.if-out-due.true, many (goal.at.returns-then-out-due c).Else-n-s))
+    deepest-short _ _ _ (sized (goal.at.returns-then-out-due c).Else-s-eq0) (good (goal.at.returns-then-out-due c).Else-h-gt-MAX_HEIGHT) (fits (goal.at.returns-then-out-due c).Else-n-s)
+    (omega (arith, c.if-out-due.true, many (goal.at.returns-then-out-due c).Else-n-s))
 
 pub put_deepest-requires : goal.put_deepest-requires
 put_deepest-requires c =
-    record { some = omega (arith, c.if-h-eq0.false); low = low (goal.at.put_deepest-requires c).Else-h-gt-MAX_HEIGHT; many = many (goal.at.put_deepest-requires c).Else-n-s; room = list-fits c.args.h c.args.out.now (omega (arith, c.if-out-due.false, many (goal.at.put_deepest-requires c).Else-n-s)) }
+    record {
+      some = omega (arith, c.if-h-eq0.false);
+      low = low (goal.at.put_deepest-requires c).Else-h-gt-MAX_HEIGHT;
+      many = many (goal.at.put_deepest-requires c).Else-n-s;
+      room = list-fits c.args.h
+          c.args.out.now (omega (arith, c.if-out-due.false, many (goal.at.put_deepest-requires c).Else-n-s));
+    }
 
 pub returns : goal.returns
 returns c =
-    deepest-done _ _ _ (sized (goal.at.returns c).Else-s-eq0) (good (goal.at.returns c).Else-h-gt-MAX_HEIGHT) (fits (goal.at.returns c).Else-n-s) _ (many (goal.at.returns c).Else-n-s) (omega (arith, c.if-out-due.false, many (goal.at.returns c).Else-n-s)) c.put_deepest.ensures
+    deepest-done _ _ _ (sized (goal.at.returns c).Else-s-eq0) (good (goal.at.returns c).Else-h-gt-MAX_HEIGHT) (fits (goal.at.returns c).Else-n-s) _ (many (goal.at.returns c).Else-n-s)
+    (omega (arith, c.if-out-due.false, many (goal.at.returns c).Else-n-s)) c.put_deepest.ensures

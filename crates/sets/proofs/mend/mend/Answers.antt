@@ -28,7 +28,8 @@ few-most c = omega (arith, few c, allowed-most c.requires.openable)
 again : (p : After-put_outcome) → runs_told p.in-Runs.e p.outcome_runs-k.result (drop 5 (take p.length_of-due.result p.put_outcome.new.out))
     ≡ held_runs (mended_positions p.args.bytes.now)
 again p =
-    read_again _ ((told-shaped _ _ p.shape_told-t.ensures p.in-Runs.is)) p.outcome_runs-k.ensures.0 p.length_of-due.ensures _ p.put_outcome.ensures.0 (omega (arith, p.if-k-allowance.false, p.allowance.ensures, allowed-most p.requires.openable))
+    read_again _ ((told-shaped _ _ p.shape_told-t.ensures p.in-Runs.is)) p.outcome_runs-k.ensures.0 p.length_of-due.ensures _ p.put_outcome.ensures.0
+    (omega (arith, p.if-k-allowance.false, p.allowance.ensures, allowed-most p.requires.openable))
 
 pub outcome_runs-k-requires : goal.outcome_runs-k-requires
 outcome_runs-k-requires c = mendable (goal.at.outcome_runs-k-requires c).After-in_order-right
@@ -85,6 +86,7 @@ returns-else-report-told c =
     let n = c.outcome_runs-k.ensures in
     let q = c.allowance.ensures in
     let many = held-many _ (again (goal.at.returns-else-report-told c).After-put_outcome) n.0 in
-    mend-done _ _ _ c.requires (told-shaped _ _ c.shape_told-t.ensures c.in-Runs.is) n.0 (few (goal.at.returns-else-report-told c).Else-k-allowance) c.length_of-due.ensures n.1 n.2 c.if-out-due.false c.if-report-told.false (again (goal.at.returns-else-report-told c).After-put_outcome)
+    mend-done _ _ _ c.requires (told-shaped _ _ c.shape_told-t.ensures c.in-Runs.is) n.0 (few (goal.at.returns-else-report-told c).Else-k-allowance) c.length_of-due.ensures n.1 n.2
+    c.if-out-due.false c.if-report-told.false (again (goal.at.returns-else-report-told c).After-put_outcome)
     c.put_outcome.ensures (receive-few c.requires many q c.if-k-allowance.false c.open-h.ensures)
     (receive-settled c.requires many q c.if-k-allowance.false c.open-h.ensures _ c.load-w.ensures c.close.ensures)

@@ -30,7 +30,8 @@ returns-then-n-eq0 c =
 
 pub returns-then-out-due : goal.returns-then-out-due
 returns-then-out-due c =
-    why-short _ _ _ (sized (goal.at.returns-then-out-due c).Else-s-eq0) _ (answered (goal.at.returns-then-out-due c).Else-n-eq0).why (omega (arith, c.if-out-due.true, (answered (goal.at.returns-then-out-due c).Else-n-eq0).long, c.of_length-s.ensures))
+    why-short _ _ _ (sized (goal.at.returns-then-out-due c).Else-s-eq0) _ (answered (goal.at.returns-then-out-due c).Else-n-eq0).why
+    (omega (arith, c.if-out-due.true, (answered (goal.at.returns-then-out-due c).Else-n-eq0).long, c.of_length-s.ensures))
 
 pub put_places-requires : goal.put_places-requires
 put_places-requires c =

@@ -45,7 +45,8 @@ advance-s-requires c =
 
 pub loop-s-preserved : goal.loop-s-preserved
 loop-s-preserved c =
-    sought-on c.loop-s.invariant (live (goal.at.loop-s-preserved c).Else-beyond-n) c.requires.a_le_b.1 (few (goal.at.loop-s-preserved c).Else-beyond-n) (rooted (goal.at.loop-s-preserved c).Start) (rest (goal.at.loop-s-preserved c).Else-beyond-n-2) c.advance-s.ensures
+    sought-on c.loop-s.invariant (live (goal.at.loop-s-preserved c).Else-beyond-n) c.requires.a_le_b.1 (few (goal.at.loop-s-preserved c).Else-beyond-n) (rooted (goal.at.loop-s-preserved c).Start)
+    (rest (goal.at.loop-s-preserved c).Else-beyond-n-2) c.advance-s.ensures
 
 pub returns : goal.returns
 returns c = sym (sought-clear c.loop-s.invariant (omega (arith, c.well_formed)) c.loop-s-test.false)

@@ -25,7 +25,8 @@ returns-then-depth-eq0 c = λ y Q h.
 
 pub returns-then-x-lt18446744073709551615 : goal.returns-then-x-lt18446744073709551615
 returns-then-x-lt18446744073709551615 c = λ y Q h.
-    first-whole h (some (goal.at.returns-then-x-lt18446744073709551615 c).After-pop-x) c.pop-x.ensures _ (begins (goal.at.returns-then-x-lt18446744073709551615 c).After-to_logical-a) _ c.if-x-lt18446744073709551615.true c.to_logical-b.ensures
+    first-whole h (some (goal.at.returns-then-x-lt18446744073709551615 c).After-pop-x) c.pop-x.ensures _ (begins (goal.at.returns-then-x-lt18446744073709551615 c).After-to_logical-a) _
+    c.if-x-lt18446744073709551615.true c.to_logical-b.ensures
 
 pub descend-d-requires-2 : goal.descend-d-requires-2
 descend-d-requires-2 c =
@@ -42,7 +43,8 @@ from_last-y-requires c =
 pub returns-then-starts_at_zero : goal.returns-then-starts_at_zero
 returns-then-starts_at_zero c = λ y Q h.
     let all = first-again h (some (goal.at.returns-then-starts_at_zero c).After-pop-x) c.pop-x.ensures c.descend-d-2.ensures in
-    first-join h (some (goal.at.returns-then-starts_at_zero c).After-pop-x) c.pop-x.ensures _ (begins (goal.at.returns-then-starts_at_zero c).After-to_logical-a) c.if-x-lt18446744073709551615.false (c.from_last-y.ensures _ Q (first-last h all))
+    first-join h (some (goal.at.returns-then-starts_at_zero c).After-pop-x) c.pop-x.ensures _ (begins (goal.at.returns-then-starts_at_zero c).After-to_logical-a) c.if-x-lt18446744073709551615.false
+    (c.from_last-y.ensures _ Q (first-last h all))
     (sym (c.starts_at_zero.ensures _ _ all) ∙ c.if-starts_at_zero.true)
 
 pub returns : goal.returns
