@@ -1,6 +1,6 @@
 -- The lines of a world's set are put: the counts, then the runs.
 use mathlib.Core.Path.{◌∙◌, sym, subst, ap}
-use Rattle.std.proofs.Common.{◌≡◌, ◌≤◌, ◌^◌, length, true, arith}
+use Rattle.std.proofs.Common.{◌≤◌, ◌^◌, length, true, arith}
 use Rattle.model.specs.Numbers.{size, worth}
 use Rattle.model.specs.Positions.{stretches}
 use Rattle.model.proofs.Counting.{count_most}
