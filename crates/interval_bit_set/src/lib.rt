@@ -1,5 +1,5 @@
 // IntervalBitSet: the public calls. Any words, bounds and numbers may come; each call looks at the pools and worlds that it names, which gives the
-// first refusals of the order, and then is the call of its name in crate `core` or `sets`. None asks anything of its caller.
+// first refusals of the order, and then is the call of its name in crate `ranges` or `sets`. None asks anything of its caller.
 #![tactic(auto)]
 
 pub mod bytes;
