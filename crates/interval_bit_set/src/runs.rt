@@ -1,5 +1,4 @@
-// A run list as the caller holds it: a lent slice of runs. Two loops go over it, each by a covered step; everything else is in covered
-// functions, and the call itself has no branch.
+// A run list as the caller holds it: a lent slice of runs. Two loops go over it, a run at a time: one tests the order, the other lays the runs.
 ghost use Rattle.std.specs.Prelude.{◌≡◌, ◌+◌, ◌<◌, length, slice_index_or};
 ghost use Rattle.model.specs.Positions.{run};
 ghost use Rattle.model.specs.Call.{Call};

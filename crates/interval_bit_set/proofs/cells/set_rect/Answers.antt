@@ -1,4 +1,4 @@
--- `set_rect` meets its contract: a world that looking refuses stays, another is changed by the core's call.
+-- `set_rect` meets its contract: a world that looking refuses stays, another is changed by the call of `ranges`.
 -- Assumes nothing.
 use mathlib.Core.Path.{refl}
 use Rattle.interval_bit_set.proofs.Looking.{looked-sound, sent-away}

@@ -1,4 +1,4 @@
--- `tally_strict` meets its contract: a world that looking refuses earns that refusal, of another the core's call answers.
+-- `tally_strict` meets its contract: a world that looking refuses earns that refusal, of another the call of `ranges` answers.
 -- Assumes nothing.
 use mathlib.Core.Path.{refl}
 use Rattle.interval_bit_set.proofs.Looking.{looked-sound, turned-away}
