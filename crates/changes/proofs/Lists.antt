@@ -1,6 +1,7 @@
 -- Runs in order around one of them: what the searches tell of them, and what the index makes of them there. By induction on the runs
 -- before it. Then canonical runs: parts of them, a run that shrinks. Assumes nothing.
-use Rattle.std.proofs.Common.{◌≡◌, ℕ, ◌+◌, ◌-◌, ◌<◌, ◌≤◌, Bool, true, false, cond, leb, List, [], ◌∷◌, ◌++◌, sym, refl, ap, inl, inr, append_assoc, arith, le-ltb, lt-ltb, eq-eqb, ne_eqb, le-leb, leb-false, leb-true}
+use Rattle.std.proofs.Common.{◌≡◌, ℕ, ◌+◌, ◌-◌, ◌<◌, ◌≤◌, Bool, true, false, cond, leb, List, [], ◌∷◌, ◌++◌, sym, refl, ap, inl, inr, append_assoc, arith, le-ltb}
+use Rattle.std.proofs.Common.{lt-ltb, eq-eqb, ne_eqb, le-leb, leb-false, leb-true}
 use mathlib.Core.Option.{Option, none, some}
 use borrow.Author.Tests.{lt-leb}
 use Rattle.model.specs.declared.Run.{Run}

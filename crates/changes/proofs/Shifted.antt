@@ -1,6 +1,7 @@
 -- A shift that drops nothing is a turn by the distance, so a world shifts by changing its offset. What it drops, it does not look at.
 -- The runs of what is left are moved by the distance: as many, the first and the last position too. So no shift adds a run. Assumes nothing.
-use Rattle.std.proofs.Common.{◌≡◌, ℕ, ◌+◌, ◌-◌, ◌*◌, ◌/◌, ◌%◌, ◌<◌, ◌≤◌, Bool, true, false, ◌&&◌, ltb, leb, ◌⊎◌, List, [], ◌∷◌, length, sym, refl, ap, ◌∙◌, inl, inr, arith, le-ltb, lt-ltb, le-leb}
+use Rattle.std.proofs.Common.{◌≡◌, ℕ, ◌+◌, ◌-◌, ◌*◌, ◌/◌, ◌%◌, ◌<◌, ◌≤◌, Bool, true, false, ◌&&◌, ltb, leb, ◌⊎◌, List, [], ◌∷◌, length, sym, refl}
+use Rattle.std.proofs.Common.{ap, ◌∙◌, inl, inr, arith, le-ltb, lt-ltb, le-leb}
 use mathlib.Core.Bool.{beq, and-false}
 use borrow.Author.Tests.{lt-leb}
 use Rattle.model.specs.declared.Run.{Run}

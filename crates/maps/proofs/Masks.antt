@@ -1,6 +1,7 @@
 -- The bits of a number: those of a number or another and of both, the words whose bits from one on, up to one or between two are 1, and a byte
 -- with a bit set. Each is the bits of some positions, where the bit i of a number is its quotient by 2 ^ i, modulo 2. Assumes nothing.
-use Rattle.std.proofs.Common.{◌≡◌, ℕ, zero, suc, ◌+◌, ◌-◌, ◌*◌, ◌/◌, ◌%◌, ◌^◌, ◌<◌, ◌≤◌, min, max, Bool, true, false, ◌&&◌, ◌||◌, eqb, leb, sym, refl, ap, ◌∙◌, ap₂, mod-eq_of_lt, one-mul, zero-add, zero-mul, arith, pow_pos, shl_exact, le-leb}
+use Rattle.std.proofs.Common.{◌≡◌, ℕ, zero, suc, ◌+◌, ◌-◌, ◌*◌, ◌/◌, ◌%◌, ◌^◌, ◌<◌, ◌≤◌, min, max, Bool, true, false, ◌&&◌, ◌||◌, eqb, leb, sym, refl}
+use Rattle.std.proofs.Common.{ap, ◌∙◌, ap₂, mod-eq_of_lt, one-mul, zero-add, zero-mul, arith, pow_pos, shl_exact, le-leb}
 use mathlib.Core.Bool.{and-true}
 use native.Mathlib.Nat.{add-mul-mod_self_right, pow-le-pow_right}
 use lib.Bits.{bit_and, bit_or, and_shr, and_step, or_shr, or_step, or_lt}

@@ -1,7 +1,8 @@
 -- The bytes of a map as they are written: a source that stands at a position stands at the next ones too or can be moved there, the bits of
 -- positions in one stretch are all ones or all zeros, those of the positions after it lie above them, and a slice with j bytes of a map in
 -- front has j + n after the store of n more. Assumes nothing.
-use Rattle.std.proofs.Common.{◌≡◌, ℕ, zero, suc, ◌+◌, ◌-◌, ◌*◌, ◌/◌, ◌%◌, ◌^◌, ◌<◌, ◌≤◌, min, Bool, true, false, List, length, get_or, set, sym, refl, ap, ◌∙◌, subst, ap₂, arith, length-set, pow_pos, shl_exact}
+use Rattle.std.proofs.Common.{◌≡◌, ℕ, zero, suc, ◌+◌, ◌-◌, ◌*◌, ◌/◌, ◌%◌, ◌^◌, ◌<◌, ◌≤◌, min, Bool, true, false, List, length, get_or, set, sym, refl, ap}
+use Rattle.std.proofs.Common.{◌∙◌, subst, ap₂, arith, length-set, pow_pos, shl_exact}
 use native.Mathlib.Nat.{pow-succ', pow-le-pow_right}
 use Rattle.model.specs.Numbers.{size}
 use Rattle.model.specs.Positions.{Positions, one_if}

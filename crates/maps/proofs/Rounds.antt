@@ -1,6 +1,7 @@
 -- The bits of a run in a window, where positions may go over the end of all to 0: painting them in one piece or in two, and which places of
 -- the window a run's start and end, both turned, enclose. Assumes nothing.
-use Rattle.std.proofs.Common.{◌≡◌, ℕ, ◌+◌, ◌-◌, ◌%◌, ◌^◌, ◌<◌, ◌≤◌, min, Bool, true, false, ◌&&◌, ◌||◌, ltb, ◌⊎◌, List, length, sym, refl, ap, ◌∙◌, subst, inl, inr, arith, le-ltb, lt-ltb, le-leb}
+use Rattle.std.proofs.Common.{◌≡◌, ℕ, ◌+◌, ◌-◌, ◌%◌, ◌^◌, ◌<◌, ◌≤◌, min, Bool, true, false, ◌&&◌, ◌||◌, ltb, ◌⊎◌, List, length, sym, refl, ap}
+use Rattle.std.proofs.Common.{◌∙◌, subst, inl, inr, arith, le-ltb, lt-ltb, le-leb}
 use mathlib.Core.Bool.{and-false, or-true}
 use borrow.Author.Tests.{lt-leb}
 use Rattle.model.specs.Positions.{inside}

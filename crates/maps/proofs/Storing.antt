@@ -1,6 +1,7 @@
 -- Bytes stored one after the other, and a slice with the first bytes of some in front: storing the next ones there makes it more,
 -- and zeros have no bit that is 1. Assumes nothing.
-use Rattle.std.proofs.Common.{◌≡◌, ℕ, zero, suc, ◌+◌, ◌-◌, ◌/◌, ◌%◌, ◌^◌, ◌<◌, ◌≤◌, false, eqb, ◌⊎◌, List, ◌++◌, length, get_or, take, drop, set, refl, ap, ◌∙◌, ap₂, inl, inr, zero-add, add-one, arith, length-set, get_or-set_other, get_or-set_same}
+use Rattle.std.proofs.Common.{◌≡◌, ℕ, zero, suc, ◌+◌, ◌-◌, ◌/◌, ◌%◌, ◌^◌, ◌<◌, ◌≤◌, false, eqb, ◌⊎◌, List, ◌++◌, length, get_or, take, drop, set, refl}
+use Rattle.std.proofs.Common.{ap, ◌∙◌, ap₂, inl, inr, zero-add, add-one, arith, length-set, get_or-set_other, get_or-set_same}
 use native.Mathlib.Nat.{zero-div}
 use native.Mathlib.Decide.{ℕ_discrete}
 use lib.ListN.{get_or-eq_default}

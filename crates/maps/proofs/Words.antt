@@ -1,6 +1,7 @@
 -- Words of a map: bytes, pairs and fours are joined to twice as many by shifting the upper half up, and stored one half after the other. So a
 -- number is joined, or split, by one lemma at every width. Assumes nothing.
-use Rattle.std.proofs.Common.{◌≡◌, ℕ, ◌+◌, ◌*◌, ◌/◌, ◌%◌, ◌^◌, ◌<◌, ◌≤◌, eqb, ◌≢◌, ◌⊎◌, List, length, get_or, set, sym, ap, ◌∙◌, ap₂, inl, inr, add_comm, arith, length-set, get_or-set_other, get_or-set_same, shl_exact}
+use Rattle.std.proofs.Common.{◌≡◌, ℕ, ◌+◌, ◌*◌, ◌/◌, ◌%◌, ◌^◌, ◌<◌, ◌≤◌, eqb, ◌≢◌, ◌⊎◌, List, length, get_or, set, sym, ap, ◌∙◌, ap₂, inl}
+use Rattle.std.proofs.Common.{inr, add_comm, arith, length-set, get_or-set_other, get_or-set_same, shl_exact}
 use lib.Bits.{bit_or, or_shifted_r}
 use lib.Pow.{mod-pow-add}
 use Rattle.model.specs.Positions.{Positions}

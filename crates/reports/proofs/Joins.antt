@@ -1,6 +1,7 @@
 -- A range joined of two: its first and last run, what is found and selected in it, from those of the two parts, for any set.
 -- A first or last run is taken apart into what is held and what is not, which holds of the joined range too. Assumes nothing.
-use Rattle.std.proofs.Common.{◌≡◌, ℕ, suc, ◌+◌, ◌-◌, ◌<◌, ◌≤◌, Bool, true, false, not, ◌&&◌, ◌||◌, ◌⊎◌, List, [], ◌∷◌, ◌++◌, sym, refl, ap, ◌∙◌, subst, ap₂, inl, inr, append-nil, arith}
+use Rattle.std.proofs.Common.{◌≡◌, ℕ, suc, ◌+◌, ◌-◌, ◌<◌, ◌≤◌, Bool, true, false, not, ◌&&◌, ◌||◌, ◌⊎◌, List, [], ◌∷◌, ◌++◌, sym, refl, ap, ◌∙◌}
+use Rattle.std.proofs.Common.{subst, ap₂, inl, inr, append-nil, arith}
 use mathlib.Core.Bool.{beq}
 use mathlib.Core.Option.{Option, none, some, none-ne-some, some-ne-none, some-injective}
 use Rattle.model.specs.declared.Run.{Run}

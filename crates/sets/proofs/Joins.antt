@@ -1,7 +1,8 @@
 -- The complement and the two shifts as joins of two feeds, and equality as a join without runs. A set is complemented by XOR with all
 -- positions; it is shifted by a turn, AND the positions that a shift can reach; two sets are the same where their XOR has no run. All are
 -- told pointwise below 2^64. Assumes nothing.
-use Rattle.std.proofs.Common.{◌≡◌, ℕ, ◌+◌, ◌-◌, ◌<◌, ◌≤◌, Bool, true, false, not, ◌&&◌, eqb, ltb, leb, ◌⊎◌, List, [], ◌∷◌, length, sym, refl, ap, ◌∙◌, subst, ap₂, inl, inr, arith, le-ltb, lt-ltb, ne_eqb, le-leb}
+use Rattle.std.proofs.Common.{◌≡◌, ℕ, ◌+◌, ◌-◌, ◌<◌, ◌≤◌, Bool, true, false, not, ◌&&◌, eqb, ltb, leb, ◌⊎◌, List, [], ◌∷◌, length, sym, refl, ap, ◌∙◌}
+use Rattle.std.proofs.Common.{subst, ap₂, inl, inr, arith, le-ltb, lt-ltb, ne_eqb, le-leb}
 use mathlib.Core.Bool.{beq, and-true, and-false}
 use borrow.Author.Tests.{lt-leb}
 use Rattle.model.specs.declared.Run.{Run}

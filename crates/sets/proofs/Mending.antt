@@ -1,7 +1,8 @@
 -- Mending a written set. A set that is in order is its own outcome, with every run kept; any other is united. Refusals come in their order: the
 -- set's shape, too many runs of the outcome, want of room in either slice. The outcome that was written is read again into the world.
 -- Assumes nothing.
-use Rattle.std.proofs.Common.{◌≡◌, ℕ, ◌+◌, ◌*◌, ◌<◌, ◌≤◌, Bool, true, false, cond, not, ◌||◌, List, [], ◌∷◌, length, get_or, take, drop, replicate, sym, refl, ap, ◌∙◌, subst, ap₂, arith, length-append, length-drop, w8, Fits, le-ltb, lt-ltb}
+use Rattle.std.proofs.Common.{◌≡◌, ℕ, ◌+◌, ◌*◌, ◌<◌, ◌≤◌, Bool, true, false, cond, not, ◌||◌, List, [], ◌∷◌, length, get_or, take, drop, replicate, sym, refl, ap}
+use Rattle.std.proofs.Common.{◌∙◌, subst, ap₂, arith, length-append, length-drop, w8, Fits, le-ltb, lt-ltb}
 use mathlib.Core.Option.{Option, none, some}
 use Rattle.model.specs.declared.Edition.{Edition}
 use Rattle.model.specs.declared.Mended.{Mended}

@@ -1,6 +1,7 @@
 -- The tests of specs/Decision.antt as facts, and back: a test is true exactly where each of its parts holds. What the code's own tests
 -- come to follows, since two tests that are true alike are equal. Assumes nothing.
-use Rattle.std.proofs.Common.{◌≡◌, ℕ, zero, suc, ◌+◌, ◌-◌, ◌/◌, ◌%◌, ◌^◌, ◌<◌, ◌≤◌, max, true, false, ◌&&◌, eqb, ltb, leb, List, length, sym, refl, ap, ◌∙◌, le_trans, arith, ltb-true, lt-ltb, eq-eqb, eqb-true, le-leb, leb-true}
+use Rattle.std.proofs.Common.{◌≡◌, ℕ, zero, suc, ◌+◌, ◌-◌, ◌/◌, ◌%◌, ◌^◌, ◌<◌, ◌≤◌, max, true, false, ◌&&◌, eqb, ltb, leb, List, length, sym, refl, ap}
+use Rattle.std.proofs.Common.{◌∙◌, le_trans, arith, ltb-true, lt-ltb, eq-eqb, eqb-true, le-leb, leb-true}
 use lib.Bits.{bit_or, bit_xor, or_add_and, xor_add_and, and_le_l, and_le_r, or_lt}
 use Rattle.model.proofs.Edit.{and-holds}
 use Rattle.run_index.specs.declared.Node.{Node}

@@ -1,7 +1,8 @@
 -- `raise` meets its contract: the run at s or before it reaches s and grows, or the run after s is reached from e and grows to both sides,
 -- or a new one comes. Assumes nothing.
 use Rattle.changes.proofs.Steps.{found, found_none}
-use Rattle.changes.proofs.Raising.{Passed, Alone, before-touched, before-absorbable, before-changeable, before-grown, before-stays, passed_apart, passed_none, after-touched, after-absorbable, after-changeable, after-grown, alone-apart, alone-none, alone-addable, alone-added}
+use Rattle.changes.proofs.Raising.{Passed, Alone, before-touched, before-absorbable, before-changeable, before-grown, before-stays, passed_apart, passed_none, after-touched, after-absorbable}
+use Rattle.changes.proofs.Raising.{after-changeable, after-grown, alone-apart, alone-none, alone-addable, alone-added}
 use Rattle.changes.proofs.change.raise.Goals as goal
 use Rattle.changes.proofs.change.raise.Goals.{Joined-m, Joined-n, in-Run+else-reaches, in-None, in-Run-m+else-reaches-2, in-None-m}
 
