@@ -1,5 +1,8 @@
 -- A set of world 0 of a sound pool that is admitted can be closed, and the pool is then sound and as long; one that is refused leaves it.
 -- World 0 can be searched. The nodes are lent as a part of the words. Assumes nothing.
+use Rattle.changes.specs.Edits.{changed_to}
+use Rattle.std.specs.Prelude.{Option, None}
+use Rattle.changes.specs.declared.edit.Edit.{Edit}
 use Rattle.std.proofs.Common.{◌≡◌, ℕ, ◌≤◌, false, List, [], ◌∷◌, length, sym, refl, ap, ◌∙◌, subst, subst₂, arith, le-ltb}
 use Rattle.model.specs.declared.Count.{Count}
 use Rattle.model.specs.Positions.{Positions, stretches}
@@ -13,7 +16,6 @@ use Rattle.store.specs.Free.{Makeable}
 use Rattle.store.specs.Settle.{Became, Openable, Opened, Closing}
 use Rattle.store.proofs.Nodes.{sized-length}
 use Rattle.store.proofs.Parts.{lent, back, lent-nodes, back-same, back-nodes, back-front, back_long, cells-before}
-use Rattle.changes.specs.declared.edit.Edit.{Edit}
 use Rattle.changes.specs.Edits.{Edited}
 
 -- ---- a new pool
@@ -48,14 +50,14 @@ module _ {w : List ℕ} {h : World} (op : Opened w 0 h) where
     pub editable : Editable (lent w) h limit
     editable = (share_of w 0, subst (Limited (lent w) (share_of w 0) h) (sym el) limited)
 
-    module _ (so : Sound w) (ys : List ℕ) (Q : Positions) (e : Edit) (ed : Edited (lent w) ys h limit Q e) where
+    module _ (so : Sound w) (ys : List ℕ) (Q : Positions) (e : Option Edit) (ed : Edited (lent w) ys h limit Q e) where
       -- refused, all is as it was
-      pub full-same : e ≡ Edit.Full → back w ys ≡ w
+      pub full-same : e ≡ None → back w ys ≡ w
       full-same q = ap (back w) (subst (Edited (lent w) ys h limit Q) q ed).1 ∙ back-same w
 
       -- else it can be closed
-      module _ {k : World} {n : Count} (q : e ≡ Edit.Changed k n) where
-        told : Edited (lent w) ys h limit Q (Edit.Changed k n)
+      module _ {k : World} {n : Count} (q : e ≡ changed_to k n) where
+        told : Edited (lent w) ys h limit Q (changed_to k n)
         told = subst (Edited (lent w) ys h limit Q) q ed
 
         few : stretches Q ≤ allowance w 0

@@ -5,8 +5,7 @@
 ghost use Rattle.std.specs.Prelude.{◌≡◌, ◌≤◌, length};
 ghost use Rattle.store.specs.Soundness.{Sound};
 
-use changes::edit::Edit;
-use model::{Edge, Logical};
+use model::Logical;
 use store::Store;
 
 // Makes the words a pool of one world, which is empty and may have all that the pool has. False where no pool has their length.
@@ -66,9 +65,9 @@ fn put(words: &mut [u64], first: u64, last: u64) -> u64
         true,
     );
     match e {
-        Edit::Full => 0,
-        Edit::Changed(k, _) => {
-            store::close(words, k);
+        None => 0,
+        Some(made) => {
+            store::close(words, made.world);
             1
         }
     }
@@ -106,8 +105,8 @@ fn look_for(words: &[u64], first: u64, last: u64, n: u64) -> u64
     let h = store::open(words, 0);
     let e = streams::gaps::lowest_gap(&words[128..], h, Logical(first), Logical(last), n);
     match e {
-        Edge::At(_) => 1,
-        Edge::Nowhere => 0,
+        Some(_) => 1,
+        None => 0,
     }
 }
 

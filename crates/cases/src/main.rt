@@ -4,376 +4,335 @@
 // with floor 0 and the capacity as its ceiling.
 #![tactic(auto)]
 
-use interval_bit_set::{bytes, change, join, make, report, write};
-use model::{
-    Around, Bound, Completed, Count, Counted, Drawn, Edition, Found, Listed, Listing, Mended,
-    Numbered, Operation, Refusal, Run, Tallied, Written,
-};
+use interval_bit_set::{bytes, change, join, listing, make, report, write};
+use model::{Bound, Count, Edition, Listing, Operation, Refusal, Run, Tally};
 use std::io;
 use store::Store;
 
-// ---- printing
-fn line(rt: &impl Print, n: u64) -> io::Result<()> {
-    print!(rt; "{n}:")
+// ---- what an answer prints: a space before each part of it
+trait Show {
+    fn show<P: Print>(&self, rt: &P) -> io::Result<()>;
 }
 
-fn end_line(rt: &impl Print) -> io::Result<()> {
-    println!(rt;)
-}
-
-fn number(rt: &impl Print, n: u64) -> io::Result<()> {
-    print!(rt; " {n}")
-}
-
-fn count(rt: &impl Print, c: Count) -> io::Result<()> {
-    if c.carry == 0 {
-        number(rt, c.low)
-    } else {
-        print!(rt; " 18446744073709551616")
-    }
-}
-
-fn run(rt: &impl Print, r: Run) -> io::Result<()> {
-    print!(rt; " {}..{}", r.start, r.end)
-}
-
-fn refused(rt: &impl Print, r: Refusal) -> io::Result<()> {
-    print!(rt; " refused")?;
-    number(rt, model::refusal_number(r))
-}
-
-fn none(rt: &impl Print) -> io::Result<()> {
-    print!(rt; " none")
-}
-
-// ---- answers
-fn completed(rt: &impl Print, c: Completed) -> io::Result<()> {
-    match c {
-        Completed::Refused(r) => refused(rt, r),
-        Completed::Done => Ok(()),
-    }
-}
-
-fn counted(rt: &impl Print, c: Counted) -> io::Result<()> {
-    match c {
-        Counted::Refused(r) => refused(rt, r),
-        Counted::Count(n) => count(rt, n),
-    }
-}
-
-fn numbered(rt: &impl Print, n: Numbered) -> io::Result<()> {
-    match n {
-        Numbered::Refused(r) => refused(rt, r),
-        Numbered::Number(k) => number(rt, k),
-    }
-}
-
-// The positions of a tally.
-fn tallied(rt: &impl Print, t: Tallied) -> io::Result<()> {
-    match t {
-        Tallied::Refused(r) => refused(rt, r),
-        Tallied::Tally(n) => count(rt, n.count),
-    }
-}
-
-fn around(rt: &impl Print, a: Around) -> io::Result<()> {
-    match a {
-        Around::Refused(r) => refused(rt, r),
-        Around::Run(r) => run(rt, r),
-    }
-}
-
-fn found(rt: &impl Print, f: Found) -> io::Result<()> {
-    match f {
-        Found::Refused(r) => refused(rt, r),
-        Found::At(x) => number(rt, x),
-        Found::Nowhere => none(rt),
-    }
-}
-
-// The first n bytes, or all of them where there are fewer.
-fn hexes(rt: &impl Print, out: &[u8], n: usize) -> io::Result<()> {
-    for b in out.iter().take(n) {
-        print!(rt; "{b:02x}")?;
-    }
-    Ok(())
-}
-
-fn written(rt: &impl Print, w: Written, out: &[u8]) -> io::Result<()> {
-    match w {
-        Written::Refused(r) => refused(rt, r),
-        Written::Front(n) => {
-            print!(rt; " ")?;
-            hexes(rt, out, n)
+impl<T: Show> Show for Result<T, Refusal> {
+    fn show<P: Print>(&self, rt: &P) -> io::Result<()> {
+        match self {
+            Err(refusal) => print!(rt; " refused {}", u64::from(*refusal)),
+            Ok(given) => given.show(rt),
         }
     }
 }
 
-fn mended(rt: &impl Print, m: Mended, out: &[u8], report: &[u8]) -> io::Result<()> {
-    match m {
-        Mended::Refused(r) => refused(rt, r),
-        Mended::Bytes(n, k) => {
-            print!(rt; " ")?;
-            hexes(rt, out, n)?;
-            print!(rt; " ")?;
-            hexes(rt, report, k)
+impl<T: Show> Show for Option<T> {
+    fn show<P: Print>(&self, rt: &P) -> io::Result<()> {
+        match self {
+            None => print!(rt; " none"),
+            Some(found) => found.show(rt),
         }
     }
+}
+
+impl Show for () {
+    fn show<P: Print>(&self, _rt: &P) -> io::Result<()> {
+        Ok(())
+    }
+}
+
+impl Show for u64 {
+    fn show<P: Print>(&self, rt: &P) -> io::Result<()> {
+        print!(rt; " {self}")
+    }
+}
+
+impl Show for Count {
+    fn show<P: Print>(&self, rt: &P) -> io::Result<()> {
+        let number = u128::from(self.carry) * (1 << 64) + u128::from(self.low);
+        print!(rt; " {number}")
+    }
+}
+
+// Of a tally the positions alone.
+impl Show for Tally {
+    fn show<P: Print>(&self, rt: &P) -> io::Result<()> {
+        self.count.show(rt)
+    }
+}
+
+impl Show for Run {
+    fn show<P: Print>(&self, rt: &P) -> io::Result<()> {
+        print!(rt; " {}..{}", self.start, self.end)
+    }
+}
+
+// The first bytes of a slice, in hex.
+#[derive(Clone, Copy)]
+struct Front<'a> {
+    bytes: &'a [u8],
+    many: usize,
+}
+
+impl<'a> Show for Front<'a> {
+    fn show<P: Print>(&self, rt: &P) -> io::Result<()> {
+        print!(rt; " ")?;
+        for byte in self.bytes.iter().take(self.many) {
+            print!(rt; "{byte:02x}")?;
+        }
+        Ok(())
+    }
+}
+
+// The bytes of a mended set, and of its report.
+impl<'a> Show for (Front<'a>, Front<'a>) {
+    fn show<P: Print>(&self, rt: &P) -> io::Result<()> {
+        self.0.show(rt)?;
+        self.1.show(rt)
+    }
+}
+
+// What is left of a listing in a world 0: the next runs, four at most.
+#[derive(Clone, Copy)]
+struct Listed<'a> {
+    words: &'a [u64],
+    left: Listing,
+}
+
+impl<'a> Show for Listed<'a> {
+    fn show<P: Print>(&self, rt: &P) -> io::Result<()> {
+        let mut left = self.left;
+        for _ in 0..4 {
+            let drawn = listing::next(self.words, 0, &mut left);
+            if let Ok(None) = drawn {
+                break;
+            }
+            drawn.show(rt)?;
+        }
+        Ok(())
+    }
+}
+
+// All runs held, between braces.
+fn show_held(rt: &impl Print, words: &[u64]) -> io::Result<()> {
+    print!(rt; " {{")?;
+    ranges(words, Bound::Unbounded, Bound::Unbounded, true).show(rt)?;
+    print!(rt; " }}")
 }
 
 // ---- sets and ranges as the document writes them
 // A new set, which is empty.
 fn empty(words: &mut [u64]) {
-    let s = Store::of_length(words.len());
-    let limits = [0u64, s.capacity];
-    make::new(words, &limits);
+    let limits = [0u64, Store::of_length(words.len()).capacity];
+    let _ = make::new(words, &limits);
 }
 
-fn set(words: &mut [u64], a: u64, b: u64, value: bool) -> Counted {
+fn set(words: &mut [u64], a: u64, b: u64, value: bool) -> Result<Count, Refusal> {
     change::set(words, 0, Bound::Included(a), Bound::Excluded(b), value)
 }
 
 // A new set of one run, start..=end.
 fn only(words: &mut [u64], start: u64, end: u64) {
     empty(words);
-    change::set(words, 0, Bound::Included(start), Bound::Included(end), true);
+    let _ = change::set(words, 0, Bound::Included(start), Bound::Included(end), true);
 }
 
-// Prints the runs that are left in a listing, four at most.
-fn draws(rt: &impl Print, words: &[u64], first: Listing) -> io::Result<()> {
-    let mut l = first;
-    for _ in 0..4 {
-        let d = report::draw_front(words, 0, l);
-        match d {
-            Drawn::Refused(r) => refused(rt, r)?,
-            Drawn::Run(r, m) => {
-                run(rt, r)?;
-                l = m;
-            }
-            Drawn::End(m) => {
-                l = m;
-            }
-        }
-    }
-    Ok(())
+// The set of cases 15 and 16: 2..=3 and 8..=9.
+fn two_runs(words: &mut [u64]) {
+    only(words, 2, 3);
+    let _ = set(words, 8, 10, true);
 }
 
-fn ranges(
-    rt: &impl Print,
-    words: &[u64],
-    lower: Bound,
-    upper: Bound,
-    value: bool,
-) -> io::Result<()> {
-    let l = report::ranges(words, 0, lower, upper, value);
-    match l {
-        Listed::Refused(r) => refused(rt, r),
-        Listed::Listing(m) => draws(rt, words, m),
-    }
+fn ranges(words: &[u64], lower: Bound, upper: Bound, value: bool) -> Result<Listed<'_>, Refusal> {
+    let left = report::ranges(words, 0, lower, upper, value)?;
+    Ok(Listed { words, left })
 }
 
-// All runs held, between braces.
-fn held(rt: &impl Print, words: &[u64]) -> io::Result<()> {
-    print!(rt; " {{")?;
-    ranges(rt, words, Bound::Unbounded, Bound::Unbounded, true)?;
-    print!(rt; " }}")
+fn count(words: &[u64]) -> Result<Tally, Refusal> {
+    report::tally(words, 0, Bound::Unbounded, Bound::Unbounded, true)
 }
 
-fn counts(rt: &impl Print, words: &[u64]) -> io::Result<()> {
-    tallied(
-        rt,
-        report::tally(words, 0, Bound::Unbounded, Bound::Unbounded, true),
-    )
+// What was written into the front of a slice.
+fn written(many: Result<usize, Refusal>, out: &[u8]) -> Result<Front<'_>, Refusal> {
+    Ok(Front {
+        bytes: out,
+        many: many?,
+    })
+}
+
+fn mended<'a>(
+    words: &mut [u64],
+    told: &[u8],
+    out: &'a mut [u8],
+    report: &'a mut [u8],
+) -> Result<(Front<'a>, Front<'a>), Refusal> {
+    let many = bytes::mend(words, 0, told, out, report)?;
+    Ok((
+        Front {
+            bytes: out,
+            many: many.bytes,
+        },
+        Front {
+            bytes: report,
+            many: many.report,
+        },
+    ))
 }
 
 // ---- the cases
 fn case_1(rt: &impl Print, s: &mut [u64]) -> io::Result<()> {
-    line(rt, 1)?;
+    print!(rt; "1:")?;
     empty(s);
-    counted(rt, set(s, 2, 8, true))?;
-    counted(rt, set(s, 4, 6, false))?;
-    counted(rt, set(s, 2, 4, true))?;
-    end_line(rt)
+    set(s, 2, 8, true).show(rt)?;
+    set(s, 4, 6, false).show(rt)?;
+    set(s, 2, 4, true).show(rt)?;
+    println!(rt;)
 }
 
 fn case_2(rt: &impl Print, s: &mut [u64]) -> io::Result<()> {
-    line(rt, 2)?;
+    print!(rt; "2:")?;
     empty(s);
-    counted(
-        rt,
-        change::set(s, 0, Bound::Unbounded, Bound::Unbounded, true),
-    )?;
-    counted(
-        rt,
-        change::set(s, 0, Bound::Unbounded, Bound::Unbounded, true),
-    )?;
-    end_line(rt)
+    for _ in 0..2 {
+        change::set(s, 0, Bound::Unbounded, Bound::Unbounded, true).show(rt)?;
+    }
+    println!(rt;)
 }
 
 fn case_3(rt: &impl Print, s: &mut [u64]) -> io::Result<()> {
-    line(rt, 3)?;
+    print!(rt; "3:")?;
     empty(s);
-    counted(
-        rt,
-        change::set(s, 0, Bound::Excluded(u64::MAX), Bound::Unbounded, true),
-    )?;
-    held(rt, s)?;
-    end_line(rt)
+    change::set(s, 0, Bound::Excluded(u64::MAX), Bound::Unbounded, true).show(rt)?;
+    show_held(rt, s)?;
+    println!(rt;)
 }
 
 fn case_4(rt: &impl Print, s: &mut [u64]) -> io::Result<()> {
-    line(rt, 4)?;
+    print!(rt; "4:")?;
     only(s, 2, 7);
-    around(rt, report::run_at(s, 0, 4))?;
-    around(rt, report::run_at(s, 0, 0))?;
-    around(rt, report::run_at(s, 0, 9))?;
-    end_line(rt)
+    for x in [4, 0, 9] {
+        report::run_at(s, 0, x).show(rt)?;
+    }
+    println!(rt;)
 }
 
 fn case_5(rt: &impl Print, s: &mut [u64]) -> io::Result<()> {
-    line(rt, 5)?;
+    print!(rt; "5:")?;
     only(s, 2, 7);
-    found(
-        rt,
-        report::find(s, 0, Bound::Included(4), Bound::Unbounded, false),
-    )?;
-    found(
-        rt,
-        report::find(s, 0, Bound::Included(2), Bound::Excluded(8), false),
-    )?;
-    end_line(rt)
+    report::find(s, 0, Bound::Included(4), Bound::Unbounded, false).show(rt)?;
+    report::find(s, 0, Bound::Included(2), Bound::Excluded(8), false).show(rt)?;
+    println!(rt;)
 }
 
 fn case_6(rt: &impl Print, s: &mut [u64]) -> io::Result<()> {
-    line(rt, 6)?;
+    print!(rt; "6:")?;
     only(s, 2, 7);
-    found(
-        rt,
-        report::select(s, 0, Bound::Included(4), Bound::Excluded(12), false, 1),
-    )?;
-    found(
-        rt,
-        report::select(s, 0, Bound::Included(4), Bound::Excluded(12), true, 4),
-    )?;
-    end_line(rt)
+    for (value, k) in [(false, 1), (true, 4)] {
+        report::select(s, 0, Bound::Included(4), Bound::Excluded(12), value, k).show(rt)?;
+    }
+    println!(rt;)
 }
 
 fn case_7(rt: &impl Print, s: &mut [u64]) -> io::Result<()> {
-    line(rt, 7)?;
+    print!(rt; "7:")?;
     only(s, 2, 7);
-    set(s, 10, 15, true);
-    ranges(rt, s, Bound::Included(4), Bound::Excluded(12), true)?;
+    let _ = set(s, 10, 15, true);
+    ranges(s, Bound::Included(4), Bound::Excluded(12), true).show(rt)?;
     print!(rt; " false")?;
-    ranges(rt, s, Bound::Included(4), Bound::Excluded(12), false)?;
-    end_line(rt)
+    ranges(s, Bound::Included(4), Bound::Excluded(12), false).show(rt)?;
+    println!(rt;)
 }
 
 fn case_8(rt: &impl Print, s: &mut [u64]) -> io::Result<()> {
-    line(rt, 8)?;
+    print!(rt; "8:")?;
     only(s, 2, 7);
-    completed(
-        rt,
-        change::flip(s, 0, Bound::Included(4), Bound::Excluded(10)),
-    )?;
-    held(rt, s)?;
-    end_line(rt)
+    change::flip(s, 0, Bound::Included(4), Bound::Excluded(10)).show(rt)?;
+    show_held(rt, s)?;
+    println!(rt;)
 }
 
 fn case_9(rt: &impl Print, s: &mut [u64], a: &[u64], b: &[u64]) -> io::Result<()> {
-    line(rt, 9)?;
-    completed(rt, join::combine(s, 0, Operation::And, a, 0, b, 0))?;
-    counts(rt, s)?;
-    completed(rt, join::combine(s, 0, Operation::Or, a, 0, b, 0))?;
-    counts(rt, s)?;
-    completed(rt, join::combine(s, 0, Operation::Xor, a, 0, b, 0))?;
-    held(rt, s)?;
-    end_line(rt)
+    print!(rt; "9:")?;
+    for operation in [Operation::And, Operation::Or] {
+        join::combine(s, 0, operation, a, 0, b, 0).show(rt)?;
+        count(s).show(rt)?;
+    }
+    join::combine(s, 0, Operation::Xor, a, 0, b, 0).show(rt)?;
+    show_held(rt, s)?;
+    println!(rt;)
 }
 
 fn case_10(rt: &impl Print, s: &mut [u64]) -> io::Result<()> {
-    line(rt, 10)?;
-    only(s, u64::MAX - 1, u64::MAX);
-    completed(rt, change::shift(s, 0, 1, true))?;
-    held(rt, s)?;
-    only(s, u64::MAX - 1, u64::MAX);
-    completed(rt, change::shift(s, 0, 2, true))?;
-    held(rt, s)?;
-    end_line(rt)
+    print!(rt; "10:")?;
+    for distance in [1, 2] {
+        only(s, u64::MAX - 1, u64::MAX);
+        change::shift(s, 0, distance, true).show(rt)?;
+        show_held(rt, s)?;
+    }
+    println!(rt;)
 }
 
 fn case_11(rt: &impl Print, s: &mut [u64]) -> io::Result<()> {
-    line(rt, 11)?;
-    only(s, 0, 3);
-    completed(rt, change::shift(s, 0, 2, false))?;
-    held(rt, s)?;
-    only(s, 0, 3);
-    completed(rt, change::shift(s, 0, 4, false))?;
-    held(rt, s)?;
-    end_line(rt)
+    print!(rt; "11:")?;
+    for distance in [2, 4] {
+        only(s, 0, 3);
+        change::shift(s, 0, distance, false).show(rt)?;
+        show_held(rt, s)?;
+    }
+    println!(rt;)
 }
 
 fn case_12(rt: &impl Print, s: &mut [u64]) -> io::Result<()> {
-    line(rt, 12)?;
+    print!(rt; "12:")?;
     only(s, 10, 19);
-    completed(rt, change::shift(s, 0, 5, true))?;
-    counted(rt, set(s, 0, 15, true))?;
-    held(rt, s)?;
-    end_line(rt)
+    change::shift(s, 0, 5, true).show(rt)?;
+    set(s, 0, 15, true).show(rt)?;
+    show_held(rt, s)?;
+    println!(rt;)
 }
 
 fn case_13(rt: &impl Print, one: &mut [u64]) -> io::Result<()> {
-    line(rt, 13)?;
+    print!(rt; "13:")?;
     only(one, 2, 7);
-    counted(rt, set(one, 4, 6, false))?;
-    counted(rt, set(one, 2, 4, false))?;
-    end_line(rt)
+    set(one, 4, 6, false).show(rt)?;
+    set(one, 2, 4, false).show(rt)?;
+    println!(rt;)
 }
 
 fn case_14(rt: &impl Print, s: &mut [u64], one: &mut [u64], a: &mut [u64]) -> io::Result<()> {
-    line(rt, 14)?;
+    print!(rt; "14:")?;
     only(a, 5, 5);
-    completed(rt, join::not(s, 0, a, 0))?;
-    held(rt, s)?;
-    completed(rt, join::not(one, 0, a, 0))?;
-    end_line(rt)
+    join::not(s, 0, a, 0).show(rt)?;
+    show_held(rt, s)?;
+    join::not(one, 0, a, 0).show(rt)?;
+    println!(rt;)
 }
 
 fn case_15(rt: &impl Print, s: &mut [u64], out: &mut [u8; 37]) -> io::Result<()> {
-    line(rt, 15)?;
-    only(s, 2, 3);
-    set(s, 8, 10, true);
-    let w = write::write_set(s, 0, Edition::Rows, out);
-    written(rt, w, out)?;
-    let m = write::write_map(s, 0, 0, 10, out);
-    written(rt, m, out)?;
-    numbered(rt, report::fill(s, 0, 0, 3))?;
-    end_line(rt)
+    print!(rt; "15:")?;
+    two_runs(s);
+    written(write::write_set(s, 0, Edition::Rows, out), out).show(rt)?;
+    written(write::write_map(s, 0, 0, 10, out), out).show(rt)?;
+    report::fill(s, 0, 0, 3).show(rt)?;
+    println!(rt;)
 }
 
 // The set of case 15 in edition 2, and in edition 1 after a load of that (document 02, Ticket 8).
 fn case_15_columns(rt: &impl Print, s: &mut [u64], out: &mut [u8; 37]) -> io::Result<()> {
     print!(rt; "15, edition 2:")?;
-    only(s, 2, 3);
-    set(s, 8, 10, true);
-    let c = write::write_set(s, 0, Edition::Columns, out);
-    written(rt, c, out)?;
-    completed(rt, bytes::load(s, 0, out))?;
-    let w = write::write_set(s, 0, Edition::Rows, out);
-    written(rt, w, out)?;
-    end_line(rt)
+    two_runs(s);
+    written(write::write_set(s, 0, Edition::Columns, out), out).show(rt)?;
+    bytes::load(s, 0, out).show(rt)?;
+    written(write::write_set(s, 0, Edition::Rows, out), out).show(rt)?;
+    println!(rt;)
 }
 
 // The bytes of case 15 with 4 and 5 in place of 8 and 9.
 fn case_16(rt: &impl Print, s: &mut [u64], out: &mut [u8; 37]) -> io::Result<()> {
-    line(rt, 16)?;
-    only(s, 2, 3);
-    set(s, 8, 10, true);
-    write::write_set(s, 0, Edition::Rows, out);
+    print!(rt; "16:")?;
+    two_runs(s);
+    let _ = write::write_set(s, 0, Edition::Rows, out);
     out[28] = 4;
     out[36] = 5;
-    completed(rt, bytes::load(s, 0, out))?;
-    held(rt, s)?;
-    end_line(rt)
+    bytes::load(s, 0, out).show(rt)?;
+    show_held(rt, s)?;
+    println!(rt;)
 }
 
 // The same bytes mended: the two runs touch, so both are joined (document 02, Ticket 9).
@@ -386,10 +345,9 @@ fn case_16_mended(
 ) -> io::Result<()> {
     print!(rt; "16, mended:")?;
     only(s, 8, 9);
-    let m = bytes::mend(s, 0, told, out, report);
-    mended(rt, m, out, report)?;
-    held(rt, s)?;
-    end_line(rt)
+    mended(s, told, out, report).show(rt)?;
+    show_held(rt, s)?;
+    println!(rt;)
 }
 
 fn main(rt: HostRuntime) -> io::Result<()> {

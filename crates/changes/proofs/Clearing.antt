@@ -1,5 +1,6 @@
 -- Freeing the positions s .. e, as runs in order: of the runs that start at s or after it, the first goes while it ends by e, and loses its
 -- front where it goes on. The model's `clear` does the same, so each step leaves its outcome as it was. Assumes nothing.
+use Rattle.std.specs.Prelude.{Option, None, Some}
 use Rattle.std.proofs.Common.{◌≡◌, ℕ, ◌+◌, ◌-◌, ◌<◌, ◌≤◌, Bool, true, false, ltb, List, [], ◌∷◌, ◌++◌, length, sym, refl, ap, ◌∙◌, subst, true≢false, arith}
 use Rattle.std.proofs.Common.{length-append, ltb-false, le-ltb, lt-ltb}
 use Rattle.model.specs.declared.Run.{Run}
@@ -7,9 +8,8 @@ use Rattle.model.specs.Numbers.{size}
 use Rattle.model.specs.Positions.{run, first_run}
 use Rattle.model.specs.RunList.{Canon, EndBelow, StartFrom, clear}
 use Rattle.model.proofs.Search.{canon-split}
-use Rattle.run_index.specs.declared.search.Near.{Near}
 use Rattle.run_index.specs.Tree.{Tree}
-use Rattle.run_index.specs.Search.{Indexed, near_run, TellsAfter}
+use Rattle.run_index.specs.Search.{Indexed, TellsAfter}
 use Rattle.store.specs.declared.Links.{Links}
 use Rattle.store.specs.Soundness.{Share}
 use Rattle.store.specs.Free.{Becomes, Removable, RemovesRun, Changeable, Changes}
@@ -89,16 +89,16 @@ cleared-none e {us = us} c = record {
 }
 
 module _ {w w1 : List ℕ} {sh : Share} {y : Links} {s e : ℕ} {more : Bool} {ls us : List Run} (d : Cleared w w1 sh y s e more ls us)
-    (n : Near) (f : TellsAfter w1 y.root s n) where
+    (n : Option Run) (f : TellsAfter w1 y.root s n) where
   -- the search finds the first of the runs left
-  first-is : near_run n ≡ first_run d.left
+  first-is : n ≡ first_run d.left
   first-is = becomes-after d.becomes s n f ∙ first-after s ls d.left (ends-before s s ls (omega arith) d.below) d.from
 
   -- the search finds r
-  module _ (r : Run) (en : n ≡ Near.Run r) where
+  module _ (r : Run) (en : n ≡ Some r) where
     -- the runs after r
     rest : (vs : List Run) × (d.left ≡ r ∷ vs)
-    rest = first_some d.left r (sym (ap near_run en) ∙ first-is)
+    rest = first_some d.left r (sym en ∙ first-is)
 
     -- r and they start at s or after it
     starts : StartFrom s (r ∷ rest.0)
@@ -200,7 +200,7 @@ module _ {w w1 : List ℕ} {sh : Share} {y : Links} {s e : ℕ} {more : Bool} {l
     }
 
   -- the search finds none
-  cleared-over : n ≡ Near.None → Cleared w w1 sh y s e false ls us
+  cleared-over : n ≡ None → Cleared w w1 sh y s e false ls us
   cleared-over en = record {
     left = d.left;
     becomes = d.becomes;
@@ -211,7 +211,7 @@ module _ {w w1 : List ℕ} {sh : Share} {y : Links} {s e : ℕ} {more : Bool} {l
   }
     where
       nothing : d.left ≡ []
-      nothing = first-none d.left (sym (ap near_run en) ∙ first-is)
+      nothing = first-none d.left (sym en ∙ first-is)
 
 -- ---- the invariant of `clear_from`
 pub record ClearingFrom (w w1 : List ℕ) (x y : Links) (s e : ℕ) (more : Bool) : Type 0 where
@@ -240,8 +240,8 @@ clearing-done {w} {w1} {x} {y} m i sh ls us t ns c =
     let d = i.so_far c in
     subst (λ (vs : List Run). Becomes w w1 sh y (ls ++ vs)) (d.ended m) d.becomes
 
-module _ {w w1 : List ℕ} {x y : Links} {s e : ℕ} {more : Bool} (i : ClearingFrom w w1 x y s e more) (n : Near) (f : TellsAfter w1 y.root s n) where
-  module _ (r : Run) (en : n ≡ Near.Run r) where
+module _ {w w1 : List ℕ} {x y : Links} {s e : ℕ} {more : Bool} (i : ClearingFrom w w1 x y s e more) (n : Option Run) (f : TellsAfter w1 y.root s n) where
+  module _ (r : Run) (en : n ≡ Some r) where
     -- it goes on where the first run goes, unless the next starts past e
     pub clearing-gone : {w2 : List ℕ} {z : Links} → RemovesRun w1 w2 y z r.start → r.«end» ≤ e → ClearingFrom w w2 x z s e (ltb 1 (e - r.«end»))
     clearing-gone g le = record { so_far = λ c. cleared-gone (i.so_far c) n f r en g le }
@@ -255,5 +255,5 @@ module _ {w w1 : List ℕ} {x y : Links} {s e : ℕ} {more : Bool} (i : Clearing
     clearing-apart lt = record { so_far = λ c. cleared-apart (i.so_far c) n f r en lt }
 
   -- or there is none
-  pub clearing-over : n ≡ Near.None → ClearingFrom w w1 x y s e false
+  pub clearing-over : n ≡ None → ClearingFrom w w1 x y s e false
   clearing-over en = record { so_far = λ c. cleared-over (i.so_far c) n f en }

@@ -1,9 +1,8 @@
 -- Flipping a range of a world, stretch by stretch. What a flip leaves is told by the world's runs and by those of the range; on the
 -- way the positions passed are a flipped range, which ends where the value changes, so that no run is added. Assumes nothing.
+use Rattle.std.specs.Prelude.{Option, Some}
 use Rattle.std.proofs.Common.{◌≡◌, ℕ, suc, ◌+◌, ◌-◌, ◌<◌, ◌≤◌, Bool, true, false, not, leb, ◌⊎◌, List, sym, ap, ◌∙◌, inl, inr, arith, le-leb}
 use mathlib.Core.Bool.{not-not}
-use Rattle.model.specs.declared.Edge.{Edge}
-use Rattle.model.specs.declared.Edge.TheVariants.{At}
 use Rattle.model.specs.declared.Tally.{Tally}
 use Rattle.model.specs.Numbers.{size}
 use Rattle.model.proofs.Numbers.{split}
@@ -83,13 +82,13 @@ flip-fits-counted P a b some fits k {total} {on} {past} {before} {after} {held} 
 -- ---- where a stretch ends
 module _ (P : Positions) (v : Bool) (x last : ℕ) (some : x ≤ last) (fits : last < size) (here : P x ≡ v) where
   -- before the next position of the other value
-  pub stretch-ends : {y : ℕ} (n : Edge) → Next P (not v) x n → n ≡ At y → y ≤ last → StretchEnd P v x last (y - 1)
+  pub stretch-ends : {y : ℕ} (n : Option ℕ) → Next P (not v) x n → n ≡ Some y → y ≤ last → StretchEnd P v x last (y - 1)
   stretch-ends n m q l =
       let e = high-end-at P v n here m q in
       record { from = e.over; upto = omega arith; same = e.same; stop = λ i. e.stop (omega arith) }
 
   -- with the range
-  pub stretch-clipped : (n : Edge) → Next P (not v) x n → Past last n → StretchEnd P v x last last
+  pub stretch-clipped : (n : Option ℕ) → Next P (not v) x n → Past last n → StretchEnd P v x last last
   stretch-clipped n m p = record {
     from = some;
     upto = omega arith;

@@ -1,5 +1,6 @@
 -- Holding the positions s .. e, as runs in order: the run that is to grow takes in, one after another, the runs after it that touch what
 -- has been reached. The model's `insert` does the same, so each step leaves its outcome as it was. Assumes nothing.
+use Rattle.std.specs.Prelude.{Option, None, Some}
 use Rattle.std.proofs.Common.{◌≡◌, ℕ, ◌+◌, ◌-◌, ◌<◌, ◌≤◌, max, Bool, true, false, eqb, ltb, leb, ◌⊎◌, List, [], ◌∷◌, ◌++◌, length, sym, refl, ap, ◌∙◌}
 use Rattle.std.proofs.Common.{subst, inl, inr, true≢false, arith, length-append, ltb-false, ltb-true, eq-eqb, ne_eqb, le-leb, leb-false, leb-true}
 use borrow.Author.Tests.{lt-leb}
@@ -10,10 +11,9 @@ use Rattle.model.specs.Positions.{run, first_run}
 use Rattle.model.specs.RunList.{Canon, first_from, insert}
 use Rattle.model.proofs.Search.{canon-split, canon-starts, starts-weaken}
 use Rattle.model.proofs.Edit.{insert-put, insert-join}
-use Rattle.run_index.specs.declared.search.Near.{Near}
 use Rattle.run_index.specs.Tree.{Tree}
 use Rattle.run_index.specs.Order.{Before}
-use Rattle.run_index.specs.Search.{Indexed, near_run, TellsAfter}
+use Rattle.run_index.specs.Search.{Indexed, TellsAfter}
 use Rattle.store.specs.declared.Links.{Links}
 use Rattle.store.specs.Soundness.{Share}
 use Rattle.store.specs.Free.{Becomes, Removable, RemovesRun}
@@ -107,16 +107,16 @@ module _ {w w1 : List ℕ} {sh : Share} {y : Links} {start e reached : ℕ} {mor
   after = grow-after ls s.left start b (becomes-canon s.becomes)
 
   -- the search for the next run
-  module _ (n : Near) (f : TellsAfter w1 y.root (start + 1) n) where
+  module _ (n : Option Run) (f : TellsAfter w1 y.root (start + 1) n) where
     -- it finds the first of the runs left
-    next-is : near_run n ≡ first_run s.left
+    next-is : n ≡ first_run s.left
     next-is = becomes-after s.becomes (start + 1) n f ∙ next-first ls s.left start b (becomes-canon s.becomes)
 
     -- it finds r
-    module _ (r : Run) (en : n ≡ Near.Run r) where
+    module _ (r : Run) (en : n ≡ Some r) where
       -- the runs after r
       rest : (vs : List Run) × (s.left ≡ r ∷ vs)
-      rest = first_some s.left r (sym (ap near_run en) ∙ next-is)
+      rest = first_some s.left r (sym en ∙ next-is)
 
       -- r and they are canonical
       canon-rest : Canon size (b + 2) (r ∷ rest.0)
@@ -171,7 +171,7 @@ module _ {w w1 : List ℕ} {sh : Share} {y : Links} {start e reached : ℕ} {mor
       }
 
     -- it finds none
-    pub so-far-over : n ≡ Near.None → SoFar w w1 sh y start e reached false ls us b
+    pub so-far-over : n ≡ None → SoFar w w1 sh y start e reached false ls us b
     so-far-over en = record {
       left = s.left;
       becomes = s.becomes;
@@ -181,7 +181,7 @@ module _ {w w1 : List ℕ} {sh : Share} {y : Links} {start e reached : ℕ} {mor
     }
       where
         nothing : s.left ≡ []
-        nothing = first-none s.left (sym (ap near_run en) ∙ next-is)
+        nothing = first-none s.left (sym en ∙ next-is)
 
 -- ---- the invariant of `absorb`
 pub record Absorbing (w w1 : List ℕ) (x y : Links) (start b e reached : ℕ) (more : Bool) : Type 0 where
@@ -222,8 +222,8 @@ absorbing-done m i sh ls us t ns p =
     record { left = s.left; becomes = s.becomes; joined = λ a l. sym (s.same a l) ∙ s.ended m a l }
 
 module _ {w w1 : List ℕ} {x y : Links} {start b e reached : ℕ} {more : Bool} (i : Absorbing w w1 x y start b e reached more)
-    (n : Near) (f : TellsAfter w1 y.root (start + 1) n) where
-  module _ (r : Run) (en : n ≡ Near.Run r) (d : Bool) (ed : Reaching reached r.start d) where
+    (n : Option Run) (f : TellsAfter w1 y.root (start + 1) n) where
+  module _ (r : Run) (en : n ≡ Some r) (d : Bool) (ed : Reaching reached r.start d) where
     -- it goes on where the next run is taken in, unless that reaches as far as all before it
     pub absorbing-taken : {w2 : List ℕ} {z : Links} → RemovesRun w1 w2 y z r.start → more ≡ true → d ≡ true → (k : ℕ) → k ≡ max reached r.«end»
         → Absorbing w w2 x z start b e k (ltb r.«end» reached)
@@ -242,7 +242,7 @@ module _ {w w1 : List ℕ} {x y : Links} {start b e reached : ℕ} {more : Bool}
     }
 
   -- or there is none
-  pub absorbing-over : n ≡ Near.None → Absorbing w w1 x y start b e reached false
+  pub absorbing-over : n ≡ None → Absorbing w w1 x y start b e reached false
   absorbing-over en = record {
     short = λ (q : false ≡ true). absurd (true≢false (sym q));
     so_far = λ p. so-far-over (i.so_far p) n f en;

@@ -1,8 +1,8 @@
 -- Runs in order around one of them: what the searches tell of them, and what the index makes of them there. By induction on the runs
 -- before it. Then canonical runs: parts of them, a run that shrinks. Assumes nothing.
+use Rattle.std.specs.Prelude.{Option, None, Some}
 use Rattle.std.proofs.Common.{◌≡◌, ℕ, ◌+◌, ◌-◌, ◌<◌, ◌≤◌, Bool, true, false, cond, leb, List, [], ◌∷◌, ◌++◌, sym, refl, ap, inl, inr, append_assoc, arith, le-ltb}
 use Rattle.std.proofs.Common.{lt-ltb, eq-eqb, ne_eqb, le-leb, leb-false, leb-true}
-use mathlib.Core.Option.{Option, none, some}
 use borrow.Author.Tests.{lt-leb}
 use Rattle.model.specs.declared.Run.{Run}
 use Rattle.model.specs.Positions.{run, first_run}
@@ -20,25 +20,25 @@ first-after x [] (r ∷ us) b s = rw (le-leb x r.start s.0)
 first-after x (r ∷ ls) us b s = rw (lt-leb x r.start b.0, first-after x ls us b.1 s)
 
 -- the first of some runs is r
-pub first_some : (us : List Run) (r : Run) → some r ≡ first_run us → (vs : List Run) × (us ≡ r ∷ vs)
+pub first_some : (us : List Run) (r : Run) → Some r ≡ first_run us → (vs : List Run) × (us ≡ r ∷ vs)
 first_some [] r e = absurd (let z : ◌≡◌ {A = ℕ} 0 1 = cc in omega arith)
 first_some (y ∷ us) r e = (us, cc)
 
 -- there is no first
-pub first-none : (us : List Run) → none ≡ first_run us → us ≡ []
+pub first-none : (us : List Run) → None ≡ first_run us → us ≡ []
 first-none [] e = refl
 first-none (y ∷ us) e = absurd (let z : ◌≡◌ {A = ℕ} 0 1 = cc in omega arith)
 
 -- where no run starts at or before x, all start after it
-pub last_none : (x : ℕ) (rs : List Run) → last_up_to x rs ≡ none → StartFrom (x + 1) rs
+pub last_none : (x : ℕ) (rs : List Run) → last_up_to x rs ≡ None → StartFrom (x + 1) rs
 unfolding last_up_to
 last_none x [] e = tt
 last_none x (r ∷ rs) e = go (last_up_to x rs) (leb r.start x) refl e (last_none x rs)
   where
-    go : (o : Option Run) (b : Bool) → leb r.start x ≡ b → or_else o (cond b (some r) none) ≡ none → (o ≡ none → StartFrom (x + 1) rs) → StartFrom (x + 1) (r ∷ rs)
-    go none false eb q ih = (omega (arith, leb-false r.start x eb), ih refl)
-    go none true eb q ih = absurd (let z : ◌≡◌ {A = ℕ} 0 1 = cc in omega arith)
-    go (some p) b eb q ih = absurd (let z : ◌≡◌ {A = ℕ} 0 1 = cc in omega arith)
+    go : (o : Option Run) (b : Bool) → leb r.start x ≡ b → or_else o (cond b (Some r) None) ≡ None → (o ≡ None → StartFrom (x + 1) rs) → StartFrom (x + 1) (r ∷ rs)
+    go None false eb q ih = (omega (arith, leb-false r.start x eb), ih refl)
+    go None true eb q ih = absurd (let z : ◌≡◌ {A = ℕ} 0 1 = cc in omega arith)
+    go (Some p) b eb q ih = absurd (let z : ◌≡◌ {A = ℕ} 0 1 = cc in omega arith)
 
 -- the runs around r, the last that starts at or before x
 pub record Around (x : ℕ) (r : Run) (rs : List Run) : Type 0 where
@@ -49,17 +49,17 @@ pub record Around (x : ℕ) (r : Run) (rs : List Run) : Type 0 where
   pub after : StartFrom (x + 1) us
 
 -- the search finds it so
-pub last-around : (x : ℕ) (rs : List Run) (r : Run) → some r ≡ last_up_to x rs → Around x r rs
+pub last-around : (x : ℕ) (rs : List Run) (r : Run) → Some r ≡ last_up_to x rs → Around x r rs
 unfolding last_up_to
 last-around x [] r e = absurd (let z : ◌≡◌ {A = ℕ} 0 1 = cc in omega arith)
 last-around x (y ∷ ys) r e = go (last_up_to x ys) refl (leb y.start x) refl e (last-around x ys r)
   where
-    go : (o : Option Run) → last_up_to x ys ≡ o → (b : Bool) → leb y.start x ≡ b → some r ≡ or_else o (cond b (some y) none) → (some r ≡ last_up_to x ys → Around x r ys) → Around x r (y ∷ ys)
-    go none eo true eb q ih =
+    go : (o : Option Run) → last_up_to x ys ≡ o → (b : Bool) → leb y.start x ≡ b → Some r ≡ or_else o (cond b (Some y) None) → (Some r ≡ last_up_to x ys → Around x r ys) → Around x r (y ∷ ys)
+    go None eo true eb q ih =
         let same : r ≡ y = cc in
         record { ls = []; us = ys; is = ap (λ (z : Run). z ∷ ys) (sym same); at = omega (arith, leb-true y.start x eb, ap (λ (z : Run). z.start) same); after = last_none x ys eo }
-    go none eo false eb q ih = absurd (let z : ◌≡◌ {A = ℕ} 0 1 = cc in omega arith)
-    go (some p) eo b eb q ih =
+    go None eo false eb q ih = absurd (let z : ◌≡◌ {A = ℕ} 0 1 = cc in omega arith)
+    go (Some p) eo b eb q ih =
         let a : Around x r ys = ih (cc) in
         record { ls = y ∷ a.ls; us = a.us; is = ap (λ (z : List Run). y ∷ z) a.is; at = a.at; after = a.after }
 

@@ -1,5 +1,6 @@
 -- Holding the positions s .. e: the runs before and from s on, the one that grows, and the one that comes new. In each case the runs that
 -- the code leaves are those of the model's `insert`, so they are canonical and have the positions that they should have. Assumes nothing.
+use Rattle.std.specs.Prelude.{Option, None, Some}
 use Rattle.std.proofs.Common.{◌≡◌, ℕ, suc, ◌+◌, ◌-◌, ◌<◌, ◌≤◌, max, Bool, true, false, ◌⊎◌, List, [], ◌∷◌, ◌++◌, length, sym, refl, ap, ◌∙◌, subst, ap₂, inl, inr, arith, leb-false, leb-true}
 use Rattle.model.specs.declared.Run.{Run}
 use Rattle.model.specs.Numbers.{size}
@@ -8,10 +9,9 @@ use Rattle.model.specs.RunList.{Canon, EndBelow, StartFrom, TouchesNone, first_f
 use Rattle.model.proofs.RunList.{touch-within}
 use Rattle.model.proofs.Search.{canon-split, canon-starts, starts-weaken}
 use Rattle.model.proofs.Edit.{set_to, insert-skip, insert-put, insert-join}
-use Rattle.run_index.specs.declared.search.Near.{Near}
 use Rattle.run_index.specs.Tree.{Tree, inorder}
 use Rattle.run_index.specs.Order.{Before}
-use Rattle.run_index.specs.Search.{near_run, TellsAfter}
+use Rattle.run_index.specs.Search.{TellsAfter}
 use Rattle.store.specs.declared.Links.{Links}
 use Rattle.store.specs.Layout.{tree_from, highest}
 use Rattle.store.specs.Soundness.{Share, Kept}
@@ -210,14 +210,14 @@ pub record Lone (s e : ℕ) (rs : List Run) : Type 0 where
 pub record Alone (w : List ℕ) (x : Links) (s e : ℕ) : Type 0 where
   pub lone : {sh : Share} {t : Tree} {ns : List ℕ} → MaySet w sh x s e true t ns → Lone s e (inorder t)
 
-module _ {w : List ℕ} {x : Links} {s e : ℕ} (q : Passed w x s) (n : Near) (f : TellsAfter w x.root s n) where
+module _ {w : List ℕ} {x : Links} {s e : ℕ} (q : Passed w x s) (n : Option Run) (f : TellsAfter w x.root s n) where
   module _ {sh : Share} {t : Tree} {ns : List ℕ} (m : MaySet w sh x s e true t ns) where
     -- the runs before s and from s on
     abbrev sides : Parts s (inorder t)
     sides = q.parts m.kept
 
     -- the search finds the first from s on
-    next-is : near_run n ≡ first_run sides.us
+    next-is : n ≡ first_run sides.us
     next-is =
         becomes-after (becomes-none m.kept refl) s n f ∙ ap (first_from s) sides.is
         ∙ first-after s sides.ls sides.us (ends-before (s - 1) s sides.ls (omega arith) sides.below) sides.from
@@ -227,11 +227,11 @@ module _ {w : List ℕ} {x : Links} {s e : ℕ} (q : Passed w x s) (n : Near) (f
     set_after = ap (insert s e) sides.is ∙ insert-past s e sides.ls sides.us sides.below
 
   -- the next run is r
-  module _ (r : Run) (en : n ≡ Near.Run r) (d : Bool) (ed : Reaching e r.start d) where
+  module _ (r : Run) (en : n ≡ Some r) (d : Bool) (ed : Reaching e r.start d) where
     module _ {sh : Share} {t : Tree} {ns : List ℕ} (m : MaySet w sh x s e true t ns) where
       -- the runs after r
       rest : (vs : List Run) × ((sides m).us ≡ r ∷ vs)
-      rest = first_some (sides m).us r (sym (ap near_run en) ∙ next-is m)
+      rest = first_some (sides m).us r (sym en ∙ next-is m)
 
       -- r starts at s or after it
       from-s : s ≤ r.start
@@ -320,7 +320,7 @@ module _ {w : List ℕ} {x : Links} {s e : ℕ} (q : Passed w x s) (n : Near) (f
   }
 
   -- as the next run is apart
-  pub alone-apart : (r : Run) → n ≡ Near.Run r → (d : Bool) → Reaching e r.start d → d ≡ false → Alone w x s e
+  pub alone-apart : (r : Run) → n ≡ Some r → (d : Bool) → Reaching e r.start d → d ≡ false → Alone w x s e
   alone-apart r en d ed off = record {
     lone = λ m.
         let u = rest r en d ed m in
@@ -331,10 +331,10 @@ module _ {w : List ℕ} {x : Links} {s e : ℕ} (q : Passed w x s) (n : Near) (f
   }
 
   -- or there is none
-  pub alone-none : n ≡ Near.None → Alone w x s e
+  pub alone-none : n ≡ None → Alone w x s e
   alone-none en = record {
     lone = λ m.
-        let z : (sides m).us ≡ [] = first-none (sides m).us (sym (ap near_run en) ∙ next-is m) in
+        let z : (sides m).us ≡ [] = first-none (sides m).us (sym en ∙ next-is m) in
         lone-between m (ap (insert s e) z ∙ take_none s e ∙ ap (λ (vs : List Run). run s e ∷ vs) (sym z));
   }
 

@@ -1,5 +1,6 @@
 -- A tree on its way: w1 is what became of w, and rs are the runs that the links y lead to. Each call of the index is asked for in these words
 -- and leaves them, so that a function is a walk from list to list. In the end the runs have the positions that were set. Assumes nothing.
+use Rattle.std.specs.Prelude.{Option, None, Some}
 use Rattle.std.proofs.Common.{◌≡◌, ℕ, suc, ◌+◌, ◌-◌, ◌<◌, ◌≤◌, Bool, cond, ◌&&◌, ltb, leb, ◌⊎◌, List, ◌∷◌, ◌++◌, length, sym, refl, ap, ◌∙◌, subst}
 use Rattle.std.proofs.Common.{inl, inr, arith, length-append, le-ltb, lt-ltb, le-leb}
 use borrow.Author.Tests.{lt-leb}
@@ -10,10 +11,9 @@ use Rattle.model.specs.Positions.{run, inside, among, set_range, mem}
 use Rattle.model.proofs.Runs.{stretches-is}
 use Rattle.model.specs.RunList.{Canon, StartFrom, last_up_to, first_from}
 use Rattle.model.proofs.Edit.{set_to, set_to-canon, set_to-mem}
-use Rattle.run_index.specs.declared.search.Near.{Near}
 use Rattle.run_index.specs.Tree.{Tree, inorder}
 use Rattle.run_index.specs.Order.{insert_run, remove_run, replace_run, Before, Starts, Has}
-use Rattle.run_index.specs.Search.{Indexed, near_run, TellsBefore, TellsAfter}
+use Rattle.run_index.specs.Search.{Indexed, TellsBefore, TellsAfter}
 use Rattle.run_index.proofs.Totals.{runs-length}
 use Rattle.store.specs.declared.Links.{Links}
 use Rattle.store.specs.Soundness.{Share, Kept}
@@ -45,11 +45,11 @@ module _ {w w1 : List ℕ} {sh : Share} {y : Links} {rs : List Run} (u : Becomes
   becomes-indexed = (sh.tag, u.tree, kept-index u.kept)
 
   -- the search for the run at p or before it
-  pub becomes-before : (p : ℕ) (n : Near) → TellsBefore w1 y.root p n → near_run n ≡ last_up_to p rs
+  pub becomes-before : (p : ℕ) (n : Option Run) → TellsBefore w1 y.root p n → n ≡ last_up_to p rs
   becomes-before p n f = f sh.tag u.tree (kept-index u.kept) ∙ ap (last_up_to p) u.runs-are
 
   -- the search for the run at p or after it
-  pub becomes-after : (p : ℕ) (n : Near) → TellsAfter w1 y.root p n → near_run n ≡ first_from p rs
+  pub becomes-after : (p : ℕ) (n : Option Run) → TellsAfter w1 y.root p n → n ≡ first_from p rs
   becomes-after p n f = f sh.tag u.tree (kept-index u.kept) ∙ ap (first_from p) u.runs-are
 
 -- a run between ls and us
@@ -129,17 +129,17 @@ pub record FoundRun (w : List ℕ) (x : Links) (s : ℕ) (r : Run) : Type 0 wher
 pub record FoundNone (w : List ℕ) (x : Links) (s : ℕ) : Type 0 where
   pub after : {sh : Share} {t : Tree} {ns : List ℕ} → Kept w sh x t ns → StartFrom (s + 1) (inorder t)
 
-module _ {w : List ℕ} {x : Links} {s : ℕ} (n : Near) (f : TellsBefore w x.root s n) where
+module _ {w : List ℕ} {x : Links} {s : ℕ} (n : Option Run) (f : TellsBefore w x.root s n) where
   -- the search has found r
-  pub found : (r : Run) → n ≡ Near.Run r → FoundRun w x s r
+  pub found : (r : Run) → n ≡ Some r → FoundRun w x s r
   found r en = record {
-    around = λ {sh} {t} {ns} k. last-around s (inorder t) r (sym (ap near_run en) ∙ becomes-before (becomes-none k refl) s n f);
+    around = λ {sh} {t} {ns} k. last-around s (inorder t) r (sym en ∙ becomes-before (becomes-none k refl) s n f);
   }
 
   -- it has found none
-  pub found_none : n ≡ Near.None → FoundNone w x s
+  pub found_none : n ≡ None → FoundNone w x s
   found_none en = record {
-    after = λ {sh} {t} {ns} k. last_none s (inorder t) (sym (becomes-before (becomes-none k refl) s n f) ∙ ap near_run en);
+    after = λ {sh} {t} {ns} k. last_none s (inorder t) (sym (becomes-before (becomes-none k refl) s n f) ∙ en);
   }
 
 -- what may get a value may get its like

@@ -1,11 +1,11 @@
 -- What changes of a world promise. Assumes nothing: these are definitions.
+use Rattle.std.specs.Prelude.{Option, None, Some}
+use Rattle.changes.specs.declared.edit.Edit.{Edit}
 use Rattle.std.specs.Prelude.{◌≡◌, ℕ, suc, ◌-◌, ◌%◌, ◌<◌, ◌≤◌, Bool, not, List}
 use Rattle.model.specs.declared.Count.{Count}
 use Rattle.model.specs.Numbers.{size, worth}
 use Rattle.model.specs.Positions.{Positions, set_range, stretches, changes, empty, mem}
 use Rattle.run_index.specs.Tree.{Tree, inorder}
-use Rattle.changes.specs.declared.edit.Edit.{Edit}
-use Rattle.changes.specs.declared.edit.Fit.{Fit}
 use Rattle.store.specs.declared.World.{World}
 use Rattle.store.specs.declared.Links.{Links}
 use Rattle.store.specs.Layout.{turned, held_in}
@@ -17,11 +17,15 @@ use Rattle.store.specs.Free.{Sprouts}
 abbrev pub Makes : List ℕ → List ℕ → World → World → Positions → Type 0
 Makes w w' h k Q = (s : Share) (limit : ℕ) → Limited w s h limit → stretches Q ≤ limit → Became w w' s k Q
 
--- the world h, changed to Q: refused where Q has more runs than the limit, and then the nodes are as they were; else it is k, which holds
--- Q, and the answer is how many positions are in just one of the old and the new
-abbrev pub Edited : List ℕ → List ℕ → World → ℕ → Positions → Edit → Type 0
-Edited w w' h limit Q Edit.Full = (limit < stretches Q) × (w' ≡ w)
-Edited w w' h limit Q (Edit.Changed k c) = (stretches Q ≤ limit) × Makes w w' h k Q × (worth c ≡ changes (held_in w h) Q)
+-- a change that made k of a world, in which c positions changed
+abbrev pub changed_to : World → Count → Option Edit
+changed_to k c = Some (record { world = k; changed = c })
+
+-- the world h, changed to Q: refused where Q has more runs than the limit, and then the nodes are as they were; else it became one
+-- that holds Q, and the answer is how many positions are in just one of the old and the new
+abbrev pub Edited : List ℕ → List ℕ → World → ℕ → Positions → Option Edit → Type 0
+Edited w w' h limit Q None = (limit < stretches Q) × (w' ≡ w)
+Edited w w' h limit Q (Some e) = (stretches Q ≤ limit) × Makes w w' h e.world Q × (worth e.changed ≡ changes (held_in w h) Q)
 
 -- where the world h has no offset, and a .. b are to be held and touch none of its runs, they were put into its tree, which is at p
 abbrev pub PutsIn : List ℕ → List ℕ → World → ℕ → ℕ → ℕ → Bool → Type 0
@@ -32,14 +36,14 @@ abbrev pub Grows : List ℕ → List ℕ → World → World → ℕ → ℕ →
 Grows w w' h k a b v = PutsIn w w' h k.root a b v × (h.offset ≡ 0 → k.offset ≡ 0)
 
 -- unless the change was refused
-abbrev pub GrowsBy : List ℕ → List ℕ → World → ℕ → ℕ → Bool → Edit → Type 0
-GrowsBy w w' h a b v Edit.Full = Unit
-GrowsBy w w' h a b v (Edit.Changed k c) = Grows w w' h k a b v
+abbrev pub GrowsBy : List ℕ → List ℕ → World → ℕ → ℕ → Bool → Option Edit → Type 0
+GrowsBy w w' h a b v None = Unit
+GrowsBy w w' h a b v (Some e) = Grows w w' h e.world a b v
 
 -- as `Edited`, of a change that counts nothing
-abbrev pub Fitted : List ℕ → List ℕ → World → ℕ → Positions → Fit → Type 0
-Fitted w w' h limit Q Fit.Full = (limit < stretches Q) × (w' ≡ w)
-Fitted w w' h limit Q (Fit.Done k) = (stretches Q ≤ limit) × Makes w w' h k Q
+abbrev pub Fitted : List ℕ → List ℕ → World → ℕ → Positions → Option World → Type 0
+Fitted w w' h limit Q None = (limit < stretches Q) × (w' ≡ w)
+Fitted w w' h limit Q (Some k) = (stretches Q ≤ limit) × Makes w w' h k Q
 
 -- a .. b may get the value v: at most as many runs are left as the world may have
 pub record MayApply (w : List ℕ) (s : Share) (h : World) (limit a b : ℕ) (v : Bool) : Type 0 where

@@ -4,7 +4,6 @@ ghost use Rattle.std.specs.Prelude.{true, false};
 ghost use Rattle.store.specs.Free.{Sprouts};
 ghost use Rattle.changes.specs.Change.{Settable, Sets, Reaching, Absorbable, Absorbs, Clearable, ClearsFrom};
 
-use run_index::search::Near;
 use store::Links;
 use store::places::Physical;
 
@@ -29,7 +28,7 @@ fn raise(words: &mut [u64], x: Links, s: Physical, e: Physical) -> Links
     let to = e.0;
     let n = run_index::search::at_or_before(words, x.root, from);
     match n {
-        Near::Run(r) => {
+        Some(r) => {
             let start = r.start;
             let end = r.end;
             if reaches(Physical(end), s) {
@@ -42,11 +41,11 @@ fn raise(words: &mut [u64], x: Links, s: Physical, e: Physical) -> Links
                 return x;
             }
         }
-        Near::None => {}
+        None => {}
     }
     let m = run_index::search::at_or_after(words, x.root, from);
     match m {
-        Near::Run(r) => {
+        Some(r) => {
             let start = r.start;
             let end = r.end;
             if reaches(e, Physical(start)) {
@@ -62,7 +61,7 @@ fn raise(words: &mut [u64], x: Links, s: Physical, e: Physical) -> Links
                 return y;
             }
         }
-        Near::None => {}
+        None => {}
     }
     store::free::add_run(words, x, from, to)
 }
@@ -100,7 +99,7 @@ fn absorb(words: &mut [u64], x: Links, start: Physical, b: Physical, e: Physical
     while more {
         let n = run_index::search::at_or_after(words, at.root, from + 1);
         match n {
-            Near::Run(r) => {
+            Some(r) => {
                 if reaches(end, Physical(r.start)) {
                     at = store::free::remove_run(words, at, r.start);
                     more = r.end < end.0;
@@ -109,7 +108,7 @@ fn absorb(words: &mut [u64], x: Links, start: Physical, b: Physical, e: Physical
                     more = false;
                 }
             }
-            Near::None => {
+            None => {
                 more = false;
             }
         }
@@ -129,7 +128,7 @@ fn clear(words: &mut [u64], x: Links, s: Physical, e: Physical) -> Links
     let to = e.0;
     let n = run_index::search::at_or_before(words, x.root, from);
     match n {
-        Near::Run(r) => {
+        Some(r) => {
             let start = r.start;
             let end = r.end;
             if start < from && from <= end {
@@ -142,7 +141,7 @@ fn clear(words: &mut [u64], x: Links, s: Physical, e: Physical) -> Links
                 }
             }
         }
-        Near::None => {}
+        None => {}
     }
     clear_from(words, x, s, e)
 }
@@ -160,7 +159,7 @@ fn clear_from(words: &mut [u64], x: Links, s: Physical, e: Physical) -> Links
     while more {
         let n = run_index::search::at_or_after(words, at.root, from);
         match n {
-            Near::Run(r) => {
+            Some(r) => {
                 let start = r.start;
                 let end = r.end;
                 if start <= to {
@@ -175,7 +174,7 @@ fn clear_from(words: &mut [u64], x: Links, s: Physical, e: Physical) -> Links
                     more = false;
                 }
             }
-            Near::None => {
+            None => {
                 more = false;
             }
         }

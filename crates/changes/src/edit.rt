@@ -8,15 +8,15 @@ ghost use Rattle.store.specs.Soundness.{Stands, Editable};
 ghost use Rattle.changes.specs.Edits.{Makes, Edited, Grows, GrowsBy, Fitted, Appliable, Places, PutsIn, Gains, StretchEnd, Empties, Movable, Shiftable, Moves};
 ghost use Rattle.model.specs.Neighbours.{held_below, held_above};
 
-use model::{Count, Edge, Logical};
+use model::{Count, Logical};
 use store::places::Physical;
 use store::{Links, World};
 
-// A change that a limit may forbid: too many runs, or the world then and how many positions changed.
+// What a change made: the world then, and how many positions changed.
 #[derive(Clone, Copy)]
-pub enum Edit {
-    Full,
-    Changed(World, Count),
+pub struct Edit {
+    pub world: World,
+    pub changed: Count,
 }
 
 // 1 if a run goes on from x - 1 to x, else 0.
@@ -141,28 +141,34 @@ pub fn gained(root: u64, ones: u64, new_root: u64, new_ones: u64) -> Count
     }
 }
 
-// Gives a..=b the value, and returns how many positions changed. The sums before and after tell it: a set only adds positions, or only frees
-// some.
-pub fn set(words: &mut [u64], h: World, limit: u64, a: Logical, b: Logical, value: bool) -> Edit
+// Gives a..=b the value, and returns how many positions changed, or None where too many runs would be left. The sums before and after tell the
+// number: a set only adds positions, or only frees some.
+pub fn set(
+    words: &mut [u64],
+    h: World,
+    limit: u64,
+    a: Logical,
+    b: Logical,
+    value: bool,
+) -> Option<Edit>
     requires editable { Editable words.old h limit }
     requires a_le_b { a.0 ≤ b.0 }
     ensures { Edited words.old words.new h limit (set_range a.0 (suc b.0 - a.0) value (held_in words.old h)) result × GrowsBy words.old words.new h a.0 b.0 value result }
 {
     if !set_fits(words, h, limit, a, b, value) {
-        return Edit::Full;
+        return None;
     }
     let k = apply_set(words, h, a, b, value);
     if value {
-        return Edit::Changed(k, gained(h.root, h.ones, k.root, k.ones));
+        return Some(Edit {
+            world: k,
+            changed: gained(h.root, h.ones, k.root, k.ones),
+        });
     }
-    Edit::Changed(k, gained(k.root, k.ones, h.root, h.ones))
-}
-
-// A change that counts nothing: too many runs, or the world then.
-#[derive(Clone, Copy)]
-pub enum Fit {
-    Full,
-    Done(World),
+    Some(Edit {
+        world: k,
+        changed: gained(k.root, k.ones, h.root, h.ones),
+    })
 }
 
 // Whether flipping a..=b leaves at most as many runs as the limit. A flip adds one run at most, too. Of a run that goes on over an end
@@ -193,7 +199,7 @@ fn stretch_end(words: &[u64], h: World, x: Logical, last: Logical, value: bool) 
     let top = last.0;
     let n = reports::logical::next(words, h, x, !value);
     match n {
-        Edge::At(y) => {
+        Some(y) => {
             if y <= top {
                 let to = y - 1;
                 Logical(to)
@@ -201,18 +207,18 @@ fn stretch_end(words: &[u64], h: World, x: Logical, last: Logical, value: bool) 
                 last
             }
         }
-        Edge::Nowhere => last,
+        None => last,
     }
 }
 
-// Inverts a..=b, stretch by stretch: on the way there are never more runs than at the start.
-pub fn flip(words: &mut [u64], h: World, limit: u64, a: Logical, b: Logical) -> Fit
+// Inverts a..=b, stretch by stretch, or None where too many runs would be left: on the way there are never more than at the start.
+pub fn flip(words: &mut [u64], h: World, limit: u64, a: Logical, b: Logical) -> Option<World>
     requires editable { Editable words.old h limit }
     requires a_le_b { a.0 ≤ b.0 }
     ensures { Fitted words.old words.new h limit (flip_range a.0 (suc b.0 - a.0) (held_in words.old h)) result }
 {
     if !flip_fits(words, h, limit, a, b) {
-        return Fit::Full;
+        return None;
     }
     let last = b.0;
     let mut at = h;
@@ -230,7 +236,7 @@ pub fn flip(words: &mut [u64], h: World, limit: u64, a: Logical, b: Logical) -> 
             more = false;
         }
     }
-    Fit::Done(at)
+    Some(at)
 }
 
 // A world without runs, whatever it held: its nodes are free.

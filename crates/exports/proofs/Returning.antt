@@ -1,12 +1,13 @@
 -- From what the public call promises, how its answer is laid flat and which part of that crosses, to what the exported function returns.
 -- Assumes nothing.
+use Rattle.std.specs.Prelude.{Ok, Err}
+use Rattle.model.specs.Answers.{OrRefusal}
+use Rattle.model.specs.declared.Mended.{Mended}
 use Prim.Native.Nat.{ℕ}
 use mathlib.Core.Path.{◌≡◌, refl, ap, ap₂, ◌∙◌, subst}
-use mathlib.Core.List.{List}
+use mathlib.Core.List.{List, []}
 use Rattle.model.specs.declared.Bound.{Bound}
 use Rattle.model.specs.declared.Limits.{Limits}
-use Rattle.model.specs.declared.Written.{Written}
-use Rattle.model.specs.declared.Mended.{Mended}
 use Rattle.model.specs.Answers.{written_answer, mended_answer}
 use Rattle.model.specs.Call.{Call, Measure, Answer}
 use Rattle.model.specs.Handled.{Handled}
@@ -34,36 +35,45 @@ returned {w = w} {w'} {i} {f = f} {a = a} e m p s = record { answer = a; met = s
 pub makes : {w w' : List ℕ} {ls : List Limits} {a : Answer} {q : Reply} → Made w ls a w' → q ≡ reply_of a → Makes w ls (refusal_of q) w'
 makes {a = a} m p = record { answer = a; made = m; flat = ap (λ (q : Reply). refusal_of q) p }
 
--- a slice that is written, or left
-slice_is : (out out' : List ℕ) (a : Written) → Unwritten a out out' → out' ≡ slice_after (written_answer a out') out
-slice_is out out' (Written.Refused r) u = u
-slice_is out out' (Written.Front n) u = refl
+-- no number of a reply tells what stands in a slice
+any-slice : (a : OrRefusal ℕ) (out : List ℕ) → reply_of (written_answer a []) ≡ reply_of (written_answer a out)
+any-slice (Err r) out = refl
+any-slice (Ok n) out = refl
 
-pub wrote : {R : Type 0} {c c' : List ℕ → Call Site} {w : List ℕ} {i : ℕ} {out out' : List ℕ} (a : Written) {f : Reply → R} {q : Reply} {r : R} → c ≡ c' → WritesOut c w i out a out'
-    → ((o : List ℕ) → q ≡ reply_of (written_answer a o)) → r ≡ f q → Writes w i c' out f r out'
+any-slices : (a : OrRefusal Mended) (out report : List ℕ) → reply_of (mended_answer a [] []) ≡ reply_of (mended_answer a out report)
+any-slices (Err r) out report = refl
+any-slices (Ok m) out report = refl
+
+-- a slice that is written, or left
+slice_is : (out out' : List ℕ) (a : OrRefusal ℕ) → Unwritten a out out' → out' ≡ slice_after (written_answer a out') out
+slice_is out out' (Err r) u = u
+slice_is out out' (Ok n) u = refl
+
+pub wrote : {R : Type 0} {c c' : List ℕ → Call Site} {w : List ℕ} {i : ℕ} {out out' : List ℕ} (a : OrRefusal ℕ) {f : Reply → R} {q : Reply} {r : R} → c ≡ c' → WritesOut c w i out a out'
+    → q ≡ reply_of (written_answer a []) → r ≡ f q → Writes w i c' out f r out'
 unfolding returned
-wrote {out = out} {out'} a e k p s = record { returns = returned (ap (λ f. f out) e) k.met (p out') s; slice = slice_is out out' a k.unwritten }
+wrote {out = out} {out'} a e k p s = record { returns = returned (ap (λ f. f out) e) k.met (p ∙ any-slice a out') s; slice = slice_is out out' a k.unwritten }
 
 -- the same by a call that measures
-pub measures : {w : List ℕ} {m : Measure} {out out' : List ℕ} (a : Written) {q : Reply} {r : CWorded} → WritesMeasured w m out a out'
-    → ((o : List ℕ) → q ≡ reply_of (written_answer a o)) → r ≡ worded_of q → Measures w m out r out'
+pub measures : {w : List ℕ} {m : Measure} {out out' : List ℕ} (a : OrRefusal ℕ) {q : Reply} {r : CWorded} → WritesMeasured w m out a out'
+    → q ≡ reply_of (written_answer a []) → r ≡ worded_of q → Measures w m out r out'
 measures {out = out} {out'} a k p s = record {
   answer = written_answer a out';
   measured = k.measured;
-  flat = s ∙ ap worded_of (p out');
+  flat = s ∙ ap worded_of (p ∙ any-slice a out');
   slice = slice_is out out' a k.unwritten;
 }
 
 -- two slices that are written, or left
-slices-are : (out out' report report' : List ℕ) (a : Mended) → Unmended a out out' report report' → (out', report') ≡ slices_after (mended_answer a out' report') out report
-slices-are out out' report report' (Mended.Refused r) u = ap₂ (λ x y. (x, y)) u.0 u.1
-slices-are out out' report report' (Mended.Bytes n m) u = refl
+slices-are : (out out' report report' : List ℕ) (a : OrRefusal Mended) → Unmended a out out' report report' → (out', report') ≡ slices_after (mended_answer a out' report') out report
+slices-are out out' report report' (Err r) u = ap₂ (λ x y. (x, y)) u.0 u.1
+slices-are out out' report report' (Ok m) u = refl
 
-pub mends : {w w' : List ℕ} {i : ℕ} {bs out report out' report' : List ℕ} (a : Mended) {q : Reply} {r : CMended} → Mends w i bs out report a w' out' report'
-    → ((o p : List ℕ) → q ≡ reply_of (mended_answer a o p)) → r ≡ mended_of q → MendsFlat w i bs out report r w' out' report'
+pub mends : {w w' : List ℕ} {i : ℕ} {bs out report out' report' : List ℕ} (a : OrRefusal Mended) {q : Reply} {r : CMended} → Mends w i bs out report a w' out' report'
+    → q ≡ reply_of (mended_answer a [] []) → r ≡ mended_of q → MendsFlat w i bs out report r w' out' report'
 unfolding returned
 mends {out = out} {report} {out'} {report'} a k p s = record {
-  returns = returned refl k.met (p out' report') s;
+  returns = returned refl k.met (p ∙ any-slices a out' report') s;
   slices = slices-are out out' report report' a k.unmended;
 }
 

@@ -11,7 +11,8 @@ ghost use Rattle.model.specs.Clearing.{clear_map};
 ghost use Rattle.model.specs.Converting.{convert};
 ghost use Rattle.promises.specs.Met.{site};
 ghost use Rattle.interval_bit_set.specs.Lent.{listing_of};
-ghost use Rattle.flat.specs.Flat.{operation_of, truth};
+ghost use Rattle.model.specs.Positions.{operation_of};
+ghost use Rattle.flat.specs.Flat.{truth};
 ghost use Rattle.exports.specs.Structs.{bound_of, refusal_of, count_of, number_of, tallied_of, value_of, run_of, position_of, listed_of, drawn_of, written_of, worded_of, rect_of};
 ghost use Rattle.exports.specs.Returns.{Makes, Returns, Writes, MendsFlat, Measures, Handed, Frames};
 
@@ -19,7 +20,7 @@ use crate::structs::{
     CAround, CBound, CCounted, CDrawn, CFound, CListed, CMended, CNumbered, CRect, CTallied,
     CTested, CWorded, CWritten,
 };
-use model::Listing;
+use model::{Edition, Listing, Operation};
 
 pub mod structs;
 
@@ -28,7 +29,7 @@ pub mod structs;
 pub extern "C" fn vizturel_new(words: &mut [u64], limits: &[u64]) -> u64
     ensures { Makes words.old (limits_of limits.now) result words.new }
 {
-    flat::completed(interval_bit_set::make::new(words, limits)).refusal
+    flat::lay(interval_bit_set::make::new(words, limits)).refusal
 }
 
 // Gives a range the value, and tells how many positions changed.
@@ -42,13 +43,13 @@ pub extern "C" fn vizturel_set(
 ) -> CCounted
     ensures { Returns words.old world (Call.set (bound_of lower) (bound_of upper) (truth value)) count_of result words.new }
 {
-    structs::count(flat::counted(interval_bit_set::change::set(
+    flat::lay(interval_bit_set::change::set(
         words,
         world,
-        structs::bound(lower),
-        structs::bound(upper),
+        lower.into(),
+        upper.into(),
         value != 0,
-    )))
+    )).into()
 }
 
 // Gives the cells of a rectangle the value, and tells how many changed.
@@ -61,12 +62,7 @@ pub extern "C" fn vizturel_set_rect(
 ) -> CCounted
     ensures { Returns words.old world (Call.set_rect (rect_of rect) (truth value)) count_of result words.new }
 {
-    structs::count(flat::counted(interval_bit_set::cells::set_rect(
-        words,
-        world,
-        structs::rect(rect),
-        value != 0,
-    )))
+    flat::lay(interval_bit_set::cells::set_rect(words, world, rect.into(), value != 0)).into()
 }
 
 // Inverts a range.
@@ -74,12 +70,7 @@ pub extern "C" fn vizturel_set_rect(
 pub extern "C" fn vizturel_flip(words: &mut [u64], world: u64, lower: CBound, upper: CBound) -> u64
     ensures { Returns words.old world (Call.flip (bound_of lower) (bound_of upper)) refusal_of result words.new }
 {
-    flat::completed(interval_bit_set::change::flip(
-        words,
-        world,
-        structs::bound(lower),
-        structs::bound(upper),
-    )).refusal
+    flat::lay(interval_bit_set::change::flip(words, world, lower.into(), upper.into())).refusal
 }
 
 // Gives a range the value as `vizturel_set` does, and refuses a reversed one.
@@ -93,13 +84,13 @@ pub extern "C" fn vizturel_set_strict(
 ) -> CCounted
     ensures { Returns words.old world (Call.set_strict (bound_of lower) (bound_of upper) (truth value)) count_of result words.new }
 {
-    structs::count(flat::counted(interval_bit_set::change::set_strict(
+    flat::lay(interval_bit_set::change::set_strict(
         words,
         world,
-        structs::bound(lower),
-        structs::bound(upper),
+        lower.into(),
+        upper.into(),
         value != 0,
-    )))
+    )).into()
 }
 
 // Inverts a range as `vizturel_flip` does, and refuses a reversed one.
@@ -112,11 +103,11 @@ pub extern "C" fn vizturel_flip_strict(
 ) -> u64
     ensures { Returns words.old world (Call.flip_strict (bound_of lower) (bound_of upper)) refusal_of result words.new }
 {
-    flat::completed(interval_bit_set::change::flip_strict(
+    flat::lay(interval_bit_set::change::flip_strict(
         words,
         world,
-        structs::bound(lower),
-        structs::bound(upper),
+        lower.into(),
+        upper.into(),
     )).refusal
 }
 
@@ -125,7 +116,7 @@ pub extern "C" fn vizturel_flip_strict(
 pub extern "C" fn vizturel_shift(words: &mut [u64], world: u64, distance: u64, left: u64) -> u64
     ensures { Returns words.old world (Call.shift distance (truth left)) refusal_of result words.new }
 {
-    flat::completed(interval_bit_set::change::shift(words, world, distance, left != 0)).refusal
+    flat::lay(interval_bit_set::change::shift(words, world, distance, left != 0)).refusal
 }
 
 // The value of a position.
@@ -133,7 +124,7 @@ pub extern "C" fn vizturel_shift(words: &mut [u64], world: u64, distance: u64, l
 pub extern "C" fn vizturel_get(words: &[u64], world: u64, x: u64) -> CTested
     ensures { Returns words.now world (Call.get x) value_of result words.now }
 {
-    structs::value(flat::tested(interval_bit_set::report::get(words, world, x)))
+    flat::lay(interval_bit_set::report::get(words, world, x)).into()
 }
 
 // The unclipped run around a position.
@@ -141,7 +132,7 @@ pub extern "C" fn vizturel_get(words: &[u64], world: u64, x: u64) -> CTested
 pub extern "C" fn vizturel_run_at(words: &[u64], world: u64, x: u64) -> CAround
     ensures { Returns words.now world (Call.run_at x) run_of result words.now }
 {
-    structs::run(flat::around(interval_bit_set::report::run_at(words, world, x)))
+    flat::lay(interval_bit_set::report::run_at(words, world, x)).into()
 }
 
 // The least position of the value in a range.
@@ -155,13 +146,13 @@ pub extern "C" fn vizturel_find(
 ) -> CFound
     ensures { Returns words.now world (Call.find (bound_of lower) (bound_of upper) (truth value)) position_of result words.now }
 {
-    structs::position(flat::found(interval_bit_set::report::find(
+    flat::lay(interval_bit_set::report::find(
         words,
         world,
-        structs::bound(lower),
-        structs::bound(upper),
+        lower.into(),
+        upper.into(),
         value != 0,
-    )))
+    )).into()
 }
 
 // How many positions of a range have the value, and in how many runs.
@@ -175,13 +166,13 @@ pub extern "C" fn vizturel_tally(
 ) -> CTallied
     ensures { Returns words.now world (Call.tally (bound_of lower) (bound_of upper) (truth value)) tallied_of result words.now }
 {
-    structs::tally(flat::tallied(interval_bit_set::report::tally(
+    flat::lay(interval_bit_set::report::tally(
         words,
         world,
-        structs::bound(lower),
-        structs::bound(upper),
+        lower.into(),
+        upper.into(),
         value != 0,
-    )))
+    )).into()
 }
 
 // The tally of a range as `vizturel_tally` gives it, and a reversed one is refused.
@@ -195,13 +186,13 @@ pub extern "C" fn vizturel_tally_strict(
 ) -> CTallied
     ensures { Returns words.now world (Call.tally_strict (bound_of lower) (bound_of upper) (truth value)) tallied_of result words.now }
 {
-    structs::tally(flat::tallied(interval_bit_set::report::tally_strict(
+    flat::lay(interval_bit_set::report::tally_strict(
         words,
         world,
-        structs::bound(lower),
-        structs::bound(upper),
+        lower.into(),
+        upper.into(),
         value != 0,
-    )))
+    )).into()
 }
 
 // The position of a range that has the value and exactly k such positions before it.
@@ -216,14 +207,14 @@ pub extern "C" fn vizturel_select(
 ) -> CFound
     ensures { Returns words.now world (Call.select (bound_of lower) (bound_of upper) (truth value) k) position_of result words.now }
 {
-    structs::position(flat::found(interval_bit_set::report::select(
+    flat::lay(interval_bit_set::report::select(
         words,
         world,
-        structs::bound(lower),
-        structs::bound(upper),
+        lower.into(),
+        upper.into(),
         value != 0,
         k,
-    )))
+    )).into()
 }
 
 // The lowest start of n neighbouring positions of a range that are all free.
@@ -237,13 +228,7 @@ pub extern "C" fn vizturel_gap(
 ) -> CFound
     ensures { Returns words.now world (Call.gap (bound_of lower) (bound_of upper) n) position_of result words.now }
 {
-    structs::position(flat::found(interval_bit_set::report::gap(
-        words,
-        world,
-        structs::bound(lower),
-        structs::bound(upper),
-        n,
-    )))
+    flat::lay(interval_bit_set::report::gap(words, world, lower.into(), upper.into(), n)).into()
 }
 
 // A listing of the runs of the value in a range.
@@ -257,13 +242,13 @@ pub extern "C" fn vizturel_ranges(
 ) -> CListed
     ensures { Returns words.now world (Call.ranges (bound_of lower) (bound_of upper) (truth value)) listed_of result words.now }
 {
-    structs::listing(flat::listed(interval_bit_set::report::ranges(
+    flat::lay(interval_bit_set::report::ranges(
         words,
         world,
-        structs::bound(lower),
-        structs::bound(upper),
+        lower.into(),
+        upper.into(),
         value != 0,
-    )))
+    )).into()
 }
 
 // Draws the first run that is left in a listing.
@@ -277,7 +262,7 @@ pub extern "C" fn vizturel_draw_front(
 ) -> CDrawn
     ensures { Returns words.now world (Call.draw_front (listing_of first last (truth value))) drawn_of result words.now }
 {
-    structs::draw(flat::drawn(interval_bit_set::report::draw_front(
+    flat::lay(interval_bit_set::report::draw_front(
         words,
         world,
         Listing {
@@ -285,7 +270,8 @@ pub extern "C" fn vizturel_draw_front(
             last: last,
             value: value != 0,
         },
-    )))
+    ))
+    .into()
 }
 
 // Draws the last run that is left in a listing.
@@ -299,7 +285,7 @@ pub extern "C" fn vizturel_draw_back(
 ) -> CDrawn
     ensures { Returns words.now world (Call.draw_back (listing_of first last (truth value))) drawn_of result words.now }
 {
-    structs::draw(flat::drawn(interval_bit_set::report::draw_back(
+    flat::lay(interval_bit_set::report::draw_back(
         words,
         world,
         Listing {
@@ -307,7 +293,8 @@ pub extern "C" fn vizturel_draw_back(
             last: last,
             value: value != 0,
         },
-    )))
+    ))
+    .into()
 }
 
 // How full a window is, in thousandths, rounded up.
@@ -315,7 +302,7 @@ pub extern "C" fn vizturel_draw_back(
 pub extern "C" fn vizturel_fill(words: &[u64], world: u64, base: u64, n: u64) -> CNumbered
     ensures { Returns words.now world (Call.fill base n) number_of result words.now }
 {
-    structs::number(flat::numbered(interval_bit_set::report::fill(words, world, base, n)))
+    flat::lay(interval_bit_set::report::fill(words, world, base, n)).into()
 }
 
 // How many cells of a rectangle are held.
@@ -323,11 +310,7 @@ pub extern "C" fn vizturel_fill(words: &[u64], world: u64, base: u64, n: u64) ->
 pub extern "C" fn vizturel_count_rect(words: &[u64], world: u64, rect: CRect) -> CNumbered
     ensures { Returns words.now world (Call.count_rect (rect_of rect)) number_of result words.now }
 {
-    structs::number(flat::numbered(interval_bit_set::cells::count_rect(
-        words,
-        world,
-        structs::rect(rect),
-    )))
+    flat::lay(interval_bit_set::cells::count_rect(words, world, rect.into())).into()
 }
 
 // Joins two sets: op 0 is AND, 1 OR, any other XOR.
@@ -343,10 +326,10 @@ pub extern "C" fn vizturel_combine(
 ) -> u64
     ensures { Returns words.old world (Call.combine (operation_of op) (site a.now i) (site b.now j)) refusal_of result words.new }
 {
-    flat::completed(interval_bit_set::join::combine(
+    flat::lay(interval_bit_set::join::combine(
         words,
         world,
-        flat::operation(op),
+        Operation::from(op),
         a,
         i,
         b,
@@ -359,7 +342,7 @@ pub extern "C" fn vizturel_combine(
 pub extern "C" fn vizturel_not(words: &mut [u64], world: u64, a: &[u64], i: u64) -> u64
     ensures { Returns words.old world (Call.complement (site a.now i)) refusal_of result words.new }
 {
-    flat::completed(interval_bit_set::join::not(words, world, a, i)).refusal
+    flat::lay(interval_bit_set::join::not(words, world, a, i)).refusal
 }
 
 // The set moved by the distance, up (left) where `left` is not 0, else down.
@@ -374,14 +357,7 @@ pub extern "C" fn vizturel_shifted(
 ) -> u64
     ensures { Returns words.old world (Call.shifted distance (truth left) (site a.now i)) refusal_of result words.new }
 {
-    flat::completed(interval_bit_set::join::shifted(
-        words,
-        world,
-        distance,
-        left != 0,
-        a,
-        i,
-    )).refusal
+    flat::lay(interval_bit_set::join::shifted(words, world, distance, left != 0, a, i)).refusal
 }
 
 // Whether two worlds hold the same positions.
@@ -389,7 +365,7 @@ pub extern "C" fn vizturel_shifted(
 pub extern "C" fn vizturel_eq(words: &[u64], world: u64, b: &[u64], j: u64) -> CTested
     ensures { Returns words.now world (Call.equal (site b.now j)) value_of result words.now }
 {
-    structs::value(flat::tested(interval_bit_set::join::eq(words, world, b, j)))
+    flat::lay(interval_bit_set::join::eq(words, world, b, j)).into()
 }
 
 // Gives a world the set that bytes tell.
@@ -397,7 +373,7 @@ pub extern "C" fn vizturel_eq(words: &[u64], world: u64, b: &[u64], j: u64) -> C
 pub extern "C" fn vizturel_load(words: &mut [u64], world: u64, bytes: &[u8]) -> u64
     ensures { Returns words.old world (Call.load bytes.now) refusal_of result words.new }
 {
-    flat::completed(interval_bit_set::bytes::load(words, world, bytes)).refusal
+    flat::lay(interval_bit_set::bytes::load(words, world, bytes)).refusal
 }
 
 // Gives a world the set of a run list: start and end of each run, in turn.
@@ -405,7 +381,7 @@ pub extern "C" fn vizturel_load(words: &mut [u64], world: u64, bytes: &[u8]) -> 
 pub extern "C" fn vizturel_build(words: &mut [u64], world: u64, runs: &[u64]) -> u64
     ensures { Returns words.old world (Call.build (pairs (length runs.now / 2) runs.now)) refusal_of result words.new }
 {
-    flat::completed(interval_bit_set::bytes::from_sorted_words(words, world, runs)).refusal
+    flat::lay(interval_bit_set::bytes::from_sorted_words(words, world, runs)).refusal
 }
 
 // Sets a window from a map, and tells how many positions changed.
@@ -419,7 +395,7 @@ pub extern "C" fn vizturel_read_map(
 ) -> CCounted
     ensures { Returns words.old world (Call.read_map base n bytes.now) count_of result words.new }
 {
-    structs::count(flat::counted(interval_bit_set::bytes::read_map(words, world, base, n, bytes)))
+    flat::lay(interval_bit_set::bytes::read_map(words, world, base, n, bytes)).into()
 }
 
 // The same by single bytes.
@@ -433,9 +409,7 @@ pub extern "C" fn vizturel_read_map_by_bytes(
 ) -> CCounted
     ensures { Returns words.old world (Call.read_map base n bytes.now) count_of result words.new }
 {
-    structs::count(flat::counted(interval_bit_set::bytes::read_map_by_bytes(
-        words, world, base, n, bytes,
-    )))
+    flat::lay(interval_bit_set::bytes::read_map_by_bytes(words, world, base, n, bytes)).into()
 }
 
 // Zeroes the spare bits of a window's map, and tells how many were one. It takes no pool.
@@ -443,7 +417,7 @@ pub extern "C" fn vizturel_read_map_by_bytes(
 pub extern "C" fn vizturel_clear_map(base: u64, n: u64, map: &mut [u8]) -> CNumbered
     ensures { Handed (clear_map base n map.old) number_of result map.new }
 {
-    structs::number(flat::numbered(interval_bit_set::bytes::clear_map(base, n, map)))
+    flat::lay(interval_bit_set::bytes::clear_map(base, n, map)).into()
 }
 
 // Gives a world the union of the runs that bytes tell, in whatever order they stand, touching and overlapping; writes it as a set into the front of
@@ -459,7 +433,7 @@ pub extern "C" fn vizturel_mend(
     ensures { MendsFlat words.old world bytes.now out.old report.old result
         words.new out.new report.new }
 {
-    structs::mended(flat::mended(interval_bit_set::bytes::mend(words, world, bytes, out, report)))
+    flat::lay(interval_bit_set::bytes::mend(words, world, bytes, out, report)).into()
 }
 
 // Writes the shortest list of runs that makes a tree of the height h, set one by one in that order into an empty world, into the front of a slice:
@@ -468,7 +442,7 @@ pub extern "C" fn vizturel_mend(
 pub extern "C" fn vizturel_deepest(words: &[u64], h: u64, out: &mut [u64]) -> CWorded
     ensures { Measures words.now (Measure.deepest h) out.old result out.new }
 {
-    structs::words(flat::written(interval_bit_set::measure::deepest(words, h, out)))
+    flat::lay(interval_bit_set::measure::deepest(words, h, out)).into()
 }
 
 // Writes why a list of ranges, set to true one by one from an empty store of one world, is refused into the front of a slice: the places, rising, of the
@@ -477,7 +451,7 @@ pub extern "C" fn vizturel_deepest(words: &[u64], h: u64, out: &mut [u64]) -> CW
 pub extern "C" fn vizturel_why_full(words: &[u64], ranges: &[u64], out: &mut [u64]) -> CWorded
     ensures { Measures words.now (Measure.why_full ranges.now) out.old result out.new }
 {
-    structs::words(flat::written(interval_bit_set::measure::why_full(words, ranges, out)))
+    flat::lay(interval_bit_set::measure::why_full(words, ranges, out)).into()
 }
 
 // Writes the pieces of a square of side 2^k into the front of a slice, five words each, and tells how many words they are.
@@ -492,9 +466,7 @@ pub extern "C" fn vizturel_survey(
 ) -> CWorded
     ensures { Writes words.now world (Call.survey row column k) out.old worded_of result out.new }
 {
-    structs::words(flat::written(interval_bit_set::cells::survey(
-        words, world, row, column, k, out,
-    )))
+    flat::lay(interval_bit_set::cells::survey(words, world, row, column, k, out)).into()
 }
 
 // Turns a written set of either edition into the other, in the front of a slice, and tells how many bytes it has. It takes no pool.
@@ -502,7 +474,7 @@ pub extern "C" fn vizturel_survey(
 pub extern "C" fn vizturel_convert(bytes: &[u8], out: &mut [u8]) -> CWritten
     ensures { Handed (convert bytes.now out.old) written_of result out.new }
 {
-    structs::bytes(flat::written(interval_bit_set::bytes::convert(bytes, out)))
+    flat::lay(interval_bit_set::bytes::convert(bytes, out)).into()
 }
 
 // Writes a world's set into the front of a slice, and tells how many bytes it has. Edition 2 is written by columns; any other number stands for
@@ -516,12 +488,7 @@ pub extern "C" fn vizturel_write(
 ) -> CWritten
     ensures { Writes words.now world (Call.write_set (edition_by edition)) out.old written_of result out.new }
 {
-    structs::bytes(flat::written(interval_bit_set::write::write_set(
-        words,
-        world,
-        model::edition_by(edition),
-        out,
-    )))
+    flat::lay(interval_bit_set::write::write_set(words, world, Edition::from(edition), out)).into()
 }
 
 // Writes the map of a window into the front of a slice, and tells how many bytes it has.
@@ -535,7 +502,7 @@ pub extern "C" fn vizturel_write_map(
 ) -> CWritten
     ensures { Writes words.now world (Call.write_map base n) out.old written_of result out.new }
 {
-    structs::bytes(flat::written(interval_bit_set::write::write_map(words, world, base, n, out)))
+    flat::lay(interval_bit_set::write::write_map(words, world, base, n, out)).into()
 }
 
 // The same by single bytes.
@@ -549,9 +516,7 @@ pub extern "C" fn vizturel_write_map_by_bytes(
 ) -> CWritten
     ensures { Writes words.now world (Call.write_map base n) out.old written_of result out.new }
 {
-    structs::bytes(flat::written(interval_bit_set::write::write_map_by_bytes(
-        words, world, base, n, out,
-    )))
+    flat::lay(interval_bit_set::write::write_map_by_bytes(words, world, base, n, out)).into()
 }
 
 // Serves a list of calls, each a record of eight words, after one look at the pool, and writes a record of eight words for each answer.
@@ -559,5 +524,5 @@ pub extern "C" fn vizturel_write_map_by_bytes(
 pub extern "C" fn vizturel_frame(words: &mut [u64], calls: &[u64], answers: &mut [u64]) -> u64
     ensures { Frames words.old calls.now answers.old result words.new answers.new }
 {
-    flat::completed(frame::frame(words, calls, answers)).refusal
+    flat::lay(frame::frame(words, calls, answers)).refusal
 }

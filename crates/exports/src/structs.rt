@@ -125,142 +125,168 @@ pub struct CMended {
 }
 
 // The bound that C hands in.
-pub fn bound(b: CBound) -> Bound
-    ensures { result ≡ bound_of b }
-{
-    flat::bound(b.kind, b.value)
+impl From<CBound> for Bound {
+    ghost from_gives = { λ b c. c ≡ bound_of b };
+
+    fn from(b: CBound) -> Bound {
+        flat::bound(b.kind, b.value)
+    }
 }
 
 // The rectangle that C hands in.
-pub fn rect(q: CRect) -> Rect
-    ensures { result ≡ rect_of q }
-{
-    Rect {
-        top: q.top,
-        left: q.left,
-        bottom: q.bottom,
-        right: q.right,
+impl From<CRect> for Rect {
+    ghost from_gives = { λ q c. c ≡ rect_of q };
+
+    fn from(q: CRect) -> Rect {
+        Rect {
+            top: q.top,
+            left: q.left,
+            bottom: q.bottom,
+            right: q.right,
+        }
     }
 }
 
 // What set, set_rect and read_map return.
-pub fn count(r: Reply) -> CCounted
-    ensures { result ≡ count_of r }
-{
-    CCounted {
-        refusal: r.refusal,
-        carry: r.found,
-        low: r.number,
+impl From<Reply> for CCounted {
+    ghost from_gives = { λ r c. c ≡ count_of r };
+
+    fn from(r: Reply) -> CCounted {
+        CCounted {
+            refusal: r.refusal,
+            carry: r.found,
+            low: r.number,
+        }
     }
 }
 
 // What fill, count_rect and clear_map return.
-pub fn number(r: Reply) -> CNumbered
-    ensures { result ≡ number_of r }
-{
-    CNumbered {
-        refusal: r.refusal,
-        number: r.number,
+impl From<Reply> for CNumbered {
+    ghost from_gives = { λ r c. c ≡ number_of r };
+
+    fn from(r: Reply) -> CNumbered {
+        CNumbered {
+            refusal: r.refusal,
+            number: r.number,
+        }
     }
 }
 
 // What tally returns.
-pub fn tally(r: Reply) -> CTallied
-    ensures { result ≡ tallied_of r }
-{
-    CTallied {
-        refusal: r.refusal,
-        carry: r.found,
-        low: r.number,
-        runs: r.end,
+impl From<Reply> for CTallied {
+    ghost from_gives = { λ r c. c ≡ tallied_of r };
+
+    fn from(r: Reply) -> CTallied {
+        CTallied {
+            refusal: r.refusal,
+            carry: r.found,
+            low: r.number,
+            runs: r.end,
+        }
     }
 }
 
 // What get and eq return.
-pub fn value(r: Reply) -> CTested
-    ensures { result ≡ value_of r }
-{
-    CTested {
-        refusal: r.refusal,
-        value: r.number,
+impl From<Reply> for CTested {
+    ghost from_gives = { λ r c. c ≡ value_of r };
+
+    fn from(r: Reply) -> CTested {
+        CTested {
+            refusal: r.refusal,
+            value: r.number,
+        }
     }
 }
 
 // What run_at returns.
-pub fn run(r: Reply) -> CAround
-    ensures { result ≡ run_of r }
-{
-    CAround {
-        refusal: r.refusal,
-        start: r.number,
-        end: r.end,
+impl From<Reply> for CAround {
+    ghost from_gives = { λ r c. c ≡ run_of r };
+
+    fn from(r: Reply) -> CAround {
+        CAround {
+            refusal: r.refusal,
+            start: r.number,
+            end: r.end,
+        }
     }
 }
 
 // What find and select return.
-pub fn position(r: Reply) -> CFound
-    ensures { result ≡ position_of r }
-{
-    CFound {
-        refusal: r.refusal,
-        found: r.found,
-        position: r.number,
+impl From<Reply> for CFound {
+    ghost from_gives = { λ r c. c ≡ position_of r };
+
+    fn from(r: Reply) -> CFound {
+        CFound {
+            refusal: r.refusal,
+            found: r.found,
+            position: r.number,
+        }
     }
 }
 
 // What ranges returns.
-pub fn listing(r: Reply) -> CListed
-    ensures { result ≡ listed_of r }
-{
-    CListed {
-        refusal: r.refusal,
-        first: r.first,
-        last: r.last,
-        value: r.value,
+impl From<Reply> for CListed {
+    ghost from_gives = { λ r c. c ≡ listed_of r };
+
+    fn from(r: Reply) -> CListed {
+        CListed {
+            refusal: r.refusal,
+            first: r.first,
+            last: r.last,
+            value: r.value,
+        }
     }
 }
 
 // What a draw from either end returns; the listing keeps its value.
-pub fn draw(r: Reply) -> CDrawn
-    ensures { result ≡ drawn_of r }
-{
-    CDrawn {
-        refusal: r.refusal,
-        found: r.found,
-        start: r.number,
-        end: r.end,
-        first: r.first,
-        last: r.last,
+impl From<Reply> for CDrawn {
+    ghost from_gives = { λ r c. c ≡ drawn_of r };
+
+    fn from(r: Reply) -> CDrawn {
+        CDrawn {
+            refusal: r.refusal,
+            found: r.found,
+            start: r.number,
+            end: r.end,
+            first: r.first,
+            last: r.last,
+        }
     }
 }
 
 // What write and write_map return.
-pub fn bytes(r: Reply) -> CWritten
-    ensures { result ≡ written_of r }
-{
-    CWritten {
-        refusal: r.refusal,
-        bytes: r.number,
+impl From<Reply> for CWritten {
+    ghost from_gives = { λ r c. c ≡ written_of r };
+
+    fn from(r: Reply) -> CWritten {
+        CWritten {
+            refusal: r.refusal,
+            bytes: r.number,
+        }
     }
 }
 
 // What mend returns.
-pub fn mended(r: Reply) -> CMended
-    ensures { result ≡ mended_of r }
-{
-    CMended {
-        refusal: r.refusal,
-        bytes: r.number,
-        report: r.end,
+impl From<Reply> for CMended {
+    ghost from_gives = { λ r c. c ≡ mended_of r };
+
+    fn from(r: Reply) -> CMended {
+        CMended {
+            refusal: r.refusal,
+            bytes: r.number,
+            report: r.end,
+        }
     }
 }
 
 // What deepest returns.
-pub fn words(r: Reply) -> CWorded
-    ensures { result ≡ worded_of r }
-{
-    CWorded {
-        refusal: r.refusal,
-        words: r.number,
+impl From<Reply> for CWorded {
+    ghost from_gives = { λ r c. c ≡ worded_of r };
+
+    fn from(r: Reply) -> CWorded {
+        CWorded {
+            refusal: r.refusal,
+            words: r.number,
+        }
     }
 }

@@ -1,18 +1,13 @@
 -- Every answer laid flat, as numbers, and what the numbers mean that come in. Every number means something. Assumes nothing.
+use Rattle.std.specs.Prelude.{Option, None, Some}
 use Rattle.std.specs.Prelude.{ℕ, ◌/◌, ◌%◌, Bool, true, false, cond, not, eqb}
-use Rattle.std.proofs.Math.Option.{Option, none, some}
 use Rattle.model.specs.declared.Listing.{Listing}
-use Rattle.model.specs.declared.Operation.{Operation}
 use Rattle.model.specs.declared.Run.{Run}
 use Rattle.model.specs.Numbers.{size}
 use Rattle.model.specs.Call.{Result, done, number, tallied, value, around, position, listing, drawn, written, mended, Answer, refused, gave}
 use Rattle.flat.specs.declared.Reply.{Reply}
 
 -- ---- what comes in
--- an operation: 0 is AND, 1 is OR, and any other XOR
-abbrev pub operation_of : ℕ → Operation
-operation_of n = cond (eqb n 0) Operation.And (cond (eqb n 1) Operation.Or Operation.Xor)
-
 -- a truth value: anything but 0
 abbrev pub truth : ℕ → Bool
 truth n = not (eqb n 0)
@@ -33,12 +28,12 @@ with_listing f a b l = record { refusal = 0; found = f; number = a; «end» = b;
 
 -- a draw's run, if there is one, and the listing after it
 abbrev pub drawn_reply : Option Run → Listing → Reply
-drawn_reply none l = with_listing 0 0 0 l
-drawn_reply (some r) l = with_listing 1 r.start r.«end» l
+drawn_reply None l = with_listing 0 0 0 l
+drawn_reply (Some r) l = with_listing 1 r.start r.«end» l
 
 abbrev pub position_reply : Option ℕ → Reply
-position_reply none = numbers_only 0 0 0 0
-position_reply (some x) = numbers_only 0 1 x 0
+position_reply None = numbers_only 0 0 0 0
+position_reply (Some x) = numbers_only 0 1 x 0
 
 -- a result; of a tally the positions' carry and low word, and the runs; of bytes written, how many, and of a second slice's, too
 abbrev pub result_reply : Result → Reply

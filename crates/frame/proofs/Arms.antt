@@ -1,7 +1,8 @@
 -- Serving a record: the call of its kind, with the bounds that its words tell, was made; or its world was not opened. Assumes nothing.
+use Rattle.std.specs.Prelude.{None, Err}
+use Rattle.model.specs.Answers.{OrRefusal}
 use Rattle.std.specs.Prelude.{◌≡◌, ℕ, ◌-◌, ◌≤◌, true, cond, List, []}
 use mathlib.Core.Path.{refl, sym, ap, ap₂, ◌∙◌, subst}
-use mathlib.Core.Option.{none}
 use native.Mathlib.Omega.{arith}
 use Rattle.model.specs.declared.Bound.{Bound}
 use Rattle.model.specs.declared.Rect.{Rect}
@@ -30,7 +31,6 @@ use Rattle.promises.proofs.Meeting.{
 }
 use Rattle.promises.proofs.Changing.{Changes, set_says, flip-says, shift_says, set-strict-says, flip-strict-says, set-rect-says}
 use Rattle.promises.proofs.Overwriting.{build-says}
-use Rattle.interval_bit_set.specs.declared.look.Look.{Look}
 use Rattle.interval_bit_set.proofs.Looking.{world-unopened, turned-away, sent-away}
 use Rattle.frame.specs.declared.entry.Kind.{Kind}
 use Rattle.frame.specs.declared.entry.Entry.{Entry}
@@ -60,15 +60,15 @@ of-cells {w} {w'} {i} {a} f p m = subst (λ c. Met w i c a w') (ap f p) m
 -- ---- a world that was not opened: 12 stands in the answer, whatever the call
 module _ {w : List ℕ} {i : ℕ} (S : Sound w) (h : opened_at w ≤ i) (e : Entry) where
   -- what looking at it tells
-  abbrev look : Look
-  look = Look.Refused WorldUnopened
+  abbrev look : OrRefusal Unit
+  look = Err WorldUnopened
 
   -- a call that reports
-  away : {c : Call Site} {cs : List Condition} {A : Positions → Result} → Reports w i c cs A → first_given looks cs ≡ none → Met w i c (refused 12) w
+  away : {c : Call Site} {cs : List Condition} {A : Positions → Result} → Reports w i c cs A → first_given looks cs ≡ None → Met w i c (refused 12) w
   away says quiet = turned-away says look (world-unopened w i S h) refl quiet
 
   -- one that changes
-  sent : {c : Call Site} {cs : List Condition} {Q : Positions → Positions} {A : Positions → Result} → Changes w i c cs Q A → first_given looks cs ≡ none → Met w i c (refused 12) w
+  sent : {c : Call Site} {cs : List Condition} {Q : Positions → Positions} {A : Positions → Result} → Changes w i c cs Q A → first_given looks cs ≡ None → Met w i c (refused 12) w
   sent says quiet = sent-away says look (world-unopened w i S h) refl quiet
 
   twelve : (k : Kind) → Met w i (call_by k e) (refused 12) w

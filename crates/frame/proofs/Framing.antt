@@ -1,7 +1,8 @@
 -- A frame's outcome, by what looking at the pool told and by the room of the slice. Assumes nothing.
+use Rattle.std.specs.Prelude.{Option, None, Some, Err}
+use Rattle.model.specs.Answers.{OrRefusal}
 use Rattle.std.specs.Prelude.{◌≡◌, ℕ, ◌*◌, ◌/◌, ◌<◌, ◌≤◌, Bool, true, false, not, List, [], ◌∷◌, ◌++◌, length}
 use mathlib.Core.Path.{refl, sym, ap, ◌∙◌, subst}
-use mathlib.Core.Option.{Option, none, some}
 use native.Mathlib.Omega.{arith}
 use borrow.Author.Tests.{lt-ltb, le-ltb, ne_eqb}
 use Rattle.model.specs.declared.Refusal.{Refusal}
@@ -13,7 +14,6 @@ use Rattle.store.specs.Layout.{capacity, worlds_of}
 use Rattle.store.specs.Soundness.{Sound}
 use Rattle.soundness.specs.Decision.{sound_b}
 use Rattle.soundness.proofs.Whole.{sound_b-no}
-use Rattle.interval_bit_set.specs.declared.look.Look.{Look}
 use Rattle.interval_bit_set.specs.Look.{LookedPool}
 use Rattle.interval_bit_set.proofs.Looking.{pool-refused}
 use Rattle.promises.specs.Met.{pool_reads}
@@ -43,7 +43,7 @@ module _ (w cs out : List ℕ) where
   }
 
   -- what looking refuses is given
-  pub turned-away : {r : Refusal} (l : Look) → LookedPool w l → l ≡ Look.Refused r → Framed w cs out (refused (refusal_number r)) w out
+  pub turned-away : {r : Refusal} (l : OrRefusal Unit) → LookedPool w l → l ≡ Err r → Framed w cs out (refused (refusal_number r)) w out
   turned-away l k e =
       framed-by _ (frame-by _ (looked-first (pool_reads w ++ output_short when no_room out recorded ∷ []) (pool-refused w l k e))) refl refl
 
@@ -66,13 +66,13 @@ module _ (w cs out : List ℕ) where
     pub no_room_lem : length out / 8 < length cs / 8 → Framed w cs out (refused 2) w out
     unfolding no_room
     no_room_lem h =
-        framed-by _ (frame-by (some 2) (by-room true (lt-ltb (length out) (length recorded) (omega (arith, due))))) refl refl
+        framed-by _ (frame-by (Some 2) (by-room true (lt-ltb (length out) (length recorded) (omega (arith, due))))) refl refl
 
     -- they fit, and all records were served
     pub framed : {w' out' : List ℕ} → length cs / 8 ≤ length out / 8 → Plays w cs out (length cs / 8) w' out' → Framed w cs out (gave done) w' out'
     unfolding no_room calls_of
     framed h p =
-        framed-by _ (frame-by none (by-room false (le-ltb (length out) (length recorded) (omega (arith, due))))) p.pooled p.wrote
+        framed-by _ (frame-by None (by-room false (le-ltb (length out) (length recorded) (omega (arith, due))))) p.pooled p.wrote
 
   -- what looking told, where it found no refusal
   pub playable : Sound w → length cs / 8 ≤ length out / 8 → Playable w cs out (length cs / 8)

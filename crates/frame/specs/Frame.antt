@@ -1,7 +1,7 @@
 -- THE CONTRACT of a frame: its answers, the worlds after it and the whole slice are the plain model's over the list of its calls. Assumes
 -- nothing: these are definitions.
+use Rattle.std.specs.Prelude.{Option, None, Some}
 use Rattle.std.specs.Prelude.{◌≡◌, ℕ, List, [], ◌∷◌, ◌++◌}
-use Rattle.std.proofs.Math.Option.{Option, none, some}
 use Rattle.model.specs.Bytes.{into_front}
 use Rattle.model.specs.Refusals.{output_short, ◌when◌, refusal, no_room}
 use Rattle.model.specs.Call.{Fed, PoolCall, done, Answer, refused, gave}
@@ -19,8 +19,8 @@ pub record FrameOutcome : Type 0 where
 
 -- refused, all stays; else the records are the front of the slice, and the words after them do not change
 abbrev pub settle_frame : Option ℕ → List PlainWorld → List PlainWorld → List ℕ → List ℕ → FrameOutcome
-settle_frame none ws vs due out = record { answer = gave done; worlds = vs; slice = into_front due out }
-settle_frame (some n) ws vs due out = record { answer = refused n; worlds = ws; slice = out }
+settle_frame None ws vs due out = record { answer = gave done; worlds = vs; slice = into_front due out }
+settle_frame (Some n) ws vs due out = record { answer = refused n; worlds = ws; slice = out }
 
 -- a list of calls on the pool w: 1, 7, and 2 where the slice is shorter than the words due. 12 stands in the answers
 unfoldable pub frame_of : List ℕ → List (PoolCall Fed) → List ℕ → FrameOutcome

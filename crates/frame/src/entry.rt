@@ -44,76 +44,42 @@ pub struct Entry {
 }
 
 // The call that a number names.
-pub fn named(n: u64) -> Kind
-    ensures { result ≡ kind_of n }
-{
-    if n == 1 {
-        return Kind::Empty;
+impl From<u64> for Kind {
+    ghost from_gives = { λ n k. k ≡ kind_of n };
+
+    #[tactic(auto, unfolding(crate::specs::Records::kind_of))]
+    fn from(n: u64) -> Kind {
+        match n {
+            1 => Kind::Empty,
+            2 => Kind::Set,
+            3 => Kind::Flip,
+            4 => Kind::Shift,
+            5 => Kind::RunAt,
+            6 => Kind::Find,
+            8 => Kind::Select,
+            10 => Kind::Ranges,
+            11 => Kind::DrawFront,
+            12 => Kind::DrawBack,
+            13 => Kind::Fill,
+            14 => Kind::Gap,
+            15 => Kind::Tally,
+            16 => Kind::SetStrict,
+            17 => Kind::FlipStrict,
+            18 => Kind::TallyStrict,
+            19 => Kind::SetRect,
+            20 => Kind::CountRect,
+            _ => Kind::Get,
+        }
     }
-    if n == 2 {
-        return Kind::Set;
-    }
-    if n == 3 {
-        return Kind::Flip;
-    }
-    if n == 4 {
-        return Kind::Shift;
-    }
-    if n == 5 {
-        return Kind::RunAt;
-    }
-    if n == 6 {
-        return Kind::Find;
-    }
-    if n == 8 {
-        return Kind::Select;
-    }
-    if n == 10 {
-        return Kind::Ranges;
-    }
-    if n == 11 {
-        return Kind::DrawFront;
-    }
-    if n == 12 {
-        return Kind::DrawBack;
-    }
-    if n == 13 {
-        return Kind::Fill;
-    }
-    if n == 14 {
-        return Kind::Gap;
-    }
-    if n == 15 {
-        return Kind::Tally;
-    }
-    if n == 16 {
-        return Kind::SetStrict;
-    }
-    if n == 17 {
-        return Kind::FlipStrict;
-    }
-    if n == 18 {
-        return Kind::TallyStrict;
-    }
-    if n == 19 {
-        return Kind::SetRect;
-    }
-    if n == 20 {
-        return Kind::CountRect;
-    }
-    Kind::Get
 }
 
 // The world that a record asks at. 7 and 9 are withdrawn: a record of one is refused with 12, and not answered as another call.
+#[tactic(auto, unfolding(crate::specs::Records::withdrawn))]
 pub fn world_of(e: Entry) -> u64
     ensures { result ≡ world_by e }
 {
-    let n = e.call;
-    if n == 7 {
-        return u64::MAX;
+    match e.call {
+        7 | 9 => u64::MAX,
+        _ => e.world,
     }
-    if n == 9 {
-        return u64::MAX;
-    }
-    e.world
 }

@@ -14,8 +14,7 @@ ghost use Rattle.frame.specs.Serving.{ServesAt, Serves, Playable, Plays};
 
 use crate::entry::{Entry, Kind};
 use flat::Reply;
-use interval_bit_set::look::Look;
-use model::{Completed, Listing, Rect, Refusal};
+use model::{Listing, Rect, Refusal};
 
 pub mod entry;
 
@@ -57,49 +56,33 @@ fn serve_world(words: &mut [u64], e: Entry, world: u64) -> Reply
     let lower = flat::bound(e.lower, e.from);
     let upper = flat::bound(e.upper, e.upto);
     let value = e.value != 0;
-    let k = entry::named(e.call);
-    match k {
-        Kind::Empty => flat::completed(ranges::change::empty(words, world)),
-        Kind::Set => flat::counted(ranges::change::set(words, world, lower, upper, value)),
-        Kind::Flip => flat::completed(ranges::change::flip(words, world, lower, upper)),
-        Kind::Shift => flat::completed(ranges::change::shift(words, world, e.from, value)),
-        Kind::RunAt => flat::around(ranges::report::run_at(words, world, e.from)),
-        Kind::Find => flat::found(ranges::report::find(words, world, lower, upper, value)),
-        Kind::Select => flat::found(ranges::report::select(words, world, lower, upper, value, e.k)),
-        Kind::Ranges => flat::listed(ranges::report::ranges(words, world, lower, upper, value)),
-        Kind::DrawFront => flat::drawn(ranges::listing::draw_front(
-            words,
-            world,
-            Listing {
-                first: e.from,
-                last: e.upto,
-                value: value,
-            },
-        )),
-        Kind::DrawBack => flat::drawn(ranges::listing::draw_back(
-            words,
-            world,
-            Listing {
-                first: e.from,
-                last: e.upto,
-                value: value,
-            },
-        )),
-        Kind::Fill => flat::numbered(ranges::report::fill(words, world, e.from, e.upto)),
-        Kind::Gap => flat::found(ranges::report::gap(words, world, lower, upper, e.k)),
-        Kind::Tally => flat::tallied(ranges::report::tally(words, world, lower, upper, value)),
-        Kind::SetStrict => flat::counted(ranges::change::set_strict(
+    let left = Listing {
+        first: e.from,
+        last: e.upto,
+        value,
+    };
+    match Kind::from(e.call) {
+        Kind::Empty => flat::lay(ranges::change::empty(words, world)),
+        Kind::Set => flat::lay(ranges::change::set(words, world, lower, upper, value)),
+        Kind::Flip => flat::lay(ranges::change::flip(words, world, lower, upper)),
+        Kind::Shift => flat::lay(ranges::change::shift(words, world, e.from, value)),
+        Kind::RunAt => flat::lay(ranges::report::run_at(words, world, e.from)),
+        Kind::Find => flat::lay(ranges::report::find(words, world, lower, upper, value)),
+        Kind::Select => flat::lay(ranges::report::select(words, world, lower, upper, value, e.k)),
+        Kind::Ranges => flat::lay(ranges::report::ranges(words, world, lower, upper, value)),
+        Kind::DrawFront => flat::lay(ranges::listing::draw_front(words, world, left)),
+        Kind::DrawBack => flat::lay(ranges::listing::draw_back(words, world, left)),
+        Kind::Fill => flat::lay(ranges::report::fill(words, world, e.from, e.upto)),
+        Kind::Gap => flat::lay(ranges::report::gap(words, world, lower, upper, e.k)),
+        Kind::Tally => flat::lay(ranges::report::tally(words, world, lower, upper, value)),
+        Kind::SetStrict => flat::lay(ranges::change::set_strict(words, world, lower, upper, value)),
+        Kind::FlipStrict => flat::lay(ranges::change::flip_strict(words, world, lower, upper)),
+        Kind::TallyStrict => flat::lay(ranges::report::tally_strict(
             words, world, lower, upper, value,
         )),
-        Kind::FlipStrict => flat::completed(ranges::change::flip_strict(
-            words, world, lower, upper,
-        )),
-        Kind::TallyStrict => flat::tallied(ranges::report::tally_strict(
-            words, world, lower, upper, value,
-        )),
-        Kind::SetRect => flat::counted(ranges::cells::set_rect(words, world, rect(e), value)),
-        Kind::CountRect => flat::numbered(ranges::cells::count_rect(words, world, rect(e))),
-        Kind::Get => flat::tested(ranges::report::get(words, world, e.from)),
+        Kind::SetRect => flat::lay(ranges::cells::set_rect(words, world, rect(e), value)),
+        Kind::CountRect => flat::lay(ranges::cells::count_rect(words, world, rect(e))),
+        Kind::Get => flat::lay(ranges::report::get(words, world, e.from)),
     }
 }
 
@@ -110,7 +93,7 @@ fn serve(words: &mut [u64], e: Entry) -> Reply
 {
     let world = entry::world_of(e);
     if world >= store::opened(words) {
-        return flat::completed(Completed::Refused(Refusal::WorldUnopened));
+        return flat::lay::<()>(Err(Refusal::WorldUnopened));
     }
     serve_world(words, e, world)
 }
@@ -136,29 +119,22 @@ fn play(words: &mut [u64], calls: &[u64], answers: &mut [u64], n: usize)
     requires { Playable words.old calls.now answers.old n }
     ensures { Plays words.old calls.now answers.old n words.new answers.new }
 {
-    let mut i: usize = 0;
-    while i < n {
+    for i in 0..n {
         let e = read(calls, i);
         let r = serve(words, e);
         put(answers, i, r);
-        i += 1;
     }
 }
 
 // Serves every call of a list. Refused with 1 or 7 of the pool, or with 2 where the answers do not fit; then nothing has changed.
-pub fn frame(words: &mut [u64], calls: &[u64], answers: &mut [u64]) -> Completed
+pub fn frame(words: &mut [u64], calls: &[u64], answers: &mut [u64]) -> Result<(), Refusal>
     ensures { Framed words.old calls.now answers.old (completed_answer result) words.new answers.new }
 {
-    let l = interval_bit_set::look::look_at_pool(words);
-    match l {
-        Look::Refused(r) => Completed::Refused(r),
-        Look::Sound => {
-            let n = calls.len() / 8;
-            if answers.len() / 8 < n {
-                return Completed::Refused(Refusal::OutputShort);
-            }
-            play(words, calls, answers, n);
-            Completed::Done
-        }
+    interval_bit_set::look::look_at_pool(words)?;
+    let n = calls.len() / 8;
+    if answers.len() / 8 < n {
+        return Err(Refusal::OutputShort);
     }
+    play(words, calls, answers, n);
+    Ok(())
 }

@@ -1,5 +1,6 @@
 -- Blocks of one value: all of their cells are held, or none is, exactly if they all have the first cell's value; and rows of one value, one after
 -- the other, until a position of the other value. Assumes nothing.
+use Rattle.std.specs.Prelude.{Option, None, Some}
 use Prim.Native.Nat.{ℕ, zero, suc, ◌+◌, ◌-◌, ◌*◌, ◌/◌, ◌≤◌, ◌<◌}
 use mathlib.Core.Path.{◌≡◌, refl, sym, ap, ap₂, ◌∙◌, subst, fun_ext}
 use mathlib.Core.Logic.{◌⊎◌, inl, inr, ⊎_elim}
@@ -8,8 +9,6 @@ use native.Mathlib.Omega.{arith}
 use native.Mathlib.Nat.{suc-mul, zero-mul, mul-zero}
 use lib.Dec.{eqb}
 use borrow.Author.Tests.{eqb-true, eq-eqb}
-use Rattle.model.specs.declared.Edge.{Edge}
-use Rattle.model.specs.declared.Edge.TheVariants.{At, Nowhere}
 use Rattle.model.specs.Positions.{Positions, count}
 use Rattle.model.proofs.Numbers.{split}
 use Rattle.model.proofs.Counting.{count-all, count_none, counted_none, count-both, count_most}
@@ -160,18 +159,18 @@ module _ (P : Positions) (r c m n : ℕ) (v : Bool) where
     alike_all le i x a b p q = h i x a (omega arith) p q
 
     -- the next position of the other value, if there is one
-    module _ (e : Edge) (g : Next P (not v) (cell k c) e) where
+    module _ (e : Option ℕ) (g : Next P (not v) (cell k c) e) where
       -- there is none
-      pub alike-rest : e ≡ Nowhere → Alike P r c m n v
+      pub alike-rest : e ≡ None → Alike P r c m n v
       alike-rest is i x a b p q = go (split i k) (subst (Next P (not v) (cell k c)) is g)
         where
-          go : (i < k) ⊎ (k ≤ i) → Next P (not v) (cell k c) Nowhere → P x ≡ v
+          go : (i < k) ⊎ (k ≤ i) → Next P (not v) (cell k c) None → P x ≡ v
           go (inl l) none = h i x a (omega arith) p q
           go (inr l) none = none x (omega arith) (omega (arith, on.low, on.within)) ∙ not-not v
 
-      module _ (y : ℕ) (is : e ≡ At y) where
+      module _ (y : ℕ) (is : e ≡ Some y) where
         -- what is known of it
-        at : Next P (not v) (cell k c) (At y)
+        at : Next P (not v) (cell k c) (Some y)
         at = subst (Next P (not v) (cell k c)) is g
 
         -- it is in row k

@@ -1,6 +1,9 @@
 -- Two passes over the rows of a rectangle set it, wherever what it leaves fits. In a pass a row is set unless it leaves more runs than the
 -- limit. After one pass each row is set or would add a run, so in the next one no state on the way has more runs than the whole rectangle
 -- leaves, and none is refused. Assumes nothing.
+use Rattle.changes.specs.Edits.{changed_to}
+use Rattle.std.specs.Prelude.{Option, None}
+use Rattle.changes.specs.declared.edit.Edit.{Edit}
 use Prim.Native.Nat.{ℕ, suc, ◌+◌, ◌-◌, ◌≤◌, ◌<◌}
 use mathlib.Core.Path.{◌≡◌, refl, sym, ap, ◌∙◌, subst}
 use mathlib.Core.Logic.{◌⊎◌, inl, inr}
@@ -20,7 +23,6 @@ use Rattle.store.specs.Layout.{held_in}
 use Rattle.store.specs.Soundness.{Chain, Share, Limited}
 use Rattle.store.proofs.Nodes.{still-then, still-same}
 use Rattle.store.proofs.Settling.{became-limited}
-use Rattle.changes.specs.declared.edit.Edit.{Edit}
 use Rattle.changes.specs.Edits.{Makes, Edited}
 use Rattle.changes.proofs.Gaining.{cond-adds, cond-frees}
 use Rattle.model.specs.declared.Rect.{Rect}
@@ -60,15 +62,15 @@ limited-by {w} {s} {u} {h} l m =
     }
 
 -- ---- one row
-module _ {w w' : List ℕ} {h : World} {limit : ℕ} {q : Rect} {r : ℕ} {v : Bool} (e : Edit) (ed : Edited w w' h limit (set_row q r v (held_in w h)) e) where
+module _ {w w' : List ℕ} {h : World} {limit : ℕ} {q : Rect} {r : ℕ} {v : Bool} (e : Option Edit) (ed : Edited w w' h limit (set_row q r v (held_in w h)) e) where
   -- it was refused
-  pub row-refused : e ≡ Edit.Full → SetsRow w w' h h limit q r v
+  pub row-refused : e ≡ None → SetsRow w w' h h limit q r v
   row-refused p s l =
       let y = subst (Edited w w' h limit (set_row q r v (held_in w h))) p ed in
       subst (λ (u : List ℕ). RowSet w u s h h limit q r v) (sym y.1) (record { limited = l; still = still-same; either = inl (y.0, λ x _. refl) })
 
   -- it was set
-  pub row_made : {k : World} {c : Count} → e ≡ Edit.Changed k c → SetsRow w w' h k limit q r v
+  pub row_made : {k : World} {c : Count} → e ≡ changed_to k c → SetsRow w w' h k limit q r v
   row_made p s l =
       let y = subst (Edited w w' h limit (set_row q r v (held_in w h))) p ed in
       let be = y.1 s limit l y.0 in

@@ -124,8 +124,8 @@ fn set_row(words: &mut [u64], h: World, limit: u64, q: Rect, r: u64, value: bool
     let b = r * ROW + q.right;
     let e = changes::edit::set(words, h, limit, Logical(a), Logical(b), value);
     match e {
-        Edit::Full => h,
-        Edit::Changed(k, _) => k,
+        None => h,
+        Some(x) => x.world,
     }
 }
 
@@ -161,8 +161,8 @@ fn passes(words: &mut [u64], h: World, limit: u64, q: Rect, value: bool) -> Worl
     pass(words, k, limit, q, value)
 }
 
-// Gives the rectangle's cells the value, and returns how many changed.
-pub fn set(words: &mut [u64], h: World, limit: u64, q: Rect, value: bool) -> Edit
+// Gives the rectangle's cells the value, and returns how many changed, or None where too many runs would be left.
+pub fn set(words: &mut [u64], h: World, limit: u64, q: Rect, value: bool) -> Option<Edit>
     requires editable { Editable words.old h limit }
     requires on_plane { OnPlane q }
     ensures { Edited words.old words.new h limit (set_rect q value (held_in words.old h)) result }
@@ -173,11 +173,17 @@ pub fn set(words: &mut [u64], h: World, limit: u64, q: Rect, value: bool) -> Edi
         return changes::edit::set(words, h, limit, Logical(a), Logical(b), value);
     }
     if !fits(words, h, limit, q, value) {
-        return Edit::Full;
+        return None;
     }
     let k = passes(words, h, limit, q, value);
     if value {
-        return Edit::Changed(k, changes::edit::gained(h.root, h.ones, k.root, k.ones));
+        return Some(Edit {
+            world: k,
+            changed: changes::edit::gained(h.root, h.ones, k.root, k.ones),
+        });
     }
-    Edit::Changed(k, changes::edit::gained(k.root, k.ones, h.root, h.ones))
+    Some(Edit {
+        world: k,
+        changed: changes::edit::gained(k.root, k.ones, h.root, h.ones),
+    })
 }

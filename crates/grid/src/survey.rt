@@ -8,7 +8,7 @@ ghost use Rattle.model.specs.Grid.{cell, one_valued, piece, survey};
 ghost use Rattle.grid.specs.Surveys.{OnGrid, Listed, Roomy, Square, Half, half, RowAfter, Surveyed};
 
 use crate::ROW;
-use model::{Edge, Logical};
+use model::Logical;
 use store::World;
 
 // 2^i rows or columns.
@@ -42,8 +42,8 @@ fn one_valued(words: &[u64], h: World, row: u64, column: u64, rows: u64, columns
         let at = r * ROW + column;
         let n = reports::logical::next(words, h, Logical(at), !value);
         match n {
-            Edge::Nowhere => return true,
-            Edge::At(y) => {
+            None => return true,
+            Some(y) => {
                 if y < at + columns {
                     return false;
                 }

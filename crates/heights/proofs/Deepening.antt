@@ -1,5 +1,8 @@
 -- Runs set one by one into an empty world: each adds at most one run to its tree. Those of the shortest list for a height touch none of those
 -- before them, so each is put into the tree, and none is refused. Assumes nothing.
+use Rattle.changes.specs.Edits.{changed_to}
+use Rattle.std.specs.Prelude.{Option, None, Some}
+use Rattle.changes.specs.declared.edit.Edit.{Edit}
 use Prim.Native.Nat.{ℕ, suc, ◌+◌, ◌-◌, ◌*◌, ◌≤◌, ◌<◌}
 use mathlib.Core.Path.{◌≡◌, refl, sym, ap, ap₂, ◌∙◌, subst}
 use mathlib.Core.Bool.{true}
@@ -29,8 +32,6 @@ use Rattle.store.proofs.Emptying.{rootless-empty, empty-stretches}
 use Rattle.store.proofs.Reached.{kept-tree}
 use Rattle.store.proofs.Settling.{became-limited}
 use Rattle.store.proofs.Heights.{unturned-runs, standing-lower}
-use Rattle.changes.specs.declared.edit.Edit.{Edit}
-use Rattle.changes.specs.declared.edit.Fit.{Fit}
 use Rattle.changes.specs.Edits.{Edited, GrowsBy}
 use Rattle.heights.specs.Planting.{Pairs, MayPlant, tree_of, Grown, Shortest}
 use Rattle.changes.proofs.Lists.{append-one}
@@ -73,7 +74,7 @@ module _ {w₀ w : List ℕ} {s : Share} {k : World} {limit i : ℕ} (g : Growin
   growing-runs = omega (arith, unturned-runs g.limited.standing g.no-offset, g.few)
 
   -- after the last one: what is promised of any list
-  pub growing-all : {n : ℕ} → i ≡ n → Grown w₀ w s limit n (Fit.Done k)
+  pub growing-all : {n : ℕ} → i ≡ n → Grown w₀ w s limit n (Some k)
   growing-all e =
       (g.limited, omega (arith, growing-runs), λ d less. standing-lower g.limited.standing d (omega (arith, growing-runs)), g.still)
 
@@ -82,15 +83,15 @@ module _ {w₀ w : List ℕ} {s : Share} {k : World} {limit i : ℕ} (g : Growin
     pub next-few : stretches (set_range a (suc b - a) true (held_in w k)) ≤ i + 1
     next-few = omega (arith, set-one-more (held_in w k) a (suc b - a) true (omega arith) (omega arith), g.few)
 
-    module _ (w' : List ℕ) (e : Edit) (ed : Edited w w' k limit (set_range a (suc b - a) true (held_in w k)) e) where
+    module _ (w' : List ℕ) (e : Option Edit) (ed : Edited w w' k limit (set_range a (suc b - a) true (held_in w k)) e) where
       -- where it was refused, others stand still
-      pub next-refused : e ≡ Edit.Full → Still w₀ w' s
+      pub next-refused : e ≡ None → Still w₀ w' s
       next-refused q =
           let f = subst (Edited w w' k limit (set_range a (suc b - a) true (held_in w k))) q ed in
           subst (λ (v : List ℕ). Still w₀ v s) (sym f.1) g.still
 
       -- else the world has it
-      pub growing-more : GrowsBy w w' k a b true e → (k' : World) (c : Count) → e ≡ Edit.Changed k' c → Growing w₀ w' s limit (i + 1) k'
+      pub growing-more : GrowsBy w w' k a b true e → (k' : World) (c : Count) → e ≡ changed_to k' c → Growing w₀ w' s limit (i + 1) k'
       growing-more gr k' c q = record {
         limited = became-limited g.limited made told.0;
         few = omega (arith, next-few, stretches-cong (held_in w' k') (set_range a (suc b - a) true (held_in w k)) made.shows.holds);
@@ -99,7 +100,7 @@ module _ {w₀ w : List ℕ} {s : Share} {k : World} {limit i : ℕ} (g : Growin
       }
         where
           -- what the call tells, of the world that it gives back
-          told : Edited w w' k limit (set_range a (suc b - a) true (held_in w k)) (Edit.Changed k' c)
+          told : Edited w w' k limit (set_range a (suc b - a) true (held_in w k)) (changed_to k' c)
           told = subst (Edited w w' k limit (set_range a (suc b - a) true (held_in w k))) q ed
 
           -- what it made of the world
@@ -148,15 +149,15 @@ module _ {w₀ w : List ℕ} {s : Share} {k : World} {limit n d i : ℕ} {ls : L
         rw (start-read, end_read)
         (sown-untouched next.0.start next.0.«end» leaf g.xs (tree_of w k) (deepest-apart d g.xs next.0 next.1 next-is) tt g.sown)
 
-    module _ (w' : List ℕ) (e : Edit) (ed : Edited w w' k limit (set_range a (suc b - a) true (held_in w k)) e) where
+    module _ (w' : List ℕ) (e : Option Edit) (ed : Edited w w' k limit (set_range a (suc b - a) true (held_in w k)) e) where
       -- so it is not refused
-      pub next_fits : e ≡ Edit.Full → ⊥
+      pub next_fits : e ≡ None → ⊥
       next_fits q =
           let f = subst (Edited w w' k limit (set_range a (suc b - a) true (held_in w k))) q ed in
           omega (arith, f.0, next-few o a b ordered below, m.room)
 
       -- but put into the tree
-      pub deepening-more : GrowsBy w w' k a b true e → (k' : World) (c : Count) → e ≡ Edit.Changed k' c → Deepening w' d (i + 1) k'
+      pub deepening-more : GrowsBy w w' k a b true e → (k' : World) (c : Count) → e ≡ changed_to k' c → Deepening w' d (i + 1) k'
       deepening-more gr k' c q = record {
         xs = g.xs ++ (next.0 ∷ []);
         ys = next.1;

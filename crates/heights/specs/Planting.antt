@@ -1,4 +1,5 @@
 -- What setting runs one by one into an empty world asks and promises: how high its tree is then. Assumes nothing: these are definitions.
+use Rattle.std.specs.Prelude.{Option, None, Some}
 use Rattle.std.specs.Prelude.{ℕ, ◌+◌, ◌*◌, ◌≤◌, ◌<◌, ◌≡◌, List, ◌∷◌, ◌++◌, length, get_or}
 use Rattle.model.specs.declared.Run.{Run}
 use Rattle.model.specs.Numbers.{size}
@@ -7,7 +8,6 @@ use Rattle.run_index.specs.Tree.{Tree, height, runs}
 use Rattle.store.specs.declared.World.{World}
 use Rattle.store.specs.Layout.{tree_from, highest}
 use Rattle.store.specs.Soundness.{Share, Still, Limited}
-use Rattle.changes.specs.declared.edit.Fit.{Fit}
 
 -- the first n pairs of the words are runs: a start, and an end that is not below it
 abbrev pub Pairs : List ℕ → ℕ → Type 0
@@ -29,9 +29,9 @@ abbrev pub tree_of : List ℕ → World → Tree
 tree_of w k = tree_from highest w k.root
 
 -- whatever the n runs were: the tree has no more of them, and with fewer than the shortest list for a height has it is not that high
-abbrev pub Grown : List ℕ → List ℕ → Share → ℕ → ℕ → Fit → Type 0
-Grown w w' s limit n Fit.Full = Still w w' s
-Grown w w' s limit n (Fit.Done k) =
+abbrev pub Grown : List ℕ → List ℕ → Share → ℕ → ℕ → Option World → Type 0
+Grown w w' s limit n None = Still w w' s
+Grown w w' s limit n (Some k) =
     Limited w' s k limit × (runs (tree_of w' k) ≤ n) × ((d : ℕ) → n < least d → height (tree_of w' k) < d) × Still w w' s
 
 -- the words are the starts and ends of the runs, in turn
@@ -47,11 +47,11 @@ pub record Shortest (limit n d : ℕ) (ls : List ℕ) : Type 0 where
   pub spelled : Spells ls (deepest_runs d)
 
 -- then none is refused, and the tree is just that high
-abbrev pub Deepened : List ℕ → ℕ → Fit → Type 0
-Deepened w' d Fit.Full = ⊥
-Deepened w' d (Fit.Done k) = height (tree_of w' k) ≡ d
+abbrev pub Deepened : List ℕ → ℕ → Option World → Type 0
+Deepened w' d None = ⊥
+Deepened w' d (Some k) = height (tree_of w' k) ≡ d
 
 -- THE PROMISE: no list of fewer runs makes a tree as high as d, and that list makes it
-abbrev pub Plants : List ℕ → List ℕ → World → ℕ → ℕ → List ℕ → Fit → Type 0
+abbrev pub Plants : List ℕ → List ℕ → World → ℕ → ℕ → List ℕ → Option World → Type 0
 Plants w w' h limit n ls r =
     (s : Share) → MayPlant w s h limit n ls → Grown w w' s limit n r × ((d : ℕ) → Shortest limit n d ls → Deepened w' d r)

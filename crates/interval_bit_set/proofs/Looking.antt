@@ -1,9 +1,10 @@
 -- Looking at the pools and worlds that a call names: what the model's conditions of them then refuse. The first refusal of several worlds is the
 -- earliest of what each earns, as 1, 7 and 12 are in the order of their numbers. What they refuse, a call is refused by. Assumes nothing.
+use Rattle.std.specs.Prelude.{Option, None, Some, Ok, Err}
+use Rattle.model.specs.Answers.{OrRefusal}
 use Rattle.std.specs.Prelude.{◌≡◌, ℕ, zero, suc, ◌<◌, ◌≤◌, Bool, true, false, cond, not, ◌||◌, eqb, List, [], ◌∷◌, ◌++◌}
 use mathlib.Core.Path.{refl, sym, ap, ap₂, ◌∙◌}
 use mathlib.Core.Logic.{inl, inr}
-use mathlib.Core.Option.{Option, none, some}
 use native.Mathlib.Omega.{arith}
 use borrow.Author.Tests.{eqb-false, eq-eqb, ne_eqb}
 use Rattle.model.specs.declared.Refusal.{Refusal}
@@ -34,7 +35,6 @@ use Rattle.store.specs.Layout.{capacity, opened_at, worlds_of}
 use Rattle.store.specs.Soundness.{Sound}
 use Rattle.soundness.specs.Decision.{sound_b}
 use Rattle.soundness.proofs.Whole.{sound_b-yes}
-use Rattle.interval_bit_set.specs.declared.look.Look.{Look}
 use Rattle.promises.specs.Met.{Site, pool_reads, fed_of, full_at, Readable, Met}
 use Rattle.promises.proofs.Refusing.{looked-first, reads_first}
 use Rattle.promises.proofs.Meeting.{fed-unopened, readable, Reports, refused-both}
@@ -42,7 +42,7 @@ use Rattle.promises.proofs.Changing.{Changes, refused-due}
 use Rattle.interval_bit_set.specs.Look.{look_number, earliest, LookedPool, Looked, LookedTwo, LookedThree}
 
 -- no number is none
-some-not : {n : ℕ} → some n ≡ none → ⊥
+some-not : {n : ℕ} → Some n ≡ None → ⊥
 some-not e = let z : ◌≡◌ {A = ℕ} 0 1 = cc in omega arith
 
 -- a number that is not 0
@@ -53,7 +53,7 @@ positive (suc n) ne = omega arith
 -- ---- a pool
 module _ (w : List ℕ) where
   -- words of no pool's length
-  pub pool-short : capacity w ≡ 0 → LookedPool w (Look.Refused StoreLength)
+  pub pool-short : capacity w ≡ 0 → LookedPool w (Err StoreLength)
   pool-short e = sym (ap (λ z. first_given looks (store_length when z ∷ store_unsound when not (sound_b w) ∷ [])) (eq-eqb (capacity w) 0 e))
 
   -- others, by the test of soundness
@@ -61,42 +61,42 @@ module _ (w : List ℕ) where
   pool-by t h e =
       ap₂ (λ z s. first_given looks (store_length when z ∷ store_unsound when not s ∷ [])) (ne_eqb (capacity w) 0 (λ z. omega arith)) e
 
-  pub pool-unsound : 1 ≤ capacity w → sound_b w ≡ false → LookedPool w (Look.Refused Unsound)
+  pub pool-unsound : 1 ≤ capacity w → sound_b w ≡ false → LookedPool w (Err Unsound)
   pool-unsound h e = sym (pool-by false h e)
 
-  pub pool-sound : 1 ≤ capacity w → sound_b w ≡ true → LookedPool w Look.Sound
+  pub pool-sound : 1 ≤ capacity w → sound_b w ≡ true → LookedPool w (Ok tt)
   pool-sound h e = sym (pool-by true h e)
 
   -- where nothing is refused the pool is sound
-  pub pool-told : first_given looks (pool_reads w) ≡ none → Sound w
+  pub pool-told : first_given looks (pool_reads w) ≡ None → Sound w
   pool-told e = go (eqb (capacity w) 0) (sound_b w) refl refl e
     where
-      go : (z t : Bool) → eqb (capacity w) 0 ≡ z → sound_b w ≡ t → first_given looks (store_length when z ∷ store_unsound when not t ∷ []) ≡ none → Sound w
+      go : (z t : Bool) → eqb (capacity w) 0 ≡ z → sound_b w ≡ t → first_given looks (store_length when z ∷ store_unsound when not t ∷ []) ≡ None → Sound w
       go true t p q f = absurd (some-not f)
       go false false p q f = absurd (some-not f)
       go false true p q f = sound_b-yes w (positive (capacity w) (eqb-false (capacity w) 0 p)) q
 
   module _ (i : ℕ) where
     -- what the pool earns, each of its worlds does
-    pub pool-first : {n : ℕ} → first_given looks (pool_reads w) ≡ some n → first_given looks (reads (fed_of w i)) ≡ some n
+    pub pool-first : {n : ℕ} → first_given looks (pool_reads w) ≡ Some n → first_given looks (reads (fed_of w i)) ≡ Some n
     unfolding fed_of
     pool-first {n} e = go (eqb (capacity w) 0) (sound_b w) e
       where
-        go : (z t : Bool) → first_given looks (store_length when z ∷ store_unsound when not t ∷ []) ≡ some n
-            → first_given looks (reads (cond z wrong_length (cond t (fed_by (world_of (worlds_of w) i)) unsound))) ≡ some n
+        go : (z t : Bool) → first_given looks (store_length when z ∷ store_unsound when not t ∷ []) ≡ Some n
+            → first_given looks (reads (cond z wrong_length (cond t (fed_by (world_of (worlds_of w) i)) unsound))) ≡ Some n
         go true t f = f
         go false false f = f
         go false true f = absurd (some-not (sym f))
 
     -- beside that, only whether the world was opened
-    pub world-unopened : Sound w → opened_at w ≤ i → Looked w i (Look.Refused WorldUnopened)
+    pub world-unopened : Sound w → opened_at w ≤ i → Looked w i (Err WorldUnopened)
     world-unopened S h = sym (ap (λ f. first_given looks (reads f)) (fed-unopened w i S h))
 
-    pub world-sound : Sound w → i < opened_at w → Looked w i Look.Sound
+    pub world-sound : Sound w → i < opened_at w → Looked w i (Ok tt)
     world-sound S h = sym (ap (λ f. first_given looks (reads f)) (readable (record { sound = S; named = h })).fed)
 
     -- where nothing is refused the world is readable
-    world-told : first_given looks (reads (fed_of w i)) ≡ none → Readable w i
+    world-told : first_given looks (reads (fed_of w i)) ≡ None → Readable w i
     world-told e = go (first_given looks (pool_reads w)) refl
       where
         open_told : Sound w → Readable w i
@@ -106,26 +106,26 @@ module _ (w : List ℕ) where
         ]
 
         go : (o : Option ℕ) → first_given looks (pool_reads w) ≡ o → Readable w i
-        go none f = open_told (pool-told f)
-        go (some n) f = absurd (some-not (sym (pool-first f) ∙ e))
+        go None f = open_told (pool-told f)
+        go (Some n) f = absurd (some-not (sym (pool-first f) ∙ e))
 
 -- what looking told, by what it answered
-pub pool-refused : (w : List ℕ) {r : Refusal} (l : Look) → LookedPool w l → l ≡ Look.Refused r → first_given looks (pool_reads w) ≡ some (refusal_number r)
+pub pool-refused : (w : List ℕ) {r : Refusal} (l : OrRefusal Unit) → LookedPool w l → l ≡ Err r → first_given looks (pool_reads w) ≡ Some (refusal_number r)
 pool-refused w l k e = sym k ∙ ap look_number e
 
-pub pool-readable : {w : List ℕ} (l : Look) → LookedPool w l → l ≡ Look.Sound → Sound w
+pub pool-readable : {w : List ℕ} (l : OrRefusal Unit) → LookedPool w l → l ≡ (Ok tt) → Sound w
 pool-readable {w} l k e = pool-told w (sym k ∙ ap look_number e)
 
-pub looked-refused : (w : List ℕ) (i : ℕ) {r : Refusal} (l : Look) → Looked w i l → l ≡ Look.Refused r → first_given looks (reads (fed_of w i)) ≡ some (refusal_number r)
+pub looked-refused : (w : List ℕ) (i : ℕ) {r : Refusal} (l : OrRefusal Unit) → Looked w i l → l ≡ Err r → first_given looks (reads (fed_of w i)) ≡ Some (refusal_number r)
 looked-refused w i l k e = sym k ∙ ap look_number e
 
-pub looked-sound : {w : List ℕ} {i : ℕ} (l : Look) → Looked w i l → l ≡ Look.Sound → Readable w i
+pub looked-sound : {w : List ℕ} {i : ℕ} (l : OrRefusal Unit) → Looked w i l → l ≡ (Ok tt) → Readable w i
 looked-sound {w} {i} l k e = world-told w i (sym k ∙ ap look_number e)
 
 -- ---- several worlds
 -- the refusal of a look, by whether each of its causes is given
 abbrev look_of : Bool → Bool → Bool → Bool → Option ℕ
-look_of x l y z = cond x (some 1) (cond l (some 11) (cond y (some 7) (cond z (some 12) none)))
+look_of x l y z = cond x (Some 1) (cond l (Some 11) (cond y (Some 7) (cond z (Some 12) None)))
 
 -- one world more: the earliest of what it and the others earn
 one_more : (f : Fed) (x y z : Bool) → look_of (earns_length f || x) false (earns_unsound f || y) (earns_unopened f || z) ≡ earliest (first_given looks (reads f)) (look_of x false y z)
@@ -153,28 +153,29 @@ earliest-reads f cs e =
     ∙ ap (λ l. earliest (first_given looks (reads f)) (look_of x l y z)) (sym e)
 
 -- where the earliest is none, there is none
-earliest-none : (o p : Option ℕ) → earliest o p ≡ none → (o ≡ none) × (p ≡ none)
-earliest-none none p e = (refl, e)
-earliest-none (some m) none e = absurd (some-not e)
-earliest-none (some m) (some n) e = absurd (some-not e)
+earliest-none : (o p : Option ℕ) → earliest o p ≡ None → (o ≡ None) × (p ≡ None)
+earliest-none None p e = (refl, e)
+earliest-none (Some m) None e = absurd (some-not e)
+earliest-none (Some m) (Some n) e = absurd (some-not e)
 
 -- what two looks tell together
-pub two-told : (v : List ℕ) (i : ℕ) (w : List ℕ) (j : ℕ) (x y r : Look) → Looked v i x → Looked w j y → look_number r ≡ earliest (look_number x) (look_number y) → LookedTwo v i w j r
+pub two-told : (v : List ℕ) (i : ℕ) (w : List ℕ) (j : ℕ) (x y r : OrRefusal Unit) → Looked v i x → Looked w j y → look_number r ≡ earliest (look_number x) (look_number y) → LookedTwo v i w j r
 two-told v i w j x y r k l e = e ∙ ap₂ earliest k l ∙ sym (earliest-reads (fed_of v i) (reads (fed_of w j)) refl)
 
-pub three-told : (u : List ℕ) (i : ℕ) (v : List ℕ) (j : ℕ) (w : List ℕ) (k : ℕ) (x y r : Look) → Looked u i x → LookedTwo v j w k y → look_number r ≡ earliest (look_number x) (look_number y) → LookedThree u i v j w k r
+pub three-told : (u : List ℕ) (i : ℕ) (v : List ℕ) (j : ℕ) (w : List ℕ) (k : ℕ) (x y r : OrRefusal Unit) → Looked u i x → LookedTwo v j w k y
+    → look_number r ≡ earliest (look_number x) (look_number y) → LookedThree u i v j w k r
 three-told u i v j w k x y r p q e = e ∙ ap₂ earliest p q ∙ sym (earliest-reads (fed_of u i) (reads (fed_of v j) ++ reads (fed_of w k)) refl)
 
 -- where nothing is refused all are readable
-two_none : (v : List ℕ) (i : ℕ) (w : List ℕ) (j : ℕ) → first_given looks (reads (fed_of v i) ++ reads (fed_of w j)) ≡ none → Readable v i × Readable w j
+two_none : (v : List ℕ) (i : ℕ) (w : List ℕ) (j : ℕ) → first_given looks (reads (fed_of v i) ++ reads (fed_of w j)) ≡ None → Readable v i × Readable w j
 two_none v i w j e =
     let n = earliest-none (first_given looks (reads (fed_of v i))) (first_given looks (reads (fed_of w j))) (sym (earliest-reads (fed_of v i) (reads (fed_of w j)) refl) ∙ e) in
     (world-told v i n.0, world-told w j n.1)
 
-pub two-readable : {v w : List ℕ} {i j : ℕ} (l : Look) → LookedTwo v i w j l → l ≡ Look.Sound → Readable v i × Readable w j
+pub two-readable : {v w : List ℕ} {i j : ℕ} (l : OrRefusal Unit) → LookedTwo v i w j l → l ≡ (Ok tt) → Readable v i × Readable w j
 two-readable {v} {w} {i} {j} l k e = two_none v i w j (sym k ∙ ap look_number e)
 
-pub three-readable : {u v w : List ℕ} {i j k : ℕ} (l : Look) → LookedThree u i v j w k l → l ≡ Look.Sound → Readable u i × Readable v j × Readable w k
+pub three-readable : {u v w : List ℕ} {i j k : ℕ} (l : OrRefusal Unit) → LookedThree u i v j w k l → l ≡ (Ok tt) → Readable u i × Readable v j × Readable w k
 three-readable {u} {v} {w} {i} {j} {k} l p e =
     let rest : List Condition = reads (fed_of v j) ++ reads (fed_of w k) in
     let n = earliest-none (first_given looks (reads (fed_of u i))) (first_given looks rest) (sym (earliest-reads (fed_of u i) rest refl) ∙ (sym p ∙ ap look_number e)) in
@@ -183,17 +184,17 @@ three-readable {u} {v} {w} {i} {j} {k} l p e =
 
 -- ---- the calls
 -- a call that reports is refused by what looking told
-pub turned-away : {w : List ℕ} {i : ℕ} {c : Call Site} {cs : List Condition} {A : Positions → Result} {r : Refusal} → Reports w i c cs A → (l : Look) → Looked w i l
-    → l ≡ Look.Refused r → first_given looks cs ≡ none → Met w i c (refused (refusal_number r)) w
+pub turned-away : {w : List ℕ} {i : ℕ} {c : Call Site} {cs : List Condition} {A : Positions → Result} {r : Refusal} → Reports w i c cs A → (l : OrRefusal Unit) → Looked w i l
+    → l ≡ Err r → first_given looks cs ≡ None → Met w i c (refused (refusal_number r)) w
 turned-away {w} {i} {cs = cs} says l k e quiet = refused-both says (reads_first (fed_of w i) cs quiet (looked-refused w i l k e))
 
 -- so is one that changes its world
-pub sent-away : {w : List ℕ} {i : ℕ} {c : Call Site} {cs : List Condition} {Q : Positions → Positions} {A : Positions → Result} {r : Refusal} → Changes w i c cs Q A → (l : Look)
-    → Looked w i l → l ≡ Look.Refused r → first_given looks cs ≡ none → Met w i c (refused (refusal_number r)) w
+pub sent-away : {w : List ℕ} {i : ℕ} {c : Call Site} {cs : List Condition} {Q : Positions → Positions} {A : Positions → Result} {r : Refusal} → Changes w i c cs Q A → (l : OrRefusal Unit)
+    → Looked w i l → l ≡ Err r → first_given looks cs ≡ None → Met w i c (refused (refusal_number r)) w
 sent-away {w} {i} {cs = cs} {Q} says l k e quiet =
     refused-due says (reads_first (fed_of w i) (Refusals.capacity when too_many (full_at w i) (Q (positions_of (fed_of w i))) ∷ cs) quiet (looked-refused w i l k e)) refl
 
-module _ {w : List ℕ} {i : ℕ} (v : List ℕ) (j : ℕ) {c : Call Site} {r : Refusal} (l : Look) (k : LookedTwo w i v j l) (e : l ≡ Look.Refused r) where
+module _ {w : List ℕ} {i : ℕ} (v : List ℕ) (j : ℕ) {c : Call Site} {r : Refusal} (l : OrRefusal Unit) (k : LookedTwo w i v j l) (e : l ≡ Err r) where
   -- one that reports of two worlds
   pub both-turned : {A : Positions → Result} → Reports w i c (reads (fed_of v j)) A → Met w i c (refused (refusal_number r)) w
   both-turned says = refused-both says (looked-first (reads (fed_of w i) ++ reads (fed_of v j)) (sym k ∙ ap look_number e))
@@ -205,7 +206,7 @@ module _ {w : List ℕ} {i : ℕ} (v : List ℕ) (j : ℕ) {c : Call Site} {r : 
 
 -- one that makes a world of two
 pub all-sent : {w : List ℕ} {i : ℕ} (u : List ℕ) (j : ℕ) (v : List ℕ) (k : ℕ) {c : Call Site} {Q : Positions → Positions} {A : Positions → Result} {r : Refusal}
-    → Changes w i c (reads (fed_of u j) ++ reads (fed_of v k)) Q A → (l : Look) → LookedThree w i u j v k l → l ≡ Look.Refused r → Met w i c (refused (refusal_number r)) w
+    → Changes w i c (reads (fed_of u j) ++ reads (fed_of v k)) Q A → (l : OrRefusal Unit) → LookedThree w i u j v k l → l ≡ Err r → Met w i c (refused (refusal_number r)) w
 all-sent {w} {i} u j v k {Q = Q} says l p e =
     refused-due says (looked-first (reads (fed_of w i) ++ Refusals.capacity when too_many (full_at w i) (Q (positions_of (fed_of w i))) ∷ (reads (fed_of u j) ++ reads (fed_of v k)))
     (sym p ∙ ap look_number e)) refl

@@ -1,4 +1,3 @@
 pub mod Look
 pub mod Lent
 pub mod Out
-pub mod RunSlice

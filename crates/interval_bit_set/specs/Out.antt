@@ -1,9 +1,8 @@
 -- What calls that write into a lent slice hand back. Assumes nothing: these are definitions.
+use Rattle.std.specs.Prelude.{Ok, Err}
+use Rattle.model.specs.Answers.{OrRefusal}
 use Rattle.std.specs.Prelude.{ℕ, List, [], take}
-use Rattle.model.specs.declared.Written.{Written}
-use Rattle.model.specs.Numbers.{refusal_number}
 use Rattle.model.specs.Call.{Result, done, number, tallied, value, around, position, listing, drawn, written, mended, Answer, refused, gave}
-use Rattle.interval_bit_set.specs.declared.write.Flat.{Flat}
 
 -- what f makes of the bytes that a result wrote: how many they are, and the whole slice. Any other result gives d
 abbrev pub on_written : {T : Type 0} → T → (ℕ → List ℕ → T) → Result → T
@@ -39,7 +38,3 @@ code_of (gave r) = 0
 abbrev pub front_of : Answer → List ℕ
 front_of (refused n) = []
 front_of (gave r) = on_written [] take r
-
-abbrev pub flat_of : Written → Flat
-flat_of (Written.Refused r) = record { refusal = refusal_number r; bytes = 0 }
-flat_of (Written.Front n) = record { refusal = 0; bytes = n }

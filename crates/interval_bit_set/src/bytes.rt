@@ -9,18 +9,15 @@ ghost use Rattle.promises.specs.Met.{Met};
 ghost use Rattle.promises.specs.Out.{Mends};
 ghost use Rattle.promises.specs.Handles.{Handles};
 
-use crate::look::Look;
-use model::{Completed, Counted, Mended, Numbered, Written};
+use model::{Count, Mended, Refusal};
+use written::runs::Words;
 
 // Gives a world the set that bytes tell, whatever it held.
-pub fn load(words: &mut [u64], world: u64, bytes: &[u8]) -> Completed
+pub fn load(words: &mut [u64], world: u64, bytes: &[u8]) -> Result<(), Refusal>
     ensures { Met words.old world (Call.load bytes.now) (completed_answer result) words.new }
 {
-    let l = crate::look::look_at(words, world);
-    match l {
-        Look::Refused(r) => Completed::Refused(r),
-        Look::Sound => sets::bytes::load(words, world, bytes),
-    }
+    crate::look::look_at(words, world)?;
+    sets::bytes::load(words, world, bytes)
 }
 
 // Gives a world the union of the runs that bytes tell, in whatever order they stand, touching and overlapping; writes it as a set into the front of
@@ -31,70 +28,59 @@ pub fn mend(
     bytes: &[u8],
     out: &mut [u8],
     report: &mut [u8],
-) -> Mended
+) -> Result<Mended, Refusal>
     ensures { Mends words.old world bytes.now out.old report.old result
         words.new out.new report.new }
 {
-    let l = crate::look::look_at(words, world);
-    match l {
-        Look::Refused(r) => Mended::Refused(r),
-        Look::Sound => sets::mend::mend(words, world, bytes, out, report),
-    }
+    crate::look::look_at(words, world)?;
+    sets::mend::mend(words, world, bytes, out, report)
 }
 
 // Gives a world the set of a run list, given as words: start and end of each run, in turn. A last word without its end is no run.
-pub fn from_sorted_words(words: &mut [u64], world: u64, runs: &[u64]) -> Completed
+pub fn from_sorted_words(words: &mut [u64], world: u64, runs: &[u64]) -> Result<(), Refusal>
     ensures { Met words.old world (Call.build (pairs (length runs.now / 2) runs.now)) (completed_answer result) words.new }
 {
-    let l = crate::look::look_at(words, world);
-    match l {
-        Look::Refused(r) => Completed::Refused(r),
-        Look::Sound => sets::bytes::from_sorted_words(words, world, runs),
-    }
+    crate::look::look_at(words, world)?;
+    sets::bytes::build(words, world, Words(runs))
 }
 
-// Sets a window from a map, a word at a time or, where `wide` is false, by single bytes; leaves the other positions, and returns how many
-// changed.
-fn read_map_as(
+// Sets a window from a map, leaves the other positions, and returns how many changed. Eight bytes of the map are read as a word.
+pub fn read_map(
     words: &mut [u64],
     world: u64,
     base: u64,
     n: u64,
     bytes: &[u8],
-    wide: bool,
-) -> Counted
+) -> Result<Count, Refusal>
     ensures { Met words.old world (Call.read_map base n bytes.now) (counted_answer result) words.new }
 {
-    let l = crate::look::look_at(words, world);
-    match l {
-        Look::Refused(r) => Counted::Refused(r),
-        Look::Sound => sets::bytes::read_map(words, world, base, n, bytes, wide),
-    }
-}
-
-// Sets a window from a map, leaves the other positions, and returns how many changed. Eight bytes of the map are read as a word.
-pub fn read_map(words: &mut [u64], world: u64, base: u64, n: u64, bytes: &[u8]) -> Counted
-    ensures { Met words.old world (Call.read_map base n bytes.now) (counted_answer result) words.new }
-{
-    read_map_as(words, world, base, n, bytes, true)
+    crate::look::look_at(words, world)?;
+    sets::bytes::read_map::<true>(words, world, base, n, bytes)
 }
 
 // The same by single bytes: the plain form, which the other is proved to agree with.
-pub fn read_map_by_bytes(words: &mut [u64], world: u64, base: u64, n: u64, bytes: &[u8]) -> Counted
+pub fn read_map_by_bytes(
+    words: &mut [u64],
+    world: u64,
+    base: u64,
+    n: u64,
+    bytes: &[u8],
+) -> Result<Count, Refusal>
     ensures { Met words.old world (Call.read_map base n bytes.now) (counted_answer result) words.new }
 {
-    read_map_as(words, world, base, n, bytes, false)
+    crate::look::look_at(words, world)?;
+    sets::bytes::read_map::<false>(words, world, base, n, bytes)
 }
 
 // Zeroes the spare bits of a window's map, and returns how many were one. It takes no pool, so there is none to look at.
-pub fn clear_map(base: u64, n: u64, map: &mut [u8]) -> Numbered
+pub fn clear_map(base: u64, n: u64, map: &mut [u8]) -> Result<u64, Refusal>
     ensures { Handles (clear_map base n map.old) (numbered_answer result) map.new }
 {
     sets::clear::clear_map(base, n, map)
 }
 
 // Turns a written set of either edition into the other, and tells how many bytes it has. It takes no pool.
-pub fn convert(bytes: &[u8], out: &mut [u8]) -> Written
+pub fn convert(bytes: &[u8], out: &mut [u8]) -> Result<usize, Refusal>
     ensures { Handles (convert bytes.now out.old) (written_answer result out.new) out.new }
 {
     sets::convert::convert(bytes, out)

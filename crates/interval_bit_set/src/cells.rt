@@ -4,38 +4,35 @@ ghost use Rattle.promises.specs.Out.{WritesOut};
 ghost use Rattle.model.specs.Answers.{counted_answer, numbered_answer};
 ghost use Rattle.model.specs.Call.{Call};
 
-use crate::look::Look;
-use model::{Counted, Numbered, Rect, Written};
+use model::{Count, Rect, Refusal};
 
 // Gives the cells of a rectangle the value, and tells how many changed.
-pub fn set_rect(words: &mut [u64], world: u64, q: Rect, value: bool) -> Counted
+pub fn set_rect(words: &mut [u64], world: u64, q: Rect, value: bool) -> Result<Count, Refusal>
     ensures { Met words.old world (Call.set_rect q value) (counted_answer result) words.new }
 {
-    let l = crate::look::look_at(words, world);
-    match l {
-        Look::Refused(r) => Counted::Refused(r),
-        Look::Sound => ranges::cells::set_rect(words, world, q, value),
-    }
+    crate::look::look_at(words, world)?;
+    ranges::cells::set_rect(words, world, q, value)
 }
 
 // How many cells of a rectangle are held.
-pub fn count_rect(words: &[u64], world: u64, q: Rect) -> Numbered
+pub fn count_rect(words: &[u64], world: u64, q: Rect) -> Result<u64, Refusal>
     ensures { Met words.now world (Call.count_rect q) (numbered_answer result) words.now }
 {
-    let l = crate::look::look_at(words, world);
-    match l {
-        Look::Refused(r) => Numbered::Refused(r),
-        Look::Sound => ranges::cells::count_rect(words, world, q),
-    }
+    crate::look::look_at(words, world)?;
+    ranges::cells::count_rect(words, world, q)
 }
 
 // Writes the pieces of a square of side 2^k, five words each, and tells how many words they are.
-pub fn survey(words: &[u64], world: u64, row: u64, column: u64, k: u64, out: &mut [u64]) -> Written
+pub fn survey(
+    words: &[u64],
+    world: u64,
+    row: u64,
+    column: u64,
+    k: u64,
+    out: &mut [u64],
+) -> Result<usize, Refusal>
     ensures { WritesOut (Call.survey row column k) words.now world out.old result out.new }
 {
-    let l = crate::look::look_at(words, world);
-    match l {
-        Look::Refused(r) => Written::Refused(r),
-        Look::Sound => ranges::cells::survey(words, world, row, column, k, out),
-    }
+    crate::look::look_at(words, world)?;
+    ranges::cells::survey(words, world, row, column, k, out)
 }

@@ -3,60 +3,56 @@ ghost use Rattle.promises.specs.Met.{Met};
 ghost use Rattle.model.specs.Answers.{completed_answer, counted_answer};
 ghost use Rattle.model.specs.Call.{Call};
 
-use crate::look::Look;
-use model::{Bound, Completed, Counted};
+use model::{Bound, Count, Refusal};
 
 // Gives a range the value, and tells how many positions changed.
-pub fn set(words: &mut [u64], world: u64, lower: Bound, upper: Bound, value: bool) -> Counted
+pub fn set(
+    words: &mut [u64],
+    world: u64,
+    lower: Bound,
+    upper: Bound,
+    value: bool,
+) -> Result<Count, Refusal>
     ensures { Met words.old world (Call.set lower upper value) (counted_answer result) words.new }
 {
-    let l = crate::look::look_at(words, world);
-    match l {
-        Look::Refused(r) => Counted::Refused(r),
-        Look::Sound => ranges::change::set(words, world, lower, upper, value),
-    }
+    crate::look::look_at(words, world)?;
+    ranges::change::set(words, world, lower, upper, value)
 }
 
 // Inverts a range.
-pub fn flip(words: &mut [u64], world: u64, lower: Bound, upper: Bound) -> Completed
+pub fn flip(words: &mut [u64], world: u64, lower: Bound, upper: Bound) -> Result<(), Refusal>
     ensures { Met words.old world (Call.flip lower upper) (completed_answer result) words.new }
 {
-    let l = crate::look::look_at(words, world);
-    match l {
-        Look::Refused(r) => Completed::Refused(r),
-        Look::Sound => ranges::change::flip(words, world, lower, upper),
-    }
+    crate::look::look_at(words, world)?;
+    ranges::change::flip(words, world, lower, upper)
 }
 
 // Moves every position by the distance, up (left) or down; what leaves 0..=M is dropped.
-pub fn shift(words: &mut [u64], world: u64, distance: u64, left: bool) -> Completed
+pub fn shift(words: &mut [u64], world: u64, distance: u64, left: bool) -> Result<(), Refusal>
     ensures { Met words.old world (Call.shift distance left) (completed_answer result) words.new }
 {
-    let l = crate::look::look_at(words, world);
-    match l {
-        Look::Refused(r) => Completed::Refused(r),
-        Look::Sound => ranges::change::shift(words, world, distance, left),
-    }
+    crate::look::look_at(words, world)?;
+    ranges::change::shift(words, world, distance, left)
 }
 
 // Gives a range the value as `set` does, and refuses a reversed one.
-pub fn set_strict(words: &mut [u64], world: u64, lower: Bound, upper: Bound, value: bool) -> Counted
+pub fn set_strict(
+    words: &mut [u64],
+    world: u64,
+    lower: Bound,
+    upper: Bound,
+    value: bool,
+) -> Result<Count, Refusal>
     ensures { Met words.old world (Call.set_strict lower upper value) (counted_answer result) words.new }
 {
-    let l = crate::look::look_at(words, world);
-    match l {
-        Look::Refused(r) => Counted::Refused(r),
-        Look::Sound => ranges::change::set_strict(words, world, lower, upper, value),
-    }
+    crate::look::look_at(words, world)?;
+    ranges::change::set_strict(words, world, lower, upper, value)
 }
 
 // Inverts a range as `flip` does, and refuses a reversed one.
-pub fn flip_strict(words: &mut [u64], world: u64, lower: Bound, upper: Bound) -> Completed
+pub fn flip_strict(words: &mut [u64], world: u64, lower: Bound, upper: Bound) -> Result<(), Refusal>
     ensures { Met words.old world (Call.flip_strict lower upper) (completed_answer result) words.new }
 {
-    let l = crate::look::look_at(words, world);
-    match l {
-        Look::Refused(r) => Completed::Refused(r),
-        Look::Sound => ranges::change::flip_strict(words, world, lower, upper),
-    }
+    crate::look::look_at(words, world)?;
+    ranges::change::flip_strict(words, world, lower, upper)
 }

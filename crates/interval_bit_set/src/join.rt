@@ -4,8 +4,7 @@ ghost use Rattle.model.specs.Call.{Call};
 ghost use Rattle.model.specs.Answers.{completed_answer, tested_answer};
 ghost use Rattle.promises.specs.Met.{site, Met};
 
-use crate::look::Look;
-use model::{Completed, Operation, Tested};
+use model::{Operation, Refusal};
 
 // Joins two sets by AND, OR or XOR.
 pub fn combine(
@@ -16,25 +15,19 @@ pub fn combine(
     i: u64,
     b: &[u64],
     j: u64,
-) -> Completed
+) -> Result<(), Refusal>
     ensures { Met words.old world (Call.combine op (site a.now i) (site b.now j)) (completed_answer result) words.new }
 {
-    let l = crate::look::look_at_three(words, world, a, i, b, j);
-    match l {
-        Look::Refused(r) => Completed::Refused(r),
-        Look::Sound => sets::join::combine(words, world, op, a, i, b, j),
-    }
+    crate::look::look_at_three(words, world, a, i, b, j)?;
+    sets::join::combine(words, world, op, a, i, b, j)
 }
 
 // The complement over 0..=M: what is in just one of the set and all positions.
-pub fn not(words: &mut [u64], world: u64, a: &[u64], i: u64) -> Completed
+pub fn not(words: &mut [u64], world: u64, a: &[u64], i: u64) -> Result<(), Refusal>
     ensures { Met words.old world (Call.complement (site a.now i)) (completed_answer result) words.new }
 {
-    let l = crate::look::look_at_two(words, world, a, i);
-    match l {
-        Look::Refused(r) => Completed::Refused(r),
-        Look::Sound => sets::join::not(words, world, a, i),
-    }
+    crate::look::look_at_two(words, world, a, i)?;
+    sets::join::not(words, world, a, i)
 }
 
 // The set moved by the distance, up (left) or down: read under another offset, and what would come in from the other end cut off.
@@ -45,23 +38,17 @@ pub fn shifted(
     left: bool,
     a: &[u64],
     i: u64,
-) -> Completed
+) -> Result<(), Refusal>
     ensures { Met words.old world (Call.shifted distance left (site a.now i)) (completed_answer result) words.new }
 {
-    let l = crate::look::look_at_two(words, world, a, i);
-    match l {
-        Look::Refused(r) => Completed::Refused(r),
-        Look::Sound => sets::join::shifted(words, world, distance, left, a, i),
-    }
+    crate::look::look_at_two(words, world, a, i)?;
+    sets::join::shifted(words, world, distance, left, a, i)
 }
 
 // Whether two worlds hold the same positions: none is in just one of them.
-pub fn eq(a: &[u64], i: u64, b: &[u64], j: u64) -> Tested
+pub fn eq(a: &[u64], i: u64, b: &[u64], j: u64) -> Result<bool, Refusal>
     ensures { Met a.now i (Call.equal (site b.now j)) (tested_answer result) a.now }
 {
-    let l = crate::look::look_at_two(a, i, b, j);
-    match l {
-        Look::Refused(r) => Tested::Refused(r),
-        Look::Sound => sets::join::eq(a, i, b, j),
-    }
+    crate::look::look_at_two(a, i, b, j)?;
+    sets::join::eq(a, i, b, j)
 }

@@ -5,65 +5,44 @@ ghost use Rattle.interval_bit_set.specs.Look.{look_number, earliest, LookedPool,
 use model::Refusal;
 use store::Store;
 
-// What they earn: refusal 1, 7 or 12, or none.
-#[derive(Clone, Copy)]
-pub enum Look {
-    Refused(Refusal),
-    Sound,
-}
-
 // The earlier of two refusals. 1, 7 and 12 are in the order of their numbers.
-fn earlier(x: Look, y: Look) -> Look
+fn earlier(x: Result<(), Refusal>, y: Result<(), Refusal>) -> Result<(), Refusal>
     ensures { look_number result ≡ earliest (look_number x) (look_number y) }
 {
-    match x {
-        Look::Sound => y,
-        Look::Refused(r) => match y {
-            Look::Sound => Look::Refused(r),
-            Look::Refused(s) => {
-                if model::refusal_number(r) <= model::refusal_number(s) {
-                    Look::Refused(r)
-                } else {
-                    Look::Refused(s)
-                }
-            }
-        },
+    match (x, y) {
+        (Err(r), Err(s)) if u64::from(s) < u64::from(r) => y,
+        (Ok(()), _) => y,
+        _ => x,
     }
 }
 
-// What a pool earns, whichever world is named.
-pub fn look_at_pool(words: &[u64]) -> Look
+// What a pool earns, whichever world is named: 1, 7, or no refusal.
+pub fn look_at_pool(words: &[u64]) -> Result<(), Refusal>
     ensures { LookedPool words.now result }
 {
     let s = Store::of_length(words.len());
     if s.capacity == 0 {
-        return Look::Refused(Refusal::StoreLength);
+        return Err(Refusal::StoreLength);
     }
-    if soundness::is_sound(words) {
-        return Look::Sound;
+    if !soundness::is_sound(words) {
+        return Err(Refusal::Unsound);
     }
-    Look::Refused(Refusal::Unsound)
+    Ok(())
 }
 
 // What one world earns.
-pub fn look_at(words: &[u64], world: u64) -> Look
+pub fn look_at(words: &[u64], world: u64) -> Result<(), Refusal>
     ensures { Looked words.now world result }
 {
-    let l = look_at_pool(words);
-    match l {
-        Look::Refused(r) => Look::Refused(r),
-        Look::Sound => {
-            if world >= store::opened(words) {
-                Look::Refused(Refusal::WorldUnopened)
-            } else {
-                Look::Sound
-            }
-        }
+    look_at_pool(words)?;
+    if world >= store::opened(words) {
+        return Err(Refusal::WorldUnopened);
     }
+    Ok(())
 }
 
 // What two worlds earn: 1 of either comes before 7 of either, and that before 12.
-pub fn look_at_two(a: &[u64], i: u64, b: &[u64], j: u64) -> Look
+pub fn look_at_two(a: &[u64], i: u64, b: &[u64], j: u64) -> Result<(), Refusal>
     ensures { LookedTwo a.now i b.now j result }
 {
     let x = look_at(a, i);
@@ -72,7 +51,7 @@ pub fn look_at_two(a: &[u64], i: u64, b: &[u64], j: u64) -> Look
 }
 
 // What three worlds earn.
-pub fn look_at_three(a: &[u64], i: u64, b: &[u64], j: u64, c: &[u64], k: u64) -> Look
+pub fn look_at_three(a: &[u64], i: u64, b: &[u64], j: u64, c: &[u64], k: u64) -> Result<(), Refusal>
     ensures { LookedThree a.now i b.now j c.now k result }
 {
     let x = look_at(a, i);

@@ -3,17 +3,17 @@ ghost use Rattle.model.specs.Answers.{completed_answer};
 ghost use Rattle.model.specs.Pools.{limits_of};
 ghost use Rattle.promises.specs.Met.{Made};
 
-use model::{Completed, Refusal};
+use model::Refusal;
 use store::Store;
 
 // A new pool in lent words: a world, which is empty, for each floor and ceiling of the limits, which are lent in turn. A last word
 // without its partner is no world.
-pub fn new(words: &mut [u64], limits: &[u64]) -> Completed
+pub fn new(words: &mut [u64], limits: &[u64]) -> Result<(), Refusal>
     ensures { Made words.old (limits_of limits.now) (completed_answer result) words.new }
 {
     let s = Store::of_length(words.len());
     if s.capacity == 0 {
-        return Completed::Refused(Refusal::StoreLength);
+        return Err(Refusal::StoreLength);
     }
     sets::make::new(words, limits)
 }

@@ -1,10 +1,10 @@
 -- What a call that was not refused leaves: its worlds can be read, its answer and its world's positions are the model's, and the other worlds are
 -- as they were. And where a call is not refused: its worlds can be read, its conditions refuse nothing, and the runs fit. Assumes nothing.
+use Rattle.std.specs.Prelude.{Option, None, Some}
 use Prim.Native.Nat.{ℕ, zero, suc, ◌+◌, ◌≤◌, ◌<◌}
 use mathlib.Core.Path.{◌≡◌, refl, sym, ap, ap₂, ◌∙◌, subst}
 use mathlib.Core.Bool.{Bool, true, false}
 use mathlib.Core.List.{List, [], ◌∷◌, ◌++◌}
-use mathlib.Core.Option.{Option, none, some}
 use native.Mathlib.Omega.{arith}
 use lib.ListN.{length}
 use borrow.Author.Tests.{ltb-false}
@@ -29,26 +29,26 @@ use Rattle.promises.proofs.Simulation.{same-positions, worlds-after}
 use Rattle.laws.specs.Pairs.{SameLeft}
 
 -- no number is none
-pub some-not : {n : ℕ} → some n ≡ none → ⊥
+pub some-not : {n : ℕ} → Some n ≡ None → ⊥
 some-not e = let z : ◌≡◌ {A = ℕ} 0 1 = cc in omega arith
 
 -- ---- conditions that refuse nothing
 -- a look finds none of them
-looks-none : (cs : List Condition) → refusal cs ≡ none → first_given looks cs ≡ none
+looks-none : (cs : List Condition) → refusal cs ≡ None → first_given looks cs ≡ None
 looks-none cs e = go (first_given looks cs) refl
   where
-    go : (o : Option ℕ) → first_given looks cs ≡ o → first_given looks cs ≡ none
-    go none f = f
-    go (some n) f = absurd (some-not (sym (looked-first cs f) ∙ e))
+    go : (o : Option ℕ) → first_given looks cs ≡ o → first_given looks cs ≡ None
+    go None f = f
+    go (Some n) f = absurd (some-not (sym (looked-first cs f) ∙ e))
 
 -- and too many runs are not among them
-runs_fit : (cs : List Condition) (t : Bool) → refusal (Refusals.capacity when t ∷ cs) ≡ none → t ≡ false
+runs_fit : (cs : List Condition) (t : Bool) → refusal (Refusals.capacity when t ∷ cs) ≡ None → t ≡ false
 runs_fit cs false e = refl
 runs_fit cs true e = absurd (go (first_given before_capacity cs) refl)
   where
     go : (o : Option ℕ) → first_given before_capacity cs ≡ o → ⊥
-    go none f = some-not (sym (refused_full cs f) ∙ e)
-    go (some n) f = some-not (sym (refused-before cs true f) ∙ e)
+    go None f = some-not (sym (refused_full cs f) ∙ e)
+    go (Some n) f = some-not (sym (refused-before cs true f) ∙ e)
 
 -- ---- what settles
 -- world i of w got the positions P, and the words are w' now: it holds them, and all worlds are those before, with these in world i
@@ -150,16 +150,16 @@ module _ {w : List ℕ} {i : ℕ} {c : Call Site} {cs : List Condition} {Q : Pos
   outcome-by = says.said
 
   -- of a world that can be read, where nothing is refused
-  outcome-is : Readable w i → refusal asked ≡ none → outcome_of w i c ≡ record { answer = gave (A (held_by w i)); positions = bounded (Q (held_by w i)) }
+  outcome-is : Readable w i → refusal asked ≡ None → outcome_of w i c ≡ record { answer = gave (A (held_by w i)); positions = bounded (Q (held_by w i)) }
   outcome-is R e =
-      outcome-by ∙ ap outcome_by e ∙ ap (λ s. settle none (positions_of s) (A (positions_of s)) (bounded (Q (positions_of s)))) R.fed
+      outcome-by ∙ ap outcome_by e ∙ ap (λ s. settle None (positions_of s) (A (positions_of s)) (bounded (Q (positions_of s)))) R.fed
 
   -- those that were not refused
   module _ {r : Result} {w' : List ℕ} (m : Met w i c (gave r) w') where
-    passed : refusal asked ≡ none
+    passed : refusal asked ≡ None
     passed = unrefused (refusal asked) _ _ _ _ (m.answered ∙ ap (λ o. o.answer) outcome-by)
 
-    pub looked : first_given looks asked ≡ none
+    pub looked : first_given looks asked ≡ None
     looked = looks-none asked passed
 
     module _ (R : Readable w i) where
@@ -175,15 +175,15 @@ module _ {w : List ℕ} {i : ℕ} {c : Call Site} {cs : List Condition} {Q : Pos
       pub fitted : stretches (Q (held_by w i)) ≤ allowance w i
       unfolding too_many
       fitted =
-          let e : refusal (Refusals.capacity when too_many (full_at w i) (Q (held_by w i)) ∷ cs) ≡ none =
+          let e : refusal (Refusals.capacity when too_many (full_at w i) (Q (held_by w i)) ∷ cs) ≡ None =
           sym (ap (λ s. refusal (reads s ++ Refusals.capacity when too_many (full_at w i) (Q (positions_of s)) ∷ cs)) R.fed) ∙ passed in
           ltb-false (allowance w i) (stretches (Q (held_by w i)))
           (ap (λ f. f (stretches (Q (held_by w i)))) (sym (full-above R.openable)) ∙ runs_fit cs (too_many (full_at w i) (Q (held_by w i))) e)
 
   -- they are not refused where the runs fit
-  pub not-refused : {a : Answer} {w' : List ℕ} → Readable w i → refusal cs ≡ none → stretches (Q (held_by w i)) ≤ allowance w i → Met w i c a w' → a ≡ gave (A (held_by w i))
+  pub not-refused : {a : Answer} {w' : List ℕ} → Readable w i → refusal cs ≡ None → stretches (Q (held_by w i)) ≤ allowance w i → Met w i c a w' → a ≡ gave (A (held_by w i))
   not-refused R quiet h m =
-      let e : refusal asked ≡ none =
+      let e : refusal asked ≡ None =
       ap (λ s. refusal (reads s ++ Refusals.capacity when too_many (full_at w i) (Q (positions_of s)) ∷ cs)) R.fed
       ∙ ap (λ t. refusal (Refusals.capacity when t ∷ cs)) (fits-few R.openable (Q (held_by w i)) h) ∙ quiet in
       m.answered ∙ ap (λ o. o.answer) (outcome-is R e)
@@ -194,10 +194,10 @@ module _ {w : List ℕ} {i : ℕ} {c : Call Site} {cs : List Condition} {A : Pos
   unfolding report
   report-by = says.said
 
-  report-passed : refusal (reads (fed_of w i) ++ cs) ≡ none
+  report-passed : refusal (reads (fed_of w i) ++ cs) ≡ None
   report-passed = unrefused (refusal (reads (fed_of w i) ++ cs)) _ _ _ _ (m.answered ∙ ap (λ o. o.answer) report-by)
 
-  pub report-looked : first_given looks (reads (fed_of w i) ++ cs) ≡ none
+  pub report-looked : first_given looks (reads (fed_of w i) ++ cs) ≡ None
   report-looked = looks-none (reads (fed_of w i) ++ cs) report-passed
 
   -- their answer

@@ -1,10 +1,10 @@
 -- The other way of the refusal law fails: in pools of capacity 1, {M} OR {5} has two runs and is refused with 8; a left shift by 1 drops M, so the OR of
 -- the shifted sets has one run and is done. The sets are computed as run lists. Assumes nothing.
+use Rattle.std.specs.Prelude.{Option, None, Some}
 use Prim.Native.Nat.{ℕ, ◌-◌, ◌≤◌, ◌<◌}
 use mathlib.Core.Path.{◌≡◌, refl, sym, ap, ap₂, ◌∙◌, subst, fun_ext}
 use mathlib.Core.Bool.{true}
 use mathlib.Core.List.{List, [], ◌∷◌, ◌++◌}
-use mathlib.Core.Option.{Option, none, some}
 use native.Mathlib.Omega.{arith}
 use lib.Dec.{eqb}
 use lib.ListN.{length}
@@ -84,8 +84,8 @@ record New (w : List ℕ) : Type 0 where
 
 -- the positions of a world, if there is one
 abbrev positions_in : Option PlainWorld → Positions
-positions_in none = empty
-positions_in (some x) = x.positions
+positions_in None = empty
+positions_in (Some x) = x.positions
 
 nothing : empty ≡ mem []
 unfolding empty mem

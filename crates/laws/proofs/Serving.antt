@@ -1,11 +1,11 @@
 -- What the plain model gives of any call, by its kind: a report leaves the positions; what a call that is not refused gives does not depend on how many
 -- runs are too many; and that of one that overwrites its world does not depend on what it held. A new call asks for one more case of each.
 -- Assumes nothing.
+use Rattle.std.specs.Prelude.{Option, None, Some}
 use Prim.Native.Nat.{ℕ}
 use mathlib.Core.Path.{◌≡◌, refl, sym, ap, ◌∙◌}
 use mathlib.Core.Bool.{Bool}
 use mathlib.Core.List.{List, ◌∷◌, ◌++◌}
-use mathlib.Core.Option.{Option, none, some}
 use native.Mathlib.Omega.{arith}
 use Rattle.model.specs.Positions.{Positions, bounded}
 use Rattle.model.specs.Refusals.{Condition, ◌when◌, capacity, refusal, too_many}
@@ -31,8 +31,8 @@ not-reporting e = let z : ◌≡◌ {A = ℕ} 0 1 = cc in absurd (omega arith)
 
 -- ---- reports
 settle-stays : (o : Option ℕ) (P : Positions) (a : Result) → (settle o P a P).positions ≡ P
-settle-stays none P a = refl
-settle-stays (some n) P a = refl
+settle-stays None P a = refl
+settle-stays (Some n) P a = refl
 
 report-stays : (s : Fed) (cs : List Condition) (a : Result) → (report s cs a).positions ≡ positions_of s
 unfolding report
@@ -157,13 +157,13 @@ overwrites (Call.survey r c n out) k = not-reporting k
 
 -- what is held does not matter to the answer
 settle-answer : (o : Option ℕ) (P P' : Positions) (a : Result) (Q : Positions) → (settle o P a Q).answer ≡ (settle o P' a Q).answer
-settle-answer none P P' a Q = refl
-settle-answer (some n) P P' a Q = refl
+settle-answer None P P' a Q = refl
+settle-answer (Some n) P P' a Q = refl
 
 -- nor, where nothing is refused, to the positions
 settle-positions : (o : Option ℕ) (P P' : Positions) (a r : Result) (Q : Positions) → gave r ≡ (settle o P a Q).answer → (settle o P a Q).positions ≡ (settle o P' a Q).positions
-settle-positions none P P' a r Q e = refl
-settle-positions (some n) P P' a r Q e = absurd (refused-not (sym e))
+settle-positions None P P' a r Q e = refl
+settle-positions (Some n) P P' a r Q e = absurd (refused-not (sym e))
 
 module _ (full : ℕ → Bool) (P P' : Positions) (c : Call Site) (k : kind c ≡ overwriting) where
   pub over-answer : (serve full (holding P) (feed fed_at c)).answer ≡ (serve full (holding P') (feed fed_at c)).answer

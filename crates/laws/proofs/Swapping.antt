@@ -1,10 +1,10 @@
 -- Any two calls, over what they promise: reports of one pool, calls on two worlds of one pool, and a call before one that overwrites its world.
 -- Assumes nothing.
+use Rattle.std.specs.Prelude.{Option, None, Some, Ok}
 use Prim.Native.Nat.{ℕ, zero, suc}
 use mathlib.Core.Path.{◌≡◌, refl, sym, ap, ap₂, ◌∙◌, subst}
 use mathlib.Core.Bool.{Bool, true, false, cond}
 use mathlib.Core.List.{List, [], ◌∷◌, ◌++◌}
-use mathlib.Core.Option.{Option, none, some}
 use Rattle.model.specs.Positions.{Positions}
 use Rattle.model.specs.Refusals.{store_length, world_limits, looks, Condition, given, first_given, refusal}
 use Rattle.model.specs.Call.{Fed, wrong_length, unsound, unopened, holding, Call, feed, Result, Answer, refused, gave}
@@ -18,7 +18,6 @@ use Rattle.promises.proofs.Refusing.{unopened-refused}
 use Rattle.promises.proofs.Served.{Ends, Served, served, unrefused}
 use Rattle.promises.proofs.Simulation.{Holds}
 use Rattle.promises.proofs.Simulation
-use Rattle.interval_bit_set.specs.declared.look.Look.{Look}
 use Rattle.interval_bit_set.proofs.Looking.{looked-sound}
 use Rattle.laws.specs.Swaps.{reporting, overwriting, kind}
 use Rattle.laws.proofs.Doing.{some-not, Gets, settled-gets, full-now, gets-again, gets_back, readable-now, held-other}
@@ -26,12 +25,12 @@ use Rattle.laws.proofs.Serving.{stays, free, over-answer, over-positions}
 
 -- ---- any call that was not refused
 -- a refusal of a look at its own world refuses whatever else there is
-unearned : (s : Fed) (cs : List Condition) → refusal (reads s ++ cs) ≡ none → first_given looks (reads s) ≡ none
+unearned : (s : Fed) (cs : List Condition) → refusal (reads s ++ cs) ≡ None → first_given looks (reads s) ≡ None
 unearned (holding P) cs e = refl
 unearned wrong_length cs e = absurd (some-not e)
 unearned unsound cs e = absurd (go (given store_length cs) (given world_limits cs) e)
   where
-    go : (x y : Bool) → cond {A = Option ℕ} x (some 1) (cond {A = Option ℕ} y (some 11) (some 7)) ≡ none → ⊥
+    go : (x y : Bool) → cond {A = Option ℕ} x (Some 1) (cond {A = Option ℕ} y (Some 11) (Some 7)) ≡ None → ⊥
     go true y f = some-not f
     go false true f = some-not f
     go false false f = some-not f
@@ -45,12 +44,12 @@ module _ {w : List ℕ} {i : ℕ} (c : Call Site) {r : Result} {w' : List ℕ} (
   unfolding outcome_of
   shape = served (full_at w i) (fed_of w i) (feed fed_at c)
 
-  passed : refusal (reads s ++ shape.conditions) ≡ none
+  passed : refusal (reads s ++ shape.conditions) ≡ None
   passed = unrefused (refusal (reads s ++ shape.conditions)) (positions_of s) shape.said r shape.next (m.answered ∙ ap (λ o. o.answer) shape.is)
 
   -- its world can be read
   pub call-readable : Readable w i
-  call-readable = looked-sound Look.Sound (sym (unearned s shape.conditions passed)) refl
+  call-readable = looked-sound (Ok tt) (sym (unearned s shape.conditions passed)) refl
 
   pub call_settled : Settled w w' i (outcome_of w i c).positions
   call_settled = m.left

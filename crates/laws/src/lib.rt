@@ -4,13 +4,13 @@
 
 ghost use Rattle.laws.specs.Played.{Lent, MadeNew, MadeOne, Ready, RefusedThenDone};
 
-use model::{Bound, Completed, Operation};
+use model::{Bound, Operation, Refusal};
 
 // What two ORs into one world answered: of two sets, and of the same sets shifted.
 #[derive(Clone, Copy)]
 pub struct Joins {
-    pub before: Completed,
-    pub after: Completed,
+    pub before: Result<(), Refusal>,
+    pub after: Result<(), Refusal>,
 }
 
 // A pool of one world, which may have one run.
@@ -18,7 +18,7 @@ fn fresh(words: &mut [u64], limits: &[u64])
     requires { Lent words.old limits.now }
     ensures { MadeNew words.old words.new }
 {
-    interval_bit_set::make::new(words, limits);
+    let _ = interval_bit_set::make::new(words, limits);
 }
 
 // The same, and the position x held.
@@ -27,7 +27,7 @@ fn holding_one(words: &mut [u64], limits: &[u64], x: u64)
     ensures { MadeOne x words.old words.new }
 {
     fresh(words, limits);
-    interval_bit_set::change::set(words, 0, Bound::Included(x), Bound::Included(x), true);
+    let _ = interval_bit_set::change::set(words, 0, Bound::Included(x), Bound::Included(x), true);
 }
 
 // The OR of a and b into c, then that of a and b shifted left by 1 in place.
@@ -36,8 +36,8 @@ fn join_twice(a: &mut [u64], b: &mut [u64], c: &mut [u64]) -> Joins
     ensures { RefusedThenDone result }
 {
     let before = interval_bit_set::join::combine(c, 0, Operation::Or, a, 0, b, 0);
-    interval_bit_set::change::shift(a, 0, 1, true);
-    interval_bit_set::change::shift(b, 0, 1, true);
+    let _ = interval_bit_set::change::shift(a, 0, 1, true);
+    let _ = interval_bit_set::change::shift(b, 0, 1, true);
     let after = interval_bit_set::join::combine(c, 0, Operation::Or, a, 0, b, 0);
     Joins {
         before: before,

@@ -1,15 +1,13 @@
 -- The answer to an input: too long, refused, or the lines of the set that it loads. Assumes nothing.
+use Rattle.std.specs.Prelude.{Some, Ok, Err, IsOk}
+use Rattle.model.specs.Answers.{OrRefusal}
 use Prim.Native.Nat.{ℕ, ◌≤◌, ◌<◌}
 use mathlib.Core.Path.{◌≡◌, refl, sym, ap, ◌∙◌, subst}
 use mathlib.Core.Bool.{cond}
 use mathlib.Core.List.{List, [], ◌∷◌}
-use mathlib.Core.Option.{some}
-use native.Mathlib.Omega.{arith}
 use lib.Dec.{eqb}
-use lib.ListN.{length, take, length-take}
+use lib.ListN.{length}
 use borrow.Author.Tests.{lt-ltb, le-ltb}
-use Rattle.listset.specs.Counts.{IsPrefixLen}
-use Rattle.model.specs.declared.Completed.{Completed}
 use Rattle.model.specs.declared.Refusal.{Refusal}
 use Rattle.model.specs.Numbers.{refusal_number}
 use Rattle.model.specs.Positions.{Positions, empty}
@@ -23,14 +21,8 @@ use Rattle.store.specs.Settle.{Openable}
 use Rattle.store.proofs.WorldLists.{opened-world}
 use Rattle.promises.specs.Met.{Met, made_of, MakeLeaves, Made}
 use Rattle.promises.proofs.Simulation.{Holds, outcome-is, step-holds}
+use Rattle.listset.proofs.Drawing.{granted}
 use Rattle.listset.specs.Text.{too_long_line, refused_line, set_lines, outcome_lines, loaded, printed}
-use Rattle.listset.specs.Put.{Puts}
-
--- a text that was put in front of a slice is its front part
-pub put_front : {out t out' : List ℕ} {r : ℕ} → Puts out 0 t out' r → IsPrefixLen r out' × (take r out' ≡ t)
-put_front {out} {t} {out'} {r} p =
-    let e : r ≡ length (take r out') = p.ends ∙ omega arith ∙ ap length (sym p.text) in
-    ((omega (arith, e, length-take r out'), e), p.text)
 
 -- an outcome's lines
 abbrev lines : Outcome → List ℕ
@@ -60,6 +52,9 @@ made-answer : (w : List ℕ) → capacity w ≡ 950 → (made_of w (limits_of (0
 unfolding made_of make_by limits_of limits_from bad_limits
 made-answer w z = ap (λ k. (make_by (eqb k 0) k (worlds_of w) (limits_of (0 ∷ 950 ∷ []))).answer) z
 
+pub made-granted : {w w₁ : List ℕ} (n : OrRefusal Unit) → capacity w ≡ 950 → Made w (limits_of (0 ∷ 950 ∷ [])) (completed_answer n) w₁ → IsOk n
+made-granted {w} n z m = granted _ n (m.answered ∙ made-answer w z)
+
 made-worlds : empty_worlds (limits_of (0 ∷ 950 ∷ [])) ≡ alone 950 empty
 unfolding empty_worlds limits_of limits_from
 made-worlds = refl
@@ -73,7 +68,7 @@ made_holds {w} {w₁} z m =
 -- the positions of the only world of a pool, which was opened
 only-held : {P : Positions} {w : List ℕ} → Holds 950 (alone 950 P) w → held_by w 0 ≡ P
 only-held {P} {w} H =
-    let e : some (plain_at w 0) ≡ world_of (alone 950 P) 0 = sym (opened-world w 0 H.sound.some) ∙ ap (λ ws. world_of ws 0) H.held in
+    let e : Some (plain_at w 0) ≡ world_of (alone 950 P) 0 = sym (opened-world w 0 H.sound.some) ∙ ap (λ ws. world_of ws 0) H.held in
     ap (λ o. positions_of (fed_by o)) e
 
 module _ (bs : List ℕ) (w : List ℕ) (z : capacity w ≡ 950) {w₁ w₂ : List ℕ} {a : Answer} (m : Made w (limits_of (0 ∷ 950 ∷ [])) a w₁) where
@@ -88,14 +83,13 @@ module _ (bs : List ℕ) (w : List ℕ) (z : capacity w ≡ 950) {w₁ w₂ : Li
   load-holds l = step-holds (made_holds z m) l
 
   -- by what `load` answered
-  module _ (c : Completed) (l : Met w₁ 0 (Call.load bs) (completed_answer c) w₂) where
-    pub done-told : c ≡ Completed.Done → Openable w₂ 0 × (capacity w₂ ≡ 950) × (lines (loaded bs) ≡ set_lines (held_by w₂ 0))
+  module _ (c : OrRefusal Unit) (l : Met w₁ 0 (Call.load bs) (completed_answer c) w₂) where
+    pub done-told : c ≡ Ok tt → Openable w₂ 0 × (lines (loaded bs) ≡ set_lines (held_by w₂ 0))
     done-told e =
         let H = load-holds l in (
           record { sound = H.sound; named = H.sound.some },
-          H.sized,
           lines-done bs (ap completed_answer (sym e) ∙ load-answer l) (only-held H),
         )
 
-    pub refused-told : {r : Refusal} → c ≡ Completed.Refused r → lines (loaded bs) ≡ refused_line (refusal_number r)
+    pub refused-told : {r : Refusal} → c ≡ Err r → lines (loaded bs) ≡ refused_line (refusal_number r)
     refused-told e = lines-refused bs (ap completed_answer (sym e) ∙ load-answer l)

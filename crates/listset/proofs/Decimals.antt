@@ -1,38 +1,17 @@
--- Decimals: `decimal` has 20 digits at most, and is what std writes of a word. Assumes nothing.
-use Prim.Native.Nat.{ℕ, zero, suc, ◌+◌, ◌/◌, ◌%◌, ◌^◌, ◌≤◌, ◌<◌}
-use mathlib.Core.Path.{◌≡◌, refl, sym, ap, ◌∙◌, subst}
+-- Decimals: `decimal` is what std writes of a number of positions. Assumes nothing.
+use Prim.Native.Nat.{ℕ, zero, suc, ◌/◌, ◌%◌, ◌^◌, ◌≤◌, ◌<◌}
+use mathlib.Core.Path.{◌≡◌, sym, ap, ◌∙◌}
 use mathlib.Core.Logic.{◌⊎◌, inl, inr}
 use mathlib.Core.Bool.{false, cond}
 use mathlib.Core.List.{List, [], ◌∷◌, ◌++◌, append_assoc, append-nil}
 use native.Mathlib.Omega.{arith}
 use lib.Dec.{ltb}
-use lib.ListN.{length, length-append}
 use borrow.Author.Tests.{lt-ltb, le-ltb, eq-eqb, ne_eqb}
 use Rattle.std.specs.Fmt
 use Rattle.std.specs.Fmt.{digits_onto}
 use Rattle.model.proofs.Numbers.{split}
 use Rattle.listset.specs.Digits.{last_digits, hex_digit_ascii}
 use Rattle.listset.specs.Text.{places, decimal}
-
--- k digits are k bytes
-pub digits-length : (b k n : ℕ) → length (last_digits b k n) ≡ k
-digits-length b zero n = refl
-digits-length b (suc k) n = length-append (last_digits b k (n / b)) (hex_digit_ascii (n % b) ∷ []) ∙ ap (λ j. j + 1) (digits-length b k (n / b)) ∙ omega arith
-
--- no more places than the bound allows
-places-few : (f n : ℕ) → places f n ≤ suc f
-unfolding places
-places-few zero n = omega arith
-places-few (suc f) n = go (split n 10) (places-few f (n / 10))
-  where
-    go : (n < 10) ⊎ (10 ≤ n) → places f (n / 10) ≤ suc f → cond (ltb n 10) 1 (suc (places f (n / 10))) ≤ suc (suc f)
-    go (inl h) l = subst (λ t. cond t 1 (suc (places f (n / 10))) ≤ suc (suc f)) (sym (lt-ltb n 10 h)) (omega arith)
-    go (inr h) l = subst (λ t. cond t 1 (suc (places f (n / 10))) ≤ suc (suc f)) (sym (le-ltb n 10 h)) (omega (arith, l))
-
--- a decimal has 20 digits at most
-pub decimal-short : (n : ℕ) → length (decimal n) ≤ 20
-unfolding decimal
-decimal-short n = omega (arith, digits-length 10 (places 19 n) n, places-few 19 n)
 
 -- std's digits of a number, put before what follows them: the last digit, and before it those of a tenth of the number
 module _ (k n : ℕ) (acc : List ℕ) where
@@ -62,13 +41,7 @@ onto (suc f) (suc k) n acc h l = go (split n 10) (λ g. onto f k (n / 10) (hex_d
         ∙ sym (append_assoc (last_digits 10 (places f (n / 10)) (n / 10)) (hex_digit_ascii (n % 10) ∷ []) acc)
         ∙ ap (λ t. last_digits 10 (cond t 1 (suc (places f (n / 10)))) n ++ acc) (sym (le-ltb n 10 g))
 
--- std's decimal of a word is the same
-pub decimal-is : (n : ℕ) → n < 2 ^ 64 → Fmt.decimal n ≡ decimal n
+-- std's decimal of a number of positions is the same
+pub decimal-is : (n : ℕ) → n ≤ 2 ^ 64 → Fmt.decimal n ≡ decimal n
 unfolding decimal Fmt.digits
 decimal-is n h = onto 19 64 n [] (omega (arith, h)) (omega arith) ∙ append-nil (last_digits 10 (places 19 n) n)
-
--- all positions, in decimal
-pub full : decimal (2 ^ 64)
-    ≡ 49 ∷ 56 ∷ 52 ∷ 52 ∷ 54 ∷ 55 ∷ 52 ∷ 52 ∷ 48 ∷ 55 ∷ 51 ∷ 55 ∷ 48 ∷ 57 ∷ 53 ∷ 53 ∷ 49 ∷ 54 ∷ 49 ∷ 54 ∷ []
-unfolding decimal places
-full = refl

@@ -1,21 +1,17 @@
 -- What is reported of an opened world: all its runs and positions, and a listing that a draw shortens by its first run. Assumes nothing.
+use Rattle.std.specs.Prelude.{Option, None, Some, Ok, Err, IsOk, MatchOption}
 use Prim.Native.Nat.{ℕ, suc, ◌+◌, ◌-◌, ◌≤◌, ◌<◌}
-use mathlib.Core.Path.{◌≡◌, sym, ap, ◌∙◌, subst}
+use mathlib.Core.Path.{◌≡◌, refl, sym, ap, ◌∙◌, subst}
 use mathlib.Core.Logic.{◌⊎◌, inl, inr}
 use mathlib.Core.Bool.{Bool, true, cond, ◌&&◌, beq}
-use mathlib.Core.List.{List, [], ◌∷◌}
-use mathlib.Core.Option.{Option, none, some}
+use mathlib.Core.List.{List, [], ◌∷◌, ◌++◌}
 use native.Mathlib.Omega.{arith}
 use lib.Dec.{ltb}
 use borrow.Author.Tests.{lt-ltb, le-ltb}
 use Rattle.model.specs.declared.Bound.TheVariants.{Unbounded}
 use Rattle.model.specs.declared.Run.{Run}
 use Rattle.model.specs.declared.Listing.{Listing}
-use Rattle.model.specs.declared.Refusal.{Refusal}
 use Rattle.model.specs.declared.Tally.{Tally}
-use Rattle.model.specs.declared.Tallied.{Tallied}
-use Rattle.model.specs.declared.Listed.{Listed}
-use Rattle.model.specs.declared.Drawn.{Drawn}
 use Rattle.model.specs.Numbers.{size, worth}
 use Rattle.model.proofs.Numbers.{split}
 use Rattle.model.specs.Positions.{Positions, runs_in, remaining, past_first, ended, count, run_count, stretches, held_runs, mem}
@@ -25,13 +21,13 @@ use Rattle.model.proofs.Runs.{runs_in-canon, runs_in-mem, runs_in-is, runs_in-no
 use Rattle.model.specs.RunList.{Canon}
 use Rattle.model.proofs.RunList.{canon-weaken, mem-above}
 use Rattle.model.specs.Call.{Call, Result, tallied, listing, drawn, Answer, gave}
-use Rattle.model.specs.Answers.{tallied_answer, listed_answer, drawn_answer}
+use Rattle.model.specs.Answers.{OrRefusal, answer_by, tallied_answer, listed_answer}
 use Rattle.model.specs.Model.{positions_of, report}
-use Rattle.model.proofs.Pools.{claims-split}
-use Rattle.store.specs.Layout.{capacity, held_by, plain_at, worlds_of}
+use Rattle.store.specs.Layout.{held_by}
 use Rattle.store.specs.Settle.{Openable}
-use Rattle.store.proofs.WorldLists.{opened-world}
 use Rattle.reports.specs.Reports.{Measured}
+use Rattle.listset.specs.Text.{count_lines, run_lines, set_lines}
+use Rattle.interval_bit_set.specs.Lent.{item_answer, Draws}
 use Rattle.promises.specs.Met.{Site, Met}
 use Rattle.promises.proofs.Meeting.{refused-not, readable, Reports, tally-says, ranges-says, draw-front-says}
 
@@ -52,7 +48,7 @@ runs_in-rest P v a n r rs e = (
     c = subst (Canon (a + n) a) e (runs_in-canon P v (a + n) a n (omega arith))
 
 -- a listing past its first run has the others
-pub remaining-past : (P : Positions) (l : Listing) (r : Run) (rs : List Run) → remaining P l ≡ r ∷ rs → remaining P (past_first l (some r)) ≡ rs
+pub remaining-past : (P : Positions) (l : Listing) (r : Run) (rs : List Run) → remaining P l ≡ r ∷ rs → remaining P (past_first l (Some r)) ≡ rs
 unfolding remaining past_first
 remaining-past P l r rs e = go (split r.«end» l.last)
   where
@@ -77,19 +73,22 @@ remaining-past P l r rs e = go (split r.«end» l.last)
         ∙ runs_in-none P v 1 0 (λ x k m. absurd (omega arith))
         ∙ sym (runs_in-none P v (suc r.«end») (l.first + n - suc r.«end») (λ x k m. absurd (omega (arith, h.0, h.1)))) ∙ h.2
 
--- an opened world has no more runs than the pool has room for
-pub runs_fit : {w : List ℕ} {i : ℕ} → Openable w i → stretches (held_by w i) ≤ capacity w
-runs_fit {w} {i} op = omega (arith, op.sound.fits, claims-split (worlds_of w) i (plain_at w i) (opened-world w i op.named))
-
 -- the runs of a tally of all held positions are its stretches
-pub all-stretches : {P : Positions} {t : Tally} → Measured P true 0 size t → t.runs ≡ stretches P
+all-stretches : {P : Positions} {t : Tally} → Measured P true 0 size t → t.runs ≡ stretches P
 unfolding stretches held_runs run_count
 all-stretches m = m.runs-are
 
--- there is a run
-abbrev Given : Option Run → Type 0
-Given none = ⊥
-Given (some r) = Unit {0}
+-- the lines of a set by that tally
+pub set-told : {P : Positions} {t : Tally} → Measured P true 0 size t → count_lines t.runs (worth t.count) ++ run_lines (held_runs P) ≡ set_lines P
+unfolding set_lines
+set-told {P} {t} m =
+    ap (λ k. count_lines k (worth t.count) ++ run_lines (held_runs P)) (all-stretches m)
+    ∙ ap (λ k. count_lines (stretches P) k ++ run_lines (held_runs P)) m.count-is
+
+-- an answer that is given is no refusal
+pub granted : {T : Type 0} (f : T → Answer) {r : Result} (n : OrRefusal T) → answer_by f n ≡ gave r → IsOk n
+granted f (Ok x) e = refl
+granted f (Err q) e = absurd (refused-not e)
 
 -- what the calls answer of a world that was opened in a sound pool: none is refused, and a draw gives the first run that is left
 module _ (w : List ℕ) {i : ℕ} (op : Openable w i) where
@@ -98,49 +97,53 @@ module _ (w : List ℕ) {i : ℕ} (op : Openable w i) where
   answers {A = A} says m =
       m.answered ∙ ap (λ o. o.answer) says.said ∙ ap (λ s. (report s [] (A (positions_of s))).answer) (readable op).fed
 
-  answers-tally : {a : Answer} → Met w i (Call.tally Unbounded Unbounded true) a w → a ≡ gave (tallied (count (held_by w i) true 0 size) (run_count (held_by w i) true 0 size))
-  answers-tally m = answers (tally-says w i Unbounded Unbounded true) m
+  module _ (n : OrRefusal Tally) (m : Met w i (Call.tally Unbounded Unbounded true) (tallied_answer n) w) where
+    pub tally-granted : IsOk n
+    tally-granted = granted _ n (answers (tally-says w i Unbounded Unbounded true) m)
 
-  answers-listing : {a : Answer} → Met w i (Call.ranges Unbounded Unbounded true) a w → a ≡ gave (listing (record { first = 0; last = size - 1; value = true }))
-  answers-listing m = answers (ranges-says w i Unbounded Unbounded true) m
-
-  answers-draw : {a : Answer} (l : Listing) {r : Run} {rs : List Run} → remaining (held_by w i) l ≡ r ∷ rs → Met w i (Call.draw_front l) a w
-      → a ≡ gave (drawn (some r) (past_first l (some r)))
-  answers-draw l e m = answers (draw-front-says w i l) m ∙ ap (λ ss. gave (drawn (Positions.first_run ss) (past_first l (Positions.first_run ss)))) e
-
-  module _ (n : Tallied) (m : Met w i (Call.tally Unbounded Unbounded true) (tallied_answer n) w) where
-    pub tally-told : {t : Tally} → n ≡ Tallied.Tally t → Measured (held_by w i) true 0 size t
+    pub tally-told : {t : Tally} → n ≡ Ok t → Measured (held_by w i) true 0 size t
     tally-told {t} e =
         let h : gave (tallied (worth t.count) t.runs) ≡ gave (tallied (count (held_by w i) true 0 size) (run_count (held_by w i) true 0 size)) =
-        ap tallied_answer (sym e) ∙ answers-tally m in
+        ap tallied_answer (sym e) ∙ answers (tally-says w i Unbounded Unbounded true) m in
         let k : worth t.count ≡ count (held_by w i) true 0 size = cc in
         let r : t.runs ≡ run_count (held_by w i) true 0 size = cc in
         record { count-is = k; runs-are = r }
 
-    pub tally-refused : {r : Refusal} → n ≡ Tallied.Refused r → ⊥
-    tally-refused e = refused-not (ap tallied_answer (sym e) ∙ answers-tally m)
+  module _ (n : OrRefusal Listing) (m : Met w i (Call.ranges Unbounded Unbounded true) (listed_answer n) w) where
+    pub listing-granted : IsOk n
+    listing-granted = granted _ n (answers (ranges-says w i Unbounded Unbounded true) m)
 
-  module _ (n : Listed) (m : Met w i (Call.ranges Unbounded Unbounded true) (listed_answer n) w) where
-    pub listing-told : {k : Listing} → n ≡ Listed.Listing k → remaining (held_by w i) k ≡ held_runs (held_by w i)
+    pub listing-told : {k : Listing} → n ≡ Ok k → remaining (held_by w i) k ≡ held_runs (held_by w i)
     unfolding remaining held_runs
     listing-told {k} e =
-        let h : gave (listing k) ≡ gave (listing (record { first = 0; last = size - 1; value = true })) = ap listed_answer (sym e) ∙ answers-listing m in
+        let h : gave (listing k) ≡ gave (listing (record { first = 0; last = size - 1; value = true })) =
+        ap listed_answer (sym e) ∙ answers (ranges-says w i Unbounded Unbounded true) m in
         let g : k ≡ record { first = 0; last = size - 1; value = true } = cc in
         ap (remaining (held_by w i)) g
 
-    pub listing-refused : {r : Refusal} → n ≡ Listed.Refused r → ⊥
-    listing-refused e = refused-not (ap listed_answer (sym e) ∙ answers-listing m)
+  module _ (n : OrRefusal (Option Run)) {l l' : Listing} (d : Draws Call.draw_front w i l n l') where
+    pub draw-granted : IsOk n
+    draw-granted = granted _ n (answers (draw-front-says w i l) d.met)
 
-  module _ (n : Drawn) (l : Listing) (m : Met w i (Call.draw_front l) (drawn_answer n) w) {r : Run} {rs : List Run} (left : remaining (held_by w i) l ≡ r ∷ rs) where
-    pub draw-told : {q : Run} {k : Listing} → n ≡ Drawn.Run q k → (q ≡ r) × (remaining (held_by w i) k ≡ rs)
-    draw-told {q} {k} e =
-        let h : gave (drawn (some q) k) ≡ gave (drawn (some r) (past_first l (some r))) = ap drawn_answer (sym e) ∙ answers-draw l left m in
-        let g : k ≡ past_first l (some r) = cc in
-        let f : q ≡ r = cc in
-        (f, ap (remaining (held_by w i)) g ∙ remaining-past (held_by w i) l r rs left)
+    pub draw-told : {o : Option Run} → n ≡ Ok o → MatchOption o (remaining (held_by w i) l ≡ []) (λ r. remaining (held_by w i) l ≡ r ∷ remaining (held_by w i) l')
+    draw-told {o} e = go (remaining (held_by w i) l) refl
+      where
+        P : Positions
+        P = held_by w i
 
-    pub draw-refused : {q : Refusal} → n ≡ Drawn.Refused q → ⊥
-    draw-refused e = refused-not (ap drawn_answer (sym e) ∙ answers-draw l left m)
+        told : gave (drawn o l') ≡ gave (drawn (Positions.first_run (remaining P l)) (past_first l (Positions.first_run (remaining P l))))
+        told = ap (λ r. item_answer r l') (sym e) ∙ answers (draw-front-says w i l) d.met
 
-    pub draw-ended : {k : Listing} → n ≡ Drawn.End k → ⊥
-    draw-ended {k} e = let h : gave (drawn none k) ≡ gave (drawn (some r) (past_first l (some r))) = ap drawn_answer (sym e) ∙ answers-draw l left m in let g : none ≡ some r = cc in subst Given (sym g) tt
+        go : (rs : List Run) → remaining P l ≡ rs → MatchOption o (remaining P l ≡ []) (λ r. remaining P l ≡ r ∷ remaining P l')
+        go [] f =
+            let h : gave (drawn o l') ≡ gave (drawn None (past_first l None)) =
+            told ∙ ap (λ ss. gave (drawn (Positions.first_run ss) (past_first l (Positions.first_run ss)))) f in
+            let k : None ≡ o = cc in
+            subst (λ q. MatchOption q (remaining P l ≡ []) (λ r. remaining P l ≡ r ∷ remaining P l')) k f
+        go (r ∷ rs) f =
+            let h : gave (drawn o l') ≡ gave (drawn (Some r) (past_first l (Some r))) =
+            told ∙ ap (λ ss. gave (drawn (Positions.first_run ss) (past_first l (Positions.first_run ss)))) f in
+            let k : Some r ≡ o = cc in
+            let g : past_first l (Some r) ≡ l' = cc in
+            subst (λ q. MatchOption q (remaining P l ≡ []) (λ r. remaining P l ≡ r ∷ remaining P l')) k
+            (f ∙ ap (λ ss. r ∷ ss) (sym (remaining-past P l r rs f)) ∙ ap (λ k. r ∷ remaining P k) g)

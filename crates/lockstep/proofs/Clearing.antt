@@ -1,10 +1,10 @@
 -- Cleared maps, over what the public calls promise (document 02, Ticket 2): reading the cleared map is document 01's reading of the map as it
 -- was, and a map that a world wrote stays as it is. Assumes nothing.
+use Rattle.std.specs.Prelude.{None}
 use Prim.Native.Nat.{ℕ}
 use mathlib.Core.Path.{◌≡◌, refl, sym, ap, ap₂, ◌∙◌, subst}
 use mathlib.Core.Bool.{Bool, true, false}
 use mathlib.Core.List.{List, [], ◌∷◌, ◌++◌}
-use mathlib.Core.Option.{none}
 use native.Mathlib.Omega.{arith}
 use lib.ListN.{length, take}
 use Rattle.model.specs.Bytes.{map_of, into_front}
@@ -47,7 +47,7 @@ module _ (base n : ℕ) (bs : List ℕ) where
       )
 
 -- no window is written or reported that is none
-pub window-good : (s : Fed) (t b : Bool) → refusal (reads s ++ output_short when t ∷ window when b ∷ []) ≡ none → b ≡ false
+pub window-good : (s : Fed) (t b : Bool) → refusal (reads s ++ output_short when t ∷ window when b ∷ []) ≡ None → b ≡ false
 window-good s t false e = refl
 window-good wrong_length t true e = let z : ◌≡◌ {A = ℕ} 0 1 = cc in absurd (omega arith)
 window-good unsound t true e = let z : ◌≡◌ {A = ℕ} 0 1 = cc in absurd (omega arith)

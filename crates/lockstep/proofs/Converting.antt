@@ -1,9 +1,9 @@
 -- Written sets of two editions, over what the public calls promise (document 02, Ticket 8): a converted set is converted back, loads as the set
 -- itself does, and what loads can be converted; and document 01's reader refuses every set of edition 2. Assumes nothing.
+use Rattle.std.specs.Prelude.{Some}
 use Prim.Native.Nat.{ℕ, ◌≤◌}
 use mathlib.Core.Path.{◌≡◌, sym, ap, ◌∙◌, subst}
 use mathlib.Core.List.{List}
-use mathlib.Core.Option.{some}
 use lib.ListN.{length, take}
 use Rattle.model.specs.declared.Edition.TheVariants.{Columns}
 use Rattle.model.specs.Positions.{held_runs}
@@ -92,5 +92,5 @@ load-converts bs out {cs} L h l =
 
 -- ---- document 01's reader
 -- gives 4 to whatever a world writes in edition 2
-pub old-refused : {w : List ℕ} {i : ℕ} {bs : List ℕ} → WritesSet w i Columns bs → document_one_refusal bs ≡ some 4
+pub old-refused : {w : List ℕ} {i : ℕ} {bs : List ℕ} → WritesSet w i Columns bs → document_one_refusal bs ≡ Some 4
 old-refused {w} {i} W = ap document_one_refusal (written_is W) ∙ columns-refused (held_runs (held_by w i))

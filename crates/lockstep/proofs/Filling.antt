@@ -1,10 +1,10 @@
 -- Fill, over what the public calls promise (document 02, Ticket 7): 0 exactly where nothing of the window is held, and 1000 where all of it is.
 -- What is added before the division is less than the length, so it makes one more of a rest, and of no rest nothing. Assumes nothing.
+use Rattle.std.specs.Prelude.{None, Some, Ok}
 use Prim.Native.Nat.{ℕ, ◌+◌, ◌-◌, ◌*◌, ◌/◌, ◌≤◌, ◌<◌}
 use mathlib.Core.Path.{◌≡◌, refl, sym, ap, ◌∙◌}
 use mathlib.Core.Bool.{true, false}
 use mathlib.Core.List.{List, [], ◌∷◌, ◌++◌}
-use mathlib.Core.Option.{none}
 use native.Mathlib.Nat.{add_comm, div-eq_of_lt, add-mul-div_right, div-lt_iff_lt-mul}
 use native.Mathlib.Omega.{arith}
 use Rattle.model.specs.Positions.{Positions, count}
@@ -19,12 +19,11 @@ use Rattle.promises.proofs.Meeting.{fill-says}
 use Rattle.promises.proofs.Served.{unrefused}
 use Rattle.promises.proofs.Windows.{fitting}
 use Rattle.interval_bit_set.proofs.Looking.{looked-sound}
-use Rattle.interval_bit_set.specs.declared.look.Look.{Look}
 use Rattle.lockstep.proofs.Writing.{unearned}
 use Rattle.lockstep.proofs.Clearing.{window-good}
 
 -- ---- the number
-module _ (P : Positions) (base n : ℕ) (some : 1 ≤ n) where
+module _ (P : Positions) (base n : ℕ) (Some : 1 ≤ n) where
   -- nothing counted makes 0
   none-makes : count P true base n ≡ 0 → fill_of P base n ≡ 0
   unfolding fill_of
@@ -35,13 +34,13 @@ module _ (P : Positions) (base n : ℕ) (some : 1 ≤ n) where
   unfolding fill_of
   makes_none e =
       let q : (1000 * count P true base n + (n - 1)) / n < 1 = omega (arith, e) in
-      omega (arith, (div-lt_iff_lt-mul some).0 q)
+      omega (arith, (div-lt_iff_lt-mul Some).0 q)
 
   -- all counted make 1000
   all-make : count P true base n ≡ n → fill_of P base n ≡ 1000
   unfolding fill_of
   all-make e =
-      ap (λ k. (1000 * k + (n - 1)) / n) e ∙ ap (λ k. k / n) (add_comm (1000 * n) (n - 1)) ∙ add-mul-div_right (n - 1) 1000 some
+      ap (λ k. (1000 * k + (n - 1)) / n) e ∙ ap (λ k. k / n) (add_comm (1000 * n) (n - 1)) ∙ add-mul-div_right (n - 1) 1000 Some
       ∙ ap (λ k. k + 1000) (div-eq_of_lt (omega arith))
 
 -- ---- a fill that is not refused
@@ -58,12 +57,12 @@ module _ {w : List ℕ} {i base n k : ℕ} {w' : List ℕ} (m : Met w i (Call.fi
   said = m.answered ∙ ap (λ o. o.answer) (fill-says w i base n).said
 
   -- there is none
-  passed : refusal (reads (fed_of w i) ++ asked) ≡ none
+  passed : refusal (reads (fed_of w i) ++ asked) ≡ None
   passed = unrefused (refusal (reads (fed_of w i) ++ asked)) P (number (fill_of P base n)) (number k) P said
 
   -- so the world can be read
   filler-readable : Readable w i
-  filler-readable = looked-sound Look.Sound (sym (unearned (fed_of w i) asked passed)) refl
+  filler-readable = looked-sound (Ok tt) (sym (unearned (fed_of w i) asked passed)) refl
 
   -- the window has a position
   some-asked : 1 ≤ n

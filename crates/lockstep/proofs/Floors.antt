@@ -1,10 +1,10 @@
 -- A world may always reach its floor (document 02, Ticket 3): a call is refused with 8 only where the runs of what it would leave are too many,
 -- and in a sound pool as many runs as the floor never are. Assumes nothing.
+use Rattle.std.specs.Prelude.{Option, None, Some}
 use Prim.Native.Nat.{ℕ, ◌+◌, ◌≤◌, ◌<◌, max}
 use mathlib.Core.Path.{◌≡◌, refl, sym, ap, ◌∙◌, subst}
 use mathlib.Core.Bool.{Bool, true, false, cond, true≢false}
 use mathlib.Core.List.{List, [], ◌∷◌, ◌++◌}
-use mathlib.Core.Option.{Option, none, some}
 use native.Mathlib.Omega.{arith}
 use borrow.Author.Tests.{le-ltb}
 use Rattle.model.specs.Positions.{Positions, bounded, stretches}
@@ -51,11 +51,11 @@ use Rattle.promises.proofs.Served.{unrefused}
 
 -- ---- the number 8
 -- a number that is given is that of a cause that is given
-given-number : (ks : List Cause) (cs : List Condition) {n : ℕ} → first_given ks cs ≡ some n → (k : Cause) × (number_of k ≡ n) × (given k cs ≡ true)
+given-number : (ks : List Cause) (cs : List Condition) {n : ℕ} → first_given ks cs ≡ Some n → (k : Cause) × (number_of k ≡ n) × (given k cs ≡ true)
 given-number [] cs e = let z : ◌≡◌ {A = ℕ} 0 1 = cc in absurd (omega arith)
 given-number (k ∷ ks) cs {n} e = go (given k cs) refl (given-number ks cs) e
   where
-    go : (b : Bool) → given k cs ≡ b → (first_given ks cs ≡ some n → (k : Cause) × (number_of k ≡ n) × (given k cs ≡ true)) → cond b (some (number_of k)) (first_given ks cs) ≡ some n
+    go : (b : Bool) → given k cs ≡ b → (first_given ks cs ≡ Some n → (k : Cause) × (number_of k ≡ n) × (given k cs ≡ true)) → cond b (Some (number_of k)) (first_given ks cs) ≡ Some n
         → (k : Cause) × (number_of k ≡ n) × (given k cs ≡ true)
     go true f ih p = (k, (let q : number_of k ≡ n = cc in q), f)
     go false f ih p = ih p
@@ -81,7 +81,7 @@ eight_is Refusals.capacity e = refl
 eight_is output_short e = absurd (omega arith)
 
 -- so it is given where that cause is
-eight-given : (ks : List Cause) (cs : List Condition) → first_given ks cs ≡ some 8 → given Refusals.capacity cs ≡ true
+eight-given : (ks : List Cause) (cs : List Condition) → first_given ks cs ≡ Some 8 → given Refusals.capacity cs ≡ true
 eight-given ks cs e = let g = given-number ks cs e in subst (λ k. given k cs ≡ true) (eight_is g.0 g.1) g.2
 
 -- ---- the calls
@@ -98,10 +98,10 @@ module _ (full : ℕ → Bool) (s : Fed) where
   reports-not cs a quiet e = go (refusal (reads s ++ cs)) refl e
     where
       go : (o : Option ℕ) → refusal (reads s ++ cs) ≡ o → (settle o (positions_of s) a (positions_of s)).answer ≡ refused 8 → ⊥
-      go none f p = let z : ◌≡◌ {A = ℕ} 0 1 = cc in omega arith
-      go (some n) f p =
+      go None f p = let z : ◌≡◌ {A = ℕ} 0 1 = cc in omega arith
+      go (Some n) f p =
           let q : n ≡ 8 = cc in
-          true≢false (sym (eight-given order (reads s ++ cs) (f ∙ ap some q)) ∙ quiet)
+          true≢false (sym (eight-given order (reads s ++ cs) (f ∙ ap Some q)) ∙ quiet)
 
   -- one that changes is where the runs of what it changes to are too many
   module _ (cs : List Condition) (Q : Positions) (a : Result) where
@@ -110,13 +110,13 @@ module _ (full : ℕ → Bool) (s : Fed) where
     due t = refusal (reads s ++ Refusals.capacity when t ∷ cs)
 
     -- which is 8
-    eight-due : (change full s cs Q a).answer ≡ refused 8 → due (full (stretches Q)) ≡ some 8
+    eight-due : (change full s cs Q a).answer ≡ refused 8 → due (full (stretches Q)) ≡ Some 8
     unfolding change too_many due
     eight-due e = go (refusal (reads s ++ Refusals.capacity when full (stretches Q) ∷ cs)) e
       where
-        go : (o : Option ℕ) → (settle o (positions_of s) a (bounded Q)).answer ≡ refused 8 → o ≡ some 8
-        go none p = let z : ◌≡◌ {A = ℕ} 0 1 = cc in absurd (omega arith)
-        go (some n) p = let q : n ≡ 8 = cc in ap some q
+        go : (o : Option ℕ) → (settle o (positions_of s) a (bounded Q)).answer ≡ refused 8 → o ≡ Some 8
+        go None p = let z : ◌≡◌ {A = ℕ} 0 1 = cc in absurd (omega arith)
+        go (Some n) p = let q : n ≡ 8 = cc in ap Some q
 
     -- it is refused with 8 only where they are, if nothing else gives 8
     pub alters-over : given Refusals.capacity cs ≡ false → (change full s cs Q a).answer ≡ refused 8 → full (stretches Q) ≡ true
@@ -132,7 +132,7 @@ module _ (full : ℕ → Bool) (s : Fed) where
     unfolding change too_many due
     alters-many e r d = go (full (stretches Q)) refl
       where
-        free : due false ≡ none
+        free : due false ≡ None
         free = unrefused (due false) (positions_of s) a r (bounded Q) (sym d)
 
         go : (t : Bool) → full (stretches Q) ≡ t → full (stretches (settle (due false) (positions_of s) a (bounded Q)).positions) ≡ true
@@ -140,7 +140,7 @@ module _ (full : ℕ → Bool) (s : Fed) where
             ap (λ o. full (stretches (settle o (positions_of s) a (bounded Q)).positions)) free
             ∙ ap full (stretches-cong (bounded Q) Q (λ x h. sym (bounded-is Q x h))) ∙ f
         go false f =
-            let g : ◌≡◌ {A = Option ℕ} none (some 8) = sym free ∙ sym (ap due f) ∙ eight-due e in
+            let g : ◌≡◌ {A = Option ℕ} None (Some 8) = sym free ∙ sym (ap due f) ∙ eight-due e in
             let z : ◌≡◌ {A = ℕ} 0 1 = cc in absurd (omega arith)
 
   -- every call is one of these

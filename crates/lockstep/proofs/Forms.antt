@@ -1,11 +1,12 @@
 -- Two forms of one call: what a call promises fixes its answer, every world after it and, of a call that writes, every byte of the slice. So any
 -- two functions that promise the same agree in these. Assumes nothing.
+use Rattle.std.specs.Prelude.{Ok, Err}
+use Rattle.model.specs.Answers.{OrRefusal}
 use Prim.Native.Nat.{ℕ, ◌<◌}
 use mathlib.Core.Path.{◌≡◌, sym, ap, ap₂, ◌∙◌, subst}
 use mathlib.Core.List.{List}
 use native.Mathlib.Omega.{arith}
 use native.Mathlib.Decide.{ℕ_discrete}
-use Rattle.model.specs.declared.Written.{Written}
 use Rattle.model.specs.Answers.{written_answer}
 use Rattle.model.specs.Numbers.{most_worlds}
 use Rattle.model.specs.Positions.{Positions}
@@ -51,13 +52,13 @@ met-alike {w} {i} {c} {a} {b} {w'} {v'} m n =
 
 -- ---- a call that writes
 -- equal answers of such a call have equal slices, where a refusal leaves the slice
-slices-alike : (r s : Written) (out out' out'' : List ℕ) → written_answer r out' ≡ written_answer s out'' → Unwritten r out out' → Unwritten s out out'' → out' ≡ out''
-slices-alike (Written.Refused r) (Written.Refused s) out out' out'' e f g = f ∙ sym g
-slices-alike (Written.Refused r) (Written.Front n) out out' out'' e f g = cc
-slices-alike (Written.Front n) (Written.Refused s) out out' out'' e f g = cc
-slices-alike (Written.Front n) (Written.Front m) out out' out'' e f g = cc
+slices-alike : (r s : OrRefusal ℕ) (out out' out'' : List ℕ) → written_answer r out' ≡ written_answer s out'' → Unwritten r out out' → Unwritten s out out'' → out' ≡ out''
+slices-alike (Err r) (Err s) out out' out'' e f g = f ∙ sym g
+slices-alike (Err r) (Ok n) out out' out'' e f g = cc
+slices-alike (Ok n) (Err s) out out' out'' e f g = cc
+slices-alike (Ok n) (Ok m) out out' out'' e f g = cc
 
-pub writes-alike : {c : List ℕ → Call Site} {w : List ℕ} {i : ℕ} {out : List ℕ} {r s : Written} {out' out'' : List ℕ} → WritesOut c w i out r out' → WritesOut c w i out s out''
+pub writes-alike : {c : List ℕ → Call Site} {w : List ℕ} {i : ℕ} {out : List ℕ} {r s : OrRefusal ℕ} {out' out'' : List ℕ} → WritesOut c w i out r out' → WritesOut c w i out s out''
     → (written_answer r out' ≡ written_answer s out'') × (out' ≡ out'')
 writes-alike {out = out} {r = r} {s = s} {out' = out'} {out'' = out''} m n =
     let e = (met-alike m.met n.met).0 in (e, slices-alike r s out out' out'' e m.unwritten n.unwritten)

@@ -1,9 +1,9 @@
 -- Loading: bytes load into a world exactly where none of the refusals of written sets holds, and they are then the bytes of the positions that it
 -- holds after it. So what was written loads. Assumes nothing.
+use Rattle.std.specs.Prelude.{None, Ok}
 use Prim.Native.Nat.{ℕ}
 use mathlib.Core.Path.{◌≡◌, refl, sym, ap, ◌∙◌, subst}
 use mathlib.Core.List.{List, ◌∷◌}
-use mathlib.Core.Option.{none}
 use Rattle.model.specs.declared.Edition.{Edition}
 use Rattle.model.specs.Positions.{mem, bounded}
 use Rattle.model.proofs.Ops.{bounded-below}
@@ -19,7 +19,6 @@ use Rattle.promises.specs.Met.{fed_of, full_at, outcome_of, Readable, Met}
 use Rattle.promises.proofs.Meeting.{readable, met_by, settled_same, settled-as}
 use Rattle.promises.proofs.Changing.{fits-few}
 use Rattle.promises.proofs.Served.{unrefused}
-use Rattle.interval_bit_set.specs.declared.look.Look.{Look}
 use Rattle.interval_bit_set.proofs.Looking.{looked-sound}
 use Rattle.lockstep.specs.History.{Loads, Writable}
 use Rattle.lockstep.proofs.Following.{played-holds}
@@ -41,12 +40,12 @@ load-by w i bs = refl
 
 module _ {C : ℕ} {bs : List ℕ} (L : Loads C bs) where
   -- nothing was refused
-  unrefused-load : refusal (conditions (full_at L.pool L.world) (fed_of L.pool L.world) bs) ≡ none
+  unrefused-load : refusal (conditions (full_at L.pool L.world) (fed_of L.pool L.world) bs) ≡ None
   unrefused-load = unrefused _ _ _ _ _ (L.met.answered ∙ ap (λ o. o.answer) (load-by L.pool L.world bs))
 
   -- so the world can be read, and the bytes were accepted
   pub loaded-readable : Readable L.pool L.world
-  loaded-readable = looked-sound Look.Sound (sym (unearned (fed_of L.pool L.world) (too_much when too_many (full_at L.pool L.world) (mem (decode bs)) ∷ set_conditions bs) unrefused-load)) refl
+  loaded-readable = looked-sound (Ok tt) (sym (unearned (fed_of L.pool L.world) (too_much when too_many (full_at L.pool L.world) (mem (decode bs)) ∷ set_conditions bs) unrefused-load)) refl
 
   pub loaded-accepted : Accepted (full_at L.pool L.world) bs
   loaded-accepted = unrefused-accepted (full_at L.pool L.world) (fed_of L.pool L.world) bs unrefused-load

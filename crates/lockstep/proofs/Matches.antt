@@ -1,8 +1,8 @@
 -- Whether calls come singly or in frames, answers and worlds are the plain model's, over one list of all calls. Assumes nothing.
+use Rattle.std.specs.Prelude.{Option, None, Some}
 use Prim.Native.Nat.{ℕ, zero, suc}
 use mathlib.Core.Path.{◌≡◌, refl, ap, ap₂, sym, ◌∙◌, subst}
 use mathlib.Core.List.{List, [], ◌∷◌, ◌++◌}
-use mathlib.Core.Option.{Option, none, some}
 use Rattle.model.specs.declared.Limits.{Limits}
 use Rattle.model.specs.Bytes.{into_front}
 use Rattle.model.specs.Refusals.{output_short, ◌when◌, refusal, no_room}
@@ -50,8 +50,8 @@ module _ (w fs out : List ℕ) where
       due = records_of (answers (capacity w) (worlds_of w) (calls_of fs))
 
       go : (y : Option ℕ) → gave done ≡ (settle_frame y (worlds_of w) all-served.worlds due out).answer → settle_frame y (worlds_of w) all-served.worlds due out ≡ all-served
-      go none f = refl
-      go (some n) f = absurd (refused-not (sym f))
+      go None f = refl
+      go (Some n) f = absurd (refused-not (sym f))
 
 -- it left what the model leaves
 framed-left : {w fs out w' out' : List ℕ} → Framed w fs out (gave done) w' out' → Pooled w w' (after (capacity w) (worlds_of w) (calls_of fs))

@@ -1,9 +1,9 @@
 -- The list for the deepest tree, over what its call promises (document 02, Ticket 10): where it is not refused, the front of the slice is the list.
 -- Assumes nothing.
+use Rattle.std.specs.Prelude.{Option, None, Some}
 use Prim.Native.Nat.{ℕ, ◌*◌}
 use mathlib.Core.Path.{◌≡◌, ap₂, ◌∙◌}
 use mathlib.Core.List.{List}
-use mathlib.Core.Option.{Option, none, some}
 use native.Mathlib.Omega.{arith}
 use lib.Dec.{eqb}
 use lib.ListN.{length, take}
@@ -19,8 +19,8 @@ use Rattle.promises.proofs.Putting.{take-front}
 
 -- an answer that is no refusal is what is due
 unrefused : (y : Option ℕ) (ws : List PlainWorld) (n k : ℕ) (bs cs : List ℕ) → gave (written n bs) ≡ (settle_measured y ws (written k cs)).answer → (n ≡ k) × (bs ≡ cs)
-unrefused none ws n k bs cs e = (cc e, cc e)
-unrefused (some m) ws n k bs cs e = let z : ◌≡◌ {A = ℕ} 0 1 = cc e in absurd (omega arith)
+unrefused None ws n k bs cs e = (cc e, cc e)
+unrefused (Some m) ws n k bs cs e = let z : ◌≡◌ {A = ℕ} 0 1 = cc e in absurd (omega arith)
 
 module _ {w : List ℕ} {h : ℕ} {out out' : List ℕ} {n : ℕ} {w' : List ℕ} (m : Measured w (deepest h) out (gave (written n out')) w') where
   -- the number and the slice are those of the list

@@ -1,10 +1,10 @@
 -- Mending, over what the public calls promise (document 02, Ticket 9): a set that loads comes back byte for byte with every run kept, and what was
 -- written as the mended set loads and leaves the worlds that mending left. Assumes nothing.
+use Rattle.std.specs.Prelude.{Option, None, Some, Ok}
 use Prim.Native.Nat.{ℕ, ◌≤◌}
 use mathlib.Core.Path.{◌≡◌, refl, sym, ap, ap₂, ◌∙◌, subst}
 use mathlib.Core.Bool.{Bool, true, false}
 use mathlib.Core.List.{List, ◌∷◌, ◌++◌}
-use mathlib.Core.Option.{Option, none, some}
 use native.Mathlib.Omega.{arith}
 use lib.ListN.{length, take, replicate}
 use borrow.Author.Tests.{ltb-false, not-false}
@@ -26,7 +26,6 @@ use Rattle.promises.proofs.Changing.{full-above}
 use Rattle.promises.proofs.Putting.{take-front}
 use Rattle.promises.proofs.Served.{unrefused}
 use Rattle.sets.proofs.Mending.{allowed-most, conditions}
-use Rattle.interval_bit_set.specs.declared.look.Look.{Look}
 use Rattle.interval_bit_set.proofs.Looking.{looked-sound}
 use Rattle.lockstep.specs.History.{Loads}
 use Rattle.lockstep.proofs.Forms.{met-alike}
@@ -34,9 +33,9 @@ use Rattle.lockstep.proofs.Loading.{load-met, loaded-accepted}
 use Rattle.lockstep.proofs.Writing.{unearned}
 
 -- where 8 is not given, the runs are not too many
-unfull : (t : Bool) (cs : List Condition) → refusal (too_much when t ∷ cs) ≡ none → t ≡ false
+unfull : (t : Bool) (cs : List Condition) → refusal (too_much when t ∷ cs) ≡ None → t ≡ false
 unfull true cs e =
-    let f : ◌≡◌ {A = Option ℕ} (some 8) none = sym (refused_full cs (none_before (too_much when true ∷ cs) e)) ∙ e in
+    let f : ◌≡◌ {A = Option ℕ} (Some 8) None = sym (refused_full cs (none_before (too_much when true ∷ cs) e)) ∙ e in
     let z : ◌≡◌ {A = ℕ} 0 1 = cc in
     absurd (omega arith)
 unfull false cs e = refl
@@ -57,12 +56,12 @@ module _ (w : List ℕ) (i : ℕ) (bs out report : List ℕ) where
 
   module _ {out' report' w' : List ℕ} {n m : ℕ} (M : Met w i (Call.mend bs out report) (gave (mended n out' m report')) w') where
     -- nothing was refused
-    unrefused-mend : refusal (reads (fed_of w i) ++ due) ≡ none
+    unrefused-mend : refusal (reads (fed_of w i) ++ due) ≡ None
     unrefused-mend = unrefused _ _ _ _ _ (M.answered ∙ ap (λ o. o.answer) mend-by)
 
     -- so the world can be read
     mended-readable : Readable w i
-    mended-readable = looked-sound Look.Sound (sym (unearned (fed_of w i) due unrefused-mend)) refl
+    mended-readable = looked-sound (Ok tt) (sym (unearned (fed_of w i) due unrefused-mend)) refl
 
     -- both slices were filled as they should be
     filled : gave (mended n out' m report') ≡ gave gives

@@ -1,9 +1,9 @@
 -- What a world learns of its neighbours (document 02, Ticket 3): what the plain model says of a call on world i depends on that world and on the
 -- sum of what the others claim, and on nothing else. Assumes nothing.
+use Rattle.std.specs.Prelude.{Option, None, Some}
 use Prim.Native.Nat.{ℕ, zero, suc}
 use mathlib.Core.Path.{◌≡◌, refl, sym, ap, ap₂, ◌∙◌}
 use mathlib.Core.List.{List, [], ◌∷◌}
-use mathlib.Core.Option.{Option, none, some}
 use Rattle.model.specs.Positions.{Positions}
 use Rattle.model.specs.Call.{Fed, Call, feed, Answer}
 use Rattle.model.specs.Model.{serve}
@@ -14,8 +14,8 @@ use Rattle.promises.proofs.Simulation.{Holds, answer-is, step-holds}
 
 -- a world with other positions, if there is one
 abbrev replaced : Positions → Option PlainWorld → Option PlainWorld
-replaced P none = none
-replaced P (some x) = some (with_positions x P)
+replaced P None = None
+replaced P (Some x) = Some (with_positions x P)
 
 -- ---- world i alone, and the sum of what the others claim
 -- what the model says of a call on it

@@ -1,17 +1,17 @@
 -- From what the calls of the two histories promise to what the theorems ask: making is done in words of a capacity, each further call is
 -- one more of the history, and a set written into a slice with room is told by its bytes. Assumes nothing.
+use Rattle.std.specs.Prelude.{Option, None, Some, Ok, Err}
+use Rattle.model.specs.Answers.{OrRefusal}
 use Prim.Native.Nat.{ℕ, ◌+◌, ◌≤◌, ◌<◌}
 use mathlib.Core.Path.{◌≡◌, refl, sym, ap, ap₂, ◌∙◌, subst}
 use mathlib.Core.Bool.{true, false, ◌||◌, or-false}
 use lib.Dec.{ltb}
 use mathlib.Core.List.{List, [], ◌∷◌}
-use mathlib.Core.Option.{Option, none, some}
 use native.Mathlib.Omega.{arith}
 use borrow.Author.Tests.{le-ltb}
 use lib.ListN.{take}
 use Rattle.model.specs.declared.Bound.TheVariants.{Included}
 use Rattle.model.specs.declared.Edition.{Edition}
-use Rattle.model.specs.declared.Written.{Written}
 use Rattle.model.specs.Numbers.{size}
 use Rattle.model.specs.Positions.{Positions, empty}
 use Rattle.model.specs.Answers.{written_answer}
@@ -46,12 +46,12 @@ made {w} {v} ls {C = C} h e f m =
 
 -- ---- a set written into a slice with room
 -- is told by how many bytes it has
-tells : (r : Written) (out : List ℕ) → Wrote (written_answer r out) → (n : ℕ) × (r ≡ Written.Front n)
-tells (Written.Refused r) out (n, bs, e) = absurd (refused-not e)
-tells (Written.Front n) out k = (n, refl)
+tells : (r : OrRefusal ℕ) (out : List ℕ) → Wrote (written_answer r out) → (n : ℕ) × (r ≡ Ok n)
+tells (Err r) out (n, bs, e) = absurd (refused-not e)
+tells (Ok n) out k = (n, refl)
 
 -- so much of the slice is the set
-writes : {e : Edition} {w out out' : List ℕ} {i : ℕ} {r : Written} {n : ℕ} → WritesOut (Call.write_set e) w i out r out' → r ≡ Written.Front n
+writes : {e : Edition} {w out out' : List ℕ} {i : ℕ} {r : OrRefusal ℕ} {n : ℕ} → WritesOut (Call.write_set e) w i out r out' → r ≡ Ok n
     → WritesSet w i e (take n out')
 writes {e} {w} {out} {out'} {i} {n = n} W is = record {
   out = out;
@@ -65,8 +65,8 @@ writes {e} {w} {out} {out'} {i} {n = n} W is = record {
 -- ---- a pool of one world
 -- the positions of a world, if there is one
 abbrev positions_in : Option PlainWorld → Positions
-positions_in none = empty
-positions_in (some x) = x.positions
+positions_in None = empty
+positions_in (Some x) = x.positions
 
 -- two pools with equal worlds hold the same in the first
 same-held : {C : ℕ} {vs us : List PlainWorld} {w v : List ℕ} → Holds C vs w → Holds C us v → vs ≡ us → held_by w 0 ≡ held_by v 0
@@ -82,7 +82,7 @@ unfolding empty_worlds
 lone-meet C low high distance c h l = ways-meet C distance low high c h l
 
 -- ---- the two histories, and what they write
-module _ {a b limits left right left' right' a₁ a₂ b₁ b₂ b₃ : List ℕ} {low high distance : ℕ} {p q r s t : Answer} {x y : Written} {e : Edition} where
+module _ {a b limits left right left' right' a₁ a₂ b₁ b₂ b₃ : List ℕ} {low high distance : ℕ} {p q r s t : Answer} {x y : OrRefusal ℕ} {e : Edition} where
   pub same_bytes :
       Lent a b limits left right → low ≤ high → high + distance < size
       → Made a (limits_of limits) p a₁ → Met a₁ 0 (Call.set (Included (low + distance)) (Included (high + distance)) true) q a₂

@@ -1,10 +1,10 @@
 -- Why a list stopped, over what its call promises (document 02, Ticket 13): where it is not refused, the front of the slice has the places, and with 16
 -- no call of the list is refused. Assumes nothing.
+use Rattle.std.specs.Prelude.{Option, None, Some}
 use Prim.Native.Nat.{ℕ, ◌+◌, ◌<◌}
 use mathlib.Core.Path.{◌≡◌, refl, sym, ap₂, ◌∙◌, subst}
 use mathlib.Core.Bool.{Bool, true, false}
 use mathlib.Core.List.{List, [], ◌∷◌}
-use mathlib.Core.Option.{Option, none, some}
 use native.Mathlib.Omega.{arith}
 use lib.Dec.{eqb}
 use lib.ListN.{length, take}
@@ -32,31 +32,31 @@ module _ (w ranges out : List ℕ) where
       (written (length (places_told o)) (into_front (places_told o) out))).answer
 
   -- a list of places that was told is why
-  told : (s : Bool) (o : Option (List ℕ)) (n : ℕ) (out' : List ℕ) → gave (written n out') ≡ says s o → (ps : List ℕ) × (o ≡ some ps) × (n ≡ length ps) × (out' ≡ into_front ps out)
+  told : (s : Bool) (o : Option (List ℕ)) (n : ℕ) (out' : List ℕ) → gave (written n out') ≡ says s o → (ps : List ℕ) × (o ≡ Some ps) × (n ≡ length ps) × (out' ≡ into_front ps out)
   told true o n out' e = let z : ◌≡◌ {A = ℕ} 0 1 = cc e in absurd (omega arith)
-  told false none n out' e = go (no_room out []) e
+  told false None n out' e = go (no_room out []) e
     where
       go : (r : Bool) → gave (written n out') ≡ (settle_measured (refusal (store_length when false ∷ output_short when r ∷ not_refused when true ∷ [])) (worlds_of w) (written 0 (into_front [] out))).answer
-          → (ps : List ℕ) × (none ≡ some ps) × (n ≡ length ps) × (out' ≡ into_front ps out)
+          → (ps : List ℕ) × (None ≡ Some ps) × (n ≡ length ps) × (out' ≡ into_front ps out)
       go true e = let z : ◌≡◌ {A = ℕ} 0 1 = cc e in absurd (omega arith)
       go false e = let z : ◌≡◌ {A = ℕ} 0 1 = cc e in absurd (omega arith)
-  told false (some ps) n out' e = go (no_room out ps) e
+  told false (Some ps) n out' e = go (no_room out ps) e
     where
       go : (r : Bool)
           → gave (written n out') ≡ (settle_measured (refusal (store_length when false ∷ output_short when r ∷ not_refused when false ∷ [])) (worlds_of w) (written (length ps) (into_front ps out))).answer
-          → (qs : List ℕ) × (some ps ≡ some qs) × (n ≡ length qs) × (out' ≡ into_front qs out)
+          → (qs : List ℕ) × (Some ps ≡ Some qs) × (n ≡ length qs) × (out' ≡ into_front qs out)
       go true e = let z : ◌≡◌ {A = ℕ} 0 1 = cc e in absurd (omega arith)
       go false e = (ps, refl, cc e, cc e)
 
   -- where 16 is given, nothing is
-  none_told : (s : Bool) (o : Option (List ℕ)) → refused 16 ≡ says s o → o ≡ none
-  none_told s none e = refl
-  none_told true (some ps) e = let z : ◌≡◌ {A = ℕ} 16 1 = cc e in absurd (omega arith)
-  none_told false (some ps) e = go (no_room out ps) e
+  none_told : (s : Bool) (o : Option (List ℕ)) → refused 16 ≡ says s o → o ≡ None
+  none_told s None e = refl
+  none_told true (Some ps) e = let z : ◌≡◌ {A = ℕ} 16 1 = cc e in absurd (omega arith)
+  none_told false (Some ps) e = go (no_room out ps) e
     where
       go : (r : Bool)
           → refused 16 ≡ (settle_measured (refusal (store_length when false ∷ output_short when r ∷ not_refused when false ∷ [])) (worlds_of w) (written (length ps) (into_front ps out))).answer
-          → some ps ≡ none
+          → Some ps ≡ None
       go true e = let z : ◌≡◌ {A = ℕ} 16 2 = cc e in absurd (omega arith)
       go false e = let z : ◌≡◌ {A = ℕ} 0 1 = cc e in absurd (omega arith)
 
@@ -69,7 +69,7 @@ module _ (w ranges out : List ℕ) where
     -- the places
     record Told : Type 0 where
       ps : List ℕ
-      why : stopped (capacity w) ranges ≡ some ps
+      why : stopped (capacity w) ranges ≡ Some ps
       many : n ≡ length ps
       front : take n out' ≡ ps
 
@@ -108,6 +108,6 @@ module _ (w ranges out : List ℕ) where
   unfolding Spawning.why_full
   none-given m = list-given (capacity w) (ranges_of ranges) (go (first_refused (capacity w) (entries_of (ranges_of ranges))) (none_told (eqb (capacity w) 0) (stopped (capacity w) ranges) (said m)))
     where
-      go : (o : Option ℕ) → why_full_up_to (entries_of (ranges_of ranges)) o ≡ none → o ≡ none
-      go none e = refl
-      go (some f) e = let z : ◌≡◌ {A = ℕ} 0 1 = cc e in absurd (omega arith)
+      go : (o : Option ℕ) → why_full_up_to (entries_of (ranges_of ranges)) o ≡ None → o ≡ None
+      go None e = refl
+      go (Some f) e = let z : ◌≡◌ {A = ℕ} 0 1 = cc e in absurd (omega arith)

@@ -1,9 +1,9 @@
 -- Written sets: an opened world writes, in either edition, the bytes of the runs that it holds, and writes them whenever the slice is long
 -- enough. At most C runs are held, so 5 + 16 × C bytes are; and sets written alike are of the same positions. Assumes nothing.
+use Rattle.std.specs.Prelude.{Option, None, Some, Ok}
 use Prim.Native.Nat.{ℕ, ◌+◌, ◌*◌, ◌≤◌}
 use mathlib.Core.Path.{◌≡◌, refl, sym, ap, ap₂, ◌∙◌}
 use mathlib.Core.List.{List, [], ◌∷◌, ◌++◌}
-use mathlib.Core.Option.{Option, none, some}
 use native.Mathlib.Omega.{arith}
 use lib.ListN.{length, take}
 use Rattle.model.specs.declared.Edition.{Edition}
@@ -27,7 +27,6 @@ use Rattle.promises.proofs.Putting.{take-front}
 use Rattle.promises.proofs.Served.{unrefused}
 use Rattle.promises.proofs.Simulation.{same-positions}
 use Rattle.interval_bit_set.proofs.Looking.{looked-sound}
-use Rattle.interval_bit_set.specs.declared.look.Look.{Look}
 use Rattle.lockstep.specs.History.{WritesSet}
 
 -- the bytes of a set of positions, in an edition
@@ -36,18 +35,18 @@ bytes_of e P = encode e (held_runs P)
 
 -- ---- a world that wrote can be read
 -- a refusal of a look refuses whatever else there is
-pub unearned : (s : Fed) (cs : List Condition) → refusal (reads s ++ cs) ≡ none → first_given looks (reads s) ≡ none
+pub unearned : (s : Fed) (cs : List Condition) → refusal (reads s ++ cs) ≡ None → first_given looks (reads s) ≡ None
 unearned (holding P) cs e = refl
 unearned wrong_length cs e = let z : ◌≡◌ {A = ℕ} 0 1 = cc in absurd (omega arith)
 unearned unsound cs e = absurd (go (given store_length cs) (given world_limits cs) e)
   where
-    go : (x y : Bool) → cond {A = Option ℕ} x (some 1) (cond {A = Option ℕ} y (some 11) (some 7)) ≡ none → ⊥
+    go : (x y : Bool) → cond {A = Option ℕ} x (Some 1) (cond {A = Option ℕ} y (Some 11) (Some 7)) ≡ None → ⊥
     go true y f = let z : ◌≡◌ {A = ℕ} 0 1 = cc in omega arith
     go false true f = let z : ◌≡◌ {A = ℕ} 0 1 = cc in omega arith
     go false false f = let z : ◌≡◌ {A = ℕ} 0 1 = cc in omega arith
 unearned unopened cs e =
     let r = unopened-refused cs in
-    let f : some r.0 ≡ none = sym r.1 ∙ e in
+    let f : Some r.0 ≡ None = sym r.1 ∙ e in
     let z : ◌≡◌ {A = ℕ} 0 1 = cc in
     absurd (omega arith)
 
@@ -59,11 +58,11 @@ write-by w i e out = refl
 
 module _ {w : List ℕ} {i : ℕ} {e : Edition} {bs : List ℕ} (W : WritesSet w i e bs) where
   -- nothing was refused
-  unrefused-write : refusal (reads (fed_of w i) ++ output_short when no_room W.out (bytes_of e (positions_of (fed_of w i))) ∷ []) ≡ none
+  unrefused-write : refusal (reads (fed_of w i) ++ output_short when no_room W.out (bytes_of e (positions_of (fed_of w i))) ∷ []) ≡ None
   unrefused-write = unrefused _ _ _ _ _ (W.met.answered ∙ ap (λ o. o.answer) (write-by w i e W.out))
 
   pub writer-readable : Readable w i
-  writer-readable = looked-sound Look.Sound (sym (unearned (fed_of w i) (output_short when no_room W.out (bytes_of e (positions_of (fed_of w i))) ∷ []) unrefused-write)) refl
+  writer-readable = looked-sound (Ok tt) (sym (unearned (fed_of w i) (output_short when no_room W.out (bytes_of e (positions_of (fed_of w i))) ∷ []) unrefused-write)) refl
 
   -- what is written is the bytes of the positions held
   pub written_is : bs ≡ bytes_of e (held_by w i)

@@ -1,6 +1,6 @@
 -- Two pools of one capacity, each of one world, that write the same bytes. Assumes nothing: these are definitions.
+use Rattle.std.specs.Prelude.{Ok}
 use Rattle.std.specs.Prelude.{ℕ, ◌+◌, ◌*◌, ◌≤◌, ◌≡◌, List, [], ◌∷◌, length, take}
-use Rattle.model.specs.declared.Written.{Written}
 use Rattle.model.specs.Pools.{limits_of}
 use Rattle.store.specs.Layout.{capacity}
 use Rattle.lockstep.specs.declared.Sets.{Sets}
@@ -17,6 +17,6 @@ pub record Lent (a b limits left right : List ℕ) : Type 0 where
 pub record SameBytes (s : Sets) (left right : List ℕ) : Type 0 where
   pub n : ℕ
   pub m : ℕ
-  pub first-is : s.first ≡ Written.Front n
-  pub second_is : s.second ≡ Written.Front m
+  pub first-is : s.first ≡ Ok n
+  pub second_is : s.second ≡ Ok m
   pub bytes : take n left ≡ take m right

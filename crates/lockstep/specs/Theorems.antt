@@ -1,12 +1,12 @@
 -- THE THEOREMS. No tree and no offset is mentioned, but in the last one, which is about trees: a pool is known by what its calls promise.
 -- Assumes nothing: these are statements. proofs/Theorems.antt proves each under its name, in small letters.
+use Rattle.std.specs.Prelude.{Some}
+use Rattle.model.specs.Answers.{OrRefusal}
 use Rattle.std.specs.Prelude.{ℕ, ◌+◌, ◌*◌, ◌≤◌, ◌<◌, ◌≡◌, true, false, List, length, take, replicate, get_or}
-use Rattle.std.proofs.Math.Option.{some}
 use Rattle.model.specs.declared.Edition.{Edition}
 use Rattle.model.specs.declared.Edition.TheVariants.{Columns}
 use Rattle.model.specs.Numbers.{size}
 use Rattle.model.specs.declared.Limits.{Limits}
-use Rattle.model.specs.declared.Written.{Written}
 use Rattle.model.specs.Answers.{written_answer}
 use Rattle.model.specs.RunList.{AllBytes}
 use Rattle.model.specs.Positions.{empty, stretches}
@@ -118,7 +118,7 @@ abbrev pub Forms-agree : Type 0
 Forms-agree =
     ((w : List ℕ) (i base n : ℕ) (bs : List ℕ) (a b : Answer) (w' v' : List ℕ)
     → Met w i (Call.read_map base n bs) a w' → Met w i (Call.read_map base n bs) b v' → (a ≡ b) × (worlds_of w' ≡ worlds_of v'))
-    × ((w : List ℕ) (i base n : ℕ) (out : List ℕ) (r s : Written) (out' out'' : List ℕ)
+    × ((w : List ℕ) (i base n : ℕ) (out : List ℕ) (r s : OrRefusal ℕ) (out' out'' : List ℕ)
     → WritesOut (Call.write_map base n) w i out r out' → WritesOut (Call.write_map base n) w i out s out'' → (written_answer r out' ≡ written_answer s out'') × (out' ≡ out''))
 
 -- ---- fill (document 02, Ticket 7)
@@ -159,7 +159,7 @@ Loads-converts =
 
 -- document 01's reader refuses every set of edition 2 with 4
 abbrev pub Old-reader : Type 0
-Old-reader = (w : List ℕ) (i : ℕ) (bs : List ℕ) → WritesSet w i Columns bs → document_one_refusal bs ≡ some 4
+Old-reader = (w : List ℕ) (i : ℕ) (bs : List ℕ) → WritesSet w i Columns bs → document_one_refusal bs ≡ Some 4
 
 -- ---- mending (document 02, Ticket 9)
 -- a set that loads, and so is right already, comes back byte for byte, and every run of it is kept

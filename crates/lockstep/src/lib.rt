@@ -6,13 +6,13 @@ ghost use Rattle.std.specs.Prelude.{◌+◌, ◌≤◌, ◌<◌};
 ghost use Rattle.model.specs.Numbers.{size};
 ghost use Rattle.lockstep.specs.Meeting.{Lent, SameBytes};
 
-use model::{Bound, Edition, Written};
+use model::{Bound, Edition, Refusal};
 
 // What two pools answered to writing the sets of their worlds.
 #[derive(Clone, Copy)]
 pub struct Sets {
-    pub first: Written,
-    pub second: Written,
+    pub first: Result<usize, Refusal>,
+    pub second: Result<usize, Refusal>,
 }
 
 // Two histories that come to the same positions, each in a pool of one world: the first gets them by one set, the second by a set further down
@@ -32,17 +32,17 @@ pub fn play_both(
     requires low_le_high { (low ≤ high) × (high + distance < size) }
     ensures { SameBytes result left.new right.new }
 {
-    interval_bit_set::make::new(a, limits);
-    interval_bit_set::change::set(
+    let _ = interval_bit_set::make::new(a, limits);
+    let _ = interval_bit_set::change::set(
         a,
         0,
         Bound::Included(low + distance),
         Bound::Included(high + distance),
         true,
     );
-    interval_bit_set::make::new(b, limits);
-    interval_bit_set::change::set(b, 0, Bound::Included(low), Bound::Included(high), true);
-    interval_bit_set::change::shift(b, 0, distance, true);
+    let _ = interval_bit_set::make::new(b, limits);
+    let _ = interval_bit_set::change::set(b, 0, Bound::Included(low), Bound::Included(high), true);
+    let _ = interval_bit_set::change::shift(b, 0, distance, true);
     let x = interval_bit_set::write::write_set(a, 0, edition, left);
     let y = interval_bit_set::write::write_set(b, 0, edition, right);
     Sets {

@@ -1,5 +1,5 @@
 -- What mending a written set asks of its slices, and what it leaves in them. Assumes nothing: these are definitions.
-use Rattle.std.specs.Prelude.{◌≡◌, ℕ, ◌+◌, ◌*◌, ◌≤◌, Bool, true, false, List, length}
+use Rattle.std.specs.Prelude.{◌≡◌, ℕ, ◌+◌, ◌*◌, ◌≤◌, List, length}
 use Rattle.model.specs.declared.Run.{Run}
 use Rattle.model.specs.declared.Edition.{Edition}
 use Rattle.model.specs.Positions.{held_runs, stretches, mem}
@@ -12,7 +12,6 @@ pub record Due (es : List Run) (total : ℕ) (out report : List ℕ) : Type 0 wh
   pub room : 5 + 16 * total ≤ length out
   pub room₂ : length es ≤ length report
 
--- both are written, or stay
-abbrev pub United : Edition → List Run → Bool → List ℕ → List ℕ → List ℕ → List ℕ → Type 0
-United e es true out report out' report' = (out' ≡ into_front (encode e (held_runs (mem es))) out) × (report' ≡ into_front (fates_from es 0 es) report)
-United e es false out report out' report' = (out' ≡ out) × (report' ≡ report)
+-- both are written
+abbrev pub United : Edition → List Run → List ℕ → List ℕ → List ℕ → List ℕ → Type 0
+United e es out report out' report' = (out' ≡ into_front (encode e (held_runs (mem es))) out) × (report' ≡ into_front (fates_from es 0 es) report)

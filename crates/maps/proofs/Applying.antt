@@ -1,5 +1,6 @@
 -- A map read into a world: one set where it has one value; else the window is cleared, and then each stretch that is to be held is set.
 -- Then the world holds what is read so far, and what is left of the window is cleared. Assumes nothing.
+use Rattle.changes.specs.Edits.{changed_to}
 use Rattle.std.proofs.Common.{◌≡◌, ℕ, suc, ◌+◌, ◌-◌, ◌<◌, ◌≤◌, Bool, true, false, ◌⊎◌, List, sym, refl, ap, ◌∙◌, inl, inr, arith}
 use Rattle.model.specs.Numbers.{size}
 use Rattle.model.proofs.Numbers.{split}
@@ -13,7 +14,6 @@ use Rattle.store.specs.Soundness.{Share, Limited, Editable}
 use Rattle.store.specs.Settle.{Became}
 use Rattle.store.proofs.Nodes.{still-then, still-same}
 use Rattle.store.proofs.Settling.{became-limited}
-use Rattle.changes.specs.declared.edit.Edit.{Edit}
 use Rattle.changes.specs.Edits.{Makes, Edited, Appliable, StretchEnd}
 use Rattle.maps.specs.Window.{Window, MayMap}
 use Rattle.maps.proofs.Windows.{mapped-below, mapped-above, mapped_at, changes-nothing}
@@ -230,7 +230,7 @@ module _ {w₁ w : List ℕ} {a₁ a : World} {base n : ℕ} {bs : List ℕ} {i 
 -- ---- a map that changes nothing
 -- the world holds already what is read
 pub nothing-changed : {w : List ℕ} {h : World} {limit : ℕ} (Q : Positions) → Editable w h limit → changes (held_in w h) Q ≡ 0
-    → Edited w w h limit Q (Edit.Changed h (record { carry = 0; low = 0 }))
+    → Edited w w h limit Q (changed_to h (record { carry = 0; low = 0 }))
 nothing-changed {w} {h} Q m z = (
   omega (arith, m.1.fits, stretches-cong (held_in w h) Q (changes-nothing (held_in w h) Q z)),
   λ s limit l f. stays l (changes-nothing (held_in w h) Q z),

@@ -4,12 +4,12 @@ use Rattle.std.proofs.Common.{◌≡◌, ℕ, zero, suc, ◌+◌, ◌-◌, ◌*�
 use Rattle.std.proofs.Common.{ap, ◌∙◌, ap₂, mod-eq_of_lt, one-mul, zero-add, zero-mul, arith, pow_pos, shl_exact, le-leb}
 use mathlib.Core.Bool.{and-true}
 use native.Mathlib.Nat.{add-mul-mod_self_right, pow-le-pow_right}
-use lib.Bits.{bit_and, bit_or, and_shr, and_step, or_shr, or_step, or_lt}
+use lib.Bits.{bit_and, bit_or, and_shr, and_step, or_shr, or_step}
 use lib.Pow.{high, high_ones, ones_split, ones_lt}
 use borrow.Author.Tests.{lt-leb}
 use Rattle.model.specs.Positions.{Positions, one_if, inside}
 use Rattle.model.specs.Bytes.{bits}
-use Rattle.model.proofs.Maps.{bits-bound, bits-cong, bits-bit}
+use Rattle.model.proofs.Maps.{bits-cong, bits-bit}
 use Rattle.spare.proofs.Bytes.{bits_above}
 use Rattle.maps.proofs.Octeting.{same_bits}
 
@@ -143,17 +143,14 @@ pow-is (suc (suc (suc (suc (suc (suc (suc zero))))))) h = refl
 pow-is (suc (suc (suc (suc (suc (suc (suc (suc k)))))))) h = absurd (omega arith)
 
 -- as the code has it: nothing is shifted out
-shifted : (k : ℕ) → k < 8 → (1 * 2 ^ k) % 2 ^ 64 ≡ bits (λ i. eqb i k) 0 8
-shifted k h = shl_exact {a = 1} 1 k 64 (omega arith) (omega arith) ∙ (one-mul (2 ^ k) ∙ pow-is k h)
+shifted : (k : ℕ) → k < 8 → (1 * 2 ^ k) % 2 ^ 8 ≡ bits (λ i. eqb i k) 0 8
+shifted k h = shl_exact {a = 1} 1 k 8 (omega arith) (omega arith) ∙ (one-mul (2 ^ k) ∙ pow-is k h)
 
--- a byte with bit k set is a byte
+-- a byte with bit k set
 abbrev pub lit : ℕ → ℕ → ℕ
-lit x k = bit_or x ((1 * 2 ^ k) % 2 ^ 64)
-
-pub lit-small : (x k : ℕ) → k < 8 → x < 256 → lit x k < 256
-lit-small x k l h = or_lt 8 x ((1 * 2 ^ k) % 2 ^ 64) h (rw (shifted k l) (bits-bound (λ i. eqb i k) 0 8))
+lit x k = bit_or x ((1 * 2 ^ k) % 2 ^ 8)
 
 pub lit-bit : (x k b : ℕ) → k < 8 → b < 8 → bit_of (lit x k) b ≡ (bit_of x b || eqb b k)
 lit-bit x k b l h =
-    or-bit x ((1 * 2 ^ k) % 2 ^ 64) b
+    or-bit x ((1 * 2 ^ k) % 2 ^ 8) b
     ∙ ap (λ t. bit_of x b || t) (ap (λ (y : ℕ). bit_of y b) (shifted k l) ∙ position-bit (λ j. eqb j k) 0 8 b h ∙ ap (λ (j : ℕ). eqb j k) (zero-add b))

@@ -1,6 +1,6 @@
 -- Painting bits of a map: what a stored word or byte does to a map's bits, and that painting one range after another paints both.
 -- Assumes nothing.
-use Rattle.std.proofs.Common.{◌≡◌, ℕ, ◌+◌, ◌-◌, ◌*◌, ◌/◌, ◌%◌, ◌^◌, ◌<◌, ◌≤◌, true, false, ◌||◌, ◌⊎◌, List, length, get_or, set, sym, refl, ap}
+use Rattle.std.proofs.Common.{replicate, ◌≡◌, ℕ, ◌+◌, ◌-◌, ◌*◌, ◌/◌, ◌%◌, ◌^◌, ◌<◌, ◌≤◌, true, false, ◌||◌, ◌⊎◌, List, length, get_or, set, sym, refl, ap}
 use Rattle.std.proofs.Common.{◌∙◌, subst, inl, inr, mod-eq_of_lt, arith, length-set, get_or-set_other, get_or-set_same, eq-eqb, ne_eqb}
 use mathlib.Core.Bool.{or-true, or-false}
 use native.Mathlib.Decide.{ℕ_discrete}
@@ -11,7 +11,10 @@ use Rattle.model.proofs.Numbers.{split}
 use Rattle.model.proofs.Counting.{inside-yes, inside-below, inside-above}
 use Rattle.model.proofs.Maps.{bits-bound}
 use Rattle.maps.specs.Painted.{Puts, Adds, Paints}
-use Rattle.maps.proofs.Words.{bit-stays}
+use borrow.Rule.Slice.PartMut.{put_mid}
+use Rattle.std.proofs.lemmas.List.{length-replicate, get_or-replicate}
+use Rattle.maps.proofs.Octeting.{same_bits}
+use Rattle.maps.proofs.Words.{part_in, part-below, part-above, part-long, bit-stays}
 use Rattle.maps.proofs.Masks.{bit_of, position-bit, or-bit, Between, between-from, between-to, between-both, lit, lit-bit}
 
 -- ---- a stored word
@@ -94,58 +97,34 @@ adds-paints {m} {m'} {q} {v} {lo} {hi} f g h = record {
     go i (inl s) (inr x) (inl y) = out i x y (inside-below lo hi (i - 64 * q) (omega arith))
     go i (inr s) (inr x) (inl y) = out i x y (inside-above lo hi (i - 64 * q) (omega arith))
 
--- a word of ones
-pub ones-paint : {m m' : List ℕ} {v : ℕ} (q : ℕ) → v ≡ 2 ^ 64 - 1 → Puts m m' (8 * q) 8 v → Paints m m' (64 * q) (64 * q + 64)
-ones-paint {m} {m'} {v} q e p = record {
+-- ---- bytes of ones
+-- a bit of one
+ones-lit : (bs : List ℕ) (i : ℕ) → get_or bs (i / 8) 0 ≡ 255 → map_bit bs i ≡ true
+unfolding map_bit
+ones-lit bs i e =
+    ap (λ (x : ℕ). bit_of x (i % 8)) (e ∙ same_bits true 0 8) ∙ position-bit (λ _. true) 0 8 (i % 8) (omega arith)
+
+-- the words from p on, before q, filled with them
+pub fill-paints : (m : List ℕ) (p q : ℕ) {n : ℕ} {ys : List ℕ} → p ≤ q → 8 * q ≤ length m → n ≡ 8 * q - 8 * p → ys ≡ replicate n 255 → Paints m (put_mid (8 * p) (8 * q - 8 * p) m ys) (64 * p) (64 * q)
+fill-paints m p q {n} {ys} l h e f = record {
   here = λ i a b.
-      let l : i - 64 * q < 64 = omega arith in
-      let k : i ≡ 64 * q + (i - 64 * q) = omega arith in
-      ap (map_bit m') k ∙ word-here q p (omega arith) (i - 64 * q) l ∙ (between-to 63 (omega arith) e).bit (i - 64 * q) l
-      ∙ inside-yes 0 63 (i - 64 * q) (omega arith) (omega arith);
-  there = word-there q p;
-  long = p.long;
+      let k : i / 8 - 8 * p < 8 * q - 8 * p = omega arith in
+      let at : i / 8 ≡ 8 * p + (i / 8 - 8 * p) = omega arith in
+      ones-lit new i (ap (λ j. get_or new j 0) at ∙ part_in m ys (8 * p) (8 * q - 8 * p) (omega arith) long (i / 8 - 8 * p) k
+      ∙ ap (λ zs. get_or zs (i / 8 - 8 * p) 0) f ∙ get_or-replicate n (i / 8 - 8 * p) 255 0 (omega arith));
+  there = λ i s. go i s;
+  long = part-long m ys (8 * p) (8 * q - 8 * p) (omega arith) long;
 }
+  where
+    new : List ℕ
+    new = put_mid (8 * p) (8 * q - 8 * p) m ys
 
--- ---- words after words
--- the words from p on are painted as far as k, of those before q
-pub record Filling (m m' : List ℕ) (p k q : ℕ) : Type 0 where
-  pub from : p ≤ k
-  pub upto : k ≤ q
-  pub paints : Paints m m' (64 * p) (64 * k)
+    long : length ys ≡ 8 * q - 8 * p
+    long = ap length f ∙ length-replicate n 255 ∙ e
 
-pub filling-none : {m : List ℕ} {p q : ℕ} → p ≤ q → Filling m m p p q
-filling-none {m} {p} h = record { from = omega arith; upto = h; paints = paints-none m (64 * p) }
-
--- j words more, or none
-pub filling-more : {m m₁ m₂ m' : List ℕ} {p k q k' : ℕ} (j : ℕ) → Filling m m₁ p k q → k + j ≤ q → Paints m₁ m₂ (64 * k) (64 * (k + j)) → m' ≡ m₂ → k' ≡ k + j
-    → Filling m m' p k' q
-filling-more {m} {p = p} {k = k} {k' = k'} j f h g x y =
-    let a = f.from in record {
-      from = omega arith;
-      upto = omega arith;
-      paints = subst (λ (l : List ℕ). Paints m l (64 * p) (64 * k')) (sym x) (paints-at (paints-then f.paints g (omega arith) (omega arith) (omega arith)) refl (omega arith));
-    }
-
-pub filling-stays : {m m₁ m' : List ℕ} {p k q k' : ℕ} → Filling m m₁ p k q → m' ≡ m₁ → k' ≡ k → Filling m m' p k' q
-filling-stays {m} {m₁} {m'} {p} {k} {q} {k'} f x y =
-    let a = f.from in
-    let b = f.upto in record {
-      from = omega arith;
-      upto = omega arith;
-      paints = subst (λ (l : List ℕ). Paints m l (64 * p) (64 * k')) (sym x) (paints-at f.paints refl (omega arith));
-    }
-
--- all
-pub filling-all : {m m' : List ℕ} {p k q : ℕ} → Filling m m' p k q → q ≤ k → Paints m m' (64 * p) (64 * q)
-filling-all f h = let a = f.upto in paints-at f.paints refl (omega arith)
-
--- one word, as the code tells its end
-pub one_word : {m m' : List ℕ} (k : ℕ) → Paints m m' (64 * k) (64 * k + 64) → Paints m m' (64 * k) (64 * (k + 1))
-one_word k f = paints-at f refl (omega arith)
-
--- twice as many
-pub words-twice : {m m₁ m₂ : List ℕ} (k j : ℕ) → Paints m m₁ (64 * k) (64 * (k + j)) → Paints m₁ m₂ (64 * (k + j)) (64 * (k + j + j)) → Paints m m₂ (64 * k) (64 * (k + (j + j)))
-words-twice k j f g = paints-at (paints-then f g (omega arith) (omega arith) (omega arith)) refl (omega arith)
+    go : (i : ℕ) → (i < 64 * p) ⊎ (64 * q ≤ i) → map_bit new i ≡ map_bit m i
+    go i (inl s) = bit-stays m new i (part-below m ys (8 * p) (8 * q - 8 * p) (omega arith) long (i / 8) (omega arith))
+    go i (inr s) = bit-stays m new i (part-above m ys (8 * p) (8 * q - 8 * p) (omega arith) long (i / 8) (omega arith))
 
 -- ---- a first and a last word, and those between
 -- the words between the first and the last, if there are any

@@ -1,13 +1,17 @@
 -- Bytes stored one after the other, and a slice with the first bytes of some in front: storing the next ones there makes it more,
 -- and zeros have no bit that is 1. Assumes nothing.
-use Rattle.std.proofs.Common.{◌≡◌, ℕ, zero, suc, ◌+◌, ◌-◌, ◌/◌, ◌%◌, ◌^◌, ◌<◌, ◌≤◌, false, eqb, ◌⊎◌, List, ◌++◌, length, get_or, take, drop, set, refl}
-use Rattle.std.proofs.Common.{ap, ◌∙◌, ap₂, inl, inr, zero-add, add-one, arith, length-set, get_or-set_other, get_or-set_same}
+use Rattle.std.proofs.Common.{replicate, sym, ◌≡◌, ℕ, zero, suc, ◌+◌, ◌/◌, ◌%◌, ◌^◌, ◌<◌, ◌≤◌, false, eqb, ◌⊎◌, List, ◌++◌, length, get_or, take, drop, set, refl}
+use Rattle.std.proofs.Common.{ap, ◌∙◌, ap₂, inl, inr, zero-add, add-one, arith, length-set}
 use native.Mathlib.Nat.{zero-div}
-use native.Mathlib.Decide.{ℕ_discrete}
 use lib.ListN.{get_or-eq_default}
 use lib.Seq.{paste-suc, length-paste, take-length}
+use borrow.Rule.Slice.PartMut.{put_mid}
+use lib.Seq.{paste}
+use Rattle.std.proofs.lemmas.Slice.{put_mid-paste}
+use Rattle.std.proofs.lemmas.List.Edits.{paste_none, fill_from_more}
+use Rattle.std.proofs.lemmas.List.{length-replicate, get_or-replicate}
 use Rattle.model.specs.Positions.{Positions}
-use Rattle.model.specs.Bytes.{map_of, map_bit, into_front}
+use Rattle.model.specs.Bytes.{map_length, map_of, map_bit, into_front}
 use Rattle.model.proofs.Numbers.{split}
 use Rattle.model.proofs.Maps.{map_of-length}
 use Rattle.maps.specs.Octets.{stores}
@@ -42,6 +46,18 @@ pub stores_one : (f : ℕ → ℕ) (j : ℕ) (out : List ℕ) {b : ℕ} → b �
 unfolding stores
 stores_one f j out e = ap₂ (set out) (omega arith) e
 
+-- n copies of a byte, in the place of a part
+paste-stores : (j n b : ℕ) (out : List ℕ) → j + n ≤ length out → paste out j (replicate n b) n ≡ stores (λ _. b) j n out
+unfolding stores
+paste-stores j zero b out h = sym (paste_none out j (replicate 0 b))
+paste-stores j (suc n) b out h =
+    let e : n + 1 ≡ suc n = omega arith in
+    ap (λ k. paste out j (replicate k b) k) (sym e) ∙ sym (fill_from_more out j n b (omega arith)) ∙ ap (λ (l : List ℕ). set l (j + n) b) (paste-stores j n b out (omega arith))
+
+pub part-stores : (j n b : ℕ) (out : List ℕ) {k m : ℕ} {ys : List ℕ} → j + n ≤ length out → k ≡ n → m ≡ n → ys ≡ replicate m b → put_mid j k out ys ≡ stores (λ _. b) j n out
+part-stores j n b out {k} {m} {ys} h q p e =
+    put_mid-paste j k out ys (replicate n b) n (e ∙ ap (λ i. replicate i b) p) (sym q) (sym (length-replicate n b)) ∙ paste-stores j n b out h
+
 -- ---- a slice with the first j of some bytes in front
 abbrev pub fronted : List ℕ → List ℕ → ℕ → List ℕ
 fronted bs out j = take j bs ++ drop j out
@@ -67,31 +83,19 @@ pub fronted-all : (bs out : List ℕ) (j : ℕ) → j ≡ length bs → fronted 
 unfolding into_front
 fronted-all bs out j e = rw (e, take-length)
 
--- a map in a part of its length, as the code has it, and what lay behind
-pub map-front : (P : Positions) (base n : ℕ) (out : List ℕ) {ys : List ℕ} → 1 ≤ n → ys ≡ map_of P base n → ys ++ drop ((n - 1) / 8 + 1 - 0) out ≡ into_front (map_of P base n) out
+-- a map in a part of its length, and what lay behind
+pub map-front : (P : Positions) (base n : ℕ) (out : List ℕ) {ys : List ℕ} {due : ℕ} → due ≡ map_length n → ys ≡ map_of P base n → ys ++ drop due out ≡ into_front (map_of P base n) out
 unfolding into_front
-map-front P base n out h e =
-    let d : (n - 1) / 8 + 1 - 0 ≡ length (map_of P base n) = omega (arith, map_of-length P base n) in
-    ap₂ (λ (l : List ℕ) (k : ℕ). l ++ drop k out) e d
+map-front P base n out h e = ap₂ (λ (l : List ℕ) (k : ℕ). l ++ drop k out) e (h ∙ sym (map_of-length P base n))
 
 -- ---- zeros
--- a byte of the first n after n zeros are stored from the front
-zeros-at : (n : ℕ) (out : List ℕ) → n ≤ length out → (k : ℕ) → k < n → get_or (stores (λ _. 0) 0 n out) k 0 ≡ 0
-unfolding stores
-zeros-at zero out h k l = absurd (omega arith)
-zeros-at (suc n) out h k l = go (ℕ_discrete k (0 + n)) (zeros-at n out (omega arith) k)
-  where
-    go : Dec (k ≡ 0 + n) → (k < n → get_or (stores (λ _. 0) 0 n out) k 0 ≡ 0) → get_or (set (stores (λ _. 0) 0 n out) (0 + n) 0) k 0 ≡ 0
-    go (yes e) r = rw e (get_or-set_same (stores (λ _. 0) 0 n out) (0 + n) 0 0 (omega (arith, stores-length (λ _. 0) 0 n out)))
-    go (no ne) r = get_or-set_other (stores (λ _. 0) 0 n out) (0 + n) k 0 0 ne ∙ r (omega arith)
-
 -- where all bytes are zeros no bit is 1
-pub zeros-bit-none : (out : List ℕ) (i : ℕ) → map_bit (stores (λ _. 0) 0 (length out) out) i ≡ false
+pub zeros-bit-none : (n i : ℕ) → map_bit (replicate n 0) i ≡ false
 unfolding map_bit
-zeros-bit-none out i = go (split (i / 8) (length out))
+zeros-bit-none n i = go (split (i / 8) n)
   where
-    go : (i / 8 < length out) ⊎ (length out ≤ i / 8) → eqb (get_or (stores (λ _. 0) 0 (length out) out) (i / 8) 0 / 2 ^ (i % 8) % 2) 1 ≡ false
-    go (inl l) = rw (zeros-at (length out) out (omega arith) (i / 8) l, zero-div)
+    go : (i / 8 < n) ⊎ (n ≤ i / 8) → eqb (get_or (replicate n 0) (i / 8) 0 / 2 ^ (i % 8) % 2) 1 ≡ false
+    go (inl l) = rw (get_or-replicate {A = ℕ} n (i / 8) 0 0 l, zero-div)
     go (inr l) =
-        let g : length (stores (λ _. 0) 0 (length out) out) ≤ i / 8 = omega (arith, stores-length (λ _. 0) 0 (length out) out) in
-        rw (get_or-eq_default (stores (λ _. 0) 0 (length out) out) 0 g, zero-div)
+        let g : length (replicate {A = ℕ} n 0) ≤ i / 8 = omega (arith, length-replicate {A = ℕ} n 0) in
+        rw (get_or-eq_default (replicate n 0) 0 g, zero-div)

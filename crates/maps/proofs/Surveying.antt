@@ -2,6 +2,7 @@
 -- its own run, or none; it changes the positions that have the other value. Assumes nothing.
 use Rattle.std.proofs.Common.{◌≡◌, ℕ, suc, ◌+◌, ◌-◌, ◌<◌, ◌≤◌, Bool, true, false, not, ◌⊎◌, List, length, sym, refl, ap, ◌∙◌, inl, inr, arith, length-append}
 use borrow.Author.Tests.{not-true}
+use Rattle.std.specs.Int.{from_bool}
 use Rattle.model.specs.declared.Operation.TheVariants.{Xor}
 use Rattle.model.specs.Positions.{Positions, one_if, count, runs_in, run_count, combined}
 use Rattle.model.proofs.Counting.{count_cut, count-both, count_most}
@@ -49,12 +50,10 @@ surveying-none P base n bs = record {
   less = omega arith;
 }
 
--- a run more, where the stretch is one
-pub counted-yes : {v : Bool} {r : ℕ} (runs : ℕ) → v ≡ true → r ≡ runs + 1 → r ≡ runs + one_if v
-counted-yes {v} {r} runs e q = q ∙ ap (λ b. runs + one_if b) (sym e)
-
-pub counted-no : {v : Bool} {r : ℕ} (runs : ℕ) → v ≡ false → r ≡ runs → r ≡ runs + one_if v
-counted-no {v} {r} runs e q = omega (arith, ap one_if e)
+-- a run more, where the stretch is one: a truth value as the number that the code adds
+pub counted : (v : Bool) (runs : ℕ) {k : ℕ} → k ≡ from_bool v → runs + k ≡ runs + one_if v
+counted true runs e = omega (arith, e)
+counted false runs e = omega (arith, e)
 
 module _ {P : Positions} {base n : ℕ} {bs : List ℕ} {i runs changed : ℕ} (s : Surveying P base n bs i runs changed) {v : Bool} {e : ℕ} (value : v ≡ map_bit bs i) (more : i < n)
     (st : StretchEnd (map_bit bs) (map_bit bs i) i (n - 1) e) where

@@ -1,65 +1,79 @@
--- Words of a map: bytes, pairs and fours are joined to twice as many by shifting the upper half up, and stored one half after the other. So a
--- number is joined, or split, by one lemma at every width. Assumes nothing.
-use Rattle.std.proofs.Common.{◌≡◌, ℕ, ◌+◌, ◌*◌, ◌/◌, ◌%◌, ◌^◌, ◌<◌, ◌≤◌, eqb, ◌≢◌, ◌⊎◌, List, length, get_or, set, sym, ap, ◌∙◌, ap₂, inl}
-use Rattle.std.proofs.Common.{inr, add_comm, arith, length-set, get_or-set_other, get_or-set_same, shl_exact}
-use lib.Bits.{bit_or, or_shifted_r}
-use lib.Pow.{mod-pow-add}
-use Rattle.model.specs.Positions.{Positions}
+-- Words of a map: the number that eight bytes are, the lowest first, is the bits of their positions, and a word that is stored takes the place
+-- of a part of the map. Assumes nothing.
+use Rattle.std.proofs.Common.{◌≡◌, ℕ, zero, suc, ◌+◌, ◌*◌, ◌/◌, ◌%◌, ◌^◌, ◌<◌, ◌≤◌, eqb, ◌⊎◌, List, length, get_or, sym, refl, ap, ◌∙◌, ap₂, inl}
+use Rattle.std.proofs.Common.{inr, arith, mod-eq_of_lt, rules}
+use native.Mathlib.Nat.{pow-succ'}
+use lib.Pow.{pow-add}
+use borrow.Rule.Slice.PartMut.{put_mid}
+use Rattle.std.specs.Int.{w64, byte_worth, sum_through, from_le_bytes, to_le_bytes}
+use Rattle.std.proofs.lemmas.Nat.{from_le_bytes-to_le_bytes_8}
+use Rattle.std.proofs.lemmas.List.{places}
 use Rattle.model.specs.Bytes.{bits, map_bit}
-use Rattle.model.proofs.Maps.{bits-bound, bits-cong}
 use Rattle.maps.specs.Painted.{Puts}
 use Rattle.spare.proofs.Bytes.{bits_above, byte-is}
 
+-- ---- a part of a list that other elements took the place of
+module _ (xs ys : List ℕ) (a k : ℕ) (fits : a + k ≤ length xs) (long : length ys ≡ k) where
+  pub part_in : (i : ℕ) → i < k → get_or (put_mid a k xs ys) (a + i) 0 ≡ get_or ys i 0
+  part_in i h = search (rules, places)
+
+  pub part-below : (i : ℕ) → i < a → get_or (put_mid a k xs ys) i 0 ≡ get_or xs i 0
+  part-below i h = search (rules, places)
+
+  pub part-above : (i : ℕ) → a + k ≤ i → get_or (put_mid a k xs ys) i 0 ≡ get_or xs i 0
+  part-above i h = search (rules, places)
+
+  pub part-long : length (put_mid a k xs ys) ≡ length xs
+  part-long = search (rules, places)
+
 -- ---- reading
--- the bits of k positions and, shifted up, of the next k are those of both
-pub joined : (Q : Positions) (x y k : ℕ) {a b : ℕ} → k + k ≤ 64 → y ≡ x + k → a ≡ bits Q x k → b ≡ bits Q y k → bit_or a ((b * 2 ^ k) % 2 ^ 64) ≡ bits Q x (k + k)
-joined Q x y k {a} {b} l p e f =
-    let g : a < 2 ^ k = rw e (bits-bound Q x k) in
-    let h : b < 2 ^ k = rw f (bits-bound Q y k) in
-    ap (bit_or a) (shl_exact k k 64 h l) ∙ or_shifted_r b k a g ∙ add_comm (b * 2 ^ k) a
-    ∙ ap₂ (λ m n. m + n * 2 ^ k) e (f ∙ ap (λ z. bits Q z k) p) ∙ bits_above Q x k k
+-- what byte i of a number is worth
+octet-pow : (i : ℕ) → 256 ^ i ≡ 2 ^ (8 * i)
+octet-pow zero = refl
+octet-pow (suc i) =
+    let e : 8 * suc i ≡ 8 + 8 * i = omega arith in
+    pow-succ' 256 i ∙ ap (λ p. 256 * p) (octet-pow i) ∙ sym (ap (λ k. 2 ^ k) e ∙ pow-add 2 8 (8 * i))
+
+worth : (i b : ℕ) → byte_worth i b ≡ b * 2 ^ (8 * i)
+worth zero b = omega arith
+worth (suc i) b = ap (λ p. b * p) (octet-pow (suc i))
+
+module _ (bs xs : List ℕ) (j : ℕ) (small : (i : ℕ) → get_or bs i 0 < 256) where
+  -- k + 1 bytes from j on, the lowest first, are the bits of their positions
+  worth-bits : (k : ℕ) → ((i : ℕ) → i ≤ k → get_or xs i 0 ≡ get_or bs (j + i) 0) → sum_through (λ i. byte_worth i (get_or xs i 0)) k ≡ bits (map_bit bs) (8 * j) (8 * suc k)
+  worth-bits zero e =
+      let q : j + 0 ≡ j = omega arith in
+      e 0 (omega arith) ∙ ap (λ i. get_or bs i 0) q ∙ byte-is bs j (small j)
+  worth-bits (suc k) e =
+      let at : 8 * (j + suc k) ≡ 8 * j + 8 * suc k = omega arith in
+      let long : 8 * suc k + 8 ≡ 8 * suc (suc k) = omega arith in
+      ap₂ (λ x y. x + y) (worth-bits k (λ i h. e i (omega arith))) (worth (suc k) (get_or xs (suc k) 0)
+      ∙ ap (λ b. b * 2 ^ (8 * suc k)) (e (suc k) (omega arith) ∙ byte-is bs (j + suc k) (small (j + suc k)) ∙ ap (λ x. bits (map_bit bs) x 8) at))
+      ∙ bits_above (map_bit bs) (8 * j) (8 * suc k) 8 ∙ ap (bits (map_bit bs) (8 * j)) long
+
+  -- eight of them are a word
+  pub word-is : ((i : ℕ) → i < 8 → get_or xs i 0 ≡ get_or bs (j + i) 0) → from_le_bytes w64 xs ≡ bits (map_bit bs) (8 * j) 64
+  word-is e = worth-bits 7 (λ i h. e i (omega arith))
 
 -- ---- storing
--- a byte
-pub puts-byte : (out : List ℕ) (j v : ℕ) → j < length out → Puts out (set out j (v % 256)) j 1 v
-puts-byte out j v h = record {
-  here = sym (byte-is (set out j (v % 256)) j (rw (get_or-set_same out j (v % 256) 0 h) (omega arith))) ∙ get_or-set_same out j (v % 256) 0 h;
-  there = λ i o. get_or-set_other out j i (v % 256) 0 (other i o);
-  long = length-set out j (v % 256);
+-- the bytes of a word, in the place of eight
+pub word-puts : (out : List ℕ) (j v k : ℕ) {ys : List ℕ} → k ≡ 8 → j + 8 ≤ length out → v < 2 ^ 64 → ((i : ℕ) → get_or (put_mid j k out ys) i 0 < 256) → ys ≡ to_le_bytes w64 v
+    → Puts out (put_mid j k out ys) j 8 v
+word-puts out j v k {ys} q h l small e = record {
+  here = sym (word-is (put_mid j k out ys) ys j small (λ i g. sym (part_in out ys j k (omega arith) (long ∙ sym q) i (omega arith))))
+      ∙ ap (from_le_bytes w64) e ∙ from_le_bytes-to_le_bytes_8 v l ∙ sym (mod-eq_of_lt l);
+  there = λ i o. outside i o;
+  long = part-long out ys j k (omega arith) (long ∙ sym q);
 }
   where
-    other : (i : ℕ) → (i < j) ⊎ (j + 1 ≤ i) → i ≢ j
-    other i (inl l) q = omega arith
-    other i (inr l) q = omega arith
+    long : length ys ≡ 8
+    long = ap length e
+
+    outside : (i : ℕ) → (i < j) ⊎ (j + 8 ≤ i) → get_or (put_mid j k out ys) i 0 ≡ get_or out i 0
+    outside i (inl g) = part-below out ys j k (omega arith) (long ∙ sym q) i g
+    outside i (inr g) = part-above out ys j k (omega arith) (long ∙ sym q) i (omega arith)
 
 -- bits of bytes that stay are as they were
 pub bit-stays : (out out' : List ℕ) (i : ℕ) → get_or out' (i / 8) 0 ≡ get_or out (i / 8) 0 → map_bit out' i ≡ map_bit out i
 unfolding map_bit
 bit-stays out out' i e = ap (λ b. eqb (b / 2 ^ (i % 8) % 2) 1) e
-
--- the lower half of a number, and then the upper one after it
-pub puts-both : {out out₁ out₂ : List ℕ} {j y v : ℕ} (k : ℕ) → y ≡ j + k → Puts out out₁ j k v → Puts out₁ out₂ y k (v / 2 ^ (8 * k)) → Puts out out₂ j (k + k) v
-puts-both {out} {out₁} {out₂} {j} {y} {v} k p f g = record {
-  here = ap (bits (map_bit out₂) (8 * j)) (twice k)
-      ∙ (sym (bits_above (map_bit out₂) (8 * j) (8 * k) (8 * k)) ∙ (ap₂ (λ m n. m + n * 2 ^ (8 * k)) low high
-      ∙ (add_comm (v % 2 ^ (8 * k)) (v / 2 ^ (8 * k) % 2 ^ (8 * k) * 2 ^ (8 * k)) ∙ (sym (mod-pow-add v (8 * k) (8 * k)) ∙ ap (λ m. v % 2 ^ m) (sym (twice k))))));
-  there = λ i o. g.there i (above i o) ∙ f.there i (below i o);
-  long = g.long ∙ f.long;
-}
-  where
-    twice : (k : ℕ) → 8 * (k + k) ≡ 8 * k + 8 * k
-    twice k = omega arith
-
-    low : bits (map_bit out₂) (8 * j) (8 * k) ≡ v % 2 ^ (8 * k)
-    low = bits-cong (map_bit out₂) (map_bit out₁) (8 * j) (8 * k) (λ i a b. bit-stays out₁ out₂ i (g.there (i / 8) (inl (omega arith)))) ∙ f.here
-
-    high : bits (map_bit out₂) (8 * j + 8 * k) (8 * k) ≡ v / 2 ^ (8 * k) % 2 ^ (8 * k)
-    high = ap (λ x. bits (map_bit out₂) x (8 * k)) (omega arith) ∙ g.here
-
-    above : (i : ℕ) → (i < j) ⊎ (j + (k + k) ≤ i) → (i < y) ⊎ (y + k ≤ i)
-    above i (inl l) = inl (omega arith)
-    above i (inr l) = inr (omega arith)
-
-    below : (i : ℕ) → (i < j) ⊎ (j + (k + k) ≤ i) → (i < j) ⊎ (j + k ≤ i)
-    below i (inl l) = inl l
-    below i (inr l) = inr (omega arith)

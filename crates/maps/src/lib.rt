@@ -3,5 +3,6 @@
 
 pub mod paint;
 pub mod read;
+pub mod span;
 pub mod word;
 pub mod write;

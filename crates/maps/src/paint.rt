@@ -1,11 +1,11 @@
 // Painting the map of a window: all bits are cleared, then each run of the world sets its own, a word at a time and the rest by bytes. Runs may
 // come in any order, so they are taken as their nodes lie in memory: those that have a height and the world's tag.
-ghost use Rattle.std.specs.Prelude.{◌≡◌, ◌+◌, ◌-◌, ◌*◌, ◌/◌, ◌^◌, ◌<◌, ◌≤◌, min, length};
-ghost use Rattle.model.specs.Numbers.{size};
+ghost use Rattle.std.specs.Prelude.{◌≡◌, ◌+◌, ◌-◌, ◌*◌, ◌/◌, ◌^◌, ◌<◌, ◌≤◌, length};
 ghost use Rattle.model.specs.Bytes.{map_of, map_length};
 ghost use Rattle.store.specs.Layout.{held_in};
 ghost use Rattle.maps.specs.Painted.{Adds, Paints, PaintsRun, PaintsNodes, Scannable};
 
+use crate::span::Span;
 use store::World;
 
 // The bits from..=63 of a word, and those up to `to`.
@@ -33,56 +33,33 @@ fn add_word(map: &mut [u8], q: u64, v: u64)
     crate::word::put_word(map, at, w | v);
 }
 
-// Sets every bit of the word q.
-fn fill_word(map: &mut [u8], q: u64)
-    requires { 8 * q + 8 ≤ length map.old }
-    ensures { Paints map.old map.new (64 * q) (64 * q + 64) }
-{
-    crate::word::put_word(map, (8 * q) as usize, u64::MAX);
-}
-
-// Sets every bit of two words from k on, and of four.
-fn fill_two(map: &mut [u8], k: u64)
-    requires { 8 * (k + 2) ≤ length map.old }
-    ensures { Paints map.old map.new (64 * k) (64 * (k + 2)) }
-{
-    fill_word(map, k);
-    fill_word(map, k + 1);
-}
-
-fn fill_four(map: &mut [u8], k: u64)
-    requires { 8 * (k + 4) ≤ length map.old }
-    ensures { Paints map.old map.new (64 * k) (64 * (k + 4)) }
-{
-    fill_two(map, k);
-    fill_two(map, k + 2);
-}
-
-// Sets every bit of the words from p on, before q. A few words are stored one by one, without a loop: a compiler makes a call of memset of one,
-// which pays for many words only.
+// Sets every bit of the words from p on, before q.
 fn fill_words(map: &mut [u8], p: u64, q: u64)
     requires p_le_q { p ≤ q }
     requires q_in_bounds { 8 * q ≤ length map.old }
     ensures { Paints map.old map.new (64 * p) (64 * q) }
 {
-    let mut k = p;
-    if q - p >= 8 {
-        while k < q {
-            fill_word(map, k);
-            k += 1;
-        }
-        return;
-    }
-    if q - k >= 4 {
-        fill_four(map, k);
-        k += 4;
-    }
-    if q - k >= 2 {
-        fill_two(map, k);
-        k += 2;
-    }
-    if q - k >= 1 {
-        fill_word(map, k);
+    map[(8 * p) as usize..(8 * q) as usize].fill(255);
+}
+
+// The same, where a few words are filled as two parts of a fixed length, which may overlap: a compiler stores such a part without a call of
+// memset, which pays for many words only.
+fn fill_middle(map: &mut [u8], p: u64, q: u64)
+    requires p_le_q { p ≤ q }
+    requires q_in_bounds { 8 * q ≤ length map.old }
+    ensures { Paints map.old map.new (64 * p) (64 * q) }
+{
+    let n = q - p;
+    if n >= 8 {
+        fill_words(map, p, q);
+    } else if n >= 4 {
+        fill_words(map, p, p + 4);
+        fill_words(map, q - 4, q);
+    } else if n >= 2 {
+        fill_words(map, p, p + 2);
+        fill_words(map, q - 2, q);
+    } else if n == 1 {
+        fill_words(map, p, p + 1);
     }
 }
 
@@ -101,7 +78,7 @@ fn paint_words(map: &mut [u8], a: u64, b: u64)
     let last = if p == q { first } else { down };
     add_word(map, p, first);
     if p + 1 < q {
-        fill_words(map, p + 1, q);
+        fill_middle(map, p + 1, q);
     }
     add_word(map, q, last);
 }
@@ -111,9 +88,7 @@ fn paint_bit(map: &mut [u8], i: u64)
     requires { i < 8 * length map.old }
     ensures { Paints map.old map.new i (i + 1) }
 {
-    let at = (i / 8) as usize;
-    let byte = map[at] as u64;
-    map[at] = (byte | (1 << (i % 8))) as u8;
+    map[(i / 8) as usize] |= 1 << (i % 8);
 }
 
 // Sets the bits a..=b byte by byte.
@@ -122,12 +97,9 @@ fn paint_bytes(map: &mut [u8], a: u64, b: u64)
     requires b_bound { b < 8 * length map.old }
     ensures { Paints map.old map.new a (b + 1) }
 {
-    let mut i = a;
-    while i < b {
+    for i in a..=b {
         paint_bit(map, i);
-        i += 1;
     }
-    paint_bit(map, b);
 }
 
 // Sets the bits a..=b of a map: those in whole words by words, the rest by bytes. Words are compared, since the number of a slice's bits may be
@@ -151,14 +123,6 @@ fn paint(map: &mut [u8], a: u64, b: u64)
     paint_bytes(map, rest, b);
 }
 
-// The smaller of a number and the last one of n.
-fn at_most(x: u64, n: u64) -> u64
-    requires { 1 ≤ n }
-    ensures { result ≡ min x (n - 1) }
-{
-    if x < n { x } else { n - 1 }
-}
-
 // Sets the bits of a run from the place f to the place l of the n places of a window, where the places may go over 2^64 - 1 to 0.
 fn paint_run(map: &mut [u8], n: u64, f: u64, l: u64)
     requires le_n { 1 ≤ n }
@@ -167,47 +131,39 @@ fn paint_run(map: &mut [u8], n: u64, f: u64, l: u64)
 {
     if f < n {
         if f <= l {
-            paint(map, f, at_most(l, n));
+            paint(map, f, l.min(n - 1));
             return;
         }
         paint(map, f, n - 1);
     }
     if l < f {
-        paint(map, 0, at_most(l, n));
+        paint(map, 0, l.min(n - 1));
     }
 }
 
 // Sets the bits of every run that has the world's tag.
-fn paint_nodes(words: &[u64], h: World, base: u64, n: u64, map: &mut [u8])
-    requires le_n { (1 ≤ n) × (base + n ≤ size) }
-    requires n_bound { n ≤ 8 * length map.old }
+fn paint_nodes(words: &[u64], h: World, span: Span, map: &mut [u8])
+    requires n_bound { span.n ≤ 8 * length map.old }
     requires scannable { Scannable words.now h }
-    ensures { PaintsNodes words.now h base n (length words.now / 8 - 1) map.old map.new }
+    ensures { PaintsNodes words.now h span.base span.n (length words.now / 8 - 1) map.old map.new }
 {
-    let cells = words.len() as u64 / 8;
-    let turn = std::num::wrapping_sub_u64(h.offset, base);
-    let mut m: u64 = 1;
-    while m < cells {
+    let turn = h.offset.wrapping_sub(span.base);
+    for m in 1..words.len() as u64 / 8 {
         let v = run_index::read_node(words, m);
-        if v.height > 0 {
-            if v.tag == h.tag {
-                let f = std::num::wrapping_add_u64(v.start, turn);
-                let l = std::num::wrapping_add_u64(v.end, turn);
-                paint_run(map, n, f, l);
-            }
+        if v.height > 0 && v.tag == h.tag {
+            let f = v.start.wrapping_add(turn);
+            let l = v.end.wrapping_add(turn);
+            paint_run(map, span.n, f, l);
         }
-        m += 1;
     }
 }
 
-// Writes the map of n positions from base on into a slice of its length.
-pub fn fill_map(words: &[u64], h: World, base: u64, n: u64, map: &mut [u8])
+// Writes the map of a window into a slice of its length.
+pub fn fill_map(words: &[u64], h: World, span: Span, map: &mut [u8])
     requires scannable { Scannable words.now h }
-    requires le_n { (1 ≤ n) × (base + n ≤ size) }
-    requires map_len { length map.old ≡ map_length n }
-    ensures { map.new ≡ map_of (held_in words.now h) base n }
+    requires map_len { length map.old ≡ map_length span.n }
+    ensures { map.new ≡ map_of (held_in words.now h) span.base span.n }
 {
-    let bytes = map.len();
-    crate::write::fill_bytes(map, 0, bytes, 0);
-    paint_nodes(words, h, base, n, map);
+    map.fill(0);
+    paint_nodes(words, h, span, map);
 }

@@ -1,5 +1,5 @@
 // Reading a map into a world, stretch by stretch. What it would leave is counted before the first write. A stretch passes whole words where
-// `wide` is true, and bytes and bits alone where it is not: the form by single bytes.
+// `WIDE` is true, and bytes and bits alone where it is not: the form by single bytes.
 ghost use Rattle.std.specs.Prelude.{◌≡◌, ◌+◌, ◌-◌, ◌*◌, ◌<◌, ◌≤◌, true, length, nat_le};
 ghost use Rattle.model.specs.Positions.{stretches, run_count};
 ghost use Rattle.model.specs.Bytes.{map_bit, mapped};
@@ -8,6 +8,8 @@ ghost use Rattle.store.specs.Soundness.{Stands, Editable};
 ghost use Rattle.changes.specs.Edits.{Makes, Edited, StretchEnd};
 ghost use Rattle.maps.specs.Window.{Window, Whole, Surveyed, MayMap};
 
+use crate::span::Map;
+use crate::word::whole_word;
 use changes::edit::Edit;
 use model::{Count, Logical};
 use store::World;
@@ -33,26 +35,25 @@ fn whole_byte(bytes: &[u8], i: u64, value: bool) -> bool
     if value { b == 255 } else { b == 0 }
 }
 
-// The last of n bits that has the value of bit i, all between having it too.
-fn stretch(bytes: &[u8], i: u64, n: u64, wide: bool) -> u64
-    requires i_lt_n { i < n }
-    requires n_bound { n ≤ 8 * length bytes.now }
-    ensures { StretchEnd (map_bit bytes.now) (map_bit bytes.now i) i (n - 1) result }
+// The last of a map's bits that has the value of bit i, all between having it too. It is kept out of its callers, since a compiler that inlines
+// it makes the form by single bytes a quarter slower.
+#[inline(never)]
+fn stretch<const WIDE: bool>(map: &Map, i: u64) -> u64
+    requires { i < map.now.span.n }
+    ensures { StretchEnd (map_bit map.now.bytes.now) (map_bit map.now.bytes.now i) i (map.now.span.n - 1) result }
 {
-    let value = bit(bytes, i);
+    let n = map.span.n;
+    let value = bit(map.bytes, i);
     let mut e = i;
     while e + 1 < n {
-        if wide && n - e > 64 && crate::word::whole_word(bytes, e + 1, value) {
+        if WIDE && n - e > 64 && whole_word(map.bytes, e + 1, value) {
             e += 64;
+        } else if n - e > 8 && whole_byte(map.bytes, e + 1, value) {
+            e += 8;
+        } else if bit(map.bytes, e + 1) == value {
+            e += 1;
         } else {
-            if n - e > 8 && whole_byte(bytes, e + 1, value) {
-                e += 8;
-            } else {
-                if bit(bytes, e + 1) != value {
-                    return e;
-                }
-                e += 1;
-            }
+            return e;
         }
     }
     e
@@ -65,51 +66,46 @@ pub struct Survey {
     pub changed: u64,
 }
 
-fn survey_map(words: &[u64], h: World, base: u64, n: u64, bytes: &[u8], wide: bool) -> Survey
+fn survey_map<const WIDE: bool>(words: &[u64], h: World, map: &Map) -> Survey
     requires stands { Stands words.now h }
-    requires window { Window base n bytes.now }
-    ensures { Surveyed (held_in words.now h) base n bytes.now result }
+    ensures { Surveyed (held_in words.now h) map.now.span.base map.now.span.n map.now.bytes.now result }
 {
+    let base = map.span.base;
     let mut i: u64 = 0;
     let mut runs: u64 = 0;
     let mut changed: u64 = 0;
-    while i < n {
-        let value = bit(bytes, i);
-        let e = stretch(bytes, i, n, wide);
+    while i < map.span.n {
+        let value = bit(map.bytes, i);
+        let e = stretch::<WIDE>(map, i);
         let t = reports::logical::tally(words, h, Logical(base + i), Logical(base + e), !value);
         let c = t.count;
         changed += c.low;
-        if value {
-            runs += 1;
-        }
+        runs += u64::from(value);
         i = e + 1;
     }
-    Survey {
-        runs: runs,
-        changed: changed,
-    }
+    Survey { runs, changed }
 }
 
 // Whether a map that has so many runs leaves at most as many runs as the limit.
-fn map_fits(words: &[u64], h: World, limit: u64, base: u64, n: u64, bytes: &[u8], runs: u64) -> bool
+fn map_fits(words: &[u64], h: World, limit: u64, map: &Map, runs: u64) -> bool
     requires editable { Editable words.now h limit }
-    requires window { Window base n bytes.now }
-    requires runs_value { runs ≡ run_count (mapped base n bytes.now (held_in words.now h)) true base n }
-    ensures { result ≡ nat_le (stretches (mapped base n bytes.now (held_in words.now h))) limit }
+    requires runs_value { runs ≡ run_count (mapped map.now.span.base map.now.span.n map.now.bytes.now (held_in words.now h)) true map.now.span.base map.now.span.n }
+    ensures { result ≡ nat_le (stretches (mapped map.now.span.base map.now.span.n map.now.bytes.now (held_in words.now h))) limit }
 {
-    let a = Logical(base);
-    let b = Logical(base + (n - 1));
+    let last = map.span.n - 1;
+    let a = Logical(map.span.base);
+    let b = Logical(map.span.base + last);
     let total = store::bounds::logical_runs(words, h.root, h.offset, h.runs);
     let t = reports::logical::tally(words, h, a, b, true);
     let before = total
         + changes::edit::going_on(words, h, a)
         + changes::edit::going_past(words, h, b);
-    let low = if bit(bytes, 0) {
+    let low = if bit(map.bytes, 0) {
         changes::edit::held_before(words, h, a)
     } else {
         0
     };
-    let high = if bit(bytes, n - 1) {
+    let high = if bit(map.bytes, last) {
         changes::edit::held_after(words, h, b)
     } else {
         0
@@ -119,19 +115,27 @@ fn map_fits(words: &[u64], h: World, limit: u64, base: u64, n: u64, bytes: &[u8]
 
 // Gives the window the map's values, where what it leaves fits. A map of one value is one set; else the window is cleared first, and
 // then no set on the way leaves more runs than the last one.
-fn apply_map(words: &mut [u64], h: World, base: u64, n: u64, bytes: &[u8], wide: bool) -> World
-    requires { MayMap words.old h base n bytes.now }
-    ensures { Makes words.old words.new h result (mapped base n bytes.now (held_in words.old h)) }
+fn apply_map<const WIDE: bool>(words: &mut [u64], h: World, map: &Map) -> World
+    requires { MayMap words.old h map.now.span.base map.now.span.n map.now.bytes.now }
+    ensures { Makes words.old words.new h result (mapped map.now.span.base map.now.span.n map.now.bytes.now (held_in words.old h)) }
 {
-    let mut e = stretch(bytes, 0, n, wide);
+    let base = map.span.base;
+    let n = map.span.n;
+    let e = stretch::<WIDE>(map, 0);
     if e + 1 == n {
-        return changes::edit::apply_set(words, h, Logical(base), Logical(base + e), bit(bytes, 0));
+        return changes::edit::apply_set(
+            words,
+            h,
+            Logical(base),
+            Logical(base + e),
+            bit(map.bytes, 0),
+        );
     }
     let mut at = changes::edit::apply_set(words, h, Logical(base), Logical(base + (n - 1)), false);
     let mut i: u64 = 0;
     while i < n {
-        e = stretch(bytes, i, n, wide);
-        if bit(bytes, i) {
+        let e = stretch::<WIDE>(map, i);
+        if bit(map.bytes, i) {
             at = changes::edit::apply_set(words, at, Logical(base + i), Logical(base + e), true);
         }
         i = e + 1;
@@ -139,34 +143,33 @@ fn apply_map(words: &mut [u64], h: World, base: u64, n: u64, bytes: &[u8], wide:
     at
 }
 
-// Sets a window from a map, leaves the other positions, and returns how many changed.
-pub fn read_map(
+// Sets a window from a map, leaves the other positions, and returns how many changed, or None where too many runs would be left.
+pub fn read_map<const WIDE: bool>(
     words: &mut [u64],
     h: World,
     limit: u64,
-    base: u64,
-    n: u64,
-    bytes: &[u8],
-    wide: bool,
-) -> Edit
+    map: &Map,
+) -> Option<Edit>
     requires editable { Editable words.old h limit }
-    requires window { Window base n bytes.now }
-    ensures { Edited words.old words.new h limit (mapped base n bytes.now (held_in words.old h)) result }
+    ensures { Edited words.old words.new h limit (mapped map.now.span.base map.now.span.n map.now.bytes.now (held_in words.old h)) result }
 {
-    let s = survey_map(words, h, base, n, bytes, wide);
+    let s = survey_map::<WIDE>(words, h, map);
     let changed = s.changed;
     if changed == 0 {
-        return Edit::Changed(h, Count { carry: 0, low: 0 });
+        return Some(Edit {
+            world: h,
+            changed: Count { carry: 0, low: 0 },
+        });
     }
-    if !map_fits(words, h, limit, base, n, bytes, s.runs) {
-        return Edit::Full;
+    if !map_fits(words, h, limit, map, s.runs) {
+        return None;
     }
-    let k = apply_map(words, h, base, n, bytes, wide);
-    Edit::Changed(
-        k,
-        Count {
+    let k = apply_map::<WIDE>(words, h, map);
+    Some(Edit {
+        world: k,
+        changed: Count {
             carry: 0,
             low: changed,
         },
-    )
+    })
 }

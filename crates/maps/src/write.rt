@@ -9,6 +9,7 @@ ghost use Rattle.store.specs.Soundness.{Stands};
 ghost use Rattle.maps.specs.Painted.{Scannable};
 ghost use Rattle.maps.specs.Octets.{Placed, Octets, stores, BytesDue, StoresNext};
 
+use crate::span::Span;
 use model::Logical;
 use store::World;
 use streams::source::{HIGHEST, Source, View};
@@ -35,9 +36,7 @@ fn octet_of(words: &[u64], path: &mut [u64; HIGHEST], v: View, s: Source, x: u64
 {
     let at = Logical(x);
     let value = streams::sweep::value_at(s, at);
-    let end = streams::sweep::same_to(s, at);
-    let to = end.0;
-    let after = to - x;
+    let after = streams::sweep::same_to(s, at).0 - x;
     if k - 1 <= after {
         return Octet {
             bits: alike(value, k),
@@ -49,37 +48,18 @@ fn octet_of(words: &[u64], path: &mut [u64; HIGHEST], v: View, s: Source, x: u64
     let next = x + n;
     let t = streams::sweep::moved(words, path, v, s, Logical(next));
     let r = octet_of(words, path, v, t, next, k - n);
-    let high = r.bits;
-    let u = r.source;
     Octet {
-        bits: low + (high << n),
-        source: u,
-    }
-}
-
-// Stores n copies of a byte from j on.
-pub fn fill_bytes(out: &mut [u8], j: usize, n: usize, byte: u8)
-    requires { j + n ≤ length out.old }
-    ensures { out.new ≡ stores (λ _. byte) j n out.old }
-{
-    let mut i: usize = 0;
-    while i < n {
-        out[j + i] = byte;
-        i += 1;
+        bits: low + (r.bits << n),
+        source: r.source,
     }
 }
 
 // How many whole bytes lie in a position and those after it, of the bytes before the last one of `left` positions.
 fn whole_bytes(after: u64, left: u64) -> u64
-    requires { 1 ≤ left }
+    requires { 2 ≤ left }
     ensures { result ≡ min (after + 1) (left - 1) / 8 }
 {
-    let most = left - 1;
-    if after < most {
-        (after + 1) / 8
-    } else {
-        most / 8
-    }
+    (after.min(left - 2) + 1) / 8
 }
 
 // Bytes of a map that were stored, and the source at their last position.
@@ -105,13 +85,11 @@ fn next_bytes(
     ensures { StoresNext words.now path.old path.new v s x left j out.old out.new result }
 {
     let at = Logical(x);
-    let end = streams::sweep::same_to(s, at);
-    let to = end.0;
-    let after = to - x;
+    let after = streams::sweep::same_to(s, at).0 - x;
     if after >= 7 {
         let byte = alike(streams::sweep::value_at(s, at), 8) as u8;
         let n = whole_bytes(after, left);
-        fill_bytes(out, j, n as usize, byte);
+        out[j..j + n as usize].fill(byte);
         return Stored {
             count: n,
             source: s,
@@ -119,45 +97,41 @@ fn next_bytes(
     }
     let o = octet_of(words, path, v, s, x, 8);
     out[j] = o.bits as u8;
-    let t = o.source;
     Stored {
         count: 1,
-        source: t,
+        source: o.source,
     }
 }
 
-// Writes the map of n positions from base on into the front of a slice that has room for it, a word at a time.
-pub fn write_map(words: &[u64], h: World, base: u64, n: u64, out: &mut [u8])
+// Writes the map of a window into the front of a slice that has room for it, a word at a time.
+pub fn write_map(words: &[u64], h: World, span: Span, out: &mut [u8])
     requires scannable { Scannable words.now h }
-    requires le_n { (1 ≤ n) × (base + n ≤ size) }
-    requires n_in_bounds { map_length n ≤ length out.old }
-    ensures { out.new ≡ into_front (map_of (held_in words.now h) base n) out.old }
+    requires n_in_bounds { map_length span.n ≤ length out.old }
+    ensures { out.new ≡ into_front (map_of (held_in words.now h) span.base span.n) out.old }
 {
-    let due = ((n - 1) / 8 + 1) as usize;
-    crate::paint::fill_map(words, h, base, n, &mut out[0..due]);
+    let due = span.n.div_ceil(8) as usize;
+    crate::paint::fill_map(words, h, span, &mut out[..due]);
 }
 
 // The same by single bytes.
-pub fn write_map_by_bytes(words: &[u64], h: World, base: u64, n: u64, out: &mut [u8])
+pub fn write_map_by_bytes(words: &[u64], h: World, span: Span, out: &mut [u8])
     requires stands { Stands words.now h }
-    requires le_n { (1 ≤ n) × (base + n ≤ size) }
-    requires n_in_bounds { map_length n ≤ length out.old }
-    ensures { out.new ≡ into_front (map_of (held_in words.now h) base n) out.old }
+    requires n_in_bounds { map_length span.n ≤ length out.old }
+    ensures { out.new ≡ into_front (map_of (held_in words.now h) span.base span.n) out.old }
 {
     let v = View {
         root: h.root,
         offset: h.offset,
     };
     let mut path = [0u64; HIGHEST];
-    let mut s = streams::source::open(words, &mut path, v, Logical(base));
-    let mut x = base;
-    let mut left = n;
+    let mut x = span.base;
+    let mut s = streams::source::open(words, &mut path, v, Logical(x));
+    let mut left = span.n;
     let mut j: usize = 0;
     while left > 8 {
         let r = next_bytes(words, &mut path, v, s, x, left, out, j);
-        let t = r.source;
         x += 8 * r.count;
-        s = streams::sweep::moved(words, &mut path, v, t, Logical(x));
+        s = streams::sweep::moved(words, &mut path, v, r.source, Logical(x));
         left -= 8 * r.count;
         j += r.count as usize;
     }

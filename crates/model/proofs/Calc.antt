@@ -1,10 +1,10 @@
 -- The plain model computed on run lists: each report and change of part 5 on canonical lists, and that it is the plain model's.
 -- By the laws of each definition; a world that holds a run list is fed as that list. Assumes nothing.
+use Rattle.std.specs.Prelude.{Option, None, Some}
 use mathlib.Core.Path.{◌≡◌, refl, sym, ap, ap₂, ◌∙◌, fun_ext}
 use mathlib.Core.Logic.{◌⊎◌, inl, inr}
 use mathlib.Core.Bool.{Bool, true, false, cond, not, ◌&&◌, ◌||◌, beq}
 use mathlib.Core.List.{List, [], ◌∷◌, ◌++◌}
-use mathlib.Core.Option.{Option, none, some}
 use Prim.Native.Nat.{ℕ, zero, suc, ◌+◌, ◌-◌, ◌*◌, ◌/◌, ◌≤◌, ◌<◌, max}
 use native.Mathlib.Nat.{zero-add}
 use native.Mathlib.Omega.{arith}
@@ -336,8 +336,8 @@ pub record RunOutcome : Type 0 where
   pub runs : List Run
 
 abbrev pub settle_runs : Option ℕ → List Run → Result → List Run → RunOutcome
-settle_runs none rs a qs = record { answer = gave a; runs = qs }
-settle_runs (some n) rs a qs = record { answer = refused n; runs = rs }
+settle_runs None rs a qs = record { answer = gave a; runs = qs }
+settle_runs (Some n) rs a qs = record { answer = refused n; runs = rs }
 
 unfoldable pub report_runs : Given → List Condition → Result → RunOutcome
 report_runs s cs a = settle_runs (refusal (reads (fed_as s) ++ cs)) (runs_of s) a (runs_of s)
@@ -411,8 +411,8 @@ pub record Tied (o : Outcome) (r : RunOutcome) : Type 0 where
 
 tied-settle : (o : Option ℕ) (P Q : Positions) (a b : Result) (rs qs : List Run) → a ≡ b → P ≡ mem rs → Q ≡ mem qs → Canon size 0 rs → Canon size 0 qs
     → Tied (settle o P a Q) (settle_runs o rs b qs)
-tied-settle none P Q a b rs qs e p q c d = record { answer = ap gave e; positions = q; canonical = d }
-tied-settle (some n) P Q a b rs qs e p q c d = record { answer = refl; positions = p; canonical = c }
+tied-settle None P Q a b rs qs e p q c d = record { answer = ap gave e; positions = q; canonical = d }
+tied-settle (Some n) P Q a b rs qs e p q c d = record { answer = refl; positions = p; canonical = c }
 
 room : (C : ℕ) (Q : Positions) (qs : List Run) → Canon size 0 qs → mem qs ≡ bounded Q → too_many (ltb C) Q ≡ ltb C (length qs)
 unfolding too_many
@@ -425,12 +425,12 @@ tied-report s cs a b e =
     (runs_of-canon s) (runs_of-canon s)
 
 -- a refused report is tied, whatever it would have given
-tied-refused : (s : Given) (cs : List Condition) (a b : Result) {n : ℕ} → refusal (reads (fed_as s) ++ cs) ≡ some n → Tied (report (fed_as s) cs a) (report_runs s cs b)
+tied-refused : (s : Given) (cs : List Condition) (a b : Result) {n : ℕ} → refusal (reads (fed_as s) ++ cs) ≡ Some n → Tied (report (fed_as s) cs a) (report_runs s cs b)
 unfolding report report_runs
 tied-refused s cs a b e = rw e (record { answer = refl; positions = runs_of-positions s; canonical = runs_of-canon s })
 
 -- as a gap of no position is, of every world
-no_length : (s : Given) → (n : ℕ) × (refusal (reads (fed_as s) ++ gap_length when bad_gap 0 ∷ []) ≡ some n)
+no_length : (s : Given) → (n : ℕ) × (refusal (reads (fed_as s) ++ gap_length when bad_gap 0 ∷ []) ≡ Some n)
 unfolding fed_as
 no_length no_store = (1, refl)
 no_length broken = (7, refl)

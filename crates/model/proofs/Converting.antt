@@ -1,10 +1,10 @@
 -- Converting a written set: the converted set tells the same runs in the other edition, so a reader takes it as it takes the set itself, and
 -- converting it gives the set back byte for byte. By the number of runs, which both editions tell alike, and by the round trips of each.
 -- Assumes nothing.
+use Rattle.std.specs.Prelude.{Option, None, Some}
 use mathlib.Core.Path.{◌≡◌, refl, sym, ap, ap₂, ◌∙◌}
 use mathlib.Core.Bool.{Bool, false}
 use mathlib.Core.List.{List, [], ◌∷◌, ◌++◌}
-use mathlib.Core.Option.{Option, none, some}
 use Prim.Native.Nat.{ℕ, ◌+◌, ◌*◌, ◌^◌, ◌≤◌, ◌<◌}
 use native.Mathlib.Omega.{arith}
 use lib.ListN.{length, drop, get_or}
@@ -92,9 +92,9 @@ converted-converted bs b I =
 
 -- ---- the call
 -- what is handled with a result was not refused
-handled-unrefused : (y : Option ℕ) (out : List ℕ) (a r : Result) (cs : List ℕ) → (handle y out a cs).answer ≡ gave r → y ≡ none
-handled-unrefused none out a r cs e = refl
-handled-unrefused (some n) out a r cs e = let z : ◌≡◌ {A = ℕ} 0 1 = cc in absurd (omega arith)
+handled-unrefused : (y : Option ℕ) (out : List ℕ) (a r : Result) (cs : List ℕ) → (handle y out a cs).answer ≡ gave r → y ≡ None
+handled-unrefused None out a r cs e = refl
+handled-unrefused (Some n) out a r cs e = let z : ◌≡◌ {A = ℕ} 0 1 = cc in absurd (omega arith)
 
 -- what the call gives where nothing is refused
 abbrev pub wholly : List ℕ → List ℕ → Handled
@@ -109,7 +109,7 @@ convert-done bs out I h =
 
 module _ (bs out : List ℕ) {r : Result} (e : (convert bs out).answer ≡ gave r) where
   -- what answers a result was not refused
-  unrefused : refusal (output_short when no_room out (converted bs) ∷ set_conditions bs) ≡ none
+  unrefused : refusal (output_short when no_room out (converted bs) ∷ set_conditions bs) ≡ None
   unfolding convert
   unrefused =
       handled-unrefused (refusal (output_short when no_room out (converted bs) ∷ set_conditions bs)) out
@@ -147,6 +147,6 @@ unfolding encode
 columns-version rs = refl
 
 -- document 01's reader gives 4 to it
-pub columns-refused : (rs : List Run) → document_one_refusal (encode Columns rs) ≡ some 4
+pub columns-refused : (rs : List Run) → document_one_refusal (encode Columns rs) ≡ Some 4
 unfolding document_one_refusal
 columns-refused rs = rw (encode-long Columns rs, columns-version rs)

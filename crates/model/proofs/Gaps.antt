@@ -1,10 +1,10 @@
 -- The lowest gap, for any positions: what is passed over has no gap, n free positions are one, and on the runs of the free positions the lowest
 -- gap is the start of the first run that is long enough. By the laws of find. Assumes nothing.
+use Rattle.std.specs.Prelude.{Option, None, Some}
 use mathlib.Core.Path.{◌≡◌, refl, sym, ap, ap₂, ◌∙◌}
 use mathlib.Core.Logic.{◌⊎◌, inl, inr}
 use mathlib.Core.Bool.{Bool, true, false, not, ◌&&◌, beq}
 use mathlib.Core.List.{List, [], ◌∷◌}
-use mathlib.Core.Option.{Option, none, some}
 use Prim.Native.Nat.{ℕ, suc, ◌+◌, ◌-◌, ◌≤◌, ◌<◌}
 use native.Mathlib.Omega.{arith}
 use lib.Dec.{leb, eqb}
@@ -40,7 +40,7 @@ taken-no P x n t = ne_eqb (count P true x n) 0 (λ e. omega (arith, held-counted
 
 module _ (P : Positions) (a k n : ℕ) where
   -- n free positions at the front are the lowest gap
-  pub gap_here : n ≤ k → ((z : ℕ) → a ≤ z → z < a + n → P z ≡ false) → gap P a k n ≡ some a
+  pub gap_here : n ≤ k → ((z : ℕ) → a ≤ z → z < a + n → P z ≡ false) → gap P a k n ≡ Some a
   unfolding gap
   gap_here h f =
       find-is (λ x. eqb (count P true x n) 0) true a (suc k - n) a (omega arith) (omega arith) (eq-eqb (count P true a n) 0 (count_none P true a n f))
@@ -54,7 +54,7 @@ module _ (P : Positions) (a k n : ℕ) where
       ∙ ap (find (λ x. eqb (count P true x n) 0) true (a + m)) (omega arith)
 
   -- where too few positions are left there is none
-  pub gap-none : k < n → gap P a k n ≡ none
+  pub gap-none : k < n → gap P a k n ≡ None
   unfolding gap
   gap-none h = find_none (λ x. eqb (count P true x n) 0) true a (suc k - n) (λ y i j. absurd (omega arith))
 
@@ -68,16 +68,16 @@ gap_from P a b e n h l one t =
 -- ---- on the runs of the free positions
 -- the start of the first run that has at least n positions
 unfoldable pub first_long : ℕ → List Run → Option ℕ
-first_long n [] = none
-first_long n (r ∷ rs) = elim (leb n (r.«end» + 1 - r.start)) [ true ↦ some r.start | false ↦ first_long n rs ]
+first_long n [] = None
+first_long n (r ∷ rs) = elim (leb n (r.«end» + 1 - r.start)) [ true ↦ Some r.start | false ↦ first_long n rs ]
 
 -- of no run there is none
-first-nil : (n : ℕ) → first_long n [] ≡ none
+first-nil : (n : ℕ) → first_long n [] ≡ None
 unfolding first_long
 first-nil n = refl
 
 -- a first run that is long enough is it
-first-long : (n : ℕ) (r : Run) (rs : List Run) → n ≤ r.«end» + 1 - r.start → first_long n (r ∷ rs) ≡ some r.start
+first-long : (n : ℕ) (r : Run) (rs : List Run) → n ≤ r.«end» + 1 - r.start → first_long n (r ∷ rs) ≡ Some r.start
 unfolding first_long
 first-long n r rs h = rw (le-leb n (r.«end» + 1 - r.start) h, first_long)
 

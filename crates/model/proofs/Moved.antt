@@ -1,12 +1,13 @@
 -- Moved ranges: where a set reads at a, a + 1, .. what another reads at b, b + 1, .., every report of one range is that of the other,
 -- moved from b to a. The moved list of runs is canonical and has the right positions, so it is the list of runs; the other reports
 -- are read off the runs. Assumes nothing.
+use Rattle.std.specs.Prelude.{option_map}
+use Rattle.std.specs.Prelude.{Option, None, Some}
 use Prim.Native.Nat.{ℕ, suc, ◌+◌, ◌-◌, ◌≤◌, ◌<◌}
 use mathlib.Core.Path.{◌≡◌, refl, sym, ap, ap₂, ◌∙◌, subst}
 use mathlib.Core.Logic.{◌⊎◌, inl, inr}
 use mathlib.Core.Bool.{Bool, ◌&&◌, ◌||◌, beq}
 use mathlib.Core.List.{List, [], ◌∷◌}
-use mathlib.Core.Option.{Option, none, some, map}
 use native.Mathlib.Omega.{arith}
 use lib.ListN.{length}
 use Rattle.model.specs.declared.Run.{Run}
@@ -76,23 +77,23 @@ moved_length b a [] = refl
 moved_length b a (r ∷ rs) = ap suc (moved_length b a rs)
 
 -- the first run of a moved list
-pub moved-first : (b a : ℕ) (rs : List Run) → first_run (move_runs b a rs) ≡ map (move_run b a) (first_run rs)
+pub moved-first : (b a : ℕ) (rs : List Run) → first_run (move_runs b a rs) ≡ option_map (move_run b a) (first_run rs)
 unfolding move_runs
 moved-first b a [] = refl
 moved-first b a (r ∷ rs) = refl
 
 -- the last run of a moved list
-pub moved-last : (b a : ℕ) (rs : List Run) → last_run (move_runs b a rs) ≡ map (move_run b a) (last_run rs)
+pub moved-last : (b a : ℕ) (rs : List Run) → last_run (move_runs b a rs) ≡ option_map (move_run b a) (last_run rs)
 unfolding move_runs
 moved-last b a [] = refl
-moved-last b a (r ∷ rs) = ap some (go r rs)
+moved-last b a (r ∷ rs) = ap Some (go r rs)
   where
     go : (r : Run) (rs : List Run) → last_after (move_run b a r) (move_runs b a rs) ≡ move_run b a (last_after r rs)
     go r [] = refl
     go r (s ∷ rs) = go s rs
 
 -- the k-th position of a moved list
-moved_select : (b a total j : ℕ) (rs : List Run) (k : ℕ) → b ≤ j → Canon total j rs → select_runs (move_runs b a rs) k ≡ map (move b a) (select_runs rs k)
+moved_select : (b a total j : ℕ) (rs : List Run) (k : ℕ) → b ≤ j → Canon total j rs → select_runs (move_runs b a rs) k ≡ option_map (move b a) (select_runs rs k)
 unfolding move_runs select_runs
 moved_select b a total j [] k h c = refl
 moved_select b a total j (r ∷ rs) k h c =
@@ -101,14 +102,14 @@ moved_select b a total j (r ∷ rs) k h c =
     m : ℕ
     m = k - (r.«end» + 1 - r.start)
 
-    go : (k < r.«end» + 1 - r.start) ⊎ (r.«end» + 1 - r.start ≤ k) → select_runs (move_runs b a rs) m ≡ map (move b a) (select_runs rs m)
-        → select_runs (move_run b a r ∷ move_runs b a rs) k ≡ map (move b a) (select_runs (r ∷ rs) k)
+    go : (k < r.«end» + 1 - r.start) ⊎ (r.«end» + 1 - r.start ≤ k) → select_runs (move_runs b a rs) m ≡ option_map (move b a) (select_runs rs m)
+        → select_runs (move_run b a r ∷ move_runs b a rs) k ≡ option_map (move b a) (select_runs (r ∷ rs) k)
     go (inl l) ih =
-        select_runs-in (move_run b a r) (move_runs b a rs) k (omega (arith, c.0, c.1)) ∙ ap some (omega (arith, c.0))
-        ∙ sym (ap (map (move b a)) (select_runs-in r rs k l))
+        select_runs-in (move_run b a r) (move_runs b a rs) k (omega (arith, c.0, c.1)) ∙ ap Some (omega (arith, c.0))
+        ∙ sym (ap (option_map (move b a)) (select_runs-in r rs k l))
     go (inr l) ih =
         select_runs-past (move_run b a r) (move_runs b a rs) k (omega (arith, c.0, c.1)) ∙ ap (select_runs (move_runs b a rs)) (omega (arith, c.0, c.1)) ∙ ih
-        ∙ sym (ap (map (move b a)) (select_runs-past r rs k l))
+        ∙ sym (ap (option_map (move b a)) (select_runs-past r rs k l))
 
 -- ---- the reports of a moved range
 module _ (P Q : Positions) (v : Bool) (a b n : ℕ) (alike : Alike P Q a b n) where
@@ -139,23 +140,23 @@ module _ (P Q : Positions) (v : Bool) (a b n : ℕ) (alike : Alike P Q a b n) wh
   run_count-moved = ap length runs_in-moved ∙ moved_length b a (runs_in Q v b n)
 
   -- the first run
-  pub first_run-moved : first_run (runs_in P v a n) ≡ map (move_run b a) (first_run (runs_in Q v b n))
+  pub first_run-moved : first_run (runs_in P v a n) ≡ option_map (move_run b a) (first_run (runs_in Q v b n))
   first_run-moved = ap first_run runs_in-moved ∙ moved-first b a (runs_in Q v b n)
 
   -- the last run
-  pub last_run-moved : last_run (runs_in P v a n) ≡ map (move_run b a) (last_run (runs_in Q v b n))
+  pub last_run-moved : last_run (runs_in P v a n) ≡ option_map (move_run b a) (last_run (runs_in Q v b n))
   last_run-moved = ap last_run runs_in-moved ∙ moved-last b a (runs_in Q v b n)
 
   -- find
-  pub find-moved : find P v a n ≡ map (move b a) (find Q v b n)
-  find-moved = find_runs P v a n ∙ ap start_of first_run-moved ∙ go (first_run (runs_in Q v b n)) ∙ sym (ap (map (move b a)) (find_runs Q v b n))
+  pub find-moved : find P v a n ≡ option_map (move b a) (find Q v b n)
+  find-moved = find_runs P v a n ∙ ap start_of first_run-moved ∙ go (first_run (runs_in Q v b n)) ∙ sym (ap (option_map (move b a)) (find_runs Q v b n))
     where
-      go : (r : Option Run) → start_of (map (move_run b a) r) ≡ map (move b a) (start_of r)
-      go none = refl
-      go (some r) = refl
+      go : (r : Option Run) → start_of (option_map (move_run b a) r) ≡ option_map (move b a) (start_of r)
+      go None = refl
+      go (Some r) = refl
 
   -- select
-  pub select-moved : (k : ℕ) → select P v a n k ≡ map (move b a) (select Q v b n k)
+  pub select-moved : (k : ℕ) → select P v a n k ≡ option_map (move b a) (select Q v b n k)
   select-moved k =
       select-runs P v a n k ∙ ap (λ rs. select_runs rs k) runs_in-moved ∙ moved_select b a (b + n) b (runs_in Q v b n) k (omega arith) canonical
-      ∙ sym (ap (map (move b a)) (select-runs Q v b n k))
+      ∙ sym (ap (option_map (move b a)) (select-runs Q v b n k))

@@ -1,11 +1,11 @@
 -- Worlds in one pool (document 02, Ticket 3): where the limits are kept, refusal 8 is one number, the allowance of a world; a world alone has
 -- the whole pool; and what a call on one world leaves of the others. Assumes nothing.
+use Rattle.std.specs.Prelude.{Some}
 use Prim.Native.Nat.{ℕ, zero, suc, ◌+◌, ◌-◌, ◌≤◌, ◌<◌, max}
 use mathlib.Core.Path.{◌≡◌, refl, sym, ap, ◌∙◌, fun_ext}
 use mathlib.Core.Logic.{◌⊎◌, inl, inr}
 use mathlib.Core.Bool.{Bool, ◌||◌}
 use mathlib.Core.List.{List, [], ◌∷◌}
-use mathlib.Core.Option.{some}
 use native.Mathlib.Omega.{arith}
 use lib.Dec.{ltb}
 use borrow.Author.Tests.{lt-ltb, le-ltb}
@@ -29,25 +29,25 @@ unopened-strict full l u v = refl
 
 -- ---- refusal 8
 -- the two conditions of the ticket are one, where the floor fits beside what the others claim
-decides : (C others : ℕ) (x : PlainWorld) (r : ℕ) → x.floor + others ≤ C → exceeds C others (some x) r ≡ ltb (allowance_of C others (some x)) r
+decides : (C others : ℕ) (x : PlainWorld) (r : ℕ) → x.floor + others ≤ C → exceeds C others (Some x) r ≡ ltb (allowance_of C others (Some x)) r
 decides C others x r h = go (split x.ceiling r) (split (C - others) r)
   where
-    go : (x.ceiling < r) ⊎ (r ≤ x.ceiling) → (C - others < r) ⊎ (r ≤ C - others) → exceeds C others (some x) r ≡ ltb (allowance_of C others (some x)) r
-    go (inl c) d = rw (lt-ltb x.ceiling r c, lt-ltb (allowance_of C others (some x)) r (omega arith))
+    go : (x.ceiling < r) ⊎ (r ≤ x.ceiling) → (C - others < r) ⊎ (r ≤ C - others) → exceeds C others (Some x) r ≡ ltb (allowance_of C others (Some x)) r
+    go (inl c) d = rw (lt-ltb x.ceiling r c, lt-ltb (allowance_of C others (Some x)) r (omega arith))
     go (inr c) (inl d) =
-        rw (le-ltb x.ceiling r c, lt-ltb C (claim_with x r + others) (omega arith), lt-ltb (allowance_of C others (some x)) r (omega arith))
+        rw (le-ltb x.ceiling r c, lt-ltb C (claim_with x r + others) (omega arith), lt-ltb (allowance_of C others (Some x)) r (omega arith))
     go (inr c) (inr d) =
-        rw (le-ltb x.ceiling r c, le-ltb C (claim_with x r + others) (omega arith), le-ltb (allowance_of C others (some x)) r (omega arith))
+        rw (le-ltb x.ceiling r c, le-ltb C (claim_with x r + others) (omega arith), le-ltb (allowance_of C others (Some x)) r (omega arith))
 
 -- the claims of all worlds are that of one and those of the others
-pub claims-split : (ws : List PlainWorld) (i : ℕ) (x : PlainWorld) → world_of ws i ≡ some x → claims ws ≡ claim x + other_claims ws i
+pub claims-split : (ws : List PlainWorld) (i : ℕ) (x : PlainWorld) → world_of ws i ≡ Some x → claims ws ≡ claim x + other_claims ws i
 unfolding claims other_claims
 claims-split [] i x e = let z : ◌≡◌ {A = ℕ} 0 1 = cc in absurd (omega arith)
 claims-split (y ∷ ws) zero x e = let f : y ≡ x = cc in ap (λ z. claim z + claims ws) f
 claims-split (y ∷ ws) (suc i) x e = omega (arith, claims-split ws i x e)
 
 -- so in a pool whose limits are kept refusal 8 is given above the allowance
-pub full-allowance : (C : ℕ) (ws : List PlainWorld) (i : ℕ) (x : PlainWorld) → world_of ws i ≡ some x → claims ws ≤ C → full C ws i ≡ ltb (allowance C ws i)
+pub full-allowance : (C : ℕ) (ws : List PlainWorld) (i : ℕ) (x : PlainWorld) → world_of ws i ≡ Some x → claims ws ≤ C → full C ws i ≡ ltb (allowance C ws i)
 unfolding full allowance
 full-allowance C ws i x e h =
     fun_ext (λ r.
@@ -78,8 +78,8 @@ holding-fed (x ∷ ws) zero = refl
 holding-fed (x ∷ ws) (suc i) = ap (λ l. x ∷ l) (holding-fed ws i)
 
 -- the world that was changed
-pub holding-here : (ws : List PlainWorld) (i : ℕ) (P : Positions) {x : PlainWorld} → world_of ws i ≡ some x → world_of (holding_at i P ws) i ≡ some (with_positions x P)
+pub holding-here : (ws : List PlainWorld) (i : ℕ) (P : Positions) {x : PlainWorld} → world_of ws i ≡ Some x → world_of (holding_at i P ws) i ≡ Some (with_positions x P)
 unfolding holding_at
 holding-here [] i P e = let z : ◌≡◌ {A = ℕ} 0 1 = cc in absurd (omega arith)
-holding-here (y ∷ ws) zero P {x} e = let f : y ≡ x = cc in ap (λ v. some (with_positions v P)) f
+holding-here (y ∷ ws) zero P {x} e = let f : y ≡ x = cc in ap (λ v. Some (with_positions v P)) f
 holding-here (y ∷ ws) (suc i) P e = holding-here ws i P e

@@ -1,4 +1,5 @@
 -- Ranges: which positions are in them, by what their bounds allow, and what the steps of `normalize` tell. Assumes nothing.
+use Rattle.std.specs.Prelude.{Option, None, Some}
 use Prim.Native.Nat.{ℕ, ◌+◌, ◌-◌, ◌≤◌, ◌<◌}
 use mathlib.Core.Path.{◌≡◌, refl, ap, ap₂, sym, ◌∙◌}
 use mathlib.Core.Bool.{Bool, true, false, cond, ◌&&◌}
@@ -10,8 +11,6 @@ use Rattle.model.specs.Numbers.{size}
 use Rattle.model.proofs.Numbers.{split}
 use Rattle.model.specs.declared.Bound.{Bound}
 use Rattle.model.specs.declared.Bound.TheVariants.{Included, Excluded, Unbounded}
-use Rattle.model.specs.declared.Edge.{Edge}
-use Rattle.model.specs.declared.Edge.TheVariants.{At, Nowhere}
 use Rattle.model.specs.declared.Span.{Span}
 use Rattle.model.specs.declared.Span.TheVariants.{Empty, Reversed, Closed}
 use Rattle.model.specs.Range.{first_allowed, past_allowed, extent, edge_at, first_edge, edge_before, last_edge, reversed, span_of, First, Last}
@@ -27,82 +26,82 @@ upper_allows (Included v) x = leb x v
 upper_allows (Excluded v) x = ltb x v
 upper_allows Unbounded x = true
 
-edge_in : (x : ℕ) → x < size → edge_at x ≡ At x
+edge_in : (x : ℕ) → x < size → edge_at x ≡ Some x
 edge_in x h = rw (lt-ltb x size h)
 
-edge-out : (x : ℕ) → size ≤ x → edge_at x ≡ Nowhere
+edge-out : (x : ℕ) → size ≤ x → edge_at x ≡ None
 edge-out x h = rw (le-ltb x size h)
 
-before-some : (x : ℕ) → 0 < x → edge_before x ≡ At (x - 1)
+before-some : (x : ℕ) → 0 < x → edge_before x ≡ Some (x - 1)
 before-some x h = rw (lt-ltb 0 x h)
 
 -- what `first_of` and `last_of` promise
-pub first-included : (l : Bound) (v : ℕ) → l ≡ Included v → v < size → First l (At v)
+pub first-included : (l : Bound) (v : ℕ) → l ≡ Included v → v < size → First l (Some v)
 first-included l v e h = record { edge = sym (ap first_edge e ∙ edge_in v h); within = omega (arith, ap first_allowed e) }
 
-pub first-excluded : (l : Bound) (v : ℕ) → l ≡ Excluded v → v + 1 < size → First l (At (v + 1))
+pub first-excluded : (l : Bound) (v : ℕ) → l ≡ Excluded v → v + 1 < size → First l (Some (v + 1))
 first-excluded l v e h = record { edge = sym (ap first_edge e ∙ edge_in (v + 1) h); within = omega (arith, ap first_allowed e) }
 
-pub first-nowhere : (l : Bound) (v : ℕ) → l ≡ Excluded v → v + 1 ≡ size → First l Nowhere
+pub first-nowhere : (l : Bound) (v : ℕ) → l ≡ Excluded v → v + 1 ≡ size → First l None
 first-nowhere l v e h = record { edge = sym (ap first_edge e ∙ edge-out (v + 1) (omega arith)); within = omega (arith, ap first_allowed e) }
 
-pub first-unbounded : (l : Bound) → l ≡ Unbounded → First l (At 0)
+pub first-unbounded : (l : Bound) → l ≡ Unbounded → First l (Some 0)
 first-unbounded l e = record { edge = sym (ap first_edge e); within = omega (arith, ap first_allowed e) }
 
-pub last-included : (u : Bound) (v : ℕ) → u ≡ Included v → v < size → Last u (At v)
+pub last-included : (u : Bound) (v : ℕ) → u ≡ Included v → v < size → Last u (Some v)
 last-included u v e h = record {
-  edge = sym (ap last_edge e ∙ before-some (v + 1) (omega arith) ∙ ap At (omega arith));
+  edge = sym (ap last_edge e ∙ before-some (v + 1) (omega arith) ∙ ap Some (omega arith));
   within = omega (arith, ap past_allowed e);
 }
 
-pub last-excluded : (u : Bound) (v : ℕ) → u ≡ Excluded v → 0 < v → v < size → Last u (At (v - 1))
+pub last-excluded : (u : Bound) (v : ℕ) → u ≡ Excluded v → 0 < v → v < size → Last u (Some (v - 1))
 last-excluded u v e h k = record { edge = sym (ap last_edge e ∙ before-some v h); within = omega (arith, ap past_allowed e) }
 
-pub last-nowhere : (u : Bound) (v : ℕ) → u ≡ Excluded v → v ≡ 0 → Last u Nowhere
+pub last-nowhere : (u : Bound) (v : ℕ) → u ≡ Excluded v → v ≡ 0 → Last u None
 last-nowhere u v e h = record { edge = sym (ap last_edge (e ∙ ap Excluded h)); within = omega (arith, ap past_allowed e) }
 
-pub last-unbounded : (u : Bound) → u ≡ Unbounded → Last u (At (size - 1))
+pub last-unbounded : (u : Bound) → u ≡ Unbounded → Last u (Some (size - 1))
 last-unbounded u e = record { edge = sym (ap last_edge e); within = omega (arith, ap past_allowed e) }
 
 -- what the edges tell of the range
-edge-at : (x a : ℕ) → edge_at x ≡ At a → x ≡ a
+edge-at : (x a : ℕ) → edge_at x ≡ Some a → x ≡ a
 edge-at x a e = go (ltb x size) e
   where
-    go : (t : Bool) → cond t (At x) Nowhere ≡ At a → x ≡ a
+    go : (t : Bool) → cond t (Some x) None ≡ Some a → x ≡ a
     go true q = cc
     go false q = let z : ◌≡◌ {A = ℕ} 0 1 = cc in absurd (omega arith)
 
-edge-nowhere : (x : ℕ) → edge_at x ≡ Nowhere → size ≤ x
+edge-nowhere : (x : ℕ) → edge_at x ≡ None → size ≤ x
 edge-nowhere x e = go (ltb x size) refl e
   where
-    go : (t : Bool) → ltb x size ≡ t → cond t (At x) Nowhere ≡ Nowhere → size ≤ x
+    go : (t : Bool) → ltb x size ≡ t → cond t (Some x) None ≡ None → size ≤ x
     go true p q = let z : ◌≡◌ {A = ℕ} 0 1 = cc in absurd (omega arith)
     go false p q = ltb-false x size p
 
-before_at : (x b : ℕ) → edge_before x ≡ At b → x ≡ b + 1
+before_at : (x b : ℕ) → edge_before x ≡ Some b → x ≡ b + 1
 before_at x b e = go (ltb 0 x) refl e
   where
-    go : (t : Bool) → ltb 0 x ≡ t → cond t (At (x - 1)) Nowhere ≡ At b → x ≡ b + 1
+    go : (t : Bool) → ltb 0 x ≡ t → cond t (Some (x - 1)) None ≡ Some b → x ≡ b + 1
     go true p q = let y : x - 1 ≡ b = cc in omega (arith, ltb-true 0 x p)
     go false p q = let z : ◌≡◌ {A = ℕ} 0 1 = cc in absurd (omega arith)
 
-before-nowhere : (x : ℕ) → edge_before x ≡ Nowhere → x ≡ 0
+before-nowhere : (x : ℕ) → edge_before x ≡ None → x ≡ 0
 before-nowhere x e = go (ltb 0 x) refl e
   where
-    go : (t : Bool) → ltb 0 x ≡ t → cond t (At (x - 1)) Nowhere ≡ Nowhere → x ≡ 0
+    go : (t : Bool) → ltb 0 x ≡ t → cond t (Some (x - 1)) None ≡ None → x ≡ 0
     go true p q = let z : ◌≡◌ {A = ℕ} 0 1 = cc in absurd (omega arith)
     go false p q = omega (arith, ltb-false 0 x p)
 
-pub first-at : (l : Bound) (r : Edge) (a : ℕ) → First l r → r ≡ At a → first_allowed l ≡ a
+pub first-at : (l : Bound) (r : Option ℕ) (a : ℕ) → First l r → r ≡ Some a → first_allowed l ≡ a
 first-at l r a f e = edge-at (first_allowed l) a (sym f.edge ∙ e)
 
-pub first_past : (l : Bound) (r : Edge) → First l r → r ≡ Nowhere → first_allowed l ≡ size
+pub first_past : (l : Bound) (r : Option ℕ) → First l r → r ≡ None → first_allowed l ≡ size
 first_past l r f e = omega (arith, edge-nowhere (first_allowed l) (sym f.edge ∙ e), f.within)
 
-pub last-at : (u : Bound) (r : Edge) (b : ℕ) → Last u r → r ≡ At b → past_allowed u ≡ b + 1
+pub last-at : (u : Bound) (r : Option ℕ) (b : ℕ) → Last u r → r ≡ Some b → past_allowed u ≡ b + 1
 last-at u r b f e = before_at (past_allowed u) b (sym f.edge ∙ e)
 
-pub last_none : (u : Bound) (r : Edge) → Last u r → r ≡ Nowhere → past_allowed u ≡ 0
+pub last_none : (u : Bound) (r : Option ℕ) → Last u r → r ≡ None → past_allowed u ≡ 0
 last_none u r f e = before-nowhere (past_allowed u) (sym f.edge ∙ e)
 
 -- what the range then is

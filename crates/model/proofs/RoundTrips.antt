@@ -1,11 +1,11 @@
 -- Round trips between positions and written sets, as the model's own calls: what is written loads to the same positions, what loads is
 -- written back byte for byte, and nothing else loads. A load is done exactly if none of its conditions holds, and such bytes are the
 -- encoding of the canonical run list that is read from them, which is the list of the runs held after it. Assumes nothing.
+use Rattle.std.specs.Prelude.{Option, None, Some}
 use mathlib.Core.Path.{◌≡◌, refl, sym, ap, ◌∙◌, subst, fun_ext}
 use mathlib.Core.Logic.{◌⊎◌, inl, inr}
 use mathlib.Core.Bool.{Bool, true, false, cond, ◌&&◌, ◌||◌, or-false, true≢false}
 use mathlib.Core.List.{List, [], ◌∷◌, ◌++◌}
-use mathlib.Core.Option.{Option, none, some}
 use Prim.Native.Nat.{ℕ, ◌^◌, ◌≤◌, ◌<◌}
 use native.Mathlib.Omega.{arith}
 use lib.Dec.{ltb}
@@ -71,12 +71,12 @@ same-given k j cs e h = go (cause-discrete k j) e
     go (no f) p = absurd (true≢false (sym p))
 
 -- a test that hands out no number is false
-cond-none : (b : Bool) (n : ℕ) (o : Option ℕ) → cond b (some n) o ≡ none → (b ≡ false) × (o ≡ none)
+cond-none : (b : Bool) (n : ℕ) (o : Option ℕ) → cond b (Some n) o ≡ None → (b ≡ false) × (o ≡ None)
 cond-none true n o e = let z : ◌≡◌ {A = ℕ} 0 1 = cc in absurd (omega arith)
 cond-none false n o e = (refl, e)
 
 -- a call that is not refused is given no cause of the order
-none-given : (ks : List Cause) (cs : List Condition) → first_given ks cs ≡ none → (k : Cause) → lists k ks ≡ true → given k cs ≡ false
+none-given : (ks : List Cause) (cs : List Condition) → first_given ks cs ≡ None → (k : Cause) → lists k ks ≡ true → given k cs ≡ false
 none-given [] cs e k l = absurd (true≢false (sym l))
 none-given (j ∷ ks) cs e k l =
     let p = cond-none (given j cs) (number_of j) (first_given ks cs) e in
@@ -92,7 +92,7 @@ given-after k [] ds h = h
 given-after k (c ∷ cs) ds h = given-after k cs ds (neither-second (is_cause k c.cause && c.holds) (given k (cs ++ ds)) h)
 
 -- so bytes whose conditions stand among those of a call that is not refused are intact
-pub unrefused-intact : (cs : List Condition) (bs : List ℕ) → refusal (cs ++ set_conditions bs) ≡ none → Intact bs
+pub unrefused-intact : (cs : List Condition) (bs : List ℕ) → refusal (cs ++ set_conditions bs) ≡ None → Intact bs
 unrefused-intact cs bs e =
     let n : (k : Cause) → lists k order ≡ true → given k (set_conditions bs) ≡ false =
     λ k l. given-after k cs (set_conditions bs) (none-given order (cs ++ set_conditions bs) e k l) in
@@ -104,7 +104,7 @@ unrefused-intact cs bs e =
     }
 
 -- and where it is a load, they meet no condition
-pub unrefused-accepted : (full : ℕ → Bool) (s : Fed) (bs : List ℕ) → refusal (conditions full s bs) ≡ none → Accepted full bs
+pub unrefused-accepted : (full : ℕ → Bool) (s : Fed) (bs : List ℕ) → refusal (conditions full s bs) ≡ None → Accepted full bs
 unrefused-accepted full s bs e =
     let t : Bool = too_many full (mem (decode bs)) in
     record {
@@ -113,7 +113,7 @@ unrefused-accepted full s bs e =
     }
 
 -- and the other way round, at a world that can be read
-pub accepted-unrefused : (full : ℕ → Bool) (S : Positions) (bs : List ℕ) → Accepted full bs → refusal (conditions full (holding S) bs) ≡ none
+pub accepted-unrefused : (full : ℕ → Bool) (S : Positions) (bs : List ℕ) → Accepted full bs → refusal (conditions full (holding S) bs) ≡ None
 accepted-unrefused full S bs A = let I = A.intact in rw (I.long, I.version, I.length-fits, I.ordered, A.fits)
 
 -- what the model gives of loading, by these conditions
@@ -123,9 +123,9 @@ unfolding serve change
 load-by full s bs = refl
 
 -- a call that is done was not refused
-done-unrefused : (y : Option ℕ) (S Q : Positions) → (settle y S done Q).answer ≡ gave done → y ≡ none
-done-unrefused none S Q e = refl
-done-unrefused (some n) S Q e = let z : ◌≡◌ {A = ℕ} 0 1 = cc in absurd (omega arith)
+done-unrefused : (y : Option ℕ) (S Q : Positions) → (settle y S done Q).answer ≡ gave done → y ≡ None
+done-unrefused None S Q e = refl
+done-unrefused (Some n) S Q e = let z : ◌≡◌ {A = ℕ} 0 1 = cc in absurd (omega arith)
 
 -- accepted bytes load, and the world then has their positions
 pub accepted-loads : (full : ℕ → Bool) (S : Positions) (bs : List ℕ) → Accepted full bs

@@ -1,11 +1,11 @@
 -- The runs of a value in a range: the list is canonical and has exactly the positions of that value there, so whatever else is
 -- canonical with these positions is that list. From it: ranges joined and cut, the first and last run, how many there are,
 -- and the run around a position. Assumes nothing.
+use Rattle.std.specs.Prelude.{Some}
 use mathlib.Core.Path.{◌≡◌, refl, sym, ap, ap₂, ◌∙◌, subst}
 use mathlib.Core.Logic.{◌⊎◌, inl, inr}
 use mathlib.Core.Bool.{Bool, true, false, cond, not, ◌&&◌, ◌||◌, beq, or-false, true≢false}
 use mathlib.Core.List.{List, [], ◌∷◌, ◌++◌}
-use mathlib.Core.Option.{some}
 use Prim.Native.Nat.{ℕ, zero, suc, ◌+◌, ◌-◌, ◌≤◌, ◌<◌}
 use native.Mathlib.Nat.{add-zero, add-suc, suc-add}
 use native.Mathlib.Omega.{arith}
@@ -254,13 +254,13 @@ runs_in-first P v a n l h al lh hn under same stop =
         ap (λ b. b || mem rest x) e ∙ runs_in-mem P v (suc h) k x ∙ ap (λ b. b && beq (P x) v) (among-yes (suc h) k x p (omega arith))
 
 pub first_run-is : (P : Positions) (v : Bool) (a n l h : ℕ) → a ≤ l → l ≤ h → h < a + n → ((y : ℕ) → a ≤ y → y < l → P y ≡ not v)
-    → ((y : ℕ) → l ≤ y → y ≤ h → P y ≡ v) → (suc h < a + n → P (suc h) ≡ not v) → first_run (runs_in P v a n) ≡ some (run l h)
+    → ((y : ℕ) → l ≤ y → y ≤ h → P y ≡ v) → (suc h < a + n → P (suc h) ≡ not v) → first_run (runs_in P v a n) ≡ Some (run l h)
 first_run-is P v a n l h al lh hn under same stop = ap first_run (runs_in-first P v a n l h al lh hn under same stop)
 
 -- the last run: the same from the other end
-last_snoc : (rs : List Run) (r : Run) → last_run (rs ++ (r ∷ [])) ≡ some r
+last_snoc : (rs : List Run) (r : Run) → last_run (rs ++ (r ∷ [])) ≡ Some r
 last_snoc [] r = refl
-last_snoc (s ∷ rs) r = ap some (go s rs)
+last_snoc (s ∷ rs) r = ap Some (go s rs)
   where
     go : (s : Run) (rs : List Run) → last_after s (rs ++ (r ∷ [])) ≡ r
     go s [] = refl
@@ -279,7 +279,7 @@ runs_in-last P v a n l h al lh hn over same stop =
     ∙ ap (λ rs. run l h ∷ rs) (runs_in-none P v (suc h) (l + k - suc h) (λ y s t. over y s (omega arith))))
 
 pub last_run-is : (P : Positions) (v : Bool) (a n l h : ℕ) → a ≤ l → l ≤ h → h < a + n → ((y : ℕ) → h < y → y < a + n → P y ≡ not v)
-    → ((y : ℕ) → l ≤ y → y ≤ h → P y ≡ v) → ((y : ℕ) → a ≤ y → suc y ≡ l → P y ≡ not v) → last_run (runs_in P v a n) ≡ some (run l h)
+    → ((y : ℕ) → l ≤ y → y ≤ h → P y ≡ v) → ((y : ℕ) → a ≤ y → suc y ≡ l → P y ≡ not v) → last_run (runs_in P v a n) ≡ Some (run l h)
 last_run-is P v a n l h al lh hn over same stop =
     ap last_run (runs_in-last P v a n l h al lh hn over same stop) ∙ last_snoc (runs_in P v a (l - a)) (run l h)
 

@@ -1,11 +1,11 @@
 -- What a search tree is asked of its runs, as functions of the list of runs in order: the runs next to a position, the held positions
 -- and the starts before one, the k-th position of either value. Each goes over the parts of a list that is joined of several,
 -- and equals the plain report. Assumes nothing.
+use Rattle.std.specs.Prelude.{Option, None, Some}
 use mathlib.Core.Path.{◌≡◌, refl, sym, ap, ap₂, ◌∙◌, subst}
 use mathlib.Core.Logic.{◌⊎◌, inl, inr}
 use mathlib.Core.Bool.{Bool, true, false, cond, ◌&&◌}
 use mathlib.Core.List.{List, [], ◌∷◌, ◌++◌}
-use mathlib.Core.Option.{Option, none, some}
 use Prim.Native.Nat.{ℕ, ◌+◌, ◌-◌, ◌≤◌, ◌<◌, min}
 use native.Mathlib.Omega.{arith}
 use lib.Dec.{leb, ltb}
@@ -22,19 +22,19 @@ use Rattle.model.specs.RunList.{Canon, EndBelow, StartFrom, or_else, last_up_to,
 use Rattle.model.proofs.RunList.{canon-weaken, mem-in, mem-above, mem_below, mem-before, widths}
 
 or_else-assoc : (o p q : Option Run) → or_else (or_else o p) q ≡ or_else o (or_else p q)
-or_else-assoc none p q = refl
-or_else-assoc (some r) p q = refl
+or_else-assoc None p q = refl
+or_else-assoc (Some r) p q = refl
 
-or_else-none : (o : Option Run) → or_else o none ≡ o
-or_else-none none = refl
-or_else-none (some r) = refl
+or_else-none : (o : Option Run) → or_else o None ≡ o
+or_else-none None = refl
+or_else-none (Some r) = refl
 
 pub last_up_to-append : (x : ℕ) (rs ss : List Run) → last_up_to x (rs ++ ss) ≡ or_else (last_up_to x ss) (last_up_to x rs)
 unfolding last_up_to
 last_up_to-append x [] ss = sym (or_else-none (last_up_to x ss))
 last_up_to-append x (r ∷ rs) ss =
-    ap (λ o. or_else o (cond (leb r.start x) (some r) none)) (last_up_to-append x rs ss)
-    ∙ or_else-assoc (last_up_to x ss) (last_up_to x rs) (cond (leb r.start x) (some r) none)
+    ap (λ o. or_else o (cond (leb r.start x) (Some r) None)) (last_up_to-append x rs ss)
+    ∙ or_else-assoc (last_up_to x ss) (last_up_to x rs) (cond (leb r.start x) (Some r) None)
 
 pub first_from-append : (x : ℕ) (rs ss : List Run) → first_from x (rs ++ ss) ≡ or_else (first_from x rs) (first_from x ss)
 unfolding first_from
@@ -42,17 +42,17 @@ first_from-append x [] ss = refl
 first_from-append x (r ∷ rs) ss = go (leb x r.start) (first_from-append x rs ss)
   where
     go : (b : Bool) → first_from x (rs ++ ss) ≡ or_else (first_from x rs) (first_from x ss)
-        → cond b (some r) (first_from x (rs ++ ss)) ≡ or_else (cond b (some r) (first_from x rs)) (first_from x ss)
+        → cond b (Some r) (first_from x (rs ++ ss)) ≡ or_else (cond b (Some r) (first_from x rs)) (first_from x ss)
     go true ih = refl
     go false ih = ih
 
 -- nothing starts at or before x where all starts are above it; nothing starts at or after x where all are below it
-pub last_up_to-none : (x k : ℕ) (rs : List Run) → x < k → StartFrom k rs → last_up_to x rs ≡ none
+pub last_up_to-none : (x k : ℕ) (rs : List Run) → x < k → StartFrom k rs → last_up_to x rs ≡ None
 unfolding last_up_to
 last_up_to-none x k [] h s = refl
 last_up_to-none x k (r ∷ rs) h s = rw (last_up_to-none x k rs h s.1, lt-leb r.start x (omega (arith, s.0)))
 
-pub first_from-none : (x t : ℕ) (rs : List Run) → t ≤ x → EndBelow t rs → first_from x rs ≡ none
+pub first_from-none : (x t : ℕ) (rs : List Run) → t ≤ x → EndBelow t rs → first_from x rs ≡ None
 unfolding first_from
 first_from-none x t [] h s = refl
 first_from-none x t (r ∷ rs) h s = rw (lt-leb x r.start (omega (arith, s.0, s.1)), first_from-none x t rs h s.2)
@@ -126,8 +126,8 @@ canon-starts total k (r ∷ rs) c =
 
 -- x is held exactly if the last run that starts at or before it reaches it
 abbrev pub reaches : ℕ → Option Run → Bool
-reaches x none = false
-reaches x (some r) = leb x r.«end»
+reaches x None = false
+reaches x (Some r) = leb x r.«end»
 
 pub mem-last : (total k : ℕ) (rs : List Run) (x : ℕ) → Canon total k rs → mem rs x ≡ reaches x (last_up_to x rs)
 unfolding mem last_up_to
@@ -137,9 +137,9 @@ mem-last total k (r ∷ rs) x c = go (place r.start r.«end» x) (mem-last total
     later : StartFrom (r.«end» + 2) rs
     later = canon-starts total (r.«end» + 2) rs c.3
 
-    passed : r.«end» < x → (o : Option Run) → reaches x o ≡ reaches x (or_else o (some r))
-    passed h none = sym (lt-leb x r.«end» h)
-    passed h (some q) = refl
+    passed : r.«end» < x → (o : Option Run) → reaches x o ≡ reaches x (or_else o (Some r))
+    passed h None = sym (lt-leb x r.«end» h)
+    passed h (Some q) = refl
 
     go : Place r.start r.«end» x → mem rs x ≡ reaches x (last_up_to x rs) → mem (r ∷ rs) x ≡ reaches x (last_up_to x (r ∷ rs))
     go (below h e) ih =
@@ -148,7 +148,7 @@ mem-last total k (r ∷ rs) x c = go (place r.start r.«end» x) (mem-last total
         mem-in r rs x l h ∙ sym (rw (last_up_to-none x (r.«end» + 2) rs (omega arith) later, le-leb r.start x l) (le-leb x r.«end» h))
     go (above h e) ih =
         mem-above r rs x h ∙ ih ∙ passed h (last_up_to x rs)
-        ∙ ap (λ b. reaches x (or_else (last_up_to x rs) (cond b (some r) none))) (sym (le-leb r.start x (omega (arith, c.1))))
+        ∙ ap (λ b. reaches x (or_else (last_up_to x rs) (cond b (Some r) None))) (sym (le-leb r.start x (omega (arith, c.1))))
 
 -- a canonical list around one of its runs: what is before it ends before its start, what follows starts after its end
 pub canon-split : (total k : ℕ) (rs : List Run) (r : Run) (ss : List Run) → Canon total k (rs ++ (r ∷ ss))
@@ -298,9 +298,9 @@ select_gap-is total low (r ∷ rs) k c =
         })
 
 -- the plain select of false
-pub select-gap : (rs : List Run) (k : ℕ) → Canon size 0 rs → select_gap 0 rs k < size → select (mem rs) false 0 size k ≡ some (select_gap 0 rs k)
+pub select-gap : (rs : List Run) (k : ℕ) → Canon size 0 rs → select_gap 0 rs k < size → select (mem rs) false 0 size k ≡ Some (select_gap 0 rs k)
 select-gap rs k c h =
     let x : ℕ = select_gap 0 rs k in
     let g : FreeBetween 0 k x rs = select_gap-is size 0 rs k c in
     let q : 0 + x ≡ x = omega arith in
-    select-is (mem rs) false 0 size x k h (ap (mem rs) q ∙ g.free) (omega (arith, count-both (mem rs) 0 x, count-ones_below size 0 rs x c, g.before)) ∙ ap some q
+    select-is (mem rs) false 0 size x k h (ap (mem rs) q ∙ g.free) (omega (arith, count-both (mem rs) 0 x, count-ones_below size 0 rs x c, g.before)) ∙ ap Some q

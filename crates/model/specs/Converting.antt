@@ -1,7 +1,7 @@
 -- Turning a written set of either edition into the other (document 02, Ticket 8). The call has no pool, so it is no call of the plain model and
 -- in no list of demand 3. Assumes nothing: these are definitions.
+use Rattle.std.specs.Prelude.{Option}
 use Rattle.std.specs.Prelude.{not, List, [], ◌∷◌, ℕ, eqb, length, drop, get_or}
-use Rattle.std.proofs.Math.Option.{Option}
 use Rattle.model.specs.declared.Edition.{Edition}
 use Rattle.model.specs.declared.Edition.TheVariants.{Rows, Columns}
 use Rattle.model.specs.Bytes.{encode, runs_due, edition_of, decode_runs, decode, into_front}

@@ -1,7 +1,7 @@
 -- THE PLAIN MODEL, part 6: worlds in one pool (document 02, Ticket 3). It keeps the capacity C and, for each opened world, its positions, its
 -- floor and its ceiling.
+use Rattle.std.specs.Prelude.{Option, None, Some}
 use Rattle.std.specs.Prelude.{Bool, false, ◌||◌, List, [], ◌∷◌, ℕ, zero, suc, ◌+◌, ◌-◌, ◌*◌, ◌/◌, max, min, ltb, length, get_or}
-use Rattle.std.proofs.Math.Option.{Option, none, some}
 use Rattle.model.specs.declared.Limits.{Limits}
 use Rattle.model.specs.Positions.{Positions, empty, stretches}
 use Rattle.model.specs.Bytes.{into_front}
@@ -19,13 +19,13 @@ pub record PlainWorld : Type 0 where
 
 -- the world of a number, if it was opened
 abbrev pub world_of : List PlainWorld → ℕ → Option PlainWorld
-world_of [] i = none
-world_of (x ∷ xs) zero = some x
+world_of [] i = None
+world_of (x ∷ xs) zero = Some x
 world_of (x ∷ xs) (suc i) = world_of xs i
 
 abbrev pub fed_by : Option PlainWorld → Fed
-fed_by none = unopened
-fed_by (some x) = holding x.positions
+fed_by None = unopened
+fed_by (Some x) = holding x.positions
 
 -- what a world claims of the pool with r runs: the larger of r and its floor
 abbrev pub claim_with : PlainWorld → ℕ → ℕ
@@ -46,8 +46,8 @@ other_claims (x ∷ xs) (suc i) = claim x + other_claims xs i
 
 -- 8: r runs are too many for a world where they exceed its ceiling, or where the sum of the claims, with r runs for this world, exceeds C
 abbrev pub exceeds : ℕ → ℕ → Option PlainWorld → ℕ → Bool
-exceeds C others none r = false
-exceeds C others (some x) r = ltb x.ceiling r || ltb C (claim_with x r + others)
+exceeds C others None r = false
+exceeds C others (Some x) r = ltb x.ceiling r || ltb C (claim_with x r + others)
 
 unfoldable pub full : ℕ → List PlainWorld → ℕ → ℕ → Bool
 full C ws i r = exceeds C (other_claims ws i) (world_of ws i) r
@@ -96,16 +96,16 @@ abbrev pub make_conditions : Bool → ℕ → List Limits → List Condition
 make_conditions short C ls = store_length when short ∷ world_limits when bad_limits C ls ∷ []
 
 abbrev pub settle_make : Option ℕ → List PlainWorld → List PlainWorld → PoolOutcome
-settle_make none ws new = record { answer = gave done; worlds = new }
-settle_make (some n) ws new = record { answer = refused n; worlds = ws }
+settle_make None ws new = record { answer = gave done; worlds = new }
+settle_make (Some n) ws new = record { answer = refused n; worlds = ws }
 
 unfoldable pub make_by : Bool → ℕ → List PlainWorld → List Limits → PoolOutcome
 make_by short C ws ls = settle_make (refusal (make_conditions short C ls)) ws (empty_worlds ls)
 
 -- measuring: 1, then what the question asks, then 2. The pool is measured, and no more, so the worlds stay
 abbrev pub settle_measured : Option ℕ → List PlainWorld → Result → PoolOutcome
-settle_measured none ws a = record { answer = gave a; worlds = ws }
-settle_measured (some n) ws a = record { answer = refused n; worlds = ws }
+settle_measured None ws a = record { answer = gave a; worlds = ws }
+settle_measured (Some n) ws a = record { answer = refused n; worlds = ws }
 
 -- why the list of ranges that words tell is refused, at the capacity C
 abbrev pub stopped : ℕ → List ℕ → Option (List ℕ)
@@ -149,8 +149,8 @@ alone C P = record { positions = P; floor = 0; ceiling = C } ∷ []
 
 -- the most runs that world i may have where the limits are kept: one number for the two conditions of 8 (proofs/Pools.antt)
 abbrev pub allowance_of : ℕ → ℕ → Option PlainWorld → ℕ
-allowance_of C others none = 0
-allowance_of C others (some x) = min x.ceiling (C - others)
+allowance_of C others None = 0
+allowance_of C others (Some x) = min x.ceiling (C - others)
 
 unfoldable pub allowance : ℕ → List PlainWorld → ℕ → ℕ
 allowance C ws i = allowance_of C (other_claims ws i) (world_of ws i)

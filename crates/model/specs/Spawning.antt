@@ -1,7 +1,7 @@
 -- THE PLAIN MODEL: why a list of ranges, set to true one by one from an empty store of one world with ceiling C, is refused with 8 (document 02,
 -- Ticket 13).
+use Rattle.std.specs.Prelude.{Option, None, Some}
 use Rattle.std.specs.Prelude.{Bool, true, false, cond, not, ◌&&◌, ◌||◌, List, [], ◌∷◌, ◌≡◌, ℕ, zero, suc, ◌+◌, ◌-◌, ◌*◌, ◌/◌, leb, ltb, length, get_or, take}
-use Rattle.std.proofs.Math.Option.{Option, none, some}
 use Rattle.model.specs.declared.Bound.{Bound}
 use Rattle.model.specs.declared.Run.{Run}
 use Rattle.model.specs.Range.{bound_by, first_allowed, past_allowed}
@@ -52,8 +52,8 @@ first_refused C es = find (λ n. ltb C (runs_after es (suc n))) true 0 (length e
 
 -- how many entries there are up to it and with it, and 0 where no call is refused
 abbrev pub count_up_to : Option ℕ → ℕ
-count_up_to none = 0
-count_up_to (some f) = suc f
+count_up_to None = 0
+count_up_to (Some f) = suc f
 
 unfoldable pub up_to_refused : ℕ → List Run → ℕ
 up_to_refused C es = count_up_to (first_refused C es)
@@ -78,21 +78,21 @@ places es = places_from es 0 es
 
 -- WHY THE LIST STOPS: of the entries up to the first refused one, the first in each run of their union
 abbrev pub why_full_up_to : List Run → Option ℕ → Option (List ℕ)
-why_full_up_to es none = none
-why_full_up_to es (some f) = some (places (take (suc f) es))
+why_full_up_to es None = None
+why_full_up_to es (Some f) = Some (places (take (suc f) es))
 
 unfoldable pub why_full : ℕ → List Run → Option (List ℕ)
 why_full C es = why_full_up_to es (first_refused C es)
 
 -- 16: no call of the list is refused
 abbrev pub none_refused : Option (List ℕ) → Bool
-none_refused none = true
-none_refused (some ps) = false
+none_refused None = true
+none_refused (Some ps) = false
 
 -- the places that are answered, where one is
 abbrev pub places_told : Option (List ℕ) → List ℕ
-places_told none = []
-places_told (some ps) = ps
+places_told None = []
+places_told (Some ps) = ps
 
 -- the sublist at places; d stands for what is not there
 abbrev pub pick : {A : Type 0} → A → List A → List ℕ → List A

@@ -1,12 +1,14 @@
 -- Calls that change a world, or overwrite it, meet their contract: refused by what looking tells, then by their conditions, then by too
 -- many runs, and else the world holds the model's set. Each is the model's `change`, at the world's allowance. The work is done in the nodes,
 -- which are lent as a part of the words. Assumes nothing.
+use Rattle.changes.specs.Edits.{changed_to}
+use Rattle.std.specs.Prelude.{Option, None, Some}
+use Rattle.changes.specs.declared.edit.Edit.{Edit}
 use Prim.Native.Nat.{ℕ, suc, ◌-◌, ◌≤◌, ◌<◌}
 use mathlib.Core.Path.{◌≡◌, refl, sym, ap, ap₂, ◌∙◌, subst, fun_ext}
 use mathlib.Core.Logic.{◌⊎◌, inl, inr}
 use mathlib.Core.Bool.{Bool, true, false, not, ◌&&◌}
 use mathlib.Core.List.{List, [], ◌∷◌, ◌++◌}
-use mathlib.Core.Option.{Option, none, some}
 use native.Mathlib.Omega.{arith}
 use lib.Dec.{ltb}
 use borrow.Author.Tests.{lt-ltb, le-ltb}
@@ -33,8 +35,6 @@ use Rattle.store.specs.Settle.{Settled, Became, Openable, Opened, Closing, Close
 use Rattle.store.proofs.Parts.{lent, back, back-same}
 use Rattle.store.proofs.WorldLists.{opened-world}
 use Rattle.store.proofs.Worlds.{held-allowed}
-use Rattle.changes.specs.declared.edit.Edit.{Edit}
-use Rattle.changes.specs.declared.edit.Fit.{Fit}
 use Rattle.changes.specs.Edits.{Makes, Edited, Fitted, Moves}
 use Rattle.changes.proofs.Shifted.{shift-few}
 use Rattle.promises.specs.Met.{Site, fed_of, full_at, outcome_of, Met, Readable}
@@ -75,7 +75,7 @@ module _ {w : List ℕ} {i : ℕ} {c : Call Site} {cs : List Condition} {Q : Pos
   due s = refusal (reads s ++ Refusals.capacity when too_many (full_at w i) (Q (positions_of s)) ∷ cs)
 
   -- it is given
-  pub refused-due : {w' : List ℕ} {n : ℕ} → due (fed_of w i) ≡ some n → w' ≡ w → Met w i c (refused n) w'
+  pub refused-due : {w' : List ℕ} {n : ℕ} → due (fed_of w i) ≡ Some n → w' ≡ w → Met w i c (refused n) w'
   unfolding change
   refused-due e q =
       met_by _ (says.said ∙ ap (λ o. settle o (positions_of (fed_of w i)) (A (positions_of (fed_of w i))) (bounded (Q (positions_of (fed_of w i))))) e) q
@@ -86,18 +86,18 @@ module _ {w : List ℕ} {i : ℕ} {c : Call Site} {cs : List Condition} {Q : Pos
     readable-due t e f = ap due R.fed ∙ ap (λ m. refusal (Refusals.capacity when m ∷ cs)) e ∙ f
 
     -- the conditions come first
-    pub refused-first : {n : ℕ} → first_given before_capacity cs ≡ some n → Met w i c (refused n) w
+    pub refused-first : {n : ℕ} → first_given before_capacity cs ≡ Some n → Met w i c (refused n) w
     refused-first e = refused-due (readable-due _ refl (refused-before cs (too_many (full_at w i) (Q (held_by w i))) e)) refl
 
     -- then more runs than it may have
-    pub full-before : first_given before_capacity cs ≡ none → {w' : List ℕ} → (allowance w i < stretches (Q (held_by w i))) × (w' ≡ w) → Met w i c (refused 8) w'
+    pub full-before : first_given before_capacity cs ≡ None → {w' : List ℕ} → (allowance w i < stretches (Q (held_by w i))) × (w' ≡ w) → Met w i c (refused 8) w'
     full-before early h = refused-due (readable-due true (fits_not R.openable (Q (held_by w i)) h.0) (refused_full cs early)) h.1
 
     -- then the conditions that come after these
-    pub refused-after : {n : ℕ} → stretches (Q (held_by w i)) ≤ allowance w i → refusal cs ≡ some n → Met w i c (refused n) w
+    pub refused-after : {n : ℕ} → stretches (Q (held_by w i)) ≤ allowance w i → refusal cs ≡ Some n → Met w i c (refused n) w
     refused-after fits e = refused-due (readable-due false (fits-few R.openable (Q (held_by w i)) fits) e) refl
 
-    module _ (quiet : refusal cs ≡ none) (Q' : Positions) (alike : (x : ℕ) → x < size → Q' x ≡ Q (held_by w i) x) where
+    module _ (quiet : refusal cs ≡ None) (Q' : Positions) (alike : (x : ℕ) → x < size → Q' x ≡ Q (held_by w i) x) where
       -- the changed set has as many runs
       runs-alike : stretches Q' ≡ stretches (Q (held_by w i))
       runs-alike = stretches-cong Q' (Q (held_by w i)) alike
@@ -111,16 +111,16 @@ module _ {w : List ℕ} {i : ℕ} {c : Call Site} {cs : List Condition} {Q : Pos
       unfolding change
       changes-to {w'} fits S g =
           let few : stretches (Q (held_by w i)) ≤ allowance w i = subst (λ n. n ≤ allowance w i) runs-alike fits in
-          let free : due (fed_of w i) ≡ none = readable-due false (fits-few R.openable (Q (held_by w i)) few) quiet in
+          let free : due (fed_of w i) ≡ None = readable-due false (fits-few R.openable (Q (held_by w i)) few) quiet in
           subst (λ b. Met w i c (gave b) w') (sym g)
           (met_by (record { answer = gave (A (held_by w i)); positions = bounded (Q (held_by w i)) })
           (says.said
           ∙ ap (λ o. settle o (positions_of (fed_of w i)) (A (positions_of (fed_of w i))) (bounded (Q (positions_of (fed_of w i))))) free
-          ∙ ap (λ s. settle none (positions_of s) (A (positions_of s)) (bounded (Q (positions_of s)))) R.fed)
+          ∙ ap (λ s. settle None (positions_of s) (A (positions_of s)) (bounded (Q (positions_of s)))) R.fed)
           (settled-as S (λ x h. alike x h ∙ bounded-is (Q (held_by w i)) x h)))
 
     -- a world that is its own change to the same set is left
-    pub left_so : {a : Result} → refusal cs ≡ none → held_by w i ≡ Q (held_by w i) → a ≡ A (held_by w i) → Met w i c (gave a) w
+    pub left_so : {a : Result} → refusal cs ≡ None → held_by w i ≡ Q (held_by w i) → a ≡ A (held_by w i) → Met w i c (gave a) w
     left_so quiet f g =
         changes-to quiet (held_by w i) (λ x h. ap (λ T. T x) f) (held-allowed w i R.openable) (settled_same R.openable.sound) g
 
@@ -180,23 +180,23 @@ module _ {w : List ℕ} {i : ℕ} {h : World} (R : Readable w i) (op : Opened w 
     made l mk = mk (share_of w i) (allowance w i) (lent-limited op) (up_to Q el l)
 
     -- by a change that counts
-    module _ (ys : List ℕ) (e : Edit) (ed : Edited (lent w) ys h limit Q e) {k : World} {n : Count} (q : e ≡ Edit.Changed k n) where
-      pub edit-told : Edited (lent w) ys h limit Q (Edit.Changed k n)
+    module _ (ys : List ℕ) (e : Option Edit) (ed : Edited (lent w) ys h limit Q e) {k : World} {n : Count} (q : e ≡ changed_to k n) where
+      pub edit-told : Edited (lent w) ys h limit Q (changed_to k n)
       edit-told = subst (Edited (lent w) ys h limit Q) q ed
 
       pub edit-closing : Closing w (back w ys) k Q
       edit-closing = lent-closing R.openable (made edit-told.0 edit-told.1) (up_to Q el edit-told.0)
 
     -- by one that does not
-    module _ (ys : List ℕ) (e : Fit) (ft : Fitted (lent w) ys h limit Q e) {k : World} (q : e ≡ Fit.Done k) where
-      pub fit-told : Fitted (lent w) ys h limit Q (Fit.Done k)
+    module _ (ys : List ℕ) (e : Option World) (ft : Fitted (lent w) ys h limit Q e) {k : World} (q : e ≡ Some k) where
+      pub fit-told : Fitted (lent w) ys h limit Q (Some k)
       fit-told = subst (Fitted (lent w) ys h limit Q) q ft
 
       pub fit-closing : Closing w (back w ys) k Q
       fit-closing = lent-closing R.openable (made fit-told.0 fit-told.1) (up_to Q el fit-told.0)
 
 -- a call that so changes the world is met
-module _ {w : List ℕ} {i : ℕ} {c : Call Site} {cs : List Condition} {F : Positions → Positions} {A : Positions → Result} (says : Changes w i c cs F A) (quiet : refusal cs ≡ none)
+module _ {w : List ℕ} {i : ℕ} {c : Call Site} {cs : List Condition} {F : Positions → Positions} {A : Positions → Result} (says : Changes w i c cs F A) (quiet : refusal cs ≡ None)
     {h : World} (R : Readable w i) (op : Opened w i h) {Q : Positions} (same : Q ≡ F (held_by w i)) where
   alike : (x : ℕ) → x < size → Q x ≡ F (held_by w i) x
   alike x l = ap (λ T. T x) same
@@ -213,20 +213,20 @@ module _ {w : List ℕ} {i : ℕ} {c : Call Site} {cs : List Condition} {F : Pos
     over : (ys : List ℕ) → (limit < stretches Q) × (ys ≡ lent w) → Met w i c (refused 8) (back w ys)
     over ys f = full says R quiet Q alike (subst (λ n. n < stretches Q) el f.0, ap (back w) f.1 ∙ back-same w)
 
-    pub edit-full : (ys : List ℕ) (e : Edit) → Edited (lent w) ys h limit Q e → e ≡ Edit.Full → Met w i c (refused 8) (back w ys)
+    pub edit-full : (ys : List ℕ) (e : Option Edit) → Edited (lent w) ys h limit Q e → e ≡ None → Met w i c (refused 8) (back w ys)
     edit-full ys e ed q = over ys (subst (Edited (lent w) ys h limit Q) q ed)
 
-    pub fit-full : (ys : List ℕ) (e : Fit) → Fitted (lent w) ys h limit Q e → e ≡ Fit.Full → Met w i c (refused 8) (back w ys)
+    pub fit-full : (ys : List ℕ) (e : Option World) → Fitted (lent w) ys h limit Q e → e ≡ None → Met w i c (refused 8) (back w ys)
     fit-full ys e ft q = over ys (subst (Fitted (lent w) ys h limit Q) q ft)
 
-    pub edit-done : (ys : List ℕ) {w' : List ℕ} (e : Edit) → Edited (lent w) ys h limit Q e → {k : World} {n : Count} → e ≡ Edit.Changed k n → Closes (back w ys) w' k
+    pub edit-done : (ys : List ℕ) {w' : List ℕ} (e : Option Edit) → Edited (lent w) ys h limit Q e → {k : World} {n : Count} → e ≡ changed_to k n → Closes (back w ys) w' k
         → A (held_by w i) ≡ number (changes (held_by w i) (F (held_by w i))) → Met w i c (gave (number (worth n))) w'
     edit-done ys e ed q cl g =
         let t = edit-told R op el ys e ed q in
         changes-to says R quiet Q alike (up_to Q el t.0) (lent-settled R.openable (made R op el t.0 t.1) (up_to Q el t.0) cl)
         (ap number (t.2 ∙ ap₂ changes (lent-held op) same) ∙ sym g)
 
-    pub fit-done : (ys : List ℕ) {w' : List ℕ} (e : Fit) → Fitted (lent w) ys h limit Q e → {k : World} → e ≡ Fit.Done k → Closes (back w ys) w' k → done ≡ A (held_by w i) → Met w i c (gave done) w'
+    pub fit-done : (ys : List ℕ) {w' : List ℕ} (e : Option World) → Fitted (lent w) ys h limit Q e → {k : World} → e ≡ Some k → Closes (back w ys) w' k → done ≡ A (held_by w i) → Met w i c (gave done) w'
     fit-done ys e ft q cl g =
         let t = fit-told R op el ys e ft q in
         changes-to says R quiet Q alike (up_to Q el t.0) (lent-settled R.openable (made R op el t.0 t.1) (up_to Q el t.0) cl) g

@@ -9,3 +9,4 @@ pub mod Overwriting
 pub mod Putting
 pub mod Simulation
 pub mod Served
+pub mod Passing

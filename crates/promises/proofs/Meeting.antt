@@ -1,10 +1,10 @@
 -- A call meets its contract: what the model is fed of words that were looked at, and what a reporting call and making then answer.
 -- Each is the model's own definitions, at the words' capacity and soundness. Assumes nothing.
+use Rattle.std.specs.Prelude.{Option, None, Some}
 use Prim.Native.Nat.{ℕ, ◌≤◌, ◌<◌}
 use mathlib.Core.Path.{◌≡◌, refl, sym, ap, ap₂, ◌∙◌, subst}
 use mathlib.Core.Bool.{Bool, true, false, cond, not}
 use mathlib.Core.List.{List, [], ◌∷◌, ◌++◌}
-use mathlib.Core.Option.{Option, none, some}
 use native.Mathlib.Omega.{arith}
 use borrow.Author.Tests.{eq-eqb, ne_eqb}
 use Rattle.model.specs.declared.Bound.{Bound}
@@ -109,17 +109,17 @@ pub record Reports (w : List ℕ) (i : ℕ) (c : Call Site) (cs : List Condition
 
 module _ {w : List ℕ} {i : ℕ} {c : Call Site} {cs : List Condition} {A : Positions → Result} (says : Reports w i c cs A) where
   -- it is refused by what the world and the conditions give together
-  pub refused-both : {n : ℕ} → refusal (reads (fed_of w i) ++ cs) ≡ some n → Met w i c (refused n) w
+  pub refused-both : {n : ℕ} → refusal (reads (fed_of w i) ++ cs) ≡ Some n → Met w i c (refused n) w
   unfolding report
   refused-both e =
       met_by _ (says.said ∙ ap (λ o. settle o (positions_of (fed_of w i)) (A (positions_of (fed_of w i))) (positions_of (fed_of w i))) e) refl
 
   -- a readable one by the conditions alone
-  pub refused-by : (n : ℕ) → Readable w i → refusal cs ≡ some n → Met w i c (refused n) w
+  pub refused-by : (n : ℕ) → Readable w i → refusal cs ≡ Some n → Met w i c (refused n) w
   refused-by n R e = refused-both (ap (λ s. refusal (reads s ++ cs)) R.fed ∙ e)
 
   -- and else it gives what is due of its positions, which stay
-  pub met : {a : Result} → Readable w i → refusal cs ≡ none → a ≡ A (held_by w i) → Met w i c (gave a) w
+  pub met : {a : Result} → Readable w i → refusal cs ≡ None → a ≡ A (held_by w i) → Met w i c (gave a) w
   unfolding report
   met R e f =
       subst (λ b. Met w i c (gave b) w) (sym f)
@@ -127,17 +127,17 @@ module _ {w : List ℕ} {i : ℕ} {c : Call Site} {cs : List Condition} {A : Pos
       (settled_same R.openable.sound))
 
   -- the same of what is due of the positions of the world in the part that is lent
-  pub met-in : {h : World} {a : Result} → Readable w i → Opened w i h → refusal cs ≡ none → a ≡ A (held_in (lent w) h) → Met w i c (gave a) w
+  pub met-in : {h : World} {a : Result} → Readable w i → Opened w i h → refusal cs ≡ None → a ≡ A (held_in (lent w) h) → Met w i c (gave a) w
   met-in R op e f = met R e (f ∙ ap A (lent-held op))
 
   -- and of an answer that is known to be that
-  pub met-in-as : {h : World} {a : Answer} → Readable w i → Opened w i h → refusal cs ≡ none → a ≡ gave (A (held_in (lent w) h)) → Met w i c a w
+  pub met-in-as : {h : World} {a : Answer} → Readable w i → Opened w i h → refusal cs ≡ None → a ≡ gave (A (held_in (lent w) h)) → Met w i c a w
   met-in-as R op e f = subst (λ b. Met w i c b w) (sym f) (met-in R op e refl)
 
 -- a refusal or the result a: what holds of both
 either : (Q : Answer → Type 0) (o : Option ℕ) (P : Positions) (a : Result) → ((n : ℕ) → Q (refused n)) → Q (gave a) → Q (settle o P a P).answer
-either Q none P a k h = h
-either Q (some n) P a k h = k n
+either Q None P a k h = h
+either Q (Some n) P a k h = k n
 
 -- so what holds of every refusal, and of the result of any positions, holds of what a call that reports answers
 pub answers-all : {w : List ℕ} {i : ℕ} {c : Call Site} {cs : List Condition} {A : Positions → Result} (Q : Answer → Type 0) → Reports w i c cs A → ((n : ℕ) → Q (refused n))

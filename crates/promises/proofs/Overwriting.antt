@@ -1,14 +1,15 @@
 -- Calls that overwrite a world, whatever it held: they change it to a set that does not depend on what it held. The runs of that set are
 -- counted first; then its nodes are given back, and the set is gathered into free ones. Assumes nothing.
+use Rattle.std.specs.Prelude.{Ok, Err}
+use Rattle.std.specs.Prelude.{None}
+use Rattle.model.specs.Answers.{OrRefusal}
 use Prim.Native.Nat.{ℕ, ◌≤◌, ◌<◌}
 use mathlib.Core.Path.{◌≡◌, refl, sym, ap, ap₂, ◌∙◌, subst}
 use mathlib.Core.Bool.{Bool, true, false, not}
 use mathlib.Core.List.{List, [], ◌∷◌, ◌++◌}
-use mathlib.Core.Option.{none}
 use native.Mathlib.Omega.{arith}
 use lib.Dec.{leb}
 use borrow.Author.Tests.{leb-true, leb-false, not-true, not-false}
-use Rattle.model.specs.declared.Completed.{Completed}
 use Rattle.model.specs.declared.Operation.{Operation}
 use Rattle.model.specs.declared.Run.{Run}
 use Rattle.model.specs.Numbers.{size}
@@ -25,7 +26,7 @@ use Rattle.store.specs.Settle.{Settled, Became, Opened, Closing, Closes}
 use Rattle.store.proofs.Parts.{lent, back}
 use Rattle.streams.specs.Gathering.{Roomy, Gathers}
 use Rattle.promises.specs.Met.{Site, fed_of, fed_at, outcome_of, Met, Readable}
-use Rattle.promises.specs.Joined.{Carried, completed_by}
+use Rattle.promises.specs.Joined.{Carried}
 use Rattle.promises.proofs.Doors.{lent-limited, lent-closing, lent-settled}
 use Rattle.promises.proofs.Changing.{Changes, full, changes-to}
 
@@ -62,19 +63,19 @@ module _ {w : List ℕ} {i : ℕ} {h : World} {Q : Positions} (R : Readable w i)
     gather-settled cl = lent-settled R.openable gathered few cl
 
 -- ---- the contract, by whether what was made fits
-module _ {w : List ℕ} {i : ℕ} {c : Call Site} {cs : List Condition} {Q : Positions} (says : Overwrites w i c cs Q) (R : Readable w i) (Q' : Positions) (quiet : refusal cs ≡ none)
+module _ {w : List ℕ} {i : ℕ} {c : Call Site} {cs : List Condition} {Q : Positions} (says : Overwrites w i c cs Q) (R : Readable w i) (Q' : Positions) (quiet : refusal cs ≡ None)
     (alike : (x : ℕ) → x < size → Q' x ≡ Q x) {w' : List ℕ} where
-  pub carried : {r : Completed} (t : Bool) → Carried w w' i Q' t → r ≡ completed_by t → Met w i c (completed_answer r) w'
-  carried true h e = subst (λ a. Met w i c (completed_answer a) w') (sym e) (changes-to says R quiet Q' alike h.0 h.1 refl)
-  carried false h e = subst (λ a. Met w i c (completed_answer a) w') (sym e) (full says R quiet Q' alike h)
+  pub carried : (r : OrRefusal Unit) → Carried w w' i Q' r → Met w i c (completed_answer r) w'
+  carried (Ok u) h = changes-to says R quiet Q' alike h.0 h.1 refl
+  carried (Err r) h = subst (λ e. Met w i c (completed_answer (Err e)) w') (sym h.0) (full says R quiet Q' alike (h.1, h.2))
 
 -- ---- the conditions of readable worlds refuse nothing
 -- of one
-pub reads_none : {a : List ℕ} {i : ℕ} → Readable a i → refusal (reads (fed_of a i)) ≡ none
+pub reads_none : {a : List ℕ} {i : ℕ} → Readable a i → refusal (reads (fed_of a i)) ≡ None
 reads_none R = ap (λ f. refusal (reads f)) R.fed
 
 -- of two
-pub both-none : {a b : List ℕ} {i j : ℕ} → Readable a i → Readable b j → refusal (reads (fed_of a i) ++ reads (fed_of b j)) ≡ none
+pub both-none : {a b : List ℕ} {i j : ℕ} → Readable a i → Readable b j → refusal (reads (fed_of a i) ++ reads (fed_of b j)) ≡ None
 both-none R S = ap₂ (λ f g. refusal (reads f ++ reads g)) R.fed S.fed
 
 -- which calls overwrite, and by what:

@@ -1,16 +1,15 @@
 -- Calls that write into the front of a lent slice: what they answer, by the room that the slice has. They report, and one of their
 -- conditions is that the bytes due fit. Assumes nothing.
+use Rattle.std.specs.Prelude.{None, Some, Ok, Err}
 use Prim.Native.Nat.{ℕ, ◌+◌, ◌*◌, ◌≤◌, ◌<◌}
 use mathlib.Core.Path.{◌≡◌, refl, sym, ap, ap₂, ◌∙◌, subst}
 use mathlib.Core.Bool.{Bool, true, false}
 use mathlib.Core.List.{List, [], ◌∷◌}
-use mathlib.Core.Option.{none, some}
 use native.Mathlib.Omega.{arith}
 use lib.ListN.{length, take, drop}
 use lib.Seq.{take_at}
 use borrow.Author.Tests.{lt-ltb, le-ltb}
 use Rattle.model.specs.declared.Refusal.TheVariants.{OutputShort, Window, OffPlane}
-use Rattle.model.specs.declared.Written.{Written}
 use Rattle.model.specs.declared.Edition.{Edition}
 use Rattle.model.specs.Positions.{Positions, held_runs, stretches}
 use Rattle.model.specs.Bytes.{encode, map_of, into_front}
@@ -59,7 +58,7 @@ module _ {w : List ℕ} {i : ℕ} {c : List ℕ → Call Site} {cs : List Condit
   room_by t e = ap (λ s. no_room out (B (positions_of s))) R.fed ∙ e
 
   -- a slice that is too short
-  pub put-short : length out < n → refusal (output_short when true ∷ cs) ≡ some 2 → WritesOut c w i out (Written.Refused OutputShort) out
+  pub put-short : length out < n → refusal (output_short when true ∷ cs) ≡ Some 2 → WritesOut c w i out (Err OutputShort) out
   unfolding no_room
   put-short h e = record {
     met = refused-by puts.says 2 R (ap (λ t. refusal (output_short when t ∷ cs)) (room_by true (lt-ltb (length out) (length (B (held_by w i))) (subst (λ m. length out < m) k h))) ∙ e);
@@ -67,7 +66,7 @@ module _ {w : List ℕ} {i : ℕ} {c : List ℕ → Call Site} {cs : List Condit
   }
 
   -- and one that has room, into which the bytes of its world are put
-  pub put-done : {h : World} {out' : List ℕ} → Opened w i h → refusal cs ≡ none → n ≤ length out → out' ≡ into_front (B (held_in (lent w) h)) out → WritesOut c w i out (Written.Front n) out'
+  pub put-done : {h : World} {out' : List ℕ} → Opened w i h → refusal cs ≡ None → n ≤ length out → out' ≡ into_front (B (held_in (lent w) h)) out → WritesOut c w i out (Ok n) out'
   unfolding no_room
   put-done op e l f = record {
     met =
@@ -89,7 +88,7 @@ module _ (w : List ℕ) (i : ℕ) (out : List ℕ) where
     survey-puts = record { says = record { said = refl } }
 
     -- which is refused where it is not on the plane
-    pub put-no-square : Readable w i → bad_square r c k ≡ true → WritesOut (Call.survey r c k) w i out (Written.Refused OffPlane) out
+    pub put-no-square : Readable w i → bad_square r c k ≡ true → WritesOut (Call.survey r c k) w i out (Err OffPlane) out
     put-no-square R e = record { met = refused-by survey-puts.says 15 R (rw e); unwritten = refl }
 
   module _ (base n : ℕ) where
@@ -99,16 +98,16 @@ module _ (w : List ℕ) (i : ℕ) (out : List ℕ) where
     write-map-puts = record { says = record { said = refl } }
 
     -- which is refused where there is none
-    pub put-no-window : Readable w i → bad_window base n ≡ true → WritesOut (Call.write_map base n) w i out (Written.Refused Window) out
+    pub put-no-window : Readable w i → bad_window base n ≡ true → WritesOut (Call.write_map base n) w i out (Err Window) out
     put-no-window R e = record { met = refused-by write-map-puts.says 6 R (rw e); unwritten = refl }
 
 -- of a window the slice's room decides
-pub short-after-window : (base n : ℕ) → bad_window base n ≡ false → refusal (output_short when true ∷ window when bad_window base n ∷ []) ≡ some 2
+pub short-after-window : (base n : ℕ) → bad_window base n ≡ false → refusal (output_short when true ∷ window when bad_window base n ∷ []) ≡ Some 2
 short-after-window base n e = rw e
 
 -- and so it does of a square on the plane
-pub short-after-square : (r c k : ℕ) → bad_square r c k ≡ false → refusal (output_short when true ∷ off_plane when bad_square r c k ∷ []) ≡ some 2
+pub short-after-square : (r c k : ℕ) → bad_square r c k ≡ false → refusal (output_short when true ∷ off_plane when bad_square r c k ∷ []) ≡ Some 2
 short-after-square r c k e = rw e
 
-pub square-passes : (r c k : ℕ) → bad_square r c k ≡ false → refusal (off_plane when bad_square r c k ∷ []) ≡ none
+pub square-passes : (r c k : ℕ) → bad_square r c k ≡ false → refusal (off_plane when bad_square r c k ∷ []) ≡ None
 square-passes r c k e = rw e

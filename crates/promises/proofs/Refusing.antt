@@ -1,10 +1,10 @@
 -- The order of refusals: what the causes before too many runs give is given, and where they give nothing, the others count.
 -- Each law goes through the causes one by one. Assumes nothing.
+use Rattle.std.specs.Prelude.{Option, None, Some}
 use Prim.Native.Nat.{ℕ}
 use mathlib.Core.Path.{◌≡◌, refl, ap, ◌∙◌}
 use mathlib.Core.Bool.{Bool, true, false, cond, ◌||◌}
 use mathlib.Core.List.{List, [], ◌∷◌, ◌++◌}
-use mathlib.Core.Option.{Option, none, some}
 use native.Mathlib.Omega.{arith}
 use Rattle.model.specs.Refusals.{
   Cause,
@@ -29,72 +29,72 @@ use Rattle.model.specs.Call.{Fed, wrong_length, unsound, unopened, holding}
 use Rattle.model.specs.Model.{reads}
 
 -- what the first causes give is given
-first_some : (ks js : List Cause) (cs : List Condition) (n : ℕ) → first_given ks cs ≡ some n → first_given (ks ++ js) cs ≡ some n
+first_some : (ks js : List Cause) (cs : List Condition) (n : ℕ) → first_given ks cs ≡ Some n → first_given (ks ++ js) cs ≡ Some n
 first_some [] js cs n e = let z : ◌≡◌ {A = ℕ} 0 1 = cc in absurd (omega arith)
 first_some (k ∷ ks) js cs n e = go (given k cs) (first_some ks js cs n) e
   where
-    go : (b : Bool) → (first_given ks cs ≡ some n → first_given (ks ++ js) cs ≡ some n) → cond b (some (number_of k)) (first_given ks cs) ≡ some n
-        → cond b (some (number_of k)) (first_given (ks ++ js) cs) ≡ some n
+    go : (b : Bool) → (first_given ks cs ≡ Some n → first_given (ks ++ js) cs ≡ Some n) → cond b (Some (number_of k)) (first_given ks cs) ≡ Some n
+        → cond b (Some (number_of k)) (first_given (ks ++ js) cs) ≡ Some n
     go true f p = p
     go false f p = f p
 
 -- where they give nothing, the others count
-first-none : (ks js : List Cause) (cs : List Condition) → first_given ks cs ≡ none → first_given (ks ++ js) cs ≡ first_given js cs
+first-none : (ks js : List Cause) (cs : List Condition) → first_given ks cs ≡ None → first_given (ks ++ js) cs ≡ first_given js cs
 first-none [] js cs e = refl
 first-none (k ∷ ks) js cs e = go (given k cs) (first-none ks js cs) e
   where
-    go : (b : Bool) → (first_given ks cs ≡ none → first_given (ks ++ js) cs ≡ first_given js cs) → cond b (some (number_of k)) (first_given ks cs) ≡ none
-        → cond b (some (number_of k)) (first_given (ks ++ js) cs) ≡ first_given js cs
+    go : (b : Bool) → (first_given ks cs ≡ None → first_given (ks ++ js) cs ≡ first_given js cs) → cond b (Some (number_of k)) (first_given ks cs) ≡ None
+        → cond b (Some (number_of k)) (first_given (ks ++ js) cs) ≡ first_given js cs
     go true f p = let z : ◌≡◌ {A = ℕ} 0 1 = cc in absurd (omega arith)
     go false f p = f p
 
 -- where all give nothing, they do
-all_none : (ks js : List Cause) (cs : List Condition) → first_given (ks ++ js) cs ≡ none → first_given ks cs ≡ none
+all_none : (ks js : List Cause) (cs : List Condition) → first_given (ks ++ js) cs ≡ None → first_given ks cs ≡ None
 all_none [] js cs e = refl
 all_none (k ∷ ks) js cs e = go (given k cs) (all_none ks js cs) e
   where
-    go : (b : Bool) → (first_given (ks ++ js) cs ≡ none → first_given ks cs ≡ none) → cond b (some (number_of k)) (first_given (ks ++ js) cs) ≡ none
-        → cond b (some (number_of k)) (first_given ks cs) ≡ none
+    go : (b : Bool) → (first_given (ks ++ js) cs ≡ None → first_given ks cs ≡ None) → cond b (Some (number_of k)) (first_given (ks ++ js) cs) ≡ None
+        → cond b (Some (number_of k)) (first_given ks cs) ≡ None
     go true f p = p
     go false f p = f p
 
 -- where the others give nothing, what all give is what they do
-pub first_alone : (ks js : List Cause) (cs : List Condition) → first_given js cs ≡ none → first_given (ks ++ js) cs ≡ first_given ks cs
+pub first_alone : (ks js : List Cause) (cs : List Condition) → first_given js cs ≡ None → first_given (ks ++ js) cs ≡ first_given ks cs
 first_alone [] js cs e = e
-first_alone (k ∷ ks) js cs e = ap (cond (given k cs) (some (number_of k))) (first_alone ks js cs e)
+first_alone (k ∷ ks) js cs e = ap (cond (given k cs) (Some (number_of k))) (first_alone ks js cs e)
 
 -- ---- of calls that too many runs refuse, with other conditions beside
 module _ (cs : List Condition) where
   -- these come before that
-  pub refused-before : (t : Bool) {n : ℕ} → first_given before_capacity cs ≡ some n → refusal (Refusals.capacity when t ∷ cs) ≡ some n
+  pub refused-before : (t : Bool) {n : ℕ} → first_given before_capacity cs ≡ Some n → refusal (Refusals.capacity when t ∷ cs) ≡ Some n
   refused-before t {n} e = first_some before_capacity from_capacity (Refusals.capacity when t ∷ cs) n e
 
   -- those of none that is given
-  pub none_before : refusal cs ≡ none → first_given before_capacity cs ≡ none
+  pub none_before : refusal cs ≡ None → first_given before_capacity cs ≡ None
   none_before e = all_none before_capacity from_capacity cs e
 
   -- it counts where they do not
-  pub refused_full : first_given before_capacity cs ≡ none → refusal (Refusals.capacity when true ∷ cs) ≡ some 8
+  pub refused_full : first_given before_capacity cs ≡ None → refusal (Refusals.capacity when true ∷ cs) ≡ Some 8
   refused_full e = first-none before_capacity from_capacity (Refusals.capacity when true ∷ cs) e
 
 -- ---- of calls that have to have room in a slice, with other conditions beside
 -- what comes before too many runs comes before that
-pub refused-earlier : (cs : List Condition) (t : Bool) {n : ℕ} → first_given before_capacity cs ≡ some n → refusal (Refusals.output_short when t ∷ cs) ≡ some n
+pub refused-earlier : (cs : List Condition) (t : Bool) {n : ℕ} → first_given before_capacity cs ≡ Some n → refusal (Refusals.output_short when t ∷ cs) ≡ Some n
 refused-earlier cs t {n} e = first_some before_capacity from_capacity (Refusals.output_short when t ∷ cs) n e
 
 -- beside the conditions of a written set it counts where they do not
-pub refused-short : (bs : List ℕ) → refusal (set_conditions bs) ≡ none → refusal (Refusals.output_short when true ∷ set_conditions bs) ≡ some 2
+pub refused-short : (bs : List ℕ) → refusal (set_conditions bs) ≡ None → refusal (Refusals.output_short when true ∷ set_conditions bs) ≡ Some 2
 refused-short bs e =
     first-none before_capacity from_capacity (Refusals.output_short when true ∷ set_conditions bs) (none_before (set_conditions bs) e)
 
 -- beside those of a set's shape it counts so for either of two slices
-pub refused-room : (bs : List ℕ) (a b : Bool) → refusal (shape_conditions bs) ≡ none
-    → refusal (Refusals.output_short when a ∷ Refusals.output_short when b ∷ shape_conditions bs) ≡ cond {A = Option ℕ} (a || b) (some 2) none
+pub refused-room : (bs : List ℕ) (a b : Bool) → refusal (shape_conditions bs) ≡ None
+    → refusal (Refusals.output_short when a ∷ Refusals.output_short when b ∷ shape_conditions bs) ≡ cond {A = Option ℕ} (a || b) (Some 2) None
 refused-room bs a b e =
     first-none before_capacity from_capacity (Refusals.output_short when a ∷ Refusals.output_short when b ∷ shape_conditions bs) (none_before (shape_conditions bs) e)
     ∙ go a b
   where
-    go : (a b : Bool) → cond {A = Option ℕ} (a || (b || false)) (some 2) none ≡ cond {A = Option ℕ} (a || b) (some 2) none
+    go : (a b : Bool) → cond {A = Option ℕ} (a || (b || false)) (Some 2) None ≡ cond {A = Option ℕ} (a || b) (Some 2) None
     go true b = refl
     go false true = refl
     go false false = refl
@@ -105,34 +105,34 @@ abbrev later : List Cause
 later = of_arguments ++ from_capacity
 
 -- what a look finds is given
-pub looked-first : (cs : List Condition) {n : ℕ} → first_given looks cs ≡ some n → refusal cs ≡ some n
+pub looked-first : (cs : List Condition) {n : ℕ} → first_given looks cs ≡ Some n → refusal cs ≡ Some n
 looked-first cs {n} e = first_some looks later cs n e
 
 -- a test that hands out no number is false
-cond-none : (b : Bool) (n : ℕ) (o : Option ℕ) → cond b (some n) o ≡ none → (b ≡ false) × (o ≡ none)
+cond-none : (b : Bool) (n : ℕ) (o : Option ℕ) → cond b (Some n) o ≡ None → (b ≡ false) × (o ≡ None)
 cond-none true n o e = let z : ◌≡◌ {A = ℕ} 0 1 = cc in absurd (omega arith)
 cond-none false n o e = (refl, e)
 
 -- what one world earns is given beside conditions of which a look finds none
-pub reads_first : (s : Fed) (cs : List Condition) {n : ℕ} → first_given looks cs ≡ none → first_given looks (reads s) ≡ some n → refusal (reads s ++ cs) ≡ some n
+pub reads_first : (s : Fed) (cs : List Condition) {n : ℕ} → first_given looks cs ≡ None → first_given looks (reads s) ≡ Some n → refusal (reads s ++ cs) ≡ Some n
 reads_first s cs {n} quiet e =
     let a = cond-none (given store_length cs) 1 _ quiet in
     let b = cond-none (given world_limits cs) 11 _ a.1 in
     let c = cond-none (given store_unsound cs) 7 _ b.1 in
     go s a.0 b.0 c.0 e
   where
-    go : (s : Fed) → given store_length cs ≡ false → given world_limits cs ≡ false → given store_unsound cs ≡ false → first_given looks (reads s) ≡ some n
-        → refusal (reads s ++ cs) ≡ some n
+    go : (s : Fed) → given store_length cs ≡ false → given world_limits cs ≡ false → given store_unsound cs ≡ false → first_given looks (reads s) ≡ Some n
+        → refusal (reads s ++ cs) ≡ Some n
     go wrong_length x y z f = f
     go unsound x y z f = rw (x, y) f
     go unopened x y z f = rw (x, y, z) f
     go (holding P) x y z f = let q : ◌≡◌ {A = ℕ} 0 1 = cc in absurd (omega arith)
 
 -- a call on a world that was not opened is refused, whatever its conditions
-pub unopened-refused : (cs : List Condition) → (n : ℕ) × (refusal (reads unopened ++ cs) ≡ some n)
+pub unopened-refused : (cs : List Condition) → (n : ℕ) × (refusal (reads unopened ++ cs) ≡ Some n)
 unopened-refused cs = go (given store_length cs) (given world_limits cs) (given store_unsound cs)
   where
-    go : (x y z : Bool) → (n : ℕ) × (cond x (some 1) (cond y (some 11) (cond z (some 7) (some 12))) ≡ some n)
+    go : (x y z : Bool) → (n : ℕ) × (cond x (Some 1) (cond y (Some 11) (cond z (Some 7) (Some 12))) ≡ Some n)
     go true y z = (1, refl)
     go false true z = (11, refl)
     go false false true = (7, refl)

@@ -1,10 +1,10 @@
 -- What the plain model gives of any call on a world: it is settled by the refusals, so either the call is refused and the positions stay, or
 -- it gives a result. Positions above 2^64 − 1 are never held. A new call asks for one more case of `served`. Assumes nothing.
+use Rattle.std.specs.Prelude.{Option, None, Some}
 use Prim.Native.Nat.{ℕ, ◌≤◌}
 use mathlib.Core.Path.{◌≡◌, refl, sym, ap}
 use mathlib.Core.Bool.{Bool, false, ◌&&◌}
 use mathlib.Core.List.{List, ◌∷◌, ◌++◌}
-use mathlib.Core.Option.{Option, none, some}
 use borrow.Author.Tests.{le-ltb}
 use Rattle.model.specs.Numbers.{size}
 use Rattle.model.specs.Positions.{Positions, bounded}
@@ -75,6 +75,6 @@ module _ (full : ℕ → Bool) (s : Fed) where
   served (Call.survey r c k out) = reports _ _
 
 -- a call that gave a result was not refused
-pub unrefused : (y : Option ℕ) (P : Positions) (a b : Result) (Q : Positions) → gave b ≡ (settle y P a Q).answer → y ≡ none
-unrefused none P a b Q e = refl
-unrefused (some n) P a b Q e = absurd (refused-not (sym e))
+pub unrefused : (y : Option ℕ) (P : Positions) (a b : Result) (Q : Positions) → gave b ≡ (settle y P a Q).answer → y ≡ None
+unrefused None P a b Q e = refl
+unrefused (Some n) P a b Q e = absurd (refused-not (sym e))

@@ -1,11 +1,11 @@
 -- A sound pool that holds the model's worlds answers each call as the model does, and holds the model's worlds after it: by what the call
 -- promises (`Met`, `Made` of making, `Measured` of measuring) alone. Assumes nothing.
+use Rattle.std.specs.Prelude.{Option, None, Some}
 use Prim.Native.Nat.{ℕ, ◌+◌, ◌<◌, ◌≤◌}
 use mathlib.Core.Path.{◌≡◌, refl, sym, ap, ap₂, ◌∙◌, subst, fun_ext}
 use mathlib.Core.Logic.{◌⊎◌, inl, inr}
 use mathlib.Core.Bool.{Bool, false}
 use mathlib.Core.List.{List, [], ◌∷◌, ◌++◌}
-use mathlib.Core.Option.{Option, none, some}
 use native.Mathlib.Omega.{arith}
 use lib.Dec.{eqb}
 use lib.ListN.{length}
@@ -97,15 +97,15 @@ module _ {C : ℕ} {ws : List PlainWorld} {w : List ℕ} (H : Holds C ws w) wher
       go (inr l) = subst (λ o. Ends (positions_of (fed_by o))) (sym (unopened-world w i l)) empty-ends
 
   -- a world that a call does not refuse was opened
-  named : (i : ℕ) (cs : List Condition) → refusal (reads (fed_by (world_of ws i)) ++ cs) ≡ none → i < opened_at w
+  named : (i : ℕ) (cs : List Condition) → refusal (reads (fed_by (world_of ws i)) ++ cs) ≡ None → i < opened_at w
   named i cs e = go (split i (opened_at w))
     where
       go : (i < opened_at w) ⊎ (opened_at w ≤ i) → i < opened_at w
       go (inl l) = l
       go (inr l) =
-          let f : world_of ws i ≡ none = ap (λ vs. world_of vs i) (sym H.held) ∙ unopened-world w i l in
+          let f : world_of ws i ≡ None = ap (λ vs. world_of vs i) (sym H.held) ∙ unopened-world w i l in
           let r = unopened-refused cs in
-          let g : some r.0 ≡ none = sym r.1 ∙ ap (λ o. refusal (reads (fed_by o) ++ cs)) (sym f) ∙ e in
+          let g : Some r.0 ≡ None = sym r.1 ∙ ap (λ o. refusal (reads (fed_by o) ++ cs)) (sym f) ∙ e in
           let z : ◌≡◌ {A = ℕ} 0 1 = cc in
           absurd (omega arith)
 
@@ -134,13 +134,13 @@ module _ {C : ℕ} {ws : List PlainWorld} {w : List ℕ} (H : Holds C ws w) wher
         left = subst (λ b. Leaves w w' i o.positions b) answer-is (subst (λ p. Leaves w w' i p.positions a) (outcome-is i c) m.left)
 
         go : (y : Option ℕ) → refusal (reads s ++ S.conditions) ≡ y → Holds C (holding_at i o.positions ws) w'
-        go none e =
-            let f : o ≡ settle none (positions_of s) S.said S.next = S.is ∙ ap (λ y. settle y (positions_of s) S.said S.next) e in
+        go None e =
+            let f : o ≡ settle None (positions_of s) S.said S.next = S.is ∙ ap (λ y. settle y (positions_of s) S.said S.next) e in
             let t : Settled w w' i S.next = subst (λ p. Leaves w w' i p.positions p.answer) f left in
             subst (λ vs. Holds C vs w') (ap₂ (λ P vs. holding_at i P vs) (sym (ap (λ p. p.positions) f)) H.held)
             (settled-holds H.sized (named i S.conditions e) t (S.ends (fed-ends i)))
-        go (some n) e =
-            let f : o ≡ settle (some n) (positions_of s) S.said S.next = S.is ∙ ap (λ y. settle y (positions_of s) S.said S.next) e in
+        go (Some n) e =
+            let f : o ≡ settle (Some n) (positions_of s) S.said S.next = S.is ∙ ap (λ y. settle y (positions_of s) S.said S.next) e in
             let t : w' ≡ w = subst (λ p. Leaves w w' i p.positions p.answer) f left in
             subst (λ v. Holds C (holding_at i o.positions ws) v) (sym t)
             (subst (λ vs. Holds C vs w) (sym (ap (λ p. holding_at i p.positions ws) f ∙ holding-fed ws i)) H)
@@ -171,10 +171,10 @@ module _ {C : ℕ} {ws : List PlainWorld} {w : List ℕ} (H : Holds C ws w) wher
         made-answer-by = m.answered ∙ ap (λ o. o.answer) made-is
 
         go : (y : Option ℕ) → a ≡ (settle_make y ws (empty_worlds ls)).answer → Holds C (settle_make y ws (empty_worlds ls)).worlds w'
-        go none e =
+        go None e =
             let E = subst (MakeLeaves w w' ls) e m.left in
             record { sound = E.sound; sized = ap capacity_of E.long ∙ H.sized; held = E.worlds }
-        go (some n) e = subst (λ v. Holds C ws v) (sym (subst (MakeLeaves w w' ls) e m.left)) H
+        go (Some n) e = subst (λ v. Holds C ws v) (sym (subst (MakeLeaves w w' ls) e m.left)) H
 
   -- ---- measuring
   module _ {q : Measure} {out : List ℕ} {a : Answer} {w' : List ℕ} (m : Measured w q out a w') where
@@ -191,5 +191,5 @@ module _ {C : ℕ} {ws : List PlainWorld} {w : List ℕ} (H : Holds C ws w) wher
         (go (refusal (measure_conditions false C q out)) (written (length (words_due q C)) (into_front (words_due q C) out)))
       where
         go : (y : Option ℕ) (r : Result) → Holds C (settle_measured y ws r).worlds w
-        go none r = H
-        go (some n) r = H
+        go None r = H
+        go (Some n) r = H

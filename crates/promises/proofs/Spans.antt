@@ -1,17 +1,15 @@
 -- What a range's bounds come to in each call: none of its positions where `normalize` found it empty or reversed, else those from a to b.
 -- Of no position every report is the least. Assumes nothing.
+use Rattle.std.specs.Prelude.{Option, None, Some}
 use Prim.Native.Nat.{ℕ, suc, ◌+◌, ◌-◌, ◌≤◌, ◌<◌}
 use mathlib.Core.Path.{◌≡◌, refl, sym, ap, ap₂, ◌∙◌}
 use mathlib.Core.Logic.{◌⊎◌, inl, inr, ⊎_elim}
 use mathlib.Core.Bool.{Bool, true, false, cond, not}
-use mathlib.Core.Option.{Option, none}
 use native.Mathlib.Omega.{arith}
 use lib.Dec.{ltb}
 use lib.ListN.{length}
 use borrow.Author.Tests.{ltb-true, ltb-false}
 use Rattle.model.specs.declared.Bound.{Bound}
-use Rattle.model.specs.declared.Edge.{Edge}
-use Rattle.model.specs.declared.Edge.TheVariants.{At, Nowhere}
 use Rattle.model.specs.declared.Span.{Span}
 use Rattle.model.specs.declared.Span.TheVariants.{Empty, Reversed, Closed}
 use Rattle.model.specs.Range.{first_allowed, past_allowed, extent, reversed, span_of}
@@ -20,8 +18,6 @@ use Rattle.model.proofs.Counting.{count_none}
 use Rattle.model.proofs.Runs.{runs_in-none}
 use Rattle.model.proofs.Finds.{find_none, select-none}
 use Rattle.model.specs.Call.{Answer, gave, position}
-use Rattle.model.specs.Answers.{edge_position}
-use Rattle.promises.specs.Met.{found_edge}
 
 -- ---- the range
 -- the bounds allow the positions from a to b
@@ -87,7 +83,7 @@ module _ (P : Positions) (v : Bool) (a n : ℕ) (e : n ≡ 0) where
   nothing y h k = absurd (omega arith)
 
   -- no least position
-  pub find-nothing : none ≡ find P v a n
+  pub find-nothing : None ≡ find P v a n
   find-nothing = sym (find_none P v a n nothing)
 
   -- a count of 0
@@ -95,7 +91,7 @@ module _ (P : Positions) (v : Bool) (a n : ℕ) (e : n ≡ 0) where
   count-nothing = sym (count_none P v a n nothing)
 
   -- no k-th position
-  pub select-nothing : (k : ℕ) → none ≡ select P v a n k
+  pub select-nothing : (k : ℕ) → None ≡ select P v a n k
   select-nothing k = sym (select-none P v a n k (omega (arith, count-nothing)))
 
   -- no run
@@ -106,9 +102,3 @@ module _ (P : Positions) (v : Bool) (a n : ℕ) (e : n ≡ 0) where
 -- a listing of it has ended
 pub listed-nothing : (a n : ℕ) (v : Bool) → n ≡ 0 → ended v ≡ listed a n v
 listed-nothing a n v e = sym (ap (λ k. listed a k v) e)
-
--- ---- a position that was searched for
--- its answer is the position or none
-pub found_as : {a : Answer} {p : Option ℕ} (e : Edge) → a ≡ found_edge e → edge_position e ≡ p → a ≡ gave (position p)
-found_as (At x) h k = h ∙ ap (λ q. gave (position q)) k
-found_as Nowhere h k = h ∙ ap (λ q. gave (position q)) k

@@ -1,11 +1,11 @@
 -- When a window is one, test by test, when its map is refused, and how full it is. A window has at most 524,288 positions, so
 -- their count has no carry and a thousand times it fits a word. Assumes nothing.
+use Rattle.std.specs.Prelude.{None, Some}
 use Prim.Native.Nat.{ℕ, suc, ◌+◌, ◌-◌, ◌*◌, ◌/◌, ◌≤◌, ◌<◌}
 use mathlib.Core.Path.{◌≡◌, sym, ap, ◌∙◌}
 use mathlib.Core.Logic.{◌⊎◌, inl, inr}
 use mathlib.Core.Bool.{Bool, true, false, not, not-not}
 use mathlib.Core.List.{List, [], ◌∷◌}
-use mathlib.Core.Option.{none, some}
 use native.Mathlib.Omega.{arith}
 use lib.Dec.{leb, ltb, eqb}
 use lib.ListN.{length}
@@ -75,30 +75,30 @@ module _ (base n : ℕ) where
       go (inr p) (inr q) (inr r) = record { some = p; few = q; below = r }
 
   -- its condition refuses it if it is none
-  pub window-refused : bad_window base n ≡ true → refusal (window when bad_window base n ∷ []) ≡ some 6
+  pub window-refused : bad_window base n ≡ true → refusal (window when bad_window base n ∷ []) ≡ Some 6
   window-refused e = rw e
 
   -- and else does not
-  pub window-passes : bad_window base n ≡ false → refusal (window when bad_window base n ∷ []) ≡ none
+  pub window-passes : bad_window base n ≡ false → refusal (window when bad_window base n ∷ []) ≡ None
   window-passes e = rw e
 
   -- with its map
   module _ (bs : List ℕ) where
     -- it is refused if it is none
-    pub map-window-refused : bad_window base n ≡ true → first_given before_capacity (map_conditions base n bs) ≡ some 6
+    pub map-window-refused : bad_window base n ≡ true → first_given before_capacity (map_conditions base n bs) ≡ Some 6
     map-window-refused e = rw e
 
     -- or if its map has another length
-    pub map-length-refused : bad_window base n ≡ false → bad_map n bs ≡ true → first_given before_capacity (map_conditions base n bs) ≡ some 6
+    pub map-length-refused : bad_window base n ≡ false → bad_map n bs ≡ true → first_given before_capacity (map_conditions base n bs) ≡ Some 6
     map-length-refused e f = rw (e, f)
 
     -- or if a spare bit of it is one
-    pub map-stray-refused : bad_window base n ≡ false → bad_map n bs ≡ false → 0 < stray_bits n bs → first_given before_capacity (map_conditions base n bs) ≡ some 10
+    pub map-stray-refused : bad_window base n ≡ false → bad_map n bs ≡ false → 0 < stray_bits n bs → first_given before_capacity (map_conditions base n bs) ≡ Some 10
     unfolding stray
     map-stray-refused e f h = rw (e, f, lt-ltb 0 (stray_bits n bs) h)
 
     -- and else not
-    pub map-passes : bad_window base n ≡ false → bad_map n bs ≡ false → stray_bits n bs ≤ 0 → refusal (map_conditions base n bs) ≡ none
+    pub map-passes : bad_window base n ≡ false → bad_map n bs ≡ false → stray_bits n bs ≤ 0 → refusal (map_conditions base n bs) ≡ None
     unfolding stray
     map-passes e f h = rw (e, f, le-ltb 0 (stray_bits n bs) h)
 

@@ -1,7 +1,8 @@
 -- What making a world of others promises. Assumes nothing: these are definitions.
+use Rattle.std.specs.Prelude.{Ok, Err}
+use Rattle.model.specs.Answers.{OrRefusal}
 use Rattle.std.specs.Prelude.{ℕ, ◌≤◌, ◌<◌, ◌≡◌, Bool, true, false, List}
 use Rattle.model.specs.declared.Refusal.TheVariants.{Capacity}
-use Rattle.model.specs.declared.Completed.{Completed}
 use Rattle.model.specs.Positions.{Positions, stretches}
 use Rattle.store.specs.Layout.{nodes, allowance, held_from, held_by}
 use Rattle.store.specs.Settle.{Settled}
@@ -13,12 +14,7 @@ pub record ViewOf (w : List ℕ) (i : ℕ) (v : View) : Type 0 where
   pub rooted : Rooted (nodes w) v.root
   pub held : held_from (nodes w) v.root v.offset ≡ held_by w i
 
--- world i of the words w, overwritten by Q: it holds Q, or, where Q has more runs than it may have, the words are as they were
-abbrev pub Carried : List ℕ → List ℕ → ℕ → Positions → Bool → Type 0
-Carried w w' i Q true = (stretches Q ≤ allowance w i) × Settled w w' i Q
-Carried w w' i Q false = (allowance w i < stretches Q) × (w' ≡ w)
-
--- as an answer
-abbrev pub completed_by : Bool → Completed
-completed_by true = Completed.Done
-completed_by false = Completed.Refused Capacity
+-- world i of the words w, overwritten by Q: it holds Q, or, where Q has more runs than it may have, 8 is given and the words are as they were
+abbrev pub Carried : List ℕ → List ℕ → ℕ → Positions → OrRefusal Unit → Type 0
+Carried w w' i Q (Ok u) = (stretches Q ≤ allowance w i) × Settled w w' i Q
+Carried w w' i Q (Err r) = (r ≡ Capacity) × (allowance w i < stretches Q) × (w' ≡ w)

@@ -1,5 +1,4 @@
 pub mod Met
 pub mod Joined
-pub mod Laid
 pub mod Out
 pub mod Handles

@@ -1,10 +1,8 @@
 -- What every public call on a world promises: its answer and what it leaves are what the plain model gives, and a refusal leaves every word as
 -- it was. Only the offset and the arrangement of nodes are left open; of them soundness and the positions held are said.
 -- Assumes nothing: these are definitions.
+use Rattle.std.specs.Prelude.{Option, None, Some}
 use Rattle.std.specs.Prelude.{ℕ, ◌≡◌, Bool, cond, not, List, [], ◌∷◌, eqb}
-use Rattle.std.proofs.Math.Option.{none, some}
-use Rattle.model.specs.declared.Edge.{Edge}
-use Rattle.model.specs.declared.Edge.TheVariants.{At, Nowhere}
 use Rattle.model.specs.declared.Limits.{Limits}
 use Rattle.model.specs.Positions.{Positions}
 use Rattle.model.specs.Refusals.{store_length, store_unsound, Condition, ◌when◌}
@@ -82,8 +80,3 @@ pub record Measured (w : List ℕ) (q : Measure) (out : List ℕ) (a : Answer) (
 pub record Readable (w : List ℕ) (i : ℕ) : Type 0 where
   pub openable : Openable w i
   pub fed : fed_of w i ≡ holding (held_by w i)
-
--- a position that was searched for, as an answer
-abbrev pub found_edge : Edge → Answer
-found_edge (At x) = gave (position (some x))
-found_edge Nowhere = gave (position none)

@@ -1,7 +1,7 @@
 -- A world that is emptied: it is built of no runs, which are in order and not too many. Assumes nothing.
+use Rattle.std.specs.Prelude.{None}
 use Rattle.std.specs.Prelude.{◌≡◌, ℕ, ◌≤◌, List, [], ◌∷◌}
 use mathlib.Core.Path.{refl, sym, ap}
-use mathlib.Core.Option.{none}
 use native.Mathlib.Omega.{arith}
 use Rattle.model.specs.Positions.{empty, stretches}
 use Rattle.model.proofs.Calc.{mem-empty}
@@ -20,7 +20,7 @@ use Rattle.promises.proofs.Changing.{changes-to}
 use Rattle.promises.proofs.Overwriting.{build-says}
 
 -- no runs are in order
-none-ordered : refusal (run_order when disordered [] ∷ []) ≡ none
+none-ordered : refusal (run_order when disordered [] ∷ []) ≡ None
 unfolding disordered ordered_from
 none-ordered = refl
 

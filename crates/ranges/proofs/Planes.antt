@@ -1,8 +1,8 @@
 -- When a rectangle, or a square, is one of the plane, test by test. Assumes nothing.
+use Rattle.std.specs.Prelude.{None, Some}
 use Rattle.std.specs.Prelude.{◌≡◌, ℕ, ◌+◌, ◌-◌, ◌^◌, ◌<◌, ◌≤◌, Bool, true, false, not, ◌||◌, ltb, leb, ◌⊎◌, [], ◌∷◌}
 use mathlib.Core.Path.{refl, sym, ap, ◌∙◌}
 use mathlib.Core.Logic.{inl, inr}
-use mathlib.Core.Option.{none, some}
 use native.Mathlib.Omega.{arith}
 use native.Mathlib.Nat.{pow-le-pow_right}
 use lib.Pow.{pow_pos}
@@ -89,14 +89,14 @@ module _ (q : Rect) where
       }
 
   -- 15 refuses it if it is none, before a change and in a report
-  pub plane-refused : bad_rect q ≡ true → refusal (off_plane when bad_rect q ∷ []) ≡ some 15
+  pub plane-refused : bad_rect q ≡ true → refusal (off_plane when bad_rect q ∷ []) ≡ Some 15
   plane-refused e = rw e
 
-  pub plane-first : bad_rect q ≡ true → first_given before_capacity (off_plane when bad_rect q ∷ []) ≡ some 15
+  pub plane-first : bad_rect q ≡ true → first_given before_capacity (off_plane when bad_rect q ∷ []) ≡ Some 15
   plane-first e = rw e
 
   -- and else does not
-  pub plane-passes : bad_rect q ≡ false → refusal (off_plane when bad_rect q ∷ []) ≡ none
+  pub plane-passes : bad_rect q ≡ false → refusal (off_plane when bad_rect q ∷ []) ≡ None
   plane-passes e = rw e
 
 -- ---- a square of side 2^k, from row r and column c on

@@ -6,8 +6,7 @@ ghost use Rattle.model.specs.Refusals.{bad_rect, bad_square};
 ghost use Rattle.promises.specs.Met.{Readable, Met};
 ghost use Rattle.promises.specs.Out.{WritesOut};
 
-use changes::edit::Edit;
-use model::{Counted, Numbered, Rect, Refusal, Written};
+use model::{Count, Rect, Refusal};
 
 // Whether a rectangle is one of the plane, its first corner not beyond its second.
 fn rect_fits(q: Rect) -> bool
@@ -26,35 +25,35 @@ fn rect_fits(q: Rect) -> bool
 }
 
 // Gives a rectangle's cells a value, if the runs it would leave fit, and returns how many changed.
-pub fn set_rect(words: &mut [u64], world: u64, q: Rect, value: bool) -> Counted
+pub fn set_rect(words: &mut [u64], world: u64, q: Rect, value: bool) -> Result<Count, Refusal>
     requires { Readable words.old world }
     ensures { Met words.old world (Call.set_rect q value) (counted_answer result) words.new }
 {
     if !rect_fits(q) {
-        return Counted::Refused(Refusal::OffPlane);
+        return Err(Refusal::OffPlane);
     }
     let limit = store::allowance(words, world);
     let h = store::open(words, world);
     let e = grid::rows::set(&mut words[128..], h, limit, q, value);
     match e {
-        Edit::Full => Counted::Refused(Refusal::Capacity),
-        Edit::Changed(k, c) => {
-            store::close(words, k);
-            Counted::Count(c)
+        None => Err(Refusal::Capacity),
+        Some(made) => {
+            store::close(words, made.world);
+            Ok(made.changed)
         }
     }
 }
 
 // How many cells of a rectangle are held.
-pub fn count_rect(words: &[u64], world: u64, q: Rect) -> Numbered
+pub fn count_rect(words: &[u64], world: u64, q: Rect) -> Result<u64, Refusal>
     requires { Readable words.now world }
     ensures { Met words.now world (Call.count_rect q) (numbered_answer result) words.now }
 {
     if !rect_fits(q) {
-        return Numbered::Refused(Refusal::OffPlane);
+        return Err(Refusal::OffPlane);
     }
     let h = store::open(words, world);
-    Numbered::Number(grid::rows::count(&words[128..], h, q))
+    Ok(grid::rows::count(&words[128..], h, q))
 }
 
 // Whether a square of side 2^k, k at most 8, lies on the plane.
@@ -72,17 +71,24 @@ fn square_fits(row: u64, column: u64, k: u64) -> bool
 }
 
 // Writes the pieces of a square, five words each, and returns how many words they are. They are counted before the first one is written.
-pub fn survey(words: &[u64], world: u64, row: u64, column: u64, k: u64, out: &mut [u64]) -> Written
+pub fn survey(
+    words: &[u64],
+    world: u64,
+    row: u64,
+    column: u64,
+    k: u64,
+    out: &mut [u64],
+) -> Result<usize, Refusal>
     requires { Readable words.now world }
     ensures { WritesOut (Call.survey row column k) words.now world out.old result out.new }
 {
     if !square_fits(row, column, k) {
-        return Written::Refused(Refusal::OffPlane);
+        return Err(Refusal::OffPlane);
     }
     let h = store::open(words, world);
     let due = grid::survey::due(&words[128..], h, row, column, k);
     if out.len() < due {
-        return Written::Refused(Refusal::OutputShort);
+        return Err(Refusal::OutputShort);
     }
-    Written::Front(grid::survey::put(&words[128..], h, row, column, k, out))
+    Ok(grid::survey::put(&words[128..], h, row, column, k, out))
 }

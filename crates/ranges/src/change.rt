@@ -5,26 +5,31 @@ ghost use Rattle.model.specs.Call.{Call};
 ghost use Rattle.model.specs.Answers.{completed_answer, counted_answer};
 ghost use Rattle.promises.specs.Met.{Readable, Met};
 
-use changes::edit::{Edit, Fit};
-use model::{Bound, Completed, Count, Counted, Logical, Refusal, Span};
+use model::{Bound, Count, Logical, Refusal, Span};
 
 // An empty range or a reversed one changes nothing; another is set where it stands, if the runs it would leave fit.
-pub fn set(words: &mut [u64], world: u64, lower: Bound, upper: Bound, value: bool) -> Counted
+pub fn set(
+    words: &mut [u64],
+    world: u64,
+    lower: Bound,
+    upper: Bound,
+    value: bool,
+) -> Result<Count, Refusal>
     requires { Readable words.old world }
     ensures { Met words.old world (Call.set lower upper value) (counted_answer result) words.new }
 {
     let s = model::normalize(lower, upper);
     match s {
-        Span::Empty | Span::Reversed => Counted::Count(Count { carry: 0, low: 0 }),
+        Span::Empty | Span::Reversed => Ok(Count { carry: 0, low: 0 }),
         Span::Closed(a, b) => {
             let limit = store::allowance(words, world);
             let h = store::open(words, world);
             let e = changes::edit::set(&mut words[128..], h, limit, Logical(a), Logical(b), value);
             match e {
-                Edit::Full => Counted::Refused(Refusal::Capacity),
-                Edit::Changed(k, c) => {
-                    store::close(words, k);
-                    Counted::Count(c)
+                None => Err(Refusal::Capacity),
+                Some(made) => {
+                    store::close(words, made.world);
+                    Ok(made.changed)
                 }
             }
         }
@@ -32,22 +37,22 @@ pub fn set(words: &mut [u64], world: u64, lower: Bound, upper: Bound, value: boo
 }
 
 // An empty range or a reversed one changes nothing; another is inverted where it stands, if the runs it would leave fit.
-pub fn flip(words: &mut [u64], world: u64, lower: Bound, upper: Bound) -> Completed
+pub fn flip(words: &mut [u64], world: u64, lower: Bound, upper: Bound) -> Result<(), Refusal>
     requires { Readable words.old world }
     ensures { Met words.old world (Call.flip lower upper) (completed_answer result) words.new }
 {
     let s = model::normalize(lower, upper);
     match s {
-        Span::Empty | Span::Reversed => Completed::Done,
+        Span::Empty | Span::Reversed => Ok(()),
         Span::Closed(a, b) => {
             let limit = store::allowance(words, world);
             let h = store::open(words, world);
             let e = changes::edit::flip(&mut words[128..], h, limit, Logical(a), Logical(b));
             match e {
-                Fit::Full => Completed::Refused(Refusal::Capacity),
-                Fit::Done(k) => {
+                None => Err(Refusal::Capacity),
+                Some(k) => {
                     store::close(words, k);
-                    Completed::Done
+                    Ok(())
                 }
             }
         }
@@ -55,45 +60,51 @@ pub fn flip(words: &mut [u64], world: u64, lower: Bound, upper: Bound) -> Comple
 }
 
 // A reversed range is refused; any other is set as `set` does.
-pub fn set_strict(words: &mut [u64], world: u64, lower: Bound, upper: Bound, value: bool) -> Counted
+pub fn set_strict(
+    words: &mut [u64],
+    world: u64,
+    lower: Bound,
+    upper: Bound,
+    value: bool,
+) -> Result<Count, Refusal>
     requires { Readable words.old world }
     ensures { Met words.old world (Call.set_strict lower upper value) (counted_answer result) words.new }
 {
     if model::is_reversed(lower, upper) {
-        return Counted::Refused(Refusal::RangeReversed);
+        return Err(Refusal::RangeReversed);
     }
     set(words, world, lower, upper, value)
 }
 
 // A reversed range is refused; any other is inverted as `flip` does.
-pub fn flip_strict(words: &mut [u64], world: u64, lower: Bound, upper: Bound) -> Completed
+pub fn flip_strict(words: &mut [u64], world: u64, lower: Bound, upper: Bound) -> Result<(), Refusal>
     requires { Readable words.old world }
     ensures { Met words.old world (Call.flip_strict lower upper) (completed_answer result) words.new }
 {
     if model::is_reversed(lower, upper) {
-        return Completed::Refused(Refusal::RangeReversed);
+        return Err(Refusal::RangeReversed);
     }
     flip(words, world, lower, upper)
 }
 
 // A moved world has no more runs than before.
-pub fn shift(words: &mut [u64], world: u64, distance: u64, left: bool) -> Completed
+pub fn shift(words: &mut [u64], world: u64, distance: u64, left: bool) -> Result<(), Refusal>
     requires { Readable words.old world }
     ensures { Met words.old world (Call.shift distance left) (completed_answer result) words.new }
 {
     let h = store::open(words, world);
     let k = changes::edit::shift(&mut words[128..], h, distance, left);
     store::close(words, k);
-    Completed::Done
+    Ok(())
 }
 
 // The world holds nothing afterwards: it is built of no runs.
-pub fn empty(words: &mut [u64], world: u64) -> Completed
+pub fn empty(words: &mut [u64], world: u64) -> Result<(), Refusal>
     requires { Readable words.old world }
     ensures { Met words.old world (Call.build []) (completed_answer result) words.new }
 {
     let h = store::open(words, world);
     let k = changes::edit::emptied(&mut words[128..], h);
     store::close(words, k);
-    Completed::Done
+    Ok(())
 }

@@ -2,131 +2,155 @@
 ghost use Rattle.std.specs.Prelude.{◌≡◌};
 ghost use Rattle.model.specs.Call.{Call};
 ghost use Rattle.model.specs.Answers.{numbered_answer, tallied_answer, tested_answer, around_answer, found_answer, listed_answer};
-ghost use Rattle.promises.specs.Met.{Readable, Met, found_edge};
+ghost use Rattle.promises.specs.Met.{Readable, Met};
 
-use model::{
-    Around, Bound, Count, Edge, Found, Listed, Listing, Logical, Numbered, Refusal, Span, Tallied,
-    Tally, Tested,
-};
+use model::{Bound, Count, Listing, Logical, Refusal, Run, Span, Tally};
 
 // The value of position x.
-pub fn get(words: &[u64], world: u64, x: u64) -> Tested
+pub fn get(words: &[u64], world: u64, x: u64) -> Result<bool, Refusal>
     requires { Readable words.now world }
     ensures { Met words.now world (Call.get x) (tested_answer result) words.now }
 {
     let h = store::open(words, world);
-    Tested::Is(reports::logical::get(&words[128..], h, Logical(x)))
+    Ok(reports::logical::get(&words[128..], h, Logical(x)))
 }
 
 // The run around x.
-pub fn run_at(words: &[u64], world: u64, x: u64) -> Around
+pub fn run_at(words: &[u64], world: u64, x: u64) -> Result<Run, Refusal>
     requires { Readable words.now world }
     ensures { Met words.now world (Call.run_at x) (around_answer result) words.now }
 {
     let h = store::open(words, world);
-    Around::Run(reports::runs::run_at(&words[128..], h, Logical(x)))
-}
-
-// A position that was searched for, as an answer.
-fn found(e: Edge) -> Found
-    ensures { found_answer result ≡ found_edge e }
-{
-    match e {
-        Edge::At(x) => Found::At(x),
-        Edge::Nowhere => Found::Nowhere,
-    }
+    Ok(reports::runs::run_at(&words[128..], h, Logical(x)))
 }
 
 // An empty range or a reversed one has no position.
-pub fn find(words: &[u64], world: u64, lower: Bound, upper: Bound, value: bool) -> Found
+pub fn find(
+    words: &[u64],
+    world: u64,
+    lower: Bound,
+    upper: Bound,
+    value: bool,
+) -> Result<Option<u64>, Refusal>
     requires { Readable words.now world }
     ensures { Met words.now world (Call.find lower upper value) (found_answer result) words.now }
 {
     let s = model::normalize(lower, upper);
     match s {
-        Span::Empty | Span::Reversed => Found::Nowhere,
+        Span::Empty | Span::Reversed => Ok(None),
         Span::Closed(a, b) => {
             let h = store::open(words, world);
-            found(reports::runs::find_in(&words[128..], h, Logical(a), Logical(b), value))
+            Ok(reports::runs::find_in(&words[128..], h, Logical(a), Logical(b), value))
         }
     }
 }
 
 // An empty range or a reversed one has no position and no run.
-pub fn tally(words: &[u64], world: u64, lower: Bound, upper: Bound, value: bool) -> Tallied
+pub fn tally(
+    words: &[u64],
+    world: u64,
+    lower: Bound,
+    upper: Bound,
+    value: bool,
+) -> Result<Tally, Refusal>
     requires { Readable words.now world }
     ensures { Met words.now world (Call.tally lower upper value) (tallied_answer result) words.now }
 {
     let s = model::normalize(lower, upper);
     match s {
-        Span::Empty | Span::Reversed => Tallied::Tally(Tally {
+        Span::Empty | Span::Reversed => Ok(Tally {
             count: Count { carry: 0, low: 0 },
             runs: 0,
         }),
         Span::Closed(a, b) => {
             let h = store::open(words, world);
-            Tallied::Tally(reports::logical::tally(&words[128..], h, Logical(a), Logical(b), value))
+            Ok(reports::logical::tally(&words[128..], h, Logical(a), Logical(b), value))
         }
     }
 }
 
 // A reversed range is refused; any other is tallied as `tally` does.
-pub fn tally_strict(words: &[u64], world: u64, lower: Bound, upper: Bound, value: bool) -> Tallied
+pub fn tally_strict(
+    words: &[u64],
+    world: u64,
+    lower: Bound,
+    upper: Bound,
+    value: bool,
+) -> Result<Tally, Refusal>
     requires { Readable words.now world }
     ensures { Met words.now world (Call.tally_strict lower upper value) (tallied_answer result) words.now }
 {
     if model::is_reversed(lower, upper) {
-        return Tallied::Refused(Refusal::RangeReversed);
+        return Err(Refusal::RangeReversed);
     }
     tally(words, world, lower, upper, value)
 }
 
 // An empty range or a reversed one has no position.
-pub fn select(words: &[u64], world: u64, lower: Bound, upper: Bound, value: bool, k: u64) -> Found
+pub fn select(
+    words: &[u64],
+    world: u64,
+    lower: Bound,
+    upper: Bound,
+    value: bool,
+    k: u64,
+) -> Result<Option<u64>, Refusal>
     requires { Readable words.now world }
     ensures { Met words.now world (Call.select lower upper value k) (found_answer result) words.now }
 {
     let s = model::normalize(lower, upper);
     match s {
-        Span::Empty | Span::Reversed => Found::Nowhere,
+        Span::Empty | Span::Reversed => Ok(None),
         Span::Closed(a, b) => {
             let h = store::open(words, world);
-            found(reports::logical::select(&words[128..], h, Logical(a), Logical(b), value, k))
+            Ok(reports::logical::select(&words[128..], h, Logical(a), Logical(b), value, k))
         }
     }
 }
 
 // An empty range or a reversed one has no gap.
-pub fn gap(words: &[u64], world: u64, lower: Bound, upper: Bound, n: u64) -> Found
+pub fn gap(
+    words: &[u64],
+    world: u64,
+    lower: Bound,
+    upper: Bound,
+    n: u64,
+) -> Result<Option<u64>, Refusal>
     requires { Readable words.now world }
     ensures { Met words.now world (Call.gap lower upper n) (found_answer result) words.now }
 {
     if n == 0 {
-        return Found::Refused(Refusal::GapLength);
+        return Err(Refusal::GapLength);
     }
     let s = model::normalize(lower, upper);
     match s {
-        Span::Empty | Span::Reversed => Found::Nowhere,
+        Span::Empty | Span::Reversed => Ok(None),
         Span::Closed(a, b) => {
             let h = store::open(words, world);
-            found(streams::gaps::lowest_gap(&words[128..], h, Logical(a), Logical(b), n))
+            Ok(streams::gaps::lowest_gap(&words[128..], h, Logical(a), Logical(b), n))
         }
     }
 }
 
 // A listing is the range itself, from its first position to its last.
-pub fn ranges(words: &[u64], world: u64, lower: Bound, upper: Bound, value: bool) -> Listed
+pub fn ranges(
+    words: &[u64],
+    world: u64,
+    lower: Bound,
+    upper: Bound,
+    value: bool,
+) -> Result<Listing, Refusal>
     requires { Readable words.now world }
     ensures { Met words.now world (Call.ranges lower upper value) (listed_answer result) words.now }
 {
     let s = model::normalize(lower, upper);
     match s {
-        Span::Empty | Span::Reversed => Listed::Listing(Listing {
+        Span::Empty | Span::Reversed => Ok(Listing {
             first: 1,
             last: 0,
             value: value,
         }),
-        Span::Closed(a, b) => Listed::Listing(Listing {
+        Span::Closed(a, b) => Ok(Listing {
             first: a,
             last: b,
             value: value,
@@ -135,12 +159,12 @@ pub fn ranges(words: &[u64], world: u64, lower: Bound, upper: Bound, value: bool
 }
 
 // Rounded up. A thousand times the count of a window and its length fit a word.
-pub fn fill(words: &[u64], world: u64, base: u64, length: u64) -> Numbered
+pub fn fill(words: &[u64], world: u64, base: u64, length: u64) -> Result<u64, Refusal>
     requires { Readable words.now world }
     ensures { Met words.now world (Call.fill base length) (numbered_answer result) words.now }
 {
     if !promises::window::window_fits(base, length) {
-        return Numbered::Refused(Refusal::Window);
+        return Err(Refusal::Window);
     }
     let h = store::open(words, world);
     let t = reports::logical::tally(
@@ -151,5 +175,5 @@ pub fn fill(words: &[u64], world: u64, base: u64, length: u64) -> Numbered
         true,
     );
     let c = t.count;
-    Numbered::Number((1000 * c.low + (length - 1)) / length)
+    Ok((1000 * c.low + (length - 1)) / length)
 }

@@ -1,268 +1,221 @@
-// Answers as lines on standard output. Each function hands a failed write back.
-use model::{
-    Around, Completed, Count, Counted, Drawn, Found, Listed, Listing, Mended, Numbered, Refusal,
-    Run, Tallied, Tested, Written,
-};
-use std::io;
+// What the calls answer, as text.
+use crate::line::{Element, Lent};
+use model::{Count, Drawn, Listing, Mended, Refusal, Run, Tally};
+use std::{fmt, io};
 
-fn end_line(rt: &impl Print) -> io::Result<()> {
-    println!(rt;)
+// The answer to a call that is not refused. A slice that was lent is told whole, after how many of its elements were written.
+#[derive(Drop)]
+pub enum Answer {
+    Done,
+    Number(u64),
+    Count(Count),
+    Tally(Tally),
+    Value(bool),
+    Run(Run),
+    Found(Option<u64>),
+    Listing(Listing),
+    Drawn(Drawn),
+    Cleared(u64, Vec<u8>),
+    Written(usize, Vec<u8>),
+    Mended(usize, Vec<u8>, usize, Vec<u8>),
+    Worded(usize, Vec<u64>),
 }
 
-fn number(rt: &impl Print, n: u64) -> io::Result<()> {
-    print!(rt; " {n}")
-}
+pub type Reply = Result<Answer, Refusal>;
 
-fn flag(rt: &impl Print, value: bool) -> io::Result<()> {
-    if value {
-        print!(rt; " 1")
-    } else {
-        print!(rt; " 0")
+impl From<()> for Answer {
+    fn from(_done: ()) -> Answer {
+        Answer::Done
     }
 }
 
-fn count(rt: &impl Print, c: Count) -> io::Result<()> {
-    if c.carry == 0 {
-        number(rt, c.low)
-    } else {
-        print!(rt; " 18446744073709551616")
+impl From<u64> for Answer {
+    fn from(n: u64) -> Answer {
+        Answer::Number(n)
     }
 }
 
-fn run(rt: &impl Print, r: Run) -> io::Result<()> {
-    number(rt, r.start)?;
-    number(rt, r.end)
+impl From<Count> for Answer {
+    fn from(n: Count) -> Answer {
+        Answer::Count(n)
+    }
 }
 
-fn listing(rt: &impl Print, l: Listing) -> io::Result<()> {
-    number(rt, l.first)?;
-    number(rt, l.last)?;
-    flag(rt, l.value)
+impl From<Tally> for Answer {
+    fn from(t: Tally) -> Answer {
+        Answer::Tally(t)
+    }
 }
 
-fn refused(rt: &impl Print, r: Refusal) -> io::Result<()> {
-    print!(rt; "refused")?;
-    number(rt, model::refusal_number(r))
+impl From<bool> for Answer {
+    fn from(v: bool) -> Answer {
+        Answer::Value(v)
+    }
+}
+
+impl From<Run> for Answer {
+    fn from(r: Run) -> Answer {
+        Answer::Run(r)
+    }
+}
+
+impl From<Option<u64>> for Answer {
+    fn from(x: Option<u64>) -> Answer {
+        Answer::Found(x)
+    }
+}
+
+impl From<Listing> for Answer {
+    fn from(l: Listing) -> Answer {
+        Answer::Listing(l)
+    }
+}
+
+impl From<Drawn> for Answer {
+    fn from(d: Drawn) -> Answer {
+        Answer::Drawn(d)
+    }
+}
+
+// What a call of the library gives.
+pub trait Outcome {
+    fn reply(self) -> Reply;
+}
+
+impl<T: Into<Answer>> Outcome for Result<T, Refusal> {
+    fn reply(self) -> Reply {
+        match self {
+            Ok(given) => Ok(given.into()),
+            Err(r) => Err(r),
+        }
+    }
+}
+
+// Has a call write into a lent slice, and tells it.
+pub fn filled<T: Element, F: FnOnce(&mut [T]) -> Result<usize, Refusal>>(
+    lent: Lent<T>,
+    call: F,
+) -> Reply
+    requires { F.IsAlwaysCallable call }
+{
+    let mut whole = lent.0;
+    let written = call(whole.as_mut_slice())?;
+    Ok(T::told(written, whole))
+}
+
+// A map whose spare bits were cleared.
+pub fn cleared(n: Result<u64, Refusal>, map: Vec<u8>) -> Reply {
+    Ok(Answer::Cleared(n?, map))
+}
+
+// Both slices of a mended set.
+pub fn mended(m: Result<Mended, Refusal>, out: Vec<u8>, report: Vec<u8>) -> Reply {
+    let m = m?;
+    Ok(Answer::Mended(m.bytes, out, m.report, report))
+}
+
+// ---- text
+// A number of up to 2^64.
+#[derive(Clone, Copy)]
+struct Positions(Count);
+
+impl fmt::Display for Positions {
+    fn fmt<W: fmt::Write>(&self, f: &mut fmt::Formatter<W>) -> fmt::Result {
+        write!(
+            f,
+            "{}",
+            u128::from(self.0.carry) << 64 | u128::from(self.0.low)
+        )
+    }
+}
+
+// What is left of a listing: its ends, and its value as a number.
+#[derive(Clone, Copy)]
+struct Left(Listing);
+
+impl fmt::Display for Left {
+    fn fmt<W: fmt::Write>(&self, f: &mut fmt::Formatter<W>) -> fmt::Result {
+        write!(
+            f,
+            "{} {} {}",
+            self.0.first,
+            self.0.last,
+            u8::from(self.0.value)
+        )
+    }
+}
+
+// Bytes by two hexadecimal digits each, or `-` for none.
+#[derive(Clone, Copy)]
+struct Hex<'a>(&'a [u8]);
+
+impl fmt::Display for Hex<'_> {
+    fn fmt<W: fmt::Write>(&self, f: &mut fmt::Formatter<W>) -> fmt::Result {
+        if self.0.is_empty() {
+            return f.write_str("-");
+        }
+        for b in self.0 {
+            write!(f, "{b:02x}")?;
+        }
+        Ok(())
+    }
+}
+
+// Words, each after a space.
+#[derive(Clone, Copy)]
+pub struct Words<'a>(pub &'a [u64]);
+
+impl fmt::Display for Words<'_> {
+    fn fmt<W: fmt::Write>(&self, f: &mut fmt::Formatter<W>) -> fmt::Result {
+        for w in self.0 {
+            write!(f, " {w}")?;
+        }
+        Ok(())
+    }
+}
+
+impl fmt::Display for Answer {
+    fn fmt<W: fmt::Write>(&self, f: &mut fmt::Formatter<W>) -> fmt::Result {
+        match self {
+            Answer::Done => write!(f, "done"),
+            Answer::Number(n) => write!(f, "number {n}"),
+            Answer::Count(n) => write!(f, "number {}", Positions(*n)),
+            Answer::Tally(t) => write!(f, "number {} {}", Positions(t.count), t.runs),
+            Answer::Value(v) => write!(f, "value {}", u8::from(*v)),
+            Answer::Run(r) => write!(f, "run {} {}", r.start, r.end),
+            Answer::Found(Some(x)) => write!(f, "at {x}"),
+            Answer::Found(None) => write!(f, "none"),
+            Answer::Listing(l) => write!(f, "listing {}", Left(*l)),
+            Answer::Drawn(d) => match d.run {
+                Some(r) => write!(f, "drawn {} {} {}", r.start, r.end, Left(d.rest)),
+                None => write!(f, "end {}", Left(d.rest)),
+            },
+            Answer::Cleared(n, map) => write!(f, "cleared {n} {}", Hex(map.as_slice())),
+            Answer::Written(n, out) => write!(f, "written {n} {}", Hex(out.as_slice())),
+            Answer::Mended(n, out, m, report) => write!(
+                f,
+                "written {n} {} {m} {}",
+                Hex(out.as_slice()),
+                Hex(report.as_slice())
+            ),
+            Answer::Worded(n, out) => write!(f, "worded {n}{}", Words(out.as_slice())),
+        }
+    }
+}
+
+// ---- lines
+// The answer to a line, or the number of its refusal.
+pub fn tell(rt: &impl Print, reply: &Reply) -> io::Result<()> {
+    match reply {
+        Ok(answer) => println!(rt; "{answer}"),
+        Err(r) => println!(rt; "refused {}", u64::from(*r)),
+    }
 }
 
 // The same line so many times.
-fn repeated(rt: &impl Print, line: &str, times: usize) -> io::Result<()> {
+pub fn repeat(rt: &impl Print, line: &str, times: usize) -> io::Result<()> {
     for _ in 0..times {
         println!(rt; "{line}")?;
     }
     Ok(())
-}
-
-// The answer to each of so many lines.
-pub fn not_understood(rt: &impl Print, lines: usize) -> io::Result<()> {
-    repeated(rt, "not understood", lines)
-}
-
-pub fn completed(rt: &impl Print, c: Completed) -> io::Result<()> {
-    match c {
-        Completed::Refused(r) => refused(rt, r)?,
-        Completed::Done => print!(rt; "done")?,
-    }
-    end_line(rt)
-}
-
-pub fn counted(rt: &impl Print, c: Counted) -> io::Result<()> {
-    match c {
-        Counted::Refused(r) => refused(rt, r)?,
-        Counted::Count(n) => {
-            print!(rt; "number")?;
-            count(rt, n)?;
-        }
-    }
-    end_line(rt)
-}
-
-pub fn numbered(rt: &impl Print, n: Numbered) -> io::Result<()> {
-    match n {
-        Numbered::Refused(r) => refused(rt, r)?,
-        Numbered::Number(k) => {
-            print!(rt; "number")?;
-            number(rt, k)?;
-        }
-    }
-    end_line(rt)
-}
-
-// The positions, then the runs.
-pub fn tallied(rt: &impl Print, t: Tallied) -> io::Result<()> {
-    match t {
-        Tallied::Refused(r) => refused(rt, r)?,
-        Tallied::Tally(n) => {
-            print!(rt; "number")?;
-            count(rt, n.count)?;
-            number(rt, n.runs)?;
-        }
-    }
-    end_line(rt)
-}
-
-pub fn tested(rt: &impl Print, t: Tested) -> io::Result<()> {
-    match t {
-        Tested::Refused(r) => refused(rt, r)?,
-        Tested::Is(v) => {
-            print!(rt; "value")?;
-            flag(rt, v)?;
-        }
-    }
-    end_line(rt)
-}
-
-pub fn around(rt: &impl Print, a: Around) -> io::Result<()> {
-    match a {
-        Around::Refused(r) => refused(rt, r)?,
-        Around::Run(r) => {
-            print!(rt; "run")?;
-            run(rt, r)?;
-        }
-    }
-    end_line(rt)
-}
-
-pub fn found(rt: &impl Print, f: Found) -> io::Result<()> {
-    match f {
-        Found::Refused(r) => refused(rt, r)?,
-        Found::At(x) => {
-            print!(rt; "at")?;
-            number(rt, x)?;
-        }
-        Found::Nowhere => print!(rt; "none")?,
-    }
-    end_line(rt)
-}
-
-pub fn listed(rt: &impl Print, l: Listed) -> io::Result<()> {
-    match l {
-        Listed::Refused(r) => refused(rt, r)?,
-        Listed::Listing(m) => {
-            print!(rt; "listing")?;
-            listing(rt, m)?;
-        }
-    }
-    end_line(rt)
-}
-
-pub fn drawn(rt: &impl Print, d: Drawn) -> io::Result<()> {
-    match d {
-        Drawn::Refused(r) => refused(rt, r)?,
-        Drawn::Run(r, l) => {
-            print!(rt; "drawn")?;
-            run(rt, r)?;
-            listing(rt, l)?;
-        }
-        Drawn::End(l) => {
-            print!(rt; "end")?;
-            listing(rt, l)?;
-        }
-    }
-    end_line(rt)
-}
-
-fn hexes(rt: &impl Print, out: &[u8]) -> io::Result<()> {
-    for b in out {
-        print!(rt; "{b:02x}")?;
-    }
-    Ok(())
-}
-
-// How many bits were zeroed, and the map.
-pub fn cleared(rt: &impl Print, n: Numbered, map: &[u8]) -> io::Result<()> {
-    match n {
-        Numbered::Refused(r) => refused(rt, r)?,
-        Numbered::Number(k) => {
-            print!(rt; "cleared")?;
-            number(rt, k)?;
-            print!(rt; " ")?;
-            hexes(rt, map)?;
-        }
-    }
-    end_line(rt)
-}
-
-// How many bytes of a slice were written, and the whole slice.
-fn slice(rt: &impl Print, n: usize, out: &[u8]) -> io::Result<()> {
-    number(rt, n as u64)?;
-    print!(rt; " ")?;
-    if out.is_empty() {
-        print!(rt; "-")?;
-    }
-    hexes(rt, out)
-}
-
-// The same of a set or a map.
-pub fn written(rt: &impl Print, w: Written, out: &[u8]) -> io::Result<()> {
-    match w {
-        Written::Refused(r) => refused(rt, r)?,
-        Written::Front(n) => {
-            print!(rt; "written")?;
-            slice(rt, n, out)?;
-        }
-    }
-    end_line(rt)
-}
-
-// And of a mended set, and of its report.
-pub fn mended(rt: &impl Print, w: Mended, out: &[u8], report: &[u8]) -> io::Result<()> {
-    match w {
-        Mended::Refused(r) => refused(rt, r)?,
-        Mended::Bytes(n, m) => {
-            print!(rt; "written")?;
-            slice(rt, n, out)?;
-            slice(rt, m, report)?;
-        }
-    }
-    end_line(rt)
-}
-
-fn words(rt: &impl Print, all: &[u64]) -> io::Result<()> {
-    for w in all {
-        number(rt, *w)?;
-    }
-    Ok(())
-}
-
-// How many words of a slice were written, and the whole slice.
-pub fn worded(rt: &impl Print, w: Written, out: &[u64]) -> io::Result<()> {
-    match w {
-        Written::Refused(r) => refused(rt, r)?,
-        Written::Front(n) => {
-            print!(rt; "worded")?;
-            number(rt, n as u64)?;
-            words(rt, out)?;
-        }
-    }
-    end_line(rt)
-}
-
-// Records of eight words, a line for each.
-fn records(rt: &impl Print, words: &[u64]) -> io::Result<()> {
-    for (i, w) in words.iter().enumerate() {
-        if i % 8 == 0 {
-            print!(rt; "record")?;
-        }
-        number(rt, *w)?;
-        if i % 8 == 7 {
-            end_line(rt)?;
-        }
-    }
-    Ok(())
-}
-
-// A frame, and the records that answer its own; none of them is answered where the frame is refused.
-pub fn framed(rt: &impl Print, c: Completed, answers: &[u64]) -> io::Result<()> {
-    match c {
-        Completed::Refused(r) => {
-            refused(rt, r)?;
-            end_line(rt)?;
-            repeated(rt, "-", answers.len() / 8)
-        }
-        Completed::Done => {
-            println!(rt; "done")?;
-            records(rt, answers)
-        }
-    }
 }

@@ -1,429 +1,295 @@
-// The words of a line. A line is lent with the line feed that ends it, so that one byte stands after each word. A place is where a word may
-// start; the place after the last word is the line's length. A word that is not of its form leads to no place, and neither does any that is
-// read from there on, so that one test at the end shows whether a line was understood.
-ghost use Rattle.std.specs.Prelude.{◌≤◌};
-ghost use Rattle.replay.specs.Counts.{IsPrefixLen};
+// The words of a line, one space apart, and what a call takes of them. A word that is not of its form is an error, and so is one too many.
+ghost use Rattle.std.specs.Prelude.{◌≤◌, IfOk};
 
-use model::{Bound, Operation, Rect};
+use crate::answer::Answer;
+use model::{Bound, Listing, Operation, Rect};
+use std::alloc::{AllocError, AllocFailed, Global};
+use std::io;
+use std::str::Split;
 
-// No place of any line.
-const LOST: usize = usize::MAX;
-
-// What a word tells, and the place after it.
-#[derive(Clone, Copy)]
-pub struct Number {
-    pub value: u64,
-    pub next: usize,
+// Why a line has no answer.
+#[derive(Drop)]
+pub enum Fault {
+    NotUnderstood,
+    Io(io::Error),
 }
 
-// A world of a store.
+impl From<io::Error> for Fault {
+    fn from(e: io::Error) -> Fault {
+        Fault::Io(e)
+    }
+}
+
+impl From<AllocError> for Fault {
+    fn from(e: AllocError) -> Fault {
+        Fault::Io(io::Error::from(e))
+    }
+}
+
+impl<T: Drop> From<AllocFailed<T>> for Fault {
+    fn from(e: AllocFailed<T>) -> Fault {
+        Fault::from(AllocError::from(e))
+    }
+}
+
+// The words of a line that were not read yet.
+#[derive(Drop)]
+pub struct Tokens<'a> {
+    pub alloc: Global,
+    rest: Split<'a, char>,
+}
+
+impl<'a> Tokens<'a> {
+    pub fn new(alloc: Global, line: &'a str) -> Tokens<'a> {
+        Tokens {
+            alloc,
+            rest: line.split(' '),
+        }
+    }
+
+    // The next word, which is empty where two spaces stand together.
+    pub fn word(&mut self) -> Result<&'a str, Fault> {
+        self.rest.next().ok_or(Fault::NotUnderstood)
+    }
+
+    // A number that is at most another.
+    pub fn at_most(&mut self, most: u64) -> Result<u64, Fault>
+        ensures { IfOk result (λ n. n ≤ most) }
+    {
+        let n = number(self.word()?)?;
+        if n > most {
+            return Err(Fault::NotUnderstood);
+        }
+        Ok(n)
+    }
+
+    // Nothing is left.
+    pub fn end(mut self) -> Result<(), Fault> {
+        match self.rest.next() {
+            Some(_) => Err(Fault::NotUnderstood),
+            None => Ok(()),
+        }
+    }
+
+    // All that is left, as what a call takes.
+    pub fn all<T: Argument + Drop>(mut self) -> Result<T, Fault> {
+        let arguments = T::read(&mut self)?;
+        self.end()?;
+        Ok(arguments)
+    }
+}
+
+// ---- arguments
+// What a call takes, as one word or as several.
+pub trait Argument {
+    fn read(line: &mut Tokens<'_>) -> Result<Self, Fault>;
+}
+
+// Decimal, without sign or leading zeros.
+fn number(word: &str) -> Result<u64, Fault> {
+    if word != "0" && !word.starts_with(|c: char| matches!(c, '1'..='9')) {
+        return Err(Fault::NotUnderstood);
+    }
+    word.parse().map_err(|_| Fault::NotUnderstood)
+}
+
+impl Argument for u64 {
+    fn read(line: &mut Tokens<'_>) -> Result<u64, Fault> {
+        number(line.word()?)
+    }
+}
+
+impl Argument for bool {
+    fn read(line: &mut Tokens<'_>) -> Result<bool, Fault> {
+        Ok(line.at_most(1)? == 1)
+    }
+}
+
+impl Argument for Bound {
+    fn read(line: &mut Tokens<'_>) -> Result<Bound, Fault> {
+        let word = line.word()?;
+        if word == "u" {
+            return Ok(Bound::Unbounded);
+        }
+        if let Some(n) = word.strip_prefix('i') {
+            return Ok(Bound::Included(number(n)?));
+        }
+        let n = word.strip_prefix('e').ok_or(Fault::NotUnderstood)?;
+        Ok(Bound::Excluded(number(n)?))
+    }
+}
+
+impl Argument for Operation {
+    fn read(line: &mut Tokens<'_>) -> Result<Operation, Fault> {
+        match line.word()? {
+            "and" => Ok(Operation::And),
+            "or" => Ok(Operation::Or),
+            "xor" => Ok(Operation::Xor),
+            _ => Err(Fault::NotUnderstood),
+        }
+    }
+}
+
+// Both corners, each its row and its column.
+impl Argument for Rect {
+    fn read(line: &mut Tokens<'_>) -> Result<Rect, Fault> {
+        let (top, left) = Argument::read(line)?;
+        let (bottom, right) = Argument::read(line)?;
+        Ok(Rect {
+            top,
+            left,
+            bottom,
+            right,
+        })
+    }
+}
+
+impl Argument for Listing {
+    fn read(line: &mut Tokens<'_>) -> Result<Listing, Fault> {
+        let (first, last, value) = Argument::read(line)?;
+        Ok(Listing { first, last, value })
+    }
+}
+
+impl<const N: usize> Argument for [u64; N] {
+    fn read(line: &mut Tokens<'_>) -> Result<[u64; N], Fault> {
+        let mut all = [0; N];
+        for w in all.iter_mut() {
+            *w = u64::read(line)?;
+        }
+        Ok(all)
+    }
+}
+
+// A world of a store, neither of which has to be there.
 #[derive(Clone, Copy)]
 pub struct Place {
-    pub store: usize,
+    pub store: u64,
     pub world: u64,
-    pub next: usize,
 }
 
-#[derive(Clone, Copy)]
-pub struct Flag {
-    pub value: bool,
-    pub next: usize,
+impl Argument for Place {
+    fn read(line: &mut Tokens<'_>) -> Result<Place, Fault> {
+        let (store, world) = line.word()?.split_once('/').ok_or(Fault::NotUnderstood)?;
+        Ok(Place {
+            store: number(store)?,
+            world: number(world)?,
+        })
+    }
 }
 
-#[derive(Clone, Copy)]
-pub struct Limit {
-    pub bound: Bound,
-    pub next: usize,
-}
+// As many pairs of numbers as the first number says, which is at most another.
+#[derive(Drop)]
+pub struct Pairs<const MOST: u64>(pub Vec<u64>);
 
-#[derive(Clone, Copy)]
-pub struct Join {
-    pub operation: Operation,
-    pub next: usize,
-}
-
-#[derive(Clone, Copy)]
-pub struct Corners {
-    pub rect: Rect,
-    pub next: usize,
-}
-
-// How many elements were read into the front of a lent slice.
-#[derive(Clone, Copy)]
-pub struct Front {
-    pub count: usize,
-    pub next: usize,
-}
-
-fn ends_word(b: u8) -> bool {
-    b == b' ' || b == b'\n'
-}
-
-// Where the word that starts at a place ends.
-pub fn word_end(line: &[u8], at: usize) -> usize {
-    for i in at..line.len() {
-        if ends_word(line[i]) {
-            return i;
+impl<const MOST: u64> Argument for Pairs<MOST> {
+    fn read(line: &mut Tokens<'_>) -> Result<Pairs<MOST>, Fault> {
+        let mut all = Vec::new(line.alloc);
+        for _ in 0..line.at_most(MOST)? {
+            all.push(u64::read(line)?)?;
+            all.push(u64::read(line)?)?;
         }
-    }
-    LOST
-}
-
-// The place after a word that has to end at i.
-fn after(line: &[u8], i: usize) -> usize {
-    if i < line.len() {
-        if ends_word(line[i]) {
-            return i + 1;
-        }
-    }
-    LOST
-}
-
-// ---- numbers
-#[derive(Clone, Copy)]
-enum Digits {
-    Worth(u64),
-    Wrong,
-}
-
-fn wide(b: u8) -> u64 {
-    b as u64
-}
-
-// A number with one more digit, if that is below 2^64.
-fn appended(value: u64, b: u8) -> Digits {
-    if b < b'0' {
-        return Digits::Wrong;
-    }
-    if b > b'9' {
-        return Digits::Wrong;
-    }
-    if value > 1844674407370955161 {
-        return Digits::Wrong;
-    }
-    let tens = value * 10;
-    let ones = wide(b - b'0');
-    if ones > u64::MAX - tens {
-        return Digits::Wrong;
-    }
-    Digits::Worth(tens + ones)
-}
-
-fn no_number() -> Number
-    ensures { result.value ≤ 0 }
-{
-    Number {
-        value: 0,
-        next: LOST,
+        Ok(Pairs(all))
     }
 }
 
-// Decimal, without leading zeros.
-pub fn number_at(line: &[u8], at: usize) -> Number {
-    let mut value: u64 = 0;
-    for i in at..line.len() {
-        let b = line[i];
-        if i > at {
-            if ends_word(b) {
-                return Number {
-                    value: value,
-                    next: i + 1,
-                };
-            }
-            if value == 0 {
-                return no_number();
-            }
-        }
-        let Digits::Worth(v) = appended(value, b) else {
-            return no_number();
-        };
-        value = v;
-    }
-    no_number()
+// ---- lent slices
+// What a lent slice is made of: how many there may be, what each is before the call, and how the slice is told when some were written.
+pub trait Element: Copy {
+    const MOST: u64;
+
+    const UNWRITTEN: Self;
+
+    fn told(written: usize, whole: Vec<Self>) -> Answer;
 }
 
-// A number that is at most another.
-pub fn at_most(line: &[u8], at: usize, most: u64) -> Number
-    ensures { result.value ≤ most }
-{
-    let n = number_at(line, at);
-    if n.value > most {
-        return no_number();
-    }
-    n
-}
+impl Element for u8 {
+    const MOST: u64 = 1029;
 
-pub fn flag_at(line: &[u8], at: usize) -> Flag {
-    let n = at_most(line, at, 1);
-    Flag {
-        value: n.value == 1,
-        next: n.next,
+    const UNWRITTEN: u8 = 0xee;
+
+    fn told(written: usize, whole: Vec<u8>) -> Answer {
+        Answer::Written(written, whole)
     }
 }
 
-// The numbers up to the end of the line.
-pub fn numbers_at(line: &[u8], at: usize, out: &mut [u64]) -> Front
-    ensures { IsPrefixLen result.count out.new }
-{
-    let mut next = at;
-    let mut n: usize = 0;
-    while n < out.len() {
-        if next >= line.len() {
-            break;
-        }
-        let x = number_at(line, next);
-        out[n] = x.value;
-        next = x.next;
-        n += 1;
-    }
-    Front {
-        count: n,
-        next: next,
+impl Element for u64 {
+    const MOST: u64 = 128;
+
+    const UNWRITTEN: u64 = 0xeeeeeeeeeeeeeeee;
+
+    fn told(written: usize, whole: Vec<u64>) -> Answer {
+        Answer::Worded(written, whole)
     }
 }
 
-// Pairs of numbers up to the end of the line, after how many there are.
-pub fn pairs_at(line: &[u8], at: usize, out: &mut [u64]) -> Front
-    ensures { IsPrefixLen result.count out.new }
-{
-    let told = number_at(line, at);
-    let f = numbers_at(line, told.next, out);
-    if f.count % 2 == 0 {
-        if (f.count / 2) as u64 == told.value {
-            return Front {
-                count: f.count,
-                next: f.next,
-            };
-        }
-    }
-    Front {
-        count: f.count,
-        next: LOST,
-    }
-}
+// A slice of so many elements to write into.
+#[derive(Drop)]
+pub struct Lent<T>(pub Vec<T>);
 
-// ---- places
-// The store that a digit names; 4 if it names none.
-fn store_of(b: u8) -> usize
-    ensures { result ≤ 4 }
-{
-    if b == b'0' {
-        return 0;
-    }
-    if b == b'1' {
-        return 1;
-    }
-    if b == b'2' {
-        return 2;
-    }
-    if b == b'3' {
-        return 3;
-    }
-    4
-}
-
-fn no_place() -> Place
-    ensures { result.store ≤ 3 }
-{
-    Place {
-        store: 0,
-        world: 0,
-        next: LOST,
-    }
-}
-
-// A store, a stroke and the number of a world, which need not be one of the store's.
-pub fn place_at(line: &[u8], at: usize) -> Place
-    ensures { result.store ≤ 3 }
-{
-    if at >= line.len() {
-        return no_place();
-    }
-    if line.len() - at < 2 {
-        return no_place();
-    }
-    let s = store_of(line[at]);
-    if s == 4 {
-        return no_place();
-    }
-    if line[at + 1] != b'/' {
-        return no_place();
-    }
-    let n = number_at(line, at + 2);
-    Place {
-        store: s,
-        world: n.value,
-        next: n.next,
-    }
-}
-
-// ---- bounds and operations
-pub fn bound_at(line: &[u8], at: usize) -> Limit {
-    if at < line.len() {
-        let b = line[at];
-        if b == b'i' {
-            let n = number_at(line, at + 1);
-            return Limit {
-                bound: Bound::Included(n.value),
-                next: n.next,
-            };
-        }
-        if b == b'e' {
-            let n = number_at(line, at + 1);
-            return Limit {
-                bound: Bound::Excluded(n.value),
-                next: n.next,
-            };
-        }
-        if b == b'u' {
-            return Limit {
-                bound: Bound::Unbounded,
-                next: after(line, at + 1),
-            };
-        }
-    }
-    Limit {
-        bound: Bound::Unbounded,
-        next: LOST,
-    }
-}
-
-pub fn operation_at(line: &[u8], at: usize) -> Join {
-    let e = word_end(line, at);
-    if at <= e {
-        if e < line.len() {
-            match &line[at..e] {
-                b"and" => {
-                    return Join {
-                        operation: Operation::And,
-                        next: e + 1,
-                    };
-                }
-                b"or" => {
-                    return Join {
-                        operation: Operation::Or,
-                        next: e + 1,
-                    };
-                }
-                b"xor" => {
-                    return Join {
-                        operation: Operation::Xor,
-                        next: e + 1,
-                    };
-                }
-                _ => {}
-            }
-        }
-    }
-    Join {
-        operation: Operation::Xor,
-        next: LOST,
-    }
-}
-
-// ---- rectangles
-// Both corners, each its row and its column.
-pub fn rect_at(line: &[u8], at: usize) -> Corners {
-    let top = number_at(line, at);
-    let left = number_at(line, top.next);
-    let bottom = number_at(line, left.next);
-    let right = number_at(line, bottom.next);
-    Corners {
-        rect: Rect {
-            top: top.value,
-            left: left.value,
-            bottom: bottom.value,
-            right: right.value,
-        },
-        next: right.next,
+impl<T: Element> Argument for Lent<T> {
+    fn read(line: &mut Tokens<'_>) -> Result<Lent<T>, Fault> {
+        let n = line.at_most(T::MOST)?;
+        Ok(Lent(vec![in line.alloc; T::UNWRITTEN; n as usize]?))
     }
 }
 
 // ---- bytes
-#[derive(Clone, Copy)]
-enum Octet {
-    Byte(u8, usize),
-    Wrong,
+// At most so many bytes, two hexadecimal digits for each, or `-` for none.
+#[derive(Drop)]
+pub struct Bytes<const MOST: usize>(pub Vec<u8>);
+
+fn hex_digit(b: u8) -> Option<u8> {
+    match b {
+        b'0'..=b'9' => Some(b - b'0'),
+        b'a'..=b'f' => Some(b - b'a' + 10),
+        _ => None,
+    }
 }
 
-// What a hexadecimal digit is worth; 16 if it is none.
-fn hex_digit(b: u8) -> u8
-    ensures { result ≤ 16 }
-{
-    if b >= b'0' {
-        if b <= b'9' {
-            return b - b'0';
+fn octet(pair: &[u8]) -> Option<u8> {
+    match pair {
+        [high, low] => Some(hex_digit(*high)? << 4 | hex_digit(*low)?),
+        _ => None,
+    }
+}
+
+impl<const MOST: usize> Argument for Bytes<MOST> {
+    fn read(line: &mut Tokens<'_>) -> Result<Bytes<MOST>, Fault> {
+        let mut all = Vec::new(line.alloc);
+        let digits = line.word()?.as_bytes();
+        if digits == b"-".as_slice() {
+            return Ok(Bytes(all));
         }
-    }
-    if b >= b'a' {
-        if b <= b'f' {
-            return b - b'a' + 10;
+        if digits.is_empty() || digits.len() / 2 > MOST {
+            return Err(Fault::NotUnderstood);
         }
-    }
-    16
-}
-
-// The byte whose two digits stand from i on, and the index after them.
-fn octet_at(line: &[u8], i: usize) -> Octet {
-    if i >= line.len() {
-        return Octet::Wrong;
-    }
-    if line.len() - i < 2 {
-        return Octet::Wrong;
-    }
-    let high = hex_digit(line[i]);
-    let low = hex_digit(line[i + 1]);
-    if high == 16 {
-        return Octet::Wrong;
-    }
-    if low == 16 {
-        return Octet::Wrong;
-    }
-    Octet::Byte(high * 16 + low, i + 2)
-}
-
-// Two digits for each byte, as many as there are.
-fn octets(line: &[u8], at: usize, out: &mut [u8]) -> Front
-    ensures { IsPrefixLen result.count out.new }
-{
-    let mut next = at;
-    let mut n: usize = 0;
-    while n < out.len() {
-        let Octet::Byte(b, i) = octet_at(line, next) else {
-            break;
-        };
-        out[n] = b;
-        next = i;
-        n += 1;
-    }
-    Front {
-        count: n,
-        next: next,
-    }
-}
-
-// Bytes, or `-` for none.
-pub fn bytes_at(line: &[u8], at: usize, out: &mut [u8]) -> Front
-    ensures { IsPrefixLen result.count out.new }
-{
-    let f = octets(line, at, out);
-    let i = f.next;
-    if f.count == 0 {
-        if i < line.len() {
-            if line[i] == b'-' {
-                return Front {
-                    count: 0,
-                    next: after(line, i + 1),
-                };
-            }
+        for pair in digits.chunks(2) {
+            all.push(octet(pair).ok_or(Fault::NotUnderstood)?)?;
         }
-        return Front {
-            count: 0,
-            next: LOST,
-        };
+        Ok(Bytes(all))
     }
-    Front {
-        count: f.count,
-        next: after(line, i),
+}
+
+// ---- several arguments, one after another
+impl<A: Argument + Drop, B: Argument> Argument for (A, B) {
+    fn read(line: &mut Tokens<'_>) -> Result<(A, B), Fault> {
+        let a = A::read(line)?;
+        Ok((a, B::read(line)?))
+    }
+}
+
+impl<A: Argument + Drop, B: Argument + Drop, C: Argument> Argument for (A, B, C) {
+    fn read(line: &mut Tokens<'_>) -> Result<(A, B, C), Fault> {
+        let (a, b) = Argument::read(line)?;
+        Ok((a, b, C::read(line)?))
+    }
+}
+
+impl<A: Argument + Drop, B: Argument + Drop, C: Argument + Drop, D: Argument> Argument
+    for (A, B, C, D) {
+    fn read(line: &mut Tokens<'_>) -> Result<(A, B, C, D), Fault> {
+        let (a, b, c) = Argument::read(line)?;
+        Ok((a, b, c, D::read(line)?))
     }
 }

@@ -5,174 +5,120 @@
 // 204 of `worlds`, 7 to 214 of `frames` and 13 to 212 of `grid`.
 #![tactic(auto)]
 
-ghost use Rattle.std.specs.Prelude.{◌≤◌, length};
-
 mod answer;
 mod calls;
 mod frames;
 mod line;
 mod stores;
 
+use frames::Frame;
+use line::{Fault, Tokens};
+use std::alloc::Global;
 use std::io;
-use std::io::Read;
+use std::io::{BufRead, BufReader, Read};
+use stores::Stores;
 
-// Makes the call of a line and prints its answer, or tells that the line is none: a name, a store or a world but for clear_map and convert,
-// and what the call takes.
-fn understood(
-    rt: &impl Print,
-    words: &mut [u64; 3616],
-    lengths: &mut [usize; 4],
-    rows: &mut [u64; 520],
-    line: &[u8],
-) -> io::Result<bool> {
-    let e = line::word_end(line, 0);
-    if e >= line.len() {
-        return Ok(false);
-    }
-    if line[line.len() - 1] != b'\n' {
-        return Ok(false);
-    }
-    let name = &line[0..e];
-    match name {
-        b"clear_map" => return calls::clear_map(rt, line, e + 1),
-        b"convert" => return calls::convert(rt, line, e + 1),
-        _ => {}
-    }
-    if stores::is_whole(name) {
-        let s = line::at_most(line, e + 1, 3);
-        return stores::whole_named(
-            rt,
-            words,
-            lengths,
-            rows,
-            s.value as usize,
-            name,
-            line,
-            s.next,
-        );
-    }
-    let p = line::place_at(line, e + 1);
-    stores::call_named(rt, words, lengths, p.store, p.world, name, line, p.next)
+// The stores, and the frame at hand, if there is one.
+#[derive(Drop)]
+struct Replay {
+    alloc: Global,
+    stores: Stores,
+    frame: Option<Frame>,
 }
 
-// The same for the first n bytes of what is lent, with an answer for every line; those of a frame are answered when its last record is there.
-fn replay(
-    rt: &impl Print,
-    words: &mut [u64; 3616],
-    lengths: &mut [usize; 4],
-    rows: &mut [u64; 520],
-    line: &[u8],
-    n: usize,
-) -> io::Result<()>
-    requires { n ≤ length line.now }
-{
-    if !frames::record(rows, &line[0..n]) {
-        frames::give_up(rt, rows)?;
-        if !understood(rt, words, lengths, rows, &line[0..n])? {
-            answer::not_understood(rt, 1)?;
+// Whether a line was understood.
+fn understood(r: Result<(), Fault>) -> io::Result<bool> {
+    match r {
+        Ok(()) => Ok(true),
+        Err(Fault::NotUnderstood) => Ok(false),
+        Err(Fault::Io(e)) => Err(e),
+    }
+}
+
+impl Replay {
+    // Takes a line as the next record of the frame at hand.
+    fn record(&mut self, line: &str) -> Result<(), Fault> {
+        let frame = self.frame.as_mut().ok_or(Fault::NotUnderstood)?;
+        frame.record(Tokens::new(self.alloc, line))
+    }
+
+    // Makes the call of a line and prints its answer. That of a frame comes when its last record is there.
+    fn call(&mut self, rt: &impl Print, line: &str) -> Result<(), Fault> {
+        let mut tokens = Tokens::new(self.alloc, line);
+        let name = tokens.word()?;
+        if name == "frame" {
+            self.frame = Some(Frame::begin(tokens)?);
+            return Ok(());
+        }
+        answer::tell(rt, &self.stores.call_named(name, tokens)?)?;
+        Ok(())
+    }
+
+    // Gives up the frame at hand, whose records did not follow: none of its lines is understood.
+    fn give_up(&mut self, rt: &impl Print) -> io::Result<()> {
+        match self.frame.take() {
+            Some(frame) => answer::repeat(rt, "not understood", frame.lines()),
+            None => Ok(()),
         }
     }
-    stores::frame(rt, words, lengths, rows)
-}
 
-// One byte more of a line; what comes after 4,096 bytes is dropped, the line feed with it.
-fn put(line: &mut [u8; 4096], n: usize, b: u8) -> usize
-    ensures { result ≤ 4096 }
-{
-    if n < 4096 {
-        line[n] = b;
-        return n + 1;
+    // Makes the frame at hand, if all of its lines are there.
+    fn serve(&mut self, rt: &impl Print) -> Result<(), Fault> {
+        match self.frame.take() {
+            Some(frame) if frame.is_whole() => {
+                let store = self.stores.store_mut(frame.store)?;
+                frame.serve(rt, store.as_mut_slice())?;
+            }
+            unfinished => self.frame = unfinished,
+        }
+        Ok(())
     }
-    4096
-}
 
-// Goes on with the line at hand, of which n bytes are there, by one byte, and tells how many are there then.
-fn take(
-    rt: &impl Print,
-    words: &mut [u64; 3616],
-    lengths: &mut [usize; 4],
-    rows: &mut [u64; 520],
-    line: &mut [u8; 4096],
-    n: usize,
-    b: u8,
-) -> io::Result<usize> {
-    let k = put(line, n, b);
-    if b != b'\n' {
-        return Ok(k);
+    // Makes what a line tells, if it is a text at all, with a record in the place of one first.
+    fn line(&mut self, rt: &impl Print, line: Option<&str>) -> Result<(), Fault> {
+        let is_record = match line {
+            Some(text) => understood(self.record(text))?,
+            None => false,
+        };
+        if !is_record {
+            self.give_up(rt)?;
+            self.call(rt, line.ok_or(Fault::NotUnderstood)?)?;
+        }
+        self.serve(rt)
     }
-    replay(rt, words, lengths, rows, line, k)?;
-    Ok(0)
-}
 
-fn take_all(
-    rt: &impl Print,
-    words: &mut [u64; 3616],
-    lengths: &mut [usize; 4],
-    rows: &mut [u64; 520],
-    line: &mut [u8; 4096],
-    n: usize,
-    bytes: &[u8],
-) -> io::Result<usize> {
-    let mut k = n;
-    for b in bytes {
-        k = take(rt, words, lengths, rows, line, k, *b)?;
+    // The same, with an answer for every line.
+    fn answer(&mut self, rt: &impl Print, line: Option<&str>) -> io::Result<()> {
+        if understood(self.line(rt, line))? {
+            return Ok(());
+        }
+        println!(rt; "not understood")
     }
-    Ok(k)
-}
-
-// What one reading of the input left: how many bytes of the line at hand are there, and whether more may come.
-#[derive(Clone, Copy)]
-struct Rest {
-    bytes: usize,
-    more: bool,
-}
-
-fn read(
-    rt: &impl Print,
-    input: &mut impl Read,
-    words: &mut [u64; 3616],
-    lengths: &mut [usize; 4],
-    rows: &mut [u64; 520],
-    line: &mut [u8; 4096],
-    n: usize,
-) -> io::Result<Rest> {
-    let mut piece = [0u8; 4096];
-    let k = input.read(&mut piece)?;
-    Ok(Rest {
-        bytes: take_all(rt, words, lengths, rows, line, n, &piece[..k])?,
-        more: k > 0,
-    })
 }
 
 // A proved loop has to end, and nothing says that the input does, so the turns are counted, up to a number that no run uses up. A read or a
-// write that fails ends the program with its error.
+// write that fails ends the program with its error. What comes after the first 4,096 bytes of a line is dropped.
 fn main(rt: HostRuntime) -> io::Result<()> {
-    let mut words = [0u64; 3616];
-    let mut lengths = [0usize; 4];
-    let mut rows = [0u64; 520];
-    let mut line = [0u8; 4096];
-    let mut rest = Rest {
-        bytes: 0,
-        more: true,
+    let alloc = rt.alloc();
+    let mut replay = Replay {
+        alloc,
+        stores: Stores::new(alloc),
+        frame: None,
     };
-    let mut input = rt.stdin();
+    let mut input = BufReader::new(alloc, rt.stdin())?;
+    let mut line = Vec::new(alloc);
     for _ in 0..u64::MAX {
-        if !rest.more {
+        line.clear();
+        if input.by_ref().take(4096).read_until(b'\n', &mut line)? == 0 {
             break;
         }
-        rest = read(
-            &rt,
-            &mut input,
-            &mut words,
-            &mut lengths,
-            &mut rows,
-            &mut line,
-            rest.bytes,
-        )?;
+        match line.strip_suffix(b"\n") {
+            Some(text) => replay.answer(&rt, str::from_utf8(text).ok())?,
+            None => {
+                input.skip_until(b'\n')?;
+                replay.answer(&rt, None)?;
+            }
+        }
     }
-    frames::give_up(&rt, &mut rows)?;
-    if rest.bytes > 0 {
-        answer::not_understood(&rt, 1)?;
-    }
-    Ok(())
+    replay.give_up(&rt)
 }

@@ -1,9 +1,9 @@
 -- A range joined of two: its first and last run, what is found and selected in it, from those of the two parts, for any set.
 -- A first or last run is taken apart into what is held and what is not, which holds of the joined range too. Assumes nothing.
+use Rattle.std.specs.Prelude.{Option, None, Some}
 use Rattle.std.proofs.Common.{◌≡◌, ℕ, suc, ◌+◌, ◌-◌, ◌<◌, ◌≤◌, Bool, true, false, not, ◌&&◌, ◌||◌, ◌⊎◌, List, [], ◌∷◌, ◌++◌, sym, refl, ap, ◌∙◌}
 use Rattle.std.proofs.Common.{subst, ap₂, inl, inr, append-nil, arith}
 use mathlib.Core.Bool.{beq}
-use mathlib.Core.Option.{Option, none, some, none-ne-some, some-ne-none, some-injective}
 use Rattle.model.specs.declared.Run.{Run}
 use Rattle.model.proofs.Numbers.{split}
 use Rattle.model.specs.Positions.{Positions, run, inside, count, find, select, runs_in, first_run, last_after, last_run, mem}
@@ -101,24 +101,24 @@ module _ (P : Positions) (v : Bool) (a n : ℕ) (xs : List Run) (r : Run) (ys : 
   }
 
 -- a list by its first run
-first-parts : (rs : List Run) (r : Run) → first_run rs ≡ some r → (ys : List Run) × (rs ≡ r ∷ ys)
-first-parts [] r e = absurd (none-ne-some r e)
-first-parts (q ∷ rs) r e = (rs, ap (λ t. t ∷ rs) (some-injective q r e))
+first-parts : (rs : List Run) (r : Run) → first_run rs ≡ Some r → (ys : List Run) × (rs ≡ r ∷ ys)
+first-parts [] r e = absurd (cc)
+first-parts (q ∷ rs) r e = (rs, cc)
 
 -- a list by its last run
-last-parts : (rs : List Run) (r : Run) → last_run rs ≡ some r → (xs : List Run) × (rs ≡ xs ++ (r ∷ []))
-last-parts [] r e = absurd (none-ne-some r e)
-last-parts (q ∷ []) r e = ([], ap (λ t. t ∷ []) (some-injective q r e))
+last-parts : (rs : List Run) (r : Run) → last_run rs ≡ Some r → (xs : List Run) × (rs ≡ xs ++ (r ∷ []))
+last-parts [] r e = absurd (cc)
+last-parts (q ∷ []) r e = ([], cc)
 last-parts (q ∷ (p ∷ rs)) r e = let d = last-parts (p ∷ rs) r e in (q ∷ d.0, ap (λ t. q ∷ t) d.1)
 
 -- what a first run is
-pub first_run-only : (P : Positions) (v : Bool) (a n : ℕ) (r : Run) → first_run (runs_in P v a n) ≡ some r → IsFirst P v a n r
+pub first_run-only : (P : Positions) (v : Bool) (a n : ℕ) (r : Run) → first_run (runs_in P v a n) ≡ Some r → IsFirst P v a n r
 first_run-only P v a n r e =
     let d = first-parts (runs_in P v a n) r e in
     record { is = a-run P v a n [] r d.0 d.1; under = λ y h l. under-run P v a n [] r d.0 d.1 y h l (empty-mem y) }
 
 -- what a last run is
-pub last_run-only : (P : Positions) (v : Bool) (a n : ℕ) (r : Run) → last_run (runs_in P v a n) ≡ some r → IsLast P v a n r
+pub last_run-only : (P : Positions) (v : Bool) (a n : ℕ) (r : Run) → last_run (runs_in P v a n) ≡ Some r → IsLast P v a n r
 last_run-only P v a n r e =
     let d = last-parts (runs_in P v a n) r e in
     record { is = a-run P v a n d.0 r [] d.1; over = λ y h l. over-run P v a n d.0 r [] d.1 y h l (empty-mem y) }
@@ -129,14 +129,14 @@ runs_in-empty P v a n e y h l =
     beq-no (P y) v (sym (sym (ap (λ rs. mem rs y) e) ∙ runs_in-mem P v a n y ∙ ap (λ t. t && beq (P y) v) (among-yes a n y h l)) ∙ empty-mem y)
 
 -- no first run, no run
-pub no-first : (rs : List Run) → first_run rs ≡ none → rs ≡ []
+pub no-first : (rs : List Run) → first_run rs ≡ None → rs ≡ []
 no-first [] e = refl
-no-first (r ∷ rs) e = absurd (some-ne-none r e)
+no-first (r ∷ rs) e = absurd (cc)
 
 -- no last run, no run
-pub no_last : (rs : List Run) → last_run rs ≡ none → rs ≡ []
+pub no_last : (rs : List Run) → last_run rs ≡ None → rs ≡ []
 no_last [] e = refl
-no_last (r ∷ rs) e = absurd (some-ne-none (last_after r rs) e)
+no_last (r ∷ rs) e = absurd (cc)
 
 -- ---- the m positions from a and the k that follow
 module _ (P : Positions) (v : Bool) (a m k : ℕ) where
@@ -151,7 +151,7 @@ module _ (P : Positions) (v : Bool) (a m k : ℕ) where
       ∙ append-nil (runs_in P v a m)
 
   -- the first run of the first part, which does not go on
-  pub first_ends : (r : Run) → IsFirst P v a m r → (suc r.«end» < a + m) ⊎ (P (a + m) ≡ not v) → first_run (runs_in P v a (m + k)) ≡ some r
+  pub first_ends : (r : Run) → IsFirst P v a m r → (suc r.«end» < a + m) ⊎ (P (a + m) ≡ not v) → first_run (runs_in P v a (m + k)) ≡ Some r
   first_ends r f stop =
       first_run-is P v a (m + k) r.start r.«end» f.is.from f.is.ordered (omega (arith, f.is.past)) f.under f.is.same
       (λ h. go stop (split (suc r.«end») (a + m)))
@@ -163,7 +163,7 @@ module _ (P : Positions) (v : Bool) (a m k : ℕ) where
 
   -- the first run of the first part, which goes on into the second
   pub first-goes-on : (r q : Run) → IsFirst P v a m r → suc r.«end» ≡ a + m → IsRun P v (a + m) k q → q.start ≡ a + m
-      → first_run (runs_in P v a (m + k)) ≡ some (run r.start q.«end»)
+      → first_run (runs_in P v a (m + k)) ≡ Some (run r.start q.«end»)
   first-goes-on r q f e g d =
       first_run-is P v a (m + k) r.start q.«end» f.is.from (omega (arith, f.is.ordered, g.ordered)) (omega (arith, g.past)) f.under
       (λ y h l. joined y h l (split r.«end» y)) (λ h. g.after (omega arith))
@@ -174,7 +174,7 @@ module _ (P : Positions) (v : Bool) (a m k : ℕ) where
 
   -- the last run of the second part, which has not gone on from the first
   pub last-starts : (q : Run) → IsLast P v (a + m) k q → (a + m < q.start) ⊎ ((y : ℕ) → a ≤ y → suc y ≡ a + m → P y ≡ not v)
-      → last_run (runs_in P v a (m + k)) ≡ some q
+      → last_run (runs_in P v a (m + k)) ≡ Some q
   last-starts q g stop =
       last_run-is P v a (m + k) q.start q.«end» (omega (arith, g.is.from)) g.is.ordered (omega (arith, g.is.past)) (λ y h l. g.over y h (omega arith))
       g.is.same (λ y h e. go y h e stop (split y (a + m)))
@@ -187,7 +187,7 @@ module _ (P : Positions) (v : Bool) (a m k : ℕ) where
 
   -- the last run of the second part, which has gone on from the first
   pub last-goes-back : (r q : Run) → IsRun P v a m r → suc r.«end» ≡ a + m → IsLast P v (a + m) k q → q.start ≡ a + m
-      → last_run (runs_in P v a (m + k)) ≡ some (run r.start q.«end»)
+      → last_run (runs_in P v a (m + k)) ≡ Some (run r.start q.«end»)
   last-goes-back r q f e g d =
       last_run-is P v a (m + k) r.start q.«end» f.from (omega (arith, f.ordered, g.is.ordered)) (omega (arith, g.is.past))
       (λ y h l. g.over y h (omega arith)) (λ y h l. joined y h l (split r.«end» y)) (λ y h l. f.before y h l)
@@ -198,14 +198,14 @@ module _ (P : Positions) (v : Bool) (a m k : ℕ) where
 
 -- ---- find
 -- what is found is the start of a first run
-start-parts : (o : Option Run) (x : ℕ) → start_of o ≡ some x → (r : Run) × (o ≡ some r) × (r.start ≡ x)
-start-parts none x e = absurd (none-ne-some x e)
-start-parts (some r) x e = (r, refl, some-injective r.start x e)
+start-parts : (o : Option Run) (x : ℕ) → start_of o ≡ Some x → (r : Run) × (o ≡ Some r) × (r.start ≡ x)
+start-parts None x e = absurd (cc)
+start-parts (Some r) x e = (r, refl, cc)
 
 -- no start, no run
-start_none : (o : Option Run) → start_of o ≡ none → o ≡ none
-start_none none e = refl
-start_none (some r) e = absurd (some-ne-none r.start e)
+start_none : (o : Option Run) → start_of o ≡ None → o ≡ None
+start_none None e = refl
+start_none (Some r) e = absurd (cc)
 
 -- it has the value, and nothing before it has
 pub record FoundIn (P : Positions) (v : Bool) (a n x : ℕ) : Type 0 where
@@ -215,7 +215,7 @@ pub record FoundIn (P : Positions) (v : Bool) (a n x : ℕ) : Type 0 where
   pub under : (y : ℕ) → a ≤ y → y < x → P y ≡ not v
 
 -- what a found position is
-pub find-only : (P : Positions) (v : Bool) (a n x : ℕ) → find P v a n ≡ some x → FoundIn P v a n x
+pub find-only : (P : Positions) (v : Bool) (a n x : ℕ) → find P v a n ≡ Some x → FoundIn P v a n x
 find-only P v a n x e =
     let d = start-parts (first_run (runs_in P v a n)) x (sym (find_runs P v a n) ∙ e) in
     let f : IsFirst P v a n d.0 = first_run-only P v a n d.0 d.1 in
@@ -228,32 +228,32 @@ find-only P v a n x e =
 
 -- ---- select
 -- there is one where the runs are wide enough
-select_runs-some : (total j : ℕ) (rs : List Run) (k : ℕ) → Canon total j rs → k < widths rs → (x : ℕ) × (select_runs rs k ≡ some x)
+select_runs-some : (total j : ℕ) (rs : List Run) (k : ℕ) → Canon total j rs → k < widths rs → (x : ℕ) × (select_runs rs k ≡ Some x)
 unfolding widths
 select_runs-some total j [] k c h = absurd (omega arith)
 select_runs-some total j (r ∷ rs) k c h =
     go (split k (r.«end» + 1 - r.start)) (λ l. select_runs-some total (r.«end» + 2) rs (k - (r.«end» + 1 - r.start)) c.3 l)
   where
     go : (k < r.«end» + 1 - r.start) ⊎ (r.«end» + 1 - r.start ≤ k)
-        → (k - (r.«end» + 1 - r.start) < widths rs → (x : ℕ) × (select_runs rs (k - (r.«end» + 1 - r.start)) ≡ some x)) → (x : ℕ) × (select_runs (r ∷ rs) k ≡ some x)
+        → (k - (r.«end» + 1 - r.start) < widths rs → (x : ℕ) × (select_runs rs (k - (r.«end» + 1 - r.start)) ≡ Some x)) → (x : ℕ) × (select_runs (r ∷ rs) k ≡ Some x)
     go (inl l) ih = (r.start + k, select_runs-in r rs k l)
     go (inr l) ih = let d = ih (omega arith) in (d.0, select_runs-past r rs k l ∙ d.1)
 
 -- there is one where there are more than j positions of the value
-pub select-some : (P : Positions) (v : Bool) (a n j : ℕ) → j < count P v a n → (x : ℕ) × (select P v a n j ≡ some x)
+pub select-some : (P : Positions) (v : Bool) (a n j : ℕ) → j < count P v a n → (x : ℕ) × (select P v a n j ≡ Some x)
 select-some P v a n j h =
     let d = select_runs-some (a + n) a (runs_in P v a n) j (runs_in-canon P v (a + n) a n (omega arith)) (omega (arith, count_runs P v a n)) in
     (d.0, select-runs P v a n j ∙ d.1)
 
 module _ (P : Positions) (v : Bool) (a m k : ℕ) where
   -- found in the first part
-  pub find_first : (x : ℕ) → find P v a m ≡ some x → find P v a (m + k) ≡ some x
+  pub find_first : (x : ℕ) → find P v a m ≡ Some x → find P v a (m + k) ≡ Some x
   find_first x e =
       let f : FoundIn P v a m x = find-only P v a m x e in
       find-is P v a (m + k) x f.from (omega (arith, f.past)) f.has f.under
 
   -- found in the second part, or not at all
-  pub find-second : find P v a m ≡ none → find P v a (m + k) ≡ find P v (a + m) k
+  pub find-second : find P v a m ≡ None → find P v a (m + k) ≡ find P v (a + m) k
   find-second e =
       find_runs P v a (m + k)
       ∙ ap (λ rs. start_of (first_run rs)) (runs-second P v a m k (no-first (runs_in P v a m) (start_none (first_run (runs_in P v a m)) (sym (find_runs P v a m) ∙ e))))
@@ -265,7 +265,7 @@ module _ (P : Positions) (v : Bool) (a m k : ℕ) where
       let d = select-some P v a m j h in
       let s : Selected P v a m j d.0 = select-only P v a m j d.0 d.1 in
       let q : a + (d.0 - a) ≡ d.0 = omega (arith, s.from) in
-      select-is P v a (m + k) (d.0 - a) j (omega (arith, s.past, s.from)) (ap P q ∙ s.has) s.before ∙ ap some q ∙ sym d.1
+      select-is P v a (m + k) (d.0 - a) j (omega (arith, s.past, s.from)) (ap P q ∙ s.has) s.before ∙ ap Some q ∙ sym d.1
 
   -- selected in the second part, or not at all
   pub select-second : (j : ℕ) → count P v a m ≤ j → select P v a (m + k) j ≡ select P v (a + m) k (j - count P v a m)
@@ -283,4 +283,4 @@ module _ (P : Positions) (v : Bool) (a m k : ℕ) where
           let q : a + (d.0 - a) ≡ d.0 = omega (arith, s.from) in
           let c : count P v a (d.0 - a) ≡ count P v a m + count P v (a + m) (d.0 - (a + m)) =
           count_cut P v a (d.0 - a) m (a + m) (d.0 - (a + m)) (omega (arith, s.from)) refl in
-          select-is P v a (m + k) (d.0 - a) j (omega (arith, s.past, s.from)) (ap P q ∙ s.has) (omega (arith, c, s.before)) ∙ ap some q ∙ sym d.1
+          select-is P v a (m + k) (d.0 - a) j (omega (arith, s.past, s.from)) (ap P q ∙ s.has) (omega (arith, c, s.before)) ∙ ap Some q ∙ sym d.1

@@ -1,8 +1,9 @@
 -- What a logical range has and its k-th position, from the physical ranges that it lies at: one, or one up to M and one from 0 on
 -- (Turn, Parted). Runs of a range are at least two apart, so their sums fit a word. Assumes nothing.
+use Rattle.std.specs.Prelude.{option_map}
+use Rattle.std.specs.Prelude.{None, Some}
 use Rattle.std.proofs.Common.{◌≡◌, ℕ, suc, ◌+◌, ◌-◌, ◌*◌, ◌<◌, ◌≤◌, Bool, true, false, ◌&&◌, ◌⊎◌, List, [], ◌∷◌, length, sym, refl, ap, ◌∙◌, subst, ap₂, inl, inr, arith, w64, Fits}
 use mathlib.Core.Bool.{beq, and-false}
-use mathlib.Core.Option.{none, some, map}
 use Rattle.model.specs.declared.Count.{Count}
 use Rattle.model.specs.declared.Run.{Run}
 use Rattle.model.specs.declared.Tally.{Tally}
@@ -41,7 +42,7 @@ count-more : (P : Positions) (v : Bool) (a n m : ℕ) → n ≤ m → count P v 
 count-more P v a n m h = omega (arith, count_cut P v a m n (a + n) (m - n) (omega arith) refl)
 
 -- a position selected in a range is selected in its front, if that has enough
-select-front : (P : Positions) (v : Bool) (a n m k x : ℕ) → n ≤ m → k < count P v a n → select P v a m k ≡ some x → select P v a n k ≡ some x
+select-front : (P : Positions) (v : Bool) (a n m k x : ℕ) → n ≤ m → k < count P v a n → select P v a m k ≡ Some x → select P v a n k ≡ Some x
 select-front P v a n m k x h l q =
     let e : m ≡ n + (m - n) = omega arith in
     sym (select-first P v a n (m - n) k l) ∙ ap (λ j. select P v a j k) (sym e) ∙ q
@@ -73,18 +74,18 @@ module _ {w : List ℕ} {share : Share} {h : World} (st : Standing w share h) wh
 
     -- its k-th position
     pub selected-whole : {r : Tally} {k x y : ℕ} → s ≤ e → TellsTally w h.root s e v r → k < worth r.count → TellsChosen w h.root s v k x
-        → y ≡ logical_of x h.offset → some y ≡ select (held_in w h) v a n k
+        → y ≡ logical_of x h.offset → Some y ≡ select (held_in w h) v a n k
     selected-whole {r} {k} {x} {y} i t l c q =
         let m : Measured (physical_in st) v s (suc e - s) r = t share.tag st.tree (standing-index st) in
-        let f : select (physical_in st) v s n k ≡ some x =
+        let f : select (physical_in st) v s n k ≡ Some x =
         select-front (physical_in st) v s n (size - s) k x (omega (arith, whole-fits lies i))
         (omega (arith, m.count-is, ap (count (physical_in st) v s) (whole_length lies i))) (c share.tag st.tree (standing-index st)) in
         let d : Selected (physical_in st) v s n k x = select-only (physical_in st) v s n k x f in
-        ap some (q ∙ sym (whole-move lies i x d.from (omega (arith, d.past, whole_length lies i))))
-        ∙ sym (ap (λ P. select P v a n k) (standing-held st) ∙ select-whole lies (physical_in st) v i k ∙ ap (map (move s a)) f)
+        ap Some (q ∙ sym (whole-move lies i x d.from (omega (arith, d.past, whole_length lies i))))
+        ∙ sym (ap (λ P. select P v a n k) (standing-held st) ∙ select-whole lies (physical_in st) v i k ∙ ap (option_map (move s a)) f)
 
     -- it has none
-    pub unselected-whole : {r : Tally} {k : ℕ} → s ≤ e → TellsTally w h.root s e v r → worth r.count ≤ k → none ≡ select (held_in w h) v a n k
+    pub unselected-whole : {r : Tally} {k : ℕ} → s ≤ e → TellsTally w h.root s e v r → worth r.count ≤ k → None ≡ select (held_in w h) v a n k
     unselected-whole {r} {k} i t l = sym (select-none (held_in w h) v a n k (omega (arith, (tally-whole i t).count-is)))
 
     -- ---- parted ranges
@@ -164,18 +165,18 @@ module _ {w : List ℕ} {share : Share} {h : World} (st : Standing w share h) wh
       choosable-first {k} l = (share.tag, st.tree, standing-index st, omega (arith, (first_part t).count-is))
 
       -- it is the range's k-th position
-      pub selected-first : {k x y : ℕ} → k < worth one.count → TellsChosen w h.root s v k x → y ≡ logical_of x h.offset → some y ≡ select (held_in w h) v a n k
+      pub selected-first : {k x y : ℕ} → k < worth one.count → TellsChosen w h.root s v k x → y ≡ logical_of x h.offset → Some y ≡ select (held_in w h) v a n k
       selected-first {k} {x} {y} l c q =
-          let f : select (physical_in st) v s (size - s) k ≡ some x = c share.tag st.tree (standing-index st) in
+          let f : select (physical_in st) v s (size - s) k ≡ Some x = c share.tag st.tree (standing-index st) in
           let d : Selected (physical_in st) v s (size - s) k x = select-only (physical_in st) v s (size - s) k x f in
-          ap some (q ∙ sym (parted-move-first lies parted x d.from (omega (arith, d.past, first_below lies))))
+          ap Some (q ∙ sym (parted-move-first lies parted x d.from (omega (arith, d.past, first_below lies))))
           ∙ sym (ap (λ P. select P v a n k) (standing-held st)
-          ∙ select-in-first lies parted (physical_in st) v k (omega (arith, (first_part t).count-is)) ∙ ap (map (move s a)) f)
+          ∙ select-in-first lies parted (physical_in st) v k (omega (arith, (first_part t).count-is)) ∙ ap (option_map (move s a)) f)
 
       -- the second part's positions follow, fewer by those of the first part
       module _ {two : Tally} {k : ℕ} (u : TellsTally w h.root 0 e v two) (ne : one.count.carry ≡ 1 → ⊥) (le : one.count.low ≤ k) where
         -- the range has no k-th position
-        pub unselected-second : worth two.count ≤ k - one.count.low → none ≡ select (held_in w h) v a n k
+        pub unselected-second : worth two.count ≤ k - one.count.low → None ≡ select (held_in w h) v a n k
         unselected-second l = sym (select-none (held_in w h) v a n k (omega (arith, count-both-parts parted t u, first-low ne)))
 
         module _ (l : k - one.count.low < worth two.count) where
@@ -187,15 +188,15 @@ module _ {w : List ℕ} {share : Share} {h : World} (st : Standing w share h) wh
 
           -- it is the range's k-th position
           pub selected-second : {x y : ℕ} → TellsChosen w h.root 0 v (k - one.count.low) x → y ≡ logical_of x h.offset
-              → some y ≡ select (held_in w h) v a n k
+              → Some y ≡ select (held_in w h) v a n k
           selected-second {x} {y} c q =
               let j : ℕ = k - one.count.low in
-              let f : select (physical_in st) v 0 (e + 1) j ≡ some x =
+              let f : select (physical_in st) v 0 (e + 1) j ≡ Some x =
               select-front (physical_in st) v 0 (e + 1) (size - 0) j x (omega (arith, first_below lies)) (omega (arith, (second-part u).count-is))
               (c share.tag st.tree (standing-index st)) in
               let d : Selected (physical_in st) v 0 (e + 1) j x = select-only (physical_in st) v 0 (e + 1) j x f in
               let i : k - count (physical_in st) v s (size - s) ≡ j = omega (arith, (first_part t).count-is, first-low ne) in
-              ap some (q ∙ sym (parted-move-second lies parted x (omega (arith, d.past))))
+              ap Some (q ∙ sym (parted-move-second lies parted x (omega (arith, d.past))))
               ∙ sym (ap (λ P. select P v a n k) (standing-held st)
               ∙ select-in-second lies parted (physical_in st) v k (omega (arith, (first_part t).count-is, first-low ne))
-              ∙ ap (λ m. map (move 0 (a + (size - s))) (select (physical_in st) v 0 (e + 1) m)) i ∙ ap (map (move 0 (a + (size - s)))) f)
+              ∙ ap (λ m. option_map (move 0 (a + (size - s))) (select (physical_in st) v 0 (e + 1) m)) i ∙ ap (option_map (move 0 (a + (size - s)))) f)

@@ -1,8 +1,7 @@
 -- The next and the previous logical position of a value, from the physical ones. Logical positions from a to b lie at one physical range,
 -- or at two; each of them is looked up where it lies, and the nearest one found is the one sought. Assumes nothing.
+use Rattle.std.specs.Prelude.{Option, None, Some}
 use Rattle.std.proofs.Common.{◌≡◌, ℕ, suc, ◌+◌, ◌-◌, ◌<◌, ◌≤◌, Bool, not, ◌⊎◌, List, sym, ◌∙◌, subst, inl, inr, arith}
-use Rattle.model.specs.declared.Edge.{Edge}
-use Rattle.model.specs.declared.Edge.TheVariants.{At, Nowhere}
 use Rattle.model.specs.Numbers.{size}
 use Rattle.model.proofs.Numbers.{split}
 use Rattle.model.specs.Positions.{Positions}
@@ -74,7 +73,7 @@ place-last lies z l u = omega arith
 
 module _ {o a n s e : ℕ} (lies : Lies o a n s e) (Q : Positions) (v : Bool) where
   -- the next one is in the first place
-  next-near : (p : ℕ) → Next Q v s (At p) → (s ≤ e → p ≤ e) → Next (turned o Q) v a (At (logical_of p o))
+  next-near : (p : ℕ) → Next Q v s (Some p) → (s ≤ e → p ≤ e) → Next (turned o Q) v a (Some (logical_of p o))
   next-near p m u =
       let q = near_first lies p m.0 m.1 u in (
         omega arith,
@@ -85,7 +84,7 @@ module _ {o a n s e : ℕ} (lies : Lies o a n s e) (Q : Positions) (v : Bool) wh
       )
 
   -- or in the second place, and there is none in the first
-  next-far : e < s → ((y : ℕ) → s ≤ y → y < size → Q y ≡ not v) → (p : ℕ) → Next Q v 0 (At p) → p ≤ e → Next (turned o Q) v a (At (logical_of p o))
+  next-far : e < s → ((y : ℕ) → s ≤ y → y < size → Q y ≡ not v) → (p : ℕ) → Next Q v 0 (Some p) → p ≤ e → Next (turned o Q) v a (Some (logical_of p o))
   next-far h f p m u =
       let x = parted-middle lies h in
       let q : logical_of p o ≡ o + p = omega (arith, parted-length lies h) in (
@@ -100,7 +99,7 @@ module _ {o a n s e : ℕ} (lies : Lies o a n s e) (Q : Positions) (v : Bool) wh
       go z l k (inr i) = m.3 (physical_of z o) (omega arith) (omega (arith, lies.small, m.1))
 
   -- the previous one is in the last place
-  previous-near : (p : ℕ) → Previous Q v e (At p) → (s ≤ e → s ≤ p) → Previous (turned o Q) v (a + n - 1) (At (logical_of p o))
+  previous-near : (p : ℕ) → Previous Q v e (Some p) → (s ≤ e → s ≤ p) → Previous (turned o Q) v (a + n - 1) (Some (logical_of p o))
   previous-near p m u =
       let q = near_last lies p m.0 u in (
         omega arith,
@@ -110,8 +109,8 @@ module _ {o a n s e : ℕ} (lies : Lies o a n s e) (Q : Positions) (v : Bool) wh
       )
 
   -- or in the first place, and there is none in the last
-  previous-far : e < s → ((y : ℕ) → y ≤ e → Q y ≡ not v) → (p : ℕ) → Previous Q v (size - 1) (At p) → s ≤ p
-      → Previous (turned o Q) v (a + n - 1) (At (logical_of p o))
+  previous-far : e < s → ((y : ℕ) → y ≤ e → Q y ≡ not v) → (p : ℕ) → Previous Q v (size - 1) (Some p) → s ≤ p
+      → Previous (turned o Q) v (a + n - 1) (Some (logical_of p o))
   previous-far h f p m u =
       let q = near_first lies p u (omega (arith, m.0)) (λ i. absurd (omega arith)) in (
         omega (arith, m.0, parted-middle lies h, parted-length lies h),
@@ -126,21 +125,21 @@ module _ {o a n s e : ℕ} (lies : Lies o a n s e) (Q : Positions) (v : Bool) wh
       go z l k (inr i) = f (physical_of z o) (omega (arith, parted-middle lies h, parted-length lies h))
 
 -- a search upwards found nothing up to e
-abbrev pub Past : ℕ → Edge → Type 0
-Past e n = (n ≡ Nowhere) ⊎ ((p : ℕ) × (n ≡ At p) × (e < p))
+abbrev pub Past : ℕ → Option ℕ → Type 0
+Past e n = (n ≡ None) ⊎ ((p : ℕ) × (n ≡ Some p) × (e < p))
 
 -- a search downwards found nothing down to s
-abbrev pub Short : ℕ → Edge → Type 0
-Short s n = (n ≡ Nowhere) ⊎ ((p : ℕ) × (n ≡ At p) × (p < s))
+abbrev pub Short : ℕ → Option ℕ → Type 0
+Short s n = (n ≡ None) ⊎ ((p : ℕ) × (n ≡ Some p) × (p < s))
 
 module _ (P : Positions) (v : Bool) where
   -- nothing of the value before what the search for it upwards finds
-  pub none-next : {x e : ℕ} (n : Edge) → Next P v x n → Past e n → (y : ℕ) → x ≤ y → y ≤ e → y < size → P y ≡ not v
+  pub none-next : {x e : ℕ} (n : Option ℕ) → Next P v x n → Past e n → (y : ℕ) → x ≤ y → y ≤ e → y < size → P y ≡ not v
   none-next {x} n m (inl q) y i j k = subst (Next P v x) q m y i k
   none-next {x} n m (inr u) y i j k = (subst (Next P v x) u.1 m).3 y i (omega (arith, u.2))
 
   -- nor behind what the search downwards finds
-  pub none-previous : {x s : ℕ} (n : Edge) → Previous P v x n → Short s n → (y : ℕ) → s ≤ y → y ≤ x → P y ≡ not v
+  pub none-previous : {x s : ℕ} (n : Option ℕ) → Previous P v x n → Short s n → (y : ℕ) → s ≤ y → y ≤ x → P y ≡ not v
   none-previous {x} n m (inl q) y i j = subst (Previous P v x) q m y j
   none-previous {x} n m (inr u) y i j = (subst (Previous P v x) u.1 m).2 y (omega (arith, u.2)) j
 
@@ -169,71 +168,71 @@ module _ {w : List ℕ} {share : Share} {h : World} (st : Standing w share h) wh
 
   -- ---- upwards
   -- what a search in the tree tells
-  told-next : (x : ℕ) (v : Bool) {n m : Edge} → TellsNext w h.root x v n → n ≡ m → Next (physical_in st) v x m
+  told-next : (x : ℕ) (v : Bool) {n m : Option ℕ} → TellsNext w h.root x v n → n ≡ m → Next (physical_in st) v x m
   told-next x v t q = subst (Next (physical_in st) v x) q (t share.tag st.tree (standing-index st))
 
   -- a next position, as the code has it
-  next-is : {x y z : ℕ} {v : Bool} → y ≡ z → Next (turned h.offset (physical_in st)) v x (At z) → Next (held_in w h) v x (At y)
+  next-is : {x y z : ℕ} {v : Bool} → y ≡ z → Next (turned h.offset (physical_in st)) v x (Some z) → Next (held_in w h) v x (Some y)
   next-is {x} {y} {z} {v} d m =
-      subst (λ P. Next P v x (At y)) (sym (standing-held st)) (subst (λ j. Next (turned h.offset (physical_in st)) v x (At j)) (sym d) m)
+      subst (λ P. Next P v x (Some y)) (sym (standing-held st)) (subst (λ j. Next (turned h.offset (physical_in st)) v x (Some j)) (sym d) m)
 
   module _ {x s e : ℕ} (v : Bool) (lies : Lies h.offset x (size - x) s e) where
     -- found from x's place on
-    pub next-first : {n : Edge} {p y : ℕ} → TellsNext w h.root s v n → n ≡ At p → (s ≤ e → p ≤ e) → y ≡ logical_of p h.offset
-        → Next (held_in w h) v x (At y)
+    pub next-first : {n : Option ℕ} {p y : ℕ} → TellsNext w h.root s v n → n ≡ Some p → (s ≤ e → p ≤ e) → y ≡ logical_of p h.offset
+        → Next (held_in w h) v x (Some y)
     next-first {n} {p} t q u d = next-is d (next-near lies (physical_in st) v p (told-next s v t q) u)
 
     -- not there, but found from 0 on
-    pub next-second : {n m : Edge} {p y : ℕ} → e < s → TellsNext w h.root s v n → n ≡ Nowhere → TellsNext w h.root 0 v m → m ≡ At p → p ≤ e
-        → y ≡ logical_of p h.offset → Next (held_in w h) v x (At y)
+    pub next-second : {n m : Option ℕ} {p y : ℕ} → e < s → TellsNext w h.root s v n → n ≡ None → TellsNext w h.root 0 v m → m ≡ Some p → p ≤ e
+        → y ≡ logical_of p h.offset → Next (held_in w h) v x (Some y)
     next-second {n} {m} {p} i t q t' q' u d =
         next-is d (next-far lies (physical_in st) v i (told-next s v t q) p (told-next 0 v t' q') u)
 
     -- not found, where the positions from x on lie at one range
-    pub next-nowhere : {n : Edge} → s ≤ e → TellsNext w h.root s v n → Past e n → Next (held_in w h) v x Nowhere
+    pub next-nowhere : {n : Option ℕ} → s ≤ e → TellsNext w h.root s v n → Past e n → Next (held_in w h) v x None
     next-nowhere {n} i t u z j k =
         nowhere-whole v lies i (λ y b c. none-next (physical_in st) v n (t share.tag st.tree (standing-index st)) u y b c (omega arith))
         z j (omega arith)
 
     -- not found, where they lie at two
-    pub next-nowhere-parted : {n m : Edge} → e < s → TellsNext w h.root s v n → n ≡ Nowhere → TellsNext w h.root 0 v m → Past e m
-        → Next (held_in w h) v x Nowhere
+    pub next-nowhere-parted : {n m : Option ℕ} → e < s → TellsNext w h.root s v n → n ≡ None → TellsNext w h.root 0 v m → Past e m
+        → Next (held_in w h) v x None
     next-nowhere-parted {n} {m} i t q t' u z j k =
         nowhere-parted v lies i (told-next s v t q)
         (λ y b. none-next (physical_in st) v m (t' share.tag st.tree (standing-index st)) u y (omega arith) b (omega arith)) z j (omega arith)
 
   -- ---- downwards
   -- what a search in the tree tells
-  told-previous : (x : ℕ) (v : Bool) {n m : Edge} → TellsPrevious w h.root x v n → n ≡ m → Previous (physical_in st) v x m
+  told-previous : (x : ℕ) (v : Bool) {n m : Option ℕ} → TellsPrevious w h.root x v n → n ≡ m → Previous (physical_in st) v x m
   told-previous x v t q = subst (Previous (physical_in st) v x) q (t share.tag st.tree (standing-index st))
 
   -- a previous position, as the code has it
-  previous-is : {x k y z : ℕ} {v : Bool} → k ≡ x → y ≡ z → Previous (turned h.offset (physical_in st)) v k (At z) → Previous (held_in w h) v x (At y)
+  previous-is : {x k y z : ℕ} {v : Bool} → k ≡ x → y ≡ z → Previous (turned h.offset (physical_in st)) v k (Some z) → Previous (held_in w h) v x (Some y)
   previous-is {x} {k} {y} {z} {v} c d m =
-      subst (λ P. Previous P v x (At y)) (sym (standing-held st))
-      (subst (λ j. Previous (turned h.offset (physical_in st)) v j (At y)) c
-      (subst (λ j. Previous (turned h.offset (physical_in st)) v k (At j)) (sym d) m))
+      subst (λ P. Previous P v x (Some y)) (sym (standing-held st))
+      (subst (λ j. Previous (turned h.offset (physical_in st)) v j (Some y)) c
+      (subst (λ j. Previous (turned h.offset (physical_in st)) v k (Some j)) (sym d) m))
 
   module _ {x s e : ℕ} (v : Bool) (lies : Lies h.offset 0 (suc x) s e) where
     -- found from x's place back
-    pub previous-first : {n : Edge} {p y : ℕ} → TellsPrevious w h.root e v n → n ≡ At p → (s ≤ e → s ≤ p) → y ≡ logical_of p h.offset
-        → Previous (held_in w h) v x (At y)
+    pub previous-first : {n : Option ℕ} {p y : ℕ} → TellsPrevious w h.root e v n → n ≡ Some p → (s ≤ e → s ≤ p) → y ≡ logical_of p h.offset
+        → Previous (held_in w h) v x (Some y)
     previous-first {n} {p} t q u d = previous-is (omega arith) d (previous-near lies (physical_in st) v p (told-previous e v t q) u)
 
     -- not there, but found from M back
-    pub previous-second : {n m : Edge} {p y : ℕ} → e < s → TellsPrevious w h.root e v n → n ≡ Nowhere → TellsPrevious w h.root (size - 1) v m
-        → m ≡ At p → s ≤ p → y ≡ logical_of p h.offset → Previous (held_in w h) v x (At y)
+    pub previous-second : {n m : Option ℕ} {p y : ℕ} → e < s → TellsPrevious w h.root e v n → n ≡ None → TellsPrevious w h.root (size - 1) v m
+        → m ≡ Some p → s ≤ p → y ≡ logical_of p h.offset → Previous (held_in w h) v x (Some y)
     previous-second {n} {m} {p} i t q t' q' u d =
         previous-is (omega arith) d (previous-far lies (physical_in st) v i (told-previous e v t q) p (told-previous (size - 1) v t' q') u)
 
     -- not found, where the positions up to x lie at one range
-    pub previous-nowhere : {n : Edge} → s ≤ e → TellsPrevious w h.root e v n → Short s n → Previous (held_in w h) v x Nowhere
+    pub previous-nowhere : {n : Option ℕ} → s ≤ e → TellsPrevious w h.root e v n → Short s n → Previous (held_in w h) v x None
     previous-nowhere {n} i t u z k =
         nowhere-whole v lies i (none-previous (physical_in st) v n (t share.tag st.tree (standing-index st)) u) z (omega arith) (omega arith)
 
     -- not found, where they lie at two
-    pub previous-nowhere-parted : {n m : Edge} → e < s → TellsPrevious w h.root e v n → n ≡ Nowhere → TellsPrevious w h.root (size - 1) v m
-        → Short s m → Previous (held_in w h) v x Nowhere
+    pub previous-nowhere-parted : {n m : Option ℕ} → e < s → TellsPrevious w h.root e v n → n ≡ None → TellsPrevious w h.root (size - 1) v m
+        → Short s m → Previous (held_in w h) v x None
     previous-nowhere-parted {n} {m} i t q t' u z k =
         nowhere-parted v lies i
         (λ y b c. none-previous (physical_in st) v m (t' share.tag st.tree (standing-index st)) u y b (omega arith)) (told-previous e v t q)

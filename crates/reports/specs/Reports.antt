@@ -1,14 +1,11 @@
 -- What the reports tell: of the tree at a root, and of a world. Assumes nothing: these are definitions.
+use Rattle.std.specs.Prelude.{Option, None, Some}
 use Rattle.std.specs.Prelude.{◌≡◌, ℕ, suc, ◌-◌, ◌<◌, ◌≤◌, Bool, not, List}
-use Rattle.std.proofs.Math.Option.{Option, none, some}
 use Rattle.model.specs.declared.Run.{Run}
-use Rattle.model.specs.declared.Edge.{Edge}
-use Rattle.model.specs.declared.Edge.TheVariants.{At, Nowhere}
 use Rattle.model.specs.declared.Tally.{Tally}
 use Rattle.model.specs.Numbers.{size, worth}
 use Rattle.model.specs.Positions.{Positions, count, select, run_count, mem}
 use Rattle.model.specs.RunList.{first_from}
-use Rattle.model.specs.Answers.{edge_position}
 use Rattle.run_index.specs.Tree.{Tree, inorder}
 use Rattle.run_index.specs.Search.{Index}
 
@@ -25,35 +22,35 @@ abbrev pub Choosable : List ℕ → ℕ → ℕ → Bool → ℕ → Type 0
 Choosable w p s v k = (g : ℕ) × (t : Tree) × Index w p g t × (k < count (mem (inorder t)) v s (size - s))
 
 abbrev pub TellsChosen : List ℕ → ℕ → ℕ → Bool → ℕ → ℕ → Type 0
-TellsChosen w p s v k x = (g : ℕ) (t : Tree) → Index w p g t → select (mem (inorder t)) v s (size - s) k ≡ some x
+TellsChosen w p s v k x = (g : ℕ) (t : Tree) → Index w p g t → select (mem (inorder t)) v s (size - s) k ≡ Some x
 
 -- the least position of a value at or after x, if there is one
-abbrev pub Next : Positions → Bool → ℕ → Edge → Type 0
-Next P v x (At y) = (x ≤ y) × (y < size) × (P y ≡ v) × ((z : ℕ) → x ≤ z → z < y → P z ≡ not v)
-Next P v x Nowhere = (z : ℕ) → x ≤ z → z < size → P z ≡ not v
+abbrev pub Next : Positions → Bool → ℕ → Option ℕ → Type 0
+Next P v x (Some y) = (x ≤ y) × (y < size) × (P y ≡ v) × ((z : ℕ) → x ≤ z → z < y → P z ≡ not v)
+Next P v x None = (z : ℕ) → x ≤ z → z < size → P z ≡ not v
 
 -- the greatest position of a value at or before x, if there is one
-abbrev pub Previous : Positions → Bool → ℕ → Edge → Type 0
-Previous P v x (At y) = (y ≤ x) × (P y ≡ v) × ((z : ℕ) → y < z → z ≤ x → P z ≡ not v)
-Previous P v x Nowhere = (z : ℕ) → z ≤ x → P z ≡ not v
+abbrev pub Previous : Positions → Bool → ℕ → Option ℕ → Type 0
+Previous P v x (Some y) = (y ≤ x) × (P y ≡ v) × ((z : ℕ) → y < z → z ≤ x → P z ≡ not v)
+Previous P v x None = (z : ℕ) → z ≤ x → P z ≡ not v
 
-abbrev pub TellsNext : List ℕ → ℕ → ℕ → Bool → Edge → Type 0
+abbrev pub TellsNext : List ℕ → ℕ → ℕ → Bool → Option ℕ → Type 0
 TellsNext w p x v r = (g : ℕ) (t : Tree) → Index w p g t → Next (mem (inorder t)) v x r
 
-abbrev pub TellsPrevious : List ℕ → ℕ → ℕ → Bool → Edge → Type 0
+abbrev pub TellsPrevious : List ℕ → ℕ → ℕ → Bool → Option ℕ → Type 0
 TellsPrevious w p x v r = (g : ℕ) (t : Tree) → Index w p g t → Previous (mem (inorder t)) v x r
 
 -- the start of the first run at or after x
-abbrev pub start_of : Option Run → Edge
-start_of none = Nowhere
-start_of (some r) = At r.start
+abbrev pub start_of : Option Run → Option ℕ
+start_of None = None
+start_of (Some r) = Some r.start
 
-abbrev pub TellsStart : List ℕ → ℕ → ℕ → Edge → Type 0
+abbrev pub TellsStart : List ℕ → ℕ → ℕ → Option ℕ → Type 0
 TellsStart w p x r = (g : ℕ) (t : Tree) → Index w p g t → r ≡ start_of (first_from x (inorder t))
 
 -- the k-th of the n positions from a that have the value v
-abbrev pub Selects : Positions → Bool → ℕ → ℕ → ℕ → Edge → Type 0
-Selects P v a n k r = edge_position r ≡ select P v a n k
+abbrev pub Selects : Positions → Bool → ℕ → ℕ → ℕ → Option ℕ → Type 0
+Selects P v a n k r = r ≡ select P v a n k
 
 -- the ends of the stretch of the value v around x
 pub record LowEnd (P : Positions) (v : Bool) (x r : ℕ) : Type 0 where

@@ -5,7 +5,7 @@ ghost use Rattle.store.specs.Layout.{held_in};
 ghost use Rattle.store.specs.Soundness.{Stands};
 ghost use Rattle.reports.specs.Reports.{Measured, Next, Previous, Selects};
 
-use model::{Edge, Logical, Tally};
+use model::{Logical, Tally};
 use store::World;
 use store::places::Physical;
 
@@ -49,7 +49,7 @@ pub fn tally(words: &[u64], h: World, a: Logical, b: Logical, value: bool) -> Ta
 }
 
 // The position from a to b that has the value and exactly k such positions before it there.
-pub fn select(words: &[u64], h: World, a: Logical, b: Logical, value: bool, k: u64) -> Edge
+pub fn select(words: &[u64], h: World, a: Logical, b: Logical, value: bool, k: u64) -> Option<u64>
     requires stands { Stands words.now h }
     requires a_le_b { a.0 ≤ b.0 }
     ensures { Selects (held_in words.now h) value a.0 (suc b.0 - a.0) k result }
@@ -61,30 +61,30 @@ pub fn select(words: &[u64], h: World, a: Logical, b: Logical, value: bool, k: u
     if from <= to {
         let n = crate::physical::tally_physical(words, h.root, s, e, value);
         if n.count.carry == 0 && n.count.low <= k {
-            return Edge::Nowhere;
+            return None;
         }
         let x = crate::physical::select_physical(words, h.root, s, value, k);
         let y = store::places::to_logical(x, h.offset);
-        return Edge::At(y.0);
+        return Some(y.0);
     }
     let n = crate::physical::tally_physical(words, h.root, s, Physical(u64::MAX), value);
     let before = n.count.low;
     if n.count.carry == 1 || k < before {
         let x = crate::physical::select_physical(words, h.root, s, value, k);
         let y = store::places::to_logical(x, h.offset);
-        return Edge::At(y.0);
+        return Some(y.0);
     }
     let m = crate::physical::tally_physical(words, h.root, Physical(0), e, value);
     if m.count.carry == 0 && m.count.low <= k - before {
-        return Edge::Nowhere;
+        return None;
     }
     let x = crate::physical::select_physical(words, h.root, Physical(0), value, k - before);
     let y = store::places::to_logical(x, h.offset);
-    Edge::At(y.0)
+    Some(y.0)
 }
 
 // The least position of the value at or after x. From x to M the world lies from x's place to M's, or from x's place on and from 0 to M's.
-pub fn next(words: &[u64], h: World, x: Logical, value: bool) -> Edge
+pub fn next(words: &[u64], h: World, x: Logical, value: bool) -> Option<u64>
     requires { Stands words.now h }
     ensures { Next (held_in words.now h) value x.0 result }
 {
@@ -94,34 +94,34 @@ pub fn next(words: &[u64], h: World, x: Logical, value: bool) -> Edge
     let to = top.0;
     let n = crate::physical::next_physical(words, h.root, s, value);
     match n {
-        Edge::At(p) => {
+        Some(p) => {
             if from <= to && to < p {
-                return Edge::Nowhere;
+                return None;
             }
             let y = store::places::to_logical(Physical(p), h.offset);
-            Edge::At(y.0)
+            Some(y.0)
         }
-        Edge::Nowhere => {
+        None => {
             if from <= to {
-                return Edge::Nowhere;
+                return None;
             }
             let m = crate::physical::next_physical(words, h.root, Physical(0), value);
             match m {
-                Edge::At(p) => {
+                Some(p) => {
                     if to < p {
-                        return Edge::Nowhere;
+                        return None;
                     }
                     let y = store::places::to_logical(Physical(p), h.offset);
-                    Edge::At(y.0)
+                    Some(y.0)
                 }
-                Edge::Nowhere => Edge::Nowhere,
+                None => None,
             }
         }
     }
 }
 
 // The greatest position of the value at or before x.
-pub fn previous(words: &[u64], h: World, x: Logical, value: bool) -> Edge
+pub fn previous(words: &[u64], h: World, x: Logical, value: bool) -> Option<u64>
     requires { Stands words.now h }
     ensures { Previous (held_in words.now h) value x.0 result }
 {
@@ -131,27 +131,27 @@ pub fn previous(words: &[u64], h: World, x: Logical, value: bool) -> Edge
     let to = zero.0;
     let n = crate::physical::previous_physical(words, h.root, s, value);
     match n {
-        Edge::At(p) => {
+        Some(p) => {
             if to <= from && p < to {
-                return Edge::Nowhere;
+                return None;
             }
             let y = store::places::to_logical(Physical(p), h.offset);
-            Edge::At(y.0)
+            Some(y.0)
         }
-        Edge::Nowhere => {
+        None => {
             if to <= from {
-                return Edge::Nowhere;
+                return None;
             }
             let m = crate::physical::previous_physical(words, h.root, Physical(u64::MAX), value);
             match m {
-                Edge::At(p) => {
+                Some(p) => {
                     if p < to {
-                        return Edge::Nowhere;
+                        return None;
                     }
                     let y = store::places::to_logical(Physical(p), h.offset);
-                    Edge::At(y.0)
+                    Some(y.0)
                 }
-                Edge::Nowhere => Edge::Nowhere,
+                None => None,
             }
         }
     }

@@ -4,8 +4,7 @@ ghost use Rattle.model.specs.Numbers.{worth};
 ghost use Rattle.run_index.specs.Search.{Indexed};
 ghost use Rattle.reports.specs.Reports.{TellsTally, Choosable, TellsChosen, TellsNext, TellsPrevious, TellsStart};
 
-use model::{Count, Edge, Tally};
-use run_index::search::Near;
+use model::{Count, Tally};
 use store::places::Physical;
 
 // One more than x.
@@ -100,80 +99,80 @@ pub fn select_physical(words: &[u64], root: u64, s: Physical, value: bool, k: u6
 }
 
 // The least position of the value at or after x.
-pub fn next_physical(words: &[u64], root: u64, x: Physical, value: bool) -> Edge
+pub fn next_physical(words: &[u64], root: u64, x: Physical, value: bool) -> Option<u64>
     requires { Indexed words.now root }
     ensures { TellsNext words.now root x.0 value result }
 {
     let from = x.0;
     let n = run_index::search::at_or_before(words, root, from);
     match n {
-        Near::Run(r) => {
+        Some(r) => {
             let end = r.end;
             if from <= end {
                 if value {
-                    return Edge::At(from);
+                    return Some(from);
                 }
                 if end == u64::MAX {
-                    return Edge::Nowhere;
+                    return None;
                 }
-                return Edge::At(end + 1);
+                return Some(end + 1);
             }
             if value {
                 return next_start(words, root, from);
             }
-            Edge::At(from)
+            Some(from)
         }
-        Near::None => {
+        None => {
             if value {
                 return next_start(words, root, from);
             }
-            Edge::At(from)
+            Some(from)
         }
     }
 }
 
 // The least start of a run at or after x.
-fn next_start(words: &[u64], root: u64, x: u64) -> Edge
+fn next_start(words: &[u64], root: u64, x: u64) -> Option<u64>
     requires { Indexed words.now root }
     ensures { TellsStart words.now root x result }
 {
     let n = run_index::search::at_or_after(words, root, x);
     match n {
-        Near::Run(r) => Edge::At(r.start),
-        Near::None => Edge::Nowhere,
+        Some(r) => Some(r.start),
+        None => None,
     }
 }
 
 // The greatest position of the value at or before x.
-pub fn previous_physical(words: &[u64], root: u64, x: Physical, value: bool) -> Edge
+pub fn previous_physical(words: &[u64], root: u64, x: Physical, value: bool) -> Option<u64>
     requires { Indexed words.now root }
     ensures { TellsPrevious words.now root x.0 value result }
 {
     let from = x.0;
     let n = run_index::search::at_or_before(words, root, from);
     match n {
-        Near::Run(r) => {
+        Some(r) => {
             let start = r.start;
             let end = r.end;
             if from <= end {
                 if value {
-                    return Edge::At(from);
+                    return Some(from);
                 }
                 if start == 0 {
-                    return Edge::Nowhere;
+                    return None;
                 }
-                return Edge::At(start - 1);
+                return Some(start - 1);
             }
             if value {
-                return Edge::At(end);
+                return Some(end);
             }
-            Edge::At(from)
+            Some(from)
         }
-        Near::None => {
+        None => {
             if value {
-                return Edge::Nowhere;
+                return None;
             }
-            Edge::At(from)
+            Some(from)
         }
     }
 }

@@ -1,107 +1,98 @@
 // Runs of a world's positions, from the next and the previous position of a value.
 ghost use Rattle.std.specs.Prelude.{◌≡◌, suc, ◌-◌, ◌≤◌};
 ghost use Rattle.model.specs.Positions.{first_run, last_run, runs_in, run_at, find};
-ghost use Rattle.model.specs.Answers.{edge_position};
-ghost use Rattle.run_index.specs.Search.{near_run};
 ghost use Rattle.store.specs.Layout.{held_in};
 ghost use Rattle.store.specs.Soundness.{Stands};
 ghost use Rattle.reports.specs.Reports.{LowEnd, HighEnd};
 
-use model::{Edge, Logical, Run};
-use run_index::search::Near;
+use model::{Logical, Run};
 use store::World;
 
 // The least position of the value from a to b.
-pub fn find_in(words: &[u64], h: World, a: Logical, b: Logical, value: bool) -> Edge
+pub fn find_in(words: &[u64], h: World, a: Logical, b: Logical, value: bool) -> Option<u64>
     requires stands { Stands words.now h }
     requires a_le_b { a.0 ≤ b.0 }
-    ensures { edge_position result ≡ find (held_in words.now h) value a.0 (suc b.0 - a.0) }
+    ensures { result ≡ find (held_in words.now h) value a.0 (suc b.0 - a.0) }
 {
     let last = b.0;
     let n = crate::logical::next(words, h, a, value);
     match n {
-        Edge::At(x) => {
-            if x <= last {
-                Edge::At(x)
-            } else {
-                Edge::Nowhere
-            }
-        }
-        Edge::Nowhere => Edge::Nowhere,
+        Some(x) => { if x <= last { Some(x) } else { None } }
+        None => None,
     }
 }
 
 // The first run of the value from a to b, clipped.
-pub fn first_run(words: &[u64], h: World, a: Logical, b: Logical, value: bool) -> Near
+pub fn first_run(words: &[u64], h: World, a: Logical, b: Logical, value: bool) -> Option<Run>
     requires stands { Stands words.now h }
     requires a_le_b { a.0 ≤ b.0 }
-    ensures { near_run result ≡ first_run (runs_in (held_in words.now h) value a.0 (suc b.0 - a.0)) }
+    ensures { result ≡ first_run (runs_in (held_in words.now h) value a.0 (suc b.0 - a.0)) }
 {
     let last = b.0;
     let n = crate::logical::next(words, h, a, value);
     match n {
-        Edge::At(x) => {
+        Some(x) => {
             if last < x {
-                return Near::None;
+                return None;
             }
             let m = crate::logical::next(words, h, Logical(x), !value);
             match m {
-                Edge::At(y) => {
+                Some(y) => {
                     if last < y {
-                        return Near::Run(Run {
+                        return Some(Run {
                             start: x,
                             end: last,
                         });
                     }
-                    Near::Run(Run {
+                    Some(Run {
                         start: x,
                         end: y - 1,
                     })
                 }
-                Edge::Nowhere => Near::Run(Run {
+                None => Some(Run {
                     start: x,
                     end: last,
                 }),
             }
         }
-        Edge::Nowhere => Near::None,
+        None => None,
     }
 }
 
 // The last run of the value from a to b, clipped.
-pub fn last_run(words: &[u64], h: World, a: Logical, b: Logical, value: bool) -> Near
+pub fn last_run(words: &[u64], h: World, a: Logical, b: Logical, value: bool) -> Option<Run>
     requires stands { Stands words.now h }
     requires a_le_b { a.0 ≤ b.0 }
-    ensures { near_run result ≡ last_run (runs_in (held_in words.now h) value a.0 (suc b.0 - a.0)) }
+    ensures { result ≡ last_run (runs_in (held_in words.now h) value a.0 (suc b.0 - a.0)) }
 {
     let first = a.0;
     let n = crate::logical::previous(words, h, b, value);
     match n {
-        Edge::At(x) => {
+        Some(x) => {
             if x < first {
-                return Near::None;
+                return None;
             }
             let m = crate::logical::previous(words, h, Logical(x), !value);
             match m {
-                Edge::At(y) => {
+                Some(y) => {
                     if y < first {
-                        return Near::Run(Run {
+                        return Some(Run {
                             start: first,
                             end: x,
                         });
                     }
-                    Near::Run(Run {
+                    Some(Run {
                         start: y + 1,
                         end: x,
                     })
                 }
-                Edge::Nowhere => Near::Run(Run {
+                None => Some(Run {
                     start: first,
                     end: x,
                 }),
             }
         }
-        Edge::Nowhere => Near::None,
+        None => None,
     }
 }
 
@@ -113,8 +104,8 @@ fn low_end(words: &[u64], h: World, x: Logical, value: bool) -> u64
 {
     let n = crate::logical::previous(words, h, x, !value);
     match n {
-        Edge::At(y) => y + 1,
-        Edge::Nowhere => 0,
+        Some(y) => y + 1,
+        None => 0,
     }
 }
 
@@ -126,8 +117,8 @@ fn high_end(words: &[u64], h: World, x: Logical, value: bool) -> u64
 {
     let n = crate::logical::next(words, h, x, !value);
     match n {
-        Edge::At(y) => y - 1,
-        Edge::Nowhere => u64::MAX,
+        Some(y) => y - 1,
+        None => u64::MAX,
     }
 }
 

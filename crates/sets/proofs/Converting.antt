@@ -1,6 +1,6 @@
 -- Converting a written set, by the tests that come before it: it is handled as the model says. Assumes nothing.
+use Rattle.std.specs.Prelude.{Some}
 use Rattle.std.proofs.Common.{◌≡◌, ℕ, ◌<◌, ◌≤◌, List, [], ◌∷◌, length, drop, sym, ap, ◌∙◌, ap₂, lt-ltb}
-use mathlib.Core.Option.{some}
 use Rattle.model.specs.declared.Edition.{Edition}
 use Rattle.model.specs.declared.Refusal.{Refusal}
 use Rattle.model.specs.Numbers.{refusal_number}
@@ -12,8 +12,7 @@ use Rattle.model.specs.Converting.{other_edition, converted, convert}
 use Rattle.model.proofs.Codec.{Intact}
 use Rattle.model.proofs.RoundTrips.{unrefused-intact}
 use Rattle.model.proofs.Converting.{converted-length, convert-done}
-use Rattle.written.specs.declared.set.Parsed.{Parsed}
-use Rattle.written.specs.Parsed.{Acceptable, TellsRuns}
+use Rattle.written.specs.Parsed.{Acceptable}
 use Rattle.written.proofs.Telling.{accepted-runs}
 use Rattle.promises.specs.Handles.{Handles}
 use Rattle.promises.proofs.Refusing.{refused-earlier, refused-short}
@@ -25,13 +24,13 @@ module _ (bs out : List ℕ) where
   handles e = let f = sym e in record { answered = ap (λ (o : Handled). o.answer) f; left = ap (λ (o : Handled). o.slice) f }
 
   -- refused with n, it leaves the slice
-  convert-refused : {n : ℕ} → refusal (output_short when no_room out (converted bs) ∷ set_conditions bs) ≡ some n → Handles (convert bs out) (refused n) out
+  convert-refused : {n : ℕ} → refusal (output_short when no_room out (converted bs) ∷ set_conditions bs) ≡ Some n → Handles (convert bs out) (refused n) out
   unfolding convert
   convert-refused e = handles (ap (λ r. handle r out (written (length (converted bs)) (into_front (converted bs) out)) (into_front (converted bs) out)) e)
 
   -- by what the bytes earn
-  pub convert-turned : {r : Refusal} (t : Parsed) → TellsRuns bs t → t ≡ Parsed.Refused r → Handles (convert bs out) (refused (refusal_number r)) out
-  convert-turned t k e = convert-refused (refused-earlier (set_conditions bs) (no_room out (converted bs)) (told-refused bs t k e))
+  pub convert-turned : (r : Refusal) → refusal (set_conditions bs) ≡ Some (refusal_number r) → Handles (convert bs out) (refused (refusal_number r)) out
+  convert-turned r k = convert-refused (refused-earlier (set_conditions bs) (no_room out (converted bs)) (told-refused bs r k))
 
   module _ {e : Edition} {n : ℕ} (a : Acceptable bs e n) where
     -- the set is intact

@@ -1,7 +1,7 @@
 -- The list for the deepest tree: what the call answers, by its four tests in their order. Assumes nothing.
+use Rattle.std.specs.Prelude.{Ok, Err}
 use Rattle.std.proofs.Common.{◌≡◌, ℕ, ◌*◌, ◌<◌, ◌≤◌, Bool, true, false, eqb, ltb, List, [], ◌∷◌, length, sym, refl, ap, ◌∙◌, ap₂, arith, le-ltb, lt-ltb, eq-eqb, ne_eqb}
 use Rattle.model.specs.declared.Refusal.TheVariants.{StoreLength, TreeHeight, Capacity, OutputShort}
-use Rattle.model.specs.declared.Written.{Written}
 use Rattle.model.specs.Bytes.{into_front}
 use Rattle.model.specs.Deepest.{least, deepest_words}
 use Rattle.model.specs.Refusals
@@ -45,7 +45,7 @@ module _ (w : List ℕ) (h : ℕ) (out : List ℕ) where
   by_tests s b c r = λ i. settle_measured (refusal (tests (s i) (b i) (c i) (r i))) (worlds_of w) due
 
   -- 1: words of no pool's length
-  pub deepest-no-pool : capacity w ≡ 0 → WritesMeasured w (deepest h) out (Written.Refused StoreLength) out
+  pub deepest-no-pool : capacity w ≡ 0 → WritesMeasured w (deepest h) out (Err StoreLength) out
   deepest-no-pool e = record {
     measured = record { answered = sym (ap (λ o. o.answer) (by_tests (eq-eqb (capacity w) 0 e) refl refl refl)); left = refl };
     unwritten = refl;
@@ -57,7 +57,7 @@ module _ (w : List ℕ) (h : ℕ) (out : List ℕ) where
     pool = ne_eqb (capacity w) 0 (λ z. omega arith)
 
     -- 13: no such height
-    pub deepest-no-height : bad_height h ≡ true → WritesMeasured w (deepest h) out (Written.Refused TreeHeight) out
+    pub deepest-no-height : bad_height h ≡ true → WritesMeasured w (deepest h) out (Err TreeHeight) out
     deepest-no-height e = record {
       measured = record { answered = sym (ap (λ o. o.answer) (by_tests pool e refl refl)); left = refl };
       unwritten = refl;
@@ -65,7 +65,7 @@ module _ (w : List ℕ) (h : ℕ) (out : List ℕ) where
 
     module _ (good : bad_height h ≡ false) where
       -- 8: the list has more runs than the pool may have
-      pub deepest-over : capacity w < least h → WritesMeasured w (deepest h) out (Written.Refused Capacity) out
+      pub deepest-over : capacity w < least h → WritesMeasured w (deepest h) out (Err Capacity) out
       deepest-over l = record {
         measured = record { answered = sym (ap (λ o. o.answer) (by_tests pool good (lt-ltb (capacity w) (least h) l) refl)); left = refl };
         unwritten = refl;
@@ -73,7 +73,7 @@ module _ (w : List ℕ) (h : ℕ) (out : List ℕ) where
 
       module _ (fits : least h ≤ capacity w) where
         -- 2: the slice is too short
-        pub deepest-short : length out < 2 * least h → WritesMeasured w (deepest h) out (Written.Refused OutputShort) out
+        pub deepest-short : length out < 2 * least h → WritesMeasured w (deepest h) out (Err OutputShort) out
         deepest-short l =
             let short : length out < length (deepest_words h) = rw (deepest-words h) l in record {
               measured = record {
@@ -84,7 +84,7 @@ module _ (w : List ℕ) (h : ℕ) (out : List ℕ) where
             }
 
         -- and else the list is in front
-        pub deepest-done : {out' : List ℕ} (n : ℕ) → n ≡ least h → 2 * least h ≤ length out → out' ≡ into_front (deepest_words h) out → WritesMeasured w (deepest h) out (Written.Front (2 * n)) out'
+        pub deepest-done : {out' : List ℕ} (n : ℕ) → n ≡ least h → 2 * least h ≤ length out → out' ≡ into_front (deepest_words h) out → WritesMeasured w (deepest h) out (Ok (2 * n)) out'
         deepest-done n is l e =
             let room : length (deepest_words h) ≤ length out = list-fits h out l in record {
               measured = record {

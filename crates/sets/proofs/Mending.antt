@@ -1,15 +1,14 @@
 -- Mending a written set. A set that is in order is its own outcome, with every run kept; any other is united. Refusals come in their order: the
 -- set's shape, too many runs of the outcome, want of room in either slice. The outcome that was written is read again into the world.
 -- Assumes nothing.
+use Rattle.std.specs.Prelude.{Option, None, Some, Ok, Err}
 use Rattle.std.proofs.Common.{◌≡◌, ℕ, ◌+◌, ◌*◌, ◌<◌, ◌≤◌, Bool, true, false, cond, not, ◌||◌, List, [], ◌∷◌, length, get_or, take, drop, replicate, sym, refl, ap}
 use Rattle.std.proofs.Common.{◌∙◌, subst, ap₂, arith, length-append, length-drop, w8, Fits, le-ltb, lt-ltb}
-use mathlib.Core.Option.{Option, none, some}
 use Rattle.model.specs.declared.Edition.{Edition}
-use Rattle.model.specs.declared.Mended.{Mended}
 use Rattle.model.specs.declared.Run.{Run}
 use Rattle.model.specs.declared.Refusal.{Refusal}
 use Rattle.model.specs.declared.Refusal.TheVariants.{Capacity, OutputShort}
-use Rattle.model.specs.Numbers.{size}
+use Rattle.model.specs.Numbers.{size, refusal_number}
 use Rattle.model.specs.Positions.{Positions, held_runs, stretches, mem}
 use Rattle.model.specs.Bytes.{encode, edition_of, runs_told, decode, into_front}
 use Rattle.model.specs.RunList.{AllBytes}
@@ -24,7 +23,6 @@ use Rattle.model.proofs.Slices.{all-bytes}
 use Rattle.store.specs.Layout.{allowance}
 use Rattle.store.specs.Settle.{Settled, Openable}
 use Rattle.store.proofs.Worlds.{allowance-is, sound-length}
-use Rattle.written.specs.declared.set.Parsed.{Parsed}
 use Rattle.written.specs.Parsed.{Shaped, TellsShape, Acceptable}
 use Rattle.written.proofs.Telling.{shaped-runs, told-runs, accepted-stretches}
 use Rattle.lowest.specs.Mended.{Due, United}
@@ -62,14 +60,10 @@ module _ (bs : List ℕ) {e : Edition} {n : ℕ} {right : Bool} (m : Mendable bs
   in_order : right ≡ true → Acceptable bs e n
   in_order r = told-runs bs m.shaped (m.tested ∙ ap (ordered_from 0) (sym (shaped-runs bs m.shaped))) (ap not r)
 
-  module _ (r : right ≡ true) (fits : (i : ℕ) → Fits w8 (get_or bs i 0)) where
-    -- they are bytes
-    all : AllBytes bs
-    all = all-bytes bs fits
-
+  module _ (r : right ≡ true) where
     -- the outcome has their runs
     pub right-runs : n ≡ stretches (mended_positions bs)
-    right-runs = accepted-stretches bs (in_order r) all
+    right-runs = accepted-stretches bs (in_order r) m.bytes
 
     -- for which a slice has room that has room for them
     pub right-room : {k : ℕ} {out report : List ℕ} → Due (decode bs) k out report → (length bs ≤ length out) × (n ≤ length report)
@@ -81,13 +75,13 @@ module _ (bs : List ℕ) {e : Edition} {n : ℕ} {right : Bool} (m : Mendable bs
     unfolding mended_set
     right-set =
         let a = in_order r in
-        sym (ap (encode (edition_of bs)) (ordered-held (decode bs) (decode-words bs all) a.ordered) ∙ intact-encode bs all (unrefused-intact [] bs a.free))
+        sym (ap (encode (edition_of bs)) (ordered-held (decode bs) (decode-words bs m.bytes) a.ordered) ∙ intact-encode bs m.bytes (unrefused-intact [] bs a.free))
 
     -- and every run is kept
     right-report : replicate n 2 ≡ mend_report bs
     unfolding mend_report
     right-report =
-        sym (ordered-fates (decode bs) (decode-words bs all) (in_order r).ordered ∙ ap (λ k. replicate k 2) (decode-length bs ∙ sym m.shaped.due))
+        sym (ordered-fates (decode bs) (decode-words bs m.bytes) (in_order r).ordered ∙ ap (λ k. replicate k 2) (decode-length bs ∙ sym m.shaped.due))
 
     -- a copy of them, and of so many 2s, is what is due
     pub copied : (out report : List ℕ) {out' report' : List ℕ} → (out' ≡ into_front bs out) × (report' ≡ into_front (replicate n 2) report)
@@ -103,7 +97,7 @@ module _ (bs : List ℕ) {e : Edition} {n : ℕ} {right : Bool} (m : Mendable bs
   due-told {k} {out} {report} d = subst (λ rs. Due rs k out report) (sym (shaped-runs bs m.shaped)) d
 
   -- and what is written is what is due
-  pub united : (out report : List ℕ) {out' report' : List ℕ} → United e (runs_told e n (drop 5 bs)) true out report out' report'
+  pub united : (out report : List ℕ) {out' report' : List ℕ} → United e (runs_told e n (drop 5 bs)) out report out' report'
       → (out' ≡ into_front (mended_set bs) out) × (report' ≡ into_front (mend_report bs) report)
   unfolding mended_set mend_report
   united out report p =
@@ -160,8 +154,12 @@ module _ {rs : List Run} (P : Positions) (same : rs ≡ held_runs P) where
   held-alike x h = ap (λ l. mem l x) same ∙ mem-held_runs P x h
 
   -- and are as many as their set has
-  pub held-many : {k : ℕ} → k ≡ stretches P → Many k rs
-  held-many e = record { are = e ∙ sym (stretches-cong (mem rs) P held-alike) }
+  pub held-length : length rs ≡ stretches P
+  unfolding stretches
+  held-length = ap length same
+
+  pub held-many : Many (length rs) rs
+  held-many = record { are = held-length ∙ sym (stretches-cong (mem rs) P held-alike) }
 
 -- ---- the call
 -- its conditions beside those of the world, by whether the slices lack room
@@ -178,15 +176,15 @@ module _ (w : List ℕ) (i : ℕ) (bs out report : List ℕ) where
 
 module _ {w : List ℕ} {i : ℕ} (bs out report : List ℕ) (R : Readable w i) where
   -- a shape that is not that of a set
-  pub mend-turned : {r : Refusal} (t : Parsed) → TellsShape bs t → t ≡ Parsed.Refused r → Mends w i bs out report (Mended.Refused r) w out report
-  mend-turned t k e = record {
-    met = refused-first (mend-says w i bs out report) R (sym (first_alone before_capacity from_capacity (shape_conditions bs) refl) ∙ subst (λ s. TellsShape bs s) e k);
+  pub mend-turned : (r : Refusal) → refusal (shape_conditions bs) ≡ Some (refusal_number r) → Mends w i bs out report (Err r) w out report
+  mend-turned r k = record {
+    met = refused-first (mend-says w i bs out report) R (sym (first_alone before_capacity from_capacity (shape_conditions bs) refl) ∙ k);
     unmended = (refl, refl);
   }
 
   module _ {e : Edition} {n k : ℕ} (sh : Shaped bs e n) (counted : k ≡ stretches (mended_positions bs)) where
     -- more runs than the world may have
-    pub mend-full : {w' out' report' : List ℕ} → allowance w i < k → w' ≡ w → out' ≡ out → report' ≡ report → Mends w i bs out report (Mended.Refused Capacity) w' out' report'
+    pub mend-full : {w' out' report' : List ℕ} → allowance w i < k → w' ≡ w → out' ≡ out → report' ≡ report → Mends w i bs out report (Err Capacity) w' out' report'
     mend-full h p q r = record {
       met = full-before (mend-says w i bs out report) R (none_before (shape_conditions bs) sh.free) (subst (λ j. allowance w i < j) counted h, p);
       unmended = (q, r);
@@ -195,16 +193,16 @@ module _ {w : List ℕ} {i : ℕ} (bs out report : List ℕ) (R : Readable w i) 
     module _ (few : k ≤ allowance w i) {due : ℕ} (long : due ≡ 5 + 16 * k) where
       -- what is refused by the room of the slices
       by-room : (a b : Bool) → no_room out (mended_set bs) ≡ a → no_room report (mend_report bs) ≡ b
-          → refusal (conditions bs (no_room out (mended_set bs)) (no_room report (mend_report bs))) ≡ cond {A = Option ℕ} (a || b) (some 2) none
+          → refusal (conditions bs (no_room out (mended_set bs)) (no_room report (mend_report bs))) ≡ cond {A = Option ℕ} (a || b) (Some 2) None
       by-room a b p q = ap₂ (λ x y. refusal (conditions bs x y)) p q ∙ refused-room bs a b sh.free
 
       -- so one that is too short is
-      short : {out' report' : List ℕ} → refusal (conditions bs (no_room out (mended_set bs)) (no_room report (mend_report bs))) ≡ some 2 → out' ≡ out → report' ≡ report
-          → Mends w i bs out report (Mended.Refused OutputShort) w out' report'
+      short : {out' report' : List ℕ} → refusal (conditions bs (no_room out (mended_set bs)) (no_room report (mend_report bs))) ≡ Some 2 → out' ≡ out → report' ≡ report
+          → Mends w i bs out report (Err OutputShort) w out' report'
       short e p q = record { met = refused-after (mend-says w i bs out report) R (subst (λ j. j ≤ allowance w i) counted few) e; unmended = (p, q) }
 
       -- a slice that is too short for the set
-      pub mend-short : {out' report' : List ℕ} → length out' < due → out' ≡ out → report' ≡ report → Mends w i bs out report (Mended.Refused OutputShort) w out' report'
+      pub mend-short : {out' report' : List ℕ} → length out' < due → out' ≡ out → report' ≡ report → Mends w i bs out report (Err OutputShort) w out' report'
       unfolding no_room
       mend-short h p q =
           short (by-room true _ (lt-ltb (length out) (length (mended_set bs)) (omega (arith, h, ap length p, due-many bs sh counted long))) refl) p q
@@ -216,7 +214,7 @@ module _ {w : List ℕ} {i : ℕ} (bs out report : List ℕ) (R : Readable w i) 
         roomy = le-ltb (length out) (length (mended_set bs)) (omega (arith, room, ap length p, due-many bs sh counted long))
 
         -- and for the report
-        pub mend-unreported : length report₁ < n → Mends w i bs out report (Mended.Refused OutputShort) w out₁ report₁
+        pub mend-unreported : length report₁ < n → Mends w i bs out report (Err OutputShort) w out₁ report₁
         unfolding no_room
         mend-unreported h =
             short (by-room false true roomy (lt-ltb (length report) (length (mend_report bs)) (omega (arith, h, ap length q, report-long bs sh)))) p q
@@ -224,7 +222,7 @@ module _ {w : List ℕ} {i : ℕ} (bs out report : List ℕ) (R : Readable w i) 
         -- and else both are filled, and the world has the runs
         pub mend-done : {w' out' report' : List ℕ} {rs : List Run} → n ≤ length report₁ → rs ≡ held_runs (mended_positions bs)
             → (out' ≡ into_front (mended_set bs) out₁) × (report' ≡ into_front (mend_report bs) report₁) → stretches (mem rs) ≤ allowance w i → Settled w w' i (mem rs)
-            → Mends w i bs out report (Mended.Bytes due n) w' out' report'
+            → Mends w i bs out report (Ok (record { bytes = due; report = n })) w' out' report'
         unfolding no_room
         mend-done {report' = report'} h same put fits S = record {
           met =

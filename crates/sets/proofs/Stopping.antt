@@ -1,8 +1,7 @@
 -- Why a list of ranges is refused: what the call answers, by its three tests in their order. Assumes nothing.
+use Rattle.std.specs.Prelude.{Option, None, Some, Ok, Err}
 use Rattle.std.proofs.Common.{◌≡◌, ℕ, ◌<◌, ◌≤◌, Bool, false, eqb, ltb, List, [], ◌∷◌, length, sym, refl, ap, ◌∙◌, ap₂, arith, le-ltb, lt-ltb, eq-eqb, ne_eqb}
-use mathlib.Core.Option.{Option, none, some}
 use Rattle.model.specs.declared.Refusal.TheVariants.{StoreLength, NotRefused, OutputShort}
-use Rattle.model.specs.declared.Written.{Written}
 use Rattle.model.specs.Bytes.{into_front}
 use Rattle.model.specs.Spawning.{none_refused, places_told}
 use Rattle.model.specs.Refusals.{store_length, not_refused, output_short, Condition, ◌when◌, refusal, no_room}
@@ -30,7 +29,7 @@ module _ (w rs out : List ℕ) where
       ∙ ap₂ (λ a b. settle_measured (refusal (tests a b (none_refused o))) (worlds_of w) (due o)) f g
 
   -- 1: words of no pool's length
-  pub why-no-pool : capacity w ≡ 0 → WritesMeasured w (why_full rs) out (Written.Refused StoreLength) out
+  pub why-no-pool : capacity w ≡ 0 → WritesMeasured w (why_full rs) out (Err StoreLength) out
   why-no-pool e = record {
     measured = record { answered = sym (ap (λ o. o.answer) (by_tests _ refl (eq-eqb (capacity w) 0 e) refl)); left = refl };
     unwritten = refl;
@@ -42,25 +41,25 @@ module _ (w rs out : List ℕ) where
     pool = ne_eqb (capacity w) 0 (λ z. omega arith)
 
     -- 16: no call of the list is refused
-    pub why-unrefused : stopped (capacity w) rs ≡ none → WritesMeasured w (why_full rs) out (Written.Refused NotRefused) out
+    pub why-unrefused : stopped (capacity w) rs ≡ None → WritesMeasured w (why_full rs) out (Err NotRefused) out
     why-unrefused e = record {
-      measured = record { answered = sym (ap (λ o. o.answer) (by_tests none e pool refl)); left = refl };
+      measured = record { answered = sym (ap (λ o. o.answer) (by_tests None e pool refl)); left = refl };
       unwritten = refl;
     }
 
-    module _ (ps : List ℕ) (e : stopped (capacity w) rs ≡ some ps) where
+    module _ (ps : List ℕ) (e : stopped (capacity w) rs ≡ Some ps) where
       -- 2: the slice is too short
-      pub why-short : length out < length ps → WritesMeasured w (why_full rs) out (Written.Refused OutputShort) out
+      pub why-short : length out < length ps → WritesMeasured w (why_full rs) out (Err OutputShort) out
       why-short l = record {
-        measured = record { answered = sym (ap (λ o. o.answer) (by_tests (some ps) e pool (lt-ltb (length out) (length ps) l))); left = refl };
+        measured = record { answered = sym (ap (λ o. o.answer) (by_tests (Some ps) e pool (lt-ltb (length out) (length ps) l))); left = refl };
         unwritten = refl;
       }
 
       -- and else the places are in front
-      pub why-done : {out' : List ℕ} (n : ℕ) → n ≡ length ps → length ps ≤ length out → out' ≡ into_front ps out → WritesMeasured w (why_full rs) out (Written.Front n) out'
+      pub why-done : {out' : List ℕ} (n : ℕ) → n ≡ length ps → length ps ≤ length out → out' ≡ into_front ps out → WritesMeasured w (why_full rs) out (Ok n) out'
       why-done n is l f = record {
         measured = record {
-          answered = ap₂ (λ a b. gave (written a b)) is f ∙ sym (ap (λ o. o.answer) (by_tests (some ps) e pool (le-ltb (length out) (length ps) l)));
+          answered = ap₂ (λ a b. gave (written a b)) is f ∙ sym (ap (λ o. o.answer) (by_tests (Some ps) e pool (le-ltb (length out) (length ps) l)));
           left = refl;
         };
         unwritten = tt;

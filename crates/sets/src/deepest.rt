@@ -2,31 +2,31 @@
 ghost use Rattle.model.specs.Call.{Measure};
 ghost use Rattle.promises.specs.Out.{WritesMeasured};
 
-use model::{Refusal, Written};
+use model::Refusal;
 use store::Store;
 
 // Writes the list for the height h, start and end of each run in turn, and returns how many words it has.
-pub fn deepest(words: &[u64], h: u64, out: &mut [u64]) -> Written
+pub fn deepest(words: &[u64], h: u64, out: &mut [u64]) -> Result<usize, Refusal>
     ensures { WritesMeasured words.now (Measure.deepest h) out.old result out.new }
 {
     let s = Store::of_length(words.len());
     if s.capacity == 0 {
-        return Written::Refused(Refusal::StoreLength);
+        return Err(Refusal::StoreLength);
     }
     if h == 0 {
-        return Written::Refused(Refusal::TreeHeight);
+        return Err(Refusal::TreeHeight);
     }
     if h > Store::MAX_HEIGHT {
-        return Written::Refused(Refusal::TreeHeight);
+        return Err(Refusal::TreeHeight);
     }
     let n = heights::list::least_runs(h);
     if n > s.capacity {
-        return Written::Refused(Refusal::Capacity);
+        return Err(Refusal::Capacity);
     }
     let due = (2 * n) as usize;
     if out.len() < due {
-        return Written::Refused(Refusal::OutputShort);
+        return Err(Refusal::OutputShort);
     }
     heights::list::put_deepest(out, h, n);
-    Written::Front(due)
+    Ok(due)
 }

@@ -5,9 +5,9 @@ ghost use Rattle.model.specs.Call.{Call};
 ghost use Rattle.model.specs.Answers.{completed_answer, tested_answer};
 ghost use Rattle.streams.specs.Gathering.{Sources, joined};
 ghost use Rattle.promises.specs.Met.{site, Readable, Met};
-ghost use Rattle.promises.specs.Joined.{Carried, completed_by, ViewOf};
+ghost use Rattle.promises.specs.Joined.{Carried, ViewOf};
 
-use model::{Completed, Logical, Operation, Refusal, Tested};
+use model::{Logical, Operation, Refusal};
 use streams::gather::Feed;
 use streams::source::View;
 
@@ -23,7 +23,7 @@ fn view(words: &[u64], world: u64) -> View
     }
 }
 
-// Gives a world two feeds joined, which are read from the nodes x and y, and returns whether its allowance admits that.
+// Gives a world two feeds joined, which are read from the nodes x and y, if its allowance admits that.
 fn gathered(
     words: &mut [u64],
     world: u64,
@@ -32,29 +32,18 @@ fn gathered(
     fx: Feed,
     y: &[u64],
     fy: Feed,
-) -> bool
+) -> Result<(), Refusal>
     requires sources { Sources x.now fx y.now fy }
     requires readable { Readable words.old world }
     ensures { Carried words.old words.new world (joined op x.now fx y.now fy) result }
 {
     if !streams::gather::fits(op, x, fx, y, fy, store::allowance(words, world)) {
-        return false;
+        return Err(Refusal::Capacity);
     }
     let h = store::open(words, world);
     let k = streams::gather::gather(&mut words[128..], h, op, x, fx, y, fy);
     store::close(words, k);
-    true
-}
-
-// A change that the allowance may forbid, as an answer.
-fn completed(done: bool) -> Completed
-    ensures { result ≡ completed_by done }
-{
-    if done {
-        Completed::Done
-    } else {
-        Completed::Refused(Refusal::Capacity)
-    }
+    Ok(())
 }
 
 // Joins two sets by AND, OR or XOR.
@@ -66,7 +55,7 @@ pub fn combine(
     i: u64,
     b: &[u64],
     j: u64,
-) -> Completed
+) -> Result<(), Refusal>
     requires readable { Readable words.old world }
     requires readable_2 { Readable a.now i }
     requires readable_3 { Readable b.now j }
@@ -74,7 +63,7 @@ pub fn combine(
 {
     let x = view(a, i);
     let y = view(b, j);
-    completed(gathered(
+    gathered(
         words,
         world,
         op,
@@ -82,17 +71,17 @@ pub fn combine(
         Feed::Held(x),
         &b[128..],
         Feed::Held(y),
-    ))
+    )
 }
 
 // The complement over 0..=M: what is in just one of the set and all positions.
-pub fn not(words: &mut [u64], world: u64, a: &[u64], i: u64) -> Completed
+pub fn not(words: &mut [u64], world: u64, a: &[u64], i: u64) -> Result<(), Refusal>
     requires readable { Readable words.old world }
     requires readable_2 { Readable a.now i }
     ensures { Met words.old world (Call.complement (site a.now i)) (completed_answer result) words.new }
 {
     let x = view(a, i);
-    completed(gathered(
+    gathered(
         words,
         world,
         Operation::Xor,
@@ -100,7 +89,7 @@ pub fn not(words: &mut [u64], world: u64, a: &[u64], i: u64) -> Completed
         Feed::Held(x),
         &a[128..],
         Feed::Only(Logical(0), Logical(u64::MAX)),
-    ))
+    )
 }
 
 // The set moved by the distance, up (left) or down: read under another offset, and what would come in from the other end cut off.
@@ -111,7 +100,7 @@ pub fn shifted(
     left: bool,
     a: &[u64],
     i: u64,
-) -> Completed
+) -> Result<(), Refusal>
     requires readable { Readable words.old world }
     requires readable_2 { Readable a.now i }
     ensures { Met words.old world (Call.shifted distance left (site a.now i)) (completed_answer result) words.new }
@@ -122,7 +111,7 @@ pub fn shifted(
             root: x.root,
             offset: std::num::wrapping_add_u64(x.offset, distance),
         };
-        return completed(gathered(
+        return gathered(
             words,
             world,
             Operation::And,
@@ -130,14 +119,14 @@ pub fn shifted(
             Feed::Held(up),
             &a[128..],
             Feed::Only(Logical(distance), Logical(u64::MAX)),
-        ));
+        );
     }
     let down = View {
         root: x.root,
         offset: std::num::wrapping_sub_u64(x.offset, distance),
     };
     let top = u64::MAX - distance;
-    completed(gathered(
+    gathered(
         words,
         world,
         Operation::And,
@@ -145,18 +134,18 @@ pub fn shifted(
         Feed::Held(down),
         &a[128..],
         Feed::Only(Logical(0), Logical(top)),
-    ))
+    )
 }
 
 // Whether two worlds hold the same positions: none is in just one of them.
-pub fn eq(a: &[u64], i: u64, b: &[u64], j: u64) -> Tested
+pub fn eq(a: &[u64], i: u64, b: &[u64], j: u64) -> Result<bool, Refusal>
     requires readable { Readable a.now i }
     requires readable_2 { Readable b.now j }
     ensures { Met a.now i (Call.equal (site b.now j)) (tested_answer result) a.now }
 {
     let x = view(a, i);
     let y = view(b, j);
-    Tested::Is(streams::gather::fits(
+    Ok(streams::gather::fits(
         Operation::Xor,
         &a[128..],
         Feed::Held(x),

@@ -10,6 +10,5 @@ pub mod deepest;
 pub mod join;
 pub mod make;
 pub mod mend;
-pub mod runs;
 pub mod why;
 pub mod write;

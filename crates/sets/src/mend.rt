@@ -8,45 +8,30 @@ ghost use Rattle.lowest.specs.Mended.{Due};
 ghost use Rattle.promises.specs.Met.{Readable};
 ghost use Rattle.promises.specs.Out.{Mendable, Mends};
 
-use model::{Edition, Mended, Refusal};
-use written::set::Parsed;
+use model::{Mended, Refusal};
+use written::runs::Told;
 
-// How many runs the outcome has: a set that is right has its own. Both slices stay.
-fn outcome_runs(
-    bytes: &[u8],
-    edition: Edition,
-    n: u64,
-    right: bool,
-    out: &mut [u8],
-    report: &mut [u8],
-) -> u64
-    requires { Mendable bytes.now edition n right }
-    ensures { (result ≡ stretches (mended_positions bytes.now)) × (out.new ≡ out.old) × (report.new ≡ report.old) }
+// How many runs the outcome has: a set that is right has its own.
+fn outcome_runs(told: Told<'_>, right: bool) -> u64
+    requires { Mendable told.bytes.now told.edition told.count right }
+    ensures { result ≡ stretches (mended_positions told.entry.bytes.now) }
 {
     if right {
-        return n;
+        return told.count;
     }
-    lowest::set::unite(bytes, edition, n, false, 0, out, report)
+    lowest::set::runs_of(told)
 }
 
 // Writes the outcome, of k runs, into the front of one slice, and the report into the front of another: a set that is right is copied.
-fn put_outcome(
-    bytes: &[u8],
-    edition: Edition,
-    n: u64,
-    right: bool,
-    k: u64,
-    out: &mut [u8],
-    report: &mut [u8],
-)
-    requires mendable { Mendable bytes.now edition n right }
-    requires due { Due (decode bytes.now) k out.old report.old }
-    ensures { (out.new ≡ into_front (mended_set bytes.now) out.old) × (report.new ≡ into_front (mend_report bytes.now) report.old) }
+fn put_outcome(told: Told<'_>, right: bool, k: u64, out: &mut [u8], report: &mut [u8])
+    requires mendable { Mendable told.bytes.now told.edition told.count right }
+    requires due { Due (decode told.bytes.now) k out.old report.old }
+    ensures { (out.new ≡ into_front (mended_set told.entry.bytes.now) out.old) × (report.new ≡ into_front (mend_report told.entry.bytes.now) report.old) }
 {
     if right {
-        lowest::set::keep(bytes, n, out, report);
+        lowest::set::keep(told.bytes, told.count, out, report);
     } else {
-        lowest::set::unite(bytes, edition, n, true, k, out, report);
+        lowest::set::put_union(told, k, out, report);
     }
 }
 
@@ -57,33 +42,36 @@ pub fn mend(
     bytes: &[u8],
     out: &mut [u8],
     report: &mut [u8],
-) -> Mended
+) -> Result<Mended, Refusal>
     requires { Readable words.old world }
     ensures { Mends words.old world bytes.now out.old report.old result
         words.new out.new report.new }
 {
-    let t = written::set::shape_told(bytes);
-    match t {
-        Parsed::Refused(r) => Mended::Refused(r),
-        Parsed::Runs(e, n) => {
-            let right = written::set::in_order(bytes, e, n);
-            let k = outcome_runs(bytes, e, n, right, out, report);
-            if k > store::allowance(words, world) {
-                return Mended::Refused(Refusal::Capacity);
-            }
-            let due = written::set::length_of(k) as usize;
-            if out.len() < due {
-                return Mended::Refused(Refusal::OutputShort);
-            }
-            let told = n as usize;
-            if report.len() < told {
-                return Mended::Refused(Refusal::OutputShort);
-            }
-            put_outcome(bytes, e, n, right, k, out, report);
-            let h = store::open(words, world);
-            let w = written::set::load(&mut words[128..], h, &out[..due], e, k);
-            store::close(words, w);
-            Mended::Bytes(due, told)
-        }
+    let told = written::set::shape_told(bytes)?;
+    let right = written::runs::in_order(told);
+    let k = outcome_runs(told, right);
+    if k > store::allowance(words, world) {
+        return Err(Refusal::Capacity);
     }
+    let due = written::set::length_of(k) as usize;
+    if out.len() < due {
+        return Err(Refusal::OutputShort);
+    }
+    let notes = told.count as usize;
+    if report.len() < notes {
+        return Err(Refusal::OutputShort);
+    }
+    put_outcome(told, right, k, out, report);
+    let outcome = Told {
+        bytes: &out[..due],
+        edition: told.edition,
+        count: k,
+    };
+    let h = store::open(words, world);
+    let w = written::runs::build(&mut words[128..], h, outcome);
+    store::close(words, w);
+    Ok(Mended {
+        bytes: due,
+        report: notes,
+    })
 }

@@ -3,10 +3,16 @@ ghost use Rattle.model.specs.Call.{Call};
 ghost use Rattle.promises.specs.Met.{Readable};
 ghost use Rattle.promises.specs.Out.{WritesOut};
 
-use model::{Edition, Refusal, Written};
+use maps::span::Span;
+use model::{Edition, Refusal};
 
 // Writes a world's set, and returns how many bytes it has.
-pub fn write_set(words: &[u64], world: u64, edition: Edition, out: &mut [u8]) -> Written
+pub fn write_set(
+    words: &[u64],
+    world: u64,
+    edition: Edition,
+    out: &mut [u8],
+) -> Result<usize, Refusal>
     requires { Readable words.now world }
     ensures { WritesOut (Call.write_set edition) words.now world out.old result out.new }
 {
@@ -14,36 +20,36 @@ pub fn write_set(words: &[u64], world: u64, edition: Edition, out: &mut [u8]) ->
     let n = written::set::run_count(&words[128..], h);
     let due = written::set::length_of(n) as usize;
     if out.len() < due {
-        return Written::Refused(Refusal::OutputShort);
+        return Err(Refusal::OutputShort);
     }
     written::write::write_set(&words[128..], h, edition, out);
-    Written::Front(due)
+    Ok(due)
 }
 
-// Writes the map of a window, a word at a time or, where `wide` is false, by single bytes, and returns how many bytes it has.
-pub fn write_map(
+// Writes the map of a window, a word at a time or, where `WIDE` is false, by single bytes, and returns how many bytes it has.
+pub fn write_map<const WIDE: bool>(
     words: &[u64],
     world: u64,
     base: u64,
     n: u64,
     out: &mut [u8],
-    wide: bool,
-) -> Written
+) -> Result<usize, Refusal>
     requires { Readable words.now world }
     ensures { WritesOut (Call.write_map base n) words.now world out.old result out.new }
 {
     if !promises::window::window_fits(base, n) {
-        return Written::Refused(Refusal::Window);
+        return Err(Refusal::Window);
     }
     let due = ((n + 7) / 8) as usize;
     if out.len() < due {
-        return Written::Refused(Refusal::OutputShort);
+        return Err(Refusal::OutputShort);
     }
     let h = store::open(words, world);
-    if wide {
-        maps::write::write_map(&words[128..], h, base, n, out);
+    let span = Span { base, n };
+    if WIDE {
+        maps::write::write_map(&words[128..], h, span, out);
     } else {
-        maps::write::write_map_by_bytes(&words[128..], h, base, n, out);
+        maps::write::write_map_by_bytes(&words[128..], h, span, out);
     }
-    Written::Front(due)
+    Ok(due)
 }

@@ -1,7 +1,6 @@
 -- What `world_fits` returns, by the tests that led there: each that fails is a part of the definition that fails. The positions of a world are
 -- those of the tree at its root, turned by its offset, so what `bounds` tells of the tree is what the world has to say. Assumes nothing.
-use Rattle.std.proofs.Common.{◌≡◌, ℕ, ◌<◌, ◌≤◌, Bool, true, false, not, ◌||◌, eqb, List, sym, ap, ◌∙◌, arith, eq-eqb, eqb-true}
-use borrow.Author.Tests.{not-true, not-false}
+use Rattle.std.proofs.Common.{◌≡◌, ℕ, ◌<◌, ◌≤◌, Bool, true, false, not, ◌&&◌, ◌||◌, eqb, List, sym, ap, ◌∙◌, arith}
 use Rattle.model.specs.Numbers.{size}
 use Rattle.model.specs.Positions.{Positions, held_runs}
 use Rattle.run_index.specs.declared.Node.{Node}
@@ -13,11 +12,11 @@ use Rattle.store.specs.Layout.{held_in}
 use Rattle.store.specs.Soundness.{first_of, last_of}
 use Rattle.soundness.specs.Decision.{inside_b, below_of, tree_b, world_b, Tells}
 use Rattle.store.specs.Bounds.{TellsFirst, TellsLast}
-use Rattle.store.proofs.Truths.{never, is_false, same}
+use Rattle.store.proofs.Truths.{never, is_false}
 use Rattle.soundness.proofs.Steps.{inside-linked}
 use Rattle.store.proofs.Reached.{tree-held}
 use Rattle.store.proofs.Hanging.{Hangs, hangs-index}
-use Rattle.soundness.proofs.Decided.{below-sums, tree-yes, hangs-walked, offset-out, offset-in, world_b-yes, world_b-no}
+use Rattle.soundness.proofs.Decided.{below-sums, tree-yes, hangs-walked, world_b-yes}
 
 module _ (w : List ℕ) (h : World) where
   -- a test that fails
@@ -25,15 +24,10 @@ module _ (w : List ℕ) (h : World) where
   refused f = sym (is_false (world_b w h) f)
 
   -- the root is no node
-  pub root-outside : Room w 0 → (b : Bool) → b ≡ inside_b w h.root → not b ≡ true → false ≡ world_b w h
+  pub root-outside : Room w 0 → (b : Bool) → b ≡ inside_b w h.root → b ≡ false → false ≡ world_b w h
   root-outside room b eb t =
       refused (λ e.
-      never (sym (sym eb ∙ not-true b t) ∙ inside-linked 22 w h.tag h.root 0 size room (hangs-walked (world_b-yes w h e).tree)))
-
-  -- an empty world with an offset
-  pub offset-fails : (x : Bool) → x ≡ (not (eqb h.root 0) || eqb h.offset 0) → not x ≡ true → false ≡ world_b w h
-  offset-fails x ex t =
-      refused (λ e. never (sym (not-true x t) ∙ ex ∙ offset-in h.root h.offset (world_b-yes w h e).empty-offset))
+      never (sym (sym eb ∙ t) ∙ inside-linked 22 w h.tag h.root 0 size room (hangs-walked (world_b-yes w h e).tree)))
 
   module _ (v : Node) (ev : v ≡ below_of w h.root) where
     -- the root's words tell of the tree
@@ -45,26 +39,18 @@ module _ (w : List ℕ) (h : World) where
     root-high lt =
         refused (λ e. let T = (world_b-yes w h e).tree in let s = root-sums T in let l = T.low in omega (arith, s.height-is))
 
-    -- the world's ones are not the root's
-    pub ones-differ : (h.ones ≡ v.ones → ⊥) → false ≡ world_b w h
-    ones-differ ne = refused (λ e. let F = world_b-yes w h e in ne (F.ones-are ∙ sym (root-sums F.tree).ones_is))
-
-    -- nor its runs
-    pub runs-differ : (h.runs ≡ v.runs → ⊥) → false ≡ world_b w h
-    runs-differ ne = refused (λ e. let F = world_b-yes w h e in ne (F.runs-are ∙ sym (root-sums F.tree).runs-is))
-
-    module _ (low : v.height ≤ 22) (b : Bool) (eb : Tells w h.tag h.root 0 18446744073709551615 b) where
+    module _ (low : v.height ≤ 22) (b : Bool) (eb : Tells w (record { tag = h.tag; low = 0; high = 18446744073709551615 }) h.root b) where
       -- what the walk of the root says
       root-walked : b ≡ tree_b 22 w h.tag h.root 0 size
       root-walked = let q : v.height ≡ (below_of w h.root).height = ap (λ (x : Node). x.height) ev in eb 22 (omega arith)
 
       -- it refuses
-      pub tree-fails : not b ≡ true → false ≡ world_b w h
-      tree-fails t = refused (λ e. never (sym (sym root-walked ∙ not-true b t) ∙ hangs-walked (world_b-yes w h e).tree))
+      pub tree-fails : b ≡ false → false ≡ world_b w h
+      tree-fails t = refused (λ e. never (sym (sym root-walked ∙ t) ∙ hangs-walked (world_b-yes w h e).tree))
 
       -- it accepts
-      pub tree-passes : not b ≡ false → Hangs 22 w h.tag h.root 0 size
-      tree-passes t = tree-yes 22 w h.tag h.root 0 size (sym root-walked ∙ not-false b t)
+      pub tree-passes : b ≡ true → Hangs 22 w h.tag h.root 0 size
+      tree-passes t = tree-yes 22 w h.tag h.root 0 size (sym root-walked ∙ t)
 
   module _ (T : Hangs 22 w h.tag h.root 0 size) where
     -- the tree can be searched
@@ -79,24 +65,8 @@ module _ (w : List ℕ) (h : World) where
     last-told : (r : ℕ) → TellsLast w h.root h.offset r → r ≡ last_of (held_runs (held_in w h))
     last-told r t = t h.tag T.t (hangs-index T) ∙ sym (ap (λ (P : Positions). last_of (held_runs P)) (tree-held h.offset T.at T.low))
 
-    -- another first position
-    pub first-fails : (r : ℕ) → TellsFirst w h.root h.offset r → (h.first ≡ r → ⊥) → false ≡ world_b w h
-    first-fails r t ne = refused (λ e. ne ((world_b-yes w h e).first-is ∙ sym (first-told r t)))
-
-    -- else the last position decides
-    pub last-decides : (v : Node) → v ≡ below_of w h.root → h.ones ≡ v.ones → h.runs ≡ v.runs
-        → (x : Bool) → x ≡ (not (eqb h.root 0) || eqb h.offset 0) → not x ≡ false
-        → (f : ℕ) → TellsFirst w h.root h.offset f → h.first ≡ f → (l : ℕ) → TellsLast w h.root h.offset l
-        → eqb h.last l ≡ world_b w h
-    last-decides v ev ones runs x ex tx f tf ef l tl =
-        let S = root-sums v ev T in
-        same (eqb h.last l) (world_b w h)
-        (λ e. world_b-no w h (record {
-          tree = T;
-          ones-are = ones ∙ S.ones_is;
-          runs-are = runs ∙ S.runs-is;
-          first-is = ef ∙ first-told f tf;
-          last-is = eqb-true _ _ e ∙ last-told l tl;
-          empty-offset = offset-out h.root h.offset (sym ex ∙ not-false x tx);
-        }))
-        (λ e. eq-eqb _ _ ((world_b-yes w h e).last-is ∙ sym (last-told l tl)))
+    -- so what is left to test are the sums, the bounds and the offset
+    pub world-is : (v : Node) → v ≡ below_of w h.root → (f : ℕ) → TellsFirst w h.root h.offset f → (l : ℕ) → TellsLast w h.root h.offset l
+        → world_b w h ≡ (eqb h.ones v.ones && (eqb h.runs v.runs && (eqb h.first f && (eqb h.last l && (not (eqb h.root 0) || eqb h.offset 0)))))
+    unfolding world_b
+    world-is v ev f tf l tl = rw (hangs-walked T, ← ev, ← first-told f tf, ← last-told l tl)

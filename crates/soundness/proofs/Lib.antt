@@ -6,6 +6,6 @@ pub mod Following
 pub mod Decided
 pub mod Records
 pub mod Shared
+pub mod Bounded
 pub mod Placed
 pub mod Whole
-pub mod Bounded

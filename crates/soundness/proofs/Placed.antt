@@ -1,8 +1,9 @@
 -- The tests of a pool's worlds as facts, and back: a world passes exactly if its tree and its record fit and it keeps its limits. What
--- `place_fits` and `worlds_fit` return follows, test by test: each that fails is a part of the definition that fails. Assumes nothing.
-use Rattle.std.proofs.Common.{◌≡◌, ℕ, zero, suc, ◌+◌, ◌-◌, ◌*◌, ◌^◌, ◌<◌, ◌≤◌, max, Bool, true, false, not, leb, List, sym, refl, ap, ◌∙◌, subst, ap₂, arith, le-leb, leb-true}
+-- `place_at` and `runs_counted` return follows, test by test: each that fails is a part of the definition that fails. Assumes nothing.
+use Rattle.std.proofs.Common.{◌≡◌, ℕ, zero, suc, ◌+◌, ◌-◌, ◌*◌, ◌^◌, ◌<◌, ◌≤◌, max, Bool, true, false}
+use Rattle.std.proofs.Common.{◌&&◌, if◌then◌else◌, Some, None, leb, List, sym, refl, ap, ◌∙◌, subst, ap₂, arith, le-leb, leb-true}
+use Rattle.std.proofs.lemmas.Option.{none-some, same_Some}
 use native.Mathlib.Decide.{ℕ_discrete}
-use borrow.Author.Tests.{not-true, not-false}
 use Rattle.model.specs.Numbers.{most_worlds}
 use Rattle.model.specs.Positions.{stretches}
 use Rattle.model.specs.Pools.{claim, claims}
@@ -14,7 +15,7 @@ use Rattle.store.specs.declared.World.{World}
 use Rattle.soundness.specs.declared.Place.{Place}
 use Rattle.store.specs.Layout.{world_at, floor_at, ceiling_at, nodes, capacity, held_in, held_by, plain_at, worlds_from}
 use Rattle.store.specs.Soundness.{sum_to, runs_at, Planted, KeepsLimits}
-use Rattle.soundness.specs.Decision.{world_b, place_b, worlds_b, told_runs, ChecksPlace, Checks}
+use Rattle.soundness.specs.Decision.{world_b, place_b, worlds_b, told_runs, place_of, runs_of}
 use Rattle.store.specs.Bounds.{RunsCounted, TellsRuns}
 use Rattle.store.proofs.Parts.{lent, lent-nodes}
 use Rattle.store.proofs.Sums.{sum_more, sum-nothing, sum-cong, sum-front}
@@ -46,13 +47,19 @@ place_in w k P =
     both-in (world_b (nodes w) (world_at w k)) _ (world_b-no (nodes w) (world_at w k) P.fitting)
     (both-in _ _ (le-leb _ _ P.limited.limits) (le-leb _ _ P.limited.ceiling))
 
--- a test of it that fails
-misplaced : (w : List ℕ) (k : ℕ) → (Placed w k → ⊥) → false ≡ place_b w k
-misplaced w k f = sym (is_false (place_b w k) (λ e. f (place_out w k e)))
+-- what world k claims
+abbrev claim_at : List ℕ → ℕ → ℕ
+claim_at w k = claim (plain_at w k)
 
--- what is told of a world that does not fit
-unplaced : (w : List ℕ) (k : ℕ) → false ≡ place_b w k → ChecksPlace w k (record { fits = false; claim = 0; runs = 0 })
-unplaced w k e = record { told = e; claimed = λ t. never t; many = λ t. never t }
+-- nothing is told of a world that does not fit
+unplaced : (w : List ℕ) (k : ℕ) → (Placed w k → ⊥) → None ≡ place_of w k
+unfolding place_of
+unplaced w k f = rw (is_false (place_b w k) (λ e. f (place_out w k e)))
+
+-- and of one that fits, what it claims and has
+placed-is : (w : List ℕ) (k : ℕ) → Placed w k → Some (record { claim = claim_at w k; runs = (world_at w k).runs }) ≡ place_of w k
+unfolding place_of
+placed-is w k P = rw (place_in w k P)
 
 -- its positions are those in its nodes
 held-world : (w : List ℕ) (k : ℕ) → held_in (nodes w) (world_at w k) ≡ held_by w k
@@ -68,8 +75,8 @@ module _ (w : List ℕ) (k : ℕ) (v : Node) (ev : v ≡ cell_at w (k + 1)) wher
   ceiling-is = ap (λ (u : Node). u.tag) ev
 
   -- the floor is above the ceiling
-  pub limits-fail : v.tag < v.ones → ChecksPlace w k (record { fits = false; claim = 0; runs = 0 })
-  limits-fail lt = unplaced w k (misplaced w k (λ P. omega (arith, P.limited.limits, floor-is, ceiling-is)))
+  pub limits-fail : v.tag < v.ones → None ≡ place_of w k
+  limits-fail lt = unplaced w k (λ P. omega (arith, P.limited.limits, floor-is, ceiling-is))
 
 -- a world that fits, as it was read
 module _ (w : List ℕ) (k : ℕ) (F : Fitting (nodes w) (world_at w k)) (h : World) (eh : h ≡ world_at w k) where
@@ -93,13 +100,13 @@ module _ (w : List ℕ) (k : ℕ) (h : World) (eh : h ≡ world_at w k) (b : Boo
   world_is = eb ∙ ap (λ l. world_b l h) (lent-nodes w) ∙ ap (world_b (nodes w)) eh
 
   -- these do not fit
-  pub world-fails : not b ≡ true → ChecksPlace w k (record { fits = false; claim = 0; runs = 0 })
-  world-fails t = unplaced w k (misplaced w k (λ P. never (sym (not-true b t) ∙ world_is ∙ world_b-no (nodes w) (world_at w k) P.fitting)))
+  pub world-fails : b ≡ false → None ≡ place_of w k
+  world-fails t = unplaced w k (λ P. never (sym t ∙ world_is ∙ world_b-no (nodes w) (world_at w k) P.fitting))
 
-  module _ (tb : not b ≡ false) where
+  module _ (tb : b ≡ true) where
     -- these do
     world-fitting : Fitting (nodes w) (world_at w k)
-    world-fitting = world_b-yes (nodes w) (world_at w k) (sym world_is ∙ not-false b tb)
+    world-fitting = world_b-yes (nodes w) (world_at w k) (sym world_is ∙ tb)
 
     -- so the record counts the runs of the tree
     pub world-counted : RunsCounted (lent w) h.root h.runs
@@ -112,19 +119,35 @@ module _ (w : List ℕ) (k : ℕ) (h : World) (eh : h ≡ world_at w k) (b : Boo
       many-are = runs-told w k world-fitting h eh n tn
 
       -- there are too many
-      pub runs-fail : v.tag < n → ChecksPlace w k (record { fits = false; claim = 0; runs = 0 })
-      runs-fail over = unplaced w k (misplaced w k (λ P. omega (arith, P.limited.ceiling, many-are, ceiling-is w k v ev)))
+      pub runs-fail : v.tag < n → None ≡ place_of w k
+      runs-fail over = unplaced w k (λ P. omega (arith, P.limited.ceiling, many-are, ceiling-is w k v ev))
 
       -- there are not; the larger of it and the floor is what the world claims
-      pub runs_fit : n ≤ v.tag → (c : ℕ) → c ≡ max n v.ones → ChecksPlace w k (record { fits = true; claim = c; runs = h.runs })
-      runs_fit few c ec = record {
-        told = sym (place_in w k (record {
-          fitting = world-fitting;
-          limited = record { limits = omega (arith, floor-is w k v ev, ceiling-is w k v ev); ceiling = omega (arith, many-are, ceiling-is w k v ev) };
-        }));
-        claimed = λ t. ec ∙ ap₂ max many-are (floor-is w k v ev);
-        many = λ t. ap (λ (x : World). x.runs) eh;
-      }
+      pub runs_fit : n ≤ v.tag → (c : ℕ) → c ≡ max n v.ones → Some (record { claim = c; runs = h.runs }) ≡ place_of w k
+      runs_fit few c ec =
+          let P : Placed w k = record {
+            fitting = world-fitting;
+            limited = record { limits = omega (arith, floor-is w k v ev, ceiling-is w k v ev); ceiling = omega (arith, many-are, ceiling-is w k v ev) };
+          } in
+          ap₂ (λ (c r : ℕ). Some (record { claim = c; runs = r })) (ec ∙ ap₂ max many-are (floor-is w k v ev)) (ap (λ (x : World). x.runs) eh)
+          ∙ placed-is w k P
+
+-- what is told of a world that fits
+record Told (w : List ℕ) (k : ℕ) (p : Place) : Type 0 where
+  pub placed : Placed w k
+  pub claims : p.claim ≡ claim_at w k
+  pub has : p.runs ≡ (world_at w k).runs
+
+-- it is told of no other
+told : (w : List ℕ) (k : ℕ) (p : Place) → Some p ≡ place_of w k → Told w k p
+unfolding place_of
+told w k p e = go (place_b w k) refl e
+  where
+    go : (b : Bool) → place_b w k ≡ b → Some p ≡ (if b then Some (record { claim = claim_at w k; runs = (world_at w k).runs }) else None) → Told w k p
+    go true t e =
+        let q : p ≡ record { claim = claim_at w k; runs = (world_at w k).runs } = same_Some _ _ e in
+        record { placed = place_out w k t; claims = ap (λ (x : Place). x.claim) q; has = ap (λ (x : Place). x.runs) q }
+    go false t e = absurd (none-some p (sym e))
 
 -- ---- the first n worlds
 -- what their tests say
@@ -160,87 +183,87 @@ told-few w (suc n) h =
     let F = (h n (omega arith)).fitting in
     omega (arith, sum_more n (λ k. (world_at w k).runs), told-few w n (λ k l. h k (omega arith)), F.runs-are, low-runs F.tree.t 22 F.tree.low)
 
--- what world k claims
-abbrev claim_at : List ℕ → ℕ → ℕ
-claim_at w k = claim (plain_at w k)
-
--- the first k of n worlds fit and have so many runs, and so much is left of the capacity
-pub record Checking (w : List ℕ) (n left runs k : ℕ) : Type 0 where
-  pub within : k ≤ n
+-- the first k worlds fit and have so many runs, and so much is left of the capacity
+pub record Checking (w : List ℕ) (left runs k : ℕ) : Type 0 where
   pub fit : worlds_b w k ≡ true
   pub told : runs ≡ told_runs w k
   pub unclaimed : left + sum_to k (claim_at w) ≡ capacity w
 
 -- no world is tested
-pub checking-none : (w : List ℕ) (n left : ℕ) → left ≡ capacity w → Checking w n left 0 0
-checking-none w n left e = record {
-  within = omega arith;
+pub checking-none : (w : List ℕ) (left : ℕ) → left ≡ capacity w → Checking w left 0 0
+checking-none w left e = record {
   fit = worlds-in w 0 (λ k l. absurd (omega arith));
   told = sym (sum-nothing (λ k. (world_at w k).runs));
   unclaimed = omega (arith, sum-nothing (claim_at w));
 }
 
 -- a test that fails
-unchecked : (w : List ℕ) (n : ℕ) → (((k : ℕ) → k < n → Placed w k) → sum_to n (claim_at w) ≤ capacity w → ⊥) → Checks w n (record { fits = false; runs = 0 })
-unchecked w n f = record {
-  told = sym (is_false _ (λ e.
-      let p = and-holds (worlds_b w n) (leb (claims (worlds_from w 0 n)) (capacity w)) e in
-      f (worlds-out w n p.0) (omega (arith, claims-first w n, leb-true (claims (worlds_from w 0 n)) (capacity w) p.1))));
-  many = λ e. never e;
-}
+unchecked : (w : List ℕ) (n : ℕ) → (((k : ℕ) → k < n → Placed w k) → sum_to n (claim_at w) ≤ capacity w → ⊥) → None ≡ runs_of w n
+unfolding runs_of
+unchecked w n f =
+    rw (is_false (worlds_b w n && leb (claims (worlds_from w 0 n)) (capacity w)) (λ e.
+    let p = and-holds (worlds_b w n) (leb (claims (worlds_from w 0 n)) (capacity w)) e in
+    f (worlds-out w n p.0) (omega (arith, claims-first w n, leb-true (claims (worlds_from w 0 n)) (capacity w) p.1))))
 
-module _ (w : List ℕ) (n left runs k : ℕ) (C : Checking w n left runs k) where
+module _ (w : List ℕ) (left runs k : ℕ) (C : Checking w left runs k) where
   -- all are tested
-  pub checked : n ≤ k → Checks w n (record { fits = true; runs = runs })
-  checked le =
-      let is : k ≡ n = omega (arith, C.within) in
-      record {
-        told = sym (both-in (worlds_b w n) (leb (claims (worlds_from w 0 n)) (capacity w)) (ap (worlds_b w) (sym is) ∙ C.fit)
-            (le-leb (claims (worlds_from w 0 n)) (capacity w) (omega (arith, claims-first w n, C.unclaimed, ap (λ j. sum_to j (claim_at w)) is))));
-        many = λ e. C.told ∙ ap (told_runs w) is;
-      }
+  pub checked : Some runs ≡ runs_of w k
+  unfolding runs_of
+  checked =
+      let le : leb (claims (worlds_from w 0 k)) (capacity w) ≡ true =
+      le-leb (claims (worlds_from w 0 k)) (capacity w) (omega (arith, claims-first w k, C.unclaimed)) in
+      rw (C.fit, le, C.told)
 
-  module _ (lt : k < n) (r : Place) (er : ChecksPlace w k r) where
+  module _ (n : ℕ) (lt : k < n) where
     -- world k does not fit
-    pub place-fails : not r.fits ≡ true → Checks w n (record { fits = false; runs = 0 })
-    place-fails t = unchecked w n (λ h u. never (sym (not-true r.fits t) ∙ er.told ∙ place_in w k (h k lt)))
+    pub place-fails : None ≡ place_of w k → None ≡ runs_of w n
+    place-fails e = unchecked w n (λ h u. none-some _ (e ∙ sym (placed-is w k (h k lt))))
 
-    module _ (tb : not r.fits ≡ false) where
-      -- it does
-      fits : r.fits ≡ true
-      fits = not-false r.fits tb
-
-      placed : Placed w k
-      placed = place_out w k (sym er.told ∙ fits)
-
-      -- so one world more fits
+    module _ (p : Place) (ep : Some p ≡ place_of w k) where
+      -- one world more fits
       places : (j : ℕ) → j < suc k → Placed w j
       places j l = go (ℕ_discrete k j)
         where
           go : Dec (k ≡ j) → Placed w j
-          go (yes i) = subst (Placed w) i placed
+          go (yes i) = subst (Placed w) i (told w k p ep).placed
           go (no ne) = worlds-out w k C.fit j (omega arith)
 
       -- it claims more than is left
-      pub claim-fails : left < r.claim → Checks w n (record { fits = false; runs = 0 })
+      pub claim-fails : left < p.claim → None ≡ runs_of w n
       claim-fails over =
-          unchecked w n (λ h u. omega (arith, er.claimed fits, sum-front n (suc k) (claim_at w) (omega arith), sum_more k (claim_at w), C.unclaimed))
+          unchecked w n (λ h u. omega (arith, (told w k p ep).claims, sum-front n (suc k) (claim_at w) (omega arith), sum_more k (claim_at w), C.unclaimed))
 
       -- one term more
-      told_more : runs + r.runs ≡ told_runs w (suc k)
-      told_more = omega (arith, C.told, sum_more k (λ j. (world_at w j).runs), er.many fits)
+      told_more : runs + p.runs ≡ told_runs w (suc k)
+      told_more = omega (arith, C.told, sum_more k (λ j. (world_at w j).runs), (told w k p ep).has)
 
       -- the runs are still few
-      pub runs-few : n ≤ most_worlds → runs + r.runs < 2 ^ 64
+      pub runs-few : n ≤ most_worlds → runs + p.runs < 2 ^ 64
       runs-few le = omega (arith, told_more, told-few w (suc k) places)
 
       -- the next world
-      pub checking-more : r.claim ≤ left → Checking w n (left - r.claim) (runs + r.runs) (k + 1)
-      checking-more le =
+      pub checking-more : (rest : ℕ) → (p.claim ≤ left) × (rest ≡ left - p.claim) → Checking w rest (runs + p.runs) (k + 1)
+      checking-more rest h =
+          let le = h.0 in
+          let e = h.1 in
           let s : suc k ≡ k + 1 = omega arith in
-          subst (Checking w n (left - r.claim) (runs + r.runs)) s (record {
-            within = omega arith;
+          subst (Checking w rest (runs + p.runs)) s (record {
             fit = worlds-in w (suc k) places;
             told = told_more;
-            unclaimed = omega (arith, er.claimed fits, sum_more k (claim_at w), C.unclaimed);
+            unclaimed = omega (arith, (told w k p ep).claims, sum_more k (claim_at w), C.unclaimed);
           })
+
+-- what is told of the first n worlds, where they fit
+pub runs-out : (w : List ℕ) (n r : ℕ) → Some r ≡ runs_of w n → (worlds_b w n && leb (claims (worlds_from w 0 n)) (capacity w) ≡ true) × (r ≡ told_runs w n)
+unfolding runs_of
+runs-out w n r e = go (worlds_b w n && leb (claims (worlds_from w 0 n)) (capacity w)) refl e
+  where
+    go : (b : Bool) → worlds_b w n && leb (claims (worlds_from w 0 n)) (capacity w) ≡ b → Some r ≡ (if b then Some (told_runs w n) else None)
+        → (worlds_b w n && leb (claims (worlds_from w 0 n)) (capacity w) ≡ true) × (r ≡ told_runs w n)
+    go true t e = (t, same_Some _ _ e)
+    go false t e = absurd (none-some r (sym e))
+
+-- and where they do not
+pub runs-none : (w : List ℕ) (n : ℕ) → None ≡ runs_of w n → worlds_b w n ≡ true → leb (claims (worlds_from w 0 n)) (capacity w) ≡ true → ⊥
+unfolding runs_of
+runs-none w n e a b = none-some (told_runs w n) (rw (a, b) at e)

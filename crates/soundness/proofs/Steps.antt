@@ -1,39 +1,17 @@
 -- What the functions of `soundness` return, by the tests that led there: each definition opened by one step. Assumes nothing.
-use Rattle.std.proofs.Common.{◌≡◌, ℕ, zero, suc, ◌+◌, ◌-◌, ◌<◌, ◌≤◌, max, Bool, true, false, not, ◌&&◌, eqb, leb, List, sym, refl, ap, ◌∙◌, arith, eq-eqb, ne_eqb, eqb-true, le-leb, leb-true}
+use Rattle.std.proofs.Common.{◌≡◌, ℕ, zero, suc, ◌+◌, ◌-◌, ◌^◌, ◌<◌, ◌≤◌, max, Bool, true, false, ◌&&◌, eqb, List, sym, refl, ap, subst, ◌∙◌, arith, eq-eqb, ne_eqb, eqb-true}
+use Rattle.std.proofs.Common.{Option, Some, None, SomeIff}
 use mathlib.Core.Bool.{and-false}
 use native.Mathlib.Decide.{ℕ_discrete}
-use lib.Bits.{bit_or, bit_xor, xor_self}
-use borrow.Author.Tests.{not-true, not-false}
 use Rattle.model.proofs.Edit.{and-holds}
 use Rattle.run_index.specs.declared.Node.{Node}
 use Rattle.run_index.specs.Cells.{cell_at, Room}
 use Rattle.run_index.specs.Tree.{width}
 use Rattle.run_index.specs.Strung.{free_cell}
-use Rattle.soundness.specs.Decision.{inside_b, below_of, run_b, heights_b, sums_b, agrees_b, cell_b, leaf_b, tree_b, free_b, chain_b, rest_b, Tells}
+use Rattle.soundness.specs.declared.Bounds.{Bounds}
+use Rattle.soundness.specs.Decision.{inside_b, below_of, run_b, heights_b, sums_b, words_b, agrees_b, cell_b, leaf_b, side_b, tree_b, free_b, chain_b, Seen, Tells}
 use Rattle.store.proofs.Truths.{never, is_false, same, both-in}
-use Rattle.soundness.proofs.Tests.{inside-in, below_none, below-some, heights-out, heights-in, sums-out, sums-in, run_out, run_in, ors-none, none-ors, xor-none}
-
--- a node by itself: its run, then its height, then its sums
-module _ (v x y : Node) (g lo total : ℕ) (b : Bool) (eb : b ≡ run_b v.start v.«end» v.tag g lo total) where
-  -- a run that does not fit
-  pub cell-run : not b ≡ true → false ≡ cell_b v x y g lo total
-  unfolding cell_b
-  cell-run t = rw (← eb, not-true b t)
-
-  module _ (tb : not b ≡ false) (h : Bool) (eh : h ≡ heights_b v.height x.height y.height) where
-    -- what is left to test
-    agrees : cell_b v x y g lo total ≡ (h && sums_b v.runs x.runs y.runs v.ones x.ones y.ones v.start v.«end»)
-    unfolding cell_b agrees_b
-    agrees = rw (← eb, not-false b tb, ← eh)
-
-    -- a height that does not fit
-    pub cell-heights : not h ≡ true → false ≡ cell_b v x y g lo total
-    cell-heights t = sym (agrees ∙ rw (not-true h t))
-
-    -- else the sums decide
-    pub cell-sums : not h ≡ false → (r : Bool) → r ≡ sums_b v.runs x.runs y.runs v.ones x.ones y.ones v.start v.«end»
-        → r ≡ cell_b v x y g lo total
-    cell-sums t r er = er ∙ sym (agrees ∙ rw (not-false h t))
+use Rattle.soundness.proofs.Tests.{inside-in, below_none, below-some, heights-out, heights-in, sums-out, sums-in, run_out}
 
 -- the parts of a node's tests: its own run, and its words against those at its links
 pub record Fits (v x y : Node) (g lo total : ℕ) : Type 0 where
@@ -86,28 +64,6 @@ leaf-in v g lo total f =
     (both-in _ _ (eq-eqb _ _ f.no-left)
     (both-in _ _ (eq-eqb _ _ f.no-right) (both-in _ _ (eq-eqb _ _ f.one-run) (eq-eqb _ _ f.own-ones))))
 
--- the code's last test of a leaf: words that are to be 0, and others against what they are to be, in one
-pub leaf_last : (v : Node) (g lo hi : ℕ) → lo ≤ v.start → v.start ≤ v.«end» → v.«end» ≤ hi → (z : ℕ) → z ≡ width v.start v.«end»
-    → eqb (bit_or (bit_or (bit_or (bit_or (bit_xor v.tag g) v.left) v.right) (bit_xor v.runs 1)) (bit_xor v.ones z)) 0 ≡ leaf_b v g lo (hi + 1)
-leaf_last v g lo hi above ordered under z ez =
-    same (eqb (bit_or (bit_or (bit_or (bit_or (bit_xor v.tag g) v.left) v.right) (bit_xor v.runs 1)) (bit_xor v.ones z)) 0) (leaf_b v g lo (hi + 1))
-    (λ t.
-    let a = ors-none (bit_xor v.tag g) v.left v.right (bit_xor v.runs 1) (bit_xor v.ones z) (eqb-true _ _ t) in
-    leaf-in v g lo (hi + 1) (record {
-      run_fits = run_in _ _ _ g lo (hi + 1) (record { tagged = xor-none v.tag g a.0; above = above; ordered = ordered; under = omega arith });
-      no-left = a.1;
-      no-right = a.2;
-      one-run = xor-none v.runs 1 a.3;
-      own-ones = xor-none v.ones z a.4 ∙ ez;
-    }))
-    (λ t.
-    let f = leaf-out v g lo (hi + 1) t in
-    let tag : bit_xor v.tag g ≡ 0 = rw (run_out _ _ _ g lo (hi + 1) f.run_fits).tagged (xor_self g) in
-    let one : bit_xor v.runs 1 ≡ 0 = rw f.one-run (xor_self 1) in
-    let own : bit_xor v.ones z ≡ 0 = rw (f.own-ones ∙ sym ez) (xor_self z) in
-    eq-eqb _ _
-    (none-ors (bit_xor v.tag g) v.left v.right (bit_xor v.runs 1) (bit_xor v.ones z) tag f.no-left f.no-right one own))
-
 -- no tree hangs at 0
 pub tree-none : (d : ℕ) (w : List ℕ) (g k lo total : ℕ) → k ≡ 0 → tree_b d w g k lo total ≡ true
 unfolding tree_b
@@ -153,39 +109,24 @@ tree-narrow (suc d) w g (suc k) lo total h ne =
     is_false _ (λ e. let r = run_out _ _ _ g lo total (cell_out _ _ _ g lo total e).run_fits in omega (arith, r.above, r.ordered, r.under)) in
     rw (no_cell, and-false (inside_b w (suc k)))
 
--- the chain
-chain-step : (c : ℕ) (w : List ℕ) (k : ℕ) → 1 ≤ c → chain_b c w k ≡ (free_b w k && chain_b (c - 1) w (cell_at w k).left)
+-- a chain goes on while links are left
+chain-step : (c i : ℕ) (w : List ℕ) (k : ℕ) → i < c → chain_b (c - i) w k ≡ (free_b w k && chain_b (c - (i + 1)) w (cell_at w k).left)
 unfolding chain_b
-chain-step zero w k h = absurd (omega arith)
-chain-step (suc c) w k h = let e : suc c - 1 ≡ c = omega arith in rw e
+chain-step c i w k h = let e : c - i ≡ suc (c - (i + 1)) = omega arith in rw e
 
 -- its end
-pub chain-end : (c : ℕ) (w : List ℕ) (k : ℕ) → c ≤ 0 → eqb k 0 ≡ chain_b c w k
+pub chain-end : (c : ℕ) (w : List ℕ) (k : ℕ) → c ≡ 0 → eqb k 0 ≡ chain_b c w k
 unfolding chain_b
-chain-end zero w k h = refl
-chain-end (suc c) w k h = absurd (omega arith)
+chain-end c w k h = rw h
 
 -- a node that is not free
-pub chain-broken : (c : ℕ) (w : List ℕ) (k : ℕ) (b : Bool) → 1 ≤ c → b ≡ free_b w k → not b ≡ true → false ≡ chain_b c w k
-chain-broken c w k b h e t = sym (chain-step c w k h ∙ rw (← e, not-true b t))
+pub chain-broken : (c i : ℕ) (w : List ℕ) (k : ℕ) (b : Bool) → i < c → b ≡ free_b w k → b ≡ false → false ≡ chain_b (c - i) w k
+chain-broken c i w k b h e t = sym (chain-step c i w k h ∙ rw (← e, t))
 
 -- a node that is
-pub chain_more : (c : ℕ) (w : List ℕ) (k : ℕ) (b : Bool) (v : Node) → 1 ≤ c → b ≡ free_b w k → not b ≡ false → v ≡ cell_at w k
-    → chain_b (c - 1) w v.left ≡ chain_b c w k
-chain_more c w k b v h e t ev = rw ev (sym (chain-step c w k h ∙ rw (← e, not-false b t)))
-
--- more runs than nodes leave no rest
-pub rest-many : (w : List ℕ) (n r f : ℕ) → n < r → false ≡ rest_b w n r f
-unfolding rest_b
-rest-many w n r f lt =
-    sym (is_false (leb r n && chain_b (n - r) w f) (λ e.
-    let le : r ≤ n = leb-true r n (and-holds (leb r n) (chain_b (n - r) w f) e).0 in
-    omega arith))
-
--- else the chain decides
-pub rest-decides : (w : List ℕ) (n r f : ℕ) → r ≤ n → (b : Bool) → b ≡ chain_b (n - r) w f → b ≡ rest_b w n r f
-unfolding rest_b
-rest-decides w n r f le b eb = eb ∙ sym (rw (le-leb r n le))
+pub chain_more : (c i : ℕ) (w : List ℕ) (k : ℕ) (b : Bool) (v : Node) → i < c → b ≡ free_b w k → b ≡ true → v ≡ cell_at w k
+    → chain_b (c - (i + 1)) w v.left ≡ chain_b (c - i) w k
+chain_more c i w k b v h e t ev = rw ev (sym (chain-step c i w k h ∙ rw (← e, t)))
 
 -- the parts of what the walk tests at a node
 pub record Passed (d : ℕ) (w : List ℕ) (v : Node) (g lo total : ℕ) : Type 0 where
@@ -226,21 +167,6 @@ high d w g k lo total ne e =
     let h = heights-out _ _ _ f in
     omega (arith, h.0)
 
--- the node n has the words v
-pub record Seen (w : List ℕ) (n : ℕ) (v : Node) : Type 0 where
-  pub some : n ≡ 0 → ⊥
-  pub room : Room w n
-  pub is : v ≡ below_of w n
-
--- a link whose words have a height is a node's
-pub seen-high : {w : List ℕ} {n : ℕ} {v : Node} → v ≡ below_of w n → 1 ≤ v.height → Room w n → Seen w n v
-seen-high {w} {n} {v} is high room =
-    record {
-      some = λ z. let q : 0 ≡ v.height = ap (λ (u : Node). u.height) (below_none w n z ∙ sym is) in omega arith;
-      room = room;
-      is = is;
-    }
-
 -- a link that the walk accepts, and whose words have height 0, is 0
 flat : (d : ℕ) (w : List ℕ) (g k lo total : ℕ) → (below_of w k).height ≡ 0 → tree_b d w g k lo total ≡ true → k ≡ 0
 flat d w g k lo total z e = go (ℕ_discrete k 0)
@@ -250,139 +176,139 @@ flat d w g k lo total z e = go (ℕ_discrete k 0)
     go (no ne) = absurd (omega (arith, high d w g k lo total ne e))
 
 -- no tree hangs at 0, whatever the depth
-pub tells_none : (w : List ℕ) (g k lo hi : ℕ) → k ≡ 0 → Tells w g k lo hi true
-tells_none w g k lo hi z d h = sym (tree-none d w g k lo (hi + 1) z)
+pub tells_none : (w : List ℕ) (B : Bounds) (k : ℕ) → k ≡ 0 → Tells w B k true
+tells_none w B k z d h = sym (tree-none d w B.tag k B.low (B.high + 1) z)
 
 -- its own tests pass
-abbrev pub OwnFits : List ℕ → Node → ℕ → ℕ → ℕ → Type 0
-OwnFits w v g lo hi = Fits v (below_of w v.left) (below_of w v.right) g lo (hi + 1)
+abbrev pub OwnFits : List ℕ → Node → Bounds → Type 0
+OwnFits w v B = Fits v (below_of w v.left) (below_of w v.right) B.tag B.low (B.high + 1)
 
-module _ {w : List ℕ} {n : ℕ} {v : Node} (S : Seen w n v) (g lo hi : ℕ) where
+module _ {w : List ℕ} {n : ℕ} {v : Node} (S : Seen w n v) (B : Bounds) where
   -- what the walk tests there
-  parts : (d : ℕ) → tree_b d w g n lo (hi + 1) ≡ true → Passed d w v g lo (hi + 1)
-  parts d e = passed d w g n lo (hi + 1) v S.is S.some e
+  parts : (d : ℕ) → tree_b d w B.tag n B.low (B.high + 1) ≡ true → Passed d w v B.tag B.low (B.high + 1)
+  parts d e = passed d w B.tag n B.low (B.high + 1) v S.is S.some e
 
   -- there is room for the header
   first-room : Room w 0
   first-room = omega (arith, S.room)
 
   -- a node of height 1 is a leaf
-  leaf-accepts : v.height ≡ 1 → leaf_b v g lo (hi + 1) ≡ true → (d : ℕ) → 1 ≤ d → tree_b d w g n lo (hi + 1) ≡ true
+  leaf-accepts : v.height ≡ 1 → leaf_b v B.tag B.low (B.high + 1) ≡ true → (d : ℕ) → 1 ≤ d → tree_b d w B.tag n B.low (B.high + 1) ≡ true
   leaf-accepts one e d le =
-      let f = leaf-out v g lo (hi + 1) e in
+      let f = leaf-out v B.tag B.low (B.high + 1) e in
       let x : free_cell 0 ≡ below_of w v.left = below_none w v.left f.no-left in
       let y : free_cell 0 ≡ below_of w v.right = below_none w v.right f.no-right in
-      tree-node d w g n lo (hi + 1) v S.is S.some le
+      tree-node d w B.tag n B.low (B.high + 1) v S.is S.some le
       ∙ both-in _ _ (inside-in w n S.room)
       (both-in _ _
-      (cell_in v (below_of w v.left) (below_of w v.right) g lo (hi + 1) (rw (← x, ← y) (record {
+      (cell_in v (below_of w v.left) (below_of w v.right) B.tag B.low (B.high + 1) (rw (← x, ← y) (record {
         run_fits = f.run_fits;
         heights-fit = heights-in v.height 0 0 one (omega arith) (omega arith);
         sums-fit = sums-in v.runs 0 0 v.ones 0 0 v.start v.«end» f.one-run (f.own-ones ∙ omega arith);
       })))
       (both-in _ _
-      (tree-none (d - 1) w g v.left lo (v.start - 1) f.no-left)
-      (tree-none (d - 1) w g v.right (v.«end» + 2) (hi + 1) f.no-right)))
+      (tree-none (d - 1) w B.tag v.left B.low (v.start - 1) f.no-left)
+      (tree-none (d - 1) w B.tag v.right (v.«end» + 2) (B.high + 1) f.no-right)))
 
   -- and the other way round
-  leaf-accepted : v.height ≡ 1 → (d : ℕ) → tree_b d w g n lo (hi + 1) ≡ true → leaf_b v g lo (hi + 1) ≡ true
+  leaf-accepted : v.height ≡ 1 → (d : ℕ) → tree_b d w B.tag n B.low (B.high + 1) ≡ true → leaf_b v B.tag B.low (B.high + 1) ≡ true
   leaf-accepted one d e =
       let p = parts d e in
-      let f = cell_out _ _ _ g lo (hi + 1) p.own in
+      let f = cell_out _ _ _ B.tag B.low (B.high + 1) p.own in
       let h = heights-out v.height (below_of w v.left).height (below_of w v.right).height f.heights-fit in
-      let l : v.left ≡ 0 = flat (d - 1) w g v.left lo (v.start - 1) (omega (arith, h.0)) p.left in
-      let r : v.right ≡ 0 = flat (d - 1) w g v.right (v.«end» + 2) (hi + 1) (omega (arith, h.0)) p.right in
+      let l : v.left ≡ 0 = flat (d - 1) w B.tag v.left B.low (v.start - 1) (omega (arith, h.0)) p.left in
+      let r : v.right ≡ 0 = flat (d - 1) w B.tag v.right (v.«end» + 2) (B.high + 1) (omega (arith, h.0)) p.right in
       let s = sums-out v.runs 0 0 v.ones 0 0 v.start v.«end» (rw (← below_none w v.left l, ← below_none w v.right r) at f.sums-fit) in
-      leaf-in v g lo (hi + 1) (record { run_fits = f.run_fits; no-left = l; no-right = r; one-run = s.0; own-ones = s.1 ∙ omega arith })
-
-  -- so the tests of a leaf decide
-  pub leaf-decides : v.height ≡ 1 → (r : Bool) → r ≡ leaf_b v g lo (hi + 1) → Tells w g n lo hi r
-  leaf-decides one r er d h =
-      let q : v.height ≡ (below_of w n).height = ap (λ (u : Node). u.height) S.is in
-      er ∙ same (leaf_b v g lo (hi + 1)) (tree_b d w g n lo (hi + 1)) (λ e. leaf-accepts one e d (omega arith)) (leaf-accepted one d)
-
-  -- the left link leads outside
-  pub left-outside : (b : Bool) → b ≡ inside_b w v.left → not b ≡ true → Tells w g n lo hi false
-  left-outside b eb t d h =
-      sym (is_false _ (λ e. never (sym (sym eb ∙ not-true b t) ∙ inside-linked (d - 1) w g v.left lo (v.start - 1) first-room (parts d e).left)))
-
-  -- the right link
-  pub right-outside : (b : Bool) → b ≡ inside_b w v.right → not b ≡ true → Tells w g n lo hi false
-  right-outside b eb t d h =
-      sym (is_false _ (λ e. never (sym (sym eb ∙ not-true b t) ∙ inside-linked (d - 1) w g v.right (v.«end» + 2) (hi + 1) first-room (parts d e).right)))
+      leaf-in v B.tag B.low (B.high + 1) (record { run_fits = f.run_fits; no-left = l; no-right = r; one-run = s.0; own-ones = s.1 ∙ omega arith })
 
   -- the heights of what hangs at its links
-  shape : (d : ℕ) → tree_b d w g n lo (hi + 1) ≡ true
+  shape : (d : ℕ) → tree_b d w B.tag n B.low (B.high + 1) ≡ true
       → (v.height ≡ 1 + max (below_of w v.left).height (below_of w v.right).height)
       × ((below_of w v.left).height ≤ (below_of w v.right).height + 1)
       × ((below_of w v.right).height ≤ (below_of w v.left).height + 1)
-  shape d e = heights-out _ _ _ (cell_out _ _ _ g lo (hi + 1) (parts d e).own).heights-fit
+  shape d e = heights-out _ _ _ (cell_out _ _ _ B.tag B.low (B.high + 1) (parts d e).own).heights-fit
 
-  -- a node has a height
-  pub no-height : v.height ≡ 0 → Tells w g n lo hi false
-  no-height z d h = sym (is_false _ (λ e. omega (arith, (shape d e).0)))
+  -- so its height and the tests of a leaf decide about a node of height 1 at most
+  pub leaf-decides : v.height ≤ 1 → (r : Bool) → r ≡ (eqb v.height 1 && leaf_b v B.tag B.low (B.high + 1)) → Tells w B n r
+  leaf-decides low r er d h =
+      let q : v.height ≡ (below_of w n).height = ap (λ (u : Node). u.height) S.is in
+      er ∙ same (eqb v.height 1 && leaf_b v B.tag B.low (B.high + 1)) (tree_b d w B.tag n B.low (B.high + 1))
+      (λ e.
+      let p = and-holds (eqb v.height 1) (leaf_b v B.tag B.low (B.high + 1)) e in
+      let one : v.height ≡ 1 = eqb-true _ _ p.0 in
+      leaf-accepts one p.1 d (omega arith))
+      (λ e.
+      let one : v.height ≡ 1 = omega (arith, (shape d e).0) in
+      both-in _ _ (eq-eqb _ _ one) (leaf-accepted one d e))
+
+module _ {w : List ℕ} {n : ℕ} {v : Node} (S : Seen w n v) (B : Bounds) where
+  -- the left link leads outside
+  pub left-outside : (b : Bool) → b ≡ inside_b w v.left → b ≡ false → Tells w B n false
+  left-outside b eb t d h =
+      sym (is_false _ (λ e. never (sym (sym eb ∙ t) ∙ inside-linked (d - 1) w B.tag v.left B.low (v.start - 1) (first-room S B) (parts S B d e).left)))
+
+  -- the right link
+  pub right-outside : (b : Bool) → b ≡ inside_b w v.right → b ≡ false → Tells w B n false
+  right-outside b eb t d h =
+      sym (is_false _ (λ e. never (sym (sym eb ∙ t) ∙ inside-linked (d - 1) w B.tag v.right (v.«end» + 2) (B.high + 1) (first-room S B) (parts S B d e).right)))
 
   -- a node of height 3 or more has a left side
-  pub left-missing : 3 ≤ v.height → v.left ≡ 0 → Tells w g n lo hi false
+  pub left-missing : 3 ≤ v.height → v.left ≡ 0 → Tells w B n false
   left-missing le z d h =
       let x : 0 ≡ (below_of w v.left).height = ap (λ (u : Node). u.height) (below_none w v.left z) in
-      sym (is_false _ (λ e. let s = shape d e in omega arith))
+      sym (is_false _ (λ e. let s = shape S B d e in omega arith))
 
   -- and a right one
-  pub right-missing : 3 ≤ v.height → v.right ≡ 0 → Tells w g n lo hi false
+  pub right-missing : 3 ≤ v.height → v.right ≡ 0 → Tells w B n false
   right-missing le z d h =
       let y : 0 ≡ (below_of w v.right).height = ap (λ (u : Node). u.height) (below_none w v.right z) in
-      sym (is_false _ (λ e. let s = shape d e in omega arith))
+      sym (is_false _ (λ e. let s = shape S B d e in omega arith))
 
-  -- what hangs to the left of a node of height 2 is a leaf, if anything does, or if nothing hangs to its right
-  pub left-high : v.height ≡ 2 → (v.left ≡ 0 → ⊥) → (x : Node) → x ≡ below_of w v.left → (x.height ≡ 1 → ⊥) → Tells w g n lo hi false
-  left-high two nl x ex nx d h =
-      let q : x.height ≡ (below_of w v.left).height = ap (λ (u : Node). u.height) ex in
-      sym (is_false _ (λ e. let s = shape d e in let l = high (d - 1) w g v.left lo (v.start - 1) nl (parts d e).left in nx (omega arith)))
+  -- r says whether a tree hangs on the left, within the bounds that are left for it
+  abbrev pub LeftTells : Bool → Type 0
+  LeftTells r = (d : ℕ) → (below_of w n).height ≤ d → r ≡ tree_b (d - 1) w B.tag v.left B.low (v.start - 1)
 
-  -- nothing to the right
-  pub left_alone : v.height ≡ 2 → v.right ≡ 0 → (x : Node) → x ≡ below_of w v.left → (x.height ≡ 1 → ⊥) → Tells w g n lo hi false
-  left_alone two z x ex nx d h =
-      let q : x.height ≡ (below_of w v.left).height = ap (λ (u : Node). u.height) ex in
-      let y : 0 ≡ (below_of w v.right).height = ap (λ (u : Node). u.height) (below_none w v.right z) in
-      sym (is_false _ (λ e. let s = shape d e in nx (omega arith)))
+  -- and on the right
+  abbrev pub RightTells : Bool → Type 0
+  RightTells r = (d : ℕ) → (below_of w n).height ≤ d → r ≡ tree_b (d - 1) w B.tag v.right (v.«end» + 2) (B.high + 1)
 
-  -- the same of its right side
-  pub right-high : v.height ≡ 2 → (v.right ≡ 0 → ⊥) → (y : Node) → y ≡ below_of w v.right → (y.height ≡ 1 → ⊥) → Tells w g n lo hi false
-  right-high two nr y ey ny d h =
-      let q : y.height ≡ (below_of w v.right).height = ap (λ (u : Node). u.height) ey in
-      sym (is_false _ (λ e. let s = shape d e in let l = high (d - 1) w g v.right (v.«end» + 2) (hi + 1) nr (parts d e).right in ny (omega arith)))
+  -- nothing hangs there
+  pub left-none : v.left ≡ 0 → LeftTells true
+  left-none z d h = sym (tree-none (d - 1) w B.tag v.left B.low (v.start - 1) z)
 
-  -- nothing to the left
-  pub right-alone : v.height ≡ 2 → v.left ≡ 0 → (y : Node) → y ≡ below_of w v.right → (y.height ≡ 1 → ⊥) → Tells w g n lo hi false
-  right-alone two z y ey ny d h =
-      let q : y.height ≡ (below_of w v.right).height = ap (λ (u : Node). u.height) ey in
-      let x : 0 ≡ (below_of w v.left).height = ap (λ (u : Node). u.height) (below_none w v.left z) in
-      sym (is_false _ (λ e. let s = shape d e in ny (omega arith)))
+  pub right-none : v.right ≡ 0 → RightTells true
+  right-none z d h = sym (tree-none (d - 1) w B.tag v.right (v.«end» + 2) (B.high + 1) z)
 
   -- no room below the node's start
-  pub left-crowded : (v.left ≡ 0 → ⊥) → v.start < 2 → Tells w g n lo hi false
-  left-crowded nl lt d h = sym (is_false _ (λ e. never (sym (tree-narrow (d - 1) w g v.left lo (v.start - 1) (omega arith) nl) ∙ (parts d e).left)))
+  pub left-crowded : (v.left ≡ 0 → ⊥) → (2 ≤ v.start → ⊥) → LeftTells false
+  left-crowded nl lt d h = sym (tree-narrow (d - 1) w B.tag v.left B.low (v.start - 1) (omega arith) nl)
 
   -- no room above its end
-  pub right-crowded : (v.right ≡ 0 → ⊥) → hi < v.«end» + 2 → Tells w g n lo hi false
-  right-crowded nr lt d h =
-      sym (is_false _ (λ e. never (sym (tree-narrow (d - 1) w g v.right (v.«end» + 2) (hi + 1) (omega arith) nr) ∙ (parts d e).right)))
+  pub right-crowded : (v.right ≡ 0 → ⊥) → B.high < 2 ^ 64 → (v.«end» + 2 < 2 ^ 64 → ⊥) → RightTells false
+  right-crowded nr fits lt d h = sym (tree-narrow (d - 1) w B.tag v.right (v.«end» + 2) (B.high + 1) (omega arith) nr)
 
-  module _ {x y : Node} (ex : x ≡ below_of w v.left) (ey : y ≡ below_of w v.right) {b : Bool} (eb : b ≡ cell_b v x y g lo (hi + 1)) where
+  -- a left side that is refused
+  pub left-refuses : LeftTells false → Tells w B n false
+  left-refuses l d h = sym (is_false _ (λ e. never (l d h ∙ (parts S B d e).left)))
+
+  -- a right side
+  pub right-refuses : RightTells false → Tells w B n false
+  right-refuses l d h = sym (is_false _ (λ e. never (l d h ∙ (parts S B d e).right)))
+
+  module _ {x y : Node} (ex : x ≡ below_of w v.left) (ey : y ≡ below_of w v.right) {b : Bool} (eb : b ≡ cell_b v x y B.tag B.low (B.high + 1)) where
     -- the node's own tests
-    own_is : b ≡ cell_b v (below_of w v.left) (below_of w v.right) g lo (hi + 1)
+    own_is : b ≡ cell_b v (below_of w v.left) (below_of w v.right) B.tag B.low (B.high + 1)
     own_is = rw (← ex, ← ey) eb
 
     -- a node that fails by itself
-    pub node-fails : not b ≡ true → Tells w g n lo hi false
-    node-fails t d h = sym (is_false _ (λ e. never (sym (sym own_is ∙ not-true b t) ∙ (parts d e).own)))
+    pub node-fails : b ≡ false → Tells w B n false
+    node-fails t d h = sym (is_false _ (λ e. never (sym (sym own_is ∙ t) ∙ (parts S B d e).own)))
 
     -- one that passes
-    pub node-passes : not b ≡ false → OwnFits w v g lo hi
-    node-passes t = cell_out v (below_of w v.left) (below_of w v.right) g lo (hi + 1) (sym own_is ∙ not-false b t)
+    pub node-passes : b ≡ true → OwnFits w v B
+    node-passes t = cell_out v (below_of w v.left) (below_of w v.right) B.tag B.low (B.high + 1) (sym own_is ∙ t)
 
-  module _ (F : OwnFits w v g lo hi) where
+  module _ (F : OwnFits w v B) where
     -- the node is one higher than the higher side
     tall : (below_of w n).height ≡ 1 + max (below_of w v.left).height (below_of w v.right).height
     tall =
@@ -397,31 +323,94 @@ module _ {w : List ℕ} {n : ℕ} {v : Node} (S : Seen w n v) (g lo hi : ℕ) wh
     pub right-lower : (below_of w v.right).height < (below_of w n).height
     right-lower = omega (arith, tall)
 
-    module _ (two : 2 ≤ v.start) {r : Bool} (er : Tells w g v.left lo (v.start - 2) r) where
-      -- what the walk of the left side says
-      left-walked : (d : ℕ) → (below_of w n).height ≤ d → r ≡ tree_b (d - 1) w g v.left lo (v.start - 1)
-      left-walked d h =
-          let z : v.start - 2 + 1 ≡ v.start - 1 = omega arith in
-          rw z at (er (d - 1) (omega (arith, left-lower)))
+    -- what the walk of the left side says
+    pub left-walked : (C : Bounds) → (2 ≤ v.start) × (C ≡ record B { high = v.start - 2 }) → (r : Bool) → Tells w C v.left r → LeftTells r
+    left-walked C c r er d h =
+        let two = c.0 in
+        let z : v.start - 2 + 1 ≡ v.start - 1 = omega arith in
+        rw z at (subst (λ (D : Bounds). Tells w D v.left r) c.1 er (d - 1) (omega (arith, left-lower)))
 
-      -- it refuses
-      pub left-fails : not r ≡ true → Tells w g n lo hi false
-      left-fails t d h = sym (is_false _ (λ e. never (sym (sym (left-walked d h) ∙ not-true r t) ∙ (parts d e).left)))
+    -- and that of the right one
+    pub right-walked : (C : Bounds) → (v.«end» + 2 < 2 ^ 64) × (C ≡ record B { low = v.«end» + 2 }) → (r : Bool) → Tells w C v.right r → RightTells r
+    right-walked C c r er d h = subst (λ (D : Bounds). Tells w D v.right r) c.1 er (d - 1) (omega (arith, right-lower))
 
-      -- it accepts
-      pub left-passes : not r ≡ false → (d : ℕ) → (below_of w n).height ≤ d → tree_b (d - 1) w g v.left lo (v.start - 1) ≡ true
-      left-passes t d h = sym (left-walked d h) ∙ not-false r t
-
-    -- then the walk of the right side decides
-    pub right-decides : ((d : ℕ) → (below_of w n).height ≤ d → tree_b (d - 1) w g v.left lo (v.start - 1) ≡ true)
-        → (r : Bool) → Tells w g v.right (v.«end» + 2) hi r → Tells w g n lo hi r
+    -- where the left side is accepted the right one decides
+    pub right-decides : LeftTells true → (r : Bool) → RightTells r → Tells w B n r
     right-decides left r er d h =
-        er (d - 1) (omega (arith, right-lower))
-        ∙ sym (tree-node d w g n lo (hi + 1) v S.is S.some (omega (arith, tall))
-        ∙ rw (inside-in w n S.room, cell_in v (below_of w v.left) (below_of w v.right) g lo (hi + 1) F, left d h))
+        er d h
+        ∙ sym (tree-node d w B.tag n B.low (B.high + 1) v S.is S.some (omega (arith, tall))
+        ∙ rw (inside-in w n S.room, cell_in v (below_of w v.left) (below_of w v.right) B.tag B.low (B.high + 1) F, ← left d h))
+
+    -- where the right side is accepted the left one decides
+    pub left-decides : (r : Bool) → LeftTells r → RightTells true → Tells w B n r
+    left-decides true l right = right-decides l true right
+    left-decides false l right = left-refuses l
+
+    -- a node of height 2 or more has a right side if it has no left one
+    pub right-there : 2 ≤ v.height → v.left ≡ 0 → v.right ≡ 0 → ⊥
+    right-there le x y =
+        let p : 0 ≡ (below_of w v.left).height = ap (λ (u : Node). u.height) (below_none w v.left x) in
+        let q : 0 ≡ (below_of w v.right).height = ap (λ (u : Node). u.height) (below_none w v.right y) in
+        let t : v.height ≡ (below_of w n).height = ap (λ (u : Node). u.height) S.is in
+        omega (arith, tall)
+
+    module _ (two : v.height ≡ 2) where
+      -- what hangs to the left of a node of height 2 is a leaf
+      pub left-leaf : {x : Node} → x ≡ below_of w v.left → (v.left ≡ 0 → ⊥) → Room w v.left
+          → (o : Option Bounds) → SomeIff o (2 ≤ v.start) (record B { high = v.start - 2 }) → (r : Bool) → r ≡ side_b x o → LeftTells r
+      left-leaf ex nl room None so r er = rw er (left-crowded nl so)
+      left-leaf {x} ex nl room (Some C) so r er =
+          let q : x.height ≡ (below_of w v.left).height = ap (λ (u : Node). u.height) ex in
+          let t : v.height ≡ (below_of w n).height = ap (λ (u : Node). u.height) S.is in
+          let L : Seen w v.left x = record { some = nl; room = room; is = ex } in
+          left-walked C so r (leaf-decides L C (omega (arith, left-lower)) r er)
+
+      -- and to its right
+      pub right-leaf : {y : Node} → y ≡ below_of w v.right → (v.right ≡ 0 → ⊥) → Room w v.right → B.high < 2 ^ 64
+          → (o : Option Bounds) → SomeIff o (v.«end» + 2 < 2 ^ 64) (record B { low = v.«end» + 2 }) → (r : Bool) → r ≡ side_b y o → RightTells r
+      right-leaf ey nr room fits None so r er = rw er (right-crowded nr fits so)
+      right-leaf {y} ey nr room fits (Some C) so r er =
+          let q : y.height ≡ (below_of w v.right).height = ap (λ (u : Node). u.height) ey in
+          let t : v.height ≡ (below_of w n).height = ap (λ (u : Node). u.height) S.is in
+          let L : Seen w v.right y = record { some = nr; room = room; is = ey } in
+          right-walked C so r (leaf-decides L C (omega (arith, right-lower)) r er)
+
+-- only a node of height 1 is a leaf
+pub side-high : (x : Node) (o : Option Bounds) → side_b x o ≡ true → x.height ≡ 1
+side-high x None e = never e
+side-high x (Some B) e = eqb-true _ _ (and-holds (eqb x.height 1) (leaf_b x B.tag B.low (B.high + 1)) e).0
+
+-- a node of height 2, whose height is tested by that of its leaves
+module _ {w : List ℕ} {n : ℕ} {v : Node} (S : Seen w n v) (B : Bounds) where
+  -- what is refused of a node whose own tests pass is refused of any
+  pub own-refuses : (OwnFits w v B → Tells w B n false) → Tells w B n false
+  own-refuses f d h = sym (is_false _ (λ e. never (f (cell_out _ _ _ B.tag B.low (B.high + 1) (parts S B d e).own) d h ∙ e)))
+
+  module _ {x y : Node} (ex : x ≡ below_of w v.left) (ey : y ≡ below_of w v.right) (b : Bool) (eb : b ≡ words_b v x y B.tag B.low (B.high + 1)) where
+    -- its words do not fit
+    pub words-fail : b ≡ false → Tells w B n false
+    unfolding words_b
+    words-fail t = own-refuses (λ F. never (sym t ∙ eb ∙ both-in _ _ F.run_fits (rw (ex, ey) F.sums-fit)))
+
+    -- where they do its sides decide, if one of them has height 1 where both are accepted
+    pub sides-decide : v.height ≡ 2 → b ≡ true → (l r : Bool) → (OwnFits w v B → LeftTells S B l) → (OwnFits w v B → RightTells S B r)
+        → (l ≡ true → r ≡ true → (x.height ≤ 1) × (y.height ≤ 1) × (1 ≤ x.height + y.height)) → Tells w B n (l && r)
+    unfolding words_b
+    sides-decide two t false r L R high = own-refuses (λ F. left-refuses S B (L F))
+    sides-decide two t true false L R high = own-refuses (λ F. right-refuses S B (R F))
+    sides-decide two t true true L R high =
+        let h = high refl refl in
+        let p = and-holds (run_b v.start v.«end» v.tag B.tag B.low (B.high + 1)) (sums_b v.runs x.runs y.runs v.ones x.ones y.ones v.start v.«end») (sym eb ∙ t) in
+        let F : OwnFits w v B = rw (← ex, ← ey) (record {
+          run_fits = p.0;
+          heights-fit = heights-in v.height x.height y.height (omega (arith, two, h.0, h.1, h.2)) (omega (arith, h.0, h.1, h.2)) (omega (arith, h.0, h.1, h.2));
+          sums-fit = p.1;
+        }) in
+        right-decides S B F (L F) true (R F)
 
 -- where the walk of the link k is: at the link j, whose walk decides for k's
-pub record Way (w : List ℕ) (g k lo hi j low : ℕ) : Type 0 where
+pub record Way (w : List ℕ) (B : Bounds) (k : ℕ) (C : Bounds) (j : ℕ) : Type 0 where
   pub room : Room w j
+  pub high : C.high < 2 ^ 64
   pub lower : (below_of w j).height ≤ (below_of w k).height
-  pub tells : (r : Bool) → Tells w g j low hi r → Tells w g k lo hi r
+  pub tells : (r : Bool) → Tells w C j r → Tells w B k r

@@ -1,16 +1,16 @@
 -- The tests of specs/Decision.antt as facts, and back: a test is true exactly where each of its parts holds. What the code's own tests
 -- come to follows, since two tests that are true alike are equal. Assumes nothing.
-use Rattle.std.proofs.Common.{◌≡◌, ℕ, zero, suc, ◌+◌, ◌-◌, ◌/◌, ◌%◌, ◌^◌, ◌<◌, ◌≤◌, max, true, false, ◌&&◌, eqb, ltb, leb, List, length, sym, refl, ap}
+use Rattle.std.proofs.Common.{◌≡◌, ℕ, zero, suc, ◌+◌, ◌-◌, ◌/◌, ◌%◌, ◌^◌, ◌<◌, ◌≤◌, max, true, ◌&&◌, ltb, leb, List, length, refl, ap}
 use Rattle.std.proofs.Common.{◌∙◌, le_trans, arith, ltb-true, lt-ltb, eq-eqb, eqb-true, le-leb, leb-true}
-use lib.Bits.{bit_or, bit_xor, or_add_and, xor_add_and, and_le_l, and_le_r, or_lt}
+use lib.Bits.{bit_or, or_add_and, and_le_l, and_le_r, or_lt}
 use Rattle.model.proofs.Edit.{and-holds}
 use Rattle.run_index.specs.declared.Node.{Node}
 use Rattle.run_index.specs.Cells.{cell_at, Room}
 use Rattle.run_index.specs.Tree.{width}
 use Rattle.run_index.specs.Strung.{free_cell}
 use Rattle.run_index.proofs.Words.{same-node}
-use Rattle.soundness.specs.Decision.{inside_b, below_of, run_b, heights_b, sums_b, zeros_b, free_b}
-use Rattle.store.proofs.Truths.{is_false, same, both-in}
+use Rattle.soundness.specs.Decision.{inside_b, below_of, within_b, run_b, heights_b, sums_b, zeros_b, free_b}
+use Rattle.store.proofs.Truths.{same, both-in}
 use Rattle.store.proofs.Chains.{FreeAt}
 
 -- a node inside has room
@@ -29,6 +29,12 @@ unfolding below_of
 below_none w zero e = refl
 below_none w (suc k) e = absurd (omega arith)
 
+-- words that are all 0 are those
+pub zeros-below : (w : List ℕ) (k : ℕ) (x : Node) → k ≡ 0
+    → (x.start ≡ 0) × ((x.«end» ≡ 0) × ((x.left ≡ 0) × ((x.right ≡ 0) × ((x.height ≡ 0) × ((x.runs ≡ 0) × ((x.ones ≡ 0) × (x.tag ≡ 0)))))))
+    → x ≡ below_of w k
+zeros-below w k x z e = same-node x (free_cell 0) e.0 e.1.0 e.1.1.0 e.1.1.1.0 e.1.1.1.1.0 e.1.1.1.1.1.0 e.1.1.1.1.1.1.0 e.1.1.1.1.1.1.1 ∙ below_none w k z
+
 -- elsewhere they are the node's
 pub below-some : (w : List ℕ) (k : ℕ) → (k ≡ 0 → ⊥) → cell_at w k ≡ below_of w k
 unfolding below_of
@@ -44,7 +50,7 @@ pub record Within (a b g k lo total : ℕ) : Type 0 where
 
 -- what the test of a run says
 pub run_out : (a b g k lo total : ℕ) → run_b a b g k lo total ≡ true → Within a b g k lo total
-unfolding run_b
+unfolding run_b within_b
 run_out a b g k lo total e =
     let p = and-holds _ _ e in
     let q = and-holds _ _ p.1 in
@@ -53,16 +59,9 @@ run_out a b g k lo total e =
 
 -- and back
 pub run_in : (a b g k lo total : ℕ) → Within a b g k lo total → run_b a b g k lo total ≡ true
-unfolding run_b
+unfolding run_b within_b
 run_in a b g k lo total h =
     both-in _ _ (eq-eqb _ _ h.tagged) (both-in _ _ (le-leb _ _ h.above) (both-in _ _ (le-leb _ _ h.ordered) (lt-ltb _ _ h.under)))
-
--- the code's last test of a run
-pub run-last : (a b g k lo hi : ℕ) → g ≡ k → lo ≤ a → a ≤ b → leb b hi ≡ run_b a b g k lo (hi + 1)
-run-last a b g k lo hi z l m =
-    same (leb b hi) (run_b a b g k lo (hi + 1))
-    (λ e. let u = leb-true b hi e in run_in a b g k lo (hi + 1) (record { tagged = z; above = l; ordered = m; under = omega arith }))
-    (λ e. let h = run_out a b g k lo (hi + 1) e in le-leb b hi (omega arith))
 
 -- heights of a node and its sides
 pub heights-out : (h h1 h2 : ℕ) → heights_b h h1 h2 ≡ true → (h ≡ 1 + max h1 h2) × (h1 ≤ h2 + 1) × (h2 ≤ h1 + 1)
@@ -84,27 +83,6 @@ or_left a b = omega (arith, or_add_and a b, and_le_r a b)
 -- nor the second
 or_right : (a b : ℕ) → b ≤ bit_or a b
 or_right a b = omega (arith, or_add_and a b, and_le_l a b)
-
--- words whose bits together are 0 are each 0
-or-none : (a b : ℕ) → bit_or a b ≡ 0 → (a ≡ 0) × (b ≡ 0)
-or-none a b e = (omega (arith, or_left a b), omega (arith, or_right a b))
-
--- five words
-pub ors-none : (a b c d e : ℕ) → bit_or (bit_or (bit_or (bit_or a b) c) d) e ≡ 0 → (a ≡ 0) × (b ≡ 0) × (c ≡ 0) × (d ≡ 0) × (e ≡ 0)
-ors-none a b c d e z =
-    let p = or-none (bit_or (bit_or (bit_or a b) c) d) e z in
-    let q = or-none (bit_or (bit_or a b) c) d p.0 in
-    let r = or-none (bit_or a b) c q.0 in
-    let s = or-none a b r.0 in
-    (s.0, s.1, r.1, q.1, p.1)
-
--- and back
-pub none-ors : (a b c d e : ℕ) → a ≡ 0 → b ≡ 0 → c ≡ 0 → d ≡ 0 → e ≡ 0 → bit_or (bit_or (bit_or (bit_or a b) c) d) e ≡ 0
-none-ors a b c d e za zb zc zd ze = rw (za, zb, zc, zd, ze)
-
--- words that differ in no bit are equal
-pub xor-none : (a b : ℕ) → bit_xor a b ≡ 0 → a ≡ b
-xor-none a b e = omega (arith, xor_add_and a b, and_le_l a b, and_le_r a b)
 
 -- a difference modulo 2^64 that is 0 or 1
 less_by : (m k a : ℕ) → 1 ≤ m → k < 2 ^ 64 → (a + k) % 2 ^ 64 ≡ m → a ≤ 1 → k + a ≡ m
@@ -169,15 +147,6 @@ pub sums-in : (k k1 k2 o o1 o2 a b : ℕ) → k ≡ k1 + k2 + 1 → o ≡ ((o1 +
 unfolding sums_b
 sums-in k k1 k2 o o1 o2 a b p q = both-in _ _ (eq-eqb _ _ p) (eq-eqb _ _ q)
 
--- the code's last test of sums
-pub sums-last : (k k1 k2 o o1 o2 a b x y z : ℕ) → k1 < k → k - k1 - 1 ≡ k2 → x ≡ width a b → y ≡ (o1 + o2) % 2 ^ 64
-    → z ≡ (y + x) % 2 ^ 64 → eqb o z ≡ sums_b k k1 k2 o o1 o2 a b
-sums-last k k1 k2 o o1 o2 a b x y z lt ek ex ey ez =
-    let e : z ≡ ((o1 + o2) % 2 ^ 64 + width a b) % 2 ^ 64 = rw (← ex, ← ey) ez in
-    same (eqb o z) (sums_b k k1 k2 o o1 o2 a b)
-    (λ t. sums-in k k1 k2 o o1 o2 a b (omega arith) (eqb-true _ _ t ∙ e))
-    (λ t. eq-eqb _ _ ((sums-out k k1 k2 o o1 o2 a b t).1 ∙ sym e))
-
 -- where all words but the link are 0 they are a free node's
 pub zeros-out : (v : Node) → zeros_b v ≡ true → v ≡ free_cell v.left
 unfolding zeros_b
@@ -215,20 +184,3 @@ pub free_in : (w : List ℕ) (n : ℕ) → FreeAt w n → free_b w n ≡ true
 unfolding free_b
 free_in w n f =
     both-in _ _ (lt-ltb 0 n (omega (arith, f.some))) (both-in _ _ (inside-in w n f.room) (zeros-in (cell_at w n) f.zeros))
-
--- the code's last test of a free node v
-pub free-last : (w : List ℕ) (n : ℕ) (v : Node) → v ≡ cell_at w n → 1 ≤ n → Room w n → v.start ≡ 0 → v.«end» ≡ 0 → v.right ≡ 0
-    → v.height ≡ 0 → v.runs ≡ 0 → v.ones ≡ 0 → eqb v.tag 0 ≡ free_b w n
-free-last w n v is some room e0 e1 e3 e4 e5 e6 =
-    same (eqb v.tag 0) (free_b w n)
-    (λ t. free_in w n (record {
-      some = some;
-      room = room;
-      zeros = rw (← is) (same-node v (free_cell v.left) e0 e1 refl e3 e4 e5 e6 (eqb-true _ _ t));
-    }))
-    (λ t. eq-eqb _ _ (ap (λ (u : Node). u.tag) (is ∙ (free-out w n t).zeros)))
-
--- where a word of v is not 0 the node is not free
-pub free-not : (w : List ℕ) (n : ℕ) (v : Node) (f : Node → ℕ) → v ≡ cell_at w n → f (free_cell (cell_at w n).left) ≡ 0 → (f v ≡ 0 → ⊥)
-    → false ≡ free_b w n
-free-not w n v f is z ne = sym (is_false (free_b w n) (λ t. ne (ap f (is ∙ (free-out w n t).zeros) ∙ z)))

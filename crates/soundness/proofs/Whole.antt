@@ -1,16 +1,14 @@
 -- The tests of the whole pool decide whether it is sound: where they pass, the trees and the free chain have as many nodes as there are, so
 -- they share them out; and a sound pool passes each. What `is_sound` returns follows, test by test. Assumes nothing.
-use Rattle.std.proofs.Common.{◌≡◌, ℕ, ◌+◌, ◌-◌, ◌*◌, ◌/◌, ◌<◌, ◌≤◌, Bool, true, false, not, leb, List, length, sym, ap, ◌∙◌, subst, arith, le-leb, leb-true}
-use borrow.Author.Tests.{not-true, not-false}
+use Rattle.std.proofs.Common.{◌≡◌, ℕ, ◌+◌, ◌-◌, ◌*◌, ◌/◌, ◌<◌, ◌≤◌, Bool, true, false, leb, Some, None, List, length, sym, ap, ◌∙◌, arith, le-leb, leb-true}
 use Rattle.model.specs.Numbers.{most_worlds}
 use Rattle.model.specs.Pools.{claims}
 use Rattle.model.proofs.Edit.{and-holds}
 use Rattle.run_index.specs.declared.Node.{Node}
 use Rattle.run_index.specs.Cells.{cell_at}
-use Rattle.soundness.specs.declared.Checked.{Checked}
 use Rattle.store.specs.Layout.{opened_at, free_head, world_at, nodes, capacity, node_count, worlds_of}
 use Rattle.store.specs.Soundness.{sum_to, runs_at, Planted, Sound}
-use Rattle.soundness.specs.Decision.{rest_b, header_b, worlds_b, unopened_b, told_runs, sound_b, Checks}
+use Rattle.soundness.specs.Decision.{rest_b, header_b, worlds_b, unopened_b, told_runs, runs_of, sound_b}
 use Rattle.store.proofs.Parts.{lent, lent-nodes, nodes-length}
 use Rattle.store.proofs.Truths.{never, is_false, same, both-in}
 use Rattle.store.proofs.Nodes.{sized-length}
@@ -18,7 +16,7 @@ use Rattle.soundness.proofs.Following.{rest_b-yes, rest_b-no}
 use Rattle.store.proofs.Hanging.{planted-fits}
 use Rattle.soundness.proofs.Records.{header-out, header-in, unopened-out, unopened-in}
 use Rattle.soundness.proofs.Shared.{shared-out}
-use Rattle.soundness.proofs.Placed.{worlds-out, worlds-in, place-planted, told-runs}
+use Rattle.soundness.proofs.Placed.{worlds-out, worlds-in, place-planted, told-runs, runs-out, runs-none}
 
 -- its tests, one by one
 record Tested (w : List ℕ) : Type 0 where
@@ -97,53 +95,42 @@ module _ (w : List ℕ) (v : Node) (ev : v ≡ cell_at w 0) (b : Bool) (eb : b �
   header_is = eb ∙ ap header_b ev
 
   -- it fails
-  pub header-fails : not b ≡ true → false ≡ sound_b w
-  header-fails t = unsound w (λ T. never (sym (not-true b t) ∙ header_is ∙ T.header))
+  pub header-fails : b ≡ false → false ≡ sound_b w
+  header-fails t = unsound w (λ T. never (sym t ∙ header_is ∙ T.header))
 
   -- how many worlds were opened
   opened-is : v.start ≡ opened_at w
   opened-is = ap (λ (u : Node). u.start) ev
 
-  module _ (tb : not b ≡ false) where
-    -- they are 16 at most
-    pub opened-few : v.start ≤ most_worlds
-    opened-few = (header-out v (sym eb ∙ not-false b tb)).few
+  -- they are 16 at most
+  pub opened-few : b ≡ true → v.start ≤ most_worlds
+  opened-few t = (header-out v (sym eb ∙ t)).few
 
-    module _ (t : Checked) (et : Checks w v.start t) where
-      -- what the test of the worlds says
-      worlds-told : Checks w (opened_at w) t
-      worlds-told = subst (λ n. Checks w n t) opened-is et
+  -- their test fails
+  pub worlds-fail : None ≡ runs_of w v.start → false ≡ sound_b w
+  unfolding worlds_of
+  worlds-fail e = unsound w (λ T. runs-none w (opened_at w) (e ∙ ap (runs_of w) opened-is) T.worlds T.fits)
 
-      -- it fails
-      pub worlds-fail : not t.fits ≡ true → false ≡ sound_b w
-      unfolding worlds_of
-      worlds-fail f = unsound w (λ T. never (sym (not-true t.fits f) ∙ worlds-told.told ∙ both-in (worlds_b w (opened_at w)) _ T.worlds T.fits))
+  module _ (u : Bool) (eu : u ≡ unopened_b w v.start (most_worlds - v.start)) where
+    -- the test of the other records
+    unopened-is : u ≡ unopened_b w (opened_at w) (most_worlds - opened_at w)
+    unopened-is = eu ∙ ap (λ n. unopened_b w n (most_worlds - n)) opened-is
 
-      module _ (tt : not t.fits ≡ false) (u : Bool) (eu : u ≡ unopened_b w v.start (most_worlds - v.start)) where
-        -- the test of the other records
-        unopened-is : u ≡ unopened_b w (opened_at w) (most_worlds - opened_at w)
-        unopened-is = eu ∙ ap (λ n. unopened_b w n (most_worlds - n)) opened-is
+    -- it fails
+    pub unopened-fails : u ≡ false → false ≡ sound_b w
+    unopened-fails t = unsound w (λ T. never (sym t ∙ unopened-is ∙ T.unopened))
 
-        -- it fails
-        pub unopened-fail : not u ≡ true → false ≡ sound_b w
-        unopened-fail f = unsound w (λ T. never (sym (not-true u f) ∙ unopened-is ∙ T.unopened))
-
-        -- else the free chain decides
-        pub rest-decides : not u ≡ false → 1 ≤ capacity w → (n : ℕ) → n ≡ length w / 8 - 17 → (r : Bool) → r ≡ rest_b (lent w) n t.runs v.«end» → r ≡ sound_b w
-        unfolding worlds_of
-        rest-decides f sized n en r er =
-            let fits : t.fits ≡ true = not-false t.fits tt in
-            let p = and-holds (worlds_b w (opened_at w)) (leb (claims (worlds_of w)) (capacity w)) (sym worlds-told.told ∙ fits) in
-            let is : r ≡ rest_b (nodes w) (node_count w) (told_runs w (opened_at w)) (free_head w) =
-            er ∙ ap (λ l. rest_b l n t.runs v.«end») (lent-nodes w) ∙ ap (λ m. rest_b (nodes w) m t.runs v.«end») (en ∙ nodes-are w sized)
-            ∙ ap (λ m. rest_b (nodes w) (node_count w) m v.«end») (worlds-told.many fits)
-            ∙ ap (λ (x : Node). rest_b (nodes w) (node_count w) (told_runs w (opened_at w)) x.«end») ev in
-            same r (sound_b w)
-            (λ e. sound-in w (record {
-              header = sym header_is ∙ not-false b tb;
-              worlds = p.0;
-              unopened = sym unopened-is ∙ not-false u f;
-              fits = p.1;
-              rest = sym is ∙ e;
-            }))
-            (λ e. is ∙ (sound-out w e).rest)
+    -- where all pass the free chain decides
+    pub rest-decides : b ≡ true → u ≡ true → 1 ≤ capacity w → (k : ℕ) → Some k ≡ runs_of w v.start
+        → (n : ℕ) → n ≡ length w / 8 - 17 → (r : Bool) → r ≡ rest_b (lent w) n k v.«end» → r ≡ sound_b w
+    unfolding worlds_of
+    rest-decides tb tu sized k ek n en r er =
+        let c = runs-out w (opened_at w) k (ek ∙ ap (runs_of w) opened-is) in
+        let p = and-holds (worlds_b w (opened_at w)) (leb (claims (worlds_of w)) (capacity w)) c.0 in
+        let is : r ≡ rest_b (nodes w) (node_count w) (told_runs w (opened_at w)) (free_head w) =
+        er ∙ ap (λ l. rest_b l n k v.«end») (lent-nodes w) ∙ ap (λ m. rest_b (nodes w) m k v.«end») (en ∙ nodes-are w sized)
+        ∙ ap (λ m. rest_b (nodes w) (node_count w) m v.«end») c.1
+        ∙ ap (λ (x : Node). rest_b (nodes w) (node_count w) (told_runs w (opened_at w)) x.«end») ev in
+        same r (sound_b w)
+        (λ e. sound-in w (record { header = sym header_is ∙ tb; worlds = p.0; unopened = sym unopened-is ∙ tu; fits = p.1; rest = sym is ∙ e }))
+        (λ e. is ∙ (sound-out w e).rest)

@@ -1,10 +1,11 @@
 -- Whether words are a sound pool, as tests that the code makes one by one. Assumes nothing: these are definitions.
-use Rattle.std.specs.Prelude.{◌≡◌, ℕ, zero, suc, ◌+◌, ◌-◌, ◌/◌, ◌%◌, ◌^◌, ◌≤◌, max, Bool, true, not, ◌&&◌, ◌||◌, List, length, ◌==◌, nat_le, nat_lt}
+use Rattle.std.specs.Prelude.{◌≡◌, ℕ, zero, suc, ◌+◌, ◌-◌, ◌/◌, ◌%◌, ◌^◌, ◌≤◌, max, Bool, true}
+use Rattle.std.specs.Prelude.{false, not, Option, Some, None, if◌then◌else◌, ◌&&◌, ◌||◌, List, length, ◌==◌, nat_le, nat_lt}
 use Rattle.model.specs.Numbers.{size, most_worlds}
 use Rattle.model.specs.Positions.{held_runs, stretches}
 use Rattle.model.specs.Pools.{claim, claims}
 use Rattle.run_index.specs.declared.Node.{Node}
-use Rattle.run_index.specs.Cells.{cell_at}
+use Rattle.run_index.specs.Cells.{cell_at, Room}
 use Rattle.run_index.specs.Tree.{width}
 use Rattle.run_index.specs.Strung.{free_cell}
 use Rattle.store.specs.declared.World.{World}
@@ -25,8 +26,8 @@ use Rattle.store.specs.Layout.{
   worlds_from,
   worlds_of,
 }
+use Rattle.soundness.specs.declared.Bounds.{Bounds}
 use Rattle.soundness.specs.declared.Place.{Place}
-use Rattle.soundness.specs.declared.Checked.{Checked}
 use Rattle.store.specs.Soundness.{first_of, last_of, sum_to}
 
 -- node n has all its words in w; so has what lies at 0
@@ -38,9 +39,13 @@ unfoldable pub below_of : List ℕ → ℕ → Node
 below_of w zero = free_cell 0
 below_of w (suc n) = cell_at w (suc n)
 
+-- the run lies within lo .. total - 1
+unfoldable pub within_b : ℕ → ℕ → ℕ → ℕ → Bool
+within_b a b lo total = nat_le lo a && (nat_le a b && nat_lt b total)
+
 -- the tag is k, and the run lies within lo .. total - 1
 unfoldable pub run_b : ℕ → ℕ → ℕ → ℕ → ℕ → ℕ → Bool
-run_b a b g k lo total = g == k && (nat_le lo a && (nat_le a b && nat_lt b total))
+run_b a b g k lo total = g == k && within_b a b lo total
 
 -- h is one more than the greater of h1 and h2, which differ by at most 1
 unfoldable pub heights_b : ℕ → ℕ → ℕ → Bool
@@ -49,6 +54,11 @@ heights_b h h1 h2 = h == 1 + max h1 h2 && (nat_le h1 (h2 + 1) && nat_le h2 (h1 +
 -- the words for runs and ones are those of the two sides and the node's own
 unfoldable pub sums_b : ℕ → ℕ → ℕ → ℕ → ℕ → ℕ → ℕ → ℕ → Bool
 sums_b k k1 k2 o o1 o2 a b = k == k1 + k2 + 1 && o == ((o1 + o2) % 2 ^ 64 + width a b) % 2 ^ 64
+
+-- the words v of a node, but for its height, against those of its two sides: k is the tag that it is to have
+unfoldable pub words_b : Node → Node → Node → ℕ → ℕ → ℕ → Bool
+words_b v x y k lo total =
+    run_b v.start v.«end» v.tag k lo total && sums_b v.runs x.runs y.runs v.ones x.ones y.ones v.start v.«end»
 
 -- the words v of a node against those of its two sides
 unfoldable pub agrees_b : Node → Node → Node → Bool
@@ -142,17 +152,29 @@ sound_b w =
     && (unopened_b w (opened_at w) (most_worlds - opened_at w)
     && (nat_le (claims (worlds_of w)) (capacity w) && rest_b (nodes w) (node_count w) (told_runs w (opened_at w)) (free_head w))))
 
--- r says whether a tree with the tag g and the runs within lo .. hi hangs at the link k
-abbrev pub Tells : List ℕ → ℕ → ℕ → ℕ → ℕ → Bool → Type 0
-Tells w g k lo hi r = (d : ℕ) → (below_of w k).height ≤ d → r ≡ tree_b d w g k lo (hi + 1)
+-- r says whether a tree within the bounds b hangs at the link k
+abbrev pub Tells : List ℕ → Bounds → ℕ → Bool → Type 0
+Tells w b k r = (d : ℕ) → (below_of w k).height ≤ d → r ≡ tree_b d w b.tag k b.low (b.high + 1)
 
--- r says whether world k fits; and if so, what it claims, and how many runs its tree has
-pub record ChecksPlace (w : List ℕ) (k : ℕ) (r : Place) : Type 0 where
-  pub told : r.fits ≡ place_b w k
-  pub claimed : r.fits ≡ true → r.claim ≡ claim (plain_at w k)
-  pub many : r.fits ≡ true → r.runs ≡ (world_at w k).runs
+-- the node n has the words v
+pub record Seen (w : List ℕ) (n : ℕ) (v : Node) : Type 0 where
+  pub some : ¬ (n ≡ 0)
+  pub room : Room w n
+  pub is : v ≡ below_of w n
 
--- r says whether the first n worlds fit, and what they claim together; and if so, how many runs they have
-pub record Checks (w : List ℕ) (n : ℕ) (r : Checked) : Type 0 where
-  pub told : r.fits ≡ (worlds_b w n && nat_le (claims (worlds_from w 0 n)) (capacity w))
-  pub many : r.fits ≡ true → r.runs ≡ told_runs w n
+-- r says whether such a tree hangs at the node with the words v
+abbrev pub TellsNode : List ℕ → Node → Bounds → Bool → Type 0
+TellsNode w v b r = (n : ℕ) → Seen w n v → Tells w b n r
+
+-- the words are those of a leaf within the bounds, if there are any
+abbrev pub side_b : Node → Option Bounds → Bool
+side_b v None = false
+side_b v (Some b) = v.height == 1 && leaf_b v b.tag b.low (b.high + 1)
+
+-- what world k claims, and how many runs its tree has, if it fits
+unfoldable pub place_of : List ℕ → ℕ → Option Place
+place_of w k = if place_b w k then Some (record { claim = claim (plain_at w k); runs = (world_at w k).runs }) else None
+
+-- how many runs the first n worlds have, if they fit and do not claim too much together
+unfoldable pub runs_of : List ℕ → ℕ → Option ℕ
+runs_of w n = if worlds_b w n && nat_le (claims (worlds_from w 0 n)) (capacity w) then Some (told_runs w n) else None

@@ -5,11 +5,14 @@ use mathlib.Core.Path.{◌≡◌, sym, ap, ap₂, ◌∙◌}
 use mathlib.Core.Logic.{◌⊎◌, inl, inr}
 use mathlib.Core.Bool.{true}
 use mathlib.Core.List.{List}
-use native.Mathlib.Nat.{zero-add, one-mul, div-eq_of_lt, mod-lt, mod-eq_of_lt, add-mul-div_right, add-mul-mod_self_right, pow-le-pow_right}
+use native.Mathlib.Nat.{zero-add, one-mul, div-eq_of_lt, mod-eq_of_lt, add-mul-div_right, add-mul-mod_self_right}
 use native.Mathlib.Omega.{arith}
 use lib.Pow.{pow_pos, shl_exact}
+use lib.Count.{ones_step}
 use lib.ListN.{length, get_or, set, length-set}
 use lib.Seq.{get_or-set_same, get_or-set_other, ext_get_or}
+use Rattle.std.specs.Prelude.{count_ones}
+use Rattle.std.proofs.lemmas.Nat.{ones_le_self}
 use Rattle.model.proofs.Numbers.{split}
 use Rattle.model.specs.Positions.{Positions, one_if, count}
 use Rattle.model.proofs.Counting.{one-bound, beq-true, count-first, count_most}
@@ -18,34 +21,15 @@ use Rattle.model.proofs.Maps.{bits-bound, map_of-length, map_of-at}
 use Rattle.spare.proofs.Bytes.{bits_above, byte-is}
 
 -- ---- the ones of a number
--- of the positions whose bits are 0 none is held
-none-held : (P : Positions) (x k : ℕ) → bits P x k ≡ 0 → count P true x k ≡ 0
+-- of the bits of k positions as many are one as positions are held
+bits-ones : (P : Positions) (x k : ℕ) → count_ones (bits P x k) ≡ count P true x k
 unfolding bits
-none-held P x zero e = let h : count P true x 0 ≤ 0 = count_most P true x 0 in omega arith
-none-held P x (suc k) e =
-    let h : count P true (suc x) k ≡ 0 = none-held P (suc x) k (omega arith) in
-    let f : one_if (P x) ≡ 0 = omega arith in
-    count-first P true x k ∙ rw (beq-true, f, h)
-
--- rest is the bits of some positions that are still to be counted, of all those whose held ones are total
-abbrev pub Left : Positions → ℕ → ℕ → ℕ → Type 0
-Left P rest found total = (x : ℕ) × (k : ℕ) × (rest ≡ bits P x k) × (found + count P true x k ≡ total)
-
--- at first all are
-pub all_left : (b : ℕ) (P : Positions) (x k : ℕ) → b ≡ bits P x k → Left P b 0 (count P true x k)
-all_left b P x k e = (x, k, e, zero-add (count P true x k))
-
--- then one less
-pub one_less : (P : Positions) (rest found total : ℕ) → 0 < rest → Left P rest found total → Left P (rest / 2) (found + rest % 2) total
-unfolding bits
-one_less P rest found total h (x, zero, e, f) = absurd (omega arith)
-one_less P rest found total h (x, suc k, e, f) =
-    let g : count P true x (suc k) ≡ one_if (P x) + count P true (suc x) k = count-first P true x k ∙ rw beq-true in
-    (suc x, k, omega (arith, one-bound (P x)), omega (arith, one-bound (P x)))
-
--- at last none is
-pub none_left : (P : Positions) (rest found total : ℕ) → rest ≡ 0 → Left P rest found total → found ≡ total
-none_left P rest found total h (x, k, e, f) = let z : count P true x k ≡ 0 = none-held P x k (sym e ∙ h) in omega arith
+bits-ones P x zero = let h : count P true x 0 ≤ 0 = count_most P true x 0 in omega (arith, ones_le_self 0)
+bits-ones P x (suc k) =
+    let b : ℕ = bits P (suc x) k in
+    let odd : (one_if (P x) + 2 * b) % 2 ≡ one_if (P x) = omega (arith, one-bound (P x)) in
+    let half : (one_if (P x) + 2 * b) / 2 ≡ b = omega (arith, one-bound (P x)) in
+    ones_step (one_if (P x) + 2 * b) ∙ rw (odd, half, bits-ones P (suc x) k) (sym (count-first P true x k ∙ rw beq-true))
 
 -- ---- the last byte
 module _ (n : ℕ) (bs : List ℕ) (some : n % 8 ≡ 0 → ⊥) (small : get_or bs (n / 8) 0 < 256) where
@@ -73,39 +57,31 @@ module _ (n : ℕ) (bs : List ℕ) (some : n % 8 ≡ 0 → ⊥) (small : get_or 
 pub last-at : (n : ℕ) {l : ℕ} → (n % 8 ≡ 0 → ⊥) → l ≡ map_length n → l - 1 ≡ n / 8
 last-at n some e = omega arith
 
-pub spare-last : (n : ℕ) (bs : List ℕ) → (n % 8 ≡ 0 → ⊥) → length bs ≡ map_length n → ((j : ℕ) → get_or bs j 0 < 256)
-    → get_or bs (length bs - 1) 0 / 2 ^ (n % 8) ≡ bits (map_bit bs) n (8 * map_length n - n)
-spare-last n bs some long bytes = ap (λ j. get_or bs j 0 / 2 ^ (n % 8)) (last-at n some long) ∙ spare-is n bs some (bytes (n / 8))
+-- so its ones above the used bits are the stray ones
+pub stray-last : (n : ℕ) (bs : List ℕ) → (n % 8 ≡ 0 → ⊥) → length bs ≡ map_length n → ((j : ℕ) → get_or bs j 0 < 256)
+    → count_ones (get_or bs (length bs - 1) 0 / 2 ^ (n % 8)) ≡ stray_bits n bs
+unfolding stray_bits
+stray-last n bs some long bytes =
+    ap (λ j. count_ones (get_or bs j 0 / 2 ^ (n % 8))) (last-at n some long) ∙ ap count_ones (spare-is n bs some (bytes (n / 8)))
+    ∙ bits-ones (map_bit bs) n (8 * map_length n - n)
 
 -- a window of whole bytes has no spare bit
-pub spare-none : (n : ℕ) (bs : List ℕ) → n % 8 ≡ 0 → 0 ≡ bits (map_bit bs) n (8 * map_length n - n)
-unfolding bits
-spare-none n bs e = let k : 0 ≡ 8 * map_length n - n = omega arith in ap (bits (map_bit bs) n) k
+pub stray-none : (n : ℕ) (bs : List ℕ) → n % 8 ≡ 0 → 0 ≡ stray_bits n bs
+unfolding stray_bits
+stray-none n bs e = let h : count (map_bit bs) true n (8 * map_length n - n) ≤ 8 * map_length n - n = count_most (map_bit bs) true n (8 * map_length n - n) in omega arith
 
 -- so where one is stray there are some
 pub stray-some : (n : ℕ) (bs : List ℕ) → 0 < stray_bits n bs → n % 8 ≡ 0 → ⊥
-unfolding stray_bits
-stray-some n bs h e = let l : count (map_bit bs) true n (8 * map_length n - n) ≤ 8 * map_length n - n = count_most (map_bit bs) true n (8 * map_length n - n) in omega arith
+stray-some n bs h e = omega (arith, stray-none n bs e)
 
 -- ---- the cleared map
--- a 1 shifted up by the used bits: nothing is shifted out
-pub one_shifted : (n : ℕ) → (1 * 2 ^ (n % 8)) % 2 ^ 64 ≡ 2 ^ (n % 8)
-one_shifted n = shl_exact {a = 1} 1 (n % 8) 64 (omega arith) (omega arith) ∙ one-mul (2 ^ (n % 8))
-
--- so it is no zero divisor
-pub one-some : (n : ℕ) → 0 < (1 * 2 ^ (n % 8)) % 2 ^ 64
-one-some n = rw (one_shifted n) (pow_pos (n % 8))
-
--- and the remainder is a byte
-pub used-small : (n b : ℕ) → b % ((1 * 2 ^ (n % 8)) % 2 ^ 64) < 256
-used-small n b =
-    let h : n % 8 ≤ 8 = omega arith in
-    let p : 2 ^ (n % 8) ≤ 2 ^ 8 = pow-le-pow_right (omega arith) h in
-    rw (one_shifted n) (omega (arith, mod-lt b (pow_pos (n % 8))))
+-- a 1 of a byte shifted up by the used bits: nothing is shifted out
+one_shifted : (n : ℕ) → (1 * 2 ^ (n % 8)) % 2 ^ 8 ≡ 2 ^ (n % 8)
+one_shifted n = shl_exact {a = 1} 1 (n % 8) 8 (omega arith) (omega arith) ∙ one-mul (2 ^ (n % 8))
 
 module _ (n : ℕ) (bs : List ℕ) (some : n % 8 ≡ 0 → ⊥) (bytes : (j : ℕ) → get_or bs j 0 < 256) (long : length bs ≡ map_length n) where
   -- the map with the used bits alone as its last byte is cleared
-  pub used-clears : set bs (length bs - 1) (get_or bs (length bs - 1) 0 % ((1 * 2 ^ (n % 8)) % 2 ^ 64)) ≡ cleared n bs
+  pub used-clears : set bs (length bs - 1) (get_or bs (length bs - 1) 0 % ((1 * 2 ^ (n % 8)) % 2 ^ 8)) ≡ cleared n bs
   unfolding cleared
   used-clears = rw (last-at n some long, one_shifted n) (ext_get_or 0 (set bs (n / 8) v) (map_of (map_bit bs) 0 n) same (λ j h. go j (omega (arith, length-set bs (n / 8) v)) (split j (n / 8))))
     where

@@ -1,11 +1,11 @@
 -- The model's own calls, set to true one by one from an empty world: which of them is refused. The entries that lead are refused at their last
 -- call, and no shorter list is. Assumes nothing.
+use Rattle.std.specs.Prelude.{Option, None, Some}
 use Prim.Native.Nat.{ℕ, zero, suc, ◌+◌, ◌-◌, ◌≤◌, ◌<◌}
 use mathlib.Core.Path.{◌≡◌, refl, sym, ap, ap₂, ◌∙◌, subst}
 use mathlib.Core.Logic.{◌⊎◌, inl, inr}
 use mathlib.Core.Bool.{Bool, true, false, cond, ◌||◌}
 use mathlib.Core.List.{List, [], ◌∷◌, ◌++◌}
-use mathlib.Core.Option.{Option, none, some}
 use native.Mathlib.Omega.{arith}
 use lib.Dec.{ltb}
 use lib.ListN.{length, take, length-take}
@@ -150,13 +150,13 @@ module _ (C : ℕ) where
   holding-none x l = refl
 
   -- THE FIRST REFUSED CALL of the model is at the place that `first_refused` names
-  pub list-stops : (rs : List Range) (f : ℕ) → first_refused C (entries_of rs) ≡ some f → StopsAt f (answers C (alone C empty) (sets_of rs))
+  pub list-stops : (rs : List Range) (f : ℕ) → first_refused C (entries_of rs) ≡ Some f → StopsAt f (answers C (alone C empty) (sets_of rs))
   list-stops rs f e =
       let r = refused-only C (entries_of rs) f e in
       stops_at [] empty rs f holding-none (omega (arith, r.within, entries-length rs)) r.exceeds r.before
 
   -- where it names none, none is refused
-  pub list-given : (rs : List Range) → first_refused C (entries_of rs) ≡ none → AllGiven (answers C (alone C empty) (sets_of rs))
+  pub list-given : (rs : List Range) → first_refused C (entries_of rs) ≡ None → AllGiven (answers C (alone C empty) (sets_of rs))
   list-given rs e = all-given [] empty rs holding-none (λ n l. none_before C (entries_of rs) e n (omega (arith, entries-length rs)))
 
   -- NO SHORTER LIST IS REFUSED: none of at most C ranges, so no sublist of at most C
@@ -188,32 +188,32 @@ module _ (C : ℕ) (rs : List Range) (w : AllWords (entries_of rs)) (few : lengt
     refused-at : Refused C (entries_of rs) at
     are : ps ≡ places (take (suc at) (entries_of rs))
 
-  stopped : (ps : List ℕ) → why_full C (entries_of rs) ≡ some ps → Stopped ps
+  stopped : (ps : List ℕ) → why_full C (entries_of rs) ≡ Some ps → Stopped ps
   unfolding why_full
   stopped ps e = go (first_refused C (entries_of rs)) refl e
     where
-      go : (o : Option ℕ) → first_refused C (entries_of rs) ≡ o → why_full_up_to (entries_of rs) o ≡ some ps → Stopped ps
-      go none q d = let z : ◌≡◌ {A = ℕ} 0 1 = cc in absurd (omega arith)
-      go (some f) q d = record { at = f; refused-at = refused-only C (entries_of rs) f q; are = cc }
+      go : (o : Option ℕ) → first_refused C (entries_of rs) ≡ o → why_full_up_to (entries_of rs) o ≡ Some ps → Stopped ps
+      go None q d = let z : ◌≡◌ {A = ℕ} 0 1 = cc in absurd (omega arith)
+      go (Some f) q d = record { at = f; refused-at = refused-only C (entries_of rs) f q; are = cc }
 
   -- IT HAS C + 1 PLACES
-  pub why-length : (ps : List ℕ) → why_full C (entries_of rs) ≡ some ps → length ps ≡ C + 1
+  pub why-length : (ps : List ℕ) → why_full C (entries_of rs) ≡ Some ps → length ps ≡ C + 1
   why-length ps e =
       let a = stopped ps e in
       ap length a.are ∙ refused-places C (entries_of rs) a.at w (omega (arith, entries-length rs)) a.refused-at
 
   -- they are rising, and places of the list
-  pub why-rising : (ps : List ℕ) → why_full C (entries_of rs) ≡ some ps → Climbing 0 ps
+  pub why-rising : (ps : List ℕ) → why_full C (entries_of rs) ≡ Some ps → Climbing 0 ps
   why-rising ps e = let a = stopped ps e in subst (Climbing 0) (sym a.are) (places-rising (take (suc a.at) (entries_of rs)))
 
-  pub why-within : (ps : List ℕ) → why_full C (entries_of rs) ≡ some ps → (p : ℕ) → In p ps → p < length rs
+  pub why-within : (ps : List ℕ) → why_full C (entries_of rs) ≡ Some ps → (p : ℕ) → In p ps → p < length rs
   why-within ps e p m =
       let a = stopped ps e in
       let up_to = take (suc a.at) (entries_of rs) in
       omega (arith, places-within up_to p (subst (In p) a.are m), length-take (suc a.at) (entries_of rs), entries-length rs)
 
   -- THE SUBLIST IS REFUSED, at its last call and not before
-  pub why-stops : (d : Range) (ps : List ℕ) → why_full C (entries_of rs) ≡ some ps → StopsAt C (answers C (alone C empty) (sets_of (pick d rs ps)))
+  pub why-stops : (d : Range) (ps : List ℕ) → why_full C (entries_of rs) ≡ Some ps → StopsAt C (answers C (alone C empty) (sets_of (pick d rs ps)))
   why-stops d ps e = let a = stopped ps e in go a.at a.refused-at a.are
     where
       go : (f : ℕ) → Refused C (entries_of rs) f → ps ≡ places (take (suc f) (entries_of rs)) → StopsAt C (answers C (alone C empty) (sets_of (pick d rs ps)))
@@ -235,5 +235,5 @@ module _ (C : ℕ) (rs : List Range) (w : AllWords (entries_of rs)) (few : lengt
               ∙ ap₂ entries_at (entries-take rs (suc f)) q
 
   -- NO SHORTER ONE IS
-  pub why-least : (d : Range) (ps qs : List ℕ) → why_full C (entries_of rs) ≡ some ps → length qs < length ps → AllGiven (answers C (alone C empty) (sets_of (pick d rs qs)))
+  pub why-least : (d : Range) (ps qs : List ℕ) → why_full C (entries_of rs) ≡ Some ps → length qs < length ps → AllGiven (answers C (alone C empty) (sets_of (pick d rs qs)))
   why-least d ps qs e l = sublist-given C d rs qs (omega (arith, why-length ps e))

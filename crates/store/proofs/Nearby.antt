@@ -1,7 +1,7 @@
 -- What the run before a position and the run after it tell: which positions from here to there are held. And so which position of a
 -- turned set is held first and last, by the searches that start at the place of logical 0, and of logical M. Assumes nothing.
+use Rattle.std.specs.Prelude.{Option, None, Some}
 use Rattle.std.proofs.Common.{◌≡◌, ℕ, suc, ◌+◌, ◌-◌, ◌<◌, ◌≤◌, Bool, true, false, cond, leb, ◌⊎◌, List, [], ◌∷◌, sym, refl, ap, ◌∙◌, subst, inl, inr, arith, leb-false, leb-true}
-use mathlib.Core.Option.{Option, none, some}
 use Rattle.model.specs.declared.Run.{Run}
 use Rattle.model.specs.Numbers.{size}
 use Rattle.model.proofs.Numbers.{split}
@@ -29,8 +29,8 @@ pub record Before (rs : List Run) (total x : ℕ) (r : Run) : Type 0 where
 
 -- what a search for it tells
 abbrev pub Earlier : List Run → ℕ → ℕ → Option Run → Type 0
-Earlier rs total x none = (y : ℕ) → y ≤ x → mem rs y ≡ false
-Earlier rs total x (some r) = Before rs total x r
+Earlier rs total x None = (y : ℕ) → y ≤ x → mem rs y ≡ false
+Earlier rs total x (Some r) = Before rs total x r
 
 -- every run of a canonical list starts at its bound or above
 member-from : (total k : ℕ) (rs : List Run) (r : Run) → Canon total k rs → Member rs total r → k ≤ r.start
@@ -68,20 +68,20 @@ unfolding last_up_to
 earlier total k [] x c = λ y l. empty-mem y
 earlier total k (q ∷ rs) x c = go (last_up_to x rs) (earlier total (q.«end» + 2) rs x c.3) (leb q.start x) refl
   where
-    go : (o : Option Run) → Earlier rs total x o → (b : Bool) → leb q.start x ≡ b → Earlier (q ∷ rs) total x (or_else o (cond b (some q) none))
-    go (some r) ih b e =
+    go : (o : Option Run) → Earlier rs total x o → (b : Bool) → leb q.start x ≡ b → Earlier (q ∷ rs) total x (or_else o (cond b (Some q) None))
+    go (Some r) ih b e =
         let l : q.«end» + 2 ≤ r.start = member-from total (q.«end» + 2) rs r c.3 ih.member in
         record {
           member = member-later total k q rs r c ih.member;
           starts = ih.starts;
           free = λ y h u. mem-above q rs y (omega (arith, ih.member.ordered)) ∙ ih.free y h u;
         }
-    go none ih true e = record {
+    go None ih true e = record {
       member = member-first total k q rs c;
       starts = leb-true q.start x e;
       free = λ y h u. mem-above q rs y h ∙ ih y u;
     }
-    go none ih false e = λ y u. mem-under q rs y (omega (arith, leb-false q.start x e)) ∙ ih y u
+    go None ih false e = λ y u. mem-under q rs y (omega (arith, leb-false q.start x e)) ∙ ih y u
 
 -- ---- the first run that starts at or after x, where no run goes on from below x
 pub record After (rs : List Run) (total x : ℕ) (r : Run) : Type 0 where
@@ -91,8 +91,8 @@ pub record After (rs : List Run) (total x : ℕ) (r : Run) : Type 0 where
 
 -- what a search for it tells
 abbrev pub Later : List Run → ℕ → ℕ → Option Run → Type 0
-Later rs total x none = (y : ℕ) → x ≤ y → mem rs y ≡ false
-Later rs total x (some r) = After rs total x r
+Later rs total x None = (y : ℕ) → x ≤ y → mem rs y ≡ false
+Later rs total x (Some r) = After rs total x r
 
 -- what the search after x finds
 pub later : (total k : ℕ) (rs : List Run) (x : ℕ) → Canon total k rs → (mem rs x ≡ false) ⊎ (x ≡ 0) → Later rs total x (first_from x rs)
@@ -108,15 +108,15 @@ later total k (q ∷ rs) x c f = go (leb x q.start) refl f (λ g. later total (q
         sub (inr h) = clash (mem-in q rs x (omega arith) h) e
 
     rest : q.«end» < x → (o : Option Run) → Later rs total x o → Later (q ∷ rs) total x o
-    rest h none ih = λ y l. mem-above q rs y (omega arith) ∙ ih y l
-    rest h (some r) ih = record {
+    rest h None ih = λ y l. mem-above q rs y (omega arith) ∙ ih y l
+    rest h (Some r) ih = record {
       member = member-later total k q rs r c ih.member;
       starts = ih.starts;
       free = λ y l u. mem-above q rs y (omega arith) ∙ ih.free y l u;
     }
 
     go : (b : Bool) → leb x q.start ≡ b → (mem (q ∷ rs) x ≡ false) ⊎ (x ≡ 0) → (mem rs x ≡ false → Later rs total x (first_from x rs))
-        → Later (q ∷ rs) total x (cond b (some q) (first_from x rs))
+        → Later (q ∷ rs) total x (cond b (Some q) (first_from x rs))
     go true e g ih = record {
       member = member-first total k q rs c;
       starts = leb-true x q.start e;
@@ -136,7 +136,7 @@ module _ (rs : List Run) (c : Canon size 0 rs) (o : ℕ) (small : o < size) wher
       sym (turned-first o (mem rs) small z (omega arith) h (λ y l t. absurd (omega arith)) ∙ q)
 
   -- a run starts between the place of logical 0 and physical M
-  pub first-after : (z : ℕ) (r : Run) → z ≡ physical_of 0 o → mem rs z ≡ false → some r ≡ first_from z rs
+  pub first-after : (z : ℕ) (r : Run) → z ≡ physical_of 0 o → mem rs z ≡ false → Some r ≡ first_from z rs
       → logical_of r.start o ≡ first_of (held_runs (turned o (mem rs)))
   first-after z r e h n = go (subst (Later rs size z) (sym n) (later size 0 rs z c (inl h)))
     where
@@ -153,7 +153,7 @@ module _ (rs : List Run) (c : Canon size 0 rs) (o : ℕ) (small : o < size) wher
           under y s t l b u = omega arith
 
   -- no run does, but one starts below
-  pub first-wrapped : (z : ℕ) (r : Run) → z ≡ physical_of 0 o → mem rs z ≡ false → none ≡ first_from z rs → some r ≡ first_from 0 rs
+  pub first-wrapped : (z : ℕ) (r : Run) → z ≡ physical_of 0 o → mem rs z ≡ false → None ≡ first_from z rs → Some r ≡ first_from 0 rs
       → logical_of r.start o ≡ first_of (held_runs (turned o (mem rs)))
   first-wrapped z r e h m n =
       go (subst (Later rs size z) (sym m) (later size 0 rs z c (inl h))) (subst (Later rs size 0) (sym n) (later size 0 rs 0 c (inr refl)))
@@ -174,7 +174,7 @@ module _ (rs : List Run) (c : Canon size 0 rs) (o : ℕ) (small : o < size) wher
           sub y t u p l (inl i) (inl j) = a.free y (omega arith) (under y r.start i j u)
 
   -- there is no run
-  pub first-none : none ≡ first_from 0 rs → 0 ≡ first_of (held_runs (turned o (mem rs)))
+  pub first-none : None ≡ first_from 0 rs → 0 ≡ first_of (held_runs (turned o (mem rs)))
   first-none n =
       let f : (y : ℕ) → 0 ≤ y → mem rs y ≡ false = subst (Later rs size 0) (sym n) (later size 0 rs 0 c (inr refl)) in
       sym (ap first_of (turned_none o (mem rs) small (λ y l. f y (omega arith))))
@@ -187,13 +187,13 @@ module _ (rs : List Run) (c : Canon size 0 rs) (o : ℕ) (small : o < size) wher
       sym (turned-last o (mem rs) small z (omega arith) h (λ y l t. absurd (omega arith)) ∙ q)
 
   -- the last run that starts at or before the place of logical M holds it
-  pub last-inside : (z : ℕ) (r : Run) → z ≡ physical_of (size - 1) o → some r ≡ last_up_to z rs → z ≤ r.«end» → size - 1 ≡ last_of (held_runs (turned o (mem rs)))
+  pub last-inside : (z : ℕ) (r : Run) → z ≡ physical_of (size - 1) o → Some r ≡ last_up_to z rs → z ≤ r.«end» → size - 1 ≡ last_of (held_runs (turned o (mem rs)))
   last-inside z r e n i =
       let b : Before rs size z r = subst (Earlier rs size z) (sym n) (earlier size 0 rs z c) in
       last-top z e (b.member.held z b.starts i)
 
   -- it ends before that place
-  pub last-before : (z : ℕ) (r : Run) → z ≡ physical_of (size - 1) o → some r ≡ last_up_to z rs → r.«end» < z
+  pub last-before : (z : ℕ) (r : Run) → z ≡ physical_of (size - 1) o → Some r ≡ last_up_to z rs → r.«end» < z
       → logical_of r.«end» o ≡ last_of (held_runs (turned o (mem rs)))
   last-before z r e n i = go (subst (Earlier rs size z) (sym n) (earlier size 0 rs z c))
     where
@@ -209,7 +209,7 @@ module _ (rs : List Run) (c : Canon size 0 rs) (o : ℕ) (small : o < size) wher
           upto y s t l i u = omega arith
 
   -- none does, but one starts above
-  pub last-wrapped : (z : ℕ) (r : Run) → z ≡ physical_of (size - 1) o → none ≡ last_up_to z rs → some r ≡ last_up_to (size - 1) rs
+  pub last-wrapped : (z : ℕ) (r : Run) → z ≡ physical_of (size - 1) o → None ≡ last_up_to z rs → Some r ≡ last_up_to (size - 1) rs
       → logical_of r.«end» o ≡ last_of (held_runs (turned o (mem rs)))
   last-wrapped z r e m n =
       go (subst (Earlier rs size z) (sym m) (earlier size 0 rs z c)) (subst (Earlier rs size (size - 1)) (sym n) (earlier size 0 rs (size - 1) c))
@@ -229,13 +229,13 @@ module _ (rs : List Run) (c : Canon size 0 rs) (o : ℕ) (small : o < size) wher
           sub y t u p l (inl i) (inl j) = b.free y (over y r.«end» i j t l u) (omega arith)
 
   -- there is no run
-  pub last_none : none ≡ last_up_to (size - 1) rs → 0 ≡ last_of (held_runs (turned o (mem rs)))
+  pub last_none : None ≡ last_up_to (size - 1) rs → 0 ≡ last_of (held_runs (turned o (mem rs)))
   last_none n =
       let f : (y : ℕ) → y ≤ size - 1 → mem rs y ≡ false = subst (Earlier rs size (size - 1)) (sym n) (earlier size 0 rs (size - 1) c) in
       sym (ap last_of (turned_none o (mem rs) small (λ y l. f y (omega arith))))
 
   -- ---- where nothing is turned, the first run of all and the last one tell them
-  pub first-straight : (r : Run) → o ≡ 0 → some r ≡ first_from 0 rs → r.start ≡ first_of (held_runs (turned o (mem rs)))
+  pub first-straight : (r : Run) → o ≡ 0 → Some r ≡ first_from 0 rs → r.start ≡ first_of (held_runs (turned o (mem rs)))
   first-straight r e n = go (subst (Later rs size 0) (sym n) (later size 0 rs 0 c (inr refl)))
     where
       go : After rs size 0 r → r.start ≡ first_of (held_runs (turned o (mem rs)))
@@ -248,7 +248,7 @@ module _ (rs : List Run) (c : Canon size 0 rs) (o : ℕ) (small : o < size) wher
           under : (y s : ℕ) → y < size → s < size → logical_of y o < logical_of s o → y < s
           under y s t l u = omega arith
 
-  pub last-straight : (r : Run) → o ≡ 0 → some r ≡ last_up_to (size - 1) rs → r.«end» ≡ last_of (held_runs (turned o (mem rs)))
+  pub last-straight : (r : Run) → o ≡ 0 → Some r ≡ last_up_to (size - 1) rs → r.«end» ≡ last_of (held_runs (turned o (mem rs)))
   last-straight r e n = go (subst (Earlier rs size (size - 1)) (sym n) (earlier size 0 rs (size - 1) c))
     where
       go : Before rs size (size - 1) r → r.«end» ≡ last_of (held_runs (turned o (mem rs)))

@@ -1,9 +1,10 @@
 -- Logical positions are physical ones turned by an offset: a logical range is one physical range, or, where it passes physical M,
 -- two, the second of them from 0 on. Each is read where it lies (module Moved), and what is reported of the logical range is put
 -- together of their reports. Assumes nothing.
+use Rattle.std.specs.Prelude.{option_map}
+use Rattle.std.specs.Prelude.{Some}
 use Rattle.std.proofs.Common.{◌≡◌, ℕ, suc, ◌+◌, ◌-◌, ◌<◌, ◌≤◌, Bool, true, false, ◌&&◌, List, length, sym, refl, ap, ◌∙◌, ap₂, add_comm, arith, le-ltb, lt-ltb}
 use mathlib.Core.Bool.{beq}
-use mathlib.Core.Option.{map}
 use Rattle.model.specs.Numbers.{size}
 use Rattle.model.specs.Positions.{Positions, one_if, count, find, select, runs_in, run_count, held_runs, stretches, first_run, last_run, mem}
 use Rattle.model.proofs.Counting.{beq-true, count_cut}
@@ -188,19 +189,19 @@ module _ {o a n s e : ℕ} (lies : Lies o a n s e) where
       runs_in-whole h = runs_in-moved (turned o Q) Q v a s n (whole-alike h)
 
       -- its first run
-      pub first_run-whole : s ≤ e → first_run (runs_in (turned o Q) v a n) ≡ map (move_run s a) (first_run (runs_in Q v s n))
+      pub first_run-whole : s ≤ e → first_run (runs_in (turned o Q) v a n) ≡ option_map (move_run s a) (first_run (runs_in Q v s n))
       first_run-whole h = first_run-moved (turned o Q) Q v a s n (whole-alike h)
 
       -- its last run
-      pub last_run-whole : s ≤ e → last_run (runs_in (turned o Q) v a n) ≡ map (move_run s a) (last_run (runs_in Q v s n))
+      pub last_run-whole : s ≤ e → last_run (runs_in (turned o Q) v a n) ≡ option_map (move_run s a) (last_run (runs_in Q v s n))
       last_run-whole h = last_run-moved (turned o Q) Q v a s n (whole-alike h)
 
       -- find
-      pub find-whole : s ≤ e → find (turned o Q) v a n ≡ map (move s a) (find Q v s n)
+      pub find-whole : s ≤ e → find (turned o Q) v a n ≡ option_map (move s a) (find Q v s n)
       find-whole h = find-moved (turned o Q) Q v a s n (whole-alike h)
 
       -- select
-      pub select-whole : s ≤ e → (k : ℕ) → select (turned o Q) v a n k ≡ map (move s a) (select Q v s n k)
+      pub select-whole : s ≤ e → (k : ℕ) → select (turned o Q) v a n k ≡ option_map (move s a) (select Q v s n k)
       select-whole h = select-moved (turned o Q) Q v a s n (whole-alike h)
 
 -- ---- all positions

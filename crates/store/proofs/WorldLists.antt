@@ -1,6 +1,6 @@
 -- The worlds of a pool as a list: which one has a number, what they claim together, and when two lists are the same. Assumes nothing.
+use Rattle.std.specs.Prelude.{None, Some}
 use Rattle.std.proofs.Common.{◌≡◌, ℕ, zero, suc, ◌+◌, ◌<◌, ◌≤◌, List, ◌∷◌, length, sym, refl, ap, ◌∙◌, ap₂, arith}
-use mathlib.Core.Option.{none, some}
 use native.Mathlib.Decide.{ℕ_discrete}
 use Rattle.model.specs.Positions.{Positions}
 use Rattle.model.specs.Pools.{PlainWorld, world_of, claim, claims, other_claims, with_positions, holding_at}
@@ -26,14 +26,14 @@ worlds-length w k zero = refl
 worlds-length w k (suc n) = ap suc (worlds-length w (suc k) n)
 
 -- the one of number i
-pub world-from : (w : List ℕ) (k n i : ℕ) → i < n → world_of (worlds_from w k n) i ≡ some (plain_at w (k + i))
+pub world-from : (w : List ℕ) (k n i : ℕ) → i < n → world_of (worlds_from w k n) i ≡ Some (plain_at w (k + i))
 unfolding worlds_from
 world-from w k zero i l = absurd (omega arith)
-world-from w k (suc n) zero l = ap (λ j. some (plain_at w j)) (omega arith)
-world-from w k (suc n) (suc i) l = world-from w (suc k) n i (omega arith) ∙ ap (λ j. some (plain_at w j)) (omega arith)
+world-from w k (suc n) zero l = ap (λ j. Some (plain_at w j)) (omega arith)
+world-from w k (suc n) (suc i) l = world-from w (suc k) n i (omega arith) ∙ ap (λ j. Some (plain_at w j)) (omega arith)
 
 -- there are no others
-pub world-none : (w : List ℕ) (k n i : ℕ) → n ≤ i → world_of (worlds_from w k n) i ≡ none
+pub world-none : (w : List ℕ) (k n i : ℕ) → n ≤ i → world_of (worlds_from w k n) i ≡ None
 unfolding worlds_from
 world-none w k zero i l = refl
 world-none w k (suc n) zero l = absurd (omega arith)
@@ -108,11 +108,11 @@ worlds-but w v k (suc n) (suc i) P l e h =
 
 -- ---- all opened worlds
 module _ (w : List ℕ) where
-  pub opened-world : (i : ℕ) → i < opened_at w → world_of (worlds_of w) i ≡ some (plain_at w i)
+  pub opened-world : (i : ℕ) → i < opened_at w → world_of (worlds_of w) i ≡ Some (plain_at w i)
   unfolding worlds_of
-  opened-world i l = world-from w 0 (opened_at w) i l ∙ ap (λ j. some (plain_at w j)) (omega arith)
+  opened-world i l = world-from w 0 (opened_at w) i l ∙ ap (λ j. Some (plain_at w j)) (omega arith)
 
-  pub unopened-world : (i : ℕ) → opened_at w ≤ i → world_of (worlds_of w) i ≡ none
+  pub unopened-world : (i : ℕ) → opened_at w ≤ i → world_of (worlds_of w) i ≡ None
   unfolding worlds_of
   unopened-world i l = world-none w 0 (opened_at w) i l
 

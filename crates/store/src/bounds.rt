@@ -5,7 +5,6 @@ ghost use Rattle.store.specs.Bounds.{TellsHeld, TellsFirst, TellsLast, TellsBoth
 
 use crate::places::Physical;
 use model::Logical;
-use run_index::search::Near;
 
 // Whether a physical position is held.
 pub fn get_physical(words: &[u64], root: u64, x: Physical) -> bool
@@ -15,8 +14,8 @@ pub fn get_physical(words: &[u64], root: u64, x: Physical) -> bool
     let at = x.0;
     let n = run_index::search::at_or_before(words, root, at);
     match n {
-        Near::Run(r) => at <= r.end,
-        Near::None => false,
+        Some(r) => at <= r.end,
+        None => false,
     }
 }
 
@@ -31,12 +30,12 @@ fn first_turned(words: &[u64], root: u64, offset: u64) -> Logical
     }
     let n = run_index::search::at_or_after(words, root, zero.0);
     match n {
-        Near::Run(r) => crate::places::to_logical(Physical(r.start), offset),
-        Near::None => {
+        Some(r) => crate::places::to_logical(Physical(r.start), offset),
+        None => {
             let m = run_index::search::at_or_after(words, root, 0);
             match m {
-                Near::Run(r) => crate::places::to_logical(Physical(r.start), offset),
-                Near::None => Logical(0),
+                Some(r) => crate::places::to_logical(Physical(r.start), offset),
+                None => Logical(0),
             }
         }
     }
@@ -52,8 +51,8 @@ pub fn first_held(words: &[u64], root: u64, offset: u64) -> Logical
     }
     let n = run_index::search::at_or_after(words, root, 0);
     match n {
-        Near::Run(r) => Logical(r.start),
-        Near::None => Logical(0),
+        Some(r) => Logical(r.start),
+        None => Logical(0),
     }
 }
 
@@ -66,17 +65,17 @@ fn last_turned(words: &[u64], root: u64, offset: u64) -> Logical
     let at = top.0;
     let n = run_index::search::at_or_before(words, root, at);
     match n {
-        Near::Run(r) => {
+        Some(r) => {
             if at <= r.end {
                 return Logical(u64::MAX);
             }
             crate::places::to_logical(Physical(r.end), offset)
         }
-        Near::None => {
+        None => {
             let m = run_index::search::at_or_before(words, root, u64::MAX);
             match m {
-                Near::Run(r) => crate::places::to_logical(Physical(r.end), offset),
-                Near::None => Logical(0),
+                Some(r) => crate::places::to_logical(Physical(r.end), offset),
+                None => Logical(0),
             }
         }
     }
@@ -92,8 +91,8 @@ pub fn last_held(words: &[u64], root: u64, offset: u64) -> Logical
     }
     let n = run_index::search::at_or_before(words, root, u64::MAX);
     match n {
-        Near::Run(r) => Logical(r.end),
-        Near::None => Logical(0),
+        Some(r) => Logical(r.end),
+        None => Logical(0),
     }
 }
 

@@ -1,10 +1,10 @@
 -- The lowest gap and the runs that a source reads: what a source that stands at x tells of the lowest gap from x on. From the laws of a gap
 -- (model/proofs/Gaps.antt) and what a source promises. Assumes nothing.
+use Rattle.std.specs.Prelude.{None, Some}
 use Prim.Native.Nat.{ℕ, suc, ◌+◌, ◌-◌, ◌≤◌, ◌<◌, min, max}
 use mathlib.Core.Path.{◌≡◌, refl, sym, ◌∙◌, subst}
 use mathlib.Core.Bool.{true, false}
 use mathlib.Core.List.{List}
-use mathlib.Core.Option.{none, some}
 use native.Mathlib.Omega.{arith}
 use native.Mathlib.Numerals.{add-one}
 use Rattle.model.specs.Numbers.{size}
@@ -15,7 +15,7 @@ use Rattle.streams.specs.declared.source.Source.{Source}
 use Rattle.streams.specs.Reading.{Rooted, Current, Stands, Reads, Advanceable, Advances}
 
 -- a range with fewer than n positions has no gap
-pub gap-short : (Q : Positions) (a b n : ℕ) → a ≤ b → b - a < n - 1 → gap Q a (suc b - a) n ≡ none
+pub gap-short : (Q : Positions) (a b n : ℕ) → a ≤ b → b - a < n - 1 → gap Q a (suc b - a) n ≡ None
 gap-short Q a b n h l = gap-none Q a (suc b - a) n (omega arith)
 
 -- a search of the range from a to b that stands at x: the source reads there, n positions are left, and the lowest gap is that of what is left
@@ -30,7 +30,7 @@ sought-first h one l r = record { reads = r; room = omega arith; same = refl }
 
 module _ {w path : List ℕ} {v : View} {s : Source} {a b n x : ℕ} {Q : Positions} (k : Sought w path v s a b n x Q) where
   -- n free positions from x on are the lowest gap
-  found : ((z : ℕ) → x ≤ z → z < x + n → Q z ≡ false) → gap Q a (suc b - a) n ≡ some x
+  found : ((z : ℕ) → x ≤ z → z < x + n → Q z ≡ false) → gap Q a (suc b - a) n ≡ Some x
   found f = k.same ∙ gap_here Q x (suc b - x) n (omega (arith, k.room)) f
 
   module _ (e : s.live ≡ true) where
@@ -43,7 +43,7 @@ module _ {w path : List ℕ} {v : View} {s : Source} {a b n x : ℕ} {Q : Positi
     sought-advances r = (x, Q, record { rooted = r; alive = e; reads = k.reads })
 
     -- n positions before it are free
-    pub sought-before : n ≤ s.start - x → gap Q a (suc b - a) n ≡ some x
+    pub sought-before : n ≤ s.start - x → gap Q a (suc b - a) n ≡ Some x
     sought-before l = found (λ z i j. sought-run.clear z i (omega arith))
 
     module _ (one : 1 ≤ n) (few : s.start - x < n) where
@@ -54,7 +54,7 @@ module _ {w path : List ℕ} {v : View} {s : Source} {a b n x : ℕ} {Q : Positi
           (z, omega arith, omega arith, sought-run.held z (omega arith) (omega arith) (omega (arith, sought-run.ordered)))
 
       -- so there is no gap where fewer are left after it
-      pub sought-over : b - s.«end» < n → gap Q a (suc b - a) n ≡ none
+      pub sought-over : b - s.«end» < n → gap Q a (suc b - a) n ≡ None
       sought-over l =
           let z = min (suc s.«end») (suc b) in
           k.same ∙ gap_from Q x z (suc b) n (omega (arith, k.room, sought-run.ahead)) (omega arith) one (λ y i j m. taken y i (omega arith))
@@ -71,5 +71,5 @@ module _ {w path : List ℕ} {v : View} {s : Source} {a b n x : ℕ} {Q : Positi
       }
 
   -- no run is left
-  pub sought-clear : b < size → s.live ≡ false → gap Q a (suc b - a) n ≡ some x
+  pub sought-clear : b < size → s.live ≡ false → gap Q a (suc b - a) n ≡ Some x
   sought-clear small e = let c = subst (Stands w path v s x Q) e k.reads in found (λ z i j. c z i (omega (arith, k.room)))

@@ -1,24 +1,21 @@
 -- Bytes that stand a step apart: what is strewn over a slice and what is picked out of one, byte by byte, in parts, and at step 1, where they
 -- are bytes in a row. What is strewn is compared with a list t that has the same bytes there: whatever agrees with t goes on agreeing, so no
 -- two places need be told apart. Assumes nothing.
-use Prim.Native.Nat.{ℕ, zero, suc, ◌+◌, ◌*◌, ◌/◌, ◌%◌, ◌≤◌, ◌<◌}
-use mathlib.Core.Path.{◌≡◌, refl, sym, ap, ◌∙◌}
+use Prim.Native.Nat.{ℕ, zero, suc, ◌+◌, ◌*◌, ◌≤◌, ◌<◌}
+use mathlib.Core.Path.{◌≡◌, refl, ap, ◌∙◌}
 use mathlib.Core.Logic.{◌⊎◌, inl, inr}
 use mathlib.Core.List.{List, [], ◌∷◌, ◌++◌}
-use native.Mathlib.Nat.{suc-mul, zero-mul, div-one}
+use native.Mathlib.Nat.{suc-mul, zero-mul}
 use native.Mathlib.Numerals.{add-one}
 use native.Mathlib.Omega.{arith}
 use lib.ListN.{length, take, drop, set, get_or, length-set}
-use lib.Seq.{sets, drop-cons, get_or-set_same, get_or-set_other, set_out}
-use mir.Syntax.{w8}
-use mir.Val.{Fits}
+use lib.Seq.{drop-cons, take-suc, take_all, length-take-le, get_or-set_same, get_or-set_other, set_out}
+use mir.Syntax.{w64}
+use Rattle.std.specs.Int.{bytes_high_first, from_be_bytes}
 use Rattle.model.specs.Bytes.{big_endian, value_from, value_of}
-use Rattle.model.specs.RunList.{AllBytes}
-use Rattle.model.proofs.Codec.{value-bound}
 use Rattle.model.proofs.Numbers.{split}
-use Rattle.written.specs.Placed.{placed, strewn, picked}
-use Rattle.written.proofs.Placing.{sets-placed}
-use Rattle.written.proofs.Digits.{value-append}
+use Rattle.written.specs.Placed.{strewn, picked}
+use Rattle.written.proofs.Digits.{high-first}
 
 -- the next place but k is the next but k + 1
 step-more : (i k step : ℕ) → i + suc k * step ≡ i + step + k * step
@@ -41,14 +38,23 @@ unfolding strewn
 strewn-append i step [] cs out = rw (step-none i step)
 strewn-append i step (b ∷ bs) cs out = rw (step-more i (length bs) step) (strewn-append (i + step) step bs cs (set out i b))
 
--- a step of 1 leaves bytes in a row
-sets-strewn : (i : ℕ) (bs out : List ℕ) → sets out i bs ≡ strewn i 1 bs out
+-- no byte yet
+pub strewn_none : (i step : ℕ) (out : List ℕ) → out ≡ strewn i step [] out
 unfolding strewn
-sets-strewn i [] out = refl
-sets-strewn i (b ∷ bs) out = rw (add-one i) (sets-strewn (suc i) bs (set out i b))
+strewn_none i step out = refl
 
-pub placed-strewn : (i : ℕ) (bs out : List ℕ) → i + length bs ≤ length out → placed i bs out ≡ strewn i 1 bs out
-placed-strewn i bs out h = sym (sets-placed bs out i h) ∙ sets-strewn i bs out
+-- one byte more
+pub strewn-more : (i step k : ℕ) (bs out o : List ℕ) → k < length bs → o ≡ strewn i step (take k bs) out → set o (i + k * step) (get_or bs k 0) ≡ strewn i step (take (k + 1) bs) out
+unfolding strewn
+strewn-more i step k bs out o l p =
+    let m : length (take k bs) ≡ k = length-take-le k bs (omega arith) in
+    rw (add-one k, take-suc bs k 0 l, p) (rw m at (strewn-append i step (take k bs) (get_or bs k 0 ∷ []) out))
+
+-- all bytes of a number
+pub strewn-word : (i step k n : ℕ) (bs out o : List ℕ) → bs ≡ bytes_high_first 8 n → 8 ≤ k → o ≡ strewn i step (take k bs) out → o ≡ strewn i step (big_endian 8 n) out
+strewn-word i step k n bs out o b l p =
+    let m : take k bs ≡ bs = take_all k bs (rw b l) in
+    p ∙ rw (m, b, high-first 8 n) refl
 
 -- ---- a byte of the slice that is, after the write, as in t
 -- the byte written is
@@ -103,66 +109,7 @@ strewn-makes t i step (b ∷ bs) out h (suc k) l r =
     let e : i + suc k * step ≡ i + step + k * step = step-more i k step in
     rw e (strewn-makes t (i + step) step bs (set out i b) (apart-rest t i step b bs h) k (omega arith) (omega (arith, length-set out i b)))
 
--- the bytes of a word, as the code computes them
-pub word_bytes : (n : ℕ)
-    → big_endian 8 n
-    ≡ n / 72057594037927936 % 256
-    ∷ n / 281474976710656 % 256
-    ∷ n / 1099511627776 % 256
-    ∷ n / 4294967296 % 256
-    ∷ n / 16777216 % 256
-    ∷ n / 65536 % 256
-    ∷ n / 256 % 256
-    ∷ n % 256
-    ∷ []
-unfolding big_endian
-word_bytes n =
-    ap (λ (m : ℕ).
-    n / 72057594037927936 % 256
-    ∷ n / 281474976710656 % 256
-    ∷ n / 1099511627776 % 256
-    ∷ n / 4294967296 % 256
-    ∷ n / 16777216 % 256
-    ∷ n / 65536 % 256
-    ∷ n / 256 % 256
-    ∷ m % 256
-    ∷ []) (div-one n)
-
--- eight bytes, written one by one
-pub eight-strewn : (out : List ℕ) (i s b₀ b₁ b₂ b₃ b₄ b₅ b₆ b₇ : ℕ)
-    → set (set (set (set (set (set (set (set out i b₀) (i + s) b₁) (i + 2 * s) b₂) (i + 3 * s) b₃) (i + 4 * s) b₄) (i + 5 * s) b₅) (i + 6 * s) b₆) (i + 7 * s) b₇
-    ≡ strewn i s (b₀ ∷ b₁ ∷ b₂ ∷ b₃ ∷ b₄ ∷ b₅ ∷ b₆ ∷ b₇ ∷ []) out
-unfolding strewn
-eight-strewn out i s b₀ b₁ b₂ b₃ b₄ b₅ b₆ b₇ =
-    let e₂ : i + 2 * s ≡ i + s + s = omega arith in
-    let e₃ : i + 3 * s ≡ i + s + s + s = omega arith in
-    let e₄ : i + 4 * s ≡ i + s + s + s + s = omega arith in
-    let e₅ : i + 5 * s ≡ i + s + s + s + s + s = omega arith in
-    let e₆ : i + 6 * s ≡ i + s + s + s + s + s + s = omega arith in
-    let e₇ : i + 7 * s ≡ i + s + s + s + s + s + s + s = omega arith in
-    rw (e₂, e₃, e₄, e₅, e₆, e₇)
-
 -- ---- what is picked
--- k bytes are k
-picked-length : (k i step : ℕ) (bs : List ℕ) → length (picked k i step bs) ≡ k
-unfolding picked
-picked-length zero i step bs = refl
-picked-length (suc k) i step bs = ap suc (picked-length k (i + step) step bs)
-
--- they are bytes
-picked-bytes : (k i step : ℕ) (bs : List ℕ) → ((j : ℕ) → Fits w8 (get_or bs j 0)) → AllBytes (picked k i step bs)
-unfolding picked
-picked-bytes zero i step bs f = tt
-picked-bytes (suc k) i step bs f = (omega (arith, f i), picked-bytes k (i + step) step bs f)
-
--- one part, and the next after it
-picked-append : (j k i step : ℕ) (bs : List ℕ) → picked (j + k) i step bs ≡ picked j i step bs ++ picked k (i + j * step) step bs
-unfolding picked
-picked-append zero k i step bs = let e : zero + k ≡ k = omega arith in rw (e, step-none i step)
-picked-append (suc j) k i step bs =
-    let e : suc j + k ≡ suc (j + k) = omega arith in
-    rw (e, step-more i j step) (ap (λ (l : List ℕ). get_or bs i 0 ∷ l) (picked-append j k (i + step) step bs))
-
 -- bytes in a row of l, where they are those of bs a step apart
 pub picked-row : (k : ℕ) (l : List ℕ) (m i step : ℕ) (bs : List ℕ) → m + k ≤ length l → ((j : ℕ) → j < k → get_or l (m + j) 0 ≡ get_or bs (i + j * step) 0)
     → take k (drop m l) ≡ picked k i step bs
@@ -174,23 +121,16 @@ picked-row (suc k) l m i step bs h e =
     λ j lt. let z : suc m + j ≡ m + suc j = omega arith in rw (z, ← step-more i j step) (e (suc j) (omega arith)) in
     rw (drop-cons l m 0 (omega arith), first) (ap (λ (r : List ℕ). get_or bs i 0 ∷ r) (picked-row k l (suc m) (i + step) step bs (omega arith) more))
 
--- the value of four of them
-pub four-value : (l : List ℕ) (i s : ℕ)
-    → (get_or l i 0 * 256 + get_or l (i + s) 0) * 65536 + (get_or l (i + 2 * s) 0 * 256 + get_or l (i + 3 * s) 0) ≡ value_of (picked 4 i s l)
+-- the value of eight of them
+pub word_value : (l : List ℕ) (i s : ℕ) {n : ℕ}
+    → n ≡ from_be_bytes w64 (get_or l i 0 ∷ get_or l (i + s) 0 ∷ get_or l (i + 2 * s) 0 ∷ get_or l (i + 3 * s) 0 ∷ get_or l (i + 4 * s) 0 ∷ get_or l (i + 5 * s) 0 ∷ get_or l (i + 6 * s) 0 ∷ get_or l (i + 7 * s) 0 ∷ [])
+    → n ≡ value_of (picked 8 i s l)
 unfolding value_of value_from picked
-four-value l i s =
-    let e₂ : i + 2 * s ≡ i + s + s = omega arith in
-    let e₃ : i + 3 * s ≡ i + s + s + s = omega arith in
-    rw (e₂, e₃) (omega arith)
-
--- and of eight, by halves
-pub eight-value : (l : List ℕ) (i s a b : ℕ) → a ≡ value_of (picked 4 i s l) → b ≡ value_of (picked 4 (i + 4 * s) s l)
-    → a * 4294967296 + b ≡ value_of (picked 8 i s l)
-eight-value l i s a b p q =
-    let n : length (picked 4 (i + 4 * s) s l) ≡ 4 = picked-length 4 (i + 4 * s) s l in
-    sym (rw (picked-append 4 4 i s l, value-append (picked 4 i s l) (picked 4 (i + 4 * s) s l), n, ← p, ← q) refl)
-
--- four are worth less than 2^32
-pub four_bound : (l : List ℕ) (i s a : ℕ) → ((j : ℕ) → Fits w8 (get_or l j 0)) → a ≡ value_of (picked 4 i s l) → a < 4294967296
-four_bound l i s a f e =
-    omega (arith, rw (picked-length 4 i s l) at (value-bound (picked 4 i s l) (picked-bytes 4 i s l f)))
+word_value l i s h =
+    let e₂ : i + s + s ≡ i + 2 * s = omega arith in
+    let e₃ : i + 2 * s + s ≡ i + 3 * s = omega arith in
+    let e₄ : i + 3 * s + s ≡ i + 4 * s = omega arith in
+    let e₅ : i + 4 * s + s ≡ i + 5 * s = omega arith in
+    let e₆ : i + 5 * s + s ≡ i + 6 * s = omega arith in
+    let e₇ : i + 6 * s + s ≡ i + 7 * s = omega arith in
+    rw (e₂, e₃, e₄, e₅, e₆, e₇) (h ∙ omega arith)

@@ -1,9 +1,9 @@
 -- Runs on their way into a world: laid one after the other into the free chain they are what its first nodes hold, and in order they become
 -- the world's. Any reader's runs are a list rs, and its i-th one is what is laid. Assumes nothing.
-use Prim.Native.Nat.{ℕ, zero, suc, ◌+◌, ◌*◌, ◌≤◌, ◌<◌}
+use Prim.Native.Nat.{ℕ, zero, suc, ◌+◌, ◌*◌, ◌^◌, ◌≤◌, ◌<◌}
 use mathlib.Core.Path.{◌≡◌, refl, ap, ◌∙◌, subst}
 use mathlib.Core.Bool.{true}
-use mathlib.Core.List.{List}
+use mathlib.Core.List.{List, [], ◌∷◌, ◌++◌}
 use native.Mathlib.Omega.{arith}
 use native.Mathlib.Numerals.{add-one}
 use lib.ListN.{length, take, drop, get_or}
@@ -22,17 +22,18 @@ use Rattle.run_index.proofs.Laying.{filled_none, filled-step, next-room, left_ov
 use Rattle.store.specs.declared.World.{World}
 use Rattle.store.specs.declared.Links.{Links}
 use Rattle.store.specs.Layout.{links_of}
-use Rattle.store.specs.Free.{Keepable, GivesBack}
+use Rattle.store.specs.Free.{GivesBack}
 use Rattle.store.specs.Settle.{Lays, Linkable, LinksUp}
 use Rattle.store.proofs.Replacing.{replace-fillable, replace-linkable, replaced}
 use Rattle.written.specs.Listed.{pairs, Receives, Received}
+use Rattle.written.proofs.Ordered.{words-more}
 
 -- ---- a list of words
 -- as many runs as are asked for
-pub pairs-length : (n : ℕ) (ws : List ℕ) → length (pairs n ws) ≡ n
+pub pairs_length : (n : ℕ) (ws : List ℕ) → length (pairs n ws) ≡ n
 unfolding pairs
-pairs-length zero ws = refl
-pairs-length (suc n) ws = ap suc (pairs-length n (drop 2 ws))
+pairs_length zero ws = refl
+pairs_length (suc n) ws = ap suc (pairs_length n (drop 2 ws))
 
 -- run i stands at the words 2 i and 2 i + 1
 pub pairs-at : (n : ℕ) (ws : List ℕ) (i : ℕ) (d : Run) → i < n → get_or (pairs n ws) i d ≡ run (get_or ws (2 * i) 0) (get_or ws (2 * i + 1) 0)
@@ -44,10 +45,6 @@ pairs-at (suc n) ws (suc i) d h =
     let f : 2 + (2 * i + 1) ≡ 2 * suc i + 1 = omega arith in
     pairs-at n (drop 2 ws) i d (omega arith) ∙ simp (get_or-drop, e, f)
 
--- as the code reads it, at twice i
-pub pair_read : (n : ℕ) (ws : List ℕ) {i at : ℕ} → i < n → at ≡ 2 * i → get_or (pairs n ws) i (run 0 0) ≡ run (get_or ws at 0) (get_or ws (at + 1) 0)
-pair_read n ws {i} lt e = pairs-at n ws i (run 0 0) lt ∙ rw (← e)
-
 -- their ends are words
 pub pairs-words : (n : ℕ) (ws : List ℕ) → ((i : ℕ) → Fits w64 (get_or ws i 0)) → AllWords (pairs n ws)
 unfolding pairs
@@ -55,46 +52,49 @@ pairs-words zero ws f = tt
 pairs-words (suc n) ws f = (omega (arith, f 0), omega (arith, f 1), pairs-words n (drop 2 ws) (λ i. rw (get_or-drop 2 ws i 0) (f (2 + i))))
 
 -- ---- laying them
--- in any free chain from head on that is long enough, the first nodes hold i of the n runs rs, and the others are free from q on
-pub record Laying (w₀ w : List ℕ) (head n q i : ℕ) (rs : List Run) : Type 0 where
-  pub upto : i ≤ n
-  pub many : length rs ≡ n
-  pub fills : (ns : List ℕ) → FreeChain w₀ head ns → n ≤ length ns → Filled w₀ w head q i ns (take i rs)
+-- in any free chain from head on that is long enough, the first nodes hold i of the runs rs, whose ends are words, and the others are free from
+-- q on
+pub record Laying (w₀ w : List ℕ) (head q i : ℕ) (rs : List Run) : Type 0 where
+  pub upto : i ≤ length rs
+  pub words : AllWords (take i rs)
+  pub fills : (ns : List ℕ) → FreeChain w₀ head ns → length rs ≤ length ns → Filled w₀ w head q i ns (take i rs)
 
 -- none lies there yet
-pub laying-none : {w : List ℕ} {head n : ℕ} (rs : List Run) → length rs ≡ n → Laying w w head n head 0 rs
-laying-none rs e = record { upto = omega arith; many = e; fills = λ ns c h. filled_none ns c }
+pub laying-none : {w : List ℕ} {head : ℕ} (rs : List Run) → Laying w w head head 0 rs
+laying-none rs = record { upto = omega arith; words = tt; fills = λ ns c h. filled_none ns c }
 
-module _ {w₀ w : List ℕ} {head n q i : ℕ} {rs : List Run} (l : Laying w₀ w head n q i rs) where
-  -- the slice is as long
-  pub laying-long : Fillable w₀ head n → length w ≡ length w₀
-  laying-long f = (l.fills f.0 f.1 f.2).long
-
+module _ {w₀ w : List ℕ} {head q i : ℕ} {rs : List Run} (l : Laying w₀ w head q i rs) where
   -- the next node has room
-  pub laying-room : Fillable w₀ head n → i < n → Room w q
+  pub laying-room : Fillable w₀ head (length rs) → i < length rs → Room w q
   laying-room f lt = let g = l.fills f.0 f.1 f.2 in next-room w q g.ys g.free (omega (arith, left_over g, f.2))
 
   -- the next run is laid into it
-  pub laying-step : {w' : List ℕ} {r a b : ℕ} → i < n → get_or rs i (run 0 0) ≡ run a b → Strung.Lays w w' r q a b → Laying w₀ w' head n r (i + 1) rs
-  laying-step lt e ly = record {
-    upto = omega arith;
-    many = l.many;
-    fills = λ ns c h. rw (add-one i, take-suc rs i (run 0 0) (omega (arith, l.many)), e) (rw (add-one i) at (filled-step c (l.fills ns c h) (omega arith) ly));
-  }
+  pub laying-step : {w' : List ℕ} {p : ℕ} {r : Run} → i < length rs → r ≡ get_or rs i (run 0 0) → r.start < 2 ^ 64 → r.«end» < 2 ^ 64
+      → Strung.Lays w w' p q r.start r.«end» → Laying w₀ w' head p (i + 1) rs
+  laying-step {w'} {p} {r} lt e f g ly =
+      let more : take (suc i) rs ≡ take i rs ++ (r ∷ []) = rw (take-suc rs i (run 0 0) lt, e) in
+      record {
+        upto = omega arith;
+        words = rw (add-one i, more) (words-more (take i rs) r l.words f g);
+        fills = λ ns c h. rw (add-one i, more) (rw (add-one i) at (filled-step c (l.fills ns c h) (omega arith) ly));
+      }
 
-  -- all are laid
-  pub laying-all : n ≤ i → Lays w₀ w head n rs
-  laying-all ge ns c h =
-      let e : i ≡ n = omega (arith, l.upto) in
-      let all : take i rs ≡ rs = take_all i rs (omega (arith, l.many)) in
-      (q, subst (λ (j : ℕ). Filled w₀ w head q j ns rs) e (rw all at (l.fills ns c h)))
+  module _ (ge : length rs ≤ i) where
+    -- all are laid
+    laying-whole : take i rs ≡ rs
+    laying-whole = take_all i rs ge
+
+    pub laying-all : Lays w₀ w head (length rs) rs
+    laying-all ns c h =
+        let e : i ≡ length rs = omega (arith, l.upto) in
+        (q, subst (λ (j : ℕ). Filled w₀ w head q j ns rs) e (rw laying-whole at (l.fills ns c h)))
+
+    -- and their ends are words
+    pub laying-words : AllWords rs
+    laying-words = rw laying-whole at l.words
 
 -- ---- giving them to a world, whose links are x
 module _ {w : List ℕ} {h : World} {x : Links} (links : x ≡ links_of h) where
-  -- its tree can be given back
-  pub receive-keepable : {n : ℕ} → Receives w h n → Keepable w x
-  receive-keepable v = rw links (v.0, v.1.tree, v.1.free, v.1.kept)
-
   module _ {w₁ : List ℕ} {k : Links} (gb : GivesBack w w₁ x k) where
     -- then n runs can be laid
     pub receive-fillable : {n : ℕ} → Receives w h n → Fillable w₁ k.free n

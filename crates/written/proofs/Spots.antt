@@ -12,7 +12,7 @@ use Rattle.model.specs.declared.Edition.{Edition}
 use Rattle.model.specs.declared.Edition.TheVariants.{Rows, Columns}
 use Rattle.model.specs.Positions.{run}
 use Rattle.model.specs.Bytes.{value_of, arranged, in_rows, runs_told}
-use Rattle.model.proofs.Codec.{decode_runs-at}
+use Rattle.model.proofs.Codec.{decode_runs-at, runs_told-length}
 use Rattle.model.proofs.Columns.{columns-at, columns-length}
 use Rattle.written.specs.Placed.{picked, first_of, step_of}
 use Rattle.written.proofs.Apart.{picked-row}
@@ -67,14 +67,14 @@ module _ (e : Edition) (n i j : ℕ) (below : i < n) (small : j < 16) where
       go Columns = let p : i + j * n ≡ n * j + i = omega arith in rw p (columns-at 16 n bs j i small below)
 
 -- ---- reading
+-- as many runs are told as are asked for
+pub told_length : (e : Edition) (n : ℕ) (bs : List ℕ) → length (runs_told e n bs) ≡ n
+told_length = runs_told-length
+
 -- what is read of n runs has 16 bytes for each
 told-long : (e : Edition) (n : ℕ) (bs : List ℕ) → 5 + 16 * n ≤ length bs → 16 * n ≤ length (in_rows e n (drop 5 bs))
 told-long Rows n bs h = simp length-drop (omega arith)
 told-long Columns n bs h = rw (columns-length 16 n (drop 5 bs)) (omega arith)
-
--- bytes in a row are a step of 1 apart
-row-picked : (k i : ℕ) (bs : List ℕ) → i + k ≤ length bs → take k (drop i bs) ≡ picked k i 1 bs
-row-picked k i bs h = picked-row k bs i i 1 bs h (λ j l. ap (λ (p : ℕ). get_or bs p 0) (omega arith))
 
 module _ (e : Edition) (n i : ℕ) (bs : List ℕ) (below : i < n) (long : 5 + 16 * n ≤ length bs) where
   -- eight bytes of run i
@@ -88,29 +88,15 @@ module _ (e : Edition) (n i : ℕ) (bs : List ℕ) (below : i < n) (long : 5 + 1
           let q : 5 + spot e n i (j + k) ≡ 5 + spot e n i j + k * step_of e n = rw (add-mul j k (step_of e n)) (omega arith) in
           rw p (spot-rows e n i (j + k) below (omega arith) (drop 5 bs) ∙ get_or-drop 5 bs (spot e n i (j + k)) 0 ∙ rw q)
 
-  -- run i is told by bytes a step apart
-  told-run : {a b : ℕ} → a ≡ value_of (picked 8 (5 + first_of e i) (step_of e n) bs)
-      → b ≡ value_of (picked 8 (5 + first_of e i + 8 * step_of e n) (step_of e n) bs) → run a b ≡ get_or (runs_told e n (drop 5 bs)) i (run 0 0)
+  -- run i is told by bytes a step apart, as its edition has them
+  pub told-run : {d : Edition} {q : Run} → e ≡ d
+      → q ≡ run (value_of (picked 8 (5 + first_of d i) (step_of d n) bs)) (value_of (picked 8 (5 + first_of d i + 8 * step_of d n) (step_of d n) bs))
+      → q ≡ get_or (runs_told e n (drop 5 bs)) i (run 0 0)
   unfolding runs_told
-  told-run p q =
+  told-run r p =
       let z : 16 * i + 0 ≡ 16 * i = omega arith in
       let s : 5 + spot e n i 0 ≡ 5 + first_of e i = omega (arith, zero-mul (step_of e n)) in
       let first : take 8 (drop (16 * i) (in_rows e n (drop 5 bs))) ≡ picked 8 (5 + first_of e i) (step_of e n) bs = rw (z, s) at (word-picked 0 (omega arith)) in
       let t : 5 + spot e n i 8 ≡ 5 + first_of e i + 8 * step_of e n = omega arith in
       let last : take 8 (drop (16 * i + 8) (in_rows e n (drop 5 bs))) ≡ picked 8 (5 + first_of e i + 8 * step_of e n) (step_of e n) bs = rw t at (word-picked 8 (omega arith)) in
-      sym (decode_runs-at n (in_rows e n (drop 5 bs)) i (run 0 0) below ∙ rw (first, last, ← p, ← q))
-
-  -- in rows they are in a row
-  pub told-row : e ≡ Rows → {a b : ℕ} → a ≡ value_of (take 8 (drop (5 + 16 * i) bs)) → b ≡ value_of (take 8 (drop (5 + 16 * i + 8) bs))
-      → run a b ≡ get_or (runs_told e n (drop 5 bs)) i (run 0 0)
-  told-row r p q =
-      told-run (rw r (p ∙ ap value_of (row-picked 8 (5 + 16 * i) bs (omega arith)))) (rw r (q ∙ ap value_of (row-picked 8 (5 + 16 * i + 8) bs (omega arith))))
-
-  -- in columns as far apart as there are runs
-  pub told-column : e ≡ Columns → {a b : ℕ} → a ≡ value_of (picked 8 (5 + i) n bs) → b ≡ value_of (picked 8 (5 + i + 8 * n) n bs)
-      → run a b ≡ get_or (runs_told e n (drop 5 bs)) i (run 0 0)
-  told-column r p q = told-run (rw r p) (rw r q)
-
-  -- which is that edition
-  pub told-by-column : e ≡ Columns → {q : Run} → q ≡ get_or (runs_told Columns n (drop 5 bs)) i (run 0 0) → q ≡ get_or (runs_told e n (drop 5 bs)) i (run 0 0)
-  told-by-column r p = p ∙ ap (λ k. get_or (runs_told k n (drop 5 bs)) i (run 0 0)) (sym r)
+      p ∙ sym (decode_runs-at n (in_rows e n (drop 5 bs)) i (run 0 0) below ∙ rw (first, last, r))

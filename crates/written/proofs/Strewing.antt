@@ -9,7 +9,6 @@ use native.Mathlib.Omega.{arith}
 use lib.ListN.{length, take, set, get_or, length-append, get_or-append}
 use lib.Seq.{get_or-append-add, ext_get_or, take-suc, take_all, length-take-le}
 use Rattle.model.specs.declared.Edition.{Edition}
-use Rattle.model.specs.declared.Edition.TheVariants.{Rows, Columns}
 use Rattle.model.specs.declared.Run.{Run}
 use Rattle.model.specs.Positions.{run}
 use Rattle.model.specs.Bytes.{big_endian, encode_runs, version_of, arranged, encode, into_front}
@@ -18,7 +17,7 @@ use Rattle.model.proofs.Numbers.{split}
 use Rattle.model.proofs.Columns.{arranged-length}
 use Rattle.written.specs.Placed.{placed, strewn, first_of, step_of, head_of, put_run}
 use Rattle.written.proofs.Placing.{placed-length, placed-before, placed-inside, placed-after, placed-set, placed-placed, placed-front}
-use Rattle.written.proofs.Apart.{Apart, strewn-length, strewn-append, strewn-keeps, strewn-makes, placed-strewn}
+use Rattle.written.proofs.Apart.{Apart, strewn-length, strewn-append, strewn-keeps, strewn-makes}
 use Rattle.written.proofs.Spots.{spot, AtSpot, at-spot, spot-below, spot-arranged}
 
 -- the 16 bytes of a run
@@ -34,32 +33,18 @@ put_runs e n i [] out = out
 put_runs e n i (r ∷ rs) out = put_runs e n (suc i) rs (put_run e n i r.start r.«end» out)
 
 -- ---- one run
-module _ (e : Edition) (n i a b : ℕ) (out o₁ o₂ : List ℕ) where
-  -- by its start and its end, whose bytes are a step apart
-  run-strewn : o₁ ≡ strewn (5 + first_of e i) (step_of e n) (big_endian 8 a) out → o₂ ≡ strewn (5 + first_of e i + 8 * step_of e n) (step_of e n) (big_endian 8 b) o₁
-      → o₂ ≡ put_run e n i a b out
-  unfolding put_run
-  run-strewn p q =
-      let l : length (big_endian 8 a) ≡ 8 = big_endian-length 8 a in
-      q ∙ rw p (rw l at (strewn-append (5 + first_of e i) (step_of e n) (big_endian 8 a) (big_endian 8 b) out))
+-- its start and its end, one after the other
+pub both-strewn : (i step a b : ℕ) (out o₁ : List ℕ) {o₂ : List ℕ} → o₁ ≡ strewn i step (big_endian 8 a) out → o₂ ≡ strewn (i + 8 * step) step (big_endian 8 b) o₁
+    → o₂ ≡ strewn i step (big_endian 8 a ++ big_endian 8 b) out
+both-strewn i step a b out o₁ p q =
+    let l : length (big_endian 8 a) ≡ 8 = big_endian-length 8 a in
+    q ∙ rw p (rw l at (strewn-append i step (big_endian 8 a) (big_endian 8 b) out))
 
-  -- in rows they are in a row
-  pub run_row : e ≡ Rows → 5 + 16 * i + 16 ≤ length out → o₁ ≡ placed (5 + 16 * i) (big_endian 8 a) out → o₂ ≡ placed (5 + 16 * i + 8) (big_endian 8 b) o₁
-      → o₂ ≡ put_run e n i a b out
-  run_row r f p q =
-      let lA : length (big_endian 8 a) ≡ 8 = big_endian-length 8 a in
-      let lB : length (big_endian 8 b) ≡ 8 = big_endian-length 8 b in
-      let l₁ : length o₁ ≡ length out = ap length p ∙ placed-length (5 + 16 * i) (big_endian 8 a) out (omega arith) in
-      run-strewn (rw r (p ∙ placed-strewn (5 + 16 * i) (big_endian 8 a) out (omega arith)))
-      (rw r (q ∙ placed-strewn (5 + 16 * i + 8) (big_endian 8 b) o₁ (omega arith)))
-
-  -- in columns as far apart as there are runs
-  pub run-column : e ≡ Columns → o₁ ≡ strewn (5 + i) n (big_endian 8 a) out → o₂ ≡ strewn (5 + i + 8 * n) n (big_endian 8 b) o₁ → o₂ ≡ put_run e n i a b out
-  run-column r p q = run-strewn (rw r p) (rw r q)
-
--- put by columns it is put in that edition
-pub run-by-column : (e : Edition) (n i a b : ℕ) (out : List ℕ) {o : List ℕ} → e ≡ Columns → o ≡ put_run Columns n i a b out → o ≡ put_run e n i a b out
-run-by-column e n i a b out r p = p ∙ ap (λ k. put_run k n i a b out) (sym r)
+-- they are put as the edition has them
+pub run-strewn : (e : Edition) (n i a b : ℕ) (out : List ℕ) {d : Edition} {o : List ℕ} → e ≡ d
+    → o ≡ strewn (5 + first_of d i) (step_of d n) (big_endian 8 a ++ big_endian 8 b) out → o ≡ put_run e n i a b out
+unfolding put_run
+run-strewn e n i a b out r p = p ∙ rw r
 
 -- ---- how long the slice is, and one run more
 -- the slice stays as long

@@ -1,25 +1,24 @@
 -- What bytes are as a written set, test by test in the order of refusals, and how many runs the set of an ordered list has: just the
 -- list's, since its runs are canonical. So runs that are told can be counted against an allowance before a world gets them.
 -- Assumes nothing.
+use Rattle.std.specs.Prelude.{None, Some}
 use Prim.Native.Nat.{ℕ, ◌+◌, ◌*◌, ◌≤◌, ◌<◌}
-use mathlib.Core.Path.{◌≡◌, refl, sym, ap, ◌∙◌, subst}
-use mathlib.Core.Bool.{Bool, true, false, not, or-true}
+use mathlib.Core.Path.{◌≡◌, refl, sym, ap, ◌∙◌}
+use mathlib.Core.Bool.{Bool, true, false, not}
 use mathlib.Core.List.{List, [], ◌∷◌}
-use mathlib.Core.Option.{none, some}
 use lib.ListN.{length, take, drop, get_or}
 use native.Mathlib.Omega.{arith}
 use borrow.Author.Tests.{eq-eqb, ne_eqb, lt-ltb, le-ltb, not-false}
 use Rattle.model.specs.declared.Run.{Run}
 use Rattle.model.specs.declared.Edition.{Edition}
-use Rattle.model.specs.declared.Refusal.{Refusal}
+use Rattle.model.specs.declared.Edition.TheVariants.{Rows, Columns}
 use Rattle.model.specs.Positions.{stretches, mem}
 use Rattle.model.proofs.Runs.{stretches-is}
-use Rattle.model.specs.Bytes.{value_of, runs_due, edition_by, edition_of, runs_told, decode}
-use Rattle.model.specs.Refusals.{refusal, too_short, bad_version, bad_length, ordered_from, disordered, set_short, set_version, set_length, run_order, ◌when◌, shape_conditions, set_conditions}
+use Rattle.model.specs.Bytes.{value_of, version_of, runs_due, edition_of, runs_told, decode}
+use Rattle.model.specs.Refusals.{refusal, too_short, bad_version, bad_length, ordered_from, disordered, set_short, set_version, set_length, ◌when◌, shape_conditions, set_conditions}
 use Rattle.model.specs.RunList.{AllBytes, AllWords}
 use Rattle.model.proofs.Codec.{decode-length, decode-words, ordered-canon}
-use Rattle.written.specs.declared.set.Parsed.{Parsed}
-use Rattle.written.specs.Parsed.{Shaped, TellsShape, Acceptable, TellsRuns}
+use Rattle.written.specs.Parsed.{Shaped, Acceptable}
 
 -- ---- runs in order
 module _ (rs : List Run) where
@@ -39,19 +38,11 @@ module _ (rs : List Run) where
 
 -- ---- a set's shape is tested before its order
 -- where no test of the shape refuses, none of the three conditions holds
-none-holds : (a b c : Bool) → refusal (set_short when a ∷ set_version when b ∷ set_length when c ∷ []) ≡ none → (a ≡ false) × (b ≡ false) × (c ≡ false)
+none-holds : (a b c : Bool) → refusal (set_short when a ∷ set_version when b ∷ set_length when c ∷ []) ≡ None → (a ≡ false) × (b ≡ false) × (c ≡ false)
 none-holds true b c e = let z : ◌≡◌ {A = ℕ} 0 1 = cc in absurd (omega arith)
 none-holds false true c e = let z : ◌≡◌ {A = ℕ} 0 1 = cc in absurd (omega arith)
 none-holds false false true e = let z : ◌≡◌ {A = ℕ} 0 1 = cc in absurd (omega arith)
 none-holds false false false e = (refl, refl, refl)
-
--- and where one does, the order is not asked
-one_holds : (a b c d : Bool) {k : ℕ} → refusal (set_short when a ∷ set_version when b ∷ set_length when c ∷ []) ≡ some k
-    → refusal (set_short when a ∷ set_version when b ∷ set_length when c ∷ run_order when d ∷ []) ≡ some k
-one_holds true b c d e = e
-one_holds false true c d e = e
-one_holds false false true d e = e
-one_holds false false false d e = let z : ◌≡◌ {A = ℕ} 0 1 = cc in absurd (omega arith)
 
 -- ---- bytes, test by test
 module _ (bs : List ℕ) where
@@ -61,7 +52,7 @@ module _ (bs : List ℕ) where
   short-is h = lt-ltb (length bs) 5 h
 
   -- are too few
-  pub told-short : length bs < 5 → refusal (shape_conditions bs) ≡ some 3
+  pub told-short : length bs < 5 → refusal (shape_conditions bs) ≡ Some 3
   told-short h = rw (short-is h)
 
   module _ (long : 5 ≤ length bs) where
@@ -70,31 +61,22 @@ module _ (bs : List ℕ) where
     unfolding too_short
     long-is = le-ltb (length bs) 5 long
 
-    module _ {v : ℕ} (read : v ≡ get_or bs 0 0) where
-      -- a version that is neither 1 nor 2
-      version-not : (v ≡ 1 → ⊥) → (v ≡ 2 → ⊥) → bad_version bs ≡ true
-      unfolding bad_version
-      version-not h k = rw (← read, ne_eqb v 1 h, ne_eqb v 2 k)
+    -- a version that is neither 1 nor 2
+    version-not : (get_or bs 0 0 ≡ 1 → ⊥) → (get_or bs 0 0 ≡ 2 → ⊥) → bad_version bs ≡ true
+    unfolding bad_version
+    version-not h k = rw (ne_eqb (get_or bs 0 0) 1 h, ne_eqb (get_or bs 0 0) 2 k)
 
-      -- is refused
-      pub told-version : (v ≡ 1 → ⊥) → (v ≡ 2 → ⊥) → refusal (shape_conditions bs) ≡ some 4
-      told-version h k = rw (long-is, version-not h k)
+    -- is refused
+    pub told-version : (get_or bs 0 0 ≡ 1 → ⊥) → (get_or bs 0 0 ≡ 2 → ⊥) → refusal (shape_conditions bs) ≡ Some 4
+    told-version h k = rw (long-is, version-not h k)
 
-      -- 1 is not, nor is 2
-      pub version-one : v ≡ 1 → bad_version bs ≡ false
-      unfolding bad_version
-      version-one h = rw (← read, eq-eqb v 1 h)
+    -- that of an edition is not, and tells it
+    pub version-is : {e : Edition} (d : Edition) → e ≡ d → get_or bs 0 0 ≡ version_of d → (bad_version bs ≡ false) × (e ≡ edition_of bs)
+    unfolding bad_version edition_of
+    version-is Rows r h = (rw h, r ∙ rw h)
+    version-is Columns r h = (rw h, r ∙ rw h)
 
-      pub version-two : v ≡ 2 → bad_version bs ≡ false
-      unfolding bad_version
-      version-two h = rw (← read, eq-eqb v 2 h, or-true)
-
-      -- it tells the edition
-      pub edition-is : {e : Edition} → e ≡ edition_by v → e ≡ edition_of bs
-      unfolding edition_of
-      edition-is h = h ∙ ap edition_by read
-
-    module _ (version-is : bad_version bs ≡ false) {e : Edition} (edition : e ≡ edition_of bs) {n : ℕ} (count : n ≡ value_of (take 4 (drop 1 bs))) where
+    module _ {e : Edition} (version : (bad_version bs ≡ false) × (e ≡ edition_of bs)) {n : ℕ} (count : n ≡ value_of (take 4 (drop 1 bs))) where
       -- the count is of runs
       due-is : n ≡ runs_due bs
       unfolding runs_due
@@ -106,8 +88,8 @@ module _ (bs : List ℕ) where
       length-not h = ap not (ne_eqb (length bs) (5 + 16 * runs_due bs) (λ q. h (q ∙ ap (λ k. 5 + 16 * k) (sym due-is))))
 
       -- another one is refused
-      pub told-length : (length bs ≡ 5 + 16 * n → ⊥) → refusal (shape_conditions bs) ≡ some 3
-      told-length h = rw (long-is, version-is, length-not h)
+      pub told-length : (length bs ≡ 5 + 16 * n → ⊥) → refusal (shape_conditions bs) ≡ Some 3
+      told-length h = rw (long-is, version.0, length-not h)
 
       -- that one
       length-is : length bs ≡ 5 + 16 * n → bad_length bs ≡ false
@@ -116,7 +98,7 @@ module _ (bs : List ℕ) where
 
       -- passes, as the last of the shape
       pub told-shape : length bs ≡ 5 + 16 * n → Shaped bs e n
-      told-shape exact = record { free = rw (long-is, version-is, length-is exact); edition = edition; due = due-is; long = exact }
+      told-shape exact = record { free = rw (long-is, version.0, length-is exact); edition = version.1; due = due-is; long = exact }
 
   module _ {e : Edition} {n : ℕ} (sh : Shaped bs e n) where
     -- the runs as the code reads them
@@ -130,7 +112,7 @@ module _ (bs : List ℕ) where
       shaped-tested = tested ∙ ap (ordered_from 0) shaped-runs
 
       -- out of order they are refused
-      pub told-order : not r ≡ true → refusal (set_conditions bs) ≡ some 5
+      pub told-order : not r ≡ true → refusal (set_conditions bs) ≡ Some 5
       told-order h = let f = none-holds (too_short bs) (bad_version bs) (bad_length bs) sh.free in rw (f.0, f.1, f.2, disorder-is (decode bs) shaped-tested true h)
 
       -- and else accepted
@@ -143,18 +125,7 @@ module _ (bs : List ℕ) where
             ordered = order_is (decode bs) shaped-tested h;
           }
 
-  -- ---- what is told
-  -- the refusal of a shape is the set's
-  pub shape-refused : {r : Refusal} (t : Parsed) → TellsShape bs t → t ≡ Parsed.Refused r → TellsRuns bs (Parsed.Refused r)
-  shape-refused t k e = one_holds (too_short bs) (bad_version bs) (bad_length bs) (disordered (decode bs)) (subst (λ s. TellsShape bs s) e k)
-
-  -- runs whose shape is right, and runs that are accepted
-  pub told-shaped : {e : Edition} {n : ℕ} (t : Parsed) → TellsShape bs t → t ≡ Parsed.Runs e n → Shaped bs e n
-  told-shaped t k e = subst (λ s. TellsShape bs s) e k
-
-  pub told-accepted : {e : Edition} {n : ℕ} (t : Parsed) → TellsRuns bs t → t ≡ Parsed.Runs e n → Acceptable bs e n
-  told-accepted t k e = subst (λ s. TellsRuns bs s) e k
-
+  -- ---- runs that are accepted
   module _ {e : Edition} {n : ℕ} (a : Acceptable bs e n) where
     -- as the code reads them
     pub accepted-runs : runs_told e n (drop 5 bs) ≡ decode bs

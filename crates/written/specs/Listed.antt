@@ -1,5 +1,5 @@
 -- Run lists on their way into a world. Assumes nothing: these are definitions.
-use Rattle.std.specs.Prelude.{ℕ, zero, suc, ◌+◌, ◌≤◌, Bool, true, false, List, [], ◌∷◌, get_or, drop}
+use Rattle.std.specs.Prelude.{ℕ, zero, suc, ◌+◌, ◌≤◌, Option, Some, None, List, [], ◌∷◌, get_or, drop}
 use Rattle.model.specs.declared.Run.{Run}
 use Rattle.model.specs.Positions.{run, mem}
 use Rattle.store.specs.declared.World.{World}
@@ -7,9 +7,9 @@ use Rattle.store.specs.Soundness.{Share, Standing}
 use Rattle.store.specs.Settle.{Became}
 
 -- the least start after a run that ended at last; the first run of a list has none before it
-abbrev pub least_after : Bool → ℕ → ℕ
-least_after true last = 0
-least_after false last = last + 2
+abbrev pub least_after : Option ℕ → ℕ
+least_after None = 0
+least_after (Some last) = last + 2
 
 -- the first n runs of a list of words
 unfoldable pub pairs : ℕ → List ℕ → List Run

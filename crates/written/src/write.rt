@@ -1,14 +1,14 @@
 // Writing a set, from a world or from a set of the other edition: the version byte, the number of runs as 4 bytes, then start and end of each
 // run, 8 bytes each, as the edition arranges them.
-ghost use Rattle.std.specs.Prelude.{◌≡◌, ◌+◌, ◌*◌, ◌≤◌, ◌<◌, length, drop};
-ghost use Rattle.model.specs.declared.Edition.TheVariants.{Columns};
+ghost use Rattle.std.specs.Prelude.{◌≡◌, ◌+◌, ◌*◌, ◌≤◌, ◌<◌, ◌++◌, length, drop};
 ghost use Rattle.model.specs.Positions.{stretches, held_runs};
-ghost use Rattle.model.specs.Bytes.{version_of, encode, runs_told, into_front};
+ghost use Rattle.model.specs.Bytes.{big_endian, version_of, encode, runs_told, into_front};
 ghost use Rattle.model.specs.Converting.{other_edition};
 ghost use Rattle.store.specs.Layout.{held_in};
 ghost use Rattle.store.specs.Soundness.{Stands};
-ghost use Rattle.written.specs.Placed.{placed, head_of, put_run};
+ghost use Rattle.written.specs.Placed.{placed, strewn, head_of, put_run};
 
+use crate::runs::{RunList, Told};
 use model::{Edition, Logical};
 use store::World;
 use streams::source::{HIGHEST, View};
@@ -32,15 +32,14 @@ pub fn put_head(out: &mut [u8], edition: Edition, n: u64)
     crate::numbers::put_count(out, 1, n);
 }
 
-// Writes run i of n by columns.
-fn put_column(out: &mut [u8], n: u64, i: u64, start: u64, end: u64)
-    requires { (5 + 16 * n ≤ length out.old) × (i < n) }
-    ensures { out.new ≡ put_run Columns n i start «end» out.old }
+// Writes start and end as 16 bytes that stand `step` apart.
+#[inline(always)]
+fn put_both(out: &mut [u8], at: usize, step: usize, start: u64, end: u64)
+    requires { at + 15 * step < length out.old }
+    ensures { out.new ≡ strewn at step (big_endian 8 start ++ big_endian 8 «end») out.old }
 {
-    let at = (5 + i) as usize;
-    let step = n as usize;
-    crate::numbers::put_apart(out, at, step, start);
-    crate::numbers::put_apart(out, at + 8 * step, step, end);
+    crate::numbers::put_word(out, at, step, start);
+    crate::numbers::put_word(out, at + 8 * step, step, end);
 }
 
 // Writes run i of n in either edition.
@@ -49,14 +48,8 @@ pub fn put_run(out: &mut [u8], edition: Edition, n: u64, i: u64, start: u64, end
     ensures { out.new ≡ put_run edition n i start «end» out.old }
 {
     match edition {
-        Edition::Rows => {
-            let at = (5 + 16 * i) as usize;
-            crate::numbers::put_word(out, at, start);
-            crate::numbers::put_word(out, at + 8, end);
-        }
-        Edition::Columns => {
-            put_column(out, n, i, start, end);
-        }
+        Edition::Rows => put_both(out, (5 + 16 * i) as usize, 1, start, end),
+        Edition::Columns => put_both(out, (5 + i) as usize, n as usize, start, end),
     }
 }
 
@@ -92,17 +85,16 @@ pub fn other_edition(edition: Edition) -> Edition
     }
 }
 
-// Writes the n runs that bytes tell in one edition into the front of a slice in the other.
-pub fn convert(bytes: &[u8], edition: Edition, n: u64, out: &mut [u8])
-    requires { (5 + 16 * n ≤ length bytes.now) × (5 + 16 * n ≤ length out.old) }
-    ensures { out.new ≡ into_front (encode (other_edition edition) (runs_told edition n (drop 5 bytes.now))) out.old }
+// Writes the runs that bytes tell in one edition into the front of a slice in the other.
+pub fn convert(told: Told<'_>, out: &mut [u8])
+    requires { 5 + 16 * told.count ≤ length out.old }
+    ensures { out.new ≡ into_front (encode (other_edition told.entry.edition)
+        (runs_told told.entry.edition told.entry.count (drop 5 told.entry.bytes.now))) out.old }
 {
-    let to = other_edition(edition);
-    put_head(out, to, n);
-    let mut i: u64 = 0;
-    while i < n {
-        let r = crate::set::run_told(bytes, edition, n, i);
-        put_run(out, to, n, i, r.start, r.end);
-        i += 1;
+    let to = other_edition(told.edition);
+    put_head(out, to, told.count);
+    for i in 0..told.count {
+        let r = told.run(i);
+        put_run(out, to, told.count, i, r.start, r.end);
     }
 }

@@ -9,16 +9,16 @@ set-e-requires-clause-editable c =
 
 pub close-requires : goal.close-requires
 close-requires c =
-    (_, _, changed-closing c.open-h.ensures c.allowance-limit.ensures c.requires.sound _ _ _ c.set-e.ensures.0 c.in-Changed.is)
+    (_, _, changed-closing c.open-h.ensures c.allowance-limit.ensures c.requires.sound _ _ _ c.set-e.ensures.0 c.in-Some.is)
 
-pub returns-in-Full : goal.returns-in-Full
-returns-in-Full c =
+pub returns-in-None : goal.returns-in-None
+returns-in-None c =
     let h = same-sound c.requires.sound
-    (full-same c.open-h.ensures c.allowance-limit.ensures c.requires.sound _ _ _ c.set-e.ensures.0 c.in-Full.is) in
+    (full-same c.open-h.ensures c.allowance-limit.ensures c.requires.sound _ _ _ c.set-e.ensures.0 c.in-None.is) in
     (h.0, h.1, omega arith)
 
-pub returns-in-Changed : goal.returns-in-Changed
-returns-in-Changed c =
+pub returns-in-Some : goal.returns-in-Some
+returns-in-Some c =
     let t = c.close.ensures _ _
-    (changed-closing c.open-h.ensures c.allowance-limit.ensures c.requires.sound _ _ _ c.set-e.ensures.0 c.in-Changed.is) in
+    (changed-closing c.open-h.ensures c.allowance-limit.ensures c.requires.sound _ _ _ c.set-e.ensures.0 c.in-Some.is) in
     (t.sound, t.long, omega arith)

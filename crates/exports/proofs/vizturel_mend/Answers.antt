@@ -4,4 +4,4 @@ use Rattle.exports.proofs.vizturel_mend.Goals as goal
 
 pub returns : goal.returns
 returns c =
-    mends c.mend.result c.mend.ensures c.mended.ensures c.mended-2.ensures
+    mends c.mend.result c.mend.ensures c.lay.ensures c.into.ensures

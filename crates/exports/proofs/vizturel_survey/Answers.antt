@@ -4,4 +4,4 @@ use Rattle.exports.proofs.Returning.{wrote}
 use Rattle.exports.proofs.vizturel_survey.Goals as goal
 
 pub returns : goal.returns
-returns c = wrote c.survey.result refl c.survey.ensures c.written.ensures c.words.ensures
+returns c = wrote c.survey.result refl c.survey.ensures c.lay.ensures c.into.ensures

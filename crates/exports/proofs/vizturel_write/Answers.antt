@@ -7,4 +7,4 @@ use Rattle.exports.proofs.vizturel_write.Goals as goal
 
 pub returns : goal.returns
 returns c =
-    wrote c.write_set.result (ap (λ e. Call.write_set e) c.edition_by.ensures) c.write_set.ensures c.written.ensures c.bytes.ensures
+    wrote c.write_set.result (ap (λ e. Call.write_set e) c.from.ensures) c.write_set.ensures c.lay.ensures c.into.ensures

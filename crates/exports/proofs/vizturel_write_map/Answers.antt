@@ -4,4 +4,4 @@ use Rattle.exports.proofs.Returning.{wrote}
 use Rattle.exports.proofs.vizturel_write_map.Goals as goal
 
 pub returns : goal.returns
-returns c = wrote c.write_map.result refl c.write_map.ensures c.written.ensures c.bytes.ensures
+returns c = wrote c.write_map.result refl c.write_map.ensures c.lay.ensures c.into.ensures

@@ -1,22 +1,31 @@
 -- `frame` meets its contract: a pool is looked at once, then the room is tested, and then every record is served. Assumes nothing.
+use mathlib.Core.Path.{sym, subst}
+use Rattle.model.specs.Answers.{completed_answer}
+use Rattle.store.specs.Soundness.{Sound}
+use Rattle.promises.proofs.Passing.{handed-on}
 use Rattle.interval_bit_set.proofs.Looking.{pool-readable}
+use Rattle.frame.specs.Frame.{Framed}
 use Rattle.frame.proofs.Framing.{turned-away, no_room_lem, playable, framed}
 use Rattle.frame.proofs.frame.Goals as goal
+use Rattle.frame.proofs.frame.Goals.{In_ok-look_at_pool}
+
+sound : (c : In_ok-look_at_pool) → Sound c.args.words.now
+sound c = pool-readable _ c.look_at_pool.ensures c.in_ok-look_at_pool.was
+
+pub returns-in_err-look_at_pool : goal.returns-in_err-look_at_pool
+returns-in_err-look_at_pool c =
+    subst (λ a. Framed c.args.words.now c.args.calls.now c.args.answers.now (completed_answer a) c.args.words.now c.args.answers.now)
+    (sym (handed-on c.from_residual.result c.from_residual.ensures.1 (λ e p. p)))
+    (turned-away c.args.words.now c.args.calls.now c.args.answers.now _ c.look_at_pool.ensures c.in_err-look_at_pool.was)
 
 pub returns-then-answers-n : goal.returns-then-answers-n
 returns-then-answers-n c =
-    no_room_lem c.args.words.now c.args.calls.now c.args.answers.now (pool-readable _ c.look_at_pool-l.ensures c.in-Sound.is) c.if-answers-n.true
+    no_room_lem c.args.words.now c.args.calls.now c.args.answers.now (sound (goal.at.returns-then-answers-n c).In_ok-look_at_pool) c.if-answers-n.true
 
 pub play-requires : goal.play-requires
 play-requires c =
-    playable c.args.words.now c.args.calls.now c.args.answers.now
-    (pool-readable _ c.look_at_pool-l.ensures c.in-Sound.is) c.if-answers-n.false
+    playable c.args.words.now c.args.calls.now c.args.answers.now (sound (goal.at.play-requires c).In_ok-look_at_pool) c.if-answers-n.false
 
-pub returns-in-Refused : goal.returns-in-Refused
-returns-in-Refused c =
-    turned-away c.args.words.now c.args.calls.now c.args.answers.now _ c.look_at_pool-l.ensures c.in-Refused.is
-
-pub returns-else-answers-n : goal.returns-else-answers-n
-returns-else-answers-n c =
-    framed c.args.words.now c.args.calls.now c.args.answers.now
-    (pool-readable _ c.look_at_pool-l.ensures c.in-Sound.is) c.if-answers-n.false c.play.ensures
+pub returns : goal.returns
+returns c =
+    framed c.args.words.now c.args.calls.now c.args.answers.now (sound (goal.at.returns c).In_ok-look_at_pool) c.if-answers-n.false c.play.ensures

@@ -13,7 +13,7 @@ asked c = c.world_of-world.ensures
 
 pub returns-then-world-opened : goal.returns-then-world-opened
 returns-then-world-opened c =
-    unopened-served c.requires (omega (arith, c.opened.ensures, c.if-world-opened.true)) _ (asked (goal.at.returns-then-world-opened c).After-opened) c.completed.ensures
+    unopened-served c.requires (omega (arith, c.opened.ensures, c.if-world-opened.true)) _ (asked (goal.at.returns-then-world-opened c).After-opened) c.lay.ensures
 
 pub serve_world-requires : goal.serve_world-requires
 serve_world-requires c =

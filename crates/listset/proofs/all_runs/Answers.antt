@@ -1,9 +1,9 @@
 -- A world that was opened in a sound pool is not refused.
-use Rattle.listset.proofs.Drawing.{listing-told, listing-refused}
+use Rattle.listset.proofs.Drawing.{listing-told, listing-granted}
 use Rattle.listset.proofs.all_runs.Goals as goal
 
-pub returns-in-Refused : goal.returns-in-Refused
-returns-in-Refused c = absurd (listing-refused c.args.words.now c.requires _ c.ranges-l.ensures c.in-Refused.is)
+pub unwrap-requires : goal.unwrap-requires
+unwrap-requires c = listing-granted c.args.words.now c.requires _ c.ranges-2.ensures
 
-pub returns-in-Listing : goal.returns-in-Listing
-returns-in-Listing c = listing-told c.args.words.now c.requires _ c.ranges-l.ensures c.in-Listing.is
+pub returns : goal.returns
+returns c = listing-told c.args.words.now c.requires _ c.ranges-2.ensures c.unwrap.ensures

@@ -1,25 +1,26 @@
 -- Two lines are put, part by part.
-use Rattle.std.proofs.Common.{arith}
+use Rattle.std.proofs.Common.{append_assoc}
+use mathlib.Core.List.{◌++◌}
 use Rattle.model.specs.Numbers.{worth}
-use Rattle.listset.specs.Text.{count_lines}
-use Rattle.listset.proofs.Putting.{and_then}
-use Rattle.listset.proofs.Decimals.{decimal-short}
+use Rattle.listset.specs.Text.{decimal, line_feed, ones_word, count_lines}
+use Rattle.listset.proofs.Putting.{and_then, cut_short, same_text}
 use Rattle.listset.proofs.put_counts.Goals as goal
 
-pub put-c-requires : goal.put-c-requires
-put-c-requires c = omega (arith, decimal-short c.args.runs)
+pub returns-in_err-put : goal.returns-in_err-put
+unfolding count_lines
+returns-in_err-put c =
+    same_text (simp append_assoc)
+    (cut_short (decimal c.args.runs ++ line_feed ++ ones_word ++ decimal (worth c.args.ones) ++ line_feed) c.in_err-put.ensures c.from_residual.ensures.0)
 
-pub put-d-requires : goal.put-d-requires
-put-d-requires c = omega (arith, decimal-short c.args.runs)
-
-pub put_count-e-requires-clause-at_in_bounds : goal.put_count-e-requires-clause-at_in_bounds
-put_count-e-requires-clause-at_in_bounds c = omega (arith, decimal-short c.args.runs)
-
-pub put-requires : goal.put-requires
-put-requires c = omega (arith, decimal-short c.args.runs, decimal-short (worth c.args.ones))
+pub returns-in_err-put_number : goal.returns-in_err-put_number
+unfolding count_lines
+returns-in_err-put_number c =
+    same_text (rw c.from.ensures (simp append_assoc))
+    (and_then c.in_ok-put.ensures
+    (cut_short (decimal (worth c.args.ones) ++ line_feed) c.in_err-put_number.ensures c.from_residual-in_err-put_number.ensures.0))
 
 pub returns : goal.returns
 unfolding count_lines
 returns c =
-    and_then (and_then (and_then (and_then (and_then c.put-a.ensures c.put_number-b.ensures) c.put-c.ensures) c.put-d.ensures) c.put_count-e.ensures)
-    c.put.ensures
+    same_text (rw (c.from.ensures, c.positions.ensures) (simp append_assoc))
+    (and_then c.in_ok-put.ensures (and_then c.in_ok-put_number.ensures c.put_number-2.ensures))

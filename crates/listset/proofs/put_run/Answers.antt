@@ -1,19 +1,15 @@
 -- A line is put, part by part.
-use Rattle.std.proofs.Common.{arith}
-use Rattle.listset.specs.Text.{run_line}
-use Rattle.listset.proofs.Putting.{and_then}
-use Rattle.listset.proofs.Decimals.{decimal-short}
+use Rattle.std.proofs.Common.{append_assoc}
+use mathlib.Core.List.{◌++◌}
+use Rattle.listset.specs.Text.{decimal, line_feed, run_line}
+use Rattle.listset.proofs.Putting.{and_then, cut_short, same_text}
 use Rattle.listset.proofs.put_run.Goals as goal
 
-pub put-b-requires : goal.put-b-requires
-put-b-requires c = omega (arith, decimal-short c.args.r.start)
-
-pub put_number-c-requires : goal.put_number-c-requires
-put_number-c-requires c = omega (arith, decimal-short c.args.r.start)
-
-pub put-requires : goal.put-requires
-put-requires c = omega (arith, decimal-short c.args.r.start, decimal-short c.args.r.«end»)
+pub returns-in_err-put_number : goal.returns-in_err-put_number
+unfolding run_line
+returns-in_err-put_number c =
+    same_text (rw c.from.ensures (simp append_assoc)) (cut_short (decimal c.args.run.«end» ++ line_feed) c.in_err-put_number.ensures c.from_residual.ensures.0)
 
 pub returns : goal.returns
 unfolding run_line
-returns c = and_then (and_then (and_then c.put_number-a.ensures c.put-b.ensures) c.put_number-c.ensures) c.put.ensures
+returns c = same_text (rw (c.from.ensures, c.from-2.ensures) (simp append_assoc)) (and_then c.in_ok-put_number.ensures c.put_number-2.ensures)

@@ -9,7 +9,7 @@ abbrev pub decreases-tree_fits : goal.decreases-tree_fits
 decreases-tree_fits l = (below_of l.words.now l.link).height
 
 abbrev pub invariant-loop-k : goal.invariant-loop-k
-invariant-loop-k l = Way l.words l.tag l.link l.lo l.hi l.k l.low
+invariant-loop-k l = Way l.words (record { tag = l.fn.tag; low = l.fn.low; high = l.fn.high }) l.link l.left_over l.k
 
 abbrev pub decreases-loop-k : goal.decreases-loop-k
 decreases-loop-k l = (below_of l.words l.k).height

@@ -1,30 +1,17 @@
--- `leaf_fits` meets its contract: each test that fails is a part of the definition that fails, and the last test is what is left of it.
--- Assumes nothing.
-use Rattle.std.proofs.Common.{sym, arith}
-use Rattle.store.proofs.Truths.{is_false}
-use Rattle.soundness.proofs.Tests.{run_out}
-use Rattle.soundness.proofs.Steps.{leaf-out, leaf_last}
+-- `leaf_fits` meets its contract: the comparison is the definition's tests but for the bounds. Assumes nothing.
+use Rattle.std.proofs.Common.{arith}
+use Rattle.std.proofs.lemmas.Bool.Decides.{nat_tests}
+use Rattle.soundness.specs.Decision.{within_b, run_b, leaf_b}
 use Rattle.soundness.proofs.leaf_fits.Goals as goal
 
-pub returns-then-v-lo : goal.returns-then-v-lo
-returns-then-v-lo c =
-    sym (is_false _ (λ e.
-    let r = run_out _ _ _ _ _ _ (leaf-out c.args.v _ _ _ e).run_fits in
-    omega (arith, c.if-v-lo.true, r.above, r.ordered, r.under)))
+pub own_ones-requires : goal.own_ones-requires
+unfolding within_b
+own_ones-requires c = grind (arith, nat_tests)
 
-pub returns-then-v : goal.returns-then-v
-returns-then-v c =
-    sym (is_false _ (λ e.
-    let r = run_out _ _ _ _ _ _ (leaf-out c.args.v _ _ _ e).run_fits in
-    omega (arith, c.if-v.true, r.above, r.ordered, r.under)))
+pub returns-then-admits : goal.returns-then-admits
+unfolding leaf_b run_b
+returns-then-admits c = grind (arith, nat_tests)
 
-pub returns-then-v-hi : goal.returns-then-v-hi
-returns-then-v-hi c =
-    sym (is_false _ (λ e.
-    let r = run_out _ _ _ _ _ _ (leaf-out c.args.v _ _ _ e).run_fits in
-    omega (arith, c.if-v-hi.true, r.above, r.ordered, r.under)))
-
-pub returns : goal.returns
-returns c =
-    leaf_last c.args.v _ _ _ (omega (arith, c.if-v-lo.false)) (omega (arith, c.if-v.false))
-    (omega (arith, c.if-v-hi.false)) _ c.wrapping_add_u64-ones.ensures.value
+pub returns-else-admits : goal.returns-else-admits
+unfolding leaf_b run_b
+returns-else-admits c = grind (arith, nat_tests)

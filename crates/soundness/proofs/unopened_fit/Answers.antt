@@ -1,20 +1,25 @@
--- `unopened_fit` meets its contract. The loop's invariant: the records that are left decide for all. The measure is how many are left.
--- Assumes nothing.
-use Rattle.std.proofs.Common.{ap, not, ◌∙◌, arith}
+-- `unopened_fit` meets its contract. The loop's invariant: the records that are left decide for all. Assumes nothing.
+use Rattle.std.proofs.Common.{◌≡◌, true, false, refl, ◌∙◌, arith}
+use Rattle.std.proofs.lemmas.Bool.Decides.{nat_tests}
+use Rattle.store.specs.Layout.{record_at}
+use Rattle.soundness.specs.Decision.{zeros_b, nothing_b}
 use Rattle.soundness.proofs.Records.{unopened-none, unopened-broken, unopened-more}
 use Rattle.soundness.proofs.unopened_fit.Goals as goal
 
-pub returns-then-not-record_is_zero : goal.returns-then-not-record_is_zero
-returns-then-not-record_is_zero c =
-    unopened-broken _ _ (omega (arith, c.loop-k-test.true)) c.read_node-v.result c.read_node-v.ensures _ c.record_is_zero.ensures (ap not c.if-not-record_is_zero.true)
-    ∙ c.loop-k.invariant.1
+pub loop-k-init : goal.loop-k-init
+loop-k-init c = (c.requires.n_le_most_worlds, refl)
+
+pub returns-then-ne : goal.returns-then-ne
+unfolding nothing_b zeros_b
+returns-then-ne c =
+    let e : nothing_b (record_at c.args.words.now c.loop-k.k) ≡ false = grind (arith, nat_tests) in
+    unopened-broken _ _ c.loop-k-test.true e ∙ c.loop-k.invariant.1
 
 pub loop-k-preserved : goal.loop-k-preserved
-loop-k-preserved c = (
-  omega (arith, c.loop-k-test.true),
-  unopened-more _ _ (omega (arith, c.loop-k-test.true)) c.read_node-v.result c.read_node-v.ensures _ c.record_is_zero.ensures (ap not c.if-not-record_is_zero.false)
-      ∙ c.loop-k.invariant.1,
-)
+unfolding nothing_b zeros_b
+loop-k-preserved c =
+    let e : nothing_b (record_at c.args.words.now c.loop-k.k) ≡ true = grind (arith, nat_tests) in
+    (omega (arith, c.loop-k-test.true), unopened-more _ _ c.loop-k-test.true e ∙ c.loop-k.invariant.1)
 
 pub returns : goal.returns
 returns c = unopened-none _ _ _ (omega arith) ∙ c.loop-k.invariant.1

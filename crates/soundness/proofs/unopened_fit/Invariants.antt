@@ -1,5 +1,4 @@
--- `unopened_fit` meets its contract. The loop's invariant: the records that are left decide for all. The measure is how many are left.
--- Assumes nothing.
+-- `unopened_fit` meets its contract. The loop's invariant: the records that are left decide for all. Assumes nothing.
 use Rattle.std.proofs.Common.{◌≡◌, ◌-◌, ◌≤◌}
 use Rattle.model.specs.Numbers.{most_worlds}
 use Rattle.soundness.specs.Decision.{unopened_b}
@@ -7,6 +6,3 @@ use Rattle.soundness.proofs.unopened_fit.Given as goal
 
 abbrev pub invariant-loop-k : goal.invariant-loop-k
 invariant-loop-k l = (l.k ≤ most_worlds) × (unopened_b l.words l.k (most_worlds - l.k) ≡ unopened_b l.words l.n (most_worlds - l.n))
-
-abbrev pub decreases-loop-k : goal.decreases-loop-k
-decreases-loop-k l = most_worlds - l.k

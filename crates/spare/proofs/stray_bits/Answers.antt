@@ -1,7 +1,11 @@
--- `stray_bits` meets its contract: the ones of the spare bits' number. Assumes nothing.
-use Rattle.model.specs.Bytes.{stray_bits}
+-- `stray_bits` meets its contract: whole bytes have no spare bit, and else the last byte shifted down by the used bits is the spare ones.
+-- Assumes nothing.
+use Rattle.std.proofs.Common.{◌∙◌, arith}
+use Rattle.spare.proofs.Sparing.{stray-none, stray-last}
 use Rattle.spare.proofs.stray_bits.Goals as goal
 
+pub returns-then-used-eq0 : goal.returns-then-used-eq0
+returns-then-used-eq0 c = stray-none _ _ c.if-used-eq0.true
+
 pub returns : goal.returns
-unfolding stray_bits
-returns c = c.ones.ensures _ _ _ c.spare_bits.ensures
+returns c = c.from.ensures ∙ stray-last c.args.n c.args.bytes.now c.if-used-eq0.false c.requires.bytes_len (λ j. omega (arith, c.type_inv.bytes j))

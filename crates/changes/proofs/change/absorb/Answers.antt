@@ -13,21 +13,21 @@ at_or_after-n-requires c = absorbing-indexed c.loop-more.invariant c.requires
 
 pub remove_run-at-requires : goal.remove_run-at-requires
 remove_run-at-requires c =
-    next-removable (here c.loop-more.invariant c.requires) _ c.at_or_after-n.ensures _ c.in-Run.is
+    next-removable (here c.loop-more.invariant c.requires) _ c.at_or_after-n.ensures _ c.in-Some.is
 
 pub loop-more-smaller-then-reaches : goal.loop-more-smaller-then-reaches
 loop-more-smaller-then-reaches c =
-    fewer-less _ _ c.loop-more.more (ltb c.in-Run.r.«end» c.loop-more.end.0) c.loop-more-test.true
-    (so-far-fewer (here c.loop-more.invariant c.requires) _ c.at_or_after-n.ensures _ c.in-Run.is c.remove_run-at.ensures)
+    fewer-less _ _ c.loop-more.more (ltb c.in-Some.r.«end» c.loop-more.end.0) c.loop-more-test.true
+    (so-far-fewer (here c.loop-more.invariant c.requires) _ c.at_or_after-n.ensures _ c.in-Some.is c.remove_run-at.ensures)
 
 pub loop-more-preserved-then-reaches : goal.loop-more-preserved-then-reaches
 loop-more-preserved-then-reaches c =
-    absorbing-taken c.loop-more.invariant _ c.at_or_after-n.ensures _ c.in-Run.is _ c.reaches.ensures c.remove_run-at.ensures
+    absorbing-taken c.loop-more.invariant _ c.at_or_after-n.ensures _ c.in-Some.is _ c.reaches.ensures c.remove_run-at.ensures
     c.loop-more-test.true c.if-reaches.true _ c.larger.ensures
 
 pub loop-more-preserved-else-reaches : goal.loop-more-preserved-else-reaches
 loop-more-preserved-else-reaches c =
-    absorbing-apart c.loop-more.invariant _ c.at_or_after-n.ensures _ c.in-Run.is _ c.reaches.ensures c.if-reaches.false
+    absorbing-apart c.loop-more.invariant _ c.at_or_after-n.ensures _ c.in-Some.is _ c.reaches.ensures c.if-reaches.false
 
 pub loop-more-preserved : goal.loop-more-preserved
 loop-more-preserved c =

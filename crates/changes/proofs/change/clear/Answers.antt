@@ -5,8 +5,8 @@ use Rattle.changes.proofs.Trimming.{Trimmed, trimmed-same, trimmed-clearable, tr
 use Rattle.changes.proofs.change.clear.Goals as goal
 use Rattle.changes.proofs.change.clear.Goals.{
   Joined-n,
-  in-Run+then-start-from+then-from-end+else-to-end+else-to-end-le1,
-  in-Run+else-start-from,
+  in-Some+then-start-from+then-from-end+else-to-end+else-to-end-le1,
+  in-Some+else-start-from,
   in-None,
   else-start-from-via-then-start-from+else-from-end,
   else-start-from-via-else-start-from,
@@ -16,35 +16,35 @@ use Rattle.changes.proofs.change.clear.Goals.{
 trimmed : (c : Joined-n) → Trimmed c.args.words.now c.match-n.words c.args.x c.args.s.0 c.args.e.0
 trimmed c =
     elim c.match-n.branch [
-      | in-Run+then-start-from+then-from-end+else-to-end+else-to-end-le1 w ↦
-          trimmed-same w.words-is (trimmed-back (found _ c.at_or_before-n.ensures _ w.in-Run.is) w.if-start-from.true w.if-from-end.true w.resize_run.ensures w.if-to-end.false)
-      | in-Run+else-start-from w ↦
+      | in-Some+then-start-from+then-from-end+else-to-end+else-to-end-le1 w ↦
+          trimmed-same w.words-is (trimmed-back (found _ c.at_or_before-n.ensures _ w.in-Some.is) w.if-start-from.true w.if-from-end.true w.resize_run.ensures w.if-to-end.false)
+      | in-Some+else-start-from w ↦
           trimmed-same w.words-is
           (elim w.else-start-from.branch [
-            | else-start-from-via-then-start-from+else-from-end v ↦ trimmed-below (found _ c.at_or_before-n.ensures _ w.in-Run.is) v.if-from-end.false
-            | else-start-from-via-else-start-from v ↦ trimmed-from (found _ c.at_or_before-n.ensures _ w.in-Run.is) v.if-start-from.false
+            | else-start-from-via-then-start-from+else-from-end v ↦ trimmed-below (found _ c.at_or_before-n.ensures _ w.in-Some.is) v.if-from-end.false
+            | else-start-from-via-else-start-from v ↦ trimmed-from (found _ c.at_or_before-n.ensures _ w.in-Some.is) v.if-start-from.false
           ])
       | in-None w ↦ trimmed-same w.words-is (trimmed-none (found_none _ c.at_or_before-n.ensures w.in-None.is))
     ]
 
 pub resize_run-requires : goal.resize_run-requires
 resize_run-requires c =
-    back-changeable (found _ c.at_or_before-n.ensures _ c.in-Run.is) c.if-start-from.true (c.if-from-end.true) c.requires
+    back-changeable (found _ c.at_or_before-n.ensures _ c.in-Some.is) c.if-start-from.true (c.if-from-end.true) c.requires
 
 pub add_run-requires : goal.add_run-requires
 add_run-requires c =
-    both-addable (found _ c.at_or_before-n.ensures _ c.in-Run.is) c.if-start-from.true (c.if-from-end.true) c.resize_run.ensures c.if-to-end.true c.requires
+    both-addable (found _ c.at_or_before-n.ensures _ c.in-Some.is) c.if-start-from.true (c.if-from-end.true) c.resize_run.ensures c.if-to-end.true c.requires
 
 pub returns-then-to-end : goal.returns-then-to-end
 returns-then-to-end c =
-    both-added (found _ c.at_or_before-n.ensures _ c.in-Run.is) c.if-start-from.true (c.if-from-end.true) c.resize_run.ensures c.if-to-end.true c.add_run.ensures.0
+    both-added (found _ c.at_or_before-n.ensures _ c.in-Some.is) c.if-start-from.true (c.if-from-end.true) c.resize_run.ensures c.if-to-end.true c.add_run.ensures.0
 
 pub clear_from-requires : goal.clear_from-requires
 clear_from-requires c = trimmed-clearable (trimmed (goal.at.clear_from-requires c).Joined-n) c.requires
 
 pub returns-then-to-end-le1 : goal.returns-then-to-end-le1
 returns-then-to-end-le1 c =
-    back_last (found _ c.at_or_before-n.ensures _ c.in-Run.is) c.if-start-from.true (c.if-from-end.true) c.resize_run.ensures c.if-to-end.false c.if-to-end-le1.true
+    back_last (found _ c.at_or_before-n.ensures _ c.in-Some.is) c.if-start-from.true (c.if-from-end.true) c.resize_run.ensures c.if-to-end.false c.if-to-end-le1.true
 
 pub returns : goal.returns
 returns c =

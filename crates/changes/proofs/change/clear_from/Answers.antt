@@ -10,36 +10,36 @@ at_or_after-n-requires c = clearing-indexed c.loop-more.invariant c.requires
 
 pub resize_run-requires : goal.resize_run-requires
 resize_run-requires c =
-    first-changeable (here c.loop-more.invariant c.requires) _ c.at_or_after-n.ensures _ c.in-Run.is c.if-start-to.true c.if-to-end.true
+    first-changeable (here c.loop-more.invariant c.requires) _ c.at_or_after-n.ensures _ c.in-Some.is c.if-start-to.true c.if-to-end.true
 
 pub loop-more-smaller-then-to-end : goal.loop-more-smaller-then-to-end
 loop-more-smaller-then-to-end c =
     omega (
       arith,
-      front-as-many (here c.loop-more.invariant c.requires) _ c.at_or_after-n.ensures _ c.in-Run.is c.if-start-to.true c.if-to-end.true c.resize_run.ensures,
+      front-as-many (here c.loop-more.invariant c.requires) _ c.at_or_after-n.ensures _ c.in-Some.is c.if-start-to.true c.if-to-end.true c.resize_run.ensures,
       stop-less 0 _ c.loop-more-test.true,
     )
 
 pub loop-more-preserved-then-to-end : goal.loop-more-preserved-then-to-end
 loop-more-preserved-then-to-end c =
-    clearing-front c.loop-more.invariant _ c.at_or_after-n.ensures _ c.in-Run.is c.if-start-to.true c.if-to-end.true c.resize_run.ensures
+    clearing-front c.loop-more.invariant _ c.at_or_after-n.ensures _ c.in-Some.is c.if-start-to.true c.if-to-end.true c.resize_run.ensures
 
 pub remove_run-at-requires : goal.remove_run-at-requires
 remove_run-at-requires c =
-    first-removable (here c.loop-more.invariant c.requires) _ c.at_or_after-n.ensures _ c.in-Run.is
+    first-removable (here c.loop-more.invariant c.requires) _ c.at_or_after-n.ensures _ c.in-Some.is
 
 pub loop-more-smaller-else-to-end : goal.loop-more-smaller-else-to-end
 loop-more-smaller-else-to-end c =
-    fewer-less _ _ c.loop-more.more (ltb 1 (c.args.e.0 - c.in-Run.r.«end»)) c.loop-more-test.true
-    (cleared-fewer (here c.loop-more.invariant c.requires) _ c.at_or_after-n.ensures _ c.in-Run.is c.remove_run-at.ensures)
+    fewer-less _ _ c.loop-more.more (ltb 1 (c.args.e.0 - c.in-Some.r.«end»)) c.loop-more-test.true
+    (cleared-fewer (here c.loop-more.invariant c.requires) _ c.at_or_after-n.ensures _ c.in-Some.is c.remove_run-at.ensures)
 
 pub loop-more-preserved-else-to-end : goal.loop-more-preserved-else-to-end
 loop-more-preserved-else-to-end c =
-    clearing-gone c.loop-more.invariant _ c.at_or_after-n.ensures _ c.in-Run.is c.remove_run-at.ensures c.if-to-end.false
+    clearing-gone c.loop-more.invariant _ c.at_or_after-n.ensures _ c.in-Some.is c.remove_run-at.ensures c.if-to-end.false
 
 pub loop-more-preserved-else-start-to : goal.loop-more-preserved-else-start-to
 loop-more-preserved-else-start-to c =
-    clearing-apart c.loop-more.invariant _ c.at_or_after-n.ensures _ c.in-Run.is c.if-start-to.false
+    clearing-apart c.loop-more.invariant _ c.at_or_after-n.ensures _ c.in-Some.is c.if-start-to.false
 
 pub loop-more-preserved : goal.loop-more-preserved
 loop-more-preserved c =

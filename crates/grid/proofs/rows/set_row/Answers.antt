@@ -2,5 +2,5 @@
 use Rattle.grid.proofs.Passing.{row_made}
 use Rattle.grid.proofs.rows.set_row.Goals as goal
 
-pub returns-in-Changed : goal.returns-in-Changed
-returns-in-Changed c = row_made c.set-e.result c.set-e.ensures.0 c.in-Changed.is
+pub returns-in-Some : goal.returns-in-Some
+returns-in-Some c = row_made c.set-e.result c.set-e.ensures.0 c.in-Some.is

@@ -30,13 +30,13 @@ at-end l = ap (λ j. get_or (told l) (j + 1) 0) l.loop-i.invariant.0
 pub loop-i-init : goal.loop-i-init
 loop-i-init c = (search rules, search rules, λ s m. (growing-none m, λ d h. deepening-none (bare-tree m)))
 
-pub returns-in-Full : goal.returns-in-Full
-returns-in-Full c =
+pub returns-in-None : goal.returns-in-None
+returns-in-None c =
     let inv = c.loop-i.invariant in
     λ s m. (
-      next-refused (inv.2 s m).0 _ _ (pair (goal.at.returns-in-Full c).In-loop-i).0 (pair (goal.at.returns-in-Full c).In-loop-i).1 _ _ c.set-e.ensures.0 c.in-Full.is,
-      λ d h. next_fits h (inv.2 s m).0 ((inv.2 s m).1 d h) c.loop-i-test.true _ _ (at-start (goal.at.returns-in-Full c).At-loop-i) (at-end (goal.at.returns-in-Full c).At-loop-i)
-          (pair (goal.at.returns-in-Full c).In-loop-i).0 (pair (goal.at.returns-in-Full c).In-loop-i).1 _ _ c.set-e.ensures.0 c.in-Full.is,
+      next-refused (inv.2 s m).0 _ _ (pair (goal.at.returns-in-None c).In-loop-i).0 (pair (goal.at.returns-in-None c).In-loop-i).1 _ _ c.set-e.ensures.0 c.in-None.is,
+      λ d h. next_fits h (inv.2 s m).0 ((inv.2 s m).1 d h) c.loop-i-test.true _ _ (at-start (goal.at.returns-in-None c).At-loop-i) (at-end (goal.at.returns-in-None c).At-loop-i)
+          (pair (goal.at.returns-in-None c).In-loop-i).0 (pair (goal.at.returns-in-None c).In-loop-i).1 _ _ c.set-e.ensures.0 c.in-None.is,
     )
 
 pub loop-i-preserved : goal.loop-i-preserved
@@ -45,9 +45,9 @@ loop-i-preserved c =
       omega (arith, inv.0),
       omega (arith, c.loop-i-test.true),
       λ s m. (
-        growing-more (inv.2 s m).0 _ _ (pair (goal.at.loop-i-preserved c).In-loop-i).0 (pair (goal.at.loop-i-preserved c).In-loop-i).1 _ _ c.set-e.ensures.0 c.set-e.ensures.1 _ _ c.in-Changed.is,
+        growing-more (inv.2 s m).0 _ _ (pair (goal.at.loop-i-preserved c).In-loop-i).0 (pair (goal.at.loop-i-preserved c).In-loop-i).1 _ _ c.set-e.ensures.0 c.set-e.ensures.1 _ _ c.in-Some.is,
         λ d h. deepening-more h (inv.2 s m).0 ((inv.2 s m).1 d h) c.loop-i-test.true _ _ (at-start (goal.at.loop-i-preserved c).At-loop-i) (at-end (goal.at.loop-i-preserved c).At-loop-i)
-            (pair (goal.at.loop-i-preserved c).In-loop-i).0 (pair (goal.at.loop-i-preserved c).In-loop-i).1 _ _ c.set-e.ensures.0 c.set-e.ensures.1 _ _ c.in-Changed.is,
+            (pair (goal.at.loop-i-preserved c).In-loop-i).0 (pair (goal.at.loop-i-preserved c).In-loop-i).1 _ _ c.set-e.ensures.0 c.set-e.ensures.1 _ _ c.in-Some.is,
       ),
     )
 

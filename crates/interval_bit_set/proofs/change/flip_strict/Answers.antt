@@ -1,12 +1,14 @@
 -- `flip_strict` meets its contract: a world that looking refuses stays, another is changed by the call of `ranges`.
 -- Assumes nothing.
 use mathlib.Core.Path.{refl}
+use Rattle.promises.proofs.Passing.{met-on}
 use Rattle.interval_bit_set.proofs.Looking.{looked-sound, sent-away}
 use Rattle.promises.proofs.Changing.{flip-strict-says}
 use Rattle.interval_bit_set.proofs.change.flip_strict.Goals as goal
 
 pub flip_strict-requires : goal.flip_strict-requires
-flip_strict-requires c = looked-sound _ c.look_at-l.ensures c.in-Sound.is
+flip_strict-requires c = looked-sound _ c.look_at.ensures c.in_ok-look_at.was
 
-pub returns-in-Refused : goal.returns-in-Refused
-returns-in-Refused c = sent-away (flip-strict-says _ _ _ _) _ c.look_at-l.ensures c.in-Refused.is refl
+pub returns-in_err-look_at : goal.returns-in_err-look_at
+returns-in_err-look_at c =
+    met-on _ (sent-away (flip-strict-says _ _ _ _) _ c.look_at.ensures c.in_err-look_at.was refl) _ c.from_residual.ensures.1 (λ e p. p)

@@ -1,15 +1,14 @@
--- `from_sorted_runs` meets its contract: what was admitted can be laid, and what was laid can be made the world's. Assumes nothing.
-use Rattle.interval_bit_set.proofs.Slices.{admitted-putting, admitted-finishing, admitted-met}
+-- `from_sorted_runs` meets its contract: a world that looking refuses stays, another is overwritten by the call of `sets`.
+-- Assumes nothing.
+use mathlib.Core.Path.{refl}
+use Rattle.promises.proofs.Passing.{met-on}
+use Rattle.interval_bit_set.proofs.Looking.{looked-sound, sent-away}
+use Rattle.promises.proofs.Overwriting.{build-says}
 use Rattle.interval_bit_set.proofs.runs.from_sorted_runs.Goals as goal
 
-pub put_runs-requires : goal.put_runs-requires
-put_runs-requires c =
-    admitted-putting c.args.words.now c.args.world (λ j. (c.slice_known-1.given j).fits) c.in_order-o.ensures c.begin-a.result c.begin-a.ensures
+pub build-requires : goal.build-requires
+build-requires c = looked-sound _ c.look_at.ensures c.in_ok-look_at.was
 
-pub finish-requires : goal.finish-requires
-finish-requires c =
-    admitted-finishing c.args.words.now c.args.world (λ j. (c.slice_known-1.given j).fits) c.in_order-o.ensures c.begin-a.result c.begin-a.ensures c.put_runs.ensures
-
-pub returns : goal.returns
-returns c =
-    admitted-met c.args.words.now c.args.world (λ j. (c.slice_known-1.given j).fits) c.in_order-o.ensures c.begin-a.result c.begin-a.ensures c.put_runs.ensures c.finish.ensures
+pub returns-in_err-look_at : goal.returns-in_err-look_at
+returns-in_err-look_at c =
+    met-on _ (sent-away (build-says _ _ _) _ c.look_at.ensures c.in_err-look_at.was refl) _ c.from_residual.ensures.1 (λ e p. p)

@@ -6,7 +6,8 @@ use Rattle.interval_bit_set.proofs.Putting.{put-turned}
 use Rattle.interval_bit_set.proofs.write.write_set.Goals as goal
 
 pub write_set-requires : goal.write_set-requires
-write_set-requires c = looked-sound _ c.look_at-l.ensures c.in-Sound.is
+write_set-requires c = looked-sound _ c.look_at.ensures c.in_ok-look_at.was
 
-pub returns-in-Refused : goal.returns-in-Refused
-returns-in-Refused c = put-turned (write-set-puts _ _ _ _) _ c.look_at-l.ensures c.in-Refused.is refl
+pub returns-in_err-look_at : goal.returns-in_err-look_at
+returns-in_err-look_at c =
+    put-turned (write-set-puts _ _ _ _) _ c.look_at.ensures c.in_err-look_at.was refl _ c.from_residual.ensures.1 (λ e p. p)

@@ -15,11 +15,11 @@ upper c =
 
 pub returns-then-f-l : goal.returns-then-f-l
 returns-then-f-l c =
-    run-straight c.if-f-n.true c.if-f-l.true c.at_most.ensures c.paint.ensures
+    run-straight c.if-f-n.true c.if-f-l.true c.min.ensures c.paint.ensures
 
 pub returns-then-l-f : goal.returns-then-l-f
 returns-then-l-f c =
-    run-round c.if-l-f.true c.at_most-then-l-f.ensures c.requires.le_n (upper (goal.at.returns-then-l-f c).Joined-f-n) c.paint-then-l-f.ensures
+    run-round c.if-l-f.true c.min-then-l-f.ensures c.requires.le_n (upper (goal.at.returns-then-l-f c).Joined-f-n) c.paint-then-l-f.ensures
 
 pub returns-else-l-f : goal.returns-else-l-f
 returns-else-l-f c =

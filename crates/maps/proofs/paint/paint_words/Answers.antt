@@ -9,7 +9,7 @@ use Rattle.maps.proofs.paint.paint_words.Goals.{Joined-p-q-3, then-p-q, else-p-q
 middle : (c : Joined-p-q-3) → Middle c.add_word.new.map c.if-p-q-3.map (c.args.a / 64) (c.args.b / 64)
 middle c =
     elim c.if-p-q-3.branch [
-      | then-p-q-3 w ↦ middle-some w.if-p-q-3.true w.fill_words.ensures w.map-is
+      | then-p-q-3 w ↦ middle-some w.if-p-q-3.true w.fill_middle.ensures w.map-is
       | else-p-q-3 w ↦ empty w.if-p-q-3.false w.map-is
     ]
 

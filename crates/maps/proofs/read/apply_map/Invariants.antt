@@ -5,7 +5,7 @@ use Rattle.maps.proofs.Applying.{Applying}
 use Rattle.maps.proofs.read.apply_map.Given as goal
 
 abbrev pub invariant-loop-i : goal.invariant-loop-i
-invariant-loop-i l = Applying l.initial.words l.words l.initial.at l.at l.base l.n l.bytes l.i
+invariant-loop-i g l = Applying l.initial.words l.words l.initial.at l.at l.map.span.base l.map.span.n l.map.bytes.now l.i
 
 abbrev pub decreases-loop-i : goal.decreases-loop-i
-decreases-loop-i l = l.n - l.i
+decreases-loop-i g l = l.map.span.n - l.i

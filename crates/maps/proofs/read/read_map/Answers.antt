@@ -5,4 +5,4 @@ use Rattle.maps.proofs.Applying.{nothing-changed}
 use Rattle.maps.proofs.read.read_map.Goals as goal
 
 pub returns-then-changed-eq0 : goal.returns-then-changed-eq0
-returns-then-changed-eq0 c = nothing-changed _ c.requires.editable (sym c.survey_map-s.ensures.changed-are ∙ c.if-changed-eq0.true)
+returns-then-changed-eq0 g c = nothing-changed _ c.requires.editable (sym c.survey_map-s.ensures.changed-are ∙ c.if-changed-eq0.true)

@@ -5,7 +5,7 @@ use Rattle.maps.proofs.Bits.{Going}
 use Rattle.maps.proofs.read.stretch.Given as goal
 
 abbrev pub invariant-loop-e : goal.invariant-loop-e
-invariant-loop-e l = Going l.bytes l.i l.n l.e
+invariant-loop-e g l = Going l.map.bytes.now l.i l.map.span.n l.e
 
 abbrev pub decreases-loop-e : goal.decreases-loop-e
-decreases-loop-e l = l.n - l.e
+decreases-loop-e g l = l.map.span.n - l.e

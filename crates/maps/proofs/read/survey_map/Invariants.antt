@@ -6,7 +6,7 @@ use Rattle.maps.proofs.Surveying.{Surveying}
 use Rattle.maps.proofs.read.survey_map.Given as goal
 
 abbrev pub invariant-loop-i : goal.invariant-loop-i
-invariant-loop-i l = Surveying (held_in l.words l.h) l.base l.n l.bytes l.i l.runs l.changed
+invariant-loop-i g l = Surveying (held_in l.words l.h) l.map.span.base l.map.span.n l.map.bytes.now l.i l.runs l.changed
 
 abbrev pub decreases-loop-i : goal.decreases-loop-i
-decreases-loop-i l = l.n - l.i
+decreases-loop-i g l = l.map.span.n - l.i

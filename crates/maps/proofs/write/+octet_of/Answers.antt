@@ -5,26 +5,26 @@ use Rattle.maps.proofs.Octeting.{octets-small, stood-same, stood-moves, stood-ne
 use Rattle.maps.proofs.write.+octet_of.Goals as goal
 
 pub overflow_sub-after : goal.overflow_sub-after
-overflow_sub-after t c = omega (arith, stood-same c.requires.1 c.same_to-end.ensures)
+overflow_sub-after t c = omega (arith, stood-same c.requires.1 c.same_to.ensures)
 
 pub returns-then-k-after : goal.returns-then-k-after
-returns-then-k-after t c = octets-all _ _ _ _ _ _ c.value_at-value.ensures c.same_to-end.ensures c.if-k-after.true c.alike.ensures
+returns-then-k-after t c = octets-all _ _ _ _ _ _ c.value_at-value.ensures c.same_to.ensures c.if-k-after.true c.alike.ensures
 
 pub moved-t-requires : goal.moved-t-requires
-moved-t-requires t c = (_, _, stood-moves c.requires.1 c.same_to-end.ensures)
+moved-t-requires t c = (_, _, stood-moves c.requires.1 c.same_to.ensures)
 
 pub octet_of-r-requires : goal.octet_of-r-requires
 octet_of-r-requires t c =
-    (omega (arith, c.decreases, c.if-k-after.false), (_, stood-next c.requires.1 c.same_to-end.ensures c.if-k-after.false c.moved-t.ensures))
+    (omega (arith, c.decreases, c.if-k-after.false), (_, stood-next c.requires.1 c.same_to.ensures c.if-k-after.false c.moved-t.ensures))
 
 pub returns : goal.returns
 returns t c =
-    octets-more _ _ _ _ _ _ c.value_at-value.ensures c.same_to-end.ensures c.if-k-after.false
+    octets-more _ _ _ _ _ _ c.value_at-value.ensures c.same_to.ensures c.if-k-after.false
     c.alike-low.ensures c.moved-t.ensures c.octet_of-r.ensures
 
 pub overflow_add-result : goal.overflow_add-result
 overflow_add-result t c = omega (
   arith,
-  octets-small c.requires.1 (octets-more _ _ _ _ _ _ c.value_at-value.ensures c.same_to-end.ensures c.if-k-after.false
+  octets-small c.requires.1 (octets-more _ _ _ _ _ _ c.value_at-value.ensures c.same_to.ensures c.if-k-after.false
       c.alike-low.ensures c.moved-t.ensures c.octet_of-r.ensures),
 )

@@ -1,17 +1,19 @@
 -- `next_bytes` meets its contract: the bytes that lie in one stretch are all ones or all zeros, and a byte with a border in it is told
 -- stretch by stretch. Assumes nothing.
-use Rattle.std.proofs.Common.{arith}
+use Rattle.std.proofs.Common.{rules, arith}
+use Rattle.std.proofs.lemmas.List.{places}
+use Rattle.maps.proofs.Storing.{part-stores}
 use Rattle.maps.proofs.Octeting.{stood-same, octets-small, due-stood, due-alike, due-octet}
 use Rattle.maps.proofs.write.next_bytes.Goals as goal
 
 pub overflow_sub-after : goal.overflow_sub-after
-overflow_sub-after c = omega (arith, stood-same (due-stood c.requires.1) c.same_to-end.ensures)
+overflow_sub-after c = omega (arith, stood-same (due-stood c.requires.1) c.same_to.ensures)
 
 pub returns-then-after-ge7 : goal.returns-then-after-ge7
 returns-then-after-ge7 c =
     λ Q d.
-    due-alike d c.value_at.ensures c.same_to-end.ensures c.if-after-ge7.true c.whole_bytes-n.ensures
-    c.alike-byte.ensures c.fill_bytes.ensures
+    due-alike d c.value_at.ensures c.same_to.ensures c.if-after-ge7.true c.whole_bytes-n.ensures
+    c.alike-byte.ensures (part-stores _ _ _ _ (omega (arith, d.room, d.more, c.whole_bytes-n.ensures)) (omega arith) (search (rules, places)) (c.fill.ensures.after (λ y e. e)))
 
 pub overflow_cast-out : goal.overflow_cast-out
 overflow_cast-out c = omega (arith, octets-small (due-stood c.requires.1) c.octet_of-o.ensures)

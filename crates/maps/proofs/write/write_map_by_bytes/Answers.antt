@@ -20,7 +20,7 @@ open-s-requires-clause-rooted c = standing-rooted c.requires.stands.1
 
 pub loop-left-init : goal.loop-left-init
 loop-left-init c =
-    writing-none (standing-rooted c.requires.stands.1) c.requires.le_n c.requires.n_in_bounds c.open-s.ensures
+    writing-none (standing-rooted c.requires.stands.1) (c.args.span.some, c.args.span.within) c.requires.n_in_bounds c.open-s.ensures
 
 pub next_bytes-r-requires : goal.next_bytes-r-requires
 next_bytes-r-requires c = (_, writing-due c.loop-left.invariant c.loop-left-test.true)

@@ -35,14 +35,14 @@ set-e-requires-clause-on_plane c =
 
 pub close-requires : goal.close-requires
 close-requires c =
-    (_, _, edit-closing c.requires c.open-h.ensures c.allowance-limit.ensures _ _ c.set-e.ensures c.in-Changed.is)
+    (_, _, edit-closing c.requires c.open-h.ensures c.allowance-limit.ensures _ _ c.set-e.ensures c.in-Some.is)
 
-pub returns-in-Full : goal.returns-in-Full
-returns-in-Full c =
-    edit-full (set-rect-says _ _ _ _) (plane-passes _ (good (goal.at.returns-in-Full c).Else-not-rect_fits)) c.requires c.open-h.ensures (cells (goal.at.returns-in-Full c).After-open-h) c.allowance-limit.ensures _ _ c.set-e.ensures
-    c.in-Full.is
+pub returns-in-None : goal.returns-in-None
+returns-in-None c =
+    edit-full (set-rect-says _ _ _ _) (plane-passes _ (good (goal.at.returns-in-None c).Else-not-rect_fits)) c.requires c.open-h.ensures (cells (goal.at.returns-in-None c).After-open-h) c.allowance-limit.ensures _ _ c.set-e.ensures
+    c.in-None.is
 
-pub returns-in-Changed : goal.returns-in-Changed
-returns-in-Changed c =
-    edit-done (set-rect-says _ _ _ _) (plane-passes _ (good (goal.at.returns-in-Changed c).Else-not-rect_fits)) c.requires c.open-h.ensures (cells (goal.at.returns-in-Changed c).After-open-h) c.allowance-limit.ensures _ _ c.set-e.ensures
-    c.in-Changed.is c.close.ensures refl
+pub returns-in-Some : goal.returns-in-Some
+returns-in-Some c =
+    edit-done (set-rect-says _ _ _ _) (plane-passes _ (good (goal.at.returns-in-Some c).Else-not-rect_fits)) c.requires c.open-h.ensures (cells (goal.at.returns-in-Some c).After-open-h) c.allowance-limit.ensures _ _ c.set-e.ensures
+    c.in-Some.is c.close.ensures refl

@@ -11,19 +11,19 @@ flip-e-requires-clause-editable c =
 
 pub close-requires : goal.close-requires
 close-requires c =
-    (_, _, fit-closing c.requires c.open-h.ensures c.allowance-limit.ensures _ _ c.flip-e.ensures c.in-Done.is)
+    (_, _, fit-closing c.requires c.open-h.ensures c.allowance-limit.ensures _ _ c.flip-e.ensures c.in-Some.is)
 
 pub returns-in-Empty : goal.returns-in-Empty
 returns-in-Empty c =
     let e = span_none c.args.lower c.args.upper _ c.normalize-s.ensures c.in-Empty.is in
     left_so (flip-says _ _ _ _) c.requires refl (flip-none _ _ _ e) refl
 
-pub returns-in-Full : goal.returns-in-Full
-returns-in-Full c =
+pub returns-in-None : goal.returns-in-None
+returns-in-None c =
     fit-full (flip-says _ _ _ _) refl c.requires c.open-h.ensures (flip-within (span-some c.args.lower c.args.upper _ c.normalize-s.ensures c.in-Closed.is) c.open-h.ensures) c.allowance-limit.ensures
-    _ _ c.flip-e.ensures c.in-Full.is
+    _ _ c.flip-e.ensures c.in-None.is
 
-pub returns-in-Done : goal.returns-in-Done
-returns-in-Done c =
+pub returns-in-Some : goal.returns-in-Some
+returns-in-Some c =
     fit-done (flip-says _ _ _ _) refl c.requires c.open-h.ensures (flip-within (span-some c.args.lower c.args.upper _ c.normalize-s.ensures c.in-Closed.is) c.open-h.ensures) c.allowance-limit.ensures
-    _ _ c.flip-e.ensures c.in-Done.is c.close.ensures refl
+    _ _ c.flip-e.ensures c.in-Some.is c.close.ensures refl

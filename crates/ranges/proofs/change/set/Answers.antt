@@ -12,19 +12,19 @@ set-e-requires-clause-editable c =
 
 pub close-requires : goal.close-requires
 close-requires c =
-    (_, _, edit-closing c.requires c.open-h.ensures c.allowance-limit.ensures _ _ c.set-e.ensures.0 c.in-Changed.is)
+    (_, _, edit-closing c.requires c.open-h.ensures c.allowance-limit.ensures _ _ c.set-e.ensures.0 c.in-Some.is)
 
 pub returns-in-Empty : goal.returns-in-Empty
 returns-in-Empty c =
     let e = span_none c.args.lower c.args.upper _ c.normalize-s.ensures c.in-Empty.is in
     left_so (set_says _ _ _ _ _) c.requires refl (set-none _ _ _ e _) (ap number (changes-none _ _ _ _ e))
 
-pub returns-in-Full : goal.returns-in-Full
-returns-in-Full c =
+pub returns-in-None : goal.returns-in-None
+returns-in-None c =
     edit-full (set_says _ _ _ _ _) refl c.requires c.open-h.ensures (set-within (span-some c.args.lower c.args.upper _ c.normalize-s.ensures c.in-Closed.is) c.open-h.ensures _) c.allowance-limit.ensures
-    _ _ c.set-e.ensures.0 c.in-Full.is
+    _ _ c.set-e.ensures.0 c.in-None.is
 
-pub returns-in-Changed : goal.returns-in-Changed
-returns-in-Changed c =
+pub returns-in-Some : goal.returns-in-Some
+returns-in-Some c =
     edit-done (set_says _ _ _ _ _) refl c.requires c.open-h.ensures (set-within (span-some c.args.lower c.args.upper _ c.normalize-s.ensures c.in-Closed.is) c.open-h.ensures _) c.allowance-limit.ensures
-    _ _ c.set-e.ensures.0 c.in-Changed.is c.close.ensures refl
+    _ _ c.set-e.ensures.0 c.in-Some.is c.close.ensures refl

@@ -1,30 +1,34 @@
--- `draw_back` meets its contract: the last run that is left, and the listing moved past it; with none left the listing ends.
+-- `draw_back` meets its contract: the last run that is left, and the listing moved before it; with none left the listing ends.
 -- Assumes nothing.
-use mathlib.Core.Path.{refl, ap}
+use mathlib.Core.Path.{refl, ap, ◌∙◌}
+use Rattle.model.specs.Call.{drawn}
 use Rattle.model.specs.Positions.{last_run}
 use Rattle.ranges.proofs.Draws.{none_left, last-left, back_none, back_more, back_end}
 use Rattle.promises.proofs.Doors.{lent-stands}
 use Rattle.promises.proofs.Meeting.{met, met-in, draw-back-says}
 use Rattle.ranges.proofs.listing.draw_back.Goals as goal
+use Rattle.ranges.proofs.listing.draw_back.Goals.{in_default-via-in-Some+else-l-r, in_default-via-in_default}
 
-pub returns-then-last-first : goal.returns-then-last-first
-returns-then-last-first c =
-    met (draw-back-says _ _ _) c.requires refl (back_none _ (ap last_run (none_left _ _ c.if-last-first.true)) c.finished.ensures)
+pub returns-then-l : goal.returns-then-l
+returns-then-l c =
+    met (draw-back-says _ _ _) c.requires refl (back_none _ (ap last_run (none_left _ _ c.if-l.true)) c.finished.ensures)
 
-pub last_run-n-requires-clause-stands : goal.last_run-n-requires-clause-stands
-last_run-n-requires-clause-stands c = lent-stands c.open-h.ensures
+pub last_run-run-requires-clause-stands : goal.last_run-run-requires-clause-stands
+last_run-run-requires-clause-stands c = lent-stands c.open-h.ensures
 
-pub returns-then-first-start : goal.returns-then-first-start
-returns-then-first-start c =
-    let e = last-left _ _ c.in-Run.is c.last_run-n.ensures in
-    met-in (draw-back-says _ _ _) c.requires c.open-h.ensures refl (back_more _ e c.if-first-start.true)
+pub returns-in-Some : goal.returns-in-Some
+returns-in-Some c =
+    let e = last-left _ _ c.in-Some.is c.last_run-run.ensures in
+    met-in (draw-back-says _ _ _) c.requires c.open-h.ensures refl (back_more _ e c.if-l-r.true)
 
-pub returns-else-first-start : goal.returns-else-first-start
-returns-else-first-start c =
-    let e = last-left _ _ c.in-Run.is c.last_run-n.ensures in
-    met-in (draw-back-says _ _ _) c.requires c.open-h.ensures refl (back_end _ e c.if-first-start.false c.finished-in-Run.ensures)
-
-pub returns-in-None : goal.returns-in-None
-returns-in-None c =
-    let e = last-left _ _ c.in-None.is c.last_run-n.ensures in
-    met-in (draw-back-says _ _ _) c.requires c.open-h.ensures refl (back_none _ e c.finished-in-None.ensures)
+pub returns-in_default : goal.returns-in_default
+returns-in_default c =
+    met-in (draw-back-says _ _ _) c.requires c.open-h.ensures refl
+    (elim c.in_default.branch [
+      | in_default-via-in-Some+else-l-r w ↦
+          ap (λ o. drawn o c.finished-rest.result) w.run-is
+          ∙ back_end _ (last-left _ _ w.in-Some.is c.last_run-run.ensures) w.if-l-r.false c.finished-rest.ensures
+      | in_default-via-in_default w ↦
+          ap (λ o. drawn o c.finished-rest.result) (w.run-is ∙ w.in_default.is)
+          ∙ back_none _ (last-left _ _ w.in_default.is c.last_run-run.ensures) c.finished-rest.ensures
+    ])

@@ -1,30 +1,34 @@
 -- `draw_front` meets its contract: the first run that is left, and the listing moved past it; with none left the listing ends.
 -- Assumes nothing.
-use mathlib.Core.Path.{refl, ap}
+use mathlib.Core.Path.{refl, ap, ◌∙◌}
+use Rattle.model.specs.Call.{drawn}
 use Rattle.model.specs.Positions.{first_run}
 use Rattle.ranges.proofs.Draws.{none_left, first-left, front-none, front-more, front-end}
 use Rattle.promises.proofs.Doors.{lent-stands}
 use Rattle.promises.proofs.Meeting.{met, met-in, draw-front-says}
 use Rattle.ranges.proofs.listing.draw_front.Goals as goal
+use Rattle.ranges.proofs.listing.draw_front.Goals.{in_default-via-in-Some+else-r-l, in_default-via-in_default}
 
-pub returns-then-last-first : goal.returns-then-last-first
-returns-then-last-first c =
-    met (draw-front-says _ _ _) c.requires refl (front-none _ (ap first_run (none_left _ _ c.if-last-first.true)) c.finished.ensures)
+pub returns-then-l : goal.returns-then-l
+returns-then-l c =
+    met (draw-front-says _ _ _) c.requires refl (front-none _ (ap first_run (none_left _ _ c.if-l.true)) c.finished.ensures)
 
-pub first_run-n-requires-clause-stands : goal.first_run-n-requires-clause-stands
-first_run-n-requires-clause-stands c = lent-stands c.open-h.ensures
+pub first_run-run-requires-clause-stands : goal.first_run-run-requires-clause-stands
+first_run-run-requires-clause-stands c = lent-stands c.open-h.ensures
 
-pub returns-then-end-last : goal.returns-then-end-last
-returns-then-end-last c =
-    let e = first-left _ _ c.in-Run.is c.first_run-n.ensures in
-    met-in (draw-front-says _ _ _) c.requires c.open-h.ensures refl (front-more _ e c.if-end-last.true)
+pub returns-in-Some : goal.returns-in-Some
+returns-in-Some c =
+    let e = first-left _ _ c.in-Some.is c.first_run-run.ensures in
+    met-in (draw-front-says _ _ _) c.requires c.open-h.ensures refl (front-more _ e c.if-r-l.true)
 
-pub returns-else-end-last : goal.returns-else-end-last
-returns-else-end-last c =
-    let e = first-left _ _ c.in-Run.is c.first_run-n.ensures in
-    met-in (draw-front-says _ _ _) c.requires c.open-h.ensures refl (front-end _ e c.if-end-last.false c.finished-in-Run.ensures)
-
-pub returns-in-None : goal.returns-in-None
-returns-in-None c =
-    let e = first-left _ _ c.in-None.is c.first_run-n.ensures in
-    met-in (draw-front-says _ _ _) c.requires c.open-h.ensures refl (front-none _ e c.finished-in-None.ensures)
+pub returns-in_default : goal.returns-in_default
+returns-in_default c =
+    met-in (draw-front-says _ _ _) c.requires c.open-h.ensures refl
+    (elim c.in_default.branch [
+      | in_default-via-in-Some+else-r-l w ↦
+          ap (λ o. drawn o c.finished-rest.result) w.run-is
+          ∙ front-end _ (first-left _ _ w.in-Some.is c.first_run-run.ensures) w.if-r-l.false c.finished-rest.ensures
+      | in_default-via-in_default w ↦
+          ap (λ o. drawn o c.finished-rest.result) (w.run-is ∙ w.in_default.is)
+          ∙ front-none _ (first-left _ _ w.in_default.is c.first_run-run.ensures) c.finished-rest.ensures
+    ])

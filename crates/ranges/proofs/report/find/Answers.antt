@@ -2,10 +2,10 @@
 -- Assumes nothing.
 use mathlib.Core.Path.{refl, ap}
 use Rattle.model.specs.Positions.{find}
-use Rattle.promises.proofs.Spans.{span_none, span-some, of_range, find-nothing, found_as}
+use Rattle.promises.proofs.Spans.{span_none, span-some, of_range, find-nothing}
 use Rattle.model.specs.Call.{position}
 use Rattle.promises.proofs.Doors.{lent-stands}
-use Rattle.promises.proofs.Meeting.{met, met-in-as, find-says}
+use Rattle.promises.proofs.Meeting.{met, met-in, find-says}
 use Rattle.ranges.proofs.report.find.Goals as goal
 
 pub find_in-requires-clause-stands : goal.find_in-requires-clause-stands
@@ -19,5 +19,5 @@ returns-in-Empty c =
 
 pub returns-in-Closed : goal.returns-in-Closed
 returns-in-Closed c =
-    met-in-as (find-says _ _ _ _ _) c.requires c.open-h.ensures refl
-    (found_as c.find_in.result c.found.ensures (of_range (span-some c.args.lower c.args.upper _ c.normalize-s.ensures c.in-Closed.is) (find _ _) c.find_in.ensures))
+    met-in (find-says _ _ _ _ _) c.requires c.open-h.ensures refl
+    (ap position (of_range (span-some c.args.lower c.args.upper _ c.normalize-s.ensures c.in-Closed.is) (find _ _) c.find_in.ensures))

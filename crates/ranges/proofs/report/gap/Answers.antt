@@ -4,10 +4,10 @@ use Rattle.std.specs.Prelude.{◌≤◌}
 use mathlib.Core.Path.{ap}
 use native.Mathlib.Omega.{arith}
 use Rattle.model.specs.Call.{position}
-use Rattle.promises.proofs.Spans.{span_none, span-some, gap-range, found_as}
+use Rattle.promises.proofs.Spans.{span_none, span-some, gap-range}
 use Rattle.ranges.proofs.Gaps.{gap-refused, gap-passes, gap-nothing}
 use Rattle.promises.proofs.Doors.{lent-stands}
-use Rattle.promises.proofs.Meeting.{refused-by, met, met-in-as, gap-says}
+use Rattle.promises.proofs.Meeting.{refused-by, met, met-in, gap-says}
 use Rattle.ranges.proofs.report.gap.Goals as goal
 use Rattle.ranges.proofs.report.gap.Goals.{Else-n-eq0}
 
@@ -29,5 +29,5 @@ returns-in-Empty c =
 
 pub returns-in-Closed : goal.returns-in-Closed
 returns-in-Closed c =
-    met-in-as (gap-says _ _ _ _ _) c.requires c.open-h.ensures (gap-passes _ (some (goal.at.returns-in-Closed c).Else-n-eq0))
-    (found_as c.lowest_gap.result c.found.ensures (gap-range (span-some c.args.lower c.args.upper _ c.normalize-s.ensures c.in-Closed.is) _ _ c.lowest_gap.ensures))
+    met-in (gap-says _ _ _ _ _) c.requires c.open-h.ensures (gap-passes _ (some (goal.at.returns-in-Closed c).Else-n-eq0))
+    (ap position (gap-range (span-some c.args.lower c.args.upper _ c.normalize-s.ensures c.in-Closed.is) _ _ c.lowest_gap.ensures))

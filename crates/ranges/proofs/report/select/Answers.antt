@@ -1,10 +1,10 @@
 -- `select` meets its contract: the k-th position from the range's first to its last, none in an empty range.
 -- Assumes nothing.
 use mathlib.Core.Path.{refl, ap}
-use Rattle.promises.proofs.Spans.{span_none, span-some, select-range, select-nothing, found_as}
+use Rattle.promises.proofs.Spans.{span_none, span-some, select-range, select-nothing}
 use Rattle.model.specs.Call.{position}
 use Rattle.promises.proofs.Doors.{lent-stands}
-use Rattle.promises.proofs.Meeting.{met, met-in-as, select-says}
+use Rattle.promises.proofs.Meeting.{met, met-in, select-says}
 use Rattle.ranges.proofs.report.select.Goals as goal
 
 pub select-requires-clause-stands : goal.select-requires-clause-stands
@@ -18,5 +18,5 @@ returns-in-Empty c =
 
 pub returns-in-Closed : goal.returns-in-Closed
 returns-in-Closed c =
-    met-in-as (select-says _ _ _ _ _ _) c.requires c.open-h.ensures refl
-    (found_as c.select.result c.found.ensures (select-range (span-some c.args.lower c.args.upper _ c.normalize-s.ensures c.in-Closed.is) _ _ _ c.select.ensures))
+    met-in (select-says _ _ _ _ _ _) c.requires c.open-h.ensures refl
+    (ap position (select-range (span-some c.args.lower c.args.upper _ c.normalize-s.ensures c.in-Closed.is) _ _ _ c.select.ensures))

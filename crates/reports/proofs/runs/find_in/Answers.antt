@@ -6,12 +6,12 @@ use Rattle.reports.proofs.runs.find_in.Goals as goal
 
 pub returns-then-x-last : goal.returns-then-x-last
 returns-then-x-last c =
-    found_in _ _ _ _ c.next-n.result c.next-n.ensures c.in-At.is c.if-x-last.true
+    found_in _ _ _ _ c.next-n.result c.next-n.ensures c.in-Some.is c.if-x-last.true
 
 pub returns-else-x-last : goal.returns-else-x-last
 returns-else-x-last c =
-    missed-in _ _ _ _ c.next-n.result (omega (arith, c.well_formed)) c.next-n.ensures (inr (c.in-At.x, c.in-At.is, c.if-x-last.false))
+    missed-in _ _ _ _ c.next-n.result (omega (arith, c.well_formed)) c.next-n.ensures (inr (c.in-Some.x, c.in-Some.is, c.if-x-last.false))
 
-pub returns-in-Nowhere : goal.returns-in-Nowhere
-returns-in-Nowhere c =
-    missed-in _ _ _ _ c.next-n.result (omega (arith, c.well_formed)) c.next-n.ensures (inl c.in-Nowhere.is)
+pub returns-in-None : goal.returns-in-None
+returns-in-None c =
+    missed-in _ _ _ _ c.next-n.result (omega (arith, c.well_formed)) c.next-n.ensures (inl c.in-None.is)

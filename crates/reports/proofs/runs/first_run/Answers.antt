@@ -6,22 +6,22 @@ use Rattle.reports.proofs.runs.first_run.Goals as goal
 
 pub returns-then-last-x : goal.returns-then-last-x
 returns-then-last-x c =
-    no-first-run _ _ _ _ c.next-n.result (omega (arith, c.well_formed)) c.next-n.ensures (inr (c.in-At.x, c.in-At.is, c.if-last-x.true))
+    no-first-run _ _ _ _ c.next-n.result (omega (arith, c.well_formed)) c.next-n.ensures (inr (c.in-Some.x, c.in-Some.is, c.if-last-x.true))
 
 pub returns-then-last-y : goal.returns-then-last-y
 returns-then-last-y c =
-    first-run-clipped _ _ _ _ c.next-n.result c.next-m.result (omega (arith, c.well_formed)) c.next-n.ensures c.in-At.is c.if-last-x.false
-    c.next-m.ensures (inr (c.in-At-m.y, c.in-At-m.is, c.if-last-y.true))
+    first-run-clipped _ _ _ _ c.next-n.result c.next-m.result (omega (arith, c.well_formed)) c.next-n.ensures c.in-Some.is c.if-last-x.false
+    c.next-m.ensures (inr (c.in-Some-m.y, c.in-Some-m.is, c.if-last-y.true))
 
 pub returns-else-last-y : goal.returns-else-last-y
 returns-else-last-y c =
-    first-run-ends _ _ _ _ c.next-n.result c.next-m.result c.next-n.ensures c.in-At.is c.next-m.ensures c.in-At-m.is c.if-last-y.false
+    first-run-ends _ _ _ _ c.next-n.result c.next-m.result c.next-n.ensures c.in-Some.is c.next-m.ensures c.in-Some-m.is c.if-last-y.false
 
-pub returns-in-Nowhere-m : goal.returns-in-Nowhere-m
-returns-in-Nowhere-m c =
-    first-run-clipped _ _ _ _ c.next-n.result c.next-m.result (omega (arith, c.well_formed)) c.next-n.ensures c.in-At.is c.if-last-x.false
-    c.next-m.ensures (inl c.in-Nowhere-m.is)
+pub returns-in-None-m : goal.returns-in-None-m
+returns-in-None-m c =
+    first-run-clipped _ _ _ _ c.next-n.result c.next-m.result (omega (arith, c.well_formed)) c.next-n.ensures c.in-Some.is c.if-last-x.false
+    c.next-m.ensures (inl c.in-None-m.is)
 
-pub returns-in-Nowhere : goal.returns-in-Nowhere
-returns-in-Nowhere c =
-    no-first-run _ _ _ _ c.next-n.result (omega (arith, c.well_formed)) c.next-n.ensures (inl c.in-Nowhere.is)
+pub returns-in-None : goal.returns-in-None
+returns-in-None c =
+    no-first-run _ _ _ _ c.next-n.result (omega (arith, c.well_formed)) c.next-n.ensures (inl c.in-None.is)

@@ -1,8 +1,8 @@
 -- `select_zero` meets its contract: the k-th free position of the whole tree is the left-th from `low` on in the part of it at hand.
 -- It is a position, so `low` never passes the last one. The measure is the height of the part. Assumes nothing.
+use Rattle.std.specs.Prelude.{Some}
 use Rattle.std.proofs.Common.{ap, ◌∙◌, arith}
 use Rattle.run_index.specs.Tree.{inorder}
-use mathlib.Core.Option.{some}
 use Rattle.model.proofs.Search.{select-gap}
 use Rattle.run_index.proofs.Walking.{Spot, walk_end, spot, left-held, walk-left-falls, walk-right-falls, go_left, go_right}
 use Rattle.run_index.proofs.Searching.{Gapping, gap_below, gap-low, gap-room, gap-left, gap-right, gap-end}
@@ -61,4 +61,4 @@ returns c =
     let ours = gap-end c.args.k _ _ (inorder c.requires.1) (walk_end c.loop-q.invariant c.loop-q-test.false c.requires.2) in
     let theirs = gap-end c.args.k _ _ (inorder t) (walk_end c.loop-q.invariant c.loop-q-test.false i) in
     let below = gap_below c.args.k (inorder c.requires.1) c.requires.2.canonical c.requires.3 in
-    select-gap (inorder t) c.args.k i.canonical (omega arith) ∙ ap some theirs
+    select-gap (inorder t) c.args.k i.canonical (omega arith) ∙ ap Some theirs

@@ -1,38 +1,26 @@
--- `load` meets its contract: what the bytes earn is refused before more runs than the world may have, and else it has their runs.
+-- `load` meets its contract: what the bytes earn is refused before more runs than the world may have, and else it is given their runs.
 -- Assumes nothing.
-use Rattle.std.proofs.Common.{refl, ap, arith}
+use Rattle.std.proofs.Common.{List, drop, ap, ◌∙◌}
+use Rattle.model.specs.declared.Run.{Run}
 use Rattle.model.specs.Positions.{mem}
-use Rattle.written.proofs.Telling.{told-accepted, accepted-runs, accepted-order}
-use Rattle.promises.proofs.Changing.{refused-first, full, changes-to}
-use Rattle.promises.proofs.Overwriting.{load-says}
-use Rattle.sets.proofs.Receiving.{told-refused, told-many, receive-few, receive-ready, receive-closing, receive-settled}
+use Rattle.model.specs.Bytes.{runs_told}
+use Rattle.written.proofs.Telling.{accepted-runs}
+use Rattle.promises.proofs.Changing.{refused-first}
+use Rattle.promises.proofs.Overwriting.{load-says, carried}
+use Rattle.promises.proofs.Passing.{met-on}
+use Rattle.sets.proofs.Receiving.{told-refused, told-ordered}
 use Rattle.sets.proofs.bytes.load.Goals as goal
 
-pub returns-then-n-allowance : goal.returns-then-n-allowance
-returns-then-n-allowance c =
-    full (load-says _ _ _) c.requires (told-accepted _ _ c.runs_told-t.ensures c.in-Runs.is).free _ (λ x h. ap (λ rs. mem rs x) (accepted-runs _ (told-accepted _ _ c.runs_told-t.ensures c.in-Runs.is)))
-    (omega (arith, (told-many c.args.bytes.now c.type_inv.bytes (told-accepted _ _ c.runs_told-t.ensures c.in-Runs.is)).are, c.allowance.ensures, c.if-n-allowance.true), refl)
+pub returns-in_err-told : goal.returns-in_err-told
+returns-in_err-told c =
+    met-on _ (refused-first (load-says _ _ _) c.requires (told-refused _ _ c.in_err-told.ensures)) _ c.from_residual.ensures.1 (λ e p. p)
 
-pub load-k-requires-clause-receives : goal.load-k-requires-clause-receives
-load-k-requires-clause-receives c =
-    receive-ready c.requires (told-many c.args.bytes.now c.type_inv.bytes (told-accepted _ _ c.runs_told-t.ensures c.in-Runs.is)) c.allowance.ensures c.if-n-allowance.false c.open-h.ensures
+pub put-requires-clause-ordered : goal.put-requires-clause-ordered
+put-requires-clause-ordered c = let sh = c.in_ok-told.ensures in rw sh.0 (told-ordered _ c.type_inv.bytes sh.1)
 
-pub load-k-requires-clause-n_in_bounds : goal.load-k-requires-clause-n_in_bounds
-load-k-requires-clause-n_in_bounds c =
-    let a = told-accepted _ _ c.runs_told-t.ensures c.in-Runs.is in
-    (omega (arith, a.shaped.long), accepted-order _ a)
-
-pub close-requires : goal.close-requires
-close-requires c =
-    (_, _, receive-closing c.requires (told-many c.args.bytes.now c.type_inv.bytes (told-accepted _ _ c.runs_told-t.ensures c.in-Runs.is)) c.allowance.ensures c.if-n-allowance.false c.open-h.ensures _ c.load-k.ensures)
-
-pub returns-in-Refused : goal.returns-in-Refused
-returns-in-Refused c =
-    refused-first (load-says _ _ _) c.requires (told-refused _ _ c.runs_told-t.ensures c.in-Refused.is)
-
-pub returns-else-n-allowance : goal.returns-else-n-allowance
-returns-else-n-allowance c =
-    let q = c.allowance.ensures in
-    changes-to (load-says _ _ _) c.requires (told-accepted _ _ c.runs_told-t.ensures c.in-Runs.is).free _ (λ x h. ap (λ rs. mem rs x) (accepted-runs _ (told-accepted _ _ c.runs_told-t.ensures c.in-Runs.is)))
-    (receive-few c.requires (told-many c.args.bytes.now c.type_inv.bytes (told-accepted _ _ c.runs_told-t.ensures c.in-Runs.is)) q c.if-n-allowance.false c.open-h.ensures)
-    (receive-settled c.requires (told-many c.args.bytes.now c.type_inv.bytes (told-accepted _ _ c.runs_told-t.ensures c.in-Runs.is)) q c.if-n-allowance.false c.open-h.ensures _ c.load-k.ensures c.close.ensures) refl
+pub returns : goal.returns
+returns c =
+    let sh = c.in_ok-told.ensures in
+    let t = c.in_ok-told.told in
+    carried (load-says _ _ _) c.requires _ sh.1.free
+    (λ x h. ap (λ (rs : List Run). mem rs x) (ap (λ bs. runs_told t.edition t.count (drop 5 bs)) sh.0 ∙ accepted-runs _ sh.1)) _ c.put.ensures

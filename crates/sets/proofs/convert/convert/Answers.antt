@@ -1,15 +1,23 @@
 -- `convert` meets its contract: what the bytes earn is refused before a slice that is too short, and else their set is written in the other
 -- edition. Assumes nothing.
-use Rattle.written.proofs.Telling.{told-accepted}
+use Rattle.std.proofs.Common.{sym, subst}
+use Rattle.model.specs.Answers.{written_answer}
+use Rattle.model.specs.Converting.{convert}
+use Rattle.promises.specs.Handles.{Handles}
+use Rattle.promises.proofs.Passing.{handed-on}
 use Rattle.sets.proofs.Converting.{convert-turned, convert-short, convert-handles}
 use Rattle.sets.proofs.convert.convert.Goals as goal
 
-pub returns-then-out-due : goal.returns-then-out-due
-returns-then-out-due c = convert-short _ c.args.out.now (told-accepted _ _ c.runs_told-t.ensures c.in-Runs.is) c.if-out-due.true
+pub returns-in_err-told : goal.returns-in_err-told
+returns-in_err-told c =
+    let a = c.args in
+    subst (λ r. Handles (convert a.bytes.now a.out.now) (written_answer r a.out.now) a.out.now)
+    (sym (handed-on c.from_residual.result c.from_residual.ensures.1 (λ e p. p))) (convert-turned _ a.out.now _ c.in_err-told.ensures)
 
-pub returns-in-Refused : goal.returns-in-Refused
-returns-in-Refused c = convert-turned _ c.args.out.now _ c.runs_told-t.ensures c.in-Refused.is
+pub returns-then-out-bytes : goal.returns-then-out-bytes
+returns-then-out-bytes c = convert-short _ c.args.out.now c.in_ok-told.ensures.1 c.if-out-bytes.true
 
-pub returns-else-out-due : goal.returns-else-out-due
-returns-else-out-due c =
-    convert-handles _ c.args.out.now (told-accepted _ _ c.runs_told-t.ensures c.in-Runs.is) c.if-out-due.false c.convert.ensures
+pub returns : goal.returns
+returns c =
+    let sh = c.in_ok-told.ensures in
+    convert-handles _ c.args.out.now sh.1 c.if-out-bytes.false (rw sh.0 at c.convert.ensures)

@@ -14,4 +14,4 @@ pub returns : goal.returns
 returns c =
     let p = read_as c.requires.readable_2 c.view-x.ensures in
     let q = read_as c.requires.readable_3 c.view-y.ensures in
-    carried (combine-says _ _ _ _ _) c.requires.readable _ (both-none c.requires.readable_2 c.requires.readable_3) (λ x h. ap₂ (λ P Q. combined c.args.op P Q x) p q) c.gathered.result c.gathered.ensures c.completed.ensures
+    carried (combine-says _ _ _ _ _) c.requires.readable _ (both-none c.requires.readable_2 c.requires.readable_3) (λ x h. ap₂ (λ P Q. combined c.args.op P Q x) p q) c.gathered.result c.gathered.ensures

@@ -11,4 +11,4 @@ gathered-requires-clause-sources c = record { left = view-rooted c.view-x.ensure
 pub returns : goal.returns
 returns c =
     let p = c.requires in
-    carried (complement-says _ _ _) p.readable _ (reads_none p.readable_2) (complement-alike p.readable_2 c.view-x.ensures) c.gathered.result c.gathered.ensures c.completed.ensures
+    carried (complement-says _ _ _) p.readable _ (reads_none p.readable_2) (complement-alike p.readable_2 c.view-x.ensures) c.gathered.result c.gathered.ensures

@@ -12,7 +12,7 @@ gathered-requires-clause-sources c =
 pub returns-then-left : goal.returns-then-left
 returns-then-left c =
     let f = left-alike c.requires.readable_2 c.view-x.ensures _ _ (omega (arith, c.ranges.distance.fits)) _ (omega (arith, c.view-x.type_inv)) c.if-left.true c.wrapping_add_u64.ensures.value in
-    carried (shifted-says _ _ _ _ _) c.requires.readable _ (reads_none c.requires.readable_2) f c.gathered.result c.gathered.ensures c.completed.ensures
+    carried (shifted-says _ _ _ _ _) c.requires.readable _ (reads_none c.requires.readable_2) f c.gathered.result c.gathered.ensures
 
 pub gathered-requires-2-clause-sources : goal.gathered-requires-2-clause-sources
 gathered-requires-2-clause-sources c =
@@ -21,4 +21,4 @@ gathered-requires-2-clause-sources c =
 pub returns : goal.returns
 returns c =
     let f = right-alike c.requires.readable_2 c.view-x.ensures _ _ (omega (arith, c.ranges.distance.fits)) _ (omega (arith, c.wrapping_sub_u64.type_inv)) c.if-left.false c.wrapping_sub_u64.ensures.value in
-    carried (shifted-says _ _ _ _ _) c.requires.readable _ (reads_none c.requires.readable_2) f c.gathered-2.result c.gathered-2.ensures c.completed-2.ensures
+    carried (shifted-says _ _ _ _ _) c.requires.readable _ (reads_none c.requires.readable_2) f c.gathered-2.result c.gathered-2.ensures

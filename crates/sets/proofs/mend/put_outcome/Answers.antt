@@ -3,16 +3,13 @@ use Rattle.sets.proofs.Mending.{right-room, copied, due-told, united}
 use Rattle.sets.proofs.mend.put_outcome.Goals as goal
 
 pub keep-requires : goal.keep-requires
-keep-requires c =
-    right-room _ c.requires.mendable c.if-right.true c.type_inv.bytes c.requires.due
+keep-requires c = right-room _ c.requires.mendable c.if-right.true c.requires.due
 
-pub unite-requires-clause-due : goal.unite-requires-clause-due
-unite-requires-clause-due c = λ e. due-told _ c.requires.mendable c.requires.due
+pub put_union-requires : goal.put_union-requires
+put_union-requires c = due-told _ c.requires.mendable c.requires.due
 
 pub returns-then-right : goal.returns-then-right
-returns-then-right c =
-    copied _ c.requires.mendable c.if-right.true c.type_inv.bytes _ _ c.keep.ensures
+returns-then-right c = copied _ c.requires.mendable c.if-right.true _ _ c.keep.ensures
 
 pub returns-else-right : goal.returns-else-right
-returns-else-right c =
-    united _ c.requires.mendable _ _ c.unite.ensures.united
+returns-else-right c = united _ c.requires.mendable _ _ c.put_union.ensures

@@ -1,7 +1,7 @@
 -- `write_map` meets its contract: a window has at most 524,288 positions, so the bytes due fit a word; the slice has room for them or is
 -- too short; both forms write the same map. Assumes nothing.
+use Rattle.std.specs.Prelude.{Ok}
 use Rattle.std.proofs.Common.{ap, not, ◌≡◌, ℕ, ◌+◌, ◌≤◌, false, List, length, sym, arith}
-use Rattle.model.specs.declared.Written.{Written}
 use Rattle.model.specs.Numbers.{size}
 use Rattle.model.specs.Bytes.{map_length, map_of, into_front}
 use Rattle.model.specs.Call.{Call}
@@ -18,47 +18,46 @@ use Rattle.sets.proofs.write.write_map.Goals as goal
 use Rattle.sets.proofs.write.write_map.Goals.{After-open-h, Else-not-window_fits}
 
 -- it is one
-good : (r : Else-not-window_fits) → bad_window r.args.base r.args.n ≡ false
+good : {g : _} (r : Else-not-window_fits g) → bad_window r.args.base r.args.n ≡ false
 good r = bad-by _ _ _ r.window_fits.ensures (ap not r.if-not-window_fits.false)
 
 -- there is a window, and room for its map
-room : (o : After-open-h) → let a = o.args in ((1 ≤ a.n) × (a.base + a.n ≤ size)) × (map_length a.n ≤ length a.out.now)
+room : {g : _} (o : After-open-h g) → let a = o.args in ((1 ≤ a.n) × (a.base + a.n ≤ size)) × (map_length a.n ≤ length a.out.now)
 room o = let f = fitting _ _ ((bad-by _ _ _ o.window_fits.ensures (ap not o.if-not-window_fits.false))) in ((f.some, f.below), o.if-out-due.false)
 
 -- and the map is there, in whichever way it was written
-done : (o : After-open-h) {out : List ℕ}
+done : {g : _} (o : After-open-h g) {out : List ℕ}
     → let a = o.args in
     out ≡ into_front (map_of (held_in (lent a.words.now) o.open-h.result) a.base a.n) a.out.now
-    → WritesOut (Call.write_map a.base a.n) a.words.now a.world a.out.now (Written.Front (map_length a.n)) out
+    → WritesOut (Call.write_map a.base a.n) a.words.now a.world a.out.now (Ok (map_length a.n)) out
 done o =
     put-done (write-map-puts _ _ _ _ _) o.requires (sym (map_of-length _ _ _)) o.open-h.ensures (window-passes _ _ ((bad-by _ _ _ o.window_fits.ensures (ap not o.if-not-window_fits.false)))) o.if-out-due.false
 
 pub returns-then-not-window_fits : goal.returns-then-not-window_fits
-returns-then-not-window_fits c = put-no-window _ _ _ _ _ c.requires (bad-by _ _ _ c.window_fits.ensures (ap not c.if-not-window_fits.true))
+returns-then-not-window_fits g c = put-no-window _ _ _ _ _ c.requires (bad-by _ _ _ c.window_fits.ensures (ap not c.if-not-window_fits.true))
 
 pub overflow_add-due : goal.overflow_add-due
-overflow_add-due c = let f = fitting _ _ (good (goal.at.overflow_add-due c).Else-not-window_fits) in omega arith
+overflow_add-due g c = let f = fitting _ _ (good (goal.at.overflow_add-due g c).Else-not-window_fits) in omega arith
 
 pub returns-then-out-due : goal.returns-then-out-due
-returns-then-out-due c =
-    put-short (write-map-puts _ _ _ _ _) c.requires (sym (map_of-length _ _ _)) c.if-out-due.true (short-after-window _ _ (good (goal.at.returns-then-out-due c).Else-not-window_fits))
+returns-then-out-due g c =
+    put-short (write-map-puts _ _ _ _ _) c.requires (sym (map_of-length _ _ _)) c.if-out-due.true (short-after-window _ _ (good (goal.at.returns-then-out-due g c).Else-not-window_fits))
 
 pub write_map-requires-clause-scannable : goal.write_map-requires-clause-scannable
-write_map-requires-clause-scannable c = lent-scannable c.open-h.ensures
-
-pub write_map-requires-clause-le_n : goal.write_map-requires-clause-le_n
-write_map-requires-clause-le_n c = (room (goal.at.write_map-requires-clause-le_n c).After-open-h).0
+write_map-requires-clause-scannable g c = lent-scannable c.open-h.ensures
 
 pub write_map_by_bytes-requires-clause-stands : goal.write_map_by_bytes-requires-clause-stands
-write_map_by_bytes-requires-clause-stands c = lent-stands c.open-h.ensures
+write_map_by_bytes-requires-clause-stands g c = lent-stands c.open-h.ensures
 
-pub write_map_by_bytes-requires-clause-le_n : goal.write_map_by_bytes-requires-clause-le_n
-write_map_by_bytes-requires-clause-le_n c = (room (goal.at.write_map_by_bytes-requires-clause-le_n c).After-open-h).0
+pub invariant_of-span : goal.invariant_of-span
+invariant_of-span g c = let f = (room (goal.at.invariant_of-span g c).After-open-h).0 in record { some = f.0; within = f.1 }
 
-pub returns-then-wide : goal.returns-then-wide
-returns-then-wide c =
-    done (goal.at.returns-then-wide c).After-open-h c.write_map.ensures
+pub invariant_of-span-else-this-ne0 : goal.invariant_of-span-else-this-ne0
+invariant_of-span-else-this-ne0 g c =
+    let f = (room (goal.at.invariant_of-span-else-this-ne0 g c).After-open-h).0 in record { some = f.0; within = f.1 }
 
-pub returns-else-wide : goal.returns-else-wide
-returns-else-wide c =
-    done (goal.at.returns-else-wide c).After-open-h c.write_map_by_bytes.ensures
+pub returns-then-this-ne0 : goal.returns-then-this-ne0
+returns-then-this-ne0 g c = done (goal.at.returns-then-this-ne0 g c).After-open-h c.write_map.ensures
+
+pub returns-else-this-ne0 : goal.returns-else-this-ne0
+returns-else-this-ne0 g c = done (goal.at.returns-else-this-ne0 g c).After-open-h c.write_map_by_bytes.ensures

@@ -2,7 +2,6 @@
 -- Assumes nothing.
 use Rattle.std.proofs.Common.{sym, ap, ◌∙◌, arith}
 use Rattle.run_index.specs.Tree.{inorder}
-use Rattle.run_index.specs.Search.{near_run}
 use Rattle.store.proofs.Nearby.{first-zero, first-after, first-wrapped, first-none}
 use Rattle.store.proofs.bounds.first_turned.Goals as goal
 
@@ -12,23 +11,23 @@ returns-then-get_physical c =
     first-zero (inorder t) i.canonical c.args.offset (omega arith) c.to_physical-zero.result.0 c.to_physical-zero.ensures
     (sym (c.get_physical.ensures g t i) ∙ c.if-get_physical.true)
 
-pub returns-in-Run : goal.returns-in-Run
-returns-in-Run c =
+pub returns-in-Some : goal.returns-in-Some
+returns-in-Some c =
     λ g t i.
     c.to_logical.ensures ∙ first-after (inorder t) i.canonical c.args.offset (omega arith) c.to_physical-zero.result.0
-    c.in-Run.r c.to_physical-zero.ensures (sym (c.get_physical.ensures g t i) ∙ c.if-get_physical.false)
-    (sym (ap near_run c.in-Run.is) ∙ c.at_or_after-n.ensures g t i)
+    c.in-Some.r c.to_physical-zero.ensures (sym (c.get_physical.ensures g t i) ∙ c.if-get_physical.false)
+    (sym c.in-Some.is ∙ c.at_or_after-n.ensures g t i)
 
-pub returns-in-Run-m : goal.returns-in-Run-m
-returns-in-Run-m c =
+pub returns-in-Some-m : goal.returns-in-Some-m
+returns-in-Some-m c =
     λ g t i.
-    c.to_logical-in-Run-m.ensures ∙ first-wrapped (inorder t) i.canonical c.args.offset (omega arith) c.to_physical-zero.result.0
-    c.in-Run-m.r c.to_physical-zero.ensures (sym (c.get_physical.ensures g t i) ∙ c.if-get_physical.false)
-    (sym (ap near_run c.in-None.is) ∙ c.at_or_after-n.ensures g t i)
-    (sym (ap near_run c.in-Run-m.is) ∙ c.at_or_after-m.ensures g t i)
+    c.to_logical-in-Some-m.ensures ∙ first-wrapped (inorder t) i.canonical c.args.offset (omega arith) c.to_physical-zero.result.0
+    c.in-Some-m.r c.to_physical-zero.ensures (sym (c.get_physical.ensures g t i) ∙ c.if-get_physical.false)
+    (sym c.in-None.is ∙ c.at_or_after-n.ensures g t i)
+    (sym c.in-Some-m.is ∙ c.at_or_after-m.ensures g t i)
 
 pub returns-in-None-m : goal.returns-in-None-m
 returns-in-None-m c =
     λ g t i.
     first-none (inorder t) i.canonical c.args.offset (omega arith)
-    (sym (ap near_run c.in-None-m.is) ∙ c.at_or_after-m.ensures g t i)
+    (sym c.in-None-m.is ∙ c.at_or_after-m.ensures g t i)

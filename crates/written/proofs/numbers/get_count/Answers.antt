@@ -1,7 +1,6 @@
--- `get_count` meets its contract: four bytes, one by one. Each is below 256, so no sum leaves a word. Assumes nothing.
-use Rattle.written.proofs.Digits.{count-value}
+-- `get_count` meets its contract: the four bytes are those in a row. Assumes nothing.
+use Rattle.written.proofs.Digits.{count_value}
 use Rattle.written.proofs.numbers.get_count.Goals as goal
 
 pub returns : goal.returns
-returns c =
-    count-value c.args.bytes.now c.args.at c.requires
+returns c = count_value c.args.bytes.now c.args.at c.requires c.from_be_bytes.ensures

@@ -1,7 +1,13 @@
--- `put_word` meets its contract: the bytes of a word are those of its high count and then of its low one. Assumes nothing.
-use Rattle.written.proofs.Digits.{word-placed}
+-- `put_word` meets its contract. The loop's invariant: the first j bytes are put. Assumes nothing.
+use Rattle.written.proofs.Apart.{strewn_none, strewn-more, strewn-word}
 use Rattle.written.proofs.numbers.put_word.Goals as goal
 
+pub loop-j-init : goal.loop-j-init
+loop-j-init c = strewn_none c.args.at c.args.step c.args.out.now
+
+pub loop-j-preserved : goal.loop-j-preserved
+loop-j-preserved c =
+    strewn-more c.args.at c.args.step c.loop-j.j _ c.args.out.now c.loop-j.out (rw c.to_be_bytes-bytes.ensures c.loop-j-test.true) c.loop-j.invariant
+
 pub returns : goal.returns
-returns c =
-    word-placed c.args.out.now _ _ c.args.at c.args.n c.requires c.put_count.ensures c.put_count-2.ensures
+returns c = strewn-word c.args.at c.args.step c.loop-j.j c.args.n _ c.args.out.now c.loop-j.out c.to_be_bytes-bytes.ensures c.loop-j-test.false c.loop-j.invariant

@@ -6,13 +6,15 @@ use Rattle.written.proofs.Strewing.{put-none, put_step, put-set}
 use Rattle.written.proofs.write.convert.Goals as goal
 
 pub loop-i-init : goal.loop-i-init
-loop-i-init c = let a = c.args in put-none _ (runs_told a.edition a.n (drop 5 a.bytes.now)) _ (runs_told-length a.edition a.n (drop 5 a.bytes.now))
+loop-i-init c =
+    let t = c.args.told in
+    put-none _ (runs_told t.edition t.count (drop 5 t.bytes.now)) _ (runs_told-length t.edition t.count (drop 5 t.bytes.now))
 
 pub loop-i-preserved : goal.loop-i-preserved
 loop-i-preserved c =
-    put_step c.loop-i.invariant c.loop-i-test.true c.run_told-r.ensures c.put_run.ensures
+    put_step c.loop-i.invariant c.loop-i-test.true c.run-r.ensures c.put_run.ensures
 
 pub returns : goal.returns
 returns c =
     rw (← c.other_edition-to.ensures)
-    (put-set c.loop-i.invariant c.args.out.now c.requires.1 c.put_head.ensures c.loop-i-test.false)
+    (put-set c.loop-i.invariant c.args.out.now c.requires c.put_head.ensures c.loop-i-test.false)

@@ -1,8 +1,9 @@
--- `put_run` meets its contract: by rows start and end are put eight bytes each, one after the other. Assumes nothing.
-use native.Mathlib.Omega.{arith}
-use Rattle.written.proofs.Strewing.{run_row}
+-- `put_run` meets its contract: in either edition start and end are put a step apart. Assumes nothing.
+use Rattle.written.proofs.Strewing.{run-strewn}
 use Rattle.written.proofs.write.put_run.Goals as goal
 
 pub returns-in-Rows : goal.returns-in-Rows
-returns-in-Rows c =
-    run_row _ _ _ _ _ c.args.out.now _ _ c.in-Rows.is (omega (arith, c.requires.0, c.requires.1)) c.put_word.ensures c.put_word-in-Rows.ensures
+returns-in-Rows c = run-strewn _ _ _ _ _ _ c.in-Rows.is c.put_both.ensures
+
+pub returns-in-Columns : goal.returns-in-Columns
+returns-in-Columns c = run-strewn _ _ _ _ _ _ c.in-Columns.is c.put_both-in-Columns.ensures

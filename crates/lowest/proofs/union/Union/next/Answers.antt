@@ -1,0 +1,98 @@
+-- `next` meets its contract: an entry joins the last run or begins one; where none is left the last run is handed out. Assumes nothing.
+use Rattle.std.proofs.Common.{◌≡◌, ◌+◌, ◌<◌, ◌≤◌, min, max, length, true, false, None, List, ◌++◌, ◌∷◌, [], subst, leb-true, leb-false, refl, ap, sym, ◌∙◌}
+use Rattle.model.specs.declared.Run.{Run}
+use Rattle.lowest.specs.Entries.{entry}
+use Rattle.lowest.specs.Groups.{alone}
+use Rattle.lowest.specs.Windows.{Rises, Goes}
+use Rattle.lowest.proofs.Steps.{next-below, next-first, next-joins, next-begins, next-front, last-draws}
+use Rattle.lowest.proofs.union.Union.next.Goals as goal
+use Rattle.lowest.proofs.union.Union.next.Goals.{In-Some, After-run-r, After-alone-begun}
+use Rattle.lowest.proofs.union.Union.next.Given.{Over}
+
+-- the list stays
+same : (g : Over) (c : In-Some g) → c.next.new.self.list ≡ c.args.self.now.places.list
+same g c = c.in-Some.ensures.0 ∙ c.loop-place.invariant.list
+
+-- the entry is the one at the place
+read : (g : Over) (c : After-run-r g) → c.run-r.result ≡ entry (g.L.RunList.runs c.args.self.now.places.list) c.in-Some.place
+read g c = c.run-r.ensures ∙ ap (λ l. entry (g.L.RunList.runs l) c.in-Some.place) (c.in-Some.ensures.0 ∙ c.loop-place.invariant.list)
+
+-- and the run of it alone
+begun : (g : Over) (c : After-alone-begun g) → c.run-r.result ≡ entry (g.L.RunList.runs c.args.self.now.places.list) c.in-Some.place
+    → c.alone-begun.result ≡ alone (g.L.RunList.runs c.args.self.now.places.list) c.in-Some.place
+begun g c r = c.alone-begun.ensures ∙ ap (λ (r : Run). record { start = r.start; «end» = r.«end»; place = c.in-Some.place; sole = true }) r
+
+-- the place comes behind the others
+comes : (g : Over) (c : In-Some g) (ps : List _) → Rises (g.L.RunList.runs c.args.self.now.places.list) ps c.loop-place.self.places
+    → Rises (g.L.RunList.runs c.args.self.now.places.list) (ps ++ c.in-Some.place ∷ []) c.next.new.self
+comes g c = subst (λ l. (ps : List _) → Rises (g.L.RunList.runs l) ps c.loop-place.self.places → Rises (g.L.RunList.runs l) (ps ++ c.in-Some.place ∷ []) c.next.new.self)
+    c.loop-place.invariant.list c.in-Some.ensures.1.0
+
+pub loop-place-init : goal.loop-place-init
+loop-place-init g c = record { list = refl; goes = λ done k. k }
+
+pub next-requires : goal.next-requires
+next-requires g c =
+    let k = c.loop-place.invariant.goes c.requires.0 c.requires.1 in
+    (k.places, subst (λ l. Rises (g.L.RunList.runs l) k.places c.loop-place.self.places) (sym c.loop-place.invariant.list) k.rises)
+
+pub run-r-requires : goal.run-r-requires
+run-r-requires g c =
+    let s = (goal.at.run-r-requires g c).In-Some in
+    let k = c.loop-place.invariant.goes c.requires.0 c.requires.1 in
+    subst (λ l. c.in-Some.place < length (g.L.RunList.runs l)) (sym (same g s)) (next-below k _ (comes g s k.places k.rises))
+
+pub loop-place-smaller-in_default-last : goal.loop-place-smaller-in_default-last
+loop-place-smaller-in_default-last g c = c.in-Some.ensures.1.1
+
+pub loop-place-preserved-in_default-last : goal.loop-place-preserved-in_default-last
+loop-place-preserved-in_default-last g c =
+    let s = (goal.at.loop-place-preserved-in_default-last g c).In-Some in
+    let r = read g (goal.at.loop-place-preserved-in_default-last g c).After-run-r in
+    let b = begun g (goal.at.loop-place-preserved-in_default-last g c).After-alone-begun r in
+    record {
+      list = same g s;
+      goes = λ done k.
+          let u = c.loop-place.invariant.goes done k in
+          next-first u _ (comes g s u.places u.rises) _ b c.in_default-last.is;
+    }
+
+pub returns-then-not-reaches : goal.returns-then-not-reaches
+returns-then-not-reaches g c =
+    let s = (goal.at.returns-then-not-reaches g c).In-Some in
+    let r = read g (goal.at.returns-then-not-reaches g c).After-run-r in
+    let b = begun g (goal.at.returns-then-not-reaches g c).After-alone-begun r in
+    let e = c.in-Some-last.g.«end» in
+    let l = subst (λ (x : Run). e + 1 < x.start) r (leb-false c.run-r.result.start (e + 1) (sym c.reaches.ensures ∙ c.if-not-reaches.true)) in (
+      same g s,
+      λ done k.
+          let u = c.loop-place.invariant.goes done k in
+          let t = comes g s u.places u.rises in
+          (next-front u _ t _ c.in-Some-last.is, next-begins u _ t _ c.in-Some-last.is _ b l),
+    )
+
+pub loop-place-smaller : goal.loop-place-smaller
+loop-place-smaller g c = c.in-Some.ensures.1.1
+
+pub loop-place-preserved : goal.loop-place-preserved
+loop-place-preserved g c =
+    let s = (goal.at.loop-place-preserved g c).In-Some in
+    let r = read g (goal.at.loop-place-preserved g c).After-run-r in
+    let h = c.in-Some-last.g in
+    let l = subst (λ (x : Run). x.start ≤ h.«end» + 1) r (leb-true c.run-r.result.start (h.«end» + 1) (sym c.reaches.ensures ∙ c.if-not-reaches.false)) in
+    let w = c.with.ensures ∙ ap (λ (x : Run). record { start = h.start; «end» = max h.«end» x.«end»; place = min h.place c.in-Some.place; sole = false }) r in
+    record {
+      list = same g s;
+      goes = λ done k.
+          let u = c.loop-place.invariant.goes done k in
+          next-joins u _ (comes g s u.places u.rises) h c.in-Some-last.is _ w l;
+    }
+
+pub returns : goal.returns
+returns g c =
+    let i = c.loop-place.invariant in
+    let es = g.L.RunList.runs in
+    let n = subst (λ l. Goes (es l) c.loop-place.self.places None c.next.new.self) i.list c.in_default.ensures.1 in (
+      c.in_default.ensures.0 ∙ i.list,
+      rw (c.take.ensures.value, c.take.ensures.after) (last-draws (es c.args.self.now.places.list) c.args.self.now c.loop-place.self c.next.new.self i.goes n c.loop-place.self.last refl),
+    )

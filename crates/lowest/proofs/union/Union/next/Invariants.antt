@@ -1,0 +1,18 @@
+-- `next` meets its contract. The loop's invariant: the union goes on, and the same runs are handed out. The measure is what is ahead of its places.
+-- Assumes nothing.
+use Rattle.std.proofs.Common.{◌≡◌, List}
+use Rattle.lowest.specs.declared.Group.{Group}
+use Rattle.lowest.specs.Windows.{ahead}
+use Rattle.lowest.specs.Joins.{Joining}
+use Rattle.lowest.proofs.union.Union.next.Given as goal
+
+abbrev pub invariant-loop-place : goal.invariant-loop-place
+invariant-loop-place g l =
+    let es = g.L.RunList.runs l.initial.self.places.list in
+    record {
+      list : l.self.places.list ≡ l.initial.self.places.list;
+      goes : (done : List Group) → Joining es done l.initial.self → Joining es done l.self;
+    }
+
+abbrev pub decreases-loop-place : goal.decreases-loop-place
+decreases-loop-place g l = ahead l.self.places
