@@ -4,8 +4,8 @@ use Rattle.std.proofs.Common.{arith}
 use Rattle.run_index.proofs.Trees.{height≤runs}
 use Rattle.run_index.proofs.join.Goals as goal
 
-pub overflow_add-h : goal.overflow_add-h
-overflow_add-h c =
+pub overflow_add-max : goal.overflow_add-max
+overflow_add-max c =
     let p = c.requires in
     let k = p.pullable.children in
-    omega (arith, c.larger-h.ensures, p.tells_sums.0 k.0 k.1 k.3, p.tells_sums.1 k.0 k.2 k.4, height≤runs k.1, height≤runs k.2, k.5)
+    omega (arith, c.max.ensures, p.tells_sums.0 k.0 k.1 k.3, p.tells_sums.1 k.0 k.2 k.4, height≤runs k.1, height≤runs k.2, k.5)

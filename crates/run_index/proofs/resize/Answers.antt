@@ -8,7 +8,7 @@ use Rattle.run_index.proofs.resize.Goals.{After-write_node}
 -- the tree is resized where the run was written
 done : (w : After-write_node) → let a = w.args in Resizes a.s.now w.write_node.new.s a.p a.k a.start a.«end» a.more
 done w =
-    way-done w.loop-s.invariant _ w.read_node-v.ensures _ w.wrapping_add_u64-ones.ensures.value w.if-v-k.true w.write_node.ensures
+    way-done w.loop-s.invariant _ w.read_node-v.ensures w.if-v-k.true w.write_node.ensures
 
 pub read_node-v-requires : goal.read_node-v-requires
 read_node-v-requires c = way-room c.loop-s.invariant c.requires
@@ -26,9 +26,9 @@ write_node-requires-in-loop-s c =
 
 pub loop-s-smaller : goal.loop-s-smaller
 loop-s-smaller c =
-    way-falls c.loop-s.invariant _ c.read_node-v.ensures _ c.wrapping_add_u64-ones.ensures.value c.if-v-k.false c.write_node-in-loop-s.ensures _ c.side_of-q.ensures
+    way-falls c.loop-s.invariant _ c.read_node-v.ensures c.if-v-k.false c.write_node-in-loop-s.ensures _ c.side_of-q.ensures
     c.requires
 
 pub loop-s-preserved : goal.loop-s-preserved
 loop-s-preserved c =
-    way_on c.loop-s.invariant _ c.read_node-v.ensures _ c.wrapping_add_u64-ones.ensures.value c.if-v-k.false c.write_node-in-loop-s.ensures _ c.side_of-q.ensures
+    way_on c.loop-s.invariant _ c.read_node-v.ensures c.if-v-k.false c.write_node-in-loop-s.ensures _ c.side_of-q.ensures

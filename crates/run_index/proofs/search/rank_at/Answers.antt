@@ -1,10 +1,10 @@
 -- `rank_at` meets its contract: what the runs that start at or before y have in the whole tree is what was passed and what such runs of the part
 -- of it at hand have. Of those runs only the last, found as `at_or_before` finds it, has positions above y. The measure is the height of the
 -- part. Assumes nothing.
-use Rattle.std.proofs.Common.{ℕ, ◌+◌, ◌*◌, ◌^◌, ◌<◌, ◌≤◌, arith}
+use Rattle.std.proofs.Common.{ℕ, ◌+◌, ◌*◌, ◌^◌, ◌<◌, ◌≤◌, refl, arith}
 use Rattle.run_index.specs.Tree.{inorder}
 use Rattle.run_index.proofs.Walking.{walk_start, walk_end, spot, left-held, index-few, walk-left-falls, walk-right-falls, go_left, go_right}
-use Rattle.run_index.proofs.Searching.{rank-start, times-most, rank-few, rank_left, rank_right, rank-none, rank-in, rank-past}
+use Rattle.run_index.proofs.Searching.{rank-start, times-most, rank-few, rank_left, rank_right, rank-none, rank-some}
 use Rattle.run_index.proofs.search.rank_at.Goals as goal
 use Rattle.run_index.proofs.search.rank_at.Goals.{After-at_most-here, After-read_node-v, After-sums-l}
 
@@ -22,9 +22,6 @@ loop-q-init c = walk_start (λ g t i. rank-start _ c.args.y (inorder t))
 pub sums-l-requires : goal.sums-l-requires
 sums-l-requires c = left-held c.loop-q.invariant _ c.loop-q-test.true c.read_node-v.ensures c.requires.2
 
-pub overflow_add-starts : goal.overflow_add-starts
-overflow_add-starts c = omega (arith, few (goal.at.overflow_add-starts c).After-sums-l)
-
 pub overflow_mul-starts : goal.overflow_mul-starts
 overflow_mul-starts c =
     omega (arith, few (goal.at.overflow_mul-starts c).After-sums-l, most (goal.at.overflow_mul-starts c).After-at_most-here (c.sums-l.result.runs + 1))
@@ -41,8 +38,7 @@ pub loop-q-preserved-then-v-y : goal.loop-q-preserved-then-v-y
 loop-q-preserved-then-v-y c =
     go_right c.loop-q.invariant _ c.loop-q-test.true c.read_node-v.ensures
     (λ g t s.
-    rank_right s c.sums-l.ensures _ _ _ _ c.at_most-here.ensures c.wrapped_width-width.ensures
-    c.wrapping_add_u64.ensures.value c.wrapping_add_u64-ones.ensures.value c.if-v-y.true)
+    rank_right s c.sums-l.ensures _ _ c.at_most-here.ensures c.wrapped_width-width.ensures c.if-v-y.true)
 
 pub loop-q-smaller : goal.loop-q-smaller
 loop-q-smaller c =
@@ -52,21 +48,13 @@ pub loop-q-preserved : goal.loop-q-preserved
 loop-q-preserved c =
     go_left c.loop-q.invariant _ c.loop-q-test.true c.read_node-v.ensures
     (λ g t s.
-    rank_left s c.sums-l.ensures _ _ _ _ c.at_most-here.ensures c.wrapped_width-width.ensures
-    c.wrapping_add_u64.ensures.value c.wrapping_add_u64-ones.ensures.value c.if-v-y.false)
+    rank_left s c.sums-l.ensures _ _ c.at_most-here.ensures c.wrapped_width-width.ensures c.if-v-y.false)
 
 pub returns-then-best-eq0 : goal.returns-then-best-eq0
-returns-then-best-eq0 c = λ g t i. rank-none i.canonical (walk_end c.loop-q.invariant c.loop-q-test.false i) c.if-best-eq0.true
-
-pub returns-then-y-v : goal.returns-then-y-v
-returns-then-y-v c =
-    λ g t i.
-    rank-in i.canonical (walk_end c.loop-q.invariant c.loop-q-test.false i) _ c.if-best-eq0.false
-    c.read_node-v-2.ensures c.if-y-v.true c.wrapping_sub_u64.result (omega (arith, c.wrapping_sub_u64.type_inv))
-    c.wrapping_sub_u64.ensures.value
+returns-then-best-eq0 c = λ g t i. rank-none i.canonical (walk_end c.loop-q.invariant c.loop-q-test.false i) c.if-best-eq0.true c.default.result c.default.ensures
 
 pub returns : goal.returns
 returns c =
     λ g t i.
-    rank-past i.canonical (walk_end c.loop-q.invariant c.loop-q-test.false i) _ c.if-best-eq0.false
-    c.read_node-v-2.ensures c.if-y-v.false
+    rank-some i.canonical (walk_end c.loop-q.invariant c.loop-q-test.false i) _ c.if-best-eq0.false
+    c.read_node-v-2.ensures _ (omega arith) (omega arith)
