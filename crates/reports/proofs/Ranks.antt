@@ -4,7 +4,9 @@
 use Rattle.std.proofs.Common.{◌≡◌, ℕ, zero, suc, ◌+◌, ◌-◌, ◌%◌, ◌^◌, ◌<◌, ◌≤◌, Bool, true, false, not, ◌&&◌, ltb, ◌⊎◌, List, [], ◌∷◌, length, sym}
 use Rattle.std.proofs.Common.{refl, ap, ◌∙◌, subst, ap₂, inl, inr, add-zero, arith, le-ltb, lt-ltb}
 use mathlib.Core.Bool.{beq}
+use mir.Val.{bool_byte}
 use Rattle.model.specs.declared.Run.{Run}
+use Rattle.model.specs.declared.Count.{Count}
 use Rattle.model.specs.declared.Tally.{Tally}
 use Rattle.model.specs.Numbers.{size, worth}
 use Rattle.model.proofs.Numbers.{split}
@@ -17,7 +19,7 @@ use Rattle.model.proofs.Clip.{clip, clip-some, clip-none, clip-runs}
 use Rattle.run_index.specs.declared.search.Rank.{Rank}
 use Rattle.run_index.specs.Tree.{Tree, inorder}
 use Rattle.run_index.specs.Search.{Index, TellsRank, Selectable, TellsSelected}
-use Rattle.reports.specs.Reports.{Measured, TellsTally, Choosable, TellsChosen}
+use Rattle.reports.specs.Reports.{Measured, TellsTally, TellsUnder, Choosable, TellsChosen}
 use Rattle.run_index.proofs.Totals.{runs-length}
 use Rattle.reports.proofs.Joins.{select-second}
 
@@ -132,8 +134,31 @@ not-one false = refl
 
 -- ---- the difference of two ranks
 -- a wrapped difference is exact where the true one fits
-wrapped_exact : (m u o a b d : ℕ) → m < 2 ^ 64 → (m + u) % 2 ^ 64 ≡ o → u ≡ a % 2 ^ 64 → o ≡ b % 2 ^ 64 → b ≡ a + d → d < 2 ^ 64 → m ≡ d
-wrapped_exact m u o a b d k w p q e l = omega arith
+wrapped_exact : (u o a b d : ℕ) → u ≡ a % 2 ^ 64 → o ≡ b % 2 ^ 64 → b ≡ a + d → d < 2 ^ 64 → (o + (2 ^ 64 - u)) % 2 ^ 64 ≡ d
+wrapped_exact u o a b d p q e l = omega arith
+
+-- a truth as a byte
+byte-one : (b : Bool) → bool_byte b ≡ one_if b
+byte-one true = refl
+byte-one false = refl
+
+-- it is small
+pub byte-small : (b : Bool) → bool_byte b ≤ 1
+byte-small true = omega arith
+byte-small false = omega arith
+
+-- a truth that equals another, and one that does not
+same : (b v : Bool) → beq b v ≡ true → b ≡ v
+same true true e = refl
+same true false e = absurd (cc)
+same false true e = absurd (cc)
+same false false e = refl
+
+other : (b v : Bool) → beq b v ≡ false → b ≡ not v
+other true true e = absurd (cc)
+other true false e = refl
+other false true e = refl
+other false false e = absurd (cc)
 
 -- the starts up to a position are few
 pub starts-small : {w : List ℕ} {p y g : ℕ} {t : Tree} {r : Rank} → TellsRank w p y r → Index w p g t → r.starts < 2 ^ 62
@@ -166,99 +191,116 @@ module _ {w : List ℕ} {p s e : ℕ} {under upto : Rank} (rise : s ≤ e) (low 
         ap one_if (low g t i).held-is,
       )
 
-  -- the wrapped difference of the two counts
-  module _ (m : ℕ) (fits : e < size) (small : m < 2 ^ 64) (wraps : (m + under.ones) % 2 ^ 64 ≡ upto.ones) where
-    -- what is held above s
-    more-held : {g : ℕ} {t : Tree} → Index w p g t → m ≡ count (mem (inorder t)) true (s + 1) (e - s)
+  -- the wrapped difference of the two counts is what is held above s
+  module _ (fits : e < size) where
+    abbrev pub more : ℕ
+    more = (upto.ones + (2 ^ 64 - under.ones)) % 2 ^ 64
+
+    more-held : {g : ℕ} {t : Tree} → Index w p g t → more ≡ count (mem (inorder t)) true (s + 1) (e - s)
     more-held {g} {t} i =
         let Q : Positions = mem (inorder t) in
-        wrapped_exact m under.ones upto.ones (count Q true 0 (s + 1)) (count Q true 0 (e + 1)) (count Q true (s + 1) (e - s)) small wraps
+        wrapped_exact under.ones upto.ones (count Q true 0 (s + 1)) (count Q true 0 (e + 1)) (count Q true (s + 1) (e - s))
         (low g t i).ones-are (high g t i).ones-are (count_cut Q true 0 (e + 1) (s + 1) (s + 1) (e - s) (omega arith) (omega arith))
         (omega (arith, count-both Q (s + 1) (e - s)))
 
     -- no more than there are positions
-    pub more-fits : {g : ℕ} {t : Tree} → Index w p g t → m ≤ e - s
+    pub more-fits : {g : ℕ} {t : Tree} → Index w p g t → more ≤ e - s
     more-fits {g} {t} i = omega (arith, more-held i, count-both (mem (inorder t)) (s + 1) (e - s))
 
     -- what is told of the held positions
-    pub tally-held : {v b : Bool} {r : Tally} → v ≡ true → under.held ≡ b → worth r.count ≡ one_if b + m
-        → r.runs ≡ upto.starts - under.starts + one_if b → TellsTally w p s e v r
-    tally-held {r = r} f u x y = λ g t i.
+    pub tally-held : {v : Bool} {r : Tally} → v ≡ true → worth r.count ≡ one_if under.held + more
+        → r.runs ≡ upto.starts - under.starts + bool_byte under.held → TellsTally w p s e v r
+    tally-held {r = r} f x y = λ g t i.
         subst (λ a. Measured (mem (inorder t)) a s (suc e - s) r) (sym f)
         (record {
-          count-is = omega (arith, x, ap one_if u, held-count i, more-held i);
-          runs-are = omega (arith, y, ap one_if u, held-runs i);
+          count-is = omega (arith, x, held-count i, more-held i);
+          runs-are = omega (arith, y, byte-one under.held, held-runs i);
         })
 
     -- what is told of the others
-    pub tally-free : {v b d : Bool} {r : Tally} → v ≡ false → under.held ≡ b → upto.held ≡ d → worth r.count ≡ one_if (not b) + (e - s - m)
-        → r.runs ≡ upto.starts - under.starts + one_if (not d) → TellsTally w p s e v r
-    tally-free {b = b} {d = d} {r = r} f u o x y = λ g t i.
+    pub tally-free : {v : Bool} {r : Tally} → v ≡ false → worth r.count ≡ one_if (not under.held) + (e - s - more)
+        → r.runs ≡ upto.starts - under.starts + bool_byte (not upto.held) → TellsTally w p s e v r
+    tally-free {r = r} f x y = λ g t i.
         subst (λ a. Measured (mem (inorder t)) a s (suc e - s) r) (sym f)
         (record {
-          count-is = omega (arith, x, ap one_if u, held-count i, more-held i, more-fits i, count-both (mem (inorder t)) s (suc e - s), not-one b);
+          count-is = omega (arith, x, held-count i, more-held i, more-fits i, count-both (mem (inorder t)) s (suc e - s), not-one under.held);
           runs-are = omega (
             arith,
             y,
-            ap one_if u,
+            byte-one (not upto.held),
             held-runs i,
             ranges-alternate (mem (inorder t)) s e rise,
             ap one_if (sym (low g t i).held-is),
-            ap one_if (sym (high g t i).held-is ∙ o),
-            not-one d,
+            ap one_if (sym (high g t i).held-is),
+            not-one upto.held,
           );
         })
 
--- ---- the k-th position of a value from s on has the number j among all of them
-pub record Numbered (w : List ℕ) (p s : ℕ) (v : Bool) (k j : ℕ) : Type 0 where
-  pub number_is : (g : ℕ) (t : Tree) → Index w p g t → j ≡ count (mem (inorder t)) v 0 s + k
+    -- the positions of the value above s, and its runs
+    abbrev pub Above : Bool → ℕ → ℕ → Type 0
+    Above v a j =
+        ((v ≡ true) × (a ≡ more) × (j ≡ upto.starts - under.starts + bool_byte under.held))
+        ⊎ ((v ≡ false) × (a ≡ e - s - more) × (j ≡ upto.starts - under.starts + bool_byte (not upto.held)))
 
-module _ {w : List ℕ} {p s k j : ℕ} {v : Bool} (fits : s < size) (number : Numbered w p s v k j) where
+    -- where s has the value, it is one position more
+    pub tally-more : {v : Bool} {a j : ℕ} {c : Count} → beq under.held v ≡ true → worth c ≡ a + 1 → Above v a j
+        → TellsTally w p s e v (record { count = c; runs = j })
+    tally-more {v} u x (inl (f, l, y)) = tally-held f (omega (arith, x, l, ap one_if (same under.held v u ∙ f))) y
+    tally-more {v} u x (inr (f, l, y)) = tally-free f (omega (arith, x, l, ap (λ b. one_if (not b)) (same under.held v u ∙ f))) y
+
+    -- where it has not, it is none
+    pub tally-same : {v : Bool} {a j : ℕ} {c : Count} → beq under.held v ≡ false → worth c ≡ a → Above v a j
+        → TellsTally w p s e v (record { count = c; runs = j })
+    tally-same {v} u x (inl (f, l, y)) = tally-held f (omega (arith, x, l, ap one_if (other under.held v u ∙ ap not f))) y
+    tally-same {v} u x (inr (f, l, y)) = tally-free f (omega (arith, x, l, ap (λ b. one_if (not b)) (other under.held v u ∙ ap not f))) y
+
+-- ---- before s lie m positions of a value, so the k-th from s on has the number m + k among all of them
+module _ {w : List ℕ} {p s m : ℕ} {v : Bool} (fits : s < size) (under : TellsUnder w p s v m) where
   -- those before s and those from s on
   whole : (P : Positions) → count P v 0 size ≡ count P v 0 s + count P v s (size - s)
   whole P = count_cut P v 0 size s s (size - s) (omega arith) (omega arith)
 
   -- there is such a position
-  pub chosen-there : Choosable w p s v k → Selectable w p v j
-  chosen-there (g, t, i, h) = (g, t, i, omega (arith, number.number_is g t i, whole (mem (inorder t))))
+  pub chosen-there : {k : ℕ} → Choosable w p s v k → Selectable w p v (m + k)
+  chosen-there {k} (g, t, i, h) = (g, t, i, omega (arith, under.count-is g t i, whole (mem (inorder t))))
 
   -- its number fits
-  pub chosen-fits : Choosable w p s v k → j < size
-  chosen-fits (g, t, i, h) = omega (arith, number.number_is g t i, whole (mem (inorder t)), count_most (mem (inorder t)) v 0 size)
+  pub chosen-fits : {k : ℕ} → Choosable w p s v k → m + k < size
+  chosen-fits {k} (g, t, i, h) = omega (arith, under.count-is g t i, whole (mem (inorder t)), count_most (mem (inorder t)) v 0 size)
 
   -- it is the one that is found
-  pub chosen-told : {x : ℕ} → TellsSelected w p v j x → TellsChosen w p s v k x
-  chosen-told {x} f = λ g t i.
+  pub chosen-told : (k : ℕ) {x : ℕ} → TellsSelected w p v (m + k) x → TellsChosen w p s v k x
+  chosen-told k {x} f = λ g t i.
       let P : Positions = mem (inorder t) in
       let a : s + (size - s) ≡ size = omega arith in
-      let b : j - count P v 0 s ≡ k = omega (arith, number.number_is g t i) in
+      let b : m + k - count P v 0 s ≡ k = omega (arith, under.count-is g t i) in
       let z : 0 + s ≡ s = omega arith in
-      sym (sym (f g t i) ∙ ap (λ n. select P v 0 n j) (sym a) ∙ select-second P v 0 s (size - s) j (omega (arith, number.number_is g t i))
+      sym (sym (f g t i) ∙ ap (λ n. select P v 0 n (m + k)) (sym a) ∙ select-second P v 0 s (size - s) (m + k) (omega (arith, under.count-is g t i))
       ∙ ap₂ (λ n i. select P v n (size - s) i) z b)
 
 -- before 0 there are none
-pub number-zero : {w : List ℕ} {p s k : ℕ} {v : Bool} → s ≡ 0 → Numbered w p s v k k
-number-zero {s = s} {k = k} {v = v} z = record { number_is = λ g t i. omega (arith, count_none (mem (inorder t)) v 0 s (λ x h l. absurd (omega arith))) }
+pub under-zero : {w : List ℕ} {p s : ℕ} {v : Bool} → (1 ≤ s → ⊥) → TellsUnder w p s v 0
+under-zero {s = s} {v = v} z = record { count-is = λ g t i. sym (count_none (mem (inorder t)) v 0 s (λ x h l. absurd (omega arith))) }
 
-module _ {w : List ℕ} {p s : ℕ} {under : Rank} (positive : s ≡ 0 → ⊥) (fits : s < size) (low : TellsRank w p (s - 1) under) where
+module _ {w : List ℕ} {p s y : ℕ} {under : Rank} (last : (1 ≤ s) × (y ≡ s - 1)) (fits : s < size) (low : TellsRank w p y under) where
   -- the rank of the position before s is not wrapped
-  ones-exact : {g : ℕ} {t : Tree} → Index w p g t → under.ones ≡ count (mem (inorder t)) true 0 s
-  ones-exact {g} {t} i =
-      let q : s - 1 + 1 ≡ s = omega (arith, positive) in
-      (low g t i).ones-are ∙ ap (λ x. count (mem (inorder t)) true 0 x % 2 ^ 64) q ∙ omega (arith, count-both (mem (inorder t)) 0 s)
+  ones-exact : TellsUnder w p s true under.ones
+  ones-exact = record {
+    count-is = λ g t i.
+        let q : y + 1 ≡ s = omega (arith, last.0, last.1) in
+        (low g t i).ones-are ∙ ap (λ x. count (mem (inorder t)) true 0 x % 2 ^ 64) q ∙ omega (arith, count-both (mem (inorder t)) 0 s);
+  }
 
   -- no more than there are positions
   pub ones-fit : {g : ℕ} {t : Tree} → Index w p g t → under.ones ≤ s
-  ones-fit {g} {t} i = omega (arith, ones-exact i, count-both (mem (inorder t)) 0 s)
+  ones-fit {g} {t} i = omega (arith, ones-exact.count-is g t i, count-both (mem (inorder t)) 0 s)
 
   -- the held ones before s
-  pub number-held : {v : Bool} {k : ℕ} → v ≡ true → Numbered w p s v k (under.ones + k)
-  number-held {k = k} f = record { number_is = λ g t i. ap (λ n. n + k) (ones-exact i) ∙ ap (λ b. count (mem (inorder t)) b 0 s + k) (sym f) }
+  pub under-held : {v : Bool} → v ≡ true → TellsUnder w p s v under.ones
+  under-held f = subst (λ b. TellsUnder w p s b under.ones) (sym f) ones-exact
 
   -- the others before s
-  pub number-free : {v : Bool} {k : ℕ} → v ≡ false → Numbered w p s v k (s - under.ones + k)
-  number-free {k = k} f = record {
-    number_is = λ g t i.
-        let e : s - under.ones ≡ count (mem (inorder t)) false 0 s = omega (arith, ones-exact i, count-both (mem (inorder t)) 0 s) in
-        ap (λ n. n + k) e ∙ ap (λ b. count (mem (inorder t)) b 0 s + k) (sym f);
-  }
+  pub under-free : {v : Bool} → v ≡ false → TellsUnder w p s v (s - under.ones)
+  under-free f =
+      subst (λ b. TellsUnder w p s b (s - under.ones)) (sym f)
+      (record { count-is = λ g t i. omega (arith, ones-exact.count-is g t i, count-both (mem (inorder t)) 0 s) })

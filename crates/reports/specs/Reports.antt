@@ -17,6 +17,10 @@ pub record Measured (P : Positions) (v : Bool) (a n : ℕ) (r : Tally) : Type 0 
 abbrev pub TellsTally : List ℕ → ℕ → ℕ → ℕ → Bool → Tally → Type 0
 TellsTally w p s e v r = (g : ℕ) (t : Tree) → Index w p g t → Measured (mem (inorder t)) v s (suc e - s) r
 
+-- how many positions of a value lie before s
+pub record TellsUnder (w : List ℕ) (p s : ℕ) (v : Bool) (r : ℕ) : Type 0 where
+  pub count-is : (g : ℕ) (t : Tree) → Index w p g t → r ≡ count (mem (inorder t)) v 0 s
+
 -- the k-th position of a value from s on, where there are more than k
 abbrev pub Choosable : List ℕ → ℕ → ℕ → Bool → ℕ → Type 0
 Choosable w p s v k = (g : ℕ) × (t : Tree) × Index w p g t × (k < count (mem (inorder t)) v s (size - s))

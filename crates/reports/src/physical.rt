@@ -2,24 +2,10 @@
 ghost use Rattle.std.specs.Prelude.{◌≡◌, ◌+◌, ◌≤◌};
 ghost use Rattle.model.specs.Numbers.{worth};
 ghost use Rattle.run_index.specs.Search.{Indexed};
-ghost use Rattle.reports.specs.Reports.{TellsTally, Choosable, TellsChosen, TellsNext, TellsPrevious, TellsStart};
+ghost use Rattle.reports.specs.Reports.{TellsTally, TellsUnder, Choosable, TellsChosen, TellsNext, TellsPrevious, TellsStart};
 
 use model::{Count, Tally};
 use store::places::Physical;
-
-// One more than x.
-fn past(x: u64) -> Count
-    ensures { worth result ≡ x + 1 }
-{
-    if x == u64::MAX {
-        Count { carry: 1, low: 0 }
-    } else {
-        Count {
-            carry: 0,
-            low: x + 1,
-        }
-    }
-}
 
 // The positions of the value from s to e, and its runs there. Runs of the two values alternate, so the values at both ends tell
 // how many runs of the other value there are.
@@ -28,58 +14,37 @@ pub fn tally_physical(words: &[u64], root: u64, s: Physical, e: Physical, value:
     requires s_le_e { s.0 ≤ e.0 }
     ensures { TellsTally words.now root s.0 e.0 value result }
 {
-    let first = s.0;
-    let last = e.0;
-    let under = run_index::search::rank_at(words, root, first);
-    let upto = run_index::search::rank_at(words, root, last);
+    let under = run_index::search::rank_at(words, root, s.0);
+    let upto = run_index::search::rank_at(words, root, e.0);
     // the held positions above s, and the runs that start there
-    let more = std::num::wrapping_sub_u64(upto.ones, under.ones);
+    let more = upto.ones.wrapping_sub(under.ones);
     let starts = upto.starts - under.starts;
-    if value {
-        if under.held {
-            return Tally {
-                count: past(more),
-                runs: starts + 1,
-            };
+    let (above, runs) = if value {
+        (more, starts + u64::from(under.held))
+    } else {
+        (e.0 - s.0 - more, starts + u64::from(!upto.held))
+    };
+    let count = if under.held == value {
+        model::width(0, above)
+    } else {
+        Count {
+            carry: 0,
+            low: above,
         }
-        return Tally {
-            count: Count {
-                carry: 0,
-                low: more,
-            },
-            runs: starts,
-        };
-    }
-    // the free positions above s
-    let free = last - first - more;
-    if under.held {
-        if upto.held {
-            return Tally {
-                count: Count {
-                    carry: 0,
-                    low: free,
-                },
-                runs: starts,
-            };
-        }
-        return Tally {
-            count: Count {
-                carry: 0,
-                low: free,
-            },
-            runs: starts + 1,
-        };
-    }
-    if upto.held {
-        return Tally {
-            count: past(free),
-            runs: starts,
-        };
-    }
-    Tally {
-        count: past(free),
-        runs: starts + 1,
-    }
+    };
+    Tally { count, runs }
+}
+
+// How many positions of the value lie before s.
+fn lying_before(words: &[u64], root: u64, s: Physical, value: bool) -> u64
+    requires { Indexed words.now root }
+    ensures { TellsUnder words.now root s.0 value result }
+{
+    let Some(y) = s.0.checked_sub(1) else {
+        return 0;
+    };
+    let held = run_index::search::rank_at(words, root, y).ones;
+    if value { held } else { s.0 - held }
 }
 
 // The k-th position of the value from s on, k counted from 0, where there are more than k.
@@ -87,15 +52,7 @@ pub fn select_physical(words: &[u64], root: u64, s: Physical, value: bool, k: u6
     requires { Choosable words.now root s.0 value k }
     ensures { TellsChosen words.now root s.0 value k result.0 }
 {
-    let first = s.0;
-    if first == 0 {
-        return Physical(run_index::search::select(words, root, value, k));
-    }
-    let under = run_index::search::rank_at(words, root, first - 1);
-    if value {
-        return Physical(run_index::search::select(words, root, value, under.ones + k));
-    }
-    Physical(run_index::search::select(words, root, value, first - under.ones + k))
+    Physical(run_index::search::select(words, root, value, lying_before(words, root, s, value) + k))
 }
 
 // The least position of the value at or after x.
@@ -104,30 +61,14 @@ pub fn next_physical(words: &[u64], root: u64, x: Physical, value: bool) -> Opti
     ensures { TellsNext words.now root x.0 value result }
 {
     let from = x.0;
-    let n = run_index::search::at_or_before(words, root, from);
-    match n {
-        Some(r) => {
-            let end = r.end;
-            if from <= end {
-                if value {
-                    return Some(from);
-                }
-                if end == u64::MAX {
-                    return None;
-                }
-                return Some(end + 1);
-            }
-            if value {
-                return next_start(words, root, from);
-            }
+    match run_index::search::at_or_before(words, root, from) {
+        Some(r) if from <= r.end => if value {
             Some(from)
-        }
-        None => {
-            if value {
-                return next_start(words, root, from);
-            }
-            Some(from)
-        }
+        } else {
+            r.end.checked_add(1)
+        },
+        _ if value => next_start(words, root, from),
+        _ => Some(from),
     }
 }
 
@@ -136,11 +77,7 @@ fn next_start(words: &[u64], root: u64, x: u64) -> Option<u64>
     requires { Indexed words.now root }
     ensures { TellsStart words.now root x result }
 {
-    let n = run_index::search::at_or_after(words, root, x);
-    match n {
-        Some(r) => Some(r.start),
-        None => None,
-    }
+    run_index::search::at_or_after(words, root, x).map(|r| r.start)
 }
 
 // The greatest position of the value at or before x.
@@ -149,30 +86,14 @@ pub fn previous_physical(words: &[u64], root: u64, x: Physical, value: bool) -> 
     ensures { TellsPrevious words.now root x.0 value result }
 {
     let from = x.0;
-    let n = run_index::search::at_or_before(words, root, from);
-    match n {
-        Some(r) => {
-            let start = r.start;
-            let end = r.end;
-            if from <= end {
-                if value {
-                    return Some(from);
-                }
-                if start == 0 {
-                    return None;
-                }
-                return Some(start - 1);
-            }
-            if value {
-                return Some(end);
-            }
+    match run_index::search::at_or_before(words, root, from) {
+        Some(r) if from <= r.end => if value {
             Some(from)
-        }
-        None => {
-            if value {
-                return None;
-            }
-            Some(from)
-        }
+        } else {
+            r.start.checked_sub(1)
+        },
+        Some(r) if value => Some(r.end),
+        None if value => None,
+        _ => Some(from),
     }
 }
