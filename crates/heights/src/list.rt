@@ -11,12 +11,10 @@ pub fn least_runs(h: u64) -> u64
 {
     let mut a: u64 = 0;
     let mut b: u64 = 1;
-    let mut i: u64 = 0;
-    while i < h {
+    for _ in 0..h {
         let c = a + b + 1;
         a = b;
         b = c;
-        i += 1;
     }
     a
 }
@@ -54,10 +52,8 @@ pub fn put_deepest(out: &mut [u64], h: u64, n: u64)
 {
     let a = least_runs(h - 1);
     let b = n - a - 1;
-    let mut d: u64 = 0;
     let mut at: usize = 0;
-    while d < h {
+    for d in 0..h {
         at = put_middles(out, at, d, h, 0, a, b);
-        d += 1;
     }
 }

@@ -4,8 +4,5 @@ use mathlib.Core.Path.{◌≡◌}
 use Rattle.model.specs.Deepest.{least}
 use Rattle.heights.proofs.list.least_runs.Given as goal
 
-abbrev pub invariant-loop-i : goal.invariant-loop-i
-invariant-loop-i l = (l.i ≤ l.h) × (l.a ≡ least l.i) × (l.b ≡ least (l.i + 1))
-
-abbrev pub decreases-loop-i : goal.decreases-loop-i
-decreases-loop-i l = l.h - l.i
+abbrev pub invariant-loop : goal.invariant-loop
+invariant-loop l = (l.counter ≤ l.h) × (l.a ≡ least l.counter) × (l.b ≡ least (l.counter + 1))

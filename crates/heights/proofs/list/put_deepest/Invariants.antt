@@ -5,6 +5,3 @@ use Rattle.heights.proofs.list.put_deepest.Given as goal
 
 abbrev pub invariant-loop-d : goal.invariant-loop-d
 invariant-loop-d l = (l.d ≤ l.h) × Filled l.h l.initial.out l.d l.at l.out
-
-abbrev pub decreases-loop-d : goal.decreases-loop-d
-decreases-loop-d l = l.h - l.d
