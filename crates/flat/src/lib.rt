@@ -70,7 +70,7 @@ fn after(found: u64, start: u64, end: u64, l: Listing) -> Reply
 
 // What a call gives, laid flat.
 pub trait Gift {
-    // It, as the model calls it. Of what was written the slices have the bytes, and no number tells of them.
+    // What the model says was given. Of bytes that were written it has none here: they lie in the slices of the caller.
     ghost given: { Self → Result };
 
     fn laid(self) -> Reply

@@ -21,7 +21,7 @@ pub struct Group {
 }
 
 impl Group {
-    // That of one entry.
+    // The group of one entry.
     pub fn alone(r: Run, place: u64) -> Group
         ensures { result ≡ record { start = r.start; «end» = r.«end»; place = place; sole = true } }
     {
@@ -40,7 +40,7 @@ impl Group {
         start <= self.end.saturating_add(1)
     }
 
-    // It with such an entry.
+    // The group when an entry that touches or overlaps it has joined.
     pub fn with(self, r: Run, place: u64) -> Group
         ensures { result ≡ record { start = self.start; «end» = max self.«end» r.«end»; place = min self.place place; sole = false } }
     {

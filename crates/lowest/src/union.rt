@@ -16,7 +16,7 @@ pub struct Union<L> {
 }
 
 impl<L: RunList + Copy> Union<L> {
-    // None yet.
+    // Of which no run is told yet.
     pub fn of(list: L) -> Union<L>
         ensures { (result.places.list ≡ list) × Joining (L.runs list) [] result }
     {

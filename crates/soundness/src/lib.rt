@@ -52,7 +52,7 @@ impl Bounds {
         self.low <= v.start && v.start <= v.end && v.end <= self.high
     }
 
-    // What a node leaves to its left side: the runs there end two below its own, or lower.
+    // What a node leaves to its left side: the runs there end two below its own, or lower. None if no position is that low.
     fn left_of(self, v: Node) -> Option<Bounds>
         ensures { SomeIff result (2 ≤ v.start) (record self { high = v.start - 2 }) }
     {
@@ -62,7 +62,7 @@ impl Bounds {
         })
     }
 
-    // What it leaves to its right side.
+    // What it leaves to its right side. None if no position is that high.
     fn right_of(self, v: Node) -> Option<Bounds>
         ensures { SomeIff result (v.«end» + 2 < 2 ^ 64) (record self { low = v.«end» + 2 }) }
     {
@@ -141,7 +141,7 @@ fn node_fits(v: Node, x: Node, y: Node, bounds: Bounds) -> bool
     words_fit(v, x, y, bounds) && heights_fit(v.height, x.height, y.height)
 }
 
-// Whether a node is a leaf of that tree: its height is 1, and it has no links.
+// Whether a node fits the bounds as a leaf: its height is 1, and it has no links.
 fn leaf_fits(v: Node, bounds: Bounds) -> bool
     ensures { result ≡ (v.height == 1 && leaf_b v bounds.tag bounds.low (bounds.high + 1)) }
 {

@@ -2,19 +2,20 @@
 -- are bytes in a row. What is strewn is compared with a list t that has the same bytes there: whatever agrees with t goes on agreeing, so no
 -- two places need be told apart. Assumes nothing.
 use Prim.Native.Nat.{ℕ, zero, suc, ◌+◌, ◌*◌, ◌≤◌, ◌<◌}
-use mathlib.Core.Path.{◌≡◌, refl, ap, ◌∙◌}
+use mathlib.Core.Path.{◌≡◌, refl, sym, ap, ◌∙◌}
 use mathlib.Core.Logic.{◌⊎◌, inl, inr}
 use mathlib.Core.List.{List, [], ◌∷◌, ◌++◌}
 use native.Mathlib.Nat.{suc-mul, zero-mul}
 use native.Mathlib.Numerals.{add-one}
 use native.Mathlib.Omega.{arith}
 use lib.ListN.{length, take, drop, set, get_or, length-set}
-use lib.Seq.{drop-cons, take-suc, take_all, length-take-le, get_or-set_same, get_or-set_other, set_out}
+use lib.Seq.{sets, drop-cons, take-suc, take_all, length-take-le, get_or-set_same, get_or-set_other, set_out}
 use mir.Syntax.{w64}
 use Rattle.std.specs.Int.{bytes_high_first, from_be_bytes}
 use Rattle.model.specs.Bytes.{big_endian, value_from, value_of}
 use Rattle.model.proofs.Numbers.{split}
-use Rattle.written.specs.Placed.{strewn, picked}
+use Rattle.written.specs.Placed.{placed, strewn, picked}
+use Rattle.written.proofs.Placing.{sets-placed}
 use Rattle.written.proofs.Digits.{high-first}
 
 -- the next place but k is the next but k + 1
@@ -37,6 +38,15 @@ pub strewn-append : (i step : ℕ) (bs cs out : List ℕ) → strewn (i + length
 unfolding strewn
 strewn-append i step [] cs out = rw (step-none i step)
 strewn-append i step (b ∷ bs) cs out = rw (step-more i (length bs) step) (strewn-append (i + step) step bs cs (set out i b))
+
+-- a step of 1 leaves bytes in a row
+sets-strewn : (i : ℕ) (bs out : List ℕ) → sets out i bs ≡ strewn i 1 bs out
+unfolding strewn
+sets-strewn i [] out = refl
+sets-strewn i (b ∷ bs) out = rw (add-one i) (sets-strewn (suc i) bs (set out i b))
+
+pub placed-strewn : (i : ℕ) (bs out : List ℕ) → i + length bs ≤ length out → placed i bs out ≡ strewn i 1 bs out
+placed-strewn i bs out h = sym (sets-placed bs out i h) ∙ sets-strewn i bs out
 
 -- no byte yet
 pub strewn_none : (i step : ℕ) (out : List ℕ) → out ≡ strewn i step [] out

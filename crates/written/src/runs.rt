@@ -59,7 +59,8 @@ pub struct Told<'a> {
 }
 
 impl<'a> Told<'a> {
-    // The run whose 16 bytes stand from `at` on, `step` apart. Inlined, as what it calls, so that a number in a row is one load.
+    // The run whose 16 bytes, those of its start and then those of its end, stand from `at` on, `step` apart. Inlined, as what it calls, so that
+    // a number whose bytes stand in a row is one load.
     #[inline(always)]
     fn run_from(self, at: usize, step: usize) -> Run
         requires { at + 15 * step < length self.bytes.now }
@@ -117,7 +118,7 @@ pub fn follows(last: Option<u64>, start: u64, end: u64) -> bool
     }
 }
 
-// Whether the runs of a list are in order. What is read of a list are words, and all are read where none is out of order.
+// Whether the runs of a list are in order. If they are, all of them were read, so all their ends are words.
 pub fn in_order<L: RunList + Copy>(runs: L) -> bool
     ensures value { result ≡ ordered_from 0 (L.runs runs) }
     ensures words { result ≡ true → AllWords (L.runs runs) }
