@@ -2,7 +2,7 @@
 -- positions in one stretch are all ones or all zeros, those of the positions after it lie above them, and a slice with j bytes of a map in
 -- front has j + n after the store of n more. Assumes nothing.
 use Rattle.std.proofs.Common.{◌≡◌, ℕ, zero, suc, ◌+◌, ◌-◌, ◌*◌, ◌/◌, ◌%◌, ◌^◌, ◌<◌, ◌≤◌, min, Bool, true, false, List, length, get_or, set, sym, refl, ap}
-use Rattle.std.proofs.Common.{◌∙◌, subst, ap₂, arith, length-set, pow_pos, shl_exact}
+use Rattle.std.proofs.Common.{◌∙◌, subst, ap₂, arith, pow_pos, shl_exact}
 use native.Mathlib.Nat.{pow-succ', pow-le-pow_right}
 use Rattle.model.specs.Numbers.{size}
 use Rattle.model.specs.Positions.{Positions, one_if}
@@ -192,9 +192,6 @@ module _ {w path : List ℕ} {u : View} {s : Source} {base n x left j : ℕ} {ou
   long : length out ≡ length out₀
   long = ap length i.front ∙ fronted-length (map_of Q base n) out₀ j (omega (arith, begun)) (omega (arith, begun, map_of-length Q base n))
 
-  pub writing-room : j < length out
-  writing-room = omega (arith, begun, long)
-
   -- and its positions
   pub writing-stood : (k : ℕ) → 1 ≤ k → k ≤ 8 → k ≤ left → Stood w path u s x k Q
   writing-stood k a b d = record {
@@ -249,6 +246,3 @@ module _ {w path : List ℕ} {u : View} {s : Source} {base n x left j : ℕ} {ou
       ((g Q (writing-stood left i.some m (omega arith))).bits_are ∙ (ap₂ (bits Q) i.place (omega (arith, i.rest)) ∙ sym (map_of-at Q base n j begun)))
       ∙ (fronted-suc (map_of Q base n) out₀ j (omega (arith, begun)) (omega (arith, begun, map_of-length Q base n))
       ∙ fronted-all (map_of Q base n) out₀ (suc j) (omega (arith, i.rest, i.some, map_of-length Q base n)))
-
-  pub writing-long : (b : ℕ) → length (set out j b) ≡ length out₀
-  writing-long b = length-set out j b ∙ long

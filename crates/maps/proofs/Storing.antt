@@ -1,7 +1,7 @@
 -- Bytes stored one after the other, and a slice with the first bytes of some in front: storing the next ones there makes it more,
 -- and zeros have no bit that is 1. Assumes nothing.
 use Rattle.std.proofs.Common.{replicate, sym, ◌≡◌, ℕ, zero, suc, ◌+◌, ◌/◌, ◌%◌, ◌^◌, ◌<◌, ◌≤◌, false, eqb, ◌⊎◌, List, ◌++◌, length, get_or, take, drop, set, refl}
-use Rattle.std.proofs.Common.{ap, ◌∙◌, ap₂, inl, inr, zero-add, add-one, arith, length-set}
+use Rattle.std.proofs.Common.{ap, ◌∙◌, ap₂, inl, inr, zero-add, arith, length-set}
 use native.Mathlib.Nat.{zero-div}
 use lib.ListN.{get_or-eq_default}
 use lib.Seq.{paste-suc, length-paste, take-length}
@@ -17,19 +17,6 @@ use Rattle.model.proofs.Maps.{map_of-length}
 use Rattle.maps.specs.Octets.{stores}
 
 -- ---- bytes stored from j on
-pub stores-none : (f : ℕ → ℕ) (j : ℕ) (out : List ℕ) → out ≡ stores f j 0 out
-unfolding stores
-stores-none f j out = refl
-
-pub stores-more : (f : ℕ → ℕ) (j n : ℕ) (out₀ : List ℕ) {out : List ℕ} → out ≡ stores f j n out₀ → set out (j + n) (f n) ≡ stores f j (n + 1) out₀
-unfolding stores
-stores-more f j n out₀ e = rw add-one (ap (λ (l : List ℕ). set l (j + n) (f n)) e)
-
-pub stores-all : (f : ℕ → ℕ) (j i n : ℕ) (out₀ : List ℕ) {out : List ℕ} → out ≡ stores f j i out₀ → i ≤ n → n ≤ i → out ≡ stores f j n out₀
-stores-all f j i n out₀ e h g =
-    let q : i ≡ n = omega arith in
-    e ∙ ap (λ (k : ℕ). stores f j k out₀) q
-
 pub stores-length : (f : ℕ → ℕ) (j n : ℕ) (out : List ℕ) → length (stores f j n out) ≡ length out
 unfolding stores
 stores-length f j zero out = refl

@@ -74,6 +74,7 @@ fn survey_map<const WIDE: bool>(words: &[u64], h: World, map: &Map) -> Survey
     let mut i: u64 = 0;
     let mut runs: u64 = 0;
     let mut changed: u64 = 0;
+    // a step is a stretch, as long as the map has it
     while i < map.span.n {
         let value = bit(map.bytes, i);
         let e = stretch::<WIDE>(map, i);
@@ -133,6 +134,7 @@ fn apply_map<const WIDE: bool>(words: &mut [u64], h: World, map: &Map) -> World
     }
     let mut at = changes::edit::apply_set(words, h, Logical(base), Logical(base + (n - 1)), false);
     let mut i: u64 = 0;
+    // a stretch a step
     while i < n {
         let e = stretch::<WIDE>(map, i);
         if bit(map.bytes, i) {
