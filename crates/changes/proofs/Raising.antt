@@ -9,11 +9,11 @@ use Rattle.model.specs.RunList.{Canon, EndBelow, StartFrom, TouchesNone, first_f
 use Rattle.model.proofs.RunList.{touch-within}
 use Rattle.model.proofs.Search.{canon-split, canon-starts, starts-weaken}
 use Rattle.model.proofs.Edit.{set_to, insert-skip, insert-put, insert-join}
-use Rattle.run_index.specs.Tree.{Tree, inorder}
+use Rattle.run_index.specs.Tree.{Tree, inorder, tree_from}
 use Rattle.run_index.specs.Order.{Before}
 use Rattle.run_index.specs.Search.{TellsAfter}
 use Rattle.store.specs.declared.Links.{Links}
-use Rattle.store.specs.Layout.{tree_from, highest}
+use Rattle.store.specs.Layout.{highest}
 use Rattle.store.specs.Soundness.{Share, Kept}
 use Rattle.store.specs.Free.{Becomes, Addable, Adds, Changeable, Changes}
 use Rattle.store.proofs.Reached.{kept-tree}

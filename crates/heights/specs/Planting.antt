@@ -4,9 +4,9 @@ use Rattle.std.specs.Prelude.{ℕ, ◌+◌, ◌*◌, ◌≤◌, ◌<◌, ◌≡�
 use Rattle.model.specs.declared.Run.{Run}
 use Rattle.model.specs.Numbers.{size}
 use Rattle.model.specs.Deepest.{least, deepest_runs}
-use Rattle.run_index.specs.Tree.{Tree, height, runs}
+use Rattle.run_index.specs.Tree.{Tree, height, runs, tree_from}
 use Rattle.store.specs.declared.World.{World}
-use Rattle.store.specs.Layout.{tree_from, highest}
+use Rattle.store.specs.Layout.{highest}
 use Rattle.store.specs.Soundness.{Share, Still, Limited}
 
 -- the first n pairs of the words are runs: a start, and an end that is not below it

@@ -9,12 +9,12 @@ use Rattle.model.specs.Numbers.{size}
 use Rattle.store.specs.Places.{physical_of}
 use Rattle.model.specs.Positions.{mem, empty, held_runs, stretches}
 use Rattle.model.proofs.Runs.{held_runs-is, stretches-is}
-use Rattle.run_index.specs.Tree.{leaf, δ, inorder}
+use Rattle.run_index.specs.Tree.{leaf, δ, inorder, tree_from}
 use Rattle.run_index.specs.Strung.{times}
 use Rattle.run_index.proofs.Trees.{δ-same, δ-other, leaf-at}
 use Rattle.store.specs.declared.World.{World}
 use Rattle.store.specs.declared.Links.{Links}
-use Rattle.store.specs.Layout.{tree_from, highest, physical_runs, turned, held_from}
+use Rattle.store.specs.Layout.{highest, physical_runs, turned, held_from}
 use Rattle.store.specs.Soundness.{first_of, last_of, Share, Kept, Standing}
 use Rattle.store.specs.Free.{after}
 

@@ -3,11 +3,11 @@ use Rattle.std.proofs.Common.{◌≡◌, ℕ, ◌<◌, List, sym, refl, ap, ◌�
 use Rattle.model.specs.Positions.{stretches, mem}
 use Rattle.model.specs.Deepest.{least}
 use Rattle.model.proofs.Runs.{stretches-is}
-use Rattle.run_index.specs.Tree.{height, runs, inorder}
+use Rattle.run_index.specs.Tree.{height, runs, inorder, tree_from}
 use Rattle.run_index.proofs.Totals.{runs-length}
 use Rattle.run_index.proofs.Least.{fewer-lower}
 use Rattle.store.specs.declared.World.{World}
-use Rattle.store.specs.Layout.{opened_at, tree_at, tree_from, highest, turned, held_in}
+use Rattle.store.specs.Layout.{opened_at, tree_at, highest, turned, held_in}
 use Rattle.store.specs.Soundness.{runs_at, Share, Standing, Sound}
 use Rattle.store.proofs.Sharing.{tree-planted}
 use Rattle.store.proofs.Reached.{kept-tree}

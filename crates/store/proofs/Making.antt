@@ -10,7 +10,7 @@ use Rattle.model.specs.Pools.{PlainWorld, claims, limits_at, limits_from, limits
 use Rattle.model.proofs.Numbers.{split}
 use Rattle.run_index.specs.declared.Node.{Node}
 use Rattle.run_index.specs.Cells.{cell_at, Room, Wrote}
-use Rattle.run_index.specs.Tree.{leaf, count, runs}
+use Rattle.run_index.specs.Tree.{leaf, count, runs, tree_from}
 use Rattle.run_index.specs.Strung.{times, free_cell, Free}
 use Rattle.run_index.proofs.Trees.{leaf-at, wrote_as}
 use Rattle.run_index.proofs.Strings.{strung-kept}
@@ -26,7 +26,6 @@ use Rattle.store.specs.Layout.{
   capacity_of,
   capacity,
   node_count,
-  tree_from,
   highest,
   held_from,
   held_by,

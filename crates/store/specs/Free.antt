@@ -9,11 +9,11 @@ use Rattle.model.specs.Pools.{PlainWorld, limits_at, limits_of, empty_worlds}
 use Rattle.model.specs.RunList.{Canon, TouchesNone}
 use Rattle.run_index.specs.declared.Node.{Node}
 use Rattle.run_index.specs.Cells.{cell_at}
-use Rattle.run_index.specs.Tree.{Tree, inorder}
+use Rattle.run_index.specs.Tree.{Tree, inorder, tree_from}
 use Rattle.run_index.specs.Shape.{inserted}
 use Rattle.run_index.specs.Order.{insert_run, remove_run, replace_run, Starts, Has}
 use Rattle.store.specs.declared.Links.{Links}
-use Rattle.store.specs.Layout.{record_at, capacity, worlds_of, tree_from, highest}
+use Rattle.store.specs.Layout.{record_at, capacity, worlds_of, highest}
 use Rattle.store.specs.Soundness.{Chain, Share, Still, Kept, Sound}
 
 -- the numbers n + 1 .. n + k

@@ -8,7 +8,7 @@ use Rattle.model.specs.Pools
 use Rattle.model.specs.Pools.{PlainWorld}
 use Rattle.run_index.specs.declared.Node.{Node}
 use Rattle.run_index.specs.Cells.{cell_at}
-use Rattle.run_index.specs.Tree.{Tree, leaf, node, inorder}
+use Rattle.run_index.specs.Tree.{Tree, inorder, tree_from}
 use Rattle.store.specs.Places.{physical_of}
 use Rattle.store.specs.declared.World.{World}
 use Rattle.store.specs.declared.Links.{Links}
@@ -87,13 +87,6 @@ capacity w = capacity_of (length w)
 -- how many nodes there are
 abbrev pub node_count : List ℕ → ℕ
 node_count w = capacity w + 32
-
--- the tree of the nodes reached from the link k; d bounds how deep links go
-unfoldable pub tree_from : ℕ → List ℕ → ℕ → Tree
-tree_from zero w k = leaf
-tree_from (suc d) w zero = leaf
-tree_from (suc d) w (suc k) =
-    node (suc k) (cell_at w (suc k)).start (cell_at w (suc k)).«end» (tree_from d w (cell_at w (suc k)).left) (tree_from d w (cell_at w (suc k)).right)
 
 -- the greatest height of a tree: higher ones have more nodes than a pool
 abbrev pub highest : ℕ

@@ -3,10 +3,10 @@
 use Rattle.run_index.proofs.Heap.{height_at}
 use Rattle.run_index.proofs.Walking.{Walk}
 use Rattle.run_index.proofs.Searching.{Gapping}
-use Rattle.run_index.proofs.search.select_zero.Given as goal
+use Rattle.run_index.proofs.search.Runs.select_zero.Given as goal
 
 abbrev pub invariant-loop-q : goal.invariant-loop-q
-invariant-loop-q l = Walk l.s l.p l.q (Gapping l.k l.low l.left)
+invariant-loop-q l = Walk l.s l.q (Gapping l.k l.low l.left) l.self
 
 abbrev pub decreases-loop-q : goal.decreases-loop-q
 decreases-loop-q l = height_at l.s l.q

@@ -4,10 +4,10 @@
 use Rattle.run_index.proofs.Heap.{height_at}
 use Rattle.run_index.proofs.Walking.{Walk}
 use Rattle.run_index.proofs.Searching.{Ranking}
-use Rattle.run_index.proofs.search.rank_at.Given as goal
+use Rattle.run_index.proofs.search.Runs.rank_at.Given as goal
 
 abbrev pub invariant-loop-q : goal.invariant-loop-q
-invariant-loop-q l = Walk l.s l.p l.q (Ranking l.s l.y l.best l.ones l.starts)
+invariant-loop-q l = Walk l.s l.q (Ranking l.s l.y l.best l.ones l.starts) l.self
 
 abbrev pub decreases-loop-q : goal.decreases-loop-q
 decreases-loop-q l = height_at l.s l.q
