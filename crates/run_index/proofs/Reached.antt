@@ -37,6 +37,6 @@ height-runs leaf = omega arith
 height-runs (node n a b l r) = omega (arith, height-runs l, height-runs r)
 
 -- the runs in order of an index are those that its root leads to
-pub index-runs : {w : List ℕ} {p g : ℕ} {t : Tree} → Index w p g t → inorder t ≡ runs_from w p
+pub index-runs : {w : List ℕ} {p g : ℕ} {t : Tree} → Index w p g t → runs_from w p ≡ inorder t
 unfolding runs_from
-index-runs {w} {p} {g} {t} i = ap inorder (sym (from-tree w g t (2 ^ 62) p i.at (omega (arith, height-runs t, i.few))))
+index-runs {w} {p} {g} {t} i = ap inorder (from-tree w g t (2 ^ 62) p i.at (omega (arith, height-runs t, i.few)))

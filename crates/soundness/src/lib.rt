@@ -282,8 +282,12 @@ fn world_fits(words: &[u64], h: World) -> bool
     if v.height > Store::MAX_HEIGHT || !tree_fits(words, h.root, h.tag, 0, u64::MAX) {
         return false;
     }
-    let first = store::bounds::first_held(words, h.root, h.offset);
-    let last = store::bounds::last_held(words, h.root, h.offset);
+    let runs = Runs {
+        nodes: words,
+        root: h.root,
+    };
+    let first = store::bounds::first_held(&runs, h.offset);
+    let last = store::bounds::last_held(&runs, h.offset);
     h.ones == v.ones
         && h.runs == v.runs
         && h.first == first.0
@@ -334,7 +338,11 @@ fn place_at(words: &[u64], k: u64) -> Option<Place>
     if !world_fits(&words[128..], h) || floor > ceiling {
         return None;
     }
-    let n = store::bounds::logical_runs(&words[128..], h.root, h.offset, h.runs);
+    let runs = Runs {
+        nodes: &words[128..],
+        root: h.root,
+    };
+    let n = store::bounds::logical_runs(&runs, h.offset, h.runs);
     if n > ceiling {
         return None;
     }

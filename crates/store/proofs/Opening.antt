@@ -8,16 +8,15 @@ use Rattle.model.specs.Positions.{Positions, stretches, mem}
 use Rattle.model.specs.RunList.{Canon}
 use Rattle.model.proofs.RunList.{mem-in}
 use Rattle.run_index.specs.Tree.{runs, inorder}
-use Rattle.run_index.specs.Search.{Index, Indexed}
+use Rattle.run_index.specs.Search.{Index, Indexed, runs_from}
 use Rattle.run_index.proofs.Totals.{runs-length}
 use Rattle.store.specs.declared.World.{World}
 use Rattle.store.specs.Layout.{turned, held_in}
 use Rattle.store.specs.Soundness.{Share, Standing}
-use Rattle.store.specs.Bounds.{RunsCounted, TellsRuns}
 use Rattle.store.proofs.Turn.{turned-at, turned-logical}
 use Rattle.store.proofs.Ends.{empty-mem}
 use Rattle.store.proofs.Nodes.{kept-index}
-use Rattle.store.proofs.Reached.{kept-held}
+use Rattle.store.proofs.Reached.{kept-held, kept-runs, kept-seen}
 
 -- no runs hold nothing
 none-hold : (rs : List Run) → length rs ≡ 0 → (x : ℕ) → mem rs x ≡ false
@@ -47,12 +46,12 @@ module _ {w : List ℕ} {s : Share} {h : World} (st : Standing w s h) where
   standing-held = kept-held st.kept h.offset
 
   -- as the count of logical runs asks it
-  pub standing-counted : RunsCounted w h.root h.runs
-  standing-counted = (s.tag, st.tree, standing-index, st.runs-are)
+  pub standing-counted : h.runs ≡ length (runs_from w h.root)
+  standing-counted = st.runs-are ∙ runs-length st.tree ∙ ap length (sym (kept-runs st.kept))
 
   -- and what that count tells
-  pub logical-told : {r : ℕ} → TellsRuns w h.root h.offset r → r ≡ stretches (held_in w h)
-  logical-told t = t s.tag st.tree standing-index ∙ ap stretches (sym standing-held)
+  pub logical-told : {r : ℕ} → r ≡ stretches (turned h.offset (mem (runs_from w h.root))) → r ≡ stretches (held_in w h)
+  logical-told e = e ∙ ap stretches (kept-seen st.kept h.offset)
 
   -- without runs it holds nothing
   pub standing-none : runs st.tree ≡ 0 → (x : ℕ) → x < size → held_in w h x ≡ false

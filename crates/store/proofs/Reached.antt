@@ -1,18 +1,16 @@
 -- The tree reached from a root is the tree that is there: a tree of so few nodes is at most 22 high, and that deep links are followed.
 -- Assumes nothing.
-use Rattle.std.proofs.Common.{◌≡◌, ℕ, zero, suc, ◌-◌, ◌≤◌, List, sym, refl, ap, ◌∙◌, arith}
+use Rattle.std.proofs.Common.{◌≡◌, ℕ, ◌≤◌, List, sym, ap, ◌∙◌, arith}
 use Rattle.model.specs.declared.Run.{Run}
 use Rattle.model.specs.Positions.{mem}
-use Rattle.run_index.specs.declared.Node.{Node}
-use Rattle.run_index.specs.Cells.{cell_at}
-use Rattle.run_index.specs.Tree.{Tree, leaf, node, link, height, inorder, cell, At, tree_from}
-use Rattle.run_index.proofs.Trees.{rep_pos, rep-cell, rep-left, rep-right}
+use Rattle.run_index.specs.Tree.{Tree, height, inorder, At, tree_from}
 use Rattle.run_index.proofs.Least.{height_bound}
-use Rattle.run_index.proofs.Reached.{from-tree}
+use Rattle.run_index.specs.Search.{runs_from}
+use Rattle.run_index.proofs.Reached.{from-tree, index-runs}
 use Rattle.store.specs.declared.Links.{Links}
 use Rattle.store.specs.Layout.{highest, physical_runs, turned, held_from}
 use Rattle.store.specs.Soundness.{Share, Kept}
-use Rattle.store.proofs.Nodes.{tree-few}
+use Rattle.store.proofs.Nodes.{tree-few, kept-index}
 
 -- of any tree that is low enough
 pub tree-reached : {w : List ℕ} {g p : ℕ} {t : Tree} → At w g p t → height t ≤ highest → tree_from highest w p ≡ t
@@ -36,6 +34,10 @@ module _ {w : List ℕ} {s : Share} {x : Links} {t : Tree} {ns : List ℕ} (k : 
   pub kept-physical : physical_runs w x.root ≡ inorder t
   kept-physical = tree-physical k.linked kept_low
 
+  -- and those that a search sees
+  pub kept-runs : runs_from w x.root ≡ inorder t
+  kept-runs = index-runs (kept-index k)
+
   -- so it is what is reached from its root
   pub kept-tree : tree_from highest w x.root ≡ t
   kept-tree = tree-reached k.linked kept_low
@@ -43,3 +45,7 @@ module _ {w : List ℕ} {s : Share} {x : Links} {t : Tree} {ns : List ℕ} (k : 
   -- and what is held from its root
   pub kept-held : (o : ℕ) → held_from w x.root o ≡ turned o (mem (inorder t))
   kept-held o = tree-held o k.linked kept_low
+
+  -- which a search sees, turned by the offset
+  pub kept-seen : (o : ℕ) → turned o (mem (runs_from w x.root)) ≡ held_from w x.root o
+  kept-seen o = ap (λ (rs : List Run). turned o (mem rs)) kept-runs ∙ sym (kept-held o)

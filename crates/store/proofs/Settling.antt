@@ -10,7 +10,7 @@ use Rattle.run_index.specs.declared.Node.{Node}
 use Rattle.run_index.specs.declared.chains.Grown.{Grown}
 use Rattle.run_index.specs.Cells.{cell_at, Room}
 use Rattle.run_index.specs.Tree.{Tree, leaf, runs, ones, count, inorder, At, Sums}
-use Rattle.run_index.specs.Search.{Indexed}
+use Rattle.run_index.specs.Search.{Indexed, runs_from}
 use Rattle.run_index.specs.Strung.{times, Free, Upright, Supply, Filled, Grew, Grows}
 use Rattle.run_index.proofs.Trees.{at_none, room_at, sums-node}
 use Rattle.run_index.proofs.Balance.{halved-balanced}
@@ -20,11 +20,10 @@ use Rattle.store.specs.declared.World.{World}
 use Rattle.store.specs.declared.Links.{Links}
 use Rattle.store.specs.Layout.{links_of, turned, held_from, held_in}
 use Rattle.store.specs.Soundness.{Chain, first_of, last_of, Share, Still, Kept, Limited}
-use Rattle.store.specs.Bounds.{TellsFirst, TellsLast}
 use Rattle.store.proofs.Turn.{turned_zero}
 use Rattle.store.specs.Settle.{Shows, Became, Refreshes, Rooted, Strewn, LinksUp}
 use Rattle.store.proofs.Nodes.{node-once, kept-index, kept-still}
-use Rattle.store.proofs.Reached.{kept-held}
+use Rattle.store.proofs.Reached.{kept-held, kept-seen}
 use Rattle.store.proofs.Emptying.{vacant_world, vacant-standing, rootless-empty}
 
 -- ---- refreshing
@@ -75,11 +74,13 @@ module _ {w : List ℕ} {x : Links} where
   kept-indexed {s} {t} k = (s.tag, t, kept-index k)
 
   -- what the searches tell of the positions held
-  pub first-told : {s : Share} {t : Tree} {ns : List ℕ} {r : ℕ} (o : ℕ) → Kept w s x t ns → TellsFirst w x.root o r → r ≡ first_of (held_runs (held_from w x.root o))
-  first-told {s} {t} o k f = f s.tag t (kept-index k) ∙ ap (λ (P : Positions). first_of (held_runs P)) (sym (kept-held k o))
+  pub first-told : {s : Share} {t : Tree} {ns : List ℕ} {r : ℕ} (o : ℕ) → Kept w s x t ns → r ≡ first_of (held_runs (turned o (mem (runs_from w x.root))))
+      → r ≡ first_of (held_runs (held_from w x.root o))
+  first-told o k e = e ∙ ap (λ (P : Positions). first_of (held_runs P)) (kept-seen k o)
 
-  pub last-told : {s : Share} {t : Tree} {ns : List ℕ} {r : ℕ} (o : ℕ) → Kept w s x t ns → TellsLast w x.root o r → r ≡ last_of (held_runs (held_from w x.root o))
-  last-told {s} {t} o k f = f s.tag t (kept-index k) ∙ ap (λ (P : Positions). last_of (held_runs P)) (sym (kept-held k o))
+  pub last-told : {s : Share} {t : Tree} {ns : List ℕ} {r : ℕ} (o : ℕ) → Kept w s x t ns → r ≡ last_of (held_runs (turned o (mem (runs_from w x.root))))
+      → r ≡ last_of (held_runs (held_from w x.root o))
+  last-told o k e = e ∙ ap (λ (P : Positions). last_of (held_runs P)) (kept-seen k o)
 
   -- the world that the root's node v and the first and last position tell
   pub refresh-told : {o a b : ℕ} {v : Node} → (x.root ≡ 0 → ⊥) → v ≡ cell_at w x.root → a ≡ first_of (held_runs (held_from w x.root o))

@@ -3,6 +3,7 @@
 -- What a world claims is told by the count of its logical runs, and its allowance by the claims of the others, one by one. Assumes nothing.
 use Rattle.std.proofs.Common.{◌≡◌, ℕ, zero, suc, ◌+◌, ◌-◌, ◌*◌, ◌<◌, ◌≤◌, min, max, Bool, true, false, ◌&&◌, List, length, sym, refl, ap, ◌∙◌, subst, ap₂, arith}
 use native.Mathlib.Decide.{ℕ_discrete}
+use Rattle.model.specs.declared.Run.{Run}
 use Rattle.model.specs.Numbers.{size}
 use Rattle.model.specs.Positions.{Positions, one_if, stretches, mem}
 use Rattle.model.specs.RunList.{Canon}
@@ -12,13 +13,14 @@ use Rattle.model.proofs.Runs.{stretches-is}
 use Rattle.run_index.specs.declared.Node.{Node}
 use Rattle.run_index.specs.Cells.{cell_at, Room}
 use Rattle.run_index.specs.Tree.{Tree, runs, count, inorder}
+use Rattle.run_index.specs.Search.{Indexed, runs_from}
 use Rattle.run_index.proofs.Totals.{runs-length}
+use Rattle.run_index.proofs.Reached.{index-runs}
 use Rattle.store.specs.declared.World.{World}
 use Rattle.store.specs.Places.{physical_of}
 use Rattle.store.specs.Layout.{opened_at, world_at, ceiling_at, nodes, capacity, turned, held_by, tree_at, plain_at, worlds_of, allowance}
 use Rattle.store.specs.Soundness.{Standing, sum_to, without, runs_at, count_at, share_of, Planted, Sound}
 use Rattle.store.specs.Settle.{Openable, Opened}
-use Rattle.store.specs.Bounds.{RunsCounted, TellsRuns}
 use Rattle.store.proofs.Sums.{sum_more, sum-nothing, sum-most, sum_both, without-here, without-there, sum-split}
 use Rattle.store.proofs.WorldLists.{opened-world, claims-all, claims-others}
 use Rattle.store.proofs.Parts.{lent, lent-nodes, of-nodes, nodes-length}
@@ -49,21 +51,29 @@ module _ (w : List ℕ) (k : ℕ) (P : Planted (nodes w) (world_at w k)) where
   unfolding held_by
   met-held = tree-held (world_at w k).offset met.tree.at met.tree.low
 
-  -- as the count of logical runs asks it of the part that is lent, for the world h that was read
-  pub planted-counted : (h : World) → h ≡ world_at w k → RunsCounted (lent w) h.root h.runs
+  -- it can be searched in the part that is lent, for the world h that was read
+  pub planted-indexed : (h : World) → h ≡ world_at w k → Indexed (lent w) h.root
+  planted-indexed h e =
+      of-nodes (λ (v : List ℕ). Indexed v h.root) w
+      (subst (λ (z : World). Indexed (nodes w) z.root) (sym e) (k, met.tree.t, hangs-index met.tree))
+
+  -- and as the count of logical runs asks it
+  pub planted-counted : (h : World) → h ≡ world_at w k → h.runs ≡ length (runs_from (lent w) h.root)
   planted-counted h e =
-      of-nodes (λ (v : List ℕ). RunsCounted v h.root h.runs) w
-      (subst (λ (z : World). RunsCounted (nodes w) z.root z.runs) (sym e) (k, met.tree.t, hangs-index met.tree, met.runs-are))
+      of-nodes (λ (v : List ℕ). h.runs ≡ length (runs_from v h.root)) w
+      (subst (λ (z : World). z.runs ≡ length (runs_from (nodes w) z.root)) (sym e)
+      (met.runs-are ∙ runs-length met.tree.t ∙ ap length (sym (index-runs (hangs-index met.tree)))))
 
   -- what that count tells
-  runs-told : (h : World) (n : ℕ) → h ≡ world_at w k → TellsRuns (lent w) h.root h.offset n → n ≡ stretches (held_by w k)
+  runs-told : (h : World) (n : ℕ) → h ≡ world_at w k → n ≡ stretches (turned h.offset (mem (runs_from (lent w) h.root))) → n ≡ stretches (held_by w k)
   runs-told h n e t =
-      let told = subst (λ (z : World). TellsRuns (lent w) z.root z.offset n) e t in
-      subst (λ (v : List ℕ). TellsRuns v (world_at w k).root (world_at w k).offset n) (lent-nodes w) told k met.tree.t (hangs-index met.tree)
-      ∙ ap stretches (sym met-held)
+      let told = subst (λ (z : World). n ≡ stretches (turned z.offset (mem (runs_from (lent w) z.root)))) e t in
+      subst (λ (v : List ℕ). n ≡ stretches (turned (world_at w k).offset (mem (runs_from v (world_at w k).root)))) (lent-nodes w) told
+      ∙ ap (λ (rs : List Run). stretches (turned (world_at w k).offset (mem rs))) (index-runs (hangs-index met.tree)) ∙ ap stretches (sym met-held)
 
   -- the larger of it and the floor is what the world claims
-  pub claim-told : (h : World) (v : Node) (n : ℕ) → h ≡ world_at w k → v ≡ cell_at w (k + 1) → TellsRuns (lent w) h.root h.offset n → max n v.ones ≡ claim (plain_at w k)
+  pub claim-told : (h : World) (v : Node) (n : ℕ) → h ≡ world_at w k → v ≡ cell_at w (k + 1) → n ≡ stretches (turned h.offset (mem (runs_from (lent w) h.root)))
+      → max n v.ones ≡ claim (plain_at w k)
   claim-told h v n e ev t = ap₂ (λ i (z : Node). max i z.ones) (runs-told h n e t) ev
 
 -- ---- runs of a tree, and logical runs

@@ -11,6 +11,7 @@ ghost use Rattle.store.specs.Soundness.{Planted, Sound};
 ghost use Rattle.store.specs.Settle.{Openable, Opened, Closable, Closes};
 
 use run_index::Node;
+use run_index::search::Runs;
 
 pub mod bounds;
 pub mod free;
@@ -138,7 +139,11 @@ fn claim(words: &[u64], k: u64) -> u64
 {
     let h = read_world(words, k);
     let v = run_index::read_node(words, k + 1);
-    let n = bounds::logical_runs(&words[128..], h.root, h.offset, h.runs);
+    let runs = Runs {
+        nodes: &words[128..],
+        root: h.root,
+    };
+    let n = bounds::logical_runs(&runs, h.offset, h.runs);
     n.max(v.ones)
 }
 

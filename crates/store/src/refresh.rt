@@ -8,6 +8,7 @@ ghost use Rattle.store.specs.Settle.{Refreshes, Rooted, Resettable, ResettableFr
 
 use crate::{Links, World};
 use model::Logical;
+use run_index::search::Runs;
 
 // A world that holds nothing.
 fn vacant(x: Links) -> World
@@ -30,8 +31,9 @@ pub fn refresh(words: &[u64], x: Links, offset: u64) -> World
         return vacant(x);
     }
     let v = run_index::read_node(words, root);
-    let first = crate::bounds::first_held(words, root, offset);
-    let last = crate::bounds::last_held(words, root, offset);
+    let runs = Runs { nodes: words, root };
+    let first = crate::bounds::first_held(&runs, offset);
+    let last = crate::bounds::last_held(&runs, offset);
     World {
         tag: x.tag,
         root,
@@ -60,7 +62,11 @@ fn first_after(words: &[u64], x: Links, h: World, a: Logical, value: bool) -> u6
     if first < at {
         return first;
     }
-    crate::bounds::first_held(words, x.root, h.offset).0
+    let runs = Runs {
+        nodes: words,
+        root: x.root,
+    };
+    crate::bounds::first_held(&runs, h.offset).0
 }
 
 // The last one.
@@ -79,7 +85,11 @@ fn last_after(words: &[u64], x: Links, h: World, b: Logical, value: bool) -> u64
     if at < last {
         return last;
     }
-    crate::bounds::last_held(words, x.root, h.offset).0
+    let runs = Runs {
+        nodes: words,
+        root: x.root,
+    };
+    crate::bounds::last_held(&runs, h.offset).0
 }
 
 // Does what `refresh` does where the tree of the world h got only the value of a..=b since it agreed: then the first and the last position

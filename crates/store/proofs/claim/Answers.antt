@@ -2,13 +2,17 @@
 use Rattle.std.proofs.Common.{◌∙◌}
 use Rattle.store.specs.Layout.{world_at, nodes}
 use Rattle.store.specs.Soundness.{Planted}
-use Rattle.store.proofs.Worlds.{planted-counted, claim-told}
+use Rattle.store.proofs.Worlds.{planted-indexed, planted-counted, claim-told}
 use Rattle.store.proofs.claim.Goals as goal
 use Rattle.store.proofs.claim.Goals.{Start}
 
 -- the world's tree
 planted : (c : Start) → Planted (nodes c.args.words.now) (world_at c.args.words.now c.args.k)
 planted c = c.requires.planted
+
+pub invariant_of-runs : goal.invariant_of-runs
+invariant_of-runs c =
+    planted-indexed c.args.words.now c.args.k (planted (goal.at.invariant_of-runs c).Start) c.read_world-h.result c.read_world-h.ensures
 
 pub logical_runs-n-requires : goal.logical_runs-n-requires
 logical_runs-n-requires c =

@@ -16,5 +16,5 @@ returns c =
     answered (seen c.requires) c.read_node-v.result.runs c.at_or_before-before.result c.at_or_after-after.result
     c.rank_at-rank.result c.prefix-tally.result c.select-one.result c.select-zero.result
     (root-runs c.requires c.read_node-v.result c.read_node-v.ensures)
-    c.at_or_before-before.ensures c.at_or_after-after.ensures c.rank_at-rank.ensures
+    c.at_or_before-before.ensures.found c.at_or_after-after.ensures.found c.rank_at-rank.ensures.ranked
     c.prefix-tally.ensures c.select-one.ensures c.select-zero.ensures

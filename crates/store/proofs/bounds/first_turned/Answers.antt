@@ -1,26 +1,27 @@
 -- `first_turned` meets its contract: the place of logical 0, else the first run after it, else the first run of all.
 -- Assumes nothing.
-use Rattle.std.proofs.Common.{sym, ◌∙◌, arith, rules}
-use Rattle.run_index.specs.Tree.{inorder}
-use Rattle.store.proofs.Nearby.{first-zero, either-first, neither-first}
+use Rattle.std.proofs.Common.{sym, ◌∙◌, arith}
+use Rattle.store.proofs.Nearby.{first-zero, first-after, first-wrapped, first-none}
 use Rattle.store.proofs.bounds.first_turned.Goals as goal
 
 pub returns-then-get_physical : goal.returns-then-get_physical
 returns-then-get_physical c =
-    λ g t i.
-    first-zero (inorder t) i.canonical c.args.offset (omega arith) c.to_physical-zero.result.0 c.to_physical-zero.ensures
-    (sym (c.get_physical.ensures g t i) ∙ c.if-get_physical.true)
+    first-zero c.args.runs.now c.get_physical.ensures.in_order c.args.offset (omega arith) c.to_physical-zero.result.0 c.to_physical-zero.ensures
+    (sym c.get_physical.ensures.held ∙ c.if-get_physical.true)
 
 pub returns-in-Some : goal.returns-in-Some
 returns-in-Some c =
-    λ g t i.
-    c.to_logical.ensures ∙ either-first (inorder t) i.canonical c.args.offset (omega arith) c.to_physical-zero.result.0 c.to_physical-zero.ensures
-    (sym (c.get_physical.ensures g t i) ∙ c.if-get_physical.false) (c.at_or_after-next.ensures g t i) c.or_else.ensures
-    (λ n. search rules) c.in-Some.is
+    c.to_logical.ensures
+    ∙ first-after c.args.runs.now c.get_physical.ensures.in_order c.args.offset (omega arith) c.to_physical-zero.result.0 c.in-Some.r c.to_physical-zero.ensures
+    (sym c.get_physical.ensures.held ∙ c.if-get_physical.false) (sym c.in-Some.is ∙ c.at_or_after.ensures.found)
+
+pub returns-in-Some-at_or_after : goal.returns-in-Some-at_or_after
+returns-in-Some-at_or_after c =
+    c.to_logical-in-Some-at_or_after.ensures
+    ∙ first-wrapped c.args.runs.now c.get_physical.ensures.in_order c.args.offset (omega arith) c.to_physical-zero.result.0 c.in-Some-at_or_after.r
+    c.to_physical-zero.ensures (sym c.get_physical.ensures.held ∙ c.if-get_physical.false) (sym c.in_default.is ∙ c.at_or_after.ensures.found)
+    (sym c.in-Some-at_or_after.is ∙ c.at_or_after-2.ensures.found)
 
 pub returns-in-None : goal.returns-in-None
 returns-in-None c =
-    λ g t i.
-    neither-first (inorder t) i.canonical c.args.offset (omega arith) c.to_physical-zero.result.0 c.to_physical-zero.ensures
-    (sym (c.get_physical.ensures g t i) ∙ c.if-get_physical.false) (c.at_or_after-next.ensures g t i) c.or_else.ensures
-    (λ n. search rules) c.in-None.is
+    first-none c.args.runs.now c.get_physical.ensures.in_order c.args.offset (omega arith) (sym c.in-None.is ∙ c.at_or_after-2.ensures.found)

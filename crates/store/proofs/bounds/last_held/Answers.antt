@@ -1,11 +1,9 @@
 -- `last_held` meets its contract: the last run of all tells it where nothing is turned. Assumes nothing.
 use Rattle.std.proofs.Common.{arith, rules}
-use Rattle.run_index.specs.Tree.{inorder}
 use Rattle.store.proofs.Nearby.{told-last}
 use Rattle.store.proofs.bounds.last_held.Goals as goal
 
 pub returns : goal.returns
 returns c =
-    λ g t i.
-    told-last (inorder t) i.canonical c.args.offset (omega arith) (omega (arith, c.if-offset-ne0.false))
-    (c.at_or_before.ensures g t i) c.map_or.ensures (λ r h. search rules)
+    told-last c.args.runs.now c.at_or_before.ensures.in_order c.args.offset (omega arith) (omega (arith, c.if-offset-ne0.false))
+    c.at_or_before.ensures.found c.map_or.ensures (λ r h. search rules)

@@ -1,35 +1,29 @@
 -- `last_turned` meets its contract: the last run that starts at or before the place of logical M holds it, or ends before it; where there is
 -- none, the last run of all is what there is. Assumes nothing.
-use Rattle.std.proofs.Common.{◌≡◌, sym, ◌∙◌, arith, rules, tests}
-use Rattle.model.specs.Positions.{mem}
-use Rattle.run_index.specs.Tree.{Tree, inorder}
-use Rattle.run_index.specs.Search.{Index}
-use Rattle.store.proofs.Nearby.{last-top, told-held, either-last, neither-last}
+use Rattle.std.proofs.Common.{sym, ap, ◌∙◌, arith, le-leb}
+use Rattle.model.specs.Numbers.{size}
+use Rattle.model.proofs.Search.{reaches, mem-last}
+use Rattle.store.proofs.Nearby.{last-top, last-before, last-wrapped, last_none}
 use Rattle.store.proofs.bounds.last_turned.Goals as goal
-use Rattle.store.proofs.bounds.last_turned.Goals.{After-is_some_and}
 
--- whether the place of logical M is held
-top-held : (c : After-is_some_and) {g : _} {t : Tree} → Index c.args.words.now c.args.root g t → c.is_some_and.result ≡ mem (inorder t) c.to_physical-top.result.0
-top-held c {g} {t} i =
-    told-held (inorder t) i.canonical 0 (omega arith) c.to_physical-top.result.0 (c.at_or_before-next.ensures g t i) c.is_some_and.ensures
-    (λ r h. search (rules, tests))
-
-pub returns-then-is_some_and : goal.returns-then-is_some_and
-returns-then-is_some_and c =
-    λ g t i.
-    last-top (inorder t) i.canonical c.args.offset (omega arith) c.to_physical-top.result.0 c.to_physical-top.ensures
-    (sym (top-held (goal.at.returns-then-is_some_and c).After-is_some_and i) ∙ c.if-is_some_and.true)
+pub returns-then-top-r : goal.returns-then-top-r
+returns-then-top-r c =
+    last-top c.args.runs.now c.at_or_before.ensures.in_order c.args.offset (omega arith) c.to_physical-top.result.0 c.to_physical-top.ensures
+    (mem-last size 0 c.args.runs.now c.to_physical-top.result.0 c.at_or_before.ensures.in_order
+    ∙ ap (reaches c.to_physical-top.result.0) (sym c.at_or_before.ensures.found ∙ c.in-Some.is) ∙ le-leb c.to_physical-top.result.0 c.in-Some.r.«end» c.if-top-r.true)
 
 pub returns-in-Some : goal.returns-in-Some
 returns-in-Some c =
-    λ g t i.
-    c.to_logical.ensures ∙ either-last (inorder t) i.canonical c.args.offset (omega arith) c.to_physical-top.result.0 c.to_physical-top.ensures
-    (sym (top-held (goal.at.returns-in-Some c).After-is_some_and i) ∙ c.if-is_some_and.false) (c.at_or_before-next.ensures g t i) c.or_else.ensures
-    (λ n. search rules) c.in-Some.is
+    c.to_logical.ensures
+    ∙ last-before c.args.runs.now c.at_or_before.ensures.in_order c.args.offset (omega arith) c.to_physical-top.result.0 c.in-Some.r c.to_physical-top.ensures
+    (sym c.in-Some.is ∙ c.at_or_before.ensures.found) (omega (arith, c.if-top-r.false))
+
+pub returns-in-Some-at_or_before : goal.returns-in-Some-at_or_before
+returns-in-Some-at_or_before c =
+    c.to_logical-in-Some-at_or_before.ensures
+    ∙ last-wrapped c.args.runs.now c.at_or_before.ensures.in_order c.args.offset (omega arith) c.to_physical-top.result.0 c.in-Some-at_or_before.r
+    c.to_physical-top.ensures (sym c.in_default.is ∙ c.at_or_before.ensures.found) (sym c.in-Some-at_or_before.is ∙ c.at_or_before-2.ensures.found)
 
 pub returns-in-None : goal.returns-in-None
 returns-in-None c =
-    λ g t i.
-    neither-last (inorder t) i.canonical c.args.offset (omega arith) c.to_physical-top.result.0 c.to_physical-top.ensures
-    (sym (top-held (goal.at.returns-in-None c).After-is_some_and i) ∙ c.if-is_some_and.false) (c.at_or_before-next.ensures g t i) c.or_else.ensures
-    (λ n. search rules) c.in-None.is
+    last_none c.args.runs.now c.at_or_before.ensures.in_order c.args.offset (omega arith) (sym c.in-None.is ∙ c.at_or_before-2.ensures.found)

@@ -50,9 +50,17 @@ loop-q-preserved c =
     rank_left s c.sums-l.ensures _ _ c.at_most-here.ensures c.wrapped_width-width.ensures c.if-v-y.false)
 
 pub returns-then-best-eq0 : goal.returns-then-best-eq0
-returns-then-best-eq0 c = rank-none (whole-canonical c.self.invariant c.self.view_is) (walk_end c.loop-q.invariant c.loop-q-test.false) c.if-best-eq0.true c.default.result c.default.ensures
+returns-then-best-eq0 c =
+    let order = whole-canonical c.self.invariant c.self.view_is in
+    record {
+      ranked = rank-none order (walk_end c.loop-q.invariant c.loop-q-test.false) c.if-best-eq0.true c.default.result c.default.ensures;
+      in_order = order;
+    }
 
 pub returns : goal.returns
 returns c =
-    rank-some (whole-canonical c.self.invariant c.self.view_is) (walk_end c.loop-q.invariant c.loop-q-test.false) _ c.if-best-eq0.false
-    c.read_node-v-2.ensures _ (omega arith) (omega arith)
+    let order = whole-canonical c.self.invariant c.self.view_is in
+    record {
+      ranked = rank-some order (walk_end c.loop-q.invariant c.loop-q-test.false) _ c.if-best-eq0.false c.read_node-v-2.ensures _ (omega arith) (omega arith);
+      in_order = order;
+    }
