@@ -2,19 +2,18 @@
 -- those of the tree at its root, turned by its offset, so what `bounds` tells of the tree is what the world has to say. Assumes nothing.
 use Rattle.std.proofs.Common.{◌≡◌, ℕ, ◌<◌, ◌≤◌, Bool, true, false, not, ◌&&◌, ◌||◌, eqb, List, sym, ap, ◌∙◌, arith}
 use Rattle.model.specs.Numbers.{size}
-use Rattle.model.specs.Positions.{Positions, held_runs}
+use Rattle.model.specs.Positions.{Positions, held_runs, mem}
 use Rattle.run_index.specs.declared.Node.{Node}
 use Rattle.run_index.specs.Cells.{Room}
 use Rattle.run_index.specs.Tree.{Sums}
-use Rattle.run_index.specs.Search.{Indexed}
+use Rattle.run_index.specs.Search.{Indexed, runs_from}
 use Rattle.store.specs.declared.World.{World}
-use Rattle.store.specs.Layout.{held_in}
+use Rattle.store.specs.Layout.{turned, held_in}
 use Rattle.store.specs.Soundness.{first_of, last_of}
 use Rattle.soundness.specs.Decision.{inside_b, below_of, tree_b, world_b, Tells}
-use Rattle.store.specs.Bounds.{TellsFirst, TellsLast}
 use Rattle.store.proofs.Truths.{never, is_false}
 use Rattle.soundness.proofs.Steps.{inside-linked}
-use Rattle.store.proofs.Reached.{tree-held}
+use Rattle.store.proofs.Reached.{tree-seen}
 use Rattle.store.proofs.Hanging.{Hangs, hangs-index}
 use Rattle.soundness.proofs.Decided.{below-sums, tree-yes, hangs-walked, world_b-yes}
 
@@ -58,15 +57,16 @@ module _ (w : List ℕ) (h : World) where
     indexed = (h.tag, T.t, hangs-index T)
 
     -- what `bounds` tells of the first position
-    first-told : (r : ℕ) → TellsFirst w h.root h.offset r → r ≡ first_of (held_runs (held_in w h))
-    first-told r t = t h.tag T.t (hangs-index T) ∙ sym (ap (λ (P : Positions). first_of (held_runs P)) (tree-held h.offset T.at T.low))
+    first-told : (r : ℕ) → r ≡ first_of (held_runs (turned h.offset (mem (runs_from w h.root)))) → r ≡ first_of (held_runs (held_in w h))
+    first-told r e = e ∙ ap (λ (P : Positions). first_of (held_runs P)) (tree-seen h.offset (hangs-index T) T.low)
 
     -- and of the last
-    last-told : (r : ℕ) → TellsLast w h.root h.offset r → r ≡ last_of (held_runs (held_in w h))
-    last-told r t = t h.tag T.t (hangs-index T) ∙ sym (ap (λ (P : Positions). last_of (held_runs P)) (tree-held h.offset T.at T.low))
+    last-told : (r : ℕ) → r ≡ last_of (held_runs (turned h.offset (mem (runs_from w h.root)))) → r ≡ last_of (held_runs (held_in w h))
+    last-told r e = e ∙ ap (λ (P : Positions). last_of (held_runs P)) (tree-seen h.offset (hangs-index T) T.low)
 
     -- so what is left to test are the sums, the bounds and the offset
-    pub world-is : (v : Node) → v ≡ below_of w h.root → (f : ℕ) → TellsFirst w h.root h.offset f → (l : ℕ) → TellsLast w h.root h.offset l
+    pub world-is : (v : Node) → v ≡ below_of w h.root → (f : ℕ) → f ≡ first_of (held_runs (turned h.offset (mem (runs_from w h.root))))
+        → (l : ℕ) → l ≡ last_of (held_runs (turned h.offset (mem (runs_from w h.root))))
         → world_b w h ≡ (eqb h.ones v.ones && (eqb h.runs v.runs && (eqb h.first f && (eqb h.last l && (not (eqb h.root 0) || eqb h.offset 0)))))
     unfolding world_b
     world-is v ev f tf l tl = rw (hangs-walked T, ← ev, ← first-told f tf, ← last-told l tl)

@@ -1,27 +1,29 @@
 -- The tests of a pool's worlds as facts, and back: a world passes exactly if its tree and its record fit and it keeps its limits. What
 -- `place_at` and `runs_counted` return follows, test by test: each that fails is a part of the definition that fails. Assumes nothing.
 use Rattle.std.proofs.Common.{◌≡◌, ℕ, zero, suc, ◌+◌, ◌-◌, ◌*◌, ◌^◌, ◌<◌, ◌≤◌, max, Bool, true, false}
-use Rattle.std.proofs.Common.{◌&&◌, if◌then◌else◌, Some, None, leb, List, sym, refl, ap, ◌∙◌, subst, ap₂, arith, le-leb, leb-true}
+use Rattle.std.proofs.Common.{◌&&◌, if◌then◌else◌, Some, None, leb, List, length, sym, refl, ap, ◌∙◌, subst, ap₂, arith, le-leb, leb-true}
 use Rattle.std.proofs.lemmas.Option.{none-some, same_Some}
 use native.Mathlib.Decide.{ℕ_discrete}
 use Rattle.model.specs.Numbers.{most_worlds}
-use Rattle.model.specs.Positions.{stretches}
+use Rattle.model.specs.Positions.{stretches, mem}
 use Rattle.model.specs.Pools.{claim, claims}
 use Rattle.model.proofs.Edit.{and-holds}
 use Rattle.run_index.specs.declared.Node.{Node}
 use Rattle.run_index.specs.Cells.{cell_at}
 use Rattle.run_index.specs.Tree.{runs}
+use Rattle.run_index.specs.Search.{Indexed, runs_from}
+use Rattle.run_index.proofs.Totals.{runs-length}
+use Rattle.run_index.proofs.Reached.{index-runs}
 use Rattle.store.specs.declared.World.{World}
 use Rattle.soundness.specs.declared.Place.{Place}
-use Rattle.store.specs.Layout.{world_at, floor_at, ceiling_at, nodes, capacity, held_in, held_by, plain_at, worlds_from}
+use Rattle.store.specs.Layout.{turned, world_at, floor_at, ceiling_at, nodes, capacity, held_in, held_by, plain_at, worlds_from}
 use Rattle.store.specs.Soundness.{sum_to, runs_at, Planted, KeepsLimits}
 use Rattle.soundness.specs.Decision.{world_b, place_b, worlds_b, told_runs, place_of, runs_of}
-use Rattle.store.specs.Bounds.{RunsCounted, TellsRuns}
 use Rattle.store.proofs.Parts.{lent, lent-nodes}
 use Rattle.store.proofs.Sums.{sum_more, sum-nothing, sum-cong, sum-front}
 use Rattle.store.proofs.WorldLists.{claims-first}
 use Rattle.store.proofs.Truths.{never, is_false, both-in}
-use Rattle.store.proofs.Reached.{tree-held}
+use Rattle.store.proofs.Reached.{tree-seen}
 use Rattle.store.proofs.Hanging.{Fitting, hangs-index, low-runs, fits-planted}
 use Rattle.soundness.proofs.Decided.{world_b-yes, world_b-no}
 use Rattle.store.proofs.Sharing.{tree-planted}
@@ -81,18 +83,24 @@ module _ (w : List ℕ) (k : ℕ) (v : Node) (ev : v ≡ cell_at w (k + 1)) wher
 -- a world that fits, as it was read
 module _ (w : List ℕ) (k : ℕ) (F : Fitting (nodes w) (world_at w k)) (h : World) (eh : h ≡ world_at w k) where
   -- its record counts the runs of its tree
-  pub runs-counted : RunsCounted (lent w) h.root h.runs
+  pub runs-counted : h.runs ≡ length (runs_from (lent w) h.root)
   runs-counted =
-      subst (λ (x : World). RunsCounted (lent w) x.root x.runs) (sym eh)
-      (subst (λ l. RunsCounted l (world_at w k).root (world_at w k).runs) (sym (lent-nodes w)) (k, F.tree.t, hangs-index F.tree, F.runs-are))
+      subst (λ (x : World). x.runs ≡ length (runs_from (lent w) x.root)) (sym eh)
+      (subst (λ (l : List ℕ). (world_at w k).runs ≡ length (runs_from l (world_at w k).root)) (sym (lent-nodes w))
+      (F.runs-are ∙ runs-length F.tree.t ∙ ap length (sym (index-runs (hangs-index F.tree)))))
+
+  -- it can be searched
+  pub world-indexed : Indexed (lent w) h.root
+  world-indexed =
+      subst (λ (x : World). Indexed (lent w) x.root) (sym eh)
+      (subst (λ (l : List ℕ). Indexed l (world_at w k).root) (sym (lent-nodes w)) (k, F.tree.t, hangs-index F.tree))
 
   -- what `bounds` tells of its logical runs
-  pub runs-told : (n : ℕ) → TellsRuns (lent w) h.root h.offset n → n ≡ stretches (held_by w k)
-  runs-told n t =
-      let T = F.tree in
-      let u : TellsRuns (nodes w) (world_at w k).root (world_at w k).offset n =
-      subst (λ (x : World). TellsRuns (nodes w) x.root x.offset n) eh (subst (λ l. TellsRuns l h.root h.offset n) (lent-nodes w) t) in
-      u k T.t (hangs-index T) ∙ ap stretches (sym (tree-held (world_at w k).offset T.at T.low) ∙ held-world w k)
+  pub runs-told : (n : ℕ) → n ≡ stretches (turned h.offset (mem (runs_from (lent w) h.root))) → n ≡ stretches (held_by w k)
+  runs-told n e =
+      e ∙ ap (λ (l : List ℕ). stretches (turned h.offset (mem (runs_from l h.root)))) (lent-nodes w)
+      ∙ ap (λ (x : World). stretches (turned x.offset (mem (runs_from (nodes w) x.root)))) eh
+      ∙ ap stretches (tree-seen (world_at w k).offset (hangs-index F.tree) F.tree.low ∙ held-world w k)
 
 module _ (w : List ℕ) (k : ℕ) (h : World) (eh : h ≡ world_at w k) (b : Bool) (eb : b ≡ world_b (lent w) h) where
   -- the test of its tree and its record is the definition's
@@ -109,11 +117,16 @@ module _ (w : List ℕ) (k : ℕ) (h : World) (eh : h ≡ world_at w k) (b : Boo
     world-fitting = world_b-yes (nodes w) (world_at w k) (sym world_is ∙ tb)
 
     -- so the record counts the runs of the tree
-    pub world-counted : RunsCounted (lent w) h.root h.runs
+    pub world-counted : h.runs ≡ length (runs_from (lent w) h.root)
     world-counted = runs-counted w k world-fitting h eh
 
+    -- and can be searched
+    pub world-seen : Indexed (lent w) h.root
+    world-seen = world-indexed w k world-fitting h eh
+
     -- the number of logical runs decides, if the floor is not above the ceiling
-    module _ (v : Node) (ev : v ≡ cell_at w (k + 1)) (le : v.ones ≤ v.tag) (n : ℕ) (tn : TellsRuns (lent w) h.root h.offset n) where
+    module _ (v : Node) (ev : v ≡ cell_at w (k + 1)) (le : v.ones ≤ v.tag) (n : ℕ)
+        (tn : n ≡ stretches (turned h.offset (mem (runs_from (lent w) h.root)))) where
       -- what it counts
       many-are : n ≡ stretches (held_by w k)
       many-are = runs-told w k world-fitting h eh n tn

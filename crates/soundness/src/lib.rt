@@ -33,6 +33,7 @@ ghost use Rattle.soundness.specs.Decision.{
 };
 
 use run_index::Node;
+use run_index::search::Runs;
 use store::{Store, World};
 
 // What the nodes above leave to a tree: the tag that its nodes are to have, and the first and the last position that its runs may hold.

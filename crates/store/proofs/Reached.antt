@@ -5,7 +5,7 @@ use Rattle.model.specs.declared.Run.{Run}
 use Rattle.model.specs.Positions.{mem}
 use Rattle.run_index.specs.Tree.{Tree, height, inorder, At, tree_from}
 use Rattle.run_index.proofs.Least.{height_bound}
-use Rattle.run_index.specs.Search.{runs_from}
+use Rattle.run_index.specs.Search.{Index, runs_from}
 use Rattle.run_index.proofs.Reached.{from-tree, index-runs}
 use Rattle.store.specs.declared.Links.{Links}
 use Rattle.store.specs.Layout.{highest, physical_runs, turned, held_from}
@@ -24,6 +24,10 @@ tree-physical h le = ap inorder (tree-reached h le)
 pub tree-held : {w : List ℕ} {g p : ℕ} {t : Tree} (o : ℕ) → At w g p t → height t ≤ 22 → held_from w p o ≡ turned o (mem (inorder t))
 unfolding held_from
 tree-held o h le = ap (λ (rs : List Run). turned o (mem rs)) (tree-physical h le)
+
+-- which a search sees, turned by the offset
+pub tree-seen : {w : List ℕ} {g p : ℕ} {t : Tree} (o : ℕ) → Index w p g t → height t ≤ 22 → turned o (mem (runs_from w p)) ≡ held_from w p o
+tree-seen o i le = ap (λ (rs : List Run). turned o (mem rs)) (index-runs i) ∙ sym (tree-held o i.at le)
 
 module _ {w : List ℕ} {s : Share} {x : Links} {t : Tree} {ns : List ℕ} (k : Kept w s x t ns) where
   -- a kept tree is at most 22 high
@@ -46,6 +50,6 @@ module _ {w : List ℕ} {s : Share} {x : Links} {t : Tree} {ns : List ℕ} (k : 
   pub kept-held : (o : ℕ) → held_from w x.root o ≡ turned o (mem (inorder t))
   kept-held o = tree-held o k.linked kept_low
 
-  -- which a search sees, turned by the offset
+  -- which a search sees
   pub kept-seen : (o : ℕ) → turned o (mem (runs_from w x.root)) ≡ held_from w x.root o
-  kept-seen o = ap (λ (rs : List Run). turned o (mem rs)) kept-runs ∙ sym (kept-held o)
+  kept-seen o = tree-seen o (kept-index k) kept_low

@@ -1,6 +1,6 @@
 -- `place_at` meets its contract: the tests are the definition's; what `bounds` tells of the tree is what the world's positions have. Assumes
 -- nothing.
-use Rattle.soundness.proofs.Placed.{limits-fail, world-fails, world-counted, runs-fail, runs_fit}
+use Rattle.soundness.proofs.Placed.{limits-fail, world-fails, world-counted, world-seen, runs-fail, runs_fit}
 use Rattle.soundness.proofs.place_at.Goals as goal
 use Rattle.soundness.proofs.place_at.Goals.{then-not-world_fits-via-then-not-world_fits, then-not-world_fits-via-else-not-world_fits+then-floor-ceiling}
 
@@ -11,6 +11,9 @@ returns-then-not-world_fits c =
       | then-not-world_fits-via-else-not-world_fits+then-floor-ceiling w ↦
           limits-fail c.args.words.now c.args.k _ c.read_node-v.ensures w.if-floor-ceiling.true
     ]
+
+pub invariant_of-runs : goal.invariant_of-runs
+invariant_of-runs c = world-seen c.args.words.now _ c.read_world-h.result c.read_world-h.ensures _ c.world_fits.ensures c.if-not-world_fits.false
 
 pub logical_runs-n-requires : goal.logical_runs-n-requires
 logical_runs-n-requires c = world-counted c.args.words.now _ c.read_world-h.result c.read_world-h.ensures _ c.world_fits.ensures c.if-not-world_fits.false

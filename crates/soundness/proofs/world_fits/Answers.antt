@@ -35,11 +35,8 @@ returns-then-v-gt-MAX_HEIGHT c =
           tree-fails _ c.args.h _ c.below-v.ensures w.if-v-gt-MAX_HEIGHT.false _ w.tree_fits.ensures w.if-not-tree_fits.true
     ]
 
-pub first_held-first-requires : goal.first_held-first-requires
-first_held-first-requires c = indexed _ c.args.h (tree c)
-
-pub last_held-last-requires : goal.last_held-last-requires
-last_held-last-requires c = indexed _ c.args.h (tree (goal.at.last_held-last-requires c).Else-not-tree_fits)
+pub invariant_of-runs : goal.invariant_of-runs
+invariant_of-runs c = indexed _ c.args.h (tree c)
 
 pub returns-then-h-ne0 : goal.returns-then-h-ne0
 returns-then-h-ne0 c =
