@@ -34,7 +34,7 @@ ghost use Rattle.soundness.specs.Decision.{
 
 use run_index::Node;
 use run_index::search::Runs;
-use store::{Store, World};
+use store::{Set, Store, World};
 
 // What the nodes above leave to a tree: the tag that its nodes are to have, and the first and the last position that its runs may hold.
 #[derive(Clone, Copy)]
@@ -283,12 +283,15 @@ fn world_fits(words: &[u64], h: World) -> bool
     if v.height > Store::MAX_HEIGHT || !tree_fits(words, h.root, h.tag, 0, u64::MAX) {
         return false;
     }
-    let runs = Runs {
-        nodes: words,
-        root: h.root,
+    let set = Set {
+        runs: Runs {
+            nodes: words,
+            root: h.root,
+        },
+        offset: h.offset,
     };
-    let first = store::bounds::first_held(&runs, h.offset);
-    let last = store::bounds::last_held(&runs, h.offset);
+    let first = store::bounds::first_held(&set);
+    let last = store::bounds::last_held(&set);
     h.ones == v.ones
         && h.runs == v.runs
         && h.first == first.0
@@ -339,11 +342,14 @@ fn place_at(words: &[u64], k: u64) -> Option<Place>
     if !world_fits(&words[128..], h) || floor > ceiling {
         return None;
     }
-    let runs = Runs {
-        nodes: &words[128..],
-        root: h.root,
+    let set = Set {
+        runs: Runs {
+            nodes: &words[128..],
+            root: h.root,
+        },
+        offset: h.offset,
     };
-    let n = store::bounds::logical_runs(&runs, h.offset, h.runs);
+    let n = store::bounds::logical_runs(&set, h.runs);
     if n > ceiling {
         return None;
     }

@@ -12,6 +12,7 @@ use Rattle.run_index.specs.Tree.{Tree, inorder, tree_from}
 use Rattle.store.specs.Places.{physical_of}
 use Rattle.store.specs.declared.World.{World}
 use Rattle.store.specs.declared.Links.{Links}
+use Rattle.store.specs.declared.Set.{Set}
 
 -- the header has the words 0 to 7: worlds opened, free head, six zeros
 abbrev pub opened_at : List ℕ → ℕ
@@ -103,6 +104,10 @@ turned o Q x = nat_lt x size && Q (physical_of x o)
 -- the positions kept under the root p with the offset o: those from start to end of each node reached from it, each plus o, modulo 2^64
 unfoldable pub held_from : List ℕ → ℕ → ℕ → Positions
 held_from w p o = turned o (mem (physical_runs w p))
+
+-- the positions of a set that is read
+abbrev pub held : Set → Positions
+held s = turned s.offset (mem s.runs)
 
 -- the positions of a world whose nodes are in w
 abbrev pub held_in : List ℕ → World → Positions

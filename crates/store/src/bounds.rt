@@ -4,9 +4,10 @@ ghost use Rattle.std.specs.Prelude.{◌≡◌, ◌&&◌, length};
 ghost use Rattle.model.specs.Numbers.{size};
 ghost use Rattle.model.specs.Positions.{mem, held_runs, stretches};
 ghost use Rattle.model.specs.RunList.{Canon};
-ghost use Rattle.store.specs.Layout.{turned};
+ghost use Rattle.store.specs.Layout.{held};
 ghost use Rattle.store.specs.Soundness.{first_of, last_of};
 
+use crate::Set;
 use crate::places::Physical;
 use model::Logical;
 use run_index::search::Runs;
@@ -20,57 +21,57 @@ pub fn get_physical(runs: &Runs<'_>, x: Physical) -> bool
 }
 
 // The first logical position held under an offset, 0 if there is none: the place of logical 0, else the first run after it, else the first of all.
-fn first_turned(runs: &Runs<'_>, offset: u64) -> Logical
-    ensures { result.0 ≡ first_of (held_runs (turned offset (mem runs.now))) }
+fn first_turned(set: &Set<'_>) -> Logical
+    ensures { result.0 ≡ first_of (held_runs (held set.now)) }
 {
-    let zero = crate::places::to_physical(Logical(0), offset);
-    if get_physical(runs, zero) {
+    let zero = crate::places::to_physical(Logical(0), set.offset);
+    if get_physical(&set.runs, zero) {
         return Logical(0);
     }
-    if let Some(r) = runs.at_or_after(zero.0) {
-        return crate::places::to_logical(Physical(r.start), offset);
+    if let Some(r) = set.runs.at_or_after(zero.0) {
+        return crate::places::to_logical(Physical(r.start), set.offset);
     }
-    match runs.at_or_after(0) {
-        Some(r) => crate::places::to_logical(Physical(r.start), offset),
+    match set.runs.at_or_after(0) {
+        Some(r) => crate::places::to_logical(Physical(r.start), set.offset),
         None => Logical(0),
     }
 }
 
 // The same under any offset. Where nothing is turned, the first run of all tells it, to which only left links lead.
-pub fn first_held(runs: &Runs<'_>, offset: u64) -> Logical
-    ensures { result.0 ≡ first_of (held_runs (turned offset (mem runs.now))) }
+pub fn first_held(set: &Set<'_>) -> Logical
+    ensures { result.0 ≡ first_of (held_runs (held set.now)) }
 {
-    if offset != 0 {
-        return first_turned(runs, offset);
+    if set.offset != 0 {
+        return first_turned(set);
     }
-    runs.at_or_after(0).map_or(Logical(0), |r| Logical(r.start))
+    set.runs.at_or_after(0).map_or(Logical(0), |r| Logical(r.start))
 }
 
 // The last logical position held under an offset, 0 if there is none.
-fn last_turned(runs: &Runs<'_>, offset: u64) -> Logical
-    ensures { result.0 ≡ last_of (held_runs (turned offset (mem runs.now))) }
+fn last_turned(set: &Set<'_>) -> Logical
+    ensures { result.0 ≡ last_of (held_runs (held set.now)) }
 {
-    let top = crate::places::to_physical(Logical(u64::MAX), offset);
-    if let Some(r) = runs.at_or_before(top.0) {
+    let top = crate::places::to_physical(Logical(u64::MAX), set.offset);
+    if let Some(r) = set.runs.at_or_before(top.0) {
         if top.0 <= r.end {
             return Logical(u64::MAX);
         }
-        return crate::places::to_logical(Physical(r.end), offset);
+        return crate::places::to_logical(Physical(r.end), set.offset);
     }
-    match runs.at_or_before(u64::MAX) {
-        Some(r) => crate::places::to_logical(Physical(r.end), offset),
+    match set.runs.at_or_before(u64::MAX) {
+        Some(r) => crate::places::to_logical(Physical(r.end), set.offset),
         None => Logical(0),
     }
 }
 
 // The same under any offset.
-pub fn last_held(runs: &Runs<'_>, offset: u64) -> Logical
-    ensures { result.0 ≡ last_of (held_runs (turned offset (mem runs.now))) }
+pub fn last_held(set: &Set<'_>) -> Logical
+    ensures { result.0 ≡ last_of (held_runs (held set.now)) }
 {
-    if offset != 0 {
-        return last_turned(runs, offset);
+    if set.offset != 0 {
+        return last_turned(set);
     }
-    runs.at_or_before(u64::MAX).map_or(Logical(0), |r| Logical(r.end))
+    set.runs.at_or_before(u64::MAX).map_or(Logical(0), |r| Logical(r.end))
 }
 
 // Whether both of two physical positions are held.
@@ -82,17 +83,18 @@ fn both_held(runs: &Runs<'_>, x: Physical, y: Physical) -> bool
 
 // How many logical runs the n physical ones are. The physical run across the place of logical 0 is two logical ones,
 // and the physical runs at 0 and at M are one logical run where both are there.
-pub fn logical_runs(runs: &Runs<'_>, offset: u64, n: u64) -> u64
-    requires { n ≡ length runs.now }
-    ensures { result ≡ stretches (turned offset (mem runs.now)) }
+pub fn logical_runs(set: &Set<'_>, n: u64) -> u64
+    requires { n ≡ length set.now.runs }
+    ensures { result ≡ stretches (held set.now) }
 {
     // that the runs are in order is known where a field is looked at
+    let runs = &set.runs;
     let _ = &runs.root;
-    if offset == 0 {
+    if set.offset == 0 {
         return n;
     }
-    let zero = crate::places::to_physical(Logical(0), offset);
-    let top = crate::places::to_physical(Logical(u64::MAX), offset);
+    let zero = crate::places::to_physical(Logical(0), set.offset);
+    let top = crate::places::to_physical(Logical(u64::MAX), set.offset);
     let cut = both_held(runs, zero, top);
     let joined = both_held(runs, Physical(0), Physical(u64::MAX));
     n + u64::from(cut) - u64::from(joined)

@@ -6,8 +6,8 @@
 ghost use Rattle.std.specs.Prelude.{◌≡◌, ◌+◌};
 ghost use Rattle.model.specs.Pools.{claim};
 ghost use Rattle.run_index.specs.Cells.{cell_at, Room};
-ghost use Rattle.store.specs.Layout.{capacity_of, opened_at, free_head, world_at, plain_at, nodes, header_cell, Headed, links_of, allowance};
-ghost use Rattle.store.specs.Soundness.{Planted, Sound};
+ghost use Rattle.store.specs.Layout.{capacity_of, opened_at, free_head, world_at, plain_at, nodes, held, held_in, header_cell, Headed, links_of, allowance};
+ghost use Rattle.store.specs.Soundness.{Planted, Sound, Stands};
 ghost use Rattle.store.specs.Settle.{Openable, Opened, Closable, Closes};
 
 use run_index::Node;
@@ -66,6 +66,27 @@ pub struct Links {
     pub tag: u64,
     pub root: u64,
     pub free: u64,
+}
+
+// A set that is read: the runs of its tree, which lie at physical positions, and the offset that moves them.
+#[derive(Drop)]
+pub struct Set<'a> {
+    pub runs: Runs<'a>,
+    pub offset: u64,
+}
+
+// The set of a world.
+pub fn set_of<'a>(words: &'a [u64], h: World) -> Set<'a>
+    requires { Stands words.now h }
+    ensures { held result ≡ held_in words.now h }
+{
+    Set {
+        runs: Runs {
+            nodes: words,
+            root: h.root,
+        },
+        offset: h.offset,
+    }
 }
 
 pub fn links_of(h: World) -> Links
@@ -139,11 +160,14 @@ fn claim(words: &[u64], k: u64) -> u64
 {
     let h = read_world(words, k);
     let v = run_index::read_node(words, k + 1);
-    let runs = Runs {
-        nodes: &words[128..],
-        root: h.root,
+    let set = Set {
+        runs: Runs {
+            nodes: &words[128..],
+            root: h.root,
+        },
+        offset: h.offset,
     };
-    let n = bounds::logical_runs(&runs, h.offset, h.runs);
+    let n = bounds::logical_runs(&set, h.runs);
     n.max(v.ones)
 }
 

@@ -6,7 +6,7 @@ ghost use Rattle.store.specs.Soundness.{first_of, last_of};
 ghost use Rattle.store.specs.Free.{Keepable};
 ghost use Rattle.store.specs.Settle.{Refreshes, Rooted, Resettable, ResettableFrom, ResettableTo, Linkable, LinksUp};
 
-use crate::{Links, World};
+use crate::{Links, Set, World};
 use model::Logical;
 use run_index::search::Runs;
 
@@ -31,9 +31,15 @@ pub fn refresh(words: &[u64], x: Links, offset: u64) -> World
         return vacant(x);
     }
     let v = run_index::read_node(words, root);
-    let runs = Runs { nodes: words, root };
-    let first = crate::bounds::first_held(&runs, offset);
-    let last = crate::bounds::last_held(&runs, offset);
+    let set = Set {
+        runs: Runs {
+            nodes: words,
+            root,
+        },
+        offset,
+    };
+    let first = crate::bounds::first_held(&set);
+    let last = crate::bounds::last_held(&set);
     World {
         tag: x.tag,
         root,
@@ -62,11 +68,14 @@ fn first_after(words: &[u64], x: Links, h: World, a: Logical, value: bool) -> u6
     if first < at {
         return first;
     }
-    let runs = Runs {
-        nodes: words,
-        root: x.root,
+    let set = Set {
+        runs: Runs {
+            nodes: words,
+            root: x.root,
+        },
+        offset: h.offset,
     };
-    crate::bounds::first_held(&runs, h.offset).0
+    crate::bounds::first_held(&set).0
 }
 
 // The last one.
@@ -85,11 +94,14 @@ fn last_after(words: &[u64], x: Links, h: World, b: Logical, value: bool) -> u64
     if at < last {
         return last;
     }
-    let runs = Runs {
-        nodes: words,
-        root: x.root,
+    let set = Set {
+        runs: Runs {
+            nodes: words,
+            root: x.root,
+        },
+        offset: h.offset,
     };
-    crate::bounds::last_held(&runs, h.offset).0
+    crate::bounds::last_held(&set).0
 }
 
 // Does what `refresh` does where the tree of the world h got only the value of a..=b since it agreed: then the first and the last position

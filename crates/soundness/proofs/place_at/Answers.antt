@@ -12,8 +12,8 @@ returns-then-not-world_fits c =
           limits-fail c.args.words.now c.args.k _ c.read_node-v.ensures w.if-floor-ceiling.true
     ]
 
-pub invariant_of-runs : goal.invariant_of-runs
-invariant_of-runs c = world-seen c.args.words.now _ c.read_world-h.result c.read_world-h.ensures _ c.world_fits.ensures c.if-not-world_fits.false
+pub invariant_of-set : goal.invariant_of-set
+invariant_of-set c = world-seen c.args.words.now _ c.read_world-h.result c.read_world-h.ensures _ c.world_fits.ensures c.if-not-world_fits.false
 
 pub logical_runs-n-requires : goal.logical_runs-n-requires
 logical_runs-n-requires c = world-counted c.args.words.now _ c.read_world-h.result c.read_world-h.ensures _ c.world_fits.ensures c.if-not-world_fits.false

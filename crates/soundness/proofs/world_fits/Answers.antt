@@ -35,8 +35,8 @@ returns-then-v-gt-MAX_HEIGHT c =
           tree-fails _ c.args.h _ c.below-v.ensures w.if-v-gt-MAX_HEIGHT.false _ w.tree_fits.ensures w.if-not-tree_fits.true
     ]
 
-pub invariant_of-runs : goal.invariant_of-runs
-invariant_of-runs c = indexed _ c.args.h (tree c)
+pub invariant_of-set : goal.invariant_of-set
+invariant_of-set c = indexed _ c.args.h (tree c)
 
 pub returns-then-h-ne0 : goal.returns-then-h-ne0
 returns-then-h-ne0 c =

@@ -10,9 +10,9 @@ use Rattle.store.proofs.claim.Goals.{Start}
 planted : (c : Start) → Planted (nodes c.args.words.now) (world_at c.args.words.now c.args.k)
 planted c = c.requires.planted
 
-pub invariant_of-runs : goal.invariant_of-runs
-invariant_of-runs c =
-    planted-indexed c.args.words.now c.args.k (planted (goal.at.invariant_of-runs c).Start) c.read_world-h.result c.read_world-h.ensures
+pub invariant_of-set : goal.invariant_of-set
+invariant_of-set c =
+    planted-indexed c.args.words.now c.args.k (planted (goal.at.invariant_of-set c).Start) c.read_world-h.result c.read_world-h.ensures
 
 pub logical_runs-n-requires : goal.logical_runs-n-requires
 logical_runs-n-requires c =

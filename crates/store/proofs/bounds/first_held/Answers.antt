@@ -5,5 +5,5 @@ use Rattle.store.proofs.bounds.first_held.Goals as goal
 
 pub returns : goal.returns
 returns c =
-    told-first c.args.runs.now c.at_or_after.ensures.in_order c.args.offset (omega arith) (omega (arith, c.if-offset-ne0.false))
+    told-first c.args.set.now.runs c.at_or_after.ensures.in_order c.args.set.now.offset (omega arith) (omega (arith, c.if-set-ne0.false))
     c.at_or_after.ensures.found c.map_or.ensures (λ r h. search rules)

@@ -5,5 +5,5 @@ use Rattle.store.proofs.bounds.last_held.Goals as goal
 
 pub returns : goal.returns
 returns c =
-    told-last c.args.runs.now c.at_or_before.ensures.in_order c.args.offset (omega arith) (omega (arith, c.if-offset-ne0.false))
+    told-last c.args.set.now.runs c.at_or_before.ensures.in_order c.args.set.now.offset (omega arith) (omega (arith, c.if-set-ne0.false))
     c.at_or_before.ensures.found c.map_or.ensures (λ r h. search rules)

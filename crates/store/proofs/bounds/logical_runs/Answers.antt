@@ -8,14 +8,14 @@ use Rattle.store.proofs.LogicalRuns.{logical-zero, logical-runs, runs-from, from
 use Rattle.store.proofs.bounds.logical_runs.Goals as goal
 use Rattle.store.proofs.bounds.logical_runs.Goals.{After-from-2}
 
-pub returns-then-offset-eq0 : goal.returns-then-offset-eq0
-returns-then-offset-eq0 c = logical-zero c.args.runs.now (whole-canonical c.runs.invariant c.runs.view_is) c.requires c.if-offset-eq0.true
+pub returns-then-set-eq0 : goal.returns-then-set-eq0
+returns-then-set-eq0 c = logical-zero c.args.set.now.runs (whole-canonical c.runs.invariant c.runs.view_is) c.requires c.if-set-eq0.true
 
 -- what is counted
-counted : (c : After-from-2) → stretches (turned c.args.offset (mem c.args.runs.now)) + c.from-2.result ≡ c.args.n + c.from.result
+counted : (c : After-from-2) → stretches (turned c.args.set.now.offset (mem c.args.set.now.runs)) + c.from-2.result ≡ c.args.n + c.from.result
 counted c =
-    runs-from c.args.n (stretches (turned c.args.offset (mem c.args.runs.now))) c.both_held-cut.result c.both_held-joined.result c.from.ensures c.from-2.ensures
-    (logical-runs c.args.runs.now (whole-canonical c.runs.invariant c.runs.view_is) c.requires (omega arith) c.if-offset-eq0.false
+    runs-from c.args.n (stretches (turned c.args.set.now.offset (mem c.args.set.now.runs))) c.both_held-cut.result c.both_held-joined.result c.from.ensures c.from-2.ensures
+    (logical-runs c.args.set.now.runs (whole-canonical c.runs.invariant c.runs.view_is) c.requires (omega arith) c.if-set-eq0.false
     c.to_physical-zero.ensures c.to_physical-top.ensures c.both_held-cut.ensures c.both_held-joined.ensures)
 
 -- there are so few runs that one more is counted

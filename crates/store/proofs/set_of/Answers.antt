@@ -1,0 +1,10 @@
+-- `set_of` meets its contract: a search sees the runs that the world's root leads to. Assumes nothing.
+use Rattle.store.proofs.Opening.{standing-indexed}
+use Rattle.store.proofs.Reached.{kept-seen}
+use Rattle.store.proofs.set_of.Goals as goal
+
+pub invariant_of-result : goal.invariant_of-result
+invariant_of-result c = standing-indexed c.requires.1
+
+pub returns : goal.returns
+returns c = kept-seen c.requires.1.kept c.args.h.offset
