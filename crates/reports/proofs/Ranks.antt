@@ -1,8 +1,8 @@
 -- What lies between two positions, from the ranks of both: the positions and the runs of either value. And the k-th position of a value
 -- from a position on, by the rank of the one before. The two ranks differ by what is counted above the first position, and runs of
 -- the two values alternate. Assumes nothing.
-use Rattle.std.proofs.Common.{◌≡◌, ℕ, zero, suc, ◌+◌, ◌-◌, ◌%◌, ◌^◌, ◌<◌, ◌≤◌, Bool, true, false, not, ◌&&◌, ltb, ◌⊎◌, List, [], ◌∷◌, length, sym}
-use Rattle.std.proofs.Common.{refl, ap, ◌∙◌, subst, ap₂, inl, inr, add-zero, arith, le-ltb, lt-ltb}
+use Rattle.std.proofs.Common.{◌≡◌, ℕ, zero, suc, ◌+◌, ◌-◌, ◌*◌, ◌%◌, ◌^◌, ◌<◌, ◌≤◌, Bool, true, false, not, ◌&&◌, ltb, ◌⊎◌, List, [], ◌∷◌, length, sym}
+use Rattle.std.proofs.Common.{Some, refl, ap, ◌∙◌, subst, ap₂, inl, inr, add-zero, arith, le-ltb, lt-ltb}
 use mathlib.Core.Bool.{beq}
 use mir.Val.{bool_byte}
 use Rattle.model.specs.declared.Run.{Run}
@@ -17,10 +17,8 @@ use Rattle.model.specs.RunList.{Canon, starts_below}
 use Rattle.model.proofs.RunList.{mem-in, mem-above, mem-under, mem_below}
 use Rattle.model.proofs.Clip.{clip, clip-some, clip-none, clip-runs}
 use Rattle.run_index.specs.declared.search.Rank.{Rank}
-use Rattle.run_index.specs.Tree.{Tree, inorder}
-use Rattle.run_index.specs.Search.{Index, TellsRank, Selectable, TellsSelected}
-use Rattle.reports.specs.Reports.{Measured, TellsTally, TellsUnder, Choosable, TellsChosen}
-use Rattle.run_index.proofs.Totals.{runs-length}
+use Rattle.run_index.specs.Search.{Ranked}
+use Rattle.reports.specs.Reports.{Measured}
 use Rattle.reports.proofs.Joins.{select-second}
 
 -- ---- the starts of runs
@@ -160,35 +158,39 @@ other true false e = refl
 other false true e = refl
 other false false e = absurd (cc)
 
--- the starts up to a position are few
-pub starts-small : {w : List ℕ} {p y g : ℕ} {t : Tree} {r : Rank} → TellsRank w p y r → Index w p g t → r.starts < 2 ^ 62
-starts-small {y = y} {g = g} {t = t} low i = omega (arith, i.few, (low g t i).starts-are, starts-few (y + 1) (inorder t), runs-length t)
+-- canonical runs are at least two apart
+pub canon-most : (total k : ℕ) (rs : List Run) → Canon total k rs → 2 * length rs ≤ total + 1 - k
+canon-most total k [] c = omega arith
+canon-most total k (r ∷ rs) c = omega (arith, c.0, c.1, c.2, canon-most total (r.«end» + 2) rs c.3)
+
+-- so the starts up to a position are few
+pub starts-small : {y : ℕ} {rs : List Run} {r : Rank} → Ranked y r rs → Canon size 0 rs → r.starts ≤ 2 ^ 63
+starts-small {y} {rs} low c = omega (arith, low.starts-are, starts-few (y + 1) rs, canon-most size 0 rs c)
 
 -- ---- the ranks of s and of e
-module _ {w : List ℕ} {p s e : ℕ} {under upto : Rank} (rise : s ≤ e) (low : TellsRank w p s under) (high : TellsRank w p e upto) where
+module _ {s e : ℕ} {rs : List Run} {under upto : Rank} (order : Canon size 0 rs) (rise : s ≤ e) (low : Ranked s under rs) (high : Ranked e upto rs) where
   -- the later has no fewer starts
-  pub starts-ordered : {g : ℕ} {t : Tree} → Index w p g t → under.starts ≤ upto.starts
-  starts-ordered {g} {t} i = omega (arith, (low g t i).starts-are, (high g t i).starts-are, starts-rise (s + 1) (e + 1) (inorder t) (omega arith))
+  pub starts-ordered : under.starts ≤ upto.starts
+  starts-ordered = omega (arith, low.starts-are, high.starts-are, starts-rise (s + 1) (e + 1) rs (omega arith))
 
   -- the held positions from s on are s, if it is held, and those above
-  held-count : {g : ℕ} {t : Tree} → Index w p g t
-      → count (mem (inorder t)) true s (suc e - s) ≡ one_if under.held + count (mem (inorder t)) true (s + 1) (e - s)
-  held-count {g} {t} i =
-      count_cut (mem (inorder t)) true s (suc e - s) 1 (s + 1) (e - s) (omega arith) refl
-      ∙ ap (λ j. j + count (mem (inorder t)) true (s + 1) (e - s)) (count-one (mem (inorder t)) s ∙ ap one_if (sym (low g t i).held-is))
+  held-count : count (mem rs) true s (suc e - s) ≡ one_if under.held + count (mem rs) true (s + 1) (e - s)
+  held-count =
+      count_cut (mem rs) true s (suc e - s) 1 (s + 1) (e - s) (omega arith) refl
+      ∙ ap (λ j. j + count (mem rs) true (s + 1) (e - s)) (count-one (mem rs) s ∙ ap one_if (sym low.held-is))
 
   -- the runs of them are the one at s, if it is held, and those that start above
-  held-runs : {g : ℕ} {t : Tree} → Index w p g t → run_count (mem (inorder t)) true s (suc e - s) ≡ upto.starts - under.starts + one_if under.held
+  held-runs : run_count (mem rs) true s (suc e - s) ≡ upto.starts - under.starts + one_if under.held
   unfolding run_count
-  held-runs {g} {t} i =
-      ap length (clip-runs size 0 s (suc e - s) (inorder t) i.canonical)
+  held-runs =
+      ap length (clip-runs size 0 s (suc e - s) rs order)
       ∙ omega (
         arith,
-        clip-starts size 0 s e (inorder t) i.canonical rise,
-        (low g t i).starts-are,
-        (high g t i).starts-are,
-        starts-ordered i,
-        ap one_if (low g t i).held-is,
+        clip-starts size 0 s e rs order rise,
+        low.starts-are,
+        high.starts-are,
+        starts-ordered,
+        ap one_if low.held-is,
       )
 
   -- the wrapped difference of the two counts is what is held above s
@@ -196,42 +198,42 @@ module _ {w : List ℕ} {p s e : ℕ} {under upto : Rank} (rise : s ≤ e) (low 
     abbrev pub more : ℕ
     more = (upto.ones + (2 ^ 64 - under.ones)) % 2 ^ 64
 
-    more-held : {g : ℕ} {t : Tree} → Index w p g t → more ≡ count (mem (inorder t)) true (s + 1) (e - s)
-    more-held {g} {t} i =
-        let Q : Positions = mem (inorder t) in
+    more-held : more ≡ count (mem rs) true (s + 1) (e - s)
+    more-held =
+        let Q : Positions = mem rs in
         wrapped_exact under.ones upto.ones (count Q true 0 (s + 1)) (count Q true 0 (e + 1)) (count Q true (s + 1) (e - s))
-        (low g t i).ones-are (high g t i).ones-are (count_cut Q true 0 (e + 1) (s + 1) (s + 1) (e - s) (omega arith) (omega arith))
+        low.ones-are high.ones-are (count_cut Q true 0 (e + 1) (s + 1) (s + 1) (e - s) (omega arith) (omega arith))
         (omega (arith, count-both Q (s + 1) (e - s)))
 
     -- no more than there are positions
-    pub more-fits : {g : ℕ} {t : Tree} → Index w p g t → more ≤ e - s
-    more-fits {g} {t} i = omega (arith, more-held i, count-both (mem (inorder t)) (s + 1) (e - s))
+    pub more-fits : more ≤ e - s
+    more-fits = omega (arith, more-held, count-both (mem rs) (s + 1) (e - s))
 
     -- what is told of the held positions
     pub tally-held : {v : Bool} {r : Tally} → v ≡ true → worth r.count ≡ one_if under.held + more
-        → r.runs ≡ upto.starts - under.starts + bool_byte under.held → TellsTally w p s e v r
-    tally-held {r = r} f x y = λ g t i.
-        subst (λ a. Measured (mem (inorder t)) a s (suc e - s) r) (sym f)
+        → r.runs ≡ upto.starts - under.starts + bool_byte under.held → Measured (mem rs) v s (suc e - s) r
+    tally-held {r = r} f x y =
+        subst (λ a. Measured (mem rs) a s (suc e - s) r) (sym f)
         (record {
-          count-is = omega (arith, x, held-count i, more-held i);
-          runs-are = omega (arith, y, byte-one under.held, held-runs i);
+          count-is = omega (arith, x, held-count, more-held);
+          runs-are = omega (arith, y, byte-one under.held, held-runs);
         })
 
     -- what is told of the others
     pub tally-free : {v : Bool} {r : Tally} → v ≡ false → worth r.count ≡ one_if (not under.held) + (e - s - more)
-        → r.runs ≡ upto.starts - under.starts + bool_byte (not upto.held) → TellsTally w p s e v r
-    tally-free {r = r} f x y = λ g t i.
-        subst (λ a. Measured (mem (inorder t)) a s (suc e - s) r) (sym f)
+        → r.runs ≡ upto.starts - under.starts + bool_byte (not upto.held) → Measured (mem rs) v s (suc e - s) r
+    tally-free {r = r} f x y =
+        subst (λ a. Measured (mem rs) a s (suc e - s) r) (sym f)
         (record {
-          count-is = omega (arith, x, held-count i, more-held i, more-fits i, count-both (mem (inorder t)) s (suc e - s), not-one under.held);
+          count-is = omega (arith, x, held-count, more-held, more-fits, count-both (mem rs) s (suc e - s), not-one under.held);
           runs-are = omega (
             arith,
             y,
             byte-one (not upto.held),
-            held-runs i,
-            ranges-alternate (mem (inorder t)) s e rise,
-            ap one_if (sym (low g t i).held-is),
-            ap one_if (sym (high g t i).held-is),
+            held-runs,
+            ranges-alternate (mem rs) s e rise,
+            ap one_if (sym low.held-is),
+            ap one_if (sym high.held-is),
             not-one upto.held,
           );
         })
@@ -244,63 +246,58 @@ module _ {w : List ℕ} {p s e : ℕ} {under upto : Rank} (rise : s ≤ e) (low 
 
     -- where s has the value, it is one position more
     pub tally-more : {v : Bool} {a j : ℕ} {c : Count} → beq under.held v ≡ true → worth c ≡ a + 1 → Above v a j
-        → TellsTally w p s e v (record { count = c; runs = j })
+        → Measured (mem rs) v s (suc e - s) (record { count = c; runs = j })
     tally-more {v} u x (inl (f, l, y)) = tally-held f (omega (arith, x, l, ap one_if (same under.held v u ∙ f))) y
     tally-more {v} u x (inr (f, l, y)) = tally-free f (omega (arith, x, l, ap (λ b. one_if (not b)) (same under.held v u ∙ f))) y
 
     -- where it has not, it is none
     pub tally-same : {v : Bool} {a j : ℕ} {c : Count} → beq under.held v ≡ false → worth c ≡ a → Above v a j
-        → TellsTally w p s e v (record { count = c; runs = j })
+        → Measured (mem rs) v s (suc e - s) (record { count = c; runs = j })
     tally-same {v} u x (inl (f, l, y)) = tally-held f (omega (arith, x, l, ap one_if (other under.held v u ∙ ap not f))) y
     tally-same {v} u x (inr (f, l, y)) = tally-free f (omega (arith, x, l, ap (λ b. one_if (not b)) (other under.held v u ∙ ap not f))) y
 
 -- ---- before s lie m positions of a value, so the k-th from s on has the number m + k among all of them
-module _ {w : List ℕ} {p s m : ℕ} {v : Bool} (fits : s < size) (under : TellsUnder w p s v m) where
+module _ (P : Positions) (v : Bool) {s m : ℕ} (fits : s < size) (under : m ≡ count P v 0 s) where
   -- those before s and those from s on
-  whole : (P : Positions) → count P v 0 size ≡ count P v 0 s + count P v s (size - s)
-  whole P = count_cut P v 0 size s s (size - s) (omega arith) (omega arith)
+  whole : count P v 0 size ≡ count P v 0 s + count P v s (size - s)
+  whole = count_cut P v 0 size s s (size - s) (omega arith) (omega arith)
 
   -- there is such a position
-  pub chosen-there : {k : ℕ} → Choosable w p s v k → Selectable w p v (m + k)
-  chosen-there {k} (g, t, i, h) = (g, t, i, omega (arith, under.count-is g t i, whole (mem (inorder t))))
+  pub chosen-there : {k : ℕ} → k < count P v s (size - s) → m + k < count P v 0 size
+  chosen-there h = omega (arith, under, whole)
 
   -- its number fits
-  pub chosen-fits : {k : ℕ} → Choosable w p s v k → m + k < size
-  chosen-fits {k} (g, t, i, h) = omega (arith, under.count-is g t i, whole (mem (inorder t)), count_most (mem (inorder t)) v 0 size)
+  pub chosen-fits : {k : ℕ} → k < count P v s (size - s) → m + k < size
+  chosen-fits h = omega (arith, under, whole, count_most P v 0 size)
 
   -- it is the one that is found
-  pub chosen-told : (k : ℕ) {x : ℕ} → TellsSelected w p v (m + k) x → TellsChosen w p s v k x
-  chosen-told k {x} f = λ g t i.
-      let P : Positions = mem (inorder t) in
+  pub chosen-told : (k : ℕ) {x : ℕ} → select P v 0 size (m + k) ≡ Some x → select P v s (size - s) k ≡ Some x
+  chosen-told k {x} f =
       let a : s + (size - s) ≡ size = omega arith in
-      let b : m + k - count P v 0 s ≡ k = omega (arith, under.count-is g t i) in
+      let b : m + k - count P v 0 s ≡ k = omega (arith, under) in
       let z : 0 + s ≡ s = omega arith in
-      sym (sym (f g t i) ∙ ap (λ n. select P v 0 n (m + k)) (sym a) ∙ select-second P v 0 s (size - s) (m + k) (omega (arith, under.count-is g t i))
+      sym (sym f ∙ ap (λ n. select P v 0 n (m + k)) (sym a) ∙ select-second P v 0 s (size - s) (m + k) (omega (arith, under))
       ∙ ap₂ (λ n i. select P v n (size - s) i) z b)
 
 -- before 0 there are none
-pub under-zero : {w : List ℕ} {p s : ℕ} {v : Bool} → (1 ≤ s → ⊥) → TellsUnder w p s v 0
-under-zero {s = s} {v = v} z = record { count-is = λ g t i. sym (count_none (mem (inorder t)) v 0 s (λ x h l. absurd (omega arith))) }
+pub under-zero : (P : Positions) (v : Bool) {s : ℕ} → (1 ≤ s → ⊥) → 0 ≡ count P v 0 s
+under-zero P v {s} z = sym (count_none P v 0 s (λ x h l. absurd (omega arith)))
 
-module _ {w : List ℕ} {p s y : ℕ} {under : Rank} (last : (1 ≤ s) × (y ≡ s - 1)) (fits : s < size) (low : TellsRank w p y under) where
+module _ {s y : ℕ} {rs : List Run} {under : Rank} (last : (1 ≤ s) × (y ≡ s - 1)) (fits : s < size) (low : Ranked y under rs) where
   -- the rank of the position before s is not wrapped
-  ones-exact : TellsUnder w p s true under.ones
-  ones-exact = record {
-    count-is = λ g t i.
-        let q : y + 1 ≡ s = omega (arith, last.0, last.1) in
-        (low g t i).ones-are ∙ ap (λ x. count (mem (inorder t)) true 0 x % 2 ^ 64) q ∙ omega (arith, count-both (mem (inorder t)) 0 s);
-  }
+  ones-exact : under.ones ≡ count (mem rs) true 0 s
+  ones-exact =
+      let q : y + 1 ≡ s = omega (arith, last.0, last.1) in
+      low.ones-are ∙ ap (λ x. count (mem rs) true 0 x % 2 ^ 64) q ∙ omega (arith, count-both (mem rs) 0 s)
 
   -- no more than there are positions
-  pub ones-fit : {g : ℕ} {t : Tree} → Index w p g t → under.ones ≤ s
-  ones-fit {g} {t} i = omega (arith, ones-exact.count-is g t i, count-both (mem (inorder t)) 0 s)
+  pub ones-fit : under.ones ≤ s
+  ones-fit = omega (arith, ones-exact, count-both (mem rs) 0 s)
 
   -- the held ones before s
-  pub under-held : {v : Bool} → v ≡ true → TellsUnder w p s v under.ones
-  under-held f = subst (λ b. TellsUnder w p s b under.ones) (sym f) ones-exact
+  pub under-held : {v : Bool} → v ≡ true → under.ones ≡ count (mem rs) v 0 s
+  under-held f = ones-exact ∙ ap (λ b. count (mem rs) b 0 s) (sym f)
 
   -- the others before s
-  pub under-free : {v : Bool} → v ≡ false → TellsUnder w p s v (s - under.ones)
-  under-free f =
-      subst (λ b. TellsUnder w p s b (s - under.ones)) (sym f)
-      (record { count-is = λ g t i. omega (arith, ones-exact.count-is g t i, count-both (mem (inorder t)) 0 s) })
+  pub under-free : {v : Bool} → v ≡ false → s - under.ones ≡ count (mem rs) v 0 s
+  under-free f = omega (arith, ones-exact, count-both (mem rs) 0 s) ∙ ap (λ b. count (mem rs) b 0 s) (sym f)

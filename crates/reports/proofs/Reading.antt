@@ -3,40 +3,29 @@
 use Rattle.std.specs.Prelude.{option_map}
 use Rattle.std.specs.Prelude.{Option, None, Some, Result, Ok, Err}
 use Rattle.std.specs.Result.{result_ok}
-use Rattle.std.proofs.Common.{◌≡◌, ℕ, suc, ◌+◌, ◌-◌, ◌*◌, ◌<◌, ◌≤◌, Bool, ◌&&◌, List, [], ◌∷◌, length, sym, refl, ap, ◌∙◌, subst, ap₂, arith, w64, Fits}
+use Rattle.std.proofs.Common.{◌≡◌, ℕ, suc, ◌+◌, ◌-◌, ◌*◌, ◌<◌, ◌≤◌, Bool, ◌&&◌, sym, refl, ap, ◌∙◌, subst, ap₂, arith, w64, Fits}
 use mathlib.Core.Bool.{beq}
 use mir.Val.{bool_byte}
 use Rattle.model.specs.declared.Count.{Count}
-use Rattle.model.specs.declared.Run.{Run}
 use Rattle.model.specs.declared.Tally.{Tally}
 use Rattle.model.specs.Numbers.{size, worth}
 use Rattle.model.specs.Positions.{Positions, one_if, count, select, runs_in, run_count}
 use Rattle.model.proofs.Counting.{count_cut, count_most}
 use Rattle.model.proofs.Runs.{runs_in-canon}
 use Rattle.model.proofs.Finds.{Selected, select-only, select-none}
-use Rattle.model.specs.RunList.{Canon}
-use Rattle.store.specs.declared.World.{World}
 use Rattle.store.specs.Places.{physical_of, logical_of}
-use Rattle.store.specs.Layout.{held_in}
-use Rattle.store.specs.Soundness.{Share, Standing}
-use Rattle.store.specs.Bounds.{TellsHeld}
+use Rattle.store.specs.Layout.{turned}
 use Rattle.store.specs.declared.places.Physical.{Physical}
-use Rattle.reports.specs.Reports.{Measured, TellsTally, TellsPlace}
-use Rattle.reports.proofs.Ranks.{byte-one}
+use Rattle.reports.specs.Reports.{Measured, Place}
+use Rattle.reports.proofs.Ranks.{canon-most, byte-one}
 use Rattle.model.proofs.Moved.{move}
 use Rattle.store.proofs.Turn.{Lies, turned-at, whole_length, whole-move, parted-move-first, parted-move-second, first_below}
 use Rattle.store.proofs.Turn.{count-whole, count-parted, run_count-whole, run_count-parted, select-whole}
 use Rattle.reports.proofs.Joins.{select-first}
 use Rattle.reports.proofs.Parted.{select-in-first, select-in-second}
-use Rattle.store.proofs.Opening.{physical_in, standing-index, standing-held}
 
 -- ---- how much a range has
--- canonical runs are at least two apart
-canon-most : (total k : ℕ) (rs : List Run) → Canon total k rs → 2 * length rs ≤ total + 1 - k
-canon-most total k [] c = omega arith
-canon-most total k (r ∷ rs) c = omega (arith, c.0, c.1, c.2, canon-most total (r.«end» + 2) rs c.3)
-
--- so a range has at most half as many runs as positions, and one
+-- canonical runs are at least two apart, so a range has at most half as many runs as positions, and one
 pub ranges-most : (P : Positions) (v : Bool) (a n : ℕ) → 2 * run_count P v a n ≤ n + 1
 unfolding run_count
 ranges-most P v a n = omega (arith, canon-most (a + n) a (runs_in P v a n) (runs_in-canon P v (a + n) a n (omega arith)))
@@ -61,60 +50,58 @@ pub place-none : {r : Result Physical ℕ} {o : Option Physical} → o ≡ resul
 place-none {r = Ok y} e f = absurd (cc)
 place-none {r = Err j} e f = (j, refl)
 
--- ---- of a world
-module _ {w : List ℕ} {share : Share} {h : World} (st : Standing w share h) where
-  -- a position is held where its place is
-  pub held_at : {x s : ℕ} {r : Bool} → x < size → s ≡ physical_of x h.offset → TellsHeld w h.root s r → r ≡ held_in w h x
-  held_at {x} l es t =
-      t share.tag st.tree (standing-index st) ∙ ap (physical_in st) es ∙ sym (ap (λ P. P x) (standing-held st) ∙ turned-at h.offset (physical_in st) x l)
+-- a position is held where its place is
+pub held_at : (Q : Positions) (o : ℕ) {x s : ℕ} {r : Bool} → x < size → s ≡ physical_of x o → r ≡ Q s → r ≡ turned o Q x
+held_at Q o {x} l es t = t ∙ ap Q es ∙ sym (turned-at o Q x l)
 
-  module _ {a n s e : ℕ} (lies : Lies h.offset a n s e) (v : Bool) where
+-- ---- of the positions Q, turned by o
+module _ (Q : Positions) {o : ℕ} where
+  module _ {a n s e : ℕ} (lies : Lies o a n s e) (v : Bool) where
     -- ---- whole ranges
     -- what a whole range has
-    pub tally-whole : {r : Tally} → s ≤ e → TellsTally w h.root s e v r → Measured (held_in w h) v a n r
+    pub tally-whole : {r : Tally} → s ≤ e → Measured Q v s (suc e - s) r → Measured (turned o Q) v a n r
     tally-whole {r} i t =
-        let m : Measured (physical_in st) v s (suc e - s) r = t share.tag st.tree (standing-index st) in
-        subst (λ P. Measured P v a n r) (sym (standing-held st)) (record {
-          count-is = m.count-is ∙ sym (count-whole lies (physical_in st) v i ∙ ap (count (physical_in st) v s) (whole_length lies i));
-          runs-are = m.runs-are ∙ sym (run_count-whole lies (physical_in st) v i ∙ ap (run_count (physical_in st) v s) (whole_length lies i));
-        })
+        record {
+          count-is = t.count-is ∙ sym (count-whole lies Q v i ∙ ap (count Q v s) (whole_length lies i));
+          runs-are = t.runs-are ∙ sym (run_count-whole lies Q v i ∙ ap (run_count Q v s) (whole_length lies i));
+        }
 
     -- its k-th position
-    pub selected-whole : {k y : ℕ} {x : Physical} → s ≤ e → TellsPlace w h.root s e v k (Ok x) → y ≡ logical_of x.0 h.offset
-        → Some y ≡ select (held_in w h) v a n k
+    pub selected-whole : {k y : ℕ} {x : Physical} → s ≤ e → Place Q v s (suc e - s) k (Ok x) → y ≡ logical_of x.0 o
+        → Some y ≡ select (turned o Q) v a n k
     selected-whole {k} {y} {x} i t q =
-        let f : select (physical_in st) v s n k ≡ Some x.0 =
-        ap (λ m. select (physical_in st) v s m k) (whole_length lies i) ∙ (t share.tag st.tree (standing-index st)).1 in
-        let d : Selected (physical_in st) v s n k x.0 = select-only (physical_in st) v s n k x.0 f in
+        let f : select Q v s n k ≡ Some x.0 =
+        ap (λ m. select Q v s m k) (whole_length lies i) ∙ t.1 in
+        let d : Selected Q v s n k x.0 = select-only Q v s n k x.0 f in
         ap Some (q ∙ sym (whole-move lies i x.0 d.from (omega (arith, d.past, whole_length lies i))))
-        ∙ sym (ap (λ P. select P v a n k) (standing-held st) ∙ select-whole lies (physical_in st) v i k ∙ ap (option_map (move s a)) f)
+        ∙ sym (select-whole lies Q v i k ∙ ap (option_map (move s a)) f)
 
     -- it has none
-    pub unselected-whole : (k j : ℕ) → s ≤ e → TellsPlace w h.root s e v k (Err j) → None ≡ select (held_in w h) v a n k
+    pub unselected-whole : (k j : ℕ) → s ≤ e → Place Q v s (suc e - s) k (Err j) → None ≡ select (turned o Q) v a n k
     unselected-whole k j i t =
-        let c : count (held_in w h) v a n ≡ count (physical_in st) v s (suc e - s) =
-        ap (λ P. count P v a n) (standing-held st) ∙ count-whole lies (physical_in st) v i ∙ ap (count (physical_in st) v s) (whole_length lies i) in
-        sym (select-none (held_in w h) v a n k (omega (arith, c, t share.tag st.tree (standing-index st))))
+        let c : count (turned o Q) v a n ≡ count Q v s (suc e - s) =
+        count-whole lies Q v i ∙ ap (count Q v s) (whole_length lies i) in
+        sym (select-none (turned o Q) v a n k (omega (arith, c, t)))
 
     -- ---- parted ranges
     -- what the first part has
-    first_part : {one : Tally} → TellsTally w h.root s (size - 1) v one → Measured (physical_in st) v s (size - s) one
-    first_part {one} t = subst (λ m. Measured (physical_in st) v s m one) (omega arith) (t share.tag st.tree (standing-index st))
+    first_part : {one : Tally} → Measured Q v s (suc (size - 1) - s) one → Measured Q v s (size - s) one
+    first_part {one} t = subst (λ m. Measured Q v s m one) (omega arith) t
 
     -- what the second part has
-    second-part : {two : Tally} → TellsTally w h.root 0 e v two → Measured (physical_in st) v 0 (e + 1) two
-    second-part {two} u = subst (λ m. Measured (physical_in st) v 0 m two) (omega arith) (u share.tag st.tree (standing-index st))
+    second-part : {two : Tally} → Measured Q v 0 (suc e - 0) two → Measured Q v 0 (e + 1) two
+    second-part {two} u = subst (λ m. Measured Q v 0 m two) (omega arith) u
 
-    module _ {one two : Tally} (parted : e < s) (t : TellsTally w h.root s (size - 1) v one) (u : TellsTally w h.root 0 e v two) where
+    module _ {one two : Tally} (parted : e < s) (t : Measured Q v s (suc (size - 1) - s) one) (u : Measured Q v 0 (suc e - 0) two) where
       -- both together
-      count-both-parts : worth one.count + worth two.count ≡ count (held_in w h) v a n
+      count-both-parts : worth one.count + worth two.count ≡ count (turned o Q) v a n
       count-both-parts =
           ap₂ ◌+◌ (first_part t).count-is (second-part u).count-is
-          ∙ sym (ap (λ P. count P v a n) (standing-held st) ∙ count-parted lies (physical_in st) v parted)
+          ∙ sym (count-parted lies Q v parted)
 
       -- that is at most 2^64
       pub count_fits : worth one.count + worth two.count ≤ size
-      count_fits = omega (arith, count-both-parts, count_most (held_in w h) v a n, lies.fits)
+      count_fits = omega (arith, count-both-parts, count_most (turned o Q) v a n, lies.fits)
 
       -- the runs of both together fit a word
       pub runs_fit : Fits w64 (one.runs + two.runs)
@@ -124,70 +111,67 @@ module _ {w : List ℕ} {share : Share} {h : World} (st : Standing w share h) wh
               arith,
               (first_part t).runs-are,
               (second-part u).runs-are,
-              ranges-most (physical_in st) v s (size - s),
-              ranges-most (physical_in st) v 0 (e + 1),
+              ranges-most Q v s (size - s),
+              ranges-most Q v 0 (e + 1),
             );
       }
 
       -- the run across physical M and 0 is counted twice
-      runs-both-parts : {high low : Bool} → TellsHeld w h.root (size - 1) high → TellsHeld w h.root 0 low
-          → one.runs + two.runs ≡ run_count (held_in w h) v a n + one_if (beq high v && beq low v)
+      runs-both-parts : {high low : Bool} → high ≡ Q (size - 1) → low ≡ Q 0
+          → one.runs + two.runs ≡ run_count (turned o Q) v a n + one_if (beq high v && beq low v)
       runs-both-parts {high} {low} x y =
-          ap₂ ◌+◌ (first_part t).runs-are (second-part u).runs-are ∙ sym (run_count-parted lies (physical_in st) v parted)
-          ∙ ap₂ (λ P b. run_count P v a n + one_if b) (sym (standing-held st))
-          (ap₂ (λ p q. beq p v && beq q v) (sym (x share.tag st.tree (standing-index st))) (sym (y share.tag st.tree (standing-index st))))
+          ap₂ ◌+◌ (first_part t).runs-are (second-part u).runs-are ∙ sym (run_count-parted lies Q v parted)
+          ∙ ap (λ b. run_count (turned o Q) v a n + one_if b)
+          (ap₂ (λ p q. beq p v && beq q v) (sym x) (sym y))
 
       -- what a parted range has
-      pub tally-parted : {high low b : Bool} {k : Count} → TellsHeld w h.root (size - 1) high → TellsHeld w h.root 0 low
+      pub tally-parted : {high low b : Bool} {k : Count} → high ≡ Q (size - 1) → low ≡ Q 0
           → b ≡ (beq high v && beq low v) → worth k ≡ worth one.count + worth two.count
-          → Measured (held_in w h) v a n (record { count = k; runs = one.runs + two.runs - bool_byte b })
+          → Measured (turned o Q) v a n (record { count = k; runs = one.runs + two.runs - bool_byte b })
       tally-parted {b = b} x y q r =
           record { count-is = r ∙ count-both-parts; runs-are = omega (arith, runs-both-parts x y, byte-one b, ap one_if q) }
 
       -- there are as many runs as are counted twice
-      pub joined-some : {high low b : Bool} → TellsHeld w h.root (size - 1) high → TellsHeld w h.root 0 low
+      pub joined-some : {high low b : Bool} → high ≡ Q (size - 1) → low ≡ Q 0
           → b ≡ (beq high v && beq low v) → bool_byte b ≤ one.runs + two.runs
       joined-some {b = b} x y q = omega (arith, runs-both-parts x y, byte-one b, ap one_if q)
 
     module _ (k : ℕ) (parted : e < s) where
       -- the first part's k-th position is the range's
-      pub selected-first : {y : ℕ} {x : Physical} → TellsPlace w h.root s (size - 1) v k (Ok x) → y ≡ logical_of x.0 h.offset
-          → Some y ≡ select (held_in w h) v a n k
+      pub selected-first : {y : ℕ} {x : Physical} → Place Q v s (suc (size - 1) - s) k (Ok x) → y ≡ logical_of x.0 o
+          → Some y ≡ select (turned o Q) v a n k
       selected-first {y} {x} t q =
-          let d = t share.tag st.tree (standing-index st) in
           let z : suc (size - 1) - s ≡ size - s = omega arith in
-          let f : select (physical_in st) v s (size - s) k ≡ Some x.0 = ap (λ m. select (physical_in st) v s m k) (sym z) ∙ d.1 in
-          let o : Selected (physical_in st) v s (size - s) k x.0 = select-only (physical_in st) v s (size - s) k x.0 f in
-          ap Some (q ∙ sym (parted-move-first lies parted x.0 o.from (omega (arith, o.past, first_below lies))))
-          ∙ sym (ap (λ P. select P v a n k) (standing-held st)
-          ∙ select-in-first lies parted (physical_in st) v k (omega (arith, d.0, ap (count (physical_in st) v s) z)) ∙ ap (option_map (move s a)) f)
+          let f : select Q v s (size - s) k ≡ Some x.0 = ap (λ m. select Q v s m k) (sym z) ∙ t.1 in
+          let d : Selected Q v s (size - s) k x.0 = select-only Q v s (size - s) k x.0 f in
+          ap Some (q ∙ sym (parted-move-first lies parted x.0 d.from (omega (arith, d.past, first_below lies))))
+          ∙ sym (select-in-first lies parted Q v k (omega (arith, t.0, ap (count Q v s) z)) ∙ ap (option_map (move s a)) f)
 
       -- the second part's positions follow, fewer by those of the first part
-      module _ (j : ℕ) (t : TellsPlace w h.root s (size - 1) v k (Err j)) where
-        first-count : count (physical_in st) v s (size - s) + j ≡ k
+      module _ (j : ℕ) (t : Place Q v s (suc (size - 1) - s) k (Err j)) where
+        first-count : count Q v s (size - s) + j ≡ k
         first-count =
             let z : suc (size - 1) - s ≡ size - s = omega arith in
-            omega (arith, t share.tag st.tree (standing-index st), ap (count (physical_in st) v s) z)
+            omega (arith, t, ap (count Q v s) z)
 
         -- its j-th position is the range's k-th
-        pub selected-second : {y : ℕ} {x : Physical} → TellsPlace w h.root 0 e v j (Ok x) → y ≡ logical_of x.0 h.offset
-            → Some y ≡ select (held_in w h) v a n k
+        pub selected-second : {y : ℕ} {x : Physical} → Place Q v 0 (suc e - 0) j (Ok x) → y ≡ logical_of x.0 o
+            → Some y ≡ select (turned o Q) v a n k
         selected-second {y} {x} u q =
             let z : suc e - 0 ≡ e + 1 = omega arith in
-            let f : select (physical_in st) v 0 (e + 1) j ≡ Some x.0 =
-            ap (λ m. select (physical_in st) v 0 m j) (sym z) ∙ (u share.tag st.tree (standing-index st)).1 in
-            let d : Selected (physical_in st) v 0 (e + 1) j x.0 = select-only (physical_in st) v 0 (e + 1) j x.0 f in
-            let i : k - count (physical_in st) v s (size - s) ≡ j = omega (arith, first-count) in
+            let f : select Q v 0 (e + 1) j ≡ Some x.0 =
+            ap (λ m. select Q v 0 m j) (sym z) ∙ u.1 in
+            let d : Selected Q v 0 (e + 1) j x.0 = select-only Q v 0 (e + 1) j x.0 f in
+            let i : k - count Q v s (size - s) ≡ j = omega (arith, first-count) in
             ap Some (q ∙ sym (parted-move-second lies parted x.0 (omega (arith, d.past))))
-            ∙ sym (ap (λ P. select P v a n k) (standing-held st)
-            ∙ select-in-second lies parted (physical_in st) v k (omega (arith, first-count))
-            ∙ ap (λ m. option_map (move 0 (a + (size - s))) (select (physical_in st) v 0 (e + 1) m)) i ∙ ap (option_map (move 0 (a + (size - s)))) f)
+            ∙ sym (select-in-second lies parted Q v k (omega (arith, first-count))
+            ∙ ap (λ m. option_map (move 0 (a + (size - s))) (select Q v 0 (e + 1) m)) i ∙ ap (option_map (move 0 (a + (size - s)))) f)
 
         -- the range has no k-th position
-        pub unselected-second : (i : ℕ) → TellsPlace w h.root 0 e v j (Err i) → None ≡ select (held_in w h) v a n k
+        pub unselected-second : (i : ℕ) → Place Q v 0 (suc e - 0) j (Err i) → None ≡ select (turned o Q) v a n k
         unselected-second i u =
             let z : suc e - 0 ≡ e + 1 = omega arith in
-            let c : count (held_in w h) v a n ≡ count (physical_in st) v s (size - s) + count (physical_in st) v 0 (e + 1) =
-            ap (λ P. count P v a n) (standing-held st) ∙ count-parted lies (physical_in st) v parted in
-            sym (select-none (held_in w h) v a n k
-            (omega (arith, c, first-count, u share.tag st.tree (standing-index st), ap (count (physical_in st) v 0) z)))
+            let c : count (turned o Q) v a n ≡ count Q v s (size - s) + count Q v 0 (e + 1) =
+            count-parted lies Q v parted in
+            sym (select-none (turned o Q) v a n k
+            (omega (arith, c, first-count, u, ap (count Q v 0) z)))

@@ -1,15 +1,13 @@
 -- The next and the previous logical position of a value, from the physical ones. Logical positions from a to b lie at one physical range,
 -- or at two; each of them is looked up where it lies, and the nearest one found is the one sought. Assumes nothing.
 use Rattle.std.specs.Prelude.{Option, None, Some}
-use Rattle.std.proofs.Common.{◌≡◌, ℕ, suc, ◌+◌, ◌-◌, ◌<◌, ◌≤◌, Bool, not, ◌⊎◌, List, sym, ◌∙◌, subst, inl, inr, arith}
+use Rattle.std.proofs.Common.{◌≡◌, ℕ, suc, ◌+◌, ◌-◌, ◌<◌, ◌≤◌, Bool, not, ◌⊎◌, sym, ◌∙◌, subst, inl, inr, arith}
 use Rattle.model.specs.Numbers.{size}
 use Rattle.model.proofs.Numbers.{split}
 use Rattle.model.specs.Positions.{Positions}
-use Rattle.store.specs.declared.World.{World}
 use Rattle.store.specs.Places.{physical_of, logical_of}
-use Rattle.store.specs.Layout.{turned, held_in}
-use Rattle.store.specs.Soundness.{Share, Standing}
-use Rattle.reports.specs.Reports.{Next, Previous, TellsNext, TellsPrevious}
+use Rattle.store.specs.Layout.{turned}
+use Rattle.reports.specs.Reports.{Next, Previous}
 use Rattle.store.proofs.Turn.{
   Lies,
   lies-from-to,
@@ -22,7 +20,6 @@ use Rattle.store.proofs.Turn.{
   parted-length,
   whole-last,
 }
-use Rattle.store.proofs.Opening.{physical_in, standing-index, standing-held}
 
 -- ---- turned positions
 module _ {o a n s e : ℕ} (lies : Lies o a n s e) (Q : Positions) (v : Bool) where
@@ -152,88 +149,74 @@ lies-from {o} {x} {s} {e} l small es ee =
 pub lies-upto : {o x s e : ℕ} → x < size → o < size → s ≡ physical_of 0 o → e ≡ physical_of x o → Lies o 0 (suc x) s e
 lies-upto {o} {x} {s} {e} l small es ee = subst (λ n. Lies o 0 n s e) (omega arith) (lies-from-to {b = x} (omega arith) l small es ee)
 
--- ---- of a world
-module _ {w : List ℕ} {share : Share} {h : World} (st : Standing w share h) where
-  module _ {a n s e : ℕ} (v : Bool) (lies : Lies h.offset a n s e) where
+-- a next position, as the code has it
+next-is : (P : Positions) {x y z : ℕ} {v : Bool} → y ≡ z → Next P v x (Some z) → Next P v x (Some y)
+next-is P {x} {y} {z} {v} d m = subst (λ j. Next P v x (Some j)) (sym d) m
+
+-- a previous one
+previous-is : (P : Positions) {x k y z : ℕ} {v : Bool} → k ≡ x → y ≡ z → Previous P v k (Some z) → Previous P v x (Some y)
+previous-is P {x} {k} {y} {z} {v} c d m = subst (λ j. Previous P v j (Some y)) c (subst (λ j. Previous P v k (Some j)) (sym d) m)
+
+-- ---- of the positions Q, turned by o
+module _ (Q : Positions) {o : ℕ} where
+  module _ {a n s e : ℕ} (v : Bool) (lies : Lies o a n s e) where
     -- no position of the value in a range, if there is none where it lies
-    nowhere-whole : s ≤ e → ((y : ℕ) → s ≤ y → y ≤ e → physical_in st y ≡ not v) → (z : ℕ) → a ≤ z → z < a + n → held_in w h z ≡ not v
-    nowhere-whole i f =
-        subst (λ P. (z : ℕ) → a ≤ z → z < a + n → P z ≡ not v) (sym (standing-held st)) (none-whole lies (physical_in st) v i f)
+    nowhere-whole : s ≤ e → ((y : ℕ) → s ≤ y → y ≤ e → Q y ≡ not v) → (z : ℕ) → a ≤ z → z < a + n → turned o Q z ≡ not v
+    nowhere-whole i f = none-whole lies Q v i f
 
     -- the same where it lies at two ranges
-    nowhere-parted : e < s → ((y : ℕ) → s ≤ y → y < size → physical_in st y ≡ not v) → ((y : ℕ) → y ≤ e → physical_in st y ≡ not v)
-        → (z : ℕ) → a ≤ z → z < a + n → held_in w h z ≡ not v
-    nowhere-parted i f g =
-        subst (λ P. (z : ℕ) → a ≤ z → z < a + n → P z ≡ not v) (sym (standing-held st)) (none-parted lies (physical_in st) v i f g)
+    nowhere-parted : e < s → ((y : ℕ) → s ≤ y → y < size → Q y ≡ not v) → ((y : ℕ) → y ≤ e → Q y ≡ not v)
+        → (z : ℕ) → a ≤ z → z < a + n → turned o Q z ≡ not v
+    nowhere-parted i f g = none-parted lies Q v i f g
 
   -- ---- upwards
-  -- what a search in the tree tells
-  told-next : (x : ℕ) (v : Bool) {n m : Option ℕ} → TellsNext w h.root x v n → n ≡ m → Next (physical_in st) v x m
-  told-next x v t q = subst (Next (physical_in st) v x) q (t share.tag st.tree (standing-index st))
-
-  -- a next position, as the code has it
-  next-is : {x y z : ℕ} {v : Bool} → y ≡ z → Next (turned h.offset (physical_in st)) v x (Some z) → Next (held_in w h) v x (Some y)
-  next-is {x} {y} {z} {v} d m =
-      subst (λ P. Next P v x (Some y)) (sym (standing-held st)) (subst (λ j. Next (turned h.offset (physical_in st)) v x (Some j)) (sym d) m)
-
-  module _ {x s e : ℕ} (v : Bool) (lies : Lies h.offset x (size - x) s e) where
+  module _ {x s e : ℕ} (v : Bool) (lies : Lies o x (size - x) s e) where
     -- found from x's place on
-    pub next-first : {n : Option ℕ} {p y : ℕ} → TellsNext w h.root s v n → n ≡ Some p → (s ≤ e → p ≤ e) → y ≡ logical_of p h.offset
-        → Next (held_in w h) v x (Some y)
-    next-first {n} {p} t q u d = next-is d (next-near lies (physical_in st) v p (told-next s v t q) u)
+    pub next-first : {n : Option ℕ} {p y : ℕ} → Next Q v s n → n ≡ Some p → (s ≤ e → p ≤ e) → y ≡ logical_of p o
+        → Next (turned o Q) v x (Some y)
+    next-first {n} {p} t q u d = next-is (turned o Q) d (next-near lies Q v p (subst (Next Q v s) q t) u)
 
     -- not there, but found from 0 on
-    pub next-second : {n m : Option ℕ} {p y : ℕ} → e < s → TellsNext w h.root s v n → n ≡ None → TellsNext w h.root 0 v m → m ≡ Some p → p ≤ e
-        → y ≡ logical_of p h.offset → Next (held_in w h) v x (Some y)
+    pub next-second : {n m : Option ℕ} {p y : ℕ} → e < s → Next Q v s n → n ≡ None → Next Q v 0 m → m ≡ Some p → p ≤ e
+        → y ≡ logical_of p o → Next (turned o Q) v x (Some y)
     next-second {n} {m} {p} i t q t' q' u d =
-        next-is d (next-far lies (physical_in st) v i (told-next s v t q) p (told-next 0 v t' q') u)
+        next-is (turned o Q) d (next-far lies Q v i (subst (Next Q v s) q t) p (subst (Next Q v 0) q' t') u)
 
     -- not found, where the positions from x on lie at one range
-    pub next-nowhere : {n : Option ℕ} → s ≤ e → TellsNext w h.root s v n → Past e n → Next (held_in w h) v x None
+    pub next-nowhere : {n : Option ℕ} → s ≤ e → Next Q v s n → Past e n → Next (turned o Q) v x None
     next-nowhere {n} i t u z j k =
-        nowhere-whole v lies i (λ y b c. none-next (physical_in st) v n (t share.tag st.tree (standing-index st)) u y b c (omega arith))
+        nowhere-whole v lies i (λ y b c. none-next Q v n t u y b c (omega arith))
         z j (omega arith)
 
     -- not found, where they lie at two
-    pub next-nowhere-parted : {n m : Option ℕ} → e < s → TellsNext w h.root s v n → n ≡ None → TellsNext w h.root 0 v m → Past e m
-        → Next (held_in w h) v x None
+    pub next-nowhere-parted : {n m : Option ℕ} → e < s → Next Q v s n → n ≡ None → Next Q v 0 m → Past e m
+        → Next (turned o Q) v x None
     next-nowhere-parted {n} {m} i t q t' u z j k =
-        nowhere-parted v lies i (told-next s v t q)
-        (λ y b. none-next (physical_in st) v m (t' share.tag st.tree (standing-index st)) u y (omega arith) b (omega arith)) z j (omega arith)
+        nowhere-parted v lies i (subst (Next Q v s) q t)
+        (λ y b. none-next Q v m t' u y (omega arith) b (omega arith)) z j (omega arith)
 
   -- ---- downwards
-  -- what a search in the tree tells
-  told-previous : (x : ℕ) (v : Bool) {n m : Option ℕ} → TellsPrevious w h.root x v n → n ≡ m → Previous (physical_in st) v x m
-  told-previous x v t q = subst (Previous (physical_in st) v x) q (t share.tag st.tree (standing-index st))
-
-  -- a previous position, as the code has it
-  previous-is : {x k y z : ℕ} {v : Bool} → k ≡ x → y ≡ z → Previous (turned h.offset (physical_in st)) v k (Some z) → Previous (held_in w h) v x (Some y)
-  previous-is {x} {k} {y} {z} {v} c d m =
-      subst (λ P. Previous P v x (Some y)) (sym (standing-held st))
-      (subst (λ j. Previous (turned h.offset (physical_in st)) v j (Some y)) c
-      (subst (λ j. Previous (turned h.offset (physical_in st)) v k (Some j)) (sym d) m))
-
-  module _ {x s e : ℕ} (v : Bool) (lies : Lies h.offset 0 (suc x) s e) where
+  module _ {x s e : ℕ} (v : Bool) (lies : Lies o 0 (suc x) s e) where
     -- found from x's place back
-    pub previous-first : {n : Option ℕ} {p y : ℕ} → TellsPrevious w h.root e v n → n ≡ Some p → (s ≤ e → s ≤ p) → y ≡ logical_of p h.offset
-        → Previous (held_in w h) v x (Some y)
-    previous-first {n} {p} t q u d = previous-is (omega arith) d (previous-near lies (physical_in st) v p (told-previous e v t q) u)
+    pub previous-first : {n : Option ℕ} {p y : ℕ} → Previous Q v e n → n ≡ Some p → (s ≤ e → s ≤ p) → y ≡ logical_of p o
+        → Previous (turned o Q) v x (Some y)
+    previous-first {n} {p} t q u d = previous-is (turned o Q) (omega arith) d (previous-near lies Q v p (subst (Previous Q v e) q t) u)
 
     -- not there, but found from M back
-    pub previous-second : {n m : Option ℕ} {p y : ℕ} → e < s → TellsPrevious w h.root e v n → n ≡ None → TellsPrevious w h.root (size - 1) v m
-        → m ≡ Some p → s ≤ p → y ≡ logical_of p h.offset → Previous (held_in w h) v x (Some y)
+    pub previous-second : {n m : Option ℕ} {p y : ℕ} → e < s → Previous Q v e n → n ≡ None → Previous Q v (size - 1) m
+        → m ≡ Some p → s ≤ p → y ≡ logical_of p o → Previous (turned o Q) v x (Some y)
     previous-second {n} {m} {p} i t q t' q' u d =
-        previous-is (omega arith) d (previous-far lies (physical_in st) v i (told-previous e v t q) p (told-previous (size - 1) v t' q') u)
+        previous-is (turned o Q) (omega arith) d (previous-far lies Q v i (subst (Previous Q v e) q t) p (subst (Previous Q v (size - 1)) q' t') u)
 
     -- not found, where the positions up to x lie at one range
-    pub previous-nowhere : {n : Option ℕ} → s ≤ e → TellsPrevious w h.root e v n → Short s n → Previous (held_in w h) v x None
+    pub previous-nowhere : {n : Option ℕ} → s ≤ e → Previous Q v e n → Short s n → Previous (turned o Q) v x None
     previous-nowhere {n} i t u z k =
-        nowhere-whole v lies i (none-previous (physical_in st) v n (t share.tag st.tree (standing-index st)) u) z (omega arith) (omega arith)
+        nowhere-whole v lies i (none-previous Q v n t u) z (omega arith) (omega arith)
 
     -- not found, where they lie at two
-    pub previous-nowhere-parted : {n m : Option ℕ} → e < s → TellsPrevious w h.root e v n → n ≡ None → TellsPrevious w h.root (size - 1) v m
-        → Short s m → Previous (held_in w h) v x None
+    pub previous-nowhere-parted : {n m : Option ℕ} → e < s → Previous Q v e n → n ≡ None → Previous Q v (size - 1) m
+        → Short s m → Previous (turned o Q) v x None
     previous-nowhere-parted {n} {m} i t q t' u z k =
         nowhere-parted v lies i
-        (λ y b c. none-previous (physical_in st) v m (t' share.tag st.tree (standing-index st)) u y b (omega arith)) (told-previous e v t q)
+        (λ y b c. none-previous Q v m t' u y b (omega arith)) (subst (Previous Q v e) q t)
         z (omega arith) (omega arith)

@@ -1,13 +1,10 @@
 -- What the reports tell: of the tree at a root, and of a world. Assumes nothing: these are definitions.
 use Rattle.std.specs.Prelude.{Option, None, Some, Result, Ok, Err}
-use Rattle.std.specs.Prelude.{◌≡◌, ℕ, suc, ◌+◌, ◌-◌, ◌<◌, ◌≤◌, Bool, not, List}
+use Rattle.std.specs.Prelude.{◌≡◌, ℕ, suc, ◌+◌, ◌<◌, ◌≤◌, Bool, not}
 use Rattle.model.specs.declared.Run.{Run}
 use Rattle.model.specs.declared.Tally.{Tally}
 use Rattle.model.specs.Numbers.{size, worth}
-use Rattle.model.specs.Positions.{Positions, count, select, run_count, mem}
-use Rattle.model.specs.RunList.{first_from}
-use Rattle.run_index.specs.Tree.{Tree, inorder}
-use Rattle.run_index.specs.Search.{Index}
+use Rattle.model.specs.Positions.{Positions, count, select, run_count}
 use Rattle.store.specs.declared.places.Physical.{Physical}
 
 -- the positions of a value among the n from a, and the runs of it there
@@ -15,27 +12,10 @@ pub record Measured (P : Positions) (v : Bool) (a n : ℕ) (r : Tally) : Type 0 
   pub count-is : worth r.count ≡ count P v a n
   pub runs-are : r.runs ≡ run_count P v a n
 
-abbrev pub TellsTally : List ℕ → ℕ → ℕ → ℕ → Bool → Tally → Type 0
-TellsTally w p s e v r = (g : ℕ) (t : Tree) → Index w p g t → Measured (mem (inorder t)) v s (suc e - s) r
-
--- how many positions of a value lie before s
-pub record TellsUnder (w : List ℕ) (p s : ℕ) (v : Bool) (r : ℕ) : Type 0 where
-  pub count-is : (g : ℕ) (t : Tree) → Index w p g t → r ≡ count (mem (inorder t)) v 0 s
-
--- the k-th position of a value from s on, where there are more than k
-abbrev pub Choosable : List ℕ → ℕ → ℕ → Bool → ℕ → Type 0
-Choosable w p s v k = (g : ℕ) × (t : Tree) × Index w p g t × (k < count (mem (inorder t)) v s (size - s))
-
-abbrev pub TellsChosen : List ℕ → ℕ → ℕ → Bool → ℕ → ℕ → Type 0
-TellsChosen w p s v k x = (g : ℕ) (t : Tree) → Index w p g t → select (mem (inorder t)) v s (size - s) k ≡ Some x
-
 -- the place of the k-th position of a value from s to e, or how many are left to pass after e
 abbrev pub Place : Positions → Bool → ℕ → ℕ → ℕ → Result Physical ℕ → Type 0
 Place P v s n k (Ok x) = (k < count P v s n) × (select P v s n k ≡ Some x.0)
 Place P v s n k (Err j) = count P v s n + j ≡ k
-
-abbrev pub TellsPlace : List ℕ → ℕ → ℕ → ℕ → Bool → ℕ → Result Physical ℕ → Type 0
-TellsPlace w p s e v k r = (g : ℕ) (t : Tree) → Index w p g t → Place (mem (inorder t)) v s (suc e - s) k r
 
 -- the least position of a value at or after x, if there is one
 abbrev pub Next : Positions → Bool → ℕ → Option ℕ → Type 0
@@ -47,19 +27,10 @@ abbrev pub Previous : Positions → Bool → ℕ → Option ℕ → Type 0
 Previous P v x (Some y) = (y ≤ x) × (P y ≡ v) × ((z : ℕ) → y < z → z ≤ x → P z ≡ not v)
 Previous P v x None = (z : ℕ) → z ≤ x → P z ≡ not v
 
-abbrev pub TellsNext : List ℕ → ℕ → ℕ → Bool → Option ℕ → Type 0
-TellsNext w p x v r = (g : ℕ) (t : Tree) → Index w p g t → Next (mem (inorder t)) v x r
-
-abbrev pub TellsPrevious : List ℕ → ℕ → ℕ → Bool → Option ℕ → Type 0
-TellsPrevious w p x v r = (g : ℕ) (t : Tree) → Index w p g t → Previous (mem (inorder t)) v x r
-
 -- the start of the first run at or after x
 abbrev pub start_of : Option Run → Option ℕ
 start_of None = None
 start_of (Some r) = Some r.start
-
-abbrev pub TellsStart : List ℕ → ℕ → ℕ → Option ℕ → Type 0
-TellsStart w p x r = (g : ℕ) (t : Tree) → Index w p g t → r ≡ start_of (first_from x (inorder t))
 
 -- the k-th of the n positions from a that have the value v
 abbrev pub Selects : Positions → Bool → ℕ → ℕ → ℕ → Option ℕ → Type 0

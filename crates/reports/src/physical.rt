@@ -1,25 +1,26 @@
-// Reports on physical positions, from the tree at a root: what a range holds, the k-th position of a value, and the next one of a value.
-ghost use Rattle.std.specs.Prelude.{◌≡◌, ◌+◌, ◌≤◌};
-ghost use Rattle.model.specs.Numbers.{worth};
-ghost use Rattle.run_index.specs.Search.{Indexed};
-ghost use Rattle.reports.specs.Reports.{TellsTally, TellsUnder, Choosable, TellsChosen, TellsNext, TellsPrevious, TellsStart};
+// Reports on physical positions, from the runs of a tree: what a range holds, the k-th position of a value, and the next one of a value.
+ghost use Rattle.std.specs.Prelude.{◌≡◌, suc, ◌-◌, ◌<◌, ◌≤◌, Some};
+ghost use Rattle.model.specs.Numbers.{size};
+ghost use Rattle.model.specs.Positions.{count, select, mem};
+ghost use Rattle.model.specs.RunList.{first_from};
+ghost use Rattle.reports.specs.Reports.{Measured, Next, Previous, start_of};
 
 use model::{Count, Tally};
+use run_index::search::Runs;
 use store::places::Physical;
 
 // The positions of the value from s to e, and its runs there. Runs of the two values alternate, so the values at both ends tell
 // how many runs of the other value there are.
-pub fn tally_physical(words: &[u64], root: u64, s: Physical, e: Physical, value: bool) -> Tally
-    requires indexed { Indexed words.now root }
-    requires s_le_e { s.0 ≤ e.0 }
-    ensures { TellsTally words.now root s.0 e.0 value result }
+pub fn tally_physical(runs: &Runs<'_>, s: Physical, e: Physical, value: bool) -> Tally
+    requires { s.0 ≤ e.0 }
+    ensures { Measured (mem runs.now) value s.0 (suc e.0 - s.0) result }
 {
-    let under = run_index::search::rank_at(words, root, s.0);
-    let upto = run_index::search::rank_at(words, root, e.0);
+    let under = runs.rank_at(s.0);
+    let upto = runs.rank_at(e.0);
     // the held positions above s, and the runs that start there
     let more = upto.ones.wrapping_sub(under.ones);
     let starts = upto.starts - under.starts;
-    let (above, runs) = if value {
+    let (above, many) = if value {
         (more, starts + u64::from(under.held))
     } else {
         (e.0 - s.0 - more, starts + u64::from(!upto.held))
@@ -32,61 +33,57 @@ pub fn tally_physical(words: &[u64], root: u64, s: Physical, e: Physical, value:
             low: above,
         }
     };
-    Tally { count, runs }
+    Tally { count, runs: many }
 }
 
 // How many positions of the value lie before s.
-fn lying_before(words: &[u64], root: u64, s: Physical, value: bool) -> u64
-    requires { Indexed words.now root }
-    ensures { TellsUnder words.now root s.0 value result }
+fn lying_before(runs: &Runs<'_>, s: Physical, value: bool) -> u64
+    ensures { result ≡ count (mem runs.now) value 0 s.0 }
 {
     let Some(y) = s.0.checked_sub(1) else {
         return 0;
     };
-    let held = run_index::search::rank_at(words, root, y).ones;
+    let held = runs.rank_at(y).ones;
     if value { held } else { s.0 - held }
 }
 
 // The k-th position of the value from s on, k counted from 0, where there are more than k.
-pub fn select_physical(words: &[u64], root: u64, s: Physical, value: bool, k: u64) -> Physical
-    requires { Choosable words.now root s.0 value k }
-    ensures { TellsChosen words.now root s.0 value k result.0 }
+pub fn select_physical(runs: &Runs<'_>, s: Physical, value: bool, k: u64) -> Physical
+    requires { k < count (mem runs.now) value s.0 (size - s.0) }
+    ensures { select (mem runs.now) value s.0 (size - s.0) k ≡ Some result.0 }
 {
-    Physical(run_index::search::select(words, root, value, lying_before(words, root, s, value) + k))
+    Physical(runs.select(value, lying_before(runs, s, value) + k))
 }
 
 // The least position of the value at or after x.
-pub fn next_physical(words: &[u64], root: u64, x: Physical, value: bool) -> Option<u64>
-    requires { Indexed words.now root }
-    ensures { TellsNext words.now root x.0 value result }
+pub fn next_physical(runs: &Runs<'_>, x: Physical, value: bool) -> Option<u64>
+    ensures { Next (mem runs.now) value x.0 result }
 {
     let from = x.0;
-    match run_index::search::at_or_before(words, root, from) {
+    match runs.at_or_before(from) {
         Some(r) if from <= r.end => if value {
             Some(from)
         } else {
             r.end.checked_add(1)
         },
-        _ if value => next_start(words, root, from),
+        _ if value => next_start(runs, from),
         _ => Some(from),
     }
 }
 
 // The least start of a run at or after x.
-fn next_start(words: &[u64], root: u64, x: u64) -> Option<u64>
-    requires { Indexed words.now root }
-    ensures { TellsStart words.now root x result }
+fn next_start(runs: &Runs<'_>, x: u64) -> Option<u64>
+    ensures { result ≡ start_of (first_from x runs.now) }
 {
-    run_index::search::at_or_after(words, root, x).map(|r| r.start)
+    runs.at_or_after(x).map(|r| r.start)
 }
 
 // The greatest position of the value at or before x.
-pub fn previous_physical(words: &[u64], root: u64, x: Physical, value: bool) -> Option<u64>
-    requires { Indexed words.now root }
-    ensures { TellsPrevious words.now root x.0 value result }
+pub fn previous_physical(runs: &Runs<'_>, x: Physical, value: bool) -> Option<u64>
+    ensures { Previous (mem runs.now) value x.0 result }
 {
     let from = x.0;
-    match run_index::search::at_or_before(words, root, from) {
+    match runs.at_or_before(from) {
         Some(r) if from <= r.end => if value {
             Some(from)
         } else {

@@ -1,21 +1,19 @@
 // Runs of a world's positions, from the next and the previous position of a value.
 ghost use Rattle.std.specs.Prelude.{◌≡◌, suc, ◌-◌, ◌≤◌};
 ghost use Rattle.model.specs.Positions.{first_run, last_run, runs_in, run_at, find};
-ghost use Rattle.store.specs.Layout.{held_in};
-ghost use Rattle.store.specs.Soundness.{Stands};
+ghost use Rattle.store.specs.Layout.{held};
 ghost use Rattle.reports.specs.Reports.{LowEnd, HighEnd};
 
 use model::{Logical, Run};
-use store::World;
+use store::Set;
 
 // The least position of the value from a to b.
-pub fn find_in(words: &[u64], h: World, a: Logical, b: Logical, value: bool) -> Option<u64>
-    requires stands { Stands words.now h }
-    requires a_le_b { a.0 ≤ b.0 }
-    ensures { result ≡ find (held_in words.now h) value a.0 (suc b.0 - a.0) }
+pub fn find_in(set: &Set<'_>, a: Logical, b: Logical, value: bool) -> Option<u64>
+    requires { a.0 ≤ b.0 }
+    ensures { result ≡ find (held set.now) value a.0 (suc b.0 - a.0) }
 {
     let last = b.0;
-    let n = crate::logical::next(words, h, a, value);
+    let n = crate::logical::next(set, a, value);
     match n {
         Some(x) => { if x <= last { Some(x) } else { None } }
         None => None,
@@ -23,19 +21,18 @@ pub fn find_in(words: &[u64], h: World, a: Logical, b: Logical, value: bool) -> 
 }
 
 // The first run of the value from a to b, clipped.
-pub fn first_run(words: &[u64], h: World, a: Logical, b: Logical, value: bool) -> Option<Run>
-    requires stands { Stands words.now h }
-    requires a_le_b { a.0 ≤ b.0 }
-    ensures { result ≡ first_run (runs_in (held_in words.now h) value a.0 (suc b.0 - a.0)) }
+pub fn first_run(set: &Set<'_>, a: Logical, b: Logical, value: bool) -> Option<Run>
+    requires { a.0 ≤ b.0 }
+    ensures { result ≡ first_run (runs_in (held set.now) value a.0 (suc b.0 - a.0)) }
 {
     let last = b.0;
-    let n = crate::logical::next(words, h, a, value);
+    let n = crate::logical::next(set, a, value);
     match n {
         Some(x) => {
             if last < x {
                 return None;
             }
-            let m = crate::logical::next(words, h, Logical(x), !value);
+            let m = crate::logical::next(set, Logical(x), !value);
             match m {
                 Some(y) => {
                     if last < y {
@@ -60,19 +57,18 @@ pub fn first_run(words: &[u64], h: World, a: Logical, b: Logical, value: bool) -
 }
 
 // The last run of the value from a to b, clipped.
-pub fn last_run(words: &[u64], h: World, a: Logical, b: Logical, value: bool) -> Option<Run>
-    requires stands { Stands words.now h }
-    requires a_le_b { a.0 ≤ b.0 }
-    ensures { result ≡ last_run (runs_in (held_in words.now h) value a.0 (suc b.0 - a.0)) }
+pub fn last_run(set: &Set<'_>, a: Logical, b: Logical, value: bool) -> Option<Run>
+    requires { a.0 ≤ b.0 }
+    ensures { result ≡ last_run (runs_in (held set.now) value a.0 (suc b.0 - a.0)) }
 {
     let first = a.0;
-    let n = crate::logical::previous(words, h, b, value);
+    let n = crate::logical::previous(set, b, value);
     match n {
         Some(x) => {
             if x < first {
                 return None;
             }
-            let m = crate::logical::previous(words, h, Logical(x), !value);
+            let m = crate::logical::previous(set, Logical(x), !value);
             match m {
                 Some(y) => {
                     if y < first {
@@ -97,12 +93,11 @@ pub fn last_run(words: &[u64], h: World, a: Logical, b: Logical, value: bool) ->
 }
 
 // The start of the run around x, of the value that x has.
-fn low_end(words: &[u64], h: World, x: Logical, value: bool) -> u64
-    requires stands { Stands words.now h }
-    requires x_value { held_in words.now h x.0 ≡ value }
-    ensures { LowEnd (held_in words.now h) value x.0 result }
+fn low_end(set: &Set<'_>, x: Logical, value: bool) -> u64
+    requires { held set.now x.0 ≡ value }
+    ensures { LowEnd (held set.now) value x.0 result }
 {
-    let n = crate::logical::previous(words, h, x, !value);
+    let n = crate::logical::previous(set, x, !value);
     match n {
         Some(y) => y + 1,
         None => 0,
@@ -110,12 +105,11 @@ fn low_end(words: &[u64], h: World, x: Logical, value: bool) -> u64
 }
 
 // Its end.
-fn high_end(words: &[u64], h: World, x: Logical, value: bool) -> u64
-    requires stands { Stands words.now h }
-    requires x_value { held_in words.now h x.0 ≡ value }
-    ensures { HighEnd (held_in words.now h) value x.0 result }
+fn high_end(set: &Set<'_>, x: Logical, value: bool) -> u64
+    requires { held set.now x.0 ≡ value }
+    ensures { HighEnd (held set.now) value x.0 result }
 {
-    let n = crate::logical::next(words, h, x, !value);
+    let n = crate::logical::next(set, x, !value);
     match n {
         Some(y) => y - 1,
         None => u64::MAX,
@@ -123,13 +117,12 @@ fn high_end(words: &[u64], h: World, x: Logical, value: bool) -> u64
 }
 
 // The unclipped run around x, of the value that x has.
-pub fn run_at(words: &[u64], h: World, x: Logical) -> Run
-    requires { Stands words.now h }
-    ensures { result ≡ run_at (held_in words.now h) x.0 }
+pub fn run_at(set: &Set<'_>, x: Logical) -> Run
+    ensures { result ≡ run_at (held set.now) x.0 }
 {
-    let value = crate::logical::get(words, h, x);
-    let start = low_end(words, h, x, value);
-    let end = high_end(words, h, x, value);
+    let value = crate::logical::get(set, x);
+    let start = low_end(set, x, value);
+    let end = high_end(set, x, value);
     Run {
         start: start,
         end: end,

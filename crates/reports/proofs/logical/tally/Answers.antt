@@ -2,16 +2,17 @@
 -- Assumes nothing.
 use Rattle.std.proofs.Common.{◌≡◌, ◌&&◌, suc, ◌-◌, sym, ap, ◌∙◌, arith}
 use mathlib.Core.Bool.{beq}
+use Rattle.model.specs.Positions.{mem}
 use Rattle.reports.proofs.Reading.{tally-whole, count_fits, runs_fit, joined-some, tally-parted}
 use Rattle.store.proofs.Turn.{Lies, lies-from-to}
 use Rattle.reports.proofs.logical.tally.Goals as goal
 use Rattle.reports.proofs.logical.tally.Goals.{then-high-value, else-high-value, After-to_physical-e, After-from}
 
 -- where the range lies
-lies : (r : After-to_physical-e) → Lies r.args.h.offset r.args.a.0 (suc r.args.b.0 - r.args.a.0)
+lies : (r : After-to_physical-e) → Lies r.args.set.now.offset r.args.a.0 (suc r.args.b.0 - r.args.a.0)
     r.to_physical-s.result.0 r.to_physical-e.result.0
 lies r =
-    lies-from-to r.requires.a_le_b (omega (arith, r.well_formed)) (omega (arith, r.well_formed)) r.to_physical-s.ensures r.to_physical-e.ensures
+    lies-from-to r.requires (omega (arith, r.well_formed)) (omega (arith, r.well_formed)) r.to_physical-s.ensures r.to_physical-e.ensures
 
 -- whether a run is in both parts
 joined : (c : After-from) → c.if-high-value.joined ≡ (beq c.get_physical-high.result c.args.value && beq c.get_physical-low.result c.args.value)
@@ -22,16 +23,16 @@ joined c = elim c.if-high-value.branch [
 
 pub returns-then-s-e : goal.returns-then-s-e
 returns-then-s-e c =
-    tally-whole c.requires.stands.1 (lies (goal.at.returns-then-s-e c).After-to_physical-e) c.args.value c.if-s-e.true c.tally_physical.ensures
+    tally-whole (mem c.args.set.now.runs) (lies (goal.at.returns-then-s-e c).After-to_physical-e) c.args.value c.if-s-e.true c.tally_physical.ensures
 
 pub plus-requires : goal.plus-requires
 plus-requires c =
-    count_fits c.requires.stands.1 (lies (goal.at.plus-requires c).After-to_physical-e) c.args.value c.if-s-e.false c.tally_physical-one.ensures
+    count_fits (mem c.args.set.now.runs) (lies (goal.at.plus-requires c).After-to_physical-e) c.args.value c.if-s-e.false c.tally_physical-one.ensures
     c.tally_physical-two.ensures
 
 pub overflow_add-result : goal.overflow_add-result
 overflow_add-result c =
-    runs_fit c.requires.stands.1 (lies (goal.at.overflow_add-result c).After-to_physical-e) c.args.value c.if-s-e.false c.tally_physical-one.ensures
+    runs_fit (mem c.args.set.now.runs) (lies (goal.at.overflow_add-result c).After-to_physical-e) c.args.value c.if-s-e.false c.tally_physical-one.ensures
     c.tally_physical-two.ensures
 
 pub overflow_sub-result : goal.overflow_sub-result
@@ -39,12 +40,12 @@ overflow_sub-result c =
     omega (
       arith,
       c.from.ensures,
-      joined-some c.requires.stands.1 (lies (goal.at.overflow_sub-result c).After-to_physical-e) c.args.value c.if-s-e.false
-          c.tally_physical-one.ensures c.tally_physical-two.ensures c.get_physical-high.ensures c.get_physical-low.ensures (joined (goal.at.overflow_sub-result c).After-from),
+      joined-some (mem c.args.set.now.runs) (lies (goal.at.overflow_sub-result c).After-to_physical-e) c.args.value c.if-s-e.false
+          c.tally_physical-one.ensures c.tally_physical-two.ensures c.get_physical-high.ensures.held c.get_physical-low.ensures.held (joined (goal.at.overflow_sub-result c).After-from),
     )
 
 pub returns : goal.returns
 returns c =
-    let d = tally-parted c.requires.stands.1 (lies (goal.at.returns c).After-to_physical-e) c.args.value c.if-s-e.false c.tally_physical-one.ensures
-    c.tally_physical-two.ensures c.get_physical-high.ensures c.get_physical-low.ensures (joined (goal.at.returns c).After-from) c.plus.ensures in
+    let d = tally-parted (mem c.args.set.now.runs) (lies (goal.at.returns c).After-to_physical-e) c.args.value c.if-s-e.false c.tally_physical-one.ensures
+    c.tally_physical-two.ensures c.get_physical-high.ensures.held c.get_physical-low.ensures.held (joined (goal.at.returns c).After-from) c.plus.ensures in
     record { count-is = d.count-is; runs-are = omega (arith, d.runs-are, c.from.ensures) }

@@ -2,7 +2,6 @@
 -- Assumes nothing.
 use Rattle.std.proofs.Common.{sym, inl, inr, ◌∙◌, subst, arith}
 use Rattle.model.specs.Positions.{mem}
-use Rattle.run_index.specs.Tree.{inorder}
 use Rattle.reports.specs.Reports.{Next}
 use Rattle.reports.proofs.Edges.{next_here, in-run, not-held, next-held, next-free}
 use Rattle.reports.proofs.physical.next_physical.Goals as goal
@@ -10,22 +9,19 @@ use Rattle.reports.proofs.physical.next_physical.Goals.{in_default-via-in-Some+e
 
 pub returns-then-value : goal.returns-then-value
 returns-then-value c =
-    λ g t i.
-    next_here (mem (inorder t)) c.args.value c.args.x.0 (omega arith)
-    (in-run (inorder t) i.canonical c.args.x.0 c.in-Some.r
-    (sym c.in-Some.is ∙ c.at_or_before.ensures g t i) c.if-from-r.true ∙ sym c.if-value.true)
+    next_here (mem c.args.runs.now) c.args.value c.args.x.0 (omega arith)
+    (in-run c.args.runs.now c.at_or_before.ensures.in_order c.args.x.0 c.in-Some.r
+    (sym c.in-Some.is ∙ c.at_or_before.ensures.found) c.if-from-r.true ∙ sym c.if-value.true)
 
 pub returns-else-value : goal.returns-else-value
 returns-else-value c =
-    λ g t i.
-    next-free (inorder t) i.canonical c.args.x.0 c.in-Some.r c.if-value.false
-    (sym c.in-Some.is ∙ c.at_or_before.ensures g t i) c.if-from-r.true c.checked_add.result c.checked_add.ensures
+    next-free c.args.runs.now c.at_or_before.ensures.in_order c.args.x.0 c.in-Some.r c.if-value.false
+    (sym c.in-Some.is ∙ c.at_or_before.ensures.found) c.if-from-r.true c.checked_add.result c.checked_add.ensures
 
 pub returns-in_default : goal.returns-in_default
 returns-in_default c =
-    λ g t i.
-    subst (Next (mem (inorder t)) c.args.value c.args.x.0) (sym (c.next_start.ensures g t i))
-    (next-held (inorder t) i.canonical c.args.x.0 c.if-value-2.true (not-held (inorder t) i.canonical c.args.x.0 (c.at_or_before.ensures g t i)
+    subst (Next (mem c.args.runs.now) c.args.value c.args.x.0) (sym c.next_start.ensures)
+    (next-held c.args.runs.now c.at_or_before.ensures.in_order c.args.x.0 c.if-value-2.true (not-held c.args.runs.now c.at_or_before.ensures.in_order c.args.x.0 c.at_or_before.ensures.found
     (elim c.in_default.branch [
       | in_default-via-in-Some+else-from-r w ↦ inl (w.in-Some.r, w.in-Some.is, w.if-from-r.false)
       | in_default-via-in_default w ↦ inr w.in_default.is
@@ -33,9 +29,8 @@ returns-in_default c =
 
 pub returns-in_default-2 : goal.returns-in_default-2
 returns-in_default-2 c =
-    λ g t i.
-    next_here (mem (inorder t)) c.args.value c.args.x.0 (omega arith)
-    (not-held (inorder t) i.canonical c.args.x.0 (c.at_or_before.ensures g t i)
+    next_here (mem c.args.runs.now) c.args.value c.args.x.0 (omega arith)
+    (not-held c.args.runs.now c.at_or_before.ensures.in_order c.args.x.0 c.at_or_before.ensures.found
     (elim c.in_default.branch [
       | in_default-via-in-Some+else-from-r w ↦ inl (w.in-Some.r, w.in-Some.is, w.if-from-r.false)
       | in_default-via-in_default w ↦ inr w.in_default.is
