@@ -6,7 +6,7 @@
 ghost use Rattle.std.specs.Prelude.{◌≡◌, ◌+◌};
 ghost use Rattle.model.specs.Pools.{claim};
 ghost use Rattle.run_index.specs.Cells.{cell_at, Room};
-ghost use Rattle.store.specs.Layout.{capacity_of, opened_at, free_head, world_at, plain_at, nodes, held, held_in, header_cell, Headed, links_of, allowance};
+ghost use Rattle.store.specs.Layout.{capacity_of, opened_at, free_head, world_at, plain_at, nodes, held, held_in, held_by, header_cell, Headed, links_of, allowance};
 ghost use Rattle.store.specs.Soundness.{Planted, Sound, Stands};
 ghost use Rattle.store.specs.Settle.{Openable, Opened, Closable, Closes};
 
@@ -75,7 +75,7 @@ pub struct Set<'a> {
     pub offset: u64,
 }
 
-// The set of a world.
+// The set of a world that stands in the nodes.
 pub fn set_of<'a>(words: &'a [u64], h: World) -> Set<'a>
     requires { Stands words.now h }
     ensures { held result ≡ held_in words.now h }
@@ -196,6 +196,15 @@ pub fn open(words: &[u64], k: u64) -> World
     ensures { Opened words.now k result }
 {
     read_world(words, k)
+}
+
+// The set of world k of a sound pool.
+pub fn read_set<'a>(words: &'a [u64], k: u64) -> Set<'a>
+    requires { Openable words.now k }
+    ensures { held result ≡ held_by words.now k }
+{
+    let h = open(words, k);
+    set_of(&words[128..], h)
 }
 
 // Makes a world that was opened, and changed, the pool's again.

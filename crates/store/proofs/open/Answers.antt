@@ -7,14 +7,14 @@ use Rattle.store.specs.Settle.{Opened}
 use Rattle.run_index.specs.Cells.{cell_at}
 use Rattle.store.proofs.Worlds.{opened-told}
 use Rattle.store.proofs.open.Goals as goal
-use Rattle.store.proofs.open.Goals.{After-shared_slice_known-1}
+use Rattle.store.proofs.open.Goals.{After-read_world}
 
 -- offsets are words
-offsets : (c : After-shared_slice_known-1) (j : ℕ) → (world_at c.args.words.now j).offset < size
+offsets : (c : After-read_world) (j : ℕ) → (world_at c.args.words.now j).offset < size
 unfolding cell_at
 offsets c j = omega (arith, c.type_inv.words (8 * (j + 1) + 1))
 
 pub returns : goal.returns
 returns c =
     subst (λ (z : World). Opened c.args.words.now c.args.k z) (sym c.read_world.ensures)
-    (opened-told c.args.words.now c.args.k c.requires (offsets (goal.at.returns c).After-shared_slice_known-1))
+    (opened-told c.args.words.now c.args.k c.requires (offsets (goal.at.returns c).After-read_world))
