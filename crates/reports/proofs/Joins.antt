@@ -6,7 +6,7 @@ use Rattle.std.proofs.Common.{subst, ap₂, inl, inr, append-nil, arith}
 use mathlib.Core.Bool.{beq}
 use Rattle.model.specs.declared.Run.{Run}
 use Rattle.model.proofs.Numbers.{split}
-use Rattle.model.specs.Positions.{Positions, run, inside, count, find, select, runs_in, first_run, last_after, last_run, mem}
+use Rattle.model.specs.Positions.{Positions, run, inside, count, find, select, runs_in, first_run, last_run, mem}
 use Rattle.model.proofs.Counting.{inside-yes, inside-below, inside-above, among-yes, count_cut, beq-is}
 use Rattle.model.proofs.Runs.{runs_in-canon, runs_in-mem, runs_in-join, mem-append, first_run-is, last_run-is}
 use Rattle.model.proofs.Finds.{

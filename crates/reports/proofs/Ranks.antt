@@ -138,7 +138,7 @@ wrapped_exact : (u o a b d : ℕ) → u ≡ a % 2 ^ 64 → o ≡ b % 2 ^ 64 → 
 wrapped_exact u o a b d p q e l = omega arith
 
 -- a truth as a byte
-byte-one : (b : Bool) → bool_byte b ≡ one_if b
+pub byte-one : (b : Bool) → bool_byte b ≡ one_if b
 byte-one true = refl
 byte-one false = refl
 

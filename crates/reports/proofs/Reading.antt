@@ -1,9 +1,11 @@
 -- What a logical range has and its k-th position, from the physical ranges that it lies at: one, or one up to M and one from 0 on
 -- (Turn, Parted). Runs of a range are at least two apart, so their sums fit a word. Assumes nothing.
 use Rattle.std.specs.Prelude.{option_map}
-use Rattle.std.specs.Prelude.{None, Some}
-use Rattle.std.proofs.Common.{◌≡◌, ℕ, suc, ◌+◌, ◌-◌, ◌*◌, ◌<◌, ◌≤◌, Bool, true, false, ◌&&◌, ◌⊎◌, List, [], ◌∷◌, length, sym, refl, ap, ◌∙◌, subst, ap₂, inl, inr, arith, w64, Fits}
-use mathlib.Core.Bool.{beq, and-false}
+use Rattle.std.specs.Prelude.{Option, None, Some, Result, Ok, Err}
+use Rattle.std.specs.Result.{result_ok}
+use Rattle.std.proofs.Common.{◌≡◌, ℕ, suc, ◌+◌, ◌-◌, ◌*◌, ◌<◌, ◌≤◌, Bool, ◌&&◌, List, [], ◌∷◌, length, sym, refl, ap, ◌∙◌, subst, ap₂, arith, w64, Fits}
+use mathlib.Core.Bool.{beq}
+use mir.Val.{bool_byte}
 use Rattle.model.specs.declared.Count.{Count}
 use Rattle.model.specs.declared.Run.{Run}
 use Rattle.model.specs.declared.Tally.{Tally}
@@ -18,9 +20,11 @@ use Rattle.store.specs.Places.{physical_of, logical_of}
 use Rattle.store.specs.Layout.{held_in}
 use Rattle.store.specs.Soundness.{Share, Standing}
 use Rattle.store.specs.Bounds.{TellsHeld}
-use Rattle.reports.specs.Reports.{Measured, TellsTally, Choosable, TellsChosen}
+use Rattle.store.specs.declared.places.Physical.{Physical}
+use Rattle.reports.specs.Reports.{Measured, TellsTally, TellsPlace}
+use Rattle.reports.proofs.Ranks.{byte-one}
 use Rattle.model.proofs.Moved.{move}
-use Rattle.store.proofs.Turn.{Lies, turned-at, whole_length, whole-fits, whole-move, parted-move-first, parted-move-second, first_below}
+use Rattle.store.proofs.Turn.{Lies, turned-at, whole_length, whole-move, parted-move-first, parted-move-second, first_below}
 use Rattle.store.proofs.Turn.{count-whole, count-parted, run_count-whole, run_count-parted, select-whole}
 use Rattle.reports.proofs.Joins.{select-first}
 use Rattle.reports.proofs.Parted.{select-in-first, select-in-second}
@@ -38,14 +42,24 @@ unfolding run_count
 ranges-most P v a n = omega (arith, canon-most (a + n) a (runs_in P v a n) (runs_in-canon P v (a + n) a n (omega arith)))
 
 -- a longer range has as many positions of a value, or more
-count-more : (P : Positions) (v : Bool) (a n m : ℕ) → n ≤ m → count P v a n ≤ count P v a m
+pub count-more : (P : Positions) (v : Bool) (a n m : ℕ) → n ≤ m → count P v a n ≤ count P v a m
 count-more P v a n m h = omega (arith, count_cut P v a m n (a + n) (m - n) (omega arith) refl)
 
 -- a position selected in a range is selected in its front, if that has enough
-select-front : (P : Positions) (v : Bool) (a n m k x : ℕ) → n ≤ m → k < count P v a n → select P v a m k ≡ Some x → select P v a n k ≡ Some x
+pub select-front : (P : Positions) (v : Bool) (a n m k x : ℕ) → n ≤ m → k < count P v a n → select P v a m k ≡ Some x → select P v a n k ≡ Some x
 select-front P v a n m k x h l q =
     let e : m ≡ n + (m - n) = omega arith in
     sym (select-first P v a n (m - n) k l) ∙ ap (λ j. select P v a j k) (sym e) ∙ q
+
+-- a place that is handed on was found
+pub place-ok : {r : Result Physical ℕ} {o : Option Physical} {x : Physical} → o ≡ result_ok r → o ≡ Some x → r ≡ Ok x
+place-ok {r = Ok y} e f = cc
+place-ok {r = Err j} e f = absurd (cc)
+
+-- where none is, none was
+pub place-none : {r : Result Physical ℕ} {o : Option Physical} → o ≡ result_ok r → o ≡ None → (j : ℕ) × (r ≡ Err j)
+place-none {r = Ok y} e f = absurd (cc)
+place-none {r = Err j} e f = (j, refl)
 
 -- ---- of a world
 module _ {w : List ℕ} {share : Share} {h : World} (st : Standing w share h) where
@@ -65,28 +79,22 @@ module _ {w : List ℕ} {share : Share} {h : World} (st : Standing w share h) wh
           runs-are = m.runs-are ∙ sym (run_count-whole lies (physical_in st) v i ∙ ap (run_count (physical_in st) v s) (whole_length lies i));
         })
 
-    -- its k-th position can be selected from s on
-    pub choosable-whole : {r : Tally} {k : ℕ} → s ≤ e → TellsTally w h.root s e v r → k < worth r.count → Choosable w h.root s v k
-    choosable-whole {r} i t l =
-        let m : Measured (physical_in st) v s (suc e - s) r = t share.tag st.tree (standing-index st) in
-        let more = count-more (physical_in st) v s (suc e - s) (size - s) (omega (arith, whole_length lies i, whole-fits lies i)) in
-        (share.tag, st.tree, standing-index st, omega (arith, m.count-is))
-
     -- its k-th position
-    pub selected-whole : {r : Tally} {k x y : ℕ} → s ≤ e → TellsTally w h.root s e v r → k < worth r.count → TellsChosen w h.root s v k x
-        → y ≡ logical_of x h.offset → Some y ≡ select (held_in w h) v a n k
-    selected-whole {r} {k} {x} {y} i t l c q =
-        let m : Measured (physical_in st) v s (suc e - s) r = t share.tag st.tree (standing-index st) in
-        let f : select (physical_in st) v s n k ≡ Some x =
-        select-front (physical_in st) v s n (size - s) k x (omega (arith, whole-fits lies i))
-        (omega (arith, m.count-is, ap (count (physical_in st) v s) (whole_length lies i))) (c share.tag st.tree (standing-index st)) in
-        let d : Selected (physical_in st) v s n k x = select-only (physical_in st) v s n k x f in
-        ap Some (q ∙ sym (whole-move lies i x d.from (omega (arith, d.past, whole_length lies i))))
+    pub selected-whole : {k y : ℕ} {x : Physical} → s ≤ e → TellsPlace w h.root s e v k (Ok x) → y ≡ logical_of x.0 h.offset
+        → Some y ≡ select (held_in w h) v a n k
+    selected-whole {k} {y} {x} i t q =
+        let f : select (physical_in st) v s n k ≡ Some x.0 =
+        ap (λ m. select (physical_in st) v s m k) (whole_length lies i) ∙ (t share.tag st.tree (standing-index st)).1 in
+        let d : Selected (physical_in st) v s n k x.0 = select-only (physical_in st) v s n k x.0 f in
+        ap Some (q ∙ sym (whole-move lies i x.0 d.from (omega (arith, d.past, whole_length lies i))))
         ∙ sym (ap (λ P. select P v a n k) (standing-held st) ∙ select-whole lies (physical_in st) v i k ∙ ap (option_map (move s a)) f)
 
     -- it has none
-    pub unselected-whole : {r : Tally} {k : ℕ} → s ≤ e → TellsTally w h.root s e v r → worth r.count ≤ k → None ≡ select (held_in w h) v a n k
-    unselected-whole {r} {k} i t l = sym (select-none (held_in w h) v a n k (omega (arith, (tally-whole i t).count-is)))
+    pub unselected-whole : (k j : ℕ) → s ≤ e → TellsPlace w h.root s e v k (Err j) → None ≡ select (held_in w h) v a n k
+    unselected-whole k j i t =
+        let c : count (held_in w h) v a n ≡ count (physical_in st) v s (suc e - s) =
+        ap (λ P. count P v a n) (standing-held st) ∙ count-whole lies (physical_in st) v i ∙ ap (count (physical_in st) v s) (whole_length lies i) in
+        sym (select-none (held_in w h) v a n k (omega (arith, c, t share.tag st.tree (standing-index st))))
 
     -- ---- parted ranges
     -- what the first part has
@@ -129,74 +137,57 @@ module _ {w : List ℕ} {share : Share} {h : World} (st : Standing w share h) wh
           ∙ ap₂ (λ P b. run_count P v a n + one_if b) (sym (standing-held st))
           (ap₂ (λ p q. beq p v && beq q v) (sym (x share.tag st.tree (standing-index st))) (sym (y share.tag st.tree (standing-index st))))
 
-      module _ {high low : Bool} (x : TellsHeld w h.root (size - 1) high) (y : TellsHeld w h.root 0 low) where
-        -- a run goes on from the first part into the second
-        runs-joined : beq high v ≡ true → beq low v ≡ true → one.runs + two.runs ≡ run_count (held_in w h) v a n + 1
-        runs-joined p q = runs-both-parts x y ∙ ap₂ (λ b d. run_count (held_in w h) v a n + one_if (b && d)) p q
+      -- what a parted range has
+      pub tally-parted : {high low b : Bool} {k : Count} → TellsHeld w h.root (size - 1) high → TellsHeld w h.root 0 low
+          → b ≡ (beq high v && beq low v) → worth k ≡ worth one.count + worth two.count
+          → Measured (held_in w h) v a n (record { count = k; runs = one.runs + two.runs - bool_byte b })
+      tally-parted {b = b} x y q r =
+          record { count-is = r ∙ count-both-parts; runs-are = omega (arith, runs-both-parts x y, byte-one b, ap one_if q) }
 
-        -- none does
-        runs-apart : (beq high v ≡ false) ⊎ (beq low v ≡ false) → one.runs + two.runs ≡ run_count (held_in w h) v a n
-        runs-apart (inl p) = runs-both-parts x y ∙ ap (λ b. run_count (held_in w h) v a n + one_if (b && beq low v)) p ∙ omega arith
-        runs-apart (inr p) =
-            runs-both-parts x y ∙ ap (λ b. run_count (held_in w h) v a n + one_if (beq high v && b)) p
-            ∙ ap (λ b. run_count (held_in w h) v a n + one_if b) (and-false (beq high v)) ∙ omega arith
+      -- there are as many runs as are counted twice
+      pub joined-some : {high low b : Bool} → TellsHeld w h.root (size - 1) high → TellsHeld w h.root 0 low
+          → b ≡ (beq high v && beq low v) → bool_byte b ≤ one.runs + two.runs
+      joined-some {b = b} x y q = omega (arith, runs-both-parts x y, byte-one b, ap one_if q)
 
-        -- then there is a run
-        pub joined-some : beq high v ≡ true → beq low v ≡ true → 1 ≤ one.runs + two.runs
-        joined-some p q = omega (arith, runs-joined p q)
-
-        -- what a parted range has, where one run is in both parts
-        pub tally-joined : {k : Count} → beq high v ≡ true → beq low v ≡ true → worth k ≡ worth one.count + worth two.count
-            → Measured (held_in w h) v a n (record { count = k; runs = one.runs + two.runs - 1 })
-        tally-joined p q r = record { count-is = r ∙ count-both-parts; runs-are = omega (arith, runs-joined p q) }
-
-        -- and where none is
-        pub tally-apart : {k : Count} → (beq high v ≡ false) ⊎ (beq low v ≡ false) → worth k ≡ worth one.count + worth two.count
-            → Measured (held_in w h) v a n (record { count = k; runs = one.runs + two.runs })
-        tally-apart p r = record { count-is = r ∙ count-both-parts; runs-are = runs-apart p }
-
-    module _ {one : Tally} (parted : e < s) (t : TellsTally w h.root s (size - 1) v one) where
-      -- a count in the first part that is below 2^64 is its low word
-      first-low : (one.count.carry ≡ 1 → ⊥) → worth one.count ≡ one.count.low
-      first-low ne = omega (arith, (first_part t).count-is, count_most (physical_in st) v s (size - s))
-
-      -- the first part's k-th position can be selected
-      pub choosable-first : {k : ℕ} → k < worth one.count → Choosable w h.root s v k
-      choosable-first {k} l = (share.tag, st.tree, standing-index st, omega (arith, (first_part t).count-is))
-
-      -- it is the range's k-th position
-      pub selected-first : {k x y : ℕ} → k < worth one.count → TellsChosen w h.root s v k x → y ≡ logical_of x h.offset → Some y ≡ select (held_in w h) v a n k
-      selected-first {k} {x} {y} l c q =
-          let f : select (physical_in st) v s (size - s) k ≡ Some x = c share.tag st.tree (standing-index st) in
-          let d : Selected (physical_in st) v s (size - s) k x = select-only (physical_in st) v s (size - s) k x f in
-          ap Some (q ∙ sym (parted-move-first lies parted x d.from (omega (arith, d.past, first_below lies))))
+    module _ (k : ℕ) (parted : e < s) where
+      -- the first part's k-th position is the range's
+      pub selected-first : {y : ℕ} {x : Physical} → TellsPlace w h.root s (size - 1) v k (Ok x) → y ≡ logical_of x.0 h.offset
+          → Some y ≡ select (held_in w h) v a n k
+      selected-first {y} {x} t q =
+          let d = t share.tag st.tree (standing-index st) in
+          let z : suc (size - 1) - s ≡ size - s = omega arith in
+          let f : select (physical_in st) v s (size - s) k ≡ Some x.0 = ap (λ m. select (physical_in st) v s m k) (sym z) ∙ d.1 in
+          let o : Selected (physical_in st) v s (size - s) k x.0 = select-only (physical_in st) v s (size - s) k x.0 f in
+          ap Some (q ∙ sym (parted-move-first lies parted x.0 o.from (omega (arith, o.past, first_below lies))))
           ∙ sym (ap (λ P. select P v a n k) (standing-held st)
-          ∙ select-in-first lies parted (physical_in st) v k (omega (arith, (first_part t).count-is)) ∙ ap (option_map (move s a)) f)
+          ∙ select-in-first lies parted (physical_in st) v k (omega (arith, d.0, ap (count (physical_in st) v s) z)) ∙ ap (option_map (move s a)) f)
 
       -- the second part's positions follow, fewer by those of the first part
-      module _ {two : Tally} {k : ℕ} (u : TellsTally w h.root 0 e v two) (ne : one.count.carry ≡ 1 → ⊥) (le : one.count.low ≤ k) where
+      module _ (j : ℕ) (t : TellsPlace w h.root s (size - 1) v k (Err j)) where
+        first-count : count (physical_in st) v s (size - s) + j ≡ k
+        first-count =
+            let z : suc (size - 1) - s ≡ size - s = omega arith in
+            omega (arith, t share.tag st.tree (standing-index st), ap (count (physical_in st) v s) z)
+
+        -- its j-th position is the range's k-th
+        pub selected-second : {y : ℕ} {x : Physical} → TellsPlace w h.root 0 e v j (Ok x) → y ≡ logical_of x.0 h.offset
+            → Some y ≡ select (held_in w h) v a n k
+        selected-second {y} {x} u q =
+            let z : suc e - 0 ≡ e + 1 = omega arith in
+            let f : select (physical_in st) v 0 (e + 1) j ≡ Some x.0 =
+            ap (λ m. select (physical_in st) v 0 m j) (sym z) ∙ (u share.tag st.tree (standing-index st)).1 in
+            let d : Selected (physical_in st) v 0 (e + 1) j x.0 = select-only (physical_in st) v 0 (e + 1) j x.0 f in
+            let i : k - count (physical_in st) v s (size - s) ≡ j = omega (arith, first-count) in
+            ap Some (q ∙ sym (parted-move-second lies parted x.0 (omega (arith, d.past))))
+            ∙ sym (ap (λ P. select P v a n k) (standing-held st)
+            ∙ select-in-second lies parted (physical_in st) v k (omega (arith, first-count))
+            ∙ ap (λ m. option_map (move 0 (a + (size - s))) (select (physical_in st) v 0 (e + 1) m)) i ∙ ap (option_map (move 0 (a + (size - s)))) f)
+
         -- the range has no k-th position
-        pub unselected-second : worth two.count ≤ k - one.count.low → None ≡ select (held_in w h) v a n k
-        unselected-second l = sym (select-none (held_in w h) v a n k (omega (arith, count-both-parts parted t u, first-low ne)))
-
-        module _ (l : k - one.count.low < worth two.count) where
-          -- the second part's position can be selected
-          pub choosable-second : Choosable w h.root 0 v (k - one.count.low)
-          choosable-second =
-              let more = count-more (physical_in st) v 0 (e + 1) (size - 0) (omega (arith, first_below lies)) in
-              (share.tag, st.tree, standing-index st, omega (arith, (second-part u).count-is))
-
-          -- it is the range's k-th position
-          pub selected-second : {x y : ℕ} → TellsChosen w h.root 0 v (k - one.count.low) x → y ≡ logical_of x h.offset
-              → Some y ≡ select (held_in w h) v a n k
-          selected-second {x} {y} c q =
-              let j : ℕ = k - one.count.low in
-              let f : select (physical_in st) v 0 (e + 1) j ≡ Some x =
-              select-front (physical_in st) v 0 (e + 1) (size - 0) j x (omega (arith, first_below lies)) (omega (arith, (second-part u).count-is))
-              (c share.tag st.tree (standing-index st)) in
-              let d : Selected (physical_in st) v 0 (e + 1) j x = select-only (physical_in st) v 0 (e + 1) j x f in
-              let i : k - count (physical_in st) v s (size - s) ≡ j = omega (arith, (first_part t).count-is, first-low ne) in
-              ap Some (q ∙ sym (parted-move-second lies parted x (omega (arith, d.past))))
-              ∙ sym (ap (λ P. select P v a n k) (standing-held st)
-              ∙ select-in-second lies parted (physical_in st) v k (omega (arith, (first_part t).count-is, first-low ne))
-              ∙ ap (λ m. option_map (move 0 (a + (size - s))) (select (physical_in st) v 0 (e + 1) m)) i ∙ ap (option_map (move 0 (a + (size - s)))) f)
+        pub unselected-second : (i : ℕ) → TellsPlace w h.root 0 e v j (Err i) → None ≡ select (held_in w h) v a n k
+        unselected-second i u =
+            let z : suc e - 0 ≡ e + 1 = omega arith in
+            let c : count (held_in w h) v a n ≡ count (physical_in st) v s (size - s) + count (physical_in st) v 0 (e + 1) =
+            ap (λ P. count P v a n) (standing-held st) ∙ count-parted lies (physical_in st) v parted in
+            sym (select-none (held_in w h) v a n k
+            (omega (arith, c, first-count, u share.tag st.tree (standing-index st), ap (count (physical_in st) v 0) z)))

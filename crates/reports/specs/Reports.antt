@@ -1,6 +1,6 @@
 -- What the reports tell: of the tree at a root, and of a world. Assumes nothing: these are definitions.
-use Rattle.std.specs.Prelude.{Option, None, Some}
-use Rattle.std.specs.Prelude.{◌≡◌, ℕ, suc, ◌-◌, ◌<◌, ◌≤◌, Bool, not, List}
+use Rattle.std.specs.Prelude.{Option, None, Some, Result, Ok, Err}
+use Rattle.std.specs.Prelude.{◌≡◌, ℕ, suc, ◌+◌, ◌-◌, ◌<◌, ◌≤◌, Bool, not, List}
 use Rattle.model.specs.declared.Run.{Run}
 use Rattle.model.specs.declared.Tally.{Tally}
 use Rattle.model.specs.Numbers.{size, worth}
@@ -8,6 +8,7 @@ use Rattle.model.specs.Positions.{Positions, count, select, run_count, mem}
 use Rattle.model.specs.RunList.{first_from}
 use Rattle.run_index.specs.Tree.{Tree, inorder}
 use Rattle.run_index.specs.Search.{Index}
+use Rattle.store.specs.declared.places.Physical.{Physical}
 
 -- the positions of a value among the n from a, and the runs of it there
 pub record Measured (P : Positions) (v : Bool) (a n : ℕ) (r : Tally) : Type 0 where
@@ -27,6 +28,14 @@ Choosable w p s v k = (g : ℕ) × (t : Tree) × Index w p g t × (k < count (me
 
 abbrev pub TellsChosen : List ℕ → ℕ → ℕ → Bool → ℕ → ℕ → Type 0
 TellsChosen w p s v k x = (g : ℕ) (t : Tree) → Index w p g t → select (mem (inorder t)) v s (size - s) k ≡ Some x
+
+-- the place of the k-th position of a value from s to e, or how many are left to pass after e
+abbrev pub Place : Positions → Bool → ℕ → ℕ → ℕ → Result Physical ℕ → Type 0
+Place P v s n k (Ok x) = (k < count P v s n) × (select P v s n k ≡ Some x.0)
+Place P v s n k (Err j) = count P v s n + j ≡ k
+
+abbrev pub TellsPlace : List ℕ → ℕ → ℕ → ℕ → Bool → ℕ → Result Physical ℕ → Type 0
+TellsPlace w p s e v k r = (g : ℕ) (t : Tree) → Index w p g t → Place (mem (inorder t)) v s (suc e - s) k r
 
 -- the least position of a value at or after x, if there is one
 abbrev pub Next : Positions → Bool → ℕ → Option ℕ → Type 0

@@ -3,7 +3,8 @@
 ghost use Rattle.std.specs.Prelude.{◌≡◌, suc, ◌+◌, ◌-◌, ◌<◌, ◌≤◌};
 ghost use Rattle.store.specs.Layout.{held_in};
 ghost use Rattle.store.specs.Soundness.{Stands};
-ghost use Rattle.reports.specs.Reports.{Measured, Next, Previous, Selects};
+ghost use Rattle.run_index.specs.Search.{Indexed};
+ghost use Rattle.reports.specs.Reports.{Measured, TellsPlace, Next, Previous, Selects};
 
 use model::{Logical, Tally};
 use store::World;
@@ -26,26 +27,38 @@ pub fn tally(words: &[u64], h: World, a: Logical, b: Logical, value: bool) -> Ta
 {
     let s = store::places::to_physical(a, h.offset);
     let e = store::places::to_physical(b, h.offset);
-    let from = s.0;
-    let to = e.0;
-    if from <= to {
+    if s.0 <= e.0 {
         return crate::physical::tally_physical(words, h.root, s, e, value);
     }
     let one = crate::physical::tally_physical(words, h.root, s, Physical(u64::MAX), value);
     let two = crate::physical::tally_physical(words, h.root, Physical(0), e, value);
     let low = store::bounds::get_physical(words, h.root, Physical(0));
     let high = store::bounds::get_physical(words, h.root, Physical(u64::MAX));
-    let count = one.count.plus(two.count);
-    if low == value && high == value {
-        return Tally {
-            count: count,
-            runs: one.runs + two.runs - 1,
-        };
-    }
+    let joined = high == value && low == value;
     Tally {
-        count: count,
-        runs: one.runs + two.runs,
+        count: one.count.plus(two.count),
+        runs: one.runs + two.runs - u64::from(joined),
     }
+}
+
+// The place of the k-th position of the value from s to e, or, where there are no more than k, how many are left to pass after e.
+fn chosen(
+    words: &[u64],
+    root: u64,
+    s: Physical,
+    e: Physical,
+    value: bool,
+    k: u64,
+) -> Result<Physical, u64>
+    requires indexed { Indexed words.now root }
+    requires s_le_e { s.0 ≤ e.0 }
+    ensures { TellsPlace words.now root s.0 e.0 value k result }
+{
+    let n = crate::physical::tally_physical(words, root, s, e, value).count;
+    if n.carry == 0 && n.low <= k {
+        return Err(k - n.low);
+    }
+    Ok(crate::physical::select_physical(words, root, s, value, k))
 }
 
 // The position from a to b that has the value and exactly k such positions before it there.
@@ -56,31 +69,16 @@ pub fn select(words: &[u64], h: World, a: Logical, b: Logical, value: bool, k: u
 {
     let s = store::places::to_physical(a, h.offset);
     let e = store::places::to_physical(b, h.offset);
-    let from = s.0;
-    let to = e.0;
-    if from <= to {
-        let n = crate::physical::tally_physical(words, h.root, s, e, value);
-        if n.count.carry == 0 && n.count.low <= k {
-            return None;
+    let place = if s.0 <= e.0 {
+        chosen(words, h.root, s, e, value, k)
+    } else {
+        match chosen(words, h.root, s, Physical(u64::MAX), value, k) {
+            Ok(p) => Ok(p),
+            Err(left) => chosen(words, h.root, Physical(0), e, value, left),
         }
-        let x = crate::physical::select_physical(words, h.root, s, value, k);
-        let y = store::places::to_logical(x, h.offset);
-        return Some(y.0);
-    }
-    let n = crate::physical::tally_physical(words, h.root, s, Physical(u64::MAX), value);
-    let before = n.count.low;
-    if n.count.carry == 1 || k < before {
-        let x = crate::physical::select_physical(words, h.root, s, value, k);
-        let y = store::places::to_logical(x, h.offset);
-        return Some(y.0);
-    }
-    let m = crate::physical::tally_physical(words, h.root, Physical(0), e, value);
-    if m.count.carry == 0 && m.count.low <= k - before {
-        return None;
-    }
-    let x = crate::physical::select_physical(words, h.root, Physical(0), value, k - before);
-    let y = store::places::to_logical(x, h.offset);
-    Some(y.0)
+    };
+    let p = place.ok()?;
+    Some(store::places::to_logical(p, h.offset).0)
 }
 
 // The least position of the value at or after x. From x to M the world lies from x's place to M's, or from x's place on and from 0 to M's.
@@ -90,33 +88,20 @@ pub fn next(words: &[u64], h: World, x: Logical, value: bool) -> Option<u64>
 {
     let s = store::places::to_physical(x, h.offset);
     let top = store::places::to_physical(Logical(u64::MAX), h.offset);
-    let from = s.0;
-    let to = top.0;
-    let n = crate::physical::next_physical(words, h.root, s, value);
-    match n {
-        Some(p) => {
-            if from <= to && to < p {
-                return None;
-            }
-            let y = store::places::to_logical(Physical(p), h.offset);
-            Some(y.0)
-        }
-        None => {
-            if from <= to {
-                return None;
-            }
-            let m = crate::physical::next_physical(words, h.root, Physical(0), value);
-            match m {
-                Some(p) => {
-                    if to < p {
-                        return None;
-                    }
-                    let y = store::places::to_logical(Physical(p), h.offset);
-                    Some(y.0)
-                }
-                None => None,
-            }
-        }
+    match crate::physical::next_physical(words, h.root, s, value) {
+        Some(p) if top.0 < s.0 || p <= top.0 => Some(
+            store::places::to_logical(Physical(p), h.offset).0,
+        ),
+        None if top.0 < s.0 => match crate::physical::next_physical(
+            words,
+            h.root,
+            Physical(0),
+            value,
+        ) {
+            Some(p) if p <= top.0 => Some(store::places::to_logical(Physical(p), h.offset).0),
+            _ => None,
+        },
+        _ => None,
     }
 }
 
@@ -127,32 +112,19 @@ pub fn previous(words: &[u64], h: World, x: Logical, value: bool) -> Option<u64>
 {
     let s = store::places::to_physical(x, h.offset);
     let zero = store::places::to_physical(Logical(0), h.offset);
-    let from = s.0;
-    let to = zero.0;
-    let n = crate::physical::previous_physical(words, h.root, s, value);
-    match n {
-        Some(p) => {
-            if to <= from && p < to {
-                return None;
-            }
-            let y = store::places::to_logical(Physical(p), h.offset);
-            Some(y.0)
-        }
-        None => {
-            if to <= from {
-                return None;
-            }
-            let m = crate::physical::previous_physical(words, h.root, Physical(u64::MAX), value);
-            match m {
-                Some(p) => {
-                    if p < to {
-                        return None;
-                    }
-                    let y = store::places::to_logical(Physical(p), h.offset);
-                    Some(y.0)
-                }
-                None => None,
-            }
-        }
+    match crate::physical::previous_physical(words, h.root, s, value) {
+        Some(p) if s.0 < zero.0 || zero.0 <= p => Some(
+            store::places::to_logical(Physical(p), h.offset).0,
+        ),
+        None if s.0 < zero.0 => match crate::physical::previous_physical(
+            words,
+            h.root,
+            Physical(u64::MAX),
+            value,
+        ) {
+            Some(p) if zero.0 <= p => Some(store::places::to_logical(Physical(p), h.offset).0),
+            _ => None,
+        },
+        _ => None,
     }
 }

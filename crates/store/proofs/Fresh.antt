@@ -15,7 +15,7 @@ use Rattle.store.proofs.Making.{
   FreeAfter,
   free-after-none,
   free-after-room,
-  free-after-more,
+  free-after-step,
   free-after-chained,
   RecordedTo,
   recorded-none,
@@ -32,9 +32,8 @@ freed : {w₀ w : List ℕ} {n next : ℕ} (l : ℕ) → FreeAfter w₀ w n l ne
 freed {w₀ = w₀} {w = w} {n = n} {next = next} zero a = (w, next, free-after-chained w₀ w n 0 next refl a)
 freed {w₀ = w₀} {w = w} {n = n} {next = next} (suc l) a =
     freed {w₀ = w₀} {w = stored w (suc l) (free_cell next)} {n = n} {next = suc l} l
-    (subst (λ j. FreeAfter w₀ (stored w (suc l) (free_cell next)) n j (suc l)) (omega arith)
-    (free-after-more w₀ w (stored w (suc l) (free_cell next)) n (suc l) next (λ e. omega arith) a
-    (stored-wrote w (suc l) (free_cell next) (free-after-room w₀ w n (suc l) next a))))
+    (free-after-step w₀ w (stored w (suc l) (free_cell next)) n l next a
+    (stored-wrote w (suc l) (free_cell next) (free-after-room w₀ w n (suc l) next a)))
 
 -- the records of the first k worlds are written
 recorded : (w ls : List ℕ) (n : ℕ) → 8 * 17 ≤ length w → (k : ℕ) → k ≤ most_worlds → (w' : List ℕ) × RecordedTo w w' ls n k

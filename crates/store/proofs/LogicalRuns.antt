@@ -1,5 +1,6 @@
 -- How many runs the tree at a root has: what its root node keeps, so whichever tree is there; and how many logical runs these are.
 -- Assumes nothing.
+use Rattle.std.specs.Int.{from_bool}
 use Rattle.std.proofs.Common.{◌≡◌, ℕ, ◌+◌, ◌-◌, ◌<◌, ◌≤◌, Bool, true, false, ◌&&◌, List, length, sym, refl, ap, ◌∙◌, ap₂, arith}
 use Rattle.model.specs.Numbers.{size}
 use Rattle.model.specs.Positions.{Positions, one_if, stretches, mem}
@@ -57,3 +58,10 @@ logical-runs {o = o} {z = z} {m = m} {t = t} i e h k y u p q =
     ∙ stretches-turned o z Q h (omega arith) y
     ∙ ap₂ (λ j b. j + one_if b) (stretches-is Q (inorder t) i.canonical (λ x h. refl) ∙ sym (counted-length e i))
     (sym (p ∙ and-swap (Q z) (Q m) ∙ ap (λ j. Q j && Q z) x))
+
+-- the same, with each bool as the number that it is
+pub runs-from : (n s : ℕ) (cut joined : Bool) {a b : ℕ} → a ≡ from_bool cut → b ≡ from_bool joined → s + one_if joined ≡ n + one_if cut → s + b ≡ n + a
+runs-from n s true true p q e = omega arith
+runs-from n s true false p q e = omega arith
+runs-from n s false true p q e = omega arith
+runs-from n s false false p q e = omega arith

@@ -12,7 +12,7 @@ use Rattle.run_index.specs.declared.Node.{Node}
 use Rattle.run_index.specs.Cells.{cell_at, Room, Wrote}
 use Rattle.run_index.specs.Tree.{leaf, count, runs}
 use Rattle.run_index.specs.Strung.{times, free_cell, Free}
-use Rattle.run_index.proofs.Trees.{leaf-at}
+use Rattle.run_index.proofs.Trees.{leaf-at, wrote_as}
 use Rattle.run_index.proofs.Strings.{strung-kept}
 use Rattle.store.specs.declared.Links.{Links}
 use Rattle.store.specs.Layout.{
@@ -62,7 +62,7 @@ pub free-after-room : (w₀ w : List ℕ) (n left next : ℕ) → FreeAfter w₀
 free-after-room w₀ w n left next f = omega (arith, f.all, f.long, f.sized)
 
 -- it is freed, and then is the first
-free-after-step : (w₀ w w' : List ℕ) (n l next : ℕ) → FreeAfter w₀ w n (suc l) next → Wrote w w' (suc l) (free_cell next) → FreeAfter w₀ w' n l (suc l)
+pub free-after-step : (w₀ w w' : List ℕ) (n l next : ℕ) → FreeAfter w₀ w n (suc l) next → Wrote w w' (suc l) (free_cell next) → FreeAfter w₀ w' n l (suc l)
 free-after-step w₀ w w' n l next f wr =
     let rest : Chain w' next (after (suc l) f.done) =
     strung-kept Free w w' wr.long next (after (suc l) f.done) 0 (λ m i. wr.there m (after-apart (suc l) f.done m i)) f.chain in
@@ -81,12 +81,15 @@ free-after-step w₀ w w' n l next f wr =
       );
     }
 
--- the same of any number but 0
-pub free-after-more : (w₀ w w' : List ℕ) (n left next : ℕ) → (left ≡ 0 → ⊥) → FreeAfter w₀ w n left next → Wrote w w' left (free_cell next)
-    → FreeAfter w₀ w' n (left - 1) left
-free-after-more w₀ w w' n zero next ne f wr = absurd (ne refl)
-free-after-more w₀ w w' n (suc l) next ne f wr =
-    subst (λ (j : ℕ). FreeAfter w₀ w' n j (suc l)) (omega arith) (free-after-step w₀ w w' n l next f wr)
+-- the same, with the cell as it is made
+pub free-after-more : (w₀ w w' : List ℕ) (n left next : ℕ) → 1 ≤ left → FreeAfter w₀ w n left next → {v : Node} → v ≡ free_cell next
+    → Wrote w w' (left - 1 + 1) v → FreeAfter w₀ w' n (left - 1) (left - 1 + 1)
+free-after-more w₀ w w' n zero next some f e wr = absurd (omega arith)
+free-after-more w₀ w w' n (suc l) next some f e wr =
+    let is : suc l ≡ suc l - 1 + 1 = omega arith in
+    subst (λ (i : ℕ). FreeAfter w₀ w' n (suc l - 1) i) is
+    (subst (λ (j : ℕ). FreeAfter w₀ w' n j (suc l)) (omega arith)
+    (free-after-step w₀ w w' n l next f (subst (λ (i : ℕ). Wrote w w' i (free_cell next)) (sym is) (wrote_as e wr))))
 
 -- in the end all are free
 pub free-after-chained : (w₀ w : List ℕ) (n left next : ℕ) → left ≡ 0 → FreeAfter w₀ w n left next → Chained w₀ w n next

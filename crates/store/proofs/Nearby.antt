@@ -1,13 +1,15 @@
 -- What the run before a position and the run after it tell: which positions from here to there are held. And so which position of a
 -- turned set is held first and last, by the searches that start at the place of logical 0, and of logical M. Assumes nothing.
-use Rattle.std.specs.Prelude.{Option, None, Some}
+use Rattle.std.specs.Prelude.{Option, None, Some, MatchOption}
 use Rattle.std.proofs.Common.{◌≡◌, ℕ, suc, ◌+◌, ◌-◌, ◌<◌, ◌≤◌, Bool, true, false, cond, leb, ◌⊎◌, List, [], ◌∷◌, sym, refl, ap, ◌∙◌, subst, inl, inr, arith, leb-false, leb-true}
 use Rattle.model.specs.declared.Run.{Run}
+use Rattle.model.specs.declared.Logical.{Logical}
 use Rattle.model.specs.Numbers.{size}
 use Rattle.model.proofs.Numbers.{split}
 use Rattle.model.specs.Positions.{held_runs, mem}
 use Rattle.model.specs.RunList.{Canon, or_else, last_up_to, first_from}
 use Rattle.model.proofs.RunList.{mem-in, mem-above, mem-under, mem_below, mem-before}
+use Rattle.model.proofs.Search.{reaches, mem-last}
 use Rattle.store.specs.Places.{physical_of, logical_of}
 use Rattle.store.specs.Layout.{turned}
 use Rattle.store.specs.Soundness.{first_of, last_of}
@@ -186,13 +188,7 @@ module _ (rs : List Run) (c : Canon size 0 rs) (o : ℕ) (small : o < size) wher
       let q : logical_of z o ≡ size - 1 = omega arith in
       sym (turned-last o (mem rs) small z (omega arith) h (λ y l t. absurd (omega arith)) ∙ q)
 
-  -- the last run that starts at or before the place of logical M holds it
-  pub last-inside : (z : ℕ) (r : Run) → z ≡ physical_of (size - 1) o → Some r ≡ last_up_to z rs → z ≤ r.«end» → size - 1 ≡ last_of (held_runs (turned o (mem rs)))
-  last-inside z r e n i =
-      let b : Before rs size z r = subst (Earlier rs size z) (sym n) (earlier size 0 rs z c) in
-      last-top z e (b.member.held z b.starts i)
-
-  -- it ends before that place
+  -- the last run that starts at or before it ends before it
   pub last-before : (z : ℕ) (r : Run) → z ≡ physical_of (size - 1) o → Some r ≡ last_up_to z rs → r.«end» < z
       → logical_of r.«end» o ≡ last_of (held_runs (turned o (mem rs)))
   last-before z r e n i = go (subst (Earlier rs size z) (sym n) (earlier size 0 rs z c))
@@ -260,3 +256,69 @@ module _ (rs : List Run) (c : Canon size 0 rs) (o : ℕ) (small : o < size) wher
         where
           over : (y s : ℕ) → y < size → s < size → logical_of s o < logical_of y o → s < y
           over y s t l u = omega arith
+
+  -- ---- what a call makes of the run that a search finds, and of none
+  module _ {q : Option Run} {Q : Run → Type 0} where
+    -- whether the last run that starts at or before x reaches x
+    pub told-held : (x : ℕ) {b : Bool} → q ≡ last_up_to x rs → MatchOption q (b ≡ false) Q → ((r : Run) → Q r → b ≡ leb x r.«end») → b ≡ mem rs x
+    told-held x {b} e m f = go q m ∙ ap (reaches x) e ∙ sym (mem-last size 0 rs x c)
+      where
+        go : (q : Option Run) → MatchOption q (b ≡ false) Q → b ≡ reaches x q
+        go None n = n
+        go (Some r) h = f r h
+
+    -- where the first run of all starts
+    pub told-first : {l : Logical} → o ≡ 0 → q ≡ first_from 0 rs → MatchOption q (l ≡ record { 0 = 0 }) Q
+        → ((r : Run) → Q r → l ≡ record { 0 = r.start }) → l.0 ≡ first_of (held_runs (turned o (mem rs)))
+    told-first {l} z e m f = go q e m
+      where
+        go : (q : Option Run) → q ≡ first_from 0 rs → MatchOption q (l ≡ record { 0 = 0 }) Q → l.0 ≡ first_of (held_runs (turned o (mem rs)))
+        go None e n = ap (λ (k : Logical). k.0) n ∙ first-none e
+        go (Some r) e h = ap (λ (k : Logical). k.0) (f r h) ∙ first-straight r z e
+
+    -- where the last run of all ends
+    pub told-last : {l : Logical} → o ≡ 0 → q ≡ last_up_to (size - 1) rs → MatchOption q (l ≡ record { 0 = 0 }) Q
+        → ((r : Run) → Q r → l ≡ record { 0 = r.«end» }) → l.0 ≡ last_of (held_runs (turned o (mem rs)))
+    told-last {l} z e m f = go q e m
+      where
+        go : (q : Option Run) → q ≡ last_up_to (size - 1) rs → MatchOption q (l ≡ record { 0 = 0 }) Q → l.0 ≡ last_of (held_runs (turned o (mem rs)))
+        go None e n = ap (λ (k : Logical). k.0) n ∙ last_none e
+        go (Some r) e h = ap (λ (k : Logical). k.0) (f r h) ∙ last-straight r z e
+
+  -- ---- what `res` is, where a search found q and, in case of none, another was made, of which N is known
+  module _ {q res : Option Run} {N : Type 0} where
+    -- the first run after the place of logical 0, else the first of all
+    module _ (z : ℕ) (p : z ≡ physical_of 0 o) (h : mem rs z ≡ false) (e : q ≡ first_from z rs) (m : MatchOption q N (λ r. res ≡ Some r))
+        (f : N → res ≡ first_from 0 rs) where
+      pub either-first : {r : Run} → res ≡ Some r → logical_of r.start o ≡ first_of (held_runs (turned o (mem rs)))
+      either-first {r} a = go q e m
+        where
+          go : (q : Option Run) → q ≡ first_from z rs → MatchOption q N (λ r. res ≡ Some r) → logical_of r.start o ≡ first_of (held_runs (turned o (mem rs)))
+          go None e n = first-wrapped z r p h e (sym a ∙ f n)
+          go (Some s) e n = first-after z r p h (sym a ∙ n ∙ e)
+
+      pub neither-first : res ≡ None → 0 ≡ first_of (held_runs (turned o (mem rs)))
+      neither-first a = go q m
+        where
+          go : (q : Option Run) → MatchOption q N (λ r. res ≡ Some r) → 0 ≡ first_of (held_runs (turned o (mem rs)))
+          go None n = first-none (sym a ∙ f n)
+          go (Some s) n = absurd cc
+
+    -- the last run before the place of logical M, where it doesn't hold it, else the last of all
+    module _ (z : ℕ) (p : z ≡ physical_of (size - 1) o) (h : mem rs z ≡ false) (e : q ≡ last_up_to z rs) (m : MatchOption q N (λ r. res ≡ Some r))
+        (f : N → res ≡ last_up_to (size - 1) rs) where
+      pub either-last : {r : Run} → res ≡ Some r → logical_of r.«end» o ≡ last_of (held_runs (turned o (mem rs)))
+      either-last {r} a = go q e m
+        where
+          go : (q : Option Run) → q ≡ last_up_to z rs → MatchOption q N (λ r. res ≡ Some r) → logical_of r.«end» o ≡ last_of (held_runs (turned o (mem rs)))
+          go None e n = last-wrapped z r p e (sym a ∙ f n)
+          go (Some s) e n =
+              let b : reaches z (Some r) ≡ false = ap (reaches z) (sym a ∙ n ∙ e) ∙ sym (mem-last size 0 rs z c) ∙ h in
+              last-before z r p (sym a ∙ n ∙ e) (leb-false z r.«end» b)
+
+      pub neither-last : res ≡ None → 0 ≡ last_of (held_runs (turned o (mem rs)))
+      neither-last a = go q m
+        where
+          go : (q : Option Run) → MatchOption q N (λ r. res ≡ Some r) → 0 ≡ last_of (held_runs (turned o (mem rs)))
+          go None n = last_none (sym a ∙ f n)
+          go (Some s) n = absurd cc

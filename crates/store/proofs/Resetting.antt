@@ -1,6 +1,6 @@
 -- What a world that agreed before a .. b got a value tells of the positions held after it: the first and the last one, unless they
 -- were freed. Assumes nothing.
-use Rattle.std.proofs.Common.{◌≡◌, ℕ, suc, ◌-◌, ◌<◌, ◌≤◌, max, Bool, true, false, ◌⊎◌, List, sym, ap, ◌∙◌, subst, inl, inr, arith}
+use Rattle.std.proofs.Common.{◌≡◌, ℕ, suc, ◌-◌, ◌<◌, ◌≤◌, max, min, Bool, true, false, ◌⊎◌, List, sym, ap, ◌∙◌, subst, inl, inr, arith}
 use Rattle.model.specs.Numbers.{size}
 use Rattle.model.proofs.Numbers.{split}
 use Rattle.model.specs.Positions.{Positions, set_range, held_runs}
@@ -65,10 +65,10 @@ module _ {w : List ℕ} {ls : Links} {h : World} {a b : ℕ} {v : Bool} (re : Re
     alone-last z = raised-last (λ y l m. alt.none-were z y m)
 
     -- and before the first, after the last
-    pub new-first : (h.runs ≡ 0 → ⊥) → a < h.first → a ≡ first_of (held_runs held)
+    new-first : (h.runs ≡ 0 → ⊥) → a < h.first → a ≡ first_of (held_runs held)
     new-first nz q = raised-first (λ y l. (ends-were nz).under y (omega arith))
 
-    pub new-last : (h.runs ≡ 0 → ⊥) → h.last < b → b ≡ last_of (held_runs held)
+    new-last : (h.runs ≡ 0 → ⊥) → h.last < b → b ≡ last_of (held_runs held)
     new-last nz q = raised-last (λ y l m. (ends-were nz).over y (omega arith) m)
 
   -- ---- what was an end, and is held, is one still
@@ -82,21 +82,28 @@ module _ {w : List ℕ} {ls : Links} {h : World} {a b : ℕ} {v : Bool} (re : Re
 
   -- so of a .. b held
   module _ (ev : v ≡ true) (nz : h.runs ≡ 0 → ⊥) where
-    pub same_first : h.first ≤ a → h.first ≡ first_of (held_runs held)
+    same_first : h.first ≤ a → h.first ≡ first_of (held_runs held)
     same_first q = still-first nz q (go (split h.first a))
       where
         go : (h.first < a) ⊎ (a ≤ h.first) → held h.first ≡ true
         go (inl l) = below-is h.first l ∙ (ends-were nz).first
         go (inr l) = inside_is h.first l (omega (arith, alt.ordered)) ∙ ev
 
-    pub same-last : b ≤ h.last → h.last ≡ last_of (held_runs held)
+    same-last : b ≤ h.last → h.last ≡ last_of (held_runs held)
     same-last q = still-last nz q (go (split b h.last))
       where
         go : (b < h.last) ⊎ (h.last ≤ b) → held h.last ≡ true
         go (inl l) = above-is h.last l (ends-were nz).small ∙ (ends-were nz).last
         go (inr l) = inside_is h.last (omega (arith, alt.ordered)) l ∙ ev
 
-    -- the later of the two is the last
+    -- the earlier of the two is the first, and the later the last
+    pub earlier_first : {r : ℕ} → r ≡ min a h.first → r ≡ first_of (held_runs held)
+    earlier_first {r} e = go (split a h.first)
+      where
+        go : (a < h.first) ⊎ (h.first ≤ a) → r ≡ first_of (held_runs held)
+        go (inl l) = (let q : r ≡ a = omega arith in q) ∙ new-first ev nz l
+        go (inr l) = (let q : r ≡ h.first = omega arith in q) ∙ same_first l
+
     pub later_last : {r : ℕ} → r ≡ max b h.last → r ≡ last_of (held_runs held)
     later_last {r} e = go (split h.last b)
       where

@@ -2,7 +2,6 @@
 -- two, the second of them from 0 on. Each is read where it lies (module Moved), and what is reported of the logical range is put
 -- together of their reports. Assumes nothing.
 use Rattle.std.specs.Prelude.{option_map}
-use Rattle.std.specs.Prelude.{Some}
 use Rattle.std.proofs.Common.{◌≡◌, ℕ, suc, ◌+◌, ◌-◌, ◌<◌, ◌≤◌, Bool, true, false, ◌&&◌, List, length, sym, refl, ap, ◌∙◌, ap₂, add_comm, arith, le-ltb, lt-ltb}
 use mathlib.Core.Bool.{beq}
 use Rattle.model.specs.Numbers.{size}

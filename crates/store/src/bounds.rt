@@ -11,12 +11,7 @@ pub fn get_physical(words: &[u64], root: u64, x: Physical) -> bool
     requires { Indexed words.now root }
     ensures { TellsHeld words.now root x.0 result }
 {
-    let at = x.0;
-    let n = run_index::search::at_or_before(words, root, at);
-    match n {
-        Some(r) => at <= r.end,
-        None => false,
-    }
+    run_index::search::at_or_before(words, root, x.0).is_some_and(|r| x.0 <= r.end)
 }
 
 // The first logical position held under an offset, 0 if there is none: the place of logical 0, else the first run after it, else the first of all.
@@ -28,16 +23,10 @@ fn first_turned(words: &[u64], root: u64, offset: u64) -> Logical
     if get_physical(words, root, zero) {
         return Logical(0);
     }
-    let n = run_index::search::at_or_after(words, root, zero.0);
-    match n {
+    let next = run_index::search::at_or_after(words, root, zero.0);
+    match next.or_else(|| run_index::search::at_or_after(words, root, 0)) {
         Some(r) => crate::places::to_logical(Physical(r.start), offset),
-        None => {
-            let m = run_index::search::at_or_after(words, root, 0);
-            match m {
-                Some(r) => crate::places::to_logical(Physical(r.start), offset),
-                None => Logical(0),
-            }
-        }
+        None => Logical(0),
     }
 }
 
@@ -49,11 +38,7 @@ pub fn first_held(words: &[u64], root: u64, offset: u64) -> Logical
     if offset != 0 {
         return first_turned(words, root, offset);
     }
-    let n = run_index::search::at_or_after(words, root, 0);
-    match n {
-        Some(r) => Logical(r.start),
-        None => Logical(0),
-    }
+    run_index::search::at_or_after(words, root, 0).map_or(Logical(0), |r| Logical(r.start))
 }
 
 // The last logical position held under an offset, 0 if there is none.
@@ -62,22 +47,13 @@ fn last_turned(words: &[u64], root: u64, offset: u64) -> Logical
     ensures { TellsLast words.now root offset result.0 }
 {
     let top = crate::places::to_physical(Logical(u64::MAX), offset);
-    let at = top.0;
-    let n = run_index::search::at_or_before(words, root, at);
-    match n {
-        Some(r) => {
-            if at <= r.end {
-                return Logical(u64::MAX);
-            }
-            crate::places::to_logical(Physical(r.end), offset)
-        }
-        None => {
-            let m = run_index::search::at_or_before(words, root, u64::MAX);
-            match m {
-                Some(r) => crate::places::to_logical(Physical(r.end), offset),
-                None => Logical(0),
-            }
-        }
+    let next = run_index::search::at_or_before(words, root, top.0);
+    if next.is_some_and(|r| top.0 <= r.end) {
+        return Logical(u64::MAX);
+    }
+    match next.or_else(|| run_index::search::at_or_before(words, root, u64::MAX)) {
+        Some(r) => crate::places::to_logical(Physical(r.end), offset),
+        None => Logical(0),
     }
 }
 
@@ -89,11 +65,7 @@ pub fn last_held(words: &[u64], root: u64, offset: u64) -> Logical
     if offset != 0 {
         return last_turned(words, root, offset);
     }
-    let n = run_index::search::at_or_before(words, root, u64::MAX);
-    match n {
-        Some(r) => Logical(r.end),
-        None => Logical(0),
-    }
+    run_index::search::at_or_before(words, root, u64::MAX).map_or(Logical(0), |r| Logical(r.end))
 }
 
 // Whether both of two physical positions are held.
@@ -101,11 +73,7 @@ fn both_held(words: &[u64], root: u64, x: Physical, y: Physical) -> bool
     requires { Indexed words.now root }
     ensures { TellsBoth words.now root x.0 y.0 result }
 {
-    if get_physical(words, root, x) {
-        get_physical(words, root, y)
-    } else {
-        false
-    }
+    get_physical(words, root, x) && get_physical(words, root, y)
 }
 
 // How many logical runs the tree's physical ones are. The physical run across the place of logical 0 is two logical ones,
@@ -121,9 +89,5 @@ pub fn logical_runs(words: &[u64], root: u64, offset: u64, runs: u64) -> u64
     let top = crate::places::to_physical(Logical(u64::MAX), offset);
     let cut = both_held(words, root, zero, top);
     let joined = both_held(words, root, Physical(0), Physical(u64::MAX));
-    if cut {
-        if joined { runs } else { runs + 1 }
-    } else {
-        if joined { runs - 1 } else { runs }
-    }
+    runs + u64::from(cut) - u64::from(joined)
 }

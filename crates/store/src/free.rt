@@ -3,9 +3,11 @@
 ghost use Rattle.std.specs.Prelude.{◌≡◌, ◌+◌, ◌*◌, ◌≤◌, not, length};
 ghost use Rattle.model.specs.Refusals.{bad_limits};
 ghost use Rattle.model.specs.Pools.{limits_of};
+ghost use Rattle.store.specs.Layout.{header_cell};
 ghost use Rattle.store.specs.Free.{
   Chained,
   limits_or_none,
+  empty_record,
   Recorded,
   Makeable,
   Emptied,
@@ -29,25 +31,10 @@ fn free_all(nodes: &mut [u64], n: u64) -> u64
     requires { length nodes.old ≡ 8 * (n + 1) }
     ensures { Chained nodes.old nodes.new n result }
 {
-    let mut left = n;
     let mut next: u64 = 0;
-    while left != 0 {
-        run_index::write_node(
-            nodes,
-            left,
-            Node {
-                start: 0,
-                end: 0,
-                left: next,
-                right: 0,
-                height: 0,
-                runs: 0,
-                ones: 0,
-                tag: 0,
-            },
-        );
-        next = left;
-        left -= 1;
+    for before in (0..n).rev() {
+        run_index::write_node(nodes, before + 1, Node::free(next));
+        next = before + 1;
     }
     next
 }
@@ -70,30 +57,26 @@ fn limits_at(limits: &[u64], n: u64, k: u64) -> Limits
     }
 }
 
+// The record of an empty world with these limits.
+fn empty_record(l: Limits) -> Node
+    ensures { result ≡ empty_record l }
+{
+    Node {
+        ones: l.floor,
+        tag: l.ceiling,
+        ..Node::default()
+    }
+}
+
 // Writes the records of n empty worlds, and zeros for those that are not opened.
 fn make_records(words: &mut [u64], limits: &[u64], n: u64)
     requires in_bounds { 8 * 17 ≤ length words.old }
     requires n_in_bounds { 2 * n ≤ length limits.now }
     ensures { Recorded words.old words.new limits.now n }
 {
-    let mut k: u64 = 0;
-    while k < Store::MAX_WORLDS {
-        let l = limits_at(limits, n, k);
-        run_index::write_node(
-            words,
-            k + 1,
-            Node {
-                start: 0,
-                end: 0,
-                left: 0,
-                right: 0,
-                height: 0,
-                runs: 0,
-                ones: l.floor,
-                tag: l.ceiling,
-            },
-        );
-        k += 1;
+    for k in 0..Store::MAX_WORLDS {
+        let record = empty_record(limits_at(limits, n, k));
+        run_index::write_node(words, k + 1, record);
     }
 }
 
@@ -102,26 +85,29 @@ pub fn limits_fit(limits: &[u64], c: u64) -> bool
     ensures { result ≡ not (bad_limits c (limits_of limits.now)) }
 {
     let n = (limits.len() / 2) as u64;
-    if n == 0 {
+    if n == 0 || n > Store::MAX_WORLDS {
         return false;
     }
-    if n > Store::MAX_WORLDS {
-        return false;
-    }
-    let mut k: u64 = 0;
     let mut left = c;
-    while k < n {
+    for k in 0..n {
         let l = limits_at(limits, n, k);
-        if l.floor > l.ceiling {
-            return false;
-        }
-        if l.floor > left {
+        if l.floor > l.ceiling || l.floor > left {
             return false;
         }
         left -= l.floor;
-        k += 1;
     }
     true
+}
+
+// The header of a pool of n worlds.
+fn header(n: u64, free: u64) -> Node
+    ensures { result ≡ header_cell n free }
+{
+    Node {
+        start: n,
+        end: free,
+        ..Node::default()
+    }
 }
 
 // Makes the words a pool of n empty worlds with these limits, whatever they were.
@@ -131,20 +117,7 @@ pub fn make(words: &mut [u64], limits: &[u64], n: u64)
 {
     let nodes = (words.len() / 8 - 17) as u64;
     let free = free_all(&mut words[128..], nodes);
-    run_index::write_node(
-        words,
-        0,
-        Node {
-            start: n,
-            end: free,
-            left: 0,
-            right: 0,
-            height: 0,
-            runs: 0,
-            ones: 0,
-            tag: 0,
-        },
-    );
+    run_index::write_node(words, 0, header(n, free));
     make_records(words, limits, n);
 }
 
@@ -156,9 +129,9 @@ pub fn add_run(words: &mut [u64], x: Links, start: u64, end: u64) -> Links
     let v = run_index::read_node(words, x.free);
     let root = run_index::insert(words, x.root, x.free, start, end, x.tag);
     Links {
-        tag: x.tag,
-        root: root,
+        root,
         free: v.left,
+        ..x
     }
 }
 
@@ -168,24 +141,11 @@ pub fn remove_run(words: &mut [u64], x: Links, start: u64) -> Links
     ensures { RemovesRun words.old words.new x result start }
 {
     let y = run_index::remove(words, x.root, start, x.tag);
-    run_index::write_node(
-        words,
-        y.freed,
-        Node {
-            start: 0,
-            end: 0,
-            left: x.free,
-            right: 0,
-            height: 0,
-            runs: 0,
-            ones: 0,
-            tag: 0,
-        },
-    );
+    run_index::write_node(words, y.freed, Node::free(x.free));
     Links {
-        tag: x.tag,
         root: y.root,
         free: y.freed,
+        ..x
     }
 }
 
@@ -194,7 +154,7 @@ pub fn resize_run(words: &mut [u64], x: Links, k: u64, l: u64, start: u64, end: 
     requires { Changeable words.old x k l start «end» }
     ensures { Changes words.old words.new x k l start «end» }
 {
-    let more = std::num::wrapping_sub_u64(end - start, l - k);
+    let more = (end - start).wrapping_sub(l - k);
     run_index::resize(words, x.root, k, start, end, more);
 }
 
@@ -204,9 +164,5 @@ pub fn give_back(words: &mut [u64], x: Links) -> Links
     ensures { GivesBack words.old words.new x result }
 {
     let free = run_index::chains::free_tree(words, x.root, x.free);
-    Links {
-        tag: x.tag,
-        root: 0,
-        free: free,
-    }
+    Links { root: 0, free, ..x }
 }

@@ -31,21 +31,15 @@ impl Store {
     pub const MAX_WORLDS: u64 = 16;
 
     // The store that a slice of so many words is; its capacity is 0 if no store has that length.
+    #[tactic(auto, using(std::proofs::lemmas::Bool::Decides::nat_tests))]
     pub fn of_length(words: usize) -> Store
         ensures { result.capacity ≡ capacity_of words }
     {
-        if words % 8 != 0 {
-            return Store { capacity: 0 };
-        }
         let cells = words / 8;
-        if cells < 50 {
-            return Store { capacity: 0 };
-        }
-        let c = (cells - 49) as u64;
-        if c <= Store::MAX_CAPACITY {
-            Store { capacity: c }
-        } else {
-            Store { capacity: 0 }
+        let beyond = cells.saturating_sub(49) as u64;
+        let fits = words % 8 == 0 && beyond <= Store::MAX_CAPACITY;
+        Store {
+            capacity: if fits { beyond } else { 0 },
         }
     }
 }
@@ -53,7 +47,7 @@ impl Store {
 // What is kept of a set beside its nodes: the tag that its nodes have, which is its world's number, the root of its tree, the head of the free
 // chain, the offset, and what is told of the tree: held positions modulo 2^64, runs, and the first and the last logical position held, 0 if
 // there is none.
-#[derive(Clone, Copy)]
+#[derive(Clone, Copy, Default)]
 pub struct World {
     pub tag: u64,
     pub root: u64,
@@ -88,8 +82,7 @@ pub fn opened(words: &[u64]) -> u64
     requires { Room words.now 0 }
     ensures { result ≡ opened_at words.now }
 {
-    let a = run_index::read_node(words, 0);
-    a.start
+    run_index::read_node(words, 0).start
 }
 
 // The world that record k tells. The record lies where a node k + 1 of the whole slice would.
@@ -119,20 +112,7 @@ fn write_world(words: &mut [u64], h: World)
     ensures { Headed words.old words.new h }
 {
     let a = run_index::read_node(words, 0);
-    run_index::write_node(
-        words,
-        0,
-        Node {
-            start: a.start,
-            end: h.free,
-            left: a.left,
-            right: a.right,
-            height: a.height,
-            runs: a.runs,
-            ones: a.ones,
-            tag: a.tag,
-        },
-    );
+    run_index::write_node(words, 0, Node { end: h.free, ..a });
     let v = run_index::read_node(words, h.tag + 1);
     run_index::write_node(
         words,
@@ -144,8 +124,7 @@ fn write_world(words: &mut [u64], h: World)
             right: h.runs,
             height: h.first,
             runs: h.last,
-            ones: v.ones,
-            tag: v.tag,
+            ..v
         },
     );
 }
@@ -160,7 +139,7 @@ fn claim(words: &[u64], k: u64) -> u64
     let h = read_world(words, k);
     let v = run_index::read_node(words, k + 1);
     let n = bounds::logical_runs(&words[128..], h.root, h.offset, h.runs);
-    run_index::larger(n, v.ones)
+    n.max(v.ones)
 }
 
 // The most runs that world k may have: no more than its ceiling, and than what the others leave of the capacity. Those before it and those after
@@ -172,21 +151,14 @@ pub fn allowance(words: &[u64], k: u64) -> u64
     let s = Store::of_length(words.len());
     let n = opened(words);
     let mut left = s.capacity;
-    let mut i: u64 = 0;
-    while i < k {
-        let c = claim(words, i);
-        left -= c;
-        i += 1;
+    for i in 0..k {
+        left -= claim(words, i);
     }
-    let mut j = k + 1;
-    while j < n {
-        let c = claim(words, j);
-        left -= c;
-        j += 1;
+    for j in k + 1..n {
+        left -= claim(words, j);
     }
-    let v = run_index::read_node(words, k + 1);
-    let ceiling = v.tag;
-    if ceiling < left { ceiling } else { left }
+    let ceiling = run_index::read_node(words, k + 1).tag;
+    ceiling.min(left)
 }
 
 // World k of a sound pool.

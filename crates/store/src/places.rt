@@ -12,12 +12,12 @@ pub struct Physical(pub u64);
 pub fn to_physical(x: Logical, offset: u64) -> Physical
     ensures { result.0 ≡ physical_of x.0 offset }
 {
-    Physical(std::num::wrapping_sub_u64(x.0, offset))
+    Physical(x.0.wrapping_sub(offset))
 }
 
 // The logical position that is kept at a physical one.
 pub fn to_logical(x: Physical, offset: u64) -> Logical
     ensures { result.0 ≡ logical_of x.0 offset }
 {
-    Logical(std::num::wrapping_add_u64(x.0, offset))
+    Logical(x.0.wrapping_add(offset))
 }

@@ -15,13 +15,8 @@ fn vacant(x: Links) -> World
 {
     World {
         tag: x.tag,
-        root: 0,
         free: x.free,
-        offset: 0,
-        ones: 0,
-        runs: 0,
-        first: 0,
-        last: 0,
+        ..World::default()
     }
 }
 
@@ -39,9 +34,9 @@ pub fn refresh(words: &[u64], x: Links, offset: u64) -> World
     let last = crate::bounds::last_held(words, root, offset);
     World {
         tag: x.tag,
-        root: root,
+        root,
         free: x.free,
-        offset: offset,
+        offset,
         ones: v.ones,
         runs: v.runs,
         first: first.0,
@@ -60,13 +55,12 @@ fn first_after(words: &[u64], x: Links, h: World, a: Logical, value: bool) -> u6
         if h.runs == 0 {
             return at;
         }
-        return if at < first { at } else { first };
+        return at.min(first);
     }
     if first < at {
         return first;
     }
-    let f = crate::bounds::first_held(words, x.root, h.offset);
-    f.0
+    crate::bounds::first_held(words, x.root, h.offset).0
 }
 
 // The last one.
@@ -80,13 +74,12 @@ fn last_after(words: &[u64], x: Links, h: World, b: Logical, value: bool) -> u64
         if h.runs == 0 {
             return at;
         }
-        return run_index::larger(at, last);
+        return at.max(last);
     }
     if at < last {
         return last;
     }
-    let l = crate::bounds::last_held(words, x.root, h.offset);
-    l.0
+    crate::bounds::last_held(words, x.root, h.offset).0
 }
 
 // Does what `refresh` does where the tree of the world h got only the value of a..=b since it agreed: then the first and the last position
@@ -104,13 +97,13 @@ pub fn refresh_set(words: &[u64], x: Links, h: World, a: Logical, b: Logical, va
     let last = last_after(words, x, h, b, value);
     World {
         tag: x.tag,
-        root: root,
+        root,
         free: x.free,
         offset: h.offset,
         ones: v.ones,
         runs: v.runs,
-        first: first,
-        last: last,
+        first,
+        last,
     }
 }
 
@@ -121,9 +114,9 @@ pub fn link(words: &mut [u64], x: Links, n: u64) -> World
 {
     let g = run_index::chains::build_chain(words, x.free, n, x.tag);
     let y = Links {
-        tag: x.tag,
         root: g.root,
         free: g.rest,
+        ..x
     };
     refresh(words, y, 0)
 }

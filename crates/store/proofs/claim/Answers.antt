@@ -16,6 +16,6 @@ logical_runs-n-requires c =
 
 pub returns : goal.returns
 returns c =
-    c.larger.ensures
+    c.max.ensures
     ∙ claim-told c.args.words.now c.args.k (planted (goal.at.returns c).Start) c.read_world-h.result c.read_node-v.result c.logical_runs-n.result
     c.read_world-h.ensures c.read_node-v.ensures c.logical_runs-n.ensures

@@ -12,31 +12,32 @@ lies : (r : After-to_physical-top) → Lies r.args.h.offset r.args.x.0 (size - r
     r.to_physical-top.result.0
 lies r = lies-from (omega (arith, r.well_formed)) (omega (arith, r.well_formed)) r.to_physical-s.ensures r.to_physical-top.ensures
 
-pub returns-then-to-p : goal.returns-then-to-p
-returns-then-to-p c =
-    next-nowhere c.requires.1 c.args.value (lies (goal.at.returns-then-to-p c).After-to_physical-top) c.if-from-to.true c.next_physical-n.ensures
-    (inr (c.in-Some.p, c.in-Some.is, c.if-to-p.true))
+pub returns-in-Some : goal.returns-in-Some
+returns-in-Some c =
+    next-first c.requires.1 c.args.value (lies (goal.at.returns-in-Some c).After-to_physical-top) c.next_physical.ensures c.in-Some.is
+    (⊎_elim (λ x i. absurd (omega (arith, x))) (λ x _. x.1) c.if-p-top.either) c.to_logical.ensures
 
-pub returns-then-from-to-2 : goal.returns-then-from-to-2
-returns-then-from-to-2 c =
-    next-nowhere c.requires.1 c.args.value (lies (goal.at.returns-then-from-to-2 c).After-to_physical-top) c.if-from-to-2.true c.next_physical-n.ensures (inl c.in-None.is)
+pub returns-in-Some-next_physical : goal.returns-in-Some-next_physical
+returns-in-Some-next_physical c =
+    next-second c.requires.1 c.args.value (lies (goal.at.returns-in-Some-next_physical c).After-to_physical-top) c.if-top-s-2.true c.next_physical.ensures
+    c.in-None.is c.next_physical-in-None.ensures c.in-Some-next_physical.is c.if-p-top-2.true c.to_logical-in-Some-next_physical.ensures
 
-pub returns-then-to-p-2 : goal.returns-then-to-p-2
-returns-then-to-p-2 c =
-    next-nowhere-parted c.requires.1 c.args.value (lies (goal.at.returns-then-to-p-2 c).After-to_physical-top) c.if-from-to-2.false c.next_physical-n.ensures
-    c.in-None.is c.next_physical-m.ensures (inr (c.in-Some-m.p, c.in-Some-m.is, c.if-to-p-2.true))
+pub returns-in_default-next_physical : goal.returns-in_default-next_physical
+returns-in_default-next_physical c =
+    next-nowhere-parted c.requires.1 c.args.value (lies (goal.at.returns-in_default-next_physical c).After-to_physical-top) c.if-top-s-2.true
+    c.next_physical.ensures c.in-None.is c.next_physical-in-None.ensures (inr (c.in-Some-next_physical.p, c.in-Some-next_physical.is, c.if-p-top-2.false))
 
-pub returns-else-from-to : goal.returns-else-from-to
-returns-else-from-to c =
-    next-first c.requires.1 c.args.value (lies (goal.at.returns-else-from-to c).After-to_physical-top) c.next_physical-n.ensures c.in-Some.is
-    (⊎_elim (λ x _. x.1) (λ x i. absurd (omega (arith, x))) c.else-from-to.either) c.to_logical-y.ensures
+pub returns-in_default-next_physical-2 : goal.returns-in_default-next_physical-2
+returns-in_default-next_physical-2 c =
+    next-nowhere-parted c.requires.1 c.args.value (lies (goal.at.returns-in_default-next_physical-2 c).After-to_physical-top) c.if-top-s-2.true
+    c.next_physical.ensures c.in-None.is c.next_physical-in-None.ensures (inl c.in_default-next_physical.is)
 
-pub returns-else-to-p-2 : goal.returns-else-to-p-2
-returns-else-to-p-2 c =
-    next-second c.requires.1 c.args.value (lies (goal.at.returns-else-to-p-2 c).After-to_physical-top) c.if-from-to-2.false c.next_physical-n.ensures
-    c.in-None.is c.next_physical-m.ensures c.in-Some-m.is c.if-to-p-2.false c.to_logical-y-in-Some-m.ensures
+pub returns-in_default : goal.returns-in_default
+returns-in_default c =
+    next-nowhere c.requires.1 c.args.value (lies (goal.at.returns-in_default c).After-to_physical-top) c.if-p-top.false.0 c.next_physical.ensures
+    (inr (c.in-Some.p, c.in-Some.is, c.if-p-top.false.1))
 
-pub returns-in-None-m : goal.returns-in-None-m
-returns-in-None-m c =
-    next-nowhere-parted c.requires.1 c.args.value (lies (goal.at.returns-in-None-m c).After-to_physical-top) c.if-from-to-2.false c.next_physical-n.ensures
-    c.in-None.is c.next_physical-m.ensures (inl c.in-None-m.is)
+pub returns-in_default-2 : goal.returns-in_default-2
+returns-in_default-2 c =
+    next-nowhere c.requires.1 c.args.value (lies (goal.at.returns-in_default-2 c).After-to_physical-top) c.if-top-s-2.false c.next_physical.ensures
+    (inl c.in-None.is)

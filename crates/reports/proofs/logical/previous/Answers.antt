@@ -11,31 +11,34 @@ lies : (r : After-to_physical-zero) → Lies r.args.h.offset 0 (suc r.args.x.0) 
     r.to_physical-s.result.0
 lies r = lies-upto (omega (arith, r.well_formed)) (omega (arith, r.well_formed)) r.to_physical-zero.ensures r.to_physical-s.ensures
 
-pub returns-then-p-to : goal.returns-then-p-to
-returns-then-p-to c =
-    previous-nowhere c.requires.1 c.args.value (lies (goal.at.returns-then-p-to c).After-to_physical-zero) c.if-to-from.true c.previous_physical-n.ensures
-    (inr (c.in-Some.p, c.in-Some.is, c.if-p-to.true))
+pub returns-in-Some : goal.returns-in-Some
+returns-in-Some c =
+    previous-first c.requires.1 c.args.value (lies (goal.at.returns-in-Some c).After-to_physical-zero) c.previous_physical.ensures c.in-Some.is
+    (⊎_elim (λ x i. absurd (omega (arith, x))) (λ x _. x.1) c.if-zero-p.either) c.to_logical.ensures
 
-pub returns-then-to-from-2 : goal.returns-then-to-from-2
-returns-then-to-from-2 c =
-    previous-nowhere c.requires.1 c.args.value (lies (goal.at.returns-then-to-from-2 c).After-to_physical-zero) c.if-to-from-2.true c.previous_physical-n.ensures (inl c.in-None.is)
+pub returns-in-Some-previous_physical : goal.returns-in-Some-previous_physical
+returns-in-Some-previous_physical c =
+    previous-second c.requires.1 c.args.value (lies (goal.at.returns-in-Some-previous_physical c).After-to_physical-zero) c.if-s-zero-2.true
+    c.previous_physical.ensures c.in-None.is c.previous_physical-in-None.ensures c.in-Some-previous_physical.is c.if-zero-p-2.true
+    c.to_logical-in-Some-previous_physical.ensures
 
-pub returns-then-p-to-2 : goal.returns-then-p-to-2
-returns-then-p-to-2 c =
-    previous-nowhere-parted c.requires.1 c.args.value (lies (goal.at.returns-then-p-to-2 c).After-to_physical-zero) c.if-to-from-2.false c.previous_physical-n.ensures
-    c.in-None.is c.previous_physical-m.ensures (inr (c.in-Some-m.p, c.in-Some-m.is, c.if-p-to-2.true))
+pub returns-in_default-previous_physical : goal.returns-in_default-previous_physical
+returns-in_default-previous_physical c =
+    previous-nowhere-parted c.requires.1 c.args.value (lies (goal.at.returns-in_default-previous_physical c).After-to_physical-zero) c.if-s-zero-2.true
+    c.previous_physical.ensures c.in-None.is c.previous_physical-in-None.ensures
+    (inr (c.in-Some-previous_physical.p, c.in-Some-previous_physical.is, c.if-zero-p-2.false))
 
-pub returns-else-to-from : goal.returns-else-to-from
-returns-else-to-from c =
-    previous-first c.requires.1 c.args.value (lies (goal.at.returns-else-to-from c).After-to_physical-zero) c.previous_physical-n.ensures c.in-Some.is
-    (⊎_elim (λ x _. x.1) (λ x i. absurd (omega (arith, x))) c.else-to-from.either) c.to_logical-y.ensures
+pub returns-in_default-previous_physical-2 : goal.returns-in_default-previous_physical-2
+returns-in_default-previous_physical-2 c =
+    previous-nowhere-parted c.requires.1 c.args.value (lies (goal.at.returns-in_default-previous_physical-2 c).After-to_physical-zero) c.if-s-zero-2.true
+    c.previous_physical.ensures c.in-None.is c.previous_physical-in-None.ensures (inl c.in_default-previous_physical.is)
 
-pub returns-else-p-to-2 : goal.returns-else-p-to-2
-returns-else-p-to-2 c =
-    previous-second c.requires.1 c.args.value (lies (goal.at.returns-else-p-to-2 c).After-to_physical-zero) c.if-to-from-2.false c.previous_physical-n.ensures
-    c.in-None.is c.previous_physical-m.ensures c.in-Some-m.is c.if-p-to-2.false c.to_logical-y-in-Some-m.ensures
+pub returns-in_default : goal.returns-in_default
+returns-in_default c =
+    previous-nowhere c.requires.1 c.args.value (lies (goal.at.returns-in_default c).After-to_physical-zero) c.if-zero-p.false.0 c.previous_physical.ensures
+    (inr (c.in-Some.p, c.in-Some.is, c.if-zero-p.false.1))
 
-pub returns-in-None-m : goal.returns-in-None-m
-returns-in-None-m c =
-    previous-nowhere-parted c.requires.1 c.args.value (lies (goal.at.returns-in-None-m c).After-to_physical-zero) c.if-to-from-2.false c.previous_physical-n.ensures
-    c.in-None.is c.previous_physical-m.ensures (inl c.in-None-m.is)
+pub returns-in_default-2 : goal.returns-in_default-2
+returns-in_default-2 c =
+    previous-nowhere c.requires.1 c.args.value (lies (goal.at.returns-in_default-2 c).After-to_physical-zero) c.if-s-zero-2.false c.previous_physical.ensures
+    (inl c.in-None.is)

@@ -1,8 +1,8 @@
 -- `first_turned` meets its contract: the place of logical 0, else the first run after it, else the first run of all.
 -- Assumes nothing.
-use Rattle.std.proofs.Common.{sym, ap, ◌∙◌, arith}
+use Rattle.std.proofs.Common.{sym, ◌∙◌, arith, rules}
 use Rattle.run_index.specs.Tree.{inorder}
-use Rattle.store.proofs.Nearby.{first-zero, first-after, first-wrapped, first-none}
+use Rattle.store.proofs.Nearby.{first-zero, either-first, neither-first}
 use Rattle.store.proofs.bounds.first_turned.Goals as goal
 
 pub returns-then-get_physical : goal.returns-then-get_physical
@@ -14,20 +14,13 @@ returns-then-get_physical c =
 pub returns-in-Some : goal.returns-in-Some
 returns-in-Some c =
     λ g t i.
-    c.to_logical.ensures ∙ first-after (inorder t) i.canonical c.args.offset (omega arith) c.to_physical-zero.result.0
-    c.in-Some.r c.to_physical-zero.ensures (sym (c.get_physical.ensures g t i) ∙ c.if-get_physical.false)
-    (sym c.in-Some.is ∙ c.at_or_after-n.ensures g t i)
+    c.to_logical.ensures ∙ either-first (inorder t) i.canonical c.args.offset (omega arith) c.to_physical-zero.result.0 c.to_physical-zero.ensures
+    (sym (c.get_physical.ensures g t i) ∙ c.if-get_physical.false) (c.at_or_after-next.ensures g t i) c.or_else.ensures
+    (λ n. search rules) c.in-Some.is
 
-pub returns-in-Some-m : goal.returns-in-Some-m
-returns-in-Some-m c =
+pub returns-in-None : goal.returns-in-None
+returns-in-None c =
     λ g t i.
-    c.to_logical-in-Some-m.ensures ∙ first-wrapped (inorder t) i.canonical c.args.offset (omega arith) c.to_physical-zero.result.0
-    c.in-Some-m.r c.to_physical-zero.ensures (sym (c.get_physical.ensures g t i) ∙ c.if-get_physical.false)
-    (sym c.in-None.is ∙ c.at_or_after-n.ensures g t i)
-    (sym c.in-Some-m.is ∙ c.at_or_after-m.ensures g t i)
-
-pub returns-in-None-m : goal.returns-in-None-m
-returns-in-None-m c =
-    λ g t i.
-    first-none (inorder t) i.canonical c.args.offset (omega arith)
-    (sym c.in-None-m.is ∙ c.at_or_after-m.ensures g t i)
+    neither-first (inorder t) i.canonical c.args.offset (omega arith) c.to_physical-zero.result.0 c.to_physical-zero.ensures
+    (sym (c.get_physical.ensures g t i) ∙ c.if-get_physical.false) (c.at_or_after-next.ensures g t i) c.or_else.ensures
+    (λ n. search rules) c.in-None.is

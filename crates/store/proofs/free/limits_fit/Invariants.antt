@@ -1,10 +1,6 @@
 -- `limits_fit` meets its contract. The loop's invariant: the worlds from k on decide, with what is left of the capacity. Assumes nothing.
-use Rattle.std.proofs.Common.{◌-◌}
 use Rattle.store.proofs.Limiting.{Deciding}
 use Rattle.store.proofs.free.limits_fit.Given as goal
 
 abbrev pub invariant-loop-k : goal.invariant-loop-k
 invariant-loop-k l = Deciding l.limits l.c l.n l.k l.left
-
-abbrev pub decreases-loop-k : goal.decreases-loop-k
-decreases-loop-k l = l.n - l.k

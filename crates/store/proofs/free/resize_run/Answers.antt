@@ -1,14 +1,15 @@
 -- `resize_run` meets its contract: the tree has the nodes that it had, and gains the difference of the two runs' widths. Assumes nothing.
+use Rattle.std.proofs.Common.{arith}
 use Rattle.store.proofs.Altering.{old-ordered, alter-resizes, change-becomes}
 use Rattle.store.proofs.free.resize_run.Goals as goal
 
-pub overflow_sub-l : goal.overflow_sub-l
-overflow_sub-l c = old-ordered c.requires.3
+pub overflow_sub-more-2 : goal.overflow_sub-more-2
+overflow_sub-more-2 c = old-ordered c.requires.3
 
 pub resize-requires : goal.resize-requires
 resize-requires c =
-    (_, _, _, alter-resizes c.requires.3 _ c.wrapping_sub_u64-more.ensures.value)
+    (_, _, _, alter-resizes c.requires.3 _ (omega arith))
 
 pub returns : goal.returns
 returns c =
-    change-becomes _ c.wrapping_sub_u64-more.ensures.value c.resize.ensures
+    change-becomes _ (omega arith) c.resize.ensures

@@ -1,19 +1,16 @@
 -- `first_after` meets its contract: the value and what the world told of the first position tell it, or the search does. Assumes nothing.
 use Rattle.store.proofs.Settling.{first-told}
-use Rattle.store.proofs.Resetting.{alone-first, new-first, same_first, spared-first}
+use Rattle.store.proofs.Resetting.{alone-first, earlier_first, spared-first}
 use Rattle.store.proofs.refresh.first_after.Goals as goal
 
 pub returns-then-h-eq0 : goal.returns-then-h-eq0
 returns-then-h-eq0 c = alone-first c.requires.1 c.if-value.true c.if-h-eq0.true
 
-pub returns-then-at-first : goal.returns-then-at-first
-returns-then-at-first c = new-first c.requires.1 c.if-value.true c.if-h-eq0.false c.if-at-first.true
-
-pub returns-else-at-first : goal.returns-else-at-first
-returns-else-at-first c = same_first c.requires.1 c.if-value.true c.if-h-eq0.false c.if-at-first.false
+pub returns-then-value : goal.returns-then-value
+returns-then-value c = earlier_first c.requires.1 c.if-value.true c.if-h-eq0.false c.min.ensures
 
 pub returns-then-first-at : goal.returns-then-first-at
 returns-then-first-at c = spared-first c.requires.1 c.if-value.false c.if-first-at.true
 
 pub returns : goal.returns
-returns c = first-told _ c.requires.1.4 c.first_held-f.ensures
+returns c = first-told _ c.requires.1.4 c.first_held.ensures

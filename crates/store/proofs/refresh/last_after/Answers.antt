@@ -8,10 +8,10 @@ returns-then-h-eq0 c = alone-last c.requires.1 c.if-value.true c.if-h-eq0.true
 
 pub returns-then-value : goal.returns-then-value
 returns-then-value c =
-    later_last c.requires.1 c.if-value.true c.if-h-eq0.false c.larger.ensures
+    later_last c.requires.1 c.if-value.true c.if-h-eq0.false c.max.ensures
 
 pub returns-then-at-last : goal.returns-then-at-last
 returns-then-at-last c = spared-last c.requires.1 c.if-value.false c.if-at-last.true
 
 pub returns : goal.returns
-returns c = last-told _ c.requires.1.4 c.last_held-l.ensures
+returns c = last-told _ c.requires.1.4 c.last_held.ensures
