@@ -3,29 +3,29 @@
 use mathlib.Core.Path.{refl}
 use native.Mathlib.Omega.{arith}
 use Rattle.streams.proofs.Paths.{lead-end, lead-room, lead-deep, lead-left-falls, lead-right-falls, lead-left, lead-right}
-use Rattle.streams.proofs.source.descend.Goals as goal
+use Rattle.streams.proofs.source.Path.descend.Goals as goal
 
 pub read_node-v-requires : goal.read_node-v-requires
 read_node-v-requires c = lead-room c.loop-k.invariant _ c.loop-k-test.true refl c.requires.2
 
-pub loop-k-smaller-then-v-from : goal.loop-k-smaller-then-v-from
-loop-k-smaller-then-v-from c =
+pub loop-k-smaller-then-v-p : goal.loop-k-smaller-then-v-p
+loop-k-smaller-then-v-p c =
     lead-right-falls c.loop-k.invariant _ c.loop-k-test.true c.read_node-v.ensures c.requires.2
 
-pub loop-k-preserved-then-v-from : goal.loop-k-preserved-then-v-from
-loop-k-preserved-then-v-from c =
-    lead-right c.loop-k.invariant _ c.loop-k-test.true c.read_node-v.ensures c.if-v-from.true
+pub loop-k-preserved-then-v-p : goal.loop-k-preserved-then-v-p
+loop-k-preserved-then-v-p c =
+    lead-right c.loop-k.invariant _ c.loop-k-test.true c.read_node-v.ensures c.if-v-p.true
 
-pub offset_bounds-path-d : goal.offset_bounds-path-d
-offset_bounds-path-d c =
+pub offset_bounds-self-self : goal.offset_bounds-self-self
+offset_bounds-self-self c =
     record { fits = omega (arith, lead-deep c.loop-k.invariant _ c.loop-k-test.true c.read_node-v.ensures c.requires.2) }
 
-pub bounds-path-d : goal.bounds-path-d
-bounds-path-d c =
+pub bounds-self-self : goal.bounds-self-self
+bounds-self-self c =
     lead-deep c.loop-k.invariant _ c.loop-k-test.true c.read_node-v.ensures c.requires.2
 
-pub overflow_add-d : goal.overflow_add-d
-overflow_add-d c =
+pub overflow_add-self : goal.overflow_add-self
+overflow_add-self c =
     record { fits = omega (arith, lead-deep c.loop-k.invariant _ c.loop-k-test.true c.read_node-v.ensures c.requires.2) }
 
 pub loop-k-smaller : goal.loop-k-smaller
@@ -33,7 +33,7 @@ loop-k-smaller c =
     lead-left-falls c.loop-k.invariant _ c.loop-k-test.true c.read_node-v.ensures c.requires.2
 
 pub loop-k-preserved : goal.loop-k-preserved
-loop-k-preserved c = lead-left c.loop-k.invariant _ c.loop-k-test.true c.read_node-v.ensures c.if-v-from.false
+loop-k-preserved c = lead-left c.loop-k.invariant _ c.loop-k-test.true c.read_node-v.ensures c.if-v-p.false
 
 pub returns : goal.returns
 returns c = lead-end c.loop-k.invariant c.loop-k-test.false
