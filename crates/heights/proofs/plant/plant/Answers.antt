@@ -40,10 +40,10 @@ returns-in_err-e g c =
     λ s m.
         let inv = c.loop-i.invariant.1 s m in (
           subst (Grown c.args.words.now c.set.new.words s c.args.limit (length (g.L.RunList.runs c.args.runs))) (sym c.from_residual.ensures)
-              (next-refused inv.0 _ _ (ordered g t) (below g t) _ _ c.set.ensures.0 (c.in_err-e.was tt)),
+              (next-refused inv.0 _ _ (ordered g t) (below g t) _ _ c.set.ensures.0 (c.in_err-e.was)),
           λ d h.
               absurd
-              (next_fits h inv.0 (inv.1 d h) (more g (goal.at.returns-in_err-e g c).In-loop-i) _ c.run-r.ensures (ordered g t) (below g t) _ _ c.set.ensures.0 (c.in_err-e.was tt)),
+              (next_fits h inv.0 (inv.1 d h) (more g (goal.at.returns-in_err-e g c).In-loop-i) _ c.run-r.ensures (ordered g t) (below g t) _ _ c.set.ensures.0 (c.in_err-e.was)),
         )
 
 pub loop-i-preserved : goal.loop-i-preserved
@@ -52,10 +52,10 @@ loop-i-preserved g c =
       omega (arith, more g (goal.at.loop-i-preserved g c).In-loop-i),
       λ s m.
           let inv = c.loop-i.invariant.1 s m in (
-            growing-more inv.0 _ _ (ordered g t) (below g t) _ _ c.set.ensures.0 c.set.ensures.1 _ _ (c.in_ok-e.was tt),
+            growing-more inv.0 _ _ (ordered g t) (below g t) _ _ c.set.ensures.0 c.set.ensures.1 _ _ (c.in_ok-e.was),
             λ d h.
                 deepening-more h inv.0 (inv.1 d h) (more g (goal.at.loop-i-preserved g c).In-loop-i) _ c.run-r.ensures (ordered g t) (below g t)
-                _ _ c.set.ensures.0 c.set.ensures.1 _ _ (c.in_ok-e.was tt),
+                _ _ c.set.ensures.0 c.set.ensures.1 _ _ (c.in_ok-e.was),
           ),
     )
 
