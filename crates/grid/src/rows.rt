@@ -23,7 +23,7 @@ struct Stretch {
 }
 
 // From the first cell of a row of the rectangle to the last one of the same row or a later one.
-fn stretch(q: Rect, top: u64, bottom: u64) -> Stretch
+fn cells_of(q: Rect, top: u64, bottom: u64) -> Stretch
     requires on_plane { OnPlane q }
     requires top_le_bottom { top ≤ bottom }
     requires bottom_bound { bottom ≤ q.bottom }
@@ -40,7 +40,9 @@ fn held(words: &[u64], h: World, s: Stretch) -> u64
     requires { Stands words.now h }
     ensures { result ≡ count (held_in words.now h) true s.first.0 (suc s.last.0 - s.first.0) }
 {
-    reports::logical::tally(words, h, s.first, s.last, true).count.low
+    reports::logical::tally(words, h, s.first, s.last, true)
+        .count
+        .low
 }
 
 // How many cells of the rectangle are held. A rectangle of full width is one range.
@@ -50,11 +52,11 @@ pub fn count(words: &[u64], h: World, q: Rect) -> u64
     ensures { result ≡ count_rect q (held_in words.now h) }
 {
     if q.right - q.left == ROW - 1 {
-        return held(words, h, stretch(q, q.top, q.bottom));
+        return held(words, h, cells_of(q, q.top, q.bottom));
     }
     let mut sum = 0;
-    for r in q.top..=q.bottom {
-        sum += held(words, h, stretch(q, r, r));
+    for r in q.top..q.bottom + 1 {
+        sum += held(words, h, cells_of(q, r, r));
     }
     sum
 }
@@ -64,9 +66,9 @@ fn gain(words: &[u64], h: World, s: Stretch, value: bool) -> u64
     requires { Stands words.now h }
     ensures { result ≡ gain value (held_in words.now h) s.first.0 s.last.0 }
 {
-    changes::edit::going_on(words, h, s.first) + changes::edit::going_past(words, h, s.last) + u64::from(
-        value,
-    )
+    changes::edit::going_on(words, h, s.first)
+        + changes::edit::going_past(words, h, s.last)
+        + u64::from(value)
 }
 
 // How many runs it takes: those in the row, and, if it is to be held, those of its neighbours.
@@ -78,7 +80,9 @@ fn loss(words: &[u64], h: World, s: Stretch, value: bool) -> u64
     if !value {
         return inside;
     }
-    inside + changes::edit::held_before(words, h, s.first) + changes::edit::held_after(words, h, s.last)
+    inside
+        + changes::edit::held_before(words, h, s.first)
+        + changes::edit::held_after(words, h, s.last)
 }
 
 // Sets a row to the value, unless that leaves more runs than the limit: then all stays as it is.
@@ -86,7 +90,10 @@ fn set_row(words: &mut [u64], h: World, limit: u64, s: Stretch, value: bool) -> 
     requires { Editable words.old h limit }
     ensures { SetsRow words.old words.new h result limit s.first.0 s.last.0 value }
 {
-    changes::edit::set(words, h, limit, s.first, s.last, value).map_or(h, |e| e.world)
+    match changes::edit::set(words, h, limit, s.first, s.last, value) {
+        None => h,
+        Some(e) => e.world,
+    }
 }
 
 // A rectangle narrower than the plane, whose cells are to get a value, if that leaves at most as many runs as the limit.
@@ -119,8 +126,8 @@ impl Change {
         }
         let mut more = store::bounds::logical_runs(words, h.root, h.offset, h.runs);
         let mut less = self.limit;
-        for r in self.q.top..=self.q.bottom {
-            let row = stretch(self.q, r, r);
+        for r in self.q.top..self.q.bottom + 1 {
+            let row = cells_of(self.q, r, r);
             more += gain(words, h, row, self.value);
             less += loss(words, h, row, self.value);
         }
@@ -133,8 +140,8 @@ impl Change {
         ensures { Passes words.old words.new h result self.limit self.q self.value (self.q.bottom + 1) }
     {
         let mut k = h;
-        for r in self.q.top..=self.q.bottom {
-            k = set_row(words, k, self.limit, stretch(self.q, r, r), self.value);
+        for r in self.q.top..self.q.bottom + 1 {
+            k = set_row(words, k, self.limit, cells_of(self.q, r, r), self.value);
         }
         k
     }
@@ -161,7 +168,7 @@ pub fn set(words: &mut [u64], h: World, limit: u64, q: Rect, value: bool) -> Opt
     ensures { Edited words.old words.new h limit (set_rect q value (held_in words.old h)) result }
 {
     if q.right - q.left == ROW - 1 {
-        let s = stretch(q, q.top, q.bottom);
+        let s = cells_of(q, q.top, q.bottom);
         return changes::edit::set(words, h, limit, s.first, s.last, value);
     }
     let change = Change { q, value, limit };

@@ -51,15 +51,37 @@ fn halves(b: Block) -> (Block, Block)
 {
     let Block { corner, i, j } = b;
     if i == j {
-        let left = Block { corner, i, j: j - 1 };
+        let left = Block {
+            corner,
+            i,
+            j: j - 1,
+        };
         let column = corner.column + left.columns();
         let corner = Corner { column, ..corner };
-        return (left, Block { corner, i, j: j - 1 });
+        return (
+            left,
+            Block {
+                corner,
+                i,
+                j: j - 1,
+            },
+        );
     }
-    let upper = Block { corner, i: i - 1, j };
+    let upper = Block {
+        corner,
+        i: i - 1,
+        j,
+    };
     let row = corner.row + upper.rows();
     let corner = Corner { row, ..corner };
-    (upper, Block { corner, i: i - 1, j })
+    (
+        upper,
+        Block {
+            corner,
+            i: i - 1,
+            j,
+        },
+    )
 }
 
 // A piece goes to a slice from `at` on, where that has room: its first row and column, its rows and columns, and its value. Returns where the
@@ -70,9 +92,13 @@ fn put_piece(out: &mut [u64], at: usize, b: Block, value: bool) -> usize
 {
     let next = at + 5;
     if next <= out.len() {
-        out[at..next].copy_from_slice(
-            &[b.corner.row, b.corner.column, b.rows(), b.columns(), u64::from(value)],
-        );
+        out[at..next].copy_from_slice(&[
+            b.corner.row,
+            b.corner.column,
+            b.rows(),
+            b.columns(),
+            u64::from(value),
+        ]);
     }
     next
 }

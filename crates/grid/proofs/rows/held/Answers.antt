@@ -1,9 +1,10 @@
--- `row_count` meets its contract: a row's tally tells its held cells, and they are few, so there is no carry. Assumes nothing.
-use native.Mathlib.Omega.{arith}
+-- `held` meets its contract: a tally tells the held cells of a stretch, and the plane has too few for a carry. Assumes nothing.
+use Rattle.std.proofs.Common.{◌-◌, suc, true, arith}
+use Rattle.model.proofs.Counting.{count_most}
 use Rattle.store.specs.Layout.{held_in}
-use Rattle.grid.proofs.Small.{count-few}
-use Rattle.grid.proofs.rows.row_count.Goals as goal
+use Rattle.grid.proofs.rows.held.Goals as goal
 
 pub returns : goal.returns
 returns c =
-    omega (arith, c.tally-t.ensures.count-is, count-few c.args.q c.requires.on_plane (held_in c.args.words.now c.args.h) c.args.r)
+    let s = c.args.s in
+    omega (arith, c.tally.ensures.count-is, count_most (held_in c.args.words.now c.args.h) true s.first.0 (suc s.last.0 - s.first.0), s.on_plane)
