@@ -22,6 +22,6 @@ gathered-requires-2-clause-sources c =
 pub returns : goal.returns
 returns c =
     let f =
-        right-alike c.requires.readable_2 c.view-x.ensures _ _ (omega (arith, c.ranges.distance.fits)) ((c.view-x.result.offset + (size - c.args.distance)) % size) (omega arith)
-        c.if-left.false (omega (arith, c.ranges.distance.fits, c.view-x.type_inv)) in
+    right-alike c.requires.readable_2 c.view-x.ensures _ _ (omega (arith, c.ranges.distance.fits)) ((c.view-x.result.offset + (size - c.args.distance)) % size) (omega arith)
+    c.if-left.false (omega (arith, c.ranges.distance.fits, c.view-x.type_inv)) in
     carried (shifted-says _ _ _ _ _) c.requires.readable _ (reads_none c.requires.readable_2) f c.gathered-2.result c.gathered-2.ensures
