@@ -17,11 +17,9 @@ use Rattle.store.specs.Soundness.{Share, Still, Standing, Limited}
 use Rattle.store.specs.Settle.{Became}
 use Rattle.store.proofs.Nodes.{still-then, still-same}
 use Rattle.store.proofs.Settling.{became-limited}
-use Rattle.reports.specs.Reports.{Measured, Next}
+use Rattle.reports.specs.Reports.{Measured, StretchEnd}
 use Rattle.reports.proofs.Ranks.{ranges-alternate}
-use Rattle.reports.proofs.Seeking.{Past, none-next}
-use Rattle.reports.proofs.Bounding.{high-end-at}
-use Rattle.changes.specs.Edits.{Makes, Appliable, StretchEnd}
+use Rattle.changes.specs.Edits.{Makes, Appliable}
 use Rattle.changes.proofs.FlipRuns.{flip-leaves, flip-one-more, flip-none-more, flip-further}
 use Rattle.changes.proofs.Fitting.{leb-like, logical-most, logical-few}
 
@@ -78,23 +76,6 @@ flip-fits-counted P a b some fits k {total} {on} {past} {before} {after} {held} 
     let f = mf.runs-are in
     leb-like (stretches (flip_range a (suc b - a) P)) k (total + (on + past) + (on + past) + free.runs) (k + held.runs + (before + after))
     (held.runs + (before + after)) (omega arith) (omega arith)
-
--- ---- where a stretch ends
-module _ (P : Positions) (v : Bool) (x last : ℕ) (some : x ≤ last) (fits : last < size) (here : P x ≡ v) where
-  -- before the next position of the other value
-  pub stretch-ends : {y : ℕ} (n : Option ℕ) → Next P (not v) x n → n ≡ Some y → y ≤ last → StretchEnd P v x last (y - 1)
-  stretch-ends n m q l =
-      let e = high-end-at P v n here m q in
-      record { from = e.over; upto = omega arith; same = e.same; stop = λ i. e.stop (omega arith) }
-
-  -- with the range
-  pub stretch-clipped : (n : Option ℕ) → Next P (not v) x n → Past last n → StretchEnd P v x last last
-  stretch-clipped n m p = record {
-    from = some;
-    upto = omega arith;
-    same = λ z i j. none-next P (not v) n m p z i j (omega arith) ∙ not-not v;
-    stop = λ i. absurd (omega arith);
-  }
 
 -- ---- one stretch after another
 -- how many positions from a on are flipped
