@@ -48,11 +48,11 @@ fn last_of(first: u64, z: u64) -> u64
     first + more
 }
 
-// Sets first..=last of world 0 to true, and tells whether the capacity admits it: 1 or 0.
-fn put(words: &mut [u64], first: u64, last: u64) -> u64
+// Sets first..=last of world 0 to true, and tells whether the capacity admits it.
+fn put(words: &mut [u64], first: u64, last: u64) -> bool
     requires sound { Sound words.old }
     requires first_le_last { first ≤ last }
-    ensures { (Sound words.new) × (length words.new ≡ length words.old) × (result ≤ 1) }
+    ensures { (Sound words.new) × (length words.new ≡ length words.old) }
 {
     let h = store::open(words, 0);
     let limit = store::allowance(words, 0);
@@ -64,13 +64,11 @@ fn put(words: &mut [u64], first: u64, last: u64) -> u64
         Logical(last),
         true,
     );
-    match e {
-        None => 0,
-        Some(made) => {
-            store::close(words, made.world);
-            1
-        }
-    }
+    let Some(made) = e else {
+        return false;
+    };
+    store::close(words, made.world);
+    true
 }
 
 // Makes so many random short sets in a sound pool, and tells how many the capacity admitted. 0 where the words are no sound pool.
@@ -84,30 +82,23 @@ pub extern "C" fn vizturel_bench_grow(words: &mut [u64], seed: u64, sets: u64) -
         return 0;
     }
     let mut z = seed;
-    let mut left = sets;
-    let mut admitted: u64 = 0;
-    while left > 0 {
+    let mut admitted = 0;
+    for _ in 0..sets {
         z = next_random(z);
         let first = z;
         z = next_random(z);
-        let more = put(words, first, last_of(first, z));
-        admitted = std::num::wrapping_add_u64(admitted, more);
-        left -= 1;
+        admitted += u64::from(put(words, first, last_of(first, z)));
     }
     admitted
 }
 
-// Searches first..=last of world 0 for n neighbouring free positions, and tells whether there are any: 1 or 0.
-fn look_for(words: &[u64], first: u64, last: u64, n: u64) -> u64
+// Searches first..=last of world 0 for n neighbouring free positions, and tells whether there are any.
+fn look_for(words: &[u64], first: u64, last: u64, n: u64) -> bool
     requires sound { Sound words.now }
     requires first_le_last { (first ≤ last) × (1 ≤ n) }
 {
     let h = store::open(words, 0);
-    let e = streams::gaps::lowest_gap(&words[128..], h, Logical(first), Logical(last), n);
-    match e {
-        Some(_) => 1,
-        None => 0,
-    }
+    streams::gaps::lowest_gap(&words[128..], h, Logical(first), Logical(last), n).is_some()
 }
 
 // Makes one soundness check and then so many searches for a gap, and tells how many found one. 0 where the words are no sound pool, the
@@ -133,12 +124,9 @@ pub extern "C" fn vizturel_bench_gaps(
     if n < 1 {
         return 0;
     }
-    let mut left = searches;
-    let mut found: u64 = 0;
-    while left > 0 {
-        let more = look_for(words, first, last, n);
-        found = std::num::wrapping_add_u64(found, more);
-        left -= 1;
+    let mut found = 0;
+    for _ in 0..searches {
+        found += u64::from(look_for(words, first, last, n));
     }
     found
 }

@@ -1,8 +1,7 @@
 -- Freeing the positions s .. e, as runs in order: of the runs that start at s or after it, the first goes while it ends by e, and loses its
 -- front where it goes on. The model's `clear` does the same, so each step leaves its outcome as it was. Assumes nothing.
 use Rattle.std.specs.Prelude.{Option, None, Some}
-use Rattle.std.proofs.Common.{◌≡◌, ℕ, ◌+◌, ◌-◌, ◌<◌, ◌≤◌, Bool, true, false, ltb, List, [], ◌∷◌, ◌++◌, length, sym, refl, ap, ◌∙◌, subst, true≢false, arith}
-use Rattle.std.proofs.Common.{length-append, ltb-false, le-ltb, lt-ltb}
+use Rattle.std.proofs.Common.{◌≡◌, ℕ, ◌+◌, ◌-◌, ◌<◌, ◌≤◌, List, [], ◌∷◌, ◌++◌, length, sym, refl, ap, ◌∙◌, subst, arith, length-append, le-ltb, lt-ltb}
 use Rattle.model.specs.declared.Run.{Run}
 use Rattle.model.specs.Numbers.{size}
 use Rattle.model.specs.Positions.{run, first_run}
@@ -13,7 +12,7 @@ use Rattle.run_index.specs.Search.{Indexed, TellsAfter}
 use Rattle.store.specs.declared.Links.{Links}
 use Rattle.store.specs.Soundness.{Share}
 use Rattle.store.specs.Free.{Becomes, Removable, RemovesRun, Changeable, Changes}
-use Rattle.changes.specs.Change.{Cut, Clearable, ClearsFrom}
+use Rattle.changes.specs.Change.{Cut, Clearable}
 use Rattle.changes.proofs.Counting.{runs_of}
 use Rattle.changes.proofs.Lists.{first-after, first_some, first-none, ends-before, canon-shrink}
 use Rattle.changes.proofs.Steps.{
@@ -69,26 +68,18 @@ unfolding clear
 clear_none s e = refl
 
 -- ---- what `clear_from` has done so far to the runs us from s on
-pub record Cleared (w w1 : List ℕ) (sh : Share) (y : Links) (s e : ℕ) (more : Bool) (ls us : List Run) : Type 0 where
+pub record Cleared (w w1 : List ℕ) (sh : Share) (y : Links) (s e : ℕ) (ls us : List Run) : Type 0 where
   pub left : List Run
   pub becomes : Becomes w w1 sh y (ls ++ left)
   pub below : EndBelow s ls
   pub from : StartFrom s left
   pub same : clear s e left ≡ clear s e us
-  pub ended : more ≡ false → left ≡ clear s e us
 
--- nothing yet
-cleared-none : {w : List ℕ} {sh : Share} {x : Links} {s : ℕ} (e : ℕ) {ls us : List Run} {t : Tree} {ns : List ℕ} → Cut w sh x s ls us t ns → Cleared w w sh x s e true ls us
-cleared-none e {us = us} c = record {
-  left = us;
-  becomes = becomes-none c.parted.kept c.parted.runs-are;
-  below = c.below;
-  from = c.from;
-  same = refl;
-  ended = λ (q : true ≡ false). absurd (true≢false q);
-}
+-- what is left is all that is to be left
+cleared-done : {w w1 : List ℕ} {sh : Share} {y : Links} (ls : List Run) {vs ws : List Run} → Becomes w w1 sh y (ls ++ vs) → vs ≡ ws → Becomes w w1 sh y (ls ++ ws)
+cleared-done {w} {w1} {sh} {y} ls b f = subst (λ (vs : List Run). Becomes w w1 sh y (ls ++ vs)) f b
 
-module _ {w w1 : List ℕ} {sh : Share} {y : Links} {s e : ℕ} {more : Bool} {ls us : List Run} (d : Cleared w w1 sh y s e more ls us)
+module _ {w w1 : List ℕ} {sh : Share} {y : Links} {s e : ℕ} {ls us : List Run} (d : Cleared w w1 sh y s e ls us)
     (n : Option Run) (f : TellsAfter w1 y.root s n) where
   -- the search finds the first of the runs left
   first-is : n ≡ first_run d.left
@@ -112,10 +103,6 @@ module _ {w w1 : List ℕ} {sh : Share} {y : Links} {s e : ℕ} {more : Bool} {l
     parts : (Canon (r.start - 1) 0 ls) × (0 ≤ r.start) × (r.start ≤ r.«end») × (r.«end» < size) × Canon size (r.«end» + 2) rest.0
     parts = canon-split size 0 ls r rest.0 (becomes-canon around)
 
-    -- r ends below 2^64
-    pub first_below : r.«end» < size
-    first_below = parts.3
-
     -- r may be removed
     pub first-removable : Removable w1 y r.start
     first-removable = becomes-removable ls r rest.0 around
@@ -125,20 +112,18 @@ module _ {w w1 : List ℕ} {sh : Share} {y : Links} {s e : ℕ} {more : Bool} {l
       removed : Becomes w w2 sh z (ls ++ rest.0)
       removed = becomes-removed ls r rest.0 around g
 
-      -- it goes where it ends by e, and is the last to go where the next, two after it at least, starts past e
-      cleared-gone : r.«end» ≤ e → Cleared w w2 sh z s e (ltb 1 (e - r.«end»)) ls us
-      cleared-gone le = record {
-        left = rest.0;
-        becomes = removed;
-        below = d.below;
-        from = starts.1;
-        same = gone;
-        ended = λ q.
-            sym (clear_above s e (r.«end» + 2) rest.0 (omega (arith, starts.0, parts.2)) (omega (arith, ltb-false 1 (e - r.«end») q)) parts.4) ∙ gone;
-      }
-        where
-          gone : clear s e rest.0 ≡ clear s e us
-          gone = sym (clear-gone s e r rest.0 starts.0 le) ∙ ap (clear s e) (sym rest.1) ∙ d.same
+      -- it goes where it ends by e
+      gone : r.«end» ≤ e → clear s e rest.0 ≡ clear s e us
+      gone le = sym (clear-gone s e r rest.0 starts.0 le) ∙ ap (clear s e) (sym rest.1) ∙ d.same
+
+      -- others may follow
+      pub cleared-gone : r.«end» ≤ e → Cleared w w2 sh z s e ls us
+      cleared-gone le = record { left = rest.0; becomes = removed; below = d.below; from = starts.1; same = gone le }
+
+      -- it is the last to go where the next, two after it at least, starts past e
+      pub cleared-last : r.«end» ≤ e → e - r.«end» ≤ 1 → Becomes w w2 sh z (ls ++ clear s e us)
+      cleared-last le near =
+          cleared-done ls removed (sym (clear_above s e (r.«end» + 2) rest.0 (omega (arith, starts.0, parts.2)) (omega arith) parts.4) ∙ gone le)
 
       -- there are fewer runs
       pub cleared-fewer : runs_of w2 z.root < runs_of w1 y.root
@@ -155,105 +140,46 @@ module _ {w w1 : List ℕ} {sh : Share} {y : Links} {s e : ℕ} {more : Bool} {l
       pub first-changeable : Changeable w1 y r.start r.«end» (e + 1) r.«end»
       first-changeable = becomes-changeable ls r rest.0 around (e + 1) r.«end» (omega arith) shrunk
 
-      module _ {w2 : List ℕ} (g : Changes w1 w2 y r.start r.«end» (e + 1) r.«end») where
-        -- they are those of `clear`
-        done : run (e + 1) r.«end» ∷ rest.0 ≡ clear s e us
-        done =
-            ap (λ (vs : List Run). run (e + 1) r.«end» ∷ vs) (sym (clear_above s e (r.«end» + 2) rest.0 (omega (arith, starts.0, parts.2)) (omega arith) parts.4))
-            ∙ sym (clear-front s e r rest.0 starts.0 le lt) ∙ ap (clear s e) (sym rest.1) ∙ d.same
-
-        -- the runs with r shrunk
-        changed : Becomes w w2 sh y (ls ++ (run (e + 1) r.«end» ∷ rest.0))
-        changed = becomes-changed ls r rest.0 around (e + 1) r.«end» (omega arith) shrunk g
-
-        -- and does
-        cleared-front : Cleared w w2 sh y s e false ls us
-        cleared-front = record {
-          left = run (e + 1) r.«end» ∷ rest.0;
-          becomes = changed;
-          below = d.below;
-          from = (omega (arith, starts.0), starts.1);
-          same = clear_above s e (e + 1) (run (e + 1) r.«end» ∷ rest.0) (omega (arith, starts.0)) (omega arith) (omega arith, omega arith, parts.3, parts.4) ∙ done;
-          ended = λ q. done;
-        }
-
-        -- there are as many runs
-        pub front-as-many : runs_of w2 y.root ≡ runs_of w1 y.root
-        front-as-many =
-            omega (
-              arith,
-              becomes-runs changed,
-              becomes-runs around,
-              length-append ls (run (e + 1) r.«end» ∷ rest.0),
-              length-append ls (r ∷ rest.0),
-            )
+      -- and does
+      pub cleared-front : {w2 : List ℕ} → Changes w1 w2 y r.start r.«end» (e + 1) r.«end» → Becomes w w2 sh y (ls ++ clear s e us)
+      cleared-front g =
+          cleared-done ls (becomes-changed ls r rest.0 around (e + 1) r.«end» (omega arith) shrunk g)
+          (ap (λ (vs : List Run). run (e + 1) r.«end» ∷ vs) (sym (clear_above s e (r.«end» + 2) rest.0 (omega (arith, starts.0, parts.2)) (omega arith) parts.4))
+          ∙ sym (clear-front s e r rest.0 starts.0 le lt) ∙ ap (clear s e) (sym rest.1) ∙ d.same)
 
     -- it starts after e
-    cleared-apart : e < r.start → Cleared w w1 sh y s e false ls us
-    cleared-apart lt = record {
-      left = d.left;
-      becomes = d.becomes;
-      below = d.below;
-      from = d.from;
-      same = d.same;
-      ended = λ q. rest.1 ∙ sym (clear_above s e r.start (r ∷ rest.0) starts.0 lt (omega arith, parts.2, parts.3, parts.4)) ∙ ap (clear s e) (sym rest.1) ∙ d.same;
-    }
+    pub cleared-apart : e < r.start → Becomes w w1 sh y (ls ++ clear s e us)
+    cleared-apart lt =
+        cleared-done ls d.becomes
+        (rest.1 ∙ sym (clear_above s e r.start (r ∷ rest.0) starts.0 lt (omega arith, parts.2, parts.3, parts.4)) ∙ ap (clear s e) (sym rest.1) ∙ d.same)
 
   -- the search finds none
-  cleared-over : n ≡ None → Cleared w w1 sh y s e false ls us
-  cleared-over en = record {
-    left = d.left;
-    becomes = d.becomes;
-    below = d.below;
-    from = d.from;
-    same = d.same;
-    ended = λ q. nothing ∙ sym (clear_none s e) ∙ ap (clear s e) (sym nothing) ∙ d.same;
-  }
-    where
-      nothing : d.left ≡ []
-      nothing = first-none d.left (sym en ∙ first-is)
+  pub cleared-over : n ≡ None → Becomes w w1 sh y (ls ++ clear s e us)
+  cleared-over en =
+      let nothing : d.left ≡ [] = first-none d.left (sym en ∙ first-is) in
+      cleared-done ls d.becomes (nothing ∙ sym (clear_none s e) ∙ ap (clear s e) (sym nothing) ∙ d.same)
 
 -- ---- the invariant of `clear_from`
-pub record ClearingFrom (w w1 : List ℕ) (x y : Links) (s e : ℕ) (more : Bool) : Type 0 where
-  pub so_far : {sh : Share} {ls us : List Run} {t : Tree} {ns : List ℕ} → Cut w sh x s ls us t ns → Cleared w w1 sh y s e more ls us
+pub record ClearingFrom (w w1 : List ℕ) (x y : Links) (s e : ℕ) : Type 0 where
+  pub so_far : {sh : Share} {ls us : List Run} {t : Tree} {ns : List ℕ} → Cut w sh x s ls us t ns → Cleared w w1 sh y s e ls us
 
 -- it holds at first
-pub clearing-none : (w : List ℕ) (x : Links) (s e : ℕ) → ClearingFrom w w x x s e true
-clearing-none w x s e = record { so_far = λ c. cleared-none e c }
+pub clearing-none : {w : List ℕ} {x : Links} {s e : ℕ} → ClearingFrom w w x x s e
+clearing-none = record {
+  so_far = λ {sh} {ls} {us} c. record {
+    left = us;
+    becomes = becomes-none c.parted.kept c.parted.runs-are;
+    below = c.below;
+    from = c.from;
+    same = refl;
+  };
+}
 
-module _ {w w1 : List ℕ} {x y : Links} {s e : ℕ} {more : Bool} (i : ClearingFrom w w1 x y s e more) (p : Clearable w x s) where
+module _ {w w1 : List ℕ} {x y : Links} {s e : ℕ} (i : ClearingFrom w w1 x y s e) (p : Clearable w x s) where
   -- what has been done to the runs that the caller has
-  pub here : Cleared w w1 p.0 y s e more p.1 p.2
+  pub here : Cleared w w1 p.0 y s e p.1 p.2
   here = i.so_far p.5
 
   -- the tree may be searched
   pub clearing-indexed : Indexed w1 y.root
   clearing-indexed = becomes-indexed here.becomes
-
-  -- the length is the old one
-  pub clearing-long : length w1 ≡ length w
-  clearing-long = here.becomes.still.long
-
--- in the end it is the promise
-pub clearing-done : {w w1 : List ℕ} {x y : Links} {s e : ℕ} {more : Bool} → more ≡ false → ClearingFrom w w1 x y s e more → ClearsFrom w w1 x y s e
-clearing-done {w} {w1} {x} {y} m i sh ls us t ns c =
-    let d = i.so_far c in
-    subst (λ (vs : List Run). Becomes w w1 sh y (ls ++ vs)) (d.ended m) d.becomes
-
-module _ {w w1 : List ℕ} {x y : Links} {s e : ℕ} {more : Bool} (i : ClearingFrom w w1 x y s e more) (n : Option Run) (f : TellsAfter w1 y.root s n) where
-  module _ (r : Run) (en : n ≡ Some r) where
-    -- it goes on where the first run goes, unless the next starts past e
-    pub clearing-gone : {w2 : List ℕ} {z : Links} → RemovesRun w1 w2 y z r.start → r.«end» ≤ e → ClearingFrom w w2 x z s e (ltb 1 (e - r.«end»))
-    clearing-gone g le = record { so_far = λ c. cleared-gone (i.so_far c) n f r en g le }
-
-    -- stops where it loses its front
-    pub clearing-front : {w2 : List ℕ} → (le : r.start ≤ e) (lt : e < r.«end») → Changes w1 w2 y r.start r.«end» (e + 1) r.«end» → ClearingFrom w w2 x y s e false
-    clearing-front le lt g = record { so_far = λ c. cleared-front (i.so_far c) n f r en le lt g }
-
-    -- stops where it is apart
-    pub clearing-apart : e < r.start → ClearingFrom w w1 x y s e false
-    clearing-apart lt = record { so_far = λ c. cleared-apart (i.so_far c) n f r en lt }
-
-  -- or there is none
-  pub clearing-over : n ≡ None → ClearingFrom w w1 x y s e false
-  clearing-over en = record { so_far = λ c. cleared-over (i.so_far c) n f en }

@@ -1,4 +1,4 @@
--- The measure of the loops over runs: how many runs the words give of what is at a root, and one while there is more to do.
+-- The measure of the loops over runs: how many runs the words give of what is at a root.
 -- Assumes nothing.
 use Rattle.std.proofs.Common.{◌≡◌, ℕ, zero, suc, ◌+◌, ◌<◌, ◌≤◌, Bool, true, false, List, length, sym, ap, ◌∙◌, true≢false, arith}
 use Rattle.run_index.specs.declared.Node.{Node}
@@ -21,14 +21,3 @@ tree-runs {w} (node (suc n) a b l r) h = ap (runs_of w) (sym h.linked) ∙ ap (�
 -- and how many runs are in it
 pub runs_of_lem : {w : List ℕ} {g p : ℕ} (t : Tree) → At w g p t → runs_of w p ≡ length (inorder t)
 runs_of_lem t h = tree-runs t h ∙ runs-length t
-
--- a loop that has fewer runs has less to do, whether it goes on or not
-pub fewer-less : (j k : ℕ) (more more' : Bool) → more ≡ true → j < k → j + bit more' < k + bit more
-fewer-less j k true true e lt = omega arith
-fewer-less j k true false e lt = omega arith
-fewer-less j k false more' e lt = absurd (true≢false (sym e))
-
--- a loop that has no more to do has less to do
-pub stop-less : (k : ℕ) (more : Bool) → more ≡ true → k + bit false < k + bit more
-stop-less k true e = omega arith
-stop-less k false e = absurd (true≢false (sym e))

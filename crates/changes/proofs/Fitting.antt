@@ -8,47 +8,15 @@ use Rattle.model.specs.Positions.{Positions, one_if, run_count, set_range, stret
 use Rattle.model.proofs.Counting.{one-bound}
 use Rattle.model.proofs.Runs.{stretches-is}
 use Rattle.model.specs.Neighbours.{goes_on, held_below, held_above}
-use Rattle.model.proofs.After.{goes_on-zero, goes_on-top, stretches-parts}
 use Rattle.run_index.specs.Tree.{inorder}
 use Rattle.run_index.proofs.Totals.{runs-length}
 use Rattle.store.specs.declared.World.{World}
 use Rattle.store.specs.Layout.{held_in}
 use Rattle.store.specs.Soundness.{Share, Standing, Limited}
 use Rattle.store.proofs.Opening.{physical_in, standing-held}
-use Rattle.changes.proofs.Neighbours.{goes_on-below}
+use Rattle.changes.specs.declared.edit.Border.{Border}
+use Rattle.changes.specs.Edits.{Surrounds}
 use Rattle.changes.proofs.SetRuns.{set-true-leaves, set-false-leaves, set-one-more, logical-one-more}
-
--- ---- the neighbours
--- nothing goes on over 0
-pub none_going : (P : Positions) (x : ℕ) → x ≡ 0 → 0 ≡ one_if (goes_on P x)
-none_going P x e = sym (ap one_if (ap (goes_on P) e ∙ goes_on-zero P))
-
--- nothing goes on over 2^64
-pub none-past : (P : Positions) (x : ℕ) → x ≡ size - 1 → 0 ≡ one_if (goes_on P (suc x))
-none-past P x e = sym (ap one_if (goes_on-top P (suc x) (omega arith)))
-
--- the position before x
-pub below-is : (P : Positions) (x : ℕ) → (x ≡ 0 → ⊥) → held_below P x ≡ P (x - 1)
-below-is P zero ne = absurd (ne refl)
-below-is P (suc x) ne = ap P (omega arith)
-
--- a run goes on over x where both sides are held
-pub going-is : (P : Positions) (x : ℕ) → x < size → (x ≡ 0 → ⊥) → (p q : Bool) → P (x - 1) ≡ p → P x ≡ q → one_if (p && q) ≡ one_if (goes_on P x)
-going-is P x l ne p q e f = sym (ap one_if (goes_on-below P x l ∙ ap₂ ◌&&◌ (below-is P x ne ∙ e) f))
-
--- none goes on where the lower side is not held
-pub going-none : (P : Positions) (x : ℕ) → x < size → (x ≡ 0 → ⊥) → P (x - 1) ≡ false → 0 ≡ one_if (goes_on P x)
-going-none P x l ne e = going-is P x l ne false (P x) e refl
-
--- after M there is nothing
-pub none_above : (P : Positions) (x : ℕ) → x ≡ size - 1 → 0 ≡ one_if (held_above P x)
-none_above P x e = sym (ap (λ b. one_if (b && P (suc x))) (le-ltb (suc x) size (omega arith)))
-
--- the position after x
-pub above-is : (P : Positions) (x : ℕ) → x < size → (x ≡ size - 1 → ⊥) → (p : Bool) → P (x + 1) ≡ p → one_if p ≡ one_if (held_above P x)
-above-is P x l ne p e =
-    let k : suc x ≡ x + 1 = omega arith in
-    sym (ap₂ (λ b d. one_if (b && d)) (lt-ltb (suc x) size (omega arith)) (ap P k ∙ e))
 
 -- ---- orders
 -- an order of sums that are alike
@@ -88,66 +56,52 @@ module _ {w : List ℕ} {s : Share} {h : World} {limit : ℕ} (lim : Limited w s
   pub logical-few : stretches (held_in w h) ≤ 65566
   logical-few = omega (arith, lim.fits, limit-few)
 
--- what is counted of the positions P and of those from a to b: all runs, those inside, and those that go on over either end
-pub record Tallied (P : Positions) (a b total inside on past : ℕ) : Type 0 where
-  pub ordered : a ≤ b
-  pub below : b < size
-  pub few : stretches P ≤ 65566
-  pub total-is : total ≡ stretches P
-  pub inside_is : inside ≡ run_count P true a (suc b - a)
-  pub on-is : on ≡ one_if (goes_on P a)
-  pub past_is : past ≡ one_if (goes_on P (suc b))
+-- ---- what is around the positions from a to b
+module _ (P : Positions) {a b total inside over : ℕ} (some : a ≤ b) (fits : b < size) (et : total ≡ stretches P) (ei : inside ≡ run_count P true a (suc b - a))
+    (eo : over ≡ one_if (goes_on P a) + one_if (goes_on P (suc b))) where
+  -- the runs that are left where they are cleared
+  pub outside-is : total + over - inside ≡ stretches (set_range a (suc b - a) false P)
+  outside-is = omega (arith, et, ei, eo, set-false-leaves P a (suc b - a) b (omega arith) (omega arith) fits)
 
-module _ {P : Positions} {a b total inside on past : ℕ} (t : Tallied P a b total inside on past) where
-  -- the runs and those over the ends
-  pub told-few : total + on + past ≤ 65568
-  told-few = omega (arith, t.few, t.total-is, one-most on (goes_on P a) t.on-is, one-most past (goes_on P (suc b)) t.past_is)
+  -- there are as many inside at most
+  pub inside-most : inside ≤ total + over
+  inside-most = omega (arith, et, ei, eo, set-false-leaves P a (suc b - a) b (omega arith) (omega arith) fits)
 
-  -- a range has at most two runs more than there are
-  pub inside-few : inside ≤ 65568
-  inside-few =
-      let n : a + (suc b - a) ≡ suc b = omega (arith, t.ordered) in
+-- its ends and neighbours are two each
+pub beside-few : {P : Positions} {a b : ℕ} {r : Border} → Surrounds P a b r → (r.over ≤ 2) × (r.beside ≤ 2)
+beside-few {P} {a} {b} s = (
+  omega (arith, s.over-is, one-bound (goes_on P a), one-bound (goes_on P (suc b))),
+  omega (arith, s.beside-is, one-bound (held_below P a), one-bound (held_above P b)),
+)
+
+module _ {P : Positions} {a b : ℕ} {r : Border} (s : Surrounds P a b r) (some : a ≤ b) (fits : b < size) where
+  -- the runs outside are few
+  pub outside-few : {w : List ℕ} {sh : Share} {h : World} {limit : ℕ} → Limited w sh h limit → P ≡ held_in w h → r.outside ≤ 65568
+  outside-few lim e =
       omega (
         arith,
-        told-few,
-        t.total-is,
-        t.inside_is,
-        t.on-is,
-        t.past_is,
-        ap (λ x. one_if (goes_on P x)) n,
-        stretches-parts P a (suc b - a) (omega (arith, t.ordered)) (omega (arith, t.below)),
+        s.outside-is,
+        set-false-leaves P a (suc b - a) b (omega arith) (omega arith) fits,
+        logical-few lim,
+        ap stretches e,
+        one-bound (goes_on P a),
+        one-bound (goes_on P (suc b)),
       )
-
-  -- with its neighbours
-  pub less-few : {before after : ℕ} → before ≡ one_if (held_below P a) → after ≡ one_if (held_above P b) → inside + before + after ≤ 65570
-  less-few {before} {after} eb ea = omega (arith, inside-few, one-most before (held_below P a) eb, one-most after (held_above P b) ea)
 
   module _ (k : ℕ) {v : Bool} where
     -- a set to true fits where the neighbours tell so
-    pub true-fits : {before after : ℕ} → v ≡ true → before ≡ one_if (held_below P a) → after ≡ one_if (held_above P b)
-        → leb (total + on + past + 1) (k + (inside + before + after)) ≡ leb (stretches (set_range a (suc b - a) v P)) k
-    true-fits {before} {after} ev eb ea =
-        leb-like (stretches (set_range a (suc b - a) true P)) k (total + on + past + 1) (k + (inside + before + after)) (inside + before + after)
+    pub true-fits : v ≡ true → leb (r.outside + 1) (k + r.beside) ≡ leb (stretches (set_range a (suc b - a) v P)) k
+    true-fits ev =
+        leb-like (stretches (set_range a (suc b - a) true P)) k (r.outside + 1) (k + r.beside) r.beside
         (omega (
           arith,
-          t.total-is,
-          t.inside_is,
-          t.on-is,
-          t.past_is,
-          set-true-leaves P a (suc b - a) b (omega (arith, t.ordered)) (omega (arith, t.ordered)) t.below,
+          s.outside-is,
+          s.beside-is,
+          set-false-leaves P a (suc b - a) b (omega arith) (omega arith) fits,
+          set-true-leaves P a (suc b - a) b (omega arith) (omega arith) fits,
         )) (omega arith)
         ∙ ap (λ u. leb (stretches (set_range a (suc b - a) u P)) k) (sym ev)
 
     -- and one to false
-    pub false-fits : v ≡ false → leb (total + on + past) (k + inside) ≡ leb (stretches (set_range a (suc b - a) v P)) k
-    false-fits ev =
-        leb-like (stretches (set_range a (suc b - a) false P)) k (total + on + past) (k + inside) inside
-        (omega (
-          arith,
-          t.total-is,
-          t.inside_is,
-          t.on-is,
-          t.past_is,
-          set-false-leaves P a (suc b - a) b (omega (arith, t.ordered)) (omega (arith, t.ordered)) t.below,
-        )) (omega arith)
-        ∙ ap (λ u. leb (stretches (set_range a (suc b - a) u P)) k) (sym ev)
+    pub false-fits : v ≡ false → leb r.outside k ≡ leb (stretches (set_range a (suc b - a) v P)) k
+    false-fits ev = ap (λ n. leb n k) s.outside-is ∙ ap (λ u. leb (stretches (set_range a (suc b - a) u P)) k) (sym ev)

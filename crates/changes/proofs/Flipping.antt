@@ -17,11 +17,11 @@ use Rattle.store.specs.Soundness.{Share, Still, Standing, Limited}
 use Rattle.store.specs.Settle.{Became}
 use Rattle.store.proofs.Nodes.{still-then, still-same}
 use Rattle.store.proofs.Settling.{became-limited}
-use Rattle.reports.specs.Reports.{Measured, Next}
+use Rattle.reports.specs.Reports.{Measured, StretchEnd}
 use Rattle.reports.proofs.Ranks.{ranges-alternate}
-use Rattle.reports.proofs.Seeking.{Past, none-next}
-use Rattle.reports.proofs.Bounding.{high-end-at}
-use Rattle.changes.specs.Edits.{Makes, Appliable, StretchEnd}
+use Rattle.changes.specs.declared.edit.Border.{Border}
+use Rattle.changes.specs.Edits.{Makes, Appliable, Surrounds}
+use Rattle.changes.proofs.SetRuns.{set-false-leaves}
 use Rattle.changes.proofs.FlipRuns.{flip-leaves, flip-one-more, flip-none-more, flip-further}
 use Rattle.changes.proofs.Fitting.{leb-like, logical-most, logical-few}
 
@@ -33,94 +33,55 @@ flip-fits-far {w} {s} {h} {limit} a b st l i k f =
     sym (le-leb (stretches (flip_range a (suc b - a) (held_in w h))) limit
     (omega (arith, flip-one-more (held_in w h) a (suc b - a) (omega arith) (omega arith), logical-most st l)))
 
--- at most two runs go on over the ends of a range
-pub over-few : (P : Positions) (a b : ℕ) {on past : ℕ} → on ≡ one_if (goes_on P a) → past ≡ one_if (goes_on P (suc b)) → on + past ≤ 2
-over-few P a b p q = omega (arith, one-bound (goes_on P a), one-bound (goes_on P (suc b)))
+-- whether a flip fits, by what is around the range and the gaps in it
+pub flip-fits-counted : {P : Positions} {a b : ℕ} {r : Border} {free : Tally} → Surrounds P a b r → a ≤ b → b < size → Measured P false a (suc b - a) free
+    → (k : ℕ) → leb (r.outside + r.over + free.runs) (k + r.beside) ≡ leb (stretches (flip_range a (suc b - a) P)) k
+flip-fits-counted {P} {a} {b} {r} {free} s some fits m k =
+    leb-like (stretches (flip_range a (suc b - a) P)) k (r.outside + r.over + free.runs) (k + r.beside) r.beside
+    (omega (
+      arith,
+      s.outside-is,
+      s.over-is,
+      s.beside-is,
+      m.runs-are,
+      set-false-leaves P a (suc b - a) b (omega arith) (omega arith) fits,
+      flip-leaves P a (suc b - a) b (omega arith) (omega arith) fits,
+    )) (omega arith)
 
--- at most two of its neighbours are held
-pub ends-few : (P : Positions) (a b : ℕ) {before after : ℕ} → before ≡ one_if (held_below P a) → after ≡ one_if (held_above P b) → before + after ≤ 2
-ends-few P a b p q = omega (arith, one-bound (held_below P a), one-bound (held_above P b))
-
-module _ {w : List ℕ} {s : Share} {h : World} {limit : ℕ} (lim : Limited w s h limit) (a b : ℕ) (some : a ≤ b) (fits : b < size) where
-  -- a range of a world has few runs
-  pub range-few : {r : Tally} → Measured (held_in w h) true a (suc b - a) r → r.runs ≤ 65568
-  range-few m =
-      omega (
-        arith,
-        m.runs-are,
-        logical-few lim,
-        stretches-parts (held_in w h) a (suc b - a) (omega arith) (omega arith),
-        one-bound (goes_on (held_in w h) a),
-        one-bound (goes_on (held_in w h) (a + (suc b - a))),
-      )
-
-  -- and few gaps
-  pub gaps-few : {r : Tally} → Measured (held_in w h) false a (suc b - a) r → r.runs ≤ 65569
-  gaps-few m =
-      omega (
-        arith,
-        m.runs-are,
-        ranges-alternate (held_in w h) a b some,
-        logical-few lim,
-        stretches-parts (held_in w h) a (suc b - a) (omega arith) (omega arith),
-        one-bound (goes_on (held_in w h) a),
-        one-bound (goes_on (held_in w h) (a + (suc b - a))),
-      )
-
--- whether a flip fits, by what was counted
-pub flip-fits-counted : (P : Positions) (a b : ℕ) → a ≤ b → b < size → (k : ℕ) {total on past before after : ℕ} {held free : Tally}
-    → total ≡ stretches P → Measured P true a (suc b - a) held → Measured P false a (suc b - a) free
-    → on ≡ one_if (goes_on P a) → past ≡ one_if (goes_on P (suc b)) → before ≡ one_if (held_below P a) → after ≡ one_if (held_above P b)
-    → leb (total + (on + past) + (on + past) + free.runs) (k + held.runs + (before + after)) ≡ leb (stretches (flip_range a (suc b - a) P)) k
-flip-fits-counted P a b some fits k {total} {on} {past} {before} {after} {held} {free} et mh mf eo ep eb ea =
-    let q = flip-leaves P a (suc b - a) b (omega arith) (omega arith) fits in
-    let h = mh.runs-are in
-    let f = mf.runs-are in
-    leb-like (stretches (flip_range a (suc b - a) P)) k (total + (on + past) + (on + past) + free.runs) (k + held.runs + (before + after))
-    (held.runs + (before + after)) (omega arith) (omega arith)
-
--- ---- where a stretch ends
-module _ (P : Positions) (v : Bool) (x last : ℕ) (some : x ≤ last) (fits : last < size) (here : P x ≡ v) where
-  -- before the next position of the other value
-  pub stretch-ends : {y : ℕ} (n : Option ℕ) → Next P (not v) x n → n ≡ Some y → y ≤ last → StretchEnd P v x last (y - 1)
-  stretch-ends n m q l =
-      let e = high-end-at P v n here m q in
-      record { from = e.over; upto = omega arith; same = e.same; stop = λ i. e.stop (omega arith) }
-
-  -- with the range
-  pub stretch-clipped : (n : Option ℕ) → Next P (not v) x n → Past last n → StretchEnd P v x last last
-  stretch-clipped n m p = record {
-    from = some;
-    upto = omega arith;
-    same = λ z i j. none-next P (not v) n m p z i j (omega arith) ∙ not-not v;
-    stop = λ i. absurd (omega arith);
-  }
+-- a range of a world has few gaps
+pub gaps-few : {w : List ℕ} {s : Share} {h : World} {limit a b : ℕ} {free : Tally} → Limited w s h limit → a ≤ b → b < size
+    → Measured (held_in w h) false a (suc b - a) free → free.runs ≤ 65569
+gaps-few {w} {h = h} {a = a} {b = b} lim some fits m =
+    omega (
+      arith,
+      m.runs-are,
+      ranges-alternate (held_in w h) a b some,
+      logical-few lim,
+      stretches-parts (held_in w h) a (suc b - a) (omega arith) (omega arith),
+      one-bound (goes_on (held_in w h) a),
+      one-bound (goes_on (held_in w h) (a + (suc b - a))),
+    )
 
 -- ---- one stretch after another
--- how many positions from a on are flipped
-abbrev pub passed : ℕ → ℕ → ℕ → Bool → ℕ
-passed a x last true = x - a
-passed a x last false = suc last - a
-
--- the world h₀ became h, in which the positions from a up to x are flipped, or all up to the last one
-pub record Flipping (w₀ w : List ℕ) (s : Share) (h₀ h : World) (limit a last x : ℕ) (more : Bool) : Type 0 where
+-- the world h₀ became h, in which the positions from a up to x are flipped
+pub record Flipping (w₀ w : List ℕ) (s : Share) (h₀ h : World) (limit a last x : ℕ) : Type 0 where
   pub limited : Limited w s h limit
   pub still : Still w₀ w s
   pub from : a ≤ x
   pub upto : x ≤ last
   pub within : last < size
-  pub holds : (y : ℕ) → y < size → held_in w h y ≡ flip_range a (passed a x last more) (held_in w₀ h₀) y
+  pub holds : (y : ℕ) → y < size → held_in w h y ≡ flip_range a (x - a) (held_in w₀ h₀) y
   pub start : stretches (held_in w₀ h₀) ≤ limit
   pub finish : stretches (flip_range a (suc last - a) (held_in w₀ h₀)) ≤ limit
 
 -- whatever share it has, and whatever limit
-abbrev pub Flips : List ℕ → List ℕ → World → World → ℕ → ℕ → ℕ → Bool → Type 0
-Flips w₀ w h₀ h a last x more =
+abbrev pub Flips : List ℕ → List ℕ → World → World → ℕ → ℕ → ℕ → Type 0
+Flips w₀ w h₀ h a last x =
     (s : Share) (limit : ℕ) → Limited w₀ s h₀ limit → stretches (flip_range a (suc last - a) (held_in w₀ h₀)) ≤ limit
-    → Flipping w₀ w s h₀ h limit a last x more
+    → Flipping w₀ w s h₀ h limit a last x
 
 -- none are flipped
-pub flips-none : {w : List ℕ} {h : World} {a last : ℕ} → a ≤ last → last < size → Flips w w h h a last a true
+pub flips-none : {w : List ℕ} {h : World} {a last : ℕ} → a ≤ last → last < size → Flips w w h h a last a
 flips-none {w} {h} {a} {last} l k s limit lim few = record {
   limited = lim;
   still = still-same;
@@ -136,22 +97,18 @@ flips-none {w} {h} {a} {last} l k s limit lim few = record {
     nothing y (inl i) = flip-below a (a - a) (held_in w h) y i
     nothing y (inr i) = flip-above a (a - a) (held_in w h) y (omega arith)
 
-module _ {w₀ w : List ℕ} {s : Share} {h₀ h : World} {limit a last x y : ℕ} {more v : Bool} (f : Flipping w₀ w s h₀ h limit a last x more) (t : more ≡ true)
+module _ {w₀ w : List ℕ} {s : Share} {h₀ h : World} {limit a last x y : ℕ} {v : Bool} (f : Flipping w₀ w s h₀ h limit a last x)
     (en : StretchEnd (held_in w h) v x last y) where
-  -- what is flipped
-  flipped : (z : ℕ) → z < size → held_in w h z ≡ flip_range a (x - a) (held_in w₀ h₀) z
-  flipped z l = f.holds z l ∙ ap (λ m. flip_range a (passed a x last m) (held_in w₀ h₀) z) t
-
   -- from x on all is as it was
   as_before : (z : ℕ) → x ≤ z → z < size → held_in w₀ h₀ z ≡ held_in w h z
-  as_before z i l = sym (flipped z l ∙ flip-above a (x - a) (held_in w₀ h₀) z (omega (arith, f.from)))
+  as_before z i l = sym (f.holds z l ∙ flip-above a (x - a) (held_in w₀ h₀) z (omega (arith, f.from)))
 
   -- with the stretch set to the other value, the positions up to its end are flipped
   set-flips : (z : ℕ) → z < size → set_range x (suc y - x) (not v) (held_in w h) z ≡ flip_range a (suc y - a) (held_in w₀ h₀) z
   set-flips z l =
       let p : a + (x - a) ≡ x = omega (arith, f.from) in
       let q : x - a + (suc y - x) ≡ suc y - a = omega (arith, f.from, en.from) in
-      set-cong x (suc y - x) (not v) (held_in w h) (flip_range a (x - a) (held_in w₀ h₀)) z (flipped z l)
+      set-cong x (suc y - x) (not v) (held_in w h) (flip_range a (x - a) (held_in w₀ h₀)) z (f.holds z l)
       ∙ ap (λ i. set_range i (suc y - x) (not v) (flip_range a (x - a) (held_in w₀ h₀)) z) (sym p)
       ∙ flip-further (held_in w₀ h₀) a (x - a) (suc y - x) v
       (λ i j k. as_before i (omega arith) (omega (arith, f.within, en.from, en.upto)) ∙ en.same i (omega arith) (omega (arith, en.from))) z
@@ -189,45 +146,26 @@ module _ {w₀ w : List ℕ} {s : Share} {h₀ h : World} {limit a last x y : �
     made = g s limit f.limited stretch-few
 
     -- one more stretch is flipped
-    pub flipping-more : y < last → Flipping w₀ w' s h₀ k limit a last (y + 1) more
-    flipping-more l = record {
+    pub flipping-more : (y ≡ last → ⊥) → Flipping w₀ w' s h₀ k limit a last (y + 1)
+    flipping-more ne = record {
       limited = became-limited f.limited made stretch-few;
       still = still-then f.still made.still;
       from = omega (arith, f.from, en.from);
-      upto = omega arith;
+      upto = let l : y < last = omega (arith, en.upto) in omega arith;
       within = f.within;
       holds = λ z i.
           let e : suc y - a ≡ y + 1 - a = omega arith in
-          made.shows.holds z i ∙ set-flips z i ∙ ap (λ n. flip_range a n (held_in w₀ h₀) z) e
-          ∙ sym (ap (λ m. flip_range a (passed a (y + 1) last m) (held_in w₀ h₀) z) t);
+          made.shows.holds z i ∙ set-flips z i ∙ ap (λ n. flip_range a n (held_in w₀ h₀) z) e;
       start = f.start;
       finish = f.finish;
     }
 
-    -- the last one is
-    pub flipping-last : last ≤ y → Flipping w₀ w' s h₀ k limit a last x false
-    flipping-last l = record {
-      limited = became-limited f.limited made stretch-few;
-      still = still-then f.still made.still;
-      from = f.from;
-      upto = f.upto;
-      within = f.within;
-      holds = λ z i.
-          let e : y ≡ last = omega (arith, en.upto) in
-          made.shows.holds z i ∙ set-flips z i ∙ ap (λ j. flip_range a (suc j - a) (held_in w₀ h₀) z) e;
-      start = f.start;
-      finish = f.finish;
-    }
-
--- all are flipped
-pub flips-done : {w₀ w : List ℕ} {h₀ h : World} {a last x : ℕ} {more : Bool} → Flips w₀ w h₀ h a last x more → more ≡ false
-    → Makes w₀ w h₀ h (flip_range a (suc last - a) (held_in w₀ h₀))
-flips-done {w₀} {w} {h₀} {h} {a} {last} {x} f t s limit lim few =
-    let g = f s limit lim few in
-    record {
+    -- all are
+    pub flips-done : y ≡ last → Became w₀ w' s k (flip_range a (suc last - a) (held_in w₀ h₀))
+    flips-done e = record {
       shows = record {
-        standing = g.limited.standing;
-        holds = λ z k. g.holds z k ∙ ap (λ m. flip_range a (passed a x last m) (held_in w₀ h₀) z) t;
+        standing = made.shows.standing;
+        holds = λ z i. made.shows.holds z i ∙ set-flips z i ∙ ap (λ j. flip_range a (suc j - a) (held_in w₀ h₀) z) e;
       };
-      still = g.still;
+      still = still-then f.still made.still;
     }

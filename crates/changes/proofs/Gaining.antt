@@ -1,12 +1,13 @@
 -- How many positions a change makes differ, from what the world tells before and after it. Its sum is how many positions it holds,
 -- modulo 2^64, and only an empty world has no root, so the two tell a full world from an empty one. A set to true only adds positions, and
 -- one to false only frees some: so the difference is what changed. Assumes nothing.
-use Rattle.std.proofs.Common.{◌≡◌, ℕ, zero, suc, ◌+◌, ◌-◌, ◌%◌, ◌^◌, ◌<◌, ◌≤◌, Bool, true, false, cond, not, ◌⊎◌, List, ◌∷◌, sym, refl, ap, ◌∙◌, inl, inr, true≢false, arith}
+use Rattle.std.specs.Prelude.{Some}
+use Rattle.std.proofs.Common.{◌≡◌, ℕ, zero, suc, ◌+◌, ◌-◌, ◌%◌, ◌^◌, ◌<◌, ◌≤◌, Bool, true, false, cond, not, ◌⊎◌, List, ◌∷◌, sym, refl, ap, ◌∙◌, subst, inl, inr, true≢false, arith}
 use mathlib.Core.Bool.{beq}
 use Rattle.model.specs.declared.Count.{Count}
 use Rattle.model.specs.declared.Operation.TheVariants.{Xor}
 use Rattle.model.specs.Numbers.{size, worth}
-use Rattle.model.specs.Positions.{Positions, run, among, one_if, count, set_range, combined, changes}
+use Rattle.model.specs.Positions.{Positions, run, among, one_if, count, set_range, stretches, combined, changes}
 use Rattle.model.proofs.Counting.{count-cong, count_cut, count-both}
 use Rattle.model.proofs.RunList.{widths, count-mem}
 use Rattle.model.proofs.Search.{widths-append}
@@ -15,12 +16,13 @@ use Rattle.run_index.proofs.Trees.{rep_pos, rep-ordered}
 use Rattle.run_index.proofs.Totals.{ones-widths}
 use Rattle.store.specs.declared.World.{World}
 use Rattle.store.specs.Layout.{turned, held_in}
-use Rattle.store.specs.Soundness.{Share, Standing}
+use Rattle.store.specs.Soundness.{Share, Standing, Editable}
 use Rattle.store.specs.Settle.{Became}
 use Rattle.store.proofs.Turn.{turned_zero}
 use Rattle.store.proofs.Turn.{count-parted}
 use Rattle.store.proofs.Opening.{physical_in, standing-held}
-use Rattle.changes.specs.Edits.{TellsHeld, Gains}
+use Rattle.changes.specs.declared.edit.Edit.{Edit}
+use Rattle.changes.specs.Edits.{TellsHeld, Gains, SetGains, Makes, Edited, Grows, GrowsBy}
 
 -- ---- what a world tells
 -- a turn moves positions and drops none
@@ -122,16 +124,14 @@ pub cond-frees : (b v p : Bool) → v ≡ false → cond b v p ≡ true → p �
 cond-frees true v p e f = absurd (true≢false (sym f ∙ e))
 cond-frees false v p e f = f
 
-module _ (a n : ℕ) (v : Bool) (P : Positions) (x : ℕ) where
-  -- of a range
-  pub set-adds : v ≡ true → P x ≡ true → set_range a n v P x ≡ true
-  unfolding set_range
-  set-adds = cond-adds (among a n x) v (P x)
+-- Q has what a set of P to v leaves, as far as that only adds, or only frees
+abbrev pub SetOf : Positions → Positions → Bool → Type 0
+SetOf P Q v = (x : ℕ) → (v ≡ true → P x ≡ true → Q x ≡ true) × (v ≡ false → Q x ≡ true → P x ≡ true)
 
-  -- and so the other way
-  pub set-frees : v ≡ false → set_range a n v P x ≡ true → P x ≡ true
-  unfolding set_range
-  set-frees = cond-frees (among a n x) v (P x)
+-- of a range
+set-of : (a n : ℕ) (v : Bool) (P : Positions) → SetOf P (set_range a n v P) v
+unfolding set_range
+set-of a n v P x = (cond-adds (among a n x) v (P x), cond-frees (among a n x) v (P x))
 
 -- ---- a world and what a change makes of it
 module _ {w w' : List ℕ} {s : Share} {h k : World} {Q : Positions} (st : Standing w s h) (be : Became w w' s k Q) (oh : h.offset < size) (ok : k.offset < size)
@@ -141,7 +141,7 @@ module _ {w w' : List ℕ} {s : Share} {h k : World} {Q : Positions} (st : Stand
   after = count-cong (held_in w' k) Q true 0 size (λ x _ u. be.shows.holds x (omega arith))
 
   -- what is gained is what differs, where the change only adds
-  pub gained-changes : ((x : ℕ) → x < size → held_in w h x ≡ true → Q x ≡ true) → Gains h.root h.ones k.root k.ones c
+  gained-changes : ((x : ℕ) → x < size → held_in w h x ≡ true → Q x ≡ true) → Gains h.root h.ones k.root k.ones c
       → worth c ≡ changes (held_in w h) Q
   gained-changes f g =
       let sum = after ∙ more-changes (held_in w h) Q f in
@@ -149,9 +149,28 @@ module _ {w w' : List ℕ} {s : Share} {h k : World} {Q : Positions} (st : Stand
       ∙ omega (arith, sum)
 
   -- and so is what is lost, where it only frees
-  pub lost-changes : ((x : ℕ) → x < size → Q x ≡ true → held_in w h x ≡ true) → Gains k.root k.ones h.root h.ones c
+  lost-changes : ((x : ℕ) → x < size → Q x ≡ true → held_in w h x ≡ true) → Gains k.root k.ones h.root h.ones c
       → worth c ≡ changes (held_in w h) Q
   lost-changes f g =
       let sum = more-changes Q (held_in w h) f in
       g (count (held_in w' k) true 0 size) (count (held_in w h) true 0 size) (world-tells be.shows.standing ok) (world-tells st oh) (omega (arith, sum, after))
       ∙ omega (arith, sum, after, changes-either (held_in w h) Q)
+
+  -- so what a set tells is what differs
+  pub set-changes : (v : Bool) → SetOf (held_in w h) Q v → SetGains h k v c → worth c ≡ changes (held_in w h) Q
+  set-changes true f g = gained-changes (λ x _. (f x).0 refl) g
+  set-changes false f g = lost-changes (λ x _. (f x).1 refl) g
+
+-- a set of a range, and its outcome
+pub set-edited : {w w' : List ℕ} {h k : World} {limit : ℕ} (a b : ℕ) {v : Bool} (r : Edit) → Editable w h limit → h.offset < size → k.offset < size
+    → stretches (set_range a (suc b - a) v (held_in w h)) ≤ limit → Makes w w' h k (set_range a (suc b - a) v (held_in w h)) × Grows w w' h k a b v
+    → r.world ≡ k → SetGains h k v r.changed
+    → Edited w w' h limit (set_range a (suc b - a) v (held_in w h)) (Some r) × GrowsBy w w' h a b v (Some r)
+set-edited {w} {w'} {h} {k} {limit} a b {v} r lim oh ok few m e g = (
+  (
+    few,
+    subst (λ (z : World). Makes w w' h z (set_range a (suc b - a) v (held_in w h))) (sym e) m.0,
+    set-changes lim.1.standing (m.0 lim.0 limit lim.1 few) oh ok r.changed v (set-of a (suc b - a) v (held_in w h)) g,
+  ),
+  subst (λ (z : World). Grows w w' h z a b v) (sym e) m.1,
+)

@@ -1,6 +1,6 @@
 -- The positions next to a range: a run goes on over an end of the range where the neighbour there and the end are both held.
 -- So the runs that a change leaves are told by the neighbours and by the two ends. Assumes nothing.
-use Rattle.std.proofs.Common.{◌≡◌, ℕ, zero, suc, ◌+◌, ◌*◌, ◌<◌, ◌≤◌, Bool, true, false, not, ◌&&◌, ltb, List, [], ◌∷◌, length, refl, ap, ◌∙◌, ap₂, arith, lt-ltb}
+use Rattle.std.proofs.Common.{◌≡◌, ℕ, zero, suc, ◌+◌, ◌*◌, ◌<◌, ◌≤◌, Bool, true, false, not, ◌&&◌, ltb, List, [], ◌∷◌, length, sym, refl, ap, ◌∙◌, ap₂, arith, lt-ltb}
 use mathlib.Core.Bool.{beq, and_comm}
 use Rattle.model.specs.declared.Run.{Run}
 use Rattle.model.specs.Numbers.{size}
@@ -33,6 +33,14 @@ and-inner : (b d f : Bool) → (b && (d && f)) ≡ (d && (b && f))
 and-inner true d f = refl
 and-inner false true f = refl
 and-inner false false f = refl
+
+-- a test of two truths, where the first holds
+pub both-yes : {b d p q : Bool} → b ≡ true → b ≡ p → d ≡ q → d ≡ (p && q)
+both-yes {q = q} e f g = g ∙ ap (λ t. t && q) (sym e ∙ f)
+
+-- where it does not
+pub both-no : {b p : Bool} (q : Bool) → b ≡ false → b ≡ p → b ≡ (p && q)
+both-no q e f = e ∙ ap (λ t. t && q) (sym e ∙ f)
 
 -- ---- runs over an end
 -- over the lower end: the neighbour and the end are held

@@ -1,6 +1,6 @@
 -- Moving a world by d. Its first and last position tell what would leave 0 .. M: all, and it is made empty; or some, and they are
 -- cleared; then the move is a turn, which the offset alone does. Assumes nothing.
-use Rattle.std.proofs.Common.{◌≡◌, ℕ, suc, ◌+◌, ◌-◌, ◌<◌, ◌≤◌, Bool, true, false, ◌⊎◌, List, [], sym, refl, ap, ◌∙◌, subst, inl, inr, arith}
+use Rattle.std.proofs.Common.{◌≡◌, ℕ, suc, ◌+◌, ◌-◌, ◌%◌, ◌^◌, ◌<◌, ◌≤◌, Bool, true, false, ◌⊎◌, List, [], sym, refl, ap, ◌∙◌, subst, ap₂, inl, inr, arith}
 use Rattle.model.specs.declared.Run.{Run}
 use Rattle.model.specs.Numbers.{size}
 use Rattle.model.proofs.Numbers.{split}
@@ -20,7 +20,7 @@ use Rattle.store.proofs.Nodes.{still-same}
 use Rattle.store.proofs.Reached.{kept-held}
 use Rattle.store.proofs.Emptying.{rootless-empty}
 use Rattle.store.proofs.Opening.{physical_in, standing-held, standing-some}
-use Rattle.changes.specs.Edits.{Makes, Appliable, Empties, Moves}
+use Rattle.changes.specs.Edits.{Makes, Appliable, Empties, Leaves, Moves}
 use Rattle.changes.proofs.SetRuns.{clear-top, clear-bottom}
 use Rattle.changes.proofs.Shifted.{
   left_at,
@@ -307,12 +307,55 @@ all_stay {w} {h} {d} left z s limit lim = stays (shift_by d left (held_in w h)) 
     go true x l = ap (held_in w h) (omega arith) ∙ sym (left_at d (held_in w h) x (omega arith))
     go false x l = ap (held_in w h) (omega arith) ∙ sym (right-at d (held_in w h) x (omega arith))
 
--- up is left
-pub left-moves : {w w' : List ℕ} {h k : World} {left : Bool} (d : ℕ) (P : Positions) → left ≡ true → Moves w w' h k (shift_left d P) → Moves w w' h k (shift_by d left P)
-unfolding shift_by
-left-moves d P e m = rw e m
+-- ---- either way
+module _ {w : List ℕ} {h : World} {d : ℕ} (low high up : ℕ) (fits : d < size) (far : d ≡ 0 → ⊥) where
+  -- what leaves may be cleared
+  pub leaving-applies : {s : Share} {limit : ℕ} (left : Bool) → Leaves d left low high up → Limited w s h limit → Appliable w h low high false
+  leaving-applies true l lim = up-applies lim low high (omega (arith, l.0, l.1)) (omega (arith, l.1))
+  leaving-applies false l lim = rw l.0 (down-applies lim high (omega (arith, l.1)))
 
--- down is right
-pub right-moves : {w w' : List ℕ} {h k : World} {left : Bool} (d : ℕ) (P : Positions) → left ≡ false → Moves w w' h k (shift_right d P) → Moves w w' h k (shift_by d left P)
-unfolding shift_by
-right-moves d P e m = rw e m
+  module _ {s : Share} {limit : ℕ} (lim : Limited w s h limit) (nz : h.root ≡ 0 → ⊥) (small : h.offset < size) where
+    -- all leave
+    pub all-leave : {w' : List ℕ} {k : World} (left : Bool) → Leaves d left low high up → low ≤ h.first → h.last ≤ high → Became w w' s k empty
+        → Became w w' s k (shift_by d left (held_in w h))
+    unfolding shift_by
+    all-leave true l lo hi e = up-empty h d (world-ends lim.standing nz small) (omega (arith, l.0)) e
+    all-leave false l lo hi e = down-empty h d (world-ends lim.standing nz small) (omega (arith, l.1)) e
+
+    -- none does
+    pub none-leaves : (left : Bool) → Leaves d left low high up → (h.last < low) ⊎ (high < h.first) → Cleared w w s h h low d (shift_by d left)
+    unfolding shift_by
+    none-leaves true l (inl q) = rw l.0 (up-uncleared lim nz small fits (omega (arith, l.0)))
+    none-leaves true l (inr q) = absurd (let en = world-ends lim.standing nz small in omega (arith, l.1, en.order, en.small))
+    none-leaves false l (inl q) = absurd (omega (arith, l.0))
+    none-leaves false l (inr q) = rw l.0 (down-uncleared lim nz small fits (omega (arith, l.1)))
+
+    -- some do, and are cleared
+    pub some-leave : {u : List ℕ} {k : World} (left : Bool) → Leaves d left low high up → (h.first < low) ⊎ (high < h.last)
+        → Makes w u h k (set_range low (suc high - low) false (held_in w h)) → Cleared w u s h k low d (shift_by d left)
+    unfolding shift_by
+    some-leave {u} {k} true l (inl q) mk =
+        subst (λ (a : ℕ). Cleared w u s h k a d (shift_left d)) (sym l.0)
+        (up-cleared lim nz small fits low (suc high - low) (omega (arith, l.0)) l.0 (omega (arith, l.0, l.1)) mk)
+    some-leave true l (inr q) mk = absurd (let en = world-ends lim.standing nz small in omega (arith, l.1, en.small))
+    some-leave false l (inl q) mk = absurd (omega (arith, l.0))
+    some-leave {u} {k} false l (inr q) mk =
+        subst (λ (a : ℕ). Cleared w u s h k a d (shift_right d)) (sym l.0)
+        (down-cleared lim nz small fits (suc high - 0) (omega (arith, l.1)) (omega (arith, l.1))
+        (subst (λ (a : ℕ). Makes w u h k (set_range a (suc high - a) false (held_in w h))) l.0 mk))
+
+  -- the rest is moved
+  pub rest-moves : {u : List ℕ} {s : Share} {k : World} (left : Bool) → Leaves d left low high up → Cleared w u s h k low d (shift_by d left) → k.offset < size
+      → Became w u s (moved_world k ((k.offset + up) % 2 ^ 64) ((k.first + up) % 2 ^ 64) ((k.last + up) % 2 ^ 64)) (shift_by d left (held_in w h))
+  unfolding shift_by
+  rest-moves {u} {s} {k} true l c small =
+      let c' : Cleared w u s h k (size - d) d (shift_left d) = subst (λ (a : ℕ). Cleared w u s h k a d (shift_left d)) l.0 c in
+      let f = up_fits c' small fits in
+      up-became c' small fits (omega arith) (omega (arith, l.2))
+      (ap₂ (λ (i j : ℕ). moved_world k ((k.offset + up) % 2 ^ 64) i j) (omega (arith, f, l.2)) (omega (arith, f, l.2)))
+  rest-moves {u} {s} {k} false l c small =
+      let c' : Cleared w u s h k 0 d (shift_right d) = subst (λ (a : ℕ). Cleared w u s h k a d (shift_right d)) l.0 c in
+      let f = down_fits c' small fits in
+      let e = down_ends c' small fits in
+      down-became c' small fits (omega arith) (omega arith) (omega (arith, l.2))
+      (ap₂ (λ (i j : ℕ). moved_world k ((k.offset + up) % 2 ^ 64) i j) (omega (arith, f, l.2, e.order, e.small)) (omega (arith, f, l.2, e.small)))

@@ -1,10 +1,11 @@
 -- What giving physical positions a value asks, and what it promises. Assumes nothing: these are definitions.
-use Rattle.std.specs.Prelude.{◌≡◌, ℕ, suc, ◌+◌, ◌-◌, ◌<◌, ◌≤◌, Bool, List, ◌∷◌, ◌++◌, nat_le}
+use Rattle.std.specs.Prelude.{Option, MatchOption, ◌≡◌, ℕ, suc, ◌+◌, ◌-◌, ◌<◌, ◌≤◌, Bool, List, ◌∷◌, ◌++◌, nat_le}
 use Rattle.model.specs.declared.Run.{Run}
 use Rattle.model.specs.Numbers.{size}
 use Rattle.model.specs.Positions.{Positions, run, set_range, stretches, mem}
 use Rattle.model.specs.RunList.{EndBelow, StartFrom, insert, clear}
 use Rattle.run_index.specs.Tree.{Tree, inorder}
+use Rattle.run_index.specs.Search.{Index}
 use Rattle.store.specs.declared.Links.{Links}
 use Rattle.store.specs.Soundness.{Share, Still, Kept}
 use Rattle.store.specs.Free.{Becomes}
@@ -35,6 +36,27 @@ Sets w w' x y s e v =
 -- x is at most one past b
 abbrev pub Reaching : ℕ → ℕ → Bool → Type 0
 Reaching b x r = r ≡ nat_le x (b + 1)
+
+-- the runs rs are ls, r and us, and r is the first that holds or touches a position from s to e
+pub record Touching (rs : List Run) (s e : ℕ) (r : Run) : Type 0 where
+  pub ls : List Run
+  pub us : List Run
+  pub is : rs ≡ ls ++ (r ∷ us)
+  pub below : EndBelow (s - 1) ls
+  pub from : s ≤ r.«end» + 1
+  pub upto : r.start ≤ e + 1
+
+-- none does: the runs ls end before them, and us start after them
+pub record Apart (rs : List Run) (s e : ℕ) : Type 0 where
+  pub ls : List Run
+  pub us : List Run
+  pub is : rs ≡ ls ++ us
+  pub below : EndBelow (s - 1) ls
+  pub from : StartFrom (e + 2) us
+
+-- the first run that does, of the tree at p
+abbrev pub TellsTouched : List ℕ → ℕ → ℕ → ℕ → Option Run → Type 0
+TellsTouched w p s e r = (g : ℕ) (t : Tree) → Index w p g t → MatchOption r (Apart (inorder t) s e) (Touching (inorder t) s e)
 
 -- the runs that the links x lead to are ls and then us
 pub record Parted (w : List ℕ) (sh : Share) (x : Links) (ls us : List Run) (t : Tree) (ns : List ℕ) : Type 0 where

@@ -1,10 +1,12 @@
 -- What changes of a world promise. Assumes nothing: these are definitions.
 use Rattle.std.specs.Prelude.{Option, None, Some}
 use Rattle.changes.specs.declared.edit.Edit.{Edit}
-use Rattle.std.specs.Prelude.{◌≡◌, ℕ, suc, ◌-◌, ◌%◌, ◌<◌, ◌≤◌, Bool, not, List}
+use Rattle.changes.specs.declared.edit.Border.{Border}
+use Rattle.std.specs.Prelude.{◌≡◌, ℕ, suc, ◌+◌, ◌-◌, ◌%◌, ◌<◌, ◌≤◌, Bool, true, false, List}
 use Rattle.model.specs.declared.Count.{Count}
 use Rattle.model.specs.Numbers.{size, worth}
-use Rattle.model.specs.Positions.{Positions, set_range, stretches, changes, empty, mem}
+use Rattle.model.specs.Positions.{Positions, one_if, set_range, stretches, changes, empty, mem}
+use Rattle.model.specs.Neighbours.{goes_on, held_below, held_above}
 use Rattle.run_index.specs.Tree.{Tree, inorder}
 use Rattle.store.specs.declared.World.{World}
 use Rattle.store.specs.declared.Links.{Links}
@@ -77,21 +79,21 @@ pub record TellsHeld (root ones n : ℕ) : Type 0 where
 abbrev pub Gains : ℕ → ℕ → ℕ → ℕ → Count → Type 0
 Gains root ones root' ones' c = (m n : ℕ) → TellsHeld root ones m → TellsHeld root' ones' n → m ≤ n → worth c ≡ n - m
 
--- from x to y all positions have the value, and y is the last one or the next one has not
-pub record StretchEnd (P : Positions) (v : Bool) (x last y : ℕ) : Type 0 where
-  pub from : x ≤ y
-  pub upto : y ≤ last
-  pub same : (z : ℕ) → x ≤ z → z ≤ y → P z ≡ v
-  pub stop : y < last → P (suc y) ≡ not v
+-- so it is of a set to a value that made k of the world h: one to true adds positions, one to false frees some
+abbrev pub SetGains : World → World → Bool → Count → Type 0
+SetGains h k true c = Gains h.root h.ones k.root k.ones c
+SetGains h k false c = Gains k.root k.ones h.root h.ones c
 
--- a world that holds something, to be moved by d positions
-pub record MayShift (w : List ℕ) (s : Share) (h : World) (limit d : ℕ) : Type 0 where
-  pub limited : Limited w s h limit
-  pub some : h.root ≡ 0 → ⊥
-  pub far : 1 ≤ d
+-- what is around the positions from a to b
+pub record Surrounds (P : Positions) (a b : ℕ) (r : Border) : Type 0 where
+  pub outside-is : r.outside ≡ stretches (set_range a (suc b - a) false P)
+  pub over-is : r.over ≡ one_if (goes_on P a) + one_if (goes_on P (suc b))
+  pub beside-is : r.beside ≡ one_if (held_below P a) + one_if (held_above P b)
 
-abbrev pub Shiftable : List ℕ → World → ℕ → Type 0
-Shiftable w h d = (s : Share) × (limit : ℕ) × MayShift w s h limit d
+-- where all positions move by d, those from low to high leave, and the others move up by so many modulo 2^64
+abbrev pub Leaves : ℕ → Bool → ℕ → ℕ → ℕ → Type 0
+Leaves d true low high up = (low ≡ size - d) × (high ≡ size - 1) × (up ≡ d)
+Leaves d false low high up = (low ≡ 0) × (high ≡ d - 1) × (up ≡ size - d)
 
 -- a shift adds no run, so only a limit that the world keeps is asked
 abbrev pub Moves : List ℕ → List ℕ → World → World → Positions → Type 0

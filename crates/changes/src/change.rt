@@ -1,13 +1,16 @@
 // Giving a range of physical positions a value: runs grow, shrink, go and come. Whatever a run only loses or gains at an end changes
 // in place, and no more nodes are used on the way than in the end. Where the tree and the free chain start is handed in and back.
-ghost use Rattle.std.specs.Prelude.{true, false};
+ghost use Rattle.std.specs.Prelude.{true, false, ◌≤◌};
+ghost use Rattle.run_index.specs.Search.{Indexed};
 ghost use Rattle.store.specs.Free.{Sprouts};
-ghost use Rattle.changes.specs.Change.{Settable, Sets, Reaching, Absorbable, Absorbs, Clearable, ClearsFrom};
+ghost use Rattle.changes.specs.Change.{Settable, Sets, Reaching, TellsTouched, Absorbable, Absorbs, Clearable, ClearsFrom};
 
+use model::Run;
 use store::Links;
 use store::places::Physical;
 
 // Gives the positions from s to e the value.
+// The value is what the caller of a set asked for: closures for the two steps would be chosen by the same test, one call further up.
 pub fn set_physical(words: &mut [u64], x: Links, s: Physical, e: Physical, value: bool) -> Links
     requires { Settable words.old x s.0 e.0 value }
     ensures { Sets words.old words.new x result s.0 e.0 value × Sprouts words.old words.new x.root result.root s.0 e.0 value }
@@ -19,63 +22,49 @@ pub fn set_physical(words: &mut [u64], x: Links, s: Physical, e: Physical, value
     }
 }
 
-// Holds the positions from s to e: the runs that hold or touch them become one, which is one of them grown, or a new one.
+// Holds the positions from s to e: the runs that hold or touch them become one, which is the first of them grown, or a new one.
 fn raise(words: &mut [u64], x: Links, s: Physical, e: Physical) -> Links
     requires { Settable words.old x s.0 e.0 true }
     ensures { Sets words.old words.new x result s.0 e.0 true × Sprouts words.old words.new x.root result.root s.0 e.0 true }
 {
-    let from = s.0;
-    let to = e.0;
-    let n = run_index::search::at_or_before(words, x.root, from);
-    match n {
-        Some(r) => {
-            let start = r.start;
-            let end = r.end;
-            if reaches(Physical(end), s) {
-                if end < to {
-                    let a = absorb(words, x, Physical(start), Physical(end), e);
-                    let y = a.links;
-                    store::free::resize_run(words, y, start, end, start, a.end.0);
-                    return y;
-                }
-                return x;
-            }
-        }
-        None => {}
+    let Some(r) = touching(words, x.root, s, e) else {
+        return store::free::add_run(words, x, s.0, e.0);
+    };
+    if r.start <= s.0 && e.0 <= r.end {
+        return x;
     }
-    let m = run_index::search::at_or_after(words, x.root, from);
-    match m {
-        Some(r) => {
-            let start = r.start;
-            let end = r.end;
-            if reaches(e, Physical(start)) {
-                let a = absorb(
-                    words,
-                    x,
-                    Physical(start),
-                    Physical(end),
-                    Physical(run_index::larger(to, end)),
-                );
-                let y = a.links;
-                store::free::resize_run(words, y, start, end, from, a.end.0);
-                return y;
-            }
-        }
-        None => {}
+    let grown = absorb(words, x, r, Physical(e.0.max(r.end)));
+    store::free::resize_run(
+        words,
+        grown.links,
+        r.start,
+        r.end,
+        s.0.min(r.start),
+        grown.end.0,
+    );
+    grown.links
+}
+
+// The first run that holds or touches a position from s to e.
+fn touching(words: &[u64], root: u64, s: Physical, e: Physical) -> Option<Run>
+    requires indexed { Indexed words.now root }
+    requires s_le_e { s.0 ≤ e.0 }
+    ensures { TellsTouched words.now root s.0 e.0 result }
+{
+    match run_index::search::at_or_before(words, root, s.0) {
+        Some(r) if reaches(Physical(r.end), s) => Some(r),
+        _ => run_index::search::at_or_after(words, root, s.0).filter(|r| reaches(
+            e,
+            Physical(r.start),
+        )),
     }
-    store::free::add_run(words, x, from, to)
 }
 
 // Whether what reaches up to `end` holds x or touches it.
 fn reaches(end: Physical, x: Physical) -> bool
     ensures { Reaching «end».0 x.0 result }
 {
-    let to = end.0;
-    let at = x.0;
-    if at <= to {
-        return true;
-    }
-    at - to == 1
+    x.0.saturating_sub(end.0) <= 1
 }
 
 // How far a run reaches that took others in, and the links after these went.
@@ -85,38 +74,28 @@ pub struct Reach {
     pub end: Physical,
 }
 
-// Removes the runs after start..=b that touch what reaches up to e, one after another, and returns how far the last of them reaches. A run
-// that reaches as far as all before it is the last one, since runs do not touch.
-fn absorb(words: &mut [u64], x: Links, start: Physical, b: Physical, e: Physical) -> Reach
-    requires { Absorbable words.old x start.0 b.0 }
-    ensures { Absorbs words.old words.new x start.0 b.0 e.0 result }
+// Removes the runs after r that touch what reaches up to e, one after another, and returns how far the last of them reaches. A run
+// that reaches as far as e is the last one, since runs do not touch.
+fn absorb(words: &mut [u64], x: Links, r: Run, e: Physical) -> Reach
+    requires { Absorbable words.old x r.start r.«end» }
+    ensures { Absorbs words.old words.new x r.start r.«end» e.0 result }
 {
-    let from = start.0;
-    let own = b.0;
-    let mut at = x;
-    let mut end = e;
-    let mut more = own < e.0;
-    while more {
-        let n = run_index::search::at_or_after(words, at.root, from + 1);
-        match n {
-            Some(r) => {
-                if reaches(end, Physical(r.start)) {
-                    at = store::free::remove_run(words, at, r.start);
-                    more = r.end < end.0;
-                    end = Physical(run_index::larger(end.0, r.end));
-                } else {
-                    more = false;
-                }
-            }
-            None => {
-                more = false;
-            }
+    let mut links = x;
+    if e.0 <= r.end {
+        return Reach { links, end: e };
+    }
+    while let Some(q) = run_index::search::at_or_after(words, links.root, r.start + 1)
+        && reaches(e, Physical(q.start))
+    {
+        links = store::free::remove_run(words, links, q.start);
+        if e.0 <= q.end {
+            return Reach {
+                links,
+                end: Physical(q.end),
+            };
         }
     }
-    Reach {
-        links: at,
-        end: end,
-    }
+    Reach { links, end: e }
 }
 
 // Frees the positions from s to e: the run that goes on before s keeps its node, and so does one that goes on after e.
@@ -124,24 +103,17 @@ fn clear(words: &mut [u64], x: Links, s: Physical, e: Physical) -> Links
     requires { Settable words.old x s.0 e.0 false }
     ensures { Sets words.old words.new x result s.0 e.0 false }
 {
-    let from = s.0;
-    let to = e.0;
-    let n = run_index::search::at_or_before(words, x.root, from);
-    match n {
-        Some(r) => {
-            let start = r.start;
-            let end = r.end;
-            if start < from && from <= end {
-                store::free::resize_run(words, x, start, end, start, from - 1);
-                if to < end {
-                    return store::free::add_run(words, x, to + 1, end);
-                }
-                if to - end <= 1 {
-                    return x;
-                }
-            }
+    if let Some(r) = run_index::search::at_or_before(words, x.root, s.0)
+        && r.start < s.0
+        && s.0 <= r.end
+    {
+        store::free::resize_run(words, x, r.start, r.end, r.start, s.0 - 1);
+        if e.0 < r.end {
+            return store::free::add_run(words, x, e.0 + 1, r.end);
         }
-        None => {}
+        if e.0 - r.end <= 1 {
+            return x;
+        }
     }
     clear_from(words, x, s, e)
 }
@@ -152,32 +124,18 @@ fn clear_from(words: &mut [u64], x: Links, s: Physical, e: Physical) -> Links
     requires { Clearable words.old x s.0 }
     ensures { ClearsFrom words.old words.new x result s.0 e.0 }
 {
-    let from = s.0;
-    let to = e.0;
-    let mut at = x;
-    let mut more = true;
-    while more {
-        let n = run_index::search::at_or_after(words, at.root, from);
-        match n {
-            Some(r) => {
-                let start = r.start;
-                let end = r.end;
-                if start <= to {
-                    if to < end {
-                        store::free::resize_run(words, at, start, end, to + 1, end);
-                        more = false;
-                    } else {
-                        at = store::free::remove_run(words, at, start);
-                        more = 1 < to - end;
-                    }
-                } else {
-                    more = false;
-                }
-            }
-            None => {
-                more = false;
-            }
+    let mut links = x;
+    while let Some(r) = run_index::search::at_or_after(words, links.root, s.0)
+        && r.start <= e.0
+    {
+        if e.0 < r.end {
+            store::free::resize_run(words, links, r.start, r.end, e.0 + 1, r.end);
+            return links;
+        }
+        links = store::free::remove_run(words, links, r.start);
+        if e.0 - r.end <= 1 {
+            return links;
         }
     }
-    at
+    links
 }

@@ -1,12 +1,11 @@
 // Changing a world's positions. What a change would leave is counted before the first write: more runs than the world may have, and
 // nothing is touched. The world is handed in and back; its nodes alone are in the words.
 ghost use Rattle.std.specs.Prelude.{◌≡◌, suc, ◌+◌, ◌-◌, ◌<◌, ◌≤◌, nat_le};
-ghost use Rattle.model.specs.Positions.{one_if, set_range, flip_range, shift_by, shift_left, shift_right, stretches};
-ghost use Rattle.model.specs.Neighbours.{goes_on};
+ghost use Rattle.model.specs.Positions.{set_range, flip_range, shift_by, stretches};
+ghost use Rattle.model.specs.Neighbours.{goes_on, held_below, held_above};
 ghost use Rattle.store.specs.Layout.{held_in};
 ghost use Rattle.store.specs.Soundness.{Stands, Editable};
-ghost use Rattle.changes.specs.Edits.{Makes, Edited, Grows, GrowsBy, Fitted, Appliable, Places, PutsIn, Gains, StretchEnd, Empties, Movable, Shiftable, Moves};
-ghost use Rattle.model.specs.Neighbours.{held_below, held_above};
+ghost use Rattle.changes.specs.Edits.{Makes, Edited, Grows, GrowsBy, Fitted, Appliable, Places, PutsIn, Gains, SetGains, Surrounds, Empties, Movable, Leaves, Moves};
 
 use model::{Count, Logical};
 use store::places::Physical;
@@ -19,64 +18,68 @@ pub struct Edit {
     pub changed: Count,
 }
 
-// 1 if a run goes on from x - 1 to x, else 0.
-pub fn going_on(words: &[u64], h: World, x: Logical) -> u64
+// Whether the position before x is there and held.
+pub fn held_before(words: &[u64], h: World, x: Logical) -> bool
     requires { Stands words.now h }
-    ensures { result ≡ one_if (goes_on (held_in words.now h) x.0) }
+    ensures { result ≡ held_below (held_in words.now h) x.0 }
 {
-    let at = x.0;
-    if at == 0 {
-        return 0;
-    }
-    if reports::logical::get(words, h, Logical(at - 1)) {
-        if reports::logical::get(words, h, x) {
-            return 1;
-        }
-    }
-    0
+    x.0.checked_sub(1)
+        .is_some_and(|y| reports::logical::get(words, h, Logical(y)))
 }
 
-// 1 if a run goes on from x to x + 1, else 0.
-pub fn going_past(words: &[u64], h: World, x: Logical) -> u64
+// Whether the position after x is there and held.
+// The mirror of `held_before`: the step alone is another, and a parameter for it would only say which.
+pub fn held_after(words: &[u64], h: World, x: Logical) -> bool
     requires { Stands words.now h }
-    ensures { result ≡ one_if (goes_on (held_in words.now h) (suc x.0)) }
+    ensures { result ≡ held_above (held_in words.now h) x.0 }
 {
-    let at = x.0;
-    if at == u64::MAX {
-        return 0;
-    }
-    going_on(words, h, Logical(at + 1))
+    x.0.checked_add(1)
+        .is_some_and(|y| reports::logical::get(words, h, Logical(y)))
 }
 
-// 1 if the position before x is there and held, else 0.
-pub fn held_before(words: &[u64], h: World, x: Logical) -> u64
+// Whether a run goes on from x - 1 to x.
+pub fn going_on(words: &[u64], h: World, x: Logical) -> bool
     requires { Stands words.now h }
-    ensures { result ≡ one_if (held_below (held_in words.now h) x.0) }
+    ensures { result ≡ goes_on (held_in words.now h) x.0 }
 {
-    let at = x.0;
-    if at == 0 {
-        return 0;
-    }
-    if reports::logical::get(words, h, Logical(at - 1)) {
-        1
-    } else {
-        0
-    }
+    held_before(words, h, x) && reports::logical::get(words, h, x)
 }
 
-// 1 if the position after x is there and held, else 0.
-pub fn held_after(words: &[u64], h: World, x: Logical) -> u64
+// Whether a run goes on from x to x + 1.
+// The mirror of `going_on`: one line that names the side, as a parameter would.
+pub fn going_past(words: &[u64], h: World, x: Logical) -> bool
     requires { Stands words.now h }
-    ensures { result ≡ one_if (held_above (held_in words.now h) x.0) }
+    ensures { result ≡ goes_on (held_in words.now h) (suc x.0) }
 {
-    let at = x.0;
-    if at == u64::MAX {
-        return 0;
-    }
-    if reports::logical::get(words, h, Logical(at + 1)) {
-        1
-    } else {
-        0
+    held_after(words, h, x) && reports::logical::get(words, h, x)
+}
+
+// What is around a range of positions: how many runs there are where the range is cleared, how many runs go on over an end of it,
+// and how many of its two neighbours are held.
+#[derive(Clone, Copy)]
+pub struct Border {
+    pub outside: u64,
+    pub over: u64,
+    pub beside: u64,
+}
+
+// What is around a..=b.
+pub fn around(words: &[u64], h: World, a: Logical, b: Logical) -> Border
+    requires movable { Movable words.now h }
+    requires a_le_b { a.0 ≤ b.0 }
+    ensures { Surrounds (held_in words.now h) a.0 b.0 result }
+{
+    let total = store::bounds::logical_runs(words, h.root, h.offset, h.runs);
+    let inside = reports::logical::tally(words, h, a, b, true).runs;
+    let before = held_before(words, h, a);
+    let after = held_after(words, h, b);
+    let on = before && reports::logical::get(words, h, a);
+    let past = after && reports::logical::get(words, h, b);
+    let over = u64::from(on) + u64::from(past);
+    Border {
+        outside: total + over - inside,
+        over,
+        beside: u64::from(before) + u64::from(after),
     }
 }
 
@@ -90,14 +93,13 @@ pub fn set_fits(words: &[u64], h: World, limit: u64, a: Logical, b: Logical, val
     if h.runs + 2 <= limit {
         return true;
     }
-    let total = store::bounds::logical_runs(words, h.root, h.offset, h.runs);
-    let t = reports::logical::tally(words, h, a, b, true);
-    let before = total + going_on(words, h, a) + going_past(words, h, b);
+    let border = around(words, h, a, b);
     if value {
-        let less = t.runs + held_before(words, h, a) + held_after(words, h, b);
-        return before + 1 <= limit + less;
+        // the range is one run, with the neighbours that are held
+        border.outside + 1 <= limit + border.beside
+    } else {
+        border.outside <= limit
     }
-    before <= limit + t.runs
 }
 
 // Gives a..=b the value where it lies: at one physical range, or at two if it goes over the place where physical positions end.
@@ -107,10 +109,8 @@ fn place(words: &mut [u64], h: World, a: Logical, b: Logical, value: bool) -> Li
 {
     let s = store::places::to_physical(a, h.offset);
     let e = store::places::to_physical(b, h.offset);
-    let from = s.0;
-    let to = e.0;
     let x = store::links_of(h);
-    if from <= to {
+    if s.0 <= e.0 {
         return crate::change::set_physical(words, x, s, e, value);
     }
     let y = crate::change::set_physical(words, x, s, Physical(u64::MAX), value);
@@ -128,21 +128,31 @@ pub fn apply_set(words: &mut [u64], h: World, a: Logical, b: Logical, value: boo
 
 // How many positions a world gained, from what it told before and tells after. The sums are kept modulo 2^64, so an empty world that
 // became full shows no difference: it gained 2^64.
-pub fn gained(root: u64, ones: u64, new_root: u64, new_ones: u64) -> Count
-    ensures { Gains root ones new_root new_ones result }
+pub fn gained(before: World, after: World) -> Count
+    ensures { Gains before.root before.ones after.root after.ones result }
 {
-    let more = std::num::wrapping_sub_u64(new_ones, ones);
-    if more == 0 && root == 0 && new_root != 0 {
-        return Count { carry: 1, low: 0 };
-    }
+    let low = after.ones.wrapping_sub(before.ones);
+    let full = low == 0 && before.root == 0 && after.root != 0;
     Count {
-        carry: 0,
-        low: more,
+        carry: u64::from(full),
+        low,
     }
 }
 
-// Gives a..=b the value, and returns how many positions changed, or None where too many runs would be left. The sums before and after tell the
-// number: a set only adds positions, or only frees some.
+// What a set to the value made of the world h. It only adds positions, or only frees some, so what the world told before and tells after
+// says how many changed.
+pub fn outcome(h: World, world: World, value: bool) -> Edit
+    ensures world { result.world ≡ world }
+    ensures changed { SetGains h world value result.changed }
+{
+    let (fewer, more) = if value { (h, world) } else { (world, h) };
+    Edit {
+        world,
+        changed: gained(fewer, more),
+    }
+}
+
+// Gives a..=b the value, and returns how many positions changed, or None where too many runs would be left.
 pub fn set(
     words: &mut [u64],
     h: World,
@@ -159,20 +169,12 @@ pub fn set(
         return None;
     }
     let k = apply_set(words, h, a, b, value);
-    if value {
-        return Some(Edit {
-            world: k,
-            changed: gained(h.root, h.ones, k.root, k.ones),
-        });
-    }
-    Some(Edit {
-        world: k,
-        changed: gained(k.root, k.ones, h.root, h.ones),
-    })
+    Some(outcome(h, k, value))
 }
 
 // Whether flipping a..=b leaves at most as many runs as the limit. A flip adds one run at most, too. Of a run that goes on over an end
 // the flip leaves none there, and where one ended at the range it makes one go on.
+// Not one with `set_fits`: what a set leaves in the range is known, and what a flip leaves are its gaps, which are counted.
 pub fn flip_fits(words: &[u64], h: World, limit: u64, a: Logical, b: Logical) -> bool
     requires editable { Editable words.now h limit }
     requires a_le_b { a.0 ≤ b.0 }
@@ -181,37 +183,13 @@ pub fn flip_fits(words: &[u64], h: World, limit: u64, a: Logical, b: Logical) ->
     if h.runs + 2 <= limit {
         return true;
     }
-    let total = store::bounds::logical_runs(words, h.root, h.offset, h.runs);
-    let held = reports::logical::tally(words, h, a, b, true);
-    let free = reports::logical::tally(words, h, a, b, false);
-    let over = going_on(words, h, a) + going_past(words, h, b);
-    let ends = held_before(words, h, a) + held_after(words, h, b);
-    total + over + over + free.runs <= limit + held.runs + ends
-}
-
-// Where the stretch of the value that starts at x ends, at most at last.
-fn stretch_end(words: &[u64], h: World, x: Logical, last: Logical, value: bool) -> Logical
-    requires stands { Stands words.now h }
-    requires x_le_last { x.0 ≤ last.0 }
-    requires x_value { held_in words.now h x.0 ≡ value }
-    ensures { StretchEnd (held_in words.now h) value x.0 last.0 result.0 }
-{
-    let top = last.0;
-    let n = reports::logical::next(words, h, x, !value);
-    match n {
-        Some(y) => {
-            if y <= top {
-                let to = y - 1;
-                Logical(to)
-            } else {
-                last
-            }
-        }
-        None => last,
-    }
+    let border = around(words, h, a, b);
+    let gaps = reports::logical::tally(words, h, a, b, false).runs;
+    border.outside + border.over + gaps <= limit + border.beside
 }
 
 // Inverts a..=b, stretch by stretch, or None where too many runs would be left: on the way there are never more than at the start.
+// Not one with `set`: each asks what it would leave, and one step then stands against a loop.
 pub fn flip(words: &mut [u64], h: World, limit: u64, a: Logical, b: Logical) -> Option<World>
     requires editable { Editable words.old h limit }
     requires a_le_b { a.0 ≤ b.0 }
@@ -220,23 +198,17 @@ pub fn flip(words: &mut [u64], h: World, limit: u64, a: Logical, b: Logical) -> 
     if !flip_fits(words, h, limit, a, b) {
         return None;
     }
-    let last = b.0;
-    let mut at = h;
+    let mut k = h;
     let mut x = a;
-    let mut more = true;
-    while more {
-        let value = reports::logical::get(words, at, x);
-        let y = stretch_end(words, at, x, b, value);
-        let to = y.0;
-        at = apply_set(words, at, x, y, !value);
-        if to < last {
-            let next = to + 1;
-            x = Logical(next);
-        } else {
-            more = false;
+    loop {
+        let value = reports::logical::get(words, k, x);
+        let y = reports::runs::stretch_end(words, k, x, b, value);
+        k = apply_set(words, k, x, Logical(y), !value);
+        if y == b.0 {
+            return Some(k);
         }
+        x = Logical(y + 1);
     }
-    Some(at)
 }
 
 // A world without runs, whatever it held: its nodes are free.
@@ -248,77 +220,39 @@ pub fn emptied(words: &mut [u64], h: World) -> World
     store::refresh::refresh(words, x, 0)
 }
 
-// Moves every position by d, up (left) or down, and drops what leaves 0..=M.
+// The first and the last position that leave 0..=M where all move by d, up (left) or down, and by how much all move up modulo 2^64.
+fn leaving(d: u64, left: bool) -> (u64, u64, u64)
+    requires { 1 ≤ d }
+    ensures { Leaves d left result.0 result.1 result.2 }
+{
+    if left {
+        (d.wrapping_neg(), u64::MAX, d)
+    } else {
+        (0, d - 1, d.wrapping_neg())
+    }
+}
+
+// Moves every position by d, up (left) or down: what leaves 0..=M is cleared first, and the offset moves the rest.
 pub fn shift(words: &mut [u64], h: World, d: u64, left: bool) -> World
     requires { Movable words.old h }
     ensures { Moves words.old words.new h result (shift_by d left (held_in words.old h)) }
 {
-    if h.root == 0 {
+    if h.root == 0 || d == 0 {
         return h;
     }
-    if d == 0 {
-        return h;
+    let (low, high, up) = leaving(d, left);
+    if low <= h.first && h.last <= high {
+        return emptied(words, h);
     }
-    if left {
-        shift_up(words, h, d)
+    let k = if low <= h.last && h.first <= high {
+        apply_set(words, h, Logical(low), Logical(high), false)
     } else {
-        shift_down(words, h, d)
-    }
-}
-
-// A world whose positions are kept under another offset, and whose ends are others.
-fn moved(h: World, offset: u64, first: u64, last: u64) -> World
-    ensures { result ≡ record { tag = h.tag; root = h.root; free = h.free; offset = offset; ones = h.ones; runs = h.runs; first = first; last = last } }
-{
+        h
+    };
     World {
-        tag: h.tag,
-        root: h.root,
-        free: h.free,
-        offset: offset,
-        ones: h.ones,
-        runs: h.runs,
-        first: first,
-        last: last,
+        offset: k.offset.wrapping_add(up),
+        first: k.first.wrapping_add(up),
+        last: k.last.wrapping_add(up),
+        ..k
     }
-}
-
-// Up by d: what lies above M - d is dropped first, and the offset does the rest.
-fn shift_up(words: &mut [u64], h: World, d: u64) -> World
-    requires { Shiftable words.old h d }
-    ensures { Moves words.old words.new h result (shift_left d (held_in words.old h)) }
-{
-    let top = u64::MAX - d;
-    if top < h.first {
-        return emptied(words, h);
-    }
-    let mut k = h;
-    if top < h.last {
-        k = apply_set(words, h, Logical(top + 1), Logical(u64::MAX), false);
-    }
-    moved(
-        k,
-        std::num::wrapping_add_u64(k.offset, d),
-        k.first + d,
-        k.last + d,
-    )
-}
-
-// Down by d: what lies below d is dropped first.
-fn shift_down(words: &mut [u64], h: World, d: u64) -> World
-    requires { Shiftable words.old h d }
-    ensures { Moves words.old words.new h result (shift_right d (held_in words.old h)) }
-{
-    if h.last < d {
-        return emptied(words, h);
-    }
-    let mut k = h;
-    if h.first < d {
-        k = apply_set(words, h, Logical(0), Logical(d - 1), false);
-    }
-    moved(
-        k,
-        std::num::wrapping_sub_u64(k.offset, d),
-        k.first - d,
-        k.last - d,
-    )
 }

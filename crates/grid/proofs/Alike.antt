@@ -1,6 +1,6 @@
 -- Blocks of one value: all of their cells are held, or none is, exactly if they all have the first cell's value; and rows of one value, one after
 -- the other, until a position of the other value. Assumes nothing.
-use Rattle.std.specs.Prelude.{Option, None, Some}
+use Rattle.std.specs.Prelude.{Option, None, Some, max}
 use Prim.Native.Nat.{ℕ, zero, suc, ◌+◌, ◌-◌, ◌*◌, ◌/◌, ◌≤◌, ◌<◌}
 use mathlib.Core.Path.{◌≡◌, refl, sym, ap, ap₂, ◌∙◌, subst, fun_ext}
 use mathlib.Core.Logic.{◌⊎◌, inl, inr, ⊎_elim}
@@ -14,7 +14,7 @@ use Rattle.model.proofs.Numbers.{split}
 use Rattle.model.proofs.Counting.{count-all, count_none, counted_none, count-both, count_most}
 use Rattle.reports.specs.Reports.{Next}
 use Rattle.model.specs.Grid.{cell, count_rect, block, one_valued}
-use Rattle.grid.specs.Surveys.{OnPlane, OnGrid, RowAfter}
+use Rattle.grid.specs.Surveys.{OnPlane, OnGrid}
 use Rattle.grid.specs.Rows.{row_sum, row_count}
 use Rattle.grid.proofs.Cells.{rect-rows}
 
@@ -178,17 +178,16 @@ module _ (P : Positions) (r c m n : ℕ) (v : Bool) where
         other-here more f l = other-two P r c m n on k y far more at.0 l (at.2 ∙ ap not f)
 
         -- it is after row k
-        pub alike_next : (j : ℕ) → cell k c + n ≤ y → RowAfter k y j → Alike P r c (j - r) n v
+        pub alike_next : (j : ℕ) → cell k c + n ≤ y → j ≡ max (y / 65536) (k + 1) → Alike P r c (j - r) n v
         alike_next j le w i x a b p q = go (split i k) (split k i)
           where
             under : x < y → cell k c ≤ x → P x ≡ v
             under s t = at.3 x t s ∙ not-not v
 
-            past : k < i → (j ≡ k + 1) ⊎ (j ≡ y / 65536) → x < y
-            past l (inl f) = absurd (omega (arith, w.more))
-            past l (inr f) = omega (arith, on.within)
+            past : k < i → x < y
+            past l = omega (arith, on.within, w)
 
             go : (i < k) ⊎ (k ≤ i) → (k < i) ⊎ (i ≤ k) → P x ≡ v
             go (inl l) s = h i x a (omega arith) p q
-            go (inr l) (inl s) = under (past s w.next) (omega arith)
+            go (inr l) (inl s) = under (past s) (omega arith)
             go (inr l) (inr s) = let f : i ≡ k = omega arith in under (omega arith) (omega arith)

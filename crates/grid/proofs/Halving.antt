@@ -1,18 +1,23 @@
--- A square and a half of one, piece by piece: the piece itself, if it has one value, else its two halves, which are on the grid, and have room one
--- after the other; and how many words there are at most. Assumes nothing.
+-- The pieces of a block, which is a square or the half of one: the block itself, if it has one value, else those of its halves, which are blocks
+-- too; and how many words there are at most. Assumes nothing.
 use Prim.Native.Nat.{ℕ, zero, suc, ◌+◌, ◌-◌, ◌*◌, ◌^◌, ◌≤◌, ◌<◌}
-use mathlib.Core.Path.{◌≡◌, refl, sym, ap, ap₂, ◌∙◌, subst}
+use mathlib.Core.Path.{◌≡◌, refl, sym, ap, ap₂, ◌∙◌, subst, subst₂}
 use mathlib.Core.Bool.{Bool, true, false, cond, true≢false}
 use mathlib.Core.List.{List, ◌++◌}
 use native.Mathlib.Omega.{arith}
+use native.Mathlib.Decide.{ℕ_discrete}
+use borrow.Author.Tests.{eq-eqb}
+use Rattle.std.proofs.lemmas.Bool.{ne_eqb}
+use lib.Dec.{eqb}
 use native.Mathlib.Nat.{two-pow-succ, one-le-pow, pow-suc, pow-le-pow_right}
 use lib.Pow.{pow_pos}
 use lib.ListN.{length, length-append}
 use Rattle.model.specs.Positions.{Positions}
 use Rattle.model.specs.Grid.{cell, one_valued, piece, by_row, by_column, survey}
-use Rattle.grid.specs.Surveys.{OnGrid, Roomy, Listed, Square, Half, half}
+use Rattle.grid.specs.declared.block.Block.{Block}
+use Rattle.grid.specs.Surveys.{OnGrid, Halved, Listed, half}
+use Rattle.grid.specs.Blocks.{pieces}
 use Rattle.grid.proofs.Alike.{single-one}
-use Rattle.grid.proofs.Pieces.{first-roomy, second-roomy, both-listed}
 
 -- ---- pieces
 module _ (P : Positions) (r c : ℕ) where
@@ -45,196 +50,128 @@ module _ (P : Positions) (r c : ℕ) where
       (λ b. cond b (piece r c (2 ^ suc k) (2 ^ suc k) (P (cell r c))) (by_row P k (survey P k) r c ++ by_row P k (survey P k) r (c + 2 ^ k)))
       e
 
--- ---- a square of m rows and n columns
-module _ {P : Positions} {r c i j : ℕ} {write : Bool} {p : ℕ} {out : List ℕ} (S : Square P r c i j write p out) (m n : ℕ) (em : m ≡ 2 ^ i) (en : n ≡ 2 ^ j) where
-  -- its rows are as many as its columns
-  high : m ≡ 2 ^ j
-  high = em ∙ ap (λ k. 2 ^ k) S.sides
+-- ---- a block
+module _ (P : Positions) where
+  -- its pieces: those of a square, or of the half of one
+  abbrev all : ℕ → ℕ → ℕ → ℕ → List ℕ
+  all i j r c = cond (eqb i j) (survey P j r c) (half P j r c)
 
-  -- it is on the grid
-  pub square-on : OnGrid r c m n
-  square-on = subst (λ k. OnGrid r c k n) (sym em) (subst (λ k. OnGrid r c (2 ^ i) k) (sym en) S.on)
+  module _ (r c i j : ℕ) where
+    all-square : i ≡ j → all i j r c ≡ survey P j r c
+    all-square e = ap (λ t. cond t (survey P j r c) (half P j r c)) (eq-eqb i j e)
 
-  module _ (one : one_valued P r c m n ≡ true) (v : Bool) (ev : v ≡ P (cell r c)) where
+    all-half : i ≡ suc j → all i j r c ≡ half P j r c
+    all-half e = ap (λ t. cond t (survey P j r c) (half P j r c)) (ne_eqb i j (omega arith))
+
     -- with one value it is a piece
-    square-piece : survey P j r c ≡ piece r c m n v
-    square-piece =
-        square-is P r c j (sym (ap₂ (one_valued P r c) high en) ∙ one)
-        ∙ ap₂ (λ x y. piece r c x y (P (cell r c))) (sym high) (sym en)
-        ∙ ap (piece r c m n) (sym ev)
-
-    -- there is room for it
-    pub square-roomy : Roomy write (piece r c m n v) p out
-    square-roomy = subst (λ ps. Roomy write ps p out) square-piece S.room
-
-    -- and it can be listed
-    pub square-listed : (q : ℕ) (out' : List ℕ) → Listed write (piece r c m n v) p q out out' → Listed write (survey P j r c) p q out out'
-    square-listed q out' t = subst (λ ps. Listed write ps p q out out') (sym square-piece) t
-
-  module _ (two : one_valued P r c m n ≡ false) where
-    -- with two it is no single cell
-    pub square-some : 1 ≤ j
-    square-some = go j refl
+    pub one-piece : Halved r c i j → one_valued P r c (2 ^ i) (2 ^ j) ≡ true → all i j r c ≡ piece r c (2 ^ i) (2 ^ j) (P (cell r c))
+    one-piece h = go (ℕ_discrete i j)
       where
-        go : (k : ℕ) → j ≡ k → 1 ≤ k
-        go (suc k) e = omega arith
-        go zero e =
+        go : Dec (i ≡ j) → one_valued P r c (2 ^ i) (2 ^ j) ≡ true → all i j r c ≡ piece r c (2 ^ i) (2 ^ j) (P (cell r c))
+        go (yes e) o =
+            all-square e ∙ square-is P r c j (ap (λ k. one_valued P r c (2 ^ k) (2 ^ j)) (sym e) ∙ o)
+            ∙ ap (λ k. piece r c (2 ^ k) (2 ^ j) (P (cell r c))) (sym e)
+        go (no n) o =
+            let e : suc j ≡ i = omega (arith, h.low, h.high) in
+            all-half (sym e) ∙ half_is P r c j (ap (λ k. one_valued P r c (2 ^ k) (2 ^ j)) e ∙ o) ∙ ap (λ k. piece r c (2 ^ k) (2 ^ j) (P (cell r c))) e
+
+    -- with two it is no single cell
+    pub more-cells : Halved r c i j → one_valued P r c (2 ^ i) (2 ^ j) ≡ false → 1 ≤ i
+    more-cells h o = go i j refl refl
+      where
+        go : (x y : ℕ) → x ≡ i → y ≡ j → 1 ≤ i
+        go (suc x) y e f = omega arith
+        go zero (suc y) e f = absurd (omega (arith, h.low))
+        go zero zero e f =
             absurd
             (true≢false
-            (sym (single-one P r c (subst (λ x. OnGrid r c x (2 ^ 0)) (high ∙ ap (λ x. 2 ^ x) e) (subst (λ x. OnGrid r c m x) (en ∙ ap (λ x. 2 ^ x) e) square-on)))
-            ∙ sym (ap₂ (one_valued P r c) (high ∙ ap (λ x. 2 ^ x) e) (en ∙ ap (λ x. 2 ^ x) e))
-            ∙ two))
+            (sym (single-one P r c (subst₂ (λ x y. OnGrid r c (2 ^ x) (2 ^ y)) (sym e) (sym f) h.on)) ∙ ap₂ (λ x y. one_valued P r c (2 ^ x) (2 ^ y)) e f ∙ o))
 
-    module _ (d : ℕ) (ed : d ≡ 2 ^ (j - 1)) where
-      -- the exponent of a half's columns
-      less : j ≡ suc (j - 1)
-      less = omega (arith, square-some)
+    module _ (k m : ℕ) (em : m ≡ 2 ^ k) (two : one_valued P r c (2 ^ i) (2 ^ j) ≡ false) where
+      -- the pieces of a square are those of its left half and of its right one
+      pub two-halves : i ≡ j → j ≡ suc k → all i j r c ≡ all i k r c ++ all i k r (c + m)
+      two-halves e f =
+          all-square e ∙ ap (λ x. survey P x r c) f
+          ∙ square-two P r c k (ap₂ (λ x y. one_valued P r c (2 ^ x) (2 ^ y)) (sym (e ∙ f)) (sym f) ∙ two)
+          ∙ ap₂ ◌++◌ (sym (half-of c)) (ap (λ x. half P k r (c + x)) (sym em) ∙ sym (half-of (c + m)))
+        where
+          half-of : (d : ℕ) → all i k r d ≡ half P k r d
+          half-of d = ap (λ t. cond t (survey P k r d) (half P k r d)) (ne_eqb i k (omega arith))
 
-      -- each half has half of the columns
-      halved : 2 ^ j ≡ d + d
-      halved = ap (λ k. 2 ^ k) less ∙ two-pow-succ (j - 1) ∙ ap₂ ◌+◌ (sym ed) (sym ed)
+      -- those of the half of one are those of its upper square and of its lower one
+      pub two-squares : i ≡ suc k → j ≡ k → all i j r c ≡ all k j r c ++ all k j (r + m) c
+      two-squares e f =
+          all-half (e ∙ ap suc (sym f))
+          ∙ half-two P r c j (ap (λ x. one_valued P r c (2 ^ x) (2 ^ j)) (sym (e ∙ ap suc (sym f))) ∙ two)
+          ∙ ap₂ ◌++◌ (sym (square-of r)) (ap (λ x. survey P j (r + x) c) (ap (λ x. 2 ^ x) f ∙ sym em) ∙ sym (square-of (r + m)))
+        where
+          square-of : (d : ℕ) → all k j d c ≡ survey P j d c
+          square-of d = ap (λ t. cond t (survey P j d c) (half P j d c)) (eq-eqb k j (sym f))
 
-      -- its pieces are those of both
-      halves_are : survey P j r c ≡ half P (j - 1) r c ++ half P (j - 1) r (c + d)
-      halves_are =
-          let up : 2 ^ j ≡ 2 ^ suc (j - 1) = ap (λ k. 2 ^ k) less in
-          ap (λ k. survey P k r c) less
-          ∙ square-two P r c (j - 1) (sym (ap₂ (one_valued P r c) (high ∙ up) (en ∙ up)) ∙ two)
-          ∙ ap (λ k. half P (j - 1) r c ++ half P (j - 1) r (c + k)) (sym ed)
+-- a block of one value is a piece
+pub piece-is : (P : Positions) (b : Block) → one_valued P b.corner.row b.corner.column (2 ^ b.i) (2 ^ b.j) ≡ true → (v : Bool)
+    → v ≡ P (cell b.corner.row b.corner.column) → pieces P b ≡ piece b.corner.row b.corner.column (2 ^ b.i) (2 ^ b.j) v
+piece-is P b one v ev =
+    one-piece P b.corner.row b.corner.column b.i b.j b.halved one ∙ ap (piece b.corner.row b.corner.column (2 ^ b.i) (2 ^ b.j)) (sym ev)
 
-      -- for which there is room
-      both-roomy : Roomy write (half P (j - 1) r c ++ half P (j - 1) r (c + d)) p out
-      both-roomy = subst (λ ps. Roomy write ps p out) halves_are S.room
+-- the pieces of a square
+pub square-pieces : (P : Positions) (k r c : ℕ) → all P k k r c ≡ survey P k r c
+square-pieces P k r c = all-square P r c k k refl
 
-      -- where the right one begins
-      pub right-few : c + d < 65536
-      right-few = omega (arith, S.on.within, halved, pow_pos (j - 1), ed)
+-- so they are listed
+pub square-listed : (P : Positions) (k r c : ℕ) {p q : ℕ} {out out' : List ℕ} → Listed (all P k k r c) p q out out' → Listed (survey P k r c) p q out out'
+square-listed P k r c {p} {q} {out} {out'} = subst (λ ps. Listed ps p q out out') (square-pieces P k r c)
 
-      -- the left one can be listed
-      pub left-half : Half P r c i (j - 1) write p out
-      left-half = record {
-        sides = omega (arith, S.sides, square-some);
-        few = omega (arith, S.sides, S.few);
-        on = record {
-          some = S.on.some;
-          wide = pow_pos (j - 1);
-          low = S.on.low;
-          within = omega (arith, S.on.within, halved, ed);
-        };
-        room = first-roomy write (half P (j - 1) r c) (half P (j - 1) r (c + d)) p out both-roomy;
-      }
+-- ---- where its halves lie
+module _ {r c i j : ℕ} (h : Halved r c i j) (some : 1 ≤ i) where
+  -- those of a square have half of the columns
+  module _ (e : i ≡ j) (d : ℕ) (ed : d ≡ 2 ^ (j - 1)) where
+    columns-halved : 2 ^ j ≡ d + d
+    columns-halved =
+        let f : j ≡ suc (j - 1) = omega arith in
+        ap (λ k. 2 ^ k) f ∙ two-pow-succ (j - 1) ∙ ap₂ ◌+◌ (sym ed) (sym ed)
 
-      module _ (q : ℕ) (mid : List ℕ) (s : Listed write (half P (j - 1) r c) p q out mid) where
-        -- and then the right one
-        pub right-half : Half P r (c + d) i (j - 1) write q mid
-        right-half = record {
-          sides = left-half.sides;
-          few = left-half.few;
-          on = record {
-            some = S.on.some;
-            wide = pow_pos (j - 1);
-            low = S.on.low;
-            within = omega (arith, S.on.within, halved, ed);
-          };
-          room = second-roomy write (half P (j - 1) r c) (half P (j - 1) r (c + d)) p out both-roomy q mid s;
-        }
-
-        -- so all is
-        pub halves-listed : (z : ℕ) (out' : List ℕ) → Listed write (half P (j - 1) r (c + d)) q z mid out' → Listed write (survey P j r c) p z out out'
-        halves-listed z out' t =
-            subst (λ ps. Listed write ps p z out out') (sym halves_are)
-            (both-listed write (half P (j - 1) r c) (half P (j - 1) r (c + d)) p out both-roomy q mid s z out' t)
-
--- ---- a half of m rows and n columns
-module _ {P : Positions} {r c i j : ℕ} {write : Bool} {p : ℕ} {out : List ℕ} (H : Half P r c i j write p out) (m n : ℕ) (em : m ≡ 2 ^ i) (en : n ≡ 2 ^ j) where
-  -- it has twice as many rows as columns
-  taller : i ≡ suc j
-  taller = omega (arith, H.sides)
-
-  -- so its rows are a power too
-  tall : m ≡ 2 ^ suc j
-  tall = em ∙ ap (λ k. 2 ^ k) taller
-
-  -- it is on the grid
-  pub half-on : OnGrid r c m n
-  half-on = subst (λ k. OnGrid r c k n) (sym em) (subst (λ k. OnGrid r c (2 ^ i) k) (sym en) H.on)
-
-  module _ (one : one_valued P r c m n ≡ true) (v : Bool) (ev : v ≡ P (cell r c)) where
-    -- with one value it is a piece
-    half-piece : half P j r c ≡ piece r c m n v
-    half-piece =
-        half_is P r c j (sym (ap₂ (one_valued P r c) tall en) ∙ one)
-        ∙ ap₂ (λ x y. piece r c x y (P (cell r c))) (sym tall) (sym en)
-        ∙ ap (piece r c m n) (sym ev)
-
-    -- there is room for it
-    pub half-roomy : Roomy write (piece r c m n v) p out
-    half-roomy = subst (λ ps. Roomy write ps p out) half-piece H.room
-
-    -- and it can be listed
-    pub half-listed : (q : ℕ) (out' : List ℕ) → Listed write (piece r c m n v) p q out out' → Listed write (half P j r c) p q out out'
-    half-listed q out' t = subst (λ ps. Listed write ps p q out out') (sym half-piece) t
-
-  module _ (two : one_valued P r c m n ≡ false) (d : ℕ) (ed : d ≡ 2 ^ (i - 1)) where
-    -- with two it has two squares: the exponent of their rows
-    even : i - 1 ≡ j
-    even = omega (arith, H.sides)
-
-    -- as many as there are columns
-    wide : d ≡ 2 ^ j
-    wide = ed ∙ ap (λ k. 2 ^ k) even
-
-    -- each has half of the rows
-    parted : 2 ^ i ≡ d + d
-    parted = ap (λ k. 2 ^ k) taller ∙ two-pow-succ j ∙ ap₂ ◌+◌ (sym wide) (sym wide)
-
-    -- its pieces are those of both
-    squares-are : half P j r c ≡ survey P j r c ++ survey P j (r + d) c
-    squares-are =
-        half-two P r c j (sym (ap₂ (one_valued P r c) tall en) ∙ two) ∙ ap (λ k. survey P j r c ++ survey P j (r + k) c) (sym wide)
-
-    -- for which there is room
-    pair-roomy : Roomy write (survey P j r c ++ survey P j (r + d) c) p out
-    pair-roomy = subst (λ ps. Roomy write ps p out) squares-are H.room
-
-    -- where the lower one begins
-    pub lower-few : r + d < 65536
-    lower-few = omega (arith, H.on.low, parted, pow_pos j, wide)
-
-    -- the upper one can be listed
-    pub upper-square : Square P r c (i - 1) j write p out
-    upper-square = record {
-      sides = even;
-      few = omega (arith, H.sides, H.few);
-      on = record {
-        some = pow_pos (i - 1);
-        wide = H.on.wide;
-        low = omega (arith, H.on.low, parted, ed);
-        within = H.on.within;
-      };
-      room = first-roomy write (survey P j r c) (survey P j (r + d) c) p out pair-roomy;
+    half-on : (x : ℕ) → x + d ≤ c + 2 ^ j → OnGrid r x (2 ^ i) (2 ^ (j - 1))
+    half-on x l = record {
+      some = h.on.some;
+      wide = pow_pos (j - 1);
+      low = h.on.low;
+      within = omega (arith, h.on.within, ed);
     }
 
-    module _ (q : ℕ) (mid : List ℕ) (s : Listed write (survey P j r c) p q out mid) where
-      -- and then the lower one
-      pub lower-square : Square P (r + d) c (i - 1) j write q mid
-      lower-square = record {
-        sides = even;
-        few = upper-square.few;
-        on = record {
-          some = pow_pos (i - 1);
-          wide = H.on.wide;
-          low = omega (arith, H.on.low, parted, ed);
-          within = H.on.within;
-        };
-        room = second-roomy write (survey P j r c) (survey P j (r + d) c) p out pair-roomy q mid s;
-      }
+    pub left-halved : Halved r c i (j - 1)
+    left-halved = record { low = omega arith; high = omega arith; few = h.few; on = half-on c (omega (arith, columns-halved)) }
 
-      -- so all is
-      pub squares-listed : (z : ℕ) (out' : List ℕ) → Listed write (survey P j (r + d) c) q z mid out' → Listed write (half P j r c) p z out out'
-      squares-listed z out' t =
-          subst (λ ps. Listed write ps p z out out') (sym squares-are)
-          (both-listed write (survey P j r c) (survey P j (r + d) c) p out pair-roomy q mid s z out' t)
+    pub right-halved : Halved r (c + d) i (j - 1)
+    right-halved = record { low = omega arith; high = omega arith; few = h.few; on = half-on (c + d) (omega (arith, columns-halved)) }
+
+  -- those of the half of one have half of the rows
+  module _ (e : i ≡ j → ⊥) (d : ℕ) (ed : d ≡ 2 ^ (i - 1)) where
+    rows-halved : 2 ^ i ≡ d + d
+    rows-halved =
+        let f : i ≡ suc (i - 1) = omega arith in
+        ap (λ k. 2 ^ k) f ∙ two-pow-succ (i - 1) ∙ ap₂ ◌+◌ (sym ed) (sym ed)
+
+    less : i - 1 ≡ j
+    less = go (ℕ_discrete i j)
+      where
+        go : Dec (i ≡ j) → i - 1 ≡ j
+        go (yes f) = absurd (e f)
+        go (no n) = omega (arith, h.low, h.high)
+
+    square-on : (x : ℕ) → x + d ≤ r + 2 ^ i → OnGrid x c (2 ^ (i - 1)) (2 ^ j)
+    square-on x l = record {
+      some = pow_pos (i - 1);
+      wide = h.on.wide;
+      low = omega (arith, h.on.low, ed);
+      within = h.on.within;
+    }
+
+    pub upper-halved : Halved r c (i - 1) j
+    upper-halved = record { low = omega (arith, less); high = omega (arith, less); few = omega (arith, h.few); on = square-on r (omega (arith, rows-halved)) }
+
+    pub lower-halved : Halved (r + d) c (i - 1) j
+    lower-halved = record { low = omega (arith, less); high = omega (arith, less); few = omega (arith, h.few); on = square-on (r + d) (omega (arith, rows-halved)) }
 
 -- ---- how many words there are
 -- the piece, or its halves
@@ -270,5 +207,5 @@ survey-most P (suc k) r c =
     )
 
 -- so those of a square of side 2^8 at most can be counted
-pub survey-roomy : (P : Positions) (k r c : ℕ) (out : List ℕ) → k ≤ 8 → Roomy false (survey P k r c) 0 out
-survey-roomy P k r c out h = omega (arith, survey-most P k r c, pow-le-pow_right {n = 4} (omega arith) {i = k} {j = 8} h)
+pub survey-few : (P : Positions) (k r c : ℕ) → k ≤ 8 → length (survey P k r c) ≤ 327680
+survey-few P k r c h = omega (arith, survey-most P k r c, pow-le-pow_right {n = 4} (omega arith) {i = k} {j = 8} h)

@@ -5,7 +5,7 @@ use Rattle.changes.specs.Edits.{changed_to}
 use Rattle.std.specs.Prelude.{Option, None}
 use Rattle.changes.specs.declared.edit.Edit.{Edit}
 use Prim.Native.Nat.{ℕ, suc, ◌+◌, ◌-◌, ◌≤◌, ◌<◌}
-use mathlib.Core.Path.{◌≡◌, refl, sym, ap, ◌∙◌, subst}
+use mathlib.Core.Path.{◌≡◌, refl, sym, ap, ◌∙◌, subst, subst₂}
 use mathlib.Core.Logic.{◌⊎◌, inl, inr}
 use mathlib.Core.Bool.{Bool, true, false, cond}
 use mathlib.Core.List.{List, [], ◌∷◌}
@@ -14,7 +14,7 @@ use native.Mathlib.Decide.{ℕ_discrete}
 use lib.ListN.{length}
 use Rattle.model.specs.declared.Count.{Count}
 use Rattle.model.specs.Numbers.{size}
-use Rattle.model.specs.Positions.{Positions, stretches}
+use Rattle.model.specs.Positions.{Positions, set_range, stretches}
 use Rattle.model.proofs.Runs.{stretches-cong}
 use Rattle.model.proofs.After.{set-cong}
 use Rattle.run_index.specs.Cells.{cell_at}
@@ -62,17 +62,17 @@ limited-by {w} {s} {u} {h} l m =
     }
 
 -- ---- one row
-module _ {w w' : List ℕ} {h : World} {limit : ℕ} {q : Rect} {r : ℕ} {v : Bool} (e : Option Edit) (ed : Edited w w' h limit (set_row q r v (held_in w h)) e) where
+module _ {w w' : List ℕ} {h : World} {limit a b : ℕ} {v : Bool} (e : Option Edit) (ed : Edited w w' h limit (set_range a (suc b - a) v (held_in w h)) e) where
   -- it was refused
-  pub row-refused : e ≡ None → SetsRow w w' h h limit q r v
+  pub row-refused : e ≡ None → SetsRow w w' h h limit a b v
   row-refused p s l =
-      let y = subst (Edited w w' h limit (set_row q r v (held_in w h))) p ed in
-      subst (λ (u : List ℕ). RowSet w u s h h limit q r v) (sym y.1) (record { limited = l; still = still-same; either = inl (y.0, λ x _. refl) })
+      let y = subst (Edited w w' h limit (set_range a (suc b - a) v (held_in w h))) p ed in
+      subst (λ (u : List ℕ). RowSet w u s h h limit a b v) (sym y.1) (record { limited = l; still = still-same; either = inl (y.0, λ x _. refl) })
 
   -- it was set
-  pub row_made : {k : World} {c : Count} → e ≡ changed_to k c → SetsRow w w' h k limit q r v
+  pub row_made : {k : World} {c : Count} → e ≡ changed_to k c → SetsRow w w' h k limit a b v
   row_made p s l =
-      let y = subst (Edited w w' h limit (set_row q r v (held_in w h))) p ed in
+      let y = subst (Edited w w' h limit (set_range a (suc b - a) v (held_in w h))) p ed in
       let be = y.1 s limit l y.0 in
       record { limited = became-limited l be y.0; still = be.still; either = inr be.shows.holds }
 
@@ -108,7 +108,7 @@ row-twice q r v P o x = go (in_row q r x)
     go (over l) = row-over q r v (set_row q r v P) x o l
 
 module _ {w w' w'' : List ℕ} {s : Share} {h k k' : World} {limit : ℕ} {q : Rect} {v : Bool} {r : ℕ} (on : OnPlane q) (n : Narrow q) (from : q.top ≤ r) (low : r ≤ q.bottom)
-    (p : Passed w w' s h k limit q v r) (t : RowSet w' w'' s k k' limit q r v) where
+    (p : Passed w w' s h k limit q v r) (t : RowSet w' w'' s k k' limit (cell r q.left) (cell r q.right) v) where
   abbrev P : Positions
   P = held_in w h
 
@@ -182,9 +182,11 @@ module _ {w w' w'' : List ℕ} {s : Share} {h k k' : World} {limit : ℕ} {q : R
       }
 
 -- the same, whatever share the world has
-pub passed-next : {w w' w'' : List ℕ} {h k k' : World} {limit : ℕ} {q : Rect} {v : Bool} {r : ℕ} → OnPlane q → Narrow q → q.top ≤ r → r ≤ q.bottom
-    → Passes w w' h k limit q v r → SetsRow w' w'' k k' limit q r v → Passes w w'' h k' limit q v (r + 1)
-passed-next on n from low p t s l = let g = p s l in passed-row on n from low g (t s g.limited)
+pub passed-next : {w w' w'' : List ℕ} {h k k' : World} {limit : ℕ} {q : Rect} {v : Bool} {r a b : ℕ} → OnPlane q → Narrow q → q.top ≤ r → r ≤ q.bottom
+    → (a ≡ cell r q.left) × (b ≡ cell r q.right) → Passes w w' h k limit q v r → SetsRow w' w'' k k' limit a b v → Passes w w'' h k' limit q v (r + 1)
+passed-next {w' = w'} {w'' = w''} {k = k} {k' = k'} {limit = limit} {v = v} on n from low at p t s l =
+    let g = p s l in
+    passed-row on n from low g (subst₂ (λ a b. RowSet w' w'' s k k' limit a b v) at.0 at.1 (t s g.limited))
 
 -- ---- one pass
 -- it sets the rectangle, if no state on the way has too many runs

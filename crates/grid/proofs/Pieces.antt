@@ -1,77 +1,48 @@
--- Words of pieces put into a slice, or only counted: a piece, and lists one after the other. Assumes nothing.
-use Prim.Native.Nat.{ℕ, suc, ◌+◌, ◌^◌, ◌≤◌, ◌<◌}
-use mathlib.Core.Path.{◌≡◌, refl, sym, ap, ap₂, ◌∙◌, subst}
+-- Words of pieces put into a slice, where it has room for them: a piece, and lists one after the other. Assumes nothing.
+use Prim.Native.Nat.{ℕ, ◌+◌, ◌-◌, ◌≤◌, ◌^◌}
+use mathlib.Core.Path.{◌≡◌, refl, ap₂, ◌∙◌}
 use mathlib.Core.Bool.{Bool, true, false}
 use mathlib.Core.List.{List, [], ◌∷◌, ◌++◌}
 use native.Mathlib.Omega.{arith}
-use lib.ListN.{length, set, length-append}
+use lib.ListN.{length, length-append}
+use lib.Seq.{drop-drop}
+use borrow.Rule.Slice.PartMut.{put_mid}
+use mir.Val.{bool_byte}
 use Rattle.model.specs.Positions.{one_if}
-use Rattle.written.specs.Placed.{placed}
-use Rattle.written.proofs.Placing.{sets-placed, placed-length, placed-placed}
 use Rattle.model.specs.Grid.{piece}
-use Rattle.grid.specs.Surveys.{room_of, Roomy, listing, Listed}
+use Rattle.written.specs.Placed.{placed}
+use Rattle.written.proofs.Placing.{placed-placed, placed-length}
+use Rattle.grid.specs.Surveys.{Listed}
 
--- ---- one piece
--- five words, one after the other
-pub five-put : (p a b c d e : ℕ) (out : List ℕ) → p + 5 ≤ length out
-    → set (set (set (set (set out p a) (p + 1) b) (p + 2) c) (p + 3) d) (p + 4) e ≡ placed p (a ∷ b ∷ c ∷ d ∷ e ∷ []) out
-five-put p a b c d e out room =
-    let one : p + 1 ≡ suc p = omega arith in
-    let two : p + 2 ≡ suc (suc p) = omega arith in
-    let three : p + 3 ≡ suc (suc (suc p)) = omega arith in
-    let four : p + 4 ≡ suc (suc (suc (suc p))) = omega arith in
-    rw (one, two, three, four) (sets-placed (a ∷ b ∷ c ∷ d ∷ e ∷ []) out p room)
+-- five words, put in place
+five-placed : (out ps : List ℕ) (p : ℕ) → length ps ≡ 5 → put_mid p (p + 5 - p) out ps ≡ placed p ps out
+unfolding placed
+five-placed out ps p l =
+    let e : p + 5 - p ≡ 5 = omega arith in
+    rw (e, l, drop-drop 5 p out) refl
 
--- what is written has room in the slice
-pub room-written : (write : Bool) (n p : ℕ) (out : List ℕ) → write ≡ true → p + n ≤ room_of write out → p + n ≤ length out
-room-written write n p out e h = subst (λ b. p + n ≤ room_of b out) e h
+-- a piece
+pub piece-listed : (r c i j p : ℕ) (v : Bool) (out : List ℕ) {m n b : ℕ} {ws : List ℕ} → p + 5 ≤ length out → m ≡ 2 ^ i → n ≡ 2 ^ j → b ≡ bool_byte v
+    → ws ≡ r ∷ c ∷ m ∷ n ∷ b ∷ [] → Listed (piece r c (2 ^ i) (2 ^ j) v) p (p + 5) out (put_mid p (p + 5 - p) out ws)
+piece-listed r c i j p v out {m} {n} {b} {ws} room em en eb ew = rw (ew ∙ is) (record {
+  next = refl;
+  long = rw (five-placed out (piece r c (2 ^ i) (2 ^ j) v) p refl) (placed-length p (piece r c (2 ^ i) (2 ^ j) v) out room);
+  slice = λ _. five-placed out (piece r c (2 ^ i) (2 ^ j) v) p refl;
+})
+  where
+    word : (w : Bool) → bool_byte w ≡ one_if w
+    word true = refl
+    word false = refl
 
--- so where the next ones go is a word
-pub room_next : (write : Bool) (n p : ℕ) (out : List ℕ) → length out < 2 ^ 64 → p + n ≤ room_of write out → p + n < 2 ^ 64
-room_next true n p out l h = omega arith
-room_next false n p out l h = omega arith
+    is : r ∷ c ∷ m ∷ n ∷ b ∷ [] ≡ piece r c (2 ^ i) (2 ^ j) v
+    is = rw (em, en, eb, word v) refl
 
-module _ (write value : Bool) (r c m n p : ℕ) (out : List ℕ) where
-  -- a piece is put
-  pub piece-put : (b : ℕ) (out' : List ℕ) → write ≡ true → b ≡ one_if value → out' ≡ placed p (r ∷ c ∷ m ∷ n ∷ b ∷ []) out
-      → Listed write (piece r c m n value) p (p + 5) out out'
-  piece-put b out' w e s = record {
-    next = refl;
-    slice = s ∙ ap (λ k. placed p (r ∷ c ∷ m ∷ n ∷ k ∷ []) out) e ∙ sym (ap (λ t. listing t (piece r c m n value) p out) w);
-  }
-
-  -- or only counted
-  pub piece-counted : write ≡ false → Listed write (piece r c m n value) p (p + 5) out out
-  piece-counted w = record { next = refl; slice = sym (ap (λ t. listing t (piece r c m n value) p out) w) }
-
--- ---- one list after the other
-module _ (write : Bool) (xs ys : List ℕ) (p : ℕ) (out : List ℕ) (room : Roomy write (xs ++ ys) p out) where
-  -- there is room for the first one
-  pub first-roomy : Roomy write xs p out
-  first-roomy = omega (arith, room, length-append xs ys)
-
-  module _ (q : ℕ) (mid : List ℕ) (s : Listed write xs p q out mid) where
-    -- which leaves the slice as long
-    listed-long : length mid ≡ length out
-    listed-long = go write room s.slice
-      where
-        go : (w : Bool) → Roomy w (xs ++ ys) p out → mid ≡ listing w xs p out → length mid ≡ length out
-        go true r e = ap length e ∙ placed-length p xs out (omega (arith, length-append xs ys))
-        go false r e = ap length e
-
-    -- and room for the second one
-    pub second-roomy : Roomy write ys q mid
-    second-roomy = go write room
-      where
-        go : (w : Bool) → Roomy w (xs ++ ys) p out → Roomy w ys q mid
-        go true r = omega (arith, length-append xs ys, s.next, listed-long)
-        go false r = omega (arith, length-append xs ys, s.next)
-
-    -- both put
-    pub both-listed : (z : ℕ) (out' : List ℕ) → Listed write ys q z mid out' → Listed write (xs ++ ys) p z out out'
-    both-listed z out' t = record { next = omega (arith, length-append xs ys, s.next, t.next); slice = go write room s.slice t.slice }
-      where
-        go : (w : Bool) → Roomy w (xs ++ ys) p out → mid ≡ listing w xs p out → out' ≡ listing w ys q mid → out' ≡ listing w (xs ++ ys) p out
-        go true r e f =
-            f ∙ ap₂ (λ (j : ℕ) (l : List ℕ). placed j ys l) s.next e ∙ placed-placed p xs ys out (omega (arith, length-append xs ys))
-        go false r e f = f ∙ e
+-- one list, and the next after it
+pub both-listed : (xs ys : List ℕ) {p q z : ℕ} {out mid out' : List ℕ} → Listed xs p q out mid → Listed ys q z mid out' → Listed (xs ++ ys) p z out out'
+both-listed xs ys {p} {q} {z} {out} s t = record {
+  next = omega (arith, length-append xs ys, s.next, t.next);
+  long = t.long ∙ s.long;
+  slice = λ h.
+      t.slice (omega (arith, s.long)) ∙ ap₂ (λ (j : ℕ) (l : List ℕ). placed j ys l) s.next (s.slice (omega (arith, t.next)))
+      ∙ placed-placed p xs ys out (omega (arith, s.next, t.next));
+}

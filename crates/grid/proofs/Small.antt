@@ -1,5 +1,5 @@
 -- All numbers that go over a rectangle row by row are small, so no sum of them leaves a word. Assumes nothing.
-use Prim.Native.Nat.{ℕ, zero, suc, ◌+◌, ◌-◌, ◌*◌, ◌≤◌}
+use Prim.Native.Nat.{ℕ, zero, suc, ◌+◌, ◌-◌, ◌*◌, ◌≤◌, ◌<◌}
 use mathlib.Core.Bool.{Bool, true, false, cond, ◌&&◌, beq}
 use mathlib.Core.List.{List, [], ◌∷◌}
 use native.Mathlib.Omega.{arith}
@@ -13,7 +13,6 @@ use Rattle.model.specs.declared.Rect.{Rect}
 use Rattle.model.specs.Grid.{cell}
 use Rattle.grid.specs.Surveys.{OnPlane}
 use Rattle.grid.specs.Rows.{row_sum, row_count, row_gain, row_loss}
-use Rattle.grid.proofs.Cells.{wide}
 
 -- ---- runs
 -- one position more makes one run more at most
@@ -35,15 +34,15 @@ runs-most P v a (suc n) = go (beq (P a) v) (runs-most P v (suc a) n)
     go true h = omega (arith, put-most a (runs_in P v (suc a) n))
     go false h = omega arith
 
+-- so a stretch of the plane has few
+pub runs-few : (P : Positions) (a b : ℕ) → a ≤ b → b < 4294967296 → run_count P true a (suc b - a) ≤ 4294967296
+runs-few P a b o l = omega (arith, runs-most P true a (suc b - a))
+
 -- ---- rows
 module _ (q : Rect) (on : OnPlane q) (P : Positions) where
   -- the cells of a row
   pub count-few : (r : ℕ) → row_count q P r ≤ 65536
   count-few r = omega (arith, count_most P true (cell r q.left) (suc (cell r q.right) - cell r q.left), on.within)
-
-  -- those of a rectangle of full width
-  pub wide-few : count P true (cell q.top q.left) (wide q) ≤ 4294967296
-  wide-few = omega (arith, count_most P true (cell q.top q.left) (wide q), on.within, on.low)
 
   -- the runs of a row
   pub inside-few : (r : ℕ) → run_count P true (cell r q.left) (suc (cell r q.right) - cell r q.left) ≤ 65536

@@ -14,10 +14,6 @@ use Rattle.model.specs.Grid.{cell, within, set_rect}
 abbrev pub Narrow : Rect → Type 0
 Narrow q = q.right < q.left + 65535
 
--- r is one of its rows
-abbrev pub RowOf : Rect → ℕ → Type 0
-RowOf q r = (q.top ≤ r) × (r ≤ q.bottom)
-
 -- row r gets the value v
 abbrev pub set_row : Rect → ℕ → Bool → Positions → Positions
 set_row q r v P = set_range (cell r q.left) (suc (cell r q.right) - cell r q.left) v P
@@ -35,15 +31,20 @@ row_sum f r (suc m) = row_sum f r m + f (r + m)
 abbrev pub row_count : Rect → Positions → ℕ → ℕ
 row_count q P r = count P true (cell r q.left) (suc (cell r q.right) - cell r q.left)
 
--- how many runs a set of row r to v adds: those that are cut at its ends, and itself if it is held
-abbrev pub row_gain : Rect → Bool → Positions → ℕ → ℕ
-row_gain q v P r = one_if (goes_on P (cell r q.left)) + one_if (goes_on P (suc (cell r q.right))) + one_if v
+-- how many runs a set of a..b to v adds: those that are cut at its ends, and itself if it is held
+abbrev pub gain : Bool → Positions → ℕ → ℕ → ℕ
+gain v P a b = one_if (goes_on P a) + one_if (goes_on P (suc b)) + one_if v
 
--- and how many it takes: those in the row, and, if it is held, those of its neighbours
+-- and how many it takes: those in it, and, if it is held, those of its neighbours
+abbrev pub loss : Bool → Positions → ℕ → ℕ → ℕ
+loss v P a b = run_count P true a (suc b - a) + one_if (held_below P a && v) + one_if (v && held_above P b)
+
+-- those of row r
+abbrev pub row_gain : Rect → Bool → Positions → ℕ → ℕ
+row_gain q v P r = gain v P (cell r q.left) (cell r q.right)
+
 abbrev pub row_loss : Rect → Bool → Positions → ℕ → ℕ
-row_loss q v P r =
-    run_count P true (cell r q.left) (suc (cell r q.right) - cell r q.left) + one_if (held_below P (cell r q.left) && v)
-    + one_if (v && held_above P (cell r q.right))
+row_loss q v P r = loss v P (cell r q.left) (cell r q.right)
 
 -- to set row r takes no run away
 abbrev pub Rises : Rect → Bool → Positions → ℕ → Type 0
@@ -53,16 +54,16 @@ Rises q v P r = stretches P ≤ stretches (set_row q r v P)
 abbrev pub WayFits : Rect → Bool → Positions → ℕ → Type 0
 WayFits q v P limit = (r : ℕ) → q.top ≤ r → r ≤ q.bottom → stretches (set_before q (suc r) v P) ≤ limit
 
--- the world h became k: all is as it was, where row r would leave more runs than the limit, else row r is set
-pub record RowSet (w w' : List ℕ) (s : Share) (h k : World) (limit : ℕ) (q : Rect) (r : ℕ) (v : Bool) : Type 0 where
+-- the world h became k: all is as it was, where a..b, set to v, would leave more runs than the limit, else it is set
+pub record RowSet (w w' : List ℕ) (s : Share) (h k : World) (limit a b : ℕ) (v : Bool) : Type 0 where
   pub limited : Limited w' s k limit
   pub still : Still w w' s
-  pub either : ((limit < stretches (set_row q r v (held_in w h))) × ((x : ℕ) → x < size → held_in w' k x ≡ held_in w h x))
-      ⊎ ((x : ℕ) → x < size → held_in w' k x ≡ set_row q r v (held_in w h) x)
+  pub either : ((limit < stretches (set_range a (suc b - a) v (held_in w h))) × ((x : ℕ) → x < size → held_in w' k x ≡ held_in w h x))
+      ⊎ ((x : ℕ) → x < size → held_in w' k x ≡ set_range a (suc b - a) v (held_in w h) x)
 
 -- whatever share the world has
-abbrev pub SetsRow : List ℕ → List ℕ → World → World → ℕ → Rect → ℕ → Bool → Type 0
-SetsRow w w' h k limit q r v = (s : Share) → Limited w s h limit → RowSet w w' s h k limit q r v
+abbrev pub SetsRow : List ℕ → List ℕ → World → World → ℕ → ℕ → ℕ → Bool → Type 0
+SetsRow w w' h k limit a b v = (s : Share) → Limited w s h limit → RowSet w w' s h k limit a b v
 
 -- the world h became k, and the rows before row r were passed: to set one of them takes no run away. With all rows set both are the same. If
 -- no state on the way has too many runs, all rows that were passed are set

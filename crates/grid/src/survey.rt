@@ -1,165 +1,122 @@
 // Surveys of a grid: a square is halved by column, then by row, in turn, until each piece has one value.
-ghost use Rattle.std.specs.Prelude.{◌≡◌, ◌+◌, ◌^◌, ◌≤◌, ◌<◌, length, [], ◌∷◌};
-ghost use Rattle.model.specs.Positions.{one_if};
+ghost use Rattle.std.specs.Prelude.{◌≡◌, ◌+◌, ◌^◌, ◌≤◌, ◌<◌, length};
 ghost use Rattle.store.specs.Layout.{held_in};
 ghost use Rattle.store.specs.Soundness.{Stands};
-ghost use Rattle.written.specs.Placed.{placed};
 ghost use Rattle.model.specs.Grid.{cell, one_valued, piece, survey};
-ghost use Rattle.grid.specs.Surveys.{OnGrid, Listed, Roomy, Square, Half, half, RowAfter, Surveyed};
+ghost use Rattle.grid.specs.Surveys.{OnGrid, Listed, Surveyed};
+ghost use Rattle.grid.specs.Blocks.{pieces, Halves};
 
 use crate::ROW;
+use crate::block::{Block, Corner};
 use model::Logical;
 use store::World;
 
-// 2^i rows or columns.
-fn side(i: u64) -> u64
-    requires { i ≤ 8 }
-    ensures { result ≡ 2 ^ i }
-{
-    1 << i
-}
-
 // The value of a cell.
-fn value_at(words: &[u64], h: World, row: u64, column: u64) -> bool
+fn value_at(words: &[u64], h: World, at: Corner) -> bool
     requires stands { Stands words.now h }
-    requires column_bound { cell row column < 4294967296 }
-    ensures { result ≡ held_in words.now h (cell row column) }
+    requires at_bound { cell at.row at.column < 4294967296 }
+    ensures { result ≡ held_in words.now h (cell at.row at.column) }
 {
-    let x = row * ROW + column;
+    let x = at.row * ROW + at.column;
     reports::logical::get(words, h, Logical(x))
 }
 
 // Whether all cells have one value: in each row the next position of the other value is beyond it. Rows before that position are passed at
 // once.
-fn one_valued(words: &[u64], h: World, row: u64, column: u64, rows: u64, columns: u64) -> bool
-    requires stands { Stands words.now h }
-    requires on_grid { OnGrid row column rows columns }
-    ensures { result ≡ one_valued (held_in words.now h) row column rows columns }
+fn one_valued(words: &[u64], h: World, b: Block) -> bool
+    requires { Stands words.now h }
+    ensures { result ≡ one_valued (held_in words.now h) b.corner.row b.corner.column (2 ^ b.i) (2 ^ b.j) }
 {
-    let value = value_at(words, h, row, column);
-    let mut r = row;
-    while r < row + rows {
-        let at = r * ROW + column;
-        let n = reports::logical::next(words, h, Logical(at), !value);
-        match n {
-            None => return true,
-            Some(y) => {
-                if y < at + columns {
-                    return false;
-                }
-                r = row_after(r, y);
-            }
+    let value = value_at(words, h, b.corner);
+    let columns = b.columns();
+    let end = b.corner.row + b.rows();
+    let mut r = b.corner.row;
+    while r < end {
+        let at = r * ROW + b.corner.column;
+        let Some(y) = reports::logical::next(words, h, Logical(at), !value) else {
+            return true;
+        };
+        if y < at + columns {
+            return false;
         }
+        r = (y / ROW).max(r + 1);
     }
     true
 }
 
-// The row after row r, or that of the position y, if it is further on.
-fn row_after(r: u64, y: u64) -> u64
-    requires { r < 65536 }
-    ensures { RowAfter r y result }
+// The halves of a block that is no single cell: the left one and the right one of a square, else the upper one and the lower one.
+fn halves(b: Block) -> (Block, Block)
+    requires { 1 ≤ b.i }
+    ensures { Halves b result.0 result.1 }
 {
-    let below = y / ROW;
-    if r < below { below } else { r + 1 }
-}
-
-// Five words go to a slice from `at` on.
-fn put_words(out: &mut [u64], at: usize, row: u64, column: u64, rows: u64, columns: u64, bit: u64)
-    requires { at + 5 ≤ length out.old }
-    ensures { out.new ≡ placed at (row ∷ column ∷ rows ∷ columns ∷ bit ∷ []) out.old }
-{
-    out[at] = row;
-    out[at + 1] = column;
-    out[at + 2] = rows;
-    out[at + 3] = columns;
-    out[at + 4] = bit;
-}
-
-// A value as a word.
-fn bit_of(value: bool) -> u64
-    ensures { result ≡ one_if value }
-{
-    if value { 1 } else { 0 }
-}
-
-// A piece goes to a slice from `at` on, or is only counted: its first row and column, its rows and columns, and its value.
-fn put_piece(
-    out: &mut [u64],
-    at: usize,
-    row: u64,
-    column: u64,
-    rows: u64,
-    columns: u64,
-    value: bool,
-    write: bool,
-) -> usize
-    requires { Roomy write (piece row column rows columns value) at out.old }
-    ensures { Listed write (piece row column rows columns value) at result out.old out.new }
-{
-    if write {
-        let bit = bit_of(value);
-        put_words(out, at, row, column, rows, columns, bit);
-        return at + 5;
+    let Block { corner, i, j } = b;
+    if i == j {
+        let left = Block {
+            corner,
+            i,
+            j: j - 1,
+        };
+        let column = corner.column + left.columns();
+        let corner = Corner { column, ..corner };
+        return (
+            left,
+            Block {
+                corner,
+                i,
+                j: j - 1,
+            },
+        );
     }
-    at + 5
+    let upper = Block {
+        corner,
+        i: i - 1,
+        j,
+    };
+    let row = corner.row + upper.rows();
+    let corner = Corner { row, ..corner };
+    (
+        upper,
+        Block {
+            corner,
+            i: i - 1,
+            j,
+        },
+    )
 }
 
-// The pieces of a square of 2^i rows and 2^j columns go to a slice from `at` on, or are only counted: the square itself, if it has one value,
-// else those of its left half and of its right one. Comes back where the next ones go.
-#[cycle(by_column_by_row)]
-fn by_column(
-    words: &[u64],
-    h: World,
-    row: u64,
-    column: u64,
-    i: u64,
-    j: u64,
-    out: &mut [u64],
-    at: usize,
-    write: bool,
-) -> usize
+// A piece goes to a slice from `at` on, where that has room: its first row and column, its rows and columns, and its value. Returns where the
+// next one goes.
+fn put_piece(out: &mut [u64], at: usize, b: Block, value: bool) -> usize
+    requires { at + 5 < 2 ^ 64 }
+    ensures { Listed (piece b.corner.row b.corner.column (2 ^ b.i) (2 ^ b.j) value) at result out.old out.new }
+{
+    let next = at + 5;
+    if next <= out.len() {
+        out[at..next].copy_from_slice(&[
+            b.corner.row,
+            b.corner.column,
+            b.rows(),
+            b.columns(),
+            u64::from(value),
+        ]);
+    }
+    next
+}
+
+// The pieces of a block go to a slice from `at` on, where that has room: the block itself, if it has one value, else those of its halves.
+// Returns where the next ones go.
+fn put_pieces(words: &[u64], h: World, b: Block, out: &mut [u64], at: usize) -> usize
     requires stands { Stands words.now h }
-    requires square { Square (held_in words.now h) row column i j write at out.old }
-    ensures { Listed write (survey (held_in words.now h) j row column) at result out.old out.new }
+    requires room { at + length (pieces (held_in words.now h) b) < 2 ^ 64 }
+    ensures { Listed (pieces (held_in words.now h) b) at result out.old out.new }
 {
-    let rows = side(i);
-    let columns = side(j);
-    if one_valued(words, h, row, column, rows, columns) {
-        let value = value_at(words, h, row, column);
-        return put_piece(out, at, row, column, rows, columns, value, write);
+    if one_valued(words, h, b) {
+        let value = value_at(words, h, b.corner);
+        return put_piece(out, at, b, value);
     }
-    let right = column + side(j - 1);
-    let mid = by_row(words, h, row, column, i, j - 1, out, at, write);
-    by_row(words, h, row, right, i, j - 1, out, mid, write)
-}
-
-// The pieces of a half of a square, 2^i rows of 2^j columns: the half itself, if it has one value, else those of its upper half and of its
-// lower one.
-#[cycle(by_column_by_row)]
-fn by_row(
-    words: &[u64],
-    h: World,
-    row: u64,
-    column: u64,
-    i: u64,
-    j: u64,
-    out: &mut [u64],
-    at: usize,
-    write: bool,
-) -> usize
-    requires stands { Stands words.now h }
-    requires half { Half (held_in words.now h) row column i j write at out.old }
-    ensures { Listed write (half (held_in words.now h) j row column) at result out.old out.new }
-{
-    let rows = side(i);
-    let columns = side(j);
-    if one_valued(words, h, row, column, rows, columns) {
-        let value = value_at(words, h, row, column);
-        return put_piece(out, at, row, column, rows, columns, value, write);
-    }
-    let lower = row + side(i - 1);
-    let mid = by_column(words, h, row, column, i - 1, j, out, at, write);
-    by_column(words, h, lower, column, i - 1, j, out, mid, write)
+    let (first, second) = halves(b);
+    let next = put_pieces(words, h, first, out, at);
+    put_pieces(words, h, second, out, next)
 }
 
 // How many words the survey of a square of side 2^k has.
@@ -169,8 +126,12 @@ pub fn due(words: &[u64], h: World, row: u64, column: u64, k: u64) -> usize
     requires on_grid { OnGrid row column (2 ^ k) (2 ^ k) }
     ensures { result ≡ length (survey (held_in words.now h) k row column) }
 {
-    let mut none: [u64; 1] = [0; 1];
-    by_column(words, h, row, column, k, k, &mut none, 0, false)
+    let square = Block {
+        corner: Corner { row, column },
+        i: k,
+        j: k,
+    };
+    put_pieces(words, h, square, &mut [], 0)
 }
 
 // The survey goes to the front of a slice.
@@ -181,5 +142,10 @@ pub fn put(words: &[u64], h: World, row: u64, column: u64, k: u64, out: &mut [u6
     requires column_in_bounds { length (survey (held_in words.now h) k row column) ≤ length out.old }
     ensures { Surveyed (survey (held_in words.now h) k row column) result out.old out.new }
 {
-    by_column(words, h, row, column, k, k, out, 0, true)
+    let square = Block {
+        corner: Corner { row, column },
+        i: k,
+        j: k,
+    };
+    put_pieces(words, h, square, out, 0)
 }

@@ -9,14 +9,15 @@ use mathlib.Core.Bool.{true}
 use mathlib.Core.List.{List, [], ◌∷◌, ◌++◌, append-nil}
 use native.Mathlib.Omega.{arith}
 use lib.ListN.{length, length-append, get_or}
+use lib.Seq.{get_or-append-add}
 use Rattle.model.specs.declared.Run.{Run}
 use Rattle.model.specs.declared.Count.{Count}
 use Rattle.model.specs.Numbers.{size}
-use Rattle.model.specs.Positions.{set_range, stretches}
+use Rattle.model.specs.Positions.{run, set_range, stretches}
 use Rattle.model.specs.RunList.{TouchesNone}
 use Rattle.model.specs.Deepest.{deepest_runs}
 use Rattle.model.proofs.Runs.{stretches-cong}
-use Rattle.model.proofs.Deepest.{deepest-length, deepest-apart}
+use Rattle.model.proofs.Deepest.{deepest-apart}
 use Rattle.run_index.specs.Tree.{Tree, leaf, node, runs, height, inorder, At}
 use Rattle.run_index.specs.Shape.{inserted, Sown}
 use Rattle.run_index.proofs.Trees.{node-some}
@@ -33,13 +34,9 @@ use Rattle.store.proofs.Reached.{kept-tree}
 use Rattle.store.proofs.Settling.{became-limited}
 use Rattle.store.proofs.Heights.{unturned-runs, standing-lower}
 use Rattle.changes.specs.Edits.{Edited, GrowsBy}
-use Rattle.heights.specs.Planting.{Pairs, MayPlant, tree_of, Grown, Shortest}
+use Rattle.heights.specs.Planting.{MayPlant, tree_of, Grown, Shortest}
 use Rattle.changes.proofs.Lists.{append-one}
 use Rattle.changes.proofs.SetRuns.{set-one-more}
-
--- the run that is read at twice its place
-pub pair_read : (ls : List ℕ) (n i at : ℕ) → at ≡ 2 * i → Pairs ls n → i < n → (get_or ls at 0 ≤ get_or ls (at + 1) 0) × (get_or ls (at + 1) 0 < size)
-pair_read ls n i at twice ps lt = rw twice (ps i lt)
 
 -- ---- whatever the runs are
 -- after i of them the world k has at most so many
@@ -54,7 +51,7 @@ no-root : {w : List ℕ} {g p : ℕ} (t : Tree) → At w g p t → p ≡ 0 → t
 no-root leaf h z = refl
 no-root (node n a b l r) h z = absurd (node-some h z)
 
-module _ {w : List ℕ} {s : Share} {h : World} {limit n : ℕ} {ls : List ℕ} (m : MayPlant w s h limit n ls) where
+module _ {w : List ℕ} {s : Share} {h : World} {limit : ℕ} {rs : List Run} (m : MayPlant w s h limit rs) where
   -- at first there is no run
   pub growing-none : Growing w w s limit 0 h
   growing-none = record {
@@ -120,11 +117,11 @@ pub record Deepening (w : List ℕ) (d i : ℕ) (k : World) : Type 0 where
 pub deepening-none : {w : List ℕ} {d : ℕ} {k : World} → tree_of w k ≡ leaf → Deepening w d 0 k
 deepening-none {d = d} z = record { xs = []; ys = deepest_runs d; is = refl; upto = refl; sown = z }
 
-module _ {w₀ w : List ℕ} {s : Share} {k : World} {limit n d i : ℕ} {ls : List ℕ}
-    (m : Shortest limit n d ls) (o : Growing w₀ w s limit i k) (g : Deepening w d i k) (lt : i < n) where
+module _ {w₀ w : List ℕ} {s : Share} {k : World} {limit d i : ℕ} {rs : List Run}
+    (m : Shortest limit d rs) (o : Growing w₀ w s limit i k) (g : Deepening w d i k) (lt : i < length rs) where
   -- one more is to come
   next : (r : Run) × (us : List Run) × (g.ys ≡ r ∷ us)
-  next = go g.ys (omega (arith, ap length g.is, deepest-length d, length-append g.xs g.ys, g.upto, m.many))
+  next = go g.ys (omega (arith, ap length g.is, ap length m.is, length-append g.xs g.ys, g.upto))
     where
       go : (ys : List Run) → 1 ≤ length ys → (r : Run) × (us : List Run) × (ys ≡ r ∷ us)
       go [] l = absurd (omega arith)
@@ -134,30 +131,28 @@ module _ {w₀ w : List ℕ} {s : Share} {k : World} {limit n d i : ℕ} {ls : L
   next-is : deepest_runs d ≡ g.xs ++ (next.0 ∷ next.1)
   next-is = g.is ∙ ap (λ (vs : List Run). g.xs ++ vs) next.2
 
-  module _ (a b : ℕ) (ea : a ≡ get_or ls (2 * i) 0) (eb : b ≡ get_or ls (2 * i + 1) 0) (ordered : a ≤ b) (below : b < size) where
-    -- the one word is its start
-    start-read : a ≡ next.0.start
-    start-read = ea ∙ ap (λ j. get_or ls (2 * j) 0) (sym g.upto) ∙ (m.spelled g.xs next.0 next.1 next-is).0
-
-    -- and the next one its end
-    end_read : b ≡ next.0.«end»
-    end_read = eb ∙ ap (λ j. get_or ls (2 * j + 1) 0) (sym g.upto) ∙ (m.spelled g.xs next.0 next.1 next-is).1
+  module _ (r : Run) (er : r ≡ get_or rs i (run 0 0)) (ordered : r.start ≤ r.«end») (below : r.«end» < size) where
+    -- it is the one that is read
+    next-read : r ≡ next.0
+    next-read =
+        let at : i ≡ length g.xs + 0 = omega (arith, g.upto) in
+        er ∙ ap₂ (λ l j. get_or l j (run 0 0)) (m.is ∙ next-is) at ∙ get_or-append-add g.xs (next.0 ∷ next.1) 0 (run 0 0)
 
     -- it touches no run of the tree
-    next-apart : TouchesNone a b (inorder (tree_of w k))
+    next-apart : TouchesNone r.start r.«end» (inorder (tree_of w k))
     next-apart =
-        rw (start-read, end_read)
+        subst (λ x. TouchesNone x.start x.«end» (inorder (tree_of w k))) (sym next-read)
         (sown-untouched next.0.start next.0.«end» leaf g.xs (tree_of w k) (deepest-apart d g.xs next.0 next.1 next-is) tt g.sown)
 
-    module _ (w' : List ℕ) (e : Option Edit) (ed : Edited w w' k limit (set_range a (suc b - a) true (held_in w k)) e) where
+    module _ (w' : List ℕ) (e : Option Edit) (ed : Edited w w' k limit (set_range r.start (suc r.«end» - r.start) true (held_in w k)) e) where
       -- so it is not refused
       pub next_fits : e ≡ None → ⊥
       next_fits q =
-          let f = subst (Edited w w' k limit (set_range a (suc b - a) true (held_in w k))) q ed in
-          omega (arith, f.0, next-few o a b ordered below, m.room)
+          let f = subst (Edited w w' k limit (set_range r.start (suc r.«end» - r.start) true (held_in w k))) q ed in
+          omega (arith, f.0, next-few o r.start r.«end» ordered below, m.room)
 
       -- but put into the tree
-      pub deepening-more : GrowsBy w w' k a b true e → (k' : World) (c : Count) → e ≡ changed_to k' c → Deepening w' d (i + 1) k'
+      pub deepening-more : GrowsBy w w' k r.start r.«end» true e → (k' : World) (c : Count) → e ≡ changed_to k' c → Deepening w' d (i + 1) k'
       deepening-more gr k' c q = record {
         xs = g.xs ++ (next.0 ∷ []);
         ys = next.1;
@@ -167,17 +162,17 @@ module _ {w₀ w : List ℕ} {s : Share} {k : World} {limit n d i : ℕ} {ls : L
       }
         where
           -- the run was put in
-          put : Sprouted w w' k.root k'.root a b
-          put = (subst (GrowsBy w w' k a b true) q gr).0 o.no-offset refl next-apart
+          put : Sprouted w w' k.root k'.root r.start r.«end»
+          put = (subst (GrowsBy w w' k r.start r.«end» true) q gr).0 o.no-offset refl next-apart
 
           -- as it stands in the list
           planted : tree_of w' k' ≡ inserted put.0 next.0.start next.0.«end» (tree_of w k)
-          planted = put.1 ∙ ap₂ (λ x y. inserted put.0 x y (tree_of w k)) start-read end_read
+          planted = put.1 ∙ ap (λ x. inserted put.0 x.start x.«end» (tree_of w k)) next-read
 
 -- after the last one the tree is as high as it is to be
-pub deepening-all : {w : List ℕ} {k : World} {limit n d i : ℕ} {ls : List ℕ} → Shortest limit n d ls → Deepening w d i k → i ≡ n → height (tree_of w k) ≡ d
+pub deepening-all : {w : List ℕ} {k : World} {limit d i : ℕ} {rs : List Run} → Shortest limit d rs → Deepening w d i k → i ≡ length rs → height (tree_of w k) ≡ d
 deepening-all {w} {k} {d = d} m g e =
-    let none : g.ys ≡ [] = go g.ys (omega (arith, ap length g.is, deepest-length d, length-append g.xs g.ys, g.upto, m.many)) in
+    let none : g.ys ≡ [] = go g.ys (omega (arith, ap length g.is, ap length m.is, length-append g.xs g.ys, g.upto)) in
     let all : g.xs ≡ deepest_runs d = sym (g.is ∙ ap (λ (vs : List Run). g.xs ++ vs) none ∙ append-nil g.xs) in
     deepest-height d (tree_of w k) (subst (λ (rs : List Run). Sown leaf rs (tree_of w k)) all g.sown)
   where

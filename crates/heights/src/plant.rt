@@ -3,30 +3,18 @@ ghost use Rattle.heights.specs.Planting.{Plantable, Plants};
 
 use model::Logical;
 use store::World;
+use written::runs::RunList;
 
-// Sets the first n runs of a list of words, start and end in turn, one by one, or None where one is refused. No call needs it: it says what a
-// caller who makes these sets gets.
-pub fn plant(words: &mut [u64], h: World, limit: u64, runs: &[u64], n: u64) -> Option<World>
-    requires { Plantable words.old h limit n runs.now }
-    ensures { Plants words.old words.new h limit n runs.now result }
+// Sets the runs of a list one by one, or None where one is refused. No call needs it: it says what a caller who makes these sets gets.
+pub fn plant<L: RunList + Copy>(words: &mut [u64], h: World, limit: u64, runs: L) -> Option<World>
+    requires { Plantable words.old h limit (L.runs runs) }
+    ensures { Plants words.old words.new h limit (L.runs runs) result }
 {
-    let mut i: u64 = 0;
-    let mut at: usize = 0;
     let mut k = h;
-    while i < n {
-        let start = runs[at];
-        let end = runs[at + 1];
-        let e = changes::edit::set(words, k, limit, Logical(start), Logical(end), true);
-        match e {
-            Some(x) => {
-                k = x.world;
-            }
-            None => {
-                return None;
-            }
-        }
-        i += 1;
-        at += 2;
+    for i in 0..runs.count() {
+        let r = runs.run(i);
+        let e = changes::edit::set(words, k, limit, Logical(r.start), Logical(r.end), true)?;
+        k = e.world;
     }
     Some(k)
 }

@@ -1,4 +1,4 @@
--- The bytes of a map as they are written: a source that stands at a position stands at the next ones too or can be moved there, the bits of
+-- The bytes of a map as they are written: a cursor that stands at a position stands at the next ones too or can be moved there, the bits of
 -- positions in one stretch are all ones or all zeros, those of the positions after it lie above them, and a slice with j bytes of a map in
 -- front has j + n after the store of n more. Assumes nothing.
 use Rattle.std.proofs.Common.{◌≡◌, ℕ, zero, suc, ◌+◌, ◌-◌, ◌*◌, ◌/◌, ◌%◌, ◌^◌, ◌<◌, ◌≤◌, min, Bool, true, false, List, length, get_or, set, sym, refl, ap}
@@ -9,36 +9,44 @@ use Rattle.model.specs.Positions.{Positions, one_if}
 use Rattle.model.specs.Bytes.{bits, map_length, map_of, into_front}
 use Rattle.model.proofs.Maps.{bits-bound, bits-cong, map_of-length, map_of-at}
 use Rattle.spare.proofs.Bytes.{bits_above}
-use Rattle.streams.specs.declared.source.View.{View}
-use Rattle.streams.specs.declared.source.Source.{Source}
-use Rattle.streams.specs.Reading.{Rooted, Stands, Reads}
-use Rattle.streams.specs.Sweeping.{ValueAt, Same, SameTo, CanMove, Moves}
-use Rattle.streams.proofs.Sweeps.{moves-within, moves-over}
-use Rattle.maps.specs.declared.write.Octet.{Octet}
-use Rattle.maps.specs.declared.write.Stored.{Stored}
+use Rattle.std.specs.Prelude.{Option, None, Some}
+use Rattle.model.specs.declared.Run.{Run}
+use Rattle.streams.specs.declared.source.Reader.{Reader}
+use Rattle.streams.specs.declared.sweep.Cursor.{Cursor}
+use Rattle.streams.specs.Sweeping.{AtHand, Points, ValueAt, Within, Same, SameTo, CanMove, Moves}
+use Rattle.streams.proofs.Sweeps.{moves-within, moves-none}
 use Rattle.maps.specs.Octets.{Stood, Octets, stores, Due, Done, StoresNext}
 use Rattle.maps.proofs.Storing.{stores-cong, stores_one, fronted, fronted-suc, fronted-more, fronted-length, fronted-all}
 
--- ---- where a source stands
+-- ---- where a cursor stands
 -- it can be moved to the next position
-next-move : {w path : List ℕ} {u : View} {s : Source} {x z : ℕ} {Q : Positions} → Rooted w u.root → Reads w path u s x Q → x ≤ z → z ≤ suc x → CanMove w path u s z x Q
-next-move {w} {path} {u} {s} {x} {z} {Q} ro r l m = record {
-  rooted = ro;
-  reads = r;
-  onward = l;
-  within = λ e. omega (arith, (subst (Stands w path u s x Q) e r).0.ahead);
-}
+near : (o : Option Run) (rest : Option Reader) (x z : ℕ) (Q : Positions) → AtHand o rest x Q → z ≤ suc x → Within 1 o z
+near None rest x z Q h l = tt
+near (Some r) rest x z Q h l = omega (arith, h.0.ahead)
 
--- it stands at the later positions of its run too, and at all later ones if it has no run
-reads-later : (w path : List ℕ) (u : View) (s : Source) (x z : ℕ) (Q : Positions) → Rooted w u.root → Reads w path u s x Q → x ≤ z → (s.live ≡ true → z ≤ s.«end») → Reads w path u s z Q
-reads-later w path u s x z Q ro r l m = go s.live refl
+next-move : (c : Cursor) (x z : ℕ) (Q : Positions) → Points c x Q → x ≤ z → z ≤ suc x → CanMove c z x Q
+next-move c x z Q h l m = record { points = h; onward = l; within = near c.run c.rest x z Q h m }
+
+-- a position before one that is not past a run is not past it either
+nearer : (o : Option Run) (y z : ℕ) → Within 0 o z → y ≤ z → Within 0 o y
+nearer None y z w l = tt
+nearer (Some r) y z w l = omega arith
+
+-- what is not past a run, or is the next position after it, is at most one past it
+next-to : (o : Option Run) (y z : ℕ) → Within 0 o z → y ≤ suc z → Within 1 o y
+next-to None y z w l = tt
+next-to (Some r) y z w l = omega arith
+
+-- it stands at the later positions of its run too, and at all later ones if no run is at hand
+points-later : (c : Cursor) (x z : ℕ) (Q : Positions) → Points c x Q → x ≤ z → Within 0 c.run z → Points c z Q
+points-later c x z Q h l m = go c.run refl m
   where
-    can : CanMove w path u s z x Q
-    can = record { rooted = ro; reads = r; onward = l; within = λ e. omega (arith, m e) }
+    can : CanMove c z x Q
+    can = record { points = h; onward = l; within = next-to c.run z z m (omega arith) }
 
-    go : (b : Bool) → s.live ≡ b → Reads w path u s z Q
-    go true e = moves-within w path u s z e (m e) x Q can
-    go false e = moves-over w path u s z e x Q can
+    go : (o : Option Run) → c.run ≡ o → Within 0 o z → Points c z Q
+    go None e w = moves-none c z e x Q can
+    go (Some r) e w = moves-within c z r e (omega arith) x Q can
 
 -- ---- the bits of a byte
 -- those of n positions of one value
@@ -59,132 +67,121 @@ alike-no n e = rw e (omega arith)
 pub alike-some : (n : ℕ) → n ≤ 8 → 1 ≤ (1 * 2 ^ n) % 2 ^ 64
 alike-some n l = rw (shl_exact {a = 1} 1 n 64 (omega arith) (omega arith)) (omega (arith, pow_pos n))
 
--- ---- k positions: those of the stretch that the source is in, and the others
-module _ {w path : List ℕ} {u : View} {s : Source} {x k : ℕ} {Q : Positions} (h : Stood w path u s x k Q) where
+-- ---- k positions: those of the stretch that the cursor is in, and the others
+module _ {c : Cursor} {x k : ℕ} {Q : Positions} (h : Stood c x k Q) where
   -- at most eight bits make a byte
-  pub octets-small : {path' : List ℕ} {r : Octet} → Octets w path path' u s x k r → r.bits < 256
+  pub octets-small : {r : ℕ} {c' : Cursor} → Octets c x k r c' → r < 256
   octets-small g =
       let p : 2 ^ k ≤ 2 ^ 8 = pow-le-pow_right (omega arith) h.few in omega (arith, bits-bound Q x k, (g Q h).bits_are)
 
   -- the value of the first
-  value-here : {v : Bool} → ValueAt s x v → v ≡ Q x
-  value-here f = f w path u Q h.reads (omega (arith, h.some, h.within))
+  value-here : {v : Bool} → ValueAt c x v → v ≡ Q x
+  value-here f = f Q h.points (omega (arith, h.some, h.within))
 
-  module _ {last : ℕ} (m : SameTo s x last) where
-    stretch : Same s x last Q
-    stretch = m w path u Q h.reads (omega (arith, h.some, h.within))
+  module _ {last : ℕ} (m : SameTo c x last) where
+    stretch : Same c x last Q
+    stretch = m Q h.points (omega (arith, h.some, h.within))
 
     -- how far it knows the value of the first is no smaller than where it stands
     pub stood-same : x ≤ last
     stood-same = stretch.onward
 
-    -- the source can go on to the first after the stretch
-    pub stood-moves : CanMove w path u s (x + (last - x + 1)) x Q
+    -- the cursor can go on to the first after the stretch
+    pub stood-moves : CanMove c (x + (last - x + 1)) x Q
     stood-moves = record {
-      rooted = h.rooted;
-      reads = h.reads;
+      points = h.points;
       onward = omega arith;
-      within = λ e. omega (arith, stretch.onward, stretch.within e);
+      within = next-to c.run (x + (last - x + 1)) last stretch.within (omega (arith, stretch.onward));
     }
 
-    pub stood-next : {path' : List ℕ} {t : Source} → last - x < k - 1 → Moves w path path' u s (x + (last - x + 1)) t
-        → Stood w path' u t (x + (last - x + 1)) (k - (last - x + 1)) Q
+    pub stood-next : {t : Cursor} → last - x < k - 1 → Moves c (x + (last - x + 1)) t → Stood t (x + (last - x + 1)) (k - (last - x + 1)) Q
     stood-next l g = record {
-      rooted = h.rooted;
-      reads = g x Q stood-moves;
+      points = g x Q stood-moves;
       some = omega arith;
       few = omega (arith, h.few);
       within = omega (arith, h.within);
     }
 
-module _ (w path : List ℕ) (u : View) (s : Source) (x k : ℕ) {v : Bool} {last : ℕ} (f : ValueAt s x v) (m : SameTo s x last) where
+module _ (c : Cursor) (x k : ℕ) {v : Bool} {last : ℕ} (f : ValueAt c x v) (m : SameTo c x last) where
   -- n positions of the stretch
-  stretch-bits : (Q : Positions) → Stood w path u s x k Q → (n : ℕ) → n ≤ last - x + 1 → one_if v * (2 ^ n - 1) ≡ bits Q x n
+  stretch-bits : (Q : Positions) → Stood c x k Q → (n : ℕ) → n ≤ last - x + 1 → one_if v * (2 ^ n - 1) ≡ bits Q x n
   stretch-bits Q h n l =
       same_bits v x n
       ∙ bits-cong (λ _. v) Q x n
-      (λ y a c. value-here h f ∙ sym ((stretch h m).alike y a (omega (arith, stood-same h m))))
+      (λ y a d. value-here h f ∙ sym ((stretch h m).alike y a (omega (arith, stood-same h m))))
 
   -- all are in it
-  pub octets-all : {n : ℕ} → k - 1 ≤ last - x → n ≡ one_if v * (2 ^ k - 1) → Octets w path path u s x k (record { bits = n; source = s })
+  pub octets-all : {n : ℕ} → k - 1 ≤ last - x → n ≡ one_if v * (2 ^ k - 1) → Octets c x k n c
   octets-all l e Q h = record {
     bits_are = e ∙ stretch-bits Q h k (omega arith);
-    reads = reads-later w path u s x (x + k - 1) Q h.rooted h.reads (omega (arith, h.some)) (λ t. omega (arith, h.some, stood-same h m, (stretch h m).within t));
+    points = points-later c x (x + k - 1) Q h.points (omega (arith, h.some))
+        (nearer c.run (x + k - 1) last (stretch h m).within (omega (arith, h.some, stood-same h m)));
   }
 
   -- those in it before others
-  pub octets-more : {path' path'' : List ℕ} {t : Source} {r : Octet} {n : ℕ} → last - x < k - 1 → n ≡ one_if v * (2 ^ (last - x + 1) - 1)
-      → Moves w path path' u s (x + (last - x + 1)) t → Octets w path' path'' u t (x + (last - x + 1)) (k - (last - x + 1)) r
-      → Octets w path path'' u s x k (record { bits = n + (r.bits * 2 ^ (last - x + 1)) % 2 ^ 64; source = r.source })
-  octets-more {path'' = q} {r = r} l e a g Q h =
+  pub octets-more : {t c' : Cursor} {r n : ℕ} → last - x < k - 1 → n ≡ one_if v * (2 ^ (last - x + 1) - 1) → Moves c (x + (last - x + 1)) t
+      → Octets t (x + (last - x + 1)) (k - (last - x + 1)) r c' → Octets c x k (n + (r * 2 ^ (last - x + 1)) % 2 ^ 64) c'
+  octets-more {c' = c'} {r = r} l e a g Q h =
       let i = stood-next h m l a in record {
-        bits_are = ap₂ (λ (b c : ℕ). b + c) (e ∙ stretch-bits Q h (last - x + 1) (omega arith))
+        bits_are = ap₂ (λ (b d : ℕ). b + d) (e ∙ stretch-bits Q h (last - x + 1) (omega arith))
             (shl_exact 8 (last - x + 1) 64 (octets-small i g) (omega (arith, h.few)) ∙ ap (λ (b : ℕ). b * 2 ^ (last - x + 1)) (g Q i).bits_are)
             ∙ (bits_above Q x (last - x + 1) (k - (last - x + 1)) ∙ ap (bits Q x) (omega arith));
-        reads = subst (λ (z : ℕ). Reads w q u r.source z Q) (there x k (last - x + 1) (omega arith)) (g Q i).reads;
+        points = subst (λ (z : ℕ). Points c' z Q) (there x k (last - x + 1) (omega arith)) (g Q i).points;
       }
     where
       there : (x k n : ℕ) → n < k → x + n + (k - n) - 1 ≡ x + k - 1
       there x k n l = omega arith
 
 -- ---- the next bytes of a map, of which more than one is to come
-module _ {w path : List ℕ} {u : View} {s : Source} {x left j : ℕ} {out : List ℕ} {Q : Positions} (d : Due w path u s x left j out Q) where
-  pub due-stood : Stood w path u s x 8 Q
-  due-stood = record {
-    rooted = d.rooted;
-    reads = d.reads;
-    some = omega arith;
-    few = omega arith;
-    within = omega (arith, d.more, d.within);
-  }
+module _ {c : Cursor} {x left j : ℕ} {out : List ℕ} {Q : Positions} (d : Due c x left j out Q) where
+  pub due-stood : Stood c x 8 Q
+  due-stood = record { points = d.points; some = omega arith; few = omega arith; within = omega (arith, d.more, d.within) }
 
   -- the bytes in a stretch of one value
-  pub due-alike : {v : Bool} {last n b : ℕ} {out' : List ℕ} → ValueAt s x v → SameTo s x last → 7 ≤ last - x → n ≡ min (last - x + 1) (left - 1) / 8 → b ≡ one_if v * (2 ^ 8 - 1)
-      → out' ≡ stores (λ _. b) j n out → Done w path u x left j out out' (record { count = n; source = s }) Q
+  pub due-alike : {v : Bool} {last n b : ℕ} {out' : List ℕ} → ValueAt c x v → SameTo c x last → 7 ≤ last - x → n ≡ min (last - x + 1) (left - 1) / 8 → b ≡ one_if v * (2 ^ 8 - 1)
+      → out' ≡ stores (λ _. b) j n out → Done x left j out out' n c Q
   due-alike {v} {last} {n} {b} f m g e h z =
-      let i = m w path u Q d.reads (omega (arith, d.more, d.within)) in record {
+      let i = m Q d.points (omega (arith, d.more, d.within)) in record {
         some = omega (arith, d.more);
         before = omega (arith, d.more);
-        reads = reads-later w path u s x (x + 8 * n - 1) Q d.rooted d.reads (omega (arith, d.more)) (λ t. omega (arith, i.within t));
+        points = points-later c x (x + 8 * n - 1) Q d.points (omega (arith, d.more)) (nearer c.run (x + 8 * n - 1) last i.within (omega (arith, d.more)));
         bytes = z ∙ stores-cong (λ _. b) (λ i. bits Q (x + 8 * i) 8) j n out
             (λ k l. h ∙ (same_bits v (x + 8 * k) 8 ∙ bits-cong (λ _. v) Q (x + 8 * k) 8 (λ y a c. value-here due-stood f ∙ sym (i.alike y (omega arith) (omega arith)))));
       }
 
   -- one byte
-  pub due-octet : {path' : List ℕ} {r : Octet} → Octets w path path' u s x 8 r → Done w path' u x left j out (set out j r.bits) (record { count = 1; source = r.source }) Q
-  due-octet {r = r} g = record {
+  pub due-octet : {r : ℕ} {c' : Cursor} → Octets c x 8 r c' → Done x left j out (set out j r) 1 c' Q
+  due-octet {r} g = record {
     some = omega arith;
     before = omega (arith, d.more);
-    reads = (g Q due-stood).reads;
+    points = (g Q due-stood).points;
     bytes = stores_one (λ i. bits Q (x + 8 * i) 8) j out ((g Q due-stood).bits_are ∙ ap (λ (y : ℕ). bits Q y 8) (omega arith));
   }
 
 -- ---- the map of a window, byte by byte
--- what holds at each turn: j bytes of the map of Q are in front, and the source stands at the first position of the next one
-pub record Writing (w path : List ℕ) (u : View) (s : Source) (base n x left j : ℕ) (out₀ out : List ℕ) (Q : Positions) : Type 0 where
-  pub rooted : Rooted w u.root
+-- what holds at each turn: j bytes of the map of Q are in front, and the cursor stands at the first position of the next one
+pub record Writing (c : Cursor) (base n x left j : ℕ) (out₀ out : List ℕ) (Q : Positions) : Type 0 where
   pub within : base + n ≤ size
   pub room : map_length n ≤ length out₀
-  pub reads : Reads w path u s x Q
+  pub points : Points c x Q
   pub place : x ≡ base + 8 * j
   pub rest : left + 8 * j ≡ n
   pub some : 1 ≤ left
   pub front : out ≡ fronted (map_of Q base n) out₀ j
 
-pub writing-none : {w path : List ℕ} {u : View} {s : Source} {base n : ℕ} {out : List ℕ} {Q : Positions} → Rooted w u.root → (1 ≤ n) × (base + n ≤ size) → map_length n ≤ length out
-    → Reads w path u s base Q → Writing w path u s base n base n 0 out out Q
-writing-none ro f g r = record {
-  rooted = ro;
+pub writing-none : {c : Cursor} {base n : ℕ} {out : List ℕ} {Q : Positions} → (1 ≤ n) × (base + n ≤ size) → map_length n ≤ length out
+    → Points c base Q → Writing c base n base n 0 out out Q
+writing-none f g r = record {
   within = f.1;
   room = g;
-  reads = r;
+  points = r;
   place = omega arith;
   rest = omega arith;
   some = f.0;
   front = refl;
 }
 
-module _ {w path : List ℕ} {u : View} {s : Source} {base n x left j : ℕ} {out₀ out : List ℕ} {Q : Positions} (i : Writing w path u s base n x left j out₀ out Q) where
+module _ {c : Cursor} {base n x left j : ℕ} {out₀ out : List ℕ} {Q : Positions} (i : Writing c base n x left j out₀ out Q) where
   -- a byte is still to come
   begun : j < map_length n
   begun = omega (arith, i.rest, i.some)
@@ -193,55 +190,51 @@ module _ {w path : List ℕ} {u : View} {s : Source} {base n x left j : ℕ} {ou
   long = ap length i.front ∙ fronted-length (map_of Q base n) out₀ j (omega (arith, begun)) (omega (arith, begun, map_of-length Q base n))
 
   -- and its positions
-  pub writing-stood : (k : ℕ) → 1 ≤ k → k ≤ 8 → k ≤ left → Stood w path u s x k Q
+  pub writing-stood : (k : ℕ) → 1 ≤ k → k ≤ 8 → k ≤ left → Stood c x k Q
   writing-stood k a b d = record {
-    rooted = i.rooted;
-    reads = i.reads;
+    points = i.points;
     some = a;
     few = b;
     within = omega (arith, i.within, i.place, i.rest);
   }
 
   -- bytes more than the last one
-  pub writing-due : 8 < left → Due w path u s x left j out Q
+  pub writing-due : 8 < left → Due c x left j out Q
   writing-due m = record {
-    rooted = i.rooted;
-    reads = i.reads;
+    points = i.points;
     more = m;
     within = omega (arith, i.within, i.place, i.rest);
     room = omega (arith, i.rest, long);
   }
 
-  module _ {path' out' : List ℕ} {r : Stored} (m : 8 < left) (g : StoresNext w path path' u s x left j out out' r) where
-    pub writing-done : Done w path' u x left j out out' r Q
-    writing-done = g Q (writing-due m)
+  module _ {out' : List ℕ} {m : ℕ} {c' : Cursor} (l : 8 < left) (g : StoresNext c x left j out out' m c') where
+    pub writing-done : Done x left j out out' m c' Q
+    writing-done = g Q (writing-due l)
 
-    pub writing-moves : CanMove w path' u r.source (x + 8 * r.count) (x + 8 * r.count - 1) Q
-    writing-moves = next-move i.rooted writing-done.reads (omega arith) (omega arith)
+    pub writing-moves : CanMove c' (x + 8 * m) (x + 8 * m - 1) Q
+    writing-moves = next-move c' (x + 8 * m - 1) (x + 8 * m) Q writing-done.points (omega arith) (omega arith)
 
-    pub writing_more : {path'' : List ℕ} {t : Source} → Moves w path' path'' u r.source (x + 8 * r.count) t
-        → Writing w path'' u t base n (x + 8 * r.count) (left - 8 * r.count) (j + r.count) out₀ out' Q
+    pub writing_more : {t : Cursor} → Moves c' (x + 8 * m) t → Writing t base n (x + 8 * m) (left - 8 * m) (j + m) out₀ out' Q
     writing_more a = record {
-      rooted = i.rooted;
       within = i.within;
       room = i.room;
-      reads = a (x + 8 * r.count - 1) Q writing-moves;
+      points = a (x + 8 * m - 1) Q writing-moves;
       place = omega (arith, i.place);
       rest = omega (arith, i.rest, writing-done.before);
       some = omega (arith, writing-done.before);
       front = writing-done.bytes
-          ∙ (ap (stores (λ i. bits Q (x + 8 * i) 8) j r.count) i.front
-          ∙ fronted-more (map_of Q base n) out₀ (λ i. bits Q (x + 8 * i) 8) j r.count (omega (arith, i.rest, writing-done.before)) (omega (arith, i.rest, writing-done.before, map_of-length Q base n)) alike);
+          ∙ (ap (stores (λ i. bits Q (x + 8 * i) 8) j m) i.front
+          ∙ fronted-more (map_of Q base n) out₀ (λ i. bits Q (x + 8 * i) 8) j m (omega (arith, i.rest, writing-done.before)) (omega (arith, i.rest, writing-done.before, map_of-length Q base n)) alike);
     }
       where
-        alike : (k : ℕ) → k < r.count → bits Q (x + 8 * k) 8 ≡ get_or (map_of Q base n) (j + k) 0
+        alike : (k : ℕ) → k < m → bits Q (x + 8 * k) 8 ≡ get_or (map_of Q base n) (j + k) 0
         alike k h =
             ap₂ (bits Q) (omega (arith, i.place)) (omega (arith, i.rest, writing-done.before))
             ∙ sym (map_of-at Q base n (j + k) (omega (arith, i.rest, writing-done.before)))
 
   -- the last byte
-  pub writing-all : {path' : List ℕ} {r : Octet} → left ≤ 8 → Octets w path path' u s x left r → set out j r.bits ≡ into_front (map_of Q base n) out₀
-  writing-all {r = r} m g =
+  pub writing-all : {r : ℕ} {c' : Cursor} → left ≤ 8 → Octets c x left r c' → set out j r ≡ into_front (map_of Q base n) out₀
+  writing-all m g =
       ap₂ (λ (l : List ℕ) (b : ℕ). set l j b) i.front
       ((g Q (writing-stood left i.some m (omega arith))).bits_are ∙ (ap₂ (bits Q) i.place (omega (arith, i.rest)) ∙ sym (map_of-at Q base n j begun)))
       ∙ (fronted-suc (map_of Q base n) out₀ j (omega (arith, begun)) (omega (arith, begun, map_of-length Q base n))

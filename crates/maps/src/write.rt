@@ -12,14 +12,8 @@ ghost use Rattle.maps.specs.Octets.{Placed, Octets, stores, BytesDue, StoresNext
 use crate::span::Span;
 use model::Logical;
 use store::World;
-use streams::source::{HIGHEST, Source, View};
-
-// A byte of a map, and the source at its last position.
-#[derive(Clone, Copy)]
-pub struct Octet {
-    pub bits: u64,
-    pub source: Source,
-}
+use streams::source::View;
+use streams::sweep::Cursor;
 
 // n bits of one value.
 fn alike(value: bool, n: u64) -> u64
@@ -29,29 +23,24 @@ fn alike(value: bool, n: u64) -> u64
     if value { (1 << n) - 1 } else { 0 }
 }
 
-// The k positions from x on as bits, the first in bit 0: those of the source's stretch at once, then the others.
-fn octet_of(words: &[u64], path: &mut [u64; HIGHEST], v: View, s: Source, x: u64, k: u64) -> Octet
-    requires { Placed words.now path.old v s x k }
-    ensures { Octets words.now path.old path.new v s x k result }
+// The k positions from x on as bits, the first in bit 0: those of the cursor's stretch at once, then the others. It is moved to the last one's
+// stretch.
+fn octet_of(held: &mut Cursor<'_>, x: u64, k: u64) -> u64
+    requires { Placed held.old x k }
+    ensures { Octets held.old x k result held.new }
 {
     let at = Logical(x);
-    let value = streams::sweep::value_at(s, at);
-    let after = streams::sweep::same_to(s, at).0 - x;
+    let value = held.value_at(at);
+    let after = held.same_to(at).0 - x;
     if k - 1 <= after {
-        return Octet {
-            bits: alike(value, k),
-            source: s,
-        };
+        return alike(value, k);
     }
     let n = after + 1;
     let low = alike(value, n);
     let next = x + n;
-    let t = streams::sweep::moved(words, path, v, s, Logical(next));
-    let r = octet_of(words, path, v, t, next, k - n);
-    Octet {
-        bits: low + (r.bits << n),
-        source: r.source,
-    }
+    held.move_to(Logical(next));
+    let rest = octet_of(held, next, k - n);
+    low + (rest << n)
 }
 
 // How many whole bytes lie in a position and those after it, of the bytes before the last one of `left` positions.
@@ -62,45 +51,22 @@ fn whole_bytes(after: u64, left: u64) -> u64
     (after.min(left - 2) + 1) / 8
 }
 
-// Bytes of a map that were stored, and the source at their last position.
-#[derive(Clone, Copy)]
-pub struct Stored {
-    pub count: u64,
-    pub source: Source,
-}
-
-// Stores the next bytes of a map at j, but not its last one: all those that lie in one stretch, or one byte. From x on `left` positions are
-// to come.
-fn next_bytes(
-    words: &[u64],
-    path: &mut [u64; HIGHEST],
-    v: View,
-    s: Source,
-    x: u64,
-    left: u64,
-    out: &mut [u8],
-    j: usize,
-) -> Stored
-    requires { BytesDue words.now path.old v s x left j out.old }
-    ensures { StoresNext words.now path.old path.new v s x left j out.old out.new result }
+// Stores the next bytes of a map at j, but not its last one, and tells how many: all those that lie in one stretch, or one byte. From x on
+// `left` positions are to come; the cursor is moved to the stretch of the last one that is stored.
+fn next_bytes(held: &mut Cursor<'_>, x: u64, left: u64, out: &mut [u8], j: usize) -> u64
+    requires { BytesDue held.old x left j out.old }
+    ensures { StoresNext held.old x left j out.old out.new result held.new }
 {
     let at = Logical(x);
-    let after = streams::sweep::same_to(s, at).0 - x;
+    let after = held.same_to(at).0 - x;
     if after >= 7 {
-        let byte = alike(streams::sweep::value_at(s, at), 8) as u8;
+        let byte = alike(held.value_at(at), 8) as u8;
         let n = whole_bytes(after, left);
         out[j..j + n as usize].fill(byte);
-        return Stored {
-            count: n,
-            source: s,
-        };
+        return n;
     }
-    let o = octet_of(words, path, v, s, x, 8);
-    out[j] = o.bits as u8;
-    Stored {
-        count: 1,
-        source: o.source,
-    }
+    out[j] = octet_of(held, x, 8) as u8;
+    1
 }
 
 // Writes the map of a window into the front of a slice that has room for it, a word at a time.
@@ -123,18 +89,16 @@ pub fn write_map_by_bytes(words: &[u64], h: World, span: Span, out: &mut [u8])
         root: h.root,
         offset: h.offset,
     };
-    let mut path = [0u64; HIGHEST];
+    let mut held = Cursor::open(words, v, Logical(span.base));
     let mut x = span.base;
-    let mut s = streams::source::open(words, &mut path, v, Logical(x));
     let mut left = span.n;
     let mut j: usize = 0;
     while left > 8 {
-        let r = next_bytes(words, &mut path, v, s, x, left, out, j);
-        x += 8 * r.count;
-        s = streams::sweep::moved(words, &mut path, v, r.source, Logical(x));
-        left -= 8 * r.count;
-        j += r.count as usize;
+        let n = next_bytes(&mut held, x, left, out, j);
+        x += 8 * n;
+        held.move_to(Logical(x));
+        left -= 8 * n;
+        j += n as usize;
     }
-    let o = octet_of(words, &mut path, v, s, x, left);
-    out[j] = o.bits as u8;
+    out[j] = octet_of(&mut held, x, left) as u8;
 }

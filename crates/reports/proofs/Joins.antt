@@ -203,7 +203,7 @@ start-parts None x e = absurd (cc)
 start-parts (Some r) x e = (r, refl, cc)
 
 -- no start, no run
-start_none : (o : Option Run) → start_of o ≡ None → o ≡ None
+pub start_none : (o : Option Run) → start_of o ≡ None → o ≡ None
 start_none None e = refl
 start_none (Some r) e = absurd (cc)
 

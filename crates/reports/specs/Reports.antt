@@ -36,14 +36,16 @@ start_of (Some r) = Some r.start
 abbrev pub Selects : Positions → Bool → ℕ → ℕ → ℕ → Option ℕ → Type 0
 Selects P v a n k r = r ≡ select P v a n k
 
--- the ends of the stretch of the value v around x
-pub record LowEnd (P : Positions) (v : Bool) (x r : ℕ) : Type 0 where
-  pub under : r ≤ x
-  pub same : (z : ℕ) → r ≤ z → z ≤ x → P z ≡ v
-  pub stop : (z : ℕ) → suc z ≡ r → P z ≡ not v
+-- from y to x all positions have the value, and y is the first one or the one before it has not
+pub record StretchStart (P : Positions) (v : Bool) (first x y : ℕ) : Type 0 where
+  pub from : first ≤ y
+  pub upto : y ≤ x
+  pub same : (z : ℕ) → y ≤ z → z ≤ x → P z ≡ v
+  pub stop : (z : ℕ) → first ≤ z → suc z ≡ y → P z ≡ not v
 
-pub record HighEnd (P : Positions) (v : Bool) (x r : ℕ) : Type 0 where
-  pub over : x ≤ r
-  pub within : r < size
-  pub same : (z : ℕ) → x ≤ z → z ≤ r → P z ≡ v
-  pub stop : suc r < size → P (suc r) ≡ not v
+-- from x to y all positions have the value, and y is the last one or the next one has not
+pub record StretchEnd (P : Positions) (v : Bool) (x last y : ℕ) : Type 0 where
+  pub from : x ≤ y
+  pub upto : y ≤ last
+  pub same : (z : ℕ) → x ≤ z → z ≤ y → P z ≡ v
+  pub stop : y < last → P (suc y) ≡ not v

@@ -2,9 +2,11 @@
 // the end of the physical positions, at two: from its place to M, and from 0 on.
 ghost use Rattle.std.specs.Prelude.{◌≡◌, suc, ◌+◌, ◌-◌, ◌<◌, ◌≤◌};
 ghost use Rattle.model.specs.Positions.{mem};
+ghost use Rattle.model.specs.Range.{many};
 ghost use Rattle.store.specs.Layout.{held};
 ghost use Rattle.reports.specs.Reports.{Measured, Place, Next, Previous, Selects};
 
+use model::between::Interval;
 use model::{Logical, Tally};
 use run_index::search::Runs;
 use store::Set;
@@ -18,13 +20,12 @@ pub fn get(set: &Set<'_>, x: Logical) -> bool
     store::bounds::get_physical(&set.runs, s)
 }
 
-// The positions of the value from a to b, and its runs there, clipped. Runs that meet where the physical positions end are one run.
-pub fn tally(set: &Set<'_>, a: Logical, b: Logical, value: bool) -> Tally
-    requires { a.0 ≤ b.0 }
-    ensures { Measured (held set.now) value a.0 (suc b.0 - a.0) result }
+// The positions of the value in r, and its runs there, clipped. Runs that meet where the physical positions end are one run.
+pub fn tally(set: &Set<'_>, r: Interval, value: bool) -> Tally
+    ensures { Measured (held set.now) value r.first.0 (many r) result }
 {
-    let s = store::places::to_physical(a, set.offset);
-    let e = store::places::to_physical(b, set.offset);
+    let s = store::places::to_physical(r.first, set.offset);
+    let e = store::places::to_physical(r.last, set.offset);
     if s.0 <= e.0 {
         return crate::physical::tally_physical(&set.runs, s, e, value);
     }
@@ -51,13 +52,12 @@ fn chosen(runs: &Runs<'_>, s: Physical, e: Physical, value: bool, k: u64) -> Res
     Ok(crate::physical::select_physical(runs, s, value, k))
 }
 
-// The position from a to b that has the value and exactly k such positions before it there.
-pub fn select(set: &Set<'_>, a: Logical, b: Logical, value: bool, k: u64) -> Option<u64>
-    requires { a.0 ≤ b.0 }
-    ensures { Selects (held set.now) value a.0 (suc b.0 - a.0) k result }
+// The position of r that has the value and exactly k such positions before it there.
+pub fn select(set: &Set<'_>, r: Interval, value: bool, k: u64) -> Option<u64>
+    ensures { Selects (held set.now) value r.first.0 (many r) k result }
 {
-    let s = store::places::to_physical(a, set.offset);
-    let e = store::places::to_physical(b, set.offset);
+    let s = store::places::to_physical(r.first, set.offset);
+    let e = store::places::to_physical(r.last, set.offset);
     let place = if s.0 <= e.0 {
         chosen(&set.runs, s, e, value, k)
     } else {

@@ -1,119 +1,73 @@
-// Runs of a world's positions, from the next and the previous position of a value.
-ghost use Rattle.std.specs.Prelude.{◌≡◌, suc, ◌-◌, ◌≤◌};
+// Runs of a set's positions, from the next and the previous position of a value.
+ghost use Rattle.std.specs.Prelude.{◌≡◌};
 ghost use Rattle.model.specs.Positions.{first_run, last_run, runs_in, run_at, find};
+ghost use Rattle.model.specs.Range.{many};
 ghost use Rattle.store.specs.Layout.{held};
-ghost use Rattle.reports.specs.Reports.{LowEnd, HighEnd};
+ghost use Rattle.reports.specs.Reports.{StretchStart, StretchEnd};
 
+use model::between::Interval;
 use model::{Logical, Run};
 use store::Set;
 
-// The least position of the value from a to b.
-pub fn find_in(set: &Set<'_>, a: Logical, b: Logical, value: bool) -> Option<u64>
-    requires { a.0 ≤ b.0 }
-    ensures { result ≡ find (held set.now) value a.0 (suc b.0 - a.0) }
+// The least position of the value in r.
+pub fn find_in(set: &Set<'_>, r: Interval, value: bool) -> Option<u64>
+    ensures { result ≡ find (held set.now) value r.first.0 (many r) }
 {
-    let last = b.0;
-    let n = crate::logical::next(set, a, value);
-    match n {
-        Some(x) => { if x <= last { Some(x) } else { None } }
-        None => None,
+    crate::logical::next(set, r.first, value).filter(|x| *x <= r.last.0)
+}
+
+// Where the stretch of the value that the last position of r is in starts, in r.
+fn stretch_start(set: &Set<'_>, r: Interval, value: bool) -> u64
+    requires { held set.now r.last.0 ≡ value }
+    ensures { StretchStart (held set.now) value r.first.0 r.last.0 result }
+{
+    match crate::logical::previous(set, r.last, !value) {
+        Some(y) if r.first.0 <= y => y + 1,
+        _ => r.first.0,
     }
 }
 
-// The first run of the value from a to b, clipped.
-pub fn first_run(set: &Set<'_>, a: Logical, b: Logical, value: bool) -> Option<Run>
-    requires { a.0 ≤ b.0 }
-    ensures { result ≡ first_run (runs_in (held set.now) value a.0 (suc b.0 - a.0)) }
+// Where the stretch of the value that the first position of r is in ends, in r.
+// The mirror of `stretch_start`: the search, the comparison and the step are others, and a parameter for the side would only say which.
+pub fn stretch_end(set: &Set<'_>, r: Interval, value: bool) -> u64
+    requires { held set.now r.first.0 ≡ value }
+    ensures { StretchEnd (held set.now) value r.first.0 r.last.0 result }
 {
-    let last = b.0;
-    let n = crate::logical::next(set, a, value);
-    match n {
-        Some(x) => {
-            if last < x {
-                return None;
-            }
-            let m = crate::logical::next(set, Logical(x), !value);
-            match m {
-                Some(y) => {
-                    if last < y {
-                        return Some(Run {
-                            start: x,
-                            end: last,
-                        });
-                    }
-                    Some(Run {
-                        start: x,
-                        end: y - 1,
-                    })
-                }
-                None => Some(Run {
-                    start: x,
-                    end: last,
-                }),
-            }
-        }
-        None => None,
+    match crate::logical::next(set, r.first, !value) {
+        Some(y) if y <= r.last.0 => y - 1,
+        _ => r.last.0,
     }
 }
 
-// The last run of the value from a to b, clipped.
-pub fn last_run(set: &Set<'_>, a: Logical, b: Logical, value: bool) -> Option<Run>
-    requires { a.0 ≤ b.0 }
-    ensures { result ≡ last_run (runs_in (held set.now) value a.0 (suc b.0 - a.0)) }
+// The first run of the value in r, clipped.
+pub fn first_run(set: &Set<'_>, r: Interval, value: bool) -> Option<Run>
+    ensures { result ≡ first_run (runs_in (held set.now) value r.first.0 (many r)) }
 {
-    let first = a.0;
-    let n = crate::logical::previous(set, b, value);
-    match n {
-        Some(x) => {
-            if x < first {
-                return None;
-            }
-            let m = crate::logical::previous(set, Logical(x), !value);
-            match m {
-                Some(y) => {
-                    if y < first {
-                        return Some(Run {
-                            start: first,
-                            end: x,
-                        });
-                    }
-                    Some(Run {
-                        start: y + 1,
-                        end: x,
-                    })
-                }
-                None => Some(Run {
-                    start: first,
-                    end: x,
-                }),
-            }
-        }
-        None => None,
-    }
+    let start = find_in(set, r, value)?;
+    let rest = Interval {
+        first: Logical(start),
+        last: r.last,
+    };
+    Some(Run {
+        start,
+        end: stretch_end(set, rest, value),
+    })
 }
 
-// The start of the run around x, of the value that x has.
-fn low_end(set: &Set<'_>, x: Logical, value: bool) -> u64
-    requires { held set.now x.0 ≡ value }
-    ensures { LowEnd (held set.now) value x.0 result }
+// The last run of the value in r, clipped.
+// The mirror of `first_run`: no line of the two is alike, so a parameter for the side would leave both.
+pub fn last_run(set: &Set<'_>, r: Interval, value: bool) -> Option<Run>
+    ensures { result ≡ last_run (runs_in (held set.now) value r.first.0 (many r)) }
 {
-    let n = crate::logical::previous(set, x, !value);
-    match n {
-        Some(y) => y + 1,
-        None => 0,
-    }
-}
-
-// Its end.
-fn high_end(set: &Set<'_>, x: Logical, value: bool) -> u64
-    requires { held set.now x.0 ≡ value }
-    ensures { HighEnd (held set.now) value x.0 result }
-{
-    let n = crate::logical::next(set, x, !value);
-    match n {
-        Some(y) => y - 1,
-        None => u64::MAX,
-    }
+    let end = crate::logical::previous(set, r.last, value).filter(|x| r.first.0 <= *x)?;
+    let rest = Interval {
+        first: r.first,
+        last: Logical(end),
+    };
+    Some(Run {
+        start: stretch_start(set, rest, value),
+        end,
+    })
 }
 
 // The unclipped run around x, of the value that x has.
@@ -121,10 +75,16 @@ pub fn run_at(set: &Set<'_>, x: Logical) -> Run
     ensures { result ≡ run_at (held set.now) x.0 }
 {
     let value = crate::logical::get(set, x);
-    let start = low_end(set, x, value);
-    let end = high_end(set, x, value);
+    let low = Interval {
+        first: Logical(0),
+        last: x,
+    };
+    let high = Interval {
+        first: x,
+        last: Logical(u64::MAX),
+    };
     Run {
-        start: start,
-        end: end,
+        start: stretch_start(set, low, value),
+        end: stretch_end(set, high, value),
     }
 }

@@ -23,25 +23,23 @@ fn view(words: &[u64], world: u64) -> View
     }
 }
 
-// Gives a world two feeds joined, which are read from the nodes x and y, if its allowance admits that.
-fn gathered(
+// Gives a world two feeds joined, if its allowance admits that.
+fn gathered<'a>(
     words: &mut [u64],
     world: u64,
     op: Operation,
-    x: &[u64],
-    fx: Feed,
-    y: &[u64],
-    fy: Feed,
+    x: Feed<'a>,
+    y: Feed<'a>,
 ) -> Result<(), Refusal>
-    requires sources { Sources x.now fx y.now fy }
+    requires sources { Sources x y }
     requires readable { Readable words.old world }
-    ensures { Carried words.old words.new world (joined op x.now fx y.now fy) result }
+    ensures { Carried words.old words.new world (joined op x.entry y.entry) result }
 {
-    if !streams::gather::fits(op, x, fx, y, fy, store::allowance(words, world)) {
+    if !streams::gather::fits(op, x, y, store::allowance(words, world)) {
         return Err(Refusal::Capacity);
     }
     let h = store::open(words, world);
-    let k = streams::gather::gather(&mut words[128..], h, op, x, fx, y, fy);
+    let k = streams::gather::gather(&mut words[128..], h, op, x, y);
     store::close(words, k);
     Ok(())
 }
@@ -67,10 +65,8 @@ pub fn combine(
         words,
         world,
         op,
-        &a[128..],
-        Feed::Held(x),
-        &b[128..],
-        Feed::Held(y),
+        Feed::Held(&a[128..], x),
+        Feed::Held(&b[128..], y),
     )
 }
 
@@ -85,9 +81,7 @@ pub fn not(words: &mut [u64], world: u64, a: &[u64], i: u64) -> Result<(), Refus
         words,
         world,
         Operation::Xor,
-        &a[128..],
-        Feed::Held(x),
-        &a[128..],
+        Feed::Held(&a[128..], x),
         Feed::Only(Logical(0), Logical(u64::MAX)),
     )
 }
@@ -108,31 +102,27 @@ pub fn shifted(
     let x = view(a, i);
     if left {
         let up = View {
-            root: x.root,
-            offset: std::num::wrapping_add_u64(x.offset, distance),
+            offset: x.offset.wrapping_add(distance),
+            ..x
         };
         return gathered(
             words,
             world,
             Operation::And,
-            &a[128..],
-            Feed::Held(up),
-            &a[128..],
+            Feed::Held(&a[128..], up),
             Feed::Only(Logical(distance), Logical(u64::MAX)),
         );
     }
     let down = View {
-        root: x.root,
-        offset: std::num::wrapping_sub_u64(x.offset, distance),
+        offset: x.offset.wrapping_sub(distance),
+        ..x
     };
     let top = u64::MAX - distance;
     gathered(
         words,
         world,
         Operation::And,
-        &a[128..],
-        Feed::Held(down),
-        &a[128..],
+        Feed::Held(&a[128..], down),
         Feed::Only(Logical(0), Logical(top)),
     )
 }
@@ -147,10 +137,8 @@ pub fn eq(a: &[u64], i: u64, b: &[u64], j: u64) -> Result<bool, Refusal>
     let y = view(b, j);
     Ok(streams::gather::fits(
         Operation::Xor,
-        &a[128..],
-        Feed::Held(x),
-        &b[128..],
-        Feed::Held(y),
+        Feed::Held(&a[128..], x),
+        Feed::Held(&b[128..], y),
         0,
     ))
 }

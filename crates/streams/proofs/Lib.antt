@@ -6,7 +6,8 @@ pub mod Parts
 pub mod Lasts
 pub mod Firsts
 pub mod Starts
-pub mod Gathered
-pub mod Sweeps
+pub mod Readers
 pub mod Gapped
+pub mod Sweeps
 pub mod Streamed
+pub mod Gathered

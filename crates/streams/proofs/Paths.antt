@@ -19,6 +19,7 @@ use Rattle.run_index.specs.Cells.{cell_at, Room}
 use Rattle.run_index.specs.Tree.{Tree, height, inorder, Rep}
 use Rattle.run_index.proofs.Trees.{at_none}
 use Rattle.run_index.proofs.Heap.{View, view, height_at, left-falls, right-falls}
+use Rattle.streams.specs.declared.source.Path.{Path}
 use Rattle.streams.specs.Reading.{Rest, none, more, from, Below, Descends}
 use Rattle.streams.proofs.Dropping.{from-skip, from-keep}
 
@@ -27,62 +28,62 @@ pub rest-frame : {w path path' : List ℕ} {k : ℕ} {rs : List Run} → ((i : �
 rest-frame same none = none
 rest-frame same (more {k} e rep low rest) = more (same k (omega arith) ∙ e) rep low (rest-frame (λ i h. same i (omega arith)) rest)
 
--- what is to come, qs, from the link k on, with d nodes on the path
-pub record Leads (w path : List ℕ) (d k p : ℕ) (qs : List Run) : Type 0 where
+-- what is to come, qs, from the link k on
+pub record Leads (w : List ℕ) (p : Path) (k q : ℕ) (qs : List Run) : Type 0 where
   pub t : Tree
   pub rs : List Run
-  pub below : Below w path d k t rs
-  pub is : qs ≡ from p (inorder t) ++ rs
+  pub below : Below w p k t rs
+  pub is : qs ≡ from q (inorder t) ++ rs
 
 -- so it is all along the walk
-pub record Lead (w path₀ path : List ℕ) (depth link p d k : ℕ) : Type 0 where
-  pub goes : (t : Tree) (rs : List Run) → Below w path₀ depth link t rs → Leads w path d k p (from p (inorder t) ++ rs)
+pub record Lead (w : List ℕ) (p₀ p : Path) (link q k : ℕ) : Type 0 where
+  pub goes : (t : Tree) (rs : List Run) → Below w p₀ link t rs → Leads w p k q (from q (inorder t) ++ rs)
 
-pub lead-start : {w path : List ℕ} {depth link p : ℕ} → Lead w path path depth link p depth link
+pub lead-start : {w : List ℕ} {p : Path} {link q : ℕ} → Lead w p p link q link
 lead-start = record { goes = λ t rs b. record { t = t; rs = rs; below = b; is = refl } }
 
 -- where there is no further node the path has it all
-pub lead-end : {w path₀ path : List ℕ} {depth link p d k : ℕ} → Lead w path₀ path depth link p d k → k ≡ 0 → Descends w path₀ path depth link p d
-lead-end {w} {path = path} {p = p} {d = d} h e t rs b =
+pub lead-end : {w : List ℕ} {p₀ p : Path} {link q k : ℕ} → Lead w p₀ p link q k → k ≡ 0 → Descends w p₀ link q p
+lead-end {w} {p = p} {q = q} h e t rs b =
     let s = h.goes t rs b in
-    let gone : from p (inorder s.t) ≡ [] = ap (λ u. from p (inorder u)) (at_none s.t s.below.at e) in
-    (subst (λ us. Rest w path d us) (sym (s.is ∙ ap (λ us. us ++ s.rs) gone)) s.below.rest, s.below.long)
+    let gone : from q (inorder s.t) ≡ [] = ap (λ u. from q (inorder u)) (at_none s.t s.below.at e) in
+    (subst (λ us. Rest w p.nodes p.depth us) (sym (s.is ∙ ap (λ us. us ++ s.rs) gone)) s.below.rest, s.below.long)
 
 -- the walk at a node v that was read
-module _ {w path₀ path : List ℕ} {depth link p d k : ℕ} (h : Lead w path₀ path depth link p d k) (v : Node) (ne : k ≡ 0 → ⊥) (e : v ≡ cell_at w k) where
+module _ {w : List ℕ} {p₀ p : Path} {link q k : ℕ} (h : Lead w p₀ p link q k) (v : Node) (ne : k ≡ 0 → ⊥) (e : v ≡ cell_at w k) where
   -- the tree there
-  seen : {t : Tree} {rs : List Run} (b : Below w path₀ depth link t rs) → View w (h.goes t rs b).below.tag k v (h.goes t rs b).t
+  seen : {t : Tree} {rs : List Run} (b : Below w p₀ link t rs) → View w (h.goes t rs b).below.tag k v (h.goes t rs b).t
   seen {t} {rs} b = view w (h.goes t rs b).below.tag k v (h.goes t rs b).t (h.goes t rs b).below.at ne e
 
   -- it lies within the words
-  pub lead-room : {t : Tree} {rs : List Run} → Below w path₀ depth link t rs → Room w k
+  pub lead-room : {t : Tree} {rs : List Run} → Below w p₀ link t rs → Room w k
   lead-room b = (seen b).room
 
   -- the path has room for it
-  pub lead-deep : {t : Tree} {rs : List Run} → Below w path₀ depth link t rs → d < 22
+  pub lead-deep : {t : Tree} {rs : List Run} → Below w p₀ link t rs → p.depth < 22
   lead-deep {t} {rs} b = let s = h.goes t rs b in omega (arith, s.below.low, ap height (seen b).is)
 
   -- either side is lower
-  pub lead-left-falls : {t : Tree} {rs : List Run} → Below w path₀ depth link t rs → height_at w v.left < height_at w k
+  pub lead-left-falls : {t : Tree} {rs : List Run} → Below w p₀ link t rs → height_at w v.left < height_at w k
   lead-left-falls {t} {rs} b = left-falls (h.goes t rs b).below.at (seen b)
 
-  pub lead-right-falls : {t : Tree} {rs : List Run} → Below w path₀ depth link t rs → height_at w v.right < height_at w k
+  pub lead-right-falls : {t : Tree} {rs : List Run} → Below w p₀ link t rs → height_at w v.right < height_at w k
   lead-right-falls {t} {rs} b = right-falls (h.goes t rs b).below.at (seen b)
 
   -- what is known of the parts there
-  module _ {t : Tree} {rs : List Run} (b : Below w path₀ depth link t rs) where
+  module _ {t : Tree} {rs : List Run} (b : Below w p₀ link t rs) where
     ordered : (Canon (v.start - 1) 0 (inorder (seen b).l)) × (0 ≤ v.start) × (v.start ≤ v.«end») × (v.«end» < size) × Canon size (v.«end» + 2) (inorder (seen b).r)
     ordered = canon-split size 0 (inorder (seen b).l) (run v.start v.«end») (inorder (seen b).r)
         (subst (λ u. Canon size 0 (inorder u)) (seen b).is (h.goes t rs b).below.ordered)
 
-    low : 1 + max (height (seen b).l) (height (seen b).r) + d ≤ 22
-    low = subst (λ u. height u + d ≤ 22) (seen b).is (h.goes t rs b).below.low
+    low : 1 + max (height (seen b).l) (height (seen b).r) + p.depth ≤ 22
+    low = subst (λ u. height u + p.depth ≤ 22) (seen b).is (h.goes t rs b).below.low
 
-    all : from p (inorder t) ++ rs ≡ from p (inorder (seen b).l ++ (run v.start v.«end» ∷ inorder (seen b).r)) ++ (h.goes t rs b).rs
-    all = (h.goes t rs b).is ∙ ap (λ u. from p (inorder u) ++ (h.goes t rs b).rs) (seen b).is
+    all : from q (inorder t) ++ rs ≡ from q (inorder (seen b).l ++ (run v.start v.«end» ∷ inorder (seen b).r)) ++ (h.goes t rs b).rs
+    all = (h.goes t rs b).is ∙ ap (λ u. from q (inorder u) ++ (h.goes t rs b).rs) (seen b).is
 
   -- on its right
-  pub lead-right : v.«end» < p → Lead w path₀ path depth link p d v.right
+  pub lead-right : v.«end» < q → Lead w p₀ p link q v.right
   lead-right before = record {
     goes = λ t rs b.
         let s = h.goes t rs b in
@@ -99,12 +100,12 @@ module _ {w path₀ path : List ℕ} {depth link p d k : ℕ} (h : Lead w path�
             rest = s.below.rest;
             long = s.below.long;
           };
-          is = all b ∙ ap (λ us. us ++ s.rs) (from-skip p (inorder n.l) (run v.start v.«end») (inorder n.r) o.0 o.2 before);
+          is = all b ∙ ap (λ us. us ++ s.rs) (from-skip q (inorder n.l) (run v.start v.«end») (inorder n.r) o.0 o.2 before);
         };
   }
 
   -- on its left, with it on the path
-  pub lead-left : p ≤ v.«end» → Lead w path₀ (set path d k) depth link p (d + 1) v.left
+  pub lead-left : q ≤ v.«end» → Lead w p₀ (record { nodes = set p.nodes p.depth k; depth = p.depth + 1 }) link q v.left
   lead-left from-here = record {
     goes = λ t rs b.
         let s = h.goes t rs b in
@@ -121,11 +122,11 @@ module _ {w path₀ path : List ℕ} {depth link p d k : ℕ} (h : Lead w path�
             ordered = canon-wider (v.start - 1) size 0 (inorder n.l) (omega (arith, o.2, o.3)) o.0;
             low = omega (arith, low b);
             rest = rw add-one
-                (more (get_or-set_same path d k 0 (omega arith)) (subst (λ u. Rep w s.below.tag u) n.is s.below.at.rep) (low b)
-                (rest-frame (λ i l. get_or-set_other path d i k 0 (λ q. omega arith)) s.below.rest));
-            long = length-set path d k ∙ long;
+                (more (get_or-set_same p.nodes p.depth k 0 (omega arith)) (subst (λ u. Rep w s.below.tag u) n.is s.below.at.rep) (low b)
+                (rest-frame (λ i l. get_or-set_other p.nodes p.depth i k 0 (λ q. omega arith)) s.below.rest));
+            long = length-set p.nodes p.depth k ∙ long;
           };
-          is = all b ∙ ap (λ us. us ++ s.rs) (from-keep p (inorder n.l) (run v.start v.«end») (inorder n.r) from-here)
-              ∙ append_assoc (from p (inorder n.l)) (run v.start v.«end» ∷ inorder n.r) s.rs;
+          is = all b ∙ ap (λ us. us ++ s.rs) (from-keep q (inorder n.l) (run v.start v.«end») (inorder n.r) from-here)
+              ∙ append_assoc (from q (inorder n.l)) (run v.start v.«end» ∷ inorder n.r) s.rs;
         };
   }

@@ -1,47 +1,71 @@
--- Two sources read together, in pure form: what a source that stands at a position says of it and of those after it, what moving it on
--- keeps, and what holds at each turn of a search for a value of the join. A source is taken by the cases of whether it has a run.
+-- Two readings swept together, in pure form: what a cursor that stands at a position says of it and of those after it, what moving it on
+-- keeps, and what holds at each turn of a search for a value of the join. A cursor is taken by the cases of whether a run is at hand.
 -- Assumes nothing.
+use Rattle.std.specs.Prelude.{Option, None, Some}
 use Prim.Native.Nat.{ℕ, suc, ◌+◌, ◌-◌, ◌≤◌, ◌<◌, min}
-use mathlib.Core.Path.{◌≡◌, refl, sym, ap, ◌∙◌, subst}
+use mathlib.Core.Path.{◌≡◌, sym, ap, ◌∙◌, subst}
 use mathlib.Core.Logic.{◌⊎◌, inl, inr}
 use mathlib.Core.Bool.{Bool, true, false, not, true≢false}
-use mathlib.Core.List.{List}
+use mathlib.Core.List.{[]}
 use native.Mathlib.Omega.{arith}
 use lib.Dec.{leb}
 use borrow.Author.Tests.{le-leb, lt-leb}
-use Rattle.model.specs.declared.Operation.{Operation}
-use Rattle.model.specs.declared.Operation.TheVariants.{Xor}
+use Rattle.model.specs.declared.Run.{Run}
+use Rattle.model.specs.declared.Logical.{Logical}
 use Rattle.model.specs.Numbers.{size}
 use Rattle.model.proofs.Numbers.{split}
-use Rattle.model.specs.Positions.{Positions, apply, combined}
-use Rattle.streams.specs.declared.source.View.{View}
-use Rattle.streams.specs.declared.source.Source.{Source}
-use Rattle.streams.specs.declared.sweep.Reached.{Reached}
-use Rattle.streams.specs.Reading.{Clear, Current, Ahead, Stands, Reads, Advanceable, Advances}
-use Rattle.streams.specs.Sweeping.{ValueAt, Same, SameTo, CanMove, Movable, Moves, Both, Joinable, ReachedAt, Reaching, Reaches, NextJoint}
+use Rattle.model.specs.Positions.{Positions, run, apply, combined}
+use Rattle.model.proofs.RunList.{mem-in, mem-under, mem-above}
+use Rattle.store.proofs.Ends.{empty-mem}
+use Rattle.streams.specs.declared.source.Reader.{Reader}
+use Rattle.streams.specs.declared.sweep.Cursor.{Cursor}
+use Rattle.streams.specs.declared.sweep.Joint.{Joint}
+use Rattle.streams.specs.Reading.{Clear, RunFrom, Reads, Draws}
+use Rattle.streams.specs.Sweeping.{Current, Beyond, AtHand, Points, Covers, ValueAt, Within, Same, SameTo, CanMove, Movable, Moves}
+use Rattle.streams.specs.Sweeping.{Both, ReachedAt, Reaches, JoinsFrom, Joins}
 
--- ---- the values of two sets, joined by XOR
-pub xor-held : (q : Bool) → not q ≡ apply Xor true q
-xor-held true = refl
-xor-held false = refl
+-- ---- one cursor: a run is at hand, or the set is over
+module _ (c : Cursor) (x : ℕ) (Q : Positions) where
+  points-some : {r : Run} → c.run ≡ Some r → Points c x Q → Current r.start r.«end» x Q × Beyond c.rest (suc r.«end») Q
+  points-some e h = subst (λ o. AtHand o c.rest x Q) e h
 
-pub xor-free : (q : Bool) → q ≡ apply Xor false q
-xor-free true = refl
-xor-free false = refl
+  some-points : {r : Run} → c.run ≡ Some r → Current r.start r.«end» x Q × Beyond c.rest (suc r.«end») Q → Points c x Q
+  some-points e h = subst (λ o. AtHand o c.rest x Q) (sym e) h
 
--- ---- one source: it has a run, or it is over
-module _ (w path : List ℕ) (u : View) (s : Source) (x : ℕ) (Q : Positions) where
-  run-there : s.live ≡ true → Reads w path u s x Q → Current s.start s.«end» x Q × Ahead w path u s (suc s.«end») Q
-  run-there e r = subst (Stands w path u s x Q) e r
+  points-none : c.run ≡ None → Points c x Q → Clear x Q
+  points-none e h = subst (λ o. AtHand o c.rest x Q) e h
 
-  there-run : s.live ≡ true → Current s.start s.«end» x Q × Ahead w path u s (suc s.«end») Q → Reads w path u s x Q
-  there-run e r = subst (Stands w path u s x Q) (sym e) r
+  none-points : c.run ≡ None → Clear x Q → Points c x Q
+  none-points e h = subst (λ o. AtHand o c.rest x Q) (sym e) h
 
-  over-there : s.live ≡ false → Reads w path u s x Q → Clear x Q
-  over-there e r = subst (Stands w path u s x Q) e r
+-- the next run of a reader is one at hand
+from-current : {x a b : ℕ} {Q : Positions} → RunFrom x a b Q → Current a b x Q
+from-current r = record {
+  ordered = r.ordered;
+  ahead = omega (arith, r.onward, r.ordered);
+  small = r.small;
+  clear = r.clear;
+  held = λ z m n k. r.held z n k;
+  stops = r.stops;
+}
 
-  there-over : s.live ≡ false → Clear x Q → Reads w path u s x Q
-  there-over e r = subst (Stands w path u s x Q) (sym e) r
+pub drawn : (s s' : Reader) (o : Option Run) (x : ℕ) (Q : Positions) → Draws Reads s o s' → Reads s x Q → AtHand o (Some s') x Q
+drawn s s' None x Q d h = (d x Q h).0
+drawn s s' (Some r) x Q d h = (from-current (d x Q h).0, (d x Q h).1)
+
+-- one run alone
+pub one-run : (a b : ℕ) → a ≤ b → b < size → Covers (record { run = Some (run a b); rest = None }) a b
+one-run a b h k = (
+  record {
+    ordered = h;
+    ahead = omega arith;
+    small = k;
+    clear = λ z g l. mem-under (run a b) [] z l ∙ empty-mem z;
+    held = λ z g l m. mem-in (run a b) [] z l m;
+    stops = λ l. mem-above (run a b) [] (suc b) (omega arith) ∙ empty-mem (suc b);
+  },
+  λ z g l. mem-above (run a b) [] z (omega arith) ∙ empty-mem z,
+)
 
 -- the value where it stands
 current-value : {a b x : ℕ} {Q : Positions} → Current a b x Q → leb a x ≡ Q x
@@ -51,11 +75,11 @@ current-value {a} {b} {x} {Q} k = go (split x a)
     go (inl h) = lt-leb a x h ∙ sym (k.clear x (omega arith) h)
     go (inr h) = le-leb a x h ∙ sym (k.held x (omega arith) h k.ahead)
 
-pub value-live : (s : Source) (x : ℕ) → s.live ≡ true → ValueAt s x (leb s.start x)
-value-live s x e w path u Q r h = current-value (run-there w path u s x Q e r).0
+pub value-some : (c : Cursor) (x : ℕ) (r : Run) → c.run ≡ Some r → ValueAt c x (leb r.start x)
+value-some c x r e Q h l = current-value (points-some c x Q e h).0
 
-pub value-over : (s : Source) (x : ℕ) → s.live ≡ false → ValueAt s x false
-value-over s x e w path u Q r h = sym (over-there w path u s x Q e r x (omega arith) h)
+pub value-none : (c : Cursor) (x : ℕ) → c.run ≡ None → ValueAt c x false
+value-none c x e Q h l = sym (points-none c x Q e h x (omega arith) l)
 
 -- how far it has that value
 current-before : {a b x : ℕ} {Q : Positions} → Current a b x Q → x < a → (z : ℕ) → x ≤ z → z ≤ a - 1 → Q z ≡ Q x
@@ -64,31 +88,31 @@ current-before {a} {b} {x} k h z l u = k.clear z l (omega arith) ∙ sym (k.clea
 current-within : {a b x : ℕ} {Q : Positions} → Current a b x Q → a ≤ x → (z : ℕ) → x ≤ z → z ≤ b → Q z ≡ Q x
 current-within {a} {b} {x} k h z l u = k.held z l (omega arith) u ∙ sym (k.held x (omega arith) h k.ahead)
 
-pub same-before : (s : Source) (x : ℕ) → s.live ≡ true → x < s.start → SameTo s x (s.start - 1)
-same-before s x e h w path u Q r g =
-    let k = (run-there w path u s x Q e r).0 in record {
+pub same-before : (c : Cursor) (x : ℕ) (r : Run) → c.run ≡ Some r → x < r.start → SameTo c x (r.start - 1)
+same-before c x r e l Q h g =
+    let k = (points-some c x Q e h).0 in record {
       onward = omega arith;
       small = omega (arith, k.ordered, k.small);
-      alike = current-before k h;
-      within = λ _. omega (arith, k.ordered);
+      alike = current-before k l;
+      within = subst (λ o. Within 0 o (r.start - 1)) (sym e) (omega (arith, k.ordered));
     }
 
-pub same-within : (s : Source) (x : ℕ) → s.live ≡ true → s.start ≤ x → SameTo s x s.«end»
-same-within s x e h w path u Q r g =
-    let k = (run-there w path u s x Q e r).0 in record {
+pub same-within : (c : Cursor) (x : ℕ) (r : Run) → c.run ≡ Some r → r.start ≤ x → SameTo c x r.«end»
+same-within c x r e l Q h g =
+    let k = (points-some c x Q e h).0 in record {
       onward = k.ahead;
       small = k.small;
-      alike = current-within k h;
-      within = λ _. omega arith;
+      alike = current-within k l;
+      within = subst (λ o. Within 0 o r.«end») (sym e) (omega arith);
     }
 
-pub same_over : (s : Source) (x : ℕ) → s.live ≡ false → SameTo s x (size - 1)
-same_over s x e w path u Q r g =
-    let k = over-there w path u s x Q e r in record {
+pub same-none : (c : Cursor) (x : ℕ) → c.run ≡ None → SameTo c x (size - 1)
+same-none c x e Q h g =
+    let k = points-none c x Q e h in record {
       onward = omega arith;
       small = omega arith;
       alike = λ z l q. k z l (omega arith) ∙ sym (k x (omega arith) g);
-      within = λ a. absurd (true≢false (sym a ∙ e));
+      within = subst (λ o. Within 0 o (size - 1)) (sym e) tt;
     }
 
 -- ---- moving on
@@ -102,191 +126,200 @@ current-later k l u = record {
   stops = k.stops;
 }
 
-pub can-advance : (w path : List ℕ) (u : View) (s : Source) (x : ℕ) → s.live ≡ true → Movable w path u s x → Advanceable w path u s
-can-advance w path u s x e (y, Q, m) = (y, Q, record { rooted = m.rooted; alive = e; reads = m.reads })
+pub moves-none : (c : Cursor) (x : ℕ) → c.run ≡ None → Moves c x c
+moves-none c x e y Q m = none-points c x Q e (λ z l q. points-none c y Q e m.points z (omega (arith, m.onward)) q)
 
-pub moves-past : (w path path' : List ℕ) (u : View) (s : Source) (x : ℕ) (r : Source) → s.live ≡ true → s.«end» < x → Advances w path path' u s r → Moves w path path' u s x r
-moves-past w path path' u s x r e h a y Q m =
-    subst (λ (z : ℕ). Reads w path' u r z Q) (past s.«end» x h (m.within e)) (a y Q record { rooted = m.rooted; alive = e; reads = m.reads })
-  where
-    past : (b x : ℕ) → b < x → x ≤ suc b → suc b ≡ x
-    past b x h g = omega arith
+pub moves-within : (c : Cursor) (x : ℕ) (r : Run) → c.run ≡ Some r → x ≤ r.«end» → Moves c x c
+moves-within c x r e l y Q m = let k = points-some c y Q e m.points in some-points c x Q e (current-later k.0 m.onward l, k.1)
 
-pub moves-within : (w path : List ℕ) (u : View) (s : Source) (x : ℕ) → s.live ≡ true → x ≤ s.«end» → Moves w path path u s x s
-moves-within w path u s x e h y Q m =
-    let k = run-there w path u s y Q e m.reads in there-run w path u s x Q e (current-later k.0 m.onward h, k.1)
+-- past the run at hand
+module _ (c : Cursor) (x : ℕ) (r : Run) (e : c.run ≡ Some r) (l : r.«end» < x) where
+  onto : (y : ℕ) (Q : Positions) → CanMove c x y Q → suc r.«end» ≡ x
+  onto y Q m = let w : x ≤ 1 + r.«end» = subst (λ o. Within 1 o x) e m.within in omega arith
 
-pub moves-over : (w path : List ℕ) (u : View) (s : Source) (x : ℕ) → s.live ≡ false → Moves w path path u s x s
-moves-over w path u s x e y Q m =
-    let k = over-there w path u s y Q e m.reads in there-over w path u s x Q e (λ z l q. k z (omega (arith, m.onward)) q)
+  beyond : (o : Option Reader) → c.rest ≡ o → (y : ℕ) (Q : Positions) → CanMove c x y Q → Beyond o (suc r.«end») Q
+  beyond o q y Q m = subst (λ s. Beyond s (suc r.«end») Q) q (points-some c y Q e m.points).1
 
--- ---- a search for a value of the join: what holds at each turn, of the positions Q and R that the sources read
-pub record Swept (op : Operation) (w p : List ℕ) (u : View) (l : Source) (w₂ p₂ : List ℕ) (u₂ : View) (r : Source) (x at : ℕ) (value v : Bool) (Q R : Positions) : Type 0 where
-  pub both : Both w p u l w₂ p₂ u₂ r at Q R
+  -- nothing follows
+  pub moves-over : c.rest ≡ None → Moves c x (record { run = None; rest = c.rest })
+  moves-over q y Q m = subst (λ z. Clear z Q) (onto y Q m) (beyond None q y Q m)
+
+  -- a reader has what follows
+  pub can-draw : (s : Reader) → c.rest ≡ Some s → Movable c x → (y : ℕ) × (Q : Positions) × Reads s y Q
+  can-draw s q (y, Q, m) = (_, Q, beyond (Some s) q y Q m)
+
+  pub moves-past : (s s' : Reader) (o : Option Run) → c.rest ≡ Some s → Draws Reads s o s' → Moves c x (record { run = o; rest = Some s' })
+  moves-past s s' o q d y Q m = drawn s s' o x Q d (subst (λ z. Reads s z Q) (onto y Q m) (beyond (Some s) q y Q m))
+
+-- ---- a search for a value of the join: what holds at each turn
+pub record Swept (j : Joint) (x at : ℕ) (value : Bool) (J : Positions) : Type 0 where
+  pub both : Both j at J
   pub onward : x ≤ at
   pub small : at < size
-  pub before : (z : ℕ) → x ≤ z → z < at → combined op Q R z ≡ not value
-  pub here : v ≡ combined op Q R at
+  pub before : (z : ℕ) → x ≤ z → z < at → J z ≡ not value
 
--- the value of the join where both stand
-both-here : (op : Operation) (Q R : Positions) (at : ℕ) {a b v : Bool} → a ≡ Q at → b ≡ R at → v ≡ apply op a b → v ≡ combined op Q R at
-unfolding combined
-both-here op Q R at e f h = h ∙ rw (e, f)
+pub swept-start : {j : Joint} {x : ℕ} {value : Bool} {J : Positions} → x < size → Both j x J → Swept j x x value J
+swept-start {x = x} h b = record { both = b; onward = omega arith; small = h; before = λ z k l. absurd (omega arith) }
 
--- and up to the nearer of the two positions that the sources know
-both-alike : (op : Operation) {Q R : Positions} {l r : Source} {at m n : ℕ} → Same l at m Q → Same r at n R → (z : ℕ) → at ≤ z → z ≤ min m n
-    → combined op Q R z ≡ combined op Q R at
-unfolding combined
-both-alike op i j z h k = rw (i.alike z h (omega arith), j.alike z h (omega arith))
+within-next : (o : Option Run) (m n : ℕ) → Within 0 o m → n ≤ suc m → Within 1 o n
+within-next None m n w l = tt
+within-next (Some r) m n w l = omega arith
 
-pub swept-start : (op : Operation) (w p : List ℕ) (u : View) (l : Source) (w₂ p₂ : List ℕ) (u₂ : View) (r : Source) (x : ℕ) (value : Bool) {a b v : Bool} → x < size
-    → ValueAt l x a → ValueAt r x b → v ≡ apply op a b → (Q R : Positions) → Both w p u l w₂ p₂ u₂ r x Q R
-    → Swept op w p u l w₂ p₂ u₂ r x x value v Q R
-swept-start op w p u l w₂ p₂ u₂ r x value h e f g Q R k = record {
-  both = k;
-  onward = omega arith;
-  small = h;
-  before = λ z i j. nowhere i j;
-  here = both-here op Q R x (e w p u Q k.reads h) (f w₂ p₂ u₂ R k.reads₂ h) g;
-}
-  where
-    nowhere : {z : ℕ} {A : Type 0} → x ≤ z → z < x → A
-    nowhere i j = absurd (omega arith)
+module _ {j : Joint} {x at : ℕ} {value : Bool} {J : Positions} (s : Swept j x at value J) where
+  -- the value of the join where both stand
+  pub value-here : {a b v : Bool} → ValueAt j.left at a → ValueAt j.right at b → v ≡ apply j.op a b → v ≡ J at
+  unfolding combined
+  value-here f g e = let b = s.both in e ∙ rw (f b.first b.left s.small, g b.second b.right s.small) (ap (λ K. K at) b.is)
 
-module _ {op : Operation} {w p : List ℕ} {u : View} {l : Source} {w₂ p₂ : List ℕ} {u₂ : View} {r : Source} {x at : ℕ} {value v : Bool} {Q R : Positions} (s : Swept op w p u l w₂ p₂ u₂ r x at value v Q R) where
   -- the search is over where the join has the value
-  pub swept-found : v ≡ value → ReachedAt x at value (combined op Q R)
-  swept-found e = record {
-    onward = s.onward;
-    small = s.small;
-    before = s.before;
-    here = sym s.here ∙ e;
-  }
+  pub swept-found : {v : Bool} → v ≡ J at → v ≡ value → ReachedAt x at value J
+  swept-found h e = record { onward = s.onward; small = s.small; before = s.before; here = sym h ∙ e }
 
-  module _ {m n last : ℕ} (i : SameTo l at m) (j : SameTo r at n) (k : last ≡ min m n) where
-    left-same : Same l at m Q
-    left-same = i w p u Q s.both.reads s.small
+  module _ {m n last : ℕ} (f : SameTo j.left at m) (g : SameTo j.right at n) (e : last ≡ min m n) where
+    left-same : Same j.left at m s.both.first
+    left-same = f s.both.first s.both.left s.small
 
-    right-same : Same r at n R
-    right-same = j w₂ p₂ u₂ R s.both.reads₂ s.small
+    right-same : Same j.right at n s.both.second
+    right-same = g s.both.second s.both.right s.small
 
-    -- how far the sources know their values is no smaller than where they stand
+    -- how far the cursors know their values is no smaller than where they stand
     pub swept-onward : at ≤ last
     swept-onward = omega (arith, left-same.onward, right-same.onward)
 
     pub swept-small : last < size
     swept-small = omega (arith, left-same.small, right-same.small)
 
-    pub left-moves : CanMove w p u l (last + 1) at Q
-    left-moves = record {
-      rooted = s.both.rooted;
-      reads = s.both.reads;
-      onward = omega (arith, swept-onward);
-      within = λ e. omega (arith, left-same.within e);
-    }
+    -- up to there the join has the value that it has here
+    alike : (z : ℕ) → at ≤ z → z ≤ last → J z ≡ J at
+    unfolding combined
+    alike z h k =
+        let b = s.both in
+        sym (ap (λ K. K z) b.is) ∙ rw (left-same.alike z h (omega arith), right-same.alike z h (omega arith)) (ap (λ K. K at) b.is)
 
-    pub right-moves : CanMove w₂ p₂ u₂ r (last + 1) at R
-    right-moves = record {
-      rooted = s.both.rooted₂;
-      reads = s.both.reads₂;
-      onward = omega (arith, swept-onward);
-      within = λ e. omega (arith, right-same.within e);
-    }
-
-    -- the join has the other value so far, if it has it here
-    so_far : v ≡ not value → (z : ℕ) → x ≤ z → z ≤ last → combined op Q R z ≡ not value
-    so_far e z a b = go (split z at)
+    -- the other value, if it has that here
+    so_far : J at ≡ not value → (z : ℕ) → x ≤ z → z ≤ last → J z ≡ not value
+    so_far v z a b = go (split z at)
       where
-        go : (z < at) ⊎ (at ≤ z) → combined op Q R z ≡ not value
+        go : (z < at) ⊎ (at ≤ z) → J z ≡ not value
         go (inl h) = s.before z a h
-        go (inr h) = both-alike op left-same right-same z h (omega arith) ∙ (sym s.here ∙ e)
+        go (inr h) = alike z h b ∙ v
 
     -- no position is left
-    pub swept_none : v ≡ not value → last ≡ size - 1 → (z : ℕ) → x ≤ z → z < size → combined op Q R z ≡ not value
-    swept_none e f z a b = so_far e z a (omega arith)
+    pub swept_none : J at ≡ not value → size ≤ suc last → (z : ℕ) → x ≤ z → z < size → J z ≡ not value
+    swept_none v h z a b = so_far v z a (omega arith)
 
-    -- the sources move on
-    pub swept-on : (p' : List ℕ) (l' : Source) (p₂' : List ℕ) (r' : Source) {a b v' : Bool} → v ≡ not value → last < size - 1
-        → Moves w p p' u l (last + 1) l' → Moves w₂ p₂ p₂' u₂ r (last + 1) r'
-        → ValueAt l' (last + 1) a → ValueAt r' (last + 1) b → v' ≡ apply op a b
-        → Swept op w p' u l' w₂ p₂' u₂ r' x (last + 1) value v' Q R
-    swept-on p' l' p₂' r' e f g h c d q =
-        let y = g at Q left-moves in
-        let z = h at R right-moves in record {
-          both = record { rooted = s.both.rooted; rooted₂ = s.both.rooted₂; reads = y; reads₂ = z };
-          onward = omega (arith, s.onward, swept-onward);
+    module _ {next : ℕ} (q : next ≡ suc last) where
+      pub left-moves : CanMove j.left next at s.both.first
+      left-moves = record {
+        points = s.both.left;
+        onward = omega (arith, swept-onward);
+        within = within-next j.left.run m next left-same.within (omega arith);
+      }
+
+      pub right-moves : CanMove j.right next at s.both.second
+      right-moves = record {
+        points = s.both.right;
+        onward = omega (arith, swept-onward);
+        within = within-next j.right.run n next right-same.within (omega arith);
+      }
+
+      -- the cursors move on
+      pub swept-on : {l r : Cursor} {t : Option Logical} → J at ≡ not value → next < size → Moves j.left next l → Moves j.right next r
+          → Swept (record { op = j.op; left = l; right = r; from = t }) x next value J
+      swept-on v h a b = record {
+        both = record {
+          first = s.both.first;
+          second = s.both.second;
+          left = a at s.both.first left-moves;
+          right = b at s.both.second right-moves;
+          is = s.both.is;
+        };
+        onward = omega (arith, s.onward, swept-onward);
+        small = h;
+        before = λ z k l. so_far v z k (omega arith);
+      }
+
+-- ---- the next run of the join: it begins where the join is first held, and ends before it is first not held after that
+-- whatever position the joint has at hand
+abbrev pub holding : Joint → Option Logical → Joint
+holding j t = record { op = j.op; left = j.left; right = j.right; from = t }
+
+-- nothing was left before
+pub joint-over : (j : Joint) → j.from ≡ None → Draws Joins j None j
+joint-over j e = λ x J h. (subst (λ o. JoinsFrom o j x J) e h.rest, h)
+
+module _ (j : Joint) (a : Logical) (e : Some a ≡ j.from) (x : ℕ) (J : Positions) (h : Joins j x J) where
+  left : (a.0 ≡ x) × Both j x J
+  left = subst (λ o. JoinsFrom o j x J) (sym e) h.rest
+
+  standing : (t : Option Logical) → Both (holding j t) a.0 J
+  standing t =
+      let b = subst (λ z. Both j z J) (sym left.0) left.1 in
+      record { first = b.first; second = b.second; left = b.left; right = b.right; is = b.is }
+
+pub joint-none : (j j' : Joint) (t : Option Logical) (a : Logical) → Some a ≡ j.from → t ≡ None → j'.from ≡ t → Reaches (holding j t) a.0 true None j'
+    → Draws Joins j None j'
+joint-none j j' t a e n f g = λ x J h.
+    let c = subst (λ z. Clear z J) (left j a e x J h).0 (g J (standing j a e x J h t)) in (c, record { rest = subst (λ o. JoinsFrom o j' x J) (sym (f ∙ n)) c })
+
+module _ (j j₁ j₂ : Joint) (t : Option Logical) (a b : Logical) (e : Some a ≡ j.from) (g : Reaches (holding j t) a.0 true (Some b) j₁) where
+  -- where it begins
+  begins : (x : ℕ) (J : Positions) → Joins j x J → ReachedAt x b.0 true J × Both j₁ b.0 J
+  begins x J h = subst (λ z. ReachedAt z b.0 true J × Both j₁ b.0 J) (left j a e x J h).0 (g J (standing j a e x J h t))
+
+  -- it reaches the last position
+  pub joint-last : t ≡ None → j₁.from ≡ t → j₂.from ≡ j₁.from → Reaches j₁ b.0 false None j₂ → Draws Joins j (Some (run b.0 (size - 1))) j₂
+  joint-last n f₁ f₂ k = λ x J h.
+      let i = begins x J h in (
+        record {
+          onward = i.0.onward;
+          ordered = omega (arith, i.0.small);
           small = omega arith;
-          before = λ t a b. so_far e t a (omega arith);
-          here = both-here op Q R (last + 1) (c w p' u Q y (omega arith)) (d w₂ p₂' u₂ R z (omega arith)) q;
-        }
+          clear = i.0.before;
+          held = λ z l u. k J i.1 z l (omega arith);
+          stops = λ l. absurd (omega arith);
+        },
+        record { rest = subst (λ o. JoinsFrom o j₂ (suc (size - 1)) J) (sym (f₂ ∙ f₁ ∙ n)) (λ z l u. absurd (omega arith)) },
+      )
 
--- ---- a run of the join: it begins where the join is first held, and ends before it is first not held after that
-module _ (op : Operation) (w p p₁ : List ℕ) (u : View) (s : Source) (w₂ p₂ q₁ : List ℕ) (u₂ : View) (t : Source) (x : ℕ) (v : Bool) (a : Reached) (f : Reaches op w p p₁ u s w₂ p₂ q₁ u₂ t x v a) where
-  reached-there : a.found ≡ true → (Q R : Positions) → Both w p u s w₂ p₂ u₂ t x Q R → Reaching w p₁ u w₂ q₁ u₂ x v a op Q R true
-  reached-there e Q R k = subst (Reaching w p₁ u w₂ q₁ u₂ x v a op Q R) e (f Q R k)
-
-  reached-none : a.found ≡ false → (Q R : Positions) → Both w p u s w₂ p₂ u₂ t x Q R → Reaching w p₁ u w₂ q₁ u₂ x v a op Q R false
-  reached-none e Q R k = subst (Reaching w p₁ u w₂ q₁ u₂ x v a op Q R) e (f Q R k)
-
-  pub still-joinable : a.found ≡ true → Joinable w p u s w₂ p₂ u₂ t x → Joinable w p₁ u a.left w₂ q₁ u₂ a.right a.at
-  still-joinable e (Q, R, k) = (Q, R, (reached-there e Q R k).1)
-
-module _ (op : Operation) (w p p₁ : List ℕ) (u : View) (s : Source) (w₂ p₂ q₁ : List ℕ) (u₂ : View) (t : Source) (x : ℕ) (a : Reached) (f : Reaches op w p p₁ u s w₂ p₂ q₁ u₂ t x true a) where
-  pub joint-none : a.found ≡ false → (l r : Source) → NextJoint op w p p₁ u s w₂ p₂ q₁ u₂ t x (record { found = false; start = 0; «end» = 0; left = l; right = r })
-  joint-none e l r Q R k = reached-none op w p p₁ u s w₂ p₂ q₁ u₂ t x true a f e Q R k
-
-  module _ (e : a.found ≡ true) (p₃ q₃ : List ℕ) (b : Reached) (g : Reaches op w p₁ p₃ u a.left w₂ q₁ q₃ u₂ a.right a.at false b) where
-    module _ (Q R : Positions) (k : Both w p u s w₂ p₂ u₂ t x Q R) where
-      begins : ReachedAt x a.at true (combined op Q R)
-      begins = (reached-there op w p p₁ u s w₂ p₂ q₁ u₂ t x true a f e Q R k).0
-
-      between : Both w p₁ u a.left w₂ q₁ u₂ a.right a.at Q R
-      between = (reached-there op w p p₁ u s w₂ p₂ q₁ u₂ t x true a f e Q R k).1
-
-      ends : b.found ≡ true → Reaching w p₃ u w₂ q₃ u₂ a.at false b op Q R true
-      ends d = reached-there op w p₁ p₃ u a.left w₂ q₁ q₃ u₂ a.right a.at false b g d Q R between
-
+  -- or ends before it
+  module _ {s : Logical} (k : Reaches j₁ b.0 false (Some s) j₂) where
     -- the run has a position, so its end is one before the first that is not held
-    apart : (J : Positions) (m n : ℕ) → m ≤ n → J m ≡ true → J n ≡ false → m < n
-    apart J m n h i j = go (split m n)
+    apart : (x : ℕ) (J : Positions) → Joins j x J → b.0 < s.0
+    apart x J h = go (split b.0 s.0)
       where
-        go : (m < n) ⊎ (n ≤ m) → m < n
-        go (inl y) = y
-        go (inr y) = absurd (true≢false (sym i ∙ (ap J (same y) ∙ j)))
-          where
-            same : n ≤ m → m ≡ n
-            same y = omega arith
+        i : ReachedAt x b.0 true J × Both j₁ b.0 J
+        i = begins x J h
 
-    pub joint-past : b.found ≡ true → Joinable w p u s w₂ p₂ u₂ t x → a.at < b.at
-    joint-past d (Q, R, k) = apart (combined op Q R) a.at b.at (ends Q R k d).0.onward (begins Q R k).here (ends Q R k d).0.here
+        o : ReachedAt b.0 s.0 false J
+        o = (k J i.1).0
 
-    pub joint-ends : b.found ≡ true → NextJoint op w p p₃ u s w₂ p₂ q₃ u₂ t x (record { found = true; start = a.at; «end» = b.at - 1; left = b.left; right = b.right })
-    joint-ends d Q R k =
-        let i = begins Q R k in
-        let j = (ends Q R k d).0 in
-        let l = joint-past d (Q, R, k) in
-        let h : suc (b.at - 1) ≡ b.at = omega arith in (
+        go : (b.0 < s.0) ⊎ (s.0 ≤ b.0) → b.0 < s.0
+        go (inl l) = l
+        go (inr l) = let q : b.0 ≡ s.0 = omega (arith, o.onward) in absurd (true≢false (sym i.0.here ∙ (ap J q ∙ o.here)))
+
+    pub joint-past : (x : ℕ) × (J : Positions) × Joins j x J → b.0 < s.0
+    joint-past (x, J, h) = apart x J h
+
+    pub joint-ends : Draws Joins j (Some (run b.0 (s.0 - 1))) (holding j₂ (Some s))
+    joint-ends = λ x J h.
+        let i = begins x J h in
+        let o = k J i.1 in
+        let l = apart x J h in
+        let q : suc (s.0 - 1) ≡ s.0 = omega arith in (
           record {
-            onward = i.onward;
+            onward = i.0.onward;
             ordered = omega arith;
-            small = omega (arith, j.small);
-            clear = i.before;
-            held = λ z m n. j.before z m (omega arith);
-            stops = λ _. rw h j.here;
+            small = omega (arith, o.0.small);
+            clear = i.0.before;
+            held = λ z m n. o.0.before z m (omega arith);
+            stops = λ _. ap J q ∙ o.0.here;
           },
-          λ _. rw h (ends Q R k d).1,
-        )
-
-    pub joint-last : b.found ≡ false → (l r : Source) → NextJoint op w p p₃ u s w₂ p₂ q₃ u₂ t x (record { found = true; start = a.at; «end» = size - 1; left = l; right = r })
-    joint-last d l r Q R k =
-        let i = begins Q R k in (
           record {
-            onward = i.onward;
-            ordered = omega (arith, i.small);
-            small = omega arith;
-            clear = i.before;
-            held = λ z m n. reached-none op w p₁ p₃ u a.left w₂ q₁ q₃ u₂ a.right a.at false b g d Q R (between Q R k) z m (omega arith);
-            stops = λ h. absurd (omega arith);
+            rest = (
+              sym q,
+              subst (λ z. Both (holding j₂ (Some s)) z J) (sym q)
+                  (record { first = o.1.first; second = o.1.second; left = o.1.left; right = o.1.right; is = o.1.is }),
+            );
           },
-          λ h. absurd (omega arith),
         )

@@ -7,43 +7,37 @@ use Rattle.store.specs.declared.World.{World}
 use Rattle.store.specs.Layout.{held_from}
 use Rattle.store.specs.Soundness.{Share, Standing}
 use Rattle.store.specs.Settle.{Became}
-use Rattle.streams.specs.declared.source.View.{View}
 use Rattle.streams.specs.declared.gather.Feed.{Feed}
 use Rattle.streams.specs.Reading.{Rooted}
 
--- from where a feed is read; one run is read from nowhere
-abbrev pub view_of : Feed → View
-view_of (Feed.Held v) = v
-view_of (Feed.Only a b) = record { root = 0; offset = 0 }
+-- the positions that a feed gives
+abbrev pub fed_by : Feed → Positions
+fed_by (Feed.Held w v) = held_from w.now v.root v.offset
+fed_by (Feed.Only a b) = mem (run a.0 b.0 ∷ [])
 
--- the positions that a feed of the words w gives
-abbrev pub fed_by : Feed → List ℕ → Positions
-fed_by (Feed.Held v) w = held_from w v.root v.offset
-fed_by (Feed.Only a b) w = mem (run a.0 b.0 ∷ [])
-
--- the feed can be read: there is a tree at its root, or its run does not end before it starts
-abbrev pub Fed : List ℕ → Feed → Type 0
-Fed w (Feed.Held v) = Rooted w v.root
-Fed w (Feed.Only a b) = a.0 ≤ b.0
+-- it can be read: there is a tree at its root, or its run does not end before it starts
+abbrev pub Fed : Feed → Type 0
+Fed (Feed.Held w v) = Rooted w.now v.root
+Fed (Feed.Only a b) = a.0 ≤ b.0
 
 -- both can
-pub record Sources (x : List ℕ) (fx : Feed) (y : List ℕ) (fy : Feed) : Type 0 where
-  pub left : Fed x fx
-  pub right : Fed y fy
+pub record Sources (x y : Feed) : Type 0 where
+  pub left : Fed x
+  pub right : Fed y
 
 -- the positions of two feeds, joined
-abbrev pub joined : Operation → List ℕ → Feed → List ℕ → Feed → Positions
-joined op x fx y fy = combined op (fed_by fx x) (fed_by fy y)
+abbrev pub joined : Operation → Feed → Feed → Positions
+joined op x y = combined op (fed_by x) (fed_by y)
 
 -- the free chain ns from k on has nodes for the runs of Q
 pub record Ample (w : List ℕ) (k : ℕ) (ns : List ℕ) (Q : Positions) : Type 0 where
   pub free : FreeChain w k ns
   pub enough : stretches Q ≤ length ns
 
-pub record Fillable (w : List ℕ) (k : ℕ) (op : Operation) (x : List ℕ) (fx : Feed) (y : List ℕ) (fy : Feed) : Type 0 where
-  pub sources : Sources x fx y fy
+pub record Fillable (w : List ℕ) (k : ℕ) (op : Operation) (x y : Feed) : Type 0 where
+  pub sources : Sources x y
   pub nodes : List ℕ
-  pub ample : Ample w k nodes (joined op x fx y fy)
+  pub ample : Ample w k nodes (joined op x y)
 
 -- the first n of these nodes hold the runs of Q, and these are all; the free chain goes on at `next`
 pub record FilledWith (w w' : List ℕ) (k n : ℕ) (ns : List ℕ) (Q : Positions) : Type 0 where
@@ -60,10 +54,10 @@ pub record Roomy (w : List ℕ) (s : Share) (h : World) (Q : Positions) : Type 0
   pub enough : stretches Q ≤ s.own
 
 -- WHAT GATHERING ASKS: both feeds can be read, and some share of the world has nodes for their join
-pub record Gatherable (w : List ℕ) (h : World) (op : Operation) (x : List ℕ) (fx : Feed) (y : List ℕ) (fy : Feed) : Type 0 where
-  pub sources : Sources x fx y fy
+pub record Gatherable (w : List ℕ) (h : World) (op : Operation) (x y : Feed) : Type 0 where
+  pub sources : Sources x y
   pub share : Share
-  pub roomy : Roomy w share h (joined op x fx y fy)
+  pub roomy : Roomy w share h (joined op x y)
 
 -- WHAT IT PROMISES: the world r stands in its place and holds Q; others stand still
 abbrev pub Gathers : List ℕ → List ℕ → World → World → Positions → Type 0

@@ -1,83 +1,99 @@
--- What reading two sources together asks and promises. Assumes nothing: these are definitions.
-use Rattle.std.specs.Prelude.{ℕ, suc, ◌≤◌, ◌<◌, ◌≡◌, Bool, true, false, not, List}
-use Rattle.model.specs.declared.Operation.{Operation}
+-- What reading two sets together asks and promises. Assumes nothing: these are definitions.
+use Rattle.std.specs.Prelude.{ℕ, suc, ◌+◌, ◌≤◌, ◌<◌, ◌≡◌, Bool, true, false, not, [], ◌∷◌, Option, None, Some}
+use Rattle.model.specs.declared.Run.{Run}
+use Rattle.model.specs.declared.Logical.{Logical}
 use Rattle.model.specs.Numbers.{size}
-use Rattle.model.specs.Positions.{Positions, combined}
-use Rattle.streams.specs.declared.source.View.{View}
-use Rattle.streams.specs.declared.source.Source.{Source}
-use Rattle.streams.specs.declared.sweep.Reached.{Reached}
+use Rattle.model.specs.Positions.{Positions, run, mem, combined}
+use Rattle.streams.specs.declared.source.Reader.{Reader}
+use Rattle.streams.specs.declared.sweep.Cursor.{Cursor}
 use Rattle.streams.specs.declared.sweep.Joint.{Joint}
-use Rattle.streams.specs.Reading.{Rooted, Clear, Reads}
+use Rattle.streams.specs.Reading.{Clear, Reads}
 
--- what a source says at x, whatever set it reads
-abbrev pub ValueAt : Source → ℕ → Bool → Type 0
-ValueAt s x v = (w path : List ℕ) (u : View) (Q : Positions) → Reads w path u s x Q → x < size → v ≡ Q x
+-- ---- one reading
+-- a .. b is the run of Q at x, or the first one after it; it may have begun before x
+pub record Current (a b x : ℕ) (Q : Positions) : Type 0 where
+  pub ordered : a ≤ b
+  pub ahead : x ≤ b
+  pub small : b < size
+  pub clear : (z : ℕ) → x ≤ z → z < a → Q z ≡ false
+  pub held : (z : ℕ) → x ≤ z → a ≤ z → z ≤ b → Q z ≡ true
+  pub stops : suc b < size → Q (suc b) ≡ false
 
--- the value of x is that of all positions up to r, which is not past the source's run
-pub record Same (s : Source) (x r : ℕ) (Q : Positions) : Type 0 where
+-- a reader has Q from y on, and where there is none nothing is left
+abbrev pub Beyond : Option Reader → ℕ → Positions → Type 0
+Beyond None y Q = Clear y Q
+Beyond (Some r) y Q = Reads r y Q
+
+-- the run of Q at x or the next one is at hand, and the others are to come; or Q is over
+abbrev pub AtHand : Option Run → Option Reader → ℕ → Positions → Type 0
+AtHand None rest x Q = Clear x Q
+AtHand (Some r) rest x Q = Current r.start r.«end» x Q × Beyond rest (suc r.«end») Q
+
+-- A CURSOR that stands at x in Q
+abbrev pub Points : Cursor → ℕ → Positions → Type 0
+Points c x Q = AtHand c.run c.rest x Q
+
+-- one in the one run a .. b
+abbrev pub Covers : Cursor → ℕ → ℕ → Type 0
+Covers c a b = Points c 0 (mem (run a b ∷ []))
+
+-- what a cursor says at x, whatever set it reads
+abbrev pub ValueAt : Cursor → ℕ → Bool → Type 0
+ValueAt c x v = (Q : Positions) → Points c x Q → x < size → v ≡ Q x
+
+-- x is not past the end of the run at hand, or at most n past it
+abbrev pub Within : ℕ → Option Run → ℕ → Type 0
+Within n None x = Unit {0}
+Within n (Some r) x = x ≤ n + r.«end»
+
+-- the value of x is that of all positions up to r, which is not past the run at hand
+pub record Same (c : Cursor) (x r : ℕ) (Q : Positions) : Type 0 where
   pub onward : x ≤ r
   pub small : r < size
   pub alike : (z : ℕ) → x ≤ z → z ≤ r → Q z ≡ Q x
-  pub within : s.live ≡ true → r ≤ s.«end»
+  pub within : Within 0 c.run r
 
-abbrev pub SameTo : Source → ℕ → ℕ → Type 0
-SameTo s x r = (w path : List ℕ) (u : View) (Q : Positions) → Reads w path u s x Q → x < size → Same s x r Q
+abbrev pub SameTo : Cursor → ℕ → ℕ → Type 0
+SameTo c x r = (Q : Positions) → Points c x Q → x < size → Same c x r Q
 
--- a source that stands at y can move to x
-pub record CanMove (w path : List ℕ) (u : View) (s : Source) (x y : ℕ) (Q : Positions) : Type 0 where
-  pub rooted : Rooted w u.root
-  pub reads : Reads w path u s y Q
+-- a cursor that stands at y can move to x
+pub record CanMove (c : Cursor) (x y : ℕ) (Q : Positions) : Type 0 where
+  pub points : Points c y Q
   pub onward : y ≤ x
-  pub within : s.live ≡ true → x ≤ suc s.«end»
+  pub within : Within 1 c.run x
 
-abbrev pub Movable : List ℕ → List ℕ → View → Source → ℕ → Type 0
-Movable w path u s x = (y : ℕ) × (Q : Positions) × CanMove w path u s x y Q
+abbrev pub Movable : Cursor → ℕ → Type 0
+Movable c x = (y : ℕ) × (Q : Positions) × CanMove c x y Q
 
-abbrev pub Moves : List ℕ → List ℕ → List ℕ → View → Source → ℕ → Source → Type 0
-Moves w path path' u s x r = (y : ℕ) (Q : Positions) → CanMove w path u s x y Q → Reads w path' u r x Q
+abbrev pub Moves : Cursor → ℕ → Cursor → Type 0
+Moves c x c' = (y : ℕ) (Q : Positions) → CanMove c x y Q → Points c' x Q
 
--- two sources stand at x
-pub record Both (w p : List ℕ) (u : View) (s : Source) (w₂ p₂ : List ℕ) (u₂ : View) (t : Source) (x : ℕ) (Q R : Positions) : Type 0 where
-  pub rooted : Rooted w u.root
-  pub rooted₂ : Rooted w₂ u₂.root
-  pub reads : Reads w p u s x Q
-  pub reads₂ : Reads w₂ p₂ u₂ t x R
+-- ---- two of them
+-- both cursors stand at x, in sets whose join is J
+pub record Both (j : Joint) (x : ℕ) (J : Positions) : Type 0 where
+  pub first : Positions
+  pub second : Positions
+  pub left : Points j.left x first
+  pub right : Points j.right x second
+  pub is : combined j.op first second ≡ J
 
-abbrev pub Joinable : List ℕ → List ℕ → View → Source → List ℕ → List ℕ → View → Source → ℕ → Type 0
-Joinable w p u s w₂ p₂ u₂ t x = (Q R : Positions) × Both w p u s w₂ p₂ u₂ t x Q R
-
--- the first position from x on at which J has the value v, or that there is none
+-- the first position from x on at which J has the value v
 pub record ReachedAt (x at : ℕ) (v : Bool) (J : Positions) : Type 0 where
   pub onward : x ≤ at
   pub small : at < size
   pub before : (z : ℕ) → x ≤ z → z < at → J z ≡ not v
   pub here : J at ≡ v
 
-abbrev pub Reaching : (w p : List ℕ) (u : View) (w₂ p₂ : List ℕ) (u₂ : View) → ℕ → Bool → Reached → Operation → Positions → Positions → Bool → Type 0
-Reaching w p u w₂ p₂ u₂ x v r op Q R true =
-    ReachedAt x r.at v (combined op Q R) × Both w p u r.left w₂ p₂ u₂ r.right r.at Q R
-Reaching w p u w₂ p₂ u₂ x v r op Q R false = (z : ℕ) → x ≤ z → z < size → combined op Q R z ≡ not v
+-- both are moved there, or there is none
+abbrev pub Reaches : Joint → ℕ → Bool → Option Logical → Joint → Type 0
+Reaches j x v None j' = (J : Positions) → Both j x J → (z : ℕ) → x ≤ z → z < size → J z ≡ not v
+Reaches j x v (Some a) j' = (J : Positions) → Both j x J → ReachedAt x a.0 v J × Both j' a.0 J
 
-abbrev pub Reaches :
-    Operation → List ℕ → List ℕ → List ℕ → View → Source → List ℕ → List ℕ → List ℕ → View → Source → ℕ → Bool → Reached → Type 0
-Reaches op w p p' u s w₂ p₂ p₂' u₂ t x v r =
-    (Q R : Positions) → Both w p u s w₂ p₂ u₂ t x Q R → Reaching w p' u w₂ p₂' u₂ x v r op Q R r.found
+-- J from x on is to be read from a position on, or nothing is left of it
+abbrev pub JoinsFrom : Option Logical → Joint → ℕ → Positions → Type 0
+JoinsFrom None j x J = Clear x J
+JoinsFrom (Some a) j x J = (a.0 ≡ x) × Both j x J
 
--- a .. b is the first run of J from x on
-pub record RunFrom (x a b : ℕ) (J : Positions) : Type 0 where
-  pub onward : x ≤ a
-  pub ordered : a ≤ b
-  pub small : b < size
-  pub clear : (z : ℕ) → x ≤ z → z < a → J z ≡ false
-  pub held : (z : ℕ) → a ≤ z → z ≤ b → J z ≡ true
-  pub stops : suc b < size → J (suc b) ≡ false
-
-abbrev pub Jointly : (w p : List ℕ) (u : View) (w₂ p₂ : List ℕ) (u₂ : View) → ℕ → Joint → Operation → Positions → Positions → Bool → Type 0
-Jointly w p u w₂ p₂ u₂ x r op Q R true =
-    RunFrom x r.start r.«end» (combined op Q R)
-    × (suc r.«end» < size → Both w p u r.left w₂ p₂ u₂ r.right (suc r.«end») Q R)
-Jointly w p u w₂ p₂ u₂ x r op Q R false = Clear x (combined op Q R)
-
-abbrev pub NextJoint : Operation → List ℕ → List ℕ → List ℕ → View → Source → List ℕ → List ℕ → List ℕ → View → Source → ℕ → Joint → Type 0
-NextJoint op w p p' u s w₂ p₂ p₂' u₂ t x r =
-    (Q R : Positions) → Both w p u s w₂ p₂ u₂ t x Q R → Jointly w p' u w₂ p₂' u₂ x r op Q R r.found
+-- A JOINT that has J to read from x on
+pub record Joins (j : Joint) (x : ℕ) (J : Positions) : Type 0 where
+  pub rest : JoinsFrom j.from j x J

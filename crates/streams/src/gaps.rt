@@ -6,18 +6,9 @@ ghost use Rattle.model.specs.Positions.{gap};
 ghost use Rattle.store.specs.Layout.{held_in};
 ghost use Rattle.store.specs.Soundness.{Stands};
 
-use crate::source::{HIGHEST, View};
+use crate::source::{Reader, View};
 use model::Logical;
 use store::World;
-
-// How far y lies beyond x, and 0 if it does not.
-fn beyond(x: Logical, y: Logical) -> u64
-    ensures { result ≡ y.0 - x.0 }
-{
-    let from = x.0;
-    let to = y.0;
-    if from < to { to - from } else { 0 }
-}
 
 // The start of the lowest gap of n in a..=b. Wherever the loop stands, at least n positions are left from x to b: so what it finds to be free
 // before the next run is also within the range, and with no run left a gap starts at x.
@@ -33,18 +24,16 @@ pub fn lowest_gap(words: &[u64], h: World, a: Logical, b: Logical, n: u64) -> Op
         root: h.root,
         offset: h.offset,
     };
-    let mut path = [0u64; HIGHEST];
     let mut x = a.0;
-    let mut s = crate::source::open(words, &mut path, v, Logical(x));
-    while s.live {
-        if beyond(Logical(x), Logical(s.start)) >= n {
+    let mut held = Reader::open(words, v, Logical(x));
+    while let Some(r) = held.next() {
+        if r.start - x >= n {
             return Some(x);
         }
-        if beyond(Logical(s.end), b) < n {
+        if b.0.saturating_sub(r.end) < n {
             return None;
         }
-        x = s.end + 1;
-        s = crate::source::advance(words, &mut path, v, s);
+        x = r.end + 1;
     }
     Some(x)
 }

@@ -1,13 +1,15 @@
-// A source: the runs of a set in logical order, one after the other, each a maximal run of held positions.
+// A reader: the runs of a set in logical order, one after the other, each a maximal run of held positions.
 // The path has the nodes whose own run and right side are still to come, the nearest last; so each node is visited once.
 // Under an offset o the logical positions o .. M are kept at 0 .. M - o, and those below o at the places above them: a reading from below o
 // has a first part, up to physical M, and a last part, from physical 0 on.
-ghost use Rattle.std.specs.Prelude.{◌≡◌, true, false, ◌≤◌, length};
-ghost use Rattle.store.specs.Layout.{held_from, highest};
-ghost use Rattle.streams.specs.Reading.{Rooted, Reads, Descendable, Descends, Poppable, Pops, Stacked, TellsZero, LastReady, FirstReady, TellsLast, TellsFirst, Advanceable, Advances, Covers};
+ghost use Rattle.std.specs.Prelude.{◌≡◌, ℕ, List};
+ghost use Rattle.model.specs.declared.Run.{Run};
+ghost use Rattle.model.specs.Positions.{Positions};
+ghost use Rattle.store.specs.Layout.{held_from};
+ghost use Rattle.streams.specs.Reading.{Rooted, After, Reads, Draws, Descendable, Descends, OnPath, Pops, TellsZero, Stands, LastAt, FirstAt, Finds};
 
-use model::Logical;
-use store::places::Physical;
+use model::{Logical, Run};
+use store::places::{Physical, to_logical, to_physical};
 
 // The greatest height of a tree, and so the most nodes of a path.
 pub const HIGHEST: usize = 22;
@@ -19,205 +21,159 @@ pub struct View {
     pub offset: u64,
 }
 
-// The run at hand, if there is one; how many nodes are on the path; and whether the last part is being read.
-#[derive(Clone, Copy)]
-pub struct Source {
-    pub live: bool,
-    pub start: u64,
-    pub end: u64,
-    pub depth: u64,
-    pub last: bool,
+// The nodes on the way, and how many there are.
+#[derive(Drop)]
+pub struct Path {
+    pub nodes: [u64; HIGHEST],
+    pub depth: usize,
 }
 
-// A run taken off the path, and how many nodes are on it then.
-#[derive(Clone, Copy)]
-pub struct Popped {
-    pub start: u64,
-    pub end: u64,
-    pub depth: u64,
-}
-
-// A source with no run, and none to come.
-fn over() -> Source
-    ensures { result ≡ record { live = false; start = 0; «end» = 0; depth = 0; last = true } }
-{
-    Source {
-        live: false,
-        start: 0,
-        end: 0,
-        depth: 0,
-        last: true,
-    }
-}
-
-// Puts the nodes of the tree at a link on the path, down to the first run that ends at p or later.
-fn descend(words: &[u64], path: &mut [u64; HIGHEST], depth: u64, link: u64, p: Physical) -> u64
-    requires { Descendable words.now path.old depth link }
-    ensures { Descends words.now path.old path.new depth link p.0 result }
-{
-    let from = p.0;
-    let mut k = link;
-    let mut d = depth;
-    while k != 0 {
-        let v = run_index::read_node(words, k);
-        if v.end < from {
-            k = v.right;
-        } else {
-            path[d as usize] = k;
-            d += 1;
-            k = v.left;
+impl Path {
+    // Puts the nodes of the tree at a link on it, down to the first run that ends at p or later.
+    fn descend(&mut self, words: &[u64], link: u64, p: Physical)
+        requires { Descendable words.now self.old link }
+        ensures { Descends words.now self.old link p.0 self.new }
+    {
+        let mut k = link;
+        while k != 0 {
+            let v = run_index::read_node(words, k);
+            if v.end < p.0 {
+                k = v.right;
+            } else {
+                self.nodes[self.depth] = k;
+                self.depth += 1;
+                k = v.left;
+            }
         }
     }
-    d
+
+    // Takes the nearest run off it, and puts the nodes before the next one on it.
+    fn pop(&mut self, words: &[u64]) -> Option<Run>
+        requires { (rs : List Run) × OnPath words.now self.old rs }
+        ensures { Pops words.now self.old result self.new }
+    {
+        self.depth = self.depth.checked_sub(1)?;
+        let v = run_index::read_node(words, self.nodes[self.depth]);
+        self.descend(words, v.right, Physical(0));
+        Some(Run {
+            start: v.start,
+            end: v.end,
+        })
+    }
+
+    // Whether the nearest run starts at physical 0.
+    fn starts_at_zero(&self, words: &[u64]) -> bool
+        requires { (rs : List Run) × OnPath words.now self.now rs }
+        ensures { TellsZero words.now self.now result }
+    {
+        match self.depth.checked_sub(1) {
+            None => false,
+            Some(top) => run_index::read_node(words, self.nodes[top]).start == 0,
+        }
+    }
 }
 
-// Takes the nearest run off the path, and puts the nodes before the next one on it.
-fn pop(words: &[u64], path: &mut [u64; HIGHEST], depth: u64) -> Popped
-    requires { Poppable words.now path.old depth }
-    ensures { Pops words.now path.old path.new depth result }
+// The position after another, if there is one.
+pub fn after(x: Logical) -> Option<Logical>
+    ensures { After x.0 result }
 {
-    let k = path[(depth - 1) as usize];
-    let v = run_index::read_node(words, k);
-    let d = descend(words, path, depth - 1, v.right, Physical(0));
-    Popped {
-        start: v.start,
-        end: v.end,
-        depth: d,
-    }
+    Some(Logical(x.0.checked_add(1)?))
 }
 
-// The next run of the last part, whose runs end at p or later.
-fn from_last(words: &[u64], path: &mut [u64; HIGHEST], v: View, depth: u64, p: Physical) -> Source
-    requires { LastReady words.now path.old v depth p.0 }
-    ensures { TellsLast words.now path.old path.new v depth p.0 result }
-{
-    let from = p.0;
-    if depth == 0 {
-        return over();
-    }
-    let x = pop(words, path, depth);
-    let top = u64::MAX - v.offset;
-    if x.start > top {
-        return over();
-    }
-    let a = store::places::to_logical(Physical(run_index::larger(x.start, from)), v.offset);
-    if x.end > top {
-        return Source {
-            live: true,
-            start: a.0,
-            end: u64::MAX,
-            depth: x.depth,
-            last: true,
+// The set that is read, the path, and the position from which on it is still to be read, if any is left.
+#[derive(Drop)]
+pub struct Reader<'a> {
+    pub words: &'a [u64],
+    pub view: View,
+    pub path: Path,
+    pub from: Option<Logical>,
+}
+
+impl<'a> Reader<'a> {
+    // Begins at a logical position.
+    pub fn open(words: &'a [u64], view: View, from: Logical) -> Reader<'a>
+        requires { Rooted words.now view.root }
+        ensures { Reads result «from».0 (held_from words.now view.root view.offset) }
+    {
+        let mut path = Path {
+            nodes: [0; HIGHEST],
+            depth: 0,
         };
+        path.descend(words, view.root, to_physical(from, view.offset));
+        Reader {
+            words,
+            view,
+            path,
+            from: Some(from),
+        }
     }
-    let b = store::places::to_logical(Physical(x.end), v.offset);
-    Source {
-        live: true,
-        start: a.0,
-        end: b.0,
-        depth: x.depth,
-        last: true,
-    }
-}
 
-// Whether the run that is nearest on the path starts at physical 0.
-fn starts_at_zero(words: &[u64], path: &[u64; HIGHEST], depth: u64) -> bool
-    requires { Stacked words.now path.now depth }
-    ensures { TellsZero words.now path.now depth result }
-{
-    if depth == 0 {
-        return false;
+    // The next run.
+    pub fn next(&mut self) -> Option<Run>
+        requires { (y : ℕ) × (Q : Positions) × Reads self.old y Q }
+        ensures { Draws Reads self.old result self.new }
+    {
+        let from = self.from.take()?;
+        let r = self.find(from)?;
+        self.from = after(Logical(r.end));
+        Some(r)
     }
-    let v = run_index::read_node(words, path[(depth - 1) as usize]);
-    v.start == 0
-}
 
-// The next run of the first part, whose runs end at p or later; a run that reaches physical M goes on with the one at physical 0.
-fn from_first(words: &[u64], path: &mut [u64; HIGHEST], v: View, depth: u64, p: Physical) -> Source
-    requires { FirstReady words.now path.old v depth p.0 }
-    ensures { TellsFirst words.now path.old path.new v depth p.0 result }
-{
-    let from = p.0;
-    if depth == 0 {
-        let d = descend(words, path, 0, v.root, Physical(0));
-        return from_last(words, path, v, d, Physical(0));
+    // The next run, from the position on where the reader stands.
+    fn find(&mut self, from: Logical) -> Option<Run>
+        requires { (Q : Positions) × Stands self.old «from».0 Q }
+        ensures { Finds Stands self.old «from».0 result self.new }
+    {
+        if from.0 < self.view.offset {
+            self.first(from)
+        } else {
+            self.last(from)
+        }
     }
-    let x = pop(words, path, depth);
-    let a = store::places::to_logical(Physical(run_index::larger(x.start, from)), v.offset);
-    if x.end < u64::MAX {
-        let b = store::places::to_logical(Physical(x.end), v.offset);
-        return Source {
-            live: true,
-            start: a.0,
-            end: b.0,
-            depth: x.depth,
-            last: false,
+
+    // The next run of the last part, from a position in it on.
+    fn last(&mut self, from: Logical) -> Option<Run>
+        requires { (Q : Positions) × LastAt self.old «from».0 Q }
+        ensures { Finds LastAt self.old «from».0 result self.new }
+    {
+        let r = self.path.pop(self.words)?;
+        let offset = self.view.offset;
+        let top = u64::MAX - offset;
+        if r.start > top {
+            return None;
+        }
+        let p = to_physical(from, offset);
+        Some(Run {
+            start: to_logical(Physical(r.start.max(p.0)), offset).0,
+            end: to_logical(Physical(r.end.min(top)), offset).0,
+        })
+    }
+
+    // The next run of the first part, from a position in it on; a run that reaches physical M goes on with the one at physical 0.
+    fn first(&mut self, from: Logical) -> Option<Run>
+        requires { (Q : Positions) × FirstAt self.old «from».0 Q }
+        ensures { Finds FirstAt self.old «from».0 result self.new }
+    {
+        let View { root, offset } = self.view;
+        let seam = Logical(offset);
+        let Some(r) = self.path.pop(self.words) else {
+            self.path.descend(self.words, root, Physical(0));
+            return self.last(seam);
         };
-    }
-    let d = descend(words, path, 0, v.root, Physical(0));
-    if starts_at_zero(words, path, d) {
-        let y = from_last(words, path, v, d, Physical(0));
-        return Source {
-            live: true,
-            start: a.0,
-            end: y.end,
-            depth: y.depth,
-            last: y.last,
+        let p = to_physical(from, offset);
+        let start = to_logical(Physical(r.start.max(p.0)), offset).0;
+        if r.end < u64::MAX {
+            return Some(Run {
+                start,
+                end: to_logical(Physical(r.end), offset).0,
+            });
+        }
+        self.path.descend(self.words, root, Physical(0));
+        let end = if self.path.starts_at_zero(self.words) {
+            self.last(seam)?.end
+        } else {
+            offset - 1
         };
-    }
-    let end = v.offset - 1;
-    Source {
-        live: true,
-        start: a.0,
-        end: end,
-        depth: d,
-        last: true,
-    }
-}
-
-// Begins a reading at a logical position.
-pub fn open(words: &[u64], path: &mut [u64; HIGHEST], v: View, from: Logical) -> Source
-    requires rooted { Rooted words.now v.root }
-    requires path_len { length path.old ≡ highest }
-    ensures { Reads words.now path.new v result «from».0 (held_from words.now v.root v.offset) }
-{
-    let at = from.0;
-    let p = store::places::to_physical(from, v.offset);
-    let d = descend(words, path, 0, v.root, p);
-    if at < v.offset {
-        return from_first(words, path, v, d, p);
-    }
-    from_last(words, path, v, d, p)
-}
-
-// Goes on to the next run.
-pub fn advance(words: &[u64], path: &mut [u64; HIGHEST], v: View, s: Source) -> Source
-    requires { Advanceable words.now path.old v s }
-    ensures { Advances words.now path.old path.new v s result }
-{
-    if s.end == u64::MAX {
-        return over();
-    }
-    let p = store::places::to_physical(Logical(s.end + 1), v.offset);
-    if !s.last {
-        return from_first(words, path, v, s.depth, p);
-    }
-    if s.depth == 0 {
-        return over();
-    }
-    from_last(words, path, v, s.depth, p)
-}
-
-// A source of one run, which no tree is needed for.
-pub fn single(start: Logical, end: Logical) -> Source
-    requires { start.0 ≤ «end».0 }
-    ensures { Covers result start.0 «end».0 }
-{
-    Source {
-        live: true,
-        start: start.0,
-        end: end.0,
-        depth: 0,
-        last: true,
+        Some(Run { start, end })
     }
 }

@@ -11,7 +11,7 @@ ghost use Rattle.written.specs.Placed.{placed, strewn, head_of, put_run};
 use crate::runs::{RunList, Told};
 use model::{Edition, Logical};
 use store::World;
-use streams::source::{HIGHEST, View};
+use streams::source::{Reader, View};
 
 // The version byte of an edition.
 pub fn version_of(edition: Edition) -> u8
@@ -65,13 +65,11 @@ pub fn write_set(words: &[u64], h: World, edition: Edition, out: &mut [u8])
         root: h.root,
         offset: h.offset,
     };
-    let mut path = [0u64; HIGHEST];
-    let mut s = streams::source::open(words, &mut path, v, Logical(0));
+    let mut held = Reader::open(words, v, Logical(0));
     let mut i: u64 = 0;
-    while s.live {
-        put_run(out, edition, n, i, s.start, s.end);
+    while let Some(r) = held.next() {
+        put_run(out, edition, n, i, r.start, r.end);
         i += 1;
-        s = streams::source::advance(words, &mut path, v, s);
     }
 }
 

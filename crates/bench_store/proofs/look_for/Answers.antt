@@ -2,5 +2,5 @@
 use Rattle.bench_store.proofs.Grown.{open-stands}
 use Rattle.bench_store.proofs.look_for.Goals as goal
 
-pub lowest_gap-e-requires-clause-stands : goal.lowest_gap-e-requires-clause-stands
-lowest_gap-e-requires-clause-stands c = open-stands c.open-h.ensures
+pub lowest_gap-requires-clause-stands : goal.lowest_gap-requires-clause-stands
+lowest_gap-requires-clause-stands c = open-stands c.open-h.ensures

@@ -1,5 +1,4 @@
 -- `put` meets its contract: whatever the set answers, the pool is sound and as long. Assumes nothing.
-use Rattle.std.proofs.Common.{arith}
 use Rattle.bench_store.proofs.Grown.{editable, full-same, changed-closing, same-sound}
 use Rattle.bench_store.proofs.put.Goals as goal
 
@@ -11,14 +10,12 @@ pub close-requires : goal.close-requires
 close-requires c =
     (_, _, changed-closing c.open-h.ensures c.allowance-limit.ensures c.requires.sound _ _ _ c.set-e.ensures.0 c.in-Some.is)
 
-pub returns-in-None : goal.returns-in-None
-returns-in-None c =
-    let h = same-sound c.requires.sound
-    (full-same c.open-h.ensures c.allowance-limit.ensures c.requires.sound _ _ _ c.set-e.ensures.0 c.in-None.is) in
-    (h.0, h.1, omega arith)
+pub returns-in_default : goal.returns-in_default
+returns-in_default c =
+    same-sound c.requires.sound (full-same c.open-h.ensures c.allowance-limit.ensures c.requires.sound _ _ _ c.set-e.ensures.0 c.in_default.is)
 
-pub returns-in-Some : goal.returns-in-Some
-returns-in-Some c =
+pub returns : goal.returns
+returns c =
     let t = c.close.ensures _ _
     (changed-closing c.open-h.ensures c.allowance-limit.ensures c.requires.sound _ _ _ c.set-e.ensures.0 c.in-Some.is) in
-    (t.sound, t.long, omega arith)
+    (t.sound, t.long)

@@ -1,37 +1,38 @@
 -- `absorb` meets its contract. The loop's invariant: the runs taken out joined what is reached, so the model's `insert` makes of the runs
--- left what it made of all; the measure is how many runs there are, and one while more may come. Assumes nothing.
-use Rattle.std.proofs.Common.{ltb, arith}
-use Rattle.changes.proofs.Counting.{fewer-less}
-use Rattle.changes.proofs.Joining.{absorbing-none, absorbing-indexed, absorbing-done, here, next-removable, so-far-fewer, absorbing-taken, absorbing-apart, absorbing-over}
+-- left what it made of all; the measure is how many runs there are. Assumes nothing.
+use Rattle.std.proofs.Common.{sym, ◌∙◌, arith, rules, leb-true, leb-false}
+use Rattle.changes.proofs.Joining.{absorbing-none, absorbing-ordered, absorbing-indexed, here, within, next-removable, so-far-taken, last-taken, so-far-fewer, apart, over}
 use Rattle.changes.proofs.change.absorb.Goals as goal
 
-pub loop-more-init : goal.loop-more-init
-loop-more-init c = absorbing-none _ (omega (arith, c.well_formed)) c.requires
+pub returns-then-e-r : goal.returns-then-e-r
+returns-then-e-r c sh ls us t ns p = within (absorbing-none.so_far p) c.if-e-r.true
 
-pub at_or_after-n-requires : goal.at_or_after-n-requires
-at_or_after-n-requires c = absorbing-indexed c.loop-more.invariant c.requires
+pub overflow_add-r : goal.overflow_add-r
+overflow_add-r c = omega (arith, absorbing-ordered c.requires, c.if-e-r.false, c.well_formed)
 
-pub remove_run-at-requires : goal.remove_run-at-requires
-remove_run-at-requires c =
-    next-removable (here c.loop-more.invariant c.requires) _ c.at_or_after-n.ensures _ c.in-Some.is
+pub at_or_after-requires : goal.at_or_after-requires
+at_or_after-requires c = absorbing-indexed c.loop-q.invariant c.requires
 
-pub loop-more-smaller-then-reaches : goal.loop-more-smaller-then-reaches
-loop-more-smaller-then-reaches c =
-    fewer-less _ _ c.loop-more.more (ltb c.in-Some.r.«end» c.loop-more.end.0) c.loop-more-test.true
-    (so-far-fewer (here c.loop-more.invariant c.requires) _ c.at_or_after-n.ensures _ c.in-Some.is c.remove_run-at.ensures)
+pub remove_run-links-requires : goal.remove_run-links-requires
+remove_run-links-requires c = next-removable (here c.loop-q.invariant c.requires) _ c.at_or_after.ensures _ c.in-Some.is
 
-pub loop-more-preserved-then-reaches : goal.loop-more-preserved-then-reaches
-loop-more-preserved-then-reaches c =
-    absorbing-taken c.loop-more.invariant _ c.at_or_after-n.ensures _ c.in-Some.is _ c.reaches.ensures c.remove_run-at.ensures
-    c.loop-more-test.true c.if-reaches.true _ c.larger.ensures
+pub returns-then-e-q : goal.returns-then-e-q
+returns-then-e-q c sh ls us t ns p =
+    last-taken (c.loop-q.invariant.so_far p) _ c.at_or_after.ensures _ c.in-Some.is c.remove_run-links.ensures
+    (leb-true _ _ (sym c.reaches.ensures ∙ c.if-reaches.true)) c.if-e-q.true
 
-pub loop-more-preserved-else-reaches : goal.loop-more-preserved-else-reaches
-loop-more-preserved-else-reaches c =
-    absorbing-apart c.loop-more.invariant _ c.at_or_after-n.ensures _ c.in-Some.is _ c.reaches.ensures c.if-reaches.false
+pub loop-q-smaller : goal.loop-q-smaller
+loop-q-smaller c = so-far-fewer (here c.loop-q.invariant c.requires) _ c.at_or_after.ensures _ c.in-Some.is c.remove_run-links.ensures
 
-pub loop-more-preserved : goal.loop-more-preserved
-loop-more-preserved c =
-    absorbing-over c.loop-more.invariant _ c.at_or_after-n.ensures c.in-None.is
+pub loop-q-preserved : goal.loop-q-preserved
+loop-q-preserved c = record {
+  so_far = λ p. so-far-taken (c.loop-q.invariant.so_far p) _ c.at_or_after.ensures _ c.in-Some.is c.remove_run-links.ensures
+      (leb-true _ _ (sym c.reaches.ensures ∙ c.if-reaches.true)) (omega (arith, c.if-e-q.false));
+}
 
-pub returns : goal.returns
-returns c = absorbing-done c.loop-more-test.false c.loop-more.invariant
+pub returns-in-loop-q : goal.returns-in-loop-q
+returns-in-loop-q c sh ls us t ns p = over (c.loop-q.invariant.so_far p) _ c.at_or_after.ensures (search rules)
+
+pub returns-else-reaches : goal.returns-else-reaches
+returns-else-reaches c sh ls us t ns p =
+    apart (c.loop-q.invariant.so_far p) _ c.at_or_after.ensures _ c.in-Some.is (leb-false _ _ (sym c.reaches.ensures ∙ c.if-reaches.false))

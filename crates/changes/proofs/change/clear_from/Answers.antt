@@ -1,49 +1,36 @@
--- `clear_from` meets its contract. The loop's invariant: the model's `clear` makes of the runs left what it made of all, and has done so
--- once no more may come; the measure is how many runs there are, and one while more may come. Assumes nothing.
-use Rattle.std.proofs.Common.{◌-◌, ltb, arith}
-use Rattle.changes.proofs.Counting.{fewer-less, stop-less}
-use Rattle.changes.proofs.Clearing.{here, clearing-indexed, clearing-done, first-changeable, first-removable, cleared-fewer, front-as-many, clearing-gone, clearing-front, clearing-apart, clearing-over}
+-- `clear_from` meets its contract. The loop's invariant: the model's `clear` makes of the runs left what it made of all; the measure is
+-- how many runs there are. Assumes nothing.
+use Rattle.std.proofs.Common.{rules}
+use Rattle.changes.proofs.Clearing.{here, clearing-indexed, first-changeable, first-removable, cleared-fewer, cleared-gone, cleared-last, cleared-front, cleared-apart, cleared-over}
 use Rattle.changes.proofs.change.clear_from.Goals as goal
 
-pub at_or_after-n-requires : goal.at_or_after-n-requires
-at_or_after-n-requires c = clearing-indexed c.loop-more.invariant c.requires
+pub at_or_after-requires : goal.at_or_after-requires
+at_or_after-requires c = clearing-indexed c.loop-r.invariant c.requires
 
 pub resize_run-requires : goal.resize_run-requires
-resize_run-requires c =
-    first-changeable (here c.loop-more.invariant c.requires) _ c.at_or_after-n.ensures _ c.in-Some.is c.if-start-to.true c.if-to-end.true
+resize_run-requires c = first-changeable (here c.loop-r.invariant c.requires) _ c.at_or_after.ensures _ c.in-Some.is c.if-r-e.true c.if-e-r.true
 
-pub loop-more-smaller-then-to-end : goal.loop-more-smaller-then-to-end
-loop-more-smaller-then-to-end c =
-    omega (
-      arith,
-      front-as-many (here c.loop-more.invariant c.requires) _ c.at_or_after-n.ensures _ c.in-Some.is c.if-start-to.true c.if-to-end.true c.resize_run.ensures,
-      stop-less 0 _ c.loop-more-test.true,
-    )
+pub returns-then-e-r : goal.returns-then-e-r
+returns-then-e-r c sh ls us t ns p =
+    cleared-front (c.loop-r.invariant.so_far p) _ c.at_or_after.ensures _ c.in-Some.is c.if-r-e.true c.if-e-r.true c.resize_run.ensures
 
-pub loop-more-preserved-then-to-end : goal.loop-more-preserved-then-to-end
-loop-more-preserved-then-to-end c =
-    clearing-front c.loop-more.invariant _ c.at_or_after-n.ensures _ c.in-Some.is c.if-start-to.true c.if-to-end.true c.resize_run.ensures
+pub remove_run-links-requires : goal.remove_run-links-requires
+remove_run-links-requires c = first-removable (here c.loop-r.invariant c.requires) _ c.at_or_after.ensures _ c.in-Some.is
 
-pub remove_run-at-requires : goal.remove_run-at-requires
-remove_run-at-requires c =
-    first-removable (here c.loop-more.invariant c.requires) _ c.at_or_after-n.ensures _ c.in-Some.is
+pub returns-then-e-r-le1 : goal.returns-then-e-r-le1
+returns-then-e-r-le1 c sh ls us t ns p =
+    cleared-last (c.loop-r.invariant.so_far p) _ c.at_or_after.ensures _ c.in-Some.is c.remove_run-links.ensures c.if-e-r.false c.if-e-r-le1.true
 
-pub loop-more-smaller-else-to-end : goal.loop-more-smaller-else-to-end
-loop-more-smaller-else-to-end c =
-    fewer-less _ _ c.loop-more.more (ltb 1 (c.args.e.0 - c.in-Some.r.«end»)) c.loop-more-test.true
-    (cleared-fewer (here c.loop-more.invariant c.requires) _ c.at_or_after-n.ensures _ c.in-Some.is c.remove_run-at.ensures)
+pub loop-r-smaller : goal.loop-r-smaller
+loop-r-smaller c = cleared-fewer (here c.loop-r.invariant c.requires) _ c.at_or_after.ensures _ c.in-Some.is c.remove_run-links.ensures
 
-pub loop-more-preserved-else-to-end : goal.loop-more-preserved-else-to-end
-loop-more-preserved-else-to-end c =
-    clearing-gone c.loop-more.invariant _ c.at_or_after-n.ensures _ c.in-Some.is c.remove_run-at.ensures c.if-to-end.false
+pub loop-r-preserved : goal.loop-r-preserved
+loop-r-preserved c = record {
+  so_far = λ p. cleared-gone (c.loop-r.invariant.so_far p) _ c.at_or_after.ensures _ c.in-Some.is c.remove_run-links.ensures c.if-e-r.false;
+}
 
-pub loop-more-preserved-else-start-to : goal.loop-more-preserved-else-start-to
-loop-more-preserved-else-start-to c =
-    clearing-apart c.loop-more.invariant _ c.at_or_after-n.ensures _ c.in-Some.is c.if-start-to.false
+pub returns-in-loop-r : goal.returns-in-loop-r
+returns-in-loop-r c sh ls us t ns p = cleared-over (c.loop-r.invariant.so_far p) _ c.at_or_after.ensures (search rules)
 
-pub loop-more-preserved : goal.loop-more-preserved
-loop-more-preserved c =
-    clearing-over c.loop-more.invariant _ c.at_or_after-n.ensures c.in-None.is
-
-pub returns : goal.returns
-returns c = clearing-done c.loop-more-test.false c.loop-more.invariant
+pub returns-else-r-e : goal.returns-else-r-e
+returns-else-r-e c sh ls us t ns p = cleared-apart (c.loop-r.invariant.so_far p) _ c.at_or_after.ensures _ c.in-Some.is c.if-r-e.false

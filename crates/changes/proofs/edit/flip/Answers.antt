@@ -1,36 +1,33 @@
--- `flip` meets its contract. The loop's invariant: the positions from a up to x are flipped, or all up to the last one; the measure is what
--- is left of the range, and one while more may come. Assumes nothing.
+-- `flip` meets its contract. The loop's invariant: the positions from a up to x are flipped; the measure is what is left of the range.
+-- Assumes nothing.
 use Rattle.std.proofs.Common.{suc, ◌-◌, ◌≤◌, sym, ◌∙◌, arith, leb-true}
 use Rattle.model.specs.Positions.{flip_range, stretches}
 use Rattle.store.specs.Layout.{held_in}
-use Rattle.changes.proofs.Flipping.{Flipping, flips-none, stretch-applies, flipping-more, flipping-last, flips-done}
+use Rattle.changes.proofs.Flipping.{Flipping, flips-none, stretch-applies, flipping-more, flips-done}
 use Rattle.changes.proofs.edit.flip.Goals as goal
-use Rattle.changes.proofs.edit.flip.Goals.{At-loop-more, Else-not-flip_fits}
+use Rattle.changes.proofs.edit.flip.Goals.{At-loop-b}
 
 -- what it leaves is few enough
-few : (f : Else-not-flip_fits) → stretches (flip_range f.args.a.0 (suc f.args.b.0 - f.args.a.0) (held_in f.args.words.now f.args.h))
-    ≤ f.args.limit
-few f = leb-true _ _ (sym f.flip_fits.ensures ∙ f.if-not-flip_fits.false)
+few : (l : At-loop-b) → stretches (flip_range l.args.a.0 (suc l.args.b.0 - l.args.a.0) (held_in l.args.words.now l.args.h)) ≤ l.args.limit
+few l = leb-true _ _ (sym l.flip_fits.ensures ∙ l.if-not-flip_fits.false)
 
 -- how far the loop has come
-here : (l : At-loop-more) → Flipping l.args.words.now l.loop-more.words l.requires.editable.0 l.args.h l.loop-more.at
-    l.args.limit l.args.a.0 l.args.b.0 l.loop-more.x.0 l.loop-more.more
-here l = l.loop-more.invariant l.requires.editable.0 l.args.limit l.requires.editable.1 (leb-true _ _ (sym l.flip_fits.ensures ∙ l.if-not-flip_fits.false))
+here : (l : At-loop-b) → Flipping l.args.words.now l.loop-b.words l.requires.editable.0 l.args.h l.loop-b.k
+    l.args.limit l.args.a.0 l.args.b.0 l.loop-b.x.0
+here l = l.loop-b.invariant l.requires.editable.0 l.args.limit l.requires.editable.1 (few l)
 
-pub loop-more-init : goal.loop-more-init
-loop-more-init c = flips-none c.requires.a_le_b (omega (arith, c.well_formed))
+pub loop-b-init : goal.loop-b-init
+loop-b-init c = flips-none c.requires.a_le_b (omega (arith, c.well_formed))
 
-pub apply_set-at-requires : goal.apply_set-at-requires
-apply_set-at-requires c =
-    stretch-applies (here (goal.at.apply_set-at-requires c).At-loop-more) c.loop-more-test.true c.stretch_end-y.ensures
+pub apply_set-k-requires : goal.apply_set-k-requires
+apply_set-k-requires c = stretch-applies (here (goal.at.apply_set-k-requires c).At-loop-b) c.stretch_end-y.ensures
 
-pub loop-more-preserved-then-to-last : goal.loop-more-preserved-then-to-last
-loop-more-preserved-then-to-last c s limit lim few' =
-    flipping-more (c.loop-more.invariant s limit lim few') c.loop-more-test.true c.stretch_end-y.ensures c.apply_set-at.ensures.0 c.if-to-last.true
+pub loop-b-preserved : goal.loop-b-preserved
+loop-b-preserved c s limit lim few' =
+    flipping-more (c.loop-b.invariant s limit lim few') c.stretch_end-y.ensures c.apply_set-k.ensures.0 c.if-y-b.false
 
-pub loop-more-preserved : goal.loop-more-preserved
-loop-more-preserved c s limit lim few' =
-    flipping-last (c.loop-more.invariant s limit lim few') c.loop-more-test.true c.stretch_end-y.ensures c.apply_set-at.ensures.0 c.if-to-last.false
-
-pub returns : goal.returns
-returns c = (few (goal.at.returns c).Else-not-flip_fits, flips-done c.loop-more.invariant c.loop-more-test.false)
+pub returns-then-y-b : goal.returns-then-y-b
+returns-then-y-b c = (
+  few (goal.at.returns-then-y-b c).At-loop-b,
+  λ s limit lim few'. flips-done (c.loop-b.invariant s limit lim few') c.stretch_end-y.ensures c.apply_set-k.ensures.0 c.if-y-b.true,
+)

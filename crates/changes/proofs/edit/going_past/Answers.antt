@@ -1,13 +1,10 @@
--- `going_past` meets its contract: what goes on over x + 1, and after M nothing does. Assumes nothing.
-use Rattle.model.specs.Positions.{Positions}
-use Rattle.store.specs.Layout.{held_in}
-use Rattle.changes.proofs.Fitting.{none-past}
+-- `going_past` meets its contract: a run goes on there where x and the position after it are held. Assumes nothing.
+use Rattle.std.proofs.Common.{sym, ◌∙◌}
+use Rattle.changes.proofs.Neighbours.{both-yes, both-no, goes_on-above}
 use Rattle.changes.proofs.edit.going_past.Goals as goal
-use Rattle.changes.proofs.edit.going_past.Goals.{Start}
 
--- the positions that the world holds
-abbrev held : Start → Positions
-held r = held_in r.args.words.now r.args.h
+pub returns-then-held_after : goal.returns-then-held_after
+returns-then-held_after c = both-yes c.if-held_after.true c.held_after.ensures c.get.ensures ∙ sym (goes_on-above _ _)
 
-pub returns-then-at : goal.returns-then-at
-returns-then-at c = none-past (held (goal.at.returns-then-at c).Start) c.args.x.0 c.if-at.true
+pub returns-else-held_after : goal.returns-else-held_after
+returns-else-held_after c = both-no _ c.if-held_after.false c.held_after.ensures ∙ sym (goes_on-above _ _)

@@ -1,16 +1,60 @@
--- `shift` meets its contract: with no root or no distance nothing moves; else it moves up or down.
+-- `shift` meets its contract: with no root or no distance nothing moves; else what would leave is cleared, or all is, and the offset moves the rest.
 -- Assumes nothing.
-use Rattle.changes.proofs.Shifting.{none_stays, all_stay, left-moves, right-moves}
+use Rattle.std.proofs.Common.{◌<◌, sym, subst, ⊎_elim, inl, inr, arith}
+use Rattle.model.specs.Numbers.{size}
+use Rattle.store.specs.declared.World.{World}
+use Rattle.model.specs.Positions.{shift_by}
+use Rattle.store.specs.Soundness.{Share, Limited}
+use Rattle.changes.proofs.Shifting.{Cleared, cleared-same, none_stays, all_stay, leaving-applies, all-leave, none-leaves, some-leave, rest-moves}
 use Rattle.changes.proofs.edit.shift.Goals as goal
+use Rattle.changes.proofs.edit.shift.Goals.{
+  Joined-low-h-2,
+  then-low-h-2+then-h-high-2,
+  else-low-h-2,
+  else-low-h-2-via-then-low-h-2+else-h-high-2,
+  else-low-h-2-via-else-low-h-2,
+}
+
+-- what would leave is cleared
+cleared : (j : Joined-low-h-2) {s : Share} {limit : _} → Limited j.args.words.now s j.args.h limit
+    → Cleared j.args.words.now j.if-low-h-2.words s j.args.h j.if-low-h-2.k j.leaving-low.result.0 j.args.d (shift_by j.args.d j.args.left)
+cleared j lim =
+    elim j.if-low-h-2.branch [
+      | then-low-h-2+then-h-high-2 w ↦
+          cleared-same w.words-is w.k-is
+          (some-leave _ _ j.leaving-low.result.2 (omega (arith, j.ranges.d.fits)) j.if-d-eq0.false lim j.if-h-eq0.false (omega (arith, j.well_formed)) j.args.left
+          j.leaving-low.ensures (⊎_elim (λ x. inr x.1) (λ x. inl x) j.else-low-h.either) w.apply_set-k.ensures.0)
+      | else-low-h-2 w ↦
+          cleared-same w.words-is w.k-is
+          (none-leaves _ _ j.leaving-low.result.2 (omega (arith, j.ranges.d.fits)) j.if-d-eq0.false lim j.if-h-eq0.false (omega (arith, j.well_formed)) j.args.left
+          j.leaving-low.ensures
+          (elim w.else-low-h-2.branch [
+            | else-low-h-2-via-then-low-h-2+else-h-high-2 v ↦ inr v.if-h-high-2.false
+            | else-low-h-2-via-else-low-h-2 v ↦ inl v.if-low-h-2.false
+          ]))
+    ]
+
+-- the world that is left has a small offset
+small : (j : Joined-low-h-2) → j.if-low-h-2.k.offset < size
+small j =
+    elim j.if-low-h-2.branch [
+      | then-low-h-2+then-h-high-2 w ↦ subst (λ (z : World). z.offset < size) (sym w.k-is) (omega (arith, w.apply_set-k.type_inv))
+      | else-low-h-2 w ↦ subst (λ (z : World). z.offset < size) (sym w.k-is) (omega (arith, j.well_formed))
+    ]
 
 pub returns-then-h-eq0 : goal.returns-then-h-eq0
-returns-then-h-eq0 c = none_stays _ _ c.if-h-eq0.true
+returns-then-h-eq0 c = ⊎_elim (λ z. none_stays _ _ z) (λ z. all_stay _ z.1) c.then-h-eq0.either
 
-pub returns-then-d-eq0 : goal.returns-then-d-eq0
-returns-then-d-eq0 c = all_stay _ c.if-d-eq0.true
+pub returns-then-h-high : goal.returns-then-h-high
+returns-then-h-high c = λ s limit lim.
+    all-leave _ _ c.leaving-low.result.2 (omega (arith, c.ranges.d.fits)) c.if-d-eq0.false lim c.if-h-eq0.false (omega (arith, c.well_formed)) c.args.left c.leaving-low.ensures
+    c.if-low-h.true c.if-h-high.true (c.emptied.ensures s lim.standing)
 
-pub returns-then-left : goal.returns-then-left
-returns-then-left c = left-moves _ _ c.if-left.true c.shift_up.ensures
+pub apply_set-k-requires : goal.apply_set-k-requires
+apply_set-k-requires c =
+    leaving-applies _ _ c.leaving-low.result.2 (omega (arith, c.ranges.d.fits)) c.if-d-eq0.false c.args.left c.leaving-low.ensures c.requires.2
 
-pub returns-else-left : goal.returns-else-left
-returns-else-left c = right-moves _ _ c.if-left.false c.shift_down.ensures
+pub returns : goal.returns
+returns c = λ s limit lim.
+    rest-moves _ c.leaving-low.result.1 _ (omega (arith, c.ranges.d.fits)) c.if-d-eq0.false c.args.left c.leaving-low.ensures (cleared (goal.at.returns c).Joined-low-h-2 lim)
+    (small (goal.at.returns c).Joined-low-h-2)

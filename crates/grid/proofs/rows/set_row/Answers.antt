@@ -3,4 +3,4 @@ use Rattle.grid.proofs.Passing.{row_made}
 use Rattle.grid.proofs.rows.set_row.Goals as goal
 
 pub returns-in-Some : goal.returns-in-Some
-returns-in-Some c = row_made c.set-e.result c.set-e.ensures.0 c.in-Some.is
+returns-in-Some c = row_made c.set.result c.set.ensures.0 c.in-Some.is

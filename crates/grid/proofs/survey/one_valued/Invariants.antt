@@ -9,7 +9,8 @@ use Rattle.grid.proofs.survey.one_valued.Given as goal
 
 abbrev pub invariant-loop-r : goal.invariant-loop-r
 invariant-loop-r l =
-    (l.row ≤ l.r) × (l.value ≡ held_in l.words l.h (cell l.row l.column)) × Alike (held_in l.words l.h) l.row l.column (l.r - l.row) l.columns l.value
+    (l.b.corner.row ≤ l.r) × (l.value ≡ held_in l.words l.h (cell l.b.corner.row l.b.corner.column))
+    × Alike (held_in l.words l.h) l.b.corner.row l.b.corner.column (l.r - l.b.corner.row) l.columns l.value
 
 abbrev pub decreases-loop-r : goal.decreases-loop-r
-decreases-loop-r l = l.row + l.rows - l.r
+decreases-loop-r l = l.end - l.r

@@ -1,58 +1,65 @@
 -- `plant` meets its contract. The loop's invariant: the world k has at most i runs, and those of the shortest list for a height, if the runs are
 -- these, are its tree. Assumes nothing.
-use Prim.Native.Nat.{ℕ, ◌+◌, ◌*◌, ◌≤◌, ◌<◌}
-use mathlib.Core.Path.{◌≡◌, ap}
+use Prim.Native.Nat.{ℕ, ◌+◌, ◌≤◌, ◌<◌}
+use mathlib.Core.Path.{◌≡◌, sym, ap, subst, ◌∙◌}
 use native.Mathlib.Omega.{arith}
-use borrow.Author.Rules.{rules}
-use mathlib.Core.List.{List}
-use lib.ListN.{get_or}
+use lib.ListN.{length, get_or}
+use Rattle.std.specs.Prelude.{Option}
 use Rattle.model.specs.Numbers.{size}
-use Rattle.heights.proofs.Deepening.{pair_read, growing-none, bare-tree, next-refused, growing-more, growing-all, deepening-none, next_fits, deepening-more, deepening-all}
+use Rattle.store.specs.declared.World.{World}
+use Rattle.heights.specs.Planting.{Grown, Deepened}
+use Rattle.heights.proofs.Deepening.{growing-none, bare-tree, next-refused, growing-more, growing-all, deepening-none, next_fits, deepening-more, deepening-all}
+use Rattle.heights.proofs.plant.plant.Given.{Over}
 use Rattle.heights.proofs.plant.plant.Goals as goal
-use Rattle.heights.proofs.plant.plant.Goals.{At-loop-i, In-loop-i}
+use Rattle.heights.proofs.plant.plant.Goals.{In-loop-i, After-run-r}
 
--- the words of the list
-abbrev told : At-loop-i → List ℕ
-told l = l.args.runs.now
+-- one more run is to come
+more : (g : Over) (t : In-loop-i g) → t.loop-i.i < length (g.L.RunList.runs t.args.runs)
+more g t = omega (arith, t.loop-i-test.true, t.count-i-end.ensures)
 
--- the run that is read: its start is not above its end, which is a position
-pair : (t : In-loop-i) → (get_or t.args.runs.now t.loop-i.at 0 ≤ get_or t.args.runs.now (t.loop-i.at + 1) 0) × (get_or t.args.runs.now (t.loop-i.at + 1) 0 < size)
-pair t =
-    pair_read t.args.runs.now t.args.n t.loop-i.i t.loop-i.at t.loop-i.invariant.0 t.requires.1.pairs t.loop-i-test.true
+-- its start is not above its end
+ordered : (g : Over) (t : After-run-r g) → t.run-r.result.start ≤ t.run-r.result.«end»
+ordered g t = subst (λ r. r.start ≤ r.«end») (sym t.run-r.ensures) (t.requires.1.straight t.loop-i.i (omega (arith, t.loop-i-test.true, t.count-i-end.ensures)))
 
--- it stands at twice its place
-at-start : (l : At-loop-i) → get_or (told l) l.loop-i.at 0 ≡ get_or (told l) (2 * l.loop-i.i) 0
-at-start l = ap (λ j. get_or (told l) j 0) l.loop-i.invariant.0
-
-at-end : (l : At-loop-i) → get_or (told l) (l.loop-i.at + 1) 0 ≡ get_or (told l) (2 * l.loop-i.i + 1) 0
-at-end l = ap (λ j. get_or (told l) (j + 1) 0) l.loop-i.invariant.0
+-- which is a position
+below : (g : Over) (t : After-run-r g) → t.run-r.result.«end» < size
+below g t = omega (arith, t.run-r.type_inv.1.1.1.0.1)
 
 pub loop-i-init : goal.loop-i-init
-loop-i-init c = (search rules, search rules, λ s m. (growing-none m, λ d h. deepening-none (bare-tree m)))
+loop-i-init g c = (omega arith, λ s m. (growing-none m, λ d h. deepening-none (bare-tree m)))
 
-pub returns-in-None : goal.returns-in-None
-returns-in-None c =
-    let inv = c.loop-i.invariant in
-    λ s m. (
-      next-refused (inv.2 s m).0 _ _ (pair (goal.at.returns-in-None c).In-loop-i).0 (pair (goal.at.returns-in-None c).In-loop-i).1 _ _ c.set-e.ensures.0 c.in-None.is,
-      λ d h. next_fits h (inv.2 s m).0 ((inv.2 s m).1 d h) c.loop-i-test.true _ _ (at-start (goal.at.returns-in-None c).At-loop-i) (at-end (goal.at.returns-in-None c).At-loop-i)
-          (pair (goal.at.returns-in-None c).In-loop-i).0 (pair (goal.at.returns-in-None c).In-loop-i).1 _ _ c.set-e.ensures.0 c.in-None.is,
-    )
+pub set-requires-clause-editable : goal.set-requires-clause-editable
+set-requires-clause-editable g c = (c.requires.0, ((c.loop-i.invariant.1 c.requires.0 c.requires.1).0).limited)
+
+pub set-requires-clause-a_le_b : goal.set-requires-clause-a_le_b
+set-requires-clause-a_le_b g c = ordered g (goal.at.set-requires-clause-a_le_b g c).After-run-r
+
+pub returns-in_err-e : goal.returns-in_err-e
+returns-in_err-e g c =
+    let t = (goal.at.returns-in_err-e g c).After-run-r in
+    λ s m.
+        let inv = c.loop-i.invariant.1 s m in (
+          subst (Grown c.args.words.now c.set.new.words s c.args.limit (length (g.L.RunList.runs c.args.runs))) (sym c.from_residual.ensures)
+              (next-refused inv.0 _ _ (ordered g t) (below g t) _ _ c.set.ensures.0 (c.in_err-e.was)),
+          λ d h.
+              absurd
+              (next_fits h inv.0 (inv.1 d h) (more g (goal.at.returns-in_err-e g c).In-loop-i) _ c.run-r.ensures (ordered g t) (below g t) _ _ c.set.ensures.0 (c.in_err-e.was)),
+        )
 
 pub loop-i-preserved : goal.loop-i-preserved
-loop-i-preserved c =
-    let inv = c.loop-i.invariant in (
-      omega (arith, inv.0),
-      omega (arith, c.loop-i-test.true),
-      λ s m. (
-        growing-more (inv.2 s m).0 _ _ (pair (goal.at.loop-i-preserved c).In-loop-i).0 (pair (goal.at.loop-i-preserved c).In-loop-i).1 _ _ c.set-e.ensures.0 c.set-e.ensures.1 _ _ c.in-Some.is,
-        λ d h. deepening-more h (inv.2 s m).0 ((inv.2 s m).1 d h) c.loop-i-test.true _ _ (at-start (goal.at.loop-i-preserved c).At-loop-i) (at-end (goal.at.loop-i-preserved c).At-loop-i)
-            (pair (goal.at.loop-i-preserved c).In-loop-i).0 (pair (goal.at.loop-i-preserved c).In-loop-i).1 _ _ c.set-e.ensures.0 c.set-e.ensures.1 _ _ c.in-Some.is,
-      ),
+loop-i-preserved g c =
+    let t = (goal.at.loop-i-preserved g c).After-run-r in (
+      omega (arith, more g (goal.at.loop-i-preserved g c).In-loop-i),
+      λ s m.
+          let inv = c.loop-i.invariant.1 s m in (
+            growing-more inv.0 _ _ (ordered g t) (below g t) _ _ c.set.ensures.0 c.set.ensures.1 _ _ (c.in_ok-e.was),
+            λ d h.
+                deepening-more h inv.0 (inv.1 d h) (more g (goal.at.loop-i-preserved g c).In-loop-i) _ c.run-r.ensures (ordered g t) (below g t)
+                _ _ c.set.ensures.0 c.set.ensures.1 _ _ (c.in_ok-e.was),
+          ),
     )
 
 pub returns : goal.returns
-returns c =
-    let inv = c.loop-i.invariant in
-    let all : c.loop-i.i ≡ c.args.n = omega (arith, inv.1, c.loop-i-test.false) in
-    λ s m. (growing-all (inv.2 s m).0 all, λ d h. deepening-all h ((inv.2 s m).1 d h) all)
+returns g c =
+    let all : c.loop-i.i ≡ length (g.L.RunList.runs c.args.runs) = omega (arith, c.loop-i.invariant.0, c.loop-i-test.false, c.count-i-end.ensures) in
+    λ s m. let inv = c.loop-i.invariant.1 s m in (growing-all inv.0 all, λ d h. deepening-all h (inv.1 d h) all)

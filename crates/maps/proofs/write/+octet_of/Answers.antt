@@ -1,4 +1,4 @@
--- `octet_of` meets its contract: the positions of the stretch have one value, and the source goes on to the first after it for the others. The
+-- `octet_of` meets its contract: the positions of the stretch have one value, and the cursor goes on to the first after it for the others. The
 -- measure is how many positions are left. Assumes nothing.
 use Rattle.std.proofs.Common.{arith}
 use Rattle.maps.proofs.Octeting.{octets-small, stood-same, stood-moves, stood-next, octets-all, octets-more}
@@ -8,23 +8,23 @@ pub overflow_sub-after : goal.overflow_sub-after
 overflow_sub-after t c = omega (arith, stood-same c.requires.1 c.same_to.ensures)
 
 pub returns-then-k-after : goal.returns-then-k-after
-returns-then-k-after t c = octets-all _ _ _ _ _ _ c.value_at-value.ensures c.same_to.ensures c.if-k-after.true c.alike.ensures
+returns-then-k-after t c = octets-all _ _ _ c.value_at-value.ensures c.same_to.ensures c.if-k-after.true c.alike.ensures
 
-pub moved-t-requires : goal.moved-t-requires
-moved-t-requires t c = (_, _, stood-moves c.requires.1 c.same_to.ensures)
+pub move_to-requires : goal.move_to-requires
+move_to-requires t c = (_, _, stood-moves c.requires.1 c.same_to.ensures)
 
-pub octet_of-r-requires : goal.octet_of-r-requires
-octet_of-r-requires t c =
-    (omega (arith, c.decreases, c.if-k-after.false), (_, stood-next c.requires.1 c.same_to.ensures c.if-k-after.false c.moved-t.ensures))
+pub octet_of-rest-requires : goal.octet_of-rest-requires
+octet_of-rest-requires t c =
+    (omega (arith, c.decreases, c.if-k-after.false), (_, stood-next c.requires.1 c.same_to.ensures c.if-k-after.false c.move_to.ensures))
 
 pub returns : goal.returns
 returns t c =
-    octets-more _ _ _ _ _ _ c.value_at-value.ensures c.same_to.ensures c.if-k-after.false
-    c.alike-low.ensures c.moved-t.ensures c.octet_of-r.ensures
+    octets-more _ _ _ c.value_at-value.ensures c.same_to.ensures c.if-k-after.false
+    c.alike-low.ensures c.move_to.ensures c.octet_of-rest.ensures
 
 pub overflow_add-result : goal.overflow_add-result
 overflow_add-result t c = omega (
   arith,
-  octets-small c.requires.1 (octets-more _ _ _ _ _ _ c.value_at-value.ensures c.same_to.ensures c.if-k-after.false
-      c.alike-low.ensures c.moved-t.ensures c.octet_of-r.ensures),
+  octets-small c.requires.1 (octets-more _ _ _ c.value_at-value.ensures c.same_to.ensures c.if-k-after.false
+      c.alike-low.ensures c.move_to.ensures c.octet_of-rest.ensures),
 )

@@ -1,4 +1,4 @@
--- `octet_of` meets its contract: the positions of the stretch have one value, and the source goes on to the first after it for the others. The
+-- `octet_of` meets its contract: the positions of the stretch have one value, and the cursor goes on to the first after it for the others. The
 -- measure is how many positions are left. Assumes nothing.
 use Rattle.maps.proofs.write.+octet_of.Given as goal
 

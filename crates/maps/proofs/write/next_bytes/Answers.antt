@@ -16,7 +16,7 @@ returns-then-after-ge7 c =
     c.alike-byte.ensures (part-stores _ _ _ _ (omega (arith, d.room, d.more, c.whole_bytes-n.ensures)) (omega arith) (search (rules, places)) (c.fill.ensures.after (λ y e. e)))
 
 pub overflow_cast-out : goal.overflow_cast-out
-overflow_cast-out c = omega (arith, octets-small (due-stood c.requires.1) c.octet_of-o.ensures)
+overflow_cast-out c = omega (arith, octets-small (due-stood c.requires.1) c.octet_of.ensures)
 
 pub returns : goal.returns
-returns c = λ Q d. due-octet d c.octet_of-o.ensures
+returns c = λ Q d. due-octet d c.octet_of.ensures

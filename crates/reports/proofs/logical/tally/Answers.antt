@@ -9,10 +9,10 @@ use Rattle.reports.proofs.logical.tally.Goals as goal
 use Rattle.reports.proofs.logical.tally.Goals.{then-high-value, else-high-value, After-to_physical-e, After-from}
 
 -- where the range lies
-lies : (r : After-to_physical-e) → Lies r.args.set.now.offset r.args.a.0 (suc r.args.b.0 - r.args.a.0)
+lies : (r : After-to_physical-e) → Lies r.args.set.now.offset r.args.r.first.0 (suc r.args.r.last.0 - r.args.r.first.0)
     r.to_physical-s.result.0 r.to_physical-e.result.0
 lies r =
-    lies-from-to r.requires (omega (arith, r.well_formed)) (omega (arith, r.well_formed)) r.to_physical-s.ensures r.to_physical-e.ensures
+    lies-from-to r.args.r.ordered (omega (arith, r.well_formed)) (omega (arith, r.well_formed)) r.to_physical-s.ensures r.to_physical-e.ensures
 
 -- whether a run is in both parts
 joined : (c : After-from) → c.if-high-value.joined ≡ (beq c.get_physical-high.result c.args.value && beq c.get_physical-low.result c.args.value)

@@ -1,27 +1,25 @@
--- `first_run` meets its contract: from the next position of the value to the one before the next of the other value, or to b.
+-- `first_run` meets its contract: from the first position of the value to where its stretch ends.
 -- Assumes nothing.
-use Rattle.std.proofs.Common.{inl, inr, arith}
-use Rattle.reports.proofs.Bounding.{no-first-run, first-run-ends, first-run-clipped}
+use Rattle.std.proofs.Common.{sym, ◌∙◌, arith}
+use Rattle.model.specs.Range.{many}
+use Rattle.store.specs.Layout.{held}
+use Rattle.reports.proofs.Joins.{FoundIn, find-only}
+use Rattle.reports.proofs.Bounding.{no-first-run, first-run-found}
 use Rattle.reports.proofs.runs.first_run.Goals as goal
+use Rattle.reports.proofs.runs.first_run.Goals.{In_ok-start}
 
-pub returns-then-last-x : goal.returns-then-last-x
-returns-then-last-x c =
-    no-first-run _ _ _ _ c.next-n.result (omega (arith, c.well_formed)) c.next-n.ensures (inr (c.in-Some.x, c.in-Some.is, c.if-last-x.true))
+-- the position that was found
+found : (c : In_ok-start) → FoundIn (held c.args.set.now) c.args.value c.args.r.first.0 (many c.args.r) c.in_ok-start.start
+found c = find-only _ _ _ _ _ (sym c.find_in.ensures ∙ c.in_ok-start.was)
 
-pub returns-then-last-y : goal.returns-then-last-y
-returns-then-last-y c =
-    first-run-clipped _ _ _ _ c.next-n.result c.next-m.result (omega (arith, c.well_formed)) c.next-n.ensures c.in-Some.is c.if-last-x.false
-    c.next-m.ensures (inr (c.in-Some-m.y, c.in-Some-m.is, c.if-last-y.true))
+pub returns-in_err-start : goal.returns-in_err-start
+returns-in_err-start c = c.from_residual.ensures ∙ no-first-run _ _ _ _ (sym c.find_in.ensures ∙ c.in_err-start.was)
 
-pub returns-else-last-y : goal.returns-else-last-y
-returns-else-last-y c =
-    first-run-ends _ _ _ _ c.next-n.result c.next-m.result c.next-n.ensures c.in-Some.is c.next-m.ensures c.in-Some-m.is c.if-last-y.false
+pub invariant_of-rest : goal.invariant_of-rest
+invariant_of-rest c = omega (arith, (found (goal.at.invariant_of-rest c).In_ok-start).past)
 
-pub returns-in-None-m : goal.returns-in-None-m
-returns-in-None-m c =
-    first-run-clipped _ _ _ _ c.next-n.result c.next-m.result (omega (arith, c.well_formed)) c.next-n.ensures c.in-Some.is c.if-last-x.false
-    c.next-m.ensures (inl c.in-None-m.is)
+pub stretch_end-requires : goal.stretch_end-requires
+stretch_end-requires c = (found (goal.at.stretch_end-requires c).In_ok-start).has
 
-pub returns-in-None : goal.returns-in-None
-returns-in-None c =
-    no-first-run _ _ _ _ c.next-n.result (omega (arith, c.well_formed)) c.next-n.ensures (inl c.in-None.is)
+pub returns : goal.returns
+returns c = first-run-found _ _ _ _ c.args.r.ordered (sym c.find_in.ensures ∙ c.in_ok-start.was) c.stretch_end.ensures

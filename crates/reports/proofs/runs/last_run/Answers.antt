@@ -1,27 +1,17 @@
--- `last_run` meets its contract: to the previous position of the value from the one behind the previous of the other value, or from a.
+-- `last_run` meets its contract: to the last position of the value from where its stretch starts.
 -- Assumes nothing.
-use Rattle.std.proofs.Common.{inl, inr}
-use Rattle.reports.proofs.Bounding.{no-last-run, last-run-starts, last-run-clipped}
+use Rattle.std.specs.Bool.{then_some}
+use Rattle.std.proofs.Common.{ap, ◌∙◌, leb, rules, tests}
+use Rattle.reports.proofs.Bounding.{no-last-run, last-run-found, kept, dropped}
 use Rattle.reports.proofs.runs.last_run.Goals as goal
 
-pub returns-then-x-first : goal.returns-then-x-first
-returns-then-x-first c =
-    no-last-run _ _ _ _ c.previous-n.result c.previous-n.ensures (inr (c.in-Some.x, c.in-Some.is, c.if-x-first.true))
+pub returns-in_err-end : goal.returns-in_err-end
+returns-in_err-end c =
+    c.from_residual.ensures
+    ∙ no-last-run _ _ _ _ c.previous.ensures
+    (dropped (λ y. leb c.args.r.first.0 y) c.filter.ensures (λ y q. q.2 ∙ ap (λ b. then_some b y) (search (rules, tests))) c.in_err-end.was)
 
-pub returns-then-y-first : goal.returns-then-y-first
-returns-then-y-first c =
-    last-run-clipped _ _ _ _ c.previous-n.result c.previous-m.result c.previous-n.ensures c.in-Some.is c.if-x-first.false
-    c.previous-m.ensures (inr (c.in-Some-m.y, c.in-Some-m.is, c.if-y-first.true))
-
-pub returns-else-y-first : goal.returns-else-y-first
-returns-else-y-first c =
-    last-run-starts _ _ _ _ c.previous-n.result c.previous-m.result c.previous-n.ensures c.in-Some.is c.previous-m.ensures c.in-Some-m.is c.if-y-first.false
-
-pub returns-in-None-m : goal.returns-in-None-m
-returns-in-None-m c =
-    last-run-clipped _ _ _ _ c.previous-n.result c.previous-m.result c.previous-n.ensures c.in-Some.is c.if-x-first.false
-    c.previous-m.ensures (inl c.in-None-m.is)
-
-pub returns-in-None : goal.returns-in-None
-returns-in-None c =
-    no-last-run _ _ _ _ c.previous-n.result c.previous-n.ensures (inl c.in-None.is)
+pub returns : goal.returns
+returns c =
+    last-run-found _ _ _ _ c.previous.ensures
+    (kept (λ y. leb c.args.r.first.0 y) c.filter.ensures (λ y q. q.2 ∙ ap (λ b. then_some b y) (search (rules, tests))) c.in_ok-end.was).0 c.stretch_start.ensures

@@ -4,4 +4,4 @@ use Rattle.reports.proofs.Bounding.{run-around}
 use Rattle.reports.proofs.runs.run_at.Goals as goal
 
 pub returns : goal.returns
-returns c = run-around _ _ c.get-value.ensures c.low_end-start.ensures c.high_end-end.ensures
+returns c = run-around _ _ c.get-value.ensures c.stretch_start.ensures c.stretch_end.ensures

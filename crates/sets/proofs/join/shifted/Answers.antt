@@ -1,6 +1,7 @@
 -- `shifted` meets its contract: an opened world is read under an offset moved by the distance, and what comes in from the other end is cut off.
 -- Assumes nothing.
-use Rattle.std.proofs.Common.{arith}
+use Rattle.std.proofs.Common.{◌+◌, ◌-◌, ◌%◌, refl, arith}
+use Rattle.model.specs.Numbers.{size}
 use Rattle.sets.proofs.Joins.{view-rooted, left-alike, right-alike}
 use Rattle.promises.proofs.Overwriting.{reads_none, carried, shifted-says}
 use Rattle.sets.proofs.join.shifted.Goals as goal
@@ -11,7 +12,7 @@ gathered-requires-clause-sources c =
 
 pub returns-then-left : goal.returns-then-left
 returns-then-left c =
-    let f = left-alike c.requires.readable_2 c.view-x.ensures _ _ (omega (arith, c.ranges.distance.fits)) _ (omega (arith, c.view-x.type_inv)) c.if-left.true c.wrapping_add_u64.ensures.value in
+    let f = left-alike c.requires.readable_2 c.view-x.ensures _ _ (omega (arith, c.ranges.distance.fits)) _ (omega (arith, c.view-x.type_inv)) c.if-left.true refl in
     carried (shifted-says _ _ _ _ _) c.requires.readable _ (reads_none c.requires.readable_2) f c.gathered.result c.gathered.ensures
 
 pub gathered-requires-2-clause-sources : goal.gathered-requires-2-clause-sources
@@ -20,5 +21,7 @@ gathered-requires-2-clause-sources c =
 
 pub returns : goal.returns
 returns c =
-    let f = right-alike c.requires.readable_2 c.view-x.ensures _ _ (omega (arith, c.ranges.distance.fits)) _ (omega (arith, c.wrapping_sub_u64.type_inv)) c.if-left.false c.wrapping_sub_u64.ensures.value in
+    let f =
+    right-alike c.requires.readable_2 c.view-x.ensures _ _ (omega (arith, c.ranges.distance.fits)) ((c.view-x.result.offset + (size - c.args.distance)) % size) (omega arith)
+    c.if-left.false (omega (arith, c.ranges.distance.fits, c.view-x.type_inv)) in
     carried (shifted-says _ _ _ _ _) c.requires.readable _ (reads_none c.requires.readable_2) f c.gathered-2.result c.gathered-2.ensures

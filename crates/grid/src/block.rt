@@ -1,0 +1,35 @@
+// Blocks of a grid, as halving leaves them of a square.
+ghost use Rattle.std.specs.Prelude.{◌≡◌, ◌^◌};
+ghost use Rattle.grid.specs.Surveys.{Halved};
+
+// A cell, as the first one of a block.
+#[derive(Clone, Copy)]
+pub struct Corner {
+    pub row: u64,
+    pub column: u64,
+}
+
+// 2^i rows of 2^j columns, from a corner on: a square, or the half of one, twice as high as it is wide.
+#[derive(Clone, Copy)]
+pub struct Block {
+    pub corner: Corner,
+    pub i: u64,
+    pub j: u64,
+    ghost halved: { Halved corner.row corner.column i j },
+}
+
+impl Block {
+    // How many rows it has.
+    pub fn rows(self) -> u64
+        ensures { result ≡ 2 ^ self.i }
+    {
+        1 << self.i
+    }
+
+    // How many columns.
+    pub fn columns(self) -> u64
+        ensures { result ≡ 2 ^ self.j }
+    {
+        1 << self.j
+    }
+}

@@ -1,0 +1,12 @@
+// Ranges that have a position.
+ghost use Rattle.std.specs.Prelude.{◌≤◌};
+
+use crate::Logical;
+
+// The positions from first to last, of which there is at least one.
+#[derive(Clone, Copy)]
+pub struct Interval {
+    pub first: Logical,
+    pub last: Logical,
+    pub ghost ordered: { first.0 ≤ last.0 },
+}
