@@ -1,14 +1,14 @@
 -- Freeing the positions s .. e, as runs in order: of the runs that start at s or after it, the first goes while it ends by e, and loses its
 -- front where it goes on. The model's `clear` does the same, so each step leaves its outcome as it was. Assumes nothing.
 use Rattle.std.specs.Prelude.{Option, None, Some}
-use Rattle.std.proofs.Common.{◌≡◌, ℕ, ◌+◌, ◌-◌, ◌<◌, ◌≤◌, List, [], ◌∷◌, ◌++◌, length, sym, refl, ap, ◌∙◌, subst, arith, length-append, le-ltb, lt-ltb}
+use Rattle.std.proofs.Common.{◌≡◌, ℕ, ◌+◌, ◌-◌, ◌<◌, ◌≤◌, List, [], ◌∷◌, ◌++◌, sym, refl, ap, ◌∙◌, subst, arith, length-append, le-ltb, lt-ltb}
 use Rattle.model.specs.declared.Run.{Run}
 use Rattle.model.specs.Numbers.{size}
 use Rattle.model.specs.Positions.{run, first_run}
-use Rattle.model.specs.RunList.{Canon, EndBelow, StartFrom, clear}
+use Rattle.model.specs.RunList.{Canon, first_from, EndBelow, StartFrom, clear}
 use Rattle.model.proofs.Search.{canon-split}
 use Rattle.run_index.specs.Tree.{Tree}
-use Rattle.run_index.specs.Search.{Indexed, TellsAfter}
+use Rattle.run_index.specs.Search.{Indexed, runs_from}
 use Rattle.store.specs.declared.Links.{Links}
 use Rattle.store.specs.Soundness.{Share}
 use Rattle.store.specs.Free.{Becomes, Removable, RemovesRun, Changeable, Changes}
@@ -80,7 +80,7 @@ cleared-done : {w w1 : List ℕ} {sh : Share} {y : Links} (ls : List Run) {vs ws
 cleared-done {w} {w1} {sh} {y} ls b f = subst (λ (vs : List Run). Becomes w w1 sh y (ls ++ vs)) f b
 
 module _ {w w1 : List ℕ} {sh : Share} {y : Links} {s e : ℕ} {ls us : List Run} (d : Cleared w w1 sh y s e ls us)
-    (n : Option Run) (f : TellsAfter w1 y.root s n) where
+    (n : Option Run) (f : n ≡ first_from s (runs_from w1 y.root)) where
   -- the search finds the first of the runs left
   first-is : n ≡ first_run d.left
   first-is = becomes-after d.becomes s n f ∙ first-after s ls d.left (ends-before s s ls (omega arith) d.below) d.from

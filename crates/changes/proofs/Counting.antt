@@ -1,9 +1,9 @@
 -- The measure of the loops over runs: how many runs the words give of what is at a root.
 -- Assumes nothing.
-use Rattle.std.proofs.Common.{◌≡◌, ℕ, zero, suc, ◌+◌, ◌<◌, ◌≤◌, Bool, true, false, List, length, sym, ap, ◌∙◌, true≢false, arith}
+use Rattle.std.proofs.Common.{◌≡◌, ℕ, zero, suc, ◌≤◌, List, length, sym, ap, ◌∙◌, arith}
 use Rattle.run_index.specs.declared.Node.{Node}
 use Rattle.run_index.specs.Cells.{cell_at}
-use Rattle.run_index.specs.Tree.{Tree, leaf, node, runs, bit, inorder, At}
+use Rattle.run_index.specs.Tree.{Tree, leaf, node, runs, inorder, At}
 use Rattle.run_index.proofs.Trees.{rep_pos, rep-cell}
 use Rattle.run_index.proofs.Totals.{runs-length}
 

@@ -1,10 +1,10 @@
 -- Whether a set of logical positions leaves at most as many runs as the limit, from what the world tells: its runs, those of the range,
 -- and the neighbours of the range's ends. All these numbers are small, so no sum of them leaves a word. Assumes nothing.
-use Rattle.std.proofs.Common.{◌≡◌, ℕ, zero, suc, ◌+◌, ◌-◌, ◌<◌, ◌≤◌, Bool, true, false, ◌&&◌, leb, ◌⊎◌, List, sym, refl, ap, ◌∙◌, ap₂, inl, inr, arith, le-ltb, lt-ltb, le-leb}
+use Rattle.std.proofs.Common.{◌≡◌, ℕ, suc, ◌+◌, ◌-◌, ◌*◌, ◌<◌, ◌≤◌, Bool, true, false, leb, ◌⊎◌, List, sym, refl, ap, ◌∙◌, inl, inr, arith, le-leb}
 use borrow.Author.Tests.{lt-leb}
 use Rattle.model.specs.Numbers.{size}
 use Rattle.model.proofs.Numbers.{split}
-use Rattle.model.specs.Positions.{Positions, one_if, run_count, set_range, stretches}
+use Rattle.model.specs.Positions.{Positions, one_if, run_count, runs_in, held_runs, set_range, stretches}
 use Rattle.model.proofs.Counting.{one-bound}
 use Rattle.model.proofs.Runs.{stretches-is}
 use Rattle.model.specs.Neighbours.{goes_on, held_below, held_above}
@@ -14,6 +14,7 @@ use Rattle.store.specs.declared.World.{World}
 use Rattle.store.specs.Layout.{held_in}
 use Rattle.store.specs.Soundness.{Share, Standing, Limited}
 use Rattle.store.proofs.Opening.{physical_in, standing-held}
+use Rattle.reports.proofs.Reading.{ranges-most}
 use Rattle.changes.specs.declared.edit.Border.{Border}
 use Rattle.changes.specs.Edits.{Surrounds}
 use Rattle.changes.proofs.SetRuns.{set-true-leaves, set-false-leaves, set-one-more, logical-one-more}
@@ -55,6 +56,11 @@ module _ {w : List ℕ} {s : Share} {h : World} {limit : ℕ} (lim : Limited w s
   -- and so are the runs
   pub logical-few : stretches (held_in w h) ≤ 65566
   logical-few = omega (arith, lim.fits, limit-few)
+
+-- no more runs than half the positions, and one
+pub stretches-most : (P : Positions) → 2 * stretches P ≤ size + 1
+unfolding stretches held_runs run_count runs_in
+stretches-most P = ranges-most P true 0 size
 
 -- ---- what is around the positions from a to b
 module _ (P : Positions) {a b total inside over : ℕ} (some : a ≤ b) (fits : b < size) (et : total ≡ stretches P) (ei : inside ≡ run_count P true a (suc b - a))

@@ -1,15 +1,13 @@
 -- Flipping a range of a world, stretch by stretch. What a flip leaves is told by the world's runs and by those of the range; on the
 -- way the positions passed are a flipped range, which ends where the value changes, so that no run is added. Assumes nothing.
-use Rattle.std.specs.Prelude.{Option, Some}
 use Rattle.std.proofs.Common.{◌≡◌, ℕ, suc, ◌+◌, ◌-◌, ◌<◌, ◌≤◌, Bool, true, false, not, leb, ◌⊎◌, List, sym, ap, ◌∙◌, inl, inr, arith, le-leb}
-use mathlib.Core.Bool.{not-not}
 use Rattle.model.specs.declared.Tally.{Tally}
 use Rattle.model.specs.Numbers.{size}
 use Rattle.model.proofs.Numbers.{split}
-use Rattle.model.specs.Positions.{Positions, one_if, stretches, set_range, flip_range}
+use Rattle.model.specs.Positions.{Positions, stretches, set_range, flip_range}
 use Rattle.model.proofs.Counting.{one-bound}
 use Rattle.model.proofs.Runs.{stretches-cong}
-use Rattle.model.specs.Neighbours.{goes_on, held_below, held_above}
+use Rattle.model.specs.Neighbours.{goes_on}
 use Rattle.model.proofs.After.{set-cong, flip-below, flip-above, stretches-parts}
 use Rattle.store.specs.declared.World.{World}
 use Rattle.store.specs.Layout.{held_in}

@@ -11,7 +11,7 @@ use Rattle.model.proofs.Search.{canon-split, canon-starts, starts-weaken}
 use Rattle.model.proofs.Edit.{insert-put, insert-join}
 use Rattle.run_index.specs.Tree.{Tree}
 use Rattle.run_index.specs.Order.{Before}
-use Rattle.run_index.specs.Search.{Indexed, TellsAfter}
+use Rattle.run_index.specs.Search.{Indexed, runs_from}
 use Rattle.store.specs.declared.Links.{Links}
 use Rattle.store.specs.Soundness.{Share}
 use Rattle.store.specs.Free.{Becomes, Removable, RemovesRun}
@@ -93,7 +93,7 @@ module _ {w w1 : List ℕ} {sh : Share} {y : Links} {start e : ℕ} {ls us : Lis
   within h = absorbed (λ a l. insert-first a e (b + 2) s.left (omega (arith, ordered)) (omega arith) after)
 
   -- the search for the next run
-  module _ (n : Option Run) (f : TellsAfter w1 y.root (start + 1) n) where
+  module _ (n : Option Run) (f : n ≡ first_from (start + 1) (runs_from w1 y.root)) where
     -- it finds the first of the runs left
     next-is : n ≡ first_run s.left
     next-is = becomes-after s.becomes (start + 1) n f ∙ next-first ls s.left start b (becomes-canon s.becomes)

@@ -14,12 +14,12 @@ use Rattle.run_index.specs.Tree.{Tree, inorder, tree_from}
 use Rattle.run_index.specs.Order.{Before}
 use Rattle.store.specs.declared.Links.{Links}
 use Rattle.store.specs.Layout.{highest}
-use Rattle.store.specs.Soundness.{Share, Kept}
+use Rattle.store.specs.Soundness.{Share}
 use Rattle.store.specs.Free.{Becomes, Addable, Adds, Changeable, Changes}
-use Rattle.store.proofs.Nodes.{kept-index}
-use Rattle.store.proofs.Reached.{kept-tree}
+use Rattle.run_index.specs.Search.{runs_from}
+use Rattle.store.proofs.Reached.{kept-runs, kept-tree}
 use Rattle.changes.specs.declared.change.Reach.{Reach}
-use Rattle.changes.specs.Change.{MaySet, Settable, Holding, Sets, Touching, Apart, TellsTouched, Parted, Absorbable, Absorbed, Absorbs}
+use Rattle.changes.specs.Change.{MaySet, Settable, Holding, Sets, Touching, Apart, Parted, Absorbable, Absorbed, Absorbs}
 use Rattle.changes.proofs.Lists.{first-after, first_some, first-none, last_none, Around, last-around, ends-before, ends_more, ends_last, append-one, canon-below}
 use Rattle.changes.proofs.Steps.{
   becomes-none,
@@ -153,11 +153,12 @@ module _ (rs : List Run) (c : Canon size 0 rs) (s e : ℕ) (o : s ≤ e) where
           pick q v.0 (u ∙ v.1) (leb q.start (e + 1)) refl (h q j)
 
 -- ---- it is r
-module _ {w : List ℕ} {x : Links} {s e : ℕ} {o : Option Run} (f : TellsTouched w x.root s e o) {r : Run} (is : o ≡ Some r) where
+module _ {w : List ℕ} {x : Links} {s e : ℕ} {o : Option Run} {rs : List Run} (seen : rs ≡ runs_from w x.root)
+    (f : MatchOption o (Apart rs s e) (Touching rs s e)) {r : Run} (is : o ≡ Some r) where
   module _ {sh : Share} {t : Tree} {ns : List ℕ} (m : MaySet w sh x s e true t ns) where
     -- the runs around r
     around : Touching (inorder t) s e r
-    around = subst (λ (z : Option Run). MatchOption z (Apart (inorder t) s e) (Touching (inorder t) s e)) is (f sh.tag t (kept-index m.kept))
+    around = subst (λ (us : List Run). Touching us s e r) (seen ∙ kept-runs m.kept) (subst (λ (z : Option Run). MatchOption z (Apart rs s e) (Touching rs s e)) is f)
 
     -- what is before r ends two before it, what follows starts two after it
     sides : (Canon (r.start - 1) 0 around.ls) × (0 ≤ r.start) × (r.start ≤ r.«end») × (r.«end» < size) × Canon size (r.«end» + 2) around.us
@@ -242,11 +243,12 @@ module _ {w : List ℕ} {x : Links} {s e : ℕ} {o : Option Run} (f : TellsTouch
     touched-grown g sh t ns m = grow-held m ea eb far ab g
 
 -- ---- there is none
-module _ {w : List ℕ} {x : Links} {s e : ℕ} {o : Option Run} (f : TellsTouched w x.root s e o) (is : o ≡ None) where
+module _ {w : List ℕ} {x : Links} {s e : ℕ} {o : Option Run} {rs : List Run} (seen : rs ≡ runs_from w x.root)
+    (f : MatchOption o (Apart rs s e) (Touching rs s e)) (is : o ≡ None) where
   module _ {sh : Share} {t : Tree} {ns : List ℕ} (m : MaySet w sh x s e true t ns) where
     -- what is set stands alone
     lone : Apart (inorder t) s e
-    lone = subst (λ (z : Option Run). MatchOption z (Apart (inorder t) s e) (Touching (inorder t) s e)) is (f sh.tag t (kept-index m.kept))
+    lone = subst (λ (us : List Run). Apart us s e) (seen ∙ kept-runs m.kept) (subst (λ (z : Option Run). MatchOption z (Apart rs s e) (Touching rs s e)) is f)
 
     -- so the runs set have it between those before s and those after e
     set : insert s e (inorder t) ≡ lone.ls ++ (run s e ∷ lone.us)

@@ -13,13 +13,14 @@ use Rattle.model.specs.RunList.{Canon, StartFrom, last_up_to, first_from}
 use Rattle.model.proofs.Edit.{set_to, set_to-canon, set_to-mem}
 use Rattle.run_index.specs.Tree.{Tree, inorder}
 use Rattle.run_index.specs.Order.{insert_run, remove_run, replace_run, Before, Starts, Has}
-use Rattle.run_index.specs.Search.{Indexed, TellsBefore, TellsAfter}
+use Rattle.run_index.specs.Search.{Indexed, runs_from}
 use Rattle.run_index.proofs.Totals.{runs-length}
 use Rattle.store.specs.declared.Links.{Links}
 use Rattle.store.specs.Soundness.{Share, Kept}
 use Rattle.store.specs.Free.{RoomFor, Addable, Becomes, Adds, HasRun, Removable, RemovesRun, Alterable, Changeable, Changes}
 use Rattle.changes.specs.Change.{MaySet, Settable, Holding, Sets}
 use Rattle.store.proofs.Nodes.{kept-index, still-then, still-same}
+use Rattle.store.proofs.Reached.{kept-runs}
 use Rattle.changes.proofs.Counting.{runs_of, runs_of_lem}
 use Rattle.changes.proofs.Lists.{last_none, Around, last-around, starts-at, has-at, remove-at, replace-at, insert-at, canon-before}
 
@@ -45,12 +46,12 @@ module _ {w w1 : List ℕ} {sh : Share} {y : Links} {rs : List Run} (u : Becomes
   becomes-indexed = (sh.tag, u.tree, kept-index u.kept)
 
   -- the search for the run at p or before it
-  pub becomes-before : (p : ℕ) (n : Option Run) → TellsBefore w1 y.root p n → n ≡ last_up_to p rs
-  becomes-before p n f = f sh.tag u.tree (kept-index u.kept) ∙ ap (last_up_to p) u.runs-are
+  pub becomes-before : (p : ℕ) (n : Option Run) → n ≡ last_up_to p (runs_from w1 y.root) → n ≡ last_up_to p rs
+  becomes-before p n f = f ∙ ap (last_up_to p) (kept-runs u.kept ∙ u.runs-are)
 
   -- the search for the run at p or after it
-  pub becomes-after : (p : ℕ) (n : Option Run) → TellsAfter w1 y.root p n → n ≡ first_from p rs
-  becomes-after p n f = f sh.tag u.tree (kept-index u.kept) ∙ ap (first_from p) u.runs-are
+  pub becomes-after : (p : ℕ) (n : Option Run) → n ≡ first_from p (runs_from w1 y.root) → n ≡ first_from p rs
+  becomes-after p n f = f ∙ ap (first_from p) (kept-runs u.kept ∙ u.runs-are)
 
 -- a run between ls and us
 module _ {w w1 : List ℕ} {sh : Share} {y : Links} (ls : List Run) (r : Run) (us : List Run) (u : Becomes w w1 sh y (ls ++ (r ∷ us))) where
@@ -129,7 +130,7 @@ pub record FoundRun (w : List ℕ) (x : Links) (s : ℕ) (r : Run) : Type 0 wher
 pub record FoundNone (w : List ℕ) (x : Links) (s : ℕ) : Type 0 where
   pub after : {sh : Share} {t : Tree} {ns : List ℕ} → Kept w sh x t ns → StartFrom (s + 1) (inorder t)
 
-module _ {w : List ℕ} {x : Links} {s : ℕ} (n : Option Run) (f : TellsBefore w x.root s n) where
+module _ {w : List ℕ} {x : Links} {s : ℕ} (n : Option Run) (f : n ≡ last_up_to s (runs_from w x.root)) where
   -- the search has found r
   pub found : (r : Run) → n ≡ Some r → FoundRun w x s r
   found r en = record {

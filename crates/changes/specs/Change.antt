@@ -1,11 +1,10 @@
 -- What giving physical positions a value asks, and what it promises. Assumes nothing: these are definitions.
-use Rattle.std.specs.Prelude.{Option, MatchOption, ◌≡◌, ℕ, suc, ◌+◌, ◌-◌, ◌<◌, ◌≤◌, Bool, List, ◌∷◌, ◌++◌, nat_le}
+use Rattle.std.specs.Prelude.{◌≡◌, ℕ, suc, ◌+◌, ◌-◌, ◌<◌, ◌≤◌, Bool, List, ◌∷◌, ◌++◌, nat_le}
 use Rattle.model.specs.declared.Run.{Run}
 use Rattle.model.specs.Numbers.{size}
 use Rattle.model.specs.Positions.{Positions, run, set_range, stretches, mem}
 use Rattle.model.specs.RunList.{EndBelow, StartFrom, insert, clear}
 use Rattle.run_index.specs.Tree.{Tree, inorder}
-use Rattle.run_index.specs.Search.{Index}
 use Rattle.store.specs.declared.Links.{Links}
 use Rattle.store.specs.Soundness.{Share, Still, Kept}
 use Rattle.store.specs.Free.{Becomes}
@@ -53,10 +52,6 @@ pub record Apart (rs : List Run) (s e : ℕ) : Type 0 where
   pub is : rs ≡ ls ++ us
   pub below : EndBelow (s - 1) ls
   pub from : StartFrom (e + 2) us
-
--- the first run that does, of the tree at p
-abbrev pub TellsTouched : List ℕ → ℕ → ℕ → ℕ → Option Run → Type 0
-TellsTouched w p s e r = (g : ℕ) (t : Tree) → Index w p g t → MatchOption r (Apart (inorder t) s e) (Touching (inorder t) s e)
 
 -- the runs that the links x lead to are ls and then us
 pub record Parted (w : List ℕ) (sh : Share) (x : Links) (ls us : List Run) (t : Tree) (ns : List ℕ) : Type 0 where

@@ -1,11 +1,11 @@
 // Giving a range of physical positions a value: runs grow, shrink, go and come. Whatever a run only loses or gains at an end changes
 // in place, and no more nodes are used on the way than in the end. Where the tree and the free chain start is handed in and back.
-ghost use Rattle.std.specs.Prelude.{true, false, ◌≤◌};
-ghost use Rattle.run_index.specs.Search.{Indexed};
+ghost use Rattle.std.specs.Prelude.{true, false, ◌≤◌, MatchOption};
 ghost use Rattle.store.specs.Free.{Sprouts};
-ghost use Rattle.changes.specs.Change.{Settable, Sets, Reaching, TellsTouched, Absorbable, Absorbs, Clearable, ClearsFrom};
+ghost use Rattle.changes.specs.Change.{Settable, Sets, Reaching, Apart, Touching, Absorbable, Absorbs, Clearable, ClearsFrom};
 
 use model::Run;
+use run_index::search::Runs;
 use store::Links;
 use store::places::Physical;
 
@@ -27,7 +27,7 @@ fn raise(words: &mut [u64], x: Links, s: Physical, e: Physical) -> Links
     requires { Settable words.old x s.0 e.0 true }
     ensures { Sets words.old words.new x result s.0 e.0 true × Sprouts words.old words.new x.root result.root s.0 e.0 true }
 {
-    let Some(r) = touching(words, x.root, s, e) else {
+    let Some(r) = touching(&store::runs_of(words, x), s, e) else {
         return store::free::add_run(words, x, s.0, e.0);
     };
     if r.start <= s.0 && e.0 <= r.end {
@@ -46,17 +46,14 @@ fn raise(words: &mut [u64], x: Links, s: Physical, e: Physical) -> Links
 }
 
 // The first run that holds or touches a position from s to e.
-fn touching(words: &[u64], root: u64, s: Physical, e: Physical) -> Option<Run>
-    requires indexed { Indexed words.now root }
-    requires s_le_e { s.0 ≤ e.0 }
-    ensures { TellsTouched words.now root s.0 e.0 result }
+fn touching(runs: &Runs<'_>, s: Physical, e: Physical) -> Option<Run>
+    requires { s.0 ≤ e.0 }
+    ensures { MatchOption result (Apart runs.now s.0 e.0) (Touching runs.now s.0 e.0) }
 {
-    match run_index::search::at_or_before(words, root, s.0) {
+    match runs.at_or_before(s.0) {
         Some(r) if reaches(Physical(r.end), s) => Some(r),
-        _ => run_index::search::at_or_after(words, root, s.0).filter(|r| reaches(
-            e,
-            Physical(r.start),
-        )),
+        _ => runs.at_or_after(s.0)
+            .filter(|r| reaches(e, Physical(r.start))),
     }
 }
 
@@ -84,7 +81,7 @@ fn absorb(words: &mut [u64], x: Links, r: Run, e: Physical) -> Reach
     if e.0 <= r.end {
         return Reach { links, end: e };
     }
-    while let Some(q) = run_index::search::at_or_after(words, links.root, r.start + 1)
+    while let Some(q) = store::runs_of(words, links).at_or_after(r.start + 1)
         && reaches(e, Physical(q.start))
     {
         links = store::free::remove_run(words, links, q.start);
@@ -103,7 +100,7 @@ fn clear(words: &mut [u64], x: Links, s: Physical, e: Physical) -> Links
     requires { Settable words.old x s.0 e.0 false }
     ensures { Sets words.old words.new x result s.0 e.0 false }
 {
-    if let Some(r) = run_index::search::at_or_before(words, x.root, s.0)
+    if let Some(r) = store::runs_of(words, x).at_or_before(s.0)
         && r.start < s.0
         && s.0 <= r.end
     {
@@ -125,7 +122,7 @@ fn clear_from(words: &mut [u64], x: Links, s: Physical, e: Physical) -> Links
     ensures { ClearsFrom words.old words.new x result s.0 e.0 }
 {
     let mut links = x;
-    while let Some(r) = run_index::search::at_or_after(words, links.root, s.0)
+    while let Some(r) = store::runs_of(words, links).at_or_after(s.0)
         && r.start <= e.0
     {
         if e.0 < r.end {

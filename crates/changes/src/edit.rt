@@ -1,15 +1,17 @@
 // Changing a world's positions. What a change would leave is counted before the first write: more runs than the world may have, and
 // nothing is touched. The world is handed in and back; its nodes alone are in the words.
-ghost use Rattle.std.specs.Prelude.{◌≡◌, suc, ◌+◌, ◌-◌, ◌<◌, ◌≤◌, nat_le};
+ghost use Rattle.std.specs.Prelude.{◌≡◌, suc, ◌≤◌, length, nat_le};
 ghost use Rattle.model.specs.Positions.{set_range, flip_range, shift_by, stretches};
 ghost use Rattle.model.specs.Neighbours.{goes_on, held_below, held_above};
-ghost use Rattle.store.specs.Layout.{held_in};
+ghost use Rattle.model.specs.Range.{many};
+ghost use Rattle.store.specs.Layout.{held, held_in};
 ghost use Rattle.store.specs.Soundness.{Stands, Editable};
 ghost use Rattle.changes.specs.Edits.{Makes, Edited, Grows, GrowsBy, Fitted, Appliable, Places, PutsIn, Gains, SetGains, Surrounds, Empties, Movable, Leaves, Moves};
 
+use model::between::Interval;
 use model::{Count, Logical};
 use store::places::Physical;
-use store::{Links, World};
+use store::{Links, Set, World};
 
 // What a change made: the world then, and how many positions changed.
 #[derive(Clone, Copy)]
@@ -19,39 +21,39 @@ pub struct Edit {
 }
 
 // Whether the position before x is there and held.
-pub fn held_before(words: &[u64], h: World, x: Logical) -> bool
-    requires { Stands words.now h }
-    ensures { result ≡ held_below (held_in words.now h) x.0 }
+pub fn held_before(set: &Set<'_>, x: Logical) -> bool
+    ensures { result ≡ held_below (held set.now) x.0 }
 {
-    x.0.checked_sub(1)
-        .is_some_and(|y| reports::logical::get(words, h, Logical(y)))
+    let Some(y) = x.0.checked_sub(1) else {
+        return false;
+    };
+    reports::logical::get(set, Logical(y))
 }
 
 // Whether the position after x is there and held.
 // The mirror of `held_before`: the step alone is another, and a parameter for it would only say which.
-pub fn held_after(words: &[u64], h: World, x: Logical) -> bool
-    requires { Stands words.now h }
-    ensures { result ≡ held_above (held_in words.now h) x.0 }
+pub fn held_after(set: &Set<'_>, x: Logical) -> bool
+    ensures { result ≡ held_above (held set.now) x.0 }
 {
-    x.0.checked_add(1)
-        .is_some_and(|y| reports::logical::get(words, h, Logical(y)))
+    let Some(y) = x.0.checked_add(1) else {
+        return false;
+    };
+    reports::logical::get(set, Logical(y))
 }
 
 // Whether a run goes on from x - 1 to x.
-pub fn going_on(words: &[u64], h: World, x: Logical) -> bool
-    requires { Stands words.now h }
-    ensures { result ≡ goes_on (held_in words.now h) x.0 }
+pub fn going_on(set: &Set<'_>, x: Logical) -> bool
+    ensures { result ≡ goes_on (held set.now) x.0 }
 {
-    held_before(words, h, x) && reports::logical::get(words, h, x)
+    held_before(set, x) && reports::logical::get(set, x)
 }
 
 // Whether a run goes on from x to x + 1.
 // The mirror of `going_on`: one line that names the side, as a parameter would.
-pub fn going_past(words: &[u64], h: World, x: Logical) -> bool
-    requires { Stands words.now h }
-    ensures { result ≡ goes_on (held_in words.now h) (suc x.0) }
+pub fn going_past(set: &Set<'_>, x: Logical) -> bool
+    ensures { result ≡ goes_on (held set.now) (suc x.0) }
 {
-    held_after(words, h, x) && reports::logical::get(words, h, x)
+    held_after(set, x) && reports::logical::get(set, x)
 }
 
 // What is around a range of positions: how many runs there are where the range is cleared, how many runs go on over an end of it,
@@ -63,18 +65,17 @@ pub struct Border {
     pub beside: u64,
 }
 
-// What is around a..=b.
-pub fn around(words: &[u64], h: World, a: Logical, b: Logical) -> Border
-    requires movable { Movable words.now h }
-    requires a_le_b { a.0 ≤ b.0 }
-    ensures { Surrounds (held_in words.now h) a.0 b.0 result }
+// What is around r, of a set that has n physical runs.
+pub fn around(set: &Set<'_>, n: u64, r: Interval) -> Border
+    requires { n ≡ length set.now.runs }
+    ensures { Surrounds (held set.now) r.first.0 r.last.0 result }
 {
-    let total = store::bounds::logical_runs(words, h.root, h.offset, h.runs);
-    let inside = reports::logical::tally(words, h, a, b, true).runs;
-    let before = held_before(words, h, a);
-    let after = held_after(words, h, b);
-    let on = before && reports::logical::get(words, h, a);
-    let past = after && reports::logical::get(words, h, b);
+    let total = store::bounds::logical_runs(set, n);
+    let inside = reports::logical::tally(set, r, true).runs;
+    let before = held_before(set, r.first);
+    let after = held_after(set, r.last);
+    let on = before && reports::logical::get(set, r.first);
+    let past = after && reports::logical::get(set, r.last);
     let over = u64::from(on) + u64::from(past);
     Border {
         outside: total + over - inside,
@@ -83,17 +84,17 @@ pub fn around(words: &[u64], h: World, a: Logical, b: Logical) -> Border
     }
 }
 
-// Whether setting a..=b to the value leaves at most as many runs as the limit. A set adds one run at most, and there is at most one
+// Whether setting r to the value leaves at most as many runs as the limit. A set adds one run at most, and there is at most one
 // logical run more than physical ones: so far from the limit nothing is counted.
-pub fn set_fits(words: &[u64], h: World, limit: u64, a: Logical, b: Logical, value: bool) -> bool
-    requires editable { Editable words.now h limit }
-    requires a_le_b { a.0 ≤ b.0 }
-    ensures { result ≡ nat_le (stretches (set_range a.0 (suc b.0 - a.0) value (held_in words.now h))) limit }
+pub fn set_fits(words: &[u64], h: World, limit: u64, r: Interval, value: bool) -> bool
+    requires { Editable words.now h limit }
+    ensures { result ≡ nat_le (stretches (set_range r.first.0 (many r) value (held_in words.now h))) limit }
 {
     if h.runs + 2 <= limit {
         return true;
     }
-    let border = around(words, h, a, b);
+    let set = store::set_of(words, h);
+    let border = around(&set, h.runs, r);
     if value {
         // the range is one run, with the neighbours that are held
         border.outside + 1 <= limit + border.beside
@@ -102,13 +103,13 @@ pub fn set_fits(words: &[u64], h: World, limit: u64, a: Logical, b: Logical, val
     }
 }
 
-// Gives a..=b the value where it lies: at one physical range, or at two if it goes over the place where physical positions end.
-fn place(words: &mut [u64], h: World, a: Logical, b: Logical, value: bool) -> Links
-    requires { Appliable words.old h a.0 b.0 value }
-    ensures { Places words.old words.new h result (set_range a.0 (suc b.0 - a.0) value (held_in words.old h)) × PutsIn words.old words.new h result.root a.0 b.0 value }
+// Gives r the value where it lies: at one physical range, or at two if it goes over the place where physical positions end.
+fn place(words: &mut [u64], h: World, r: Interval, value: bool) -> Links
+    requires { Appliable words.old h r.first.0 r.last.0 value }
+    ensures { Places words.old words.new h result (set_range r.first.0 (many r) value (held_in words.old h)) × PutsIn words.old words.new h result.root r.first.0 r.last.0 value }
 {
-    let s = store::places::to_physical(a, h.offset);
-    let e = store::places::to_physical(b, h.offset);
+    let s = store::places::to_physical(r.first, h.offset);
+    let e = store::places::to_physical(r.last, h.offset);
     let x = store::links_of(h);
     if s.0 <= e.0 {
         return crate::change::set_physical(words, x, s, e, value);
@@ -117,13 +118,13 @@ fn place(words: &mut [u64], h: World, a: Logical, b: Logical, value: bool) -> Li
     crate::change::set_physical(words, y, Physical(0), e, value)
 }
 
-// Sets a..=b to the value, where what it leaves fits.
-pub fn apply_set(words: &mut [u64], h: World, a: Logical, b: Logical, value: bool) -> World
-    requires { Appliable words.old h a.0 b.0 value }
-    ensures { Makes words.old words.new h result (set_range a.0 (suc b.0 - a.0) value (held_in words.old h)) × Grows words.old words.new h result a.0 b.0 value }
+// Sets r to the value, where what it leaves fits.
+pub fn apply_set(words: &mut [u64], h: World, r: Interval, value: bool) -> World
+    requires { Appliable words.old h r.first.0 r.last.0 value }
+    ensures { Makes words.old words.new h result (set_range r.first.0 (many r) value (held_in words.old h)) × Grows words.old words.new h result r.first.0 r.last.0 value }
 {
-    let y = place(words, h, a, b, value);
-    store::refresh::refresh_set(words, y, h, a, b, value)
+    let y = place(words, h, r, value);
+    store::refresh::refresh_set(words, y, h, r, value)
 }
 
 // How many positions a world gained, from what it told before and tells after. The sums are kept modulo 2^64, so an empty world that
@@ -152,62 +153,65 @@ pub fn outcome(h: World, world: World, value: bool) -> Edit
     }
 }
 
-// Gives a..=b the value, and returns how many positions changed, or None where too many runs would be left.
+// Gives r the value, and returns how many positions changed, or None where too many runs would be left.
 pub fn set(
     words: &mut [u64],
     h: World,
     limit: u64,
-    a: Logical,
-    b: Logical,
+    r: Interval,
     value: bool,
 ) -> Option<Edit>
-    requires editable { Editable words.old h limit }
-    requires a_le_b { a.0 ≤ b.0 }
-    ensures { Edited words.old words.new h limit (set_range a.0 (suc b.0 - a.0) value (held_in words.old h)) result × GrowsBy words.old words.new h a.0 b.0 value result }
+    requires { Editable words.old h limit }
+    ensures { Edited words.old words.new h limit (set_range r.first.0 (many r) value (held_in words.old h)) result × GrowsBy words.old words.new h r.first.0 r.last.0 value result }
 {
-    if !set_fits(words, h, limit, a, b, value) {
+    if !set_fits(words, h, limit, r, value) {
         return None;
     }
-    let k = apply_set(words, h, a, b, value);
+    let k = apply_set(words, h, r, value);
     Some(outcome(h, k, value))
 }
 
-// Whether flipping a..=b leaves at most as many runs as the limit. A flip adds one run at most, too. Of a run that goes on over an end
+// Whether flipping r leaves at most as many runs as the limit. A flip adds one run at most, too. Of a run that goes on over an end
 // the flip leaves none there, and where one ended at the range it makes one go on.
 // Not one with `set_fits`: what a set leaves in the range is known, and what a flip leaves are its gaps, which are counted.
-pub fn flip_fits(words: &[u64], h: World, limit: u64, a: Logical, b: Logical) -> bool
-    requires editable { Editable words.now h limit }
-    requires a_le_b { a.0 ≤ b.0 }
-    ensures { result ≡ nat_le (stretches (flip_range a.0 (suc b.0 - a.0) (held_in words.now h))) limit }
+pub fn flip_fits(words: &[u64], h: World, limit: u64, r: Interval) -> bool
+    requires { Editable words.now h limit }
+    ensures { result ≡ nat_le (stretches (flip_range r.first.0 (many r) (held_in words.now h))) limit }
 {
     if h.runs + 2 <= limit {
         return true;
     }
-    let border = around(words, h, a, b);
-    let gaps = reports::logical::tally(words, h, a, b, false).runs;
+    let set = store::set_of(words, h);
+    let border = around(&set, h.runs, r);
+    let gaps = reports::logical::tally(&set, r, false).runs;
     border.outside + border.over + gaps <= limit + border.beside
 }
 
-// Inverts a..=b, stretch by stretch, or None where too many runs would be left: on the way there are never more than at the start.
+// Inverts r, stretch by stretch, or None where too many runs would be left: on the way there are never more than at the start.
 // Not one with `set`: each asks what it would leave, and one step then stands against a loop.
-pub fn flip(words: &mut [u64], h: World, limit: u64, a: Logical, b: Logical) -> Option<World>
-    requires editable { Editable words.old h limit }
-    requires a_le_b { a.0 ≤ b.0 }
-    ensures { Fitted words.old words.new h limit (flip_range a.0 (suc b.0 - a.0) (held_in words.old h)) result }
+pub fn flip(words: &mut [u64], h: World, limit: u64, r: Interval) -> Option<World>
+    requires { Editable words.old h limit }
+    ensures { Fitted words.old words.new h limit (flip_range r.first.0 (many r) (held_in words.old h)) result }
 {
-    if !flip_fits(words, h, limit, a, b) {
+    if !flip_fits(words, h, limit, r) {
         return None;
     }
     let mut k = h;
-    let mut x = a;
+    let mut x = r.first;
     loop {
-        let value = reports::logical::get(words, k, x);
-        let y = reports::runs::stretch_end(words, k, x, b, value);
-        k = apply_set(words, k, x, Logical(y), !value);
-        if y == b.0 {
+        let set = store::set_of(words, k);
+        let value = reports::logical::get(&set, x);
+        let rest = Interval {
+            first: x,
+            last: r.last,
+        };
+        let y = Logical(reports::runs::stretch_end(&set, rest, value));
+        let stretch = Interval { first: x, last: y };
+        k = apply_set(words, k, stretch, !value);
+        if y.0 == r.last.0 {
             return Some(k);
         }
-        x = Logical(y + 1);
+        x = Logical(y.0 + 1);
     }
 }
 
@@ -220,16 +224,21 @@ pub fn emptied(words: &mut [u64], h: World) -> World
     store::refresh::refresh(words, x, 0)
 }
 
-// The first and the last position that leave 0..=M where all move by d, up (left) or down, and by how much all move up modulo 2^64.
-fn leaving(d: u64, left: bool) -> (u64, u64, u64)
+// The positions that leave 0..=M where all move by d, up (left) or down, and by how much all move up modulo 2^64.
+fn leaving(d: u64, left: bool) -> (Interval, u64)
     requires { 1 ≤ d }
-    ensures { Leaves d left result.0 result.1 result.2 }
+    ensures { Leaves d left result.0.first.0 result.0.last.0 result.1 }
 {
-    if left {
+    let (first, last, up) = if left {
         (d.wrapping_neg(), u64::MAX, d)
     } else {
         (0, d - 1, d.wrapping_neg())
-    }
+    };
+    let gone = Interval {
+        first: Logical(first),
+        last: Logical(last),
+    };
+    (gone, up)
 }
 
 // Moves every position by d, up (left) or down: what leaves 0..=M is cleared first, and the offset moves the rest.
@@ -240,12 +249,12 @@ pub fn shift(words: &mut [u64], h: World, d: u64, left: bool) -> World
     if h.root == 0 || d == 0 {
         return h;
     }
-    let (low, high, up) = leaving(d, left);
-    if low <= h.first && h.last <= high {
+    let (gone, up) = leaving(d, left);
+    if gone.first.0 <= h.first && h.last <= gone.last.0 {
         return emptied(words, h);
     }
-    let k = if low <= h.last && h.first <= high {
-        apply_set(words, h, Logical(low), Logical(high), false)
+    let k = if gone.first.0 <= h.last && h.first <= gone.last.0 {
+        apply_set(words, h, gone, false)
     } else {
         h
     };

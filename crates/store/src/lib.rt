@@ -3,9 +3,10 @@
 // this crate and `soundness` know where the words of the header and of the records lie: other code has a world by value, and the nodes.
 #![tactic(auto)]
 
-ghost use Rattle.std.specs.Prelude.{◌≡◌, ◌+◌};
+ghost use Rattle.std.specs.Prelude.{◌≡◌, ◌+◌, length};
 ghost use Rattle.model.specs.Pools.{claim};
 ghost use Rattle.run_index.specs.Cells.{cell_at, Room};
+ghost use Rattle.run_index.specs.Search.{Indexed, runs_from};
 ghost use Rattle.store.specs.Layout.{capacity_of, opened_at, free_head, world_at, plain_at, nodes, held, held_in, held_by, header_cell, Headed, links_of, allowance};
 ghost use Rattle.store.specs.Soundness.{Planted, Sound, Stands};
 ghost use Rattle.store.specs.Settle.{Openable, Opened, Closable, Closes};
@@ -78,7 +79,8 @@ pub struct Set<'a> {
 // The set of a world that stands in the nodes.
 pub fn set_of<'a>(words: &'a [u64], h: World) -> Set<'a>
     requires { Stands words.now h }
-    ensures { held result ≡ held_in words.now h }
+    ensures positions { held result ≡ held_in words.now h }
+    ensures runs { h.runs ≡ length result.runs }
 {
     Set {
         runs: Runs {
@@ -86,6 +88,17 @@ pub fn set_of<'a>(words: &'a [u64], h: World) -> Set<'a>
             root: h.root,
         },
         offset: h.offset,
+    }
+}
+
+// The runs that links lead to, which lie at physical positions.
+pub fn runs_of<'a>(words: &'a [u64], x: Links) -> Runs<'a>
+    requires { Indexed words.now x.root }
+    ensures { result ≡ runs_from words.now x.root }
+{
+    Runs {
+        nodes: words,
+        root: x.root,
     }
 }
 

@@ -8,6 +8,7 @@ ghost use Rattle.store.specs.Settle.{Refreshes, Rooted, Resettable, ResettableFr
 
 use crate::{Links, Set, World};
 use model::Logical;
+use model::between::Interval;
 use run_index::search::Runs;
 
 // A world that holds nothing.
@@ -52,7 +53,7 @@ pub fn refresh(words: &[u64], x: Links, offset: u64) -> World
     }
 }
 
-// The first position held after a..=b got the value: what was the first one tells it, unless it was freed.
+// The first position held after positions from a on got the value: what was the first one tells it, unless it was freed.
 fn first_after(words: &[u64], x: Links, h: World, a: Logical, value: bool) -> u64
     requires { ResettableFrom words.now x h a.0 value }
     ensures { result ≡ first_of (held_runs (held_from words.now x.root h.offset)) }
@@ -78,7 +79,7 @@ fn first_after(words: &[u64], x: Links, h: World, a: Logical, value: bool) -> u6
     crate::bounds::first_held(&set).0
 }
 
-// The last one.
+// The last one, after positions up to b did.
 fn last_after(words: &[u64], x: Links, h: World, b: Logical, value: bool) -> u64
     requires { ResettableTo words.now x h b.0 value }
     ensures { result ≡ last_of (held_runs (held_from words.now x.root h.offset)) }
@@ -104,10 +105,10 @@ fn last_after(words: &[u64], x: Links, h: World, b: Logical, value: bool) -> u64
     crate::bounds::last_held(&set).0
 }
 
-// Does what `refresh` does where the tree of the world h got only the value of a..=b since it agreed: then the first and the last position
+// Does what `refresh` does where the tree of the world h got only the value of r since it agreed: then the first and the last position
 // need a search only where they were freed.
-pub fn refresh_set(words: &[u64], x: Links, h: World, a: Logical, b: Logical, value: bool) -> World
-    requires { Resettable words.now x h a.0 b.0 value }
+pub fn refresh_set(words: &[u64], x: Links, h: World, r: Interval, value: bool) -> World
+    requires { Resettable words.now x h r.first.0 r.last.0 value }
     ensures { Refreshes words.now x h.offset result × Rooted x h.offset result }
 {
     let root = x.root;
@@ -115,8 +116,8 @@ pub fn refresh_set(words: &[u64], x: Links, h: World, a: Logical, b: Logical, va
         return vacant(x);
     }
     let v = run_index::read_node(words, root);
-    let first = first_after(words, x, h, a, value);
-    let last = last_after(words, x, h, b, value);
+    let first = first_after(words, x, h, r.first, value);
+    let last = last_after(words, x, h, r.last, value);
     World {
         tag: x.tag,
         root,

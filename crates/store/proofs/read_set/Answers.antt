@@ -10,4 +10,4 @@ set_of-requires c =
     of-nodes (λ v. Stands v c.open-h.result) c.args.words.now (share_of c.args.words.now c.args.k, c.open-h.ensures.limited.standing)
 
 pub returns : goal.returns
-returns c = c.set_of.ensures ∙ ap (λ v. held_in v c.open-h.result) (lent-nodes c.args.words.now) ∙ c.open-h.ensures.held
+returns c = c.set_of.ensures.positions ∙ ap (λ v. held_in v c.open-h.result) (lent-nodes c.args.words.now) ∙ c.open-h.ensures.held

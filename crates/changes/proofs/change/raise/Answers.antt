@@ -4,23 +4,26 @@ use Rattle.changes.proofs.Raising.{touched, touched-stays, touched-absorbable, t
 use Rattle.changes.proofs.change.raise.Goals as goal
 
 pub add_run-requires : goal.add_run-requires
-add_run-requires c = alone-addable c.touching.ensures c.in_default.is c.requires
+add_run-requires c = alone-addable c.runs_of.ensures c.touching.ensures c.in_default.is c.requires
 
 pub returns-in_default : goal.returns-in_default
-returns-in_default c = (alone-added c.touching.ensures c.in_default.is c.add_run.ensures.0, λ v n. c.add_run.ensures.1)
+returns-in_default c = (alone-added c.runs_of.ensures c.touching.ensures c.in_default.is c.add_run.ensures.0, λ v n. c.add_run.ensures.1)
 
 pub returns-then-e-r : goal.returns-then-e-r
 returns-then-e-r c = (
-  touched-stays c.touching.ensures c.in-Some.is c.if-r-s.true c.if-e-r.true,
-  λ v n. absurd (touched c.touching.ensures c.in-Some.is c.requires n),
+  touched-stays c.runs_of.ensures c.touching.ensures c.in-Some.is c.if-r-s.true c.if-e-r.true,
+  λ v n. absurd (touched c.runs_of.ensures c.touching.ensures c.in-Some.is c.requires n),
 )
+
+pub absorb-grown-requires : goal.absorb-grown-requires
+absorb-grown-requires c = touched-absorbable c.runs_of.ensures c.touching.ensures c.in-Some.is c.requires
 
 pub resize_run-requires : goal.resize_run-requires
 resize_run-requires c =
-    touched-changeable c.touching.ensures c.in-Some.is c.min.ensures c.max.ensures _ c.absorb-grown.ensures c.requires
+    touched-changeable c.runs_of.ensures c.touching.ensures c.in-Some.is c.min.ensures c.max.ensures _ c.absorb-grown.ensures c.requires
 
 pub returns : goal.returns
 returns c = (
-  touched-grown c.touching.ensures c.in-Some.is c.min.ensures c.max.ensures _ c.absorb-grown.ensures c.resize_run.ensures,
-  λ v n. absurd (touched c.touching.ensures c.in-Some.is c.requires n),
+  touched-grown c.runs_of.ensures c.touching.ensures c.in-Some.is c.min.ensures c.max.ensures _ c.absorb-grown.ensures c.resize_run.ensures,
+  λ v n. absurd (touched c.runs_of.ensures c.touching.ensures c.in-Some.is c.requires n),
 )

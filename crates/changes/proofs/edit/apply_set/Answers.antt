@@ -6,7 +6,7 @@ use Rattle.changes.proofs.edit.apply_set.Goals as goal
 pub refresh_set-requires : goal.refresh_set-requires
 refresh_set-requires c =
     let p = c.requires.2 in
-    reached-resettable _ _ _ p.limited.standing (omega (arith, c.well_formed)) p.ordered (omega (arith, c.well_formed)) (c.place-y.ensures.0 c.requires.0 c.requires.1 p.limited p.few)
+    reached-resettable _ _ _ p.limited.standing (omega (arith, c.well_formed)) c.args.r.ordered (omega (arith, c.well_formed)) (c.place-y.ensures.0 c.requires.0 c.requires.1 p.limited p.few)
 
 pub returns : goal.returns
 returns c = (

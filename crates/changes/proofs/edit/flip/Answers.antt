@@ -1,33 +1,44 @@
--- `flip` meets its contract. The loop's invariant: the positions from a up to x are flipped; the measure is what is left of the range.
--- Assumes nothing.
-use Rattle.std.proofs.Common.{suc, ◌-◌, ◌≤◌, sym, ◌∙◌, arith, leb-true}
+-- `flip` meets its contract. The loop's invariant: the positions from the first one up to x are flipped; the measure is what is left of the
+-- range. Assumes nothing.
+use Rattle.std.proofs.Common.{◌≤◌, sym, ◌∙◌, subst, arith, leb-true}
 use Rattle.model.specs.Positions.{flip_range, stretches}
+use Rattle.model.specs.Range.{many}
 use Rattle.store.specs.Layout.{held_in}
+use Rattle.reports.specs.Reports.{StretchEnd}
 use Rattle.changes.proofs.Flipping.{Flipping, flips-none, stretch-applies, flipping-more, flips-done}
 use Rattle.changes.proofs.edit.flip.Goals as goal
-use Rattle.changes.proofs.edit.flip.Goals.{At-loop-b}
+use Rattle.changes.proofs.edit.flip.Goals.{At-loop-r, After-stretch_end}
 
 -- what it leaves is few enough
-few : (l : At-loop-b) → stretches (flip_range l.args.a.0 (suc l.args.b.0 - l.args.a.0) (held_in l.args.words.now l.args.h)) ≤ l.args.limit
+few : (l : At-loop-r) → stretches (flip_range l.args.r.first.0 (many l.args.r) (held_in l.args.words.now l.args.h)) ≤ l.args.limit
 few l = leb-true _ _ (sym l.flip_fits.ensures ∙ l.if-not-flip_fits.false)
 
 -- how far the loop has come
-here : (l : At-loop-b) → Flipping l.args.words.now l.loop-b.words l.requires.editable.0 l.args.h l.loop-b.k
-    l.args.limit l.args.a.0 l.args.b.0 l.loop-b.x.0
-here l = l.loop-b.invariant l.requires.editable.0 l.args.limit l.requires.editable.1 (few l)
+here : (l : At-loop-r) → Flipping l.args.words.now l.loop-r.words l.requires.0 l.args.h l.loop-r.k l.args.limit l.args.r.first.0 l.args.r.last.0 l.loop-r.x.0
+here l = l.loop-r.invariant l.requires.0 l.args.limit l.requires.1 (few l)
 
-pub loop-b-init : goal.loop-b-init
-loop-b-init c = flips-none c.requires.a_le_b (omega (arith, c.well_formed))
+-- the stretch from x on, in the world as it is
+stretch : (c : After-stretch_end)
+    → StretchEnd (held_in c.loop-r.words c.loop-r.k) c.get-value.result c.loop-r.x.0 c.args.r.last.0 c.stretch_end.result
+stretch c = subst (λ P. StretchEnd P c.get-value.result c.loop-r.x.0 c.args.r.last.0 c.stretch_end.result) c.set_of-set.ensures.positions c.stretch_end.ensures
+
+pub loop-r-init : goal.loop-r-init
+loop-r-init c = flips-none c.args.r.ordered (omega (arith, c.well_formed))
+
+pub set_of-set-requires : goal.set_of-set-requires
+set_of-set-requires c = (_, (here c).limited.standing)
 
 pub apply_set-k-requires : goal.apply_set-k-requires
-apply_set-k-requires c = stretch-applies (here (goal.at.apply_set-k-requires c).At-loop-b) c.stretch_end-y.ensures
+apply_set-k-requires c =
+    stretch-applies (here (goal.at.apply_set-k-requires c).At-loop-r) (stretch (goal.at.apply_set-k-requires c).After-stretch_end)
 
-pub loop-b-preserved : goal.loop-b-preserved
-loop-b-preserved c s limit lim few' =
-    flipping-more (c.loop-b.invariant s limit lim few') c.stretch_end-y.ensures c.apply_set-k.ensures.0 c.if-y-b.false
+pub loop-r-preserved : goal.loop-r-preserved
+loop-r-preserved c s limit lim few' =
+    flipping-more (c.loop-r.invariant s limit lim few') (stretch (goal.at.loop-r-preserved c).After-stretch_end) c.apply_set-k.ensures.0 c.if-y-r.false
 
-pub returns-then-y-b : goal.returns-then-y-b
-returns-then-y-b c = (
-  few (goal.at.returns-then-y-b c).At-loop-b,
-  λ s limit lim few'. flips-done (c.loop-b.invariant s limit lim few') c.stretch_end-y.ensures c.apply_set-k.ensures.0 c.if-y-b.true,
+pub returns-then-y-r : goal.returns-then-y-r
+returns-then-y-r c = (
+  few (goal.at.returns-then-y-r c).At-loop-r,
+  λ s limit lim few'.
+      flips-done (c.loop-r.invariant s limit lim few') (stretch (goal.at.returns-then-y-r c).After-stretch_end) c.apply_set-k.ensures.0 c.if-y-r.true,
 )

@@ -7,7 +7,7 @@ use Rattle.changes.proofs.edit.place.Goals as goal
 use Rattle.changes.proofs.edit.place.Goals.{After-links_of-x}
 
 -- where the range lies
-lies : (x : After-links_of-x) → Lies x.args.h.offset x.args.a.0 (suc x.args.b.0 - x.args.a.0)
+lies : (x : After-links_of-x) → Lies x.args.h.offset x.args.r.first.0 (suc x.args.r.last.0 - x.args.r.first.0)
     x.to_physical-s.result.0 x.to_physical-e.result.0
 lies x =
     lies-from-to x.requires.2.ordered (omega (arith, x.well_formed)) (omega (arith, x.well_formed)) x.to_physical-s.ensures x.to_physical-e.ensures

@@ -6,5 +6,5 @@ use Rattle.changes.proofs.edit.set.Goals as goal
 
 pub returns : goal.returns
 returns c =
-    set-edited _ _ c.outcome.result c.requires.editable (omega (arith, c.well_formed)) (omega (arith, c.apply_set-k.type_inv))
+    set-edited _ _ c.outcome.result c.requires (omega (arith, c.well_formed)) (omega (arith, c.apply_set-k.type_inv))
     (leb-true _ _ (sym c.set_fits.ensures ∙ c.if-not-set_fits.false)) c.apply_set-k.ensures c.outcome.ensures.world c.outcome.ensures.changed
