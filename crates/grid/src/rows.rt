@@ -62,12 +62,13 @@ pub fn count(words: &[u64], h: World, q: Rect) -> u64
 }
 
 // How many runs a row set to the value adds: those that are cut at its ends, and the row itself, if it is to be held.
+// Neither this nor `loss` takes it from `changes::edit::around`, which would count the world's runs anew for each row.
 fn gain(words: &[u64], h: World, s: Stretch, value: bool) -> u64
     requires { Stands words.now h }
     ensures { result ≡ gain value (held_in words.now h) s.first.0 s.last.0 }
 {
-    changes::edit::going_on(words, h, s.first)
-        + changes::edit::going_past(words, h, s.last)
+    u64::from(changes::edit::going_on(words, h, s.first))
+        + u64::from(changes::edit::going_past(words, h, s.last))
         + u64::from(value)
 }
 
@@ -77,12 +78,9 @@ fn loss(words: &[u64], h: World, s: Stretch, value: bool) -> u64
     ensures { result ≡ loss value (held_in words.now h) s.first.0 s.last.0 }
 {
     let inside = reports::logical::tally(words, h, s.first, s.last, true).runs;
-    if !value {
-        return inside;
-    }
-    inside
-        + changes::edit::held_before(words, h, s.first)
-        + changes::edit::held_after(words, h, s.last)
+    let before = value && changes::edit::held_before(words, h, s.first);
+    let after = value && changes::edit::held_after(words, h, s.last);
+    inside + u64::from(before) + u64::from(after)
 }
 
 // Sets a row to the value, unless that leaves more runs than the limit: then all stays as it is.
@@ -176,10 +174,5 @@ pub fn set(words: &mut [u64], h: World, limit: u64, q: Rect, value: bool) -> Opt
         return None;
     }
     let k = change.make(words, h);
-    let changed = if value {
-        changes::edit::gained(h.root, h.ones, k.root, k.ones)
-    } else {
-        changes::edit::gained(k.root, k.ones, h.root, h.ones)
-    };
-    Some(Edit { world: k, changed })
+    Some(changes::edit::outcome(h, k, value))
 }

@@ -14,7 +14,8 @@ use Rattle.store.specs.Soundness.{Share, Limited, Editable}
 use Rattle.store.specs.Settle.{Became}
 use Rattle.store.proofs.Nodes.{still-then, still-same}
 use Rattle.store.proofs.Settling.{became-limited}
-use Rattle.changes.specs.Edits.{Makes, Edited, Appliable, StretchEnd}
+use Rattle.reports.specs.Reports.{StretchEnd}
+use Rattle.changes.specs.Edits.{Makes, Edited, Appliable}
 use Rattle.maps.specs.Window.{Window, MayMap}
 use Rattle.maps.proofs.Windows.{mapped-below, mapped-above, mapped_at, changes-nothing}
 use Rattle.maps.proofs.Surveying.{Border, border-first, border-next}

@@ -7,7 +7,7 @@ use Rattle.model.specs.Positions.{Positions, one_if}
 use Rattle.model.specs.Bytes.{bits, map_bit}
 use Rattle.model.proofs.Maps.{bits-bit}
 use Rattle.model.proofs.After.{differing, agreeing}
-use Rattle.changes.specs.Edits.{StretchEnd}
+use Rattle.reports.specs.Reports.{StretchEnd}
 use Rattle.maps.specs.Window.{Whole}
 use Rattle.maps.proofs.Octeting.{same_bits}
 

@@ -9,7 +9,7 @@ use Rattle.model.specs.Bytes.{map_bit, mapped}
 use Rattle.model.proofs.Maps.{mapped_in}
 use Rattle.model.specs.Neighbours.{goes_on}
 use Rattle.model.proofs.After.{runs-cut, set-inside, set_below, set-above}
-use Rattle.changes.specs.Edits.{StretchEnd}
+use Rattle.reports.specs.Reports.{StretchEnd}
 use Rattle.changes.proofs.Neighbours.{goes_on-below}
 use Rattle.changes.proofs.SetRuns.{set-false-leaves, below_in, above_in}
 use Rattle.maps.proofs.Windows.{mapped-below, mapped-above, mapped_at}

@@ -10,7 +10,7 @@ use Rattle.model.proofs.Runs.{runs_in-join, runs_in-none}
 use Rattle.model.specs.Bytes.{map_bit, mapped}
 use Rattle.model.specs.declared.Tally.{Tally}
 use Rattle.reports.specs.Reports.{Measured}
-use Rattle.changes.specs.Edits.{StretchEnd}
+use Rattle.reports.specs.Reports.{StretchEnd}
 use Rattle.maps.specs.Window.{Window, Surveyed}
 use Rattle.maps.proofs.Windows.{mapped-below, mapped-above, mapped_at, changes-stretch, changes-in, one_value}
 

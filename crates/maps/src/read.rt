@@ -5,7 +5,8 @@ ghost use Rattle.model.specs.Positions.{stretches, run_count};
 ghost use Rattle.model.specs.Bytes.{map_bit, mapped};
 ghost use Rattle.store.specs.Layout.{held_in};
 ghost use Rattle.store.specs.Soundness.{Stands, Editable};
-ghost use Rattle.changes.specs.Edits.{Makes, Edited, StretchEnd};
+ghost use Rattle.reports.specs.Reports.{StretchEnd};
+ghost use Rattle.changes.specs.Edits.{Makes, Edited};
 ghost use Rattle.maps.specs.Window.{Window, Whole, Surveyed, MayMap};
 
 use crate::span::Map;
@@ -96,22 +97,11 @@ fn map_fits(words: &[u64], h: World, limit: u64, map: &Map, runs: u64) -> bool
     let last = map.span.n - 1;
     let a = Logical(map.span.base);
     let b = Logical(map.span.base + last);
-    let total = store::bounds::logical_runs(words, h.root, h.offset, h.runs);
-    let t = reports::logical::tally(words, h, a, b, true);
-    let before = total
-        + changes::edit::going_on(words, h, a)
-        + changes::edit::going_past(words, h, b);
-    let low = if bit(map.bytes, 0) {
-        changes::edit::held_before(words, h, a)
-    } else {
-        0
-    };
-    let high = if bit(map.bytes, last) {
-        changes::edit::held_after(words, h, b)
-    } else {
-        0
-    };
-    before + runs <= limit + t.runs + low + high
+    let outside = changes::edit::around(words, h, a, b).outside;
+    // a run of the map that ends with the window is one with the run of the neighbour there
+    let before = bit(map.bytes, 0) && changes::edit::held_before(words, h, a);
+    let after = bit(map.bytes, last) && changes::edit::held_after(words, h, b);
+    outside + runs <= limit + u64::from(before) + u64::from(after)
 }
 
 // Gives the window the map's values, where what it leaves fits. A map of one value is one set; else the window is cleared first, and
