@@ -10,6 +10,7 @@ use store::Store;
 
 // Makes the words a pool of one world, which is empty and may have all that the pool has. False where no pool has their length.
 #[unsafe(no_mangle)]
+#[tactic(auto, using(crate::proofs::Grown::makeable))]
 pub extern "C" fn vizturel_bench_new(words: &mut [u64]) -> bool {
     let s = Store::of_length(words.len());
     if s.capacity == 0 {

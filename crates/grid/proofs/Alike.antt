@@ -149,10 +149,6 @@ single-one P r c on = alike-one P r c 1 1 on (P (cell r c)) (λ i x a b k l. let
 
 -- ---- row after row
 module _ (P : Positions) (r c m n : ℕ) (v : Bool) where
-  -- before the first row
-  pub alike-none : Alike P r c (r - r) n v
-  alike-none i x a b k l = absurd (omega arith)
-
   module _ (on : OnGrid r c m n) (k : ℕ) (far : r ≤ k) (h : Alike P r c (k - r) n v) where
     -- after the last one
     pub alike_all : r + m ≤ k → Alike P r c m n v

@@ -1,6 +1,6 @@
 -- The pieces of a block, which is a square or the half of one: the block itself, if it has one value, else those of its halves, which are blocks
 -- too; and how many words there are at most. Assumes nothing.
-use Prim.Native.Nat.{ℕ, zero, suc, ◌+◌, ◌-◌, ◌*◌, ◌^◌, ◌≤◌, ◌<◌}
+use Prim.Native.Nat.{ℕ, zero, suc, ◌+◌, ◌*◌, ◌^◌, ◌≤◌}
 use mathlib.Core.Path.{◌≡◌, refl, sym, ap, ap₂, ◌∙◌, subst, subst₂}
 use mathlib.Core.Bool.{Bool, true, false, cond, true≢false}
 use mathlib.Core.List.{List, ◌++◌}
@@ -9,8 +9,7 @@ use native.Mathlib.Decide.{ℕ_discrete}
 use borrow.Author.Tests.{eq-eqb}
 use Rattle.std.proofs.lemmas.Bool.{ne_eqb}
 use lib.Dec.{eqb}
-use native.Mathlib.Nat.{two-pow-succ, one-le-pow, pow-suc, pow-le-pow_right}
-use lib.Pow.{pow_pos}
+use native.Mathlib.Nat.{one-le-pow, pow-suc, pow-le-pow_right}
 use lib.ListN.{length, length-append}
 use Rattle.model.specs.Positions.{Positions}
 use Rattle.model.specs.Grid.{cell, one_valued, piece, by_row, by_column, survey}
@@ -89,8 +88,8 @@ module _ (P : Positions) where
 
     module _ (k m : ℕ) (em : m ≡ 2 ^ k) (two : one_valued P r c (2 ^ i) (2 ^ j) ≡ false) where
       -- the pieces of a square are those of its left half and of its right one
-      pub two-halves : i ≡ j → j ≡ suc k → all i j r c ≡ all i k r c ++ all i k r (c + m)
-      two-halves e f =
+      pub two_halves : i ≡ j → j ≡ suc k → all i j r c ≡ all i k r c ++ all i k r (c + m)
+      two_halves e f =
           all-square e ∙ ap (λ x. survey P x r c) f
           ∙ square-two P r c k (ap₂ (λ x y. one_valued P r c (2 ^ x) (2 ^ y)) (sym (e ∙ f)) (sym f) ∙ two)
           ∙ ap₂ ◌++◌ (sym (half-of c)) (ap (λ x. half P k r (c + x)) (sym em) ∙ sym (half-of (c + m)))
@@ -99,8 +98,8 @@ module _ (P : Positions) where
           half-of d = ap (λ t. cond t (survey P k r d) (half P k r d)) (ne_eqb i k (omega arith))
 
       -- those of the half of one are those of its upper square and of its lower one
-      pub two-squares : i ≡ suc k → j ≡ k → all i j r c ≡ all k j r c ++ all k j (r + m) c
-      two-squares e f =
+      pub two_squares : i ≡ suc k → j ≡ k → all i j r c ≡ all k j r c ++ all k j (r + m) c
+      two_squares e f =
           all-half (e ∙ ap suc (sym f))
           ∙ half-two P r c j (ap (λ x. one_valued P r c (2 ^ x) (2 ^ j)) (sym (e ∙ ap suc (sym f))) ∙ two)
           ∙ ap₂ ◌++◌ (sym (square-of r)) (ap (λ x. survey P j (r + x) c) (ap (λ x. 2 ^ x) f ∙ sym em) ∙ sym (square-of (r + m)))
@@ -121,57 +120,6 @@ square-pieces P k r c = all-square P r c k k refl
 -- so they are listed
 pub square-listed : (P : Positions) (k r c : ℕ) {p q : ℕ} {out out' : List ℕ} → Listed (all P k k r c) p q out out' → Listed (survey P k r c) p q out out'
 square-listed P k r c {p} {q} {out} {out'} = subst (λ ps. Listed ps p q out out') (square-pieces P k r c)
-
--- ---- where its halves lie
-module _ {r c i j : ℕ} (h : Halved r c i j) (some : 1 ≤ i) where
-  -- those of a square have half of the columns
-  module _ (e : i ≡ j) (d : ℕ) (ed : d ≡ 2 ^ (j - 1)) where
-    columns-halved : 2 ^ j ≡ d + d
-    columns-halved =
-        let f : j ≡ suc (j - 1) = omega arith in
-        ap (λ k. 2 ^ k) f ∙ two-pow-succ (j - 1) ∙ ap₂ ◌+◌ (sym ed) (sym ed)
-
-    half-on : (x : ℕ) → x + d ≤ c + 2 ^ j → OnGrid r x (2 ^ i) (2 ^ (j - 1))
-    half-on x l = record {
-      some = h.on.some;
-      wide = pow_pos (j - 1);
-      low = h.on.low;
-      within = omega (arith, h.on.within, ed);
-    }
-
-    pub left-halved : Halved r c i (j - 1)
-    left-halved = record { low = omega arith; high = omega arith; few = h.few; on = half-on c (omega (arith, columns-halved)) }
-
-    pub right-halved : Halved r (c + d) i (j - 1)
-    right-halved = record { low = omega arith; high = omega arith; few = h.few; on = half-on (c + d) (omega (arith, columns-halved)) }
-
-  -- those of the half of one have half of the rows
-  module _ (e : i ≡ j → ⊥) (d : ℕ) (ed : d ≡ 2 ^ (i - 1)) where
-    rows-halved : 2 ^ i ≡ d + d
-    rows-halved =
-        let f : i ≡ suc (i - 1) = omega arith in
-        ap (λ k. 2 ^ k) f ∙ two-pow-succ (i - 1) ∙ ap₂ ◌+◌ (sym ed) (sym ed)
-
-    less : i - 1 ≡ j
-    less = go (ℕ_discrete i j)
-      where
-        go : Dec (i ≡ j) → i - 1 ≡ j
-        go (yes f) = absurd (e f)
-        go (no n) = omega (arith, h.low, h.high)
-
-    square-on : (x : ℕ) → x + d ≤ r + 2 ^ i → OnGrid x c (2 ^ (i - 1)) (2 ^ j)
-    square-on x l = record {
-      some = pow_pos (i - 1);
-      wide = h.on.wide;
-      low = omega (arith, h.on.low, ed);
-      within = h.on.within;
-    }
-
-    pub upper-halved : Halved r c (i - 1) j
-    upper-halved = record { low = omega (arith, less); high = omega (arith, less); few = omega (arith, h.few); on = square-on r (omega (arith, rows-halved)) }
-
-    pub lower-halved : Halved (r + d) c (i - 1) j
-    lower-halved = record { low = omega (arith, less); high = omega (arith, less); few = omega (arith, h.few); on = square-on (r + d) (omega (arith, rows-halved)) }
 
 -- ---- how many words there are
 -- the piece, or its halves

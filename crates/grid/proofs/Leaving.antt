@@ -2,35 +2,22 @@
 -- on the way; else the sums of what its rows add and take decide. Assumes nothing.
 use Prim.Native.Nat.{ℕ, suc, ◌+◌, ◌-◌, ◌≤◌, ◌<◌}
 use mathlib.Core.Path.{◌≡◌, sym, ap, ◌∙◌}
-use mathlib.Core.Bool.{Bool, true, false, and-true, and-false}
+use mathlib.Core.Bool.{Bool, true}
 use mathlib.Core.List.{List}
 use native.Mathlib.Omega.{arith}
 use lib.Dec.{leb}
 use borrow.Author.Tests.{le-leb}
 use Rattle.model.specs.Numbers.{size}
-use Rattle.model.specs.Positions.{Positions, one_if, run_count, stretches}
-use Rattle.model.specs.Neighbours.{held_below, held_above}
+use Rattle.model.specs.Positions.{Positions, stretches}
 use Rattle.store.specs.declared.World.{World}
 use Rattle.store.specs.Layout.{held_in}
 use Rattle.store.specs.Soundness.{Share, Standing}
 use Rattle.changes.proofs.Fitting.{leb-like, logical-most}
 use Rattle.model.specs.declared.Rect.{Rect}
-use Rattle.model.specs.Grid.{cell, set_rect}
+use Rattle.model.specs.Grid.{set_rect}
 use Rattle.grid.specs.Surveys.{OnPlane}
 use Rattle.grid.specs.Rows.{Narrow, set_before, WayFits, row_sum, row_gain, row_loss}
 use Rattle.grid.proofs.Locality.{rows-most, rect-most, rect-leaves}
-
--- ---- what a row takes
-module _ (q : Rect) (P : Positions) (r : ℕ) {v : Bool} {inside : ℕ}
-    (here : inside ≡ run_count P true (cell r q.left) (suc (cell r q.right) - cell r q.left)) where
-  -- if it is to be held: the runs in it and those of its neighbours
-  pub loss-held : {before after : ℕ} → v ≡ true → before ≡ one_if (held_below P (cell r q.left)) → after ≡ one_if (held_above P (cell r q.right))
-      → inside + before + after ≡ row_loss q v P r
-  loss-held e b a = omega (arith, ap one_if (and-true (held_below P (cell r q.left)))) ∙ ap (λ u. row_loss q u P r) (sym e)
-
-  -- if not: those in it
-  pub loss-free : v ≡ false → inside ≡ row_loss q v P r
-  loss-free e = omega (arith, ap one_if (and-false (held_below P (cell r q.left)))) ∙ ap (λ u. row_loss q u P r) (sym e)
 
 -- ---- what the rectangle leaves
 -- far from the limit it fits

@@ -2,7 +2,7 @@
 -- limit. After one pass each row is set or would add a run, so in the next one no state on the way has more runs than the whole rectangle
 -- leaves, and none is refused. Assumes nothing.
 use Rattle.changes.specs.Edits.{changed_to}
-use Rattle.std.specs.Prelude.{Option, None}
+use Rattle.std.specs.Prelude.{Option}
 use Rattle.changes.specs.declared.edit.Edit.{Edit}
 use Prim.Native.Nat.{ℕ, suc, ◌+◌, ◌-◌, ◌≤◌, ◌<◌}
 use mathlib.Core.Path.{◌≡◌, refl, sym, ap, ◌∙◌, subst, subst₂}
@@ -63,12 +63,6 @@ limited-by {w} {s} {u} {h} l m =
 
 -- ---- one row
 module _ {w w' : List ℕ} {h : World} {limit a b : ℕ} {v : Bool} (e : Option Edit) (ed : Edited w w' h limit (set_range a (suc b - a) v (held_in w h)) e) where
-  -- it was refused
-  pub row-refused : e ≡ None → SetsRow w w' h h limit a b v
-  row-refused p s l =
-      let y = subst (Edited w w' h limit (set_range a (suc b - a) v (held_in w h))) p ed in
-      subst (λ (u : List ℕ). RowSet w u s h h limit a b v) (sym y.1) (record { limited = l; still = still-same; either = inl (y.0, λ x _. refl) })
-
   -- it was set
   pub row_made : {k : World} {c : Count} → e ≡ changed_to k c → SetsRow w w' h k limit a b v
   row_made p s l =

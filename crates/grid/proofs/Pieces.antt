@@ -22,9 +22,9 @@ five-placed out ps p l =
     rw (e, l, drop-drop 5 p out) refl
 
 -- a piece
-pub piece-listed : (r c i j p : ℕ) (v : Bool) (out : List ℕ) {m n b : ℕ} {ws : List ℕ} → p + 5 ≤ length out → m ≡ 2 ^ i → n ≡ 2 ^ j → b ≡ bool_byte v
+pub piece_listed : (r c i j p : ℕ) (v : Bool) (out : List ℕ) {m n b : ℕ} {ws : List ℕ} → p + 5 ≤ length out → m ≡ 2 ^ i → n ≡ 2 ^ j → b ≡ bool_byte v
     → ws ≡ r ∷ c ∷ m ∷ n ∷ b ∷ [] → Listed (piece r c (2 ^ i) (2 ^ j) v) p (p + 5) out (put_mid p (p + 5 - p) out ws)
-piece-listed r c i j p v out {m} {n} {b} {ws} room em en eb ew = rw (ew ∙ is) (record {
+piece_listed r c i j p v out {m} {n} {b} {ws} room em en eb ew = rw (ew ∙ is) (record {
   next = refl;
   long = rw (five-placed out (piece r c (2 ^ i) (2 ^ j) v) p refl) (placed-length p (piece r c (2 ^ i) (2 ^ j) v) out room);
   slice = λ _. five-placed out (piece r c (2 ^ i) (2 ^ j) v) p refl;

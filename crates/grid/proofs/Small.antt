@@ -6,7 +6,7 @@ use native.Mathlib.Omega.{arith}
 use lib.Dec.{eqb}
 use lib.ListN.{length}
 use Rattle.model.specs.declared.Run.{Run}
-use Rattle.model.specs.Positions.{Positions, run, count, put_first, runs_in, run_count}
+use Rattle.model.specs.Positions.{Positions, run, put_first, runs_in, run_count}
 use Rattle.model.specs.Neighbours.{goes_on, held_below, held_above}
 use Rattle.model.proofs.Counting.{one-bound, count_most}
 use Rattle.model.specs.declared.Rect.{Rect}

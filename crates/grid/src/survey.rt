@@ -45,47 +45,29 @@ fn one_valued(words: &[u64], h: World, b: Block) -> bool
 }
 
 // The halves of a block that is no single cell: the left one and the right one of a square, else the upper one and the lower one.
+#[tactic(auto, using(crate::proofs::Halving::two_halves, crate::proofs::Halving::two_squares))]
 fn halves(b: Block) -> (Block, Block)
     requires { 1 ≤ b.i }
     ensures { Halves b result.0 result.1 }
 {
     let Block { corner, i, j } = b;
     if i == j {
-        let left = Block {
-            corner,
-            i,
-            j: j - 1,
-        };
+        let j = j - 1;
+        let left = Block { corner, i, j };
         let column = corner.column + left.columns();
         let corner = Corner { column, ..corner };
-        return (
-            left,
-            Block {
-                corner,
-                i,
-                j: j - 1,
-            },
-        );
+        return (left, Block { corner, i, j });
     }
-    let upper = Block {
-        corner,
-        i: i - 1,
-        j,
-    };
+    let i = i - 1;
+    let upper = Block { corner, i, j };
     let row = corner.row + upper.rows();
     let corner = Corner { row, ..corner };
-    (
-        upper,
-        Block {
-            corner,
-            i: i - 1,
-            j,
-        },
-    )
+    (upper, Block { corner, i, j })
 }
 
 // A piece goes to a slice from `at` on, where that has room: its first row and column, its rows and columns, and its value. Returns where the
 // next one goes.
+#[tactic(auto, using(crate::proofs::Pieces::piece_listed))]
 fn put_piece(out: &mut [u64], at: usize, b: Block, value: bool) -> usize
     requires { at + 5 < 2 ^ 64 }
     ensures { Listed (piece b.corner.row b.corner.column (2 ^ b.i) (2 ^ b.j) value) at result out.old out.new }
@@ -126,11 +108,8 @@ pub fn due(words: &[u64], h: World, row: u64, column: u64, k: u64) -> usize
     requires on_grid { OnGrid row column (2 ^ k) (2 ^ k) }
     ensures { result ≡ length (survey (held_in words.now h) k row column) }
 {
-    let square = Block {
-        corner: Corner { row, column },
-        i: k,
-        j: k,
-    };
+    let corner = Corner { row, column };
+    let square = Block { corner, i: k, j: k };
     put_pieces(words, h, square, &mut [], 0)
 }
 
@@ -142,10 +121,7 @@ pub fn put(words: &[u64], h: World, row: u64, column: u64, k: u64, out: &mut [u6
     requires column_in_bounds { length (survey (held_in words.now h) k row column) ≤ length out.old }
     ensures { Surveyed (survey (held_in words.now h) k row column) result out.old out.new }
 {
-    let square = Block {
-        corner: Corner { row, column },
-        i: k,
-        j: k,
-    };
+    let corner = Corner { row, column };
+    let square = Block { corner, i: k, j: k };
     put_pieces(words, h, square, out, 0)
 }

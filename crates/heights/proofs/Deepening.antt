@@ -3,7 +3,7 @@
 use Rattle.changes.specs.Edits.{changed_to}
 use Rattle.std.specs.Prelude.{Option, None, Some}
 use Rattle.changes.specs.declared.edit.Edit.{Edit}
-use Prim.Native.Nat.{ℕ, suc, ◌+◌, ◌-◌, ◌*◌, ◌≤◌, ◌<◌}
+use Prim.Native.Nat.{ℕ, suc, ◌+◌, ◌-◌, ◌≤◌, ◌<◌}
 use mathlib.Core.Path.{◌≡◌, refl, sym, ap, ap₂, ◌∙◌, subst}
 use mathlib.Core.Bool.{true}
 use mathlib.Core.List.{List, [], ◌∷◌, ◌++◌, append-nil}

@@ -1,9 +1,8 @@
 -- `put_pieces` meets its contract: a block that has one value is listed, and any other one's halves are, one after the other.
 -- Assumes nothing.
-use Rattle.std.proofs.Common.{length, sym, ap, ◌∙◌, subst, arith, length-append}
+use Rattle.std.proofs.Common.{length, sym, ap, ◌∙◌, subst, arith}
 use Rattle.store.specs.Layout.{held_in}
 use Rattle.grid.specs.Surveys.{Listed}
-use Rattle.grid.specs.Blocks.{pieces}
 use Rattle.grid.proofs.Halving.{piece-is, more-cells}
 use Rattle.grid.proofs.Pieces.{both-listed}
 use Rattle.grid.proofs.survey.+put_pieces.Goals as goal

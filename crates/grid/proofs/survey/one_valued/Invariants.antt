@@ -1,6 +1,6 @@
 -- `one_valued` meets its contract. The loop's invariant: the cells of the rows before row r have the first cell's value; the measure is the rows
 -- that are left. Assumes nothing.
-use Prim.Native.Nat.{◌+◌, ◌-◌, ◌≤◌}
+use Prim.Native.Nat.{◌-◌, ◌≤◌}
 use mathlib.Core.Path.{◌≡◌}
 use Rattle.store.specs.Layout.{held_in}
 use Rattle.model.specs.Grid.{cell}

@@ -1,13 +1,9 @@
 -- `put` meets its contract: what is put from the start on is the front. Assumes nothing.
-use Rattle.std.proofs.Common.{length, ap, ◌∙◌, arith}
+use Rattle.std.proofs.Common.{◌∙◌, arith}
 use Rattle.written.proofs.Placing.{placed-front}
 use Rattle.store.specs.Layout.{held_in}
-use Rattle.grid.proofs.Halving.{square-pieces, square-listed}
+use Rattle.grid.proofs.Halving.{square-listed}
 use Rattle.grid.proofs.survey.put.Goals as goal
-
-pub put_pieces-requires-clause-room : goal.put_pieces-requires-clause-room
-put_pieces-requires-clause-room c =
-    omega (arith, ap length (square-pieces (held_in c.args.words.now c.args.h) c.args.k c.args.row c.args.column), c.requires.column_in_bounds)
 
 pub returns : goal.returns
 returns c =

@@ -1,13 +1,11 @@
 -- `plant` meets its contract. The loop's invariant: the world k has at most i runs, and those of the shortest list for a height, if the runs are
 -- these, are its tree. Assumes nothing.
-use Prim.Native.Nat.{ℕ, ◌+◌, ◌≤◌, ◌<◌}
-use mathlib.Core.Path.{◌≡◌, sym, ap, subst, ◌∙◌}
+use Prim.Native.Nat.{◌≤◌, ◌<◌}
+use mathlib.Core.Path.{◌≡◌, sym, subst}
 use native.Mathlib.Omega.{arith}
-use lib.ListN.{length, get_or}
-use Rattle.std.specs.Prelude.{Option}
+use lib.ListN.{length}
 use Rattle.model.specs.Numbers.{size}
-use Rattle.store.specs.declared.World.{World}
-use Rattle.heights.specs.Planting.{Grown, Deepened}
+use Rattle.heights.specs.Planting.{Grown}
 use Rattle.heights.proofs.Deepening.{growing-none, bare-tree, next-refused, growing-more, growing-all, deepening-none, next_fits, deepening-more, deepening-all}
 use Rattle.heights.proofs.plant.plant.Given.{Over}
 use Rattle.heights.proofs.plant.plant.Goals as goal
@@ -28,23 +26,17 @@ below g t = omega (arith, t.run-r.type_inv.1.1.1.0.1)
 pub loop-i-init : goal.loop-i-init
 loop-i-init g c = (omega arith, λ s m. (growing-none m, λ d h. deepening-none (bare-tree m)))
 
-pub set-requires-clause-editable : goal.set-requires-clause-editable
-set-requires-clause-editable g c = (c.requires.0, ((c.loop-i.invariant.1 c.requires.0 c.requires.1).0).limited)
-
-pub set-requires-clause-a_le_b : goal.set-requires-clause-a_le_b
-set-requires-clause-a_le_b g c = ordered g (goal.at.set-requires-clause-a_le_b g c).After-run-r
-
 pub returns-in_err-e : goal.returns-in_err-e
 returns-in_err-e g c =
     let t = (goal.at.returns-in_err-e g c).After-run-r in
     λ s m.
-        let inv = c.loop-i.invariant.1 s m in (
-          subst (Grown c.args.words.now c.set.new.words s c.args.limit (length (g.L.RunList.runs c.args.runs))) (sym c.from_residual.ensures)
-              (next-refused inv.0 _ _ (ordered g t) (below g t) _ _ c.set.ensures.0 (c.in_err-e.was)),
-          λ d h.
-              absurd
-              (next_fits h inv.0 (inv.1 d h) (more g (goal.at.returns-in_err-e g c).In-loop-i) _ c.run-r.ensures (ordered g t) (below g t) _ _ c.set.ensures.0 (c.in_err-e.was)),
-        )
+    let inv = c.loop-i.invariant.1 s m in (
+      subst (Grown c.args.words.now c.set.new.words s c.args.limit (length (g.L.RunList.runs c.args.runs))) (sym c.from_residual.ensures)
+          (next-refused inv.0 _ _ (ordered g t) (below g t) _ _ c.set.ensures.0 (c.in_err-e.was)),
+      λ d h.
+          absurd
+          (next_fits h inv.0 (inv.1 d h) (more g (goal.at.returns-in_err-e g c).In-loop-i) _ c.run-r.ensures (ordered g t) (below g t) _ _ c.set.ensures.0 (c.in_err-e.was)),
+    )
 
 pub loop-i-preserved : goal.loop-i-preserved
 loop-i-preserved g c =

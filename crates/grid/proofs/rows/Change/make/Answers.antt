@@ -14,10 +14,6 @@ returns-then-is_far c =
     (leb-true _ _ (sym c.is_far.ensures ∙ c.if-is_far.true)))
     c.pass-k.ensures
 
-pub pass-requires : goal.pass-requires
-pass-requires c =
-    (c.requires.editable.0, (c.pass-k.ensures c.requires.editable.0 c.requires.editable.1).limited)
-
 pub returns : goal.returns
 returns c =
     passed-twice c.args.self.on_plane c.args.self.narrow c.requires.editable.1 c.requires.fits c.pass-k.ensures c.pass.ensures
