@@ -57,5 +57,5 @@ pub fn run_count(words: &[u64], h: World) -> u64
     requires { Stands words.now h }
     ensures { result ≡ stretches (held_in words.now h) }
 {
-    store::bounds::logical_runs(words, h.root, h.offset, h.runs)
+    store::bounds::logical_runs(&store::set_of(words, h), h.runs)
 }

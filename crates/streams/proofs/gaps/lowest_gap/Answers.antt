@@ -6,14 +6,14 @@ use Rattle.streams.proofs.Starts.{standing-rooted}
 use Rattle.streams.proofs.Gapped.{gap-short, sought-first, sought-run, sought-before, sought-over, sought-on, sought-clear}
 use Rattle.streams.proofs.gaps.lowest_gap.Goals as goal
 
-pub returns-then-b-a : goal.returns-then-b-a
-returns-then-b-a c = sym (gap-short _ _ _ _ c.requires.a_le_b.0 c.if-b-a.true)
+pub returns-then-range-n : goal.returns-then-range-n
+returns-then-range-n c = sym (gap-short _ _ _ _ c.args.range.ordered c.if-range-n.true)
 
 pub open-held-requires : goal.open-held-requires
 open-held-requires c = standing-rooted c.requires.stands.1
 
 pub loop-r-init : goal.loop-r-init
-loop-r-init c = sought-first c.requires.a_le_b.0 c.requires.a_le_b.1 c.if-b-a.false c.open-held.ensures
+loop-r-init c = sought-first c.args.range.ordered c.requires.some c.if-range-n.false c.open-held.ensures
 
 pub next-requires : goal.next-requires
 next-requires c = (_, _, c.loop-r.invariant.reads)
@@ -26,15 +26,15 @@ returns-then-r-x c = sym (sought-before c.loop-r.invariant c.in-Some.ensures c.i
 
 pub returns-then-saturating_sub-n : goal.returns-then-saturating_sub-n
 returns-then-saturating_sub-n c =
-    sym (sought-over c.loop-r.invariant c.in-Some.ensures c.requires.a_le_b.1 c.if-r-x.false (omega (arith, c.if-saturating_sub-n.true, c.saturating_sub.ensures)))
+    sym (sought-over c.loop-r.invariant c.in-Some.ensures c.requires.some c.if-r-x.false (omega (arith, c.if-saturating_sub-n.true, c.saturating_sub.ensures)))
 
 pub loop-r-smaller : goal.loop-r-smaller
 loop-r-smaller c =
-    let r = sought-run c.loop-r.invariant c.in-Some.ensures in omega (arith, r.onward, r.ordered, c.requires.a_le_b.1, c.if-saturating_sub-n.false, c.saturating_sub.ensures)
+    let r = sought-run c.loop-r.invariant c.in-Some.ensures in omega (arith, r.onward, r.ordered, c.requires.some, c.if-saturating_sub-n.false, c.saturating_sub.ensures)
 
 pub loop-r-preserved : goal.loop-r-preserved
 loop-r-preserved c =
-    sought-on c.loop-r.invariant c.in-Some.ensures c.requires.a_le_b.1 c.if-r-x.false (omega (arith, c.if-saturating_sub-n.false, c.saturating_sub.ensures))
+    sought-on c.loop-r.invariant c.in-Some.ensures c.requires.some c.if-r-x.false (omega (arith, c.if-saturating_sub-n.false, c.saturating_sub.ensures))
 
 pub returns : goal.returns
 returns c = sym (sought-clear c.loop-r.invariant c.in_default.ensures (omega (arith, c.well_formed)))

@@ -6,7 +6,7 @@ use Rattle.streams.proofs.Gapped.{Sought}
 use Rattle.streams.proofs.gaps.lowest_gap.Given as goal
 
 abbrev pub invariant-loop-r : goal.invariant-loop-r
-invariant-loop-r l = Sought l.held l.initial.x l.b.0 l.n l.x (held_in l.words l.fn.h)
+invariant-loop-r l = Sought l.held l.range.first.0 l.range.last.0 l.n l.x (held_in l.words l.fn.h)
 
 abbrev pub decreases-loop-r : goal.decreases-loop-r
-decreases-loop-r l = l.b.0 - l.x
+decreases-loop-r l = l.range.last.0 - l.x
