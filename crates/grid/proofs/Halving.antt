@@ -1,7 +1,7 @@
 -- The pieces of a block, which is a square or the half of one: the block itself, if it has one value, else those of its halves, which are blocks
 -- too; and how many words there are at most. Assumes nothing.
 use Prim.Native.Nat.{ℕ, zero, suc, ◌+◌, ◌*◌, ◌^◌, ◌≤◌}
-use mathlib.Core.Path.{◌≡◌, refl, sym, ap, ap₂, ◌∙◌, subst, subst₂}
+use mathlib.Core.Path.{◌≡◌, refl, sym, ap, ap₂, ◌∙◌, subst₂}
 use mathlib.Core.Bool.{Bool, true, false, cond, true≢false}
 use mathlib.Core.List.{List, ◌++◌}
 use native.Mathlib.Omega.{arith}
@@ -14,7 +14,8 @@ use lib.ListN.{length, length-append}
 use Rattle.model.specs.Positions.{Positions}
 use Rattle.model.specs.Grid.{cell, one_valued, piece, by_row, by_column, survey}
 use Rattle.grid.specs.declared.block.Block.{Block}
-use Rattle.grid.specs.Surveys.{OnGrid, Halved, Listed, half}
+use Rattle.grid.specs.declared.block.Corner.{Corner}
+use Rattle.grid.specs.Surveys.{OnGrid, Halved, half}
 use Rattle.grid.specs.Blocks.{pieces}
 use Rattle.grid.proofs.Alike.{single-one}
 
@@ -117,9 +118,10 @@ piece-is P b one v ev =
 pub square-pieces : (P : Positions) (k r c : ℕ) → all P k k r c ≡ survey P k r c
 square-pieces P k r c = all-square P r c k k refl
 
--- so they are listed
-pub square-listed : (P : Positions) (k r c : ℕ) {p q : ℕ} {out out' : List ℕ} → Listed (all P k k r c) p q out out' → Listed (survey P k r c) p q out out'
-square-listed P k r c {p} {q} {out} {out'} = subst (λ ps. Listed ps p q out out') (square-pieces P k r c)
+-- so are those of a block that is one
+pub block-pieces : (P : Positions) (b : Block) {c : Corner} {k : ℕ} → (b.corner ≡ c) × (b.i ≡ k) × (b.j ≡ k) → pieces P b ≡ survey P k c.row c.column
+block-pieces P b {c} {k} (e, f, g) =
+    ap (λ (x : Corner). all P b.i b.j x.row x.column) e ∙ ap₂ (λ i j. all P i j c.row c.column) f g ∙ square-pieces P k c.row c.column
 
 -- ---- how many words there are
 -- the piece, or its halves

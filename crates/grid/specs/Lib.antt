@@ -1,3 +1,4 @@
 pub mod Surveys
 pub mod Blocks
 pub mod Rows
+pub mod Areas

@@ -1,6 +1,6 @@
 // Blocks of a grid, as halving leaves them of a square.
-ghost use Rattle.std.specs.Prelude.{◌≡◌, ◌^◌};
-ghost use Rattle.grid.specs.Surveys.{Halved};
+ghost use Rattle.std.specs.Prelude.{◌≡◌, ◌^◌, ◌≤◌};
+ghost use Rattle.grid.specs.Surveys.{OnGrid, Halved};
 
 // A cell, as the first one of a block.
 #[derive(Clone, Copy)]
@@ -16,6 +16,28 @@ pub struct Block {
     pub i: u64,
     pub j: u64,
     ghost halved: { Halved corner.row corner.column i j },
+}
+
+// A square of side 2^k on the plane, k at most 8.
+#[derive(Clone, Copy)]
+pub struct Square {
+    pub corner: Corner,
+    pub k: u64,
+    pub ghost small: { k ≤ 8 },
+    pub ghost on_grid: { OnGrid corner.row corner.column (2 ^ k) (2 ^ k) },
+}
+
+impl Square {
+    // The same as a block.
+    pub fn block(self) -> Block
+        ensures { (result.corner ≡ self.corner) × (result.i ≡ self.k) × (result.j ≡ self.k) }
+    {
+        Block {
+            corner: self.corner,
+            i: self.k,
+            j: self.k,
+        }
+    }
 }
 
 impl Block {

@@ -5,7 +5,7 @@ ghost use Rattle.model.specs.Call.{Call};
 ghost use Rattle.model.specs.Answers.{completed_answer, counted_answer};
 ghost use Rattle.promises.specs.Met.{Readable, Met};
 
-use model::{Bound, Count, Logical, Refusal, Span};
+use model::{Bound, Count, Refusal};
 
 // An empty range or a reversed one changes nothing; another is set where it stands, if the runs it would leave fit.
 pub fn set(
@@ -18,22 +18,16 @@ pub fn set(
     requires { Readable words.old world }
     ensures { Met words.old world (Call.set lower upper value) (counted_answer result) words.new }
 {
-    let s = model::normalize(lower, upper);
-    match s {
-        Span::Empty | Span::Reversed => Ok(Count { carry: 0, low: 0 }),
-        Span::Closed(a, b) => {
-            let limit = store::allowance(words, world);
-            let h = store::open(words, world);
-            let e = changes::edit::set(&mut words[128..], h, limit, Logical(a), Logical(b), value);
-            match e {
-                None => Err(Refusal::Capacity),
-                Some(made) => {
-                    store::close(words, made.world);
-                    Ok(made.changed)
-                }
-            }
-        }
-    }
+    let Some(r) = model::within(lower, upper) else {
+        return Ok(Count { carry: 0, low: 0 });
+    };
+    let limit = store::allowance(words, world);
+    let h = store::open(words, world);
+    let Some(made) = changes::edit::set(&mut words[128..], h, limit, r, value) else {
+        return Err(Refusal::Capacity);
+    };
+    store::close(words, made.world);
+    Ok(made.changed)
 }
 
 // An empty range or a reversed one changes nothing; another is inverted where it stands, if the runs it would leave fit.
@@ -41,22 +35,16 @@ pub fn flip(words: &mut [u64], world: u64, lower: Bound, upper: Bound) -> Result
     requires { Readable words.old world }
     ensures { Met words.old world (Call.flip lower upper) (completed_answer result) words.new }
 {
-    let s = model::normalize(lower, upper);
-    match s {
-        Span::Empty | Span::Reversed => Ok(()),
-        Span::Closed(a, b) => {
-            let limit = store::allowance(words, world);
-            let h = store::open(words, world);
-            let e = changes::edit::flip(&mut words[128..], h, limit, Logical(a), Logical(b));
-            match e {
-                None => Err(Refusal::Capacity),
-                Some(k) => {
-                    store::close(words, k);
-                    Ok(())
-                }
-            }
-        }
-    }
+    let Some(r) = model::within(lower, upper) else {
+        return Ok(());
+    };
+    let limit = store::allowance(words, world);
+    let h = store::open(words, world);
+    let Some(k) = changes::edit::flip(&mut words[128..], h, limit, r) else {
+        return Err(Refusal::Capacity);
+    };
+    store::close(words, k);
+    Ok(())
 }
 
 // A reversed range is refused; any other is set as `set` does.

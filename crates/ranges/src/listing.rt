@@ -5,16 +5,17 @@ ghost use Rattle.model.specs.Call.{Call};
 ghost use Rattle.model.specs.Answers.{drawn_answer};
 ghost use Rattle.promises.specs.Met.{Readable, Met};
 
+use model::between::Interval;
 use model::{Drawn, Listing, Logical, Refusal};
 
-// A listing with nothing left.
-fn finished(value: bool) -> Listing
+// A listing with nothing left, as the papers write one: from 1 to 0.
+pub fn finished(value: bool) -> Listing
     ensures { result ≡ ended value }
 {
     Listing {
         first: 1,
         last: 0,
-        value: value,
+        value,
     }
 }
 
@@ -29,14 +30,12 @@ pub fn draw_front(words: &[u64], world: u64, l: Listing) -> Result<Drawn, Refusa
             rest: finished(l.value),
         });
     }
-    let h = store::open(words, world);
-    let run = reports::runs::first_run(
-        &words[128..],
-        h,
-        Logical(l.first),
-        Logical(l.last),
-        l.value,
-    );
+    let left = Interval {
+        first: Logical(l.first),
+        last: Logical(l.last),
+    };
+    let set = store::read_set(words, world);
+    let run = reports::runs::first_run(&set, left, l.value);
     let rest = match run {
         Some(r) if r.end < l.last => Listing {
             first: r.end + 1,
@@ -48,6 +47,7 @@ pub fn draw_front(words: &[u64], world: u64, l: Listing) -> Result<Drawn, Refusa
 }
 
 // Draws the last run that is left, and moves the listing before it.
+// The mirror of `draw_front`: what is searched, the comparison and the end that moves are others, so one function would branch at each.
 pub fn draw_back(words: &[u64], world: u64, l: Listing) -> Result<Drawn, Refusal>
     requires { Readable words.now world }
     ensures { Met words.now world (Call.draw_back l) (drawn_answer result) words.now }
@@ -58,8 +58,12 @@ pub fn draw_back(words: &[u64], world: u64, l: Listing) -> Result<Drawn, Refusal
             rest: finished(l.value),
         });
     }
-    let h = store::open(words, world);
-    let run = reports::runs::last_run(&words[128..], h, Logical(l.first), Logical(l.last), l.value);
+    let left = Interval {
+        first: Logical(l.first),
+        last: Logical(l.last),
+    };
+    let set = store::read_set(words, world);
+    let run = reports::runs::last_run(&set, left, l.value);
     let rest = match run {
         Some(r) if l.first < r.start => Listing {
             last: r.start - 1,

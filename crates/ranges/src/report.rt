@@ -4,15 +4,16 @@ ghost use Rattle.model.specs.Call.{Call};
 ghost use Rattle.model.specs.Answers.{numbered_answer, tallied_answer, tested_answer, around_answer, found_answer, listed_answer};
 ghost use Rattle.promises.specs.Met.{Readable, Met};
 
-use model::{Bound, Count, Listing, Logical, Refusal, Run, Span, Tally};
+use model::between::Interval;
+use model::{Bound, Count, Listing, Logical, Refusal, Run, Tally};
 
 // The value of position x.
 pub fn get(words: &[u64], world: u64, x: u64) -> Result<bool, Refusal>
     requires { Readable words.now world }
     ensures { Met words.now world (Call.get x) (tested_answer result) words.now }
 {
-    let h = store::open(words, world);
-    Ok(reports::logical::get(&words[128..], h, Logical(x)))
+    let set = store::read_set(words, world);
+    Ok(reports::logical::get(&set, Logical(x)))
 }
 
 // The run around x.
@@ -20,8 +21,8 @@ pub fn run_at(words: &[u64], world: u64, x: u64) -> Result<Run, Refusal>
     requires { Readable words.now world }
     ensures { Met words.now world (Call.run_at x) (around_answer result) words.now }
 {
-    let h = store::open(words, world);
-    Ok(reports::runs::run_at(&words[128..], h, Logical(x)))
+    let set = store::read_set(words, world);
+    Ok(reports::runs::run_at(&set, Logical(x)))
 }
 
 // An empty range or a reversed one has no position.
@@ -35,14 +36,11 @@ pub fn find(
     requires { Readable words.now world }
     ensures { Met words.now world (Call.find lower upper value) (found_answer result) words.now }
 {
-    let s = model::normalize(lower, upper);
-    match s {
-        Span::Empty | Span::Reversed => Ok(None),
-        Span::Closed(a, b) => {
-            let h = store::open(words, world);
-            Ok(reports::runs::find_in(&words[128..], h, Logical(a), Logical(b), value))
-        }
-    }
+    let Some(r) = model::within(lower, upper) else {
+        return Ok(None);
+    };
+    let set = store::read_set(words, world);
+    Ok(reports::runs::find_in(&set, r, value))
 }
 
 // An empty range or a reversed one has no position and no run.
@@ -56,17 +54,14 @@ pub fn tally(
     requires { Readable words.now world }
     ensures { Met words.now world (Call.tally lower upper value) (tallied_answer result) words.now }
 {
-    let s = model::normalize(lower, upper);
-    match s {
-        Span::Empty | Span::Reversed => Ok(Tally {
+    let Some(r) = model::within(lower, upper) else {
+        return Ok(Tally {
             count: Count { carry: 0, low: 0 },
             runs: 0,
-        }),
-        Span::Closed(a, b) => {
-            let h = store::open(words, world);
-            Ok(reports::logical::tally(&words[128..], h, Logical(a), Logical(b), value))
-        }
-    }
+        });
+    };
+    let set = store::read_set(words, world);
+    Ok(reports::logical::tally(&set, r, value))
 }
 
 // A reversed range is refused; any other is tallied as `tally` does.
@@ -98,14 +93,11 @@ pub fn select(
     requires { Readable words.now world }
     ensures { Met words.now world (Call.select lower upper value k) (found_answer result) words.now }
 {
-    let s = model::normalize(lower, upper);
-    match s {
-        Span::Empty | Span::Reversed => Ok(None),
-        Span::Closed(a, b) => {
-            let h = store::open(words, world);
-            Ok(reports::logical::select(&words[128..], h, Logical(a), Logical(b), value, k))
-        }
-    }
+    let Some(r) = model::within(lower, upper) else {
+        return Ok(None);
+    };
+    let set = store::read_set(words, world);
+    Ok(reports::logical::select(&set, r, value, k))
 }
 
 // An empty range or a reversed one has no gap.
@@ -122,14 +114,11 @@ pub fn gap(
     if n == 0 {
         return Err(Refusal::GapLength);
     }
-    let s = model::normalize(lower, upper);
-    match s {
-        Span::Empty | Span::Reversed => Ok(None),
-        Span::Closed(a, b) => {
-            let h = store::open(words, world);
-            Ok(streams::gaps::lowest_gap(&words[128..], h, Logical(a), Logical(b), n))
-        }
-    }
+    let Some(r) = model::within(lower, upper) else {
+        return Ok(None);
+    };
+    let h = store::open(words, world);
+    Ok(streams::gaps::lowest_gap(&words[128..], h, r, n))
 }
 
 // A listing is the range itself, from its first position to its last.
@@ -143,19 +132,14 @@ pub fn ranges(
     requires { Readable words.now world }
     ensures { Met words.now world (Call.ranges lower upper value) (listed_answer result) words.now }
 {
-    let s = model::normalize(lower, upper);
-    match s {
-        Span::Empty | Span::Reversed => Ok(Listing {
-            first: 1,
-            last: 0,
-            value: value,
-        }),
-        Span::Closed(a, b) => Ok(Listing {
-            first: a,
-            last: b,
-            value: value,
-        }),
-    }
+    let Some(r) = model::within(lower, upper) else {
+        return Ok(crate::listing::finished(value));
+    };
+    Ok(Listing {
+        first: r.first.0,
+        last: r.last.0,
+        value,
+    })
 }
 
 // Rounded up. A thousand times the count of a window and its length fit a word.
@@ -166,14 +150,11 @@ pub fn fill(words: &[u64], world: u64, base: u64, length: u64) -> Result<u64, Re
     if !promises::window::window_fits(base, length) {
         return Err(Refusal::Window);
     }
-    let h = store::open(words, world);
-    let t = reports::logical::tally(
-        &words[128..],
-        h,
-        Logical(base),
-        Logical(base + (length - 1)),
-        true,
-    );
-    let c = t.count;
-    Ok((1000 * c.low + (length - 1)) / length)
+    let window = Interval {
+        first: Logical(base),
+        last: Logical(base + (length - 1)),
+    };
+    let set = store::read_set(words, world);
+    let t = reports::logical::tally(&set, window, true);
+    Ok((1000 * t.count.low + (length - 1)) / length)
 }

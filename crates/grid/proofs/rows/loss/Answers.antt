@@ -1,6 +1,6 @@
 -- `loss` meets its contract: a tally tells the runs of a stretch, which are few, and each neighbour is one more. Assumes nothing.
 use Rattle.std.proofs.Common.{arith}
-use Rattle.store.specs.Layout.{held_in}
+use Rattle.store.specs.Layout.{held}
 use Rattle.reports.proofs.Ranks.{byte-small}
 use Rattle.grid.proofs.Small.{runs-few}
 use Rattle.grid.proofs.rows.loss.Goals as goal
@@ -11,7 +11,7 @@ overflow_add-result c =
     omega (
       arith,
       c.tally-inside.ensures.runs-are,
-      runs-few (held_in c.args.words.now c.args.h) s.first.0 s.last.0 s.ordered s.on_plane,
+      runs-few (held c.args.set.now) s.cells.first.0 s.cells.last.0 s.cells.ordered s.on_plane,
       c.from.ensures,
       byte-small c.if-value.before,
     )
@@ -22,7 +22,7 @@ overflow_add-result-2 c =
     omega (
       arith,
       c.tally-inside.ensures.runs-are,
-      runs-few (held_in c.args.words.now c.args.h) s.first.0 s.last.0 s.ordered s.on_plane,
+      runs-few (held c.args.set.now) s.cells.first.0 s.cells.last.0 s.cells.ordered s.on_plane,
       c.from.ensures,
       byte-small c.if-value.before,
       c.from-2.ensures,

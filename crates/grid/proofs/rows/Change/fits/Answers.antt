@@ -5,8 +5,7 @@ use mathlib.Core.Path.{◌≡◌, sym, ap, ap₂, ◌∙◌}
 use borrow.Author.Tests.{leb-true}
 use native.Mathlib.Omega.{arith}
 use Rattle.model.specs.Positions.{stretches}
-use Rattle.store.specs.Layout.{held_in}
-use Rattle.store.proofs.Opening.{logical-told}
+use Rattle.store.specs.Layout.{held, held_in}
 use Rattle.changes.proofs.Fitting.{limit-few, logical-few}
 use Rattle.grid.specs.Rows.{gain, loss, row_sum, row_gain, row_loss}
 use Rattle.grid.proofs.Cells.{sum-next, sum-none}
@@ -17,28 +16,32 @@ use Rattle.grid.proofs.rows.Change.fits.Goals.{After-gain-more, After-loss-less}
 
 pub returns-then-is_far : goal.returns-then-is_far
 returns-then-is_far c =
-    rect-far c.args.self.q c.args.self.value c.requires.1.standing (omega (arith, c.well_formed)) c.args.self.on_plane
+    rect-far c.args.self.area.q c.args.self.value c.requires.1.standing (omega (arith, c.well_formed)) c.args.self.area.on_plane
     (leb-true _ _ (sym c.is_far.ensures ∙ c.if-is_far.true))
 
 pub loop-r-init : goal.loop-r-init
 loop-r-init c =
-    let q = c.args.self.q in
+    let q = c.args.self.area.q in
     let P = held_in c.args.words.now c.args.h in (
-      omega (arith, logical-told c.requires.1.standing c.logical_runs-more.ensures, sum-none (row_gain q c.args.self.value P) q.top),
+      omega (arith, c.logical_runs-more.ensures, ap stretches c.set_of-set.ensures.positions, sum-none (row_gain q c.args.self.value P) q.top),
       omega (arith, sum-none (row_loss q c.args.self.value P) q.top),
     )
 
 -- what row r adds, and what it takes
-adds : (c : After-gain-more) → c.gain-more.result ≡ row_gain c.args.self.q c.args.self.value (held_in c.args.words.now c.args.h) c.loop-r.r
-adds c = c.gain-more.ensures ∙ ap₂ (gain c.args.self.value (held_in c.args.words.now c.args.h)) c.cells_of-row.ensures.0 c.cells_of-row.ensures.1
+adds : (c : After-gain-more) → c.gain-more.result ≡ row_gain c.args.self.area.q c.args.self.value (held_in c.args.words.now c.args.h) c.loop-r.r
+adds c =
+    c.gain-more.ensures ∙ ap₂ (gain c.args.self.value (held c.set_of-set.result)) c.cells-row.ensures.0 c.cells-row.ensures.1
+    ∙ ap (λ P. row_gain c.args.self.area.q c.args.self.value P c.loop-r.r) c.set_of-set.ensures.positions
 
-takes : (c : After-loss-less) → c.loss-less.result ≡ row_loss c.args.self.q c.args.self.value (held_in c.args.words.now c.args.h) c.loop-r.r
-takes c = c.loss-less.ensures ∙ ap₂ (loss c.args.self.value (held_in c.args.words.now c.args.h)) c.cells_of-row.ensures.0 c.cells_of-row.ensures.1
+takes : (c : After-loss-less) → c.loss-less.result ≡ row_loss c.args.self.area.q c.args.self.value (held_in c.args.words.now c.args.h) c.loop-r.r
+takes c =
+    c.loss-less.ensures ∙ ap₂ (loss c.args.self.value (held c.set_of-set.result)) c.cells-row.ensures.0 c.cells-row.ensures.1
+    ∙ ap (λ P. row_loss c.args.self.area.q c.args.self.value P c.loop-r.r) c.set_of-set.ensures.positions
 
 pub overflow_add-more : goal.overflow_add-more
 overflow_add-more c =
-    let q = c.args.self.q in
-    let on = c.args.self.on_plane in
+    let q = c.args.self.area.q in
+    let on = c.args.self.area.on_plane in
     let P = held_in c.args.words.now c.args.h in
     omega (
       arith,
@@ -53,8 +56,8 @@ overflow_add-more c =
 
 pub overflow_add-less : goal.overflow_add-less
 overflow_add-less c =
-    let q = c.args.self.q in
-    let on = c.args.self.on_plane in
+    let q = c.args.self.area.q in
+    let on = c.args.self.area.on_plane in
     let P = held_in c.args.words.now c.args.h in
     omega (
       arith,
@@ -69,7 +72,7 @@ overflow_add-less c =
 
 pub loop-r-preserved : goal.loop-r-preserved
 loop-r-preserved c =
-    let q = c.args.self.q in
+    let q = c.args.self.area.q in
     let P = held_in c.args.words.now c.args.h in (
       omega (
         arith,
@@ -89,7 +92,7 @@ pub returns : goal.returns
 returns c =
     let s = c.args.self in
     let P = held_in c.args.words.now c.args.h in
-    let e : c.loop-r.r - s.q.top ≡ suc s.q.bottom - s.q.top = omega (arith, c.loop-r.auto.r-end, c.loop-r-test.false, s.on_plane.rows) in
-    rect-counted s.q s.value P s.limit s.on_plane s.narrow
-    (c.loop-r.invariant.0 ∙ ap (λ m. stretches P + row_sum (row_gain s.q s.value P) s.q.top m) e)
-    (c.loop-r.invariant.1 ∙ ap (λ m. s.limit + row_sum (row_loss s.q s.value P) s.q.top m) e)
+    let e : c.loop-r.r - s.area.q.top ≡ suc s.area.q.bottom - s.area.q.top = omega (arith, c.loop-r.auto.r-end, c.loop-r-test.false, s.area.on_plane.rows) in
+    rect-counted s.area.q s.value P s.limit s.area.on_plane s.narrow
+    (c.loop-r.invariant.0 ∙ ap (λ m. stretches P + row_sum (row_gain s.area.q s.value P) s.area.q.top m) e)
+    (c.loop-r.invariant.1 ∙ ap (λ m. s.limit + row_sum (row_loss s.area.q s.value P) s.area.q.top m) e)

@@ -9,5 +9,5 @@ use Rattle.grid.proofs.rows.Change.fits.Given as goal
 
 abbrev pub invariant-loop-r : goal.invariant-loop-r
 invariant-loop-r l =
-    (l.more ≡ stretches (held_in l.words l.h) + row_sum (row_gain l.self.q l.self.value (held_in l.words l.h)) l.self.q.top (l.r - l.self.q.top))
-    × (l.less ≡ l.self.limit + row_sum (row_loss l.self.q l.self.value (held_in l.words l.h)) l.self.q.top (l.r - l.self.q.top))
+    (l.more ≡ stretches (held_in l.words l.fn.h) + row_sum (row_gain l.self.area.q l.self.value (held_in l.words l.fn.h)) l.self.area.q.top (l.r - l.self.area.q.top))
+    × (l.less ≡ l.self.limit + row_sum (row_loss l.self.area.q l.self.value (held_in l.words l.fn.h)) l.self.area.q.top (l.r - l.self.area.q.top))

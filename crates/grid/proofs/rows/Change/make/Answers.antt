@@ -10,10 +10,10 @@ pub returns-then-is_far : goal.returns-then-is_far
 returns-then-is_far c =
     let l = c.requires.editable.1 in
     passed-once l
-    (way-far c.args.self.q c.args.self.value l.standing (omega (arith, c.well_formed)) c.args.self.on_plane
+    (way-far c.args.self.area.q c.args.self.value l.standing (omega (arith, c.well_formed)) c.args.self.area.on_plane
     (leb-true _ _ (sym c.is_far.ensures ∙ c.if-is_far.true)))
     c.pass-k.ensures
 
 pub returns : goal.returns
 returns c =
-    passed-twice c.args.self.on_plane c.args.self.narrow c.requires.editable.1 c.requires.fits c.pass-k.ensures c.pass.ensures
+    passed-twice c.args.self.area.on_plane c.args.self.narrow c.requires.editable.1 c.requires.fits c.pass-k.ensures c.pass.ensures

@@ -7,13 +7,13 @@ use Rattle.grid.proofs.Passing.{passed_none, passed-next}
 use Rattle.grid.proofs.rows.Change.pass.Goals as goal
 
 pub loop-r-init : goal.loop-r-init
-loop-r-init c = passed_none c.args.self.q c.args.self.value
+loop-r-init c = passed_none c.args.self.area.q c.args.self.value
 
 pub loop-r-preserved : goal.loop-r-preserved
 loop-r-preserved c =
-    passed-next c.args.self.on_plane c.args.self.narrow c.loop-r.auto.r (omega (arith, c.loop-r-test.true)) c.cells_of.ensures c.loop-r.invariant c.set_row-k.ensures
+    passed-next c.args.self.area.on_plane c.args.self.narrow c.loop-r.auto.r (omega (arith, c.loop-r-test.true)) c.cells.ensures c.loop-r.invariant c.set_row-k.ensures
 
 pub returns : goal.returns
 returns c =
-    let e : c.loop-r.r ≡ c.args.self.q.bottom + 1 = omega (arith, c.loop-r.auto.r-end, c.loop-r-test.false, c.args.self.on_plane.rows) in
-    subst (Passes c.args.words.now c.loop-r.words c.args.h c.loop-r.k c.args.self.limit c.args.self.q c.args.self.value) e c.loop-r.invariant
+    let e : c.loop-r.r ≡ c.args.self.area.q.bottom + 1 = omega (arith, c.loop-r.auto.r-end, c.loop-r-test.false, c.args.self.area.on_plane.rows) in
+    subst (Passes c.args.words.now c.loop-r.words c.args.h c.loop-r.k c.args.self.limit c.args.self.area.q c.args.self.value) e c.loop-r.invariant
