@@ -4,7 +4,7 @@
 use Rattle.changes.specs.Edits.{changed_to}
 use Rattle.std.specs.Prelude.{Option, None, Some}
 use Rattle.changes.specs.declared.edit.Edit.{Edit}
-use Prim.Native.Nat.{ℕ, suc, ◌-◌, ◌≤◌, ◌<◌}
+use Prim.Native.Nat.{ℕ, ◌≤◌, ◌<◌}
 use mathlib.Core.Path.{◌≡◌, refl, sym, ap, ap₂, ◌∙◌, subst, fun_ext}
 use mathlib.Core.Logic.{◌⊎◌, inl, inr}
 use mathlib.Core.Bool.{Bool, true, false, not, ◌&&◌}
@@ -16,7 +16,8 @@ use Rattle.model.specs.declared.Bound.{Bound}
 use Rattle.model.specs.declared.Count.{Count}
 use Rattle.model.specs.Numbers.{size, worth}
 use Rattle.model.proofs.Numbers.{split}
-use Rattle.model.specs.Range.{first_allowed, extent}
+use Rattle.model.specs.declared.between.Interval.{Interval}
+use Rattle.model.specs.Range.{first_allowed, extent, many}
 use Rattle.model.specs.Positions.{Positions, bounded, stretches, changes, set_range, flip_range, shift_by}
 use Rattle.model.proofs.After.{set_below, set-above, flip-below, flip-above, changes-set}
 use Rattle.model.proofs.Runs.{stretches-cong}
@@ -41,7 +42,7 @@ use Rattle.promises.specs.Met.{Site, fed_of, full_at, outcome_of, Met, Readable}
 use Rattle.promises.proofs.Doors.{lent-held, lent-limited, lent-closing, lent-settled}
 use Rattle.promises.proofs.Meeting.{met_by, settled_same, settled-as}
 use Rattle.promises.proofs.Refusing.{refused-before, none_before, refused_full}
-use Rattle.promises.proofs.Spans.{Within, of_range, count-nothing}
+use Rattle.promises.proofs.Spans.{Allowed, of_range, count-nothing}
 
 -- the call c has the conditions cs, changes the positions held to Q of them, and gives A of them
 pub record Changes (w : List ℕ) (i : ℕ) (c : Call Site) (cs : List Condition) (Q : Positions → Positions) (A : Positions → Result) : Type 0 where
@@ -124,15 +125,15 @@ module _ {w : List ℕ} {i : ℕ} {c : Call Site} {cs : List Condition} {Q : Pos
     left_so quiet f g =
         changes-to quiet (held_by w i) (λ x h. ap (λ T. T x) f) (held-allowed w i R.openable) (settled_same R.openable.sound) g
 
--- ---- of the positions from a to b, of an open world
-module _ {w : List ℕ} {i : ℕ} {h : World} {l u : Bound} {a b : ℕ} (W : Within l u a b) (op : Opened w i h) where
+-- ---- of the positions of an interval, of an open world
+module _ {w : List ℕ} {i : ℕ} {h : World} {l u : Bound} {r : Interval} (W : Allowed l u r) (op : Opened w i h) where
   -- a set of them is one of the range
-  pub set-within : (v : Bool) → set_range a (suc b - a) v (held_in (lent w) h) ≡ set_range (first_allowed l) (extent l u) v (held_by w i)
-  set-within v = ap (set_range a (suc b - a) v) (lent-held op) ∙ of_range W (λ x n. set_range x n v (held_by w i)) refl
+  pub set-within : (v : Bool) → set_range r.first.0 (many r) v (held_in (lent w) h) ≡ set_range (first_allowed l) (extent l u) v (held_by w i)
+  set-within v = ap (set_range r.first.0 (many r) v) (lent-held op) ∙ of_range W (λ x n. set_range x n v (held_by w i)) refl
 
   -- so is a flip
-  pub flip-within : flip_range a (suc b - a) (held_in (lent w) h) ≡ flip_range (first_allowed l) (extent l u) (held_by w i)
-  flip-within = ap (flip_range a (suc b - a)) (lent-held op) ∙ of_range W (λ x n. flip_range x n (held_by w i)) refl
+  pub flip-within : flip_range r.first.0 (many r) (held_in (lent w) h) ≡ flip_range (first_allowed l) (extent l u) (held_by w i)
+  flip-within = ap (flip_range r.first.0 (many r)) (lent-held op) ∙ of_range W (λ x n. flip_range x n (held_by w i)) refl
 
 -- ---- of no position
 module _ (P : Positions) (a n : ℕ) (e : n ≡ 0) where

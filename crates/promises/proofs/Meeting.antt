@@ -22,7 +22,8 @@ use Rattle.model.specs.Call.{wrong_length, unsound, unopened, Call, Result, done
 use Rattle.model.specs.Model.{Outcome, positions_of, reads, settle, report, tallying, strict, drawn_first, drawn_last, serve}
 use Rattle.model.specs.Pools.{world_of, fed_by, empty_worlds, settle_make, make_by}
 use Rattle.store.specs.declared.World.{World}
-use Rattle.store.specs.Layout.{capacity, opened_at, held_in, held_by, worlds_of}
+use Rattle.store.specs.declared.Set.{Set}
+use Rattle.store.specs.Layout.{capacity, opened_at, held, held_in, held_by, worlds_of}
 use Rattle.store.specs.Soundness.{Sound}
 use Rattle.soundness.specs.Decision.{sound_b}
 use Rattle.store.specs.Free.{Emptied}
@@ -129,6 +130,10 @@ module _ {w : List ℕ} {i : ℕ} {c : Call Site} {cs : List Condition} {A : Pos
   -- the same of what is due of the positions of the world in the part that is lent
   pub met-in : {h : World} {a : Result} → Readable w i → Opened w i h → refusal cs ≡ None → a ≡ A (held_in (lent w) h) → Met w i c (gave a) w
   met-in R op e f = met R e (f ∙ ap A (lent-held op))
+
+  -- the same of the positions of a set that was read
+  pub met-read : (s : Set) {a : Result} → Readable w i → held s ≡ held_by w i → refusal cs ≡ None → a ≡ A (held s) → Met w i c (gave a) w
+  met-read s R e f g = met R f (g ∙ ap A e)
 
   -- and of an answer that is known to be that
   pub met-in-as : {h : World} {a : Answer} → Readable w i → Opened w i h → refusal cs ≡ None → a ≡ gave (A (held_in (lent w) h)) → Met w i c a w

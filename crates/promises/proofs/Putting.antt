@@ -66,14 +66,18 @@ module _ {w : List ℕ} {i : ℕ} {c : List ℕ → Call Site} {cs : List Condit
   }
 
   -- and one that has room, into which the bytes of its world are put
-  pub put-done : {h : World} {out' : List ℕ} → Opened w i h → refusal cs ≡ None → n ≤ length out → out' ≡ into_front (B (held_in (lent w) h)) out → WritesOut c w i out (Ok n) out'
+  pub put-seen : (P : Positions) {out' : List ℕ} → P ≡ held_by w i → refusal cs ≡ None → n ≤ length out → out' ≡ into_front (B P) out → WritesOut c w i out (Ok n) out'
   unfolding no_room
-  put-done op e l f = record {
+  put-seen P s e l f = record {
     met =
         met puts.says R (ap (λ t. refusal (output_short when t ∷ cs)) (room_by false (le-ltb (length out) (length (B (held_by w i))) (subst (λ m. m ≤ length out) k l))) ∙ e)
-        (ap₂ written k (f ∙ ap (λ P. into_front (B P) out) (lent-held op)));
+        (ap₂ written k (f ∙ ap (λ Q. into_front (B Q) out) s));
     unwritten = tt;
   }
+
+  -- of a world that was opened
+  pub put-done : {h : World} {out' : List ℕ} → Opened w i h → refusal cs ≡ None → n ≤ length out → out' ≡ into_front (B (held_in (lent w) h)) out → WritesOut c w i out (Ok n) out'
+  put-done op = put-seen _ (lent-held op)
 
 module _ (w : List ℕ) (i : ℕ) (out : List ℕ) where
   -- writing the set does so, in either edition

@@ -1,7 +1,7 @@
 -- What making a world of others promises. Assumes nothing: these are definitions.
 use Rattle.std.specs.Prelude.{Ok, Err}
 use Rattle.model.specs.Answers.{OrRefusal}
-use Rattle.std.specs.Prelude.{ℕ, ◌≤◌, ◌<◌, ◌≡◌, Bool, true, false, List}
+use Rattle.std.specs.Prelude.{ℕ, ◌≤◌, ◌<◌, ◌≡◌, List}
 use Rattle.model.specs.declared.Refusal.TheVariants.{Capacity}
 use Rattle.model.specs.Positions.{Positions, stretches}
 use Rattle.store.specs.Layout.{nodes, allowance, held_from, held_by}

@@ -1,12 +1,11 @@
 -- What every public call on a world promises: its answer and what it leaves are what the plain model gives, and a refusal leaves every word as
 -- it was. Only the offset and the arrangement of nodes are left open; of them soundness and the positions held are said.
 -- Assumes nothing: these are definitions.
-use Rattle.std.specs.Prelude.{Option, None, Some}
 use Rattle.std.specs.Prelude.{ℕ, ◌≡◌, Bool, cond, not, List, [], ◌∷◌, eqb}
 use Rattle.model.specs.declared.Limits.{Limits}
 use Rattle.model.specs.Positions.{Positions}
 use Rattle.model.specs.Refusals.{store_length, store_unsound, Condition, ◌when◌}
-use Rattle.model.specs.Call.{Fed, wrong_length, unsound, holding, Call, feed, Measure, Answer, refused, gave, position}
+use Rattle.model.specs.Call.{Fed, wrong_length, unsound, holding, Call, feed, Measure, Answer, refused, gave}
 use Rattle.model.specs.Model.{Outcome, serve}
 use Rattle.model.specs.Pools.{world_of, fed_by, full, PoolOutcome, make_by, measure_by}
 use Rattle.store.specs.Layout.{capacity, held_by, worlds_of}

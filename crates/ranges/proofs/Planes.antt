@@ -1,12 +1,12 @@
 -- When a rectangle, or a square, is one of the plane, test by test. Assumes nothing.
 use Rattle.std.specs.Prelude.{None, Some}
-use Rattle.std.specs.Prelude.{◌≡◌, ℕ, ◌+◌, ◌-◌, ◌^◌, ◌<◌, ◌≤◌, Bool, true, false, not, ◌||◌, ltb, leb, ◌⊎◌, [], ◌∷◌}
+use Rattle.std.specs.Prelude.{◌≡◌, ℕ, ◌+◌, ◌-◌, ◌^◌, ◌<◌, ◌≤◌, Bool, true, false, ◌||◌, ltb, ◌⊎◌, [], ◌∷◌}
 use mathlib.Core.Path.{refl, sym, ap, ◌∙◌}
 use mathlib.Core.Logic.{inl, inr}
 use native.Mathlib.Omega.{arith}
 use native.Mathlib.Nat.{pow-le-pow_right}
 use lib.Pow.{pow_pos}
-use borrow.Author.Tests.{ltb-false, lt-ltb, le-ltb, le-leb, lt-leb}
+use borrow.Author.Tests.{ltb-false, lt-ltb, le-ltb}
 use Rattle.model.specs.declared.Rect.{Rect}
 use Rattle.model.specs.Refusals.{off_plane, before_capacity, ◌when◌, first_given, refusal, bad_rect, bad_square}
 use Rattle.model.proofs.Numbers.{split, neither-first, neither-second}
@@ -22,24 +22,24 @@ or-first b e = ap (λ t. t || b) e
 
 module _ (q : Rect) where
   -- a corner below the plane
-  bad-low : 65535 < q.bottom → bad_rect q ≡ true
+  pub bad-low : 65535 < q.bottom → bad_rect q ≡ true
   unfolding bad_rect
   bad-low h = or_later (ltb 65535 q.top) (or_later (ltb 65535 q.left) (or-first _ (lt-ltb 65535 q.bottom h)))
 
   -- or right of it
-  bad-wide : 65535 < q.right → bad_rect q ≡ true
+  pub bad-wide : 65535 < q.right → bad_rect q ≡ true
   unfolding bad_rect
   bad-wide h = or_later (ltb 65535 q.top) (or_later (ltb 65535 q.left) (or_later (ltb 65535 q.bottom) (or-first _ (lt-ltb 65535 q.right h))))
 
   -- a first corner beyond the second in row
-  bad-rows : q.bottom < q.top → bad_rect q ≡ true
+  pub bad-rows : q.bottom < q.top → bad_rect q ≡ true
   unfolding bad_rect
   bad-rows h =
       or_later (ltb 65535 q.top)
       (or_later (ltb 65535 q.left) (or_later (ltb 65535 q.bottom) (or_later (ltb 65535 q.right) (or-first _ (lt-ltb q.bottom q.top h)))))
 
   -- the others go by the columns
-  bad-columns : q.bottom ≤ 65535 → q.right ≤ 65535 → q.top ≤ q.bottom → bad_rect q ≡ ltb q.right q.left
+  pub bad-columns : q.bottom ≤ 65535 → q.right ≤ 65535 → q.top ≤ q.bottom → bad_rect q ≡ ltb q.right q.left
   unfolding bad_rect
   bad-columns a b c = go (split q.right q.left)
     where
@@ -56,23 +56,6 @@ module _ (q : Rect) where
             le-ltb 65535 q.right b,
             le-ltb q.bottom q.top c,
           )
-
-  -- the tests, as they are made
-  pub fits-not-low : 65535 < q.bottom → false ≡ not (bad_rect q)
-  fits-not-low h = sym (ap not (bad-low h))
-
-  pub fits-not-wide : 65535 < q.right → false ≡ not (bad_rect q)
-  fits-not-wide h = sym (ap not (bad-wide h))
-
-  pub fits-not-rows : q.bottom < q.top → false ≡ not (bad_rect q)
-  fits-not-rows h = sym (ap not (bad-rows h))
-
-  pub fits-by-columns : q.bottom ≤ 65535 → q.right ≤ 65535 → q.top ≤ q.bottom → leb q.left q.right ≡ not (bad_rect q)
-  fits-by-columns a b c = go (split q.right q.left) ∙ sym (ap not (bad-columns a b c))
-    where
-      go : (q.right < q.left) ⊎ (q.left ≤ q.right) → leb q.left q.right ≡ not (ltb q.right q.left)
-      go (inl l) = lt-leb q.left q.right l ∙ sym (ap not (lt-ltb q.right q.left l))
-      go (inr l) = le-leb q.left q.right l ∙ sym (ap not (le-ltb q.right q.left l))
 
   -- a rectangle that is not refused is one of the plane
   pub on-plane : bad_rect q ≡ false → OnPlane q
@@ -105,7 +88,7 @@ pub side-most : (k : ℕ) → k ≤ 8 → 2 ^ k ≤ 256
 side-most k h = pow-le-pow_right {n = 2} (omega arith) {i = k} {j = 8} h
 
 module _ (r c k : ℕ) where
-  bad-large : 8 < k → bad_square r c k ≡ true
+  pub bad-large : 8 < k → bad_square r c k ≡ true
   unfolding bad_square
   bad-large h = or-first _ (lt-ltb 8 k h)
 
@@ -119,28 +102,23 @@ module _ (r c k : ℕ) where
   bad-column a b = rw (le-ltb 8 k a, le-ltb 65536 (r + 2 ^ k) b)
 
   -- the tests, as they are made: n is its side
-  pub fits-not-large : 8 < k → false ≡ not (bad_square r c k)
-  fits-not-large h = sym (ap not (bad-large h))
-
   module _ (n : ℕ) (e : n ≡ 2 ^ k) (few : k ≤ 8) where
     most : n ≤ 256
     most = omega (arith, side-most k few)
 
-    pub fits-not-row : 65536 - n < r → false ≡ not (bad_square r c k)
-    fits-not-row h = let m = most in sym (ap not (bad-row (omega arith)))
+    -- it starts too low
+    pub row-beyond : 65536 - n < r → bad_square r c k ≡ true
+    row-beyond h = let m = most in bad-row (omega arith)
 
-    pub fits-by-column : r ≤ 65536 - n → leb c (65536 - n) ≡ not (bad_square r c k)
-    fits-by-column h = let m = most in go m (split (65536 - n) c) ∙ sym (ap not (bad-column few (omega arith)))
-      where
-        go : n ≤ 256 → (65536 - n < c) ⊎ (c ≤ 65536 - n) → leb c (65536 - n) ≡ not (ltb 65536 (c + 2 ^ k))
-        go m (inl l) = lt-leb c (65536 - n) l ∙ sym (ap not (lt-ltb 65536 (c + 2 ^ k) (omega arith)))
-        go m (inr l) = le-leb c (65536 - n) l ∙ sym (ap not (le-ltb 65536 (c + 2 ^ k) (omega arith)))
+    -- or too far to the right
+    pub column-beyond : r ≤ 65536 - n → 65536 - n < c → bad_square r c k ≡ true
+    column-beyond h l = let m = most in bad-column few (omega arith) ∙ lt-ltb 65536 (c + 2 ^ k) (omega arith)
 
-  -- a square that is not refused is one of the plane
-  pub square-few : bad_square r c k ≡ false → k ≤ 8
-  unfolding bad_square
-  square-few e = ltb-false _ _ (neither-first (ltb 8 k) _ e)
+    -- or neither
+    pub square-there : r ≤ 65536 - n → c ≤ 65536 - n → bad_square r c k ≡ false
+    square-there h l = let m = most in bad-column few (omega arith) ∙ le-ltb 65536 (c + 2 ^ k) (omega arith)
 
+  -- where it is not refused, it is on the plane
   pub square-on : bad_square r c k ≡ false → OnGrid r c (2 ^ k) (2 ^ k)
   unfolding bad_square
   square-on e =

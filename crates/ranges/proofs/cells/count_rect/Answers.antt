@@ -1,29 +1,19 @@
 -- `count_rect` meets its contract: a rectangle that is none of the plane is refused, and of another the cells are counted. Assumes nothing.
-use Rattle.std.proofs.Common.{not}
-use Rattle.std.specs.Prelude.{◌≡◌, false}
-use mathlib.Core.Path.{ap}
-use Rattle.model.specs.Refusals.{bad_rect}
+use Rattle.std.proofs.Common.{ap, ◌∙◌, subst}
+use Rattle.model.specs.Grid.{count_rect}
 use Rattle.model.specs.Call.{number}
-use Rattle.promises.proofs.Windows.{bad-by}
-use Rattle.ranges.proofs.Planes.{on-plane, plane-refused, plane-passes}
-use Rattle.promises.proofs.Doors.{lent-stands}
-use Rattle.promises.proofs.Meeting.{refused-by, met-in, count-rect-says}
+use Rattle.store.specs.Layout.{held}
+use Rattle.grid.specs.Areas.{AreaOf}
+use Rattle.ranges.proofs.Planes.{plane-refused, plane-passes}
+use Rattle.promises.proofs.Meeting.{refused-by, met-read, count-rect-says}
 use Rattle.ranges.proofs.cells.count_rect.Goals as goal
-use Rattle.ranges.proofs.cells.count_rect.Goals.{Else-not-rect_fits}
 
--- it is one
-good : (c : Else-not-rect_fits) → bad_rect c.args.q ≡ false
-good c = bad-by _ _ _ c.rect_fits.ensures (ap not c.if-not-rect_fits.false)
-
-pub returns-then-not-rect_fits : goal.returns-then-not-rect_fits
-returns-then-not-rect_fits c = refused-by (count-rect-says _ _ _) 15 c.requires (plane-refused _ (bad-by _ _ _ c.rect_fits.ensures (ap not c.if-not-rect_fits.true)))
-
-pub count-requires-clause-stands : goal.count-requires-clause-stands
-count-requires-clause-stands c = lent-stands c.open-h.ensures
-
-pub count-requires-clause-on_plane : goal.count-requires-clause-on_plane
-count-requires-clause-on_plane c = on-plane _ (good (goal.at.count-requires-clause-on_plane c).Else-not-rect_fits)
+pub returns-in_default : goal.returns-in_default
+returns-in_default c =
+    refused-by (count-rect-says _ _ _) 15 c.requires (plane-refused _ (subst (AreaOf c.args.q) c.in_default.is c.area_of.ensures))
 
 pub returns : goal.returns
 returns c =
-    met-in (count-rect-says _ _ _) c.requires c.open-h.ensures (plane-passes _ (good (goal.at.returns c).Else-not-rect_fits)) (ap number c.count.ensures)
+    let a = subst (AreaOf c.args.q) c.in-Some.is c.area_of.ensures in
+    met-read (count-rect-says _ _ _) c.read_set-set.result c.requires c.read_set-set.ensures (plane-passes _ a.0)
+    (ap number (c.count.ensures ∙ ap (λ q. count_rect q (held c.read_set-set.result)) a.1))

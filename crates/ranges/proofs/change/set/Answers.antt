@@ -1,30 +1,28 @@
--- `set` meets its contract: the range is set from its first position to its last, an empty or reversed one changes nothing. Assumes nothing.
+-- `set` meets its contract: the positions of the range are set, and an empty or reversed one changes nothing. Assumes nothing.
 use mathlib.Core.Path.{refl, ap}
 use Rattle.model.specs.Call.{number}
-use Rattle.promises.proofs.Spans.{span_none, span-some}
+use Rattle.promises.proofs.Spans.{no-position, its-positions}
 use Rattle.promises.proofs.Doors.{lent-editable}
 use Rattle.promises.proofs.Changing.{left_so, edit-full, edit-closing, edit-done, set-within, set-none, changes-none, set_says}
 use Rattle.ranges.proofs.change.set.Goals as goal
 
-pub set-e-requires-clause-editable : goal.set-e-requires-clause-editable
-set-e-requires-clause-editable c =
-    lent-editable c.open-h.ensures c.allowance-limit.ensures
-
-pub close-requires : goal.close-requires
-close-requires c =
-    (_, _, edit-closing c.requires c.open-h.ensures c.allowance-limit.ensures _ _ c.set-e.ensures.0 c.in-Some.is)
-
-pub returns-in-Empty : goal.returns-in-Empty
-returns-in-Empty c =
-    let e = span_none c.args.lower c.args.upper _ c.normalize-s.ensures c.in-Empty.is in
+pub returns-in_default : goal.returns-in_default
+returns-in_default c =
+    let e = no-position c.args.lower c.args.upper c.within.ensures c.in_default.is in
     left_so (set_says _ _ _ _ _) c.requires refl (set-none _ _ _ e _) (ap number (changes-none _ _ _ _ e))
 
-pub returns-in-None : goal.returns-in-None
-returns-in-None c =
-    edit-full (set_says _ _ _ _ _) refl c.requires c.open-h.ensures (set-within (span-some c.args.lower c.args.upper _ c.normalize-s.ensures c.in-Closed.is) c.open-h.ensures _) c.allowance-limit.ensures
-    _ _ c.set-e.ensures.0 c.in-None.is
+pub set-requires : goal.set-requires
+set-requires c = lent-editable c.open-h.ensures c.allowance-limit.ensures
 
-pub returns-in-Some : goal.returns-in-Some
-returns-in-Some c =
-    edit-done (set_says _ _ _ _ _) refl c.requires c.open-h.ensures (set-within (span-some c.args.lower c.args.upper _ c.normalize-s.ensures c.in-Closed.is) c.open-h.ensures _) c.allowance-limit.ensures
-    _ _ c.set-e.ensures.0 c.in-Some.is c.close.ensures refl
+pub returns-in_default-set : goal.returns-in_default-set
+returns-in_default-set c =
+    edit-full (set_says _ _ _ _ _) refl c.requires c.open-h.ensures (set-within (its-positions c.args.lower c.args.upper c.within.ensures c.in-Some.is) c.open-h.ensures _)
+    c.allowance-limit.ensures _ _ c.set.ensures.0 c.in_default-set.is
+
+pub close-requires : goal.close-requires
+close-requires c = (_, _, edit-closing c.requires c.open-h.ensures c.allowance-limit.ensures _ _ c.set.ensures.0 c.in-Some-set.is)
+
+pub returns : goal.returns
+returns c =
+    edit-done (set_says _ _ _ _ _) refl c.requires c.open-h.ensures (set-within (its-positions c.args.lower c.args.upper c.within.ensures c.in-Some.is) c.open-h.ensures _)
+    c.allowance-limit.ensures _ _ c.set.ensures.0 c.in-Some-set.is c.close.ensures refl

@@ -7,8 +7,7 @@ use native.Mathlib.Omega.{arith}
 use Rattle.model.specs.Refusals.{bad_window}
 use Rattle.model.specs.Call.{number}
 use Rattle.promises.proofs.Windows.{fitting, window-refused, window-passes, fill-fits, fill_is, bad-by}
-use Rattle.promises.proofs.Doors.{lent-stands}
-use Rattle.promises.proofs.Meeting.{refused-by, met-in, fill-says}
+use Rattle.promises.proofs.Meeting.{refused-by, met-read, fill-says}
 use Rattle.ranges.proofs.report.fill.Goals as goal
 use Rattle.ranges.proofs.report.fill.Goals.{Else-not-window_fits}
 
@@ -19,14 +18,11 @@ good r = bad-by _ _ _ r.window_fits.ensures (ap not r.if-not-window_fits.false)
 pub returns-then-not-window_fits : goal.returns-then-not-window_fits
 returns-then-not-window_fits c = refused-by (fill-says _ _ _ _) 6 c.requires (window-refused _ _ (bad-by _ _ _ c.window_fits.ensures (ap not c.if-not-window_fits.true)))
 
-pub overflow_sub-length : goal.overflow_sub-length
-overflow_sub-length c = (fitting _ _ (good (goal.at.overflow_sub-length c).Else-not-window_fits)).some
+pub overflow_sub-window : goal.overflow_sub-window
+overflow_sub-window c = (fitting _ _ (good (goal.at.overflow_sub-window c).Else-not-window_fits)).some
 
-pub overflow_add-base : goal.overflow_add-base
-overflow_add-base c = let f = fitting _ _ (good (goal.at.overflow_add-base c).Else-not-window_fits) in omega arith
-
-pub tally-t-requires-clause-stands : goal.tally-t-requires-clause-stands
-tally-t-requires-clause-stands c = lent-stands c.open-h.ensures
+pub overflow_add-window : goal.overflow_add-window
+overflow_add-window c = let f = fitting _ _ (good (goal.at.overflow_add-window c).Else-not-window_fits) in omega arith
 
 pub overflow_mul-result : goal.overflow_mul-result
 overflow_mul-result c =
@@ -43,7 +39,7 @@ overflow_add-result c =
 
 pub returns : goal.returns
 returns c =
-    met-in (fill-says _ _ _ _) c.requires c.open-h.ensures (window-passes _ _ (good (goal.at.returns c).Else-not-window_fits))
+    met-read (fill-says _ _ _ _) c.read_set-set.result c.requires c.read_set-set.ensures (window-passes _ _ (good (goal.at.returns c).Else-not-window_fits))
     (ap number (fill_is _ _ _ _ (fitting _ _ (good (goal.at.returns c).Else-not-window_fits)) c.tally-t.ensures.count-is))
 
 pub nonzero_div-result : goal.nonzero_div-result

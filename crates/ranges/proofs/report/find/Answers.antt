@@ -1,23 +1,15 @@
--- `find` meets its contract: the least position from the range's first to its last, none in an empty range.
+-- `find` meets its contract: the least position of the range, none in an empty one.
 -- Assumes nothing.
 use mathlib.Core.Path.{refl, ap}
 use Rattle.model.specs.Positions.{find}
-use Rattle.promises.proofs.Spans.{span_none, span-some, of_range, find-nothing}
+use Rattle.promises.proofs.Spans.{no-position, its-positions, of_range, find-nothing}
 use Rattle.model.specs.Call.{position}
-use Rattle.promises.proofs.Doors.{lent-stands}
-use Rattle.promises.proofs.Meeting.{met, met-in, find-says}
+use Rattle.promises.proofs.Meeting.{met, met-read, find-says}
 use Rattle.ranges.proofs.report.find.Goals as goal
 
-pub find_in-requires-clause-stands : goal.find_in-requires-clause-stands
-find_in-requires-clause-stands c =
-    lent-stands c.open-h.ensures
+pub returns-in_default : goal.returns-in_default
+returns-in_default c = met (find-says _ _ _ _ _) c.requires refl (ap position (find-nothing _ _ _ _ (no-position c.args.lower c.args.upper c.within.ensures c.in_default.is)))
 
-pub returns-in-Empty : goal.returns-in-Empty
-returns-in-Empty c =
-    let e = span_none c.args.lower c.args.upper _ c.normalize-s.ensures c.in-Empty.is in
-    met (find-says _ _ _ _ _) c.requires refl (ap position (find-nothing _ _ _ _ e))
-
-pub returns-in-Closed : goal.returns-in-Closed
-returns-in-Closed c =
-    met-in (find-says _ _ _ _ _) c.requires c.open-h.ensures refl
-    (ap position (of_range (span-some c.args.lower c.args.upper _ c.normalize-s.ensures c.in-Closed.is) (find _ _) c.find_in.ensures))
+pub returns : goal.returns
+returns c =
+    met-read (find-says _ _ _ _ _) c.read_set-set.result c.requires c.read_set-set.ensures refl (ap position (of_range (its-positions c.args.lower c.args.upper c.within.ensures c.in-Some.is) (find _ _) c.find_in.ensures))

@@ -4,7 +4,7 @@ use Rattle.std.specs.Prelude.{◌≤◌}
 use mathlib.Core.Path.{ap}
 use native.Mathlib.Omega.{arith}
 use Rattle.model.specs.Call.{position}
-use Rattle.promises.proofs.Spans.{span_none, span-some, gap-range}
+use Rattle.promises.proofs.Spans.{no-position, its-positions, gap-range}
 use Rattle.ranges.proofs.Gaps.{gap-refused, gap-passes, gap-nothing}
 use Rattle.promises.proofs.Doors.{lent-stands}
 use Rattle.promises.proofs.Meeting.{refused-by, met, met-in, gap-says}
@@ -22,12 +22,12 @@ pub lowest_gap-requires-clause-stands : goal.lowest_gap-requires-clause-stands
 lowest_gap-requires-clause-stands c =
     lent-stands c.open-h.ensures
 
-pub returns-in-Empty : goal.returns-in-Empty
-returns-in-Empty c =
-    let e = span_none c.args.lower c.args.upper _ c.normalize-s.ensures c.in-Empty.is in
-    met (gap-says _ _ _ _ _) c.requires (gap-passes _ (some (goal.at.returns-in-Empty c).Else-n-eq0)) (ap position (gap-nothing _ (some (goal.at.returns-in-Empty c).Else-n-eq0) _ _ _ e))
+pub returns-in_default : goal.returns-in_default
+returns-in_default c =
+    let s = some (goal.at.returns-in_default c).Else-n-eq0 in
+    met (gap-says _ _ _ _ _) c.requires (gap-passes _ s) (ap position (gap-nothing _ s _ _ _ (no-position c.args.lower c.args.upper c.within.ensures c.in_default.is)))
 
-pub returns-in-Closed : goal.returns-in-Closed
-returns-in-Closed c =
-    met-in (gap-says _ _ _ _ _) c.requires c.open-h.ensures (gap-passes _ (some (goal.at.returns-in-Closed c).Else-n-eq0))
-    (ap position (gap-range (span-some c.args.lower c.args.upper _ c.normalize-s.ensures c.in-Closed.is) _ _ c.lowest_gap.ensures))
+pub returns : goal.returns
+returns c =
+    met-in (gap-says _ _ _ _ _) c.requires c.open-h.ensures (gap-passes _ (some (goal.at.returns c).Else-n-eq0))
+    (ap position (gap-range (its-positions c.args.lower c.args.upper c.within.ensures c.in-Some.is) _ _ c.lowest_gap.ensures))

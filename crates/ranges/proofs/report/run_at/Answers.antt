@@ -2,12 +2,8 @@
 -- Assumes nothing.
 use mathlib.Core.Path.{refl, ap}
 use Rattle.model.specs.Call.{around}
-use Rattle.promises.proofs.Doors.{lent-stands}
-use Rattle.promises.proofs.Meeting.{met-in, run-at-says}
+use Rattle.promises.proofs.Meeting.{met-read, run-at-says}
 use Rattle.ranges.proofs.report.run_at.Goals as goal
 
-pub run_at-requires : goal.run_at-requires
-run_at-requires c = lent-stands c.open-h.ensures
-
 pub returns : goal.returns
-returns c = met-in (run-at-says _ _ _) c.requires c.open-h.ensures refl (ap around c.run_at.ensures)
+returns c = met-read (run-at-says _ _ _) c.read_set-set.result c.requires c.read_set-set.ensures refl (ap around c.run_at.ensures)

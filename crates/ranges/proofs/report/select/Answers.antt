@@ -1,22 +1,14 @@
--- `select` meets its contract: the k-th position from the range's first to its last, none in an empty range.
+-- `select` meets its contract: the k-th position of the range, none in an empty one.
 -- Assumes nothing.
 use mathlib.Core.Path.{refl, ap}
-use Rattle.promises.proofs.Spans.{span_none, span-some, select-range, select-nothing}
+use Rattle.promises.proofs.Spans.{no-position, its-positions, select-range, select-nothing}
 use Rattle.model.specs.Call.{position}
-use Rattle.promises.proofs.Doors.{lent-stands}
-use Rattle.promises.proofs.Meeting.{met, met-in, select-says}
+use Rattle.promises.proofs.Meeting.{met, met-read, select-says}
 use Rattle.ranges.proofs.report.select.Goals as goal
 
-pub select-requires-clause-stands : goal.select-requires-clause-stands
-select-requires-clause-stands c =
-    lent-stands c.open-h.ensures
+pub returns-in_default : goal.returns-in_default
+returns-in_default c = met (select-says _ _ _ _ _ _) c.requires refl (ap position (select-nothing _ _ _ _ (no-position c.args.lower c.args.upper c.within.ensures c.in_default.is) _))
 
-pub returns-in-Empty : goal.returns-in-Empty
-returns-in-Empty c =
-    let e = span_none c.args.lower c.args.upper _ c.normalize-s.ensures c.in-Empty.is in
-    met (select-says _ _ _ _ _ _) c.requires refl (ap position (select-nothing _ _ _ _ e _))
-
-pub returns-in-Closed : goal.returns-in-Closed
-returns-in-Closed c =
-    met-in (select-says _ _ _ _ _ _) c.requires c.open-h.ensures refl
-    (ap position (select-range (span-some c.args.lower c.args.upper _ c.normalize-s.ensures c.in-Closed.is) _ _ _ c.select.ensures))
+pub returns : goal.returns
+returns c =
+    met-read (select-says _ _ _ _ _ _) c.read_set-set.result c.requires c.read_set-set.ensures refl (ap position (select-range (its-positions c.args.lower c.args.upper c.within.ensures c.in-Some.is) _ _ _ c.select.ensures))
