@@ -1,6 +1,7 @@
--- `run_count` meets its contract: a world that stands tells what the count of its logical runs asks for. Assumes nothing.
-use Rattle.store.proofs.Opening.{logical-told}
+-- `run_count` meets its contract: a world that stands tells how many physical runs its set has. Assumes nothing.
+use Rattle.std.proofs.Common.{ap, ◌∙◌}
+use Rattle.model.specs.Positions.{stretches}
 use Rattle.written.proofs.set.run_count.Goals as goal
 
 pub returns : goal.returns
-returns c = logical-told c.requires.1 c.logical_runs.ensures
+returns c = c.logical_runs.ensures ∙ ap stretches c.set_of.ensures.positions
