@@ -6,6 +6,7 @@ ghost use Rattle.std.specs.Prelude.{◌≡◌, ◌≤◌, length};
 ghost use Rattle.store.specs.Soundness.{Sound};
 
 use model::Logical;
+use model::between::Interval;
 use store::Store;
 
 // Makes the words a pool of one world, which is empty and may have all that the pool has. False where no pool has their length.
@@ -38,34 +39,23 @@ fn next_random(z: u64) -> u64 {
     b ^ (b << 17)
 }
 
-// The last of 1 to 100 positions from `first` on, as many as the number z tells; `first` itself where they would go past the end.
-fn last_of(first: u64, z: u64) -> u64
-    ensures { first ≤ result }
-{
-    let more = z % 100;
-    if first > u64::MAX - 99 {
-        return first;
+// From 1 to 100 positions from `first` on, as many as the number z tells; `first` alone where they would go past the end.
+fn some_from(first: u64, z: u64) -> Interval {
+    let more = if first > u64::MAX - 99 { 0 } else { z % 100 };
+    Interval {
+        first: Logical(first),
+        last: Logical(first + more),
     }
-    first + more
 }
 
-// Sets first..=last of world 0 to true, and tells whether the capacity admits it.
-fn put(words: &mut [u64], first: u64, last: u64) -> bool
-    requires sound { Sound words.old }
-    requires first_le_last { first ≤ last }
+// Sets a range of world 0 to true, and tells whether the capacity admits it.
+fn put(words: &mut [u64], range: Interval) -> bool
+    requires { Sound words.old }
     ensures { (Sound words.new) × (length words.new ≡ length words.old) }
 {
     let h = store::open(words, 0);
     let limit = store::allowance(words, 0);
-    let e = changes::edit::set(
-        &mut words[128..],
-        h,
-        limit,
-        Logical(first),
-        Logical(last),
-        true,
-    );
-    let Some(made) = e else {
+    let Some(made) = changes::edit::set(&mut words[128..], h, limit, range, true) else {
         return false;
     };
     store::close(words, made.world);
@@ -88,18 +78,18 @@ pub extern "C" fn vizturel_bench_grow(words: &mut [u64], seed: u64, sets: u64) -
         z = next_random(z);
         let first = z;
         z = next_random(z);
-        admitted += u64::from(put(words, first, last_of(first, z)));
+        admitted += u64::from(put(words, some_from(first, z)));
     }
     admitted
 }
 
-// Searches first..=last of world 0 for n neighbouring free positions, and tells whether there are any.
-fn look_for(words: &[u64], first: u64, last: u64, n: u64) -> bool
+// Searches a range of world 0 for n neighbouring free positions, and tells whether there are any.
+fn look_for(words: &[u64], range: Interval, n: u64) -> bool
     requires sound { Sound words.now }
-    requires first_le_last { (first ≤ last) × (1 ≤ n) }
+    requires some { 1 ≤ n }
 {
     let h = store::open(words, 0);
-    streams::gaps::lowest_gap(&words[128..], h, Logical(first), Logical(last), n).is_some()
+    streams::gaps::lowest_gap(&words[128..], h, range, n).is_some()
 }
 
 // Makes one soundness check and then so many searches for a gap, and tells how many found one. 0 where the words are no sound pool, the
@@ -125,9 +115,13 @@ pub extern "C" fn vizturel_bench_gaps(
     if n < 1 {
         return 0;
     }
+    let range = Interval {
+        first: Logical(first),
+        last: Logical(last),
+    };
     let mut found = 0;
     for _ in 0..searches {
-        found += u64::from(look_for(words, first, last, n));
+        found += u64::from(look_for(words, range, n));
     }
     found
 }

@@ -2,6 +2,7 @@
 ghost use Rattle.heights.specs.Planting.{Plantable, Plants};
 
 use model::Logical;
+use model::between::Interval;
 use store::World;
 use written::runs::RunList;
 
@@ -13,8 +14,11 @@ pub fn plant<L: RunList + Copy>(words: &mut [u64], h: World, limit: u64, runs: L
     let mut k = h;
     for i in 0..runs.count() {
         let r = runs.run(i);
-        let e = changes::edit::set(words, k, limit, Logical(r.start), Logical(r.end), true)?;
-        k = e.world;
+        let range = Interval {
+            first: Logical(r.start),
+            last: Logical(r.end),
+        };
+        k = changes::edit::set(words, k, limit, range, true)?.world;
     }
     Some(k)
 }

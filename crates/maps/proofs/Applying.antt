@@ -1,8 +1,10 @@
 -- A map read into a world: one set where it has one value; else the window is cleared, and then each stretch that is to be held is set.
 -- Then the world holds what is read so far, and what is left of the window is cleared. Assumes nothing.
 use Rattle.changes.specs.Edits.{changed_to}
-use Rattle.std.proofs.Common.{◌≡◌, ℕ, suc, ◌+◌, ◌-◌, ◌<◌, ◌≤◌, Bool, true, false, ◌⊎◌, List, sym, refl, ap, ◌∙◌, inl, inr, arith}
+use Rattle.std.proofs.Common.{◌≡◌, ℕ, suc, ◌+◌, ◌-◌, ◌<◌, ◌≤◌, Bool, true, false, ◌⊎◌, List, sym, refl, ap, ◌∙◌, ap₂, inl, inr, arith}
+use Rattle.model.specs.declared.between.Interval.{Interval}
 use Rattle.model.specs.Numbers.{size}
+use Rattle.model.specs.Range.{many}
 use Rattle.model.proofs.Numbers.{split}
 use Rattle.model.specs.Positions.{Positions, stretches, set_range, changes}
 use Rattle.model.proofs.Runs.{stretches-cong}
@@ -16,7 +18,7 @@ use Rattle.store.proofs.Nodes.{still-then, still-same}
 use Rattle.store.proofs.Settling.{became-limited}
 use Rattle.reports.specs.Reports.{StretchEnd}
 use Rattle.changes.specs.Edits.{Makes, Edited, Appliable}
-use Rattle.maps.specs.Window.{Window, MayMap}
+use Rattle.maps.specs.Window.{Window, Part, MayMap}
 use Rattle.maps.proofs.Windows.{mapped-below, mapped-above, mapped_at, changes-nothing}
 use Rattle.maps.proofs.Surveying.{Border, border-first, border-next}
 use Rattle.maps.proofs.OnTheWay.{on-the-way, at-the-start}
@@ -59,27 +61,27 @@ nothing_read base bs P x = go (split x base)
     go (inr h) = mapped-above base 0 bs P x (omega arith)
 
 -- ---- a map of one value
-module _ {w : List ℕ} {h : World} {base n : ℕ} {bs : List ℕ} {e : ℕ} {v : Bool} (m : MayMap w h base n bs) (st : StretchEnd (map_bit bs) (map_bit bs 0) 0 (n - 1) e) (all : e + 1 ≡ n) (value : v ≡ map_bit bs 0) where
+module _ {w : List ℕ} {h : World} {base n : ℕ} {bs : List ℕ} {e : ℕ} {v : Bool} {u : Interval} (m : MayMap w h base n bs) (p : Part base 0 (n - 1) u)
+    (st : StretchEnd (map_bit bs) (map_bit bs 0) 0 (n - 1) e) (all : e + 1 ≡ n) (value : v ≡ map_bit bs 0) where
   -- one set reads it
-  one-reads : (x : ℕ) → set_range base (suc (base + e) - base) v (held_in w h) x ≡ mapped base n bs (held_in w h) x
+  one-reads : (x : ℕ) → set_range u.first.0 (many u) v (held_in w h) x ≡ mapped base n bs (held_in w h) x
   one-reads x =
-      let p : base ≡ base + 0 = omega arith in
-      let q : suc (base + e) - base ≡ n = omega arith in
+      let q : many u ≡ n = omega (arith, p.first-is, p.last-is, m.2.window.some) in
       let r : 0 + n ≡ n = omega arith in
-      ap (λ k. set_range base k v (held_in w h) x) q ∙ ap (λ a. set_range a n v (held_in w h) x) p
+      ap (λ k. set_range u.first.0 k v (held_in w h) x) q ∙ ap (λ a. set_range a n v (held_in w h) x) p.first-is
       ∙ set-cong (base + 0) n v (held_in w h) (mapped base 0 bs (held_in w h)) x (sym (nothing_read base bs (held_in w h) x))
       ∙ further base bs (held_in w h) 0 n v (λ z l k. st.same z l (omega arith) ∙ sym value) x ∙ ap (λ k. mapped base k bs (held_in w h) x) r
 
   -- so it leaves as many runs
-  one-leaves : stretches (set_range base (suc (base + e) - base) v (held_in w h)) ≡ stretches (mapped base n bs (held_in w h))
-  one-leaves = stretches-cong (set_range base (suc (base + e) - base) v (held_in w h)) (mapped base n bs (held_in w h)) (λ x _. one-reads x)
+  one-leaves : stretches (set_range u.first.0 (many u) v (held_in w h)) ≡ stretches (mapped base n bs (held_in w h))
+  one-leaves = stretches-cong (set_range u.first.0 (many u) v (held_in w h)) (mapped base n bs (held_in w h)) (λ x _. one-reads x)
 
   -- it fits
-  pub one-settable : Appliable w h base (base + e) v
-  one-settable = (m.0, m.1, record { limited = m.2.limited; ordered = omega arith; few = omega (arith, m.2.few, one-leaves) })
+  pub one-settable : Appliable w h u.first.0 u.last.0 v
+  one-settable = (m.0, m.1, record { limited = m.2.limited; ordered = u.ordered; few = omega (arith, m.2.few, one-leaves) })
 
   -- and it is done
-  pub one-done : {w' : List ℕ} {k : World} → Makes w w' h k (set_range base (suc (base + e) - base) v (held_in w h)) → Makes w w' h k (mapped base n bs (held_in w h))
+  pub one-done : {w' : List ℕ} {k : World} → Makes w w' h k (set_range u.first.0 (many u) v (held_in w h)) → Makes w w' h k (mapped base n bs (held_in w h))
   one-done g s limit l f = became-then (stays l (λ x _. refl)) (g s limit l (omega (arith, one-leaves))) (λ x _. one-reads x)
 
 -- ---- a map of both
@@ -93,28 +95,30 @@ pub record Applying (w₁ w : List ℕ) (a₁ a : World) (base n : ℕ) (bs : Li
   pub keeps : (s : Share) (limit : ℕ) → Limited w₁ s a₁ limit → stretches (mapped base n bs (held_in w₁ a₁)) ≤ limit → Limited w s a limit
 
 -- clearing the window
-module _ {w : List ℕ} {h : World} {base n : ℕ} {bs : List ℕ} {e : ℕ} (m : MayMap w h base n bs) (st : StretchEnd (map_bit bs) (map_bit bs 0) 0 (n - 1) e) (ne : e + 1 ≡ n → ⊥) where
+module _ {w : List ℕ} {h : World} {base n : ℕ} {bs : List ℕ} {e : ℕ} {u : Interval} (m : MayMap w h base n bs) (p : Part base 0 (n - 1) u)
+    (st : StretchEnd (map_bit bs) (map_bit bs 0) 0 (n - 1) e) (ne : e + 1 ≡ n → ⊥) where
   -- its positions
   win : Window base n bs
   win = m.2.window
 
   -- leaves at most as many runs as there are at the end
-  clear-leaves : stretches (set_range base (suc (base + (n - 1)) - base) false (held_in w h)) ≤ stretches (mapped base n bs (held_in w h))
+  clear-leaves : stretches (set_range u.first.0 (many u) false (held_in w h)) ≤ stretches (mapped base n bs (held_in w h))
   clear-leaves =
-      let q : suc (base + (n - 1)) - base ≡ n = omega (arith, win.some) in
+      let z : u.first.0 ≡ base = omega (arith, p.first-is) in
+      let q : many u ≡ n = omega (arith, p.first-is, p.last-is, win.some) in
       omega (
         arith,
-        ap (λ k. stretches (set_range base k false (held_in w h))) q,
+        ap₂ (λ a k. stretches (set_range a k false (held_in w h))) z q,
         at-the-start base n bs (held_in w h) win.within st (omega (arith, st.upto, win.some)),
       )
 
   -- so it fits
-  pub clearable : Appliable w h base (base + (n - 1)) false
-  clearable = (m.0, m.1, record { limited = m.2.limited; ordered = omega arith; few = omega (arith, clear-leaves, m.2.few) })
+  pub clearable : Appliable w h u.first.0 u.last.0 false
+  clearable = (m.0, m.1, record { limited = m.2.limited; ordered = u.ordered; few = omega (arith, clear-leaves, m.2.few) })
 
-  module _ {w₁ : List ℕ} {a₁ : World} (g : Makes w w₁ h a₁ (set_range base (suc (base + (n - 1)) - base) false (held_in w h))) where
+  module _ {w₁ : List ℕ} {a₁ : World} (g : Makes w w₁ h a₁ (set_range u.first.0 (many u) false (held_in w h))) where
     -- what is held then
-    clear-holds : (x : ℕ) → x < size → held_in w₁ a₁ x ≡ set_range base (suc (base + (n - 1)) - base) false (held_in w h) x
+    clear-holds : (x : ℕ) → x < size → held_in w₁ a₁ x ≡ set_range u.first.0 (many u) false (held_in w h) x
     clear-holds = (g m.0 m.1 m.2.limited (omega (arith, clear-leaves, m.2.few))).shows.holds
 
     -- what is read into it is what is read into the world
@@ -123,12 +127,12 @@ module _ {w : List ℕ} {h : World} {base n : ℕ} {bs : List ℕ} {e : ℕ} (m 
       where
         go : (x < base) ⊎ (base ≤ x) → (x < base + n) ⊎ (base + n ≤ x) → mapped base n bs (held_in w₁ a₁) x ≡ mapped base n bs (held_in w h) x
         go (inl a) b =
-            mapped-below base n bs (held_in w₁ a₁) x a ∙ clear-holds x l ∙ set_below base (suc (base + (n - 1)) - base) false (held_in w h) x a
+            mapped-below base n bs (held_in w₁ a₁) x a ∙ clear-holds x l ∙ set_below u.first.0 (many u) false (held_in w h) x (omega (arith, p.first-is))
             ∙ sym (mapped-below base n bs (held_in w h) x a)
         go (inr a) (inl b) = mapped_at base n bs (held_in w₁ a₁) x a b ∙ sym (mapped_at base n bs (held_in w h) x a b)
         go (inr a) (inr b) =
             mapped-above base n bs (held_in w₁ a₁) x b ∙ clear-holds x l
-            ∙ set-above base (suc (base + (n - 1)) - base) false (held_in w h) x (omega (arith, win.some)) ∙ sym (mapped-above base n bs (held_in w h) x b)
+            ∙ set-above u.first.0 (many u) false (held_in w h) x (omega (arith, p.first-is, p.last-is, win.some)) ∙ sym (mapped-above base n bs (held_in w h) x b)
 
     -- and leaves as many runs
     same-leaves : stretches (mapped base n bs (held_in w₁ a₁)) ≡ stretches (mapped base n bs (held_in w h))
@@ -142,7 +146,7 @@ module _ {w : List ℕ} {h : World} {base n : ℕ} {bs : List ℕ} {e : ℕ} (m 
     pub applying-none : Applying w₁ w₁ a₁ a₁ base n bs 0
     applying-none = record {
       may = (m.0, m.1, record { limited = then-limited m.0 m.1 m.2.limited m.2.few; window = win; few = omega (arith, same-leaves, m.2.few) });
-      cleared = λ x a b. clear-holds x (omega (arith, win.within)) ∙ set-inside base (suc (base + (n - 1)) - base) false (held_in w h) x a (omega (arith, win.some));
+      cleared = λ x a b. clear-holds x (omega (arith, win.within)) ∙ set-inside u.first.0 (many u) false (held_in w h) x (omega (arith, p.first-is)) (omega (arith, p.first-is, p.last-is, win.some));
       upto = omega arith;
       border = border-first bs n;
       reads = λ s limit l f. stays l (λ x _. sym (nothing_read base bs (held_in w₁ a₁) x));
@@ -163,47 +167,55 @@ module _ {w₁ w : List ℕ} {a₁ a : World} {base n : ℕ} {bs : List ℕ} {i 
   read-holds = (p.reads p.may.0 p.may.1 p.may.2.limited p.may.2.few).shows.holds
 
   -- one stretch more, whatever its value
-  stretch-reads : (b : Bool) → v ≡ b → (x : ℕ) → x < size → set_range (base + i) (suc (base + e) - (base + i)) b (held_in w a) x ≡ mapped base (e + 1) bs (held_in w₁ a₁) x
+  stretch-reads : (b : Bool) → v ≡ b → (x : ℕ) → x < size → set_range (base + i) (suc e - i) b (held_in w a) x ≡ mapped base (e + 1) bs (held_in w₁ a₁) x
   stretch-reads b t x l =
-      let k : ℕ = suc (base + e) - (base + i) in
+      let k : ℕ = suc e - i in
       let q : i + k ≡ e + 1 = omega (arith, st.from) in
       set-cong (base + i) k b (held_in w a) (mapped base i bs (held_in w₁ a₁)) x (read-holds x l)
       ∙ further base bs (held_in w₁ a₁) i k b (λ z m o. st.same z m (omega arith) ∙ sym value ∙ t) x
       ∙ ap (λ m. mapped base m bs (held_in w₁ a₁) x) q
 
-  -- a stretch that is to be held leaves at most as many runs as there are at the end
-  stretch-leaves : v ≡ true → stretches (set_range (base + i) (suc (base + e) - (base + i)) true (held_in w a)) ≤ stretches (mapped base n bs (held_in w₁ a₁))
-  stretch-leaves t =
-      omega (
-        arith,
-        stretches-cong (set_range (base + i) (suc (base + e) - (base + i)) true (held_in w a)) (mapped base (e + 1) bs (held_in w₁ a₁)) (stretch-reads true t),
-        on-the-way base n bs (held_in w₁ a₁) p.may.2.window.within (e + 1) (omega arith) (omega (arith, st.upto)) (border-next bs n st) p.cleared,
-      )
+  -- one that is to be held
+  module _ {u : Interval} (part : Part base i e u) (t : v ≡ true) where
+    -- is set where it lies
+    set-reads : (x : ℕ) → x < size → set_range u.first.0 (many u) true (held_in w a) x ≡ mapped base (e + 1) bs (held_in w₁ a₁) x
+    set-reads x l =
+        let q : many u ≡ suc e - i = omega (arith, part.first-is, part.last-is) in
+        ap₂ (λ f k. set_range f k true (held_in w a) x) part.first-is q ∙ stretch-reads true t x l
 
-  -- so it can be set
-  pub stretch-settable : v ≡ true → Appliable w a (base + i) (base + e) true
-  stretch-settable t = (
-    p.may.0,
-    p.may.1,
-    record {
-      limited = p.keeps p.may.0 p.may.1 p.may.2.limited p.may.2.few;
-      ordered = omega (arith, st.from);
-      few = omega (arith, stretch-leaves t, p.may.2.few);
-    },
-  )
+    -- leaves at most as many runs as there are at the end
+    stretch-leaves : stretches (set_range u.first.0 (many u) true (held_in w a)) ≤ stretches (mapped base n bs (held_in w₁ a₁))
+    stretch-leaves =
+        omega (
+          arith,
+          stretches-cong (set_range u.first.0 (many u) true (held_in w a)) (mapped base (e + 1) bs (held_in w₁ a₁)) set-reads,
+          on-the-way base n bs (held_in w₁ a₁) p.may.2.window.within (e + 1) (omega arith) (omega (arith, st.upto)) (border-next bs n st) p.cleared,
+        )
 
-  -- it is set
-  pub applying-set : {w' w'' : List ℕ} {a' a'' : World} → v ≡ true → Makes w w' a a' (set_range (base + i) (suc (base + e) - (base + i)) true (held_in w a)) → w'' ≡ w' → a'' ≡ a'
-      → Applying w₁ w'' a₁ a'' base n bs (e + 1)
-  applying-set t g q r = rw (q, r) (record {
-    may = p.may;
-    cleared = p.cleared;
-    upto = omega (arith, st.upto);
-    border = border-next bs n st;
-    reads = λ s limit l f. became-then (p.reads s limit l f) (g s limit (p.keeps s limit l f) (omega (arith, stretch-leaves t))) (stretch-reads true t);
-    keeps = λ s limit l f.
-        became-limited (p.keeps s limit l f) (g s limit (p.keeps s limit l f) (omega (arith, stretch-leaves t))) (omega (arith, stretch-leaves t));
-  })
+    -- so it can be set
+    pub stretch-settable : Appliable w a u.first.0 u.last.0 true
+    stretch-settable = (
+      p.may.0,
+      p.may.1,
+      record {
+        limited = p.keeps p.may.0 p.may.1 p.may.2.limited p.may.2.few;
+        ordered = u.ordered;
+        few = omega (arith, stretch-leaves, p.may.2.few);
+      },
+    )
+
+    -- it is set
+    pub applying-set : {w' w'' : List ℕ} {a' a'' : World} → Makes w w' a a' (set_range u.first.0 (many u) true (held_in w a)) → w'' ≡ w' → a'' ≡ a'
+        → Applying w₁ w'' a₁ a'' base n bs (e + 1)
+    applying-set g q r = rw (q, r) (record {
+      may = p.may;
+      cleared = p.cleared;
+      upto = omega (arith, st.upto);
+      border = border-next bs n st;
+      reads = λ s limit l f. became-then (p.reads s limit l f) (g s limit (p.keeps s limit l f) (omega (arith, stretch-leaves))) set-reads;
+      keeps = λ s limit l f.
+          became-limited (p.keeps s limit l f) (g s limit (p.keeps s limit l f) (omega (arith, stretch-leaves))) (omega (arith, stretch-leaves));
+    })
 
   -- one that is not is clear already
   pub applying-left : {w'' : List ℕ} {a'' : World} → v ≡ false → w'' ≡ w → a'' ≡ a → Applying w₁ w'' a₁ a'' base n bs (e + 1)
@@ -219,7 +231,7 @@ module _ {w₁ w : List ℕ} {a₁ a : World} {base n : ℕ} {bs : List ℕ} {i 
   })
     where
       k : ℕ
-      k = suc (base + e) - (base + i)
+      k = suc e - i
 
       clear : (x : ℕ) → x < size → (x < base + i) ⊎ (base + i ≤ x) → (base + e < x) ⊎ (x ≤ base + e) → set_range (base + i) k false (held_in w a) x ≡ held_in w a x
       clear x l (inl h) m = set_below (base + i) k false (held_in w a) x h
@@ -230,10 +242,8 @@ module _ {w₁ w : List ℕ} {a₁ a : World} {base n : ℕ} {bs : List ℕ} {i 
 
 -- ---- a map that changes nothing
 -- the world holds already what is read
-pub nothing-changed : {w : List ℕ} {h : World} {limit : ℕ} (Q : Positions) → Editable w h limit → changes (held_in w h) Q ≡ 0
-    → Edited w w h limit Q (changed_to h (record { carry = 0; low = 0 }))
-nothing-changed {w} {h} Q m z = (
-  omega (arith, m.1.fits, stretches-cong (held_in w h) Q (changes-nothing (held_in w h) Q z)),
-  λ s limit l f. stays l (changes-nothing (held_in w h) Q z),
-  omega (arith, z),
-)
+pub nothing-changed : {w : List ℕ} {h : World} {limit low : ℕ} (Q : Positions) → Editable w h limit → low ≡ changes (held_in w h) Q → low ≡ 0
+    → Edited w w h limit Q (changed_to h (record { carry = 0; low = low }))
+nothing-changed {w} {h} Q m e z =
+    let same : (x : ℕ) → x < size → held_in w h x ≡ Q x = changes-nothing (held_in w h) Q (sym e ∙ z) in
+    (omega (arith, m.1.fits, stretches-cong (held_in w h) Q same), λ s limit l f. stays l same, omega (arith, e))

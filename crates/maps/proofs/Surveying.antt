@@ -1,6 +1,6 @@
 -- A map surveyed stretch by stretch: where the last stretch ended the value changes, so no run goes on over that place and the stretch adds
 -- its own run, or none; it changes the positions that have the other value. Assumes nothing.
-use Rattle.std.proofs.Common.{◌≡◌, ℕ, suc, ◌+◌, ◌-◌, ◌<◌, ◌≤◌, Bool, true, false, not, ◌⊎◌, List, length, sym, refl, ap, ◌∙◌, inl, inr, arith, length-append}
+use Rattle.std.proofs.Common.{◌≡◌, ℕ, suc, ◌+◌, ◌-◌, ◌<◌, ◌≤◌, Bool, true, false, not, ◌⊎◌, List, length, sym, refl, ap, ◌∙◌, ap₂, inl, inr, arith, length-append}
 use borrow.Author.Tests.{not-true}
 use Rattle.std.specs.Int.{from_bool}
 use Rattle.model.specs.declared.Operation.TheVariants.{Xor}
@@ -9,9 +9,11 @@ use Rattle.model.proofs.Counting.{count_cut, count-both, count_most}
 use Rattle.model.proofs.Runs.{runs_in-join, runs_in-none}
 use Rattle.model.specs.Bytes.{map_bit, mapped}
 use Rattle.model.specs.declared.Tally.{Tally}
+use Rattle.model.specs.declared.between.Interval.{Interval}
+use Rattle.model.specs.Range.{many}
 use Rattle.reports.specs.Reports.{Measured}
 use Rattle.reports.specs.Reports.{StretchEnd}
-use Rattle.maps.specs.Window.{Window, Surveyed}
+use Rattle.maps.specs.Window.{Window, Part, Surveyed}
 use Rattle.maps.proofs.Windows.{mapped-below, mapped-above, mapped_at, changes-stretch, changes-in, one_value}
 
 -- bit i has not the value of the bit before it, if both are among the n
@@ -76,12 +78,12 @@ module _ {P : Positions} {base n : ℕ} {bs : List ℕ} {i runs changed : ℕ} (
       ∙ length-append (runs_in (mapped base n bs P) true base i) (runs_in (mapped base n bs P) true (base + i) (suc e - i))
       ∙ ap (λ k. length (runs_in (mapped base n bs P) true base i) + k) (one_value (mapped base n bs P) (base + i) (suc e - i) v (omega (arith, st.from)) stretch-at)
 
-  module _ {t : Tally} (few : n ≤ 524288) (m : Measured P (not v) (base + i) (suc (base + e) - (base + i)) t) where
+  module _ {t : Tally} {u : Interval} (few : n ≤ 524288) (p : Part base i e u) (m : Measured P (not v) u.first.0 (many u) t) where
     -- what the tally counts
     low-is : t.count.low ≡ count P (not v) (base + i) (suc e - i)
     low-is =
-        let q : suc (base + e) - (base + i) ≡ suc e - i = omega arith in
-        omega (arith, m.count-is, ap (count P (not v) (base + i)) q, count_most P (not v) (base + i) (suc e - i), st.from, st.upto)
+        let q : many u ≡ suc e - i = omega (arith, p.first-is, p.last-is) in
+        omega (arith, m.count-is, ap₂ (count P (not v)) p.first-is q, count_most P (not v) (base + i) (suc e - i), st.from, st.upto)
 
     -- it stays below the window's length
     pub low_fits : changed + t.count.low ≤ e + 1

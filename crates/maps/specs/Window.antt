@@ -1,5 +1,6 @@
 -- A window and its map, and what is counted of them. Assumes nothing: these are definitions.
 use Rattle.std.specs.Prelude.{◌≡◌, ℕ, ◌+◌, ◌<◌, ◌≤◌, Bool, true, false, List, length}
+use Rattle.model.specs.declared.between.Interval.{Interval}
 use Rattle.model.specs.Numbers.{size, longest}
 use Rattle.model.specs.Positions.{Positions, run_count, stretches, changes}
 use Rattle.model.specs.Bytes.{map_bit, mapped, map_length}
@@ -14,6 +15,11 @@ pub record Window (base n : ℕ) (bs : List ℕ) : Type 0 where
   pub few : n ≤ longest
   pub within : base + n ≤ size
   pub exact : length bs ≡ map_length n
+
+-- the positions of the bits from i to e of a map that begins at base
+pub record Part (base i e : ℕ) (r : Interval) : Type 0 where
+  pub first-is : r.first.0 ≡ base + i
+  pub last-is : r.last.0 ≡ base + e
 
 -- n bits from i on that all have the value, told only where it is so
 abbrev pub Whole : ℕ → List ℕ → ℕ → Bool → Bool → Type 0

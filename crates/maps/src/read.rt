@@ -3,8 +3,8 @@
 ghost use Rattle.std.specs.Prelude.{◌≡◌, ◌+◌, ◌-◌, ◌*◌, ◌<◌, ◌≤◌, true, length, nat_le};
 ghost use Rattle.model.specs.Positions.{stretches, run_count};
 ghost use Rattle.model.specs.Bytes.{map_bit, mapped};
-ghost use Rattle.store.specs.Layout.{held_in};
-ghost use Rattle.store.specs.Soundness.{Stands, Editable};
+ghost use Rattle.store.specs.Layout.{held, held_in};
+ghost use Rattle.store.specs.Soundness.{Editable};
 ghost use Rattle.reports.specs.Reports.{StretchEnd};
 ghost use Rattle.changes.specs.Edits.{Makes, Edited};
 ghost use Rattle.maps.specs.Window.{Window, Whole, Surveyed, MayMap};
@@ -12,8 +12,8 @@ ghost use Rattle.maps.specs.Window.{Window, Whole, Surveyed, MayMap};
 use crate::span::Map;
 use crate::word::whole_word;
 use changes::edit::Edit;
-use model::{Count, Logical};
-use store::World;
+use model::Count;
+use store::{Set, World};
 
 // Bit i of a map.
 fn bit(bytes: &[u8], i: u64) -> bool
@@ -67,11 +67,9 @@ pub struct Survey {
     pub changed: u64,
 }
 
-fn survey_map<const WIDE: bool>(words: &[u64], h: World, map: &Map) -> Survey
-    requires stands { Stands words.now h }
-    ensures { Surveyed (held_in words.now h) map.now.span.base map.now.span.n map.now.bytes.now result }
+fn survey_map<const WIDE: bool>(set: &Set<'_>, map: &Map) -> Survey
+    ensures { Surveyed (held set.now) map.now.span.base map.now.span.n map.now.bytes.now result }
 {
-    let base = map.span.base;
     let mut i: u64 = 0;
     let mut runs: u64 = 0;
     let mut changed: u64 = 0;
@@ -79,9 +77,8 @@ fn survey_map<const WIDE: bool>(words: &[u64], h: World, map: &Map) -> Survey
     while i < map.span.n {
         let value = bit(map.bytes, i);
         let e = stretch::<WIDE>(map, i);
-        let t = reports::logical::tally(words, h, Logical(base + i), Logical(base + e), !value);
-        let c = t.count;
-        changed += c.low;
+        let other = reports::logical::tally(set, map.span.part(i, e), !value);
+        changed += other.count.low;
         runs += u64::from(value);
         i = e + 1;
     }
@@ -95,12 +92,12 @@ fn map_fits(words: &[u64], h: World, limit: u64, map: &Map, runs: u64) -> bool
     ensures { result ≡ nat_le (stretches (mapped map.now.span.base map.now.span.n map.now.bytes.now (held_in words.now h))) limit }
 {
     let last = map.span.n - 1;
-    let a = Logical(map.span.base);
-    let b = Logical(map.span.base + last);
-    let outside = changes::edit::around(words, h, a, b).outside;
+    let window = map.span.part(0, last);
+    let set = store::set_of(words, h);
+    let outside = changes::edit::around(&set, h.runs, window).outside;
     // a run of the map that ends with the window is one with the run of the neighbour there
-    let before = bit(map.bytes, 0) && changes::edit::held_before(words, h, a);
-    let after = bit(map.bytes, last) && changes::edit::held_after(words, h, b);
+    let before = bit(map.bytes, 0) && changes::edit::held_before(&set, window.first);
+    let after = bit(map.bytes, last) && changes::edit::held_after(&set, window.last);
     outside + runs <= limit + u64::from(before) + u64::from(after)
 }
 
@@ -110,25 +107,18 @@ fn apply_map<const WIDE: bool>(words: &mut [u64], h: World, map: &Map) -> World
     requires { MayMap words.old h map.now.span.base map.now.span.n map.now.bytes.now }
     ensures { Makes words.old words.new h result (mapped map.now.span.base map.now.span.n map.now.bytes.now (held_in words.old h)) }
 {
-    let base = map.span.base;
     let n = map.span.n;
-    let e = stretch::<WIDE>(map, 0);
-    if e + 1 == n {
-        return changes::edit::apply_set(
-            words,
-            h,
-            Logical(base),
-            Logical(base + e),
-            bit(map.bytes, 0),
-        );
+    let window = map.span.part(0, n - 1);
+    if stretch::<WIDE>(map, 0) + 1 == n {
+        return changes::edit::apply_set(words, h, window, bit(map.bytes, 0));
     }
-    let mut at = changes::edit::apply_set(words, h, Logical(base), Logical(base + (n - 1)), false);
+    let mut at = changes::edit::apply_set(words, h, window, false);
     let mut i: u64 = 0;
     // a stretch a step
     while i < n {
         let e = stretch::<WIDE>(map, i);
         if bit(map.bytes, i) {
-            at = changes::edit::apply_set(words, at, Logical(base + i), Logical(base + e), true);
+            at = changes::edit::apply_set(words, at, map.span.part(i, e), true);
         }
         i = e + 1;
     }
@@ -145,23 +135,17 @@ pub fn read_map<const WIDE: bool>(
     requires editable { Editable words.old h limit }
     ensures { Edited words.old words.new h limit (mapped map.now.span.base map.now.span.n map.now.bytes.now (held_in words.old h)) result }
 {
-    let s = survey_map::<WIDE>(words, h, map);
-    let changed = s.changed;
-    if changed == 0 {
-        return Some(Edit {
-            world: h,
-            changed: Count { carry: 0, low: 0 },
-        });
+    let s = survey_map::<WIDE>(&store::set_of(words, h), map);
+    let changed = Count {
+        carry: 0,
+        low: s.changed,
+    };
+    if s.changed == 0 {
+        return Some(Edit { world: h, changed });
     }
     if !map_fits(words, h, limit, map, s.runs) {
         return None;
     }
-    let k = apply_map::<WIDE>(words, h, map);
-    Some(Edit {
-        world: k,
-        changed: Count {
-            carry: 0,
-            low: changed,
-        },
-    })
+    let world = apply_map::<WIDE>(words, h, map);
+    Some(Edit { world, changed })
 }

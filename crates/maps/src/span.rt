@@ -1,7 +1,10 @@
 // Where a window lies, and its map.
-ghost use Rattle.std.specs.Prelude.{◌+◌, ◌≤◌};
+ghost use Rattle.std.specs.Prelude.{◌+◌, ◌<◌, ◌≤◌};
 ghost use Rattle.model.specs.Numbers.{size};
-ghost use Rattle.maps.specs.Window.{Window};
+ghost use Rattle.maps.specs.Window.{Window, Part};
+
+use model::Logical;
+use model::between::Interval;
 
 // The n positions from base on: at least one, and none past the last.
 #[derive(Clone, Copy)]
@@ -10,6 +13,19 @@ pub struct Span {
     pub n: u64,
     pub ghost some: { 1 ≤ n },
     pub ghost within: { base + n ≤ size },
+}
+
+impl Span {
+    // The positions of the bits from i to e of its map.
+    pub fn part(self, i: u64, e: u64) -> Interval
+        requires { (i ≤ e) × (e < self.n) }
+        ensures { Part self.base i e result }
+    {
+        Interval {
+            first: Logical(self.base + i),
+            last: Logical(self.base + e),
+        }
+    }
 }
 
 // The bytes of the map of a window, just as many as it has.

@@ -26,16 +26,16 @@ below g t = omega (arith, t.run-r.type_inv.1.1.1.0.1)
 pub loop-i-init : goal.loop-i-init
 loop-i-init g c = (omega arith, λ s m. (growing-none m, λ d h. deepening-none (bare-tree m)))
 
-pub returns-in_err-e : goal.returns-in_err-e
-returns-in_err-e g c =
-    let t = (goal.at.returns-in_err-e g c).After-run-r in
+pub returns-in_err-k : goal.returns-in_err-k
+returns-in_err-k g c =
+    let t = (goal.at.returns-in_err-k g c).After-run-r in
     λ s m.
     let inv = c.loop-i.invariant.1 s m in (
       subst (Grown c.args.words.now c.set.new.words s c.args.limit (length (g.L.RunList.runs c.args.runs))) (sym c.from_residual.ensures)
-          (next-refused inv.0 _ _ (ordered g t) (below g t) _ _ c.set.ensures.0 (c.in_err-e.was)),
+          (next-refused inv.0 _ _ (ordered g t) (below g t) _ _ c.set.ensures.0 (c.in_err-k.was)),
       λ d h.
           absurd
-          (next_fits h inv.0 (inv.1 d h) (more g (goal.at.returns-in_err-e g c).In-loop-i) _ c.run-r.ensures (ordered g t) (below g t) _ _ c.set.ensures.0 (c.in_err-e.was)),
+          (next_fits h inv.0 (inv.1 d h) (more g (goal.at.returns-in_err-k g c).In-loop-i) _ c.run-r.ensures (ordered g t) (below g t) _ _ c.set.ensures.0 (c.in_err-k.was)),
     )
 
 pub loop-i-preserved : goal.loop-i-preserved
@@ -44,10 +44,10 @@ loop-i-preserved g c =
       omega (arith, more g (goal.at.loop-i-preserved g c).In-loop-i),
       λ s m.
           let inv = c.loop-i.invariant.1 s m in (
-            growing-more inv.0 _ _ (ordered g t) (below g t) _ _ c.set.ensures.0 c.set.ensures.1 _ _ (c.in_ok-e.was),
+            growing-more inv.0 _ _ (ordered g t) (below g t) _ _ c.set.ensures.0 c.set.ensures.1 _ _ (c.in_ok-k.was),
             λ d h.
                 deepening-more h inv.0 (inv.1 d h) (more g (goal.at.loop-i-preserved g c).In-loop-i) _ c.run-r.ensures (ordered g t) (below g t)
-                _ _ c.set.ensures.0 c.set.ensures.1 _ _ (c.in_ok-e.was),
+                _ _ c.set.ensures.0 c.set.ensures.1 _ _ (c.in_ok-k.was),
           ),
     )
 
