@@ -15,17 +15,7 @@ use Rattle.store.specs.Free.{Becomes, Removable, RemovesRun, Changeable, Changes
 use Rattle.changes.specs.Change.{Cut, Clearable}
 use Rattle.changes.proofs.Counting.{runs_of}
 use Rattle.changes.proofs.Lists.{first-after, first_some, first-none, ends-before, canon-shrink}
-use Rattle.changes.proofs.Steps.{
-  becomes-none,
-  becomes-canon,
-  becomes-runs,
-  becomes-indexed,
-  becomes-after,
-  becomes-removable,
-  becomes-removed,
-  becomes-changeable,
-  becomes-changed,
-}
+use Rattle.changes.proofs.Steps.{becomes-canon, becomes-runs, becomes-indexed, becomes-after, becomes-removable, becomes-removed, becomes-changeable, becomes-changed}
 
 -- ---- what `clear` makes of runs
 -- a run that ends before s stays
@@ -162,18 +152,6 @@ module _ {w w1 : List ℕ} {sh : Share} {y : Links} {s e : ℕ} {ls us : List Ru
 -- ---- the invariant of `clear_from`
 pub record ClearingFrom (w w1 : List ℕ) (x y : Links) (s e : ℕ) : Type 0 where
   pub so_far : {sh : Share} {ls us : List Run} {t : Tree} {ns : List ℕ} → Cut w sh x s ls us t ns → Cleared w w1 sh y s e ls us
-
--- it holds at first
-pub clearing-none : {w : List ℕ} {x : Links} {s e : ℕ} → ClearingFrom w w x x s e
-clearing-none = record {
-  so_far = λ {sh} {ls} {us} c. record {
-    left = us;
-    becomes = becomes-none c.parted.kept c.parted.runs-are;
-    below = c.below;
-    from = c.from;
-    same = refl;
-  };
-}
 
 module _ {w w1 : List ℕ} {x y : Links} {s e : ℕ} (i : ClearingFrom w w1 x y s e) (p : Clearable w x s) where
   -- what has been done to the runs that the caller has

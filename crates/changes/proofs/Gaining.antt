@@ -2,7 +2,7 @@
 -- modulo 2^64, and only an empty world has no root, so the two tell a full world from an empty one. A set to true only adds positions, and
 -- one to false only frees some: so the difference is what changed. Assumes nothing.
 use Rattle.std.specs.Prelude.{Some}
-use Rattle.std.proofs.Common.{◌≡◌, ℕ, zero, suc, ◌+◌, ◌-◌, ◌%◌, ◌^◌, ◌<◌, ◌≤◌, Bool, true, false, cond, not, ◌⊎◌, List, ◌∷◌, sym, refl, ap, ◌∙◌, subst, inl, inr, true≢false, arith}
+use Rattle.std.proofs.Common.{◌≡◌, ℕ, zero, suc, ◌+◌, ◌-◌, ◌%◌, ◌^◌, ◌<◌, ◌≤◌, Bool, true, false, cond, not, List, ◌∷◌, sym, refl, ap, ◌∙◌, subst, true≢false, arith}
 use mathlib.Core.Bool.{beq}
 use Rattle.model.specs.declared.Count.{Count}
 use Rattle.model.specs.declared.Operation.TheVariants.{Xor}
@@ -61,22 +61,6 @@ world-tells {w} {s} {h} st small =
     }
 
 -- ---- the difference
--- all positions from none: the sums are alike, as 2^64 is 0 there
-pub gains-all : {root ones root' ones' more : ℕ} → (more + ones) % 2 ^ 64 ≡ ones' → more ≡ 0 → root ≡ 0 → (root' ≡ 0 → ⊥)
-    → Gains root ones root' ones' (record { carry = 1; low = 0 })
-gains-all wraps z r r' m n p q le =
-    let some : n ≡ 0 → ⊥ = λ y. r' (q.rootless y) in
-    omega (arith, p.none r, p.sum, q.most, q.sum, some)
-
--- else the difference of the sums is that of the counts
-pub gains-some : {root ones root' ones' more : ℕ} → (more + ones) % 2 ^ 64 ≡ ones' → more < 2 ^ 64
-    → (more ≡ 0 → ⊥) ⊎ ((root ≡ 0 → ⊥) ⊎ (root' ≡ 0)) → Gains root ones root' ones' (record { carry = 0; low = more })
-gains-some wraps small (inl a) m n p q le = omega (arith, a, p.sum, q.most, q.sum)
-gains-some wraps small (inr (inl a)) m n p q le =
-    let some : m ≡ 0 → ⊥ = λ y. a (p.rootless y) in
-    omega (arith, some, p.sum, q.most, q.sum)
-gains-some wraps small (inr (inr a)) m n p q le = omega (arith, q.none a, p.sum, q.sum)
-
 -- ---- what a change leaves that only adds
 -- a position that was held is held: it differs exactly if it is new
 adds-here : (p q : Bool) → (p ≡ true → q ≡ true) → one_if (beq q true) ≡ one_if (beq p true) + one_if (beq (not (beq p q)) true)

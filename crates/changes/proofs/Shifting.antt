@@ -53,10 +53,6 @@ world-ends {w} {s} {h} st nz small =
 
 -- ---- all would leave
 module _ {w : List ℕ} {h : World} {x : Links} (ex : x ≡ links_of h) where
-  -- the nodes of a world can be given back
-  pub emptied-keepable : {s : Share} → Standing w s h → Keepable w x
-  emptied-keepable {s} st = (s, st.tree, st.free, links-kept ex st)
-
   module _ {w' : List ℕ} {y : Links} (gb : GivesBack w w' x y) where
     -- what they are then
     given : {s : Share} → Standing w s h → Becomes w w' s y []

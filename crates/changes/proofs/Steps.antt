@@ -18,7 +18,7 @@ use Rattle.run_index.proofs.Totals.{runs-length}
 use Rattle.store.specs.declared.Links.{Links}
 use Rattle.store.specs.Soundness.{Share, Kept}
 use Rattle.store.specs.Free.{RoomFor, Addable, Becomes, Adds, HasRun, Removable, RemovesRun, Alterable, Changeable, Changes}
-use Rattle.changes.specs.Change.{MaySet, Settable, Holding, Sets}
+use Rattle.changes.specs.Change.{MaySet, Holding}
 use Rattle.store.proofs.Nodes.{kept-index, still-then, still-same}
 use Rattle.store.proofs.Reached.{kept-runs}
 use Rattle.changes.proofs.Counting.{runs_of, runs_of_lem}
@@ -118,10 +118,6 @@ module _ {w w1 : List ℕ} {sh : Share} {y : Links} (ls us : List Run) (u : Beco
   becomes-added {w2} {z} f = subst (Becomes w w2 sh z) added (becomes-then u (f sh u.tree u.nodes room_for))
 
 -- ---- setting
--- what may get a value may be searched
-pub settable-indexed : {w : List ℕ} {x : Links} {s e : ℕ} {v : Bool} → Settable w x s e v → Indexed w x.root
-settable-indexed p = (_, _, kept-index p.3.kept)
-
 -- r is the last run that starts at s or before it
 pub record FoundRun (w : List ℕ) (x : Links) (s : ℕ) (r : Run) : Type 0 where
   pub around : {sh : Share} {t : Tree} {ns : List ℕ} → Kept w sh x t ns → Around s r (inorder t)
@@ -142,14 +138,6 @@ module _ {w : List ℕ} {x : Links} {s : ℕ} (n : Option Run) (f : n ≡ last_u
   found_none en = record {
     after = λ {sh} {t} {ns} k. last_none s (inorder t) (sym (becomes-before (becomes-none k refl) s n f) ∙ en);
   }
-
--- what may get a value may get its like
-pub settable-like : {w : List ℕ} {x : Links} {s e : ℕ} {v u : Bool} → v ≡ u → Settable w x s e v → Settable w x s e u
-settable-like {w} {x} {s} {e} q p = subst (Settable w x s e) q p
-
--- and what sets its like sets it
-pub sets-like : {w w' : List ℕ} {x y : Links} {s e : ℕ} {v u : Bool} → v ≡ u → Sets w w' x y s e u → Sets w w' x y s e v
-sets-like {w} {w'} {x} {y} {s} {e} q p = subst (Sets w w' x y s e) (sym q) p
 
 -- the positions from s to e are suc e - s many from s
 among-inside : (s e x : ℕ) → s ≤ e → inside s e x ≡ among s (suc e - s) x

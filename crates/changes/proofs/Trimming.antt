@@ -103,10 +103,6 @@ module _ {w w1 : List ℕ} {x : Links} {s e : ℕ} (d : Trimmed w w1 x s e) wher
     pub trimmed-cleared : Sets w w2 x y s e false
     trimmed-cleared sh t ns m = lowered m (cleared m)
 
-    -- the length is the old one
-    pub trimmed-long : Settable w x s e false → length w2 ≡ length w
-    trimmed-long p = (cleared p.3).still.long
-
 -- ---- the run at s or before it
 -- there is none
 pub trimmed-none : {w : List ℕ} {x : Links} {s e : ℕ} → FoundNone w x s → Trimmed w w x s e

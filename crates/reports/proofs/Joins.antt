@@ -2,27 +2,14 @@
 -- A first or last run is taken apart into what is held and what is not, which holds of the joined range too. Assumes nothing.
 use Rattle.std.specs.Prelude.{Option, None, Some}
 use Rattle.std.proofs.Common.{◌≡◌, ℕ, suc, ◌+◌, ◌-◌, ◌<◌, ◌≤◌, Bool, true, false, not, ◌&&◌, ◌||◌, ◌⊎◌, List, [], ◌∷◌, ◌++◌, sym, refl, ap, ◌∙◌}
-use Rattle.std.proofs.Common.{subst, ap₂, inl, inr, append-nil, arith}
+use Rattle.std.proofs.Common.{subst, ap₂, inl, inr, arith}
 use mathlib.Core.Bool.{beq}
 use Rattle.model.specs.declared.Run.{Run}
 use Rattle.model.proofs.Numbers.{split}
-use Rattle.model.specs.Positions.{Positions, run, inside, count, find, select, runs_in, first_run, last_run, mem}
+use Rattle.model.specs.Positions.{Positions, inside, count, find, select, runs_in, first_run, last_run, mem}
 use Rattle.model.proofs.Counting.{inside-yes, inside-below, inside-above, among-yes, count_cut, beq-is}
-use Rattle.model.proofs.Runs.{runs_in-canon, runs_in-mem, runs_in-join, mem-append, first_run-is, last_run-is}
-use Rattle.model.proofs.Finds.{
-  find_runs,
-  find-is,
-  count_runs,
-  select-runs,
-  select-is,
-  select-none,
-  select-only,
-  Selected,
-  select_runs,
-  select_runs-in,
-  select_runs-past,
-  start_of,
-}
+use Rattle.model.proofs.Runs.{runs_in-canon, runs_in-mem, mem-append, last_run-is}
+use Rattle.model.proofs.Finds.{find_runs, count_runs, select-runs, select-is, select-none, select-only, Selected, select_runs, select_runs-in, select_runs-past, start_of}
 use Rattle.model.specs.RunList.{Canon}
 use Rattle.model.proofs.RunList.{mem_below, mem-past, widths}
 use Rattle.model.proofs.Search.{canon-split}
@@ -117,61 +104,8 @@ first_run-only P v a n r e =
     let d = first-parts (runs_in P v a n) r e in
     record { is = a-run P v a n [] r d.0 d.1; under = λ y h l. under-run P v a n [] r d.0 d.1 y h l (empty-mem y) }
 
--- what a last run is
-pub last_run-only : (P : Positions) (v : Bool) (a n : ℕ) (r : Run) → last_run (runs_in P v a n) ≡ Some r → IsLast P v a n r
-last_run-only P v a n r e =
-    let d = last-parts (runs_in P v a n) r e in
-    record { is = a-run P v a n d.0 r [] d.1; over = λ y h l. over-run P v a n d.0 r [] d.1 y h l (empty-mem y) }
-
--- no runs, no position of the value
-pub runs_in-empty : (P : Positions) (v : Bool) (a n : ℕ) → runs_in P v a n ≡ [] → (y : ℕ) → a ≤ y → y < a + n → P y ≡ not v
-runs_in-empty P v a n e y h l =
-    beq-no (P y) v (sym (sym (ap (λ rs. mem rs y) e) ∙ runs_in-mem P v a n y ∙ ap (λ t. t && beq (P y) v) (among-yes a n y h l)) ∙ empty-mem y)
-
--- no first run, no run
-pub no-first : (rs : List Run) → first_run rs ≡ None → rs ≡ []
-no-first [] e = refl
-no-first (r ∷ rs) e = absurd (cc)
-
--- no last run, no run
-pub no_last : (rs : List Run) → last_run rs ≡ None → rs ≡ []
-no_last [] e = refl
-no_last (r ∷ rs) e = absurd (cc)
-
 -- ---- the m positions from a and the k that follow
 module _ (P : Positions) (v : Bool) (a m k : ℕ) where
-  -- nothing in the first part: the runs of the second
-  pub runs-second : runs_in P v a m ≡ [] → runs_in P v a (m + k) ≡ runs_in P v (a + m) k
-  runs-second e = runs_in-join P v a m k (inr (λ y q h. runs_in-empty P v a m e y h (omega arith))) ∙ ap (λ rs. rs ++ runs_in P v (a + m) k) e
-
-  -- nothing in the second part: the runs of the first
-  pub runs-first : runs_in P v (a + m) k ≡ [] → 0 < k → runs_in P v a (m + k) ≡ runs_in P v a m
-  runs-first e h =
-      runs_in-join P v a m k (inl (runs_in-empty P v (a + m) k e (a + m) (omega arith) (omega arith))) ∙ ap (λ rs. runs_in P v a m ++ rs) e
-      ∙ append-nil (runs_in P v a m)
-
-  -- the first run of the first part, which does not go on
-  pub first_ends : (r : Run) → IsFirst P v a m r → (suc r.«end» < a + m) ⊎ (P (a + m) ≡ not v) → first_run (runs_in P v a (m + k)) ≡ Some r
-  first_ends r f stop =
-      first_run-is P v a (m + k) r.start r.«end» f.is.from f.is.ordered (omega (arith, f.is.past)) f.under f.is.same
-      (λ h. go stop (split (suc r.«end») (a + m)))
-    where
-      go : (suc r.«end» < a + m) ⊎ (P (a + m) ≡ not v) → (suc r.«end» < a + m) ⊎ (a + m ≤ suc r.«end») → P (suc r.«end») ≡ not v
-      go s (inl h) = f.is.after h
-      go (inl s) (inr h) = absurd (omega arith)
-      go (inr s) (inr h) = ap P (omega (arith, f.is.past)) ∙ s
-
-  -- the first run of the first part, which goes on into the second
-  pub first-goes-on : (r q : Run) → IsFirst P v a m r → suc r.«end» ≡ a + m → IsRun P v (a + m) k q → q.start ≡ a + m
-      → first_run (runs_in P v a (m + k)) ≡ Some (run r.start q.«end»)
-  first-goes-on r q f e g d =
-      first_run-is P v a (m + k) r.start q.«end» f.is.from (omega (arith, f.is.ordered, g.ordered)) (omega (arith, g.past)) f.under
-      (λ y h l. joined y h l (split r.«end» y)) (λ h. g.after (omega arith))
-    where
-      joined : (y : ℕ) → r.start ≤ y → y ≤ q.«end» → (r.«end» < y) ⊎ (y ≤ r.«end») → P y ≡ v
-      joined y h l (inl s) = g.same y (omega arith) l
-      joined y h l (inr s) = f.is.same y h s
-
   -- the last run of the second part, which has not gone on from the first
   pub last-starts : (q : Run) → IsLast P v (a + m) k q → (a + m < q.start) ⊎ ((y : ℕ) → a ≤ y → suc y ≡ a + m → P y ≡ not v)
       → last_run (runs_in P v a (m + k)) ≡ Some q
@@ -184,17 +118,6 @@ module _ (P : Positions) (v : Bool) (a m k : ℕ) where
       go y h e s (inr l) = g.is.before y l e
       go y h e (inl s) (inl l) = absurd (omega arith)
       go y h e (inr s) (inl l) = s y h (omega (arith, g.is.from))
-
-  -- the last run of the second part, which has gone on from the first
-  pub last-goes-back : (r q : Run) → IsRun P v a m r → suc r.«end» ≡ a + m → IsLast P v (a + m) k q → q.start ≡ a + m
-      → last_run (runs_in P v a (m + k)) ≡ Some (run r.start q.«end»)
-  last-goes-back r q f e g d =
-      last_run-is P v a (m + k) r.start q.«end» f.from (omega (arith, f.ordered, g.is.ordered)) (omega (arith, g.is.past))
-      (λ y h l. g.over y h (omega arith)) (λ y h l. joined y h l (split r.«end» y)) (λ y h l. f.before y h l)
-    where
-      joined : (y : ℕ) → r.start ≤ y → y ≤ q.«end» → (r.«end» < y) ⊎ (y ≤ r.«end») → P y ≡ v
-      joined y h l (inl s) = g.is.same y (omega arith) l
-      joined y h l (inr s) = f.same y h s
 
 -- ---- find
 -- what is found is the start of a first run
@@ -246,19 +169,6 @@ select-some P v a n j h =
     (d.0, select-runs P v a n j ∙ d.1)
 
 module _ (P : Positions) (v : Bool) (a m k : ℕ) where
-  -- found in the first part
-  pub find_first : (x : ℕ) → find P v a m ≡ Some x → find P v a (m + k) ≡ Some x
-  find_first x e =
-      let f : FoundIn P v a m x = find-only P v a m x e in
-      find-is P v a (m + k) x f.from (omega (arith, f.past)) f.has f.under
-
-  -- found in the second part, or not at all
-  pub find-second : find P v a m ≡ None → find P v a (m + k) ≡ find P v (a + m) k
-  find-second e =
-      find_runs P v a (m + k)
-      ∙ ap (λ rs. start_of (first_run rs)) (runs-second P v a m k (no-first (runs_in P v a m) (start_none (first_run (runs_in P v a m)) (sym (find_runs P v a m) ∙ e))))
-      ∙ sym (find_runs P v (a + m) k)
-
   -- selected in the first part
   pub select-first : (j : ℕ) → j < count P v a m → select P v a (m + k) j ≡ select P v a m j
   select-first j h =
