@@ -6,9 +6,9 @@ use Rattle.std.proofs.Common.{subst, ap₂, inl, inr, arith}
 use mathlib.Core.Bool.{beq}
 use Rattle.model.specs.declared.Run.{Run}
 use Rattle.model.proofs.Numbers.{split}
-use Rattle.model.specs.Positions.{Positions, inside, count, find, select, runs_in, first_run, last_run, mem}
+use Rattle.model.specs.Positions.{Positions, inside, count, find, select, runs_in, first_run, mem}
 use Rattle.model.proofs.Counting.{inside-yes, inside-below, inside-above, among-yes, count_cut, beq-is}
-use Rattle.model.proofs.Runs.{runs_in-canon, runs_in-mem, mem-append, last_run-is}
+use Rattle.model.proofs.Runs.{runs_in-canon, runs_in-mem, mem-append}
 use Rattle.model.proofs.Finds.{find_runs, count_runs, select-runs, select-is, select-none, select-only, Selected, select_runs, select_runs-in, select_runs-past, start_of}
 use Rattle.model.specs.RunList.{Canon}
 use Rattle.model.proofs.RunList.{mem_below, mem-past, widths}
@@ -35,11 +35,6 @@ pub record IsRun (P : Positions) (v : Bool) (a n : ℕ) (r : Run) : Type 0 where
 pub record IsFirst (P : Positions) (v : Bool) (a n : ℕ) (r : Run) : Type 0 where
   pub is : IsRun P v a n r
   pub under : (y : ℕ) → a ≤ y → y < r.start → P y ≡ not v
-
--- the last of them
-pub record IsLast (P : Positions) (v : Bool) (a n : ℕ) (r : Run) : Type 0 where
-  pub is : IsRun P v a n r
-  pub over : (y : ℕ) → r.«end» < y → y < a + n → P y ≡ not v
 
 -- a run of the list, with what precedes it and what follows it
 module _ (P : Positions) (v : Bool) (a n : ℕ) (xs : List Run) (r : Run) (ys : List Run) (e : runs_in P v a n ≡ xs ++ (r ∷ ys)) where
@@ -92,32 +87,11 @@ first-parts : (rs : List Run) (r : Run) → first_run rs ≡ Some r → (ys : Li
 first-parts [] r e = absurd (cc)
 first-parts (q ∷ rs) r e = (rs, cc)
 
--- a list by its last run
-last-parts : (rs : List Run) (r : Run) → last_run rs ≡ Some r → (xs : List Run) × (rs ≡ xs ++ (r ∷ []))
-last-parts [] r e = absurd (cc)
-last-parts (q ∷ []) r e = ([], cc)
-last-parts (q ∷ (p ∷ rs)) r e = let d = last-parts (p ∷ rs) r e in (q ∷ d.0, ap (λ t. q ∷ t) d.1)
-
 -- what a first run is
 pub first_run-only : (P : Positions) (v : Bool) (a n : ℕ) (r : Run) → first_run (runs_in P v a n) ≡ Some r → IsFirst P v a n r
 first_run-only P v a n r e =
     let d = first-parts (runs_in P v a n) r e in
     record { is = a-run P v a n [] r d.0 d.1; under = λ y h l. under-run P v a n [] r d.0 d.1 y h l (empty-mem y) }
-
--- ---- the m positions from a and the k that follow
-module _ (P : Positions) (v : Bool) (a m k : ℕ) where
-  -- the last run of the second part, which has not gone on from the first
-  pub last-starts : (q : Run) → IsLast P v (a + m) k q → (a + m < q.start) ⊎ ((y : ℕ) → a ≤ y → suc y ≡ a + m → P y ≡ not v)
-      → last_run (runs_in P v a (m + k)) ≡ Some q
-  last-starts q g stop =
-      last_run-is P v a (m + k) q.start q.«end» (omega (arith, g.is.from)) g.is.ordered (omega (arith, g.is.past)) (λ y h l. g.over y h (omega arith))
-      g.is.same (λ y h e. go y h e stop (split y (a + m)))
-    where
-      go : (y : ℕ) → a ≤ y → suc y ≡ q.start → (a + m < q.start) ⊎ ((y : ℕ) → a ≤ y → suc y ≡ a + m → P y ≡ not v)
-          → (y < a + m) ⊎ (a + m ≤ y) → P y ≡ not v
-      go y h e s (inr l) = g.is.before y l e
-      go y h e (inl s) (inl l) = absurd (omega arith)
-      go y h e (inr s) (inl l) = s y h (omega (arith, g.is.from))
 
 -- ---- find
 -- what is found is the start of a first run
