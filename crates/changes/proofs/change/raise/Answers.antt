@@ -1,6 +1,6 @@
 -- `raise` meets its contract: the first run that holds or touches a position from s to e holds all, or grows to both sides; where there is
 -- none, a new one comes. Assumes nothing.
-use Rattle.changes.proofs.Raising.{touched, touched-stays, touched-changeable, touched-grown, alone-addable, alone-added}
+use Rattle.changes.proofs.Raising.{touched, touched-stays, touched-absorbable, touched-changeable, touched-grown, alone-addable, alone-added}
 use Rattle.changes.proofs.change.raise.Goals as goal
 
 pub add_run-requires : goal.add_run-requires
