@@ -1,13 +1,13 @@
 // Reading a map into a world, stretch by stretch. What it would leave is counted before the first write. A stretch passes whole words where
 // `WIDE` is true, and bytes and bits alone where it is not: the form by single bytes.
-ghost use Rattle.std.specs.Prelude.{◌≡◌, ◌+◌, ◌-◌, ◌*◌, ◌<◌, ◌≤◌, true, length, nat_le};
-ghost use Rattle.model.specs.Positions.{stretches, run_count};
+ghost use Rattle.std.specs.Prelude.{◌≡◌, ◌+◌, ◌-◌, ◌*◌, ◌<◌, true, length, nat_le};
+ghost use Rattle.model.specs.Positions.{stretches};
 ghost use Rattle.model.specs.Bytes.{map_bit, mapped};
 ghost use Rattle.store.specs.Layout.{held, held_in};
 ghost use Rattle.store.specs.Soundness.{Editable};
 ghost use Rattle.reports.specs.Reports.{StretchEnd};
 ghost use Rattle.changes.specs.Edits.{Makes, Edited};
-ghost use Rattle.maps.specs.Window.{Window, Whole, Surveyed, MayMap};
+ghost use Rattle.maps.specs.Window.{Whole, Surveyed, MayMap};
 
 use crate::span::Map;
 use crate::word::whole_word;
@@ -85,10 +85,10 @@ fn survey_map<const WIDE: bool>(set: &Set<'_>, map: &Map) -> Survey
     Survey { runs, changed }
 }
 
-// Whether a map that has so many runs leaves at most as many runs as the limit.
-fn map_fits(words: &[u64], h: World, limit: u64, map: &Map, runs: u64) -> bool
+// Whether a map that was surveyed leaves at most as many runs as the limit.
+fn map_fits(words: &[u64], h: World, limit: u64, map: &Map, s: Survey) -> bool
     requires editable { Editable words.now h limit }
-    requires runs_value { runs ≡ run_count (mapped map.now.span.base map.now.span.n map.now.bytes.now (held_in words.now h)) true map.now.span.base map.now.span.n }
+    requires surveyed { Surveyed (held_in words.now h) map.now.span.base map.now.span.n map.now.bytes.now s }
     ensures { result ≡ nat_le (stretches (mapped map.now.span.base map.now.span.n map.now.bytes.now (held_in words.now h))) limit }
 {
     let last = map.span.n - 1;
@@ -98,7 +98,7 @@ fn map_fits(words: &[u64], h: World, limit: u64, map: &Map, runs: u64) -> bool
     // a run of the map that ends with the window is one with the run of the neighbour there
     let before = bit(map.bytes, 0) && changes::edit::held_before(&set, window.first);
     let after = bit(map.bytes, last) && changes::edit::held_after(&set, window.last);
-    outside + runs <= limit + u64::from(before) + u64::from(after)
+    outside + s.runs <= limit + u64::from(before) + u64::from(after)
 }
 
 // Gives the window the map's values, where what it leaves fits. A map of one value is one set; else the window is cleared first, and
@@ -143,7 +143,7 @@ pub fn read_map<const WIDE: bool>(
     if s.changed == 0 {
         return Some(Edit { world: h, changed });
     }
-    if !map_fits(words, h, limit, map, s.runs) {
+    if !map_fits(words, h, limit, map, s) {
         return None;
     }
     let world = apply_map::<WIDE>(words, h, map);

@@ -49,7 +49,7 @@ overflow_add-result c =
     omega (
       arith,
       outside-few (around (goal.at.overflow_add-result c).After-around-outside) (omega arith) (omega (arith, m.fits.some, m.fits.within)) c.requires.editable.1 refl,
-      c.requires.runs_value,
+      c.requires.surveyed.runs-are,
       ranges-most (mapped m.span.base m.span.n m.bytes.now (held_in c.args.words.now c.args.h)) true m.span.base m.span.n,
       m.fits.few,
     )
@@ -64,4 +64,4 @@ overflow_add-result-3 c =
 pub returns : goal.returns
 returns c =
     let at = (goal.at.returns c).After-from-2 in
-    map-fits-is {P = held_in c.args.words.now c.args.h} c.args.limit c.args.map.now.fits (around (goal.at.returns c).After-around-outside) c.requires.runs_value (low at) (high at)
+    map-fits-is {P = held_in c.args.words.now c.args.h} c.args.limit c.args.map.now.fits (around (goal.at.returns c).After-around-outside) c.requires.surveyed.runs-are (low at) (high at)

@@ -16,8 +16,8 @@ surveyed c =
 pub returns-then-s-eq0 : goal.returns-then-s-eq0
 returns-then-s-eq0 g c = nothing-changed _ c.requires.editable (surveyed (goal.at.returns-then-s-eq0 g c).After-survey_map-s).changed-are c.if-s-eq0.true
 
-pub map_fits-requires : goal.map_fits-requires
-map_fits-requires g c = record { editable = c.requires.editable; runs_value = (surveyed (goal.at.map_fits-requires g c).After-survey_map-s).runs-are }
+pub map_fits-requires-clause-surveyed : goal.map_fits-requires-clause-surveyed
+map_fits-requires-clause-surveyed g c = surveyed (goal.at.map_fits-requires-clause-surveyed g c).After-survey_map-s
 
 pub returns : goal.returns
 returns g c =
