@@ -46,7 +46,7 @@ impl Show for u64 {
 
 impl Show for Count {
     fn show<P: Print>(&self, rt: &P) -> io::Result<()> {
-        let number = u128::from(self.carry) * (1 << 64) + u128::from(self.low);
+        let number = u128::from(*self);
         print!(rt; " {number}")
     }
 }

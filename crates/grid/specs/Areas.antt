@@ -3,7 +3,7 @@ use Rattle.std.specs.Prelude.{◌≡◌, ℕ, true, false, Option, None, Some}
 use Rattle.model.specs.declared.Rect.{Rect}
 use Rattle.model.specs.Refusals.{bad_rect, bad_square}
 use Rattle.grid.specs.declared.rows.Area.{Area}
-use Rattle.grid.specs.declared.block.Square.{Square}
+use Rattle.grid.specs.declared.tile.Square.{Square}
 
 -- the rectangle q, if it is one of the plane
 abbrev pub AreaOf : Rect → Option Area → Type 0

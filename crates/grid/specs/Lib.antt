@@ -1,4 +1,4 @@
 pub mod Surveys
-pub mod Blocks
+pub mod Tiles
 pub mod Rows
 pub mod Areas

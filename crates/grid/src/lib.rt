@@ -1,7 +1,7 @@
 // Cells of a grid: 65,536 rows of 65,536 columns, each row a stretch of positions.
 #![tactic(auto)]
 
-pub mod block;
+pub mod tile;
 pub mod rows;
 pub mod survey;
 

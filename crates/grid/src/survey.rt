@@ -3,10 +3,10 @@ ghost use Rattle.std.specs.Prelude.{◌≡◌, ◌+◌, ◌^◌, ◌≤◌, ◌<
 ghost use Rattle.store.specs.Layout.{held};
 ghost use Rattle.model.specs.Grid.{cell, one_valued, piece, survey};
 ghost use Rattle.grid.specs.Surveys.{Listed, Surveyed};
-ghost use Rattle.grid.specs.Blocks.{pieces, Halves};
+ghost use Rattle.grid.specs.Tiles.{pieces, Halves};
 
 use crate::ROW;
-use crate::block::{Block, Corner, Square};
+use crate::tile::{Tile, Corner, Square};
 use model::Logical;
 use store::Set;
 
@@ -21,7 +21,7 @@ fn value_at(set: &Set<'_>, at: Corner) -> bool
 
 // Whether all cells have one value: in each row the next position of the other value is beyond it. Rows before that position are passed at
 // once.
-fn one_valued(set: &Set<'_>, b: Block) -> bool
+fn one_valued(set: &Set<'_>, b: Tile) -> bool
     ensures { result ≡ one_valued (held set.now) b.corner.row b.corner.column (2 ^ b.i) (2 ^ b.j) }
 {
     let value = value_at(set, b.corner);
@@ -41,31 +41,31 @@ fn one_valued(set: &Set<'_>, b: Block) -> bool
     true
 }
 
-// The halves of a block that is no single cell: the left one and the right one of a square, else the upper one and the lower one.
+// The halves of a tile that is no single cell: the left one and the right one of a square, else the upper one and the lower one.
 #[tactic(auto, using(crate::proofs::Halving::two_halves, crate::proofs::Halving::two_squares))]
-fn halves(b: Block) -> (Block, Block)
+fn halves(b: Tile) -> (Tile, Tile)
     requires { 1 ≤ b.i }
     ensures { Halves b result.0 result.1 }
 {
-    let Block { corner, i, j } = b;
+    let Tile { corner, i, j } = b;
     if i == j {
         let j = j - 1;
-        let left = Block { corner, i, j };
+        let left = Tile { corner, i, j };
         let column = corner.column + left.columns();
         let corner = Corner { column, ..corner };
-        return (left, Block { corner, i, j });
+        return (left, Tile { corner, i, j });
     }
     let i = i - 1;
-    let upper = Block { corner, i, j };
+    let upper = Tile { corner, i, j };
     let row = corner.row + upper.rows();
     let corner = Corner { row, ..corner };
-    (upper, Block { corner, i, j })
+    (upper, Tile { corner, i, j })
 }
 
 // A piece goes to a slice from `at` on, where that has room: its first row and column, its rows and columns, and its value. Returns where the
 // next one goes.
 #[tactic(auto, using(crate::proofs::Pieces::piece_listed))]
-fn put_piece(out: &mut [u64], at: usize, b: Block, value: bool) -> usize
+fn put_piece(out: &mut [u64], at: usize, b: Tile, value: bool) -> usize
     requires { at + 5 < 2 ^ 64 }
     ensures { Listed (piece b.corner.row b.corner.column (2 ^ b.i) (2 ^ b.j) value) at result out.old out.new }
 {
@@ -82,9 +82,9 @@ fn put_piece(out: &mut [u64], at: usize, b: Block, value: bool) -> usize
     next
 }
 
-// The pieces of a block go to a slice from `at` on, where that has room: the block itself, if it has one value, else those of its halves.
+// The pieces of a tile go to a slice from `at` on, where that has room: the tile itself, if it has one value, else those of its halves.
 // Returns where the next ones go.
-fn put_pieces(set: &Set<'_>, b: Block, out: &mut [u64], at: usize) -> usize
+fn put_pieces(set: &Set<'_>, b: Tile, out: &mut [u64], at: usize) -> usize
     requires { at + length (pieces (held set.now) b) < 2 ^ 64 }
     ensures { Listed (pieces (held set.now) b) at result out.old out.new }
 {
@@ -101,7 +101,7 @@ fn put_pieces(set: &Set<'_>, b: Block, out: &mut [u64], at: usize) -> usize
 pub fn due(set: &Set<'_>, square: Square) -> usize
     ensures { result ≡ length (survey (held set.now) square.k square.corner.row square.corner.column) }
 {
-    put_pieces(set, square.block(), &mut [], 0)
+    put_pieces(set, square.tile(), &mut [], 0)
 }
 
 // The survey goes to the front of a slice.
@@ -109,5 +109,5 @@ pub fn put(set: &Set<'_>, square: Square, out: &mut [u64]) -> usize
     requires { length (survey (held set.now) square.k square.corner.row square.corner.column) ≤ length out.old }
     ensures { Surveyed (survey (held set.now) square.k square.corner.row square.corner.column) result out.old out.new }
 {
-    put_pieces(set, square.block(), out, 0)
+    put_pieces(set, square.tile(), out, 0)
 }

@@ -51,19 +51,13 @@ fn put_run(text: &mut String, run: Run) -> Result<(), AllocError>
     put_number(text, u128::from(run.end), "\n")
 }
 
-fn positions(count: Count) -> u128
-    ensures { result ≡ worth count }
-{
-    u128::from(count.carry) * (1 << 64) + u128::from(count.low)
-}
-
 fn put_counts(text: &mut String, runs: u64, ones: Count) -> Result<(), AllocError>
     requires { worth ones ≤ 2 ^ 64 }
     ensures { Puts text.old (count_lines runs (worth ones)) text.new result }
 {
     put(text, "runs ")?;
     put_number(text, u128::from(runs), "\nones ")?;
-    put_number(text, positions(ones), "\n")
+    put_number(text, u128::from(ones), "\n")
 }
 
 fn put_refused(text: &mut String, refusal: Refusal) -> Result<(), AllocError>

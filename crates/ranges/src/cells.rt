@@ -5,7 +5,7 @@ ghost use Rattle.grid.specs.Areas.{AreaOf, SquareOf};
 ghost use Rattle.promises.specs.Met.{Readable, Met};
 ghost use Rattle.promises.specs.Out.{WritesOut};
 
-use grid::block::{Corner, Square};
+use grid::tile::{Corner, Square};
 use grid::rows::Area;
 use model::{Count, Rect, Refusal};
 

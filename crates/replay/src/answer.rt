@@ -121,11 +121,7 @@ struct Positions(Count);
 
 impl fmt::Display for Positions {
     fn fmt<W: fmt::Write>(&self, f: &mut fmt::Formatter<W>) -> fmt::Result {
-        write!(
-            f,
-            "{}",
-            u128::from(self.0.carry) << 64 | u128::from(self.0.low)
-        )
+        write!(f, "{}", u128::from(self.0))
     }
 }
 

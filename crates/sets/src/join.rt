@@ -7,6 +7,7 @@ ghost use Rattle.streams.specs.Gathering.{Sources, joined};
 ghost use Rattle.promises.specs.Met.{site, Readable, Met};
 ghost use Rattle.promises.specs.Joined.{Carried, ViewOf};
 
+use model::between::Interval;
 use model::{Logical, Operation, Refusal};
 use streams::gather::Feed;
 use streams::source::View;
@@ -77,12 +78,16 @@ pub fn not(words: &mut [u64], world: u64, a: &[u64], i: u64) -> Result<(), Refus
     ensures { Met words.old world (Call.complement (site a.now i)) (completed_answer result) words.new }
 {
     let x = view(a, i);
+    let all = Interval {
+        first: Logical(0),
+        last: Logical(u64::MAX),
+    };
     gathered(
         words,
         world,
         Operation::Xor,
         Feed::Held(&a[128..], x),
-        Feed::Only(Logical(0), Logical(u64::MAX)),
+        Feed::Only(all),
     )
 }
 
@@ -105,25 +110,32 @@ pub fn shifted(
             offset: x.offset.wrapping_add(distance),
             ..x
         };
+        let kept = Interval {
+            first: Logical(distance),
+            last: Logical(u64::MAX),
+        };
         return gathered(
             words,
             world,
             Operation::And,
             Feed::Held(&a[128..], up),
-            Feed::Only(Logical(distance), Logical(u64::MAX)),
+            Feed::Only(kept),
         );
     }
     let down = View {
         offset: x.offset.wrapping_sub(distance),
         ..x
     };
-    let top = u64::MAX - distance;
+    let kept = Interval {
+        first: Logical(0),
+        last: Logical(u64::MAX - distance),
+    };
     gathered(
         words,
         world,
         Operation::And,
         Feed::Held(&a[128..], down),
-        Feed::Only(Logical(0), Logical(top)),
+        Feed::Only(kept),
     )
 }
 

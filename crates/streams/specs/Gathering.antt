@@ -1,5 +1,5 @@
 -- What joining two feeds into a world asks and promises. Assumes nothing: these are definitions.
-use Rattle.std.specs.Prelude.{ℕ, ◌≤◌, ◌≡◌, List, [], ◌∷◌, length}
+use Rattle.std.specs.Prelude.{ℕ, ◌≤◌, ◌≡◌, ⊤, List, [], ◌∷◌, length}
 use Rattle.model.specs.declared.Operation.{Operation}
 use Rattle.model.specs.Positions.{Positions, run, mem, combined, held_runs, stretches}
 use Rattle.run_index.specs.Strung.{FreeChain, Filled}
@@ -13,12 +13,12 @@ use Rattle.streams.specs.Reading.{Rooted}
 -- the positions that a feed gives
 abbrev pub fed_by : Feed → Positions
 fed_by (Feed.Held w v) = held_from w.now v.root v.offset
-fed_by (Feed.Only a b) = mem (run a.0 b.0 ∷ [])
+fed_by (Feed.Only r) = mem (run r.first.0 r.last.0 ∷ [])
 
--- it can be read: there is a tree at its root, or its run does not end before it starts
+-- it can be read: there is a tree at its root, or it is one run
 abbrev pub Fed : Feed → Type 0
 Fed (Feed.Held w v) = Rooted w.now v.root
-Fed (Feed.Only a b) = a.0 ≤ b.0
+Fed (Feed.Only r) = ⊤
 
 -- both can
 pub record Sources (x y : Feed) : Type 0 where

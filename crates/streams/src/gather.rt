@@ -6,6 +6,7 @@ ghost use Rattle.streams.specs.Gathering.{fed_by, Fed, Sources, joined, Fillable
 
 use crate::source::View;
 use crate::sweep::{Cursor, Joint};
+use model::between::Interval;
 use model::{Logical, Operation};
 use store::World;
 
@@ -13,7 +14,7 @@ use store::World;
 #[derive(Clone, Copy)]
 pub enum Feed<'a> {
     Held(&'a [u64], View),
-    Only(Logical, Logical),
+    Only(Interval),
 }
 
 impl<'a> Feed<'a> {
@@ -24,7 +25,7 @@ impl<'a> Feed<'a> {
     {
         match self {
             Feed::Held(words, view) => Cursor::open(words, view, Logical(0)),
-            Feed::Only(start, end) => Cursor::alone(start, end),
+            Feed::Only(r) => Cursor::alone(r),
         }
     }
 }

@@ -6,6 +6,7 @@ ghost use Rattle.streams.specs.Reading.{Rooted, Draws};
 ghost use Rattle.streams.specs.Sweeping.{Points, Covers, ValueAt, SameTo, Movable, Moves, Both, Reaches, Joins};
 
 use crate::source::{Reader, View, after};
+use model::between::Interval;
 use model::{Logical, Operation, Run};
 
 // A reading with a run at hand: the one at the position where it stands, or the next one. After it comes what the reader has, if there is one.
@@ -30,14 +31,13 @@ impl<'a> Cursor<'a> {
     }
 
     // One run alone, which no tree is needed for.
-    pub fn alone(start: Logical, end: Logical) -> Cursor<'a>
-        requires { start.0 ≤ «end».0 }
-        ensures { Covers result start.0 «end».0 }
+    pub fn alone(r: Interval) -> Cursor<'a>
+        ensures { Covers result r.first.0 r.last.0 }
     {
         Cursor {
             run: Some(Run {
-                start: start.0,
-                end: end.0,
+                start: r.first.0,
+                end: r.last.0,
             }),
             rest: None,
         }

@@ -22,5 +22,5 @@ returns-in_err-put_number c =
 pub returns : goal.returns
 unfolding count_lines
 returns c =
-    same_text (rw (c.from.ensures, c.positions.ensures) (simp append_assoc))
+    same_text (rw (c.from.ensures, c.from-2.ensures) (simp append_assoc))
     (and_then c.in_ok-put.ensures (and_then c.in_ok-put_number.ensures c.put_number-2.ensures))

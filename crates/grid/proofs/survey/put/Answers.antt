@@ -3,16 +3,16 @@ use Rattle.std.proofs.Common.{length, ap, ◌∙◌, subst, arith}
 use Rattle.written.proofs.Placing.{placed-front}
 use Rattle.store.specs.Layout.{held}
 use Rattle.grid.specs.Surveys.{Listed}
-use Rattle.grid.proofs.Halving.{survey-few, block-pieces}
+use Rattle.grid.proofs.Halving.{survey-few, tile-pieces}
 use Rattle.grid.proofs.survey.put.Goals as goal
 
 pub put_pieces-requires : goal.put_pieces-requires
 put_pieces-requires c =
     let P = held c.args.set.now in
     let s = c.args.square in
-    omega (arith, ap length (block-pieces P c.block.result c.block.ensures), survey-few P s.k s.corner.row s.corner.column s.small)
+    omega (arith, ap length (tile-pieces P c.tile.result c.tile.ensures), survey-few P s.k s.corner.row s.corner.column s.small)
 
 pub returns : goal.returns
 returns c =
-    let l = subst (λ ps. Listed ps 0 c.put_pieces.result c.args.out.now c.put_pieces.new.out) (block-pieces (held c.args.set.now) c.block.result c.block.ensures) c.put_pieces.ensures in
+    let l = subst (λ ps. Listed ps 0 c.put_pieces.result c.args.out.now c.put_pieces.new.out) (tile-pieces (held c.args.set.now) c.tile.result c.tile.ensures) c.put_pieces.ensures in
     record { words = omega (arith, l.next); slice = l.slice (omega (arith, l.next, c.requires)) ∙ placed-front _ _ }

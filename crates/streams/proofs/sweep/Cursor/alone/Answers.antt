@@ -4,4 +4,4 @@ use Rattle.streams.proofs.Sweeps.{one-run}
 use Rattle.streams.proofs.sweep.Cursor.alone.Goals as goal
 
 pub returns : goal.returns
-returns c = one-run _ _ c.requires (omega (arith, c.well_formed))
+returns c = one-run _ _ c.args.r.ordered (omega (arith, c.well_formed))

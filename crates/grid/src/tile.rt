@@ -1,8 +1,8 @@
-// Blocks of a grid, as halving leaves them of a square.
+// Tiles of a grid, as halving leaves them of a square.
 ghost use Rattle.std.specs.Prelude.{◌≡◌, ◌^◌, ◌≤◌};
 ghost use Rattle.grid.specs.Surveys.{OnGrid, Halved};
 
-// A cell, as the first one of a block.
+// A cell, as the first one of a tile.
 #[derive(Clone, Copy)]
 pub struct Corner {
     pub row: u64,
@@ -11,7 +11,7 @@ pub struct Corner {
 
 // 2^i rows of 2^j columns, from a corner on: a square, or the half of one, twice as high as it is wide.
 #[derive(Clone, Copy)]
-pub struct Block {
+pub struct Tile {
     pub corner: Corner,
     pub i: u64,
     pub j: u64,
@@ -28,11 +28,11 @@ pub struct Square {
 }
 
 impl Square {
-    // The same as a block.
-    pub fn block(self) -> Block
+    // The same as a tile.
+    pub fn tile(self) -> Tile
         ensures { (result.corner ≡ self.corner) × (result.i ≡ self.k) × (result.j ≡ self.k) }
     {
-        Block {
+        Tile {
             corner: self.corner,
             i: self.k,
             j: self.k,
@@ -40,7 +40,7 @@ impl Square {
     }
 }
 
-impl Block {
+impl Tile {
     // How many rows it has.
     pub fn rows(self) -> u64
         ensures { result ≡ 2 ^ self.i }
