@@ -52,7 +52,8 @@ fn touching(runs: &Runs<'_>, s: Physical, e: Physical) -> Option<Run>
 {
     match runs.at_or_before(s.0) {
         Some(r) if reaches(Physical(r.end), s) => Some(r),
-        _ => runs.at_or_after(s.0)
+        _ => runs
+            .at_or_after(s.0)
             .filter(|r| reaches(e, Physical(r.start))),
     }
 }

@@ -154,13 +154,7 @@ pub fn outcome(h: World, world: World, value: bool) -> Edit
 }
 
 // Gives r the value, and returns how many positions changed, or None where too many runs would be left.
-pub fn set(
-    words: &mut [u64],
-    h: World,
-    limit: u64,
-    r: Interval,
-    value: bool,
-) -> Option<Edit>
+pub fn set(words: &mut [u64], h: World, limit: u64, r: Interval, value: bool) -> Option<Edit>
     requires { Editable words.old h limit }
     ensures { Edited words.old words.new h limit (set_range r.first.0 (many r) value (held_in words.old h)) result × GrowsBy words.old words.new h r.first.0 r.last.0 value result }
 {

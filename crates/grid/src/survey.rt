@@ -6,7 +6,7 @@ ghost use Rattle.grid.specs.Surveys.{Listed, Surveyed};
 ghost use Rattle.grid.specs.Tiles.{pieces, Halves};
 
 use crate::ROW;
-use crate::tile::{Tile, Corner, Square};
+use crate::tile::{Corner, Square, Tile};
 use model::Logical;
 use store::Set;
 

@@ -5,8 +5,8 @@ ghost use Rattle.grid.specs.Areas.{AreaOf, SquareOf};
 ghost use Rattle.promises.specs.Met.{Readable, Met};
 ghost use Rattle.promises.specs.Out.{WritesOut};
 
-use grid::tile::{Corner, Square};
 use grid::rows::Area;
+use grid::tile::{Corner, Square};
 use model::{Count, Rect, Refusal};
 
 // A rectangle, if it is one of the plane, its first corner not beyond its second.

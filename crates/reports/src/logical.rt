@@ -98,7 +98,11 @@ pub fn previous(set: &Set<'_>, x: Logical, value: bool) -> Option<u64>
         Some(p) if s.0 < zero.0 || zero.0 <= p => Some(
             store::places::to_logical(Physical(p), set.offset).0,
         ),
-        None if s.0 < zero.0 => match crate::physical::previous_physical(&set.runs, Physical(u64::MAX), value) {
+        None if s.0 < zero.0 => match crate::physical::previous_physical(
+            &set.runs,
+            Physical(u64::MAX),
+            value,
+        ) {
             Some(p) if zero.0 <= p => Some(store::places::to_logical(Physical(p), set.offset).0),
             _ => None,
         },

@@ -44,7 +44,9 @@ pub fn first_held(set: &Set<'_>) -> Logical
     if set.offset != 0 {
         return first_turned(set);
     }
-    set.runs.at_or_after(0).map_or(Logical(0), |r| Logical(r.start))
+    set.runs
+        .at_or_after(0)
+        .map_or(Logical(0), |r| Logical(r.start))
 }
 
 // The last logical position held under an offset, 0 if there is none.
@@ -71,7 +73,9 @@ pub fn last_held(set: &Set<'_>) -> Logical
     if set.offset != 0 {
         return last_turned(set);
     }
-    set.runs.at_or_before(u64::MAX).map_or(Logical(0), |r| Logical(r.end))
+    set.runs
+        .at_or_before(u64::MAX)
+        .map_or(Logical(0), |r| Logical(r.end))
 }
 
 // Whether both of two physical positions are held.

@@ -33,10 +33,7 @@ pub fn refresh(words: &[u64], x: Links, offset: u64) -> World
     }
     let v = run_index::read_node(words, root);
     let set = Set {
-        runs: Runs {
-            nodes: words,
-            root,
-        },
+        runs: Runs { nodes: words, root },
         offset,
     };
     let first = crate::bounds::first_held(&set);

@@ -8,8 +8,8 @@ ghost use Rattle.store.specs.Layout.{held_in};
 ghost use Rattle.store.specs.Soundness.{Stands};
 
 use crate::source::{Reader, View};
-use model::between::Interval;
 use model::Logical;
+use model::between::Interval;
 use store::World;
 
 // The start of the lowest gap of n in a range. Wherever the loop stands, at least n positions are left from x to the last one: so what it
