@@ -22,6 +22,7 @@ pub struct View {
 }
 
 // The nodes on the way, and how many there are.
+// An array and its depth: the library has no heap, and no tree is deeper. It has links, since nodes lie in lent words.
 #[derive(Drop)]
 pub struct Path {
     pub nodes: [u64; HIGHEST],
@@ -109,6 +110,7 @@ impl<'a> Reader<'a> {
     }
 
     // The next run.
+    // No Iterator: it asks what is known of the reading (`Reads`), and `Iterator::next` may ask nothing.
     pub fn next(&mut self) -> Option<Run>
         requires { (y : ℕ) × (Q : Positions) × Reads self.old y Q }
         ensures { Draws Reads self.old result self.new }
