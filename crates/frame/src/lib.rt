@@ -121,6 +121,7 @@ fn put(answers: &mut [u64], i: usize, r: Reply)
 }
 
 // Serves the first n records of a list on a pool that is known to be sound.
+// n was told by the caller, who compared the room for the answers with it.
 fn play(words: &mut [u64], calls: &[u64], answers: &mut [u64], n: usize)
     requires { Playable words.old calls.now answers.old n }
     ensures { Plays words.old calls.now answers.old n words.new answers.new }

@@ -1,4 +1,5 @@
 // Making a world of two readings joined. What would be in it is counted before the first word is written.
+// The operation and both feeds are handed on as the call gives them: `sweep::join` alone looks at the operation.
 ghost use Rattle.std.specs.Prelude.{◌≡◌, leb};
 ghost use Rattle.model.specs.Positions.{stretches};
 ghost use Rattle.streams.specs.Sweeping.{Points, Joins};
