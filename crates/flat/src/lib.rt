@@ -28,7 +28,7 @@ pub struct Reply {
 }
 
 // A bound: kind 1 includes the value, 2 excludes it, and any other has no bound.
-// A function of two words, as a frame's record and a list of ranges have them: for a From they would have to be a struct first.
+// A function of two words, as a frame's record and a list of ranges have them: for a From they would have to be a pair first, which does not say which is the kind.
 #[tactic(auto, unfolding(model::specs::Range::bound_by))]
 pub fn bound(kind: u64, value: u64) -> Bound
     ensures { result ≡ bound_by kind value }
@@ -81,7 +81,7 @@ pub trait Gift {
 }
 
 // The answer of a call, flat.
-// No From: what C gets is made of the Reply by `into`, and a second one in the same line would not say what comes between.
+// As a From it would read no shorter (`Reply::from`), and its promise would stand apart from it.
 pub fn lay<T: Gift>(answer: Result<T, Refusal>) -> Reply
     ensures { result ≡ reply_of (answer_by (λ x. gave (T.given x)) answer) }
 {

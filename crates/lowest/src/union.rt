@@ -27,8 +27,6 @@ impl<L: RunList + Copy> Union<L> {
     }
 
     // The next run.
-    // No Iterator: it asks what was drawn until now (`Joining`), and `Iterator::next` may ask nothing. So it is drawn by `while let`, and a number
-    // beside it counts.
     pub fn next(&mut self) -> Option<Group>
         requires { (done : List Group) × Joining (L.runs self.old.places.list) done self.old }
         ensures { (self.new.places.list ≡ self.old.places.list) × Draws (L.runs self.old.places.list) self.old result self.new }

@@ -61,7 +61,7 @@ pub fn fits<'a>(op: Operation, x: Feed<'a>, y: Feed<'a>, limit: u64) -> bool
 }
 
 // Puts the runs of two feeds joined into the first nodes of the free chain from `head` on, in order, and tells how many there are.
-// Not one with `fits`, which writes nothing and stops at the limit. Runs are counted beside the draws (`Joint::next`).
+// Not one with `fits`, which writes nothing and stops at the limit.
 fn fill<'a>(into: &mut [u64], head: u64, op: Operation, x: Feed<'a>, y: Feed<'a>) -> u64
     requires { Fillable into.old head op x y }
     ensures { Fills into.old into.new head result (joined op x.entry y.entry) }

@@ -110,7 +110,6 @@ impl<'a> Reader<'a> {
     }
 
     // The next run.
-    // No Iterator: it asks what is known of the reading (`Reads`), and `Iterator::next` may ask nothing.
     pub fn next(&mut self) -> Option<Run>
         requires { (y : ℕ) × (Q : Positions) × Reads self.old y Q }
         ensures { Draws Reads self.old result self.new }

@@ -86,7 +86,7 @@ impl<'a> Cursor<'a> {
 }
 
 // The values of two sets, joined.
-// The operation is looked at here alone, and handed on as the call gives it: a closure would be a parameter of `Joint` and of all that take one.
+// Document 01 has an enum in the place of `combine`'s closure. It is looked at here alone.
 fn join(op: Operation, p: bool, q: bool) -> bool
     ensures { result ≡ apply op p q }
 {
@@ -123,7 +123,6 @@ impl<'a> Joint<'a> {
     }
 
     // The next run.
-    // No Iterator: it asks what is known of the join (`Joins`), and `Iterator::next` may ask nothing. So it is drawn by `while let`.
     pub fn next(&mut self) -> Option<Run>
         requires { (x : ℕ) × (J : Positions) × Joins self.old x J }
         ensures { Draws Joins self.old result self.new }

@@ -68,7 +68,6 @@ pub fn write_set(words: &[u64], h: World, edition: Edition, out: &mut [u8])
         offset: h.offset,
     };
     let mut held = Reader::open(words, v, Logical(0));
-    // counted beside the draws, since a Reader is no Iterator (`Reader::next`)
     let mut i: u64 = 0;
     while let Some(r) = held.next() {
         put_run(out, edition, n, i, r.start, r.end);
