@@ -28,7 +28,7 @@ pub struct Reply {
 }
 
 // A bound: kind 1 includes the value, 2 excludes it, and any other has no bound.
-// A function of two words, as a frame's record and a list of ranges have them: for a From they would have to be a pair first, which does not say which is the kind.
+// A function of two words, as a frame's record and a list of ranges have them: a pair for a From would not say which of them is the kind.
 #[tactic(auto, unfolding(model::specs::Range::bound_by))]
 pub fn bound(kind: u64, value: u64) -> Bound
     ensures { result ≡ bound_by kind value }
