@@ -18,7 +18,7 @@ from pathlib import Path
 
 # Places that shape cannot tell: a line for each kind of them, with its heading and the names; of point 2 each line is a group.
 BY_HAND = [line for line in Path(__file__).with_name("places.txt").read_text(encoding="utf-8").splitlines() if line and line[0] != "#"]
-PLAIN_FLAGS = {"Listing.value", "Flag.value", "Group.sole", "Rank.held", "Source.last"}  # bool fields that are values of their own
+PLAIN_FLAGS = {"Listing.value", "Change.value", "Flag.value", "Group.sole", "Rank.held", "Source.last"}  # bool fields that are values of their own
 # bools and enums that these take tell a value, and switch no step
 NO_SWITCHES = set("bit bit_of flag alike completed version_of other_edition view_of whole_byte whole_word follows".split())
 KINDS = {"refusal", "kind", "call", "op", "edition", "found"}  # names of numbers that stand for a kind, a refusal or a truth value

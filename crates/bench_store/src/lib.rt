@@ -1,5 +1,6 @@
 // What the benchmarks call. bench/soundness.rs: making a pool of one world, growing it by random sets, and deciding its soundness.
 // host/src/bench/gaps.rs: searching for gaps many times after one soundness check. No part of the library; nothing depends on it.
+// C lends the words anew for each call: so they come as a slice, a range as two numbers, and what holds of them is asked at each step.
 #![tactic(auto)]
 
 ghost use Rattle.std.specs.Prelude.{◌≡◌, ◌≤◌, length};

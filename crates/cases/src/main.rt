@@ -2,6 +2,7 @@
 // for the set of case 15 in edition 2.
 // A run is its start and end with two dots between, both in it. The pools have capacity 13, or 1 where the case says so, and one world, 0,
 // with floor 0 and the capacity as its ceiling.
+// Each case says its own steps with the calls as a caller has them, bounds and slices apart: so it can be read beside the document's.
 #![tactic(auto)]
 
 use interval_bit_set::{bytes, change, join, listing, make, report, write};
@@ -350,6 +351,7 @@ fn case_16_mended(
     println!(rt;)
 }
 
+// Arrays, since each pool has a fixed capacity and each output a fixed length, as with a caller who has no heap.
 fn main(rt: HostRuntime) -> io::Result<()> {
     let mut s = [0u64; 496];
     let mut a = [0u64; 496];

@@ -1,5 +1,6 @@
 // Giving a range of physical positions a value: runs grow, shrink, go and come. Whatever a run only loses or gains at an end changes
 // in place, and no more nodes are used on the way than in the end. Where the tree and the free chain start is handed in and back.
+// Words and links stay apart: an edit breaks what a struct of both would promise, and mends it only when it ends.
 ghost use Rattle.std.specs.Prelude.{true, false, ◌≤◌, MatchOption};
 ghost use Rattle.store.specs.Free.{Sprouts};
 ghost use Rattle.changes.specs.Change.{Settable, Sets, Reaching, Apart, Touching, Absorbable, Absorbs, Clearable, ClearsFrom};
@@ -46,6 +47,7 @@ fn raise(words: &mut [u64], x: Links, s: Physical, e: Physical) -> Links
 }
 
 // The first run that holds or touches a position from s to e.
+// Both ends come as they are: a struct of them would be built for this call and taken apart for the next one.
 fn touching(runs: &Runs<'_>, s: Physical, e: Physical) -> Option<Run>
     requires { s.0 ≤ e.0 }
     ensures { MatchOption result (Apart runs.now s.0 e.0) (Touching runs.now s.0 e.0) }

@@ -1,5 +1,7 @@
 // Changing a world's positions. What a change would leave is counted before the first write: more runs than the world may have, and
 // nothing is touched. The world is handed in and back; its nodes alone are in the words.
+// Words and world stay apart, and what a call asks of both (`Editable`, `Stands`) is one name: a struct of them could not keep that promise while it
+// is changed.
 ghost use Rattle.std.specs.Prelude.{◌≡◌, suc, ◌≤◌, length, nat_le};
 ghost use Rattle.model.specs.Positions.{set_range, flip_range, shift_by, stretches};
 ghost use Rattle.model.specs.Neighbours.{goes_on, held_below, held_above};
@@ -86,6 +88,7 @@ pub fn around(set: &Set<'_>, n: u64, r: Interval) -> Border
 
 // Whether setting r to the value leaves at most as many runs as the limit. A set adds one run at most, and there is at most one
 // logical run more than physical ones: so far from the limit nothing is counted.
+// The value is what the caller of a set asked for: two functions would be chosen by the same test, one call further up.
 pub fn set_fits(words: &[u64], h: World, limit: u64, r: Interval, value: bool) -> bool
     requires { Editable words.now h limit }
     ensures { result ≡ nat_le (stretches (set_range r.first.0 (many r) value (held_in words.now h))) limit }
@@ -142,6 +145,7 @@ pub fn gained(before: World, after: World) -> Count
 
 // What a set to the value made of the world h. It only adds positions, or only frees some, so what the world told before and tells after
 // says how many changed.
+// The value only tells which of the two worlds has fewer positions; callers that chose their order would have the same test.
 pub fn outcome(h: World, world: World, value: bool) -> Edit
     ensures world { result.world ≡ world }
     ensures changed { SetGains h world value result.changed }
@@ -219,6 +223,7 @@ pub fn emptied(words: &mut [u64], h: World) -> World
 }
 
 // The positions that leave 0..=M where all move by d, up (left) or down, and by how much all move up modulo 2^64.
+// No step hangs on `left`: it chooses three numbers, and two functions would leave `shift` the same choice.
 fn leaving(d: u64, left: bool) -> (Interval, u64)
     requires { 1 ≤ d }
     ensures { Leaves d left result.0.first.0 result.0.last.0 result.1 }

@@ -1,5 +1,7 @@
 // What crosses to C: numbers, slices and structs of numbers. A bound is a kind and a value; an answer is the part of a reply that its call
 // gives, and begins with its refusal's number, 0 where the call was not refused.
+// C has numbers for kinds and refusals, and no enum that carries a value; it reads fields by name, so answers of one shape are structs of their own,
+// each with its From.
 ghost use Rattle.std.specs.Prelude.{◌≡◌};
 ghost use Rattle.exports.specs.Structs.{bound_of, count_of, number_of, tallied_of, value_of, run_of, position_of, listed_of, drawn_of, written_of, mended_of, worded_of, rect_of};
 

@@ -1,5 +1,6 @@
 // Every answer laid flat, as numbers: once for the records of a frame and for the structs that cross to C. And what the numbers mean that come
 // in as a bound.
+// C and the records have words alone: so kinds, refusals and whether something was found are numbers here, and enums and Options on the other side.
 #![tactic(auto)]
 
 ghost use Rattle.std.specs.Prelude.{◌≡◌, []};
@@ -27,6 +28,7 @@ pub struct Reply {
 }
 
 // A bound: kind 1 includes the value, 2 excludes it, and any other has no bound.
+// A function of two words, as a frame's record and a list of ranges have them: a pair for a From would not say which of them is the kind.
 #[tactic(auto, unfolding(model::specs::Range::bound_by))]
 pub fn bound(kind: u64, value: u64) -> Bound
     ensures { result ≡ bound_by kind value }
@@ -39,6 +41,7 @@ pub fn bound(kind: u64, value: u64) -> Bound
 }
 
 // A reply of numbers alone, of which the refusal's is one.
+// Its three zeros stand here alone: a Default for Reply would be longer.
 fn numbers(refusal: u64, found: u64, number: u64, end: u64) -> Reply
     ensures { result ≡ numbers_only refusal found number «end» }
 {
@@ -78,6 +81,7 @@ pub trait Gift {
 }
 
 // The answer of a call, flat.
+// As a From it would read no shorter (`Reply::from`), and its promise would stand apart from it.
 pub fn lay<T: Gift>(answer: Result<T, Refusal>) -> Reply
     ensures { result ≡ reply_of (answer_by (λ x. gave (T.given x)) answer) }
 {

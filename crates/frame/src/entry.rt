@@ -31,6 +31,7 @@ pub enum Kind {
 // and run_at, the distance of shift, the base of fill and the first position of a listing; `upto` is the length of fill and the last position
 // of a listing; `value` tells a shift to go left; `k` is also how many positions a gap has. Of a rectangle `lower` and `from` are the row and
 // column of its first corner, `upper` and `upto` those of its last.
+// The call is a number here, as the record has it; `Kind` says what it means.
 #[derive(Clone, Copy)]
 pub struct Entry {
     pub call: u64,
@@ -74,6 +75,7 @@ impl From<u64> for Kind {
 }
 
 // The world that a record asks at. 7 and 9 are withdrawn: a record of one is refused with 12, and not answered as another call.
+// No From: a world's number is one word of a record, and not the whole as a number.
 #[tactic(auto, unfolding(crate::specs::Records::withdrawn))]
 pub fn world_of(e: Entry) -> u64
     ensures { result ≡ world_by e }

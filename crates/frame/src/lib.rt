@@ -1,6 +1,8 @@
 // A frame's calls at once: one look at the pool, then every call of a list on its worlds, in order; refused calls too, each answered by its
 // number.
 // Calls and answers are records of eight words.
+// Words and a world's number stay apart: the world is another one in each record, so a struct of both would be built for one call. What the calls ask
+// of them (`Readable`) is one name.
 #![tactic(auto)]
 
 ghost use Rattle.std.specs.Prelude.{◌≡◌, ◌+◌, ◌*◌, ◌≤◌, length};
@@ -19,6 +21,7 @@ use model::{Listing, Rect, Refusal};
 pub mod entry;
 
 // The record i of a list.
+// By number and not in chunks: the answer goes to the same number of another slice. Word by word, since the fields are the words of a record.
 fn read(calls: &[u64], i: usize) -> Entry
     requires { 8 * i + 8 ≤ length calls.now }
     ensures { result ≡ entry_at calls.now i }
@@ -37,6 +40,7 @@ fn read(calls: &[u64], i: usize) -> Entry
 }
 
 // The rectangle that a record tells.
+// No From: a record is also read as bounds or as a listing, and the name says which is meant.
 fn rect(e: Entry) -> Rect
     ensures { result ≡ rect_by e }
 {
@@ -49,6 +53,7 @@ fn rect(e: Entry) -> Rect
 }
 
 // Serves one call on a world that was opened, of a pool that is known to be sound.
+// A match and no table: each call takes other words of the record, and the arm names them.
 fn serve_world(words: &mut [u64], e: Entry, world: u64) -> Reply
     requires { Readable words.old world }
     ensures { ServesAt words.old world e result words.new }
@@ -99,6 +104,7 @@ fn serve(words: &mut [u64], e: Entry) -> Reply
 }
 
 // Writes a reply as the record i of a list: its fields in their order, and a 0.
+// Word by word, as `read` has it: the fields are the words of a record.
 fn put(answers: &mut [u64], i: usize, r: Reply)
     requires { 8 * i + 8 ≤ length answers.old }
     ensures { answers.new ≡ placed (8 * i) (words_of r) answers.old }
@@ -115,6 +121,7 @@ fn put(answers: &mut [u64], i: usize, r: Reply)
 }
 
 // Serves the first n records of a list on a pool that is known to be sound.
+// n was told by the caller, who compared the room for the answers with it.
 fn play(words: &mut [u64], calls: &[u64], answers: &mut [u64], n: usize)
     requires { Playable words.old calls.now answers.old n }
     ensures { Plays words.old calls.now answers.old n words.new answers.new }

@@ -1,4 +1,5 @@
 // Rectangles of a grid, row by row: each row of one is a range of positions.
+// A rectangle's rows are gone over three times, each time to another end (a sum, two sums and an edit), so only the range of rows is the same.
 ghost use Rattle.std.specs.Prelude.{◌≡◌, ◌+◌, ◌-◌, ◌≤◌, ◌<◌, true, leb};
 ghost use Rattle.model.specs.Positions.{count, stretches};
 ghost use Rattle.model.specs.Range.{many};
@@ -68,6 +69,7 @@ pub fn count(set: &Set<'_>, area: Area) -> u64
 
 // How many runs a row set to the value adds: those that are cut at its ends, and the row itself, if it is to be held.
 // Neither this nor `loss` takes it from `changes::edit::around`, which would count the world's runs anew for each row.
+// Stretch and value are what `loss` and `set_row` take too: a struct of both would be built anew for each row.
 fn gain(set: &Set<'_>, s: Stretch, value: bool) -> u64
     ensures { result ≡ gain value (held set.now) s.cells.first.0 s.cells.last.0 }
 {

@@ -64,6 +64,7 @@ fn halves(b: Tile) -> (Tile, Tile)
 
 // A piece goes to a slice from `at` on, where that has room: its first row and column, its rows and columns, and its value. Returns where the
 // next one goes.
+// `at` may lie beyond the slice, since `due` counts the words with an empty one: so no part of the slice can be handed on instead.
 #[tactic(auto, using(crate::proofs::Pieces::piece_listed))]
 fn put_piece(out: &mut [u64], at: usize, b: Tile, value: bool) -> usize
     requires { at + 5 < 2 ^ 64 }

@@ -1,4 +1,5 @@
 // Reading written sets, run lists and maps into a world; making a map fit to be read, and turning a written set into the other edition.
+// Document 02 (Ticket 4) wants both forms of reading a map, and both are public, so each picks its form here, by a const parameter.
 ghost use Rattle.std.specs.Prelude.{◌≡◌, ◌/◌, length};
 ghost use Rattle.model.specs.Call.{Call};
 ghost use Rattle.model.specs.Answers.{completed_answer, counted_answer, numbered_answer, written_answer};

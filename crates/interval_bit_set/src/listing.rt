@@ -1,4 +1,5 @@
 // The listing in the form that a caller holds: lent beside the pool and moved by each draw. The draws by value do the work.
+// Document 01 names both draws as thin functions: what is alike in them is the line that moves the listing.
 ghost use Rattle.model.specs.Call.{Call};
 ghost use Rattle.interval_bit_set.specs.Lent.{Draws};
 

@@ -115,6 +115,7 @@ pub fn draw_front(words: &[u64], world: u64, l: Listing) -> Result<Drawn, Refusa
 }
 
 // Draws the last run that is left in a listing.
+// The mirror of `draw_front`: a call by itself, as C and the frames have it, and one line over the draw of its name.
 pub fn draw_back(words: &[u64], world: u64, l: Listing) -> Result<Drawn, Refusal>
     ensures { Met words.now world (Call.draw_back l) (drawn_answer result) words.now }
 {

@@ -1,5 +1,6 @@
 // Laws for the batcher (document 02, Ticket 14): the statements stand in specs/, and speak of nothing but what the public calls promise. The
 // functions here play the case that shows why the refusal law cannot be turned round.
+// The case is played once, so what each step asks (`Lent`) is asked again and no type keeps it.
 #![tactic(auto)]
 
 ghost use Rattle.laws.specs.Played.{Lent, MadeNew, MadeOne, Ready, RefusedThenDone};

@@ -36,6 +36,7 @@ fn put(text: &mut String, part: &str) -> Result<(), AllocError>
 }
 
 // A number and what stands after it. A number of positions is at most 2^64, and any word is below that.
+// By functions and not by a format, so that a contract says every byte of the text (`printed`).
 fn put_number(text: &mut String, n: u128, after: &str) -> Result<(), AllocError>
     requires { n ≤ 2 ^ 64 }
     ensures { Puts text.old (decimal n ++ after.now) text.new result }
@@ -68,6 +69,7 @@ fn put_refused(text: &mut String, refusal: Refusal) -> Result<(), AllocError>
 }
 
 // ---- the set: what is reported of world 0 of a sound pool. None of these calls is then refused
+// `Openable` is asked again by each, since each takes the words: a type that keeps it would serve this one pool.
 fn held_tally(words: &[u64]) -> Tally
     requires { Openable words.now 0 }
     ensures { Measured (held_by words.now 0) true 0 size result }
@@ -113,6 +115,7 @@ fn put_set(text: &mut String, words: &[u64]) -> Result<(), AllocError>
 }
 
 // ---- the whole answer to the bytes of an input
+// The pool is an array: its capacity is fixed, and so is how much memory the program asks for.
 fn answer(text: &mut String, bytes: &[u8]) -> Result<(), AllocError>
     ensures { Puts text.old (printed bytes.now) text.new result }
 {

@@ -1,5 +1,7 @@
 // Painting the map of a window: all bits are cleared, then each run of the world sets its own, a word at a time and the rest by bytes. Runs may
 // come in any order, so they are taken as their nodes lie in memory: those that have a height and the world's tag.
+// Bits and words of a map go by numbers: no slice begins at a bit, and a word lies across eight elements. Two ends make no struct, since each
+// function gets others from them.
 ghost use Rattle.std.specs.Prelude.{◌≡◌, ◌+◌, ◌-◌, ◌*◌, ◌/◌, ◌^◌, ◌<◌, ◌≤◌, length};
 ghost use Rattle.model.specs.Bytes.{map_of, map_length};
 ghost use Rattle.store.specs.Layout.{held_in};
@@ -142,6 +144,7 @@ fn paint_run(map: &mut [u8], n: u64, f: u64, l: u64)
 }
 
 // Sets the bits of every run that has the world's tag.
+// `Scannable` is asked from the public call down to here, of words and world: it holds of them as they are lent, and no type keeps both.
 fn paint_nodes(words: &[u64], h: World, span: Span, map: &mut [u8])
     requires n_bound { span.n ≤ 8 * length map.old }
     requires scannable { Scannable words.now h }

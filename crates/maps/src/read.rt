@@ -1,5 +1,7 @@
 // Reading a map into a world, stretch by stretch. What it would leave is counted before the first write. A stretch passes whole words where
 // `WIDE` is true, and bytes and bits alone where it is not: the form by single bytes.
+// `WIDE` is a const parameter of each function on the way, so that no stretch asks for it while it runs.
+// Bits go by numbers, since no slice begins at a bit.
 ghost use Rattle.std.specs.Prelude.{◌≡◌, ◌+◌, ◌-◌, ◌*◌, ◌<◌, true, length, nat_le};
 ghost use Rattle.model.specs.Positions.{stretches};
 ghost use Rattle.model.specs.Bytes.{map_bit, mapped};
@@ -38,6 +40,7 @@ fn whole_byte(bytes: &[u8], i: u64, value: bool) -> bool
 
 // The last of a map's bits that has the value of bit i, all between having it too. It is kept out of its callers, since a compiler that inlines
 // it makes the form by single bytes a quarter slower.
+// A step is a word, a byte or a bit, as the map has it: so the end is no counter of a `for`.
 #[inline(never)]
 fn stretch<const WIDE: bool>(map: &Map, i: u64) -> u64
     requires { i < map.now.span.n }

@@ -1,4 +1,5 @@
 // Eight bytes of a map as a 64-bit word: bit b of the word from byte j on is bit 8j + b of the map. A compiler makes one load or store of it.
+// A word goes by the number of its first byte or bit, as its callers count them: to cut the slice first would be a line more for each.
 ghost use Rattle.std.specs.Prelude.{◌≡◌, ◌+◌, ◌*◌, ◌≤◌, length};
 ghost use Rattle.model.specs.Bytes.{bits, map_bit};
 ghost use Rattle.maps.specs.Painted.{Puts};

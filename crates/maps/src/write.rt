@@ -53,6 +53,7 @@ fn whole_bytes(after: u64, left: u64) -> u64
 
 // Stores the next bytes of a map at j, but not its last one, and tells how many: all those that lie in one stretch, or one byte. From x on
 // `left` positions are to come; the cursor is moved to the stretch of the last one that is stored.
+// `j` and what is left stand beside the slice: its end is where the map ends, and what is stored depends on both.
 fn next_bytes(held: &mut Cursor<'_>, x: u64, left: u64, out: &mut [u8], j: usize) -> u64
     requires { BytesDue held.old x left j out.old }
     ensures { StoresNext held.old x left j out.old out.new result held.new }
@@ -80,6 +81,7 @@ pub fn write_map(words: &[u64], h: World, span: Span, out: &mut [u8])
 }
 
 // The same by single bytes.
+// Not one with `write_map`: that paints runs as they lie in memory, and this goes along the window.
 pub fn write_map_by_bytes(words: &[u64], h: World, span: Span, out: &mut [u8])
     requires stands { Stands words.now h }
     requires n_in_bounds { map_length span.n ≤ length out.old }

@@ -8,6 +8,8 @@ ghost use Rattle.promises.specs.Met.{Readable, Met};
 use model::{Bound, Count, Refusal};
 
 // An empty range or a reversed one changes nothing; another is set where it stands, if the runs it would leave fit.
+// `flip`, `cells::set_rect` and `sets::bytes::read_map` open, change and close as this does: one function for that would take the change as a
+// closure, and its promise in a contract that is longer than the four lines.
 pub fn set(
     words: &mut [u64],
     world: u64,
@@ -48,6 +50,7 @@ pub fn flip(words: &mut [u64], world: u64, lower: Bound, upper: Bound) -> Result
 }
 
 // A reversed range is refused; any other is set as `set` does.
+// The test that this shares with `flip_strict` and `report::tally_strict` is `model::is_reversed`; what follows answers another kind of thing.
 pub fn set_strict(
     words: &mut [u64],
     world: u64,

@@ -1,4 +1,5 @@
 // The calls that report, and leave the pool as it is.
+// What the calls have alike is `model::within`: where a range has no position each answers something else, and what follows is one line.
 ghost use Rattle.std.specs.Prelude.{◌≡◌};
 ghost use Rattle.model.specs.Call.{Call};
 ghost use Rattle.model.specs.Answers.{numbered_answer, tallied_answer, tested_answer, around_answer, found_answer, listed_answer};

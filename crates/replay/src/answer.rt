@@ -104,6 +104,7 @@ pub fn filled<T: Element, F: FnOnce(&mut [T]) -> Result<usize, Refusal>>(
 }
 
 // A map whose spare bits were cleared.
+// Not by `filled`: a map is changed where it stands and told with a number of bits, and of `mended` there are two slices.
 pub fn cleared(n: Result<u64, Refusal>, map: Vec<u8>) -> Reply {
     Ok(Answer::Cleared(n?, map))
 }
@@ -158,6 +159,7 @@ impl fmt::Display for Hex<'_> {
 }
 
 // Words, each after a space.
+// A text, where `written::runs::Words` is a list of runs.
 #[derive(Clone, Copy)]
 pub struct Words<'a>(pub &'a [u64]);
 

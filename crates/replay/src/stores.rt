@@ -55,6 +55,7 @@ impl Stores {
     }
 
     // ---- calls that read further worlds, which may be of the same store: they are read in copies
+    // Each of these takes other words of the line and other copies: what is alike is the line that lends a store.
     fn shifted(&mut self, to: Place, line: Tokens<'_>) -> Result<Reply, Fault> {
         let (from, distance, left): (Place, u64, bool) = line.all()?;
         let a = self.copy(from.store)?;

@@ -1,5 +1,6 @@
 // Reports on a world's positions, as the caller counts them. A logical range lies at one physical range, or, where it passes
 // the end of the physical positions, at two: from its place to M, and from 0 on.
+// The value is what a call asks for, as is the range: a struct of set, range and value would be built for each call.
 ghost use Rattle.std.specs.Prelude.{◌≡◌, suc, ◌+◌, ◌-◌, ◌<◌, ◌≤◌};
 ghost use Rattle.model.specs.Positions.{mem};
 ghost use Rattle.model.specs.Range.{many};
@@ -89,6 +90,7 @@ pub fn next(set: &Set<'_>, x: Logical, value: bool) -> Option<u64>
 }
 
 // The greatest position of the value at or before x.
+// The mirror of `next`: the search, the comparisons and the end that the world goes over to are others.
 pub fn previous(set: &Set<'_>, x: Logical, value: bool) -> Option<u64>
     ensures { Previous (held set.now) value x.0 result }
 {

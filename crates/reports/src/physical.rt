@@ -1,4 +1,5 @@
 // Reports on physical positions, from the runs of a tree: what a range holds, the k-th position of a value, and the next one of a value.
+// The value is what a call asks for: two functions, for what is held and for what is free, would be chosen by the same test in each caller.
 ghost use Rattle.std.specs.Prelude.{◌≡◌, suc, ◌-◌, ◌<◌, ◌≤◌, Some};
 ghost use Rattle.model.specs.Numbers.{size};
 ghost use Rattle.model.specs.Positions.{count, select, mem};
@@ -79,6 +80,7 @@ fn next_start(runs: &Runs<'_>, x: u64) -> Option<u64>
 }
 
 // The greatest position of the value at or before x.
+// No mirror of `next_physical`: both look for the run at or before x, which tells this one the last held position too.
 pub fn previous_physical(runs: &Runs<'_>, x: Physical, value: bool) -> Option<u64>
     ensures { Previous (mem runs.now) value x.0 result }
 {

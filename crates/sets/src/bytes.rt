@@ -50,6 +50,7 @@ pub fn build<L: RunList + Copy>(words: &mut [u64], world: u64, runs: L) -> Resul
 
 // Sets a window from a map, a word at a time or, where `WIDE` is false, by single bytes; leaves the other positions, and returns how many
 // changed.
+// The public call picks `WIDE`: all but the reading of a stretch is the same for both forms, and stands once.
 pub fn read_map<const WIDE: bool>(
     words: &mut [u64],
     world: u64,

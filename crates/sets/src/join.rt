@@ -25,6 +25,7 @@ fn view(words: &[u64], world: u64) -> View
 }
 
 // Gives a world two feeds joined, if its allowance admits that.
+// The operation and both feeds come apart, since they are looked at one by one in `streams`: a struct of them would be built for this call.
 fn gathered<'a>(
     words: &mut [u64],
     world: u64,
@@ -92,6 +93,7 @@ pub fn not(words: &mut [u64], world: u64, a: &[u64], i: u64) -> Result<(), Refus
 }
 
 // The set moved by the distance, up (left) or down: read under another offset, and what would come in from the other end cut off.
+// `left` is what the call asks for; the offset, and the range that is cut off, are chosen by it at once.
 pub fn shifted(
     words: &mut [u64],
     world: u64,

@@ -1,4 +1,5 @@
 // Making a pool of empty worlds, whatever its words were.
+// That the words have a pool's length (`1 ≤ capacity`) is asked and not kept in a type, since the words are lent anew for each call.
 ghost use Rattle.std.specs.Prelude.{◌≤◌};
 ghost use Rattle.model.specs.Answers.{completed_answer};
 ghost use Rattle.model.specs.Pools.{limits_of};

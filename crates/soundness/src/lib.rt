@@ -2,6 +2,8 @@
 // Each node is tested against the bounds that the nodes above it leave, so the runs rise in order and no node is met twice; a node has the
 // number of its world, so no two trees meet; a free node has height 0 and a node of a tree has not, so the chain never meets a tree; and a
 // chain of exactly the nodes that are left, ending in 0, meets each of them once.
+// Words are asked for their length at each step (`Room`, `8 * 17 ≤ length`): they are any words, so no type could promise more. A node and its bounds
+// stay apart, since the bounds are others for each node.
 #![tactic(auto)]
 
 ghost use Rattle.std.specs.Prelude.{◌≡◌, ◌+◌, ◌-◌, ◌*◌, ◌<◌, ◌≤◌, ◌^◌, ◌&&◌, length, ◌==◌, SomeIff};
@@ -64,6 +66,7 @@ impl Bounds {
     }
 
     // What it leaves to its right side. None if no position is that high.
+    // The mirror of `left_of`: the field, the step and its direction are others, and there is nothing else.
     fn right_of(self, v: Node) -> Option<Bounds>
         ensures { SomeIff result (v.«end» + 2 < 2 ^ 64) (record self { low = v.«end» + 2 }) }
     {
@@ -83,6 +86,7 @@ fn inside(words: &[u64], link: u64) -> bool
 }
 
 // The words of the node at a link, zeros where there is none.
+// Zeros and no Option: they are the height and the sums of an empty tree, so that a missing side is tested as any other.
 #[tactic(auto, using(std::proofs::lemmas::Bool::Decides::nat_tests), unfolding(crate::specs::Decision::below_of))]
 fn below(words: &[u64], link: u64) -> Node
     requires { Room words.now link }

@@ -1,4 +1,5 @@
 // The spare bits of a map of n positions, those from bit n on: how many are one, and zeroing them.
+// n is how many bits of the bytes are used, which their length does not tell.
 #![tactic(auto)]
 
 ghost use Rattle.std.specs.Prelude.{◌≡◌, ◌≤◌, length};

@@ -1,5 +1,6 @@
 // What the tree says of logical positions: the first and the last one held, and how many logical runs there are.
 // Logical positions are physical ones turned by the offset: logical 0 is kept at -offset, and its neighbour below is logical M.
+// Where nothing is held both positions are 0 and no None, since a world's record keeps 0 there, and is compared with them.
 ghost use Rattle.std.specs.Prelude.{◌≡◌, ◌&&◌, length};
 ghost use Rattle.model.specs.Numbers.{size};
 ghost use Rattle.model.specs.Positions.{mem, held_runs, stretches};
@@ -50,6 +51,7 @@ pub fn first_held(set: &Set<'_>) -> Logical
 }
 
 // The last logical position held under an offset, 0 if there is none.
+// No mirror of `first_turned`: one search from the top tells both whether the top is held and what lies below it.
 fn last_turned(set: &Set<'_>) -> Logical
     ensures { result.0 ≡ last_of (held_runs (held set.now)) }
 {
@@ -67,6 +69,7 @@ fn last_turned(set: &Set<'_>) -> Logical
 }
 
 // The same under any offset.
+// The mirror of `first_held`: the search and the end of the run are others, and there is nothing else.
 pub fn last_held(set: &Set<'_>) -> Logical
     ensures { result.0 ≡ last_of (held_runs (held set.now)) }
 {

@@ -1,5 +1,6 @@
 // The nodes: which belong to a world's index and which are free. Making a pool, and adding, removing and resizing a run. Where the tree and
 // the free chain start is handed in and back; no header is read or written on the way.
+// n is how many nodes or worlds there are, as the header keeps it: without it each function would divide a length again, and say so in its contract.
 ghost use Rattle.std.specs.Prelude.{◌≡◌, ◌+◌, ◌*◌, ◌≤◌, not, length};
 ghost use Rattle.model.specs.Refusals.{bad_limits};
 ghost use Rattle.model.specs.Pools.{limits_of};
@@ -40,6 +41,7 @@ fn free_all(nodes: &mut [u64], n: u64) -> u64
 }
 
 // The limits of world k, of n: 0 and 0 where there is no such world.
+// No Option: the record of a world that is not opened has zeros in their place.
 fn limits_at(limits: &[u64], n: u64, k: u64) -> Limits
     requires { 2 * n ≤ length limits.now }
     ensures { result ≡ limits_or_none limits.now n k }
@@ -58,6 +60,7 @@ fn limits_at(limits: &[u64], n: u64, k: u64) -> Limits
 }
 
 // The record of an empty world with these limits.
+// No From: a Node is a record, a header or a node of a tree, and the name says which is meant.
 fn empty_record(l: Limits) -> Node
     ensures { result ≡ empty_record l }
 {

@@ -20,6 +20,7 @@ pub mod places;
 pub mod refresh;
 
 // A store, as its length tells of it: the most logical runs that its worlds may hold together.
+// A capacity of 0 and no Option: where words are known to be a pool the capacity is read too, and would be unwrapped each time.
 #[derive(Clone, Copy)]
 pub struct Store {
     pub capacity: u64,
@@ -49,6 +50,7 @@ impl Store {
 // What is kept of a set beside its nodes: the tag that its nodes have, which is its world's number, the root of its tree, the head of the free
 // chain, the offset, and what is told of the tree: held positions modulo 2^64, runs, and the first and the last logical position held, 0 if
 // there is none.
+// None is 0 here, since the record keeps these words as they are.
 #[derive(Clone, Copy, Default)]
 pub struct World {
     pub tag: u64,
@@ -102,6 +104,7 @@ pub fn runs_of<'a>(words: &'a [u64], x: Links) -> Runs<'a>
     }
 }
 
+// No From: `into` would not say that what is told of the tree is left out.
 pub fn links_of(h: World) -> Links
     ensures { result ≡ links_of h }
 {
@@ -186,6 +189,7 @@ fn claim(words: &[u64], k: u64) -> u64
 
 // The most runs that world k may have: no more than its ceiling, and than what the others leave of the capacity. Those before it and those after
 // it are passed over apart: so the only world of a pool passes over none.
+// Words and a world's number stay apart: C lends both anew for each call, and the same pool may be lent to be changed.
 pub fn allowance(words: &[u64], k: u64) -> u64
     requires { Openable words.now k }
     ensures { result ≡ allowance words.now k }

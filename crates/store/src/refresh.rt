@@ -1,4 +1,5 @@
 // Bringing a world into agreement with its tree, and making a tree of free nodes that were given runs.
+// Words and links stay apart: between an edit and this a struct of them would promise what does not hold yet.
 ghost use Rattle.std.specs.Prelude.{◌≡◌};
 ghost use Rattle.model.specs.Positions.{held_runs};
 ghost use Rattle.store.specs.Layout.{held_from};
@@ -12,6 +13,7 @@ use model::between::Interval;
 use run_index::search::Runs;
 
 // A world that holds nothing.
+// No From: links do not tell that the world holds nothing, which the name does.
 fn vacant(x: Links) -> World
     ensures { result ≡ record { tag = x.tag; root = 0; free = x.free; offset = 0; ones = 0; runs = 0; first = 0; last = 0 } }
 {
@@ -51,6 +53,7 @@ pub fn refresh(words: &[u64], x: Links, offset: u64) -> World
 }
 
 // The first position held after positions from a on got the value: what was the first one tells it, unless it was freed.
+// The value is what the caller of a set asked for: two functions would be chosen by the same test in `refresh_set`.
 fn first_after(words: &[u64], x: Links, h: World, a: Logical, value: bool) -> u64
     requires { ResettableFrom words.now x h a.0 value }
     ensures { result ≡ first_of (held_runs (held_from words.now x.root h.offset)) }
@@ -77,6 +80,7 @@ fn first_after(words: &[u64], x: Links, h: World, a: Logical, value: bool) -> u6
 }
 
 // The last one, after positions up to b did.
+// The mirror of `first_after`: both comparisons, the choice of the greater and the search are others, so one function would branch at each.
 fn last_after(words: &[u64], x: Links, h: World, b: Logical, value: bool) -> u64
     requires { ResettableTo words.now x h b.0 value }
     ensures { result ≡ last_of (held_runs (held_from words.now x.root h.offset)) }

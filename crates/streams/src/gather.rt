@@ -1,4 +1,5 @@
 // Making a world of two readings joined. What would be in it is counted before the first word is written.
+// The operation and both feeds are handed on as the call gives them: `sweep::join` alone looks at the operation.
 ghost use Rattle.std.specs.Prelude.{◌≡◌, leb};
 ghost use Rattle.model.specs.Positions.{stretches};
 ghost use Rattle.streams.specs.Sweeping.{Points, Joins};
@@ -19,6 +20,7 @@ pub enum Feed<'a> {
 
 impl<'a> Feed<'a> {
     // Begins its reading.
+    // No From: it asks that the feed can be read (`Fed`), and `from` may ask nothing.
     fn begin(self) -> Cursor<'a>
         requires { Fed self }
         ensures { Points result 0 (fed_by self.entry) }
@@ -60,6 +62,7 @@ pub fn fits<'a>(op: Operation, x: Feed<'a>, y: Feed<'a>, limit: u64) -> bool
 }
 
 // Puts the runs of two feeds joined into the first nodes of the free chain from `head` on, in order, and tells how many there are.
+// Not one with `fits`, which writes nothing and stops at the limit.
 fn fill<'a>(into: &mut [u64], head: u64, op: Operation, x: Feed<'a>, y: Feed<'a>) -> u64
     requires { Fillable into.old head op x y }
     ensures { Fills into.old into.new head result (joined op x.entry y.entry) }

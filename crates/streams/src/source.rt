@@ -22,6 +22,7 @@ pub struct View {
 }
 
 // The nodes on the way, and how many there are.
+// An array and its depth: the library has no heap, and no tree is deeper. It has links, since nodes lie in lent words.
 #[derive(Drop)]
 pub struct Path {
     pub nodes: [u64; HIGHEST],

@@ -86,6 +86,7 @@ impl<'a> Cursor<'a> {
 }
 
 // The values of two sets, joined.
+// Document 01 has an enum in the place of `combine`'s closure. It is looked at here alone.
 fn join(op: Operation, p: bool, q: bool) -> bool
     ensures { result ≡ apply op p q }
 {

@@ -1,4 +1,6 @@
 // Numbers as bytes, big-endian.
+// Bytes go by numbers, since in edition 2 those of a word stand apart, which no slice can say.
+// A count's always stand in a row, so it has functions of its own.
 ghost use Rattle.std.specs.Prelude.{◌≡◌, ◌+◌, ◌*◌, ◌≤◌, ◌<◌, length, take, drop};
 ghost use Rattle.model.specs.Bytes.{big_endian, value_of};
 ghost use Rattle.written.specs.Placed.{placed, strewn, picked};

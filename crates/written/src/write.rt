@@ -14,6 +14,7 @@ use store::World;
 use streams::source::{Reader, View};
 
 // The version byte of an edition.
+// No From: it would have to stand in `model`, where a byte of a written set means nothing.
 pub fn version_of(edition: Edition) -> u8
     ensures { result ≡ version_of edition }
 {
@@ -43,6 +44,7 @@ fn put_both(out: &mut [u8], at: usize, step: usize, start: u64, end: u64)
 }
 
 // Writes run i of n in either edition.
+// By number: where run i of n goes depends on both, and in edition 2 its bytes lie all over the slice.
 pub fn put_run(out: &mut [u8], edition: Edition, n: u64, i: u64, start: u64, end: u64)
     requires { (5 + 16 * n ≤ length out.old) × (i < n) }
     ensures { out.new ≡ put_run edition n i start «end» out.old }
