@@ -268,8 +268,8 @@ pub extern "C" fn vizturel_draw_front(
         words,
         world,
         Listing {
-            first: first,
-            last: last,
+            first,
+            last,
             value: value != 0,
         },
     ))
@@ -291,8 +291,8 @@ pub extern "C" fn vizturel_draw_back(
         words,
         world,
         Listing {
-            first: first,
-            last: last,
+            first,
+            last,
             value: value != 0,
         },
     ))

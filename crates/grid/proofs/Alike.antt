@@ -1,4 +1,4 @@
--- Tiles of one value: all of their cells are held, or none is, exactly if they all have the first cell's value; and rows of one value, one after
+-- Blocks of one value: all of their cells are held, or none is, exactly if they all have the first cell's value; and rows of one value, one after
 -- the other, until a position of the other value. Assumes nothing.
 use Rattle.std.specs.Prelude.{Option, None, Some, max}
 use Prim.Native.Nat.{ℕ, zero, suc, ◌+◌, ◌-◌, ◌*◌, ◌/◌, ◌≤◌, ◌<◌}
@@ -13,7 +13,7 @@ use Rattle.model.specs.Positions.{Positions, count}
 use Rattle.model.proofs.Numbers.{split}
 use Rattle.model.proofs.Counting.{count-all, count_none, counted_none, count-both, count_most}
 use Rattle.reports.specs.Reports.{Next}
-use Rattle.model.specs.Grid.{cell, count_rect, tile, one_valued}
+use Rattle.model.specs.Grid.{cell, count_rect, block, one_valued}
 use Rattle.grid.specs.Surveys.{OnPlane, OnGrid}
 use Rattle.grid.specs.Rows.{row_sum, row_count}
 use Rattle.grid.proofs.Cells.{rect-rows}
@@ -54,28 +54,28 @@ module _ (f : ℕ → ℕ) (t : ℕ) where
         let last : f (t + m) ≡ n = omega (arith, suc-mul m n) in
         ⊎_elim (λ l. sum-full m full i a l) (λ l. let k : i ≡ t + m = omega arith in ap f k ∙ last) (split i (t + m))
 
--- ---- a tile
+-- ---- a block
 module _ (P : Positions) (r c m n : ℕ) where
   -- none held, or all: it has one value
-  count-told : (count_rect (tile r c m n) P ≡ 0) ⊎ (count_rect (tile r c m n) P ≡ m * n) → one_valued P r c m n ≡ true
+  count-told : (count_rect (block r c m n) P ≡ 0) ⊎ (count_rect (block r c m n) P ≡ m * n) → one_valued P r c m n ≡ true
   unfolding one_valued
-  count-told (inl e) = ap (λ b. b || eqb (count_rect (tile r c m n) P) (m * n)) (eq-eqb (count_rect (tile r c m n) P) 0 e)
+  count-told (inl e) = ap (λ b. b || eqb (count_rect (block r c m n) P) (m * n)) (eq-eqb (count_rect (block r c m n) P) 0 e)
   count-told (inr e) =
-      ap (λ b. eqb (count_rect (tile r c m n) P) 0 || b) (eq-eqb (count_rect (tile r c m n) P) (m * n) e) ∙ or-true (eqb (count_rect (tile r c m n) P) 0)
+      ap (λ b. eqb (count_rect (block r c m n) P) 0 || b) (eq-eqb (count_rect (block r c m n) P) (m * n) e) ∙ or-true (eqb (count_rect (block r c m n) P) 0)
 
   -- and the other way round
-  told-count : one_valued P r c m n ≡ true → (count_rect (tile r c m n) P ≡ 0) ⊎ (count_rect (tile r c m n) P ≡ m * n)
+  told-count : one_valued P r c m n ≡ true → (count_rect (block r c m n) P ≡ 0) ⊎ (count_rect (block r c m n) P ≡ m * n)
   unfolding one_valued
-  told-count e = go (eqb (count_rect (tile r c m n) P) 0) refl e
+  told-count e = go (eqb (count_rect (block r c m n) P) 0) refl e
     where
-      go : (b : Bool) → eqb (count_rect (tile r c m n) P) 0 ≡ b → (b || eqb (count_rect (tile r c m n) P) (m * n)) ≡ true
-          → (count_rect (tile r c m n) P ≡ 0) ⊎ (count_rect (tile r c m n) P ≡ m * n)
-      go true z t = inl (eqb-true (count_rect (tile r c m n) P) 0 z)
-      go false z t = inr (eqb-true (count_rect (tile r c m n) P) (m * n) t)
+      go : (b : Bool) → eqb (count_rect (block r c m n) P) 0 ≡ b → (b || eqb (count_rect (block r c m n) P) (m * n)) ≡ true
+          → (count_rect (block r c m n) P ≡ 0) ⊎ (count_rect (block r c m n) P ≡ m * n)
+      go true z t = inl (eqb-true (count_rect (block r c m n) P) 0 z)
+      go false z t = inr (eqb-true (count_rect (block r c m n) P) (m * n) t)
 
   module _ (on : OnGrid r c m n) where
     -- it is a rectangle
-    block_on : OnPlane (tile r c m n)
+    block_on : OnPlane (block r c m n)
     block_on = record {
       rows = omega (arith, on.some);
       columns = omega (arith, on.wide);
@@ -84,12 +84,12 @@ module _ (P : Positions) (r c m n : ℕ) where
     }
 
     -- its held cells are those of its rows
-    tile-rows : count_rect (tile r c m n) P ≡ row_sum (λ i. count P true (cell i c) n) r m
-    tile-rows =
+    block-rows : count_rect (block r c m n) P ≡ row_sum (λ i. count P true (cell i c) n) r m
+    block-rows =
         let high : suc (r + m - 1) - r ≡ m = omega (arith, on.some) in
-        rect-rows (tile r c m n) P block_on ∙ ap₂ (λ (f : ℕ → ℕ) (k : ℕ). row_sum f r k) (wide_is) high
+        rect-rows (block r c m n) P block_on ∙ ap₂ (λ (f : ℕ → ℕ) (k : ℕ). row_sum f r k) (wide_is) high
       where
-        wide_is : row_count (tile r c m n) P ≡ (λ i. count P true (cell i c) n)
+        wide_is : row_count (block r c m n) P ≡ (λ i. count P true (cell i c) n)
         wide_is = fun_ext (λ i. ap (count P true (cell i c)) (wide i))
           where
             wide : (i : ℕ) → suc (cell i (c + n - 1)) - cell i c ≡ n
@@ -98,34 +98,34 @@ module _ (P : Positions) (r c m n : ℕ) where
     -- cells of one value
     pub alike-one : (v : Bool) → Alike P r c m n v → one_valued P r c m n ≡ true
     alike-one true h =
-        count-told (inr (tile-rows ∙ sum_alike (λ i. count P true (cell i c) n) r m n (λ i a b. count-all P true (cell i c) n (λ x k l. h i x a b k l))))
+        count-told (inr (block-rows ∙ sum_alike (λ i. count P true (cell i c) n) r m n (λ i a b. count-all P true (cell i c) n (λ x k l. h i x a b k l))))
     alike-one false h =
         count-told
-        (inl (tile-rows ∙ sum_alike (λ i. count P true (cell i c) n) r m 0 (λ i a b. count_none P true (cell i c) n (λ x k l. h i x a b k l)) ∙ mul-zero m))
+        (inl (block-rows ∙ sum_alike (λ i. count P true (cell i c) n) r m 0 (λ i a b. count_none P true (cell i c) n (λ x k l. h i x a b k l)) ∙ mul-zero m))
 
     -- where none is held, each is free
-    none_alike : count_rect (tile r c m n) P ≡ 0 → Alike P r c m n false
+    none_alike : count_rect (block r c m n) P ≡ 0 → Alike P r c m n false
     none_alike e i x a b k l =
-        counted_none P false (cell i c) n (sum-zero (λ i. count P true (cell i c) n) r m (sym tile-rows ∙ e) i a b) x k l
+        counted_none P false (cell i c) n (sum-zero (λ i. count P true (cell i c) n) r m (sym block-rows ∙ e) i a b) x k l
 
     -- where all are, each is held
-    full-alike : count_rect (tile r c m n) P ≡ m * n → Alike P r c m n true
+    full-alike : count_rect (block r c m n) P ≡ m * n → Alike P r c m n true
     full-alike e i x a b k l =
         counted_none P true (cell i c) n
         (omega (
           arith,
           count-both P (cell i c) n,
-          sum-full (λ i. count P true (cell i c) n) r n (λ i. count_most P true (cell i c) n) m (sym tile-rows ∙ e) i a b,
+          sum-full (λ i. count P true (cell i c) n) r n (λ i. count_most P true (cell i c) n) m (sym block-rows ∙ e) i a b,
         ))
         x
         k
         l
 
-    -- two cells of one tile of one value
+    -- two cells of one block of one value
     one_alike : one_valued P r c m n ≡ true → (i x : ℕ) → r ≤ i → i < r + m → cell i c ≤ x → x < cell i c + n → P x ≡ P (cell r c)
     one_alike e i x a b k l = go (told-count e)
       where
-        go : (count_rect (tile r c m n) P ≡ 0) ⊎ (count_rect (tile r c m n) P ≡ m * n) → P x ≡ P (cell r c)
+        go : (count_rect (block r c m n) P ≡ 0) ⊎ (count_rect (block r c m n) P ≡ m * n) → P x ≡ P (cell r c)
         go (inl z) =
             none_alike z i x a b k l ∙ sym (none_alike z r (cell r c) (omega arith) (omega (arith, on.some)) (omega arith) (omega (arith, on.wide)))
         go (inr z) =

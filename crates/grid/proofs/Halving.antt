@@ -1,4 +1,4 @@
--- The pieces of a tile, which is a square or the half of one: the tile itself, if it has one value, else those of its halves, which are tiles
+-- The pieces of a block, which is a square or the half of one: the block itself, if it has one value, else those of its halves, which are blocks
 -- too; and how many words there are at most. Assumes nothing.
 use Prim.Native.Nat.{ℕ, zero, suc, ◌+◌, ◌*◌, ◌^◌, ◌≤◌}
 use mathlib.Core.Path.{◌≡◌, refl, sym, ap, ap₂, ◌∙◌, subst₂}
@@ -50,7 +50,7 @@ module _ (P : Positions) (r c : ℕ) where
       (λ b. cond b (piece r c (2 ^ suc k) (2 ^ suc k) (P (cell r c))) (by_row P k (survey P k) r c ++ by_row P k (survey P k) r (c + 2 ^ k)))
       e
 
--- ---- a tile
+-- ---- a block
 module _ (P : Positions) where
   -- its pieces: those of a square, or of the half of one
   abbrev all : ℕ → ℕ → ℕ → ℕ → List ℕ
@@ -108,7 +108,7 @@ module _ (P : Positions) where
           square-of : (d : ℕ) → all k j d c ≡ survey P j d c
           square-of d = ap (λ t. cond t (survey P j d c) (half P j d c)) (eq-eqb k j (sym f))
 
--- a tile of one value is a piece
+-- a block of one value is a piece
 pub piece-is : (P : Positions) (b : Tile) → one_valued P b.corner.row b.corner.column (2 ^ b.i) (2 ^ b.j) ≡ true → (v : Bool)
     → v ≡ P (cell b.corner.row b.corner.column) → pieces P b ≡ piece b.corner.row b.corner.column (2 ^ b.i) (2 ^ b.j) v
 piece-is P b one v ev =
@@ -118,7 +118,7 @@ piece-is P b one v ev =
 pub square-pieces : (P : Positions) (k r c : ℕ) → all P k k r c ≡ survey P k r c
 square-pieces P k r c = all-square P r c k k refl
 
--- so are those of a tile that is one
+-- so are those of a block that is one
 pub tile-pieces : (P : Positions) (b : Tile) {c : Corner} {k : ℕ} → (b.corner ≡ c) × (b.i ≡ k) × (b.j ≡ k) → pieces P b ≡ survey P k c.row c.column
 tile-pieces P b {c} {k} (e, f, g) =
     ap (λ (x : Corner). all P b.i b.j x.row x.column) e ∙ ap₂ (λ i j. all P i j c.row c.column) f g ∙ square-pieces P k c.row c.column

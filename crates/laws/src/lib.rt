@@ -40,10 +40,7 @@ fn join_twice(a: &mut [u64], b: &mut [u64], c: &mut [u64]) -> Joins
     let _ = interval_bit_set::change::shift(a, 0, 1, true);
     let _ = interval_bit_set::change::shift(b, 0, 1, true);
     let after = interval_bit_set::join::combine(c, 0, Operation::Or, a, 0, b, 0);
-    Joins {
-        before: before,
-        after: after,
-    }
+    Joins { before, after }
 }
 
 // In pools of capacity 1, {M} OR {5} is refused. Left shifts by 1 leave {} and {6}, and their OR is done.

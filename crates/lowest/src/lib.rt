@@ -28,7 +28,7 @@ impl Group {
         Group {
             start: r.start,
             end: r.end,
-            place: place,
+            place,
             sole: true,
         }
     }

@@ -1,4 +1,4 @@
--- `put_pieces` meets its contract: a tile that has one value is listed, and any other one's halves are, one after the other.
+-- `put_pieces` meets its contract: a block that has one value is listed, and any other one's halves are, one after the other.
 -- Assumes nothing.
 use Rattle.std.proofs.Common.{length, sym, ap, ◌∙◌, subst, arith}
 use Rattle.store.specs.Layout.{held}

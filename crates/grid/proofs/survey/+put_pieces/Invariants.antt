@@ -1,4 +1,4 @@
--- `put_pieces` meets its contract. The measure is the sum of the tile's exponents. Assumes nothing.
+-- `put_pieces` meets its contract. The measure is the sum of the block's exponents. Assumes nothing.
 use Rattle.std.proofs.Common.{◌+◌}
 use Rattle.grid.proofs.survey.+put_pieces.Given as goal
 

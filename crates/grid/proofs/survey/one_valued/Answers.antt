@@ -16,7 +16,7 @@ use Rattle.grid.proofs.survey.one_valued.Goals.{At-loop-r}
 on : (l : At-loop-r) → OnGrid l.args.b.corner.row l.args.b.corner.column l.rows.result l.columns-columns.result
 on l = subst₂ (OnGrid l.args.b.corner.row l.args.b.corner.column) (sym l.rows.ensures) (sym l.columns-columns.ensures) l.args.b.halved.on
 
--- and are the tile
+-- and are the block
 told : (l : At-loop-r) {v : Bool} → one_valued (held l.args.set.now) l.args.b.corner.row l.args.b.corner.column l.rows.result l.columns-columns.result ≡ v
     → v ≡ one_valued (held l.args.set.now) l.args.b.corner.row l.args.b.corner.column (2 ^ l.args.b.i) (2 ^ l.args.b.j)
 told l e = sym e ∙ ap₂ (one_valued (held l.args.set.now) l.args.b.corner.row l.args.b.corner.column) l.rows.ensures l.columns-columns.ensures

@@ -12,7 +12,7 @@ use Rattle.grid.proofs.Cells.{sum-next, sum-none}
 use Rattle.grid.proofs.Small.{gain-few, loss-few, sum-few}
 use Rattle.grid.proofs.Leaving.{rect-far, rect-counted}
 use Rattle.grid.proofs.rows.Change.fits.Goals as goal
-use Rattle.grid.proofs.rows.Change.fits.Goals.{After-gain-more, After-loss-less}
+use Rattle.grid.proofs.rows.Change.fits.Goals.{After-cells-row}
 
 pub returns-then-is_far : goal.returns-then-is_far
 returns-then-is_far c =
@@ -28,14 +28,16 @@ loop-r-init c =
     )
 
 -- what row r adds, and what it takes
-adds : (c : After-gain-more) → c.gain-more.result ≡ row_gain c.args.self.area.q c.args.self.value (held_in c.args.words.now c.args.h) c.loop-r.r
+adds : (c : After-cells-row) → gain c.args.self.value (held c.set_of-set.result) c.cells-row.result.cells.first.0 c.cells-row.result.cells.last.0
+    ≡ row_gain c.args.self.area.q c.args.self.value (held_in c.args.words.now c.args.h) c.loop-r.r
 adds c =
-    c.gain-more.ensures ∙ ap₂ (gain c.args.self.value (held c.set_of-set.result)) c.cells-row.ensures.0 c.cells-row.ensures.1
+    ap₂ (gain c.args.self.value (held c.set_of-set.result)) c.cells-row.ensures.0 c.cells-row.ensures.1
     ∙ ap (λ P. row_gain c.args.self.area.q c.args.self.value P c.loop-r.r) c.set_of-set.ensures.positions
 
-takes : (c : After-loss-less) → c.loss-less.result ≡ row_loss c.args.self.area.q c.args.self.value (held_in c.args.words.now c.args.h) c.loop-r.r
+takes : (c : After-cells-row) → loss c.args.self.value (held c.set_of-set.result) c.cells-row.result.cells.first.0 c.cells-row.result.cells.last.0
+    ≡ row_loss c.args.self.area.q c.args.self.value (held_in c.args.words.now c.args.h) c.loop-r.r
 takes c =
-    c.loss-less.ensures ∙ ap₂ (loss c.args.self.value (held c.set_of-set.result)) c.cells-row.ensures.0 c.cells-row.ensures.1
+    ap₂ (loss c.args.self.value (held c.set_of-set.result)) c.cells-row.ensures.0 c.cells-row.ensures.1
     ∙ ap (λ P. row_loss c.args.self.area.q c.args.self.value P c.loop-r.r) c.set_of-set.ensures.positions
 
 pub overflow_add-more : goal.overflow_add-more
@@ -49,7 +51,7 @@ overflow_add-more c =
       c.loop-r.invariant.0,
       on.low,
       logical-few c.requires.1,
-      adds (goal.at.overflow_add-more c).After-gain-more,
+      adds (goal.at.overflow_add-more c).After-cells-row,
       gain-few q on P c.args.self.value c.loop-r.r,
       sum-few (row_gain q c.args.self.value P) q.top (c.loop-r.r - q.top) (λ r. omega (arith, gain-few q on P c.args.self.value r)),
     )
@@ -65,7 +67,7 @@ overflow_add-less c =
       c.loop-r.invariant.1,
       on.low,
       limit-few c.requires.1,
-      takes (goal.at.overflow_add-less c).After-loss-less,
+      takes (goal.at.overflow_add-less c).After-cells-row,
       loss-few q on P c.args.self.value c.loop-r.r,
       sum-few (row_loss q c.args.self.value P) q.top (c.loop-r.r - q.top) (loss-few q on P c.args.self.value),
     )
@@ -77,13 +79,13 @@ loop-r-preserved c =
       omega (
         arith,
         c.loop-r.invariant.0,
-        adds (goal.at.loop-r-preserved c).After-gain-more,
+        adds (goal.at.loop-r-preserved c).After-cells-row,
         sum-next (row_gain q c.args.self.value P) q.top c.loop-r.r c.loop-r.auto.r,
       ),
       omega (
         arith,
         c.loop-r.invariant.1,
-        takes (goal.at.loop-r-preserved c).After-loss-less,
+        takes (goal.at.loop-r-preserved c).After-cells-row,
         sum-next (row_loss q c.args.self.value P) q.top c.loop-r.r c.loop-r.auto.r,
       ),
     )
