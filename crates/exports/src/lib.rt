@@ -1,7 +1,7 @@
 // The library as C sees it: every public call, on numbers, slices (a pointer and a count) and structs of numbers. include/vizturel.h
 // documents them one by one.
-// C calls each by its name, with words and numbers of its own: so calls of one shape stand apart, nothing that two of them take is a struct, and an
-// operation, an edition and a truth value are numbers, of which every one means something.
+// C calls each function by name and has only numbers, slices and plain structs: so calls of one shape are functions of their own, and an operation, an
+// edition or a truth value comes as a number.
 #![tactic(auto)]
 
 ghost use Rattle.std.specs.Prelude.{◌/◌, length};

@@ -1,5 +1,5 @@
 // Rectangles of a grid, row by row: each row of one is a range of positions.
-// A rectangle's rows are gone over three times, each time to another end (a sum, two sums and an edit), so only the range of rows is the same.
+// A rectangle's rows are gone over three times: to count, to see what a change would do, and to change. Only the range of rows is the same.
 ghost use Rattle.std.specs.Prelude.{◌≡◌, ◌+◌, ◌-◌, ◌≤◌, ◌<◌, true, leb};
 ghost use Rattle.model.specs.Positions.{count, stretches};
 ghost use Rattle.model.specs.Range.{many};

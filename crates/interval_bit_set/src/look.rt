@@ -51,7 +51,7 @@ pub fn look_at_two(a: &[u64], i: u64, b: &[u64], j: u64) -> Result<(), Refusal>
 }
 
 // What three worlds earn.
-// Two, three and no list: the pools are lent one by one, and a list of them would be built for this call.
+// One function for two worlds and one for three: a list of the pools would have to be built first.
 pub fn look_at_three(a: &[u64], i: u64, b: &[u64], j: u64, c: &[u64], k: u64) -> Result<(), Refusal>
     ensures { LookedThree a.now i b.now j c.now k result }
 {

@@ -117,7 +117,7 @@ fn apply_map<const WIDE: bool>(words: &mut [u64], h: World, map: &Map) -> World
     }
     let mut at = changes::edit::apply_set(words, h, window, false);
     let mut i: u64 = 0;
-    // a stretch a step
+    // each step is one stretch
     while i < n {
         let e = stretch::<WIDE>(map, i);
         if bit(map.bytes, i) {

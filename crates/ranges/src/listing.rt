@@ -47,7 +47,7 @@ pub fn draw_front(words: &[u64], world: u64, l: Listing) -> Result<Drawn, Refusa
 }
 
 // Draws the last run that is left, and moves the listing before it.
-// The mirror of `draw_front`: what is searched, the comparison and the end that moves are others, so one function would branch at each.
+// The mirror of `draw_front`: what is searched, the comparison and the end that moves differ, so one function would branch at each.
 pub fn draw_back(words: &[u64], world: u64, l: Listing) -> Result<Drawn, Refusal>
     requires { Readable words.now world }
     ensures { Met words.now world (Call.draw_back l) (drawn_answer result) words.now }

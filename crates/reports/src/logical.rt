@@ -90,7 +90,7 @@ pub fn next(set: &Set<'_>, x: Logical, value: bool) -> Option<u64>
 }
 
 // The greatest position of the value at or before x.
-// The mirror of `next`: the search, the comparisons and the end that the world goes over to are others.
+// The mirror of `next`: the search, the comparisons and the end that the world goes over to differ.
 pub fn previous(set: &Set<'_>, x: Logical, value: bool) -> Option<u64>
     ensures { Previous (held set.now) value x.0 result }
 {

@@ -28,7 +28,7 @@ fn stretch_start(set: &Set<'_>, r: Interval, value: bool) -> u64
 }
 
 // Where the stretch of the value that the first position of r is in ends, in r.
-// The mirror of `stretch_start`: the search, the comparison and the step are others, and a parameter for the side would only say which.
+// The mirror of `stretch_start`: the search, the comparison and the step differ, and a parameter for the side would only say which.
 pub fn stretch_end(set: &Set<'_>, r: Interval, value: bool) -> u64
     requires { held set.now r.first.0 ≡ value }
     ensures { StretchEnd (held set.now) value r.first.0 r.last.0 result }

@@ -25,7 +25,7 @@ fn view(words: &[u64], world: u64) -> View
 }
 
 // Gives a world two feeds joined, if its allowance admits that.
-// The operation and both feeds come apart, since they are looked at one by one in `streams`: a struct of them would be built for this call.
+// The operation and both feeds go on unchanged to `streams::gather::join`, which makes a `Joint` of them.
 fn gathered<'a>(
     words: &mut [u64],
     world: u64,
@@ -93,7 +93,7 @@ pub fn not(words: &mut [u64], world: u64, a: &[u64], i: u64) -> Result<(), Refus
 }
 
 // The set moved by the distance, up (left) or down: read under another offset, and what would come in from the other end cut off.
-// `left` is what the call asks for; the offset, and the range that is cut off, are chosen by it at once.
+// `left` chooses the offset, and the range that is kept.
 pub fn shifted(
     words: &mut [u64],
     world: u64,

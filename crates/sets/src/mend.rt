@@ -1,6 +1,6 @@
 // Mending a written set: its union is loaded into a world, and written, with a report of what became of each run. What the outcome needs is
 // counted from the bytes alone, before anything is written.
-// Whether a set is `right` is told once, and both its number of runs and its outcome hang on it; on either way the slices are the caller's two.
+// `right` is found out once: the number of runs and the outcome both depend on it.
 ghost use Rattle.std.specs.Prelude.{◌≡◌};
 ghost use Rattle.model.specs.Positions.{stretches};
 ghost use Rattle.model.specs.Bytes.{decode, into_front};

@@ -3,7 +3,7 @@
 // number of its world, so no two trees meet; a free node has height 0 and a node of a tree has not, so the chain never meets a tree; and a
 // chain of exactly the nodes that are left, ending in 0, meets each of them once.
 // Words are asked for their length at each step (`Room`, `8 * 17 ≤ length`): they are any words, so no type could promise more. A node and its bounds
-// stay apart, since the bounds are others for each node.
+// stay apart, since each node has its own bounds.
 #![tactic(auto)]
 
 ghost use Rattle.std.specs.Prelude.{◌≡◌, ◌+◌, ◌-◌, ◌*◌, ◌<◌, ◌≤◌, ◌^◌, ◌&&◌, length, ◌==◌, SomeIff};
@@ -66,7 +66,7 @@ impl Bounds {
     }
 
     // What it leaves to its right side. None if no position is that high.
-    // The mirror of `left_of`: the field, the step and its direction are others, and there is nothing else.
+    // The mirror of `left_of`: the field, the step and its direction differ, and there is nothing else.
     fn right_of(self, v: Node) -> Option<Bounds>
         ensures { SomeIff result (v.«end» + 2 < 2 ^ 64) (record self { low = v.«end» + 2 }) }
     {

@@ -1,6 +1,6 @@
 // What the tree says of logical positions: the first and the last one held, and how many logical runs there are.
 // Logical positions are physical ones turned by the offset: logical 0 is kept at -offset, and its neighbour below is logical M.
-// Where nothing is held both positions are 0 and no None, since a world's record keeps 0 there, and is compared with them.
+// Where nothing is held these give 0, not None: a record has 0 there, and `soundness` compares the two.
 ghost use Rattle.std.specs.Prelude.{◌≡◌, ◌&&◌, length};
 ghost use Rattle.model.specs.Numbers.{size};
 ghost use Rattle.model.specs.Positions.{mem, held_runs, stretches};
@@ -69,7 +69,7 @@ fn last_turned(set: &Set<'_>) -> Logical
 }
 
 // The same under any offset.
-// The mirror of `first_held`: the search and the end of the run are others, and there is nothing else.
+// The mirror of `first_held`: the search and the end of the run differ, and there is nothing else.
 pub fn last_held(set: &Set<'_>) -> Logical
     ensures { result.0 ≡ last_of (held_runs (held set.now)) }
 {
@@ -94,7 +94,7 @@ pub fn logical_runs(set: &Set<'_>, n: u64) -> u64
     requires { n ≡ length set.now.runs }
     ensures { result ≡ stretches (held set.now) }
 {
-    // that the runs are in order is known where a field is looked at
+    // reading a field gives the proof `Runs`' invariant, that the runs are in order
     let runs = &set.runs;
     let _ = &runs.root;
     if set.offset == 0 {

@@ -1,6 +1,6 @@
 // The nodes: which belong to a world's index and which are free. Making a pool, and adding, removing and resizing a run. Where the tree and
 // the free chain start is handed in and back; no header is read or written on the way.
-// n is how many nodes or worlds there are, as the header keeps it: without it each function would divide a length again, and say so in its contract.
+// n is how many nodes or worlds there are: without it each function would divide a length again, and say so in its contract.
 ghost use Rattle.std.specs.Prelude.{◌≡◌, ◌+◌, ◌*◌, ◌≤◌, not, length};
 ghost use Rattle.model.specs.Refusals.{bad_limits};
 ghost use Rattle.model.specs.Pools.{limits_of};

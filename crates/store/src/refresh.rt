@@ -1,5 +1,5 @@
 // Bringing a world into agreement with its tree, and making a tree of free nodes that were given runs.
-// Words and links stay apart: between an edit and this a struct of them would promise what does not hold yet.
+// Words and links stay apart: after an edit and before `refresh` a struct of both would promise what does not hold yet.
 ghost use Rattle.std.specs.Prelude.{◌≡◌};
 ghost use Rattle.model.specs.Positions.{held_runs};
 ghost use Rattle.store.specs.Layout.{held_from};
@@ -80,7 +80,7 @@ fn first_after(words: &[u64], x: Links, h: World, a: Logical, value: bool) -> u6
 }
 
 // The last one, after positions up to b did.
-// The mirror of `first_after`: both comparisons, the choice of the greater and the search are others, so one function would branch at each.
+// The mirror of `first_after`: both comparisons, the choice of the greater and the search differ, so one function would branch at each.
 fn last_after(words: &[u64], x: Links, h: World, b: Logical, value: bool) -> u64
     requires { ResettableTo words.now x h b.0 value }
     ensures { result ≡ last_of (held_runs (held_from words.now x.root h.offset)) }

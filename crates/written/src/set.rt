@@ -52,7 +52,7 @@ pub fn length_of(n: u64) -> u64
     5 + 16 * n
 }
 
-// How many runs a world has.
+// How many runs a world has. The header counts the physical ones, so no `Set`, which would have to look at the root again.
 pub fn run_count(words: &[u64], h: World) -> u64
     requires { Stands words.now h }
     ensures { result ≡ stretches (held_in words.now h) }
