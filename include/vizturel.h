@@ -57,8 +57,8 @@
  * numbers are reserved: a later version may give them a meaning. This version takes a reserved call number for a get, a reserved kind for no
  * bound, a reserved operation for XOR and a reserved edition for rows. Do not rely on it.
  *
- * Link libvizturel.a, for x86-64 Linux: `make lib` writes it to target/lib/, and this header to target/include/. Of a C library it needs memset
- * and memmove alone. docs/CALLS.md has every call with its cost.
+ * Link libvizturel.a, for x86-64 Linux: `make lib` writes it to target/lib/, and this header to target/include/. Of a C library it needs memset,
+ * memmove and memcpy alone. docs/CALLS.md has every call with its cost.
  */
 #ifndef VIZTUREL_H
 #define VIZTUREL_H
