@@ -2,13 +2,14 @@
 -- those of the tree at its root, turned by its offset, so what `bounds` tells of the tree is what the world has to say. Assumes nothing.
 use Rattle.std.proofs.Common.{◌≡◌, ℕ, ◌<◌, ◌≤◌, Bool, true, false, not, ◌&&◌, ◌||◌, eqb, List, sym, ap, ◌∙◌, arith}
 use Rattle.model.specs.Numbers.{size}
-use Rattle.model.specs.Positions.{Positions, held_runs, mem}
+use Rattle.model.specs.Positions.{Positions, held_runs}
 use Rattle.run_index.specs.declared.Node.{Node}
 use Rattle.run_index.specs.Cells.{Room}
 use Rattle.run_index.specs.Tree.{Sums}
 use Rattle.run_index.specs.Search.{Indexed, runs_from}
 use Rattle.store.specs.declared.World.{World}
-use Rattle.store.specs.Layout.{turned, held_in}
+use Rattle.store.specs.declared.Set.{Set}
+use Rattle.store.specs.Layout.{held, held_in}
 use Rattle.store.specs.Soundness.{first_of, last_of}
 use Rattle.soundness.specs.Decision.{inside_b, below_of, tree_b, world_b, Tells}
 use Rattle.store.proofs.Truths.{never, is_false}
@@ -56,17 +57,19 @@ module _ (w : List ℕ) (h : World) where
     pub indexed : Indexed w h.root
     indexed = (h.tag, T.t, hangs-index T)
 
-    -- what `bounds` tells of the first position
-    first-told : (r : ℕ) → r ≡ first_of (held_runs (turned h.offset (mem (runs_from w h.root)))) → r ≡ first_of (held_runs (held_in w h))
-    first-told r e = e ∙ ap (λ (P : Positions). first_of (held_runs P)) (tree-seen h.offset (hangs-index T) T.low)
+    -- its set has the world's positions, of which `bounds` tells the first
+    first-told : (z : Set) → z ≡ record { runs = runs_from w h.root; offset = h.offset } → (r : ℕ) → r ≡ first_of (held_runs (held z))
+        → r ≡ first_of (held_runs (held_in w h))
+    first-told z of r e = e ∙ ap (λ (P : Positions). first_of (held_runs P)) (ap held of ∙ tree-seen h.offset (hangs-index T) T.low)
 
-    -- and of the last
-    last-told : (r : ℕ) → r ≡ last_of (held_runs (turned h.offset (mem (runs_from w h.root)))) → r ≡ last_of (held_runs (held_in w h))
-    last-told r e = e ∙ ap (λ (P : Positions). last_of (held_runs P)) (tree-seen h.offset (hangs-index T) T.low)
+    -- and the last
+    last-told : (z : Set) → z ≡ record { runs = runs_from w h.root; offset = h.offset } → (r : ℕ) → r ≡ last_of (held_runs (held z))
+        → r ≡ last_of (held_runs (held_in w h))
+    last-told z of r e = e ∙ ap (λ (P : Positions). last_of (held_runs P)) (ap held of ∙ tree-seen h.offset (hangs-index T) T.low)
 
     -- so what is left to test are the sums, the bounds and the offset
-    pub world-is : (v : Node) → v ≡ below_of w h.root → (f : ℕ) → f ≡ first_of (held_runs (turned h.offset (mem (runs_from w h.root))))
-        → (l : ℕ) → l ≡ last_of (held_runs (turned h.offset (mem (runs_from w h.root))))
+    pub world-is : (v : Node) → v ≡ below_of w h.root → (z : Set) → z ≡ record { runs = runs_from w h.root; offset = h.offset }
+        → (f : ℕ) → f ≡ first_of (held_runs (held z)) → (l : ℕ) → l ≡ last_of (held_runs (held z))
         → world_b w h ≡ (eqb h.ones v.ones && (eqb h.runs v.runs && (eqb h.first f && (eqb h.last l && (not (eqb h.root 0) || eqb h.offset 0)))))
     unfolding world_b
-    world-is v ev f tf l tl = rw (hangs-walked T, ← ev, ← first-told f tf, ← last-told l tl)
+    world-is v ev z of f tf l tl = rw (hangs-walked T, ← ev, ← first-told z of f tf, ← last-told z of l tl)

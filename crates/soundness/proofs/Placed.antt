@@ -15,8 +15,9 @@ use Rattle.run_index.specs.Search.{Indexed, runs_from}
 use Rattle.run_index.proofs.Totals.{runs-length}
 use Rattle.run_index.proofs.Reached.{index-runs}
 use Rattle.store.specs.declared.World.{World}
+use Rattle.store.specs.declared.Set.{Set}
 use Rattle.soundness.specs.declared.Place.{Place}
-use Rattle.store.specs.Layout.{turned, world_at, floor_at, ceiling_at, nodes, capacity, held_in, held_by, plain_at, worlds_from}
+use Rattle.store.specs.Layout.{turned, world_at, floor_at, ceiling_at, nodes, capacity, held, held_in, held_by, plain_at, worlds_from}
 use Rattle.store.specs.Soundness.{sum_to, runs_at, Planted, KeepsLimits}
 use Rattle.soundness.specs.Decision.{world_b, place_b, worlds_b, told_runs, place_of, runs_of}
 use Rattle.store.proofs.Parts.{lent, lent-nodes}
@@ -125,11 +126,11 @@ module _ (w : List ℕ) (k : ℕ) (h : World) (eh : h ≡ world_at w k) (b : Boo
     world-seen = world-indexed w k world-fitting h eh
 
     -- the number of logical runs decides, if the floor is not above the ceiling
-    module _ (v : Node) (ev : v ≡ cell_at w (k + 1)) (le : v.ones ≤ v.tag) (n : ℕ)
-        (tn : n ≡ stretches (turned h.offset (mem (runs_from (lent w) h.root)))) where
+    module _ (v : Node) (ev : v ≡ cell_at w (k + 1)) (le : v.ones ≤ v.tag) (z : Set) (of : z ≡ record { runs = runs_from (lent w) h.root; offset = h.offset })
+        (n : ℕ) (tn : n ≡ stretches (held z)) where
       -- what it counts
       many-are : n ≡ stretches (held_by w k)
-      many-are = runs-told w k world-fitting h eh n tn
+      many-are = runs-told w k world-fitting h eh n (tn ∙ ap (λ (s : Set). stretches (held s)) of)
 
       -- there are too many
       pub runs-fail : v.tag < n → None ≡ place_of w k

@@ -35,7 +35,6 @@ ghost use Rattle.soundness.specs.Decision.{
 };
 
 use run_index::Node;
-use run_index::search::Runs;
 use store::{Set, Store, World};
 
 // What the nodes above leave to a tree: the tag that its nodes are to have, and the first and the last position that its runs may hold.
@@ -287,13 +286,7 @@ fn world_fits(words: &[u64], h: World) -> bool
     if v.height > Store::MAX_HEIGHT || !tree_fits(words, h.root, h.tag, 0, u64::MAX) {
         return false;
     }
-    let set = Set {
-        runs: Runs {
-            nodes: words,
-            root: h.root,
-        },
-        offset: h.offset,
-    };
+    let set = Set::of(words, h.root, h.offset);
     let first = store::bounds::first_held(&set);
     let last = store::bounds::last_held(&set);
     h.ones == v.ones
@@ -346,13 +339,7 @@ fn place_at(words: &[u64], k: u64) -> Option<Place>
     if !world_fits(&words[128..], h) || floor > ceiling {
         return None;
     }
-    let set = Set {
-        runs: Runs {
-            nodes: &words[128..],
-            root: h.root,
-        },
-        offset: h.offset,
-    };
+    let set = Set::of(&words[128..], h.root, h.offset);
     let n = store::bounds::logical_runs(&set, h.runs);
     if n > ceiling {
         return None;

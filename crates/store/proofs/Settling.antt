@@ -17,8 +17,9 @@ use Rattle.run_index.proofs.Balance.{halved-balanced}
 use Rattle.run_index.proofs.Strings.{times-append, length_both, count-numbers, length-numbers, strung-kept}
 use Rattle.run_index.proofs.Laying.{strung-laid}
 use Rattle.store.specs.declared.World.{World}
+use Rattle.store.specs.declared.Set.{Set}
 use Rattle.store.specs.declared.Links.{Links}
-use Rattle.store.specs.Layout.{links_of, turned, held_from, held_in}
+use Rattle.store.specs.Layout.{links_of, turned, held, held_from, held_in}
 use Rattle.store.specs.Soundness.{Chain, first_of, last_of, Share, Still, Kept, Limited}
 use Rattle.store.proofs.Turn.{turned_zero}
 use Rattle.store.specs.Settle.{Shows, Became, Refreshes, Rooted, Strewn, LinksUp}
@@ -74,13 +75,13 @@ module _ {w : List ℕ} {x : Links} where
   kept-indexed {s} {t} k = (s.tag, t, kept-index k)
 
   -- what the searches tell of the positions held
-  pub first-told : {s : Share} {t : Tree} {ns : List ℕ} {r : ℕ} (o : ℕ) → Kept w s x t ns → r ≡ first_of (held_runs (turned o (mem (runs_from w x.root))))
-      → r ≡ first_of (held_runs (held_from w x.root o))
-  first-told o k e = e ∙ ap (λ (P : Positions). first_of (held_runs P)) (kept-seen k o)
+  pub first-told : {s : Share} {t : Tree} {ns : List ℕ} {r : ℕ} (o : ℕ) → Kept w s x t ns → (z : Set) → z ≡ record { runs = runs_from w x.root; offset = o }
+      → r ≡ first_of (held_runs (held z)) → r ≡ first_of (held_runs (held_from w x.root o))
+  first-told o k z of e = e ∙ ap (λ (P : Positions). first_of (held_runs P)) (ap held of ∙ kept-seen k o)
 
-  pub last-told : {s : Share} {t : Tree} {ns : List ℕ} {r : ℕ} (o : ℕ) → Kept w s x t ns → r ≡ last_of (held_runs (turned o (mem (runs_from w x.root))))
-      → r ≡ last_of (held_runs (held_from w x.root o))
-  last-told o k e = e ∙ ap (λ (P : Positions). last_of (held_runs P)) (kept-seen k o)
+  pub last-told : {s : Share} {t : Tree} {ns : List ℕ} {r : ℕ} (o : ℕ) → Kept w s x t ns → (z : Set) → z ≡ record { runs = runs_from w x.root; offset = o }
+      → r ≡ last_of (held_runs (held z)) → r ≡ last_of (held_runs (held_from w x.root o))
+  last-told o k z of e = e ∙ ap (λ (P : Positions). last_of (held_runs P)) (ap held of ∙ kept-seen k o)
 
   -- the world that the root's node v and the first and last position tell
   pub refresh-told : {o a b : ℕ} {v : Node} → (x.root ≡ 0 → ⊥) → v ≡ cell_at w x.root → a ≡ first_of (held_runs (held_from w x.root o))

@@ -78,19 +78,26 @@ pub struct Set<'a> {
     pub offset: u64,
 }
 
+impl<'a> Set<'a> {
+    // The set whose tree has this root among the nodes.
+    pub fn of(nodes: &'a [u64], root: u64, offset: u64) -> Set<'a>
+        requires { Indexed nodes.now root }
+        ensures { result ≡ record { runs = runs_from nodes.now root; offset = «offset» } }
+    {
+        Set {
+            runs: Runs { nodes, root },
+            offset,
+        }
+    }
+}
+
 // The set of a world that stands in the nodes.
 pub fn set_of<'a>(words: &'a [u64], h: World) -> Set<'a>
     requires { Stands words.now h }
     ensures positions { held result ≡ held_in words.now h }
     ensures runs { h.runs ≡ length result.runs }
 {
-    Set {
-        runs: Runs {
-            nodes: words,
-            root: h.root,
-        },
-        offset: h.offset,
-    }
+    Set::of(words, h.root, h.offset)
 }
 
 // The runs that links lead to, which lie at physical positions.
@@ -176,13 +183,7 @@ fn claim(words: &[u64], k: u64) -> u64
 {
     let h = read_world(words, k);
     let v = run_index::read_node(words, k + 1);
-    let set = Set {
-        runs: Runs {
-            nodes: &words[128..],
-            root: h.root,
-        },
-        offset: h.offset,
-    };
+    let set = Set::of(&words[128..], h.root, h.offset);
     let n = bounds::logical_runs(&set, h.runs);
     n.max(v.ones)
 }

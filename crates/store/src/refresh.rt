@@ -10,7 +10,6 @@ ghost use Rattle.store.specs.Settle.{Refreshes, Rooted, Resettable, ResettableFr
 use crate::{Links, Set, World};
 use model::Logical;
 use model::between::Interval;
-use run_index::search::Runs;
 
 // A world that holds nothing.
 // No From: links do not tell that the world holds nothing, which the name does.
@@ -34,10 +33,7 @@ pub fn refresh(words: &[u64], x: Links, offset: u64) -> World
         return vacant(x);
     }
     let v = run_index::read_node(words, root);
-    let set = Set {
-        runs: Runs { nodes: words, root },
-        offset,
-    };
+    let set = Set::of(words, root, offset);
     let first = crate::bounds::first_held(&set);
     let last = crate::bounds::last_held(&set);
     World {
@@ -69,13 +65,7 @@ fn first_after(words: &[u64], x: Links, h: World, a: Logical, value: bool) -> u6
     if first < at {
         return first;
     }
-    let set = Set {
-        runs: Runs {
-            nodes: words,
-            root: x.root,
-        },
-        offset: h.offset,
-    };
+    let set = Set::of(words, x.root, h.offset);
     crate::bounds::first_held(&set).0
 }
 
@@ -96,13 +86,7 @@ fn last_after(words: &[u64], x: Links, h: World, b: Logical, value: bool) -> u64
     if at < last {
         return last;
     }
-    let set = Set {
-        runs: Runs {
-            nodes: words,
-            root: x.root,
-        },
-        offset: h.offset,
-    };
+    let set = Set::of(words, x.root, h.offset);
     crate::bounds::last_held(&set).0
 }
 

@@ -1,5 +1,7 @@
 -- `place_at` meets its contract: the tests are the definition's; what `bounds` tells of the tree is what the world's positions have. Assumes
 -- nothing.
+use Rattle.std.proofs.Common.{length, sym, ap, ◌∙◌}
+use Rattle.store.specs.declared.Set.{Set}
 use Rattle.soundness.proofs.Placed.{limits-fail, world-fails, world-counted, world-seen, runs-fail, runs_fit}
 use Rattle.soundness.proofs.place_at.Goals as goal
 use Rattle.soundness.proofs.place_at.Goals.{then-not-world_fits-via-then-not-world_fits, then-not-world_fits-via-else-not-world_fits+then-floor-ceiling}
@@ -12,18 +14,19 @@ returns-then-not-world_fits c =
           limits-fail c.args.words.now c.args.k _ c.read_node-v.ensures w.if-floor-ceiling.true
     ]
 
-pub invariant_of-set : goal.invariant_of-set
-invariant_of-set c = world-seen c.args.words.now _ c.read_world-h.result c.read_world-h.ensures _ c.world_fits.ensures c.if-not-world_fits.false
+pub of-set-requires : goal.of-set-requires
+of-set-requires c = world-seen c.args.words.now _ c.read_world-h.result c.read_world-h.ensures _ c.world_fits.ensures c.if-not-world_fits.false
 
 pub logical_runs-n-requires : goal.logical_runs-n-requires
 logical_runs-n-requires c = world-counted c.args.words.now _ c.read_world-h.result c.read_world-h.ensures _ c.world_fits.ensures c.if-not-world_fits.false
+    ∙ ap (λ (s : Set). length s.runs) (sym c.of-set.ensures)
 
 pub returns-then-n-ceiling : goal.returns-then-n-ceiling
 returns-then-n-ceiling c =
     runs-fail c.args.words.now _ _ c.read_world-h.ensures _ c.world_fits.ensures c.if-not-world_fits.false
-    _ c.read_node-v.ensures c.if-floor-ceiling.false _ c.logical_runs-n.ensures c.if-n-ceiling.true
+    _ c.read_node-v.ensures c.if-floor-ceiling.false _ c.of-set.ensures _ c.logical_runs-n.ensures c.if-n-ceiling.true
 
 pub returns : goal.returns
 returns c =
     runs_fit c.args.words.now _ _ c.read_world-h.ensures _ c.world_fits.ensures c.if-not-world_fits.false
-    _ c.read_node-v.ensures c.if-floor-ceiling.false _ c.logical_runs-n.ensures c.if-n-ceiling.false _ c.max.ensures
+    _ c.read_node-v.ensures c.if-floor-ceiling.false _ c.of-set.ensures _ c.logical_runs-n.ensures c.if-n-ceiling.false _ c.max.ensures

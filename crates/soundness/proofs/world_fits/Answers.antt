@@ -35,20 +35,20 @@ returns-then-v-gt-MAX_HEIGHT c =
           tree-fails _ c.args.h _ c.below-v.ensures w.if-v-gt-MAX_HEIGHT.false _ w.tree_fits.ensures w.if-not-tree_fits.true
     ]
 
-pub invariant_of-set : goal.invariant_of-set
-invariant_of-set c = indexed _ c.args.h (tree c)
+pub of-set-requires : goal.of-set-requires
+of-set-requires c = indexed _ c.args.h (tree c)
 
 pub returns-then-h-ne0 : goal.returns-then-h-ne0
 returns-then-h-ne0 c =
-    let e = world-is _ c.args.h (tree (goal.at.returns-then-h-ne0 c).Else-not-tree_fits) _ c.below-v.ensures _ c.first_held-first.ensures _ c.last_held-last.ensures in
+    let e = world-is _ c.args.h (tree (goal.at.returns-then-h-ne0 c).Else-not-tree_fits) _ c.below-v.ensures _ c.of-set.ensures _ c.first_held-first.ensures _ c.last_held-last.ensures in
     grind (arith, nat_tests)
 
 pub returns-else-h-ne0 : goal.returns-else-h-ne0
 returns-else-h-ne0 c =
-    let e = world-is _ c.args.h (tree (goal.at.returns-else-h-ne0 c).Else-not-tree_fits) _ c.below-v.ensures _ c.first_held-first.ensures _ c.last_held-last.ensures in
+    let e = world-is _ c.args.h (tree (goal.at.returns-else-h-ne0 c).Else-not-tree_fits) _ c.below-v.ensures _ c.of-set.ensures _ c.first_held-first.ensures _ c.last_held-last.ensures in
     grind (arith, nat_tests)
 
 pub returns-else-h-last : goal.returns-else-h-last
 returns-else-h-last c =
-    let e = world-is _ c.args.h (tree (goal.at.returns-else-h-last c).Else-not-tree_fits) _ c.below-v.ensures _ c.first_held-first.ensures _ c.last_held-last.ensures in
+    let e = world-is _ c.args.h (tree (goal.at.returns-else-h-last c).Else-not-tree_fits) _ c.below-v.ensures _ c.of-set.ensures _ c.first_held-first.ensures _ c.last_held-last.ensures in
     grind (arith, nat_tests)

@@ -1,6 +1,8 @@
 -- `claim` meets its contract: the count of logical runs is asked of the nodes, and tells those of the positions held. Assumes nothing.
-use Rattle.std.proofs.Common.{◌∙◌}
-use Rattle.store.specs.Layout.{world_at, nodes}
+use Rattle.std.proofs.Common.{length, sym, ap, ◌∙◌}
+use Rattle.model.specs.Positions.{stretches}
+use Rattle.store.specs.declared.Set.{Set}
+use Rattle.store.specs.Layout.{world_at, nodes, held}
 use Rattle.store.specs.Soundness.{Planted}
 use Rattle.store.proofs.Worlds.{planted-indexed, planted-counted, claim-told}
 use Rattle.store.proofs.claim.Goals as goal
@@ -10,16 +12,17 @@ use Rattle.store.proofs.claim.Goals.{Start}
 planted : (c : Start) → Planted (nodes c.args.words.now) (world_at c.args.words.now c.args.k)
 planted c = c.requires.planted
 
-pub invariant_of-set : goal.invariant_of-set
-invariant_of-set c =
-    planted-indexed c.args.words.now c.args.k (planted (goal.at.invariant_of-set c).Start) c.read_world-h.result c.read_world-h.ensures
+pub of-set-requires : goal.of-set-requires
+of-set-requires c =
+    planted-indexed c.args.words.now c.args.k (planted (goal.at.of-set-requires c).Start) c.read_world-h.result c.read_world-h.ensures
 
 pub logical_runs-n-requires : goal.logical_runs-n-requires
 logical_runs-n-requires c =
     planted-counted c.args.words.now c.args.k (planted (goal.at.logical_runs-n-requires c).Start) c.read_world-h.result c.read_world-h.ensures
+    ∙ ap (λ (s : Set). length s.runs) (sym c.of-set.ensures)
 
 pub returns : goal.returns
 returns c =
     c.max.ensures
     ∙ claim-told c.args.words.now c.args.k (planted (goal.at.returns c).Start) c.read_world-h.result c.read_node-v.result c.logical_runs-n.result
-    c.read_world-h.ensures c.read_node-v.ensures c.logical_runs-n.ensures
+    c.read_world-h.ensures c.read_node-v.ensures (c.logical_runs-n.ensures ∙ ap (λ (s : Set). stretches (held s)) c.of-set.ensures)

@@ -13,4 +13,4 @@ pub returns-then-first-at : goal.returns-then-first-at
 returns-then-first-at c = spared-first c.requires.1 c.if-value.false c.if-first-at.true
 
 pub returns : goal.returns
-returns c = first-told _ c.requires.1.4 c.first_held.ensures
+returns c = first-told _ c.requires.1.4 _ c.of-set.ensures c.first_held.ensures

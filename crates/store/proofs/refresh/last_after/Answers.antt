@@ -14,4 +14,4 @@ pub returns-then-at-last : goal.returns-then-at-last
 returns-then-at-last c = spared-last c.requires.1 c.if-value.false c.if-at-last.true
 
 pub returns : goal.returns
-returns c = last-told _ c.requires.1.4 c.last_held.ensures
+returns c = last-told _ c.requires.1.4 _ c.of-set.ensures c.last_held.ensures

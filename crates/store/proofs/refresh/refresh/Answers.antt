@@ -7,5 +7,5 @@ returns-then-root-eq0 c = refresh-empty _ c.if-root-eq0.true c.vacant.ensures
 
 pub returns : goal.returns
 returns c =
-    refresh-told c.if-root-eq0.false c.read_node-v.ensures (first-told _ c.requires.3 c.first_held-first.ensures)
-    (last-told _ c.requires.3 c.last_held-last.ensures)
+    refresh-told c.if-root-eq0.false c.read_node-v.ensures (first-told _ c.requires.3 _ c.of-set.ensures c.first_held-first.ensures)
+    (last-told _ c.requires.3 _ c.of-set.ensures c.last_held-last.ensures)
