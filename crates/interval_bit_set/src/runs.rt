@@ -5,12 +5,11 @@ ghost use Rattle.model.specs.Answers.{completed_answer};
 ghost use Rattle.promises.specs.Met.{Met};
 
 use model::{Refusal, Run};
-use written::runs::Runs;
 
 // Gives a world the set of a run list, whatever it held.
 pub fn from_sorted_runs(words: &mut [u64], world: u64, runs: &[Run]) -> Result<(), Refusal>
     ensures { Met words.old world (Call.build runs.now) (completed_answer result) words.new }
 {
     crate::look::look_at(words, world)?;
-    sets::bytes::build(words, world, Runs(runs))
+    sets::bytes::build(words, world, runs)
 }

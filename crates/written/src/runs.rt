@@ -93,18 +93,15 @@ impl<'a> RunList for Told<'a> {
 }
 
 // Runs one after another.
-#[derive(Clone, Copy)]
-pub struct Runs<'a>(pub &'a [Run]);
-
-impl<'a> RunList for Runs<'a> {
-    ghost runs = { λ l. l.0.now };
+impl<'a> RunList for &'a [Run] {
+    ghost runs = { λ l. l.now };
 
     fn count(self) -> u64 {
-        self.0.len() as u64
+        self.len() as u64
     }
 
     fn run(self, i: u64) -> Run {
-        self.0[i as usize]
+        self[i as usize]
     }
 }
 
