@@ -15,13 +15,13 @@ use Rattle.model.specs.Numbers.{size, worth}
 use Rattle.model.proofs.Numbers.{split}
 use Rattle.model.specs.Positions.{Positions, count}
 use Rattle.model.proofs.Counting.{count-both}
-use Rattle.model.specs.Bytes.{stray_bits, fill_of}
+use Rattle.model.specs.Bytes.{map_length, stray_bits, fill_of}
 use Rattle.model.specs.Refusals.{window, before_capacity, ◌when◌, first_given, refusal, bad_window, bad_map, stray, map_conditions}
 
 -- whether a map has its window's length
-pub map-fits : (n : ℕ) (bs : List ℕ) → eqb (length bs) ((n + 7) / 8) ≡ not (bad_map n bs)
+pub map-fits : (n : ℕ) (bs : List ℕ) {due : ℕ} → due ≡ map_length n → eqb (length bs) due ≡ not (bad_map n bs)
 unfolding bad_map
-map-fits n bs = sym (not-not (eqb (length bs) ((n + 7) / 8)))
+map-fits n bs e = ap (eqb (length bs)) e ∙ sym (not-not (eqb (length bs) (map_length n)))
 
 module _ (base n : ℕ) where
   -- a window of no position is none

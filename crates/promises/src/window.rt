@@ -24,5 +24,5 @@ pub fn map_length_fits(bytes: &[u8], n: u64) -> bool
     requires { n ≤ longest }
     ensures { result ≡ not (bad_map n bytes.now) }
 {
-    bytes.len() as u64 == (n + 7) / 8
+    bytes.len() as u64 == n.div_ceil(8)
 }

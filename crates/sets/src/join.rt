@@ -93,7 +93,7 @@ pub fn not(words: &mut [u64], world: u64, a: &[u64], i: u64) -> Result<(), Refus
 }
 
 // The set moved by the distance, up (left) or down: read under another offset, and what would come in from the other end cut off.
-// `left` chooses the offset, and the range that is kept.
+// `left` chooses the offset and the range that is kept, and nothing else.
 pub fn shifted(
     words: &mut [u64],
     world: u64,
@@ -106,37 +106,25 @@ pub fn shifted(
     requires readable_2 { Readable a.now i }
     ensures { Met words.old world (Call.shifted distance left (site a.now i)) (completed_answer result) words.new }
 {
-    let x = view(a, i);
-    if left {
-        let up = View {
-            offset: x.offset.wrapping_add(distance),
-            ..x
-        };
-        let kept = Interval {
-            first: Logical(distance),
-            last: Logical(u64::MAX),
-        };
-        return gathered(
-            words,
-            world,
-            Operation::And,
-            Feed::Held(&a[128..], up),
-            Feed::Only(kept),
-        );
-    }
-    let down = View {
-        offset: x.offset.wrapping_sub(distance),
-        ..x
+    let View { root, offset } = view(a, i);
+    let (moved, first, last) = if left {
+        (offset.wrapping_add(distance), distance, u64::MAX)
+    } else {
+        (offset.wrapping_sub(distance), 0, u64::MAX - distance)
     };
     let kept = Interval {
-        first: Logical(0),
-        last: Logical(u64::MAX - distance),
+        first: Logical(first),
+        last: Logical(last),
+    };
+    let x = View {
+        root,
+        offset: moved,
     };
     gathered(
         words,
         world,
         Operation::And,
-        Feed::Held(&a[128..], down),
+        Feed::Held(&a[128..], x),
         Feed::Only(kept),
     )
 }

@@ -40,7 +40,7 @@ pub fn write_map<const WIDE: bool>(
     if !promises::window::window_fits(base, n) {
         return Err(Refusal::Window);
     }
-    let due = ((n + 7) / 8) as usize;
+    let due = n.div_ceil(8) as usize;
     if out.len() < due {
         return Err(Refusal::OutputShort);
     }

@@ -1,27 +1,45 @@
 -- `shifted` meets its contract: an opened world is read under an offset moved by the distance, and what comes in from the other end is cut off.
 -- Assumes nothing.
-use Rattle.std.proofs.Common.{◌+◌, ◌-◌, ◌%◌, refl, arith}
+use Rattle.std.proofs.Common.{◌≡◌, ℕ, ◌+◌, ◌-◌, ◌%◌, ◌<◌, [], ◌∷◌, refl, sym, ap, subst, arith}
+use Rattle.model.specs.declared.Operation.TheVariants.{And}
 use Rattle.model.specs.Numbers.{size}
+use Rattle.model.specs.Positions.{combined, shift_by, mem, run}
+use Rattle.model.specs.Model.{positions_of}
+use Rattle.store.specs.Layout.{held_from}
+use Rattle.store.proofs.Parts.{lent}
+use Rattle.promises.specs.Met.{fed_of}
 use Rattle.sets.proofs.Joins.{view-rooted, left-alike, right-alike}
 use Rattle.promises.proofs.Overwriting.{reads_none, carried, shifted-says}
 use Rattle.sets.proofs.join.shifted.Goals as goal
+use Rattle.sets.proofs.join.shifted.Goals.{After-gathered, then-left, else-left}
 
+-- what is kept ends within the positions
 pub gathered-requires-clause-sources : goal.gathered-requires-clause-sources
 gathered-requires-clause-sources c =
-    record { left = view-rooted c.view-x.ensures; right = omega (arith, c.ranges.distance.fits) }
+    elim c.if-left.branch [
+      | then-left w ↦ record { left = view-rooted c.view-root.ensures; right = omega (arith, ap (λ t. t.2) w.moved-is) }
+      | else-left w ↦ record { left = view-rooted c.view-root.ensures; right = omega (arith, ap (λ t. t.2) w.moved-is) }
+    ]
 
-pub returns-then-left : goal.returns-then-left
-returns-then-left c =
-    let f = left-alike c.requires.readable_2 c.view-x.ensures _ _ (omega (arith, c.ranges.distance.fits)) _ (omega (arith, c.view-x.type_inv)) c.if-left.true refl in
-    carried (shifted-says _ _ _ _ _) c.requires.readable _ (reads_none c.requires.readable_2) f c.gathered.result c.gathered.ensures
-
-pub gathered-requires-2-clause-sources : goal.gathered-requires-2-clause-sources
-gathered-requires-2-clause-sources c =
-    record { left = view-rooted c.view-x.ensures; right = omega arith }
+-- what is read under the offset t.0 from t.1 to t.2 is the shifted set
+Shifted : (c : After-gathered) → ℕ × ℕ × ℕ → Type 0
+Shifted c t = (x : ℕ) → x < size
+    → combined And (held_from (lent c.args.a.now) c.view-root.result.root t.0) (mem (run t.1 t.2 ∷ [])) x
+    ≡ shift_by c.args.distance c.args.left (positions_of (fed_of c.args.a.now c.args.i)) x
 
 pub returns : goal.returns
+unfolding Shifted
 returns c =
-    let f =
-    right-alike c.requires.readable_2 c.view-x.ensures _ _ (omega (arith, c.ranges.distance.fits)) ((c.view-x.result.offset + (size - c.args.distance)) % size) (omega arith)
-    c.if-left.false (omega (arith, c.ranges.distance.fits, c.view-x.type_inv)) in
-    carried (shifted-says _ _ _ _ _) c.requires.readable _ (reads_none c.requires.readable_2) f c.gathered-2.result c.gathered-2.ensures
+    let o = goal.at.returns c in
+    let below = c.ranges.distance.fits in
+    let f : Shifted o.After-gathered c.if-left.moved =
+    elim c.if-left.branch [
+      | then-left w ↦
+          subst (Shifted o.After-gathered) (sym w.moved-is)
+          (left-alike c.requires.readable_2 c.view-root.ensures _ _ (omega (arith, below)) _ (omega (arith, c.view-root.type_inv)) w.if-left.true refl)
+      | else-left w ↦
+          subst (Shifted o.After-gathered) (sym w.moved-is)
+          (right-alike c.requires.readable_2 c.view-root.ensures _ _ (omega (arith, below)) ((c.view-root.result.offset + (size - c.args.distance)) % size) (omega arith)
+          w.if-left.false (omega (arith, below, c.view-root.type_inv)))
+    ] in
+    carried (shifted-says _ _ _ _ _) c.requires.readable _ (reads_none c.requires.readable_2) f c.gathered.result c.gathered.ensures

@@ -1,7 +1,7 @@
 -- `write_map` meets its contract: a window has at most 524,288 positions, so the bytes due fit a word; the slice has room for them or is
 -- too short; both forms write the same map. Assumes nothing.
 use Rattle.std.specs.Prelude.{Ok}
-use Rattle.std.proofs.Common.{ap, not, ◌≡◌, ℕ, ◌+◌, ◌≤◌, false, List, length, sym, arith}
+use Rattle.std.proofs.Common.{ap, not, ◌≡◌, ℕ, ◌+◌, ◌≤◌, false, List, length, sym, ◌∙◌, arith}
 use Rattle.model.specs.Numbers.{size}
 use Rattle.model.specs.Bytes.{map_length, map_of, into_front}
 use Rattle.model.specs.Call.{Call}
@@ -21,27 +21,29 @@ use Rattle.sets.proofs.write.write_map.Goals.{After-open-h, Else-not-window_fits
 good : {g : _} (r : Else-not-window_fits g) → bad_window r.args.base r.args.n ≡ false
 good r = bad-by _ _ _ r.window_fits.ensures (ap not r.if-not-window_fits.false)
 
+-- as many bytes as its map has
+due : {g : _} (o : After-open-h g) → map_length o.args.n ≡ o.div_ceil-due.result
+due o = omega (arith, o.div_ceil-due.ensures)
+
 -- there is a window, and room for its map
 room : {g : _} (o : After-open-h g) → let a = o.args in ((1 ≤ a.n) × (a.base + a.n ≤ size)) × (map_length a.n ≤ length a.out.now)
-room o = let f = fitting _ _ ((bad-by _ _ _ o.window_fits.ensures (ap not o.if-not-window_fits.false))) in ((f.some, f.below), o.if-out-due.false)
+room o = let f = fitting _ _ ((bad-by _ _ _ o.window_fits.ensures (ap not o.if-not-window_fits.false))) in ((f.some, f.below), omega (arith, due o, o.if-out-due.false))
 
 -- and the map is there, in whichever way it was written
 done : {g : _} (o : After-open-h g) {out : List ℕ}
     → let a = o.args in
     out ≡ into_front (map_of (held_in (lent a.words.now) o.open-h.result) a.base a.n) a.out.now
-    → WritesOut (Call.write_map a.base a.n) a.words.now a.world a.out.now (Ok (map_length a.n)) out
+    → WritesOut (Call.write_map a.base a.n) a.words.now a.world a.out.now (Ok o.div_ceil-due.result) out
 done o =
-    put-done (write-map-puts _ _ _ _ _) o.requires (sym (map_of-length _ _ _)) o.open-h.ensures (window-passes _ _ ((bad-by _ _ _ o.window_fits.ensures (ap not o.if-not-window_fits.false)))) o.if-out-due.false
+    put-done (write-map-puts _ _ _ _ _) o.requires (sym (due o) ∙ sym (map_of-length _ _ _)) o.open-h.ensures
+    (window-passes _ _ (bad-by _ _ _ o.window_fits.ensures (ap not o.if-not-window_fits.false))) o.if-out-due.false
 
 pub returns-then-not-window_fits : goal.returns-then-not-window_fits
 returns-then-not-window_fits g c = put-no-window _ _ _ _ _ c.requires (bad-by _ _ _ c.window_fits.ensures (ap not c.if-not-window_fits.true))
 
-pub overflow_add-due : goal.overflow_add-due
-overflow_add-due g c = let f = fitting _ _ (good (goal.at.overflow_add-due g c).Else-not-window_fits) in omega arith
-
 pub returns-then-out-due : goal.returns-then-out-due
 returns-then-out-due g c =
-    put-short (write-map-puts _ _ _ _ _) c.requires (sym (map_of-length _ _ _)) c.if-out-due.true (short-after-window _ _ (good (goal.at.returns-then-out-due g c).Else-not-window_fits))
+    put-short (write-map-puts _ _ _ _ _) c.requires (omega (arith, c.div_ceil-due.ensures) ∙ sym (map_of-length _ _ _)) c.if-out-due.true (short-after-window _ _ (good (goal.at.returns-then-out-due g c).Else-not-window_fits))
 
 pub write_map-requires-clause-scannable : goal.write_map-requires-clause-scannable
 write_map-requires-clause-scannable g c = lent-scannable c.open-h.ensures
