@@ -85,7 +85,8 @@ fn inside(words: &[u64], link: u64) -> bool
 }
 
 // The words of the node at a link, zeros where there is none.
-// Zeros and no Option: they are the height and the sums of an empty tree, so that a missing side is tested as any other.
+// Zeros and no Option: they are the height and the sums of an empty tree, so that a missing side is tested as any other. Not one with
+// `run_index::sums`: that tells of a tree that is known to be there, and here nothing is known yet but the words.
 #[tactic(auto, using(std::proofs::lemmas::Bool::Decides::nat_tests), unfolding(crate::specs::Decision::below_of))]
 fn below(words: &[u64], link: u64) -> Node
     requires { Room words.now link }
@@ -95,14 +96,6 @@ fn below(words: &[u64], link: u64) -> Node
         return Node::default();
     }
     run_index::read_node(words, link)
-}
-
-// How many positions the run of a node has, modulo 2^64.
-fn own_ones(v: Node) -> u64
-    requires { v.start ≤ v.«end» }
-    ensures { result ≡ width v.start v.«end» }
-{
-    (v.end - v.start).wrapping_add(1)
 }
 
 // Whether a node has the tag that it is to have, and its run lies within the bounds.
@@ -134,7 +127,7 @@ fn words_fit(v: Node, x: Node, y: Node, bounds: Bounds) -> bool
     x.runs < v.runs
         && v.runs - x.runs - 1 == y.runs
         && run_fits(v, bounds)
-        && v.ones == x.ones.wrapping_add(y.ones).wrapping_add(own_ones(v))
+        && v.ones == x.ones.wrapping_add(y.ones).wrapping_add(run_index::wrapped_width(v.start, v.end))
 }
 
 // The same with its height.
@@ -155,7 +148,7 @@ fn leaf_fits(v: Node, bounds: Bounds) -> bool
             end: v.end,
             height: 1,
             runs: 1,
-            ones: own_ones(v),
+            ones: run_index::wrapped_width(v.start, v.end),
             tag: bounds.tag,
             ..Node::default()
         }

@@ -20,7 +20,7 @@ pub mod places;
 pub mod refresh;
 
 // A store, as its length tells of it: the most logical runs that its worlds may hold together.
-// A capacity of 0 and no Option: where words are known to be a pool the capacity is read too, and would be unwrapped each time.
+// A capacity of 0 and no Option: the calls that know their words to be a pool read the capacity too, and would have to answer something for none.
 #[derive(Clone, Copy)]
 pub struct Store {
     pub capacity: u64,

@@ -71,7 +71,7 @@ fn fill<'a>(into: &mut [u64], head: u64, op: Operation, x: Feed<'a>, y: Feed<'a>
     let mut at = head;
     let mut n: u64 = 0;
     while let Some(r) = joint.next() {
-        at = run_index::chains::lay_run(into, at, r.start, r.end);
+        at = run_index::chains::lay_run(into, at, r);
         n += 1;
     }
     n

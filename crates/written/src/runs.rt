@@ -105,13 +105,13 @@ impl<'a> RunList for &'a [Run] {
     }
 }
 
-// Whether the run start..=end may follow one that ended at `last`, or be the first.
-pub fn follows(last: Option<u64>, start: u64, end: u64) -> bool
-    ensures { result ≡ (leb (least_after last) start && leb start «end») }
+// Whether a run may follow one that ended at `last`, or be the first.
+pub fn follows(last: Option<u64>, r: Run) -> bool
+    ensures { result ≡ (leb (least_after last) r.start && leb r.start r.«end») }
 {
     match last {
-        None => start <= end,
-        Some(last) => start <= end && last <= start && start - last >= 2,
+        None => r.start <= r.end,
+        Some(last) => r.start <= r.end && last <= r.start && r.start - last >= 2,
     }
 }
 
@@ -123,7 +123,7 @@ pub fn in_order<L: RunList + Copy>(runs: L) -> bool
     let mut last = None;
     for i in 0..runs.count() {
         let r = runs.run(i);
-        if !follows(last, r.start, r.end) {
+        if !follows(last, r) {
             return false;
         }
         last = Some(r.end);
@@ -140,7 +140,7 @@ pub fn put_runs<L: RunList + Copy>(into: &mut [u64], head: u64, runs: L)
     let mut node = head;
     for i in 0..runs.count() {
         let r = runs.run(i);
-        node = run_index::chains::lay_run(into, node, r.start, r.end);
+        node = run_index::chains::lay_run(into, node, r);
     }
 }
 

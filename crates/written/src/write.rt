@@ -10,7 +10,7 @@ ghost use Rattle.store.specs.Soundness.{Stands};
 ghost use Rattle.written.specs.Placed.{placed, strewn, head_of, put_run};
 
 use crate::runs::{RunList, Told};
-use model::{Edition, Logical};
+use model::{Edition, Logical, Run};
 use store::World;
 use streams::source::{Reader, View};
 
@@ -34,25 +34,25 @@ pub fn put_head(out: &mut [u8], edition: Edition, n: u64)
     crate::numbers::put_count(out, 1, n);
 }
 
-// Writes start and end as 16 bytes that stand `step` apart.
+// Writes start and end of a run as 16 bytes that stand `step` apart.
 #[inline(always)]
-fn put_both(out: &mut [u8], at: usize, step: usize, start: u64, end: u64)
+fn put_both(out: &mut [u8], at: usize, step: usize, r: Run)
     requires { at + 15 * step < length out.old }
-    ensures { out.new ≡ strewn at step (big_endian 8 start ++ big_endian 8 «end») out.old }
+    ensures { out.new ≡ strewn at step (big_endian 8 r.start ++ big_endian 8 r.«end») out.old }
 {
-    crate::numbers::put_word(out, at, step, start);
-    crate::numbers::put_word(out, at + 8 * step, step, end);
+    crate::numbers::put_word(out, at, step, r.start);
+    crate::numbers::put_word(out, at + 8 * step, step, r.end);
 }
 
 // Writes run i of n in either edition.
 // By number: where run i of n goes depends on both, and in edition 2 its bytes lie all over the slice.
-pub fn put_run(out: &mut [u8], edition: Edition, n: u64, i: u64, start: u64, end: u64)
+pub fn put_run(out: &mut [u8], edition: Edition, n: u64, i: u64, r: Run)
     requires { (5 + 16 * n ≤ length out.old) × (i < n) }
-    ensures { out.new ≡ put_run edition n i start «end» out.old }
+    ensures { out.new ≡ put_run edition n i r.start r.«end» out.old }
 {
     match edition {
-        Edition::Rows => put_both(out, (5 + 16 * i) as usize, 1, start, end),
-        Edition::Columns => put_both(out, (5 + i) as usize, n as usize, start, end),
+        Edition::Rows => put_both(out, (5 + 16 * i) as usize, 1, r),
+        Edition::Columns => put_both(out, (5 + i) as usize, n as usize, r),
     }
 }
 
@@ -71,7 +71,7 @@ pub fn write_set(words: &[u64], h: World, edition: Edition, out: &mut [u8])
     let mut held = Reader::open(words, v, Logical(0));
     let mut i: u64 = 0;
     while let Some(r) = held.next() {
-        put_run(out, edition, n, i, r.start, r.end);
+        put_run(out, edition, n, i, r);
         i += 1;
     }
 }
@@ -96,6 +96,6 @@ pub fn convert(told: Told<'_>, out: &mut [u8])
     put_head(out, to, told.count);
     for i in 0..told.count {
         let r = told.run(i);
-        put_run(out, to, told.count, i, r.start, r.end);
+        put_run(out, to, told.count, i, r);
     }
 }

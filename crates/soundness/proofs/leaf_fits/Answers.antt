@@ -4,9 +4,9 @@ use Rattle.std.proofs.lemmas.Bool.Decides.{nat_tests}
 use Rattle.soundness.specs.Decision.{within_b, run_b, leaf_b}
 use Rattle.soundness.proofs.leaf_fits.Goals as goal
 
-pub own_ones-requires : goal.own_ones-requires
+pub wrapped_width-requires : goal.wrapped_width-requires
 unfolding within_b
-own_ones-requires c = grind (arith, nat_tests)
+wrapped_width-requires c = grind (arith, nat_tests)
 
 pub returns-then-admits : goal.returns-then-admits
 unfolding leaf_b run_b

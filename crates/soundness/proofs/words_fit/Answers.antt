@@ -4,9 +4,9 @@ use Rattle.std.proofs.lemmas.Bool.Decides.{nat_tests}
 use Rattle.soundness.specs.Decision.{words_b, run_b, within_b, sums_b}
 use Rattle.soundness.proofs.words_fit.Goals as goal
 
-pub own_ones-requires : goal.own_ones-requires
+pub wrapped_width-requires : goal.wrapped_width-requires
 unfolding run_b within_b
-own_ones-requires c = grind (arith, nat_tests)
+wrapped_width-requires c = grind (arith, nat_tests)
 
 pub returns-then-run_fits : goal.returns-then-run_fits
 unfolding words_b sums_b
