@@ -127,7 +127,10 @@ fn words_fit(v: Node, x: Node, y: Node, bounds: Bounds) -> bool
     x.runs < v.runs
         && v.runs - x.runs - 1 == y.runs
         && run_fits(v, bounds)
-        && v.ones == x.ones.wrapping_add(y.ones).wrapping_add(run_index::wrapped_width(v.start, v.end))
+        && v.ones
+            == x.ones
+                .wrapping_add(y.ones)
+                .wrapping_add(run_index::wrapped_width(v.start, v.end))
 }
 
 // The same with its height.

@@ -1,12 +1,8 @@
 -- `chain_fits` meets its contract. The loop's invariant: what is left of the chain decides for the whole. Assumes nothing.
-use Rattle.std.proofs.Common.{sym, ap, ◌∙◌, arith}
-use Rattle.soundness.specs.Decision.{chain_b}
+use Rattle.std.proofs.Common.{sym, ◌∙◌, arith}
 use Rattle.soundness.proofs.Tests.{free-out}
 use Rattle.soundness.proofs.Steps.{chain-end, chain-broken, chain_more}
 use Rattle.soundness.proofs.chain_fits.Goals as goal
-
-pub loop-init : goal.loop-init
-loop-init c = ap (λ j. chain_b j c.args.words.now c.args.head) (omega arith)
 
 pub returns-then-not-node_is_free : goal.returns-then-not-node_is_free
 returns-then-not-node_is_free c = chain-broken _ _ _ _ _ c.loop-test.true c.node_is_free.ensures c.if-not-node_is_free.true ∙ c.loop.invariant

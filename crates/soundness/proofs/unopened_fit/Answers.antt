@@ -1,13 +1,10 @@
 -- `unopened_fit` meets its contract. The loop's invariant: the records that are left decide for all. Assumes nothing.
-use Rattle.std.proofs.Common.{◌≡◌, true, false, refl, ◌∙◌, arith}
+use Rattle.std.proofs.Common.{◌≡◌, true, false, ◌∙◌, arith}
 use Rattle.std.proofs.lemmas.Bool.Decides.{nat_tests}
 use Rattle.store.specs.Layout.{record_at}
 use Rattle.soundness.specs.Decision.{zeros_b, nothing_b}
 use Rattle.soundness.proofs.Records.{unopened-none, unopened-broken, unopened-more}
 use Rattle.soundness.proofs.unopened_fit.Goals as goal
-
-pub loop-k-init : goal.loop-k-init
-loop-k-init c = (c.requires.n_le_most_worlds, refl)
 
 pub returns-then-ne : goal.returns-then-ne
 unfolding nothing_b zeros_b

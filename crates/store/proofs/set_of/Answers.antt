@@ -2,15 +2,12 @@
 use Rattle.std.proofs.Common.{length, sym, ap, ◌∙◌}
 use Rattle.store.specs.declared.Set.{Set}
 use Rattle.store.specs.Layout.{held}
-use Rattle.store.proofs.Opening.{standing-indexed, standing-counted}
+use Rattle.store.proofs.Opening.{standing-counted}
 use Rattle.store.proofs.Reached.{kept-seen}
 use Rattle.store.proofs.set_of.Goals as goal
-
-pub of-requires : goal.of-requires
-of-requires c = standing-indexed c.requires.1
 
 pub returns : goal.returns
 returns c = record {
   positions = ap held c.of.ensures ∙ kept-seen c.requires.1.kept c.args.h.offset;
-  runs = standing-counted c.requires.1 ∙ ap (λ (s : Set). length s.runs) (sym c.of.ensures)
+  runs = standing-counted c.requires.1 ∙ ap (λ (s : Set). length s.runs) (sym c.of.ensures);
 }
