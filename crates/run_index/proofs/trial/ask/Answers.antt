@@ -1,9 +1,6 @@
 -- `ask` meets its contract: what each search tells is computed on the runs of the tree. Assumes nothing.
-use Rattle.run_index.proofs.Planting.{root-runs, indexed, seen, has_one, has-zero, answered}
+use Rattle.run_index.proofs.Planting.{root-runs, seen, has_one, has-zero, answered}
 use Rattle.run_index.proofs.trial.ask.Goals as goal
-
-pub invariant_of-runs : goal.invariant_of-runs
-invariant_of-runs c = indexed c.requires
 
 pub select-one-requires : goal.select-one-requires
 select-one-requires c = has_one (seen c.requires)

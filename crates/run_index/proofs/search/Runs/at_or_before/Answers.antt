@@ -1,8 +1,7 @@
 -- `at_or_before` meets its contract: the node found last counts where the part of the tree at hand has no such run.
 -- The measure is the height of that part. Assumes nothing.
-use Rattle.std.proofs.Common.{◌∙◌}
-use Rattle.run_index.proofs.Walking.{walk_start, walk_end, whole-canonical, walk-left-falls, walk-right-falls, go_left, go_right}
-use Rattle.run_index.proofs.Searching.{near-end, last-start, last-left, last-right}
+use Rattle.run_index.proofs.Walking.{walk_start, whole-canonical, walk-left-falls, walk-right-falls, go_left, go_right}
+use Rattle.run_index.proofs.Searching.{last-start, last-left, last-right}
 use Rattle.run_index.proofs.search.Runs.at_or_before.Goals as goal
 
 pub loop-q-init : goal.loop-q-init
@@ -23,9 +22,6 @@ loop-q-smaller c =
 pub loop-q-preserved : goal.loop-q-preserved
 loop-q-preserved c =
     go_left c.loop-q.invariant _ c.loop-q-test.true c.read_node-v.ensures (λ s. last-left s c.if-v-x.false)
-
-pub returns-clause-found : goal.returns-clause-found
-returns-clause-found c = c.run_of.ensures ∙ near-end (walk_end c.loop-q.invariant c.loop-q-test.false)
 
 pub returns-clause-in_order : goal.returns-clause-in_order
 returns-clause-in_order c = whole-canonical c.self.invariant c.self.view_is
