@@ -1,6 +1,6 @@
 // Mending a written set: its union is loaded into a world, and written, with a report of what became of each run. What the outcome needs is
 // counted from the bytes alone, before anything is written.
-// `right` is found out once: the number of runs and the outcome both depend on it.
+// `right` is handed on, and not found out again where it is asked: that would read all runs a second time.
 ghost use Rattle.std.specs.Prelude.{◌≡◌};
 ghost use Rattle.model.specs.Positions.{stretches};
 ghost use Rattle.model.specs.Bytes.{decode, into_front};

@@ -3,7 +3,7 @@
 // number of its world, so no two trees meet; a free node has height 0 and a node of a tree has not, so the chain never meets a tree; and a
 // chain of exactly the nodes that are left, ending in 0, meets each of them once.
 // Words are asked for their length at each step (`Room`, `8 * 17 ≤ length`): they are any words, so no type could promise more. A node and its bounds
-// stay apart, since each node has its own bounds.
+// stay apart: until the test has passed, nothing holds of the two together that a struct could keep.
 #![tactic(auto)]
 
 ghost use Rattle.std.specs.Prelude.{◌≡◌, ◌+◌, ◌-◌, ◌*◌, ◌<◌, ◌≤◌, ◌^◌, ◌&&◌, length, ◌==◌, SomeIff};
