@@ -20,7 +20,7 @@ open-held-requires c = standing-rooted c.requires.stands.1
 
 pub loop-left-init : goal.loop-left-init
 loop-left-init c =
-    writing-none (c.args.span.some, c.args.span.within) c.requires.n_in_bounds c.open-held.ensures
+    writing-none (c.args.window.some, c.args.window.within) c.requires.n_in_bounds c.open-held.ensures
 
 pub next_bytes-n-requires : goal.next_bytes-n-requires
 next_bytes-n-requires c = (_, writing-due c.loop-left.invariant c.loop-left-test.true)

@@ -5,7 +5,7 @@ use Rattle.maps.proofs.Octeting.{Writing}
 use Rattle.maps.proofs.write.write_map_by_bytes.Given as goal
 
 abbrev pub invariant-loop-left : goal.invariant-loop-left
-invariant-loop-left l = Writing l.held l.fn.span.base l.fn.span.n l.x l.left l.j l.initial.out l.out (held_in l.fn.words l.fn.h)
+invariant-loop-left l = Writing l.held l.fn.window.base l.fn.window.n l.x l.left l.j l.initial.out l.out (held_in l.fn.words l.fn.h)
 
 abbrev pub decreases-loop-left : goal.decreases-loop-left
 decreases-loop-left l = l.left
