@@ -14,7 +14,7 @@ use Rattle.model.specs.Range.{many}
 use Rattle.reports.specs.Reports.{Measured}
 use Rattle.reports.specs.Reports.{StretchEnd}
 use Rattle.maps.specs.declared.stretches.Stretch.{Stretch}
-use Rattle.maps.specs.Stretches.{IsStretch}
+use Rattle.maps.specs.Stretches.{NextStretch}
 use Rattle.maps.specs.Window.{MapOfWindow, Part, Surveyed}
 use Rattle.maps.proofs.Windows.{mapped-below, mapped-above, mapped_at, changes-stretch, changes-in, one_value}
 
@@ -27,11 +27,11 @@ pub border-first : (bs : List ℕ) (n : ℕ) → Border bs n 0
 border-first bs n z e l = absurd (omega arith)
 
 -- after a stretch is a border
-pub border-next : (bs : List ℕ) (n : ℕ) {v : Bool} {i e : ℕ} → StretchEnd (map_bit bs) v i (n - 1) e → Border bs n (e + 1)
-border-next bs n {v} {i} {e} s z q l =
-    let p : e + 1 ≡ suc e = omega arith in
-    let r : e ≡ z = omega arith in
-    ap (map_bit bs) p ∙ s.stop (omega arith) ∙ ap not (sym (s.same e s.from (omega arith)) ∙ ap (map_bit bs) r)
+pub border-next : (bs : List ℕ) (n : ℕ) {i j : ℕ} {x : Stretch} → NextStretch bs n i x j → Border bs n j
+border-next bs n {i} {j} {x} g z q l =
+    let p : j ≡ suc x.last = omega (arith, g.next-is) in
+    let r : x.last ≡ z = omega arith in
+    ap (map_bit bs) p ∙ g.ends.stop (omega arith) ∙ ap not (sym (g.ends.same x.last g.ends.from (omega arith)) ∙ ap (map_bit bs) r)
 
 -- the window's runs and changes up to its bit i
 pub record Surveying (P : Positions) (base n : ℕ) (bs : List ℕ) (i runs changed : ℕ) : Type 0 where
@@ -59,50 +59,47 @@ pub counted : (v : Bool) (runs : ℕ) {k : ℕ} → k ≡ from_bool v → runs +
 counted true runs e = omega (arith, e)
 counted false runs e = omega (arith, e)
 
-module _ {P : Positions} {base n : ℕ} {bs : List ℕ} {runs changed : ℕ} {x : Stretch} (s : Surveying P base n bs x.first runs changed) (st : IsStretch bs n x) where
-  -- how many positions it has
-  m : ℕ
-  m = suc x.last - x.first
-
+module _ {P : Positions} {base n : ℕ} {bs : List ℕ} {i j runs changed : ℕ} {x : Stretch} (s : Surveying P base n bs i runs changed) (g : NextStretch bs n i x j) where
   -- the stretch's positions
-  stretch-at : (z : ℕ) → base + x.first ≤ z → z < base + x.first + m → mapped base n bs P z ≡ x.value
+  stretch-at : (z : ℕ) → base + i ≤ z → z < base + i + (suc x.last - i) → mapped base n bs P z ≡ x.value
   stretch-at z h l =
-      mapped_at base n bs P z (omega arith) (omega (arith, st.begins, st.ends.from, st.ends.upto)) ∙ st.ends.same (z - base) (omega arith) (omega (arith, st.ends.from))
+      mapped_at base n bs P z (omega arith) (omega (arith, g.within, g.ends.from, g.ends.upto)) ∙ g.ends.same (z - base) (omega arith) (omega (arith, g.ends.from))
 
   -- no run goes on into it, if it is one
-  seam : (b : Bool) → x.value ≡ b → (mapped base n bs P (base + x.first) ≡ false) ⊎ ((y : ℕ) → suc y ≡ base + x.first → base ≤ y → mapped base n bs P y ≡ false)
-  seam false q = inl (stretch-at (base + x.first) (omega arith) (omega (arith, st.ends.from)) ∙ q)
+  seam : (b : Bool) → x.value ≡ b → (mapped base n bs P (base + i) ≡ false) ⊎ ((y : ℕ) → suc y ≡ base + i → base ≤ y → mapped base n bs P y ≡ false)
+  seam false q = inl (stretch-at (base + i) (omega arith) (omega (arith, g.ends.from)) ∙ q)
   seam true q = inr (λ y p l.
-      mapped_at base n bs P y l (omega (arith, st.begins))
-      ∙ not-true (map_bit bs (y - base)) (sym (s.border (y - base) (omega arith) st.begins) ∙ st.ends.same x.first (omega arith) st.ends.from ∙ q))
+      mapped_at base n bs P y l (omega (arith, g.within))
+      ∙ not-true (map_bit bs (y - base)) (sym (s.border (y - base) (omega arith) g.within) ∙ g.ends.same i (omega arith) g.ends.from ∙ q))
 
   -- its runs
-  stretch-runs : run_count (mapped base n bs P) true base (x.first + m) ≡ run_count (mapped base n bs P) true base x.first + one_if x.value
+  stretch-runs : run_count (mapped base n bs P) true base (i + (suc x.last - i)) ≡ run_count (mapped base n bs P) true base i + one_if x.value
   unfolding run_count
   stretch-runs =
-      ap length (runs_in-join (mapped base n bs P) true base x.first m (seam x.value refl))
-      ∙ length-append (runs_in (mapped base n bs P) true base x.first) (runs_in (mapped base n bs P) true (base + x.first) m)
-      ∙ ap (λ k. length (runs_in (mapped base n bs P) true base x.first) + k) (one_value (mapped base n bs P) (base + x.first) m x.value (omega (arith, st.ends.from)) stretch-at)
+      ap length (runs_in-join (mapped base n bs P) true base i (suc x.last - i) (seam x.value refl))
+      ∙ length-append (runs_in (mapped base n bs P) true base i) (runs_in (mapped base n bs P) true (base + i) (suc x.last - i))
+      ∙ ap (λ k. length (runs_in (mapped base n bs P) true base i) + k) (one_value (mapped base n bs P) (base + i) (suc x.last - i) x.value (omega (arith, g.ends.from)) stretch-at)
 
   module _ {t : Tally} {u : Interval} (few : n ≤ 524288) (p : Part base x.first x.last u) (c : Measured P (not x.value) u.first.0 (many u) t) where
     -- what the tally counts
-    low-is : t.count.low ≡ count P (not x.value) (base + x.first) m
+    low-is : t.count.low ≡ count P (not x.value) (base + i) (suc x.last - i)
     low-is =
-        let q : many u ≡ m = omega (arith, p.first-is, p.last-is) in
-        omega (arith, c.count-is, ap₂ (count P (not x.value)) p.first-is q, count_most P (not x.value) (base + x.first) m, st.ends.from, st.ends.upto)
+        let a : u.first.0 ≡ base + i = omega (arith, p.first-is, g.first-is) in
+        let q : many u ≡ suc x.last - i = omega (arith, p.last-is) in
+        omega (arith, c.count-is, ap₂ (count P (not x.value)) a q, count_most P (not x.value) (base + i) (suc x.last - i), g.within, g.ends.upto)
 
     -- it stays below the window's length
-    pub low_fits : changed + t.count.low ≤ x.last + 1
-    low_fits = omega (arith, low-is, count_most P (not x.value) (base + x.first) m, st.ends.from, s.less)
+    pub low_fits : changed + t.count.low ≤ j
+    low_fits = omega (arith, low-is, count_most P (not x.value) (base + i) (suc x.last - i), g.ends.from, g.next-is, s.less)
 
     -- one stretch more
-    pub surveying-next : {r : ℕ} → r ≡ runs + one_if x.value → Surveying P base n bs (x.last + 1) r (changed + t.count.low)
+    pub surveying-next : {r : ℕ} → r ≡ runs + one_if x.value → Surveying P base n bs j r (changed + t.count.low)
     surveying-next {r} q =
-        let k : x.last + 1 ≡ x.first + m = omega (arith, st.ends.from) in
+        let k : j ≡ i + (suc x.last - i) = omega (arith, g.next-is, g.ends.from) in
         let D : Positions = combined Xor P (mapped base n bs P) in
         record {
-          upto = omega (arith, st.begins, st.ends.upto);
-          border = border-next bs n st.ends;
+          upto = omega (arith, g.within, g.next-is, g.ends.upto);
+          border = border-next bs n g;
           runs-are = omega (arith, s.runs-are, stretch-runs, ap (run_count (mapped base n bs P) true base) k);
           few = bound x.value q;
           changed-are =
@@ -110,15 +107,15 @@ module _ {P : Positions} {base n : ℕ} {bs : List ℕ} {runs changed : ℕ} {x 
                 arith,
                 s.changed-are,
                 low-is,
-                count_cut D true base (x.last + 1) x.first (base + x.first) m k refl,
-                changes-stretch P (mapped base n bs P) (base + x.first) m x.value stretch-at,
+                count_cut D true base j i (base + i) (suc x.last - i) k refl,
+                changes-stretch P (mapped base n bs P) (base + i) (suc x.last - i) x.value stretch-at,
               );
           less = low_fits;
         }
       where
-        bound : (b : Bool) → r ≡ runs + one_if b → r ≤ x.last + 1
-        bound true z = omega (arith, s.few, st.ends.from)
-        bound false z = omega (arith, s.few, st.ends.from)
+        bound : (b : Bool) → r ≡ runs + one_if b → r ≤ j
+        bound true z = omega (arith, s.few, g.next-is, g.ends.from)
+        bound false z = omega (arith, s.few, g.next-is, g.ends.from)
 
 -- all bits
 pub surveying-done : {P : Positions} {base n : ℕ} {bs : List ℕ} {i runs changed : ℕ} → MapOfWindow base n bs → Surveying P base n bs i runs changed → n ≤ i
