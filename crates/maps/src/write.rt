@@ -93,15 +93,12 @@ pub fn write_map_by_bytes(words: &[u64], h: World, window: Window, out: &mut [u8
         offset: h.offset,
     };
     let mut held = Cursor::open(words, v, Logical(window.base));
-    let mut x = window.base;
-    let mut left = window.n;
-    let mut j: usize = 0;
-    while left > 8 {
-        let n = next_bytes(&mut held, x, left, out, j);
-        x += 8 * n;
-        held.move_to(Logical(x));
-        left -= 8 * n;
-        j += n as usize;
+    let mut j: u64 = 0;
+    while window.n - 8 * j > 8 {
+        let x = window.base + 8 * j;
+        j += next_bytes(&mut held, x, window.n - 8 * j, out, j as usize);
+        held.move_to(Logical(window.base + 8 * j));
     }
-    out[j] = octet_of(&mut held, x, left) as u8;
+    let last = octet_of(&mut held, window.base + 8 * j, window.n - 8 * j);
+    out[j as usize] = last as u8;
 }
