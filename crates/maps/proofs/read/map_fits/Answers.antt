@@ -54,13 +54,6 @@ overflow_add-result c =
       m.fits.few,
     )
 
-pub overflow_add-result-2 : goal.overflow_add-result-2
-overflow_add-result-2 c = omega (arith, limit-few c.requires.editable.1, c.from.ensures, byte-small c.if-bit.before)
-
-pub overflow_add-result-3 : goal.overflow_add-result-3
-overflow_add-result-3 c =
-    omega (arith, limit-few c.requires.editable.1, c.from.ensures, byte-small c.if-bit.before, c.from-2.ensures, byte-small c.if-bit-2.after)
-
 pub returns : goal.returns
 returns c =
     let at = (goal.at.returns c).After-from-2 in

@@ -15,11 +15,3 @@ surveyed c =
 
 pub returns-then-s-eq0 : goal.returns-then-s-eq0
 returns-then-s-eq0 g c = nothing-changed _ c.requires.editable (surveyed (goal.at.returns-then-s-eq0 g c).After-survey_map-s).changed-are c.if-s-eq0.true
-
-pub map_fits-requires-clause-surveyed : goal.map_fits-requires-clause-surveyed
-map_fits-requires-clause-surveyed g c = surveyed (goal.at.map_fits-requires-clause-surveyed g c).After-survey_map-s
-
-pub returns : goal.returns
-returns g c =
-    let s = surveyed (goal.at.returns g c).After-survey_map-s in
-    (leb-true _ _ (sym c.map_fits.ensures ∙ c.if-not-map_fits.false), c.apply_map-world.ensures, omega (arith, s.changed-are))

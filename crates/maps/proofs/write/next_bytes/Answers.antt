@@ -6,9 +6,6 @@ use Rattle.maps.proofs.Storing.{part-stores}
 use Rattle.maps.proofs.Octeting.{stood-same, octets-small, due-stood, due-alike, due-octet}
 use Rattle.maps.proofs.write.next_bytes.Goals as goal
 
-pub overflow_sub-after : goal.overflow_sub-after
-overflow_sub-after c = omega (arith, stood-same (due-stood c.requires.1) c.same_to.ensures)
-
 pub returns-then-after-ge7 : goal.returns-then-after-ge7
 returns-then-after-ge7 c =
     λ Q d.
