@@ -57,16 +57,6 @@ same_bits false x (suc n) = omega (arith, same_bits false (suc x) n)
 same_bits true x zero = refl
 same_bits true x (suc n) = rw pow-succ' (omega (arith, same_bits true (suc x) n, pow_pos n))
 
--- as the code tells them: nothing is shifted out
-pub alike-yes : {v : Bool} (n : ℕ) → v ≡ true → n ≤ 8 → (1 * 2 ^ n) % 2 ^ 64 - 1 ≡ one_if v * (2 ^ n - 1)
-alike-yes n e l = rw (e, shl_exact {a = 1} 1 n 64 (omega arith) (omega arith)) (omega arith)
-
-pub alike-no : {v : Bool} (n : ℕ) → v ≡ false → 0 ≡ one_if v * (2 ^ n - 1)
-alike-no n e = rw e (omega arith)
-
-pub alike-some : (n : ℕ) → n ≤ 8 → 1 ≤ (1 * 2 ^ n) % 2 ^ 64
-alike-some n l = rw (shl_exact {a = 1} 1 n 64 (omega arith) (omega arith)) (omega (arith, pow_pos n))
-
 -- ---- k positions: those of the stretch that the cursor is in, and the others
 module _ {c : Cursor} {x k : ℕ} {Q : Positions} (h : Stood c x k Q) where
   -- at most eight bits make a byte
@@ -166,11 +156,6 @@ pub record Writing (c : Cursor) (base n j : ℕ) (out₀ out : List ℕ) (Q : Po
   pub points : Points c (base + 8 * j) Q
   pub some : 8 * j < n
   pub front : out ≡ fronted (map_of Q base n) out₀ j
-
-pub writing-none : {c : Cursor} {base n : ℕ} {out : List ℕ} {Q : Positions} → (1 ≤ n) × (base + n ≤ size) → map_length n ≤ length out
-    → Points c base Q → Writing c base n 0 out out Q
-writing-none {c} {base} {n} {out} {Q} f g r =
-    record { within = f.1; room = g; points = subst (λ (x : ℕ). Points c x Q) (omega arith) r; some = omega arith; front = refl }
 
 module _ {c : Cursor} {base n j : ℕ} {out₀ out : List ℕ} {Q : Positions} (i : Writing c base n j out₀ out Q) where
   -- a byte is still to come

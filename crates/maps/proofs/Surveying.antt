@@ -12,7 +12,6 @@ use Rattle.model.specs.declared.Tally.{Tally}
 use Rattle.model.specs.declared.between.Interval.{Interval}
 use Rattle.model.specs.Range.{many}
 use Rattle.reports.specs.Reports.{Measured}
-use Rattle.reports.specs.Reports.{StretchEnd}
 use Rattle.maps.specs.declared.stretches.Stretch.{Stretch}
 use Rattle.maps.specs.Stretches.{NextStretch}
 use Rattle.maps.specs.Window.{MapOfWindow, Part, Surveyed}

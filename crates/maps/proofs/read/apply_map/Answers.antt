@@ -25,11 +25,10 @@ loop-s-init g c =
     let m = c.args.map.now in
     let w = c.apply_set-at.new.words in
     let a = c.apply_set-at.result in
-    let from = ap (λ s. s.from) c.into_iter-s-iterator.ensures.into_iter_gives ∙ c.of-s-items.ensures.1 in
-    (
+    let from = ap (λ s. s.from) c.into_iter-s-iterator.ensures.into_iter_gives ∙ c.of-s-items.ensures.1 in (
       ap (λ s. s.map.now) c.into_iter-s-iterator.ensures.into_iter_gives ∙ c.of-s-items.ensures.0,
       subst (λ i. Applying w w a a m.window.base m.window.n m.bytes.now i) (sym from)
-      (applying-none c.requires c.part-whole.ensures c.stretch_end.ensures c.if-stretch_end-n.false c.apply_set-at.ensures.0),
+          (applying-none c.requires c.part-whole.ensures c.stretch_end.ensures c.if-stretch_end-n.false c.apply_set-at.ensures.0),
     )
 
 pub apply_set-at-requires-then-s : goal.apply_set-at-requires-then-s
@@ -37,11 +36,10 @@ apply_set-at-requires-then-s g c =
     stretch-settable c.loop-s.invariant.1 (came (goal.at.apply_set-at-requires-then-s g c).In-Some) c.part.ensures c.if-s.true
 
 pub loop-s-preserved-then-s : goal.loop-s-preserved-then-s
-loop-s-preserved-then-s g c =
-    (
-      c.in-Some.ensures.steps.0 ∙ c.loop-s.invariant.0,
-      applying-set c.loop-s.invariant.1 (came (goal.at.loop-s-preserved-then-s g c).In-Some) c.part.ensures c.if-s.true c.apply_set-at-then-s.ensures.0,
-    )
+loop-s-preserved-then-s g c = (
+  c.in-Some.ensures.steps.0 ∙ c.loop-s.invariant.0,
+  applying-set c.loop-s.invariant.1 (came (goal.at.loop-s-preserved-then-s g c).In-Some) c.part.ensures c.if-s.true c.apply_set-at-then-s.ensures.0,
+)
 
 pub loop-s-preserved : goal.loop-s-preserved
 loop-s-preserved g c =

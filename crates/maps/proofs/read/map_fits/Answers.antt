@@ -6,11 +6,11 @@ use Rattle.model.specs.Positions.{one_if}
 use Rattle.model.specs.Bytes.{map_bit, mapped}
 use Rattle.model.specs.Neighbours.{held_below, held_above}
 use Rattle.store.specs.Layout.{held_in}
-use Rattle.reports.proofs.Ranks.{byte-one, byte-small}
+use Rattle.reports.proofs.Ranks.{byte-one}
 use Rattle.reports.proofs.Reading.{ranges-most}
 use Rattle.changes.specs.Edits.{Surrounds}
 use Rattle.changes.proofs.Neighbours.{both-yes, both-no}
-use Rattle.changes.proofs.Fitting.{limit-few, outside-few}
+use Rattle.changes.proofs.Fitting.{outside-few}
 use Rattle.maps.specs.Window.{Part}
 use Rattle.maps.proofs.Leaving.{map-fits-is}
 use Rattle.maps.proofs.read.map_fits.Goals as goal

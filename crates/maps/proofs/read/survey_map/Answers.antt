@@ -14,8 +14,7 @@ came c = subst (λ m. NextStretch m.bytes.now m.window.n c.loop-s.s-iterator.fro
 pub loop-s-init : goal.loop-s-init
 loop-s-init g c =
     let m = c.args.map.now in
-    let from = ap (λ s. s.from) c.into_iter-s-iterator.ensures.into_iter_gives ∙ c.of-s-items.ensures.1 in
-    (
+    let from = ap (λ s. s.from) c.into_iter-s-iterator.ensures.into_iter_gives ∙ c.of-s-items.ensures.1 in (
       ap (λ s. s.map.now) c.into_iter-s-iterator.ensures.into_iter_gives ∙ c.of-s-items.ensures.0,
       subst (λ i. Surveying (held c.args.set.now) m.window.base m.window.n m.bytes.now i 0 0) (sym from) (surveying-none _ _ _ _),
     )
@@ -28,8 +27,7 @@ overflow_add-changed g c =
 
 pub loop-s-preserved : goal.loop-s-preserved
 loop-s-preserved g c =
-    let s = came (goal.at.loop-s-preserved g c).In-Some in
-    (
+    let s = came (goal.at.loop-s-preserved g c).In-Some in (
       c.in-Some.ensures.steps.0 ∙ c.loop-s.invariant.0,
       surveying-next c.loop-s.invariant.1 s c.args.map.now.fits.few c.part.ensures c.tally-other.ensures (counted _ _ c.from-runs.ensures),
     )

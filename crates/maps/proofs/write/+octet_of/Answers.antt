@@ -1,7 +1,7 @@
 -- `octet_of` meets its contract: the positions of the stretch have one value, and the cursor goes on to the first after it for the others. The
 -- measure is how many positions are left. Assumes nothing.
 use Rattle.std.proofs.Common.{arith}
-use Rattle.maps.proofs.Octeting.{octets-small, stood-same, stood-moves, stood-next, octets-all, octets-more}
+use Rattle.maps.proofs.Octeting.{octets-small, octets-all, octets-more}
 use Rattle.maps.proofs.write.+octet_of.Goals as goal
 
 pub returns-then-k-after : goal.returns-then-k-after

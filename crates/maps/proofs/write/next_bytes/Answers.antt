@@ -3,7 +3,7 @@
 use Rattle.std.proofs.Common.{rules, arith}
 use Rattle.std.proofs.lemmas.List.{places}
 use Rattle.maps.proofs.Storing.{part-stores}
-use Rattle.maps.proofs.Octeting.{stood-same, octets-small, due-stood, due-alike, due-octet}
+use Rattle.maps.proofs.Octeting.{octets-small, due-stood, due-alike, due-octet}
 use Rattle.maps.proofs.write.next_bytes.Goals as goal
 
 pub returns-then-after-ge7 : goal.returns-then-after-ge7
