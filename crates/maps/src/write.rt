@@ -93,6 +93,7 @@ pub fn write_map_by_bytes(words: &[u64], h: World, window: Window, out: &mut [u8
         offset: h.offset,
     };
     let mut held = Cursor::open(words, v, Logical(window.base));
+    // j bytes are there; a step is as many as lie in one stretch, or one
     let mut j: u64 = 0;
     while window.n - 8 * j > 8 {
         let x = window.base + 8 * j;
