@@ -18,7 +18,9 @@ use Rattle.store.proofs.Nodes.{still-then, still-same}
 use Rattle.store.proofs.Settling.{became-limited}
 use Rattle.reports.specs.Reports.{StretchEnd}
 use Rattle.changes.specs.Edits.{Makes, Edited, Appliable}
-use Rattle.maps.specs.Window.{Window, Part, MayMap}
+use Rattle.maps.specs.declared.stretches.Stretch.{Stretch}
+use Rattle.maps.specs.Stretches.{NextStretch}
+use Rattle.maps.specs.Window.{MapOfWindow, Part, MayMap}
 use Rattle.maps.proofs.Windows.{mapped-below, mapped-above, mapped_at, changes-nothing}
 use Rattle.maps.proofs.Surveying.{Border, border-first, border-next}
 use Rattle.maps.proofs.OnTheWay.{on-the-way, at-the-start}
@@ -98,7 +100,7 @@ pub record Applying (w₁ w : List ℕ) (a₁ a : World) (base n : ℕ) (bs : Li
 module _ {w : List ℕ} {h : World} {base n : ℕ} {bs : List ℕ} {e : ℕ} {u : Interval} (m : MayMap w h base n bs) (p : Part base 0 (n - 1) u)
     (st : StretchEnd (map_bit bs) (map_bit bs 0) 0 (n - 1) e) (ne : e + 1 ≡ n → ⊥) where
   -- its positions
-  win : Window base n bs
+  win : MapOfWindow base n bs
   win = m.2.window
 
   -- leaves at most as many runs as there are at the end
@@ -160,36 +162,36 @@ module _ {w : List ℕ} {h : World} {base n : ℕ} {bs : List ℕ} {e : ℕ} {u 
         became-then (g s limit l (omega (arith, clear-leaves))) (a.reads s limit (then-limited s limit l f) (omega (arith, same-leaves)))
         (λ x b. ap (λ j. mapped base j bs (held_in w₁ a₁) x) q ∙ same_read x b)
 
-module _ {w₁ w : List ℕ} {a₁ a : World} {base n : ℕ} {bs : List ℕ} {i e : ℕ} {v : Bool} (p : Applying w₁ w a₁ a base n bs i) (more : i < n) (st : StretchEnd (map_bit bs) (map_bit bs i) i (n - 1) e)
-    (value : v ≡ map_bit bs i) where
+module _ {w₁ w : List ℕ} {a₁ a : World} {base n : ℕ} {bs : List ℕ} {i j : ℕ} {d : Stretch} (p : Applying w₁ w a₁ a base n bs i) (st : NextStretch bs n i d j) where
   -- what is held
   read-holds : (x : ℕ) → x < size → held_in w a x ≡ mapped base i bs (held_in w₁ a₁) x
   read-holds = (p.reads p.may.0 p.may.1 p.may.2.limited p.may.2.few).shows.holds
 
   -- one stretch more, whatever its value
-  stretch-reads : (b : Bool) → v ≡ b → (x : ℕ) → x < size → set_range (base + i) (suc e - i) b (held_in w a) x ≡ mapped base (e + 1) bs (held_in w₁ a₁) x
+  stretch-reads : (b : Bool) → d.value ≡ b → (x : ℕ) → x < size → set_range (base + i) (suc d.last - i) b (held_in w a) x ≡ mapped base j bs (held_in w₁ a₁) x
   stretch-reads b t x l =
-      let k : ℕ = suc e - i in
-      let q : i + k ≡ e + 1 = omega (arith, st.from) in
+      let k : ℕ = suc d.last - i in
+      let q : i + k ≡ j = omega (arith, st.next-is, st.ends.from) in
       set-cong (base + i) k b (held_in w a) (mapped base i bs (held_in w₁ a₁)) x (read-holds x l)
-      ∙ further base bs (held_in w₁ a₁) i k b (λ z m o. st.same z m (omega arith) ∙ sym value ∙ t) x
+      ∙ further base bs (held_in w₁ a₁) i k b (λ z m o. st.ends.same z m (omega arith) ∙ t) x
       ∙ ap (λ m. mapped base m bs (held_in w₁ a₁) x) q
 
   -- one that is to be held
-  module _ {u : Interval} (part : Part base i e u) (t : v ≡ true) where
+  module _ {u : Interval} (part : Part base d.first d.last u) (t : d.value ≡ true) where
     -- is set where it lies
-    set-reads : (x : ℕ) → x < size → set_range u.first.0 (many u) true (held_in w a) x ≡ mapped base (e + 1) bs (held_in w₁ a₁) x
+    set-reads : (x : ℕ) → x < size → set_range u.first.0 (many u) true (held_in w a) x ≡ mapped base j bs (held_in w₁ a₁) x
     set-reads x l =
-        let q : many u ≡ suc e - i = omega (arith, part.first-is, part.last-is) in
-        ap₂ (λ f k. set_range f k true (held_in w a) x) part.first-is q ∙ stretch-reads true t x l
+        let f : u.first.0 ≡ base + i = omega (arith, part.first-is, st.first-is) in
+        let q : many u ≡ suc d.last - i = omega (arith, part.last-is) in
+        ap₂ (λ f k. set_range f k true (held_in w a) x) f q ∙ stretch-reads true t x l
 
     -- leaves at most as many runs as there are at the end
     stretch-leaves : stretches (set_range u.first.0 (many u) true (held_in w a)) ≤ stretches (mapped base n bs (held_in w₁ a₁))
     stretch-leaves =
         omega (
           arith,
-          stretches-cong (set_range u.first.0 (many u) true (held_in w a)) (mapped base (e + 1) bs (held_in w₁ a₁)) set-reads,
-          on-the-way base n bs (held_in w₁ a₁) p.may.2.window.within (e + 1) (omega arith) (omega (arith, st.upto)) (border-next bs n st) p.cleared,
+          stretches-cong (set_range u.first.0 (many u) true (held_in w a)) (mapped base j bs (held_in w₁ a₁)) set-reads,
+          on-the-way base n bs (held_in w₁ a₁) p.may.2.window.within j (omega (arith, st.next-is)) (omega (arith, st.within, st.next-is, st.ends.upto)) (border-next bs n st) p.cleared,
         )
 
     -- so it can be set
@@ -205,40 +207,39 @@ module _ {w₁ w : List ℕ} {a₁ a : World} {base n : ℕ} {bs : List ℕ} {i 
     )
 
     -- it is set
-    pub applying-set : {w' w'' : List ℕ} {a' a'' : World} → Makes w w' a a' (set_range u.first.0 (many u) true (held_in w a)) → w'' ≡ w' → a'' ≡ a'
-        → Applying w₁ w'' a₁ a'' base n bs (e + 1)
-    applying-set g q r = rw (q, r) (record {
+    pub applying-set : {w' : List ℕ} {a' : World} → Makes w w' a a' (set_range u.first.0 (many u) true (held_in w a)) → Applying w₁ w' a₁ a' base n bs j
+    applying-set g = record {
       may = p.may;
       cleared = p.cleared;
-      upto = omega (arith, st.upto);
+      upto = omega (arith, st.within, st.next-is, st.ends.upto);
       border = border-next bs n st;
       reads = λ s limit l f. became-then (p.reads s limit l f) (g s limit (p.keeps s limit l f) (omega (arith, stretch-leaves))) set-reads;
       keeps = λ s limit l f.
           became-limited (p.keeps s limit l f) (g s limit (p.keeps s limit l f) (omega (arith, stretch-leaves))) (omega (arith, stretch-leaves));
-    })
+    }
 
   -- one that is not is clear already
-  pub applying-left : {w'' : List ℕ} {a'' : World} → v ≡ false → w'' ≡ w → a'' ≡ a → Applying w₁ w'' a₁ a'' base n bs (e + 1)
-  applying-left t q r = rw (q, r) (record {
+  pub applying-left : d.value ≡ false → Applying w₁ w a₁ a base n bs j
+  applying-left t = record {
     may = p.may;
     cleared = p.cleared;
-    upto = omega (arith, st.upto);
+    upto = omega (arith, st.within, st.next-is, st.ends.upto);
     border = border-next bs n st;
     reads = λ s limit l f.
         became-then (p.reads s limit l f) (stays (p.keeps s limit l f) (λ x _. refl))
-        (λ x k. sym (clear x k (split x (base + i)) (split (base + e) x)) ∙ stretch-reads false t x k);
+        (λ x k. sym (clear x k (split x (base + i)) (split (base + d.last) x)) ∙ stretch-reads false t x k);
     keeps = p.keeps;
-  })
+  }
     where
       k : ℕ
-      k = suc e - i
+      k = suc d.last - i
 
-      clear : (x : ℕ) → x < size → (x < base + i) ⊎ (base + i ≤ x) → (base + e < x) ⊎ (x ≤ base + e) → set_range (base + i) k false (held_in w a) x ≡ held_in w a x
+      clear : (x : ℕ) → x < size → (x < base + i) ⊎ (base + i ≤ x) → (base + d.last < x) ⊎ (x ≤ base + d.last) → set_range (base + i) k false (held_in w a) x ≡ held_in w a x
       clear x l (inl h) m = set_below (base + i) k false (held_in w a) x h
-      clear x l (inr h) (inl m) = set-above (base + i) k false (held_in w a) x (omega (arith, st.from))
+      clear x l (inr h) (inl m) = set-above (base + i) k false (held_in w a) x (omega (arith, st.ends.from))
       clear x l (inr h) (inr m) =
           set-inside (base + i) k false (held_in w a) x h (omega arith)
-          ∙ sym (read-holds x l ∙ mapped-above base i bs (held_in w₁ a₁) x h ∙ p.cleared x (omega arith) (omega (arith, st.upto)))
+          ∙ sym (read-holds x l ∙ mapped-above base i bs (held_in w₁ a₁) x h ∙ p.cleared x (omega arith) (omega (arith, st.within, st.ends.upto)))
 
 -- ---- a map that changes nothing
 -- the world holds already what is read

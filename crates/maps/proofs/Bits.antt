@@ -1,13 +1,11 @@
 -- The stretches of a map's bits: a number that is n bits has one value in all of them where it is n ones or n zeros, and a stretch grows by
--- such bits, or by one, of its value. Assumes nothing.
-use Rattle.std.proofs.Common.{◌≡◌, ℕ, suc, ◌+◌, ◌-◌, ◌*◌, ◌/◌, ◌%◌, ◌^◌, ◌<◌, ◌≤◌, Bool, true, false, not, eqb, ◌⊎◌, List, sym, refl, ap, ◌∙◌, inl, inr, arith, eqb-true}
-use mathlib.Core.Bool.{beq, false≢true}
+-- such bits of its value. Assumes nothing.
+use Rattle.std.proofs.Common.{◌≡◌, ℕ, ◌+◌, ◌-◌, ◌*◌, ◌/◌, ◌%◌, ◌^◌, ◌<◌, ◌≤◌, Bool, true, false, eqb, ◌⊎◌, List, sym, refl, ap, ◌∙◌, inl, inr, arith, eqb-true}
+use mathlib.Core.Bool.{false≢true}
 use Rattle.model.proofs.Numbers.{split}
 use Rattle.model.specs.Positions.{Positions, one_if}
 use Rattle.model.specs.Bytes.{bits, map_bit}
 use Rattle.model.proofs.Maps.{bits-bit}
-use Rattle.model.proofs.After.{differing, agreeing}
-use Rattle.reports.specs.Reports.{StretchEnd}
 use Rattle.maps.specs.Window.{Whole}
 use Rattle.maps.proofs.Octeting.{same_bits}
 
@@ -40,10 +38,6 @@ pub record Going (bs : List ℕ) (i n e : ℕ) : Type 0 where
   pub upto : e < n
   pub same : (z : ℕ) → i ≤ z → z ≤ e → map_bit bs z ≡ map_bit bs i
 
--- so it is with bit i alone
-pub going-one : (bs : List ℕ) (i n : ℕ) → i < n → Going bs i n i
-going-one bs i n h = record { from = omega arith; upto = h; same = λ z l m. ap (map_bit bs) (omega arith) }
-
 module _ {bs : List ℕ} {i n e : ℕ} {v : Bool} (g : Going bs i n e) (value : v ≡ map_bit bs i) where
   -- some bits more, all of that value
   pub going-whole : (m : ℕ) (b : Bool) → m < n - e → Whole m bs (e + 1) v b → b ≡ true → Going bs i n (e + m)
@@ -59,29 +53,3 @@ module _ {bs : List ℕ} {i n e : ℕ} {v : Bool} (g : Going bs i n e) (value : 
           ap (map_bit bs) q ∙ f (z - (e + 1)) (omega arith) ∙ value
       go z a b (inr k) = g.same z a k
   going-whole m false l f t = absurd (false≢true t)
-
-  module _ {r : Bool} (next : r ≡ map_bit bs (e + 1)) where
-    -- a bit more
-    pub going-bit : e + 1 < n → not (beq r v) ≡ false → Going bs i n (e + 1)
-    going-bit l t = record { from = omega (arith, g.from); upto = l; same = λ z a b. go z a b (split e z) }
-      where
-        go : (z : ℕ) → i ≤ z → z ≤ e + 1 → (e < z) ⊎ (z ≤ e) → map_bit bs z ≡ map_bit bs i
-        go z a b (inl k) =
-            let q : z ≡ e + 1 = omega arith in
-            ap (map_bit bs) q ∙ sym next ∙ agreeing r v t ∙ value
-        go z a b (inr k) = g.same z a k
-
-    -- a bit that has another value
-    pub going-stops : not (beq r v) ≡ true → StretchEnd (map_bit bs) (map_bit bs i) i (n - 1) e
-    going-stops t = record {
-      from = g.from;
-      upto = omega (arith, g.upto);
-      same = g.same;
-      stop = λ l.
-          let q : suc e ≡ e + 1 = omega arith in
-          ap (map_bit bs) q ∙ sym next ∙ differing r v t ∙ ap not value;
-    }
-
--- the last bit
-pub going-ends : {bs : List ℕ} {i n e : ℕ} → Going bs i n e → n ≤ e + 1 → StretchEnd (map_bit bs) (map_bit bs i) i (n - 1) e
-going-ends g l = record { from = g.from; upto = omega (arith, g.upto); same = g.same; stop = λ k. absurd (omega arith) }

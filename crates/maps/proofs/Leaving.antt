@@ -12,11 +12,11 @@ use Rattle.changes.specs.Edits.{Surrounds}
 use Rattle.changes.proofs.Neighbours.{goes_on-changed-above, goes_on-changed-below}
 use Rattle.changes.proofs.SetRuns.{set-false-leaves}
 use Rattle.changes.proofs.Fitting.{leb-like}
-use Rattle.maps.specs.Window.{Window}
+use Rattle.maps.specs.Window.{MapOfWindow}
 use Rattle.maps.proofs.Windows.{mapped-below, mapped-above}
 
 -- ---- the runs that are left
-module _ (P : Positions) (base n : ℕ) (bs : List ℕ) (win : Window base n bs) where
+module _ (P : Positions) (base n : ℕ) (bs : List ℕ) (win : MapOfWindow base n bs) where
   -- over the lower end
   low_goes : goes_on (mapped base n bs P) base ≡ (map_bit bs 0 && held_below P base)
   low_goes =
@@ -49,7 +49,7 @@ module _ (P : Positions) (base n : ℕ) (bs : List ℕ) (win : Window base n bs)
 
 -- ---- whether they fit
 -- the comparison tells it
-pub map-fits-is : {P : Positions} {base n : ℕ} {bs : List ℕ} {r : Border} {runs low high : ℕ} (limit : ℕ) → Window base n bs
+pub map-fits-is : {P : Positions} {base n : ℕ} {bs : List ℕ} {r : Border} {runs low high : ℕ} (limit : ℕ) → MapOfWindow base n bs
     → Surrounds P base (base + (n - 1)) r → runs ≡ run_count (mapped base n bs P) true base n
     → low ≡ one_if (map_bit bs 0 && held_below P base) → high ≡ one_if (map_bit bs (n - 1) && held_above P (base + (n - 1)))
     → leb (r.outside + runs) (limit + low + high) ≡ leb (stretches (mapped base n bs P)) limit

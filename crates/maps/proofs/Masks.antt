@@ -1,9 +1,8 @@
 -- The bits of a number: those of a number or another and of both, the words whose bits from one on, up to one or between two are 1, and a byte
 -- with a bit set. Each is the bits of some positions, where the bit i of a number is its quotient by 2 ^ i, modulo 2. Assumes nothing.
-use Rattle.std.proofs.Common.{◌≡◌, ℕ, zero, suc, ◌+◌, ◌-◌, ◌*◌, ◌/◌, ◌%◌, ◌^◌, ◌<◌, ◌≤◌, min, max, Bool, true, false, ◌&&◌, ◌||◌, eqb, leb, sym, refl}
-use Rattle.std.proofs.Common.{ap, ◌∙◌, ap₂, mod-eq_of_lt, one-mul, zero-add, zero-mul, arith, pow_pos, shl_exact, le-leb}
+use Rattle.std.proofs.Common.{◌≡◌, ℕ, zero, suc, ◌+◌, ◌-◌, ◌*◌, ◌/◌, ◌%◌, ◌^◌, ◌<◌, min, max, Bool, true, false, ◌&&◌, ◌||◌, eqb, leb, sym, refl}
+use Rattle.std.proofs.Common.{ap, ◌∙◌, ap₂, one-mul, zero-add, zero-mul, arith, shl_exact, le-leb}
 use mathlib.Core.Bool.{and-true}
-use native.Mathlib.Nat.{add-mul-mod_self_right, pow-le-pow_right}
 use lib.Bits.{bit_and, bit_or, and_shr, and_step, or_shr, or_step}
 use lib.Pow.{high, high_ones, ones_split, ones_lt}
 use borrow.Author.Tests.{lt-leb}
@@ -80,21 +79,7 @@ to_bits t j =
     let up : bits (λ i. leb i t) (0 + suc t) j ≡ 0 = bits-cong (λ i. leb i t) (λ _. false) (0 + suc t) j (λ y a b. lt-leb y t (omega arith)) ∙ sym (same_bits false (0 + suc t) j) ∙ zero-mul (2 ^ j - 1) in
     sym (sym (bits_above (λ i. leb i t) 0 (suc t) j) ∙ rw (low, up) (omega arith))
 
--- of a product with n - 1 what is left below n
-top : (n x : ℕ) → x ≤ n → 1 ≤ x → ((n - 1) * x) % n ≡ n - x
-top n zero h l = absurd (omega arith)
-top zero (suc x) h l = absurd (omega arith)
-top (suc n) (suc x) h l =
-    let z : suc n - 1 ≡ n = omega arith in
-    let e : n * suc x ≡ suc n - suc x + x * suc n = omega arith in
-    rw (z, e) (add-mul-mod_self_right (suc n - suc x) x (suc n) ∙ mod-eq_of_lt (omega arith))
-
 -- as the code has them
-pub ones-up : (f : ℕ) → f < 64 → ((2 ^ 64 - 1) * 2 ^ f) % 2 ^ 64 ≡ 2 ^ 64 - 2 ^ f
-ones-up f h =
-    let l : f ≤ 64 = omega arith in
-    top (2 ^ 64) (2 ^ f) (pow-le-pow_right (omega arith) l) (pow_pos f)
-
 pub ones-down : (t : ℕ) → t < 64 → (2 ^ 64 - 1) / 2 ^ (63 - t) ≡ 2 ^ (t + 1) - 1
 ones-down t h =
     let k : 64 ≡ t + 1 + (63 - t) = omega arith in

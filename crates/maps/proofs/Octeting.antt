@@ -57,16 +57,6 @@ same_bits false x (suc n) = omega (arith, same_bits false (suc x) n)
 same_bits true x zero = refl
 same_bits true x (suc n) = rw pow-succ' (omega (arith, same_bits true (suc x) n, pow_pos n))
 
--- as the code tells them: nothing is shifted out
-pub alike-yes : {v : Bool} (n : ℕ) → v ≡ true → n ≤ 8 → (1 * 2 ^ n) % 2 ^ 64 - 1 ≡ one_if v * (2 ^ n - 1)
-alike-yes n e l = rw (e, shl_exact {a = 1} 1 n 64 (omega arith) (omega arith)) (omega arith)
-
-pub alike-no : {v : Bool} (n : ℕ) → v ≡ false → 0 ≡ one_if v * (2 ^ n - 1)
-alike-no n e = rw e (omega arith)
-
-pub alike-some : (n : ℕ) → n ≤ 8 → 1 ≤ (1 * 2 ^ n) % 2 ^ 64
-alike-some n l = rw (shl_exact {a = 1} 1 n 64 (omega arith) (omega arith)) (omega (arith, pow_pos n))
-
 -- ---- k positions: those of the stretch that the cursor is in, and the others
 module _ {c : Cursor} {x k : ℕ} {Q : Positions} (h : Stood c x k Q) where
   -- at most eight bits make a byte
@@ -159,83 +149,63 @@ module _ {c : Cursor} {x left j : ℕ} {out : List ℕ} {Q : Positions} (d : Due
   }
 
 -- ---- the map of a window, byte by byte
--- what holds at each turn: j bytes of the map of Q are in front, and the cursor stands at the first position of the next one
-pub record Writing (c : Cursor) (base n x left j : ℕ) (out₀ out : List ℕ) (Q : Positions) : Type 0 where
+-- what holds at each turn: j bytes of the map of Q are in front, but not its last one, and the cursor stands at the first position of the next one
+pub record Writing (c : Cursor) (base n j : ℕ) (out₀ out : List ℕ) (Q : Positions) : Type 0 where
   pub within : base + n ≤ size
   pub room : map_length n ≤ length out₀
-  pub points : Points c x Q
-  pub place : x ≡ base + 8 * j
-  pub rest : left + 8 * j ≡ n
-  pub some : 1 ≤ left
+  pub points : Points c (base + 8 * j) Q
+  pub some : 8 * j < n
   pub front : out ≡ fronted (map_of Q base n) out₀ j
 
-pub writing-none : {c : Cursor} {base n : ℕ} {out : List ℕ} {Q : Positions} → (1 ≤ n) × (base + n ≤ size) → map_length n ≤ length out
-    → Points c base Q → Writing c base n base n 0 out out Q
-writing-none f g r = record {
-  within = f.1;
-  room = g;
-  points = r;
-  place = omega arith;
-  rest = omega arith;
-  some = f.0;
-  front = refl;
-}
-
-module _ {c : Cursor} {base n x left j : ℕ} {out₀ out : List ℕ} {Q : Positions} (i : Writing c base n x left j out₀ out Q) where
+module _ {c : Cursor} {base n j : ℕ} {out₀ out : List ℕ} {Q : Positions} (i : Writing c base n j out₀ out Q) where
   -- a byte is still to come
   begun : j < map_length n
-  begun = omega (arith, i.rest, i.some)
+  begun = omega (arith, i.some)
 
   long : length out ≡ length out₀
   long = ap length i.front ∙ fronted-length (map_of Q base n) out₀ j (omega (arith, begun)) (omega (arith, begun, map_of-length Q base n))
 
   -- and its positions
-  pub writing-stood : (k : ℕ) → 1 ≤ k → k ≤ 8 → k ≤ left → Stood c x k Q
-  writing-stood k a b d = record {
-    points = i.points;
-    some = a;
-    few = b;
-    within = omega (arith, i.within, i.place, i.rest);
-  }
+  pub writing-stood : (k : ℕ) → 1 ≤ k → k ≤ 8 → k ≤ n - 8 * j → Stood c (base + 8 * j) k Q
+  writing-stood k a b d = record { points = i.points; some = a; few = b; within = omega (arith, i.within, i.some) }
 
   -- bytes more than the last one
-  pub writing-due : 8 < left → Due c x left j out Q
+  pub writing-due : 8 < n - 8 * j → Due c (base + 8 * j) (n - 8 * j) j out Q
   writing-due m = record {
     points = i.points;
     more = m;
-    within = omega (arith, i.within, i.place, i.rest);
-    room = omega (arith, i.rest, long);
+    within = omega (arith, i.within);
+    room = omega (arith, i.room, long);
   }
 
-  module _ {out' : List ℕ} {m : ℕ} {c' : Cursor} (l : 8 < left) (g : StoresNext c x left j out out' m c') where
-    pub writing-done : Done x left j out out' m c' Q
+  module _ {out' : List ℕ} {m : ℕ} {c' : Cursor} (l : 8 < n - 8 * j) (g : StoresNext c (base + 8 * j) (n - 8 * j) j out out' m c') where
+    pub writing-done : Done (base + 8 * j) (n - 8 * j) j out out' m c' Q
     writing-done = g Q (writing-due l)
 
-    pub writing-moves : CanMove c' (x + 8 * m) (x + 8 * m - 1) Q
-    writing-moves = next-move c' (x + 8 * m - 1) (x + 8 * m) Q writing-done.points (omega arith) (omega arith)
+    pub writing-moves : CanMove c' (base + 8 * (j + m)) (base + 8 * j + 8 * m - 1) Q
+    writing-moves = next-move c' (base + 8 * j + 8 * m - 1) (base + 8 * (j + m)) Q writing-done.points (omega arith) (omega arith)
 
-    pub writing_more : {t : Cursor} → Moves c' (x + 8 * m) t → Writing t base n (x + 8 * m) (left - 8 * m) (j + m) out₀ out' Q
+    pub writing_more : {t : Cursor} → Moves c' (base + 8 * (j + m)) t → Writing t base n (j + m) out₀ out' Q
     writing_more a = record {
       within = i.within;
       room = i.room;
-      points = a (x + 8 * m - 1) Q writing-moves;
-      place = omega (arith, i.place);
-      rest = omega (arith, i.rest, writing-done.before);
+      points = a (base + 8 * j + 8 * m - 1) Q writing-moves;
       some = omega (arith, writing-done.before);
       front = writing-done.bytes
-          ∙ (ap (stores (λ i. bits Q (x + 8 * i) 8) j m) i.front
-          ∙ fronted-more (map_of Q base n) out₀ (λ i. bits Q (x + 8 * i) 8) j m (omega (arith, i.rest, writing-done.before)) (omega (arith, i.rest, writing-done.before, map_of-length Q base n)) alike);
+          ∙ (ap (stores (λ i. bits Q (base + 8 * j + 8 * i) 8) j m) i.front
+          ∙ fronted-more (map_of Q base n) out₀ (λ i. bits Q (base + 8 * j + 8 * i) 8) j m (omega (arith, i.room, writing-done.before)) (omega (arith, writing-done.before, map_of-length Q base n)) alike);
     }
       where
-        alike : (k : ℕ) → k < m → bits Q (x + 8 * k) 8 ≡ get_or (map_of Q base n) (j + k) 0
+        alike : (k : ℕ) → k < m → bits Q (base + 8 * j + 8 * k) 8 ≡ get_or (map_of Q base n) (j + k) 0
         alike k h =
-            ap₂ (bits Q) (omega (arith, i.place)) (omega (arith, i.rest, writing-done.before))
-            ∙ sym (map_of-at Q base n (j + k) (omega (arith, i.rest, writing-done.before)))
+            ap₂ (bits Q) (omega arith) (omega (arith, writing-done.before))
+            ∙ sym (map_of-at Q base n (j + k) (omega (arith, writing-done.before)))
 
   -- the last byte
-  pub writing-all : {r : ℕ} {c' : Cursor} → left ≤ 8 → Octets c x left r c' → set out j r ≡ into_front (map_of Q base n) out₀
+  pub writing-all : {r : ℕ} {c' : Cursor} → n - 8 * j ≤ 8 → Octets c (base + 8 * j) (n - 8 * j) r c' → set out j r ≡ into_front (map_of Q base n) out₀
   writing-all m g =
       ap₂ (λ (l : List ℕ) (b : ℕ). set l j b) i.front
-      ((g Q (writing-stood left i.some m (omega arith))).bits_are ∙ (ap₂ (bits Q) i.place (omega (arith, i.rest)) ∙ sym (map_of-at Q base n j begun)))
+      ((g Q (writing-stood (n - 8 * j) (omega (arith, i.some)) m (omega arith))).bits_are
+      ∙ (ap (bits Q (base + 8 * j)) (omega (arith, i.some)) ∙ sym (map_of-at Q base n j begun)))
       ∙ (fronted-suc (map_of Q base n) out₀ j (omega (arith, begun)) (omega (arith, begun, map_of-length Q base n))
-      ∙ fronted-all (map_of Q base n) out₀ (suc j) (omega (arith, i.rest, i.some, map_of-length Q base n)))
+      ∙ fronted-all (map_of Q base n) out₀ (suc j) (omega (arith, i.some, map_of-length Q base n)))

@@ -44,10 +44,6 @@ puts-adds {out} {out'} {w} {v} q e h p = record {
 }
 
 -- ---- painting
--- no bit, at any place
-pub paints-none : (m : List ℕ) (a : ℕ) → Paints m m a a
-paints-none m a = record { here = λ i h k. absurd (omega arith); there = λ i s. refl; long = refl }
-
 -- one range and then one that begins in it or at its end, and ends no earlier
 pub paints-then : {m m₁ m₂ : List ℕ} {a b c d : ℕ} → Paints m m₁ a b → Paints m₁ m₂ c d → a ≤ c → c ≤ b → b ≤ d → Paints m m₂ a d
 paints-then {m} {m₁} {m₂} {a} {b} {c} {d} f g x y z = record {
@@ -131,10 +127,6 @@ fill-paints m p q {n} {ys} l h e f = record {
 pub data Middle (m m' : List ℕ) (p q : ℕ) : Type 0 where
   filled : p + 1 < q → Paints m m' (64 * (p + 1)) (64 * q) → Middle m m' p q
   empty : q ≤ p + 1 → m' ≡ m → Middle m m' p q
-
-pub middle-long : {m m' : List ℕ} {p q : ℕ} → Middle m m' p q → length m' ≡ length m
-middle-long (filled h f) = f.long
-middle-long (empty h x) = ap length x
 
 pub middle-some : {m m₁ m' : List ℕ} {p q : ℕ} → p + 1 < q → Paints m m₁ (64 * (p + 1)) (64 * q) → m' ≡ m₁ → Middle m m' p q
 middle-some {m} {p = p} {q = q} h f x = filled h (subst (λ (l : List ℕ). Paints m l (64 * (p + 1)) (64 * q)) (sym x) f)

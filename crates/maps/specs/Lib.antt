@@ -1,3 +1,4 @@
 pub mod Window
 pub mod Octets
 pub mod Painted
+pub mod Stretches

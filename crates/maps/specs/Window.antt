@@ -10,7 +10,7 @@ use Rattle.store.specs.Soundness.{Share, Limited}
 use Rattle.maps.specs.declared.read.Survey.{Survey}
 
 -- n positions from base on, and the bytes of their map
-pub record Window (base n : ℕ) (bs : List ℕ) : Type 0 where
+pub record MapOfWindow (base n : ℕ) (bs : List ℕ) : Type 0 where
   pub some : 1 ≤ n
   pub few : n ≤ longest
   pub within : base + n ≤ size
@@ -33,7 +33,7 @@ pub record Surveyed (P : Positions) (base n : ℕ) (bs : List ℕ) (s : Survey) 
 -- a window of a world may get the map's values: at most as many runs are left as the world may have
 pub record Fits (w : List ℕ) (s : Share) (h : World) (limit base n : ℕ) (bs : List ℕ) : Type 0 where
   pub limited : Limited w s h limit
-  pub window : Window base n bs
+  pub window : MapOfWindow base n bs
   pub few : stretches (mapped base n bs (held_in w h)) ≤ limit
 
 abbrev pub MayMap : List ℕ → World → ℕ → ℕ → List ℕ → Type 0

@@ -3,6 +3,7 @@
 
 pub mod paint;
 pub mod read;
-pub mod span;
+pub mod stretches;
+pub mod window;
 pub mod word;
 pub mod write;

@@ -7,7 +7,7 @@ ghost use Rattle.model.specs.Bytes.{map_of, map_length};
 ghost use Rattle.store.specs.Layout.{held_in};
 ghost use Rattle.maps.specs.Painted.{Adds, Paints, PaintsRun, PaintsNodes, Scannable};
 
-use crate::span::Span;
+use crate::window::Window;
 use store::World;
 
 // The bits from..=63 of a word, and those up to `to`.
@@ -145,28 +145,28 @@ fn paint_run(map: &mut [u8], n: u64, f: u64, l: u64)
 
 // Sets the bits of every run that has the world's tag.
 // `Scannable` is asked from the public call down to here, of words and world: it holds of them as they are lent, and no type keeps both.
-fn paint_nodes(words: &[u64], h: World, span: Span, map: &mut [u8])
-    requires n_bound { span.n ≤ 8 * length map.old }
+fn paint_nodes(words: &[u64], h: World, window: Window, map: &mut [u8])
+    requires n_bound { window.n ≤ 8 * length map.old }
     requires scannable { Scannable words.now h }
-    ensures { PaintsNodes words.now h span.base span.n (length words.now / 8 - 1) map.old map.new }
+    ensures { PaintsNodes words.now h window.base window.n (length words.now / 8 - 1) map.old map.new }
 {
-    let turn = h.offset.wrapping_sub(span.base);
+    let turn = h.offset.wrapping_sub(window.base);
     for m in 1..words.len() as u64 / 8 {
         let v = run_index::read_node(words, m);
         if v.height > 0 && v.tag == h.tag {
             let f = v.start.wrapping_add(turn);
             let l = v.end.wrapping_add(turn);
-            paint_run(map, span.n, f, l);
+            paint_run(map, window.n, f, l);
         }
     }
 }
 
 // Writes the map of a window into a slice of its length.
-pub fn fill_map(words: &[u64], h: World, span: Span, map: &mut [u8])
+pub fn fill_map(words: &[u64], h: World, window: Window, map: &mut [u8])
     requires scannable { Scannable words.now h }
-    requires map_len { length map.old ≡ map_length span.n }
-    ensures { map.new ≡ map_of (held_in words.now h) span.base span.n }
+    requires map_len { length map.old ≡ map_length window.n }
+    ensures { map.new ≡ map_of (held_in words.now h) window.base window.n }
 {
     map.fill(0);
-    paint_nodes(words, h, span, map);
+    paint_nodes(words, h, window, map);
 }

@@ -10,7 +10,7 @@ ghost use Rattle.store.specs.Soundness.{Stands};
 ghost use Rattle.maps.specs.Painted.{Scannable};
 ghost use Rattle.maps.specs.Octets.{Placed, Octets, stores, BytesDue, StoresNext};
 
-use crate::span::Span;
+use crate::window::Window;
 use model::Logical;
 use store::World;
 use streams::source::View;
@@ -72,36 +72,34 @@ fn next_bytes(held: &mut Cursor<'_>, x: u64, left: u64, out: &mut [u8], j: usize
 }
 
 // Writes the map of a window into the front of a slice that has room for it, a word at a time.
-pub fn write_map(words: &[u64], h: World, span: Span, out: &mut [u8])
+pub fn write_map(words: &[u64], h: World, window: Window, out: &mut [u8])
     requires scannable { Scannable words.now h }
-    requires n_in_bounds { map_length span.n ≤ length out.old }
-    ensures { out.new ≡ into_front (map_of (held_in words.now h) span.base span.n) out.old }
+    requires n_in_bounds { map_length window.n ≤ length out.old }
+    ensures { out.new ≡ into_front (map_of (held_in words.now h) window.base window.n) out.old }
 {
-    let due = span.n.div_ceil(8) as usize;
-    crate::paint::fill_map(words, h, span, &mut out[..due]);
+    let due = window.n.div_ceil(8) as usize;
+    crate::paint::fill_map(words, h, window, &mut out[..due]);
 }
 
 // The same by single bytes.
 // Not one with `write_map`: that paints runs as they lie in memory, and this goes along the window.
-pub fn write_map_by_bytes(words: &[u64], h: World, span: Span, out: &mut [u8])
+pub fn write_map_by_bytes(words: &[u64], h: World, window: Window, out: &mut [u8])
     requires stands { Stands words.now h }
-    requires n_in_bounds { map_length span.n ≤ length out.old }
-    ensures { out.new ≡ into_front (map_of (held_in words.now h) span.base span.n) out.old }
+    requires n_in_bounds { map_length window.n ≤ length out.old }
+    ensures { out.new ≡ into_front (map_of (held_in words.now h) window.base window.n) out.old }
 {
     let v = View {
         root: h.root,
         offset: h.offset,
     };
-    let mut held = Cursor::open(words, v, Logical(span.base));
-    let mut x = span.base;
-    let mut left = span.n;
-    let mut j: usize = 0;
-    while left > 8 {
-        let n = next_bytes(&mut held, x, left, out, j);
-        x += 8 * n;
-        held.move_to(Logical(x));
-        left -= 8 * n;
-        j += n as usize;
+    let mut held = Cursor::open(words, v, Logical(window.base));
+    // j bytes are there; a step is as many as lie in one stretch, or one
+    let mut j: u64 = 0;
+    while window.n - 8 * j > 8 {
+        let x = window.base + 8 * j;
+        j += next_bytes(&mut held, x, window.n - 8 * j, out, j as usize);
+        held.move_to(Logical(window.base + 8 * j));
     }
-    out[j] = octet_of(&mut held, x, left) as u8;
+    let last = octet_of(&mut held, window.base + 8 * j, window.n - 8 * j);
+    out[j as usize] = last as u8;
 }

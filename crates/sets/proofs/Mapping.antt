@@ -2,7 +2,7 @@
 use Rattle.std.proofs.Common.{◌≡◌, ℕ, ◌+◌, ◌/◌, false, eqb, List, length, sym, subst, eqb-true}
 use borrow.Author.Tests.{not-false}
 use Rattle.model.specs.Refusals.{bad_window, bad_map}
-use Rattle.maps.specs.Window.{Window}
+use Rattle.maps.specs.Window.{MapOfWindow}
 use Rattle.store.specs.declared.World.{World}
 use Rattle.store.specs.Soundness.{Apart, share_of}
 use Rattle.store.specs.Settle.{Opened}
@@ -13,7 +13,7 @@ use Rattle.promises.proofs.Windows.{fitting}
 
 module _ (base n : ℕ) (bs : List ℕ) where
   -- a map that is not refused can be read
-  pub map-window : bad_window base n ≡ false → bad_map n bs ≡ false → Window base n bs
+  pub map-window : bad_window base n ≡ false → bad_map n bs ≡ false → MapOfWindow base n bs
   unfolding bad_map
   map-window e f =
       let w = fitting base n e in

@@ -9,7 +9,7 @@ ghost use Rattle.model.specs.Refusals.{ordered_from};
 ghost use Rattle.promises.specs.Joined.{Carried};
 ghost use Rattle.promises.specs.Met.{Readable, Met};
 
-use maps::span::{Map, Span};
+use maps::window::{Map, Window};
 use model::{Count, Refusal};
 use written::runs::RunList;
 
@@ -72,8 +72,8 @@ pub fn read_map<const WIDE: bool>(
     }
     let h = store::open(words, world);
     let limit = store::allowance(words, world);
-    let span = Span { base, n };
-    let map = Map { span, bytes };
+    let window = Window { base, n };
+    let map = Map { window, bytes };
     let e = maps::read::read_map::<WIDE>(&mut words[128..], h, limit, &map);
     match e {
         None => Err(Refusal::Capacity),

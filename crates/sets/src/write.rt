@@ -3,7 +3,7 @@ ghost use Rattle.model.specs.Call.{Call};
 ghost use Rattle.promises.specs.Met.{Readable};
 ghost use Rattle.promises.specs.Out.{WritesOut};
 
-use maps::span::Span;
+use maps::window::Window;
 use model::{Edition, Refusal};
 
 // Writes a world's set, and returns how many bytes it has.
@@ -45,11 +45,11 @@ pub fn write_map<const WIDE: bool>(
         return Err(Refusal::OutputShort);
     }
     let h = store::open(words, world);
-    let span = Span { base, n };
+    let window = Window { base, n };
     if WIDE {
-        maps::write::write_map(&words[128..], h, span, out);
+        maps::write::write_map(&words[128..], h, window, out);
     } else {
-        maps::write::write_map_by_bytes(&words[128..], h, span, out);
+        maps::write::write_map_by_bytes(&words[128..], h, window, out);
     }
     Ok(due)
 }

@@ -8,6 +8,6 @@ use Rattle.maps.proofs.paint.fill_map.Goals as goal
 
 pub returns : goal.returns
 returns c =
-    nodes-map c.requires.scannable.1 c.args.span.within (all-bytes c.paint_nodes.new.map c.type_inv.map)
+    nodes-map c.requires.scannable.1 c.args.window.within (all-bytes c.paint_nodes.new.map c.type_inv.map)
     (c.paint_nodes.ensures.long ∙ c.fill.ensures.len ∙ c.requires.map_len)
     (λ i. ap (λ (b : List ℕ). map_bit b i) (c.fill.ensures.after (λ y e. e)) ∙ zeros-bit-none _ i) c.paint_nodes.ensures

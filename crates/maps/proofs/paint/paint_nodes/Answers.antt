@@ -14,7 +14,7 @@ loop-m-preserved c =
     nodes-at (elim c.if-v-gt0.branch [
       | then-v-gt0+then-v-h w ↦
           nodes-run i (omega arith) k (omega (arith, c.loop-m-test.true, scan-nodes k)) c.read_node-v.ensures w.if-v-gt0.true w.if-v-h.true (omega arith)
-          c.args.span.within (omega arith) refl refl w.paint_run.ensures w.map-is
+          c.args.window.within (omega arith) refl refl w.paint_run.ensures w.map-is
       | else-v-gt0 w ↦ elim w.else-v-gt0.branch [
         | else-v-gt0-via-then-v-gt0+else-v-h u ↦ nodes-other i (omega arith) c.read_node-v.ensures u.if-v-h.false w.map-is
         | else-v-gt0-via-else-v-gt0 u ↦ nodes-low i (omega arith) c.read_node-v.ensures u.if-v-gt0.false w.map-is

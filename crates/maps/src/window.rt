@@ -1,21 +1,21 @@
 // Where a window lies, and its map.
 ghost use Rattle.std.specs.Prelude.{◌+◌, ◌<◌, ◌≤◌};
 ghost use Rattle.model.specs.Numbers.{size};
-ghost use Rattle.maps.specs.Window.{Window, Part};
+ghost use Rattle.maps.specs.Window.{MapOfWindow, Part};
 
 use model::Logical;
 use model::between::Interval;
 
 // The n positions from base on: at least one, and none past the last.
 #[derive(Clone, Copy)]
-pub struct Span {
+pub struct Window {
     pub base: u64,
     pub n: u64,
     pub ghost some: { 1 ≤ n },
     pub ghost within: { base + n ≤ size },
 }
 
-impl Span {
+impl Window {
     // The positions of the bits from i to e of its map.
     pub fn part(self, i: u64, e: u64) -> Interval
         requires { (i ≤ e) × (e < self.n) }
@@ -31,7 +31,7 @@ impl Span {
 // The bytes of the map of a window, just as many as it has.
 #[derive(Clone, Copy)]
 pub struct Map<'a> {
-    pub span: Span,
+    pub window: Window,
     pub bytes: &'a [u8],
-    pub ghost fits: { Window span.base span.n bytes.now },
+    pub ghost fits: { MapOfWindow window.base window.n bytes.now },
 }

@@ -2,7 +2,7 @@
 use Rattle.std.proofs.Common.{◌/◌, true, false, refl, arith}
 use Rattle.maps.proofs.Bits.{whole_is}
 use Rattle.spare.proofs.Bytes.{byte-is}
-use Rattle.maps.proofs.read.whole_byte.Goals as goal
+use Rattle.maps.proofs.stretches.whole_byte.Goals as goal
 
 pub returns-then-value : goal.returns-then-value
 returns-then-value c =
