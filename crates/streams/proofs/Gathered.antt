@@ -1,5 +1,5 @@
--- Counting the runs of two feeds joined, and putting them into free nodes: what holds at each turn of the two loops, and what it comes to. The
--- runs read so far are those that are counted, or put there; and the nodes are those that the world's tree gave back. Assumes nothing.
+-- Passing over the runs of two feeds joined, and putting them into free nodes: what the one tells, what holds at each turn of the other's loop, and what
+-- it comes to. The runs read so far are those that are passed over, or put there; the nodes are those that the world's tree gave back. Assumes nothing.
 use Rattle.std.specs.Prelude.{Option, None, Some}
 use Rattle.std.specs.Option.{is_none}
 use Rattle.std.specs.Iterator.{SkipsThenYields}

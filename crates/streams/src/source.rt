@@ -7,7 +7,8 @@ ghost use Rattle.std.specs.Iterator.{at_most};
 ghost use Rattle.model.specs.declared.Run.{Run};
 ghost use Rattle.model.specs.Positions.{Positions};
 ghost use Rattle.store.specs.Layout.{held_from};
-ghost use Rattle.streams.specs.Reading.{Rooted, After, Reads, Draws, positions_from, Descendable, Descends, OnPath, Pops, TellsZero, Stands, LastAt, FirstAt, Finds};
+ghost use Rattle.streams.specs.Reading.{Rooted, After, Reads, Draws, positions_from};
+ghost use Rattle.streams.specs.Reading.{Descendable, Descends, OnPath, Pops, TellsZero, Stands, LastAt, FirstAt, Finds};
 
 use model::{Logical, Run};
 use store::places::{Physical, to_logical, to_physical};
