@@ -9,6 +9,7 @@ pub mod Grouping
 pub mod Completing
 pub mod Fating
 pub mod Steps
+pub mod Iterated
 pub mod Noting
 pub mod Uniting
 pub mod Mended

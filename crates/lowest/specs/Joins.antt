@@ -1,5 +1,6 @@
 -- A union on its way: which entries are joined, and which runs are handed out. Assumes nothing: these are definitions.
-use Rattle.std.specs.Prelude.{◌≡◌, ℕ, ◌<◌, ◌⊎◌, List, [], ◌∷◌, ◌++◌, length, Option, None, Some}
+use Rattle.std.specs.Option.{option_len}
+use Rattle.std.specs.Prelude.{◌≡◌, ℕ, ◌+◌, ◌<◌, ◌⊎◌, List, [], ◌∷◌, ◌++◌, length, Option, None, Some}
 use Rattle.model.specs.declared.Run.{Run}
 use Rattle.model.specs.Numbers.{size}
 use Rattle.model.specs.RunList.{AllWords}
@@ -7,7 +8,7 @@ use Rattle.lowest.specs.declared.Group.{Group}
 use Rattle.lowest.specs.declared.union.Union.{Union}
 use Rattle.lowest.specs.Entries.{Counts, In, Lists}
 use Rattle.lowest.specs.Groups.{Grouped}
-use Rattle.lowest.specs.Windows.{Rises}
+use Rattle.lowest.specs.Windows.{Rises, ahead}
 
 -- the groups of the entries that come first in rising order
 pub record Front (es : List Run) (gs : List Group) : Type 0 where
@@ -39,3 +40,16 @@ pub record Joining {L : Type 0} (es : List Run) (done : List Group) (u : Union L
 abbrev pub Draws : {L : Type 0} → List Run → Union L → Option Group → Union L → Type 0
 Draws es u None u' = (done : List Group) → Joining es done u → Complete es done × Joining es done u'
 Draws es u (Some g) u' = (done : List Group) → Joining es done u → Front es (done ++ g ∷ []) × Joining es (done ++ g ∷ []) u'
+
+-- ---- as an iterator
+-- some groups are handed out of the union of the entries that `runs` reads of its list
+abbrev pub OnItsWay : {L : Type 0} → (L → List Run) → Union L → Type 0
+OnItsWay runs u = (done : List Group) × Joining (runs u.places.list) done u
+
+-- the next one is, and the list stays
+abbrev pub GivesGroup : {L : Type 0} → (L → List Run) → Union L → Option Group → Union L → Type 0
+GivesGroup runs u r u' = (u'.places.list ≡ u.places.list) × Draws (runs u.places.list) u r u'
+
+-- more than can come next: what is ahead of its places, and the last group
+abbrev pub pending : {L : Type 0} → Union L → ℕ
+pending u = ahead u.places + option_len u.last

@@ -1,8 +1,8 @@
 // The runs of a list's union, one after another: the entries come in rising order, and each joins the last run or begins one.
-ghost use Rattle.std.specs.Prelude.{◌≡◌, List, []};
+ghost use Rattle.std.specs.Prelude.{◌≡◌, []};
+ghost use Rattle.std.specs.Iterator.{at_most};
 ghost use Rattle.model.specs.Positions.{stretches, mem};
-ghost use Rattle.lowest.specs.declared.Group.{Group};
-ghost use Rattle.lowest.specs.Joins.{Joining, Draws};
+ghost use Rattle.lowest.specs.Joins.{Joining, OnItsWay, GivesGroup, pending};
 
 use crate::Group;
 use crate::places::Places;
@@ -25,12 +25,19 @@ impl<L: RunList + Copy> Union<L> {
             last: None,
         }
     }
+}
 
-    // The next run.
-    pub fn next(&mut self) -> Option<Group>
-        requires { (done : List Group) × Joining (L.runs self.old.places.list) done self.old }
-        ensures { (self.new.places.list ≡ self.old.places.list) × Draws (L.runs self.old.places.list) self.old result self.new }
-    {
+// The runs, one after another.
+impl<L: RunList + Copy> Iterator for Union<L> {
+    type Item = Group;
+
+    ghost can_next = { OnItsWay L.runs };
+
+    ghost next_gives = { GivesGroup L.runs };
+
+    ghost remaining = { λ u. at_most (pending u) };
+
+    fn next(&mut self) -> Option<Group> {
         while let Some(place) = self.places.next() {
             let r = self.places.list.run(place);
             let begun = Group::alone(r, place);
@@ -52,10 +59,5 @@ impl<L: RunList + Copy> Union<L> {
 pub fn runs_of<L: RunList + Copy>(list: L) -> u64
     ensures { result ≡ stretches (mem (L.runs list)) }
 {
-    let mut union = Union::of(list);
-    let mut n: u64 = 0;
-    while let Some(_) = union.next() {
-        n += 1;
-    }
-    n
+    Union::of(list).count() as u64
 }

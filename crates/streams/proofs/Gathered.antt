@@ -1,9 +1,10 @@
--- Counting the runs of two feeds joined, and putting them into free nodes: what holds at each turn of the two loops, and what it comes to. The
--- runs read so far are those that are counted, or put there; and the nodes are those that the world's tree gave back. Assumes nothing.
-use Rattle.std.specs.Prelude.{None, Some}
-use Prim.Native.Nat.{ℕ, zero, suc, ◌+◌, ◌*◌, ◌-◌, ◌≤◌, ◌<◌}
+-- Passing over the runs of two feeds joined, and putting them into free nodes: what the one tells, what holds at each turn of the other's loop, and what
+-- it comes to. The runs read so far are those that are passed over, or put there; the nodes are those that the world's tree gave back. Assumes nothing.
+use Rattle.std.specs.Prelude.{Option, None, Some}
+use Rattle.std.specs.Option.{is_none}
+use Rattle.std.specs.Iterator.{SkipsThenYields}
+use Prim.Native.Nat.{ℕ, suc, ◌+◌, ◌<◌}
 use mathlib.Core.Path.{◌≡◌, refl, sym, ap, ◌∙◌, subst}
-use mathlib.Core.Bool.{true, false}
 use mathlib.Core.List.{List, [], ◌∷◌, ◌++◌}
 use native.Mathlib.Omega.{arith}
 use lib.Dec.{leb}
@@ -11,10 +12,8 @@ use lib.ListN.{length, length-append}
 use borrow.Author.Tests.{le-leb, lt-leb}
 use Rattle.model.specs.declared.Run.{Run}
 use Rattle.model.specs.declared.Operation.{Operation}
-use Rattle.model.specs.Numbers.{size}
 use Rattle.model.specs.Positions.{Positions, run, held_runs, stretches}
 use Rattle.model.proofs.Runs.{held_runs-canon, mem-held_runs}
-use Rattle.model.specs.RunList.{Canon}
 use Rattle.run_index.specs.Cells.{Room}
 use Rattle.run_index.specs.Tree.{Tree, leaf, node, inorder}
 use Rattle.run_index.specs.Strung.{runs_of, Lays, Filled}
@@ -32,6 +31,7 @@ use Rattle.streams.specs.declared.gather.Feed.{Feed}
 use Rattle.streams.specs.Reading.{Draws}
 use Rattle.streams.specs.Sweeping.{Points, Joins}
 use Rattle.streams.specs.Gathering.{fed_by, joined, Ample, FilledWith, Fills, Roomy}
+use Rattle.streams.proofs.Iterated.{stream-run}
 use Rattle.streams.proofs.Streamed.{Streaming, stream-none, stream-all, stream-some, stream-more}
 
 -- ---- the two feeds
@@ -40,45 +40,15 @@ pub begun : (op : Operation) (x y : Feed) (l r : Cursor) → Points l 0 (fed_by 
     → Joins (record { op = op; left = l; right = r; from = Some (record { 0 = 0 }) }) 0 (joined op x y)
 begun op x y l r h k = record { rest = (refl, record { first = fed_by x; second = fed_by y; left = h; right = k; is = refl }) }
 
--- a list with one run more
-length_more : (rs : List Run) (r : Run) → length (rs ++ (r ∷ [])) ≡ suc (length rs)
-length_more rs r = length-append rs (r ∷ []) ∙ omega arith
-
--- ---- counting: so many of the limit are left after the runs so far
-pub record JoinedSoFar (j : Joint) (J : Positions) (limit left : ℕ) : Type 0 where
-  pub seen : List Run
-  pub stream : Streaming Joins j J seen
-  pub told : length seen + left ≡ limit
-
-pub count_none : {j : Joint} {J : Positions} {limit : ℕ} → Joins j 0 J → JoinedSoFar j J limit limit
-count_none h = record { seen = []; stream = stream-none h; told = omega arith }
-
-module _ {j j' : Joint} {J : Positions} {limit left : ℕ} (c : JoinedSoFar j J limit left) where
-  pub count-all : Draws Joins j None j' → true ≡ leb (stretches J) limit
-  unfolding stretches
-  count-all d = sym (le-leb (stretches J) limit (omega (arith, ap length (stream-all c.stream d), c.told)))
-
-  module _ {u : Run} (d : Draws Joins j (Some u) j') where
-    pub count-over : left ≡ 0 → false ≡ leb (stretches J) limit
-    count-over z = sym (lt-leb (stretches J) limit (omega (arith, stream-some c.stream d, c.told)))
-
-    pub count-more : (left ≡ 0 → ⊥) → JoinedSoFar j' J limit (left - 1)
-    count-more nz = record { seen = c.seen ++ (u ∷ []); stream = stream-more c.stream d; told = go left refl }
-      where
-        go : (n : ℕ) → left ≡ n → length (c.seen ++ (u ∷ [])) + (left - 1) ≡ limit
-        go zero q = absurd (nz q)
-        go (suc n) q = omega (arith, c.told, length_more c.seen u)
+-- ---- counting
+-- with n runs passed over, none comes if there are no more
+pub none-fits : {j : Joint} (j' : Joint) (J : Positions) (n : ℕ) (r : Option Run) → Joins j 0 J → SkipsThenYields (Draws Joins) j n r j' → is_none r ≡ leb (stretches J) n
+unfolding stretches
+none-fits j' J n None h (xs, (t, y, d), l) =
+    sym (le-leb (stretches J) n (omega (arith, ap length (stream-all (stream-run xs (stream-none h) y) d), l)))
+none-fits j' J n (Some u) h (xs, (t, y, d), l) = sym (lt-leb (stretches J) n (omega (arith, stream-some (stream-run xs (stream-none h) y) d, l)))
 
 -- ---- filling
--- canonical runs have gaps between them, so they are few
-canon-few : (total k : ℕ) (rs : List Run) → Canon total k rs → k ≤ total + 1 → 2 * length rs + k ≤ total + 1
-canon-few total k [] c h = omega arith
-canon-few total k (r ∷ rs) c h = let i = canon-few total (r.«end» + 2) rs c.3 (omega (arith, c.2)) in omega (arith, c.0, c.1)
-
-stretches-few : (J : Positions) → stretches J < size
-unfolding stretches
-stretches-few J = let h = canon-few size 0 (held_runs J) (held_runs-canon J) (omega arith) in omega arith
-
 -- there are as many runs as filled nodes
 runs_of-length : (w : List ℕ) (ns : List ℕ) → length (runs_of w ns) ≡ length ns
 runs_of-length w [] = refl
@@ -115,9 +85,6 @@ module _ {into₀ : List ℕ} {head : ℕ} {J : Positions} {ns : List ℕ} (am :
 
       pub fill-room : Room into at
       fill-room = next-room into at f.filled.ys f.filled.free (omega (arith, left_over f.filled, more))
-
-      pub fill-few : n + 1 < size
-      fill-few = omega (arith, stream-some f.stream d, filled-length f.filled, stretches-few J)
 
       -- it has the next run
       pub fill-more : {into' : List ℕ} {next : ℕ} → Lays into into' next at u.start u.«end» → Filling into₀ into' head next j' J (n + 1) ns

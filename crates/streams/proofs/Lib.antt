@@ -10,4 +10,5 @@ pub mod Readers
 pub mod Gapped
 pub mod Sweeps
 pub mod Streamed
+pub mod Iterated
 pub mod Gathered

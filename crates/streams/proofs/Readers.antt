@@ -3,13 +3,15 @@ use Rattle.std.specs.Prelude.{Option, None, Some}
 use Prim.Native.Nat.{ℕ, suc, ◌≤◌, ◌<◌}
 use mathlib.Core.Path.{◌≡◌, sym, ◌∙◌, subst}
 use native.Mathlib.Omega.{arith}
+use Rattle.std.specs.Iterator.{at_most, MakesProgress}
 use Rattle.model.specs.declared.Run.{Run}
 use Rattle.model.specs.declared.Logical.{Logical}
 use Rattle.model.specs.Positions.{Positions}
 use Rattle.streams.specs.declared.source.Reader.{Reader}
 use Rattle.store.specs.Layout.{physical_runs}
 use Rattle.streams.specs.declared.source.Path.{Path}
-use Rattle.streams.specs.Reading.{Clear, RunFrom, After, OnPath, Pops, InLast, InFirst, Ahead, lastly, firstly, Left, Draws, LastAt, FirstAt, Stands, Finds, Reads}
+use Rattle.streams.specs.Reading.{Clear, RunFrom, After, OnPath, Pops, InLast, InFirst, Ahead, lastly, firstly, Left, Draws, positions_from, LastAt, FirstAt, Stands, Finds, Reads}
+use Rattle.streams.proofs.Iterated.{StandsAt, draw-goes}
 use Rattle.streams.proofs.Firsts.{first-last, first-over-run, first-over-clear}
 
 -- ---- the part where it stands
@@ -81,3 +83,15 @@ pub next-some : (r r' : Reader) (t : Option Logical) (a : Logical) (x : Run) (o 
 next-some r r' t a x o e f n = λ y Q h.
     let g = f Q (standing e h t) in
     (subst (λ z. RunFrom z x.start x.«end» Q) (left e h).0 g.0, record { rooted = g.1.rooted; left = left-after r' x.«end» Q o n g.1.ahead })
+
+-- what it hands out leaves fewer positions
+reads-stand : (r : Reader) (y : ℕ) (Q : Positions) → Reads r y Q → StandsAt r.from y Q
+reads-stand r y Q h = go r.from h.left
+  where
+    go : (o : Option Logical) → Left r.words.now r.view r.path y Q o → StandsAt o y Q
+    go None l = l
+    go (Some a) l = l.0
+
+pub reads-goes : (r r' : Reader) (o : Option Run) → (y : ℕ) × (Q : Positions) × Reads r y Q → Draws Reads r o r'
+    → MakesProgress (λ s. (y : ℕ) × (Q : Positions) × Reads s y Q) (λ s. at_most (positions_from s.from)) r o r'
+reads-goes = draw-goes (λ s. s.from) reads-stand

@@ -2,7 +2,7 @@
 -- position; so each run that is handed out is put at the end, and with nothing left the list is that of all runs. From the laws of ranges that
 -- lie side by side. Assumes nothing.
 use Rattle.std.specs.Prelude.{None, Some}
-use Prim.Native.Nat.{ℕ, suc, ◌+◌, ◌-◌, ◌≤◌, ◌<◌}
+use Prim.Native.Nat.{ℕ, suc, ◌+◌, ◌-◌, ◌*◌, ◌≤◌, ◌<◌}
 use mathlib.Core.Path.{◌≡◌, refl, ap, ◌∙◌}
 use mathlib.Core.Logic.{◌⊎◌, inl, inr}
 use mathlib.Core.Bool.{true, false}
@@ -13,7 +13,8 @@ use Rattle.model.specs.declared.Run.{Run}
 use Rattle.model.specs.Numbers.{size}
 use Rattle.model.proofs.Numbers.{split}
 use Rattle.model.specs.Positions.{Positions, run, runs_in, held_runs, stretches}
-use Rattle.model.proofs.Runs.{runs_in-none, runs_in-join, runs_in-first}
+use Rattle.model.specs.RunList.{Canon}
+use Rattle.model.proofs.Runs.{runs_in-none, runs_in-join, runs_in-first, held_runs-canon}
 use Rattle.streams.specs.Reading.{Clear, RunFrom, Draws}
 
 -- rs are the runs of J below x, and none of them goes on at x
@@ -49,6 +50,15 @@ module _ {x : ℕ} {J : Positions} {rs : List Run} (p : Passed x J rs) where
           ∙ append-nil rs
       go (inr g) = let e : size ≡ x = omega (arith, p.within) in ap (runs_in J true 0) e ∙ p.runs-are
 
+  -- they are some of its runs
+  pub passed-few : length rs ≤ stretches J
+  unfolding stretches held_runs
+  passed-few = go (split x size)
+    where
+      go : (x < size) ⊎ (size ≤ x) → length rs ≤ length (runs_in J true 0 size)
+      go (inl l) = omega (arith, ap length (joined l size (omega arith)), length-append rs (runs_in J true x (size - x)))
+      go (inr g) = let e : size ≡ x = omega (arith, p.within) in omega (arith, ap length (ap (runs_in J true 0) e ∙ p.runs-are))
+
   module _ {a b : ℕ} (r : RunFrom x a b J) where
     -- the first run from x on, and what follows it below t
     found : (t : ℕ) → b < t → t ≤ size → runs_in J true 0 t ≡ rs ++ (run a b ∷ runs_in J true (suc b) (t - suc b))
@@ -75,6 +85,15 @@ module _ {x : ℕ} {J : Positions} {rs : List Run} (p : Passed x J rs) where
         let e = ap length (found size r.small (omega arith)) ∙ length-append rs (run a b ∷ runs_in J true (suc b) (size - suc b)) in
         omega (arith, e)
 
+-- canonical runs have gaps between them, so they are few
+canon-few : (total k : ℕ) (rs : List Run) → Canon total k rs → k ≤ total + 1 → 2 * length rs + k ≤ total + 1
+canon-few total k [] c h = omega arith
+canon-few total k (r ∷ rs) c h = let i = canon-few total (r.«end» + 2) rs c.3 (omega (arith, c.2)) in omega (arith, c.0, c.1)
+
+pub stretches-few : (J : Positions) → stretches J < size
+unfolding stretches
+stretches-few J = let h = canon-few size 0 (held_runs J) (held_runs-canon J) (omega arith) in omega arith
+
 -- a reading that stands behind the runs rs of J
 pub record Streaming {A : Type 0} (Has : A → ℕ → Positions → Type 0) (r : A) (J : Positions) (rs : List Run) : Type 0 where
   pub at : ℕ
@@ -83,6 +102,10 @@ pub record Streaming {A : Type 0} (Has : A → ℕ → Positions → Type 0) (r 
 
 pub stream-none : {A : Type 0} {Has : A → ℕ → Positions → Type 0} {r : A} {J : Positions} → Has r 0 J → Streaming Has r J []
 stream-none {J = J} h = record { at = 0; passed = passed_none J; has = h }
+
+-- they are some of its runs
+pub stream-few : {A : Type 0} {Has : A → ℕ → Positions → Type 0} {r : A} {J : Positions} {rs : List Run} → Streaming Has r J rs → length rs ≤ stretches J
+stream-few s = passed-few s.passed
 
 module _ {A : Type 0} {Has : A → ℕ → Positions → Type 0} {r : A} {J : Positions} {rs : List Run} (s : Streaming Has r J rs) {r' : A} where
   -- no more runs

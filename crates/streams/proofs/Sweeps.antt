@@ -10,6 +10,7 @@ use mathlib.Core.List.{[]}
 use native.Mathlib.Omega.{arith}
 use lib.Dec.{leb}
 use borrow.Author.Tests.{le-leb, lt-leb}
+use Rattle.std.specs.Iterator.{at_most, MakesProgress}
 use Rattle.model.specs.declared.Run.{Run}
 use Rattle.model.specs.declared.Logical.{Logical}
 use Rattle.model.specs.Numbers.{size}
@@ -20,9 +21,10 @@ use Rattle.store.proofs.Ends.{empty-mem}
 use Rattle.streams.specs.declared.source.Reader.{Reader}
 use Rattle.streams.specs.declared.sweep.Cursor.{Cursor}
 use Rattle.streams.specs.declared.sweep.Joint.{Joint}
-use Rattle.streams.specs.Reading.{Clear, RunFrom, Reads, Draws}
+use Rattle.streams.specs.Reading.{Clear, RunFrom, Reads, Draws, positions_from}
 use Rattle.streams.specs.Sweeping.{Current, Beyond, AtHand, Points, Covers, ValueAt, Within, Same, SameTo, CanMove, Movable, Moves}
 use Rattle.streams.specs.Sweeping.{Both, ReachedAt, Reaches, JoinsFrom, Joins}
+use Rattle.streams.proofs.Iterated.{StandsAt, draw-goes}
 
 -- ---- one cursor: a run is at hand, or the set is over
 module _ (c : Cursor) (x : ℕ) (Q : Positions) where
@@ -323,3 +325,15 @@ module _ (j j₁ j₂ : Joint) (t : Option Logical) (a b : Logical) (e : Some a 
             );
           },
         )
+
+-- what it hands out leaves fewer positions
+joins-stand : (j : Joint) (x : ℕ) (J : Positions) → Joins j x J → StandsAt j.from x J
+joins-stand j x J h = go j.from h.rest
+  where
+    go : (o : Option Logical) → JoinsFrom o j x J → StandsAt o x J
+    go None l = l
+    go (Some a) l = l.0
+
+pub joins-goes : (j j' : Joint) (o : Option Run) → (x : ℕ) × (J : Positions) × Joins j x J → Draws Joins j o j'
+    → MakesProgress (λ i. (x : ℕ) × (J : Positions) × Joins i x J) (λ i. at_most (positions_from i.from)) j o j'
+joins-goes = draw-goes (λ i. i.from) joins-stand

@@ -43,6 +43,11 @@ abbrev pub Draws : {A : Type 0} → (A → ℕ → Positions → Type 0) → A �
 Draws Has a None a' = (x : ℕ) (Q : Positions) → Has a x Q → Clear x Q × Has a' x Q
 Draws Has a (Some r) a' = (x : ℕ) (Q : Positions) → Has a x Q → RunFrom x r.start r.«end» Q × Has a' (suc r.«end») Q
 
+-- how many positions there are from one on, if there is one
+abbrev pub positions_from : Option Logical → ℕ
+positions_from None = 0
+positions_from (Some a) = size - a.0
+
 -- the position after x, if there is one
 abbrev pub After : ℕ → Option Logical → Type 0
 After x None = size ≤ suc x

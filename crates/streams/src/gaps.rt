@@ -28,8 +28,7 @@ pub fn lowest_gap(words: &[u64], h: World, range: Interval, n: u64) -> Option<u6
         offset: h.offset,
     };
     let mut x = range.first.0;
-    let mut held = Reader::open(words, v, range.first);
-    while let Some(r) = held.next() {
+    for r in Reader::open(words, v, range.first) {
         if r.start - x >= n {
             return Some(x);
         }

@@ -50,15 +50,7 @@ pub fn fits<'a>(op: Operation, x: Feed<'a>, y: Feed<'a>, limit: u64) -> bool
     requires { Sources x y }
     ensures { result ≡ leb (stretches (joined op x.entry y.entry)) limit }
 {
-    let mut joint = join(op, x, y);
-    let mut left = limit;
-    while let Some(_) = joint.next() {
-        if left == 0 {
-            return false;
-        }
-        left -= 1;
-    }
-    true
+    join(op, x, y).nth(limit as usize).is_none()
 }
 
 // Puts the runs of two feeds joined into the first nodes of the free chain from `head` on, in order, and tells how many there are.
@@ -67,12 +59,11 @@ fn fill<'a>(into: &mut [u64], head: u64, op: Operation, x: Feed<'a>, y: Feed<'a>
     requires { Fillable into.old head op x y }
     ensures { Fills into.old into.new head result (joined op x.entry y.entry) }
 {
-    let mut joint = join(op, x, y);
     let mut at = head;
-    let mut n: u64 = 0;
-    while let Some(r) = joint.next() {
+    let mut n = 0;
+    for (laid, r) in join(op, x, y).enumerate() {
         at = run_index::chains::lay_run(into, at, r);
-        n += 1;
+        n = laid as u64 + 1;
     }
     n
 }

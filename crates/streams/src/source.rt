@@ -3,10 +3,12 @@
 // Under an offset o the logical positions o .. M are kept at 0 .. M - o, and those below o at the places above them: a reading from below o
 // has a first part, up to physical M, and a last part, from physical 0 on.
 ghost use Rattle.std.specs.Prelude.{◌≡◌, ℕ, List};
+ghost use Rattle.std.specs.Iterator.{at_most};
 ghost use Rattle.model.specs.declared.Run.{Run};
 ghost use Rattle.model.specs.Positions.{Positions};
 ghost use Rattle.store.specs.Layout.{held_from};
-ghost use Rattle.streams.specs.Reading.{Rooted, After, Reads, Draws, Descendable, Descends, OnPath, Pops, TellsZero, Stands, LastAt, FirstAt, Finds};
+ghost use Rattle.streams.specs.Reading.{Rooted, After, Reads, Draws, positions_from};
+ghost use Rattle.streams.specs.Reading.{Descendable, Descends, OnPath, Pops, TellsZero, Stands, LastAt, FirstAt, Finds};
 
 use model::{Logical, Run};
 use store::places::{Physical, to_logical, to_physical};
@@ -109,17 +111,6 @@ impl<'a> Reader<'a> {
         }
     }
 
-    // The next run.
-    pub fn next(&mut self) -> Option<Run>
-        requires { (y : ℕ) × (Q : Positions) × Reads self.old y Q }
-        ensures { Draws Reads self.old result self.new }
-    {
-        let from = self.from.take()?;
-        let r = self.find(from)?;
-        self.from = after(Logical(r.end));
-        Some(r)
-    }
-
     // The next run, from the position on where the reader stands.
     fn find(&mut self, from: Logical) -> Option<Run>
         requires { (Q : Positions) × Stands self.old «from».0 Q }
@@ -176,5 +167,23 @@ impl<'a> Reader<'a> {
             offset - 1
         };
         Some(Run { start, end })
+    }
+}
+
+// The runs, one after the other. Each has a position of its own, so no more come than there are positions left.
+impl<'a> Iterator for Reader<'a> {
+    type Item = Run;
+
+    ghost can_next = { λ r. (y : ℕ) × (Q : Positions) × Reads r y Q };
+
+    ghost next_gives = { Draws Reads };
+
+    ghost remaining = { λ r. at_most (positions_from r.from) };
+
+    fn next(&mut self) -> Option<Run> {
+        let from = self.from.take()?;
+        let r = self.find(from)?;
+        self.from = after(Logical(r.end));
+        Some(r)
     }
 }

@@ -1,8 +1,9 @@
 // Two readings swept together: the runs of their join by AND, OR or XOR, one after the other, each maximal.
 ghost use Rattle.std.specs.Prelude.{◌≡◌, ◌≤◌, ℕ};
+ghost use Rattle.std.specs.Iterator.{at_most};
 ghost use Rattle.model.specs.Positions.{apply, Positions};
 ghost use Rattle.store.specs.Layout.{held_from};
-ghost use Rattle.streams.specs.Reading.{Rooted, Draws};
+ghost use Rattle.streams.specs.Reading.{Rooted, Draws, positions_from};
 ghost use Rattle.streams.specs.Sweeping.{Points, Covers, ValueAt, SameTo, Movable, Moves, Both, Reaches, Joins};
 
 use crate::source::{Reader, View, after};
@@ -121,12 +122,19 @@ impl<'a> Joint<'a> {
         }
         Some(at)
     }
+}
 
-    // The next run.
-    pub fn next(&mut self) -> Option<Run>
-        requires { (x : ℕ) × (J : Positions) × Joins self.old x J }
-        ensures { Draws Joins self.old result self.new }
-    {
+// The runs, one after the other.
+impl<'a> Iterator for Joint<'a> {
+    type Item = Run;
+
+    ghost can_next = { λ j. (x : ℕ) × (J : Positions) × Joins j x J };
+
+    ghost next_gives = { Draws Joins };
+
+    ghost remaining = { λ j. at_most (positions_from j.from) };
+
+    fn next(&mut self) -> Option<Run> {
         let from = self.from.take()?;
         let start = self.reach(from, true)?;
         let Some(stop) = self.reach(start, false) else {

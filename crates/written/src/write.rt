@@ -68,11 +68,8 @@ pub fn write_set(words: &[u64], h: World, edition: Edition, out: &mut [u8])
         root: h.root,
         offset: h.offset,
     };
-    let mut held = Reader::open(words, v, Logical(0));
-    let mut i: u64 = 0;
-    while let Some(r) = held.next() {
-        put_run(out, edition, n, i, r);
-        i += 1;
+    for (i, r) in Reader::open(words, v, Logical(0)).enumerate() {
+        put_run(out, edition, n, i as u64, r);
     }
 }
 

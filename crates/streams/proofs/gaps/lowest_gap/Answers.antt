@@ -1,5 +1,5 @@
 -- `lowest_gap` meets its contract. The loop's invariant: the reader stands at x, at least n positions of the range are left, and the lowest gap
--- of what is left is the range's. The measure is how far x is from the range's last position. Assumes nothing.
+-- of what is left is the range's. Assumes nothing.
 use mathlib.Core.Path.{sym}
 use native.Mathlib.Omega.{arith}
 use Rattle.streams.proofs.Starts.{standing-rooted}
@@ -9,32 +9,28 @@ use Rattle.streams.proofs.gaps.lowest_gap.Goals as goal
 pub returns-then-range-n : goal.returns-then-range-n
 returns-then-range-n c = sym (gap-short _ _ _ _ c.args.range.ordered c.if-range-n.true)
 
-pub open-held-requires : goal.open-held-requires
-open-held-requires c = standing-rooted c.requires.stands.1
+pub open-r-items-requires : goal.open-r-items-requires
+open-r-items-requires c = standing-rooted c.requires.stands.1
 
 pub loop-r-init : goal.loop-r-init
-loop-r-init c = sought-first c.args.range.ordered c.requires.some c.if-range-n.false c.open-held.ensures
+loop-r-init c = rw c.into_iter-r-iterator.ensures.into_iter_gives (sought-first c.args.range.ordered c.requires.some c.if-range-n.false c.open-r-items.ensures)
 
 pub next-requires : goal.next-requires
 next-requires c = (_, _, c.loop-r.invariant.reads)
 
 pub overflow_sub-r : goal.overflow_sub-r
-overflow_sub-r c = omega (arith, (sought-run c.loop-r.invariant c.in-Some.ensures).onward)
+overflow_sub-r c = omega (arith, (sought-run c.loop-r.invariant c.in-Some.ensures.steps).onward)
 
 pub returns-then-r-x : goal.returns-then-r-x
-returns-then-r-x c = sym (sought-before c.loop-r.invariant c.in-Some.ensures c.if-r-x.true)
+returns-then-r-x c = sym (sought-before c.loop-r.invariant c.in-Some.ensures.steps c.if-r-x.true)
 
 pub returns-then-saturating_sub-n : goal.returns-then-saturating_sub-n
 returns-then-saturating_sub-n c =
-    sym (sought-over c.loop-r.invariant c.in-Some.ensures c.requires.some c.if-r-x.false (omega (arith, c.if-saturating_sub-n.true, c.saturating_sub.ensures)))
-
-pub loop-r-smaller : goal.loop-r-smaller
-loop-r-smaller c =
-    let r = sought-run c.loop-r.invariant c.in-Some.ensures in omega (arith, r.onward, r.ordered, c.requires.some, c.if-saturating_sub-n.false, c.saturating_sub.ensures)
+    sym (sought-over c.loop-r.invariant c.in-Some.ensures.steps c.requires.some c.if-r-x.false (omega (arith, c.if-saturating_sub-n.true, c.saturating_sub.ensures)))
 
 pub loop-r-preserved : goal.loop-r-preserved
 loop-r-preserved c =
-    sought-on c.loop-r.invariant c.in-Some.ensures c.requires.some c.if-r-x.false (omega (arith, c.if-saturating_sub-n.false, c.saturating_sub.ensures))
+    sought-on c.loop-r.invariant c.in-Some.ensures.steps c.requires.some c.if-r-x.false (omega (arith, c.if-saturating_sub-n.false, c.saturating_sub.ensures))
 
 pub returns : goal.returns
-returns c = sym (sought-clear c.loop-r.invariant c.in_default.ensures (omega (arith, c.well_formed)))
+returns c = sym (sought-clear c.loop-r.invariant c.in-None.ensures.steps (omega (arith, c.well_formed)))

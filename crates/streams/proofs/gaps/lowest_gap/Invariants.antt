@@ -1,12 +1,8 @@
 -- `lowest_gap` meets its contract. The loop's invariant: the reader stands at x, at least n positions of the range are left, and the lowest gap
--- of what is left is the range's. The measure is how far x is from the range's last position. Assumes nothing.
-use Prim.Native.Nat.{◌-◌}
+-- of what is left is the range's. Assumes nothing.
 use Rattle.store.specs.Layout.{held_in}
 use Rattle.streams.proofs.Gapped.{Sought}
 use Rattle.streams.proofs.gaps.lowest_gap.Given as goal
 
 abbrev pub invariant-loop-r : goal.invariant-loop-r
-invariant-loop-r l = Sought l.held l.range.first.0 l.range.last.0 l.n l.x (held_in l.words l.fn.h)
-
-abbrev pub decreases-loop-r : goal.decreases-loop-r
-decreases-loop-r l = l.range.last.0 - l.x
+invariant-loop-r l = Sought l.r-iterator l.range.first.0 l.range.last.0 l.n l.x (held_in l.words l.fn.h)

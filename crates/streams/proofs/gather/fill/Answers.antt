@@ -1,26 +1,32 @@
--- `fill` meets its contract. The loop's invariant: the first n nodes of the free chain have the runs read so far, whatever nodes the chain has. The
--- measure is how far n is from 2^64. Assumes nothing.
-use native.Mathlib.Omega.{arith}
-use Rattle.streams.proofs.Gathered.{fill_none, fill-all, fill-room, fill-few, fill-more}
+-- `fill` meets its contract. The loop's invariant: the first n nodes of the free chain have the runs read so far, whatever nodes the chain has.
+-- Assumes nothing.
+use Rattle.std.proofs.Common.{refl, arith}
+use mathlib.Core.Path.{◌∙◌, ap}
+use Rattle.std.specs.Iterator.Adapters.{enumerate_source, enumerate_count}
+use Rattle.streams.specs.declared.sweep.Joint.{Joint}
+use Rattle.streams.proofs.Iterated.{count-begins}
+use Rattle.streams.proofs.Gathered.{fill_none, fill-all, fill-room, fill-more}
 use Rattle.streams.proofs.gather.fill.Goals as goal
 
-pub loop-r-init : goal.loop-r-init
-loop-r-init c = λ ns am. fill_none am c.join-joint.ensures
+pub loop-laid-init-derived : goal.loop-laid-init-derived
+loop-laid-init-derived c =
+    let i = c.into_iter-laid-iterator.ensures.into_iter_gives in
+    let e = c.enumerate-laid-items.ensures in
+    (count-begins (λ (j : Joint). j.from) _ c.join.ensures (ap enumerate_source i ∙ e.source) (ap enumerate_count i ∙ e.count), tt)
 
-pub next-requires : goal.next-requires
-next-requires c = let p = c.requires in let s = (c.loop-r.invariant p.nodes p.ample).stream in (_, _, s.has)
+pub loop-laid-init : goal.loop-laid-init
+loop-laid-init c =
+    let e = c.enumerate-laid-items.ensures in
+    rw (c.into_iter-laid-iterator.ensures.into_iter_gives, e.source, e.count) (refl, λ ns am. fill_none am c.join.ensures)
 
 pub lay_run-at-requires : goal.lay_run-at-requires
-lay_run-at-requires c = let p = c.requires in fill-room p.ample (c.loop-r.invariant p.nodes p.ample) c.in-Some.ensures
+lay_run-at-requires c = let p = c.requires in fill-room p.ample (c.loop-laid.invariant.1 p.nodes p.ample) c.in-Some.ensures.steps.0
 
-pub overflow_add-n : goal.overflow_add-n
-overflow_add-n c = let p = c.requires in omega (arith, fill-few p.ample (c.loop-r.invariant p.nodes p.ample) c.in-Some.ensures)
-
-pub loop-r-smaller : goal.loop-r-smaller
-loop-r-smaller c = let p = c.requires in omega (arith, fill-few p.ample (c.loop-r.invariant p.nodes p.ample) c.in-Some.ensures)
-
-pub loop-r-preserved : goal.loop-r-preserved
-loop-r-preserved c = λ ns am. fill-more am (c.loop-r.invariant ns am) c.in-Some.ensures c.lay_run-at.ensures
+pub loop-laid-preserved : goal.loop-laid-preserved
+loop-laid-preserved c =
+    let i = c.loop-laid.invariant in
+    let s = c.in-Some.ensures.steps in
+    rw (s.1 ∙ i.0) (omega (arith, s.2, i.0), λ ns am. fill-more am (i.1 ns am) s.0 c.lay_run-at.ensures)
 
 pub returns : goal.returns
-returns c = λ ns am. fill-all am (c.loop-r.invariant ns am) c.in_default.ensures
+returns c = λ ns am. fill-all am (c.loop-laid.invariant.1 ns am) c.in-None.ensures.steps.0

@@ -3,4 +3,4 @@ use Rattle.streams.proofs.Sweeps.{drawn}
 use Rattle.streams.proofs.sweep.Cursor.open.Goals as goal
 
 pub returns : goal.returns
-returns c = drawn _ _ c.next-run.result _ _ c.next-run.ensures c.open-rest.ensures
+returns c = drawn _ _ c.next-run.result _ _ c.next-run.ensures.steps c.open-rest.ensures

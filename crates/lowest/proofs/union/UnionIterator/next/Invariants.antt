@@ -1,10 +1,10 @@
--- `next` meets its contract. The loop's invariant: the union goes on, and the same runs are handed out. The measure is what is ahead of its places.
+-- `next` meets its contract. The loop's invariant: the union goes on, the same runs are handed out, and no more are pending. The measure is what is ahead of its places.
 -- Assumes nothing.
-use Rattle.std.proofs.Common.{◌≡◌, List}
+use Rattle.std.proofs.Common.{◌≡◌, ◌≤◌, List}
 use Rattle.lowest.specs.declared.Group.{Group}
 use Rattle.lowest.specs.Windows.{ahead}
-use Rattle.lowest.specs.Joins.{Joining}
-use Rattle.lowest.proofs.union.Union.next.Given as goal
+use Rattle.lowest.specs.Joins.{Joining, pending}
+use Rattle.lowest.proofs.union.UnionIterator.next.Given as goal
 
 abbrev pub invariant-loop-place : goal.invariant-loop-place
 invariant-loop-place g l =
@@ -12,6 +12,7 @@ invariant-loop-place g l =
     record {
       list : l.self.places.list ≡ l.initial.self.places.list;
       goes : (done : List Group) → Joining es done l.initial.self → Joining es done l.self;
+      less : pending l.self ≤ pending l.initial.self;
     }
 
 abbrev pub decreases-loop-place : goal.decreases-loop-place

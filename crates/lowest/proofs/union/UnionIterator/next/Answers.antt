@@ -1,13 +1,15 @@
 -- `next` meets its contract: an entry joins the last run or begins one; where none is left the last run is handed out. Assumes nothing.
-use Rattle.std.proofs.Common.{◌≡◌, ◌+◌, ◌<◌, ◌≤◌, min, max, length, true, false, None, List, ◌++◌, ◌∷◌, [], subst, leb-true, leb-false, refl, ap, sym, ◌∙◌}
+use Rattle.std.proofs.Common.{◌≡◌, ◌+◌, ◌<◌, ◌≤◌, min, max, length, true, false, None, List, ◌++◌, ◌∷◌, [], subst, le_refl, le_trans, lt_of_lt_of_le, leb-true, leb-false, refl, ap, sym, ◌∙◌}
 use Rattle.model.specs.declared.Run.{Run}
 use Rattle.lowest.specs.Entries.{entry}
 use Rattle.lowest.specs.Groups.{alone}
 use Rattle.lowest.specs.Windows.{Rises, Goes}
 use Rattle.lowest.proofs.Steps.{next-below, next-first, next-joins, next-begins, next-front, last-draws}
-use Rattle.lowest.proofs.union.Union.next.Goals as goal
-use Rattle.lowest.proofs.union.Union.next.Goals.{In-Some, After-run-r, After-alone-begun}
-use Rattle.lowest.proofs.union.Union.next.Given.{Over}
+use Rattle.lowest.specs.Joins.{pending}
+use Rattle.lowest.proofs.Iterated.{pending-on, pending-less, pending_last, union-goes}
+use Rattle.lowest.proofs.union.UnionIterator.next.Goals as goal
+use Rattle.lowest.proofs.union.UnionIterator.next.Goals.{In-Some, After-run-r, After-alone-begun, After-take}
+use Rattle.lowest.proofs.union.UnionIterator.next.Given.{Over}
 
 -- the list stays
 same : (g : Over) (c : In-Some g) → c.next.new.self.list ≡ c.args.self.now.places.list
@@ -29,7 +31,7 @@ comes g c = subst (λ l. (ps : List _) → Rises (g.L.RunList.runs l) ps c.loop-
     c.loop-place.invariant.list c.in-Some.ensures.1.0
 
 pub loop-place-init : goal.loop-place-init
-loop-place-init g c = record { list = refl; goes = λ done k. k }
+loop-place-init g c = record { list = refl; goes = λ done k. k; less = le_refl _ }
 
 pub next-requires : goal.next-requires
 next-requires g c =
@@ -55,13 +57,14 @@ loop-place-preserved-in_default-last g c =
       goes = λ done k.
           let u = c.loop-place.invariant.goes done k in
           next-first u _ (comes g s u.places u.rises) _ b c.in_default-last.is;
+      less = le_trans (pending-on c.loop-place.self c.next.new.self c.alone-begun.result c.in-Some.ensures.1.1) c.loop-place.invariant.less;
     }
 
-pub returns-then-not-reaches : goal.returns-then-not-reaches
-returns-then-not-reaches g c =
-    let s = (goal.at.returns-then-not-reaches g c).In-Some in
-    let r = read g (goal.at.returns-then-not-reaches g c).After-run-r in
-    let b = begun g (goal.at.returns-then-not-reaches g c).After-alone-begun r in
+pub returns-then-not-reaches-clause-steps : goal.returns-then-not-reaches-clause-steps
+returns-then-not-reaches-clause-steps g c =
+    let s = (goal.at.returns-then-not-reaches-clause-steps g c).In-Some in
+    let r = read g (goal.at.returns-then-not-reaches-clause-steps g c).After-run-r in
+    let b = begun g (goal.at.returns-then-not-reaches-clause-steps g c).After-alone-begun r in
     let e = c.in-Some-last.g.«end» in
     let l = subst (λ (x : Run). e + 1 < x.start) r (leb-false c.run-r.result.start (e + 1) (sym c.reaches.ensures ∙ c.if-not-reaches.true)) in (
       same g s,
@@ -70,6 +73,11 @@ returns-then-not-reaches g c =
           let t = comes g s u.places u.rises in
           (next-front u _ t _ c.in-Some-last.is, next-begins u _ t _ c.in-Some-last.is _ b l),
     )
+
+pub returns-then-not-reaches-clause-goes : goal.returns-then-not-reaches-clause-goes
+returns-then-not-reaches-clause-goes g c =
+    let l = pending-less c.loop-place.self c.next.new.self c.alone-begun.result c.in-Some-last.g c.in-Some-last.is c.in-Some.ensures.1.1 in
+    union-goes g.L.RunList.runs _ _ _ c.requires (returns-then-not-reaches-clause-steps g c) (lt_of_lt_of_le l c.loop-place.invariant.less)
 
 pub loop-place-smaller : goal.loop-place-smaller
 loop-place-smaller g c = c.in-Some.ensures.1.1
@@ -86,13 +94,25 @@ loop-place-preserved g c =
       goes = λ done k.
           let u = c.loop-place.invariant.goes done k in
           next-joins u _ (comes g s u.places u.rises) h c.in-Some-last.is _ w l;
+      less = le_trans (pending-on c.loop-place.self c.next.new.self c.with.result c.in-Some.ensures.1.1) c.loop-place.invariant.less;
     }
 
-pub returns : goal.returns
-returns g c =
+-- no entry is left
+spent : (g : Over) (c : After-take g) → Goes (g.L.RunList.runs c.args.self.now.places.list) c.loop-place.self.places None c.next.new.self
+spent g c = subst (λ l. Goes (g.L.RunList.runs l) c.loop-place.self.places None c.next.new.self) c.loop-place.invariant.list c.in_default.ensures.1
+
+pub returns-clause-steps : goal.returns-clause-steps
+returns-clause-steps g c =
     let i = c.loop-place.invariant in
-    let es = g.L.RunList.runs in
-    let n = subst (λ l. Goes (es l) c.loop-place.self.places None c.next.new.self) i.list c.in_default.ensures.1 in (
+    let es = g.L.RunList.runs c.args.self.now.places.list in (
       c.in_default.ensures.0 ∙ i.list,
-      rw (c.take.ensures.value, c.take.ensures.after) (last-draws (es c.args.self.now.places.list) c.args.self.now c.loop-place.self c.next.new.self i.goes n c.loop-place.self.last refl),
+      rw (c.take.ensures.value, c.take.ensures.after) (last-draws es c.args.self.now c.loop-place.self c.next.new.self i.goes (spent g c) c.loop-place.self.last refl),
     )
+
+pub returns-clause-goes : goal.returns-clause-goes
+returns-clause-goes g c =
+    let i = c.loop-place.invariant in
+    let k = i.goes c.requires.0 c.requires.1 in
+    let z = spent g c k.places k.rises in
+    let l = pending_last c.loop-place.self c.next.new.self z.1 z.2 (pending c.args.self.now) i.less c.loop-place.self.last refl in
+    union-goes g.L.RunList.runs _ _ _ c.requires (returns-clause-steps g c) (rw (c.take.ensures.value, c.take.ensures.after) l)
