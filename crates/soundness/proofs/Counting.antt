@@ -9,7 +9,7 @@ use Rattle.store.specs.Soundness.{sum_to}
 use Rattle.store.proofs.Sums.{sum-cong}
 
 -- the sum of f over 1 .. n
-abbrev sum : ℕ → (ℕ → ℕ) → ℕ
+abbrev pub sum : ℕ → (ℕ → ℕ) → ℕ
 sum zero f = 0
 sum (suc n) f = sum n f + f (suc n)
 
@@ -70,7 +70,7 @@ sum-count n (node k a b l r) h =
     )
 
 -- and those of a list to its length
-sum-times : (n : ℕ) (ks : List ℕ) → Among n (λ m. times m ks) → sum n (λ m. times m ks) ≡ length ks
+pub sum-times : (n : ℕ) (ks : List ℕ) → Among n (λ m. times m ks) → sum n (λ m. times m ks) ≡ length ks
 sum-times n [] h = sum-zero n
 sum-times n (k ∷ ks) h =
     let p = h k (omega (arith, δ-same k)) in

@@ -1,0 +1,3 @@
+pub mod Threading
+pub mod Ordering
+pub mod Tidying

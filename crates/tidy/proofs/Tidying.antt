@@ -1,0 +1,50 @@
+-- A call that tidies after its work keeps its promise: the pool that it left has every world as it was. Assumes nothing.
+use Prim.Native.Nat.{ℕ, ◌<◌}
+use mathlib.Core.Path.{◌≡◌, refl, ap, ap₂, ◌∙◌}
+use mathlib.Core.List.{List}
+use native.Mathlib.Omega.{arith}
+use Rattle.model.specs.Numbers.{most_worlds}
+use Rattle.model.specs.Positions.{Positions}
+use Rattle.model.specs.Call.{Call, Result, gave}
+use Rattle.model.specs.Pools.{PlainWorld}
+use Rattle.store.specs.Layout.{opened_at, floor_at, ceiling_at, held_by, plain_at, worlds_from, worlds_of}
+use Rattle.store.specs.Soundness.{Sound}
+use Rattle.store.specs.Free.{Pooled}
+use Rattle.store.specs.Settle.{Settled}
+use Rattle.store.proofs.WorldLists.{worlds-same}
+use Rattle.promises.specs.Met.{Site, Readable, Met}
+use Rattle.tidy.specs.Tidy.{Tidied}
+
+-- a pool that is left as it is
+pub tidied-same : {w : List ℕ} → Sound w → Tidied w w
+tidied-same S = record { sound = S; opened = refl; held = λ j l. refl; floors = λ j l. refl; ceilings = λ j l. refl; long = refl }
+
+-- what settled before stays so
+pub settled-tidied : {w w₁ w₂ : List ℕ} {i : ℕ} {P : Positions} → i < opened_at w → Settled w w₁ i P → Tidied w₁ w₂ → Settled w w₂ i P
+settled-tidied {i = i} l S t = record {
+  sound = t.sound;
+  holds = λ x u. ap (λ (Q : Positions). Q x) (t.held i (omega (arith, S.opened))) ∙ S.holds x u;
+  opened = t.opened ∙ S.opened;
+  others = λ j b ne. t.held j (omega (arith, S.opened)) ∙ S.others j b ne;
+  floors = λ j b. t.floors j b ∙ S.floors j b;
+  ceilings = λ j b. t.ceilings j b ∙ S.ceilings j b;
+  long = t.long ∙ S.long;
+}
+
+-- and so does what a call on a world promised
+pub met-tidied : {w w₁ w₂ : List ℕ} {i : ℕ} {c : Call Site} {r : Result} → Readable w i → Met w i c (gave r) w₁ → Tidied w₁ w₂ → Met w i c (gave r) w₂
+met-tidied R m t = record { answered = m.answered; left = settled-tidied R.openable.named m.left t }
+
+-- a pool has the same worlds then
+worlds-tidied : {w w' : List ℕ} → Tidied w w' → worlds_of w' ≡ worlds_of w
+unfolding worlds_of
+worlds-tidied {w} {w'} t = ap (worlds_from w' 0) t.opened ∙ worlds-same w' w 0 (opened_at w) (λ j a b. same j (omega arith))
+  where
+    same : (j : ℕ) → j < opened_at w → plain_at w' j ≡ plain_at w j
+    same j l =
+        let small : j < most_worlds = omega (arith, t.opened, t.sound.few) in
+        ap₂ (λ R f. record { positions = R; floor = f; ceiling = ceiling_at w' j }) (t.held j l) (t.floors j small)
+        ∙ ap (λ c. record { positions = held_by w j; floor = floor_at w j; ceiling = c }) (t.ceilings j small)
+
+pub pooled-tidied : {w w₁ w₂ : List ℕ} {ws : List PlainWorld} → Pooled w w₁ ws → Tidied w₁ w₂ → Pooled w w₂ ws
+pooled-tidied p t = record { sound = t.sound; worlds = worlds-tidied t ∙ p.worlds; long = t.long ∙ p.long }

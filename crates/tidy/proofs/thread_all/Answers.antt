@@ -1,0 +1,7 @@
+-- `thread_all` meets its contract. The loop's invariant: the low nodes after the first `before` are the free chain, from `next` on. Assumes
+-- nothing.
+use Rattle.tidy.proofs.Threading.{threading-more}
+use Rattle.tidy.proofs.thread_all.Goals as goal
+
+pub loop-before-preserved : goal.loop-before-preserved
+loop-before-preserved c = threading-more _ c.loop-before-test.true c.loop-before.invariant c.thread-next.ensures
