@@ -5,6 +5,7 @@ use Rattle.std.proofs.Common.{◌≡◌, ℕ, zero, suc, ◌+◌, ◌-◌, ◌*�
 use Rattle.std.proofs.Common.{Some, refl, ap, ◌∙◌, subst, ap₂, inl, inr, add-zero, arith, le-ltb, lt-ltb}
 use mathlib.Core.Bool.{beq}
 use mir.Val.{bool_byte}
+use Rattle.store.proofs.Truths.{byte-one, byte-small}
 use Rattle.model.specs.declared.Run.{Run}
 use Rattle.model.specs.declared.Count.{Count}
 use Rattle.model.specs.declared.Tally.{Tally}
@@ -134,16 +135,6 @@ not-one false = refl
 -- a wrapped difference is exact where the true one fits
 wrapped_exact : (u o a b d : ℕ) → u ≡ a % 2 ^ 64 → o ≡ b % 2 ^ 64 → b ≡ a + d → d < 2 ^ 64 → (o + (2 ^ 64 - u)) % 2 ^ 64 ≡ d
 wrapped_exact u o a b d p q e l = omega arith
-
--- a truth as a byte
-pub byte-one : (b : Bool) → bool_byte b ≡ one_if b
-byte-one true = refl
-byte-one false = refl
-
--- it is small
-pub byte-small : (b : Bool) → bool_byte b ≤ 1
-byte-small true = omega arith
-byte-small false = omega arith
 
 -- a truth that equals another, and one that does not
 same : (b v : Bool) → beq b v ≡ true → b ≡ v

@@ -17,7 +17,8 @@ use Rattle.store.specs.Places.{physical_of, logical_of}
 use Rattle.store.specs.Layout.{turned}
 use Rattle.store.specs.declared.places.Physical.{Physical}
 use Rattle.reports.specs.Reports.{Measured, Place}
-use Rattle.reports.proofs.Ranks.{canon-most, byte-one}
+use Rattle.store.proofs.Truths.{byte-one}
+use Rattle.reports.proofs.Ranks.{canon-most}
 use Rattle.model.proofs.Moved.{move}
 use Rattle.store.proofs.Turn.{Lies, turned-at, whole_length, whole-move, parted-move-first, parted-move-second, first_below}
 use Rattle.store.proofs.Turn.{count-whole, count-parted, run_count-whole, run_count-parted, select-whole}

@@ -1,6 +1,6 @@
 -- The tests of the whole pool decide whether it is sound: where they pass, the trees and the free chain have as many nodes as there are, so
 -- they share them out; and a sound pool passes each. What `is_sound` returns follows, test by test. Assumes nothing.
-use Rattle.std.proofs.Common.{◌≡◌, ℕ, ◌+◌, ◌-◌, ◌*◌, ◌/◌, ◌<◌, ◌≤◌, Bool, true, false, leb, Some, None, List, length, sym, ap, ◌∙◌, arith, le-leb, leb-true}
+use Rattle.std.proofs.Common.{◌≡◌, ℕ, ◌+◌, ◌-◌, ◌*◌, ◌/◌, ◌<◌, ◌≤◌, Bool, true, false, leb, Option, Some, None, is_some, if◌then◌else◌, List, length, refl, sym, ap, ◌∙◌, arith, le-leb, leb-true}
 use Rattle.model.specs.Numbers.{most_worlds}
 use Rattle.model.specs.Pools.{claims}
 use Rattle.model.proofs.Edit.{and-holds}
@@ -8,7 +8,7 @@ use Rattle.run_index.specs.declared.Node.{Node}
 use Rattle.run_index.specs.Cells.{cell_at}
 use Rattle.store.specs.Layout.{opened_at, free_head, world_at, nodes, capacity, node_count, worlds_of}
 use Rattle.store.specs.Soundness.{sum_to, runs_at, Planted, Sound}
-use Rattle.soundness.specs.Decision.{rest_b, header_b, worlds_b, unopened_b, told_runs, runs_of, sound_b}
+use Rattle.soundness.specs.Decision.{rest_b, rest_of, header_b, worlds_b, unopened_b, told_runs, runs_of, sound_b, worn, checked}
 use Rattle.store.proofs.Parts.{lent, lent-nodes, nodes-length}
 use Rattle.store.proofs.Truths.{never, is_false, same, both-in}
 use Rattle.store.proofs.Nodes.{sized-length}
@@ -82,8 +82,9 @@ sound_b-no w S =
     })
 
 -- a test that fails
-unsound : (w : List ℕ) → (Tested w → ⊥) → false ≡ sound_b w
-unsound w f = sym (is_false (sound_b w) (λ e. f (sound-out w e)))
+unsound : (w : List ℕ) → (Tested w → ⊥) → None ≡ checked w
+unfolding checked
+unsound w f = rw (is_false (sound_b w) (λ e. f (sound-out w e)))
 
 -- how many nodes there are, as the code counts them
 nodes-are : (w : List ℕ) → 1 ≤ capacity w → length w / 8 - 17 ≡ node_count w
@@ -95,7 +96,7 @@ module _ (w : List ℕ) (v : Node) (ev : v ≡ cell_at w 0) (b : Bool) (eb : b �
   header_is = eb ∙ ap header_b ev
 
   -- it fails
-  pub header-fails : b ≡ false → false ≡ sound_b w
+  pub header-fails : b ≡ false → None ≡ checked w
   header-fails t = unsound w (λ T. never (sym t ∙ header_is ∙ T.header))
 
   -- how many worlds were opened
@@ -107,7 +108,7 @@ module _ (w : List ℕ) (v : Node) (ev : v ≡ cell_at w 0) (b : Bool) (eb : b �
   opened-few t = (header-out v (sym eb ∙ t)).few
 
   -- their test fails
-  pub worlds-fail : None ≡ runs_of w v.start → false ≡ sound_b w
+  pub worlds-fail : None ≡ runs_of w v.start → None ≡ checked w
   unfolding worlds_of
   worlds-fail e = unsound w (λ T. runs-none w (opened_at w) (e ∙ ap (runs_of w) opened-is) T.worlds T.fits)
 
@@ -117,20 +118,31 @@ module _ (w : List ℕ) (v : Node) (ev : v ≡ cell_at w 0) (b : Bool) (eb : b �
     unopened-is = eu ∙ ap (λ n. unopened_b w n (most_worlds - n)) opened-is
 
     -- it fails
-    pub unopened-fails : u ≡ false → false ≡ sound_b w
+    pub unopened-fails : u ≡ false → None ≡ checked w
     unopened-fails t = unsound w (λ T. never (sym t ∙ unopened-is ∙ T.unopened))
 
     -- where all pass the free chain decides
     pub rest-decides : b ≡ true → u ≡ true → 1 ≤ capacity w → (k : ℕ) → Some k ≡ runs_of w v.start
-        → (n : ℕ) → n ≡ length w / 8 - 17 → (r : Bool) → r ≡ rest_b (lent w) n k v.«end» → r ≡ sound_b w
-    unfolding worlds_of
+        → (n : ℕ) → n ≡ length w / 8 - 17 → (r : Option ℕ) → r ≡ rest_of (lent w) n k v.«end» → r ≡ checked w
+    unfolding worlds_of rest_of checked
     rest-decides tb tu sized k ek n en r er =
         let c = runs-out w (opened_at w) k (ek ∙ ap (runs_of w) opened-is) in
         let p = and-holds (worlds_b w (opened_at w)) (leb (claims (worlds_of w)) (capacity w)) c.0 in
-        let is : r ≡ rest_b (nodes w) (node_count w) (told_runs w (opened_at w)) (free_head w) =
-        er ∙ ap (λ l. rest_b l n k v.«end») (lent-nodes w) ∙ ap (λ m. rest_b (nodes w) m k v.«end») (en ∙ nodes-are w sized)
-        ∙ ap (λ m. rest_b (nodes w) (node_count w) m v.«end») c.1
-        ∙ ap (λ (x : Node). rest_b (nodes w) (node_count w) (told_runs w (opened_at w)) x.«end») ev in
-        same r (sound_b w)
-        (λ e. sound-in w (record { header = sym header_is ∙ tb; worlds = p.0; unopened = sym unopened-is ∙ tu; fits = p.1; rest = sym is ∙ e }))
-        (λ e. is ∙ (sound-out w e).rest)
+        let is : r ≡ rest_of (nodes w) (node_count w) (told_runs w (opened_at w)) (free_head w) =
+        er ∙ ap (λ l. rest_of l n k v.«end») (lent-nodes w) ∙ ap (λ m. rest_of (nodes w) m k v.«end») (en ∙ nodes-are w sized)
+        ∙ ap (λ m. rest_of (nodes w) (node_count w) m v.«end») c.1
+        ∙ ap (λ (x : Node). rest_of (nodes w) (node_count w) (told_runs w (opened_at w)) x.«end») ev in
+        let decides : rest_b (nodes w) (node_count w) (told_runs w (opened_at w)) (free_head w) ≡ sound_b w =
+        same _ (sound_b w)
+        (λ e. sound-in w (record { header = sym header_is ∙ tb; worlds = p.0; unopened = sym unopened-is ∙ tu; fits = p.1; rest = e }))
+        (λ e. (sound-out w e).rest) in
+        is ∙ ap (λ (t : Bool). if t then Some (worn w) else None) decides
+
+-- it tells something of sound words alone
+pub checked-some : (w : List ℕ) → is_some (checked w) ≡ sound_b w
+unfolding checked
+checked-some w = go (sound_b w)
+  where
+    go : (t : Bool) → is_some (if t then Some (worn w) else None) ≡ t
+    go true = refl
+    go false = refl

@@ -2,7 +2,7 @@
 use Rattle.std.specs.Prelude.{◌≡◌, ℕ, zero, suc, ◌+◌, ◌-◌, ◌/◌, ◌%◌, ◌^◌, ◌≤◌, max, Bool, true}
 use Rattle.std.specs.Prelude.{false, not, Option, Some, None, if◌then◌else◌, ◌&&◌, ◌||◌, List, length, ◌==◌, nat_le, nat_lt}
 use Rattle.model.specs.Numbers.{size, most_worlds}
-use Rattle.model.specs.Positions.{held_runs, stretches}
+use Rattle.model.specs.Positions.{one_if, held_runs, stretches}
 use Rattle.model.specs.Pools.{claim, claims}
 use Rattle.run_index.specs.declared.Node.{Node}
 use Rattle.run_index.specs.Cells.{cell_at, Room}
@@ -101,9 +101,22 @@ unfoldable pub chain_b : ℕ → List ℕ → ℕ → Bool
 chain_b zero w n = n == 0
 chain_b (suc c) w n = free_b w n && chain_b c w (cell_at w n).left
 
+-- how many of c links from n lead back
+unfoldable pub falls : ℕ → List ℕ → ℕ → ℕ
+falls zero w n = 0
+falls (suc c) w n = one_if (nat_lt (cell_at w n).left n) + falls c w (cell_at w n).left
+
+-- the same, if they lead over free nodes to 0
+unfoldable pub chain_of : ℕ → List ℕ → ℕ → Option ℕ
+chain_of c w n = if chain_b c w n then Some (falls c w n) else None
+
 -- of n nodes the trees have r, and the others are the free chain from f
 unfoldable pub rest_b : List ℕ → ℕ → ℕ → ℕ → Bool
 rest_b w n r f = nat_le r n && chain_b (n - r) w f
+
+-- how many links of that chain lead back, if it is so
+unfoldable pub rest_of : List ℕ → ℕ → ℕ → ℕ → Option ℕ
+rest_of w n r f = if rest_b w n r f then Some (falls (n - r) w f) else None
 
 -- the tree of the world h, its sums and its bounds; an empty world has offset 0
 unfoldable pub world_b : List ℕ → World → Bool
@@ -151,6 +164,14 @@ sound_b w =
     && (worlds_b w (opened_at w)
     && (unopened_b w (opened_at w) (most_worlds - opened_at w)
     && (nat_le (claims (worlds_of w)) (capacity w) && rest_b (nodes w) (node_count w) (told_runs w (opened_at w)) (free_head w))))
+
+-- how worn the free chain of such a pool is: how many of its links lead back
+abbrev pub worn : List ℕ → ℕ
+worn w = falls (node_count w - told_runs w (opened_at w)) (nodes w) (free_head w)
+
+-- what the check tells: that, of a sound pool
+unfoldable pub checked : List ℕ → Option ℕ
+checked w = if sound_b w then Some (worn w) else None
 
 -- r says whether a tree within the bounds b hangs at the link k
 abbrev pub Tells : List ℕ → Bounds → ℕ → Bool → Type 0

@@ -22,12 +22,13 @@ ghost use Rattle.soundness.specs.Decision.{
   leaf_b,
   side_b,
   free_b,
-  chain_b,
-  rest_b,
+  chain_of,
+  rest_of,
   world_b,
   header_b,
   unopened_b,
   sound_b,
+    checked,
   Tells,
   TellsNode,
   place_of,
@@ -256,18 +257,21 @@ fn node_is_free(words: &[u64], link: u64) -> bool
     }
 }
 
-// Whether exactly `count` links from `head` lead over free nodes to 0.
-fn chain_fits(words: &[u64], head: u64, count: u64) -> bool
-    ensures { result ≡ chain_b count words.now head }
+// How many of `count` links from `head` lead back, if exactly these lead over free nodes to 0.
+fn chain_fits(words: &[u64], head: u64, count: u64) -> Option<u64>
+    ensures { result ≡ chain_of count words.now head }
 {
     let mut link = head;
+    let mut back = 0;
     for _ in 0..count {
         if !node_is_free(words, link) {
-            return false;
+            return None;
         }
-        link = run_index::read_node(words, link).left;
+        let next = run_index::read_node(words, link).left;
+        back += u64::from(next < link);
+        link = next;
     }
-    link == 0
+    if link == 0 { Some(back) } else { None }
 }
 
 // Whether a tree hangs at the root of a world, and the world has its sums and its bounds; an empty one has offset 0.
@@ -292,12 +296,11 @@ fn world_fits(words: &[u64], h: World) -> bool
         && (h.root != 0 || h.offset == 0)
 }
 
-// Whether of n nodes the trees have `runs`, and the others are the free chain from `free`.
-#[tactic(auto, using(std::proofs::lemmas::Bool::Decides::nat_tests), unfolding(crate::specs::Decision::rest_b))]
-fn rest_fits(words: &[u64], n: u64, runs: u64, free: u64) -> bool
-    ensures { result ≡ rest_b words.now n runs free }
+// How many links of the free chain from `free` lead back, if of n nodes the trees have `runs`, and the others are that chain.
+fn rest_fits(words: &[u64], n: u64, runs: u64, free: u64) -> Option<u64>
+    ensures { result ≡ rest_of words.now n runs free }
 {
-    runs <= n && chain_fits(words, free, n - runs)
+    chain_fits(words, free, n.checked_sub(runs)?)
 }
 
 // Whether the header's words are those of 1 to 16 worlds.
@@ -376,17 +379,23 @@ fn unopened_fit(words: &[u64], n: u64) -> bool
     true
 }
 
+// How worn the free chain is, if words of a pool's length are a sound pool: how many of its links lead back.
+pub fn check(words: &[u64]) -> Option<u64>
+    requires { 1 ≤ capacity words.now }
+    ensures { result ≡ checked words.now }
+{
+    let a = run_index::read_node(words, 0);
+    if !header_fits(a) || !unopened_fit(words, a.start) {
+        return None;
+    }
+    let runs = runs_counted(words, a.start)?;
+    rest_fits(&words[128..], (words.len() / 8 - 17) as u64, runs, a.end)
+}
+
 // Whether words of a pool's length are a sound pool.
 pub fn is_sound(words: &[u64]) -> bool
     requires { 1 ≤ capacity words.now }
     ensures { result ≡ sound_b words.now }
 {
-    let a = run_index::read_node(words, 0);
-    if !header_fits(a) || !unopened_fit(words, a.start) {
-        return false;
-    }
-    let Some(runs) = runs_counted(words, a.start) else {
-        return false;
-    };
-    rest_fits(&words[128..], (words.len() / 8 - 17) as u64, runs, a.end)
+    check(words).is_some()
 }

@@ -1,5 +1,7 @@
 -- Truth values of two tests: which are equal, which are false, and both of them. Assumes nothing.
-use Rattle.std.proofs.Common.{◌≡◌, ℕ, Bool, true, false, ◌&&◌, sym, refl, arith}
+use Rattle.std.proofs.Common.{◌≡◌, ℕ, ◌≤◌, Bool, true, false, ◌&&◌, sym, refl, arith}
+use mir.Val.{bool_byte}
+use Rattle.model.specs.Positions.{one_if}
 
 -- a test is not both
 pub never : {A : Type 0} → false ≡ true → A
@@ -19,3 +21,13 @@ same false false f g = refl
 -- both of two tests
 pub both-in : (a b : Bool) → a ≡ true → b ≡ true → (a && b) ≡ true
 both-in a b p q = rw (p, q)
+
+-- a truth as a byte
+pub byte-one : (b : Bool) → bool_byte b ≡ one_if b
+byte-one true = refl
+byte-one false = refl
+
+-- it is small
+pub byte-small : (b : Bool) → bool_byte b ≤ 1
+byte-small true = omega arith
+byte-small false = omega arith

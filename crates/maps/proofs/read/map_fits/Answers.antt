@@ -6,7 +6,7 @@ use Rattle.model.specs.Positions.{one_if}
 use Rattle.model.specs.Bytes.{map_bit, mapped}
 use Rattle.model.specs.Neighbours.{held_below, held_above}
 use Rattle.store.specs.Layout.{held_in}
-use Rattle.reports.proofs.Ranks.{byte-one}
+use Rattle.store.proofs.Truths.{byte-one}
 use Rattle.reports.proofs.Reading.{ranges-most}
 use Rattle.changes.specs.Edits.{Surrounds}
 use Rattle.changes.proofs.Neighbours.{both-yes, both-no}

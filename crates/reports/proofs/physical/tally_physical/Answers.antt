@@ -1,7 +1,8 @@
 -- `tally_physical` meets its contract: the ranks of both ends differ by what is held above s, and by the runs that start there; the rest is free.
 -- Assumes nothing.
 use Rattle.std.proofs.Common.{◌+◌, not, inl, inr, ap, ◌∙◌, arith}
-use Rattle.reports.proofs.Ranks.{byte-small, starts-small, starts-ordered, more-fits, tally-more, tally-same}
+use Rattle.store.proofs.Truths.{byte-small}
+use Rattle.reports.proofs.Ranks.{starts-small, starts-ordered, more-fits, tally-more, tally-same}
 use Rattle.reports.proofs.physical.tally_physical.Goals as goal
 use Rattle.reports.proofs.physical.tally_physical.Goals.{then-value, else-value}
 
