@@ -1,7 +1,7 @@
 // What a record of a call means. Every record means a call: a number that names none is a get, a bound of another kind is none, and a truth
 // value is anything but 0. The last word of a record names the world, but that 7 and 9 ask at one that no pool has.
 ghost use Rattle.std.specs.Prelude.{◌≡◌};
-ghost use Rattle.frame.specs.Records.{kind_of, world_by};
+ghost use Rattle.frame.specs.Records.{entry_at, kind_of, world_by};
 
 // Which call it is.
 #[derive(Clone, Copy)]
@@ -42,6 +42,26 @@ pub struct Entry {
     pub value: u64,
     pub k: u64,
     pub world: u64,
+}
+
+// The record of eight words: its fields in their order.
+impl From<[u64; 8]> for Entry {
+    ghost from_gives = { λ ws e. e ≡ entry_at ws 0 };
+
+    #[tactic(auto, unfolding(crate::specs::Records::entry_at))]
+    fn from(words: [u64; 8]) -> Entry {
+        let [call, lower, from, upper, upto, value, k, world] = words;
+        Entry {
+            call,
+            lower,
+            from,
+            upper,
+            upto,
+            value,
+            k,
+            world,
+        }
+    }
 }
 
 // The call that a number names.
