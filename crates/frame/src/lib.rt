@@ -72,16 +72,16 @@ fn serve_world(words: &mut [u64], e: Entry, world: u64) -> Reply
     }
 }
 
-// Serves one call on a pool that is known to be sound: 12 stands in the answer where the world was not opened.
+// Serves one call on a pool that is known to be sound: 12 stands in the answer where it asks at no world
+// that was opened.
 fn serve(words: &mut [u64], e: Entry) -> Reply
     requires { Sound words.old }
     ensures { Serves words.old e result words.new }
 {
-    let world = entry::world_of(e);
-    if world >= store::opened(words) {
-        return flat::lay::<()>(Err(Refusal::WorldUnopened));
+    match entry::world_of(e) {
+        Some(world) if world < store::opened(words) => serve_world(words, e, world),
+        _ => flat::lay::<()>(Err(Refusal::WorldUnopened)),
     }
-    serve_world(words, e, world)
 }
 
 // Writes a reply as the record i of a list: its fields in their order, and a 0.

@@ -1,10 +1,10 @@
 -- `play` meets its contract. The loop's invariant: i records were served as the model serves their calls. Assumes nothing.
 use Rattle.std.specs.Prelude.{◌≡◌, ◌/◌, length}
-use mathlib.Core.Path.{◌∙◌, ap}
+use mathlib.Core.Path.{◌∙◌}
 use native.Mathlib.Omega.{arith}
 use Rattle.frame.specs.Records.{entry_at}
 use Rattle.frame.proofs.Replies.{record-at}
-use Rattle.frame.proofs.Playing.{none-played, playing-sound, playing-wide, more-played, all-played}
+use Rattle.frame.proofs.Playing.{none-played, playing-sound, more-played, all-played}
 use Rattle.frame.proofs.play.Goals as goal
 use Rattle.frame.proofs.play.Goals.{After-from}
 
