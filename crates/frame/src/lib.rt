@@ -5,13 +5,13 @@
 // of them (`Readable`) is one name.
 #![tactic(auto)]
 
-ghost use Rattle.std.specs.Prelude.{◌≡◌, ◌+◌, ◌*◌, ◌≤◌, length};
+ghost use Rattle.std.specs.Prelude.{◌≡◌, ◌+◌, ◌*◌, ◌/◌, ◌≤◌, length};
 ghost use Rattle.model.specs.Answers.{completed_answer};
 ghost use Rattle.written.specs.Placed.{placed};
 ghost use Rattle.store.specs.Soundness.{Sound};
 ghost use Rattle.promises.specs.Met.{Readable};
 ghost use Rattle.frame.specs.Frame.{Framed};
-ghost use Rattle.frame.specs.Records.{entry_at, rect_by, words_of};
+ghost use Rattle.frame.specs.Records.{rect_by, words_of};
 ghost use Rattle.frame.specs.Serving.{ServesAt, Serves, Playable, Plays};
 
 use crate::entry::{Entry, Kind};
@@ -19,25 +19,6 @@ use flat::Reply;
 use model::{Listing, Rect, Refusal};
 
 pub mod entry;
-
-// The record i of a list.
-// By number and not in chunks: the answer goes to the same number of another slice. Word by word, since the fields are the words of a record.
-fn read(calls: &[u64], i: usize) -> Entry
-    requires { 8 * i + 8 ≤ length calls.now }
-    ensures { result ≡ entry_at calls.now i }
-{
-    let at = 8 * i;
-    Entry {
-        call: calls[at],
-        lower: calls[at + 1],
-        from: calls[at + 2],
-        upper: calls[at + 3],
-        upto: calls[at + 4],
-        value: calls[at + 5],
-        k: calls[at + 6],
-        world: calls[at + 7],
-    }
-}
 
 // The rectangle that a record tells.
 // No From: a record is also read as bounds or as a listing, and the name says which is meant.
@@ -91,44 +72,38 @@ fn serve_world(words: &mut [u64], e: Entry, world: u64) -> Reply
     }
 }
 
-// Serves one call on a pool that is known to be sound: 12 stands in the answer where the world was not opened.
+// Serves one call on a pool that is known to be sound: 12 stands in the answer where it asks at no world
+// that was opened.
 fn serve(words: &mut [u64], e: Entry) -> Reply
     requires { Sound words.old }
     ensures { Serves words.old e result words.new }
 {
-    let world = entry::world_of(e);
-    if world >= store::opened(words) {
-        return flat::lay::<()>(Err(Refusal::WorldUnopened));
+    match entry::world_of(e) {
+        Some(world) if world < store::opened(words) => serve_world(words, e, world),
+        _ => flat::lay::<()>(Err(Refusal::WorldUnopened)),
     }
-    serve_world(words, e, world)
 }
 
 // Writes a reply as the record i of a list: its fields in their order, and a 0.
-// Word by word, as `read` has it: the fields are the words of a record.
+// By number, and not into a chunk that is lent: of a slice that was lent in chunks to be written, only the length is known afterwards.
 fn put(answers: &mut [u64], i: usize, r: Reply)
     requires { 8 * i + 8 ≤ length answers.old }
     ensures { answers.new ≡ placed (8 * i) (words_of r) answers.old }
 {
     let at = 8 * i;
-    answers[at] = r.refusal;
-    answers[at + 1] = r.found;
-    answers[at + 2] = r.number;
-    answers[at + 3] = r.end;
-    answers[at + 4] = r.first;
-    answers[at + 5] = r.last;
-    answers[at + 6] = r.value;
-    answers[at + 7] = 0;
+    answers[at..at + 8].copy_from_slice(&[
+        r.refusal, r.found, r.number, r.end, r.first, r.last, r.value, 0,
+    ]);
 }
 
-// Serves the first n records of a list on a pool that is known to be sound.
-// n was told by the caller, who compared the room for the answers with it.
-fn play(words: &mut [u64], calls: &[u64], answers: &mut [u64], n: usize)
-    requires { Playable words.old calls.now answers.old n }
-    ensures { Plays words.old calls.now answers.old n words.new answers.new }
+// Serves every record of a list on a pool that is known to be sound. The caller has compared the room for the answers with it.
+fn play(words: &mut [u64], calls: &[u64], answers: &mut [u64])
+    requires { Playable words.old calls.now answers.old (length calls.now / 8) }
+    ensures { Plays words.old calls.now answers.old (length calls.now / 8) words.new answers.new }
 {
-    for i in 0..n {
-        let e = read(calls, i);
-        let r = serve(words, e);
+    let (records, _) = calls.as_chunks::<8>();
+    for (i, record) in records.iter().enumerate() {
+        let r = serve(words, Entry::from(*record));
         put(answers, i, r);
     }
 }
@@ -138,10 +113,9 @@ pub fn frame(words: &mut [u64], calls: &[u64], answers: &mut [u64]) -> Result<()
     ensures { Framed words.old calls.now answers.old (completed_answer result) words.new answers.new }
 {
     interval_bit_set::look::look_at_pool(words)?;
-    let n = calls.len() / 8;
-    if answers.len() / 8 < n {
+    if answers.len() / 8 < calls.len() / 8 {
         return Err(Refusal::OutputShort);
     }
-    play(words, calls, answers, n);
+    play(words, calls, answers);
     Ok(())
 }
