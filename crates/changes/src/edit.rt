@@ -12,6 +12,7 @@ ghost use Rattle.changes.specs.Edits.{Makes, Edited, Grows, GrowsBy, Fitted, App
 
 use model::between::Interval;
 use model::{Count, Logical};
+use reports::physical::Segment;
 use store::places::Physical;
 use store::{Links, Set, World};
 
@@ -111,14 +112,23 @@ fn place(words: &mut [u64], h: World, r: Interval, value: bool) -> Links
     requires { Appliable words.old h r.first.0 r.last.0 value }
     ensures { Places words.old words.new h result (set_range r.first.0 (many r) value (held_in words.old h)) × PutsIn words.old words.new h result.root r.first.0 r.last.0 value }
 {
-    let s = store::places::to_physical(r.first, h.offset);
-    let e = store::places::to_physical(r.last, h.offset);
+    let first = store::places::to_physical(r.first, h.offset);
+    let last = store::places::to_physical(r.last, h.offset);
     let x = store::links_of(h);
-    if s.0 <= e.0 {
-        return crate::change::set_physical(words, x, s, e, value);
+    if first.0 <= last.0 {
+        let whole = Segment { first, last };
+        return crate::change::set_physical(words, x, whole, value);
     }
-    let y = crate::change::set_physical(words, x, s, Physical(u64::MAX), value);
-    crate::change::set_physical(words, y, Physical(0), e, value)
+    let upper = Segment {
+        first,
+        last: Physical(u64::MAX),
+    };
+    let lower = Segment {
+        first: Physical(0),
+        last,
+    };
+    let y = crate::change::set_physical(words, x, upper, value);
+    crate::change::set_physical(words, y, lower, value)
 }
 
 // Sets r to the value, where what it leaves fits.

@@ -68,7 +68,7 @@ pub fn count(set: &Set<'_>, area: Area) -> u64
 }
 
 // How many runs a row set to the value adds: those that are cut at its ends, and the row itself, if it is to be held.
-// Neither this nor `loss` takes it from `changes::edit::around`, which would count the world's runs anew for each row.
+// Neither this nor `loss` takes it from `changes::edit::around`, which would count the set's runs anew for each row.
 // Stretch and value are what `loss` and `set_row` take too: a struct of both would be built anew for each row.
 fn gain(set: &Set<'_>, s: Stretch, value: bool) -> u64
     ensures { result ≡ gain value (held set.now) s.cells.first.0 s.cells.last.0 }
