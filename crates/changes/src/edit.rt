@@ -2,7 +2,7 @@
 // nothing is touched. The world is handed in and back; its nodes alone are in the words.
 // Words and world stay apart, and what a call asks of both (`Editable`, `Stands`) is one name: a struct of them could not keep that promise while it
 // is changed.
-ghost use Rattle.std.specs.Prelude.{◌≡◌, suc, ◌≤◌, length, nat_le};
+ghost use Rattle.std.specs.Prelude.{◌≡◌, suc, ◌≤◌, length, nat_le, false, MatchOption};
 ghost use Rattle.model.specs.Positions.{set_range, flip_range, shift_by, stretches};
 ghost use Rattle.model.specs.Neighbours.{goes_on, held_below, held_above};
 ghost use Rattle.model.specs.Range.{many};
@@ -23,25 +23,29 @@ pub struct Edit {
     pub changed: Count,
 }
 
+// Whether a position is there and held.
+// No `is_some_and`: of a closure that reads the set nothing would be known, but what it promises itself.
+fn held_there(set: &Set<'_>, x: Option<u64>) -> bool
+    ensures { MatchOption x (result ≡ false) (λ y. result ≡ held set.now y) }
+{
+    match x {
+        Some(y) => reports::logical::get(set, Logical(y)),
+        None => false,
+    }
+}
+
 // Whether the position before x is there and held.
 pub fn held_before(set: &Set<'_>, x: Logical) -> bool
     ensures { result ≡ held_below (held set.now) x.0 }
 {
-    let Some(y) = x.0.checked_sub(1) else {
-        return false;
-    };
-    reports::logical::get(set, Logical(y))
+    held_there(set, x.0.checked_sub(1))
 }
 
 // Whether the position after x is there and held.
-// The mirror of `held_before`: the step alone is another, and a parameter for it would only say which.
 pub fn held_after(set: &Set<'_>, x: Logical) -> bool
     ensures { result ≡ held_above (held set.now) x.0 }
 {
-    let Some(y) = x.0.checked_add(1) else {
-        return false;
-    };
-    reports::logical::get(set, Logical(y))
+    held_there(set, x.0.checked_add(1))
 }
 
 // Whether a run goes on from x - 1 to x.

@@ -78,7 +78,7 @@ pub fn select(set: &Set<'_>, r: Interval, value: bool, k: u64) -> Option<u64>
             first: Physical(0),
             last,
         };
-        // no `or_else`: what `chosen` promises is no equation, so a closure that calls it would have to promise it anew
+        // no `or_else`: of a closure that reads the set only what it promises itself is known, so this promise would be written out again
         match chosen(&set.runs, upper, value, k) {
             Ok(p) => Ok(p),
             Err(left) => chosen(&set.runs, lower, value, left),
