@@ -36,10 +36,7 @@ pub fn tally_physical(runs: &Runs<'_>, s: Segment, value: bool) -> Tally
     let count = if under.held == value {
         model::width(0, above)
     } else {
-        Count {
-            carry: 0,
-            low: above,
-        }
+        Count::from(above)
     };
     Tally { count, runs: many }
 }

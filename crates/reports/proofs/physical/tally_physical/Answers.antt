@@ -1,6 +1,7 @@
 -- `tally_physical` meets its contract: the ranks of both ends differ by what is held above the first position, and by the runs that start there; the rest is free.
 -- Assumes nothing.
 use Rattle.std.proofs.Common.{◌+◌, not, inl, inr, ap, ◌∙◌, arith}
+use Rattle.model.specs.Numbers.{worth}
 use Rattle.reports.proofs.Ranks.{byte-small, starts-small, starts-ordered, more-fits, tally-more, tally-same}
 use Rattle.reports.proofs.physical.tally_physical.Goals as goal
 use Rattle.reports.proofs.physical.tally_physical.Goals.{then-value, else-value}
@@ -31,7 +32,7 @@ returns-then-under-value c =
 
 pub returns-else-under-value : goal.returns-else-under-value
 returns-else-under-value c =
-    tally-same c.rank_at-under.ensures.in_order c.args.s.ordered c.rank_at-under.ensures.ranked c.rank_at-upto.ensures.ranked (omega arith) c.if-under-value.false (omega arith)
+    tally-same c.rank_at-under.ensures.in_order c.args.s.ordered c.rank_at-under.ensures.ranked c.rank_at-upto.ensures.ranked (omega arith) c.if-under-value.false (omega (arith, ap worth c.from-count.ensures))
     (elim c.if-value.branch [
       | then-value w ↦ inl (w.if-value.true, ap (λ x. x.0) w.above-is, ap (λ x. x.1) w.above-is ∙ ap (λ n. _ + n) w.from.ensures)
       | else-value w ↦ inr (w.if-value.false, ap (λ x. x.0) w.above-is, ap (λ x. x.1) w.above-is ∙ ap (λ n. _ + n) w.from-else-value.ensures)
