@@ -61,42 +61,10 @@ pub fn count(set: &Set<'_>, area: Area) -> u64
         return held_cells(set, area.cells(q.top, q.bottom));
     }
     let mut sum = 0;
-    for r in q.top..q.bottom + 1 {
+    for r in q.top..=q.bottom {
         sum += held_cells(set, area.cells(r, r));
     }
     sum
-}
-
-// How many runs a row set to the value adds: those that are cut at its ends, and the row itself, if it is to be held.
-// Neither this nor `loss` takes it from `changes::edit::around`, which would count the world's runs anew for each row.
-// Stretch and value are what `loss` and `set_row` take too: a struct of both would be built anew for each row.
-fn gain(set: &Set<'_>, s: Stretch, value: bool) -> u64
-    ensures { result ≡ gain value (held set.now) s.cells.first.0 s.cells.last.0 }
-{
-    u64::from(changes::edit::going_on(set, s.cells.first))
-        + u64::from(changes::edit::going_past(set, s.cells.last))
-        + u64::from(value)
-}
-
-// How many runs it takes: those in the row, and, if it is to be held, those of its neighbours.
-fn loss(set: &Set<'_>, s: Stretch, value: bool) -> u64
-    ensures { result ≡ loss value (held set.now) s.cells.first.0 s.cells.last.0 }
-{
-    let inside = reports::logical::tally(set, s.cells, true).runs;
-    let before = value && changes::edit::held_before(set, s.cells.first);
-    let after = value && changes::edit::held_after(set, s.cells.last);
-    inside + u64::from(before) + u64::from(after)
-}
-
-// Sets a row to the value, unless that leaves more runs than the limit: then all stays as it is.
-fn set_row(words: &mut [u64], h: World, limit: u64, s: Stretch, value: bool) -> World
-    requires { Editable words.old h limit }
-    ensures { SetsRow words.old words.new h result limit s.cells.first.0 s.cells.last.0 value }
-{
-    match changes::edit::set(words, h, limit, s.cells, value) {
-        None => h,
-        Some(e) => e.world,
-    }
 }
 
 // A rectangle narrower than the plane, whose cells are to get a value, if that leaves at most as many runs as the limit.
@@ -109,6 +77,37 @@ struct Change {
 }
 
 impl Change {
+    // How many runs a row adds: those that are cut at its ends, and the row itself, if it is to be held.
+    // Neither this nor `loss` takes it from `changes::edit::around`, which would count the set's runs anew for each row.
+    fn gain(self, set: &Set<'_>, row: Stretch) -> u64
+        ensures { result ≡ gain self.value (held set.now) row.cells.first.0 row.cells.last.0 }
+    {
+        u64::from(changes::edit::going_on(set, row.cells.first))
+            + u64::from(changes::edit::going_past(set, row.cells.last))
+            + u64::from(self.value)
+    }
+
+    // How many runs it takes: those in the row, and, if it is to be held, those of its neighbours.
+    fn loss(self, set: &Set<'_>, row: Stretch) -> u64
+        ensures { result ≡ loss self.value (held set.now) row.cells.first.0 row.cells.last.0 }
+    {
+        let inside = reports::logical::tally(set, row.cells, true).runs;
+        let before = self.value && changes::edit::held_before(set, row.cells.first);
+        let after = self.value && changes::edit::held_after(set, row.cells.last);
+        inside + u64::from(before) + u64::from(after)
+    }
+
+    // Sets a row to the value, unless that leaves more runs than the limit: then all stays as it is.
+    fn set_row(self, words: &mut [u64], h: World, row: Stretch) -> World
+        requires { Editable words.old h self.limit }
+        ensures { SetsRow words.old words.new h result self.limit row.cells.first.0 row.cells.last.0 self.value }
+    {
+        match changes::edit::set(words, h, self.limit, row.cells, self.value) {
+            None => h,
+            Some(e) => e.world,
+        }
+    }
+
     // Whether the world is so far from the limit that no row can be refused: a row adds one run at most, and there is at most one logical run
     // more than physical ones.
     fn is_far(self, h: World) -> bool
@@ -129,10 +128,10 @@ impl Change {
         let set = store::set_of(words, h);
         let mut more = store::bounds::logical_runs(&set, h.runs);
         let mut less = self.limit;
-        for r in self.area.q.top..self.area.q.bottom + 1 {
+        for r in self.area.q.top..=self.area.q.bottom {
             let row = self.area.cells(r, r);
-            more += gain(&set, row, self.value);
-            less += loss(&set, row, self.value);
+            more += self.gain(&set, row);
+            less += self.loss(&set, row);
         }
         more <= less
     }
@@ -143,8 +142,8 @@ impl Change {
         ensures { Passes words.old words.new h result self.limit self.area.q self.value (self.area.q.bottom + 1) }
     {
         let mut k = h;
-        for r in self.area.q.top..self.area.q.bottom + 1 {
-            k = set_row(words, k, self.limit, self.area.cells(r, r), self.value);
+        for r in self.area.q.top..=self.area.q.bottom {
+            k = self.set_row(words, k, self.area.cells(r, r));
         }
         k
     }
