@@ -2,4 +2,5 @@
 // sets both make. No call is here.
 #![tactic(auto)]
 
+pub mod site;
 pub mod window;
