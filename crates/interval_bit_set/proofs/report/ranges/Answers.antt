@@ -11,4 +11,4 @@ returns-in_err-site c =
     met-on _ (turned-away (ranges-says _ _ _ _ _) _ c.site.ensures.looked c.in_err-site.was refl) _ c.from_residual.ensures.1 (λ e p. p)
 
 pub returns : goal.returns
-returns c = answered-there c.in_ok-site.ensures.there c.ranges.ensures
+returns c = answered-there c.in_ok-site.ensures.there c.ranges-2.ensures
