@@ -1,8 +1,8 @@
 // A frame's calls at once: one look at the pool, then every call of a list on its worlds, in order; refused calls too, each answered by its
 // number.
 // Calls and answers are records of eight words.
-// Words and a world's number stay apart: the world is another one in each record, so a struct of both would be built for one call. What the calls ask
-// of them (`Readable`) is one name.
+// Words that a call may change and the number of the world stay apart, as in `ranges`; the world is another one in each record. The calls that only
+// read it take a `Site` of both.
 #![tactic(auto)]
 
 ghost use Rattle.std.specs.Prelude.{◌≡◌, ◌+◌, ◌*◌, ◌≤◌, length};

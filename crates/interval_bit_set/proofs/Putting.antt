@@ -11,7 +11,6 @@ use lib.ListN.{length-append}
 use Rattle.model.specs.Positions.{Positions}
 use Rattle.model.specs.Bytes.{into_front}
 use Rattle.model.specs.Refusals.{looks, Condition, first_given}
-use Rattle.model.specs.Answers.{written_answer}
 use Rattle.model.specs.Call.{Call, Answer, gave, written}
 use Rattle.promises.specs.Met.{Site, outcome_of}
 use Rattle.promises.specs.Out.{WritesOut}

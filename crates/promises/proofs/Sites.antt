@@ -1,5 +1,5 @@
 -- A world whose type keeps that it is readable: what is readable is told by tests, so that some proof of it tells of one. Assumes nothing.
-use Rattle.std.specs.Prelude.{◌≡◌, ℕ, ◌≤◌, true, List, length}
+use Rattle.std.specs.Prelude.{ℕ, ◌≤◌, List, length}
 use Rattle.std.proofs.Math.Logic.{∥∥₁_elim}
 use Rattle.std.proofs.Props.{props}
 use Rattle.store.specs.Settle.{Openable}

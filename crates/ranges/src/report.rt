@@ -26,12 +26,7 @@ pub fn run_at(site: Site<'_>, x: u64) -> Result<Run, Refusal>
 }
 
 // An empty range or a reversed one has no position.
-pub fn find(
-    site: Site<'_>,
-    lower: Bound,
-    upper: Bound,
-    value: bool,
-) -> Result<Option<u64>, Refusal>
+pub fn find(site: Site<'_>, lower: Bound, upper: Bound, value: bool) -> Result<Option<u64>, Refusal>
     ensures { Met site.entry.words.now site.entry.world (Call.find lower upper value) (found_answer result) site.entry.words.now }
 {
     let Some(r) = model::within(lower, upper) else {
@@ -42,12 +37,7 @@ pub fn find(
 }
 
 // An empty range or a reversed one has no position and no run.
-pub fn tally(
-    site: Site<'_>,
-    lower: Bound,
-    upper: Bound,
-    value: bool,
-) -> Result<Tally, Refusal>
+pub fn tally(site: Site<'_>, lower: Bound, upper: Bound, value: bool) -> Result<Tally, Refusal>
     ensures { Met site.entry.words.now site.entry.world (Call.tally lower upper value) (tallied_answer result) site.entry.words.now }
 {
     let Some(r) = model::within(lower, upper) else {
@@ -93,12 +83,7 @@ pub fn select(
 }
 
 // An empty range or a reversed one has no gap.
-pub fn gap(
-    site: Site<'_>,
-    lower: Bound,
-    upper: Bound,
-    n: u64,
-) -> Result<Option<u64>, Refusal>
+pub fn gap(site: Site<'_>, lower: Bound, upper: Bound, n: u64) -> Result<Option<u64>, Refusal>
     ensures { Met site.entry.words.now site.entry.world (Call.gap lower upper n) (found_answer result) site.entry.words.now }
 {
     if n == 0 {
@@ -112,12 +97,7 @@ pub fn gap(
 }
 
 // A listing is the range itself, from its first position to its last.
-pub fn ranges(
-    site: Site<'_>,
-    lower: Bound,
-    upper: Bound,
-    value: bool,
-) -> Result<Listing, Refusal>
+pub fn ranges(site: Site<'_>, lower: Bound, upper: Bound, value: bool) -> Result<Listing, Refusal>
     ensures { Met site.entry.words.now site.entry.world (Call.ranges lower upper value) (listed_answer result) site.entry.words.now }
 {
     let Some(r) = model::within(lower, upper) else {

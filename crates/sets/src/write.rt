@@ -7,11 +7,7 @@ use model::{Edition, Refusal};
 use promises::site::Site;
 
 // Writes a world's set, and returns how many bytes it has.
-pub fn write_set(
-    site: Site<'_>,
-    edition: Edition,
-    out: &mut [u8],
-) -> Result<usize, Refusal>
+pub fn write_set(site: Site<'_>, edition: Edition, out: &mut [u8]) -> Result<usize, Refusal>
     ensures { WritesOut (Call.write_set edition) site.entry.words.now site.entry.world out.old result out.new }
 {
     let h = site.open();
