@@ -6,7 +6,8 @@ ghost use Rattle.promises.specs.Met.{Readable};
 
 use store::{Set, World};
 
-// The words of a sound pool, and the number of a world of it that was opened.
+// The words of a sound pool, and the number of a world of it that was opened. The fact is kept as that there is a proof of it: the proof itself names
+// the trees and the free nodes of the pool, and a struct's fact may have but one.
 #[derive(Clone, Copy)]
 pub struct Site<'a> {
     pub words: &'a [u64],
