@@ -1,8 +1,8 @@
 // A frame's calls at once: one look at the pool, then every call of a list on its worlds, in order; refused calls too, each answered by its
 // number.
 // Calls and answers are records of eight words.
-// Words and a world's number stay apart: the world is another one in each record, so a struct of both would be built for one call. What the calls ask
-// of them (`Readable`) is one name.
+// Words that a call may change and the number of the world stay apart, as in `ranges`; the world is another one in each record. The calls that only
+// read it take a `Site` of both.
 #![tactic(auto)]
 
 ghost use Rattle.std.specs.Prelude.{◌≡◌, ◌+◌, ◌*◌, ◌/◌, ◌≤◌, length};
@@ -17,6 +17,7 @@ ghost use Rattle.frame.specs.Serving.{ServesAt, Serves, Playable, Plays};
 use crate::entry::{Entry, Kind};
 use flat::Reply;
 use model::{Listing, Rect, Refusal};
+use promises::site::Site;
 
 pub mod entry;
 
@@ -47,28 +48,27 @@ fn serve_world(words: &mut [u64], e: Entry, world: u64) -> Reply
         last: e.upto,
         value,
     };
+    let site = Site { words, world };
     match Kind::from(e.call) {
         Kind::Empty => flat::lay(ranges::change::empty(words, world)),
         Kind::Set => flat::lay(ranges::change::set(words, world, lower, upper, value)),
         Kind::Flip => flat::lay(ranges::change::flip(words, world, lower, upper)),
         Kind::Shift => flat::lay(ranges::change::shift(words, world, e.from, value)),
-        Kind::RunAt => flat::lay(ranges::report::run_at(words, world, e.from)),
-        Kind::Find => flat::lay(ranges::report::find(words, world, lower, upper, value)),
-        Kind::Select => flat::lay(ranges::report::select(words, world, lower, upper, value, e.k)),
-        Kind::Ranges => flat::lay(ranges::report::ranges(words, world, lower, upper, value)),
-        Kind::DrawFront => flat::lay(ranges::listing::draw_front(words, world, left)),
-        Kind::DrawBack => flat::lay(ranges::listing::draw_back(words, world, left)),
-        Kind::Fill => flat::lay(ranges::report::fill(words, world, e.from, e.upto)),
-        Kind::Gap => flat::lay(ranges::report::gap(words, world, lower, upper, e.k)),
-        Kind::Tally => flat::lay(ranges::report::tally(words, world, lower, upper, value)),
+        Kind::RunAt => flat::lay(ranges::report::run_at(site, e.from)),
+        Kind::Find => flat::lay(ranges::report::find(site, lower, upper, value)),
+        Kind::Select => flat::lay(ranges::report::select(site, lower, upper, value, e.k)),
+        Kind::Ranges => flat::lay(ranges::report::ranges(site, lower, upper, value)),
+        Kind::DrawFront => flat::lay(ranges::listing::draw_front(site, left)),
+        Kind::DrawBack => flat::lay(ranges::listing::draw_back(site, left)),
+        Kind::Fill => flat::lay(ranges::report::fill(site, e.from, e.upto)),
+        Kind::Gap => flat::lay(ranges::report::gap(site, lower, upper, e.k)),
+        Kind::Tally => flat::lay(ranges::report::tally(site, lower, upper, value)),
         Kind::SetStrict => flat::lay(ranges::change::set_strict(words, world, lower, upper, value)),
         Kind::FlipStrict => flat::lay(ranges::change::flip_strict(words, world, lower, upper)),
-        Kind::TallyStrict => flat::lay(ranges::report::tally_strict(
-            words, world, lower, upper, value,
-        )),
+        Kind::TallyStrict => flat::lay(ranges::report::tally_strict(site, lower, upper, value)),
         Kind::SetRect => flat::lay(ranges::cells::set_rect(words, world, rect(e), value)),
-        Kind::CountRect => flat::lay(ranges::cells::count_rect(words, world, rect(e))),
-        Kind::Get => flat::lay(ranges::report::get(words, world, e.from)),
+        Kind::CountRect => flat::lay(ranges::cells::count_rect(site, rect(e))),
+        Kind::Get => flat::lay(ranges::report::get(site, e.from)),
     }
 }
 
