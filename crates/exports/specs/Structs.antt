@@ -1,6 +1,6 @@
 -- What crosses to C: each struct is a part of a reply, and each field of it a field of the reply. Assumes nothing: these are definitions.
 use Rattle.std.specs.Prelude.{ℕ}
-use Rattle.model.specs.declared.Bound.{Bound}
+use Rattle.model.specs.Ends.{Bound}
 use Rattle.model.specs.declared.Rect.{Rect}
 use Rattle.flat.specs.declared.Reply.{Reply}
 use Rattle.model.specs.Range.{bound_by}

@@ -4,7 +4,7 @@ use Rattle.model.specs.Answers.{OrRefusal}
 use Rattle.std.specs.Prelude.{◌≡◌, ℕ, ◌-◌, ◌≤◌, List, []}
 use mathlib.Core.Path.{refl, sym, ap, ap₂, ◌∙◌, subst}
 use native.Mathlib.Omega.{arith}
-use Rattle.model.specs.declared.Bound.{Bound}
+use Rattle.model.specs.Ends.{Bound}
 use Rattle.model.specs.declared.Rect.{Rect}
 use Rattle.model.specs.declared.Refusal.TheVariants.{WorldUnopened}
 use Rattle.model.specs.Numbers.{size}
