@@ -11,7 +11,7 @@ overflow_add-result c =
     omega (
       arith,
       c.tally-inside.ensures.runs-are,
-      runs-few (held c.args.set.now) s.cells.first.0 s.cells.last.0 s.cells.ordered s.on_plane,
+      runs-few (held c.args.set.now) s.range.first.0 s.range.last.0 s.range.ordered s.on_plane,
       c.from.ensures,
       byte-small c.if-self.before,
     )
@@ -22,7 +22,7 @@ overflow_add-result-2 c =
     omega (
       arith,
       c.tally-inside.ensures.runs-are,
-      runs-few (held c.args.set.now) s.cells.first.0 s.cells.last.0 s.cells.ordered s.on_plane,
+      runs-few (held c.args.set.now) s.range.first.0 s.range.last.0 s.range.ordered s.on_plane,
       c.from.ensures,
       byte-small c.if-self.before,
       c.from-2.ensures,

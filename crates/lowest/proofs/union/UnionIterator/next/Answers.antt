@@ -3,7 +3,7 @@ use Rattle.std.proofs.Common.{◌≡◌, ◌+◌, ◌<◌, ◌≤◌, min, max, 
 use Rattle.model.specs.declared.Run.{Run}
 use Rattle.lowest.specs.Entries.{entry}
 use Rattle.lowest.specs.Groups.{alone}
-use Rattle.lowest.specs.Windows.{Rises, Goes}
+use Rattle.lowest.specs.Bands.{Rises, Goes}
 use Rattle.lowest.proofs.Steps.{next-below, next-first, next-joins, next-begins, next-front, last-draws}
 use Rattle.lowest.specs.Joins.{pending}
 use Rattle.lowest.proofs.Iterated.{pending-on, pending-less, pending_last, union-goes}
