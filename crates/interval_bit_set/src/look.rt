@@ -6,7 +6,7 @@ use model::Refusal;
 use promises::site::Site;
 use store::Store;
 
-// The earlier of two refusals. 1, 7 and 12 are in the order of their numbers.
+// The earlier of two refusals: 1, 7 and 12 go by their numbers, and not by the order in which an enum has them.
 fn earlier(x: Result<(), Refusal>, y: Result<(), Refusal>) -> Result<(), Refusal>
     ensures { look_number result ≡ earliest (look_number x) (look_number y) }
 {
