@@ -72,8 +72,7 @@ fn serve_world(words: &mut [u64], e: Entry, world: u64) -> Reply
     }
 }
 
-// Serves one call on a pool that is known to be sound: 12 stands in the answer where it asks at no world
-// that was opened.
+// Serves one call on a pool that is known to be sound: 12 stands in the answer where it asks at no world that was opened.
 fn serve(words: &mut [u64], e: Entry) -> Reply
     requires { Sound words.old }
     ensures { Serves words.old e result words.new }
