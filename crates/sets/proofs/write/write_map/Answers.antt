@@ -44,7 +44,8 @@ returns-then-not-window_fits g c = put-no-window _ _ _ _ _ (site-readable c.args
 
 pub returns-then-out-due : goal.returns-then-out-due
 returns-then-out-due g c =
-    put-short (write-map-puts _ _ _ _ _) (site-readable c.args.site.readable) (omega (arith, c.div_ceil-due.ensures) ∙ sym (map_of-length _ _ _)) c.if-out-due.true (short-after-window _ _ (good (goal.at.returns-then-out-due g c).Else-not-window_fits))
+    put-short (write-map-puts _ _ _ _ _) (site-readable c.args.site.readable) (omega (arith, c.div_ceil-due.ensures) ∙ sym (map_of-length _ _ _)) c.if-out-due.true
+    (short-after-window _ _ (good (goal.at.returns-then-out-due g c).Else-not-window_fits))
 
 pub write_map-requires-clause-scannable : goal.write_map-requires-clause-scannable
 write_map-requires-clause-scannable g c = lent-scannable c.open-h.ensures
