@@ -3,7 +3,7 @@
 // C lends the words anew for each call: so they come as a slice, a range as two numbers, and what holds of them is asked at each step.
 #![tactic(auto)]
 
-ghost use Rattle.std.specs.Prelude.{◌≡◌, ◌≤◌, length};
+ghost use Rattle.std.specs.Prelude.{◌≡◌, ◌≤◌, true, length};
 ghost use Rattle.store.specs.Soundness.{Sound};
 
 use model::Logical;
@@ -25,12 +25,10 @@ pub extern "C" fn vizturel_bench_new(words: &mut [u64]) -> bool {
 
 // Whether the words are a sound pool. False where no pool has their length.
 #[unsafe(no_mangle)]
-pub extern "C" fn vizturel_bench_is_sound(words: &[u64]) -> bool {
-    let s = Store::of_length(words.len());
-    if s.capacity == 0 {
-        return false;
-    }
-    soundness::is_sound(words)
+pub extern "C" fn vizturel_bench_is_sound(words: &[u64]) -> bool
+    ensures { result ≡ true → Sound words.now }
+{
+    Store::of_length(words.len()).capacity != 0 && soundness::is_sound(words)
 }
 
 // The next number of a row that looks random (xorshift; 0 is followed by 0).
@@ -66,11 +64,7 @@ fn put(words: &mut [u64], range: Interval) -> bool
 // Makes so many random short sets in a sound pool, and tells how many the capacity admitted. 0 where the words are no sound pool.
 #[unsafe(no_mangle)]
 pub extern "C" fn vizturel_bench_grow(words: &mut [u64], seed: u64, sets: u64) -> u64 {
-    let s = Store::of_length(words.len());
-    if s.capacity == 0 {
-        return 0;
-    }
-    if !soundness::is_sound(words) {
+    if !vizturel_bench_is_sound(words) {
         return 0;
     }
     let mut z = seed;
@@ -103,11 +97,7 @@ pub extern "C" fn vizturel_bench_gaps(
     n: u64,
     searches: u64,
 ) -> u64 {
-    let s = Store::of_length(words.len());
-    if s.capacity == 0 {
-        return 0;
-    }
-    if !soundness::is_sound(words) {
+    if !vizturel_bench_is_sound(words) {
         return 0;
     }
     if last < first {

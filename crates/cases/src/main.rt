@@ -11,6 +11,8 @@ use std::io;
 use store::Store;
 
 // ---- what an answer prints: a space before each part of it
+// A trait of its own and no Display: most of what is shown are types of other crates (Result, Option, numbers, the model's), for which none can be
+// written here.
 trait Show {
     fn show<P: Print>(&self, rt: &P) -> io::Result<()>;
 }

@@ -1,6 +1,7 @@
 -- The positions next to a range: a run goes on over an end of the range where the neighbour there and the end are both held.
 -- So the runs that a change leaves are told by the neighbours and by the two ends. Assumes nothing.
-use Rattle.std.proofs.Common.{◌≡◌, ℕ, zero, suc, ◌+◌, ◌*◌, ◌<◌, ◌≤◌, Bool, true, false, not, ◌&&◌, ltb, List, [], ◌∷◌, length, sym, refl, ap, ◌∙◌, ap₂, arith, lt-ltb}
+use Rattle.std.specs.Prelude.{Option, None, Some, SomeIff, MatchOption}
+use Rattle.std.proofs.Common.{◌≡◌, ℕ, zero, suc, ◌+◌, ◌-◌, ◌*◌, ◌<◌, ◌≤◌, Bool, true, false, not, ◌&&◌, ltb, List, [], ◌∷◌, length, sym, refl, ap, ◌∙◌, ap₂, arith, lt-ltb, le-ltb}
 use mathlib.Core.Bool.{beq, and_comm}
 use Rattle.model.specs.declared.Run.{Run}
 use Rattle.model.specs.Numbers.{size}
@@ -66,6 +67,20 @@ goes_on-changed-above P R x v h f e = goes_on-below R x h ∙ ap₂ ◌&&◌ (he
 -- and so after a change up to x
 pub goes_on-changed-below : (P R : Positions) (x : ℕ) (v : Bool) → ((y : ℕ) → x < y → R y ≡ P y) → R x ≡ v → goes_on R (suc x) ≡ (held_above P x && v)
 goes_on-changed-below P R x v f e = goes_on-above R x ∙ ap₂ (λ b d. (ltb (suc x) size && b) && d) (f (suc x) (omega arith)) e
+
+-- ---- the neighbours, looked at where they are there
+module _ (P : Positions) {b : Bool} where
+  -- the lower one
+  pub looked_below : (x : ℕ) (q : Option ℕ) → SomeIff q (1 ≤ x) (x - 1) → MatchOption q (b ≡ false) (λ y. b ≡ P y) → b ≡ held_below P x
+  looked_below zero None s m = m
+  looked_below zero (Some y) s m = absurd (omega (arith, s.0))
+  looked_below (suc x) None s m = absurd (s (omega arith))
+  looked_below (suc x) (Some y) s m = m ∙ ap P (omega (arith, s.1))
+
+  -- the upper one
+  pub looked_above : (x : ℕ) (q : Option ℕ) → SomeIff q (x + 1 < size) (x + 1) → MatchOption q (b ≡ false) (λ y. b ≡ P y) → b ≡ held_above P x
+  looked_above x None s m = m ∙ ap (λ t. t && P (suc x)) (sym (le-ltb (suc x) size (omega (arith, s))))
+  looked_above x (Some y) s m = m ∙ ap P (omega (arith, s.1)) ∙ ap (λ t. t && P (suc x)) (sym (lt-ltb (suc x) size (omega (arith, s.0))))
 
 -- ---- how many runs
 -- a range with a held position has a run

@@ -43,20 +43,20 @@ insert-past a b (r ∷ ls) us h =
 
 -- ---- the runs set
 -- the runs set are those of `insert`
-raised : {w w' : List ℕ} {sh : Share} {x y : Links} {s e : ℕ} {t : Tree} {ns : List ℕ} → MaySet w sh x s e true t ns → Becomes w w' sh y (insert s e (inorder t))
+raised : {w w' : List ℕ} {sh : Share} {x y : Links} {s e : ℕ} {t : Tree} {ns : List ℕ} → s ≤ e → MaySet w sh x s e true t ns → Becomes w w' sh y (insert s e (inorder t))
     → Holding w w' sh y (set_range s (suc e - s) true (mem (inorder t)))
 unfolding set_to
-raised m u = set-holding m u
+raised o m u = set-holding o m u
 
 -- they are canonical
-raised-canon : {w : List ℕ} {sh : Share} {x : Links} {s e : ℕ} {t : Tree} {ns : List ℕ} → MaySet w sh x s e true t ns → Canon size 0 (insert s e (inorder t))
+raised-canon : {w : List ℕ} {sh : Share} {x : Links} {s e : ℕ} {t : Tree} {ns : List ℕ} → s ≤ e → MaySet w sh x s e true t ns → Canon size 0 (insert s e (inorder t))
 unfolding set_to
-raised-canon m = set-canon m
+raised-canon o m = set-canon o m
 
 -- the nodes are enough for them
-raised-few : {w : List ℕ} {sh : Share} {x : Links} {s e : ℕ} {t : Tree} {ns : List ℕ} → MaySet w sh x s e true t ns → length (insert s e (inorder t)) ≤ sh.own
+raised-few : {w : List ℕ} {sh : Share} {x : Links} {s e : ℕ} {t : Tree} {ns : List ℕ} → s ≤ e → MaySet w sh x s e true t ns → length (insert s e (inorder t)) ≤ sh.own
 unfolding set_to
-raised-few m = set-few m
+raised-few o m = set-few o m
 
 -- ---- the first run that holds or touches a position from s to e
 -- the runs ls end two before s, and us start at s or after it
@@ -154,7 +154,7 @@ module _ (rs : List Run) (c : Canon size 0 rs) (s e : ℕ) (o : s ≤ e) where
           pick q v.0 (u ∙ v.1) (leb q.start (e + 1)) refl (h q j)
 
 -- ---- it is r
-module _ {w : List ℕ} {x : Links} {s e : ℕ} {o : Option Run} {rs : List Run} (seen : rs ≡ runs_from w x.root)
+module _ {w : List ℕ} {x : Links} {s e : ℕ} (le : s ≤ e) {o : Option Run} {rs : List Run} (seen : rs ≡ runs_from w x.root)
     (f : MatchOption o (Apart rs s e) (Touching rs s e)) {r : Run} (is : o ≡ Some r) where
   module _ {sh : Share} {t : Tree} {ns : List ℕ} (m : MaySet w sh x s e true t ns) where
     -- the runs around r
@@ -198,7 +198,7 @@ module _ {w : List ℕ} {x : Links} {s e : ℕ} {o : Option Run} {rs : List Run}
 
       -- they are canonical
       grown-canon : Canon size 0 (around.ls ++ (run a far.«end».0 ∷ taken.left))
-      grown-canon = subst (Canon size 0) grown (raised-canon m)
+      grown-canon = subst (Canon size 0) grown (raised-canon le m)
 
       -- it ends no earlier than it starts
       grown-ordered : a ≤ far.«end».0
@@ -212,12 +212,12 @@ module _ {w : List ℕ} {x : Links} {s e : ℕ} {o : Option Run} {rs : List Run}
       -- with r grown the positions are set
       grow-held : {w2 : List ℕ} → Changes w1 w2 far.links r.start r.«end» a far.«end».0 → Holding w w2 sh far.links (set_range s (suc e - s) true (mem (inorder t)))
       grow-held {w2} g =
-          raised m (subst (Becomes w w2 sh far.links) (sym grown) (becomes-changed around.ls (run r.start r.«end») taken.left taken.becomes a far.«end».0 grown-ordered grown-canon g))
+          raised le m (subst (Becomes w w2 sh far.links) (sym grown) (becomes-changed around.ls (run r.start r.«end») taken.left taken.becomes a far.«end».0 grown-ordered grown-canon g))
 
     -- it holds all
     all-held : r.start ≤ s → e ≤ r.«end» → Holding w w sh x (set_range s (suc e - s) true (mem (inorder t)))
     all-held lo hi =
-        raised m (becomes-none m.kept
+        raised le m (becomes-none m.kept
         (around.is ∙ sym (joined-with ∙ ap (λ (vs : List Run). around.ls ++ vs)
         (ap₂ (λ (i j : ℕ). insert i j around.us) (omega arith) (omega arith) ∙ insert-first r.start r.«end»
         (r.«end» + 2) around.us (omega (arith, sides.2)) (omega arith) sides.4))))
@@ -244,7 +244,7 @@ module _ {w : List ℕ} {x : Links} {s e : ℕ} {o : Option Run} {rs : List Run}
     touched-grown g sh t ns m = grow-held m ea eb far ab g
 
 -- ---- there is none
-module _ {w : List ℕ} {x : Links} {s e : ℕ} {o : Option Run} {rs : List Run} (seen : rs ≡ runs_from w x.root)
+module _ {w : List ℕ} {x : Links} {s e : ℕ} (le : s ≤ e) {o : Option Run} {rs : List Run} (seen : rs ≡ runs_from w x.root)
     (f : MatchOption o (Apart rs s e) (Touching rs s e)) (is : o ≡ None) where
   module _ {sh : Share} {t : Tree} {ns : List ℕ} (m : MaySet w sh x s e true t ns) where
     -- what is set stands alone
@@ -260,11 +260,11 @@ module _ {w : List ℕ} {x : Links} {s e : ℕ} {o : Option Run} {rs : List Run}
         between : (us : List Run) → StartFrom (e + 2) us → Canon size 0 (lone.ls ++ us) → insert s e us ≡ run s e ∷ us
         between [] h c = take_none s e
         between (r ∷ us) h c =
-            insert-put s e r us (omega (arith, h.0, m.ordered, (canon-split size 0 lone.ls r us c).2)) (omega (arith, h.0))
+            insert-put s e r us (omega (arith, h.0, le, (canon-split size 0 lone.ls r us c).2)) (omega (arith, h.0))
 
     -- they are canonical
     lone-canon : Canon size 0 (lone.ls ++ (run s e ∷ lone.us))
-    lone-canon = subst (Canon size 0) set (raised-canon m)
+    lone-canon = subst (Canon size 0) set (raised-canon le m)
 
     -- the runs before it start before s
     lone-before : Before s lone.ls
@@ -272,11 +272,11 @@ module _ {w : List ℕ} {x : Links} {s e : ℕ} {o : Option Run} {rs : List Run}
 
     -- those after it start after s
     lone-after : StartFrom (s + 1) lone.us
-    lone-after = starts-weaken (e + 2) (s + 1) lone.us (omega (arith, m.ordered)) lone.from
+    lone-after = starts-weaken (e + 2) (s + 1) lone.us (omega (arith, le)) lone.from
 
     -- the nodes are enough
     lone-few : length (lone.ls ++ (run s e ∷ lone.us)) ≤ sh.own
-    lone-few = omega (arith, raised-few m, ap length set)
+    lone-few = omega (arith, raised-few le m, ap length set)
 
     -- the tree as it is
     at-lone : Becomes w w sh x (lone.ls ++ lone.us)
@@ -284,12 +284,12 @@ module _ {w : List ℕ} {x : Links} {s e : ℕ} {o : Option Run} {rs : List Run}
 
     -- s .. e may be added
     lone-addable : Addable w x s e
-    lone-addable = becomes-addable lone.ls lone.us at-lone s e lone-before lone-after m.ordered lone-canon lone-few
+    lone-addable = becomes-addable lone.ls lone.us at-lone s e lone-before lone-after le lone-canon lone-few
 
     -- with it the positions are set
     lone-held : {w2 : List ℕ} {y : Links} → Adds w w2 x y s e → Holding w w2 sh y (set_range s (suc e - s) true (mem (inorder t)))
     lone-held {w2} {y} g =
-        raised m (subst (Becomes w w2 sh y) (sym set) (becomes-added lone.ls lone.us at-lone s e lone-before lone-after m.ordered lone-canon lone-few g))
+        raised le m (subst (Becomes w w2 sh y) (sym set) (becomes-added lone.ls lone.us at-lone s e lone-before lone-after le lone-canon lone-few g))
 
   -- a new run may be added
   pub alone-addable : Settable w x s e true → Addable w x s e

@@ -109,7 +109,6 @@ module _ {w : List ℕ} {h : World} {x : Links} {a n s e : ℕ} (v : Bool) (ex :
           let X : Positions = set_range s (suc e - s) v places in
           record {
             kept = links-kept ex lim.standing;
-            ordered = whole;
             below = omega (arith, lies.last-at);
             fits = omega (
               arith,
@@ -146,7 +145,6 @@ module _ {w : List ℕ} {h : World} {x : Links} {a n s e : ℕ} (v : Bool) (ex :
         let X : Positions = set_range s (suc (size - 1) - s) v places in
         record {
           kept = links-kept ex lim.standing;
-          ordered = omega (arith, first_below lies);
           below = omega arith;
           fits = omega (
             arith,
@@ -191,7 +189,6 @@ module _ {w : List ℕ} {h : World} {x : Links} {a n s e : ℕ} (v : Bool) (ex :
             let X : Positions = set_range 0 (suc e - 0) v places_first in
             record {
               kept = held_first.kept;
-              ordered = omega arith;
               below = omega (arith, first_below lies);
               fits = omega (
                 arith,

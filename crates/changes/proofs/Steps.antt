@@ -147,17 +147,17 @@ among-inside s e x h = ap (λ (t : Bool). leb s x && t) (go (split e x))
     go (inl l) = lt-leb x e l ∙ sym (le-ltb x (s + (suc e - s)) (omega arith))
     go (inr l) = le-leb x e l ∙ sym (lt-ltb x (s + (suc e - s)) (omega arith))
 
-module _ {w : List ℕ} {sh : Share} {x : Links} {s e : ℕ} {v : Bool} {t : Tree} {ns : List ℕ} (m : MaySet w sh x s e v t ns) where
+module _ {w : List ℕ} {sh : Share} {x : Links} {s e : ℕ} {v : Bool} {t : Tree} {ns : List ℕ} (o : s ≤ e) (m : MaySet w sh x s e v t ns) where
   -- the runs set by the model have the positions set
   set-mem : (p : ℕ) → mem (set_to v s e (inorder t)) p ≡ set_range s (suc e - s) v (mem (inorder t)) p
   unfolding set_range
   set-mem p =
-      set_to-mem size s e v (inorder t) p m.kept.ordered m.ordered
-      ∙ ap (λ (b : Bool). cond b v (mem (inorder t) p)) (among-inside s e p m.ordered)
+      set_to-mem size s e v (inorder t) p m.kept.ordered o
+      ∙ ap (λ (b : Bool). cond b v (mem (inorder t) p)) (among-inside s e p o)
 
   -- they are canonical
   pub set-canon : Canon size 0 (set_to v s e (inorder t))
-  set-canon = set_to-canon size s e v (inorder t) m.kept.ordered m.ordered m.below
+  set-canon = set_to-canon size s e v (inorder t) m.kept.ordered o m.below
 
   -- the nodes are enough for them
   pub set-few : length (set_to v s e (inorder t)) ≤ sh.own

@@ -47,20 +47,20 @@ clear_both s e r us o h l =
 
 -- ---- the runs set
 -- links that lead to those of `clear` hold what is left
-lowered : {w w' : List ℕ} {sh : Share} {x y : Links} {s e : ℕ} {t : Tree} {ns : List ℕ} → MaySet w sh x s e false t ns → Becomes w w' sh y (clear s e (inorder t))
+lowered : {w w' : List ℕ} {sh : Share} {x y : Links} {s e : ℕ} {t : Tree} {ns : List ℕ} → s ≤ e → MaySet w sh x s e false t ns → Becomes w w' sh y (clear s e (inorder t))
     → Holding w w' sh y (set_range s (suc e - s) false (mem (inorder t)))
 unfolding set_to
-lowered m u = set-holding m u
+lowered o m u = set-holding o m u
 
 -- they are canonical
-lowered-canon : {w : List ℕ} {sh : Share} {x : Links} {s e : ℕ} {t : Tree} {ns : List ℕ} → MaySet w sh x s e false t ns → Canon size 0 (clear s e (inorder t))
+lowered-canon : {w : List ℕ} {sh : Share} {x : Links} {s e : ℕ} {t : Tree} {ns : List ℕ} → s ≤ e → MaySet w sh x s e false t ns → Canon size 0 (clear s e (inorder t))
 unfolding set_to
-lowered-canon m = set-canon m
+lowered-canon o m = set-canon o m
 
 -- the nodes are enough for them
-lowered-few : {w : List ℕ} {sh : Share} {x : Links} {s e : ℕ} {t : Tree} {ns : List ℕ} → MaySet w sh x s e false t ns → length (clear s e (inorder t)) ≤ sh.own
+lowered-few : {w : List ℕ} {sh : Share} {x : Links} {s e : ℕ} {t : Tree} {ns : List ℕ} → s ≤ e → MaySet w sh x s e false t ns → length (clear s e (inorder t)) ≤ sh.own
 unfolding set_to
-lowered-few m = set-few m
+lowered-few o m = set-few o m
 
 -- ---- no run goes on from before s
 -- the runs ls end before s, us start at s or after it, and what is left of us is left of all
@@ -80,7 +80,7 @@ pub record Trimmed (w w1 : List ℕ) (x : Links) (s e : ℕ) : Type 0 where
 pub trimmed-same : {w w1 v : List ℕ} {x : Links} {s e : ℕ} → v ≡ w1 → Trimmed w w1 x s e → Trimmed w v x s e
 trimmed-same {w} {x = x} {s = s} {e = e} same d = subst (λ (u : List ℕ). Trimmed w u x s e) (sym same) d
 
-module _ {w w1 : List ℕ} {x : Links} {s e : ℕ} (d : Trimmed w w1 x s e) where
+module _ {w w1 : List ℕ} {x : Links} {s e : ℕ} (o : s ≤ e) (d : Trimmed w w1 x s e) where
   -- the runs are cut at s
   cut : {sh : Share} {t : Tree} {ns : List ℕ} (m : MaySet w sh x s e false t ns)
       → Cut w1 sh x s (d.trim m).ls (d.trim m).us (d.trim m).becomes.tree (d.trim m).becomes.nodes
@@ -101,7 +101,7 @@ module _ {w w1 : List ℕ} {x : Links} {s e : ℕ} (d : Trimmed w w1 x s e) wher
 
     -- and is
     pub trimmed-cleared : Sets w w2 x y s e false
-    trimmed-cleared sh t ns m = lowered m (cleared m)
+    trimmed-cleared sh t ns m = lowered o m (cleared m)
 
 -- ---- the run at s or before it
 -- there is none
@@ -118,7 +118,7 @@ trimmed-none {s = s} q = record {
 }
 
 -- it is r
-module _ {w : List ℕ} {x : Links} {s e : ℕ} {r : Run} (q : FoundRun w x s r) where
+module _ {w : List ℕ} {x : Links} {s e : ℕ} {r : Run} (o : s ≤ e) (q : FoundRun w x s r) where
   module _ {sh : Share} {t : Tree} {ns : List ℕ} (m : MaySet w sh x s e false t ns) where
     -- the runs around r
     around : Around s r (inorder t)
@@ -143,7 +143,7 @@ module _ {w : List ℕ} {x : Links} {s e : ℕ} {r : Run} (q : FoundRun w x s r)
 
     -- the runs before r stay
     set-around : clear s e (inorder t) ≡ around.ls ++ clear s e (r ∷ around.us)
-    set-around = ap (clear s e) around.is ∙ clear-below s e around.ls (r ∷ around.us) m.ordered early
+    set-around = ap (clear s e) around.is ∙ clear-below s e around.ls (r ∷ around.us) o early
 
   -- it starts at s
   pub trimmed-from : s ≤ r.start → Trimmed w w x s e
@@ -170,7 +170,7 @@ module _ {w : List ℕ} {x : Links} {s e : ℕ} {r : Run} (q : FoundRun w x s r)
           becomes = becomes-none m.kept same;
           below = past;
           from = late m;
-          is = ap (clear s e) same ∙ clear-below s e ((around m).ls ++ (r ∷ [])) (around m).us m.ordered past;
+          is = ap (clear s e) same ∙ clear-below s e ((around m).ls ++ (r ∷ [])) (around m).us o past;
         };
   }
 
@@ -215,14 +215,14 @@ module _ {w : List ℕ} {x : Links} {s e : ℕ} {r : Run} (q : FoundRun w x s r)
 
       -- nor has any run after it, where the next, two after it at least, starts past e
       pub back_last : r.«end» ≤ e → e - r.«end» ≤ 1 → Sets w w1 x x s e false
-      back_last l near sh t ns m = lowered m (subst (Becomes w w1 sh x) (sym back) (back-becomes m))
+      back_last l near sh t ns m = lowered o m (subst (Becomes w w1 sh x) (sym back) (back-becomes m))
         where
           back : clear s e (inorder t) ≡ ((around m).ls ++ (run r.start (s - 1) ∷ [])) ++ (around m).us
           back =
               set-around m
               ∙ ap (λ (vs : List Run). (around m).ls ++ vs)
               (clear-back s e r (around m).us lt le l
-              ∙ ap (λ (vs : List Run). run r.start (s - 1) ∷ vs) (clear_above s e (r.«end» + 2) (around m).us (omega (arith, m.ordered)) (omega arith) (parts m).4))
+              ∙ ap (λ (vs : List Run). run r.start (s - 1) ∷ vs) (clear_above s e (r.«end» + 2) (around m).us (omega (arith, o)) (omega arith) (parts m).4))
               ∙ sym (append-one (around m).ls (run r.start (s - 1)) (around m).us)
 
       -- it goes on after e
@@ -233,17 +233,17 @@ module _ {w : List ℕ} {x : Links} {s e : ℕ} {r : Run} (q : FoundRun w x s r)
           both =
               set-around m
               ∙ ap (λ (vs : List Run). (around m).ls ++ vs)
-              (clear_both s e r (around m).us m.ordered lt l
+              (clear_both s e r (around m).us o lt l
               ∙ ap (λ (vs : List Run). run r.start (s - 1) ∷ (run (e + 1) r.«end» ∷ vs)) (clear_above s e (r.«end» + 2) (around m).us (omega arith) (omega arith) (parts m).4))
               ∙ sym (append-one (around m).ls (run r.start (s - 1)) (run (e + 1) r.«end» ∷ (around m).us))
 
           -- they are canonical
           both-canon : Canon size 0 (((around m).ls ++ (run r.start (s - 1) ∷ [])) ++ (run (e + 1) r.«end» ∷ (around m).us))
-          both-canon = subst (Canon size 0) both (lowered-canon m)
+          both-canon = subst (Canon size 0) both (lowered-canon o m)
 
           -- the runs up to the first part start before e + 1
           both-before : Before (e + 1) ((around m).ls ++ (run r.start (s - 1) ∷ []))
-          both-before = ends-before s (e + 1) ((around m).ls ++ (run r.start (s - 1) ∷ [])) (omega (arith, m.ordered)) (back_below m)
+          both-before = ends-before s (e + 1) ((around m).ls ++ (run r.start (s - 1) ∷ [])) (omega (arith, o)) (back_below m)
 
           -- those after r start after it
           both-after : StartFrom (e + 1 + 1) (around m).us
@@ -251,7 +251,7 @@ module _ {w : List ℕ} {x : Links} {s e : ℕ} {r : Run} (q : FoundRun w x s r)
 
           -- the nodes are enough
           both-few : length (((around m).ls ++ (run r.start (s - 1) ∷ [])) ++ (run (e + 1) r.«end» ∷ (around m).us)) ≤ sh.own
-          both-few = omega (arith, lowered-few m, ap length both)
+          both-few = omega (arith, lowered-few o m, ap length both)
 
         -- that may become a run of its own
         pub both-addable : Settable w x s e false → Addable w1 x (e + 1) r.«end»
@@ -262,6 +262,6 @@ module _ {w : List ℕ} {x : Links} {s e : ℕ} {r : Run} (q : FoundRun w x s r)
         -- and does
         pub both-added : {w2 : List ℕ} {y : Links} → Adds w1 w2 x y (e + 1) r.«end» → Sets w w2 x y s e false
         both-added {w2} {y} a sh t ns m =
-            lowered m (subst (Becomes w w2 sh y) (sym (both m))
+            lowered o m (subst (Becomes w w2 sh y) (sym (both m))
             (becomes-added ((around m).ls ++ (run r.start (s - 1) ∷ [])) (around m).us (back-becomes m) (e + 1) r.«end»
             (both-before m) (both-after m) (omega arith) (both-canon m) (both-few m) a))

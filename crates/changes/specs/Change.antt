@@ -13,7 +13,6 @@ use Rattle.changes.specs.declared.change.Reach.{Reach}
 -- the positions from s to e may get the value v: the nodes are enough for the runs that there will be
 pub record MaySet (w : List ℕ) (sh : Share) (x : Links) (s e : ℕ) (v : Bool) (t : Tree) (ns : List ℕ) : Type 0 where
   pub kept : Kept w sh x t ns
-  pub ordered : s ≤ e
   pub below : e < size
   pub fits : stretches (set_range s (suc e - s) v (mem (inorder t))) ≤ sh.own
 

@@ -6,57 +6,56 @@ ghost use Rattle.store.specs.Free.{Sprouts};
 ghost use Rattle.changes.specs.Change.{Settable, Sets, Reaching, Apart, Touching, Absorbable, Absorbs, Clearable, ClearsFrom};
 
 use model::Run;
+use reports::physical::Segment;
 use run_index::search::Runs;
 use store::Links;
 use store::places::Physical;
 
-// Gives the positions from s to e the value.
+// Gives the positions of s the value.
 // The value is what the caller of a set asked for: closures for the two steps would be chosen by the same test, one call further up.
-pub fn set_physical(words: &mut [u64], x: Links, s: Physical, e: Physical, value: bool) -> Links
-    requires { Settable words.old x s.0 e.0 value }
-    ensures { Sets words.old words.new x result s.0 e.0 value × Sprouts words.old words.new x.root result.root s.0 e.0 value }
+pub fn set_physical(words: &mut [u64], x: Links, s: Segment, value: bool) -> Links
+    requires { Settable words.old x s.first.0 s.last.0 value }
+    ensures { Sets words.old words.new x result s.first.0 s.last.0 value × Sprouts words.old words.new x.root result.root s.first.0 s.last.0 value }
 {
     if value {
-        raise(words, x, s, e)
+        raise(words, x, s)
     } else {
-        clear(words, x, s, e)
+        clear(words, x, s)
     }
 }
 
-// Holds the positions from s to e: the runs that hold or touch them become one, which is the first of them grown, or a new one.
-fn raise(words: &mut [u64], x: Links, s: Physical, e: Physical) -> Links
-    requires { Settable words.old x s.0 e.0 true }
-    ensures { Sets words.old words.new x result s.0 e.0 true × Sprouts words.old words.new x.root result.root s.0 e.0 true }
+// Holds the positions of s: the runs that hold or touch them become one, which is the first of them grown, or a new one.
+fn raise(words: &mut [u64], x: Links, s: Segment) -> Links
+    requires { Settable words.old x s.first.0 s.last.0 true }
+    ensures { Sets words.old words.new x result s.first.0 s.last.0 true × Sprouts words.old words.new x.root result.root s.first.0 s.last.0 true }
 {
-    let Some(r) = touching(&store::runs_of(words, x), s, e) else {
-        return store::free::add_run(words, x, s.0, e.0);
+    let Some(r) = touching(&store::runs_of(words, x), s) else {
+        return store::free::add_run(words, x, s.first.0, s.last.0);
     };
-    if r.start <= s.0 && e.0 <= r.end {
+    if r.start <= s.first.0 && s.last.0 <= r.end {
         return x;
     }
-    let grown = absorb(words, x, r, Physical(e.0.max(r.end)));
+    let grown = absorb(words, x, r, Physical(s.last.0.max(r.end)));
     store::free::resize_run(
         words,
         grown.links,
         r.start,
         r.end,
-        s.0.min(r.start),
+        s.first.0.min(r.start),
         grown.end.0,
     );
     grown.links
 }
 
-// The first run that holds or touches a position from s to e.
-// Both ends come as they are: a struct of them would be built for this call and taken apart for the next one.
-fn touching(runs: &Runs<'_>, s: Physical, e: Physical) -> Option<Run>
-    requires { s.0 ≤ e.0 }
-    ensures { MatchOption result (Apart runs.now s.0 e.0) (Touching runs.now s.0 e.0) }
+// The first run that holds or touches a position of s.
+fn touching(runs: &Runs<'_>, s: Segment) -> Option<Run>
+    ensures { MatchOption result (Apart runs.now s.first.0 s.last.0) (Touching runs.now s.first.0 s.last.0) }
 {
-    match runs.at_or_before(s.0) {
-        Some(r) if reaches(Physical(r.end), s) => Some(r),
+    match runs.at_or_before(s.first.0) {
+        Some(r) if reaches(Physical(r.end), s.first) => Some(r),
         _ => runs
-            .at_or_after(s.0)
-            .filter(|r| reaches(e, Physical(r.start))),
+            .at_or_after(s.first.0)
+            .filter(|r| reaches(s.last, Physical(r.start))),
     }
 }
 
@@ -98,42 +97,42 @@ fn absorb(words: &mut [u64], x: Links, r: Run, e: Physical) -> Reach
     Reach { links, end: e }
 }
 
-// Frees the positions from s to e: the run that goes on before s keeps its node, and so does one that goes on after e.
-fn clear(words: &mut [u64], x: Links, s: Physical, e: Physical) -> Links
-    requires { Settable words.old x s.0 e.0 false }
-    ensures { Sets words.old words.new x result s.0 e.0 false }
+// Frees the positions of s: the run that goes on before s keeps its node, and so does one that goes on after it.
+fn clear(words: &mut [u64], x: Links, s: Segment) -> Links
+    requires { Settable words.old x s.first.0 s.last.0 false }
+    ensures { Sets words.old words.new x result s.first.0 s.last.0 false }
 {
-    if let Some(r) = store::runs_of(words, x).at_or_before(s.0)
-        && r.start < s.0
-        && s.0 <= r.end
+    if let Some(r) = store::runs_of(words, x).at_or_before(s.first.0)
+        && r.start < s.first.0
+        && s.first.0 <= r.end
     {
-        store::free::resize_run(words, x, r.start, r.end, r.start, s.0 - 1);
-        if e.0 < r.end {
-            return store::free::add_run(words, x, e.0 + 1, r.end);
+        store::free::resize_run(words, x, r.start, r.end, r.start, s.first.0 - 1);
+        if s.last.0 < r.end {
+            return store::free::add_run(words, x, s.last.0 + 1, r.end);
         }
-        if e.0 - r.end <= 1 {
+        if s.last.0 - r.end <= 1 {
             return x;
         }
     }
-    clear_from(words, x, s, e)
+    clear_from(words, x, s)
 }
 
-// Frees the positions from s to e, where no run goes on from before s. The run after one that goes starts two after its end at least, so none
-// is looked for where that is past e.
-fn clear_from(words: &mut [u64], x: Links, s: Physical, e: Physical) -> Links
-    requires { Clearable words.old x s.0 }
-    ensures { ClearsFrom words.old words.new x result s.0 e.0 }
+// Frees the positions of s, where no run goes on from before s. The run after one that goes starts two after its end at least, so none
+// is looked for where that is past s.
+fn clear_from(words: &mut [u64], x: Links, s: Segment) -> Links
+    requires { Clearable words.old x s.first.0 }
+    ensures { ClearsFrom words.old words.new x result s.first.0 s.last.0 }
 {
     let mut links = x;
-    while let Some(r) = store::runs_of(words, links).at_or_after(s.0)
-        && r.start <= e.0
+    while let Some(r) = store::runs_of(words, links).at_or_after(s.first.0)
+        && r.start <= s.last.0
     {
-        if e.0 < r.end {
-            store::free::resize_run(words, links, r.start, r.end, e.0 + 1, r.end);
+        if s.last.0 < r.end {
+            store::free::resize_run(words, links, r.start, r.end, s.last.0 + 1, r.end);
             return links;
         }
         links = store::free::remove_run(words, links, r.start);
-        if e.0 - r.end <= 1 {
+        if s.last.0 - r.end <= 1 {
             return links;
         }
     }

@@ -2,7 +2,7 @@
 // nothing is touched. The world is handed in and back; its nodes alone are in the words.
 // Words and world stay apart, and what a call asks of both (`Editable`, `Stands`) is one name: a struct of them could not keep that promise while it
 // is changed.
-ghost use Rattle.std.specs.Prelude.{◌≡◌, suc, ◌≤◌, length, nat_le};
+ghost use Rattle.std.specs.Prelude.{◌≡◌, suc, ◌≤◌, length, nat_le, false, MatchOption};
 ghost use Rattle.model.specs.Positions.{set_range, flip_range, shift_by, stretches};
 ghost use Rattle.model.specs.Neighbours.{goes_on, held_below, held_above};
 ghost use Rattle.model.specs.Range.{many};
@@ -12,6 +12,7 @@ ghost use Rattle.changes.specs.Edits.{Makes, Edited, Grows, GrowsBy, Fitted, App
 
 use model::between::Interval;
 use model::{Count, Logical};
+use reports::physical::Segment;
 use store::places::Physical;
 use store::{Links, Set, World};
 
@@ -22,25 +23,29 @@ pub struct Edit {
     pub changed: Count,
 }
 
+// Whether a position is there and held.
+// No `is_some_and`: of a closure that reads the set nothing would be known, but what it promises itself.
+fn held_there(set: &Set<'_>, x: Option<u64>) -> bool
+    ensures { MatchOption x (result ≡ false) (λ y. result ≡ held set.now y) }
+{
+    match x {
+        Some(y) => reports::logical::get(set, Logical(y)),
+        None => false,
+    }
+}
+
 // Whether the position before x is there and held.
 pub fn held_before(set: &Set<'_>, x: Logical) -> bool
     ensures { result ≡ held_below (held set.now) x.0 }
 {
-    let Some(y) = x.0.checked_sub(1) else {
-        return false;
-    };
-    reports::logical::get(set, Logical(y))
+    held_there(set, x.0.checked_sub(1))
 }
 
 // Whether the position after x is there and held.
-// The mirror of `held_before`: the step alone is another, and a parameter for it would only say which.
 pub fn held_after(set: &Set<'_>, x: Logical) -> bool
     ensures { result ≡ held_above (held set.now) x.0 }
 {
-    let Some(y) = x.0.checked_add(1) else {
-        return false;
-    };
-    reports::logical::get(set, Logical(y))
+    held_there(set, x.0.checked_add(1))
 }
 
 // Whether a run goes on from x - 1 to x.
@@ -111,14 +116,23 @@ fn place(words: &mut [u64], h: World, r: Interval, value: bool) -> Links
     requires { Appliable words.old h r.first.0 r.last.0 value }
     ensures { Places words.old words.new h result (set_range r.first.0 (many r) value (held_in words.old h)) × PutsIn words.old words.new h result.root r.first.0 r.last.0 value }
 {
-    let s = store::places::to_physical(r.first, h.offset);
-    let e = store::places::to_physical(r.last, h.offset);
+    let first = store::places::to_physical(r.first, h.offset);
+    let last = store::places::to_physical(r.last, h.offset);
     let x = store::links_of(h);
-    if s.0 <= e.0 {
-        return crate::change::set_physical(words, x, s, e, value);
+    if first.0 <= last.0 {
+        let whole = Segment { first, last };
+        return crate::change::set_physical(words, x, whole, value);
     }
-    let y = crate::change::set_physical(words, x, s, Physical(u64::MAX), value);
-    crate::change::set_physical(words, y, Physical(0), e, value)
+    let upper = Segment {
+        first,
+        last: Physical(u64::MAX),
+    };
+    let lower = Segment {
+        first: Physical(0),
+        last,
+    };
+    let y = crate::change::set_physical(words, x, upper, value);
+    crate::change::set_physical(words, y, lower, value)
 }
 
 // Sets r to the value, where what it leaves fits.

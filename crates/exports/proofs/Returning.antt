@@ -6,7 +6,7 @@ use Rattle.model.specs.declared.Mended.{Mended}
 use Prim.Native.Nat.{ℕ}
 use mathlib.Core.Path.{◌≡◌, refl, ap, ap₂, ◌∙◌, subst}
 use mathlib.Core.List.{List, []}
-use Rattle.model.specs.declared.Bound.{Bound}
+use Rattle.model.specs.Ends.{Bound}
 use Rattle.model.specs.declared.Limits.{Limits}
 use Rattle.model.specs.Answers.{written_answer, mended_answer}
 use Rattle.model.specs.Call.{Call, Measure, Answer}

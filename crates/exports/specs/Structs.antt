@@ -1,6 +1,6 @@
 -- What crosses to C: each struct is a part of a reply, and each field of it a field of the reply. Assumes nothing: these are definitions.
 use Rattle.std.specs.Prelude.{ℕ}
-use Rattle.model.specs.declared.Bound.{Bound}
+use Rattle.model.specs.Ends.{Bound}
 use Rattle.model.specs.declared.Rect.{Rect}
 use Rattle.flat.specs.declared.Reply.{Reply}
 use Rattle.model.specs.Range.{bound_by}
@@ -30,46 +30,46 @@ rect_of q = record { top = q.top; left = q.left; bottom = q.bottom; right = q.ri
 abbrev pub refusal_of : Reply → ℕ
 refusal_of r = r.refusal
 
--- set, set_rect, read_map
+-- of a reply that gives a count
 abbrev pub count_of : Reply → CCounted
 count_of r = record { refusal = r.refusal; carry = r.found; low = r.number }
 
--- fill, count_rect, clear_map
+-- of one that gives a number
 abbrev pub number_of : Reply → CNumbered
 number_of r = record { refusal = r.refusal; number = r.number }
 
--- tally
+-- of one that gives a tally
 abbrev pub tallied_of : Reply → CTallied
 tallied_of r = record { refusal = r.refusal; carry = r.found; low = r.number; runs = r.«end» }
 
--- get, eq
+-- of one that gives a value
 abbrev pub value_of : Reply → CTested
 value_of r = record { refusal = r.refusal; value = r.number }
 
--- run_at
+-- of one that gives a run
 abbrev pub run_of : Reply → CAround
 run_of r = record { refusal = r.refusal; start = r.number; «end» = r.«end» }
 
--- find, select, gap
+-- of one that gives a position
 abbrev pub position_of : Reply → CFound
 position_of r = record { refusal = r.refusal; found = r.found; position = r.number }
 
--- ranges
+-- of one that gives a listing
 abbrev pub listed_of : Reply → CListed
 listed_of r = record { refusal = r.refusal; first = r.first; last = r.last; value = r.value }
 
--- a draw from either end; the listing keeps its value
+-- of one that gives a draw; the listing keeps its value
 abbrev pub drawn_of : Reply → CDrawn
 drawn_of r = record { refusal = r.refusal; found = r.found; start = r.number; «end» = r.«end»; first = r.first; last = r.last }
 
--- write, write_map, convert
+-- of one that gives how many bytes were written
 abbrev pub written_of : Reply → CWritten
 written_of r = record { refusal = r.refusal; bytes = r.number }
 
--- mend
+-- of one that gives a mending
 abbrev pub mended_of : Reply → CMended
 mended_of r = record { refusal = r.refusal; bytes = r.number; report = r.«end» }
 
--- deepest, why_full, survey
+-- of one that gives how many words were written
 abbrev pub worded_of : Reply → CWorded
 worded_of r = record { refusal = r.refusal; words = r.number }

@@ -149,7 +149,7 @@ impl From<CRect> for Rect {
     }
 }
 
-// What set, set_rect and read_map return.
+// Of a reply that gives a count.
 impl From<Reply> for CCounted {
     ghost from_gives = { λ r c. c ≡ count_of r };
 
@@ -162,7 +162,7 @@ impl From<Reply> for CCounted {
     }
 }
 
-// What fill, count_rect and clear_map return.
+// Of one that gives a number.
 impl From<Reply> for CNumbered {
     ghost from_gives = { λ r c. c ≡ number_of r };
 
@@ -174,7 +174,7 @@ impl From<Reply> for CNumbered {
     }
 }
 
-// What tally returns.
+// Of one that gives a tally.
 impl From<Reply> for CTallied {
     ghost from_gives = { λ r c. c ≡ tallied_of r };
 
@@ -188,7 +188,7 @@ impl From<Reply> for CTallied {
     }
 }
 
-// What get and eq return.
+// Of one that gives a value.
 impl From<Reply> for CTested {
     ghost from_gives = { λ r c. c ≡ value_of r };
 
@@ -200,7 +200,7 @@ impl From<Reply> for CTested {
     }
 }
 
-// What run_at returns.
+// Of one that gives a run.
 impl From<Reply> for CAround {
     ghost from_gives = { λ r c. c ≡ run_of r };
 
@@ -213,7 +213,7 @@ impl From<Reply> for CAround {
     }
 }
 
-// What find and select return.
+// Of one that gives a position.
 impl From<Reply> for CFound {
     ghost from_gives = { λ r c. c ≡ position_of r };
 
@@ -226,7 +226,7 @@ impl From<Reply> for CFound {
     }
 }
 
-// What ranges returns.
+// Of one that gives a listing.
 impl From<Reply> for CListed {
     ghost from_gives = { λ r c. c ≡ listed_of r };
 
@@ -240,7 +240,7 @@ impl From<Reply> for CListed {
     }
 }
 
-// What a draw from either end returns; the listing keeps its value.
+// Of one that gives a draw; the listing keeps its value.
 impl From<Reply> for CDrawn {
     ghost from_gives = { λ r c. c ≡ drawn_of r };
 
@@ -256,7 +256,7 @@ impl From<Reply> for CDrawn {
     }
 }
 
-// What write and write_map return.
+// Of one that gives how many bytes were written.
 impl From<Reply> for CWritten {
     ghost from_gives = { λ r c. c ≡ written_of r };
 
@@ -268,7 +268,7 @@ impl From<Reply> for CWritten {
     }
 }
 
-// What mend returns.
+// Of one that gives a mending.
 impl From<Reply> for CMended {
     ghost from_gives = { λ r c. c ≡ mended_of r };
 
@@ -281,7 +281,7 @@ impl From<Reply> for CMended {
     }
 }
 
-// What deepest returns.
+// Of one that gives how many words were written.
 impl From<Reply> for CWorded {
     ghost from_gives = { λ r c. c ≡ worded_of r };
 

@@ -1,6 +1,6 @@
 -- Every answer laid flat, as numbers, and what the numbers mean that come in. Every number means something. Assumes nothing.
 use Rattle.std.specs.Prelude.{Option, None, Some}
-use Rattle.std.specs.Prelude.{ℕ, ◌/◌, ◌%◌, Bool, true, false, cond, not, eqb}
+use Rattle.std.specs.Prelude.{ℕ, ◌/◌, ◌%◌, Bool, true, false, not, eqb}
 use Rattle.model.specs.declared.Listing.{Listing}
 use Rattle.model.specs.declared.Run.{Run}
 use Rattle.model.specs.Numbers.{size}

@@ -8,7 +8,7 @@ ghost use Rattle.model.specs.Answers.{answer_by};
 ghost use Rattle.model.specs.Range.{bound_by};
 ghost use Rattle.model.specs.Numbers.{worth, refusal_number};
 ghost use Rattle.model.specs.Call.{Result, gave, done, number, tallied, value, around, position, listing, drawn, written, mended};
-ghost use Rattle.flat.specs.Flat.{bit_of, numbers_only, with_listing, result_reply, reply_of};
+ghost use Rattle.flat.specs.Flat.{result_reply, reply_of};
 
 use model::{Bound, Count, Drawn, Listing, Mended, Refusal, Run, Tally};
 
@@ -16,7 +16,7 @@ use model::{Bound, Count, Drawn, Listing, Mended, Refusal, Run, Tally};
 // `number` is a count's low word, a number, a value, a position, a number of bytes, or the start of a run, and `end` its end, or the number of
 // bytes of a second slice; of a tally `found` and `number` are the positions' carry and low word, and `end` is the number of runs; `first`, `last`
 // and `value` are a listing.
-#[derive(Clone, Copy)]
+#[derive(Clone, Copy, Default)]
 pub struct Reply {
     pub refusal: u64,
     pub found: u64,
@@ -40,37 +40,6 @@ pub fn bound(kind: u64, value: u64) -> Bound
     }
 }
 
-// A reply of numbers alone, of which the refusal's is one.
-// Its three zeros stand here alone: a Default for Reply would be longer.
-fn numbers(refusal: u64, found: u64, number: u64, end: u64) -> Reply
-    ensures { result ≡ numbers_only refusal found number «end» }
-{
-    Reply {
-        refusal,
-        found,
-        number,
-        end,
-        first: 0,
-        last: 0,
-        value: 0,
-    }
-}
-
-// A listing, after a run that was found, or zeros.
-fn after(found: u64, start: u64, end: u64, l: Listing) -> Reply
-    ensures { result ≡ with_listing found start «end» l }
-{
-    Reply {
-        refusal: 0,
-        found,
-        number: start,
-        end,
-        first: l.first,
-        last: l.last,
-        value: u64::from(l.value),
-    }
-}
-
 // What a call gives, laid flat.
 pub trait Gift {
     // What the model says was given. Of bytes that were written it has none here: they lie in the slices of the caller.
@@ -86,112 +55,154 @@ pub fn lay<T: Gift>(answer: Result<T, Refusal>) -> Reply
     ensures { result ≡ reply_of (answer_by (λ x. gave (T.given x)) answer) }
 {
     match answer {
-        Err(r) => numbers(u64::from(r), 0, 0, 0),
+        Err(r) => Reply {
+            refusal: u64::from(r),
+            ..Reply::default()
+        },
         Ok(x) => x.laid(),
     }
 }
 
-// Of make, flip, both shifts, load, build, combine and complement.
+// Of calls that give nothing.
 impl Gift for () {
     ghost given = { λ _. done };
 
     fn laid(self) -> Reply {
-        numbers(0, 0, 0, 0)
+        Reply::default()
     }
 }
 
-// Of set and map reading.
+// How many positions changed.
 impl Gift for Count {
     ghost given = { λ c. number (worth c) };
 
     fn laid(self) -> Reply {
-        numbers(0, self.carry, self.low, 0)
+        Reply {
+            found: self.carry,
+            number: self.low,
+            ..Reply::default()
+        }
     }
 }
 
-// Of fill and clear_map.
+// Of thousandths, of bits, or of cells.
 impl Gift for u64 {
     ghost given = { λ n. number n };
 
     fn laid(self) -> Reply {
-        numbers(0, 0, self, 0)
+        Reply {
+            number: self,
+            ..Reply::default()
+        }
     }
 }
 
-// Of tally.
+// How many positions, and in how many runs.
 impl Gift for Tally {
     ghost given = { λ t. tallied (worth t.count) t.runs };
 
     fn laid(self) -> Reply {
-        numbers(0, self.count.carry, self.count.low, self.runs)
+        Reply {
+            end: self.runs,
+            ..self.count.laid()
+        }
     }
 }
 
-// Of get and eq.
+// Whether a position is held, or two sets are equal.
 impl Gift for bool {
     ghost given = { λ b. value b };
 
     fn laid(self) -> Reply {
-        numbers(0, 0, u64::from(self), 0)
+        Reply {
+            number: u64::from(self),
+            ..Reply::default()
+        }
     }
 }
 
-// Of run_at.
+// The run around a position.
 impl Gift for Run {
     ghost given = { λ r. around r };
 
     fn laid(self) -> Reply {
-        numbers(0, 0, self.start, self.end)
+        Reply {
+            number: self.start,
+            end: self.end,
+            ..Reply::default()
+        }
     }
 }
 
-// Of find, select and gap.
+// A position, if there is one.
 impl Gift for Option<u64> {
     ghost given = { λ o. position o };
 
     fn laid(self) -> Reply {
         match self {
-            Some(x) => numbers(0, 1, x, 0),
-            None => numbers(0, 0, 0, 0),
+            Some(x) => Reply {
+                found: 1,
+                number: x,
+                ..Reply::default()
+            },
+            None => Reply::default(),
         }
     }
 }
 
-// Of ranges.
+// What is left of a listing.
 impl Gift for Listing {
     ghost given = { λ l. listing l };
 
     fn laid(self) -> Reply {
-        after(0, 0, 0, self)
-    }
-}
-
-// Of a draw from either end.
-impl Gift for Drawn {
-    ghost given = { λ d. drawn d.run d.rest };
-
-    fn laid(self) -> Reply {
-        match self.run {
-            Some(x) => after(1, x.start, x.end, self.rest),
-            None => after(0, 0, 0, self.rest),
+        Reply {
+            first: self.first,
+            last: self.last,
+            value: u64::from(self.value),
+            ..Reply::default()
         }
     }
 }
 
-// Of writing a set, a map or a list: how many bytes or words.
+// Of a draw from either end: the run, if one was left, and the listing after it.
+impl Gift for Drawn {
+    ghost given = { λ d. drawn d.run d.rest };
+
+    fn laid(self) -> Reply {
+        let rest = self.rest.laid();
+        match self.run {
+            Some(x) => Reply {
+                found: 1,
+                number: x.start,
+                end: x.end,
+                ..rest
+            },
+            None => rest,
+        }
+    }
+}
+
+// How many bytes or words were written.
 impl Gift for usize {
     ghost given = { λ n. written n [] };
 
     fn laid(self) -> Reply {
-        numbers(0, 0, self as u64, 0)
+        Reply {
+            number: self as u64,
+            ..Reply::default()
+        }
     }
 }
 
-// Of mending: how many bytes of the set, and how many of the report.
+// How many bytes of a mended set were written, and how many of its report.
 impl Gift for Mended {
     ghost given = { λ m. mended m.bytes [] m.report [] };
 
     fn laid(self) -> Reply {
-        numbers(0, 0, self.bytes as u64, self.report as u64)
+        Reply {
+            number: self.bytes as u64,
+            end: self.report as u64,
+            ..Reply::default()
+        }
     }
 }

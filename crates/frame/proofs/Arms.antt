@@ -1,10 +1,10 @@
 -- Serving a record: the call of its kind, with the bounds that its words tell, was made; or its world was not opened. Assumes nothing.
 use Rattle.std.specs.Prelude.{None, Err}
 use Rattle.model.specs.Answers.{OrRefusal}
-use Rattle.std.specs.Prelude.{◌≡◌, ℕ, ◌-◌, ◌≤◌, true, cond, List, []}
+use Rattle.std.specs.Prelude.{◌≡◌, ℕ, ◌-◌, ◌≤◌, List, []}
 use mathlib.Core.Path.{refl, sym, ap, ap₂, ◌∙◌, subst}
 use native.Mathlib.Omega.{arith}
-use Rattle.model.specs.declared.Bound.{Bound}
+use Rattle.model.specs.Ends.{Bound}
 use Rattle.model.specs.declared.Rect.{Rect}
 use Rattle.model.specs.declared.Refusal.TheVariants.{WorldUnopened}
 use Rattle.model.specs.Numbers.{size}
@@ -36,7 +36,7 @@ use Rattle.frame.specs.declared.entry.Kind.{Kind}
 use Rattle.frame.specs.declared.entry.Entry.{Entry}
 use Rattle.flat.specs.declared.Reply.{Reply}
 use Rattle.flat.specs.Flat.{reply_of}
-use Rattle.frame.specs.Records.{kind_of, call_by, withdrawn, world_by}
+use Rattle.frame.specs.Records.{kind_of, call_by, world_by}
 use Rattle.frame.specs.Serving.{ServesAt, Serves}
 
 -- the kind that was named is that of the record
@@ -97,7 +97,6 @@ module _ {w : List ℕ} {i : ℕ} (S : Sound w) (h : opened_at w ≤ i) (e : Ent
   unopened-served p f = serves-there e p (refused 12, twelve (kind_of e.call), f)
 
 -- so a record of 7 or of 9 is refused with 12, whatever world it names: no pool has as many as the one that it asks at
-pub withdrawn-served : {w : List ℕ} (e : Entry) {r : Reply} → Sound w → withdrawn e.call ≡ true → r ≡ reply_of (refused 12) → Serves w e r w
-withdrawn-served {w} e S h f =
-    let far : opened_at w ≤ size - 1 = omega (arith, S.few) in
-    unopened-served S far e (sym (ap (λ t. cond t (size - 1) e.world) h)) f
+pub withdrawn-served : {w : List ℕ} (e : Entry) {r : Reply} → Sound w → world_by e ≡ size - 1 → r ≡ reply_of (refused 12) → Serves w e r w
+withdrawn-served {w} e S far f =
+    unopened-served S (omega (arith, S.few, far)) e refl f

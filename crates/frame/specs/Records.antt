@@ -1,7 +1,7 @@
 -- Calls and answers as records of eight words. Every record of a call means one, and every answer has one record. Assumes nothing: these are
 -- definitions.
 use Rattle.std.specs.Prelude.{ℕ, zero, suc, ◌+◌, ◌-◌, ◌*◌, ◌/◌, Bool, cond, ◌||◌, List, [], ◌∷◌, ◌++◌, length, ◌==◌, slice_index}
-use Rattle.model.specs.declared.Bound.{Bound}
+use Rattle.model.specs.Ends.{Bound}
 use Rattle.model.specs.declared.Listing.{Listing}
 use Rattle.model.specs.declared.Rect.{Rect}
 use Rattle.model.specs.Numbers.{size}

@@ -1,7 +1,8 @@
 // What a record of a call means. Every record means a call: a number that names none is a get, a bound of another kind is none, and a truth
-// value is anything but 0. The last word of a record names the world, but that 7 and 9 ask at one that no pool has.
-ghost use Rattle.std.specs.Prelude.{◌≡◌};
-ghost use Rattle.frame.specs.Records.{kind_of, world_by};
+// value is anything but 0. The last word of a record names the world, but that 7 and 9 ask at none.
+ghost use Rattle.std.specs.Prelude.{◌≡◌, ◌-◌, MatchOption};
+ghost use Rattle.model.specs.Numbers.{size};
+ghost use Rattle.frame.specs.Records.{entry_at, kind_of, world_by};
 
 // Which call it is.
 #[derive(Clone, Copy)]
@@ -44,6 +45,26 @@ pub struct Entry {
     pub world: u64,
 }
 
+// The record of eight words: its fields in their order.
+impl From<[u64; 8]> for Entry {
+    ghost from_gives = { λ ws e. e ≡ entry_at ws 0 };
+
+    #[tactic(auto, unfolding(crate::specs::Records::entry_at))]
+    fn from(words: [u64; 8]) -> Entry {
+        let [call, lower, from, upper, upto, value, k, world] = words;
+        Entry {
+            call,
+            lower,
+            from,
+            upper,
+            upto,
+            value,
+            k,
+            world,
+        }
+    }
+}
+
 // The call that a number names.
 impl From<u64> for Kind {
     ghost from_gives = { λ n k. k ≡ kind_of n };
@@ -74,14 +95,15 @@ impl From<u64> for Kind {
     }
 }
 
-// The world that a record asks at. 7 and 9 are withdrawn: a record of one is refused with 12, and not answered as another call.
+// The world that a record asks at, if it asks at one. 7 and 9 are withdrawn and ask at none: a record of one is refused with 12, and not answered
+// as another call.
 // No From: a world's number is one word of a record, and not the whole as a number.
 #[tactic(auto, unfolding(crate::specs::Records::withdrawn))]
-pub fn world_of(e: Entry) -> u64
-    ensures { result ≡ world_by e }
+pub fn world_of(e: Entry) -> Option<u64>
+    ensures { MatchOption result (world_by e ≡ size - 1) (λ world. world ≡ world_by e) }
 {
     match e.call {
-        7 | 9 => u64::MAX,
-        _ => e.world,
+        7 | 9 => None,
+        _ => Some(e.world),
     }
 }

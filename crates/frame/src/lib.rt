@@ -1,43 +1,25 @@
 // A frame's calls at once: one look at the pool, then every call of a list on its worlds, in order; refused calls too, each answered by its
 // number.
 // Calls and answers are records of eight words.
-// Words and a world's number stay apart: the world is another one in each record, so a struct of both would be built for one call. What the calls ask
-// of them (`Readable`) is one name.
+// Words that a call may change and the number of the world stay apart, as in `ranges`; the world is another one in each record. The calls that only
+// read it take a `Site` of both.
 #![tactic(auto)]
 
-ghost use Rattle.std.specs.Prelude.{◌≡◌, ◌+◌, ◌*◌, ◌≤◌, length};
+ghost use Rattle.std.specs.Prelude.{◌≡◌, ◌+◌, ◌*◌, ◌/◌, ◌≤◌, length};
 ghost use Rattle.model.specs.Answers.{completed_answer};
 ghost use Rattle.written.specs.Placed.{placed};
 ghost use Rattle.store.specs.Soundness.{Sound};
 ghost use Rattle.promises.specs.Met.{Readable};
 ghost use Rattle.frame.specs.Frame.{Framed};
-ghost use Rattle.frame.specs.Records.{entry_at, rect_by, words_of};
+ghost use Rattle.frame.specs.Records.{rect_by, words_of};
 ghost use Rattle.frame.specs.Serving.{ServesAt, Serves, Playable, Plays};
 
 use crate::entry::{Entry, Kind};
 use flat::Reply;
 use model::{Listing, Rect, Refusal};
+use promises::site::Site;
 
 pub mod entry;
-
-// The record i of a list.
-// By number and not in chunks: the answer goes to the same number of another slice. Word by word, since the fields are the words of a record.
-fn read(calls: &[u64], i: usize) -> Entry
-    requires { 8 * i + 8 ≤ length calls.now }
-    ensures { result ≡ entry_at calls.now i }
-{
-    let at = 8 * i;
-    Entry {
-        call: calls[at],
-        lower: calls[at + 1],
-        from: calls[at + 2],
-        upper: calls[at + 3],
-        upto: calls[at + 4],
-        value: calls[at + 5],
-        k: calls[at + 6],
-        world: calls[at + 7],
-    }
-}
 
 // The rectangle that a record tells.
 // No From: a record is also read as bounds or as a listing, and the name says which is meant.
@@ -66,69 +48,61 @@ fn serve_world(words: &mut [u64], e: Entry, world: u64) -> Reply
         last: e.upto,
         value,
     };
+    let site = Site { words, world };
     match Kind::from(e.call) {
         Kind::Empty => flat::lay(ranges::change::empty(words, world)),
         Kind::Set => flat::lay(ranges::change::set(words, world, lower, upper, value)),
         Kind::Flip => flat::lay(ranges::change::flip(words, world, lower, upper)),
         Kind::Shift => flat::lay(ranges::change::shift(words, world, e.from, value)),
-        Kind::RunAt => flat::lay(ranges::report::run_at(words, world, e.from)),
-        Kind::Find => flat::lay(ranges::report::find(words, world, lower, upper, value)),
-        Kind::Select => flat::lay(ranges::report::select(words, world, lower, upper, value, e.k)),
-        Kind::Ranges => flat::lay(ranges::report::ranges(words, world, lower, upper, value)),
-        Kind::DrawFront => flat::lay(ranges::listing::draw_front(words, world, left)),
-        Kind::DrawBack => flat::lay(ranges::listing::draw_back(words, world, left)),
-        Kind::Fill => flat::lay(ranges::report::fill(words, world, e.from, e.upto)),
-        Kind::Gap => flat::lay(ranges::report::gap(words, world, lower, upper, e.k)),
-        Kind::Tally => flat::lay(ranges::report::tally(words, world, lower, upper, value)),
+        Kind::RunAt => flat::lay(ranges::report::run_at(site, e.from)),
+        Kind::Find => flat::lay(ranges::report::find(site, lower, upper, value)),
+        Kind::Select => flat::lay(ranges::report::select(site, lower, upper, value, e.k)),
+        Kind::Ranges => flat::lay(ranges::report::ranges(site, lower, upper, value)),
+        Kind::DrawFront => flat::lay(ranges::listing::draw_front(site, left)),
+        Kind::DrawBack => flat::lay(ranges::listing::draw_back(site, left)),
+        Kind::Fill => flat::lay(ranges::report::fill(site, e.from, e.upto)),
+        Kind::Gap => flat::lay(ranges::report::gap(site, lower, upper, e.k)),
+        Kind::Tally => flat::lay(ranges::report::tally(site, lower, upper, value)),
         Kind::SetStrict => flat::lay(ranges::change::set_strict(words, world, lower, upper, value)),
         Kind::FlipStrict => flat::lay(ranges::change::flip_strict(words, world, lower, upper)),
-        Kind::TallyStrict => flat::lay(ranges::report::tally_strict(
-            words, world, lower, upper, value,
-        )),
+        Kind::TallyStrict => flat::lay(ranges::report::tally_strict(site, lower, upper, value)),
         Kind::SetRect => flat::lay(ranges::cells::set_rect(words, world, rect(e), value)),
-        Kind::CountRect => flat::lay(ranges::cells::count_rect(words, world, rect(e))),
-        Kind::Get => flat::lay(ranges::report::get(words, world, e.from)),
+        Kind::CountRect => flat::lay(ranges::cells::count_rect(site, rect(e))),
+        Kind::Get => flat::lay(ranges::report::get(site, e.from)),
     }
 }
 
-// Serves one call on a pool that is known to be sound: 12 stands in the answer where the world was not opened.
+// Serves one call on a pool that is known to be sound: 12 stands in the answer where it asks at no world that was opened.
 fn serve(words: &mut [u64], e: Entry) -> Reply
     requires { Sound words.old }
     ensures { Serves words.old e result words.new }
 {
-    let world = entry::world_of(e);
-    if world >= store::opened(words) {
-        return flat::lay::<()>(Err(Refusal::WorldUnopened));
+    match entry::world_of(e) {
+        Some(world) if world < store::opened(words) => serve_world(words, e, world),
+        _ => flat::lay::<()>(Err(Refusal::WorldUnopened)),
     }
-    serve_world(words, e, world)
 }
 
 // Writes a reply as the record i of a list: its fields in their order, and a 0.
-// Word by word, as `read` has it: the fields are the words of a record.
+// By number, and not into a chunk that is lent: of a slice that was lent in chunks to be written, only the length is known afterwards.
 fn put(answers: &mut [u64], i: usize, r: Reply)
     requires { 8 * i + 8 ≤ length answers.old }
     ensures { answers.new ≡ placed (8 * i) (words_of r) answers.old }
 {
     let at = 8 * i;
-    answers[at] = r.refusal;
-    answers[at + 1] = r.found;
-    answers[at + 2] = r.number;
-    answers[at + 3] = r.end;
-    answers[at + 4] = r.first;
-    answers[at + 5] = r.last;
-    answers[at + 6] = r.value;
-    answers[at + 7] = 0;
+    answers[at..at + 8].copy_from_slice(&[
+        r.refusal, r.found, r.number, r.end, r.first, r.last, r.value, 0,
+    ]);
 }
 
-// Serves the first n records of a list on a pool that is known to be sound.
-// n was told by the caller, who compared the room for the answers with it.
-fn play(words: &mut [u64], calls: &[u64], answers: &mut [u64], n: usize)
-    requires { Playable words.old calls.now answers.old n }
-    ensures { Plays words.old calls.now answers.old n words.new answers.new }
+// Serves every record of a list on a pool that is known to be sound. The caller has compared the room for the answers with it.
+fn play(words: &mut [u64], calls: &[u64], answers: &mut [u64])
+    requires { Playable words.old calls.now answers.old (length calls.now / 8) }
+    ensures { Plays words.old calls.now answers.old (length calls.now / 8) words.new answers.new }
 {
-    for i in 0..n {
-        let e = read(calls, i);
-        let r = serve(words, e);
+    let (records, _) = calls.as_chunks::<8>();
+    for (i, record) in records.iter().enumerate() {
+        let r = serve(words, Entry::from(*record));
         put(answers, i, r);
     }
 }
@@ -138,10 +112,9 @@ pub fn frame(words: &mut [u64], calls: &[u64], answers: &mut [u64]) -> Result<()
     ensures { Framed words.old calls.now answers.old (completed_answer result) words.new answers.new }
 {
     interval_bit_set::look::look_at_pool(words)?;
-    let n = calls.len() / 8;
-    if answers.len() / 8 < n {
+    if answers.len() / 8 < calls.len() / 8 {
         return Err(Refusal::OutputShort);
     }
-    play(words, calls, answers, n);
+    play(words, calls, answers);
     Ok(())
 }

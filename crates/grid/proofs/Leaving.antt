@@ -1,7 +1,7 @@
 -- Whether a rectangle leaves at most as many runs as the limit, from what the world tells: far from the limit it does, and so do its rows
 -- on the way; else the sums of what its rows add and take decide. Assumes nothing.
 use Prim.Native.Nat.{ℕ, suc, ◌+◌, ◌-◌, ◌≤◌, ◌<◌}
-use mathlib.Core.Path.{◌≡◌, sym, ap, ◌∙◌}
+use mathlib.Core.Path.{◌≡◌, sym, ap, ap₂, ◌∙◌}
 use mathlib.Core.Bool.{Bool, true}
 use mathlib.Core.List.{List}
 use native.Mathlib.Omega.{arith}
@@ -14,9 +14,9 @@ use Rattle.store.specs.Layout.{held_in}
 use Rattle.store.specs.Soundness.{Share, Standing}
 use Rattle.changes.proofs.Fitting.{leb-like, logical-most}
 use Rattle.model.specs.declared.Rect.{Rect}
-use Rattle.model.specs.Grid.{set_rect}
+use Rattle.model.specs.Grid.{cell, set_rect}
 use Rattle.grid.specs.Surveys.{OnPlane}
-use Rattle.grid.specs.Rows.{Narrow, set_before, WayFits, row_sum, row_gain, row_loss}
+use Rattle.grid.specs.Rows.{Narrow, set_before, WayFits, gain, loss, row_sum, row_gain, row_loss}
 use Rattle.grid.proofs.Locality.{rows-most, rect-most, rect-leaves}
 
 -- ---- what the rectangle leaves
@@ -38,6 +38,14 @@ way-far {w} {s} {h} {limit} q v st o on far r a b =
       rows-most q v on P (suc r - q.top) (omega arith),
       logical-most st o,
     )
+
+-- what row r adds, and what it takes, where its cells are those from a to b
+module _ (q : Rect) (v : Bool) {P Q : Positions} (r : ℕ) {a b : ℕ} (at : (a ≡ cell r q.left) × (b ≡ cell r q.right)) (same : P ≡ Q) where
+  pub row-adds : gain v P a b ≡ row_gain q v Q r
+  row-adds = ap₂ (gain v P) at.0 at.1 ∙ ap (λ P. row_gain q v P r) same
+
+  pub row-takes : loss v P a b ≡ row_loss q v Q r
+  row-takes = ap₂ (loss v P) at.0 at.1 ∙ ap (λ P. row_loss q v P r) same
 
 -- else the sums tell
 pub rect-counted : (q : Rect) (v : Bool) (P : Positions) (limit : ℕ) {more less : ℕ} → OnPlane q → Narrow q

@@ -25,31 +25,31 @@ pub struct Area {
 
 // Cells one after another: a row of a rectangle, or a rectangle of full width.
 #[derive(Clone, Copy)]
-struct Stretch {
-    cells: Interval,
-    ghost on_plane: { cells.last.0 < 4294967296 },
+struct Cells {
+    range: Interval,
+    ghost on_plane: { range.last.0 < 4294967296 },
 }
 
 impl Area {
     // From the first cell of a row to the last one of the same row or a later one.
-    fn cells(self, top: u64, bottom: u64) -> Stretch
+    fn cells(self, top: u64, bottom: u64) -> Cells
         requires top_le_bottom { top ≤ bottom }
         requires bottom_bound { bottom ≤ self.q.bottom }
-        ensures { (result.cells.first.0 ≡ cell top self.q.left) × (result.cells.last.0 ≡ cell bottom self.q.right) }
+        ensures { (result.range.first.0 ≡ cell top self.q.left) × (result.range.last.0 ≡ cell bottom self.q.right) }
     {
-        let cells = Interval {
+        let range = Interval {
             first: Logical(top * ROW + self.q.left),
             last: Logical(bottom * ROW + self.q.right),
         };
-        Stretch { cells }
+        Cells { range }
     }
 }
 
 // How many cells are held.
-fn held_cells(set: &Set<'_>, s: Stretch) -> u64
-    ensures { result ≡ count (held set.now) true s.cells.first.0 (many s.cells) }
+fn held_cells(set: &Set<'_>, s: Cells) -> u64
+    ensures { result ≡ count (held set.now) true s.range.first.0 (many s.range) }
 {
-    reports::logical::tally(set, s.cells, true).count.low
+    reports::logical::tally(set, s.range, true).count.low
 }
 
 // How many cells of the rectangle are held. A rectangle of full width is one range.
@@ -61,42 +61,10 @@ pub fn count(set: &Set<'_>, area: Area) -> u64
         return held_cells(set, area.cells(q.top, q.bottom));
     }
     let mut sum = 0;
-    for r in q.top..q.bottom + 1 {
+    for r in q.top..=q.bottom {
         sum += held_cells(set, area.cells(r, r));
     }
     sum
-}
-
-// How many runs a row set to the value adds: those that are cut at its ends, and the row itself, if it is to be held.
-// Neither this nor `loss` takes it from `changes::edit::around`, which would count the world's runs anew for each row.
-// Stretch and value are what `loss` and `set_row` take too: a struct of both would be built anew for each row.
-fn gain(set: &Set<'_>, s: Stretch, value: bool) -> u64
-    ensures { result ≡ gain value (held set.now) s.cells.first.0 s.cells.last.0 }
-{
-    u64::from(changes::edit::going_on(set, s.cells.first))
-        + u64::from(changes::edit::going_past(set, s.cells.last))
-        + u64::from(value)
-}
-
-// How many runs it takes: those in the row, and, if it is to be held, those of its neighbours.
-fn loss(set: &Set<'_>, s: Stretch, value: bool) -> u64
-    ensures { result ≡ loss value (held set.now) s.cells.first.0 s.cells.last.0 }
-{
-    let inside = reports::logical::tally(set, s.cells, true).runs;
-    let before = value && changes::edit::held_before(set, s.cells.first);
-    let after = value && changes::edit::held_after(set, s.cells.last);
-    inside + u64::from(before) + u64::from(after)
-}
-
-// Sets a row to the value, unless that leaves more runs than the limit: then all stays as it is.
-fn set_row(words: &mut [u64], h: World, limit: u64, s: Stretch, value: bool) -> World
-    requires { Editable words.old h limit }
-    ensures { SetsRow words.old words.new h result limit s.cells.first.0 s.cells.last.0 value }
-{
-    match changes::edit::set(words, h, limit, s.cells, value) {
-        None => h,
-        Some(e) => e.world,
-    }
 }
 
 // A rectangle narrower than the plane, whose cells are to get a value, if that leaves at most as many runs as the limit.
@@ -109,6 +77,37 @@ struct Change {
 }
 
 impl Change {
+    // How many runs a row adds: those that are cut at its ends, and the row itself, if it is to be held.
+    // Neither this nor `loss` takes it from `changes::edit::around`, which would count the set's runs anew for each row.
+    fn gain(self, set: &Set<'_>, row: Cells) -> u64
+        ensures { result ≡ gain self.value (held set.now) row.range.first.0 row.range.last.0 }
+    {
+        u64::from(changes::edit::going_on(set, row.range.first))
+            + u64::from(changes::edit::going_past(set, row.range.last))
+            + u64::from(self.value)
+    }
+
+    // How many runs it takes: those in the row, and, if it is to be held, those of its neighbours.
+    fn loss(self, set: &Set<'_>, row: Cells) -> u64
+        ensures { result ≡ loss self.value (held set.now) row.range.first.0 row.range.last.0 }
+    {
+        let inside = reports::logical::tally(set, row.range, true).runs;
+        let before = self.value && changes::edit::held_before(set, row.range.first);
+        let after = self.value && changes::edit::held_after(set, row.range.last);
+        inside + u64::from(before) + u64::from(after)
+    }
+
+    // Sets a row to the value, unless that leaves more runs than the limit: then all stays as it is.
+    fn set_row(self, words: &mut [u64], h: World, row: Cells) -> World
+        requires { Editable words.old h self.limit }
+        ensures { SetsRow words.old words.new h result self.limit row.range.first.0 row.range.last.0 self.value }
+    {
+        match changes::edit::set(words, h, self.limit, row.range, self.value) {
+            None => h,
+            Some(e) => e.world,
+        }
+    }
+
     // Whether the world is so far from the limit that no row can be refused: a row adds one run at most, and there is at most one logical run
     // more than physical ones.
     fn is_far(self, h: World) -> bool
@@ -129,10 +128,10 @@ impl Change {
         let set = store::set_of(words, h);
         let mut more = store::bounds::logical_runs(&set, h.runs);
         let mut less = self.limit;
-        for r in self.area.q.top..self.area.q.bottom + 1 {
+        for r in self.area.q.top..=self.area.q.bottom {
             let row = self.area.cells(r, r);
-            more += gain(&set, row, self.value);
-            less += loss(&set, row, self.value);
+            more += self.gain(&set, row);
+            less += self.loss(&set, row);
         }
         more <= less
     }
@@ -143,8 +142,8 @@ impl Change {
         ensures { Passes words.old words.new h result self.limit self.area.q self.value (self.area.q.bottom + 1) }
     {
         let mut k = h;
-        for r in self.area.q.top..self.area.q.bottom + 1 {
-            k = set_row(words, k, self.limit, self.area.cells(r, r), self.value);
+        for r in self.area.q.top..=self.area.q.bottom {
+            k = self.set_row(words, k, self.area.cells(r, r));
         }
         k
     }
@@ -171,7 +170,7 @@ pub fn set(words: &mut [u64], h: World, limit: u64, area: Area, value: bool) -> 
 {
     let q = area.q;
     if q.right - q.left == ROW - 1 {
-        return changes::edit::set(words, h, limit, area.cells(q.top, q.bottom).cells, value);
+        return changes::edit::set(words, h, limit, area.cells(q.top, q.bottom).range, value);
     }
     let change = Change { area, value, limit };
     if !change.fits(words, h) {

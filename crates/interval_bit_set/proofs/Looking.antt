@@ -3,7 +3,7 @@
 use Rattle.std.specs.Prelude.{Option, None, Some, Ok, Err}
 use Rattle.model.specs.Answers.{OrRefusal}
 use Rattle.std.specs.Prelude.{◌≡◌, ℕ, zero, suc, ◌<◌, ◌≤◌, Bool, true, false, cond, not, ◌||◌, eqb, List, [], ◌∷◌, ◌++◌}
-use mathlib.Core.Path.{refl, sym, ap, ap₂, ◌∙◌}
+use mathlib.Core.Path.{refl, sym, ap, ap₂, ◌∙◌, subst₂}
 use mathlib.Core.Logic.{inl, inr}
 use native.Mathlib.Omega.{arith}
 use borrow.Author.Tests.{eqb-false, eq-eqb, ne_eqb}
@@ -28,7 +28,7 @@ use Rattle.model.specs.Refusals.{
   too_many,
 }
 use Rattle.model.specs.Refusals
-use Rattle.model.specs.Call.{Fed, wrong_length, unsound, unopened, holding, Call, Result, refused}
+use Rattle.model.specs.Call.{Fed, wrong_length, unsound, unopened, holding, Call, Result, Answer, refused}
 use Rattle.model.specs.Model.{positions_of, reads}
 use Rattle.model.specs.Pools.{world_of, fed_by}
 use Rattle.store.specs.Layout.{capacity, opened_at, worlds_of}
@@ -89,10 +89,10 @@ module _ (w : List ℕ) where
         go false true f = absurd (some-not (sym f))
 
     -- beside that, only whether the world was opened
-    pub world-unopened : Sound w → opened_at w ≤ i → Looked w i (Err WorldUnopened)
+    pub world-unopened : Sound w → opened_at w ≤ i → Looked {T = Unit {0}} w i (Err WorldUnopened)
     world-unopened S h = sym (ap (λ f. first_given looks (reads f)) (fed-unopened w i S h))
 
-    pub world-sound : Sound w → i < opened_at w → Looked w i (Ok tt)
+    pub world-sound : Sound w → i < opened_at w → Looked {T = Unit {0}} w i (Ok tt)
     world-sound S h = sym (ap (λ f. first_given looks (reads f)) (readable (record { sound = S; named = h })).fed)
 
     -- where nothing is refused the world is readable
@@ -116,7 +116,7 @@ pool-refused w l k e = sym k ∙ ap look_number e
 pub pool-readable : {w : List ℕ} (l : OrRefusal Unit) → LookedPool w l → l ≡ (Ok tt) → Sound w
 pool-readable {w} l k e = pool-told w (sym k ∙ ap look_number e)
 
-pub looked-refused : (w : List ℕ) (i : ℕ) {r : Refusal} (l : OrRefusal Unit) → Looked w i l → l ≡ Err r → first_given looks (reads (fed_of w i)) ≡ Some (refusal_number r)
+pub looked-refused : {T : Type 0} (w : List ℕ) (i : ℕ) {r : Refusal} (l : OrRefusal T) → Looked w i l → l ≡ Err r → first_given looks (reads (fed_of w i)) ≡ Some (refusal_number r)
 looked-refused w i l k e = sym k ∙ ap look_number e
 
 pub looked-sound : {w : List ℕ} {i : ℕ} (l : OrRefusal Unit) → Looked w i l → l ≡ (Ok tt) → Readable w i
@@ -184,9 +184,13 @@ three-readable {u} {v} {w} {i} {j} {k} l p e =
 
 -- ---- the calls
 -- a call that reports is refused by what looking told
-pub turned-away : {w : List ℕ} {i : ℕ} {c : Call Site} {cs : List Condition} {A : Positions → Result} {r : Refusal} → Reports w i c cs A → (l : OrRefusal Unit) → Looked w i l
+pub turned-away : {T : Type 0} {w : List ℕ} {i : ℕ} {c : Call Site} {cs : List Condition} {A : Positions → Result} {r : Refusal} → Reports w i c cs A → (l : OrRefusal T) → Looked w i l
     → l ≡ Err r → first_given looks cs ≡ None → Met w i c (refused (refusal_number r)) w
 turned-away {w} {i} {cs = cs} says l k e quiet = refused-both says (reads_first (fed_of w i) cs quiet (looked-refused w i l k e))
+
+-- what a site answers, the world does that it was made of
+pub answered-there : {v w : List ℕ} {i j : ℕ} {c : Call Site} {a : Answer} → (v ≡ w) × (i ≡ j) → Met v i c a v → Met w j c a w
+answered-there {c = c} {a} e m = subst₂ (λ u k. Met u k c a u) e.0 e.1 m
 
 -- so is one that changes its world
 pub sent-away : {w : List ℕ} {i : ℕ} {c : Call Site} {cs : List Condition} {Q : Positions → Positions} {A : Positions → Result} {r : Refusal} → Changes w i c cs Q A → (l : OrRefusal Unit)

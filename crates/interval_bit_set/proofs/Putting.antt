@@ -5,13 +5,12 @@ use Rattle.model.specs.declared.Refusal.{Refusal}
 use Rattle.std.specs.Prelude.{None, Ok, Err}
 use Rattle.model.specs.Answers.{OrRefusal}
 use Rattle.std.specs.Prelude.{◌≡◌, ℕ, ◌≤◌, List, length, take, drop}
-use mathlib.Core.Path.{refl, sym, subst}
+use mathlib.Core.Path.{refl, sym, subst, subst₂}
 use native.Mathlib.Omega.{arith}
 use lib.ListN.{length-append}
 use Rattle.model.specs.Positions.{Positions}
 use Rattle.model.specs.Bytes.{into_front}
 use Rattle.model.specs.Refusals.{looks, Condition, first_given}
-use Rattle.model.specs.Answers.{written_answer}
 use Rattle.model.specs.Call.{Call, Answer, gave, written}
 use Rattle.promises.specs.Met.{Site, outcome_of}
 use Rattle.promises.specs.Out.{WritesOut}
@@ -23,10 +22,14 @@ use Rattle.promises.proofs.Passing.{handed-on}
 use Rattle.interval_bit_set.proofs.Looking.{turned-away}
 
 -- a world that looking refuses
-pub put-turned : {w : List ℕ} {i : ℕ} {c : List ℕ → Call Site} {cs : List Condition} {B : Positions → List ℕ} {out : List ℕ} {r : Refusal} {P : Refusal → Type 0} → Puts w i c cs B out
-    → (l : OrRefusal Unit) → Looked w i l → l ≡ Err r → first_given looks cs ≡ None → (a : OrRefusal ℕ) → IsErrAnd a P → ((e : Refusal) → P e → e ≡ r) → WritesOut c w i out a out
+pub put-turned : {T : Type 0} {w : List ℕ} {i : ℕ} {c : List ℕ → Call Site} {cs : List Condition} {B : Positions → List ℕ} {out : List ℕ} {r : Refusal} {P : Refusal → Type 0}
+    → Puts w i c cs B out → (l : OrRefusal T) → Looked w i l → l ≡ Err r → first_given looks cs ≡ None → (a : OrRefusal ℕ) → IsErrAnd a P → ((e : Refusal) → P e → e ≡ r) → WritesOut c w i out a out
 put-turned {w} {i} {c} {out = out} puts l k e g a h j =
     subst (λ b. WritesOut c w i out b out) (sym (handed-on a h j)) (record { met = turned-away puts.says l k e g; unwritten = refl })
+
+-- what a site wrote, the world did that it was made of
+pub put-there : {v w : List ℕ} {i j : ℕ} {c : List ℕ → Call Site} {out out' : List ℕ} {r : OrRefusal ℕ} → (v ≡ w) × (i ≡ j) → WritesOut c v i out r out' → WritesOut c w j out r out'
+put-there {c = c} {out} {out'} {r} e o = subst₂ (λ u k. WritesOut c u k out r out') e.0 e.1 o
 
 -- ---- what is handed back
 -- an answer that gives bytes gives a slice that has as many

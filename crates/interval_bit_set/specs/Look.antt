@@ -8,9 +8,9 @@ use Rattle.model.specs.Model.{reads}
 use Rattle.promises.specs.Met.{fed_of, pool_reads}
 
 -- the number of the refusal, if there is one
-abbrev pub look_number : OrRefusal Unit → Option ℕ
+abbrev pub look_number : {T : Type 0} → OrRefusal T → Option ℕ
 look_number (Err r) = Some (refusal_number r)
-look_number (Ok tt) = None
+look_number (Ok x) = None
 
 -- the lesser of two numbers, where there are both
 abbrev pub earliest : Option ℕ → Option ℕ → Option ℕ
@@ -23,7 +23,7 @@ abbrev pub LookedPool : List ℕ → OrRefusal Unit → Type 0
 LookedPool w l = look_number l ≡ first_given looks (pool_reads w)
 
 -- and that those of the worlds named give
-abbrev pub Looked : List ℕ → ℕ → OrRefusal Unit → Type 0
+abbrev pub Looked : {T : Type 0} → List ℕ → ℕ → OrRefusal T → Type 0
 Looked w i l = look_number l ≡ first_given looks (reads (fed_of w i))
 
 abbrev pub LookedTwo : List ℕ → ℕ → List ℕ → ℕ → OrRefusal Unit → Type 0

@@ -18,8 +18,8 @@ pub fn set_rect(words: &mut [u64], world: u64, q: Rect, value: bool) -> Result<C
 pub fn count_rect(words: &[u64], world: u64, q: Rect) -> Result<u64, Refusal>
     ensures { Met words.now world (Call.count_rect q) (numbered_answer result) words.now }
 {
-    crate::look::look_at(words, world)?;
-    ranges::cells::count_rect(words, world, q)
+    let site = crate::look::site(words, world)?;
+    ranges::cells::count_rect(site, q)
 }
 
 // Writes the pieces of a square of side 2^k, five words each, and tells how many words they are.
@@ -33,6 +33,6 @@ pub fn survey(
 ) -> Result<usize, Refusal>
     ensures { WritesOut (Call.survey row column k) words.now world out.old result out.new }
 {
-    crate::look::look_at(words, world)?;
-    ranges::cells::survey(words, world, row, column, k, out)
+    let site = crate::look::site(words, world)?;
+    ranges::cells::survey(site, row, column, k, out)
 }

@@ -5,6 +5,7 @@ ghost use Rattle.model.specs.Answers.{completed_answer, tested_answer};
 ghost use Rattle.promises.specs.Met.{site, Met};
 
 use model::{Operation, Refusal};
+use promises::site::Site;
 
 // Joins two sets by AND, OR or XOR.
 pub fn combine(
@@ -19,7 +20,9 @@ pub fn combine(
     ensures { Met words.old world (Call.combine op (site a.now i) (site b.now j)) (completed_answer result) words.new }
 {
     crate::look::look_at_three(words, world, a, i, b, j)?;
-    sets::join::combine(words, world, op, a, i, b, j)
+    let x = Site { words: a, world: i };
+    let y = Site { words: b, world: j };
+    sets::join::combine(words, world, op, x, y)
 }
 
 // The complement over 0..=M: what is in just one of the set and all positions.
@@ -27,7 +30,7 @@ pub fn not(words: &mut [u64], world: u64, a: &[u64], i: u64) -> Result<(), Refus
     ensures { Met words.old world (Call.complement (site a.now i)) (completed_answer result) words.new }
 {
     crate::look::look_at_two(words, world, a, i)?;
-    sets::join::not(words, world, a, i)
+    sets::join::not(words, world, Site { words: a, world: i })
 }
 
 // The set moved by the distance, up (left) or down: read under another offset, and what would come in from the other end cut off.
@@ -42,7 +45,7 @@ pub fn shifted(
     ensures { Met words.old world (Call.shifted distance left (site a.now i)) (completed_answer result) words.new }
 {
     crate::look::look_at_two(words, world, a, i)?;
-    sets::join::shifted(words, world, distance, left, a, i)
+    sets::join::shifted(words, world, distance, left, Site { words: a, world: i })
 }
 
 // Whether two worlds hold the same positions: none is in just one of them.
@@ -50,5 +53,7 @@ pub fn eq(a: &[u64], i: u64, b: &[u64], j: u64) -> Result<bool, Refusal>
     ensures { Met a.now i (Call.equal (site b.now j)) (tested_answer result) a.now }
 {
     crate::look::look_at_two(a, i, b, j)?;
-    sets::join::eq(a, i, b, j)
+    let x = Site { words: a, world: i };
+    let y = Site { words: b, world: j };
+    sets::join::eq(x, y)
 }

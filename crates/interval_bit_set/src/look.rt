@@ -1,11 +1,12 @@
 // Looking at the pools and the worlds that a call names.
-ghost use Rattle.std.specs.Prelude.{◌≡◌};
+ghost use Rattle.std.specs.Prelude.{◌≡◌, IfOk};
 ghost use Rattle.interval_bit_set.specs.Look.{look_number, earliest, LookedPool, Looked, LookedTwo, LookedThree};
 
 use model::Refusal;
+use promises::site::Site;
 use store::Store;
 
-// The earlier of two refusals. 1, 7 and 12 are in the order of their numbers.
+// The earlier of two refusals: 1, 7 and 12 go by their numbers, and not by the order in which an enum has them.
 fn earlier(x: Result<(), Refusal>, y: Result<(), Refusal>) -> Result<(), Refusal>
     ensures { look_number result ≡ earliest (look_number x) (look_number y) }
 {
@@ -39,6 +40,15 @@ pub fn look_at(words: &[u64], world: u64) -> Result<(), Refusal>
         return Err(Refusal::WorldUnopened);
     }
     Ok(())
+}
+
+// A world that is to be read, if it earns no refusal.
+pub fn site(words: &[u64], world: u64) -> Result<Site<'_>, Refusal>
+    ensures looked { Looked words.now world result }
+    ensures there { IfOk result (λ s. (s.words.now ≡ words.now) × (s.world ≡ world)) }
+{
+    look_at(words, world)?;
+    Ok(Site { words, world })
 }
 
 // What two worlds earn: 1 of either comes before 7 of either, and that before 12.

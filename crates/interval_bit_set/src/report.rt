@@ -9,16 +9,16 @@ use model::{Bound, Drawn, Listing, Refusal, Run, Tally};
 pub fn get(words: &[u64], world: u64, x: u64) -> Result<bool, Refusal>
     ensures { Met words.now world (Call.get x) (tested_answer result) words.now }
 {
-    crate::look::look_at(words, world)?;
-    ranges::report::get(words, world, x)
+    let site = crate::look::site(words, world)?;
+    ranges::report::get(site, x)
 }
 
 // The unclipped run around x, of the value that x has.
 pub fn run_at(words: &[u64], world: u64, x: u64) -> Result<Run, Refusal>
     ensures { Met words.now world (Call.run_at x) (around_answer result) words.now }
 {
-    crate::look::look_at(words, world)?;
-    ranges::report::run_at(words, world, x)
+    let site = crate::look::site(words, world)?;
+    ranges::report::run_at(site, x)
 }
 
 // The least position of the value in a range.
@@ -31,8 +31,8 @@ pub fn find(
 ) -> Result<Option<u64>, Refusal>
     ensures { Met words.now world (Call.find lower upper value) (found_answer result) words.now }
 {
-    crate::look::look_at(words, world)?;
-    ranges::report::find(words, world, lower, upper, value)
+    let site = crate::look::site(words, world)?;
+    ranges::report::find(site, lower, upper, value)
 }
 
 // How many positions of a range have the value, as a carry and a low word, and in how many runs, clipped to the range.
@@ -45,8 +45,8 @@ pub fn tally(
 ) -> Result<Tally, Refusal>
     ensures { Met words.now world (Call.tally lower upper value) (tallied_answer result) words.now }
 {
-    crate::look::look_at(words, world)?;
-    ranges::report::tally(words, world, lower, upper, value)
+    let site = crate::look::site(words, world)?;
+    ranges::report::tally(site, lower, upper, value)
 }
 
 // The tally of a range, as `tally` gives it, and a reversed one is refused.
@@ -59,8 +59,8 @@ pub fn tally_strict(
 ) -> Result<Tally, Refusal>
     ensures { Met words.now world (Call.tally_strict lower upper value) (tallied_answer result) words.now }
 {
-    crate::look::look_at(words, world)?;
-    ranges::report::tally_strict(words, world, lower, upper, value)
+    let site = crate::look::site(words, world)?;
+    ranges::report::tally_strict(site, lower, upper, value)
 }
 
 // The position of a range that has the value and exactly k such positions before it there.
@@ -74,8 +74,8 @@ pub fn select(
 ) -> Result<Option<u64>, Refusal>
     ensures { Met words.now world (Call.select lower upper value k) (found_answer result) words.now }
 {
-    crate::look::look_at(words, world)?;
-    ranges::report::select(words, world, lower, upper, value, k)
+    let site = crate::look::site(words, world)?;
+    ranges::report::select(site, lower, upper, value, k)
 }
 
 // The lowest start of n neighbouring positions of a range that are all free.
@@ -88,8 +88,8 @@ pub fn gap(
 ) -> Result<Option<u64>, Refusal>
     ensures { Met words.now world (Call.gap lower upper n) (found_answer result) words.now }
 {
-    crate::look::look_at(words, world)?;
-    ranges::report::gap(words, world, lower, upper, n)
+    let site = crate::look::site(words, world)?;
+    ranges::report::gap(site, lower, upper, n)
 }
 
 // A listing of the runs of the value in a range, to be drawn from either end.
@@ -102,16 +102,16 @@ pub fn ranges(
 ) -> Result<Listing, Refusal>
     ensures { Met words.now world (Call.ranges lower upper value) (listed_answer result) words.now }
 {
-    crate::look::look_at(words, world)?;
-    ranges::report::ranges(words, world, lower, upper, value)
+    let site = crate::look::site(words, world)?;
+    ranges::report::ranges(site, lower, upper, value)
 }
 
 // Draws the first run that is left in a listing, in the world as it is.
 pub fn draw_front(words: &[u64], world: u64, l: Listing) -> Result<Drawn, Refusal>
     ensures { Met words.now world (Call.draw_front l) (drawn_answer result) words.now }
 {
-    crate::look::look_at(words, world)?;
-    ranges::listing::draw_front(words, world, l)
+    let site = crate::look::site(words, world)?;
+    ranges::listing::draw_front(site, l)
 }
 
 // Draws the last run that is left in a listing.
@@ -119,14 +119,14 @@ pub fn draw_front(words: &[u64], world: u64, l: Listing) -> Result<Drawn, Refusa
 pub fn draw_back(words: &[u64], world: u64, l: Listing) -> Result<Drawn, Refusal>
     ensures { Met words.now world (Call.draw_back l) (drawn_answer result) words.now }
 {
-    crate::look::look_at(words, world)?;
-    ranges::listing::draw_back(words, world, l)
+    let site = crate::look::site(words, world)?;
+    ranges::listing::draw_back(site, l)
 }
 
 // How full a window is, in thousandths, rounded up.
 pub fn fill(words: &[u64], world: u64, base: u64, length: u64) -> Result<u64, Refusal>
     ensures { Met words.now world (Call.fill base length) (numbered_answer result) words.now }
 {
-    crate::look::look_at(words, world)?;
-    ranges::report::fill(words, world, base, length)
+    let site = crate::look::site(words, world)?;
+    ranges::report::fill(site, base, length)
 }

@@ -19,8 +19,8 @@ pub fn write_set(
 ) -> Result<usize, Refusal>
     ensures { WritesOut (Call.write_set edition) words.now world out.old result out.new }
 {
-    crate::look::look_at(words, world)?;
-    sets::write::write_set(words, world, edition, out)
+    let site = crate::look::site(words, world)?;
+    sets::write::write_set(site, edition, out)
 }
 
 // Writes the map of a window, and tells how many bytes it has. Eight bytes of the map are written as a word.
@@ -33,8 +33,8 @@ pub fn write_map(
 ) -> Result<usize, Refusal>
     ensures { WritesOut (Call.write_map base n) words.now world out.old result out.new }
 {
-    crate::look::look_at(words, world)?;
-    sets::write::write_map::<true>(words, world, base, n, out)
+    let site = crate::look::site(words, world)?;
+    sets::write::write_map::<true>(site, base, n, out)
 }
 
 // The same by single bytes: the plain form, which the other is proved to agree with.
@@ -47,8 +47,8 @@ pub fn write_map_by_bytes(
 ) -> Result<usize, Refusal>
     ensures { WritesOut (Call.write_map base n) words.now world out.old result out.new }
 {
-    crate::look::look_at(words, world)?;
-    sets::write::write_map::<false>(words, world, base, n, out)
+    let site = crate::look::site(words, world)?;
+    sets::write::write_map::<false>(site, base, n, out)
 }
 
 // The front part of a slice.

@@ -5,7 +5,7 @@ use mathlib.Core.Path.{◌≡◌, refl, sym, ap, ap₂, ◌∙◌, subst}
 use mathlib.Core.Bool.{Bool}
 use mathlib.Core.List.{List}
 use native.Mathlib.Omega.{arith}
-use Rattle.model.specs.declared.Bound.{Bound}
+use Rattle.model.specs.Ends.{Bound}
 use Rattle.model.specs.declared.Operation.{Operation}
 use Rattle.model.specs.Range.{first_allowed, extent}
 use Rattle.model.specs.Positions.{Positions, count, run_count, stretches, set_range, flip_range, shift_by, apply, combined, bounded, changes}

@@ -7,7 +7,7 @@ use mathlib.Core.List.{List}
 use native.Mathlib.Omega.{arith}
 use lib.Dec.{leb, ltb}
 use borrow.Author.Tests.{leb-true, ltb-true}
-use Rattle.model.specs.declared.Bound.{Bound}
+use Rattle.model.specs.Ends.{Bound}
 use Rattle.model.specs.Range.{first_allowed, extent}
 use Rattle.model.specs.Positions.{Positions, among, stretches, set_range, flip_range, bounded, changes}
 use Rattle.model.specs.Call.{Call, number, Answer, refused, gave}

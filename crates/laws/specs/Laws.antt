@@ -2,8 +2,8 @@
 -- it is refused. A world is known by what its calls promise: no tree and no offset is mentioned. docs/LAWS.md has each law in words, with an example.
 -- Assumes nothing: these are statements. proofs/Laws.antt proves each under its name, in small letters.
 use Rattle.std.specs.Prelude.{ℕ, ◌+◌, ◌-◌, ◌≤◌, ◌<◌, ◌≡◌, ◌⊎◌, Bool, true, false, List, [], ◌∷◌}
-use Rattle.model.specs.declared.Bound.{Bound}
-use Rattle.model.specs.declared.Bound.TheVariants.{Included, Excluded, Unbounded}
+use Rattle.model.specs.Ends.{Bound}
+use Rattle.std.specs.declared.ops.Bound.TheVariants.{Included, Excluded, Unbounded}
 use Rattle.model.specs.declared.Limits.{Limits}
 use Rattle.model.specs.declared.Operation.{Operation}
 use Rattle.model.specs.declared.Operation.TheVariants.{And, Or}

@@ -1,6 +1,6 @@
 -- What the functions that play the case of the refusal law ask and promise. Assumes nothing: these are definitions.
 use Rattle.std.specs.Prelude.{ℕ, ◌-◌, ◌≡◌, true, List}
-use Rattle.model.specs.declared.Bound.TheVariants.{Included}
+use Rattle.std.specs.declared.ops.Bound.TheVariants.{Included}
 use Rattle.model.specs.Numbers.{size}
 use Rattle.model.specs.Answers.{completed_answer}
 use Rattle.model.specs.Call.{Call, done, Answer, refused, gave}

@@ -1,7 +1,7 @@
 -- WHICH CALLS MAY BE SWAPPED, AND WHICH ARE NEEDLESS: laws that a batcher asks for beside those of the ticket. docs/LAWS.md has them in words and as a
 -- table. Assumes nothing: these are statements. proofs/Laws.antt proves each under its name, in small letters.
 use Rattle.std.specs.Prelude.{ℕ, ◌+◌, ◌≤◌, ◌<◌, ◌≡◌, Bool, List}
-use Rattle.model.specs.declared.Bound.{Bound}
+use Rattle.model.specs.Ends.{Bound}
 use Rattle.model.specs.Range.{first_allowed, past_allowed, extent}
 use Rattle.model.specs.Call.{Call, number, Result, Answer, gave}
 use Rattle.store.specs.Layout.{worlds_of}

@@ -8,7 +8,7 @@ use mathlib.Core.List.{List, [], ◌∷◌, ◌++◌}
 use native.Mathlib.Omega.{arith}
 use lib.Dec.{ltb}
 use borrow.Author.Tests.{lt-ltb, le-ltb}
-use Rattle.model.specs.declared.Bound.TheVariants.{Unbounded}
+use Rattle.std.specs.declared.ops.Bound.TheVariants.{Unbounded}
 use Rattle.model.specs.declared.Run.{Run}
 use Rattle.model.specs.declared.Listing.{Listing}
 use Rattle.model.specs.declared.Tally.{Tally}

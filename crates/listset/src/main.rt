@@ -18,12 +18,10 @@ use std::alloc::{AllocError, Global};
 use std::io;
 use std::io::Read;
 
+// The only world may have as many runs as the pool has room for.
 const CAPACITY: usize = 950;
 
 const WORDS: usize = 8 * (CAPACITY + 49);
-
-// The only world may have as many runs as the pool has room for.
-const CEILING: u64 = 950;
 
 // The bytes of a written set of as many runs as the world takes.
 const MOST: usize = 5 + 16 * CAPACITY;
@@ -123,7 +121,7 @@ fn answer(text: &mut String, bytes: &[u8]) -> Result<(), AllocError>
         return put(text, "too long\n");
     }
     let mut words = [0u64; WORDS];
-    make::new(&mut words, &[0, CEILING]).unwrap();
+    make::new(&mut words, &[0, CAPACITY as u64]).unwrap();
     match bytes::load(&mut words, 0, bytes) {
         Err(refusal) => put_refused(text, refusal),
         Ok(()) => put_set(text, &words),

@@ -10,7 +10,7 @@ use mathlib.Core.List.{List, [], ◌∷◌}
 use native.Mathlib.Omega.{arith}
 use borrow.Author.Tests.{le-ltb}
 use lib.ListN.{take}
-use Rattle.model.specs.declared.Bound.TheVariants.{Included}
+use Rattle.std.specs.declared.ops.Bound.TheVariants.{Included}
 use Rattle.model.specs.declared.Edition.{Edition}
 use Rattle.model.specs.Numbers.{size}
 use Rattle.model.specs.Positions.{Positions, empty}

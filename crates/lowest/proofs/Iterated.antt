@@ -13,7 +13,7 @@ use Rattle.model.specs.Positions.{stretches, mem}
 use Rattle.lowest.specs.declared.Group.{Group}
 use Rattle.lowest.specs.declared.places.Places.{Places}
 use Rattle.lowest.specs.declared.union.Union.{Union}
-use Rattle.lowest.specs.Windows.{left, ahead}
+use Rattle.lowest.specs.Bands.{left, ahead}
 use Rattle.lowest.specs.Joins.{Joining, Draws, OnItsWay, GivesGroup, pending}
 use Rattle.lowest.proofs.Steps.{front-least, complete-count}
 
@@ -27,7 +27,7 @@ module _ {L : Type 0} (u : Union L) (r : Places L) where
   pending-less b g e l = omega (arith, ap option_len e)
 
   -- no entry is left: none is pending
-  pub pending_last : r.window ≡ None → r.next ≡ r.block.count → (n : ℕ) → pending u ≤ n → (o : Option Group) → u.last ≡ o
+  pub pending_last : r.band ≡ None → r.next ≡ r.block.count → (n : ℕ) → pending u ≤ n → (o : Option Group) → u.last ≡ o
       → IfSome o (λ _. pending (record { places = r; last = None }) < n)
   unfolding ahead left
   pending_last w over n l None e = tt

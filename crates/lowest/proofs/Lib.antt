@@ -3,7 +3,7 @@ pub mod Slipping
 pub mod Holding
 pub mod Blocks
 pub mod Sweeping
-pub mod Windows
+pub mod Bands
 pub mod Rounds
 pub mod Grouping
 pub mod Completing

@@ -8,7 +8,7 @@ use Rattle.lowest.specs.declared.Group.{Group}
 use Rattle.lowest.specs.declared.union.Union.{Union}
 use Rattle.lowest.specs.Entries.{Counts, In, Lists}
 use Rattle.lowest.specs.Groups.{Grouped}
-use Rattle.lowest.specs.Windows.{Rises, ahead}
+use Rattle.lowest.specs.Bands.{Rises, ahead}
 
 -- the groups of the entries that come first in rising order
 pub record Front (es : List Run) (gs : List Group) : Type 0 where

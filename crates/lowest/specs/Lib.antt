@@ -1,6 +1,6 @@
 pub mod Entries
 pub mod Sweeps
-pub mod Windows
+pub mod Bands
 pub mod Groups
 pub mod Joins
 pub mod Unions

@@ -11,7 +11,7 @@ use lib.Dec.{ltb}
 use borrow.Author.Tests.{lt-ltb, le-ltb}
 use Rattle.model.proofs.Numbers.{split}
 use Rattle.model.specs.Positions.{Positions}
-use Rattle.model.specs.declared.Bound.{Bound}
+use Rattle.model.specs.Ends.{Bound}
 use Rattle.model.specs.Call.{Fed, unopened, holding, Call, fill, tally_strict, at, refused}
 use Rattle.model.specs.Model.{positions_of, report, tallying, serve}
 use Rattle.model.specs.Pools.{PlainWorld, world_of, fed_by, claim_with, claim, claims, other_claims, exceeds, full, with_positions, holding_at, serve_at, leaving, step, alone, allowance_of, allowance}

@@ -9,8 +9,8 @@ use borrow.Author.Tests.{lt-ltb, le-ltb, ltb-true, ltb-false, le-leb, lt-leb}
 use mathlib.Core.Logic.{◌⊎◌, inl, inr}
 use Rattle.model.specs.Numbers.{size}
 use Rattle.model.proofs.Numbers.{split}
-use Rattle.model.specs.declared.Bound.{Bound}
-use Rattle.model.specs.declared.Bound.TheVariants.{Included, Excluded, Unbounded}
+use Rattle.model.specs.Ends.{Bound}
+use Rattle.std.specs.declared.ops.Bound.TheVariants.{Included, Excluded, Unbounded}
 use Rattle.model.specs.declared.Span.{Span}
 use Rattle.model.specs.declared.Span.TheVariants.{Empty, Reversed, Closed}
 use Rattle.model.specs.Range.{first_allowed, past_allowed, extent, edge_at, first_edge, edge_before, last_edge, reversed, span_of, First, Last}

@@ -2,7 +2,7 @@
 -- Ticket 13).
 use Rattle.std.specs.Prelude.{Option, None, Some}
 use Rattle.std.specs.Prelude.{Bool, true, false, cond, not, ◌&&◌, ◌||◌, List, [], ◌∷◌, ◌≡◌, ℕ, zero, suc, ◌+◌, ◌-◌, ◌*◌, ◌/◌, leb, ltb, length, get_or, take}
-use Rattle.model.specs.declared.Bound.{Bound}
+use Rattle.model.specs.Ends.{Bound}
 use Rattle.model.specs.declared.Run.{Run}
 use Rattle.model.specs.Range.{bound_by, first_allowed, past_allowed}
 use Rattle.model.specs.Positions.{run, find, stretches, run_at, mem}

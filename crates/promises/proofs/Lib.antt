@@ -2,6 +2,7 @@
 pub mod Refusing
 pub mod Doors
 pub mod Meeting
+pub mod Sites
 pub mod Windows
 pub mod Spans
 pub mod Changing

@@ -6,7 +6,7 @@ use mathlib.Core.Path.{◌≡◌, sym, ap, ap₂, ◌∙◌, subst}
 use mathlib.Core.Bool.{Bool, not}
 use native.Mathlib.Omega.{arith}
 use lib.ListN.{length}
-use Rattle.model.specs.declared.Bound.{Bound}
+use Rattle.model.specs.Ends.{Bound}
 use Rattle.model.specs.declared.between.Interval.{Interval}
 use Rattle.model.specs.Range.{first_allowed, extent, many, Within}
 use Rattle.model.specs.Positions.{Positions, find, count, select, run_count, gap, ended, listed}

@@ -2,7 +2,7 @@
 -- Assumes nothing.
 use Rattle.std.specs.Prelude.{◌≡◌, ℕ, Bool, true, false, List, [], ◌∷◌}
 use mathlib.Core.Path.{sym, ap, ◌∙◌, subst}
-use Rattle.model.specs.declared.Bound.{Bound}
+use Rattle.model.specs.Ends.{Bound}
 use Rattle.model.specs.Range.{reversed}
 use Rattle.model.specs.Refusals.{before_capacity, range_reversed, ◌when◌, first_given, refusal}
 use Rattle.model.specs.Call.{Call, Answer, refused}

@@ -8,6 +8,7 @@ ghost use Rattle.promises.specs.Out.{WritesOut};
 use grid::rows::Area;
 use grid::tile::{Corner, Square};
 use model::{Count, Rect, Refusal};
+use promises::site::Site;
 
 // A rectangle, if it is one of the plane, its first corner not beyond its second.
 fn area_of(q: Rect) -> Option<Area>
@@ -46,14 +47,13 @@ pub fn set_rect(words: &mut [u64], world: u64, q: Rect, value: bool) -> Result<C
 }
 
 // How many cells of a rectangle are held.
-pub fn count_rect(words: &[u64], world: u64, q: Rect) -> Result<u64, Refusal>
-    requires { Readable words.now world }
-    ensures { Met words.now world (Call.count_rect q) (numbered_answer result) words.now }
+pub fn count_rect(site: Site<'_>, q: Rect) -> Result<u64, Refusal>
+    ensures { Met site.entry.words.now site.entry.world (Call.count_rect q) (numbered_answer result) site.entry.words.now }
 {
     let Some(area) = area_of(q) else {
         return Err(Refusal::OffPlane);
     };
-    let set = store::read_set(words, world);
+    let set = site.set();
     Ok(grid::rows::count(&set, area))
 }
 
@@ -77,20 +77,18 @@ fn square_of(row: u64, column: u64, k: u64) -> Option<Square>
 
 // Writes the pieces of a square, five words each, and returns how many words they are. They are counted before the first one is written.
 pub fn survey(
-    words: &[u64],
-    world: u64,
+    site: Site<'_>,
     row: u64,
     column: u64,
     k: u64,
     out: &mut [u64],
 ) -> Result<usize, Refusal>
-    requires { Readable words.now world }
-    ensures { WritesOut (Call.survey row column k) words.now world out.old result out.new }
+    ensures { WritesOut (Call.survey row column k) site.entry.words.now site.entry.world out.old result out.new }
 {
     let Some(square) = square_of(row, column, k) else {
         return Err(Refusal::OffPlane);
     };
-    let set = store::read_set(words, world);
+    let set = site.set();
     if out.len() < grid::survey::due(&set, square) {
         return Err(Refusal::OutputShort);
     }

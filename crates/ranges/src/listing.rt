@@ -3,10 +3,11 @@ ghost use Rattle.std.specs.Prelude.{◌≡◌};
 ghost use Rattle.model.specs.Positions.{ended};
 ghost use Rattle.model.specs.Call.{Call};
 ghost use Rattle.model.specs.Answers.{drawn_answer};
-ghost use Rattle.promises.specs.Met.{Readable, Met};
+ghost use Rattle.promises.specs.Met.{Met};
 
 use model::between::Interval;
 use model::{Drawn, Listing, Logical, Refusal};
+use promises::site::Site;
 
 // A listing with nothing left, as the papers write one: from 1 to 0.
 pub fn finished(value: bool) -> Listing
@@ -20,9 +21,8 @@ pub fn finished(value: bool) -> Listing
 }
 
 // Draws the first run that is left, and moves the listing past it.
-pub fn draw_front(words: &[u64], world: u64, l: Listing) -> Result<Drawn, Refusal>
-    requires { Readable words.now world }
-    ensures { Met words.now world (Call.draw_front l) (drawn_answer result) words.now }
+pub fn draw_front(site: Site<'_>, l: Listing) -> Result<Drawn, Refusal>
+    ensures { Met site.entry.words.now site.entry.world (Call.draw_front l) (drawn_answer result) site.entry.words.now }
 {
     if l.last < l.first {
         return Ok(Drawn {
@@ -34,7 +34,7 @@ pub fn draw_front(words: &[u64], world: u64, l: Listing) -> Result<Drawn, Refusa
         first: Logical(l.first),
         last: Logical(l.last),
     };
-    let set = store::read_set(words, world);
+    let set = site.set();
     let run = reports::runs::first_run(&set, left, l.value);
     let rest = match run {
         Some(r) if r.end < l.last => Listing {
@@ -48,9 +48,8 @@ pub fn draw_front(words: &[u64], world: u64, l: Listing) -> Result<Drawn, Refusa
 
 // Draws the last run that is left, and moves the listing before it.
 // The mirror of `draw_front`: what is searched, the comparison and the end that moves differ, so one function would branch at each.
-pub fn draw_back(words: &[u64], world: u64, l: Listing) -> Result<Drawn, Refusal>
-    requires { Readable words.now world }
-    ensures { Met words.now world (Call.draw_back l) (drawn_answer result) words.now }
+pub fn draw_back(site: Site<'_>, l: Listing) -> Result<Drawn, Refusal>
+    ensures { Met site.entry.words.now site.entry.world (Call.draw_back l) (drawn_answer result) site.entry.words.now }
 {
     if l.last < l.first {
         return Ok(Drawn {
@@ -62,7 +61,7 @@ pub fn draw_back(words: &[u64], world: u64, l: Listing) -> Result<Drawn, Refusal
         first: Logical(l.first),
         last: Logical(l.last),
     };
-    let set = store::read_set(words, world);
+    let set = site.set();
     let run = reports::runs::last_run(&set, left, l.value);
     let rest = match run {
         Some(r) if l.first < r.start => Listing {

@@ -41,6 +41,11 @@ impl Stores {
         all.get_mut(s as usize).ok_or(Fault::NotUnderstood)
     }
 
+    // The words of the store that a line names next.
+    fn whole(&mut self, line: &mut Tokens<'_>) -> Result<&mut [u64], Fault> {
+        Ok(self.store_mut(u64::read(line)?)?.as_mut_slice())
+    }
+
     // A copy of a store, which can be read while another is written, or the same.
     fn copy(&self, s: u64) -> Result<Vec<u64>, Fault> {
         Ok(Vec::from_slice(self.alloc, self.store(s)?)?)
@@ -100,7 +105,7 @@ impl Stores {
         Ok(join::eq(self.store(p.store)?, p.world, self.store(q.store)?, q.world).reply())
     }
 
-    // ---- names
+    // ---- names, by a match and no table: what each takes is of types of its own
     // The call at a world that a name means.
     fn world_named(&mut self, p: Place, name: &str, line: Tokens<'_>) -> Result<Reply, Fault> {
         match name {
@@ -121,10 +126,10 @@ impl Stores {
                 let s = u64::read(&mut line)?;
                 self.lend(s, line)
             }
-            "spoil" | "new" | "deepest" | "why_full" => {
-                let s = u64::read(&mut line)?;
-                whole_named(self.store_mut(s)?.as_mut_slice(), name, line)
-            }
+            "spoil" => spoil(self.whole(&mut line)?, line),
+            "new" => new(self.whole(&mut line)?, line),
+            "deepest" => deepest(self.whole(&mut line)?, line),
+            "why_full" => why_full(self.whole(&mut line)?, line),
             _ => {
                 let p = Place::read(&mut line)?;
                 self.world_named(p, name, line)
@@ -133,6 +138,7 @@ impl Stores {
     }
 }
 
+// ---- calls on a whole store, of which two only measure it
 // Not a call of the library: makes a store unsound, which has to have words.
 fn spoil(store: &mut [u64], line: Tokens<'_>) -> Result<Reply, Fault> {
     line.end()?;
@@ -140,22 +146,24 @@ fn spoil(store: &mut [u64], line: Tokens<'_>) -> Result<Reply, Fault> {
     Ok(Ok(Answer::Done))
 }
 
-// The call on a whole store that a name means, of which two only measure it; `new` where it means none of the others.
-fn whole_named(store: &mut [u64], name: &str, line: Tokens<'_>) -> Result<Reply, Fault> {
-    match name {
-        "spoil" => spoil(store, line),
-        "deepest" => calls::make(line, |(height, out): (u64, Lent<u64>)| {
-            answer::filled(out, |out| measure::deepest(store, height, out))
-        }),
-        "why_full" => calls::make(line, |(out, bounds): (Lent<u64>, Pairs<64>)| {
-            answer::filled(
-                out,
-                |out| measure::why_full(store, bounds.0.as_slice(), out),
-            )
-        }),
-        _ => calls::make(
-            line,
-            |limits: Pairs<32>| make::new(store, limits.0.as_slice()),
-        ),
-    }
+fn new(store: &mut [u64], line: Tokens<'_>) -> Result<Reply, Fault> {
+    calls::make(
+        line,
+        |limits: Pairs<32>| make::new(store, limits.0.as_slice()),
+    )
+}
+
+fn deepest(store: &[u64], line: Tokens<'_>) -> Result<Reply, Fault> {
+    calls::make(line, |(height, out): (u64, Lent<u64>)| {
+        answer::filled(out, |out| measure::deepest(store, height, out))
+    })
+}
+
+fn why_full(store: &[u64], line: Tokens<'_>) -> Result<Reply, Fault> {
+    calls::make(line, |(out, bounds): (Lent<u64>, Pairs<64>)| {
+        answer::filled(
+            out,
+            |out| measure::why_full(store, bounds.0.as_slice(), out),
+        )
+    })
 }

@@ -1,4 +1,4 @@
--- What the reports tell: of the tree at a root, and of a world. Assumes nothing: these are definitions.
+-- What the reports tell: of the runs of a tree, and of a set. Assumes nothing: these are definitions.
 use Rattle.std.specs.Prelude.{Option, None, Some, Result, Ok, Err}
 use Rattle.std.specs.Prelude.{◌≡◌, ℕ, suc, ◌+◌, ◌<◌, ◌≤◌, Bool, not}
 use Rattle.model.specs.declared.Run.{Run}

@@ -1,4 +1,4 @@
-// Reports on positions: physical ones from the tree at a root, logical ones of a world.
+// Reports on positions: physical ones from the runs of a tree, logical ones from a set.
 #![tactic(auto)]
 
 pub mod logical;

@@ -1,4 +1,4 @@
-// Reports on a world's positions, as the caller counts them. A logical range lies at one physical range, or, where it passes
+// Reports on a set's positions, as the caller counts them. A logical range lies at one physical range, or, where it passes
 // the end of the physical positions, at two: from its place to M, and from 0 on.
 // The value is what a call asks for, as is the range: a struct of set, range and value would be built for each call.
 ghost use Rattle.std.specs.Prelude.{◌≡◌, suc, ◌+◌, ◌-◌, ◌<◌, ◌≤◌};
@@ -7,6 +7,7 @@ ghost use Rattle.model.specs.Range.{many};
 ghost use Rattle.store.specs.Layout.{held};
 ghost use Rattle.reports.specs.Reports.{Measured, Place, Next, Previous, Selects};
 
+use crate::physical::Segment;
 use model::between::Interval;
 use model::{Logical, Tally};
 use run_index::search::Runs;
@@ -25,13 +26,21 @@ pub fn get(set: &Set<'_>, x: Logical) -> bool
 pub fn tally(set: &Set<'_>, r: Interval, value: bool) -> Tally
     ensures { Measured (held set.now) value r.first.0 (many r) result }
 {
-    let s = store::places::to_physical(r.first, set.offset);
-    let e = store::places::to_physical(r.last, set.offset);
-    if s.0 <= e.0 {
-        return crate::physical::tally_physical(&set.runs, s, e, value);
+    let first = store::places::to_physical(r.first, set.offset);
+    let last = store::places::to_physical(r.last, set.offset);
+    if first.0 <= last.0 {
+        return crate::physical::tally_physical(&set.runs, Segment { first, last }, value);
     }
-    let one = crate::physical::tally_physical(&set.runs, s, Physical(u64::MAX), value);
-    let two = crate::physical::tally_physical(&set.runs, Physical(0), e, value);
+    let upper = Segment {
+        first,
+        last: Physical(u64::MAX),
+    };
+    let lower = Segment {
+        first: Physical(0),
+        last,
+    };
+    let one = crate::physical::tally_physical(&set.runs, upper, value);
+    let two = crate::physical::tally_physical(&set.runs, lower, value);
     let low = store::bounds::get_physical(&set.runs, Physical(0));
     let high = store::bounds::get_physical(&set.runs, Physical(u64::MAX));
     let joined = high == value && low == value;
@@ -41,37 +50,45 @@ pub fn tally(set: &Set<'_>, r: Interval, value: bool) -> Tally
     }
 }
 
-// The place of the k-th position of the value from s to e, or, where there are no more than k, how many are left to pass after e.
-fn chosen(runs: &Runs<'_>, s: Physical, e: Physical, value: bool, k: u64) -> Result<Physical, u64>
-    requires { s.0 ≤ e.0 }
-    ensures { Place (mem runs.now) value s.0 (suc e.0 - s.0) k result }
+// The place of the k-th position of the value in s, or, where there are no more than k, how many are left to pass after s.
+fn chosen(runs: &Runs<'_>, s: Segment, value: bool, k: u64) -> Result<Physical, u64>
+    ensures { Place (mem runs.now) value s.first.0 (suc s.last.0 - s.first.0) k result }
 {
-    let n = crate::physical::tally_physical(runs, s, e, value).count;
+    let n = crate::physical::tally_physical(runs, s, value).count;
     if n.carry == 0 && n.low <= k {
         return Err(k - n.low);
     }
-    Ok(crate::physical::select_physical(runs, s, value, k))
+    Ok(crate::physical::select_physical(runs, s.first, value, k))
 }
 
 // The position of r that has the value and exactly k such positions before it there.
 pub fn select(set: &Set<'_>, r: Interval, value: bool, k: u64) -> Option<u64>
     ensures { Selects (held set.now) value r.first.0 (many r) k result }
 {
-    let s = store::places::to_physical(r.first, set.offset);
-    let e = store::places::to_physical(r.last, set.offset);
-    let place = if s.0 <= e.0 {
-        chosen(&set.runs, s, e, value, k)
+    let first = store::places::to_physical(r.first, set.offset);
+    let last = store::places::to_physical(r.last, set.offset);
+    let place = if first.0 <= last.0 {
+        chosen(&set.runs, Segment { first, last }, value, k)
     } else {
-        match chosen(&set.runs, s, Physical(u64::MAX), value, k) {
+        let upper = Segment {
+            first,
+            last: Physical(u64::MAX),
+        };
+        let lower = Segment {
+            first: Physical(0),
+            last,
+        };
+        // no `or_else`: of a closure that reads the set only what it promises itself is known, so this promise would be written out again
+        match chosen(&set.runs, upper, value, k) {
             Ok(p) => Ok(p),
-            Err(left) => chosen(&set.runs, Physical(0), e, value, left),
+            Err(left) => chosen(&set.runs, lower, value, left),
         }
     };
     let p = place.ok()?;
     Some(store::places::to_logical(p, set.offset).0)
 }
 
-// The least position of the value at or after x. From x to M the world lies from x's place to M's, or from x's place on and from 0 to M's.
+// The least position of the value at or after x. From x to M the set lies from x's place to M's, or from x's place on and from 0 to M's.
 pub fn next(set: &Set<'_>, x: Logical, value: bool) -> Option<u64>
     ensures { Next (held set.now) value x.0 result }
 {
@@ -90,7 +107,7 @@ pub fn next(set: &Set<'_>, x: Logical, value: bool) -> Option<u64>
 }
 
 // The greatest position of the value at or before x.
-// The mirror of `next`: the search, the comparisons and the end that the world goes over to differ.
+// The mirror of `next`: the search, the comparisons and the end that the set goes over to differ.
 pub fn previous(set: &Set<'_>, x: Logical, value: bool) -> Option<u64>
     ensures { Previous (held set.now) value x.0 result }
 {

@@ -10,29 +10,33 @@ use model::{Count, Tally};
 use run_index::search::Runs;
 use store::places::Physical;
 
-// The positions of the value from s to e, and its runs there. Runs of the two values alternate, so the values at both ends tell
+// The physical positions from first to last, of which there is at least one.
+#[derive(Clone, Copy)]
+pub struct Segment {
+    pub first: Physical,
+    pub last: Physical,
+    pub ghost ordered: { first.0 ≤ last.0 },
+}
+
+// The positions of the value in s, and its runs there. Runs of the two values alternate, so the values at both ends tell
 // how many runs of the other value there are.
-pub fn tally_physical(runs: &Runs<'_>, s: Physical, e: Physical, value: bool) -> Tally
-    requires { s.0 ≤ e.0 }
-    ensures { Measured (mem runs.now) value s.0 (suc e.0 - s.0) result }
+pub fn tally_physical(runs: &Runs<'_>, s: Segment, value: bool) -> Tally
+    ensures { Measured (mem runs.now) value s.first.0 (suc s.last.0 - s.first.0) result }
 {
-    let under = runs.rank_at(s.0);
-    let upto = runs.rank_at(e.0);
-    // the held positions above s, and the runs that start there
+    let under = runs.rank_at(s.first.0);
+    let upto = runs.rank_at(s.last.0);
+    // the held positions above the first one, and the runs that start there
     let more = upto.ones.wrapping_sub(under.ones);
     let starts = upto.starts - under.starts;
     let (above, many) = if value {
         (more, starts + u64::from(under.held))
     } else {
-        (e.0 - s.0 - more, starts + u64::from(!upto.held))
+        (s.last.0 - s.first.0 - more, starts + u64::from(!upto.held))
     };
     let count = if under.held == value {
         model::width(0, above)
     } else {
-        Count {
-            carry: 0,
-            low: above,
-        }
+        Count::from(above)
     };
     Tally { count, runs: many }
 }

@@ -9,15 +9,15 @@ ghost use Rattle.promises.specs.Joined.{Carried, ViewOf};
 
 use model::between::Interval;
 use model::{Logical, Operation, Refusal};
+use promises::site::Site;
 use streams::gather::Feed;
 use streams::source::View;
 
 // From where a world's set is read, in the nodes of its pool.
-fn view(words: &[u64], world: u64) -> View
-    requires { Readable words.now world }
-    ensures { ViewOf words.now world result }
+fn view(site: Site<'_>) -> View
+    ensures { ViewOf site.entry.words.now site.entry.world result }
 {
-    let h = store::open(words, world);
+    let h = site.open();
     View {
         root: h.root,
         offset: h.offset,
@@ -47,38 +47,35 @@ fn gathered<'a>(
 }
 
 // Joins two sets by AND, OR or XOR.
+#[tactic(auto, using(promises::proofs::Sites::site_long))]
 pub fn combine(
     words: &mut [u64],
     world: u64,
     op: Operation,
-    a: &[u64],
-    i: u64,
-    b: &[u64],
-    j: u64,
+    a: Site<'_>,
+    b: Site<'_>,
 ) -> Result<(), Refusal>
-    requires readable { Readable words.old world }
-    requires readable_2 { Readable a.now i }
-    requires readable_3 { Readable b.now j }
-    ensures { Met words.old world (Call.combine op (site a.now i) (site b.now j)) (completed_answer result) words.new }
+    requires { Readable words.old world }
+    ensures { Met words.old world (Call.combine op (site a.entry.words.now a.entry.world) (site b.entry.words.now b.entry.world))
+        (completed_answer result) words.new }
 {
-    let x = view(a, i);
-    let y = view(b, j);
+    let x = view(a);
+    let y = view(b);
     gathered(
         words,
         world,
         op,
-        Feed::Held(&a[128..], x),
-        Feed::Held(&b[128..], y),
+        Feed::Held(&a.words[128..], x),
+        Feed::Held(&b.words[128..], y),
     )
 }
 
 // The complement over 0..=M: what is in just one of the set and all positions.
-pub fn not(words: &mut [u64], world: u64, a: &[u64], i: u64) -> Result<(), Refusal>
-    requires readable { Readable words.old world }
-    requires readable_2 { Readable a.now i }
-    ensures { Met words.old world (Call.complement (site a.now i)) (completed_answer result) words.new }
+pub fn not(words: &mut [u64], world: u64, a: Site<'_>) -> Result<(), Refusal>
+    requires { Readable words.old world }
+    ensures { Met words.old world (Call.complement (site a.entry.words.now a.entry.world)) (completed_answer result) words.new }
 {
-    let x = view(a, i);
+    let x = view(a);
     let all = Interval {
         first: Logical(0),
         last: Logical(u64::MAX),
@@ -87,7 +84,7 @@ pub fn not(words: &mut [u64], world: u64, a: &[u64], i: u64) -> Result<(), Refus
         words,
         world,
         Operation::Xor,
-        Feed::Held(&a[128..], x),
+        Feed::Held(&a.words[128..], x),
         Feed::Only(all),
     )
 }
@@ -99,14 +96,12 @@ pub fn shifted(
     world: u64,
     distance: u64,
     left: bool,
-    a: &[u64],
-    i: u64,
+    a: Site<'_>,
 ) -> Result<(), Refusal>
-    requires readable { Readable words.old world }
-    requires readable_2 { Readable a.now i }
-    ensures { Met words.old world (Call.shifted distance left (site a.now i)) (completed_answer result) words.new }
+    requires { Readable words.old world }
+    ensures { Met words.old world (Call.shifted distance left (site a.entry.words.now a.entry.world)) (completed_answer result) words.new }
 {
-    let View { root, offset } = view(a, i);
+    let View { root, offset } = view(a);
     let (moved, first, last) = if left {
         (offset.wrapping_add(distance), distance, u64::MAX)
     } else {
@@ -124,23 +119,22 @@ pub fn shifted(
         words,
         world,
         Operation::And,
-        Feed::Held(&a[128..], x),
+        Feed::Held(&a.words[128..], x),
         Feed::Only(kept),
     )
 }
 
 // Whether two worlds hold the same positions: none is in just one of them.
-pub fn eq(a: &[u64], i: u64, b: &[u64], j: u64) -> Result<bool, Refusal>
-    requires readable { Readable a.now i }
-    requires readable_2 { Readable b.now j }
-    ensures { Met a.now i (Call.equal (site b.now j)) (tested_answer result) a.now }
+#[tactic(auto, using(promises::proofs::Sites::site_long))]
+pub fn eq(a: Site<'_>, b: Site<'_>) -> Result<bool, Refusal>
+    ensures { Met a.entry.words.now a.entry.world (Call.equal (site b.entry.words.now b.entry.world)) (tested_answer result) a.entry.words.now }
 {
-    let x = view(a, i);
-    let y = view(b, j);
+    let x = view(a);
+    let y = view(b);
     Ok(streams::gather::fits(
         Operation::Xor,
-        Feed::Held(&a[128..], x),
-        Feed::Held(&b[128..], y),
+        Feed::Held(&a.words[128..], x),
+        Feed::Held(&b.words[128..], y),
         0,
     ))
 }

@@ -1,7 +1,7 @@
 // The calls that take or give whole sets, bytes and lists, on pools that are known to be sound, and those that take no pool: each answers what the
 // public call of its name does, without looking at the pool. What a change would leave is counted before the first write, so a refusal finds every
 // word as it was. No public call is here.
-// Words and a world's number stay apart, as in `ranges`.
+// A world that is only read is a `promises::site::Site`; the words and the number of one that is written stay apart, as in `ranges`.
 #![tactic(auto)]
 
 pub mod bytes;

@@ -1,41 +1,33 @@
 // Writing a world's set, and the map of a window, into the front of a lent slice.
 ghost use Rattle.model.specs.Call.{Call};
-ghost use Rattle.promises.specs.Met.{Readable};
 ghost use Rattle.promises.specs.Out.{WritesOut};
 
 use maps::window::Window;
 use model::{Edition, Refusal};
+use promises::site::Site;
 
 // Writes a world's set, and returns how many bytes it has.
-pub fn write_set(
-    words: &[u64],
-    world: u64,
-    edition: Edition,
-    out: &mut [u8],
-) -> Result<usize, Refusal>
-    requires { Readable words.now world }
-    ensures { WritesOut (Call.write_set edition) words.now world out.old result out.new }
+pub fn write_set(site: Site<'_>, edition: Edition, out: &mut [u8]) -> Result<usize, Refusal>
+    ensures { WritesOut (Call.write_set edition) site.entry.words.now site.entry.world out.old result out.new }
 {
-    let h = store::open(words, world);
-    let n = written::set::run_count(&words[128..], h);
+    let h = site.open();
+    let n = written::set::run_count(&site.words[128..], h);
     let due = written::set::length_of(n) as usize;
     if out.len() < due {
         return Err(Refusal::OutputShort);
     }
-    written::write::write_set(&words[128..], h, edition, out);
+    written::write::write_set(&site.words[128..], h, edition, out);
     Ok(due)
 }
 
 // Writes the map of a window, a word at a time or, where `WIDE` is false, by single bytes, and returns how many bytes it has.
 pub fn write_map<const WIDE: bool>(
-    words: &[u64],
-    world: u64,
+    site: Site<'_>,
     base: u64,
     n: u64,
     out: &mut [u8],
 ) -> Result<usize, Refusal>
-    requires { Readable words.now world }
-    ensures { WritesOut (Call.write_map base n) words.now world out.old result out.new }
+    ensures { WritesOut (Call.write_map base n) site.entry.words.now site.entry.world out.old result out.new }
 {
     if !promises::window::window_fits(base, n) {
         return Err(Refusal::Window);
@@ -44,12 +36,12 @@ pub fn write_map<const WIDE: bool>(
     if out.len() < due {
         return Err(Refusal::OutputShort);
     }
-    let h = store::open(words, world);
+    let h = site.open();
     let window = Window { base, n };
     if WIDE {
-        maps::write::write_map(&words[128..], h, window, out);
+        maps::write::write_map(&site.words[128..], h, window, out);
     } else {
-        maps::write::write_map_by_bytes(&words[128..], h, window, out);
+        maps::write::write_map_by_bytes(&site.words[128..], h, window, out);
     }
     Ok(due)
 }

@@ -13,6 +13,7 @@ ghost use Rattle.written.specs.Listed.{least_after, pairs, Receives, Received};
 use model::{Edition, Run};
 use store::World;
 
+// By number, and no iterator: a sweep asks for an entry again and again, wherever it stands, and an iterator beside would be a second way to it.
 pub trait RunList {
     // The runs, in the order in which they stand.
     ghost runs: { Self → List Run };

@@ -3,7 +3,7 @@
 // Words and a world, and no `Set`: a reading needs the bound on the tree's height (`Rooted`), of which a `Set` says nothing.
 ghost use Rattle.std.specs.Prelude.{◌≡◌, ◌+◌, ◌*◌, ◌≤◌, ◌<◌, ◌++◌, length, drop};
 ghost use Rattle.model.specs.Positions.{stretches, held_runs};
-ghost use Rattle.model.specs.Bytes.{big_endian, version_of, encode, runs_told, into_front};
+ghost use Rattle.model.specs.Bytes.{big_endian, encode, runs_told, into_front};
 ghost use Rattle.model.specs.Converting.{other_edition};
 ghost use Rattle.store.specs.Layout.{held_in};
 ghost use Rattle.store.specs.Soundness.{Stands};
@@ -14,23 +14,12 @@ use model::{Edition, Logical, Run};
 use store::World;
 use streams::source::{Reader, View};
 
-// The version byte of an edition.
-// No From: it would have to stand in `model`, where a byte of a written set means nothing.
-pub fn version_of(edition: Edition) -> u8
-    ensures { result ≡ version_of edition }
-{
-    match edition {
-        Edition::Rows => 1,
-        Edition::Columns => 2,
-    }
-}
-
 // Writes what stands before the runs: the version byte, and their number.
 pub fn put_head(out: &mut [u8], edition: Edition, n: u64)
     requires { 5 ≤ length out.old }
     ensures { out.new ≡ placed 0 (head_of edition n) out.old }
 {
-    out[0] = version_of(edition);
+    out[0] = u8::from(edition);
     crate::numbers::put_count(out, 1, n);
 }
 

@@ -18,14 +18,14 @@ returns-in_err-look_at_pool c =
     (sym (handed-on c.from_residual.result c.from_residual.ensures.1 (λ e p. p)))
     (turned-away c.args.words.now c.args.calls.now c.args.answers.now _ c.look_at_pool.ensures c.in_err-look_at_pool.was)
 
-pub returns-then-answers-n : goal.returns-then-answers-n
-returns-then-answers-n c =
-    no_room_lem c.args.words.now c.args.calls.now c.args.answers.now (sound (goal.at.returns-then-answers-n c).In_ok-look_at_pool) c.if-answers-n.true
+pub returns-then-answers-calls : goal.returns-then-answers-calls
+returns-then-answers-calls c =
+    no_room_lem c.args.words.now c.args.calls.now c.args.answers.now (sound (goal.at.returns-then-answers-calls c).In_ok-look_at_pool) c.if-answers-calls.true
 
 pub play-requires : goal.play-requires
 play-requires c =
-    playable c.args.words.now c.args.calls.now c.args.answers.now (sound (goal.at.play-requires c).In_ok-look_at_pool) c.if-answers-n.false
+    playable c.args.words.now c.args.calls.now c.args.answers.now (sound (goal.at.play-requires c).In_ok-look_at_pool) c.if-answers-calls.false
 
 pub returns : goal.returns
 returns c =
-    framed c.args.words.now c.args.calls.now c.args.answers.now (sound (goal.at.returns c).In_ok-look_at_pool) c.if-answers-n.false c.play.ensures
+    framed c.args.words.now c.args.calls.now c.args.answers.now (sound (goal.at.returns c).In_ok-look_at_pool) c.if-answers-calls.false c.play.ensures

@@ -1,14 +1,28 @@
 -- `play` meets its contract. The loop's invariant: i records were served as the model serves their calls. Assumes nothing.
-use Rattle.frame.proofs.Playing.{none-played, more-played, all-played}
+use Rattle.std.specs.Prelude.{◌≡◌, ◌/◌, length}
+use mathlib.Core.Path.{◌∙◌}
+use native.Mathlib.Omega.{arith}
+use Rattle.frame.specs.Records.{entry_at}
+use Rattle.frame.proofs.Replies.{record-at}
+use Rattle.frame.proofs.Playing.{none-played, playing-sound, more-played, all-played}
 use Rattle.frame.proofs.play.Goals as goal
+use Rattle.frame.proofs.play.Goals.{After-from}
+
+-- the record is read as the one of the same number in the list
+entry : (c : After-from) → c.from.result ≡ entry_at c.args.calls.now c.loop-i.i
+entry c =
+    c.from.ensures ∙ rw c.as_chunks.ensures.front (record-at c.args.calls.now (length c.args.calls.now / 8) c.loop-i.i (omega (arith, c.as_chunks.ensures.front_len, c.loop-i-test.true)))
 
 pub loop-i-init : goal.loop-i-init
 loop-i-init c =
-    none-played c.args.calls.now c.args.answers.now c.args.n c.requires.sound
+    none-played c.args.calls.now c.args.answers.now (length c.args.calls.now / 8) c.requires.sound
+
+pub serve-r-requires : goal.serve-r-requires
+serve-r-requires c = playing-sound c.loop-i.invariant
 
 pub loop-i-preserved : goal.loop-i-preserved
 loop-i-preserved c =
-    more-played c.loop-i.invariant c.loop-i-test.true c.requires.room c.read-e.ensures c.serve-r.ensures c.put.ensures
+    more-played c.loop-i.invariant (omega (arith, c.as_chunks.ensures.front_len, c.loop-i-test.true)) c.requires.room (entry (goal.at.loop-i-preserved c).After-from) c.serve-r.ensures c.put.ensures
 
 pub returns : goal.returns
-returns c = all-played c.loop-i.invariant c.loop-i-test.false
+returns c = all-played c.loop-i.invariant (omega (arith, c.as_chunks.ensures.front_len, c.loop-i-test.false))

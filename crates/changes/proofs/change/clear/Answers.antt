@@ -7,7 +7,7 @@ use Rattle.changes.proofs.Trimming.{Trimmed, trimmed-same, trimmed-clearable, tr
 use Rattle.changes.proofs.change.clear.Goals as goal
 use Rattle.changes.proofs.change.clear.Goals.{
   Joined-at_or_before,
-  in-Some+then-r-s+then-s-r+else-e-r+else-e-r-le1,
+  in-Some+then-r-s+then-s-r+else-s-r-2+else-s-r-le1,
   in_default,
   in_default-via-in-None-1,
   in_default-via-in-Some+else-r-s,
@@ -15,37 +15,37 @@ use Rattle.changes.proofs.change.clear.Goals.{
 }
 
 -- no run goes on from before s
-trimmed : (c : Joined-at_or_before) → Trimmed c.args.words.now c.match-at_or_before.words c.args.x c.args.s.0 c.args.e.0
+trimmed : (c : Joined-at_or_before) → Trimmed c.args.words.now c.match-at_or_before.words c.args.x c.args.s.first.0 c.args.s.last.0
 trimmed c =
     elim c.match-at_or_before.branch [
-      | in-Some+then-r-s+then-s-r+else-e-r+else-e-r-le1 w ↦
-          trimmed-same w.words-is (trimmed-back (found _ (c.at_or_before.ensures.found ∙ ap (last_up_to _) c.runs_of.ensures) _ w.in-Some.is) w.if-r-s.true w.if-s-r.true w.resize_run.ensures w.if-e-r.false)
+      | in-Some+then-r-s+then-s-r+else-s-r-2+else-s-r-le1 w ↦
+          trimmed-same w.words-is (trimmed-back c.args.s.ordered (found _ (c.at_or_before.ensures.found ∙ ap (last_up_to _) c.runs_of.ensures) _ w.in-Some.is) w.if-r-s.true w.if-s-r.true w.resize_run.ensures w.if-s-r-2.false)
       | in_default w ↦
           trimmed-same w.words-is
           (elim w.in_default.branch [
             | in_default-via-in-None-1 v ↦ trimmed-none (found_none _ (c.at_or_before.ensures.found ∙ ap (last_up_to _) c.runs_of.ensures) (search rules))
-            | in_default-via-in-Some+else-r-s v ↦ trimmed-from (found _ (c.at_or_before.ensures.found ∙ ap (last_up_to _) c.runs_of.ensures) _ v.in-Some.is) v.if-r-s.false
-            | in_default-via-in-Some+then-r-s+else-s-r v ↦ trimmed-below (found _ (c.at_or_before.ensures.found ∙ ap (last_up_to _) c.runs_of.ensures) _ v.in-Some.is) v.if-s-r.false
+            | in_default-via-in-Some+else-r-s v ↦ trimmed-from c.args.s.ordered (found _ (c.at_or_before.ensures.found ∙ ap (last_up_to _) c.runs_of.ensures) _ v.in-Some.is) v.if-r-s.false
+            | in_default-via-in-Some+then-r-s+else-s-r v ↦ trimmed-below c.args.s.ordered (found _ (c.at_or_before.ensures.found ∙ ap (last_up_to _) c.runs_of.ensures) _ v.in-Some.is) v.if-s-r.false
           ])
     ]
 
 pub resize_run-requires : goal.resize_run-requires
-resize_run-requires c = back-changeable (found _ (c.at_or_before.ensures.found ∙ ap (last_up_to _) c.runs_of.ensures) _ c.in-Some.is) c.if-r-s.true c.if-s-r.true c.requires
+resize_run-requires c = back-changeable c.args.s.ordered (found _ (c.at_or_before.ensures.found ∙ ap (last_up_to _) c.runs_of.ensures) _ c.in-Some.is) c.if-r-s.true c.if-s-r.true c.requires
 
 pub add_run-requires : goal.add_run-requires
 add_run-requires c =
-    both-addable (found _ (c.at_or_before.ensures.found ∙ ap (last_up_to _) c.runs_of.ensures) _ c.in-Some.is) c.if-r-s.true c.if-s-r.true c.resize_run.ensures c.if-e-r.true c.requires
+    both-addable c.args.s.ordered (found _ (c.at_or_before.ensures.found ∙ ap (last_up_to _) c.runs_of.ensures) _ c.in-Some.is) c.if-r-s.true c.if-s-r.true c.resize_run.ensures c.if-s-r-2.true c.requires
 
-pub returns-then-e-r : goal.returns-then-e-r
-returns-then-e-r c =
-    both-added (found _ (c.at_or_before.ensures.found ∙ ap (last_up_to _) c.runs_of.ensures) _ c.in-Some.is) c.if-r-s.true c.if-s-r.true c.resize_run.ensures c.if-e-r.true c.add_run.ensures.0
+pub returns-then-s-r-2 : goal.returns-then-s-r-2
+returns-then-s-r-2 c =
+    both-added c.args.s.ordered (found _ (c.at_or_before.ensures.found ∙ ap (last_up_to _) c.runs_of.ensures) _ c.in-Some.is) c.if-r-s.true c.if-s-r.true c.resize_run.ensures c.if-s-r-2.true c.add_run.ensures.0
 
-pub returns-then-e-r-le1 : goal.returns-then-e-r-le1
-returns-then-e-r-le1 c =
-    back_last (found _ (c.at_or_before.ensures.found ∙ ap (last_up_to _) c.runs_of.ensures) _ c.in-Some.is) c.if-r-s.true c.if-s-r.true c.resize_run.ensures c.if-e-r.false c.if-e-r-le1.true
+pub returns-then-s-r-le1 : goal.returns-then-s-r-le1
+returns-then-s-r-le1 c =
+    back_last c.args.s.ordered (found _ (c.at_or_before.ensures.found ∙ ap (last_up_to _) c.runs_of.ensures) _ c.in-Some.is) c.if-r-s.true c.if-s-r.true c.resize_run.ensures c.if-s-r-2.false c.if-s-r-le1.true
 
 pub clear_from-requires : goal.clear_from-requires
-clear_from-requires c = trimmed-clearable (trimmed (goal.at.clear_from-requires c).Joined-at_or_before) c.requires
+clear_from-requires c = trimmed-clearable c.args.s.ordered (trimmed (goal.at.clear_from-requires c).Joined-at_or_before) c.requires
 
 pub returns : goal.returns
-returns c = trimmed-cleared (trimmed (goal.at.returns c).Joined-at_or_before) c.clear_from.ensures
+returns c = trimmed-cleared c.args.s.ordered (trimmed (goal.at.returns c).Joined-at_or_before) c.clear_from.ensures

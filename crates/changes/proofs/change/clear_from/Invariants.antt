@@ -5,7 +5,7 @@ use Rattle.changes.proofs.Clearing.{ClearingFrom}
 use Rattle.changes.proofs.change.clear_from.Given as goal
 
 abbrev pub invariant-loop-r : goal.invariant-loop-r
-invariant-loop-r l = ClearingFrom l.initial.words l.words l.initial.links l.links l.s.0 l.e.0
+invariant-loop-r l = ClearingFrom l.initial.words l.words l.initial.links l.links l.s.first.0 l.s.last.0
 
 abbrev pub decreases-loop-r : goal.decreases-loop-r
 decreases-loop-r l = runs_of l.words l.links.root

@@ -1,5 +1,5 @@
 -- `count` meets its contract. The loop's invariant: the sum is that of the rows before row r. Assumes nothing.
-use Prim.Native.Nat.{suc, ◌-◌}
+use Prim.Native.Nat.{suc, ◌+◌, ◌-◌}
 use mathlib.Core.Path.{◌≡◌, sym, ap, ap₂, ◌∙◌}
 use mathlib.Core.Bool.{true}
 use native.Mathlib.Omega.{arith}
@@ -42,18 +42,26 @@ overflow_add-sum c =
       sum-few (row_count q P) q.top (c.loop-r.r - q.top) (λ r. omega (arith, count-few q c.args.area.on_plane P r)),
     )
 
-pub loop-r-preserved : goal.loop-r-preserved
-loop-r-preserved c =
+-- the sum with it
+next : (c : After-held_cells-sum) → c.loop-r.sum + c.held_cells-sum.result
+    ≡ row_sum (row_count c.args.area.q (held c.args.set.now)) c.args.area.q.top (c.loop-r.r + 1 - c.args.area.q.top)
+next c =
     omega (
       arith,
       c.loop-r.invariant,
-      here (goal.at.loop-r-preserved c).After-held_cells-sum,
+      here c,
       sum-next (row_count c.args.area.q (held c.args.set.now)) c.args.area.q.top c.loop-r.r c.loop-r.auto.r,
     )
 
-pub returns : goal.returns
-returns c =
+pub loop-r-preserved : goal.loop-r-preserved
+loop-r-preserved c = next (goal.at.loop-r-preserved c).After-held_cells-sum
+
+pub returns-else-q : goal.returns-else-q
+returns-else-q c = absurd (omega (arith, c.loop-r.auto.r-end, c.loop-r-test.false, c.args.area.on_plane.rows))
+
+pub returns-else-q-2 : goal.returns-else-q-2
+returns-else-q-2 c =
     let q = c.args.area.q in
     let P = held c.args.set.now in
-    let e : c.loop-r.r - q.top ≡ suc q.bottom - q.top = omega (arith, c.loop-r.auto.r-end, c.loop-r-test.false, c.args.area.on_plane.rows) in
-    c.loop-r.invariant ∙ ap (row_sum (row_count q P) q.top) e ∙ sym (rect-rows q P c.args.area.on_plane)
+    let e : c.loop-r.r + 1 - q.top ≡ suc q.bottom - q.top = omega (arith, c.loop-r-test.true) in
+    next (goal.at.returns-else-q-2 c).After-held_cells-sum ∙ ap (row_sum (row_count q P) q.top) e ∙ sym (rect-rows q P c.args.area.on_plane)

@@ -8,4 +8,4 @@ use Rattle.grid.proofs.rows.held_cells.Goals as goal
 pub returns : goal.returns
 returns c =
     let s = c.args.s in
-    omega (arith, c.tally.ensures.count-is, count_most (held c.args.set.now) true s.cells.first.0 (many s.cells), s.on_plane)
+    omega (arith, c.tally.ensures.count-is, count_most (held c.args.set.now) true s.range.first.0 (many s.range), s.on_plane)

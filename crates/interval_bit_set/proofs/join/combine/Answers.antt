@@ -5,20 +5,20 @@ use Rattle.interval_bit_set.proofs.Looking.{three-readable, all-sent}
 use Rattle.promises.proofs.Overwriting.{combine-says}
 use Rattle.interval_bit_set.proofs.join.combine.Goals as goal
 
-pub combine-requires-clause-readable : goal.combine-requires-clause-readable
-combine-requires-clause-readable c =
+pub combine-requires : goal.combine-requires
+combine-requires c =
     let t = three-readable _ c.look_at_three.ensures c.in_ok-look_at_three.was in
     t.0
 
-pub combine-requires-clause-readable_2 : goal.combine-requires-clause-readable_2
-combine-requires-clause-readable_2 c =
+pub invariant_of-x : goal.invariant_of-x
+invariant_of-x c =
     let t = three-readable _ c.look_at_three.ensures c.in_ok-look_at_three.was in
-    t.1
+    record { readable = ∣ t.1 ∣₁ }
 
-pub combine-requires-clause-readable_3 : goal.combine-requires-clause-readable_3
-combine-requires-clause-readable_3 c =
+pub invariant_of-y : goal.invariant_of-y
+invariant_of-y c =
     let t = three-readable _ c.look_at_three.ensures c.in_ok-look_at_three.was in
-    t.2
+    record { readable = ∣ t.2 ∣₁ }
 
 pub returns-in_err-look_at_three : goal.returns-in_err-look_at_three
 returns-in_err-look_at_three c =

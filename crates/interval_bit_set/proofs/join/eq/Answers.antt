@@ -5,11 +5,11 @@ use Rattle.interval_bit_set.proofs.Looking.{two-readable, both-turned}
 use Rattle.sets.proofs.Comparing.{equal-says}
 use Rattle.interval_bit_set.proofs.join.eq.Goals as goal
 
-pub eq-requires-clause-readable : goal.eq-requires-clause-readable
-eq-requires-clause-readable c = (two-readable _ c.look_at_two.ensures c.in_ok-look_at_two.was).0
+pub invariant_of-x : goal.invariant_of-x
+invariant_of-x c = record { readable = ∣ (two-readable _ c.look_at_two.ensures c.in_ok-look_at_two.was).0 ∣₁ }
 
-pub eq-requires-clause-readable_2 : goal.eq-requires-clause-readable_2
-eq-requires-clause-readable_2 c = (two-readable _ c.look_at_two.ensures c.in_ok-look_at_two.was).1
+pub invariant_of-y : goal.invariant_of-y
+invariant_of-y c = record { readable = ∣ (two-readable _ c.look_at_two.ensures c.in_ok-look_at_two.was).1 ∣₁ }
 
 pub returns-in_err-look_at_two : goal.returns-in_err-look_at_two
 returns-in_err-look_at_two c =

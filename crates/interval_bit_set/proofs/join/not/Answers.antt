@@ -5,11 +5,11 @@ use Rattle.interval_bit_set.proofs.Looking.{two-readable, both-sent}
 use Rattle.promises.proofs.Overwriting.{complement-says}
 use Rattle.interval_bit_set.proofs.join.not.Goals as goal
 
-pub not-requires-clause-readable : goal.not-requires-clause-readable
-not-requires-clause-readable c = (two-readable _ c.look_at_two.ensures c.in_ok-look_at_two.was).0
+pub not-requires : goal.not-requires
+not-requires c = (two-readable _ c.look_at_two.ensures c.in_ok-look_at_two.was).0
 
-pub not-requires-clause-readable_2 : goal.not-requires-clause-readable_2
-not-requires-clause-readable_2 c = (two-readable _ c.look_at_two.ensures c.in_ok-look_at_two.was).1
+pub invariant_of-not : goal.invariant_of-not
+invariant_of-not c = record { readable = ∣ (two-readable _ c.look_at_two.ensures c.in_ok-look_at_two.was).1 ∣₁ }
 
 pub returns-in_err-look_at_two : goal.returns-in_err-look_at_two
 returns-in_err-look_at_two c =

@@ -5,11 +5,11 @@ use Rattle.interval_bit_set.proofs.Looking.{two-readable, both-sent}
 use Rattle.promises.proofs.Overwriting.{shifted-says}
 use Rattle.interval_bit_set.proofs.join.shifted.Goals as goal
 
-pub shifted-requires-clause-readable : goal.shifted-requires-clause-readable
-shifted-requires-clause-readable c = (two-readable _ c.look_at_two.ensures c.in_ok-look_at_two.was).0
+pub shifted-requires : goal.shifted-requires
+shifted-requires c = (two-readable _ c.look_at_two.ensures c.in_ok-look_at_two.was).0
 
-pub shifted-requires-clause-readable_2 : goal.shifted-requires-clause-readable_2
-shifted-requires-clause-readable_2 c = (two-readable _ c.look_at_two.ensures c.in_ok-look_at_two.was).1
+pub invariant_of-shifted : goal.invariant_of-shifted
+invariant_of-shifted c = record { readable = ∣ (two-readable _ c.look_at_two.ensures c.in_ok-look_at_two.was).1 ∣₁ }
 
 pub returns-in_err-look_at_two : goal.returns-in_err-look_at_two
 returns-in_err-look_at_two c =

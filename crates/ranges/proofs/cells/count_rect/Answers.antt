@@ -6,14 +6,15 @@ use Rattle.store.specs.Layout.{held}
 use Rattle.grid.specs.Areas.{AreaOf}
 use Rattle.ranges.proofs.Planes.{plane-refused, plane-passes}
 use Rattle.promises.proofs.Meeting.{refused-by, met-read, count-rect-says}
+use Rattle.promises.proofs.Sites.{site-readable}
 use Rattle.ranges.proofs.cells.count_rect.Goals as goal
 
 pub returns-in_default : goal.returns-in_default
 returns-in_default c =
-    refused-by (count-rect-says _ _ _) 15 c.requires (plane-refused _ (subst (AreaOf c.args.q) c.in_default.is c.area_of.ensures))
+    refused-by (count-rect-says _ _ _) 15 (site-readable c.args.site.readable) (plane-refused _ (subst (AreaOf c.args.q) c.in_default.is c.area_of.ensures))
 
 pub returns : goal.returns
 returns c =
     let a = subst (AreaOf c.args.q) c.in-Some.is c.area_of.ensures in
-    met-read (count-rect-says _ _ _) c.read_set-set.result c.requires c.read_set-set.ensures (plane-passes _ a.0)
-    (ap number (c.count.ensures ∙ ap (λ q. count_rect q (held c.read_set-set.result)) a.1))
+    met-read (count-rect-says _ _ _) c.set-set.result (site-readable c.args.site.readable) c.set-set.ensures (plane-passes _ a.0)
+    (ap number (c.count.ensures ∙ ap (λ q. count_rect q (held c.set-set.result)) a.1))

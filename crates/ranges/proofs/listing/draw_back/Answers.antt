@@ -5,21 +5,22 @@ use Rattle.model.specs.Call.{drawn}
 use Rattle.model.specs.Positions.{last_run}
 use Rattle.ranges.proofs.Draws.{none_left, last-left, back_none, back_more, back_end}
 use Rattle.promises.proofs.Meeting.{met, met-read, draw-back-says}
+use Rattle.promises.proofs.Sites.{site-readable}
 use Rattle.ranges.proofs.listing.draw_back.Goals as goal
 use Rattle.ranges.proofs.listing.draw_back.Goals.{in_default-via-in-Some+else-l-r, in_default-via-in_default}
 
 pub returns-then-l : goal.returns-then-l
 returns-then-l c =
-    met (draw-back-says _ _ _) c.requires refl (back_none _ (ap last_run (none_left _ _ c.if-l.true)) c.finished.ensures)
+    met (draw-back-says _ _ _) (site-readable c.args.site.readable) refl (back_none _ (ap last_run (none_left _ _ c.if-l.true)) c.finished.ensures)
 
 pub returns-in-Some : goal.returns-in-Some
 returns-in-Some c =
     let e = last-left _ _ c.in-Some.is c.last_run-run.ensures in
-    met-read (draw-back-says _ _ _) c.read_set-set.result c.requires c.read_set-set.ensures refl (back_more _ e c.if-l-r.true)
+    met-read (draw-back-says _ _ _) c.set-set.result (site-readable c.args.site.readable) c.set-set.ensures refl (back_more _ e c.if-l-r.true)
 
 pub returns-in_default : goal.returns-in_default
 returns-in_default c =
-    met-read (draw-back-says _ _ _) c.read_set-set.result c.requires c.read_set-set.ensures refl
+    met-read (draw-back-says _ _ _) c.set-set.result (site-readable c.args.site.readable) c.set-set.ensures refl
     (elim c.in_default.branch [
       | in_default-via-in-Some+else-l-r w ↦
           ap (λ o. drawn o c.finished-rest.result) w.run-is

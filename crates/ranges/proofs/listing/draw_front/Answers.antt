@@ -5,21 +5,22 @@ use Rattle.model.specs.Call.{drawn}
 use Rattle.model.specs.Positions.{first_run}
 use Rattle.ranges.proofs.Draws.{none_left, first-left, front-none, front-more, front-end}
 use Rattle.promises.proofs.Meeting.{met, met-read, draw-front-says}
+use Rattle.promises.proofs.Sites.{site-readable}
 use Rattle.ranges.proofs.listing.draw_front.Goals as goal
 use Rattle.ranges.proofs.listing.draw_front.Goals.{in_default-via-in-Some+else-r-l, in_default-via-in_default}
 
 pub returns-then-l : goal.returns-then-l
 returns-then-l c =
-    met (draw-front-says _ _ _) c.requires refl (front-none _ (ap first_run (none_left _ _ c.if-l.true)) c.finished.ensures)
+    met (draw-front-says _ _ _) (site-readable c.args.site.readable) refl (front-none _ (ap first_run (none_left _ _ c.if-l.true)) c.finished.ensures)
 
 pub returns-in-Some : goal.returns-in-Some
 returns-in-Some c =
     let e = first-left _ _ c.in-Some.is c.first_run-run.ensures in
-    met-read (draw-front-says _ _ _) c.read_set-set.result c.requires c.read_set-set.ensures refl (front-more _ e c.if-r-l.true)
+    met-read (draw-front-says _ _ _) c.set-set.result (site-readable c.args.site.readable) c.set-set.ensures refl (front-more _ e c.if-r-l.true)
 
 pub returns-in_default : goal.returns-in_default
 returns-in_default c =
-    met-read (draw-front-says _ _ _) c.read_set-set.result c.requires c.read_set-set.ensures refl
+    met-read (draw-front-says _ _ _) c.set-set.result (site-readable c.args.site.readable) c.set-set.ensures refl
     (elim c.in_default.branch [
       | in_default-via-in-Some+else-r-l w ↦
           ap (λ o. drawn o c.finished-rest.result) w.run-is

@@ -8,6 +8,7 @@ use Rattle.model.specs.Refusals.{bad_window}
 use Rattle.model.specs.Call.{number}
 use Rattle.promises.proofs.Windows.{fitting, window-refused, window-passes, fill-fits, fill_is, bad-by}
 use Rattle.promises.proofs.Meeting.{refused-by, met-read, fill-says}
+use Rattle.promises.proofs.Sites.{site-readable}
 use Rattle.ranges.proofs.report.fill.Goals as goal
 use Rattle.ranges.proofs.report.fill.Goals.{Else-not-window_fits}
 
@@ -16,7 +17,7 @@ good : (r : Else-not-window_fits) → bad_window r.args.base r.args.length ≡ f
 good r = bad-by _ _ _ r.window_fits.ensures (ap not r.if-not-window_fits.false)
 
 pub returns-then-not-window_fits : goal.returns-then-not-window_fits
-returns-then-not-window_fits c = refused-by (fill-says _ _ _ _) 6 c.requires (window-refused _ _ (bad-by _ _ _ c.window_fits.ensures (ap not c.if-not-window_fits.true)))
+returns-then-not-window_fits c = refused-by (fill-says _ _ _ _) 6 (site-readable c.args.site.readable) (window-refused _ _ (bad-by _ _ _ c.window_fits.ensures (ap not c.if-not-window_fits.true)))
 
 pub overflow_sub-window : goal.overflow_sub-window
 overflow_sub-window c = (fitting _ _ (good (goal.at.overflow_sub-window c).Else-not-window_fits)).some
@@ -39,7 +40,7 @@ overflow_add-result c =
 
 pub returns : goal.returns
 returns c =
-    met-read (fill-says _ _ _ _) c.read_set-set.result c.requires c.read_set-set.ensures (window-passes _ _ (good (goal.at.returns c).Else-not-window_fits))
+    met-read (fill-says _ _ _ _) c.set-set.result (site-readable c.args.site.readable) c.set-set.ensures (window-passes _ _ (good (goal.at.returns c).Else-not-window_fits))
     (ap number (fill_is _ _ _ _ (fitting _ _ (good (goal.at.returns c).Else-not-window_fits)) c.tally-t.ensures.count-is))
 
 pub nonzero_div-result : goal.nonzero_div-result

@@ -8,6 +8,7 @@ use Rattle.promises.proofs.Spans.{no-position, its-positions, gap-range}
 use Rattle.ranges.proofs.Gaps.{gap-refused, gap-passes, gap-nothing}
 use Rattle.promises.proofs.Doors.{lent-stands}
 use Rattle.promises.proofs.Meeting.{refused-by, met, met-in, gap-says}
+use Rattle.promises.proofs.Sites.{site-readable}
 use Rattle.ranges.proofs.report.gap.Goals as goal
 use Rattle.ranges.proofs.report.gap.Goals.{Else-n-eq0}
 
@@ -16,7 +17,7 @@ some : (c : Else-n-eq0) → 1 ≤ c.args.n
 some c = omega (arith, c.if-n-eq0.false)
 
 pub returns-then-n-eq0 : goal.returns-then-n-eq0
-returns-then-n-eq0 c = refused-by (gap-says _ _ _ _ _) 9 c.requires (gap-refused _ c.if-n-eq0.true)
+returns-then-n-eq0 c = refused-by (gap-says _ _ _ _ _) 9 (site-readable c.args.site.readable) (gap-refused _ c.if-n-eq0.true)
 
 pub lowest_gap-requires-clause-stands : goal.lowest_gap-requires-clause-stands
 lowest_gap-requires-clause-stands c =
@@ -25,9 +26,9 @@ lowest_gap-requires-clause-stands c =
 pub returns-in_default : goal.returns-in_default
 returns-in_default c =
     let s = some (goal.at.returns-in_default c).Else-n-eq0 in
-    met (gap-says _ _ _ _ _) c.requires (gap-passes _ s) (ap position (gap-nothing _ s _ _ _ (no-position c.args.lower c.args.upper c.within.ensures c.in_default.is)))
+    met (gap-says _ _ _ _ _) (site-readable c.args.site.readable) (gap-passes _ s) (ap position (gap-nothing _ s _ _ _ (no-position c.args.lower c.args.upper c.within.ensures c.in_default.is)))
 
 pub returns : goal.returns
 returns c =
-    met-in (gap-says _ _ _ _ _) c.requires c.open-h.ensures (gap-passes _ (some (goal.at.returns c).Else-n-eq0))
+    met-in (gap-says _ _ _ _ _) (site-readable c.args.site.readable) c.open-h.ensures (gap-passes _ (some (goal.at.returns c).Else-n-eq0))
     (ap position (gap-range (its-positions c.args.lower c.args.upper c.within.ensures c.in-Some.is) _ _ c.lowest_gap.ensures))

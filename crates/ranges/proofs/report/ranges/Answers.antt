@@ -4,11 +4,12 @@ use mathlib.Core.Path.{refl, ap, ◌∙◌}
 use Rattle.promises.proofs.Spans.{no-position, its-positions, listed-some, listed-nothing}
 use Rattle.model.specs.Call.{listing}
 use Rattle.promises.proofs.Meeting.{met, ranges-says}
+use Rattle.promises.proofs.Sites.{site-readable}
 use Rattle.ranges.proofs.report.ranges.Goals as goal
 
 pub returns-in_default : goal.returns-in_default
 returns-in_default c =
-    met (ranges-says _ _ _ _ _) c.requires refl (ap listing (c.finished.ensures ∙ listed-nothing _ _ _ (no-position c.args.lower c.args.upper c.within.ensures c.in_default.is)))
+    met (ranges-says _ _ _ _ _) (site-readable c.args.site.readable) refl (ap listing (c.finished.ensures ∙ listed-nothing _ _ _ (no-position c.args.lower c.args.upper c.within.ensures c.in_default.is)))
 
 pub returns : goal.returns
-returns c = met (ranges-says _ _ _ _ _) c.requires refl (ap listing (listed-some (its-positions c.args.lower c.args.upper c.within.ensures c.in-Some.is) _))
+returns c = met (ranges-says _ _ _ _ _) (site-readable c.args.site.readable) refl (ap listing (listed-some (its-positions c.args.lower c.args.upper c.within.ensures c.in-Some.is) _))

@@ -4,11 +4,12 @@ use mathlib.Core.Path.{refl, ap}
 use Rattle.promises.proofs.Spans.{no-position, its-positions, select-range, select-nothing}
 use Rattle.model.specs.Call.{position}
 use Rattle.promises.proofs.Meeting.{met, met-read, select-says}
+use Rattle.promises.proofs.Sites.{site-readable}
 use Rattle.ranges.proofs.report.select.Goals as goal
 
 pub returns-in_default : goal.returns-in_default
-returns-in_default c = met (select-says _ _ _ _ _ _) c.requires refl (ap position (select-nothing _ _ _ _ (no-position c.args.lower c.args.upper c.within.ensures c.in_default.is) _))
+returns-in_default c = met (select-says _ _ _ _ _ _) (site-readable c.args.site.readable) refl (ap position (select-nothing _ _ _ _ (no-position c.args.lower c.args.upper c.within.ensures c.in_default.is) _))
 
 pub returns : goal.returns
 returns c =
-    met-read (select-says _ _ _ _ _ _) c.read_set-set.result c.requires c.read_set-set.ensures refl (ap position (select-range (its-positions c.args.lower c.args.upper c.within.ensures c.in-Some.is) _ _ _ c.select.ensures))
+    met-read (select-says _ _ _ _ _ _) c.set-set.result (site-readable c.args.site.readable) c.set-set.ensures refl (ap position (select-range (its-positions c.args.lower c.args.upper c.within.ensures c.in-Some.is) _ _ _ c.select.ensures))

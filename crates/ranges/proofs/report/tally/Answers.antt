@@ -5,15 +5,16 @@ use Rattle.model.specs.Positions.{count, run_count}
 use Rattle.promises.proofs.Spans.{no-position, its-positions, of_range, count-nothing, ranges-nothing}
 use Rattle.model.specs.Call.{tallied}
 use Rattle.promises.proofs.Meeting.{met, met-read, tally-says}
+use Rattle.promises.proofs.Sites.{site-readable}
 use Rattle.ranges.proofs.report.tally.Goals as goal
 
 pub returns-in_default : goal.returns-in_default
 returns-in_default c =
     let e = no-position c.args.lower c.args.upper c.within.ensures c.in_default.is in
-    met (tally-says _ _ _ _ _) c.requires refl (ap₂ tallied (count-nothing _ _ _ _ e) (ranges-nothing _ _ _ _ e))
+    met (tally-says _ _ _ _ _) (site-readable c.args.site.readable) refl (ap₂ tallied (count-nothing _ _ _ _ e) (ranges-nothing _ _ _ _ e))
 
 pub returns : goal.returns
 returns c =
     let W = its-positions c.args.lower c.args.upper c.within.ensures c.in-Some.is in
-    met-read (tally-says _ _ _ _ _) c.read_set-set.result c.requires c.read_set-set.ensures refl
+    met-read (tally-says _ _ _ _ _) c.set-set.result (site-readable c.args.site.readable) c.set-set.ensures refl
     (ap₂ tallied (of_range W (count _ _) c.tally.ensures.count-is) (of_range W (run_count _ _) c.tally.ensures.runs-are))

@@ -1,6 +1,7 @@
--- `tally_physical` meets its contract: the ranks of both ends differ by what is held above s, and by the runs that start there; the rest is free.
+-- `tally_physical` meets its contract: the ranks of both ends differ by what is held above the first position, and by the runs that start there; the rest is free.
 -- Assumes nothing.
 use Rattle.std.proofs.Common.{◌+◌, not, inl, inr, ap, ◌∙◌, arith}
+use Rattle.model.specs.Numbers.{worth}
 use Rattle.store.proofs.Truths.{byte-small}
 use Rattle.reports.proofs.Ranks.{starts-small, starts-ordered, more-fits, tally-more, tally-same}
 use Rattle.reports.proofs.physical.tally_physical.Goals as goal
@@ -8,7 +9,7 @@ use Rattle.reports.proofs.physical.tally_physical.Goals.{then-value, else-value}
 
 pub overflow_sub-starts : goal.overflow_sub-starts
 overflow_sub-starts c =
-    starts-ordered c.rank_at-under.ensures.in_order c.requires c.rank_at-under.ensures.ranked c.rank_at-upto.ensures.ranked
+    starts-ordered c.rank_at-under.ensures.in_order c.args.s.ordered c.rank_at-under.ensures.ranked c.rank_at-upto.ensures.ranked
 
 pub overflow_add-above : goal.overflow_add-above
 overflow_add-above c =
@@ -16,7 +17,7 @@ overflow_add-above c =
 
 pub overflow_sub-above-else-value : goal.overflow_sub-above-else-value
 overflow_sub-above-else-value c =
-    more-fits c.rank_at-under.ensures.in_order c.requires c.rank_at-under.ensures.ranked c.rank_at-upto.ensures.ranked (omega arith)
+    more-fits c.rank_at-under.ensures.in_order c.args.s.ordered c.rank_at-under.ensures.ranked c.rank_at-upto.ensures.ranked (omega arith)
 
 pub overflow_add-above-else-value : goal.overflow_add-above-else-value
 overflow_add-above-else-value c =
@@ -24,7 +25,7 @@ overflow_add-above-else-value c =
 
 pub returns-then-under-value : goal.returns-then-under-value
 returns-then-under-value c =
-    tally-more c.rank_at-under.ensures.in_order c.requires c.rank_at-under.ensures.ranked c.rank_at-upto.ensures.ranked (omega arith) c.if-under-value.true (omega (arith, c.width-count.ensures))
+    tally-more c.rank_at-under.ensures.in_order c.args.s.ordered c.rank_at-under.ensures.ranked c.rank_at-upto.ensures.ranked (omega arith) c.if-under-value.true (omega (arith, c.width-count.ensures))
     (elim c.if-value.branch [
       | then-value w ↦ inl (w.if-value.true, ap (λ x. x.0) w.above-is, ap (λ x. x.1) w.above-is ∙ ap (λ n. _ + n) w.from.ensures)
       | else-value w ↦ inr (w.if-value.false, ap (λ x. x.0) w.above-is, ap (λ x. x.1) w.above-is ∙ ap (λ n. _ + n) w.from-else-value.ensures)
@@ -32,7 +33,7 @@ returns-then-under-value c =
 
 pub returns-else-under-value : goal.returns-else-under-value
 returns-else-under-value c =
-    tally-same c.rank_at-under.ensures.in_order c.requires c.rank_at-under.ensures.ranked c.rank_at-upto.ensures.ranked (omega arith) c.if-under-value.false (omega arith)
+    tally-same c.rank_at-under.ensures.in_order c.args.s.ordered c.rank_at-under.ensures.ranked c.rank_at-upto.ensures.ranked (omega arith) c.if-under-value.false (omega (arith, ap worth c.from-count.ensures))
     (elim c.if-value.branch [
       | then-value w ↦ inl (w.if-value.true, ap (λ x. x.0) w.above-is, ap (λ x. x.1) w.above-is ∙ ap (λ n. _ + n) w.from.ensures)
       | else-value w ↦ inr (w.if-value.false, ap (λ x. x.0) w.above-is, ap (λ x. x.1) w.above-is ∙ ap (λ n. _ + n) w.from-else-value.ensures)

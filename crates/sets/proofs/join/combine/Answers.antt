@@ -4,6 +4,7 @@ use Rattle.std.proofs.Common.{ap₂}
 use Rattle.model.specs.Positions.{combined}
 use Rattle.sets.proofs.Joins.{view-rooted, read_as}
 use Rattle.promises.proofs.Overwriting.{both-none, carried, combine-says}
+use Rattle.promises.proofs.Sites.{site-readable}
 use Rattle.sets.proofs.join.combine.Goals as goal
 
 pub gathered-requires-clause-sources : goal.gathered-requires-clause-sources
@@ -12,6 +13,7 @@ gathered-requires-clause-sources c =
 
 pub returns : goal.returns
 returns c =
-    let p = read_as c.requires.readable_2 c.view-x.ensures in
-    let q = read_as c.requires.readable_3 c.view-y.ensures in
-    carried (combine-says _ _ _ _ _) c.requires.readable _ (both-none c.requires.readable_2 c.requires.readable_3) (λ x h. ap₂ (λ P Q. combined c.args.op P Q x) p q) c.gathered.result c.gathered.ensures
+    let p = read_as (site-readable c.args.a.readable) c.view-x.ensures in
+    let q = read_as (site-readable c.args.b.readable) c.view-y.ensures in
+    carried (combine-says _ _ _ _ _) c.requires _ (both-none (site-readable c.args.a.readable) (site-readable c.args.b.readable))
+    (λ x h. ap₂ (λ P Q. combined c.args.op P Q x) p q) c.gathered.result c.gathered.ensures

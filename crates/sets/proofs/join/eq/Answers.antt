@@ -6,6 +6,7 @@ use Rattle.promises.proofs.Meeting.{met}
 use Rattle.sets.proofs.Joins.{view-rooted}
 use Rattle.promises.proofs.Overwriting.{reads_none}
 use Rattle.sets.proofs.Comparing.{equal-says, same-as}
+use Rattle.promises.proofs.Sites.{site-readable}
 use Rattle.sets.proofs.join.eq.Goals as goal
 
 pub fits-requires : goal.fits-requires
@@ -13,5 +14,5 @@ fits-requires c = record { left = view-rooted c.view-x.ensures; right = view-roo
 
 pub returns : goal.returns
 returns c =
-    let p = c.requires in
-    met (equal-says _ _ _ _) p.readable (reads_none p.readable_2) (ap value (same-as p.readable_2 c.view-x.ensures c.view-y.ensures c.fits.ensures))
+    let q = site-readable c.args.b.readable in
+    met (equal-says _ _ _ _) (site-readable c.args.a.readable) (reads_none q) (ap value (same-as q c.view-x.ensures c.view-y.ensures c.fits.ensures))

@@ -3,6 +3,7 @@
 use Rattle.std.proofs.Common.{arith}
 use Rattle.sets.proofs.Joins.{view-rooted, complement-alike}
 use Rattle.promises.proofs.Overwriting.{reads_none, carried, complement-says}
+use Rattle.promises.proofs.Sites.{site-readable}
 use Rattle.sets.proofs.join.not.Goals as goal
 
 pub gathered-requires-clause-sources : goal.gathered-requires-clause-sources
@@ -10,5 +11,5 @@ gathered-requires-clause-sources c = record { left = view-rooted c.view-x.ensure
 
 pub returns : goal.returns
 returns c =
-    let p = c.requires in
-    carried (complement-says _ _ _) p.readable _ (reads_none p.readable_2) (complement-alike p.readable_2 c.view-x.ensures) c.gathered.result c.gathered.ensures
+    let p = site-readable c.args.a.readable in
+    carried (complement-says _ _ _) c.requires _ (reads_none p) (complement-alike p c.view-x.ensures) c.gathered.result c.gathered.ensures

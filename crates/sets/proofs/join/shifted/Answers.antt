@@ -10,6 +10,7 @@ use Rattle.store.proofs.Parts.{lent}
 use Rattle.promises.specs.Met.{fed_of}
 use Rattle.sets.proofs.Joins.{view-rooted, left-alike, right-alike}
 use Rattle.promises.proofs.Overwriting.{reads_none, carried, shifted-says}
+use Rattle.promises.proofs.Sites.{site-readable}
 use Rattle.sets.proofs.join.shifted.Goals as goal
 use Rattle.sets.proofs.join.shifted.Goals.{After-gathered, then-left, else-left}
 
@@ -24,22 +25,23 @@ gathered-requires-clause-sources c =
 -- what is read under the offset t.0 from t.1 to t.2 is the shifted set
 Shifted : (c : After-gathered) → ℕ × ℕ × ℕ → Type 0
 Shifted c t = (x : ℕ) → x < size
-    → combined And (held_from (lent c.args.a.now) c.view-root.result.root t.0) (mem (run t.1 t.2 ∷ [])) x
-    ≡ shift_by c.args.distance c.args.left (positions_of (fed_of c.args.a.now c.args.i)) x
+    → combined And (held_from (lent c.args.a.words.now) c.view-root.result.root t.0) (mem (run t.1 t.2 ∷ [])) x
+    ≡ shift_by c.args.distance c.args.left (positions_of (fed_of c.args.a.words.now c.args.a.world)) x
 
 pub returns : goal.returns
 unfolding Shifted
 returns c =
     let o = goal.at.returns c in
     let below = c.ranges.distance.fits in
+    let p = site-readable c.args.a.readable in
     let f : Shifted o.After-gathered c.if-left.moved =
     elim c.if-left.branch [
       | then-left w ↦
           subst (Shifted o.After-gathered) (sym w.moved-is)
-          (left-alike c.requires.readable_2 c.view-root.ensures _ _ (omega (arith, below)) _ (omega (arith, c.view-root.type_inv)) w.if-left.true refl)
+          (left-alike p c.view-root.ensures _ _ (omega (arith, below)) _ (omega (arith, c.view-root.type_inv)) w.if-left.true refl)
       | else-left w ↦
           subst (Shifted o.After-gathered) (sym w.moved-is)
-          (right-alike c.requires.readable_2 c.view-root.ensures _ _ (omega (arith, below)) ((c.view-root.result.offset + (size - c.args.distance)) % size) (omega arith)
+          (right-alike p c.view-root.ensures _ _ (omega (arith, below)) ((c.view-root.result.offset + (size - c.args.distance)) % size) (omega arith)
           w.if-left.false (omega (arith, below, c.view-root.type_inv)))
     ] in
-    carried (shifted-says _ _ _ _ _) c.requires.readable _ (reads_none c.requires.readable_2) f c.gathered.result c.gathered.ensures
+    carried (shifted-says _ _ _ _ _) c.requires _ (reads_none p) f c.gathered.result c.gathered.ensures

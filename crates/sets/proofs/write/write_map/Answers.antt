@@ -14,6 +14,7 @@ use Rattle.promises.proofs.Windows.{fitting, window-passes, bad-by}
 use Rattle.promises.proofs.Doors.{lent-stands}
 use Rattle.sets.proofs.Mapping.{lent-scannable}
 use Rattle.promises.proofs.Putting.{put-short, put-done, write-map-puts, put-no-window, short-after-window}
+use Rattle.promises.proofs.Sites.{site-readable}
 use Rattle.sets.proofs.write.write_map.Goals as goal
 use Rattle.sets.proofs.write.write_map.Goals.{After-open-h, Else-not-window_fits}
 
@@ -32,18 +33,19 @@ room o = let f = fitting _ _ ((bad-by _ _ _ o.window_fits.ensures (ap not o.if-n
 -- and the map is there, in whichever way it was written
 done : {g : _} (o : After-open-h g) {out : List ℕ}
     → let a = o.args in
-    out ≡ into_front (map_of (held_in (lent a.words.now) o.open-h.result) a.base a.n) a.out.now
-    → WritesOut (Call.write_map a.base a.n) a.words.now a.world a.out.now (Ok o.div_ceil-due.result) out
+    out ≡ into_front (map_of (held_in (lent a.site.words.now) o.open-h.result) a.base a.n) a.out.now
+    → WritesOut (Call.write_map a.base a.n) a.site.words.now a.site.world a.out.now (Ok o.div_ceil-due.result) out
 done o =
-    put-done (write-map-puts _ _ _ _ _) o.requires (sym (due o) ∙ sym (map_of-length _ _ _)) o.open-h.ensures
+    put-done (write-map-puts _ _ _ _ _) (site-readable o.args.site.readable) (sym (due o) ∙ sym (map_of-length _ _ _)) o.open-h.ensures
     (window-passes _ _ (bad-by _ _ _ o.window_fits.ensures (ap not o.if-not-window_fits.false))) o.if-out-due.false
 
 pub returns-then-not-window_fits : goal.returns-then-not-window_fits
-returns-then-not-window_fits g c = put-no-window _ _ _ _ _ c.requires (bad-by _ _ _ c.window_fits.ensures (ap not c.if-not-window_fits.true))
+returns-then-not-window_fits g c = put-no-window _ _ _ _ _ (site-readable c.args.site.readable) (bad-by _ _ _ c.window_fits.ensures (ap not c.if-not-window_fits.true))
 
 pub returns-then-out-due : goal.returns-then-out-due
 returns-then-out-due g c =
-    put-short (write-map-puts _ _ _ _ _) c.requires (omega (arith, c.div_ceil-due.ensures) ∙ sym (map_of-length _ _ _)) c.if-out-due.true (short-after-window _ _ (good (goal.at.returns-then-out-due g c).Else-not-window_fits))
+    put-short (write-map-puts _ _ _ _ _) (site-readable c.args.site.readable) (omega (arith, c.div_ceil-due.ensures) ∙ sym (map_of-length _ _ _)) c.if-out-due.true
+    (short-after-window _ _ (good (goal.at.returns-then-out-due g c).Else-not-window_fits))
 
 pub write_map-requires-clause-scannable : goal.write_map-requires-clause-scannable
 write_map-requires-clause-scannable g c = lent-scannable c.open-h.ensures

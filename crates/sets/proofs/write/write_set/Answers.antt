@@ -6,12 +6,13 @@ use Rattle.model.specs.Bytes.{encode}
 use Rattle.store.specs.Layout.{held_by}
 use Rattle.promises.proofs.Doors.{lent-stands}
 use Rattle.promises.proofs.Putting.{few-runs, set-length, put-short, put-done, write-set-puts}
+use Rattle.promises.proofs.Sites.{site-readable}
 use Rattle.sets.proofs.write.write_set.Goals as goal
 use Rattle.sets.proofs.write.write_set.Goals.{After-length_of-due}
 
 -- the bytes due are those of the world's set
 due : (c : After-length_of-due) → 5 + 16 * c.run_count-n.result
-    ≡ (let a = c.args in length (encode a.edition (held_runs (held_by a.words.now a.world))))
+    ≡ (let a = c.args in length (encode a.edition (held_runs (held_by a.site.words.now a.site.world))))
 due c = ap (λ n. 5 + 16 * n) c.run_count-n.ensures ∙ set-length c.open-h.ensures c.args.edition
 
 pub run_count-n-requires : goal.run_count-n-requires
@@ -22,7 +23,7 @@ length_of-due-requires c = omega (arith, few-runs c.open-h.ensures)
 
 pub returns-then-out-due : goal.returns-then-out-due
 returns-then-out-due c =
-    put-short (write-set-puts _ _ _ _) c.requires (c.length_of-due.ensures ∙ due (goal.at.returns-then-out-due c).After-length_of-due) c.if-out-due.true refl
+    put-short (write-set-puts _ _ _ _) (site-readable c.args.site.readable) (c.length_of-due.ensures ∙ due (goal.at.returns-then-out-due c).After-length_of-due) c.if-out-due.true refl
 
 pub write_set-requires-clause-stands : goal.write_set-requires-clause-stands
 write_set-requires-clause-stands c =
@@ -30,4 +31,4 @@ write_set-requires-clause-stands c =
 
 pub returns : goal.returns
 returns c =
-    put-done (write-set-puts _ _ _ _) c.requires (c.length_of-due.ensures ∙ due (goal.at.returns c).After-length_of-due) c.open-h.ensures refl c.if-out-due.false c.write_set.ensures
+    put-done (write-set-puts _ _ _ _) (site-readable c.args.site.readable) (c.length_of-due.ensures ∙ due (goal.at.returns c).After-length_of-due) c.open-h.ensures refl c.if-out-due.false c.write_set.ensures

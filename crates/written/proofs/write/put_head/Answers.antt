@@ -7,7 +7,7 @@ use Rattle.written.proofs.write.put_head.Goals.{After-put_count}
 
 -- the head is put
 head : (c : After-put_count) → c.put_count.new.out ≡ placed 0 (head_of c.args.edition c.args.n) c.args.out.now
-head c = head-placed c.args.edition _ _ c.args.out.now _ c.requires c.version_of.ensures c.put_count.ensures
+head c = head-placed c.args.edition _ _ c.args.out.now _ c.requires c.from.ensures c.put_count.ensures
 
 pub returns : goal.returns
 returns c = head (goal.at.returns c).After-put_count

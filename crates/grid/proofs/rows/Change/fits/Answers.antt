@@ -1,18 +1,18 @@
 -- `fits` meets its contract. The loop's invariant: `more` is the runs of the world and what the rows before row r add, `less` the limit and
 -- what they take. Assumes nothing.
 use Prim.Native.Nat.{suc, ◌+◌, ◌-◌}
-use mathlib.Core.Path.{◌≡◌, sym, ap, ap₂, ◌∙◌}
+use mathlib.Core.Path.{◌≡◌, sym, ap, ◌∙◌}
 use borrow.Author.Tests.{leb-true}
 use native.Mathlib.Omega.{arith}
 use Rattle.model.specs.Positions.{stretches}
-use Rattle.store.specs.Layout.{held, held_in}
+use Rattle.store.specs.Layout.{held_in}
 use Rattle.changes.proofs.Fitting.{limit-few, logical-few}
-use Rattle.grid.specs.Rows.{gain, loss, row_sum, row_gain, row_loss}
+use Rattle.grid.specs.Rows.{row_sum, row_gain, row_loss}
 use Rattle.grid.proofs.Cells.{sum-next, sum-none}
 use Rattle.grid.proofs.Small.{gain-few, loss-few, sum-few}
-use Rattle.grid.proofs.Leaving.{rect-far, rect-counted}
+use Rattle.grid.proofs.Leaving.{rect-far, row-adds, row-takes, rect-counted}
 use Rattle.grid.proofs.rows.Change.fits.Goals as goal
-use Rattle.grid.proofs.rows.Change.fits.Goals.{After-cells-row}
+use Rattle.grid.proofs.rows.Change.fits.Goals.{else-loop-r-test, then-loop-r-test+else-r-r-end}
 
 pub returns-then-is_far : goal.returns-then-is_far
 returns-then-is_far c =
@@ -27,19 +27,6 @@ loop-r-init c =
       omega (arith, sum-none (row_loss q c.args.self.value P) q.top),
     )
 
--- what row r adds, and what it takes
-adds : (c : After-cells-row) → gain c.args.self.value (held c.set_of-set.result) c.cells-row.result.cells.first.0 c.cells-row.result.cells.last.0
-    ≡ row_gain c.args.self.area.q c.args.self.value (held_in c.args.words.now c.args.h) c.loop-r.r
-adds c =
-    ap₂ (gain c.args.self.value (held c.set_of-set.result)) c.cells-row.ensures.0 c.cells-row.ensures.1
-    ∙ ap (λ P. row_gain c.args.self.area.q c.args.self.value P c.loop-r.r) c.set_of-set.ensures.positions
-
-takes : (c : After-cells-row) → loss c.args.self.value (held c.set_of-set.result) c.cells-row.result.cells.first.0 c.cells-row.result.cells.last.0
-    ≡ row_loss c.args.self.area.q c.args.self.value (held_in c.args.words.now c.args.h) c.loop-r.r
-takes c =
-    ap₂ (loss c.args.self.value (held c.set_of-set.result)) c.cells-row.ensures.0 c.cells-row.ensures.1
-    ∙ ap (λ P. row_loss c.args.self.area.q c.args.self.value P c.loop-r.r) c.set_of-set.ensures.positions
-
 pub overflow_add-more : goal.overflow_add-more
 overflow_add-more c =
     let q = c.args.self.area.q in
@@ -51,7 +38,7 @@ overflow_add-more c =
       c.loop-r.invariant.0,
       on.low,
       logical-few c.requires.1,
-      adds (goal.at.overflow_add-more c).After-cells-row,
+      row-adds q c.args.self.value c.loop-r.r c.cells-row.ensures c.set_of-set.ensures.positions,
       gain-few q on P c.args.self.value c.loop-r.r,
       sum-few (row_gain q c.args.self.value P) q.top (c.loop-r.r - q.top) (λ r. omega (arith, gain-few q on P c.args.self.value r)),
     )
@@ -67,7 +54,7 @@ overflow_add-less c =
       c.loop-r.invariant.1,
       on.low,
       limit-few c.requires.1,
-      takes (goal.at.overflow_add-less c).After-cells-row,
+      row-takes q c.args.self.value c.loop-r.r c.cells-row.ensures c.set_of-set.ensures.positions,
       loss-few q on P c.args.self.value c.loop-r.r,
       sum-few (row_loss q c.args.self.value P) q.top (c.loop-r.r - q.top) (loss-few q on P c.args.self.value),
     )
@@ -79,13 +66,13 @@ loop-r-preserved c =
       omega (
         arith,
         c.loop-r.invariant.0,
-        adds (goal.at.loop-r-preserved c).After-cells-row,
+        row-adds q c.args.self.value c.loop-r.r c.cells-row.ensures c.set_of-set.ensures.positions,
         sum-next (row_gain q c.args.self.value P) q.top c.loop-r.r c.loop-r.auto.r,
       ),
       omega (
         arith,
         c.loop-r.invariant.1,
-        takes (goal.at.loop-r-preserved c).After-cells-row,
+        row-takes q c.args.self.value c.loop-r.r c.cells-row.ensures c.set_of-set.ensures.positions,
         sum-next (row_loss q c.args.self.value P) q.top c.loop-r.r c.loop-r.auto.r,
       ),
     )
@@ -93,8 +80,29 @@ loop-r-preserved c =
 pub returns : goal.returns
 returns c =
     let s = c.args.self in
+    let q = s.area.q in
     let P = held_in c.args.words.now c.args.h in
-    let e : c.loop-r.r - s.area.q.top ≡ suc s.area.q.bottom - s.area.q.top = omega (arith, c.loop-r.auto.r-end, c.loop-r-test.false, s.area.on_plane.rows) in
-    rect-counted s.area.q s.value P s.limit s.area.on_plane s.narrow
-    (c.loop-r.invariant.0 ∙ ap (λ m. stretches P + row_sum (row_gain s.area.q s.value P) s.area.q.top m) e)
-    (c.loop-r.invariant.1 ∙ ap (λ m. s.limit + row_sum (row_loss s.area.q s.value P) s.area.q.top m) e)
+    elim c.loop-r-test.branch [
+      | else-loop-r-test w ↦ absurd (omega (arith, c.loop-r.auto.r-end, w.loop-r-test.false, s.area.on_plane.rows))
+      | then-loop-r-test+else-r-r-end w ↦
+          let e : c.loop-r.r + 1 - q.top ≡ suc q.bottom - q.top = omega (arith, w.loop-r-test.true) in
+          rect-counted q s.value P s.limit s.area.on_plane s.narrow
+          (omega (
+            arith,
+            w.more-is,
+            w.gain-more.ensures,
+            c.loop-r.invariant.0,
+            row-adds q s.value c.loop-r.r w.cells-row.ensures c.set_of-set.ensures.positions,
+            sum-next (row_gain q s.value P) q.top c.loop-r.r c.loop-r.auto.r,
+            ap (row_sum (row_gain q s.value P) q.top) e,
+          ))
+          (omega (
+            arith,
+            w.less-is,
+            w.loss-less.ensures,
+            c.loop-r.invariant.1,
+            row-takes q s.value c.loop-r.r w.cells-row.ensures c.set_of-set.ensures.positions,
+            sum-next (row_loss q s.value P) q.top c.loop-r.r c.loop-r.auto.r,
+            ap (row_sum (row_loss q s.value P) q.top) e,
+          ))
+    ]

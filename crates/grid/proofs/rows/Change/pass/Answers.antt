@@ -5,15 +5,24 @@ use native.Mathlib.Omega.{arith}
 use Rattle.grid.specs.Rows.{Passes}
 use Rattle.grid.proofs.Passing.{passed_none, passed-next}
 use Rattle.grid.proofs.rows.Change.pass.Goals as goal
+use Rattle.grid.proofs.rows.Change.pass.Goals.{After-set_row-k}
 
 pub loop-r-init : goal.loop-r-init
 loop-r-init c = passed_none c.args.self.area.q c.args.self.value
 
-pub loop-r-preserved : goal.loop-r-preserved
-loop-r-preserved c =
+-- row r is passed too
+next : (c : After-set_row-k) → Passes c.args.words.now c.set_row-k.new.words c.args.h c.set_row-k.result c.args.self.limit c.args.self.area.q c.args.self.value (c.loop-r.r + 1)
+next c =
     passed-next c.args.self.area.on_plane c.args.self.narrow c.loop-r.auto.r (omega (arith, c.loop-r-test.true)) c.cells.ensures c.loop-r.invariant c.set_row-k.ensures
 
+pub loop-r-preserved : goal.loop-r-preserved
+loop-r-preserved c = next (goal.at.loop-r-preserved c).After-set_row-k
+
 pub returns : goal.returns
-returns c =
-    let e : c.loop-r.r ≡ c.args.self.area.q.bottom + 1 = omega (arith, c.loop-r.auto.r-end, c.loop-r-test.false, c.args.self.area.on_plane.rows) in
-    subst (Passes c.args.words.now c.loop-r.words c.args.h c.loop-r.k c.args.self.limit c.args.self.area.q c.args.self.value) e c.loop-r.invariant
+returns c = absurd (omega (arith, c.loop-r.auto.r-end, c.loop-r-test.false, c.args.self.area.on_plane.rows))
+
+pub returns-2 : goal.returns-2
+returns-2 c =
+    let e : c.loop-r.r + 1 ≡ c.args.self.area.q.bottom + 1 = omega (arith, c.loop-r-test.true) in
+    subst (Passes c.args.words.now c.set_row-k.new.words c.args.h c.set_row-k.result c.args.self.limit c.args.self.area.q c.args.self.value) e
+    (next (goal.at.returns-2 c).After-set_row-k)

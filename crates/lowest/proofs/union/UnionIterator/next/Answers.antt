@@ -3,7 +3,7 @@ use Rattle.std.proofs.Common.{◌≡◌, ◌+◌, ◌<◌, ◌≤◌, min, max, 
 use Rattle.model.specs.declared.Run.{Run}
 use Rattle.lowest.specs.Entries.{entry}
 use Rattle.lowest.specs.Groups.{alone}
-use Rattle.lowest.specs.Windows.{Rises, Goes}
+use Rattle.lowest.specs.Bands.{Rises, Goes}
 use Rattle.lowest.proofs.Steps.{next-below, next-first, next-joins, next-begins, next-front, last-draws}
 use Rattle.lowest.specs.Joins.{pending}
 use Rattle.lowest.proofs.Iterated.{pending-on, pending-less, pending_last, union-goes}
@@ -104,15 +104,16 @@ spent g c = subst (λ l. Goes (g.L.RunList.runs l) c.loop-place.self.places None
 pub returns-clause-steps : goal.returns-clause-steps
 returns-clause-steps g c =
     let i = c.loop-place.invariant in
+    let n = spent g (goal.at.returns-clause-steps g c).After-take in
     let es = g.L.RunList.runs c.args.self.now.places.list in (
       c.in_default.ensures.0 ∙ i.list,
-      rw (c.take.ensures.value, c.take.ensures.after) (last-draws es c.args.self.now c.loop-place.self c.next.new.self i.goes (spent g c) c.loop-place.self.last refl),
+      rw c.take.ensures.after (last-draws es c.args.self.now c.loop-place.self c.next.new.self i.goes n c.take.result (sym c.take.ensures.value)),
     )
 
 pub returns-clause-goes : goal.returns-clause-goes
 returns-clause-goes g c =
     let i = c.loop-place.invariant in
     let k = i.goes c.requires.0 c.requires.1 in
-    let z = spent g c k.places k.rises in
-    let l = pending_last c.loop-place.self c.next.new.self z.1 z.2 (pending c.args.self.now) i.less c.loop-place.self.last refl in
-    union-goes g.L.RunList.runs _ _ _ c.requires (returns-clause-steps g c) (rw (c.take.ensures.value, c.take.ensures.after) l)
+    let z = spent g (goal.at.returns-clause-goes g c).After-take k.places k.rises in
+    let l = pending_last c.loop-place.self c.next.new.self z.1 z.2 (pending c.args.self.now) i.less c.take.result (sym c.take.ensures.value) in
+    union-goes g.L.RunList.runs _ _ _ c.requires (returns-clause-steps g c) (rw c.take.ensures.after l)

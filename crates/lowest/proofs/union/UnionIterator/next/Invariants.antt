@@ -2,7 +2,7 @@
 -- Assumes nothing.
 use Rattle.std.proofs.Common.{◌≡◌, ◌≤◌, List}
 use Rattle.lowest.specs.declared.Group.{Group}
-use Rattle.lowest.specs.Windows.{ahead}
+use Rattle.lowest.specs.Bands.{ahead}
 use Rattle.lowest.specs.Joins.{Joining, pending}
 use Rattle.lowest.proofs.union.UnionIterator.next.Given as goal
 
