@@ -1,9 +1,10 @@
 -- Looking at the pools and worlds that a call names: what the model's conditions of them then refuse. The first refusal of several worlds is the
 -- earliest of what each earns, as 1, 7 and 12 are in the order of their numbers. What they refuse, a call is refused by. Assumes nothing.
-use Rattle.std.specs.Prelude.{Option, None, Some, Ok, Err}
+use Rattle.std.specs.Prelude.{Option, None, Some, Ok, Err, IfOk, if◌then◌else◌}
+use Rattle.std.specs.Option.{ok_or}
 use Rattle.model.specs.Answers.{OrRefusal}
 use Rattle.std.specs.Prelude.{◌≡◌, ℕ, zero, suc, ◌<◌, ◌≤◌, Bool, true, false, cond, not, ◌||◌, eqb, List, [], ◌∷◌, ◌++◌}
-use mathlib.Core.Path.{refl, sym, ap, ap₂, ◌∙◌, subst₂}
+use mathlib.Core.Path.{refl, sym, ap, ap₂, ◌∙◌, subst, subst₂}
 use mathlib.Core.Logic.{inl, inr}
 use native.Mathlib.Omega.{arith}
 use borrow.Author.Tests.{eqb-false, eq-eqb, ne_eqb}
@@ -33,7 +34,7 @@ use Rattle.model.specs.Model.{positions_of, reads}
 use Rattle.model.specs.Pools.{world_of, fed_by}
 use Rattle.store.specs.Layout.{capacity, opened_at, worlds_of}
 use Rattle.store.specs.Soundness.{Sound}
-use Rattle.soundness.specs.Decision.{sound_b}
+use Rattle.soundness.specs.Decision.{sound_b, worn, checked}
 use Rattle.soundness.proofs.Whole.{sound_b-yes}
 use Rattle.promises.specs.Met.{Site, pool_reads, fed_of, full_at, Readable, Met}
 use Rattle.promises.proofs.Refusing.{looked-first, reads_first}
@@ -53,7 +54,7 @@ positive (suc n) ne = omega arith
 -- ---- a pool
 module _ (w : List ℕ) where
   -- words of no pool's length
-  pub pool-short : capacity w ≡ 0 → LookedPool w (Err StoreLength)
+  pub pool-short : capacity w ≡ 0 → LookedPool {T = ℕ} w (Err StoreLength)
   pool-short e = sym (ap (λ z. first_given looks (store_length when z ∷ store_unsound when not (sound_b w) ∷ [])) (eq-eqb (capacity w) 0 e))
 
   -- others, by the test of soundness
@@ -61,11 +62,20 @@ module _ (w : List ℕ) where
   pool-by t h e =
       ap₂ (λ z s. first_given looks (store_length when z ∷ store_unsound when not s ∷ [])) (ne_eqb (capacity w) 0 (λ z. omega arith)) e
 
-  pub pool-unsound : 1 ≤ capacity w → sound_b w ≡ false → LookedPool w (Err Unsound)
+  pub pool-unsound : 1 ≤ capacity w → sound_b w ≡ false → LookedPool {T = ℕ} w (Err Unsound)
   pool-unsound h e = sym (pool-by false h e)
 
-  pub pool-sound : 1 ≤ capacity w → sound_b w ≡ true → LookedPool w (Ok tt)
-  pool-sound h e = sym (pool-by true h e)
+  pub pool-sound : (n : ℕ) → 1 ≤ capacity w → sound_b w ≡ true → LookedPool w (Ok n)
+  pool-sound n h e = sym (pool-by true h e)
+
+  -- so what the check tells is handed on, of an unsound pool the refusal
+  pub pool-checked : (l : OrRefusal ℕ) → 1 ≤ capacity w → l ≡ ok_or (checked w) Unsound → LookedPool w l × IfOk l (λ n. n ≡ worn w)
+  unfolding checked
+  pool-checked l h e = go (sound_b w) refl e
+    where
+      go : (t : Bool) → sound_b w ≡ t → l ≡ ok_or (if t then Some (worn w) else None) Unsound → LookedPool w l × IfOk l (λ n. n ≡ worn w)
+      go true p q = subst (λ x. LookedPool w x × IfOk x (λ n. n ≡ worn w)) (sym q) (pool-sound (worn w) h p, refl)
+      go false p q = subst (λ x. LookedPool w x × IfOk x (λ n. n ≡ worn w)) (sym q) (pool-unsound h p, tt)
 
   -- where nothing is refused the pool is sound
   pub pool-told : first_given looks (pool_reads w) ≡ None → Sound w
@@ -89,11 +99,11 @@ module _ (w : List ℕ) where
         go false true f = absurd (some-not (sym f))
 
     -- beside that, only whether the world was opened
-    pub world-unopened : Sound w → opened_at w ≤ i → Looked {T = Unit {0}} w i (Err WorldUnopened)
+    pub world-unopened : Sound w → opened_at w ≤ i → Looked {T = ℕ} w i (Err WorldUnopened)
     world-unopened S h = sym (ap (λ f. first_given looks (reads f)) (fed-unopened w i S h))
 
-    pub world-sound : Sound w → i < opened_at w → Looked {T = Unit {0}} w i (Ok tt)
-    world-sound S h = sym (ap (λ f. first_given looks (reads f)) (readable (record { sound = S; named = h })).fed)
+    pub world-sound : (n : ℕ) → Sound w → i < opened_at w → Looked w i (Ok n)
+    world-sound n S h = sym (ap (λ f. first_given looks (reads f)) (readable (record { sound = S; named = h })).fed)
 
     -- where nothing is refused the world is readable
     world-told : first_given looks (reads (fed_of w i)) ≡ None → Readable w i
@@ -110,16 +120,16 @@ module _ (w : List ℕ) where
         go (Some n) f = absurd (some-not (sym (pool-first f) ∙ e))
 
 -- what looking told, by what it answered
-pub pool-refused : (w : List ℕ) {r : Refusal} (l : OrRefusal Unit) → LookedPool w l → l ≡ Err r → first_given looks (pool_reads w) ≡ Some (refusal_number r)
+pub pool-refused : (w : List ℕ) {r : Refusal} (l : OrRefusal ℕ) → LookedPool w l → l ≡ Err r → first_given looks (pool_reads w) ≡ Some (refusal_number r)
 pool-refused w l k e = sym k ∙ ap look_number e
 
-pub pool-readable : {w : List ℕ} (l : OrRefusal Unit) → LookedPool w l → l ≡ (Ok tt) → Sound w
+pub pool-readable : {w : List ℕ} {n : ℕ} (l : OrRefusal ℕ) → LookedPool w l → l ≡ Ok n → Sound w
 pool-readable {w} l k e = pool-told w (sym k ∙ ap look_number e)
 
 pub looked-refused : {T : Type 0} (w : List ℕ) (i : ℕ) {r : Refusal} (l : OrRefusal T) → Looked w i l → l ≡ Err r → first_given looks (reads (fed_of w i)) ≡ Some (refusal_number r)
 looked-refused w i l k e = sym k ∙ ap look_number e
 
-pub looked-sound : {w : List ℕ} {i : ℕ} (l : OrRefusal Unit) → Looked w i l → l ≡ (Ok tt) → Readable w i
+pub looked-sound : {w : List ℕ} {i n : ℕ} (l : OrRefusal ℕ) → Looked w i l → l ≡ Ok n → Readable w i
 looked-sound {w} {i} l k e = world-told w i (sym k ∙ ap look_number e)
 
 -- ---- several worlds
@@ -158,11 +168,16 @@ earliest-none None p e = (refl, e)
 earliest-none (Some m) None e = absurd (some-not e)
 earliest-none (Some m) (Some n) e = absurd (some-not e)
 
+-- how worn the first pool is
+pub first-worn : (k : ℕ) (x r : OrRefusal ℕ) → IfOk r (λ n. x ≡ Ok n) → IfOk x (λ n. n ≡ k) → IfOk r (λ n. n ≡ k)
+first-worn k x (Ok n) e h = subst (λ l. IfOk l (λ m. m ≡ k)) e h
+first-worn k x (Err s) e h = tt
+
 -- what two looks tell together
-pub two-told : (v : List ℕ) (i : ℕ) (w : List ℕ) (j : ℕ) (x y r : OrRefusal Unit) → Looked v i x → Looked w j y → look_number r ≡ earliest (look_number x) (look_number y) → LookedTwo v i w j r
+pub two-told : (v : List ℕ) (i : ℕ) (w : List ℕ) (j : ℕ) (x y r : OrRefusal ℕ) → Looked v i x → Looked w j y → look_number r ≡ earliest (look_number x) (look_number y) → LookedTwo v i w j r
 two-told v i w j x y r k l e = e ∙ ap₂ earliest k l ∙ sym (earliest-reads (fed_of v i) (reads (fed_of w j)) refl)
 
-pub three-told : (u : List ℕ) (i : ℕ) (v : List ℕ) (j : ℕ) (w : List ℕ) (k : ℕ) (x y r : OrRefusal Unit) → Looked u i x → LookedTwo v j w k y
+pub three-told : (u : List ℕ) (i : ℕ) (v : List ℕ) (j : ℕ) (w : List ℕ) (k : ℕ) (x y r : OrRefusal ℕ) → Looked u i x → LookedTwo v j w k y
     → look_number r ≡ earliest (look_number x) (look_number y) → LookedThree u i v j w k r
 three-told u i v j w k x y r p q e = e ∙ ap₂ earliest p q ∙ sym (earliest-reads (fed_of u i) (reads (fed_of v j) ++ reads (fed_of w k)) refl)
 
@@ -172,10 +187,10 @@ two_none v i w j e =
     let n = earliest-none (first_given looks (reads (fed_of v i))) (first_given looks (reads (fed_of w j))) (sym (earliest-reads (fed_of v i) (reads (fed_of w j)) refl) ∙ e) in
     (world-told v i n.0, world-told w j n.1)
 
-pub two-readable : {v w : List ℕ} {i j : ℕ} (l : OrRefusal Unit) → LookedTwo v i w j l → l ≡ (Ok tt) → Readable v i × Readable w j
+pub two-readable : {v w : List ℕ} {i j n : ℕ} (l : OrRefusal ℕ) → LookedTwo v i w j l → l ≡ Ok n → Readable v i × Readable w j
 two-readable {v} {w} {i} {j} l k e = two_none v i w j (sym k ∙ ap look_number e)
 
-pub three-readable : {u v w : List ℕ} {i j k : ℕ} (l : OrRefusal Unit) → LookedThree u i v j w k l → l ≡ (Ok tt) → Readable u i × Readable v j × Readable w k
+pub three-readable : {u v w : List ℕ} {i j k n : ℕ} (l : OrRefusal ℕ) → LookedThree u i v j w k l → l ≡ Ok n → Readable u i × Readable v j × Readable w k
 three-readable {u} {v} {w} {i} {j} {k} l p e =
     let rest : List Condition = reads (fed_of v j) ++ reads (fed_of w k) in
     let n = earliest-none (first_given looks (reads (fed_of u i))) (first_given looks rest) (sym (earliest-reads (fed_of u i) rest refl) ∙ (sym p ∙ ap look_number e)) in
@@ -193,12 +208,12 @@ pub answered-there : {v w : List ℕ} {i j : ℕ} {c : Call Site} {a : Answer} �
 answered-there {c = c} {a} e m = subst₂ (λ u k. Met u k c a u) e.0 e.1 m
 
 -- so is one that changes its world
-pub sent-away : {w : List ℕ} {i : ℕ} {c : Call Site} {cs : List Condition} {Q : Positions → Positions} {A : Positions → Result} {r : Refusal} → Changes w i c cs Q A → (l : OrRefusal Unit)
+pub sent-away : {w : List ℕ} {i : ℕ} {c : Call Site} {cs : List Condition} {Q : Positions → Positions} {A : Positions → Result} {r : Refusal} → Changes w i c cs Q A → (l : OrRefusal ℕ)
     → Looked w i l → l ≡ Err r → first_given looks cs ≡ None → Met w i c (refused (refusal_number r)) w
 sent-away {w} {i} {cs = cs} {Q} says l k e quiet =
     refused-due says (reads_first (fed_of w i) (Refusals.capacity when too_many (full_at w i) (Q (positions_of (fed_of w i))) ∷ cs) quiet (looked-refused w i l k e)) refl
 
-module _ {w : List ℕ} {i : ℕ} (v : List ℕ) (j : ℕ) {c : Call Site} {r : Refusal} (l : OrRefusal Unit) (k : LookedTwo w i v j l) (e : l ≡ Err r) where
+module _ {w : List ℕ} {i : ℕ} (v : List ℕ) (j : ℕ) {c : Call Site} {r : Refusal} (l : OrRefusal ℕ) (k : LookedTwo w i v j l) (e : l ≡ Err r) where
   -- one that reports of two worlds
   pub both-turned : {A : Positions → Result} → Reports w i c (reads (fed_of v j)) A → Met w i c (refused (refusal_number r)) w
   both-turned says = refused-both says (looked-first (reads (fed_of w i) ++ reads (fed_of v j)) (sym k ∙ ap look_number e))
@@ -210,7 +225,7 @@ module _ {w : List ℕ} {i : ℕ} (v : List ℕ) (j : ℕ) {c : Call Site} {r : 
 
 -- one that makes a world of two
 pub all-sent : {w : List ℕ} {i : ℕ} (u : List ℕ) (j : ℕ) (v : List ℕ) (k : ℕ) {c : Call Site} {Q : Positions → Positions} {A : Positions → Result} {r : Refusal}
-    → Changes w i c (reads (fed_of u j) ++ reads (fed_of v k)) Q A → (l : OrRefusal Unit) → LookedThree w i u j v k l → l ≡ Err r → Met w i c (refused (refusal_number r)) w
+    → Changes w i c (reads (fed_of u j) ++ reads (fed_of v k)) Q A → (l : OrRefusal ℕ) → LookedThree w i u j v k l → l ≡ Err r → Met w i c (refused (refusal_number r)) w
 all-sent {w} {i} u j v k {Q = Q} says l p e =
     refused-due says (looked-first (reads (fed_of w i) ++ Refusals.capacity when too_many (full_at w i) (Q (positions_of (fed_of w i))) ∷ (reads (fed_of u j) ++ reads (fed_of v k)))
     (sym p ∙ ap look_number e)) refl

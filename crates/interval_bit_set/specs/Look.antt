@@ -19,15 +19,15 @@ earliest (Some m) None = Some m
 earliest (Some m) (Some n) = Some (min m n)
 
 -- the first refusal of a look that the conditions of the pool give, if there is one
-abbrev pub LookedPool : List ℕ → OrRefusal Unit → Type 0
+abbrev pub LookedPool : {T : Type 0} → List ℕ → OrRefusal T → Type 0
 LookedPool w l = look_number l ≡ first_given looks (pool_reads w)
 
 -- and that those of the worlds named give
 abbrev pub Looked : {T : Type 0} → List ℕ → ℕ → OrRefusal T → Type 0
 Looked w i l = look_number l ≡ first_given looks (reads (fed_of w i))
 
-abbrev pub LookedTwo : List ℕ → ℕ → List ℕ → ℕ → OrRefusal Unit → Type 0
+abbrev pub LookedTwo : {T : Type 0} → List ℕ → ℕ → List ℕ → ℕ → OrRefusal T → Type 0
 LookedTwo v i w j l = look_number l ≡ first_given looks (reads (fed_of v i) ++ reads (fed_of w j))
 
-abbrev pub LookedThree : List ℕ → ℕ → List ℕ → ℕ → List ℕ → ℕ → OrRefusal Unit → Type 0
+abbrev pub LookedThree : {T : Type 0} → List ℕ → ℕ → List ℕ → ℕ → List ℕ → ℕ → OrRefusal T → Type 0
 LookedThree u i v j w k l = look_number l ≡ first_given looks (reads (fed_of u i) ++ (reads (fed_of v j) ++ reads (fed_of w k)))

@@ -17,8 +17,9 @@ use written::runs::Words;
 pub fn load(words: &mut [u64], world: u64, bytes: &[u8]) -> Result<(), Refusal>
     ensures { Met words.old world (Call.load bytes.now) (completed_answer result) words.new }
 {
-    crate::look::look_at(words, world)?;
-    sets::bytes::load(words, world, bytes)
+    let worn = crate::look::look_at(words, world)?;
+    let answer = sets::bytes::load(words, world, bytes);
+    tidy::after(words, worn, answer)
 }
 
 // Gives a world the union of the runs that bytes tell, in whatever order they stand, touching and overlapping; writes it as a set into the front of
@@ -33,16 +34,18 @@ pub fn mend(
     ensures { Mends words.old world bytes.now out.old report.old result
         words.new out.new report.new }
 {
-    crate::look::look_at(words, world)?;
-    sets::mend::mend(words, world, bytes, out, report)
+    let worn = crate::look::look_at(words, world)?;
+    let answer = sets::mend::mend(words, world, bytes, out, report);
+    tidy::after(words, worn, answer)
 }
 
 // Gives a world the set of a run list, given as words: start and end of each run, in turn. A last word without its end is no run.
 pub fn from_sorted_words(words: &mut [u64], world: u64, runs: &[u64]) -> Result<(), Refusal>
     ensures { Met words.old world (Call.build (pairs (length runs.now / 2) runs.now)) (completed_answer result) words.new }
 {
-    crate::look::look_at(words, world)?;
-    sets::bytes::build(words, world, Words(runs))
+    let worn = crate::look::look_at(words, world)?;
+    let answer = sets::bytes::build(words, world, Words(runs));
+    tidy::after(words, worn, answer)
 }
 
 // Sets a window from a map, leaves the other positions, and returns how many changed. Eight bytes of the map are read as a word.
@@ -55,8 +58,9 @@ pub fn read_map(
 ) -> Result<Count, Refusal>
     ensures { Met words.old world (Call.read_map base n bytes.now) (counted_answer result) words.new }
 {
-    crate::look::look_at(words, world)?;
-    sets::bytes::read_map::<true>(words, world, base, n, bytes)
+    let worn = crate::look::look_at(words, world)?;
+    let answer = sets::bytes::read_map::<true>(words, world, base, n, bytes);
+    tidy::after(words, worn, answer)
 }
 
 // The same by single bytes: the plain form, which the other is proved to agree with.
@@ -69,8 +73,9 @@ pub fn read_map_by_bytes(
 ) -> Result<Count, Refusal>
     ensures { Met words.old world (Call.read_map base n bytes.now) (counted_answer result) words.new }
 {
-    crate::look::look_at(words, world)?;
-    sets::bytes::read_map::<false>(words, world, base, n, bytes)
+    let worn = crate::look::look_at(words, world)?;
+    let answer = sets::bytes::read_map::<false>(words, world, base, n, bytes);
+    tidy::after(words, worn, answer)
 }
 
 // Zeroes the spare bits of a window's map, and returns how many were one. It takes no pool, so there is none to look at.

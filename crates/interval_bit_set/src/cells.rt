@@ -10,8 +10,9 @@ use model::{Count, Rect, Refusal};
 pub fn set_rect(words: &mut [u64], world: u64, q: Rect, value: bool) -> Result<Count, Refusal>
     ensures { Met words.old world (Call.set_rect q value) (counted_answer result) words.new }
 {
-    crate::look::look_at(words, world)?;
-    ranges::cells::set_rect(words, world, q, value)
+    let worn = crate::look::look_at(words, world)?;
+    let answer = ranges::cells::set_rect(words, world, q, value);
+    tidy::after(words, worn, answer)
 }
 
 // How many cells of a rectangle are held.

@@ -15,24 +15,27 @@ pub fn set(
 ) -> Result<Count, Refusal>
     ensures { Met words.old world (Call.set lower upper value) (counted_answer result) words.new }
 {
-    crate::look::look_at(words, world)?;
-    ranges::change::set(words, world, lower, upper, value)
+    let worn = crate::look::look_at(words, world)?;
+    let answer = ranges::change::set(words, world, lower, upper, value);
+    tidy::after(words, worn, answer)
 }
 
 // Inverts a range.
 pub fn flip(words: &mut [u64], world: u64, lower: Bound, upper: Bound) -> Result<(), Refusal>
     ensures { Met words.old world (Call.flip lower upper) (completed_answer result) words.new }
 {
-    crate::look::look_at(words, world)?;
-    ranges::change::flip(words, world, lower, upper)
+    let worn = crate::look::look_at(words, world)?;
+    let answer = ranges::change::flip(words, world, lower, upper);
+    tidy::after(words, worn, answer)
 }
 
 // Moves every position by the distance, up (left) or down; what leaves 0..=M is dropped.
 pub fn shift(words: &mut [u64], world: u64, distance: u64, left: bool) -> Result<(), Refusal>
     ensures { Met words.old world (Call.shift distance left) (completed_answer result) words.new }
 {
-    crate::look::look_at(words, world)?;
-    ranges::change::shift(words, world, distance, left)
+    let worn = crate::look::look_at(words, world)?;
+    let answer = ranges::change::shift(words, world, distance, left);
+    tidy::after(words, worn, answer)
 }
 
 // Gives a range the value as `set` does, and refuses a reversed one.
@@ -45,14 +48,16 @@ pub fn set_strict(
 ) -> Result<Count, Refusal>
     ensures { Met words.old world (Call.set_strict lower upper value) (counted_answer result) words.new }
 {
-    crate::look::look_at(words, world)?;
-    ranges::change::set_strict(words, world, lower, upper, value)
+    let worn = crate::look::look_at(words, world)?;
+    let answer = ranges::change::set_strict(words, world, lower, upper, value);
+    tidy::after(words, worn, answer)
 }
 
 // Inverts a range as `flip` does, and refuses a reversed one.
 pub fn flip_strict(words: &mut [u64], world: u64, lower: Bound, upper: Bound) -> Result<(), Refusal>
     ensures { Met words.old world (Call.flip_strict lower upper) (completed_answer result) words.new }
 {
-    crate::look::look_at(words, world)?;
-    ranges::change::flip_strict(words, world, lower, upper)
+    let worn = crate::look::look_at(words, world)?;
+    let answer = ranges::change::flip_strict(words, world, lower, upper);
+    tidy::after(words, worn, answer)
 }

@@ -19,18 +19,20 @@ pub fn combine(
 ) -> Result<(), Refusal>
     ensures { Met words.old world (Call.combine op (site a.now i) (site b.now j)) (completed_answer result) words.new }
 {
-    crate::look::look_at_three(words, world, a, i, b, j)?;
+    let worn = crate::look::look_at_three(words, world, a, i, b, j)?;
     let x = Site { words: a, world: i };
     let y = Site { words: b, world: j };
-    sets::join::combine(words, world, op, x, y)
+    let answer = sets::join::combine(words, world, op, x, y);
+    tidy::after(words, worn, answer)
 }
 
 // The complement over 0..=M: what is in just one of the set and all positions.
 pub fn not(words: &mut [u64], world: u64, a: &[u64], i: u64) -> Result<(), Refusal>
     ensures { Met words.old world (Call.complement (site a.now i)) (completed_answer result) words.new }
 {
-    crate::look::look_at_two(words, world, a, i)?;
-    sets::join::not(words, world, Site { words: a, world: i })
+    let worn = crate::look::look_at_two(words, world, a, i)?;
+    let answer = sets::join::not(words, world, Site { words: a, world: i });
+    tidy::after(words, worn, answer)
 }
 
 // The set moved by the distance, up (left) or down: read under another offset, and what would come in from the other end cut off.
@@ -44,8 +46,9 @@ pub fn shifted(
 ) -> Result<(), Refusal>
     ensures { Met words.old world (Call.shifted distance left (site a.now i)) (completed_answer result) words.new }
 {
-    crate::look::look_at_two(words, world, a, i)?;
-    sets::join::shifted(words, world, distance, left, Site { words: a, world: i })
+    let worn = crate::look::look_at_two(words, world, a, i)?;
+    let answer = sets::join::shifted(words, world, distance, left, Site { words: a, world: i });
+    tidy::after(words, worn, answer)
 }
 
 // Whether two worlds hold the same positions: none is in just one of them.

@@ -10,6 +10,7 @@ use model::{Refusal, Run};
 pub fn from_sorted_runs(words: &mut [u64], world: u64, runs: &[Run]) -> Result<(), Refusal>
     ensures { Met words.old world (Call.build runs.now) (completed_answer result) words.new }
 {
-    crate::look::look_at(words, world)?;
-    sets::bytes::build(words, world, runs)
+    let worn = crate::look::look_at(words, world)?;
+    let answer = sets::bytes::build(words, world, runs);
+    tidy::after(words, worn, answer)
 }

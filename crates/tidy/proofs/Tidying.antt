@@ -1,11 +1,13 @@
 -- A call that tidies after its work keeps its promise: the pool that it left has every world as it was. Assumes nothing.
+use Rattle.std.specs.Prelude.{Ok, Err, IfOk}
 use Prim.Native.Nat.{ℕ, ◌<◌}
-use mathlib.Core.Path.{◌≡◌, refl, ap, ap₂, ◌∙◌}
+use mathlib.Core.Path.{◌≡◌, refl, sym, ap, ap₂, ◌∙◌, subst}
 use mathlib.Core.List.{List}
 use native.Mathlib.Omega.{arith}
 use Rattle.model.specs.Numbers.{most_worlds}
 use Rattle.model.specs.Positions.{Positions}
 use Rattle.model.specs.Call.{Call, Result, gave}
+use Rattle.model.specs.Answers.{OrRefusal, answer_by}
 use Rattle.model.specs.Pools.{PlainWorld}
 use Rattle.store.specs.Layout.{opened_at, floor_at, ceiling_at, held_by, plain_at, worlds_from, worlds_of}
 use Rattle.store.specs.Soundness.{Sound}
@@ -13,7 +15,7 @@ use Rattle.store.specs.Free.{Pooled}
 use Rattle.store.specs.Settle.{Settled}
 use Rattle.store.proofs.WorldLists.{worlds-same}
 use Rattle.promises.specs.Met.{Site, Readable, Met}
-use Rattle.tidy.specs.Tidy.{Tidied}
+use Rattle.tidy.specs.Tidy.{Tidied, TidiedIf}
 
 -- a pool that is left as it is
 pub tidied-same : {w : List ℕ} → Sound w → Tidied w w
@@ -31,9 +33,21 @@ settled-tidied {i = i} l S t = record {
   long = t.long ∙ S.long;
 }
 
--- and so does what a call on a world promised
-pub met-tidied : {w w₁ w₂ : List ℕ} {i : ℕ} {c : Call Site} {r : Result} → Readable w i → Met w i c (gave r) w₁ → Tidied w₁ w₂ → Met w i c (gave r) w₂
-met-tidied R m t = record { answered = m.answered; left = settled-tidied R.openable.named m.left t }
+-- ---- the end of a call on a world, where f says what a T is
+module _ {T : Type 0} (f : T → Result) {w w₁ : List ℕ} {i : ℕ} {c : Call Site} where
+  -- the pool that it left may be tidied
+  pub sound-after : (r : OrRefusal T) → Met w i c (answer_by (λ x. gave (f x)) r) w₁ → IfOk r (λ x. Sound w₁)
+  sound-after (Ok x) m = m.left.sound
+  sound-after (Err e) m = tt
+
+  -- and the call is met then
+  pub met-after : {w₂ : List ℕ} (r : OrRefusal T) {r' : OrRefusal T} → Readable w i → Met w i c (answer_by (λ x. gave (f x)) r) w₁ → (r' ≡ r) × TidiedIf w₁ w₂ r
+      → Met w i c (answer_by (λ x. gave (f x)) r') w₂
+  met-after {w₂} r {r'} R m t = subst (λ s. Met w i c (answer_by (λ x. gave (f x)) s) w₂) (sym t.0) (go r m t.1)
+    where
+      go : (s : OrRefusal T) → Met w i c (answer_by (λ x. gave (f x)) s) w₁ → TidiedIf w₁ w₂ s → Met w i c (answer_by (λ x. gave (f x)) s) w₂
+      go (Ok x) m d = record { answered = m.answered; left = settled-tidied R.openable.named m.left d }
+      go (Err e) m d = record { answered = m.answered; left = d ∙ m.left }
 
 -- a pool has the same worlds then
 worlds-tidied : {w w' : List ℕ} → Tidied w w' → worlds_of w' ≡ worlds_of w

@@ -1,7 +1,8 @@
 -- The free chain in order: what threading the free nodes promises, and that a pool so tidied has every world as it was. Assumes nothing: these
 -- are definitions.
-use Rattle.std.specs.Prelude.{ℕ, zero, suc, ◌<◌, ◌≡◌, ◌⊎◌, cond, List, [], ◌∷◌, eqb, length}
+use Rattle.std.specs.Prelude.{ℕ, zero, suc, ◌<◌, ◌≡◌, ◌⊎◌, cond, List, [], ◌∷◌, eqb, length, Ok, Err}
 use Rattle.model.specs.Numbers.{most_worlds}
+use Rattle.model.specs.Answers.{OrRefusal}
 use Rattle.run_index.specs.Cells.{cell_at, Wrote}
 use Rattle.run_index.specs.Strung.{times, free_cell}
 use Rattle.store.specs.Layout.{opened_at, floor_at, ceiling_at, held_by}
@@ -31,3 +32,8 @@ pub record Tidied (w w' : List ℕ) : Type 0 where
   pub floors : (j : ℕ) → j < most_worlds → floor_at w' j ≡ floor_at w j
   pub ceilings : (j : ℕ) → j < most_worlds → ceiling_at w' j ≡ ceiling_at w j
   pub long : length w' ≡ length w
+
+-- the end of a call that answered r: a refused one leaves every word as it is, another one a pool that may be tidied
+abbrev pub TidiedIf : {T : Type 0} → List ℕ → List ℕ → OrRefusal T → Type 0
+TidiedIf w w' (Err r) = w' ≡ w
+TidiedIf w w' (Ok x) = Tidied w w'

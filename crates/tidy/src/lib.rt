@@ -4,11 +4,12 @@
 // is decided by then. No answer, no position and no written byte depends on it.
 #![tactic(auto)]
 
-ghost use Rattle.std.specs.Prelude.{◌≡◌, ◌+◌, ◌*◌, length};
+ghost use Rattle.std.specs.Prelude.{◌≡◌, ◌+◌, ◌*◌, length, IfOk};
 ghost use Rattle.run_index.specs.Cells.{Room};
 ghost use Rattle.store.specs.Soundness.{Sound};
-ghost use Rattle.tidy.specs.Tidy.{Threads, Threaded, Tidied};
+ghost use Rattle.tidy.specs.Tidy.{Threads, Threaded, Tidied, TidiedIf};
 
+use model::Refusal;
 use run_index::Node;
 use store::World;
 
@@ -57,4 +58,15 @@ pub fn tidy(words: &mut [u64], falls: u64)
     if falls > (words.len() / 256) as u64 {
         order(words);
     }
+}
+
+// The end of a call that changes a world: a worn chain is put in order, unless the call was refused.
+pub fn after<T>(words: &mut [u64], falls: u64, answer: Result<T, Refusal>) -> Result<T, Refusal>
+    requires { IfOk answer (λ x. Sound words.old) }
+    ensures { (result ≡ answer) × TidiedIf words.old words.new answer }
+{
+    if answer.is_ok() {
+        tidy(words, falls);
+    }
+    answer
 }

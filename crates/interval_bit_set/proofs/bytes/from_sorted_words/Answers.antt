@@ -4,11 +4,19 @@ use mathlib.Core.Path.{refl}
 use Rattle.promises.proofs.Passing.{met-on}
 use Rattle.interval_bit_set.proofs.Looking.{looked-sound, sent-away}
 use Rattle.promises.proofs.Overwriting.{build-says}
+use Rattle.tidy.proofs.Tidying.{sound-after, met-after}
+use Rattle.model.specs.Call.{done}
 use Rattle.interval_bit_set.proofs.bytes.from_sorted_words.Goals as goal
 
-pub build-requires : goal.build-requires
-build-requires c = looked-sound _ c.look_at.ensures c.in_ok-look_at.was
+pub build-answer-requires : goal.build-answer-requires
+build-answer-requires c = looked-sound _ c.look_at.ensures.looked c.in_ok-worn.was
 
-pub returns-in_err-look_at : goal.returns-in_err-look_at
-returns-in_err-look_at c =
-    met-on _ (sent-away (build-says _ _ _) _ c.look_at.ensures c.in_err-look_at.was refl) _ c.from_residual.ensures.1 (λ e p. p)
+pub returns-in_err-worn : goal.returns-in_err-worn
+returns-in_err-worn c =
+    met-on _ (sent-away (build-says _ _ _) _ c.look_at.ensures.looked c.in_err-worn.was refl) _ c.from_residual.ensures.1 (λ e p. p)
+
+pub after-requires : goal.after-requires
+after-requires c = sound-after (λ _. done) _ c.build-answer.ensures
+
+pub returns : goal.returns
+returns c = met-after (λ _. done) _ (looked-sound _ c.look_at.ensures.looked c.in_ok-worn.was) c.build-answer.ensures c.after.ensures

@@ -3,14 +3,22 @@
 use Rattle.promises.proofs.Passing.{met-on}
 use Rattle.interval_bit_set.proofs.Looking.{two-readable, both-sent}
 use Rattle.promises.proofs.Overwriting.{complement-says}
+use Rattle.tidy.proofs.Tidying.{sound-after, met-after}
+use Rattle.model.specs.Call.{done}
 use Rattle.interval_bit_set.proofs.join.not.Goals as goal
 
-pub not-requires : goal.not-requires
-not-requires c = (two-readable _ c.look_at_two.ensures c.in_ok-look_at_two.was).0
+pub not-answer-requires : goal.not-answer-requires
+not-answer-requires c = (two-readable _ c.look_at_two.ensures.looked c.in_ok-worn.was).0
 
 pub invariant_of-not : goal.invariant_of-not
-invariant_of-not c = record { readable = ∣ (two-readable _ c.look_at_two.ensures c.in_ok-look_at_two.was).1 ∣₁ }
+invariant_of-not c = record { readable = ∣ (two-readable _ c.look_at_two.ensures.looked c.in_ok-worn.was).1 ∣₁ }
 
-pub returns-in_err-look_at_two : goal.returns-in_err-look_at_two
-returns-in_err-look_at_two c =
-    met-on _ (both-sent _ _ _ c.look_at_two.ensures c.in_err-look_at_two.was (complement-says _ _ _)) _ c.from_residual.ensures.1 (λ e p. p)
+pub returns-in_err-worn : goal.returns-in_err-worn
+returns-in_err-worn c =
+    met-on _ (both-sent _ _ _ c.look_at_two.ensures.looked c.in_err-worn.was (complement-says _ _ _)) _ c.from_residual.ensures.1 (λ e p. p)
+
+pub after-requires : goal.after-requires
+after-requires c = sound-after (λ _. done) _ c.not-answer.ensures
+
+pub returns : goal.returns
+returns c = met-after (λ _. done) _ ((two-readable _ c.look_at_two.ensures.looked c.in_ok-worn.was).0) c.not-answer.ensures c.after.ensures
