@@ -27,7 +27,7 @@ module _ {L : Type 0} (u : Union L) (r : Places L) where
   pending-less b g e l = omega (arith, ap option_len e)
 
   -- no entry is left: none is pending
-  pub pending_last : r.window ≡ None → r.next ≡ length r.block.keys.items → (n : ℕ) → pending u ≤ n → (o : Option Group) → u.last ≡ o
+  pub pending_last : r.window ≡ None → r.next ≡ r.block.count → (n : ℕ) → pending u ≤ n → (o : Option Group) → u.last ≡ o
       → IfSome o (λ _. pending (record { places = r; last = None }) < n)
   unfolding ahead left
   pending_last w over n l None e = tt

@@ -1,7 +1,6 @@
 -- The nearest node on the path: its cell tells the first run to come, and its right side is put on the path in its place. Assumes nothing.
-use Prim.Native.Nat.{ℕ, suc, ◌+◌, ◌-◌, ◌≤◌, ◌<◌}
+use Prim.Native.Nat.{ℕ, ◌+◌, ◌-◌, ◌≤◌}
 use mathlib.Core.Path.{◌≡◌, refl, sym, ap, ap₂, ◌∙◌, subst}
-use mathlib.Core.Bool.{false}
 use mathlib.Core.List.{List, [], ◌∷◌, ◌++◌}
 use native.Mathlib.Omega.{arith}
 use lib.Dec.{eqb}
@@ -22,17 +21,6 @@ use Rattle.model.specs.Positions.{run}
 use Rattle.streams.specs.declared.source.Path.{Path}
 use Rattle.streams.specs.Reading.{Rest, none, more, OnPath, Below, Descends, Taken, starts_at_zero}
 use Rattle.streams.proofs.Dropping.{from_zero, canon-front}
-
--- with no node on the path nothing is to come
-pub rest-none : {w path : List ℕ} {rs : List Run} → Rest w path rs → path ≡ [] → rs ≡ []
-rest-none none e = refl
-rest-none (more {ks = ks} {n = n} p rep low rest) e = absurd (omega (arith, length-append ks (n ∷ []), ap length (sym p ∙ e)))
-
--- no run is to come where no node is on the path
-pub on_none : {w : List ℕ} {p : Path} {rs : List Run} → OnPath w p rs → p.nodes.items ≡ [] → (rs ≡ []) × OnPath w p []
-on_none {w} {p} h e =
-    let n = rest-none h.rest e in
-    (n, record { rest = subst (λ us. Rest w p.nodes.items us) n h.rest; ordered = tt })
 
 -- the last of a list and those before it are told by the list
 pub snoc-parts : (ks js : List ℕ) (n m : ℕ) → ks ++ n ∷ [] ≡ js ++ m ∷ [] → (ks ≡ js) × (n ≡ m)
@@ -142,14 +130,6 @@ last-of ks n e =
     ∙ ap (λ m. take (length ks - 1) ks ++ m ∷ []) (get_or_from_slice_get ks (length ks - 1) n 0 e)
 
 module _ {w : List ℕ} {p : Path} {ks : List ℕ} {n : ℕ} (is : ks ≡ p.nodes.items) (e : Some n ≡ slice_get ks (length ks - 1)) {rs : List Run} (h : OnPath w p rs) where
-  -- so it lies within the words
-  pub last-room : Room w n
-  last-room = top-room _ _ (sym is ∙ last-of ks n (sym e)) h
-
-  -- and tells whether the nearest run starts at 0
+  -- so it tells whether the nearest run starts at 0
   pub last-zero : {v : Node} → v ≡ cell_at w n → eqb v.start 0 ≡ starts_at_zero rs
   last-zero = zero-some _ _ (sym is ∙ last-of ks n (sym e)) h
-
--- where there is none it does not
-pub zero-none : {w : List ℕ} {p : Path} {rs : List Run} → OnPath w p rs → p.nodes.items ≡ [] → false ≡ starts_at_zero rs
-zero-none h e = sym (ap starts_at_zero (rest-none h.rest e))

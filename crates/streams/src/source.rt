@@ -24,8 +24,7 @@ pub struct View {
     pub offset: u64,
 }
 
-// The nodes on the way, the nearest last: an ArrayVec, since the library has no heap, and no tree is higher. It has links, since nodes lie in lent
-// words.
+// The nodes on the way, the nearest last; no tree is higher than there is room for. It has links, since nodes lie in lent words.
 #[derive(Drop)]
 pub struct Path {
     pub nodes: ArrayVec<u64, HIGHEST>,

@@ -1,5 +1,5 @@
--- `descend` meets its contract: what is to come is the same all along the walk (`Lead`), and a write to the path leaves the places before
--- it as they were. The measure is the height of the tree at hand. Assumes nothing.
+-- `descend` meets its contract: what is to come is the same all along the walk (`Lead`).
+-- The measure is the height of the tree at hand. Assumes nothing.
 use mathlib.Core.Path.{refl}
 use native.Mathlib.Omega.{arith}
 use Rattle.streams.proofs.Paths.{lead-end, lead-room, lead-deep, lead-left-falls, lead-right-falls, lead-left, lead-right}
