@@ -12,10 +12,11 @@ ghost use Rattle.streams.specs.Reading.{Descendable, Descends, OnPath, Pops, Tel
 
 use arrayvec::ArrayVec;
 use model::{Logical, Run};
+use store::Store;
 use store::places::{Physical, to_logical, to_physical};
 
 // The greatest height of a tree, and so the most nodes of a path.
-pub const HIGHEST: usize = 22;
+pub const HIGHEST: usize = Store::MAX_HEIGHT as usize;
 
 // From where a set is read: the root of its tree, and the offset.
 #[derive(Clone, Copy)]
