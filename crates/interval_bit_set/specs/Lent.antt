@@ -1,11 +1,10 @@
 -- The lent listing: what a draw that moves it answers. Assumes nothing: these are definitions.
-use Rattle.std.specs.Prelude.{Option, None, Some, Ok, Err}
+use Rattle.std.specs.Prelude.{Option, Ok, Err}
 use Rattle.model.specs.Answers.{OrRefusal, answer_by}
 use Rattle.model.specs.declared.Run.{Run}
 use Rattle.std.specs.Prelude.{◌≡◌, ℕ, Bool, List}
 use Rattle.model.specs.declared.Listing.{Listing}
-use Rattle.model.specs.Numbers.{refusal_number}
-use Rattle.model.specs.Call.{Call, Answer, refused, gave, drawn}
+use Rattle.model.specs.Call.{Call, Answer, gave, drawn}
 use Rattle.promises.specs.Met.{Site, Met}
 
 abbrev pub listing_of : ℕ → ℕ → Bool → Listing

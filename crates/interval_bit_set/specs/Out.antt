@@ -1,6 +1,4 @@
 -- What calls that write into a lent slice hand back. Assumes nothing: these are definitions.
-use Rattle.std.specs.Prelude.{Ok, Err}
-use Rattle.model.specs.Answers.{OrRefusal}
 use Rattle.std.specs.Prelude.{ℕ, List, [], take}
 use Rattle.model.specs.Call.{Result, done, number, tallied, value, around, position, listing, drawn, written, mended, Answer, refused, gave}
 

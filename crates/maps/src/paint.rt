@@ -1,7 +1,7 @@
 // Painting the map of a window: all bits are cleared, then each run of the world sets its own, a word at a time and the rest by bytes. Runs may
 // come in any order, so they are taken as their nodes lie in memory: those that have a height and the world's tag.
 // Bits and words of a map are told by their number: no slice begins at a bit, and a word lies across eight elements. The two ends of a run are no
-// struct: each function asks something else of them.
+// struct: beside their order each function asks another bound of the last one, which depends on the map and which no struct could keep.
 ghost use Rattle.std.specs.Prelude.{◌≡◌, ◌+◌, ◌-◌, ◌*◌, ◌/◌, ◌^◌, ◌<◌, ◌≤◌, length};
 ghost use Rattle.model.specs.Bytes.{map_of, map_length};
 ghost use Rattle.store.specs.Layout.{held_in};

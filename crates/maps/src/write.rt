@@ -1,6 +1,6 @@
 // Writing the map of a window: painted a word at a time, or by single bytes, those that lie in one stretch at once and the others stretch by
 // stretch.
-// Words and a world, and no `Set`: a reading needs the bound on the tree's height (`Rooted`), of which a `Set` says nothing.
+// Words and a world, and no `Set`: a reading needs the bound on the tree's height (`Rooted`), and of a `Set` contracts see its runs alone.
 ghost use Rattle.std.specs.Prelude.{◌≡◌, ◌+◌, ◌-◌, ◌*◌, ◌/◌, ◌^◌, ◌≤◌, min, length};
 ghost use Rattle.model.specs.Numbers.{size};
 ghost use Rattle.model.specs.Positions.{one_if};

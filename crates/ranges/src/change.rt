@@ -8,8 +8,8 @@ ghost use Rattle.promises.specs.Met.{Readable, Met};
 use model::{Bound, Count, Refusal};
 
 // An empty range or a reversed one changes nothing; another is set where it stands, if the runs it would leave fit.
-// `flip`, `cells::set_rect` and `sets::bytes::read_map` open, change and close as this does: one function for that would take the change as a
-// closure, and its promise in a contract that is longer than the four lines.
+// Whatever changes a world opens it, changes it and closes it, as this does: one function for that would take the change as a closure, and say in its
+// contract what any change promises of words that are lent on, which is longer than the two lines that open and close.
 pub fn set(
     words: &mut [u64],
     world: u64,

@@ -2,8 +2,8 @@
 -- set's shape, too many runs of the outcome, want of room in either slice. The outcome that was written is read again into the world.
 -- Assumes nothing.
 use Rattle.std.specs.Prelude.{Option, None, Some, Ok, Err}
-use Rattle.std.proofs.Common.{◌≡◌, ℕ, ◌+◌, ◌*◌, ◌<◌, ◌≤◌, Bool, true, false, cond, not, ◌||◌, List, [], ◌∷◌, length, get_or, take, drop, replicate, sym, refl, ap}
-use Rattle.std.proofs.Common.{◌∙◌, subst, ap₂, arith, length-append, length-drop, w8, Fits, le-ltb, lt-ltb}
+use Rattle.std.proofs.Common.{◌≡◌, ℕ, ◌+◌, ◌*◌, ◌<◌, ◌≤◌, Bool, true, false, cond, not, ◌||◌, List, [], ◌∷◌, length, take, drop, replicate, sym, refl, ap}
+use Rattle.std.proofs.Common.{◌∙◌, subst, ap₂, arith, length-append, length-drop, le-ltb, lt-ltb}
 use Rattle.model.specs.declared.Edition.{Edition}
 use Rattle.model.specs.declared.Run.{Run}
 use Rattle.model.specs.declared.Refusal.{Refusal}
@@ -11,7 +11,6 @@ use Rattle.model.specs.declared.Refusal.TheVariants.{Capacity, OutputShort}
 use Rattle.model.specs.Numbers.{size, refusal_number}
 use Rattle.model.specs.Positions.{Positions, held_runs, stretches, mem}
 use Rattle.model.specs.Bytes.{encode, edition_of, runs_told, decode, into_front}
-use Rattle.model.specs.RunList.{AllBytes}
 use Rattle.model.specs.Mending.{mended_positions, mended_set, mend_report, fates_from}
 use Rattle.model.specs.Refusals.{output_short, before_capacity, from_capacity, Condition, ◌when◌, refusal, ordered_from, shape_conditions, no_room}
 use Rattle.model.specs.Call.{Call, mended}
@@ -19,11 +18,10 @@ use Rattle.model.specs.Model.{serve, mending}
 use Rattle.model.proofs.Runs.{held_runs-canon, mem-held_runs, stretches-cong}
 use Rattle.model.proofs.Codec.{encode-length, edition_of-encode, runs_due-encode, decode-length, decode-words, canon-ordered, intact-encode}
 use Rattle.model.proofs.RoundTrips.{unrefused-intact, held-read}
-use Rattle.model.proofs.Slices.{all-bytes}
 use Rattle.store.specs.Layout.{allowance}
 use Rattle.store.specs.Settle.{Settled, Openable}
 use Rattle.store.proofs.Worlds.{allowance-is, sound-length}
-use Rattle.written.specs.Parsed.{Shaped, TellsShape, Acceptable}
+use Rattle.written.specs.Parsed.{Shaped, Acceptable}
 use Rattle.written.proofs.Telling.{shaped-runs, told-runs, accepted-stretches}
 use Rattle.lowest.specs.Mended.{Due, United}
 use Rattle.lowest.proofs.Fating.{fates-length, ordered-held, ordered-fates}

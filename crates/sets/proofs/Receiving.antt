@@ -1,36 +1,27 @@
 -- Runs that are given to a world: told by bytes or by a list they are refused where they are out of order, and else an open world receives them.
 -- Assumes nothing.
 use Rattle.std.specs.Prelude.{None, Some}
-use Rattle.std.proofs.Common.{◌≡◌, ℕ, ◌≤◌, Bool, true, false, not, List, [], ◌∷◌, length, get_or, drop, sym, refl, ap, ◌∙◌, subst, ap₂, subst₂, arith, w8, w64, Fits}
+use Rattle.std.proofs.Common.{◌≡◌, ℕ, ◌≤◌, Bool, true, false, not, List, [], ◌∷◌, length, get_or, drop, sym, refl, ◌∙◌, subst, arith, w8, Fits}
 use Rattle.model.specs.declared.Refusal.{Refusal}
 use Rattle.model.specs.declared.Run.{Run}
 use Rattle.model.specs.declared.Edition.{Edition}
 use Rattle.model.specs.Numbers.{refusal_number}
 use Rattle.model.specs.Positions.{stretches, mem}
-use Rattle.model.proofs.Runs.{stretches-is}
 use Rattle.model.specs.Bytes.{runs_told}
 use Rattle.model.specs.RunList.{AllWords}
 use Rattle.model.proofs.Codec.{decode-words}
 use Rattle.model.specs.Refusals.{run_order, before_capacity, from_capacity, ◌when◌, first_given, refusal, ordered_from, disordered, set_conditions}
-use Rattle.run_index.specs.Cells.{cell_at}
-use Rattle.run_index.specs.Tree.{Tree, leaf, node, runs}
-use Rattle.run_index.specs.Strung.{Filled}
-use Rattle.run_index.proofs.Totals.{runs-length}
 use Rattle.store.specs.declared.World.{World}
-use Rattle.store.specs.declared.Links.{Links}
-use Rattle.store.specs.Layout.{nodes, allowance, links_of}
-use Rattle.store.specs.Soundness.{Share, Still, Kept, Standing, share_of}
-use Rattle.store.specs.Free.{Keepable, GivesBack}
-use Rattle.store.specs.Settle.{Settled, Became, Openable, Opened, Closing, Closes, Strewn, Linkable, LinksUp}
-use Rattle.store.proofs.Nodes.{still-then}
-use Rattle.store.proofs.Parts.{lent, back, lent-nodes, back-nodes, back_long, cell-nodes, nodes-long}
+use Rattle.store.specs.Layout.{allowance}
+use Rattle.store.specs.Soundness.{share_of}
+use Rattle.store.specs.Settle.{Settled, Opened, Closing, Closes}
+use Rattle.store.proofs.Parts.{lent, back}
 use Rattle.streams.specs.Gathering.{Gathers}
 use Rattle.written.specs.Parsed.{Acceptable}
 use Rattle.written.specs.Listed.{Receives, Received}
 use Rattle.model.proofs.Slices.{all-bytes}
 use Rattle.written.proofs.Telling.{ordered-stretches, disorder-is, accepted-runs, accepted-order}
 use Rattle.promises.specs.Met.{Readable}
-use Rattle.promises.proofs.Doors.{nodes-there, lent-limited, back-before, still_before}
 use Rattle.promises.proofs.Refusing.{first_alone}
 use Rattle.promises.proofs.Overwriting.{gather-roomy, gather-closing, gather-settled}
 

@@ -21,6 +21,7 @@ pub fn write_set(site: Site<'_>, edition: Edition, out: &mut [u8]) -> Result<usi
 }
 
 // Writes the map of a window, a word at a time or, where `WIDE` is false, by single bytes, and returns how many bytes it has.
+// `WIDE` picks one of two writers, and no closure does: painting goes over the nodes, and writing by bytes over the runs in order.
 pub fn write_map<const WIDE: bool>(
     site: Site<'_>,
     base: u64,

@@ -4,10 +4,8 @@
 use Prim.Native.Nat.{ℕ, ◌+◌, ◌-◌, ◌≤◌, ◌<◌, max}
 use mathlib.Core.Path.{◌≡◌, refl, sym, ap, ◌∙◌, subst}
 use mathlib.Core.List.{List, [], ◌∷◌, ◌++◌, append_assoc}
-use native.Mathlib.Numerals.{add-one}
 use native.Mathlib.Omega.{arith}
-use lib.ListN.{get_or, set, length-set}
-use lib.Seq.{get_or-set_same, get_or-set_other}
+use lib.ListN.{length}
 use Rattle.model.specs.declared.Run.{Run}
 use Rattle.model.specs.Numbers.{size}
 use Rattle.model.specs.Positions.{run}
@@ -20,13 +18,8 @@ use Rattle.run_index.specs.Tree.{Tree, height, inorder, Rep}
 use Rattle.run_index.proofs.Trees.{at_none}
 use Rattle.run_index.proofs.Heap.{View, view, height_at, left-falls, right-falls}
 use Rattle.streams.specs.declared.source.Path.{Path}
-use Rattle.streams.specs.Reading.{Rest, none, more, from, Below, Descends}
+use Rattle.streams.specs.Reading.{Rest, more, from, Below, Descends}
 use Rattle.streams.proofs.Dropping.{from-skip, from-keep}
-
--- only the first k places of the path count
-pub rest-frame : {w path path' : List ℕ} {k : ℕ} {rs : List Run} → ((i : ℕ) → i < k → get_or path' i 0 ≡ get_or path i 0) → Rest w path k rs → Rest w path' k rs
-rest-frame same none = none
-rest-frame same (more {k} e rep low rest) = more (same k (omega arith) ∙ e) rep low (rest-frame (λ i h. same i (omega arith)) rest)
 
 -- what is to come, qs, from the link k on
 pub record Leads (w : List ℕ) (p : Path) (k q : ℕ) (qs : List Run) : Type 0 where
@@ -47,7 +40,7 @@ pub lead-end : {w : List ℕ} {p₀ p : Path} {link q k : ℕ} → Lead w p₀ p
 lead-end {w} {p = p} {q = q} h e t rs b =
     let s = h.goes t rs b in
     let gone : from q (inorder s.t) ≡ [] = ap (λ u. from q (inorder u)) (at_none s.t s.below.at e) in
-    (subst (λ us. Rest w p.nodes p.depth us) (sym (s.is ∙ ap (λ us. us ++ s.rs) gone)) s.below.rest, s.below.long)
+    subst (λ us. Rest w p.nodes.items us) (sym (s.is ∙ ap (λ us. us ++ s.rs) gone)) s.below.rest
 
 -- the walk at a node v that was read
 module _ {w : List ℕ} {p₀ p : Path} {link q k : ℕ} (h : Lead w p₀ p link q k) (v : Node) (ne : k ≡ 0 → ⊥) (e : v ≡ cell_at w k) where
@@ -60,7 +53,7 @@ module _ {w : List ℕ} {p₀ p : Path} {link q k : ℕ} (h : Lead w p₀ p link
   lead-room b = (seen b).room
 
   -- the path has room for it
-  pub lead-deep : {t : Tree} {rs : List Run} → Below w p₀ link t rs → p.depth < 22
+  pub lead-deep : {t : Tree} {rs : List Run} → Below w p₀ link t rs → length p.nodes.items < 22
   lead-deep {t} {rs} b = let s = h.goes t rs b in omega (arith, s.below.low, ap height (seen b).is)
 
   -- either side is lower
@@ -76,8 +69,8 @@ module _ {w : List ℕ} {p₀ p : Path} {link q k : ℕ} (h : Lead w p₀ p link
     ordered = canon-split size 0 (inorder (seen b).l) (run v.start v.«end») (inorder (seen b).r)
         (subst (λ u. Canon size 0 (inorder u)) (seen b).is (h.goes t rs b).below.ordered)
 
-    low : 1 + max (height (seen b).l) (height (seen b).r) + p.depth ≤ 22
-    low = subst (λ u. height u + p.depth ≤ 22) (seen b).is (h.goes t rs b).below.low
+    low : 1 + max (height (seen b).l) (height (seen b).r) + length p.nodes.items ≤ 22
+    low = subst (λ u. height u + length p.nodes.items ≤ 22) (seen b).is (h.goes t rs b).below.low
 
     all : from q (inorder t) ++ rs ≡ from q (inorder (seen b).l ++ (run v.start v.«end» ∷ inorder (seen b).r)) ++ (h.goes t rs b).rs
     all = (h.goes t rs b).is ∙ ap (λ u. from q (inorder u) ++ (h.goes t rs b).rs) (seen b).is
@@ -98,21 +91,19 @@ module _ {w : List ℕ} {p₀ p : Path} {link q k : ℕ} (h : Lead w p₀ p link
             ordered = canon-weaken size (v.«end» + 2) 0 (inorder n.r) (omega arith) o.4;
             low = omega (arith, low b);
             rest = s.below.rest;
-            long = s.below.long;
           };
           is = all b ∙ ap (λ us. us ++ s.rs) (from-skip q (inorder n.l) (run v.start v.«end») (inorder n.r) o.0 o.2 before);
         };
   }
 
   -- on its left, with it on the path
-  pub lead-left : q ≤ v.«end» → Lead w p₀ (record { nodes = set p.nodes p.depth k; depth = p.depth + 1 }) link q v.left
-  lead-left from-here = record {
+  pub lead-left : q ≤ v.«end» → {p' : Path} → p'.nodes.items ≡ p.nodes.items ++ k ∷ [] → length p'.nodes.items ≡ length p.nodes.items + 1
+      → Lead w p₀ p' link q v.left
+  lead-left from-here put deeper = record {
     goes = λ t rs b.
         let s = h.goes t rs b in
         let n = seen b in
         let o = ordered b in
-        let deep = lead-deep b in
-        let long = s.below.long in
         record {
           t = n.l;
           rs = run v.start v.«end» ∷ (inorder n.r ++ s.rs);
@@ -120,11 +111,8 @@ module _ {w : List ℕ} {p₀ p : Path} {link q k : ℕ} (h : Lead w p₀ p link
             tag = s.below.tag;
             at = n.left;
             ordered = canon-wider (v.start - 1) size 0 (inorder n.l) (omega (arith, o.2, o.3)) o.0;
-            low = omega (arith, low b);
-            rest = rw add-one
-                (more (get_or-set_same p.nodes p.depth k 0 (omega arith)) (subst (λ u. Rep w s.below.tag u) n.is s.below.at.rep) (low b)
-                (rest-frame (λ i l. get_or-set_other p.nodes p.depth i k 0 (λ q. omega arith)) s.below.rest));
-            long = length-set p.nodes p.depth k ∙ long;
+            low = omega (arith, low b, deeper);
+            rest = more put (subst (λ u. Rep w s.below.tag u) n.is s.below.at.rep) (low b) s.below.rest;
           };
           is = all b ∙ ap (λ us. us ++ s.rs) (from-keep q (inorder n.l) (run v.start v.«end») (inorder n.r) from-here)
               ∙ append_assoc (from q (inorder n.l)) (run v.start v.«end» ∷ inorder n.r) s.rs;

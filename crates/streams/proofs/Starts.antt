@@ -32,42 +32,39 @@ pub rooted_none : {w : List ℕ} → Rooted w 0
 rooted_none = record { tag = 0; tree = leaf; at = leaf-at; ordered = tt; low = omega arith }
 
 -- from the root, with nothing on the path
-module _ {w : List ℕ} {k : ℕ} (r : Rooted w k) {p : Path} (long : length p.nodes ≡ 22) (bare : p.depth ≡ 0) where
+module _ {w : List ℕ} {k : ℕ} (r : Rooted w k) {p : Path} (bare : p.nodes.items ≡ []) where
   pub root_below : Below w p k r.tree []
   root_below = record {
     tag = r.tag;
     at = r.at;
     ordered = r.ordered;
-    low = omega (arith, r.low);
-    rest = subst (λ d. Rest w p.nodes d []) (sym bare) none;
-    long = long;
+    low = omega (arith, r.low, ap length bare);
+    rest = subst (λ ks. Rest w ks []) (sym bare) none;
   }
 
   -- the runs from q on are to come
   pub root-coming : {p' : Path} (q : ℕ) → Descends w p k q p' → OnPath w p' (from q (physical_runs w k))
   root-coming {p'} q ds =
-      let got = ds r.tree [] root_below in
       let same = tree-physical r.at r.low in
       let is : from q (inorder r.tree) ++ [] ≡ from q (physical_runs w k) = append-nil (from q (inorder r.tree)) ∙ ap (from q) (sym same) in
       record {
-        rest = subst (λ us. Rest w p'.nodes p'.depth us) is got.0;
+        rest = subst (λ us. Rest w p'.nodes.items us) is (ds r.tree [] root_below);
         ordered = from-canon size 0 q (physical_runs w k) (subst (λ us. Canon size 0 us) (sym same) r.ordered);
-        long = got.1;
       }
 
 -- after all others
 module _ {w : List ℕ} {k : ℕ} (r : Rooted w k) {p : Path} (on : OnPath w p []) where
-  bare : p.depth ≡ 0
+  bare : p.nodes.items ≡ []
   bare = go on.rest
     where
-      go : {d : ℕ} → Rest w p.nodes d [] → d ≡ 0
+      go : {ks : List ℕ} → Rest w ks [] → ks ≡ []
       go none = refl
 
   pub again : Descendable w p k
-  again = (r.tree, [], root_below r on.long bare)
+  again = (r.tree, [], root_below r bare)
 
   pub whole-coming : {p' : Path} → Descends w p k 0 p' → OnPath w p' (physical_runs w k)
-  whole-coming {p'} ds = subst (λ us. OnPath w p' us) (from_zero (physical_runs w k)) (root-coming r on.long bare 0 ds)
+  whole-coming {p'} ds = subst (λ us. OnPath w p' us) (from_zero (physical_runs w k)) (root-coming r bare 0 ds)
 
 -- what is held, by where a position is kept
 held_at : (w : List ℕ) (k o z q : ℕ) → z < size → physical_of z o ≡ q → held_from w k o z ≡ mem (physical_runs w k) q

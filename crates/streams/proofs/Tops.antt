@@ -1,11 +1,14 @@
 -- The nearest node on the path: its cell tells the first run to come, and its right side is put on the path in its place. Assumes nothing.
-use Prim.Native.Nat.{ℕ, suc, ◌+◌, ◌-◌, ◌≤◌, ◌<◌}
-use mathlib.Core.Path.{◌≡◌, refl, sym, ap, ◌∙◌, subst}
-use mathlib.Core.Bool.{false}
+use Prim.Native.Nat.{ℕ, ◌+◌, ◌-◌, ◌≤◌}
+use mathlib.Core.Path.{◌≡◌, refl, sym, ap, ap₂, ◌∙◌, subst}
 use mathlib.Core.List.{List, [], ◌∷◌, ◌++◌}
 use native.Mathlib.Omega.{arith}
 use lib.Dec.{eqb}
-use lib.ListN.{get_or}
+use lib.ListN.{get_or, length, take}
+use lib.Seq.{get_or-append_seam, take-append_seam, take-length}
+use Rattle.std.specs.Prelude.{slice_get, Some}
+use Rattle.std.proofs.lemmas.List.{length-append, take_more}
+use Rattle.std.proofs.lemmas.Option.{slice_get_within, get_or_from_slice_get}
 use Rattle.model.specs.declared.Run.{Run}
 use Rattle.model.specs.Numbers.{size}
 use Rattle.model.specs.RunList.{Canon}
@@ -19,114 +22,114 @@ use Rattle.streams.specs.declared.source.Path.{Path}
 use Rattle.streams.specs.Reading.{Rest, none, more, OnPath, Below, Descends, Taken, starts_at_zero}
 use Rattle.streams.proofs.Dropping.{from_zero, canon-front}
 
--- with no node on the path nothing is to come
-pub rest-none : {w path : List ℕ} {d : ℕ} {rs : List Run} → Rest w path d rs → d ≡ 0 → rs ≡ []
-rest-none none e = refl
-rest-none (more p rep low rest) e = absurd (omega arith)
+-- the last of a list and those before it are told by the list
+pub snoc-parts : (ks js : List ℕ) (n m : ℕ) → ks ++ n ∷ [] ≡ js ++ m ∷ [] → (ks ≡ js) × (n ≡ m)
+snoc-parts ks js n m e =
+    let l : length ks ≡ length js = omega (arith, length-append ks (n ∷ []), length-append js (m ∷ []), ap length e) in (
+      sym (take-append_seam ks (n ∷ [])) ∙ ap₂ take l e ∙ take-append_seam js (m ∷ []),
+      sym (get_or-append_seam ks n [] 0) ∙ ap₂ (λ us k. get_or us k 0) e l ∙ get_or-append_seam js m [] 0,
+    )
 
--- else there is a first run
-pub record Some (rs : List Run) : Type 0 where
-  pub first : Run
-  pub others : List Run
-  pub is : rs ≡ first ∷ others
-
-pub rest_some : {w path : List ℕ} {d : ℕ} {rs : List Run} → Rest w path d rs → (d ≡ 0 → ⊥) → Some rs
-rest_some none ne = absurd (ne refl)
-rest_some (more p rep low rest) ne = record { first = _; others = _; is = refl }
-
--- no run is to come where no node is on the path
-pub on_none : {w : List ℕ} {p : Path} {rs : List Run} → OnPath w p rs → p.depth ≡ 0 → (rs ≡ []) × OnPath w p []
-on_none {w} {p} h e =
-    let n = rest-none h.rest e in
-    (n, record { rest = subst (λ us. Rest w p.nodes p.depth us) n h.rest; ordered = tt; long = h.long })
-
--- the nearest of k + 1 nodes, with the first run r and its right side
-pub record Top (w path : List ℕ) (k : ℕ) (r : Run) (rs : List Run) : Type 0 where
+-- the nearest node n, before which stand the nodes ks, with the first run r and its right side
+pub record Top (w ks : List ℕ) (n : ℕ) (r : Run) (rs : List Run) : Type 0 where
   pub tag : ℕ
   pub left : Tree
   pub right : Tree
   pub later : List Run
-  pub low : height right + k ≤ 22
-  pub room : Room w (get_or path k 0)
-  pub cell-is : cell_at w (get_or path k 0) ≡ cell r.start r.«end» left right tag
+  pub low : height right + length ks ≤ 22
+  pub room : Room w n
+  pub cell-is : cell_at w n ≡ cell r.start r.«end» left right tag
   pub rep : Rep w tag right
-  pub rest : Rest w path k later
+  pub rest : Rest w ks later
   pub is : rs ≡ inorder right ++ later
 
-pub rest-top : {w path : List ℕ} {k : ℕ} {r : Run} {rs : List Run} → Rest w path (suc k) (r ∷ rs) → Top w path k r rs
-rest-top {w} {path} (more {k} {g = g} {l = l} {r = s} {rs = qs} e rep low rest) = record {
-  tag = g;
-  left = l;
-  right = s;
-  later = qs;
-  low = omega arith;
-  room = rw e (rep-room rep);
-  cell-is = rw e (rep-cell rep);
-  rep = rep-right rep;
-  rest = rest;
-  is = refl;
-}
+-- a path that has a nearest node has a first run
+pub record Nearest (w ks : List ℕ) (n : ℕ) (rs : List Run) : Type 0 where
+  pub first : Run
+  pub others : List Run
+  pub is : rs ≡ first ∷ others
+  pub top : Top w ks n first others
 
-pub rest-low : {w path : List ℕ} {d : ℕ} {rs : List Run} → Rest w path d rs → d ≤ 22
-rest-low none = omega arith
-rest-low (more p rep low rest) = omega arith
+pub rest-nearest : {w path ks : List ℕ} {n : ℕ} {rs : List Run} → path ≡ ks ++ n ∷ [] → Rest w path rs → Nearest w ks n rs
+rest-nearest {ks = ks} {n = n} e none = absurd (omega (arith, length-append ks (n ∷ []), ap length e))
+rest-nearest {w} {ks = ks} {n = n} e (more {ks = js} {n = m} {g = g} {l = l} {r = s} {rs = qs} p rep low rest) =
+    let parts = snoc-parts js ks m n (sym p ∙ e) in
+    record {
+      first = _;
+      others = _;
+      is = refl;
+      top = record {
+        tag = g;
+        left = l;
+        right = s;
+        later = qs;
+        low = omega (arith, low, ap length parts.0);
+        room = subst (Room w) parts.1 (rep-room rep);
+        cell-is = sym (ap (cell_at w) parts.1) ∙ rep-cell rep;
+        rep = rep-right rep;
+        rest = subst (λ us. Rest w us qs) parts.0 rest;
+        is = refl;
+      };
+    }
 
--- a path with more than d nodes, the nearest of which is its last one, at d
-module _ {w : List ℕ} {p : Path} {d : ℕ} (many : (1 ≤ p.depth) × (d ≡ p.depth - 1)) {rs : List Run} (h : OnPath w p rs) where
-  pub first : Some rs
-  first = rest_some h.rest (λ e. omega (arith, many.0))
-
-  pub top : Top w p.nodes d first.first first.others
-  top =
-      let deep : p.depth ≡ suc d = omega (arith, many.0, many.1) in
-      rest-top (subst (λ k. Rest w p.nodes k (first.first ∷ first.others)) deep (subst (λ us. Rest w p.nodes p.depth us) first.is h.rest))
+-- a path whose nearest node is n
+module _ {w : List ℕ} (ks : List ℕ) (n : ℕ) {p : Path} (many : p.nodes.items ≡ ks ++ n ∷ []) {rs : List Run} (h : OnPath w p rs) where
+  pub near : Nearest w ks n rs
+  near = rest-nearest many h.rest
 
   -- it lies within the words
-  pub top-room : Room w (get_or p.nodes d 0)
-  top-room = top.room
-
-  pub top-deep : d < 22
-  top-deep = omega (arith, rest-low h.rest, many.0, many.1)
+  pub top-room : Room w n
+  top-room = near.top.room
 
   -- it was read as v
-  module _ {v : Node} (e : v ≡ cell_at w (get_or p.nodes d 0)) where
+  module _ {v : Node} (e : v ≡ cell_at w n) where
     -- it has the first run
-    same : run v.start v.«end» ≡ first.first
-    same = ap (λ (u : Node). run u.start u.«end») (e ∙ top.cell-is)
-
-    -- its right side is next
-    pub pop-below : Below w (record { nodes = p.nodes; depth = d }) v.right top.right top.later
-    pop-below =
-        let ordered = subst (λ us. Canon size 0 us) first.is h.ordered in
-        record {
-          tag = top.tag;
-          at = record { rep = top.rep; linked = sym (ap (λ (u : Node). u.right) (e ∙ top.cell-is)) };
-          ordered = canon-weaken size (first.first.«end» + 2) 0 (inorder top.right) (omega arith)
-              (canon-front size (first.first.«end» + 2) (inorder top.right) top.later (subst (λ us. Canon size (first.first.«end» + 2) us) top.is ordered.3));
-          low = top.low;
-          rest = top.rest;
-          long = h.long;
-        }
-
-    -- with it on the path, the others are to come
-    pub pop-taken : {p' : Path} → Descends w (record { nodes = p.nodes; depth = d }) v.right 0 p' → Taken w p' (run v.start v.«end») rs
-    pop-taken {p'} ds =
-        let got = ds top.right top.later pop-below in
-        let ordered = subst (λ us. Canon size 0 us) first.is h.ordered in
-        record {
-          others = first.others;
-          is = first.is ∙ ap (λ r. r ∷ first.others) (sym same);
-          on = record {
-            rest = subst (λ us. Rest w p'.nodes p'.depth us) (ap (λ us. us ++ top.later) (from_zero (inorder top.right)) ∙ sym top.is) got.0;
-            ordered = canon-weaken size (first.first.«end» + 2) 0 first.others (omega arith) ordered.3;
-            long = got.1;
-          };
-        }
+    same : run v.start v.«end» ≡ near.first
+    same = ap (λ (u : Node). run u.start u.«end») (e ∙ near.top.cell-is)
 
     -- whether it starts at 0
     pub zero-some : eqb v.start 0 ≡ starts_at_zero rs
-    zero-some = ap (λ (r : Run). eqb r.start 0) same ∙ sym (ap starts_at_zero first.is)
+    zero-some = ap (λ (r : Run). eqb r.start 0) same ∙ sym (ap starts_at_zero near.is)
 
--- where there is none it does not
-pub zero-none : {w : List ℕ} {p : Path} {rs : List Run} → OnPath w p rs → p.depth ≡ 0 → false ≡ starts_at_zero rs
-zero-none h e = sym (ap starts_at_zero (rest-none h.rest e))
+    -- what is in order after it
+    ordered : Canon size (near.first.«end» + 2) near.others
+    ordered = (subst (λ us. Canon size 0 us) near.is h.ordered).3
+
+    -- with it taken off
+    module _ {p' : Path} (kept : p'.nodes.items ≡ ks) where
+      -- its right side is next
+      pub pop-below : Below w p' v.right near.top.right near.top.later
+      pop-below = record {
+        tag = near.top.tag;
+        at = record { rep = near.top.rep; linked = sym (ap (λ (u : Node). u.right) (e ∙ near.top.cell-is)) };
+        ordered = canon-weaken size (near.first.«end» + 2) 0 (inorder near.top.right) (omega arith)
+            (canon-front size (near.first.«end» + 2) (inorder near.top.right) near.top.later
+            (subst (λ us. Canon size (near.first.«end» + 2) us) near.top.is ordered));
+        low = omega (arith, near.top.low, ap length kept);
+        rest = subst (λ us. Rest w us near.top.later) (sym kept) near.top.rest;
+      }
+
+      -- with that on the path, the others are to come
+      pub pop-taken : {p'' : Path} → Descends w p' v.right 0 p'' → Taken w p'' (run v.start v.«end») rs
+      pop-taken {p''} ds = record {
+        others = near.others;
+        is = near.is ∙ ap (λ r. r ∷ near.others) (sym same);
+        on = record {
+          rest = subst (λ us. Rest w p''.nodes.items us) (ap (λ us. us ++ near.top.later) (from_zero (inorder near.top.right)) ∙ sym near.top.is)
+              (ds near.top.right near.top.later pop-below);
+          ordered = canon-weaken size (near.first.«end» + 2) 0 near.others (omega arith) ordered;
+        };
+      }
+
+-- the nearest node is the last of the list
+last-of : (ks : List ℕ) (n : ℕ) → slice_get ks (length ks - 1) ≡ Some n → ks ≡ take (length ks - 1) ks ++ n ∷ []
+last-of ks n e =
+    let less = slice_get_within ks (length ks - 1) n e in
+    let up-to : length ks ≡ length ks - 1 + 1 = omega (arith, less) in
+    sym (take-length ks) ∙ ap (λ m. take m ks) up-to ∙ take_more ks (length ks - 1) 0 less
+    ∙ ap (λ m. take (length ks - 1) ks ++ m ∷ []) (get_or_from_slice_get ks (length ks - 1) n 0 e)
+
+module _ {w : List ℕ} {p : Path} {ks : List ℕ} {n : ℕ} (is : ks ≡ p.nodes.items) (e : Some n ≡ slice_get ks (length ks - 1)) {rs : List Run} (h : OnPath w p rs) where
+  -- so it tells whether the nearest run starts at 0
+  pub last-zero : {v : Node} → v ≡ cell_at w n → eqb v.start 0 ≡ starts_at_zero rs
+  last-zero = zero-some _ _ (sym is ∙ last-of ks n (sym e)) h

@@ -1,6 +1,6 @@
 -- What a reader tells of a set of positions, and what its functions ask and promise. Callers use `Reads`, `Draws` and their parts; `Ahead` is the
 -- reader's own. Assumes nothing: these are definitions.
-use Rattle.std.specs.Prelude.{ℕ, suc, ◌+◌, ◌-◌, ◌≤◌, ◌<◌, ◌≡◌, Bool, true, false, cond, List, [], ◌∷◌, ◌++◌, ltb, eqb, length, get_or, Option, None, Some}
+use Rattle.std.specs.Prelude.{ℕ, suc, ◌+◌, ◌-◌, ◌≤◌, ◌<◌, ◌≡◌, Bool, true, false, cond, List, [], ◌∷◌, ◌++◌, ltb, eqb, length, Option, None, Some}
 use Rattle.model.specs.declared.Run.{Run}
 use Rattle.model.specs.declared.Logical.{Logical}
 use Rattle.model.specs.Numbers.{size}
@@ -54,23 +54,21 @@ After x None = size ≤ suc x
 After x (Some a) = a.0 ≡ suc x
 
 -- ---- the path
--- the first k nodes on the path, the last one first, have the runs rs to come: each its own, and those of its right side; whatever tags they
--- have
-pub data Rest (w path : List ℕ) : ℕ → List Run → Type 0 where
-  none : Rest w path 0 []
+-- the nodes of a path, the last one first, have the runs rs to come: each its own, and those of its right side; whatever tags they have
+pub data Rest (w : List ℕ) : List ℕ → List Run → Type 0 where
+  none : Rest w [] []
   more :
-      {k n a b g : ℕ} {l r : Tree} {rs : List Run}
-      → get_or path k 0 ≡ n
+      {path ks : List ℕ} {n a b g : ℕ} {l r : Tree} {rs : List Run}
+      → path ≡ ks ++ n ∷ []
       → Rep w g (node n a b l r)
-      → height (node n a b l r) + k ≤ highest
-      → Rest w path k rs
-      → Rest w path (suc k) (run a b ∷ (inorder r ++ rs))
+      → height (node n a b l r) + length ks ≤ highest
+      → Rest w ks rs
+      → Rest w path (run a b ∷ (inorder r ++ rs))
 
 -- the path has the runs rs to come, in order
 pub record OnPath (w : List ℕ) (p : Path) (rs : List Run) : Type 0 where
-  pub rest : Rest w p.nodes p.depth rs
+  pub rest : Rest w p.nodes.items rs
   pub ordered : Canon size 0 rs
-  pub long : length p.nodes ≡ highest
 
 -- the runs of a list from p on
 abbrev pub from : ℕ → List Run → List Run
@@ -82,16 +80,15 @@ pub record Below (w : List ℕ) (p : Path) (link : ℕ) (t : Tree) (rs : List Ru
   pub tag : ℕ
   pub at : At w tag link t
   pub ordered : Canon size 0 (inorder t)
-  pub low : height t + p.depth ≤ highest
-  pub rest : Rest w p.nodes p.depth rs
-  pub long : length p.nodes ≡ highest
+  pub low : height t + length p.nodes.items ≤ highest
+  pub rest : Rest w p.nodes.items rs
 
 abbrev pub Descendable : List ℕ → Path → ℕ → Type 0
 Descendable w p link = (t : Tree) × (rs : List Run) × Below w p link t rs
 
 abbrev pub Descends : List ℕ → Path → ℕ → ℕ → Path → Type 0
 Descends w p link q p' =
-    (t : Tree) (rs : List Run) → Below w p link t rs → Rest w p'.nodes p'.depth (from q (inorder t) ++ rs) × (length p'.nodes ≡ highest)
+    (t : Tree) (rs : List Run) → Below w p link t rs → Rest w p'.nodes.items (from q (inorder t) ++ rs)
 
 -- the run x is taken off the path
 pub record Taken (w : List ℕ) (p' : Path) (x : Run) (rs : List Run) : Type 0 where

@@ -1,7 +1,7 @@
 // The lowest gap of a range: the least position from which on n neighbouring positions of the range are free.
 // The held runs are read in order, one way down the tree and then from run to run. Before each lies a stretch of free positions, and the
 // lowest gap starts with the first stretch that has n of them.
-// Words and a world, and no `Set`: a reading needs the bound on the tree's height (`Rooted`), of which a `Set` says nothing.
+// Words and a world, and no `Set`: a reading needs the bound on the tree's height (`Rooted`), and of a `Set` contracts see its runs alone.
 ghost use Rattle.std.specs.Prelude.{◌≡◌, ◌≤◌};
 ghost use Rattle.model.specs.Positions.{gap};
 ghost use Rattle.model.specs.Range.{many};

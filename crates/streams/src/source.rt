@@ -10,11 +10,13 @@ ghost use Rattle.store.specs.Layout.{held_from};
 ghost use Rattle.streams.specs.Reading.{Rooted, After, Reads, Draws, positions_from};
 ghost use Rattle.streams.specs.Reading.{Descendable, Descends, OnPath, Pops, TellsZero, Stands, LastAt, FirstAt, Finds};
 
+use arrayvec::ArrayVec;
 use model::{Logical, Run};
+use store::Store;
 use store::places::{Physical, to_logical, to_physical};
 
 // The greatest height of a tree, and so the most nodes of a path.
-pub const HIGHEST: usize = 22;
+pub const HIGHEST: usize = Store::MAX_HEIGHT as usize;
 
 // From where a set is read: the root of its tree, and the offset.
 #[derive(Clone, Copy)]
@@ -23,12 +25,10 @@ pub struct View {
     pub offset: u64,
 }
 
-// The nodes on the way, and how many there are.
-// An array and its depth: the library has no heap, and no tree is deeper. It has links, since nodes lie in lent words.
+// The nodes on the way, the nearest last; no tree is higher than there is room for. It has links, since nodes lie in lent words.
 #[derive(Drop)]
 pub struct Path {
-    pub nodes: [u64; HIGHEST],
-    pub depth: usize,
+    pub nodes: ArrayVec<u64, HIGHEST>,
 }
 
 impl Path {
@@ -43,8 +43,7 @@ impl Path {
             if v.end < p.0 {
                 k = v.right;
             } else {
-                self.nodes[self.depth] = k;
-                self.depth += 1;
+                self.nodes.push(k);
                 k = v.left;
             }
         }
@@ -55,8 +54,7 @@ impl Path {
         requires { (rs : List Run) × OnPath words.now self.old rs }
         ensures { Pops words.now self.old result self.new }
     {
-        self.depth = self.depth.checked_sub(1)?;
-        let v = run_index::read_node(words, self.nodes[self.depth]);
+        let v = run_index::read_node(words, self.nodes.pop()?);
         self.descend(words, v.right, Physical(0));
         Some(Run {
             start: v.start,
@@ -69,9 +67,9 @@ impl Path {
         requires { (rs : List Run) × OnPath words.now self.now rs }
         ensures { TellsZero words.now self.now result }
     {
-        match self.depth.checked_sub(1) {
+        match self.nodes.as_slice().last() {
             None => false,
-            Some(top) => run_index::read_node(words, self.nodes[top]).start == 0,
+            Some(top) => run_index::read_node(words, *top).start == 0,
         }
     }
 }
@@ -99,8 +97,7 @@ impl<'a> Reader<'a> {
         ensures { Reads result «from».0 (held_from words.now view.root view.offset) }
     {
         let mut path = Path {
-            nodes: [0; HIGHEST],
-            depth: 0,
+            nodes: ArrayVec::new(),
         };
         path.descend(words, view.root, to_physical(from, view.offset));
         Reader {

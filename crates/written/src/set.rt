@@ -17,6 +17,7 @@ pub fn shape_told(bytes: &[u8]) -> Result<Told<'_>, Refusal>
     if bytes.len() < 5 {
         return Err(Refusal::SetLength);
     }
+    // a match and no TryFrom, whose error would be made only to be turned into this refusal
     let edition = match bytes[0] {
         1 => Edition::Rows,
         2 => Edition::Columns,
@@ -52,7 +53,7 @@ pub fn length_of(n: u64) -> u64
     5 + 16 * n
 }
 
-// How many runs a world has. The header counts the physical ones, so no `Set`, which would have to look at the root again.
+// How many runs a world has. The record counts the physical ones, so no `Set`, which would have to look at the root again.
 pub fn run_count(words: &[u64], h: World) -> u64
     requires { Stands words.now h }
     ensures { result ≡ stretches (held_in words.now h) }

@@ -1,6 +1,6 @@
 // Writing a set, from a world or from a set of the other edition: the version byte, the number of runs as 4 bytes, then start and end of each
 // run, 8 bytes each, as the edition arranges them.
-// Words and a world, and no `Set`: a reading needs the bound on the tree's height (`Rooted`), of which a `Set` says nothing.
+// Words and a world, and no `Set`: a reading needs the bound on the tree's height (`Rooted`), and of a `Set` contracts see its runs alone.
 ghost use Rattle.std.specs.Prelude.{◌≡◌, ◌+◌, ◌*◌, ◌≤◌, ◌<◌, ◌++◌, length, drop};
 ghost use Rattle.model.specs.Positions.{stretches, held_runs};
 ghost use Rattle.model.specs.Bytes.{big_endian, encode, runs_told, into_front};

@@ -4,7 +4,7 @@ use mathlib.Core.Path.{◌∙◌}
 use native.Mathlib.Omega.{arith}
 use Rattle.frame.specs.Records.{entry_at}
 use Rattle.frame.proofs.Replies.{record-at}
-use Rattle.frame.proofs.Playing.{none-played, playing-sound, more-played, all-played}
+use Rattle.frame.proofs.Playing.{none-played, more-played, all-played}
 use Rattle.frame.proofs.play.Goals as goal
 use Rattle.frame.proofs.play.Goals.{After-from}
 
@@ -16,9 +16,6 @@ entry c =
 pub loop-i-init : goal.loop-i-init
 loop-i-init c =
     none-played c.args.calls.now c.args.answers.now (length c.args.calls.now / 8) c.requires.sound
-
-pub serve-r-requires : goal.serve-r-requires
-serve-r-requires c = playing-sound c.loop-i.invariant
 
 pub loop-i-preserved : goal.loop-i-preserved
 loop-i-preserved c =

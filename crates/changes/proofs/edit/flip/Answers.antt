@@ -25,9 +25,6 @@ stretch c = subst (λ P. StretchEnd P c.get-value.result c.loop-r.x.0 c.args.r.l
 pub loop-r-init : goal.loop-r-init
 loop-r-init c = flips-none c.args.r.ordered (omega (arith, c.well_formed))
 
-pub set_of-set-requires : goal.set_of-set-requires
-set_of-set-requires c = (_, (here c).limited.standing)
-
 pub apply_set-k-requires : goal.apply_set-k-requires
 apply_set-k-requires c =
     stretch-applies (here (goal.at.apply_set-k-requires c).At-loop-r) (stretch (goal.at.apply_set-k-requires c).After-stretch_end)

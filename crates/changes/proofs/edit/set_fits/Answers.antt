@@ -3,7 +3,7 @@
 use Rattle.std.proofs.Common.{leb, ap, ◌∙◌, arith}
 use Rattle.model.specs.Positions.{set_range, stretches}
 use Rattle.model.specs.Range.{many}
-use Rattle.changes.proofs.Fitting.{far-fits, outside-few, true-fits, false-fits}
+use Rattle.changes.proofs.Fitting.{far-fits, outside-few, true-fits}
 use Rattle.changes.proofs.edit.set_fits.Goals as goal
 
 pub returns-then-h-limit : goal.returns-then-h-limit
@@ -16,9 +16,4 @@ overflow_add-result c = omega (arith, outside-few c.around-border.ensures c.args
 pub returns-then-value : goal.returns-then-value
 returns-then-value c =
     true-fits c.around-border.ensures c.args.r.ordered (omega (arith, c.well_formed)) c.args.limit c.if-value.true
-    ∙ ap (λ P. leb (stretches (set_range c.args.r.first.0 (many c.args.r) c.args.value P)) c.args.limit) c.set_of-set.ensures.positions
-
-pub returns-else-value : goal.returns-else-value
-returns-else-value c =
-    false-fits c.around-border.ensures c.args.r.ordered (omega (arith, c.well_formed)) c.args.limit c.if-value.false
     ∙ ap (λ P. leb (stretches (set_range c.args.r.first.0 (many c.args.r) c.args.value P)) c.args.limit) c.set_of-set.ensures.positions

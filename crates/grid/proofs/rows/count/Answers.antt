@@ -56,9 +56,6 @@ next c =
 pub loop-r-preserved : goal.loop-r-preserved
 loop-r-preserved c = next (goal.at.loop-r-preserved c).After-held_cells-sum
 
-pub returns-else-q : goal.returns-else-q
-returns-else-q c = absurd (omega (arith, c.loop-r.auto.r-end, c.loop-r-test.false, c.args.area.on_plane.rows))
-
 pub returns-else-q-2 : goal.returns-else-q-2
 returns-else-q-2 c =
     let q = c.args.area.q in

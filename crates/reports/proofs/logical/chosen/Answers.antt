@@ -13,9 +13,6 @@ more c =
     ⊎_elim (λ x. omega (arith, c.tally_physical.ensures.count-is, x.0, x.1))
     (λ x. omega (arith, c.tally_physical.ensures.count-is, x, c.ranges.k.fits)) c.else-n-eq0.either
 
-pub returns-then-n-k : goal.returns-then-n-k
-returns-then-n-k c = omega (arith, c.tally_physical.ensures.count-is, c.if-n-eq0.true, c.if-n-k.true)
-
 pub select_physical-requires : goal.select_physical-requires
 select_physical-requires c =
     omega (

@@ -1,7 +1,6 @@
 -- `build` meets its contract: runs out of order are refused before more runs than the world may have, and else it is given them.
 -- Assumes nothing.
 use Rattle.std.proofs.Common.{ap, not, refl}
-use Rattle.written.proofs.Telling.{order_is}
 use Rattle.promises.proofs.Changing.{refused-first}
 use Rattle.promises.proofs.Overwriting.{build-says, carried}
 use Rattle.sets.proofs.Receiving.{order-refused, order-passes}
@@ -9,10 +8,6 @@ use Rattle.sets.proofs.bytes.build.Goals as goal
 
 pub returns-then-not-in_order : goal.returns-then-not-in_order
 returns-then-not-in_order g c = refused-first (build-says _ _ _) c.requires (order-refused _ c.in_order.ensures.value (ap not c.if-not-in_order.true))
-
-pub put-requires-clause-ordered : goal.put-requires-clause-ordered
-put-requires-clause-ordered g c =
-    (order_is _ c.in_order.ensures.value (ap not c.if-not-in_order.false), c.in_order.ensures.words c.if-not-in_order.false)
 
 pub returns : goal.returns
 returns g c = carried (build-says _ _ _) c.requires _ (order-passes _ c.in_order.ensures.value (ap not c.if-not-in_order.false)) (λ x h. refl) _ c.put.ensures

@@ -1,6 +1,6 @@
 -- `read_map` meets its contract: a window that is none is refused, then a map of another length, then one with a spare bit set, and else the
 -- window is set from it. Assumes nothing.
-use Rattle.std.specs.Prelude.{None, Some}
+use Rattle.std.specs.Prelude.{None}
 use Rattle.std.proofs.Common.{not, ◌≡◌, ◌<◌, ◌≤◌, false, refl, ap, subst, arith}
 use Rattle.model.specs.Bytes.{stray_bits, mapped}
 use Rattle.model.specs.Refusals.{refusal, bad_window, bad_map, map_conditions}

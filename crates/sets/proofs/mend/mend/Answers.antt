@@ -10,7 +10,7 @@ use Rattle.written.proofs.Telling.{shaped-tested}
 use Rattle.promises.specs.Out.{Mendable, Mends}
 use Rattle.promises.proofs.Passing.{handed-on}
 use Rattle.sets.proofs.Receiving.{receive-few, receive-ready, receive-closing, receive-settled}
-use Rattle.sets.proofs.Mending.{allowed-most, front-many, room-told, read_again, held-ordered, held-length, held-many, mend-turned, mend-full, mend-short, mend-unreported, mend-done}
+use Rattle.sets.proofs.Mending.{allowed-most, room-told, read_again, held-ordered, held-length, held-many, mend-turned, mend-full, mend-short, mend-unreported, mend-done}
 use Rattle.sets.proofs.mend.mend.Goals as goal
 use Rattle.sets.proofs.mend.mend.Goals.{After-in_order-right, After-outcome_runs-k, After-put_outcome, After-open-h, Else-k-allowance}
 
@@ -90,11 +90,6 @@ fits o =
     let p : o.put_outcome.new.out ≡ into_front (mended_set o.args.bytes.now) o.args.out.now = (rw sh.0 at o.put_outcome.ensures).0 in
     let few : o.outcome_runs-k.result ≤ 65536 = omega (arith, o.if-k-allowance.false, o.allowance.ensures, allowed-most o.requires.openable) in
     omega (arith, held-length _ (read_again _ sh.1 k o.length_of-due.ensures _ p few), k, o.if-k-allowance.false)
-
-pub invariant_of-outcome : goal.invariant_of-outcome
-invariant_of-outcome c =
-    let at = goal.at.invariant_of-outcome c in
-    record { whole = omega (arith, c.length_of-due.ensures, front-many _ c.in_ok-told.ensures.1 (counted at.After-outcome_runs-k) c.length_of-due.ensures _ (filled at.After-put_outcome).0) }
 
 pub build-w-requires-clause-receives : goal.build-w-requires-clause-receives
 build-w-requires-clause-receives c =

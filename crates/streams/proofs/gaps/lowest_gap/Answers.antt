@@ -3,7 +3,7 @@
 use mathlib.Core.Path.{sym}
 use native.Mathlib.Omega.{arith}
 use Rattle.streams.proofs.Starts.{standing-rooted}
-use Rattle.streams.proofs.Gapped.{gap-short, sought-first, sought-run, sought-before, sought-over, sought-on, sought-clear}
+use Rattle.streams.proofs.Gapped.{gap-short, sought-run, sought-before, sought-over, sought-on, sought-clear}
 use Rattle.streams.proofs.gaps.lowest_gap.Goals as goal
 
 pub returns-then-range-n : goal.returns-then-range-n
@@ -11,12 +11,6 @@ returns-then-range-n c = sym (gap-short _ _ _ _ c.args.range.ordered c.if-range-
 
 pub open-r-items-requires : goal.open-r-items-requires
 open-r-items-requires c = standing-rooted c.requires.stands.1
-
-pub loop-r-init : goal.loop-r-init
-loop-r-init c = rw c.into_iter-r-iterator.ensures.into_iter_gives (sought-first c.args.range.ordered c.requires.some c.if-range-n.false c.open-r-items.ensures)
-
-pub next-requires : goal.next-requires
-next-requires c = (_, _, c.loop-r.invariant.reads)
 
 pub overflow_sub-r : goal.overflow_sub-r
 overflow_sub-r c = omega (arith, (sought-run c.loop-r.invariant c.in-Some.ensures.steps).onward)

@@ -18,9 +18,6 @@ next c =
 pub loop-r-preserved : goal.loop-r-preserved
 loop-r-preserved c = next (goal.at.loop-r-preserved c).After-set_row-k
 
-pub returns : goal.returns
-returns c = absurd (omega (arith, c.loop-r.auto.r-end, c.loop-r-test.false, c.args.self.area.on_plane.rows))
-
 pub returns-2 : goal.returns-2
 returns-2 c =
     let e : c.loop-r.r + 1 ≡ c.args.self.area.q.bottom + 1 = omega (arith, c.loop-r-test.true) in

@@ -1,5 +1,5 @@
 -- `next` meets its contract: an entry joins the last run or begins one; where none is left the last run is handed out. Assumes nothing.
-use Rattle.std.proofs.Common.{◌≡◌, ◌+◌, ◌<◌, ◌≤◌, min, max, length, true, false, None, List, ◌++◌, ◌∷◌, [], subst, le_refl, le_trans, lt_of_lt_of_le, leb-true, leb-false, refl, ap, sym, ◌∙◌}
+use Rattle.std.proofs.Common.{◌≡◌, ◌+◌, ◌<◌, ◌≤◌, min, max, length, true, false, None, List, ◌++◌, ◌∷◌, [], subst, le_trans, lt_of_lt_of_le, leb-true, leb-false, ap, sym, ◌∙◌}
 use Rattle.model.specs.declared.Run.{Run}
 use Rattle.lowest.specs.Entries.{entry}
 use Rattle.lowest.specs.Groups.{alone}
@@ -30,9 +30,6 @@ comes : (g : Over) (c : In-Some g) (ps : List _) → Rises (g.L.RunList.runs c.a
 comes g c = subst (λ l. (ps : List _) → Rises (g.L.RunList.runs l) ps c.loop-place.self.places → Rises (g.L.RunList.runs l) (ps ++ c.in-Some.place ∷ []) c.next.new.self)
     c.loop-place.invariant.list c.in-Some.ensures.1.0
 
-pub loop-place-init : goal.loop-place-init
-loop-place-init g c = record { list = refl; goes = λ done k. k; less = le_refl _ }
-
 pub next-requires : goal.next-requires
 next-requires g c =
     let k = c.loop-place.invariant.goes c.requires.0 c.requires.1 in
@@ -43,9 +40,6 @@ run-r-requires g c =
     let s = (goal.at.run-r-requires g c).In-Some in
     let k = c.loop-place.invariant.goes c.requires.0 c.requires.1 in
     subst (λ l. c.in-Some.place < length (g.L.RunList.runs l)) (sym (same g s)) (next-below k _ (comes g s k.places k.rises))
-
-pub loop-place-smaller-in_default-last : goal.loop-place-smaller-in_default-last
-loop-place-smaller-in_default-last g c = c.in-Some.ensures.1.1
 
 pub loop-place-preserved-in_default-last : goal.loop-place-preserved-in_default-last
 loop-place-preserved-in_default-last g c =
@@ -78,9 +72,6 @@ pub returns-then-not-reaches-clause-goes : goal.returns-then-not-reaches-clause-
 returns-then-not-reaches-clause-goes g c =
     let l = pending-less c.loop-place.self c.next.new.self c.alone-begun.result c.in-Some-last.g c.in-Some-last.is c.in-Some.ensures.1.1 in
     union-goes g.L.RunList.runs _ _ _ c.requires (returns-then-not-reaches-clause-steps g c) (lt_of_lt_of_le l c.loop-place.invariant.less)
-
-pub loop-place-smaller : goal.loop-place-smaller
-loop-place-smaller g c = c.in-Some.ensures.1.1
 
 pub loop-place-preserved : goal.loop-place-preserved
 loop-place-preserved g c =

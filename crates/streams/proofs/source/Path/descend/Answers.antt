@@ -1,5 +1,5 @@
--- `descend` meets its contract: what is to come is the same all along the walk (`Lead`), and a write to the path leaves the places before
--- it as they were. The measure is the height of the tree at hand. Assumes nothing.
+-- `descend` meets its contract: what is to come is the same all along the walk (`Lead`).
+-- The measure is the height of the tree at hand. Assumes nothing.
 use mathlib.Core.Path.{refl}
 use native.Mathlib.Omega.{arith}
 use Rattle.streams.proofs.Paths.{lead-end, lead-room, lead-deep, lead-left-falls, lead-right-falls, lead-left, lead-right}
@@ -16,24 +16,15 @@ pub loop-k-preserved-then-v-p : goal.loop-k-preserved-then-v-p
 loop-k-preserved-then-v-p c =
     lead-right c.loop-k.invariant _ c.loop-k-test.true c.read_node-v.ensures c.if-v-p.true
 
-pub offset_bounds-self-self : goal.offset_bounds-self-self
-offset_bounds-self-self c =
-    record { fits = omega (arith, lead-deep c.loop-k.invariant _ c.loop-k-test.true c.read_node-v.ensures c.requires.2) }
-
-pub bounds-self-self : goal.bounds-self-self
-bounds-self-self c =
-    lead-deep c.loop-k.invariant _ c.loop-k-test.true c.read_node-v.ensures c.requires.2
-
-pub overflow_add-self : goal.overflow_add-self
-overflow_add-self c =
-    record { fits = omega (arith, lead-deep c.loop-k.invariant _ c.loop-k-test.true c.read_node-v.ensures c.requires.2) }
+pub push-requires : goal.push-requires
+push-requires c = (omega arith, lead-deep c.loop-k.invariant _ c.loop-k-test.true c.read_node-v.ensures c.requires.2)
 
 pub loop-k-smaller : goal.loop-k-smaller
 loop-k-smaller c =
     lead-left-falls c.loop-k.invariant _ c.loop-k-test.true c.read_node-v.ensures c.requires.2
 
 pub loop-k-preserved : goal.loop-k-preserved
-loop-k-preserved c = lead-left c.loop-k.invariant _ c.loop-k-test.true c.read_node-v.ensures c.if-v-p.false
+loop-k-preserved c = lead-left c.loop-k.invariant _ c.loop-k-test.true c.read_node-v.ensures c.if-v-p.false c.push.ensures.items c.push.ensures.len
 
 pub returns : goal.returns
 returns c = lead-end c.loop-k.invariant c.loop-k-test.false

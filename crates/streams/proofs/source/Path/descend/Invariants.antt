@@ -1,5 +1,5 @@
--- `descend` meets its contract: what is to come is the same all along the walk (`Lead`), and a write to the path leaves the places before
--- it as they were. The measure is the height of the tree at hand. Assumes nothing.
+-- `descend` meets its contract: what is to come is the same all along the walk (`Lead`).
+-- The measure is the height of the tree at hand. Assumes nothing.
 use Rattle.run_index.proofs.Heap.{height_at}
 use Rattle.streams.proofs.Paths.{Lead}
 use Rattle.streams.proofs.source.Path.descend.Given as goal

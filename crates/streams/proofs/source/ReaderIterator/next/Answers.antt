@@ -6,9 +6,6 @@ pub returns-in_err-r-clause-steps : goal.returns-in_err-r-clause-steps
 returns-in_err-r-clause-steps c =
     rw c.from_residual-in_err-r.ensures (next-none _ _ _ _ c.in_ok-from.ensures.value c.in_ok-from.ensures.after c.in_err-r.ensures)
 
-pub returns-in_err-r-clause-goes : goal.returns-in_err-r-clause-goes
-returns-in_err-r-clause-goes c = reads-goes _ _ _ c.requires (returns-in_err-r-clause-steps c)
-
 pub returns-clause-steps : goal.returns-clause-steps
 returns-clause-steps c = next-some _ _ _ _ _ _ c.in_ok-from.ensures.value c.in_ok-r.ensures c.after-self.ensures
 

@@ -9,9 +9,6 @@ returns-in_err-start-clause-steps c =
     rw c.from_residual-in_err-start.ensures
     (joint-none _ _ _ _ c.in_ok-from.ensures.value c.in_ok-from.ensures.after c.in_err-start.ensures.0 c.in_err-start.ensures.1)
 
-pub returns-in_err-start-clause-goes : goal.returns-in_err-start-clause-goes
-returns-in_err-start-clause-goes c = joins-goes _ _ _ c.requires (returns-in_err-start-clause-steps c)
-
 pub returns-in_default-clause-steps : goal.returns-in_default-clause-steps
 returns-in_default-clause-steps c =
     joint-last _ _ _ _ _ _ c.in_ok-from.ensures.value c.in_ok-start.ensures.1 c.in_ok-from.ensures.after c.in_ok-start.ensures.0
