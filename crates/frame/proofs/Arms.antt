@@ -60,7 +60,7 @@ of-cells {w} {w'} {i} {a} f p m = subst (λ c. Met w i c a w') (ap f p) m
 -- ---- a world that was not opened: 12 stands in the answer, whatever the call
 module _ {w : List ℕ} {i : ℕ} (S : Sound w) (h : opened_at w ≤ i) (e : Entry) where
   -- what looking at it tells
-  abbrev look : OrRefusal Unit
+  abbrev look : OrRefusal ℕ
   look = Err WorldUnopened
 
   -- a call that reports

@@ -16,6 +16,8 @@ use Rattle.soundness.specs.Decision.{sound_b}
 use Rattle.soundness.proofs.Whole.{sound_b-no}
 use Rattle.interval_bit_set.specs.Look.{LookedPool}
 use Rattle.interval_bit_set.proofs.Looking.{pool-refused}
+use Rattle.tidy.specs.Tidy.{Tidied}
+use Rattle.tidy.proofs.Tidying.{pooled-tidied}
 use Rattle.promises.specs.Met.{pool_reads}
 use Rattle.promises.proofs.Refusing.{looked-first}
 use Rattle.frame.specs.Records.{calls_of, records_of}
@@ -43,7 +45,7 @@ module _ (w cs out : List ℕ) where
   }
 
   -- what looking refuses is given
-  pub turned-away : {r : Refusal} (l : OrRefusal Unit) → LookedPool w l → l ≡ Err r → Framed w cs out (refused (refusal_number r)) w out
+  pub turned-away : {r : Refusal} (l : OrRefusal ℕ) → LookedPool w l → l ≡ Err r → Framed w cs out (refused (refusal_number r)) w out
   turned-away l k e =
       framed-by _ (frame-by _ (looked-first (pool_reads w ++ output_short when no_room out recorded ∷ []) (pool-refused w l k e))) refl refl
 
@@ -68,11 +70,11 @@ module _ (w cs out : List ℕ) where
     no_room_lem h =
         framed-by _ (frame-by (Some 2) (by-room true (lt-ltb (length out) (length recorded) (omega (arith, due))))) refl refl
 
-    -- they fit, and all records were served
-    pub framed : {w' out' : List ℕ} → length cs / 8 ≤ length out / 8 → Plays w cs out (length cs / 8) w' out' → Framed w cs out (gave done) w' out'
+    -- they fit, all records were served, and the pool was tidied
+    pub framed : {w' w'' out' : List ℕ} → length cs / 8 ≤ length out / 8 → Plays w cs out (length cs / 8) w' out' → Tidied w' w'' → Framed w cs out (gave done) w'' out'
     unfolding no_room calls_of
-    framed h p =
-        framed-by _ (frame-by None (by-room false (le-ltb (length out) (length recorded) (omega (arith, due))))) p.pooled p.wrote
+    framed h p t =
+        framed-by _ (frame-by None (by-room false (le-ltb (length out) (length recorded) (omega (arith, due))))) (pooled-tidied p.pooled t) p.wrote
 
   -- what looking told, where it found no refusal
   pub playable : Sound w → length cs / 8 ≤ length out / 8 → Playable w cs out (length cs / 8)

@@ -111,10 +111,11 @@ fn play(words: &mut [u64], calls: &[u64], answers: &mut [u64])
 pub fn frame(words: &mut [u64], calls: &[u64], answers: &mut [u64]) -> Result<(), Refusal>
     ensures { Framed words.old calls.now answers.old (completed_answer result) words.new answers.new }
 {
-    interval_bit_set::look::look_at_pool(words)?;
+    let worn = interval_bit_set::look::look_at_pool(words)?;
     if answers.len() / 8 < calls.len() / 8 {
         return Err(Refusal::OutputShort);
     }
     play(words, calls, answers);
+    tidy::tidy(words, worn);
     Ok(())
 }
