@@ -65,7 +65,14 @@ pub fn look_at_two(a: &[u64], i: u64, b: &[u64], j: u64) -> Result<u64, Refusal>
 
 // What three worlds earn.
 // One function for two worlds and one for three: a list of the pools would have to be built first.
-pub fn look_at_three(a: &[u64], i: u64, b: &[u64], j: u64, c: &[u64], k: u64) -> Result<u64, Refusal>
+pub fn look_at_three(
+    a: &[u64],
+    i: u64,
+    b: &[u64],
+    j: u64,
+    c: &[u64],
+    k: u64,
+) -> Result<u64, Refusal>
     ensures looked { LookedThree a.now i b.now j c.now k result }
     ensures worn { IfOk result (λ n. n ≡ worn a.now) }
 {

@@ -28,7 +28,7 @@ ghost use Rattle.soundness.specs.Decision.{
   header_b,
   unopened_b,
   sound_b,
-    checked,
+  checked,
   Tells,
   TellsNode,
   place_of,

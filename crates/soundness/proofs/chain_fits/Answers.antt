@@ -19,11 +19,10 @@ pub loop-preserved : goal.loop-preserved
 loop-preserved c =
     let r = c.read_node-next.result in
     let back = c.loop.back in
-    let left = chain_of (c.args.count - (c.loop.counter + 1)) c.args.words.now r.left in
-    (
+    let left = chain_of (c.args.count - (c.loop.counter + 1)) c.args.words.now r.left in (
       ap (λ k. more (back + k) left) (c.from-back.ensures ∙ byte-one _)
-      ∙ chain_more _ _ _ _ _ _ r c.loop-test.true c.node_is_free.ensures c.if-not-node_is_free.false c.read_node-next.ensures
-      ∙ c.loop.invariant.0,
+          ∙ chain_more _ _ _ _ _ _ r c.loop-test.true c.node_is_free.ensures c.if-not-node_is_free.false c.read_node-next.ensures
+          ∙ c.loop.invariant.0,
       omega (arith, c.from-back.ensures, byte-small (nat_lt r.left c.loop.link), c.loop.invariant.1),
     )
 
