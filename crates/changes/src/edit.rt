@@ -24,7 +24,7 @@ pub struct Edit {
 }
 
 // Whether a position is there and held.
-// No `is_some_and`: of a closure that reads the set nothing would be known, but what it promises itself.
+// No `is_some_and`: of a closure that reads the set only what it promises itself is known, so this promise would be written out again.
 fn held_there(set: &Set<'_>, x: Option<u64>) -> bool
     ensures { MatchOption x (result ≡ false) (λ y. result ≡ held set.now y) }
 {
@@ -200,7 +200,7 @@ pub fn flip_fits(words: &[u64], h: World, limit: u64, r: Interval) -> bool
 }
 
 // Inverts r, stretch by stretch, or None where too many runs would be left: on the way there are never more than at the start.
-// Not one with `set`: each asks what it would leave, and one step then stands against a loop.
+// Not one with `set`: what it would leave is counted otherwise, and a set is one step where this goes stretch by stretch.
 pub fn flip(words: &mut [u64], h: World, limit: u64, r: Interval) -> Option<World>
     requires { Editable words.old h limit }
     ensures { Fitted words.old words.new h limit (flip_range r.first.0 (many r) (held_in words.old h)) result }

@@ -97,7 +97,7 @@ impl From<u64> for Kind {
 
 // The world that a record asks at, if it asks at one. 7 and 9 are withdrawn and ask at none: a record of one is refused with 12, and not answered
 // as another call.
-// No From: a world's number is one word of a record, and not the whole as a number.
+// No From: the world is one field of a record, and `from` would not say which.
 #[tactic(auto, unfolding(crate::specs::Records::withdrawn))]
 pub fn world_of(e: Entry) -> Option<u64>
     ensures { MatchOption result (world_by e ≡ size - 1) (λ world. world ≡ world_by e) }

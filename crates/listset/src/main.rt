@@ -113,7 +113,7 @@ fn put_set(text: &mut String, words: &[u64]) -> Result<(), AllocError>
 }
 
 // ---- the whole answer to the bytes of an input
-// The pool is an array: its capacity is fixed, and so is how much memory the program asks for.
+// The pool is an array, since its capacity is fixed.
 fn answer(text: &mut String, bytes: &[u8]) -> Result<(), AllocError>
     ensures { Puts text.old (printed bytes.now) text.new result }
 {

@@ -144,7 +144,7 @@ fn paint_run(map: &mut [u8], n: u64, f: u64, l: u64)
 }
 
 // Sets the bits of every run that has the world's tag.
-// `Scannable` is asked from the public call down to here, of words and world: it holds of them as they are lent, and no type keeps both.
+// `Scannable` is of the words and the world by value, and is asked from the public call down to here: a struct of both would serve these three alone.
 fn paint_nodes(words: &[u64], h: World, window: Window, map: &mut [u8])
     requires n_bound { window.n ≤ 8 * length map.old }
     requires scannable { Scannable words.now h }

@@ -22,8 +22,8 @@ pub fn put_word(out: &mut [u8], j: usize, v: u64)
     out[j..j + 8].copy_from_slice(&v.to_le_bytes());
 }
 
-// Whether the 64 bits from i on, the first of a word, all have the value. `read::whole_byte` is its like: a trait for the load would be longer
-// than both.
+// Whether the 64 bits from i on, the first of a word, all have the value. `stretches::whole_byte` is its like: a trait for the load would be
+// longer than both.
 pub fn whole_word(bytes: &[u8], i: u64, value: bool) -> bool
     requires { i + 64 ≤ 8 * length bytes.now }
     ensures { Whole 64 bytes.now i value result }

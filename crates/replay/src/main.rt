@@ -1,7 +1,7 @@
 // Replays a list of calls: reads it from standard input, in the form that conformance/README.md describes, makes each call through the public
-// calls, and prints its answer. A line that is not of that form, or for which there is no memory, is answered `not understood`. So is a frame
-// that is not followed by all of its records, and each of them, and a record outside of a frame; the line that comes in a record's place is
-// then read as any other.
+// calls, and prints its answer. A line that is not of that form is answered `not understood`, and so is a frame that is not followed by all of its
+// records, and each of them, and a record outside of a frame; the line that comes in a record's place is then read as any other. Where there is no
+// memory for a line the program ends with that error.
 // Its stdin and stdout are a sample: the list `refusals`, lines 7 to 106 of `deepest`, 7 to 206 of `why_full`, the first 200 of `long`, lines 5 to
 // 204 of `worlds`, 7 to 214 of `frames` and 13 to 212 of `grid`.
 #![tactic(auto)]

@@ -125,7 +125,7 @@ pub fn make(words: &mut [u64], limits: &[u64], n: u64)
 }
 
 // Puts the run start..=end, which touches no other, into the index, as the first free node.
-// Start and end, and no `Run`: they are ends of different things, and the run that they make is there once this has returned.
+// Start and end, and no `Run`: callers have a segment's ends, or one of them and an end of a run, and would build a run only to take it apart.
 pub fn add_run(words: &mut [u64], x: Links, start: u64, end: u64) -> Links
     requires { Addable words.old x start «end» }
     ensures { Adds words.old words.new x result start «end» × Sprouted words.old words.new x.root result.root start «end» }
