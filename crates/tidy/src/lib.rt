@@ -19,7 +19,8 @@ fn thread(nodes: &mut [u64], k: u64, next: u64) -> u64
     requires { Room nodes.old k }
     ensures { Threads nodes.old nodes.new k next result }
 {
-    if run_index::read_node(nodes, k).height != 0 {
+    let v = run_index::read_node(nodes, k);
+    if v.height != 0 {
         return next;
     }
     run_index::write_node(nodes, k, Node::free(next));
