@@ -129,8 +129,8 @@ pool-readable {w} l k e = pool-told w (sym k ∙ ap look_number e)
 pub looked-refused : {T : Type 0} (w : List ℕ) (i : ℕ) {r : Refusal} (l : OrRefusal T) → Looked w i l → l ≡ Err r → first_given looks (reads (fed_of w i)) ≡ Some (refusal_number r)
 looked-refused w i l k e = sym k ∙ ap look_number e
 
-pub looked-sound : {w : List ℕ} {i n : ℕ} (l : OrRefusal ℕ) → Looked w i l → l ≡ Ok n → Readable w i
-looked-sound {w} {i} l k e = world-told w i (sym k ∙ ap look_number e)
+pub looked-sound : {T : Type 0} {w : List ℕ} {i : ℕ} {n : T} (l : OrRefusal T) → Looked w i l → l ≡ Ok n → Readable w i
+looked-sound {w = w} {i} l k e = world-told w i (sym k ∙ ap look_number e)
 
 -- ---- several worlds
 -- the refusal of a look, by whether each of its causes is given

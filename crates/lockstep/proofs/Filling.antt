@@ -62,7 +62,7 @@ module _ {w : List ℕ} {i base n k : ℕ} {w' : List ℕ} (m : Met w i (Call.fi
 
   -- so the world can be read
   filler-readable : Readable w i
-  filler-readable = looked-sound (Ok tt) (sym (unearned (fed_of w i) asked passed)) refl
+  filler-readable = looked-sound {T = Unit {0}} (Ok tt) (sym (unearned (fed_of w i) asked passed)) refl
 
   -- the window has a position
   some-asked : 1 ≤ n

@@ -45,7 +45,7 @@ module _ {C : ℕ} {bs : List ℕ} (L : Loads C bs) where
 
   -- so the world can be read, and the bytes were accepted
   pub loaded-readable : Readable L.pool L.world
-  loaded-readable = looked-sound (Ok tt) (sym (unearned (fed_of L.pool L.world) (too_much when too_many (full_at L.pool L.world) (mem (decode bs)) ∷ set_conditions bs) unrefused-load)) refl
+  loaded-readable = looked-sound {T = Unit {0}} (Ok tt) (sym (unearned (fed_of L.pool L.world) (too_much when too_many (full_at L.pool L.world) (mem (decode bs)) ∷ set_conditions bs) unrefused-load)) refl
 
   pub loaded-accepted : Accepted (full_at L.pool L.world) bs
   loaded-accepted = unrefused-accepted (full_at L.pool L.world) (fed_of L.pool L.world) bs unrefused-load

@@ -61,7 +61,7 @@ module _ (w : List ℕ) (i : ℕ) (bs out report : List ℕ) where
 
     -- so the world can be read
     mended-readable : Readable w i
-    mended-readable = looked-sound (Ok tt) (sym (unearned (fed_of w i) due unrefused-mend)) refl
+    mended-readable = looked-sound {T = Unit {0}} (Ok tt) (sym (unearned (fed_of w i) due unrefused-mend)) refl
 
     -- both slices were filled as they should be
     filled : gave (mended n out' m report') ≡ gave gives

@@ -62,7 +62,7 @@ module _ {w : List ℕ} {i : ℕ} {e : Edition} {bs : List ℕ} (W : WritesSet w
   unrefused-write = unrefused _ _ _ _ _ (W.met.answered ∙ ap (λ o. o.answer) (write-by w i e W.out))
 
   pub writer-readable : Readable w i
-  writer-readable = looked-sound (Ok tt) (sym (unearned (fed_of w i) (output_short when no_room W.out (bytes_of e (positions_of (fed_of w i))) ∷ []) unrefused-write)) refl
+  writer-readable = looked-sound {T = Unit {0}} (Ok tt) (sym (unearned (fed_of w i) (output_short when no_room W.out (bytes_of e (positions_of (fed_of w i))) ∷ []) unrefused-write)) refl
 
   -- what is written is the bytes of the positions held
   pub written_is : bs ≡ bytes_of e (held_by w i)
