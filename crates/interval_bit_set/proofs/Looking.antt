@@ -187,11 +187,11 @@ two_none v i w j e =
     let n = earliest-none (first_given looks (reads (fed_of v i))) (first_given looks (reads (fed_of w j))) (sym (earliest-reads (fed_of v i) (reads (fed_of w j)) refl) ∙ e) in
     (world-told v i n.0, world-told w j n.1)
 
-pub two-readable : {v w : List ℕ} {i j n : ℕ} (l : OrRefusal ℕ) → LookedTwo v i w j l → l ≡ Ok n → Readable v i × Readable w j
-two-readable {v} {w} {i} {j} l k e = two_none v i w j (sym k ∙ ap look_number e)
+pub two-readable : {T : Type 0} {v w : List ℕ} {i j : ℕ} {n : T} (l : OrRefusal T) → LookedTwo v i w j l → l ≡ Ok n → Readable v i × Readable w j
+two-readable {v = v} {w} {i} {j} l k e = two_none v i w j (sym k ∙ ap look_number e)
 
-pub three-readable : {u v w : List ℕ} {i j k n : ℕ} (l : OrRefusal ℕ) → LookedThree u i v j w k l → l ≡ Ok n → Readable u i × Readable v j × Readable w k
-three-readable {u} {v} {w} {i} {j} {k} l p e =
+pub three-readable : {T : Type 0} {u v w : List ℕ} {i j k : ℕ} {n : T} (l : OrRefusal T) → LookedThree u i v j w k l → l ≡ Ok n → Readable u i × Readable v j × Readable w k
+three-readable {u = u} {v} {w} {i} {j} {k} l p e =
     let rest : List Condition = reads (fed_of v j) ++ reads (fed_of w k) in
     let n = earliest-none (first_given looks (reads (fed_of u i))) (first_given looks rest) (sym (earliest-reads (fed_of u i) rest refl) ∙ (sym p ∙ ap look_number e)) in
     let t = two_none v j w k n.1 in

@@ -55,7 +55,7 @@ module _ (d : ℕ) (left : Bool) {w w' : List ℕ} {i : ℕ} where
 
   module _ (m : Did w i (Call.shift d left) w') where
     pub shift-readable : Readable w i
-    shift-readable = looked-sound (Ok tt) (sym (looked (shift_says w i d left) m)) refl
+    shift-readable = looked-sound {T = Unit {0}} (Ok tt) (sym (looked (shift_says w i d left) m)) refl
 
     pub shift-settled : Settled w w' i (moved d left (held_by w i))
     shift-settled = settled_is (shift_says w i d left) m shift-readable
@@ -66,7 +66,7 @@ module _ (d : ℕ) (left : Bool) {w w' : List ℕ} {i : ℕ} where
 -- ---- shifted
 module _ (d : ℕ) (left : Bool) (s : Site) {w w' : List ℕ} {i : ℕ} (m : Did w i (Call.shifted d left s) w') where
   abbrev copied : Readable w i × Readable s.words s.world
-  copied = two-readable (Ok tt) (sym (looked (shifted-says w i d left s) m)) refl
+  copied = two-readable {T = Unit {0}} (Ok tt) (sym (looked (shifted-says w i d left s) m)) refl
 
   pub shifted-readable : Readable w i
   shifted-readable = copied.0
@@ -95,7 +95,7 @@ module _ (op : Operation) (s t : Site) {w w' : List ℕ} {i : ℕ} where
 
   module _ (m : Did w i (Call.combine op s t) w') where
     abbrev joined : Readable w i × Readable s.words s.world × Readable t.words t.world
-    joined = three-readable (Ok tt) (sym (looked (combine-says w i op s t) m)) refl
+    joined = three-readable {T = Unit {0}} (Ok tt) (sym (looked (combine-says w i op s t) m)) refl
 
     pub combine-readable : Readable w i
     combine-readable = joined.0
@@ -131,7 +131,7 @@ set-done l u v {w} {i = i} R h m =
 
 module _ (l u : Bound) (v : Bool) {w w' : List ℕ} {i n : ℕ} (m : Met w i (Call.set l u v) (gave (number n)) w') where
   pub set-readable : Readable w i
-  set-readable = looked-sound (Ok tt) (sym (looked (set_says w i l u v) m)) refl
+  set-readable = looked-sound {T = Unit {0}} (Ok tt) (sym (looked (set_says w i l u v) m)) refl
 
   pub set-settled : Settled w w' i (put (first_allowed l) (extent l u) v (held_by w i))
   set-settled = settled_is (set_says w i l u v) m set-readable
@@ -149,7 +149,7 @@ module _ (l u : Bound) (v : Bool) {w w' : List ℕ} {i n : ℕ} (m : Met w i (Ca
 
 module _ (l u : Bound) {w w' : List ℕ} {i : ℕ} (m : Did w i (Call.flip l u) w') where
   pub flip-readable : Readable w i
-  flip-readable = looked-sound (Ok tt) (sym (looked (flip-says w i l u) m)) refl
+  flip-readable = looked-sound {T = Unit {0}} (Ok tt) (sym (looked (flip-says w i l u) m)) refl
 
   pub flip-gets : Gets w i w' (turn (first_allowed l) (extent l u) (held_by w i))
   flip-gets = settled-gets flip-readable (settled_is (flip-says w i l u) m flip-readable) (bounded-ends (flip_range (first_allowed l) (extent l u) (held_by w i)))
@@ -172,7 +172,7 @@ strict-flip l u {w} {i = i} s t =
 -- ---- tally
 pub tally-count : (l u : Bound) (v : Bool) {w w' : List ℕ} {i n r : ℕ} → Met w i (Call.tally l u v) (gave (tallied n r)) w' → n ≡ count (held_by w i) v (first_allowed l) (extent l u)
 tally-count l u v {w} {i = i} {n} {r} m =
-    let R = looked-sound {w = w} {i = i} (Ok tt) (sym (report-looked (tally-says w i l u v) m)) refl in
+    let R = looked-sound {T = Unit {0}} {w = w} {i = i} (Ok tt) (sym (report-looked (tally-says w i l u v) m)) refl in
     let e : tallied n r ≡ tallied (count (held_by w i) v (first_allowed l) (extent l u)) (run_count (held_by w i) v (first_allowed l) (extent l u)) =
     report-is (tally-says w i l u v) m R in
     cc

@@ -49,7 +49,7 @@ module _ {w : List ℕ} {i : ℕ} (c : Call Site) {r : Result} {w' : List ℕ} (
 
   -- its world can be read
   pub call-readable : Readable w i
-  call-readable = looked-sound (Ok tt) (sym (unearned s shape.conditions passed)) refl
+  call-readable = looked-sound {T = Unit {0}} (Ok tt) (sym (unearned s shape.conditions passed)) refl
 
   pub call_settled : Settled w w' i (outcome_of w i c).positions
   call_settled = m.left
