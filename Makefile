@@ -16,10 +16,11 @@
 # make bench-grid         how long rectangles of cells and surveys take, against plain Rust over IntervalBitSet (docs/BENCHMARKS.md)
 # make bench-why          how long it takes to tell why a list of ranges is refused, against plain Rust over IntervalBitSet (docs/BENCHMARKS.md)
 # make bench-heights      how long the lists for heights take, and how much stack each exported call uses on the trees that they make (docs/BENCHMARKS.md)
+# make bench-aged         how long the soundness check and frames take on stores that have lived, against new ones (docs/BENCHMARKS.md)
 # make bench-soundness    how long the soundness check takes, against readings of the same words (docs/BENCHMARKS.md)
 # make bench-growth       how many instructions it takes, at four capacities (needs valgrind)
 # make bench-calls        how many instructions a call takes in a frame, and the soundness check with one world and sixteen (needs valgrind)
-.PHONY: run test lib prove listset replay host differential differential-long conformance bench bench-store bench-gaps bench-maps bench-editions bench-mending bench-grid bench-why bench-heights bench-soundness bench-growth bench-calls
+.PHONY: run test lib prove listset replay host differential differential-long conformance bench bench-store bench-gaps bench-maps bench-editions bench-mending bench-grid bench-why bench-heights bench-aged bench-soundness bench-growth bench-calls
 ARCHIVE := target/lib/libvizturel.a
 HEADER := target/include/vizturel.h
 BENCH_STORE := target/lib/libbench_store.a
@@ -92,6 +93,8 @@ bench-why: $(ARCHIVE)
 	cargo run --offline --profile fast --manifest-path host/Cargo.toml --bin bench -- why
 bench-heights: $(ARCHIVE)
 	cargo run --offline --profile fast --manifest-path host/Cargo.toml --bin bench -- heights
+bench-aged: $(ARCHIVE)
+	cargo run --offline --profile fast --manifest-path host/Cargo.toml --bin bench -- aged
 bench-soundness: bench-store
 	rustc --edition 2021 -C opt-level=3 -L native=target/lib -l static=bench_store -o target/bench-soundness bench/soundness.rs
 	target/bench-soundness
