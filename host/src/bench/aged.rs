@@ -6,19 +6,21 @@
 //! read, or copied, until the frame that is measured.
 
 use super::lists::{self, RECORD};
-use super::measure::{Figures, Progress, Sides, headed, median, nanos, number};
-use super::work::{self, Call, Report};
+use super::measure::{Figures, Progress, Sides, commas, headed, median, nanos, number};
+use super::work::{self, Call, Report, Told};
 use crate::differential::random::Random;
 use crate::differential::reference::{self, Run};
-use crate::{Edition, SetBuf};
+use crate::{Edition, Set, SetBuf};
 
 pub const CAPACITIES: [usize; 3] = [1_100, 8_192, 65_536];
 
 // The stores. The two that are worn have another beside them, on which one frame was played.
 const NEW: usize = 0;
 const GROWN: usize = 1;
+const BUILT: usize = 2;
 const TENTH: usize = 3;
 const EMPTIED: usize = 5;
+const BY_100: usize = 7;
 const STORES: [&str; 8] = [
     "new",
     "grown",
@@ -40,15 +42,17 @@ const NAMES: [&str; STORES.len() - 1] = [
     "emptied by 100",
 ];
 
-const LENGTHS: [usize; 3] = [10, 100, 1_000];
+// Which of them single calls and frames are played on, which have a frame of one call by itself, and which are laid out anew.
+const PLAYED: [usize; 6] = [NEW, GROWN, BUILT, TENTH, EMPTIED, BY_100];
+const ORDERED: [usize; 3] = [NEW, TENTH, EMPTIED];
+const ANEW: [usize; 3] = [GROWN, TENTH, EMPTIED];
+
+// How many calls are made at once: one is a single public call, and more are a frame.
+const LENGTHS: [usize; 4] = [1, 10, 100, 1_000];
+const REPETITIONS: usize = 41;
 const DONE: &str = "no call is refused";
 // A position of no cell: free in every store.
 const X: u64 = 5;
-
-// How often each thing is measured.
-fn repetitions(capacity: usize) -> usize {
-    if capacity == 65_536 { 15 } else { 41 }
-}
 
 // Plays calls in frames of so many: what they answer.
 fn play(set: &mut SetBuf, calls: &[Call], length: usize) -> Vec<u64> {
@@ -65,8 +69,48 @@ fn sets(runs: &[Run], value: bool) -> Vec<Call> {
     runs.iter().map(|&[first, last]| Call::Set(first, last, value)).collect()
 }
 
-fn written(set: &SetBuf, out: &mut [u8]) -> usize {
-    set.write(Edition::Rows, out).expect(DONE).len()
+fn written(set: &SetBuf) -> Vec<u8> {
+    let mut out = vec![0; 5 + 2 * size_of_val(set.words())];
+    let length = set.write(Edition::Rows, &mut out).expect(DONE).len();
+    out.truncate(length);
+    out
+}
+
+// Makes single calls: nanoseconds of the first and of all others, and what they tell.
+fn singly(set: &mut SetBuf, calls: &[Call]) -> ([f64; 2], Vec<Told>) {
+    let mut told = Vec::with_capacity(calls.len());
+    let (first, others) = calls.split_at(1);
+    let times = [first, others].map(|some| nanos(|| work::ours(set, some, &mut told)));
+    (times, told)
+}
+
+// The same in frames of so many calls.
+fn framed(set: &mut SetBuf, calls: &[Call], length: usize) -> ([f64; 2], Vec<Told>) {
+    let records: Vec<u64> = calls.iter().flat_map(lists::record).collect();
+    let mut answers = vec![0; records.len()];
+    let (first, others) = records.split_at(length * RECORD);
+    let (room, rooms) = answers.split_at_mut(length * RECORD);
+    let times = [(first, room), (others, rooms)].map(|(records, rooms)| {
+        let frames = records.chunks_exact(length * RECORD).zip(rooms.chunks_exact_mut(length * RECORD));
+        nanos(|| frames.for_each(|(calls, room)| lists::frame(set.words_mut(), calls, room)))
+    });
+    (times, lists::told(calls.iter(), &answers))
+}
+
+// Copies a store to a place, and reads it twice there, so that the caches have what they hold of it.
+fn lay(place: &mut SetBuf, set: &SetBuf) {
+    place.words_mut().copy_from_slice(set.words());
+    check(place, 2);
+}
+
+// Nanoseconds of a soundness check, of so many in a row: those of a `get` are nearly all the check's.
+fn check(set: &SetBuf, row: usize) -> f64 {
+    let time = nanos(|| {
+        for _ in 0..row {
+            assert_eq!(std::hint::black_box(set).get(X), Ok(false));
+        }
+    });
+    time / row as f64
 }
 
 // Whether the store's chain is worn: a frame of a `get` then changes words, and else it changes none.
@@ -81,6 +125,8 @@ struct Bench {
     capacity: usize,
     runs: Vec<Run>,
     stores: Vec<SetBuf>,
+    // Where a store is copied to be measured, so that all lie in the same memory.
+    place: SetBuf,
     random: Random,
 }
 
@@ -108,44 +154,38 @@ impl Bench {
         };
         let [tenth, emptied, by_100] = [aged(capacity / 10, capacity), aged(0, capacity), aged(0, 100)];
         let [tidy_tenth, tidy_emptied] = [after(&tenth), after(&emptied)];
+        let place = new.clone();
         let stores = vec![new, grown, built, tenth, tidy_tenth, emptied, tidy_emptied, by_100];
-        Bench { capacity, runs, stores, random }
+        Bench { capacity, runs, stores, place, random }
     }
 
-    // Nanoseconds of a soundness check of each store, each in turn, from another one on in each repetition: as many in a row as its length allows.
-    fn checks(&self) -> Vec<f64> {
+    // Nanoseconds of a soundness check of each store, each in turn, from another one on in each repetition: of a row of checks, in which a small
+    // store has more.
+    fn checks(&mut self) -> Vec<f64> {
         let row = 131_072 / self.capacity;
         let mut times = vec![Vec::new(); self.stores.len()];
-        for repetition in 0..repetitions(self.capacity) {
+        for repetition in 0..REPETITIONS {
             for at in 0..self.stores.len() {
                 let i = (repetition + at) % self.stores.len();
-                let set = &self.stores[i];
-                let time = nanos(|| {
-                    for _ in 0..row {
-                        assert_eq!(std::hint::black_box(set).get(X), Ok(false));
-                    }
-                });
-                times[i].push(time / row as f64);
+                lay(&mut self.place, &self.stores[i]);
+                times[i].push(check(&self.place, row));
             }
         }
         times.into_iter().map(median).collect()
     }
 
-    // Nanoseconds of a check, then of a frame of one call, then of a check again, each by itself, on a copy that was read once.
-    fn ordering(&self, store: usize) -> [f64; 3] {
+    // Nanoseconds of a check, then of a frame of one call, then of a check again, each by itself.
+    fn ordering(&mut self, store: usize) -> [f64; 3] {
         let set = &self.stores[store];
-        let mut copy = set.clone();
         let call = lists::record(&Call::Get(X));
         let mut times = [const { Vec::new() }; 3];
-        for _ in 0..repetitions(self.capacity) {
-            copy.words_mut().copy_from_slice(set.words());
+        for _ in 0..REPETITIONS {
+            lay(&mut self.place, set);
             let mut answer = [0; RECORD];
-            let check = |set: &SetBuf| nanos(|| assert_eq!(set.get(X), Ok(false)));
-            check(&copy);
-            times[0].push(check(&copy));
-            times[1].push(nanos(|| lists::frame(copy.words_mut(), &call, &mut answer)));
-            times[2].push(check(&copy));
-            assert!(copy.eq(set).expect(DONE), "a frame of a get changes positions");
+            times[0].push(check(&self.place, 1));
+            times[1].push(nanos(|| lists::frame(self.place.words_mut(), &call, &mut answer)));
+            times[2].push(check(&self.place, 1));
+            assert!(self.place.eq(set).expect(DONE), "a frame of a get changes positions");
         }
         times.map(median)
     }
@@ -171,67 +211,60 @@ impl Bench {
         calls
     }
 
-    // Nanoseconds of frames of so many calls, on copies of the stores: of the first, and of one of those that follow at once. Every store that
-    // holds the same as another answers the same.
-    fn frames(&mut self, length: usize) -> Vec<[f64; 2]> {
-        let following = if length == 1_000 { 2 } else { 10 };
-        let mut times = vec![[const { Vec::new() }; 2]; self.stores.len()];
-        for repetition in 0..repetitions(self.capacity) {
+    // Nanoseconds of single calls, or of frames of so many, on copies of the stores: of the first, and of one of those that follow at once. Stores of
+    // one set answer the same.
+    fn played(&mut self, length: usize) -> Vec<[f64; 2]> {
+        let following = match length {
+            1 => 19,
+            1_000 => 2,
+            _ => 10,
+        };
+        let mut times = vec![[const { Vec::new() }; 2]; PLAYED.len()];
+        for repetition in 0..REPETITIONS {
             let calls = self.calls((1 + following) * length);
-            let records: Vec<u64> = calls.iter().flat_map(lists::record).collect();
-            let mut told: Vec<(Vec<u8>, Vec<u64>)> = Vec::new();
-            for at in 0..self.stores.len() {
-                let i = (repetition + at) % self.stores.len();
-                let mut copy = self.stores[i].clone();
-                let mut answers = vec![0; records.len()];
-                assert_eq!(copy.get(X), Ok(false));
-                let (first, others) = records.split_at(length * RECORD);
-                let (room, rooms) = answers.split_at_mut(length * RECORD);
-                times[i][0].push(nanos(|| lists::frame(copy.words_mut(), first, room)));
-                let others = others.chunks_exact(length * RECORD).zip(rooms.chunks_exact_mut(length * RECORD));
-                let time = nanos(|| others.for_each(|(calls, room)| lists::frame(copy.words_mut(), calls, room)));
-                times[i][1].push(time / following as f64);
-                let mut bytes = vec![0; 5 + 16 * self.capacity];
-                let length = written(&copy, &mut bytes);
-                bytes.truncate(length);
-                assert!(copy.eq(&self.stores[i]).expect(DONE), "the calls do not leave the set as it was");
-                match told.iter().find(|(held, _)| *held == bytes) {
-                    Some((_, others)) => assert!(*others == answers, "two stores of one set do not answer the same"),
-                    None => told.push((bytes, answers)),
+            let mut answered: Vec<(Vec<u8>, Vec<Told>)> = Vec::new();
+            for at in 0..PLAYED.len() {
+                let i = (repetition + at) % PLAYED.len();
+                let set = &self.stores[PLAYED[i]];
+                let place = &mut self.place;
+                lay(place, set);
+                let (each, told) = if length == 1 { singly(place, &calls) } else { framed(place, &calls, length) };
+                times[i][0].push(each[0]);
+                times[i][1].push(each[1] / following as f64);
+                assert!(place.eq(set).expect(DONE), "the calls do not leave the set as it was");
+                let bytes = written(place);
+                match answered.iter().find(|(held, _)| *held == bytes) {
+                    Some((_, others)) => assert!(*others == told, "two stores of one set do not answer the same"),
+                    None => answered.push((bytes, told)),
                 }
             }
         }
         times.into_iter().map(|each| each.map(median)).collect()
     }
 
-    // Nanoseconds of a store's `write`, of making the words a new store and loading the set, and of a check before and after; and of a check where
-    // the set was loaded into the store as it was.
-    fn anew(&self, store: usize) -> [f64; 5] {
+    // Nanoseconds of a check of a store, of its `write`, of making its words a new store and loading the set, and of a check after that; and of a check
+    // where the set was loaded into the store as it was.
+    fn anew(&mut self, store: usize) -> [f64; 5] {
         let mut times = [const { Vec::new() }; 5];
         let mut out = vec![0; 5 + 16 * self.capacity];
         let set = &self.stores[store];
-        let check = |set: &SetBuf| {
-            assert_eq!(set.get(X), Ok(false));
-            nanos(|| assert_eq!(set.get(X), Ok(false)))
-        };
-        for _ in 0..repetitions(self.capacity) {
-            let copy = set.clone();
-            times[0].push(check(&copy));
+        let place = &mut self.place;
+        for _ in 0..REPETITIONS {
+            lay(place, set);
             let mut length = 0;
-            times[1].push(nanos(|| length = written(&copy, &mut out)));
-            let mut over = copy.clone();
-            over.load(&out[..length]).expect(DONE);
-            times[4].push(check(&over));
-            let mut anew = copy.into_words();
-            let mut laid = None;
+            times[0].push(check(place, 1));
+            times[1].push(nanos(|| length = place.write(Edition::Rows, &mut out).expect(DONE).len()));
             times[2].push(nanos(|| {
-                let mut made = SetBuf::new(std::mem::take(&mut anew)).expect("a capacity");
-                made.load(&out[..length]).expect(DONE);
-                laid = Some(made);
+                Set::new(place.words_mut()).expect("a capacity");
+                place.load(&out[..length]).expect(DONE);
             }));
-            let laid = laid.expect("it was made");
-            times[3].push(check(&laid));
-            assert!(laid.eq(set).expect(DONE), "another set was loaded");
+            check(place, 2);
+            times[3].push(check(place, 1));
+            assert!(place.eq(set).expect(DONE), "another set was loaded");
+            lay(place, set);
+            place.load(&out[..length]).expect(DONE);
+            check(place, 2);
+            times[4].push(check(place, 1));
         }
         times.map(median)
     }
@@ -242,7 +275,7 @@ struct Column {
     worn: Vec<bool>,
     checks: Vec<f64>,
     ordering: [[f64; 3]; 3],
-    frames: Vec<Vec<[f64; 2]>>,
+    played: [Vec<[f64; 2]>; LENGTHS.len()],
     anew: [[f64; 5]; 3],
 }
 
@@ -250,9 +283,6 @@ struct Column {
 pub struct Aged {
     columns: Vec<Column>,
 }
-
-const ORDERED: [usize; 3] = [NEW, TENTH, EMPTIED];
-const ANEW: [usize; 3] = [GROWN, TENTH, EMPTIED];
 
 /// Medians of nanoseconds.
 pub fn measure(progress: &Progress) -> Aged {
@@ -264,13 +294,13 @@ pub fn measure(progress: &Progress) -> Aged {
         let checks = bench.checks();
         progress.tell("the frame that puts the chain in order");
         let ordering = ORDERED.map(|store| bench.ordering(store));
-        let frames = LENGTHS.map(|length| {
-            progress.tell(&format!("frames of {length}"));
-            bench.frames(length)
+        let played = LENGTHS.map(|length| {
+            progress.tell(&times_of(length));
+            bench.played(length)
         });
         progress.tell("laying out anew");
         let anew = ANEW.map(|store| bench.anew(store));
-        Column { worn, checks, ordering, frames: frames.into(), anew }
+        Column { worn, checks, ordering, played, anew }
     };
     Aged { columns: CAPACITIES.iter().map(|&capacity| column(capacity)).collect() }
 }
@@ -296,8 +326,8 @@ impl Aged {
     pub fn tell(&self) {
         let micros = |nanos: f64| number(nanos / 1e3);
         let stores = STORES.map(String::from);
-        self.table("what a frame finds of the chain", &stores, |c, row| {
-            if c.worn[row] { "worn".into() } else { "in order".into() }
+        self.table("what a frame does to the chain", &stores, |c, row| {
+            if c.worn[row] { "puts it in order".into() } else { "leaves it".into() }
         });
         self.table("a check / one of the new store", &stores, |c, row| number(c.checks[row] / c.checks[NEW]));
         self.table("µs a check", &stores, |c, row| micros(c.checks[row]));
@@ -310,17 +340,14 @@ impl Aged {
             c.ordering[row].map(micros).join(", ")
         });
 
-        let each = LENGTHS.iter().enumerate().flat_map(|(at, &length)| STORES.iter().map(move |s| (at, length, s)));
-        let frames: Vec<String> = each.map(|(_, length, store)| format!("{store}, {}", number_of(length))).collect();
-        let of = |c: &Column, row: usize| c.frames[row / STORES.len()][row % STORES.len()];
-        self.table("store, calls a frame: the first frame, one after it / those of the new store", &frames, |c, row| {
-            let new = c.frames[row / STORES.len()][NEW];
+        let each = LENGTHS.iter().flat_map(|&length| PLAYED.iter().map(move |&store| (STORES[store], length)));
+        let played: Vec<String> = each.map(|(store, length)| format!("{store}, {}", times_of(length))).collect();
+        let of = |c: &Column, row: usize| c.played[row / PLAYED.len()][row % PLAYED.len()];
+        self.table("the first / one after it", &played, |c, row| {
             let [first, next] = of(c, row);
-            format!("{}, {}", number(first / new[0]), number(next / new[1]))
+            number(first / next)
         });
-        self.table("store, calls a frame: µs the first frame, one after it", &frames, |c, row| {
-            of(c, row).map(micros).join(", ")
-        });
+        self.table("µs the first, one after it", &played, |c, row| of(c, row).map(micros).join(", "));
 
         let some = ANEW.map(|store| STORES[store].to_string());
         self.table("laid out anew: µs a check before, after", &some, |c, row| {
@@ -337,6 +364,7 @@ impl Aged {
     }
 }
 
-fn number_of(calls: usize) -> String {
-    super::measure::commas(calls.to_string())
+// What is made at once.
+fn times_of(length: usize) -> String {
+    if length == 1 { "single calls".into() } else { format!("frames of {}", commas(length.to_string())) }
 }

@@ -67,8 +67,8 @@ pub fn record(call: &Call) -> [u64; RECORD] {
     }
 }
 
-// What answers tell, but the runs that no one asked for.
-fn told<'a>(calls: impl Iterator<Item = &'a Call>, answers: &[u64]) -> Vec<Told> {
+/// What answers tell, but the runs that no one asked for.
+pub fn told<'a>(calls: impl Iterator<Item = &'a Call>, answers: &[u64]) -> Vec<Told> {
     let tell = |(call, a): (&Call, &[u64])| {
         assert_eq!(a[0], 0, "a call of a list is refused");
         let end = if let Call::Positions(..) = call { 0 } else { a[3] };

@@ -89,7 +89,13 @@ fn panel(svg: &mut String, panel: &Panel, from: f64) -> std::fmt::Result {
         writeln!(svg, r#"<line x1="{from}" y1="{y:.1}" x2="{right}" y2="{y:.1}" class="{class}"/>"#)?;
         writeln!(svg, r#"<text x="{:.1}" y="{:.1}" class="left">{told}</text>"#, from - 8.0, y + 4.0)?;
     }
-    writeln!(svg, r#"<text x="{:.1}" y="{:.1}" class="middle">{}</text>"#, from + WIDTH / 2.0, below + 38.0, panel.axis.name)?;
+    writeln!(
+        svg,
+        r#"<text x="{:.1}" y="{:.1}" class="middle">{}</text>"#,
+        from + WIDTH / 2.0,
+        below + 38.0,
+        panel.axis.name
+    )?;
 
     let last = |label: usize| down(ratios(label).next_back().unwrap_or(1.0));
     let mut order: Vec<usize> = (0..labels.len()).collect();
