@@ -35,8 +35,8 @@ const STORES: [&str; 8] = [
 const NAMES: [&str; STORES.len() - 1] = [
     "grown",
     "from a list",
-    "to a tenth, worn",
-    "to a tenth, in order",
+    "a tenth, worn",
+    "a tenth, in order",
     "emptied, worn",
     "emptied, in order",
     "emptied by 100",
@@ -54,23 +54,23 @@ const DONE: &str = "no call is refused";
 // A position of no cell: free in every store.
 const X: u64 = 5;
 
-// Plays calls in frames of so many: what they answer.
-fn play(set: &mut SetBuf, calls: &[Call], length: usize) -> Vec<u64> {
+// Plays calls in frames of so many.
+fn play(set: &mut SetBuf, calls: &[Call], length: usize) {
     let records: Vec<u64> = calls.iter().flat_map(lists::record).collect();
     let mut answers = vec![0; records.len()];
     for (some, room) in records.chunks(length * RECORD).zip(answers.chunks_mut(length * RECORD)) {
         lists::frame(set.words_mut(), some, room);
     }
     assert!(answers.chunks_exact(RECORD).all(|answer| answer[0] == 0), "{DONE}");
-    answers
 }
 
 fn sets(runs: &[Run], value: bool) -> Vec<Call> {
     runs.iter().map(|&[first, last]| Call::Set(first, last, value)).collect()
 }
 
+// A store's set, in the room for any that its words can hold.
 fn written(set: &SetBuf) -> Vec<u8> {
-    let mut out = vec![0; 5 + 2 * size_of_val(set.words())];
+    let mut out = vec![0; 5 + 2 * set.words().len()];
     let length = set.write(Edition::Rows, &mut out).expect(DONE).len();
     out.truncate(length);
     out
@@ -358,7 +358,11 @@ impl Aged {
         });
         self.table("laid out anew: checks after which it has paid", &some, |c, row| {
             let [before, write, load, after, _] = c.anew[row];
-            if before > after { number(((write + load) / (before - after)).ceil()) } else { "never".into() }
+            if before > after {
+                commas(format!("{:.0}", ((write + load) / (before - after)).ceil()))
+            } else {
+                "never".into()
+            }
         });
         self.table("loaded into the store as it was: µs a check after", &some, |c, row| micros(c.anew[row][4]));
     }
