@@ -16,10 +16,12 @@
 # make bench-grid         how long rectangles of cells and surveys take, against plain Rust over IntervalBitSet (docs/BENCHMARKS.md)
 # make bench-why          how long it takes to tell why a list of ranges is refused, against plain Rust over IntervalBitSet (docs/BENCHMARKS.md)
 # make bench-heights      how long the lists for heights take, and how much stack each exported call uses on the trees that they make (docs/BENCHMARKS.md)
+# make bench-aged         how long the soundness check and frames take on stores that have lived, against new ones (docs/BENCHMARKS.md)
 # make bench-soundness    how long the soundness check takes, against readings of the same words (docs/BENCHMARKS.md)
 # make bench-growth       how many instructions it takes, at four capacities (needs valgrind)
+# make bench-aged-calls   how many instructions a frame takes on such stores, and the soundness check in it (needs valgrind)
 # make bench-calls        how many instructions a call takes in a frame, and the soundness check with one world and sixteen (needs valgrind)
-.PHONY: run test lib prove listset replay host differential differential-long conformance bench bench-store bench-gaps bench-maps bench-editions bench-mending bench-grid bench-why bench-heights bench-soundness bench-growth bench-calls
+.PHONY: run test lib prove listset replay host differential differential-long conformance bench bench-store bench-gaps bench-maps bench-editions bench-mending bench-grid bench-why bench-heights bench-aged bench-aged-calls bench-soundness bench-growth bench-calls
 ARCHIVE := target/lib/libvizturel.a
 HEADER := target/include/vizturel.h
 BENCH_STORE := target/lib/libbench_store.a
@@ -92,6 +94,19 @@ bench-why: $(ARCHIVE)
 	cargo run --offline --profile fast --manifest-path host/Cargo.toml --bin bench -- why
 bench-heights: $(ARCHIVE)
 	cargo run --offline --profile fast --manifest-path host/Cargo.toml --bin bench -- heights
+bench-aged: $(ARCHIVE)
+	cargo run --offline --profile fast --manifest-path host/Cargo.toml --bin bench -- aged
+# AGED_ARCHIVE=path counts those of another archive.
+AGED_ARCHIVE ?= $(ARCHIVE)
+bench-aged-calls: $(AGED_ARCHIVE)
+	gcc -O2 -Wall -Wextra -Iinclude -o target/bench-aged bench/aged.c $(AGED_ARCHIVE)
+	@count() { valgrind --tool=callgrind --callgrind-out-file=/dev/null --toggle-collect=measured target/bench-aged "$$@" 2>&1 | awk '/Collected/ { print $$NF }'; }; \
+	echo "| store, C | a frame without calls | a frame of ten |"; echo "|---|---|---|"; \
+	for store in new grown tenth emptied; do \
+	    for c in 1100 8192 65536; do \
+	        echo "| $$store, $$c | $$(count $$c $$store 0) | $$(count $$c $$store 10) |"; \
+	    done; \
+	done
 bench-soundness: bench-store
 	rustc --edition 2021 -C opt-level=3 -L native=target/lib -l static=bench_store -o target/bench-soundness bench/soundness.rs
 	target/bench-soundness

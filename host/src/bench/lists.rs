@@ -40,19 +40,19 @@ const FRAMES: [&str; MIXED.len() * LENGTHS.len()] = [
     "half and half, 1,000",
 ];
 
-// How many words a call and its answer have.
-const RECORD: usize = 8;
+/// How many words a call and its answer have.
+pub const RECORD: usize = 8;
 
-// The exported call.
-fn frame(words: &mut [u64], calls: &[u64], answers: &mut [u64]) {
+/// The exported call.
+pub fn frame(words: &mut [u64], calls: &[u64], answers: &mut [u64]) {
     let (w, c, a) = (words.as_mut_ptr(), calls.as_ptr(), answers.as_mut_ptr());
     // SAFETY: the slices are lent for the call, the two that are written uniquely.
     let refusal = unsafe { raw::vizturel_frame(w, words.len(), c, calls.len(), a, answers.len()) };
     assert_eq!(refusal, 0, "a list is refused");
 }
 
-// A call as the library reads it: call, lower kind and value, upper kind and value, value, k, and the world.
-fn record(call: &Call) -> [u64; RECORD] {
+/// A call as the library reads it: call, lower kind and value, upper kind and value, value, k, and the world.
+pub fn record(call: &Call) -> [u64; RECORD] {
     let range = |call: u64, first: u64, last: u64, value: bool, k: u64| [call, 1, first, 1, last, value.into(), k, 0];
     match *call {
         Call::Get(x) => range(0, x, 0, false, 0),
@@ -67,8 +67,8 @@ fn record(call: &Call) -> [u64; RECORD] {
     }
 }
 
-// What answers tell, but the runs that no one asked for.
-fn told<'a>(calls: impl Iterator<Item = &'a Call>, answers: &[u64]) -> Vec<Told> {
+/// What answers tell, but the runs that no one asked for.
+pub fn told<'a>(calls: impl Iterator<Item = &'a Call>, answers: &[u64]) -> Vec<Told> {
     let tell = |(call, a): (&Call, &[u64])| {
         assert_eq!(a[0], 0, "a call of a list is refused");
         let end = if let Call::Positions(..) = call { 0 } else { a[3] };

@@ -2,6 +2,7 @@
 //!
 //! What a side answers is compared with the other's outside the timed part, so a wrong answer ends the run.
 
+mod aged;
 mod bytes;
 mod editions;
 #[cfg(feature = "bench_store")]
@@ -19,8 +20,9 @@ mod why;
 mod work;
 
 use lists::Lists;
-use measure::{Progress, load};
-use plot::Panel;
+use measure::{Figures, Progress, load};
+use plot::{Axis, Panel};
+use work::SIZES;
 
 #[cfg(feature = "bench_store")]
 fn tell_gaps(progress: &Progress) {
@@ -109,6 +111,20 @@ pub fn run_heights() {
     println!("load {} after", load());
 }
 
+fn tell_aged(progress: &Progress) -> Figures {
+    println!("## Aged stores\n");
+    let aged = aged::measure(progress);
+    aged.tell();
+    aged::checks(&aged)
+}
+
+/// Measures stores that have lived alone, and prints Markdown.
+pub fn run_aged() {
+    println!("load {} before\n", load());
+    tell_aged(&Progress::begin());
+    println!("load {} after", load());
+}
+
 /// Measures everything, prints Markdown, and draws the ratios into a file.
 pub fn run(plot: &str) {
     let progress = Progress::begin();
@@ -133,12 +149,16 @@ pub fn run(plot: &str) {
     tell_grid(&progress);
     tell_why(&progress);
     tell_heights(&progress);
+    let aged = tell_aged(&progress);
     let by_words = bytes::by_words(&bytes);
+    let runs = Axis { name: "runs", places: &SIZES };
+    let capacity = Axis { name: "capacity", places: &aged::CAPACITIES };
     let panels = [
-        Panel { title: "Frames of 10, 100 and 1,000 calls", figures: &lists.frames },
-        Panel { title: "Frames of 1,000 calls of a kind", figures: &lists.fresh },
-        Panel { title: "Single public calls", figures: &public },
-        Panel { title: "Written sets and maps", figures: &by_words },
+        Panel { title: "Frames of 10, 100 and 1,000 calls", figures: &lists.frames, axis: runs },
+        Panel { title: "Frames of 1,000 calls of a kind", figures: &lists.fresh, axis: runs },
+        Panel { title: "Single public calls", figures: &public, axis: runs },
+        Panel { title: "Written sets and maps", figures: &by_words, axis: runs },
+        Panel { title: "Aged stores: a check / one of a new store", figures: &aged, axis: capacity },
     ];
     plot::write(plot, &panels);
     println!("load {} after", load());

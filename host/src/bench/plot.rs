@@ -3,7 +3,6 @@
 use std::fmt::Write;
 
 use super::measure::{Figures, number};
-use super::work::SIZES;
 
 const COLORS: [&str; 11] = [
     "#0072b2", "#d55e00", "#009e73", "#882255", "#56a0d3", "#b8860b", "#cc79a7", "#332288", "#666666", "#117733",
@@ -19,15 +18,25 @@ const RIGHT: f64 = 118.0;
 // How far apart names stand at the least.
 const LINE: f64 = 15.0;
 
+/// What a panel's columns are, from left to right.
+#[derive(Clone, Copy)]
+pub struct Axis<'a> {
+    pub name: &'a str,
+    pub places: &'a [usize],
+}
+
+impl Axis<'_> {
+    // Where a number lies in a panel, from its left.
+    fn across(&self, size: usize) -> f64 {
+        let [first, last] = [self.places[0], self.places[self.places.len() - 1]].map(|s| (s as f64).ln());
+        WIDTH * ((size as f64).ln() - first) / (last - first)
+    }
+}
+
 pub struct Panel<'a> {
     pub title: &'a str,
     pub figures: &'a Figures,
-}
-
-// Where a number of runs lies in a panel, from its left.
-fn across(size: usize) -> f64 {
-    let [first, last] = [SIZES[0], SIZES[SIZES.len() - 1]].map(|s| (s as f64).ln());
-    WIDTH * ((size as f64).ln() - first) / (last - first)
+    pub axis: Axis<'a>,
 }
 
 // Moves places apart that are in order, as little as that takes, so that none is below the lowest.
@@ -67,8 +76,8 @@ fn panel(svg: &mut String, panel: &Panel, from: f64) -> std::fmt::Result {
     let below = ABOVE + HEIGHT;
 
     writeln!(svg, r#"<text x="{from}" y="{:.1}" class="title">{}</text>"#, ABOVE - 16.0, panel.title)?;
-    for size in SIZES {
-        let x = from + across(size);
+    for &size in panel.axis.places {
+        let x = from + panel.axis.across(size);
         writeln!(svg, r#"<line x1="{x:.1}" y1="{ABOVE}" x2="{x:.1}" y2="{below}" class="grid"/>"#)?;
         let told = number(size as f64);
         writeln!(svg, r#"<text x="{x:.1}" y="{:.1}" class="middle">{told}</text>"#, below + 18.0)?;
@@ -80,7 +89,13 @@ fn panel(svg: &mut String, panel: &Panel, from: f64) -> std::fmt::Result {
         writeln!(svg, r#"<line x1="{from}" y1="{y:.1}" x2="{right}" y2="{y:.1}" class="{class}"/>"#)?;
         writeln!(svg, r#"<text x="{:.1}" y="{:.1}" class="left">{told}</text>"#, from - 8.0, y + 4.0)?;
     }
-    writeln!(svg, r#"<text x="{:.1}" y="{:.1}" class="middle">runs</text>"#, from + WIDTH / 2.0, below + 38.0)?;
+    writeln!(
+        svg,
+        r#"<text x="{:.1}" y="{:.1}" class="middle">{}</text>"#,
+        from + WIDTH / 2.0,
+        below + 38.0,
+        panel.axis.name
+    )?;
 
     let last = |label: usize| down(ratios(label).next_back().unwrap_or(1.0));
     let mut order: Vec<usize> = (0..labels.len()).collect();
@@ -89,10 +104,12 @@ fn panel(svg: &mut String, panel: &Panel, from: f64) -> std::fmt::Result {
     apart(&mut places, below);
     for (label, place) in order.into_iter().zip(places) {
         let color = COLORS[label % COLORS.len()];
-        let points: Vec<String> = SIZES
+        let points: Vec<String> = panel
+            .axis
+            .places
             .iter()
             .zip(ratios(label))
-            .map(|(size, ratio)| format!("{:.1},{:.1}", from + across(*size), down(ratio)))
+            .map(|(size, ratio)| format!("{:.1},{:.1}", from + panel.axis.across(*size), down(ratio)))
             .collect();
         writeln!(svg, r#"<polyline points="{}" stroke="{color}" class="ratio"/>"#, points.join(" "))?;
         for point in &points {

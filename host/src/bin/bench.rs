@@ -7,7 +7,7 @@ fn main() -> ExitCode {
         None => {
             eprintln!(
                 "usage: bench PLOT.svg, or one part alone: bench gaps, bench maps, bench editions, bench mending, bench grid, bench why, \
-                 bench heights"
+                 bench heights, bench aged"
             );
             return ExitCode::from(2);
         }
@@ -17,6 +17,7 @@ fn main() -> ExitCode {
         Some("grid") => vizturel::bench::run_grid(),
         Some("why") => vizturel::bench::run_why(),
         Some("heights") => vizturel::bench::run_heights(),
+        Some("aged") => vizturel::bench::run_aged(),
         #[cfg(feature = "bench_store")]
         Some("gaps") => vizturel::bench::run_gaps(),
         Some(plot) => vizturel::bench::run(plot),
