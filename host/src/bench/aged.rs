@@ -36,9 +36,9 @@ const NAMES: [&str; STORES.len() - 1] = [
     "grown",
     "from a list",
     "a tenth, worn",
-    "a tenth, in order",
+    "a tenth, tidied",
     "emptied, worn",
-    "emptied, in order",
+    "emptied, tidied",
     "emptied by 100",
 ];
 
