@@ -3,7 +3,8 @@
 use Rattle.changes.specs.Edits.{changed_to}
 use Rattle.std.specs.Prelude.{Option, None}
 use Rattle.changes.specs.declared.edit.Edit.{Edit}
-use Rattle.std.proofs.Common.{◌≡◌, ℕ, ◌≤◌, false, List, [], ◌∷◌, length, sym, refl, ap, ◌∙◌, subst, subst₂, arith, le-ltb}
+use Rattle.std.proofs.Common.{◌≡◌, ℕ, ◌≤◌, true, false, not, ◌&&◌, ◌==◌, List, [], ◌∷◌, length, sym, refl, ap, ◌∙◌, subst, subst₂, arith, le-ltb, eq-eqb, ne_eqb}
+use native.Mathlib.Decide.{ℕ_discrete}
 use Rattle.model.specs.declared.Count.{Count}
 use Rattle.model.specs.Positions.{Positions, stretches}
 use Rattle.model.specs.Refusals.{bad_limits}
@@ -14,8 +15,11 @@ use Rattle.store.specs.Layout.{capacity, nodes, allowance}
 use Rattle.store.specs.Soundness.{Sound, Stands, Limited, Editable, share_of}
 use Rattle.store.specs.Free.{Makeable}
 use Rattle.store.specs.Settle.{Became, Openable, Opened, Closing}
+use Rattle.store.proofs.Truths.{never}
 use Rattle.store.proofs.Nodes.{sized-length}
 use Rattle.store.proofs.Parts.{lent, back, lent-nodes, back-same, back-nodes, back-front, back_long, cells-before}
+use Rattle.soundness.specs.Decision.{sound_b}
+use Rattle.soundness.proofs.Whole.{sound_b-yes}
 use Rattle.changes.specs.Edits.{Edited}
 
 -- ---- a new pool
@@ -26,6 +30,23 @@ good c = rw (le-ltb c 0 (omega arith))
 
 pub makeable : (w : List ℕ) (c : ℕ) → c ≡ capacity w → (c ≡ 0 → ⊥) → Makeable w (0 ∷ c ∷ []) 1
 makeable w c e h = record { sized = omega (arith, h); many = refl; good = ap (λ k. bad_limits k (limits_of (0 ∷ c ∷ []))) (sym e) ∙ good c }
+
+-- ---- the check
+-- the length is a pool's: the rest decides
+pub has-length : (w : List ℕ) → (capacity w ≡ 0 → ⊥) → sound_b w ≡ (not (capacity w == 0) && sound_b w)
+has-length w h = rw (ne_eqb (capacity w) 0 h)
+
+-- it is not
+pub no-length : (w : List ℕ) → capacity w ≡ 0 → false ≡ (not (capacity w == 0) && sound_b w)
+no-length w e = rw (eq-eqb (capacity w) 0 e)
+
+-- what passes is sound
+pub found-sound : (w : List ℕ) → (not (capacity w == 0) && sound_b w) ≡ true → Sound w
+found-sound w e = go (ℕ_discrete (capacity w) 0)
+  where
+    go : Dec (capacity w ≡ 0) → Sound w
+    go (yes z) = never (no-length w z ∙ e)
+    go (no some) = sound_b-yes w (omega arith) (has-length w some ∙ e)
 
 -- ---- world 0
 -- a sound pool has it

@@ -3,8 +3,10 @@
 // C lends the words anew for each call: so they come as a slice, a range as two numbers, and what holds of them is asked at each step.
 #![tactic(auto)]
 
-ghost use Rattle.std.specs.Prelude.{◌≡◌, ◌≤◌, true, length};
+ghost use Rattle.std.specs.Prelude.{◌≡◌, ◌≤◌, ◌&&◌, ◌==◌, not, length};
+ghost use Rattle.store.specs.Layout.{capacity};
 ghost use Rattle.store.specs.Soundness.{Sound};
+ghost use Rattle.soundness.specs.Decision.{sound_b};
 
 use model::Logical;
 use model::between::Interval;
@@ -26,7 +28,7 @@ pub extern "C" fn vizturel_bench_new(words: &mut [u64]) -> bool {
 // Whether the words are a sound pool. False where no pool has their length.
 #[unsafe(no_mangle)]
 pub extern "C" fn vizturel_bench_is_sound(words: &[u64]) -> bool
-    ensures { result ≡ true → Sound words.now }
+    ensures { result ≡ (not (capacity words.now == 0) && sound_b words.now) }
 {
     Store::of_length(words.len()).capacity != 0 && soundness::is_sound(words)
 }

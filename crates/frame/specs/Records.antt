@@ -1,6 +1,6 @@
 -- Calls and answers as records of eight words. Every record of a call means one, and every answer has one record. Assumes nothing: these are
 -- definitions.
-use Rattle.std.specs.Prelude.{ℕ, zero, suc, ◌+◌, ◌-◌, ◌*◌, ◌/◌, Bool, cond, ◌||◌, List, [], ◌∷◌, ◌++◌, length, ◌==◌, slice_index}
+use Rattle.std.specs.Prelude.{ℕ, zero, suc, ◌+◌, ◌-◌, ◌*◌, ◌/◌, Bool, cond, if◌then◌else◌, Option, Some, None, ◌||◌, List, [], ◌∷◌, ◌++◌, length, ◌==◌, slice_index}
 use Rattle.model.specs.Ends.{Bound}
 use Rattle.model.specs.declared.Listing.{Listing}
 use Rattle.model.specs.declared.Rect.{Rect}
@@ -86,12 +86,21 @@ call_by Kind.Get e = Call.get e.from
 abbrev pub call_of : {S : Type 0} → Entry → Call S
 call_of e = call_by (kind_of e.call) e
 
--- 7 and 9 were calls once: a record of one asks at a world that no pool has, so that it is refused with 12 and not answered as another call
+-- 7 and 9 were calls once
 unfoldable pub withdrawn : ℕ → Bool
 withdrawn n = n == 7 || n == 9
 
+-- the world that the record asks at; one of 7 or 9 asks at none
+unfoldable pub asked_at : Entry → Option ℕ
+asked_at e = if withdrawn e.call then None else Some e.world
+
+-- none is a world that no pool has: the record is refused with 12, and not answered as another call
+abbrev pub numbered : Option ℕ → ℕ
+numbered None = size - 1
+numbered (Some i) = i
+
 abbrev pub world_by : Entry → ℕ
-world_by e = cond (withdrawn e.call) (size - 1) e.world
+world_by e = numbered (asked_at e)
 
 -- on the world that the record names, or on that one
 abbrev pub pool_call_of : {S : Type 0} → Entry → PoolCall S

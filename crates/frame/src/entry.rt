@@ -2,7 +2,7 @@
 // value is anything but 0. The last word of a record names the world, but that 7 and 9 ask at none.
 ghost use Rattle.std.specs.Prelude.{◌≡◌, ◌-◌, MatchOption};
 ghost use Rattle.model.specs.Numbers.{size};
-ghost use Rattle.frame.specs.Records.{entry_at, kind_of, world_by};
+ghost use Rattle.frame.specs.Records.{entry_at, kind_of, asked_at};
 
 // Which call it is.
 #[derive(Clone, Copy)]
@@ -98,9 +98,9 @@ impl From<u64> for Kind {
 // The world that a record asks at, if it asks at one. 7 and 9 are withdrawn and ask at none: a record of one is refused with 12, and not answered
 // as another call.
 // No From: the world is one field of a record, and `from` would not say which.
-#[tactic(auto, unfolding(crate::specs::Records::withdrawn))]
+#[tactic(auto, unfolding(crate::specs::Records::asked_at, crate::specs::Records::withdrawn))]
 pub fn world_of(e: Entry) -> Option<u64>
-    ensures { MatchOption result (world_by e ≡ size - 1) (λ world. world ≡ world_by e) }
+    ensures { result ≡ asked_at e }
 {
     match e.call {
         7 | 9 => None,

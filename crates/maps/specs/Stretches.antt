@@ -13,5 +13,5 @@ pub record NextStretch (bs : List ℕ) (n i : ℕ) (s : Stretch) (j : ℕ) : Typ
 
 -- what comes where the bits from i on are still to come, and from which bit on they are then: none comes after the last bit
 abbrev pub GivesStretch : List ℕ → ℕ → ℕ → Option Stretch → ℕ → Type 0
-GivesStretch bs n i None j = n ≤ i
+GivesStretch bs n i None j = (n ≤ i) × (j ≡ i)
 GivesStretch bs n i (Some s) j = NextStretch bs n i s j

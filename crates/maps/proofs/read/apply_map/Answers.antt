@@ -48,4 +48,4 @@ loop-s-preserved g c =
 pub returns : goal.returns
 returns g c =
     applying-done c.requires c.part-whole.ensures c.stretch_end.ensures c.if-stretch_end-n.false c.apply_set-at.ensures.0
-    c.loop-s.invariant.1 (subst (λ m. m.window.n ≤ c.loop-s.s-iterator.from) c.loop-s.invariant.0 c.in-None.ensures.steps.1)
+    c.loop-s.invariant.1 (subst (λ m. m.window.n ≤ c.loop-s.s-iterator.from) c.loop-s.invariant.0 c.in-None.ensures.steps.1.0)

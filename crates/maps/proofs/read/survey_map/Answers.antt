@@ -34,4 +34,4 @@ loop-s-preserved g c =
 
 pub returns : goal.returns
 returns g c =
-    surveying-done c.args.map.now.fits c.loop-s.invariant.1 (subst (λ m. m.window.n ≤ c.loop-s.s-iterator.from) c.loop-s.invariant.0 c.in-None.ensures.steps.1)
+    surveying-done c.args.map.now.fits c.loop-s.invariant.1 (subst (λ m. m.window.n ≤ c.loop-s.s-iterator.from) c.loop-s.invariant.0 c.in-None.ensures.steps.1.0)
