@@ -1,6 +1,7 @@
 -- What the proofs of several functions use.
 pub mod Tests
 pub mod Steps
+pub mod Strides
 pub mod Counting
 pub mod Following
 pub mod Decided

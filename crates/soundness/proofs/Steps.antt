@@ -1,7 +1,6 @@
 -- What the functions of `soundness` return, by the tests that led there: each definition opened by one step. Assumes nothing.
 use Rattle.std.proofs.Common.{◌≡◌, ℕ, zero, suc, ◌+◌, ◌-◌, ◌^◌, ◌<◌, ◌≤◌, max, Bool, true, false, ◌&&◌, eqb, List, sym, refl, ap, subst, ◌∙◌, arith, eq-eqb, ne_eqb, eqb-true}
-use Rattle.std.proofs.Common.{Option, Some, None, SomeIff, if◌then◌else◌, nat_lt, leb, leb-true, le-leb}
-use Rattle.model.specs.Positions.{one_if}
+use Rattle.std.proofs.Common.{Option, Some, None, SomeIff, leb, leb-true, le-leb}
 use mathlib.Core.Bool.{and-false}
 use native.Mathlib.Decide.{ℕ_discrete}
 use Rattle.model.proofs.Edit.{and-holds}
@@ -10,7 +9,7 @@ use Rattle.run_index.specs.Cells.{cell_at, Room}
 use Rattle.run_index.specs.Tree.{width}
 use Rattle.run_index.specs.Strung.{free_cell}
 use Rattle.soundness.specs.declared.Bounds.{Bounds}
-use Rattle.soundness.specs.Decision.{inside_b, below_of, run_b, heights_b, sums_b, words_b, agrees_b, cell_b, leaf_b, side_b, tree_b, free_b, chain_b, falls, chain_of, rest_b, rest_of, Seen, Tells}
+use Rattle.soundness.specs.Decision.{inside_b, below_of, run_b, heights_b, sums_b, words_b, agrees_b, cell_b, leaf_b, side_b, tree_b, chain_of, rest_b, rest_of, Seen, Tells}
 use Rattle.store.proofs.Truths.{never, is_false, same, both-in}
 use Rattle.soundness.proofs.Tests.{inside-in, below_none, below-some, heights-out, heights-in, sums-out, sums-in, run_out}
 
@@ -109,55 +108,6 @@ tree-narrow (suc d) w g (suc k) lo total h ne =
     let no_cell : cell_b (cell_at w (suc k)) (below_of w (cell_at w (suc k)).left) (below_of w (cell_at w (suc k)).right) g lo total ≡ false =
     is_false _ (λ e. let r = run_out _ _ _ g lo total (cell_out _ _ _ g lo total e).run_fits in omega (arith, r.above, r.ordered, r.under)) in
     rw (no_cell, and-false (inside_b w (suc k)))
-
--- a chain goes on while links are left
-chain-step : (c i : ℕ) (w : List ℕ) (k : ℕ) → i < c → chain_b (c - i) w k ≡ (free_b w k && chain_b (c - (i + 1)) w (cell_at w k).left)
-unfolding chain_b
-chain-step c i w k h = let e : c - i ≡ suc (c - (i + 1)) = omega arith in rw e
-
--- what is told of a chain whose first links were passed, n of which lead back
-abbrev pub more : ℕ → Option ℕ → Option ℕ
-more n None = None
-more n (Some m) = Some (n + m)
-
-pub more-nothing : (o : Option ℕ) → o ≡ more 0 o
-more-nothing None = refl
-more-nothing (Some m) = ap Some (omega arith)
-
--- its end
-pub chain-end : (c n : ℕ) (w : List ℕ) (k : ℕ) → c ≡ 0 → k ≡ 0 → Some n ≡ more n (chain_of c w k)
-unfolding chain_b chain_of falls
-chain-end c n w k h e = rw (h, e) (ap Some (omega arith))
-
--- another number stands there
-pub chain-open : (c n : ℕ) (w : List ℕ) (k : ℕ) → c ≡ 0 → (k ≡ 0 → ⊥) → None ≡ more n (chain_of c w k)
-unfolding chain_b chain_of
-chain-open c n w k h ne = rw (h, ne_eqb k 0 ne)
-
--- a node that is not free
-pub chain-broken : (c i n : ℕ) (w : List ℕ) (k : ℕ) (b : Bool) → i < c → b ≡ free_b w k → b ≡ false → None ≡ more n (chain_of (c - i) w k)
-unfolding chain_of
-chain-broken c i n w k b h e t = rw (chain-step c i w k h, ← e, t)
-
--- a node that is
-more-two : (n j m : ℕ) (b : Bool) → more (n + j) (if b then Some m else None) ≡ more n (if b then Some (j + m) else None)
-more-two n j m true = ap Some (omega arith)
-more-two n j m false = refl
-
-chain-next : (d n : ℕ) (w : List ℕ) (k : ℕ) → free_b w k ≡ true
-    → more (n + one_if (nat_lt (cell_at w k).left k)) (chain_of d w (cell_at w k).left) ≡ more n (chain_of (suc d) w k)
-unfolding chain_of chain_b falls
-chain-next d n w k t =
-    let l = (cell_at w k).left in
-    more-two n (one_if (nat_lt l k)) (falls d w l) (chain_b d w l)
-    ∙ ap (λ (f : Bool). more n (if f && chain_b d w l then Some (one_if (nat_lt l k) + falls d w l) else None)) (sym t)
-
-pub chain_more : (c i n : ℕ) (w : List ℕ) (k : ℕ) (b : Bool) (v : Node) → i < c → b ≡ free_b w k → b ≡ true → v ≡ cell_at w k
-    → more (n + one_if (nat_lt v.left k)) (chain_of (c - (i + 1)) w v.left) ≡ more n (chain_of (c - i) w k)
-chain_more c i n w k b v h e t ev =
-    let s : suc (c - (i + 1)) ≡ c - i = omega arith in
-    let l = (cell_at w k).left in
-    rw ev (subst (λ (d : ℕ). more (n + one_if (nat_lt l k)) (chain_of (c - (i + 1)) w l) ≡ more n (chain_of d w k)) s (chain-next (c - (i + 1)) n w k (sym e ∙ t)))
 
 -- the trees have too many runs
 pub rest-few : (w : List ℕ) (n r f : ℕ) → (r ≤ n → ⊥) → None ≡ rest_of w n r f

@@ -101,22 +101,31 @@ unfoldable pub chain_b : ℕ → List ℕ → ℕ → Bool
 chain_b zero w n = n == 0
 chain_b (suc c) w n = free_b w n && chain_b c w (cell_at w n).left
 
--- how many of c links from n lead back
+-- where c links from n lead, or the first node on the way that is not free
+unfoldable pub along_of : ℕ → List ℕ → ℕ → ℕ
+along_of zero w n = n
+along_of (suc c) w n = if free_b w n then along_of c w (cell_at w n).left else n
+
+-- the end of a stride of 64 links from n
+abbrev pub stride : List ℕ → ℕ → ℕ
+stride w n = along_of 1 w (along_of 63 w n)
+
+-- c strides from n: how many end with a link back
 unfoldable pub falls : ℕ → List ℕ → ℕ → ℕ
 falls zero w n = 0
-falls (suc c) w n = one_if (nat_lt (cell_at w n).left n) + falls c w (cell_at w n).left
+falls (suc c) w n = one_if (nat_lt (stride w n) (along_of 63 w n)) + falls c w (stride w n)
 
--- the same, if they lead over free nodes to 0
+-- how worn a chain of c links from n is, if they lead over free nodes to 0
 unfoldable pub chain_of : ℕ → List ℕ → ℕ → Option ℕ
-chain_of c w n = if chain_b c w n then Some (falls c w n) else None
+chain_of c w n = if chain_b c w n then Some (falls ((c - 1) / 64) w n) else None
 
 -- of n nodes the trees have r, and the others are the free chain from f
 unfoldable pub rest_b : List ℕ → ℕ → ℕ → ℕ → Bool
 rest_b w n r f = nat_le r n && chain_b (n - r) w f
 
--- how many links of that chain lead back, if it is so
+-- how worn that chain is, if it is so
 unfoldable pub rest_of : List ℕ → ℕ → ℕ → ℕ → Option ℕ
-rest_of w n r f = if rest_b w n r f then Some (falls (n - r) w f) else None
+rest_of w n r f = if rest_b w n r f then Some (falls ((n - r - 1) / 64) w f) else None
 
 -- the tree of the world h, its sums and its bounds; an empty world has offset 0
 unfoldable pub world_b : List ℕ → World → Bool
@@ -165,9 +174,9 @@ sound_b w =
     && (unopened_b w (opened_at w) (most_worlds - opened_at w)
     && (nat_le (claims (worlds_of w)) (capacity w) && rest_b (nodes w) (node_count w) (told_runs w (opened_at w)) (free_head w))))
 
--- how worn the free chain of such a pool is: how many of its links lead back
+-- how worn the free chain of such a pool is: how many of its strides end with a link back
 abbrev pub worn : List ℕ → ℕ
-worn w = falls (node_count w - told_runs w (opened_at w)) (nodes w) (free_head w)
+worn w = falls ((node_count w - told_runs w (opened_at w) - 1) / 64) (nodes w) (free_head w)
 
 -- what the check tells: that, of a sound pool
 unfoldable pub checked : List ℕ → Option ℕ

@@ -6,7 +6,7 @@
 // stay apart: until the test has passed, nothing holds of the two together that a struct could keep.
 #![tactic(auto)]
 
-ghost use Rattle.std.specs.Prelude.{◌≡◌, ◌+◌, ◌-◌, ◌*◌, ◌<◌, ◌≤◌, ◌^◌, ◌&&◌, length, ◌==◌, SomeIff};
+ghost use Rattle.std.specs.Prelude.{◌≡◌, ◌+◌, ◌-◌, ◌*◌, ◌<◌, ◌≤◌, ◌^◌, ◌&&◌, length, nat_lt, ◌==◌, SomeIff};
 ghost use Rattle.model.specs.Numbers.{most_worlds};
 ghost use Rattle.run_index.specs.Cells.{Room};
 ghost use Rattle.run_index.specs.Tree.{width};
@@ -22,6 +22,7 @@ ghost use Rattle.soundness.specs.Decision.{
   leaf_b,
   side_b,
   free_b,
+  along_of,
   chain_of,
   rest_of,
   world_b,
@@ -243,11 +244,19 @@ fn tree_fits(words: &[u64], link: u64, tag: u64, low: u64, high: u64) -> bool
     true
 }
 
+// Whether a link names a node. None is named by 0, and one less than that is more than any: so one test does for both ends.
+#[tactic(auto, using(std::proofs::lemmas::Bool::Decides::nat_tests), unfolding(crate::specs::Decision::inside_b))]
+fn names(words: &[u64], link: u64) -> bool
+    ensures { result ≡ (nat_lt 0 link && inside_b words.now link) }
+{
+    link.wrapping_sub(1) < (words.len() as u64 / 8).saturating_sub(1)
+}
+
 // Whether a node is free: it is a node, and all its words but the link are 0.
 fn node_is_free(words: &[u64], link: u64) -> bool
     ensures { result ≡ free_b words.now link }
 {
-    if link == 0 || !inside(words, link) {
+    if !names(words, link) {
         return false;
     }
     let v = run_index::read_node(words, link);
@@ -257,21 +266,42 @@ fn node_is_free(words: &[u64], link: u64) -> bool
     }
 }
 
-// How many of `count` links from `head` lead back, if exactly these lead over free nodes to 0.
+// Where n links from a node lead, or the first node on the way that is not free. It stops there and returns no None: nothing leads on from there,
+// so a chain that breaks off does not fit; and with a None the loop takes a tenth more instructions.
+fn along(words: &[u64], link: u64, n: u64) -> u64
+    ensures { result ≡ along_of n words.now link }
+{
+    let mut k = link;
+    for _ in 0..n {
+        if !node_is_free(words, k) {
+            return k;
+        }
+        k = run_index::read_node(words, k).left;
+    }
+    k
+}
+
+// How worn the chain from `head` is, if exactly `count` links lead over free nodes to 0. It goes in strides of 64 links, looks at the last link
+// of each, and counts those that lead back: to look at every link takes a quarter more instructions.
 fn chain_fits(words: &[u64], head: u64, count: u64) -> Option<u64>
     ensures { result ≡ chain_of count words.now head }
 {
+    if count == 0 {
+        return if head == 0 { Some(0) } else { None };
+    }
+    let before = count - 1;
     let mut link = head;
     let mut back = 0;
-    for _ in 0..count {
-        if !node_is_free(words, link) {
-            return None;
-        }
-        let next = run_index::read_node(words, link).left;
-        back += u64::from(next < link);
-        link = next;
+    for _ in 0..before / 64 {
+        let last = along(words, link, 63);
+        link = along(words, last, 1);
+        back += u64::from(link < last);
     }
-    if link == 0 { Some(back) } else { None }
+    let last = along(words, link, before % 64);
+    if !node_is_free(words, last) || run_index::read_node(words, last).left != 0 {
+        return None;
+    }
+    Some(back)
 }
 
 // Whether a tree hangs at the root of a world, and the world has its sums and its bounds; an empty one has offset 0.
@@ -296,7 +326,7 @@ fn world_fits(words: &[u64], h: World) -> bool
         && (h.root != 0 || h.offset == 0)
 }
 
-// How many links of the free chain from `free` lead back, if of n nodes the trees have `runs`, and the others are that chain.
+// How worn the free chain from `free` is, if of n nodes the trees have `runs`, and the others are that chain.
 fn rest_fits(words: &[u64], n: u64, runs: u64, free: u64) -> Option<u64>
     ensures { result ≡ rest_of words.now n runs free }
 {
@@ -379,7 +409,7 @@ fn unopened_fit(words: &[u64], n: u64) -> bool
     true
 }
 
-// How worn the free chain is, if words of a pool's length are a sound pool: how many of its links lead back.
+// How worn the free chain is, if words of a pool's length are a sound pool.
 pub fn check(words: &[u64]) -> Option<u64>
     requires { 1 ≤ capacity words.now }
     ensures { result ≡ checked words.now }

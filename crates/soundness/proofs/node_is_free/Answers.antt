@@ -4,9 +4,9 @@ use Rattle.std.proofs.lemmas.Bool.Decides.{nat_tests}
 use Rattle.soundness.specs.Decision.{inside_b, zeros_b, free_b}
 use Rattle.soundness.proofs.node_is_free.Goals as goal
 
-pub returns-then-link-eq0 : goal.returns-then-link-eq0
+pub returns-then-not-names : goal.returns-then-not-names
 unfolding free_b
-returns-then-link-eq0 c = grind (arith, nat_tests)
+returns-then-not-names c = grind (arith, nat_tests)
 
 pub read_node-v-requires : goal.read_node-v-requires
 unfolding inside_b
