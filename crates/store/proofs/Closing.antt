@@ -152,8 +152,8 @@ module _ {w₀ w w' : List ℕ} {h : World} {P : Positions} (cl : Closing w₀ w
   closing-opened = ap (λ (z : Node). z.start) hd.header ∙ ap (λ (z : Node). z.start) (cl.before 0 (omega arith))
 
   -- the free head
-  head-is : free_head w' ≡ h.free
-  head-is = ap (λ (z : Node). z.«end») hd.header
+  pub closing-head : free_head w' ≡ h.free
+  closing-head = ap (λ (z : Node). z.«end») hd.header
 
   -- the record of another world
   record-there : (j : ℕ) → j < most_worlds → (j ≡ k → ⊥) → record_at w' j ≡ record_at w₀ j
@@ -176,8 +176,8 @@ module _ {w₀ w w' : List ℕ} {h : World} {P : Positions} (cl : Closing w₀ w
 
   -- ---- nodes
   -- no node is written
-  node_kept : (m : ℕ) → 1 ≤ m → cell_at (nodes w') m ≡ cell_at (nodes w) m
-  node_kept m pos = cell-nodes w' m ∙ hd.there (16 + m) (omega arith) (λ e. omega (arith, low)) ∙ sym (cell-nodes w m)
+  pub closing-nodes : (m : ℕ) → 1 ≤ m → cell_at (nodes w') m ≡ cell_at (nodes w) m
+  closing-nodes m pos = cell-nodes w' m ∙ hd.there (16 + m) (omega arith) (λ e. omega (arith, low)) ∙ sym (cell-nodes w m)
 
   -- the world's own tree
   abbrev own : Planted (nodes w) h
@@ -197,7 +197,7 @@ module _ {w₀ w w' : List ℕ} {h : World} {P : Positions} (cl : Closing w₀ w
 
   -- stands in these words as it did
   moved_here : Moved (nodes w) w' k h.free (record_cell h (floor_at w k) (ceiling_at w k)) own
-  moved_here = record { long = nodes-long w w' hd.long; same = λ m p i. node_kept m p; is = hd.here }
+  moved_here = record { long = nodes-long w w' hd.long; same = λ m p i. closing-nodes m p; is = hd.here }
 
   -- it is the tree of world k
   tree-here : tree_at w' k ≡ is.tree
@@ -231,7 +231,7 @@ module _ {w₀ w w' : List ℕ} {h : World} {P : Positions} (cl : Closing w₀ w
     moved-there : Moved (nodes w₀) w' j (free_head w₀) (record_at w₀ j) theirs
     moved-there = record {
       long = nodes-long w₀ w' closing-long;
-      same = λ m p i. node_kept m p ∙ cl.became.still.cells m (foreign m i);
+      same = λ m p i. closing-nodes m p ∙ cl.became.still.cells m (foreign m i);
       is = record-there j (omega (arith, was.few)) ne;
     }
 
@@ -255,12 +255,12 @@ module _ {w₀ w w' : List ℕ} {h : World} {P : Positions} (cl : Closing w₀ w
   -- the free chain is the one that the world at hand has
   chained : Chain (nodes w') (free_head w') is.free
   chained =
-      subst (λ i. Chain (nodes w') i is.free) (sym head-is)
+      subst (λ i. Chain (nodes w') i is.free) (sym closing-head)
       (strung-kept Free (nodes w) (nodes w') (nodes-long w w' hd.long) h.free is.free 0 go is.kept.chained)
     where
       go : (m : ℕ) → 1 ≤ times m is.free → cell_at (nodes w') m ≡ cell_at (nodes w) m
       go zero i = absurd (omega (arith, chain-no-zero is.kept))
-      go (suc m) i = node_kept (suc m) (omega arith)
+      go (suc m) i = closing-nodes (suc m) (omega arith)
 
   -- a world that is opened was
   opened-then : (j : ℕ) → j < opened_at w' → j < n
@@ -299,7 +299,7 @@ module _ {w₀ w w' : List ℕ} {h : World} {P : Positions} (cl : Closing w₀ w
     sized = omega (arith, was.sized, capacity-kept);
     some = omega (arith, was.some, closing-opened);
     few = omega (arith, was.few, closing-opened);
-    header = hd.header ∙ sym (ap₂ header_cell (ap (λ (z : Node). z.start) hd.header) head-is);
+    header = hd.header ∙ sym (ap₂ header_cell (ap (λ (z : Node). z.start) hd.header) closing-head);
     unopened = λ j a b. record-there j b (λ e. omega (arith, named, closing-opened)) ∙ was.unopened j (omega (arith, closing-opened)) b;
     planted = planted;
     free = is.free;

@@ -228,7 +228,8 @@ pub fn read_set<'a>(words: &'a [u64], k: u64) -> Set<'a>
 // Makes a world that was opened, and changed, the pool's again.
 pub fn close(words: &mut [u64], h: World)
     requires { Closable words.old h }
-    ensures { Closes words.old words.new h }
+    ensures closes { Closes words.old words.new h }
+    ensures headed { Headed words.old words.new h }
 {
     write_world(words, h);
 }

@@ -1,6 +1,6 @@
 -- A world whose pool's free nodes were threaded anew stands as it did. The nodes that have no height are just the free ones, since a node of any
 -- tree has a height: so the chain has the same nodes, and no cell of a tree has changed. Assumes nothing.
-use Prim.Native.Nat.{ℕ, ◌-◌, ◌/◌, ◌≤◌, ◌<◌}
+use Prim.Native.Nat.{ℕ, zero, suc, ◌-◌, ◌/◌, ◌≤◌, ◌<◌}
 use mathlib.Core.Path.{◌≡◌, sym, ap, ◌∙◌, subst, fun_ext}
 use mathlib.Core.Logic.{◌⊎◌, inl, inr}
 use mathlib.Core.List.{List}
@@ -12,14 +12,16 @@ use Rattle.model.specs.Positions.{Positions, held_runs}
 use Rattle.model.proofs.Numbers.{split}
 use Rattle.run_index.specs.Cells.{cell_at, Room}
 use Rattle.run_index.specs.Tree.{count, At}
-use Rattle.run_index.specs.Strung.{times}
+use Rattle.run_index.specs.Strung.{times, Free}
 use Rattle.run_index.proofs.Heap.{frame}
+use Rattle.run_index.proofs.Strings.{strung-kept}
 use Rattle.store.specs.declared.World.{World}
-use Rattle.store.specs.Layout.{opened_at, world_at, nodes, links_of, node_count, held_in, held_by}
-use Rattle.store.specs.Soundness.{first_of, last_of, Share, Kept, Standing, sum_to, without, count_at, share_of, Planted, Sound}
+use Rattle.store.specs.Layout.{opened_at, free_head, Headed, world_at, nodes, links_of, node_count, held_in, held_by}
+use Rattle.store.specs.Soundness.{Chain, first_of, last_of, Share, Kept, Standing, sum_to, without, count_at, share_of, Planted, Sound}
 use Rattle.store.specs.Settle.{Settled, Became, Openable, Opened, Closing, Closes}
 use Rattle.store.proofs.Sums.{sum-some, without-here, without-there}
-use Rattle.store.proofs.Parts.{lent, back, lent-nodes}
+use Rattle.store.proofs.Closing.{closing-head, closing-nodes}
+use Rattle.store.proofs.Parts.{lent, back, lent-nodes, back-nodes, nodes-long}
 use Rattle.store.proofs.Nodes.{chain-outside, node-once, kept-still, sized-length}
 use Rattle.store.proofs.Chains.{chain-free, free-low}
 use Rattle.store.proofs.Orders.{node_in}
@@ -29,8 +31,8 @@ use Rattle.store.proofs.Turn.{pool-past}
 use Rattle.soundness.proofs.Counting.{Among, sum, sum-times}
 use Rattle.promises.proofs.Doors.{lent-limited, lent-held, lent-closing, lent-settled}
 use Rattle.promises.proofs.Simulation.{same-positions}
-use Rattle.tidy.specs.Tidy.{lows, Threaded, Tidied}
-use Rattle.tidy.proofs.Threading.{lows-high, lows-once}
+use Rattle.tidy.specs.Tidy.{lows, Threaded, Tidied, InOrder}
+use Rattle.tidy.proofs.Threading.{lows-before, lows-high, lows-once}
 
 -- the world with another head of the free chain
 abbrev pub headed_at : World → ℕ → World
@@ -194,3 +196,26 @@ module _ {w : List ℕ} {h : World} (S : Sound w) (op : Opened w 0 h) {ys : List
         go : (j : ℕ) → j < opened_at w → Dec (j ≡ 0) → held_by w' j ≡ held_by w j
         go j l (yes z) = ap (held_by w') z ∙ first-held ∙ ap (held_by w) (sym z)
         go j l (no ne) = settled.others j l ne
+
+  -- and its chain is in order
+  pub ordered-chain : {w' : List ℕ} → Headed (back w ys) w' (headed_at h f) → InOrder w w'
+  ordered-chain {w'} hd =
+      subst (Chain (nodes w') (free_head w')) in-nodes (subst (λ i. Chain (nodes w') i ls) (sym (closing-head ordered-closing hd)) kept)
+    where
+      ls : List ℕ
+      ls = lows (lent w) 0 n
+
+      in-nodes : ls ≡ lows (nodes w) 0 (node_count w)
+      in-nodes = ap (λ v. lows v 0 n) (lent-nodes w) ∙ ap (lows (nodes w) 0) e
+
+      -- the threaded nodes, put back
+      there : nodes (back w ys) ≡ ys
+      there = back-nodes w ys (omega (arith, (sized-length w S.sized).0))
+
+      same : (m : ℕ) → 1 ≤ times m ls → cell_at (nodes w') m ≡ cell_at (nodes (back w ys)) m
+      same zero i = absurd (omega (arith, lows-before (lent w) 0 n 0 (omega arith)))
+      same (suc m) i = closing-nodes ordered-closing hd (suc m) (omega arith)
+
+      kept : Chain (nodes w') f ls
+      kept =
+          strung-kept Free (nodes (back w ys)) (nodes w') (nodes-long (back w ys) w' hd.long) f ls 0 same (subst (λ v. Chain v f ls) (sym there) th.chain)

@@ -1,7 +1,7 @@
 -- A call that tidies after its work keeps its promise: the pool that it left has every world as it was. Assumes nothing.
 use Rattle.std.specs.Prelude.{Ok, Err, IfOk}
 use Prim.Native.Nat.{ℕ, ◌<◌}
-use mathlib.Core.Path.{◌≡◌, refl, sym, ap, ap₂, ◌∙◌, subst}
+use mathlib.Core.Path.{◌≡◌, sym, ap, ap₂, ◌∙◌, subst}
 use mathlib.Core.List.{List}
 use native.Mathlib.Omega.{arith}
 use Rattle.model.specs.Numbers.{most_worlds}
@@ -15,11 +15,7 @@ use Rattle.store.specs.Free.{Pooled}
 use Rattle.store.specs.Settle.{Settled}
 use Rattle.store.proofs.WorldLists.{worlds-same}
 use Rattle.promises.specs.Met.{Site, Readable, Met}
-use Rattle.tidy.specs.Tidy.{Tidied, TidiedIf}
-
--- a pool that is left as it is
-pub tidied-same : {w : List ℕ} → Sound w → Tidied w w
-tidied-same S = record { sound = S; opened = refl; held = λ j l. refl; floors = λ j l. refl; ceilings = λ j l. refl; long = refl }
+use Rattle.tidy.specs.Tidy.{Tidied, TidiesIf, Ended}
 
 -- what settled before stays so
 pub settled-tidied : {w w₁ w₂ : List ℕ} {i : ℕ} {P : Positions} → i < opened_at w → Settled w w₁ i P → Tidied w₁ w₂ → Settled w w₂ i P
@@ -41,13 +37,13 @@ module _ {T : Type 0} (f : T → Result) {w w₁ : List ℕ} {i : ℕ} {c : Call
   sound-after (Err e) m = tt
 
   -- and the call is met then
-  pub met-after : {w₂ : List ℕ} (r : OrRefusal T) {r' : OrRefusal T} → Readable w i → Met w i c (answer_by (λ x. gave (f x)) r) w₁ → (r' ≡ r) × TidiedIf w₁ w₂ r
+  pub met-after : {w₂ : List ℕ} {worn : ℕ} (r : OrRefusal T) {r' : OrRefusal T} → Readable w i → Met w i c (answer_by (λ x. gave (f x)) r) w₁ → Ended w₁ w₂ worn r r'
       → Met w i c (answer_by (λ x. gave (f x)) r') w₂
-  met-after {w₂} r {r'} R m t = subst (λ s. Met w i c (answer_by (λ x. gave (f x)) s) w₂) (sym t.0) (go r m t.1)
+  met-after {w₂} {worn} r {r'} R m e = subst (λ s. Met w i c (answer_by (λ x. gave (f x)) s) w₂) (sym e.answered) (go r m e.tidies)
     where
-      go : (s : OrRefusal T) → Met w i c (answer_by (λ x. gave (f x)) s) w₁ → TidiedIf w₁ w₂ s → Met w i c (answer_by (λ x. gave (f x)) s) w₂
-      go (Ok x) m d = record { answered = m.answered; left = settled-tidied R.openable.named m.left d }
-      go (Err e) m d = record { answered = m.answered; left = d ∙ m.left }
+      go : (s : OrRefusal T) → Met w i c (answer_by (λ x. gave (f x)) s) w₁ → TidiesIf w₁ w₂ worn s → Met w i c (answer_by (λ x. gave (f x)) s) w₂
+      go (Ok x) m t = record { answered = m.answered; left = settled-tidied R.openable.named m.left t.tidied }
+      go (Err e) m t = record { answered = m.answered; left = t ∙ m.left }
 
 -- a pool has the same worlds then
 worlds-tidied : {w w' : List ℕ} → Tidied w w' → worlds_of w' ≡ worlds_of w

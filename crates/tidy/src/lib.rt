@@ -7,7 +7,7 @@
 ghost use Rattle.std.specs.Prelude.{◌≡◌, ◌+◌, ◌*◌, length, IfOk};
 ghost use Rattle.run_index.specs.Cells.{Room};
 ghost use Rattle.store.specs.Soundness.{Sound};
-ghost use Rattle.tidy.specs.Tidy.{Threads, Threaded, Tidied, TidiedIf};
+ghost use Rattle.tidy.specs.Tidy.{Threads, Threaded, Tidied, InOrder, Tidies, Ended};
 
 use model::Refusal;
 use run_index::Node;
@@ -42,7 +42,8 @@ fn thread_all(nodes: &mut [u64], n: u64) -> u64
 // Puts the free chain of a sound pool in order. It is a change of world 0 that leaves the world as it is.
 fn order(words: &mut [u64])
     requires { Sound words.old }
-    ensures { Tidied words.old words.new }
+    ensures tidied { Tidied words.old words.new }
+    ensures in_order { InOrder words.old words.new }
 {
     let h = store::open(words, 0);
     let n = (words.len() / 8 - 17) as u64;
@@ -50,24 +51,24 @@ fn order(words: &mut [u64])
     store::close(words, World { free, ..h });
 }
 
-// Does so where more than one link in 32 leads back: then it costs less than the calls that wore the chain did, since each of them freed
-// a node for each such link.
-pub fn tidy(words: &mut [u64], falls: u64)
+// Does so where the check found more links back than one for 2048 nodes. It looks at one link in 64, so that is one in 32 or so of all
+// links, each of which comes of a node that was freed: the calls that wore the chain cost more.
+pub fn tidy(words: &mut [u64], worn: u64)
     requires { Sound words.old }
-    ensures { Tidied words.old words.new }
+    ensures { Tidies words.old words.new worn }
 {
-    if falls > (words.len() / 256) as u64 {
+    if worn > (words.len() / 16384) as u64 {
         order(words);
     }
 }
 
 // The end of a call that changes a world: a worn chain is put in order, unless the call was refused.
-pub fn after<T>(words: &mut [u64], falls: u64, answer: Result<T, Refusal>) -> Result<T, Refusal>
+pub fn after<T>(words: &mut [u64], worn: u64, answer: Result<T, Refusal>) -> Result<T, Refusal>
     requires { IfOk answer (λ x. Sound words.old) }
-    ensures { (result ≡ answer) × TidiedIf words.old words.new answer }
+    ensures { Ended words.old words.new worn answer result }
 {
     if answer.is_ok() {
-        tidy(words, falls);
+        tidy(words, worn);
     }
     answer
 }

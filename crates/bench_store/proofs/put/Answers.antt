@@ -16,6 +16,6 @@ returns-in_default c =
 
 pub returns : goal.returns
 returns c =
-    let t = c.close.ensures _ _
+    let t = c.close.ensures.closes _ _
     (changed-closing c.open-h.ensures c.allowance-limit.ensures c.requires _ _ _ c.set.ensures.0 c.in-Some.is) in
     (t.sound, t.long)

@@ -29,4 +29,4 @@ play-requires c =
 
 pub returns : goal.returns
 returns c =
-    framed c.args.words.now c.args.calls.now c.args.answers.now (sound (goal.at.returns c).In_ok-worn) c.if-answers-calls.false c.play.ensures c.tidy.ensures
+    framed c.args.words.now c.args.calls.now c.args.answers.now (sound (goal.at.returns c).In_ok-worn) c.if-answers-calls.false c.play.ensures c.tidy.ensures.tidied

@@ -2,5 +2,5 @@
 use Rattle.store.proofs.Closing.{closes}
 use Rattle.store.proofs.close.Goals as goal
 
-pub returns : goal.returns
-returns c = closes c.write_world.ensures
+pub returns-clause-closes : goal.returns-clause-closes
+returns-clause-closes c = closes c.write_world.ensures

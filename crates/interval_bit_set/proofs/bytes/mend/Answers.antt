@@ -35,5 +35,5 @@ returns c =
     let report = c.mend-answer.new.report in
     record {
       met = met-after (given out report) c.mend-answer.result (looked-sound _ c.look_at.ensures.looked c.in_ok-worn.was) c.mend-answer.ensures.met c.after.ensures;
-      unmended = subst (λ r. Unmended r c.args.out.now out c.args.report.now report) (sym c.after.ensures.0) c.mend-answer.ensures.unmended;
+      unmended = subst (λ r. Unmended r c.args.out.now out c.args.report.now report) (sym c.after.ensures.answered) c.mend-answer.ensures.unmended;
     }

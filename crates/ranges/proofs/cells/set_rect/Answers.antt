@@ -34,4 +34,4 @@ close-requires c = (_, _, edit-closing c.requires c.open-h.ensures c.allowance-l
 pub returns : goal.returns
 returns c =
     edit-done (set-rect-says _ _ _ _) (plane-passes _ (subst (AreaOf c.args.q) c.in-Some.is c.area_of.ensures).0) c.requires c.open-h.ensures
-    (cells (goal.at.returns c).After-open-h) c.allowance-limit.ensures _ _ c.set.ensures c.in-Some-set.is c.close.ensures refl
+    (cells (goal.at.returns c).After-open-h) c.allowance-limit.ensures _ _ c.set.ensures c.in-Some-set.is c.close.ensures.closes refl

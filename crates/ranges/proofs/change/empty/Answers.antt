@@ -12,4 +12,4 @@ close-requires c =
 
 pub returns : goal.returns
 returns c =
-    empty-done c.requires c.open-h.ensures _ c.emptied-k.ensures c.close.ensures
+    empty-done c.requires c.open-h.ensures _ c.emptied-k.ensures c.close.ensures.closes

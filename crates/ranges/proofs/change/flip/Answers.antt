@@ -22,4 +22,4 @@ close-requires c = (_, _, fit-closing c.requires c.open-h.ensures c.allowance-li
 pub returns : goal.returns
 returns c =
     fit-done (flip-says _ _ _ _) refl c.requires c.open-h.ensures (flip-within (its-positions c.args.lower c.args.upper c.within.ensures c.in-Some.is) c.open-h.ensures)
-    c.allowance-limit.ensures _ _ c.flip.ensures c.in-Some-flip.is c.close.ensures refl
+    c.allowance-limit.ensures _ _ c.flip.ensures c.in-Some-flip.is c.close.ensures.closes refl

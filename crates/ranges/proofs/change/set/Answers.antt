@@ -25,4 +25,4 @@ close-requires c = (_, _, edit-closing c.requires c.open-h.ensures c.allowance-l
 pub returns : goal.returns
 returns c =
     edit-done (set_says _ _ _ _ _) refl c.requires c.open-h.ensures (set-within (its-positions c.args.lower c.args.upper c.within.ensures c.in-Some.is) c.open-h.ensures _)
-    c.allowance-limit.ensures _ _ c.set.ensures.0 c.in-Some-set.is c.close.ensures refl
+    c.allowance-limit.ensures _ _ c.set.ensures.0 c.in-Some-set.is c.close.ensures.closes refl

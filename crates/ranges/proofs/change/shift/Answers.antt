@@ -16,4 +16,4 @@ close-requires c =
 pub returns : goal.returns
 returns c =
     move-done (shift_says _ _ _ _) refl c.requires c.open-h.ensures (ap (shift_by _ _) (lent-held c.open-h.ensures))
-    _ _ _ (omega (arith, c.ranges.distance.fits)) refl c.shift-k.ensures c.close.ensures refl
+    _ _ _ (omega (arith, c.ranges.distance.fits)) refl c.shift-k.ensures c.close.ensures.closes refl

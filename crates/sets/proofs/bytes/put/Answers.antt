@@ -23,5 +23,5 @@ pub returns : goal.returns
 returns g c =
     let many = ordered-many c.requires.ordered in (
       receive-few c.requires.readable many c.allowance.ensures (omega (arith, c.count.ensures, c.if-count-allowance.false)) c.open-h.ensures,
-      receive-settled c.requires.readable many c.allowance.ensures (omega (arith, c.count.ensures, c.if-count-allowance.false)) c.open-h.ensures _ c.build-k.ensures c.close.ensures,
+      receive-settled c.requires.readable many c.allowance.ensures (omega (arith, c.count.ensures, c.if-count-allowance.false)) c.open-h.ensures _ c.build-k.ensures c.close.ensures.closes,
     )

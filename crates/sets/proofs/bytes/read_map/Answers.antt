@@ -77,4 +77,4 @@ returns-in-None g c =
 pub returns-in-Some : goal.returns-in-Some
 returns-in-Some g c =
     edit-done (read-map-says _ _ _ _ _) (passes (goal.at.returns-in-Some g c).Else-stray_bits-gt0) c.requires c.open-h.ensures
-    (ap (mapped _ _ _) (lent-held c.open-h.ensures)) c.allowance-limit.ensures _ _ c.read_map-e.ensures c.in-Some.is c.close.ensures refl
+    (ap (mapped _ _ _) (lent-held c.open-h.ensures)) c.allowance-limit.ensures _ _ c.read_map-e.ensures c.in-Some.is c.close.ensures.closes refl

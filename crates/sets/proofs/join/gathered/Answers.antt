@@ -17,4 +17,4 @@ close-requires c =
 pub returns : goal.returns
 returns c =
     let few = test_fits _ _ _ c.fits.ensures c.allowance.ensures (ap not c.if-not-fits.false) in
-    (few, gather-settled c.requires.readable few c.open-h.ensures _ c.gather-k.ensures c.close.ensures)
+    (few, gather-settled c.requires.readable few c.open-h.ensures _ c.gather-k.ensures c.close.ensures.closes)

@@ -111,4 +111,4 @@ returns c =
     mend-done _ _ _ c.requires c.in_ok-told.ensures.1 (counted at.After-outcome_runs-k) (few at.Else-k-allowance) c.length_of-due.ensures refl refl
     c.if-out-due.false c.if-report-notes.false (again at.After-put_outcome) (filled at.After-put_outcome)
     (receive-few c.requires many c.allowance.ensures (fits at.After-open-h) c.open-h.ensures)
-    (receive-settled c.requires many c.allowance.ensures (fits at.After-open-h) c.open-h.ensures _ c.build-w.ensures c.close.ensures)
+    (receive-settled c.requires many c.allowance.ensures (fits at.After-open-h) c.open-h.ensures _ c.build-w.ensures c.close.ensures.closes)
