@@ -4,10 +4,8 @@
 #include <stdio.h>
 #include <stdlib.h>
 #include <string.h>
+#include "chance.h"
 #include "vizturel.h"
-
-#define BASE ((uint64_t)1 << 40)
-#define CELL 1024 /* each run lies in a cell of its own */
 
 static const struct {
     const char *name;
@@ -16,14 +14,6 @@ static const struct {
     {"set", VIZTUREL_CALL_SET},   {"flip", VIZTUREL_CALL_FLIP},     {"shift", VIZTUREL_CALL_SHIFT},   {"get", VIZTUREL_CALL_GET},
     {"find", VIZTUREL_CALL_FIND}, {"tally", VIZTUREL_CALL_TALLY},   {"select", VIZTUREL_CALL_SELECT}, {"run_at", VIZTUREL_CALL_RUN_AT},
 };
-
-static uint64_t seed = 88172645463325252u;
-static uint64_t chance(uint64_t below) {
-    seed ^= seed << 13;
-    seed ^= seed >> 7;
-    seed ^= seed << 17;
-    return seed % below;
-}
 
 /* Sets and flips come in pairs, the second of which undoes the first: of positions before a run, then of those after one. */
 static void change(vizturel_call *c, size_t i, uint64_t cell, const uint64_t *ends) {
