@@ -228,6 +228,7 @@ opened-told w k o small =
     let S = o.sound in
     let l = o.named in
     record {
+      is = refl;
       limited = record {
         standing = world-standing S k l;
         fits = held-allowed w k o;

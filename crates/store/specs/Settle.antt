@@ -10,7 +10,7 @@ use Rattle.run_index.specs.Tree.{Tree, leaf, inorder}
 use Rattle.run_index.specs.Strung.{FreeChain, Filled}
 use Rattle.store.specs.declared.World.{World}
 use Rattle.store.specs.declared.Links.{Links}
-use Rattle.store.specs.Layout.{opened_at, floor_at, ceiling_at, nodes, allowance, turned, held_in, held_by}
+use Rattle.store.specs.Layout.{opened_at, floor_at, ceiling_at, nodes, allowance, turned, world_at, held_in, held_by}
 use Rattle.store.specs.Soundness.{first_of, last_of, Share, Apart, Still, Kept, Standing, Limited, share_of, Sound}
 
 -- w' is a sound pool of the same length, whose world k holds P; all else is as it was: how many worlds there are, the positions of the others,
@@ -88,6 +88,7 @@ pub record Openable (w : List ℕ) (k : ℕ) : Type 0 where
 
 -- the world h is world k of the words w: it has its allowance, and holds what that does; its nodes are told by their tag
 pub record Opened (w : List ℕ) (k : ℕ) (h : World) : Type 0 where
+  pub is : h ≡ world_at w k
   pub limited : Limited (nodes w) (share_of w k) h (allowance w k)
   pub held : held_in (nodes w) h ≡ held_by w k
   pub apart : Apart (nodes w) (share_of w k)

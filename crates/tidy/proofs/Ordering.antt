@@ -1,22 +1,23 @@
 -- A world whose pool's free nodes were threaded anew stands as it did. The nodes that have no height are just the free ones, since a node of any
 -- tree has a height: so the chain has the same nodes, and no cell of a tree has changed. Assumes nothing.
-use Prim.Native.Nat.{ℕ, zero, suc, ◌-◌, ◌/◌, ◌≤◌, ◌<◌}
+use Prim.Native.Nat.{ℕ, zero, suc, ◌+◌, ◌-◌, ◌/◌, ◌≤◌, ◌<◌}
 use mathlib.Core.Path.{◌≡◌, sym, ap, ◌∙◌, subst, fun_ext}
 use mathlib.Core.Logic.{◌⊎◌, inl, inr}
 use mathlib.Core.List.{List}
 use native.Mathlib.Omega.{arith}
 use native.Mathlib.Decide.{ℕ_discrete}
 use lib.ListN.{length}
-use Rattle.model.specs.Numbers.{size}
+use Rattle.model.specs.Numbers.{size, most_worlds}
 use Rattle.model.specs.Positions.{Positions, held_runs}
 use Rattle.model.proofs.Numbers.{split}
+use Rattle.run_index.specs.declared.Node.{Node}
 use Rattle.run_index.specs.Cells.{cell_at, Room}
 use Rattle.run_index.specs.Tree.{count, At}
 use Rattle.run_index.specs.Strung.{times, Free}
 use Rattle.run_index.proofs.Heap.{frame}
 use Rattle.run_index.proofs.Strings.{strung-kept}
 use Rattle.store.specs.declared.World.{World}
-use Rattle.store.specs.Layout.{opened_at, free_head, Headed, world_at, nodes, links_of, node_count, held_in, held_by}
+use Rattle.store.specs.Layout.{opened_at, free_head, record_at, floor_at, ceiling_at, record_cell, Headed, world_at, nodes, links_of, node_count, held_in, held_by}
 use Rattle.store.specs.Soundness.{Chain, first_of, last_of, Share, Kept, Standing, sum_to, without, count_at, share_of, Planted, Sound}
 use Rattle.store.specs.Settle.{Settled, Became, Openable, Opened, Closing, Closes}
 use Rattle.store.proofs.Sums.{sum-some, without-here, without-there}
@@ -31,7 +32,7 @@ use Rattle.store.proofs.Turn.{pool-past}
 use Rattle.soundness.proofs.Counting.{Among, sum, sum-times}
 use Rattle.promises.proofs.Doors.{lent-limited, lent-held, lent-closing, lent-settled}
 use Rattle.promises.proofs.Simulation.{same-positions}
-use Rattle.tidy.specs.Tidy.{lows, Threaded, Tidied, InOrder}
+use Rattle.tidy.specs.Tidy.{lows, Threaded, Tidied, free_nodes, InOrder}
 use Rattle.tidy.proofs.Threading.{lows-before, lows-high, lows-once}
 
 -- the world with another head of the free chain
@@ -198,24 +199,47 @@ module _ {w : List ℕ} {h : World} (S : Sound w) (op : Opened w 0 h) {ys : List
         go j l (no ne) = settled.others j l ne
 
   -- and its chain is in order
-  pub ordered-chain : {w' : List ℕ} → Headed (back w ys) w' (headed_at h f) → InOrder w w'
-  ordered-chain {w'} hd =
-      subst (Chain (nodes w') (free_head w')) in-nodes (subst (λ i. Chain (nodes w') i ls) (sym (closing-head ordered-closing hd)) kept)
-    where
-      ls : List ℕ
-      ls = lows (lent w) 0 n
+  module _ {w' : List ℕ} (hd : Headed (back w ys) w' (headed_at h f)) where
+    -- the threaded nodes, put back
+    there : nodes (back w ys) ≡ ys
+    there = back-nodes w ys (omega (arith, (sized-length w S.sized).0))
 
-      in-nodes : ls ≡ lows (nodes w) 0 (node_count w)
-      in-nodes = ap (λ v. lows v 0 n) (lent-nodes w) ∙ ap (lows (nodes w) 0) e
+    free-nodes : lows (lent w) 0 n ≡ free_nodes w
+    free-nodes = ap (λ v. lows v 0 n) (lent-nodes w) ∙ ap (lows (nodes w) 0) e
 
-      -- the threaded nodes, put back
-      there : nodes (back w ys) ≡ ys
-      there = back-nodes w ys (omega (arith, (sized-length w S.sized).0))
+    -- closing writes none of them
+    node-there : (m : ℕ) → 1 ≤ m → cell_at (nodes w') m ≡ cell_at ys m
+    node-there m some = closing-nodes ordered-closing hd m some ∙ ap (λ v. cell_at v m) there
 
-      same : (m : ℕ) → 1 ≤ times m ls → cell_at (nodes w') m ≡ cell_at (nodes (back w ys)) m
-      same zero i = absurd (omega (arith, lows-before (lent w) 0 n 0 (omega arith)))
-      same (suc m) i = closing-nodes ordered-closing hd (suc m) (omega arith)
+    long : length (nodes w') ≡ length ys
+    long = nodes-long (back w ys) w' hd.long ∙ ap length there
 
-      kept : Chain (nodes w') f ls
-      kept =
-          strung-kept Free (nodes (back w ys)) (nodes w') (nodes-long (back w ys) w' hd.long) f ls 0 same (subst (λ v. Chain v f ls) (sym there) th.chain)
+    chained : Chain (nodes w') (free_head w') (lows (lent w) 0 n)
+    chained =
+        subst (λ i. Chain (nodes w') i (lows (lent w) 0 n)) (sym (closing-head ordered-closing hd))
+        (strung-kept Free ys (nodes w') long f (lows (lent w) 0 n) 0 same th.chain)
+      where
+        same : (m : ℕ) → 1 ≤ times m (lows (lent w) 0 n) → cell_at (nodes w') m ≡ cell_at ys m
+        same zero i = absurd (omega (arith, lows-before (lent w) 0 n 0 (omega arith)))
+        same (suc m) i = node-there (suc m) (omega arith)
+
+    -- nor another record than that of world 0, which stays as it is
+    before : (k : ℕ) → k < most_worlds → record_at (back w ys) k ≡ record_at w k
+    before k l = ordered-closing.before (k + 1) (omega arith)
+
+    number : h.tag ≡ 0
+    number = ap (λ (z : World). z.tag) op.is
+
+    record-same : (k : ℕ) → k < most_worlds → Dec (k ≡ 0) → record_at w' k ≡ record_at w k
+    record-same k l (yes z) =
+        ap (record_at w') (z ∙ sym number) ∙ hd.here
+        ∙ ap (λ (u : World). record_cell (headed_at u f) (floor_at (back w ys) u.tag) (ceiling_at (back w ys) u.tag)) op.is
+        ∙ ap (λ (v : Node). record_cell (headed_at (world_at w 0) f) v.ones v.tag) (before 0 (omega arith)) ∙ ap (record_at w) (sym z)
+    record-same k l (no ne) = hd.there (k + 1) (omega arith) (λ q. omega (arith, number)) ∙ before k l
+
+    pub ordered-chain : InOrder w w'
+    ordered-chain = record {
+      chain = subst (Chain (nodes w') (free_head w')) free-nodes chained;
+      others = λ m some z. node-there m some ∙ th.kept m (ap (times m) free-nodes ∙ z) ∙ ap (λ v. cell_at v m) (lent-nodes w);
+      records = λ k l. record-same k l (ℕ_discrete k 0);
+    }

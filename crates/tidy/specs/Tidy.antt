@@ -1,11 +1,11 @@
 -- The free chain in order: what threading the free nodes promises, and that a pool so tidied has every world as it was. Assumes nothing: these
 -- are definitions.
-use Rattle.std.specs.Prelude.{ℕ, zero, suc, ◌/◌, ◌<◌, ◌≡◌, ◌⊎◌, cond, List, [], ◌∷◌, eqb, length, Ok, Err}
+use Rattle.std.specs.Prelude.{ℕ, zero, suc, ◌/◌, ◌<◌, ◌≤◌, ◌≡◌, ◌⊎◌, cond, List, [], ◌∷◌, eqb, length, Ok, Err}
 use Rattle.model.specs.Numbers.{most_worlds}
 use Rattle.model.specs.Answers.{OrRefusal}
 use Rattle.run_index.specs.Cells.{cell_at, Wrote}
 use Rattle.run_index.specs.Strung.{times, free_cell}
-use Rattle.store.specs.Layout.{opened_at, free_head, floor_at, ceiling_at, nodes, node_count, held_by}
+use Rattle.store.specs.Layout.{opened_at, free_head, record_at, floor_at, ceiling_at, nodes, node_count, held_by}
 use Rattle.store.specs.Soundness.{Chain, Sound}
 
 -- those of the nodes k + 1 .. k + n that have no height, in the order in which they lie
@@ -33,14 +33,22 @@ pub record Tidied (w w' : List ℕ) : Type 0 where
   pub ceilings : (j : ℕ) → j < most_worlds → ceiling_at w' j ≡ ceiling_at w j
   pub long : length w' ≡ length w
 
--- the free chain of w' is in order: it leads through the free nodes of w in the order in which they lie
-abbrev pub InOrder : List ℕ → List ℕ → Type 0
-InOrder w w' = Chain (nodes w') (free_head w') (lows (nodes w) 0 (node_count w))
+-- the free nodes of w, in the order in which they lie
+abbrev pub free_nodes : List ℕ → List ℕ
+free_nodes w = lows (nodes w) 0 (node_count w)
 
--- w' is such a pool, and a chain that was worn is in order: of the links looked at more led back than one for 2048 nodes
+-- the free chain of w' leads through these in that order, and no other node and no record has changed
+pub record InOrder (w w' : List ℕ) : Type 0 where
+  pub chain : Chain (nodes w') (free_head w') (free_nodes w)
+  pub others : (m : ℕ) → 1 ≤ m → times m (free_nodes w) ≡ 0 → cell_at (nodes w') m ≡ cell_at (nodes w) m
+  pub records : (k : ℕ) → k < most_worlds → record_at w' k ≡ record_at w k
+
+-- w' is such a pool: with its chain in order where that was worn, of the links looked at more leading back than one for 2048 nodes, else with each
+-- word as it was
 pub record Tidies (w w' : List ℕ) (worn : ℕ) : Type 0 where
   pub tidied : Tidied w w'
   pub in-order : length w / 16384 < worn → InOrder w w'
+  pub left : worn ≤ length w / 16384 → w' ≡ w
 
 -- the same unless the call was refused: then every word is as it was
 abbrev pub TidiesIf : {T : Type 0} → List ℕ → List ℕ → ℕ → OrRefusal T → Type 0
