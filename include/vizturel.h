@@ -6,13 +6,20 @@
  * ceiling. What lies between is shared: whichever world needs a run first gets it. Whoever needs one set makes a pool of one world by
  * vizturel_new_one, and names world 0.
  *
- * Every other call but vizturel_deepest and vizturel_why_full names a world by its number, from 0 on, after the pool's words and their count. A
- * further pool is lent in the same way, and with the number of the world that is meant. A change of one world leaves the positions of all others,
- * and no call but vizturel_new changes a floor or a ceiling.
+ * A call on a world names it by its number, from 0 on, after the pool's words and their count. A further pool is lent in the same way, and with the
+ * number of the world that is meant. vizturel_frame names worlds in its records; vizturel_deepest and vizturel_why_full name none, and
+ * vizturel_convert and vizturel_clear_map take no pool. A change of one world leaves the positions of all others, and no call but vizturel_new
+ * changes a floor or a ceiling.
  *
  * Any words may be lent to any call: what is no pool, or not a sound one, is refused, and then nothing has changed. Only vizturel_new, and
  * vizturel_deepest and vizturel_why_full, which ask how long a pool is and no more, take words that hold anything. No call allocates, keeps a
  * pointer or writes past what is lent.
+ *
+ * MEMORY. A slice of length 0 may be NULL. The words of a pool hold no pointers: a copy of all of them, wherever it lies, is the same pool, so a
+ * snapshot is taken and put back by memcpy. It is one for the same build: written sets travel between builds (below).
+ *
+ * THREADS. The library keeps nothing between calls and takes no lock. Calls on different pools may run at once, and so may calls on one pool that
+ * only read it (const uint64_t *words). A call that may write a pool must be alone with it; vizturel_frame is one.
  *
  * NO OVERLAP. Two pools or slices lent to one call must not overlap, unless both are only read. So vizturel_eq compares two worlds of one pool as
  * they are, but a world that is overwritten (by vizturel_combine, vizturel_not or vizturel_shifted) cannot be made of worlds of its own pool:
@@ -20,8 +27,9 @@
  *
  * REFUSALS. Every answer begins with a refusal's number, or is one; 0 means that the call was done. A refused call has changed no word and no
  * byte. Where several would hold, the first of this order is given: 1 of any pool, 11, 7 of any pool, 12 of any world, 13, 16, 9, 14, 15, 6, 10, 3
- * (under 5 bytes), 4, 3, 5, 8, 2. Every call on a pool but vizturel_new, vizturel_deepest and vizturel_why_full may be refused with 1, 7 and 12, of
- * the pool that receives the result too.
+ * (under 5 bytes), 4, 3, 5, 8, 2. Every call on a world may be refused with 1, 7 and 12, of the pool that receives the result too; vizturel_frame
+ * with 1, 7 and 2, and 12 stands in the answer of a record. All other fields of a refused answer are 0, and so is the position, or the run, where
+ * found is 0. Later versions may give further refusals: take any number but 0 for one.
  *
  *   1  a pool's length is not 8 * (C + 49) words for a C from 1 to 65,536
  *   2  an output is shorter than what is due
@@ -50,15 +58,17 @@
  * soundness check.
  *
  * LOCKSTEP. Two sound pools of one capacity that opened equally many worlds, with the same positions, floor and ceiling in each, answer every later
- * list of equal calls alike.
+ * list of equal calls alike. So all builds of a match need the same C and the same limits, and a late player has to be told them beside a written
+ * set for each world, which does not have them.
  *
  * RESERVED NUMBERS. Where numbers have names here (call numbers, kinds of bounds, operations, editions), the named ones stay as they are. The call
  * numbers 7 and 9 are withdrawn and stay so: such a record is answered with 12, whatever world it names, and not as another call. All other
  * numbers are reserved: a later version may give them a meaning. This version takes a reserved call number for a get, a reserved kind for no
  * bound, a reserved operation for XOR and a reserved edition for rows. Do not rely on it.
  *
- * Link libvizturel.a, for x86-64 Linux: `make lib` writes it to target/lib/, and this header to target/include/. Of a C library it needs memset,
- * memmove and memcpy alone. docs/CALLS.md has every call with its cost.
+ * Link libvizturel.a, for x86-64 Linux: `make lib` writes it to target/lib/, and this header to target/include/. Take both from one build: structs
+ * and signatures are that build's. Of a C library it needs memset, memmove and memcpy alone. The header is C11 and C++17. docs/CALLS.md has every
+ * call with its cost.
  */
 #ifndef VIZTUREL_H
 #define VIZTUREL_H
@@ -198,6 +208,7 @@ typedef struct {
     uint64_t runs;
 } vizturel_tallied;
 
+/* thousandths of vizturel_fill, cells of vizturel_count_rect, spare bits that were one of vizturel_clear_map */
 typedef struct {
     uint64_t refusal;
     uint64_t number;
@@ -359,10 +370,7 @@ uint64_t vizturel_shifted(uint64_t *words, size_t count, uint64_t world, uint64_
 /* ---- written sets, run lists and maps. Each that takes a pool is refused with 1, 7, 12, then as is said there. vizturel_convert and
  * vizturel_clear_map take none.
  *
- * Written sets travel between builds; the words of a pool do not, since offsets and the arrangement of nodes are each build's own. Two sound pools
- * of one capacity C that opened equally many worlds, with the same positions, floor and ceiling in each, answer every later list of equal calls
- * alike. So all builds of a match need the same C and the same limits, and a late player has to be told them beside a written set for each world,
- * which does not have them. */
+ * Written sets travel between builds; the words of a pool do not, since offsets and the arrangement of nodes are each build's own. */
 
 /* Overwrites a world with the set that a written set of either edition tells. Refused with 3, 4, 3, 5, 8. */
 uint64_t vizturel_load(uint64_t *words, size_t count, uint64_t world, const uint8_t *bytes, size_t bytes_count);
@@ -506,11 +514,11 @@ typedef struct {
  * of the list that is refused (with 12, 9, 14, 15, 6 or 8) has changed nothing, and the next one follows. Words of calls after the last whole record
  * are not read. The whole is refused with 1 or 7 of the pool before the first call, or 2 where answers is too short for a record of each call:
  * then no call was made. */
-uint64_t vizturel_frame(uint64_t *words, size_t n, const uint64_t *calls, size_t calls_words, uint64_t *answers, size_t answers_words);
+uint64_t vizturel_frame(uint64_t *words, size_t count, const uint64_t *calls, size_t calls_words, uint64_t *answers, size_t answers_words);
 
-/* The same over structs: count calls, and room for so many answers. */
-static inline uint64_t vizturel_play(uint64_t *words, size_t n, const vizturel_call *calls, size_t count, vizturel_answer *answers, size_t room) {
-    return vizturel_frame(words, n, (const uint64_t *)(const void *)calls, 8 * count, (uint64_t *)(void *)answers, 8 * room);
+/* The same over structs: n calls, and room for so many answers. */
+static inline uint64_t vizturel_play(uint64_t *words, size_t count, const vizturel_call *calls, size_t n, vizturel_answer *answers, size_t room) {
+    return vizturel_frame(words, count, (const uint64_t *)(const void *)calls, 8 * n, (uint64_t *)(void *)answers, 8 * room);
 }
 
 #ifdef __cplusplus

@@ -30,7 +30,7 @@
 //! # }
 //! ```
 //!
-//! Every other call makes the soundness check first: one pass over all nodes, used and free ones, whose cost goes by the capacity and not by the
+//! Every call on a world makes the soundness check first: one pass over all nodes, used and free ones, whose cost goes by the capacity and not by the
 //! runs. Most calls then need one path down the tree. [`Pool::frame`] and [`Pool::play`] make a list of calls after one soundness check.
 
 use std::error;
@@ -41,7 +41,7 @@ pub mod bench;
 pub mod conformance;
 pub mod differential;
 pub mod frame;
-/// IntervalBitSet as published (see NOTICE), not a byte changed. It has all that was published with it, so nothing had to be added.
+/// IntervalBitSet as published (see NOTICE), not a byte changed. It has all that was published with it.
 #[rustfmt::skip]
 pub mod oracle;
 pub mod play;

@@ -86,7 +86,7 @@ call_by Kind.Get e = Call.get e.from
 abbrev pub call_of : {S : Type 0} → Entry → Call S
 call_of e = call_by (kind_of e.call) e
 
--- 7 and 9 were calls once
+-- the withdrawn numbers
 unfoldable pub withdrawn : ℕ → Bool
 withdrawn n = n == 7 || n == 9
 
