@@ -1,22 +1,25 @@
--- Runs set one by one into an empty world: each adds at most one run to its tree. Those of the shortest list for a height touch none of those
--- before them, so each is put into the tree, and none is refused. Assumes nothing.
+-- Runs set one by one into an empty world: it holds those that were set, and each adds at most one run to its tree. Those of the shortest list for
+-- a height touch none of those before them, so each is put into the tree, and none is refused. Assumes nothing.
 use Rattle.changes.specs.Edits.{changed_to}
 use Rattle.std.specs.Prelude.{Option, None, Some}
 use Rattle.changes.specs.declared.edit.Edit.{Edit}
 use Prim.Native.Nat.{ℕ, suc, ◌+◌, ◌-◌, ◌≤◌, ◌<◌}
 use mathlib.Core.Path.{◌≡◌, refl, sym, ap, ap₂, ◌∙◌, subst}
-use mathlib.Core.Bool.{true}
+use mathlib.Core.Bool.{true, false, ◌||◌, or-true, or-false}
 use mathlib.Core.List.{List, [], ◌∷◌, ◌++◌, append-nil}
 use native.Mathlib.Omega.{arith}
-use lib.ListN.{length, length-append, get_or}
-use lib.Seq.{get_or-append-add}
+use lib.ListN.{length, length-append, get_or, take}
+use lib.Seq.{get_or-append-add, take-length}
+use Rattle.std.proofs.lemmas.List.{take_more}
 use Rattle.model.specs.declared.Run.{Run}
 use Rattle.model.specs.declared.Count.{Count}
 use Rattle.model.specs.Numbers.{size}
-use Rattle.model.specs.Positions.{run, set_range, stretches}
+use Rattle.model.specs.Positions.{Positions, run, set_range, stretches, mem, empty, inside}
 use Rattle.model.specs.RunList.{TouchesNone}
 use Rattle.model.specs.Deepest.{deepest_runs}
-use Rattle.model.proofs.Runs.{stretches-cong}
+use Rattle.model.proofs.Counting.{Place, below, within, above, place}
+use Rattle.model.proofs.Runs.{stretches-cong, mem-append}
+use Rattle.model.proofs.After.{set-inside, set_below, set-above, set-cong}
 use Rattle.model.proofs.Deepest.{deepest-apart}
 use Rattle.run_index.specs.Tree.{Tree, leaf, node, runs, height, inorder, At}
 use Rattle.run_index.specs.Shape.{inserted, Sown}
@@ -39,9 +42,20 @@ use Rattle.changes.proofs.Lists.{append-one}
 use Rattle.changes.proofs.SetRuns.{set-one-more}
 
 -- ---- whatever the runs are
--- after i of them the world k has at most so many
-pub record Growing (w₀ w : List ℕ) (s : Share) (limit i : ℕ) (k : World) : Type 0 where
+-- the positions of some runs, with those of one more set, are those of all of them
+set-mem : (r : Run) (rs : List Run) → r.start ≤ r.«end» → (x : ℕ) → set_range r.start (suc r.«end» - r.start) true (mem rs) x ≡ mem (rs ++ (r ∷ [])) x
+unfolding mem
+set-mem r rs ordered x = go (place r.start r.«end» x) ∙ sym (mem-append rs (r ∷ []) x)
+  where
+    go : Place r.start r.«end» x → set_range r.start (suc r.«end» - r.start) true (mem rs) x ≡ (mem rs x || (inside r.start r.«end» x || false))
+    go (below l e) = rw (e, or-false (mem rs x)) (set_below r.start (suc r.«end» - r.start) true (mem rs) x l)
+    go (within l m e) = rw (e, or-true (mem rs x)) (set-inside r.start (suc r.«end» - r.start) true (mem rs) x l (omega arith))
+    go (above l e) = rw (e, or-false (mem rs x)) (set-above r.start (suc r.«end» - r.start) true (mem rs) x (omega arith))
+
+-- after the first i of the runs rs the world k holds these, in at most so many runs
+pub record Growing (w₀ w : List ℕ) (s : Share) (limit : ℕ) (rs : List Run) (i : ℕ) (k : World) : Type 0 where
   pub limited : Limited w s k limit
+  pub holds : (x : ℕ) → x < size → held_in w k x ≡ mem (take i rs) x
   pub few : stretches (held_in w k) ≤ i
   pub no-offset : k.offset ≡ 0
   pub still : Still w₀ w s
@@ -53,9 +67,11 @@ no-root (node n a b l r) h z = absurd (node-some h z)
 
 module _ {w : List ℕ} {s : Share} {h : World} {limit : ℕ} {rs : List Run} (m : MayPlant w s h limit rs) where
   -- at first there is no run
-  pub growing-none : Growing w w s limit 0 h
+  pub growing-none : Growing w w s limit rs 0 h
+  unfolding mem empty
   growing-none = record {
     limited = m.limited;
+    holds = λ x l. ap (λ P. P x) (rootless-empty w h.root h.offset m.bare);
     few = omega (arith, ap stretches (rootless-empty w h.root h.offset m.bare), empty-stretches);
     no-offset = m.limited.standing.empty-offset m.bare;
     still = still-same;
@@ -65,43 +81,61 @@ module _ {w : List ℕ} {s : Share} {h : World} {limit : ℕ} {rs : List Run} (m
   pub bare-tree : tree_of w h ≡ leaf
   bare-tree = let st = m.limited.standing in kept-tree st.kept ∙ no-root st.tree st.kept.linked m.bare
 
-module _ {w₀ w : List ℕ} {s : Share} {k : World} {limit i : ℕ} (g : Growing w₀ w s limit i k) where
+module _ {w₀ w : List ℕ} {s : Share} {k : World} {limit i : ℕ} {rs : List Run} (g : Growing w₀ w s limit rs i k) where
   -- the tree has no more runs
   growing-runs : runs (tree_of w k) ≤ i
   growing-runs = omega (arith, unturned-runs g.limited.standing g.no-offset, g.few)
 
   -- after the last one: what is promised of any list
-  pub growing-all : {n : ℕ} → i ≡ n → Grown w₀ w s limit n (Some k)
-  growing-all e =
-      (g.limited, omega (arith, growing-runs), λ d less. standing-lower g.limited.standing d (omega (arith, growing-runs)), g.still)
+  pub growing-all : i ≡ length rs → Grown w₀ w s limit rs (Some k)
+  growing-all e = (
+    g.limited,
+    λ x l. g.holds x l ∙ ap (λ (qs : List Run). mem qs x) (ap (λ j. take j rs) e ∙ take-length rs),
+    omega (arith, growing-runs),
+    λ d less. standing-lower g.limited.standing d (omega (arith, growing-runs)),
+    g.still,
+  )
 
-  module _ (a b : ℕ) (ordered : a ≤ b) (below : b < size) where
-    -- one run more leaves at most one run more
-    pub next-few : stretches (set_range a (suc b - a) true (held_in w k)) ≤ i + 1
-    next-few = omega (arith, set-one-more (held_in w k) a (suc b - a) true (omega arith) (omega arith), g.few)
+  module _ (lt : i < length rs) (r : Run) (er : r ≡ get_or rs i (run 0 0)) (ordered : r.start ≤ r.«end») (below : r.«end» < size) where
+    -- what the world holds with the next run set
+    abbrev grown : Positions
+    grown = set_range r.start (suc r.«end» - r.start) true (held_in w k)
 
-    module _ (w' : List ℕ) (e : Option Edit) (ed : Edited w w' k limit (set_range a (suc b - a) true (held_in w k)) e) where
-      -- where it was refused, others stand still
-      pub next-refused : e ≡ None → Still w₀ w' s
+    -- these are the positions of one run more of the list
+    next-holds : (x : ℕ) → x < size → grown x ≡ mem (take (i + 1) rs) x
+    next-holds x l =
+        set-cong r.start (suc r.«end» - r.start) true (held_in w k) (mem (take i rs)) x (g.holds x l) ∙ set-mem r (take i rs) ordered x
+        ∙ ap (λ (qs : List Run). mem qs x) (ap (λ (q : Run). take i rs ++ (q ∷ [])) er ∙ sym (take_more rs i (run 0 0) lt))
+
+    -- and at most one run more than before
+    pub next-few : stretches grown ≤ i + 1
+    next-few = omega (arith, set-one-more (held_in w k) r.start (suc r.«end» - r.start) true (omega arith) (omega arith), g.few)
+
+    module _ (w' : List ℕ) (e : Option Edit) (ed : Edited w w' k limit grown e) where
+      -- where it was refused, there was no room for it, and others stand still
+      pub next-refused : e ≡ None → Grown w₀ w' s limit rs None
       next-refused q =
-          let f = subst (Edited w w' k limit (set_range a (suc b - a) true (held_in w k))) q ed in
-          subst (λ (v : List ℕ). Still w₀ v s) (sym f.1) g.still
+          let f = subst (Edited w w' k limit grown) q ed in (
+            subst (λ (v : List ℕ). Still w₀ v s) (sym f.1) g.still,
+            (i + 1, omega arith, omega (arith, f.0, stretches-cong grown (mem (take (i + 1) rs)) next-holds)),
+          )
 
       -- else the world has it
-      pub growing-more : GrowsBy w w' k a b true e → (k' : World) (c : Count) → e ≡ changed_to k' c → Growing w₀ w' s limit (i + 1) k'
+      pub growing-more : GrowsBy w w' k r.start r.«end» true e → (k' : World) (c : Count) → e ≡ changed_to k' c → Growing w₀ w' s limit rs (i + 1) k'
       growing-more gr k' c q = record {
         limited = became-limited g.limited made told.0;
-        few = omega (arith, next-few, stretches-cong (held_in w' k') (set_range a (suc b - a) true (held_in w k)) made.shows.holds);
-        no-offset = (subst (GrowsBy w w' k a b true) q gr).1 g.no-offset;
+        holds = λ x l. made.shows.holds x l ∙ next-holds x l;
+        few = omega (arith, next-few, stretches-cong (held_in w' k') grown made.shows.holds);
+        no-offset = (subst (GrowsBy w w' k r.start r.«end» true) q gr).1 g.no-offset;
         still = still-then g.still made.still;
       }
         where
           -- what the call tells, of the world that it gives back
-          told : Edited w w' k limit (set_range a (suc b - a) true (held_in w k)) (changed_to k' c)
-          told = subst (Edited w w' k limit (set_range a (suc b - a) true (held_in w k))) q ed
+          told : Edited w w' k limit grown (changed_to k' c)
+          told = subst (Edited w w' k limit grown) q ed
 
           -- what it made of the world
-          made : Became w w' s k' (set_range a (suc b - a) true (held_in w k))
+          made : Became w w' s k' grown
           made = told.1 s limit g.limited told.0
 
 -- ---- those of the shortest list for a height
@@ -118,7 +152,7 @@ pub deepening-none : {w : List ℕ} {d : ℕ} {k : World} → tree_of w k ≡ le
 deepening-none {d = d} z = record { xs = []; ys = deepest_runs d; is = refl; upto = refl; sown = z }
 
 module _ {w₀ w : List ℕ} {s : Share} {k : World} {limit d i : ℕ} {rs : List Run}
-    (m : Shortest limit d rs) (o : Growing w₀ w s limit i k) (g : Deepening w d i k) (lt : i < length rs) where
+    (m : Shortest limit d rs) (o : Growing w₀ w s limit rs i k) (g : Deepening w d i k) (lt : i < length rs) where
   -- one more is to come
   next : (r : Run) × (us : List Run) × (g.ys ≡ r ∷ us)
   next = go g.ys (omega (arith, ap length g.is, ap length m.is, length-append g.xs g.ys, g.upto))
@@ -149,7 +183,7 @@ module _ {w₀ w : List ℕ} {s : Share} {k : World} {limit d i : ℕ} {rs : Lis
       pub next_fits : e ≡ None → ⊥
       next_fits q =
           let f = subst (Edited w w' k limit (set_range r.start (suc r.«end» - r.start) true (held_in w k))) q ed in
-          omega (arith, f.0, next-few o r.start r.«end» ordered below, m.room)
+          omega (arith, f.0, next-few o lt r er ordered below, m.room)
 
       -- but put into the tree
       pub deepening-more : GrowsBy w w' k r.start r.«end» true e → (k' : World) (c : Count) → e ≡ changed_to k' c → Deepening w' d (i + 1) k'

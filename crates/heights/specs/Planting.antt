@@ -1,12 +1,14 @@
--- What setting runs one by one into an empty world asks and promises: how high its tree is then. Assumes nothing: these are definitions.
+-- What setting runs one by one into an empty world asks and promises: what it holds then, and how high its tree is. Assumes nothing: these are
+-- definitions.
 use Rattle.std.specs.Prelude.{Option, None, Some}
-use Rattle.std.specs.Prelude.{ℕ, ◌≤◌, ◌<◌, ◌≡◌, List, length, get_or}
+use Rattle.std.specs.Prelude.{ℕ, ◌≤◌, ◌<◌, ◌≡◌, List, length, get_or, take}
 use Rattle.model.specs.declared.Run.{Run}
-use Rattle.model.specs.Positions.{run}
+use Rattle.model.specs.Numbers.{size}
+use Rattle.model.specs.Positions.{run, mem, stretches}
 use Rattle.model.specs.Deepest.{least, deepest_runs}
 use Rattle.run_index.specs.Tree.{Tree, height, runs, tree_from}
 use Rattle.store.specs.declared.World.{World}
-use Rattle.store.specs.Layout.{highest}
+use Rattle.store.specs.Layout.{highest, held_in}
 use Rattle.store.specs.Soundness.{Share, Still, Limited}
 
 -- no run of the list starts above its end
@@ -27,11 +29,17 @@ Plantable w h limit rs = (s : Share) × MayPlant w s h limit rs
 abbrev pub tree_of : List ℕ → World → Tree
 tree_of w k = tree_from highest w k.root
 
--- whatever the n runs were: the tree has no more of them, and with fewer than the shortest list for a height has it is not that high
-abbrev pub Grown : List ℕ → List ℕ → Share → ℕ → ℕ → Option World → Type 0
-Grown w w' s limit n None = Still w w' s
-Grown w w' s limit n (Some k) =
-    Limited w' s k limit × (runs (tree_of w' k) ≤ n) × ((d : ℕ) → n < least d → height (tree_of w' k) < d) × Still w w' s
+-- some of the runs, from the first on, are more than the world may have
+abbrev pub TooMany : ℕ → List Run → Type 0
+TooMany limit rs = (n : ℕ) × (n ≤ length rs) × (limit < stretches (mem (take n rs)))
+
+-- whatever the runs were: all of them are held and nothing else, or one was refused, since there was no room for it. The tree has no more runs than
+-- were set, and with fewer than the shortest list for a height has it is not that high
+abbrev pub Grown : List ℕ → List ℕ → Share → ℕ → List Run → Option World → Type 0
+Grown w w' s limit rs None = Still w w' s × TooMany limit rs
+Grown w w' s limit rs (Some k) =
+    Limited w' s k limit × ((x : ℕ) → x < size → held_in w' k x ≡ mem rs x) × (runs (tree_of w' k) ≤ length rs)
+    × ((d : ℕ) → length rs < least d → height (tree_of w' k) < d) × Still w w' s
 
 -- the runs are those of the list for the height d, and the world may have so many
 pub record Shortest (limit d : ℕ) (rs : List Run) : Type 0 where
@@ -43,7 +51,7 @@ abbrev pub Deepened : List ℕ → ℕ → Option World → Type 0
 Deepened w' d None = ⊥
 Deepened w' d (Some k) = height (tree_of w' k) ≡ d
 
--- THE PROMISE: no list of fewer runs makes a tree as high as d, and that list makes it
+-- THE PROMISE: all runs are held, or one had no room; no list of fewer runs makes a tree as high as d, and that list makes it
 abbrev pub Plants : List ℕ → List ℕ → World → ℕ → List Run → Option World → Type 0
 Plants w w' h limit rs r =
-    (s : Share) → MayPlant w s h limit rs → Grown w w' s limit (length rs) r × ((d : ℕ) → Shortest limit d rs → Deepened w' d r)
+    (s : Share) → MayPlant w s h limit rs → Grown w w' s limit rs r × ((d : ℕ) → Shortest limit d rs → Deepened w' d r)

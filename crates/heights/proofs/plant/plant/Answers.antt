@@ -1,5 +1,5 @@
--- `plant` meets its contract. The loop's invariant: the world k has at most i runs, and those of the shortest list for a height, if the runs are
--- these, are its tree. Assumes nothing.
+-- `plant` meets its contract. The loop's invariant: the world k holds the first i runs, in at most i runs, and those of the shortest list for a
+-- height, if the runs are these, are its tree. Assumes nothing.
 use Prim.Native.Nat.{◌≤◌, ◌<◌}
 use mathlib.Core.Path.{◌≡◌, sym, subst}
 use native.Mathlib.Omega.{arith}
@@ -29,24 +29,26 @@ loop-i-init g c = (omega arith, λ s m. (growing-none m, λ d h. deepening-none 
 pub returns-in_err-k : goal.returns-in_err-k
 returns-in_err-k g c =
     let t = (goal.at.returns-in_err-k g c).After-run-r in
+    let lt = more g (goal.at.returns-in_err-k g c).In-loop-i in
     λ s m.
     let inv = c.loop-i.invariant.1 s m in (
-      subst (Grown c.args.words.now c.set.new.words s c.args.limit (length (g.L.RunList.runs c.args.runs))) (sym c.from_residual.ensures)
-          (next-refused inv.0 _ _ (ordered g t) (below g t) _ _ c.set.ensures.0 (c.in_err-k.was)),
+      subst (Grown c.args.words.now c.set.new.words s c.args.limit (g.L.RunList.runs c.args.runs)) (sym c.from_residual.ensures)
+          (next-refused inv.0 lt _ c.run-r.ensures (ordered g t) (below g t) _ _ c.set.ensures.0 (c.in_err-k.was)),
       λ d h.
           absurd
-          (next_fits h inv.0 (inv.1 d h) (more g (goal.at.returns-in_err-k g c).In-loop-i) _ c.run-r.ensures (ordered g t) (below g t) _ _ c.set.ensures.0 (c.in_err-k.was)),
+          (next_fits h inv.0 (inv.1 d h) lt _ c.run-r.ensures (ordered g t) (below g t) _ _ c.set.ensures.0 (c.in_err-k.was)),
     )
 
 pub loop-i-preserved : goal.loop-i-preserved
 loop-i-preserved g c =
-    let t = (goal.at.loop-i-preserved g c).After-run-r in (
-      omega (arith, more g (goal.at.loop-i-preserved g c).In-loop-i),
+    let t = (goal.at.loop-i-preserved g c).After-run-r in
+    let lt = more g (goal.at.loop-i-preserved g c).In-loop-i in (
+      omega (arith, lt),
       λ s m.
           let inv = c.loop-i.invariant.1 s m in (
-            growing-more inv.0 _ _ (ordered g t) (below g t) _ _ c.set.ensures.0 c.set.ensures.1 _ _ (c.in_ok-k.was),
+            growing-more inv.0 lt _ c.run-r.ensures (ordered g t) (below g t) _ _ c.set.ensures.0 c.set.ensures.1 _ _ (c.in_ok-k.was),
             λ d h.
-                deepening-more h inv.0 (inv.1 d h) (more g (goal.at.loop-i-preserved g c).In-loop-i) _ c.run-r.ensures (ordered g t) (below g t)
+                deepening-more h inv.0 (inv.1 d h) lt _ c.run-r.ensures (ordered g t) (below g t)
                 _ _ c.set.ensures.0 c.set.ensures.1 _ _ (c.in_ok-k.was),
           ),
     )
