@@ -146,7 +146,7 @@ pub fn apply_set(words: &mut [u64], h: World, r: Interval, value: bool) -> World
 
 // How many positions a world gained, from what it told before and tells after. The sums are kept modulo 2^64, so an empty world that
 // became full shows no difference: it gained 2^64.
-pub fn gained(before: World, after: World) -> Count
+fn gained(before: World, after: World) -> Count
     ensures { Gains before.root before.ones after.root after.ones result }
 {
     let low = after.ones.wrapping_sub(before.ones);
