@@ -1,9 +1,9 @@
 -- A window and its map, and what is counted of them. Assumes nothing: these are definitions.
-use Rattle.std.specs.Prelude.{◌≡◌, ℕ, ◌+◌, ◌<◌, ◌≤◌, Bool, true, false, List, length}
+use Rattle.std.specs.Prelude.{◌≡◌, ℕ, ◌+◌, ◌-◌, ◌*◌, ◌%◌, ◌^◌, ◌≤◌, Bool, true, ◌&&◌, List, length, ◌==◌}
 use Rattle.model.specs.declared.between.Interval.{Interval}
 use Rattle.model.specs.Numbers.{size, longest}
-use Rattle.model.specs.Positions.{Positions, run_count, stretches, changes}
-use Rattle.model.specs.Bytes.{map_bit, mapped, map_length}
+use Rattle.model.specs.Positions.{Positions, one_if, run_count, stretches, changes}
+use Rattle.model.specs.Bytes.{bits, map_bit, mapped, map_length}
 use Rattle.store.specs.declared.World.{World}
 use Rattle.store.specs.Layout.{held_in}
 use Rattle.store.specs.Soundness.{Share, Limited}
@@ -21,10 +21,9 @@ pub record Part (base i e : ℕ) (r : Interval) : Type 0 where
   pub first-is : r.first.0 ≡ base + i
   pub last-is : r.last.0 ≡ base + e
 
--- n bits from i on that all have the value, told only where it is so
-abbrev pub Whole : ℕ → List ℕ → ℕ → Bool → Bool → Type 0
-Whole n bs i v true = (k : ℕ) → k < n → map_bit bs (i + k) ≡ v
-Whole n bs i v false = Unit {0}
+-- whether n bits from i on, the first of a group of n, all have the value
+unfoldable pub whole_b : ℕ → List ℕ → ℕ → Bool → Bool
+whole_b n bs i v = (i % n == 0) && (bits (map_bit bs) i n == one_if v * (2 ^ n - 1))
 
 pub record Surveyed (P : Positions) (base n : ℕ) (bs : List ℕ) (s : Survey) : Type 0 where
   pub runs-are : s.runs ≡ run_count (mapped base n bs P) true base n

@@ -5,7 +5,7 @@ ghost use Rattle.std.specs.Prelude.{◌≡◌, ◌+◌, ◌-◌, ◌*◌, ◌<�
 ghost use Rattle.std.specs.Iterator.{at_most};
 ghost use Rattle.model.specs.Bytes.{map_bit};
 ghost use Rattle.reports.specs.Reports.{StretchEnd};
-ghost use Rattle.maps.specs.Window.{Whole};
+ghost use Rattle.maps.specs.Window.{whole_b};
 ghost use Rattle.maps.specs.Stretches.{GivesStretch};
 
 use crate::window::Map;
@@ -23,7 +23,7 @@ pub fn bit(bytes: &[u8], i: u64) -> bool
 // Whether the eight bits from i on, the first of a byte, all have the value.
 fn whole_byte(bytes: &[u8], i: u64, value: bool) -> bool
     requires { i < 8 * length bytes.now }
-    ensures { Whole 8 bytes.now i value result }
+    ensures { result ≡ whole_b 8 bytes.now i value }
 {
     if i % 8 != 0 {
         return false;

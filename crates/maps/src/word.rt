@@ -3,7 +3,7 @@
 ghost use Rattle.std.specs.Prelude.{◌≡◌, ◌+◌, ◌*◌, ◌≤◌, length};
 ghost use Rattle.model.specs.Bytes.{bits, map_bit};
 ghost use Rattle.maps.specs.Painted.{Puts};
-ghost use Rattle.maps.specs.Window.{Whole};
+ghost use Rattle.maps.specs.Window.{whole_b};
 
 // The word of the eight bytes from j on.
 pub fn word_at(bytes: &[u8], j: usize) -> u64
@@ -26,7 +26,7 @@ pub fn put_word(out: &mut [u8], j: usize, v: u64)
 // longer than both.
 pub fn whole_word(bytes: &[u8], i: u64, value: bool) -> bool
     requires { i + 64 ≤ 8 * length bytes.now }
-    ensures { Whole 64 bytes.now i value result }
+    ensures { result ≡ whole_b 64 bytes.now i value }
 {
     if i % 64 != 0 {
         return false;
