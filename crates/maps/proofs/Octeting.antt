@@ -1,8 +1,9 @@
 -- The bytes of a map as they are written: a cursor that stands at a position stands at the next ones too or can be moved there, the bits of
 -- positions in one stretch are all ones or all zeros, those of the positions after it lie above them, and a slice with j bytes of a map in
 -- front has j + n after the store of n more. Assumes nothing.
-use Rattle.std.proofs.Common.{◌≡◌, ℕ, zero, suc, ◌+◌, ◌-◌, ◌*◌, ◌/◌, ◌%◌, ◌^◌, ◌<◌, ◌≤◌, min, Bool, true, false, List, length, get_or, set, sym, refl, ap}
-use Rattle.std.proofs.Common.{◌∙◌, subst, ap₂, arith, pow_pos, shl_exact}
+use Rattle.std.proofs.Common.{◌≡◌, ℕ, zero, suc, ◌+◌, ◌-◌, ◌*◌, ◌/◌, ◌%◌, ◌^◌, ◌<◌, ◌≤◌, min, Bool, true, false, if◌then◌else◌, leb, List, length, get_or, set, sym, refl, ap}
+use Rattle.std.proofs.Common.{◌∙◌, subst, ap₂, arith, le-leb, leb-true, pow_pos, shl_exact}
+use Rattle.std.proofs.lemmas.Bool.{lt-leb}
 use native.Mathlib.Nat.{pow-succ', pow-le-pow_right}
 use Rattle.model.specs.Numbers.{size}
 use Rattle.model.specs.Positions.{Positions, one_if}
@@ -13,8 +14,8 @@ use Rattle.std.specs.Prelude.{Option, None, Some}
 use Rattle.model.specs.declared.Run.{Run}
 use Rattle.streams.specs.declared.source.Reader.{Reader}
 use Rattle.streams.specs.declared.sweep.Cursor.{Cursor}
-use Rattle.streams.specs.Sweeping.{AtHand, Points, ValueAt, Within, Same, SameTo, CanMove, Moves}
-use Rattle.streams.proofs.Sweeps.{moves-within, moves-none}
+use Rattle.streams.specs.Sweeping.{AtHand, Points, held_at, Within, same_until, CanMove, Moves}
+use Rattle.streams.proofs.Sweeps.{Same, held-value, until-same, moves-within, moves-none}
 use Rattle.maps.specs.Octets.{Stood, Octets, stores, Due, Done, StoresNext}
 use Rattle.maps.proofs.Storing.{stores-cong, stores_one, fronted, fronted-suc, fronted-more, fronted-length, fronted-all}
 
@@ -65,12 +66,12 @@ module _ {c : Cursor} {x k : ℕ} {Q : Positions} (h : Stood c x k Q) where
       let p : 2 ^ k ≤ 2 ^ 8 = pow-le-pow_right (omega arith) h.few in omega (arith, bits-bound Q x k, (g Q h).bits_are)
 
   -- the value of the first
-  value-here : {v : Bool} → ValueAt c x v → v ≡ Q x
-  value-here f = f Q h.points (omega (arith, h.some, h.within))
+  value-here : {v : Bool} → v ≡ held_at c.run x → v ≡ Q x
+  value-here f = f ∙ held-value c x Q h.points (omega (arith, h.some, h.within))
 
-  module _ {last : ℕ} (m : SameTo c x last) where
+  module _ {last : ℕ} (m : last ≡ same_until c.run x) where
     stretch : Same c x last Q
-    stretch = m Q h.points (omega (arith, h.some, h.within))
+    stretch = rw m (until-same c x Q h.points (omega (arith, h.some, h.within)))
 
     -- how far it knows the value of the first is no smaller than where it stands
     pub stood-same : x ≤ last
@@ -92,7 +93,7 @@ module _ {c : Cursor} {x k : ℕ} {Q : Positions} (h : Stood c x k Q) where
       within = omega (arith, h.within);
     }
 
-module _ (c : Cursor) (x k : ℕ) {v : Bool} {last : ℕ} (f : ValueAt c x v) (m : SameTo c x last) where
+module _ (c : Cursor) (x k : ℕ) {v : Bool} {last : ℕ} (f : v ≡ held_at c.run x) (m : last ≡ same_until c.run x) where
   -- n positions of the stretch
   stretch-bits : (Q : Positions) → Stood c x k Q → (n : ℕ) → n ≤ last - x + 1 → one_if v * (2 ^ n - 1) ≡ bits Q x n
   stretch-bits Q h n l =
@@ -128,25 +129,32 @@ module _ {c : Cursor} {x left j : ℕ} {out : List ℕ} {Q : Positions} (d : Due
   due-stood = record { points = d.points; some = omega arith; few = omega arith; within = omega (arith, d.more, d.within) }
 
   -- the bytes in a stretch of one value
-  pub due-alike : {v : Bool} {last n b : ℕ} {out' : List ℕ} → ValueAt c x v → SameTo c x last → 7 ≤ last - x → n ≡ min (last - x + 1) (left - 1) / 8 → b ≡ one_if v * (2 ^ 8 - 1)
-      → out' ≡ stores (λ _. b) j n out → Done x left j out out' n c Q
+  pub due-alike : {v : Bool} {last n b : ℕ} {out' : List ℕ} → v ≡ held_at c.run x → last ≡ same_until c.run x → 7 ≤ last - x
+      → n ≡ min (last - x + 1) (left - 1) / 8 → b ≡ one_if v * (2 ^ 8 - 1) → out' ≡ stores (λ _. b) j n out → Done c x left j out out' n c Q
   due-alike {v} {last} {n} {b} f m g e h z =
-      let i = m Q d.points (omega (arith, d.more, d.within)) in record {
-        some = omega (arith, d.more);
-        before = omega (arith, d.more);
+      let i = stretch due-stood m in record {
+        many = rw (← m, le-leb 7 (last - x) g) e;
         points = points-later c x (x + 8 * n - 1) Q d.points (omega (arith, d.more)) (nearer c.run (x + 8 * n - 1) last i.within (omega (arith, d.more)));
         bytes = z ∙ stores-cong (λ _. b) (λ i. bits Q (x + 8 * i) 8) j n out
             (λ k l. h ∙ (same_bits v (x + 8 * k) 8 ∙ bits-cong (λ _. v) Q (x + 8 * k) 8 (λ y a c. value-here due-stood f ∙ sym (i.alike y (omega arith) (omega arith)))));
       }
 
   -- one byte
-  pub due-octet : {r : ℕ} {c' : Cursor} → Octets c x 8 r c' → Done x left j out (set out j r) 1 c' Q
-  due-octet {r} g = record {
-    some = omega arith;
-    before = omega (arith, d.more);
+  pub due-octet : {last r : ℕ} {c' : Cursor} → last ≡ same_until c.run x → last - x < 7 → Octets c x 8 r c' → Done c x left j out (set out j r) 1 c' Q
+  due-octet {last} {r} m l g = record {
+    many = rw (← m, lt-leb 7 (last - x) l) refl;
     points = (g Q due-stood).points;
     bytes = stores_one (λ i. bits Q (x + 8 * i) 8) j out ((g Q due-stood).bits_are ∙ ap (λ (y : ℕ). bits Q y 8) (omega arith));
   }
+
+  -- at least one, and not the last one
+  pub done-before : {out' : List ℕ} {n : ℕ} {c' : Cursor} → Done c x left j out out' n c' Q → (1 ≤ n) × (8 * n < left)
+  done-before {n = n} g = go (leb 7 (same_until c.run x - x)) refl g.many
+    where
+      go : (b : Bool) → leb 7 (same_until c.run x - x) ≡ b → n ≡ (if b then min (same_until c.run x - x + 1) (left - 1) / 8 else 1)
+          → (1 ≤ n) × (8 * n < left)
+      go true q e = let l = leb-true 7 (same_until c.run x - x) q in (omega (arith, d.more), omega (arith, d.more))
+      go false q e = (omega arith, omega (arith, d.more))
 
 -- ---- the map of a window, byte by byte
 -- what holds at each turn: j bytes of the map of Q are in front, but not its last one, and the cursor stands at the first position of the next one
@@ -179,8 +187,11 @@ module _ {c : Cursor} {base n j : ℕ} {out₀ out : List ℕ} {Q : Positions} (
   }
 
   module _ {out' : List ℕ} {m : ℕ} {c' : Cursor} (l : 8 < n - 8 * j) (g : StoresNext c (base + 8 * j) (n - 8 * j) j out out' m c') where
-    pub writing-done : Done (base + 8 * j) (n - 8 * j) j out out' m c' Q
+    pub writing-done : Done c (base + 8 * j) (n - 8 * j) j out out' m c' Q
     writing-done = g Q (writing-due l)
+
+    pub writing-before : (1 ≤ m) × (8 * m < n - 8 * j)
+    writing-before = done-before (writing-due l) writing-done
 
     pub writing-moves : CanMove c' (base + 8 * (j + m)) (base + 8 * j + 8 * m - 1) Q
     writing-moves = next-move c' (base + 8 * j + 8 * m - 1) (base + 8 * (j + m)) Q writing-done.points (omega arith) (omega arith)
@@ -190,16 +201,16 @@ module _ {c : Cursor} {base n j : ℕ} {out₀ out : List ℕ} {Q : Positions} (
       within = i.within;
       room = i.room;
       points = a (base + 8 * j + 8 * m - 1) Q writing-moves;
-      some = omega (arith, writing-done.before);
+      some = omega (arith, writing-before.1);
       front = writing-done.bytes
           ∙ (ap (stores (λ i. bits Q (base + 8 * j + 8 * i) 8) j m) i.front
-          ∙ fronted-more (map_of Q base n) out₀ (λ i. bits Q (base + 8 * j + 8 * i) 8) j m (omega (arith, i.room, writing-done.before)) (omega (arith, writing-done.before, map_of-length Q base n)) alike);
+          ∙ fronted-more (map_of Q base n) out₀ (λ i. bits Q (base + 8 * j + 8 * i) 8) j m (omega (arith, i.room, writing-before.1)) (omega (arith, writing-before.1, map_of-length Q base n)) alike);
     }
       where
         alike : (k : ℕ) → k < m → bits Q (base + 8 * j + 8 * k) 8 ≡ get_or (map_of Q base n) (j + k) 0
         alike k h =
-            ap₂ (bits Q) (omega arith) (omega (arith, writing-done.before))
-            ∙ sym (map_of-at Q base n (j + k) (omega (arith, writing-done.before)))
+            ap₂ (bits Q) (omega arith) (omega (arith, writing-before.1))
+            ∙ sym (map_of-at Q base n (j + k) (omega (arith, writing-before.1)))
 
   -- the last byte
   pub writing-all : {r : ℕ} {c' : Cursor} → n - 8 * j ≤ 8 → Octets c (base + 8 * j) (n - 8 * j) r c' → set out j r ≡ into_front (map_of Q base n) out₀

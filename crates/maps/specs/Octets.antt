@@ -1,10 +1,10 @@
 -- The bytes of a map, one after the other. Assumes nothing: these are definitions.
-use Rattle.std.specs.Prelude.{◌≡◌, ℕ, zero, suc, ◌+◌, ◌-◌, ◌*◌, ◌<◌, ◌≤◌, List, length, slice_set}
+use Rattle.std.specs.Prelude.{◌≡◌, ℕ, zero, suc, ◌+◌, ◌-◌, ◌*◌, ◌/◌, ◌<◌, ◌≤◌, min, if◌then◌else◌, nat_le, List, length, slice_set}
 use Rattle.model.specs.Numbers.{size}
 use Rattle.model.specs.Positions.{Positions}
 use Rattle.model.specs.Bytes.{bits, map_length}
 use Rattle.streams.specs.declared.sweep.Cursor.{Cursor}
-use Rattle.streams.specs.Sweeping.{Points}
+use Rattle.streams.specs.Sweeping.{Points, same_until}
 
 -- a cursor in Q stands at x, before k positions more
 pub record Stood (c : Cursor) (x k : ℕ) (Q : Positions) : Type 0 where
@@ -40,11 +40,11 @@ abbrev pub BytesDue : Cursor → ℕ → ℕ → ℕ → List ℕ → Type 0
 BytesDue c x left j out = (Q : Positions) × Due c x left j out Q
 
 -- n bytes of it are there, but not the last one, and the cursor is at their last position
-pub record Done (x left j : ℕ) (out out' : List ℕ) (n : ℕ) (c : Cursor) (Q : Positions) : Type 0 where
-  pub some : 1 ≤ n
-  pub before : 8 * n < left
-  pub points : Points c (x + 8 * n - 1) Q
+pub record Done (c : Cursor) (x left j : ℕ) (out out' : List ℕ) (n : ℕ) (c' : Cursor) (Q : Positions) : Type 0 where
+  -- all those that lie in the stretch of c, where it stood before, or one
+  pub many : n ≡ (if nat_le 7 (same_until c.run x - x) then min (same_until c.run x - x + 1) (left - 1) / 8 else 1)
+  pub points : Points c' (x + 8 * n - 1) Q
   pub bytes : out' ≡ stores (λ i. bits Q (x + 8 * i) 8) j n out
 
 abbrev pub StoresNext : Cursor → ℕ → ℕ → ℕ → List ℕ → List ℕ → ℕ → Cursor → Type 0
-StoresNext c x left j out out' n c' = (Q : Positions) → Due c x left j out Q → Done x left j out out' n c' Q
+StoresNext c x left j out out' n c' = (Q : Positions) → Due c x left j out Q → Done c x left j out out' n c' Q

@@ -1,15 +1,15 @@
 -- Two readings swept together, in pure form: what a cursor that stands at a position says of it and of those after it, what moving it on
 -- keeps, and what holds at each turn of a search for a value of the join. A cursor is taken by the cases of whether a run is at hand.
 -- Assumes nothing.
-use Rattle.std.specs.Prelude.{Option, None, Some}
+use Rattle.std.specs.Prelude.{Option, None, Some, if◌then◌else◌}
 use Prim.Native.Nat.{ℕ, suc, ◌+◌, ◌-◌, ◌≤◌, ◌<◌, min}
-use mathlib.Core.Path.{◌≡◌, sym, ap, ◌∙◌, subst}
+use mathlib.Core.Path.{◌≡◌, sym, refl, ap, ◌∙◌, subst}
 use mathlib.Core.Logic.{◌⊎◌, inl, inr}
 use mathlib.Core.Bool.{Bool, true, false, not, true≢false}
 use mathlib.Core.List.{[]}
 use native.Mathlib.Omega.{arith}
-use lib.Dec.{leb}
-use borrow.Author.Tests.{le-leb, lt-leb}
+use lib.Dec.{leb, ltb}
+use borrow.Author.Tests.{le-leb, lt-leb, ltb-true, ltb-false}
 use Rattle.std.specs.Iterator.{at_most, MakesProgress}
 use Rattle.model.specs.declared.Run.{Run}
 use Rattle.model.specs.declared.Logical.{Logical}
@@ -22,7 +22,7 @@ use Rattle.streams.specs.declared.source.Reader.{Reader}
 use Rattle.streams.specs.declared.sweep.Cursor.{Cursor}
 use Rattle.streams.specs.declared.sweep.Joint.{Joint}
 use Rattle.streams.specs.Reading.{Clear, RunFrom, Reads, Draws, positions_from}
-use Rattle.streams.specs.Sweeping.{Current, Beyond, AtHand, Points, Covers, ValueAt, Within, Same, SameTo, CanMove, Movable, Moves}
+use Rattle.streams.specs.Sweeping.{Current, Beyond, AtHand, Points, Covers, held_at, Within, same_until, CanMove, Movable, Moves}
 use Rattle.streams.specs.Sweeping.{Both, ReachedAt, Reaches, JoinsFrom, Joins}
 use Rattle.streams.proofs.Iterated.{StandsAt, draw-goes}
 
@@ -77,11 +77,19 @@ current-value {a} {b} {x} {Q} k = go (split x a)
     go (inl h) = lt-leb a x h ∙ sym (k.clear x (omega arith) h)
     go (inr h) = le-leb a x h ∙ sym (k.held x (omega arith) h k.ahead)
 
-pub value-some : (c : Cursor) (x : ℕ) (r : Run) → c.run ≡ Some r → ValueAt c x (leb r.start x)
-value-some c x r e Q h l = current-value (points-some c x Q e h).0
+pub held-value : (c : Cursor) (x : ℕ) (Q : Positions) → Points c x Q → x < size → held_at c.run x ≡ Q x
+held-value c x Q h l = go c.run h
+  where
+    go : (o : Option Run) → AtHand o c.rest x Q → held_at o x ≡ Q x
+    go None k = sym (k x (omega arith) l)
+    go (Some r) k = current-value k.0
 
-pub value-none : (c : Cursor) (x : ℕ) → c.run ≡ None → ValueAt c x false
-value-none c x e Q h l = sym (points-none c x Q e h x (omega arith) l)
+-- the value of x is that of all positions up to r, which is not past the run at hand
+pub record Same (c : Cursor) (x r : ℕ) (Q : Positions) : Type 0 where
+  pub onward : x ≤ r
+  pub small : r < size
+  pub alike : (z : ℕ) → x ≤ z → z ≤ r → Q z ≡ Q x
+  pub within : Within 0 c.run r
 
 -- how far it has that value
 current-before : {a b x : ℕ} {Q : Positions} → Current a b x Q → x < a → (z : ℕ) → x ≤ z → z ≤ a - 1 → Q z ≡ Q x
@@ -90,32 +98,36 @@ current-before {a} {b} {x} k h z l u = k.clear z l (omega arith) ∙ sym (k.clea
 current-within : {a b x : ℕ} {Q : Positions} → Current a b x Q → a ≤ x → (z : ℕ) → x ≤ z → z ≤ b → Q z ≡ Q x
 current-within {a} {b} {x} k h z l u = k.held z l (omega arith) u ∙ sym (k.held x (omega arith) h k.ahead)
 
-pub same-before : (c : Cursor) (x : ℕ) (r : Run) → c.run ≡ Some r → x < r.start → SameTo c x (r.start - 1)
-same-before c x r e l Q h g =
-    let k = (points-some c x Q e h).0 in record {
-      onward = omega arith;
-      small = omega (arith, k.ordered, k.small);
-      alike = current-before k l;
-      within = subst (λ o. Within 0 o (r.start - 1)) (sym e) (omega (arith, k.ordered));
-    }
-
-pub same-within : (c : Cursor) (x : ℕ) (r : Run) → c.run ≡ Some r → r.start ≤ x → SameTo c x r.«end»
-same-within c x r e l Q h g =
-    let k = (points-some c x Q e h).0 in record {
+run-same : (r : Run) (rest : Option Reader) (x : ℕ) (Q : Positions) → Current r.start r.«end» x Q
+    → Same (record { run = Some r; rest = rest }) x (same_until (Some r) x) Q
+run-same r rest x Q k = go (ltb x r.start) refl
+  where
+    go : (b : Bool) → ltb x r.start ≡ b → Same (record { run = Some r; rest = rest }) x (if b then r.start - 1 else r.«end») Q
+    go true e =
+        let l = ltb-true x r.start e in record {
+          onward = omega arith;
+          small = omega (arith, k.ordered, k.small);
+          alike = current-before k l;
+          within = omega (arith, k.ordered);
+        }
+    go false e = record {
       onward = k.ahead;
       small = k.small;
-      alike = current-within k l;
-      within = subst (λ o. Within 0 o r.«end») (sym e) (omega arith);
+      alike = current-within k (ltb-false x r.start e);
+      within = omega arith;
     }
 
-pub same-none : (c : Cursor) (x : ℕ) → c.run ≡ None → SameTo c x (size - 1)
-same-none c x e Q h g =
-    let k = points-none c x Q e h in record {
+pub until-same : (c : Cursor) (x : ℕ) (Q : Positions) → Points c x Q → x < size → Same c x (same_until c.run x) Q
+until-same c x Q h g = go c.run h
+  where
+    go : (o : Option Run) → AtHand o c.rest x Q → Same (record { run = o; rest = c.rest }) x (same_until o x) Q
+    go None k = record {
       onward = omega arith;
       small = omega arith;
       alike = λ z l q. k z l (omega arith) ∙ sym (k x (omega arith) g);
-      within = subst (λ o. Within 0 o (size - 1)) (sym e) tt;
+      within = tt;
     }
+    go (Some r) k = run-same r c.rest x Q k.0
 
 -- ---- moving on
 current-later : {a b x y : ℕ} {Q : Positions} → Current a b y Q → y ≤ x → x ≤ b → Current a b x Q
@@ -169,20 +181,20 @@ within-next (Some r) m n w l = omega arith
 
 module _ {j : Joint} {x at : ℕ} {value : Bool} {J : Positions} (s : Swept j x at value J) where
   -- the value of the join where both stand
-  pub value-here : {a b v : Bool} → ValueAt j.left at a → ValueAt j.right at b → v ≡ apply j.op a b → v ≡ J at
+  pub value-here : {a b v : Bool} → a ≡ held_at j.left.run at → b ≡ held_at j.right.run at → v ≡ apply j.op a b → v ≡ J at
   unfolding combined
-  value-here f g e = let b = s.both in e ∙ rw (f b.first b.left s.small, g b.second b.right s.small) (ap (λ K. K at) b.is)
+  value-here f g e = let b = s.both in e ∙ rw (f, g, held-value _ at b.first b.left s.small, held-value _ at b.second b.right s.small) (ap (λ K. K at) b.is)
 
   -- the search is over where the join has the value
   pub swept-found : {v : Bool} → v ≡ J at → v ≡ value → ReachedAt x at value J
   swept-found h e = record { onward = s.onward; small = s.small; before = s.before; here = sym h ∙ e }
 
-  module _ {m n last : ℕ} (f : SameTo j.left at m) (g : SameTo j.right at n) (e : last ≡ min m n) where
+  module _ {m n last : ℕ} (f : m ≡ same_until j.left.run at) (g : n ≡ same_until j.right.run at) (e : last ≡ min m n) where
     left-same : Same j.left at m s.both.first
-    left-same = f s.both.first s.both.left s.small
+    left-same = rw f (until-same j.left at s.both.first s.both.left s.small)
 
     right-same : Same j.right at n s.both.second
-    right-same = g s.both.second s.both.right s.small
+    right-same = rw g (until-same j.right at s.both.second s.both.right s.small)
 
     -- how far the cursors know their values is no smaller than where they stand
     pub swept-onward : at ≤ last

@@ -1,5 +1,5 @@
 -- What reading two sets together asks and promises. Assumes nothing: these are definitions.
-use Rattle.std.specs.Prelude.{ℕ, suc, ◌+◌, ◌≤◌, ◌<◌, ◌≡◌, Bool, true, false, not, [], ◌∷◌, Option, None, Some}
+use Rattle.std.specs.Prelude.{ℕ, suc, ◌+◌, ◌-◌, ◌≤◌, ◌<◌, ◌≡◌, Bool, true, false, not, if◌then◌else◌, nat_le, nat_lt, [], ◌∷◌, Option, None, Some}
 use Rattle.model.specs.declared.Run.{Run}
 use Rattle.model.specs.declared.Logical.{Logical}
 use Rattle.model.specs.Numbers.{size}
@@ -37,24 +37,20 @@ Points c x Q = AtHand c.run c.rest x Q
 abbrev pub Covers : Cursor → ℕ → ℕ → Type 0
 Covers c a b = Points c 0 (mem (run a b ∷ []))
 
--- what a cursor says at x, whatever set it reads
-abbrev pub ValueAt : Cursor → ℕ → Bool → Type 0
-ValueAt c x v = (Q : Positions) → Points c x Q → x < size → v ≡ Q x
+-- whether the run at hand, or the next one, holds x
+abbrev pub held_at : Option Run → ℕ → Bool
+held_at None x = false
+held_at (Some r) x = nat_le r.start x
+
+-- the last position that by it surely has the value of x
+abbrev pub same_until : Option Run → ℕ → ℕ
+same_until None x = size - 1
+same_until (Some r) x = if nat_lt x r.start then r.start - 1 else r.«end»
 
 -- x is not past the end of the run at hand, or at most n past it
 abbrev pub Within : ℕ → Option Run → ℕ → Type 0
 Within n None x = Unit {0}
 Within n (Some r) x = x ≤ n + r.«end»
-
--- the value of x is that of all positions up to r, which is not past the run at hand
-pub record Same (c : Cursor) (x r : ℕ) (Q : Positions) : Type 0 where
-  pub onward : x ≤ r
-  pub small : r < size
-  pub alike : (z : ℕ) → x ≤ z → z ≤ r → Q z ≡ Q x
-  pub within : Within 0 c.run r
-
-abbrev pub SameTo : Cursor → ℕ → ℕ → Type 0
-SameTo c x r = (Q : Positions) → Points c x Q → x < size → Same c x r Q
 
 -- a cursor that stands at y can move to x
 pub record CanMove (c : Cursor) (x y : ℕ) (Q : Positions) : Type 0 where

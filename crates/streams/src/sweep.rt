@@ -4,7 +4,7 @@ ghost use Rattle.std.specs.Iterator.{at_most};
 ghost use Rattle.model.specs.Positions.{apply, Positions};
 ghost use Rattle.store.specs.Layout.{held_from};
 ghost use Rattle.streams.specs.Reading.{Rooted, Draws, positions_from};
-ghost use Rattle.streams.specs.Sweeping.{Points, Covers, ValueAt, SameTo, Movable, Moves, Both, Reaches, Joins};
+ghost use Rattle.streams.specs.Sweeping.{Points, Covers, held_at, same_until, Movable, Moves, Both, Reaches, Joins};
 
 use crate::source::{Reader, View, after};
 use model::between::Interval;
@@ -46,7 +46,7 @@ impl<'a> Cursor<'a> {
 
     // The value at x, where it stands.
     pub fn value_at(&self, x: Logical) -> bool
-        ensures { ValueAt self.now x.0 result }
+        ensures { result ≡ held_at self.now.run x.0 }
     {
         match self.run {
             None => false,
@@ -56,7 +56,7 @@ impl<'a> Cursor<'a> {
 
     // The last position that surely has the value of x, where it stands.
     pub fn same_to(&self, x: Logical) -> Logical
-        ensures { SameTo self.now x.0 result.0 }
+        ensures { result.0 ≡ same_until self.now.run x.0 }
     {
         let Some(r) = self.run else {
             return Logical(u64::MAX);

@@ -16,4 +16,4 @@ pub overflow_cast-out : goal.overflow_cast-out
 overflow_cast-out c = omega (arith, octets-small (due-stood c.requires.1) c.octet_of.ensures)
 
 pub returns : goal.returns
-returns c = λ Q d. due-octet d c.octet_of.ensures
+returns c = λ Q d. due-octet d c.same_to.ensures c.if-after-ge7.false c.octet_of.ensures
