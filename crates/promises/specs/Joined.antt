@@ -4,13 +4,14 @@ use Rattle.model.specs.Answers.{OrRefusal}
 use Rattle.std.specs.Prelude.{ℕ, ◌≤◌, ◌<◌, ◌≡◌, List}
 use Rattle.model.specs.declared.Refusal.TheVariants.{Capacity}
 use Rattle.model.specs.Positions.{Positions, stretches}
-use Rattle.store.specs.Layout.{nodes, allowance, held_from, held_by}
+use Rattle.store.specs.Layout.{nodes, allowance, world_at, held_from, held_by}
 use Rattle.store.specs.Settle.{Settled}
 use Rattle.streams.specs.declared.source.View.{View}
 use Rattle.streams.specs.Reading.{Rooted}
 
 -- the view of world i of the words w: its positions are read from its root, under its offset
 pub record ViewOf (w : List ℕ) (i : ℕ) (v : View) : Type 0 where
+  pub is : v ≡ record { root = (world_at w i).root; offset = (world_at w i).offset }
   pub rooted : Rooted (nodes w) v.root
   pub held : held_from (nodes w) v.root v.offset ≡ held_by w i
 

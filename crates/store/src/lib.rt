@@ -94,6 +94,7 @@ impl<'a> Set<'a> {
 // The set of a world that stands in the nodes.
 pub fn set_of<'a>(words: &'a [u64], h: World) -> Set<'a>
     requires { Stands words.now h }
+    ensures is { result ≡ record { runs = runs_from words.now h.root; offset = h.«offset» } }
     ensures positions { held result ≡ held_in words.now h }
     ensures runs { h.runs ≡ length result.runs }
 {

@@ -8,6 +8,7 @@ use Rattle.store.proofs.set_of.Goals as goal
 
 pub returns : goal.returns
 returns c = record {
+  is = c.of.ensures;
   positions = ap held c.of.ensures ∙ kept-seen c.requires.1.kept c.args.h.offset;
   runs = standing-counted c.requires.1 ∙ ap (λ (s : Set). length s.runs) (sym c.of.ensures);
 }
