@@ -1,12 +1,13 @@
 // Writing a world's set, and the map of a window, into the front of a lent slice. First the calls that tell how many bytes they wrote; then
 // the same calls handing back the part that they filled.
 // Document 02 (Ticket 4) wants both forms of writing a map, and both are public, so each picks its form here, by a const parameter.
-ghost use Rattle.std.specs.Prelude.{◌≡◌, ◌≤◌, length, take, IfOk, IfErr};
+ghost use Rattle.std.specs.Prelude.{◌≡◌, ◌≤◌, ◌++◌, length, take, drop, IfOk, IfErr, Ok, Err};
+ghost use Rattle.std.specs.Borrow.{sem, LendsIfOk, Array, u8 as byte};
 ghost use Rattle.model.specs.Numbers.{refusal_number};
 ghost use Rattle.model.specs.Call.{Call, refused};
 ghost use Rattle.promises.specs.Met.{outcome_of};
 ghost use Rattle.promises.specs.Out.{WritesOut};
-ghost use Rattle.interval_bit_set.specs.Out.{code_of, front_of};
+ghost use Rattle.interval_bit_set.specs.Out.{code_of, front_of, count_of, Handed};
 
 use model::{Edition, Refusal};
 
@@ -51,12 +52,18 @@ pub fn write_map_by_bytes(
     sets::write::write_map::<false>(site, base, n, out)
 }
 
-// The front part of a slice.
-fn front<'a>(out: &'a mut [u8], n: usize) -> &'a mut [u8]
-    requires { n ≤ length out.old }
-    ensures { (result.now ≡ take n out.old) × (result.ref_ptr ≡ out.entry.ref_ptr) }
+// The part of a slice that was filled, as far as `filled` tells, or the refusal. What the caller's slice ends as is told by `ends`: what the part
+// holds by then, and behind it what was there; after a refusal all that was there. The check derives no such clause of a part of a slice, so this
+// function and the two below are proved by hand.
+fn handed<'a>(out: &'a mut [u8], filled: Result<usize, Refusal>) -> Result<&'a mut [u8], Refusal>
+    requires { IfOk filled (λ n. n ≤ length out.old) }
+    ensures* ends { sem 𝓛 (LendsIfOk (Array byte 0) (Array byte 0) out.entry result (λ ws. ws ++ drop (count_of filled) out.old) out.old) }
+    ensures told { Handed filled out.old out.entry.ref_ptr result }
 {
-    &mut out[..n]
+    match filled {
+        Err(refusal) => Err(refusal),
+        Ok(n) => Ok(&mut out[..n]),
+    }
 }
 
 // Writes a world's set, and hands back the part of the slice that it fills.
@@ -66,13 +73,15 @@ pub fn written_set<'a>(
     edition: Edition,
     out: &'a mut [u8],
 ) -> Result<&'a mut [u8], Refusal>
+    ensures* ends { sem 𝓛 (LendsIfOk (Array byte 0) (Array byte 0) out.entry result
+        (λ ws. ws ++ drop (length (front_of (outcome_of words.now world (Call.write_set edition out.old)).answer)) out.old) out.old) }
     ensures refused { IfErr result (λ r. (outcome_of words.now world (Call.write_set edition out.old)).answer ≡ refused (refusal_number r)) }
     ensures filled { IfOk result (λ part. (code_of (outcome_of words.now world (Call.write_set edition out.old)).answer ≡ 0)
         × (part.now ≡ front_of (outcome_of words.now world (Call.write_set edition out.old)).answer)
         × (part.ref_ptr ≡ out.entry.ref_ptr)) }
 {
-    let n = write_set(words, world, edition, out)?;
-    Ok(front(out, n))
+    let filled = write_set(words, world, edition, out);
+    handed(out, filled)
 }
 
 // Writes the map of a window, and hands back the part of the slice that it fills.
@@ -83,11 +92,13 @@ pub fn written_map<'a>(
     n: u64,
     out: &'a mut [u8],
 ) -> Result<&'a mut [u8], Refusal>
+    ensures* ends { sem 𝓛 (LendsIfOk (Array byte 0) (Array byte 0) out.entry result
+        (λ ws. ws ++ drop (length (front_of (outcome_of words.now world (Call.write_map base n out.old)).answer)) out.old) out.old) }
     ensures refused { IfErr result (λ r. (outcome_of words.now world (Call.write_map base n out.old)).answer ≡ refused (refusal_number r)) }
     ensures filled { IfOk result (λ part. (code_of (outcome_of words.now world (Call.write_map base n out.old)).answer ≡ 0)
         × (part.now ≡ front_of (outcome_of words.now world (Call.write_map base n out.old)).answer)
         × (part.ref_ptr ≡ out.entry.ref_ptr)) }
 {
-    let m = write_map(words, world, base, n, out)?;
-    Ok(front(out, m))
+    let filled = write_map(words, world, base, n, out);
+    handed(out, filled)
 }
