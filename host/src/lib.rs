@@ -32,6 +32,8 @@
 //!
 //! Every call on a world makes the soundness check first: one pass over all nodes, used and free ones, whose cost goes by the capacity and not by the
 //! runs. Most calls then need one path down the tree. [`Pool::frame`] and [`Pool::play`] make a list of calls after one soundness check.
+//!
+//! The modules [`mod@bench`], [`conformance`], [`differential`], [`oracle`] and [`mod@play`] are this project's tests and benchmarks, and no part of the wrappers.
 
 use std::error;
 use std::fmt;
