@@ -40,7 +40,7 @@ pub type Written = [Vec<u8>; ARENAS.len()];
 pub enum Call {
     /// Deals the lowest free slot.
     Spawn(Arena),
-    /// Places a block of so many neighbouring bodies in the lowest gap of [`BLOCKS`], if there is one.
+    /// Places a block of so many neighbouring bodies in the lowest gap of `BLOCKS`, if there is one.
     Block(Arena, u64),
     /// Frees the slot in use that has so many in use below it, if there is one.
     Despawn(Arena, u64),

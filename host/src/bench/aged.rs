@@ -32,15 +32,8 @@ const STORES: [&str; 8] = [
     "emptied in frames of 100",
 ];
 // In the plot, which has little room for names.
-const NAMES: [&str; STORES.len() - 1] = [
-    "grown",
-    "from a list",
-    "a tenth, worn",
-    "a tenth, tidied",
-    "emptied, worn",
-    "emptied, tidied",
-    "emptied by 100",
-];
+const NAMES: [&str; STORES.len() - 1] =
+    ["grown", "from a list", "a tenth, worn", "a tenth, tidied", "emptied, worn", "emptied, tidied", "emptied by 100"];
 
 // Which of them single calls and frames are played on, which have a frame of one call by itself, and which are laid out anew.
 const PLAYED: [usize; 6] = [NEW, GROWN, BUILT, TENTH, EMPTIED, BY_100];

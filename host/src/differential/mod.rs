@@ -1,7 +1,7 @@
 //! The differential run: every call on the proved library and on the oracle, a set for each world, and after every change all runs of
 //! all worlds of the pool. See [`run`].
 //!
-//! A [`Call`](calls::Call) carries all its arguments, so a difference is told as a list of calls on new pools, made as short as
+//! A [`Call`] carries all its arguments, so a difference is told as a list of calls on new pools, made as short as
 //! leaving calls out can make it.
 
 pub mod calls;
