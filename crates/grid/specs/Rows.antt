@@ -1,6 +1,6 @@
 -- What goes over a rectangle row by row asks and promises: the rectangle's rows, how many runs a row gains and loses, and passes over the rows.
 -- Assumes nothing: these are definitions.
-use Rattle.std.specs.Prelude.{ℕ, zero, suc, ◌+◌, ◌-◌, ◌≤◌, ◌<◌, ◌≡◌, ◌⊎◌, Bool, true, cond, ◌&&◌, List, ltb}
+use Rattle.std.specs.Prelude.{ℕ, zero, suc, ◌+◌, ◌-◌, ◌≤◌, ◌<◌, ◌≡◌, Bool, true, cond, ◌&&◌, if◌then◌else◌, List, ltb, leb}
 use Rattle.model.specs.Numbers.{size}
 use Rattle.model.specs.Positions.{Positions, one_if, count, run_count, set_range, stretches}
 use Rattle.model.specs.Neighbours.{goes_on, held_below, held_above}
@@ -8,7 +8,7 @@ use Rattle.store.specs.declared.World.{World}
 use Rattle.store.specs.Layout.{held_in}
 use Rattle.store.specs.Soundness.{Share, Still, Limited}
 use Rattle.model.specs.declared.Rect.{Rect}
-use Rattle.model.specs.Grid.{cell, within, set_rect}
+use Rattle.model.specs.Grid.{cell, within}
 
 -- a rectangle that is narrower than the plane
 abbrev pub Narrow : Rect → Type 0
@@ -54,25 +54,30 @@ Rises q v P r = stretches P ≤ stretches (set_row q r v P)
 abbrev pub WayFits : Rect → Bool → Positions → ℕ → Type 0
 WayFits q v P limit = (r : ℕ) → q.top ≤ r → r ≤ q.bottom → stretches (set_before q (suc r) v P) ≤ limit
 
--- the world h became k: all is as it was, where a..b, set to v, would leave more runs than the limit, else it is set
+-- a..b gets the value v, where that leaves at most as many runs as the limit; else all stays
+abbrev pub set_if : ℕ → ℕ → ℕ → Bool → Positions → Positions
+set_if limit a b v P = if leb (stretches (set_range a (suc b - a) v P)) limit then set_range a (suc b - a) v P else P
+
+-- so n rows from the top one on, one after another
+unfoldable pub pass_rows : ℕ → Rect → Bool → ℕ → Positions → Positions
+pass_rows limit q v zero P = P
+pass_rows limit q v (suc n) P = set_if limit (cell (q.top + n) q.left) (cell (q.top + n) q.right) v (pass_rows limit q v n P)
+
+-- the world h became k: a..b got the value v, where that leaves at most as many runs as the limit
 pub record RowSet (w w' : List ℕ) (s : Share) (h k : World) (limit a b : ℕ) (v : Bool) : Type 0 where
   pub limited : Limited w' s k limit
   pub still : Still w w' s
-  pub either : ((limit < stretches (set_range a (suc b - a) v (held_in w h))) × ((x : ℕ) → x < size → held_in w' k x ≡ held_in w h x))
-      ⊎ ((x : ℕ) → x < size → held_in w' k x ≡ set_range a (suc b - a) v (held_in w h) x)
+  pub holds : (x : ℕ) → x < size → held_in w' k x ≡ set_if limit a b v (held_in w h) x
 
 -- whatever share the world has
 abbrev pub SetsRow : List ℕ → List ℕ → World → World → ℕ → ℕ → ℕ → Bool → Type 0
 SetsRow w w' h k limit a b v = (s : Share) → Limited w s h limit → RowSet w w' s h k limit a b v
 
--- the world h became k, and the rows before row r were passed: to set one of them takes no run away. With all rows set both are the same. If
--- no state on the way has too many runs, all rows that were passed are set
+-- the world h became k: the rows before row r got the value v one after another, each where that left at most as many runs as the limit
 pub record Passed (w w' : List ℕ) (s : Share) (h k : World) (limit : ℕ) (q : Rect) (v : Bool) (r : ℕ) : Type 0 where
   pub limited : Limited w' s k limit
   pub still : Still w w' s
-  pub target : (x : ℕ) → x < size → set_rect q v (held_in w' k) x ≡ set_rect q v (held_in w h) x
-  pub rises : (i : ℕ) → q.top ≤ i → i < r → Rises q v (held_in w' k) i
-  pub whole : WayFits q v (held_in w h) limit → (x : ℕ) → x < size → held_in w' k x ≡ set_before q r v (held_in w h) x
+  pub holds : (x : ℕ) → x < size → held_in w' k x ≡ pass_rows limit q v (r - q.top) (held_in w h) x
 
 -- whatever share the world has
 abbrev pub Passes : List ℕ → List ℕ → World → World → ℕ → Rect → Bool → ℕ → Type 0

@@ -9,7 +9,7 @@ use Rattle.grid.proofs.rows.Change.make.Goals as goal
 pub returns-then-is_far : goal.returns-then-is_far
 returns-then-is_far c =
     let l = c.requires.editable.1 in
-    passed-once l
+    passed-once c.args.self.area.on_plane l
     (way-far c.args.self.area.q c.args.self.value l.standing (omega (arith, c.well_formed)) c.args.self.area.on_plane
     (leb-true _ _ (sym c.is_far.ensures ∙ c.if-is_far.true)))
     c.pass-k.ensures

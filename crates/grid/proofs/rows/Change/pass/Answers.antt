@@ -13,7 +13,7 @@ loop-r-init c = passed_none c.args.self.area.q c.args.self.value
 -- row r is passed too
 next : (c : After-set_row-k) → Passes c.args.words.now c.set_row-k.new.words c.args.h c.set_row-k.result c.args.self.limit c.args.self.area.q c.args.self.value (c.loop-r.r + 1)
 next c =
-    passed-next c.args.self.area.on_plane c.args.self.narrow c.loop-r.auto.r (omega (arith, c.loop-r-test.true)) c.cells.ensures c.loop-r.invariant c.set_row-k.ensures
+    passed-next c.loop-r.auto.r c.cells.ensures c.loop-r.invariant c.set_row-k.ensures
 
 pub loop-r-preserved : goal.loop-r-preserved
 loop-r-preserved c = next (goal.at.loop-r-preserved c).After-set_row-k
