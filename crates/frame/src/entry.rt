@@ -1,7 +1,6 @@
 // What a record of a call means. Every record means a call: a number that names none is a get, a bound of another kind is none, and a truth
 // value is anything but 0. The last word of a record names the world, but that 7 and 9 ask at none.
-ghost use Rattle.std.specs.Prelude.{◌≡◌, ◌-◌, MatchOption};
-ghost use Rattle.model.specs.Numbers.{size};
+ghost use Rattle.std.specs.Prelude.{◌≡◌};
 ghost use Rattle.frame.specs.Records.{entry_at, kind_of, asked_at};
 
 // Which call it is.

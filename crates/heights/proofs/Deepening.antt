@@ -8,6 +8,7 @@ use mathlib.Core.Path.{◌≡◌, refl, sym, ap, ap₂, ◌∙◌, subst}
 use mathlib.Core.Bool.{true, false, ◌||◌, or-true, or-false}
 use mathlib.Core.List.{List, [], ◌∷◌, ◌++◌, append-nil}
 use native.Mathlib.Omega.{arith}
+use native.Mathlib.Decide.{ℕ_discrete}
 use lib.ListN.{length, length-append, get_or, take}
 use lib.Seq.{get_or-append-add, take-length}
 use Rattle.std.proofs.lemmas.List.{take_more}
@@ -57,6 +58,7 @@ pub record Growing (w₀ w : List ℕ) (s : Share) (limit : ℕ) (rs : List Run)
   pub limited : Limited w s k limit
   pub holds : (x : ℕ) → x < size → held_in w k x ≡ mem (take i rs) x
   pub few : stretches (held_in w k) ≤ i
+  pub fit : (n : ℕ) → n ≤ i → stretches (mem (take n rs)) ≤ limit
   pub no-offset : k.offset ≡ 0
   pub still : Still w₀ w s
 
@@ -73,6 +75,7 @@ module _ {w : List ℕ} {s : Share} {h : World} {limit : ℕ} {rs : List Run} (m
     limited = m.limited;
     holds = λ x l. ap (λ P. P x) (rootless-empty w h.root h.offset m.bare);
     few = omega (arith, ap stretches (rootless-empty w h.root h.offset m.bare), empty-stretches);
+    fit = λ n l. let z : n ≡ 0 = omega arith in omega (arith, ap (λ (j : ℕ). stretches (mem (take j rs))) z, empty-stretches);
     no-offset = m.limited.standing.empty-offset m.bare;
     still = still-same;
   }
@@ -90,6 +93,7 @@ module _ {w₀ w : List ℕ} {s : Share} {k : World} {limit i : ℕ} {rs : List 
   pub growing-all : i ≡ length rs → Grown w₀ w s limit rs (Some k)
   growing-all e = (
     g.limited,
+    λ n l. g.fit n (omega arith),
     λ x l. g.holds x l ∙ ap (λ (qs : List Run). mem qs x) (ap (λ j. take j rs) e ∙ take-length rs),
     omega (arith, growing-runs),
     λ d less. standing-lower g.limited.standing d (omega (arith, growing-runs)),
@@ -126,6 +130,7 @@ module _ {w₀ w : List ℕ} {s : Share} {k : World} {limit i : ℕ} {rs : List 
         limited = became-limited g.limited made told.0;
         holds = λ x l. made.shows.holds x l ∙ next-holds x l;
         few = omega (arith, next-few, stretches-cong (held_in w' k') grown made.shows.holds);
+        fit = λ n l. fits n (ℕ_discrete n (i + 1)) l;
         no-offset = (subst (GrowsBy w w' k r.start r.«end» true) q gr).1 g.no-offset;
         still = still-then g.still made.still;
       }
@@ -133,6 +138,11 @@ module _ {w₀ w : List ℕ} {s : Share} {k : World} {limit i : ℕ} {rs : List 
           -- what the call tells, of the world that it gives back
           told : Edited w w' k limit grown (changed_to k' c)
           told = subst (Edited w w' k limit grown) q ed
+
+          -- so one run more fits
+          fits : (n : ℕ) → Dec (n ≡ i + 1) → n ≤ i + 1 → stretches (mem (take n rs)) ≤ limit
+          fits n (yes z) l = omega (arith, ap (λ j. stretches (mem (take j rs))) z, told.0, stretches-cong grown (mem (take (i + 1) rs)) next-holds)
+          fits n (no ne) l = g.fit n (omega arith)
 
           -- what it made of the world
           made : Became w w' s k' grown

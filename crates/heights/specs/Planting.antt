@@ -33,12 +33,16 @@ tree_of w k = tree_from highest w k.root
 abbrev pub TooMany : ℕ → List Run → Type 0
 TooMany limit rs = (n : ℕ) × (n ≤ length rs) × (limit < stretches (mem (take n rs)))
 
+-- or none are
+abbrev pub FitAll : ℕ → List Run → Type 0
+FitAll limit rs = (n : ℕ) → n ≤ length rs → stretches (mem (take n rs)) ≤ limit
+
 -- whatever the runs were: all of them are held and nothing else, or one was refused, since there was no room for it. The tree has no more runs than
 -- were set, and with fewer than the shortest list for a height has it is not that high
 abbrev pub Grown : List ℕ → List ℕ → Share → ℕ → List Run → Option World → Type 0
 Grown w w' s limit rs None = Still w w' s × TooMany limit rs
 Grown w w' s limit rs (Some k) =
-    Limited w' s k limit × ((x : ℕ) → x < size → held_in w' k x ≡ mem rs x) × (runs (tree_of w' k) ≤ length rs)
+    Limited w' s k limit × FitAll limit rs × ((x : ℕ) → x < size → held_in w' k x ≡ mem rs x) × (runs (tree_of w' k) ≤ length rs)
     × ((d : ℕ) → length rs < least d → height (tree_of w' k) < d) × Still w w' s
 
 -- the runs are those of the list for the height d, and the world may have so many

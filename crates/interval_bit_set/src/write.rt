@@ -1,7 +1,7 @@
 // Writing a world's set, and the map of a window, into the front of a lent slice. First the calls that tell how many bytes they wrote; then
 // the same calls handing back the part that they filled.
 // Document 02 (Ticket 4) wants both forms of writing a map, and both are public, so each picks its form here, by a const parameter.
-ghost use Rattle.std.specs.Prelude.{◌≡◌, ◌≤◌, ◌++◌, length, take, drop, IfOk, IfErr, Ok, Err};
+ghost use Rattle.std.specs.Prelude.{◌≡◌, ◌≤◌, ◌++◌, length, drop, IfOk, IfErr, Ok, Err};
 ghost use Rattle.std.specs.Borrow.{sem, LendsIfOk, Array, u8 as byte};
 ghost use Rattle.model.specs.Numbers.{refusal_number};
 ghost use Rattle.model.specs.Call.{Call, refused};
