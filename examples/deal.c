@@ -11,9 +11,10 @@ static uint8_t written[VIZTUREL_SET_BYTES(RUNS)];
 /* Takes the lowest free slot; 0 where there is none, or a call was refused. */
 static int deal(uint64_t *slot) {
     vizturel_found f = vizturel_find(pool, WORDS, BODIES, vizturel_unbounded(), vizturel_unbounded(), 0);
-    vizturel_bound at = vizturel_included(f.position);
+    if (f.refusal != 0 || !f.found) return 0;
     *slot = f.position;
-    return f.refusal == 0 && f.found && vizturel_set(pool, WORDS, BODIES, at, at, 1).refusal == 0;
+    vizturel_bound at = vizturel_included(f.position);
+    return vizturel_set(pool, WORDS, BODIES, at, at, 1).refusal == 0;
 }
 
 int main(void) {
