@@ -1,4 +1,4 @@
--- The lemmas, from positions to calls, the case that the functions play, and the laws.
+-- The lemmas, from positions to calls, and the laws.
 pub mod Moving
 pub mod Joining
 pub mod Ranges
@@ -12,5 +12,4 @@ pub mod Serving
 pub mod Swapping
 pub mod Apart
 pub mod OtherWay
-pub mod Playing
 pub mod Laws

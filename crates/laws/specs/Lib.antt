@@ -1,4 +1,3 @@
 pub mod Pairs
 pub mod Laws
 pub mod Swaps
-pub mod Played

@@ -1,55 +1,59 @@
-// Laws for the batcher (document 02, Ticket 14): the statements stand in specs/, and speak of nothing but what the public calls promise. The
-// functions here play the case that shows why the refusal law cannot be turned round.
-// The case is played once, so what each step asks (`Lent`) is asked again and no type keeps it.
+//! Laws for whoever reorders calls. As in `lockstep`, a function here does nothing and is called by nobody: its contract is laws, each named as its
+//! statement in `specs/` is. They speak of nothing but what the public calls promise.
 #![tactic(auto)]
 
-ghost use Rattle.laws.specs.Played.{Lent, MadeNew, MadeOne, Ready, RefusedThenDone};
+ghost use Rattle.laws.specs.Laws.{Counts-add, Shift-through, Shifted-through, Shifted-is-shift, Shifts-add, Shifts-empty, Shifted-add, Shifted-empty};
+ghost use Rattle.laws.specs.Laws.{Left-right, Left-right-clears, Shifted-left-right, Right-left, Shift-unrefused, Unrefused-shifted, Converse-fails};
+ghost use Rattle.laws.specs.Swaps.{Reports-swap, Worlds-swap, Overwritten, Ranges-swap, Sets-swap, Sets-one-value, Set-covered};
+ghost use Rattle.laws.specs.Swaps.{Flips-swap, Flip-undone, Shifts-swap, Set-strict, Flip-strict};
 
-use model::{Bound, Operation, Refusal};
+/// Counts of joined sets.
+pub fn counts()
+    ensures counts_add { Counts-add }
+{}
 
-// What two ORs into one world answered: of two sets, and of the same sets shifted.
-#[derive(Clone, Copy)]
-pub struct Joins {
-    pub before: Result<(), Refusal>,
-    pub after: Result<(), Refusal>,
-}
+/// Shifts of joined sets, and one shift after another.
+pub fn shifts()
+    ensures shift_through { Shift-through }
+    ensures shifted_through { Shifted-through }
+    ensures shifted_is_shift { Shifted-is-shift }
+    ensures shifts_add { Shifts-add }
+    ensures shifts_empty { Shifts-empty }
+    ensures shifted_add { Shifted-add }
+    ensures shifted_empty { Shifted-empty }
+    ensures left_right { Left-right }
+    ensures left_right_clears { Left-right-clears }
+    ensures shifted_left_right { Shifted-left-right }
+    ensures right_left { Right-left }
+    ensures shifts_swap { Shifts-swap }
+{}
 
-// A pool of one world, which may have one run.
-fn fresh(words: &mut [u64], limits: &[u64])
-    requires { Lent words.old limits.now }
-    ensures { MadeNew words.old words.new }
-{
-    let _ = interval_bit_set::make::new(words, limits);
-}
+/// Which shifts, and joins of shifted sets, are not refused.
+pub fn refusals()
+    ensures shift_unrefused { Shift-unrefused }
+    ensures unrefused_shifted { Unrefused-shifted }
+    ensures converse_fails { Converse-fails }
+{}
 
-// The same, and the position x held.
-fn holding_one(words: &mut [u64], limits: &[u64], x: u64)
-    requires { Lent words.old limits.now }
-    ensures { MadeOne x words.old words.new }
-{
-    fresh(words, limits);
-    let _ = interval_bit_set::change::set(words, 0, Bound::Included(x), Bound::Included(x), true);
-}
+/// Which calls may be swapped.
+pub fn swaps()
+    ensures reports_swap { Reports-swap }
+    ensures worlds_swap { Worlds-swap }
+    ensures ranges_swap { Ranges-swap }
+    ensures sets_swap { Sets-swap }
+    ensures sets_one_value { Sets-one-value }
+    ensures flips_swap { Flips-swap }
+{}
 
-// The OR of a and b into c, then that of a and b shifted left by 1 in place.
-fn join_twice(a: &mut [u64], b: &mut [u64], c: &mut [u64]) -> Joins
-    requires { Ready a.old b.old c.old }
-    ensures { RefusedThenDone result }
-{
-    let before = interval_bit_set::join::combine(c, 0, Operation::Or, a, 0, b, 0);
-    let _ = interval_bit_set::change::shift(a, 0, 1, true);
-    let _ = interval_bit_set::change::shift(b, 0, 1, true);
-    let after = interval_bit_set::join::combine(c, 0, Operation::Or, a, 0, b, 0);
-    Joins { before, after }
-}
+/// Which calls are needless.
+pub fn needless()
+    ensures overwritten { Overwritten }
+    ensures set_covered { Set-covered }
+    ensures flip_undone { Flip-undone }
+{}
 
-// In pools of capacity 1, {M} OR {5} is refused. Left shifts by 1 leave {} and {6}, and their OR is done.
-pub fn other_way(a: &mut [u64], b: &mut [u64], c: &mut [u64], limits: &[u64]) -> Joins
-    requires { Lent a.old limits.now × Lent b.old limits.now × Lent c.old limits.now }
-    ensures { RefusedThenDone result }
-{
-    holding_one(a, limits, u64::MAX);
-    holding_one(b, limits, 5);
-    fresh(c, limits);
-    join_twice(a, b, c)
-}
+/// Strict calls that are not refused.
+pub fn strict()
+    ensures set_strict { Set-strict }
+    ensures flip_strict { Flip-strict }
+{}

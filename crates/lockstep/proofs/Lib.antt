@@ -1,6 +1,4 @@
--- What the proof of the function uses.
-pub mod Ways
-pub mod Playing
+-- The lemmas, and the theorems.
 pub mod Matches
 pub mod Clearing
 pub mod Converting

@@ -3,6 +3,9 @@
 use mathlib.Core.Path.{refl, sym}
 use native.Mathlib.Nat.{le_trans}
 use Rattle.store.specs.Settle.{Openable}
+use Rattle.model.proofs.Cases
+use Rattle.model.proofs.Columns
+use Rattle.lockstep.specs.Tables.{Cases-hold, Columns-back}
 use Rattle.lockstep.specs.Theorems.{
   Theorem1,
   Theorem1-matches,
@@ -38,7 +41,6 @@ use Rattle.lockstep.proofs.Floors.{reaches-floor, mend-reaches-floor}
 use Rattle.lockstep.proofs.Neighbours.{alike}
 use Rattle.lockstep.proofs.Forms.{met-alike, writes-alike}
 use Rattle.lockstep.proofs.Clearing
-use Rattle.lockstep.proofs.Clearing.{written-stays}
 use Rattle.lockstep.proofs.Filling.{none-held, all_held}
 use Rattle.lockstep.proofs.Converting.{convert-back, convert-then-load, load-converts, old-refused}
 use Rattle.lockstep.proofs.Mending.{right-comes-back, outcome-loads}
@@ -78,14 +80,14 @@ cleared-reads base n bs bs' w i w' c a h m = Clearing.clear-then-read base n bs 
 pub cleared-once : Cleared-once
 cleared-once base n bs bs' bs'' c d h g = Clearing.clear-twice base n bs h g
 
-pub written-map-stays : Written-stays
-written-map-stays w i base n bs bs' a W h = written-stays W h
+pub written-stays : Written-stays
+written-stays w i base n bs bs' a W h = Clearing.written-stays W h
 
 pub forms-agree : Forms-agree
 forms-agree = (λ w i base n bs a b w' v' m k. met-alike m k, λ w i base n out r s out' out'' m k. writes-alike m k)
 
-pub fill_none : Fill-none
-fill_none w i base n k w' m = none-held m
+pub fill-none : Fill-none
+fill-none w i base n k w' m = none-held m
 
 pub fill-full : Fill-full
 fill-full w i base n k w' m = all_held m
@@ -120,3 +122,10 @@ why-smallest w ranges out out' n w' d W m =
 
 pub why-none : Why-none
 why-none w ranges out w' m = none-given w ranges out m
+
+-- ---- of the plain model alone
+pub cases-hold : Cases-hold
+cases-hold = Cases.cases-hold
+
+pub columns-back : Columns-back
+columns-back R C bs e = Columns.columns-back R C bs e

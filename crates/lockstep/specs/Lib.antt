@@ -1,5 +1,5 @@
 pub mod History
 pub mod Clearing
-pub mod Meeting
+pub mod Tables
 pub mod Matches
 pub mod Theorems

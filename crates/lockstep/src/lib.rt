@@ -1,52 +1,59 @@
-// Whole histories of calls (demand 3): the theorems stand in specs/, and speak of nothing but what the public calls promise. The function
-// here uses them.
+//! The theorems. A function here has no parameters, does nothing and is called by nobody: its contract is theorems, each named as its statement in
+//! `specs/` is, and the check proves them. They speak of nothing but what the public calls promise.
 #![tactic(auto)]
 
-ghost use Rattle.std.specs.Prelude.{◌+◌, ◌≤◌, ◌<◌};
-ghost use Rattle.model.specs.Numbers.{size};
-ghost use Rattle.lockstep.specs.Meeting.{Lent, SameBytes};
+ghost use Rattle.lockstep.specs.Tables.{Cases-hold, Columns-back};
+ghost use Rattle.lockstep.specs.Theorems.{Theorem1, Theorem1-matches, Theorem2, Theorem2-room, Theorem3, Theorem4, Theorem5, Theorem6};
+ghost use Rattle.lockstep.specs.Theorems.{Cleared-reads, Cleared-once, Written-stays, Forms-agree, Fill-none, Fill-full};
+ghost use Rattle.lockstep.specs.Theorems.{Converted-back, Converted-loads, Loads-converts, Old-reader, Mended-right, Mended-loads, Mended-floor};
+ghost use Rattle.lockstep.specs.Theorems.{Deepest-shortest, Why-smallest, Why-none};
 
-use model::{Bound, Edition, Refusal};
+/// Whole lists of calls on a pool.
+pub fn histories()
+    ensures theorem1 { Theorem1 }
+    ensures theorem1_matches { Theorem1-matches }
+    ensures theorem2 { Theorem2 }
+    ensures theorem2_room { Theorem2-room }
+    ensures theorem3 { Theorem3 }
+    ensures theorem4 { Theorem4 }
+{}
 
-// What two pools answered to writing the sets of their worlds.
-#[derive(Clone, Copy)]
-pub struct Sets {
-    pub first: Result<usize, Refusal>,
-    pub second: Result<usize, Refusal>,
-}
+/// Worlds that share a pool.
+pub fn worlds()
+    ensures theorem5 { Theorem5 }
+    ensures theorem6 { Theorem6 }
+{}
 
-// Two histories that come to the same positions, each in a pool of one world: the first gets them by one set, the second by a set further down
-// and a left shift, which moves its offset. Then both write their sets in one edition: they are the same bytes.
-pub fn play_both(
-    a: &mut [u64],
-    b: &mut [u64],
-    limits: &[u64],
-    low: u64,
-    high: u64,
-    distance: u64,
-    edition: Edition,
-    left: &mut [u8],
-    right: &mut [u8],
-) -> Sets
-    requires lent { Lent a.old b.old limits.now left.old right.old }
-    requires low_le_high { (low ≤ high) × (high + distance < size) }
-    ensures { SameBytes result left.new right.new }
-{
-    let _ = interval_bit_set::make::new(a, limits);
-    let _ = interval_bit_set::change::set(
-        a,
-        0,
-        Bound::Included(low + distance),
-        Bound::Included(high + distance),
-        true,
-    );
-    let _ = interval_bit_set::make::new(b, limits);
-    let _ = interval_bit_set::change::set(b, 0, Bound::Included(low), Bound::Included(high), true);
-    let _ = interval_bit_set::change::shift(b, 0, distance, true);
-    let x = interval_bit_set::write::write_set(a, 0, edition, left);
-    let y = interval_bit_set::write::write_set(b, 0, edition, right);
-    Sets {
-        first: x,
-        second: y,
-    }
-}
+/// Maps, and how full a window is.
+pub fn maps()
+    ensures cleared_reads { Cleared-reads }
+    ensures cleared_once { Cleared-once }
+    ensures written_stays { Written-stays }
+    ensures forms_agree { Forms-agree }
+    ensures fill_none { Fill-none }
+    ensures fill_full { Fill-full }
+{}
+
+/// Written sets of both editions, converted and mended.
+pub fn written_sets()
+    ensures converted_back { Converted-back }
+    ensures converted_loads { Converted-loads }
+    ensures loads_converts { Loads-converts }
+    ensures old_reader { Old-reader }
+    ensures mended_right { Mended-right }
+    ensures mended_loads { Mended-loads }
+    ensures mended_floor { Mended-floor }
+{}
+
+/// The deepest tree, and why a list of ranges was refused.
+pub fn measures()
+    ensures deepest_shortest { Deepest-shortest }
+    ensures why_smallest { Why-smallest }
+    ensures why_none { Why-none }
+{}
+
+/// The plain model alone.
+pub fn tables()
+    ensures cases_hold { Cases-hold }
+    ensures columns_back { Columns-back }
+{}

@@ -1,0 +1,9 @@
+use Rattle.lockstep.proofs.Theorems.{deepest-shortest, why-smallest, why-none}
+use Rattle.lockstep.proofs.measures.Goals as goal
+
+pub returns : goal.returns
+returns c = record {
+  deepest_shortest = deepest-shortest;
+  why_smallest = why-smallest;
+  why_none = why-none;
+}

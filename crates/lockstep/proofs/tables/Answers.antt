@@ -1,0 +1,8 @@
+use Rattle.lockstep.proofs.Theorems.{cases-hold, columns-back}
+use Rattle.lockstep.proofs.tables.Goals as goal
+
+pub returns : goal.returns
+returns c = record {
+  cases_hold = cases-hold;
+  columns_back = columns-back;
+}

@@ -1,0 +1,13 @@
+use Rattle.lockstep.proofs.Theorems.{converted-back, converted-loads, loads-converts, old-reader, mended-right, mended-loads, mended-floor}
+use Rattle.lockstep.proofs.written_sets.Goals as goal
+
+pub returns : goal.returns
+returns c = record {
+  converted_back = converted-back;
+  converted_loads = converted-loads;
+  loads_converts = loads-converts;
+  old_reader = old-reader;
+  mended_right = mended-right;
+  mended_loads = mended-loads;
+  mended_floor = mended-floor;
+}
