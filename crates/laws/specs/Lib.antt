@@ -2,3 +2,4 @@ pub mod Pairs
 pub mod Laws
 pub mod Swaps
 pub mod Played
+pub mod Equal
