@@ -12,6 +12,7 @@ use Rattle.lockstep.specs.Theorems.{
   Theorem4,
   Theorem5,
   Theorem6,
+  Theorem6-lists,
   Cleared-reads,
   Cleared-once,
   Written-stays,
@@ -35,7 +36,7 @@ use Rattle.lockstep.proofs.Writing.{bytes-few, written_all, written-alike}
 use Rattle.lockstep.proofs.Loading.{writable-loads}
 use Rattle.lockstep.proofs.Reloading.{loads-writable}
 use Rattle.lockstep.proofs.Floors.{reaches-floor, mend-reaches-floor}
-use Rattle.lockstep.proofs.Neighbours.{alike}
+use Rattle.lockstep.proofs.Neighbours.{alike, all-alike}
 use Rattle.lockstep.proofs.Forms.{met-alike, writes-alike}
 use Rattle.lockstep.proofs.Clearing
 use Rattle.lockstep.proofs.Clearing.{written-stays}
@@ -71,6 +72,10 @@ theorem5 w i c a w' r S l m d h e = reaches-floor S i l m d h e
 pub theorem6 : Theorem6
 theorem6 w v i c d a b w' v' S T e f g k m n =
     alike i (record { sound = S; sized = refl; held = refl }) (record { sound = T; sized = sym e; held = refl }) f g k m n
+
+pub theorem6-lists : Theorem6-lists
+theorem6-lists w v i rs qs w' v' S T e f g B =
+    all-alike (record { sound = S; sized = refl; held = refl }) (record { sound = T; sized = sym e; held = refl }) f g B
 
 pub cleared-reads : Cleared-reads
 cleared-reads base n bs bs' w i w' c a h m = Clearing.clear-then-read base n bs h m

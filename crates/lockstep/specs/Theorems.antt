@@ -28,6 +28,7 @@ use Rattle.promises.specs.Out.{WritesOut}
 use Rattle.promises.specs.Handles.{Handles}
 use Rattle.lockstep.specs.History.{History, New, told, outcomes, Follows, left, WritesSet, Loads, Writable}
 use Rattle.lockstep.specs.Matches.{Match}
+use Rattle.lockstep.specs.Beside.{Beside}
 use Rattle.lockstep.specs.Clearing.{old_reading, WritesMap}
 
 -- ---- demand 3, and worlds in one pool (document 02, Ticket 3)
@@ -89,6 +90,15 @@ Theorem6 =
     (w v : List ℕ) (i : ℕ) (c d : Call Site) (a b : Answer) (w' v' : List ℕ)
     → Sound w → Sound v → capacity w ≡ capacity v → world_of (worlds_of w) i ≡ world_of (worlds_of v) i → other_claims (worlds_of w) i ≡ other_claims (worlds_of v) i
     → feed fed_at c ≡ feed fed_at d → Met w i c a w' → Met v i d b v' → (a ≡ b) × (world_of (worlds_of w') i ≡ world_of (worlds_of v') i)
+
+-- Theorem 6 over lists: of equal calls on world i, with calls of the neighbours in between, every answer is the same in both
+-- pools, and world i is alike in the end
+abbrev pub Theorem6-lists : Type 0
+Theorem6-lists =
+    (w v : List ℕ) (i : ℕ) (rs qs : List Answer) (w' v' : List ℕ)
+    → Sound w → Sound v → capacity w ≡ capacity v → world_of (worlds_of w) i ≡ world_of (worlds_of v) i
+    → other_claims (worlds_of w) i ≡ other_claims (worlds_of v) i
+    → Beside i w v rs qs w' v' → (rs ≡ qs) × (world_of (worlds_of w') i ≡ world_of (worlds_of v') i)
 
 -- ---- cleared maps (document 02, Ticket 2)
 -- if clear_map was called on bs and left bs', then what read_map of bs' answers and leaves is document 01's reading of bs
