@@ -65,10 +65,12 @@ sum-stays : {C : ℕ} {w w' : List ℕ} {i : ℕ} {c : Call Site} {a : Answer}
     → Holds C (worlds_of w) w → Met w i c a w' → other_claims (worlds_of w') i ≡ other_claims (worlds_of w) i
 unfolding step
 sum-stays {C} {w} {i = i} {c} H m =
-    ap (λ l. other_claims l i) (step-holds H m).held ∙ holding-others i (serve_at C (worlds_of w) i (feed fed_at c)).positions (worlds_of w)
+    let o = serve_at C (worlds_of w) i (feed fed_at c) in
+    ap (λ l. other_claims l i) (step-holds H m).held ∙ holding-others i o.positions (worlds_of w)
 
 -- other worlds than that which a call is on are left
-holding-other : (i j : ℕ) (P : Positions) (ws : List PlainWorld) → (i ≡ j → ⊥) → world_of (holding_at j P ws) i ≡ world_of ws i
+holding-other : (i j : ℕ) (P : Positions) (ws : List PlainWorld) → (i ≡ j → ⊥)
+    → world_of (holding_at j P ws) i ≡ world_of ws i
 unfolding holding_at
 holding-other i j P [] ne = refl
 holding-other zero zero P (x ∷ ws) ne = absurd (ne refl)
@@ -82,10 +84,9 @@ neighbours-leave : {C i : ℕ} {w w' : List ℕ} → Holds C (worlds_of w) w →
 unfolding step
 neighbours-leave H Neighbours.none = (H, refl)
 neighbours-leave {C} {i} {w} H (Neighbours.call {j = j} {c} ne m N) =
-    let r = neighbours-leave (met-holds H m) N in (
-      r.0,
-      r.1 ∙ ap (λ l. world_of l i) (step-holds H m).held ∙ holding-other i j (serve_at C (worlds_of w) j (feed fed_at c)).positions (worlds_of w) ne,
-    )
+    let o = serve_at C (worlds_of w) j (feed fed_at c) in
+    let r = neighbours-leave (met-holds H m) N in
+    (r.0, r.1 ∙ ap (λ l. world_of l i) (step-holds H m).held ∙ holding-other i j o.positions (worlds_of w) ne)
 
 -- two pools that agree in world i and in that sum answer the calls on world i alike, and leave it alike
 pub all-alike : {C i : ℕ} {w v : List ℕ} {rs qs : List Answer} {w' v' : List ℕ}

@@ -41,8 +41,8 @@ use Rattle.lockstep.proofs.Forms.{met-alike, writes-alike}
 use Rattle.lockstep.proofs.Clearing
 use Rattle.lockstep.proofs.Clearing.{written-stays}
 use Rattle.lockstep.proofs.Filling.{none-held, all_held}
-use Rattle.lockstep.proofs.Converting.{convert-back, convert-then-load, load-converts, old-refused}
-use Rattle.lockstep.proofs.Mending.{right-comes-back, outcome-loads}
+use Rattle.lockstep.proofs.Converting.{convert-back, convert-then-load, load-converts, convert-old-refused, old-refused}
+use Rattle.lockstep.proofs.Mending.{right-comes-back, outcome-loads, mend-old-refused}
 use Rattle.lockstep.proofs.Measuring.{list-long, list-is}
 use Rattle.lockstep.proofs.Stopping.{many-are, rising-are, listed-are, refused-are, fewer-given, none-given}
 use Rattle.store.proofs.Heights.{world-lower}
@@ -105,7 +105,11 @@ pub loads-converts : Loads-converts
 loads-converts C bs out cs a b L h l = load-converts bs out L h l
 
 pub old-reader : Old-reader
-old-reader w i bs W = old-refused W
+old-reader = (
+  λ w i bs W. old-refused W,
+  λ bs out cs n h e. convert-old-refused bs out h e,
+  λ w i bs out report out' report' n m w' M e. mend-old-refused w i bs out report M e,
+)
 
 pub mended-right : Mended-right
 mended-right w i bs out report out' report' n m C w' b L M = right-comes-back w i bs out report M b L
