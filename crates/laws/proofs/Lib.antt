@@ -10,6 +10,7 @@ pub mod Twice
 pub mod Sides
 pub mod Serving
 pub mod Swapping
+pub mod Equal
 pub mod Apart
 pub mod OtherWay
 pub mod Laws

@@ -1,5 +1,6 @@
--- What the plain model gives of any call, by its kind: a report leaves the positions; what a call that is not refused gives does not depend on how many
--- runs are too many; and that of one that overwrites its world does not depend on what it held. A new call asks for one more case of each.
+-- What the plain model gives of any call, by its kind: a report leaves the positions, and does not depend on how many
+-- runs are too many, refused or not; what any other call gives that is not refused does not depend on it either; and that
+-- of one that overwrites its world does not depend on what it held. A new call asks for one more case of each.
 -- Assumes nothing.
 use Rattle.std.specs.Prelude.{Option, None, Some}
 use Prim.Native.Nat.{ℕ}
@@ -38,38 +39,52 @@ report-stays : (s : Fed) (cs : List Condition) (a : Result) → (report s cs a).
 unfolding report
 report-stays s cs a = settle-stays (refusal (reads s ++ cs)) (positions_of s) a
 
--- leave the positions
-pub stays : (full : ℕ → Bool) (s : Fed) (c : Call Site) → kind c ≡ reporting → (serve full s (feed fed_at c)).positions ≡ positions_of s
-unfolding serve tallying write drawn_first drawn_last
-stays full s (Call.set l u v) e = changing-not e
-stays full s (Call.flip l u) e = changing-not e
-stays full s (Call.get x) e = report-stays s _ _
-stays full s (Call.run_at x) e = report-stays s _ _
-stays full s (Call.find l u v) e = report-stays s _ _
-stays full s (Call.tally l u v) e = report-stays s _ _
-stays full s (Call.select l u v k) e = report-stays s _ _
-stays full s (Call.gap l u n) e = report-stays s _ _
-stays full s (Call.ranges l u v) e = report-stays s _ _
-stays full s (Call.draw_front l) e = report-stays s _ _
-stays full s (Call.draw_back l) e = report-stays s _ _
-stays full s (Call.shift d left) e = changing-not e
-stays full s (Call.shifted d left t) e = overwriting-not e
-stays full s (Call.combine op t u) e = overwriting-not e
-stays full s (Call.complement t) e = overwriting-not e
-stays full s (Call.equal t) e = report-stays s _ _
-stays full s (Call.load bs) e = overwriting-not e
-stays full s (Call.mend bs out report) e = overwriting-not e
-stays full s (Call.build rs) e = overwriting-not e
-stays full s (Call.write_set d out) e = report-stays s _ _
-stays full s (Call.read_map base n bs) e = changing-not e
-stays full s (Call.write_map base n out) e = report-stays s _ _
-stays full s (Call.fill base n) e = report-stays s _ _
-stays full s (Call.set_strict l u v) e = changing-not e
-stays full s (Call.flip_strict l u) e = changing-not e
-stays full s (Call.tally_strict l u v) e = report-stays s _ _
-stays full s (Call.set_rect q v) e = changing-not e
-stays full s (Call.count_rect q) e = report-stays s _ _
-stays full s (Call.survey r c k out) e = report-stays s _ _
+-- the call c reports, by what its world is fed as alone
+record Reporting (c : Call Site) : Type 0 where
+  conditions : Fed → List Condition
+  said : Fed → Result
+  is : (full : ℕ → Bool) (s : Fed) → serve full s (feed fed_at c) ≡ report s (conditions s) (said s)
+
+reports : (c : Call Site) → kind c ≡ reporting → Reporting c
+unfolding serve tallying write
+reports (Call.set l u v) e = changing-not e
+reports (Call.flip l u) e = changing-not e
+reports (Call.get x) e = record { conditions = _; said = _; is = λ full s. refl }
+reports (Call.run_at x) e = record { conditions = _; said = _; is = λ full s. refl }
+reports (Call.find l u v) e = record { conditions = _; said = _; is = λ full s. refl }
+reports (Call.tally l u v) e = record { conditions = _; said = _; is = λ full s. refl }
+reports (Call.select l u v k) e = record { conditions = _; said = _; is = λ full s. refl }
+reports (Call.gap l u n) e = record { conditions = _; said = _; is = λ full s. refl }
+reports (Call.ranges l u v) e = record { conditions = _; said = _; is = λ full s. refl }
+reports (Call.draw_front l) e = record { conditions = _; said = _; is = λ full s. refl }
+reports (Call.draw_back l) e = record { conditions = _; said = _; is = λ full s. refl }
+reports (Call.shift d left) e = changing-not e
+reports (Call.shifted d left t) e = overwriting-not e
+reports (Call.combine op t u) e = overwriting-not e
+reports (Call.complement t) e = overwriting-not e
+reports (Call.equal t) e = record { conditions = _; said = _; is = λ full s. refl }
+reports (Call.load bs) e = overwriting-not e
+reports (Call.mend bs out report) e = overwriting-not e
+reports (Call.build rs) e = overwriting-not e
+reports (Call.write_set d out) e = record { conditions = _; said = _; is = λ full s. refl }
+reports (Call.read_map base n bs) e = changing-not e
+reports (Call.write_map base n out) e = record { conditions = _; said = _; is = λ full s. refl }
+reports (Call.fill base n) e = record { conditions = _; said = _; is = λ full s. refl }
+reports (Call.set_strict l u v) e = changing-not e
+reports (Call.flip_strict l u) e = changing-not e
+reports (Call.tally_strict l u v) e = record { conditions = _; said = _; is = λ full s. refl }
+reports (Call.set_rect q v) e = changing-not e
+reports (Call.count_rect q) e = record { conditions = _; said = _; is = λ full s. refl }
+reports (Call.survey r c k out) e = record { conditions = _; said = _; is = λ full s. refl }
+
+module _ (full : ℕ → Bool) (s : Fed) (c : Call Site) (k : kind c ≡ reporting) where
+  -- leave the positions
+  pub stays : (serve full s (feed fed_at c)).positions ≡ positions_of s
+  stays = let R = reports c k in ap (λ o. o.positions) (R.is full s) ∙ report-stays s (R.conditions s) (R.said s)
+
+  -- and do not ask how many runs are too many
+  pub any-limit : (full' : ℕ → Bool) → serve full s (feed fed_at c) ≡ serve full' s (feed fed_at c)
+  any-limit full' = let R = reports c k in R.is full s ∙ sym (R.is full' s)
 
 -- ---- how many runs are too many
 module _ (full full' : ℕ → Bool) (s : Fed) where

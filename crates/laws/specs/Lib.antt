@@ -1,3 +1,4 @@
 pub mod Pairs
 pub mod Laws
 pub mod Swaps
+pub mod Equal

@@ -1,16 +1,18 @@
--- Written sets of two editions, over what the public calls promise (document 02, Ticket 8): a converted set is converted back, loads as the set
--- itself does, and what loads can be converted; and document 01's reader refuses every set of edition 2. Assumes nothing.
+-- Written sets of two editions, over what the public calls promise: a converted set is converted back, loads as the set
+-- itself does, and what loads can be converted; and a reader that knows edition 1 alone refuses what is written in edition
+-- 2, by its first byte. Assumes nothing.
 use Rattle.std.specs.Prelude.{Some}
 use Prim.Native.Nat.{ℕ, ◌≤◌}
 use mathlib.Core.Path.{◌≡◌, sym, ap, ◌∙◌, subst}
 use mathlib.Core.List.{List}
 use lib.ListN.{length, take}
-use Rattle.model.specs.declared.Edition.TheVariants.{Columns}
+use Rattle.model.specs.declared.Edition.TheVariants.{Rows, Columns}
 use Rattle.model.specs.Positions.{held_runs}
+use Rattle.model.specs.Bytes.{encode, edition_of, decode}
 use Rattle.model.specs.RunList.{AllBytes}
 use Rattle.model.specs.Call.{Call, written, Answer, gave}
 use Rattle.model.specs.Model.{Outcome, serve}
-use Rattle.model.specs.Converting.{converted, convert, document_one_refusal}
+use Rattle.model.specs.Converting.{other_edition, converted, convert, document_one_refusal}
 use Rattle.model.proofs.Codec.{Intact}
 use Rattle.model.proofs.Converting.{
   converted-length,
@@ -90,7 +92,14 @@ load-converts bs out {cs} L h l =
     let I : Intact bs = (loaded-accepted L).intact in
     (handled-whole bs out h (convert-done bs out I l)).0 ∙ ap (λ k. gave (written k cs)) (converted-length bs I.length-fits)
 
--- ---- document 01's reader
+-- ---- a reader that knows edition 1 alone
 -- gives 4 to whatever a world writes in edition 2
 pub old-refused : {w : List ℕ} {i : ℕ} {bs : List ℕ} → WritesSet w i Columns bs → document_one_refusal bs ≡ Some 4
 old-refused {w} {i} W = ap document_one_refusal (written_is W) ∙ columns-refused (held_runs (held_by w i))
+
+-- and to what a set of edition 1 was converted to
+pub convert-old-refused : (bs out : List ℕ) {cs : List ℕ} {n : ℕ} → Handles (convert bs out) (gave (written n cs)) cs
+    → edition_of bs ≡ Rows → document_one_refusal (take n cs) ≡ Some 4
+unfolding converted
+convert-old-refused bs out h e =
+    ap document_one_refusal (front-is bs out h ∙ ap (λ d. encode (other_edition d) (decode bs)) e) ∙ columns-refused (decode bs)

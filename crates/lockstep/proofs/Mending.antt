@@ -1,5 +1,6 @@
--- Mending, over what the public calls promise (document 02, Ticket 9): a set that loads comes back byte for byte with every run kept, and what was
--- written as the mended set loads and leaves the worlds that mending left. Assumes nothing.
+-- Mending, over what the public calls promise: a set that loads comes back byte for byte with every run kept, and what was
+-- written as the mended set loads and leaves the worlds that mending left; in edition 2 a reader that knows edition 1 alone
+-- refuses it. Assumes nothing.
 use Rattle.std.specs.Prelude.{Option, None, Some, Ok}
 use Prim.Native.Nat.{ℕ, ◌≤◌}
 use mathlib.Core.Path.{◌≡◌, refl, sym, ap, ap₂, ◌∙◌, subst}
@@ -8,14 +9,17 @@ use mathlib.Core.List.{List, ◌∷◌, ◌++◌}
 use native.Mathlib.Omega.{arith}
 use lib.ListN.{length, take, replicate}
 use borrow.Author.Tests.{ltb-false, not-false}
-use Rattle.model.specs.Positions.{stretches, mem, bounded}
-use Rattle.model.specs.Bytes.{edition_of, decode, into_front}
+use Rattle.model.specs.declared.Edition.TheVariants.{Columns}
+use Rattle.model.specs.Positions.{held_runs, stretches, mem, bounded}
+use Rattle.model.specs.Bytes.{encode, edition_of, decode, into_front}
 use Rattle.model.specs.RunList.{AllBytes}
 use Rattle.model.specs.Mending.{mended_positions, mended_set, mend_report}
 use Rattle.model.specs.Refusals.{capacity as too_much, Condition, ◌when◌, refusal, ordered_from, disordered, too_many, no_room}
 use Rattle.model.specs.Call.{Call, Result, done, mended, Answer, gave}
 use Rattle.model.specs.Model.{positions_of, reads, settle, change, mending, serve}
+use Rattle.model.specs.Converting.{document_one_refusal}
 use Rattle.model.proofs.Codec.{decode-words}
+use Rattle.model.proofs.Converting.{columns-refused}
 use Rattle.model.proofs.RoundTrips.{Accepted, accepted-bytes, held-read, held-accepted, bounded-held}
 use Rattle.store.specs.Layout.{allowance, worlds_of}
 use Rattle.store.specs.Settle.{Settled}
@@ -76,6 +80,13 @@ module _ (w : List ℕ) (i : ℕ) (bs out report : List ℕ) where
         let a : n ≡ length (mended_set bs) = cc in
         let b : out' ≡ into_front (mended_set bs) out = cc in
         ap₂ take a b ∙ take-front (mended_set bs) out
+
+    -- so a reader that knows edition 1 alone gives 4 to it, where the set read was of edition 2
+    pub mend-old-refused : edition_of bs ≡ Columns → document_one_refusal (take n out') ≡ Some 4
+    unfolding mended_set
+    mend-old-refused e =
+        let rs = held_runs (mended_positions bs) in
+        ap document_one_refusal (set_is ∙ ap (λ d. encode d rs) e) ∙ columns-refused rs
 
     -- the report in front of the other, which has m bytes
     report-many : m ≡ length (mend_report bs)

@@ -16,7 +16,7 @@ use Rattle.model.specs.Bytes.{edition_of, decode}
 use Rattle.model.specs.RunList.{AllBytes}
 use Rattle.model.specs.Refusals.{floors, crossed, bad_limits, too_many}
 use Rattle.model.specs.Call.{Call, at, done, gave}
-use Rattle.model.specs.Pools.{PlainWorld, claim, claims, other_claims, exceeds, full, holding_at, empty_worlds}
+use Rattle.model.specs.Pools.{PlainWorld, claims, other_claims, exceeds, full, empty_worlds}
 use Rattle.model.proofs.Pools.{holding-here}
 use Rattle.model.proofs.Runs.{stretches-cong}
 use Rattle.model.proofs.RoundTrips.{Accepted, accepted-bytes}
@@ -34,6 +34,7 @@ use Rattle.promises.proofs.Simulation.{same-positions, worlds-after}
 use Rattle.lockstep.specs.History.{rest, call, New, WritesSet, Loads, Writable}
 use Rattle.lockstep.proofs.Writing.{bytes_of, writes}
 use Rattle.lockstep.proofs.Loading.{load-met, loaded-readable, loaded-accepted, loaded-settled}
+use Rattle.lockstep.proofs.Neighbours.{holding-others}
 use Rattle.lockstep.proofs.Lone.{Lone, lone, cleaned, settled-empty}
 
 -- ---- a sound pool of empty worlds is a new one
@@ -113,13 +114,6 @@ all-empty {w = w} {i} A E j l = go (ℕ_discrete j i)
     go (no ne) = E.others j (omega (arith, l, E.opened)) ne ∙ A.others j (omega (arith, l, E.opened, A.opened)) ne
 
 -- ---- the same runs are too many before and after a world gets them
--- what the others claim does not depend on what this world holds
-holding-others : (i : ℕ) (P : Positions) (ws : List PlainWorld) → other_claims (holding_at i P ws) i ≡ other_claims ws i
-unfolding other_claims holding_at
-holding-others i P [] = refl
-holding-others zero P (x ∷ ws) = refl
-holding-others (suc i) P (x ∷ ws) = ap (λ n. claim x + n) (holding-others i P ws)
-
 full-same : {w v : List ℕ} {i : ℕ} (P : Positions) → Sound w → i < opened_at w → Settled w v i (bounded P) → full_at v i ≡ full_at w i
 unfolding full_at full
 full-same {w} {v} {i} P S l t =

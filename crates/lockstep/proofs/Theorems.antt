@@ -15,6 +15,7 @@ use Rattle.lockstep.specs.Theorems.{
   Theorem4,
   Theorem5,
   Theorem6,
+  Theorem6-lists,
   Cleared-reads,
   Cleared-once,
   Written-stays,
@@ -38,12 +39,12 @@ use Rattle.lockstep.proofs.Writing.{bytes-few, written_all, written-alike}
 use Rattle.lockstep.proofs.Loading.{writable-loads}
 use Rattle.lockstep.proofs.Reloading.{loads-writable}
 use Rattle.lockstep.proofs.Floors.{reaches-floor, mend-reaches-floor}
-use Rattle.lockstep.proofs.Neighbours.{alike}
+use Rattle.lockstep.proofs.Neighbours.{alike, all-alike}
 use Rattle.lockstep.proofs.Forms.{met-alike, writes-alike}
 use Rattle.lockstep.proofs.Clearing
 use Rattle.lockstep.proofs.Filling.{none-held, all_held}
-use Rattle.lockstep.proofs.Converting.{convert-back, convert-then-load, load-converts, old-refused}
-use Rattle.lockstep.proofs.Mending.{right-comes-back, outcome-loads}
+use Rattle.lockstep.proofs.Converting.{convert-back, convert-then-load, load-converts, convert-old-refused, old-refused}
+use Rattle.lockstep.proofs.Mending.{right-comes-back, outcome-loads, mend-old-refused}
 use Rattle.lockstep.proofs.Measuring.{list-long, list-is}
 use Rattle.lockstep.proofs.Stopping.{many-are, rising-are, listed-are, refused-are, fewer-given, none-given}
 use Rattle.store.proofs.Heights.{world-lower}
@@ -74,6 +75,10 @@ pub theorem6 : Theorem6
 theorem6 w v i c d a b w' v' S T e f g k m n =
     alike i (record { sound = S; sized = refl; held = refl }) (record { sound = T; sized = sym e; held = refl }) f g k m n
 
+pub theorem6-lists : Theorem6-lists
+theorem6-lists w v i rs qs w' v' S T e f g B =
+    all-alike (record { sound = S; sized = refl; held = refl }) (record { sound = T; sized = sym e; held = refl }) f g B
+
 pub cleared-reads : Cleared-reads
 cleared-reads base n bs bs' w i w' c a h m = Clearing.clear-then-read base n bs h m
 
@@ -102,7 +107,11 @@ pub loads-converts : Loads-converts
 loads-converts C bs out cs a b L h l = load-converts bs out L h l
 
 pub old-reader : Old-reader
-old-reader w i bs W = old-refused W
+old-reader = (
+  λ w i bs W. old-refused W,
+  λ bs out cs n h e. convert-old-refused bs out h e,
+  λ w i bs out report out' report' n m w' M e. mend-old-refused w i bs out report M e,
+)
 
 pub mended-right : Mended-right
 mended-right w i bs out report out' report' n m C w' b L M = right-comes-back w i bs out report M b L

@@ -2,4 +2,5 @@ pub mod History
 pub mod Clearing
 pub mod Tables
 pub mod Matches
+pub mod Beside
 pub mod Theorems

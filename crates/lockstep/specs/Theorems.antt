@@ -4,10 +4,11 @@ use Rattle.std.specs.Prelude.{Some}
 use Rattle.model.specs.Answers.{OrRefusal}
 use Rattle.std.specs.Prelude.{ℕ, ◌+◌, ◌*◌, ◌≤◌, ◌<◌, ◌≡◌, true, false, List, length, take, replicate, get_or}
 use Rattle.model.specs.declared.Edition.{Edition}
-use Rattle.model.specs.declared.Edition.TheVariants.{Columns}
+use Rattle.model.specs.declared.Edition.TheVariants.{Rows, Columns}
 use Rattle.model.specs.Numbers.{size}
 use Rattle.model.specs.declared.Limits.{Limits}
 use Rattle.model.specs.Answers.{written_answer}
+use Rattle.model.specs.Bytes.{edition_of}
 use Rattle.model.specs.RunList.{AllBytes}
 use Rattle.model.specs.Positions.{empty, stretches}
 use Rattle.model.specs.Call.{Call, feed, deepest, why_full, PoolCall, Result, done, number, written, mended, Answer, refused, gave}
@@ -28,6 +29,7 @@ use Rattle.promises.specs.Out.{WritesOut}
 use Rattle.promises.specs.Handles.{Handles}
 use Rattle.lockstep.specs.History.{History, New, told, outcomes, Follows, left, WritesSet, Loads, Writable}
 use Rattle.lockstep.specs.Matches.{Match}
+use Rattle.lockstep.specs.Beside.{Beside}
 use Rattle.lockstep.specs.Clearing.{old_reading, WritesMap}
 
 -- ---- demand 3, and worlds in one pool (document 02, Ticket 3)
@@ -89,6 +91,15 @@ Theorem6 =
     (w v : List ℕ) (i : ℕ) (c d : Call Site) (a b : Answer) (w' v' : List ℕ)
     → Sound w → Sound v → capacity w ≡ capacity v → world_of (worlds_of w) i ≡ world_of (worlds_of v) i → other_claims (worlds_of w) i ≡ other_claims (worlds_of v) i
     → feed fed_at c ≡ feed fed_at d → Met w i c a w' → Met v i d b v' → (a ≡ b) × (world_of (worlds_of w') i ≡ world_of (worlds_of v') i)
+
+-- Theorem 6 over lists: of equal calls on world i, with calls of the neighbours in between, every answer is the same in both
+-- pools, and world i is alike in the end
+abbrev pub Theorem6-lists : Type 0
+Theorem6-lists =
+    (w v : List ℕ) (i : ℕ) (rs qs : List Answer) (w' v' : List ℕ)
+    → Sound w → Sound v → capacity w ≡ capacity v → world_of (worlds_of w) i ≡ world_of (worlds_of v) i
+    → other_claims (worlds_of w) i ≡ other_claims (worlds_of v) i
+    → Beside i w v rs qs w' v' → (rs ≡ qs) × (world_of (worlds_of w') i ≡ world_of (worlds_of v') i)
 
 -- ---- cleared maps (document 02, Ticket 2)
 -- if clear_map was called on bs and left bs', then what read_map of bs' answers and leaves is document 01's reading of bs
@@ -157,9 +168,16 @@ Loads-converts =
     (C : ℕ) (bs out cs : List ℕ) (a : Answer)
     → AllBytes bs → Loads C bs → Handles (convert bs out) a cs → length bs ≤ length out → a ≡ gave (written (length bs) cs)
 
--- document 01's reader refuses every set of edition 2 with 4
+-- a reader that knows edition 1 alone refuses every set of edition 2 with 4: one that `write_set` wrote, one that `convert`
+-- wrote of a set of edition 1, and one that `mend` wrote of a set of edition 2
 abbrev pub Old-reader : Type 0
-Old-reader = (w : List ℕ) (i : ℕ) (bs : List ℕ) → WritesSet w i Columns bs → document_one_refusal bs ≡ Some 4
+Old-reader =
+    ((w : List ℕ) (i : ℕ) (bs : List ℕ) → WritesSet w i Columns bs → document_one_refusal bs ≡ Some 4)
+    × ((bs out cs : List ℕ) (n : ℕ)
+    → Handles (convert bs out) (gave (written n cs)) cs → edition_of bs ≡ Rows → document_one_refusal (take n cs) ≡ Some 4)
+    × ((w : List ℕ) (i : ℕ) (bs out report out' report' : List ℕ) (n m : ℕ) (w' : List ℕ)
+    → Met w i (Call.mend bs out report) (gave (mended n out' m report')) w' → edition_of bs ≡ Columns
+    → document_one_refusal (take n out') ≡ Some 4)
 
 -- ---- mending (document 02, Ticket 9)
 -- a set that loads, and so is right already, comes back byte for byte, and every run of it is kept
