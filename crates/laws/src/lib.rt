@@ -2,6 +2,7 @@
 //! statement in `specs/` is. They speak of nothing but what the public calls promise.
 #![tactic(auto)]
 
+ghost use Rattle.laws.specs.Equal.{Equal-answers};
 ghost use Rattle.laws.specs.Laws.{Counts-add, Shift-through, Shifted-through, Shifted-is-shift, Shifts-add, Shifts-empty, Shifted-add, Shifted-empty};
 ghost use Rattle.laws.specs.Laws.{Left-right, Left-right-clears, Shifted-left-right, Right-left, Shift-unrefused, Unrefused-shifted, Converse-fails};
 ghost use Rattle.laws.specs.Swaps.{Reports-swap, Worlds-swap, Overwritten, Ranges-swap, Sets-swap, Sets-one-value, Set-covered};
@@ -34,6 +35,12 @@ pub fn refusals()
     ensures unrefused_shifted { Unrefused-shifted }
     ensures converse_fails { Converse-fails }
 {}
+
+/// Worlds that hold the same positions.
+pub fn equal_sets()
+    ensures equal_answers { Equal-answers }
+{
+}
 
 /// Which calls may be swapped.
 pub fn swaps()

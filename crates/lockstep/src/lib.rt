@@ -3,7 +3,7 @@
 #![tactic(auto)]
 
 ghost use Rattle.lockstep.specs.Tables.{Cases-hold, Columns-back};
-ghost use Rattle.lockstep.specs.Theorems.{Theorem1, Theorem1-matches, Theorem2, Theorem2-room, Theorem3, Theorem4, Theorem5, Theorem6};
+ghost use Rattle.lockstep.specs.Theorems.{Theorem1, Theorem1-matches, Theorem2, Theorem2-room, Theorem3, Theorem4, Theorem5, Theorem6, Theorem6-lists};
 ghost use Rattle.lockstep.specs.Theorems.{Cleared-reads, Cleared-once, Written-stays, Forms-agree, Fill-none, Fill-full};
 ghost use Rattle.lockstep.specs.Theorems.{Converted-back, Converted-loads, Loads-converts, Old-reader, Mended-right, Mended-loads, Mended-floor};
 ghost use Rattle.lockstep.specs.Theorems.{Deepest-shortest, Why-smallest, Why-none};
@@ -22,6 +22,7 @@ pub fn histories()
 pub fn worlds()
     ensures theorem5 { Theorem5 }
     ensures theorem6 { Theorem6 }
+    ensures theorem6_lists { Theorem6-lists }
 {}
 
 /// Maps, and how full a window is.

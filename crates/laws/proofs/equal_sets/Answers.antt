@@ -1,0 +1,5 @@
+use Rattle.laws.proofs.Equal.{equal-answers}
+use Rattle.laws.proofs.equal_sets.Goals as goal
+
+pub returns : goal.returns
+returns c = equal-answers
