@@ -1,6 +1,6 @@
 -- From what the calls of the two histories promise to what the theorems ask: making is done in words of a capacity, each further call is
 -- one more of the history, and a set written into a slice with room is told by its bytes. Assumes nothing.
-use Rattle.std.specs.Prelude.{Option, None, Some, Ok, Err}
+use Rattle.std.specs.Prelude.{Option, None, Some}
 use Rattle.model.specs.Answers.{OrRefusal}
 use Prim.Native.Nat.{ℕ, ◌+◌, ◌≤◌, ◌<◌}
 use mathlib.Core.Path.{◌≡◌, refl, sym, ap, ap₂, ◌∙◌, subst}
@@ -9,12 +9,11 @@ use lib.Dec.{ltb}
 use mathlib.Core.List.{List, [], ◌∷◌}
 use native.Mathlib.Omega.{arith}
 use borrow.Author.Tests.{le-ltb}
-use lib.ListN.{take}
+use lib.ListN.{length}
 use Rattle.std.specs.declared.ops.Bound.TheVariants.{Included}
 use Rattle.model.specs.declared.Edition.{Edition}
 use Rattle.model.specs.Numbers.{size}
 use Rattle.model.specs.Positions.{Positions, empty}
-use Rattle.model.specs.Answers.{written_answer}
 use Rattle.model.specs.Refusals.{bad_limits}
 use Rattle.model.specs.Call.{Call, at, Answer}
 use Rattle.model.specs.Pools.{PlainWorld, world_of, limits_of, empty_worlds, after}
@@ -22,14 +21,12 @@ use Rattle.store.specs.Layout.{capacity, held_by}
 use Rattle.store.proofs.WorldLists.{opened-world}
 use Rattle.promises.specs.Met.{Met, Made}
 use Rattle.promises.specs.Out.{WritesOut}
-use Rattle.promises.proofs.Meeting.{refused-not}
 use Rattle.promises.proofs.Simulation.{Holds}
-use Rattle.lockstep.specs.History.{rest, call, New, Played, told, WritesSet}
-use Rattle.lockstep.specs.Theorems.{Wrote}
+use Rattle.lockstep.specs.History.{rest, call, New, Played, told}
 use Rattle.lockstep.specs.Meeting.{Lent, SameBytes}
 use Rattle.lockstep.proofs.Empty.{fresh}
 use Rattle.lockstep.proofs.Following.{played-holds}
-use Rattle.lockstep.proofs.Theorems.{theorem2, theorem2-room}
+use Rattle.lockstep.proofs.Writing.{bytes_of, as-set, fills, written-alike}
 use Rattle.lockstep.proofs.Ways.{ways-meet}
 
 -- the limits of one world that may have all are good
@@ -43,24 +40,6 @@ made {w} {v} ls {C = C} h e f m =
     let good : bad_limits (capacity w) (limits_of ls) ≡ false = ap₂ bad_limits e f ∙ lone-good C h in
     let d = m.answered ∙ sym (fresh w ls (omega arith) good).made.answered in
     record { before = w; sized = e; made = subst (λ b. Made w (limits_of ls) b v) d m }
-
--- ---- a set written into a slice with room
--- is told by how many bytes it has
-tells : (r : OrRefusal ℕ) (out : List ℕ) → Wrote (written_answer r out) → (n : ℕ) × (r ≡ Ok n)
-tells (Err r) out (n, bs, e) = absurd (refused-not e)
-tells (Ok n) out k = (n, refl)
-
--- so much of the slice is the set
-writes : {e : Edition} {w out out' : List ℕ} {i : ℕ} {r : OrRefusal ℕ} {n : ℕ} → WritesOut (Call.write_set e) w i out r out' → r ≡ Ok n
-    → WritesSet w i e (take n out')
-writes {e} {w} {out} {out'} {i} {n = n} W is = record {
-  out = out;
-  count = n;
-  slice = out';
-  after = w;
-  met = subst (λ q. Met w i (Call.write_set e out) (written_answer q out') w) is W.met;
-  bytes = refl;
-}
 
 -- ---- a pool of one world
 -- the positions of a world, if there is one
@@ -100,12 +79,12 @@ module _ {a b limits left right left' right' a₁ a₂ b₁ b₂ b₃ : List ℕ
       let same = ap (λ ls. after C (empty_worlds ls) (told (at 0 (Call.set (Included (low + distance)) (Included (high + distance)) true) ∷ []))) L.lone
       ∙ lone-meet C low high distance L.sized h l
       ∙ sym (ap (λ ls. after C (empty_worlds ls) (told (at 0 (Call.set (Included low) (Included high) true) ∷ at 0 (Call.shift distance true) ∷ []))) L.lone) in
-      let n = tells x left' (theorem2-room a₂ 0 e _ _ _ H.sound H.sound.some (omega (arith, L.room, H.sized)) X.met) in
-      let m = tells y right' (theorem2-room b₃ 0 e _ _ _ K.sound K.sound.some (omega (arith, L.room₂, K.sized)) Y.met) in
+      let n = fills (record { sound = H.sound; named = H.sound.some }) e X (omega (arith, L.room, H.sized)) in
+      let m = fills (record { sound = K.sound; named = K.sound.some }) e Y (omega (arith, L.room₂, K.sized)) in
       record {
-        n = n.0;
-        m = m.0;
-        first-is = n.1;
-        second_is = m.1;
-        bytes = (theorem2 e a₂ 0 b₃ 0 _ _ (writes X n.1) (writes Y m.1)).0 (same-held H K same);
+        n = length (bytes_of e (held_by a₂ 0));
+        m = length (bytes_of e (held_by b₃ 0));
+        first-is = n.0;
+        second_is = m.0;
+        bytes = (written-alike (as-set X n.0) (as-set Y m.0)).0 (same-held H K same);
       }

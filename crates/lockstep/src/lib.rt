@@ -6,6 +6,8 @@ ghost use Rattle.std.specs.Prelude.{◌+◌, ◌≤◌, ◌<◌};
 ghost use Rattle.model.specs.Numbers.{size};
 ghost use Rattle.lockstep.specs.Meeting.{Lent, SameBytes};
 
+pub mod main_theorem;
+
 use model::{Bound, Edition, Refusal};
 
 // What two pools answered to writing the sets of their worlds.
