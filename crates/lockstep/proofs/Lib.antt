@@ -16,3 +16,6 @@ pub mod Floors
 pub mod Writing
 pub mod Forms
 pub mod Theorems
+pub mod Moves
+pub mod Plays
+pub mod Determinism

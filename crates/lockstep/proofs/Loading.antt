@@ -12,7 +12,7 @@ use Rattle.model.specs.Refusals.{capacity as too_much, ◌when◌, refusal, set_
 use Rattle.model.specs.Call.{Call, done, gave}
 use Rattle.model.specs.Model.{positions_of, settle, change, serve}
 use Rattle.model.proofs.RoundTrips.{conditions, Accepted, unrefused-accepted, accepted-loads, held-read, held-accepted, bounded-held}
-use Rattle.store.specs.Layout.{held_by}
+use Rattle.store.specs.Layout.{capacity, held_by}
 use Rattle.store.specs.Settle.{Settled, Openable}
 use Rattle.store.proofs.Worlds.{held-allowed}
 use Rattle.promises.specs.Met.{fed_of, full_at, outcome_of, Readable, Met}
@@ -20,7 +20,7 @@ use Rattle.promises.proofs.Meeting.{readable, met_by, settled_same, settled-as}
 use Rattle.promises.proofs.Changing.{fits-few}
 use Rattle.promises.proofs.Served.{unrefused}
 use Rattle.interval_bit_set.proofs.Looking.{looked-sound}
-use Rattle.lockstep.specs.History.{Loads, Writable}
+use Rattle.lockstep.specs.History.{WritesSet, Loads, Writable}
 use Rattle.lockstep.proofs.Following.{played-holds}
 use Rattle.lockstep.proofs.Writing.{bytes_of, unearned, few-all, writer-readable, written_is}
 
@@ -70,15 +70,12 @@ bytes-settled {w} {i} e o =
     let d : bounded (mem (decode (bytes_of e P))) ≡ bounded P = ap (λ rs. bounded (mem rs)) (held-read e P (few-all o)) ∙ bounded-held P in
     settled-as (settled_same o.sound) (λ x h. sym (ap (λ Q. Q x) d ∙ bounded-below P x h))
 
--- so the world that wrote bytes can load them
+-- so a world that writes bytes can load them
+pub writer-loads : {C : ℕ} {w : List ℕ} {i : ℕ} {e : Edition} {bs : List ℕ} → capacity w ≡ C → WritesSet w i e bs → Loads C bs
+writer-loads {C} {w} {i} {e} c W =
+    let o = (writer-readable W).openable in
+    subst (Loads C) (sym (written_is W)) (record { pool = w; world = i; sized = c; after = w; met = load-met o (bytes-accepted e o) (bytes-settled e o) })
+
+-- also one that a history left
 pub writable-loads : {C : ℕ} {bs : List ℕ} → Writable C bs → Loads C bs
-writable-loads {C} {bs} W =
-    let o = (writer-readable W.writes).openable in
-    subst (Loads C) (sym (written_is W.writes))
-    (record {
-      pool = W.pool;
-      world = W.world;
-      sized = (played-holds W.played).sized;
-      after = W.pool;
-      met = load-met o (bytes-accepted W.edition o) (bytes-settled W.edition o);
-    })
+writable-loads W = writer-loads (played-holds W.played).sized W.writes

@@ -11,7 +11,6 @@ use borrow.Author.Tests.{le-ltb, ne_eqb}
 use Rattle.model.specs.declared.Limits.{Limits}
 use Rattle.model.specs.Numbers.{size, most_worlds}
 use Rattle.model.specs.Positions.{Positions, empty, mem, bounded, stretches}
-use Rattle.model.specs.declared.Edition.{Edition}
 use Rattle.model.specs.Bytes.{edition_of, decode}
 use Rattle.model.specs.RunList.{AllBytes}
 use Rattle.model.specs.Refusals.{floors, crossed, bad_limits, too_many}
@@ -26,7 +25,7 @@ use Rattle.store.specs.Settle.{Settled, Openable}
 use Rattle.store.proofs.Worlds.{held-allowed}
 use Rattle.store.proofs.Turn.{pool-past}
 use Rattle.store.proofs.WorldLists.{opened-world}
-use Rattle.promises.specs.Met.{full_at}
+use Rattle.promises.specs.Met.{full_at, Met}
 use Rattle.promises.proofs.Changing.{fits-few, bounded-is}
 use Rattle.promises.proofs.Meeting.{make-done}
 use Rattle.promises.proofs.Served.{bounded-ends}
@@ -135,8 +134,19 @@ accept-there {w} {v} {bs} {i} o p t A = record {
       ∙ fits-few p (held_by v i) (held-allowed v i p);
 }
 
-pub loads-writable : {C : ℕ} {bs : List ℕ} → AllBytes bs → Loads C bs → Writable C bs
-loads-writable {C} {bs} b L =
+-- bytes loaded into world i of a new pool, which then holds what they are the set of
+pub record Reloaded (C : ℕ) (bs : List ℕ) : Type 0 where
+  pub limits : List Limits
+  pub first : List ℕ
+  pub new : New C limits first
+  pub world : ℕ
+  pub pool : List ℕ
+  pub met : Met first world (Call.load bs) (gave done) pool
+  pub openable : Openable pool world
+  pub written : bytes_of (edition_of bs) (held_by pool world) ≡ bs
+
+pub reloaded : {C : ℕ} {bs : List ℕ} → AllBytes bs → Loads C bs → Reloaded C bs
+reloaded {C} {bs} b L =
     let i = L.world in
     let P : Positions = bounded (mem (decode bs)) in
     let o = (loaded-readable L).openable in
@@ -156,21 +166,37 @@ loads-writable {C} {bs} b L =
     let openable : Openable w i = record { sound = E.sound; named = omega (arith, named', E.opened) } in
     let accepted : Accepted (full_at w i) bs = accept-there openable (record { sound = A.sound; named = named' }) back (loaded-accepted L) in
     let here : held_by v i ≡ P = same-positions (held_by v i) P (pool-past v i) (bounded-ends (mem (decode bs))) held in
-    let told : Edition = edition_of bs in
-    let e : bytes_of told (held_by v i) ≡ bs = ap (bytes_of told) here ∙ (accepted-bytes (full_at w i) bs b accepted).1 in
     record {
       limits = limits E.sound none;
-      calls = at i (Call.load bs) ∷ [];
-      pool = v;
+      first = w;
+      new = subst (λ c. New c (limits E.sound none) w) cap (new-pool E.sound none v E.long);
       world = i;
-      edition = told;
+      pool = v;
+      met = load-met openable accepted back;
+      openable = record { sound = A.sound; named = named' };
+      written = ap (bytes_of (edition_of bs)) here ∙ (accepted-bytes (full_at w i) bs b accepted).1;
+    }
+
+-- so that pool writes them, into as many bytes
+pub reloaded-long : {C : ℕ} {bs : List ℕ} (R : Reloaded C bs) → length (bytes_of (edition_of bs) (held_by R.pool R.world)) ≤ length bs
+reloaded-long R = omega (arith, ap length R.written)
+
+pub loads-writable : {C : ℕ} {bs : List ℕ} → AllBytes bs → Loads C bs → Writable C bs
+loads-writable {C} {bs} b L =
+    let R = reloaded b L in
+    record {
+      limits = R.limits;
+      calls = at R.world (Call.load bs) ∷ [];
+      pool = R.pool;
+      world = R.world;
+      edition = edition_of bs;
       played = record {
-        first = w;
-        new = subst (λ c. New c (limits E.sound none) w) cap (new-pool E.sound none v E.long);
+        first = R.first;
+        new = R.new;
         answers = gave done ∷ [];
-        states = v ∷ [];
-        history = call (at i (Call.load bs)) (load-met openable accepted back) rest;
+        states = R.pool ∷ [];
+        history = call (at R.world (Call.load bs)) R.met rest;
         now = refl;
       };
-      writes = subst (WritesSet v i told) e (writes (record { sound = A.sound; named = named' }) told bs (omega (arith, ap length e)));
+      writes = subst (WritesSet R.pool R.world (edition_of bs)) R.written (writes R.openable (edition_of bs) bs (reloaded-long R));
     }

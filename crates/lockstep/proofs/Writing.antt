@@ -1,12 +1,14 @@
 -- Written sets: an opened world writes, in either edition, the bytes of the runs that it holds, and writes them whenever the slice is long
 -- enough. At most C runs are held, so 5 + 16 × C bytes are; and sets written alike are of the same positions. Assumes nothing.
-use Rattle.std.specs.Prelude.{Option, None, Some, Ok}
+use Rattle.std.specs.Prelude.{Option, None, Some, Ok, Err}
 use Prim.Native.Nat.{ℕ, ◌+◌, ◌*◌, ◌≤◌}
-use mathlib.Core.Path.{◌≡◌, refl, sym, ap, ap₂, ◌∙◌}
+use mathlib.Core.Path.{◌≡◌, refl, sym, ap, ap₂, ◌∙◌, subst}
 use mathlib.Core.List.{List, [], ◌∷◌, ◌++◌}
+use native.Mathlib.Nat.{le_trans}
 use native.Mathlib.Omega.{arith}
 use lib.ListN.{length, take}
 use Rattle.model.specs.declared.Edition.{Edition}
+use Rattle.model.specs.Answers.{OrRefusal, written_answer}
 use Rattle.model.specs.Positions.{Positions, held_runs, stretches}
 use Rattle.model.specs.Bytes.{encode, into_front}
 use mathlib.Core.Bool.{Bool, true, false, cond}
@@ -21,7 +23,8 @@ use Rattle.store.proofs.Turn.{pool-past}
 use Rattle.store.proofs.Nodes.{sized-length}
 use Rattle.store.proofs.Worlds.{claims-fit}
 use Rattle.promises.specs.Met.{fed_of, full_at, outcome_of, Readable, Met}
-use Rattle.promises.proofs.Meeting.{readable, met_by, settled_same}
+use Rattle.promises.specs.Out.{WritesOut}
+use Rattle.promises.proofs.Meeting.{refused-not, readable, met_by, settled_same}
 use Rattle.promises.proofs.Refusing.{unopened-refused}
 use Rattle.promises.proofs.Putting.{take-front}
 use Rattle.promises.proofs.Served.{unrefused}
@@ -76,6 +79,27 @@ module _ {w : List ℕ} {i : ℕ} {e : Edition} {bs : List ℕ} (W : WritesSet w
       let s : W.slice ≡ into_front cs W.out = cc in
       W.bytes ∙ ap₂ take n s ∙ take-front cs W.out ∙ ap (λ f. bytes_of e (positions_of f)) writer-readable.fed
 
+-- ---- what a call answers that writes into a slice
+-- bytes that it tells of are its slice's
+told-count : (r : OrRefusal ℕ) {out bs : List ℕ} {n : ℕ} → written_answer r out ≡ gave (written n bs) → (r ≡ Ok n) × (out ≡ bs)
+told-count (Err r) e = absurd (refused-not e)
+told-count (Ok m) {out} {bs} {n} e =
+    let a : m ≡ n = cc in
+    let b : out ≡ bs = cc in
+    (ap Ok a, b)
+
+-- so much of the slice is the set
+pub as-set : {e : Edition} {w out out' : List ℕ} {i : ℕ} {r : OrRefusal ℕ} {n : ℕ} → WritesOut (Call.write_set e) w i out r out' → r ≡ Ok n
+    → WritesSet w i e (take n out')
+as-set {e} {w} {out} {out'} {i} {n = n} W is = record {
+  out = out;
+  count = n;
+  slice = out';
+  after = w;
+  met = subst (λ q. Met w i (Call.write_set e out) (written_answer q out') w) is W.met;
+  bytes = refl;
+}
+
 -- ---- an opened world
 module _ {w : List ℕ} {i : ℕ} (o : Openable w i) where
   -- at most C runs are held, and no pool is of more than 65,536
@@ -102,14 +126,27 @@ module _ {w : List ℕ} {i : ℕ} (o : Openable w i) where
         length bs ≤ length out → Met w i (Call.write_set e out) a v → a ≡ gave (written (length bs) (into_front bs out))
     written_all {out} h m = m.answered ∙ ap (λ p. p.answer) (wrote out h)
 
-    -- and there is such a call, which writes them as a set
+    -- and one that is long enough for any set of the pool has them in front
+    pub fills : {out out' : List ℕ} {r : OrRefusal ℕ} → let bs = bytes_of e (held_by w i) in
+        WritesOut (Call.write_set e) w i out r out' → 5 + 16 * capacity w ≤ length out → (r ≡ Ok (length bs)) × (take (length bs) out' ≡ bs)
+    fills {out} {out'} {r} W h =
+        let bs = bytes_of e (held_by w i) in
+        let t = told-count r (written_all (le_trans bytes-few h) W.met) in
+        (t.0, ap (take (length bs)) t.1 ∙ take-front bs out)
+
+    -- there is such a call
+    pub written-met : (out : List ℕ) → let bs = bytes_of e (held_by w i) in
+        length bs ≤ length out → Met w i (Call.write_set e out) (gave (written (length bs) (into_front bs out))) w
+    written-met out h = met_by _ (wrote out h) (settled_same o.sound)
+
+    -- which writes them as a set
     pub writes : (out : List ℕ) → length (bytes_of e (held_by w i)) ≤ length out → WritesSet w i e (bytes_of e (held_by w i))
     writes out h = record {
       out = out;
       count = length (bytes_of e (held_by w i));
       slice = into_front (bytes_of e (held_by w i)) out;
       after = w;
-      met = met_by _ (wrote out h) (settled_same o.sound);
+      met = written-met out h;
       bytes = sym (take-front (bytes_of e (held_by w i)) out);
     }
 

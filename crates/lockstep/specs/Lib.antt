@@ -1,4 +1,6 @@
 pub mod History
+pub mod Plays
+pub mod Determinism
 pub mod Clearing
 pub mod Tables
 pub mod Matches

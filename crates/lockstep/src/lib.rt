@@ -2,11 +2,18 @@
 //! `specs/` is, and the check proves them. They speak of nothing but what the public calls promise.
 #![tactic(auto)]
 
+ghost use Rattle.lockstep.specs.Determinism.{Determinism};
 ghost use Rattle.lockstep.specs.Tables.{Cases-hold, Columns-back};
 ghost use Rattle.lockstep.specs.Theorems.{Theorem1, Theorem1-matches, Theorem2, Theorem2-room, Theorem3, Theorem4, Theorem5, Theorem6, Theorem6-lists};
 ghost use Rattle.lockstep.specs.Theorems.{Cleared-reads, Cleared-once, Written-stays, Forms-agree, Fill-none, Fill-full};
 ghost use Rattle.lockstep.specs.Theorems.{Converted-back, Converted-loads, Loads-converts, Old-reader, Mended-right, Mended-loads, Mended-floor};
 ghost use Rattle.lockstep.specs.Theorems.{Deepest-shortest, Why-smallest, Why-none};
+
+/// Whole plays: calls singly and in frames.
+pub fn whole_plays()
+    ensures determinism { Determinism }
+{
+}
 
 /// Whole lists of calls on a pool.
 pub fn histories()

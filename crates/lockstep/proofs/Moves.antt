@@ -1,0 +1,190 @@
+-- One move goes along with the plain model where the pool holds the model's worlds: it is heard as the model says,
+-- leaves the model's worlds and what the model leaves of what was lent, and refused it changes nothing. A single call
+-- is a step (`stepped-holds`); what it was lent is a part of its answer, and a refusal leaves it by its own promise. A
+-- frame earns no 1 and no 7, since the pool is sound. Assumes nothing.
+use Rattle.std.specs.Prelude.{Option, None, Some, Ok, Err}
+use Prim.Native.Nat.{ℕ}
+use mathlib.Core.Path.{◌≡◌, refl, sym, ap, ap₂, ◌∙◌, subst}
+use mathlib.Core.Bool.{not}
+use mathlib.Core.List.{List, [], ◌∷◌}
+use native.Mathlib.Omega.{arith}
+use borrow.Author.Tests.{ne_eqb}
+use Rattle.model.specs.declared.Listing.{Listing}
+use Rattle.model.specs.declared.Mended.{Mended}
+use Rattle.model.specs.declared.Run.{Run}
+use Rattle.model.specs.Answers.{OrRefusal, completed_answer, written_answer, mended_answer}
+use Rattle.model.specs.Refusals.{store_length, store_unsound, output_short, ◌when◌, refusal, no_room}
+use Rattle.model.specs.Call.{
+  Call,
+  make,
+  measure,
+  at,
+  PoolCall,
+  feed_pool,
+  done,
+  number,
+  tallied,
+  value,
+  around,
+  position,
+  drawn,
+  written,
+  mended,
+  Result,
+  Answer,
+  refused,
+  gave,
+}
+use Rattle.model.specs.Pools.{PlainWorld, step, answers, after}
+use Rattle.store.specs.Layout.{capacity_of, capacity, worlds_of}
+use Rattle.store.specs.Free.{Pooled}
+use Rattle.soundness.proofs.Whole.{sound_b-no}
+use Rattle.promises.specs.Met.{Site, fed_at, outcome_of, Leaves, MakeLeaves}
+use Rattle.promises.specs.Out.{Unwritten, Unmended}
+use Rattle.promises.proofs.Meeting.{refused-not}
+use Rattle.promises.proofs.Simulation.{Holds}
+use Rattle.interval_bit_set.specs.Lent.{item_answer, Unmoved}
+use Rattle.frame.specs.Frame
+use Rattle.frame.specs.Frame.{FrameOutcome, settle_frame, frame_of, FrameLeaves, Framed}
+use Rattle.frame.specs.Records.{calls_of, records_of}
+use Rattle.lockstep.specs.History.{Stepped}
+use Rattle.lockstep.specs.Plays.{
+  Lent,
+  nothing,
+  listing,
+  slice,
+  slices,
+  single,
+  frame,
+  Move,
+  feed_move,
+  Heard,
+  heard_as,
+  Moves,
+  made,
+  met,
+  drew,
+  wrote,
+  measured,
+  mends,
+  framed,
+  MoveOutcome,
+  lent_after,
+  frame_by,
+  frame_outcome,
+  move_outcome,
+  IsAsTold,
+}
+use Rattle.lockstep.proofs.Following.{stepped-answer, stepped-holds}
+
+-- what a move keeps: it is as the model says, and the pool goes on to hold the model's worlds
+pub record Went (C : ℕ) (o : MoveOutcome) (w : List ℕ) (m : Move Site) (h : Heard) (w' : List ℕ) : Type 0 where
+  pub told : IsAsTold o w m h w'
+  pub holds : Holds C o.worlds w'
+
+-- ---- what was lent
+-- where nothing was, nothing is left
+nothing-left : (a : Answer) → nothing ≡ lent_after a nothing
+nothing-left (refused n) = refl
+nothing-left (gave done) = refl
+nothing-left (gave (number n)) = refl
+nothing-left (gave (tallied n m)) = refl
+nothing-left (gave (value b)) = refl
+nothing-left (gave (around r)) = refl
+nothing-left (gave (position o)) = refl
+nothing-left (gave (Result.listing l)) = refl
+nothing-left (gave (drawn o l)) = refl
+nothing-left (gave (written n bs)) = refl
+nothing-left (gave (mended n bs m cs)) = refl
+
+-- a listing that was drawn from
+drawn-left : (r : OrRefusal (Option Run)) (l l' : Listing) → Unmoved r l l' → listing l' ≡ lent_after (item_answer r l') (listing l)
+drawn-left (Err r) l l' u = ap listing u
+drawn-left (Ok o) l l' u = refl
+
+-- a slice that was written into
+written-left : (r : OrRefusal ℕ) (out out' : List ℕ) → Unwritten r out out' → slice out' ≡ lent_after (written_answer r out') (slice out)
+written-left (Err r) out out' u = ap slice u
+written-left (Ok n) out out' u = refl
+
+-- the two of mending
+mended-left : (r : OrRefusal Mended) (out out' report report' : List ℕ) → Unmended r out out' report report'
+    → slices out' report' ≡ lent_after (mended_answer r out' report') (slices out report)
+mended-left (Err r) out out' report report' u = ap₂ slices u.0 u.1
+mended-left (Ok m) out out' report report' u = refl
+
+-- ---- a single call
+-- refused, it leaves the words
+stepped-refused : {w w' : List ℕ} {a : Answer} {n : ℕ} (c : PoolCall Site) → Stepped w c a w' → a ≡ refused n → w' ≡ w
+stepped-refused {w} {w'} (make ls) s e = subst (MakeLeaves w w' ls) e s.left
+stepped-refused (measure q out) s e = s.left
+stepped-refused {w} {w'} (at i c) s e = subst (Leaves w w' i (outcome_of w i c).positions) e s.left
+
+single-went :
+    {C : ℕ} {vs : List PlainWorld} {w w' : List ℕ} {a : Answer} (c : PoolCall Site) (l l' : Lent)
+    → Holds C vs w → Stepped w c a w' → l' ≡ lent_after a l
+    → Went C (move_outcome C vs (single (feed_pool fed_at c) l)) w (single c l) (heard_as a l') w'
+single-went {w' = w'} {a = a} c l l' H s e =
+    let K = stepped-holds w' a c H s in
+    let f = stepped-answer w' a c H s in
+    record {
+      told = record {
+        heard = ap₂ heard_as f (e ∙ ap (λ b. lent_after b l) f);
+        worlds = K.held;
+        unchanged = λ n r. (stepped-refused c s r, e ∙ ap (λ b. lent_after b l) r);
+      };
+      holds = K;
+    }
+
+-- ---- a frame
+module _ {C : ℕ} {vs : List PlainWorld} {w : List ℕ} (H : Holds C vs w) (calls out : List ℕ) where
+  -- the model says of it what its promise says, but for 1 and 7
+  frame-is : Frame.frame_outcome w calls out ≡ frame_by C vs calls out
+  unfolding Frame.frame_outcome frame_of
+  frame-is =
+      let due : List ℕ = records_of (answers (capacity w) (worlds_of w) (calls_of calls)) in
+      let us : List PlainWorld = after (capacity w) (worlds_of w) (calls_of calls) in
+      let short = output_short when no_room out due ∷ [] in
+      ap₂
+      (λ z s. settle_frame (refusal (store_length when z ∷ store_unsound when not s ∷ short)) (worlds_of w) us due out)
+      (ne_eqb (capacity w) 0 (λ z. omega (arith, H.sound.sized))) (sound_b-no w H.sound)
+      ∙ ap₂ (λ k us. frame_by k us calls out) H.sized H.held
+
+  module _ {a : Answer} {w' out' : List ℕ} where
+    -- refused or not
+    settled-went : (y : Option ℕ) (us : List PlainWorld) (due : List ℕ) → let o = settle_frame y vs us due out in
+        a ≡ o.answer → FrameLeaves w w' o.worlds a → out' ≡ o.slice
+        → Went C (frame_outcome o) w (frame calls out) (heard_as a (slice out')) w'
+    settled-went None us due e l s =
+        let p : Pooled w w' us = subst (FrameLeaves w w' us) e l in
+        record {
+          told = record { heard = ap₂ heard_as e (ap slice s); worlds = p.worlds; unchanged = λ n r. absurd (refused-not (sym r ∙ e)) };
+          holds = record { sound = p.sound; sized = ap capacity_of p.long ∙ H.sized; held = p.worlds };
+        }
+    settled-went (Some n) us due e l s =
+        let same : w' ≡ w = subst (FrameLeaves w w' vs) e l in
+        record {
+          told = record { heard = ap₂ heard_as e (ap slice s); worlds = ap worlds_of same ∙ H.held; unchanged = λ k r. (same, ap slice s) };
+          holds = subst (Holds C vs) (sym same) H;
+        }
+
+    frame-went : Framed w calls out a w' out' → Went C (move_outcome C vs (frame calls out)) w (frame calls out) (heard_as a (slice out')) w'
+    frame-went F =
+        settled-went (refusal (output_short when no_room out (records_of (answers C vs (calls_of calls))) ∷ [])) (after C vs (calls_of calls))
+        (records_of (answers C vs (calls_of calls))) (F.answered ∙ ap (λ o. o.answer) frame-is)
+        (subst (λ (o : FrameOutcome). FrameLeaves w w' o.worlds a) frame-is F.left) (F.wrote ∙ ap (λ o. o.slice) frame-is)
+
+-- ---- any move
+pub went : {C : ℕ} {vs : List PlainWorld} {w w' : List ℕ} {m : Move Site} {h : Heard} → Holds C vs w → Moves w m h w'
+    → Went C (move_outcome C vs (feed_move m)) w m h w'
+went H (made {ls = ls} {a = a} s) = single-went (make ls) nothing nothing H s (nothing-left a)
+went H (met {i = i} {c = c} {a = a} s) = single-went (at i c) nothing nothing H s (nothing-left a)
+went H (drew {i = i} draw {l = l} {l' = l'} {r = r} d) =
+    single-went (at i (draw l)) (listing l) (listing l') H d.met (drawn-left r l l' d.unmoved)
+went H (wrote {i = i} c {out = out} {out' = out'} {r = r} s) =
+    single-went (at i (c out)) (slice out) (slice out') H s.met (written-left r out out' s.unwritten)
+went H (measured {q = q} {out = out} {out' = out'} {r = r} s) =
+    single-went (measure q out) (slice out) (slice out') H s.measured (written-left r out out' s.unwritten)
+went H (mends {i = i} {bs = bs} {out = out} {out' = out'} {report = report} {report' = report'} {r = r} s) =
+    single-went (at i (Call.mend bs out report)) (slices out report) (slices out' report') H s.met (mended-left r out out' report report' s.unmended)
+went H (framed {calls = calls} {out = out} r F) = frame-went H calls out F

@@ -1,0 +1,60 @@
+-- A whole play goes along with the plain model, move by move. So what is heard and the worlds after each move are told by
+-- the worlds before and the moves as the model is fed them, and two pools that hold the same worlds play on alike.
+-- Assumes nothing.
+use Prim.Native.Nat.{ℕ}
+use mathlib.Core.Path.{◌≡◌, refl, sym, ap, ap₂, ◌∙◌}
+use mathlib.Core.List.{List, [], ◌∷◌, map}
+use Rattle.model.specs.Pools.{PlainWorld}
+use Rattle.store.specs.Layout.{worlds_of}
+use Rattle.promises.specs.Met.{Site}
+use Rattle.promises.proofs.Simulation.{Holds}
+use Rattle.lockstep.specs.History.{left}
+use Rattle.lockstep.specs.Plays.{Lent, Move, feed_move, fed, Heard, rest, move, Plays, move_outcome, worlds_after, over, next, Follows}
+use Rattle.model.specs.Call.{Fed}
+use Rattle.lockstep.specs.Determinism.{PlayAlike}
+use Rattle.lockstep.proofs.Moves.{went}
+
+-- ---- a play from a pool that holds the model's worlds
+pub goes-along :
+    {C : ℕ} {vs : List PlainWorld} {w : List ℕ} {ms : List (Move Site)} {hs : List Heard} {ws : List (List ℕ)}
+    → Holds C vs w → Plays w ms hs ws → Follows C vs w ms hs ws
+goes-along H rest = over
+goes-along {C = C} {vs = vs} H (move {m = m} s p) =
+    let W = went H s in
+    next W.told (goes-along {C = C} {vs = (move_outcome C vs (feed_move m)).worlds} W.holds p)
+
+-- the pool in the end
+pub left-after :
+    {C : ℕ} {vs : List PlainWorld} {w : List ℕ} {ms : List (Move Site)} {hs : List Heard} {ws : List (List ℕ)}
+    → Holds C vs w → Plays w ms hs ws → Holds C (worlds_after C vs (fed ms)) (left w ws)
+left-after H rest = H
+left-after {C = C} {vs = vs} H (move {m = m} s p) = left-after {C = C} {vs = (move_outcome C vs (feed_move m)).worlds} (went H s).holds p
+
+-- ---- what the model says of a list of moves
+-- what is heard
+abbrev heards : ℕ → List PlainWorld → List (Move Fed) → List Heard
+heards C vs [] = []
+heards C vs (m ∷ ms) = (move_outcome C vs m).heard ∷ heards C (move_outcome C vs m).worlds ms
+
+-- the worlds after each
+abbrev stages : ℕ → List PlainWorld → List (Move Fed) → List (List PlainWorld)
+stages C vs [] = []
+stages C vs (m ∷ ms) = (move_outcome C vs m).worlds ∷ stages C (move_outcome C vs m).worlds ms
+
+-- that is what a play gives which goes along
+told-all :
+    {C : ℕ} {vs : List PlainWorld} {w : List ℕ} {ms : List (Move Site)} {hs : List Heard} {ws : List (List ℕ)}
+    → Follows C vs w ms hs ws → (hs ≡ heards C vs (fed ms)) × (map worlds_of ws ≡ stages C vs (fed ms))
+told-all over = (refl, refl)
+told-all (next t f) =
+    let r = told-all f in (
+      ap₂ {C = List Heard} (λ h l. h ∷ l) t.heard r.0,
+      ap₂ {C = List (List PlainWorld)} (λ v l. v ∷ l) t.worlds r.1,
+    )
+
+-- ---- so pools that hold the same worlds play on alike
+pub play-alike : {C : ℕ} {us : List PlainWorld} {w v : List ℕ} → Holds C us w → Holds C us v → PlayAlike w v
+play-alike {C} {us} H K ms ns hs gs ws vs e p q =
+    let a = told-all (goes-along H p) in
+    let b = told-all (goes-along K q) in
+    (a.0 ∙ ap (heards C us) e ∙ sym b.0, a.1 ∙ ap (stages C us) e ∙ sym b.1)

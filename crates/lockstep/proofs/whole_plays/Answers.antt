@@ -1,0 +1,5 @@
+use Rattle.lockstep.proofs.Determinism.{determinism}
+use Rattle.lockstep.proofs.whole_plays.Goals as goal
+
+pub returns : goal.returns
+returns c = record { determinism = determinism }
