@@ -39,8 +39,7 @@ pub fn refusals()
 /// Worlds that hold the same positions.
 pub fn equal_sets()
     ensures equal_answers { Equal-answers }
-{
-}
+{}
 
 /// Which calls may be swapped.
 pub fn swaps()

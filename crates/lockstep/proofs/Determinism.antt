@@ -3,8 +3,8 @@
 -- writes, every play of its moves writes; and bytes that load are written by the play that loads them into a new pool
 -- with the limits of the pool that they load into. Assumes nothing.
 use Rattle.std.specs.Prelude.{None, Some, Ok}
-use Prim.Native.Nat.{ℕ, ◌+◌, ◌*◌, ◌≤◌, ◌<◌}
-use mathlib.Core.Path.{◌≡◌, refl, sym, ap, ap₂, ◌∙◌, subst}
+use Prim.Native.Nat.{ℕ, ◌≤◌, ◌<◌}
+use mathlib.Core.Path.{◌≡◌, refl, sym, ap, ◌∙◌, subst}
 use mathlib.Core.Logic.{◌⊎◌, inl, inr}
 use mathlib.Core.List.{List, [], ◌∷◌}
 use native.Mathlib.Omega.{arith}
@@ -16,14 +16,13 @@ use Rattle.model.specs.RunList.{AllBytes}
 use Rattle.model.specs.Call.{Call, at, done, gave}
 use Rattle.model.specs.Pools.{PlainWorld, world_of, empty_worlds}
 use Rattle.model.proofs.Numbers.{split}
-use Rattle.store.specs.Layout.{capacity, opened_at, held_by, plain_at, worlds_of}
-use Rattle.store.specs.Soundness.{Sound}
+use Rattle.store.specs.Layout.{opened_at, held_by, plain_at, worlds_of}
 use Rattle.store.specs.Settle.{Openable}
 use Rattle.store.proofs.WorldLists.{opened-world, unopened-world}
 use Rattle.promises.specs.Met.{Site}
 use Rattle.promises.proofs.Putting.{take-front}
 use Rattle.promises.proofs.Simulation.{Holds}
-use Rattle.lockstep.specs.History.{New, left, WritesSet, Loads}
+use Rattle.lockstep.specs.History.{left, WritesSet, Loads}
 use Rattle.lockstep.specs.Plays.{nothing, single, Move, fed, heard_as, met, rest, move, worlds_after}
 use Rattle.lockstep.specs.Determinism.{WriteAlike, MayWrite, Writes, Writable, Determinism}
 use Rattle.lockstep.proofs.Following.{new-holds}

@@ -12,7 +12,7 @@ use borrow.Author.Tests.{ne_eqb}
 use Rattle.model.specs.declared.Listing.{Listing}
 use Rattle.model.specs.declared.Mended.{Mended}
 use Rattle.model.specs.declared.Run.{Run}
-use Rattle.model.specs.Answers.{OrRefusal, completed_answer, written_answer, mended_answer}
+use Rattle.model.specs.Answers.{OrRefusal, written_answer, mended_answer}
 use Rattle.model.specs.Refusals.{store_length, store_unsound, output_short, ◌when◌, refusal, no_room}
 use Rattle.model.specs.Call.{
   Call,
@@ -35,7 +35,7 @@ use Rattle.model.specs.Call.{
   refused,
   gave,
 }
-use Rattle.model.specs.Pools.{PlainWorld, step, answers, after}
+use Rattle.model.specs.Pools.{PlainWorld, answers, after}
 use Rattle.store.specs.Layout.{capacity_of, capacity, worlds_of}
 use Rattle.store.specs.Free.{Pooled}
 use Rattle.soundness.proofs.Whole.{sound_b-no}

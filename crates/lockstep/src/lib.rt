@@ -12,8 +12,7 @@ ghost use Rattle.lockstep.specs.Theorems.{Deepest-shortest, Why-smallest, Why-no
 /// Whole plays: calls singly and in frames.
 pub fn whole_plays()
     ensures determinism { Determinism }
-{
-}
+{}
 
 /// Whole lists of calls on a pool.
 pub fn histories()
