@@ -17,4 +17,7 @@ pub mod Neighbours
 pub mod Floors
 pub mod Writing
 pub mod Forms
+pub mod SurveysHalving
+pub mod SurveysParting
+pub mod Surveys
 pub mod Theorems
