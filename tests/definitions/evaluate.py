@@ -489,7 +489,7 @@ class Module:
     """A file of specs/: what it imports, its definitions, its constructors."""
 
     def __init__(self, name, text):
-        self.name, self.imports, self.folders, self.defined, self.constructors = name, {}, {}, {}, set()
+        self.name, self.imports, self.folders, self.defined, self.types, self.constructors = name, {}, {}, {}, {}, set()
         text = re.sub(r"(?m)(^|\s)--.*$", r"\1", text)
         for block in self.blocks(text):
             self.block(block)
@@ -530,6 +530,7 @@ class Module:
         elif m := re.match(r"(?:abbrev |unfoldable )?(?:pub )?(\S+) :(?= |\n)(.*)", head, re.S):
             result = re.split(r"→", m[2])[-1].strip()
             self.defined[m[1]] = None if result == "Type 0" else []
+            self.types[m[1]] = " ".join(m[2].split())
         else:
             name = head.split()[0]
             if "◌" in name or self.defined.get(name, 0) is None:
@@ -548,6 +549,9 @@ class Module:
 
 
 # ---- running
+READ = {}
+
+
 class Model:
     def __init__(self, folder, change=None):
         """change: a file, a text of it and what stands in its place."""
@@ -561,7 +565,9 @@ class Model:
                         if text.count(old) != 1:
                             raise SystemExit(f"{file}: this stands there {text.count(old)} times and not once: {old}")
                         text = text.replace(old, new)
-                self.modules[file[:-5]] = Module(file[:-5], text)
+                if (file, text) not in READ:
+                    READ[file, text] = Module(file[:-5], text)
+                self.modules[file[:-5]] = READ[file, text]
         self.native = {
             ("Positions", "count"): self.count,
             ("Positions", "find"): self.find,
@@ -569,6 +575,9 @@ class Model:
             ("Positions", "runs_in"): self.runs_in,
             ("Positions", "gap"): self.gap,
         }
+
+    def tables(self, kind):
+        return [(m, name) for m, module in self.modules.items() for name, of in module.types.items() if of == kind]
 
     # what asks many positions, by stretches
     def count(self, P, v, a, n):
@@ -802,25 +811,28 @@ def arities(folder):
 
 
 def cases(model):
-    """The rows of the table, and for each a function that says what of it does not hold, if anything."""
+    """The rows of the tables, and for each a function that says what of it does not hold, if anything. A table is a definition whose type is List Case."""
     module = model.modules["Cases"]
     run = lambda text: model.compile(module, Reader(text).expression())
     answered = run("answers c.capacity (alone c.capacity empty) (map on_first c.calls)")
     held = run("after c.capacity (alone c.capacity empty) (map on_first c.calls)")
     due = run("alone c.capacity (mem c.runs-are)")
-    for at, case in enumerate(items(model.constant("Cases", "table"))):
+    for folder, name in model.tables("List Case"):
+        for at, case in enumerate(items(model.constant(folder, name))):
 
-        def check(case=case):
-            names = {"c": case}
-            told, wanted = list(items(answered(names))), list(items(part(case, "answers-are")))
-            for k, (a, b) in enumerate(zip(told, wanted)):
-                if not same(a, b):
-                    return f"call {k + 1}: {show(a)}, not {show(b)}"
-            if len(told) != len(wanted):
-                return f"{len(told)} answers, not {len(wanted)}"
-            return None if same(held(names), due(names)) else "the positions in the end"
+            def check(case=case):
+                names = {"c": case}
+                return told_apart(answered(names), part(case, "answers-are")) or (None if same(held(names), due(names)) else "the positions in the end")
 
-        yield f"row {at + 1}", check
+            yield f"{name}, row {at + 1}", check
+
+
+def told_apart(answers, due):
+    answers, due = list(items(answers)), list(items(due))
+    for k, (a, b) in enumerate(zip(answers, due)):
+        if not same(a, b):
+            return f"call {k + 1}: {show(a)}, not {show(b)}"
+    return None if len(answers) == len(due) else f"{len(answers)} answers, not {len(due)}"
 
 
 def judged(check):

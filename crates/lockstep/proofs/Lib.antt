@@ -15,6 +15,9 @@ pub mod Neighbours
 pub mod Floors
 pub mod Writing
 pub mod Forms
+pub mod SurveysHalving
+pub mod SurveysParting
+pub mod Surveys
 pub mod Theorems
 pub mod Moves
 pub mod Plays

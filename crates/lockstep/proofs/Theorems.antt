@@ -1,5 +1,5 @@
 -- The theorems hold (specs/Theorems.antt): each is what the lemma files show of histories, matches, written sets, worlds, cleared maps, fills,
--- converted sets, mended ones and heights. Assumes nothing.
+-- converted sets, mended ones, surveys and heights. Assumes nothing.
 use mathlib.Core.Path.{refl, sym}
 use native.Mathlib.Nat.{le_trans}
 use Rattle.store.specs.Settle.{Openable}
@@ -30,6 +30,7 @@ use Rattle.lockstep.specs.Theorems.{
   Mended-loads,
   Mended-floor,
   Deepest-shortest,
+  Survey-parts,
   Why-smallest,
   Why-none,
 }
@@ -46,6 +47,7 @@ use Rattle.lockstep.proofs.Filling.{none-held, all_held}
 use Rattle.lockstep.proofs.Converting.{convert-back, convert-then-load, load-converts, convert-old-refused, old-refused}
 use Rattle.lockstep.proofs.Mending.{right-comes-back, outcome-loads, mend-old-refused}
 use Rattle.lockstep.proofs.Measuring.{list-long, list-is}
+use Rattle.lockstep.proofs.Surveys.{survey-parted}
 use Rattle.lockstep.proofs.Stopping.{many-are, rising-are, listed-are, refused-are, fewer-given, none-given}
 use Rattle.store.proofs.Heights.{world-lower}
 
@@ -124,6 +126,9 @@ mended-floor w i bs out report a w' S l m h e = mend-reaches-floor S i l m h e
 
 pub deepest-shortest : Deepest-shortest
 deepest-shortest w h out out' n w' m = (list-long m, list-is m, λ v i S named few. world-lower v i h S named few)
+
+pub survey-parts : Survey-parts
+survey-parts w i row column k out out' n w' m = survey-parted m
 
 pub why-smallest : Why-smallest
 why-smallest w ranges out out' n w' d W m =

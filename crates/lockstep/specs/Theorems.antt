@@ -2,7 +2,7 @@
 -- Assumes nothing: these are statements. proofs/Theorems.antt proves each under its name, in small letters.
 use Rattle.std.specs.Prelude.{Some}
 use Rattle.model.specs.Answers.{OrRefusal}
-use Rattle.std.specs.Prelude.{ℕ, ◌+◌, ◌*◌, ◌≤◌, ◌<◌, ◌≡◌, true, false, List, length, take, replicate, get_or}
+use Rattle.std.specs.Prelude.{ℕ, ◌+◌, ◌*◌, ◌^◌, ◌≤◌, ◌<◌, ◌≡◌, true, false, List, length, take, replicate, get_or}
 use Rattle.model.specs.declared.Edition.{Edition}
 use Rattle.model.specs.declared.Edition.TheVariants.{Rows, Columns}
 use Rattle.model.specs.Numbers.{size}
@@ -31,6 +31,7 @@ use Rattle.lockstep.specs.History.{History, New, told, outcomes, Follows, left, 
 use Rattle.lockstep.specs.Matches.{Match}
 use Rattle.lockstep.specs.Beside.{Beside}
 use Rattle.lockstep.specs.Clearing.{old_reading, WritesMap}
+use Rattle.lockstep.specs.Surveys.{piece, Listed, words_of, Parts}
 
 -- ---- demand 3, and worlds in one pool (document 02, Ticket 3)
 -- Theorem 1: from a new pool, every answer, refusal, and every world's positions, floor and ceiling and the number of worlds after each call are
@@ -210,6 +211,15 @@ Deepest-shortest =
     → Measured w (deepest h) out (gave (written n out')) w'
     → (n ≡ 2 * least h) × (take n out' ≡ deepest_words h)
     × ((v : List ℕ) (i : ℕ) → Sound v → i < opened_at v → runs_at v i < least h → height (tree_at v i) < h)
+
+-- ---- surveys
+-- what a survey that is not refused lists parts the square: every cell in just one piece, each of one value and as large as halving allows, left before
+-- right, upper before lower
+abbrev pub Survey-parts : Type 0
+Survey-parts =
+    (w : List ℕ) (i row column k : ℕ) (out out' : List ℕ) (n : ℕ) (w' : List ℕ)
+    → Met w i (Call.survey row column k out) (gave (written n out')) w'
+    → (ls : List Listed) × (take n out' ≡ words_of ls) × Parts (held_by w i) (piece row column (2 ^ k) (2 ^ k)) ls
 
 -- ---- why a list stopped (document 02, Ticket 13)
 -- what a pool of one world that may have C runs, which is empty, answers to the ranges rs, set to true one by one
