@@ -1,5 +1,5 @@
--- Determinism holds (specs/Determinism.antt). Both plays end in pools that hold the model's worlds, and a world of such a
--- pool writes the bytes of the model's positions into any slice that has room for 5 + 16 × C bytes. So what one play
+-- Determinism holds (specs/Determinism.antt). Both plays end in pools that hold the model's worlds, and a world of such
+-- a pool writes the bytes of the model's positions into any slice that has room for 5 + 16 × C bytes. So what one play
 -- writes, every play of its moves writes; and bytes that load are written by the play that loads them into a new pool
 -- with the limits of the pool that they load into. Assumes nothing.
 use Rattle.std.specs.Prelude.{None, Some, Ok}
@@ -37,7 +37,8 @@ record Found (w : List ℕ) (i : ℕ) (x : PlainWorld) : Type 0 where
   pub openable : Openable w i
   pub holds : x.positions ≡ held_by w i
 
-found : {C : ℕ} {xs : List PlainWorld} {w : List ℕ} {i : ℕ} {x : PlainWorld} → Holds C xs w → world_of xs i ≡ Some x → Found w i x
+found : {C : ℕ} {xs : List PlainWorld} {w : List ℕ} {i : ℕ} {x : PlainWorld}
+    → Holds C xs w → world_of xs i ≡ Some x → Found w i x
 found {xs = xs} {w = w} {i = i} {x = x} H e = go (split i (opened_at w))
   where
     here : world_of (worlds_of w) i ≡ Some x
@@ -47,7 +48,10 @@ found {xs = xs} {w = w} {i = i} {x = x} H e = go (split i (opened_at w))
     go (inl l) =
         let f : Some (plain_at w i) ≡ Some x = sym (opened-world w i l) ∙ here in
         let y : plain_at w i ≡ x = cc in
-        record { openable = record { sound = H.sound; named = l }; holds = ap (λ (z : PlainWorld). z.positions) (sym y) }
+        record {
+          openable = record { sound = H.sound; named = l };
+          holds = ap (λ (z : PlainWorld). z.positions) (sym y);
+        }
     go (inr l) =
         let f : Some x ≡ None = sym here ∙ unopened-world w i l in
         let z : ◌≡◌ {A = ℕ} 0 1 = cc in
@@ -55,7 +59,8 @@ found {xs = xs} {w = w} {i = i} {x = x} H e = go (split i (opened_at w))
 
 -- ---- sets that are written
 -- from two pools of one capacity
-write-alike : {C : ℕ} {xs ys : List PlainWorld} {w v : List ℕ} → Holds C xs w → Holds C ys v → WriteAlike C xs w ys v
+write-alike : {C : ℕ} {xs ys : List PlainWorld} {w v : List ℕ}
+    → Holds C xs w → Holds C ys v → WriteAlike C xs w ys v
 write-alike {C} {w = w} {v = v} H K e i j x y out due out' due' r s a b room room' W X =
     let f = found H a in
     let g = found K b in
@@ -85,7 +90,8 @@ writes-every {C} {limits} {moves} {world = i} {e} {bs} M first heard states out 
     ap (λ us. world_of us i) (sym H.held) ∙ opened-world w i (writer-readable S).openable.named in
     let f = found K here in
     let same : bytes_of e (held_by v i) ≡ bs = ap (bytes_of e) (sym f.holds) ∙ sym (written_is S) in
-    subst (λ cs. (r ≡ Ok (length cs)) × (take (length cs) out' ≡ cs)) same (fills f.openable e W (omega (arith, room, K.sized)))
+    subst (λ cs. (r ≡ Ok (length cs)) × (take (length cs) out' ≡ cs)) same
+    (fills f.openable e W (omega (arith, room, K.sized)))
 
 -- ---- bytes that are a set
 -- those that load are written by the play that loads them
@@ -124,7 +130,8 @@ written-loads :
     → MayWrite C limits moves world e bs → Loads C bs
 written-loads {C} {world = i} {e = e} M =
     let w : List ℕ = left M.first M.states in
-    writer-loads (left-after (new-holds M.new) M.plays).sized (subst (WritesSet w i e) (sym M.bytes) (as-set M.writes refl))
+    writer-loads (left-after (new-holds M.new) M.plays).sized
+    (subst (WritesSet w i e) (sym M.bytes) (as-set M.writes refl))
 
 -- ---- THE MAIN THEOREM
 pub determinism : Determinism

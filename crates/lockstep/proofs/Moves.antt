@@ -98,12 +98,14 @@ nothing-left (gave (written n bs)) = refl
 nothing-left (gave (mended n bs m cs)) = refl
 
 -- a listing that was drawn from
-drawn-left : (r : OrRefusal (Option Run)) (l l' : Listing) → Unmoved r l l' → listing l' ≡ lent_after (item_answer r l') (listing l)
+drawn-left : (r : OrRefusal (Option Run)) (l l' : Listing) → Unmoved r l l'
+    → listing l' ≡ lent_after (item_answer r l') (listing l)
 drawn-left (Err r) l l' u = ap listing u
 drawn-left (Ok o) l l' u = refl
 
 -- a slice that was written into
-written-left : (r : OrRefusal ℕ) (out out' : List ℕ) → Unwritten r out out' → slice out' ≡ lent_after (written_answer r out') (slice out)
+written-left : (r : OrRefusal ℕ) (out out' : List ℕ) → Unwritten r out out'
+    → slice out' ≡ lent_after (written_answer r out') (slice out)
 written-left (Err r) out out' u = ap slice u
 written-left (Ok n) out out' u = refl
 
@@ -115,7 +117,8 @@ mended-left (Ok m) out out' report report' u = refl
 
 -- ---- a single call
 -- refused, it leaves the words
-stepped-refused : {w w' : List ℕ} {a : Answer} {n : ℕ} (c : PoolCall Site) → Stepped w c a w' → a ≡ refused n → w' ≡ w
+stepped-refused : {w w' : List ℕ} {a : Answer} {n : ℕ} (c : PoolCall Site)
+    → Stepped w c a w' → a ≡ refused n → w' ≡ w
 stepped-refused {w} {w'} (make ls) s e = subst (MakeLeaves w w' ls) e s.left
 stepped-refused (measure q out) s e = s.left
 stepped-refused {w} {w'} (at i c) s e = subst (Leaves w w' i (outcome_of w i c).positions) e s.left
@@ -146,7 +149,8 @@ module _ {C : ℕ} {vs : List PlainWorld} {w : List ℕ} (H : Holds C vs w) (cal
       let us : List PlainWorld = after (capacity w) (worlds_of w) (calls_of calls) in
       let short = output_short when no_room out due ∷ [] in
       ap₂
-      (λ z s. settle_frame (refusal (store_length when z ∷ store_unsound when not s ∷ short)) (worlds_of w) us due out)
+      (λ z s. settle_frame (refusal (store_length when z ∷ store_unsound when not s ∷ short)) (worlds_of w) us due
+      out)
       (ne_eqb (capacity w) 0 (λ z. omega (arith, H.sound.sized))) (sound_b-no w H.sound)
       ∙ ap₂ (λ k us. frame_by k us calls out) H.sized H.held
 
@@ -158,25 +162,37 @@ module _ {C : ℕ} {vs : List PlainWorld} {w : List ℕ} (H : Holds C vs w) (cal
     settled-went None us due e l s =
         let p : Pooled w w' us = subst (FrameLeaves w w' us) e l in
         record {
-          told = record { heard = ap₂ heard_as e (ap slice s); worlds = p.worlds; unchanged = λ n r. absurd (refused-not (sym r ∙ e)) };
+          told = record {
+            heard = ap₂ heard_as e (ap slice s);
+            worlds = p.worlds;
+            unchanged = λ n r. absurd (refused-not (sym r ∙ e));
+          };
           holds = record { sound = p.sound; sized = ap capacity_of p.long ∙ H.sized; held = p.worlds };
         }
     settled-went (Some n) us due e l s =
         let same : w' ≡ w = subst (FrameLeaves w w' vs) e l in
         record {
-          told = record { heard = ap₂ heard_as e (ap slice s); worlds = ap worlds_of same ∙ H.held; unchanged = λ k r. (same, ap slice s) };
+          told = record {
+            heard = ap₂ heard_as e (ap slice s);
+            worlds = ap worlds_of same ∙ H.held;
+            unchanged = λ k r. (same, ap slice s);
+          };
           holds = subst (Holds C vs) (sym same) H;
         }
 
-    frame-went : Framed w calls out a w' out' → Went C (move_outcome C vs (frame calls out)) w (frame calls out) (heard_as a (slice out')) w'
+    frame-went : Framed w calls out a w' out'
+        → Went C (move_outcome C vs (frame calls out)) w (frame calls out) (heard_as a (slice out')) w'
     frame-went F =
-        settled-went (refusal (output_short when no_room out (records_of (answers C vs (calls_of calls))) ∷ [])) (after C vs (calls_of calls))
-        (records_of (answers C vs (calls_of calls))) (F.answered ∙ ap (λ o. o.answer) frame-is)
-        (subst (λ (o : FrameOutcome). FrameLeaves w w' o.worlds a) frame-is F.left) (F.wrote ∙ ap (λ o. o.slice) frame-is)
+        let us : List PlainWorld = after C vs (calls_of calls) in
+        let due : List ℕ = records_of (answers C vs (calls_of calls)) in
+        settled-went (refusal (output_short when no_room out due ∷ [])) us due
+        (F.answered ∙ ap (λ o. o.answer) frame-is)
+        (subst (λ (o : FrameOutcome). FrameLeaves w w' o.worlds a) frame-is F.left)
+        (F.wrote ∙ ap (λ o. o.slice) frame-is)
 
 -- ---- any move
-pub went : {C : ℕ} {vs : List PlainWorld} {w w' : List ℕ} {m : Move Site} {h : Heard} → Holds C vs w → Moves w m h w'
-    → Went C (move_outcome C vs (feed_move m)) w m h w'
+pub went : {C : ℕ} {vs : List PlainWorld} {w w' : List ℕ} {m : Move Site} {h : Heard}
+    → Holds C vs w → Moves w m h w' → Went C (move_outcome C vs (feed_move m)) w m h w'
 went H (made {ls = ls} {a = a} s) = single-went (make ls) nothing nothing H s (nothing-left a)
 went H (met {i = i} {c = c} {a = a} s) = single-went (at i c) nothing nothing H s (nothing-left a)
 went H (drew {i = i} draw {l = l} {l' = l'} {r = r} d) =
@@ -186,5 +202,6 @@ went H (wrote {i = i} c {out = out} {out' = out'} {r = r} s) =
 went H (measured {q = q} {out = out} {out' = out'} {r = r} s) =
     single-went (measure q out) (slice out) (slice out') H s.measured (written-left r out out' s.unwritten)
 went H (mends {i = i} {bs = bs} {out = out} {out' = out'} {report = report} {report' = report'} {r = r} s) =
-    single-went (at i (Call.mend bs out report)) (slices out report) (slices out' report') H s.met (mended-left r out out' report report' s.unmended)
+    single-went (at i (Call.mend bs out report)) (slices out report) (slices out' report') H s.met
+    (mended-left r out out' report report' s.unmended)
 went H (framed {calls = calls} {out = out} r F) = frame-went H calls out F

@@ -1,5 +1,5 @@
--- A whole play goes along with the plain model, move by move. So what is heard and the worlds after each move are told by
--- the worlds before and the moves as the model is fed them, and two pools that hold the same worlds play on alike.
+-- A whole play goes along with the plain model, move by move. So what is heard and the worlds after each move are told
+-- by the worlds before and the moves as the model is fed them, and two pools that hold the same worlds play on alike.
 -- Assumes nothing.
 use Prim.Native.Nat.{ℕ}
 use mathlib.Core.Path.{◌≡◌, refl, sym, ap, ap₂, ◌∙◌}
@@ -28,7 +28,8 @@ pub left-after :
     {C : ℕ} {vs : List PlainWorld} {w : List ℕ} {ms : List (Move Site)} {hs : List Heard} {ws : List (List ℕ)}
     → Holds C vs w → Plays w ms hs ws → Holds C (worlds_after C vs (fed ms)) (left w ws)
 left-after H rest = H
-left-after {C = C} {vs = vs} H (move {m = m} s p) = left-after {C = C} {vs = (move_outcome C vs (feed_move m)).worlds} (went H s).holds p
+left-after {C = C} {vs = vs} H (move {m = m} s p) =
+    left-after {C = C} {vs = (move_outcome C vs (feed_move m)).worlds} (went H s).holds p
 
 -- ---- what the model says of a list of moves
 -- what is heard

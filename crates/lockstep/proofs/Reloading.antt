@@ -80,13 +80,13 @@ module _ {w : List ℕ} (S : Sound w) (none : (j : ℕ) → j < opened_at w → 
       (ap₂ (λ x y. x || y) (limits-straight w 0 (opened_at w) (λ j l. (S.limited j (omega arith)).limits)) (le-ltb (capacity w) (floors limits) (omega (arith, floors-claimed w 0 (opened_at w), S.fits)))))
 
   -- so making may leave it
-  pub new-pool : (v : List ℕ) → length w ≡ length v → New (capacity w) limits w
+  pub new-pool : {C : ℕ} (v : List ℕ) → length w ≡ length v → capacity w ≡ C → New C limits w
   unfolding worlds_of
-  new-pool v e =
+  new-pool v e c =
       let same : capacity v ≡ capacity w = ap capacity_of (sym e) in
       record {
         before = v;
-        sized = same;
+        sized = same ∙ c;
         made = make-done v w limits (omega (arith, same, S.sized)) (ap (λ C. bad_limits C limits) same ∙ limits-good)
             (record { sound = S; worlds = worlds-empty w 0 (opened_at w) (λ j l. none j (omega arith)); long = e });
       }
@@ -134,6 +134,11 @@ accept-there {w} {v} {bs} {i} o p t A = record {
       ∙ fits-few p (held_by v i) (held-allowed v i p);
 }
 
+-- words as long as others, and these as a pool of capacity C
+same-capacity : {C : ℕ} (u x v w : List ℕ) → length w ≡ length v → length v ≡ length x → length x ≡ length u → capacity u ≡ C
+    → capacity w ≡ C
+same-capacity u x v w e f g h = ap capacity_of (e ∙ f ∙ g) ∙ h
+
 -- bytes loaded into world i of a new pool, which then holds what they are the set of
 pub record Reloaded (C : ℕ) (bs : List ℕ) : Type 0 where
   pub limits : List Limits
@@ -162,14 +167,14 @@ reloaded {C} {bs} b L =
     let held : (x : ℕ) → x < size → held_by v i x ≡ P x = λ x l. ap (λ Q. Q x) A.here ∙ t.holds x l in
     let back : Settled w v i P = settled_back A.sound E held in
     let none : (j : ℕ) → j < opened_at w → held_by w j ≡ empty = λ j l. all-empty A E j l in
-    let cap : capacity w ≡ C = ap capacity_of (E.long ∙ A.long ∙ t.long) ∙ L.sized in
+    let cap : capacity w ≡ C = same-capacity L.pool L.after v w E.long A.long t.long L.sized in
     let openable : Openable w i = record { sound = E.sound; named = omega (arith, named', E.opened) } in
     let accepted : Accepted (full_at w i) bs = accept-there openable (record { sound = A.sound; named = named' }) back (loaded-accepted L) in
     let here : held_by v i ≡ P = same-positions (held_by v i) P (pool-past v i) (bounded-ends (mem (decode bs))) held in
     record {
       limits = limits E.sound none;
       first = w;
-      new = subst (λ c. New c (limits E.sound none) w) cap (new-pool E.sound none v E.long);
+      new = new-pool E.sound none v E.long cap;
       world = i;
       pool = v;
       met = load-met openable accepted back;

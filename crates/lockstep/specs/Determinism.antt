@@ -28,7 +28,8 @@ pub record SameBytes (P Q : Positions) (r : OrRefusal ℕ) (out : List ℕ) (s :
   pub same : P ≡ Q → take n out ≡ take m due
   pub only : take n out ≡ take m due → P ≡ Q
 
--- sets that are written in one edition from world i of the words w and from world j of the words v, for which the model has the worlds xs and ys
+-- sets that are written in one edition from world i of the words w and from world j of the words v, for which the model
+-- has the worlds xs and ys
 abbrev pub WriteAlike : ℕ → List PlainWorld → List ℕ → List PlainWorld → List ℕ → Type 0
 WriteAlike C xs w ys v =
     (e : Edition) (i j : ℕ) (x y : PlainWorld) (out due out' due' : List ℕ) (r s : OrRefusal ℕ)
@@ -45,15 +46,22 @@ PlayAlike w v =
 -- what holds of two plays from new pools of capacity C, with the limits ls and ks: each goes along with the model, fed
 -- the moves alone; sets are the same bytes exactly where the model's positions are; and where the model's worlds agree,
 -- the two pools play on alike
-pub record Agree (C : ℕ) (ls ks : List Limits) (w v : List ℕ) (ms ns : List (Move Site)) (hs gs : List Heard) (ws vs : List (List ℕ)) : Type 0 where
+pub record Agree
+    (C : ℕ) (ls ks : List Limits) (w v : List ℕ) (ms ns : List (Move Site)) (hs gs : List Heard) (ws vs : List (List ℕ))
+    : Type 0 where
   pub first : Follows C (empty_worlds ls) w ms hs ws
   pub second : Follows C (empty_worlds ks) v ns gs vs
-  pub bytes : WriteAlike C (worlds_after C (empty_worlds ls) (fed ms)) (left w ws) (worlds_after C (empty_worlds ks) (fed ns)) (left v vs)
-  pub later : worlds_after C (empty_worlds ls) (fed ms) ≡ worlds_after C (empty_worlds ks) (fed ns) → PlayAlike (left w ws) (left v vs)
+  pub bytes :
+      WriteAlike C (worlds_after C (empty_worlds ls) (fed ms)) (left w ws)
+      (worlds_after C (empty_worlds ks) (fed ns)) (left v vs)
+  pub later :
+      worlds_after C (empty_worlds ls) (fed ms) ≡ worlds_after C (empty_worlds ks) (fed ns)
+      → PlayAlike (left w ws) (left v vs)
 
 -- ---- bytes that are a set
 -- some play at capacity C ends in a pool of which a world writes the bytes bs, in some edition
-pub record MayWrite (C : ℕ) (limits : List Limits) (moves : List (Move Site)) (world : ℕ) (edition : Edition) (bs : List ℕ) : Type 0 where
+pub record MayWrite
+    (C : ℕ) (limits : List Limits) (moves : List (Move Site)) (world : ℕ) (edition : Edition) (bs : List ℕ) : Type 0 where
   pub first : List ℕ
   pub new : New C limits first
   pub heard : List Heard
@@ -69,7 +77,8 @@ pub record MayWrite (C : ℕ) (limits : List Limits) (moves : List (Move Site)) 
 abbrev pub Writes : ℕ → List Limits → List (Move Site) → ℕ → Edition → List ℕ → Type 0
 Writes C limits moves world edition bs =
     (first : List ℕ) (heard : List Heard) (states : List (List ℕ)) (out out' : List ℕ) (r : OrRefusal ℕ)
-    → New C limits first → Plays first moves heard states → Roomy C out → WritesOut (Call.write_set edition) (left first states) world out r out'
+    → New C limits first → Plays first moves heard states → Roomy C out
+    → WritesOut (Call.write_set edition) (left first states) world out r out'
     → (r ≡ Ok (length bs)) × (take (length bs) out' ≡ bs)
 
 -- some moves write the bytes, whichever of what contracts permit is played; and something is
@@ -81,12 +90,13 @@ pub record Writable (C : ℕ) (bs : List ℕ) : Type 0 where
   pub every : Writes C limits moves world edition bs
   pub some : MayWrite C limits moves world edition bs
 
--- DETERMINISM: two plays from new pools of one capacity agree; and a byte string loads into some world of some pool of a
--- capacity exactly when some play at that capacity writes it
+-- DETERMINISM: two plays from new pools of one capacity agree; and a byte string loads into some world of some pool of
+-- a capacity exactly when some play at that capacity writes it
 abbrev pub Determinism : Type 0
 Determinism =
     ((C : ℕ) (ls ks : List Limits) (w v : List ℕ) (ms ns : List (Move Site)) (hs gs : List Heard) (ws vs : List (List ℕ))
     → New C ls w → New C ks v → Plays w ms hs ws → Plays v ns gs vs → Agree C ls ks w v ms ns hs gs ws vs)
     × ((C : ℕ) (bs : List ℕ) → AllBytes bs
     → (Loads C bs → Writable C bs)
-    × ((limits : List Limits) (moves : List (Move Site)) (world : ℕ) (edition : Edition) → MayWrite C limits moves world edition bs → Loads C bs))
+    × ((limits : List Limits) (moves : List (Move Site)) (world : ℕ) (edition : Edition)
+    → MayWrite C limits moves world edition bs → Loads C bs))

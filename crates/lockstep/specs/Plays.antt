@@ -8,7 +8,8 @@ use Rattle.model.specs.declared.Mended.{Mended}
 use Rattle.model.specs.declared.Run.{Run}
 use Rattle.model.specs.Answers.{OrRefusal, completed_answer, written_answer, mended_answer}
 use Rattle.model.specs.Refusals.{output_short, ◌when◌, refusal, no_room}
-use Rattle.model.specs.Call.{Fed, Call, PoolCall, make, measure, at, feed_pool, Measure, Result, drawn, written, mended, Answer, refused, gave}
+use Rattle.model.specs.Call.{Fed, Call, Measure, PoolCall, make, measure, at, feed_pool}
+use Rattle.model.specs.Call.{Result, drawn, written, mended, Answer, refused, gave}
 use Rattle.model.specs.Pools.{PlainWorld, PoolOutcome, step, answers, after}
 use Rattle.store.specs.Layout.{worlds_of}
 use Rattle.promises.specs.Met.{Site, fed_at, Met, Made}
@@ -35,6 +36,7 @@ abbrev pub feed_move : Move Site → Move Fed
 feed_move (single c l) = single (feed_pool fed_at c) l
 feed_move (frame calls out) = frame calls out
 
+-- and a list of them
 abbrev pub fed : List (Move Site) → List (Move Fed)
 fed [] = []
 fed (m ∷ ms) = feed_move m ∷ fed ms
@@ -49,13 +51,20 @@ pub record Heard : Type 0 where
   pub answer : Answer
   pub lent : Lent
 
+-- that it answered a and left l
 abbrev pub heard_as : Answer → Lent → Heard
 heard_as a l = record { answer = a; lent = l }
 
 -- the move m on the words w was heard as h and left the words w', as its contract permits
 pub data Moves : List ℕ → Move Site → Heard → List ℕ → Type 0 where
-  made : {w w' : List ℕ} {ls : List Limits} {a : Answer} → Made w ls a w' → Moves w (single (make ls) nothing) (heard_as a nothing) w'
-  met : {w w' : List ℕ} {i : ℕ} {c : Call Site} {a : Answer} → Met w i c a w' → Moves w (single (at i c) nothing) (heard_as a nothing) w'
+  made :
+      {w w' : List ℕ} {ls : List Limits} {a : Answer}
+      → Made w ls a w'
+      → Moves w (single (make ls) nothing) (heard_as a nothing) w'
+  met :
+      {w w' : List ℕ} {i : ℕ} {c : Call Site} {a : Answer}
+      → Met w i c a w'
+      → Moves w (single (at i c) nothing) (heard_as a nothing) w'
   drew :
       {w : List ℕ} {i : ℕ} (draw : Listing → Call Site) {l l' : Listing} {r : OrRefusal (Option Run)}
       → Draws draw w i l r l'
@@ -71,7 +80,8 @@ pub data Moves : List ℕ → Move Site → Heard → List ℕ → Type 0 where
   mends :
       {w w' : List ℕ} {i : ℕ} {bs out out' report report' : List ℕ} {r : OrRefusal Mended}
       → Mends w i bs out report r w' out' report'
-      → Moves w (single (at i (Call.mend bs out report)) (slices out report)) (heard_as (mended_answer r out' report') (slices out' report')) w'
+      → Moves w (single (at i (Call.mend bs out report)) (slices out report))
+      (heard_as (mended_answer r out' report') (slices out' report')) w'
   framed :
       {w w' calls out out' : List ℕ} (r : OrRefusal Unit)
       → Framed w calls out (completed_answer r) w' out'
@@ -92,23 +102,26 @@ pub record MoveOutcome : Type 0 where
   pub heard : Heard
   pub worlds : List PlainWorld
 
--- what an answer leaves of what was lent: a refusal leaves all of it; else what was moved or written is a part of the answer
+-- what a result leaves of what was lent: what was moved or written is a part of it, and all else is left
 abbrev pub left_by : Result → Lent → Lent
 left_by (drawn r l') (listing l) = listing l'
 left_by (written n out') (slice out) = slice out'
 left_by (mended n out' m report') (slices out report) = slices out' report'
 left_by r l = l
 
+-- what an answer leaves: a refusal all of it
 abbrev pub lent_after : Answer → Lent → Lent
 lent_after (refused n) l = l
 lent_after (gave r) l = left_by r l
 
--- a frame is refused with 2 where the slice is shorter than its answers; else each of its calls is answered in the front of the slice
+-- a frame is refused with 2 where the slice is shorter than its answers; else each of its calls is answered, in the
+-- front of the slice
 abbrev pub frame_by : ℕ → List PlainWorld → List ℕ → List ℕ → FrameOutcome
 frame_by C ws calls out =
     settle_frame (refusal (output_short when no_room out (records_of (answers C ws (calls_of calls))) ∷ []))
     ws (after C ws (calls_of calls)) (records_of (answers C ws (calls_of calls))) out
 
+-- a call by what the model says of it, a frame by what it says of its calls
 abbrev pub single_outcome : PoolOutcome → Lent → MoveOutcome
 single_outcome o l = record { heard = heard_as o.answer (lent_after o.answer l); worlds = o.worlds }
 
@@ -126,7 +139,7 @@ worlds_after C ws (m ∷ ms) = worlds_after C (move_outcome C ws m).worlds ms
 
 -- ---- going along with the model
 -- the move m from the words w to w', heard as h, is as the model says: the answer, what was lent, how many worlds there
--- are, and the positions, the floor and the ceiling of each; and refused, it left every word, the listing and the slices
+-- are, and the positions, floor and ceiling of each; and refused, it left every word, the listing and the slices
 pub record IsAsTold (o : MoveOutcome) (w : List ℕ) (m : Move Site) (h : Heard) (w' : List ℕ) : Type 0 where
   pub heard : h ≡ o.heard
   pub worlds : worlds_of w' ≡ o.worlds
@@ -136,7 +149,8 @@ pub record IsAsTold (o : MoveOutcome) (w : List ℕ) (m : Move Site) (h : Heard)
 pub data Follows (C : ℕ) : List PlainWorld → List ℕ → List (Move Site) → List Heard → List (List ℕ) → Type 0 where
   over : {vs : List PlainWorld} {w : List ℕ} → Follows C vs w [] [] []
   next :
-      {vs : List PlainWorld} {w w' : List ℕ} {m : Move Site} {h : Heard} {ms : List (Move Site)} {hs : List Heard} {ws : List (List ℕ)}
+      {vs : List PlainWorld} {w w' : List ℕ} {m : Move Site} {h : Heard}
+      {ms : List (Move Site)} {hs : List Heard} {ws : List (List ℕ)}
       → IsAsTold (move_outcome C vs (feed_move m)) w m h w'
       → Follows C (move_outcome C vs (feed_move m)).worlds w' ms hs ws
       → Follows C vs w (m ∷ ms) (h ∷ hs) (w' ∷ ws)
