@@ -7,7 +7,7 @@ ghost use Rattle.lockstep.specs.Tables.{Cases-hold, Columns-back};
 ghost use Rattle.lockstep.specs.Theorems.{Theorem1, Theorem1-matches, Theorem2, Theorem2-room, Theorem3, Theorem4, Theorem5, Theorem6, Theorem6-lists};
 ghost use Rattle.lockstep.specs.Theorems.{Cleared-reads, Cleared-once, Written-stays, Forms-agree, Fill-none, Fill-full};
 ghost use Rattle.lockstep.specs.Theorems.{Converted-back, Converted-loads, Loads-converts, Old-reader, Mended-right, Mended-loads, Mended-floor};
-ghost use Rattle.lockstep.specs.Theorems.{Deepest-shortest, Why-smallest, Why-none};
+ghost use Rattle.lockstep.specs.Theorems.{Survey-parts, Deepest-shortest, Why-smallest, Why-none};
 
 /// Whole plays: calls singly and in frames.
 pub fn whole_plays()
@@ -50,6 +50,11 @@ pub fn written_sets()
     ensures mended_right { Mended-right }
     ensures mended_loads { Mended-loads }
     ensures mended_floor { Mended-floor }
+{}
+
+/// Surveys of squares.
+pub fn square_surveys()
+    ensures survey_parts { Survey-parts }
 {}
 
 /// The deepest tree, and why a list of ranges was refused.
