@@ -5,6 +5,7 @@ pub mod Ranges
 pub mod Doing
 pub mod Calls
 pub mod Counting
+pub mod Lightening
 pub mod Pairing
 pub mod Twice
 pub mod Sides

@@ -12,8 +12,10 @@ use Rattle.model.specs.Call.{Call, done, Answer, gave}
 use Rattle.store.specs.Layout.{allowance, held_by}
 use Rattle.promises.specs.Met.{Site, site, Readable, Met}
 use Rattle.laws.specs.Pairs.{Did, holds, SameLeft, BothShift, two_pools, one_pool, one_pool_turned, one_world, BothShifted, into_pools, into_pool, into_pool_turned, into_world}
+use Rattle.laws.specs.Pairs.{Shifts}
 use Rattle.laws.proofs.Moving.{moved, moved-few}
 use Rattle.laws.proofs.Joining.{moved-through}
+use Rattle.laws.proofs.Lightening.{Lightened, shifts-lighten, allowance-rises}
 use Rattle.laws.proofs.Doing.{gets-again, gets-same, readable-now, readable-before, held-other, allowance-now}
 use Rattle.laws.proofs.Calls.{
   shift-done,
@@ -130,24 +132,25 @@ module _ (op : Operation) (d : ℕ) (left : Bool) {s t s' t' : Site} where
   copy-through {w₁ = w₁} {i = i} m n M k =
       gets-same (shifted-gets d left (site w₁ i) n) (combine-gets op s' t' k) (ap (moved d left) (combine-gets op s t m).held ∙ sym (join-moved M))
 
-  -- it has no more runs, so it is not refused where that of the two was not, into the world as it was or as it became
-  pub still-unrefused : {w w₁ v v₁ : List ℕ} {i : ℕ} {a b c : Answer} → Did w i (Call.combine op s t) w₁ → BothShift d left a b s t s' t' → (v ≡ w) ⊎ (v ≡ w₁)
-      → Met v i (Call.combine op s' t') c v₁ → (a ≡ gave done) × (b ≡ gave done) × (c ≡ gave done)
+  -- it has no more runs, so it is not refused where that of the two was not, into the world as it was or as it became, whatever worlds of its pool were
+  -- shifted in place since
+  pub still-unrefused : {w w₁ v v₁ : List ℕ} {i : ℕ} {a b c : Answer} → Did w i (Call.combine op s t) w₁ → BothShift d left a b s t s' t'
+      → Shifts w v ⊎ Shifts w₁ v → Met v i (Call.combine op s' t') c v₁ → (a ≡ gave done) × (b ≡ gave done) × (c ≡ gave done)
   still-unrefused {w} {w₁} {v} {v₁} {i} {c = c} m B where_to k =
       let e = both-done d left B (record { first_read = combine-first op s t m; second-read = combine-second op s t m }) in
       let B' : BothShift d left (gave done) (gave done) s t s' t' = subst₂ (λ x y. BothShift d left x y s t s' t') e.0 e.1 B in
-      let R = both-readable d left B' in
       let few : stretches (combined op (holds s') (holds t')) ≤ allowance w i =
       subst (λ P. stretches P ≤ allowance w i) (sym (join-moved (both-moved d left B')))
       (le_trans (moved-few d left (combined op (holds s) (holds t))) (combine-fits op s t m)) in
-      (e.0, e.1, go R few where_to)
+      (e.0, e.1, go (both-readable d left B') few where_to)
     where
-      into : Readables s' t' → (x : List ℕ) → Readable x i → stretches (combined op (holds s') (holds t')) ≤ allowance x i → v ≡ x → c ≡ gave done
-      into R x S few f = combine-done op s' t' S R.first_read R.second-read few (subst (λ z. Met z i (Call.combine op s' t') c v₁) f k)
+      into : {x : List ℕ} → Readables s' t' → Readable x i → stretches (combined op (holds s') (holds t')) ≤ allowance x i → Lightened x v
+          → c ≡ gave done
+      into R S few L = combine-done op s' t' (L.still-readable i S) R.first_read R.second-read (le_trans few (allowance-rises i L)) k
 
-      go : Readables s' t' → stretches (combined op (holds s') (holds t')) ≤ allowance w i → (v ≡ w) ⊎ (v ≡ w₁) → c ≡ gave done
-      go R few (inl f) = into R w (combine-readable op s t m) few f
+      go : Readables s' t' → stretches (combined op (holds s') (holds t')) ≤ allowance w i → Shifts w v ⊎ Shifts w₁ v → c ≡ gave done
+      go R few (inl f) = into R (combine-readable op s t m) few (shifts-lighten f)
       go R few (inr f) =
           let S = combine-settled op s t m in
-          into R w₁ (readable-now (combine-readable op s t m) S i (combine-readable op s t m))
-          (subst (λ n. stretches (combined op (holds s') (holds t')) ≤ n) (sym (allowance-now S.long (combine-gets op s t m))) few) f
+          into R (readable-now (combine-readable op s t m) S i (combine-readable op s t m))
+          (subst (λ n. stretches (combined op (holds s') (holds t')) ≤ n) (sym (allowance-now S.long (combine-gets op s t m))) few) (shifts-lighten f)

@@ -66,3 +66,12 @@ pub data BothShifted (d : ℕ) (left : Bool) : Site → Site → Site → Site �
       {s : Site} {u u' : List ℕ} {j : ℕ}
       → Did u j (Call.shifted d left s) u'
       → BothShifted d left s s (site u' j) (site u' j)
+
+-- shifts in place of worlds of one pool, by any distances and either way, refused ones too, led from the words w to the words w'
+pub data Shifts : List ℕ → List ℕ → Type 0 where
+  none : {w : List ℕ} → Shifts w w
+  shift :
+      {w w' w'' : List ℕ} {j d : ℕ} {left : Bool} {a : Answer}
+      → Met w j (Call.shift d left) a w'
+      → Shifts w' w''
+      → Shifts w w''
