@@ -71,10 +71,12 @@ bytes-settled {w} {i} e o =
     settled-as (settled_same o.sound) (λ x h. sym (ap (λ Q. Q x) d ∙ bounded-below P x h))
 
 -- so a world that writes bytes can load them
-pub writer-loads : {C : ℕ} {w : List ℕ} {i : ℕ} {e : Edition} {bs : List ℕ} → capacity w ≡ C → WritesSet w i e bs → Loads C bs
+pub writer-loads : {C : ℕ} {w : List ℕ} {i : ℕ} {e : Edition} {bs : List ℕ}
+    → capacity w ≡ C → WritesSet w i e bs → Loads C bs
 writer-loads {C} {w} {i} {e} c W =
     let o = (writer-readable W).openable in
-    subst (Loads C) (sym (written_is W)) (record { pool = w; world = i; sized = c; after = w; met = load-met o (bytes-accepted e o) (bytes-settled e o) })
+    subst (Loads C) (sym (written_is W))
+    (record { pool = w; world = i; sized = c; after = w; met = load-met o (bytes-accepted e o) (bytes-settled e o) })
 
 -- also one that a history left
 pub writable-loads : {C : ℕ} {bs : List ℕ} → Writable C bs → Loads C bs

@@ -9,7 +9,8 @@ use Rattle.store.specs.Layout.{worlds_of}
 use Rattle.promises.specs.Met.{Site}
 use Rattle.promises.proofs.Simulation.{Holds}
 use Rattle.lockstep.specs.History.{left}
-use Rattle.lockstep.specs.Plays.{Move, feed_move, fed, Heard, rest, move, Plays, move_outcome, worlds_after, over, next, Follows}
+use Rattle.lockstep.specs.Plays.{Move, feed_move, fed, Heard, rest, move, Plays}
+use Rattle.lockstep.specs.Plays.{move_outcome, worlds_after, over, next, Follows}
 use Rattle.model.specs.Call.{Fed}
 use Rattle.lockstep.specs.Determinism.{PlayAlike}
 use Rattle.lockstep.proofs.Moves.{went}

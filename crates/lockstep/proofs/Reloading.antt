@@ -135,8 +135,8 @@ accept-there {w} {v} {bs} {i} o p t A = record {
 }
 
 -- words as long as others, and these as a pool of capacity C
-same-capacity : {C : ℕ} (u x v w : List ℕ) → length w ≡ length v → length v ≡ length x → length x ≡ length u → capacity u ≡ C
-    → capacity w ≡ C
+same-capacity : {C : ℕ} (u x v w : List ℕ)
+    → length w ≡ length v → length v ≡ length x → length x ≡ length u → capacity u ≡ C → capacity w ≡ C
 same-capacity u x v w e f g h = ap capacity_of (e ∙ f ∙ g) ∙ h
 
 -- bytes loaded into world i of a new pool, which then holds what they are the set of
@@ -183,7 +183,8 @@ reloaded {C} {bs} b L =
     }
 
 -- so that pool writes them, into as many bytes
-pub reloaded-long : {C : ℕ} {bs : List ℕ} (R : Reloaded C bs) → length (bytes_of (edition_of bs) (held_by R.pool R.world)) ≤ length bs
+pub reloaded-long : {C : ℕ} {bs : List ℕ} (R : Reloaded C bs)
+    → length (bytes_of (edition_of bs) (held_by R.pool R.world)) ≤ length bs
 reloaded-long R = omega (arith, ap length R.written)
 
 pub loads-writable : {C : ℕ} {bs : List ℕ} → AllBytes bs → Loads C bs → Writable C bs
@@ -203,5 +204,7 @@ loads-writable {C} {bs} b L =
         history = call (at R.world (Call.load bs)) R.met rest;
         now = refl;
       };
-      writes = subst (WritesSet R.pool R.world (edition_of bs)) R.written (writes R.openable (edition_of bs) bs (reloaded-long R));
+      writes =
+          subst (WritesSet R.pool R.world (edition_of bs)) R.written
+          (writes R.openable (edition_of bs) bs (reloaded-long R));
     }

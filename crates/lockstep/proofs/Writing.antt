@@ -81,7 +81,8 @@ module _ {w : List ℕ} {i : ℕ} {e : Edition} {bs : List ℕ} (W : WritesSet w
 
 -- ---- what a call answers that writes into a slice
 -- bytes that it tells of are its slice's
-told-count : (r : OrRefusal ℕ) {out bs : List ℕ} {n : ℕ} → written_answer r out ≡ gave (written n bs) → (r ≡ Ok n) × (out ≡ bs)
+told-count : (r : OrRefusal ℕ) {out bs : List ℕ} {n : ℕ}
+    → written_answer r out ≡ gave (written n bs) → (r ≡ Ok n) × (out ≡ bs)
 told-count (Err r) e = absurd (refused-not e)
 told-count (Ok m) {out} {bs} {n} e =
     let a : m ≡ n = cc in
@@ -89,8 +90,8 @@ told-count (Ok m) {out} {bs} {n} e =
     (ap Ok a, b)
 
 -- so much of the slice is the set
-pub as-set : {e : Edition} {w out out' : List ℕ} {i : ℕ} {r : OrRefusal ℕ} {n : ℕ} → WritesOut (Call.write_set e) w i out r out' → r ≡ Ok n
-    → WritesSet w i e (take n out')
+pub as-set : {e : Edition} {w out out' : List ℕ} {i : ℕ} {r : OrRefusal ℕ} {n : ℕ}
+    → WritesOut (Call.write_set e) w i out r out' → r ≡ Ok n → WritesSet w i e (take n out')
 as-set {e} {w} {out} {out'} {i} {n = n} W is = record {
   out = out;
   count = n;
@@ -128,7 +129,8 @@ module _ {w : List ℕ} {i : ℕ} (o : Openable w i) where
 
     -- and one that is long enough for any set of the pool has them in front
     pub fills : {out out' : List ℕ} {r : OrRefusal ℕ} → let bs = bytes_of e (held_by w i) in
-        WritesOut (Call.write_set e) w i out r out' → 5 + 16 * capacity w ≤ length out → (r ≡ Ok (length bs)) × (take (length bs) out' ≡ bs)
+        WritesOut (Call.write_set e) w i out r out' → 5 + 16 * capacity w ≤ length out
+        → (r ≡ Ok (length bs)) × (take (length bs) out' ≡ bs)
     fills {out} {out'} {r} W h =
         let bs = bytes_of e (held_by w i) in
         let t = told-count r (written_all (le_trans bytes-few h) W.met) in
