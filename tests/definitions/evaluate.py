@@ -811,20 +811,55 @@ def arities(folder):
 
 
 def cases(model):
-    """The rows of the tables, and for each a function that says what of it does not hold, if anything. A table is a definition whose type is List Case."""
-    module = model.modules["Cases"]
-    run = lambda text: model.compile(module, Reader(text).expression())
-    answered = run("answers c.capacity (alone c.capacity empty) (map on_first c.calls)")
-    held = run("after c.capacity (alone c.capacity empty) (map on_first c.calls)")
-    due = run("alone c.capacity (mem c.runs-are)")
-    for folder, name in model.tables("List Case"):
-        for at, case in enumerate(items(model.constant(folder, name))):
+    """What is to hold, and for each a function that says what of it does not, if anything: the rows of every table of specs/, a table being a definition
+    whose type is a list of rows; and at a few values what is said of all values."""
 
-            def check(case=case):
-                names = {"c": case}
-                return told_apart(answered(names), part(case, "answers-are")) or (None if same(held(names), due(names)) else "the positions in the end")
+    def row(module, c, **due):
+        names = {"c": c}
+        say = {name: model.compile(model.modules[module], Reader(text).expression())(names) for name, text in due.items()}
+        wrong = told_apart(say["told"], say["answers"])
+        return wrong or (None if same(say["held"], say["left"]) else "what is held in the end")
 
-            yield f"{name}, row {at + 1}", check
+    kinds = {
+        "List Case": lambda c: row(
+            "Cases", c, told="answers c.capacity (alone c.capacity empty) (map on_first c.calls)", answers="c.answers-are",
+            held="after c.capacity (alone c.capacity empty) (map on_first c.calls)", left="alone c.capacity (mem c.runs-are)"
+        ),
+        "List PoolCase": lambda c: row(
+            "Worked", c, told="answers c.capacity [] (map (feed_pool fed_as) c.calls)", answers="c.answers-are",
+            held="after c.capacity [] (map (feed_pool fed_as) c.calls)", left="map opened_as c.worlds-are"
+        ),
+        "List HandledCase": lambda c: None if same(part(c, "call"), part(c, "is")) else f"{show(part(c, 'call'))}, not {show(part(c, 'is'))}",
+    }
+    for kind, holds in kinds.items():
+        for folder, name in model.tables(kind):
+            for at, case in enumerate(items(model.constant(folder, name))):
+                yield f"{name}, row {at + 1}", lambda case=case, holds=holds: holds(case)
+
+    def value(text):
+        return model.compile(model.modules["Worked"], Reader(text).expression())({})
+
+    many = listed([0xEE] * 92735)
+    apply_measure = lambda n: Con("measure", [Con("deepest", [22]), drop(92735 - n, many)])
+    asked = {
+        "the list for height 22": ("length (deepest_words 22)", "92734"),
+        "a store of a wrong length is not made": ("(make_by true 4 [] []).answer", "refused 1"),
+        "a store of a wrong length is not measured": ("(measure_by true 4 [] (deepest 0) []).answer", "refused 1"),
+        "a store of a wrong length is measured for no list": ("(measure_by true 4 [] (why_full []) []).answer", "refused 1"),
+    }
+    for name, (told, due) in asked.items():
+        yield name, lambda told=told, due=due: None if same(value(told), value(due)) else f"{show(value(told))}, not {due}"
+    for n, due in ((92733, "refused 2"), (92735, "written")):
+
+        def check(n=n, due=due):
+            answer = force(part(apply(model.constant("Pools", "step"), [46367, NIL, apply_measure(n)]), "answer"))
+            if due == "refused 2":
+                return None if same(answer, value("refused 2")) else show(answer)
+            given = force(answer.parts[0])
+            front = append(take(92734, apply(model.constant("Deepest", "deepest_words"), [22])), listed([0xEE]))
+            return None if given.name == "written" and force(given.parts[0]) == 92734 and same(given.parts[1], front) else show(answer)
+
+        yield f"the list for height 22 in a slice of {n} words", check
 
 
 def told_apart(answers, due):
