@@ -1,8 +1,10 @@
 -- The theorems hold (specs/Theorems.antt): each is what the lemma files show of histories, matches, written sets, worlds, cleared maps, fills,
 -- converted sets, mended ones and heights. Assumes nothing.
-use mathlib.Core.Path.{refl, sym}
+use mathlib.Core.Path.{refl, sym, subst}
 use native.Mathlib.Nat.{le_trans}
+use Rattle.model.specs.Call.{why_full}
 use Rattle.store.specs.Settle.{Openable}
+use Rattle.promises.specs.Met.{Measured}
 use Rattle.lockstep.specs.Theorems.{
   Theorem1,
   Theorem1-matches,
@@ -28,6 +30,7 @@ use Rattle.lockstep.specs.Theorems.{
   Deepest-shortest,
   Why-smallest,
   Why-none,
+  Why-exact,
 }
 use Rattle.lockstep.proofs.Following.{follows, new-holds, answered-alike}
 use Rattle.lockstep.proofs.Matches.{matches}
@@ -43,7 +46,7 @@ use Rattle.lockstep.proofs.Filling.{none-held, all_held}
 use Rattle.lockstep.proofs.Converting.{convert-back, convert-then-load, load-converts, old-refused}
 use Rattle.lockstep.proofs.Mending.{right-comes-back, outcome-loads}
 use Rattle.lockstep.proofs.Measuring.{list-long, list-is}
-use Rattle.lockstep.proofs.Stopping.{many-are, rising-are, listed-are, refused-are, fewer-given, none-given}
+use Rattle.lockstep.proofs.Stopping.{many-are, rising-are, listed-are, refused-are, fewer-given, none-given, given-none, due-told, due-short}
 use Rattle.store.proofs.Heights.{world-lower}
 
 pub theorem1 : Theorem1
@@ -120,3 +123,10 @@ why-smallest w ranges out out' n w' d W m =
 
 pub why-none : Why-none
 why-none w ranges out w' m = none-given w ranges out m
+
+pub why-exact : Why-exact
+why-exact w ranges out a w' d h W m = (
+  λ e. none-given w ranges out (subst (λ b. Measured w (why_full ranges) out b w') e m),
+  given-none w ranges out h W m,
+  λ f s. (due-told w ranges out h W m f s d, due-short w ranges out h W m f s d),
+)
