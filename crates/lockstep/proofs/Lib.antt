@@ -4,6 +4,7 @@ pub mod Clearing
 pub mod Converting
 pub mod Mending
 pub mod Measuring
+pub mod Firsts
 pub mod Stopping
 pub mod Filling
 pub mod Empty

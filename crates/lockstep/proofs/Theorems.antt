@@ -1,11 +1,13 @@
 -- The theorems hold (specs/Theorems.antt): each is what the lemma files show of histories, matches, written sets, worlds, cleared maps, fills,
 -- converted sets, mended ones, surveys and heights. Assumes nothing.
-use mathlib.Core.Path.{refl, sym}
+use mathlib.Core.Path.{refl, sym, subst}
 use native.Mathlib.Nat.{le_trans}
+use Rattle.model.specs.Call.{why_full}
 use Rattle.store.specs.Settle.{Openable}
 use Rattle.model.proofs.Cases
 use Rattle.model.proofs.Columns
 use Rattle.lockstep.specs.Tables.{Cases-hold, Columns-back}
+use Rattle.promises.specs.Met.{Measured}
 use Rattle.lockstep.specs.Theorems.{
   Theorem1,
   Theorem1-matches,
@@ -33,6 +35,7 @@ use Rattle.lockstep.specs.Theorems.{
   Survey-parts,
   Why-smallest,
   Why-none,
+  Why-exact,
 }
 use Rattle.lockstep.proofs.Following.{follows, new-holds, answered-alike}
 use Rattle.lockstep.proofs.Matches.{matches}
@@ -48,7 +51,7 @@ use Rattle.lockstep.proofs.Converting.{convert-back, convert-then-load, load-con
 use Rattle.lockstep.proofs.Mending.{right-comes-back, outcome-loads, mend-old-refused}
 use Rattle.lockstep.proofs.Measuring.{list-long, list-is}
 use Rattle.lockstep.proofs.Surveys.{survey-parted}
-use Rattle.lockstep.proofs.Stopping.{many-are, rising-are, listed-are, refused-are, fewer-given, none-given}
+use Rattle.lockstep.proofs.Stopping.{many-are, rising-are, listed-are, refused-are, fewer-given, none-given, given-none, due-told, due-short}
 use Rattle.store.proofs.Heights.{world-lower}
 
 pub theorem1 : Theorem1
@@ -136,6 +139,13 @@ why-smallest w ranges out out' n w' d W m =
 
 pub why-none : Why-none
 why-none w ranges out w' m = none-given w ranges out m
+
+pub why-exact : Why-exact
+why-exact w ranges out a w' d h W m = (
+  λ e. none-given w ranges out (subst (λ b. Measured w (why_full ranges) out b w') e m),
+  given-none w ranges out h W m,
+  λ f s. (due-told w ranges out h W m f s d, due-short w ranges out h W m f s d),
+)
 
 -- ---- of the plain model alone
 pub cases-hold : Cases-hold

@@ -6,4 +6,5 @@ pub mod Surveys
 pub mod Matches
 pub mod Beside
 pub mod Tables
+pub mod Why
 pub mod Theorems

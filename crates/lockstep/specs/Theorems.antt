@@ -14,6 +14,7 @@ use Rattle.model.specs.Positions.{empty, stretches}
 use Rattle.model.specs.Call.{Call, feed, deepest, why_full, PoolCall, Result, done, number, written, mended, Answer, refused, gave}
 use Rattle.model.specs.Model.{serve}
 use Rattle.model.specs.Pools.{world_of, other_claims, empty_worlds, answers, after, alone}
+use Rattle.model.specs.Bytes.{into_front}
 use Rattle.model.specs.Spawning.{Range, ranges_of, sets_of, pick, AllGiven, StopsAt}
 use Rattle.model.specs.Clearing.{clear_map}
 use Rattle.model.specs.Mending.{mended_positions}
@@ -32,6 +33,7 @@ use Rattle.lockstep.specs.Matches.{Match}
 use Rattle.lockstep.specs.Beside.{Beside}
 use Rattle.lockstep.specs.Clearing.{old_reading, WritesMap}
 use Rattle.lockstep.specs.Surveys.{piece, Listed, words_of, Parts}
+use Rattle.lockstep.specs.Why.{ArePlaces}
 
 -- ---- demand 3, and worlds in one pool (document 02, Ticket 3)
 -- Theorem 1: from a new pool, every answer, refusal, and every world's positions, floor and ceiling and the number of worlds after each call are
@@ -243,3 +245,16 @@ Why-smallest =
 -- 16 is given only where no call of the list is refused
 abbrev pub Why-none : Type 0
 Why-none = (w ranges out w' : List ℕ) → Measured w (why_full ranges) out (refused 16) w' → AllGiven (spawned (capacity w) (ranges_of ranges))
+
+-- in words of a pool's length: 16 is given exactly where no call of the list is refused. Where the call at place f is the first refused one, the answer is
+-- the places of the ranges that are first in their runs then, in a slice of C + 1 words or more; in a shorter one it is 2
+abbrev pub Why-exact : Type 0
+Why-exact =
+    (w ranges out : List ℕ) (a : Answer) (w' : List ℕ) (d : Range)
+    → 1 ≤ capacity w → Words ranges → Measured w (why_full ranges) out a w'
+    → (a ≡ refused 16 → AllGiven (spawned (capacity w) (ranges_of ranges)))
+    × (AllGiven (spawned (capacity w) (ranges_of ranges)) → a ≡ refused 16)
+    × ((f : ℕ) → StopsAt f (spawned (capacity w) (ranges_of ranges))
+    → (capacity w + 1 ≤ length out
+    → (ps : List ℕ) × ArePlaces (capacity w) (ranges_of ranges) d f ps × (a ≡ gave (written (capacity w + 1) (into_front ps out))))
+    × (length out < capacity w + 1 → a ≡ refused 2))

@@ -7,7 +7,7 @@ ghost use Rattle.lockstep.specs.Tables.{Cases-hold, Columns-back};
 ghost use Rattle.lockstep.specs.Theorems.{Theorem1, Theorem1-matches, Theorem2, Theorem2-room, Theorem3, Theorem4, Theorem5, Theorem6, Theorem6-lists};
 ghost use Rattle.lockstep.specs.Theorems.{Cleared-reads, Cleared-once, Written-stays, Forms-agree, Fill-none, Fill-full};
 ghost use Rattle.lockstep.specs.Theorems.{Converted-back, Converted-loads, Loads-converts, Old-reader, Mended-right, Mended-loads, Mended-floor};
-ghost use Rattle.lockstep.specs.Theorems.{Survey-parts, Deepest-shortest, Why-smallest, Why-none};
+ghost use Rattle.lockstep.specs.Theorems.{Survey-parts, Deepest-shortest, Why-smallest, Why-none, Why-exact};
 
 /// Whole plays: calls singly and in frames.
 pub fn whole_plays()
@@ -62,6 +62,7 @@ pub fn measures()
     ensures deepest_shortest { Deepest-shortest }
     ensures why_smallest { Why-smallest }
     ensures why_none { Why-none }
+    ensures why_exact { Why-exact }
 {}
 
 /// The plain model alone.

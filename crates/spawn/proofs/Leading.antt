@@ -29,13 +29,13 @@ use Rattle.spawn.proofs.Climbing.{climbing-unique, order-length, order-has, orde
 
 -- ---- an entry in a run
 -- the entry at place j counts, and has a position in the run q
-record Meeting (q : Run) (rs : List Run) (j : ℕ) : Type 0 where
-  counts : Counts rs j
-  low : (entry rs j).start ≤ q.«end»
-  high : q.start ≤ (entry rs j).«end»
+pub record Meeting (q : Run) (rs : List Run) (j : ℕ) : Type 0 where
+  pub counts : Counts rs j
+  pub low : (entry rs j).start ≤ q.«end»
+  pub high : q.start ≤ (entry rs j).«end»
 
 -- one such entry is enough
-meets-some : (q : Run) (rs : List Run) (j : ℕ) → Meeting q rs j → meets q rs ≡ true
+pub meets-some : (q : Run) (rs : List Run) (j : ℕ) → Meeting q rs j → meets q rs ≡ true
 unfolding meets
 meets-some q [] j m = absurd (omega (arith, m.counts.within))
 meets-some q (r ∷ rs) zero m =
@@ -50,7 +50,7 @@ meets-some q (r ∷ rs) (suc j) m =
     ∙ or-true (leb r.start r.«end» && (leb r.start q.«end» && leb q.start r.«end»))
 
 -- without one there is none
-meets-none : (q : Run) (rs : List Run) → ((j : ℕ) → Meeting q rs j → ⊥) → meets q rs ≡ false
+pub meets-none : (q : Run) (rs : List Run) → ((j : ℕ) → Meeting q rs j → ⊥) → meets q rs ≡ false
 unfolding meets
 meets-none q [] f = refl
 meets-none q (r ∷ rs) f =
@@ -69,7 +69,7 @@ meets-none q (r ∷ rs) f =
     go (inr s) (inr l) (inr h) = absurd (f 0 (record { counts = record { within = omega arith; ordered = s }; low = l; high = h }))
 
 -- one of the first p entries of a list is one of the list
-meeting-take : (q : Run) (p : ℕ) (rs : List Run) (j : ℕ) → Meeting q (take p rs) j → (j < p) × Meeting q rs j
+pub meeting-take : (q : Run) (p : ℕ) (rs : List Run) (j : ℕ) → Meeting q (take p rs) j → (j < p) × Meeting q rs j
 meeting-take q p rs j m =
     let l : j < p = omega (arith, m.counts.within, length-take p rs) in
     let e : entry (take p rs) j ≡ entry rs j = get_or-take p rs j (run 0 0) l in (
@@ -82,7 +82,7 @@ meeting-take q p rs j m =
     )
 
 -- and the other way
-take-meeting : (q : Run) (p : ℕ) (rs : List Run) (j : ℕ) → j < p → Meeting q rs j → Meeting q (take p rs) j
+pub take-meeting : (q : Run) (p : ℕ) (rs : List Run) (j : ℕ) → j < p → Meeting q rs j → Meeting q (take p rs) j
 take-meeting q p rs j l m =
     let e : entry rs j ≡ entry (take p rs) j = sym (get_or-take p rs j (run 0 0) l) in
     record {
@@ -180,7 +180,8 @@ places-climbing es k (r ∷ rs) = go (leads es k r) (places-climbing es (suc k) 
     go false c = lower k (places_from es (suc k) rs) c
 
 -- each of them leads
-places-only : (es : List Run) (k : ℕ) (rs : List Run) (p : ℕ) → In p (places_from es k rs) → (j : ℕ) × (j < length rs) × (k + j ≡ p) × (leads es p (entry rs j) ≡ true)
+pub places-only : (es : List Run) (k : ℕ) (rs : List Run) (p : ℕ) → In p (places_from es k rs)
+    → (j : ℕ) × (j < length rs) × (k + j ≡ p) × (leads es p (entry rs j) ≡ true)
 unfolding places_from
 places-only es k [] p m = absurd (in-none p m)
 places-only es k (r ∷ rs) p m = go (leads es k r) refl m (places-only es (suc k) rs p)
@@ -201,7 +202,8 @@ places-only es k (r ∷ rs) p m = go (leads es k r) refl m (places-only es (suc 
     go false e m f = later (f m)
 
 -- and each that leads is one of them
-places-all : (es : List Run) (k : ℕ) (rs : List Run) (j : ℕ) → j < length rs → leads es (k + j) (entry rs j) ≡ true → In (k + j) (places_from es k rs)
+pub places-all : (es : List Run) (k : ℕ) (rs : List Run) (j : ℕ) → j < length rs
+    → leads es (k + j) (entry rs j) ≡ true → In (k + j) (places_from es k rs)
 unfolding places_from
 places-all es k [] j l e = absurd (omega arith)
 places-all es k (r ∷ rs) zero l e =

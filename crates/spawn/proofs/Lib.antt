@@ -6,6 +6,7 @@ pub mod Ranges
 pub mod Leading
 pub mod Sublists
 pub mod Ordering
+pub mod Foremost
 pub mod Handing
 pub mod Calls
 pub mod Answering

@@ -1,4 +1,4 @@
-use Rattle.lockstep.proofs.Theorems.{deepest-shortest, why-smallest, why-none}
+use Rattle.lockstep.proofs.Theorems.{deepest-shortest, why-smallest, why-none, why-exact}
 use Rattle.lockstep.proofs.measures.Goals as goal
 
 pub returns : goal.returns
@@ -6,4 +6,5 @@ returns c = record {
   deepest_shortest = deepest-shortest;
   why_smallest = why-smallest;
   why_none = why-none;
+  why_exact = why-exact;
 }
