@@ -81,7 +81,7 @@ pub shift-unrefused : Shift-unrefused
 shift-unrefused d left w w' i a S l m = shift-done d left (readable (record { sound = S; named = l })) m
 
 pub unrefused-shifted : Unrefused-shifted
-unrefused-shifted op d left s t s' t' w w₁ v v₁ i a b c B e m k = still-unrefused op d left m B e k
+unrefused-shifted op d left s t s₁ t₁ s' t' w w₁ v v₁ i a b c f g B e m k = still-unrefused op d left m f g B e k
 
 pub converse-fails : Converse-fails
 converse-fails u u₁ u₂ u₃ v v₁ v₂ v₃ w w₁ w₂ w₃ a b c d e f g h k eu mu su tu ev mv sv tv ew mw x y = other_way eu mu su tu ev mv sv tv ew mw x y

@@ -1,16 +1,20 @@
 -- Two worlds that are each shifted once, in place or into copies: both hold then what they held, shifted, also where they are worlds of one pool, or one
 -- world. So a shift passes through AND, OR and XOR, and what was not refused is not refused of the shifted sets. Assumes nothing.
+use Rattle.std.specs.Prelude.{Ok}
 use Prim.Native.Nat.{ℕ, ◌≤◌}
-use mathlib.Core.Path.{◌≡◌, sym, ap, ap₂, ◌∙◌, subst, subst₂}
+use mathlib.Core.Path.{◌≡◌, refl, sym, ap, ap₂, ◌∙◌, subst, subst₂}
 use mathlib.Core.Logic.{◌⊎◌, inl, inr}
 use mathlib.Core.Bool.{Bool}
 use mathlib.Core.List.{List}
 use native.Mathlib.Nat.{le_trans}
 use Rattle.model.specs.declared.Operation.{Operation}
 use Rattle.model.specs.Positions.{stretches, combined}
-use Rattle.model.specs.Call.{Call, done, Answer, gave}
+use Rattle.model.specs.Refusals.{looks, first_given}
+use Rattle.model.specs.Call.{holding, Call, done, Answer, gave}
+use Rattle.model.specs.Model.{reads}
 use Rattle.store.specs.Layout.{allowance, held_by}
-use Rattle.promises.specs.Met.{Site, site, Readable, Met}
+use Rattle.promises.specs.Met.{Site, site, fed_at, Readable, Met}
+use Rattle.interval_bit_set.proofs.Looking.{looked-sound}
 use Rattle.laws.specs.Pairs.{Did, holds, SameLeft, BothShift, two_pools, one_pool, one_pool_turned, one_world, BothShifted, into_pools, into_pool, into_pool_turned, into_world}
 use Rattle.laws.specs.Pairs.{Shifts}
 use Rattle.laws.proofs.Moving.{moved, moved-few}
@@ -113,6 +117,18 @@ module _ (d : ℕ) (left : Bool) where
       record { first_holds = (shifted-gets d left s n).held; second_holds = copy-kept (λ e. ne (sym e)) m n }
   both-copied (into_world {s = s} m) = let e = (shifted-gets d left s m).held in record { first_holds = e; second_holds = e }
 
+-- ---- a set elsewhere
+-- where it is fed as one that can be read is, it can be read, and holds the same
+record Alike (s s₁ : Site) : Type 0 where
+  can_read : Readable s₁.words s₁.world
+  holds_it : holds s₁ ≡ holds s
+
+fed-alike : {s s₁ : Site} → Readable s.words s.world → fed_at s₁ ≡ fed_at s → Alike s s₁
+fed-alike {s} {s₁} R f =
+    let e : fed_at s₁ ≡ holding (holds s) = f ∙ R.fed in
+    let S : Readable s₁.words s₁.world = looked-sound {T = Unit {0}} (Ok tt) (sym (ap (λ x. first_given looks (reads x)) e)) refl in
+    record { can_read = S; holds_it = cc (S.fed, e) }
+
 -- ---- AND, OR and XOR of them
 module _ (op : Operation) (d : ℕ) (left : Bool) {s t s' t' : Site} where
   -- is that of the two, shifted
@@ -134,13 +150,18 @@ module _ (op : Operation) (d : ℕ) (left : Bool) {s t s' t' : Site} where
 
   -- it has no more runs, so it is not refused where that of the two was not, into the world as it was or as it became, whatever worlds of its pool were
   -- shifted in place since
-  pub still-unrefused : {w w₁ v v₁ : List ℕ} {i : ℕ} {a b c : Answer} → Did w i (Call.combine op s t) w₁ → BothShift d left a b s t s' t'
+  pub still-unrefused : {s₁ t₁ : Site} {w w₁ v v₁ : List ℕ} {i : ℕ} {a b c : Answer} → Did w i (Call.combine op s t) w₁
+      → fed_at s₁ ≡ fed_at s → fed_at t₁ ≡ fed_at t → BothShift d left a b s₁ t₁ s' t'
       → Shifts w v ⊎ Shifts w₁ v → Met v i (Call.combine op s' t') c v₁ → (a ≡ gave done) × (b ≡ gave done) × (c ≡ gave done)
-  still-unrefused {w} {w₁} {v} {v₁} {i} {c = c} m B where_to k =
-      let e = both-done d left B (record { first_read = combine-first op s t m; second-read = combine-second op s t m }) in
-      let B' : BothShift d left (gave done) (gave done) s t s' t' = subst₂ (λ x y. BothShift d left x y s t s' t') e.0 e.1 B in
+  still-unrefused {s₁} {t₁} {w} {w₁} {v} {v₁} {i} {c = c} m f g B where_to k =
+      let S = fed-alike {s = s} {s₁ = s₁} (combine-first op s t m) f in
+      let T = fed-alike {s = t} {s₁ = t₁} (combine-second op s t m) g in
+      let e = both-done d left B (record { first_read = S.can_read; second-read = T.can_read }) in
+      let B' : BothShift d left (gave done) (gave done) s₁ t₁ s' t' = subst₂ (λ x y. BothShift d left x y s₁ t₁ s' t') e.0 e.1 B in
+      let M = both-moved d left B' in
       let few : stretches (combined op (holds s') (holds t')) ≤ allowance w i =
-      subst (λ P. stretches P ≤ allowance w i) (sym (join-moved (both-moved d left B')))
+      subst (λ P. stretches P ≤ allowance w i)
+      (sym (join-moved (record { first_holds = M.first_holds ∙ ap (moved d left) S.holds_it; second_holds = M.second_holds ∙ ap (moved d left) T.holds_it })))
       (le_trans (moved-few d left (combined op (holds s) (holds t))) (combine-fits op s t m)) in
       (e.0, e.1, go (both-readable d left B') few where_to)
     where

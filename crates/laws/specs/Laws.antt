@@ -12,7 +12,7 @@ use Rattle.model.specs.Positions.{empty}
 use Rattle.model.specs.Call.{Call, done, number, tallied, Answer, refused, gave}
 use Rattle.store.specs.Layout.{capacity, opened_at, held_by, worlds_of}
 use Rattle.store.specs.Soundness.{Sound}
-use Rattle.promises.specs.Met.{Site, site, Met, Made}
+use Rattle.promises.specs.Met.{Site, site, fed_at, Met, Made}
 use Rattle.laws.specs.Pairs.{Did, holds, SameLeft, BothShift, BothShifted, Shifts}
 
 -- ---- counts
@@ -116,12 +116,13 @@ abbrev pub Shift-unrefused : Type 0
 Shift-unrefused = (d : ℕ) (left : Bool) (w w' : List ℕ) (i : ℕ) (a : Answer) → Sound w → i < opened_at w → Met w i (Call.shift d left) a w' → a ≡ gave done
 
 -- if AND, OR or XOR into a world is not refused, neither are the shifts in place of the two sets, nor then the same of the shifted ones into that world, as
--- it was before the first call or as that left it. Its pool may be lent apart, be one of the pools whose worlds were shifted, or hold the two sets itself: a
--- call that reads its own pool reads a copy of it, made before the call
+-- it was before the first call or as that left it. The sets are shifted where they were read, or anywhere else where they are the same. The receiver's
+-- pool may be lent apart, be one of the pools whose worlds were shifted, or hold the two sets itself: a call that reads its own pool reads a copy of it,
+-- made before the call
 abbrev pub Unrefused-shifted : Type 0
 Unrefused-shifted =
-    (op : Operation) (d : ℕ) (left : Bool) (s t s' t' : Site) (w w₁ v v₁ : List ℕ) (i : ℕ) (a b c : Answer)
-    → BothShift d left a b s t s' t' → Shifts w v ⊎ Shifts w₁ v
+    (op : Operation) (d : ℕ) (left : Bool) (s t s₁ t₁ s' t' : Site) (w w₁ v v₁ : List ℕ) (i : ℕ) (a b c : Answer)
+    → fed_at s₁ ≡ fed_at s → fed_at t₁ ≡ fed_at t → BothShift d left a b s₁ t₁ s' t' → Shifts w v ⊎ Shifts w₁ v
     → Did w i (Call.combine op s t) w₁ → Met v i (Call.combine op s' t') c v₁
     → (a ≡ gave done) × (b ≡ gave done) × (c ≡ gave done)
 
