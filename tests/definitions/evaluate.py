@@ -359,6 +359,8 @@ OPERATORS = {  # how tightly it binds, whether it goes to the right, and what it
     "∷": (50, True, cons),
     "++": (50, True, append),
     "when": (60, False, lambda a, b: Record({"cause": a, "holds": b})),
+    "gives": (60, False, lambda a, b: Record({"call": a, "answer": Con("gave", [b])})),
+    "earns": (60, False, lambda a, b: Record({"call": a, "answer": Con("refused", [b])})),
     "+": (70, False, plus),
     "-": (70, False, minus),
     "*": (80, False, lambda a, b: number(a) * number(b)),
@@ -535,7 +537,7 @@ class Module:
             name = head.split()[0]
             if "◌" in name or self.defined.get(name, 0) is None:
                 return
-            if name not in self.defined and head.split()[1] == "when":
+            if name not in self.defined and head.split()[1] in OPERATORS:
                 return
             left, right = re.split(r"\s=(?=\s)", text, maxsplit=1)
             reader = Reader(left)
@@ -638,6 +640,18 @@ class Model:
                 return native(*args) if type(n) is int and n > SHORT else call(*args)
 
             made = Function(arity, chosen)
+        elif arity == 1:
+            told = {}
+
+            def once(arg):
+                arg = force(arg)
+                if type(arg) is not int:
+                    return call(arg)
+                if arg not in told:
+                    told[arg] = force(call(arg))
+                return told[arg]
+
+            made = Function(1, once)
         else:
             made = Function(arity, call)
         self.made[key] = made
