@@ -523,11 +523,11 @@ class Module:
                 if it:
                     name, _, other = it.partition(" as ")
                     self.imports[other or name] = (m[1], source, name)
-        elif head.startswith(("pub data", "data")):
+        elif head.startswith(("pub data ", "data ")):
             for line in text.split("\n")[1:]:
                 if " : " in line:
                     self.constructors |= set(line.split(" : ")[0].split())
-        elif head.startswith(("pub record", "record", "infix", "module", "open", "pub mod")):
+        elif head.startswith(("pub record ", "record ", "infix ", "module ", "open ", "pub mod ")):
             pass
         elif m := re.match(r"(?:abbrev |unfoldable )?(?:pub )?(\S+) :(?= |\n)(.*)", head, re.S):
             result = re.split(r"→", m[2])[-1].strip()
