@@ -1,6 +1,6 @@
--- A whole play goes along with the plain model, move by move, from a new pool on. So what is heard and the worlds after each move are told
--- by the worlds before and the moves as the model is fed them, and two pools that hold the same worlds play on alike.
--- Assumes nothing.
+-- A whole play goes along with the plain model, move by move, from a new pool on. So what is heard and the worlds after
+-- each move are told by the worlds before and the moves as the model is fed them, and two pools that hold the same worlds
+-- play on alike. Assumes nothing.
 use Prim.Native.Nat.{ℕ}
 use mathlib.Core.Path.{◌≡◌, refl, sym, ap, ap₂, ◌∙◌}
 use mathlib.Core.List.{List, [], ◌∷◌, map}
