@@ -29,7 +29,8 @@ use Rattle.store.specs.Layout.{held_by, worlds_of}
 use Rattle.promises.specs.Met.{fed_of, full_at, outcome_of, Leaves, Met}
 use Rattle.promises.specs.Handles.{Handles}
 use Rattle.promises.proofs.Putting.{take-front}
-use Rattle.lockstep.specs.History.{WritesSet, Loads}
+use Rattle.lockstep.specs.Determinism.{Loads}
+use Rattle.lockstep.specs.Theorems.{WritesSet}
 use Rattle.lockstep.proofs.Forms.{met-alike}
 use Rattle.lockstep.proofs.Writing.{written_is}
 use Rattle.lockstep.proofs.Loading.{loaded-accepted}

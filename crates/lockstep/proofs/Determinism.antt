@@ -22,14 +22,13 @@ use Rattle.store.proofs.WorldLists.{opened-world, unopened-world}
 use Rattle.promises.specs.Met.{Site}
 use Rattle.promises.proofs.Putting.{take-front}
 use Rattle.promises.proofs.Simulation.{Holds}
-use Rattle.lockstep.specs.History.{left, WritesSet, Loads}
-use Rattle.lockstep.specs.Plays.{nothing, single, Move, fed, heard_as, met, rest, move, worlds_after}
-use Rattle.lockstep.specs.Determinism.{WriteAlike, MayWrite, Writes, Writable, Determinism}
-use Rattle.lockstep.proofs.Following.{new-holds}
+use Rattle.lockstep.specs.Plays.{nothing, single, Move, fed, heard_as, met, rest, move, left, worlds_after}
+use Rattle.lockstep.specs.Determinism.{WriteAlike, Loads, MayWrite, Writes, Writable, Determinism}
+use Rattle.lockstep.specs.Theorems.{WritesSet}
 use Rattle.lockstep.proofs.Writing.{bytes_of, written-met, fills, as-set, writer-readable, written_is, written-alike}
 use Rattle.lockstep.proofs.Loading.{writer-loads}
 use Rattle.lockstep.proofs.Reloading.{reloaded, reloaded-long}
-use Rattle.lockstep.proofs.Plays.{goes-along, left-after, play-alike}
+use Rattle.lockstep.proofs.Plays.{new-holds, goes-along, left-after, play-alike}
 
 -- ---- the worlds of a pool that holds the model's
 -- a world that the model has was opened, and holds the model's positions

@@ -1,5 +1,4 @@
 -- The lemmas, and the theorems.
-pub mod Matches
 pub mod Clearing
 pub mod Converting
 pub mod Mending
@@ -7,8 +6,6 @@ pub mod Measuring
 pub mod Firsts
 pub mod Stopping
 pub mod Filling
-pub mod Empty
-pub mod Following
 pub mod Loading
 pub mod Lone
 pub mod Reloading

@@ -20,8 +20,8 @@ use Rattle.promises.proofs.Meeting.{readable, met_by, settled_same, settled-as}
 use Rattle.promises.proofs.Changing.{fits-few}
 use Rattle.promises.proofs.Served.{unrefused}
 use Rattle.interval_bit_set.proofs.Looking.{looked-sound}
-use Rattle.lockstep.specs.History.{WritesSet, Loads, Writable}
-use Rattle.lockstep.proofs.Following.{played-holds}
+use Rattle.lockstep.specs.Determinism.{Loads}
+use Rattle.lockstep.specs.Theorems.{WritesSet}
 use Rattle.lockstep.proofs.Writing.{bytes_of, unearned, few-all, writer-readable, written_is}
 
 -- ---- accepted bytes
@@ -77,7 +77,3 @@ writer-loads {C} {w} {i} {e} c W =
     let o = (writer-readable W).openable in
     subst (Loads C) (sym (written_is W))
     (record { pool = w; world = i; sized = c; after = w; met = load-met o (bytes-accepted e o) (bytes-settled e o) })
-
--- also one that a history left
-pub writable-loads : {C : ℕ} {bs : List ℕ} → Writable C bs → Loads C bs
-writable-loads W = writer-loads (played-holds W.played).sized W.writes

@@ -31,7 +31,7 @@ use Rattle.promises.proofs.Putting.{take-front}
 use Rattle.promises.proofs.Served.{unrefused}
 use Rattle.sets.proofs.Mending.{allowed-most, conditions}
 use Rattle.interval_bit_set.proofs.Looking.{looked-sound}
-use Rattle.lockstep.specs.History.{Loads}
+use Rattle.lockstep.specs.Determinism.{Loads}
 use Rattle.lockstep.proofs.Forms.{met-alike}
 use Rattle.lockstep.proofs.Loading.{load-met, loaded-accepted}
 use Rattle.lockstep.proofs.Writing.{unearned}

@@ -1,7 +1,7 @@
 -- One move goes along with the plain model where the pool holds the model's worlds: it is heard as the model says,
--- leaves the model's worlds and what the model leaves of what was lent, and refused it changes nothing. A single call
--- is a step (`stepped-holds`); what it was lent is a part of its answer, and a refusal leaves it by its own promise. A
--- frame earns no 1 and no 7, since the pool is sound. Assumes nothing.
+-- leaves the model's worlds and what the model leaves of what was lent, and refused it changes nothing. What a single
+-- call was lent is a part of its answer, and a refusal leaves it by its own promise. A frame earns no 1 and no 7, since
+-- the pool is sound. Assumes nothing.
 use Rattle.std.specs.Prelude.{Option, None, Some, Ok, Err}
 use Prim.Native.Nat.{ℕ}
 use mathlib.Core.Path.{◌≡◌, refl, sym, ap, ap₂, ◌∙◌, subst}
@@ -35,19 +35,26 @@ use Rattle.model.specs.Call.{
   refused,
   gave,
 }
-use Rattle.model.specs.Pools.{PlainWorld, answers, after}
+use Rattle.model.specs.Pools.{PlainWorld, step, answers, after}
 use Rattle.store.specs.Layout.{capacity_of, capacity, worlds_of}
 use Rattle.store.specs.Free.{Pooled}
 use Rattle.soundness.proofs.Whole.{sound_b-no}
-use Rattle.promises.specs.Met.{Site, fed_at, outcome_of, Leaves, MakeLeaves}
+use Rattle.promises.specs.Met.{Site, fed_at, outcome_of, Leaves, Met, MakeLeaves, Made, Measured}
 use Rattle.promises.specs.Out.{Unwritten, Unmended}
 use Rattle.promises.proofs.Meeting.{refused-not}
-use Rattle.promises.proofs.Simulation.{Holds}
+use Rattle.promises.proofs.Simulation.{
+  Holds,
+  answer-is,
+  step-holds,
+  made-answer,
+  made_holds,
+  measured-answer,
+  measured-holds,
+}
 use Rattle.interval_bit_set.specs.Lent.{item_answer, Unmoved}
 use Rattle.frame.specs.Frame
 use Rattle.frame.specs.Frame.{FrameOutcome, settle_frame, frame_of, FrameLeaves, Framed}
 use Rattle.frame.specs.Records.{calls_of, records_of}
-use Rattle.lockstep.specs.History.{Stepped}
 use Rattle.lockstep.specs.Plays.{
   Lent,
   nothing,
@@ -75,7 +82,6 @@ use Rattle.lockstep.specs.Plays.{
   move_outcome,
   IsAsTold,
 }
-use Rattle.lockstep.proofs.Following.{stepped-answer, stepped-holds}
 
 -- what a move keeps: it is as the model says, and the pool goes on to hold the model's worlds
 pub record Went (C : ℕ) (o : MoveOutcome) (w : List ℕ) (m : Move Site) (h : Heard) (w' : List ℕ) : Type 0 where
@@ -116,6 +122,26 @@ mended-left (Err r) out out' report report' u = ap₂ slices u.0 u.1
 mended-left (Ok m) out out' report report' u = refl
 
 -- ---- a single call
+-- the call c on the words w answered a and left w', as it promises
+abbrev Stepped : List ℕ → PoolCall Site → Answer → List ℕ → Type 0
+Stepped w (make ls) a w' = Made w ls a w'
+Stepped w (measure q out) a w' = Measured w q out a w'
+Stepped w (at i c) a w' = Met w i c a w'
+
+-- it answers as the model does
+stepped-answer : {C : ℕ} {vs : List PlainWorld} {w : List ℕ} (w' : List ℕ) (a : Answer) (c : PoolCall Site)
+    → Holds C vs w → Stepped w c a w' → a ≡ (step C vs (feed_pool fed_at c)).answer
+stepped-answer w' a (make ls) H m = made-answer H m
+stepped-answer w' a (measure q out) H m = measured-answer H m
+stepped-answer w' a (at i c) H m = answer-is H m
+
+-- and leaves the model's worlds
+stepped-holds : {C : ℕ} {vs : List PlainWorld} {w : List ℕ} (w' : List ℕ) (a : Answer) (c : PoolCall Site)
+    → Holds C vs w → Stepped w c a w' → Holds C (step C vs (feed_pool fed_at c)).worlds w'
+stepped-holds w' a (make ls) H m = made_holds H m
+stepped-holds w' a (measure q out) H m = measured-holds H m
+stepped-holds w' a (at i c) H m = step-holds H m
+
 -- refused, it leaves the words
 stepped-refused : {w w' : List ℕ} {a : Answer} {n : ℕ} (c : PoolCall Site)
     → Stepped w c a w' → a ≡ refused n → w' ≡ w

@@ -1,21 +1,28 @@
--- A whole play goes along with the plain model, move by move. So what is heard and the worlds after each move are told
--- by the worlds before and the moves as the model is fed them, and two pools that hold the same worlds play on alike.
--- Assumes nothing.
+-- A whole play goes along with the plain model, move by move, from a new pool on. So what is heard and the worlds after
+-- each move are told by the worlds before and the moves as the model is fed them, and two pools that hold the same worlds
+-- play on alike. Assumes nothing.
 use Prim.Native.Nat.{ℕ}
 use mathlib.Core.Path.{◌≡◌, refl, sym, ap, ap₂, ◌∙◌}
 use mathlib.Core.List.{List, [], ◌∷◌, map}
-use Rattle.model.specs.Pools.{PlainWorld}
-use Rattle.store.specs.Layout.{worlds_of}
+use Rattle.model.specs.declared.Limits.{Limits}
+use Rattle.model.specs.Call.{Fed}
+use Rattle.model.specs.Pools.{PlainWorld, empty_worlds}
+use Rattle.store.specs.Layout.{capacity_of, worlds_of}
 use Rattle.promises.specs.Met.{Site}
 use Rattle.promises.proofs.Simulation.{Holds}
-use Rattle.lockstep.specs.History.{left}
-use Rattle.lockstep.specs.Plays.{Move, feed_move, fed, Heard, rest, move, Plays}
+use Rattle.lockstep.specs.Plays.{Move, feed_move, fed, Heard, New, rest, move, Plays, left}
 use Rattle.lockstep.specs.Plays.{move_outcome, worlds_after, over, next, Follows}
-use Rattle.model.specs.Call.{Fed}
 use Rattle.lockstep.specs.Determinism.{PlayAlike}
 use Rattle.lockstep.proofs.Moves.{went}
 
 -- ---- a play from a pool that holds the model's worlds
+-- a new one holds empty ones
+pub new-holds : {C : ℕ} {ls : List Limits} {w : List ℕ} → New C ls w → Holds C (empty_worlds ls) w
+new-holds N =
+    let E = N.made.left in
+    record { sound = E.sound; sized = ap capacity_of E.long ∙ N.sized; held = E.worlds }
+
+-- each move goes along
 pub goes-along :
     {C : ℕ} {vs : List PlainWorld} {w : List ℕ} {ms : List (Move Site)} {hs : List Heard} {ws : List (List ℕ)}
     → Holds C vs w → Plays w ms hs ws → Follows C vs w ms hs ws

@@ -1,7 +1,7 @@
 -- What loads can be written: the pool that loaded it, with every other world emptied, is what loading leaves in the same pool with all worlds
 -- empty, and that is a new pool with these limits. Assumes nothing.
 use Prim.Native.Nat.{ℕ, zero, suc, ◌+◌, ◌≤◌, ◌<◌}
-use mathlib.Core.Path.{◌≡◌, refl, sym, ap, ap₂, ◌∙◌, subst}
+use mathlib.Core.Path.{◌≡◌, refl, sym, ap, ap₂, ◌∙◌}
 use mathlib.Core.Bool.{Bool, false, ◌||◌}
 use mathlib.Core.List.{List, [], ◌∷◌}
 use native.Mathlib.Omega.{arith}
@@ -14,7 +14,7 @@ use Rattle.model.specs.Positions.{Positions, empty, mem, bounded, stretches}
 use Rattle.model.specs.Bytes.{edition_of, decode}
 use Rattle.model.specs.RunList.{AllBytes}
 use Rattle.model.specs.Refusals.{floors, crossed, bad_limits, too_many}
-use Rattle.model.specs.Call.{Call, at, done, gave}
+use Rattle.model.specs.Call.{Call, done, gave}
 use Rattle.model.specs.Pools.{PlainWorld, claims, other_claims, exceeds, full, empty_worlds}
 use Rattle.model.proofs.Pools.{holding-here}
 use Rattle.model.proofs.Runs.{stretches-cong}
@@ -30,8 +30,9 @@ use Rattle.promises.proofs.Changing.{fits-few, bounded-is}
 use Rattle.promises.proofs.Meeting.{make-done}
 use Rattle.promises.proofs.Served.{bounded-ends}
 use Rattle.promises.proofs.Simulation.{same-positions, worlds-after}
-use Rattle.lockstep.specs.History.{rest, call, New, WritesSet, Loads, Writable}
-use Rattle.lockstep.proofs.Writing.{bytes_of, writes}
+use Rattle.lockstep.specs.Plays.{New}
+use Rattle.lockstep.specs.Determinism.{Loads}
+use Rattle.lockstep.proofs.Writing.{bytes_of}
 use Rattle.lockstep.proofs.Loading.{load-met, loaded-readable, loaded-accepted, loaded-settled}
 use Rattle.lockstep.proofs.Neighbours.{holding-others}
 use Rattle.lockstep.proofs.Lone.{Lone, lone, cleaned, settled-empty}
@@ -186,25 +187,3 @@ reloaded {C} {bs} b L =
 pub reloaded-long : {C : ℕ} {bs : List ℕ} (R : Reloaded C bs)
     → length (bytes_of (edition_of bs) (held_by R.pool R.world)) ≤ length bs
 reloaded-long R = omega (arith, ap length R.written)
-
-pub loads-writable : {C : ℕ} {bs : List ℕ} → AllBytes bs → Loads C bs → Writable C bs
-loads-writable {C} {bs} b L =
-    let R = reloaded b L in
-    record {
-      limits = R.limits;
-      calls = at R.world (Call.load bs) ∷ [];
-      pool = R.pool;
-      world = R.world;
-      edition = edition_of bs;
-      played = record {
-        first = R.first;
-        new = R.new;
-        answers = gave done ∷ [];
-        states = R.pool ∷ [];
-        history = call (at R.world (Call.load bs)) R.met rest;
-        now = refl;
-      };
-      writes =
-          subst (WritesSet R.pool R.world (edition_of bs)) R.written
-          (writes R.openable (edition_of bs) bs (reloaded-long R));
-    }

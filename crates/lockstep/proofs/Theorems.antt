@@ -1,5 +1,5 @@
--- The theorems hold (specs/Theorems.antt): each is what the lemma files show of histories, matches, written sets, worlds, cleared maps, fills,
--- converted sets, mended ones, surveys and heights. Assumes nothing.
+-- The theorems hold (specs/Theorems.antt): each is what the lemma files show of plays, written sets, worlds, cleared
+-- maps, fills, converted sets, mended ones, surveys and heights. Assumes nothing.
 use mathlib.Core.Path.{refl, sym, subst}
 use native.Mathlib.Nat.{le_trans}
 use Rattle.model.specs.Call.{why_full}
@@ -9,15 +9,12 @@ use Rattle.model.proofs.Columns
 use Rattle.lockstep.specs.Tables.{Cases-hold, Columns-back}
 use Rattle.promises.specs.Met.{Measured}
 use Rattle.lockstep.specs.Theorems.{
-  Theorem1,
-  Theorem1-matches,
-  Theorem2,
-  Theorem2-room,
-  Theorem3,
-  Theorem4,
-  Theorem5,
-  Theorem6,
-  Theorem6-lists,
+  Equal-bytes,
+  Room-suffices,
+  Equal-pools,
+  Floor-reached,
+  Sum-alone,
+  Sum-alone-lists,
   Cleared-reads,
   Cleared-once,
   Written-stays,
@@ -37,11 +34,8 @@ use Rattle.lockstep.specs.Theorems.{
   Why-none,
   Why-exact,
 }
-use Rattle.lockstep.proofs.Following.{follows, new-holds, answered-alike}
-use Rattle.lockstep.proofs.Matches.{matches}
 use Rattle.lockstep.proofs.Writing.{bytes-few, written_all, written-alike}
-use Rattle.lockstep.proofs.Loading.{writable-loads}
-use Rattle.lockstep.proofs.Reloading.{loads-writable}
+use Rattle.lockstep.proofs.Plays.{play-alike}
 use Rattle.lockstep.proofs.Floors.{reaches-floor, mend-reaches-floor}
 use Rattle.lockstep.proofs.Neighbours.{alike, all-alike}
 use Rattle.lockstep.proofs.Forms.{met-alike, writes-alike}
@@ -54,34 +48,27 @@ use Rattle.lockstep.proofs.Surveys.{survey-parted}
 use Rattle.lockstep.proofs.Stopping.{many-are, rising-are, listed-are, refused-are, fewer-given, none-given, given-none, due-told, due-short}
 use Rattle.store.proofs.Heights.{world-lower}
 
-pub theorem1 : Theorem1
-theorem1 C ls w cs rs vs N h = follows (new-holds N) h
+pub equal-bytes : Equal-bytes
+equal-bytes e w i v j bs cs W X = written-alike W X
 
-pub theorem1-matches : Theorem1-matches
-theorem1-matches C ls w w' cs rs N h = matches N h
+pub room-suffices : Room-suffices
+room-suffices w i e out v a S l h m =
+    let o : Openable w i = record { sound = S; named = l } in
+    (_, _, written_all o e (le_trans (bytes-few o e) h) m)
 
-pub theorem2 : Theorem2
-theorem2 e w i v j bs cs W X = written-alike W X
+pub equal-pools : Equal-pools
+equal-pools w v S T e f =
+    play-alike (record { sound = S; sized = refl; held = refl }) (record { sound = T; sized = sym e; held = sym f })
 
-pub theorem2-room : Theorem2-room
-theorem2-room w i e out v a S l h m = let o : Openable w i = record { sound = S; named = l } in (_, _, written_all o e (le_trans (bytes-few o e) h) m)
+pub floor-reached : Floor-reached
+floor-reached w i c a w' r S l m d h e = reaches-floor S i l m d h e
 
-pub theorem3 : Theorem3
-theorem3 w v cs ds rs qs ws vs S T e f d h k =
-    answered-alike (record { sound = S; sized = refl; held = refl }) (record { sound = T; sized = sym e; held = sym f }) d h k
-
-pub theorem4 : Theorem4
-theorem4 C bs b = (loads-writable b, writable-loads)
-
-pub theorem5 : Theorem5
-theorem5 w i c a w' r S l m d h e = reaches-floor S i l m d h e
-
-pub theorem6 : Theorem6
-theorem6 w v i c d a b w' v' S T e f g k m n =
+pub sum-alone : Sum-alone
+sum-alone w v i c d a b w' v' S T e f g k m n =
     alike i (record { sound = S; sized = refl; held = refl }) (record { sound = T; sized = sym e; held = refl }) f g k m n
 
-pub theorem6-lists : Theorem6-lists
-theorem6-lists w v i rs qs w' v' S T e f g B =
+pub sum-alone-lists : Sum-alone-lists
+sum-alone-lists w v i rs qs w' v' S T e f g B =
     all-alike (record { sound = S; sized = refl; held = refl }) (record { sound = T; sized = sym e; held = refl }) f g B
 
 pub cleared-reads : Cleared-reads

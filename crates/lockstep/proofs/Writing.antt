@@ -30,7 +30,7 @@ use Rattle.promises.proofs.Putting.{take-front}
 use Rattle.promises.proofs.Served.{unrefused}
 use Rattle.promises.proofs.Simulation.{same-positions}
 use Rattle.interval_bit_set.proofs.Looking.{looked-sound}
-use Rattle.lockstep.specs.History.{WritesSet}
+use Rattle.lockstep.specs.Theorems.{WritesSet}
 
 -- the bytes of a set of positions, in an edition
 abbrev pub bytes_of : Edition → Positions → List ℕ
@@ -140,17 +140,6 @@ module _ {w : List ℕ} {i : ℕ} (o : Openable w i) where
     pub written-met : (out : List ℕ) → let bs = bytes_of e (held_by w i) in
         length bs ≤ length out → Met w i (Call.write_set e out) (gave (written (length bs) (into_front bs out))) w
     written-met out h = met_by _ (wrote out h) (settled_same o.sound)
-
-    -- which writes them as a set
-    pub writes : (out : List ℕ) → length (bytes_of e (held_by w i)) ≤ length out → WritesSet w i e (bytes_of e (held_by w i))
-    writes out h = record {
-      out = out;
-      count = length (bytes_of e (held_by w i));
-      slice = into_front (bytes_of e (held_by w i)) out;
-      after = w;
-      met = written-met out h;
-      bytes = sym (take-front (bytes_of e (held_by w i)) out);
-    }
 
 -- ---- two worlds write the same set in one edition exactly when they hold the same
 pub written-alike : {e : Edition} {w v : List ℕ} {i j : ℕ} {bs cs : List ℕ} → WritesSet w i e bs → WritesSet v j e cs

@@ -6,13 +6,12 @@ use Rattle.model.specs.declared.Edition.{Edition}
 use Rattle.model.specs.Answers.{OrRefusal}
 use Rattle.model.specs.Positions.{Positions}
 use Rattle.model.specs.RunList.{AllBytes}
-use Rattle.model.specs.Call.{Call}
+use Rattle.model.specs.Call.{Call, done, gave}
 use Rattle.model.specs.Pools.{PlainWorld, world_of, empty_worlds}
-use Rattle.store.specs.Layout.{worlds_of}
-use Rattle.promises.specs.Met.{Site}
+use Rattle.store.specs.Layout.{capacity, worlds_of}
+use Rattle.promises.specs.Met.{Site, Met}
 use Rattle.promises.specs.Out.{WritesOut}
-use Rattle.lockstep.specs.History.{New, left, Loads}
-use Rattle.lockstep.specs.Plays.{Move, fed, Heard, Plays, worlds_after, Follows}
+use Rattle.lockstep.specs.Plays.{Move, fed, Heard, New, Plays, left, worlds_after, Follows}
 
 -- a slice that is long enough for any set of a pool of capacity C
 abbrev pub Roomy : ℕ → List ℕ → Type 0
@@ -59,6 +58,14 @@ pub record Agree
       → PlayAlike (left w ws) (left v vs)
 
 -- ---- bytes that are a set
+-- the bytes bs load into some world of some pool of capacity C
+pub record Loads (C : ℕ) (bs : List ℕ) : Type 0 where
+  pub pool : List ℕ
+  pub world : ℕ
+  pub sized : capacity pool ≡ C
+  pub after : List ℕ
+  pub met : Met pool world (Call.load bs) (gave done) after
+
 -- some play at capacity C ends in a pool of which a world writes the bytes bs, in some edition
 pub record MayWrite
     (C : ℕ) (limits : List Limits) (moves : List (Move Site)) (world : ℕ) (edition : Edition) (bs : List ℕ) : Type 0 where

@@ -1,9 +1,7 @@
-pub mod History
 pub mod Plays
 pub mod Determinism
 pub mod Clearing
 pub mod Surveys
-pub mod Matches
 pub mod Beside
 pub mod Tables
 pub mod Why

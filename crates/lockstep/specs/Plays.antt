@@ -9,9 +9,9 @@ use Rattle.model.specs.declared.Run.{Run}
 use Rattle.model.specs.Answers.{OrRefusal, completed_answer, written_answer, mended_answer}
 use Rattle.model.specs.Refusals.{output_short, ◌when◌, refusal, no_room}
 use Rattle.model.specs.Call.{Fed, Call, Measure, PoolCall, make, measure, at, feed_pool}
-use Rattle.model.specs.Call.{Result, drawn, written, mended, Answer, refused, gave}
+use Rattle.model.specs.Call.{Result, done, drawn, written, mended, Answer, refused, gave}
 use Rattle.model.specs.Pools.{PlainWorld, PoolOutcome, step, answers, after}
-use Rattle.store.specs.Layout.{worlds_of}
+use Rattle.store.specs.Layout.{capacity, worlds_of}
 use Rattle.promises.specs.Met.{Site, fed_at, Met, Made}
 use Rattle.promises.specs.Out.{WritesOut, WritesMeasured, Mends}
 use Rattle.interval_bit_set.specs.Lent.{item_answer, Draws}
@@ -87,6 +87,13 @@ pub data Moves : List ℕ → Move Site → Heard → List ℕ → Type 0 where
       → Framed w calls out (completed_answer r) w' out'
       → Moves w (frame calls out) (heard_as (completed_answer r) (slice out')) w'
 
+-- ---- plays
+-- a new pool of capacity C with the limits ls: what making leaves in words of that capacity
+pub record New (C : ℕ) (ls : List Limits) (w : List ℕ) : Type 0 where
+  pub before : List ℕ
+  pub sized : capacity before ≡ C
+  pub made : Made before ls (gave done) w
+
 -- the words w, after the moves ms, which were heard as hs, and were the words ws after each of them
 pub data Plays : List ℕ → List (Move Site) → List Heard → List (List ℕ) → Type 0 where
   rest : {w : List ℕ} → Plays w [] [] []
@@ -95,6 +102,11 @@ pub data Plays : List ℕ → List (Move Site) → List Heard → List (List ℕ
       → Moves w m h w'
       → Plays w' ms hs ws
       → Plays w (m ∷ ms) (h ∷ hs) (w' ∷ ws)
+
+-- the words after the last move
+abbrev pub left : List ℕ → List (List ℕ) → List ℕ
+left w [] = w
+left w (w' ∷ ws) = left w' ws
 
 -- ---- the plain model's moves
 -- what the model hears of a move, and the worlds after it

@@ -1,4 +1,5 @@
--- THE THEOREMS. No tree and no offset is mentioned, but in the last one, which is about trees: a pool is known by what its calls promise.
+-- THE THEOREMS beside the one on whole plays (Determinism.antt). No tree and no offset is mentioned, but in
+-- `Deepest-shortest`, which is about trees: a pool is known by what its calls promise.
 -- Assumes nothing: these are statements. proofs/Theorems.antt proves each under its name, in small letters.
 use Rattle.std.specs.Prelude.{Some}
 use Rattle.model.specs.Answers.{OrRefusal}
@@ -6,14 +7,13 @@ use Rattle.std.specs.Prelude.{ℕ, ◌+◌, ◌*◌, ◌^◌, ◌≤◌, ◌<◌
 use Rattle.model.specs.declared.Edition.{Edition}
 use Rattle.model.specs.declared.Edition.TheVariants.{Rows, Columns}
 use Rattle.model.specs.Numbers.{size}
-use Rattle.model.specs.declared.Limits.{Limits}
 use Rattle.model.specs.Answers.{written_answer}
 use Rattle.model.specs.Bytes.{edition_of}
 use Rattle.model.specs.RunList.{AllBytes}
 use Rattle.model.specs.Positions.{empty, stretches}
-use Rattle.model.specs.Call.{Call, feed, deepest, why_full, PoolCall, Result, done, number, written, mended, Answer, refused, gave}
+use Rattle.model.specs.Call.{Call, feed, deepest, why_full, Result, done, number, written, mended, Answer, refused, gave}
 use Rattle.model.specs.Model.{serve}
-use Rattle.model.specs.Pools.{world_of, other_claims, empty_worlds, answers, after, alone}
+use Rattle.model.specs.Pools.{world_of, other_claims, answers, alone}
 use Rattle.model.specs.Bytes.{into_front}
 use Rattle.model.specs.Spawning.{Range, ranges_of, sets_of, pick, AllGiven, StopsAt}
 use Rattle.model.specs.Clearing.{clear_map}
@@ -28,31 +28,26 @@ use Rattle.spawn.specs.Placing.{Climbing}
 use Rattle.promises.specs.Met.{Site, fed_at, fed_of, Leaves, Met, Measured}
 use Rattle.promises.specs.Out.{WritesOut}
 use Rattle.promises.specs.Handles.{Handles}
-use Rattle.lockstep.specs.History.{History, New, told, outcomes, Follows, left, WritesSet, Loads, Writable}
-use Rattle.lockstep.specs.Matches.{Match}
+use Rattle.lockstep.specs.Determinism.{PlayAlike, Loads}
 use Rattle.lockstep.specs.Beside.{Beside}
 use Rattle.lockstep.specs.Clearing.{old_reading, WritesMap}
 use Rattle.lockstep.specs.Surveys.{piece, Listed, words_of, Parts}
 use Rattle.lockstep.specs.Why.{ArePlaces}
 
--- ---- demand 3, and worlds in one pool (document 02, Ticket 3)
--- Theorem 1: from a new pool, every answer, refusal, and every world's positions, floor and ceiling and the number of worlds after each call are
--- the plain model's, fed the calls alone
-abbrev pub Theorem1 : Type 0
-Theorem1 =
-    (C : ℕ) (ls : List Limits) (w : List ℕ) (cs : List (PoolCall Site)) (rs : List Answer) (vs : List (List ℕ))
-    → New C ls w → History w cs rs vs → Follows rs vs (outcomes C (empty_worlds ls) (told cs))
+-- ---- sets that are written, and pools that hold the same
+-- world i of the words w writes bs as a set of edition e
+pub record WritesSet (w : List ℕ) (i : ℕ) (e : Edition) (bs : List ℕ) : Type 0 where
+  pub out : List ℕ
+  pub count : ℕ
+  pub slice : List ℕ
+  pub after : List ℕ
+  pub met : Met w i (Call.write_set e out) (gave (written count slice)) after
+  pub bytes : bs ≡ take count slice
 
--- the same of a match, whose calls come singly or in frames: its answers, and the worlds in the end
-abbrev pub Theorem1-matches : Type 0
-Theorem1-matches =
-    (C : ℕ) (ls : List Limits) (w w' : List ℕ) (cs : List (PoolCall Site)) (rs : List Answer)
-    → New C ls w → Match w cs rs w' → (rs ≡ answers C (empty_worlds ls) (told cs)) × (worlds_of w' ≡ after C (empty_worlds ls) (told cs))
-
--- Theorem 2: sets written in one edition from two worlds, of one pool or of two, however made, are the same bytes exactly when the worlds'
--- positions are the same
-abbrev pub Theorem2 : Type 0
-Theorem2 =
+-- sets written in one edition from two worlds, of one pool or of two, however made, are the same bytes exactly when the
+-- worlds' positions are the same
+abbrev pub Equal-bytes : Type 0
+Equal-bytes =
     (e : Edition) (w : List ℕ) (i : ℕ) (v : List ℕ) (j : ℕ) (bs cs : List ℕ)
     → WritesSet w i e bs → WritesSet v j e cs → (held_by w i ≡ held_by v j → bs ≡ cs) × (bs ≡ cs → held_by w i ≡ held_by v j)
 
@@ -61,44 +56,38 @@ abbrev pub Wrote : Answer → Type 0
 Wrote a = (n : ℕ) × (bs : List ℕ) × (a ≡ gave (written n bs))
 
 -- a slice of 5 + 16 × C bytes is long enough: writing a world's set into it, in either edition, is not refused
-abbrev pub Theorem2-room : Type 0
-Theorem2-room =
+abbrev pub Room-suffices : Type 0
+Room-suffices =
     (w : List ℕ) (i : ℕ) (e : Edition) (out v : List ℕ) (a : Answer)
     → Sound w → i < opened_at w → 5 + 16 * capacity w ≤ length out → Met w i (Call.write_set e out) a v → Wrote a
 
--- Theorem 3: two sound pools of one capacity, however made, that opened equally many worlds, with equal positions, floors and ceilings in each,
--- answer every later list of equal calls alike, and have equal worlds after it
-abbrev pub Theorem3 : Type 0
-Theorem3 =
-    (w v : List ℕ) (cs ds : List (PoolCall Site)) (rs qs : List Answer) (ws vs : List (List ℕ))
-    → Sound w → Sound v → capacity w ≡ capacity v → worlds_of w ≡ worlds_of v → told cs ≡ told ds → History w cs rs ws → History v ds qs vs
-    → (rs ≡ qs) × (worlds_of (left w ws) ≡ worlds_of (left v vs))
+-- two sound pools of one capacity, however made, that opened equally many worlds, with equal positions, floors and
+-- ceilings in each, play on alike: every later list of equal moves is heard alike, and leaves equal worlds after each
+abbrev pub Equal-pools : Type 0
+Equal-pools =
+    (w v : List ℕ) → Sound w → Sound v → capacity w ≡ capacity v → worlds_of w ≡ worlds_of v → PlayAlike w v
 
--- Theorem 4: a byte string loads into some world of some pool of a capacity exactly when some history at that capacity writes it as a set, in
--- some edition
-abbrev pub Theorem4 : Type 0
-Theorem4 = (C : ℕ) (bs : List ℕ) → AllBytes bs → (Loads C bs → Writable C bs) × (Writable C bs → Loads C bs)
-
--- Theorem 5: a world may always reach its floor: in a sound pool no call that would be done if no number of runs were too many, and would leave at
--- most floor runs then, is refused with 8
-abbrev pub Theorem5 : Type 0
-Theorem5 =
+-- ---- worlds in one pool
+-- a world may always reach its floor: in a sound pool no call that would be done if no number of runs were too many, and
+-- would leave at most floor runs then, is refused with 8
+abbrev pub Floor-reached : Type 0
+Floor-reached =
     (w : List ℕ) (i : ℕ) (c : Call Site) (a : Answer) (w' : List ℕ) (r : Result)
     → Sound w → i < opened_at w → Met w i c a w' → (serve (λ r. false) (fed_of w i) (feed fed_at c)).answer ≡ gave r
     → stretches (serve (λ r. false) (fed_of w i) (feed fed_at c)).positions ≤ floor_at w i → a ≡ refused 8 → ⊥
 
--- Theorem 6: neighbours are known through the sum alone: if two sound pools of one capacity agree in world i, and in the sum over the other worlds
--- of the larger of runs and floor, every call on world i answers alike in both, and leaves world i alike
-abbrev pub Theorem6 : Type 0
-Theorem6 =
+-- neighbours are known through the sum alone: if two sound pools of one capacity agree in world i, and in the sum over the
+-- other worlds of the larger of runs and floor, every call on world i answers alike in both, and leaves world i alike
+abbrev pub Sum-alone : Type 0
+Sum-alone =
     (w v : List ℕ) (i : ℕ) (c d : Call Site) (a b : Answer) (w' v' : List ℕ)
     → Sound w → Sound v → capacity w ≡ capacity v → world_of (worlds_of w) i ≡ world_of (worlds_of v) i → other_claims (worlds_of w) i ≡ other_claims (worlds_of v) i
     → feed fed_at c ≡ feed fed_at d → Met w i c a w' → Met v i d b v' → (a ≡ b) × (world_of (worlds_of w') i ≡ world_of (worlds_of v') i)
 
--- Theorem 6 over lists: of equal calls on world i, with calls of the neighbours in between, every answer is the same in both
+-- and over lists: of equal calls on world i, with calls of the neighbours in between, every answer is the same in both
 -- pools, and world i is alike in the end
-abbrev pub Theorem6-lists : Type 0
-Theorem6-lists =
+abbrev pub Sum-alone-lists : Type 0
+Sum-alone-lists =
     (w v : List ℕ) (i : ℕ) (rs qs : List Answer) (w' v' : List ℕ)
     → Sound w → Sound v → capacity w ≡ capacity v → world_of (worlds_of w) i ≡ world_of (worlds_of v) i
     → other_claims (worlds_of w) i ≡ other_claims (worlds_of v) i

@@ -4,7 +4,7 @@
 
 ghost use Rattle.lockstep.specs.Determinism.{Determinism};
 ghost use Rattle.lockstep.specs.Tables.{Cases-hold, Columns-back};
-ghost use Rattle.lockstep.specs.Theorems.{Theorem1, Theorem1-matches, Theorem2, Theorem2-room, Theorem3, Theorem4, Theorem5, Theorem6, Theorem6-lists};
+ghost use Rattle.lockstep.specs.Theorems.{Equal-bytes, Room-suffices, Equal-pools, Floor-reached, Sum-alone, Sum-alone-lists};
 ghost use Rattle.lockstep.specs.Theorems.{Cleared-reads, Cleared-once, Written-stays, Forms-agree, Fill-none, Fill-full};
 ghost use Rattle.lockstep.specs.Theorems.{Converted-back, Converted-loads, Loads-converts, Old-reader, Mended-right, Mended-loads, Mended-floor};
 ghost use Rattle.lockstep.specs.Theorems.{Survey-parts, Deepest-shortest, Why-smallest, Why-none, Why-exact};
@@ -12,23 +12,14 @@ ghost use Rattle.lockstep.specs.Theorems.{Survey-parts, Deepest-shortest, Why-sm
 /// Whole plays: calls singly and in frames.
 pub fn whole_plays()
     ensures determinism { Determinism }
-{}
-
-/// Whole lists of calls on a pool.
-pub fn histories()
-    ensures theorem1 { Theorem1 }
-    ensures theorem1_matches { Theorem1-matches }
-    ensures theorem2 { Theorem2 }
-    ensures theorem2_room { Theorem2-room }
-    ensures theorem3 { Theorem3 }
-    ensures theorem4 { Theorem4 }
+    ensures equal_pools { Equal-pools }
 {}
 
 /// Worlds that share a pool.
 pub fn worlds()
-    ensures theorem5 { Theorem5 }
-    ensures theorem6 { Theorem6 }
-    ensures theorem6_lists { Theorem6-lists }
+    ensures floor_reached { Floor-reached }
+    ensures sum_alone { Sum-alone }
+    ensures sum_alone_lists { Sum-alone-lists }
 {}
 
 /// Maps, and how full a window is.
@@ -43,6 +34,8 @@ pub fn maps()
 
 /// Written sets of both editions, converted and mended.
 pub fn written_sets()
+    ensures equal_bytes { Equal-bytes }
+    ensures room_suffices { Room-suffices }
     ensures converted_back { Converted-back }
     ensures converted_loads { Converted-loads }
     ensures loads_converts { Loads-converts }

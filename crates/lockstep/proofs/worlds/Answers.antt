@@ -1,9 +1,9 @@
-use Rattle.lockstep.proofs.Theorems.{theorem5, theorem6, theorem6-lists}
+use Rattle.lockstep.proofs.Theorems.{floor-reached, sum-alone, sum-alone-lists}
 use Rattle.lockstep.proofs.worlds.Goals as goal
 
 pub returns : goal.returns
 returns c = record {
-  theorem5 = theorem5;
-  theorem6 = theorem6;
-  theorem6_lists = theorem6-lists;
+  floor_reached = floor-reached;
+  sum_alone = sum-alone;
+  sum_alone_lists = sum-alone-lists;
 }

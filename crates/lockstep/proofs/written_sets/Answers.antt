@@ -1,8 +1,11 @@
-use Rattle.lockstep.proofs.Theorems.{converted-back, converted-loads, loads-converts, old-reader, mended-right, mended-loads, mended-floor}
+use Rattle.lockstep.proofs.Theorems.{equal-bytes, room-suffices, converted-back, converted-loads, loads-converts}
+use Rattle.lockstep.proofs.Theorems.{old-reader, mended-right, mended-loads, mended-floor}
 use Rattle.lockstep.proofs.written_sets.Goals as goal
 
 pub returns : goal.returns
 returns c = record {
+  equal_bytes = equal-bytes;
+  room_suffices = room-suffices;
   converted_back = converted-back;
   converted_loads = converted-loads;
   loads_converts = loads-converts;
