@@ -24,3 +24,4 @@ pub mod RunList
 pub mod Search
 pub mod Moved
 pub mod Deepest
+pub mod Worked
