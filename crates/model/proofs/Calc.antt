@@ -297,7 +297,7 @@ runs_of-positions (having rs) = sym (union-positions rs)
 unfoldable pub union_at : List Run → ℕ → Run
 union_at rs x = run_with x (clipped (mem rs x) 0 size (union rs))
 
-union-around : (rs : List Run) (x : ℕ) → Positions.run_at (mem rs) x ≡ union_at rs x
+pub union-around : (rs : List Run) (x : ℕ) → Positions.run_at (mem rs) x ≡ union_at rs x
 unfolding Positions.run_at union_at bounded
 union-around rs x =
     ap (run_with x)

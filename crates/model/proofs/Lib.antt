@@ -25,3 +25,4 @@ pub mod Search
 pub mod Moved
 pub mod Deepest
 pub mod Worked
+pub mod WorkedPools

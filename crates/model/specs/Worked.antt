@@ -1,16 +1,24 @@
 -- A second table of worked cases, beside that of Cases.antt: calls on cells, pools of several worlds, measured lists, and what wrong models of the other
 -- calls get wrong. Its numbers are worked out by hand from what each call is to do. Assumes nothing: these are definitions.
 use Rattle.std.specs.Prelude.{None, Some}
-use Rattle.std.specs.Prelude.{true, false, List, [], ◌∷◌, ◌++◌, ℕ, ◌-◌}
+use Rattle.std.specs.Prelude.{◌≡◌, true, false, List, [], ◌∷◌, ◌++◌, map, ℕ, zero, suc, ◌-◌, ◌^◌, ◌≤◌, ◌<◌, length}
 use Rattle.std.specs.declared.ops.Bound.TheVariants.{Included, Excluded, Unbounded}
 use Rattle.model.specs.declared.Run.{Run}
 use Rattle.model.specs.declared.Rect.{Rect}
+use Rattle.model.specs.declared.Limits.{Limits}
+use Rattle.model.specs.declared.Operation.TheVariants.{Or}
 use Rattle.model.specs.declared.Edition.TheVariants.{Rows, Columns}
-use Rattle.model.specs.Positions.{run}
-use Rattle.model.specs.Bytes.{encode}
-use Rattle.model.specs.Call.{set, tally, gap, load, mend, build, write_set, read_map, write_map, fill, set_strict, flip_strict, tally_strict, set_rect, count_rect, survey}
-use Rattle.model.specs.Call.{done, number, tallied, position, written, mended, refused, gave}
-use Rattle.model.specs.Cases.{Case, mixed, row, M, from, upto, blank}
+use Rattle.model.specs.Positions.{run, mem}
+use Rattle.model.specs.Bytes.{encode, into_front}
+use Rattle.model.specs.Deepest.{deepest_words}
+use Rattle.model.specs.Call.{set, get, tally, gap, combine, equal, load, mend, build, write_set, read_map, write_map, fill, set_strict, flip_strict, tally_strict, set_rect, count_rect, survey}
+use Rattle.model.specs.Call.{Measure, deepest, why_full, PoolCall, make, measure, at, feed_pool}
+use Rattle.model.specs.Call.{done, number, tallied, value, position, written, mended, Answer, refused, gave}
+use Rattle.model.specs.Pools.{PlainWorld, make_by, measure_by, step, answers, after}
+use Rattle.model.specs.Handled.{Handled}
+use Rattle.model.specs.Clearing.{clear_map}
+use Rattle.model.specs.Converting.{convert}
+use Rattle.model.specs.Cases.{Given, no_store, broken, shut, having, fed_as, Case, AllHold, mixed, row, M, from, upto, case-16-set, blank}
 
 -- ---- cells of a grid: the cell at a row and a column is the position row × 65,536 + column
 -- the rectangle of two corners, which belong to it: row and column of each
@@ -155,3 +163,222 @@ others =
     ∷ mended 53 three-rows 3 (2 ∷ 2 ∷ 2 ∷ []) ∷ mended 53 three-columns 3 (2 ∷ 2 ∷ 2 ∷ []) ∷ mended 21 (encode Rows (run 2 5 ∷ [])) 2 (0 ∷ 2 ∷ []) ∷ [])
     (run 2 5 ∷ [])
     ∷ []
+
+-- ---- pools of several worlds
+-- a world that is told by its runs
+pub record Opened : Type 0 where
+  pub runs : List Run
+  pub floor : ℕ
+  pub ceiling : ℕ
+
+abbrev pub opened_as : Opened → PlainWorld
+opened_as x = record { positions = mem x.runs; floor = x.floor; ceiling = x.ceiling }
+
+-- a capacity C, calls on a pool that has no world yet, their answers, and the worlds afterwards
+pub record PoolCase : Type 0 where
+  pub capacity : ℕ
+  pub calls : List (PoolCall Given)
+  pub answers-are : List Answer
+  pub worlds-are : List Opened
+
+-- what a row says of the plain model
+pub record PoolHolds (c : PoolCase) : Type 0 where
+  pub answered : answers c.capacity [] (map (feed_pool fed_as) c.calls) ≡ c.answers-are
+  pub held : after c.capacity [] (map (feed_pool fed_as) c.calls) ≡ map opened_as c.worlds-are
+
+abbrev pub AllPoolsHold : List PoolCase → Type 0
+AllPoolsHold [] = Unit
+AllPoolsHold (c ∷ cs) = PoolHolds c × AllPoolsHold cs
+
+abbrev pub pool_row : ℕ → List (PoolCall Given) → List Answer → List Opened → PoolCase
+pool_row C calls told left = record { capacity = C; calls = calls; answers-are = told; worlds-are = left }
+
+-- a world's floor and ceiling; that world, and what it holds; n worlds of the same limits
+abbrev pub limits : ℕ → ℕ → Limits
+limits f c = record { floor = f; ceiling = c }
+
+abbrev pub opened : ℕ → ℕ → List Run → Opened
+opened f c rs = record { runs = rs; floor = f; ceiling = c }
+
+abbrev pub alike : ℕ → Limits → List Limits
+alike zero l = []
+alike (suc n) l = l ∷ alike n l
+
+-- world i is asked to hold the position x, or to hold it no longer
+abbrev pub hold : ℕ → ℕ → PoolCall Given
+hold i x = at i (set (from x) (Included x) true)
+
+abbrev pub free : ℕ → ℕ → PoolCall Given
+free i x = at i (set (from x) (Included x) false)
+
+unfoldable pub pools : List PoolCase
+pools =
+    -- 8 by the ceiling alone: world 0 may have one run though the pool has room for four, and world 1 three
+    pool_row 4
+    (make (limits 0 1 ∷ limits 0 3 ∷ []) ∷ hold 0 1 ∷ hold 0 5 ∷ hold 0 2 ∷ hold 1 5 ∷ hold 1 7 ∷ hold 1 9 ∷ hold 1 11 ∷ [])
+    (gave done ∷ gave (number 1) ∷ refused 8 ∷ gave (number 1) ∷ gave (number 1) ∷ gave (number 1) ∷ gave (number 1) ∷ refused 8 ∷ [])
+    (opened 0 1 (run 1 2 ∷ []) ∷ opened 0 3 (run 5 5 ∷ run 7 7 ∷ run 9 9 ∷ []) ∷ [])
+    -- 8 by the sum of the larger of runs and floor: an empty world's floor of 2 is kept for it, and above its floor it gets what the other has not
+    ∷ pool_row 4
+    (make (limits 2 4 ∷ limits 0 4 ∷ []) ∷ hold 1 1 ∷ hold 1 3 ∷ hold 1 5 ∷ hold 0 1 ∷ hold 0 3 ∷ hold 0 5 ∷ free 1 3 ∷ hold 0 5 ∷ hold 1 3 ∷ free 0 3 ∷ hold 1 3 ∷ [])
+    (gave done ∷ gave (number 1) ∷ gave (number 1) ∷ refused 8 ∷ gave (number 1) ∷ gave (number 1) ∷ refused 8 ∷ gave (number 1) ∷ gave (number 1)
+    ∷ refused 8 ∷ gave (number 1) ∷ gave (number 1) ∷ [])
+    (opened 2 4 (run 1 1 ∷ run 5 5 ∷ []) ∷ opened 0 4 (run 1 1 ∷ run 3 3 ∷ []) ∷ [])
+    -- a floor is reached however full the pool is: worlds 1 and 2 are empty, and world 0 has all that their floors leave; a run that grows needs no room
+    ∷ pool_row 5
+    (make (limits 0 5 ∷ limits 2 2 ∷ limits 1 3 ∷ []) ∷ hold 0 1 ∷ hold 0 3 ∷ hold 0 5 ∷ hold 1 1 ∷ hold 1 3 ∷ hold 1 5 ∷ hold 2 1 ∷ hold 2 3 ∷ hold 2 2
+    ∷ at 2 (load case-16-set) ∷ at 0 (tally Unbounded Unbounded true) ∷ [])
+    (gave done ∷ gave (number 1) ∷ gave (number 1) ∷ refused 8 ∷ gave (number 1) ∷ gave (number 1) ∷ refused 8 ∷ gave (number 1) ∷ refused 8
+    ∷ gave (number 1) ∷ refused 5 ∷ gave (tallied 2 2) ∷ [])
+    (opened 0 5 (run 1 1 ∷ run 3 3 ∷ []) ∷ opened 2 2 (run 1 1 ∷ run 3 3 ∷ []) ∷ opened 1 3 (run 1 2 ∷ []) ∷ [])
+    -- 11: no world, 17 worlds, a floor above its ceiling, floors together above C, also where their sum would wrap; then the worlds stay. 16 worlds, and
+    -- floors of C together, are opened, whatever the ceilings; and made again, a pool is empty
+    ∷ pool_row 4
+    (make [] ∷ make (alike 17 (limits 0 4)) ∷ make (alike 16 (limits 0 4)) ∷ hold 15 7 ∷ make [] ∷ make (limits 3 2 ∷ []) ∷ make (limits 0 4 ∷ limits 1 0 ∷ [])
+    ∷ make (limits 3 4 ∷ limits 2 4 ∷ []) ∷ make (limits (2 ^ 63) M ∷ limits (2 ^ 63) M ∷ []) ∷ at 15 (get 7) ∷ make (limits 3 M ∷ limits 1 1 ∷ []) ∷ at 15 (get 7)
+    ∷ hold 1 7 ∷ make (limits 4 4 ∷ []) ∷ at 0 (get 7) ∷ [])
+    (refused 11 ∷ refused 11 ∷ gave done ∷ gave (number 1) ∷ refused 11 ∷ refused 11 ∷ refused 11 ∷ refused 11 ∷ refused 11 ∷ gave (value true)
+    ∷ gave done ∷ refused 12 ∷ gave (number 1) ∷ gave done ∷ gave (value false) ∷ [])
+    (opened 4 4 [] ∷ [])
+    -- 12 comes after 1 and 7 of any pool, and before every other refusal; of the worlds of further pools too
+    ∷ pool_row 4
+    (make (limits 0 4 ∷ []) ∷ hold 1 0 ∷ at 1 (gap Unbounded Unbounded 0) ∷ at 1 (set_strict (from 8) (upto 2) true) ∷ at 1 (set_rect (corners 65536 0 65536 0) true)
+    ∷ at 1 (fill 0 0) ∷ at 1 (read_map 0 9 (0xFF ∷ 0xFF ∷ [])) ∷ at 1 (load []) ∷ at 1 (load case-16-set) ∷ at 1 (write_set Rows []) ∷ at 16 (get 0)
+    ∷ at 1 (combine Or broken (having [])) ∷ at 1 (combine Or broken no_store) ∷ at 1 (equal no_store) ∷ at 0 (combine Or (having []) shut)
+    ∷ at 0 (combine Or shut broken) ∷ at 0 (get 0) ∷ at 0 (gap Unbounded Unbounded 0) ∷ [])
+    (gave done ∷ refused 12 ∷ refused 12 ∷ refused 12 ∷ refused 12 ∷ refused 12 ∷ refused 12 ∷ refused 12 ∷ refused 12 ∷ refused 12 ∷ refused 12
+    ∷ refused 7 ∷ refused 1 ∷ refused 1 ∷ refused 12 ∷ refused 7 ∷ gave (value false) ∷ refused 9 ∷ [])
+    (opened 0 4 [] ∷ [])
+    ∷ []
+
+-- ---- measured pools
+-- a pool of one world, which may have all of it, is measured for each question, with a slice of so many words; its world stays
+abbrev pub measured : ℕ → List (PoolCall Given) → List Answer → PoolCase
+measured C calls told = pool_row C (make (limits 0 C ∷ []) ∷ calls) (gave done ∷ told) (opened 0 C [] ∷ [])
+
+abbrev pub ask : Measure → ℕ → PoolCall Given
+ask q n = measure q (blank n)
+
+-- a lent range before others: both ends in it; without its upper end; without its lower end; all positions below one
+abbrev pub closed : ℕ → ℕ → List ℕ → List ℕ
+closed a b ws = 1 ∷ a ∷ 1 ∷ b ∷ ws
+
+abbrev pub half-open : ℕ → ℕ → List ℕ → List ℕ
+half-open a b ws = 1 ∷ a ∷ 2 ∷ b ∷ ws
+
+abbrev pub past : ℕ → ℕ → List ℕ → List ℕ
+past a b ws = 2 ∷ a ∷ 1 ∷ b ∷ ws
+
+abbrev pub below : ℕ → List ℕ → List ℕ
+below b ws = 0 ∷ 0 ∷ 2 ∷ b ∷ ws
+
+-- two that touch, with an empty and a reversed one between them and after them, one apart, and one more
+abbrev pub spawned : List ℕ
+spawned = closed 10 11 (half-open 5 5 (closed 12 13 (closed 8 2 (closed 20 20 (closed 0 0 [])))))
+
+-- one, another one below it, one within the first, and one between
+abbrev pub led-late : List ℕ
+led-late = closed 20 29 (closed 5 5 (closed 20 20 (closed 7 7 [])))
+
+-- two, one that joins them, and two more
+abbrev pub joining : List ℕ
+joining = closed 1 1 (closed 5 5 (closed 2 4 (closed 9 9 (closed 20 20 []))))
+
+unfoldable pub measures : List PoolCase
+measures =
+    -- the deepest trees of heights 1 to 5: of 1, 2, 4, 7 and 12 ranks the middle one, then the middle ones of both parts, and so on, each rank k as the run 2k .. 2k
+    measured 12
+    (ask (deepest 1) 3 ∷ ask (deepest 2) 4 ∷ ask (deepest 3) 8 ∷ ask (deepest 4) 14 ∷ ask (deepest 5) 24 ∷ ask (deepest 5) 23 ∷ [])
+    (gave (written 2 (0 ∷ 0 ∷ 0xEE ∷ [])) ∷ gave (written 4 (2 ∷ 2 ∷ 0 ∷ 0 ∷ [])) ∷ gave (written 8 (4 ∷ 4 ∷ 2 ∷ 2 ∷ 6 ∷ 6 ∷ 0 ∷ 0 ∷ []))
+    ∷ gave (written 14 (8 ∷ 8 ∷ 4 ∷ 4 ∷ 12 ∷ 12 ∷ 2 ∷ 2 ∷ 6 ∷ 6 ∷ 10 ∷ 10 ∷ 0 ∷ 0 ∷ []))
+    ∷ gave (written 24 (
+    14 ∷ 14 ∷ 8 ∷ 8 ∷ 20 ∷ 20 ∷ 4 ∷ 4 ∷ 12 ∷ 12 ∷ 18 ∷ 18 ∷ 22 ∷ 22 ∷ 2 ∷ 2 ∷ 6 ∷ 6 ∷ 10 ∷ 10 ∷ 16 ∷ 16 ∷ 0 ∷ 0 ∷ []))
+    ∷ refused 2 ∷ [])
+    -- 13, 8 and 2, in this order
+    ∷ measured 11
+    (ask (deepest 5) 24 ∷ ask (deepest 5) 0 ∷ ask (deepest 4) 13 ∷ ask (deepest 0) 0 ∷ ask (deepest 23) 0 ∷ [])
+    (refused 8 ∷ refused 8 ∷ refused 2 ∷ refused 13 ∷ refused 13 ∷ [])
+    ∷ measured 0 (ask (deepest 0) 0 ∷ ask (deepest 1) 2 ∷ []) (refused 13 ∷ refused 8 ∷ [])
+    -- the list for height 22 has 46,367 runs, and there is none for 23
+    ∷ measured 46366 (ask (deepest 22) 0 ∷ []) (refused 8 ∷ [])
+    ∷ measured 46367 (ask (deepest 23) 0 ∷ []) (refused 13 ∷ [])
+    -- why a list stops: at C = 1 the fifth call is refused, and the first ranges of the two runs have the places 0 and 4; no room for them
+    ∷ measured 1 (ask (why_full spawned) 3 ∷ ask (why_full spawned) 1 ∷ []) (gave (written 2 (0 ∷ 4 ∷ 0xEE ∷ [])) ∷ refused 2 ∷ [])
+    -- places rise as in the list, and not as their runs do; a range of an earlier one's run is left out
+    ∷ measured 2 (ask (why_full led-late) 3 ∷ []) (gave (written 3 (0 ∷ 1 ∷ 3 ∷ [])) ∷ [])
+    -- a range that led a run of its own leads none where a later one joined it to another
+    ∷ measured 2 (ask (why_full joining) 3 ∷ ask (why_full spawned) 3 ∷ []) (gave (written 3 (0 ∷ 3 ∷ 4 ∷ [])) ∷ gave (written 3 (0 ∷ 4 ∷ 5 ∷ [])) ∷ [])
+    -- bounds that exclude their value, and none at all; words after the last whole four are no range
+    ∷ measured 1 (ask (why_full (past 9 10 (below 1 (1 ∷ 5 ∷ 1 ∷ [])))) 2 ∷ []) (gave (written 2 (0 ∷ 1 ∷ [])) ∷ [])
+    -- 16 where every call is done, before the room is looked at; so of an empty list, and of one without a position
+    ∷ measured 3 (ask (why_full joining) 0 ∷ ask (why_full []) 0 ∷ []) (refused 16 ∷ refused 16 ∷ [])
+    ∷ measured 0
+    (ask (why_full (half-open 5 5 (closed 8 2 []))) 0 ∷ ask (why_full (half-open 5 5 (closed 3 3 (closed 1 1 [])))) 1 ∷ [])
+    (refused 16 ∷ gave (written 1 (1 ∷ [])) ∷ [])
+    ∷ []
+
+-- the list for height 22 has 46,367 runs, two words each: a slice of fewer words is short, and any other gets them
+abbrev pub Highest : Type 0
+Highest =
+    (ws : List PlainWorld) (out : List ℕ)
+    → (length (deepest_words 22) ≡ 92734)
+    × (length out < 92734 → (step 46367 ws (measure (deepest 22) out)).answer ≡ refused 2)
+    × (92734 ≤ length out → (step 46367 ws (measure (deepest 22) out)).answer ≡ gave (written 92734 (into_front (deepest_words 22) out)))
+
+-- a store of a wrong length is refused before anything else is looked at: where a pool is made, and where one is measured
+abbrev pub Length-first : Type 0
+Length-first =
+    (C : ℕ) (ws : List PlainWorld) (ls : List Limits) (q : Measure) (out : List ℕ)
+    → ((make_by true C ws ls).answer ≡ refused 1) × ((measure_by true C ws q out).answer ≡ refused 1)
+
+-- ---- calls on a lent slice alone
+-- what a call comes to, and what it is to come to
+pub record HandledCase : Type 0 where
+  pub call : Handled
+  pub is : Handled
+
+abbrev pub AllHandled : List HandledCase → Type 0
+AllHandled [] = Unit
+AllHandled (c ∷ cs) = (c.call ≡ c.is) × AllHandled cs
+
+-- a call, its answer, and the whole slice after it
+abbrev pub handles : Handled → Answer → List ℕ → HandledCase
+handles h a bs = record { call = h; is = record { answer = a; slice = bs } }
+
+abbrev pub three-as : List ℕ → Answer
+three-as bs = gave (written 53 bs)
+
+unfoldable pub handled : List HandledCase
+handled =
+    -- clearing a map: windows of 9, 10, 15, 16, 8 and 1 positions; the bits that are used stay
+    handles (clear_map 0 9 (0xFF ∷ 0xFF ∷ [])) (gave (number 7)) (0xFF ∷ 0x01 ∷ [])
+    ∷ handles (clear_map 0 10 (0x0C ∷ 0x83 ∷ [])) (gave (number 1)) (0x0C ∷ 0x03 ∷ [])
+    ∷ handles (clear_map 0 15 (0x00 ∷ 0x80 ∷ [])) (gave (number 1)) (0x00 ∷ 0x00 ∷ [])
+    ∷ handles (clear_map 0 16 (0xFF ∷ 0xFF ∷ [])) (gave (number 0)) (0xFF ∷ 0xFF ∷ [])
+    ∷ handles (clear_map 0 8 (0xAA ∷ [])) (gave (number 0)) (0xAA ∷ [])
+    ∷ handles (clear_map 0 1 (0xFE ∷ [])) (gave (number 7)) (0x00 ∷ [])
+    -- 6, by the window or by the map's length, and the slice stays; a window that ends with the last position
+    ∷ handles (clear_map 0 9 (0xFF ∷ [])) (refused 6) (0xFF ∷ [])
+    ∷ handles (clear_map 0 9 (0xFF ∷ 0xFF ∷ 0xFF ∷ [])) (refused 6) (0xFF ∷ 0xFF ∷ 0xFF ∷ [])
+    ∷ handles (clear_map 0 0 []) (refused 6) []
+    ∷ handles (clear_map (M - 7) 9 (0xFF ∷ 0xFF ∷ [])) (refused 6) (0xFF ∷ 0xFF ∷ [])
+    ∷ handles (clear_map (M - 8) 9 (0xFF ∷ 0xFF ∷ [])) (gave (number 7)) (0xFF ∷ 0x01 ∷ [])
+    -- converting a set of either edition into the other; the empty set; room to spare
+    ∷ handles (convert three-rows (blank 54)) (three-as (three-columns ++ 0xEE ∷ [])) (three-columns ++ 0xEE ∷ [])
+    ∷ handles (convert three-columns (blank 53)) (three-as three-rows) three-rows
+    ∷ handles (convert (0x01 ∷ 0x00 ∷ 0x00 ∷ 0x00 ∷ 0x00 ∷ []) (blank 5)) (gave (written 5 (0x02 ∷ 0x00 ∷ 0x00 ∷ 0x00 ∷ 0x00 ∷ []))) (0x02 ∷ 0x00 ∷ 0x00 ∷ 0x00 ∷ 0x00 ∷ [])
+    -- 3 for fewer than five bytes, 4, 3 for the length, 5 in either edition, and 2, in this order; the slice stays
+    ∷ handles (convert [] (blank 1)) (refused 3) (0xEE ∷ [])
+    ∷ handles (convert (0x03 ∷ 0x00 ∷ 0x00 ∷ 0x00 ∷ []) []) (refused 3) []
+    ∷ handles (convert (0x03 ∷ 0x00 ∷ 0x00 ∷ 0x00 ∷ 0x01 ∷ []) []) (refused 4) []
+    ∷ handles (convert (0x00 ∷ 0x00 ∷ 0x00 ∷ 0x00 ∷ 0x00 ∷ []) []) (refused 4) []
+    ∷ handles (convert (0x02 ∷ 0x00 ∷ 0x00 ∷ 0x00 ∷ 0x01 ∷ []) []) (refused 3) []
+    ∷ handles (convert case-16-set []) (refused 5) []
+    ∷ handles (convert (encode Columns (run 2 3 ∷ run 4 5 ∷ [])) (blank 40)) (refused 5) (blank 40)
+    ∷ handles (convert (encode Columns (run 3 2 ∷ [])) []) (refused 5) []
+    ∷ handles (convert three-rows (blank 52)) (refused 2) (blank 52)
+    ∷ []
+
+-- THE WORKED CASES
+abbrev pub Worked-cases : Type 0
+Worked-cases = AllHold (cells ++ others) × AllPoolsHold (pools ++ measures) × AllHandled handled × Highest × Length-first
