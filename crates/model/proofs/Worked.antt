@@ -1,7 +1,13 @@
 -- The worked cases hold: every row is computed on run lists, and the computed model is the plain one. Assumes nothing.
-use mathlib.Core.Path.{◌≡◌, refl}
-use mathlib.Core.List.{map}
-use Rattle.model.specs.Positions.{mem, past_first, past_last}
+use mathlib.Core.Path.{◌≡◌, refl, ap, ap₂, ◌∙◌}
+use mathlib.Core.Bool.{Bool, true, false, cond}
+use mathlib.Core.List.{List, [], ◌∷◌, ◌++◌, map}
+use Prim.Native.Nat.{ℕ}
+use native.Mathlib.Omega.{arith}
+use lib.Dec.{ltb}
+use lib.ListN.{length}
+use borrow.Author.Tests.{lt-ltb, le-ltb}
+use Rattle.model.specs.Positions.{count, find, mem, past_first, past_last}
 use Rattle.model.proofs.Finds.{select_runs}
 use Rattle.model.proofs.Gaps.{first_long}
 use Rattle.model.specs.RunList.{insert, clear}
@@ -27,33 +33,120 @@ use Rattle.model.specs.Bytes.{
   bytes_from,
   map_of,
   map_bit,
+  stray_bits,
+  cleared,
   into_front,
 }
 use Rattle.model.specs.Mending.{another}
-use Rattle.model.specs.Refusals.{bad_rect, bad_square, bad_window, bad_map, too_short, bad_length, bad_version, ordered_from, disordered, no_room}
+use Rattle.model.specs.Refusals.{store_length, tree_height, capacity, output_short, ◌when◌, refusal, bad_limits, bad_rect, bad_square, bad_window, bad_map, too_short, bad_length, bad_version, ordered_from, disordered, no_room}
 use Rattle.model.specs.Model.{drawn_first, drawn_last}
-use Rattle.model.specs.Cases.{fed_as, AllHold}
-use Rattle.model.specs.Worked.{cells, others}
+use Rattle.model.specs.Cases.{fed_as}
+use Rattle.model.specs.Worked.{cells, others, pools, measures, Highest, Length-first, HandledCase, AllHandled, handled, Worked-cases}
+use Rattle.model.specs.Clearing.{clear_map}
+use Rattle.model.specs.Converting.{converted, convert}
+use Rattle.model.specs.Handled.{Handled}
+use Rattle.model.specs.Deepest.{least, middles, middles_up_to, runs_at, deepest_runs, words_of, deepest_words}
+use Rattle.model.specs.Spawning.{ranges_from, ranges_of, entry_of, entries_of, meets}
+use Rattle.model.specs.Range.{bound_by}
+use Rattle.model.specs.Call.{deepest, measure, Result, written, refused, gave}
+use Rattle.model.specs.Pools.{PlainWorld, settle_measured, make_by, measure_by, step}
+use Rattle.model.proofs.Deepest.{least-22, deepest-words}
+use Rattle.model.proofs.WorkedPools
+use Rattle.model.proofs.WorkedPools.{opened_at, put_runs, claims_runs, others_runs, first_refused_runs, places_runs, stopped_by, due_answer, stopped_answer, measure_runs, at_by, new_worlds, make_runs, step_runs, pool_shown, pool_left, fits, pools-hold}
 use Rattle.model.proofs.Cases.{shown, left, computed, expected, rows-hold}
 use Rattle.model.proofs.Cells.{set_rows, rect_runs, count_rect_runs, row_halves, column_halves, survey_runs}
 use Rattle.model.proofs.Calc.{runs_of, union, map_runs, some_bit, clipped, report_runs, change_runs, write_runs, mend_runs, union_at, fates_runs, changed_runs, remaining_runs, setting_runs, flipping_runs, tallying_runs, calc}
 
-cells-compute : map computed cells ≡ map expected cells
-unfolding cells shown left calc report_runs change_runs write_runs mend_runs union_at fates_runs another changed_runs remaining_runs setting_runs flipping_runs tallying_runs fed_as runs_of union map_runs some_bit clipped clip
-    set_runs on_range set_to insert clear combine_runs and_runs or_runs xor_runs minus_runs set_all flip_runs inverted complement_runs shift_runs shift_left_runs
-    shift_right_runs widths mem count_rect_runs rect_runs set_rows survey_runs column_halves row_halves bad_rect bad_square select_runs first_long drawn_first drawn_last past_first past_last big_endian value_from value_of encode_runs column columns_from columns encode
-    runs_due edition_of decode_runs runs_told decode bits bytes_from map_of map_bit into_front bad_window bad_map too_short bad_length bad_version ordered_from disordered no_room
-cells-compute = refl
+worlds-compute : map computed (cells ++ others) ≡ map expected (cells ++ others)
+unfolding cells others shown left
+    calc report_runs change_runs write_runs mend_runs union_at fates_runs another changed_runs remaining_runs setting_runs flipping_runs tallying_runs
+    fed_as runs_of union map_runs some_bit clipped clip set_runs on_range set_to insert clear combine_runs and_runs or_runs xor_runs minus_runs set_all
+    flip_runs inverted complement_runs shift_runs shift_left_runs shift_right_runs widths mem select_runs first_long drawn_first drawn_last past_first
+    past_last set_rows rect_runs count_rect_runs row_halves column_halves survey_runs big_endian value_from value_of encode_runs column columns_from
+    columns encode runs_due edition_of decode_runs runs_told decode bits bytes_from map_of map_bit into_front bad_rect bad_square bad_window bad_map
+    too_short bad_length bad_version ordered_from disordered no_room
+worlds-compute = refl
 
-pub cells-hold : AllHold cells
-cells-hold = rows-hold cells cells-compute
+pools-compute : map WorkedPools.computed (pools ++ measures) ≡ map WorkedPools.expected (pools ++ measures)
+unfolding pools measures pool_shown pool_left fits step_runs make_runs new_worlds at_by opened_at put_runs claims_runs others_runs bad_limits
+    measure_runs due_answer stopped_answer stopped_by first_refused_runs places_runs meets find ranges_of ranges_from entries_of entry_of bound_by
+    least middles middles_up_to runs_at deepest_runs words_of deepest_words
+    calc report_runs change_runs write_runs mend_runs union_at fates_runs another changed_runs remaining_runs setting_runs flipping_runs tallying_runs
+    fed_as runs_of union map_runs some_bit clipped clip set_runs on_range set_to insert clear combine_runs and_runs or_runs xor_runs minus_runs set_all
+    flip_runs inverted complement_runs shift_runs shift_left_runs shift_right_runs widths mem select_runs first_long drawn_first drawn_last past_first
+    past_last set_rows rect_runs count_rect_runs row_halves column_halves survey_runs big_endian value_from value_of encode_runs column columns_from
+    columns encode runs_due edition_of decode_runs runs_told decode bits bytes_from map_of map_bit into_front bad_rect bad_square bad_window bad_map
+    too_short bad_length bad_version ordered_from disordered no_room
+pools-compute = refl
 
-others-compute : map computed others ≡ map expected others
-unfolding others shown left calc report_runs change_runs write_runs mend_runs union_at fates_runs another changed_runs remaining_runs setting_runs flipping_runs tallying_runs fed_as runs_of union map_runs some_bit clipped clip
-    set_runs on_range set_to insert clear combine_runs and_runs or_runs xor_runs minus_runs set_all flip_runs inverted complement_runs shift_runs shift_left_runs
-    shift_right_runs widths mem select_runs first_long drawn_first drawn_last past_first past_last big_endian value_from value_of encode_runs column columns_from columns encode
-    runs_due edition_of decode_runs runs_told decode bits bytes_from map_of map_bit into_front bad_window bad_map too_short bad_length bad_version ordered_from disordered no_room
-others-compute = refl
+-- ---- calls on a lent slice alone
+abbrev call_of : HandledCase → Handled
+call_of c = c.call
 
-pub others-hold : AllHold others
-others-hold = rows-hold others others-compute
+abbrev told_of : HandledCase → Handled
+told_of c = c.is
+
+first : Handled → List Handled → Handled
+first d [] = d
+first d (h ∷ hs) = h
+
+rest : List Handled → List Handled
+rest [] = []
+rest (h ∷ hs) = hs
+
+-- rows hold as they compute
+all-handled : (cs : List HandledCase) → map call_of cs ≡ map told_of cs → AllHandled cs
+unfolding first rest
+all-handled [] e = tt
+all-handled (c ∷ cs) e = (ap (first c.call) e, all-handled cs (ap rest e))
+
+handled-compute : map call_of handled ≡ map told_of handled
+unfolding handled clear_map convert converted stray_bits cleared count
+    calc report_runs change_runs write_runs mend_runs union_at fates_runs another changed_runs remaining_runs setting_runs flipping_runs tallying_runs
+    fed_as runs_of union map_runs some_bit clipped clip set_runs on_range set_to insert clear combine_runs and_runs or_runs xor_runs minus_runs set_all
+    flip_runs inverted complement_runs shift_runs shift_left_runs shift_right_runs widths mem select_runs first_long drawn_first drawn_last past_first
+    past_last set_rows rect_runs count_rect_runs row_halves column_halves survey_runs big_endian value_from value_of encode_runs column columns_from
+    columns encode runs_due edition_of decode_runs runs_told decode bits bytes_from map_of map_bit into_front bad_rect bad_square bad_window bad_map
+    too_short bad_length bad_version ordered_from disordered no_room
+handled-compute = refl
+
+-- ---- the list for height 22
+-- how many words it has
+words-22 : length (deepest_words 22) ≡ 92734
+words-22 = omega (arith, deepest-words 22, least-22)
+
+-- it is refused where it has no room, and for nothing else
+answer-22 : (ws : List PlainWorld) (out : List ℕ) (o : Bool) → no_room out (deepest_words 22) ≡ o
+    → (step 46367 ws (measure (deepest 22) out)).answer ≡ cond o (refused 2) (gave (written (length (deepest_words 22)) (into_front (deepest_words 22) out)))
+unfolding step measure_by
+answer-22 ws out o e =
+    ap₂ (λ c r. (settle_measured (refusal (store_length when false ∷ output_short when r ∷ tree_height when false ∷ capacity when c ∷ [])) ws words).answer)
+    (le-ltb 46367 (least 22) (omega (arith, least-22))) e
+    ∙ go o
+  where
+    words : Result
+    words = written (length (deepest_words 22)) (into_front (deepest_words 22) out)
+
+    go : (r : Bool) → (settle_measured (refusal (store_length when false ∷ output_short when r ∷ tree_height when false ∷ capacity when false ∷ [])) ws words).answer
+        ≡ cond r (refused 2) (gave words)
+    go true = refl
+    go false = refl
+
+highest : Highest
+unfolding no_room
+highest ws out = (
+  words-22,
+  λ h. answer-22 ws out true (lt-ltb (length out) (length (deepest_words 22)) (omega (arith, words-22))),
+  λ h. answer-22 ws out false (le-ltb (length out) (length (deepest_words 22)) (omega (arith, words-22)))
+  ∙ ap (λ n. gave (written n (into_front (deepest_words 22) out))) words-22,
+)
+
+-- ---- 1 comes first
+length-first : Length-first
+unfolding make_by measure_by
+length-first C ws ls q out = (refl, refl)
+
+-- THE WORKED CASES
+pub worked-cases : Worked-cases
+worked-cases =
+    (rows-hold (cells ++ others) worlds-compute, pools-hold (pools ++ measures) pools-compute, all-handled handled handled-compute, highest, length-first)
