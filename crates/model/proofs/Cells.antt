@@ -193,7 +193,7 @@ module _ (rs : List Run) (canon : Canon size 0 rs) where
       ∙ go (one_of (count_rect_runs (block r c (2 ^ suc k) (2 ^ k)) rs) (2 ^ suc k * 2 ^ k))
     where
       go : (b : Bool) → cond b (piece r c (2 ^ suc k) (2 ^ k) (mem rs (cell r c))) (f r c ++ f (r + 2 ^ k) c)
-          ≡ elim b [ | true ↦ piece r c (2 ^ suc k) (2 ^ k) (mem rs (cell r c)) | false ↦ g r c ++ g (r + 2 ^ k) c ]
+          ≡ elim b [ true ↦ piece r c (2 ^ suc k) (2 ^ k) (mem rs (cell r c)) | false ↦ g r c ++ g (r + 2 ^ k) c ]
       go true = refl
       go false = ap₂ (λ xs ys. xs ++ ys) (e r c) (e (r + 2 ^ k) c)
 
@@ -207,7 +207,7 @@ module _ (rs : List Run) (canon : Canon size 0 rs) where
       whole = piece r c (2 ^ suc k) (2 ^ suc k) (mem rs (cell r c))
 
       go : (b : Bool) → cond b whole (by_row (mem rs) k f r c ++ by_row (mem rs) k f r (c + 2 ^ k))
-          ≡ elim b [ | true ↦ whole | false ↦ row_halves rs k g r c ++ row_halves rs k g r (c + 2 ^ k) ]
+          ≡ elim b [ true ↦ whole | false ↦ row_halves rs k g r c ++ row_halves rs k g r (c + 2 ^ k) ]
       go true = refl
       go false = ap₂ (λ xs ys. xs ++ ys) (row-halves k f g e r c) (row-halves k f g e r (c + 2 ^ k))
 

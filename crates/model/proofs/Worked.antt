@@ -4,17 +4,15 @@ use mathlib.Core.Bool.{Bool, true, false, cond}
 use mathlib.Core.List.{List, [], ◌∷◌, ◌++◌, map}
 use Prim.Native.Nat.{ℕ}
 use native.Mathlib.Omega.{arith}
-use lib.Dec.{ltb}
 use lib.ListN.{length}
 use borrow.Author.Tests.{lt-ltb, le-ltb}
-use Rattle.model.specs.Positions.{count, find, mem, past_first, past_last}
-use Rattle.model.proofs.Finds.{select_runs}
+use Rattle.model.specs.Positions.{count, find, mem}
 use Rattle.model.proofs.Gaps.{first_long}
 use Rattle.model.specs.RunList.{insert, clear}
 use Rattle.model.proofs.RunList.{widths}
 use Rattle.model.proofs.Clip.{clip}
 use Rattle.model.proofs.Edit.{set_to, on_range, set_runs}
-use Rattle.model.proofs.Ops.{set_all, or_runs, minus_runs, and_runs, xor_runs, combine_runs, inverted, flip_runs, complement_runs, shift_left_runs, shift_right_runs, shift_runs}
+use Rattle.model.proofs.Ops.{set_all, or_runs, minus_runs, and_runs, xor_runs, combine_runs, inverted, flip_runs, complement_runs}
 use Rattle.model.specs.Bytes.{
   big_endian,
   value_from,
@@ -39,7 +37,6 @@ use Rattle.model.specs.Bytes.{
 }
 use Rattle.model.specs.Mending.{another}
 use Rattle.model.specs.Refusals.{store_length, tree_height, capacity, output_short, ◌when◌, refusal, bad_limits, bad_rect, bad_square, bad_window, bad_map, too_short, bad_length, bad_version, ordered_from, disordered, no_room}
-use Rattle.model.specs.Model.{drawn_first, drawn_last}
 use Rattle.model.specs.Cases.{fed_as}
 use Rattle.model.specs.Worked.{cells, others, pools, measures, Highest, Length-first, HandledCase, AllHandled, handled, Worked-cases}
 use Rattle.model.specs.Clearing.{clear_map}
@@ -51,64 +48,47 @@ use Rattle.model.specs.Range.{bound_by}
 use Rattle.model.specs.Call.{deepest, measure, Result, written, refused, gave}
 use Rattle.model.specs.Pools.{PlainWorld, settle_measured, make_by, measure_by, step}
 use Rattle.model.proofs.Deepest.{least-22, deepest-words}
-use Rattle.model.proofs.WorkedPools
-use Rattle.model.proofs.WorkedPools.{opened_at, put_runs, claims_runs, others_runs, first_refused_runs, places_runs, stopped_by, due_answer, stopped_answer, measure_runs, at_by, new_worlds, make_runs, step_runs, pool_shown, pool_left, fits, pools-hold}
-use Rattle.model.proofs.Cases.{shown, left, computed, expected, rows-hold}
+use Rattle.model.proofs.WorkedPools.{opened_at, put_runs, claims_runs, others_runs, first_refused_runs, places_runs, stopped_by, due_answer, stopped_answer, measure_runs, at_by, new_worlds, make_runs, step_runs, pool_shown, pool_left, fits, PoolShown, pool-computed, pool-expected, pools-hold}
+use Rattle.model.proofs.Cases.{Shown, shown, left, computed, expected, rows-hold}
 use Rattle.model.proofs.Cells.{set_rows, rect_runs, count_rect_runs, row_halves, column_halves, survey_runs}
-use Rattle.model.proofs.Calc.{runs_of, union, map_runs, some_bit, clipped, report_runs, change_runs, write_runs, mend_runs, union_at, fates_runs, changed_runs, remaining_runs, setting_runs, flipping_runs, tallying_runs, calc}
+use Rattle.model.proofs.Calc.{runs_of, union, map_runs, some_bit, clipped, report_runs, change_runs, write_runs, mend_runs, union_at, fates_runs, changed_runs, setting_runs, flipping_runs, tallying_runs, calc}
 
-worlds-compute : map computed (cells ++ others) ≡ map expected (cells ++ others)
-unfolding cells others shown left
-    calc report_runs change_runs write_runs mend_runs union_at fates_runs another changed_runs remaining_runs setting_runs flipping_runs tallying_runs
-    fed_as runs_of union map_runs some_bit clipped clip set_runs on_range set_to insert clear combine_runs and_runs or_runs xor_runs minus_runs set_all
-    flip_runs inverted complement_runs shift_runs shift_left_runs shift_right_runs widths mem select_runs first_long drawn_first drawn_last past_first
-    past_last set_rows rect_runs count_rect_runs row_halves column_halves survey_runs big_endian value_from value_of encode_runs column columns_from
-    columns encode runs_due edition_of decode_runs runs_told decode bits bytes_from map_of map_bit into_front bad_rect bad_square bad_window bad_map
-    too_short bad_length bad_version ordered_from disordered no_room
-worlds-compute = refl
-
-pools-compute : map WorkedPools.computed (pools ++ measures) ≡ map WorkedPools.expected (pools ++ measures)
-unfolding pools measures pool_shown pool_left fits step_runs make_runs new_worlds at_by opened_at put_runs claims_runs others_runs bad_limits
-    measure_runs due_answer stopped_answer stopped_by first_refused_runs places_runs meets find ranges_of ranges_from entries_of entry_of bound_by
-    least middles middles_up_to runs_at deepest_runs words_of deepest_words
-    calc report_runs change_runs write_runs mend_runs union_at fates_runs another changed_runs remaining_runs setting_runs flipping_runs tallying_runs
-    fed_as runs_of union map_runs some_bit clipped clip set_runs on_range set_to insert clear combine_runs and_runs or_runs xor_runs minus_runs set_all
-    flip_runs inverted complement_runs shift_runs shift_left_runs shift_right_runs widths mem select_runs first_long drawn_first drawn_last past_first
-    past_last set_rows rect_runs count_rect_runs row_halves column_halves survey_runs big_endian value_from value_of encode_runs column columns_from
-    columns encode runs_due edition_of decode_runs runs_told decode bits bytes_from map_of map_bit into_front bad_rect bad_square bad_window bad_map
-    too_short bad_length bad_version ordered_from disordered no_room
-pools-compute = refl
-
--- ---- calls on a lent slice alone
+-- ---- the tables, computed
+-- a call on a lent slice alone, and what it is to come to
 abbrev call_of : HandledCase → Handled
 call_of c = c.call
 
 abbrev told_of : HandledCase → Handled
 told_of c = c.is
 
-first : Handled → List Handled → Handled
-first d [] = d
-first d (h ∷ hs) = h
+-- the rows of worlds, of pools and of lent slices
+record Tables : Type 0 where
+  worlds : List Shown
+  pooled : List PoolShown
+  slices : List Handled
 
-rest : List Handled → List Handled
-rest [] = []
-rest (h ∷ hs) = hs
+-- what they come to, and what they are to come to
+abbrev come-to : Tables
+come-to = record { worlds = map computed (cells ++ others); pooled = map pool-computed (pools ++ measures); slices = map call_of handled }
 
--- rows hold as they compute
+abbrev due : Tables
+due = record { worlds = map expected (cells ++ others); pooled = map pool-expected (pools ++ measures); slices = map told_of handled }
+
+tables-compute : come-to ≡ due
+unfolding cells others pools measures handled shown left pool_shown pool_left fits step_runs make_runs new_worlds at_by opened_at put_runs claims_runs
+    others_runs bad_limits measure_runs due_answer stopped_answer stopped_by first_refused_runs places_runs meets find ranges_of ranges_from entries_of
+    entry_of bound_by least middles middles_up_to runs_at deepest_runs words_of deepest_words clear_map convert converted stray_bits cleared count
+    calc report_runs change_runs write_runs mend_runs union_at fates_runs another changed_runs setting_runs flipping_runs tallying_runs fed_as runs_of
+    union map_runs some_bit clipped clip set_runs on_range set_to insert clear combine_runs and_runs or_runs xor_runs minus_runs set_all flip_runs
+    inverted complement_runs widths mem first_long set_rows rect_runs count_rect_runs row_halves column_halves survey_runs big_endian value_from
+    value_of encode_runs column columns_from columns encode runs_due edition_of decode_runs runs_told decode bits bytes_from map_of map_bit into_front
+    bad_rect bad_square bad_window bad_map too_short bad_length bad_version ordered_from disordered no_room
+tables-compute = refl
+
+-- rows of lent slices hold as they compute
 all-handled : (cs : List HandledCase) → map call_of cs ≡ map told_of cs → AllHandled cs
-unfolding first rest
 all-handled [] e = tt
-all-handled (c ∷ cs) e = (ap (first c.call) e, all-handled cs (ap rest e))
-
-handled-compute : map call_of handled ≡ map told_of handled
-unfolding handled clear_map convert converted stray_bits cleared count
-    calc report_runs change_runs write_runs mend_runs union_at fates_runs another changed_runs remaining_runs setting_runs flipping_runs tallying_runs
-    fed_as runs_of union map_runs some_bit clipped clip set_runs on_range set_to insert clear combine_runs and_runs or_runs xor_runs minus_runs set_all
-    flip_runs inverted complement_runs shift_runs shift_left_runs shift_right_runs widths mem select_runs first_long drawn_first drawn_last past_first
-    past_last set_rows rect_runs count_rect_runs row_halves column_halves survey_runs big_endian value_from value_of encode_runs column columns_from
-    columns encode runs_due edition_of decode_runs runs_told decode bits bytes_from map_of map_bit into_front bad_rect bad_square bad_window bad_map
-    too_short bad_length bad_version ordered_from disordered no_room
-handled-compute = refl
+all-handled (c ∷ cs) e = (cc, all-handled cs (cc))
 
 -- ---- the list for height 22
 -- how many words it has
@@ -138,7 +118,7 @@ highest ws out = (
   words-22,
   λ h. answer-22 ws out true (lt-ltb (length out) (length (deepest_words 22)) (omega (arith, words-22))),
   λ h. answer-22 ws out false (le-ltb (length out) (length (deepest_words 22)) (omega (arith, words-22)))
-  ∙ ap (λ n. gave (written n (into_front (deepest_words 22) out))) words-22,
+      ∙ ap (λ n. gave (written n (into_front (deepest_words 22) out))) words-22,
 )
 
 -- ---- 1 comes first
@@ -148,5 +128,10 @@ length-first C ws ls q out = (refl, refl)
 
 -- THE WORKED CASES
 pub worked-cases : Worked-cases
-worked-cases =
-    (rows-hold (cells ++ others) worlds-compute, pools-hold (pools ++ measures) pools-compute, all-handled handled handled-compute, highest, length-first)
+worked-cases = (
+  rows-hold (cells ++ others) (ap (λ (t : Tables). t.worlds) tables-compute),
+  pools-hold (pools ++ measures) (ap (λ (t : Tables). t.pooled) tables-compute),
+  all-handled handled (ap (λ (t : Tables). t.slices) tables-compute),
+  highest,
+  length-first,
+)

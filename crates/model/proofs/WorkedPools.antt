@@ -4,7 +4,7 @@ use Rattle.std.specs.Prelude.{Option, None, Some}
 use mathlib.Core.Path.{◌≡◌, refl, sym, ap, ap₂, ◌∙◌, fun_ext}
 use mathlib.Core.Bool.{Bool, true, false, not, ◌&&◌, cond}
 use mathlib.Core.List.{List, [], ◌∷◌, map}
-use Prim.Native.Nat.{ℕ, zero, suc, ◌+◌, ◌-◌, ◌≤◌, ◌<◌, min, max}
+use Prim.Native.Nat.{ℕ, zero, suc, ◌+◌, ◌-◌, ◌≤◌, min, max}
 use native.Mathlib.Omega.{arith}
 use lib.Dec.{ltb, leb}
 use lib.ListN.{length, take}
@@ -12,7 +12,7 @@ use borrow.Author.Tests.{leb-true}
 use Rattle.model.specs.declared.Run.{Run}
 use Rattle.model.specs.declared.Limits.{Limits}
 use Rattle.model.specs.Numbers.{size}
-use Rattle.model.specs.Positions.{Positions, find, stretches, run_at, mem}
+use Rattle.model.specs.Positions.{Positions, find, stretches, mem}
 use Rattle.model.specs.Bytes.{into_front}
 use Rattle.model.specs.RunList.{Canon}
 use Rattle.model.specs.Deepest.{least, deepest_words}
@@ -20,8 +20,8 @@ use Rattle.model.specs.Spawning.{none_refused, places_told, ranges_of, entries_o
 use Rattle.model.specs.Refusals.{store_length, world_limits, tree_height, not_refused, capacity, output_short, ◌when◌, refusal, bad_limits, bad_height, no_room}
 use Rattle.model.specs.Call
 use Rattle.model.specs.Call.{Fed, unopened, holding, Call, Measure, PoolCall, feed, feed_pool, make, measure, at, Result, done, written, Answer, refused, gave}
-use Rattle.model.specs.Model.{positions_of, report, change, write, mending, changed, setting, flipping, tallying, serve}
-use Rattle.model.specs.Pools.{PlainWorld, PoolOutcome, world_of, fed_by, claims, other_claims, full, holding_at, serve_at, settle_make, make_by, empty_worlds, settle_measured, measure_conditions, measure_by, step, answers, after, allowance_of, allowance}
+use Rattle.model.specs.Model.{report, change, mending, changed, setting, flipping, serve}
+use Rattle.model.specs.Pools.{PlainWorld, PoolOutcome, world_of, fed_by, claims, other_claims, full, holding_at, serve_at, settle_make, make_by, empty_worlds, settle_measured, measure_by, step, answers, after, allowance_of, allowance}
 use Rattle.model.specs.Cases.{Given, shut, having, fed_as}
 use Rattle.model.specs.Worked.{Opened, opened_as, PoolCase, PoolHolds, AllPoolsHold}
 use Rattle.model.proofs.Edit.{and-holds}
@@ -176,7 +176,7 @@ stopped-is C es = ap (why_full_up_to es) (first-refused C es) ∙ go (first_refu
 -- ---- measuring
 -- words that are due, where there is room for them
 unfoldable pub due_answer : List ℕ → List ℕ → Answer
-due_answer due out = elim (no_room out due) [ | true ↦ refused 2 | false ↦ gave (written (length due) (into_front due out)) ]
+due_answer due out = elim (no_room out due) [ true ↦ refused 2 | false ↦ gave (written (length due) (into_front due out)) ]
 
 unfoldable pub stopped_answer : Option (List ℕ) → List ℕ → Answer
 stopped_answer None out = refused 16
@@ -207,7 +207,7 @@ module _ (C : ℕ) (ws : List PlainWorld) (out : List ℕ) where
         | true ↦ refused 13
         | false ↦ elim c [
           | true ↦ refused 8
-          | false ↦ elim o [ | true ↦ refused 2 | false ↦ gave (written (length (deepest_words h)) (into_front (deepest_words h) out)) ]
+          | false ↦ elim o [ true ↦ refused 2 | false ↦ gave (written (length (deepest_words h)) (into_front (deepest_words h) out)) ]
         ]
       ]
   by_tests h true c o = refl
@@ -224,7 +224,7 @@ module _ (C : ℕ) (ws : List PlainWorld) (out : List ℕ) where
   by_places (Some ps) = go (no_room out ps)
     where
       go : (b : Bool) → (settle_measured (refusal (store_length when false ∷ output_short when b ∷ not_refused when false ∷ [])) ws
-          (written (length ps) (into_front ps out))).answer ≡ elim b [ | true ↦ refused 2 | false ↦ gave (written (length ps) (into_front ps out)) ]
+          (written (length ps) (into_front ps out))).answer ≡ elim b [ true ↦ refused 2 | false ↦ gave (written (length ps) (into_front ps out)) ]
       go true = refl
       go false = refl
 
@@ -384,17 +384,17 @@ pub record PoolShown : Type 0 where
   pub worlds-are : List Opened
   pub within : Bool
 
-abbrev pub computed : PoolCase → PoolShown
-computed c = record {
+abbrev pub pool-computed : PoolCase → PoolShown
+pool-computed c = record {
   answers-are = pool_shown c.capacity [] c.calls;
   worlds-are = pool_left c.capacity [] c.calls;
   within = fits c.capacity [] c.calls;
 }
 
-abbrev pub expected : PoolCase → PoolShown
-expected c = record { answers-are = c.answers-are; worlds-are = c.worlds-are; within = true }
+abbrev pub pool-expected : PoolCase → PoolShown
+pool-expected c = record { answers-are = c.answers-are; worlds-are = c.worlds-are; within = true }
 
-row-holds : (c : PoolCase) → computed c ≡ expected c → PoolHolds c
+row-holds : (c : PoolCase) → pool-computed c ≡ pool-expected c → PoolHolds c
 row-holds c e =
     let h : fits c.capacity [] c.calls ≡ true = ap (λ (s : PoolShown). s.within) e in
     record {
@@ -402,16 +402,10 @@ row-holds c e =
       held = left-after c.capacity [] c.calls tt h ∙ ap (λ (s : PoolShown). map opened_as s.worlds-are) e;
     }
 
-first : PoolShown → List PoolShown → PoolShown
-first d [] = d
-first d (s ∷ ss) = s
-
-rest : List PoolShown → List PoolShown
-rest [] = []
-rest (s ∷ ss) = ss
-
 -- rows hold as they compute
-pub pools-hold : (cs : List PoolCase) → map computed cs ≡ map expected cs → AllPoolsHold cs
-unfolding first rest
+pub pools-hold : (cs : List PoolCase) → map pool-computed cs ≡ map pool-expected cs → AllPoolsHold cs
 pools-hold [] e = tt
-pools-hold (c ∷ cs) e = (row-holds c (ap (first (computed c)) e), pools-hold cs (ap rest e))
+pools-hold (c ∷ cs) e =
+    let here : pool-computed c ≡ pool-expected c = cc in
+    let later : map pool-computed cs ≡ map pool-expected cs = cc in
+    (row-holds c here, pools-hold cs later)

@@ -1,7 +1,9 @@
--- A second table of worked cases, beside that of Cases.antt: calls on cells, pools of several worlds, measured lists, and what wrong models of the other
--- calls get wrong. Its numbers are worked out by hand from what each call is to do. Assumes nothing: these are definitions.
+-- A second table of worked cases, beside that of Cases.antt: cells of a grid, pools of several worlds, measured pools, and
+-- calls of the first table that wrong models would still pass. Its numbers are worked out by hand from what each call is
+-- to do. Assumes nothing: these are definitions.
 use Rattle.std.specs.Prelude.{None, Some}
-use Rattle.std.specs.Prelude.{◌≡◌, true, false, List, [], ◌∷◌, ◌++◌, map, ℕ, zero, suc, ◌-◌, ◌^◌, ◌≤◌, ◌<◌, length}
+use Rattle.std.specs.Prelude.{◌≡◌, true, false, List, [], ◌∷◌, ◌++◌, map, ℕ, zero, suc, ◌-◌, ◌^◌, ◌≤◌}
+use Rattle.std.specs.Prelude.{◌<◌, length}
 use Rattle.std.specs.declared.ops.Bound.TheVariants.{Included, Excluded, Unbounded}
 use Rattle.model.specs.declared.Run.{Run}
 use Rattle.model.specs.declared.Rect.{Rect}
@@ -11,14 +13,41 @@ use Rattle.model.specs.declared.Edition.TheVariants.{Rows, Columns}
 use Rattle.model.specs.Positions.{run, mem}
 use Rattle.model.specs.Bytes.{encode, into_front}
 use Rattle.model.specs.Deepest.{deepest_words}
-use Rattle.model.specs.Call.{set, get, tally, gap, combine, equal, load, mend, build, write_set, read_map, write_map, fill, set_strict, flip_strict, tally_strict, set_rect, count_rect, survey}
+use Rattle.model.specs.Call.{Call, set, get, tally, gap, combine, equal, load, mend, build, write_set, read_map, write_map, fill, set_strict}
+use Rattle.model.specs.Call.{flip_strict, tally_strict, set_rect, count_rect, survey}
 use Rattle.model.specs.Call.{Measure, deepest, why_full, PoolCall, make, measure, at, feed_pool}
-use Rattle.model.specs.Call.{done, number, tallied, value, position, written, mended, Answer, refused, gave}
+use Rattle.model.specs.Call.{Result, done, number, tallied, value, position, written, mended, Answer, refused, gave}
 use Rattle.model.specs.Pools.{PlainWorld, make_by, measure_by, step, answers, after}
 use Rattle.model.specs.Handled.{Handled}
 use Rattle.model.specs.Clearing.{clear_map}
 use Rattle.model.specs.Converting.{convert}
-use Rattle.model.specs.Cases.{Given, no_store, broken, shut, having, fed_as, Case, AllHold, mixed, row, M, from, upto, case-16-set, blank}
+use Rattle.model.specs.Cases.{Given, no_store, broken, shut, having, fed_as, Case, AllHold, mixed, M, from, upto, case-16-set, blank}
+
+-- ---- rows of a table: a call and its answer
+pub record Said (S : Type 0) : Type 0 where
+  pub call : S
+  pub answer : Answer
+
+-- the call gives this; it earns the refusal of this number
+infix 90 ◌gives◌
+abbrev pub ◌gives◌ : {S : Type 0} → S → Result → Said S
+c gives a = record { call = c; answer = gave a }
+
+infix 90 ◌earns◌
+abbrev pub ◌earns◌ : {S : Type 0} → S → ℕ → Said S
+c earns n = record { call = c; answer = refused n }
+
+abbrev pub calls_of : {S : Type 0} → List (Said S) → List S
+calls_of [] = []
+calls_of (s ∷ ss) = s.call ∷ calls_of ss
+
+abbrev pub answers_of : {S : Type 0} → List (Said S) → List Answer
+answers_of [] = []
+answers_of (s ∷ ss) = s.answer ∷ answers_of ss
+
+-- a row of calls on one world, and the runs that it holds afterwards
+abbrev pub says : ℕ → List (Said (Call Given)) → List Run → Case
+says C ss left = mixed C (calls_of ss) (answers_of ss) left
 
 -- ---- cells of a grid: the cell at a row and a column is the position row × 65,536 + column
 -- the rectangle of two corners, which belong to it: row and column of each
@@ -28,50 +57,75 @@ corners r c r' c' = record { top = r; left = c; bottom = r'; right = c' }
 unfoldable pub cells : List Case
 cells =
     -- a rectangle of two rows: how many cells changed, and which positions they are; one of the next two was held, and three of the four counted are
-    row 4
-    (set_rect (corners 1 2 2 4) true ∷ set_rect (corners 2 3 3 3) false ∷ count_rect (corners 1 3 2 4) ∷ count_rect (corners 0 0 3 65535) ∷ [])
-    (number 6 ∷ number 1 ∷ number 3 ∷ number 5 ∷ [])
+    says 4 (
+    set_rect (corners 1 2 2 4) true gives number 6
+    ∷ set_rect (corners 2 3 3 3) false gives number 1
+    ∷ count_rect (corners 1 3 2 4) gives number 3
+    ∷ count_rect (corners 0 0 3 65535) gives number 5
+    ∷ [])
     (run 65538 65540 ∷ run 131074 131074 ∷ run 131076 131076 ∷ [])
     -- the last row and column are on the plane, and no further one is, of either corner; a first corner beyond the second, in row or in column
-    ∷ mixed 4
-    (set_rect (corners 65535 65535 65535 65535) true ∷ set_rect (corners 65535 65536 65535 65536) true ∷ set_rect (corners 65536 0 65536 0) true
-    ∷ set_rect (corners 65535 0 65536 0) true ∷ set_rect (corners 0 65535 0 65536) true ∷ set_rect (corners 2 5 1 5) true ∷ set_rect (corners 1 5 1 4) true
-    ∷ count_rect (corners 65535 65535 65535 65535) ∷ count_rect (corners 65535 65535 65535 65536) ∷ count_rect (corners 1 5 1 4) ∷ count_rect (corners 1 5 1 5) ∷ [])
-    (gave (number 1) ∷ refused 15 ∷ refused 15 ∷ refused 15 ∷ refused 15 ∷ refused 15 ∷ refused 15 ∷ gave (number 1) ∷ refused 15 ∷ refused 15 ∷ gave (number 0) ∷ [])
+    ∷ says 4 (
+    set_rect (corners 65535 65535 65535 65535) true gives number 1
+    ∷ set_rect (corners 65535 65536 65535 65536) true earns 15
+    ∷ set_rect (corners 65536 0 65536 0) true earns 15
+    ∷ set_rect (corners 65535 0 65536 0) true earns 15
+    ∷ set_rect (corners 0 65535 0 65536) true earns 15
+    ∷ set_rect (corners 2 5 1 5) true earns 15
+    ∷ set_rect (corners 1 5 1 4) true earns 15
+    ∷ count_rect (corners 65535 65535 65535 65535) gives number 1
+    ∷ count_rect (corners 65535 65535 65535 65536) earns 15
+    ∷ count_rect (corners 1 5 1 4) earns 15
+    ∷ count_rect (corners 1 5 1 5) gives number 0
+    ∷ [])
     (run 4294967295 4294967295 ∷ [])
     -- whole rows are one run
-    ∷ row 1 (set_rect (corners 3 0 4 65535) true ∷ []) (number 131072 ∷ []) (run 196608 327679 ∷ [])
+    ∷ says 1 (
+    set_rect (corners 3 0 4 65535) true gives number 131072
+    ∷ [])
+    (run 196608 327679 ∷ [])
     -- the runs are those after the whole rectangle: its first row alone would part the run, and two rows of three cells are two runs
-    ∷ mixed 1
-    (build (run 0 196607 ∷ []) ∷ set_rect (corners 1 0 2 65535) false ∷ set_rect (corners 1 2 2 4) true ∷ [])
-    (gave done ∷ gave (number 131072) ∷ refused 8 ∷ [])
+    ∷ says 1 (
+    build (run 0 196607 ∷ []) gives done
+    ∷ set_rect (corners 1 0 2 65535) false gives number 131072
+    ∷ set_rect (corners 1 2 2 4) true earns 8
+    ∷ [])
     (run 0 65535 ∷ [])
-
     -- a square whose left column is held is halved once, by column: halved by row first it would come in four pieces
-    ∷ row 4
-    (build (run 0 0 ∷ run 65536 65536 ∷ []) ∷ survey 0 0 1 (blank 11) ∷ [])
-    (done ∷ written 10 (0 ∷ 0 ∷ 2 ∷ 1 ∷ 1 ∷ 0 ∷ 1 ∷ 2 ∷ 1 ∷ 0 ∷ 0xEE ∷ []) ∷ [])
+    ∷ says 4 (
+    build (run 0 0 ∷ run 65536 65536 ∷ []) gives done
+    ∷ survey 0 0 1 (blank 11) gives written 10 (0 ∷ 0 ∷ 2 ∷ 1 ∷ 1 ∷ 0 ∷ 1 ∷ 2 ∷ 1 ∷ 0 ∷ 0xEE ∷ [])
+    ∷ [])
     (run 0 0 ∷ run 65536 65536 ∷ [])
     -- one whose upper row is held comes in four: the left half's before the right one's, and of each the upper before the lower
-    ∷ row 4
-    (build (run 0 1 ∷ []) ∷ survey 0 0 1 (blank 20) ∷ [])
-    (done ∷ written 20 (0 ∷ 0 ∷ 1 ∷ 1 ∷ 1 ∷ 1 ∷ 0 ∷ 1 ∷ 1 ∷ 0 ∷ 0 ∷ 1 ∷ 1 ∷ 1 ∷ 1 ∷ 1 ∷ 1 ∷ 1 ∷ 1 ∷ 0 ∷ []) ∷ [])
+    ∷ says 4 (
+    build (run 0 1 ∷ []) gives done
+    ∷ survey 0 0 1 (blank 20) gives written 20 (0 ∷ 0 ∷ 1 ∷ 1 ∷ 1 ∷ 1 ∷ 0 ∷ 1 ∷ 1 ∷ 0 ∷ 0 ∷ 1 ∷ 1 ∷ 1 ∷ 1 ∷ 1 ∷ 1 ∷ 1 ∷ 1 ∷ 0 ∷ [])
+    ∷ [])
     (run 0 1 ∷ [])
-    -- a square of side 4 at row 4 and column 8: its left half is held; of the right one the upper half is free, and the left column of the lower.
-    -- Squares of side 2 within it, of which one has one value; the room for the output is looked at last
-    ∷ mixed 4
-    (set_rect (corners 4 8 7 9) true ∷ set_rect (corners 6 10 7 10) true ∷ survey 4 8 2 (blank 20) ∷ survey 4 8 1 (blank 5) ∷ survey 6 10 1 (blank 10) ∷ survey 6 10 0 (blank 5)
-    ∷ survey 4 8 2 (blank 19) ∷ [])
-    (gave (number 8) ∷ gave (number 2) ∷ gave (written 20 (4 ∷ 8 ∷ 4 ∷ 2 ∷ 1 ∷ 4 ∷ 10 ∷ 2 ∷ 2 ∷ 0 ∷ 6 ∷ 10 ∷ 2 ∷ 1 ∷ 1 ∷ 6 ∷ 11 ∷ 2 ∷ 1 ∷ 0 ∷ []))
-    ∷ gave (written 5 (4 ∷ 8 ∷ 2 ∷ 2 ∷ 1 ∷ [])) ∷ gave (written 10 (6 ∷ 10 ∷ 2 ∷ 1 ∷ 1 ∷ 6 ∷ 11 ∷ 2 ∷ 1 ∷ 0 ∷ []))
-    ∷ gave (written 5 (6 ∷ 10 ∷ 1 ∷ 1 ∷ 1 ∷ [])) ∷ refused 2 ∷ [])
+    -- a square of side 4 at row 4 and column 8: its left half is held; of the right one the upper half is free, and the left column of the lower. Squares of side 2 within it, of which one has one value; the room for the output is looked at last
+    ∷ says 4 (
+    set_rect (corners 4 8 7 9) true gives number 8
+    ∷ set_rect (corners 6 10 7 10) true gives number 2
+    ∷ survey 4 8 2 (blank 20) gives written 20 (4 ∷ 8 ∷ 4 ∷ 2 ∷ 1 ∷ 4 ∷ 10 ∷ 2 ∷ 2 ∷ 0 ∷ 6 ∷ 10 ∷ 2 ∷ 1 ∷ 1 ∷ 6 ∷ 11 ∷ 2 ∷ 1 ∷ 0 ∷ [])
+    ∷ survey 4 8 1 (blank 5) gives written 5 (4 ∷ 8 ∷ 2 ∷ 2 ∷ 1 ∷ [])
+    ∷ survey 6 10 1 (blank 10) gives written 10 (6 ∷ 10 ∷ 2 ∷ 1 ∷ 1 ∷ 6 ∷ 11 ∷ 2 ∷ 1 ∷ 0 ∷ [])
+    ∷ survey 6 10 0 (blank 5) gives written 5 (6 ∷ 10 ∷ 1 ∷ 1 ∷ 1 ∷ [])
+    ∷ survey 4 8 2 (blank 19) earns 2
+    ∷ [])
     (run 262152 262153 ∷ run 327688 327689 ∷ run 393224 393226 ∷ run 458760 458762 ∷ [])
     -- a square of one value is one piece; up to the plane's edge and not beyond it, in row or in column; no side above 2^8, and that is looked at before the room
-    ∷ mixed 4
-    (survey 65280 65280 8 (blank 5) ∷ survey 65281 0 8 (blank 5) ∷ survey 0 65281 8 (blank 5) ∷ survey 65535 65535 0 (blank 5) ∷ survey 65535 0 1 (blank 5)
-    ∷ survey 65536 0 0 (blank 5) ∷ survey 0 0 9 (blank 5) ∷ survey 0 0 9 [] ∷ survey 0 0 8 [] ∷ [])
-    (gave (written 5 (65280 ∷ 65280 ∷ 256 ∷ 256 ∷ 0 ∷ [])) ∷ refused 15 ∷ refused 15 ∷ gave (written 5 (65535 ∷ 65535 ∷ 1 ∷ 1 ∷ 0 ∷ [])) ∷ refused 15
-    ∷ refused 15 ∷ refused 15 ∷ refused 15 ∷ refused 2 ∷ [])
+    ∷ says 4 (
+    survey 65280 65280 8 (blank 5) gives written 5 (65280 ∷ 65280 ∷ 256 ∷ 256 ∷ 0 ∷ [])
+    ∷ survey 65281 0 8 (blank 5) earns 15
+    ∷ survey 0 65281 8 (blank 5) earns 15
+    ∷ survey 65535 65535 0 (blank 5) gives written 5 (65535 ∷ 65535 ∷ 1 ∷ 1 ∷ 0 ∷ [])
+    ∷ survey 65535 0 1 (blank 5) earns 15
+    ∷ survey 65536 0 0 (blank 5) earns 15
+    ∷ survey 0 0 9 (blank 5) earns 15
+    ∷ survey 0 0 9 [] earns 15
+    ∷ survey 0 0 8 [] earns 2
+    ∷ [])
     []
     ∷ []
 
@@ -99,68 +153,118 @@ three-columns =
 abbrev pub three-runs : List Run
 three-runs = run 258 772 ∷ run 66051 66052 ∷ run (M - 1) M ∷ []
 
--- runs in any order: two that overlap, one that is dropped, two that touch, two that are equal, one within another, and one alone; and their union
+-- runs in any order: two that overlap, one that is dropped, two that touch, two that are equal, one within another, and
+-- one alone; and their union
 abbrev pub tangled : List Run
 tangled =
-    run 20 30 ∷ run 5 4 ∷ run 8 9 ∷ run 25 35 ∷ run 50 50 ∷ run 4 7 ∷ run 50 50 ∷ run 100 101 ∷ run 22 23 ∷ []
+    run 20 30 ∷ run 5 4 ∷ run 8 9 ∷ run 25 35 ∷ run 50 50 ∷ run 4 7 ∷ run 50 50 ∷ run 100 101
+    ∷ run 22 23 ∷ []
 
 abbrev pub untangled : List Run
 untangled = run 4 9 ∷ run 20 35 ∷ run 50 50 ∷ run 100 101 ∷ []
 
 unfoldable pub others : List Case
 others =
-    -- the lowest gap: at either end of the range and of all positions, where the range begins within a free stretch or cuts one short; none in an empty
-    -- range and in a reversed one, and 9 even there
-    mixed 4
-    (build (run 3 5 ∷ run 8 (M - 2) ∷ []) ∷ gap Unbounded Unbounded 3 ∷ gap (from 1) Unbounded 3 ∷ gap (from 1) Unbounded 2 ∷ gap (from 2) Unbounded 2 ∷ gap (from 2) (upto 3) 1
-    ∷ gap (from 2) (upto 4) 2 ∷ gap (Excluded 6) Unbounded 2 ∷ gap (Excluded 6) (Included M) 1 ∷ gap (from 7) (upto M) 2 ∷ gap (Excluded (M - 1)) Unbounded 1
-    ∷ gap (Excluded M) Unbounded 1 ∷ gap (from 7) (upto 2) 1 ∷ gap (from 7) (upto 2) 0 ∷ gap Unbounded Unbounded M ∷ [])
-    (gave done ∷ gave (position (Some 0)) ∷ gave (position None) ∷ gave (position (Some 1)) ∷ gave (position (Some 6)) ∷ gave (position (Some 2))
-    ∷ gave (position None) ∷ gave (position (Some (M - 1))) ∷ gave (position (Some 7)) ∷ gave (position None) ∷ gave (position (Some M))
-    ∷ gave (position None) ∷ gave (position None) ∷ refused 9 ∷ gave (position None) ∷ [])
+    -- the lowest gap: at either end of the range and of all positions, where the range begins within a free stretch or cuts one short; none in an empty range and in a reversed one, and 9 even there
+    says 4 (
+    build (run 3 5 ∷ run 8 (M - 2) ∷ []) gives done
+    ∷ gap Unbounded Unbounded 3 gives position (Some 0)
+    ∷ gap (from 1) Unbounded 3 gives position None
+    ∷ gap (from 1) Unbounded 2 gives position (Some 1)
+    ∷ gap (from 2) Unbounded 2 gives position (Some 6)
+    ∷ gap (from 2) (upto 3) 1 gives position (Some 2)
+    ∷ gap (from 2) (upto 4) 2 gives position None
+    ∷ gap (Excluded 6) Unbounded 2 gives position (Some (M - 1))
+    ∷ gap (Excluded 6) (Included M) 1 gives position (Some 7)
+    ∷ gap (from 7) (upto M) 2 gives position None
+    ∷ gap (Excluded (M - 1)) Unbounded 1 gives position (Some M)
+    ∷ gap (Excluded M) Unbounded 1 gives position None
+    ∷ gap (from 7) (upto 2) 1 gives position None
+    ∷ gap (from 7) (upto 2) 0 earns 9
+    ∷ gap Unbounded Unbounded M gives position None
+    ∷ [])
     (run 3 5 ∷ run 8 (M - 2) ∷ [])
     -- strict forms by bounds that exclude their value: 14 where the first position allowed is above the one after the last, which may be 0 or 2^64
-    ∷ mixed 4
-    (build (run 2 3 ∷ run 8 9 ∷ []) ∷ tally_strict (Excluded 5) (upto 5) true ∷ tally_strict (Excluded 5) (upto 6) true ∷ tally_strict (from 5) (upto 5) true
-    ∷ tally_strict Unbounded (upto 0) false ∷ tally_strict (Excluded 0) (upto 0) false ∷ tally_strict (Excluded M) Unbounded false ∷ tally_strict (Excluded M) (Included M) false
-    ∷ tally_strict (Excluded M) (upto M) false ∷ tally (Excluded M) (upto M) false ∷ tally_strict (Excluded 2) (Included 8) true ∷ tally_strict (Excluded 2) (Included 8) false
-    ∷ set_strict (Excluded 9) (Included 9) false ∷ flip_strict (Excluded 9) (upto 9) ∷ flip_strict (Excluded 2) (upto 8) ∷ [])
-    (gave done ∷ refused 14 ∷ gave (tallied 0 0) ∷ gave (tallied 0 0) ∷ gave (tallied 0 0) ∷ refused 14 ∷ gave (tallied 0 0) ∷ gave (tallied 0 0)
-    ∷ refused 14 ∷ gave (tallied 0 0) ∷ gave (tallied 2 2) ∷ gave (tallied 4 1) ∷ gave (number 0) ∷ refused 14 ∷ gave done ∷ [])
+    ∷ says 4 (
+    build (run 2 3 ∷ run 8 9 ∷ []) gives done
+    ∷ tally_strict (Excluded 5) (upto 5) true earns 14
+    ∷ tally_strict (Excluded 5) (upto 6) true gives tallied 0 0
+    ∷ tally_strict (from 5) (upto 5) true gives tallied 0 0
+    ∷ tally_strict Unbounded (upto 0) false gives tallied 0 0
+    ∷ tally_strict (Excluded 0) (upto 0) false earns 14
+    ∷ tally_strict (Excluded M) Unbounded false gives tallied 0 0
+    ∷ tally_strict (Excluded M) (Included M) false gives tallied 0 0
+    ∷ tally_strict (Excluded M) (upto M) false earns 14
+    ∷ tally (Excluded M) (upto M) false gives tallied 0 0
+    ∷ tally_strict (Excluded 2) (Included 8) true gives tallied 2 2
+    ∷ tally_strict (Excluded 2) (Included 8) false gives tallied 4 1
+    ∷ set_strict (Excluded 9) (Included 9) false gives number 0
+    ∷ flip_strict (Excluded 9) (upto 9) earns 14
+    ∷ flip_strict (Excluded 2) (upto 8) gives done
+    ∷ [])
     (run 2 2 ∷ run 4 9 ∷ [])
     -- fill is rounded up: one, two and three of three
-    ∷ row 4
-    (set (from 0) (upto 1) true ∷ fill 0 3 ∷ set (from 1) (upto 2) true ∷ fill 0 3 ∷ set (from 2) (upto 3) true ∷ fill 0 3 ∷ [])
-    (number 1 ∷ number 334 ∷ number 1 ∷ number 667 ∷ number 1 ∷ number 1000 ∷ [])
+    ∷ says 4 (
+    set (from 0) (upto 1) true gives number 1
+    ∷ fill 0 3 gives number 334
+    ∷ set (from 1) (upto 2) true gives number 1
+    ∷ fill 0 3 gives number 667
+    ∷ set (from 2) (upto 3) true gives number 1
+    ∷ fill 0 3 gives number 1000
+    ∷ [])
     (run 0 2 ∷ [])
     -- 999 of 1000, of 1001 and of 2000; one of 1000, and none; the windows that are refused, and the last position
-    ∷ mixed 4
-    (build (run 0 998 ∷ []) ∷ fill 0 1000 ∷ fill 0 1001 ∷ fill 0 2000 ∷ fill 998 1000 ∷ fill 999 1000 ∷ fill 0 999 ∷ fill 0 0 ∷ fill 0 524289 ∷ fill M 1 ∷ fill M 2 ∷ [])
-    (gave done ∷ gave (number 999) ∷ gave (number 999) ∷ gave (number 500) ∷ gave (number 1) ∷ gave (number 0) ∷ gave (number 1000) ∷ refused 6 ∷ refused 6
-    ∷ gave (number 0) ∷ refused 6 ∷ [])
+    ∷ says 4 (
+    build (run 0 998 ∷ []) gives done
+    ∷ fill 0 1000 gives number 999
+    ∷ fill 0 1001 gives number 999
+    ∷ fill 0 2000 gives number 500
+    ∷ fill 998 1000 gives number 1
+    ∷ fill 999 1000 gives number 0
+    ∷ fill 0 999 gives number 1000
+    ∷ fill 0 0 earns 6
+    ∷ fill 0 524289 earns 6
+    ∷ fill M 1 gives number 0
+    ∷ fill M 2 earns 6
+    ∷ [])
     (run 0 998 ∷ [])
     -- windows of 9, 10, 15 and 16 positions have seven, six, one and no spare bit; 6 for a short map comes first; and what is written has them 0
-    ∷ mixed 4
-    (read_map 0 9 (0xFF ∷ 0x02 ∷ []) ∷ read_map 0 9 (0xFF ∷ 0x80 ∷ []) ∷ read_map 0 9 (0xFF ∷ []) ∷ read_map 0 9 (0xFF ∷ 0x01 ∷ [])
-    ∷ read_map 0 10 (0x00 ∷ 0x04 ∷ []) ∷ read_map 0 10 (0x00 ∷ 0x03 ∷ []) ∷ read_map 0 15 (0x00 ∷ 0x80 ∷ []) ∷ read_map 0 15 (0x00 ∷ 0x7F ∷ [])
-    ∷ read_map 0 16 (0x00 ∷ 0xFF ∷ []) ∷ write_map 0 9 (blank 3) ∷ write_map 0 15 (blank 2) ∷ write_map 0 16 (blank 2) ∷ write_map 0 17 (blank 2) ∷ [])
-    (refused 10 ∷ refused 10 ∷ refused 6 ∷ gave (number 9) ∷ refused 10 ∷ gave (number 9) ∷ refused 10 ∷ gave (number 5) ∷ gave (number 1)
-    ∷ gave (written 2 (0x00 ∷ 0x01 ∷ 0xEE ∷ [])) ∷ gave (written 2 (0x00 ∷ 0x7F ∷ [])) ∷ gave (written 2 (0x00 ∷ 0xFF ∷ [])) ∷ refused 2 ∷ [])
+    ∷ says 4 (
+    read_map 0 9 (0xFF ∷ 0x02 ∷ []) earns 10
+    ∷ read_map 0 9 (0xFF ∷ 0x80 ∷ []) earns 10
+    ∷ read_map 0 9 (0xFF ∷ []) earns 6
+    ∷ read_map 0 9 (0xFF ∷ 0x01 ∷ []) gives number 9
+    ∷ read_map 0 10 (0x00 ∷ 0x04 ∷ []) earns 10
+    ∷ read_map 0 10 (0x00 ∷ 0x03 ∷ []) gives number 9
+    ∷ read_map 0 15 (0x00 ∷ 0x80 ∷ []) earns 10
+    ∷ read_map 0 15 (0x00 ∷ 0x7F ∷ []) gives number 5
+    ∷ read_map 0 16 (0x00 ∷ 0xFF ∷ []) gives number 1
+    ∷ write_map 0 9 (blank 3) gives written 2 (0x00 ∷ 0x01 ∷ 0xEE ∷ [])
+    ∷ write_map 0 15 (blank 2) gives written 2 (0x00 ∷ 0x7F ∷ [])
+    ∷ write_map 0 16 (blank 2) gives written 2 (0x00 ∷ 0xFF ∷ [])
+    ∷ write_map 0 17 (blank 2) earns 2
+    ∷ [])
     (run 8 15 ∷ [])
     -- a set of three runs in both editions, each loaded and written; the empty set, in edition 2; a slice that is a byte short
-    ∷ mixed 3
-    (write_set Columns (blank 6) ∷ load three-columns ∷ write_set Columns (blank 54) ∷ write_set Rows (blank 54) ∷ load three-rows ∷ write_set Columns (blank 53)
-    ∷ write_set Columns (blank 52) ∷ [])
-    (gave (written 5 (0x02 ∷ 0x00 ∷ 0x00 ∷ 0x00 ∷ 0x00 ∷ 0xEE ∷ [])) ∷ gave done ∷ gave (written 53 (three-columns ++ 0xEE ∷ []))
-    ∷ gave (written 53 (three-rows ++ 0xEE ∷ [])) ∷ gave done ∷ gave (written 53 three-columns) ∷ refused 2 ∷ [])
+    ∷ says 3 (
+    write_set Columns (blank 6) gives written 5 (0x02 ∷ 0x00 ∷ 0x00 ∷ 0x00 ∷ 0x00 ∷ 0xEE ∷ [])
+    ∷ load three-columns gives done
+    ∷ write_set Columns (blank 54) gives written 53 (three-columns ++ 0xEE ∷ [])
+    ∷ write_set Rows (blank 54) gives written 53 (three-rows ++ 0xEE ∷ [])
+    ∷ load three-rows gives done
+    ∷ write_set Columns (blank 53) gives written 53 three-columns
+    ∷ write_set Columns (blank 52) earns 2
+    ∷ [])
     three-runs
     -- mending in both editions: who shares a run with another is joined, and who would only share it with a dropped one is kept
-    ∷ row 4
-    (mend (encode Rows tangled) (blank 70) (blank 10) ∷ mend (encode Columns tangled) (blank 69) (blank 9) ∷ mend (encode Columns untangled) (blank 69) (blank 4)
-    ∷ mend three-rows (blank 53) (blank 3) ∷ mend three-columns (blank 53) (blank 3) ∷ mend (encode Rows (run 6 5 ∷ run 2 5 ∷ [])) (blank 21) (blank 2) ∷ [])
-    (mended 69 (encode Rows untangled ++ 0xEE ∷ []) 9 (1 ∷ 0 ∷ 1 ∷ 1 ∷ 1 ∷ 1 ∷ 1 ∷ 2 ∷ 1 ∷ 0xEE ∷ [])
-    ∷ mended 69 (encode Columns untangled) 9 (1 ∷ 0 ∷ 1 ∷ 1 ∷ 1 ∷ 1 ∷ 1 ∷ 2 ∷ 1 ∷ []) ∷ mended 69 (encode Columns untangled) 4 (2 ∷ 2 ∷ 2 ∷ 2 ∷ [])
-    ∷ mended 53 three-rows 3 (2 ∷ 2 ∷ 2 ∷ []) ∷ mended 53 three-columns 3 (2 ∷ 2 ∷ 2 ∷ []) ∷ mended 21 (encode Rows (run 2 5 ∷ [])) 2 (0 ∷ 2 ∷ []) ∷ [])
+    ∷ says 4 (
+    mend (encode Rows tangled) (blank 70) (blank 10) gives mended 69 (encode Rows untangled ++ 0xEE ∷ []) 9 (1 ∷ 0 ∷ 1 ∷ 1 ∷ 1 ∷ 1 ∷ 1 ∷ 2 ∷ 1 ∷ 0xEE ∷ [])
+    ∷ mend (encode Columns tangled) (blank 69) (blank 9) gives mended 69 (encode Columns untangled) 9 (1 ∷ 0 ∷ 1 ∷ 1 ∷ 1 ∷ 1 ∷ 1 ∷ 2 ∷ 1 ∷ [])
+    ∷ mend (encode Columns untangled) (blank 69) (blank 4) gives mended 69 (encode Columns untangled) 4 (2 ∷ 2 ∷ 2 ∷ 2 ∷ [])
+    ∷ mend three-rows (blank 53) (blank 3) gives mended 53 three-rows 3 (2 ∷ 2 ∷ 2 ∷ [])
+    ∷ mend three-columns (blank 53) (blank 3) gives mended 53 three-columns 3 (2 ∷ 2 ∷ 2 ∷ [])
+    ∷ mend (encode Rows (run 4 3 ∷ run 2 5 ∷ [])) (blank 21) (blank 2) gives mended 21 (encode Rows (run 2 5 ∷ [])) 2 (0 ∷ 2 ∷ [])
+    ∷ [])
     (run 2 5 ∷ [])
     ∷ []
 
@@ -190,8 +294,8 @@ abbrev pub AllPoolsHold : List PoolCase → Type 0
 AllPoolsHold [] = Unit
 AllPoolsHold (c ∷ cs) = PoolHolds c × AllPoolsHold cs
 
-abbrev pub pool_row : ℕ → List (PoolCall Given) → List Answer → List Opened → PoolCase
-pool_row C calls told left = record { capacity = C; calls = calls; answers-are = told; worlds-are = left }
+abbrev pub pool_says : ℕ → List (Said (PoolCall Given)) → List Opened → PoolCase
+pool_says C ss left = record { capacity = C; calls = calls_of ss; answers-are = answers_of ss; worlds-are = left }
 
 -- a world's floor and ceiling; that world, and what it holds; n worlds of the same limits
 abbrev pub limits : ℕ → ℕ → Limits
@@ -214,47 +318,96 @@ free i x = at i (set (from x) (Included x) false)
 unfoldable pub pools : List PoolCase
 pools =
     -- 8 by the ceiling alone: world 0 may have one run though the pool has room for four, and world 1 three
-    pool_row 4
-    (make (limits 0 1 ∷ limits 0 3 ∷ []) ∷ hold 0 1 ∷ hold 0 5 ∷ hold 0 2 ∷ hold 1 5 ∷ hold 1 7 ∷ hold 1 9 ∷ hold 1 11 ∷ [])
-    (gave done ∷ gave (number 1) ∷ refused 8 ∷ gave (number 1) ∷ gave (number 1) ∷ gave (number 1) ∷ gave (number 1) ∷ refused 8 ∷ [])
+    pool_says 4 (
+    make (limits 0 1 ∷ limits 0 3 ∷ []) gives done
+    ∷ hold 0 1 gives number 1
+    ∷ hold 0 5 earns 8
+    ∷ hold 0 2 gives number 1
+    ∷ hold 1 5 gives number 1
+    ∷ hold 1 7 gives number 1
+    ∷ hold 1 9 gives number 1
+    ∷ hold 1 11 earns 8
+    ∷ [])
     (opened 0 1 (run 1 2 ∷ []) ∷ opened 0 3 (run 5 5 ∷ run 7 7 ∷ run 9 9 ∷ []) ∷ [])
     -- 8 by the sum of the larger of runs and floor: an empty world's floor of 2 is kept for it, and above its floor it gets what the other has not
-    ∷ pool_row 4
-    (make (limits 2 4 ∷ limits 0 4 ∷ []) ∷ hold 1 1 ∷ hold 1 3 ∷ hold 1 5 ∷ hold 0 1 ∷ hold 0 3 ∷ hold 0 5 ∷ free 1 3 ∷ hold 0 5 ∷ hold 1 3 ∷ free 0 3 ∷ hold 1 3 ∷ [])
-    (gave done ∷ gave (number 1) ∷ gave (number 1) ∷ refused 8 ∷ gave (number 1) ∷ gave (number 1) ∷ refused 8 ∷ gave (number 1) ∷ gave (number 1)
-    ∷ refused 8 ∷ gave (number 1) ∷ gave (number 1) ∷ [])
+    ∷ pool_says 4 (
+    make (limits 2 4 ∷ limits 0 4 ∷ []) gives done
+    ∷ hold 1 1 gives number 1
+    ∷ hold 1 3 gives number 1
+    ∷ hold 1 5 earns 8
+    ∷ hold 0 1 gives number 1
+    ∷ hold 0 3 gives number 1
+    ∷ hold 0 5 earns 8
+    ∷ free 1 3 gives number 1
+    ∷ hold 0 5 gives number 1
+    ∷ hold 1 3 earns 8
+    ∷ free 0 3 gives number 1
+    ∷ hold 1 3 gives number 1
+    ∷ [])
     (opened 2 4 (run 1 1 ∷ run 5 5 ∷ []) ∷ opened 0 4 (run 1 1 ∷ run 3 3 ∷ []) ∷ [])
     -- a floor is reached however full the pool is: worlds 1 and 2 are empty, and world 0 has all that their floors leave; a run that grows needs no room
-    ∷ pool_row 5
-    (make (limits 0 5 ∷ limits 2 2 ∷ limits 1 3 ∷ []) ∷ hold 0 1 ∷ hold 0 3 ∷ hold 0 5 ∷ hold 1 1 ∷ hold 1 3 ∷ hold 1 5 ∷ hold 2 1 ∷ hold 2 3 ∷ hold 2 2
-    ∷ at 2 (load case-16-set) ∷ at 0 (tally Unbounded Unbounded true) ∷ [])
-    (gave done ∷ gave (number 1) ∷ gave (number 1) ∷ refused 8 ∷ gave (number 1) ∷ gave (number 1) ∷ refused 8 ∷ gave (number 1) ∷ refused 8
-    ∷ gave (number 1) ∷ refused 5 ∷ gave (tallied 2 2) ∷ [])
+    ∷ pool_says 5 (
+    make (limits 0 5 ∷ limits 2 2 ∷ limits 1 3 ∷ []) gives done
+    ∷ hold 0 1 gives number 1
+    ∷ hold 0 3 gives number 1
+    ∷ hold 0 5 earns 8
+    ∷ hold 1 1 gives number 1
+    ∷ hold 1 3 gives number 1
+    ∷ hold 1 5 earns 8
+    ∷ hold 2 1 gives number 1
+    ∷ hold 2 3 earns 8
+    ∷ hold 2 2 gives number 1
+    ∷ at 2 (load case-16-set) earns 5
+    ∷ at 0 (tally Unbounded Unbounded true) gives tallied 2 2
+    ∷ [])
     (opened 0 5 (run 1 1 ∷ run 3 3 ∷ []) ∷ opened 2 2 (run 1 1 ∷ run 3 3 ∷ []) ∷ opened 1 3 (run 1 2 ∷ []) ∷ [])
-    -- 11: no world, 17 worlds, a floor above its ceiling, floors together above C, also where their sum would wrap; then the worlds stay. 16 worlds, and
-    -- floors of C together, are opened, whatever the ceilings; and made again, a pool is empty
-    ∷ pool_row 4
-    (make [] ∷ make (alike 17 (limits 0 4)) ∷ make (alike 16 (limits 0 4)) ∷ hold 15 7 ∷ make [] ∷ make (limits 3 2 ∷ []) ∷ make (limits 0 4 ∷ limits 1 0 ∷ [])
-    ∷ make (limits 3 4 ∷ limits 2 4 ∷ []) ∷ make (limits (2 ^ 63) M ∷ limits (2 ^ 63) M ∷ []) ∷ at 15 (get 7) ∷ make (limits 3 M ∷ limits 1 1 ∷ []) ∷ at 15 (get 7)
-    ∷ hold 1 7 ∷ make (limits 4 4 ∷ []) ∷ at 0 (get 7) ∷ [])
-    (refused 11 ∷ refused 11 ∷ gave done ∷ gave (number 1) ∷ refused 11 ∷ refused 11 ∷ refused 11 ∷ refused 11 ∷ refused 11 ∷ gave (value true)
-    ∷ gave done ∷ refused 12 ∷ gave (number 1) ∷ gave done ∷ gave (value false) ∷ [])
+    -- 11: no world, 17 worlds, a floor above its ceiling, floors together above C, also where their sum would wrap; then the worlds stay. 16 worlds, and floors of C together, are opened, whatever the ceilings; and made again, a pool is empty
+    ∷ pool_says 4 (
+    make [] earns 11
+    ∷ make (alike 17 (limits 0 4)) earns 11
+    ∷ make (alike 16 (limits 0 4)) gives done
+    ∷ hold 15 7 gives number 1
+    ∷ make [] earns 11
+    ∷ make (limits 3 2 ∷ []) earns 11
+    ∷ make (limits 0 4 ∷ limits 1 0 ∷ []) earns 11
+    ∷ make (limits 3 4 ∷ limits 2 4 ∷ []) earns 11
+    ∷ make (limits (2 ^ 63) M ∷ limits (2 ^ 63) M ∷ []) earns 11
+    ∷ at 15 (get 7) gives value true
+    ∷ make (limits 3 M ∷ limits 1 1 ∷ []) gives done
+    ∷ at 15 (get 7) earns 12
+    ∷ hold 1 7 gives number 1
+    ∷ make (limits 4 4 ∷ []) gives done
+    ∷ at 0 (get 7) gives value false
+    ∷ [])
     (opened 4 4 [] ∷ [])
     -- 12 comes after 1 and 7 of any pool, and before every other refusal; of the worlds of further pools too
-    ∷ pool_row 4
-    (make (limits 0 4 ∷ []) ∷ hold 1 0 ∷ at 1 (gap Unbounded Unbounded 0) ∷ at 1 (set_strict (from 8) (upto 2) true) ∷ at 1 (set_rect (corners 65536 0 65536 0) true)
-    ∷ at 1 (fill 0 0) ∷ at 1 (read_map 0 9 (0xFF ∷ 0xFF ∷ [])) ∷ at 1 (load []) ∷ at 1 (load case-16-set) ∷ at 1 (write_set Rows []) ∷ at 16 (get 0)
-    ∷ at 1 (combine Or broken (having [])) ∷ at 1 (combine Or broken no_store) ∷ at 1 (equal no_store) ∷ at 0 (combine Or (having []) shut)
-    ∷ at 0 (combine Or shut broken) ∷ at 0 (get 0) ∷ at 0 (gap Unbounded Unbounded 0) ∷ [])
-    (gave done ∷ refused 12 ∷ refused 12 ∷ refused 12 ∷ refused 12 ∷ refused 12 ∷ refused 12 ∷ refused 12 ∷ refused 12 ∷ refused 12 ∷ refused 12
-    ∷ refused 7 ∷ refused 1 ∷ refused 1 ∷ refused 12 ∷ refused 7 ∷ gave (value false) ∷ refused 9 ∷ [])
+    ∷ pool_says 4 (
+    make (limits 0 4 ∷ []) gives done
+    ∷ hold 1 0 earns 12
+    ∷ at 1 (gap Unbounded Unbounded 0) earns 12
+    ∷ at 1 (set_strict (from 8) (upto 2) true) earns 12
+    ∷ at 1 (set_rect (corners 65536 0 65536 0) true) earns 12
+    ∷ at 1 (fill 0 0) earns 12
+    ∷ at 1 (read_map 0 9 (0xFF ∷ 0xFF ∷ [])) earns 12
+    ∷ at 1 (load []) earns 12
+    ∷ at 1 (load case-16-set) earns 12
+    ∷ at 1 (write_set Rows []) earns 12
+    ∷ at 16 (get 0) earns 12
+    ∷ at 1 (combine Or broken (having [])) earns 7
+    ∷ at 1 (combine Or broken no_store) earns 1
+    ∷ at 1 (equal no_store) earns 1
+    ∷ at 0 (combine Or (having []) shut) earns 12
+    ∷ at 0 (combine Or shut broken) earns 7
+    ∷ at 0 (get 0) gives value false
+    ∷ at 0 (gap Unbounded Unbounded 0) earns 9
+    ∷ [])
     (opened 0 4 [] ∷ [])
     ∷ []
 
 -- ---- measured pools
--- a pool of one world, which may have all of it, is measured for each question, with a slice of so many words; its world stays
-abbrev pub measured : ℕ → List (PoolCall Given) → List Answer → PoolCase
-measured C calls told = pool_row C (make (limits 0 C ∷ []) ∷ calls) (gave done ∷ told) (opened 0 C [] ∷ [])
+-- a pool of one world, which may have all of it, is measured, with a slice of so many words for each question; its world stays
+abbrev pub measured : ℕ → List (Said (PoolCall Given)) → PoolCase
+measured C ss = pool_says C (make (limits 0 C ∷ []) gives done ∷ ss) (opened 0 C [] ∷ [])
 
 abbrev pub ask : Measure → ℕ → PoolCall Given
 ask q n = measure q (blank n)
@@ -287,34 +440,60 @@ joining = closed 1 1 (closed 5 5 (closed 2 4 (closed 9 9 (closed 20 20 []))))
 unfoldable pub measures : List PoolCase
 measures =
     -- the deepest trees of heights 1 to 5: of 1, 2, 4, 7 and 12 ranks the middle one, then the middle ones of both parts, and so on, each rank k as the run 2k .. 2k
-    measured 12
-    (ask (deepest 1) 3 ∷ ask (deepest 2) 4 ∷ ask (deepest 3) 8 ∷ ask (deepest 4) 14 ∷ ask (deepest 5) 24 ∷ ask (deepest 5) 23 ∷ [])
-    (gave (written 2 (0 ∷ 0 ∷ 0xEE ∷ [])) ∷ gave (written 4 (2 ∷ 2 ∷ 0 ∷ 0 ∷ [])) ∷ gave (written 8 (4 ∷ 4 ∷ 2 ∷ 2 ∷ 6 ∷ 6 ∷ 0 ∷ 0 ∷ []))
-    ∷ gave (written 14 (8 ∷ 8 ∷ 4 ∷ 4 ∷ 12 ∷ 12 ∷ 2 ∷ 2 ∷ 6 ∷ 6 ∷ 10 ∷ 10 ∷ 0 ∷ 0 ∷ []))
-    ∷ gave (written 24 (
-    14 ∷ 14 ∷ 8 ∷ 8 ∷ 20 ∷ 20 ∷ 4 ∷ 4 ∷ 12 ∷ 12 ∷ 18 ∷ 18 ∷ 22 ∷ 22 ∷ 2 ∷ 2 ∷ 6 ∷ 6 ∷ 10 ∷ 10 ∷ 16 ∷ 16 ∷ 0 ∷ 0 ∷ []))
-    ∷ refused 2 ∷ [])
+    measured 12 (
+    ask (deepest 1) 3 gives written 2 (0 ∷ 0 ∷ 0xEE ∷ [])
+    ∷ ask (deepest 2) 4 gives written 4 (2 ∷ 2 ∷ 0 ∷ 0 ∷ [])
+    ∷ ask (deepest 3) 8 gives written 8 (4 ∷ 4 ∷ 2 ∷ 2 ∷ 6 ∷ 6 ∷ 0 ∷ 0 ∷ [])
+    ∷ ask (deepest 4) 14 gives written 14 (8 ∷ 8 ∷ 4 ∷ 4 ∷ 12 ∷ 12 ∷ 2 ∷ 2 ∷ 6 ∷ 6 ∷ 10 ∷ 10 ∷ 0 ∷ 0 ∷ [])
+    ∷ ask (deepest 5) 24 gives written 24 ( 14 ∷ 14 ∷ 8 ∷ 8 ∷ 20 ∷ 20 ∷ 4 ∷ 4 ∷ 12 ∷ 12 ∷ 18 ∷ 18 ∷ 22 ∷ 22 ∷ 2 ∷ 2 ∷ 6 ∷ 6 ∷ 10 ∷ 10 ∷ 16 ∷ 16 ∷ 0 ∷ 0 ∷ [])
+    ∷ ask (deepest 5) 23 earns 2
+    ∷ [])
     -- 13, 8 and 2, in this order
-    ∷ measured 11
-    (ask (deepest 5) 24 ∷ ask (deepest 5) 0 ∷ ask (deepest 4) 13 ∷ ask (deepest 0) 0 ∷ ask (deepest 23) 0 ∷ [])
-    (refused 8 ∷ refused 8 ∷ refused 2 ∷ refused 13 ∷ refused 13 ∷ [])
-    ∷ measured 0 (ask (deepest 0) 0 ∷ ask (deepest 1) 2 ∷ []) (refused 13 ∷ refused 8 ∷ [])
+    ∷ measured 11 (
+    ask (deepest 5) 24 earns 8
+    ∷ ask (deepest 5) 0 earns 8
+    ∷ ask (deepest 4) 13 earns 2
+    ∷ ask (deepest 0) 0 earns 13
+    ∷ ask (deepest 23) 0 earns 13
+    ∷ [])
+    ∷ measured 0 (
+    ask (deepest 0) 0 earns 13
+    ∷ ask (deepest 1) 2 earns 8
+    ∷ [])
     -- the list for height 22 has 46,367 runs, and there is none for 23
-    ∷ measured 46366 (ask (deepest 22) 0 ∷ []) (refused 8 ∷ [])
-    ∷ measured 46367 (ask (deepest 23) 0 ∷ []) (refused 13 ∷ [])
+    ∷ measured 46366 (
+    ask (deepest 22) 0 earns 8
+    ∷ [])
+    ∷ measured 46367 (
+    ask (deepest 23) 0 earns 13
+    ∷ [])
     -- why a list stops: at C = 1 the fifth call is refused, and the first ranges of the two runs have the places 0 and 4; no room for them
-    ∷ measured 1 (ask (why_full spawned) 3 ∷ ask (why_full spawned) 1 ∷ []) (gave (written 2 (0 ∷ 4 ∷ 0xEE ∷ [])) ∷ refused 2 ∷ [])
+    ∷ measured 1 (
+    ask (why_full spawned) 3 gives written 2 (0 ∷ 4 ∷ 0xEE ∷ [])
+    ∷ ask (why_full spawned) 1 earns 2
+    ∷ [])
     -- places rise as in the list, and not as their runs do; a range of an earlier one's run is left out
-    ∷ measured 2 (ask (why_full led-late) 3 ∷ []) (gave (written 3 (0 ∷ 1 ∷ 3 ∷ [])) ∷ [])
+    ∷ measured 2 (
+    ask (why_full led-late) 3 gives written 3 (0 ∷ 1 ∷ 3 ∷ [])
+    ∷ [])
     -- a range that led a run of its own leads none where a later one joined it to another
-    ∷ measured 2 (ask (why_full joining) 3 ∷ ask (why_full spawned) 3 ∷ []) (gave (written 3 (0 ∷ 3 ∷ 4 ∷ [])) ∷ gave (written 3 (0 ∷ 4 ∷ 5 ∷ [])) ∷ [])
+    ∷ measured 2 (
+    ask (why_full joining) 3 gives written 3 (0 ∷ 3 ∷ 4 ∷ [])
+    ∷ ask (why_full spawned) 3 gives written 3 (0 ∷ 4 ∷ 5 ∷ [])
+    ∷ [])
     -- bounds that exclude their value, and none at all; words after the last whole four are no range
-    ∷ measured 1 (ask (why_full (past 9 10 (below 1 (1 ∷ 5 ∷ 1 ∷ [])))) 2 ∷ []) (gave (written 2 (0 ∷ 1 ∷ [])) ∷ [])
+    ∷ measured 1 (
+    ask (why_full (past 9 10 (below 1 (1 ∷ 5 ∷ 1 ∷ [])))) 2 gives written 2 (0 ∷ 1 ∷ [])
+    ∷ [])
     -- 16 where every call is done, before the room is looked at; so of an empty list, and of one without a position
-    ∷ measured 3 (ask (why_full joining) 0 ∷ ask (why_full []) 0 ∷ []) (refused 16 ∷ refused 16 ∷ [])
-    ∷ measured 0
-    (ask (why_full (half-open 5 5 (closed 8 2 []))) 0 ∷ ask (why_full (half-open 5 5 (closed 3 3 (closed 1 1 [])))) 1 ∷ [])
-    (refused 16 ∷ gave (written 1 (1 ∷ [])) ∷ [])
+    ∷ measured 3 (
+    ask (why_full joining) 0 earns 16
+    ∷ ask (why_full []) 0 earns 16
+    ∷ [])
+    ∷ measured 0 (
+    ask (why_full (half-open 5 5 (closed 8 2 []))) 0 earns 16
+    ∷ ask (why_full (half-open 5 5 (closed 3 3 (closed 1 1 [])))) 1 gives written 1 (1 ∷ [])
+    ∷ [])
     ∷ []
 
 -- the list for height 22 has 46,367 runs, two words each: a slice of fewer words is short, and any other gets them
@@ -325,7 +504,8 @@ Highest =
     × (length out < 92734 → (step 46367 ws (measure (deepest 22) out)).answer ≡ refused 2)
     × (92734 ≤ length out → (step 46367 ws (measure (deepest 22) out)).answer ≡ gave (written 92734 (into_front (deepest_words 22) out)))
 
--- a store of a wrong length is refused before anything else is looked at: where a pool is made, and where one is measured
+-- a store of a wrong length is refused before anything else is looked at: where a pool is made, and where one is
+-- measured
 abbrev pub Length-first : Type 0
 Length-first =
     (C : ℕ) (ws : List PlainWorld) (ls : List Limits) (q : Measure) (out : List ℕ)
@@ -366,7 +546,9 @@ handled =
     -- converting a set of either edition into the other; the empty set; room to spare
     ∷ handles (convert three-rows (blank 54)) (three-as (three-columns ++ 0xEE ∷ [])) (three-columns ++ 0xEE ∷ [])
     ∷ handles (convert three-columns (blank 53)) (three-as three-rows) three-rows
-    ∷ handles (convert (0x01 ∷ 0x00 ∷ 0x00 ∷ 0x00 ∷ 0x00 ∷ []) (blank 5)) (gave (written 5 (0x02 ∷ 0x00 ∷ 0x00 ∷ 0x00 ∷ 0x00 ∷ []))) (0x02 ∷ 0x00 ∷ 0x00 ∷ 0x00 ∷ 0x00 ∷ [])
+    ∷ handles (convert (0x01 ∷ 0x00 ∷ 0x00 ∷ 0x00 ∷ 0x00
+    ∷ []) (blank 5)) (gave (written 5 (0x02 ∷ 0x00 ∷ 0x00 ∷ 0x00 ∷ 0x00 ∷ []))) (0x02 ∷ 0x00 ∷ 0x00
+    ∷ 0x00 ∷ 0x00 ∷ [])
     -- 3 for fewer than five bytes, 4, 3 for the length, 5 in either edition, and 2, in this order; the slice stays
     ∷ handles (convert [] (blank 1)) (refused 3) (0xEE ∷ [])
     ∷ handles (convert (0x03 ∷ 0x00 ∷ 0x00 ∷ 0x00 ∷ []) []) (refused 3) []
