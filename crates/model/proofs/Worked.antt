@@ -114,10 +114,10 @@ answer-22 ws out o e =
 
 highest : Highest
 unfolding no_room
-highest ws out = (
+highest = (
   words-22,
-  λ h. answer-22 ws out true (lt-ltb (length out) (length (deepest_words 22)) (omega (arith, words-22))),
-  λ h. answer-22 ws out false (le-ltb (length out) (length (deepest_words 22)) (omega (arith, words-22)))
+  λ ws out h. answer-22 ws out true (lt-ltb (length out) (length (deepest_words 22)) (omega (arith, words-22))),
+  λ ws out h. answer-22 ws out false (le-ltb (length out) (length (deepest_words 22)) (omega (arith, words-22)))
       ∙ ap (λ n. gave (written n (into_front (deepest_words 22) out))) words-22,
 )
 
