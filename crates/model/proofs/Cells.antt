@@ -1,5 +1,5 @@
--- Cells of a grid on run lists: a rectangle is set row by row, its held cells are those that the list shares with it, and a survey counts them so.
--- By the laws of a range that is set, and the cell of a position. Assumes nothing.
+-- Cells of a grid on run lists: a rectangle is set row by row, its held cells are those that the list shares with it,
+-- and a survey counts them so. By the laws of a range that is set, since a row's cells are a range. Assumes nothing.
 use mathlib.Core.Path.{◌≡◌, refl, sym, ap, ap₂, ◌∙◌, fun_ext}
 use mathlib.Core.Logic.{◌⊎◌, inl, inr}
 use mathlib.Core.Bool.{Bool, true, false, cond, ◌&&◌, ◌||◌}
@@ -18,7 +18,8 @@ use Rattle.model.specs.Grid.{cell, within, block, one_valued, piece, or_halves, 
 use Rattle.model.specs.RunList.{Canon}
 use Rattle.model.proofs.Numbers.{split}
 use Rattle.model.proofs.RunList.{widths}
-use Rattle.model.proofs.Counting.{Place, below, within as between, above, place, inside-yes, inside-below, inside-above, among-yes, among_below, among-above}
+use Rattle.model.proofs.Counting.{Place, below, within as between, above, place, inside-yes, inside-below, inside-above}
+use Rattle.model.proofs.Counting.{among-yes, among_below, among-above}
 use Rattle.model.proofs.Edit.{set_runs, set_runs-canon, set_runs-mem}
 use Rattle.model.proofs.Ops.{combine_runs, combine-canon, combine-mem, bounded-mem}
 use Rattle.model.proofs.Finds.{count_runs}
@@ -54,7 +55,12 @@ among-first a n x = go (split x a) (split a x)
       where
         ne_past : (x < suc a + n) ⊎ (suc a + n ≤ x) → among a (suc n) x ≡ (eqb x a || among (suc a) n x)
         ne_past (inl l) =
-            rw (among-yes a (suc n) x h (omega arith), ne_eqb x a (λ e. omega arith), among-yes (suc a) n x (omega arith) l)
+            rw (
+              among-yes a (suc n) x h (omega arith),
+              ne_eqb x a (λ e. omega arith),
+              among-yes (suc a) n x
+                  (omega arith) l,
+            )
         ne_past (inr l) =
             rw (among-above a (suc n) x (omega arith), ne_eqb x a (λ e. omega arith), among-above (suc a) n x l)
 
@@ -64,25 +70,30 @@ unfoldable pub set_rows : ℕ → ℕ → Bool → ℕ → ℕ → List Run → 
 set_rows c n v zero r rs = rs
 set_rows c n v (suc m) r rs = set_runs size (cell r c) n v (set_rows c n v m (suc r) rs)
 
-set_rows-canon : (c n : ℕ) (v : Bool) (m r : ℕ) (rs : List Run) → Canon size 0 rs → Canon size 0 (set_rows c n v m r rs)
+set_rows-canon : (c n : ℕ) (v : Bool) (m r : ℕ) (rs : List Run) → Canon size 0 rs
+    → Canon size 0 (set_rows c n v m r rs)
 unfolding set_rows
 set_rows-canon c n v zero r rs k = k
-set_rows-canon c n v (suc m) r rs k = set_runs-canon size (cell r c) n v (set_rows c n v m (suc r) rs) (set_rows-canon c n v m (suc r) rs k)
+set_rows-canon c n v (suc m) r rs k = set_runs-canon size (cell r c) n v (set_rows c n v m (suc r) rs)
+    (set_rows-canon c n v m (suc r) rs k)
 
 -- the cells of one row, if it does not reach into the next one
-row-cells : (c n r x : ℕ) → c + n ≤ 65536 → among (cell r c) n x ≡ (eqb (x / 65536) r && among c n (x % 65536))
+row-cells : (c n r x : ℕ) → c + n ≤ 65536 → among (cell r c) n x
+    ≡ (eqb (x / 65536) r && among c n (x % 65536))
 row-cells c n r x fits = go (split (x / 65536) r) (split r (x / 65536))
   where
     go : (x / 65536 < r) ⊎ (r ≤ x / 65536) → (r < x / 65536) ⊎ (x / 65536 ≤ r)
         → among (cell r c) n x ≡ (eqb (x / 65536) r && among c n (x % 65536))
     go (inl h) k = rw (ne_eqb (x / 65536) r (λ e. omega arith)) (among_below (cell r c) n x (omega arith))
     go (inr h) (inl k) = rw (ne_eqb (x / 65536) r (λ e. omega arith)) (among-above (cell r c) n x (omega arith))
-    go (inr h) (inr k) = rw (eq-eqb (x / 65536) r (omega arith)) (same (split (x % 65536) c) (split (x % 65536) (c + n)))
+    go (inr h) (inr k) = rw (eq-eqb (x / 65536) r (omega arith))
+        (same (split (x % 65536) c) (split (x % 65536) (c + n)))
       where
         same : (x % 65536 < c) ⊎ (c ≤ x % 65536) → (x % 65536 < c + n) ⊎ (c + n ≤ x % 65536)
             → among (cell r c) n x ≡ among c n (x % 65536)
         same (inl a) b = among_below (cell r c) n x (omega arith) ∙ sym (among_below c n (x % 65536) a)
-        same (inr a) (inl b) = among-yes (cell r c) n x (omega arith) (omega arith) ∙ sym (among-yes c n (x % 65536) a b)
+        same (inr a) (inl b) = among-yes (cell r c) n x (omega arith) (omega arith)
+            ∙ sym (among-yes c n (x % 65536) a b)
         same (inr a) (inr b) = among-above (cell r c) n x (omega arith) ∙ sym (among-above c n (x % 65536) b)
 
 -- one row and the others
@@ -93,14 +104,17 @@ rows-join true false false v p = refl
 rows-join false w a v p = refl
 
 set_rows-mem : (c n : ℕ) (v : Bool) (m r : ℕ) (rs : List Run) (x : ℕ) → c + n ≤ 65536 → Canon size 0 rs
-    → mem (set_rows c n v m r rs) x ≡ (ltb x size && cond (among r m (x / 65536) && among c n (x % 65536)) v (mem rs x))
+    → mem (set_rows c n v m r rs) x
+    ≡ (ltb x size && cond (among r m (x / 65536) && among c n (x % 65536)) v (mem rs x))
 unfolding set_rows bounded Rattle.model.specs.Positions.set_range
-set_rows-mem c n v zero r rs x fits k = ap (λ (P : Positions). P x) (sym (bounded-mem rs k)) ∙ ap (λ b. ltb x size && b) (sym none)
+set_rows-mem c n v zero r rs x fits k =
+    ap (λ (P : Positions). P x) (sym (bounded-mem rs k)) ∙ ap (λ b. ltb x size && b) (sym none)
   where
     none : cond (among r 0 (x / 65536) && among c n (x % 65536)) v (mem rs x) ≡ mem rs x
     none = go (split (x / 65536) r)
       where
-        go : (x / 65536 < r) ⊎ (r ≤ x / 65536) → cond (among r 0 (x / 65536) && among c n (x % 65536)) v (mem rs x) ≡ mem rs x
+        go : (x / 65536 < r) ⊎ (r ≤ x / 65536)
+            → cond (among r 0 (x / 65536) && among c n (x % 65536)) v (mem rs x) ≡ mem rs x
         go (inl h) = rw (among_below r 0 (x / 65536) h)
         go (inr h) = rw (among-above r 0 (x / 65536) (omega arith))
 set_rows-mem c n v (suc m) r rs x fits k =
@@ -114,11 +128,13 @@ set_rows-mem c n v (suc m) r rs x fits k =
 
 -- a rectangle of the plane, and of any other what lies on it
 unfoldable pub rect_runs : Rect → Bool → List Run → List Run
-rect_runs q v rs = set_rows (min q.left 65536) (suc (min q.right 65535) - min q.left 65536) v (suc q.bottom - q.top) q.top rs
+rect_runs q v rs =
+    set_rows (min q.left 65536) (suc (min q.right 65535) - min q.left 65536) v (suc q.bottom - q.top) q.top rs
 
 pub rect-canon : (q : Rect) (v : Bool) (rs : List Run) → Canon size 0 rs → Canon size 0 (rect_runs q v rs)
 unfolding rect_runs
-rect-canon q v rs k = set_rows-canon (min q.left 65536) (suc (min q.right 65535) - min q.left 65536) v (suc q.bottom - q.top) q.top rs k
+rect-canon q v rs k = set_rows-canon (min q.left 65536) (suc (min q.right 65535) - min q.left 65536) v
+    (suc q.bottom - q.top) q.top rs k
 
 -- the columns of the plane
 on-plane : (l r z : ℕ) → z < 65536 → inside (min l 65536) (min r 65535) z ≡ inside l r z
@@ -129,14 +145,17 @@ on-plane l r z h = go (place l r z)
     go (between a b e) = inside-yes (min l 65536) (min r 65535) z (omega arith) (omega arith) ∙ sym e
     go (above a e) = inside-above (min l 65536) (min r 65535) z (omega arith) ∙ sym e
 
-rect-mem : (q : Rect) (v : Bool) (rs : List Run) (x : ℕ) → Canon size 0 rs → mem (rect_runs q v rs) x ≡ (ltb x size && Grid.set_rect q v (mem rs) x)
+rect-mem : (q : Rect) (v : Bool) (rs : List Run) (x : ℕ) → Canon size 0 rs
+    → mem (rect_runs q v rs) x ≡ (ltb x size && Grid.set_rect q v (mem rs) x)
 unfolding rect_runs Grid.set_rect within
 rect-mem q v rs x k =
-    set_rows-mem (min q.left 65536) (suc (min q.right 65535) - min q.left 65536) v (suc q.bottom - q.top) q.top rs x (omega arith) k
+    set_rows-mem (min q.left 65536) (suc (min q.right 65535) - min q.left 65536) v (suc q.bottom - q.top) q.top rs x
+    (omega arith) k
     ∙ ap₂ (λ a b. ltb x size && cond (a && b) v (mem rs x)) (among-run q.top q.bottom (x / 65536))
     (among-run (min q.left 65536) (min q.right 65535) (x % 65536) ∙ on-plane q.left q.right (x % 65536) (omega arith))
 
-pub rect-positions : (q : Rect) (v : Bool) (rs : List Run) → Canon size 0 rs → mem (rect_runs q v rs) ≡ bounded (Grid.set_rect q v (mem rs))
+pub rect-positions : (q : Rect) (v : Bool) (rs : List Run) → Canon size 0 rs
+    → mem (rect_runs q v rs) ≡ bounded (Grid.set_rect q v (mem rs))
 unfolding bounded
 rect-positions q v rs k = fun_ext (λ x. rect-mem q v rs x k)
 
@@ -149,9 +168,11 @@ unfolding Grid.count_rect count_rect_runs combined Grid.set_rect mem Rattle.mode
 rect-count q rs k =
     count_runs (λ x. within q x && mem rs x) true 0 size
     ∙ ap widths
-    (held_runs-is (λ x. within q x && mem rs x) (combine_runs And (rect_runs q true []) rs) (combine-canon size And (rect_runs q true []) rs (rect-canon q true [] tt) k)
+    (held_runs-is (λ x. within q x && mem rs x) (combine_runs And (rect_runs q true []) rs)
+    (combine-canon size And (rect_runs q true []) rs (rect-canon q true [] tt) k)
     (λ x h. combine-mem size And (rect_runs q true []) rs (rect-canon q true [] tt) k x
-    ∙ ap (λ b. b && mem rs x) (rect-mem q true [] x tt ∙ ap (λ t. t && cond (within q x) true false) (lt-ltb x size h) ∙ held (within q x))))
+    ∙ ap (λ b. b && mem rs x) (rect-mem q true [] x tt
+    ∙ ap (λ t. t && cond (within q x) true false) (lt-ltb x size h) ∙ held (within q x))))
   where
     held : (b : Bool) → cond b true false ≡ b
     held true = refl
@@ -186,10 +207,12 @@ module _ (rs : List Run) (canon : Canon size 0 rs) where
   unfolding one_valued
   valued r c m n = ap (λ k. one_of k (m * n)) (rect-count (block r c m n) rs canon)
 
-  row-halves : (k : ℕ) (f g : ℕ → ℕ → List ℕ) → ((r c : ℕ) → f r c ≡ g r c) → (r c : ℕ) → by_row (mem rs) k f r c ≡ row_halves rs k g r c
+  row-halves : (k : ℕ) (f g : ℕ → ℕ → List ℕ) → ((r c : ℕ) → f r c ≡ g r c) → (r c : ℕ)
+      → by_row (mem rs) k f r c ≡ row_halves rs k g r c
   unfolding row_halves
   row-halves k f g e r c =
-      ap (λ b. cond b (piece r c (2 ^ suc k) (2 ^ k) (mem rs (cell r c))) (f r c ++ f (r + 2 ^ k) c)) (valued r c (2 ^ suc k) (2 ^ k))
+      ap (λ b. cond b (piece r c (2 ^ suc k) (2 ^ k) (mem rs (cell r c))) (f r c ++ f (r + 2 ^ k) c))
+      (valued r c (2 ^ suc k) (2 ^ k))
       ∙ go (one_of (count_rect_runs (block r c (2 ^ suc k) (2 ^ k)) rs) (2 ^ suc k * 2 ^ k))
     where
       go : (b : Bool) → cond b (piece r c (2 ^ suc k) (2 ^ k) (mem rs (cell r c))) (f r c ++ f (r + 2 ^ k) c)
@@ -197,10 +220,12 @@ module _ (rs : List Run) (canon : Canon size 0 rs) where
       go true = refl
       go false = ap₂ (λ xs ys. xs ++ ys) (e r c) (e (r + 2 ^ k) c)
 
-  column-halves : (k : ℕ) (f g : ℕ → ℕ → List ℕ) → ((r c : ℕ) → f r c ≡ g r c) → (r c : ℕ) → by_column (mem rs) k f r c ≡ column_halves rs k g r c
+  column-halves : (k : ℕ) (f g : ℕ → ℕ → List ℕ) → ((r c : ℕ) → f r c ≡ g r c) → (r c : ℕ)
+      → by_column (mem rs) k f r c ≡ column_halves rs k g r c
   unfolding column_halves
   column-halves k f g e r c =
-      ap (λ b. cond b whole (by_row (mem rs) k f r c ++ by_row (mem rs) k f r (c + 2 ^ k))) (valued r c (2 ^ suc k) (2 ^ suc k))
+      ap (λ b. cond b whole (by_row (mem rs) k f r c ++ by_row (mem rs) k f r (c + 2 ^ k)))
+      (valued r c (2 ^ suc k) (2 ^ suc k))
       ∙ go (one_of (count_rect_runs (block r c (2 ^ suc k) (2 ^ suc k)) rs) (2 ^ suc k * 2 ^ suc k))
     where
       whole : List ℕ
