@@ -43,12 +43,13 @@ use Rattle.model.specs.Positions.{
   changes,
   same,
 }
-use Rattle.model.proofs.Counting.{Place, below, within, above, place, among-yes, among_below, among-above, count-cong, count-first, count_most}
-use Rattle.model.proofs.Runs.{runs_in-is, runs_in-cong, held_runs-mem, held_runs-canon, mem-held_runs, held_runs-cong, stretches-is}
+use Rattle.model.proofs.Counting.{among-yes, among_below, among-above, count-cong, count-first, count_most}
+use Rattle.model.proofs.Runs.{runs_in-is, runs_in-cong, held_runs-mem, held_runs-cong, stretches-is}
 use Rattle.model.proofs.Finds.{start_of, find_runs, count_runs, select_runs, select-runs}
 use Rattle.model.proofs.Gaps.{first_long, gap_runs}
 use Rattle.model.specs.RunList.{Canon}
 use Rattle.model.proofs.RunList.{canon-weaken, canon-wider, widths}
+use Rattle.model.proofs.Cells.{among-run, cut-cond, rect_runs, rect-canon, rect-positions, count_rect_runs, rect-count, survey_runs, surveyed}
 use Rattle.model.proofs.Clip.{clip, clip-canon, clip-mem, clip-runs}
 use Rattle.model.proofs.Edit.{set_runs, set_runs-canon, set_runs-mem}
 use Rattle.model.proofs.Ops.{
@@ -155,18 +156,6 @@ unfolding union
 union-canon [] = tt
 union-canon (r ∷ rs) = set_runs-canon size r.start (suc r.«end» - r.start) true (union rs) (union-canon rs)
 
-among-run : (a b x : ℕ) → among a (suc b - a) x ≡ inside a b x
-among-run a b x = go (place a b x)
-  where
-    go : Place a b x → among a (suc b - a) x ≡ inside a b x
-    go (below h e) = among_below a (suc b - a) x h ∙ sym e
-    go (within h k e) = among-yes a (suc b - a) x h (omega arith) ∙ sym e
-    go (above h e) = far (split x a) ∙ sym e
-      where
-        far : (x < a) ⊎ (a ≤ x) → among a (suc b - a) x ≡ false
-        far (inl l) = among_below a (suc b - a) x l
-        far (inr l) = among-above a (suc b - a) x (omega arith)
-
 cut_or : (t i p : Bool) → (t && cond i true (t && p)) ≡ (t && (i || p))
 cut_or true true p = refl
 cut_or true false p = refl
@@ -197,10 +186,6 @@ pub map-canon : (base n : ℕ) (bs : List ℕ) (rs : List Run) → Canon size 0 
 unfolding map_runs
 map-canon base zero bs rs c = c
 map-canon base (suc n) bs rs c = set_runs-canon size (base + n) 1 (map_bit bs n) (map_runs base n bs rs) (map-canon base n bs rs c)
-
-cut-cond : (t i v p : Bool) → (t && cond i v (t && p)) ≡ (t && cond i v p)
-cut-cond true i v p = refl
-cut-cond false i v p = refl
 
 map-step : (base n : ℕ) (bs : List ℕ) (P : Positions) (x : ℕ) → cond (among (base + n) 1 x) (map_bit bs n) (mapped base n bs P x) ≡ mapped base (suc n) bs P x
 unfolding mapped
@@ -312,7 +297,7 @@ runs_of-positions (having rs) = sym (union-positions rs)
 unfoldable pub union_at : List Run → ℕ → Run
 union_at rs x = run_with x (clipped (mem rs x) 0 size (union rs))
 
-union-around : (rs : List Run) (x : ℕ) → Positions.run_at (mem rs) x ≡ union_at rs x
+pub union-around : (rs : List Run) (x : ℕ) → Positions.run_at (mem rs) x ≡ union_at rs x
 unfolding Positions.run_at union_at bounded
 union-around rs x =
     ap (run_with x)
@@ -399,9 +384,9 @@ calc C s (fill base n) = report_runs s (window when bad_window base n ∷ []) (n
 calc C s (set_strict l u v) = setting_runs C s (strict l u) l u v
 calc C s (flip_strict l u) = flipping_runs C s (strict l u) l u
 calc C s (tally_strict l u v) = tallying_runs s (strict l u) l u v
-calc C s (set_rect q v) = changed_runs C s (off_plane when bad_rect q ∷ []) (held_runs (Grid.set_rect q v (mem (runs_of s))))
-calc C s (count_rect q) = report_runs s (off_plane when bad_rect q ∷ []) (number (Grid.count_rect q (mem (runs_of s))))
-calc C s (survey r c k out) = write_runs s (off_plane when bad_square r c k ∷ []) (Grid.survey (mem (runs_of s)) k r c) out
+calc C s (set_rect q v) = changed_runs C s (off_plane when bad_rect q ∷ []) (rect_runs q v (runs_of s))
+calc C s (count_rect q) = report_runs s (off_plane when bad_rect q ∷ []) (number (count_rect_runs q (runs_of s)))
+calc C s (survey r c k out) = write_runs s (off_plane when bad_square r c k ∷ []) (survey_runs (runs_of s) k r c) out
 
 -- ---- what ties an outcome of the model to one on run lists
 pub record Tied (o : Outcome) (r : RunOutcome) : Type 0 where
@@ -456,15 +441,6 @@ unfolding changed changed_runs
 tied-changed C s cs Q qs q c =
     tied-change C s cs Q qs (number (changes (positions_of (fed_as s)) Q)) (number (widths (combine_runs Xor (runs_of s) qs)))
     (ap number (sym (changes-bounded (positions_of (fed_as s)) Q) ∙ ap₂ changes (runs_of-positions s) (sym q) ∙ changes-runs (runs_of s) qs (runs_of-canon s) c)) q c
-
--- the runs held are all positions below 2^64
-held-positions : (Q : Positions) → mem (held_runs Q) ≡ bounded Q
-unfolding bounded
-held-positions Q = sym (bounded-mem (held_runs Q) (held_runs-canon Q)) ∙ fun_ext (λ x. go x (split x size))
-  where
-    go : (x : ℕ) → (x < size) ⊎ (size ≤ x) → bounded (mem (held_runs Q)) x ≡ bounded Q x
-    go x (inl h) = ap (λ t. ltb x size && t) (mem-held_runs Q x h)
-    go x (inr h) = rw (le-ltb x size h)
 
 tied-write : (s : Given) (cs : List Condition) (bs ds out : List ℕ) → bs ≡ ds → Tied (write (fed_as s) cs bs out) (write_runs s cs ds out)
 unfolding write write_runs
@@ -588,11 +564,11 @@ calc-tied C s (set_strict l u v) = tied-setting C s (strict l u) l u v
 calc-tied C s (flip_strict l u) = tied-flipping C s (strict l u) l u
 calc-tied C s (tally_strict l u v) = tied-tallying s (strict l u) l u v
 calc-tied C s (set_rect q v) =
-    tied-changed C s (off_plane when bad_rect q ∷ []) (Grid.set_rect q v (positions_of (fed_as s))) (held_runs (Grid.set_rect q v (mem (runs_of s))))
-    (held-positions (Grid.set_rect q v (mem (runs_of s))) ∙ ap (λ Q. bounded (Grid.set_rect q v Q)) (sym (runs_of-positions s))) (held_runs-canon (Grid.set_rect q v (mem (runs_of s))))
+    tied-changed C s (off_plane when bad_rect q ∷ []) (Grid.set_rect q v (positions_of (fed_as s))) (rect_runs q v (runs_of s))
+    (rect-positions q v (runs_of s) (runs_of-canon s) ∙ ap (λ Q. bounded (Grid.set_rect q v Q)) (sym (runs_of-positions s))) (rect-canon q v (runs_of s) (runs_of-canon s))
 calc-tied C s (count_rect q) =
-    tied-report s (off_plane when bad_rect q ∷ []) (number (Grid.count_rect q (positions_of (fed_as s)))) (number (Grid.count_rect q (mem (runs_of s))))
-    (ap (λ Q. number (Grid.count_rect q Q)) (runs_of-positions s))
+    tied-report s (off_plane when bad_rect q ∷ []) (number (Grid.count_rect q (positions_of (fed_as s)))) (number (count_rect_runs q (runs_of s)))
+    (ap number (ap (Grid.count_rect q) (runs_of-positions s) ∙ rect-count q (runs_of s) (runs_of-canon s)))
 calc-tied C s (survey r c k out) =
-    tied-write s (off_plane when bad_square r c k ∷ []) (Grid.survey (positions_of (fed_as s)) k r c) (Grid.survey (mem (runs_of s)) k r c) out
-    (ap (λ Q. Grid.survey Q k r c) (runs_of-positions s))
+    tied-write s (off_plane when bad_square r c k ∷ []) (Grid.survey (positions_of (fed_as s)) k r c) (survey_runs (runs_of s) k r c) out
+    (ap (λ Q. Grid.survey Q k r c) (runs_of-positions s) ∙ surveyed (runs_of s) (runs_of-canon s) k r c)

@@ -81,11 +81,11 @@ pub record Shown : Type 0 where
   pub answers-are : List Answer
   pub runs-are : List Run
 
-unfoldable shown : ℕ → List Run → List (Call Given) → List Answer
+unfoldable pub shown : ℕ → List Run → List (Call Given) → List Answer
 shown C rs [] = []
 shown C rs (c ∷ cs) = (calc C (having rs) c).answer ∷ shown C (calc C (having rs) c).runs cs
 
-unfoldable left : ℕ → List Run → List (Call Given) → List Run
+unfoldable pub left : ℕ → List Run → List (Call Given) → List Run
 left C rs [] = rs
 left C rs (c ∷ cs) = left C (calc C (having rs) c).runs cs
 
@@ -117,10 +117,10 @@ left_after C rs [] c = refl
 left_after C rs (k ∷ cs) c =
     ap (λ ws. after C ws (map on_first cs)) (one_left C rs c k) ∙ left_after C (calc C (having rs) k).runs cs (calc-tied C (having rs) k).canonical
 
-abbrev computed : Case → Shown
+abbrev pub computed : Case → Shown
 computed c = record { answers-are = shown c.capacity [] c.calls; runs-are = left c.capacity [] c.calls }
 
-abbrev expected : Case → Shown
+abbrev pub expected : Case → Shown
 expected c = record { answers-are = c.answers-are; runs-are = c.runs-are }
 
 row-holds : (c : Case) → computed c ≡ expected c → Holds c
@@ -141,7 +141,7 @@ rest : List Shown → List Shown
 rest [] = []
 rest (s ∷ ss) = ss
 
-rows-hold : (cs : List Case) → map computed cs ≡ map expected cs → AllHold cs
+pub rows-hold : (cs : List Case) → map computed cs ≡ map expected cs → AllHold cs
 unfolding first rest
 rows-hold [] e = tt
 rows-hold (c ∷ cs) e = (row-holds c (ap (first (computed c)) e), rows-hold cs (ap rest e))

@@ -6,6 +6,7 @@ pub mod After
 pub mod Calc
 pub mod Pools
 pub mod Cases
+pub mod Cells
 pub mod Clip
 pub mod Columns
 pub mod Codec
@@ -23,3 +24,5 @@ pub mod RunList
 pub mod Search
 pub mod Moved
 pub mod Deepest
+pub mod Worked
+pub mod WorkedPools
