@@ -23,7 +23,7 @@ pub fn bit(bytes: &[u8], i: u64) -> bool
 // Whether the eight bits from i on, the first of a byte, all have the value.
 fn whole_byte(bytes: &[u8], i: u64, value: bool) -> bool
     requires { i < 8 * length bytes.now }
-    ensures { result ≡ whole_b 8 bytes.now i value }
+    ensures { result ≡ whole_b bytes.now i value }
 {
     if i % 8 != 0 {
         return false;

@@ -7,4 +7,4 @@ use Rattle.maps.proofs.stretches.end_by_bytes.Goals as goal
 pub loop-e-preserved-then-whole_byte : goal.loop-e-preserved-then-whole_byte
 loop-e-preserved-then-whole_byte c =
     going-more c.loop-e.invariant c.bit-value.ensures 8 c.if-n-e-gt8.true
-    (whole-alike 8 _ _ _ (sym c.whole_byte.ensures ∙ c.if-whole_byte.true))
+    (whole-alike _ _ _ (sym c.whole_byte.ensures ∙ c.if-whole_byte.true))

@@ -9,13 +9,16 @@ pub loop-e-preserved : goal.loop-e-preserved
 loop-e-preserved c =
     let e = c.loop-e.e in
     let m = 64 - (e + 1) % 64 in
+    let M = map_bit c.args.map.now.bytes.now in
     going-more c.loop-e.invariant c.bit-value.ensures m (omega arith)
-    (others-none (map_bit c.args.map.now.bytes.now) c.bit-value.result (e + 1) m c.others-differ.ensures c.if-differ-ne0.false)
+    (others-none M c.bit-value.result (e + 1) m c.others-differ.ensures c.if-differ-ne0.false)
 
 pub returns-then-differ-ne0 : goal.returns-then-differ-ne0
 returns-then-differ-ne0 c =
     let e = c.loop-e.e in
     let m = 64 - (e + 1) % 64 in
-    let f = others-lowest (map_bit c.args.map.now.bytes.now) c.bit-value.result (e + 1) m c.others-differ.ensures (omega arith) c.if-differ-ne0.true in
-    going-ends (going-more c.loop-e.invariant c.bit-value.ensures _ (omega (arith, f.0)) f.2) c.bit-value.ensures (omega arith) (omega (arith, c.from.ensures))
-    (λ l. ap (map_bit c.args.map.now.bytes.now) (omega arith) ∙ f.1)
+    let M = map_bit c.args.map.now.bytes.now in
+    let v = c.bit-value in
+    let f = others-lowest M v.result (e + 1) m c.others-differ.ensures (omega arith) c.if-differ-ne0.true in
+    going-ends (going-more c.loop-e.invariant v.ensures _ (omega (arith, f.0)) f.2) v.ensures (omega arith)
+    (omega (arith, c.from.ensures)) (λ l. ap M (omega arith) ∙ f.1)
