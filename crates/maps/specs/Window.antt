@@ -21,9 +21,9 @@ pub record Part (base i e : ℕ) (r : Interval) : Type 0 where
   pub first-is : r.first.0 ≡ base + i
   pub last-is : r.last.0 ≡ base + e
 
--- whether n bits from i on, the first of a group of n, all have the value
-unfoldable pub whole_b : ℕ → List ℕ → ℕ → Bool → Bool
-whole_b n bs i v = (i % n == 0) && (bits (map_bit bs) i n == one_if v * (2 ^ n - 1))
+-- whether the eight bits from i on, the first of a byte, all have the value
+unfoldable pub whole_b : List ℕ → ℕ → Bool → Bool
+whole_b bs i v = (i % 8 == 0) && (bits (map_bit bs) i 8 == one_if v * (2 ^ 8 - 1))
 
 pub record Surveyed (P : Positions) (base n : ℕ) (bs : List ℕ) (s : Survey) : Type 0 where
   pub runs-are : s.runs ≡ run_count (mapped base n bs P) true base n

@@ -1,5 +1,5 @@
-// The stretches of a map: bits of one value, as far as they go. A stretch passes whole words where `WIDE` is true, and bytes and bits alone where
-// it is not: the form by single bytes.
+// The stretches of a map: bits of one value, as far as they go. The end of a stretch comes from words where `WIDE` is true, and from bytes and bits
+// alone where it is not: the form by single bytes.
 // Bits go by numbers, since no slice begins at a bit.
 ghost use Rattle.std.specs.Prelude.{◌≡◌, ◌+◌, ◌-◌, ◌*◌, ◌<◌, length};
 ghost use Rattle.std.specs.Iterator.{at_most};
@@ -9,7 +9,7 @@ ghost use Rattle.maps.specs.Window.{whole_b};
 ghost use Rattle.maps.specs.Stretches.{GivesStretch};
 
 use crate::window::Map;
-use crate::word::whole_word;
+use crate::word::others;
 
 // Bit i of a map.
 pub fn bit(bytes: &[u8], i: u64) -> bool
@@ -23,7 +23,7 @@ pub fn bit(bytes: &[u8], i: u64) -> bool
 // Whether the eight bits from i on, the first of a byte, all have the value.
 fn whole_byte(bytes: &[u8], i: u64, value: bool) -> bool
     requires { i < 8 * length bytes.now }
-    ensures { result ≡ whole_b 8 bytes.now i value }
+    ensures { result ≡ whole_b bytes.now i value }
 {
     if i % 8 != 0 {
         return false;
@@ -32,11 +32,11 @@ fn whole_byte(bytes: &[u8], i: u64, value: bool) -> bool
     if value { b == 255 } else { b == 0 }
 }
 
-// The last of a map's bits that has the value of bit i, all between having it too. It is kept out of its callers, since a compiler that inlines
-// it makes the form by single bytes a quarter slower.
-// A step is a word, a byte or a bit, as the map has it: so the end is no counter of a `for`.
+// The last of a map's bits that has the value of bit i, all between having it too, by bytes and bits. It is kept out of its callers, since a
+// compiler that inlines it makes the form by single bytes a quarter slower.
+// A step is a byte or a bit, as the map has it: so the end is no counter of a `for`.
 #[inline(never)]
-pub fn stretch_end<const WIDE: bool>(map: &Map, i: u64) -> u64
+fn end_by_bytes(map: &Map, i: u64) -> u64
     requires { i < map.now.window.n }
     ensures { StretchEnd (map_bit map.now.bytes.now) (map_bit map.now.bytes.now i) i (map.now.window.n - 1) result }
 {
@@ -44,9 +44,7 @@ pub fn stretch_end<const WIDE: bool>(map: &Map, i: u64) -> u64
     let value = bit(map.bytes, i);
     let mut e = i;
     while e + 1 < n {
-        if WIDE && n - e > 64 && whole_word(map.bytes, e + 1, value) {
-            e += 64;
-        } else if n - e > 8 && whole_byte(map.bytes, e + 1, value) {
+        if n - e > 8 && whole_byte(map.bytes, e + 1, value) {
             e += 8;
         } else if bit(map.bytes, e + 1) == value {
             e += 1;
@@ -55,6 +53,40 @@ pub fn stretch_end<const WIDE: bool>(map: &Map, i: u64) -> u64
         }
     }
     e
+}
+
+// The same by words, as far as the map has whole ones: the lowest of a word's bits that has another value tells where the stretch ends. Bits
+// from n on may have any value.
+// The first word is the rest of one, and the others are whole: so the end is no counter of a `for`.
+#[inline(never)]
+fn end_by_words(map: &Map, i: u64) -> u64
+    requires { i < map.now.window.n }
+    ensures { StretchEnd (map_bit map.now.bytes.now) (map_bit map.now.bytes.now i) i (map.now.window.n - 1) result }
+{
+    let last = map.window.n - 1;
+    let value = bit(map.bytes, i);
+    let words = map.bytes.len() as u64 / 8;
+    let mut e = i;
+    while (e + 1) / 64 < words {
+        let differ = others(map.bytes, e + 1, value);
+        if differ != 0 {
+            return last.min(e + u64::from(differ.trailing_zeros()));
+        }
+        e += 64 - (e + 1) % 64;
+    }
+    end_by_bytes(map, last.min(e))
+}
+
+// The last of a map's bits that has the value of bit i, all between having it too.
+pub fn stretch_end<const WIDE: bool>(map: &Map, i: u64) -> u64
+    requires { i < map.now.window.n }
+    ensures { StretchEnd (map_bit map.now.bytes.now) (map_bit map.now.bytes.now i) i (map.now.window.n - 1) result }
+{
+    if WIDE {
+        end_by_words(map, i)
+    } else {
+        end_by_bytes(map, i)
+    }
 }
 
 // The bits first..=last of a map, all of one value.

@@ -5,14 +5,14 @@ use Rattle.spare.proofs.Bytes.{byte-is}
 use Rattle.maps.proofs.stretches.whole_byte.Goals as goal
 
 pub returns-then-i-ne0 : goal.returns-then-i-ne0
-returns-then-i-ne0 c = not-whole 8 c.args.bytes.now c.args.i c.args.value c.if-i-ne0.true
+returns-then-i-ne0 c = not-whole c.args.bytes.now c.args.i c.args.value c.if-i-ne0.true
 
 pub returns-then-value : goal.returns-then-value
 returns-then-value c =
-    told-whole 8 c.args.bytes.now true c.if-i-ne0.false c.if-value.true (omega (arith, c.if-i-ne0.false))
+    told-whole c.args.bytes.now true c.if-i-ne0.false c.if-value.true (omega (arith, c.if-i-ne0.false))
     (byte-is _ (c.args.i / 8) (omega (arith, c.type_inv.bytes (c.args.i / 8)))) refl
 
 pub returns-else-value : goal.returns-else-value
 returns-else-value c =
-    told-whole 8 c.args.bytes.now false c.if-i-ne0.false c.if-value.false (omega (arith, c.if-i-ne0.false))
+    told-whole c.args.bytes.now false c.if-i-ne0.false c.if-value.false (omega (arith, c.if-i-ne0.false))
     (byte-is _ (c.args.i / 8) (omega (arith, c.type_inv.bytes (c.args.i / 8)))) refl
