@@ -33,10 +33,10 @@ fn one_valued(set: &Set<'_>, b: Tile) -> bool
         let Some(y) = reports::logical::next(set, Logical(at), !value) else {
             return true;
         };
-        if y < at + columns {
+        if y.0 < at + columns {
             return false;
         }
-        r = (y / ROW).max(r + 1);
+        r = (y.0 / ROW).max(r + 1);
     }
     true
 }
