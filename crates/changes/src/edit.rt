@@ -217,7 +217,7 @@ pub fn flip(words: &mut [u64], h: World, limit: u64, r: Interval) -> Option<Worl
             first: x,
             last: r.last,
         };
-        let y = Logical(reports::runs::stretch_end(&set, rest, value));
+        let y = reports::runs::stretch_end(&set, rest, value);
         let stretch = Interval { first: x, last: y };
         k = apply_set(words, k, stretch, !value);
         if y.0 == r.last.0 {

@@ -1,9 +1,9 @@
 // Surveys of a grid: a square is halved by column, then by row, in turn, until each piece has one value.
 ghost use Rattle.std.specs.Prelude.{◌≡◌, ◌+◌, ◌^◌, ◌≤◌, ◌<◌, length};
 ghost use Rattle.store.specs.Layout.{held};
-ghost use Rattle.model.specs.Grid.{cell, one_valued, piece, survey};
+ghost use Rattle.model.specs.Grid.{cell, one_valued, survey};
 ghost use Rattle.grid.specs.Surveys.{Listed, Surveyed};
-ghost use Rattle.grid.specs.Tiles.{pieces, Halves};
+ghost use Rattle.grid.specs.Tiles.{whole_piece, square_pieces, half_pieces};
 
 use crate::ROW;
 use crate::tile::{Corner, Square, Tile};
@@ -33,42 +33,21 @@ fn one_valued(set: &Set<'_>, b: Tile) -> bool
         let Some(y) = reports::logical::next(set, Logical(at), !value) else {
             return true;
         };
-        if y < at + columns {
+        if y.0 < at + columns {
             return false;
         }
-        r = (y / ROW).max(r + 1);
+        r = (y.0 / ROW).max(r + 1);
     }
     true
 }
 
-// The halves of a tile that is no single cell: the left one and the right one of a square, else the upper one and the lower one.
-#[tactic(auto, using(crate::proofs::Halving::two_halves, crate::proofs::Halving::two_squares))]
-fn halves(b: Tile) -> (Tile, Tile)
-    requires { 1 ≤ b.i }
-    ensures { Halves b result.0 result.1 }
-{
-    let Tile { corner, i, j } = b;
-    if i == j {
-        let j = j - 1;
-        let left = Tile { corner, i, j };
-        let column = corner.column + left.columns();
-        let corner = Corner { column, ..corner };
-        return (left, Tile { corner, i, j });
-    }
-    let i = i - 1;
-    let upper = Tile { corner, i, j };
-    let row = corner.row + upper.rows();
-    let corner = Corner { row, ..corner };
-    (upper, Tile { corner, i, j })
-}
-
-// A piece goes to a slice from `at` on, where that has room: its first row and column, its rows and columns, and its value. Returns where the
-// next one goes.
+// A piece of one value goes to a slice from `at` on, where that has room: its first row and column, its rows and columns, and its value. Returns
+// where the next one goes.
 // `at` may lie beyond the slice, since `due` counts the words with an empty one: so no part of the slice can be handed on instead.
 #[tactic(auto, using(crate::proofs::Pieces::piece_listed))]
-fn put_piece(out: &mut [u64], at: usize, b: Tile, value: bool) -> usize
+fn put_piece(set: &Set<'_>, b: Tile, out: &mut [u64], at: usize) -> usize
     requires { at + 5 < 2 ^ 64 }
-    ensures { Listed (piece b.corner.row b.corner.column (2 ^ b.i) (2 ^ b.j) value) at result out.old out.new }
+    ensures { Listed (whole_piece (held set.now) b) at result out.old out.new }
 {
     let next = at + 5;
     if next <= out.len() {
@@ -77,32 +56,60 @@ fn put_piece(out: &mut [u64], at: usize, b: Tile, value: bool) -> usize
             b.corner.column,
             b.rows(),
             b.columns(),
-            u64::from(value),
+            u64::from(value_at(set, b.corner)),
         ]);
     }
     next
 }
 
-// The pieces of a tile go to a slice from `at` on, where that has room: the tile itself, if it has one value, else those of its halves.
-// Returns where the next ones go.
-fn put_pieces(set: &Set<'_>, b: Tile, out: &mut [u64], at: usize) -> usize
-    requires { at + length (pieces (held set.now) b) < 2 ^ 64 }
-    ensures { Listed (pieces (held set.now) b) at result out.old out.new }
+// The pieces of a square go to a slice from `at` on, where that has room: the square itself, if it has one value, else those of its left half and
+// of its right one. Returns where the next ones go.
+#[cycle(pieces)]
+#[tactic(auto, using(crate::proofs::Halving::more_cells, crate::proofs::Halving::square_whole))]
+fn put_by_column(set: &Set<'_>, b: Tile, out: &mut [u64], at: usize) -> usize
+    requires square { b.i ≡ b.j }
+    requires few { at + length (square_pieces (held set.now) b) < 2 ^ 64 }
+    ensures { Listed (square_pieces (held set.now) b) at result out.old out.new }
 {
     if one_valued(set, b) {
-        let value = value_at(set, b.corner);
-        return put_piece(out, at, b, value);
+        return put_piece(set, b, out, at);
     }
-    let (first, second) = halves(b);
-    let next = put_pieces(set, first, out, at);
-    put_pieces(set, second, out, next)
+    let Tile { corner, i, j } = b;
+    let j = j - 1;
+    let left = Tile { corner, i, j };
+    let column = corner.column + left.columns();
+    let corner = Corner { column, ..corner };
+    let right = Tile { corner, i, j };
+    let next = put_by_row(set, left, out, at);
+    put_by_row(set, right, out, next)
+}
+
+// Those of the half of a square: the half itself, if it has one value, else those of its upper square and of its lower one.
+#[cycle(pieces)]
+#[tactic(auto, using(crate::proofs::Halving::half_whole))]
+fn put_by_row(set: &Set<'_>, b: Tile, out: &mut [u64], at: usize) -> usize
+    requires half { b.i ≡ b.j + 1 }
+    requires few { at + length (half_pieces (held set.now) b) < 2 ^ 64 }
+    ensures { Listed (half_pieces (held set.now) b) at result out.old out.new }
+{
+    if one_valued(set, b) {
+        return put_piece(set, b, out, at);
+    }
+    let Tile { corner, i, j } = b;
+    let i = i - 1;
+    let upper = Tile { corner, i, j };
+    let row = corner.row + upper.rows();
+    let corner = Corner { row, ..corner };
+    let lower = Tile { corner, i, j };
+    let next = put_by_column(set, upper, out, at);
+    put_by_column(set, lower, out, next)
 }
 
 // How many words the survey of a square has.
 pub fn due(set: &Set<'_>, square: Square) -> usize
     ensures { result ≡ length (survey (held set.now) square.k square.corner.row square.corner.column) }
 {
-    put_pieces(set, square.tile(), &mut [], 0)
+    put_by_column(set, square.tile(), &mut [], 0)
 }
 
 // The survey goes to the front of a slice.
@@ -110,5 +117,5 @@ pub fn put(set: &Set<'_>, square: Square, out: &mut [u64]) -> usize
     requires { length (survey (held set.now) square.k square.corner.row square.corner.column) ≤ length out.old }
     ensures { Surveyed (survey (held set.now) square.k square.corner.row square.corner.column) result out.old out.new }
 {
-    put_pieces(set, square.tile(), out, 0)
+    put_by_column(set, square.tile(), out, 0)
 }

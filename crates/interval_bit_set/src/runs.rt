@@ -1,5 +1,6 @@
 // A run list as the caller holds it: a lent slice of runs.
-// Document 01 names this form beside the one over words (`bytes::from_sorted_words`): each is a line over `sets::bytes::build`.
+// This form and the one over words (`bytes::from_sorted_words`) are each a line over `sets::bytes::build`, which is generic in the list: a slice of
+// runs is no slice of words.
 ghost use Rattle.model.specs.Call.{Call};
 ghost use Rattle.model.specs.Answers.{completed_answer};
 ghost use Rattle.promises.specs.Met.{Met};

@@ -8,7 +8,9 @@ use Rattle.model.specs.Positions.{inside}
 use Rattle.model.specs.Bytes.{map_bit}
 use Rattle.model.proofs.Numbers.{split}
 use Rattle.model.proofs.Counting.{inside-yes, inside-below, inside-above}
+use Rattle.store.specs.Places.{physical_of, logical_of}
 use Rattle.maps.specs.Painted.{Paints, round, PaintsRun}
+use Rattle.maps.specs.Window.{place_in}
 
 -- ---- what is in a run that may go round
 -- one that does not
@@ -157,8 +159,14 @@ turns-place t o base i x h k e q = go (split (t + base) (2 ^ 64)) (split i t)
     go (inr l) (inl m) = let z : o + 2 ^ 64 ≡ t + base = omega arith in inr (omega arith)
     go (inr l) (inr m) = let z : o + 2 ^ 64 ≡ t + base = omega arith in inl (omega arith)
 
-pub turned-inside : (t o base n a b f l : ℕ) → t < 2 ^ 64 → base + n ≤ 2 ^ 64 → (t + base) % 2 ^ 64 ≡ o → a ≤ b → b < 2 ^ 64 → f ≡ (a + t) % 2 ^ 64 → l ≡ (b + t) % 2 ^ 64
-    → (i : ℕ) → i < n → inside a b ((base + i + 2 ^ 64 - o) % 2 ^ 64) ≡ round f l i
-turned-inside t o base n a b f l h w e c d p q i k =
-    turn-all (2 ^ 64) t a b ((base + i + 2 ^ 64 - o) % 2 ^ 64) f l i c d h (omega arith) (omega arith) (omega arith) (omega arith)
-    (turns-mod t a f h (omega arith) p) (turns-mod t b l h d q) (turns-place t o base i ((base + i + 2 ^ 64 - o) % 2 ^ 64) h (omega arith) e refl)
+-- so a run is seen in a window where the places of its ends say
+pub turned-inside : (o base n a b f l : ℕ) → o < 2 ^ 64 → base + n ≤ 2 ^ 64 → a ≤ b → b < 2 ^ 64 → f ≡ place_in base (logical_of a o) → l ≡ place_in base (logical_of b o)
+    → (i : ℕ) → i < n → inside a b (physical_of (base + i) o) ≡ round f l i
+turned-inside o base n a b f l h w c d p q i k = go ((o + 2 ^ 64 - base) % 2 ^ 64) refl
+  where
+    go : (t : ℕ) → t ≡ (o + 2 ^ 64 - base) % 2 ^ 64 → inside a b (physical_of (base + i) o) ≡ round f l i
+    go t e =
+        let s : t < 2 ^ 64 = omega arith in
+        turn-all (2 ^ 64) t a b (physical_of (base + i) o) f l i c d s (omega arith) (omega arith) (omega arith) (omega arith)
+        (turns-mod t a f s (omega arith) (omega arith)) (turns-mod t b l s d (omega arith))
+        (turns-place t o base i (physical_of (base + i) o) s (omega arith) (omega arith) refl)

@@ -1,7 +1,7 @@
 -- The nodes that show a position: those with a height and the world's tag are those of its tree, since a free node has no height, and no node
 -- of another world has the tag. So of all nodes one shows a position where the world holds it, and painting the runs of all of them, each turned
 -- to its places of the window, paints the window's map. Assumes nothing.
-use Rattle.std.proofs.Common.{◌≡◌, ℕ, zero, suc, ◌+◌, ◌-◌, ◌/◌, ◌%◌, ◌^◌, ◌<◌, ◌≤◌, Bool, true, false, ◌&&◌, ◌||◌, eqb, ltb, ◌⊎◌, List, ◌∷◌}
+use Rattle.std.proofs.Common.{◌≡◌, ℕ, zero, suc, ◌+◌, ◌-◌, ◌/◌, ◌^◌, ◌<◌, ◌≤◌, Bool, true, false, ◌&&◌, ◌||◌, eqb, ltb, ◌⊎◌, List, ◌∷◌}
 use Rattle.std.proofs.Common.{length, sym, refl, ap, ◌∙◌, subst, inl, inr, arith, ltb-true, le-ltb, lt-ltb, eq-eqb, ne_eqb, eqb-true}
 use mathlib.Core.Bool.{and-false, or-true, or-false, false≢true}
 use native.Mathlib.Decide.{ℕ_discrete}
@@ -20,7 +20,7 @@ use Rattle.run_index.specs.Strung.{times}
 use Rattle.run_index.proofs.Trees.{δ-same, δ-other, rep-cell, rep-left, rep-right}
 use Rattle.run_index.proofs.Apart.{rep-tagged}
 use Rattle.store.specs.declared.World.{World}
-use Rattle.store.specs.Places.{physical_of}
+use Rattle.store.specs.Places.{physical_of, logical_of}
 use Rattle.store.specs.Layout.{held_in}
 use Rattle.store.specs.Soundness.{Share}
 use Rattle.store.proofs.Chains.{chain-free, free-low}
@@ -29,6 +29,7 @@ use Rattle.store.proofs.Reached.{kept-held}
 use Rattle.store.proofs.Truths.{same}
 use Rattle.store.proofs.Turn.{turned-at}
 use Rattle.maps.specs.Painted.{round, shows, shown_to, PaintsRun, PaintsNodes, Scans}
+use Rattle.maps.specs.Window.{place_in}
 use Rattle.maps.proofs.Rounds.{turned-inside}
 
 -- ---- the nodes of a tree
@@ -215,13 +216,13 @@ module _ {w : List ℕ} {h : World} {base n m : ℕ} {map₀ map : List ℕ} (p 
   nodes-other e l x = nodes-skip x (λ q. shows-other w h.tag q m (λ k. l (ap (λ (u : Node). u.tag) e ∙ k)))
 
   -- a node of the world: its run is painted
-  pub nodes-run : {map₁ map' : List ℕ} {s : Share} {v : Node} {t f l : ℕ} → Scans w s h → m ≤ s.nodes → v ≡ cell_at w m → 0 < v.height → v.tag ≡ h.tag → t < 2 ^ 64 → base + n ≤ size
-      → (t + base) % 2 ^ 64 ≡ h.offset → f ≡ (v.start + t) % 2 ^ 64 → l ≡ (v.«end» + t) % 2 ^ 64 → PaintsRun map map₁ n f l → map' ≡ map₁ → PaintsNodes w h base n m map₀ map'
-  nodes-run {map₁} {map'} {s} {v} {t} {f} {l} c few e high tagged ts within turn fs ls r x =
+  pub nodes-run : {map₁ map' : List ℕ} {s : Share} {v : Node} {f l : ℕ} → Scans w s h → m ≤ s.nodes → v ≡ cell_at w m → 0 < v.height → v.tag ≡ h.tag → h.offset < 2 ^ 64 → base + n ≤ size
+      → f ≡ place_in base (logical_of v.start h.offset) → l ≡ place_in base (logical_of v.«end» h.offset) → PaintsRun map map₁ n f l → map' ≡ map₁ → PaintsNodes w h base n m map₀ map'
+  nodes-run {map₁} {map'} {s} {v} {f} {l} c few e high tagged os within fs ls r x =
       nodes-more (round f l) (ap length x ∙ r.long) (λ i. ap (λ (b : List ℕ). map_bit b i) x ∙ r.bits_are i)
       (λ i k. shows-run w h.tag (physical_of (base + i) h.offset) m high' tagged'
-      ∙ turned-inside t h.offset base n (cell_at w m).start (cell_at w m).«end» f l ts within turn run.0 run.1
-      (fs ∙ ap (λ (u : Node). (u.start + t) % 2 ^ 64) e) (ls ∙ ap (λ (u : Node). (u.«end» + t) % 2 ^ 64) e) i k)
+      ∙ turned-inside h.offset base n (cell_at w m).start (cell_at w m).«end» f l os within run.0 run.1
+      (fs ∙ ap (λ (u : Node). place_in base (logical_of u.start h.offset)) e) (ls ∙ ap (λ (u : Node). place_in base (logical_of u.«end» h.offset)) e) i k)
     where
       high' : 1 ≤ (cell_at w m).height
       high' = omega (arith, ap (λ (u : Node). u.height) e)

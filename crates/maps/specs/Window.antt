@@ -16,6 +16,10 @@ pub record MapOfWindow (base n : ℕ) (bs : List ℕ) : Type 0 where
   pub within : base + n ≤ size
   pub exact : length bs ≡ map_length n
 
+-- the place of position x in a map that begins at base, counted modulo 2^64
+abbrev pub place_in : ℕ → ℕ → ℕ
+place_in base x = (x + 2 ^ 64 - base) % 2 ^ 64
+
 -- the positions of the bits from i to e of a map that begins at base
 pub record Part (base i e : ℕ) (r : Interval) : Type 0 where
   pub first-is : r.first.0 ≡ base + i

@@ -9,6 +9,7 @@ ghost use Rattle.maps.specs.Painted.{Adds, Paints, PaintsRun, PaintsNodes, Scann
 
 use crate::window::Window;
 use store::World;
+use store::places::{Physical, to_logical};
 
 // The bits from..=63 of a word, and those up to `to`.
 fn from_bit(from: u64) -> u64
@@ -150,13 +151,12 @@ fn paint_nodes(words: &[u64], h: World, window: Window, map: &mut [u8])
     requires scannable { Scannable words.now h }
     ensures { PaintsNodes words.now h window.base window.n (length words.now / 8 - 1) map.old map.new }
 {
-    let turn = h.offset.wrapping_sub(window.base);
     for m in 1..words.len() as u64 / 8 {
         let v = run_index::read_node(words, m);
         if v.height > 0 && v.tag == h.tag {
-            let f = v.start.wrapping_add(turn);
-            let l = v.end.wrapping_add(turn);
-            paint_run(map, window.n, f, l);
+            let first = to_logical(Physical(v.start), h.offset);
+            let last = to_logical(Physical(v.end), h.offset);
+            paint_run(map, window.n, window.place(first), window.place(last));
         }
     }
 }

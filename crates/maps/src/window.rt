@@ -1,7 +1,7 @@
 // Where a window lies, and its map.
-ghost use Rattle.std.specs.Prelude.{◌+◌, ◌<◌, ◌≤◌};
+ghost use Rattle.std.specs.Prelude.{◌≡◌, ◌+◌, ◌<◌, ◌≤◌};
 ghost use Rattle.model.specs.Numbers.{size};
-ghost use Rattle.maps.specs.Window.{MapOfWindow, Part};
+ghost use Rattle.maps.specs.Window.{MapOfWindow, Part, place_in};
 
 use model::Logical;
 use model::between::Interval;
@@ -16,6 +16,13 @@ pub struct Window {
 }
 
 impl Window {
+    // The place of a position in its map, modulo 2^64: below n just for the positions of the window.
+    pub fn place(self, x: Logical) -> u64
+        ensures { result ≡ place_in self.base x.0 }
+    {
+        x.0.wrapping_sub(self.base)
+    }
+
     // The positions of the bits from i to e of its map.
     pub fn part(self, i: u64, e: u64) -> Interval
         requires { (i ≤ e) × (e < self.n) }

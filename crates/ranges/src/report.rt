@@ -33,7 +33,7 @@ pub fn find(site: Site<'_>, lower: Bound, upper: Bound, value: bool) -> Result<O
         return Ok(None);
     };
     let set = site.set();
-    Ok(reports::runs::find_in(&set, r, value))
+    Ok(reports::runs::find_in(&set, r, value).map(|x| x.0))
 }
 
 // An empty range or a reversed one has no position and no run.
@@ -79,7 +79,7 @@ pub fn select(
         return Ok(None);
     };
     let set = site.set();
-    Ok(reports::logical::select(&set, r, value, k))
+    Ok(reports::logical::select(&set, r, value, k).map(|x| x.0))
 }
 
 // An empty range or a reversed one has no gap.

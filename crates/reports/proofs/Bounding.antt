@@ -3,59 +3,62 @@
 use Rattle.std.specs.Prelude.{Option, None, Some, MatchOption}
 use Rattle.std.specs.Bool.{then_some}
 use Rattle.std.proofs.Common.{◌≡◌, ℕ, suc, ◌-◌, ◌<◌, ◌≤◌, Bool, true, false, not, leb, ◌⊎◌, sym, refl, ap, ◌∙◌, subst, inl, inr, arith, leb-true, leb-false}
+use Rattle.model.specs.declared.Logical.{Logical}
 use Rattle.model.specs.Numbers.{size}
 use Rattle.model.proofs.Numbers.{split}
 use Rattle.model.specs.Positions.{Positions, run, find, runs_in, first_run, last_run, run_at}
 use Rattle.model.proofs.Runs.{runs_in-none, first_run-is, last_run-is, run_at-is}
 use Rattle.model.proofs.Finds.{find-is, find_none, find_runs}
-use Rattle.reports.specs.Reports.{Next, Previous, StretchStart, StretchEnd}
+use Rattle.reports.specs.Reports.{logical_number, Next, Previous, StretchStart, StretchEnd}
 use Rattle.reports.proofs.Seeking.{Past, Short, none-next, none-previous}
 use Rattle.reports.proofs.Joins.{FoundIn, find-only, start_none}
 
 -- ---- what a test t lets through
-module _ {n r : Option ℕ} {R : ℕ → Type 0} (t : ℕ → Bool) (m : MatchOption n (r ≡ None) R) (f : (y : ℕ) → R y → r ≡ then_some (t y) y) where
+module _ {n r : Option Logical} {R : Logical → Type 0} (t : ℕ → Bool) (m : MatchOption n (r ≡ None) R)
+    (f : (y : Logical) → R y → r ≡ then_some (t y.0) y) where
   -- was found, and meets it
-  pub kept : {x : ℕ} → r ≡ Some x → (n ≡ Some x) × (t x ≡ true)
+  pub kept : {x : Logical} → r ≡ Some x → (n ≡ Some x) × (t x.0 ≡ true)
   kept {x} e = go n m
     where
-      pick : (y : ℕ) (b : Bool) → t y ≡ b → r ≡ then_some b y → (Some y ≡ Some x) × (t x ≡ true)
-      pick y true i g = let k : y ≡ x = cc in (ap Some k, ap t (sym k) ∙ i)
+      pick : (y : Logical) (b : Bool) → t y.0 ≡ b → r ≡ then_some b y → (Some y ≡ Some x) × (t x.0 ≡ true)
+      pick y true i g = let k : y ≡ x = cc in (ap Some k, ap (λ (z : Logical). t z.0) (sym k) ∙ i)
       pick y false i g = absurd (cc)
 
-      go : (o : Option ℕ) → MatchOption o (r ≡ None) R → (o ≡ Some x) × (t x ≡ true)
+      go : (o : Option Logical) → MatchOption o (r ≡ None) R → (o ≡ Some x) × (t x.0 ≡ true)
       go None g = absurd (cc)
-      go (Some y) q = pick y (t y) refl (f y q)
+      go (Some y) q = pick y (t y.0) refl (f y q)
 
   -- where nothing is let through, nothing was found, or it does not meet the test
-  pub dropped : r ≡ None → (n ≡ None) ⊎ ((y : ℕ) × (n ≡ Some y) × (t y ≡ false))
+  pub dropped : r ≡ None → (n ≡ None) ⊎ ((y : Logical) × (n ≡ Some y) × (t y.0 ≡ false))
   dropped e = go n m
     where
-      pick : (y : ℕ) (b : Bool) → t y ≡ b → r ≡ then_some b y → (Some y ≡ None) ⊎ ((z : ℕ) × (Some y ≡ Some z) × (t z ≡ false))
+      pick : (y : Logical) (b : Bool) → t y.0 ≡ b → r ≡ then_some b y → (Some y ≡ None) ⊎ ((z : Logical) × (Some y ≡ Some z) × (t z.0 ≡ false))
       pick y true i g = absurd (cc)
       pick y false i g = inr (y, refl, i)
 
-      go : (o : Option ℕ) → MatchOption o (r ≡ None) R → (o ≡ None) ⊎ ((y : ℕ) × (o ≡ Some y) × (t y ≡ false))
+      go : (o : Option Logical) → MatchOption o (r ≡ None) R → (o ≡ None) ⊎ ((y : Logical) × (o ≡ Some y) × (t y.0 ≡ false))
       go None g = inl refl
-      go (Some y) q = pick y (t y) refl (f y q)
+      go (Some y) q = pick y (t y.0) refl (f y q)
 
-module _ (P : Positions) (v : Bool) (a b : ℕ) (n : Option ℕ) {r : Option ℕ} {R : ℕ → Type 0} where
+module _ (P : Positions) (v : Bool) (a b : ℕ) (n : Option Logical) {r : Option Logical} {R : Logical → Type 0} where
   -- the next position of the value from a on is found up to b, unless it is past b
-  pub found_in : b < size → Next P v a n → MatchOption n (r ≡ None) R → ((y : ℕ) → R y → r ≡ then_some (leb y b) y) → r ≡ find P v a (suc b - a)
+  pub found_in : b < size → Next P v a (logical_number n) → MatchOption n (r ≡ None) R → ((y : Logical) → R y → r ≡ then_some (leb y.0 b) y)
+      → logical_number r ≡ find P v a (suc b - a)
   found_in l m f q = go r refl
     where
-      go : (o : Option ℕ) → r ≡ o → r ≡ find P v a (suc b - a)
+      go : (o : Option Logical) → r ≡ o → logical_number r ≡ find P v a (suc b - a)
       go (Some x) e =
           let k = kept (λ y. leb y b) f q e in
-          let j : Next P v a (Some x) = subst (Next P v a) k.0 m in
-          let u : x ≤ b = leb-true x b k.1 in
-          e ∙ sym (find-is P v a (suc b - a) x j.0 (omega (arith, j.0)) j.2 j.3)
+          let j : Next P v a (Some x.0) = subst (λ o. Next P v a (logical_number o)) k.0 m in
+          let u : x.0 ≤ b = leb-true x.0 b k.1 in
+          ap logical_number e ∙ sym (find-is P v a (suc b - a) x.0 j.0 (omega (arith, j.0)) j.2 j.3)
       go None e =
-          let past : Past b n = none (dropped (λ y. leb y b) f q e) in
-          e ∙ sym (find_none P v a (suc b - a) (λ y i j. none-next P v n m past y i (omega arith) (omega arith)))
+          let past : Past b (logical_number n) = none (dropped (λ y. leb y b) f q e) in
+          ap logical_number e ∙ sym (find_none P v a (suc b - a) (λ y i j. none-next P v (logical_number n) m past y i (omega arith) (omega arith)))
         where
-          none : (n ≡ None) ⊎ ((y : ℕ) × (n ≡ Some y) × (leb y b ≡ false)) → Past b n
-          none (inl i) = inl i
-          none (inr (y, i, j)) = inr (y, i, leb-false y b j)
+          none : (n ≡ None) ⊎ ((y : Logical) × (n ≡ Some y) × (leb y.0 b ≡ false)) → Past b (logical_number n)
+          none (inl i) = inl (ap logical_number i)
+          none (inr (y, i, j)) = inr (y.0, ap logical_number i, leb-false y.0 b j)
 
 module _ (P : Positions) (v : Bool) (a b : ℕ) where
   -- ---- the first run from a to b
@@ -71,19 +74,20 @@ module _ (P : Positions) (v : Bool) (a b : ℕ) where
 
   -- ---- the last run from a to b
   -- there is none
-  pub no-last-run : {n : Option ℕ} → Previous P v b n → (n ≡ None) ⊎ ((y : ℕ) × (n ≡ Some y) × (leb a y ≡ false))
+  pub no-last-run : {n : Option Logical} → Previous P v b (logical_number n) → (n ≡ None) ⊎ ((y : Logical) × (n ≡ Some y) × (leb a y.0 ≡ false))
       → None ≡ last_run (runs_in P v a (suc b - a))
-  no-last-run {n} m u = sym (ap last_run (runs_in-none P v a (suc b - a) (λ y i j. none-previous P v n m (short u) y i (omega arith))))
+  no-last-run {n} m u = sym (ap last_run (runs_in-none P v a (suc b - a) (λ y i j. none-previous P v (logical_number n) m (short u) y i (omega arith))))
     where
-      short : (n ≡ None) ⊎ ((y : ℕ) × (n ≡ Some y) × (leb a y ≡ false)) → Short a n
-      short (inl i) = inl i
-      short (inr (y, i, j)) = inr (y, i, leb-false a y j)
+      short : (n ≡ None) ⊎ ((y : Logical) × (n ≡ Some y) × (leb a y.0 ≡ false)) → Short a (logical_number n)
+      short (inl i) = inl (ap logical_number i)
+      short (inr (y, i, j)) = inr (y.0, ap logical_number i, leb-false a y.0 j)
 
   -- it ends with the last position of the value
-  pub last-run-found : {n : Option ℕ} {x y : ℕ} → Previous P v b n → n ≡ Some x → StretchStart P v a x y → Some (run y x) ≡ last_run (runs_in P v a (suc b - a))
+  pub last-run-found : {n : Option Logical} {x : Logical} {y : ℕ} → Previous P v b (logical_number n) → n ≡ Some x → StretchStart P v a x.0 y
+      → Some (run y x.0) ≡ last_run (runs_in P v a (suc b - a))
   last-run-found {n} {x} {y} m e st =
-      let j : Previous P v b (Some x) = subst (Previous P v b) e m in
-      sym (last_run-is P v a (suc b - a) y x st.from st.upto (omega (arith, j.0, st.from, st.upto)) (λ z c d. j.2 z c (omega arith)) st.same st.stop)
+      let j : Previous P v b (Some x.0) = subst (λ o. Previous P v b (logical_number o)) e m in
+      sym (last_run-is P v a (suc b - a) y x.0 st.from st.upto (omega (arith, j.0, st.from, st.upto)) (λ z c d. j.2 z c (omega arith)) st.same st.stop)
 
 -- ---- the run around x
 -- from where its stretch starts to where it ends

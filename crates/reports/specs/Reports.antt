@@ -1,11 +1,19 @@
 -- What the reports tell: of the runs of a tree, and of a set. Assumes nothing: these are definitions.
-use Rattle.std.specs.Prelude.{Option, None, Some, Result, Ok, Err}
+use Rattle.std.specs.Prelude.{Option, None, Some, option_map, Result, Ok, Err}
 use Rattle.std.specs.Prelude.{◌≡◌, ℕ, suc, ◌+◌, ◌<◌, ◌≤◌, Bool, not}
 use Rattle.model.specs.declared.Run.{Run}
+use Rattle.model.specs.declared.Logical.{Logical}
 use Rattle.model.specs.declared.Tally.{Tally}
 use Rattle.model.specs.Numbers.{size, worth}
 use Rattle.model.specs.Positions.{Positions, count, select, run_count}
 use Rattle.store.specs.declared.places.Physical.{Physical}
+
+-- the numbers of positions that were found
+abbrev pub logical_number : Option Logical → Option ℕ
+logical_number o = option_map (λ x. x.0) o
+
+abbrev pub physical_number : Option Physical → Option ℕ
+physical_number o = option_map (λ x. x.0) o
 
 -- the positions of a value among the n from a, and the runs of it there
 pub record Measured (P : Positions) (v : Bool) (a n : ℕ) (r : Tally) : Type 0 where

@@ -5,7 +5,7 @@ ghost use Rattle.std.specs.Prelude.{◌≡◌, suc, ◌+◌, ◌-◌, ◌<◌, �
 ghost use Rattle.model.specs.Positions.{mem};
 ghost use Rattle.model.specs.Range.{many};
 ghost use Rattle.store.specs.Layout.{held};
-ghost use Rattle.reports.specs.Reports.{Measured, Place, Next, Previous, Selects};
+ghost use Rattle.reports.specs.Reports.{logical_number, Measured, Place, Next, Previous, Selects};
 
 use crate::physical::Segment;
 use model::between::Interval;
@@ -62,8 +62,8 @@ fn chosen(runs: &Runs<'_>, s: Segment, value: bool, k: u64) -> Result<Physical, 
 }
 
 // The position of r that has the value and exactly k such positions before it there.
-pub fn select(set: &Set<'_>, r: Interval, value: bool, k: u64) -> Option<u64>
-    ensures { Selects (held set.now) value r.first.0 (many r) k result }
+pub fn select(set: &Set<'_>, r: Interval, value: bool, k: u64) -> Option<Logical>
+    ensures { Selects (held set.now) value r.first.0 (many r) k (logical_number result) }
 {
     let first = store::places::to_physical(r.first, set.offset);
     let last = store::places::to_physical(r.last, set.offset);
@@ -85,21 +85,19 @@ pub fn select(set: &Set<'_>, r: Interval, value: bool, k: u64) -> Option<u64>
         }
     };
     let p = place.ok()?;
-    Some(store::places::to_logical(p, set.offset).0)
+    Some(store::places::to_logical(p, set.offset))
 }
 
 // The least position of the value at or after x. From x to M the set lies from x's place to M's, or from x's place on and from 0 to M's.
-pub fn next(set: &Set<'_>, x: Logical, value: bool) -> Option<u64>
-    ensures { Next (held set.now) value x.0 result }
+pub fn next(set: &Set<'_>, x: Logical, value: bool) -> Option<Logical>
+    ensures { Next (held set.now) value x.0 (logical_number result) }
 {
     let s = store::places::to_physical(x, set.offset);
     let top = store::places::to_physical(Logical(u64::MAX), set.offset);
     match crate::physical::next_physical(&set.runs, s, value) {
-        Some(p) if top.0 < s.0 || p <= top.0 => Some(
-            store::places::to_logical(Physical(p), set.offset).0,
-        ),
+        Some(p) if top.0 < s.0 || p.0 <= top.0 => Some(store::places::to_logical(p, set.offset)),
         None if top.0 < s.0 => match crate::physical::next_physical(&set.runs, Physical(0), value) {
-            Some(p) if p <= top.0 => Some(store::places::to_logical(Physical(p), set.offset).0),
+            Some(p) if p.0 <= top.0 => Some(store::places::to_logical(p, set.offset)),
             _ => None,
         },
         _ => None,
@@ -108,21 +106,19 @@ pub fn next(set: &Set<'_>, x: Logical, value: bool) -> Option<u64>
 
 // The greatest position of the value at or before x.
 // The mirror of `next`: the search, the comparisons and the end that the set goes over to differ.
-pub fn previous(set: &Set<'_>, x: Logical, value: bool) -> Option<u64>
-    ensures { Previous (held set.now) value x.0 result }
+pub fn previous(set: &Set<'_>, x: Logical, value: bool) -> Option<Logical>
+    ensures { Previous (held set.now) value x.0 (logical_number result) }
 {
     let s = store::places::to_physical(x, set.offset);
     let zero = store::places::to_physical(Logical(0), set.offset);
     match crate::physical::previous_physical(&set.runs, s, value) {
-        Some(p) if s.0 < zero.0 || zero.0 <= p => Some(
-            store::places::to_logical(Physical(p), set.offset).0,
-        ),
+        Some(p) if s.0 < zero.0 || zero.0 <= p.0 => Some(store::places::to_logical(p, set.offset)),
         None if s.0 < zero.0 => match crate::physical::previous_physical(
             &set.runs,
             Physical(u64::MAX),
             value,
         ) {
-            Some(p) if zero.0 <= p => Some(store::places::to_logical(Physical(p), set.offset).0),
+            Some(p) if zero.0 <= p.0 => Some(store::places::to_logical(p, set.offset)),
             _ => None,
         },
         _ => None,

@@ -4,7 +4,7 @@ ghost use Rattle.std.specs.Prelude.{◌≡◌, suc, ◌-◌, ◌<◌, ◌≤◌,
 ghost use Rattle.model.specs.Numbers.{size};
 ghost use Rattle.model.specs.Positions.{count, select, mem};
 ghost use Rattle.model.specs.RunList.{first_from};
-ghost use Rattle.reports.specs.Reports.{Measured, Next, Previous, start_of};
+ghost use Rattle.reports.specs.Reports.{physical_number, Measured, Next, Previous, start_of};
 
 use model::{Count, Tally};
 use run_index::search::Runs;
@@ -61,42 +61,40 @@ pub fn select_physical(runs: &Runs<'_>, s: Physical, value: bool, k: u64) -> Phy
 }
 
 // The least position of the value at or after x.
-pub fn next_physical(runs: &Runs<'_>, x: Physical, value: bool) -> Option<u64>
-    ensures { Next (mem runs.now) value x.0 result }
+pub fn next_physical(runs: &Runs<'_>, x: Physical, value: bool) -> Option<Physical>
+    ensures { Next (mem runs.now) value x.0 (physical_number result) }
 {
-    let from = x.0;
-    match runs.at_or_before(from) {
-        Some(r) if from <= r.end => if value {
-            Some(from)
+    match runs.at_or_before(x.0) {
+        Some(r) if x.0 <= r.end => if value {
+            Some(x)
         } else {
-            r.end.checked_add(1)
+            Some(Physical(r.end.checked_add(1)?))
         },
-        _ if value => next_start(runs, from),
-        _ => Some(from),
+        _ if value => next_start(runs, x),
+        _ => Some(x),
     }
 }
 
 // The least start of a run at or after x.
-fn next_start(runs: &Runs<'_>, x: u64) -> Option<u64>
-    ensures { result ≡ start_of (first_from x runs.now) }
+fn next_start(runs: &Runs<'_>, x: Physical) -> Option<Physical>
+    ensures { physical_number result ≡ start_of (first_from x.0 runs.now) }
 {
-    runs.at_or_after(x).map(|r| r.start)
+    runs.at_or_after(x.0).map(|r| Physical(r.start))
 }
 
 // The greatest position of the value at or before x.
 // No mirror of `next_physical`: both look for the run at or before x, which tells this one the last held position too.
-pub fn previous_physical(runs: &Runs<'_>, x: Physical, value: bool) -> Option<u64>
-    ensures { Previous (mem runs.now) value x.0 result }
+pub fn previous_physical(runs: &Runs<'_>, x: Physical, value: bool) -> Option<Physical>
+    ensures { Previous (mem runs.now) value x.0 (physical_number result) }
 {
-    let from = x.0;
-    match runs.at_or_before(from) {
-        Some(r) if from <= r.end => if value {
-            Some(from)
+    match runs.at_or_before(x.0) {
+        Some(r) if x.0 <= r.end => if value {
+            Some(x)
         } else {
-            r.start.checked_sub(1)
+            Some(Physical(r.start.checked_sub(1)?))
         },
-        Some(r) if value => Some(r.end),
+        Some(r) if value => Some(Physical(r.end)),
         None if value => None,
-        _ => Some(from),
+        _ => Some(x),
     }
 }

@@ -3,39 +3,39 @@ ghost use Rattle.std.specs.Prelude.{◌≡◌};
 ghost use Rattle.model.specs.Positions.{first_run, last_run, runs_in, run_at, find};
 ghost use Rattle.model.specs.Range.{many};
 ghost use Rattle.store.specs.Layout.{held};
-ghost use Rattle.reports.specs.Reports.{StretchStart, StretchEnd};
+ghost use Rattle.reports.specs.Reports.{logical_number, StretchStart, StretchEnd};
 
 use model::between::Interval;
 use model::{Logical, Run};
 use store::Set;
 
 // The least position of the value in r.
-pub fn find_in(set: &Set<'_>, r: Interval, value: bool) -> Option<u64>
-    ensures { result ≡ find (held set.now) value r.first.0 (many r) }
+pub fn find_in(set: &Set<'_>, r: Interval, value: bool) -> Option<Logical>
+    ensures { logical_number result ≡ find (held set.now) value r.first.0 (many r) }
 {
-    crate::logical::next(set, r.first, value).filter(|x| *x <= r.last.0)
+    crate::logical::next(set, r.first, value).filter(|x| x.0 <= r.last.0)
 }
 
 // Where the stretch of the value that the last position of r is in starts, in r.
-fn stretch_start(set: &Set<'_>, r: Interval, value: bool) -> u64
+fn stretch_start(set: &Set<'_>, r: Interval, value: bool) -> Logical
     requires { held set.now r.last.0 ≡ value }
-    ensures { StretchStart (held set.now) value r.first.0 r.last.0 result }
+    ensures { StretchStart (held set.now) value r.first.0 r.last.0 result.0 }
 {
     match crate::logical::previous(set, r.last, !value) {
-        Some(y) if r.first.0 <= y => y + 1,
-        _ => r.first.0,
+        Some(y) if r.first.0 <= y.0 => Logical(y.0 + 1),
+        _ => r.first,
     }
 }
 
 // Where the stretch of the value that the first position of r is in ends, in r.
 // The mirror of `stretch_start`: the search, the comparison and the step differ, and a parameter for the side would only say which.
-pub fn stretch_end(set: &Set<'_>, r: Interval, value: bool) -> u64
+pub fn stretch_end(set: &Set<'_>, r: Interval, value: bool) -> Logical
     requires { held set.now r.first.0 ≡ value }
-    ensures { StretchEnd (held set.now) value r.first.0 r.last.0 result }
+    ensures { StretchEnd (held set.now) value r.first.0 r.last.0 result.0 }
 {
     match crate::logical::next(set, r.first, !value) {
-        Some(y) if y <= r.last.0 => y - 1,
-        _ => r.last.0,
+        Some(y) if y.0 <= r.last.0 => Logical(y.0 - 1),
+        _ => r.last,
     }
 }
 
@@ -45,12 +45,12 @@ pub fn first_run(set: &Set<'_>, r: Interval, value: bool) -> Option<Run>
 {
     let start = find_in(set, r, value)?;
     let rest = Interval {
-        first: Logical(start),
+        first: start,
         last: r.last,
     };
     Some(Run {
-        start,
-        end: stretch_end(set, rest, value),
+        start: start.0,
+        end: stretch_end(set, rest, value).0,
     })
 }
 
@@ -59,14 +59,14 @@ pub fn first_run(set: &Set<'_>, r: Interval, value: bool) -> Option<Run>
 pub fn last_run(set: &Set<'_>, r: Interval, value: bool) -> Option<Run>
     ensures { result ≡ last_run (runs_in (held set.now) value r.first.0 (many r)) }
 {
-    let end = crate::logical::previous(set, r.last, value).filter(|x| r.first.0 <= *x)?;
+    let end = crate::logical::previous(set, r.last, value).filter(|x| r.first.0 <= x.0)?;
     let rest = Interval {
         first: r.first,
-        last: Logical(end),
+        last: end,
     };
     Some(Run {
-        start: stretch_start(set, rest, value),
-        end,
+        start: stretch_start(set, rest, value).0,
+        end: end.0,
     })
 }
 
@@ -84,7 +84,7 @@ pub fn run_at(set: &Set<'_>, x: Logical) -> Run
         last: Logical(u64::MAX),
     };
     Run {
-        start: stretch_start(set, low, value),
-        end: stretch_end(set, high, value),
+        start: stretch_start(set, low, value).0,
+        end: stretch_end(set, high, value).0,
     }
 }

@@ -231,27 +231,25 @@ module _ (rs : List Run) (c : Canon size 0 rs) (o : ℕ) (small : o < size) wher
       sym (ap last_of (turned_none o (mem rs) small (λ y l. f y (omega arith))))
 
   -- ---- where nothing is turned, the first run of all and the last one tell them
-  pub first-straight : (r : Run) → o ≡ 0 → Some r ≡ first_from 0 rs → r.start ≡ first_of (held_runs (turned o (mem rs)))
+  pub first-straight : (r : Run) → o ≡ 0 → Some r ≡ first_from 0 rs → logical_of r.start 0 ≡ first_of (held_runs (turned o (mem rs)))
   first-straight r e n = go (subst (Later rs size 0) (sym n) (later size 0 rs 0 c (inr refl)))
     where
-      go : After rs size 0 r → r.start ≡ first_of (held_runs (turned o (mem rs)))
+      go : After rs size 0 r → logical_of r.start 0 ≡ first_of (held_runs (turned o (mem rs)))
       go a =
           let l : r.start < size = omega (arith, a.member.ordered, a.member.bounded) in
-          let q : r.start ≡ logical_of r.start o = omega arith in
-          q ∙ sym (turned-first o (mem rs) small r.start l (a.member.held r.start (omega arith) a.member.ordered)
+          ap (λ k. logical_of r.start k) (sym e) ∙ sym (turned-first o (mem rs) small r.start l (a.member.held r.start (omega arith) a.member.ordered)
           (λ y t u. a.free y (omega arith) (under y r.start t l u)))
         where
           under : (y s : ℕ) → y < size → s < size → logical_of y o < logical_of s o → y < s
           under y s t l u = omega arith
 
-  pub last-straight : (r : Run) → o ≡ 0 → Some r ≡ last_up_to (size - 1) rs → r.«end» ≡ last_of (held_runs (turned o (mem rs)))
+  pub last-straight : (r : Run) → o ≡ 0 → Some r ≡ last_up_to (size - 1) rs → logical_of r.«end» 0 ≡ last_of (held_runs (turned o (mem rs)))
   last-straight r e n = go (subst (Earlier rs size (size - 1)) (sym n) (earlier size 0 rs (size - 1) c))
     where
-      go : Before rs size (size - 1) r → r.«end» ≡ last_of (held_runs (turned o (mem rs)))
+      go : Before rs size (size - 1) r → logical_of r.«end» 0 ≡ last_of (held_runs (turned o (mem rs)))
       go b =
           let l : r.«end» < size = b.member.bounded in
-          let q : r.«end» ≡ logical_of r.«end» o = omega arith in
-          q ∙ sym (turned-last o (mem rs) small r.«end» l (b.member.held r.«end» b.member.ordered (omega arith))
+          ap (λ k. logical_of r.«end» k) (sym e) ∙ sym (turned-last o (mem rs) small r.«end» l (b.member.held r.«end» b.member.ordered (omega arith))
           (λ y t u. b.free y (over y r.«end» t l u) (omega arith)))
         where
           over : (y s : ℕ) → y < size → s < size → logical_of s o < logical_of y o → s < y
@@ -269,18 +267,18 @@ module _ (rs : List Run) (c : Canon size 0 rs) (o : ℕ) (small : o < size) wher
 
     -- where the first run of all starts
     pub told-first : {l : Logical} → o ≡ 0 → q ≡ first_from 0 rs → MatchOption q (l ≡ record { 0 = 0 }) Q
-        → ((r : Run) → Q r → l ≡ record { 0 = r.start }) → l.0 ≡ first_of (held_runs (turned o (mem rs)))
+        → ((r : Run) → Q r → l.0 ≡ logical_of r.start 0) → l.0 ≡ first_of (held_runs (turned o (mem rs)))
     told-first {l} z e m f = go q e m
       where
         go : (q : Option Run) → q ≡ first_from 0 rs → MatchOption q (l ≡ record { 0 = 0 }) Q → l.0 ≡ first_of (held_runs (turned o (mem rs)))
         go None e n = ap (λ (k : Logical). k.0) n ∙ first-none e
-        go (Some r) e h = ap (λ (k : Logical). k.0) (f r h) ∙ first-straight r z e
+        go (Some r) e h = f r h ∙ first-straight r z e
 
     -- where the last run of all ends
     pub told-last : {l : Logical} → o ≡ 0 → q ≡ last_up_to (size - 1) rs → MatchOption q (l ≡ record { 0 = 0 }) Q
-        → ((r : Run) → Q r → l ≡ record { 0 = r.«end» }) → l.0 ≡ last_of (held_runs (turned o (mem rs)))
+        → ((r : Run) → Q r → l.0 ≡ logical_of r.«end» 0) → l.0 ≡ last_of (held_runs (turned o (mem rs)))
     told-last {l} z e m f = go q e m
       where
         go : (q : Option Run) → q ≡ last_up_to (size - 1) rs → MatchOption q (l ≡ record { 0 = 0 }) Q → l.0 ≡ last_of (held_runs (turned o (mem rs)))
         go None e n = ap (λ (k : Logical). k.0) n ∙ last_none e
-        go (Some r) e h = ap (λ (k : Logical). k.0) (f r h) ∙ last-straight r z e
+        go (Some r) e h = f r h ∙ last-straight r z e

@@ -9,7 +9,7 @@ ghost use Rattle.store.specs.Layout.{held};
 ghost use Rattle.store.specs.Soundness.{first_of, last_of};
 
 use crate::Set;
-use crate::places::Physical;
+use crate::places::{Physical, to_logical, to_physical};
 use model::Logical;
 use run_index::search::Runs;
 
@@ -25,15 +25,15 @@ pub fn get_physical(runs: &Runs<'_>, x: Physical) -> bool
 fn first_turned(set: &Set<'_>) -> Logical
     ensures { result.0 ≡ first_of (held_runs (held set.now)) }
 {
-    let zero = crate::places::to_physical(Logical(0), set.offset);
+    let zero = to_physical(Logical(0), set.offset);
     if get_physical(&set.runs, zero) {
         return Logical(0);
     }
     if let Some(r) = set.runs.at_or_after(zero.0) {
-        return crate::places::to_logical(Physical(r.start), set.offset);
+        return to_logical(Physical(r.start), set.offset);
     }
     match set.runs.at_or_after(0) {
-        Some(r) => crate::places::to_logical(Physical(r.start), set.offset),
+        Some(r) => to_logical(Physical(r.start), set.offset),
         None => Logical(0),
     }
 }
@@ -47,7 +47,7 @@ pub fn first_held(set: &Set<'_>) -> Logical
     }
     set.runs
         .at_or_after(0)
-        .map_or(Logical(0), |r| Logical(r.start))
+        .map_or(Logical(0), |r| to_logical(Physical(r.start), 0))
 }
 
 // The last logical position held under an offset, 0 if there is none.
@@ -55,15 +55,15 @@ pub fn first_held(set: &Set<'_>) -> Logical
 fn last_turned(set: &Set<'_>) -> Logical
     ensures { result.0 ≡ last_of (held_runs (held set.now)) }
 {
-    let top = crate::places::to_physical(Logical(u64::MAX), set.offset);
+    let top = to_physical(Logical(u64::MAX), set.offset);
     if let Some(r) = set.runs.at_or_before(top.0) {
         if top.0 <= r.end {
             return Logical(u64::MAX);
         }
-        return crate::places::to_logical(Physical(r.end), set.offset);
+        return to_logical(Physical(r.end), set.offset);
     }
     match set.runs.at_or_before(u64::MAX) {
-        Some(r) => crate::places::to_logical(Physical(r.end), set.offset),
+        Some(r) => to_logical(Physical(r.end), set.offset),
         None => Logical(0),
     }
 }
@@ -78,7 +78,7 @@ pub fn last_held(set: &Set<'_>) -> Logical
     }
     set.runs
         .at_or_before(u64::MAX)
-        .map_or(Logical(0), |r| Logical(r.end))
+        .map_or(Logical(0), |r| to_logical(Physical(r.end), 0))
 }
 
 // Whether both of two physical positions are held.
@@ -100,8 +100,8 @@ pub fn logical_runs(set: &Set<'_>, n: u64) -> u64
     if set.offset == 0 {
         return n;
     }
-    let zero = crate::places::to_physical(Logical(0), set.offset);
-    let top = crate::places::to_physical(Logical(u64::MAX), set.offset);
+    let zero = to_physical(Logical(0), set.offset);
+    let top = to_physical(Logical(u64::MAX), set.offset);
     let cut = both_held(runs, zero, top);
     let joined = both_held(runs, Physical(0), Physical(u64::MAX));
     n + u64::from(cut) - u64::from(joined)

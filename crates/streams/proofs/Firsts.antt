@@ -132,11 +132,11 @@ module _ {w : List ℕ} {v : View} {p : Path} {y : ℕ} {Q : Positions} (h : InF
         on : Q v.offset ≡ true
         on = seam (zero_held (physical_runs w v.root) z)
 
-        pub first-some : {A : Type 0} → Clear v.offset Q → A
-        first-some c = absurd (true≢false (sym on ∙ c v.offset (omega arith) h.small))
+        pub first-some : {A : Type 0} {s : ℕ} → s ≡ v.offset → Clear s Q → A
+        first-some e c = absurd (true≢false (sym on ∙ c v.offset (omega arith) h.small))
 
-        pub first-join : {c b : ℕ} → RunFrom v.offset c b Q → RunFrom y a b Q
-        first-join {c} {b} r = record {
+        pub first-join : {s c b : ℕ} → s ≡ v.offset → RunFrom s c b Q → RunFrom y a b Q
+        first-join {s} {c} {b} e r = record {
           onward = f.late;
           ordered = omega (arith, f.below, f.ordered, r.onward, r.ordered);
           small = r.small;
@@ -161,9 +161,16 @@ module _ {w : List ℕ} {v : View} {p : Path} {y : ℕ} {Q : Positions} (h : InF
         before-o : suc (v.offset - 1) ≡ v.offset
         before-o = let b = h.before in omega arith
 
-        pub first-stop : starts_at_zero (physical_runs w v.root) ≡ false → RunFrom y a (v.offset - 1) Q
-        first-stop z =
-            let s = h.small in found-run to-seam (omega arith) (λ e k. ap Q before-o ∙ seam (zero-free (physical_runs w v.root) all.ordered z))
+        -- at the position that is kept at M
+        module _ {b : ℕ} (eb : b ≡ logical_of (size - 1) v.offset) where
+          is-before : v.offset - 1 ≡ b
+          is-before = omega (arith, h.before, h.small)
 
-        pub first-after : InLast w v p'' (suc (v.offset - 1)) Q
-        first-after = subst (λ n. InLast w v p'' n Q) (sym before-o) (first-last all)
+          pub first-stop : starts_at_zero (physical_runs w v.root) ≡ false → RunFrom y a b Q
+          first-stop z =
+              let s = h.small in
+              subst (λ n. RunFrom y a n Q) is-before
+              (found-run to-seam (omega arith) (λ e k. ap Q before-o ∙ seam (zero-free (physical_runs w v.root) all.ordered z)))
+
+          pub first-after : InLast w v p'' (suc b) Q
+          first-after = subst (λ n. InLast w v p'' n Q) (sym before-o ∙ ap suc is-before) (first-last all)

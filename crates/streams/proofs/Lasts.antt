@@ -30,24 +30,29 @@ module _ {w : List ℕ} {p p' : Path} {o y : ℕ} {Q : Positions} (i : InPart w 
   last_none ps = part_none i ps
 
   module _ {x : Run} (ps : Pops w p (Some x) p') where
-    -- it starts past M
-    pub last-past : size - 1 - o < x.start → Clear y Q
-    last-past l z g k = pop-clear i ps z g k (omega arith)
+    -- it starts past M, which is kept at t
+    pub last-past : {t : ℕ} → o < size → t ≡ physical_of (size - 1) o → t < x.start → Clear y Q
+    last-past {t} os et l z g k =
+        let e : t ≡ size - 1 - o = omega arith in
+        pop-clear i ps z g k (omega arith)
 
     -- it starts before M: it ends there or before
-    module _ (small : y < size) (os : o < size) (lo : x.start ≤ size - 1 - o) {q m n a b : ℕ} (eq : q ≡ physical_of y o)
-        (em : m ≡ max x.start q) (ea : a ≡ logical_of m o) (en : n ≡ min x.«end» (size - 1 - o)) (eb : b ≡ logical_of n o) where
+    module _ (small : y < size) (os : o < size) {t : ℕ} (et : t ≡ physical_of (size - 1) o) (lo : x.start ≤ t) {q m n a b : ℕ} (eq : q ≡ physical_of y o)
+        (em : m ≡ max x.start q) (ea : a ≡ logical_of m o) (en : n ≡ min x.«end» t) (eb : b ≡ logical_of n o) where
+      is-t : t ≡ size - 1 - o
+      is-t = omega arith
+
       at-q : q ≡ y + 0 - o
       at-q = let g = i.past in kept_last y o q (omega arith) small eq
 
       is-a : a + 0 ≡ max x.start (y + 0 - o) + o
-      is-a = let e = unwrapped m o a (omega (arith, i.past, at-q)) ea in omega (arith, at-q)
+      is-a = let e = unwrapped m o a (omega (arith, i.past, at-q, is-t)) ea in omega (arith, at-q)
 
       is-b : b ≡ min x.«end» (size - 1 - o) + o
-      is-b = let e = unwrapped n o b (omega arith) eb in omega arith
+      is-b = let e = unwrapped n o b (omega (arith, is-t)) eb in omega (arith, is-t)
 
       in-a : a < size
-      in-a = omega (arith, is-a, i.past)
+      in-a = omega (arith, is-a, i.past, is-t)
 
       pub last-run : RunFrom y a b Q
       last-run =

@@ -29,29 +29,32 @@ stands-last {r} {y} {Q} l h = record { rooted = h.rooted; part = go h.ahead }
     go (firstly i) = absurd (omega (arith, i.before))
     go (lastly i) = i
 
-pub find-first : (r r' : Reader) (y : ℕ) (o : Option Run) → y < r.view.offset → Finds FirstAt r y o r' → Finds Stands r y o r'
-find-first r r' y None l f = λ Q h. f Q (stands-first l h)
-find-first r r' y (Some x) l f = λ Q h. f Q (stands-first l h)
+pub find-first : (r r' : Reader) (y s : ℕ) (o : Option Run) → s ≡ r.view.offset → y < s → Finds FirstAt r y o r' → Finds Stands r y o r'
+find-first r r' y s None e l f = λ Q h. f Q (stands-first (omega arith) h)
+find-first r r' y s (Some x) e l f = λ Q h. f Q (stands-first (omega arith) h)
 
-pub find-last : (r r' : Reader) (y : ℕ) (o : Option Run) → r.view.offset ≤ y → Finds LastAt r y o r' → Finds Stands r y o r'
-find-last r r' y None l f = λ Q h. f Q (stands-last l h)
-find-last r r' y (Some x) l f = λ Q h. f Q (stands-last l h)
+pub find-last : (r r' : Reader) (y s : ℕ) (o : Option Run) → s ≡ r.view.offset → s ≤ y → Finds LastAt r y o r' → Finds Stands r y o r'
+find-last r r' y s None e l f = λ Q h. f Q (stands-last (omega arith) h)
+find-last r r' y s (Some x) e l f = λ Q h. f Q (stands-last (omega arith) h)
 
 -- ---- over the seam, with the root's nodes on the path d
 abbrev pub over : Reader → Path → Reader
 over r d = record { words = r.words; view = r.view; path = d; from = r.from }
 
 -- the reader stands at the start of the last part
-pub seam-at : {r : Reader} {y : ℕ} {Q : Positions} {d : Path} → FirstAt r y Q → OnPath r.words.now d (physical_runs r.words.now r.view.root)
-    → LastAt (over r d) r.view.offset Q
-seam-at h all = record { rooted = h.rooted; part = first-last h.part all }
+pub seam-at : {r : Reader} {y s : ℕ} {Q : Positions} {d : Path} → s ≡ r.view.offset → FirstAt r y Q
+    → OnPath r.words.now d (physical_runs r.words.now r.view.root) → LastAt (over r d) s Q
+seam-at {r} {y} {s} {Q} {d} e h all =
+    subst (λ x. LastAt (over r d) x Q) (sym e) (record { rooted = h.rooted; part = first-last h.part all })
 
 -- the first part was over
-pub find-over : (r r' : Reader) (y : ℕ) (p' d : Path) (o : Option Run) → Pops r.words.now r.path None p'
-    → ((Q : Positions) → FirstAt r y Q → OnPath r.words.now d (physical_runs r.words.now r.view.root)) → Finds LastAt (over r d) r.view.offset o r'
+pub find-over : (r r' : Reader) (y s : ℕ) (p' d : Path) (o : Option Run) → s ≡ r.view.offset → Pops r.words.now r.path None p'
+    → ((Q : Positions) → FirstAt r y Q → OnPath r.words.now d (physical_runs r.words.now r.view.root)) → Finds LastAt (over r d) s o r'
     → Finds FirstAt r y o r'
-find-over r r' y p' d None ps all f = λ Q h. let g = f Q (seam-at h (all Q h)) in (first-over-clear h.part ps g.0, g.1, g.2)
-find-over r r' y p' d (Some x) ps all f = λ Q h. let g = f Q (seam-at h (all Q h)) in (first-over-run h.part ps g.0, g.1)
+find-over r r' y s p' d None e ps all f = λ Q h.
+    let g = f Q (seam-at e h (all Q h)) in (first-over-clear h.part ps (subst (λ x. Clear x Q) e g.0), g.1, g.2)
+find-over r r' y s p' d (Some t) e ps all f = λ Q h.
+    let g = f Q (seam-at e h (all Q h)) in (first-over-run h.part ps (subst (λ x. RunFrom x t.start t.«end» Q) e g.0), g.1)
 
 -- ---- the next run
 -- whatever position the reader has at hand

@@ -25,6 +25,15 @@ pub struct View {
     pub offset: u64,
 }
 
+impl View {
+    // The logical position that is kept at physical 0, where the last part begins.
+    fn seam(self) -> Logical
+        ensures { result.0 ≡ self.offset }
+    {
+        to_logical(Physical(0), self.offset)
+    }
+}
+
 // The nodes on the way, the nearest last; no tree is higher than there is room for. It has links, since nodes lie in lent words.
 #[derive(Drop)]
 pub struct Path {
@@ -113,7 +122,7 @@ impl<'a> Reader<'a> {
         requires { (Q : Positions) × Stands self.old «from».0 Q }
         ensures { Finds Stands self.old «from».0 result self.new }
     {
-        if from.0 < self.view.offset {
+        if from.0 < self.view.seam().0 {
             self.first(from)
         } else {
             self.last(from)
@@ -127,14 +136,14 @@ impl<'a> Reader<'a> {
     {
         let r = self.path.pop(self.words)?;
         let offset = self.view.offset;
-        let top = u64::MAX - offset;
-        if r.start > top {
+        let top = to_physical(Logical(u64::MAX), offset);
+        if r.start > top.0 {
             return None;
         }
         let p = to_physical(from, offset);
         Some(Run {
             start: to_logical(Physical(r.start.max(p.0)), offset).0,
-            end: to_logical(Physical(r.end.min(top)), offset).0,
+            end: to_logical(Physical(r.end.min(top.0)), offset).0,
         })
     }
 
@@ -144,7 +153,7 @@ impl<'a> Reader<'a> {
         ensures { Finds FirstAt self.old «from».0 result self.new }
     {
         let View { root, offset } = self.view;
-        let seam = Logical(offset);
+        let seam = self.view.seam();
         let Some(r) = self.path.pop(self.words) else {
             self.path.descend(self.words, root, Physical(0));
             return self.last(seam);
@@ -161,7 +170,7 @@ impl<'a> Reader<'a> {
         let end = if self.path.starts_at_zero(self.words) {
             self.last(seam)?.end
         } else {
-            offset - 1
+            to_logical(Physical(u64::MAX), offset).0
         };
         Some(Run { start, end })
     }

@@ -3,10 +3,12 @@ use Rattle.std.proofs.Common.{◌∙◌, subst, arith}
 use Rattle.written.proofs.Placing.{placed-front}
 use Rattle.store.specs.Layout.{held}
 use Rattle.grid.specs.Surveys.{Listed}
-use Rattle.grid.proofs.Halving.{tile-pieces}
+use Rattle.grid.proofs.Halving.{tile_pieces}
 use Rattle.grid.proofs.survey.put.Goals as goal
 
 pub returns : goal.returns
 returns c =
-    let l = subst (λ ps. Listed ps 0 c.put_pieces.result c.args.out.now c.put_pieces.new.out) (tile-pieces (held c.args.set.now) c.tile.result c.tile.ensures) c.put_pieces.ensures in
+    let l =
+    subst (λ ps. Listed ps 0 c.put_by_column.result c.args.out.now c.put_by_column.new.out)
+    (tile_pieces (held c.args.set.now) c.tile.result c.tile.ensures) c.put_by_column.ensures in
     record { words = omega (arith, l.next); slice = l.slice (omega (arith, l.next, c.requires)) ∙ placed-front _ _ }

@@ -1,7 +1,8 @@
 -- `find` meets its contract: the least position of the range, none in an empty one.
 -- Assumes nothing.
-use mathlib.Core.Path.{refl, ap}
+use Rattle.std.proofs.Common.{◌≡◌, refl, ap, ◌∙◌, rules}
 use Rattle.model.specs.Positions.{find}
+use Rattle.reports.specs.Reports.{logical_number}
 use Rattle.promises.proofs.Spans.{no-position, its-positions, of_range, find-nothing}
 use Rattle.model.specs.Call.{position}
 use Rattle.promises.proofs.Meeting.{met, met-read, find-says}
@@ -13,4 +14,6 @@ returns-in_default c = met (find-says _ _ _ _ _) (site-readable c.args.site.read
 
 pub returns : goal.returns
 returns c =
-    met-read (find-says _ _ _ _ _) c.set-set.result (site-readable c.args.site.readable) c.set-set.ensures refl (ap position (of_range (its-positions c.args.lower c.args.upper c.within.ensures c.in-Some.is) (find _ _) c.find_in.ensures))
+    let e : c.map.result ≡ logical_number c.find_in.result = search rules in
+    met-read (find-says _ _ _ _ _) c.set-set.result (site-readable c.args.site.readable) c.set-set.ensures refl
+    (ap position (of_range (its-positions c.args.lower c.args.upper c.within.ensures c.in-Some.is) (find _ _) (e ∙ c.find_in.ensures)))

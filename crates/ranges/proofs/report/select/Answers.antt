@@ -1,6 +1,7 @@
 -- `select` meets its contract: the k-th position of the range, none in an empty one.
 -- Assumes nothing.
-use mathlib.Core.Path.{refl, ap}
+use Rattle.std.proofs.Common.{◌≡◌, refl, ap, ◌∙◌, rules}
+use Rattle.reports.specs.Reports.{logical_number}
 use Rattle.promises.proofs.Spans.{no-position, its-positions, select-range, select-nothing}
 use Rattle.model.specs.Call.{position}
 use Rattle.promises.proofs.Meeting.{met, met-read, select-says}
@@ -12,4 +13,6 @@ returns-in_default c = met (select-says _ _ _ _ _ _) (site-readable c.args.site.
 
 pub returns : goal.returns
 returns c =
-    met-read (select-says _ _ _ _ _ _) c.set-set.result (site-readable c.args.site.readable) c.set-set.ensures refl (ap position (select-range (its-positions c.args.lower c.args.upper c.within.ensures c.in-Some.is) _ _ _ c.select.ensures))
+    let e : c.map.result ≡ logical_number c.select.result = search rules in
+    met-read (select-says _ _ _ _ _ _) c.set-set.result (site-readable c.args.site.readable) c.set-set.ensures refl
+    (ap position (select-range (its-positions c.args.lower c.args.upper c.within.ensures c.in-Some.is) _ _ _ (e ∙ c.select.ensures)))

@@ -1,9 +1,9 @@
 -- `select` meets its contract: the k-th position of one physical range, or of two, where those of the second follow those of the first.
 -- Assumes nothing.
-use Rattle.std.proofs.Common.{suc, ◌-◌, ◌∙◌, subst, sym, arith}
+use Rattle.std.proofs.Common.{suc, ◌-◌, ap, ◌∙◌, subst, sym, arith}
 use Rattle.model.specs.Numbers.{size}
 use Rattle.model.specs.Positions.{mem}
-use Rattle.reports.specs.Reports.{Place}
+use Rattle.reports.specs.Reports.{logical_number, Place}
 use Rattle.reports.proofs.Reading.{place-ok, place-none, selected-whole, unselected-whole, selected-first, selected-second, unselected-second}
 use Rattle.store.proofs.Turn.{Lies, lies-from-to}
 use Rattle.reports.proofs.logical.select.Goals as goal
@@ -19,7 +19,7 @@ pub returns-in_err-p : goal.returns-in_err-p
 returns-in_err-p c =
     let d = place-none c.ok.ensures.value c.in_err-p.was in
     let at = lies (goal.at.returns-in_err-p c).After-to_physical-last in
-    c.from_residual.ensures ∙ (elim c.if-first-last.branch [
+    ap logical_number c.from_residual.ensures ∙ (elim c.if-first-last.branch [
       | then-first-last w ↦ unselected-whole (mem c.args.set.now.runs) at c.args.value c.args.k d.0 w.if-first-last.true
           (subst (Place (mem c.args.set.now.runs) c.args.value c.to_physical-first.result.0 (suc c.to_physical-last.result.0 - c.to_physical-first.result.0) c.args.k) (sym w.place-is ∙ d.1) w.chosen-place.ensures)
       | else-first-last+in-Ok w ↦ let q = sym w.place-is ∙ d.1 in absurd (cc)

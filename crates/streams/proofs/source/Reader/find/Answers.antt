@@ -2,8 +2,8 @@
 use Rattle.streams.proofs.Readers.{find-first, find-last}
 use Rattle.streams.proofs.source.Reader.find.Goals as goal
 
-pub returns-then-from-self : goal.returns-then-from-self
-returns-then-from-self c = find-first _ _ _ c.first.result c.if-from-self.true c.first.ensures
+pub returns-then-from-seam : goal.returns-then-from-seam
+returns-then-from-seam c = find-first _ _ _ _ c.first.result c.seam.ensures c.if-from-seam.true c.first.ensures
 
-pub returns-else-from-self : goal.returns-else-from-self
-returns-else-from-self c = find-last _ _ _ c.last.result c.if-from-self.false c.last.ensures
+pub returns-else-from-seam : goal.returns-else-from-seam
+returns-else-from-seam c = find-last _ _ _ _ c.last.result c.seam.ensures c.if-from-seam.false c.last.ensures

@@ -24,10 +24,10 @@ pub descend-requires : goal.descend-requires
 descend-requires c = again c.requires.1.rooted (c.in_default.ensures _ c.requires.1.part.part.on).1
 
 pub last-requires : goal.last-requires
-last-requires c = (_, seam-at c.requires.1 (over (goal.at.last-requires c).After-descend _ c.requires.1))
+last-requires c = (_, seam-at c.seam-seam.ensures c.requires.1 (over (goal.at.last-requires c).After-descend _ c.requires.1))
 
 pub returns-in_default : goal.returns-in_default
-returns-in_default c = find-over _ _ _ _ _ _ c.in_default.ensures (over (goal.at.returns-in_default c).After-descend) c.last.ensures
+returns-in_default c = find-over _ _ _ _ _ _ _ c.seam-seam.ensures c.in_default.ensures (over (goal.at.returns-in_default c).After-descend) c.last.ensures
 
 pub returns-then-r-lt18446744073709551615 : goal.returns-then-r-lt18446744073709551615
 returns-then-r-lt18446744073709551615 c = λ Q h. (
@@ -47,7 +47,7 @@ pub starts_at_zero-requires : goal.starts_at_zero-requires
 starts_at_zero-requires c = (_, all (goal.at.starts_at_zero-requires c).After-descend-2 _ c.requires.1)
 
 pub last-requires-then-starts_at_zero : goal.last-requires-then-starts_at_zero
-last-requires-then-starts_at_zero c = (_, seam-at c.requires.1 (all (goal.at.last-requires-then-starts_at_zero c).After-descend-2 _ c.requires.1))
+last-requires-then-starts_at_zero c = (_, seam-at c.seam-seam.ensures c.requires.1 (all (goal.at.last-requires-then-starts_at_zero c).After-descend-2 _ c.requires.1))
 
 pub returns-in_err-last : goal.returns-in_err-last
 returns-in_err-last c =
@@ -55,14 +55,14 @@ returns-in_err-last c =
     (λ Q h.
     let a = all (goal.at.returns-in_err-last c).After-descend-2 Q h in
     first-some h.part c.in-Some.ensures c.to_physical-p.ensures c.max.ensures c.to_logical-start.ensures c.if-r-lt18446744073709551615.false
-    (sym (c.starts_at_zero.ensures _ a) ∙ c.if-starts_at_zero.true) (c.in_err-last.ensures Q (seam-at h a)).0)
+    (sym (c.starts_at_zero.ensures _ a) ∙ c.if-starts_at_zero.true) c.seam-seam.ensures (c.in_err-last.ensures Q (seam-at c.seam-seam.ensures h a)).0)
 
 pub returns-in_ok-last : goal.returns-in_ok-last
 returns-in_ok-last c = λ Q h.
     let a = all (goal.at.returns-in_ok-last c).After-descend-2 Q h in
-    let g = c.in_ok-last.ensures Q (seam-at h a) in (
+    let g = c.in_ok-last.ensures Q (seam-at c.seam-seam.ensures h a) in (
       first-join h.part c.in-Some.ensures c.to_physical-p.ensures c.max.ensures c.to_logical-start.ensures c.if-r-lt18446744073709551615.false
-          (sym (c.starts_at_zero.ensures _ a) ∙ c.if-starts_at_zero.true) g.0,
+          (sym (c.starts_at_zero.ensures _ a) ∙ c.if-starts_at_zero.true) c.seam-seam.ensures g.0,
       g.1,
     )
 
@@ -70,10 +70,10 @@ pub returns-else-starts_at_zero : goal.returns-else-starts_at_zero
 returns-else-starts_at_zero c = λ Q h.
     let a = all (goal.at.returns-else-starts_at_zero c).After-descend-2 Q h in (
       first-stop h.part c.in-Some.ensures c.to_physical-p.ensures c.max.ensures c.to_logical-start.ensures c.if-r-lt18446744073709551615.false a
-          (sym (c.starts_at_zero.ensures _ a) ∙ c.if-starts_at_zero.false),
+          c.to_logical-else-starts_at_zero.ensures (sym (c.starts_at_zero.ensures _ a) ∙ c.if-starts_at_zero.false),
       record {
         rooted = h.rooted;
         ahead = lastly (first-after h.part c.in-Some.ensures c.to_physical-p.ensures c.max.ensures c.to_logical-start.ensures
-            c.if-r-lt18446744073709551615.false a);
+            c.if-r-lt18446744073709551615.false a c.to_logical-else-starts_at_zero.ensures);
       },
     )
