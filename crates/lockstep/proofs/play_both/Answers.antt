@@ -10,9 +10,9 @@ returns c =
     c.requires.low_le_high.0
     c.requires.low_le_high.1
     c.new.ensures
-    c.set.ensures
+    c.set.ensures.met
     c.new-2.ensures
-    c.set-2.ensures
+    c.set-2.ensures.met
     c.shift.ensures
     c.write_set-x.ensures
     c.write_set-y.ensures
