@@ -1,6 +1,6 @@
 -- Fill, over what the public calls promise (document 02, Ticket 7): 0 exactly where nothing of the window is held, and 1000 where all of it is.
 -- What is added before the division is less than the length, so it makes one more of a rest, and of no rest nothing. Assumes nothing.
-use Rattle.std.specs.Prelude.{None, Some, Ok}
+use Rattle.std.specs.Prelude.{None, Ok}
 use Prim.Native.Nat.{ℕ, ◌+◌, ◌-◌, ◌*◌, ◌/◌, ◌≤◌, ◌<◌}
 use mathlib.Core.Path.{◌≡◌, refl, sym, ap, ◌∙◌}
 use mathlib.Core.Bool.{true, false}

@@ -17,4 +17,5 @@ pub mod Neighbours
 pub mod Floors
 pub mod Writing
 pub mod Forms
+pub mod Heights
 pub mod Theorems

@@ -1,4 +1,4 @@
--- THE THEOREMS. No tree and no offset is mentioned, but in the last one, which is about trees: a pool is known by what its calls promise.
+-- THE THEOREMS. No tree and no offset is mentioned, but in the two about the deepest tree: a pool is known by what its calls promise.
 -- Assumes nothing: these are statements. proofs/Theorems.antt proves each under its name, in small letters.
 use Rattle.std.specs.Prelude.{Some}
 use Rattle.model.specs.Answers.{OrRefusal}
@@ -7,6 +7,7 @@ use Rattle.model.specs.declared.Edition.{Edition}
 use Rattle.model.specs.declared.Edition.TheVariants.{Columns}
 use Rattle.model.specs.Numbers.{size}
 use Rattle.model.specs.declared.Limits.{Limits}
+use Rattle.model.specs.declared.Run.{Run}
 use Rattle.model.specs.Answers.{written_answer}
 use Rattle.model.specs.RunList.{AllBytes}
 use Rattle.model.specs.Positions.{empty, stretches}
@@ -16,10 +17,10 @@ use Rattle.model.specs.Pools.{world_of, other_claims, empty_worlds, answers, aft
 use Rattle.model.specs.Spawning.{Range, ranges_of, sets_of, pick, AllGiven, StopsAt}
 use Rattle.model.specs.Clearing.{clear_map}
 use Rattle.model.specs.Mending.{mended_positions}
-use Rattle.model.specs.Deepest.{least, deepest_words}
+use Rattle.model.specs.Deepest.{least, deepest_runs, deepest_words}
 use Rattle.model.specs.Converting.{convert, document_one_refusal}
 use Rattle.run_index.specs.Tree.{height}
-use Rattle.store.specs.Layout.{capacity, opened_at, floor_at, held_by, worlds_of, tree_at}
+use Rattle.store.specs.Layout.{capacity, opened_at, floor_at, held_by, worlds_of, world_at, tree_at}
 use Rattle.store.specs.Soundness.{runs_at, Sound}
 use Rattle.lowest.specs.Entries.{In}
 use Rattle.spawn.specs.Placing.{Climbing}
@@ -29,6 +30,7 @@ use Rattle.promises.specs.Handles.{Handles}
 use Rattle.lockstep.specs.History.{History, New, told, outcomes, Follows, left, WritesSet, Loads, Writable}
 use Rattle.lockstep.specs.Matches.{Match}
 use Rattle.lockstep.specs.Clearing.{old_reading, WritesMap}
+use Rattle.lockstep.specs.Heights.{SetOneByOne}
 
 -- ---- demand 3, and worlds in one pool (document 02, Ticket 3)
 -- Theorem 1: from a new pool, every answer, refusal, and every world's positions, floor and ceiling and the number of worlds after each call are
@@ -184,14 +186,22 @@ Mended-floor =
 
 -- ---- the deepest tree (document 02, Ticket 10)
 -- a list for the height h that is not refused has `least h` runs, start and end of each in turn; and in no sound pool is a world of fewer physical runs
--- that high. That the list makes the height, set one by one by the function that `set` calls, and that no shorter list does, is what
--- `heights::plant` promises
+-- that high
 abbrev pub Deepest-shortest : Type 0
 Deepest-shortest =
     (w : List ℕ) (h : ℕ) (out out' : List ℕ) (n : ℕ) (w' : List ℕ)
     → Measured w (deepest h) out (gave (written n out')) w'
     → (n ≡ 2 * least h) × (take n out' ≡ deepest_words h)
     × ((v : List ℕ) (i : ℕ) → Sound v → i < opened_at v → runs_at v i < least h → height (tree_at v i) < h)
+
+-- set one by one into an empty world, the list for the height h makes a tree of that height, and no list of fewer runs makes one that high. The offset,
+-- a word, need not be 0: it is, where a world is empty
+abbrev pub Deepest-height : Type 0
+Deepest-height =
+    (w : List ℕ) (i h : ℕ) (w' : List ℕ)
+    → Sound w → i < opened_at w → (world_at w i).offset < size → ((x : ℕ) → x < size → held_by w i x ≡ false)
+    → (SetOneByOne w i (deepest_runs h) w' → height (tree_at w' i) ≡ h)
+    × ((rs : List Run) → length rs < least h → SetOneByOne w i rs w' → height (tree_at w' i) < h)
 
 -- ---- why a list stopped (document 02, Ticket 13)
 -- what a pool of one world that may have C runs, which is empty, answers to the ranges rs, set to true one by one
