@@ -1,4 +1,5 @@
 // The calls that change a world where it stands.
+ghost use Rattle.promises.specs.Grown.{Grows};
 ghost use Rattle.promises.specs.Met.{Met};
 ghost use Rattle.model.specs.Answers.{completed_answer, counted_answer};
 ghost use Rattle.model.specs.Call.{Call};
@@ -13,7 +14,8 @@ pub fn set(
     upper: Bound,
     value: bool,
 ) -> Result<Count, Refusal>
-    ensures { Met words.old world (Call.set lower upper value) (counted_answer result) words.new }
+    ensures met { Met words.old world (Call.set lower upper value) (counted_answer result) words.new }
+    ensures grows { Grows words.old world lower upper value result words.new }
 {
     let worn = crate::look::look_at(words, world)?;
     let answer = ranges::change::set(words, world, lower, upper, value);

@@ -16,6 +16,7 @@ pub mod Forms
 pub mod SurveysHalving
 pub mod SurveysParting
 pub mod Surveys
+pub mod Heights
 pub mod Theorems
 pub mod Moves
 pub mod Plays

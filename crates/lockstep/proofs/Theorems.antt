@@ -6,7 +6,8 @@ use Rattle.model.specs.Call.{why_full}
 use Rattle.store.specs.Settle.{Openable}
 use Rattle.model.proofs.Cases
 use Rattle.model.proofs.Columns
-use Rattle.lockstep.specs.Tables.{Cases-hold, Columns-back}
+use Rattle.model.proofs.Worked
+use Rattle.lockstep.specs.Tables.{Cases-hold, Worked-hold, Columns-back}
 use Rattle.promises.specs.Met.{Measured}
 use Rattle.lockstep.specs.Theorems.{
   Equal-bytes,
@@ -30,6 +31,7 @@ use Rattle.lockstep.specs.Theorems.{
   Mended-floor,
   Deepest-shortest,
   Survey-parts,
+  Deepest-height,
   Why-smallest,
   Why-none,
   Why-exact,
@@ -46,6 +48,7 @@ use Rattle.lockstep.proofs.Mending.{right-comes-back, outcome-loads, mend-old-re
 use Rattle.lockstep.proofs.Measuring.{list-long, list-is}
 use Rattle.lockstep.proofs.Surveys.{survey-parted}
 use Rattle.lockstep.proofs.Stopping.{many-are, rising-are, listed-are, refused-are, fewer-given, none-given, given-none, due-told, due-short}
+use Rattle.lockstep.proofs.Heights.{list-high, shorter-lower}
 use Rattle.store.proofs.Heights.{world-lower}
 
 pub equal-bytes : Equal-bytes
@@ -117,6 +120,9 @@ mended-floor w i bs out report a w' S l m h e = mend-reaches-floor S i l m h e
 pub deepest-shortest : Deepest-shortest
 deepest-shortest w h out out' n w' m = (list-long m, list-is m, λ v i S named few. world-lower v i h S named few)
 
+pub deepest-height : Deepest-height
+deepest-height w i h w' S l small bare = (list-high S l small bare h w', λ rs few s. shorter-lower S l small bare h rs w' few s)
+
 pub survey-parts : Survey-parts
 survey-parts w i row column k out out' n w' m = survey-parted m
 
@@ -137,6 +143,9 @@ why-exact w ranges out a w' d h W m = (
 -- ---- of the plain model alone
 pub cases-hold : Cases-hold
 cases-hold = Cases.cases-hold
+
+pub worked-hold : Worked-hold
+worked-hold = Worked.worked-cases
 
 pub columns-back : Columns-back
 columns-back R C bs e = Columns.columns-back R C bs e

@@ -5,4 +5,5 @@ pub mod Surveys
 pub mod Beside
 pub mod Tables
 pub mod Why
+pub mod Heights
 pub mod Theorems

@@ -1,5 +1,5 @@
--- THE THEOREMS beside the one on whole plays (Determinism.antt). No tree and no offset is mentioned, but in
--- `Deepest-shortest`, which is about trees: a pool is known by what its calls promise.
+-- THE THEOREMS beside the one on whole plays (Determinism.antt). No tree and no offset is mentioned, but in the two about
+-- the deepest tree: a pool is known by what its calls promise.
 -- Assumes nothing: these are statements. proofs/Theorems.antt proves each under its name, in small letters.
 use Rattle.std.specs.Prelude.{Some}
 use Rattle.model.specs.Answers.{OrRefusal}
@@ -7,6 +7,7 @@ use Rattle.std.specs.Prelude.{ℕ, ◌+◌, ◌*◌, ◌^◌, ◌≤◌, ◌<◌
 use Rattle.model.specs.declared.Edition.{Edition}
 use Rattle.model.specs.declared.Edition.TheVariants.{Rows, Columns}
 use Rattle.model.specs.Numbers.{size}
+use Rattle.model.specs.declared.Run.{Run}
 use Rattle.model.specs.Answers.{written_answer}
 use Rattle.model.specs.Bytes.{edition_of}
 use Rattle.model.specs.RunList.{AllBytes}
@@ -18,10 +19,10 @@ use Rattle.model.specs.Bytes.{into_front}
 use Rattle.model.specs.Spawning.{Range, ranges_of, sets_of, pick, AllGiven, StopsAt}
 use Rattle.model.specs.Clearing.{clear_map}
 use Rattle.model.specs.Mending.{mended_positions}
-use Rattle.model.specs.Deepest.{least, deepest_words}
+use Rattle.model.specs.Deepest.{least, deepest_runs, deepest_words}
 use Rattle.model.specs.Converting.{convert, document_one_refusal}
 use Rattle.run_index.specs.Tree.{height}
-use Rattle.store.specs.Layout.{capacity, opened_at, floor_at, held_by, worlds_of, tree_at}
+use Rattle.store.specs.Layout.{capacity, opened_at, floor_at, held_by, worlds_of, world_at, tree_at}
 use Rattle.store.specs.Soundness.{runs_at, Sound}
 use Rattle.lowest.specs.Entries.{In}
 use Rattle.spawn.specs.Placing.{Climbing}
@@ -33,6 +34,7 @@ use Rattle.lockstep.specs.Beside.{Beside}
 use Rattle.lockstep.specs.Clearing.{old_reading, WritesMap}
 use Rattle.lockstep.specs.Surveys.{piece, Listed, words_of, Parts}
 use Rattle.lockstep.specs.Why.{ArePlaces}
+use Rattle.lockstep.specs.Heights.{SetOneByOne}
 
 -- ---- sets that are written, and pools that hold the same
 -- world i of the words w writes bs as a set of edition e
@@ -194,14 +196,22 @@ Mended-floor =
 
 -- ---- the deepest tree (document 02, Ticket 10)
 -- a list for the height h that is not refused has `least h` runs, start and end of each in turn; and in no sound pool is a world of fewer physical runs
--- that high. That the list makes the height, set one by one by the function that `set` calls, and that no shorter list does, is what
--- `heights::plant` promises
+-- that high
 abbrev pub Deepest-shortest : Type 0
 Deepest-shortest =
     (w : List ℕ) (h : ℕ) (out out' : List ℕ) (n : ℕ) (w' : List ℕ)
     → Measured w (deepest h) out (gave (written n out')) w'
     → (n ≡ 2 * least h) × (take n out' ≡ deepest_words h)
     × ((v : List ℕ) (i : ℕ) → Sound v → i < opened_at v → runs_at v i < least h → height (tree_at v i) < h)
+
+-- set one by one into an empty world, the list for the height h makes a tree of that height, and no list of fewer runs makes one that high. The offset,
+-- a word, need not be 0: it is, where a world is empty
+abbrev pub Deepest-height : Type 0
+Deepest-height =
+    (w : List ℕ) (i h : ℕ) (w' : List ℕ)
+    → Sound w → i < opened_at w → (world_at w i).offset < size → ((x : ℕ) → x < size → held_by w i x ≡ false)
+    → (SetOneByOne w i (deepest_runs h) w' → height (tree_at w' i) ≡ h)
+    × ((rs : List Run) → length rs < least h → SetOneByOne w i rs w' → height (tree_at w' i) < h)
 
 -- ---- surveys
 -- what a survey that is not refused lists parts the square: every cell in just one piece, each of one value and as large as halving allows, left before

@@ -6,6 +6,8 @@ pub mod Sites
 pub mod Windows
 pub mod Spans
 pub mod Changing
+pub mod Shapes
+pub mod Growing
 pub mod Overwriting
 pub mod Putting
 pub mod Simulation

@@ -1,4 +1,5 @@
 pub mod Met
+pub mod Grown
 pub mod Joined
 pub mod Out
 pub mod Handles

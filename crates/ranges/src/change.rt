@@ -3,6 +3,7 @@
 ghost use Rattle.std.specs.Prelude.{[]};
 ghost use Rattle.model.specs.Call.{Call};
 ghost use Rattle.model.specs.Answers.{completed_answer, counted_answer};
+ghost use Rattle.promises.specs.Grown.{Grows};
 ghost use Rattle.promises.specs.Met.{Readable, Met};
 
 use model::{Bound, Count, Refusal};
@@ -18,7 +19,8 @@ pub fn set(
     value: bool,
 ) -> Result<Count, Refusal>
     requires { Readable words.old world }
-    ensures { Met words.old world (Call.set lower upper value) (counted_answer result) words.new }
+    ensures met { Met words.old world (Call.set lower upper value) (counted_answer result) words.new }
+    ensures grows { Grows words.old world lower upper value result words.new }
 {
     let Some(r) = model::within(lower, upper) else {
         return Ok(Count { carry: 0, low: 0 });

@@ -28,9 +28,3 @@ module _ {w : List ℕ} {s : Share} {h : World} (st : Standing w s h) where
       let Q = mem (inorder st.tree) in
       ap runs (kept-tree st.kept) ∙ runs-length st.tree ∙ sym (stretches-is Q (inorder st.tree) st.kept.ordered (λ x l. refl))
       ∙ sym (ap stretches (standing-held st) ∙ ap (λ o. stretches (turned o Q)) z ∙ stretches-zero Q)
-
-  -- nor is a world that stands alone h high with fewer physical runs than that list
-  pub standing-lower : (d : ℕ) → runs (tree_from highest w h.root) < least d → height (tree_from highest w h.root) < d
-  standing-lower d few =
-      let is = kept-tree st.kept in
-      omega (arith, ap height is, fewer-lower d st.tree st.kept.balanced (omega (arith, ap runs is, few)))

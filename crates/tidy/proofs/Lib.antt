@@ -1,3 +1,4 @@
 pub mod Threading
 pub mod Ordering
 pub mod Tidying
+pub mod Trees

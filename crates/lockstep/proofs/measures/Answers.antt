@@ -1,8 +1,9 @@
-use Rattle.lockstep.proofs.Theorems.{deepest-shortest, why-smallest, why-none, why-exact}
+use Rattle.lockstep.proofs.Theorems.{deepest-height, deepest-shortest, why-smallest, why-none, why-exact}
 use Rattle.lockstep.proofs.measures.Goals as goal
 
 pub returns : goal.returns
 returns c = record {
+  deepest_height = deepest-height;
   deepest_shortest = deepest-shortest;
   why_smallest = why-smallest;
   why_none = why-none;

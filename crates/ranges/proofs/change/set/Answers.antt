@@ -1,28 +1,38 @@
--- `set` meets its contract: the positions of the range are set, and an empty or reversed one changes nothing. Assumes nothing.
+-- `set` meets its contract: the positions of the range are set, and an empty or reversed one changes nothing; the tree is the one that the change
+-- left, or stays. Assumes nothing.
 use mathlib.Core.Path.{refl, ap}
 use Rattle.model.specs.Call.{number}
 use Rattle.promises.proofs.Spans.{no-position, its-positions}
 use Rattle.promises.proofs.Doors.{lent-editable}
+use Rattle.promises.proofs.Growing.{none-grows, edit-grows}
 use Rattle.promises.proofs.Changing.{left_so, edit-full, edit-closing, edit-done, set-within, set-none, changes-none, set_says}
 use Rattle.ranges.proofs.change.set.Goals as goal
 
-pub returns-in_default : goal.returns-in_default
-returns-in_default c =
+pub returns-in_default-clause-met : goal.returns-in_default-clause-met
+returns-in_default-clause-met c =
     let e = no-position c.args.lower c.args.upper c.within.ensures c.in_default.is in
     left_so (set_says _ _ _ _ _) c.requires refl (set-none _ _ _ e _) (ap number (changes-none _ _ _ _ e))
 
 pub set-requires : goal.set-requires
 set-requires c = lent-editable c.open-h.ensures c.allowance-limit.ensures
 
-pub returns-in_default-set : goal.returns-in_default-set
-returns-in_default-set c =
+pub returns-in_default-set-clause-met : goal.returns-in_default-set-clause-met
+returns-in_default-set-clause-met c =
     edit-full (set_says _ _ _ _ _) refl c.requires c.open-h.ensures (set-within (its-positions c.args.lower c.args.upper c.within.ensures c.in-Some.is) c.open-h.ensures _)
     c.allowance-limit.ensures _ _ c.set.ensures.0 c.in_default-set.is
 
 pub close-requires : goal.close-requires
 close-requires c = (_, _, edit-closing c.requires c.open-h.ensures c.allowance-limit.ensures _ _ c.set.ensures.0 c.in-Some-set.is)
 
-pub returns : goal.returns
-returns c =
+pub returns-clause-met : goal.returns-clause-met
+returns-clause-met c =
     edit-done (set_says _ _ _ _ _) refl c.requires c.open-h.ensures (set-within (its-positions c.args.lower c.args.upper c.within.ensures c.in-Some.is) c.open-h.ensures _)
     c.allowance-limit.ensures _ _ c.set.ensures.0 c.in-Some-set.is c.close.ensures.closes refl
+
+pub returns-in_default-clause-grows : goal.returns-in_default-clause-grows
+returns-in_default-clause-grows c = none-grows (no-position c.args.lower c.args.upper c.within.ensures c.in_default.is)
+
+pub returns-clause-grows : goal.returns-clause-grows
+returns-clause-grows c =
+    edit-grows _ _ c.requires c.open-h.ensures c.allowance-limit.ensures _ c.set.ensures.0 c.set.ensures.1 c.in-Some-set.is
+    (its-positions c.args.lower c.args.upper c.within.ensures c.in-Some.is) c.close.ensures.headed

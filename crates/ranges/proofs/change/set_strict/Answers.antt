@@ -8,4 +8,4 @@ returns-then-is_reversed c = set-reversed c.requires (sym c.if-is_reversed.true 
 
 pub returns : goal.returns
 returns c =
-    set-straight (sym c.if-is_reversed.false ∙ c.is_reversed.ensures) c.set.ensures
+    set-straight (sym c.if-is_reversed.false ∙ c.is_reversed.ensures) c.set.ensures.met
