@@ -13,8 +13,8 @@ use Rattle.model.specs.declared.Edition.TheVariants.{Rows, Columns}
 use Rattle.model.specs.Positions.{run, mem}
 use Rattle.model.specs.Bytes.{encode, into_front}
 use Rattle.model.specs.Deepest.{deepest_words}
-use Rattle.model.specs.Call.{Call, set, get, tally, gap, combine, equal, load, mend, build, write_set, read_map}
-use Rattle.model.specs.Call.{write_map, fill, set_strict, flip_strict, tally_strict, set_rect, count_rect, survey}
+use Rattle.model.specs.Call.{Call, set, get, tally, gap, combine, complement, equal, load, mend, build, write_set}
+use Rattle.model.specs.Call.{read_map, write_map, fill, set_strict, flip_strict, tally_strict, set_rect, count_rect, survey}
 use Rattle.model.specs.Call.{Measure, deepest, why_full, PoolCall, make, measure, at, feed_pool}
 use Rattle.model.specs.Call.{Result, done, number, tallied, value, position, written, mended, Answer, refused, gave}
 use Rattle.model.specs.Pools.{PlainWorld, make_by, measure_by, step, answers, after}
@@ -437,6 +437,16 @@ pools =
     ∷ at 0 (gap Unbounded Unbounded 0) earns 9
     ∷ [])
     (opened 0 4 [] ∷ [])
+    -- also where the pool has no room for any run
+    ∷ pool_says 0 (
+    make (limits 0 0 ∷ []) gives done
+    ∷ hold 0 1 earns 8
+    ∷ hold 1 1 earns 12
+    ∷ at 1 (complement (having [])) earns 12
+    ∷ at 0 (complement (having [])) earns 8
+    ∷ at 0 (complement shut) earns 12
+    ∷ [])
+    (opened 0 0 [] ∷ [])
     ∷ []
 
 -- ---- measured pools
