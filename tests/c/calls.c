@@ -188,10 +188,11 @@ static void cases(void) {
     only(a, WORDS, 0, 3);
     CHECK(vizturel_shifted(s, WORDS, here, 4, 0, a, WORDS, here) == 0 && holds(s, WORDS, 0, NULL));
 
-    only(s, WORDS, 10, 19);
-    CHECK(vizturel_shift(s, WORDS, here, 5, 1) == 0);
-    CHECK(is_count(put(s, WORDS, 0, 15, 1), 15));
-    CHECK(holds(s, WORDS, 1, twelve));
+    /* two physical runs and one logical one are left: only the capacity 1 tells a refusal by logical runs from one by physical runs */
+    only(one, VIZTUREL_WORDS(1), 10, 19);
+    CHECK(vizturel_shift(one, VIZTUREL_WORDS(1), here, 5, 1) == 0);
+    CHECK(is_count(put(one, VIZTUREL_WORDS(1), 0, 15, 1), 15));
+    CHECK(holds(one, VIZTUREL_WORDS(1), 1, twelve));
 
     only(one, VIZTUREL_WORDS(1), 2, 7);
     memcpy(kept, one, sizeof one);

@@ -1,26 +1,29 @@
--- A set of world 0 of a sound pool that is admitted can be closed, and the pool is then sound and as long; one that is refused leaves it.
--- World 0 can be searched. The nodes are lent as a part of the words. Assumes nothing.
+-- Words are a sound pool where their length and the check say so. A set of world 0 of a sound pool that is admitted can be closed, and the
+-- world then holds it; one that is refused leaves all words. World 0 can be searched. The nodes are lent as a part of the words.
+-- Assumes nothing.
 use Rattle.changes.specs.Edits.{changed_to}
 use Rattle.std.specs.Prelude.{Option, None}
 use Rattle.changes.specs.declared.edit.Edit.{Edit}
-use Rattle.std.proofs.Common.{◌≡◌, ℕ, ◌≤◌, true, false, not, ◌&&◌, ◌==◌, List, [], ◌∷◌, length, sym, refl, ap, ◌∙◌, subst, subst₂, arith, le-ltb, eq-eqb, ne_eqb}
+use Rattle.std.proofs.Common.{◌≡◌, ℕ, ◌≤◌, ◌<◌, Bool, true, false, List, [], ◌∷◌, length}
+use Rattle.std.proofs.Common.{sym, refl, ap, ◌∙◌, subst, subst₂, arith, le-ltb, eq-eqb, ne_eqb}
 use native.Mathlib.Decide.{ℕ_discrete}
 use Rattle.model.specs.declared.Count.{Count}
-use Rattle.model.specs.Positions.{Positions, stretches}
+use Rattle.model.specs.Positions.{Positions, empty, set_range, stretches}
 use Rattle.model.specs.Refusals.{bad_limits}
-use Rattle.model.specs.Pools.{limits_from, limits_of}
+use Rattle.model.specs.Pools.{limits_from, limits_of, empty_worlds, alone}
 use Rattle.run_index.specs.Cells.{cell_at}
 use Rattle.store.specs.declared.World.{World}
-use Rattle.store.specs.Layout.{capacity, nodes, allowance}
+use Rattle.store.specs.Layout.{capacity, nodes, allowance, held_in, held_by}
 use Rattle.store.specs.Soundness.{Sound, Stands, Limited, Editable, share_of}
-use Rattle.store.specs.Free.{Makeable}
-use Rattle.store.specs.Settle.{Became, Openable, Opened, Closing}
+use Rattle.store.specs.Free.{Makeable, Pooled, Emptied}
+use Rattle.store.specs.Settle.{Settled, Became, Openable, Opened, Closing}
 use Rattle.store.proofs.Truths.{never}
 use Rattle.store.proofs.Nodes.{sized-length}
 use Rattle.store.proofs.Parts.{lent, back, lent-nodes, back-same, back-nodes, back-front, back_long, cells-before}
 use Rattle.soundness.specs.Decision.{sound_b}
 use Rattle.soundness.proofs.Whole.{sound_b-yes}
 use Rattle.changes.specs.Edits.{Edited}
+use Rattle.bench_store.specs.Growing.{is_pool, Renewed, Tried}
 
 -- ---- a new pool
 -- floor 0 and the capacity as the ceiling are not refused
@@ -31,17 +34,25 @@ good c = rw (le-ltb c 0 (omega arith))
 pub makeable : (w : List ℕ) (c : ℕ) → c ≡ capacity w → (c ≡ 0 → ⊥) → Makeable w (0 ∷ c ∷ []) 1
 makeable w c e h = record { sized = omega (arith, h); many = refl; good = ap (λ k. bad_limits k (limits_of (0 ∷ c ∷ []))) (sym e) ∙ good c }
 
+-- these limits make one empty world
+one-world : (c : ℕ) → empty_worlds (limits_of (0 ∷ c ∷ [])) ≡ alone c empty
+unfolding empty_worlds limits_of limits_from
+one-world c = refl
+
+pub renewed : (w w' : List ℕ) (c : ℕ) → c ≡ capacity w → Emptied w w' (limits_of (0 ∷ c ∷ [])) → Renewed w w' true
+renewed w w' c e made = subst (λ k. Pooled w w' (alone k empty)) e (subst (Pooled w w') (one-world c) made)
+
 -- ---- the check
 -- the length is a pool's: the rest decides
-pub has-length : (w : List ℕ) → (capacity w ≡ 0 → ⊥) → sound_b w ≡ (not (capacity w == 0) && sound_b w)
+pub has-length : (w : List ℕ) → (capacity w ≡ 0 → ⊥) → sound_b w ≡ is_pool w
 has-length w h = rw (ne_eqb (capacity w) 0 h)
 
 -- it is not
-pub no-length : (w : List ℕ) → capacity w ≡ 0 → false ≡ (not (capacity w == 0) && sound_b w)
+pub no-length : (w : List ℕ) → capacity w ≡ 0 → false ≡ is_pool w
 no-length w e = rw (eq-eqb (capacity w) 0 e)
 
 -- what passes is sound
-pub found-sound : (w : List ℕ) → (not (capacity w == 0) && sound_b w) ≡ true → Sound w
+pub found-sound : (w : List ℕ) → is_pool w ≡ true → Sound w
 found-sound w e = go (ℕ_discrete (capacity w) 0)
   where
     go : Dec (capacity w ≡ 0) → Sound w
@@ -62,6 +73,15 @@ module _ {w : List ℕ} {h : World} (op : Opened w 0 h) where
   limited : Limited (lent w) (share_of w 0) h (allowance w 0)
   limited = subst (λ v. Limited v (share_of w 0) h (allowance w 0)) (sym (lent-nodes w)) op.limited
 
+  -- it holds there what the pool's world does
+  pub lent-held : held_in (lent w) h ≡ held_by w 0
+  lent-held = ap (λ v. held_in v h) (lent-nodes w) ∙ op.held
+
+  -- a set of it is one of the pool's world
+  pub tried-there : (w' : List ℕ) (b : Bool) (a n : ℕ) → Tried w w' (set_range a n true (held_in (lent w) h)) b
+      → Tried w w' (set_range a n true (held_by w 0)) b
+  tried-there w' b a n t = subst (λ P. Tried w w' (set_range a n true P) b) lent-held t
+
   -- and stands
   pub open-stands : Stands (lent w) h
   open-stands = (share_of w 0, limited.standing)
@@ -73,8 +93,11 @@ module _ {w : List ℕ} {h : World} (op : Opened w 0 h) where
 
     module _ (so : Sound w) (ys : List ℕ) (Q : Positions) (e : Option Edit) (ed : Edited (lent w) ys h limit Q e) where
       -- refused, all is as it was
-      pub full-same : e ≡ None → back w ys ≡ w
-      full-same q = ap (back w) (subst (Edited (lent w) ys h limit Q) q ed).1 ∙ back-same w
+      refused : e ≡ None → (limit < stretches Q) × (ys ≡ lent w)
+      refused q = subst (Edited (lent w) ys h limit Q) q ed
+
+      pub full-same : e ≡ None → Tried w (back w ys) Q false
+      full-same q = (subst (λ m. m < stretches Q) el (refused q).0, ap (back w) (refused q).1 ∙ back-same w)
 
       -- else it can be closed
       module _ {k : World} {n : Count} (q : e ≡ changed_to k n) where
@@ -108,6 +131,6 @@ module _ {w : List ℕ} {h : World} (op : Opened w 0 h) where
           few = subst (λ j. stretches Q ≤ allowance w j) (sym same_number) few;
         }
 
--- what was refused is sound and as long
-pub same-sound : {w w₁ : List ℕ} → Sound w → w₁ ≡ w → Sound w₁ × (length w₁ ≡ length w)
-same-sound so e = (subst Sound (sym e) so, ap length e)
+        -- and then holds it
+        pub changed-tried : {w' : List ℕ} → Settled w w' k.tag Q → Tried w w' Q true
+        changed-tried {w'} S = (few, subst (λ j. Settled w w' j Q) same_number S)

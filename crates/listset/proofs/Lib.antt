@@ -4,3 +4,4 @@ pub mod Decimals
 pub mod Drawing
 pub mod Lines
 pub mod Answering
+pub mod Showing

@@ -1,3 +1,4 @@
 pub mod Digits
 pub mod Text
 pub mod Put
+pub mod Shown

@@ -10,13 +10,14 @@ ghost use Rattle.store.specs.Settle.{Openable};
 ghost use Rattle.reports.specs.Reports.{Measured};
 ghost use Rattle.listset.specs.Text.{decimal, run_line, run_lines, refused_line, count_lines, set_lines, printed};
 ghost use Rattle.listset.specs.Put.{Puts};
+ghost use Rattle.listset.specs.Shown.{Shows, Lists};
 
 use interval_bit_set::{bytes, listing, make, report};
 use itoa::Buffer;
 use model::{Bound, Count, Listing, Refusal, Run, Tally};
 use std::alloc::{AllocError, Global};
 use std::io;
-use std::io::Read;
+use std::io::{Read, Write};
 
 // The only world may have as many runs as the pool has room for.
 const CAPACITY: usize = 950;
@@ -128,7 +129,15 @@ fn answer(text: &mut String, bytes: &[u8]) -> Result<(), AllocError>
     }
 }
 
-// ---- standard input and output
+// ---- an input, and what is written of it
+// Why an input was not shown, or not wholly: it could not be read, there is no memory for its text, or that could not be written.
+#[derive(Clone, Copy)]
+enum Failure {
+    Input,
+    Memory,
+    Output,
+}
+
 // The bytes of an input. Of a longer one than is taken, a byte more than that is read, so that it shows.
 fn read_all<R: Read + Drop>(alloc: Global, input: R) -> io::Result<Vec<u8>>
     ensures { IfOk result (λ bytes. IfSome (R.remaining input) (λ all. bytes.items ≡ take 15206 all)) }
@@ -138,22 +147,37 @@ fn read_all<R: Read + Drop>(alloc: Global, input: R) -> io::Result<Vec<u8>>
     Ok(bytes)
 }
 
-fn show(rt: &(impl Print + Eprint + AllocGlobal), bytes: &[u8]) -> io::Result<()> {
-    let mut text = String::new(rt.alloc());
+// Writes the answer to the bytes of an input.
+fn show<W: Write>(alloc: Global, output: &mut W, bytes: &[u8]) -> Result<(), Failure>
+    ensures { Shows (W.contents output.old) (W.contents output.new) bytes.now result }
+{
+    let mut text = String::new(alloc);
     if answer(&mut text, bytes).is_err() {
-        return eprintln!(rt; "listset: no memory for the text");
+        return Err(Failure::Memory);
     }
-    if rt.write_all(text.as_bytes()).is_err() {
-        eprintln!(rt; "listset: cannot write standard output")?;
+    if output.write_all(text.as_bytes()).is_err() {
+        return Err(Failure::Output);
     }
     Ok(())
 }
 
-// That the input cannot be read, that there is no memory for the text, or that it cannot be written, is said on standard error, and the program
-// ends as it does otherwise. Where that cannot be said either, it hands the error back.
+// Writes the answer to an input. It is generic, since only of a reader and a writer whose bytes are known can a contract say what was written.
+fn list<R: Read + Drop, W: Write>(alloc: Global, input: R, output: &mut W) -> Result<(), Failure>
+    ensures { Lists (R.remaining input) (W.contents output.old) (W.contents output.new) result }
+{
+    match read_all(alloc, input) {
+        Err(_) => Err(Failure::Input),
+        Ok(bytes) => show(alloc, output, &bytes),
+    }
+}
+
+// ---- standard input and output
+// A failure is said on standard error, and the program ends as it does otherwise. Where it cannot be said, it hands the error back.
 fn main(rt: HostRuntime) -> io::Result<()> {
-    match read_all(rt.alloc(), rt.stdin()) {
-        Err(_) => eprintln!(rt; "listset: cannot read standard input"),
-        Ok(bytes) => show(&rt, &bytes),
+    match list(rt.alloc(), rt.stdin(), &mut io::writer(&rt)) {
+        Ok(()) => Ok(()),
+        Err(Failure::Input) => eprintln!(rt; "listset: cannot read standard input"),
+        Err(Failure::Memory) => eprintln!(rt; "listset: no memory for the text"),
+        Err(Failure::Output) => eprintln!(rt; "listset: cannot write standard output"),
     }
 }

@@ -1,10 +1,10 @@
--- `put` meets its contract: whatever the set answers, the pool is sound and as long. Assumes nothing.
-use Rattle.bench_store.proofs.Grown.{editable, full-same, changed-closing, same-sound}
+-- `put` meets its contract: what the set answers is what the world came to. Assumes nothing.
+use Rattle.std.proofs.Common.{true, false}
+use Rattle.bench_store.proofs.Grown.{editable, full-same, changed-closing, changed-tried, tried-there}
 use Rattle.bench_store.proofs.put.Goals as goal
 
 pub set-requires : goal.set-requires
-set-requires c =
-    editable c.open-h.ensures c.allowance-limit.ensures
+set-requires c = editable c.open-h.ensures c.allowance-limit.ensures
 
 pub close-requires : goal.close-requires
 close-requires c =
@@ -12,10 +12,10 @@ close-requires c =
 
 pub returns-in_default : goal.returns-in_default
 returns-in_default c =
-    same-sound c.requires (full-same c.open-h.ensures c.allowance-limit.ensures c.requires _ _ _ c.set.ensures.0 c.in_default.is)
+    tried-there c.open-h.ensures _ false _ _ (full-same c.open-h.ensures c.allowance-limit.ensures c.requires _ _ _ c.set.ensures.0 c.in_default.is)
 
 pub returns : goal.returns
 returns c =
-    let t = c.close.ensures.closes _ _
-    (changed-closing c.open-h.ensures c.allowance-limit.ensures c.requires _ _ _ c.set.ensures.0 c.in-Some.is) in
-    (t.sound, t.long)
+    let closing = changed-closing c.open-h.ensures c.allowance-limit.ensures c.requires _ _ _ c.set.ensures.0 c.in-Some.is in
+    tried-there c.open-h.ensures _ true _ _
+    (changed-tried c.open-h.ensures c.allowance-limit.ensures c.requires _ _ _ c.set.ensures.0 c.in-Some.is (c.close.ensures.closes _ _ closing))

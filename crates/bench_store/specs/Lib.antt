@@ -1,0 +1,2 @@
+-- What the benchmarks' calls promise.
+pub mod Growing
