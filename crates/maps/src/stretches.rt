@@ -55,10 +55,9 @@ fn end_by_bytes(map: &Map, i: u64) -> u64
     e
 }
 
-// The same by words, as far as the map has whole ones: the lowest of a word's bits that has another value tells where the stretch ends. Bits
-// from n on may have any value.
-// The first word is the rest of one, and the others are whole: so the end is no counter of a `for`.
-#[inline(never)]
+// The same by words, as far as the map has whole ones: the lowest of a word's bits that has another value tells where the stretch ends. The last
+// word may have spare bits, of any value, so that the end is cut at the last bit of the window.
+// Of the first word the rest counts, of the others all bits: so the end is no counter of a `for`.
 fn end_by_words(map: &Map, i: u64) -> u64
     requires { i < map.now.window.n }
     ensures { StretchEnd (map_bit map.now.bytes.now) (map_bit map.now.bytes.now i) i (map.now.window.n - 1) result }
