@@ -853,27 +853,13 @@ def cases(model):
     def value(text):
         return model.compile(model.modules["Worked"], Reader(text).expression())({})
 
-    many = listed([0xEE] * 92735)
-    apply_measure = lambda n: Con("measure", [Con("deepest", [22]), drop(92735 - n, many)])
     asked = {
-        "the list for height 22": ("length (deepest_words 22)", "92734"),
         "a store of a wrong length is not made": ("(make_by true 4 [] []).answer", "refused 1"),
         "a store of a wrong length is not measured": ("(measure_by true 4 [] (deepest 0) []).answer", "refused 1"),
         "a store of a wrong length is measured for no list": ("(measure_by true 4 [] (why_full []) []).answer", "refused 1"),
     }
     for name, (told, due) in asked.items():
         yield name, lambda told=told, due=due: None if same(value(told), value(due)) else f"{show(value(told))}, not {due}"
-    for n, due in ((92733, "refused 2"), (92735, "written")):
-
-        def check(n=n, due=due):
-            answer = force(part(apply(model.constant("Pools", "step"), [46367, NIL, apply_measure(n)]), "answer"))
-            if due == "refused 2":
-                return None if same(answer, value("refused 2")) else show(answer)
-            given = force(answer.parts[0])
-            front = append(take(92734, apply(model.constant("Deepest", "deepest_words"), [22])), listed([0xEE]))
-            return None if given.name == "written" and force(given.parts[0]) == 92734 and same(given.parts[1], front) else show(answer)
-
-        yield f"the list for height 22 in a slice of {n} words", check
 
 
 def told_apart(answers, due):
