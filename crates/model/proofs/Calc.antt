@@ -49,7 +49,8 @@ use Rattle.model.proofs.Finds.{start_of, find_runs, count_runs, select_runs, sel
 use Rattle.model.proofs.Gaps.{first_long, gap_runs}
 use Rattle.model.specs.RunList.{Canon}
 use Rattle.model.proofs.RunList.{canon-weaken, canon-wider, widths}
-use Rattle.model.proofs.Cells.{among-run, cut-cond, rect_runs, rect-canon, rect-positions, count_rect_runs, rect-count, survey_runs, surveyed}
+use Rattle.model.proofs.Cells.{among-run, cut-cond, rect_runs, rect-canon, rect-positions, count_rect_runs, rect-count}
+use Rattle.model.proofs.Cells.{survey_runs, surveyed}
 use Rattle.model.proofs.Clip.{clip, clip-canon, clip-mem, clip-runs}
 use Rattle.model.proofs.Edit.{set_runs, set_runs-canon, set_runs-mem}
 use Rattle.model.proofs.Ops.{
@@ -564,11 +565,16 @@ calc-tied C s (set_strict l u v) = tied-setting C s (strict l u) l u v
 calc-tied C s (flip_strict l u) = tied-flipping C s (strict l u) l u
 calc-tied C s (tally_strict l u v) = tied-tallying s (strict l u) l u v
 calc-tied C s (set_rect q v) =
-    tied-changed C s (off_plane when bad_rect q ∷ []) (Grid.set_rect q v (positions_of (fed_as s))) (rect_runs q v (runs_of s))
-    (rect-positions q v (runs_of s) (runs_of-canon s) ∙ ap (λ Q. bounded (Grid.set_rect q v Q)) (sym (runs_of-positions s))) (rect-canon q v (runs_of s) (runs_of-canon s))
+    tied-changed C s (off_plane when bad_rect q ∷ []) (Grid.set_rect q v (positions_of (fed_as s)))
+    (rect_runs q v (runs_of s))
+    (rect-positions q v (runs_of s) (runs_of-canon s)
+    ∙ ap (λ Q. bounded (Grid.set_rect q v Q)) (sym (runs_of-positions s)))
+    (rect-canon q v (runs_of s) (runs_of-canon s))
 calc-tied C s (count_rect q) =
-    tied-report s (off_plane when bad_rect q ∷ []) (number (Grid.count_rect q (positions_of (fed_as s)))) (number (count_rect_runs q (runs_of s)))
+    tied-report s (off_plane when bad_rect q ∷ []) (number (Grid.count_rect q (positions_of (fed_as s))))
+    (number (count_rect_runs q (runs_of s)))
     (ap number (ap (Grid.count_rect q) (runs_of-positions s) ∙ rect-count q (runs_of s) (runs_of-canon s)))
 calc-tied C s (survey r c k out) =
-    tied-write s (off_plane when bad_square r c k ∷ []) (Grid.survey (positions_of (fed_as s)) k r c) (survey_runs (runs_of s) k r c) out
+    tied-write s (off_plane when bad_square r c k ∷ []) (Grid.survey (positions_of (fed_as s)) k r c)
+    (survey_runs (runs_of s) k r c) out
     (ap (λ Q. Grid.survey Q k r c) (runs_of-positions s) ∙ surveyed (runs_of s) (runs_of-canon s) k r c)

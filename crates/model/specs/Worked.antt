@@ -14,7 +14,8 @@ use Rattle.model.specs.Positions.{run, mem}
 use Rattle.model.specs.Bytes.{encode, into_front}
 use Rattle.model.specs.Deepest.{deepest_words}
 use Rattle.model.specs.Call.{Call, set, get, tally, gap, combine, complement, equal, load, mend, build, write_set}
-use Rattle.model.specs.Call.{read_map, write_map, fill, set_strict, flip_strict, tally_strict, set_rect, count_rect, survey}
+use Rattle.model.specs.Call.{read_map, write_map, fill, set_strict, flip_strict, tally_strict}
+use Rattle.model.specs.Call.{set_rect, count_rect, survey}
 use Rattle.model.specs.Call.{Measure, deepest, why_full, PoolCall, make, measure, at, feed_pool}
 use Rattle.model.specs.Call.{Result, done, number, tallied, value, position, written, mended, Answer, refused, gave}
 use Rattle.model.specs.Pools.{PlainWorld, make_by, measure_by, step, answers, after}
