@@ -69,7 +69,8 @@ module _ (P : Positions) (r c i j : ℕ) where
           let g : 0 ≡ i = omega arith in
           absurd
           (true≢false
-          (sym (single-one P r c (subst₂ (λ x y. OnGrid r c (2 ^ x) (2 ^ y)) (sym g) (sym f) on)) ∙ ap₂ (λ x y. one_valued P r c (2 ^ x) (2 ^ y)) g f ∙ two))
+          (sym (single-one P r c (subst₂ (λ x y. OnGrid r c (2 ^ x) (2 ^ y)) (sym g) (sym f) on))
+          ∙ ap₂ (λ x y. one_valued P r c (2 ^ x) (2 ^ y)) g f ∙ two))
 
   -- its pieces are those of its left half and of its right one
   pub square_parted : {m : ℕ} → i ≡ j → 1 ≤ j → m ≡ 2 ^ (j - 1) → one_valued P r c (2 ^ i) (2 ^ j) ≡ false
@@ -99,7 +100,8 @@ module _ (P : Positions) (r c i j : ℕ) where
   half_long e em two = ap length (half_parted e em two) ∙ length-append (survey P j r c) _
 
 -- a square as a tile has the same pieces
-pub tile_pieces : (P : Positions) (b : Tile) {c : Corner} {k : ℕ} → (b.corner ≡ c) × (b.i ≡ k) × (b.j ≡ k) → square_pieces P b ≡ survey P k c.row c.column
+pub tile_pieces : (P : Positions) (b : Tile) {c : Corner} {k : ℕ} → (b.corner ≡ c) × (b.i ≡ k) × (b.j ≡ k)
+    → square_pieces P b ≡ survey P k c.row c.column
 tile_pieces P b (e, f, g) = ap₂ (λ (k : ℕ) (c : Corner). survey P k c.row c.column) g e
 
 -- ---- how many words there are
