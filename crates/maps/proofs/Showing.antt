@@ -1,8 +1,8 @@
 -- The nodes that show a position: those with a height and the world's tag are those of its tree, since a free node has no height, and no node
 -- of another world has the tag. So of all nodes one shows a position where the world holds it, and painting the runs of all of them, each turned
 -- to its places of the window, paints the window's map. Assumes nothing.
-use Rattle.std.proofs.Common.{◌≡◌, ℕ, zero, suc, ◌+◌, ◌-◌, ◌/◌, ◌^◌, ◌<◌, ◌≤◌, Bool, true, false, ◌&&◌, ◌||◌, eqb, ltb}
-use Rattle.std.proofs.Common.{◌⊎◌, List, ◌∷◌, length, sym, refl, ap, ◌∙◌, subst, inl, inr, arith, ltb-true, le-ltb, lt-ltb}
+use Rattle.std.proofs.Common.{◌≡◌, ℕ, zero, suc, ◌+◌, ◌-◌, ◌/◌, ◌^◌, ◌<◌, ◌≤◌, Bool, true, false, ◌&&◌, ◌||◌, eqb}
+use Rattle.std.proofs.Common.{ltb, ◌⊎◌, List, ◌∷◌, length, sym, refl, ap, ◌∙◌, subst, inl, inr, arith, ltb-true, le-ltb, lt-ltb}
 use Rattle.std.proofs.Common.{eq-eqb, ne_eqb, eqb-true}
 use mathlib.Core.Bool.{and-false, or-true, or-false, false≢true}
 use native.Mathlib.Decide.{ℕ_discrete}
