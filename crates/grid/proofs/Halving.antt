@@ -69,7 +69,8 @@ module _ (P : Positions) (r c i j : ℕ) where
           let g : 0 ≡ i = omega arith in
           absurd
           (true≢false
-          (sym (single-one P r c (subst₂ (λ x y. OnGrid r c (2 ^ x) (2 ^ y)) (sym g) (sym f) on)) ∙ ap₂ (λ x y. one_valued P r c (2 ^ x) (2 ^ y)) g f ∙ two))
+          (sym (single-one P r c (subst₂ (λ x y. OnGrid r c (2 ^ x) (2 ^ y)) (sym g) (sym f) on))
+          ∙ ap₂ (λ x y. one_valued P r c (2 ^ x) (2 ^ y)) g f ∙ two))
 
   -- its pieces are those of its left half and of its right one
   pub square_parted : {m : ℕ} → i ≡ j → 1 ≤ j → m ≡ 2 ^ (j - 1) → one_valued P r c (2 ^ i) (2 ^ j) ≡ false
@@ -78,6 +79,11 @@ module _ (P : Positions) (r c i j : ℕ) where
       let f : j ≡ suc (j - 1) = omega arith in
       ap (λ x. survey P x r c) f ∙ square-two P r c (j - 1) (ap₂ (λ x y. one_valued P r c (2 ^ x) (2 ^ y)) (sym (e ∙ f)) (sym f) ∙ two)
       ∙ ap (λ x. half P (j - 1) r c ++ half P (j - 1) r (c + x)) (sym em)
+
+  -- and so many
+  pub square_long : {m : ℕ} → i ≡ j → 1 ≤ j → m ≡ 2 ^ (j - 1) → one_valued P r c (2 ^ i) (2 ^ j) ≡ false
+      → length (survey P j r c) ≡ length (half P (j - 1) r c) + length (half P (j - 1) r (c + m))
+  square_long e some em two = ap length (square_parted e some em two) ∙ length-append (half P (j - 1) r c) _
 
   -- those of the half of one are those of its upper square and of its lower one
   pub half_parted : {m : ℕ} → i ≡ j + 1 → m ≡ 2 ^ (i - 1) → one_valued P r c (2 ^ i) (2 ^ j) ≡ false
@@ -88,8 +94,14 @@ module _ (P : Positions) (r c i j : ℕ) where
       half-two P r c j (ap (λ x. one_valued P r c (2 ^ x) (2 ^ j)) g ∙ two)
       ∙ ap (λ x. survey P j r c ++ survey P j (r + x) c) (sym (em ∙ ap (λ x. 2 ^ x) f))
 
+  -- and so many
+  pub half_long : {m : ℕ} → i ≡ j + 1 → m ≡ 2 ^ (i - 1) → one_valued P r c (2 ^ i) (2 ^ j) ≡ false
+      → length (half P j r c) ≡ length (survey P j r c) + length (survey P j (r + m) c)
+  half_long e em two = ap length (half_parted e em two) ∙ length-append (survey P j r c) _
+
 -- a square as a tile has the same pieces
-pub tile_pieces : (P : Positions) (b : Tile) {c : Corner} {k : ℕ} → (b.corner ≡ c) × (b.i ≡ k) × (b.j ≡ k) → square_pieces P b ≡ survey P k c.row c.column
+pub tile_pieces : (P : Positions) (b : Tile) {c : Corner} {k : ℕ} → (b.corner ≡ c) × (b.i ≡ k) × (b.j ≡ k)
+    → square_pieces P b ≡ survey P k c.row c.column
 tile_pieces P b (e, f, g) = ap₂ (λ (k : ℕ) (c : Corner). survey P k c.row c.column) g e
 
 -- ---- how many words there are

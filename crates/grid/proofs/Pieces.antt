@@ -38,7 +38,8 @@ piece_listed r c i j p v out {m} {n} {b} {ws} room em en eb ew = rw (ew ∙ is) 
     is = rw (em, en, eb, word v) refl
 
 -- one list, and the next after it
-pub both_listed : (xs ys : List ℕ) {p q z : ℕ} {out mid out' : List ℕ} → Listed xs p q out mid → Listed ys q z mid out' → Listed (xs ++ ys) p z out out'
+pub both_listed : (xs ys : List ℕ) {p q z : ℕ} {out mid out' : List ℕ} → Listed xs p q out mid → Listed ys q z mid out'
+    → Listed (xs ++ ys) p z out out'
 both_listed xs ys {p} {q} {z} {out} s t = record {
   next = omega (arith, length-append xs ys, s.next, t.next);
   long = t.long ∙ s.long;

@@ -160,8 +160,9 @@ turns-place t o base i x h k e q = go (split (t + base) (2 ^ 64)) (split i t)
     go (inr l) (inr m) = let z : o + 2 ^ 64 ≡ t + base = omega arith in inl (omega arith)
 
 -- so a run is seen in a window where the places of its ends say
-pub turned-inside : (o base n a b f l : ℕ) → o < 2 ^ 64 → base + n ≤ 2 ^ 64 → a ≤ b → b < 2 ^ 64 → f ≡ place_in base (logical_of a o) → l ≡ place_in base (logical_of b o)
-    → (i : ℕ) → i < n → inside a b (physical_of (base + i) o) ≡ round f l i
+pub turned-inside : (o base n a b f l : ℕ) → o < 2 ^ 64 → base + n ≤ 2 ^ 64 → a ≤ b → b < 2 ^ 64
+    → f ≡ place_in base (logical_of a o) → l ≡ place_in base (logical_of b o) → (i : ℕ) → i < n
+    → inside a b (physical_of (base + i) o) ≡ round f l i
 turned-inside o base n a b f l h w c d p q i k = go ((o + 2 ^ 64 - base) % 2 ^ 64) refl
   where
     go : (t : ℕ) → t ≡ (o + 2 ^ 64 - base) % 2 ^ 64 → inside a b (physical_of (base + i) o) ≡ round f l i

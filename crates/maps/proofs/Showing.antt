@@ -1,8 +1,9 @@
 -- The nodes that show a position: those with a height and the world's tag are those of its tree, since a free node has no height, and no node
 -- of another world has the tag. So of all nodes one shows a position where the world holds it, and painting the runs of all of them, each turned
 -- to its places of the window, paints the window's map. Assumes nothing.
-use Rattle.std.proofs.Common.{◌≡◌, ℕ, zero, suc, ◌+◌, ◌-◌, ◌/◌, ◌^◌, ◌<◌, ◌≤◌, Bool, true, false, ◌&&◌, ◌||◌, eqb, ltb, ◌⊎◌, List, ◌∷◌}
-use Rattle.std.proofs.Common.{length, sym, refl, ap, ◌∙◌, subst, inl, inr, arith, ltb-true, le-ltb, lt-ltb, eq-eqb, ne_eqb, eqb-true}
+use Rattle.std.proofs.Common.{◌≡◌, ℕ, zero, suc, ◌+◌, ◌-◌, ◌/◌, ◌^◌, ◌<◌, ◌≤◌, Bool, true, false, ◌&&◌, ◌||◌, eqb}
+use Rattle.std.proofs.Common.{ltb, ◌⊎◌, List, ◌∷◌, length, sym, refl, ap, ◌∙◌, subst, inl, inr, arith, ltb-true, le-ltb, lt-ltb}
+use Rattle.std.proofs.Common.{eq-eqb, ne_eqb, eqb-true}
 use mathlib.Core.Bool.{and-false, or-true, or-false, false≢true}
 use native.Mathlib.Decide.{ℕ_discrete}
 use Rattle.model.specs.Numbers.{size}
@@ -216,13 +217,15 @@ module _ {w : List ℕ} {h : World} {base n m : ℕ} {map₀ map : List ℕ} (p 
   nodes-other e l x = nodes-skip x (λ q. shows-other w h.tag q m (λ k. l (ap (λ (u : Node). u.tag) e ∙ k)))
 
   -- a node of the world: its run is painted
-  pub nodes-run : {map₁ map' : List ℕ} {s : Share} {v : Node} {f l : ℕ} → Scans w s h → m ≤ s.nodes → v ≡ cell_at w m → 0 < v.height → v.tag ≡ h.tag → h.offset < 2 ^ 64 → base + n ≤ size
-      → f ≡ place_in base (logical_of v.start h.offset) → l ≡ place_in base (logical_of v.«end» h.offset) → PaintsRun map map₁ n f l → map' ≡ map₁ → PaintsNodes w h base n m map₀ map'
+  pub nodes-run : {map₁ map' : List ℕ} {s : Share} {v : Node} {f l : ℕ} → Scans w s h → m ≤ s.nodes → v ≡ cell_at w m
+      → 0 < v.height → v.tag ≡ h.tag → h.offset < 2 ^ 64 → base + n ≤ size → f ≡ place_in base (logical_of v.start h.offset)
+      → l ≡ place_in base (logical_of v.«end» h.offset) → PaintsRun map map₁ n f l → map' ≡ map₁ → PaintsNodes w h base n m map₀ map'
   nodes-run {map₁} {map'} {s} {v} {f} {l} c few e high tagged os within fs ls r x =
       nodes-more (round f l) (ap length x ∙ r.long) (λ i. ap (λ (b : List ℕ). map_bit b i) x ∙ r.bits_are i)
       (λ i k. shows-run w h.tag (physical_of (base + i) h.offset) m high' tagged'
       ∙ turned-inside h.offset base n (cell_at w m).start (cell_at w m).«end» f l os within run.0 run.1
-      (fs ∙ ap (λ (u : Node). place_in base (logical_of u.start h.offset)) e) (ls ∙ ap (λ (u : Node). place_in base (logical_of u.«end» h.offset)) e) i k)
+      (fs ∙ ap (λ (u : Node). place_in base (logical_of u.start h.offset)) e)
+      (ls ∙ ap (λ (u : Node). place_in base (logical_of u.«end» h.offset)) e) i k)
     where
       high' : 1 ≤ (cell_at w m).height
       high' = omega (arith, ap (λ (u : Node). u.height) e)

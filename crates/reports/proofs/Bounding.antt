@@ -32,7 +32,8 @@ module _ {n r : Option Logical} {R : Logical → Type 0} (t : ℕ → Bool) (m :
   pub dropped : r ≡ None → (n ≡ None) ⊎ ((y : Logical) × (n ≡ Some y) × (t y.0 ≡ false))
   dropped e = go n m
     where
-      pick : (y : Logical) (b : Bool) → t y.0 ≡ b → r ≡ then_some b y → (Some y ≡ None) ⊎ ((z : Logical) × (Some y ≡ Some z) × (t z.0 ≡ false))
+      pick : (y : Logical) (b : Bool) → t y.0 ≡ b → r ≡ then_some b y
+          → (Some y ≡ None) ⊎ ((z : Logical) × (Some y ≡ Some z) × (t z.0 ≡ false))
       pick y true i g = absurd (cc)
       pick y false i g = inr (y, refl, i)
 

@@ -37,8 +37,8 @@ module _ {w : List ℕ} {p p' : Path} {o y : ℕ} {Q : Positions} (i : InPart w 
         pop-clear i ps z g k (omega arith)
 
     -- it starts before M: it ends there or before
-    module _ (small : y < size) (os : o < size) {t : ℕ} (et : t ≡ physical_of (size - 1) o) (lo : x.start ≤ t) {q m n a b : ℕ} (eq : q ≡ physical_of y o)
-        (em : m ≡ max x.start q) (ea : a ≡ logical_of m o) (en : n ≡ min x.«end» t) (eb : b ≡ logical_of n o) where
+    module _ (small : y < size) (os : o < size) {t : ℕ} (et : t ≡ physical_of (size - 1) o) (lo : x.start ≤ t) {q m n a b : ℕ}
+        (eq : q ≡ physical_of y o) (em : m ≡ max x.start q) (ea : a ≡ logical_of m o) (en : n ≡ min x.«end» t) (eb : b ≡ logical_of n o) where
       is-t : t ≡ size - 1 - o
       is-t = omega arith
 

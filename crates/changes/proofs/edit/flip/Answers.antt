@@ -20,7 +20,9 @@ here l = l.loop-r.invariant l.requires.0 l.args.limit l.requires.1 (few l)
 -- the stretch from x on, in the world as it is
 stretch : (c : After-stretch_end-y)
     → StretchEnd (held_in c.loop-r.words c.loop-r.k) c.get-value.result c.loop-r.x.0 c.args.r.last.0 c.stretch_end-y.result.0
-stretch c = subst (λ P. StretchEnd P c.get-value.result c.loop-r.x.0 c.args.r.last.0 c.stretch_end-y.result.0) c.set_of-set.ensures.positions c.stretch_end-y.ensures
+stretch c =
+    subst (λ P. StretchEnd P c.get-value.result c.loop-r.x.0 c.args.r.last.0 c.stretch_end-y.result.0) c.set_of-set.ensures.positions
+    c.stretch_end-y.ensures
 
 pub loop-r-init : goal.loop-r-init
 loop-r-init c = flips-none c.args.r.ordered (omega (arith, c.well_formed))

@@ -27,7 +27,8 @@ returns-in_default c =
     let l = (goal.at.returns-in_default c).At-loop-r in
     told l
     (alike-one (held c.args.set.now) _ _ _ _ (on l) c.value_at-value.result
-    (alike-rest (held c.args.set.now) _ _ _ _ _ (on l) c.loop-r.r c.loop-r.invariant.0 c.loop-r.invariant.2 (logical_number c.next.result) c.next.ensures (ap logical_number c.in_default.is)))
+    (alike-rest (held c.args.set.now) _ _ _ _ _ (on l) c.loop-r.r c.loop-r.invariant.0 c.loop-r.invariant.2
+    (logical_number c.next.result) c.next.ensures (ap logical_number c.in_default.is)))
 
 pub returns-then-y-at : goal.returns-then-y-at
 returns-then-y-at c =
@@ -40,8 +41,8 @@ pub loop-r-preserved : goal.loop-r-preserved
 loop-r-preserved c = (
   omega (arith, c.loop-r.invariant.0, c.max-r.ensures, le-max_right (c.in-Some.y.0 / 65536) (c.loop-r.r + 1)),
   c.loop-r.invariant.1,
-  alike_next (held c.args.set.now) _ _ _ _ _ (on (goal.at.loop-r-preserved c).At-loop-r) c.loop-r.r c.loop-r.invariant.0 c.loop-r.invariant.2 (logical_number c.next.result)
-      c.next.ensures _ (ap logical_number c.in-Some.is) _ c.if-y-at.false c.max-r.ensures,
+  alike_next (held c.args.set.now) _ _ _ _ _ (on (goal.at.loop-r-preserved c).At-loop-r) c.loop-r.r c.loop-r.invariant.0 c.loop-r.invariant.2
+      (logical_number c.next.result) c.next.ensures _ (ap logical_number c.in-Some.is) _ c.if-y-at.false c.max-r.ensures,
 )
 
 pub returns : goal.returns

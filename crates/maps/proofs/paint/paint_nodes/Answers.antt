@@ -14,8 +14,8 @@ loop-m-preserved c =
     let k = c.requires.scannable.1 in
     nodes-at (elim c.if-v-gt0.branch [
       | then-v-gt0+then-v-h w ↦
-          nodes-run i (omega arith) k (omega (arith, c.loop-m-test.true, scan-nodes k)) c.read_node-v.ensures w.if-v-gt0.true w.if-v-h.true (omega (arith, c.well_formed))
-          c.args.window.within (w.place.ensures ∙ ap (place_in c.args.window.base) w.to_logical-first.ensures)
+          nodes-run i (omega arith) k (omega (arith, c.loop-m-test.true, scan-nodes k)) c.read_node-v.ensures w.if-v-gt0.true
+          w.if-v-h.true (omega (arith, c.well_formed)) c.args.window.within (w.place.ensures ∙ ap (place_in c.args.window.base) w.to_logical-first.ensures)
           (w.place-then-v-h.ensures ∙ ap (place_in c.args.window.base) w.to_logical-last.ensures) w.paint_run.ensures w.map-is
       | else-v-gt0 w ↦ elim w.else-v-gt0.branch [
         | else-v-gt0-via-then-v-gt0+else-v-h u ↦ nodes-other i (omega arith) c.read_node-v.ensures u.if-v-h.false w.map-is

@@ -16,18 +16,21 @@ lies r = lies-from (omega (arith, r.well_formed)) (omega (arith, r.well_formed))
 
 pub returns-in-Some : goal.returns-in-Some
 returns-in-Some c =
-    next-first (mem c.args.set.now.runs) c.args.value (lies (goal.at.returns-in-Some c).After-to_physical-top) c.next_physical.ensures (ap physical_number c.in-Some.is)
+    next-first (mem c.args.set.now.runs) c.args.value (lies (goal.at.returns-in-Some c).After-to_physical-top) c.next_physical.ensures
+    (ap physical_number c.in-Some.is)
     (⊎_elim (λ x i. absurd (omega (arith, x))) (λ x _. x.1) c.if-p-top.either) c.to_logical.ensures
 
 pub returns-in-Some-next_physical : goal.returns-in-Some-next_physical
 returns-in-Some-next_physical c =
     next-second (mem c.args.set.now.runs) c.args.value (lies (goal.at.returns-in-Some-next_physical c).After-to_physical-top) c.if-top-s-2.true c.next_physical.ensures
-    (ap physical_number c.in-None.is) c.next_physical-in-None.ensures (ap physical_number c.in-Some-next_physical.is) c.if-p-top-2.true c.to_logical-in-Some-next_physical.ensures
+    (ap physical_number c.in-None.is) c.next_physical-in-None.ensures (ap physical_number c.in-Some-next_physical.is)
+    c.if-p-top-2.true c.to_logical-in-Some-next_physical.ensures
 
 pub returns-in_default-next_physical : goal.returns-in_default-next_physical
 returns-in_default-next_physical c =
     next-nowhere-parted (mem c.args.set.now.runs) c.args.value (lies (goal.at.returns-in_default-next_physical c).After-to_physical-top) c.if-top-s-2.true
-    c.next_physical.ensures (ap physical_number c.in-None.is) c.next_physical-in-None.ensures (inr (c.in-Some-next_physical.p.0, ap physical_number c.in-Some-next_physical.is, c.if-p-top-2.false))
+    c.next_physical.ensures (ap physical_number c.in-None.is) c.next_physical-in-None.ensures
+    (inr (c.in-Some-next_physical.p.0, ap physical_number c.in-Some-next_physical.is, c.if-p-top-2.false))
 
 pub returns-in_default-next_physical-2 : goal.returns-in_default-next_physical-2
 returns-in_default-next_physical-2 c =

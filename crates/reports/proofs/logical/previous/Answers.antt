@@ -15,14 +15,15 @@ lies r = lies-upto (omega (arith, r.well_formed)) (omega (arith, r.well_formed))
 
 pub returns-in-Some : goal.returns-in-Some
 returns-in-Some c =
-    previous-first (mem c.args.set.now.runs) c.args.value (lies (goal.at.returns-in-Some c).After-to_physical-zero) c.previous_physical.ensures (ap physical_number c.in-Some.is)
+    previous-first (mem c.args.set.now.runs) c.args.value (lies (goal.at.returns-in-Some c).After-to_physical-zero) c.previous_physical.ensures
+    (ap physical_number c.in-Some.is)
     (⊎_elim (λ x i. absurd (omega (arith, x))) (λ x _. x.1) c.if-zero-p.either) c.to_logical.ensures
 
 pub returns-in-Some-previous_physical : goal.returns-in-Some-previous_physical
 returns-in-Some-previous_physical c =
     previous-second (mem c.args.set.now.runs) c.args.value (lies (goal.at.returns-in-Some-previous_physical c).After-to_physical-zero) c.if-s-zero-2.true
-    c.previous_physical.ensures (ap physical_number c.in-None.is) c.previous_physical-in-None.ensures (ap physical_number c.in-Some-previous_physical.is) c.if-zero-p-2.true
-    c.to_logical-in-Some-previous_physical.ensures
+    c.previous_physical.ensures (ap physical_number c.in-None.is) c.previous_physical-in-None.ensures
+    (ap physical_number c.in-Some-previous_physical.is) c.if-zero-p-2.true c.to_logical-in-Some-previous_physical.ensures
 
 pub returns-in_default-previous_physical : goal.returns-in_default-previous_physical
 returns-in_default-previous_physical c =
@@ -33,7 +34,8 @@ returns-in_default-previous_physical c =
 pub returns-in_default-previous_physical-2 : goal.returns-in_default-previous_physical-2
 returns-in_default-previous_physical-2 c =
     previous-nowhere-parted (mem c.args.set.now.runs) c.args.value (lies (goal.at.returns-in_default-previous_physical-2 c).After-to_physical-zero) c.if-s-zero-2.true
-    c.previous_physical.ensures (ap physical_number c.in-None.is) c.previous_physical-in-None.ensures (inl (ap physical_number c.in_default-previous_physical.is))
+    c.previous_physical.ensures (ap physical_number c.in-None.is) c.previous_physical-in-None.ensures
+    (inl (ap physical_number c.in_default-previous_physical.is))
 
 pub returns-in_default : goal.returns-in_default
 returns-in_default c =

@@ -47,7 +47,8 @@ pub starts_at_zero-requires : goal.starts_at_zero-requires
 starts_at_zero-requires c = (_, all (goal.at.starts_at_zero-requires c).After-descend-2 _ c.requires.1)
 
 pub last-requires-then-starts_at_zero : goal.last-requires-then-starts_at_zero
-last-requires-then-starts_at_zero c = (_, seam-at c.seam-seam.ensures c.requires.1 (all (goal.at.last-requires-then-starts_at_zero c).After-descend-2 _ c.requires.1))
+last-requires-then-starts_at_zero c =
+    (_, seam-at c.seam-seam.ensures c.requires.1 (all (goal.at.last-requires-then-starts_at_zero c).After-descend-2 _ c.requires.1))
 
 pub returns-in_err-last : goal.returns-in_err-last
 returns-in_err-last c =

@@ -26,7 +26,7 @@ returns c = λ Q h.
           c.to_logical-2.ensures,
       record {
         rooted = h.rooted;
-        ahead = lastly (last-then h.part c.in_ok-r.ensures y o c.to_physical-top.ensures c.if-r-top.false c.to_physical-p.ensures c.max.ensures c.to_logical.ensures c.min.ensures
-            c.to_logical-2.ensures);
+        ahead = lastly (last-then h.part c.in_ok-r.ensures y o c.to_physical-top.ensures c.if-r-top.false c.to_physical-p.ensures c.max.ensures
+            c.to_logical.ensures c.min.ensures c.to_logical-2.ensures);
       },
     )
