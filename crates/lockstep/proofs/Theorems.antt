@@ -27,6 +27,7 @@ use Rattle.lockstep.specs.Theorems.{
   Mended-floor,
   Deepest-shortest,
   Deepest-height,
+  Deepest-room,
   Why-smallest,
   Why-none,
 }
@@ -45,7 +46,7 @@ use Rattle.lockstep.proofs.Converting.{convert-back, convert-then-load, load-con
 use Rattle.lockstep.proofs.Mending.{right-comes-back, outcome-loads}
 use Rattle.lockstep.proofs.Measuring.{list-long, list-is}
 use Rattle.lockstep.proofs.Stopping.{many-are, rising-are, listed-are, refused-are, fewer-given, none-given}
-use Rattle.lockstep.proofs.Heights.{list-high, shorter-lower}
+use Rattle.lockstep.proofs.Heights.{list-high, shorter-lower, further-given}
 use Rattle.store.proofs.Heights.{world-lower}
 
 pub theorem1 : Theorem1
@@ -117,7 +118,10 @@ pub deepest-shortest : Deepest-shortest
 deepest-shortest w h out out' n w' m = (list-long m, list-is m, λ v i S named few. world-lower v i h S named few)
 
 pub deepest-height : Deepest-height
-deepest-height w i h w' S l small bare = (list-high S l small bare h w', λ rs few s. shorter-lower S l small bare h rs w' few s)
+deepest-height w i h w' S l small bare = (list-high S l small bare h w', λ rs few s. shorter-lower S l small bare rs w' s h few)
+
+pub deepest-room : Deepest-room
+deepest-room w i rs r w' v a S l small bare s room m = further-given S l small bare rs w' s r room m
 
 pub why-smallest : Why-smallest
 why-smallest w ranges out out' n w' d W m =
