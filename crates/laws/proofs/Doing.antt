@@ -1,7 +1,7 @@
 -- What a call that was not refused leaves: its worlds can be read, its answer and its world's positions are the model's, and the other worlds are
 -- as they were. And where a call is not refused: its worlds can be read, its conditions refuse nothing, and the runs fit. Assumes nothing.
 use Rattle.std.specs.Prelude.{Option, None, Some}
-use Prim.Native.Nat.{ℕ, zero, suc, ◌+◌, ◌≤◌, ◌<◌}
+use Prim.Native.Nat.{ℕ, zero, suc, ◌≤◌, ◌<◌}
 use mathlib.Core.Path.{◌≡◌, refl, sym, ap, ap₂, ◌∙◌, subst}
 use mathlib.Core.Bool.{Bool, true, false}
 use mathlib.Core.List.{List, [], ◌∷◌, ◌++◌}
@@ -13,8 +13,7 @@ use Rattle.model.specs.Refusals.{looks, before_capacity, Condition, ◌when◌, 
 use Rattle.model.specs.Refusals
 use Rattle.model.specs.Call.{Call, Result, Answer, gave}
 use Rattle.model.specs.Model.{Outcome, positions_of, reads, settle, report, change}
-use Rattle.model.specs.Pools
-use Rattle.model.specs.Pools.{PlainWorld, world_of, fed_by, claim, other_claims, exceeds, full, holding_at, allowance_of}
+use Rattle.model.specs.Pools.{PlainWorld, world_of, fed_by, other_claims, exceeds, full, holding_at}
 use Rattle.model.proofs.Pools.{holding-fed}
 use Rattle.store.specs.Layout.{capacity_of, capacity, allowance, held_by, worlds_of}
 use Rattle.store.specs.Settle.{Settled}
@@ -23,6 +22,7 @@ use Rattle.store.proofs.WorldLists.{opened-world}
 use Rattle.promises.specs.Met.{Site, fed_of, full_at, outcome_of, Readable, Met}
 use Rattle.promises.proofs.Refusing.{looked-first, refused-before, refused_full}
 use Rattle.promises.proofs.Meeting.{readable, Reports}
+use Rattle.promises.proofs.Allowing.{others-holding, allowance-after}
 use Rattle.promises.proofs.Changing.{Changes, full-above, fits-few}
 use Rattle.promises.proofs.Served.{Ends, unrefused}
 use Rattle.promises.proofs.Simulation.{same-positions, worlds-after}
@@ -71,25 +71,9 @@ module _ {w w' : List ℕ} {i : ℕ} {P : Positions} (R : Readable w i) (S : Set
   pub held-other : (j : ℕ) → Readable w j → (j ≡ i → ⊥) → held_by w' j ≡ held_by w j
   held-other j Q ne = S.others j Q.openable.named ne
 
--- what the others claim, and so how many runs the world may have, does not depend on what it holds
-others-holding : (i : ℕ) (P : Positions) (ws : List PlainWorld) → other_claims (holding_at i P ws) i ≡ other_claims ws i
-unfolding holding_at other_claims
-others-holding i P [] = refl
-others-holding zero P (x ∷ ws) = refl
-others-holding (suc i) P (x ∷ ws) = ap (λ n. claim x + n) (others-holding i P ws)
-
-ceiling-holding : (C n i : ℕ) (P : Positions) (ws : List PlainWorld) → allowance_of C n (world_of (holding_at i P ws) i) ≡ allowance_of C n (world_of ws i)
-unfolding holding_at
-ceiling-holding C n i P [] = refl
-ceiling-holding C n zero P (x ∷ ws) = refl
-ceiling-holding C n (suc i) P (x ∷ ws) = ceiling-holding C n i P ws
-
+-- how many runs the world may have does not depend on what it holds
 pub allowance-now : {w w' : List ℕ} {i : ℕ} {P : Positions} → length w' ≡ length w → Gets w i w' P → allowance w' i ≡ allowance w i
-unfolding allowance Pools.allowance
-allowance-now {w} {i = i} {P} e G =
-    ap₂ (λ C ws. Pools.allowance C ws i) (ap capacity_of e) G.worlds
-    ∙ ap (λ n. allowance_of (capacity w) n (world_of (holding_at i P (worlds_of w)) i)) (others-holding i P (worlds_of w))
-    ∙ ceiling-holding (capacity w) (other_claims (worlds_of w) i) i P (worlds_of w)
+allowance-now {w} {w'} {i} {P} e G = allowance-after w w' i P e G.worlds
 
 -- so which numbers of runs are too many does not either
 exceeds-holding : (C n i : ℕ) (P : Positions) (ws : List PlainWorld) → exceeds C n (world_of (holding_at i P ws) i) ≡ exceeds C n (world_of ws i)

@@ -1,5 +1,6 @@
 -- How high runs that are set one by one into an empty world make its tree: those of the shortest list for a height touch none of those before them, so
--- each is put in; and each set of any list adds at most one run, so a shorter list leaves too few for that height. Assumes nothing.
+-- each is put in; and each set of any list adds at most one run, so a shorter list leaves too few for that height, and none is refused for want of
+-- room where the world may have as many runs as the list. Assumes nothing.
 use Prim.Native.Nat.{ℕ, ◌+◌, ◌-◌, ◌≤◌, ◌<◌, min}
 use mathlib.Core.Path.{◌≡◌, refl, sym, ap, ◌∙◌, subst}
 use mathlib.Core.Bool.{Bool, true, false, true≢false}
@@ -8,10 +9,12 @@ use mathlib.Core.List.{List, [], ◌∷◌, ◌++◌, append-nil}
 use native.Mathlib.Omega.{arith}
 use lib.ListN.{length}
 use Rattle.std.specs.declared.ops.Bound.TheVariants.{Included}
-use Rattle.model.specs.Call.{Fed, holding, Call, Result, gave}
+use Rattle.model.specs.Call.{Fed, holding, Call, Result, number, Answer, gave}
 use Rattle.model.specs.Deepest.{least, deepest_runs}
 use Rattle.model.specs.Model.{Outcome, positions_of, settle, change}
 use Rattle.model.specs.Numbers.{size}
+use Rattle.model.specs.Refusals
+use Rattle.model.specs.Refusals.{◌when◌, refusal}
 use Rattle.model.specs.Positions.{Positions, bounded, empty, set_range, stretches}
 use Rattle.model.specs.RunList.{TouchesNone}
 use Rattle.model.specs.declared.Run.{Run}
@@ -23,8 +26,9 @@ use Rattle.run_index.specs.Shape.{inserted, Sown}
 use Rattle.run_index.specs.Tree.{Tree, leaf, node, link, height, inorder, runs}
 use Rattle.run_index.proofs.Sowing.{sown-more, sown-untouched}
 use Rattle.run_index.proofs.Sparsest.{deepest-height}
-use Rattle.store.specs.Layout.{opened_at, nodes, world_at, held_by, tree_at}
+use Rattle.store.specs.Layout.{opened_at, nodes, allowance, world_at, held_by, tree_at}
 use Rattle.store.specs.Soundness.{runs_at, share_of, Standing, Sound}
+use Rattle.store.specs.Settle.{Settled}
 use Rattle.store.proofs.Emptying.{empty-stretches}
 use Rattle.store.proofs.Heights.{unturned-runs, world-lower}
 use Rattle.store.proofs.Opening.{standing-some}
@@ -33,10 +37,12 @@ use Rattle.store.proofs.Worlds.{world-standing}
 use Rattle.changes.proofs.Lists.{append-one}
 use Rattle.changes.proofs.SetRuns.{set-one-more}
 use Rattle.promises.specs.Grown.{shape, Unturned, Clear}
-use Rattle.promises.specs.Met.{Site, outcome_of, full_at, Readable}
-use Rattle.promises.proofs.Changing.{Changes, set_says, bounded-is}
+use Rattle.promises.specs.Met.{Site, outcome_of, full_at, Met, Readable}
+use Rattle.promises.proofs.Allowing.{allowance-after}
+use Rattle.promises.proofs.Changing.{Changes, fits-few, set_says, bounded-is}
 use Rattle.promises.proofs.Meeting.{readable}
-use Rattle.promises.proofs.Served.{unrefused}
+use Rattle.promises.proofs.Served.{bounded-ends, unrefused}
+use Rattle.promises.proofs.Simulation.{worlds-after}
 use Rattle.promises.proofs.Shapes.{shape-height, shape-inorder, shape-inserted}
 use Rattle.lockstep.specs.Heights.{SetRun, SetOneByOne}
 
@@ -111,7 +117,7 @@ module _ (P : Positions) (a n : ℕ) (v : Bool) where
       go (inl some) = omega (arith, stretches-cong (set_range a n v P) (set_range a m v P) within-size, set-one-more P a m v some (omega arith))
       go (inr none) = omega (arith, stretches-cong (set_range a n v P) P (none-set (omega arith)))
 
--- a change that was not refused leaves the changed positions
+-- ---- a change, with no condition but room
 module _ {w : List ℕ} {i : ℕ} {c : Call Site} {F : Positions → Positions} {A : Positions → Result} (says : Changes w i c [] F A) (R : Readable w i) where
   abbrev changed : Fed → Outcome
   changed s = change (full_at w i) s [] (F (positions_of s)) (A (positions_of s))
@@ -119,6 +125,7 @@ module _ {w : List ℕ} {i : ℕ} {c : Call Site} {F : Positions → Positions} 
   changed-is : outcome_of w i c ≡ changed (holding (held_by w i))
   changed-is = says.said ∙ ap changed R.fed
 
+  -- that was not refused leaves the changed positions
   done-positions : {b : Result} → gave b ≡ (outcome_of w i c).answer → (outcome_of w i c).positions ≡ bounded (F (held_by w i))
   unfolding change
   done-positions e =
@@ -126,52 +133,69 @@ module _ {w : List ℕ} {i : ℕ} {c : Call Site} {F : Positions → Positions} 
       ap (λ o. o.positions) changed-is
       ∙ ap (λ y. (settle y P (A P) (bounded (F P))).positions) (unrefused _ P _ _ (bounded (F P)) (e ∙ ap (λ o. o.answer) changed-is))
 
--- what a set that was not refused leaves: a sound pool, and at most one run more
-module _ {w v : List ℕ} {i : ℕ} {r : Run} (S : Sound w) (l : i < opened_at w) (one : SetRun w i r v) where
+  -- and is not refused where these have few enough runs
+  room-given : {a : Answer} {v : List ℕ} → stretches (F (held_by w i)) ≤ allowance w i → Met w i c a v → a ≡ gave (A (held_by w i))
+  unfolding change
+  room-given few m =
+      let P = held_by w i in
+      m.answered ∙ ap (λ o. o.answer) changed-is
+      ∙ ap (λ t. (settle (refusal (Refusals.capacity when t ∷ [])) P (A P) (bounded (F P))).answer) (fits-few R.openable (F P) few)
+
+-- ---- a set of a run
+module _ {w : List ℕ} {i : ℕ} (r : Run) (S : Sound w) (l : i < opened_at w) where
+  abbrev there : Readable w i
+  there = readable (record { sound = S; named = l })
+
+  -- what it makes of the positions: at most one run more
   abbrev Q : Positions
   Q = set_range r.start (r.«end» + 1 - r.start) true (held_by w i)
 
-  set-holds : (x : ℕ) → x < size → held_by v i x ≡ Q x
-  set-holds x u =
-      let R = readable (record { sound = S; named = l }) in
-      one.met.left.holds x u ∙ ap (λ P. P x) (done-positions (set_says w i (Included r.start) (Included r.«end») true) R one.met.answered)
-      ∙ sym (bounded-is Q x u)
+  set-more : stretches Q ≤ stretches (held_by w i) + 1
+  set-more = one-more (held_by w i) r.start (r.«end» + 1 - r.start) true
 
-  set-sound : Sound v
-  set-sound = one.met.left.sound
+  -- so it is given where the world may have one more
+  set-given : {a : Answer} {v : List ℕ} → stretches (held_by w i) + 1 ≤ allowance w i → Met w i (Call.set (Included r.start) (Included r.«end») true) a v
+      → (n : ℕ) × (a ≡ gave (number n))
+  set-given few m = (_, room-given (set_says w i (Included r.start) (Included r.«end») true) there (omega (arith, set-more, few)) m)
 
-  set-named : i < opened_at v
-  set-named = omega (arith, one.met.left.opened, l)
+  -- what it leaves where it was
+  module _ {v : List ℕ} (one : SetRun w i r v) where
+    set-settled : Settled w v i (bounded Q)
+    set-settled =
+        subst (Settled w v i) (done-positions (set_says w i (Included r.start) (Included r.«end») true) there one.met.answered) one.met.left
 
-  set-few : stretches (held_by v i) ≤ stretches (held_by w i) + 1
-  set-few =
-      omega (
-        arith,
-        stretches-cong (held_by v i) Q set-holds,
-        one-more (held_by w i) r.start (r.«end» + 1 - r.start) true,
-      )
+    set-few : stretches (held_by v i) ≤ stretches (held_by w i) + 1
+    set-few = omega (arith, stretches-cong (held_by v i) Q (λ x u. set-settled.holds x u ∙ sym (bounded-is Q x u)), set-more)
 
--- so after n sets at most n runs more
-pub record Sparse (w : List ℕ) (i n : ℕ) : Type 0 where
+    -- what the world may have stays
+    set-allowance : allowance v i ≡ allowance w i
+    set-allowance = allowance-after w v i (bounded Q) set-settled.long (worlds-after l set-settled (bounded-ends Q))
+
+-- ---- sets one by one
+-- after n sets at most n runs more, of which the world may have m
+pub record Sparse (w : List ℕ) (i m n : ℕ) : Type 0 where
   pub sound : Sound w
   pub named : i < opened_at w
   pub unturned : Unturned w i
   pub few : stretches (held_by w i) ≤ n
+  pub most : allowance w i ≡ m
 
-sets-sparse : (i : ℕ) (rs : List Run) (n : ℕ) (w w' : List ℕ) → Sparse w i n → SetOneByOne w i rs w' → Sparse w' i (n + length rs)
-sets-sparse i [] n w w' p e = subst (Sparse w' i) (omega arith) (subst (λ v. Sparse v i n) (sym e) p)
-sets-sparse i (r ∷ rs) n w w' p s =
+sets-sparse : (i m : ℕ) (rs : List Run) (n : ℕ) (w w' : List ℕ) → Sparse w i m n → SetOneByOne w i rs w' → Sparse w' i m (n + length rs)
+sets-sparse i m [] n w w' p e = subst (Sparse w' i m) (omega arith) (subst (λ v. Sparse v i m n) (sym e) p)
+sets-sparse i m (r ∷ rs) n w w' p s =
     let one = s.1 in
-    let q : Sparse s.0 i (n + 1) = record {
-      sound = set-sound p.sound p.named one;
-      named = set-named p.sound p.named one;
+    let b = set-settled r p.sound p.named one in
+    let q : Sparse s.0 i m (n + 1) = record {
+      sound = b.sound;
+      named = omega (arith, b.opened, p.named);
       unturned = (one.grows p.unturned).unturned;
-      few = omega (arith, set-few p.sound p.named one, p.few);
+      few = omega (arith, set-few r p.sound p.named one, p.few);
+      most = set-allowance r p.sound p.named one ∙ p.most;
     } in
-    subst (Sparse w' i) (omega arith) (sets-sparse i rs (n + 1) s.0 w' q s.2)
+    subst (Sparse w' i m) (omega arith) (sets-sparse i m rs (n + 1) s.0 w' q s.2)
 
 -- a world that has no offset has so many physical runs
-sparse-runs : {w : List ℕ} {i n : ℕ} → Sparse w i n → runs_at w i ≤ n
+sparse-runs : {w : List ℕ} {i m n : ℕ} → Sparse w i m n → runs_at w i ≤ n
 unfolding tree_at held_by
 sparse-runs {w} {i} p = omega (arith, unturned-runs (world-standing p.sound i p.named) p.unturned, p.few)
 
@@ -205,20 +229,28 @@ module _ {w : List ℕ} {i : ℕ} (S : Sound w) (l : i < opened_at w) (small : (
   unfolding empty
   bare-empty = bare
 
-  bare-sparse : Sparse w i 0
+  bare-sparse : Sparse w i (allowance w i) 0
   bare-sparse = record {
     sound = S;
     named = l;
     unturned = bare-unturned;
     few = omega (arith, stretches-cong (held_by w i) empty bare-empty, empty-stretches);
+    most = refl;
   }
 
   -- the list for the height d makes that height
   pub list-high : (d : ℕ) (w' : List ℕ) → SetOneByOne w i (deepest_runs d) w' → height (tree_at w' i) ≡ d
   list-high d w' s = rest-grown d i (deepest_runs d) [] w w' refl bare-unturned (ap shape bare-tree) s
 
-  -- and a shorter one does not
-  pub shorter-lower : (d : ℕ) (rs : List Run) (w' : List ℕ) → length rs < least d → SetOneByOne w i rs w' → height (tree_at w' i) < d
-  shorter-lower d rs w' few s =
-      let p = sets-sparse i rs 0 w w' bare-sparse s in
-      world-lower w' i d p.sound p.named (omega (arith, sparse-runs p, few))
+  module _ (rs : List Run) (w' : List ℕ) (s : SetOneByOne w i rs w') where
+    after-sets : Sparse w' i (allowance w i) (length rs)
+    after-sets = subst (Sparse w' i (allowance w i)) (omega arith) (sets-sparse i (allowance w i) rs 0 w w' bare-sparse s)
+
+    -- a shorter one does not
+    pub shorter-lower : (d : ℕ) → length rs < least d → height (tree_at w' i) < d
+    shorter-lower d few = let p = after-sets in world-lower w' i d p.sound p.named (omega (arith, sparse-runs p, few))
+
+    -- and a further set is given, where the world may have one run more than were set
+    pub further-given : (r : Run) {a : Answer} {v : List ℕ} → length rs < allowance w i → Met w' i (Call.set (Included r.start) (Included r.«end») true) a v
+        → (n : ℕ) × (a ≡ gave (number n))
+    further-given r room m = let p = after-sets in set-given r p.sound p.named (omega (arith, p.few, p.most, room)) m

@@ -32,6 +32,7 @@ use Rattle.lockstep.specs.Theorems.{
   Deepest-shortest,
   Survey-parts,
   Deepest-height,
+  Deepest-room,
   Why-smallest,
   Why-none,
   Why-exact,
@@ -48,7 +49,7 @@ use Rattle.lockstep.proofs.Mending.{right-comes-back, outcome-loads, mend-old-re
 use Rattle.lockstep.proofs.Measuring.{list-long, list-is}
 use Rattle.lockstep.proofs.Surveys.{survey-parted}
 use Rattle.lockstep.proofs.Stopping.{many-are, rising-are, listed-are, refused-are, fewer-given, none-given, given-none, due-told, due-short}
-use Rattle.lockstep.proofs.Heights.{list-high, shorter-lower}
+use Rattle.lockstep.proofs.Heights.{list-high, shorter-lower, further-given}
 use Rattle.store.proofs.Heights.{world-lower}
 
 pub equal-bytes : Equal-bytes
@@ -121,7 +122,10 @@ pub deepest-shortest : Deepest-shortest
 deepest-shortest w h out out' n w' m = (list-long m, list-is m, λ v i S named few. world-lower v i h S named few)
 
 pub deepest-height : Deepest-height
-deepest-height w i h w' S l small bare = (list-high S l small bare h w', λ rs few s. shorter-lower S l small bare h rs w' few s)
+deepest-height w i h w' S l small bare = (list-high S l small bare h w', λ rs few s. shorter-lower S l small bare rs w' s h few)
+
+pub deepest-room : Deepest-room
+deepest-room w i rs r w' v a S l small bare s room m = further-given S l small bare rs w' s r room m
 
 pub survey-parts : Survey-parts
 survey-parts w i row column k out out' n w' m = survey-parted m

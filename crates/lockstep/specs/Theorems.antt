@@ -1,7 +1,8 @@
--- THE THEOREMS beside the one on whole plays (Determinism.antt). No tree and no offset is mentioned, but in the two about
+-- THE THEOREMS beside the one on whole plays (Determinism.antt). No tree and no offset is mentioned, but in those about
 -- the deepest tree: a pool is known by what its calls promise.
 -- Assumes nothing: these are statements. proofs/Theorems.antt proves each under its name, in small letters.
 use Rattle.std.specs.Prelude.{Some}
+use Rattle.std.specs.declared.ops.Bound.TheVariants.{Included}
 use Rattle.model.specs.Answers.{OrRefusal}
 use Rattle.std.specs.Prelude.{ℕ, ◌+◌, ◌*◌, ◌^◌, ◌≤◌, ◌<◌, ◌≡◌, true, false, List, length, take, replicate, get_or}
 use Rattle.model.specs.declared.Edition.{Edition}
@@ -22,7 +23,7 @@ use Rattle.model.specs.Mending.{mended_positions}
 use Rattle.model.specs.Deepest.{least, deepest_runs, deepest_words}
 use Rattle.model.specs.Converting.{convert, document_one_refusal}
 use Rattle.run_index.specs.Tree.{height}
-use Rattle.store.specs.Layout.{capacity, opened_at, floor_at, held_by, worlds_of, world_at, tree_at}
+use Rattle.store.specs.Layout.{capacity, allowance, opened_at, floor_at, held_by, worlds_of, world_at, tree_at}
 use Rattle.store.specs.Soundness.{runs_at, Sound}
 use Rattle.lowest.specs.Entries.{In}
 use Rattle.spawn.specs.Placing.{Climbing}
@@ -212,6 +213,14 @@ Deepest-height =
     → Sound w → i < opened_at w → (world_at w i).offset < size → ((x : ℕ) → x < size → held_by w i x ≡ false)
     → (SetOneByOne w i (deepest_runs h) w' → height (tree_at w' i) ≡ h)
     × ((rs : List Run) → length rs < least h → SetOneByOne w i rs w' → height (tree_at w' i) < h)
+
+-- and one run more is given, where the world may have more runs than were set: so one that may have `least h` takes the whole list
+abbrev pub Deepest-room : Type 0
+Deepest-room =
+    (w : List ℕ) (i : ℕ) (rs : List Run) (r : Run) (w' v : List ℕ) (a : Answer)
+    → Sound w → i < opened_at w → (world_at w i).offset < size → ((x : ℕ) → x < size → held_by w i x ≡ false)
+    → SetOneByOne w i rs w' → length rs < allowance w i → Met w' i (Call.set (Included r.start) (Included r.«end») true) a v
+    → (n : ℕ) × (a ≡ gave (number n))
 
 -- ---- surveys
 -- what a survey that is not refused lists parts the square: every cell in just one piece, each of one value and as large as halving allows, left before

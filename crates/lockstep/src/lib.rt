@@ -7,7 +7,7 @@ ghost use Rattle.lockstep.specs.Tables.{Cases-hold, Worked-hold, Columns-back};
 ghost use Rattle.lockstep.specs.Theorems.{Equal-bytes, Room-suffices, Equal-pools, Floor-reached, Sum-alone, Sum-alone-lists};
 ghost use Rattle.lockstep.specs.Theorems.{Cleared-reads, Cleared-once, Written-stays, Forms-agree, Fill-none, Fill-full};
 ghost use Rattle.lockstep.specs.Theorems.{Converted-back, Converted-loads, Loads-converts, Old-reader, Mended-right, Mended-loads, Mended-floor};
-ghost use Rattle.lockstep.specs.Theorems.{Survey-parts, Deepest-height, Deepest-shortest, Why-smallest, Why-none, Why-exact};
+ghost use Rattle.lockstep.specs.Theorems.{Survey-parts, Deepest-height, Deepest-room, Deepest-shortest, Why-smallest, Why-none, Why-exact};
 
 /// Whole plays: calls singly and in frames.
 pub fn whole_plays()
@@ -53,6 +53,7 @@ pub fn square_surveys()
 /// The deepest tree, and why a list of ranges was refused.
 pub fn measures()
     ensures deepest_height { Deepest-height }
+    ensures deepest_room { Deepest-room }
     ensures deepest_shortest { Deepest-shortest }
     ensures why_smallest { Why-smallest }
     ensures why_none { Why-none }

@@ -16,7 +16,7 @@ use Rattle.model.specs.declared.between.Interval.{Interval}
 use Rattle.model.specs.Range.{first_allowed, past_allowed, extent}
 use Rattle.run_index.specs.Cells.{cell_at}
 use Rattle.run_index.specs.declared.Node.{Node}
-use Rattle.run_index.specs.Tree.{Tree, node, inorder, tree_from}
+use Rattle.run_index.specs.Tree.{node, inorder, tree_from}
 use Rattle.run_index.specs.Shape.{inserted}
 use Rattle.store.specs.declared.World.{World}
 use Rattle.store.specs.Layout.{record_at, world_at, nodes, Headed, highest, tree_at, allowance}

@@ -11,5 +11,6 @@ pub mod Growing
 pub mod Overwriting
 pub mod Putting
 pub mod Simulation
+pub mod Allowing
 pub mod Served
 pub mod Passing
