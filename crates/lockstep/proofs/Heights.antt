@@ -118,7 +118,8 @@ module _ (P : Positions) (a n : ℕ) (v : Bool) where
       go (inr none) = omega (arith, stretches-cong (set_range a n v P) P (none-set (omega arith)))
 
 -- ---- a change, with no condition but room
-module _ {w : List ℕ} {i : ℕ} {c : Call Site} {F : Positions → Positions} {A : Positions → Result} (says : Changes w i c [] F A) (R : Readable w i) where
+module _ {w : List ℕ} {i : ℕ} {c : Call Site} {F : Positions → Positions} {A : Positions → Result} (says : Changes w i c [] F A)
+    (R : Readable w i) where
   abbrev changed : Fed → Outcome
   changed s = change (full_at w i) s [] (F (positions_of s)) (A (positions_of s))
 
@@ -154,8 +155,8 @@ module _ {w : List ℕ} {i : ℕ} (r : Run) (S : Sound w) (l : i < opened_at w) 
   set-more = one-more (held_by w i) r.start (r.«end» + 1 - r.start) true
 
   -- so it is given where the world may have one more
-  set-given : {a : Answer} {v : List ℕ} → stretches (held_by w i) + 1 ≤ allowance w i → Met w i (Call.set (Included r.start) (Included r.«end») true) a v
-      → (n : ℕ) × (a ≡ gave (number n))
+  set-given : {a : Answer} {v : List ℕ} → stretches (held_by w i) + 1 ≤ allowance w i
+      → Met w i (Call.set (Included r.start) (Included r.«end») true) a v → (n : ℕ) × (a ≡ gave (number n))
   set-given few m = (_, room-given (set_says w i (Included r.start) (Included r.«end») true) there (omega (arith, set-more, few)) m)
 
   -- what it leaves where it was
@@ -251,6 +252,6 @@ module _ {w : List ℕ} {i : ℕ} (S : Sound w) (l : i < opened_at w) (small : (
     shorter-lower d few = let p = after-sets in world-lower w' i d p.sound p.named (omega (arith, sparse-runs p, few))
 
     -- and a further set is given, where the world may have one run more than were set
-    pub further-given : (r : Run) {a : Answer} {v : List ℕ} → length rs < allowance w i → Met w' i (Call.set (Included r.start) (Included r.«end») true) a v
-        → (n : ℕ) × (a ≡ gave (number n))
+    pub further-given : (r : Run) {a : Answer} {v : List ℕ} → length rs < allowance w i
+        → Met w' i (Call.set (Included r.start) (Included r.«end») true) a v → (n : ℕ) × (a ≡ gave (number n))
     further-given r room m = let p = after-sets in set-given r p.sound p.named (omega (arith, p.few, p.most, room)) m

@@ -13,7 +13,8 @@ others-holding zero P (x ∷ ws) = refl
 others-holding (suc i) P (x ∷ ws) = ap (λ n. claim x + n) (others-holding i P ws)
 
 -- and the ceiling
-ceiling-holding : (C n i : ℕ) (P : Positions) (ws : List PlainWorld) → allowance_of C n (world_of (holding_at i P ws) i) ≡ allowance_of C n (world_of ws i)
+ceiling-holding : (C n i : ℕ) (P : Positions) (ws : List PlainWorld)
+    → allowance_of C n (world_of (holding_at i P ws) i) ≡ allowance_of C n (world_of ws i)
 unfolding holding_at
 ceiling-holding C n i P [] = refl
 ceiling-holding C n zero P (x ∷ ws) = refl

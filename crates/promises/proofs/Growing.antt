@@ -102,7 +102,8 @@ module _ {w w' ys : List ℕ} {i : ℕ} {h k : World} {Q : Positions} (op : Open
 -- the same of a change within the world's allowance, as it is told
 module _ {w w' : List ℕ} {i limit : ℕ} {h k : World} {n : Count} {l u : Bound} {r : Interval} {v : Bool} (ys : List ℕ) (Q : Positions) where
   pub edit-grows : Readable w i → Opened w i h → limit ≡ allowance w i → (e : Option Edit) → Edited (lent w) ys h limit Q e
-      → GrowsBy (lent w) ys h r.first.0 r.last.0 v e → e ≡ changed_to k n → Allowed l u r → Headed (back w ys) w' k → Unturned w i → PutIn w i l u v w'
+      → GrowsBy (lent w) ys h r.first.0 r.last.0 v e → e ≡ changed_to k n → Allowed l u r → Headed (back w ys) w' k → Unturned w i
+      → PutIn w i l u v w'
   edit-grows R op el e ed gr q al hd =
       let t = edit-told R op el ys e ed q in
       let within = subst (Limited (lent w) (share_of w i) h) (sym el) (lent-limited op) in

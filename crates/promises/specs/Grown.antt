@@ -1,5 +1,5 @@
 -- What setting a range does to the tree of a world without offset: a range that is to be held, and touches none of the tree's runs, is put in as
--- one run more. The numbers of the nodes are left open, since a node may be another one later. Assumes nothing: these are definitions.
+-- one run more. The numbers of the nodes are left open, so that nodes may be put elsewhere. Assumes nothing: these are definitions.
 use Rattle.std.specs.Prelude.{ℕ, ◌≡◌, ◌-◌, ◌≤◌, Bool, true, List, Ok, Err}
 use Rattle.model.specs.Answers.{OrRefusal}
 use Rattle.model.specs.Ends.{Bound}
