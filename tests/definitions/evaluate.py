@@ -710,7 +710,7 @@ class Model:
             return Function(*made) if type(made) is tuple else made
         if word == "is_cause_of":
             return Function(2, lambda k, j: force(k).name == force(j).name)
-        raise Stuck(f"{module.name}: {word} is not known")
+        raise SystemExit(f"{module.name}: {word} is not known")
 
     def compile(self, module, it):
         """An expression as a function of the variables."""
