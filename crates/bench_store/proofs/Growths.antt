@@ -14,7 +14,8 @@ use Rattle.store.specs.Layout.{capacity_of, capacity, allowance, opened_at, floo
 use Rattle.store.specs.Soundness.{Sound}
 use Rattle.store.specs.Settle.{Settled}
 use Rattle.store.proofs.WorldLists.{worlds-but}
-use Rattle.bench_store.specs.Growing.{is_pool, next_number, more_after, Growth, next_first, next_many, with_next, grown_by, grown, growth_of, Tried, has_gap, found_in}
+use Rattle.bench_store.specs.Growing.{is_pool, next_number, more_after, Growth, next_first, next_many, with_next}
+use Rattle.bench_store.specs.Growing.{grown_by, grown, growth_of, Tried, has_gap, found_in}
 
 -- ---- what world 0 may have
 module _ {w w' : List ℕ} {P : Positions} (S : Settled w w' 0 P) where

@@ -161,7 +161,10 @@ module _ (op : Operation) (d : ℕ) (left : Bool) {s t s' t' : Site} where
       let M = both-moved d left B' in
       let few : stretches (combined op (holds s') (holds t')) ≤ allowance w i =
       subst (λ P. stretches P ≤ allowance w i)
-      (sym (join-moved (record { first_holds = M.first_holds ∙ ap (moved d left) S.holds_it; second_holds = M.second_holds ∙ ap (moved d left) T.holds_it })))
+      (sym (join-moved (record {
+        first_holds = M.first_holds ∙ ap (moved d left) S.holds_it;
+        second_holds = M.second_holds ∙ ap (moved d left) T.holds_it;
+      })))
       (le_trans (moved-few d left (combined op (holds s) (holds t))) (combine-fits op s t m)) in
       (e.0, e.1, go (both-readable d left B') few where_to)
     where

@@ -1,4 +1,5 @@
-use Rattle.laws.proofs.Laws.{shift-through, shifted-through, shifted-is-shift, shifts-add, shifts-empty, shifted-add, shifted-empty, left-right, left-right-clears, shifted-left-right, right-left, shifts-swap}
+use Rattle.laws.proofs.Laws.{shift-through, shifted-through, shifted-is-shift, shifts-add, shifts-empty, shifted-add}
+use Rattle.laws.proofs.Laws.{shifted-empty, left-right, left-right-clears, shifted-left-right, right-left, shifts-swap}
 use Rattle.laws.proofs.shifts.Goals as goal
 
 pub returns : goal.returns
