@@ -1,21 +1,26 @@
 //! The lists, each with one purpose.
 
+mod borders;
 mod bounds;
 mod bytes;
 mod capacity;
 mod cases;
+mod counts;
 mod deepest;
 mod editions;
+mod fills;
 mod frames;
 mod gaps;
 mod grid;
 mod joined;
+mod limits;
 mod listings;
 mod long;
 mod mended;
 mod refusals;
 mod shifts;
 mod why_full;
+mod windows;
 mod worlds;
 
 use super::List;
@@ -40,6 +45,11 @@ pub fn all() -> Vec<List> {
         gaps::list(),
         grid::list(),
         worlds::list(),
+        counts::list(),
+        borders::list(),
+        windows::list(),
+        fills::list(),
+        limits::list(),
         long::list(),
     ]
 }
