@@ -33,27 +33,91 @@ const MAP: usize = 1024;
 /// The most calls of a frame, and answers that there is room for.
 const CALLS: usize = 64;
 
+// What a list's lines keep, beside the limits of every list.
+struct Limits {
+    capacity: usize,
+    runs: usize,
+    slice: usize,
+    report: usize,
+    room: usize,
+    bounds: usize,
+    map: usize,
+}
+
+const SMALL: Limits = Limits {
+    capacity: CAPACITY,
+    runs: CAPACITY,
+    slice: SLICE,
+    report: REPORT,
+    room: ROOM,
+    bounds: BOUNDS,
+    map: MAP,
+};
+
+/// The most runs that a line of a large list tells: twice those of the largest pool.
+const MOST_RUNS: usize = 2 * 65_536;
+
+const LARGE: Limits = Limits {
+    // One more than a pool may have.
+    capacity: 65_537,
+    runs: MOST_RUNS,
+    slice: 5 + 16 * MOST_RUNS,
+    report: 2 * MOST_RUNS,
+    // Those of the largest survey, and ten more.
+    room: 5 * (1 << 16) + 10,
+    bounds: 2 * MOST_RUNS,
+    map: 65_544,
+};
+
+/// Where a list stands.
+#[derive(Clone, Copy, PartialEq)]
+pub enum Shelf {
+    /// In the pack's folder.
+    Small,
+    /// In its folder `large`, where long arguments are told by patterns, and long answers by digests.
+    Large,
+}
+
+impl Shelf {
+    /// The folder, in that of the pack.
+    pub fn folder(self) -> &'static str {
+        match self {
+            Shelf::Small => "",
+            Shelf::Large => "large",
+        }
+    }
+
+    fn limits(self) -> &'static Limits {
+        if self == Shelf::Large { &LARGE } else { &SMALL }
+    }
+}
+
 /// A list of calls, and their answers.
 pub struct List {
     pub name: &'static str,
+    pub shelf: Shelf,
     pub calls: String,
     pub answers: String,
     expected: Expected,
 }
 
 // Whether a call keeps the format's limits.
-fn fits(call: &Call) -> bool {
+fn fits(call: &Call, limits: &Limits) -> bool {
     match call {
-        Call::Lend { words, .. } => words.len() <= 8 * (CAPACITY + 49),
+        Call::Lend { words, .. } => words.len() <= 8 * (limits.capacity + 49),
         Call::New { limits, .. } => limits.len() % 2 == 0 && limits.len() <= 2 * WORLDS,
-        Call::Load { bytes, .. } => bytes.len() <= SLICE,
-        Call::Build { runs, .. } => runs.len() <= CAPACITY,
-        Call::ReadMap { map, .. } | Call::ClearMap { map, .. } => map.len() <= MAP,
-        Call::Convert { bytes, room } => bytes.len() <= SLICE && *room <= SLICE,
-        Call::Mend { bytes, rooms: [room, report], .. } => bytes.len() <= SLICE && *room <= SLICE && *report <= REPORT,
-        Call::Write { room, .. } | Call::WriteMap { room, .. } => *room <= SLICE,
-        Call::Deepest { room, .. } | Call::Survey { room, .. } => *room <= ROOM,
-        Call::WhyFull { ranges, room, .. } => ranges.len() % 2 == 0 && ranges.len() <= 2 * BOUNDS && *room <= ROOM,
+        Call::Load { bytes, .. } => bytes.len() <= limits.slice,
+        Call::Build { runs, .. } => runs.len() <= limits.runs,
+        Call::ReadMap { map, .. } | Call::ClearMap { map, .. } => map.len() <= limits.map,
+        Call::Convert { bytes, room } => bytes.len() <= limits.slice && *room <= limits.slice,
+        Call::Mend { bytes, rooms: [room, report], .. } => {
+            bytes.len() <= limits.slice && *room <= limits.slice && *report <= limits.report
+        }
+        Call::Write { room, .. } | Call::WriteMap { room, .. } => *room <= limits.slice,
+        Call::Deepest { room, .. } | Call::Survey { room, .. } => *room <= limits.room,
+        Call::WhyFull { ranges, room, .. } => {
+            ranges.len() % 2 == 0 && ranges.len() <= 2 * limits.bounds && *room <= limits.room
+        }
         Call::Frame { calls, room, .. } => {
             [calls.len(), *room].iter().all(|n| n % records::WORDS == 0 && n / records::WORDS <= CALLS)
         }
@@ -63,7 +127,7 @@ fn fits(call: &Call) -> bool {
 
 // Whether a call by chance may go into a list: not if its answer is left open.
 fn may_be(call: &Call) -> bool {
-    fits(call) && !matches!(call, Call::Deepest { .. })
+    fits(call, &SMALL) && !matches!(call, Call::Deepest { .. })
 }
 
 fn push(lines: &mut String, more: &str) {
@@ -76,16 +140,25 @@ fn push(lines: &mut String, more: &str) {
 
 impl List {
     fn new(name: &'static str) -> List {
+        List::on(Shelf::Small, name)
+    }
+
+    fn on(shelf: Shelf, name: &'static str) -> List {
         let expected = Expected { stores: vec![Store::of(&[]); STORES] };
-        List { name, calls: String::new(), answers: String::new(), expected }
+        List { name, shelf, calls: String::new(), answers: String::new(), expected }
     }
 
     // Adds a call.
     fn call(&mut self, call: &Call) -> Told {
-        assert!(fits(call), "beyond the limits: {call:?}");
+        self.ask(&text::write(call), call)
+    }
+
+    // Adds a call as it is written there.
+    fn ask(&mut self, written: &str, call: &Call) -> Told {
+        assert!(fits(call, self.shelf.limits()), "beyond the limits: {written}");
         let told = self.expected.answer(call);
-        push(&mut self.calls, &text::write(call));
-        push(&mut self.answers, &text::tell(call, &told));
+        push(&mut self.calls, written);
+        push(&mut self.answers, &text::keep(call, &told));
         told
     }
 
@@ -95,7 +168,11 @@ impl List {
         let mut lines = lines.peekable();
         while let Some(&line) = lines.peek() {
             let call = text::read(&mut lines).unwrap_or_else(|| panic!("no call: {line}"));
-            self.call(&call);
+            match call {
+                Call::Frame { .. } => self.call(&call),
+                // A pattern stays one.
+                _ => self.ask(line, &call),
+            };
         }
     }
 

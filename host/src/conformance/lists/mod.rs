@@ -13,6 +13,7 @@ mod frames;
 mod gaps;
 mod grid;
 mod joined;
+mod large;
 mod limits;
 mod listings;
 mod long;
@@ -28,6 +29,12 @@ use crate::differential::{HALF, M};
 
 /// Every list.
 pub fn all() -> Vec<List> {
+    let mut all = small();
+    all.extend(large::all());
+    all
+}
+
+fn small() -> Vec<List> {
     vec![
         cases::list(),
         bounds::list(),
