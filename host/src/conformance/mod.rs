@@ -8,7 +8,7 @@ use crate::differential::calls::{Call, Place, Told};
 use crate::differential::chance::{self, Kind};
 use crate::differential::expected::{Expected, Store};
 use crate::differential::random::Random;
-use crate::differential::records;
+use crate::differential::records::{self, Record};
 use crate::differential::reference::{Limit, Run};
 
 /// How many stores a list has.
@@ -76,6 +76,8 @@ pub enum Shelf {
     Small,
     /// In its folder `large`, where long arguments are told by patterns, and long answers by digests.
     Large,
+    /// In its folder `reserved`: what this version answers to numbers that a later one may give a meaning. No part of conformance.
+    Reserved,
 }
 
 impl Shelf {
@@ -84,6 +86,7 @@ impl Shelf {
         match self {
             Shelf::Small => "",
             Shelf::Large => "large",
+            Shelf::Reserved => "reserved",
         }
     }
 
@@ -125,6 +128,43 @@ fn fits(call: &Call, limits: &Limits) -> bool {
     }
 }
 
+// A record without reserved numbers, of the same meaning: of what its call reads, kinds of bounds above 2 are 0, a truth is 0 or 1, and a number above
+// the last one is that of a get.
+fn plain_record(mut record: Record) -> Record {
+    let bounds = [2, 3, 6, 8, 10, 14, 15, 16, 17, 18];
+    let truths = [2, 4, 6, 8, 10, 11, 12, 15, 16, 18, 19];
+    if record[0] > records::LAST {
+        record[0] = 0;
+    }
+    if bounds.contains(&record[0]) {
+        for kind in [1, 3] {
+            record[kind] = plain_kind(record[kind]);
+        }
+    }
+    if truths.contains(&record[0]) {
+        record[5] = record[5].min(1);
+    }
+    record
+}
+
+fn plain_kind(kind: u64) -> u64 {
+    if kind > 2 { 0 } else { kind }
+}
+
+// A call without reserved numbers, of the same meaning.
+fn plain(call: &Call) -> Call {
+    let mut call = call.clone();
+    match &mut call {
+        Call::Write { edition, .. } if *edition != 2 => *edition = 1,
+        Call::WhyFull { ranges, .. } => ranges.iter_mut().step_by(2).for_each(|kind| *kind = plain_kind(*kind)),
+        Call::Frame { calls, .. } => {
+            calls.as_chunks_mut().0.iter_mut().for_each(|record| *record = plain_record(*record));
+        }
+        _ => {}
+    }
+    call
+}
+
 // Whether a call by chance may go into a list: not if its answer is left open.
 fn may_be(call: &Call) -> bool {
     fits(call, &SMALL) && !matches!(call, Call::Deepest { .. })
@@ -148,13 +188,15 @@ impl List {
         List { name, shelf, calls: String::new(), answers: String::new(), expected }
     }
 
-    // Adds a call.
+    // Adds a call, without reserved numbers but on their shelf.
     fn call(&mut self, call: &Call) -> Told {
-        self.ask(&text::write(call), call)
+        let call = if self.shelf == Shelf::Reserved { call.clone() } else { plain(call) };
+        self.ask(&text::write(&call), &call)
     }
 
     // Adds a call as it is written there.
     fn ask(&mut self, written: &str, call: &Call) -> Told {
+        assert!(self.shelf == Shelf::Reserved || plain(call) == *call, "reserved numbers: {written}");
         assert!(fits(call, self.shelf.limits()), "beyond the limits: {written}");
         let told = self.expected.answer(call);
         push(&mut self.calls, written);

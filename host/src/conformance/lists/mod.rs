@@ -19,6 +19,7 @@ mod listings;
 mod long;
 mod mended;
 mod refusals;
+mod reserved;
 mod shifts;
 mod why_full;
 mod windows;
@@ -31,6 +32,7 @@ use crate::differential::{HALF, M};
 pub fn all() -> Vec<List> {
     let mut all = small();
     all.extend(large::all());
+    all.extend(reserved::all());
     all
 }
 
