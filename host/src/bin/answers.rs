@@ -1,8 +1,8 @@
 //! Answers lists of calls on standard input, as `conformance/README.md` says: by the library, or, with `--oracle`, by the oracle.
 
+use std::env;
 use std::io::{self, Write};
 use std::process::ExitCode;
-use std::env;
 
 use vizturel::conformance::{STORES, text};
 use vizturel::differential::calls::{Call, Told};
@@ -33,9 +33,8 @@ fn main() -> ExitCode {
     };
     let mut library = Library { stores: vec![Vec::new(); STORES] };
     let mut oracle = Expected { stores: vec![Store::of(&[]); STORES] };
-    let done = io::read_to_string(io::stdin()).and_then(|calls| {
-        answer(&calls, |call| if by_oracle { oracle.answer(call) } else { library.answer(call) })
-    });
+    let done = io::read_to_string(io::stdin())
+        .and_then(|calls| answer(&calls, |call| if by_oracle { oracle.answer(call) } else { library.answer(call) }));
     match done {
         Ok(()) => ExitCode::SUCCESS,
         Err(why) => {

@@ -44,15 +44,8 @@ struct Limits {
     map: usize,
 }
 
-const SMALL: Limits = Limits {
-    capacity: CAPACITY,
-    runs: CAPACITY,
-    slice: SLICE,
-    report: REPORT,
-    room: ROOM,
-    bounds: BOUNDS,
-    map: MAP,
-};
+const SMALL: Limits =
+    Limits { capacity: CAPACITY, runs: CAPACITY, slice: SLICE, report: REPORT, room: ROOM, bounds: BOUNDS, map: MAP };
 
 /// The most runs that a line of a large list tells: twice those of the largest pool.
 const MOST_RUNS: usize = 2 * 65_536;

@@ -20,13 +20,22 @@ pub fn list() -> List {
 
 // Numbers about the widths that a number may be cut to.
 fn wide() -> Vec<u64> {
-    [8, 16, 31, 32, 63].into_iter().flat_map(|bits| [(1 << bits) - 1, 1 << bits, (1 << bits) + 1]).chain([M - 1, M]).collect()
+    [8, 16, 31, 32, 63]
+        .into_iter()
+        .flat_map(|bits| [(1 << bits) - 1, 1 << bits, (1 << bits) + 1])
+        .chain([M - 1, M])
+        .collect()
 }
 
 // 1 and 7 before 12, of numbers that no world has and that some do when they are cut.
 fn unopened(list: &mut List) {
     list.say("words 1 4\nnew 1 1 0 4\nbuild 1/0 1 3 9\nwords 2 3\nnew 2 2 1 1 0 3\nbuild 2/1 1 6 12");
-    for lent in ["", "words 0 0", "words 0 4", "new 0 16 0 4 0 4 0 4 0 4 0 4 0 4 0 4 0 4 0 4 0 4 0 4 0 4 0 4 0 4 0 4 0 4\nspoil 0"] {
+    for lent in [
+        "",
+        "words 0 0",
+        "words 0 4",
+        "new 0 16 0 4 0 4 0 4 0 4 0 4 0 4 0 4 0 4 0 4 0 4 0 4 0 4 0 4 0 4 0 4 0 4\nspoil 0",
+    ] {
         list.say(lent);
         for world in [15, 16].into_iter().chain(wide()) {
             list.say(&format!("get 0/{world} 0\nset 0/{world} u u 1\ngap 0/{world} u u 0\nfill 0/{world} 0 0"));
@@ -112,9 +121,19 @@ fn floors(list: &mut List) {
 
 // A pool that is refused leaves the words as they were: sound or not.
 fn refused(list: &mut List) {
-    for made in ["words 0 8", "words 0 8\nnew 0 2 1 4 0 8\nset 0/1 i3 i9 1\nspoil 0", "words 0 8\nnew 0 2 1 4 0 8\nset 0/1 i3 i9 1"] {
+    for made in [
+        "words 0 8",
+        "words 0 8\nnew 0 2 1 4 0 8\nset 0/1 i3 i9 1\nspoil 0",
+        "words 0 8\nnew 0 2 1 4 0 8\nset 0/1 i3 i9 1",
+    ] {
         list.say(made);
-        for limits in ["0", "1 9 9", "1 3 2", "2 4 8 5 8", "17 0 1 0 1 0 1 0 1 0 1 0 1 0 1 0 1 0 1 0 1 0 1 0 1 0 1 0 1 0 1 0 1 0 1"] {
+        for limits in [
+            "0",
+            "1 9 9",
+            "1 3 2",
+            "2 4 8 5 8",
+            "17 0 1 0 1 0 1 0 1 0 1 0 1 0 1 0 1 0 1 0 1 0 1 0 1 0 1 0 1 0 1 0 1 0 1",
+        ] {
             list.say(&format!("new 0 {limits}\nget 0/1 5\nget 0/0 0\nget 0/2 0\nframe 0 0 0"));
         }
         list.say("new 0 1 8 8\nget 0/0 5\nget 0/1 5");

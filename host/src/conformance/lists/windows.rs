@@ -47,7 +47,9 @@ pub fn list() -> List {
     // A run over a window of whole words, and one at each end of all positions.
     for (base, run) in [(16, [0, 200]), (64, [0, 200]), (HALF - 9, [0, M]), (0, [0, M]), (M - 63, [HALF, M])] {
         list.store(0, 1, &[run]);
-        for map in [[0xFF; 8], [0; 8], [0x7F; 8], [0xFF, 0xFF, 0xFF, 0xFF, 0xFF, 0xFF, 0xFF, 0x7F], [1, 0, 0, 0, 0, 0, 0, 0]] {
+        for map in
+            [[0xFF; 8], [0; 8], [0x7F; 8], [0xFF, 0xFF, 0xFF, 0xFF, 0xFF, 0xFF, 0xFF, 0x7F], [1, 0, 0, 0, 0, 0, 0, 0]]
+        {
             list.build(HERE, &[run]);
             list.call(&Call::ReadMap { at: HERE, base, n: 64, map: map.to_vec() });
             list.say("tally 0/0 u u 1");

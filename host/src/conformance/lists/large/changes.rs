@@ -132,7 +132,11 @@ fn by_chance(list: &mut List, random: &mut Random, capacity: u64, calls: usize) 
         if matches!(kind, Kind::Set | Kind::Flip) && !random.once_in(20) {
             let x = chance::position(random, list.expected.stores[at.store].runs(at.world));
             let y = x.saturating_add(random.below(60));
-            let change = if random.truth() { format!("flip {at} i{x} i{y}") } else { format!("set {at} i{x} i{y} {}", random.below(2)) };
+            let change = if random.truth() {
+                format!("flip {at} i{x} i{y}")
+            } else {
+                format!("set {at} i{x} i{y} {}", random.below(2))
+            };
             list.say(&change);
         } else if kind != Kind::Shift || random.once_in(4) {
             list.chance(random, kind, at);

@@ -16,6 +16,9 @@ pub fn list() -> List {
         }
     }
     // In a pool that is in use, with more room than is due.
-    list.say(&format!("new 0 2 0 9 4 4\nbuild 0/1 1 3 9\ndeepest 0 17 {}\ndeepest 0 12 2000\ntally 0/1 u u 1", 2 * least(17) + 6));
+    list.say(&format!(
+        "new 0 2 0 9 4 4\nbuild 0/1 1 3 9\ndeepest 0 17 {}\ndeepest 0 12 2000\ntally 0/1 u u 1",
+        2 * least(17) + 6
+    ));
     list
 }

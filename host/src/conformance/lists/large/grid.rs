@@ -14,7 +14,10 @@ pub fn list() -> List {
 
 // Columns, rows, and both joined to a chessboard, where each cell is a piece.
 fn chessboard(list: &mut List) {
-    list.say(&format!("words 0 65536\nnew 0 1 0 65536\nwords 1 65536\nnew 1 2 0 65536 0 65536\nbuild 0/0 *{}", spaced(0, 2, 1, 128, 1)));
+    list.say(&format!(
+        "words 0 65536\nnew 0 1 0 65536\nwords 1 65536\nnew 1 2 0 65536 0 65536\nbuild 0/0 *{}",
+        spaced(0, 2, 1, 128, 1)
+    ));
     // So many rows at once, twice as many as before.
     for rows in [1, 2, 4, 8, 16, 32, 64, 128] {
         list.say(&format!("shifted 1/0 0/0 {} 1\ncombine 1/1 or 1/0 0/0\nshifted 0/0 1/1 0 1", rows * 65_536));
@@ -36,7 +39,11 @@ fn by_chance(list: &mut List) {
     for (row, column) in [(0_u64, 0_u64), (65_280, 65_280), (1000, 2000)] {
         list.say("words 0 5000\nnew 0 1 0 5000");
         for i in 0..64 {
-            list.say(&format!("read_map 0/0 {} 64 random={}:8", (row + i) * 65_536 + column, 1_000_003 * (i + 1) + row));
+            list.say(&format!(
+                "read_map 0/0 {} 64 random={}:8",
+                (row + i) * 65_536 + column,
+                1_000_003 * (i + 1) + row
+            ));
         }
         list.say(&format!(
             "survey 0/0 {row} {column} 6 20480\nsurvey 0/0 {row} {column} 8 20480\nsurvey 0/0 {} {} 6 20480\ncount_rect 0/0 {row} {column} {} {}",

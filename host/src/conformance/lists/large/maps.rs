@@ -19,7 +19,9 @@ pub fn list() -> List {
     for byte in [1, 128, 240, 90, 170] {
         list.say(&format!("read_map 0/0 64 {LONGEST} same={byte}:65536\ntally 0/0 u u 1"));
     }
-    list.say(&format!("read_map 0/0 64 {LONGEST} random=5:65536\nread_map 0/0 64 {LONGEST} random=6:30000+same=0:35536"));
+    list.say(&format!(
+        "read_map 0/0 64 {LONGEST} random=5:65536\nread_map 0/0 64 {LONGEST} random=6:30000+same=0:35536"
+    ));
     by_chance(&mut list);
     // Spare bits of the longest windows.
     for n in LONGEST - 7..=LONGEST {

@@ -15,7 +15,11 @@ pub fn list() -> List {
         }
         list.say(&format!("build 0/3 0\nset 0/4 i20 i20 1\nbuild 0/3 *{}", spaced(0, 2, 1, floor, 1)));
         for world in 0..16 {
-            list.say(&format!("tally 0/{world} u u 1\neq 0/{world} 0/{}\nset 0/{world} i{} u 1", (world + 1) % 16, 20 * floor));
+            list.say(&format!(
+                "tally 0/{world} u u 1\neq 0/{world} 0/{}\nset 0/{world} i{} u 1",
+                (world + 1) % 16,
+                20 * floor
+            ));
         }
         list.say(&format!("new 0 16{} {} {M}\nget 0/15 0", format!(" {floor} {M}").repeat(15), floor + 1));
     }
