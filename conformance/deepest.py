@@ -1,4 +1,5 @@
 #!/usr/bin/env python3
+# SPDX-License-Identifier: CC0-1.0
 """Reads answers to deepest.calls on standard input and judges them as README.md says: which of the shortest lists is given is left open."""
 
 import os
@@ -91,7 +92,10 @@ def judge(call, due, told, lists):
     require(len(words) == room, f"the slice has {room} words")
     words, rest = words[:count], words[count:]
     require(all(word == STALE for word in rest), "the words after the list have to stay")
-    require(lists.setdefault(asked, words) == words, f"an equal call, of height {asked}, got another list")
+    if asked in lists:
+        require(lists[asked] == words, f"an equal call, of height {asked}, got another list")
+        return
+    lists[asked] = words
     tree = None
     for run in zip(words[::2], words[1::2]):
         require(run[0] <= run[1], f"{run[0]} .. {run[1]} is no run")
@@ -104,17 +108,22 @@ def lines(name):
         return file.read().splitlines()
 
 
-calls, answers, given = lines("deepest.calls"), lines("deepest.answers"), sys.stdin.read().splitlines()
-lists, wrong = {}, 0
-for number, (call, due) in enumerate(zip(calls, answers)):
-    try:
-        require(number < len(given), "there is no answer")
-        judge(call, due, given[number], lists)
-    except Wrong as why:
+def main():
+    calls, answers, given = lines("deepest.calls"), lines("deepest.answers"), sys.stdin.read().splitlines()
+    lists, wrong = {}, 0
+    for number, (call, due) in enumerate(zip(calls, answers)):
+        try:
+            require(number < len(given), "there is no answer")
+            judge(call, due, given[number], lists)
+        except Wrong as why:
+            wrong += 1
+            print(f"line {number + 1}, {call}: {why}")
+    if len(given) > len(calls):
         wrong += 1
-        print(f"line {number + 1}, {call}: {why}")
-if len(given) > len(calls):
-    wrong += 1
-    print("there are more answers than calls")
-print(f"{len(calls)} answers judged, {wrong} wrong")
-sys.exit(wrong > 0)
+        print("there are more answers than calls")
+    print(f"{len(calls)} answers judged, {wrong} wrong")
+    return wrong > 0
+
+
+if __name__ == "__main__":
+    sys.exit(main())

@@ -1,6 +1,11 @@
 #!/usr/bin/env python3
+# SPDX-License-Identifier: CC0-1.0
 """Reads a list of calls on standard input and prints the answers, as README.md says. A world's set is a plain list of runs."""
 
+import bisect
+import functools
+import itertools
+import re
 import sys
 
 # The sets: lists of runs (start, end), both held, in order and with a gap between any two.
@@ -8,6 +13,7 @@ import sys
 LAST = 2**64 - 1
 SIDE = 65536  # rows and columns of the plane of cells; the cell at a row and a column is row * SIDE + column
 STALE = 0xEEEEEEEEEEEEEEEE  # what each word of a lent slice is
+DIGITS = b"01" + bytes(254)  # of a byte that is 0 or 1 its digit
 
 
 class Refused(Exception):
@@ -21,7 +27,9 @@ def require(condition, refusal):
 
 def held(runs, first, last):
     """The runs clipped to first .. last."""
-    return [(max(s, first), min(e, last)) for s, e in runs if max(s, first) <= min(e, last)]
+    i, j = bisect.bisect_left(runs, (first,)), bisect.bisect_left(runs, (last + 1,))
+    i -= i > 0 and runs[i - 1][1] >= first
+    return [(max(s, first), min(e, last)) for s, e in runs[i:j]] if first <= last else []
 
 
 def free(runs, first, last):
@@ -85,7 +93,7 @@ class Store:
     worlds = None  # not sound
 
     def words(self, capacity):
-        self.capacity, self.worlds = capacity, None
+        self.capacity, self.worlds = capacity if capacity <= SIDE else 0, None
 
     def spoil(self):
         self.worlds = None
@@ -106,12 +114,17 @@ class Store:
 
     def why_full(self, room, bounds):
         require(self.capacity, 1)
-        listed = []
-        for lower, upper in zip(bounds[::2], bounds[1::2]):
-            listed.append(between(*lower, *upper))
-            runs = union([run for run in listed if run[0] <= run[1]])
+        runs, firsts = [], []  # what is held, and of each run the place of the first range in it
+        for place, (lower, upper) in enumerate(zip(bounds[::2], bounds[1::2])):
+            first, last = between(*lower, *upper)
+            if first <= last:
+                i, j = bisect.bisect_left(runs, (first,)), bisect.bisect_left(runs, (last + 2,))
+                i -= i > 0 and runs[i - 1][1] + 1 >= first
+                joined = [(first, last)] + runs[i:j]
+                runs[i:j] = [(min(run[0] for run in joined), max(run[1] for run in joined))]
+                firsts[i:j] = [min([place] + firsts[i:j])]
             if len(runs) > self.capacity:
-                return worded(room, sorted(next(i for i, run in enumerate(listed) if start <= run[0] <= run[1] <= end) for start, end in runs))
+                return worded(room, sorted(firsts))
         raise Refused(16)
 
 
@@ -234,14 +247,17 @@ class World:
         require(len(bits) == (length + 7) // 8, 6)
         number = int.from_bytes(bits, "little")
         require(number >> length == 0, 10)
-        new = union([(first + i, first + i) for i in range(length) if number >> i & 1])
+        new = [(first + ones.start(), first + ones.end() - 1) for ones in re.finditer("1+", f"{number:b}"[::-1])]
         old = held(self.runs, first, last)
         self.keep(union(outside(self.runs, first, last) + new))
         return size(without(old, new)) + size(without(new, old))
 
     def write_map(self, base, length, room):
         first, last = window(base, length)
-        number = sum((2 ** (end - start + 1) - 1) << start - first for start, end in held(self.runs, first, last))
+        bits = bytearray(length)  # a byte for each position
+        for start, end in held(self.runs, first, last):
+            bits[start - first : end - first + 1] = b"\1" * (end - start + 1)
+        number = int(bytes(bits[::-1]).translate(DIGITS), 2)
         return fill_front(room, number.to_bytes((length + 7) // 8, "little"))
 
     def set_rect(self, top, left, bottom, right, value):
@@ -254,28 +270,41 @@ class World:
 
     def survey(self, row, column, k, room):
         require(k <= 8 and max(row, column) + 2**k <= SIDE, 15)
-        return worded(room, self.pieces(row, column, 2**k, 2**k))
-
-    def pieces(self, row, column, high, wide):
-        count = self.count_rect(row, column, row + high - 1, column + wide - 1)
-        if count in (0, high * wide):
-            return [row, column, high, wide, int(count > 0)]
-        if high == wide:  # a square is halved by column, and what is left of one by row
-            wide //= 2
-            return self.pieces(row, column, high, wide) + self.pieces(row, column + wide, high, wide)
-        high //= 2
-        return self.pieces(row, column, high, wide) + self.pieces(row + high, column, high, wide)
+        side = 2**k
+        sums = [[0] * (side + 1)]  # how many cells above and to the left of a corner are held
+        for first in range(row * SIDE + column, (row + side) * SIDE, SIDE):
+            cells = [0] * side
+            for start, end in held(self.runs, first, first + side - 1):
+                cells[start - first : end - first + 1] = [1] * (end - start + 1)
+            sums.append([a + b for a, b in zip(sums[-1], itertools.accumulate(cells, initial=0))])
+        parts = pieces(sums, 0, 0, side, side)
+        return worded(room, [word for y, x, *rest in parts for word in (row + y, column + x, *rest)])
 
     def fill(self, base, length):
         return (1000 * size(held(self.runs, *window(base, length))) + length - 1) // length
 
 
 def rows(top, left, bottom, right):
-    """The rows of a rectangle, each as a run."""
+    """The rows of a rectangle, each as a run, and those of full width as one."""
     require(top <= bottom < SIDE and left <= right < SIDE, 15)
+    if (left, right) == (0, SIDE - 1):
+        return [(top * SIDE, bottom * SIDE + right)]
     return [(row * SIDE + left, row * SIDE + right) for row in range(top, bottom + 1)]
 
 
+def pieces(sums, row, column, high, wide):
+    """The pieces of a part of a square."""
+    count = sums[row + high][column + wide] - sums[row + high][column] - sums[row][column + wide] + sums[row][column]
+    if count in (0, high * wide):
+        return [(row, column, high, wide, int(count > 0))]
+    if high == wide:  # a square is halved by column, and what is left of one by row
+        wide //= 2
+        return pieces(sums, row, column, high, wide) + pieces(sums, row, column + wide, high, wide)
+    high //= 2
+    return pieces(sums, row, column, high, wide) + pieces(sums, row + high, column, high, wide)
+
+
+@functools.cache
 def fewest(height):
     """How many runs a tree of the height has at least."""
     return fewest(height - 1) + fewest(height - 2) + 1 if height > 0 else 0
@@ -314,9 +343,11 @@ def runs_told(written):
 
 def fates(runs, outcome):
     """What became of each run: 0 dropped, 1 joined, 2 kept."""
-    within = [[start for start, end in runs if first <= start <= end <= last] for first, last in outcome]
-    joined = {start for starts in within if len(starts) > 1 for start in starts}
-    return bytes(0 if start > end else 1 if start in joined else 2 for start, end in runs)
+    where = [bisect.bisect_left(outcome, (start + 1,)) if start <= end else 0 for start, end in runs]
+    within = [0] * (len(outcome) + 1)
+    for place in where:
+        within[place] += 1
+    return bytes(0 if place == 0 else 1 if within[place] > 1 else 2 for place in where)
 
 
 def convert(written, room):
@@ -342,14 +373,63 @@ def fill_front(room, due):
 def worded(room, due):
     """The same of words."""
     require(len(due) <= room, 2)
-    return (len(due), *due, *[STALE] * (room - len(due)))
+    return len(due), due + [STALE] * (room - len(due))
+
+
+# Long arguments by their patterns, and long answers by their digests.
+
+
+def runs_by(pattern):
+    runs = []
+    for part in pattern.split(","):
+        start, step, length, count, turn = map(int, part.split(":"))
+        firsts = [start + step * (i * turn % count) & LAST for i in range(count)]
+        runs += [(first, first + length - 1 & LAST) for first in firsts]
+    return runs
+
+
+def random_bytes(state, count):
+    some = bytearray()
+    for _ in range(count):
+        state ^= state << 13 & LAST
+        state ^= state >> 7
+        state ^= state << 17 & LAST
+        some.append(state & 255)
+    return bytes(some)
+
+
+def bytes_by(pattern):
+    kind, _, rest = pattern.partition("=")
+    if kind in ("rows", "columns"):
+        return encoded(runs_by(rest), kind == "columns")
+    if kind in ("random", "same"):
+        a, count = map(int, rest.split(":"))
+        return random_bytes(a, count) if kind == "random" else bytes([a]) * count
+    return bytes.fromhex(pattern.strip("-"))
+
+
+def digest(some):
+    state = 14695981039346656037
+    for byte in some:
+        state = (state ^ byte) * 1099511628211 & LAST
+    return f"{state:016x}"
+
+
+def shown(value, whole=False):
+    """A value of an answer: bytes and words in full only where they are few, or where the whole of them is asked for."""
+    if isinstance(value, bytes):
+        return f"#{len(value)}:{digest(value)}" if len(value) > 1029 else value.hex() or "-"
+    if isinstance(value, list):
+        short = whole or len(value) <= 128
+        return " ".join(map(str, value)) if short else f"#{len(value)}:{digest(b''.join(word.to_bytes(8, 'big') for word in value))}"
+    return str(value)
 
 
 # The reader. Of each call its arguments: s a store, p the place of a world, n a number, r both bounds of a range, w a word, b bytes, l a list of
-# pairs. Of those that answer more than "done", how the answer begins.
+# pairs, j a list of bounds. Of those that answer more than "done", how the answer begins.
 
 ARGUMENTS = {
-    "words": "sn", "spoil": "s", "new": "sl", "deepest": "snn", "why_full": "snl", "set": "prn", "flip": "pr", "get": "pn", "run_at": "pn",
+    "words": "sn", "spoil": "s", "new": "sl", "deepest": "snn", "why_full": "snj", "set": "prn", "flip": "pr", "get": "pn", "run_at": "pn",
     "find": "prn", "tally": "prn", "select": "prnn", "gap": "prn", "ranges": "prn", "draw_front": "pnnn", "draw_back": "pnnn", "shift": "pnn",
     "shifted": "ppnn", "combine": "pwpp", "not": "pp", "eq": "pp", "load": "pb", "mend": "pbnn", "build": "pl", "write_set": "pnn", "read_map": "pnnb",
     "write_map": "pnnn", "clear_map": "nnb", "convert": "bn", "fill": "pnn", "set_strict": "prn", "flip_strict": "pr", "tally_strict": "prn",
@@ -389,8 +469,11 @@ def arguments(kinds, words, stores):
             yield 0 if word == "u" else int(word[1:]) + (word[0] == "e")
             yield LAST if upper == "u" else int(upper[1:]) - (upper[0] == "e")
         elif kind == "b":
-            yield bytes.fromhex(word.strip("-"))
-        elif kind == "l":
+            yield b"".join(map(bytes_by, word.split("+")))
+        elif kind in "lj" and word[0] == "*":
+            runs = runs_by(word[1:])
+            yield runs if kind == "l" else [(1, end) for run in runs for end in run]
+        elif kind in "lj":
             yield [(int(next(words)), int(next(words))) for _ in range(int(word))]
         else:
             yield int(word) if kind == "n" else word
@@ -409,7 +492,7 @@ def answer(line, stores):
     values = result if isinstance(result, tuple) else () if result is None else (result,)
     begin = ANSWERS.get(name, "done")
     begin = {("at", 0): "none", ("drawn", 3): "end"}.get((begin, len(values)), begin)
-    return " ".join([begin, *(v.hex() or "-" if isinstance(v, bytes) else str(v) for v in values)])
+    return " ".join([begin, *(word for word in (shown(v, name == "deepest") for v in values) if word)])
 
 
 # Frames. Of each number that names a call what it takes of a record: r both bounds, x and y their values, q the four words of both as corners, v the
@@ -450,19 +533,30 @@ def play(store, number, lower, x, upper, y, value, k, world):
 
 def frame(lines, store, count, room):
     """The answers to a frame and to its records, which are the next lines."""
-    records = [[int(word) for word in next(lines).split()[1:]] for _ in range(count)]
     try:
         sound([store])
         require(count <= room, 2)
     except Refused as refused:
-        return [f"refused {refused}"] + ["-"] * count
-    return ["done"] + [" ".join(["record", *map(str, play(store, *record))]) for record in records]
+        yield f"refused {refused}"
+        for _ in range(count):
+            next(lines)
+            yield "-"
+        return
+    yield "done"
+    for _ in range(count):
+        yield " ".join(["record", *map(str, play(store, *map(int, next(lines).split()[1:])))])
 
 
-four = [Store() for _ in range(4)]
-for call in sys.stdin:
-    if call.startswith("frame "):
-        at, *numbers = map(int, call.split()[1:])
-        print(*frame(sys.stdin, four[at], *numbers), sep="\n")
-    else:
-        print(answer(call, four))
+def answers(lines, stores):
+    """The answer to each line in turn; a call is made when its answer is asked for."""
+    for line in lines:
+        if line.startswith("frame "):
+            at, *numbers = map(int, line.split()[1:])
+            yield from frame(lines, stores[at], *numbers)
+        else:
+            yield answer(line, stores)
+
+
+if __name__ == "__main__":
+    for told in answers(iter(sys.stdin), [Store() for _ in range(4)]):
+        print(told)

@@ -234,7 +234,8 @@ typedef struct {
     uint64_t position;
 } vizturel_found;
 
-/* a listing: the runs of the value among first .. last; it has ended where first is above last */
+/* a listing: the runs of the value among first .. last, in the world as it is when one is drawn; the ended one, and that of a range which is empty or
+ * reversed, has first 1 and last 0. The value comes back as 0 or 1 */
 typedef struct {
     uint64_t refusal;
     uint64_t first;
@@ -242,7 +243,9 @@ typedef struct {
     uint64_t value;
 } vizturel_listed;
 
-/* a run start .. end, where found is 1, and the ends of what is left of the listing; zeros where the draw was refused: then the listing stays */
+/* a run start .. end, where found is 1, and the ends of what is left of the listing: from end + 1, or up to start - 1, and first 1 and last 0 where that
+ * is nothing, or where no run was found. So a listing whose last run was drawn may be found without a run by one draw more, and has ended then. Zeros
+ * where the draw was refused: then the listing stays */
 typedef struct {
     uint64_t refusal;
     uint64_t found;
@@ -423,7 +426,8 @@ vizturel_numbered vizturel_clear_map(uint64_t base, uint64_t length, uint8_t *ma
 /* Writes the shortest list of runs that makes a tree of the height h, from 1 to VIZTUREL_HEIGHT, if they are set one by one in that order into an
  * empty world: start and end of each run, two words each, to the front of out; the rest of out stays. Heights 1 to 5 take 1, 2, 4, 7 and 12 runs,
  * each height one more than the two before it together, and height 22 takes 46,367. No world of a sound pool has so high a tree with fewer nodes;
- * one that was shifted may have one run less than nodes. Which list it is follows from h alone. The pool is asked for its length, so for its C, and
+ * one that was shifted may have one run less than nodes. Which list it is follows from h alone; another implementation may give another one, as short, so
+ * builds that compare answers leave this call out or agree on the list. The pool is asked for its length, so for its C, and
  * for nothing else: it need not be sound, and every word of it stays. 2 * C words are always enough for out. Refused with 1, then 13, then 8 where
  * the list has more runs than C, then 2; never with 7 or 12. */
 vizturel_worded vizturel_deepest(const uint64_t *words, size_t count, uint64_t h, uint64_t *out, size_t out_count);
@@ -495,7 +499,7 @@ typedef struct {
  *   get                  number, 0 or 1
  *   run_at               the run number .. end
  *   find, select, gap    position number, where found is 1
- *   ranges               a listing: first, last and value
+ *   ranges               a listing: first, last and value, which is 0 or 1; the ended one is first 1, last 0
  *   draw_front, _back    the run number .. end, where found is 1, and the listing that is left
  *   empty, flip, shift   nothing
  *   set_strict, flip_strict and tally_strict tell what set, flip and tally do */

@@ -1,4 +1,4 @@
-//! Writes the lists of the conformance pack, each as NAME.calls and NAME.answers, into the folder that is given.
+//! Writes the lists of the conformance pack, each as NAME.calls and NAME.answers, into the folder that is given and its folders.
 
 use std::path::{Path, PathBuf};
 use std::process::ExitCode;
@@ -7,6 +7,8 @@ use std::{env, fs, io};
 use vizturel::conformance::{List, lists};
 
 fn put(folder: &Path, list: &List) -> io::Result<()> {
+    let folder = folder.join(list.shelf.folder());
+    fs::create_dir_all(&folder)?;
     fs::write(folder.join(list.name).with_extension("calls"), &list.calls)?;
     fs::write(folder.join(list.name).with_extension("answers"), &list.answers)
 }
@@ -21,7 +23,8 @@ fn main() -> ExitCode {
             eprintln!("{}: {why}", folder.display());
             return ExitCode::FAILURE;
         }
-        println!("{}: {} lines", list.name, list.calls.lines().count());
+        let path = Path::new(list.shelf.folder()).join(list.name);
+        println!("{}: {} lines", path.display(), list.calls.lines().count());
     }
     ExitCode::SUCCESS
 }

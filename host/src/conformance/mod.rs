@@ -8,7 +8,7 @@ use crate::differential::calls::{Call, Place, Told};
 use crate::differential::chance::{self, Kind};
 use crate::differential::expected::{Expected, Store};
 use crate::differential::random::Random;
-use crate::differential::records;
+use crate::differential::records::{self, Record};
 use crate::differential::reference::{Limit, Run};
 
 /// How many stores a list has.
@@ -33,27 +33,87 @@ const MAP: usize = 1024;
 /// The most calls of a frame, and answers that there is room for.
 const CALLS: usize = 64;
 
+// What a list's lines keep, beside the limits of every list.
+struct Limits {
+    capacity: usize,
+    runs: usize,
+    slice: usize,
+    report: usize,
+    room: usize,
+    bounds: usize,
+    map: usize,
+}
+
+const SMALL: Limits =
+    Limits { capacity: CAPACITY, runs: CAPACITY, slice: SLICE, report: REPORT, room: ROOM, bounds: BOUNDS, map: MAP };
+
+/// The most runs that a line of a large list tells: twice those of the largest pool.
+const MOST_RUNS: usize = 2 * 65_536;
+
+const LARGE: Limits = Limits {
+    // One more than a pool may have.
+    capacity: 65_537,
+    runs: MOST_RUNS,
+    slice: 5 + 16 * MOST_RUNS,
+    report: 2 * MOST_RUNS,
+    // Those of the largest survey, and ten more.
+    room: 5 * (1 << 16) + 10,
+    bounds: 2 * MOST_RUNS,
+    map: 65_544,
+};
+
+/// Where a list stands.
+#[derive(Clone, Copy, PartialEq)]
+pub enum Shelf {
+    /// In the pack's folder.
+    Small,
+    /// In its folder `large`, where long arguments are told by patterns, and long answers by digests.
+    Large,
+    /// In its folder `reserved`: what this version answers to numbers that a later one may give a meaning. No part of conformance.
+    Reserved,
+}
+
+impl Shelf {
+    /// The folder, in that of the pack.
+    pub fn folder(self) -> &'static str {
+        match self {
+            Shelf::Small => "",
+            Shelf::Large => "large",
+            Shelf::Reserved => "reserved",
+        }
+    }
+
+    fn limits(self) -> &'static Limits {
+        if self == Shelf::Large { &LARGE } else { &SMALL }
+    }
+}
+
 /// A list of calls, and their answers.
 pub struct List {
     pub name: &'static str,
+    pub shelf: Shelf,
     pub calls: String,
     pub answers: String,
     expected: Expected,
 }
 
 // Whether a call keeps the format's limits.
-fn fits(call: &Call) -> bool {
+fn fits(call: &Call, limits: &Limits) -> bool {
     match call {
-        Call::Lend { words, .. } => words.len() <= 8 * (CAPACITY + 49),
+        Call::Lend { words, .. } => words.len() <= 8 * (limits.capacity + 49),
         Call::New { limits, .. } => limits.len() % 2 == 0 && limits.len() <= 2 * WORLDS,
-        Call::Load { bytes, .. } => bytes.len() <= SLICE,
-        Call::Build { runs, .. } => runs.len() <= CAPACITY,
-        Call::ReadMap { map, .. } | Call::ClearMap { map, .. } => map.len() <= MAP,
-        Call::Convert { bytes, room } => bytes.len() <= SLICE && *room <= SLICE,
-        Call::Mend { bytes, rooms: [room, report], .. } => bytes.len() <= SLICE && *room <= SLICE && *report <= REPORT,
-        Call::Write { room, .. } | Call::WriteMap { room, .. } => *room <= SLICE,
-        Call::Deepest { room, .. } | Call::Survey { room, .. } => *room <= ROOM,
-        Call::WhyFull { ranges, room, .. } => ranges.len() % 2 == 0 && ranges.len() <= 2 * BOUNDS && *room <= ROOM,
+        Call::Load { bytes, .. } => bytes.len() <= limits.slice,
+        Call::Build { runs, .. } => runs.len() <= limits.runs,
+        Call::ReadMap { map, .. } | Call::ClearMap { map, .. } => map.len() <= limits.map,
+        Call::Convert { bytes, room } => bytes.len() <= limits.slice && *room <= limits.slice,
+        Call::Mend { bytes, rooms: [room, report], .. } => {
+            bytes.len() <= limits.slice && *room <= limits.slice && *report <= limits.report
+        }
+        Call::Write { room, .. } | Call::WriteMap { room, .. } => *room <= limits.slice,
+        Call::Deepest { room, .. } | Call::Survey { room, .. } => *room <= limits.room,
+        Call::WhyFull { ranges, room, .. } => {
+            ranges.len() % 2 == 0 && ranges.len() <= 2 * limits.bounds && *room <= limits.room
+        }
         Call::Frame { calls, room, .. } => {
             [calls.len(), *room].iter().all(|n| n % records::WORDS == 0 && n / records::WORDS <= CALLS)
         }
@@ -61,9 +121,46 @@ fn fits(call: &Call) -> bool {
     }
 }
 
+// A record without reserved numbers, of the same meaning: of what its call reads, kinds of bounds above 2 are 0, a truth is 0 or 1, and a number above
+// the last one is that of a get.
+fn plain_record(mut record: Record) -> Record {
+    let bounds = [2, 3, 6, 8, 10, 14, 15, 16, 17, 18];
+    let truths = [2, 4, 6, 8, 10, 11, 12, 15, 16, 18, 19];
+    if record[0] > records::LAST {
+        record[0] = 0;
+    }
+    if bounds.contains(&record[0]) {
+        for kind in [1, 3] {
+            record[kind] = plain_kind(record[kind]);
+        }
+    }
+    if truths.contains(&record[0]) {
+        record[5] = record[5].min(1);
+    }
+    record
+}
+
+fn plain_kind(kind: u64) -> u64 {
+    if kind > 2 { 0 } else { kind }
+}
+
+// A call without reserved numbers, of the same meaning.
+fn plain(call: &Call) -> Call {
+    let mut call = call.clone();
+    match &mut call {
+        Call::Write { edition, .. } if *edition != 2 => *edition = 1,
+        Call::WhyFull { ranges, .. } => ranges.iter_mut().step_by(2).for_each(|kind| *kind = plain_kind(*kind)),
+        Call::Frame { calls, .. } => {
+            calls.as_chunks_mut().0.iter_mut().for_each(|record| *record = plain_record(*record));
+        }
+        _ => {}
+    }
+    call
+}
+
 // Whether a call by chance may go into a list: not if its answer is left open.
 fn may_be(call: &Call) -> bool {
-    fits(call) && !matches!(call, Call::Deepest { .. })
+    fits(call, &SMALL) && !matches!(call, Call::Deepest { .. })
 }
 
 fn push(lines: &mut String, more: &str) {
@@ -76,16 +173,27 @@ fn push(lines: &mut String, more: &str) {
 
 impl List {
     fn new(name: &'static str) -> List {
-        let expected = Expected { stores: vec![Store::of(&[]); STORES] };
-        List { name, calls: String::new(), answers: String::new(), expected }
+        List::on(Shelf::Small, name)
     }
 
-    // Adds a call.
+    fn on(shelf: Shelf, name: &'static str) -> List {
+        let expected = Expected { stores: vec![Store::of(&[]); STORES] };
+        List { name, shelf, calls: String::new(), answers: String::new(), expected }
+    }
+
+    // Adds a call, without reserved numbers but on their shelf.
     fn call(&mut self, call: &Call) -> Told {
-        assert!(fits(call), "beyond the limits: {call:?}");
+        let call = if self.shelf == Shelf::Reserved { call.clone() } else { plain(call) };
+        self.ask(&text::write(&call), &call)
+    }
+
+    // Adds a call as it is written there.
+    fn ask(&mut self, written: &str, call: &Call) -> Told {
+        assert!(self.shelf == Shelf::Reserved || plain(call) == *call, "reserved numbers: {written}");
+        assert!(fits(call, self.shelf.limits()), "beyond the limits: {written}");
         let told = self.expected.answer(call);
-        push(&mut self.calls, &text::write(call));
-        push(&mut self.answers, &text::tell(call, &told));
+        push(&mut self.calls, written);
+        push(&mut self.answers, &text::keep(call, &told));
         told
     }
 
@@ -95,7 +203,11 @@ impl List {
         let mut lines = lines.peekable();
         while let Some(&line) = lines.peek() {
             let call = text::read(&mut lines).unwrap_or_else(|| panic!("no call: {line}"));
-            self.call(&call);
+            match call {
+                Call::Frame { .. } => self.call(&call),
+                // A pattern stays one.
+                _ => self.ask(line, &call),
+            };
         }
     }
 

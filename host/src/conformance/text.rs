@@ -5,7 +5,8 @@ use std::str::{FromStr, Split};
 
 use crate::differential::calls::{Call, Place, Range, SPARE, Told};
 use crate::differential::records::{self, Record};
-use crate::{Listing, Operation, Rect, Tally};
+use crate::differential::reference::{self, Run};
+use crate::{Edition, Listing, Operation, Rect, Tally};
 
 struct Words<'a>(Split<'a, char>);
 
@@ -25,8 +26,31 @@ impl<'a> Words<'a> {
 
     // Pairs of numbers after how many there are.
     fn pairs(&mut self) -> Option<Vec<[u64; 2]>> {
-        let count: usize = self.number()?;
+        let word = self.word()?;
+        self.pairs_after(word)
+    }
+
+    fn pairs_after(&mut self, count: &str) -> Option<Vec<[u64; 2]>> {
+        let count: usize = count.parse().ok()?;
         (0..count).map(|_| Some([self.number()?, self.number()?])).collect()
+    }
+
+    // The same of runs, or a pattern of them.
+    fn runs(&mut self) -> Option<Vec<Run>> {
+        let word = self.word()?;
+        match word.strip_prefix('*') {
+            Some(pattern) => runs_by(pattern),
+            None => self.pairs_after(word),
+        }
+    }
+
+    // The same of bounds, each its kind and its value, or a pattern of ranges, whose bounds include their values.
+    fn bounds(&mut self) -> Option<Vec<[u64; 2]>> {
+        let word = self.word()?;
+        match word.strip_prefix('*') {
+            Some(pattern) => Some(runs_by(pattern)?.into_iter().flatten().map(|end| [1, end]).collect()),
+            None => self.pairs_after(word),
+        }
     }
 
     fn truth(&mut self) -> Option<bool> {
@@ -52,12 +76,8 @@ impl<'a> Words<'a> {
     }
 
     fn bytes(&mut self) -> Option<Vec<u8>> {
-        let digits = self.word()?;
-        if digits == "-" {
-            return Some(Vec::new());
-        }
-        let bytes = 0..digits.len().div_ceil(2);
-        bytes.map(|i| u8::from_str_radix(digits.get(2 * i..2 * i + 2)?, 16).ok()).collect()
+        let parts: Vec<Vec<u8>> = self.word()?.split('+').map(bytes_by).collect::<Option<_>>()?;
+        Some(parts.concat())
     }
 
     fn record(&mut self) -> Option<Record> {
@@ -75,6 +95,54 @@ impl<'a> Words<'a> {
     }
 }
 
+// Numbers with colons between.
+fn numbers<const N: usize>(word: &str) -> Option<[u64; N]> {
+    let all: Vec<u64> = word.split(':').map(|x| x.parse().ok()).collect::<Option<_>>()?;
+    all.try_into().ok()
+}
+
+// Runs by their pattern, part by part.
+pub(super) fn runs_by(pattern: &str) -> Option<Vec<Run>> {
+    let mut runs = Vec::new();
+    for part in pattern.split(',') {
+        let [start, step, length, count, turn] = numbers(part)?;
+        for i in 0..count {
+            let place = u128::from(i) * u128::from(turn) % u128::from(count);
+            let first = start.wrapping_add(step.wrapping_mul(place as u64));
+            runs.push([first, first.wrapping_add(length).wrapping_sub(1)]);
+        }
+    }
+    Some(runs)
+}
+
+// A part of some bytes: digits, or a pattern.
+fn bytes_by(part: &str) -> Option<Vec<u8>> {
+    let Some((kind, rest)) = part.split_once('=') else {
+        let digits = if part == "-" { "" } else { part };
+        let bytes = 0..digits.len().div_ceil(2);
+        return bytes.map(|i| u8::from_str_radix(digits.get(2 * i..2 * i + 2)?, 16).ok()).collect();
+    };
+    match kind {
+        "rows" => Some(reference::encode(Edition::Rows, &runs_by(rest)?)),
+        "columns" => Some(reference::encode(Edition::Columns, &runs_by(rest)?)),
+        "same" => {
+            let [byte, count] = numbers(rest)?;
+            Some(vec![byte.try_into().ok()?; count as usize])
+        }
+        "random" => {
+            let [mut state, count] = numbers(rest)?;
+            let mut next = || {
+                state ^= state << 13;
+                state ^= state >> 7;
+                state ^= state << 17;
+                state as u8
+            };
+            Some((0..count).map(|_| next()).collect())
+        }
+        _ => None,
+    }
+}
+
 const OPERATIONS: [(&str, Operation); 3] = [("and", Operation::And), ("or", Operation::Or), ("xor", Operation::Xor)];
 
 /// The call of the next line, and, of a frame, of the lines of its records after it; none where they are not one.
@@ -89,7 +157,7 @@ pub fn read<'a>(lines: &mut impl Iterator<Item = &'a str>) -> Option<Call> {
         "deepest" => Call::Deepest { at: w.number()?, height: w.number()?, room: w.number()? },
         "why_full" => {
             let (at, room) = (w.number()?, w.number()?);
-            Call::WhyFull { at, ranges: w.pairs()?.into_flattened(), room }
+            Call::WhyFull { at, ranges: w.bounds()?.into_flattened(), room }
         }
         "frame" => {
             let (at, count, room): (usize, usize, usize) = (w.number()?, w.number()?, w.number()?);
@@ -129,7 +197,7 @@ fn at_world(name: &str, at: Place, w: &mut Words) -> Option<Call> {
         "eq" => Call::Equal { a: at, b: w.place()? },
         "load" => Call::Load { to: at, bytes: w.bytes()? },
         "mend" => Call::Mend { to: at, bytes: w.bytes()?, rooms: [w.number()?, w.number()?] },
-        "build" => Call::Build { to: at, runs: w.pairs()? },
+        "build" => Call::Build { to: at, runs: w.runs()? },
         "write_set" => Call::Write { at, edition: w.number()?, room: w.number()? },
         "read_map" => Call::ReadMap { at, base: w.number()?, n: w.number()?, map: w.bytes()? },
         "write_map" => Call::WriteMap { at, base: w.number()?, n: w.number()?, room: w.number()? },
@@ -151,6 +219,28 @@ fn bound(b: Bound<u64>) -> String {
 
 fn range((lower, upper): Range) -> String {
     format!("{} {}", bound(lower), bound(upper))
+}
+
+/// The most bytes, and the most words, that an answer tells in full: those of the lists whose lines a small reader takes.
+const IN_FULL: [usize; 2] = [super::SLICE, super::ROOM];
+
+// How many of them there are, and their digest: FNV-1a of 64 bits over bytes.
+fn digest(count: usize, bytes: impl Iterator<Item = u8>) -> String {
+    let turned = |state: u64, byte| (state ^ u64::from(byte)).wrapping_mul(0x0100_0000_01B3);
+    format!("#{count}:{:016x}", bytes.fold(0xCBF2_9CE4_8422_2325, turned))
+}
+
+// Bytes as they are told.
+fn told_bytes(bytes: &[u8]) -> String {
+    if bytes.len() <= IN_FULL[0] { digits(bytes) } else { digest(bytes.len(), bytes.iter().copied()) }
+}
+
+// Words as they are told, each after a space, or their digest.
+fn told_words(all: &[u64], in_full: bool) -> String {
+    if in_full || all.len() <= IN_FULL[1] {
+        return words(all);
+    }
+    format!(" {}", digest(all.len(), all.iter().flat_map(|word| word.to_be_bytes())))
 }
 
 /// Bytes as digits.
@@ -235,7 +325,16 @@ pub fn write(call: &Call) -> String {
     }
 }
 
-/// The line of the answer to a call; a frame has one more for each record.
+/// The line of the answer to a call as the pack keeps it: of a list for a height, too, only the digest where it is long.
+pub fn keep(call: &Call, told: &Told) -> String {
+    match told {
+        Told::Words(filled, all) => format!("worded {filled}{}", told_words(all, false)),
+        told => tell(call, told),
+    }
+}
+
+/// The line of the answer to a call; a frame has one more for each record. Bytes and words are told in full where they are few, and so is a list for
+/// a height, as any shortest one will do.
 pub fn tell(call: &Call, told: &Told) -> String {
     let due = if let Call::Frame { calls, .. } = call { calls.len() / records::WORDS } else { 0 };
     match told {
@@ -252,12 +351,14 @@ pub fn tell(call: &Call, told: &Told) -> String {
         Told::Drawn(Some(run), left) => format!("drawn {} {} {}", run.start(), run.end(), listing(*left)),
         Told::Drawn(None, left) => format!("end {}", listing(*left)),
         Told::Draws(made, _) => format!("listing {}", listing(*made)),
-        Told::Slice(filled, bytes) => format!("written {filled} {}", digits(bytes)),
+        Told::Slice(filled, bytes) => format!("written {filled} {}", told_bytes(bytes)),
         Told::Slices([(filled, bytes), (told, report)]) => {
-            format!("written {filled} {} {told} {}", digits(bytes), digits(report))
+            format!("written {filled} {} {told} {}", told_bytes(bytes), told_bytes(report))
         }
-        Told::Words(filled, all) => format!("worded {filled}{}", words(all)),
-        Told::Cleared(count, bytes) => format!("cleared {count} {}", digits(bytes)),
+        Told::Words(filled, all) => {
+            format!("worded {filled}{}", told_words(all, matches!(call, Call::Deepest { .. })))
+        }
+        Told::Cleared(count, bytes) => format!("cleared {count} {}", told_bytes(bytes)),
         Told::RefusedAndChanged(r) => format!("changed something, and refused {}", r.number()),
         Told::FormsDiffer(told) => format!("by words and by single bytes: {told:?}"),
     }

@@ -1,7 +1,6 @@
-//! Written sets of both editions: written, loaded and converted, and converted back; damaged ones, slices that are too short, and numbers
-//! that name no edition.
+//! Written sets of both editions: written, loaded and converted, and converted back; damaged ones, and slices that are too short.
 
-use super::{HALF, M};
+use super::M;
 use crate::conformance::{List, SLICE};
 use crate::differential::calls::{Call, Place};
 use crate::differential::chance;
@@ -47,17 +46,8 @@ pub fn list() -> List {
         list.show(at);
     }
     list.show(Place::first(0));
-    reserved(&mut list, at);
     full(&mut list, &mut random);
     list
-}
-
-// Numbers that name no edition: this version writes rows.
-fn reserved(list: &mut List, at: Place) {
-    list.build(at, &[[2, 3], [8, 9]]);
-    for edition in [0, 3, 4, 255, 256, 257, 258, 1 << 32, (1 << 32) + 2, HALF + 2, M - 1, M] {
-        list.call(&Call::Write { at, edition, room: 38 });
-    }
 }
 
 // A full world of the largest capacity of a list, whose bytes all differ from their neighbours'.

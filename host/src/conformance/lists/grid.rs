@@ -31,6 +31,8 @@ pub fn list() -> List {
     patches(&mut list);
     surveys(&mut list);
     histories(&mut list);
+    tall(&mut list);
+    most_pieces(&mut list);
     list
 }
 
@@ -280,4 +282,49 @@ fn histories(list: &mut List) {
     }
     // Four words are no room for a piece.
     list.call(&Call::Survey { at: HERE, row: 1, column: 1, k: 0, room: Piece::WORDS - 1 });
+}
+
+// Rectangles of many rows and of full width, where most rows lose or gain a run and few fit: runs are counted after the last row.
+fn tall(list: &mut List) {
+    for last in [SIDE - 2, SIDE - 1] {
+        list.store(0, 8, &[[0, SIDE * SIDE - 1]]);
+        for (row, columns) in [(3, [9, 20]), (200, [9, 20]), (500, [SIDE - 1, SIDE - 1])] {
+            list.call(&Call::SetRect { at: HERE, rect: Rect::new((row, columns[0]), (row, columns[1])), value: false });
+        }
+        list.call(&Call::SetRect { at: HERE, rect: Rect::new((1, 4), (700, last)), value: true });
+        list.say("tally 0/0 u u 1\ncount_rect 0/0 0 0 65535 65535\ncount_rect 0/0 3 0 500 65535");
+    }
+    // Full rows that reach a run, touch it, and do not; and freed ones.
+    for start in [2 * SIDE, 2 * SIDE - 1, 2 * SIDE + 1, SIDE, 0] {
+        for (top, bottom, value) in [(0, 1, true), (0, 1, false), (2, 9, true), (2, 9, false), (3, 65_535, true)] {
+            list.store(0, 1, &[[start, 2 * SIDE + 9]]);
+            list.call(&Call::SetRect { at: HERE, rect: Rect::new((top, 0), (bottom, SIDE - 1)), value });
+            list.show(HERE);
+        }
+    }
+    // As many rows as there is room for, each with a run, one row more, and all of them joined again.
+    for rows in [7, 8, 9, 255, 256, 257, 65_536] {
+        list.store(0, 8, &[]);
+        let narrow = Rect::new((0, 5), (rows - 1, 9));
+        list.call(&Call::SetRect { at: HERE, rect: narrow, value: true });
+        list.call(&Call::CountRect { at: HERE, rect: narrow });
+        list.store(0, 8, &[[0, SIDE * SIDE - 1]]);
+        list.call(&Call::SetRect { at: HERE, rect: narrow, value: false });
+        list.call(&Call::SetRect { at: HERE, rect: Rect::new((0, 0), (rows - 1, SIDE - 1)), value: false });
+        list.say("tally 0/0 u u 1");
+    }
+}
+
+// As many pieces as a line has room for, in slices of a word less and more than each piece takes.
+fn most_pieces(list: &mut List) {
+    list.store(0, 32, &[]);
+    let cells = [[0, 0], [2, 2], [4, 1], [6, 6], [1, 5], [7, 0], [100, 200], [40, 90]];
+    for [row, column] in cells {
+        list.call(&Call::SetRect { at: HERE, rect: Rect::cell(row, column), value: true });
+        for k in [1, 2, 3, 7, 8] {
+            for room in [114, 115, 119, 120, 124, 125, 126, ROOM] {
+                list.call(&Call::Survey { at: HERE, row: 0, column: 0, k, room });
+            }
+        }
+    }
 }

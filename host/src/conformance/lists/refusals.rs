@@ -10,7 +10,7 @@ use crate::differential::reference::{self, Run};
 const HERE: Place = Place::first(0);
 
 // Calls on world s, with two others.
-fn calls(s: &str, t: &str, u: &str) -> String {
+pub(super) fn calls(s: &str, t: &str, u: &str) -> String {
     format!(
         "set {s} i4 e6 1
         flip {s} i4 e6

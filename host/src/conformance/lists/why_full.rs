@@ -81,12 +81,12 @@ fn closely(list: &mut List, at: usize, capacity: usize, ranges: &[u64]) {
     list.call(&Call::WhyFull { at, ranges: [ranges, &[1, 100]].concat(), room: capacity + 1 });
 }
 
-// Two ranges with bounds of every kind, reserved ones among them, at both ends and in the middle: whether the second is a run more.
+// Two ranges with bounds of every kind, at both ends and in the middle: whether the second is a run more.
 fn bounds(list: &mut List) {
     list.say("words 2 1");
     for x in [0, 1, HALF, M - 1, M] {
-        for kind in [0, 1, 2, 3, M] {
-            for other in [0, 1, 2, 3] {
+        for kind in 0..=2 {
+            for other in 0..=2 {
                 for y in [x, x.wrapping_add(1), 4] {
                     let ranges = vec![1, 4, 1, 4, kind, x, other, y, 1, M - 3, 1, M - 3];
                     list.call(&Call::WhyFull { at: 2, ranges, room: 2 });
