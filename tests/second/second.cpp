@@ -14,7 +14,6 @@ using Bytes = vector<unsigned char>;
 
 const Number kTop = UINT64_MAX;  // the highest position
 const Number kSide = 65536;      // rows of the plane, and columns
-const Number kCapacities = 65536;
 const Number kWorlds = 16;
 const Number kHeights = 22;
 const Number kWindow = 524288;  // positions of the longest window

@@ -1,0 +1,426 @@
+#!/usr/bin/env python3
+"""Builds wrong builds of second.cpp, plays the lists of the conformance pack with each, and tells which the lists catch.
+
+A wrong build is one edit: by the rules below, or by hand (by_hand.py). The lists have to catch each by two lines at least, unless equivalent.txt says why it
+answers as the right one does. With --sample N only about N of them are built, chosen by their names. Works in target/second, with two builds at once.
+"""
+
+import argparse
+import concurrent.futures
+import hashlib
+import json
+import os
+import re
+import shutil
+import subprocess
+import sys
+import zlib
+
+import by_hand
+
+HERE = os.path.dirname(os.path.abspath(__file__))
+ROOT = os.path.join(HERE, "..", "..")
+PACK = os.path.join(ROOT, "conformance")
+WORK = os.path.join(ROOT, "target", "second")
+HEADERS = os.path.join(WORK, "headers.h")
+KNOWN = os.path.join(WORK, "outcomes.json")  # of earlier runs with the same lists
+COMPILER = shutil.which("clang++") or shutil.which("g++")
+SECONDS = 10  # how long a wrong build may play all lists, which takes the right one a tenth of one
+
+# what reads lines and writes answers is no part of a set's meaning, and is left as it is
+SPARED = {"Line", "main", "play", "answer", "store", "place", "text", "hex", "refused", "call_words", "kTop", "kLent", "kLentWord"}
+
+# which refusals a function decides about
+REFUSALS = {"no_pool": 1, "unsound": 7, "unopened": 12, "no_window": 6, "map_bytes": 6, "no_rect": 15, "disordered": 5, "fits": 8, "blamed": 16}
+# which calls a function that is none of its own answers
+CALLS = {"set_range": "set set_strict", "flip_range": "flip flip_strict", "tally_range": "tally tally_strict", "cells_of": "set_rect count_rect survey",
+         "no_rect": "set_rect count_rect", "moved": "shift shifted", "inverted": "not", "same": "eq", "listing": "ranges draw_front draw_back",
+         "misformed": "load mend convert", "told": "load mend convert", "place_of": "load mend convert write_set", "written_set": "write_set mend convert",
+         "outcome_of": "mend", "fates_of": "mend", "survey_of": "survey", "fewest": "deepest", "deepest_of": "deepest", "blamed": "why_full",
+         "no_window": "read_map clear_map write_map fill", "map_bytes": "read_map clear_map write_map", "recorded": "record", "disordered": "load build convert",
+         "kWorlds": "new", "kHeights": "deepest", "kWindow": "read_map clear_map write_map fill", "kSide": "set_rect count_rect survey",
+         "drawn": "draw_front draw_back", "left_over": "ranges draw_front draw_back", "lent": "write_set mend convert write_map",
+         "written": "write_set mend convert write_map", "worded": "deepest why_full survey", "number_and_runs": "tally tally_strict"}
+NAMES = """new deepest why_full set flip get run_at find tally set_strict flip_strict tally_strict select gap ranges draw_front draw_back shift shifted
+combine not eq load mend build write_set convert read_map clear_map write_map fill set_rect count_rect survey frame record empty spoil""".split()
+
+
+class Mutant:
+    def __init__(self, rule, function, old, new, text, calls=None, refusals=None, why=""):
+        self.rule, self.function, self.text, self.why = rule, function, text, why
+        self.key = f"{function}: {' '.join(old.split())} => {' '.join(new.split()) or 'nothing'}"
+        self.calls = calls if calls is not None else calls_of(function)
+        self.refusals = refusals if refusals is not None else refusals_of(function, old + " " + new)
+        self.name = hashlib.sha256(text.encode()).hexdigest()[:16]
+
+
+def calls_of(function):
+    name = function[5:] if function.startswith("call_") else function
+    return [name] if name in NAMES else CALLS.get(name, "").split()
+
+
+def refusals_of(function, edit):
+    """The refusals whose tests are edited."""
+    out = {int(n) for n in re.findall(r"refus(?:ed|al)\((\d+)\)", edit)}
+    if function in REFUSALS:
+        out.add(REFUSALS[function])
+    if function == "misformed":
+        out |= {3, 4} & ({int(n) for n in re.findall(r"return (\d)", edit)} or {3})
+    if "reversed" in edit:
+        out.add(14)
+    if "fits(" in edit:
+        out.add(8)
+    return sorted(out)
+
+
+def functions(lines):
+    """The name of the function, or of the constant, that each line is of; None for lines that are of none."""
+    out, name, inside_line = [], None, False
+    for line in lines:
+        if line == "struct Line {":
+            inside_line = True
+        start = re.match(r"(?:    )?[A-Za-z_:][\w:<>]* [&*]?(?:\w+::)?(\w+)\([^;]*\{(.*\})?$", line)
+        constant = re.match(r"const \w+ (k\w+)", line)
+        if constant:
+            out.append(constant[1])
+            continue
+        if start and not line.strip().startswith(("if", "for", "while", "return", "else", "switch")):
+            name = start[1]
+        out.append("Line" if inside_line else name)
+        if line in ("}", "    }", "};") or (start and start[2]):
+            name = None
+        if line == "};":
+            inside_line = False
+    return out
+
+
+# ---- rules: each gives what a line may become
+
+RELATIONS = {"<": "<=", "<=": "<", ">": ">=", ">=": ">", "==": "!=", "!=": "=="}
+
+
+def code(line):
+    """The line without its comment, as long as it holds one."""
+    return re.sub(r"\s*//.*", "", line)
+
+
+def replaced(line, match, text):
+    return line[:match.start()] + text + line[match.end():]
+
+
+def relation(line):
+    for m in re.finditer(r"(?<= )(<|<=|>|>=|==|!=)(?= )", line):
+        yield replaced(line, m, RELATIONS[m[0]])
+
+
+def logic(line):
+    for m in re.finditer(r"&&|\|\|", line):
+        yield replaced(line, m, "||" if m[0] == "&&" else "&&")
+
+
+def one(line):
+    for m in re.finditer(r" [+-] 1\b(?! <<)", line):
+        yield replaced(line, m, "")
+
+
+def plus(line):
+    for m in re.finditer(r"(?<= )[+-](?= )", line):
+        yield replaced(line, m, "-" if m[0] == "+" else "+")
+
+
+def constant(line):
+    if '"' in line or "push_back" in line and "cells" not in line or "Runs(1" in line or "256 *" in line:
+        return
+    for m in re.finditer(r"(?<![\w.])\d+(?![\w.])", line):
+        if line[:m.start()].endswith(("refused(", "refusal(")):
+            continue
+        yield replaced(line, m, str(int(m[0]) + 1))
+        if line.startswith("const"):
+            yield replaced(line, m, str(int(m[0]) - 1))
+
+
+def dropped(line):
+    text = line.strip()
+    if re.match(r"if \(.*;$", text) or re.match(r"case \d+: ", text) or re.match(r"(\w[\w.()*\[\]/ ]*|\*\w+) ([-+]?=) .*;$", text) and not re.match(
+            r"(const )?(Number|Runs?|bool|Count|Bytes|string|Place|Range|Rect|Answer|World|Store|Part|size_t|int|unsigned char|vector<\w+>|Operation|Bound)\b", text):
+        yield ""
+    elif re.match(r"(\w+\.push_back|add|\w+\.insert|runs_of\(p\)\.clear)\(.*;$", text) or re.match(r"\w+\+\+;$", text):
+        yield ""
+
+
+def condition(line):
+    """Drops an operand of the && or || of an if, an assignment or a return, where all of them are alike and none is in parentheses."""
+    m = re.match(r"(\s*if \()(.*)(\) (?:return|continue|break|\{).*)$", line) or re.match(r"(.* = |\s*return )(.*)(;)$", line)
+    if not m or "?" in m[2]:
+        return
+    for op, other in ((" || ", " && "), (" && ", " || ")):
+        parts = m[2].split(op)
+        if len(parts) > 1 and other not in m[2] and all(p.count("(") == p.count(")") for p in parts):
+            for i in range(len(parts)):
+                yield m[1] + op.join(parts[:i] + parts[i + 1:]) + m[3]
+
+
+def swapped_words(line):
+    if "line." in line or '"' in line:
+        return
+    for a, b in (("lesser(", "larger("), ("true", "false"), ("kAnd", "kOr"), ("kOr", "kXor"), (".first", ".last"), (".start", ".end"), ("row", "column")):
+        for old, new in ((a, b), (b, a)):
+            for m in re.finditer(r"(?<!\w)" + re.escape(old) if old[0] != "." else re.escape(old) + r"(?![\w(])", line):
+                yield replaced(line, m, new)
+
+
+def arguments(line):
+    for m in re.finditer(r"\b([a-z_]\w*)\(([^(),]+), ([^(),]+)\)", line):
+        if not re.match(r"\s*[A-Z]?\w+ ", line) or " = " in line or "return" in line or "for (" in line:
+            yield replaced(line, m, f"{m[1]}({m[3]}, {m[2]})")
+    for m in re.finditer(r"\{([^{},]+), ([^{},]+)\}", line):
+        yield replaced(line, m, "{" + f"{m[2]}, {m[1]}" + "}")
+
+
+def negation(line):
+    for m in re.finditer(r"!(?=value|held|unsound|a\.)|(?<=, )(?=value\b)|(?<=\()(?=value\))", line):
+        yield replaced(line, m, "" if m[0] else "!")
+
+
+def another_number(line):
+    for m in re.finditer(r"(?<=refused\()\d+|(?<=refusal\()\d+", line):
+        if m[0] in ("1", "7", "12"):  # so many tests of these are dropped and put in another order that a number more is nothing new
+            continue
+        yield replaced(line, m, {"8": "2", "2": "8", "6": "2", "10": "6", "14": "5", "15": "6", "9": "6", "5": "3", "11": "1",
+                                 "13": "8", "16": "2"}[m[0]])
+
+
+RULES = {"< for <=": relation, "&& for ||": logic, "without + 1 or - 1": one, "+ for -": plus, "a constant changed": constant, "a statement dropped": dropped,
+         "a condition dropped": condition, "a word for its partner": swapped_words, "arguments swapped": arguments, "a value negated": negation,
+         "another refusal": another_number}
+
+
+def by_rules(source):
+    lines = source.split("\n")
+    of = functions(lines)
+    for i, line in enumerate(lines):
+        name = of[i]
+        if name is None or name in SPARED or re.match(r"(?:    )?[\w:<>]+ [&*]?\w+\([^;]*\{$", line):
+            continue
+        bare = code(line)
+        for rule, make in RULES.items():
+            for new in make(bare):
+                yield Mutant(rule, name, line, new, "\n".join(lines[:i] + [new] + lines[i + 1:]))
+        # two refusals that follow each other, in the other order
+        if i + 1 < len(lines) and "return refus" in line and "return refus" in lines[i + 1] and line.strip().startswith("if") and lines[i + 1].strip().startswith("if"):
+            a, b = (re.findall(r"refused\((\w+)\)", x) for x in (line, lines[i + 1]))
+            if a != b:
+                yield Mutant("two refusals in the other order", name, line + lines[i + 1], lines[i + 1] + line,
+                             "\n".join(lines[:i] + [lines[i + 1], line] + lines[i + 2:]))
+        # 12 before 7, or before 1, of a call that tests it later
+        if re.match(r"        if \(unsound\(\*p\.store\)\) return refused\(7\);", line):
+            early = "        if (unopened(p)) return refused(12);"
+            yield Mutant("12 before 7", name, line, early + line, "\n".join(lines[:i] + [early] + lines[i:]))
+        # 8 by something else, in one call
+        m = re.search(r"!fits\(p, ([\w.]+\(\))\)", line)
+        if m:
+            for what, wrong in by_hand.ROOM.items():
+                new = line.replace(m[0], "!" + re.sub(r"\bN\b", m[1], wrong))
+                yield Mutant("8 by something else: " + what, name, line, new, "\n".join(lines[:i] + [new] + lines[i + 1:]), refusals=[8])
+
+
+def by_hands(source):
+    for function, old, new, why, *more in by_hand.EDITS:
+        start = re.search(r"^(    )?[A-Za-z_:][\w:<>]* [&*]?" + function + r"\([^;\n]*\{", source, re.M)
+        ends = [source.find(end, start.start()) for end in ("\n}\n", "\n    }\n")] if start else []
+        ends = [end + 8 for end in (ends[1:] if start[1] else ends[:1])] if start else []
+        at = source.find(old, start.start(), ends[0]) if start else -1
+        if at < 0:
+            sys.exit(f"by_hand.py: {function} has no {old!r}")
+        calls = more[0].split() if more and more[0] is not None else None
+        refusals = more[1] if len(more) > 1 else None
+        mutant = Mutant("by hand", function, old, new, source[:at] + new + source[at + len(old):], calls, refusals, why)
+        mutant.key = f"{function}: {why}"
+        yield mutant
+
+
+def wrong_builds():
+    with open(os.path.join(HERE, "second.cpp")) as file:
+        source = file.read()
+    seen, keys, out = {source}, {}, []
+    for mutant in [*by_hands(source), *by_rules(source)]:
+        if mutant.text in seen:
+            continue
+        seen.add(mutant.text)
+        keys[mutant.key] = keys.get(mutant.key, 0) + 1
+        if keys[mutant.key] > 1:
+            mutant.key += f" #{keys[mutant.key]}"
+        out.append(mutant)
+    return source, out
+
+
+# ---- playing
+
+def lines_of(name):
+    with open(name) as file:
+        return file.read().splitlines()
+
+
+class Pack:
+    def __init__(self):
+        self.lists = sorted(name[:-6] for name in os.listdir(PACK) if name.endswith(".calls"))
+        self.paths = [os.path.join(PACK, name + ".calls") for name in self.lists]
+        self.due, self.places = [], []
+        digest = hashlib.sha256(COMPILER.encode())
+        for name in self.lists:
+            answers = lines_of(os.path.join(PACK, name + ".answers"))
+            self.due += answers
+            self.places += [(name, i + 1) for i in range(len(answers))]
+            digest.update("\n".join([name, *lines_of(os.path.join(PACK, name + ".calls")), *answers]).encode())
+        self.digest, self.known = digest.hexdigest(), {}
+        if os.path.exists(KNOWN):
+            with open(KNOWN) as file:
+                known = json.load(file)
+            if known["pack"] == self.digest:
+                self.known = known["outcomes"]
+
+    def keep(self):
+        with open(KNOWN + ".new", "w") as file:
+            json.dump({"pack": self.digest, "outcomes": self.known}, file)
+        os.replace(KNOWN + ".new", KNOWN)
+
+    def differing(self, told):
+        """The places that differ, three at most; of deepest those that its judge finds wrong."""
+        places, deepest = [], False
+        for place, due, answer in zip(self.places, self.due, told + [None] * (len(self.due) - len(told))):
+            if due != answer:
+                if place[0] == "deepest":
+                    deepest = True
+                    continue
+                places.append(place)
+                if len(places) == 3:
+                    return places
+        if deepest:
+            own = [told[i] for i, place in enumerate(self.places) if place[0] == "deepest" and i < len(told)]
+            judged = subprocess.run([sys.executable, os.path.join(PACK, "deepest.py")], input="\n".join(own) + "\n", capture_output=True, text=True)
+            places += [("deepest", int(n)) for n in re.findall(r"^line (\d+),", judged.stdout, re.M)]
+        return places[:3]
+
+
+def build(mutant, program):
+    """Without optimization: building takes most of the time, and playing a tenth of a second."""
+    with open(program + ".cpp", "w") as file:
+        file.write(mutant.text)
+    flags = ["-include-pch", HEADERS + ".pch"] if "clang" in COMPILER else ["-include", HEADERS]
+    built = subprocess.run(["nice", "-n", "5", COMPILER, "-std=c++17", "-O0", "-w", *flags, "-o", program, program + ".cpp"], capture_output=True)
+    os.remove(program + ".cpp")
+    return built.returncode == 0
+
+
+def outcome(mutant, pack):
+    """None where it does not compile; else whether it stopped or did not end, and where it differs."""
+    if mutant.name in pack.known:
+        return pack.known[mutant.name]
+    program = os.path.join(WORK, mutant.name)
+    if not build(mutant, program):
+        pack.known[mutant.name] = None
+        return None
+    with open(program + ".out", "w+b") as file:
+        command = f"ulimit -v 4000000; ulimit -f 100000; exec nice -n 5 {program} " + " ".join(pack.paths)
+        try:
+            stopped = subprocess.run(["bash", "-c", command], stdout=file, stderr=subprocess.DEVNULL, timeout=SECONDS).returncode != 0
+        except subprocess.TimeoutExpired:
+            stopped = True
+        file.seek(0)
+        told = file.read(1 << 26).decode(errors="replace").splitlines()
+    os.remove(program + ".out")
+    os.remove(program)
+    pack.known[mutant.name] = stopped, pack.differing(told)
+    return pack.known[mutant.name]
+
+
+def headers():
+    os.makedirs(WORK, exist_ok=True)
+    with open(HEADERS, "w") as file:
+        file.write("#include <cstdint>\n#include <cstdio>\n#include <string>\n#include <vector>\n")
+    made = HEADERS + (".pch" if "clang" in COMPILER else ".gch")
+    subprocess.run([COMPILER, "-std=c++17", "-O0", "-w", "-x", "c++-header", HEADERS, "-o", made], check=True)
+
+
+def equivalents():
+    """What equivalent.txt says of a wrong build: a line with its name, then one with the reason, which begins with two blanks."""
+    out, key = {}, None
+    for line in lines_of(os.path.join(HERE, "equivalent.txt")):
+        if line.startswith("  "):
+            out[key] = line.strip()
+        elif line and not line.startswith("#"):
+            key = line
+    return out
+
+
+def table(title, groups):
+    print(f"\n| {title} | wrong builds | 3 lines or more | 2 | 1 | none | equivalent | of them stopped |\n|---|---|---|---|---|---|---|---|")
+    for name, rows in groups:
+        def count(*kinds):
+            return sum(row["caught"] in kinds for row in rows)
+        print(f"| {name} | {len(rows)} | {count(3)} | {count(2)} | {count(1)} | {count(0)} | {count('equivalent')} | {sum(r['stopped'] for r in rows)} |")
+
+
+def main():
+    parser = argparse.ArgumentParser()
+    parser.add_argument("--sample", type=int, default=0)
+    parser.add_argument("--count", action="store_true", help="only tell how many there are by rule")
+    parser.add_argument("--match", default="", help="only those whose name has this")
+    asked = parser.parse_args()
+    source, mutants = wrong_builds()
+    equal = equivalents()
+    keys = {m.key for m in mutants}
+    strays = [key for key in equal if key not in keys]
+    for key in strays:
+        print(f"equivalent.txt names no wrong build: {key}")
+    if asked.count:
+        for rule in sorted({m.rule for m in mutants}):
+            print(sum(m.rule == rule for m in mutants), rule)
+        print(len(mutants))
+        return 0
+    if asked.match:
+        mutants = [m for m in mutants if asked.match in m.key]
+    if asked.sample:
+        mutants = sorted((m for m in mutants if m.key not in equal), key=lambda m: zlib.crc32(m.key.encode()))[:asked.sample]
+    headers()
+    pack = Pack()
+    right = Mutant("", "", "", "", source)
+    if list(outcome(right, pack) or ()) != [False, []]:
+        sys.exit("second.cpp itself does not give the lists their answers")
+    rows = []
+    with concurrent.futures.ThreadPoolExecutor(2) as pool:
+        for mutant, told in zip(mutants, pool.map(lambda m: outcome(m, pack), mutants)):
+            if told is None:
+                continue
+            stopped, places = told
+            caught = len(places)
+            if mutant.key in equal:
+                if caught:
+                    print(f"equivalent.txt names it, but it is caught: {mutant.key}")
+                    strays.append(mutant.key)
+                else:
+                    caught = "equivalent"
+            rows.append({"key": mutant.key, "rule": mutant.rule, "calls": mutant.calls, "refusals": mutant.refusals, "stopped": stopped, "caught": caught,
+                         "places": places})
+            if len(rows) % 100 == 0:
+                print(f"{len(rows)} played", file=sys.stderr, flush=True)
+                pack.keep()
+    pack.keep()
+    if not asked.sample:
+        with open(os.path.join(WORK, "results.json"), "w") as file:
+            json.dump(rows, file, indent=1)
+        table("by rule", [(rule, [r for r in rows if r["rule"] == rule]) for rule in sorted({r["rule"] for r in rows})] + [("all", rows)])
+        table("by call", [(name, [r for r in rows if name in r["calls"]]) for name in NAMES] + [("what calls share", [r for r in rows if not r["calls"]])])
+        table("by refusal", [(n, [r for r in rows if n in r["refusals"]]) for n in range(1, 17)])
+        print()
+    # a wrong build that stops or does not end is noticed, whatever lines it has given before
+    weak = [r for r in rows if r["caught"] in (0, 1) and not r["stopped"]]
+    for row in weak:
+        print(f"caught by {row['caught']} {row['places']}: [{row['rule']}] {row['key']}")
+    equal_rows = sum(r["caught"] == "equivalent" for r in rows)
+    print(f"{len(rows)} wrong builds, {len(rows) - equal_rows} of them to be caught, {len(weak)} not caught by two lines")
+    return 1 if weak or strays else 0
+
+
+if __name__ == "__main__":
+    sys.exit(main())
