@@ -2,7 +2,11 @@
 """Builds wrong builds of second.cpp, plays the lists of the conformance pack with each, and tells which the lists catch.
 
 A wrong build is one edit: by the rules below, or by hand (by_hand.py). The lists have to catch each by two lines at least, unless equivalent.txt says why it
-answers as the right one does. With --sample N only about N of them are built, chosen by their names. Works in target/second, with two builds at once.
+answers as the right one does. Works in target/second, with two builds at once; what the same lists said of a build is kept there.
+
+    --sample N   builds at most N of those that are to be caught, chosen by their names
+    --missing    plays missing.calls with those that the last run found to be caught by one line or by none, and writes missing.txt, which says by
+                 which lines of it each is caught
 """
 
 import argparse
@@ -170,7 +174,7 @@ def swapped_words(line):
 
 
 def arguments(line):
-    for m in re.finditer(r"\b([a-z_]\w*)\(([^(),]+), ([^(),]+)\)", line):
+    for m in re.finditer(r"\b(?!lesser|larger)([a-z_]\w*)\(([^(),]+), ([^(),]+)\)", line):
         if not re.match(r"\s*[A-Z]?\w+ ", line) or " = " in line or "return" in line or "for (" in line:
             yield replaced(line, m, f"{m[1]}({m[3]}, {m[2]})")
     for m in re.finditer(r"\{([^{},]+), ([^{},]+)\}", line):
@@ -356,9 +360,50 @@ def equivalents():
 def table(title, groups):
     print(f"\n| {title} | wrong builds | 3 lines or more | 2 | 1 | none | equivalent | of them stopped |\n|---|---|---|---|---|---|---|---|")
     for name, rows in groups:
+        if not rows:
+            continue
+
         def count(*kinds):
             return sum(row["caught"] in kinds for row in rows)
         print(f"| {name} | {len(rows)} | {count(3)} | {count(2)} | {count(1)} | {count(0)} | {count('equivalent')} | {sum(r['stopped'] for r in rows)} |")
+
+
+def answers_of(mutant, calls):
+    """What a wrong build answers to a list."""
+    program = os.path.join(WORK, mutant.name)
+    if not build(mutant, program):
+        sys.exit(f"not built: {mutant.key}")
+    try:
+        told = subprocess.run([program, calls], capture_output=True, timeout=SECONDS).stdout.decode(errors="replace").splitlines()
+    except subprocess.TimeoutExpired:
+        told = []
+    os.remove(program)
+    return told
+
+
+def missing(source, mutants, equal):
+    """Which lines of missing.calls catch the wrong builds that the lists do not catch by two lines."""
+    path = os.path.join(HERE, "missing.calls")
+    calls, due = lines_of(path), answers_of(Mutant("", "", "", "", source), path)
+    with open(os.path.join(WORK, "results.json")) as file:
+        weak = {row["key"]: row for row in json.load(file) if row["caught"] in (0, 1) and not row["stopped"] and row["key"] not in equal}
+    left, out = 0, ["Which wrong builds the lines of missing.calls are for: each is caught by one line of the lists, or by none, and by the lines that follow it.", ""]
+    chosen = [m for m in mutants if m.key in weak]
+    with concurrent.futures.ThreadPoolExecutor(2) as pool:
+        for mutant, told in zip(chosen, pool.map(lambda m: answers_of(m, path), chosen)):
+            told += ["nothing"] * (len(due) - len(told))
+            wrong = [i for i in range(len(due)) if told[i] != due[i]]
+            row = weak[mutant.key]
+            lists = ", ".join(f"{name} line {line}" for name, line in row["places"]) or "none"
+            out.append(f"{mutant.key}\n  in the lists: {lists}")
+            out += [f"  line {i + 1}, {calls[i]}: due {due[i]}, told {told[i]}" for i in wrong[:3]]
+            if row["caught"] + len(wrong) < 2:
+                left += 1
+                print(f"caught by {row['caught'] + len(wrong)}: {mutant.key}")
+    with open(os.path.join(HERE, "missing.txt"), "w") as file:
+        file.write("\n".join(out) + "\n")
+    print(f"{len(chosen)} wrong builds, {left} of them not caught by two lines with missing.calls")
+    return 1 if left else 0
 
 
 def main():
@@ -366,6 +411,7 @@ def main():
     parser.add_argument("--sample", type=int, default=0)
     parser.add_argument("--count", action="store_true", help="only tell how many there are by rule")
     parser.add_argument("--match", default="", help="only those whose name has this")
+    parser.add_argument("--missing", action="store_true", help="play missing.calls with those that the last run found weak, and write missing.txt")
     asked = parser.parse_args()
     source, mutants = wrong_builds()
     equal = equivalents()
@@ -381,8 +427,11 @@ def main():
     if asked.match:
         mutants = [m for m in mutants if asked.match in m.key]
     if asked.sample:
-        mutants = sorted((m for m in mutants if m.key not in equal), key=lambda m: zlib.crc32(m.key.encode()))[:asked.sample]
+        named = set(lines_of(os.path.join(HERE, "missing.txt")))
+        mutants = sorted((m for m in mutants if m.key not in equal and m.key not in named), key=lambda m: zlib.crc32(m.key.encode()))[:asked.sample]
     headers()
+    if asked.missing:
+        return missing(source, mutants, equal)
     pack = Pack()
     right = Mutant("", "", "", "", source)
     if list(outcome(right, pack) or ()) != [False, []]:
