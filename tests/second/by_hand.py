@@ -15,14 +15,10 @@ ROOM = {
     "the other worlds are ignored": "(N <= p.store->worlds[p.world].ceiling && N <= p.store->capacity)",
     "floors are ignored":
         "[&] { " + SUM + "i == p.world ? N : v.runs.size(); } return sum <= p.store->capacity && N <= p.store->worlds[p.world].ceiling; }()",
-    "its own floor is ignored":
-        "[&] { " + SUM + "i == p.world ? N : larger(v.runs.size(), v.floor); } return sum <= p.store->capacity && "
-        "N <= p.store->worlds[p.world].ceiling; }()",
     "the neighbours' floors are ignored":
         "[&] { " + SUM + "i == p.world ? larger(N, v.floor) : v.runs.size(); } return sum <= p.store->capacity && "
         "N <= p.store->worlds[p.world].ceiling; }()",
     "one run more is asked for": "fits(p, N + 1)",
-    "never fewer runs than before are asked for": "fits(p, larger(N, runs_of(p).size()))",
     "one run more than before is asked for": "fits(p, larger(N, runs_of(p).size() + 1))",
     "old and new runs together are asked for": "fits(p, N + runs_of(p).size())",
 }

@@ -10,6 +10,7 @@ answers as the right one does. Works in target/second, with two builds at once; 
 """
 
 import argparse
+import atexit
 import concurrent.futures
 import hashlib
 import json
@@ -26,10 +27,10 @@ HERE = os.path.dirname(os.path.abspath(__file__))
 ROOT = os.path.join(HERE, "..", "..")
 PACK = os.path.join(ROOT, "conformance")
 WORK = os.path.join(ROOT, "target", "second")
-HEADERS = os.path.join(WORK, "headers.h")
+HEADERS = os.path.join(WORK, f"headers-{os.getpid()}.h")
 KNOWN = os.path.join(WORK, "outcomes.json")  # of earlier runs with the same lists
 COMPILER = shutil.which("clang++") or shutil.which("g++")
-SECONDS = 10  # how long a wrong build may play all lists, which takes the right one a tenth of one
+SECONDS = 2  # of processor time that a wrong build may take for all lists; the right one takes a fifth of one
 
 # what reads lines and writes answers is no part of a set's meaning, and is left as it is
 SPARED = {"Line", "main", "play", "answer", "store", "place", "text", "hex", "refused", "call_words", "kTop", "kLent", "kLentWord"}
@@ -50,8 +51,9 @@ combine not eq load mend build write_set convert read_map clear_map write_map fi
 
 
 class Mutant:
-    def __init__(self, rule, function, old, new, text, calls=None, refusals=None, why=""):
-        self.rule, self.function, self.text, self.why = rule, function, text, why
+    def __init__(self, rule, function, old, new, text, calls=None, refusals=None, line=None, instead=None):
+        self.rule, self.function, self.text = rule, function, text
+        self.line, self.instead = line, instead  # where the edit is of one line: which, and what stands for it
         self.key = f"{function}: {' '.join(old.split())} => {' '.join(new.split()) or 'nothing'}"
         self.calls = calls if calls is not None else calls_of(function)
         self.refusals = refusals if refusals is not None else refusals_of(function, old + " " + new)
@@ -209,23 +211,23 @@ def by_rules(source):
         bare = code(line)
         for rule, make in RULES.items():
             for new in make(bare):
-                yield Mutant(rule, name, line, new, "\n".join(lines[:i] + [new] + lines[i + 1:]))
+                yield Mutant(rule, name, line, new, "\n".join(lines[:i] + [new] + lines[i + 1:]), line=i, instead=new)
         # two refusals that follow each other, in the other order
         if i + 1 < len(lines) and "return refus" in line and "return refus" in lines[i + 1] and line.strip().startswith("if") and lines[i + 1].strip().startswith("if"):
             a, b = (re.findall(r"refused\((\w+)\)", x) for x in (line, lines[i + 1]))
             if a != b:
                 yield Mutant("two refusals in the other order", name, line + lines[i + 1], lines[i + 1] + line,
-                             "\n".join(lines[:i] + [lines[i + 1], line] + lines[i + 2:]))
+                             "\n".join(lines[:i] + [lines[i + 1], line] + lines[i + 2:]), line=i, instead=lines[i + 1] + "\n" + line)
         # 12 before 7, or before 1, of a call that tests it later
         if re.match(r"        if \(unsound\(\*p\.store\)\) return refused\(7\);", line):
             early = "        if (unopened(p)) return refused(12);"
-            yield Mutant("12 before 7", name, line, early + line, "\n".join(lines[:i] + [early] + lines[i:]))
+            yield Mutant("12 before 7", name, line, early + line, "\n".join(lines[:i] + [early] + lines[i:]), line=i, instead=early + "\n" + line)
         # 8 by something else, in one call
         m = re.search(r"!fits\(p, ([\w.]+\(\))\)", line)
         if m:
             for what, wrong in by_hand.ROOM.items():
                 new = line.replace(m[0], "!" + re.sub(r"\bN\b", m[1], wrong))
-                yield Mutant("8 by something else: " + what, name, line, new, "\n".join(lines[:i] + [new] + lines[i + 1:]), refusals=[8])
+                yield Mutant("8 by something else: " + what, name, line, new, "\n".join(lines[:i] + [new] + lines[i + 1:]), refusals=[8], line=i, instead=new)
 
 
 def by_hands(source):
@@ -238,7 +240,10 @@ def by_hands(source):
             sys.exit(f"by_hand.py: {function} has no {old!r}")
         calls = more[0].split() if more and more[0] is not None else None
         refusals = more[1] if len(more) > 1 else None
-        mutant = Mutant("by hand", function, old, new, source[:at] + new + source[at + len(old):], calls, refusals, why)
+        begin, end = source.rfind("\n", 0, at) + 1, source.find("\n", at + len(old))
+        single = "\n" not in source[begin:end]
+        mutant = Mutant("by hand", function, old, new, source[:at] + new + source[at + len(old):], calls, refusals,
+                        source.count("\n", 0, at) if single else None, source[begin:at] + new + source[at + len(old):end])
         mutant.key = f"{function}: {why}"
         yield mutant
 
@@ -276,7 +281,7 @@ class Pack:
             self.due += answers
             self.places += [(name, i + 1) for i in range(len(answers))]
             digest.update("\n".join([name, *lines_of(os.path.join(PACK, name + ".calls")), *answers]).encode())
-        self.digest, self.known = digest.hexdigest(), {}
+        self.digest, self.known, self.sheet, self.numbers = digest.hexdigest(), {}, "", {}
         if os.path.exists(KNOWN):
             with open(KNOWN) as file:
                 known = json.load(file)
@@ -285,7 +290,7 @@ class Pack:
 
     def keep(self):
         with open(KNOWN + ".new", "w") as file:
-            json.dump({"pack": self.digest, "outcomes": self.known}, file)
+            json.dump({"pack": self.digest, "outcomes": dict(self.known)}, file)
         os.replace(KNOWN + ".new", KNOWN)
 
     def differing(self, told):
@@ -306,6 +311,97 @@ class Pack:
         return places[:3]
 
 
+# ---- one program with many wrong builds
+
+STATEMENT = re.compile(r"\s*(if \(.*\) [^{]*;|if \(.*\) return .*;|(while|for) \(.*\) [^{]*;|return\b.*;|[\w.\[\]()*/ ]+ (=|\+=|-=) .*;|[\w.\[\]()]+\(.*\);|\w+(\[\w+\])?\+\+;)$")
+DECLARATION = re.compile(r"(\s*)(const Number|Number|Runs|bool|size_t|Count|unsigned char|Range|Bytes|Answer|Run|Part|Place|Rect|string|Operation) (\w+) = (.*);$")
+CONDITION = re.compile(r"(\s*(?:\} else )?if \()(.*)(\) \{)$")
+
+
+def sheet_of(source, mutants):
+    """A program that is the wrong build whose number WRONG says, and the right one without: as text, and which wrong build is at which of its lines."""
+    lines = source.split("\n")
+    by_line = {}
+    for number, mutant in mutants.items():
+        by_line.setdefault(mutant.line, []).append((number, mutant.instead))
+    out, owner = ["#include <cstdlib>", 'static const int build_number = std::getenv("WRONG") ? std::atoi(std::getenv("WRONG")) : 0;'], {}
+
+    def emit(text, number=0):
+        for row in text.split("\n"):
+            out.append(row)
+            owner[len(out)] = number
+
+    for i, line in enumerate(lines):
+        if i not in by_line:
+            emit(line)
+            continue
+        kind, own = kind_of(line)
+        if kind == "statement":
+            for number, text in by_line[i]:
+                emit(f"if (build_number == {number}) {{")
+                emit(text, number)
+                emit("} else")
+            emit("{\n" + line + "\n}")
+            continue
+        before, after = (f"{own[1]}{own[2]} {own[3]} = ", ";") if kind == "declaration" else (own[1], own[3])
+        place = 4 if kind == "declaration" else 2
+        capture = "" if line.startswith("const") else "&"
+        emit(before + f"[{capture}]() -> {own[2] if kind == 'declaration' else 'bool'} {{")
+        for number, text in by_line[i]:
+            emit(f"if (build_number == {number})")
+            emit(f"return {kind_of(text)[1][place]};", number)
+        emit(f"return {own[place]}; }}()" + after)
+    return "\n".join(out) + "\n", owner
+
+
+def kind_of(line):
+    line = code(line)
+    declared = DECLARATION.match(line)
+    if declared:
+        return "declaration", declared
+    condition = CONDITION.match(line)
+    if condition:
+        return "condition", condition
+    other_declaration = re.match(r"\s*(?!return )(const )?[\w:<>]+ [&*]?\w+( = .*|\(.*\))?;$", line)
+    return ("statement", None) if STATEMENT.match(line) and not other_declaration else (None, None)
+
+
+def fits_sheet(mutant, lines):
+    """Whether a choice between the line and what stands for it can be made where the line is."""
+    if mutant.line is None:
+        return False
+    kind, own = kind_of(lines[mutant.line])
+    if kind == "statement":
+        return kind_of(mutant.instead.split("\n")[0])[0] in ("statement", None)
+    other, its = kind_of(mutant.instead)
+    if kind is None or other != kind:
+        return False
+    return own[2] == its[2] and own[3] == its[3] if kind == "declaration" else own[1] == its[1] and own[3] == its[3]
+
+
+def build_sheet(source, mutants):
+    """The program of all wrong builds that can be made so, and the number of each in it; those that do not compile have None."""
+    lines = source.split("\n")
+    numbered = {i + 1: m for i, m in enumerate(m for m in mutants if fits_sheet(m, lines))}
+    numbers, program = {}, os.path.join(WORK, f"sheet-{os.getpid()}")
+    while True:
+        text, owner = sheet_of(source, numbered)
+        with open(program + ".cpp", "w") as file:
+            file.write(text)
+        built = subprocess.run(["nice", "-n", "5", COMPILER, "-std=c++17", "-O1", "-w", "-ferror-limit=0" if "clang" in COMPILER else "-fmax-errors=0", "-o", program,
+                                program + ".cpp"], capture_output=True, text=True)
+        if built.returncode == 0:
+            break
+        bad = {owner.get(int(n), 0) for n in re.findall(r"^\S+\.cpp:(\d+):\d+: error", built.stderr, re.M)} - {0}
+        if not bad:
+            sys.exit("the program of all wrong builds does not compile:\n" + built.stderr[:2000])
+        for number in bad:
+            numbers[numbered.pop(number).name] = None
+    atexit.register(lambda: [os.remove(program + end) for end in ("", ".cpp")])
+    numbers.update({m.name: number for number, m in numbered.items()})
+    return program, numbers
+
+
 def build(mutant, program):
     """Without optimization: building takes most of the time, and playing a tenth of a second."""
     with open(program + ".cpp", "w") as file:
@@ -321,29 +417,35 @@ def outcome(mutant, pack):
     if mutant.name in pack.known:
         return pack.known[mutant.name]
     program = os.path.join(WORK, mutant.name)
-    if not build(mutant, program):
+    played, number = program, pack.numbers.get(mutant.name, 0)
+    if number:
+        played = pack.sheet
+    elif number is None or not build(mutant, program):
         pack.known[mutant.name] = None
         return None
     with open(program + ".out", "w+b") as file:
-        command = f"ulimit -v 4000000; ulimit -f 100000; exec nice -n 5 {program} " + " ".join(pack.paths)
+        command = f"ulimit -v 4000000; ulimit -f 100000; ulimit -t {SECONDS}; WRONG={number} exec nice -n 5 {played} " + " ".join(pack.paths)
         try:
-            stopped = subprocess.run(["bash", "-c", command], stdout=file, stderr=subprocess.DEVNULL, timeout=SECONDS).returncode != 0
+            stopped = subprocess.run(["bash", "-c", command], stdout=file, stderr=subprocess.DEVNULL, timeout=20 * SECONDS).returncode != 0
         except subprocess.TimeoutExpired:
             stopped = True
         file.seek(0)
         told = file.read(1 << 26).decode(errors="replace").splitlines()
     os.remove(program + ".out")
-    os.remove(program)
+    if not number:
+        os.remove(program)
     pack.known[mutant.name] = stopped, pack.differing(told)
     return pack.known[mutant.name]
 
 
 def headers():
+    """The headers, compiled once for all."""
     os.makedirs(WORK, exist_ok=True)
+    made = HEADERS + (".pch" if "clang" in COMPILER else ".gch")
     with open(HEADERS, "w") as file:
         file.write("#include <cstdint>\n#include <cstdio>\n#include <string>\n#include <vector>\n")
-    made = HEADERS + (".pch" if "clang" in COMPILER else ".gch")
     subprocess.run([COMPILER, "-std=c++17", "-O0", "-w", "-x", "c++-header", HEADERS, "-o", made], check=True)
+    atexit.register(lambda: [os.remove(name) for name in (HEADERS, made)])
 
 
 def equivalents():
@@ -374,7 +476,7 @@ def answers_of(mutant, calls):
     if not build(mutant, program):
         sys.exit(f"not built: {mutant.key}")
     try:
-        told = subprocess.run([program, calls], capture_output=True, timeout=SECONDS).stdout.decode(errors="replace").splitlines()
+        told = subprocess.run([program, calls], capture_output=True, timeout=20 * SECONDS).stdout.decode(errors="replace").splitlines()
     except subprocess.TimeoutExpired:
         told = []
     os.remove(program)
@@ -436,6 +538,9 @@ def main():
     right = Mutant("", "", "", "", source)
     if list(outcome(right, pack) or ()) != [False, []]:
         sys.exit("second.cpp itself does not give the lists their answers")
+    pack.sheet, pack.numbers = build_sheet(source, [m for m in mutants if m.name not in pack.known])
+    alone = sum(m.name not in pack.numbers and m.name not in pack.known for m in mutants)
+    print(f"{len(pack.numbers)} wrong builds in one program, {alone} built alone", file=sys.stderr, flush=True)
     rows = []
     with concurrent.futures.ThreadPoolExecutor(2) as pool:
         for mutant, told in zip(mutants, pool.map(lambda m: outcome(m, pack), mutants)):
@@ -451,7 +556,7 @@ def main():
                     caught = "equivalent"
             rows.append({"key": mutant.key, "rule": mutant.rule, "calls": mutant.calls, "refusals": mutant.refusals, "stopped": stopped, "caught": caught,
                          "places": places})
-            if len(rows) % 100 == 0:
+            if len(rows) % 50 == 0:
                 print(f"{len(rows)} played", file=sys.stderr, flush=True)
                 pack.keep()
     pack.keep()
