@@ -535,6 +535,8 @@ def main():
     if asked.missing:
         return missing(source, mutants, equal)
     pack = Pack()
+    if asked.sample:
+        pack.known = {}
     right = Mutant("", "", "", "", source)
     if list(outcome(right, pack) or ()) != [False, []]:
         sys.exit("second.cpp itself does not give the lists their answers")
@@ -559,8 +561,8 @@ def main():
             if len(rows) % 50 == 0:
                 print(f"{len(rows)} played", file=sys.stderr, flush=True)
                 pack.keep()
-    pack.keep()
     if not asked.sample:
+        pack.keep()
         with open(os.path.join(WORK, "results.json"), "w") as file:
             json.dump(rows, file, indent=1)
         table("by rule", [(rule, [r for r in rows if r["rule"] == rule]) for rule in sorted({r["rule"] for r in rows})] + [("all", rows)])
