@@ -416,7 +416,7 @@ def outcome(mutant, pack):
     """None where it does not compile; else whether it stopped or did not end, and where it differs."""
     if mutant.name in pack.known:
         return pack.known[mutant.name]
-    program = os.path.join(WORK, mutant.name)
+    program = os.path.join(WORK, f"{mutant.name}-{os.getpid()}")
     played, number = program, pack.numbers.get(mutant.name, 0)
     if number:
         played = pack.sheet
@@ -470,38 +470,86 @@ def table(title, groups):
         print(f"| {name} | {len(rows)} | {count(3)} | {count(2)} | {count(1)} | {count(0)} | {count('equivalent')} | {sum(r['stopped'] for r in rows)} |")
 
 
-def answers_of(mutant, calls):
-    """What a wrong build answers to a list."""
-    program = os.path.join(WORK, mutant.name)
+def answers_of(program, path):
+    try:
+        return subprocess.run([program, path], capture_output=True, timeout=20 * SECONDS).stdout.decode(errors="replace").splitlines()
+    except subprocess.TimeoutExpired:
+        return []
+
+
+def units_of(calls):
+    """The lines, a frame and its records together."""
+    out = []
+    for line in calls:
+        if line.startswith("record "):
+            out[-1].append(line)
+        else:
+            out.append([line])
+    return out
+
+
+def smallest(right, program, units):
+    """The fewest of some lines, the last ones among them, to which the right build and a wrong one give other answers."""
+    path = program + ".calls"
+
+    def differs(some):
+        with open(path, "w") as file:
+            file.write("".join(line + "\n" for unit in some for line in unit))
+        return answers_of(right, path) != answers_of(program, path)
+
+    size = len(units) // 2
+    while size > 0:
+        at = 0
+        while at < len(units) - 1:
+            fewer = units[:at] + units[min(at + size, len(units) - 1):]
+            if len(fewer) < len(units) and differs(fewer):
+                units = fewer
+            else:
+                at += size
+        size //= 2
+    os.remove(path)
+    return [line for unit in units for line in unit]
+
+
+def weakness(mutant, right, path, calls, due):
+    """Which lines of missing.calls a wrong build answers otherwise, with what, and the smallest list for the first of them."""
+    program = os.path.join(WORK, f"{mutant.name}-{os.getpid()}")
     if not build(mutant, program):
         sys.exit(f"not built: {mutant.key}")
-    try:
-        told = subprocess.run([program, calls], capture_output=True, timeout=20 * SECONDS).stdout.decode(errors="replace").splitlines()
-    except subprocess.TimeoutExpired:
-        told = []
+    told = answers_of(program, path)
+    told += ["nothing"] * (len(due) - len(told))
+    wrong = [i for i in range(len(due)) if told[i] != due[i]]
+    least = []
+    if wrong:
+        end = wrong[0] + 1
+        while end < len(calls) and calls[end].startswith("record "):
+            end += 1
+        least = smallest(right, program, units_of(calls[:end]))
     os.remove(program)
-    return told
+    return [(i, told[i]) for i in wrong], least
 
 
 def missing(source, mutants, equal):
     """Which lines of missing.calls catch the wrong builds that the lists do not catch by two lines."""
-    path = os.path.join(HERE, "missing.calls")
-    calls, due = lines_of(path), answers_of(Mutant("", "", "", "", source), path)
+    path, right = os.path.join(HERE, "missing.calls"), os.path.join(WORK, f"right-{os.getpid()}")
+    build(Mutant("", "", "", "", source), right)
+    calls, due = lines_of(path), answers_of(right, path)
     with open(os.path.join(WORK, "results.json")) as file:
         weak = {row["key"]: row for row in json.load(file) if row["caught"] in (0, 1) and not row["stopped"] and row["key"] not in equal}
-    left, out = 0, ["Which wrong builds the lines of missing.calls are for: each is caught by one line of the lists, or by none, and by the lines that follow it.", ""]
+    left, out = 0, ["Which wrong builds the lines of missing.calls are for: by which line of the lists each is caught, if by any, and which lines of missing.calls",
+                    "it answers otherwise, three at most; then the smallest list that tells it from the right one.", ""]
     chosen = [m for m in mutants if m.key in weak]
     with concurrent.futures.ThreadPoolExecutor(2) as pool:
-        for mutant, told in zip(chosen, pool.map(lambda m: answers_of(m, path), chosen)):
-            told += ["nothing"] * (len(due) - len(told))
-            wrong = [i for i in range(len(due)) if told[i] != due[i]]
+        for mutant, (wrong, least) in zip(chosen, pool.map(lambda m: weakness(m, right, path, calls, due), chosen)):
             row = weak[mutant.key]
             lists = ", ".join(f"{name} line {line}" for name, line in row["places"]) or "none"
             out.append(f"{mutant.key}\n  in the lists: {lists}")
-            out += [f"  line {i + 1}, {calls[i]}: due {due[i]}, told {told[i]}" for i in wrong[:3]]
+            out += [f"  line {i + 1}, {calls[i]}: due {due[i]}, told {told}" for i, told in wrong[:3]]
+            out += ["  the smallest list:", *(f"    {line}" for line in least)]
             if row["caught"] + len(wrong) < 2:
                 left += 1
                 print(f"caught by {row['caught'] + len(wrong)}: {mutant.key}")
+    os.remove(right)
     with open(os.path.join(HERE, "missing.txt"), "w") as file:
         file.write("\n".join(out) + "\n")
     print(f"{len(chosen)} wrong builds, {left} of them not caught by two lines with missing.calls")
