@@ -42,7 +42,8 @@ CALLS = {"set_range": "set set_strict", "flip_range": "flip flip_strict", "tally
          "no_rect": "set_rect count_rect", "moved": "shift shifted", "inverted": "not", "same": "eq", "listing": "ranges draw_front draw_back",
          "misformed": "load mend convert", "told": "load mend convert", "place_of": "load mend convert write_set", "written_set": "write_set mend convert",
          "outcome_of": "mend", "fates_of": "mend", "survey_of": "survey", "fewest": "deepest", "deepest_of": "deepest", "blamed": "why_full",
-         "no_window": "read_map clear_map write_map fill", "map_bytes": "read_map clear_map write_map", "recorded": "record", "disordered": "load build convert",
+         "no_window": "read_map clear_map write_map fill", "map_bytes": "read_map clear_map write_map", "recorded": "record",
+         "disordered": "load build convert",
          "kWorlds": "new", "kHeights": "deepest", "kWindow": "read_map clear_map write_map fill", "kSide": "set_rect count_rect survey",
          "drawn": "draw_front draw_back", "left_over": "ranges draw_front draw_back", "lent": "write_set mend convert write_map",
          "written": "write_set mend convert write_map", "worded": "deepest why_full survey", "number_and_runs": "tally tally_strict"}
@@ -148,7 +149,8 @@ def constant(line):
 def dropped(line):
     text = line.strip()
     if re.match(r"if \(.*;$", text) or re.match(r"case \d+: ", text) or re.match(r"(\w[\w.()*\[\]/ ]*|\*\w+) ([-+]?=) .*;$", text) and not re.match(
-            r"(const )?(Number|Runs?|bool|Count|Bytes|string|Place|Range|Rect|Answer|World|Store|Part|size_t|int|unsigned char|vector<\w+>|Operation|Bound)\b", text):
+            r"(const )?(Number|Runs?|bool|Count|Bytes|string|Place|Range|Rect|Answer|World|Store|Part|size_t|int|unsigned char|"
+            r"vector<\w+>|Operation|Bound)\b", text):
         yield ""
     elif re.match(r"(\w+\.push_back|add|\w+\.insert|runs_of\(p\)\.clear)\(.*;$", text) or re.match(r"\w+\+\+;$", text):
         yield ""
@@ -213,7 +215,7 @@ def by_rules(source):
             for new in make(bare):
                 yield Mutant(rule, name, line, new, "\n".join(lines[:i] + [new] + lines[i + 1:]), line=i, instead=new)
         # two refusals that follow each other, in the other order
-        if i + 1 < len(lines) and "return refus" in line and "return refus" in lines[i + 1] and line.strip().startswith("if") and lines[i + 1].strip().startswith("if"):
+        if i + 1 < len(lines) and all("return refus" in x and x.strip().startswith("if") for x in lines[i:i + 2]):
             a, b = (re.findall(r"refused\((\w+)\)", x) for x in (line, lines[i + 1]))
             if a != b:
                 yield Mutant("two refusals in the other order", name, line + lines[i + 1], lines[i + 1] + line,
@@ -313,8 +315,10 @@ class Pack:
 
 # ---- one program with many wrong builds
 
-STATEMENT = re.compile(r"\s*(if \(.*\) [^{]*;|if \(.*\) return .*;|(while|for) \(.*\) [^{]*;|return\b.*;|[\w.\[\]()*/ ]+ (=|\+=|-=) .*;|[\w.\[\]()]+\(.*\);|\w+(\[\w+\])?\+\+;)$")
-DECLARATION = re.compile(r"(\s*)(const Number|Number|Runs|bool|size_t|Count|unsigned char|Range|Bytes|Answer|Run|Part|Place|Rect|string|Operation) (\w+) = (.*);$")
+STATEMENT = re.compile(r"\s*(if \(.*\) [^{]*;|if \(.*\) return .*;|(while|for) \(.*\) [^{]*;|return\b.*;|[\w.\[\]()*/ ]+ (=|\+=|-=) .*;|"
+                       r"[\w.\[\]()]+\(.*\);|\w+(\[\w+\])?\+\+;)$")
+DECLARATION = re.compile(r"(\s*)(const Number|Number|Runs|bool|size_t|Count|unsigned char|Range|Bytes|Answer|Run|Part|Place|Rect|string|Operation) "
+                         r"(\w+) = (.*);$")
 CONDITION = re.compile(r"(\s*(?:\} else )?if \()(.*)(\) \{)$")
 
 
@@ -388,8 +392,8 @@ def build_sheet(source, mutants):
         text, owner = sheet_of(source, numbered)
         with open(program + ".cpp", "w") as file:
             file.write(text)
-        built = subprocess.run(["nice", "-n", "5", COMPILER, "-std=c++17", "-O1", "-w", "-ferror-limit=0" if "clang" in COMPILER else "-fmax-errors=0", "-o", program,
-                                program + ".cpp"], capture_output=True, text=True)
+        every = "-ferror-limit=0" if "clang" in COMPILER else "-fmax-errors=0"
+        built = subprocess.run(["nice", "-n", "5", COMPILER, "-std=c++17", "-O1", "-w", every, "-o", program, program + ".cpp"], capture_output=True, text=True)
         if built.returncode == 0:
             break
         bad = {owner.get(int(n), 0) for n in re.findall(r"^\S+\.cpp:(\d+):\d+: error", built.stderr, re.M)} - {0}
@@ -536,8 +540,8 @@ def missing(source, mutants, equal):
     calls, due = lines_of(path), answers_of(right, path)
     with open(os.path.join(WORK, "results.json")) as file:
         weak = {row["key"]: row for row in json.load(file) if row["caught"] in (0, 1) and not row["stopped"] and row["key"] not in equal}
-    left, out = 0, ["Which wrong builds the lines of missing.calls are for: by which line of the lists each is caught, if by any, and which lines of missing.calls",
-                    "it answers otherwise, three at most; then the smallest list that tells it from the right one.", ""]
+    left, out = 0, ["Which wrong builds the lines of missing.calls are for: by which line of the lists each is caught, if by any, and which lines of",
+                    "missing.calls it answers otherwise, three at most; then the smallest list that tells it from the right one.", ""]
     chosen = [m for m in mutants if m.key in weak]
     with concurrent.futures.ThreadPoolExecutor(2) as pool:
         for mutant, (wrong, least) in zip(chosen, pool.map(lambda m: weakness(m, right, path, calls, due), chosen)):

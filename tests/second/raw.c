@@ -320,8 +320,8 @@ static int world_call(const char *name) {
     place p = where();
     vizturel_bound l = {0, 0}, h = {0, 0};
     uint64_t x = 0, y = 0, v = 0, refusal = 0;
-    int ranged = IS("set") || IS("flip") || IS("find") || IS("tally") || IS("set_strict") || IS("flip_strict") || IS("tally_strict") || IS("select") || IS("gap") ||
-                 IS("ranges");
+    int ranged = IS("set") || IS("flip") || IS("find") || IS("tally") || IS("set_strict") || IS("flip_strict") || IS("tally_strict") || IS("select") ||
+                 IS("gap") || IS("ranges");
     if (ranged) {
         l = bound();
         h = bound();
