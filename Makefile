@@ -8,6 +8,7 @@
 # make differential       the library against IntervalBitSet: exhaustive, damaged and random calls (under a minute)
 # make differential-long  the same with thirty million random calls, and the seed SEED=S (default 2)
 # make conformance        write the lists of conformance/ anew, with the answers of IntervalBitSet
+# make pack-mutants       some two thousand wrong builds of a plain reader of the lists, each of which the lists have to catch (about half an hour)
 # make bench              every benchmark, against IntervalBitSet and plain readings of the same words (docs/BENCHMARKS.md)
 # make bench-gaps         how long the gap search takes, against a plain Rust loop (docs/BENCHMARKS.md)
 # make bench-maps         how long maps take by words and by single bytes, against plain Rust loops (docs/BENCHMARKS.md)
@@ -21,7 +22,7 @@
 # make bench-growth       how many instructions it takes, at four capacities (needs valgrind)
 # make bench-aged-calls   how many instructions a frame takes on such stores, and the soundness check in it (needs valgrind)
 # make bench-calls        how many instructions a call takes in a frame, and the soundness check with one world and sixteen (needs valgrind)
-.PHONY: run test lib prove listset replay host differential differential-long conformance bench bench-store bench-gaps bench-maps bench-editions bench-mending bench-grid bench-why bench-heights bench-aged bench-aged-calls bench-soundness bench-growth bench-calls
+.PHONY: run test lib prove listset replay host differential differential-long conformance pack-mutants bench bench-store bench-gaps bench-maps bench-editions bench-mending bench-grid bench-why bench-heights bench-aged bench-aged-calls bench-soundness bench-growth bench-calls
 ARCHIVE := target/lib/libvizturel.a
 HEADER := target/include/vizturel.h
 BENCH_STORE := target/lib/libbench_store.a
@@ -72,6 +73,8 @@ differential-long: $(ARCHIVE)
 # No answer is the library's, but the crate that has the oracle links it.
 conformance: $(ARCHIVE)
 	cargo run --offline --release --manifest-path host/Cargo.toml --bin conformance -- conformance
+pack-mutants:
+	python3 tests/second/mutants.py
 bench: $(ARCHIVE) bench-store
 	cargo run --offline --profile fast --features bench_store --manifest-path host/Cargo.toml --bin bench -- docs/benchmarks.svg
 	@$(MAKE) --no-print-directory bench-soundness
