@@ -275,6 +275,8 @@ def lines_of(name):
 class Pack:
     def __init__(self):
         self.lists = sorted(name[:-6] for name in os.listdir(PACK) if name.endswith(".calls"))
+        # what reserved numbers do is no part of conformance, but a wrong build may be wrong in nothing else
+        self.lists += sorted("reserved/" + name[:-6] for name in os.listdir(os.path.join(PACK, "reserved")) if name.endswith(".calls"))
         self.paths = [os.path.join(PACK, name + ".calls") for name in self.lists]
         self.due, self.places = [], []
         digest = hashlib.sha256(COMPILER.encode())
