@@ -545,8 +545,8 @@ class Module:
             patterns = []
             while reader.peek() is not None:
                 patterns.append(reader.pattern())
-            if name == "is_cause":
-                right = "is_cause_of k j"
+            if decided := re.fullmatch(r"\s*elim \(cause-discrete (\w+) (\w+)\) \[ yes e ↦ (\w+) \| no e ↦ (\w+) \]\s*", right):
+                right = "cond (is_cause_of {} {}) {} {}".format(*decided.groups())
             self.defined[name].append((patterns, Reader(right).expression()))
 
 
@@ -873,7 +873,7 @@ def told_apart(answers, due):
 def judged(check):
     try:
         return check()
-    except (Stuck, Split, RecursionError, KeyError, IndexError, AttributeError, ZeroDivisionError) as why:
+    except (Stuck, Split, RecursionError, KeyError, IndexError, AttributeError, TypeError, ZeroDivisionError) as why:
         return f"can't be evaluated: {type(why).__name__} {str(why)[:200]}"
 
 
@@ -882,10 +882,20 @@ def deep(run):
     sys.setrecursionlimit(400_000)
     threading.stack_size(512 << 20)
     told = []
-    thread = threading.Thread(target=lambda: told.append(run()))
+
+    def kept():
+        try:
+            told.append((run(), None))
+        except BaseException as why:  # it is raised again below, where it is seen
+            told.append((None, why))
+
+    thread = threading.Thread(target=kept)
     thread.start()
     thread.join()
-    return told[0] if told else None
+    value, why = told[0]
+    if why:
+        raise why
+    return value
 
 
 def main():

@@ -3,8 +3,9 @@ wrong ones.
 
     python3 tests/definitions/wrong.py          tries what wrong.txt lists, and says which definitions it lists fewer than two wrong meanings for
 
-In wrong.txt a definition's name is followed by wrong meanings of it: a line that stands once in its file after `- `, what stands in its place after
-`+ `, and a row that tells the two apart; or, where no row does, `passes:` and the reason."""
+In wrong.txt a definition's name is followed by wrong meanings of it: a line that stands once in its file after `- `, the lines that stand in its place
+after `+ ` (so for each line that is changed), and a row that tells the two apart; or, where the two come to the same, `passes:` and the reason. A row
+that can't be evaluated tells nothing apart."""
 
 import multiprocessing
 import os
@@ -47,44 +48,49 @@ def cited(model):
 
 
 def listed(path):
-    """The wrong meanings: definition, old text, new text, and the row or the reason."""
+    """The wrong meanings: definition, old and new text of each change, and the row or the reason."""
     with open(path, encoding="utf-8") as f:
         lines = [line.rstrip("\n") for line in f]
-    name, old, new = None, None, None
+    name, changes = None, []
     for at, line in enumerate(lines, 1):
         if not line or line.startswith("#"):
             continue
         if line.startswith("- "):
-            old = line[2:]
+            changes.append((line[2:], []))
         elif line.startswith("+ "):
-            new = line[2:]
+            changes[-1][1].append(line[2:])
         elif line.startswith("  "):
-            yield at, name, old, new, line.strip()
+            yield at, name, tuple((old, "\n".join(new)) for old, new in changes), line.strip()
+            changes = []
         else:
             name = tuple(line.split("."))
 
 
 def tried(wrong):
     """What is amiss with a wrong meaning, if anything."""
-    at, (folder, name), old, new, row = wrong
+    at, (folder, name), changes, row = wrong
     passes = row.startswith("passes:")
 
     def run():
-        try:
-            model = evaluate.Model(SPECS, (folder + ".antt", [(old, new)]))
-        except SystemExit as why:
-            return str(why)
+        model = evaluate.Model(SPECS, (folder + ".antt", changes))
         rows = [it for it in evaluate.cases(model) if passes or it[0] == row]
         if not rows:
             return f"no row is called {row}"
-        failed = [it[0] for it in rows if evaluate.judged(it[1])]
+        told = [(name, why) for name, why in ((it[0], evaluate.judged(it[1])) for it in rows) if why]
+        for name, why in told:
+            if why.startswith("can't be evaluated"):
+                return f"{name}: {why}"
+        failed = [name for name, _ in told]
         if passes and failed:
             return f"{failed[0]} does not hold, though the list says that every row does"
         if not passes and not failed:
             return f"{row} holds, though {folder}.{name} says something else"
         return None
 
-    return at, evaluate.deep(run)
+    try:
+        return at, evaluate.deep(run)
+    except SystemExit as why:
+        return at, str(why)
 
 
 def main():
@@ -92,19 +98,23 @@ def main():
     right = evaluate.Model(SPECS)
     todo = list(listed(os.path.join(HERE, "wrong.txt")))
     bad, passed = [], 0
-    for at, (folder, name), old, *_ in todo:
+    seen = set()
+    for at, (folder, name), changes, _ in todo:
         if (folder, name) not in cited(right):
             bad.append(f"line {at}: {folder}.{name} is no definition that a call cites")
-        elif not old.lstrip().startswith(name + " ") and not old.startswith(" "):
-            bad.append(f"line {at}: the line is not one of {folder}.{name}")
+        elif not any(old.startswith((name + " ", " ")) for old, _ in changes):
+            bad.append(f"line {at}: no line is one of {folder}.{name}")
+        if (folder, changes) in seen or any(old == new for old, new in changes):
+            bad.append(f"line {at}: it stands here twice, or changes nothing")
+        seen.add((folder, changes))
     with multiprocessing.Pool() as pool:
         for at, why in pool.imap_unordered(tried, todo, chunksize=4):
             passed += why is None
             if why:
                 bad.append(f"line {at}: {why}")
     for folder, name in sorted(cited(right)):
-        number = sum(1 for it in todo if it[1] == (folder, name) and not it[4].startswith("passes:"))
-        passes = any(it[1] == (folder, name) and it[4].startswith("passes:") for it in todo)
+        number = sum(1 for it in todo if it[1] == (folder, name) and not it[3].startswith("passes:"))
+        passes = any(it[1] == (folder, name) and it[3].startswith("passes:") for it in todo)
         if number < 2 and not passes:
             bad.append(f"{folder}.{name} has {number} wrong meanings, and no reason why not two")
     for line in bad:
