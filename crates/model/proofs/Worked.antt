@@ -6,14 +6,15 @@ use Prim.Native.Nat.{ℕ}
 use native.Mathlib.Omega.{arith}
 use lib.ListN.{length}
 use borrow.Author.Tests.{le-ltb}
-use Rattle.model.specs.Positions.{count, find, mem}
+use Rattle.model.specs.Positions.{count, find, past_first, past_last, mem}
 use Rattle.model.proofs.Gaps.{first_long}
 use Rattle.model.specs.RunList.{insert, clear}
 use Rattle.model.proofs.RunList.{widths}
 use Rattle.model.proofs.Clip.{clip}
 use Rattle.model.proofs.Edit.{set_to, on_range, set_runs}
 use Rattle.model.proofs.Ops.{set_all, or_runs, minus_runs, and_runs, xor_runs, combine_runs, inverted, flip_runs}
-use Rattle.model.proofs.Ops.{complement_runs}
+use Rattle.model.proofs.Ops.{complement_runs, shift_left_runs, shift_right_runs, shift_runs}
+use Rattle.model.specs.Model.{drawn_first, drawn_last}
 use Rattle.model.specs.Bytes.{
   big_endian,
   value_from,
@@ -61,7 +62,7 @@ use Rattle.model.proofs.Cases.{Shown, shown, left, computed, expected, rows-hold
 use Rattle.model.proofs.Cells.{set_rows, rect_runs, count_rect_runs, row_halves, column_halves, survey_runs}
 use Rattle.model.proofs.Calc.{runs_of, union, map_runs, some_bit, clipped, report_runs, change_runs, write_runs}
 use Rattle.model.proofs.Calc.{mend_runs, union_at, fates_runs, changed_runs, setting_runs, flipping_runs, tallying_runs}
-use Rattle.model.proofs.Calc.{calc}
+use Rattle.model.proofs.Calc.{remaining_runs, calc}
 
 -- ---- the tables, computed
 -- a call on a lent slice alone, and what it is to come to
@@ -99,7 +100,8 @@ unfolding cells others pools measures handled shown left pool_shown pool_left fi
     middles_up_to runs_at deepest_runs words_of deepest_words clear_map convert converted stray_bits cleared count calc
     report_runs change_runs write_runs mend_runs union_at fates_runs another changed_runs setting_runs flipping_runs
     tallying_runs fed_as runs_of union map_runs some_bit clipped clip set_runs on_range set_to insert clear combine_runs
-    and_runs or_runs xor_runs minus_runs set_all flip_runs inverted complement_runs widths mem first_long set_rows
+    and_runs or_runs xor_runs minus_runs set_all flip_runs inverted complement_runs shift_runs shift_left_runs
+    shift_right_runs remaining_runs drawn_first drawn_last past_first past_last widths mem first_long set_rows
     rect_runs count_rect_runs row_halves column_halves survey_runs big_endian value_from value_of encode_runs column
     columns_from columns encode runs_due edition_of decode_runs runs_told decode bits bytes_from map_of map_bit
     into_front bad_rect bad_square bad_window bad_map too_short bad_length bad_version ordered_from disordered no_room

@@ -8,22 +8,24 @@ use Rattle.std.specs.declared.ops.Bound.TheVariants.{Included, Excluded, Unbound
 use Rattle.model.specs.declared.Run.{Run}
 use Rattle.model.specs.declared.Rect.{Rect}
 use Rattle.model.specs.declared.Limits.{Limits}
-use Rattle.model.specs.declared.Operation.TheVariants.{Or}
+use Rattle.model.specs.declared.Operation.TheVariants.{And, Or}
 use Rattle.model.specs.declared.Edition.TheVariants.{Rows, Columns}
 use Rattle.model.specs.Positions.{run, mem}
 use Rattle.model.specs.Bytes.{encode, into_front}
 use Rattle.model.specs.Deepest.{deepest_words}
-use Rattle.model.specs.Call.{Call, set, get, tally, gap, combine, complement, equal, load, mend, build, write_set}
+use Rattle.model.specs.Call.{Call, set, flip, get, run_at, tally, gap, draw_front, draw_back, shift, shifted}
+use Rattle.model.specs.Call.{combine, complement, equal, load, mend, build, write_set}
 use Rattle.model.specs.Call.{read_map, write_map, fill, set_strict, flip_strict, tally_strict}
 use Rattle.model.specs.Call.{set_rect, count_rect, survey}
 use Rattle.model.specs.Call.{Measure, deepest, why_full, PoolCall, make, measure, at, feed_pool}
-use Rattle.model.specs.Call.{Result, done, number, tallied, value, position, written, mended, Answer, refused, gave}
+use Rattle.model.specs.Call.{Result, done, number, tallied, value, around, position, drawn, written, mended}
+use Rattle.model.specs.Call.{Answer, refused, gave}
 use Rattle.model.specs.Pools.{PlainWorld, make_by, measure_by, step, answers, after}
 use Rattle.model.specs.Handled.{Handled}
 use Rattle.model.specs.Clearing.{clear_map}
 use Rattle.model.specs.Converting.{convert}
 use Rattle.model.specs.Cases.{Given, no_store, broken, shut, having, fed_as, Case, AllHold, mixed}
-use Rattle.model.specs.Cases.{M, from, upto, case-16-set, blank}
+use Rattle.model.specs.Cases.{M, from, upto, left-of, case-16-set, blank}
 
 -- ---- rows of a table: a call and its answer
 pub record Said (S : Type 0) : Type 0 where
@@ -186,8 +188,53 @@ untangled = run 4 9 ∷ run 20 35 ∷ run 50 50 ∷ run 100 101 ∷ []
 -- rows on gaps, strict forms, fill, maps, written and mended sets
 unfoldable pub others : List Case
 others =
-    -- the lowest gap: at the ends of the range and of all positions, in cut stretches; in an empty and a reversed range
+    -- two worlds are the same where they hold the same positions, and not where they hold as many
     says 4 (
+    build (run 5 7 ∷ []) gives done
+    ∷ equal (having (run 5 7 ∷ [])) gives value true
+    ∷ equal (having (run 4 6 ∷ [])) gives value false
+    ∷ [])
+    (run 5 7 ∷ [])
+    -- draws from the back where more than one run is left, one that begins with its range, and one that finds no run
+    ∷ says 4 (
+    build (run 2 7 ∷ run 10 14 ∷ run 20 20 ∷ []) gives done
+    ∷ draw_back (left-of 4 11 true) gives drawn (Some (run 10 11)) (left-of 4 9 true)
+    ∷ draw_back (left-of 0 30 true) gives drawn (Some (run 20 20)) (left-of 0 19 true)
+    ∷ draw_back (left-of 4 8 true) gives drawn (Some (run 4 7)) (left-of 1 0 true)
+    ∷ draw_front (left-of 8 9 true) gives drawn None (left-of 1 0 true)
+    ∷ [])
+    (run 2 7 ∷ run 10 14 ∷ run 20 20 ∷ [])
+    -- a left shift frees what it leaves behind, and one to the right goes by more than 63 too
+    ∷ says 4 (build (run 0 3 ∷ []) gives done ∷ shift 2 true gives done ∷ run_at 0 gives around (run 0 1) ∷ [])
+    (run 2 5 ∷ [])
+    ∷ says 4 (build (run 66 71 ∷ []) gives done ∷ shift 64 false gives done ∷ []) (run 2 7 ∷ [])
+    -- what two sets share, in place of what they do not; a copy of another world, shifted; one of an unsound pool
+    ∷ says 4 (
+    combine And (having (run 2 7 ∷ [])) (having (run 5 9 ∷ [])) gives done
+    ∷ run_at 5 gives around (run 5 7)
+    ∷ shifted 1 true (having (run 3 4 ∷ [])) gives done
+    ∷ shifted 1 true broken earns 7
+    ∷ [])
+    (run 4 5 ∷ [])
+    -- a map begins with its window; windows and lengths that are refused; two spare bits that are one
+    ∷ says 4 (
+    build (run 8 9 ∷ []) gives done
+    ∷ write_map 8 8 (blank 1) gives written 1 (0x03 ∷ [])
+    ∷ read_map 0 0 [] earns 6
+    ∷ read_map M 2 (0x00 ∷ []) earns 6
+    ∷ read_map 0 9 (0xFF ∷ 0xFE ∷ []) earns 10
+    ∷ [])
+    (run 8 9 ∷ [])
+    -- a set that is too short for its runs or too long, before their order; touching runs; a reversed range is flipped as an empty one
+    ∷ says 4 (
+    load (0x01 ∷ 0x00 ∷ 0x00 ∷ 0x00 ∷ 0x02 ∷ []) earns 3
+    ∷ load (0x01 ∷ 0x00 ∷ 0x00 ∷ 0x00 ∷ 0x00 ∷ 0x00 ∷ []) earns 3
+    ∷ build (run 2 3 ∷ run 4 5 ∷ []) earns 5
+    ∷ flip (from 8) (upto 2) gives done
+    ∷ [])
+    []
+    -- the lowest gap: at the ends of the range and of all positions, in cut stretches; in an empty and a reversed range
+    ∷ says 4 (
     build (run 3 5 ∷ run 8 (M - 2) ∷ []) gives done
     ∷ gap Unbounded Unbounded 3 gives position (Some 0)
     ∷ gap (from 1) Unbounded 3 gives position None
@@ -543,6 +590,15 @@ measures =
     ∷ measured 3 (
     ask (why_full joining) 0 earns 16
     ∷ ask (why_full []) 0 earns 16
+    ∷ [])
+    -- a bound of any other kind is none; words that are no whole range are no range, and a range that no position satisfies is none
+    ∷ measured 1 (
+    ask (why_full (closed 4 4 (7 ∷ 2 ∷ 2 ∷ 2 ∷ []))) 2 gives written 2 (0 ∷ 1 ∷ [])
+    ∷ ask (why_full (closed 5 5 (1 ∷ 0 ∷ 1 ∷ []))) 0 earns 16
+    ∷ [])
+    ∷ measured 0 (
+    ask (why_full (below 0 [])) 0 earns 16
+    ∷ ask (why_full (half-open 5 5 (closed 0 1 []))) 1 gives written 1 (1 ∷ [])
     ∷ [])
     ∷ measured 0 (
     ask (why_full (half-open 5 5 (closed 8 2 []))) 0 earns 16
