@@ -1,6 +1,7 @@
 #!/usr/bin/env python3
 # SPDX-License-Identifier: CC0-1.0
-"""Reads answers to deepest.calls on standard input and judges them as README.md says: which of the shortest lists is given is left open."""
+"""Reads answers to deepest.calls on standard input and judges them as README.md says: which of the shortest lists is given is left open. Another list
+may be named: deepest.py large/deepest."""
 
 import os
 import sys
@@ -109,7 +110,8 @@ def lines(name):
 
 
 def main():
-    calls, answers, given = lines("deepest.calls"), lines("deepest.answers"), sys.stdin.read().splitlines()
+    name = sys.argv[1] if len(sys.argv) > 1 else "deepest"
+    calls, answers, given = lines(name + ".calls"), lines(name + ".answers"), sys.stdin.read().splitlines()
     lists, wrong = {}, 0
     for number, (call, due) in enumerate(zip(calls, answers)):
         try:

@@ -23,11 +23,17 @@ import example
 
 HERE = os.path.dirname(os.path.abspath(__file__))
 RUNS_SHOWN = 64
+LINE_SHOWN = 4096
 
 
 def lines_of(path):
     with open(path) as file:
         return file.read().splitlines()
+
+
+def brief(line):
+    """An answer, or how it begins where it is a long list for a height."""
+    return line if len(line) <= LINE_SHOWN else f"{line[:LINE_SHOWN]} .. ({len(line)} bytes)"
 
 
 def the_lists(folders, names):
@@ -132,7 +138,7 @@ def compare(name, calls, dues, given, options):
         if number in found:
             due, told = dues[number - 1], given[number - 1]
             print(f"{name}, line {number}: {call}")
-            print(f"    due:  {due}\n    told: {told if told is not None else '(nothing)'}" + f"\n    why:  {found[number]}" * bool(found[number]))
+            print(f"    due:  {brief(due)}\n    told: {brief(told) if told is not None else '(nothing)'}" + f"\n    why:  {found[number]}" * bool(found[number]))
             for place in state.named(call):
                 print(f"    {state.told(*place)}")
         changed = state.step(number, call)
