@@ -8,7 +8,7 @@
 # make differential       the library against IntervalBitSet: exhaustive, damaged and random calls (under a minute)
 # make differential-long  the same with thirty million random calls, and the seed SEED=S (default 2)
 # make conformance        write the lists of conformance/ anew, with the answers of IntervalBitSet
-# make pack-mutants       some two thousand wrong builds of a plain reader of the lists, each of which the lists have to catch (about half an hour)
+# make pack-mutants       some two thousand wrong builds of a plain reader of the lists, and which of them the lists catch (many minutes)
 # make bench              every benchmark, against IntervalBitSet and plain readings of the same words (docs/BENCHMARKS.md)
 # make bench-gaps         how long the gap search takes, against a plain Rust loop (docs/BENCHMARKS.md)
 # make bench-maps         how long maps take by words and by single bytes, against plain Rust loops (docs/BENCHMARKS.md)

@@ -20,7 +20,7 @@ from pathlib import Path
 BY_HAND = [line for line in Path(__file__).with_name("places.txt").read_text(encoding="utf-8").splitlines() if line and line[0] != "#"]
 PLAIN_FLAGS = {"Listing.value", "Change.value", "Flag.value", "Group.sole", "Rank.held", "Source.last"}  # bool fields that are values of their own
 # bools and enums that these take tell a value, and switch no step
-NO_SWITCHES = set("bit bit_of flag alike completed version_of other_edition view_of whole_byte whole_word others follows".split())
+NO_SWITCHES = set("bit bit_of flag alike completed version_of other_edition view_of whole_byte others follows".split())
 KINDS = {"refusal", "kind", "call", "op", "edition", "found"}  # names of numbers that stand for a kind, a refusal or a truth value
 LACKS = {"Nowhere", "None", "Full", "Wrong", "Failed", "Refused", "End"}  # names of variants that say there is no value
 MIRRORS = "first last,left right,next previous,low high,before after,up down,front back,on past,one zero,start end,column row,plus minus"
