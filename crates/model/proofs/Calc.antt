@@ -4,7 +4,7 @@ use Rattle.std.specs.Prelude.{Option, None, Some}
 use mathlib.Core.Path.{◌≡◌, refl, sym, ap, ap₂, ◌∙◌, fun_ext}
 use mathlib.Core.Logic.{◌⊎◌, inl, inr}
 use mathlib.Core.Bool.{Bool, true, false, cond, not, ◌&&◌, ◌||◌, beq}
-use mathlib.Core.List.{List, [], ◌∷◌, ◌++◌}
+use mathlib.Core.List.{List, [], ◌∷◌, ◌++◌, map}
 use Prim.Native.Nat.{ℕ, zero, suc, ◌+◌, ◌-◌, ◌*◌, ◌/◌, ◌≤◌, ◌<◌, max}
 use native.Mathlib.Nat.{zero-add}
 use native.Mathlib.Omega.{arith}
@@ -14,11 +14,11 @@ use borrow.Author.Tests.{lt-ltb, le-ltb}
 use Rattle.model.specs.Ends.{Bound}
 use Rattle.model.specs.declared.Run.{Run}
 use Rattle.model.specs.declared.Listing.{Listing}
+use Rattle.model.specs.declared.Operation.{Operation}
 use Rattle.model.specs.declared.Operation.TheVariants.{Xor}
 use Rattle.model.specs.Numbers.{size}
 use Rattle.model.proofs.Numbers.{split}
 use Rattle.model.specs.Range.{first_allowed, extent}
-use Rattle.model.specs.Grid
 use Rattle.model.specs.Positions
 use Rattle.model.specs.Positions.{
   Positions,
@@ -83,6 +83,7 @@ use Rattle.model.specs.Refusals.{
   run_order,
   capacity,
   output_short,
+  order,
   Condition,
   ◌when◌,
   refusal,
@@ -98,6 +99,7 @@ use Rattle.model.specs.Refusals.{
   too_many,
   no_room,
 }
+use Rattle.model.proofs.Refused.{first-last}
 use Rattle.model.specs.Call.{
   Call,
   set,
@@ -129,7 +131,6 @@ use Rattle.model.specs.Call.{
   set_rect,
   count_rect,
   survey,
-  feed,
   Result,
   done,
   number,
@@ -144,8 +145,30 @@ use Rattle.model.specs.Call.{
   refused,
   gave,
 }
-use Rattle.model.specs.Model.{Outcome, positions_of, reads, settle, report, change, write, mending, changed, setting, flipping, tallying, strict, drawn_first, drawn_last, serve}
-use Rattle.model.specs.Cases.{broken, shut, Given, having, no_store, fed_as}
+use Rattle.model.specs.Model.{
+  Effect,
+  Plan,
+  positions_of,
+  asking,
+  writing,
+  changing,
+  counting,
+  overwriting,
+  mending,
+  tally_of,
+  strict,
+  drawn_first,
+  drawn_last,
+  plan,
+  Outcome,
+  settle,
+  or_else,
+  first_refusal,
+  room,
+  left_by,
+  serve,
+}
+use Rattle.model.specs.Cases.{Given, no_store, broken, shut, having, fed_as}
 
 -- ---- lists of any runs, and maps, as canonical lists
 unfoldable pub union : List Run → List Run
@@ -315,7 +338,96 @@ unfolding fates_from fates_runs fate
 fates-runs rs p [] = refl
 fates-runs rs p (q ∷ qs) = rw (union-around rs q.start, fates-runs rs (suc p) qs)
 
--- ---- the calls
+-- ---- what a call does, on run lists
+pub data RunEffect : Type 0 where
+  stays : RunEffect
+  becomes : (List Run → List Run) → RunEffect
+  overwritten : List Run → RunEffect
+
+pub record RunPlan : Type 0 where
+  pub further : List Given
+  pub earns : List Run → List Condition
+  pub effect : RunEffect
+  pub gives : List Run → Result
+
+abbrev pub asking_runs : List Condition → (List Run → Result) → RunPlan
+asking_runs cs A = record { further = []; earns = λ rs. cs; effect = RunEffect.stays; gives = A }
+
+abbrev pub writing_runs : List Condition → (List Run → List ℕ) → List ℕ → RunPlan
+writing_runs cs B out = record {
+  further = [];
+  earns = λ rs. output_short when no_room out (B rs) ∷ cs;
+  effect = RunEffect.stays;
+  gives = λ rs. written (length (B rs)) (into_front (B rs) out);
+}
+
+abbrev pub changing_runs : List Condition → (List Run → List Run) → RunPlan
+changing_runs cs Q = record { further = []; earns = λ rs. cs; effect = RunEffect.becomes Q; gives = λ rs. done }
+
+abbrev pub counting_runs : List Condition → (List Run → List Run) → RunPlan
+counting_runs cs Q = record {
+  further = [];
+  earns = λ rs. cs;
+  effect = RunEffect.becomes Q;
+  gives = λ rs. number (widths (combine_runs Xor rs (Q rs)));
+}
+
+abbrev pub overwriting_runs : List Given → List Condition → List Run → RunPlan
+overwriting_runs fs cs qs = record { further = fs; earns = λ rs. cs; effect = RunEffect.overwritten qs; gives = λ rs. done }
+
+-- due and told are the set mended and the report
+abbrev pub mending_runs : List ℕ → List ℕ → List ℕ → List ℕ → List ℕ → RunPlan
+mending_runs bs due told out report = record {
+  further = [];
+  earns = λ rs. output_short when no_room out due ∷ output_short when no_room report told ∷ shape_conditions bs;
+  effect = RunEffect.overwritten (union (decode bs));
+  gives = λ rs. mended (length due) (into_front due out) (length told) (into_front told report);
+}
+
+-- the runs of a value in a range; in what is left of a listing; their tally
+abbrev pub within_runs : Bound → Bound → Bool → List Run → List Run
+within_runs l u v rs = clipped v (first_allowed l) (extent l u) rs
+
+abbrev pub remaining_runs : Listing → List Run → List Run
+remaining_runs l rs = clipped l.value l.first (suc l.last - l.first) rs
+
+abbrev pub tally_runs : Bound → Bound → Bool → List Run → Result
+tally_runs l u v rs = tallied (widths (within_runs l u v rs)) (length (within_runs l u v rs))
+
+-- THE CALLS, a line for each, as in the model
+unfoldable pub plan_runs : Call Given → RunPlan
+plan_runs (set l u v) = counting_runs [] (set_runs size (first_allowed l) (extent l u) v)
+plan_runs (flip l u) = changing_runs [] (flip_runs size (first_allowed l) (extent l u))
+plan_runs (get x) = asking_runs [] (λ rs. value (mem rs x))
+plan_runs (run_at x) = asking_runs [] (λ rs. around (run_with x (clipped (mem rs x) 0 size rs)))
+plan_runs (find l u v) = asking_runs [] (λ rs. position (start_of (first_run (within_runs l u v rs))))
+plan_runs (tally l u v) = asking_runs [] (tally_runs l u v)
+plan_runs (select l u v k) = asking_runs [] (λ rs. position (select_runs (within_runs l u v rs) k))
+plan_runs (gap l u n) = asking_runs (gap_length when bad_gap n ∷ []) (λ rs. position (first_long n (within_runs l u false rs)))
+plan_runs (ranges l u v) = asking_runs [] (λ rs. listing (listed (first_allowed l) (extent l u) v))
+plan_runs (draw_front l) = asking_runs [] (λ rs. drawn_first l (first_run (remaining_runs l rs)))
+plan_runs (draw_back l) = asking_runs [] (λ rs. drawn_last l (last_run (remaining_runs l rs)))
+plan_runs (shift d left) = changing_runs [] (shift_runs size d left)
+plan_runs (shifted d left t) = overwriting_runs (t ∷ []) [] (shift_runs size d left (runs_of t))
+plan_runs (combine op t u) = overwriting_runs (t ∷ u ∷ []) [] (combine_runs op (runs_of t) (runs_of u))
+plan_runs (complement t) = overwriting_runs (t ∷ []) [] (complement_runs size (runs_of t))
+plan_runs (equal t) = record { further = t ∷ []; earns = λ rs. []; effect = RunEffect.stays; gives = λ rs. value (eqb (widths (combine_runs Xor rs (runs_of t))) 0) }
+plan_runs (load bs) = overwriting_runs [] (set_conditions bs) (union (decode bs))
+plan_runs (mend bs out report) = mending_runs bs (encode (edition_of bs) (union (decode bs))) (fates_runs (decode bs) 0 (decode bs)) out report
+plan_runs (build rs) = overwriting_runs [] (run_order when disordered rs ∷ []) (union rs)
+plan_runs (write_set e out) = writing_runs [] (encode e) out
+plan_runs (read_map base n bs) =
+    counting_runs (window when bad_window base n ∷ window when bad_map n bs ∷ stray_bit when some_bit bs n (8 * map_length n - n) ∷ []) (map_runs base n bs)
+plan_runs (write_map base n out) = writing_runs (window when bad_window base n ∷ []) (λ rs. map_of (mem rs) base n) out
+plan_runs (fill base n) = asking_runs (window when bad_window base n ∷ []) (λ rs. number ((1000 * widths (clipped true base n rs) + (n - 1)) / n))
+plan_runs (set_strict l u v) = counting_runs (strict l u) (set_runs size (first_allowed l) (extent l u) v)
+plan_runs (flip_strict l u) = changing_runs (strict l u) (flip_runs size (first_allowed l) (extent l u))
+plan_runs (tally_strict l u v) = asking_runs (strict l u) (tally_runs l u v)
+plan_runs (set_rect q v) = counting_runs (off_plane when bad_rect q ∷ []) (rect_runs q v)
+plan_runs (count_rect q) = asking_runs (off_plane when bad_rect q ∷ []) (λ rs. number (count_rect_runs q rs))
+plan_runs (survey r c k out) = writing_runs (off_plane when bad_square r c k ∷ []) (λ rs. survey_runs rs k r c) out
+
+-- ---- whether it is done
 -- what a call answers, and the runs held after it
 pub record RunOutcome : Type 0 where
   pub answer : Answer
@@ -325,134 +437,91 @@ abbrev pub settle_runs : Option ℕ → List Run → Result → List Run → Run
 settle_runs None rs a qs = record { answer = gave a; runs = qs }
 settle_runs (Some n) rs a qs = record { answer = refused n; runs = rs }
 
-unfoldable pub report_runs : Given → List Condition → Result → RunOutcome
-report_runs s cs a = settle_runs (refusal (reads (fed_as s) ++ cs)) (runs_of s) a (runs_of s)
+abbrev pub room_runs : ℕ → RunEffect → List Run → List Condition
+room_runs C RunEffect.stays rs = []
+room_runs C (RunEffect.becomes Q) rs = capacity when ltb C (length (Q rs)) ∷ []
+room_runs C (RunEffect.overwritten qs) rs = capacity when ltb C (length qs) ∷ []
 
-unfoldable pub change_runs : ℕ → Given → List Condition → List Run → Result → RunOutcome
-change_runs C s cs qs a = settle_runs (refusal (reads (fed_as s) ++ capacity when ltb C (length qs) ∷ cs)) (runs_of s) a qs
+abbrev pub runs_left : RunEffect → List Run → List Run
+runs_left RunEffect.stays rs = rs
+runs_left (RunEffect.becomes Q) rs = Q rs
+runs_left (RunEffect.overwritten qs) rs = qs
 
-unfoldable pub write_runs : Given → List Condition → List ℕ → List ℕ → RunOutcome
-write_runs s cs bytes out = report_runs s (output_short when no_room out bytes ∷ cs) (written (length bytes) (into_front bytes out))
+unfoldable pub serve_runs : ℕ → Given → RunPlan → RunOutcome
+serve_runs C s p =
+    settle_runs (first_refusal (map fed_as (s ∷ p.further)) (room_runs C p.effect (runs_of s) ++ p.earns (runs_of s)))
+    (runs_of s) (p.gives (runs_of s)) (runs_left p.effect (runs_of s))
 
-unfoldable pub changed_runs : ℕ → Given → List Condition → List Run → RunOutcome
-changed_runs C s cs qs = change_runs C s cs qs (number (widths (combine_runs Xor (runs_of s) qs)))
+abbrev pub calc : ℕ → Given → Call Given → RunOutcome
+calc C s c = serve_runs C s (plan_runs c)
 
-unfoldable pub mend_runs : ℕ → Given → List ℕ → List ℕ → List ℕ → List ℕ → List ℕ → RunOutcome
-mend_runs C s bs due told out report =
-    change_runs C s (output_short when no_room out due ∷ output_short when no_room report told ∷ shape_conditions bs) (union (decode bs))
-    (mended (length due) (into_front due out) (length told) (into_front told report))
+-- ---- what ties what the model does to what is done on run lists
+-- the same becomes of the positions of a run list
+pub data TiedEffect : Effect → RunEffect → Type 0 where
+  none : TiedEffect Effect.stays RunEffect.stays
+  change : {Q : Positions → Positions} {qs : List Run → List Run} → ((rs : List Run) → Canon size 0 rs → mem (qs rs) ≡ bounded (Q (mem rs)))
+      → ((rs : List Run) → Canon size 0 rs → Canon size 0 (qs rs)) → TiedEffect (Effect.becomes Q) (RunEffect.becomes qs)
+  fresh : {Q : Positions} {qs : List Run} → mem qs ≡ bounded Q → Canon size 0 qs → TiedEffect (Effect.overwritten Q) (RunEffect.overwritten qs)
 
-unfoldable pub remaining_runs : List Run → Listing → List Run
-remaining_runs rs l = clipped l.value l.first (suc l.last - l.first) rs
-
--- set, flip and tally of a range, under further conditions
-unfoldable pub setting_runs : ℕ → Given → List Condition → Bound → Bound → Bool → RunOutcome
-setting_runs C s cs l u v = changed_runs C s cs (set_runs size (first_allowed l) (extent l u) v (runs_of s))
-
-unfoldable pub flipping_runs : ℕ → Given → List Condition → Bound → Bound → RunOutcome
-flipping_runs C s cs l u = change_runs C s cs (flip_runs size (first_allowed l) (extent l u) (runs_of s)) done
-
-unfoldable pub tallying_runs : Given → List Condition → Bound → Bound → Bool → RunOutcome
-tallying_runs s cs l u v =
-    report_runs s cs (tallied (widths (clipped v (first_allowed l) (extent l u) (runs_of s))) (length (clipped v (first_allowed l) (extent l u) (runs_of s))))
-
-unfoldable pub calc : ℕ → Given → Call Given → RunOutcome
-calc C s (set l u v) = setting_runs C s [] l u v
-calc C s (flip l u) = flipping_runs C s [] l u
-calc C s (get x) = report_runs s [] (value (mem (runs_of s) x))
-calc C s (run_at x) = report_runs s [] (around (run_with x (clipped (mem (runs_of s) x) 0 size (runs_of s))))
-calc C s (find l u v) = report_runs s [] (position (start_of (first_run (clipped v (first_allowed l) (extent l u) (runs_of s)))))
-calc C s (tally l u v) = tallying_runs s [] l u v
-calc C s (select l u v k) = report_runs s [] (position (select_runs (clipped v (first_allowed l) (extent l u) (runs_of s)) k))
-calc C s (gap l u n) = report_runs s (gap_length when bad_gap n ∷ []) (position (first_long n (clipped false (first_allowed l) (extent l u) (runs_of s))))
-calc C s (ranges l u v) = report_runs s [] (listing (listed (first_allowed l) (extent l u) v))
-calc C s (draw_front l) = report_runs s [] (drawn_first l (first_run (remaining_runs (runs_of s) l)))
-calc C s (draw_back l) = report_runs s [] (drawn_last l (last_run (remaining_runs (runs_of s) l)))
-calc C s (shift d left) = change_runs C s [] (shift_runs size d left (runs_of s)) done
-calc C s (shifted d left t) = change_runs C s (reads (fed_as t)) (shift_runs size d left (runs_of t)) done
-calc C s (combine op t u) = change_runs C s (reads (fed_as t) ++ reads (fed_as u)) (combine_runs op (runs_of t) (runs_of u)) done
-calc C s (complement t) = change_runs C s (reads (fed_as t)) (complement_runs size (runs_of t)) done
-calc C s (equal t) = report_runs s (reads (fed_as t)) (value (eqb (widths (combine_runs Xor (runs_of s) (runs_of t))) 0))
-calc C s (load bs) = change_runs C s (set_conditions bs) (union (decode bs)) done
-calc C s (mend bs out report) =
-    mend_runs C s bs (encode (edition_of bs) (union (decode bs))) (fates_runs (decode bs) 0 (decode bs)) out report
-calc C s (build rs) = change_runs C s (run_order when disordered rs ∷ []) (union rs) done
-calc C s (write_set e out) = write_runs s [] (encode e (runs_of s)) out
-calc C s (read_map base n bs) =
-    changed_runs C s (window when bad_window base n ∷ window when bad_map n bs ∷ stray_bit when some_bit bs n (8 * map_length n - n) ∷ []) (map_runs base n bs (runs_of s))
-calc C s (write_map base n out) = write_runs s (window when bad_window base n ∷ []) (map_of (mem (runs_of s)) base n) out
-calc C s (fill base n) = report_runs s (window when bad_window base n ∷ []) (number ((1000 * widths (clipped true base n (runs_of s)) + (n - 1)) / n))
-calc C s (set_strict l u v) = setting_runs C s (strict l u) l u v
-calc C s (flip_strict l u) = flipping_runs C s (strict l u) l u
-calc C s (tally_strict l u v) = tallying_runs s (strict l u) l u v
-calc C s (set_rect q v) = changed_runs C s (off_plane when bad_rect q ∷ []) (rect_runs q v (runs_of s))
-calc C s (count_rect q) = report_runs s (off_plane when bad_rect q ∷ []) (number (count_rect_runs q (runs_of s)))
-calc C s (survey r c k out) = write_runs s (off_plane when bad_square r c k ∷ []) (survey_runs (runs_of s) k r c) out
-
--- ---- what ties an outcome of the model to one on run lists
-pub record Tied (o : Outcome) (r : RunOutcome) : Type 0 where
-  pub answer : o.answer ≡ r.answer
-  pub positions : o.positions ≡ mem r.runs
-  pub canonical : Canon size 0 r.runs
-
-tied-settle : (o : Option ℕ) (P Q : Positions) (a b : Result) (rs qs : List Run) → a ≡ b → P ≡ mem rs → Q ≡ mem qs → Canon size 0 rs → Canon size 0 qs
-    → Tied (settle o P a Q) (settle_runs o rs b qs)
-tied-settle None P Q a b rs qs e p q c d = record { answer = ap gave e; positions = q; canonical = d }
-tied-settle (Some n) P Q a b rs qs e p q c d = record { answer = refl; positions = p; canonical = c }
-
-room : (C : ℕ) (Q : Positions) (qs : List Run) → Canon size 0 qs → mem qs ≡ bounded Q → too_many (ltb C) Q ≡ ltb C (length qs)
-unfolding too_many
-room C Q qs c e = ap (ltb C) (stretches-is Q qs c (λ x h. ap (λ (P : Positions). P x) e ∙ bounded-below Q x h))
-
-tied-report : (s : Given) (cs : List Condition) (a b : Result) → a ≡ b → Tied (report (fed_as s) cs a) (report_runs s cs b)
-unfolding report report_runs
-tied-report s cs a b e =
-    tied-settle (refusal (reads (fed_as s) ++ cs)) (positions_of (fed_as s)) (positions_of (fed_as s)) a b (runs_of s) (runs_of s) e (runs_of-positions s) (runs_of-positions s)
-    (runs_of-canon s) (runs_of-canon s)
-
--- a refused report is tied, whatever it would have given
-tied-refused : (s : Given) (cs : List Condition) (a b : Result) {n : ℕ} → refusal (reads (fed_as s) ++ cs) ≡ Some n → Tied (report (fed_as s) cs a) (report_runs s cs b)
-unfolding report report_runs
-tied-refused s cs a b e = rw e (record { answer = refl; positions = runs_of-positions s; canonical = runs_of-canon s })
-
--- as a gap of no position is, of every world
-no_length : (s : Given) → (n : ℕ) × (refusal (reads (fed_as s) ++ gap_length when bad_gap 0 ∷ []) ≡ Some n)
-unfolding fed_as
-no_length no_store = (1, refl)
-no_length broken = (7, refl)
-no_length shut = (12, refl)
-no_length (having rs) = (9, refl)
-
-tied-change : (C : ℕ) (s : Given) (cs : List Condition) (Q : Positions) (qs : List Run) (a b : Result) → a ≡ b → mem qs ≡ bounded Q → Canon size 0 qs
-    → Tied (change (ltb C) (fed_as s) cs Q a) (change_runs C s cs qs b)
-unfolding change change_runs
-tied-change C s cs Q qs a b e q c =
-    rw (room C Q qs c q)
-    (tied-settle (refusal (reads (fed_as s) ++ capacity when ltb C (length qs) ∷ cs)) (positions_of (fed_as s)) (bounded Q) a b (runs_of s) qs e (runs_of-positions s) (sym q)
-    (runs_of-canon s) c)
+-- the same worlds are read, the same is earned, the same becomes of the positions, and where what is earned refuses nothing, the same is given
+pub record TiedPlan (p : Plan) (q : RunPlan) : Type 0 where
+  pub further : p.further ≡ map fed_as q.further
+  pub earns : (rs : List Run) → Canon size 0 rs → p.earns (mem rs) ≡ q.earns rs
+  pub effect : TiedEffect p.effect q.effect
+  pub gives : (rs : List Run) → Canon size 0 rs → refusal (q.earns rs) ≡ None → p.gives (mem rs) ≡ q.gives rs
 
 changes-bounded : (P Q : Positions) → changes P (bounded Q) ≡ changes P Q
 unfolding changes combined
 changes-bounded P Q =
     count-cong (combined Xor P (bounded Q)) (combined Xor P Q) true 0 size (λ x _ h. ap (λ t. not (beq (P x) t)) (bounded-below Q x (omega arith)))
 
-tied-changed : (C : ℕ) (s : Given) (cs : List Condition) (Q : Positions) (qs : List Run) → mem qs ≡ bounded Q → Canon size 0 qs
-    → Tied (changed (ltb C) (fed_as s) cs Q) (changed_runs C s cs qs)
-unfolding changed changed_runs
-tied-changed C s cs Q qs q c =
-    tied-change C s cs Q qs (number (changes (positions_of (fed_as s)) Q)) (number (widths (combine_runs Xor (runs_of s) qs)))
-    (ap number (sym (changes-bounded (positions_of (fed_as s)) Q) ∙ ap₂ changes (runs_of-positions s) (sym q) ∙ changes-runs (runs_of s) qs (runs_of-canon s) c)) q c
+asks : (cs : List Condition) (A : Positions → Result) (B : List Run → Result) → ((rs : List Run) → Canon size 0 rs → A (mem rs) ≡ B rs)
+    → TiedPlan (asking cs A) (asking_runs cs B)
+asks cs A B e = record { further = refl; earns = λ rs c. refl; effect = none; gives = λ rs c _. e rs c }
 
-tied-write : (s : Given) (cs : List Condition) (bs ds out : List ℕ) → bs ≡ ds → Tied (write (fed_as s) cs bs out) (write_runs s cs ds out)
-unfolding write write_runs
-tied-write s cs bs ds out e =
-    rw e (tied-report s (output_short when no_room out ds ∷ cs) (written (length ds) (into_front ds out)) (written (length ds) (into_front ds out)) refl)
+writes : (cs : List Condition) (A : Positions → List ℕ) (B : List Run → List ℕ) (out : List ℕ) → ((rs : List Run) → Canon size 0 rs → A (mem rs) ≡ B rs)
+    → TiedPlan (writing cs A out) (writing_runs cs B out)
+writes cs A B out e = record {
+  further = refl;
+  earns = λ rs c. ap (λ bs. output_short when no_room out bs ∷ cs) (e rs c);
+  effect = none;
+  gives = λ rs c _. ap (λ bs. written (length bs) (into_front bs out)) (e rs c);
+}
 
-tied-mend : (C : ℕ) (s : Given) (bs out report : List ℕ) → Tied (mending (ltb C) (fed_as s) bs out report)
-    (mend_runs C s bs (encode (edition_of bs) (union (decode bs))) (fates_runs (decode bs) 0 (decode bs)) out report)
-unfolding mending mend_runs mended_set mend_report
-tied-mend C s bs out report =
-    rw (runs-are, fates-runs (decode bs) 0 (decode bs)) (tied-change C s _ (mem (decode bs)) (union (decode bs)) _ _ refl (union-positions (decode bs)) (union-canon (decode bs)))
+alters : (cs : List Condition) (Q : Positions → Positions) (qs : List Run → List Run) → ((rs : List Run) → Canon size 0 rs → mem (qs rs) ≡ bounded (Q (mem rs)))
+    → ((rs : List Run) → Canon size 0 rs → Canon size 0 (qs rs)) → TiedPlan (changing cs Q) (changing_runs cs qs)
+alters cs Q qs e d = record { further = refl; earns = λ rs c. refl; effect = change e d; gives = λ rs c _. refl }
+
+counts : (cs ds : List Condition) (Q : Positions → Positions) (qs : List Run → List Run) → cs ≡ ds → ((rs : List Run) → Canon size 0 rs → mem (qs rs) ≡ bounded (Q (mem rs)))
+    → ((rs : List Run) → Canon size 0 rs → Canon size 0 (qs rs)) → TiedPlan (counting cs Q) (counting_runs ds qs)
+counts cs ds Q qs f e d = record {
+  further = refl;
+  earns = λ rs c. f;
+  effect = change e d;
+  gives = λ rs c _. ap number (sym (changes-bounded (mem rs) (Q (mem rs))) ∙ ap (changes (mem rs)) (sym (e rs c)) ∙ changes-runs rs (qs rs) c (d rs c));
+}
+
+makes : (ss : List Given) (cs : List Condition) (Q : Positions) (qs : List Run) → mem qs ≡ bounded Q → Canon size 0 qs
+    → TiedPlan (overwriting (map fed_as ss) cs Q) (overwriting_runs ss cs qs)
+makes ss cs Q qs e d = record { further = refl; earns = λ rs c. refl; effect = fresh e d; gives = λ rs c _. refl }
+
+-- the tally of a range
+tallies : (l u : Bound) (v : Bool) (rs : List Run) → Canon size 0 rs → tally_of l u v (mem rs) ≡ tally_runs l u v rs
+unfolding Positions.run_count
+tallies l u v rs c =
+    let e = clipped-runs v (first_allowed l) (extent l u) rs c in
+    ap₂ tallied (count_runs (mem rs) v (first_allowed l) (extent l u) ∙ ap widths e) (ap length e)
+
+-- a gap has a length, where that is not refused
+some-length : (n : ℕ) → refusal (gap_length when bad_gap n ∷ []) ≡ None → 1 ≤ n
+some-length zero e = let z : ◌≡◌ {A = ℕ} 0 1 = cc in absurd (omega arith)
+some-length (suc n) e = omega arith
+
+mend-tied : (bs out report : List ℕ) → TiedPlan (mending bs out report) (mending_runs bs (encode (edition_of bs) (union (decode bs))) (fates_runs (decode bs) 0 (decode bs)) out report)
+unfolding mended_set mend_report
+mend-tied bs out report =
+    rw (runs-are, fates-runs (decode bs) 0 (decode bs))
+    (record { further = refl; earns = λ rs c. refl; effect = fresh (union-positions (decode bs)) (union-canon (decode bs)); gives = λ rs c _. refl })
   where
     runs-are : held_runs (mem (decode bs)) ≡ union (decode bs)
     runs-are =
@@ -460,121 +529,109 @@ tied-mend C s bs out report =
         (λ x h. sym (ap (λ (P : Positions). P x) (union-positions (decode bs)) ∙ bounded-below (mem (decode bs)) x h))
         ∙ held_runs-mem (union (decode bs)) (union-canon (decode bs))
 
--- a report on the positions fed is one on the runs told
-module _ (s : Given) where
-  P : Positions
-  P = positions_of (fed_as s)
+setting : (cs : List Condition) (l u : Bound) (v : Bool) → TiedPlan (counting cs (set_range (first_allowed l) (extent l u) v)) (counting_runs cs (set_runs size (first_allowed l) (extent l u) v))
+setting cs l u v = counts cs cs _ _ refl (λ rs c. set-positions (first_allowed l) (extent l u) v rs c) (λ rs c. set_runs-canon size (first_allowed l) (extent l u) v rs c)
 
-  rs : List Run
-  rs = runs_of s
+flipping : (cs : List Condition) (l u : Bound) → TiedPlan (changing cs (flip_range (first_allowed l) (extent l u))) (changing_runs cs (flip_runs size (first_allowed l) (extent l u)))
+flipping cs l u = alters cs _ _ (λ rs c. flip-positions (first_allowed l) (extent l u) rs c) (λ rs c. flip-canon size (first_allowed l) (extent l u) rs c)
 
-  in-range : (v : Bool) (a n : ℕ) → runs_in P v a n ≡ clipped v a n rs
-  unfolding P rs
-  in-range v a n = ap (λ (Q : Positions). runs_in Q v a n) (runs_of-positions s) ∙ clipped-runs v a n (runs_of s) (runs_of-canon s)
+-- what a further world holds
+read_runs : (op : Operation) (t u : Given) → bounded (combined op (mem (runs_of t)) (mem (runs_of u))) ≡ bounded (combined op (positions_of (fed_as t)) (positions_of (fed_as u)))
+read_runs op t u = ap₂ (λ Q R. bounded (combined op Q R)) (sym (runs_of-positions t)) (sym (runs_of-positions u))
 
-  all_runs : held_runs P ≡ rs
-  unfolding P rs
-  all_runs = ap held_runs (runs_of-positions s) ∙ held_runs-mem (runs_of s) (runs_of-canon s)
+-- each line is tied to the model's
+tied : (c : Call Given) → TiedPlan (plan fed_as c) (plan_runs c)
+unfolding plan_runs remaining Positions.run_at fill_of
+tied (set l u v) = setting [] l u v
+tied (flip l u) = flipping [] l u
+tied (get x) = asks _ _ _ (λ rs c. refl)
+tied (run_at x) = asks _ _ _ (λ rs c. ap (λ ss. around (run_with x ss)) (clipped-runs (mem rs x) 0 size rs c))
+tied (find l u v) =
+    asks _ _ _ (λ rs c. ap position (find_runs (mem rs) v (first_allowed l) (extent l u) ∙ ap (λ ss. start_of (first_run ss)) (clipped-runs v (first_allowed l) (extent l u) rs c)))
+tied (tally l u v) = asks _ _ _ (tallies l u v)
+tied (select l u v k) =
+    asks _ _ _ (λ rs c. ap position (select-runs (mem rs) v (first_allowed l) (extent l u) k ∙ ap (λ ss. select_runs ss k) (clipped-runs v (first_allowed l) (extent l u) rs c)))
+tied (gap l u n) = record {
+  further = refl;
+  earns = λ rs c. refl;
+  effect = none;
+  gives = λ rs c e. ap position (gap_runs (mem rs) (first_allowed l) (extent l u) n (some-length n e) ∙ ap (first_long n) (clipped-runs false (first_allowed l) (extent l u) rs c));
+}
+tied (ranges l u v) = asks _ _ _ (λ rs c. refl)
+tied (draw_front l) = asks _ _ _ (λ rs c. ap (λ ss. drawn_first l (first_run ss)) (clipped-runs l.value l.first (suc l.last - l.first) rs c))
+tied (draw_back l) = asks _ _ _ (λ rs c. ap (λ ss. drawn_last l (last_run ss)) (clipped-runs l.value l.first (suc l.last - l.first) rs c))
+tied (shift d left) = alters _ _ _ (λ rs c. shift-positions d left rs c) (λ rs c. shift-canon size d left rs c)
+tied (shifted d left t) =
+    makes (t ∷ []) _ _ _ (shift-positions d left (runs_of t) (runs_of-canon t) ∙ ap (λ Q. bounded (shift_by d left Q)) (sym (runs_of-positions t))) (shift-canon size d left (runs_of t) (runs_of-canon t))
+tied (combine op t u) =
+    makes (t ∷ u ∷ []) _ _ _ (combine-positions op (runs_of t) (runs_of u) (runs_of-canon t) (runs_of-canon u) ∙ read_runs op t u)
+    (combine-canon size op (runs_of t) (runs_of u) (runs_of-canon t) (runs_of-canon u))
+tied (complement t) =
+    makes (t ∷ []) _ _ _ (complement-positions (runs_of t) (runs_of-canon t) ∙ ap (λ Q. bounded (complemented Q)) (sym (runs_of-positions t))) (complement-canon size (runs_of t) (runs_of-canon t))
+tied (equal t) = record {
+  further = refl;
+  earns = λ rs c. refl;
+  effect = none;
+  gives = λ rs c _. ap value (ap (same (mem rs)) (runs_of-positions t) ∙ same_runs rs (runs_of t) c (runs_of-canon t));
+}
+tied (load bs) = makes [] _ _ _ (union-positions (decode bs)) (union-canon (decode bs))
+tied (mend bs out report) = mend-tied bs out report
+tied (build rs') = makes [] _ _ _ (union-positions rs') (union-canon rs')
+tied (write_set e out) = writes _ _ _ _ (λ rs c. ap (encode e) (held_runs-mem rs c))
+tied (read_map base n bs) =
+    counts _ _ _ _ (ap (λ t. window when bad_window base n ∷ window when bad_map n bs ∷ stray_bit when t ∷ []) (stray-some n bs))
+    (λ rs c. map-positions base n bs rs c) (λ rs c. map-canon base n bs rs c)
+tied (write_map base n out) = writes _ _ _ _ (λ rs c. refl)
+tied (fill base n) = asks _ _ _ (λ rs c. ap (λ k. number ((1000 * k + (n - 1)) / n)) (count_runs (mem rs) true base n ∙ ap widths (clipped-runs true base n rs c)))
+tied (set_strict l u v) = setting (strict l u) l u v
+tied (flip_strict l u) = flipping (strict l u) l u
+tied (tally_strict l u v) = asks _ _ _ (tallies l u v)
+tied (set_rect q v) = counts _ _ _ _ refl (λ rs c. rect-positions q v rs c) (λ rs c. rect-canon q v rs c)
+tied (count_rect q) = asks _ _ _ (λ rs c. ap number (rect-count q rs c))
+tied (survey r c k out) = writes _ _ _ _ (λ rs d. surveyed rs d k r c)
 
-tied-setting : (C : ℕ) (s : Given) (cs : List Condition) (l u : Bound) (v : Bool) → Tied (setting (ltb C) (fed_as s) cs l u v) (setting_runs C s cs l u v)
-unfolding setting setting_runs
-tied-setting C s cs l u v =
-    tied-changed C s cs (set_range (first_allowed l) (extent l u) v (positions_of (fed_as s))) (set_runs size (first_allowed l) (extent l u) v (runs_of s))
-    (set-positions (first_allowed l) (extent l u) v (runs_of s) (runs_of-canon s) ∙ ap (λ Q. bounded (set_range (first_allowed l) (extent l u) v Q)) (sym (runs_of-positions s)))
-    (set_runs-canon size (first_allowed l) (extent l u) v (runs_of s) (runs_of-canon s))
+-- ---- so the outcomes are tied
+pub record Tied (o : Outcome) (r : RunOutcome) : Type 0 where
+  pub answer : o.answer ≡ r.answer
+  pub positions : o.positions ≡ mem r.runs
+  pub canonical : Canon size 0 r.runs
 
-tied-flipping : (C : ℕ) (s : Given) (cs : List Condition) (l u : Bound) → Tied (flipping (ltb C) (fed_as s) cs l u) (flipping_runs C s cs l u)
-unfolding flipping flipping_runs
-tied-flipping C s cs l u =
-    tied-change C s cs (flip_range (first_allowed l) (extent l u) (positions_of (fed_as s))) (flip_runs size (first_allowed l) (extent l u) (runs_of s)) done done refl
-    (flip-positions (first_allowed l) (extent l u) (runs_of s) (runs_of-canon s) ∙ ap (λ Q. bounded (flip_range (first_allowed l) (extent l u) Q)) (sym (runs_of-positions s)))
-    (flip-canon size (first_allowed l) (extent l u) (runs_of s) (runs_of-canon s))
+tied-settle : (o : Option ℕ) {P Q : Positions} {a b : Result} (rs qs : List Run) → (o ≡ None → a ≡ b) → P ≡ mem rs → Q ≡ mem qs → Canon size 0 rs → Canon size 0 qs
+    → Tied (settle o P a Q) (settle_runs o rs b qs)
+tied-settle None rs qs e p q c d = record { answer = ap gave (e refl); positions = q; canonical = d }
+tied-settle (Some n) rs qs e p q c d = record { answer = refl; positions = p; canonical = c }
 
-tied-tallying : (s : Given) (cs : List Condition) (l u : Bound) (v : Bool) → Tied (tallying (fed_as s) cs l u v) (tallying_runs s cs l u v)
-unfolding tallying tallying_runs P rs Positions.run_count
-tied-tallying s cs l u v =
-    tied-report s cs
-    (tallied (Positions.count (positions_of (fed_as s)) v (first_allowed l) (extent l u)) (Positions.run_count (positions_of (fed_as s)) v (first_allowed l) (extent l u)))
-    (tallied (widths (clipped v (first_allowed l) (extent l u) (runs_of s))) (length (clipped v (first_allowed l) (extent l u) (runs_of s))))
-    (ap₂ tallied (count_runs (positions_of (fed_as s)) v (first_allowed l) (extent l u) ∙ ap widths (in-range s v (first_allowed l) (extent l u)))
-    (ap length (in-range s v (first_allowed l) (extent l u))))
+-- what comes last is given where nothing before it is
+refusal-last : (o : Option ℕ) (cs ds : List Condition) → or_else o (refusal (cs ++ ds)) ≡ None → refusal ds ≡ None
+refusal-last (Some n) cs ds e = let z : ◌≡◌ {A = ℕ} 0 1 = cc in absurd (omega arith)
+refusal-last None cs ds e = first-last order cs ds e
+
+-- positions have as many runs as a canonical list that tells them
+as-many : (C : ℕ) (Q : Positions) (qs : List Run) → Canon size 0 qs → mem qs ≡ bounded Q → too_many (ltb C) Q ≡ ltb C (length qs)
+unfolding too_many
+as-many C Q qs c e = ap (ltb C) (stretches-is Q qs c (λ x h. ap (λ P. P x) e ∙ bounded-below Q x h))
+
+module _ (C : ℕ) (rs : List Run) (c : Canon size 0 rs) where
+  room-tied : {e : Effect} {f : RunEffect} → TiedEffect e f → room (ltb C) e (mem rs) ≡ room_runs C f rs
+  room-tied none = refl
+  room-tied (change {Q} {qs} q d) = ap (λ t. capacity when t ∷ []) (as-many C (Q (mem rs)) (qs rs) (d rs c) (q rs c))
+  room-tied (fresh {Q} {qs} q d) = ap (λ t. capacity when t ∷ []) (as-many C Q qs d q)
+
+  left-tied : {e : Effect} {f : RunEffect} → TiedEffect e f → (left_by e (mem rs) ≡ mem (runs_left f rs)) × Canon size 0 (runs_left f rs)
+  left-tied none = (refl, c)
+  left-tied (change q d) = (sym (q rs c), d rs c)
+  left-tied (fresh q d) = (sym q, d)
 
 -- every call, computed on run lists, is the plain model's
-pub calc-tied : (C : ℕ) (s : Given) (c : Call Given) → Tied (serve (ltb C) (fed_as s) (feed fed_as c)) (calc C s c)
-unfolding serve calc P rs remaining remaining_runs Positions.run_at fill_of
-calc-tied C s (set l u v) = tied-setting C s [] l u v
-calc-tied C s (flip l u) = tied-flipping C s [] l u
-calc-tied C s (get x) =
-    tied-report s [] (value (positions_of (fed_as s) x)) (value (mem (runs_of s) x)) (ap (λ (Q : Positions). value (Q x)) (runs_of-positions s))
-calc-tied C s (run_at x) =
-    tied-report s [] (around (Positions.run_at (positions_of (fed_as s)) x)) (around (run_with x (clipped (mem (runs_of s) x) 0 size (runs_of s))))
-    (ap (λ ss. around (run_with x ss)) (ap (λ (Q : Positions). runs_in Q (Q x) 0 size) (runs_of-positions s) ∙ clipped-runs (mem (runs_of s) x) 0 size (runs_of s) (runs_of-canon s)))
-calc-tied C s (find l u v) =
-    tied-report s [] (position (Positions.find (positions_of (fed_as s)) v (first_allowed l) (extent l u))) (position (start_of (first_run (clipped v (first_allowed l) (extent l u) (runs_of s)))))
-    (ap position (find_runs (positions_of (fed_as s)) v (first_allowed l) (extent l u) ∙ ap (λ ss. start_of (first_run ss)) (in-range s v (first_allowed l) (extent l u))))
-calc-tied C s (tally l u v) = tied-tallying s [] l u v
-calc-tied C s (select l u v k) =
-    tied-report s [] (position (Positions.select (positions_of (fed_as s)) v (first_allowed l) (extent l u) k)) (position (select_runs (clipped v (first_allowed l) (extent l u) (runs_of s)) k))
-    (ap position (select-runs (positions_of (fed_as s)) v (first_allowed l) (extent l u) k ∙ ap (λ ss. select_runs ss k) (in-range s v (first_allowed l) (extent l u))))
-calc-tied C s (gap l u zero) = tied-refused s (gap_length when bad_gap 0 ∷ []) _ _ (no_length s).1
-calc-tied C s (gap l u (suc n)) =
-    tied-report s (gap_length when bad_gap (suc n) ∷ []) (position (Positions.gap (positions_of (fed_as s)) (first_allowed l) (extent l u) (suc n)))
-    (position (first_long (suc n) (clipped false (first_allowed l) (extent l u) (runs_of s))))
-    (ap position
-    (gap_runs (positions_of (fed_as s)) (first_allowed l) (extent l u) (suc n) (omega arith) ∙ ap (first_long (suc n)) (in-range s false (first_allowed l) (extent l u))))
-calc-tied C s (ranges l u v) = tied-report s [] (listing (listed (first_allowed l) (extent l u) v)) (listing (listed (first_allowed l) (extent l u) v)) refl
-calc-tied C s (draw_front l) =
-    tied-report s [] (drawn_first l (first_run (remaining (positions_of (fed_as s)) l))) (drawn_first l (first_run (remaining_runs (runs_of s) l)))
-    (ap (λ ss. drawn_first l (first_run ss)) (in-range s l.value l.first (suc l.last - l.first)))
-calc-tied C s (draw_back l) =
-    tied-report s [] (drawn_last l (last_run (remaining (positions_of (fed_as s)) l))) (drawn_last l (last_run (remaining_runs (runs_of s) l)))
-    (ap (λ ss. drawn_last l (last_run ss)) (in-range s l.value l.first (suc l.last - l.first)))
-calc-tied C s (shift d left) =
-    tied-change C s [] (shift_by d left (positions_of (fed_as s))) (shift_runs size d left (runs_of s)) done done refl
-    (shift-positions d left (runs_of s) (runs_of-canon s) ∙ ap (λ Q. bounded (shift_by d left Q)) (sym (runs_of-positions s))) (shift-canon size d left (runs_of s) (runs_of-canon s))
-calc-tied C s (shifted d left t) =
-    tied-change C s (reads (fed_as t)) (shift_by d left (positions_of (fed_as t))) (shift_runs size d left (runs_of t)) done done refl
-    (shift-positions d left (runs_of t) (runs_of-canon t) ∙ ap (λ Q. bounded (shift_by d left Q)) (sym (runs_of-positions t))) (shift-canon size d left (runs_of t) (runs_of-canon t))
-calc-tied C s (combine op t u) =
-    tied-change C s (reads (fed_as t) ++ reads (fed_as u)) (combined op (positions_of (fed_as t)) (positions_of (fed_as u))) (combine_runs op (runs_of t) (runs_of u)) done done refl
-    (combine-positions op (runs_of t) (runs_of u) (runs_of-canon t) (runs_of-canon u)
-    ∙ ap₂ (λ Q R. bounded (combined op Q R)) (sym (runs_of-positions t)) (sym (runs_of-positions u))) (combine-canon size op (runs_of t) (runs_of u) (runs_of-canon t) (runs_of-canon u))
-calc-tied C s (complement t) =
-    tied-change C s (reads (fed_as t)) (complemented (positions_of (fed_as t))) (complement_runs size (runs_of t)) done done refl
-    (complement-positions (runs_of t) (runs_of-canon t) ∙ ap (λ Q. bounded (complemented Q)) (sym (runs_of-positions t))) (complement-canon size (runs_of t) (runs_of-canon t))
-calc-tied C s (equal t) =
-    tied-report s (reads (fed_as t)) (value (same (positions_of (fed_as s)) (positions_of (fed_as t)))) (value (eqb (widths (combine_runs Xor (runs_of s) (runs_of t))) 0))
-    (ap value (ap₂ same (runs_of-positions s) (runs_of-positions t) ∙ same_runs (runs_of s) (runs_of t) (runs_of-canon s) (runs_of-canon t)))
-calc-tied C s (load bs) =
-    tied-change C s (set_conditions bs) (mem (decode bs)) (union (decode bs)) done done refl (union-positions (decode bs)) (union-canon (decode bs))
-calc-tied C s (mend bs out report) = tied-mend C s bs out report
-calc-tied C s (build rs') = tied-change C s (run_order when disordered rs' ∷ []) (mem rs') (union rs') done done refl (union-positions rs') (union-canon rs')
-calc-tied C s (write_set e out) = tied-write s [] (encode e (held_runs (positions_of (fed_as s)))) (encode e (runs_of s)) out (ap (encode e) (all_runs s))
-calc-tied C s (read_map base n bs) =
-    rw stray-some
-    (tied-changed C s (window when bad_window base n ∷ window when bad_map n bs ∷ stray_bit when some_bit bs n (8 * map_length n - n) ∷ [])
-    (mapped base n bs (positions_of (fed_as s))) (map_runs base n bs (runs_of s))
-    (map-positions base n bs (runs_of s) (runs_of-canon s) ∙ ap (λ Q. bounded (mapped base n bs Q)) (sym (runs_of-positions s))) (map-canon base n bs (runs_of s) (runs_of-canon s)))
-calc-tied C s (write_map base n out) =
-    tied-write s (window when bad_window base n ∷ []) (map_of (positions_of (fed_as s)) base n) (map_of (mem (runs_of s)) base n) out
-    (ap (λ Q. map_of Q base n) (runs_of-positions s))
-calc-tied C s (fill base n) =
-    tied-report s (window when bad_window base n ∷ []) (number (fill_of (positions_of (fed_as s)) base n)) (number ((1000 * widths (clipped true base n (runs_of s)) + (n - 1)) / n))
-    (ap (λ k. number ((1000 * k + (n - 1)) / n)) (count_runs (positions_of (fed_as s)) true base n ∙ ap widths (in-range s true base n)))
-calc-tied C s (set_strict l u v) = tied-setting C s (strict l u) l u v
-calc-tied C s (flip_strict l u) = tied-flipping C s (strict l u) l u
-calc-tied C s (tally_strict l u v) = tied-tallying s (strict l u) l u v
-calc-tied C s (set_rect q v) =
-    tied-changed C s (off_plane when bad_rect q ∷ []) (Grid.set_rect q v (positions_of (fed_as s)))
-    (rect_runs q v (runs_of s))
-    (rect-positions q v (runs_of s) (runs_of-canon s)
-    ∙ ap (λ Q. bounded (Grid.set_rect q v Q)) (sym (runs_of-positions s)))
-    (rect-canon q v (runs_of s) (runs_of-canon s))
-calc-tied C s (count_rect q) =
-    tied-report s (off_plane when bad_rect q ∷ []) (number (Grid.count_rect q (positions_of (fed_as s))))
-    (number (count_rect_runs q (runs_of s)))
-    (ap number (ap (Grid.count_rect q) (runs_of-positions s) ∙ rect-count q (runs_of s) (runs_of-canon s)))
-calc-tied C s (survey r c k out) =
-    tied-write s (off_plane when bad_square r c k ∷ []) (Grid.survey (positions_of (fed_as s)) k r c)
-    (survey_runs (runs_of s) k r c) out
-    (ap (λ Q. Grid.survey Q k r c) (runs_of-positions s) ∙ surveyed (runs_of s) (runs_of-canon s) k r c)
+pub calc-tied : (C : ℕ) (s : Given) (c : Call Given) → Tied (serve (ltb C) (fed_as s) (plan fed_as c)) (calc C s c)
+unfolding serve serve_runs
+calc-tied C s c =
+    let t = tied c in
+    let d = runs_of-canon s in
+    let p = plan fed_as c in
+    let q = plan_runs c in
+    let rs = runs_of s in
+    let l = left-tied C rs d t.effect in
+    rw (runs_of-positions s, t.further, room-tied C rs d t.effect, t.earns rs d)
+    (tied-settle (first_refusal (map fed_as (s ∷ q.further)) (room_runs C q.effect rs ++ q.earns rs)) rs (runs_left q.effect rs)
+    (λ e. t.gives rs d (refusal-last _ (room_runs C q.effect rs) (q.earns rs) e)) refl l.0 d l.1)

@@ -49,32 +49,12 @@ use Rattle.model.specs.Bytes.{
 use Rattle.model.specs.Mending.{another}
 use Rattle.model.specs.Refusals.{bad_window, bad_map, too_short, bad_length, bad_version, ordered_from, disordered, no_room}
 use lib.Dec.{ltb}
-use Rattle.model.specs.Call.{Call, feed, holding, Answer}
-use Rattle.model.specs.Model.{drawn_first, drawn_last, serve}
+use Rattle.model.specs.Call.{Call, holding, Answer}
+use Rattle.model.specs.Model.{drawn_first, drawn_last, plan, serve}
 use Rattle.model.specs.Pools.{PoolOutcome, step, answers, after, alone}
 use Rattle.model.specs.Cases.{Given, having, fed_as, on_first, Case, Holds, AllHold, table}
 use Rattle.model.proofs.Pools.{step-alone}
-use Rattle.model.proofs.Calc.{
-  runs_of,
-  union,
-  map_runs,
-  some_bit,
-  clipped,
-  report_runs,
-  change_runs,
-  write_runs,
-  mend_runs,
-  union_at,
-  fates_runs,
-  changed_runs,
-  remaining_runs,
-  setting_runs,
-  flipping_runs,
-  tallying_runs,
-  calc,
-  calc-tied,
-  mem-empty,
-}
+use Rattle.model.proofs.Calc.{union, map_runs, some_bit, clipped, runs_of, union_at, fates_runs, plan_runs, serve_runs, mem-empty, calc, calc-tied}
 
 -- ---- the rows, computed on run lists
 pub record Shown : Type 0 where
@@ -92,11 +72,11 @@ left C rs (c ∷ cs) = left C (calc C (having rs) c).runs cs
 -- one call on a world alone is the one computed
 module _ (C : ℕ) (rs : List Run) (c : Canon size 0 rs) (k : Call Given) where
   same : {T : Type 0} (f : PoolOutcome → T) → f (step C (alone C (mem rs)) (on_first k)) ≡ f (record {
-    answer = (serve (ltb C) (fed_as (having rs)) (feed fed_as k)).answer;
-    worlds = alone C (serve (ltb C) (fed_as (having rs)) (feed fed_as k)).positions;
+    answer = (serve (ltb C) (fed_as (having rs)) (plan fed_as k)).answer;
+    worlds = alone C (serve (ltb C) (fed_as (having rs)) (plan fed_as k)).positions;
   })
   unfolding fed_as
-  same f = ap f (step-alone C (mem rs) (feed fed_as k) ∙ ap (λ P. record { answer = (serve (ltb C) (holding P) (feed fed_as k)).answer; worlds = alone C (serve (ltb C) (holding P) (feed fed_as k)).positions }) (sym (bounded-mem rs c)))
+  same f = ap f (step-alone C (mem rs) (plan fed_as k) ∙ ap (λ P. record { answer = (serve (ltb C) (holding P) (plan fed_as k)).answer; worlds = alone C (serve (ltb C) (holding P) (plan fed_as k)).positions }) (sym (bounded-mem rs c)))
 
   one_answer : (step C (alone C (mem rs)) (on_first k)).answer ≡ (calc C (having rs) k).answer
   one_answer = same (λ o. o.answer) ∙ (calc-tied C (having rs) k).answer
@@ -147,7 +127,7 @@ rows-hold [] e = tt
 rows-hold (c ∷ cs) e = (row-holds c (ap (first (computed c)) e), rows-hold cs (ap rest e))
 
 table-computes : map computed table ≡ map expected table
-unfolding table shown left calc report_runs change_runs write_runs mend_runs union_at fates_runs another changed_runs remaining_runs setting_runs flipping_runs tallying_runs fed_as runs_of union map_runs some_bit clipped clip
+unfolding table shown left serve_runs plan_runs union_at fates_runs another fed_as runs_of union map_runs some_bit clipped clip
     set_runs on_range set_to insert clear combine_runs and_runs or_runs xor_runs minus_runs set_all flip_runs inverted complement_runs shift_runs shift_left_runs
     shift_right_runs widths mem select_runs first_long drawn_first drawn_last past_first past_last big_endian value_from value_of encode_runs column columns_from columns encode
     runs_due edition_of decode_runs runs_told decode bits bytes_from map_of map_bit into_front bad_window bad_map too_short bad_length bad_version ordered_from disordered no_room

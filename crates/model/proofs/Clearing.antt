@@ -4,7 +4,7 @@
 use mathlib.Core.Path.{◌≡◌, refl, sym, ap, ap₂, ◌∙◌, subst, fun_ext}
 use mathlib.Core.Logic.{◌⊎◌, inl, inr}
 use mathlib.Core.Bool.{Bool, true, false, cond, not, ◌||◌, false≢true}
-use mathlib.Core.List.{List, [], ◌∷◌, ◌++◌}
+use mathlib.Core.List.{List, [], ◌∷◌}
 use Prim.Native.Nat.{ℕ, ◌+◌, ◌-◌, ◌*◌, ◌/◌, ◌≤◌, ◌<◌}
 use native.Mathlib.Nat.{zero-add, zero-div}
 use native.Mathlib.Omega.{arith}
@@ -16,9 +16,9 @@ use Rattle.model.proofs.Counting.{among_below, among-above, count_none, counted_
 use Rattle.model.specs.Bytes.{map_length, map_of, map_bit, stray_bits, cleared, mapped}
 use Rattle.model.specs.RunList.{AllBytes}
 use Rattle.model.proofs.Maps.{map_of-length, map_of-bytes, map_of-cong, map_of-bit, map_of-spare, map-tell}
-use Rattle.model.specs.Refusals.{window, stray_bit, capacity, ◌when◌, refusal, bad_window, bad_map, stray, too_many}
-use Rattle.model.specs.Call.{Fed, wrong_length, unsound, unopened, holding, Result, number, Answer, refused, gave, read_map}
-use Rattle.model.specs.Model.{positions_of, reads, settle, change, changed, serve}
+use Rattle.model.specs.Refusals.{looks, first_given, window, stray_bit, capacity, ◌when◌, refusal, bad_window, bad_map, stray, too_many}
+use Rattle.model.specs.Call.{Fed, Result, number, Answer, refused, gave, read_map}
+use Rattle.model.specs.Model.{positions_of, planned, settle, all_read, or_else, serve}
 use Rattle.model.specs.Handled.{Handled, handle}
 use Rattle.model.specs.Clearing.{clear_map, document_one_reading}
 
@@ -104,24 +104,18 @@ unfolding stray
 clear-map n bs e = le-ltb 0 (stray_bits n bs) (omega arith)
 
 -- a map that 6 refuses is refused alike with the condition of 10 and without it
-refused-alike : (s : Fed) (t b m z : Bool) → (b || m) ≡ true
-    → refusal (reads s ++ capacity when t ∷ window when b ∷ window when m ∷ []) ≡ refusal (reads s ++ capacity when t ∷ window when b ∷ window when m ∷ stray_bit when z ∷ [])
-refused-alike wrong_length t b m z e = refl
-refused-alike unsound t b m z e = refl
-refused-alike unopened t b m z e = refl
-refused-alike (holding P) t true m z e = refl
-refused-alike (holding P) t false true z e = refl
-refused-alike (holding P) t false false z e = absurd (false≢true e)
+refused-alike : (t b m z : Bool) → (b || m) ≡ true
+    → refusal (capacity when t ∷ window when b ∷ window when m ∷ []) ≡ refusal (capacity when t ∷ window when b ∷ window when m ∷ stray_bit when z ∷ [])
+refused-alike t true m z e = refl
+refused-alike t false true z e = refl
+refused-alike t false false z e = absurd (false≢true e)
 
 -- and where 10 is not due, it makes no difference
-passed-alike : (s : Fed) (t b m : Bool)
-    → refusal (reads s ++ capacity when t ∷ window when b ∷ window when m ∷ []) ≡ refusal (reads s ++ capacity when t ∷ window when b ∷ window when m ∷ stray_bit when false ∷ [])
-passed-alike wrong_length t b m = refl
-passed-alike unsound t b m = refl
-passed-alike unopened t b m = refl
-passed-alike (holding P) t true m = refl
-passed-alike (holding P) t false true = refl
-passed-alike (holding P) t false false = refl
+passed-alike : (t b m : Bool)
+    → refusal (capacity when t ∷ window when b ∷ window when m ∷ []) ≡ refusal (capacity when t ∷ window when b ∷ window when m ∷ stray_bit when false ∷ [])
+passed-alike t true m = refl
+passed-alike t false true = refl
+passed-alike t false false = refl
 
 -- ---- clearing
 -- a refusal with 6, and a slice that is clear already
@@ -197,21 +191,21 @@ module _ (base n : ℕ) (bs : List ℕ) where
 
   module _ (full : ℕ → Bool) (s : Fed) where
     -- a map that is refused with 6 is read as document 01 read it
-    reads-refused : (bad_window base n || bad_map n bs) ≡ true → document_one_reading full s base n bs ≡ serve full s (read_map base n bs)
-    unfolding document_one_reading serve changed change
+    reads-refused : (bad_window base n || bad_map n bs) ≡ true → document_one_reading full s base n bs ≡ serve full s (planned (read_map base n bs))
+    unfolding document_one_reading serve
     reads-refused e =
         let Q = mapped base n bs (positions_of s) in
-        ap (λ o. settle o (positions_of s) (number (changes (positions_of s) Q)) (bounded Q)) (refused-alike s (too_many full Q) (bad_window base n) (bad_map n bs) (stray n bs) e)
+        ap (λ o. settle (or_else (first_given looks (all_read (s ∷ []))) o) (positions_of s) (number (changes (positions_of s) Q)) (bounded Q)) (refused-alike (too_many full Q) (bad_window base n) (bad_map n bs) (stray n bs) e)
 
     -- and so is the cleared map
-    reads-cleared : (bad_window base n || bad_map n bs) ≡ false → document_one_reading full s base n bs ≡ serve full s (read_map base n (cleared n bs))
-    unfolding document_one_reading serve changed change
+    reads-cleared : (bad_window base n || bad_map n bs) ≡ false → document_one_reading full s base n bs ≡ serve full s (planned (read_map base n (cleared n bs)))
+    unfolding document_one_reading serve
     reads-cleared e =
         let Q = mapped base n bs (positions_of s) in
         let P = positions_of s in
         rw (cleared-mapped n bs base P, exact-map n (cleared n bs) (cleared-length n bs), clear-map n (cleared n bs) (cleared-none n bs), neither-second (bad_window base n) (bad_map n bs) e)
-        (ap (λ o. settle o P (number (changes P Q)) (bounded Q)) (passed-alike s (too_many full Q) (bad_window base n) false))
+        (ap (λ o. settle (or_else (first_given looks (all_read (s ∷ []))) o) P (number (changes P Q)) (bounded Q)) (passed-alike (too_many full Q) (bad_window base n) false))
 
     -- what document 01's reading made of a map is what reading the cleared map makes
-    pub reads-as-document-one : document_one_reading full s base n bs ≡ serve full s (read_map base n (clear_map base n bs).slice)
-    reads-as-document-one = either_way base n bs (λ h. document_one_reading full s base n bs ≡ serve full s (read_map base n h.slice)) reads-refused reads-cleared
+    pub reads-as-document-one : document_one_reading full s base n bs ≡ serve full s (planned (read_map base n (clear_map base n bs).slice))
+    reads-as-document-one = either_way base n bs (λ h. document_one_reading full s base n bs ≡ serve full s (planned (read_map base n h.slice))) reads-refused reads-cleared

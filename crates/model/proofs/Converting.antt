@@ -4,7 +4,7 @@
 use Rattle.std.specs.Prelude.{Option, None, Some}
 use mathlib.Core.Path.{◌≡◌, refl, sym, ap, ap₂, ◌∙◌}
 use mathlib.Core.Bool.{Bool, false}
-use mathlib.Core.List.{List, [], ◌∷◌, ◌++◌}
+use mathlib.Core.List.{List, [], ◌∷◌}
 use Prim.Native.Nat.{ℕ, ◌+◌, ◌*◌, ◌^◌, ◌≤◌, ◌<◌}
 use native.Mathlib.Omega.{arith}
 use lib.ListN.{length, drop, get_or}
@@ -30,7 +30,7 @@ use Rattle.model.specs.Refusals.{
   no_room,
 }
 use Rattle.model.specs.Call.{Fed, load, Result, written, gave, done}
-use Rattle.model.specs.Model.{positions_of, reads, settle, serve}
+use Rattle.model.specs.Model.{positions_of, planned, settle, first_refusal, serve}
 use Rattle.model.specs.Handled.{Handled, handle}
 use Rattle.model.specs.Converting.{other_edition, converted, convert, document_one_refusal}
 use Rattle.model.proofs.Codec.{
@@ -134,10 +134,10 @@ pub converted-conditions : (bs : List ℕ) → AllBytes bs → Intact bs → set
 converted-conditions bs b I = intact-conditions (converted bs) (converted-intact bs b I) ∙ sym (intact-conditions bs I)
 
 -- so a load of the one gives what a load of the other does
-pub converted-serve : (full : ℕ → Bool) (s : Fed) (bs : List ℕ) → AllBytes bs → Intact bs → serve full s (load (converted bs)) ≡ serve full s (load bs)
+pub converted-serve : (full : ℕ → Bool) (s : Fed) (bs : List ℕ) → AllBytes bs → Intact bs → serve full s (planned (load (converted bs))) ≡ serve full s (planned (load bs))
 converted-serve full s bs b I =
     load-by full s (converted bs)
-    ∙ ap₂ (λ rs cs. settle (refusal (reads s ++ capacity when too_many full (mem rs) ∷ cs)) (positions_of s) done (bounded (mem rs)))
+    ∙ ap₂ (λ rs cs. settle (first_refusal (s ∷ []) (capacity when too_many full (mem rs) ∷ cs)) (positions_of s) done (bounded (mem rs)))
     (converted-decode bs b) (converted-conditions bs b I)
     ∙ sym (load-by full s bs)
 

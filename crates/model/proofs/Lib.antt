@@ -3,6 +3,7 @@ pub mod Slices
 pub mod Clearing
 pub mod Converting
 pub mod After
+pub mod Refused
 pub mod Calc
 pub mod Pools
 pub mod Cases

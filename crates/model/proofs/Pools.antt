@@ -12,19 +12,19 @@ use borrow.Author.Tests.{lt-ltb, le-ltb}
 use Rattle.model.proofs.Numbers.{split}
 use Rattle.model.specs.Positions.{Positions}
 use Rattle.model.specs.Ends.{Bound}
-use Rattle.model.specs.Call.{Fed, unopened, holding, Call, fill, tally_strict, at, refused}
-use Rattle.model.specs.Model.{positions_of, report, tallying, serve}
+use Rattle.model.specs.Call.{unopened, holding, fill, tally_strict, at, refused}
+use Rattle.model.specs.Model.{Plan, positions_of, planned, serve}
 use Rattle.model.specs.Pools.{PlainWorld, world_of, fed_by, claim_with, claim, claims, other_claims, exceeds, full, with_positions, holding_at, serve_at, leaving, step, alone, allowance_of, allowance}
 
 -- ---- refusal 12
 -- a world that is not open is refused before the call's window is looked at
-pub unopened-first : (full : ℕ → Bool) (base n : ℕ) → (serve full unopened (fill base n)).answer ≡ refused 12
-unfolding serve report
+pub unopened-first : (full : ℕ → Bool) (base n : ℕ) → (serve full unopened (planned (fill base n))).answer ≡ refused 12
+unfolding serve
 unopened-first full base n = refl
 
 -- and before the range of a strict call is
-pub unopened-strict : (full : ℕ → Bool) (l u : Bound) (v : Bool) → (serve full unopened (tally_strict l u v)).answer ≡ refused 12
-unfolding serve tallying report
+pub unopened-strict : (full : ℕ → Bool) (l u : Bound) (v : Bool) → (serve full unopened (planned (tally_strict l u v))).answer ≡ refused 12
+unfolding serve
 unopened-strict full l u v = refl
 
 -- ---- refusal 8
@@ -64,10 +64,10 @@ alone-full C P = fun_ext (λ r. go r (split C r))
     go r (inl h) = rw (lt-ltb C r h)
     go r (inr h) = rw (le-ltb C r h, le-ltb C (max r 0 + 0) (omega arith))
 
-pub step-alone : (C : ℕ) (P : Positions) (c : Call Fed)
-    → step C (alone C P) (at 0 c) ≡ record { answer = (serve (ltb C) (holding P) c).answer; worlds = alone C (serve (ltb C) (holding P) c).positions }
+pub step-alone : (C : ℕ) (P : Positions) (p : Plan)
+    → step C (alone C P) (at 0 p) ≡ record { answer = (serve (ltb C) (holding P) p).answer; worlds = alone C (serve (ltb C) (holding P) p).positions }
 unfolding step serve_at holding_at
-step-alone C P c = ap (λ f. leaving (alone C P) 0 (serve f (holding P) c)) (alone-full C P)
+step-alone C P p = ap (λ f. leaving (alone C P) 0 (serve f (holding P) p)) (alone-full C P)
 
 -- ---- what a call leaves of the worlds
 -- a world that keeps what it is fed as leaves all as they were

@@ -4,7 +4,7 @@
 use Rattle.std.specs.Prelude.{Option, None, Some}
 use mathlib.Core.Path.{◌≡◌, refl, sym, ap, ◌∙◌, subst, fun_ext}
 use mathlib.Core.Logic.{◌⊎◌, inl, inr}
-use mathlib.Core.Bool.{Bool, true, false, cond, ◌&&◌, ◌||◌, or-false, true≢false}
+use mathlib.Core.Bool.{Bool, true, false, ◌&&◌, ◌||◌, or-false, true≢false}
 use mathlib.Core.List.{List, [], ◌∷◌, ◌++◌}
 use Prim.Native.Nat.{ℕ, ◌^◌, ◌≤◌, ◌<◌}
 use native.Mathlib.Omega.{arith}
@@ -12,7 +12,8 @@ use lib.Dec.{ltb}
 use lib.ListN.{length}
 use borrow.Author.Tests.{le-ltb}
 use Rattle.model.specs.Numbers.{size}
-use Rattle.model.proofs.Numbers.{split, neither-second}
+use Rattle.model.proofs.Numbers.{split}
+use Rattle.model.proofs.Refused.{cond-none, given-after}
 use Rattle.model.specs.Positions.{Positions, held_runs, stretches, mem, bounded}
 use Rattle.model.proofs.Runs.{held_runs-mem, held_runs-canon, mem-held_runs, held_runs-cong}
 use Rattle.model.proofs.Ops.{bounded-mem}
@@ -45,12 +46,12 @@ use Rattle.model.specs.Refusals.{
   no_room,
 }
 use Rattle.model.specs.Call.{Fed, holding, load, write_set, gave, done, written}
-use Rattle.model.specs.Model.{positions_of, reads, settle, report, change, write, serve}
+use Rattle.model.specs.Model.{positions_of, planned, settle, first_refusal, serve}
 
 -- ---- which bytes load
--- the conditions of loading bytes into a world that is fed as s
-abbrev pub conditions : (ℕ → Bool) → Fed → List ℕ → List Condition
-conditions full s bs = reads s ++ capacity when too_many full (mem (decode bs)) ∷ set_conditions bs
+-- the conditions of loading bytes, beside those of the world
+abbrev pub conditions : (ℕ → Bool) → List ℕ → List Condition
+conditions full bs = capacity when too_many full (mem (decode bs)) ∷ set_conditions bs
 
 -- none of them holds, but for the world's own
 pub record Accepted (full : ℕ → Bool) (bs : List ℕ) : Type 0 where
@@ -70,11 +71,6 @@ same-given k j cs e h = go (cause-discrete k j) e
     go (yes f) p = ap (λ i. given i cs) f ∙ h
     go (no f) p = absurd (true≢false (sym p))
 
--- a test that hands out no number is false
-cond-none : (b : Bool) (n : ℕ) (o : Option ℕ) → cond b (Some n) o ≡ None → (b ≡ false) × (o ≡ None)
-cond-none true n o e = let z : ◌≡◌ {A = ℕ} 0 1 = cc in absurd (omega arith)
-cond-none false n o e = (refl, e)
-
 -- a call that is not refused is given no cause of the order
 none-given : (ks : List Cause) (cs : List Condition) → first_given ks cs ≡ None → (k : Cause) → lists k ks ≡ true → given k cs ≡ false
 none-given [] cs e k l = absurd (true≢false (sym l))
@@ -85,11 +81,6 @@ none-given (j ∷ ks) cs e k l =
     go : (b : Bool) → is_cause k j ≡ b → (b || lists k ks) ≡ true → given j cs ≡ false → (lists k ks ≡ true → given k cs ≡ false) → given k cs ≡ false
     go true f m h r = same-given k j cs f h
     go false f m h r = r m
-
--- nor one that stands after others
-given-after : (k : Cause) (cs ds : List Condition) → given k (cs ++ ds) ≡ false → given k ds ≡ false
-given-after k [] ds h = h
-given-after k (c ∷ cs) ds h = given-after k cs ds (neither-second (is_cause k c.cause && c.holds) (given k (cs ++ ds)) h)
 
 -- so bytes whose conditions stand among those of a call that is not refused are intact
 pub unrefused-intact : (cs : List Condition) (bs : List ℕ) → refusal (cs ++ set_conditions bs) ≡ None → Intact bs
@@ -104,22 +95,22 @@ unrefused-intact cs bs e =
     }
 
 -- and where it is a load, they meet no condition
-pub unrefused-accepted : (full : ℕ → Bool) (s : Fed) (bs : List ℕ) → refusal (conditions full s bs) ≡ None → Accepted full bs
-unrefused-accepted full s bs e =
+pub unrefused-accepted : (full : ℕ → Bool) (bs : List ℕ) → refusal (conditions full bs) ≡ None → Accepted full bs
+unrefused-accepted full bs e =
     let t : Bool = too_many full (mem (decode bs)) in
     record {
-      intact = unrefused-intact (reads s ++ capacity when t ∷ []) bs e;
-      fits = sym (or-false t) ∙ none-given order (conditions full s bs) e capacity refl;
+      intact = unrefused-intact (capacity when t ∷ []) bs e;
+      fits = sym (or-false t) ∙ none-given order (conditions full bs) e capacity refl;
     }
 
 -- and the other way round, at a world that can be read
-pub accepted-unrefused : (full : ℕ → Bool) (S : Positions) (bs : List ℕ) → Accepted full bs → refusal (conditions full (holding S) bs) ≡ None
-accepted-unrefused full S bs A = let I = A.intact in rw (I.long, I.version, I.length-fits, I.ordered, A.fits)
+pub accepted-unrefused : (full : ℕ → Bool) (bs : List ℕ) → Accepted full bs → refusal (conditions full bs) ≡ None
+accepted-unrefused full bs A = let I = A.intact in rw (I.long, I.version, I.length-fits, I.ordered, A.fits)
 
 -- what the model gives of loading, by these conditions
 pub load-by : (full : ℕ → Bool) (s : Fed) (bs : List ℕ)
-    → serve full s (load bs) ≡ settle (refusal (conditions full s bs)) (positions_of s) done (bounded (mem (decode bs)))
-unfolding serve change
+    → serve full s (planned (load bs)) ≡ settle (first_refusal (s ∷ []) (conditions full bs)) (positions_of s) done (bounded (mem (decode bs)))
+unfolding serve
 load-by full s bs = refl
 
 -- a call that is done was not refused
@@ -129,14 +120,14 @@ done-unrefused (Some n) S Q e = let z : ◌≡◌ {A = ℕ} 0 1 = cc in absurd (
 
 -- accepted bytes load, and the world then has their positions
 pub accepted-loads : (full : ℕ → Bool) (S : Positions) (bs : List ℕ) → Accepted full bs
-    → serve full (holding S) (load bs) ≡ record { answer = gave done; positions = bounded (mem (decode bs)) }
-accepted-loads full S bs A = load-by full (holding S) bs ∙ ap (λ n. settle n S done (bounded (mem (decode bs)))) (accepted-unrefused full S bs A)
+    → serve full (holding S) (planned (load bs)) ≡ record { answer = gave done; positions = bounded (mem (decode bs)) }
+accepted-loads full S bs A = load-by full (holding S) bs ∙ ap (λ n. settle n S done (bounded (mem (decode bs)))) (accepted-unrefused full bs A)
 
 -- and what loads was accepted
-pub loads-accepted : (full : ℕ → Bool) (S : Positions) (bs : List ℕ) → (serve full (holding S) (load bs)).answer ≡ gave done → Accepted full bs
+pub loads-accepted : (full : ℕ → Bool) (S : Positions) (bs : List ℕ) → (serve full (holding S) (planned (load bs))).answer ≡ gave done → Accepted full bs
 loads-accepted full S bs e =
-    unrefused-accepted full (holding S) bs
-    (done-unrefused (refusal (conditions full (holding S) bs)) S (bounded (mem (decode bs))) (sym (ap (λ o. o.answer) (load-by full (holding S) bs)) ∙ e))
+    unrefused-accepted full bs
+    (done-unrefused (refusal (conditions full bs)) S (bounded (mem (decode bs))) (sym (ap (λ o. o.answer) (load-by full (holding S) bs)) ∙ e))
 
 -- accepted bytes are those of the positions read from them, in the edition that they tell, also after the bound
 pub accepted-bytes : (full : ℕ → Bool) (bs : List ℕ) → AllBytes bs → Accepted full bs
@@ -179,40 +170,40 @@ bounded-held P = fun_ext (λ x. go x (split x size))
 
 -- where there is room the bytes are written
 pub written-whole : (full : ℕ → Bool) (e : Edition) (P : Positions) (out : List ℕ) → length (encode e (held_runs P)) ≤ length out
-    → serve full (holding P) (write_set e out) ≡ record { answer = gave (written (length (encode e (held_runs P))) (into_front (encode e (held_runs P)) out)); positions = P }
-unfolding serve write report no_room
+    → serve full (holding P) (planned (write_set e out)) ≡ record { answer = gave (written (length (encode e (held_runs P))) (into_front (encode e (held_runs P)) out)); positions = P }
+unfolding serve no_room
 written-whole full e P out h = rw (le-ltb (length out) (length (encode e (held_runs P))) h)
 
 -- ---- THE ROUND TRIPS
 -- the set that P writes, in either edition, loads into any world that may have P's runs, and gives P
 pub written-loads :
     (full : ℕ → Bool) (e : Edition) (P S : Positions) → stretches P ≤ 65536 → full (stretches P) ≡ false
-    → serve full (holding S) (load (encode e (held_runs P))) ≡ record { answer = gave done; positions = bounded P }
+    → serve full (holding S) (planned (load (encode e (held_runs P)))) ≡ record { answer = gave done; positions = bounded P }
 written-loads full e P S h f =
     accepted-loads full S (encode e (held_runs P)) (held-accepted full e P h f)
     ∙ ap (λ Q. record { answer = gave done; positions = Q }) (ap (λ rs. bounded (mem rs)) (held-read e P h) ∙ bounded-held P)
 
 -- bytes that load are written back as they were, in the edition that they tell
 pub loaded-writes :
-    (full : ℕ → Bool) (S : Positions) (bs out : List ℕ) → AllBytes bs → (serve full (holding S) (load bs)).answer ≡ gave done → length bs ≤ length out
-    → (serve full (holding (serve full (holding S) (load bs)).positions) (write_set (edition_of bs) out)).answer ≡ gave (written (length bs) (into_front bs out))
+    (full : ℕ → Bool) (S : Positions) (bs out : List ℕ) → AllBytes bs → (serve full (holding S) (planned (load bs))).answer ≡ gave done → length bs ≤ length out
+    → (serve full (holding (serve full (holding S) (planned (load bs))).positions) (planned (write_set (edition_of bs) out))).answer ≡ gave (written (length bs) (into_front bs out))
 loaded-writes full S bs out b e h =
     let A = loads-accepted full S bs e in
     let Q : Positions = bounded (mem (decode bs)) in
     let f : encode (edition_of bs) (held_runs Q) ≡ bs = (accepted-bytes full bs b A).1 in
-    ap (λ o. (serve full (holding o.positions) (write_set (edition_of bs) out)).answer) (accepted-loads full S bs A)
+    ap (λ o. (serve full (holding o.positions) (planned (write_set (edition_of bs) out))).answer) (accepted-loads full S bs A)
     ∙ ap (λ o. o.answer) (written-whole full (edition_of bs) Q out (subst (λ cs. length cs ≤ length out) (sym f) h))
     ∙ ap (λ cs. gave (written (length cs) (into_front cs out))) f
 
 -- bytes load exactly if they are the written set, in some edition, of positions with not too many runs
 pub loads-exactly :
     (full : ℕ → Bool) (S : Positions) (bs : List ℕ) → AllBytes bs
-    → ((serve full (holding S) (load bs)).answer ≡ gave done → (e : Edition) × (P : Positions) × (full (stretches P) ≡ false) × (bs ≡ encode e (held_runs P)))
-    × ((e : Edition) (P : Positions) → stretches P ≤ 65536 → full (stretches P) ≡ false → bs ≡ encode e (held_runs P) → (serve full (holding S) (load bs)).answer ≡ gave done)
+    → ((serve full (holding S) (planned (load bs))).answer ≡ gave done → (e : Edition) × (P : Positions) × (full (stretches P) ≡ false) × (bs ≡ encode e (held_runs P)))
+    × ((e : Edition) (P : Positions) → stretches P ≤ 65536 → full (stretches P) ≡ false → bs ≡ encode e (held_runs P) → (serve full (holding S) (planned (load bs))).answer ≡ gave done)
 unfolding too_many
 loads-exactly full S bs b = (
   λ e. let A = loads-accepted full S bs e in (edition_of bs, mem (decode bs), A.fits, sym (accepted-bytes full bs b A).0),
-  λ e P h f g. ap (λ cs. (serve full (holding S) (load cs)).answer) g ∙ ap (λ o. o.answer) (written-loads full e P S h f),
+  λ e P h f g. ap (λ cs. (serve full (holding S) (planned (load cs))).answer) g ∙ ap (λ o. o.answer) (written-loads full e P S h f),
 )
 
 -- equal positions write equal bytes in one edition, and different positions different bytes

@@ -53,6 +53,7 @@ use Rattle.model.specs.Range.{bound_by}
 use Rattle.model.specs.Call.{deepest, measure, written, refused, gave}
 use Rattle.model.specs.Pools.{PlainWorld, make_by, measure_by, step}
 use Rattle.model.proofs.Deepest.{least-22, deepest-words}
+use Rattle.model.proofs.Calc.{union, map_runs, some_bit, clipped, runs_of, union_at, fates_runs, plan_runs, serve_runs}
 use Rattle.model.proofs.WorkedPools.{due-short, due-room, measured-answer, opened_at, put_runs, claims_runs}
 use Rattle.model.proofs.WorkedPools.{others_runs, first_refused_runs, places_runs}
 use Rattle.model.proofs.WorkedPools.{stopped_by, due_answer, stopped_answer, measure_runs, at_by, new_worlds, make_runs}
@@ -60,9 +61,6 @@ use Rattle.model.proofs.WorkedPools.{step_runs, pool_shown, pool_left, fits, Poo
 use Rattle.model.proofs.WorkedPools.{pools-hold}
 use Rattle.model.proofs.Cases.{Shown, shown, left, computed, expected, rows-hold}
 use Rattle.model.proofs.Cells.{set_rows, rect_runs, count_rect_runs, row_halves, column_halves, survey_runs}
-use Rattle.model.proofs.Calc.{runs_of, union, map_runs, some_bit, clipped, report_runs, change_runs, write_runs}
-use Rattle.model.proofs.Calc.{mend_runs, union_at, fates_runs, changed_runs, setting_runs, flipping_runs, tallying_runs}
-use Rattle.model.proofs.Calc.{remaining_runs, calc}
 
 -- ---- the tables, computed
 -- a call on a lent slice alone, and what it is to come to
@@ -97,11 +95,10 @@ tables-compute : come-to ≡ due
 unfolding cells others pools measures handled shown left pool_shown pool_left fits step_runs make_runs new_worlds at_by
     opened_at put_runs claims_runs others_runs bad_limits measure_runs due_answer stopped_answer stopped_by
     first_refused_runs places_runs meets find ranges_of ranges_from entries_of entry_of bound_by least middles
-    middles_up_to runs_at deepest_runs words_of deepest_words clear_map convert converted stray_bits cleared count calc
-    report_runs change_runs write_runs mend_runs union_at fates_runs another changed_runs setting_runs flipping_runs
-    tallying_runs fed_as runs_of union map_runs some_bit clipped clip set_runs on_range set_to insert clear combine_runs
+    middles_up_to runs_at deepest_runs words_of deepest_words clear_map convert converted stray_bits cleared count serve_runs
+    plan_runs union_at fates_runs another fed_as runs_of union map_runs some_bit clipped clip set_runs on_range set_to insert clear combine_runs
     and_runs or_runs xor_runs minus_runs set_all flip_runs inverted complement_runs shift_runs shift_left_runs
-    shift_right_runs remaining_runs drawn_first drawn_last past_first past_last widths mem first_long set_rows
+    shift_right_runs drawn_first drawn_last past_first past_last widths mem first_long set_rows
     rect_runs count_rect_runs row_halves column_halves survey_runs big_endian value_from value_of encode_runs column
     columns_from columns encode runs_due edition_of decode_runs runs_told decode bits bytes_from map_of map_bit
     into_front bad_rect bad_square bad_window bad_map too_short bad_length bad_version ordered_from disordered no_room

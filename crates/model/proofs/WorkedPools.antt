@@ -4,7 +4,7 @@
 use Rattle.std.specs.Prelude.{Option, None, Some}
 use mathlib.Core.Path.{◌≡◌, refl, sym, ap, ap₂, ◌∙◌, fun_ext}
 use mathlib.Core.Bool.{Bool, true, false, not, ◌&&◌, cond}
-use mathlib.Core.List.{List, [], ◌∷◌, map}
+use mathlib.Core.List.{List, [], ◌∷◌, ◌++◌, map}
 use Prim.Native.Nat.{ℕ, zero, suc, ◌+◌, ◌-◌, ◌≤◌, ◌<◌, min, max}
 use native.Mathlib.Omega.{arith}
 use lib.Dec.{ltb, leb}
@@ -19,13 +19,13 @@ use Rattle.model.specs.RunList.{Canon}
 use Rattle.model.specs.Deepest.{least, deepest_words}
 use Rattle.model.specs.Spawning.{none_refused, places_told, ranges_of, entries_of, first_refused, meets, leads}
 use Rattle.model.specs.Spawning.{places_from, places, why_full_up_to, why_full}
-use Rattle.model.specs.Refusals.{Condition, store_length, world_limits, tree_height, not_refused, capacity}
+use Rattle.model.specs.Refusals.{Condition, looks, given, first_given, store_length, store_unsound, world_limits, tree_height, not_refused, capacity}
 use Rattle.model.specs.Refusals.{output_short}
 use Rattle.model.specs.Refusals.{◌when◌, refusal, bad_limits, bad_height, no_room}
 use Rattle.model.specs.Call
-use Rattle.model.specs.Call.{Fed, unopened, holding, Call, Measure, PoolCall, feed, feed_pool, make, measure, at}
+use Rattle.model.specs.Call.{Fed, unopened, holding, Call, Measure, PoolCall, told_as, make, measure, at}
 use Rattle.model.specs.Call.{Result, done, written, Answer, refused, gave}
-use Rattle.model.specs.Model.{report, change, mending, changed, setting, flipping, serve}
+use Rattle.model.specs.Model.{Plan, reads, all_read, plan, serve}
 use Rattle.model.specs.Pools.{PlainWorld, PoolOutcome, world_of, fed_by, claims, other_claims, full, holding_at}
 use Rattle.model.specs.Pools.{serve_at, settle_make, make_by, empty_worlds, settle_measured, measure_by, step, answers}
 use Rattle.model.specs.Pools.{after, allowance_of, allowance}
@@ -39,38 +39,22 @@ use Rattle.model.proofs.Calc.{Tied, union, union-canon, union-positions, union_a
 use Rattle.model.proofs.Calc.{mem-empty}
 
 -- ---- a world that is not open
+-- a look at it refuses, whatever other worlds earn
+shut-refused : (ss : List Fed) → (n : ℕ) × (first_given looks (reads unopened ++ all_read ss) ≡ Some n)
+shut-refused ss = go (given store_length (all_read ss)) (given world_limits (all_read ss)) (given store_unsound (all_read ss))
+  where
+    go : (x y z : Bool) → (n : ℕ) × (cond x (Some 1) (cond y (Some 11) (cond z (Some 7) (Some 12))) ≡ Some n)
+    go true y z = (1, refl)
+    go false true z = (11, refl)
+    go false false true = (7, refl)
+    go false false false = (12, refl)
+
 -- it answers alike, whatever numbers of runs are too many
-any-full : (f g : ℕ → Bool) (c : Call Fed) → serve f unopened c ≡ serve g unopened c
-unfolding serve change changed setting flipping mending
-any-full f g (Call.set l u v) = refl
-any-full f g (Call.flip l u) = refl
-any-full f g (Call.get x) = refl
-any-full f g (Call.run_at x) = refl
-any-full f g (Call.find l u v) = refl
-any-full f g (Call.tally l u v) = refl
-any-full f g (Call.select l u v k) = refl
-any-full f g (Call.gap l u n) = refl
-any-full f g (Call.ranges l u v) = refl
-any-full f g (Call.draw_front l) = refl
-any-full f g (Call.draw_back l) = refl
-any-full f g (Call.shift d left) = refl
-any-full f g (Call.shifted d left t) = refl
-any-full f g (Call.combine op t u) = refl
-any-full f g (Call.complement t) = refl
-any-full f g (Call.equal t) = refl
-any-full f g (Call.load bs) = refl
-any-full f g (Call.mend bs out report) = refl
-any-full f g (Call.build rs) = refl
-any-full f g (Call.write_set e out) = refl
-any-full f g (Call.read_map base n bs) = refl
-any-full f g (Call.write_map base n out) = refl
-any-full f g (Call.fill base n) = refl
-any-full f g (Call.set_strict l u v) = refl
-any-full f g (Call.flip_strict l u) = refl
-any-full f g (Call.tally_strict l u v) = refl
-any-full f g (Call.set_rect q v) = refl
-any-full f g (Call.count_rect q) = refl
-any-full f g (Call.survey r c k out) = refl
+any-full : (f g : ℕ → Bool) (p : Plan) → serve f unopened p ≡ serve g unopened p
+unfolding serve
+any-full f g p =
+    let e = (shut-refused p.further).1 in
+    rw e
 
 -- and no world changes
 holding-none : (ws : List PlainWorld) (i : ℕ) (P : Positions) → world_of ws i ≡ None → holding_at i P ws ≡ ws
@@ -298,7 +282,7 @@ unfoldable pub make_runs : Bool → List Opened → List Limits → PoolRuns
 make_runs true ws ls = record { answer = refused 11; worlds = ws }
 make_runs false ws ls = record { answer = gave done; worlds = new_worlds ls }
 
-unfoldable pub step_runs : ℕ → List Opened → PoolCall Given → PoolRuns
+unfoldable pub step_runs : ℕ → List Opened → PoolCall (Call Given) → PoolRuns
 step_runs C ws (make ls) = make_runs (bad_limits C ls) ws ls
 step_runs C ws (measure q out) = record { answer = measure_runs C q out; worlds = ws }
 step_runs C ws (at i c) = at_by C ws i c (opened_at ws i)
@@ -323,27 +307,27 @@ made false ws ls c = record { answer = refl; worlds = new-held ls; canonical = n
 
 -- a call on a world that is not open
 shut-tied : (C : ℕ) (ws : List Opened) (i : ℕ) (k : Call Given) → Canonical ws → opened_at ws i ≡ None
-    → PoolTied (step C (map opened_as ws) (at i (feed fed_as k))) (at_by C ws i k None)
+    → PoolTied (step C (map opened_as ws) (at i (plan fed_as k))) (at_by C ws i k None)
 unfolding step serve_at at_by fed_as
 shut-tied C ws i k c e = record {
   answer = ap (λ o. o.answer) same ∙ (calc-tied 0 shut k).answer;
   worlds = holding-none (map opened_as ws) i
-      (serve (full C (map opened_as ws) i) (fed_by (world_of (map opened_as ws) i)) (feed fed_as k)).positions none;
+      (serve (full C (map opened_as ws) i) (fed_by (world_of (map opened_as ws) i)) (plan fed_as k)).positions none;
   canonical = c;
 }
   where
     none : world_of (map opened_as ws) i ≡ None
     none = world-is ws i ∙ ap as_opened e
 
-    same : serve (full C (map opened_as ws) i) (fed_by (world_of (map opened_as ws) i)) (feed fed_as k)
-        ≡ serve (ltb 0) unopened (feed fed_as k)
-    same = ap (λ o. serve (full C (map opened_as ws) i) (fed_by o) (feed fed_as k)) none
-        ∙ any-full (full C (map opened_as ws) i) (ltb 0) (feed fed_as k)
+    same : serve (full C (map opened_as ws) i) (fed_by (world_of (map opened_as ws) i)) (plan fed_as k)
+        ≡ serve (ltb 0) unopened (plan fed_as k)
+    same = ap (λ o. serve (full C (map opened_as ws) i) (fed_by o) (plan fed_as k)) none
+        ∙ any-full (full C (map opened_as ws) i) (ltb 0) (plan fed_as k)
 
 -- and on one that is, where the limits are kept
 open-tied : (C : ℕ) (ws : List Opened) (i : ℕ) (k : Call Given) (x : Opened) → Canonical ws
     → claims_runs ws ≤ C → opened_at ws i ≡ Some x
-    → PoolTied (step C (map opened_as ws) (at i (feed fed_as k))) (at_by C ws i k (Some x))
+    → PoolTied (step C (map opened_as ws) (at i (plan fed_as k))) (at_by C ws i k (Some x))
 unfolding step serve_at at_by allowance fed_as
 open-tied C ws i k x c h e = record {
   answer = ap (λ o. o.answer) same ∙ t.answer;
@@ -355,7 +339,7 @@ open-tied C ws i k x c h e = record {
     room : ℕ
     room = min x.ceiling (C - others_runs ws i)
 
-    t : Tied (serve (ltb room) (fed_as (having x.runs)) (feed fed_as k)) (calc room (having x.runs) k)
+    t : Tied (serve (ltb room) (fed_as (having x.runs)) (plan fed_as k)) (calc room (having x.runs) k)
     t = calc-tied room (having x.runs) k
 
     is : world_of (map opened_as ws) i ≡ Some (opened_as x)
@@ -369,12 +353,12 @@ open-tied C ws i k x c h e = record {
     fed : holding (mem x.runs) ≡ fed_as (having x.runs)
     fed = ap holding (sym (bounded-mem x.runs (at-canon ws i x e c)))
 
-    same : serve (full C (map opened_as ws) i) (fed_by (world_of (map opened_as ws) i)) (feed fed_as k)
-        ≡ serve (ltb room) (fed_as (having x.runs)) (feed fed_as k)
-    same = ap₂ (λ f s. serve f s (feed fed_as k)) allowed (ap fed_by is ∙ fed)
+    same : serve (full C (map opened_as ws) i) (fed_by (world_of (map opened_as ws) i)) (plan fed_as k)
+        ≡ serve (ltb room) (fed_as (having x.runs)) (plan fed_as k)
+    same = ap₂ (λ f s. serve f s (plan fed_as k)) allowed (ap fed_by is ∙ fed)
 
-step-tied : (C : ℕ) (ws : List Opened) (k : PoolCall Given) → Canonical ws → claims_runs ws ≤ C
-    → PoolTied (step C (map opened_as ws) (feed_pool fed_as k)) (step_runs C ws k)
+step-tied : (C : ℕ) (ws : List Opened) (k : PoolCall (Call Given)) → Canonical ws → claims_runs ws ≤ C
+    → PoolTied (step C (map opened_as ws) (told_as (plan fed_as) k)) (step_runs C ws k)
 unfolding step step_runs make_by measure_by
 step-tied C ws (make ls) c h = made (bad_limits C ls) ws ls c
 step-tied C ws (measure q out) c h = record {
@@ -388,43 +372,43 @@ step-tied C ws (measure q out) c h = record {
 step-tied C ws (at i k) c h = go (opened_at ws i) refl
   where
     go : (o : Option Opened) → opened_at ws i ≡ o
-        → PoolTied (step C (map opened_as ws) (at i (feed fed_as k))) (at_by C ws i k o)
+        → PoolTied (step C (map opened_as ws) (at i (plan fed_as k))) (at_by C ws i k o)
     go None e = shut-tied C ws i k c e
     go (Some x) e = open-tied C ws i k x c h e
 
 -- ---- the rows
-unfoldable pub pool_shown : ℕ → List Opened → List (PoolCall Given) → List Answer
+unfoldable pub pool_shown : ℕ → List Opened → List (PoolCall (Call Given)) → List Answer
 pool_shown C ws [] = []
 pool_shown C ws (k ∷ ks) = (step_runs C ws k).answer ∷ pool_shown C (step_runs C ws k).worlds ks
 
-unfoldable pub pool_left : ℕ → List Opened → List (PoolCall Given) → List Opened
+unfoldable pub pool_left : ℕ → List Opened → List (PoolCall (Call Given)) → List Opened
 pool_left C ws [] = ws
 pool_left C ws (k ∷ ks) = pool_left C (step_runs C ws k).worlds ks
 
 -- before every call the claims are within C
-unfoldable pub fits : ℕ → List Opened → List (PoolCall Given) → Bool
+unfoldable pub fits : ℕ → List Opened → List (PoolCall (Call Given)) → Bool
 fits C ws [] = true
 fits C ws (k ∷ ks) = leb (claims_runs ws) C && fits C (step_runs C ws k).worlds ks
 
-shown-answers : (C : ℕ) (ws : List Opened) (ks : List (PoolCall Given)) → Canonical ws → fits C ws ks ≡ true
-    → answers C (map opened_as ws) (map (feed_pool fed_as) ks) ≡ pool_shown C ws ks
+shown-answers : (C : ℕ) (ws : List Opened) (ks : List (PoolCall (Call Given))) → Canonical ws → fits C ws ks ≡ true
+    → answers C (map opened_as ws) (map (told_as (plan fed_as)) ks) ≡ pool_shown C ws ks
 unfolding answers pool_shown fits
 shown-answers C ws [] c h = refl
 shown-answers C ws (k ∷ ks) c h =
     let b = and-holds (leb (claims_runs ws) C) (fits C (step_runs C ws k).worlds ks) h in
     let t = step-tied C ws k c (leb-true (claims_runs ws) C b.0) in
     ap₂ {C = List Answer} (λ a as'. a ∷ as') t.answer
-    (ap (λ vs. answers C vs (map (feed_pool fed_as) ks)) t.worlds
+    (ap (λ vs. answers C vs (map (told_as (plan fed_as)) ks)) t.worlds
     ∙ shown-answers C (step_runs C ws k).worlds ks t.canonical b.1)
 
-left-after : (C : ℕ) (ws : List Opened) (ks : List (PoolCall Given)) → Canonical ws → fits C ws ks ≡ true
-    → after C (map opened_as ws) (map (feed_pool fed_as) ks) ≡ map opened_as (pool_left C ws ks)
+left-after : (C : ℕ) (ws : List Opened) (ks : List (PoolCall (Call Given))) → Canonical ws → fits C ws ks ≡ true
+    → after C (map opened_as ws) (map (told_as (plan fed_as)) ks) ≡ map opened_as (pool_left C ws ks)
 unfolding after pool_left fits
 left-after C ws [] c h = refl
 left-after C ws (k ∷ ks) c h =
     let b = and-holds (leb (claims_runs ws) C) (fits C (step_runs C ws k).worlds ks) h in
     let t = step-tied C ws k c (leb-true (claims_runs ws) C b.0) in
-    ap (λ vs. after C vs (map (feed_pool fed_as) ks)) t.worlds
+    ap (λ vs. after C vs (map (told_as (plan fed_as)) ks)) t.worlds
     ∙ left-after C (step_runs C ws k).worlds ks t.canonical b.1
 
 pub record PoolShown : Type 0 where

@@ -9,8 +9,8 @@ use Rattle.model.specs.Deepest.{least, deepest_words}
 use Rattle.model.specs.Spawning
 use Rattle.model.specs.Spawning.{ranges_of, entries_of, none_refused, places_told}
 use Rattle.model.specs.Refusals.{store_length, world_limits, tree_height, not_refused, capacity, output_short, Condition, ◌when◌, refusal, bad_limits, bad_height, no_room}
-use Rattle.model.specs.Call.{Fed, unopened, holding, Call, Measure, deepest, why_full, PoolCall, make, measure, at, Result, done, written, Answer, refused, gave}
-use Rattle.model.specs.Model.{Outcome, serve}
+use Rattle.model.specs.Call.{Fed, unopened, holding, Measure, deepest, why_full, PoolCall, make, measure, at, Result, done, written, Answer, refused, gave}
+use Rattle.model.specs.Model.{Plan, Outcome, serve}
 
 pub record PlainWorld : Type 0 where
   pub positions : Positions
@@ -67,8 +67,8 @@ pub record PoolOutcome : Type 0 where
   pub worlds : List PlainWorld
 
 -- a call on world i
-unfoldable pub serve_at : ℕ → List PlainWorld → ℕ → Call Fed → Outcome
-serve_at C ws i c = serve (full C ws i) (fed_by (world_of ws i)) c
+unfoldable pub serve_at : ℕ → List PlainWorld → ℕ → Plan → Outcome
+serve_at C ws i p = serve (full C ws i) (fed_by (world_of ws i)) p
 
 abbrev pub leaving : List PlainWorld → ℕ → Outcome → PoolOutcome
 leaving ws i o = record { answer = o.answer; worlds = holding_at i o.positions ws }
@@ -128,18 +128,18 @@ unfoldable pub measure_by : Bool → ℕ → List PlainWorld → Measure → Lis
 measure_by short C ws q out =
     settle_measured (refusal (measure_conditions short C q out)) ws (written (length (words_due q C)) (into_front (words_due q C) out))
 
--- THE MODEL: one call on a capacity and worlds
-unfoldable pub step : ℕ → List PlainWorld → PoolCall Fed → PoolOutcome
+-- THE MODEL: one call on a capacity and worlds; of one on a world, what it does
+unfoldable pub step : ℕ → List PlainWorld → PoolCall Plan → PoolOutcome
 step C ws (make ls) = make_by false C ws ls
 step C ws (measure q out) = measure_by false C ws q out
-step C ws (at i c) = leaving ws i (serve_at C ws i c)
+step C ws (at i p) = leaving ws i (serve_at C ws i p)
 
 -- lists of calls: every answer, and the worlds after the last call
-unfoldable pub answers : ℕ → List PlainWorld → List (PoolCall Fed) → List Answer
+unfoldable pub answers : ℕ → List PlainWorld → List (PoolCall Plan) → List Answer
 answers C ws [] = []
 answers C ws (c ∷ cs) = (step C ws c).answer ∷ answers C (step C ws c).worlds cs
 
-unfoldable pub after : ℕ → List PlainWorld → List (PoolCall Fed) → List PlainWorld
+unfoldable pub after : ℕ → List PlainWorld → List (PoolCall Plan) → List PlainWorld
 after C ws [] = ws
 after C ws (c ∷ cs) = after C (step C ws c).worlds cs
 

@@ -6,7 +6,8 @@ use Rattle.model.specs.Ends.{Bound}
 use Rattle.model.specs.declared.Run.{Run}
 use Rattle.model.specs.Range.{bound_by, first_allowed, past_allowed}
 use Rattle.model.specs.Positions.{run, find, stretches, run_at, mem}
-use Rattle.model.specs.Call.{Fed, set, PoolCall, at, Answer, refused, gave}
+use Rattle.model.specs.Call.{set, PoolCall, at, Answer, refused, gave}
+use Rattle.model.specs.Model.{Plan, planned}
 
 -- ---- a list of ranges
 pub record Range : Type 0 where
@@ -29,9 +30,9 @@ unfoldable pub ranges_of : List ℕ → List Range
 ranges_of ws = ranges_from ws 0 (length ws / 4)
 
 -- the calls: each range is set to true
-unfoldable pub sets_of : List Range → List (PoolCall Fed)
+unfoldable pub sets_of : List Range → List (PoolCall Plan)
 sets_of [] = []
-sets_of (r ∷ rs) = at 0 (set r.lower r.upper true) ∷ sets_of rs
+sets_of (r ∷ rs) = at 0 (planned (set r.lower r.upper true)) ∷ sets_of rs
 
 -- the entry of a range is the run of its positions. One that is empty or reversed holds none: its entry starts above its end
 unfoldable pub entry_of : Range → Run

@@ -17,9 +17,10 @@ use Rattle.model.specs.Call.{Call, set, flip, get, run_at, tally, gap, draw_fron
 use Rattle.model.specs.Call.{combine, complement, equal, load, mend, build, write_set}
 use Rattle.model.specs.Call.{read_map, write_map, fill, set_strict, flip_strict, tally_strict}
 use Rattle.model.specs.Call.{set_rect, count_rect, survey}
-use Rattle.model.specs.Call.{Measure, deepest, why_full, PoolCall, make, measure, at, feed_pool}
+use Rattle.model.specs.Call.{Measure, deepest, why_full, PoolCall, make, measure, at, told_as}
 use Rattle.model.specs.Call.{Result, done, number, tallied, value, around, position, drawn, written, mended}
 use Rattle.model.specs.Call.{Answer, refused, gave}
+use Rattle.model.specs.Model.{plan}
 use Rattle.model.specs.Pools.{PlainWorld, make_by, measure_by, step, answers, after}
 use Rattle.model.specs.Handled.{Handled}
 use Rattle.model.specs.Clearing.{clear_map}
@@ -355,14 +356,14 @@ opened_as x = record { positions = mem x.runs; floor = x.floor; ceiling = x.ceil
 -- a capacity C, calls on a pool that has no world yet, their answers, and the worlds afterwards
 pub record PoolCase : Type 0 where
   pub capacity : ℕ
-  pub calls : List (PoolCall Given)
+  pub calls : List (PoolCall (Call Given))
   pub answers-are : List Answer
   pub worlds-are : List Opened
 
 -- what a row says of the plain model
 pub record PoolHolds (c : PoolCase) : Type 0 where
-  pub answered : answers c.capacity [] (map (feed_pool fed_as) c.calls) ≡ c.answers-are
-  pub held : after c.capacity [] (map (feed_pool fed_as) c.calls) ≡ map opened_as c.worlds-are
+  pub answered : answers c.capacity [] (map (told_as (plan fed_as)) c.calls) ≡ c.answers-are
+  pub held : after c.capacity [] (map (told_as (plan fed_as)) c.calls) ≡ map opened_as c.worlds-are
 
 -- and what a table says
 abbrev pub AllPoolsHold : List PoolCase → Type 0
@@ -370,7 +371,7 @@ AllPoolsHold [] = Unit
 AllPoolsHold (c ∷ cs) = PoolHolds c × AllPoolsHold cs
 
 -- a row of calls on a pool, and its worlds afterwards
-abbrev pub pool_says : ℕ → List (Said (PoolCall Given)) → List Opened → PoolCase
+abbrev pub pool_says : ℕ → List (Said (PoolCall (Call Given))) → List Opened → PoolCase
 pool_says C ss left = record { capacity = C; calls = calls_of ss; answers-are = answers_of ss; worlds-are = left }
 
 -- a world's floor and ceiling
@@ -387,11 +388,11 @@ alike zero l = []
 alike (suc n) l = l ∷ alike n l
 
 -- the position x is set to true in world i
-abbrev pub hold : ℕ → ℕ → PoolCall Given
+abbrev pub hold : ℕ → ℕ → PoolCall (Call Given)
 hold i x = at i (set (from x) (Included x) true)
 
 -- and to false
-abbrev pub free : ℕ → ℕ → PoolCall Given
+abbrev pub free : ℕ → ℕ → PoolCall (Call Given)
 free i x = at i (set (from x) (Included x) false)
 
 -- rows on several worlds
@@ -499,11 +500,11 @@ pools =
 
 -- ---- measured pools
 -- a pool of one world, which may have all of it, is measured; its world stays empty
-abbrev pub measured : ℕ → List (Said (PoolCall Given)) → PoolCase
+abbrev pub measured : ℕ → List (Said (PoolCall (Call Given))) → PoolCase
 measured C ss = pool_says C (make (limits 0 C ∷ []) gives done ∷ ss) (opened 0 C [] ∷ [])
 
 -- the question q, with a slice of n words
-abbrev pub ask : Measure → ℕ → PoolCall Given
+abbrev pub ask : Measure → ℕ → PoolCall (Call Given)
 ask q n = measure q (blank n)
 
 -- the words of a range before those of others: from a to b
