@@ -11,9 +11,9 @@ use Rattle.model.specs.declared.Limits.{Limits}
 use Rattle.model.specs.Answers.{written_answer, mended_answer}
 use Rattle.model.specs.Call.{Call, Measure, Answer}
 use Rattle.model.specs.Handled.{Handled}
-use Rattle.promises.specs.Met.{Site, Met, Made}
-use Rattle.promises.specs.Handles.{Handles}
-use Rattle.promises.specs.Out.{Unwritten, WritesOut, WritesMeasured, Unmended, Mends}
+use Rattle.interval_bit_set.specs.Met.{Site, Met, Made}
+use Rattle.interval_bit_set.specs.Handles.{Handles}
+use Rattle.interval_bit_set.specs.Out.{Unwritten, WritesOut, WritesMeasured, Unmended, Mends}
 use Rattle.flat.specs.declared.Reply.{Reply}
 use Rattle.flat.specs.Flat.{reply_of}
 use Rattle.frame.specs.Frame.{Framed}

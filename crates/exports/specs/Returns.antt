@@ -4,8 +4,8 @@ use Rattle.std.specs.Prelude.{ℕ, ◌≡◌, List}
 use Rattle.model.specs.declared.Limits.{Limits}
 use Rattle.model.specs.Call.{Call, Measure, Answer, refused, gave}
 use Rattle.model.specs.Handled.{Handled}
-use Rattle.promises.specs.Met.{Site, Met, Made, Measured}
-use Rattle.interval_bit_set.specs.Out.{on_written, on_mended}
+use Rattle.interval_bit_set.specs.Met.{Site, Met, Made, Measured}
+use Rattle.interval_bit_set.specs.Parts.{on_written, on_mended}
 use Rattle.flat.specs.declared.Reply.{Reply}
 use Rattle.flat.specs.Flat.{reply_of}
 use Rattle.frame.specs.Frame.{Framed}

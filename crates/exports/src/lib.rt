@@ -11,7 +11,7 @@ ghost use Rattle.model.specs.Pools.{limits_of};
 ghost use Rattle.model.specs.Bytes.{edition_by};
 ghost use Rattle.model.specs.Clearing.{clear_map};
 ghost use Rattle.model.specs.Converting.{convert};
-ghost use Rattle.promises.specs.Met.{site};
+ghost use Rattle.interval_bit_set.specs.Met.{site};
 ghost use Rattle.interval_bit_set.specs.Lent.{listing_of};
 ghost use Rattle.model.specs.Positions.{operation_of};
 ghost use Rattle.flat.specs.Flat.{truth};

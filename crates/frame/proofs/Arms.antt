@@ -13,8 +13,8 @@ use Rattle.model.specs.Refusals.{looks, Condition, first_given}
 use Rattle.model.specs.Call.{Call, Result, Answer, refused}
 use Rattle.store.specs.Layout.{opened_at}
 use Rattle.store.specs.Soundness.{Sound}
-use Rattle.promises.specs.Met.{Site, Met}
-use Rattle.promises.proofs.Meeting.{
+use Rattle.interval_bit_set.specs.Met.{Site, Met}
+use Rattle.interval_bit_set.proofs.Meeting.{
   Reports,
   get-says,
   run-at-says,
@@ -29,8 +29,8 @@ use Rattle.promises.proofs.Meeting.{
   tally-strict-says,
   count-rect-says,
 }
-use Rattle.promises.proofs.Changing.{Changes, set_says, flip-says, shift_says, set-strict-says, flip-strict-says, set-rect-says}
-use Rattle.promises.proofs.Overwriting.{build-says}
+use Rattle.interval_bit_set.proofs.Changing.{Changes, set_says, flip-says, shift_says, set-strict-says, flip-strict-says, set-rect-says}
+use Rattle.interval_bit_set.proofs.Overwriting.{build-says}
 use Rattle.interval_bit_set.proofs.Looking.{world-unopened, turned-away, sent-away}
 use Rattle.frame.specs.declared.entry.Kind.{Kind}
 use Rattle.frame.specs.declared.entry.Entry.{Entry}

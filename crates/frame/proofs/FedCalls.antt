@@ -5,7 +5,7 @@ use mathlib.Core.Path.{refl, ap}
 use native.Mathlib.Omega.{arith}
 use Rattle.model.specs.Call.{Fed, feed, PoolCall, Answer}
 use Rattle.model.specs.Pools.{PlainWorld, step, answers}
-use Rattle.promises.specs.Met.{fed_at}
+use Rattle.interval_bit_set.specs.Met.{fed_at}
 use Rattle.frame.specs.declared.entry.Kind.{Kind}
 use Rattle.frame.specs.declared.entry.Entry.{Entry}
 use Rattle.frame.specs.Records.{kind_of, call_by, call_of, calls_from, records_of}

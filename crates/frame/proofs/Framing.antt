@@ -16,10 +16,10 @@ use Rattle.soundness.specs.Decision.{sound_b}
 use Rattle.soundness.proofs.Whole.{sound_b-no}
 use Rattle.interval_bit_set.specs.Look.{LookedPool}
 use Rattle.interval_bit_set.proofs.Looking.{pool-refused}
-use Rattle.tidy.specs.Tidy.{Tidied}
-use Rattle.tidy.proofs.Tidying.{pooled-tidied}
-use Rattle.promises.specs.Met.{pool_reads}
-use Rattle.promises.proofs.Refusing.{looked-first}
+use Rattle.interval_bit_set.specs.Tidy.{Tidied}
+use Rattle.interval_bit_set.proofs.Tidying.{pooled-tidied}
+use Rattle.interval_bit_set.specs.Met.{pool_reads}
+use Rattle.interval_bit_set.proofs.Refusing.{looked-first}
 use Rattle.frame.specs.Records.{calls_of, records_of}
 use Rattle.frame.specs.Frame.{FrameOutcome, settle_frame, frame_of, frame_outcome, FrameLeaves, Framed}
 use Rattle.frame.specs.Serving.{Playable, Plays}

@@ -8,7 +8,7 @@ use Rattle.model.specs.Call.{Fed, PoolCall, done, Answer, refused, gave}
 use Rattle.model.specs.Pools.{PlainWorld, answers, after}
 use Rattle.store.specs.Layout.{capacity, worlds_of}
 use Rattle.store.specs.Free.{Pooled}
-use Rattle.promises.specs.Met.{pool_reads}
+use Rattle.interval_bit_set.specs.Met.{pool_reads}
 use Rattle.frame.specs.Records.{calls_of, records_of}
 
 -- what a frame answers, the worlds after it, and the slice

@@ -6,7 +6,7 @@ use Rattle.model.specs.Pools.{answers, after}
 use Rattle.store.specs.Layout.{capacity, worlds_of}
 use Rattle.store.specs.Soundness.{Sound}
 use Rattle.store.specs.Free.{Pooled}
-use Rattle.promises.specs.Met.{Met}
+use Rattle.interval_bit_set.specs.Met.{Met}
 use Rattle.frame.specs.declared.entry.Entry.{Entry}
 use Rattle.flat.specs.declared.Reply.{Reply}
 use Rattle.flat.specs.Flat.{reply_of}

@@ -9,7 +9,7 @@ ghost use Rattle.std.specs.Prelude.{◌≡◌, ◌+◌, ◌*◌, ◌/◌, ◌≤
 ghost use Rattle.model.specs.Answers.{completed_answer};
 ghost use Rattle.written.specs.Placed.{placed};
 ghost use Rattle.store.specs.Soundness.{Sound};
-ghost use Rattle.promises.specs.Met.{Readable};
+ghost use Rattle.interval_bit_set.specs.Met.{Readable};
 ghost use Rattle.frame.specs.Frame.{Framed};
 ghost use Rattle.frame.specs.Records.{rect_by, words_of};
 ghost use Rattle.frame.specs.Serving.{ServesAt, Serves, Playable, Plays};

@@ -34,11 +34,11 @@ use Rattle.model.specs.declared.Refusal.{Refusal}
 use Rattle.model.specs.Positions.{Positions}
 use Rattle.model.specs.Refusals.{Condition}
 use Rattle.model.specs.Call.{Call}
-use Rattle.promises.specs.Met.{Site, outcome_of}
-use Rattle.promises.specs.Out.{WritesOut}
-use Rattle.promises.proofs.Putting.{Puts}
-use Rattle.interval_bit_set.specs.Out.{Part, Handed, front_of, count_of}
-use Rattle.interval_bit_set.proofs.Putting.{part-behind, refused-whole}
+use Rattle.interval_bit_set.specs.Met.{Site, outcome_of}
+use Rattle.interval_bit_set.specs.Out.{WritesOut}
+use Rattle.interval_bit_set.proofs.Putting.{Puts}
+use Rattle.interval_bit_set.specs.Parts.{Part, Handed, front_of, count_of}
+use Rattle.interval_bit_set.proofs.Handing.{part-behind, refused-whole}
 use Rattle.interval_bit_set.proofs.Lending.{at-list, Slice}
 use Rattle.interval_bit_set.proofs.Counted.{Counted, counted}
 use Rattle.interval_bit_set.specs.contracts.write.handed as h

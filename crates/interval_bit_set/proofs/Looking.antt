@@ -36,10 +36,10 @@ use Rattle.store.specs.Layout.{capacity, opened_at, worlds_of}
 use Rattle.store.specs.Soundness.{Sound}
 use Rattle.soundness.specs.Decision.{sound_b, worn, checked}
 use Rattle.soundness.proofs.Whole.{sound_b-yes}
-use Rattle.promises.specs.Met.{Site, pool_reads, fed_of, full_at, Readable, Met}
-use Rattle.promises.proofs.Refusing.{looked-first, reads_first}
-use Rattle.promises.proofs.Meeting.{fed-unopened, readable, Reports, refused-both}
-use Rattle.promises.proofs.Changing.{Changes, refused-due}
+use Rattle.interval_bit_set.specs.Met.{Site, pool_reads, fed_of, full_at, Readable, Met}
+use Rattle.interval_bit_set.proofs.Refusing.{looked-first, reads_first}
+use Rattle.interval_bit_set.proofs.Meeting.{fed-unopened, readable, Reports, refused-both}
+use Rattle.interval_bit_set.proofs.Changing.{Changes, refused-due}
 use Rattle.interval_bit_set.specs.Look.{look_number, earliest, LookedPool, Looked, LookedTwo, LookedThree}
 
 -- no number is none

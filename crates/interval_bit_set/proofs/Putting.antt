@@ -1,106 +1,117 @@
--- Calls that write into the front of a lent slice, as the public crate has them: refused by what looking told, and what is handed back of the
--- slice. Assumes nothing.
-use Rattle.std.specs.Result.{IsErrAnd}
-use Rattle.model.specs.declared.Refusal.{Refusal}
-use Rattle.std.specs.Prelude.{None, Ok, Err, IfOk, IfErr}
-use Rattle.model.specs.Answers.{OrRefusal, written_answer}
-use Rattle.std.specs.Prelude.{◌≡◌, ℕ, ◌≤◌, List, length, take, drop}
-use mathlib.Core.Path.{refl, sym, ap, ◌∙◌, subst, subst₂}
+-- Calls that write into the front of a lent slice: what they answer, by the room that the slice has. They report, and one of their
+-- conditions is that the bytes due fit. Assumes nothing.
+use Rattle.std.specs.Prelude.{None, Some, Ok, Err}
+use Prim.Native.Nat.{ℕ, ◌+◌, ◌*◌, ◌≤◌, ◌<◌}
+use mathlib.Core.Path.{◌≡◌, refl, sym, ap, ap₂, ◌∙◌, subst}
+use mathlib.Core.Bool.{Bool, true, false}
+use mathlib.Core.List.{List, [], ◌∷◌}
 use native.Mathlib.Omega.{arith}
-use lib.ListN.{length-append}
-use lib.Seq.{drop_at}
-use borrow.Table.Elements.{length-take-le}
-use denote.Ref.{MutBor}
-use Rattle.model.specs.Positions.{Positions}
-use Rattle.model.specs.Bytes.{into_front}
-use Rattle.model.specs.Refusals.{looks, Condition, first_given}
-use Rattle.model.specs.Call.{Call, Answer, refused, gave, written}
-use Rattle.promises.specs.Met.{Site, outcome_of}
-use Rattle.promises.specs.Out.{WritesOut, Unwritten}
-use Rattle.promises.proofs.Meeting.{refused-not, answers-all}
-use Rattle.promises.proofs.Putting.{Puts}
-use Rattle.interval_bit_set.specs.Look.{Looked}
-use Rattle.interval_bit_set.specs.Out.{code_of, front_of, count_of, Part, Handed}
-use Rattle.model.specs.Numbers.{refusal_number}
-use Rattle.promises.proofs.Passing.{handed-on}
-use Rattle.interval_bit_set.proofs.Looking.{turned-away}
+use lib.ListN.{length, take, drop}
+use lib.Seq.{take_at}
+use borrow.Author.Tests.{lt-ltb, le-ltb}
+use Rattle.model.specs.declared.Refusal.TheVariants.{OutputShort, Window, OffPlane}
+use Rattle.model.specs.declared.Edition.{Edition}
+use Rattle.model.specs.Positions.{Positions, held_runs, stretches}
+use Rattle.model.specs.Bytes.{encode, map_of, into_front}
+use Rattle.model.proofs.Codec.{encode-length}
+use Rattle.model.specs.Grid.{survey}
+use Rattle.model.specs.Refusals.{off_plane, window, output_short, Condition, ◌when◌, refusal, bad_square, bad_window, no_room}
+use Rattle.model.specs.Call.{Call, written}
+use Rattle.model.specs.Model.{positions_of, serve, write}
+use Rattle.store.specs.Layout.{held_in, held_by}
+use Rattle.store.specs.declared.World.{World}
+use Rattle.store.specs.Settle.{Opened}
+use Rattle.store.proofs.Parts.{lent}
+use Rattle.interval_bit_set.specs.Met.{Site, fed_of, outcome_of, Readable}
+use Rattle.interval_bit_set.specs.Out.{WritesOut}
+use Rattle.interval_bit_set.proofs.Doors.{lent-held, lent-limited}
+use Rattle.interval_bit_set.proofs.Meeting.{Reports, refused-by, met}
 
--- a world that looking refuses
-pub put-turned : {T : Type 0} {w : List ℕ} {i : ℕ} {c : List ℕ → Call Site} {cs : List Condition} {B : Positions → List ℕ} {out : List ℕ} {r : Refusal} {P : Refusal → Type 0}
-    → Puts w i c cs B out → (l : OrRefusal T) → Looked w i l → l ≡ Err r → first_given looks cs ≡ None → (a : OrRefusal ℕ) → IsErrAnd a P → ((e : Refusal) → P e → e ≡ r) → WritesOut c w i out a out
-put-turned {w} {i} {c} {out = out} puts l k e g a h j =
-    subst (λ b. WritesOut c w i out b out) (sym (handed-on a h j)) (record { met = turned-away puts.says l k e g; unwritten = refl })
-
--- what a site wrote, the world did that it was made of
-pub put-there : {v w : List ℕ} {i j : ℕ} {c : List ℕ → Call Site} {out out' : List ℕ} {r : OrRefusal ℕ} → (v ≡ w) × (i ≡ j) → WritesOut c v i out r out' → WritesOut c w j out r out'
-put-there {c = c} {out} {out'} {r} e o = subst₂ (λ u k. WritesOut c u k out r out') e.0 e.1 o
-
--- ---- what is handed back
--- an answer that gives bytes gives a slice that has as many, and behind them it is as it was
-abbrev Within : List ℕ → Answer → Type 0
-Within out a = (n : ℕ) (bs : List ℕ) → a ≡ gave (written n bs) → (n ≤ length bs) × (drop n bs ≡ drop n out)
-
--- so it is with bytes that were put into the front of a slice
-front-within : (bs out : List ℕ) → (length bs ≤ length (into_front bs out)) × (drop (length bs) (into_front bs out) ≡ drop (length bs) out)
+-- bytes in front of a slice are there
+pub take-front : (bs out : List ℕ) → take (length bs) (into_front bs out) ≡ bs
 unfolding into_front
-front-within bs out = (omega (arith, length-append bs (drop (length bs) out)), drop_at bs (drop (length bs) out) (length bs) refl)
+take-front bs out = take_at bs (drop (length bs) out) (length bs) refl
 
--- and so with what a call writes
-written-within : (n : ℕ) (bs out : List ℕ) → (n ≤ length bs) × (drop n bs ≡ drop n out) → Within out (gave (written n bs))
-written-within n bs out h m cs e =
-    let f : n ≡ m = cc in
-    let g : bs ≡ cs = cc in
-    subst (λ k. (k ≤ length cs) × (drop k cs ≡ drop k out)) f (subst (λ ds. (n ≤ length ds) × (drop n ds ≡ drop n out)) g h)
+-- ---- the set of an open world
+module _ {w : List ℕ} {i : ℕ} {h : World} (op : Opened w i h) where
+  -- it has no more runs than there are nodes
+  pub few-runs : stretches (held_in (lent w) h) ≤ 65568
+  few-runs =
+      let l = lent-limited op in
+      let k = l.standing.kept in
+      omega (arith, l.fits, l.enough, k.part, k.few)
 
--- a count of bytes that were written into the front of out, which is out' then, tells the answer a
-pub record Tells (a : Answer) (n : ℕ) (out out' : List ℕ) : Type 0 where
-  pub code : code_of a ≡ 0
-  pub front : take n out' ≡ front_of a
-  pub within : n ≤ length out'
-  pub behind : drop n out' ≡ drop n out
+  -- which tell how many bytes the world's set has
+  pub set-length : (e : Edition) → 5 + 16 * stretches (held_in (lent w) h) ≡ length (encode e (held_runs (held_by w i)))
+  unfolding stretches
+  set-length e = ap (λ P. 5 + 16 * stretches P) (lent-held op) ∙ sym (encode-length e (held_runs (held_by w i)))
 
--- what the model answers
-abbrev told : List ℕ → ℕ → (List ℕ → Call Site) → List ℕ → Answer
-told w i c out = (outcome_of w i (c out)).answer
+-- ---- calls that write
+-- the call c on world i of the words w has the conditions cs, and puts the bytes B of the positions held into a slice
+pub record Puts (w : List ℕ) (i : ℕ) (c : List ℕ → Call Site) (cs : List Condition) (B : Positions → List ℕ) (out : List ℕ) : Type 0 where
+  pub says : Reports w i (c out) (output_short when no_room out (B (positions_of (fed_of w i))) ∷ cs) (λ P. written (length (B P)) (into_front (B P) out))
 
-module _ {w : List ℕ} {i : ℕ} {c : List ℕ → Call Site} {cs : List Condition} {B : Positions → List ℕ} {out : List ℕ} (puts : Puts w i c cs B out) {out' : List ℕ} where
-  -- so what a call wrote is told by the count that it gives
-  pub put-told : (n : ℕ) → WritesOut c w i out (Ok n) out' → Tells (told w i c out) n out out'
-  put-told n o =
-      let k : gave (written n out') ≡ (told w i c out) = o.met.answered in
-      let h : Within out (told w i c out) =
-      answers-all (Within out) puts.says (λ n m bs q. absurd (refused-not q)) (λ P. written-within _ _ out (front-within (B P) out)) in
-      let w = h n out' (sym k) in
-      subst (λ a. Tells a n out out') k (record { code = refl; front = refl; within = w.0; behind = w.1 })
+module _ {w : List ℕ} {i : ℕ} {c : List ℕ → Call Site} {cs : List Condition} {B : Positions → List ℕ} {out : List ℕ} (puts : Puts w i c cs B out) (R : Readable w i)
+    {n : ℕ} (k : n ≡ length (B (held_by w i))) where
+  -- the condition of room
+  room_by : (t : Bool) → no_room out (B (held_by w i)) ≡ t → no_room out (B (positions_of (fed_of w i))) ≡ t
+  room_by t e = ap (λ s. no_room out (B (positions_of s))) R.fed ∙ e
 
-  module _ {r : OrRefusal ℕ} (o : WritesOut c w i out r out') where
-    -- the part that is handed back by the result r is in the slice
-    pub part-within : IfOk r (λ n. n ≤ length out')
-    part-within = if-ok r o
-      where
-        if-ok : (r : OrRefusal ℕ) → WritesOut c w i out r out' → IfOk r (λ n. n ≤ length out')
-        if-ok (Ok n) o = (put-told n o).within
-        if-ok (Err e) o = tt
+  -- a slice that is too short
+  pub put-short : length out < n → refusal (output_short when true ∷ cs) ≡ Some 2 → WritesOut c w i out (Err OutputShort) out
+  unfolding no_room
+  put-short h e = record {
+    met = refused-by puts.says 2 R (ap (λ t. refusal (output_short when t ∷ cs)) (room_by true (lt-ltb (length out) (length (B (held_by w i))) (subst (λ m. length out < m) k h))) ∙ e);
+    unwritten = refl;
+  }
 
-    module _ (p : ℕ × ℕ) where
-      -- what is handed back of that slice, at p, tells the answer too
-      pub part-refused : (t : Part) → Handed r out' p t → IfErr t (λ e. told w i c out ≡ refused (refusal_number e))
-      part-refused (Ok part) h = tt
-      part-refused (Err e) h = sym (subst (λ k. written_answer k out' ≡ (told w i c out)) h.0 o.met.answered)
+  -- and one that has room, into which the bytes of its world are put
+  pub put-seen : (P : Positions) {out' : List ℕ} → P ≡ held_by w i → refusal cs ≡ None → n ≤ length out → out' ≡ into_front (B P) out → WritesOut c w i out (Ok n) out'
+  unfolding no_room
+  put-seen P s e l f = record {
+    met =
+        met puts.says R (ap (λ t. refusal (output_short when t ∷ cs)) (room_by false (le-ltb (length out) (length (B (held_by w i))) (subst (λ m. m ≤ length out) k l))) ∙ e)
+        (ap₂ written k (f ∙ ap (λ Q. into_front (B Q) out) s));
+    unwritten = tt;
+  }
 
-      pub part-filled : (t : Part) → Handed r out' p t → IfOk t (λ part. (code_of (told w i c out) ≡ 0) × (part.now ≡ front_of (told w i c out)) × (part.ref_ptr ≡ p))
-      part-filled (Err e) h = tt
-      part-filled (Ok part) h =
-          let s = put-told (length part.now) (subst (λ k. WritesOut c w i out k out') h.1.0 o) in
-          (s.code, h.1.1 ∙ s.front, h.1.2)
+  -- of a world that was opened
+  pub put-done : {h : World} {out' : List ℕ} → Opened w i h → refusal cs ≡ None → n ≤ length out → out' ≡ into_front (B (held_in (lent w) h)) out → WritesOut c w i out (Ok n) out'
+  put-done op = put-seen _ (lent-held op)
 
-      -- behind a part the slice is as it was, and all of it after a refusal
-      pub part-behind : (part : MutBor (List ℕ)) → Handed r out' p (Ok part) → drop (count_of r) out' ≡ drop (length (front_of (told w i c out))) out
-      part-behind part h =
-          let k = length part.now in
-          let s = put-told k (subst (λ k. WritesOut c w i out k out') h.1.0 o) in
-          let same : length (front_of (told w i c out)) ≡ k = sym (ap length s.front) ∙ length-take-le k out' s.within in
-          ap (λ r. drop (count_of r) out') h.1.0 ∙ s.behind ∙ ap (λ m. drop m out) (sym same)
+module _ (w : List ℕ) (i : ℕ) (out : List ℕ) where
+  -- writing the set does so, in either edition
+  pub write-set-puts : (e : Edition) → Puts w i (Call.write_set e) [] (λ P. encode e (held_runs P)) out
+  unfolding outcome_of serve write
+  write-set-puts e = record { says = record { said = refl } }
 
-      pub refused-whole : (e : Refusal) → Handed r out' p (Err e) → out' ≡ out
-      refused-whole e h = subst (λ k. Unwritten k out out') h.0 o.unwritten
+  module _ (r c k : ℕ) where
+    -- so does a survey, of a square
+    pub survey-puts : Puts w i (Call.survey r c k) (off_plane when bad_square r c k ∷ []) (λ P. survey P k r c) out
+    unfolding outcome_of serve write
+    survey-puts = record { says = record { said = refl } }
+
+    -- which is refused where it is not on the plane
+    pub put-no-square : Readable w i → bad_square r c k ≡ true → WritesOut (Call.survey r c k) w i out (Err OffPlane) out
+    put-no-square R e = record { met = refused-by survey-puts.says 15 R (rw e); unwritten = refl }
+
+  module _ (base n : ℕ) where
+    -- so does writing a map, of a window
+    pub write-map-puts : Puts w i (Call.write_map base n) (window when bad_window base n ∷ []) (λ P. map_of P base n) out
+    unfolding outcome_of serve write
+    write-map-puts = record { says = record { said = refl } }
+
+    -- which is refused where there is none
+    pub put-no-window : Readable w i → bad_window base n ≡ true → WritesOut (Call.write_map base n) w i out (Err Window) out
+    put-no-window R e = record { met = refused-by write-map-puts.says 6 R (rw e); unwritten = refl }
+
+-- of a window the slice's room decides
+pub short-after-window : (base n : ℕ) → bad_window base n ≡ false → refusal (output_short when true ∷ window when bad_window base n ∷ []) ≡ Some 2
+short-after-window base n e = rw e
+
+-- and so it does of a square on the plane
+pub short-after-square : (r c k : ℕ) → bad_square r c k ≡ false → refusal (output_short when true ∷ off_plane when bad_square r c k ∷ []) ≡ Some 2
+short-after-square r c k e = rw e
+
+pub square-passes : (r c k : ℕ) → bad_square r c k ≡ false → refusal (off_plane when bad_square r c k ∷ []) ≡ None
+square-passes r c k e = rw e

@@ -5,7 +5,7 @@ use Rattle.model.specs.declared.Run.{Run}
 use Rattle.std.specs.Prelude.{◌≡◌, ℕ, Bool, List}
 use Rattle.model.specs.declared.Listing.{Listing}
 use Rattle.model.specs.Call.{Call, Answer, gave, drawn}
-use Rattle.promises.specs.Met.{Site, Met}
+use Rattle.interval_bit_set.specs.Met.{Site, Met}
 
 abbrev pub listing_of : ℕ → ℕ → Bool → Listing
 listing_of a b v = record { first = a; last = b; value = v }

@@ -1,3 +1,9 @@
 pub mod Look
 pub mod Lent
+pub mod Parts
+pub mod Met
+pub mod Grown
+pub mod Joined
 pub mod Out
+pub mod Handles
+pub mod Tidy

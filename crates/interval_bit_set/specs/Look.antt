@@ -5,7 +5,7 @@ use Rattle.std.specs.Prelude.{◌≡◌, ℕ, min, List, ◌++◌}
 use Rattle.model.specs.Numbers.{refusal_number}
 use Rattle.model.specs.Refusals.{looks, first_given}
 use Rattle.model.specs.Model.{reads}
-use Rattle.promises.specs.Met.{fed_of, pool_reads}
+use Rattle.interval_bit_set.specs.Met.{fed_of, pool_reads}
 
 -- the number of the refusal, if there is one
 abbrev pub look_number : {T : Type 0} → OrRefusal T → Option ℕ

@@ -1,53 +1,46 @@
--- What calls that write into a lent slice hand back. Assumes nothing: these are definitions.
-use Rattle.std.specs.Prelude.{ℕ, ◌≡◌, List, [], length, take, Ok, Err, IfOk, IfErr}
-use Rattle.std.specs.Borrow.{MutBor}
+-- Calls that write into a lent slice. Assumes nothing: these are definitions.
+use Rattle.std.specs.Prelude.{Ok, Err}
 use Rattle.model.specs.Answers.{OrRefusal}
-use Rattle.model.specs.Call.{Result, done, number, tallied, value, around, position, listing, drawn, written, mended, Answer, refused, gave}
+use Rattle.model.specs.declared.Mended.{Mended}
+use Rattle.std.specs.Prelude.{ℕ, ◌≡◌, Bool, List}
+use Rattle.model.specs.declared.Edition.{Edition}
+use Rattle.model.specs.Answers.{written_answer, mended_answer}
+use Rattle.model.specs.Bytes.{decode}
+use Rattle.model.specs.RunList.{AllBytes}
+use Rattle.model.specs.Refusals.{ordered_from}
+use Rattle.model.specs.Call.{Call, Measure}
+use Rattle.written.specs.Parsed.{Shaped}
+use Rattle.interval_bit_set.specs.Met.{Site, Met, Measured}
 
--- what f makes of the bytes that a result wrote: how many they are, and the whole slice. Any other result gives d
-abbrev pub on_written : {T : Type 0} → T → (ℕ → List ℕ → T) → Result → T
-on_written d f done = d
-on_written d f (number n) = d
-on_written d f (tallied n r) = d
-on_written d f (value b) = d
-on_written d f (around r) = d
-on_written d f (position o) = d
-on_written d f (listing l) = d
-on_written d f (drawn o l) = d
-on_written d f (written n bs) = f n bs
-on_written d f (mended n bs m cs) = d
+-- a refusal leaves the slice
+abbrev pub Unwritten : OrRefusal ℕ → List ℕ → List ℕ → Type 0
+Unwritten (Err r) out out' = out' ≡ out
+Unwritten (Ok n) out out' = Unit {0}
 
--- the same of two slices
-abbrev pub on_mended : {T : Type 0} → T → (ℕ → List ℕ → ℕ → List ℕ → T) → Result → T
-on_mended d f done = d
-on_mended d f (number n) = d
-on_mended d f (tallied n r) = d
-on_mended d f (value b) = d
-on_mended d f (around r) = d
-on_mended d f (position o) = d
-on_mended d f (listing l) = d
-on_mended d f (drawn o l) = d
-on_mended d f (written n bs) = d
-on_mended d f (mended n bs m cs) = f n bs m cs
+-- the call c on world i of the words w and the slice out answered r and left the slice out'
+pub record WritesOut (c : List ℕ → Call Site) (w : List ℕ) (i : ℕ) (out : List ℕ) (r : OrRefusal ℕ) (out' : List ℕ) : Type 0 where
+  pub met : Met w i (c out) (written_answer r out') w
+  pub unwritten : Unwritten r out out'
 
--- an answer as a number, 0 where it is no refusal, and as the bytes written
-abbrev pub code_of : Answer → ℕ
-code_of (refused n) = n
-code_of (gave r) = 0
+-- ---- measuring
+-- measuring the words w for q, with the slice out, answered r and left the slice out'
+pub record WritesMeasured (w : List ℕ) (q : Measure) (out : List ℕ) (r : OrRefusal ℕ) (out' : List ℕ) : Type 0 where
+  pub measured : Measured w q out (written_answer r out') w
+  pub unwritten : Unwritten r out out'
 
-abbrev pub front_of : Answer → List ℕ
-front_of (refused n) = []
-front_of (gave r) = on_written [] take r
+-- ---- mending (document 02, Ticket 9)
+-- a refusal leaves both slices
+abbrev pub Unmended : OrRefusal Mended → List ℕ → List ℕ → List ℕ → List ℕ → Type 0
+Unmended (Err r) out out' report report' = (out' ≡ out) × (report' ≡ report)
+Unmended (Ok m) out out' report report' = Unit {0}
 
--- how many bytes a call tells that it wrote, 0 where it was refused
-abbrev pub count_of : OrRefusal ℕ → ℕ
-count_of (Ok n) = n
-count_of (Err r) = 0
+-- bytes that tell n runs in the edition e, and whether these are in order
+pub record Mendable (bs : List ℕ) (e : Edition) (n : ℕ) (right : Bool) : Type 0 where
+  pub bytes : AllBytes bs
+  pub shaped : Shaped bs e n
+  pub tested : right ≡ ordered_from 0 (decode bs)
 
--- the part of a slice that a call hands back, or its refusal
-abbrev pub Part : Type 0
-Part = OrRefusal (MutBor (List ℕ))
-
--- t is what the count r hands back of the slice out, which lies at p
-abbrev pub Handed : OrRefusal ℕ → List ℕ → ℕ × ℕ → Part → Type 0
-Handed r out p t = IfErr t (λ e. r ≡ Err e) × IfOk t (λ part. (r ≡ Ok (length part.now)) × (part.now ≡ take (length part.now) out) × (part.ref_ptr ≡ p))
+-- mending the bytes bs into world i of the words w answered r and left the words w' and the slices out' and report'
+pub record Mends (w : List ℕ) (i : ℕ) (bs out report : List ℕ) (r : OrRefusal Mended) (w' out' report' : List ℕ) : Type 0 where
+  pub met : Met w i (Call.mend bs out report) (mended_answer r out' report') w'
+  pub unmended : Unmended r out out' report report'

@@ -6,9 +6,9 @@ ghost use Rattle.model.specs.Answers.{completed_answer, counted_answer, numbered
 ghost use Rattle.model.specs.Clearing.{clear_map};
 ghost use Rattle.model.specs.Converting.{convert};
 ghost use Rattle.written.specs.Listed.{pairs};
-ghost use Rattle.promises.specs.Met.{Met};
-ghost use Rattle.promises.specs.Out.{Mends};
-ghost use Rattle.promises.specs.Handles.{Handles};
+ghost use Rattle.interval_bit_set.specs.Met.{Met};
+ghost use Rattle.interval_bit_set.specs.Out.{Mends};
+ghost use Rattle.interval_bit_set.specs.Handles.{Handles};
 
 use model::{Count, Mended, Refusal};
 use written::runs::Words;

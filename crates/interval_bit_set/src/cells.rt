@@ -1,6 +1,6 @@
 // The calls on the cells of a grid: the cell at a row and a column is the position row * 65,536 + column.
-ghost use Rattle.promises.specs.Met.{Met};
-ghost use Rattle.promises.specs.Out.{WritesOut};
+ghost use Rattle.interval_bit_set.specs.Met.{Met};
+ghost use Rattle.interval_bit_set.specs.Out.{WritesOut};
 ghost use Rattle.model.specs.Answers.{counted_answer, numbered_answer};
 ghost use Rattle.model.specs.Call.{Call};
 

@@ -1,6 +1,6 @@
 // The calls that change a world where it stands.
-ghost use Rattle.promises.specs.Grown.{Grows};
-ghost use Rattle.promises.specs.Met.{Met};
+ghost use Rattle.interval_bit_set.specs.Grown.{Grows};
+ghost use Rattle.interval_bit_set.specs.Met.{Met};
 ghost use Rattle.model.specs.Answers.{completed_answer, counted_answer};
 ghost use Rattle.model.specs.Call.{Call};
 

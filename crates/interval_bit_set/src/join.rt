@@ -2,7 +2,7 @@
 // in it is counted before its first word changes.
 ghost use Rattle.model.specs.Call.{Call};
 ghost use Rattle.model.specs.Answers.{completed_answer, tested_answer};
-ghost use Rattle.promises.specs.Met.{site, Met};
+ghost use Rattle.interval_bit_set.specs.Met.{site, Met};
 
 use model::{Operation, Refusal};
 use promises::site::Site;

@@ -1,7 +1,7 @@
 // Making a pool of empty worlds, whatever its words were.
 ghost use Rattle.model.specs.Answers.{completed_answer};
 ghost use Rattle.model.specs.Pools.{limits_of};
-ghost use Rattle.promises.specs.Met.{Made};
+ghost use Rattle.interval_bit_set.specs.Met.{Made};
 
 use model::Refusal;
 use store::Store;

@@ -1,6 +1,6 @@
 // Calls that only measure a pool: they ask its length for its capacity, answer also where it is not sound, and leave every word.
 ghost use Rattle.model.specs.Call.{Measure};
-ghost use Rattle.promises.specs.Out.{WritesMeasured};
+ghost use Rattle.interval_bit_set.specs.Out.{WritesMeasured};
 
 use model::Refusal;
 

@@ -1,7 +1,7 @@
 // The calls that report, and leave the world as it is.
 ghost use Rattle.model.specs.Call.{Call};
 ghost use Rattle.model.specs.Answers.{numbered_answer, tallied_answer, tested_answer, around_answer, found_answer, listed_answer, drawn_answer};
-ghost use Rattle.promises.specs.Met.{Met};
+ghost use Rattle.interval_bit_set.specs.Met.{Met};
 
 use model::{Bound, Drawn, Listing, Refusal, Run, Tally};
 

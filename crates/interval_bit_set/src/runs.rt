@@ -3,7 +3,7 @@
 // runs is no slice of words.
 ghost use Rattle.model.specs.Call.{Call};
 ghost use Rattle.model.specs.Answers.{completed_answer};
-ghost use Rattle.promises.specs.Met.{Met};
+ghost use Rattle.interval_bit_set.specs.Met.{Met};
 
 use model::{Refusal, Run};
 

@@ -5,9 +5,9 @@ ghost use Rattle.std.specs.Prelude.{◌≡◌, ◌≤◌, ◌++◌, length, drop
 ghost use Rattle.std.specs.Borrow.{sem, LendsIfOk, Array, u8 as byte};
 ghost use Rattle.model.specs.Numbers.{refusal_number};
 ghost use Rattle.model.specs.Call.{Call, refused};
-ghost use Rattle.promises.specs.Met.{outcome_of};
-ghost use Rattle.promises.specs.Out.{WritesOut};
-ghost use Rattle.interval_bit_set.specs.Out.{code_of, front_of, count_of, Handed};
+ghost use Rattle.interval_bit_set.specs.Met.{outcome_of};
+ghost use Rattle.interval_bit_set.specs.Out.{WritesOut};
+ghost use Rattle.interval_bit_set.specs.Parts.{code_of, front_of, count_of, Handed};
 
 use model::{Edition, Refusal};
 

@@ -20,9 +20,9 @@ use Rattle.model.proofs.Counting.{count-cong}
 use Rattle.model.proofs.After.{differ_self}
 use Rattle.model.proofs.Edit.{and-holds}
 use Rattle.store.specs.Layout.{held_by, worlds_of}
-use Rattle.promises.specs.Met.{Site, Met}
-use Rattle.promises.proofs.Changing.{Changes, set_says, flip-says, read-map-says, set-strict-says, flip-strict-says}
-use Rattle.promises.proofs.Served.{bounded-ends}
+use Rattle.interval_bit_set.specs.Met.{Site, Met}
+use Rattle.interval_bit_set.proofs.Changing.{Changes, set_says, flip-says, read-map-says, set-strict-says, flip-strict-says}
+use Rattle.interval_bit_set.proofs.Served.{bounded-ends}
 use Rattle.laws.specs.Swaps.{Changes-at, by_set, by_flip, by_map, by_strict_set, by_strict_flip, Disjoint}
 use Rattle.laws.proofs.Doing.{Gets, settled-gets, settled_is, gave-is, gets-again, gets-as, gets-one}
 use Rattle.laws.proofs.Swapping.{call-readable}

@@ -16,12 +16,12 @@ use Rattle.store.specs.Layout.{allowance, held_by, worlds_of}
 use Rattle.store.specs.Settle.{Settled}
 use Rattle.store.proofs.Turn.{pool-past}
 use Rattle.store.proofs.Worlds.{held-allowed}
-use Rattle.promises.specs.Met.{Site, fed_at, Readable, Met}
-use Rattle.promises.proofs.Meeting.{tally-says}
-use Rattle.promises.proofs.Changing.{bounded-is, set_says, flip-says, shift_says, set-strict-says, flip-strict-says}
-use Rattle.promises.proofs.Overwriting.{both-none, combine-says, shifted-says}
-use Rattle.promises.proofs.Served.{Ends, bounded-ends}
-use Rattle.promises.proofs.Simulation.{bounded-same}
+use Rattle.interval_bit_set.specs.Met.{Site, fed_at, Readable, Met}
+use Rattle.interval_bit_set.proofs.Meeting.{tally-says}
+use Rattle.interval_bit_set.proofs.Changing.{bounded-is, set_says, flip-says, shift_says, set-strict-says, flip-strict-says}
+use Rattle.interval_bit_set.proofs.Overwriting.{both-none, combine-says, shifted-says}
+use Rattle.interval_bit_set.proofs.Served.{Ends, bounded-ends}
+use Rattle.interval_bit_set.proofs.Simulation.{bounded-same}
 use Rattle.interval_bit_set.proofs.Looking.{looked-sound, two-readable, three-readable}
 use Rattle.laws.specs.Pairs.{Did, holds}
 use Rattle.laws.proofs.Moving.{moved, moved-few}

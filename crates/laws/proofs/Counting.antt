@@ -9,7 +9,7 @@ use Rattle.model.specs.declared.Operation.TheVariants.{And, Or}
 use Rattle.model.specs.Range.{first_allowed, extent}
 use Rattle.model.specs.Positions.{count, combined}
 use Rattle.model.specs.Call.{Call, tallied, gave}
-use Rattle.promises.specs.Met.{Site, Met}
+use Rattle.interval_bit_set.specs.Met.{Site, Met}
 use Rattle.laws.specs.Pairs.{Did, holds}
 use Rattle.laws.proofs.Joining.{counts-add}
 use Rattle.laws.proofs.Calls.{combine-gets, tally-count}

@@ -19,13 +19,13 @@ use Rattle.store.specs.Layout.{capacity_of, capacity, allowance, held_by, worlds
 use Rattle.store.specs.Settle.{Settled}
 use Rattle.store.proofs.Turn.{pool-past}
 use Rattle.store.proofs.WorldLists.{opened-world}
-use Rattle.promises.specs.Met.{Site, fed_of, full_at, outcome_of, Readable, Met}
-use Rattle.promises.proofs.Refusing.{looked-first, refused-before, refused_full}
-use Rattle.promises.proofs.Meeting.{readable, Reports}
-use Rattle.promises.proofs.Allowing.{others-holding, allowance-after}
-use Rattle.promises.proofs.Changing.{Changes, full-above, fits-few}
-use Rattle.promises.proofs.Served.{Ends, unrefused}
-use Rattle.promises.proofs.Simulation.{same-positions, worlds-after}
+use Rattle.interval_bit_set.specs.Met.{Site, fed_of, full_at, outcome_of, Readable, Met}
+use Rattle.interval_bit_set.proofs.Refusing.{looked-first, refused-before, refused_full}
+use Rattle.interval_bit_set.proofs.Meeting.{readable, Reports}
+use Rattle.interval_bit_set.proofs.Allowing.{others-holding, allowance-after}
+use Rattle.interval_bit_set.proofs.Changing.{Changes, full-above, fits-few}
+use Rattle.interval_bit_set.proofs.Served.{Ends, unrefused}
+use Rattle.interval_bit_set.proofs.Simulation.{same-positions, worlds-after}
 use Rattle.laws.specs.Pairs.{SameLeft}
 
 -- no number is none

@@ -4,8 +4,8 @@
 use mathlib.Core.Path.{◌≡◌, sym, ap, ap₂, ◌∙◌}
 use Rattle.model.specs.Call.{holding}
 use Rattle.model.specs.Model.{serve}
-use Rattle.promises.specs.Met.{fed_of, full_at, outcome_of}
-use Rattle.promises.proofs.Meeting.{readable}
+use Rattle.interval_bit_set.specs.Met.{fed_of, full_at, outcome_of}
+use Rattle.interval_bit_set.proofs.Meeting.{readable}
 use Rattle.laws.specs.Equal.{Equal-answers}
 use Rattle.laws.proofs.Serving.{any-limit}
 

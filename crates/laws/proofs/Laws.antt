@@ -1,6 +1,6 @@
 -- The laws hold (specs/Laws.antt): each is what the lemma files show of positions, of a call that was not refused, and of two worlds that are shifted.
 -- Assumes nothing.
-use Rattle.promises.proofs.Meeting.{readable}
+use Rattle.interval_bit_set.proofs.Meeting.{readable}
 use Rattle.laws.specs.Laws.{
   Counts-add,
   Shift-through,

@@ -26,11 +26,11 @@ use Rattle.model.specs.Pools.{PlainWorld, world_of, claims, other_claims, empty_
 use Rattle.store.specs.Layout.{capacity_of, capacity, allowance, held_by, worlds_of}
 use Rattle.store.specs.Settle.{Openable}
 use Rattle.store.proofs.WorldLists.{opened-world}
-use Rattle.promises.specs.Met.{site, fed_of, outcome_of, Leaves, Readable, Met, made_of, MakeLeaves, Made}
-use Rattle.promises.proofs.Meeting.{readable}
-use Rattle.promises.proofs.Changing.{full-before, set_says}
-use Rattle.promises.proofs.Overwriting.{both-none, combine-says}
-use Rattle.promises.proofs.Refusing.{none_before}
+use Rattle.interval_bit_set.specs.Met.{site, fed_of, outcome_of, Leaves, Readable, Met, made_of, MakeLeaves, Made}
+use Rattle.interval_bit_set.proofs.Meeting.{readable}
+use Rattle.interval_bit_set.proofs.Changing.{full-before, set_says}
+use Rattle.interval_bit_set.proofs.Overwriting.{both-none, combine-says}
+use Rattle.interval_bit_set.proofs.Refusing.{none_before}
 use Rattle.laws.specs.Pairs.{Did}
 use Rattle.laws.specs.Laws.{one_run}
 use Rattle.laws.proofs.Moving.{moved}

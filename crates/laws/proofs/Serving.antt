@@ -12,9 +12,9 @@ use Rattle.model.specs.Positions.{Positions, bounded}
 use Rattle.model.specs.Refusals.{Condition, ◌when◌, capacity, refusal, too_many}
 use Rattle.model.specs.Call.{Fed, holding, Call, feed, Result, gave}
 use Rattle.model.specs.Model.{positions_of, reads, settle, report, change, write, mending, changed, setting, flipping, tallying, drawn_first, drawn_last, serve}
-use Rattle.promises.specs.Met.{Site, fed_at}
-use Rattle.promises.proofs.Meeting.{refused-not}
-use Rattle.promises.proofs.Served.{unrefused}
+use Rattle.interval_bit_set.specs.Met.{Site, fed_at}
+use Rattle.interval_bit_set.proofs.Meeting.{refused-not}
+use Rattle.interval_bit_set.proofs.Served.{unrefused}
 use Rattle.laws.specs.Swaps.{reporting, changing, overwriting, kind}
 
 -- the kinds differ

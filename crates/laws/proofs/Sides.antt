@@ -17,10 +17,10 @@ use Rattle.model.proofs.Ops.{bounded-below}
 use Rattle.model.proofs.Runs.{stretches-cong}
 use Rattle.store.specs.Layout.{allowance, held_by, worlds_of}
 use Rattle.store.proofs.Turn.{pool-past}
-use Rattle.promises.specs.Met.{Met}
-use Rattle.promises.proofs.Changing.{set_says}
-use Rattle.promises.proofs.Served.{bounded-ends}
-use Rattle.promises.proofs.Simulation.{same-positions}
+use Rattle.interval_bit_set.specs.Met.{Met}
+use Rattle.interval_bit_set.proofs.Changing.{set_says}
+use Rattle.interval_bit_set.proofs.Served.{bounded-ends}
+use Rattle.interval_bit_set.proofs.Simulation.{same-positions}
 use Rattle.laws.specs.Pairs.{Did}
 use Rattle.laws.specs.Swaps.{Within, Covers}
 use Rattle.laws.proofs.Ranges.{

@@ -13,11 +13,11 @@ use Rattle.model.specs.Pools.{PlainWorld, holding_at}
 use Rattle.store.specs.Layout.{capacity_of, capacity, held_by, worlds_of}
 use Rattle.store.specs.Settle.{Settled}
 use Rattle.store.proofs.Turn.{pool-past}
-use Rattle.promises.specs.Met.{Site, fed_at, fed_of, full_at, outcome_of, Readable, Met}
-use Rattle.promises.proofs.Refusing.{unopened-refused}
-use Rattle.promises.proofs.Served.{Ends, Served, served, unrefused}
-use Rattle.promises.proofs.Simulation.{Holds}
-use Rattle.promises.proofs.Simulation
+use Rattle.interval_bit_set.specs.Met.{Site, fed_at, fed_of, full_at, outcome_of, Readable, Met}
+use Rattle.interval_bit_set.proofs.Refusing.{unopened-refused}
+use Rattle.interval_bit_set.proofs.Served.{Ends, Served, served, unrefused}
+use Rattle.interval_bit_set.proofs.Simulation.{Holds}
+use Rattle.interval_bit_set.proofs.Simulation
 use Rattle.interval_bit_set.proofs.Looking.{looked-sound}
 use Rattle.laws.specs.Swaps.{reporting, overwriting, kind}
 use Rattle.laws.proofs.Doing.{some-not, Gets, settled-gets, full-now, gets-again, gets_back, readable-now, held-other}

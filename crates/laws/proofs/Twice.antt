@@ -18,9 +18,9 @@ use Rattle.model.proofs.Runs.{stretches-cong}
 use Rattle.store.specs.Layout.{held_by, worlds_of}
 use Rattle.store.proofs.Turn.{pool-past}
 use Rattle.store.proofs.Worlds.{held-allowed}
-use Rattle.promises.specs.Met.{Site, site, Met}
-use Rattle.promises.proofs.Served.{bounded-ends}
-use Rattle.promises.proofs.Simulation.{same-positions}
+use Rattle.interval_bit_set.specs.Met.{Site, site, Met}
+use Rattle.interval_bit_set.proofs.Served.{bounded-ends}
+use Rattle.interval_bit_set.proofs.Simulation.{same-positions}
 use Rattle.laws.specs.Pairs.{Did, holds, SameLeft}
 use Rattle.laws.proofs.Moving.{moved, past, moved-few, moved_sum, moved_nothing, out-and-back, out-and-lost, down-and-up, down-and-lost}
 use Rattle.laws.proofs.Ranges.{put}

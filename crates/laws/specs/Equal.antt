@@ -4,7 +4,7 @@ use Rattle.std.specs.Prelude.{ℕ, ◌<◌, ◌≡◌, List}
 use Rattle.model.specs.Call.{Call, feed, Answer}
 use Rattle.store.specs.Layout.{opened_at, held_by}
 use Rattle.store.specs.Soundness.{Sound}
-use Rattle.promises.specs.Met.{Site, fed_at, Met}
+use Rattle.interval_bit_set.specs.Met.{Site, fed_at, Met}
 use Rattle.laws.specs.Swaps.{kind, reporting}
 
 -- two worlds that hold the same positions, opened in sound pools of whatever capacity and limits, answer every report

@@ -12,7 +12,7 @@ use Rattle.model.specs.Positions.{empty}
 use Rattle.model.specs.Call.{Call, done, number, tallied, Answer, refused, gave}
 use Rattle.store.specs.Layout.{capacity, opened_at, held_by, worlds_of}
 use Rattle.store.specs.Soundness.{Sound}
-use Rattle.promises.specs.Met.{Site, site, fed_at, Met, Made}
+use Rattle.interval_bit_set.specs.Met.{Site, site, fed_at, Met, Made}
 use Rattle.laws.specs.Pairs.{Did, holds, SameLeft, BothShift, BothShifted, Shifts}
 
 -- ---- counts

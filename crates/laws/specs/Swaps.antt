@@ -5,7 +5,7 @@ use Rattle.model.specs.Ends.{Bound}
 use Rattle.model.specs.Range.{first_allowed, past_allowed, extent}
 use Rattle.model.specs.Call.{Call, number, Result, Answer, gave}
 use Rattle.store.specs.Layout.{worlds_of}
-use Rattle.promises.specs.Met.{Site, Met}
+use Rattle.interval_bit_set.specs.Met.{Site, Met}
 use Rattle.laws.specs.Pairs.{Did}
 
 -- ---- kinds of calls

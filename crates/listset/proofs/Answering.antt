@@ -19,8 +19,8 @@ use Rattle.model.specs.Pools.{world_of, fed_by, holding_at, limits_from, limits_
 use Rattle.store.specs.Layout.{capacity_of, capacity, held_by, plain_at, worlds_of}
 use Rattle.store.specs.Settle.{Openable}
 use Rattle.store.proofs.WorldLists.{opened-world}
-use Rattle.promises.specs.Met.{Met, made_of, MakeLeaves, Made}
-use Rattle.promises.proofs.Simulation.{Holds, outcome-is, step-holds}
+use Rattle.interval_bit_set.specs.Met.{Met, made_of, MakeLeaves, Made}
+use Rattle.interval_bit_set.proofs.Simulation.{Holds, outcome-is, step-holds}
 use Rattle.listset.proofs.Drawing.{granted}
 use Rattle.listset.specs.Text.{too_long_line, refused_line, set_lines, outcome_lines, loaded, printed}
 

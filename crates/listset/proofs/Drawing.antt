@@ -28,8 +28,8 @@ use Rattle.store.specs.Settle.{Openable}
 use Rattle.reports.specs.Reports.{Measured}
 use Rattle.listset.specs.Text.{count_lines, run_lines, set_lines}
 use Rattle.interval_bit_set.specs.Lent.{item_answer, Draws}
-use Rattle.promises.specs.Met.{Site, Met}
-use Rattle.promises.proofs.Meeting.{refused-not, readable, Reports, tally-says, ranges-says, draw-front-says}
+use Rattle.interval_bit_set.specs.Met.{Site, Met}
+use Rattle.interval_bit_set.proofs.Meeting.{refused-not, readable, Reports, tally-says, ranges-says, draw-front-says}
 
 -- what follows the first run
 runs_in-rest : (P : Positions) (v : Bool) (a n : ℕ) (r : Run) (rs : List Run) → runs_in P v a n ≡ r ∷ rs

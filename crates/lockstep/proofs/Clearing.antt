@@ -13,10 +13,10 @@ use Rattle.model.specs.Call.{Fed, wrong_length, unsound, unopened, holding, Call
 use Rattle.model.specs.Model.{Outcome, positions_of, reads, settle, report, write, serve}
 use Rattle.model.specs.Clearing.{clear_map}
 use Rattle.model.proofs.Clearing.{clears-no-written-map, clears-twice, clears-none-twice, reads-as-document-one}
-use Rattle.promises.specs.Met.{fed_of, full_at, outcome_of, Leaves, Met}
-use Rattle.promises.specs.Handles.{Handles}
-use Rattle.promises.proofs.Served.{unrefused}
-use Rattle.promises.proofs.Putting.{take-front}
+use Rattle.interval_bit_set.specs.Met.{fed_of, full_at, outcome_of, Leaves, Met}
+use Rattle.interval_bit_set.specs.Handles.{Handles}
+use Rattle.interval_bit_set.proofs.Served.{unrefused}
+use Rattle.interval_bit_set.proofs.Putting.{take-front}
 use Rattle.lockstep.specs.Clearing.{old_reading, WritesMap}
 
 module _ (base n : ℕ) (bs : List ℕ) where

@@ -26,9 +26,9 @@ use Rattle.model.proofs.Converting.{
   columns-refused,
 }
 use Rattle.store.specs.Layout.{held_by, worlds_of}
-use Rattle.promises.specs.Met.{fed_of, full_at, outcome_of, Leaves, Met}
-use Rattle.promises.specs.Handles.{Handles}
-use Rattle.promises.proofs.Putting.{take-front}
+use Rattle.interval_bit_set.specs.Met.{fed_of, full_at, outcome_of, Leaves, Met}
+use Rattle.interval_bit_set.specs.Handles.{Handles}
+use Rattle.interval_bit_set.proofs.Putting.{take-front}
 use Rattle.lockstep.specs.Determinism.{Loads}
 use Rattle.lockstep.specs.Theorems.{WritesSet}
 use Rattle.lockstep.proofs.Forms.{met-alike}

@@ -19,9 +19,9 @@ use Rattle.model.proofs.Numbers.{split}
 use Rattle.store.specs.Layout.{opened_at, held_by, plain_at, worlds_of}
 use Rattle.store.specs.Settle.{Openable}
 use Rattle.store.proofs.WorldLists.{opened-world, unopened-world}
-use Rattle.promises.specs.Met.{Site}
-use Rattle.promises.proofs.Putting.{take-front}
-use Rattle.promises.proofs.Simulation.{Holds}
+use Rattle.interval_bit_set.specs.Met.{Site}
+use Rattle.interval_bit_set.proofs.Putting.{take-front}
+use Rattle.interval_bit_set.proofs.Simulation.{Holds}
 use Rattle.lockstep.specs.Plays.{nothing, single, Move, fed, heard_as, met, rest, move, left, worlds_after}
 use Rattle.lockstep.specs.Determinism.{WriteAlike, Loads, MayWrite, Writes, Writable, Determinism}
 use Rattle.lockstep.specs.Theorems.{WritesSet}

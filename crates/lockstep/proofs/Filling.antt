@@ -14,10 +14,10 @@ use Rattle.model.specs.Call.{holding, Call, number, gave}
 use Rattle.model.specs.Model.{positions_of, reads, settle, report}
 use Rattle.model.proofs.Counting.{count-all, count_none, counted_none}
 use Rattle.store.specs.Layout.{held_by}
-use Rattle.promises.specs.Met.{fed_of, Readable, Met}
-use Rattle.promises.proofs.Meeting.{fill-says}
-use Rattle.promises.proofs.Served.{unrefused}
-use Rattle.promises.proofs.Windows.{fitting}
+use Rattle.interval_bit_set.specs.Met.{fed_of, Readable, Met}
+use Rattle.interval_bit_set.proofs.Meeting.{fill-says}
+use Rattle.interval_bit_set.proofs.Served.{unrefused}
+use Rattle.interval_bit_set.proofs.Windows.{fitting}
 use Rattle.interval_bit_set.proofs.Looking.{looked-sound}
 use Rattle.lockstep.proofs.Writing.{unearned}
 use Rattle.lockstep.proofs.Clearing.{window-good}

@@ -45,9 +45,9 @@ use Rattle.model.proofs.Pools.{claims-split}
 use Rattle.store.specs.Layout.{capacity, opened_at, floor_at, plain_at, worlds_of}
 use Rattle.store.specs.Soundness.{Sound}
 use Rattle.store.proofs.WorldLists.{opened-world}
-use Rattle.promises.specs.Met.{Site, fed_at, fed_of, full_at, outcome_of, Met}
-use Rattle.promises.proofs.Changing.{bounded-is}
-use Rattle.promises.proofs.Served.{unrefused}
+use Rattle.interval_bit_set.specs.Met.{Site, fed_at, fed_of, full_at, outcome_of, Met}
+use Rattle.interval_bit_set.proofs.Changing.{bounded-is}
+use Rattle.interval_bit_set.proofs.Served.{unrefused}
 
 -- ---- the number 8
 -- a number that is given is that of a cause that is given

@@ -15,9 +15,9 @@ use Rattle.store.specs.Layout.{opened_at, floor_at, ceiling_at, held_by, plain_a
 use Rattle.store.specs.Settle.{Settled}
 use Rattle.store.proofs.Turn.{pool-past}
 use Rattle.store.proofs.WorldLists.{worlds-same}
-use Rattle.promises.specs.Met.{Site, outcome_of, Leaves, Met}
-use Rattle.promises.specs.Out.{Unwritten, WritesOut}
-use Rattle.promises.proofs.Simulation.{same-positions}
+use Rattle.interval_bit_set.specs.Met.{Site, outcome_of, Leaves, Met}
+use Rattle.interval_bit_set.specs.Out.{Unwritten, WritesOut}
+use Rattle.interval_bit_set.proofs.Simulation.{same-positions}
 
 -- where world i settles with the same positions twice, all worlds are the same
 settled-alike : {w w' v' : List ℕ} {i : ℕ} {P : Positions} → Settled w w' i P → Settled w v' i P → worlds_of w' ≡ worlds_of v'

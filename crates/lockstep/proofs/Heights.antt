@@ -36,14 +36,14 @@ use Rattle.store.proofs.Reached.{kept-tree}
 use Rattle.store.proofs.Worlds.{world-standing}
 use Rattle.changes.proofs.Lists.{append-one}
 use Rattle.changes.proofs.SetRuns.{set-one-more}
-use Rattle.promises.specs.Grown.{shape, Unturned, Clear}
-use Rattle.promises.specs.Met.{Site, outcome_of, full_at, Met, Readable}
-use Rattle.promises.proofs.Allowing.{allowance-after}
-use Rattle.promises.proofs.Changing.{Changes, fits-few, set_says, bounded-is}
-use Rattle.promises.proofs.Meeting.{readable}
-use Rattle.promises.proofs.Served.{bounded-ends, unrefused}
-use Rattle.promises.proofs.Simulation.{worlds-after}
-use Rattle.promises.proofs.Shapes.{shape-height, shape-inorder, shape-inserted}
+use Rattle.interval_bit_set.specs.Grown.{shape, Unturned, Clear}
+use Rattle.interval_bit_set.specs.Met.{Site, outcome_of, full_at, Met, Readable}
+use Rattle.interval_bit_set.proofs.Allowing.{allowance-after}
+use Rattle.interval_bit_set.proofs.Changing.{Changes, fits-few, set_says, bounded-is}
+use Rattle.interval_bit_set.proofs.Meeting.{readable}
+use Rattle.interval_bit_set.proofs.Served.{bounded-ends, unrefused}
+use Rattle.interval_bit_set.proofs.Simulation.{worlds-after}
+use Rattle.interval_bit_set.proofs.Shapes.{shape-height, shape-inorder, shape-inserted}
 use Rattle.lockstep.specs.Heights.{SetRun, SetOneByOne}
 
 -- ---- the list for a height

@@ -15,10 +15,10 @@ use Rattle.model.proofs.RoundTrips.{conditions, Accepted, unrefused-accepted, ac
 use Rattle.store.specs.Layout.{capacity, held_by}
 use Rattle.store.specs.Settle.{Settled, Openable}
 use Rattle.store.proofs.Worlds.{held-allowed}
-use Rattle.promises.specs.Met.{fed_of, full_at, outcome_of, Readable, Met}
-use Rattle.promises.proofs.Meeting.{readable, met_by, settled_same, settled-as}
-use Rattle.promises.proofs.Changing.{fits-few}
-use Rattle.promises.proofs.Served.{unrefused}
+use Rattle.interval_bit_set.specs.Met.{fed_of, full_at, outcome_of, Readable, Met}
+use Rattle.interval_bit_set.proofs.Meeting.{readable, met_by, settled_same, settled-as}
+use Rattle.interval_bit_set.proofs.Changing.{fits-few}
+use Rattle.interval_bit_set.proofs.Served.{unrefused}
 use Rattle.interval_bit_set.proofs.Looking.{looked-sound}
 use Rattle.lockstep.specs.Determinism.{Loads}
 use Rattle.lockstep.specs.Theorems.{WritesSet}

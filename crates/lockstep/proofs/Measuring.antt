@@ -14,8 +14,8 @@ use Rattle.model.specs.Refusals.{refusal}
 use Rattle.model.specs.Call.{deepest, written, gave}
 use Rattle.model.specs.Pools.{PlainWorld, settle_measured, measure_conditions, measure_by}
 use Rattle.store.specs.Layout.{capacity, worlds_of}
-use Rattle.promises.specs.Met.{measured_of, Measured}
-use Rattle.promises.proofs.Putting.{take-front}
+use Rattle.interval_bit_set.specs.Met.{measured_of, Measured}
+use Rattle.interval_bit_set.proofs.Putting.{take-front}
 
 -- an answer that is no refusal is what is due
 unrefused : (y : Option ℕ) (ws : List PlainWorld) (n k : ℕ) (bs cs : List ℕ) → gave (written n bs) ≡ (settle_measured y ws (written k cs)).answer → (n ≡ k) × (bs ≡ cs)

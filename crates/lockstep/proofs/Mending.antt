@@ -24,12 +24,12 @@ use Rattle.model.proofs.RoundTrips.{Accepted, accepted-bytes, held-read, held-ac
 use Rattle.store.specs.Layout.{allowance, worlds_of}
 use Rattle.store.specs.Settle.{Settled}
 use Rattle.lowest.proofs.Fating.{fates-length, ordered-fates}
-use Rattle.promises.specs.Met.{fed_of, full_at, outcome_of, Readable, Met}
-use Rattle.promises.proofs.Refusing.{none_before, refused_full}
-use Rattle.promises.proofs.Changing.{full-above}
-use Rattle.promises.proofs.Putting.{take-front}
-use Rattle.promises.proofs.Served.{unrefused}
-use Rattle.sets.proofs.Mending.{allowed-most, conditions}
+use Rattle.interval_bit_set.specs.Met.{fed_of, full_at, outcome_of, Readable, Met}
+use Rattle.interval_bit_set.proofs.Refusing.{none_before, refused_full}
+use Rattle.interval_bit_set.proofs.Changing.{full-above}
+use Rattle.interval_bit_set.proofs.Putting.{take-front}
+use Rattle.interval_bit_set.proofs.Served.{unrefused}
+use Rattle.interval_bit_set.proofs.Mending.{allowed-most, conditions}
 use Rattle.interval_bit_set.proofs.Looking.{looked-sound}
 use Rattle.lockstep.specs.Determinism.{Loads}
 use Rattle.lockstep.proofs.Forms.{met-alike}

@@ -10,8 +10,8 @@ use Rattle.model.specs.Call.{Fed, Call, feed, Answer}
 use Rattle.model.specs.Model.{serve}
 use Rattle.model.specs.Pools.{PlainWorld, world_of, fed_by, claim, other_claims, exceeds, full, with_positions, holding_at, serve_at, step}
 use Rattle.store.specs.Layout.{worlds_of}
-use Rattle.promises.specs.Met.{Site, fed_at, Met}
-use Rattle.promises.proofs.Simulation.{Holds, answer-is, step-holds}
+use Rattle.interval_bit_set.specs.Met.{Site, fed_at, Met}
+use Rattle.interval_bit_set.proofs.Simulation.{Holds, answer-is, step-holds}
 use Rattle.lockstep.specs.Beside.{Neighbours, Beside}
 
 -- a world with other positions, if there is one

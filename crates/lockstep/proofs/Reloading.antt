@@ -25,11 +25,11 @@ use Rattle.store.specs.Settle.{Settled, Openable}
 use Rattle.store.proofs.Worlds.{held-allowed}
 use Rattle.store.proofs.Turn.{pool-past}
 use Rattle.store.proofs.WorldLists.{opened-world}
-use Rattle.promises.specs.Met.{full_at, Met}
-use Rattle.promises.proofs.Changing.{fits-few, bounded-is}
-use Rattle.promises.proofs.Meeting.{make-done}
-use Rattle.promises.proofs.Served.{bounded-ends}
-use Rattle.promises.proofs.Simulation.{same-positions, worlds-after}
+use Rattle.interval_bit_set.specs.Met.{full_at, Met}
+use Rattle.interval_bit_set.proofs.Changing.{fits-few, bounded-is}
+use Rattle.interval_bit_set.proofs.Meeting.{make-done}
+use Rattle.interval_bit_set.proofs.Served.{bounded-ends}
+use Rattle.interval_bit_set.proofs.Simulation.{same-positions, worlds-after}
 use Rattle.lockstep.specs.Plays.{New}
 use Rattle.lockstep.specs.Determinism.{Loads}
 use Rattle.lockstep.proofs.Writing.{bytes_of}

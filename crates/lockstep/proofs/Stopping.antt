@@ -23,8 +23,8 @@ use Rattle.spawn.specs.Placing.{Climbing}
 use Rattle.spawn.proofs.Ranges.{entries-length, listed-length, listed-words}
 use Rattle.spawn.proofs.Refusing.{refused-only}
 use Rattle.spawn.proofs.Calls.{list-stops, list-given, why-length, why-rising, why-within, why-stops, why-least}
-use Rattle.promises.specs.Met.{measured_of, Measured}
-use Rattle.promises.proofs.Putting.{take-front}
+use Rattle.interval_bit_set.specs.Met.{measured_of, Measured}
+use Rattle.interval_bit_set.proofs.Putting.{take-front}
 use Rattle.lockstep.specs.Theorems.{Words, spawned}
 use Rattle.lockstep.specs.Why.{ArePlaces}
 use Rattle.lockstep.proofs.Firsts.{given-not, stops-once, are_places}

@@ -19,10 +19,10 @@ use Rattle.model.specs.Model.{positions_of, reads, settle, report}
 use Rattle.store.specs.Layout.{held_by}
 use Rattle.grid.specs.Surveys.{OnGrid}
 use Rattle.grid.proofs.Alike.{alike-one, other-two, single-one}
-use Rattle.ranges.proofs.Planes.{square-on}
-use Rattle.promises.specs.Met.{fed_of, Readable, Met}
-use Rattle.promises.proofs.Served.{unrefused}
-use Rattle.promises.proofs.Putting.{take-front, survey-puts}
+use Rattle.interval_bit_set.proofs.Planes.{square-on}
+use Rattle.interval_bit_set.specs.Met.{fed_of, Readable, Met}
+use Rattle.interval_bit_set.proofs.Served.{unrefused}
+use Rattle.interval_bit_set.proofs.Putting.{take-front, survey-puts}
 use Rattle.interval_bit_set.proofs.Looking.{looked-sound}
 use Rattle.lockstep.specs.Surveys.{Piece, piece, HasValue, IsOneValued, Listed, words_of, Parts}
 use Rattle.lockstep.proofs.SurveysHalving.{Halves, square-halves, half-halves}

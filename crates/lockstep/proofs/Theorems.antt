@@ -8,7 +8,7 @@ use Rattle.model.proofs.Cases
 use Rattle.model.proofs.Columns
 use Rattle.model.proofs.Worked
 use Rattle.lockstep.specs.Tables.{Cases-hold, Worked-hold, Columns-back}
-use Rattle.promises.specs.Met.{Measured}
+use Rattle.interval_bit_set.specs.Met.{Measured}
 use Rattle.lockstep.specs.Theorems.{
   Equal-bytes,
   Room-suffices,

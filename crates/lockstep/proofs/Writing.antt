@@ -22,13 +22,13 @@ use Rattle.store.specs.Settle.{Openable}
 use Rattle.store.proofs.Turn.{pool-past}
 use Rattle.store.proofs.Nodes.{sized-length}
 use Rattle.store.proofs.Worlds.{claims-fit}
-use Rattle.promises.specs.Met.{fed_of, full_at, outcome_of, Readable, Met}
-use Rattle.promises.specs.Out.{WritesOut}
-use Rattle.promises.proofs.Meeting.{refused-not, readable, met_by, settled_same}
-use Rattle.promises.proofs.Refusing.{unopened-refused}
-use Rattle.promises.proofs.Putting.{take-front}
-use Rattle.promises.proofs.Served.{unrefused}
-use Rattle.promises.proofs.Simulation.{same-positions}
+use Rattle.interval_bit_set.specs.Met.{fed_of, full_at, outcome_of, Readable, Met}
+use Rattle.interval_bit_set.specs.Out.{WritesOut}
+use Rattle.interval_bit_set.proofs.Meeting.{refused-not, readable, met_by, settled_same}
+use Rattle.interval_bit_set.proofs.Refusing.{unopened-refused}
+use Rattle.interval_bit_set.proofs.Putting.{take-front}
+use Rattle.interval_bit_set.proofs.Served.{unrefused}
+use Rattle.interval_bit_set.proofs.Simulation.{same-positions}
 use Rattle.interval_bit_set.proofs.Looking.{looked-sound}
 use Rattle.lockstep.specs.Theorems.{WritesSet}
 

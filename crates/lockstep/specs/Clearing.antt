@@ -3,7 +3,7 @@ use Rattle.std.specs.Prelude.{ℕ, ◌≡◌, List, take}
 use Rattle.model.specs.Call.{Call, written, gave}
 use Rattle.model.specs.Model.{Outcome}
 use Rattle.model.specs.Clearing.{document_one_reading}
-use Rattle.promises.specs.Met.{fed_of, full_at, Met}
+use Rattle.interval_bit_set.specs.Met.{fed_of, full_at, Met}
 
 -- ---- a cleared map
 -- how document 01 read the map bs into world i of the words w

@@ -9,8 +9,8 @@ use Rattle.model.specs.RunList.{AllBytes}
 use Rattle.model.specs.Call.{Call, done, gave}
 use Rattle.model.specs.Pools.{PlainWorld, world_of, empty_worlds}
 use Rattle.store.specs.Layout.{capacity, worlds_of}
-use Rattle.promises.specs.Met.{Site, Met}
-use Rattle.promises.specs.Out.{WritesOut}
+use Rattle.interval_bit_set.specs.Met.{Site, Met}
+use Rattle.interval_bit_set.specs.Out.{WritesOut}
 use Rattle.lockstep.specs.Plays.{Move, fed, Heard, New, Plays, left, worlds_after, Follows}
 
 -- a slice that is long enough for any set of a pool of capacity C

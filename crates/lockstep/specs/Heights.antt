@@ -5,8 +5,8 @@ use Rattle.model.specs.declared.Count.{Count}
 use Rattle.model.specs.declared.Run.{Run}
 use Rattle.model.specs.Answers.{counted_answer}
 use Rattle.model.specs.Call.{Call}
-use Rattle.promises.specs.Met.{Met}
-use Rattle.promises.specs.Grown.{Grows}
+use Rattle.interval_bit_set.specs.Met.{Met}
+use Rattle.interval_bit_set.specs.Grown.{Grows}
 
 -- the run r was set in world i of the words w: the call was not refused, and left w'
 pub record SetRun (w : List ℕ) (i : ℕ) (r : Run) (w' : List ℕ) : Type 0 where

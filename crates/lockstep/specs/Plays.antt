@@ -12,8 +12,8 @@ use Rattle.model.specs.Call.{Fed, Call, Measure, PoolCall, make, measure, at, fe
 use Rattle.model.specs.Call.{Result, done, drawn, written, mended, Answer, refused, gave}
 use Rattle.model.specs.Pools.{PlainWorld, PoolOutcome, step, answers, after}
 use Rattle.store.specs.Layout.{capacity, worlds_of}
-use Rattle.promises.specs.Met.{Site, fed_at, Met, Made}
-use Rattle.promises.specs.Out.{WritesOut, WritesMeasured, Mends}
+use Rattle.interval_bit_set.specs.Met.{Site, fed_at, Met, Made}
+use Rattle.interval_bit_set.specs.Out.{WritesOut, WritesMeasured, Mends}
 use Rattle.interval_bit_set.specs.Lent.{item_answer, Draws}
 use Rattle.frame.specs.Records.{calls_of, records_of}
 use Rattle.frame.specs.Frame.{Framed, FrameOutcome, settle_frame}

@@ -27,9 +27,9 @@ use Rattle.store.specs.Layout.{capacity, allowance, opened_at, floor_at, held_by
 use Rattle.store.specs.Soundness.{runs_at, Sound}
 use Rattle.lowest.specs.Entries.{In}
 use Rattle.spawn.specs.Placing.{Climbing}
-use Rattle.promises.specs.Met.{Site, fed_at, fed_of, Leaves, Met, Measured}
-use Rattle.promises.specs.Out.{WritesOut}
-use Rattle.promises.specs.Handles.{Handles}
+use Rattle.interval_bit_set.specs.Met.{Site, fed_at, fed_of, Leaves, Met, Measured}
+use Rattle.interval_bit_set.specs.Out.{WritesOut}
+use Rattle.interval_bit_set.specs.Handles.{Handles}
 use Rattle.lockstep.specs.Determinism.{PlayAlike, Loads}
 use Rattle.lockstep.specs.Beside.{Beside}
 use Rattle.lockstep.specs.Clearing.{old_reading, WritesMap}

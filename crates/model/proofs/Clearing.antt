@@ -16,9 +16,9 @@ use Rattle.model.proofs.Counting.{among_below, among-above, count_none, counted_
 use Rattle.model.specs.Bytes.{map_length, map_of, map_bit, stray_bits, cleared, mapped}
 use Rattle.model.specs.RunList.{AllBytes}
 use Rattle.model.proofs.Maps.{map_of-length, map_of-bytes, map_of-cong, map_of-bit, map_of-spare, map-tell}
-use Rattle.model.specs.Refusals.{looks, first_given, window, stray_bit, capacity, ◌when◌, refusal, bad_window, bad_map, stray, too_many}
+use Rattle.model.specs.Refusals.{window, stray_bit, capacity, ◌when◌, refusal, bad_window, bad_map, stray, too_many}
 use Rattle.model.specs.Call.{Fed, Result, number, Answer, refused, gave, read_map}
-use Rattle.model.specs.Model.{positions_of, planned, settle, all_read, or_else, serve}
+use Rattle.model.specs.Model.{positions_of, planned, settle, look, or_else, serve}
 use Rattle.model.specs.Handled.{Handled, handle}
 use Rattle.model.specs.Clearing.{clear_map, document_one_reading}
 
@@ -195,7 +195,7 @@ module _ (base n : ℕ) (bs : List ℕ) where
     unfolding document_one_reading serve
     reads-refused e =
         let Q = mapped base n bs (positions_of s) in
-        ap (λ o. settle (or_else (first_given looks (all_read (s ∷ []))) o) (positions_of s) (number (changes (positions_of s) Q)) (bounded Q)) (refused-alike (too_many full Q) (bad_window base n) (bad_map n bs) (stray n bs) e)
+        ap (λ o. settle (or_else (look (s ∷ [])) o) (positions_of s) (number (changes (positions_of s) Q)) (bounded Q)) (refused-alike (too_many full Q) (bad_window base n) (bad_map n bs) (stray n bs) e)
 
     -- and so is the cleared map
     reads-cleared : (bad_window base n || bad_map n bs) ≡ false → document_one_reading full s base n bs ≡ serve full s (planned (read_map base n (cleared n bs)))
@@ -204,7 +204,7 @@ module _ (base n : ℕ) (bs : List ℕ) where
         let Q = mapped base n bs (positions_of s) in
         let P = positions_of s in
         rw (cleared-mapped n bs base P, exact-map n (cleared n bs) (cleared-length n bs), clear-map n (cleared n bs) (cleared-none n bs), neither-second (bad_window base n) (bad_map n bs) e)
-        (ap (λ o. settle (or_else (first_given looks (all_read (s ∷ []))) o) P (number (changes P Q)) (bounded Q)) (passed-alike (too_many full Q) (bad_window base n) false))
+        (ap (λ o. settle (or_else (look (s ∷ [])) o) P (number (changes P Q)) (bounded Q)) (passed-alike (too_many full Q) (bad_window base n) false))
 
     -- what document 01's reading made of a map is what reading the cleared map makes
     pub reads-as-document-one : document_one_reading full s base n bs ≡ serve full s (planned (read_map base n (clear_map base n bs).slice))

@@ -4,7 +4,7 @@
 use Rattle.std.specs.Prelude.{Option, None, Some}
 use mathlib.Core.Path.{◌≡◌, refl, sym, ap, ap₂, ◌∙◌, fun_ext}
 use mathlib.Core.Bool.{Bool, true, false, not, ◌&&◌, cond}
-use mathlib.Core.List.{List, [], ◌∷◌, ◌++◌, map}
+use mathlib.Core.List.{List, [], ◌∷◌, map}
 use Prim.Native.Nat.{ℕ, zero, suc, ◌+◌, ◌-◌, ◌≤◌, ◌<◌, min, max}
 use native.Mathlib.Omega.{arith}
 use lib.Dec.{ltb, leb}
@@ -19,13 +19,13 @@ use Rattle.model.specs.RunList.{Canon}
 use Rattle.model.specs.Deepest.{least, deepest_words}
 use Rattle.model.specs.Spawning.{none_refused, places_told, ranges_of, entries_of, first_refused, meets, leads}
 use Rattle.model.specs.Spawning.{places_from, places, why_full_up_to, why_full}
-use Rattle.model.specs.Refusals.{Condition, looks, given, first_given, store_length, store_unsound, world_limits, tree_height, not_refused, capacity}
+use Rattle.model.specs.Refusals.{Condition, earns_length, earns_unsound, store_length, world_limits, tree_height, not_refused, capacity}
 use Rattle.model.specs.Refusals.{output_short}
 use Rattle.model.specs.Refusals.{◌when◌, refusal, bad_limits, bad_height, no_room}
 use Rattle.model.specs.Call
 use Rattle.model.specs.Call.{Fed, unopened, holding, Call, Measure, PoolCall, told_as, make, measure, at}
 use Rattle.model.specs.Call.{Result, done, written, Answer, refused, gave}
-use Rattle.model.specs.Model.{Plan, reads, all_read, plan, serve}
+use Rattle.model.specs.Model.{Plan, any_earns, look, plan, serve}
 use Rattle.model.specs.Pools.{PlainWorld, PoolOutcome, world_of, fed_by, claims, other_claims, full, holding_at}
 use Rattle.model.specs.Pools.{serve_at, settle_make, make_by, empty_worlds, settle_measured, measure_by, step, answers}
 use Rattle.model.specs.Pools.{after, allowance_of, allowance}
@@ -40,16 +40,15 @@ use Rattle.model.proofs.Calc.{mem-empty}
 
 -- ---- a world that is not open
 -- a look at it refuses, whatever other worlds earn
-shut-refused : (ss : List Fed) → (n : ℕ) × (first_given looks (reads unopened ++ all_read ss) ≡ Some n)
-shut-refused ss = go (given store_length (all_read ss)) (given world_limits (all_read ss)) (given store_unsound (all_read ss))
+shut-refused : (ss : List Fed) → (n : ℕ) × (look (unopened ∷ ss) ≡ Some n)
+shut-refused ss = go (any_earns earns_length ss) (any_earns earns_unsound ss)
   where
-    go : (x y z : Bool) → (n : ℕ) × (cond x (Some 1) (cond y (Some 11) (cond z (Some 7) (Some 12))) ≡ Some n)
-    go true y z = (1, refl)
-    go false true z = (11, refl)
-    go false false true = (7, refl)
-    go false false false = (12, refl)
+    go : (x y : Bool) → (n : ℕ) × (cond x (Some 1) (cond y (Some 7) (Some 12)) ≡ Some n)
+    go true y = (1, refl)
+    go false true = (7, refl)
+    go false false = (12, refl)
 
--- it answers alike, whatever numbers of runs are too many
+-- so it answers alike, whatever numbers of runs are too many
 any-full : (f g : ℕ → Bool) (p : Plan) → serve f unopened p ≡ serve g unopened p
 unfolding serve
 any-full f g p =

@@ -2,7 +2,7 @@
 ghost use Rattle.std.specs.Prelude.{◌≡◌};
 ghost use Rattle.store.specs.Layout.{held, held_by};
 ghost use Rattle.store.specs.Settle.{Opened};
-ghost use Rattle.promises.specs.Met.{Readable};
+ghost use Rattle.interval_bit_set.specs.Met.{Readable};
 
 use store::{Set, World};
 

@@ -2,8 +2,8 @@
 ghost use Rattle.model.specs.Call.{Call};
 ghost use Rattle.model.specs.Answers.{counted_answer, numbered_answer};
 ghost use Rattle.grid.specs.Areas.{AreaOf, SquareOf};
-ghost use Rattle.promises.specs.Met.{Readable, Met};
-ghost use Rattle.promises.specs.Out.{WritesOut};
+ghost use Rattle.interval_bit_set.specs.Met.{Readable, Met};
+ghost use Rattle.interval_bit_set.specs.Out.{WritesOut};
 
 use grid::rows::Area;
 use grid::tile::{Corner, Square};

@@ -3,8 +3,8 @@
 ghost use Rattle.std.specs.Prelude.{[]};
 ghost use Rattle.model.specs.Call.{Call};
 ghost use Rattle.model.specs.Answers.{completed_answer, counted_answer};
-ghost use Rattle.promises.specs.Grown.{Grows};
-ghost use Rattle.promises.specs.Met.{Readable, Met};
+ghost use Rattle.interval_bit_set.specs.Grown.{Grows};
+ghost use Rattle.interval_bit_set.specs.Met.{Readable, Met};
 
 use model::{Bound, Count, Refusal};
 

@@ -3,7 +3,7 @@
 ghost use Rattle.std.specs.Prelude.{◌≡◌};
 ghost use Rattle.model.specs.Call.{Call};
 ghost use Rattle.model.specs.Answers.{numbered_answer, tallied_answer, tested_answer, around_answer, found_answer, listed_answer};
-ghost use Rattle.promises.specs.Met.{Met};
+ghost use Rattle.interval_bit_set.specs.Met.{Met};
 
 use model::between::Interval;
 use model::{Bound, Count, Listing, Logical, Refusal, Run, Tally};

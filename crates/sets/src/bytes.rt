@@ -6,8 +6,8 @@ ghost use Rattle.model.specs.Answers.{completed_answer, counted_answer};
 ghost use Rattle.model.specs.Positions.{mem};
 ghost use Rattle.model.specs.RunList.{AllWords};
 ghost use Rattle.model.specs.Refusals.{ordered_from};
-ghost use Rattle.promises.specs.Joined.{Carried};
-ghost use Rattle.promises.specs.Met.{Readable, Met};
+ghost use Rattle.interval_bit_set.specs.Joined.{Carried};
+ghost use Rattle.interval_bit_set.specs.Met.{Readable, Met};
 
 use maps::window::{Map, Window};
 use model::{Count, Refusal};

@@ -1,7 +1,7 @@
 // Clearing the map of a window. It takes no pool.
 ghost use Rattle.model.specs.Answers.{numbered_answer};
 ghost use Rattle.model.specs.Clearing.{clear_map};
-ghost use Rattle.promises.specs.Handles.{Handles};
+ghost use Rattle.interval_bit_set.specs.Handles.{Handles};
 
 use model::Refusal;
 

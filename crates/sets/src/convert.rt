@@ -1,7 +1,7 @@
 // Turning a written set of either edition into the other. It takes no pool.
 ghost use Rattle.model.specs.Answers.{written_answer};
 ghost use Rattle.model.specs.Converting.{convert};
-ghost use Rattle.promises.specs.Handles.{Handles};
+ghost use Rattle.interval_bit_set.specs.Handles.{Handles};
 
 use model::Refusal;
 

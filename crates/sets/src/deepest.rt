@@ -1,6 +1,6 @@
 // The shortest list of runs that makes a tree of a height, set one by one in that order into an empty world. The pool is only measured.
 ghost use Rattle.model.specs.Call.{Measure};
-ghost use Rattle.promises.specs.Out.{WritesMeasured};
+ghost use Rattle.interval_bit_set.specs.Out.{WritesMeasured};
 
 use model::Refusal;
 use store::Store;

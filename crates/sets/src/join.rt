@@ -4,8 +4,8 @@ ghost use Rattle.std.specs.Prelude.{◌≡◌};
 ghost use Rattle.model.specs.Call.{Call};
 ghost use Rattle.model.specs.Answers.{completed_answer, tested_answer};
 ghost use Rattle.streams.specs.Gathering.{Sources, joined};
-ghost use Rattle.promises.specs.Met.{site, Readable, Met};
-ghost use Rattle.promises.specs.Joined.{Carried, ViewOf};
+ghost use Rattle.interval_bit_set.specs.Met.{site, Readable, Met};
+ghost use Rattle.interval_bit_set.specs.Joined.{Carried, ViewOf};
 
 use model::between::Interval;
 use model::{Logical, Operation, Refusal};

@@ -4,7 +4,7 @@ ghost use Rattle.std.specs.Prelude.{◌≤◌};
 ghost use Rattle.model.specs.Answers.{completed_answer};
 ghost use Rattle.model.specs.Pools.{limits_of};
 ghost use Rattle.store.specs.Layout.{capacity};
-ghost use Rattle.promises.specs.Met.{Made};
+ghost use Rattle.interval_bit_set.specs.Met.{Made};
 
 use model::Refusal;
 use store::Store;

@@ -6,8 +6,8 @@ ghost use Rattle.model.specs.Positions.{stretches};
 ghost use Rattle.model.specs.Bytes.{decode, into_front};
 ghost use Rattle.model.specs.Mending.{mended_positions, mended_set, mend_report};
 ghost use Rattle.lowest.specs.Mended.{Due};
-ghost use Rattle.promises.specs.Met.{Readable};
-ghost use Rattle.promises.specs.Out.{Mendable, Mends};
+ghost use Rattle.interval_bit_set.specs.Met.{Readable};
+ghost use Rattle.interval_bit_set.specs.Out.{Mendable, Mends};
 
 use model::{Mended, Refusal};
 use written::runs::Told;

@@ -1,6 +1,6 @@
 // Why a list of ranges, set to true one by one from an empty store of one world, is refused. The pool is only measured.
 ghost use Rattle.model.specs.Call.{Measure};
-ghost use Rattle.promises.specs.Out.{WritesMeasured};
+ghost use Rattle.interval_bit_set.specs.Out.{WritesMeasured};
 
 use model::Refusal;
 use store::Store;

@@ -1,6 +1,6 @@
 // Writing a world's set, and the map of a window, into the front of a lent slice.
 ghost use Rattle.model.specs.Call.{Call};
-ghost use Rattle.promises.specs.Out.{WritesOut};
+ghost use Rattle.interval_bit_set.specs.Out.{WritesOut};
 
 use maps::window::Window;
 use model::{Edition, Refusal};

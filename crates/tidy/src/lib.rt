@@ -7,7 +7,7 @@
 ghost use Rattle.std.specs.Prelude.{◌≡◌, ◌+◌, ◌*◌, length, IfOk};
 ghost use Rattle.run_index.specs.Cells.{Room};
 ghost use Rattle.store.specs.Soundness.{Sound};
-ghost use Rattle.tidy.specs.Tidy.{Threads, Threaded, Tidied, InOrder, Tidies, Ended};
+ghost use Rattle.interval_bit_set.specs.Tidy.{Threads, Threaded, Tidied, InOrder, Tidies, Ended};
 
 use model::Refusal;
 use run_index::Node;

@@ -3,7 +3,7 @@
 use mathlib.Core.Path.{sym, subst}
 use Rattle.model.specs.Answers.{completed_answer}
 use Rattle.store.specs.Soundness.{Sound}
-use Rattle.promises.proofs.Passing.{handed-on}
+use Rattle.interval_bit_set.proofs.Passing.{handed-on}
 use Rattle.interval_bit_set.proofs.Looking.{pool-readable}
 use Rattle.frame.specs.Frame.{Framed}
 use Rattle.frame.proofs.Framing.{turned-away, no_room_lem, playable, framed}

@@ -2,7 +2,7 @@
 -- nothing.
 use mathlib.Core.Path.{sym, ap}
 use native.Mathlib.Omega.{arith}
-use Rattle.promises.proofs.Meeting.{readable}
+use Rattle.interval_bit_set.proofs.Meeting.{readable}
 use Rattle.frame.specs.Records.{numbered}
 use Rattle.frame.proofs.Arms.{unopened-served, withdrawn-served}
 use Rattle.frame.proofs.serve.Goals as goal

@@ -1,6 +1,6 @@
 -- `order` meets its contract: the nodes are threaded, and world 0 is closed over the new chain. Assumes nothing.
-use Rattle.tidy.proofs.Ordering.{nodes-counted, ordered-closing, ordered-tidied, ordered-chain}
-use Rattle.tidy.proofs.order.Goals as goal
+use Rattle.interval_bit_set.proofs.Ordering.{nodes-counted, ordered-closing, ordered-tidied, ordered-chain}
+use Rattle.interval_bit_set.proofs.order.Goals as goal
 
 pub close-requires : goal.close-requires
 close-requires c = (_, _, ordered-closing c.requires c.open-h.ensures (nodes-counted _ c.requires) c.thread_all-free.ensures)

@@ -1,10 +1,10 @@
 -- `load` meets its contract: a world that looking refuses stays, another is overwritten by the call of `sets`.
 -- Assumes nothing.
 use mathlib.Core.Path.{refl}
-use Rattle.promises.proofs.Passing.{met-on}
+use Rattle.interval_bit_set.proofs.Passing.{met-on}
 use Rattle.interval_bit_set.proofs.Looking.{looked-sound, sent-away}
-use Rattle.promises.proofs.Overwriting.{load-says}
-use Rattle.tidy.proofs.Tidying.{sound-after, met-after}
+use Rattle.interval_bit_set.proofs.Overwriting.{load-says}
+use Rattle.interval_bit_set.proofs.Tidying.{sound-after, met-after}
 use Rattle.model.specs.Call.{done}
 use Rattle.interval_bit_set.proofs.bytes.load.Goals as goal
 

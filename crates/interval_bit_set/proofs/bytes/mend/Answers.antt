@@ -4,11 +4,11 @@ use Rattle.std.specs.Prelude.{ℕ, List}
 use mathlib.Core.Path.{refl, sym, subst}
 use Rattle.model.specs.declared.Mended.{Mended}
 use Rattle.model.specs.Call.{Result, mended}
-use Rattle.promises.specs.Out.{Unmended}
-use Rattle.promises.proofs.Passing.{handed-on, met-on}
+use Rattle.interval_bit_set.specs.Out.{Unmended}
+use Rattle.interval_bit_set.proofs.Passing.{handed-on, met-on}
 use Rattle.interval_bit_set.proofs.Looking.{looked-sound, sent-away}
-use Rattle.sets.proofs.Mending.{mend-says}
-use Rattle.tidy.proofs.Tidying.{sound-after, met-after}
+use Rattle.interval_bit_set.proofs.Mending.{mend-says}
+use Rattle.interval_bit_set.proofs.Tidying.{sound-after, met-after}
 use Rattle.interval_bit_set.proofs.bytes.mend.Goals as goal
 
 pub mend-answer-requires : goal.mend-answer-requires

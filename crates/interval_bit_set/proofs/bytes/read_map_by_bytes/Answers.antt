@@ -1,9 +1,9 @@
 -- `read_map_by_bytes` meets its contract: a world that looking refuses stays, another is changed by the call of `sets`. Assumes nothing.
 use mathlib.Core.Path.{refl}
-use Rattle.promises.proofs.Changing.{read-map-says}
-use Rattle.promises.proofs.Passing.{met-on}
+use Rattle.interval_bit_set.proofs.Changing.{read-map-says}
+use Rattle.interval_bit_set.proofs.Passing.{met-on}
 use Rattle.interval_bit_set.proofs.Looking.{looked-sound, sent-away}
-use Rattle.tidy.proofs.Tidying.{sound-after, met-after}
+use Rattle.interval_bit_set.proofs.Tidying.{sound-after, met-after}
 use Rattle.model.specs.Numbers.{worth}
 use Rattle.model.specs.Call.{number}
 use Rattle.interval_bit_set.proofs.bytes.read_map_by_bytes.Goals as goal

@@ -1,10 +1,10 @@
 -- `set_rect` meets its contract: a world that looking refuses stays, another is changed by the call of `ranges`.
 -- Assumes nothing.
 use mathlib.Core.Path.{refl}
-use Rattle.promises.proofs.Passing.{met-on}
+use Rattle.interval_bit_set.proofs.Passing.{met-on}
 use Rattle.interval_bit_set.proofs.Looking.{looked-sound, sent-away}
-use Rattle.promises.proofs.Changing.{set-rect-says}
-use Rattle.tidy.proofs.Tidying.{sound-after, met-after}
+use Rattle.interval_bit_set.proofs.Changing.{set-rect-says}
+use Rattle.interval_bit_set.proofs.Tidying.{sound-after, met-after}
 use Rattle.model.specs.Numbers.{worth}
 use Rattle.model.specs.Call.{number}
 use Rattle.interval_bit_set.proofs.cells.set_rect.Goals as goal

@@ -1,7 +1,7 @@
 -- `survey` meets its contract: a world that looking refuses earns that refusal, of another the call of `ranges` answers. Assumes nothing.
 use mathlib.Core.Path.{refl}
-use Rattle.promises.proofs.Putting.{survey-puts}
-use Rattle.interval_bit_set.proofs.Putting.{put-turned}
+use Rattle.interval_bit_set.proofs.Putting.{survey-puts}
+use Rattle.interval_bit_set.proofs.Handing.{put-turned}
 use Rattle.interval_bit_set.proofs.cells.survey.Goals as goal
 
 pub returns-in_err-site : goal.returns-in_err-site

@@ -1,11 +1,11 @@
 -- `set` meets its contract: a world that looking refuses stays, another is changed by the call of `ranges`; putting a worn chain in order leaves its
 -- tree. Assumes nothing.
 use mathlib.Core.Path.{refl}
-use Rattle.promises.proofs.Passing.{met-on}
+use Rattle.interval_bit_set.proofs.Passing.{met-on}
 use Rattle.interval_bit_set.proofs.Looking.{looked-sound, sent-away}
-use Rattle.promises.proofs.Changing.{set_says}
-use Rattle.tidy.proofs.Tidying.{sound-after, met-after}
-use Rattle.tidy.proofs.Trees.{grows-after}
+use Rattle.interval_bit_set.proofs.Changing.{set_says}
+use Rattle.interval_bit_set.proofs.Tidying.{sound-after, met-after}
+use Rattle.interval_bit_set.proofs.Trees.{grows-after}
 use Rattle.model.specs.Numbers.{worth}
 use Rattle.model.specs.Call.{number}
 use Rattle.interval_bit_set.proofs.change.set.Goals as goal

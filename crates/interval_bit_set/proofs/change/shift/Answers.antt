@@ -1,10 +1,10 @@
 -- `shift` meets its contract: a world that looking refuses stays, another is changed by the call of `ranges`.
 -- Assumes nothing.
 use mathlib.Core.Path.{refl}
-use Rattle.promises.proofs.Passing.{met-on}
+use Rattle.interval_bit_set.proofs.Passing.{met-on}
 use Rattle.interval_bit_set.proofs.Looking.{looked-sound, sent-away}
-use Rattle.promises.proofs.Changing.{shift_says}
-use Rattle.tidy.proofs.Tidying.{sound-after, met-after}
+use Rattle.interval_bit_set.proofs.Changing.{shift_says}
+use Rattle.interval_bit_set.proofs.Tidying.{sound-after, met-after}
 use Rattle.model.specs.Call.{done}
 use Rattle.interval_bit_set.proofs.change.shift.Goals as goal
 

@@ -1,8 +1,8 @@
 -- `eq` meets its contract: what the worlds named earn is refused, and else the call of `sets` answers.
 -- Assumes nothing.
-use Rattle.promises.proofs.Passing.{met-on}
+use Rattle.interval_bit_set.proofs.Passing.{met-on}
 use Rattle.interval_bit_set.proofs.Looking.{two-readable, both-turned}
-use Rattle.sets.proofs.Comparing.{equal-says}
+use Rattle.interval_bit_set.proofs.Comparing.{equal-says}
 use Rattle.interval_bit_set.proofs.join.eq.Goals as goal
 
 pub invariant_of-x : goal.invariant_of-x

@@ -1,9 +1,9 @@
 -- `not` meets its contract: what the worlds named earn is refused, and else the call of `sets` makes the world.
 -- Assumes nothing.
-use Rattle.promises.proofs.Passing.{met-on}
+use Rattle.interval_bit_set.proofs.Passing.{met-on}
 use Rattle.interval_bit_set.proofs.Looking.{two-readable, both-sent}
-use Rattle.promises.proofs.Overwriting.{complement-says}
-use Rattle.tidy.proofs.Tidying.{sound-after, met-after}
+use Rattle.interval_bit_set.proofs.Overwriting.{complement-says}
+use Rattle.interval_bit_set.proofs.Tidying.{sound-after, met-after}
 use Rattle.model.specs.Call.{done}
 use Rattle.interval_bit_set.proofs.join.not.Goals as goal
 

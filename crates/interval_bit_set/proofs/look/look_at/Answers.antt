@@ -6,7 +6,7 @@ use Rattle.soundness.specs.Decision.{worn}
 use native.Mathlib.Omega.{arith}
 use Rattle.store.specs.Soundness.{Sound}
 use Rattle.interval_bit_set.specs.Look.{look_number}
-use Rattle.promises.proofs.Passing.{handed-on}
+use Rattle.interval_bit_set.proofs.Passing.{handed-on}
 use Rattle.interval_bit_set.proofs.Looking.{pool-refused, pool-readable, pool-first, world-unopened, world-sound}
 use Rattle.interval_bit_set.proofs.look.look_at.Goals as goal
 use Rattle.interval_bit_set.proofs.look.look_at.Goals.{In_ok-worn}

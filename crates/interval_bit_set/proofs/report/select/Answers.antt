@@ -1,9 +1,9 @@
 -- `select` meets its contract: a world that looking refuses earns that refusal, of another the call of `ranges` answers.
 -- Assumes nothing.
 use mathlib.Core.Path.{refl}
-use Rattle.promises.proofs.Passing.{met-on}
+use Rattle.interval_bit_set.proofs.Passing.{met-on}
 use Rattle.interval_bit_set.proofs.Looking.{turned-away}
-use Rattle.promises.proofs.Meeting.{select-says}
+use Rattle.interval_bit_set.proofs.Meeting.{select-says}
 use Rattle.interval_bit_set.proofs.report.select.Goals as goal
 
 pub returns-in_err-site : goal.returns-in_err-site

@@ -42,15 +42,15 @@ use Rattle.std.proofs.raw_atomic.Walks.{proved}
 use Rattle.model.specs.Answers.{OrRefusal}
 use Rattle.model.specs.declared.Edition.{Edition}
 use Rattle.model.specs.Call.{Call, Answer}
-use Rattle.promises.specs.Met.{outcome_of}
-use Rattle.promises.specs.Out.{WritesOut}
+use Rattle.interval_bit_set.specs.Met.{outcome_of}
+use Rattle.interval_bit_set.specs.Out.{WritesOut}
 use Rattle.model.specs.contracts.Edition as E
 use Rattle.model.proofs.Edition.TheLaws as E'
 use Rattle.model.specs.contracts.Refusal as F
 use Rattle.std.specs.contracts.result.Result as R
-use Rattle.promises.proofs.Putting.{write-set-puts}
-use Rattle.interval_bit_set.specs.Out.{front_of, count_of, Part, Handed}
-use Rattle.interval_bit_set.proofs.Putting.{part-within, part-refused, part-filled}
+use Rattle.interval_bit_set.proofs.Putting.{write-set-puts}
+use Rattle.interval_bit_set.specs.Parts.{front_of, count_of, Part, Handed}
+use Rattle.interval_bit_set.proofs.Handing.{part-within, part-refused, part-filled}
 use Rattle.interval_bit_set.proofs.Lending.{at-list, Slice, Kept-again, lends-again, comes-back}
 use Rattle.interval_bit_set.proofs.Counted.{Counted, counted, made}
 use Rattle.interval_bit_set.proofs.HandedOn.{Row, Ends, ends-told, says-two, Contracted, to-handed, goes-handed}

@@ -1,8 +1,8 @@
 -- `window_fits` meets its contract: it makes the tests of a window one by one.
 -- Assumes nothing.
 use native.Mathlib.Omega.{arith}
-use Rattle.promises.proofs.Windows.{fits-not-empty, fits-not-long, fits-by-end}
-use Rattle.promises.proofs.window.window_fits.Goals as goal
+use Rattle.interval_bit_set.proofs.Windows.{fits-not-empty, fits-not-long, fits-by-end}
+use Rattle.interval_bit_set.proofs.window.window_fits.Goals as goal
 
 pub returns-then-length-eq0 : goal.returns-then-length-eq0
 returns-then-length-eq0 c = fits-not-empty _ _ c.if-length-eq0.true

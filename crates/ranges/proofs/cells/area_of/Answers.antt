@@ -1,7 +1,7 @@
 -- `area_of` meets its contract: each test in turn. Assumes nothing.
 use Rattle.std.proofs.Common.{refl, ◌∙◌, arith, lt-ltb, le-ltb}
-use Rattle.ranges.proofs.Planes.{bad-low, bad-wide, bad-rows, bad-columns}
-use Rattle.ranges.proofs.cells.area_of.Goals as goal
+use Rattle.interval_bit_set.proofs.Planes.{bad-low, bad-wide, bad-rows, bad-columns}
+use Rattle.interval_bit_set.proofs.cells.area_of.Goals as goal
 
 pub returns-then-q-gt65535 : goal.returns-then-q-gt65535
 returns-then-q-gt65535 c = bad-low _ c.if-q-gt65535.true

@@ -4,10 +4,10 @@ use Rattle.model.specs.Grid.{count_rect}
 use Rattle.model.specs.Call.{number}
 use Rattle.store.specs.Layout.{held}
 use Rattle.grid.specs.Areas.{AreaOf}
-use Rattle.ranges.proofs.Planes.{plane-refused, plane-passes}
-use Rattle.promises.proofs.Meeting.{refused-by, met-read, count-rect-says}
-use Rattle.promises.proofs.Sites.{site-readable}
-use Rattle.ranges.proofs.cells.count_rect.Goals as goal
+use Rattle.interval_bit_set.proofs.Planes.{plane-refused, plane-passes}
+use Rattle.interval_bit_set.proofs.Meeting.{refused-by, met-read, count-rect-says}
+use Rattle.interval_bit_set.proofs.Sites.{site-readable}
+use Rattle.interval_bit_set.proofs.cells.count_rect.Goals as goal
 
 pub returns-in_default : goal.returns-in_default
 returns-in_default c =

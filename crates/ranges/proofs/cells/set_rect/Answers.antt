@@ -4,11 +4,11 @@ use Rattle.model.specs.Grid
 use Rattle.store.specs.Layout.{held_in, held_by}
 use Rattle.store.proofs.Parts.{lent}
 use Rattle.grid.specs.Areas.{AreaOf}
-use Rattle.ranges.proofs.Planes.{plane-first, plane-passes}
-use Rattle.promises.proofs.Doors.{lent-editable, lent-held}
-use Rattle.promises.proofs.Changing.{refused-first, edit-full, edit-closing, edit-done, set-rect-says}
-use Rattle.ranges.proofs.cells.set_rect.Goals as goal
-use Rattle.ranges.proofs.cells.set_rect.Goals.{After-open-h}
+use Rattle.interval_bit_set.proofs.Planes.{plane-first, plane-passes}
+use Rattle.interval_bit_set.proofs.Doors.{lent-editable, lent-held}
+use Rattle.interval_bit_set.proofs.Changing.{refused-first, edit-full, edit-closing, edit-done, set-rect-says}
+use Rattle.interval_bit_set.proofs.cells.set_rect.Goals as goal
+use Rattle.interval_bit_set.proofs.cells.set_rect.Goals.{After-open-h}
 
 -- its cells, in the part that is lent, are those of the world
 cells : (o : After-open-h) → let a = o.args in

@@ -2,9 +2,9 @@
 use Rattle.std.proofs.Common.{◌≡◌, ◌*◌, ◌%◌, ◌^◌, ◌≤◌, refl, ◌∙◌, arith}
 use native.Mathlib.Nat.{one-mul}
 use lib.Pow.{shl_exact}
-use Rattle.ranges.proofs.Planes.{bad-large, row-beyond, column-beyond, square-there}
-use Rattle.ranges.proofs.cells.square_of.Goals as goal
-use Rattle.ranges.proofs.cells.square_of.Goals.{Else-k-gt8}
+use Rattle.interval_bit_set.proofs.Planes.{bad-large, row-beyond, column-beyond, square-there}
+use Rattle.interval_bit_set.proofs.cells.square_of.Goals as goal
+use Rattle.interval_bit_set.proofs.cells.square_of.Goals.{Else-k-gt8}
 
 -- k is at most 8
 few : (c : Else-k-gt8) → c.args.k ≤ 8

@@ -6,10 +6,10 @@ use Rattle.model.specs.Bytes.{into_front}
 use Rattle.model.specs.Grid.{survey}
 use Rattle.store.specs.Layout.{held, held_by}
 use Rattle.grid.specs.Areas.{SquareOf}
-use Rattle.promises.proofs.Putting.{put-no-square, short-after-square, square-passes, put-short, put-seen, survey-puts}
-use Rattle.promises.proofs.Sites.{site-readable}
-use Rattle.ranges.proofs.cells.survey.Goals as goal
-use Rattle.ranges.proofs.cells.survey.Goals.{After-due}
+use Rattle.interval_bit_set.proofs.Putting.{put-no-square, short-after-square, square-passes, put-short, put-seen, survey-puts}
+use Rattle.interval_bit_set.proofs.Sites.{site-readable}
+use Rattle.interval_bit_set.proofs.cells.survey.Goals as goal
+use Rattle.interval_bit_set.proofs.cells.survey.Goals.{After-due}
 
 -- the square is the one that was asked for
 square : (o : After-due) → SquareOf o.args.row o.args.column o.args.k (Some o.in-Some.square)

@@ -1,7 +1,7 @@
 -- `empty` meets its contract: the world's nodes are given back, and it has no run. Assumes nothing.
-use Rattle.promises.proofs.Doors.{lent-stands}
-use Rattle.ranges.proofs.Emptying.{empty-closing, empty-done}
-use Rattle.ranges.proofs.change.empty.Goals as goal
+use Rattle.interval_bit_set.proofs.Doors.{lent-stands}
+use Rattle.interval_bit_set.proofs.Emptying.{empty-closing, empty-done}
+use Rattle.interval_bit_set.proofs.change.empty.Goals as goal
 
 pub emptied-k-requires : goal.emptied-k-requires
 emptied-k-requires c = lent-stands c.open-h.ensures

@@ -1,9 +1,9 @@
 -- `flip` meets its contract: the positions of the range are inverted, and an empty or reversed one changes nothing. Assumes nothing.
 use mathlib.Core.Path.{refl}
-use Rattle.promises.proofs.Spans.{no-position, its-positions}
-use Rattle.promises.proofs.Doors.{lent-editable}
-use Rattle.promises.proofs.Changing.{left_so, fit-full, fit-closing, fit-done, flip-within, flip-none, flip-says}
-use Rattle.ranges.proofs.change.flip.Goals as goal
+use Rattle.interval_bit_set.proofs.Spans.{no-position, its-positions}
+use Rattle.interval_bit_set.proofs.Doors.{lent-editable}
+use Rattle.interval_bit_set.proofs.Changing.{left_so, fit-full, fit-closing, fit-done, flip-within, flip-none, flip-says}
+use Rattle.interval_bit_set.proofs.change.flip.Goals as goal
 
 pub returns-in_default : goal.returns-in_default
 returns-in_default c = left_so (flip-says _ _ _ _) c.requires refl (flip-none _ _ _ (no-position c.args.lower c.args.upper c.within.ensures c.in_default.is)) refl

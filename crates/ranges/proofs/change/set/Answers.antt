@@ -2,11 +2,11 @@
 -- left, or stays. Assumes nothing.
 use mathlib.Core.Path.{refl, ap}
 use Rattle.model.specs.Call.{number}
-use Rattle.promises.proofs.Spans.{no-position, its-positions}
-use Rattle.promises.proofs.Doors.{lent-editable}
-use Rattle.promises.proofs.Growing.{none-grows, edit-grows}
-use Rattle.promises.proofs.Changing.{left_so, edit-full, edit-closing, edit-done, set-within, set-none, changes-none, set_says}
-use Rattle.ranges.proofs.change.set.Goals as goal
+use Rattle.interval_bit_set.proofs.Spans.{no-position, its-positions}
+use Rattle.interval_bit_set.proofs.Doors.{lent-editable}
+use Rattle.interval_bit_set.proofs.Growing.{none-grows, edit-grows}
+use Rattle.interval_bit_set.proofs.Changing.{left_so, edit-full, edit-closing, edit-done, set-within, set-none, changes-none, set_says}
+use Rattle.interval_bit_set.proofs.change.set.Goals as goal
 
 pub returns-in_default-clause-met : goal.returns-in_default-clause-met
 returns-in_default-clause-met c =

@@ -1,7 +1,7 @@
 -- `set_strict` meets its contract: a reversed range is refused, any other is set as `set` does. Assumes nothing.
 use mathlib.Core.Path.{sym, ◌∙◌}
-use Rattle.ranges.proofs.Strict.{set-reversed, set-straight}
-use Rattle.ranges.proofs.change.set_strict.Goals as goal
+use Rattle.interval_bit_set.proofs.Strict.{set-reversed, set-straight}
+use Rattle.interval_bit_set.proofs.change.set_strict.Goals as goal
 
 pub returns-then-is_reversed : goal.returns-then-is_reversed
 returns-then-is_reversed c = set-reversed c.requires (sym c.if-is_reversed.true ∙ c.is_reversed.ensures) _

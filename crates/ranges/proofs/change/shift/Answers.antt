@@ -2,9 +2,9 @@
 use mathlib.Core.Path.{refl, ap}
 use native.Mathlib.Omega.{arith}
 use Rattle.model.specs.Positions.{shift_by}
-use Rattle.promises.proofs.Doors.{lent-held, lent-movable}
-use Rattle.promises.proofs.Changing.{move-closing, move-done, shift_says}
-use Rattle.ranges.proofs.change.shift.Goals as goal
+use Rattle.interval_bit_set.proofs.Doors.{lent-held, lent-movable}
+use Rattle.interval_bit_set.proofs.Changing.{move-closing, move-done, shift_says}
+use Rattle.interval_bit_set.proofs.change.shift.Goals as goal
 
 pub shift-k-requires : goal.shift-k-requires
 shift-k-requires c = lent-movable c.open-h.ensures

@@ -3,11 +3,11 @@
 use mathlib.Core.Path.{refl, ap, ◌∙◌}
 use Rattle.model.specs.Call.{drawn}
 use Rattle.model.specs.Positions.{last_run}
-use Rattle.ranges.proofs.Draws.{none_left, last-left, back_none, back_more, back_end}
-use Rattle.promises.proofs.Meeting.{met, met-read, draw-back-says}
-use Rattle.promises.proofs.Sites.{site-readable}
-use Rattle.ranges.proofs.listing.draw_back.Goals as goal
-use Rattle.ranges.proofs.listing.draw_back.Goals.{in_default-via-in-Some+else-l-r, in_default-via-in_default}
+use Rattle.interval_bit_set.proofs.Draws.{none_left, last-left, back_none, back_more, back_end}
+use Rattle.interval_bit_set.proofs.Meeting.{met, met-read, draw-back-says}
+use Rattle.interval_bit_set.proofs.Sites.{site-readable}
+use Rattle.interval_bit_set.proofs.listing.draw_back.Goals as goal
+use Rattle.interval_bit_set.proofs.listing.draw_back.Goals.{in_default-via-in-Some+else-l-r, in_default-via-in_default}
 
 pub returns-then-l : goal.returns-then-l
 returns-then-l c =

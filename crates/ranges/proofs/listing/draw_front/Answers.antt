@@ -3,11 +3,11 @@
 use mathlib.Core.Path.{refl, ap, ◌∙◌}
 use Rattle.model.specs.Call.{drawn}
 use Rattle.model.specs.Positions.{first_run}
-use Rattle.ranges.proofs.Draws.{none_left, first-left, front-none, front-more, front-end}
-use Rattle.promises.proofs.Meeting.{met, met-read, draw-front-says}
-use Rattle.promises.proofs.Sites.{site-readable}
-use Rattle.ranges.proofs.listing.draw_front.Goals as goal
-use Rattle.ranges.proofs.listing.draw_front.Goals.{in_default-via-in-Some+else-r-l, in_default-via-in_default}
+use Rattle.interval_bit_set.proofs.Draws.{none_left, first-left, front-none, front-more, front-end}
+use Rattle.interval_bit_set.proofs.Meeting.{met, met-read, draw-front-says}
+use Rattle.interval_bit_set.proofs.Sites.{site-readable}
+use Rattle.interval_bit_set.proofs.listing.draw_front.Goals as goal
+use Rattle.interval_bit_set.proofs.listing.draw_front.Goals.{in_default-via-in-Some+else-r-l, in_default-via-in_default}
 
 pub returns-then-l : goal.returns-then-l
 returns-then-l c =

@@ -6,11 +6,11 @@ use mathlib.Core.Path.{ap}
 use native.Mathlib.Omega.{arith}
 use Rattle.model.specs.Refusals.{bad_window}
 use Rattle.model.specs.Call.{number}
-use Rattle.promises.proofs.Windows.{fitting, window-refused, window-passes, fill-fits, fill_is, bad-by}
-use Rattle.promises.proofs.Meeting.{refused-by, met-read, fill-says}
-use Rattle.promises.proofs.Sites.{site-readable}
-use Rattle.ranges.proofs.report.fill.Goals as goal
-use Rattle.ranges.proofs.report.fill.Goals.{Else-not-window_fits}
+use Rattle.interval_bit_set.proofs.Windows.{fitting, window-refused, window-passes, fill-fits, fill_is, bad-by}
+use Rattle.interval_bit_set.proofs.Meeting.{refused-by, met-read, fill-says}
+use Rattle.interval_bit_set.proofs.Sites.{site-readable}
+use Rattle.interval_bit_set.proofs.report.fill.Goals as goal
+use Rattle.interval_bit_set.proofs.report.fill.Goals.{Else-not-window_fits}
 
 -- it is one
 good : (r : Else-not-window_fits) → bad_window r.args.base r.args.length ≡ false

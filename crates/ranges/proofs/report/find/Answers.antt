@@ -3,11 +3,11 @@
 use Rattle.std.proofs.Common.{◌≡◌, refl, ap, ◌∙◌, rules}
 use Rattle.model.specs.Positions.{find}
 use Rattle.reports.specs.Reports.{logical_number}
-use Rattle.promises.proofs.Spans.{no-position, its-positions, of_range, find-nothing}
+use Rattle.interval_bit_set.proofs.Spans.{no-position, its-positions, of_range, find-nothing}
 use Rattle.model.specs.Call.{position}
-use Rattle.promises.proofs.Meeting.{met, met-read, find-says}
-use Rattle.promises.proofs.Sites.{site-readable}
-use Rattle.ranges.proofs.report.find.Goals as goal
+use Rattle.interval_bit_set.proofs.Meeting.{met, met-read, find-says}
+use Rattle.interval_bit_set.proofs.Sites.{site-readable}
+use Rattle.interval_bit_set.proofs.report.find.Goals as goal
 
 pub returns-in_default : goal.returns-in_default
 returns-in_default c = met (find-says _ _ _ _ _) (site-readable c.args.site.readable) refl (ap position (find-nothing _ _ _ _ (no-position c.args.lower c.args.upper c.within.ensures c.in_default.is)))

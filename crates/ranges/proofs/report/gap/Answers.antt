@@ -4,13 +4,13 @@ use Rattle.std.specs.Prelude.{◌≤◌}
 use mathlib.Core.Path.{ap}
 use native.Mathlib.Omega.{arith}
 use Rattle.model.specs.Call.{position}
-use Rattle.promises.proofs.Spans.{no-position, its-positions, gap-range}
-use Rattle.ranges.proofs.Gaps.{gap-refused, gap-passes, gap-nothing}
-use Rattle.promises.proofs.Doors.{lent-stands}
-use Rattle.promises.proofs.Meeting.{refused-by, met, met-in, gap-says}
-use Rattle.promises.proofs.Sites.{site-readable}
-use Rattle.ranges.proofs.report.gap.Goals as goal
-use Rattle.ranges.proofs.report.gap.Goals.{Else-n-eq0}
+use Rattle.interval_bit_set.proofs.Spans.{no-position, its-positions, gap-range}
+use Rattle.interval_bit_set.proofs.Gaps.{gap-refused, gap-passes, gap-nothing}
+use Rattle.interval_bit_set.proofs.Doors.{lent-stands}
+use Rattle.interval_bit_set.proofs.Meeting.{refused-by, met, met-in, gap-says}
+use Rattle.interval_bit_set.proofs.Sites.{site-readable}
+use Rattle.interval_bit_set.proofs.report.gap.Goals as goal
+use Rattle.interval_bit_set.proofs.report.gap.Goals.{Else-n-eq0}
 
 -- it has some
 some : (c : Else-n-eq0) → 1 ≤ c.args.n

@@ -1,11 +1,11 @@
 -- `ranges` meets its contract: a listing has the range's first position and its last; one of an empty or reversed range has ended.
 -- Assumes nothing.
 use mathlib.Core.Path.{refl, ap, ◌∙◌}
-use Rattle.promises.proofs.Spans.{no-position, its-positions, listed-some, listed-nothing}
+use Rattle.interval_bit_set.proofs.Spans.{no-position, its-positions, listed-some, listed-nothing}
 use Rattle.model.specs.Call.{listing}
-use Rattle.promises.proofs.Meeting.{met, ranges-says}
-use Rattle.promises.proofs.Sites.{site-readable}
-use Rattle.ranges.proofs.report.ranges.Goals as goal
+use Rattle.interval_bit_set.proofs.Meeting.{met, ranges-says}
+use Rattle.interval_bit_set.proofs.Sites.{site-readable}
+use Rattle.interval_bit_set.proofs.report.ranges.Goals as goal
 
 pub returns-in_default : goal.returns-in_default
 returns-in_default c =

@@ -2,11 +2,11 @@
 -- Assumes nothing.
 use Rattle.std.proofs.Common.{◌≡◌, refl, ap, ◌∙◌, rules}
 use Rattle.reports.specs.Reports.{logical_number}
-use Rattle.promises.proofs.Spans.{no-position, its-positions, select-range, select-nothing}
+use Rattle.interval_bit_set.proofs.Spans.{no-position, its-positions, select-range, select-nothing}
 use Rattle.model.specs.Call.{position}
-use Rattle.promises.proofs.Meeting.{met, met-read, select-says}
-use Rattle.promises.proofs.Sites.{site-readable}
-use Rattle.ranges.proofs.report.select.Goals as goal
+use Rattle.interval_bit_set.proofs.Meeting.{met, met-read, select-says}
+use Rattle.interval_bit_set.proofs.Sites.{site-readable}
+use Rattle.interval_bit_set.proofs.report.select.Goals as goal
 
 pub returns-in_default : goal.returns-in_default
 returns-in_default c = met (select-says _ _ _ _ _ _) (site-readable c.args.site.readable) refl (ap position (select-nothing _ _ _ _ (no-position c.args.lower c.args.upper c.within.ensures c.in_default.is) _))

@@ -2,11 +2,11 @@
 -- Assumes nothing.
 use mathlib.Core.Path.{refl, ap₂}
 use Rattle.model.specs.Positions.{count, run_count}
-use Rattle.promises.proofs.Spans.{no-position, its-positions, of_range, count-nothing, ranges-nothing}
+use Rattle.interval_bit_set.proofs.Spans.{no-position, its-positions, of_range, count-nothing, ranges-nothing}
 use Rattle.model.specs.Call.{tallied}
-use Rattle.promises.proofs.Meeting.{met, met-read, tally-says}
-use Rattle.promises.proofs.Sites.{site-readable}
-use Rattle.ranges.proofs.report.tally.Goals as goal
+use Rattle.interval_bit_set.proofs.Meeting.{met, met-read, tally-says}
+use Rattle.interval_bit_set.proofs.Sites.{site-readable}
+use Rattle.interval_bit_set.proofs.report.tally.Goals as goal
 
 pub returns-in_default : goal.returns-in_default
 returns-in_default c =

@@ -1,8 +1,8 @@
 -- `tally_strict` meets its contract: a reversed range is refused, any other is tallied as `tally` does. Assumes nothing.
 use mathlib.Core.Path.{sym, ◌∙◌}
-use Rattle.ranges.proofs.Strict.{tally-reversed, tally-straight}
-use Rattle.promises.proofs.Sites.{site-readable}
-use Rattle.ranges.proofs.report.tally_strict.Goals as goal
+use Rattle.interval_bit_set.proofs.Strict.{tally-reversed, tally-straight}
+use Rattle.interval_bit_set.proofs.Sites.{site-readable}
+use Rattle.interval_bit_set.proofs.report.tally_strict.Goals as goal
 
 pub returns-then-is_reversed : goal.returns-then-is_reversed
 returns-then-is_reversed c = tally-reversed (site-readable c.args.site.readable) (sym c.if-is_reversed.true ∙ c.is_reversed.ensures) _

@@ -5,11 +5,11 @@ use Rattle.model.specs.declared.Run.{Run}
 use Rattle.model.specs.Positions.{mem}
 use Rattle.model.specs.Bytes.{runs_told}
 use Rattle.written.proofs.Telling.{accepted-runs}
-use Rattle.promises.proofs.Changing.{refused-first}
-use Rattle.promises.proofs.Overwriting.{load-says, carried}
-use Rattle.promises.proofs.Passing.{met-on}
-use Rattle.sets.proofs.Receiving.{told-refused, told-ordered}
-use Rattle.sets.proofs.bytes.load.Goals as goal
+use Rattle.interval_bit_set.proofs.Changing.{refused-first}
+use Rattle.interval_bit_set.proofs.Overwriting.{load-says, carried}
+use Rattle.interval_bit_set.proofs.Passing.{met-on}
+use Rattle.interval_bit_set.proofs.Receiving.{told-refused, told-ordered}
+use Rattle.interval_bit_set.proofs.bytes.load.Goals as goal
 
 pub returns-in_err-told : goal.returns-in_err-told
 returns-in_err-told c =

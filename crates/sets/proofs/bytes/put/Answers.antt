@@ -1,8 +1,8 @@
 -- `put` meets its contract: runs in order are as many as their set has, so their number tells whether the world may have them.
 -- Assumes nothing.
 use Rattle.std.proofs.Common.{refl, arith}
-use Rattle.sets.proofs.Receiving.{ordered-many, receive-few, receive-ready, receive-closing, receive-settled}
-use Rattle.sets.proofs.bytes.put.Goals as goal
+use Rattle.interval_bit_set.proofs.Receiving.{ordered-many, receive-few, receive-ready, receive-closing, receive-settled}
+use Rattle.interval_bit_set.proofs.bytes.put.Goals as goal
 
 pub returns-then-count-allowance : goal.returns-then-count-allowance
 returns-then-count-allowance g c =

@@ -5,12 +5,12 @@ use Rattle.std.proofs.Common.{not, ◌≡◌, ◌<◌, ◌≤◌, false, refl, a
 use Rattle.model.specs.Bytes.{stray_bits, mapped}
 use Rattle.model.specs.Refusals.{refusal, bad_window, bad_map, map_conditions}
 use Rattle.maps.specs.Window.{MapOfWindow}
-use Rattle.promises.proofs.Doors.{lent-held, lent-editable}
-use Rattle.promises.proofs.Windows.{fitting, map-window-refused, map-length-refused, map-stray-refused, map-passes, bad-by}
-use Rattle.sets.proofs.Mapping.{map-window}
-use Rattle.promises.proofs.Changing.{refused-first, edit-full, edit-closing, edit-done, read-map-says}
-use Rattle.sets.proofs.bytes.read_map.Goals as goal
-use Rattle.sets.proofs.bytes.read_map.Goals.{Else-not-map_length_fits, Else-not-window_fits, Else-stray_bits-gt0}
+use Rattle.interval_bit_set.proofs.Doors.{lent-held, lent-editable}
+use Rattle.interval_bit_set.proofs.Windows.{fitting, map-window-refused, map-length-refused, map-stray-refused, map-passes, bad-by}
+use Rattle.interval_bit_set.proofs.Mapping.{map-window}
+use Rattle.interval_bit_set.proofs.Changing.{refused-first, edit-full, edit-closing, edit-done, read-map-says}
+use Rattle.interval_bit_set.proofs.bytes.read_map.Goals as goal
+use Rattle.interval_bit_set.proofs.bytes.read_map.Goals.{Else-not-map_length_fits, Else-not-window_fits, Else-stray_bits-gt0}
 
 -- the window is one
 good : {g : _} (r : Else-not-window_fits g) → bad_window r.args.base r.args.n ≡ false

@@ -1,11 +1,11 @@
 -- `clear_map` meets its contract: a window that is none is refused, then a map of another length, and else the map is cleared. Assumes nothing.
 use Rattle.std.proofs.Common.{ap, not, ◌≡◌, false}
 use Rattle.model.specs.Refusals.{bad_window, bad_map}
-use Rattle.promises.proofs.Windows.{fitting, bad-by}
-use Rattle.sets.proofs.Mapping.{map-window}
-use Rattle.sets.proofs.Clearing.{clear-no-window, clear-no-map, clear-handles}
-use Rattle.sets.proofs.clear.clear_map.Goals as goal
-use Rattle.sets.proofs.clear.clear_map.Goals.{Else-not-map_length_fits, Else-not-window_fits}
+use Rattle.interval_bit_set.proofs.Windows.{fitting, bad-by}
+use Rattle.interval_bit_set.proofs.Mapping.{map-window}
+use Rattle.interval_bit_set.proofs.Clearing.{clear-no-window, clear-no-map, clear-handles}
+use Rattle.interval_bit_set.proofs.clear.clear_map.Goals as goal
+use Rattle.interval_bit_set.proofs.clear.clear_map.Goals.{Else-not-map_length_fits, Else-not-window_fits}
 
 -- the window is one
 good : (r : Else-not-window_fits) → bad_window r.args.base r.args.n ≡ false

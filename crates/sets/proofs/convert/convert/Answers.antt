@@ -3,10 +3,10 @@
 use Rattle.std.proofs.Common.{sym, subst}
 use Rattle.model.specs.Answers.{written_answer}
 use Rattle.model.specs.Converting.{convert}
-use Rattle.promises.specs.Handles.{Handles}
-use Rattle.promises.proofs.Passing.{handed-on}
-use Rattle.sets.proofs.Converting.{convert-turned, convert-short, convert-handles}
-use Rattle.sets.proofs.convert.convert.Goals as goal
+use Rattle.interval_bit_set.specs.Handles.{Handles}
+use Rattle.interval_bit_set.proofs.Passing.{handed-on}
+use Rattle.interval_bit_set.proofs.Converting.{convert-turned, convert-short, convert-handles}
+use Rattle.interval_bit_set.proofs.convert.convert.Goals as goal
 
 pub returns-in_err-told : goal.returns-in_err-told
 returns-in_err-told c =

@@ -3,9 +3,9 @@ use Rattle.std.proofs.Common.{◌≡◌, ◌≤◌, false, sym, ◌∙◌, arith
 use Rattle.model.specs.Deepest.{least}
 use Rattle.model.specs.Refusals.{bad_height}
 use Rattle.store.specs.Layout.{capacity}
-use Rattle.sets.proofs.Measuring.{good-height, no-height, over-height, list-fits, deepest-no-pool, deepest-no-height, deepest-over, deepest-short, deepest-done}
-use Rattle.sets.proofs.deepest.deepest.Goals as goal
-use Rattle.sets.proofs.deepest.deepest.Goals.{Else-h-gt-MAX_HEIGHT, Else-n-s, Else-s-eq0}
+use Rattle.interval_bit_set.proofs.Measuring.{good-height, no-height, over-height, list-fits, deepest-no-pool, deepest-no-height, deepest-over, deepest-short, deepest-done}
+use Rattle.interval_bit_set.proofs.deepest.deepest.Goals as goal
+use Rattle.interval_bit_set.proofs.deepest.deepest.Goals.{Else-h-gt-MAX_HEIGHT, Else-n-s, Else-s-eq0}
 
 -- what is known there: the capacity is some, the height is good, the list has so many runs, and these fit
 sized : (c : Else-s-eq0) → 1 ≤ capacity c.args.words.now

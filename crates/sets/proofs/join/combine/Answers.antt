@@ -2,10 +2,10 @@
 -- Assumes nothing.
 use Rattle.std.proofs.Common.{ap₂}
 use Rattle.model.specs.Positions.{combined}
-use Rattle.sets.proofs.Joins.{view-rooted, read_as}
-use Rattle.promises.proofs.Overwriting.{both-none, carried, combine-says}
-use Rattle.promises.proofs.Sites.{site-readable}
-use Rattle.sets.proofs.join.combine.Goals as goal
+use Rattle.interval_bit_set.proofs.Joins.{view-rooted, read_as}
+use Rattle.interval_bit_set.proofs.Overwriting.{both-none, carried, combine-says}
+use Rattle.interval_bit_set.proofs.Sites.{site-readable}
+use Rattle.interval_bit_set.proofs.join.combine.Goals as goal
 
 pub gathered-requires-clause-sources : goal.gathered-requires-clause-sources
 gathered-requires-clause-sources c =

@@ -2,12 +2,12 @@
 -- Assumes nothing.
 use Rattle.std.proofs.Common.{ap}
 use Rattle.model.specs.Call.{value}
-use Rattle.promises.proofs.Meeting.{met}
-use Rattle.sets.proofs.Joins.{view-rooted}
-use Rattle.promises.proofs.Overwriting.{reads_none}
-use Rattle.sets.proofs.Comparing.{equal-says, same-as}
-use Rattle.promises.proofs.Sites.{site-readable}
-use Rattle.sets.proofs.join.eq.Goals as goal
+use Rattle.interval_bit_set.proofs.Meeting.{met}
+use Rattle.interval_bit_set.proofs.Joins.{view-rooted}
+use Rattle.interval_bit_set.proofs.Overwriting.{reads_none}
+use Rattle.interval_bit_set.proofs.Comparing.{equal-says, same-as}
+use Rattle.interval_bit_set.proofs.Sites.{site-readable}
+use Rattle.interval_bit_set.proofs.join.eq.Goals as goal
 
 pub fits-requires : goal.fits-requires
 fits-requires c = record { left = view-rooted c.view-x.ensures; right = view-rooted c.view-y.ensures }

@@ -1,8 +1,8 @@
 -- `gathered` meets its contract: it counts the runs of the join first, and only if they fit it gathers them into the world.
 -- Assumes nothing.
 use Rattle.std.proofs.Common.{ap, not}
-use Rattle.promises.proofs.Overwriting.{test_fits, gather-roomy, gather-closing, gather-settled}
-use Rattle.sets.proofs.join.gathered.Goals as goal
+use Rattle.interval_bit_set.proofs.Overwriting.{test_fits, gather-roomy, gather-closing, gather-settled}
+use Rattle.interval_bit_set.proofs.join.gathered.Goals as goal
 
 pub gather-k-requires : goal.gather-k-requires
 gather-k-requires c =

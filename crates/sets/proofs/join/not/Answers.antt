@@ -1,10 +1,10 @@
 -- `not` meets its contract: what is in just one of an opened world and all positions is its complement.
 -- Assumes nothing.
 use Rattle.std.proofs.Common.{arith}
-use Rattle.sets.proofs.Joins.{view-rooted, complement-alike}
-use Rattle.promises.proofs.Overwriting.{reads_none, carried, complement-says}
-use Rattle.promises.proofs.Sites.{site-readable}
-use Rattle.sets.proofs.join.not.Goals as goal
+use Rattle.interval_bit_set.proofs.Joins.{view-rooted, complement-alike}
+use Rattle.interval_bit_set.proofs.Overwriting.{reads_none, carried, complement-says}
+use Rattle.interval_bit_set.proofs.Sites.{site-readable}
+use Rattle.interval_bit_set.proofs.join.not.Goals as goal
 
 pub gathered-requires-clause-sources : goal.gathered-requires-clause-sources
 gathered-requires-clause-sources c = record { left = view-rooted c.view-x.ensures; right = omega arith }

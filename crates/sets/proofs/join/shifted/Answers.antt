@@ -7,12 +7,12 @@ use Rattle.model.specs.Positions.{combined, shift_by, mem, run}
 use Rattle.model.specs.Model.{positions_of}
 use Rattle.store.specs.Layout.{held_from}
 use Rattle.store.proofs.Parts.{lent}
-use Rattle.promises.specs.Met.{fed_of}
-use Rattle.sets.proofs.Joins.{view-rooted, left-alike, right-alike}
-use Rattle.promises.proofs.Overwriting.{reads_none, carried, shifted-says}
-use Rattle.promises.proofs.Sites.{site-readable}
-use Rattle.sets.proofs.join.shifted.Goals as goal
-use Rattle.sets.proofs.join.shifted.Goals.{After-gathered, then-left, else-left}
+use Rattle.interval_bit_set.specs.Met.{fed_of}
+use Rattle.interval_bit_set.proofs.Joins.{view-rooted, left-alike, right-alike}
+use Rattle.interval_bit_set.proofs.Overwriting.{reads_none, carried, shifted-says}
+use Rattle.interval_bit_set.proofs.Sites.{site-readable}
+use Rattle.interval_bit_set.proofs.join.shifted.Goals as goal
+use Rattle.interval_bit_set.proofs.join.shifted.Goals.{After-gathered, then-left, else-left}
 
 -- what is kept ends within the positions
 pub gathered-requires-clause-sources : goal.gathered-requires-clause-sources

@@ -1,7 +1,7 @@
 -- `new` meets its contract: bad limits are refused, and of others a pool of empty worlds is made. Assumes nothing.
 use Rattle.std.proofs.Common.{ap, not}
-use Rattle.promises.proofs.Meeting.{limits-bad, limits-good, make-refused, make-done}
-use Rattle.sets.proofs.make.new.Goals as goal
+use Rattle.interval_bit_set.proofs.Meeting.{limits-bad, limits-good, make-refused, make-done}
+use Rattle.interval_bit_set.proofs.make.new.Goals as goal
 
 pub returns-then-not-limits_fit : goal.returns-then-not-limits_fit
 returns-then-not-limits_fit c =

@@ -7,12 +7,12 @@ use Rattle.model.specs.Mending.{mended_positions, mended_set, mend_report}
 use Rattle.model.proofs.Slices.{all-bytes}
 use Rattle.store.specs.Layout.{allowance}
 use Rattle.written.proofs.Telling.{shaped-tested}
-use Rattle.promises.specs.Out.{Mendable, Mends}
-use Rattle.promises.proofs.Passing.{handed-on}
-use Rattle.sets.proofs.Receiving.{receive-few, receive-ready, receive-closing, receive-settled}
-use Rattle.sets.proofs.Mending.{allowed-most, room-told, read_again, held-ordered, held-length, held-many, mend-turned, mend-full, mend-short, mend-unreported, mend-done}
-use Rattle.sets.proofs.mend.mend.Goals as goal
-use Rattle.sets.proofs.mend.mend.Goals.{After-in_order-right, After-outcome_runs-k, After-put_outcome, After-open-h, Else-k-allowance}
+use Rattle.interval_bit_set.specs.Out.{Mendable, Mends}
+use Rattle.interval_bit_set.proofs.Passing.{handed-on}
+use Rattle.interval_bit_set.proofs.Receiving.{receive-few, receive-ready, receive-closing, receive-settled}
+use Rattle.interval_bit_set.proofs.Mending.{allowed-most, room-told, read_again, held-ordered, held-length, held-many, mend-turned, mend-full, mend-short, mend-unreported, mend-done}
+use Rattle.interval_bit_set.proofs.mend.mend.Goals as goal
+use Rattle.interval_bit_set.proofs.mend.mend.Goals.{After-in_order-right, After-outcome_runs-k, After-put_outcome, After-open-h, Else-k-allowance}
 
 -- it is known whether the runs that the bytes tell are in order
 mendable : (o : After-in_order-right) → Mendable o.in_ok-told.told.bytes.now o.in_ok-told.told.edition o.in_ok-told.told.count o.in_order-right.result

@@ -1,6 +1,6 @@
 -- `put_outcome` meets its contract: a set that is in order is copied, and another is united. Assumes nothing.
-use Rattle.sets.proofs.Mending.{right-room, copied, due-told, united}
-use Rattle.sets.proofs.mend.put_outcome.Goals as goal
+use Rattle.interval_bit_set.proofs.Mending.{right-room, copied, due-told, united}
+use Rattle.interval_bit_set.proofs.mend.put_outcome.Goals as goal
 
 pub keep-requires : goal.keep-requires
 keep-requires c = right-room _ c.requires.mendable c.if-right.true c.requires.due

@@ -3,9 +3,9 @@ use Rattle.std.proofs.Common.{◌≡◌, ◌≤◌, sym, ap, ◌∙◌, arith}
 use Rattle.model.specs.Spawning.{ranges_of, entries_of, up_to_refused}
 use Rattle.store.specs.Layout.{capacity}
 use Rattle.spawn.proofs.Answering.{Answered, why-none, why-some}
-use Rattle.sets.proofs.Stopping.{why-no-pool, why-unrefused, why-short, why-done}
-use Rattle.sets.proofs.why.why_full.Goals as goal
-use Rattle.sets.proofs.why.why_full.Goals.{Else-s-eq0, In-Some}
+use Rattle.interval_bit_set.proofs.Stopping.{why-no-pool, why-unrefused, why-short, why-done}
+use Rattle.interval_bit_set.proofs.why.why_full.Goals as goal
+use Rattle.interval_bit_set.proofs.why.why_full.Goals.{Else-s-eq0, In-Some}
 
 -- the capacity is some, the count is of that capacity, and the places are one more
 sized : (c : Else-s-eq0) → 1 ≤ capacity c.args.words.now

@@ -9,14 +9,14 @@ use Rattle.model.specs.Refusals.{bad_window}
 use Rattle.model.proofs.Maps.{map_of-length}
 use Rattle.store.specs.Layout.{held_in}
 use Rattle.store.proofs.Parts.{lent}
-use Rattle.promises.specs.Out.{WritesOut}
-use Rattle.promises.proofs.Windows.{fitting, window-passes, bad-by}
-use Rattle.promises.proofs.Doors.{lent-stands}
-use Rattle.sets.proofs.Mapping.{lent-scannable}
-use Rattle.promises.proofs.Putting.{put-short, put-done, write-map-puts, put-no-window, short-after-window}
-use Rattle.promises.proofs.Sites.{site-readable}
-use Rattle.sets.proofs.write.write_map.Goals as goal
-use Rattle.sets.proofs.write.write_map.Goals.{After-open-h, Else-not-window_fits}
+use Rattle.interval_bit_set.specs.Out.{WritesOut}
+use Rattle.interval_bit_set.proofs.Windows.{fitting, window-passes, bad-by}
+use Rattle.interval_bit_set.proofs.Doors.{lent-stands}
+use Rattle.interval_bit_set.proofs.Mapping.{lent-scannable}
+use Rattle.interval_bit_set.proofs.Putting.{put-short, put-done, write-map-puts, put-no-window, short-after-window}
+use Rattle.interval_bit_set.proofs.Sites.{site-readable}
+use Rattle.interval_bit_set.proofs.write.write_map.Goals as goal
+use Rattle.interval_bit_set.proofs.write.write_map.Goals.{After-open-h, Else-not-window_fits}
 
 -- it is one
 good : {g : _} (r : Else-not-window_fits g) → bad_window r.args.base r.args.n ≡ false

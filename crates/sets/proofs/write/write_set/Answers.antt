@@ -4,11 +4,11 @@ use Rattle.std.proofs.Common.{◌≡◌, ◌+◌, ◌*◌, length, refl, ap, ◌
 use Rattle.model.specs.Positions.{held_runs}
 use Rattle.model.specs.Bytes.{encode}
 use Rattle.store.specs.Layout.{held_by}
-use Rattle.promises.proofs.Doors.{lent-stands}
-use Rattle.promises.proofs.Putting.{few-runs, set-length, put-short, put-done, write-set-puts}
-use Rattle.promises.proofs.Sites.{site-readable}
-use Rattle.sets.proofs.write.write_set.Goals as goal
-use Rattle.sets.proofs.write.write_set.Goals.{After-length_of-due}
+use Rattle.interval_bit_set.proofs.Doors.{lent-stands}
+use Rattle.interval_bit_set.proofs.Putting.{few-runs, set-length, put-short, put-done, write-set-puts}
+use Rattle.interval_bit_set.proofs.Sites.{site-readable}
+use Rattle.interval_bit_set.proofs.write.write_set.Goals as goal
+use Rattle.interval_bit_set.proofs.write.write_set.Goals.{After-length_of-due}
 
 -- the bytes due are those of the world's set
 due : (c : After-length_of-due) → 5 + 16 * c.run_count-n.result

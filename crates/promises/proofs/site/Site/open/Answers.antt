@@ -1,5 +1,5 @@
 -- `open` meets its contract: it is the store's. Assumes nothing.
-use Rattle.promises.proofs.site.Site.open.Goals as goal
+use Rattle.interval_bit_set.proofs.site.Site.open.Goals as goal
 
 pub returns : goal.returns
 returns c = c.open.ensures

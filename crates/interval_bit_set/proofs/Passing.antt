@@ -6,7 +6,7 @@ use Rattle.model.specs.declared.Refusal.{Refusal}
 use Rattle.model.specs.Numbers.{refusal_number}
 use Rattle.model.specs.Answers.{OrRefusal, answer_by}
 use Rattle.model.specs.Call.{Call, Answer, refused}
-use Rattle.promises.specs.Met.{Site, Met}
+use Rattle.interval_bit_set.specs.Met.{Site, Met}
 
 -- it is that refusal
 pub handed-on : {T : Type 0} {r : Refusal} {P : Refusal → Type 0} (a : OrRefusal T) → IsErrAnd a P → ((e : Refusal) → P e → e ≡ r) → a ≡ Err r

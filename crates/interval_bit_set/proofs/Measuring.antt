@@ -10,8 +10,8 @@ use Rattle.model.specs.Call.{deepest, Result, written, gave}
 use Rattle.model.specs.Pools.{settle_measured, measure_by}
 use Rattle.model.proofs.Deepest.{deepest-words}
 use Rattle.store.specs.Layout.{capacity, worlds_of}
-use Rattle.promises.specs.Met.{measured_of}
-use Rattle.promises.specs.Out.{WritesMeasured}
+use Rattle.interval_bit_set.specs.Met.{measured_of}
+use Rattle.interval_bit_set.specs.Out.{WritesMeasured}
 
 -- a height from 1 to 22 is none that is refused
 pub good-height : (h : ℕ) → 1 ≤ h → h ≤ 22 → bad_height h ≡ false

@@ -6,7 +6,7 @@ use Rattle.model.specs.Handled.{Handled}
 use Rattle.model.specs.Clearing.{clear_map}
 use Rattle.model.proofs.Clearing.{clear-refused, clear-done}
 use Rattle.spare.specs.Spare.{Clears}
-use Rattle.promises.specs.Handles.{Handles}
+use Rattle.interval_bit_set.specs.Handles.{Handles}
 
 module _ (base n : ℕ) (bs : List ℕ) where
   -- refused with 6, it leaves the map

@@ -23,8 +23,8 @@ use Rattle.store.proofs.Parts.{lent, lent-nodes}
 use Rattle.changes.proofs.Shifted.{turned-further}
 use Rattle.streams.specs.declared.source.View.{View}
 use Rattle.streams.specs.Reading.{Rooted}
-use Rattle.promises.specs.Met.{fed_of, Readable}
-use Rattle.promises.specs.Joined.{ViewOf}
+use Rattle.interval_bit_set.specs.Met.{fed_of, Readable}
+use Rattle.interval_bit_set.specs.Joined.{ViewOf}
 
 -- ---- the positions from a to b alone
 -- the others are not there

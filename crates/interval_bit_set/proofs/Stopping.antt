@@ -8,8 +8,8 @@ use Rattle.model.specs.Refusals.{store_length, not_refused, output_short, Condit
 use Rattle.model.specs.Call.{why_full, Result, written, gave}
 use Rattle.model.specs.Pools.{settle_measured, stopped, measure_by}
 use Rattle.store.specs.Layout.{capacity, worlds_of}
-use Rattle.promises.specs.Met.{measured_of}
-use Rattle.promises.specs.Out.{WritesMeasured}
+use Rattle.interval_bit_set.specs.Met.{measured_of}
+use Rattle.interval_bit_set.specs.Out.{WritesMeasured}
 
 module _ (w rs out : List ℕ) where
   -- the conditions, by the three tests

@@ -38,11 +38,11 @@ use Rattle.store.proofs.WorldLists.{opened-world}
 use Rattle.store.proofs.Worlds.{held-allowed}
 use Rattle.changes.specs.Edits.{Makes, Edited, Fitted, Moves}
 use Rattle.changes.proofs.Shifted.{shift-few}
-use Rattle.promises.specs.Met.{Site, fed_of, full_at, outcome_of, Met, Readable}
-use Rattle.promises.proofs.Doors.{lent-held, lent-limited, lent-closing, lent-settled}
-use Rattle.promises.proofs.Meeting.{met_by, settled_same, settled-as}
-use Rattle.promises.proofs.Refusing.{refused-before, none_before, refused_full}
-use Rattle.promises.proofs.Spans.{Allowed, of_range, count-nothing}
+use Rattle.interval_bit_set.specs.Met.{Site, fed_of, full_at, outcome_of, Met, Readable}
+use Rattle.interval_bit_set.proofs.Doors.{lent-held, lent-limited, lent-closing, lent-settled}
+use Rattle.interval_bit_set.proofs.Meeting.{met_by, settled_same, settled-as}
+use Rattle.interval_bit_set.proofs.Refusing.{refused-before, none_before, refused_full}
+use Rattle.interval_bit_set.proofs.Spans.{Allowed, of_range, count-nothing}
 
 -- the call c has the conditions cs, changes the positions held to Q of them, and gives A of them
 pub record Changes (w : List ℕ) (i : ℕ) (c : Call Site) (cs : List Condition) (Q : Positions → Positions) (A : Positions → Result) : Type 0 where

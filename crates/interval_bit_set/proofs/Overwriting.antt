@@ -25,10 +25,10 @@ use Rattle.store.specs.Soundness.{share_of}
 use Rattle.store.specs.Settle.{Settled, Became, Opened, Closing, Closes}
 use Rattle.store.proofs.Parts.{lent, back}
 use Rattle.streams.specs.Gathering.{Roomy, Gathers}
-use Rattle.promises.specs.Met.{Site, fed_of, fed_at, outcome_of, Met, Readable}
-use Rattle.promises.specs.Joined.{Carried}
-use Rattle.promises.proofs.Doors.{lent-limited, lent-closing, lent-settled}
-use Rattle.promises.proofs.Changing.{Changes, full, changes-to}
+use Rattle.interval_bit_set.specs.Met.{Site, fed_of, fed_at, outcome_of, Met, Readable}
+use Rattle.interval_bit_set.specs.Joined.{Carried}
+use Rattle.interval_bit_set.proofs.Doors.{lent-limited, lent-closing, lent-settled}
+use Rattle.interval_bit_set.proofs.Changing.{Changes, full, changes-to}
 
 -- the call c has the conditions cs, and overwrites the world by Q
 abbrev pub Overwrites : List ℕ → ℕ → Call Site → List Condition → Positions → Type 0

@@ -31,8 +31,8 @@ use Rattle.store.specs.Settle.{Settled, Openable, Opened}
 use Rattle.store.proofs.Parts.{lent}
 use Rattle.store.proofs.WorldLists.{opened-world, unopened-world}
 use Rattle.soundness.proofs.Whole.{sound_b-no}
-use Rattle.promises.specs.Met.{Site, fed_of, outcome_of, Leaves, Met, made_of, Made, Readable}
-use Rattle.promises.proofs.Doors.{lent-held}
+use Rattle.interval_bit_set.specs.Met.{Site, fed_of, outcome_of, Leaves, Met, made_of, Made, Readable}
+use Rattle.interval_bit_set.proofs.Doors.{lent-held}
 
 -- ---- what the model is fed
 -- words of no pool's length

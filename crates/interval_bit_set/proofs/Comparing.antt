@@ -8,10 +8,10 @@ use Rattle.model.specs.Model.{positions_of, reads, serve}
 use Rattle.store.specs.Layout.{held_from, held_by}
 use Rattle.store.proofs.Parts.{lent}
 use Rattle.streams.specs.declared.source.View.{View}
-use Rattle.promises.specs.Met.{site, fed_of, outcome_of, Readable}
-use Rattle.promises.specs.Joined.{ViewOf}
-use Rattle.promises.proofs.Meeting.{Reports}
-use Rattle.sets.proofs.Joins.{view-held, read_as, same-fits}
+use Rattle.interval_bit_set.specs.Met.{site, fed_of, outcome_of, Readable}
+use Rattle.interval_bit_set.specs.Joined.{ViewOf}
+use Rattle.interval_bit_set.proofs.Meeting.{Reports}
+use Rattle.interval_bit_set.proofs.Joins.{view-held, read_as, same-fits}
 
 -- the comparison reports whether the positions are the same
 pub equal-says : (v : List ℕ) (i : ℕ) (w : List ℕ) (j : ℕ) → Reports v i (Call.equal (site w j)) (reads (fed_of w j)) (λ P. value (same P (positions_of (fed_of w j))))

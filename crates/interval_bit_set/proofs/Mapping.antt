@@ -8,8 +8,8 @@ use Rattle.store.specs.Soundness.{Apart, share_of}
 use Rattle.store.specs.Settle.{Opened}
 use Rattle.store.proofs.Parts.{lent, lent-nodes}
 use Rattle.maps.specs.Painted.{Scannable}
-use Rattle.promises.proofs.Doors.{lent-limited}
-use Rattle.promises.proofs.Windows.{fitting}
+use Rattle.interval_bit_set.proofs.Doors.{lent-limited}
+use Rattle.interval_bit_set.proofs.Windows.{fitting}
 
 module _ (base n : ℕ) (bs : List ℕ) where
   -- a map that is not refused can be read

@@ -14,10 +14,10 @@ use Rattle.store.specs.Settle.{Became, Opened, Closing, Closes}
 use Rattle.store.proofs.Emptying.{empty-stretches}
 use Rattle.store.proofs.Parts.{lent, back}
 use Rattle.changes.specs.Edits.{Empties}
-use Rattle.promises.specs.Met.{Met, Readable}
-use Rattle.promises.proofs.Doors.{lent-limited, lent-closing, lent-settled}
-use Rattle.promises.proofs.Changing.{changes-to}
-use Rattle.promises.proofs.Overwriting.{build-says}
+use Rattle.interval_bit_set.specs.Met.{Met, Readable}
+use Rattle.interval_bit_set.proofs.Doors.{lent-limited, lent-closing, lent-settled}
+use Rattle.interval_bit_set.proofs.Changing.{changes-to}
+use Rattle.interval_bit_set.proofs.Overwriting.{build-says}
 
 -- no runs are in order
 none-ordered : refusal (run_order when disordered [] ∷ []) ≡ None

@@ -6,7 +6,7 @@ use Rattle.model.specs.declared.Run.{Run}
 use Rattle.model.specs.Positions.{run}
 use Rattle.run_index.specs.Tree.{Tree, leaf, node, height, inorder}
 use Rattle.run_index.specs.Shape.{pick, rotate_left, rotate_right, lean_left, lean_right, rebalanced, inserted}
-use Rattle.promises.specs.Grown.{shape}
+use Rattle.interval_bit_set.specs.Grown.{shape}
 
 -- the same height
 pub shape-height : (t : Tree) → height (shape t) ≡ height t

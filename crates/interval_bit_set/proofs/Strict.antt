@@ -7,9 +7,9 @@ use Rattle.model.specs.Range.{reversed}
 use Rattle.model.specs.Refusals.{before_capacity, range_reversed, ◌when◌, first_given, refusal}
 use Rattle.model.specs.Call.{Call, Answer, refused}
 use Rattle.model.specs.Model.{report, change, changed, setting, flipping, tallying, serve}
-use Rattle.promises.specs.Met.{Site, fed_of, full_at, outcome_of, Leaves, Met, Readable}
-use Rattle.promises.proofs.Meeting.{refused-by, tally-strict-says}
-use Rattle.promises.proofs.Changing.{refused-first, set-strict-says, flip-strict-says}
+use Rattle.interval_bit_set.specs.Met.{Site, fed_of, full_at, outcome_of, Leaves, Met, Readable}
+use Rattle.interval_bit_set.proofs.Meeting.{refused-by, tally-strict-says}
+use Rattle.interval_bit_set.proofs.Changing.{refused-first, set-strict-says, flip-strict-says}
 
 -- a call whose outcome is another's is met as that is
 met-same : {w w' : List ℕ} {i : ℕ} {c d : Call Site} {a : Answer} → outcome_of w i d ≡ outcome_of w i c → Met w i d a w' → Met w i c a w'

@@ -27,10 +27,10 @@ use Rattle.store.specs.Soundness.{Sound}
 use Rattle.store.specs.Settle.{Settled}
 use Rattle.store.proofs.Turn.{pool-past}
 use Rattle.store.proofs.WorldLists.{worlds-but, opened-world, unopened-world}
-use Rattle.promises.specs.Met.{Site, fed_at, full_at, outcome_of, Leaves, Met, made_of, MakeLeaves, Made, measured_of, Measured}
-use Rattle.promises.proofs.Refusing.{unopened-refused}
-use Rattle.promises.proofs.Meeting.{fed-sound}
-use Rattle.promises.proofs.Served.{Ends, bounded-ends, Served, served}
+use Rattle.interval_bit_set.specs.Met.{Site, fed_at, full_at, outcome_of, Leaves, Met, made_of, MakeLeaves, Made, measured_of, Measured}
+use Rattle.interval_bit_set.proofs.Refusing.{unopened-refused}
+use Rattle.interval_bit_set.proofs.Meeting.{fed-sound}
+use Rattle.interval_bit_set.proofs.Served.{Ends, bounded-ends, Served, served}
 
 -- the words w are a sound pool of capacity C with the worlds ws
 pub record Holds (C : ℕ) (ws : List PlainWorld) (w : List ℕ) : Type 0 where

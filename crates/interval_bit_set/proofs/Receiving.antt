@@ -21,9 +21,9 @@ use Rattle.written.specs.Parsed.{Acceptable}
 use Rattle.written.specs.Listed.{Receives, Received}
 use Rattle.model.proofs.Slices.{all-bytes}
 use Rattle.written.proofs.Telling.{ordered-stretches, disorder-is, accepted-runs, accepted-order}
-use Rattle.promises.specs.Met.{Readable}
-use Rattle.promises.proofs.Refusing.{first_alone}
-use Rattle.promises.proofs.Overwriting.{gather-roomy, gather-closing, gather-settled}
+use Rattle.interval_bit_set.specs.Met.{Readable}
+use Rattle.interval_bit_set.proofs.Refusing.{first_alone}
+use Rattle.interval_bit_set.proofs.Overwriting.{gather-roomy, gather-closing, gather-settled}
 
 -- the set of the runs rs has n runs
 pub record Many (n : ℕ) (rs : List Run) : Type 0 where

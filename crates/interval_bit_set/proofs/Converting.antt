@@ -14,9 +14,9 @@ use Rattle.model.proofs.RoundTrips.{unrefused-intact}
 use Rattle.model.proofs.Converting.{converted-length, convert-done}
 use Rattle.written.specs.Parsed.{Acceptable}
 use Rattle.written.proofs.Telling.{accepted-runs}
-use Rattle.promises.specs.Handles.{Handles}
-use Rattle.promises.proofs.Refusing.{refused-earlier, refused-short}
-use Rattle.sets.proofs.Receiving.{told-refused}
+use Rattle.interval_bit_set.specs.Handles.{Handles}
+use Rattle.interval_bit_set.proofs.Refusing.{refused-earlier, refused-short}
+use Rattle.interval_bit_set.proofs.Receiving.{told-refused}
 
 module _ (bs out : List ℕ) where
   -- a call that the model handles so

@@ -14,8 +14,8 @@ use Rattle.store.specs.Soundness.{Sound}
 use Rattle.store.specs.Free.{Pooled}
 use Rattle.store.specs.Settle.{Settled}
 use Rattle.store.proofs.WorldLists.{worlds-same}
-use Rattle.promises.specs.Met.{Site, Readable, Met}
-use Rattle.tidy.specs.Tidy.{Tidied, TidiesIf, Ended}
+use Rattle.interval_bit_set.specs.Met.{Site, Readable, Met}
+use Rattle.interval_bit_set.specs.Tidy.{Tidied, TidiesIf, Ended}
 
 -- what settled before stays so
 pub settled-tidied : {w w₁ w₂ : List ℕ} {i : ℕ} {P : Positions} → i < opened_at w → Settled w w₁ i P → Tidied w₁ w₂ → Settled w w₂ i P

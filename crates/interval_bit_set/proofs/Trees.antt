@@ -23,10 +23,10 @@ use Rattle.store.proofs.Orders.{node_in}
 use Rattle.store.proofs.Parts.{nodes-long}
 use Rattle.store.proofs.Reached.{tree-reached}
 use Rattle.store.proofs.Sharing.{tree-planted}
-use Rattle.promises.specs.Grown.{shape, Grows}
-use Rattle.promises.specs.Met.{Site, Readable, Met}
-use Rattle.tidy.specs.Tidy.{InOrder, Tidies, TidiesIf, Ended}
-use Rattle.tidy.proofs.Threading.{lows-high}
+use Rattle.interval_bit_set.specs.Grown.{shape, Grows}
+use Rattle.interval_bit_set.specs.Met.{Site, Readable, Met}
+use Rattle.interval_bit_set.specs.Tidy.{InOrder, Tidies, TidiesIf, Ended}
+use Rattle.interval_bit_set.proofs.Threading.{lows-high}
 
 -- world j has the tree and the offset that it had
 pub record SameTree (w w' : List ℕ) (j : ℕ) : Type 0 where

@@ -30,10 +30,10 @@ use Rattle.store.proofs.Reached.{tree-held, kept_low}
 use Rattle.store.proofs.Sharing.{node_of}
 use Rattle.store.proofs.Turn.{pool-past}
 use Rattle.soundness.proofs.Counting.{Among, sum, sum-times}
-use Rattle.promises.proofs.Doors.{lent-limited, lent-held, lent-closing, lent-settled}
-use Rattle.promises.proofs.Simulation.{same-positions}
-use Rattle.tidy.specs.Tidy.{lows, Threaded, Tidied, free_nodes, InOrder}
-use Rattle.tidy.proofs.Threading.{lows-before, lows-high, lows-once}
+use Rattle.interval_bit_set.proofs.Doors.{lent-limited, lent-held, lent-closing, lent-settled}
+use Rattle.interval_bit_set.proofs.Simulation.{same-positions}
+use Rattle.interval_bit_set.specs.Tidy.{lows, Threaded, Tidied, free_nodes, InOrder}
+use Rattle.interval_bit_set.proofs.Threading.{lows-before, lows-high, lows-once}
 
 -- the world with another head of the free chain
 abbrev pub headed_at : World → ℕ → World

@@ -11,7 +11,7 @@ use Rattle.model.specs.Positions.{Positions, bounded}
 use Rattle.model.specs.Refusals.{Condition, ◌when◌, capacity, refusal, too_many}
 use Rattle.model.specs.Call.{Fed, Call, Result, gave}
 use Rattle.model.specs.Model.{Outcome, positions_of, reads, settle, report, change, write, mending, changed, setting, flipping, tallying, drawn_first, drawn_last, serve}
-use Rattle.promises.proofs.Meeting.{refused-not}
+use Rattle.interval_bit_set.proofs.Meeting.{refused-not}
 
 -- only 0 .. 2^64 − 1 are held
 abbrev pub Ends : Positions → Type 0

@@ -24,12 +24,12 @@ use Rattle.store.specs.Settle.{Closing, Opened}
 use Rattle.store.specs.Soundness.{Limited, share_of}
 use Rattle.store.proofs.Closing.{closing-nodes}
 use Rattle.store.proofs.Parts.{lent, back, lent-nodes, back-nodes}
-use Rattle.promises.specs.Grown.{shape, Unturned, Clear, PutIn}
-use Rattle.promises.specs.Met.{Readable}
-use Rattle.promises.proofs.Changing.{edit-closing, edit-told}
-use Rattle.promises.proofs.Doors.{lent-limited, nodes-there}
-use Rattle.promises.proofs.Shapes.{shape-inserted}
-use Rattle.promises.proofs.Spans.{Allowed}
+use Rattle.interval_bit_set.specs.Grown.{shape, Unturned, Clear, PutIn}
+use Rattle.interval_bit_set.specs.Met.{Readable}
+use Rattle.interval_bit_set.proofs.Changing.{edit-closing, edit-told}
+use Rattle.interval_bit_set.proofs.Doors.{lent-limited, nodes-there}
+use Rattle.interval_bit_set.proofs.Shapes.{shape-inserted}
+use Rattle.interval_bit_set.proofs.Spans.{Allowed}
 
 -- nodes that stay give the tree that they gave
 module _ (w w' : List ℕ) (same : (m : ℕ) → 1 ≤ m → cell_at w' m ≡ cell_at w m) where

@@ -25,12 +25,12 @@ use Rattle.written.specs.Parsed.{Shaped, Acceptable}
 use Rattle.written.proofs.Telling.{shaped-runs, told-runs, accepted-stretches}
 use Rattle.lowest.specs.Mended.{Due, United}
 use Rattle.lowest.proofs.Fating.{fates-length, ordered-held, ordered-fates}
-use Rattle.promises.specs.Met.{outcome_of, Readable}
-use Rattle.promises.specs.Out.{Mendable, Mends}
-use Rattle.promises.proofs.Refusing.{first_alone, none_before, refused-room}
-use Rattle.promises.proofs.Changing.{Changes, refused-first, full-before, refused-after, changes-to}
-use Rattle.sets.proofs.Receiving.{Many}
-use Rattle.promises.proofs.Putting.{take-front}
+use Rattle.interval_bit_set.specs.Met.{outcome_of, Readable}
+use Rattle.interval_bit_set.specs.Out.{Mendable, Mends}
+use Rattle.interval_bit_set.proofs.Refusing.{first_alone, none_before, refused-room}
+use Rattle.interval_bit_set.proofs.Changing.{Changes, refused-first, full-before, refused-after, changes-to}
+use Rattle.interval_bit_set.proofs.Receiving.{Many}
+use Rattle.interval_bit_set.proofs.Putting.{take-front}
 
 -- ---- what is due
 -- a world may have no more runs than a written set can tell

@@ -4,9 +4,9 @@ use Rattle.std.proofs.Math.Logic.{∥∥₁_elim}
 use Rattle.std.proofs.Props.{props}
 use Rattle.store.specs.Settle.{Openable}
 use Rattle.soundness.proofs.Whole.{sound_b-yes, sound_b-no}
-use Rattle.promises.specs.Met.{Readable}
-use Rattle.promises.proofs.Meeting.{readable}
-use Rattle.promises.proofs.Doors.{nodes-there}
+use Rattle.interval_bit_set.specs.Met.{Readable}
+use Rattle.interval_bit_set.proofs.Meeting.{readable}
+use Rattle.interval_bit_set.proofs.Doors.{nodes-there}
 
 module _ {w : List ℕ} {i : ℕ} (t : ∥ Readable w i ∥₁) where
   pub site_openable : Openable w i

@@ -1,0 +1,106 @@
+-- Calls that write into the front of a lent slice, as the public crate has them: refused by what looking told, and what is handed back of the
+-- slice. Assumes nothing.
+use Rattle.std.specs.Result.{IsErrAnd}
+use Rattle.model.specs.declared.Refusal.{Refusal}
+use Rattle.std.specs.Prelude.{None, Ok, Err, IfOk, IfErr}
+use Rattle.model.specs.Answers.{OrRefusal, written_answer}
+use Rattle.std.specs.Prelude.{◌≡◌, ℕ, ◌≤◌, List, length, take, drop}
+use mathlib.Core.Path.{refl, sym, ap, ◌∙◌, subst, subst₂}
+use native.Mathlib.Omega.{arith}
+use lib.ListN.{length-append}
+use lib.Seq.{drop_at}
+use borrow.Table.Elements.{length-take-le}
+use denote.Ref.{MutBor}
+use Rattle.model.specs.Positions.{Positions}
+use Rattle.model.specs.Bytes.{into_front}
+use Rattle.model.specs.Refusals.{looks, Condition, first_given}
+use Rattle.model.specs.Call.{Call, Answer, refused, gave, written}
+use Rattle.interval_bit_set.specs.Met.{Site, outcome_of}
+use Rattle.interval_bit_set.specs.Out.{WritesOut, Unwritten}
+use Rattle.interval_bit_set.proofs.Meeting.{refused-not, answers-all}
+use Rattle.interval_bit_set.proofs.Putting.{Puts}
+use Rattle.interval_bit_set.specs.Look.{Looked}
+use Rattle.interval_bit_set.specs.Parts.{code_of, front_of, count_of, Part, Handed}
+use Rattle.model.specs.Numbers.{refusal_number}
+use Rattle.interval_bit_set.proofs.Passing.{handed-on}
+use Rattle.interval_bit_set.proofs.Looking.{turned-away}
+
+-- a world that looking refuses
+pub put-turned : {T : Type 0} {w : List ℕ} {i : ℕ} {c : List ℕ → Call Site} {cs : List Condition} {B : Positions → List ℕ} {out : List ℕ} {r : Refusal} {P : Refusal → Type 0}
+    → Puts w i c cs B out → (l : OrRefusal T) → Looked w i l → l ≡ Err r → first_given looks cs ≡ None → (a : OrRefusal ℕ) → IsErrAnd a P → ((e : Refusal) → P e → e ≡ r) → WritesOut c w i out a out
+put-turned {w} {i} {c} {out = out} puts l k e g a h j =
+    subst (λ b. WritesOut c w i out b out) (sym (handed-on a h j)) (record { met = turned-away puts.says l k e g; unwritten = refl })
+
+-- what a site wrote, the world did that it was made of
+pub put-there : {v w : List ℕ} {i j : ℕ} {c : List ℕ → Call Site} {out out' : List ℕ} {r : OrRefusal ℕ} → (v ≡ w) × (i ≡ j) → WritesOut c v i out r out' → WritesOut c w j out r out'
+put-there {c = c} {out} {out'} {r} e o = subst₂ (λ u k. WritesOut c u k out r out') e.0 e.1 o
+
+-- ---- what is handed back
+-- an answer that gives bytes gives a slice that has as many, and behind them it is as it was
+abbrev Within : List ℕ → Answer → Type 0
+Within out a = (n : ℕ) (bs : List ℕ) → a ≡ gave (written n bs) → (n ≤ length bs) × (drop n bs ≡ drop n out)
+
+-- so it is with bytes that were put into the front of a slice
+front-within : (bs out : List ℕ) → (length bs ≤ length (into_front bs out)) × (drop (length bs) (into_front bs out) ≡ drop (length bs) out)
+unfolding into_front
+front-within bs out = (omega (arith, length-append bs (drop (length bs) out)), drop_at bs (drop (length bs) out) (length bs) refl)
+
+-- and so with what a call writes
+written-within : (n : ℕ) (bs out : List ℕ) → (n ≤ length bs) × (drop n bs ≡ drop n out) → Within out (gave (written n bs))
+written-within n bs out h m cs e =
+    let f : n ≡ m = cc in
+    let g : bs ≡ cs = cc in
+    subst (λ k. (k ≤ length cs) × (drop k cs ≡ drop k out)) f (subst (λ ds. (n ≤ length ds) × (drop n ds ≡ drop n out)) g h)
+
+-- a count of bytes that were written into the front of out, which is out' then, tells the answer a
+pub record Tells (a : Answer) (n : ℕ) (out out' : List ℕ) : Type 0 where
+  pub code : code_of a ≡ 0
+  pub front : take n out' ≡ front_of a
+  pub within : n ≤ length out'
+  pub behind : drop n out' ≡ drop n out
+
+-- what the model answers
+abbrev told : List ℕ → ℕ → (List ℕ → Call Site) → List ℕ → Answer
+told w i c out = (outcome_of w i (c out)).answer
+
+module _ {w : List ℕ} {i : ℕ} {c : List ℕ → Call Site} {cs : List Condition} {B : Positions → List ℕ} {out : List ℕ} (puts : Puts w i c cs B out) {out' : List ℕ} where
+  -- so what a call wrote is told by the count that it gives
+  pub put-told : (n : ℕ) → WritesOut c w i out (Ok n) out' → Tells (told w i c out) n out out'
+  put-told n o =
+      let k : gave (written n out') ≡ (told w i c out) = o.met.answered in
+      let h : Within out (told w i c out) =
+      answers-all (Within out) puts.says (λ n m bs q. absurd (refused-not q)) (λ P. written-within _ _ out (front-within (B P) out)) in
+      let w = h n out' (sym k) in
+      subst (λ a. Tells a n out out') k (record { code = refl; front = refl; within = w.0; behind = w.1 })
+
+  module _ {r : OrRefusal ℕ} (o : WritesOut c w i out r out') where
+    -- the part that is handed back by the result r is in the slice
+    pub part-within : IfOk r (λ n. n ≤ length out')
+    part-within = if-ok r o
+      where
+        if-ok : (r : OrRefusal ℕ) → WritesOut c w i out r out' → IfOk r (λ n. n ≤ length out')
+        if-ok (Ok n) o = (put-told n o).within
+        if-ok (Err e) o = tt
+
+    module _ (p : ℕ × ℕ) where
+      -- what is handed back of that slice, at p, tells the answer too
+      pub part-refused : (t : Part) → Handed r out' p t → IfErr t (λ e. told w i c out ≡ refused (refusal_number e))
+      part-refused (Ok part) h = tt
+      part-refused (Err e) h = sym (subst (λ k. written_answer k out' ≡ (told w i c out)) h.0 o.met.answered)
+
+      pub part-filled : (t : Part) → Handed r out' p t → IfOk t (λ part. (code_of (told w i c out) ≡ 0) × (part.now ≡ front_of (told w i c out)) × (part.ref_ptr ≡ p))
+      part-filled (Err e) h = tt
+      part-filled (Ok part) h =
+          let s = put-told (length part.now) (subst (λ k. WritesOut c w i out k out') h.1.0 o) in
+          (s.code, h.1.1 ∙ s.front, h.1.2)
+
+      -- behind a part the slice is as it was, and all of it after a refusal
+      pub part-behind : (part : MutBor (List ℕ)) → Handed r out' p (Ok part) → drop (count_of r) out' ≡ drop (length (front_of (told w i c out))) out
+      part-behind part h =
+          let k = length part.now in
+          let s = put-told k (subst (λ k. WritesOut c w i out k out') h.1.0 o) in
+          let same : length (front_of (told w i c out)) ≡ k = sym (ap length s.front) ∙ length-take-le k out' s.within in
+          ap (λ r. drop (count_of r) out') h.1.0 ∙ s.behind ∙ ap (λ m. drop m out) (sym same)
+
+      pub refused-whole : (e : Refusal) → Handed r out' p (Err e) → out' ≡ out
+      refused-whole e h = subst (λ k. Unwritten k out out') h.0 o.unwritten
