@@ -22,13 +22,10 @@ use Rattle.model.specs.Positions.{Positions, bounded, stretches, changes, set_ra
 use Rattle.model.proofs.After.{set_below, set-above, flip-below, flip-above, changes-set}
 use Rattle.model.proofs.Runs.{stretches-cong}
 use Rattle.model.proofs.Pools.{full-allowance}
-use Rattle.model.specs.Bytes.{mapped}
-use Rattle.model.specs.declared.Rect.{Rect}
-use Rattle.model.specs.Grid
-use Rattle.model.specs.Refusals.{off_plane, bad_rect, before_capacity, Condition, ◌when◌, first_given, refusal, map_conditions, too_many}
+use Rattle.model.specs.Refusals.{before_capacity, Condition, ◌when◌, first_given, refusal, too_many}
 use Rattle.model.specs.Refusals
-use Rattle.model.specs.Call.{Fed, Call, Result, done, number, refused, gave}
-use Rattle.model.specs.Model.{positions_of, reads, settle, change, changed, setting, flipping, strict, serve}
+use Rattle.model.specs.Call.{Fed, holding, Call, Result, done, number, refused, gave}
+use Rattle.model.specs.Model.{Effect, plan, settle, look, or_else, serve}
 use Rattle.store.specs.declared.World.{World}
 use Rattle.store.specs.Layout.{capacity, allowance, held_in, held_by, plain_at, worlds_of}
 use Rattle.store.specs.Soundness.{share_of}
@@ -38,15 +35,29 @@ use Rattle.store.proofs.WorldLists.{opened-world}
 use Rattle.store.proofs.Worlds.{held-allowed}
 use Rattle.changes.specs.Edits.{Makes, Edited, Fitted, Moves}
 use Rattle.changes.proofs.Shifted.{shift-few}
-use Rattle.interval_bit_set.specs.Met.{Site, fed_of, full_at, outcome_of, Met, Readable}
+use Rattle.interval_bit_set.specs.Met.{Site, fed_of, fed_at, full_at, outcome_of, Met, Readable}
 use Rattle.interval_bit_set.proofs.Doors.{lent-held, lent-limited, lent-closing, lent-settled}
 use Rattle.interval_bit_set.proofs.Meeting.{met_by, settled_same, settled-as}
 use Rattle.interval_bit_set.proofs.Refusing.{refused-before, none_before, refused_full}
 use Rattle.interval_bit_set.proofs.Spans.{Allowed, of_range, count-nothing}
 
--- the call c has the conditions cs, changes the positions held to Q of them, and gives A of them
+-- what becomes of the positions: Q of them
+pub data Alters : Effect → (Positions → Positions) → Type 0 where
+  becoming : (Q : Positions → Positions) → Alters (Effect.becomes Q) Q
+  overwriting : (Q : Positions → Positions) (Q' : Positions) → ((P : Positions) → Q P ≡ Q') → Alters (Effect.overwritten Q') Q
+
+-- the call c reads nothing that refuses, has the conditions cs, changes the positions held to Q of them, and gives A of them
 pub record Changes (w : List ℕ) (i : ℕ) (c : Call Site) (cs : List Condition) (Q : Positions → Positions) (A : Positions → Result) : Type 0 where
-  pub said : outcome_of w i c ≡ change (full_at w i) (fed_of w i) cs (Q (positions_of (fed_of w i))) (A (positions_of (fed_of w i)))
+  pub further : List Fed
+  pub read : look further ≡ None
+  pub effect : Effect
+  pub alters : Alters effect Q
+  pub said : plan fed_at c ≡ record { further = further; earns = λ P. cs; effect = effect; gives = A }
+
+-- one that reads no further world
+pub alters : {w : List ℕ} {i : ℕ} {c : Call Site} {cs : List Condition} {Q : Positions → Positions} {A : Positions → Result}
+    → plan fed_at c ≡ record { further = []; earns = λ P. cs; effect = Effect.becomes Q; gives = A } → Changes w i c cs Q A
+alters e = record { further = []; read = refl; effect = _; alters = becoming _; said = e }
 
 -- ---- too many runs
 module _ {w : List ℕ} {i : ℕ} (o : Openable w i) where
@@ -71,32 +82,38 @@ unfolding bounded
 bounded-is Q x h = sym (ap (λ t. t && Q x) (lt-ltb x size h))
 
 module _ {w : List ℕ} {i : ℕ} {c : Call Site} {cs : List Condition} {Q : Positions → Positions} {A : Positions → Result} (says : Changes w i c cs Q A) where
-  -- the refusal that is due at a world that is fed as s
-  abbrev due : Fed → Option ℕ
-  due s = refusal (reads s ++ Refusals.capacity when too_many (full_at w i) (Q (positions_of s)) ∷ cs)
-
-  -- it is given
-  pub refused-due : {w' : List ℕ} {n : ℕ} → due (fed_of w i) ≡ Some n → w' ≡ w → Met w i c (refused n) w'
-  unfolding change
-  refused-due e q =
-      met_by _ (says.said ∙ ap (λ o. settle o (positions_of (fed_of w i)) (A (positions_of (fed_of w i))) (bounded (Q (positions_of (fed_of w i))))) e) q
-
   module _ (R : Readable w i) where
-    -- a readable world's is that of the runs and the conditions
-    readable-due : {o : Option ℕ} (t : Bool) → too_many (full_at w i) (Q (held_by w i)) ≡ t → refusal (Refusals.capacity when t ∷ cs) ≡ o → due (fed_of w i) ≡ o
-    readable-due t e f = ap due R.fed ∙ ap (λ m. refusal (Refusals.capacity when m ∷ cs)) e ∙ f
+    -- what the model says of it at a world that can be read, by whether that has too many runs
+    changes-outcome : (t : Bool) (o : Option ℕ) → too_many (full_at w i) (Q (held_by w i)) ≡ t → refusal (Refusals.capacity when t ∷ cs) ≡ o
+        → outcome_of w i c ≡ settle o (held_by w i) (A (held_by w i)) (bounded (Q (held_by w i)))
+    unfolding outcome_of serve
+    changes-outcome t o e f =
+        ap₂ (serve (full_at w i)) R.fed says.said ∙ by says.effect says.alters
+        ∙ ap (λ m. settle (refusal (Refusals.capacity when m ∷ cs)) (held_by w i) (A (held_by w i)) (bounded (Q (held_by w i)))) e
+        ∙ ap (λ y. settle y (held_by w i) (A (held_by w i)) (bounded (Q (held_by w i)))) f
+      where
+        by : (d : Effect) → Alters d Q → serve (full_at w i) (holding (held_by w i)) (record { further = says.further; earns = λ P. cs; effect = d; gives = A })
+            ≡ settle (refusal (Refusals.capacity when too_many (full_at w i) (Q (held_by w i)) ∷ cs)) (held_by w i) (A (held_by w i)) (bounded (Q (held_by w i)))
+        by d (becoming q) = ap (λ l. settle (or_else l (refusal (Refusals.capacity when too_many (full_at w i) (q (held_by w i)) ∷ cs))) (held_by w i) (A (held_by w i)) (bounded (q (held_by w i)))) says.read
+        by d (overwriting q q' e) =
+            ap (λ l. settle (or_else l (refusal (Refusals.capacity when too_many (full_at w i) q' ∷ cs))) (held_by w i) (A (held_by w i)) (bounded q')) says.read
+            ∙ ap (λ P. settle (refusal (Refusals.capacity when too_many (full_at w i) P ∷ cs)) (held_by w i) (A (held_by w i)) (bounded P)) (sym (e (held_by w i)))
+
+    -- a refusal that is due is given
+    given-at : (t : Bool) {n : ℕ} {w' : List ℕ} → too_many (full_at w i) (Q (held_by w i)) ≡ t → refusal (Refusals.capacity when t ∷ cs) ≡ Some n → w' ≡ w → Met w i c (refused n) w'
+    given-at t {n} e f q = met_by _ (changes-outcome t (Some n) e f) q
 
     -- the conditions come first
     pub refused-first : {n : ℕ} → first_given before_capacity cs ≡ Some n → Met w i c (refused n) w
-    refused-first e = refused-due (readable-due _ refl (refused-before cs (too_many (full_at w i) (Q (held_by w i))) e)) refl
+    refused-first e = given-at _ refl (refused-before cs (too_many (full_at w i) (Q (held_by w i))) e) refl
 
     -- then more runs than it may have
     pub full-before : first_given before_capacity cs ≡ None → {w' : List ℕ} → (allowance w i < stretches (Q (held_by w i))) × (w' ≡ w) → Met w i c (refused 8) w'
-    full-before early h = refused-due (readable-due true (fits_not R.openable (Q (held_by w i)) h.0) (refused_full cs early)) h.1
+    full-before early h = given-at true (fits_not R.openable (Q (held_by w i)) h.0) (refused_full cs early) h.1
 
     -- then the conditions that come after these
     pub refused-after : {n : ℕ} → stretches (Q (held_by w i)) ≤ allowance w i → refusal cs ≡ Some n → Met w i c (refused n) w
-    refused-after fits e = refused-due (readable-due false (fits-few R.openable (Q (held_by w i)) fits) e) refl
+    refused-after fits e = given-at false (fits-few R.openable (Q (held_by w i)) fits) e refl
 
     module _ (quiet : refusal cs ≡ None) (Q' : Positions) (alike : (x : ℕ) → x < size → Q' x ≡ Q (held_by w i) x) where
       -- the changed set has as many runs
@@ -109,15 +126,11 @@ module _ {w : List ℕ} {i : ℕ} {c : Call Site} {cs : List Condition} {Q : Pos
 
       -- and else the world is changed
       pub changes-to : {w' : List ℕ} {a : Result} → stretches Q' ≤ allowance w i → Settled w w' i Q' → a ≡ A (held_by w i) → Met w i c (gave a) w'
-      unfolding change
       changes-to {w'} fits S g =
           let few : stretches (Q (held_by w i)) ≤ allowance w i = subst (λ n. n ≤ allowance w i) runs-alike fits in
-          let free : due (fed_of w i) ≡ None = readable-due false (fits-few R.openable (Q (held_by w i)) few) quiet in
           subst (λ b. Met w i c (gave b) w') (sym g)
           (met_by (record { answer = gave (A (held_by w i)); positions = bounded (Q (held_by w i)) })
-          (says.said
-          ∙ ap (λ o. settle o (positions_of (fed_of w i)) (A (positions_of (fed_of w i))) (bounded (Q (positions_of (fed_of w i))))) free
-          ∙ ap (λ s. settle None (positions_of s) (A (positions_of s)) (bounded (Q (positions_of s)))) R.fed)
+          (changes-outcome false None (fits-few R.openable (Q (held_by w i)) few) quiet)
           (settled-as S (λ x h. alike x h ∙ bounded-is (Q (held_by w i)) x h)))
 
     -- a world that is its own change to the same set is left
@@ -231,41 +244,3 @@ module _ {w : List ℕ} {i : ℕ} {c : Call Site} {cs : List Condition} {F : Pos
     fit-done ys e ft q cl g =
         let t = fit-told R op el ys e ft q in
         changes-to says R quiet Q alike (up_to Q el t.0) (lent-settled R.openable (made R op el t.0 t.1) (up_to Q el t.0) cl) g
-
--- which calls change, and to what:
-module _ (w : List ℕ) (i : ℕ) where
-  -- a range gets a value
-  pub set_says : (l u : Bound) (v : Bool) → Changes w i (Call.set l u v) [] (set_range (first_allowed l) (extent l u) v) (λ P. number (changes P (set_range (first_allowed l) (extent l u) v P)))
-  unfolding outcome_of serve changed setting
-  set_says l u v = record { said = refl }
-
-  -- a range is inverted
-  pub flip-says : (l u : Bound) → Changes w i (Call.flip l u) [] (flip_range (first_allowed l) (extent l u)) (λ P. done)
-  unfolding outcome_of serve flipping
-  flip-says l u = record { said = refl }
-
-  -- all positions are moved
-  pub shift_says : (d : ℕ) (left : Bool) → Changes w i (Call.shift d left) [] (shift_by d left) (λ P. done)
-  unfolding outcome_of serve
-  shift_says d left = record { said = refl }
-
-  -- a window is set from a map
-  pub read-map-says : (base n : ℕ) (bs : List ℕ) → Changes w i (Call.read_map base n bs) (map_conditions base n bs) (mapped base n bs) (λ P. number (changes P (mapped base n bs P)))
-  unfolding outcome_of serve changed
-  read-map-says base n bs = record { said = refl }
-
-  -- a rectangle gets a value
-  pub set-rect-says : (q : Rect) (v : Bool) → Changes w i (Call.set_rect q v) (off_plane when bad_rect q ∷ []) (Grid.set_rect q v) (λ P. number (changes P (Grid.set_rect q v P)))
-  unfolding outcome_of serve changed
-  set-rect-says q v = record { said = refl }
-
-  -- a range gets a value, strictly
-  pub set-strict-says : (l u : Bound) (v : Bool)
-      → Changes w i (Call.set_strict l u v) (strict l u) (set_range (first_allowed l) (extent l u) v) (λ P. number (changes P (set_range (first_allowed l) (extent l u) v P)))
-  unfolding outcome_of serve changed setting
-  set-strict-says l u v = record { said = refl }
-
-  -- a range is inverted, strictly
-  pub flip-strict-says : (l u : Bound) → Changes w i (Call.flip_strict l u) (strict l u) (flip_range (first_allowed l) (extent l u)) (λ P. done)
-  unfolding outcome_of serve flipping
-  flip-strict-says l u = record { said = refl }

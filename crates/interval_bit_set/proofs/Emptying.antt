@@ -17,7 +17,7 @@ use Rattle.changes.specs.Edits.{Empties}
 use Rattle.interval_bit_set.specs.Met.{Met, Readable}
 use Rattle.interval_bit_set.proofs.Doors.{lent-limited, lent-closing, lent-settled}
 use Rattle.interval_bit_set.proofs.Changing.{changes-to}
-use Rattle.interval_bit_set.proofs.Overwriting.{build-says}
+use Rattle.interval_bit_set.proofs.Overwriting.{makes}
 
 -- no runs are in order
 none-ordered : refusal (run_order when disordered [] ∷ []) ≡ None
@@ -37,4 +37,4 @@ module _ {w : List ℕ} {i : ℕ} {h : World} (R : Readable w i) (op : Opened w 
 
   -- and then holds what no runs do
   pub empty-done : {w' : List ℕ} → Closes (back w ys) w' k → Met w i (Call.build []) (gave done) w'
-  empty-done cl = changes-to (build-says w i []) R none-ordered empty (λ x l. ap (λ P. P x) (sym mem-empty)) few (lent-settled R.openable became few cl) refl
+  empty-done cl = changes-to (makes refl refl) R none-ordered empty (λ x l. ap (λ P. P x) (sym mem-empty)) few (lent-settled R.openable became few cl) refl

@@ -13,27 +13,31 @@ use borrow.Table.Elements.{length-take-le}
 use denote.Ref.{MutBor}
 use Rattle.model.specs.Positions.{Positions}
 use Rattle.model.specs.Bytes.{into_front}
-use Rattle.model.specs.Refusals.{looks, Condition, first_given}
+use Rattle.model.specs.Refusals.{Condition}
+use Rattle.model.specs.declared.Refusal.TheVariants.{WorldUnopened}
+use Rattle.model.specs.Model.{positions_of, plan, writing, settle, serve}
+use Rattle.store.specs.Layout.{opened_at}
 use Rattle.model.specs.Call.{Call, Answer, refused, gave, written}
-use Rattle.interval_bit_set.specs.Met.{Site, outcome_of}
+use Rattle.interval_bit_set.specs.Met.{Site, faults, fed_of, fed_at, full_at, outcome_of, Met}
 use Rattle.interval_bit_set.specs.Out.{WritesOut, Unwritten}
-use Rattle.interval_bit_set.proofs.Meeting.{refused-not, answers-all}
-use Rattle.interval_bit_set.proofs.Putting.{Puts}
-use Rattle.interval_bit_set.specs.Look.{Looked}
+use Rattle.interval_bit_set.proofs.Meeting.{refused-not}
+use Rattle.interval_bit_set.specs.Look.{Checked}
 use Rattle.interval_bit_set.specs.Parts.{code_of, front_of, count_of, Part, Handed}
 use Rattle.model.specs.Numbers.{refusal_number}
 use Rattle.interval_bit_set.proofs.Passing.{handed-on}
-use Rattle.interval_bit_set.proofs.Looking.{turned-away}
+use Rattle.interval_bit_set.proofs.Looking.{shut-out, fault-out}
 
--- a world that looking refuses
-pub put-turned : {T : Type 0} {w : List ℕ} {i : ℕ} {c : List ℕ → Call Site} {cs : List Condition} {B : Positions → List ℕ} {out : List ℕ} {r : Refusal} {P : Refusal → Type 0}
-    → Puts w i c cs B out → (l : OrRefusal T) → Looked w i l → l ≡ Err r → first_given looks cs ≡ None → (a : OrRefusal ℕ) → IsErrAnd a P → ((e : Refusal) → P e → e ≡ r) → WritesOut c w i out a out
-put-turned {w} {i} {c} {out = out} puts l k e g a h j =
-    subst (λ b. WritesOut c w i out b out) (sym (handed-on a h j)) (record { met = turned-away puts.says l k e g; unwritten = refl })
+-- a call that writes is refused by a pool that fails the check, and by a world that was not opened; then the slice stays
+module _ {w : List ℕ} {i : ℕ} {c : List ℕ → Call Site} {out : List ℕ} {r : Refusal} {P : Refusal → Type 0} (a : OrRefusal ℕ) (h : IsErrAnd a P) (k : (e : Refusal) → P e → e ≡ r)
+    (e : [] ≡ (plan fed_at (c out)).further) where
+  unwritten : Met w i (c out) (written_answer a out) w → WritesOut c w i out a out
+  unwritten m = record { met = m; unwritten = subst (λ b. Unwritten b out out) (sym (handed-on a h k)) refl }
 
--- what a site wrote, the world did that it was made of
-pub put-there : {v w : List ℕ} {i j : ℕ} {c : List ℕ → Call Site} {out out' : List ℕ} {r : OrRefusal ℕ} → (v ≡ w) × (i ≡ j) → WritesOut c v i out r out' → WritesOut c w j out r out'
-put-there {c = c} {out} {out'} {r} e o = subst₂ (λ u k. WritesOut c u k out r out') e.0 e.1 o
+  pub put-shut : Checked w → (opened_at w ≤ i) × (r ≡ WorldUnopened) → WritesOut c w i out a out
+  put-shut q l = unwritten (shut-out (λ n. gave (written n out)) a h k e q l)
+
+  pub put-faulty : faults (w ∷ []) ≡ Some (refusal_number r) → WritesOut c w i out a out
+  put-faulty q = unwritten (fault-out (λ n. gave (written n out)) a h k e q)
 
 -- ---- what is handed back
 -- an answer that gives bytes gives a slice that has as many, and behind them it is as it was
@@ -63,14 +67,21 @@ pub record Tells (a : Answer) (n : ℕ) (out out' : List ℕ) : Type 0 where
 abbrev told : List ℕ → ℕ → (List ℕ → Call Site) → List ℕ → Answer
 told w i c out = (outcome_of w i (c out)).answer
 
-module _ {w : List ℕ} {i : ℕ} {c : List ℕ → Call Site} {cs : List Condition} {B : Positions → List ℕ} {out : List ℕ} (puts : Puts w i c cs B out) {out' : List ℕ} where
+-- the model's answer to a call that writes is within
+settled-within : (o : Option ℕ) (P : Positions) (bs out : List ℕ) → Within out (settle o P (written (length bs) (into_front bs out)) P).answer
+settled-within None P bs out = written-within _ _ out (front-within bs out)
+settled-within (Some n) P bs out = λ m cs q. absurd (refused-not q)
+
+module _ {w : List ℕ} {i : ℕ} {c : List ℕ → Call Site} {cs : List Condition} {B : Positions → List ℕ} {out : List ℕ} (puts : plan fed_at (c out) ≡ writing cs B out) {out' : List ℕ} where
+  model-within : Within out (told w i c out)
+  unfolding outcome_of serve
+  model-within = subst (λ p. Within out (serve (full_at w i) (fed_of w i) p).answer) (sym puts) (settled-within _ (positions_of (fed_of w i)) (B (positions_of (fed_of w i))) out)
+
   -- so what a call wrote is told by the count that it gives
   pub put-told : (n : ℕ) → WritesOut c w i out (Ok n) out' → Tells (told w i c out) n out out'
   put-told n o =
       let k : gave (written n out') ≡ (told w i c out) = o.met.answered in
-      let h : Within out (told w i c out) =
-      answers-all (Within out) puts.says (λ n m bs q. absurd (refused-not q)) (λ P. written-within _ _ out (front-within (B P) out)) in
-      let w = h n out' (sym k) in
+      let w = model-within n out' (sym k) in
       subst (λ a. Tells a n out out') k (record { code = refl; front = refl; within = w.0; behind = w.1 })
 
   module _ {r : OrRefusal ℕ} (o : WritesOut c w i out r out') where

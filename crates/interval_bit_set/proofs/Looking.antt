@@ -1,231 +1,214 @@
--- Looking at the pools and worlds that a call names: what the model's conditions of them then refuse. The first refusal of several worlds is the
--- earliest of what each earns, as 1, 7 and 12 are in the order of their numbers. What they refuse, a call is refused by. Assumes nothing.
-use Rattle.std.specs.Prelude.{Option, None, Some, Ok, Err, IfOk, if◌then◌else◌}
+-- Looking at pools and worlds: what the check and the number of a world tell, and that the refusal which a look gives is the one that is due.
+-- Assumes nothing.
+use Rattle.std.specs.Prelude.{Option, None, Some, Ok, Err, if◌then◌else◌}
+use Rattle.std.specs.Result.{IsErrAnd}
 use Rattle.std.specs.Option.{ok_or}
-use Rattle.model.specs.Answers.{OrRefusal}
-use Rattle.std.specs.Prelude.{◌≡◌, ℕ, zero, suc, ◌<◌, ◌≤◌, Bool, true, false, cond, not, ◌||◌, eqb, List, [], ◌∷◌, ◌++◌}
-use mathlib.Core.Path.{refl, sym, ap, ap₂, ◌∙◌, subst, subst₂}
-use mathlib.Core.Logic.{inl, inr}
+use Prim.Native.Nat.{ℕ, ◌≤◌, ◌<◌}
+use mathlib.Core.Path.{◌≡◌, refl, sym, ap, ap₂, ◌∙◌, subst}
+use mathlib.Core.Logic.{◌⊎◌, inl, inr}
+use mathlib.Core.Bool.{Bool, true, false, cond, not, ◌||◌}
+use mathlib.Core.List.{List, [], ◌∷◌, ◌++◌, map}
 use native.Mathlib.Omega.{arith}
-use borrow.Author.Tests.{eqb-false, eq-eqb, ne_eqb}
+use borrow.Author.Tests.{eq-eqb, ne_eqb}
 use Rattle.model.specs.declared.Refusal.{Refusal}
-use Rattle.model.specs.declared.Refusal.TheVariants.{StoreLength, Unsound, WorldUnopened}
+use Rattle.model.specs.declared.Refusal.TheVariants.{Unsound, WorldUnopened}
+use Rattle.model.specs.Answers.{OrRefusal, answer_by}
 use Rattle.model.specs.Numbers.{refusal_number}
-use Rattle.model.proofs.Numbers.{split}
+use Rattle.model.proofs.Numbers.{split, neither-first, neither-second}
 use Rattle.model.specs.Positions.{Positions}
-use Rattle.model.specs.Refusals.{
-  store_length,
-  world_limits,
-  store_unsound,
-  world_unopened,
-  looks,
-  Condition,
-  ◌when◌,
-  given,
-  first_given,
-  earns_length,
-  earns_unsound,
-  earns_unopened,
-  too_many,
-}
-use Rattle.model.specs.Refusals
-use Rattle.model.specs.Call.{Fed, wrong_length, unsound, unopened, holding, Call, Result, Answer, refused}
-use Rattle.model.specs.Model.{positions_of, reads}
-use Rattle.model.specs.Pools.{world_of, fed_by}
+use Rattle.model.specs.Refusals.{refusal, earns_length, earns_unsound, earns_unopened}
+use Rattle.model.specs.Call.{Fed, wrong_length, unsound, unopened, Call, Result, Answer, refused, gave}
+use Rattle.model.specs.Model.{Plan, positions_of, plan, any_earns, look, settle, or_else, room, left_by, serve}
+use Rattle.model.specs.Pools.{PlainWorld, world_of, fed_by}
 use Rattle.store.specs.Layout.{capacity, opened_at, worlds_of}
 use Rattle.store.specs.Soundness.{Sound}
+use Rattle.store.specs.Settle.{Openable}
 use Rattle.soundness.specs.Decision.{sound_b, worn, checked}
-use Rattle.soundness.proofs.Whole.{sound_b-yes}
-use Rattle.interval_bit_set.specs.Met.{Site, pool_reads, fed_of, full_at, Readable, Met}
-use Rattle.interval_bit_set.proofs.Refusing.{looked-first, reads_first}
-use Rattle.interval_bit_set.proofs.Meeting.{fed-unopened, readable, Reports, refused-both}
-use Rattle.interval_bit_set.proofs.Changing.{Changes, refused-due}
-use Rattle.interval_bit_set.specs.Look.{look_number, earliest, LookedPool, Looked, LookedTwo, LookedThree}
+use Rattle.soundness.proofs.Whole.{sound_b-yes, sound_b-no}
+use Rattle.interval_bit_set.specs.Met.{Site, site, short, any_is, faults, fed_of, fed_at, full_at, outcome_of, Met, Readable}
+use Rattle.interval_bit_set.specs.Look.{Checked, AllChecked, Checks, Sounds}
+use Rattle.interval_bit_set.proofs.Passing.{handed-on, met-on}
+use Rattle.interval_bit_set.proofs.Meeting.{fed-sound, fed-unopened, readable, met_by, refused-not}
 
--- no number is none
-some-not : {n : ℕ} → Some n ≡ None → ⊥
-some-not e = let z : ◌≡◌ {A = ℕ} 0 1 = cc in omega arith
+-- ---- a pool that was checked
+pub checked-sound : {w : List ℕ} → Checked w → Sound w
+checked-sound {w} c = sound_b-yes w c.sized c.passed
 
--- a number that is not 0
-positive : (n : ℕ) → (n ≡ 0 → ⊥) → 1 ≤ n
-positive zero ne = absurd (ne refl)
-positive (suc n) ne = omega arith
+pub sound-checked : {w : List ℕ} → Sound w → Checked w
+sound-checked {w} S = record { sized = S.sized; passed = sound_b-no w S }
 
--- ---- a pool
-module _ (w : List ℕ) where
-  -- words of no pool's length
-  pub pool-short : capacity w ≡ 0 → LookedPool {T = ℕ} w (Err StoreLength)
-  pool-short e = sym (ap (λ z. first_given looks (store_length when z ∷ store_unsound when not (sound_b w) ∷ [])) (eq-eqb (capacity w) 0 e))
+-- what the test of soundness tells of words
+pub tells-sound : (w : List ℕ) {o : Option ℕ} (r : OrRefusal ℕ) → o ≡ checked w → r ≡ ok_or o Unsound → Sounds w r
+unfolding checked
+tells-sound w r e f = go (sound_b w) refl (f ∙ ap (λ p. ok_or p Unsound) e)
+  where
+    go : (b : Bool) → sound_b w ≡ b → r ≡ ok_or (if b then Some (worn w) else None) Unsound → Sounds w r
+    go true q g = subst (Sounds w) (sym g) (q, refl)
+    go false q g = subst (Sounds w) (sym g) (q, refl)
 
-  -- others, by the test of soundness
-  pool-by : (t : Bool) → 1 ≤ capacity w → sound_b w ≡ t → first_given looks (pool_reads w) ≡ first_given looks (store_unsound when not t ∷ [])
-  pool-by t h e =
-      ap₂ (λ z s. first_given looks (store_length when z ∷ store_unsound when not s ∷ [])) (ne_eqb (capacity w) 0 (λ z. omega arith)) e
+-- a world of it that was opened can be opened, and read
+pub openable : {w : List ℕ} {i : ℕ} → Checked w → i < opened_at w → Openable w i
+openable c l = record { sound = checked-sound c; named = l }
 
-  pub pool-unsound : 1 ≤ capacity w → sound_b w ≡ false → LookedPool {T = ℕ} w (Err Unsound)
-  pool-unsound h e = sym (pool-by false h e)
+pub found : {w : List ℕ} {i : ℕ} → Checked w → i < opened_at w → Readable w i
+found c l = readable (openable c l)
 
-  pub pool-sound : (n : ℕ) → 1 ≤ capacity w → sound_b w ≡ true → LookedPool w (Ok n)
-  pool-sound n h e = sym (pool-by true h e)
+-- ---- the check of some pools
+pub short-yes : (w : List ℕ) → capacity w ≡ 0 → short w ≡ true
+short-yes w e = eq-eqb (capacity w) 0 e
 
-  -- so what the check tells is handed on, of an unsound pool the refusal
-  pub pool-checked : (l : OrRefusal ℕ) → 1 ≤ capacity w → l ≡ ok_or (checked w) Unsound → LookedPool w l × IfOk l (λ n. n ≡ worn w)
-  unfolding checked
-  pool-checked l h e = go (sound_b w) refl e
-    where
-      go : (t : Bool) → sound_b w ≡ t → l ≡ ok_or (if t then Some (worn w) else None) Unsound → LookedPool w l × IfOk l (λ n. n ≡ worn w)
-      go true p q = subst (λ x. LookedPool w x × IfOk x (λ n. n ≡ worn w)) (sym q) (pool-sound (worn w) h p, refl)
-      go false p q = subst (λ x. LookedPool w x × IfOk x (λ n. n ≡ worn w)) (sym q) (pool-unsound h p, tt)
+pub short-no : (w : List ℕ) → 1 ≤ capacity w → short w ≡ false
+short-no w h = ne_eqb (capacity w) 0 (λ e. omega arith)
 
-  -- where nothing is refused the pool is sound
-  pub pool-told : first_given looks (pool_reads w) ≡ None → Sound w
-  pool-told e = go (eqb (capacity w) 0) (sound_b w) refl refl e
-    where
-      go : (z t : Bool) → eqb (capacity w) 0 ≡ z → sound_b w ≡ t → first_given looks (store_length when z ∷ store_unsound when not t ∷ []) ≡ None → Sound w
-      go true t p q f = absurd (some-not f)
-      go false false p q f = absurd (some-not f)
-      go false true p q f = sound_b-yes w (positive (capacity w) (eqb-false (capacity w) 0 p)) q
+-- a refusal that `?` hands on is the one that is due
+pub checks-out : (w : List ℕ) (ws : List (List ℕ)) {r : Refusal} {P : Refusal → Type 0} (a : OrRefusal ℕ) → IsErrAnd a P → ((e : Refusal) → P e → e ≡ r)
+    → faults (w ∷ ws) ≡ Some (refusal_number r) → Checks w ws a
+checks-out w ws a h k e = subst (Checks w ws) (sym (handed-on a h k)) e
 
-  module _ (i : ℕ) where
-    -- what the pool earns, each of its worlds does
-    pub pool-first : {n : ℕ} → first_given looks (pool_reads w) ≡ Some n → first_given looks (reads (fed_of w i)) ≡ Some n
-    unfolding fed_of
-    pool-first {n} e = go (eqb (capacity w) 0) (sound_b w) e
-      where
-        go : (z t : Bool) → first_given looks (store_length when z ∷ store_unsound when not t ∷ []) ≡ Some n
-            → first_given looks (reads (cond z wrong_length (cond t (fed_by (world_of (worlds_of w) i)) unsound))) ≡ Some n
-        go true t f = f
-        go false false f = f
-        go false true f = absurd (some-not (sym f))
+-- of one pool the test of soundness tells the rest
+pub sound-checks : (w : List ℕ) (r : OrRefusal ℕ) → 1 ≤ capacity w → Sounds w r → Checks w [] r
+sound-checks w (Ok n) h s = ((record { sized = h; passed = s.0 }, tt), s.1)
+sound-checks w (Err r) h s = rw (short-no w h, s.0, s.1) refl
 
-    -- beside that, only whether the world was opened
-    pub world-unopened : Sound w → opened_at w ≤ i → Looked {T = ℕ} w i (Err WorldUnopened)
-    world-unopened S h = sym (ap (λ f. first_given looks (reads f)) (fed-unopened w i S h))
+-- ---- what a world earns
+pub earns-length : (w : List ℕ) (i : ℕ) → earns_length (fed_of w i) ≡ short w
+unfolding fed_of
+earns-length w i = go (short w) (sound_b w) (world_of (worlds_of w) i)
+  where
+    go : (z t : Bool) (o : Option PlainWorld) → earns_length (cond z wrong_length (cond t (fed_by o) unsound)) ≡ z
+    go true t o = refl
+    go false false o = refl
+    go false true None = refl
+    go false true (Some x) = refl
 
-    pub world-sound : (n : ℕ) → Sound w → i < opened_at w → Looked w i (Ok n)
-    world-sound n S h = sym (ap (λ f. first_given looks (reads f)) (readable (record { sound = S; named = h })).fed)
+pub earns-unsound : (w : List ℕ) (i : ℕ) → short w ≡ false → earns_unsound (fed_of w i) ≡ not (sound_b w)
+unfolding fed_of
+earns-unsound w i e = ap (λ z. earns_unsound (cond z wrong_length (cond (sound_b w) (fed_by (world_of (worlds_of w) i)) unsound))) e ∙ go (sound_b w) (world_of (worlds_of w) i)
+  where
+    go : (t : Bool) (o : Option PlainWorld) → earns_unsound (cond t (fed_by o) unsound) ≡ not t
+    go false o = refl
+    go true None = refl
+    go true (Some x) = refl
 
-    -- where nothing is refused the world is readable
-    world-told : first_given looks (reads (fed_of w i)) ≡ None → Readable w i
-    world-told e = go (first_given looks (pool_reads w)) refl
-      where
-        open_told : Sound w → Readable w i
-        open_told S = elim (split i (opened_at w)) [
-          | inl l ↦ readable (record { sound = S; named = l })
-          | inr l ↦ absurd (some-not (ap (λ f. first_given looks (reads f)) (sym (fed-unopened w i S l)) ∙ e))
-        ]
+-- ---- what the worlds of a call earn
+abbrev words-of : List Site → List (List ℕ)
+words-of ss = map (λ (s : Site). s.words) ss
 
-        go : (o : Option ℕ) → first_given looks (pool_reads w) ≡ o → Readable w i
-        go None f = open_told (pool-told f)
-        go (Some n) f = absurd (some-not (sym (pool-first f) ∙ e))
+any-length : (ss : List Site) → any_earns earns_length (map fed_at ss) ≡ any_is short (words-of ss)
+any-length [] = refl
+any-length (s ∷ ss) = ap₂ (λ a b. a || b) (earns-length s.words s.world) (any-length ss)
 
--- what looking told, by what it answered
-pub pool-refused : (w : List ℕ) {r : Refusal} (l : OrRefusal ℕ) → LookedPool w l → l ≡ Err r → first_given looks (pool_reads w) ≡ Some (refusal_number r)
-pool-refused w l k e = sym k ∙ ap look_number e
+any-unsound : (ss : List Site) → any_is short (words-of ss) ≡ false → any_earns earns_unsound (map fed_at ss) ≡ any_is (λ w. not (sound_b w)) (words-of ss)
+any-unsound [] e = refl
+any-unsound (s ∷ ss) e =
+    ap₂ (λ a b. a || b) (earns-unsound s.words s.world (neither-first (short s.words) (any_is short (words-of ss)) e))
+    (any-unsound ss (neither-second (short s.words) (any_is short (words-of ss)) e))
 
-pub pool-readable : {w : List ℕ} {n : ℕ} (l : OrRefusal ℕ) → LookedPool w l → l ≡ Ok n → Sound w
-pool-readable {w} l k e = pool-told w (sym k ∙ ap look_number e)
+-- a fault of the pools is what a look finds
+pub fault-found : (ss : List Site) {n : ℕ} → faults (words-of ss) ≡ Some n → look (map fed_at ss) ≡ Some n
+fault-found ss {n} e = go (any_is short (words-of ss)) (any_is (λ w. not (sound_b w)) (words-of ss)) (any-length ss) (any-unsound ss) e
+  where
+    go : (z t : Bool) → any_earns earns_length (map fed_at ss) ≡ z → (z ≡ false → any_earns earns_unsound (map fed_at ss) ≡ t)
+        → cond z (Some 1) (cond t (Some 7) None) ≡ Some n → look (map fed_at ss) ≡ Some n
+    go true t p q f = rw p f
+    go false true p q f = rw (p, q refl) f
+    go false false p q f = let z : ◌≡◌ {A = ℕ} 0 1 = cc in absurd (omega arith)
 
-pub looked-refused : {T : Type 0} (w : List ℕ) (i : ℕ) {r : Refusal} (l : OrRefusal T) → Looked w i l → l ≡ Err r → first_given looks (reads (fed_of w i)) ≡ Some (refusal_number r)
-looked-refused w i l k e = sym k ∙ ap look_number e
+-- checked pools have none
+pub checked-quiet : (ss : List Site) → AllChecked (words-of ss) → (any_earns earns_length (map fed_at ss) ≡ false) × (any_earns earns_unsound (map fed_at ss) ≡ false)
+checked-quiet [] c = (refl, refl)
+checked-quiet (s ∷ ss) c =
+    let z : short s.words ≡ false = ne_eqb (capacity s.words) 0 (λ e. omega (arith, c.0.sized)) in
+    let r = checked-quiet ss c.1 in
+    (rw (earns-length s.words s.world, z) r.0, rw (earns-unsound s.words s.world z, c.0.passed) r.1)
 
-pub looked-sound : {T : Type 0} {w : List ℕ} {i : ℕ} {n : T} (l : OrRefusal T) → Looked w i l → l ≡ Ok n → Readable w i
-looked-sound {w = w} {i} l k e = world-told w i (sym k ∙ ap look_number e)
+-- a world that was not opened is refused, whatever other worlds earn
+pub shut-refused : (ss : List Fed) → (n : ℕ) × (look (unopened ∷ ss) ≡ Some n)
+shut-refused ss = go (any_earns earns_length ss) (any_earns earns_unsound ss)
+  where
+    go : (x y : Bool) → (n : ℕ) × (cond x (Some 1) (cond y (Some 7) (Some 12)) ≡ Some n)
+    go true y = (1, refl)
+    go false true = (7, refl)
+    go false false = (12, refl)
 
--- ---- several worlds
--- the refusal of a look, by whether each of its causes is given
-abbrev look_of : Bool → Bool → Bool → Bool → Option ℕ
-look_of x l y z = cond x (Some 1) (cond l (Some 11) (cond y (Some 7) (cond z (Some 12) None)))
+-- ---- a call is refused by what a look finds, whatever else it earns
+module _ {w : List ℕ} {i : ℕ} {c : Call Site} where
+  pub look-refused : {n : ℕ} → look (fed_of w i ∷ (plan fed_at c).further) ≡ Some n → Met w i c (refused n) w
+  unfolding outcome_of serve
+  look-refused {n} e =
+      let p : Plan = plan fed_at c in
+      let P : Positions = positions_of (fed_of w i) in
+      met_by (record { answer = refused n; positions = P })
+      (ap (λ l. settle (or_else l (refusal (room (full_at w i) p.effect P ++ p.earns P))) P (p.gives P) (left_by p.effect P)) e) refl
 
--- one world more: the earliest of what it and the others earn
-one_more : (f : Fed) (x y z : Bool) → look_of (earns_length f || x) false (earns_unsound f || y) (earns_unopened f || z) ≡ earliest (first_given looks (reads f)) (look_of x false y z)
-one_more (holding P) x y z = refl
-one_more wrong_length true y z = refl
-one_more wrong_length false true z = refl
-one_more wrong_length false false true = refl
-one_more wrong_length false false false = refl
-one_more unsound true y z = refl
-one_more unsound false true z = refl
-one_more unsound false false true = refl
-one_more unsound false false false = refl
-one_more unopened true y z = refl
-one_more unopened false true z = refl
-one_more unopened false false true = refl
-one_more unopened false false false = refl
+  -- by a fault of the pools that it names: its own, and those of the sites ss
+  pub faulty : (ss : List Site) → map fed_at ss ≡ (plan fed_at c).further → {n : ℕ} → faults (w ∷ words-of ss) ≡ Some n → Met w i c (refused n) w
+  faulty ss f e = look-refused (ap (λ fs. look (fed_of w i ∷ fs)) (sym f) ∙ fault-found (site w i ∷ ss) e)
 
-pub earliest-reads : (f : Fed) (cs : List Condition) → given world_limits cs ≡ false → first_given looks (reads f ++ cs) ≡ earliest (first_given looks (reads f)) (first_given looks cs)
-earliest-reads f cs e =
-    let x = given store_length cs in
-    let y = given store_unsound cs in
-    let z = given world_unopened cs in
-    ap (λ l. look_of (earns_length f || x) l (earns_unsound f || y) (earns_unopened f || z)) e
-    ∙ one_more f x y z
-    ∙ ap (λ l. earliest (first_given looks (reads f)) (look_of x l y z)) (sym e)
+  -- and, where all are sound, by a world of them that was not opened
+  pub shut : (ss : List Site) → map fed_at ss ≡ (plan fed_at c).further → AllChecked (w ∷ words-of ss) → any_earns earns_unopened (fed_of w i ∷ map fed_at ss) ≡ true
+      → Met w i c (refused 12) w
+  shut ss f k e =
+      let q = checked-quiet (site w i ∷ ss) k in
+      look-refused (ap (λ fs. look (fed_of w i ∷ fs)) (sym f) ∙ rw (q.0, q.1, e))
 
--- where the earliest is none, there is none
-earliest-none : (o p : Option ℕ) → earliest o p ≡ None → (o ≡ None) × (p ≡ None)
-earliest-none None p e = (refl, e)
-earliest-none (Some m) None e = absurd (some-not e)
-earliest-none (Some m) (Some n) e = absurd (some-not e)
+  -- its own
+  pub shut-here : (ss : List Site) → map fed_at ss ≡ (plan fed_at c).further → AllChecked (w ∷ words-of ss) → opened_at w ≤ i → Met w i c (refused 12) w
+  shut-here ss f k l = shut ss f k (rw (fed-unopened w i (checked-sound k.0) l))
 
--- how worn the first pool is
-pub first-worn : (k : ℕ) (x r : OrRefusal ℕ) → IfOk r (λ n. x ≡ Ok n) → IfOk x (λ n. n ≡ k) → IfOk r (λ n. n ≡ k)
-first-worn k x (Ok n) e h = subst (λ l. IfOk l (λ m. m ≡ k)) e h
-first-worn k x (Err s) e h = tt
+  -- of a call on one world alone
+  pub shut-alone : [] ≡ (plan fed_at c).further → Checked w → opened_at w ≤ i → Met w i c (refused 12) w
+  shut-alone f k l = shut-here [] f (k, tt) l
 
--- what two looks tell together
-pub two-told : (v : List ℕ) (i : ℕ) (w : List ℕ) (j : ℕ) (x y r : OrRefusal ℕ) → Looked v i x → Looked w j y → look_number r ≡ earliest (look_number x) (look_number y) → LookedTwo v i w j r
-two-told v i w j x y r k l e = e ∙ ap₂ earliest k l ∙ sym (earliest-reads (fed_of v i) (reads (fed_of w j)) refl)
+  pub faulty-alone : [] ≡ (plan fed_at c).further → {n : ℕ} → faults (w ∷ []) ≡ Some n → Met w i c (refused n) w
+  faulty-alone f e = faulty [] f e
 
-pub three-told : (u : List ℕ) (i : ℕ) (v : List ℕ) (j : ℕ) (w : List ℕ) (k : ℕ) (x y r : OrRefusal ℕ) → Looked u i x → LookedTwo v j w k y
-    → look_number r ≡ earliest (look_number x) (look_number y) → LookedThree u i v j w k r
-three-told u i v j w k x y r p q e = e ∙ ap₂ earliest p q ∙ sym (earliest-reads (fed_of u i) (reads (fed_of v j) ++ reads (fed_of w k)) refl)
+-- ---- methods
+-- a call leaves a pool that would pass the check again
+pub kept : {w w' : List ℕ} {i : ℕ} {c : Call Site} (a : Answer) → Checked w → Met w i c a w' → Checked w'
+kept (refused n) k m = subst Checked (sym m.left) k
+kept (gave r) k m = sound-checked m.left.sound
 
--- where nothing is refused all are readable
-two_none : (v : List ℕ) (i : ℕ) (w : List ℕ) (j : ℕ) → first_given looks (reads (fed_of v i) ++ reads (fed_of w j)) ≡ None → Readable v i × Readable w j
-two_none v i w j e =
-    let n = earliest-none (first_given looks (reads (fed_of v i))) (first_given looks (reads (fed_of w j))) (sym (earliest-reads (fed_of v i) (reads (fed_of w j)) refl) ∙ e) in
-    (world-told v i n.0, world-told w j n.1)
+-- and one that gave something was on a world that was opened
+pub gave-opened : {w w' : List ℕ} {i : ℕ} {c : Call Site} {r : Result} → Checked w → Met w i c (gave r) w' → i < opened_at w
+gave-opened {w} {i = i} {c} k m = go (split i (opened_at w))
+  where
+    go : (i < opened_at w) ⊎ (opened_at w ≤ i) → i < opened_at w
+    go (inl l) = l
+    go (inr l) =
+        let n = shut-refused (plan fed_at c).further in
+        absurd (refused-not ((look-refused (ap (λ f. look (f ∷ (plan fed_at c).further)) (fed-unopened w i (checked-sound k) l) ∙ n.1)).answered ∙ sym m.answered))
 
-pub two-readable : {T : Type 0} {v w : List ℕ} {i j : ℕ} {n : T} (l : OrRefusal T) → LookedTwo v i w j l → l ≡ Ok n → Readable v i × Readable w j
-two-readable {v = v} {w} {i} {j} l k e = two_none v i w j (sym k ∙ ap look_number e)
+-- ---- what `?` hands on, where f tells what a T is: the refusal of a world that was not opened
+module _ {T : Type 0} (f : T → Answer) {w : List ℕ} {i : ℕ} {c : Call Site} {r : Refusal} {P : Refusal → Type 0} (a : OrRefusal T) (h : IsErrAnd a P) (k : (e : Refusal) → P e → e ≡ r) where
+  pub shut-out : [] ≡ (plan fed_at c).further → Checked w → (opened_at w ≤ i) × (r ≡ WorldUnopened) → Met w i c (answer_by f a) w
+  shut-out e q l = met-on f (subst (λ n. Met w i c (refused (refusal_number n)) w) (sym l.1) (shut-alone e q l.0)) a h k
 
-pub three-readable : {T : Type 0} {u v w : List ℕ} {i j k : ℕ} {n : T} (l : OrRefusal T) → LookedThree u i v j w k l → l ≡ Ok n → Readable u i × Readable v j × Readable w k
-three-readable {u = u} {v} {w} {i} {j} {k} l p e =
-    let rest : List Condition = reads (fed_of v j) ++ reads (fed_of w k) in
-    let n = earliest-none (first_given looks (reads (fed_of u i))) (first_given looks rest) (sym (earliest-reads (fed_of u i) rest refl) ∙ (sym p ∙ ap look_number e)) in
-    let t = two_none v j w k n.1 in
-    (world-told u i n.0, t.0, t.1)
+  -- and of a pool that fails the check
+  pub fault-out : [] ≡ (plan fed_at c).further → faults (w ∷ []) ≡ Some (refusal_number r) → Met w i c (answer_by f a) w
+  fault-out e q = met-on f (faulty-alone e q) a h k
 
--- ---- the calls
--- a call that reports is refused by what looking told
-pub turned-away : {T : Type 0} {w : List ℕ} {i : ℕ} {c : Call Site} {cs : List Condition} {A : Positions → Result} {r : Refusal} → Reports w i c cs A → (l : OrRefusal T) → Looked w i l
-    → l ≡ Err r → first_given looks cs ≡ None → Met w i c (refused (refusal_number r)) w
-turned-away {w} {i} {cs = cs} says l k e quiet = refused-both says (reads_first (fed_of w i) cs quiet (looked-refused w i l k e))
+-- the same of a call that reads the further worlds ss: its own world was not opened
+module _ {T : Type 0} (f : T → Answer) {w : List ℕ} {i : ℕ} {c : Call Site} {r : Refusal} {P : Refusal → Type 0} where
+  pub shut-one : (ss : List Site) (a : OrRefusal T) → IsErrAnd a P → ((e : Refusal) → P e → e ≡ r) → map fed_at ss ≡ (plan fed_at c).further → AllChecked (w ∷ words-of ss)
+      → (opened_at w ≤ i) × (r ≡ WorldUnopened) → Met w i c (answer_by f a) w
+  shut-one ss a h k e q l = met-on f (subst (λ n. Met w i c (refused (refusal_number n)) w) (sym l.1) (shut-here ss e q l.0)) a h k
 
--- what a site answers, the world does that it was made of
-pub answered-there : {v w : List ℕ} {i j : ℕ} {c : Call Site} {a : Answer} → (v ≡ w) × (i ≡ j) → Met v i c a v → Met w j c a w
-answered-there {c = c} {a} e m = subst₂ (λ u k. Met u k c a u) e.0 e.1 m
+  -- its own was, and the first of the others was not
+  pub shut-first : (s : Site) (ss : List Site) (a : OrRefusal T) → IsErrAnd a P → ((e : Refusal) → P e → e ≡ r) → map fed_at (s ∷ ss) ≡ (plan fed_at c).further
+      → AllChecked (w ∷ words-of (s ∷ ss)) → i < opened_at w → (opened_at s.words ≤ s.world) × (r ≡ WorldUnopened) → Met w i c (answer_by f a) w
+  shut-first s ss a h k e q o l =
+      met-on f (subst (λ n. Met w i c (refused (refusal_number n)) w) (sym l.1)
+      (shut (s ∷ ss) e q (rw ((found q.0 o).fed, fed-unopened s.words s.world (checked-sound q.1.0) l.0)))) a h k
 
--- so is one that changes its world
-pub sent-away : {w : List ℕ} {i : ℕ} {c : Call Site} {cs : List Condition} {Q : Positions → Positions} {A : Positions → Result} {r : Refusal} → Changes w i c cs Q A → (l : OrRefusal ℕ)
-    → Looked w i l → l ≡ Err r → first_given looks cs ≡ None → Met w i c (refused (refusal_number r)) w
-sent-away {w} {i} {cs = cs} {Q} says l k e quiet =
-    refused-due says (reads_first (fed_of w i) (Refusals.capacity when too_many (full_at w i) (Q (positions_of (fed_of w i))) ∷ cs) quiet (looked-refused w i l k e)) refl
+  -- both were, and the second of the others was not
+  pub shut-second : (s t : Site) (a : OrRefusal T) → IsErrAnd a P → ((e : Refusal) → P e → e ≡ r) → map fed_at (s ∷ t ∷ []) ≡ (plan fed_at c).further
+      → AllChecked (w ∷ words-of (s ∷ t ∷ [])) → i < opened_at w → s.world < opened_at s.words → (opened_at t.words ≤ t.world) × (r ≡ WorldUnopened) → Met w i c (answer_by f a) w
+  shut-second s t a h k e q o o' l =
+      met-on f (subst (λ n. Met w i c (refused (refusal_number n)) w) (sym l.1)
+      (shut (s ∷ t ∷ []) e q (rw ((found q.0 o).fed, (found q.1.0 o').fed, fed-unopened t.words t.world (checked-sound q.1.1.0) l.0)))) a h k
 
-module _ {w : List ℕ} {i : ℕ} (v : List ℕ) (j : ℕ) {c : Call Site} {r : Refusal} (l : OrRefusal ℕ) (k : LookedTwo w i v j l) (e : l ≡ Err r) where
-  -- one that reports of two worlds
-  pub both-turned : {A : Positions → Result} → Reports w i c (reads (fed_of v j)) A → Met w i c (refused (refusal_number r)) w
-  both-turned says = refused-both says (looked-first (reads (fed_of w i) ++ reads (fed_of v j)) (sym k ∙ ap look_number e))
-
-  -- one that makes a world of another
-  pub both-sent : {Q : Positions → Positions} {A : Positions → Result} → Changes w i c (reads (fed_of v j)) Q A → Met w i c (refused (refusal_number r)) w
-  both-sent {Q} says =
-      refused-due says (looked-first (reads (fed_of w i) ++ Refusals.capacity when too_many (full_at w i) (Q (positions_of (fed_of w i))) ∷ reads (fed_of v j)) (sym k ∙ ap look_number e)) refl
-
--- one that makes a world of two
-pub all-sent : {w : List ℕ} {i : ℕ} (u : List ℕ) (j : ℕ) (v : List ℕ) (k : ℕ) {c : Call Site} {Q : Positions → Positions} {A : Positions → Result} {r : Refusal}
-    → Changes w i c (reads (fed_of u j) ++ reads (fed_of v k)) Q A → (l : OrRefusal ℕ) → LookedThree w i u j v k l → l ≡ Err r → Met w i c (refused (refusal_number r)) w
-all-sent {w} {i} u j v k {Q = Q} says l p e =
-    refused-due says (looked-first (reads (fed_of w i) ++ Refusals.capacity when too_many (full_at w i) (Q (positions_of (fed_of w i))) ∷ (reads (fed_of u j) ++ reads (fed_of v k)))
-    (sym p ∙ ap look_number e)) refl
+  -- a pool of them fails the check
+  pub fault-of : (ss : List Site) (a : OrRefusal T) → IsErrAnd a P → ((e : Refusal) → P e → e ≡ r) → map fed_at ss ≡ (plan fed_at c).further
+      → faults (w ∷ words-of ss) ≡ Some (refusal_number r) → Met w i c (answer_by f a) w
+  fault-of ss a h k e q = met-on f (faulty ss e q) a h k

@@ -28,6 +28,7 @@ use Rattle.lowest.proofs.Fating.{fates-length, ordered-held, ordered-fates}
 use Rattle.interval_bit_set.specs.Met.{outcome_of, Readable}
 use Rattle.interval_bit_set.specs.Out.{Mendable, Mends}
 use Rattle.interval_bit_set.proofs.Refusing.{first_alone, none_before, refused-room}
+use Rattle.interval_bit_set.proofs.Changing
 use Rattle.interval_bit_set.proofs.Changing.{Changes, refused-first, full-before, refused-after, changes-to}
 use Rattle.interval_bit_set.proofs.Receiving.{Many}
 use Rattle.interval_bit_set.proofs.Putting.{take-front}
@@ -169,8 +170,7 @@ module _ (w : List ℕ) (i : ℕ) (bs out report : List ℕ) where
   pub mend-says :
       Changes w i (Call.mend bs out report) (conditions bs (no_room out (mended_set bs)) (no_room report (mend_report bs))) (λ P. mended_positions bs)
       (λ P. mended (length (mended_set bs)) (into_front (mended_set bs) out) (length (mend_report bs)) (into_front (mend_report bs) report))
-  unfolding outcome_of serve mending
-  mend-says = record { said = refl }
+  mend-says = record { further = []; read = refl; effect = _; alters = Changing.overwriting _ _ (λ P. refl); said = refl }
 
 module _ {w : List ℕ} {i : ℕ} (bs out report : List ℕ) (R : Readable w i) where
   -- a shape that is not that of a set

@@ -10,15 +10,12 @@ use mathlib.Core.List.{List, [], ◌∷◌, ◌++◌}
 use native.Mathlib.Omega.{arith}
 use lib.Dec.{leb}
 use borrow.Author.Tests.{leb-true, leb-false, not-true, not-false}
-use Rattle.model.specs.declared.Operation.{Operation}
-use Rattle.model.specs.declared.Run.{Run}
 use Rattle.model.specs.Numbers.{size}
-use Rattle.model.specs.Positions.{Positions, stretches, combined, complemented, shift_by, mem}
-use Rattle.model.specs.Refusals.{run_order, Condition, ◌when◌, refusal, disordered, set_conditions}
-use Rattle.model.specs.Bytes.{decode}
-use Rattle.model.specs.Call.{Call, done}
+use Rattle.model.specs.Positions.{Positions, stretches}
+use Rattle.model.specs.Refusals.{Condition, refusal}
+use Rattle.model.specs.Call.{Fed, Call, done}
 use Rattle.model.specs.Answers.{completed_answer}
-use Rattle.model.specs.Model.{positions_of, reads, serve}
+use Rattle.model.specs.Model.{plan, overwriting, look}
 use Rattle.store.specs.declared.World.{World}
 use Rattle.store.specs.Layout.{allowance}
 use Rattle.store.specs.Soundness.{share_of}
@@ -27,8 +24,11 @@ use Rattle.store.proofs.Parts.{lent, back}
 use Rattle.streams.specs.Gathering.{Roomy, Gathers}
 use Rattle.interval_bit_set.specs.Met.{Site, fed_of, fed_at, outcome_of, Met, Readable}
 use Rattle.interval_bit_set.specs.Joined.{Carried}
+use Rattle.interval_bit_set.specs.Look.{Checked}
+use Rattle.interval_bit_set.proofs.Looking.{sound-checked}
 use Rattle.interval_bit_set.proofs.Doors.{lent-limited, lent-closing, lent-settled}
-use Rattle.interval_bit_set.proofs.Changing.{Changes, full, changes-to}
+use Rattle.interval_bit_set.proofs.Changing
+use Rattle.interval_bit_set.proofs.Changing.{ Changes, full, changes-to}
 
 -- the call c has the conditions cs, and overwrites the world by Q
 abbrev pub Overwrites : List ℕ → ℕ → Call Site → List Condition → Positions → Type 0
@@ -69,38 +69,16 @@ module _ {w : List ℕ} {i : ℕ} {c : Call Site} {cs : List Condition} {Q : Pos
   carried (Ok u) h = changes-to says R quiet Q' alike h.0 h.1 refl
   carried (Err r) h = subst (λ e. Met w i c (completed_answer (Err e)) w') (sym h.0) (full says R quiet Q' alike (h.1, h.2))
 
--- ---- the conditions of readable worlds refuse nothing
--- of one
-pub reads_none : {a : List ℕ} {i : ℕ} → Readable a i → refusal (reads (fed_of a i)) ≡ None
-reads_none R = ap (λ f. refusal (reads f)) R.fed
+-- either way the pool would pass the check again
+pub carried-kept : {w w' : List ℕ} (i : ℕ) (Q : Positions) (r : OrRefusal Unit) → Checked w → Carried w w' i Q r → Checked w'
+carried-kept i Q (Ok u) k h = sound-checked h.1.sound
+carried-kept i Q (Err r) k h = subst Checked (sym h.2) k
 
--- of two
-pub both-none : {a b : List ℕ} {i j : ℕ} → Readable a i → Readable b j → refusal (reads (fed_of a i) ++ reads (fed_of b j)) ≡ None
-both-none R S = ap₂ (λ f g. refusal (reads f ++ reads g)) R.fed S.fed
+-- ---- what readable worlds earn: nothing
+pub reads-nothing : {w : List ℕ} {i : ℕ} (ss : List Fed) → Readable w i → look ss ≡ None → look (fed_of w i ∷ ss) ≡ None
+reads-nothing ss R e = ap (λ f. look (f ∷ ss)) R.fed ∙ e
 
--- which calls overwrite, and by what:
-module _ (w : List ℕ) (i : ℕ) where
-  -- two sets joined
-  pub combine-says : (op : Operation) (a b : Site) → Overwrites w i (Call.combine op a b) (reads (fed_at a) ++ reads (fed_at b)) (combined op (positions_of (fed_at a)) (positions_of (fed_at b)))
-  unfolding outcome_of serve
-  combine-says op a b = record { said = refl }
-
-  -- the complement of a set
-  pub complement-says : (a : Site) → Overwrites w i (Call.complement a) (reads (fed_at a)) (complemented (positions_of (fed_at a)))
-  unfolding outcome_of serve
-  complement-says a = record { said = refl }
-
-  -- a set moved
-  pub shifted-says : (d : ℕ) (left : Bool) (a : Site) → Overwrites w i (Call.shifted d left a) (reads (fed_at a)) (shift_by d left (positions_of (fed_at a)))
-  unfolding outcome_of serve
-  shifted-says d left a = record { said = refl }
-
-  -- what bytes tell
-  pub load-says : (bs : List ℕ) → Overwrites w i (Call.load bs) (set_conditions bs) (mem (decode bs))
-  unfolding outcome_of serve
-  load-says bs = record { said = refl }
-
-  -- a run list
-  pub build-says : (rs : List Run) → Overwrites w i (Call.build rs) (run_order when disordered rs ∷ []) (mem rs)
-  unfolding outcome_of serve
-  build-says rs = record { said = refl }
+-- a call overwrites the world by Q, made of worlds that can be read
+pub makes : {w : List ℕ} {i : ℕ} {c : Call Site} {fs : List Fed} {cs : List Condition} {Q : Positions} → plan fed_at c ≡ overwriting fs cs Q → look fs ≡ None
+    → Overwrites w i c cs Q
+makes e q = record { further = _; read = q; effect = _; alters = Changing.overwriting _ _ (λ P. refl); said = e }

@@ -8,11 +8,6 @@ use mathlib.Core.List.{List, [], ◌∷◌, ◌++◌}
 use native.Mathlib.Omega.{arith}
 use Rattle.model.specs.Refusals.{
   Cause,
-  store_length,
-  world_limits,
-  store_unsound,
-  looks,
-  of_arguments,
   before_capacity,
   from_capacity,
   Condition,
@@ -25,8 +20,6 @@ use Rattle.model.specs.Refusals.{
   set_conditions,
 }
 use Rattle.model.specs.Refusals
-use Rattle.model.specs.Call.{Fed, wrong_length, unsound, unopened, holding}
-use Rattle.model.specs.Model.{reads}
 
 -- what the first causes give is given
 first_some : (ks js : List Cause) (cs : List Condition) (n : ℕ) → first_given ks cs ≡ Some n → first_given (ks ++ js) cs ≡ Some n
@@ -98,42 +91,3 @@ refused-room bs a b e =
     go true b = refl
     go false true = refl
     go false false = refl
-
--- ---- of worlds that are looked at, with other conditions beside
--- the causes that come after those
-abbrev later : List Cause
-later = of_arguments ++ from_capacity
-
--- what a look finds is given
-pub looked-first : (cs : List Condition) {n : ℕ} → first_given looks cs ≡ Some n → refusal cs ≡ Some n
-looked-first cs {n} e = first_some looks later cs n e
-
--- a test that hands out no number is false
-cond-none : (b : Bool) (n : ℕ) (o : Option ℕ) → cond b (Some n) o ≡ None → (b ≡ false) × (o ≡ None)
-cond-none true n o e = let z : ◌≡◌ {A = ℕ} 0 1 = cc in absurd (omega arith)
-cond-none false n o e = (refl, e)
-
--- what one world earns is given beside conditions of which a look finds none
-pub reads_first : (s : Fed) (cs : List Condition) {n : ℕ} → first_given looks cs ≡ None → first_given looks (reads s) ≡ Some n → refusal (reads s ++ cs) ≡ Some n
-reads_first s cs {n} quiet e =
-    let a = cond-none (given store_length cs) 1 _ quiet in
-    let b = cond-none (given world_limits cs) 11 _ a.1 in
-    let c = cond-none (given store_unsound cs) 7 _ b.1 in
-    go s a.0 b.0 c.0 e
-  where
-    go : (s : Fed) → given store_length cs ≡ false → given world_limits cs ≡ false → given store_unsound cs ≡ false → first_given looks (reads s) ≡ Some n
-        → refusal (reads s ++ cs) ≡ Some n
-    go wrong_length x y z f = f
-    go unsound x y z f = rw (x, y) f
-    go unopened x y z f = rw (x, y, z) f
-    go (holding P) x y z f = let q : ◌≡◌ {A = ℕ} 0 1 = cc in absurd (omega arith)
-
--- a call on a world that was not opened is refused, whatever its conditions
-pub unopened-refused : (cs : List Condition) → (n : ℕ) × (refusal (reads unopened ++ cs) ≡ Some n)
-unopened-refused cs = go (given store_length cs) (given world_limits cs) (given store_unsound cs)
-  where
-    go : (x y z : Bool) → (n : ℕ) × (cond x (Some 1) (cond y (Some 11) (cond z (Some 7) (Some 12))) ≡ Some n)
-    go true y z = (1, refl)
-    go false true z = (11, refl)
-    go false false true = (7, refl)
-    go false false false = (12, refl)

@@ -4,12 +4,12 @@ use Rattle.std.specs.Prelude.{Option, None, Some}
 use Prim.Native.Nat.{ℕ, ◌+◌, ◌<◌, ◌≤◌}
 use mathlib.Core.Path.{◌≡◌, refl, sym, ap, ap₂, ◌∙◌, subst, fun_ext}
 use mathlib.Core.Logic.{◌⊎◌, inl, inr}
-use mathlib.Core.Bool.{Bool, false}
+use mathlib.Core.Bool.{Bool, false, ◌&&◌}
 use mathlib.Core.List.{List, [], ◌∷◌, ◌++◌}
 use native.Mathlib.Omega.{arith}
 use lib.Dec.{eqb}
 use lib.ListN.{length}
-use borrow.Author.Tests.{ne_eqb}
+use borrow.Author.Tests.{ne_eqb, le-ltb}
 use Rattle.model.specs.declared.Limits.{Limits}
 use Rattle.model.specs.Numbers.{size, most_worlds}
 use Rattle.model.proofs.Numbers.{split}
@@ -17,8 +17,8 @@ use Rattle.model.specs.Positions.{Positions, empty, bounded}
 use Rattle.model.proofs.Ops.{bounded-below}
 use Rattle.model.specs.Refusals.{world_limits, Condition, ◌when◌, refusal, bad_limits}
 use Rattle.model.specs.Bytes.{into_front}
-use Rattle.model.specs.Call.{Fed, Call, feed, Measure, make, measure, at, Result, written, Answer}
-use Rattle.model.specs.Model.{Outcome, positions_of, reads, settle, serve}
+use Rattle.model.specs.Call.{Fed, Call, Measure, make, measure, at, Result, written, Answer}
+use Rattle.model.specs.Model.{Effect, Plan, positions_of, plan, Outcome, settle, or_else, first_refusal, room, left_by, serve}
 use Rattle.model.specs.Pools.{PlainWorld, world_of, fed_by, full, with_positions, holding_at, serve_at, empty_worlds, PoolOutcome, settle_make, make_by, step}
 use Rattle.model.specs.Pools.{settle_measured, words_due, measure_conditions, measure_by}
 use Rattle.model.proofs.Pools.{holding-fed}
@@ -28,15 +28,29 @@ use Rattle.store.specs.Settle.{Settled}
 use Rattle.store.proofs.Turn.{pool-past}
 use Rattle.store.proofs.WorldLists.{worlds-but, opened-world, unopened-world}
 use Rattle.interval_bit_set.specs.Met.{Site, fed_at, full_at, outcome_of, Leaves, Met, made_of, MakeLeaves, Made, measured_of, Measured}
-use Rattle.interval_bit_set.proofs.Refusing.{unopened-refused}
+use Rattle.interval_bit_set.proofs.Looking.{shut-refused}
 use Rattle.interval_bit_set.proofs.Meeting.{fed-sound}
-use Rattle.interval_bit_set.proofs.Served.{Ends, bounded-ends, Served, served}
 
 -- the words w are a sound pool of capacity C with the worlds ws
 pub record Holds (C : ℕ) (ws : List PlainWorld) (w : List ℕ) : Type 0 where
   pub sound : Sound w
   pub sized : capacity w ≡ C
   pub held : worlds_of w ≡ ws
+
+-- only 0 .. 2^64 − 1 are held
+abbrev pub Ends : Positions → Type 0
+Ends P = (x : ℕ) → size ≤ x → P x ≡ false
+
+-- what is bounded ends
+pub bounded-ends : (Q : Positions) → Ends (bounded Q)
+unfolding bounded
+bounded-ends Q x h = ap (λ t. t && Q x) (le-ltb x size h)
+
+-- and so does what a call leaves of positions that do
+left-ends : (e : Effect) (P : Positions) → Ends P → Ends (left_by e P)
+left-ends Effect.stays P h = h
+left-ends (Effect.becomes Q) P h = bounded-ends (Q P)
+left-ends (Effect.overwritten Q) P h = bounded-ends Q
 
 -- two sets that end and agree below 2^64 are the same
 pub same-positions : (P Q : Positions) → Ends P → Ends Q → ((x : ℕ) → x < size → P x ≡ Q x) → P ≡ Q
@@ -82,11 +96,11 @@ settled-holds e l S ends = record { sound = S.sound; sized = ap capacity_of S.lo
 
 module _ {C : ℕ} {ws : List PlainWorld} {w : List ℕ} (H : Holds C ws w) where
   -- the outcome of a call is the model's
-  pub outcome-is : (i : ℕ) (c : Call Site) → outcome_of w i c ≡ serve_at C ws i (feed fed_at c)
+  pub outcome-is : (i : ℕ) (c : Call Site) → outcome_of w i c ≡ serve_at C ws i (plan fed_at c)
   unfolding outcome_of full_at serve_at
   outcome-is i c =
-      ap (λ s. serve (full (capacity w) (worlds_of w) i) s (feed fed_at c)) (fed-sound w i H.sound)
-      ∙ ap₂ (λ k vs. serve (full k vs i) (fed_by (world_of vs i)) (feed fed_at c)) H.sized H.held
+      ap (λ s. serve (full (capacity w) (worlds_of w) i) s (plan fed_at c)) (fed-sound w i H.sound)
+      ∙ ap₂ (λ k vs. serve (full k vs i) (fed_by (world_of vs i)) (plan fed_at c)) H.sized H.held
 
   -- the positions of a world that is fed end
   fed-ends : (i : ℕ) → Ends (positions_of (fed_by (world_of ws i)))
@@ -97,50 +111,59 @@ module _ {C : ℕ} {ws : List PlainWorld} {w : List ℕ} (H : Holds C ws w) wher
       go (inr l) = subst (λ o. Ends (positions_of (fed_by o))) (sym (unopened-world w i l)) empty-ends
 
   -- a world that a call does not refuse was opened
-  named : (i : ℕ) (cs : List Condition) → refusal (reads (fed_by (world_of ws i)) ++ cs) ≡ None → i < opened_at w
-  named i cs e = go (split i (opened_at w))
+  named : (i : ℕ) (fs : List Fed) (cs : List Condition) → first_refusal (fed_by (world_of ws i) ∷ fs) cs ≡ None → i < opened_at w
+  named i fs cs e = go (split i (opened_at w))
     where
       go : (i < opened_at w) ⊎ (opened_at w ≤ i) → i < opened_at w
       go (inl l) = l
       go (inr l) =
           let f : world_of ws i ≡ None = ap (λ vs. world_of vs i) (sym H.held) ∙ unopened-world w i l in
-          let r = unopened-refused cs in
-          let g : Some r.0 ≡ None = sym r.1 ∙ ap (λ o. refusal (reads (fed_by o) ++ cs)) (sym f) ∙ e in
+          let r = shut-refused fs in
+          let g : Some r.0 ≡ None = sym (ap (λ o. or_else o (refusal cs)) r.1) ∙ ap (λ o. first_refusal (fed_by o ∷ fs) cs) (sym f) ∙ e in
           let z : ◌≡◌ {A = ℕ} 0 1 = cc in
           absurd (omega arith)
 
   -- ---- a call on a world
   module _ {i : ℕ} {c : Call Site} {a : Answer} {w' : List ℕ} (m : Met w i c a w') where
     -- its answer is the model's
-    pub answer-is : a ≡ (step C ws (at i (feed fed_at c))).answer
+    pub answer-is : a ≡ (step C ws (at i (plan fed_at c))).answer
     unfolding step
     answer-is = m.answered ∙ ap (λ o. o.answer) (outcome-is i c)
 
     -- and so are the worlds after it
-    pub step-holds : Holds C (step C ws (at i (feed fed_at c))).worlds w'
-    unfolding step serve_at
-    step-holds = go (refusal (reads s ++ S.conditions)) refl
+    pub step-holds : Holds C (step C ws (at i (plan fed_at c))).worlds w'
+    unfolding step serve_at serve
+    step-holds = go (first_refusal (s ∷ p.further) cs) refl
       where
+        p : Plan
+        p = plan fed_at c
+
         s : Fed
         s = fed_by (world_of ws i)
 
-        o : Outcome
-        o = serve_at C ws i (feed fed_at c)
+        P : Positions
+        P = positions_of s
 
-        S : Served s o
-        S = served (full C ws i) s (feed fed_at c)
+        Q : Positions
+        Q = left_by p.effect P
+
+        cs : List Condition
+        cs = room (full C ws i) p.effect P ++ p.earns P
+
+        o : Outcome
+        o = serve_at C ws i p
 
         left : Leaves w w' i o.positions o.answer
         left = subst (λ b. Leaves w w' i o.positions b) answer-is (subst (λ p. Leaves w w' i p.positions a) (outcome-is i c) m.left)
 
-        go : (y : Option ℕ) → refusal (reads s ++ S.conditions) ≡ y → Holds C (holding_at i o.positions ws) w'
+        go : (y : Option ℕ) → first_refusal (s ∷ p.further) cs ≡ y → Holds C (holding_at i o.positions ws) w'
         go None e =
-            let f : o ≡ settle None (positions_of s) S.said S.next = S.is ∙ ap (λ y. settle y (positions_of s) S.said S.next) e in
-            let t : Settled w w' i S.next = subst (λ p. Leaves w w' i p.positions p.answer) f left in
+            let f : o ≡ settle None P (p.gives P) Q = ap (λ y. settle y P (p.gives P) Q) e in
+            let t : Settled w w' i Q = subst (λ p. Leaves w w' i p.positions p.answer) f left in
             subst (λ vs. Holds C vs w') (ap₂ (λ P vs. holding_at i P vs) (sym (ap (λ p. p.positions) f)) H.held)
-            (settled-holds H.sized (named i S.conditions e) t (S.ends (fed-ends i)))
+            (settled-holds H.sized (named i p.further cs e) t (left-ends p.effect P (fed-ends i)))
         go (Some n) e =
-            let f : o ≡ settle (Some n) (positions_of s) S.said S.next = S.is ∙ ap (λ y. settle y (positions_of s) S.said S.next) e in
+            let f : o ≡ settle (Some n) P (p.gives P) Q = ap (λ y. settle y P (p.gives P) Q) e in
             let t : w' ≡ w = subst (λ p. Leaves w w' i p.positions p.answer) f left in
             subst (λ v. Holds C (holding_at i o.positions ws) v) (sym t)
             (subst (λ vs. Holds C vs w) (sym (ap (λ p. holding_at i p.positions ws) f ∙ holding-fed ws i)) H)

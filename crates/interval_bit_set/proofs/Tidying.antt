@@ -14,7 +14,9 @@ use Rattle.store.specs.Soundness.{Sound}
 use Rattle.store.specs.Free.{Pooled}
 use Rattle.store.specs.Settle.{Settled}
 use Rattle.store.proofs.WorldLists.{worlds-same}
-use Rattle.interval_bit_set.specs.Met.{Site, Readable, Met}
+use Rattle.interval_bit_set.specs.Met.{Site, Met}
+use Rattle.interval_bit_set.specs.Look.{Checked}
+use Rattle.interval_bit_set.proofs.Looking.{gave-opened}
 use Rattle.interval_bit_set.specs.Tidy.{Tidied, TidiesIf, Ended}
 
 -- what settled before stays so
@@ -31,18 +33,13 @@ settled-tidied {i = i} l S t = record {
 
 -- ---- the end of a call on a world, where f says what a T is
 module _ {T : Type 0} (f : T → Result) {w w₁ : List ℕ} {i : ℕ} {c : Call Site} where
-  -- the pool that it left may be tidied
-  pub sound-after : (r : OrRefusal T) → Met w i c (answer_by (λ x. gave (f x)) r) w₁ → IfOk r (λ x. Sound w₁)
-  sound-after (Ok x) m = m.left.sound
-  sound-after (Err e) m = tt
-
-  -- and the call is met then
-  pub met-after : {w₂ : List ℕ} {worn : ℕ} (r : OrRefusal T) {r' : OrRefusal T} → Readable w i → Met w i c (answer_by (λ x. gave (f x)) r) w₁ → Ended w₁ w₂ worn r r'
+  -- it is met where the pool that it left is tidied
+  pub met-after : {w₂ : List ℕ} {worn : ℕ} (r : OrRefusal T) {r' : OrRefusal T} → Checked w → Met w i c (answer_by (λ x. gave (f x)) r) w₁ → Ended w₁ w₂ worn r r'
       → Met w i c (answer_by (λ x. gave (f x)) r') w₂
-  met-after {w₂} {worn} r {r'} R m e = subst (λ s. Met w i c (answer_by (λ x. gave (f x)) s) w₂) (sym e.answered) (go r m e.tidies)
+  met-after {w₂} {worn} r {r'} k m e = subst (λ s. Met w i c (answer_by (λ x. gave (f x)) s) w₂) (sym e.answered) (go r m e.tidies)
     where
       go : (s : OrRefusal T) → Met w i c (answer_by (λ x. gave (f x)) s) w₁ → TidiesIf w₁ w₂ worn s → Met w i c (answer_by (λ x. gave (f x)) s) w₂
-      go (Ok x) m t = record { answered = m.answered; left = settled-tidied R.openable.named m.left t.tidied }
+      go (Ok x) m t = record { answered = m.answered; left = settled-tidied (gave-opened k m) m.left t.tidied }
       go (Err e) m t = record { answered = m.answered; left = t ∙ m.left }
 
 -- a pool has the same worlds then

@@ -24,7 +24,9 @@ use Rattle.store.proofs.Parts.{nodes-long}
 use Rattle.store.proofs.Reached.{tree-reached}
 use Rattle.store.proofs.Sharing.{tree-planted}
 use Rattle.interval_bit_set.specs.Grown.{shape, Grows}
-use Rattle.interval_bit_set.specs.Met.{Site, Readable, Met}
+use Rattle.interval_bit_set.specs.Met.{Site, Met}
+use Rattle.interval_bit_set.specs.Look.{Checked}
+use Rattle.interval_bit_set.proofs.Looking.{gave-opened}
 use Rattle.interval_bit_set.specs.Tidy.{InOrder, Tidies, TidiesIf, Ended}
 use Rattle.interval_bit_set.proofs.Threading.{lows-high}
 
@@ -71,14 +73,14 @@ module _ {w : List ℕ} {j : ℕ} (S : Sound w) (l : j < opened_at w) where
 
 -- what a set, whose answer f tells, made of the world's tree is there after the pool was tidied
 module _ {T : Type 0} (f : T → Result) {w w₁ w₂ : List ℕ} {i worn : ℕ} {c : Call Site} (l u : Bound) (v : Bool) where
-  pub grows-after : (r : OrRefusal T) {r' : OrRefusal T} → Readable w i → Met w i c (answer_by (λ x. gave (f x)) r) w₁ → Grows w i l u v r w₁
+  pub grows-after : (r : OrRefusal T) {r' : OrRefusal T} → Checked w → Met w i c (answer_by (λ x. gave (f x)) r) w₁ → Grows w i l u v r w₁
       → Ended w₁ w₂ worn r r' → Grows w i l u v r' w₂
-  grows-after r R m g e = subst (λ s. Grows w i l u v s w₂) (sym e.answered) (go r m g e.tidies)
+  grows-after r k m g e = subst (λ s. Grows w i l u v s w₂) (sym e.answered) (go r m g e.tidies)
     where
       go : (s : OrRefusal T) → Met w i c (answer_by (λ x. gave (f x)) s) w₁ → Grows w i l u v s w₁ → TidiesIf w₁ w₂ worn s
           → Grows w i l u v s w₂
       go (Err x) m g t = tt
       go (Ok x) m g t = λ z.
-          let o = tidy-tree m.left.sound (omega (arith, m.left.opened, R.openable.named)) t in
+          let o = tidy-tree m.left.sound (omega (arith, m.left.opened, gave-opened k m)) t in
           let p = g z in
-          record { unturned = o.offset ∙ p.unturned; tree = λ held k. ap shape o.tree ∙ p.tree held k }
+          record { unturned = o.offset ∙ p.unturned; tree = λ held q. ap shape o.tree ∙ p.tree held q }

@@ -1,33 +1,46 @@
 -- What looking at pools and worlds for 1, 7 and 12 tells. Assumes nothing: these are definitions.
-use Rattle.std.specs.Prelude.{Option, None, Some, Ok, Err}
+use Rattle.std.specs.Prelude.{◌≡◌, ◌≤◌, ◌<◌, ℕ, true, false, Some, List, [], ◌∷◌, Ok, Err}
 use Rattle.model.specs.Answers.{OrRefusal}
-use Rattle.std.specs.Prelude.{◌≡◌, ℕ, min, List, ◌++◌}
 use Rattle.model.specs.Numbers.{refusal_number}
-use Rattle.model.specs.Refusals.{looks, first_given}
-use Rattle.model.specs.Model.{reads}
-use Rattle.interval_bit_set.specs.Met.{fed_of, pool_reads}
+use Rattle.model.specs.declared.Refusal.TheVariants.{Unsound, WorldUnopened}
+use Rattle.store.specs.declared.Set.{Set}
+use Rattle.store.specs.declared.World.{World}
+use Rattle.store.specs.Layout.{capacity, opened_at, held, held_by}
+use Rattle.store.specs.Settle.{Opened}
+use Rattle.soundness.specs.Decision.{sound_b, worn}
+use Rattle.streams.specs.declared.source.View.{View}
+use Rattle.interval_bit_set.specs.Joined.{ViewOf}
+use Rattle.interval_bit_set.specs.Met.{faults}
 
--- the number of the refusal, if there is one
-abbrev pub look_number : {T : Type 0} → OrRefusal T → Option ℕ
-look_number (Err r) = Some (refusal_number r)
-look_number (Ok x) = None
+-- the words pass the check: they are a sound pool
+pub record Checked (w : List ℕ) : Type 0 where
+  pub sized : 1 ≤ capacity w
+  pub passed : sound_b w ≡ true
 
--- the lesser of two numbers, where there are both
-abbrev pub earliest : Option ℕ → Option ℕ → Option ℕ
-earliest None o = o
-earliest (Some m) None = Some m
-earliest (Some m) (Some n) = Some (min m n)
+abbrev pub AllChecked : List (List ℕ) → Type 0
+AllChecked [] = Unit
+AllChecked (w ∷ ws) = Checked w × AllChecked ws
 
--- the first refusal of a look that the conditions of the pool give, if there is one
-abbrev pub LookedPool : {T : Type 0} → List ℕ → OrRefusal T → Type 0
-LookedPool w l = look_number l ≡ first_given looks (pool_reads w)
+-- the check of the pool w and of further ones: the first refusal of all of them, or how worn the free chain of w is
+abbrev pub Checks : List ℕ → List (List ℕ) → OrRefusal ℕ → Type 0
+Checks w ws (Ok n) = AllChecked (w ∷ ws) × (n ≡ worn w)
+Checks w ws (Err r) = faults (w ∷ ws) ≡ Some (refusal_number r)
 
--- and that those of the worlds named give
-abbrev pub Looked : {T : Type 0} → List ℕ → ℕ → OrRefusal T → Type 0
-Looked w i l = look_number l ≡ first_given looks (reads (fed_of w i))
+-- the test of soundness alone
+abbrev pub Sounds : List ℕ → OrRefusal ℕ → Type 0
+Sounds w (Ok n) = (sound_b w ≡ true) × (n ≡ worn w)
+Sounds w (Err r) = (sound_b w ≡ false) × (r ≡ Unsound)
 
-abbrev pub LookedTwo : {T : Type 0} → List ℕ → ℕ → List ℕ → ℕ → OrRefusal T → Type 0
-LookedTwo v i w j l = look_number l ≡ first_given looks (reads (fed_of v i) ++ reads (fed_of w j))
+-- asking for world i of the words w: it was opened, and then R holds of what is told of it; or 12
+abbrev pub Finds : {T : Type 0} → List ℕ → ℕ → (T → Type 0) → OrRefusal T → Type 0
+Finds w i R (Ok x) = (i < opened_at w) × R x
+Finds w i R (Err r) = (opened_at w ≤ i) × (r ≡ WorldUnopened)
 
-abbrev pub LookedThree : {T : Type 0} → List ℕ → ℕ → List ℕ → ℕ → List ℕ → ℕ → OrRefusal T → Type 0
-LookedThree u i v j w k l = look_number l ≡ first_given looks (reads (fed_of u i) ++ (reads (fed_of v j) ++ reads (fed_of w k)))
+abbrev pub FindsSet : List ℕ → ℕ → OrRefusal Set → Type 0
+FindsSet w i r = Finds w i (λ s. held s ≡ held_by w i) r
+
+abbrev pub FindsWorld : List ℕ → ℕ → OrRefusal World → Type 0
+FindsWorld w i r = Finds w i (λ h. Opened w i h) r
+
+abbrev pub FindsView : List ℕ → ℕ → OrRefusal View → Type 0
+FindsView w i r = Finds w i (λ v. ViewOf w i v) r

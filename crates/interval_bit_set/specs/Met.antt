@@ -1,12 +1,11 @@
 -- What every public call on a world promises: its answer and what it leaves are what the plain model gives, and a refusal leaves every word as
 -- it was. Only the offset and the arrangement of nodes are left open; of them soundness and the positions held are said.
 -- Assumes nothing: these are definitions.
-use Rattle.std.specs.Prelude.{ℕ, ◌≡◌, Bool, cond, not, List, [], ◌∷◌, eqb}
+use Rattle.std.specs.Prelude.{ℕ, ◌≡◌, Bool, false, cond, not, ◌||◌, Option, None, Some, List, [], ◌∷◌, eqb}
 use Rattle.model.specs.declared.Limits.{Limits}
 use Rattle.model.specs.Positions.{Positions}
-use Rattle.model.specs.Refusals.{store_length, store_unsound, Condition, ◌when◌}
-use Rattle.model.specs.Call.{Fed, wrong_length, unsound, holding, Call, feed, Measure, Answer, refused, gave}
-use Rattle.model.specs.Model.{Outcome, serve}
+use Rattle.model.specs.Call.{Fed, wrong_length, unsound, holding, Call, Measure, Answer, refused, gave}
+use Rattle.model.specs.Model.{plan, Outcome, serve}
 use Rattle.model.specs.Pools.{world_of, fed_by, full, PoolOutcome, make_by, measure_by}
 use Rattle.store.specs.Layout.{capacity, held_by, worlds_of}
 use Rattle.soundness.specs.Decision.{sound_b}
@@ -21,9 +20,16 @@ pub record Site : Type 0 where
 abbrev pub site : List ℕ → ℕ → Site
 site w i = record { words = w; world = i }
 
--- 1 and 7: what the words of a pool earn, whichever world is named
-abbrev pub pool_reads : List ℕ → List Condition
-pool_reads w = store_length when eqb (capacity w) 0 ∷ store_unsound when not (sound_b w) ∷ []
+-- what the words of some pools earn, whichever worlds are named: 1 where any is of no pool's length, then 7 where any is not sound
+abbrev pub short : List ℕ → Bool
+short w = eqb (capacity w) 0
+
+abbrev pub any_is : (List ℕ → Bool) → List (List ℕ) → Bool
+any_is f [] = false
+any_is f (w ∷ ws) = f w || any_is f ws
+
+abbrev pub faults : List (List ℕ) → Option ℕ
+faults ws = cond (any_is short ws) (Some 1) (cond (any_is (λ w. not (sound_b w)) ws) (Some 7) None)
 
 -- what the model is fed of world i of the words w: the refusal that is earned, or the positions held
 unfoldable pub fed_of : List ℕ → ℕ → Fed
@@ -38,7 +44,7 @@ full_at w i = full (capacity w) (worlds_of w) i
 
 -- what the model says of a call on world i of the words w
 unfoldable pub outcome_of : List ℕ → ℕ → Call Site → Outcome
-outcome_of w i c = serve (full_at w i) (fed_of w i) (feed fed_at c)
+outcome_of w i c = serve (full_at w i) (fed_of w i) (plan fed_at c)
 
 -- what is left of the words: all as it was after a refusal, else a sound pool whose world i holds the outcome's positions, and all else is as it
 -- was

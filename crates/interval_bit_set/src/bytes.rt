@@ -1,51 +1,132 @@
-// Reading written sets, run lists and maps into a world; making a map fit to be read, and turning a written set into the other edition.
-// Document 02 (Ticket 4) wants both forms of reading a map, and both are public, so each picks its form here, by a const parameter.
-ghost use Rattle.std.specs.Prelude.{◌≡◌, ◌/◌, length};
+// Reading written sets, run lists and maps into a world; making a map fit to be read, and turning a written set into the other edition. What the bytes
+// earn by themselves is tested before the allowance, and that before the first word changes.
+ghost use Rattle.std.specs.Prelude.{◌≡◌, ◌/◌, true, length};
 ghost use Rattle.model.specs.Call.{Call};
 ghost use Rattle.model.specs.Answers.{completed_answer, counted_answer, numbered_answer, written_answer};
 ghost use Rattle.model.specs.Clearing.{clear_map};
 ghost use Rattle.model.specs.Converting.{convert};
+ghost use Rattle.model.specs.Positions.{mem};
+ghost use Rattle.model.specs.RunList.{AllWords};
+ghost use Rattle.model.specs.Refusals.{ordered_from};
 ghost use Rattle.written.specs.Listed.{pairs};
-ghost use Rattle.interval_bit_set.specs.Met.{Met};
-ghost use Rattle.interval_bit_set.specs.Out.{Mends};
+ghost use Rattle.interval_bit_set.specs.Joined.{Carried};
+ghost use Rattle.interval_bit_set.specs.Met.{Readable, Met};
 ghost use Rattle.interval_bit_set.specs.Handles.{Handles};
 
-use model::{Count, Mended, Refusal};
-use written::runs::Words;
+use crate::pool::Pool;
+use maps::window::{Map, Window};
+use model::{Count, Refusal};
+use written::runs::{RunList, Words};
+
+// Gives a world the runs of a list, which are in order, whatever it held, if its allowance admits so many.
+fn put<L: RunList + Copy>(words: &mut [u64], world: u64, runs: L) -> Result<(), Refusal>
+    requires readable { Readable words.old world }
+    requires ordered { (ordered_from 0 (L.runs runs) ≡ true) × AllWords (L.runs runs) }
+    ensures { Carried words.old words.new world (mem (L.runs runs)) result }
+{
+    if runs.count() > store::allowance(words, world) {
+        return Err(Refusal::Capacity);
+    }
+    let h = store::open(words, world);
+    let k = written::runs::build(&mut words[128..], h, runs);
+    store::close(words, k);
+    Ok(())
+}
+
+// Sets a window from a map, a word at a time or, where `WIDE` is false, by single bytes; leaves the other positions, and returns how many
+// changed.
+// The public call picks `WIDE`: all but the reading of a stretch is the same for both forms, and stands once.
+fn put_map<const WIDE: bool>(
+    words: &mut [u64],
+    world: u64,
+    base: u64,
+    n: u64,
+    bytes: &[u8],
+) -> Result<Count, Refusal>
+    requires { Readable words.old world }
+    ensures { Met words.old world (Call.read_map base n bytes.now) (counted_answer result) words.new }
+{
+    if !crate::window::window_fits(base, n) {
+        return Err(Refusal::Window);
+    }
+    if !crate::window::map_length_fits(bytes, n) {
+        return Err(Refusal::Window);
+    }
+    if spare::stray_bits(bytes, n) > 0 {
+        return Err(Refusal::StrayBit);
+    }
+    let h = store::open(words, world);
+    let limit = store::allowance(words, world);
+    let window = Window { base, n };
+    let map = Map { window, bytes };
+    let e = maps::read::read_map::<WIDE>(&mut words[128..], h, limit, &map);
+    match e {
+        None => Err(Refusal::Capacity),
+        Some(made) => {
+            store::close(words, made.world);
+            Ok(made.changed)
+        }
+    }
+}
+
+impl<'a> Pool<'a> {
+    // Gives a world the set that bytes tell, whatever it held.
+    pub fn load(&mut self, world: u64, bytes: &[u8]) -> Result<(), Refusal>
+        ensures met { Met self.old.words.now world (Call.load bytes.now) (completed_answer result) self.new.words.now }
+        ensures same_loan { self.new.words.ghost_name ≡ self.old.words.ghost_name }
+    {
+        self.opened(world)?;
+        let told = written::set::runs_told(bytes)?;
+        put(self.words, world, told)
+    }
+
+    // Gives a world the set of a run list, in whatever form it is lent.
+    pub fn build<L: RunList + Copy>(&mut self, world: u64, runs: L) -> Result<(), Refusal>
+        ensures met { Met self.old.words.now world (Call.build (L.runs runs)) (completed_answer result) self.new.words.now }
+        ensures same_loan { self.new.words.ghost_name ≡ self.old.words.ghost_name }
+    {
+        self.opened(world)?;
+        if !written::runs::in_order(runs) {
+            return Err(Refusal::RunOrder);
+        }
+        put(self.words, world, runs)
+    }
+
+    // Sets a window from a map, a word at a time or, where `WIDE` is false, by single bytes; leaves the other positions, and returns how many changed.
+    // The public call picks `WIDE`: all but the reading of a stretch is the same for both forms, and stands once.
+    pub fn read_map<const WIDE: bool>(
+        &mut self,
+        world: u64,
+        base: u64,
+        n: u64,
+        bytes: &[u8],
+    ) -> Result<Count, Refusal>
+        ensures met { Met self.old.words.now world (Call.read_map base n bytes.now) (counted_answer result) self.new.words.now }
+        ensures same_loan { self.new.words.ghost_name ≡ self.old.words.ghost_name }
+    {
+        self.opened(world)?;
+        put_map::<WIDE>(self.words, world, base, n, bytes)
+    }
+}
 
 // Gives a world the set that bytes tell, whatever it held.
 pub fn load(words: &mut [u64], world: u64, bytes: &[u8]) -> Result<(), Refusal>
     ensures { Met words.old world (Call.load bytes.now) (completed_answer result) words.new }
 {
-    let worn = crate::look::look_at(words, world)?;
-    let answer = sets::bytes::load(words, world, bytes);
-    tidy::after(words, worn, answer)
-}
-
-// Gives a world the union of the runs that bytes tell, in whatever order they stand, touching and overlapping; writes it as a set into the front of
-// one slice, and what became of each run into the front of another: 0 dropped, 1 joined, 2 kept. Tells how many bytes both have.
-pub fn mend(
-    words: &mut [u64],
-    world: u64,
-    bytes: &[u8],
-    out: &mut [u8],
-    report: &mut [u8],
-) -> Result<Mended, Refusal>
-    ensures { Mends words.old world bytes.now out.old report.old result
-        words.new out.new report.new }
-{
-    let worn = crate::look::look_at(words, world)?;
-    let answer = sets::mend::mend(words, world, bytes, out, report);
-    tidy::after(words, worn, answer)
+    let worn = crate::pool::check(words)?;
+    let mut pool = Pool { words };
+    let answer = pool.load(world, bytes);
+    pool.end(worn, answer)
 }
 
 // Gives a world the set of a run list, given as words: start and end of each run, in turn. A last word without its end is no run.
 pub fn from_sorted_words(words: &mut [u64], world: u64, runs: &[u64]) -> Result<(), Refusal>
     ensures { Met words.old world (Call.build (pairs (length runs.now / 2) runs.now)) (completed_answer result) words.new }
 {
-    let worn = crate::look::look_at(words, world)?;
-    let answer = sets::bytes::build(words, world, Words(runs));
-    tidy::after(words, worn, answer)
+    let worn = crate::pool::check(words)?;
+    let mut pool = Pool { words };
+    let answer = pool.build(world, Words(runs));
+    pool.end(worn, answer)
 }
 
 // Sets a window from a map, leaves the other positions, and returns how many changed. Eight bytes of the map are read as a word.
@@ -58,9 +139,10 @@ pub fn read_map(
 ) -> Result<Count, Refusal>
     ensures { Met words.old world (Call.read_map base n bytes.now) (counted_answer result) words.new }
 {
-    let worn = crate::look::look_at(words, world)?;
-    let answer = sets::bytes::read_map::<true>(words, world, base, n, bytes);
-    tidy::after(words, worn, answer)
+    let worn = crate::pool::check(words)?;
+    let mut pool = Pool { words };
+    let answer = pool.read_map::<true>(world, base, n, bytes);
+    pool.end(worn, answer)
 }
 
 // The same by single bytes: the plain form, which the other is proved to agree with.
@@ -73,21 +155,34 @@ pub fn read_map_by_bytes(
 ) -> Result<Count, Refusal>
     ensures { Met words.old world (Call.read_map base n bytes.now) (counted_answer result) words.new }
 {
-    let worn = crate::look::look_at(words, world)?;
-    let answer = sets::bytes::read_map::<false>(words, world, base, n, bytes);
-    tidy::after(words, worn, answer)
+    let worn = crate::pool::check(words)?;
+    let mut pool = Pool { words };
+    let answer = pool.read_map::<false>(world, base, n, bytes);
+    pool.end(worn, answer)
 }
 
-// Zeroes the spare bits of a window's map, and returns how many were one. It takes no pool, so there is none to look at.
+// Zeroes the spare bits of a window's map, and returns how many were one. No pool is at hand.
 pub fn clear_map(base: u64, n: u64, map: &mut [u8]) -> Result<u64, Refusal>
     ensures { Handles (clear_map base n map.old) (numbered_answer result) map.new }
 {
-    sets::clear::clear_map(base, n, map)
+    if !crate::window::window_fits(base, n) {
+        return Err(Refusal::Window);
+    }
+    if !crate::window::map_length_fits(map, n) {
+        return Err(Refusal::Window);
+    }
+    Ok(spare::clear(map, n))
 }
 
-// Turns a written set of either edition into the other, and tells how many bytes it has. It takes no pool.
+// Writes the set that bytes tell into the front of a slice in the other edition, and returns how many bytes it has. Nothing is written before
+// the last run was read.
 pub fn convert(bytes: &[u8], out: &mut [u8]) -> Result<usize, Refusal>
     ensures { Handles (convert bytes.now out.old) (written_answer result out.new) out.new }
 {
-    sets::convert::convert(bytes, out)
+    let told = written::set::runs_told(bytes)?;
+    if out.len() < bytes.len() {
+        return Err(Refusal::OutputShort);
+    }
+    written::write::convert(told, out);
+    Ok(bytes.len())
 }

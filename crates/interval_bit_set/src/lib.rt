@@ -1,8 +1,8 @@
-// IntervalBitSet: the public calls. Any words, bounds and numbers may come; each call looks at the pools and worlds that it names, which gives the
-// first refusals of the order, and then is the call of its name in crate `ranges` or `sets`. None asks anything of its caller.
-// Words and a world's number stay apart, as do the bounds of a range: C lends and hands them in anew for each call, words to be read or to be
-// changed. Of a world that is only read both go on as a `Site`, with what looking told. Each call is a function of its own, since its parameters are
-// those of the model's `Call`.
+// IntervalBitSet: a pool that was checked (`pool::Pool`, and `PoolRef` to be read), whose methods are the calls on its worlds, and the public calls over any
+// words: each is the check, the method and, where it may write, the end.
+// None asks anything of its caller. Words and a world's number stay apart, as do the bounds of a range: C lends and hands them in anew for each call. Each call is
+// a function of its own, since its parameters are those of the model's `Call`. What a change would leave is counted before the first write, so a refusal finds
+// every word as it was.
 #![tactic(auto)]
 
 pub mod bytes;
@@ -10,9 +10,12 @@ pub mod cells;
 pub mod change;
 pub mod join;
 pub mod listing;
-pub mod look;
 pub mod make;
 pub mod measure;
+pub mod mend;
+pub mod pool;
+mod relink;
 pub mod report;
 pub mod runs;
+mod window;
 pub mod write;

@@ -15,5 +15,9 @@ pub fn new(words: &mut [u64], limits: &[u64]) -> Result<(), Refusal>
     if s.capacity == 0 {
         return Err(Refusal::StoreLength);
     }
-    sets::make::new(words, limits)
+    if !store::free::limits_fit(limits, s.capacity) {
+        return Err(Refusal::WorldLimits);
+    }
+    store::free::make(words, limits, (limits.len() / 2) as u64);
+    Ok(())
 }

@@ -9,7 +9,53 @@ ghost use Rattle.interval_bit_set.specs.Met.{outcome_of};
 ghost use Rattle.interval_bit_set.specs.Out.{WritesOut};
 ghost use Rattle.interval_bit_set.specs.Parts.{code_of, front_of, count_of, Handed};
 
+use crate::pool::PoolRef;
+use maps::window::Window;
 use model::{Edition, Refusal};
+
+impl<'a> PoolRef<'a> {
+    // Writes a world's set, and returns how many bytes it has.
+    pub fn write_set(self, world: u64, edition: Edition, out: &mut [u8]) -> Result<usize, Refusal>
+        ensures { WritesOut (Call.write_set edition) self.entry.words.now world out.old result out.new }
+    {
+        let h = self.open(world)?;
+        let n = written::set::run_count(&self.words[128..], h);
+        let due = written::set::length_of(n) as usize;
+        if out.len() < due {
+            return Err(Refusal::OutputShort);
+        }
+        written::write::write_set(&self.words[128..], h, edition, out);
+        Ok(due)
+    }
+
+    // Writes the map of a window, a word at a time or, where `WIDE` is false, by single bytes, and returns how many bytes it has.
+    // `WIDE` picks one of two writers, and no closure does: painting goes over the nodes, and writing by bytes over the runs in order.
+    pub fn write_map<const WIDE: bool>(
+        self,
+        world: u64,
+        base: u64,
+        n: u64,
+        out: &mut [u8],
+    ) -> Result<usize, Refusal>
+        ensures { WritesOut (Call.write_map base n) self.entry.words.now world out.old result out.new }
+    {
+        let h = self.open(world)?;
+        if !crate::window::window_fits(base, n) {
+            return Err(Refusal::Window);
+        }
+        let due = n.div_ceil(8) as usize;
+        if out.len() < due {
+            return Err(Refusal::OutputShort);
+        }
+        let window = Window { base, n };
+        if WIDE {
+            maps::write::write_map(&self.words[128..], h, window, out);
+        } else {
+            maps::write::write_map_by_bytes(&self.words[128..], h, window, out);
+        }
+        Ok(due)
+    }
+}
 
 // Writes a world's set, and tells how many bytes it has.
 pub fn write_set(
@@ -20,8 +66,7 @@ pub fn write_set(
 ) -> Result<usize, Refusal>
     ensures { WritesOut (Call.write_set edition) words.now world out.old result out.new }
 {
-    let site = crate::look::site(words, world)?;
-    sets::write::write_set(site, edition, out)
+    PoolRef::check(words)?.write_set(world, edition, out)
 }
 
 // Writes the map of a window, and tells how many bytes it has. Eight bytes of the map are written as a word.
@@ -34,8 +79,7 @@ pub fn write_map(
 ) -> Result<usize, Refusal>
     ensures { WritesOut (Call.write_map base n) words.now world out.old result out.new }
 {
-    let site = crate::look::site(words, world)?;
-    sets::write::write_map::<true>(site, base, n, out)
+    PoolRef::check(words)?.write_map::<true>(world, base, n, out)
 }
 
 // The same by single bytes: the plain form, which the other is proved to agree with.
@@ -48,8 +92,7 @@ pub fn write_map_by_bytes(
 ) -> Result<usize, Refusal>
     ensures { WritesOut (Call.write_map base n) words.now world out.old result out.new }
 {
-    let site = crate::look::site(words, world)?;
-    sets::write::write_map::<false>(site, base, n, out)
+    PoolRef::check(words)?.write_map::<false>(world, base, n, out)
 }
 
 // The part of a slice that was filled, as far as `filled` tells, or the refusal. What the caller's slice ends as is told by `ends`: what the part

@@ -18,7 +18,7 @@ use Rattle.model.specs.Positions.{Positions, run, inside, among, stretches, empt
 use Rattle.model.specs.RunList.{AllWords}
 use Rattle.model.specs.Refusals.{capacity, ◌when◌, refusal, too_many}
 use Rattle.model.specs.Call.{holding, set, number, refused, gave}
-use Rattle.model.specs.Model.{Outcome, reads, settle, change, changed, setting, serve}
+use Rattle.model.specs.Model.{Outcome, planned, settle, serve}
 use Rattle.model.specs.Pools.{answers, alone}
 use Rattle.model.proofs.Numbers.{split}
 use Rattle.model.proofs.Counting.{among_below, among-above, inside-below, inside-above}
@@ -85,12 +85,12 @@ abbrev outcome : Positions → Range → Bool → Outcome
 outcome P r b =
     cond b (record { answer = refused 8; positions = P }) (record { answer = gave (number (changes P (raised P r))); positions = bounded (raised P r) })
 
-served : (C : ℕ) (P : Positions) (r : Range) → serve (ltb C) (holding P) (set r.lower r.upper true) ≡ outcome P r (ltb C (stretches (raised P r)))
-unfolding serve setting changed change too_many
+served : (C : ℕ) (P : Positions) (r : Range) → serve (ltb C) (holding P) (planned (set r.lower r.upper true)) ≡ outcome P r (ltb C (stretches (raised P r)))
+unfolding serve too_many
 served C P r = go (ltb C (stretches (raised P r)))
   where
     go : (b : Bool)
-        → settle (refusal (reads (holding P) ++ capacity when b ∷ [])) P (number (changes P (raised P r))) (bounded (raised P r)) ≡ outcome P r b
+        → settle (refusal (capacity when b ∷ [])) P (number (changes P (raised P r))) (bounded (raised P r)) ≡ outcome P r b
     go true = refl
     go false = refl
 
@@ -99,7 +99,7 @@ answers_next : (C : ℕ) (P : Positions) (r : Range) (rs : List Range) (b : Bool
     → answers C (alone C P) (sets_of (r ∷ rs)) ≡ (outcome P r b).answer ∷ answers C (alone C (outcome P r b).positions) (sets_of rs)
 unfolding answers sets_of
 answers_next C P r rs b e =
-    ap (λ o. o.answer ∷ answers C o.worlds (sets_of rs)) (step-alone C P (set r.lower r.upper true))
+    ap (λ o. o.answer ∷ answers C o.worlds (sets_of rs)) (step-alone C P (planned (set r.lower r.upper true)))
     ∙ ap (λ o. o.answer ∷ answers C (alone C o.positions) (sets_of rs)) (served C P r ∙ ap (outcome P r) e)
 
 -- ---- a list of calls, where the entries es are set already

@@ -1,22 +1,15 @@
--- `load` meets its contract: a world that looking refuses stays, another is overwritten by the call of `sets`.
--- Assumes nothing.
-use mathlib.Core.Path.{refl}
-use Rattle.interval_bit_set.proofs.Passing.{met-on}
-use Rattle.interval_bit_set.proofs.Looking.{looked-sound, sent-away}
-use Rattle.interval_bit_set.proofs.Overwriting.{load-says}
-use Rattle.interval_bit_set.proofs.Tidying.{sound-after, met-after}
+-- `load`: a pool that fails the check is refused; of another the method answers, and putting the free chain in order leaves every world. Assumes nothing.
+use Rattle.std.proofs.Common.{refl, rules}
 use Rattle.model.specs.Call.{done}
+use Rattle.interval_bit_set.proofs.Looking.{fault-out}
+use Rattle.interval_bit_set.proofs.Tidying.{met-after}
 use Rattle.interval_bit_set.proofs.bytes.load.Goals as goal
 
-pub load-answer-requires : goal.load-answer-requires
-load-answer-requires c = looked-sound _ c.look_at.ensures.looked c.in_ok-worn.was
-
 pub returns-in_err-worn : goal.returns-in_err-worn
-returns-in_err-worn c =
-    met-on _ (sent-away (load-says _ _ _) _ c.look_at.ensures.looked c.in_err-worn.was refl) _ c.from_residual.ensures.1 (λ e p. p)
+returns-in_err-worn c = fault-out _ _ c.from_residual.ensures.1 (λ e p. p) refl c.in_err-worn.ensures
 
-pub after-requires : goal.after-requires
-after-requires c = sound-after (λ _. done) _ c.load-answer.ensures
+pub invariant_of-pool : goal.invariant_of-pool
+invariant_of-pool c = record { checked = c.in_ok-worn.ensures.0.0 }
 
 pub returns : goal.returns
-returns c = met-after (λ _. done) _ (looked-sound _ c.look_at.ensures.looked c.in_ok-worn.was) c.load-answer.ensures c.after.ensures
+returns c = search (rules, met-after (λ _. done) _ c.in_ok-worn.ensures.0.0 c.load-answer.ensures.met c.end.ensures.ended)

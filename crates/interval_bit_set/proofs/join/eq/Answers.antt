@@ -1,16 +1,11 @@
--- `eq` meets its contract: what the worlds named earn is refused, and else the call of `sets` answers.
--- Assumes nothing.
-use Rattle.interval_bit_set.proofs.Passing.{met-on}
-use Rattle.interval_bit_set.proofs.Looking.{two-readable, both-turned}
-use Rattle.interval_bit_set.proofs.Comparing.{equal-says}
+-- `eq`: pools of which one fails the check are refused; of others the method answers. Assumes nothing.
+use Rattle.std.proofs.Common.{refl, [], ◌∷◌}
+use Rattle.interval_bit_set.specs.Met.{site}
+use Rattle.interval_bit_set.proofs.Looking.{fault-of}
 use Rattle.interval_bit_set.proofs.join.eq.Goals as goal
 
+pub returns-in_err-check_two : goal.returns-in_err-check_two
+returns-in_err-check_two c = fault-of _ (site c.args.b.now c.args.j ∷ []) _ c.from_residual.ensures.1 (λ e p. p) refl c.in_err-check_two.ensures
+
 pub invariant_of-x : goal.invariant_of-x
-invariant_of-x c = record { readable = ∣ (two-readable _ c.look_at_two.ensures.looked c.in_ok-look_at_two.was).0 ∣₁ }
-
-pub invariant_of-y : goal.invariant_of-y
-invariant_of-y c = record { readable = ∣ (two-readable _ c.look_at_two.ensures.looked c.in_ok-look_at_two.was).1 ∣₁ }
-
-pub returns-in_err-look_at_two : goal.returns-in_err-look_at_two
-returns-in_err-look_at_two c =
-    met-on _ (both-turned _ _ _ c.look_at_two.ensures.looked c.in_err-look_at_two.was (equal-says _ _ _ _)) _ c.from_residual.ensures.1 (λ e p. p)
+invariant_of-x c = record { checked = c.in_ok-check_two.ensures.0.0 }

@@ -1,24 +1,19 @@
--- `shifted` meets its contract: what the worlds named earn is refused, and else the call of `sets` makes the world.
--- Assumes nothing.
-use Rattle.interval_bit_set.proofs.Passing.{met-on}
-use Rattle.interval_bit_set.proofs.Looking.{two-readable, both-sent}
-use Rattle.interval_bit_set.proofs.Overwriting.{shifted-says}
-use Rattle.interval_bit_set.proofs.Tidying.{sound-after, met-after}
+-- `shifted`: pools of which one fails the check are refused; of others the method answers, and putting the free chain in order leaves every world. Assumes nothing.
+use Rattle.std.proofs.Common.{refl, rules, [], ◌∷◌}
 use Rattle.model.specs.Call.{done}
+use Rattle.interval_bit_set.specs.Met.{site}
+use Rattle.interval_bit_set.proofs.Looking.{fault-of}
+use Rattle.interval_bit_set.proofs.Tidying.{met-after}
 use Rattle.interval_bit_set.proofs.join.shifted.Goals as goal
 
-pub shifted-answer-requires : goal.shifted-answer-requires
-shifted-answer-requires c = (two-readable _ c.look_at_two.ensures.looked c.in_ok-worn.was).0
-
-pub invariant_of-shifted : goal.invariant_of-shifted
-invariant_of-shifted c = record { readable = ∣ (two-readable _ c.look_at_two.ensures.looked c.in_ok-worn.was).1 ∣₁ }
-
 pub returns-in_err-worn : goal.returns-in_err-worn
-returns-in_err-worn c =
-    met-on _ (both-sent _ _ _ c.look_at_two.ensures.looked c.in_err-worn.was (shifted-says _ _ _ _ _)) _ c.from_residual.ensures.1 (λ e p. p)
+returns-in_err-worn c = fault-of _ (site c.args.a.now c.args.i ∷ []) _ c.from_residual.ensures.1 (λ e p. p) refl c.in_err-worn.ensures
 
-pub after-requires : goal.after-requires
-after-requires c = sound-after (λ _. done) _ c.shifted-answer.ensures
+pub invariant_of-pool : goal.invariant_of-pool
+invariant_of-pool c = record { checked = c.in_ok-worn.ensures.0.0 }
+
+pub invariant_of-arg : goal.invariant_of-arg
+invariant_of-arg c = record { checked = c.in_ok-worn.ensures.0.1.0 }
 
 pub returns : goal.returns
-returns c = met-after (λ _. done) _ ((two-readable _ c.look_at_two.ensures.looked c.in_ok-worn.was).0) c.shifted-answer.ensures c.after.ensures
+returns c = search (rules, met-after (λ _. done) _ c.in_ok-worn.ensures.0.0 c.shifted-answer.ensures.met c.end.ensures.ended)

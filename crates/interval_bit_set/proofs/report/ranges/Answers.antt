@@ -1,11 +1,7 @@
--- `ranges` meets its contract: a world that looking refuses earns that refusal, of another the call of `ranges` answers.
--- Assumes nothing.
+-- `ranges`: a pool that fails the check is refused; of another the method answers. Assumes nothing.
 use mathlib.Core.Path.{refl}
-use Rattle.interval_bit_set.proofs.Passing.{met-on}
-use Rattle.interval_bit_set.proofs.Looking.{turned-away}
-use Rattle.interval_bit_set.proofs.Meeting.{ranges-says}
+use Rattle.interval_bit_set.proofs.Looking.{fault-out}
 use Rattle.interval_bit_set.proofs.report.ranges.Goals as goal
 
-pub returns-in_err-site : goal.returns-in_err-site
-returns-in_err-site c =
-    met-on _ (turned-away (ranges-says _ _ _ _ _) _ c.site.ensures.looked c.in_err-site.was refl) _ c.from_residual.ensures.1 (λ e p. p)
+pub returns-in_err-check : goal.returns-in_err-check
+returns-in_err-check c = fault-out _ _ c.from_residual.ensures.1 (λ e p. p) refl c.in_err-check.ensures.err

@@ -1,6 +1,0 @@
--- What the proofs of several functions use.
-pub mod Gaps
-pub mod Strict
-pub mod Draws
-pub mod Emptying
-pub mod Planes
