@@ -8,7 +8,7 @@ use Prim.Native.Nat.{ℕ, ◌≤◌, ◌<◌}
 use mathlib.Core.Path.{◌≡◌, refl, sym, ap, ap₂, ◌∙◌, subst, fun_ext}
 use mathlib.Core.Logic.{◌⊎◌, inl, inr}
 use mathlib.Core.Bool.{Bool, true, false, not, ◌&&◌}
-use mathlib.Core.List.{List, [], ◌∷◌, ◌++◌}
+use mathlib.Core.List.{List, [], ◌∷◌}
 use native.Mathlib.Omega.{arith}
 use lib.Dec.{ltb}
 use borrow.Author.Tests.{lt-ltb, le-ltb}
@@ -35,7 +35,7 @@ use Rattle.store.proofs.WorldLists.{opened-world}
 use Rattle.store.proofs.Worlds.{held-allowed}
 use Rattle.changes.specs.Edits.{Makes, Edited, Fitted, Moves}
 use Rattle.changes.proofs.Shifted.{shift-few}
-use Rattle.interval_bit_set.specs.Met.{Site, fed_of, fed_at, full_at, outcome_of, Met, Readable}
+use Rattle.interval_bit_set.specs.Met.{Site, fed_at, full_at, outcome_of, Met, Readable}
 use Rattle.interval_bit_set.proofs.Doors.{lent-held, lent-limited, lent-closing, lent-settled}
 use Rattle.interval_bit_set.proofs.Meeting.{met_by, settled_same, settled-as}
 use Rattle.interval_bit_set.proofs.Refusing.{refused-before, none_before, refused_full}

@@ -34,11 +34,10 @@ use Rattle.model.specs.declared.Refusal.{Refusal}
 use Rattle.model.specs.Positions.{Positions}
 use Rattle.model.specs.Refusals.{Condition}
 use Rattle.model.specs.Call.{Call}
-use Rattle.model.specs.Model.{plan, writing}
-use Rattle.interval_bit_set.specs.Met.{Site, fed_at, outcome_of}
+use Rattle.interval_bit_set.specs.Met.{Site, outcome_of}
 use Rattle.interval_bit_set.specs.Out.{WritesOut}
 use Rattle.interval_bit_set.specs.Parts.{Part, Handed, front_of, count_of}
-use Rattle.interval_bit_set.proofs.Handing.{part-behind, refused-whole}
+use Rattle.interval_bit_set.proofs.Handing.{Puts, part-behind, refused-whole}
 use Rattle.interval_bit_set.proofs.Lending.{at-list, Slice}
 use Rattle.interval_bit_set.proofs.Counted.{Counted, counted}
 use Rattle.interval_bit_set.specs.contracts.write.handed as h
@@ -65,7 +64,7 @@ module _ {M : Type 1} {𝓤 : Ura M} (𝓛 : Logic 𝓤) where
 
   -- so of the slice ys into whose front a call wrote, which is l then, and of which a part was handed on
   pub ends-told : {w : List ℕ} {i : ℕ} {c : List ℕ → Call Site} {cs : List Condition} {B : Positions → List ℕ} {ys l : List ℕ} {r : OrRefusal ℕ}
-      → plan fed_at (c ys) ≡ writing cs B ys → WritesOut c w i ys r l → (γ : GName) (p : ℕ × ℕ) (t : Part) → Handed r l p t
+      → Puts c cs B ys → WritesOut c w i ys r l → (γ : GName) (p : ℕ × ℕ) (t : Part) → Handed r l p t
       → ent 𝓤 (sem 𝓛 (Ends γ p l t (drop (count_of r) l) l)) (sem 𝓛 (Ends γ p ys t (drop (length (front_of (outcome_of w i (c ys)).answer)) ys) ys))
   ends-told {ys = ys} {l} {r} puts wrote γ p t told =
       ends-alike γ p l ys t _ _ l ys (λ part is. part-behind puts wrote p part (subst (Handed r l p) is told))

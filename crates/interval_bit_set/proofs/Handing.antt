@@ -2,18 +2,19 @@
 -- slice. Assumes nothing.
 use Rattle.std.specs.Result.{IsErrAnd}
 use Rattle.model.specs.declared.Refusal.{Refusal}
-use Rattle.std.specs.Prelude.{None, Ok, Err, IfOk, IfErr}
+use Rattle.std.specs.Prelude.{Option, None, Some, Ok, Err, IfOk, IfErr}
 use Rattle.model.specs.Answers.{OrRefusal, written_answer}
-use Rattle.std.specs.Prelude.{◌≡◌, ℕ, ◌≤◌, List, length, take, drop}
-use mathlib.Core.Path.{refl, sym, ap, ◌∙◌, subst, subst₂}
+use Rattle.std.specs.Prelude.{◌≡◌, ℕ, ◌≤◌, List, [], ◌∷◌, length, take, drop}
+use mathlib.Core.Path.{refl, sym, ap, ◌∙◌, subst}
 use native.Mathlib.Omega.{arith}
 use lib.ListN.{length-append}
 use lib.Seq.{drop_at}
 use borrow.Table.Elements.{length-take-le}
 use denote.Ref.{MutBor}
-use Rattle.model.specs.Positions.{Positions}
-use Rattle.model.specs.Bytes.{into_front}
-use Rattle.model.specs.Refusals.{Condition}
+use Rattle.model.specs.declared.Edition.{Edition}
+use Rattle.model.specs.Positions.{Positions, held_runs}
+use Rattle.model.specs.Bytes.{encode, map_of, into_front}
+use Rattle.model.specs.Refusals.{window, Condition, ◌when◌, bad_window}
 use Rattle.model.specs.declared.Refusal.TheVariants.{WorldUnopened}
 use Rattle.model.specs.Model.{positions_of, plan, writing, settle, serve}
 use Rattle.store.specs.Layout.{opened_at}
@@ -67,22 +68,33 @@ pub record Tells (a : Answer) (n : ℕ) (out out' : List ℕ) : Type 0 where
 abbrev told : List ℕ → ℕ → (List ℕ → Call Site) → List ℕ → Answer
 told w i c out = (outcome_of w i (c out)).answer
 
+-- the call c with the slice out has the conditions cs, and puts the bytes B of the positions held into its front
+pub record Puts (c : List ℕ → Call Site) (cs : List Condition) (B : Positions → List ℕ) (out : List ℕ) : Type 0 where
+  pub says : plan fed_at (c out) ≡ writing cs B out
+
+pub write-set-puts : (out : List ℕ) (e : Edition) → Puts (Call.write_set e) [] (λ P. encode e (held_runs P)) out
+write-set-puts out e = record { says = refl }
+
+pub write-map-puts : (out : List ℕ) (base n : ℕ) → Puts (Call.write_map base n) (window when bad_window base n ∷ []) (λ P. map_of P base n) out
+write-map-puts out base n = record { says = refl }
+
 -- the model's answer to a call that writes is within
 settled-within : (o : Option ℕ) (P : Positions) (bs out : List ℕ) → Within out (settle o P (written (length bs) (into_front bs out)) P).answer
 settled-within None P bs out = written-within _ _ out (front-within bs out)
 settled-within (Some n) P bs out = λ m cs q. absurd (refused-not q)
 
-module _ {w : List ℕ} {i : ℕ} {c : List ℕ → Call Site} {cs : List Condition} {B : Positions → List ℕ} {out : List ℕ} (puts : plan fed_at (c out) ≡ writing cs B out) {out' : List ℕ} where
+module _ (w : List ℕ) (i : ℕ) {c : List ℕ → Call Site} {cs : List Condition} {B : Positions → List ℕ} {out : List ℕ} (puts : Puts c cs B out) where
   model-within : Within out (told w i c out)
   unfolding outcome_of serve
-  model-within = subst (λ p. Within out (serve (full_at w i) (fed_of w i) p).answer) (sym puts) (settled-within _ (positions_of (fed_of w i)) (B (positions_of (fed_of w i))) out)
+  model-within = subst (λ p. Within out (serve (full_at w i) (fed_of w i) p).answer) (sym puts.says) (settled-within _ (positions_of (fed_of w i)) (B (positions_of (fed_of w i))) out)
 
+module _ {w : List ℕ} {i : ℕ} {c : List ℕ → Call Site} {cs : List Condition} {B : Positions → List ℕ} {out : List ℕ} (puts : Puts c cs B out) {out' : List ℕ} where
   -- so what a call wrote is told by the count that it gives
   pub put-told : (n : ℕ) → WritesOut c w i out (Ok n) out' → Tells (told w i c out) n out out'
   put-told n o =
       let k : gave (written n out') ≡ (told w i c out) = o.met.answered in
-      let w = model-within n out' (sym k) in
-      subst (λ a. Tells a n out out') k (record { code = refl; front = refl; within = w.0; behind = w.1 })
+      let h = model-within w i puts n out' (sym k) in
+      subst (λ a. Tells a n out out') k (record { code = refl; front = refl; within = h.0; behind = h.1 })
 
   module _ {r : OrRefusal ℕ} (o : WritesOut c w i out r out') where
     -- the part that is handed back by the result r is in the slice

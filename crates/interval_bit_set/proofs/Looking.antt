@@ -28,7 +28,7 @@ use Rattle.soundness.proofs.Whole.{sound_b-yes, sound_b-no}
 use Rattle.interval_bit_set.specs.Met.{Site, site, short, any_is, faults, fed_of, fed_at, full_at, outcome_of, Met, Readable}
 use Rattle.interval_bit_set.specs.Look.{Checked, AllChecked, Checks, Sounds}
 use Rattle.interval_bit_set.proofs.Passing.{handed-on, met-on}
-use Rattle.interval_bit_set.proofs.Meeting.{fed-sound, fed-unopened, readable, met_by, refused-not}
+use Rattle.interval_bit_set.proofs.Meeting.{fed-unopened, readable, met_by, refused-not}
 
 -- ---- a pool that was checked
 pub checked-sound : {w : List ℕ} → Checked w → Sound w

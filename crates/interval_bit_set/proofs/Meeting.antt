@@ -3,15 +3,15 @@
 use Rattle.std.specs.Prelude.{Option, None, Some}
 use Prim.Native.Nat.{ℕ, ◌≤◌, ◌<◌}
 use mathlib.Core.Path.{◌≡◌, refl, sym, ap, ap₂, ◌∙◌, subst}
-use mathlib.Core.Bool.{Bool, true, false, cond, not}
-use mathlib.Core.List.{List, [], ◌∷◌, ◌++◌}
+use mathlib.Core.Bool.{Bool, true, false, cond}
+use mathlib.Core.List.{List, []}
 use native.Mathlib.Omega.{arith}
 use borrow.Author.Tests.{eq-eqb, ne_eqb}
 use Rattle.model.specs.Numbers.{size}
 use Rattle.model.specs.Positions.{Positions}
 use Rattle.model.specs.Refusals.{Condition, refusal}
 use Rattle.model.specs.Call.{Fed, wrong_length, unsound, unopened, Call, Result, Answer, refused, gave}
-use Rattle.model.specs.Model.{Effect, Plan, asking, plan, Outcome, settle, look, or_else, serve}
+use Rattle.model.specs.Model.{Effect, asking, plan, Outcome, settle, look, or_else, serve}
 use Rattle.model.specs.Pools.{world_of, fed_by}
 use Rattle.store.specs.declared.World.{World}
 use Rattle.store.specs.declared.Set.{Set}

@@ -14,7 +14,6 @@ use Rattle.model.specs.Bytes.{encode, edition_of, runs_told, decode, into_front}
 use Rattle.model.specs.Mending.{mended_positions, mended_set, mend_report, fates_from}
 use Rattle.model.specs.Refusals.{output_short, before_capacity, from_capacity, Condition, ◌when◌, refusal, ordered_from, shape_conditions, no_room}
 use Rattle.model.specs.Call.{Call, mended}
-use Rattle.model.specs.Model.{serve, mending}
 use Rattle.model.proofs.Runs.{held_runs-canon, mem-held_runs, stretches-cong}
 use Rattle.model.proofs.Codec.{encode-length, edition_of-encode, runs_due-encode, decode-length, decode-words, canon-ordered, intact-encode}
 use Rattle.model.proofs.RoundTrips.{unrefused-intact, held-read}
@@ -25,7 +24,7 @@ use Rattle.written.specs.Parsed.{Shaped, Acceptable}
 use Rattle.written.proofs.Telling.{shaped-runs, told-runs, accepted-stretches}
 use Rattle.lowest.specs.Mended.{Due, United}
 use Rattle.lowest.proofs.Fating.{fates-length, ordered-held, ordered-fates}
-use Rattle.interval_bit_set.specs.Met.{outcome_of, Readable}
+use Rattle.interval_bit_set.specs.Met.{Readable}
 use Rattle.interval_bit_set.specs.Out.{Mendable, Mends}
 use Rattle.interval_bit_set.proofs.Refusing.{first_alone, none_before, refused-room}
 use Rattle.interval_bit_set.proofs.Changing

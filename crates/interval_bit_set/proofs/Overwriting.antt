@@ -4,9 +4,9 @@ use Rattle.std.specs.Prelude.{Ok, Err}
 use Rattle.std.specs.Prelude.{None}
 use Rattle.model.specs.Answers.{OrRefusal}
 use Prim.Native.Nat.{ℕ, ◌≤◌, ◌<◌}
-use mathlib.Core.Path.{◌≡◌, refl, sym, ap, ap₂, ◌∙◌, subst}
+use mathlib.Core.Path.{◌≡◌, refl, sym, ap, ◌∙◌, subst}
 use mathlib.Core.Bool.{Bool, true, false, not}
-use mathlib.Core.List.{List, [], ◌∷◌, ◌++◌}
+use mathlib.Core.List.{List, ◌∷◌}
 use native.Mathlib.Omega.{arith}
 use lib.Dec.{leb}
 use borrow.Author.Tests.{leb-true, leb-false, not-true, not-false}
@@ -22,13 +22,13 @@ use Rattle.store.specs.Soundness.{share_of}
 use Rattle.store.specs.Settle.{Settled, Became, Opened, Closing, Closes}
 use Rattle.store.proofs.Parts.{lent, back}
 use Rattle.streams.specs.Gathering.{Roomy, Gathers}
-use Rattle.interval_bit_set.specs.Met.{Site, fed_of, fed_at, outcome_of, Met, Readable}
+use Rattle.interval_bit_set.specs.Met.{Site, fed_of, fed_at, Met, Readable}
 use Rattle.interval_bit_set.specs.Joined.{Carried}
 use Rattle.interval_bit_set.specs.Look.{Checked}
 use Rattle.interval_bit_set.proofs.Looking.{sound-checked}
 use Rattle.interval_bit_set.proofs.Doors.{lent-limited, lent-closing, lent-settled}
 use Rattle.interval_bit_set.proofs.Changing
-use Rattle.interval_bit_set.proofs.Changing.{ Changes, full, changes-to}
+use Rattle.interval_bit_set.proofs.Changing.{Changes, full, changes-to}
 
 -- the call c has the conditions cs, and overwrites the world by Q
 abbrev pub Overwrites : List ℕ → ℕ → Call Site → List Condition → Positions → Type 0

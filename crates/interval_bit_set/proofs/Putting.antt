@@ -14,9 +14,8 @@ use Rattle.model.specs.declared.Refusal.TheVariants.{OutputShort}
 use Rattle.model.specs.Numbers.{refusal_number}
 use Rattle.model.specs.declared.Edition.{Edition}
 use Rattle.model.specs.Positions.{Positions, held_runs, stretches}
-use Rattle.model.specs.Bytes.{encode, map_of, into_front}
+use Rattle.model.specs.Bytes.{encode, into_front}
 use Rattle.model.proofs.Codec.{encode-length}
-use Rattle.model.specs.Grid.{survey}
 use Rattle.model.specs.Refusals.{off_plane, window, output_short, Condition, ◌when◌, refusal, bad_square, bad_window, no_room}
 use Rattle.model.specs.Call.{Call, written, gave}
 use Rattle.model.specs.Model.{plan, writing, settle, serve}
@@ -24,7 +23,7 @@ use Rattle.store.specs.Layout.{held_in, held_by}
 use Rattle.store.specs.declared.World.{World}
 use Rattle.store.specs.Settle.{Opened}
 use Rattle.store.proofs.Parts.{lent}
-use Rattle.interval_bit_set.specs.Met.{Site, fed_of, fed_at, full_at, outcome_of, Met, Readable}
+use Rattle.interval_bit_set.specs.Met.{Site, fed_at, full_at, outcome_of, Met, Readable}
 use Rattle.interval_bit_set.specs.Out.{WritesOut}
 use Rattle.interval_bit_set.proofs.Doors.{lent-held, lent-limited}
 use Rattle.interval_bit_set.proofs.Meeting.{met_by, settled_same}

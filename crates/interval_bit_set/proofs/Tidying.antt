@@ -1,5 +1,5 @@
 -- A call that tidies after its work keeps its promise: the pool that it left has every world as it was. Assumes nothing.
-use Rattle.std.specs.Prelude.{Ok, Err, IfOk}
+use Rattle.std.specs.Prelude.{Ok, Err}
 use Prim.Native.Nat.{ℕ, ◌<◌}
 use mathlib.Core.Path.{◌≡◌, sym, ap, ap₂, ◌∙◌, subst}
 use mathlib.Core.List.{List}
@@ -10,7 +10,6 @@ use Rattle.model.specs.Call.{Call, Result, gave}
 use Rattle.model.specs.Answers.{OrRefusal, answer_by}
 use Rattle.model.specs.Pools.{PlainWorld}
 use Rattle.store.specs.Layout.{opened_at, floor_at, ceiling_at, held_by, plain_at, worlds_from, worlds_of}
-use Rattle.store.specs.Soundness.{Sound}
 use Rattle.store.specs.Free.{Pooled}
 use Rattle.store.specs.Settle.{Settled}
 use Rattle.store.proofs.WorldLists.{worlds-same}

@@ -76,7 +76,13 @@ fn empty_world(words: &mut [u64], world: u64) -> Result<(), Refusal>
 
 impl<'a> Pool<'a> {
     // Gives a range the value, and tells how many positions changed.
-    pub fn set(&mut self, world: u64, lower: Bound, upper: Bound, value: bool) -> Result<Count, Refusal>
+    pub fn set(
+        &mut self,
+        world: u64,
+        lower: Bound,
+        upper: Bound,
+        value: bool,
+    ) -> Result<Count, Refusal>
         ensures met { Met self.old.words.now world (Call.set lower upper value) (counted_answer result) self.new.words.now }
         ensures grows { Grows self.old.words.now world lower upper value result self.new.words.now }
         ensures same_loan { self.new.words.ghost_name ≡ self.old.words.ghost_name }
@@ -104,7 +110,13 @@ impl<'a> Pool<'a> {
     }
 
     // Gives a range the value as `set` does, and refuses a reversed one.
-    pub fn set_strict(&mut self, world: u64, lower: Bound, upper: Bound, value: bool) -> Result<Count, Refusal>
+    pub fn set_strict(
+        &mut self,
+        world: u64,
+        lower: Bound,
+        upper: Bound,
+        value: bool,
+    ) -> Result<Count, Refusal>
         ensures met { Met self.old.words.now world (Call.set_strict lower upper value) (counted_answer result) self.new.words.now }
         ensures same_loan { self.new.words.ghost_name ≡ self.old.words.ghost_name }
     {

@@ -134,10 +134,7 @@ impl<'a> Pool<'a> {
             first: Logical(first),
             last: Logical(last),
         };
-        let x = View {
-            offset: moved,
-            ..v
-        };
+        let x = View { offset: moved, ..v };
         gathered(
             self.words,
             world,
@@ -174,7 +171,8 @@ pub fn not(words: &mut [u64], world: u64, a: &[u64], i: u64) -> Result<(), Refus
 {
     let worn = crate::pool::check_two(words, a)?;
     let mut pool = Pool { words };
-    let answer = pool.not(world, PoolRef { words: a }, i);
+    let x = PoolRef { words: a };
+    let answer = pool.not(world, x, i);
     pool.end(worn, answer)
 }
 
@@ -191,7 +189,8 @@ pub fn shifted(
 {
     let worn = crate::pool::check_two(words, a)?;
     let mut pool = Pool { words };
-    let answer = pool.shifted(world, distance, left, PoolRef { words: a }, i);
+    let x = PoolRef { words: a };
+    let answer = pool.shifted(world, distance, left, x, i);
     pool.end(worn, answer)
 }
 
@@ -201,5 +200,6 @@ pub fn eq(a: &[u64], i: u64, b: &[u64], j: u64) -> Result<bool, Refusal>
 {
     crate::pool::check_two(a, b)?;
     let x = PoolRef { words: a };
-    x.eq(i, PoolRef { words: b }, j)
+    let y = PoolRef { words: b };
+    x.eq(i, y, j)
 }

@@ -26,7 +26,13 @@ impl<'a> PoolRef<'a> {
     }
 
     // An empty range or a reversed one has no position.
-    pub fn find(self, world: u64, lower: Bound, upper: Bound, value: bool) -> Result<Option<u64>, Refusal>
+    pub fn find(
+        self,
+        world: u64,
+        lower: Bound,
+        upper: Bound,
+        value: bool,
+    ) -> Result<Option<u64>, Refusal>
         ensures { Met self.entry.words.now world (Call.find lower upper value) (found_answer result) self.entry.words.now }
     {
         let set = self.set(world)?;
@@ -37,7 +43,13 @@ impl<'a> PoolRef<'a> {
     }
 
     // An empty range or a reversed one has no position and no run.
-    pub fn tally(self, world: u64, lower: Bound, upper: Bound, value: bool) -> Result<Tally, Refusal>
+    pub fn tally(
+        self,
+        world: u64,
+        lower: Bound,
+        upper: Bound,
+        value: bool,
+    ) -> Result<Tally, Refusal>
         ensures { Met self.entry.words.now world (Call.tally lower upper value) (tallied_answer result) self.entry.words.now }
     {
         let set = self.set(world)?;
@@ -100,7 +112,13 @@ impl<'a> PoolRef<'a> {
     }
 
     // A listing is the range itself, from its first position to its last.
-    pub fn ranges(self, world: u64, lower: Bound, upper: Bound, value: bool) -> Result<Listing, Refusal>
+    pub fn ranges(
+        self,
+        world: u64,
+        lower: Bound,
+        upper: Bound,
+        value: bool,
+    ) -> Result<Listing, Refusal>
         ensures { Met self.entry.words.now world (Call.ranges lower upper value) (listed_answer result) self.entry.words.now }
     {
         self.opened(world)?;

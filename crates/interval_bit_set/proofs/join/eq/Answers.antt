@@ -9,3 +9,6 @@ returns-in_err-check_two c = fault-of _ (site c.args.b.now c.args.j ∷ []) _ c.
 
 pub invariant_of-x : goal.invariant_of-x
 invariant_of-x c = record { checked = c.in_ok-check_two.ensures.0.0 }
+
+pub invariant_of-y : goal.invariant_of-y
+invariant_of-y c = record { checked = c.in_ok-check_two.ensures.0.1.0 }

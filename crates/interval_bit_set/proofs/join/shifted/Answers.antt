@@ -12,8 +12,8 @@ returns-in_err-worn c = fault-of _ (site c.args.a.now c.args.i ∷ []) _ c.from_
 pub invariant_of-pool : goal.invariant_of-pool
 invariant_of-pool c = record { checked = c.in_ok-worn.ensures.0.0 }
 
-pub invariant_of-arg : goal.invariant_of-arg
-invariant_of-arg c = record { checked = c.in_ok-worn.ensures.0.1.0 }
+pub invariant_of-x : goal.invariant_of-x
+invariant_of-x c = record { checked = c.in_ok-worn.ensures.0.1.0 }
 
 pub returns : goal.returns
 returns c = search (rules, met-after (λ _. done) _ c.in_ok-worn.ensures.0.0 c.shifted-answer.ensures.met c.end.ensures.ended)

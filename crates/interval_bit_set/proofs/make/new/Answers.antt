@@ -10,9 +10,6 @@ pub returns-then-not-limits_fit : goal.returns-then-not-limits_fit
 returns-then-not-limits_fit c =
     make-refused _ _ (omega (arith, c.of_length-s.ensures, c.if-s-eq0.false)) (limits-bad _ c.limits_fit.ensures c.of_length-s.ensures (ap not c.if-not-limits_fit.true))
 
-pub make-requires : goal.make-requires
-make-requires c = ?
-
 pub returns : goal.returns
 returns c =
     make-done _ _ _ (omega (arith, c.of_length-s.ensures, c.if-s-eq0.false)) (limits-good _ c.limits_fit.ensures c.of_length-s.ensures (ap not c.if-not-limits_fit.false)) c.make.ensures

@@ -1,7 +1,7 @@
 -- `written_map` meets its contract: a walk of the code by hand. The slice is lent again to `write_map` and comes back as that left it, and then goes
 -- to `handed` for good. All that is known of the two is their contracts. Assumes nothing but the logic's own laws.
 use Prim.Native.Nat.{ℕ, ◌<◌, ◌^◌}
-use mathlib.Core.Path.{◌≡◌, refl, ap, subst}
+use mathlib.Core.Path.{refl, ap, subst}
 use mathlib.Core.List.{List, [], ◌∷◌, ◌++◌}
 use lib.ListN.{length, drop as behind}
 use seplogic.Ra.Ura.{Ura}
@@ -41,15 +41,12 @@ use denote.Triple.Walked.{Stays, stay_dropped, walk_of, ends_at, Goes-dropped, G
 use Rattle.std.proofs.raw_atomic.Walks.{proved}
 use Rattle.model.specs.Answers.{OrRefusal}
 use Rattle.model.specs.Call.{Call, Answer}
-use Rattle.model.specs.Bytes.{map_of}
-use Rattle.model.specs.Refusals.{window, ◌when◌, bad_window}
-use Rattle.model.specs.Model.{plan, writing}
-use Rattle.interval_bit_set.specs.Met.{fed_at, outcome_of}
+use Rattle.interval_bit_set.specs.Met.{outcome_of}
 use Rattle.interval_bit_set.specs.Out.{WritesOut}
 use Rattle.model.specs.contracts.Refusal as F
 use Rattle.std.specs.contracts.result.Result as R
-use Rattle.interval_bit_set.specs.Out.{front_of, count_of, Part, Handed}
-use Rattle.interval_bit_set.proofs.Handing.{part-within, part-refused, part-filled}
+use Rattle.interval_bit_set.specs.Parts.{front_of, count_of, Part, Handed}
+use Rattle.interval_bit_set.proofs.Handing.{write-map-puts, part-within, part-refused, part-filled}
 use Rattle.interval_bit_set.proofs.Lending.{at-list, Slice, Kept-again, lends-again, comes-back}
 use Rattle.interval_bit_set.proofs.Counted.{Counted, counted, made}
 use Rattle.interval_bit_set.proofs.HandedOn.{Row, Ends, ends-told, says-two, Contracted, to-handed, goes-handed}
@@ -114,7 +111,7 @@ module _ {M : Type 1} (𝓤 : Ura M) (𝓛 : Logic 𝓤) (𝓜 : Model 𝓤 𝓛
     exits : (t : Part) (v : Val) → Handed r l (b, o) t
         → ent 𝓤 (sep 𝓤 (sem 𝓛 (Out.own_val t (v ∷ []))) (sep 𝓤 (sem 𝓛 (Ends γ (b, o) l t (behind (count_of r) l) l)) (sep 𝓤 (sep 𝓤 (A.lft κ' q') (sem 𝓛 ftrue)) (A.lft κ q)))) (Post v)
     exits t v told =
-        let puts : plan fed_at (Call.write_map base n ys) ≡ writing (window when bad_window base n ∷ []) (λ P. map_of P base n) ys = refl in
+        let puts = write-map-puts ys base n in
         qed 𝓛 (‵ (Out.own_val t (v ∷ [])) ∷ ‵ (Ends γ (b, o) l t (behind (count_of r) l) l) ∷ (‵ (flft κ' q') ⊛ ‵ ftrue) ∷ ‵ (flft κ q) ∷ []) ∵ move ! (1 ∷ []) $
         use1 𝓛 (‵ (Ends γ (b, o) ys t (behind (length (front_of answer)) ys) ys)) (ends-told 𝓛 puts wrote γ (b, o) t told) $
         suffices ! _ (ends_at 𝓛 f.ended stayed (f.clauses 𝓛 𝓜.mem 𝓡.returns) bound v t (tt, (tt, (tt, (tt, (tt, tt))))) (tt, (tt, (tt, (tt, (tt, tt)))))) $
@@ -162,7 +159,7 @@ module _ {M : Type 1} (𝓤 : Ura M) (𝓛 : Logic 𝓤) (𝓜 : Model 𝓤 𝓛
       sets ! (agg ! (and_then ! (get ! refl) (and_then ! (get_in ! (fld ! refl (stop !)) (sub ! 1 refl (whole !))) (no_more !)))) refl (tt, (tt, (record { fits = room.0 }, tt))) $
       let N = Contracted 𝓛 𝓜.mem 𝓡.returns κ' q' b o γ ls (length ys) r in
       let z : N.Ghost = to-handed 𝓛 𝓜.mem 𝓡.returns κ' q' b o γ ls (length ys) r in
-      move ! (2 ∷ 1 ∷ 0 ∷ []) $ use3 𝓛 (raw (N.pre z)) (goes-handed 𝓛 𝓜.mem 𝓡.returns κ' q' b o γ ls (length ys) r (part-within refl wrote)) $
+      move ! (2 ∷ 1 ∷ 0 ∷ []) $ use3 𝓛 (raw (N.pre z)) (goes-handed 𝓛 𝓜.mem 𝓡.returns κ' q' b o γ ls (length ys) r (part-within (write-map-puts ys base n) wrote)) $
       calls_at ! (framed 𝓤 H 𝓜 (tables 𝓤 H 𝓜 𝓡 𝓡.env)) N (h'.met 𝓤 𝓛 𝓜 𝓡 (code.calls-interval_bit_set::write::handed 𝓡.env wired)) z
       (and_then ! (get ! refl) (and_then ! (get ! refl) (no_more !))) (λ v.
       use1 𝓛 (later (some (λ (t : Part). ((‵ (flft κ' q') ⊛ ‵ ftrue) ⊛ ‵ (Out.own_val t (v ∷ []))) ⊛

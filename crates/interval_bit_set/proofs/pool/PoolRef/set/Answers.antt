@@ -1,5 +1,4 @@
 -- A world that was opened can be opened. Assumes nothing.
-use mathlib.Core.Path.{refl}
 use Rattle.interval_bit_set.proofs.Looking.{openable}
 use Rattle.interval_bit_set.proofs.pool.PoolRef.set.Goals as goal
 
