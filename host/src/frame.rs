@@ -177,15 +177,8 @@ impl From<(u64, Call)> for CallRecord {
     fn from((world, call): (u64, Call)) -> CallRecord {
         let none = CallRecord { world, ..CallRecord::default() };
         let over = |call, r: Range| {
-            let (lower, upper) = crate::bounds(r);
-            CallRecord {
-                call,
-                lower_kind: lower.kind,
-                lower: lower.value,
-                upper_kind: upper.kind,
-                upper: upper.value,
-                ..none
-            }
+            let [lower_kind, lower, upper_kind, upper] = crate::numbers(r);
+            CallRecord { call, lower_kind, lower, upper_kind, upper, ..none }
         };
         let of_range = |call, r, value: bool| CallRecord { value: value.into(), ..over(call, r) };
         let of_rect = |call, Rect { top, left, bottom, right }: Rect| CallRecord {

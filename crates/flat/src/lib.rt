@@ -1,14 +1,15 @@
-// Every answer laid flat, as numbers: once for the records of a frame and for the structs that cross to C. And what the numbers mean that come
+// Every answer laid flat, as numbers: once for the records of a frame and for the record that crosses to C. And what the numbers mean that come
 // in as a bound.
 // C and the records have words alone: so kinds, refusals and whether something was found are numbers here, and enums and Options on the other side.
 #![tactic(auto)]
 
 ghost use Rattle.std.specs.Prelude.{◌≡◌, []};
-ghost use Rattle.model.specs.Answers.{answer_by};
+ghost use Rattle.model.specs.Answers.{answer_by, completed_answer};
 ghost use Rattle.model.specs.Range.{bound_by};
 ghost use Rattle.model.specs.Numbers.{worth, refusal_number};
 ghost use Rattle.model.specs.Call.{Result, gave, done, number, tallied, value, around, position, listing, drawn, written, mended};
 ghost use Rattle.flat.specs.Flat.{result_reply, reply_of};
+ghost use Rattle.flat.specs.Records.{words_of, code_of, recorded};
 
 use model::{Bound, Count, Drawn, Listing, Mended, Refusal, Run, Tally};
 
@@ -25,6 +26,17 @@ pub struct Reply {
     pub first: u64,
     pub last: u64,
     pub value: u64,
+}
+
+// The record of eight words: its fields in their order, and a 0.
+impl From<Reply> for [u64; 8] {
+    ghost from_gives = { λ r ws. ws ≡ words_of r };
+
+    fn from(r: Reply) -> [u64; 8] {
+        [
+            r.refusal, r.found, r.number, r.end, r.first, r.last, r.value, 0,
+        ]
+    }
 }
 
 // A bound: kind 1 includes the value, 2 excludes it, and any other has no bound.
@@ -60,6 +72,30 @@ pub fn lay<T: Gift>(answer: Result<T, Refusal>) -> Reply
             ..Reply::default()
         },
         Ok(x) => x.laid(),
+    }
+}
+
+// The number of an answer, its refusal's or 0, of a call that gives nothing.
+pub fn code(answer: Result<(), Refusal>) -> u64
+    ensures { result ≡ code_of (completed_answer answer) }
+{
+    match answer {
+        Err(r) => u64::from(r),
+        Ok(()) => 0,
+    }
+}
+
+// The number of an answer; what it gives goes into a lent record, and a refusal leaves that as it was.
+pub fn record<T: Gift>(answer: Result<T, Refusal>, out: &mut [u64; 8]) -> u64
+    ensures number { result ≡ code_of (answer_by (λ x. gave (T.given x)) answer) }
+    ensures record_ { out.new ≡ recorded (answer_by (λ x. gave (T.given x)) answer) out.old }
+{
+    match answer {
+        Err(r) => u64::from(r),
+        Ok(x) => {
+            *out = x.laid().into();
+            0
+        }
     }
 }
 
