@@ -1,9 +1,9 @@
 -- What crosses to C: each struct is a part of a reply, and each field of it a field of the reply. Assumes nothing: these are definitions.
 use Rattle.std.specs.Prelude.{ℕ}
-use Rattle.model.specs.Ends.{Bound}
+use Rattle.model.specs.declared.between.Range.{Range}
 use Rattle.model.specs.declared.Rect.{Rect}
 use Rattle.flat.specs.declared.Reply.{Reply}
-use Rattle.model.specs.Range.{bound_by}
+use Rattle.model.specs.Range.{range_by}
 use Rattle.exports.specs.declared.structs.CBound.{CBound}
 use Rattle.exports.specs.declared.structs.CRect.{CRect}
 use Rattle.exports.specs.declared.structs.CCounted.{CCounted}
@@ -19,8 +19,9 @@ use Rattle.exports.specs.declared.structs.CMended.{CMended}
 use Rattle.exports.specs.declared.structs.CWorded.{CWorded}
 
 -- ---- what comes in
-abbrev pub bound_of : CBound → Bound
-bound_of b = bound_by b.kind b.value
+-- a range between two bounds
+abbrev pub range_of : CBound → CBound → Range
+range_of l u = range_by l.kind l.value u.kind u.value
 
 abbrev pub rect_of : CRect → Rect
 rect_of q = record { top = q.top; left = q.left; bottom = q.bottom; right = q.right }

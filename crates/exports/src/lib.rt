@@ -15,13 +15,14 @@ ghost use Rattle.promises.specs.Met.{site};
 ghost use Rattle.interval_bit_set.specs.Lent.{listing_of};
 ghost use Rattle.model.specs.Positions.{operation_of};
 ghost use Rattle.flat.specs.Flat.{truth};
-ghost use Rattle.exports.specs.Structs.{bound_of, refusal_of, count_of, number_of, tallied_of, value_of, run_of, position_of, listed_of, drawn_of, written_of, worded_of, rect_of};
+ghost use Rattle.exports.specs.Structs.{range_of, refusal_of, count_of, number_of, tallied_of, value_of, run_of, position_of, listed_of, drawn_of, written_of, worded_of, rect_of};
 ghost use Rattle.exports.specs.Returns.{Makes, Returns, Writes, MendsFlat, Measures, Handed, Frames};
 
 use crate::structs::{
     CAround, CBound, CCounted, CDrawn, CFound, CListed, CMended, CNumbered, CRect, CTallied,
     CTested, CWorded, CWritten,
 };
+use model::between::Range;
 use model::{Edition, Listing, Operation};
 
 pub mod structs;
@@ -43,15 +44,10 @@ pub extern "C" fn vizturel_set(
     upper: CBound,
     value: u64,
 ) -> CCounted
-    ensures { Returns words.old world (Call.set (bound_of lower) (bound_of upper) (truth value)) count_of result words.new }
+    ensures { let range = range_of lower upper in Returns words.old world (Call.set range.lower range.upper (truth value)) count_of result words.new }
 {
-    flat::lay(interval_bit_set::change::set(
-        words,
-        world,
-        lower.into(),
-        upper.into(),
-        value != 0,
-    )).into()
+    let Range { lower, upper } = structs::range(lower, upper);
+    flat::lay(interval_bit_set::change::set(words, world, lower, upper, value != 0)).into()
 }
 
 // Gives the cells of a rectangle the value, and tells how many changed.
@@ -70,9 +66,10 @@ pub extern "C" fn vizturel_set_rect(
 // Inverts a range.
 #[unsafe(no_mangle)]
 pub extern "C" fn vizturel_flip(words: &mut [u64], world: u64, lower: CBound, upper: CBound) -> u64
-    ensures { Returns words.old world (Call.flip (bound_of lower) (bound_of upper)) refusal_of result words.new }
+    ensures { let range = range_of lower upper in Returns words.old world (Call.flip range.lower range.upper) refusal_of result words.new }
 {
-    flat::lay(interval_bit_set::change::flip(words, world, lower.into(), upper.into())).refusal
+    let Range { lower, upper } = structs::range(lower, upper);
+    flat::lay(interval_bit_set::change::flip(words, world, lower, upper)).refusal
 }
 
 // Gives a range the value as `vizturel_set` does, and refuses a reversed one.
@@ -84,15 +81,10 @@ pub extern "C" fn vizturel_set_strict(
     upper: CBound,
     value: u64,
 ) -> CCounted
-    ensures { Returns words.old world (Call.set_strict (bound_of lower) (bound_of upper) (truth value)) count_of result words.new }
+    ensures { let range = range_of lower upper in Returns words.old world (Call.set_strict range.lower range.upper (truth value)) count_of result words.new }
 {
-    flat::lay(interval_bit_set::change::set_strict(
-        words,
-        world,
-        lower.into(),
-        upper.into(),
-        value != 0,
-    )).into()
+    let Range { lower, upper } = structs::range(lower, upper);
+    flat::lay(interval_bit_set::change::set_strict(words, world, lower, upper, value != 0)).into()
 }
 
 // Inverts a range as `vizturel_flip` does, and refuses a reversed one.
@@ -103,14 +95,10 @@ pub extern "C" fn vizturel_flip_strict(
     lower: CBound,
     upper: CBound,
 ) -> u64
-    ensures { Returns words.old world (Call.flip_strict (bound_of lower) (bound_of upper)) refusal_of result words.new }
+    ensures { let range = range_of lower upper in Returns words.old world (Call.flip_strict range.lower range.upper) refusal_of result words.new }
 {
-    flat::lay(interval_bit_set::change::flip_strict(
-        words,
-        world,
-        lower.into(),
-        upper.into(),
-    )).refusal
+    let Range { lower, upper } = structs::range(lower, upper);
+    flat::lay(interval_bit_set::change::flip_strict(words, world, lower, upper)).refusal
 }
 
 // Moves every position by the distance: up (left) where `left` is not 0, else down.
@@ -146,15 +134,10 @@ pub extern "C" fn vizturel_find(
     upper: CBound,
     value: u64,
 ) -> CFound
-    ensures { Returns words.now world (Call.find (bound_of lower) (bound_of upper) (truth value)) position_of result words.now }
+    ensures { let range = range_of lower upper in Returns words.now world (Call.find range.lower range.upper (truth value)) position_of result words.now }
 {
-    flat::lay(interval_bit_set::report::find(
-        words,
-        world,
-        lower.into(),
-        upper.into(),
-        value != 0,
-    )).into()
+    let Range { lower, upper } = structs::range(lower, upper);
+    flat::lay(interval_bit_set::report::find(words, world, lower, upper, value != 0)).into()
 }
 
 // How many positions of a range have the value, and in how many runs.
@@ -166,15 +149,10 @@ pub extern "C" fn vizturel_tally(
     upper: CBound,
     value: u64,
 ) -> CTallied
-    ensures { Returns words.now world (Call.tally (bound_of lower) (bound_of upper) (truth value)) tallied_of result words.now }
+    ensures { let range = range_of lower upper in Returns words.now world (Call.tally range.lower range.upper (truth value)) tallied_of result words.now }
 {
-    flat::lay(interval_bit_set::report::tally(
-        words,
-        world,
-        lower.into(),
-        upper.into(),
-        value != 0,
-    )).into()
+    let Range { lower, upper } = structs::range(lower, upper);
+    flat::lay(interval_bit_set::report::tally(words, world, lower, upper, value != 0)).into()
 }
 
 // The tally of a range as `vizturel_tally` gives it, and a reversed one is refused.
@@ -186,15 +164,10 @@ pub extern "C" fn vizturel_tally_strict(
     upper: CBound,
     value: u64,
 ) -> CTallied
-    ensures { Returns words.now world (Call.tally_strict (bound_of lower) (bound_of upper) (truth value)) tallied_of result words.now }
+    ensures { let range = range_of lower upper in Returns words.now world (Call.tally_strict range.lower range.upper (truth value)) tallied_of result words.now }
 {
-    flat::lay(interval_bit_set::report::tally_strict(
-        words,
-        world,
-        lower.into(),
-        upper.into(),
-        value != 0,
-    )).into()
+    let Range { lower, upper } = structs::range(lower, upper);
+    flat::lay(interval_bit_set::report::tally_strict(words, world, lower, upper, value != 0)).into()
 }
 
 // The position of a range that has the value and exactly k such positions before it.
@@ -207,16 +180,10 @@ pub extern "C" fn vizturel_select(
     value: u64,
     k: u64,
 ) -> CFound
-    ensures { Returns words.now world (Call.select (bound_of lower) (bound_of upper) (truth value) k) position_of result words.now }
+    ensures { let range = range_of lower upper in Returns words.now world (Call.select range.lower range.upper (truth value) k) position_of result words.now }
 {
-    flat::lay(interval_bit_set::report::select(
-        words,
-        world,
-        lower.into(),
-        upper.into(),
-        value != 0,
-        k,
-    )).into()
+    let Range { lower, upper } = structs::range(lower, upper);
+    flat::lay(interval_bit_set::report::select(words, world, lower, upper, value != 0, k)).into()
 }
 
 // The lowest start of n neighbouring positions of a range that are all free.
@@ -228,9 +195,10 @@ pub extern "C" fn vizturel_gap(
     upper: CBound,
     n: u64,
 ) -> CFound
-    ensures { Returns words.now world (Call.gap (bound_of lower) (bound_of upper) n) position_of result words.now }
+    ensures { let range = range_of lower upper in Returns words.now world (Call.gap range.lower range.upper n) position_of result words.now }
 {
-    flat::lay(interval_bit_set::report::gap(words, world, lower.into(), upper.into(), n)).into()
+    let Range { lower, upper } = structs::range(lower, upper);
+    flat::lay(interval_bit_set::report::gap(words, world, lower, upper, n)).into()
 }
 
 // A listing of the runs of the value in a range.
@@ -242,15 +210,10 @@ pub extern "C" fn vizturel_ranges(
     upper: CBound,
     value: u64,
 ) -> CListed
-    ensures { Returns words.now world (Call.ranges (bound_of lower) (bound_of upper) (truth value)) listed_of result words.now }
+    ensures { let range = range_of lower upper in Returns words.now world (Call.ranges range.lower range.upper (truth value)) listed_of result words.now }
 {
-    flat::lay(interval_bit_set::report::ranges(
-        words,
-        world,
-        lower.into(),
-        upper.into(),
-        value != 0,
-    )).into()
+    let Range { lower, upper } = structs::range(lower, upper);
+    flat::lay(interval_bit_set::report::ranges(words, world, lower, upper, value != 0)).into()
 }
 
 // Draws the first run that is left in a listing.

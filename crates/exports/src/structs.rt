@@ -3,12 +3,13 @@
 // C has numbers for kinds and refusals, and no enum that carries a value; it reads fields by name, so answers of one shape are structs of their own,
 // each with its From.
 ghost use Rattle.std.specs.Prelude.{◌≡◌};
-ghost use Rattle.exports.specs.Structs.{bound_of, count_of, number_of, tallied_of, value_of, run_of, position_of, listed_of, drawn_of, written_of, mended_of, worded_of, rect_of};
+ghost use Rattle.exports.specs.Structs.{range_of, count_of, number_of, tallied_of, value_of, run_of, position_of, listed_of, drawn_of, written_of, mended_of, worded_of, rect_of};
 
 use flat::Reply;
-use model::{Bound, Rect};
+use model::Rect;
+use model::between::Range;
 
-// One end of a range: kind 1 includes the value, 2 excludes it, and any other has no bound.
+// One end of a range: kind 1 includes the value, 2 excludes it, and 3 is no bound.
 #[repr(C)]
 #[derive(Clone, Copy)]
 pub struct CBound {
@@ -126,13 +127,12 @@ pub struct CMended {
     pub report: u64,
 }
 
-// The bound that C hands in.
-impl From<CBound> for Bound {
-    ghost from_gives = { λ b c. c ≡ bound_of b };
-
-    fn from(b: CBound) -> Bound {
-        flat::bound(b.kind, b.value)
-    }
+// The range between two bounds that C hands in, of both at once: a kind that is not named empties it at either end.
+// No From: a pair would not say which of them is the lower one.
+pub fn range(lower: CBound, upper: CBound) -> Range
+    ensures { result ≡ range_of lower upper }
+{
+    flat::range(lower.kind, lower.value, upper.kind, upper.value)
 }
 
 // The rectangle that C hands in.
