@@ -39,11 +39,12 @@ uint64_t WRAP(build)(uint64_t *words, size_t count, uint64_t world, const uint64
 uint64_t WRAP(build)(uint64_t *words, size_t count, uint64_t world, const uint64_t *runs, size_t runs_count) {
     return runs_count % 2 ? VIZTUREL_RUN_ORDER : REAL(build)(words, count, world, runs, runs_count);
 }
-#elif WRONG == 6 /* a reserved kind of a bound includes */
+#elif WRONG == 6 /* a reserved kind is no bound */
 vizturel_found REAL(find)(const uint64_t *words, size_t count, uint64_t world, vizturel_bound l, vizturel_bound h, uint64_t value);
 vizturel_found WRAP(find)(const uint64_t *words, size_t count, uint64_t world, vizturel_bound l, vizturel_bound h, uint64_t value);
 vizturel_found WRAP(find)(const uint64_t *words, size_t count, uint64_t world, vizturel_bound l, vizturel_bound h, uint64_t value) {
-    if (l.kind > 2) l.kind = VIZTUREL_INCLUDED;
+    if (l.kind < VIZTUREL_INCLUDED || l.kind > VIZTUREL_UNBOUNDED) l.kind = VIZTUREL_UNBOUNDED;
+    if (h.kind < VIZTUREL_INCLUDED || h.kind > VIZTUREL_UNBOUNDED) h.kind = VIZTUREL_UNBOUNDED;
     return REAL(find)(words, count, world, l, h, value);
 }
 #endif
