@@ -63,8 +63,12 @@
  *
  * RESERVED NUMBERS. Where numbers have names here (call numbers, kinds of bounds, operations, editions), the named ones stay as they are. The call
  * numbers 7 and 9 are withdrawn and stay so: such a record is answered with 12, whatever world it names, and not as another call. All other
- * numbers are reserved: a later version may give them a meaning. This version takes a reserved call number for a get, a reserved kind for no
- * bound, a reserved operation for XOR and a reserved edition for rows. Do not rely on it.
+ * numbers are reserved: a later version may give them a meaning. This version takes a reserved call number for a get, a range with a bound of a
+ * reserved kind for an empty one, a reserved operation for XOR and a reserved edition for rows. Do not rely on it.
+ *
+ * One named number is another one than in earlier versions, and the only one: VIZTUREL_UNBOUNDED is 3, and was 0. 0 is a reserved kind, so a bound
+ * that nobody filled in selects no position, where it selected all of them. Whoever uses the name or vizturel_unbounded compiles anew; whoever writes
+ * kinds as numbers, in records or stored lists, writes 3 for no bound.
  *
  * Link libvizturel.a, for x86-64 Linux: `make lib` writes it to target/lib/, and this header to target/include/. Take both from one build: structs
  * and signatures are that build's. Of a C library it needs memset, memmove and memcpy alone. What is exported is at the end of this header, under names
@@ -111,16 +115,17 @@ enum vizturel_refusal {
     VIZTUREL_NOT_REFUSED = 16
 };
 
-/* Kinds of bounds: none, one that includes its value, one that excludes it. Other numbers are reserved. */
+/* Kinds of bounds: one that includes its value, one that excludes it, none. Other numbers, 0 among them, are reserved. */
 enum vizturel_bound_kind {
-    VIZTUREL_UNBOUNDED = 0,
     VIZTUREL_INCLUDED = 1,
-    VIZTUREL_EXCLUDED = 2
+    VIZTUREL_EXCLUDED = 2,
+    VIZTUREL_UNBOUNDED = 3
 };
 
 /* One end of a range. Let s be the first position that the lower bound allows, possibly 2^64, and e the last that the upper one allows, possibly
  * -1: the range is empty if s = e + 1, and reversed if s exceeds e + 1. Neither is a mistake: they change nothing, count 0, list nothing and find
- * none. The strict calls refuse a reversed range, and take an empty one. */
+ * none. The strict calls refuse a reversed range, and take an empty one. A range is also empty, and not reversed, if the kind of either bound is
+ * reserved, as that of a zeroed bound is: such a call is refused for nothing that an empty range is not. */
 typedef struct {
     uint64_t kind;
     uint64_t value;

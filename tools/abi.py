@@ -41,7 +41,7 @@ NUMBERS = {
 }
 # the lines that make of numbers what the function called takes
 MADE = {
-    "range": ["let lower = flat::bound(lower_kind, lower);", "let upper = flat::bound(upper_kind, upper);"],
+    "range": ["let Range { lower, upper } = flat::range(lower_kind, lower, upper_kind, upper);"],
     "rect": ["let rect = Rect {", "    top,", "    left,", "    bottom,", "    right,", "};"],
     "listing": ["let listing = Listing {", "    first,", "    last,", "    value: value != 0,", "};"],
     "operation": ["let {0} = Operation::from({0});"],
@@ -49,7 +49,7 @@ MADE = {
 }
 PASSED = {"range": ["lower", "upper"], "truth": ["{0} != 0"], "site": ["{0}", "{0}_world"]}
 SAID = {
-    "range": ["(bound_by lower_kind lower)", "(bound_by upper_kind upper)"],
+    "range": ["range.lower", "range.upper"],
     "rect": ["(rect_of top left bottom right)"],
     "listing": ["(listing_of first last (truth value))"],
     "truth": ["(truth {0})"],
@@ -145,7 +145,7 @@ ghost use Rattle.std.specs.Prelude.{◌/◌, length};
 ghost use Rattle.written.specs.Listed.{pairs};
 ghost use Rattle.model.specs.Call.{Call, Measure};
 ghost use Rattle.model.specs.Pools.{limits_of};
-ghost use Rattle.model.specs.Range.{bound_by};
+ghost use Rattle.model.specs.Range.{range_by};
 ghost use Rattle.model.specs.Bytes.{edition_by};
 ghost use Rattle.model.specs.Clearing.{clear_map};
 ghost use Rattle.model.specs.Converting.{convert};
@@ -155,6 +155,7 @@ ghost use Rattle.model.specs.Positions.{operation_of};
 ghost use Rattle.flat.specs.Flat.{truth};
 ghost use Rattle.exports.specs.Returns.{CONTRACTS};
 
+use model::between::Range;
 use model::{Edition, Listing, Operation, Rect};
 """
 
@@ -190,7 +191,8 @@ def contract(call):
         parts.append("words.new")
     elif call.contract == "Returns":
         parts.append("words.now")
-    return " ".join(parts)
+    range_ = "let range = range_by lower_kind lower upper_kind upper in " if "range" in kinds.values() else ""
+    return range_ + " ".join(parts)
 
 
 def called(call):

@@ -297,7 +297,8 @@ impl Piece {
 const _: () = assert!(size_of::<Piece>() == 8 * Piece::WORDS && align_of::<Piece>() == 8);
 
 /// A range of a list, as the library reads it: see `vizturel_range` in `include/vizturel.h`. [`RangeRecord::new`] makes it of any range, and it
-/// is one itself, so that it can be set. Kinds above 2 are reserved; this version takes them for no bound.
+/// is one itself, so that it can be set. Kind 1 includes the value, 2 excludes it, 3 is no bound. Other kinds, 0 among them, are reserved; this
+/// version takes a range with such a bound for an empty one, as [`RangeRecord::default`] is.
 #[repr(C)]
 #[derive(Clone, Copy, Debug, Default, PartialEq, Eq)]
 pub struct RangeRecord {
@@ -316,15 +317,23 @@ impl RangeRecord {
         let [lower_kind, lower, upper_kind, upper] = numbers(range);
         RangeRecord { lower_kind, lower, upper_kind, upper }
     }
+
+    // Both at once: a reserved kind empties the range at either end.
+    fn ends(&self) -> (Bound<&u64>, Bound<&u64>) {
+        match (bound_of(self.lower_kind, &self.lower), bound_of(self.upper_kind, &self.upper)) {
+            (Some(lower), Some(upper)) => (lower, upper),
+            _ => (Bound::Included(&0), Bound::Excluded(&0)),
+        }
+    }
 }
 
 impl RangeBounds<u64> for RangeRecord {
     fn start_bound(&self) -> Bound<&u64> {
-        bound_of(self.lower_kind, &self.lower)
+        self.ends().0
     }
 
     fn end_bound(&self) -> Bound<&u64> {
-        bound_of(self.upper_kind, &self.upper)
+        self.ends().1
     }
 }
 
@@ -464,18 +473,19 @@ fn numbers(range: impl RangeBounds<u64>) -> [u64; 4] {
     let of = |bound| match bound {
         Bound::Included(&v) => (1, v),
         Bound::Excluded(&v) => (2, v),
-        Bound::Unbounded => (0, 0),
+        Bound::Unbounded => (3, 0),
     };
     let ((lower_kind, lower), (upper_kind, upper)) = (of(range.start_bound()), of(range.end_bound()));
     [lower_kind, lower, upper_kind, upper]
 }
 
-// What a kind and a value mean.
-fn bound_of(kind: u64, value: &u64) -> Bound<&u64> {
+// What a kind and a value mean, where the kind is not reserved.
+fn bound_of(kind: u64, value: &u64) -> Option<Bound<&u64>> {
     match kind {
-        1 => Bound::Included(value),
-        2 => Bound::Excluded(value),
-        _ => Bound::Unbounded,
+        1 => Some(Bound::Included(value)),
+        2 => Some(Bound::Excluded(value)),
+        3 => Some(Bound::Unbounded),
+        _ => None,
     }
 }
 

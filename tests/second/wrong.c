@@ -45,14 +45,15 @@ uint64_t WRAP(build)(uint64_t *words, size_t count, uint64_t world, const uint64
 uint64_t WRAP(build)(uint64_t *words, size_t count, uint64_t world, const uint64_t *runs, size_t runs_count) {
     return runs_count % 2 ? VIZTUREL_RUN_ORDER : REAL(build)(words, count, world, runs, runs_count);
 }
-#elif WRONG == 6 /* a reserved kind of a bound includes */
+#elif WRONG == 6 /* a reserved kind is no bound */
 uint64_t REAL(find)(const uint64_t *words, size_t count, uint64_t world, uint64_t lower_kind, uint64_t lower, uint64_t upper_kind, uint64_t upper,
                     uint64_t value, uint64_t *answer);
 uint64_t WRAP(find)(const uint64_t *words, size_t count, uint64_t world, uint64_t lower_kind, uint64_t lower, uint64_t upper_kind, uint64_t upper,
                     uint64_t value, uint64_t *answer);
 uint64_t WRAP(find)(const uint64_t *words, size_t count, uint64_t world, uint64_t lower_kind, uint64_t lower, uint64_t upper_kind, uint64_t upper,
                     uint64_t value, uint64_t *answer) {
-    if (lower_kind > 2) lower_kind = VIZTUREL_INCLUDED;
+    if (lower_kind < VIZTUREL_INCLUDED || lower_kind > VIZTUREL_UNBOUNDED) lower_kind = VIZTUREL_UNBOUNDED;
+    if (upper_kind < VIZTUREL_INCLUDED || upper_kind > VIZTUREL_UNBOUNDED) upper_kind = VIZTUREL_UNBOUNDED;
     return REAL(find)(words, count, world, lower_kind, lower, upper_kind, upper, value, answer);
 }
 #endif

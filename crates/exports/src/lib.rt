@@ -8,7 +8,7 @@ ghost use Rattle.std.specs.Prelude.{◌/◌, length};
 ghost use Rattle.written.specs.Listed.{pairs};
 ghost use Rattle.model.specs.Call.{Call, Measure};
 ghost use Rattle.model.specs.Pools.{limits_of};
-ghost use Rattle.model.specs.Range.{bound_by};
+ghost use Rattle.model.specs.Range.{range_by};
 ghost use Rattle.model.specs.Bytes.{edition_by};
 ghost use Rattle.model.specs.Clearing.{clear_map};
 ghost use Rattle.model.specs.Converting.{convert};
@@ -18,6 +18,7 @@ ghost use Rattle.model.specs.Positions.{operation_of};
 ghost use Rattle.flat.specs.Flat.{truth};
 ghost use Rattle.exports.specs.Returns.{Completes, Frames, Handed, Makes, Measures, MendsFlat, Returns, Writes, rect_of};
 
+use model::between::Range;
 use model::{Edition, Listing, Operation, Rect};
 
 // Makes a pool: a world, which is empty, for each floor and ceiling of the limits, in turn.
@@ -41,10 +42,9 @@ pub extern "C" fn vizturel_abi_set(
     value: u64,
     answer: &mut [u64; 8],
 ) -> u64
-    ensures { Returns words.old world (Call.set (bound_by lower_kind lower) (bound_by upper_kind upper) (truth value)) answer.old result answer.new words.new }
+    ensures { let range = range_by lower_kind lower upper_kind upper in Returns words.old world (Call.set range.lower range.upper (truth value)) answer.old result answer.new words.new }
 {
-    let lower = flat::bound(lower_kind, lower);
-    let upper = flat::bound(upper_kind, upper);
+    let Range { lower, upper } = flat::range(lower_kind, lower, upper_kind, upper);
     let given = interval_bit_set::change::set(words, world, lower, upper, value != 0);
     flat::record(given, answer)
 }
@@ -59,10 +59,9 @@ pub extern "C" fn vizturel_abi_flip(
     upper_kind: u64,
     upper: u64,
 ) -> u64
-    ensures { Completes words.old world (Call.flip (bound_by lower_kind lower) (bound_by upper_kind upper)) result words.new }
+    ensures { let range = range_by lower_kind lower upper_kind upper in Completes words.old world (Call.flip range.lower range.upper) result words.new }
 {
-    let lower = flat::bound(lower_kind, lower);
-    let upper = flat::bound(upper_kind, upper);
+    let Range { lower, upper } = flat::range(lower_kind, lower, upper_kind, upper);
     let given = interval_bit_set::change::flip(words, world, lower, upper);
     flat::code(given)
 }
@@ -79,10 +78,9 @@ pub extern "C" fn vizturel_abi_set_strict(
     value: u64,
     answer: &mut [u64; 8],
 ) -> u64
-    ensures { Returns words.old world (Call.set_strict (bound_by lower_kind lower) (bound_by upper_kind upper) (truth value)) answer.old result answer.new words.new }
+    ensures { let range = range_by lower_kind lower upper_kind upper in Returns words.old world (Call.set_strict range.lower range.upper (truth value)) answer.old result answer.new words.new }
 {
-    let lower = flat::bound(lower_kind, lower);
-    let upper = flat::bound(upper_kind, upper);
+    let Range { lower, upper } = flat::range(lower_kind, lower, upper_kind, upper);
     let given = interval_bit_set::change::set_strict(words, world, lower, upper, value != 0);
     flat::record(given, answer)
 }
@@ -97,10 +95,9 @@ pub extern "C" fn vizturel_abi_flip_strict(
     upper_kind: u64,
     upper: u64,
 ) -> u64
-    ensures { Completes words.old world (Call.flip_strict (bound_by lower_kind lower) (bound_by upper_kind upper)) result words.new }
+    ensures { let range = range_by lower_kind lower upper_kind upper in Completes words.old world (Call.flip_strict range.lower range.upper) result words.new }
 {
-    let lower = flat::bound(lower_kind, lower);
-    let upper = flat::bound(upper_kind, upper);
+    let Range { lower, upper } = flat::range(lower_kind, lower, upper_kind, upper);
     let given = interval_bit_set::change::flip_strict(words, world, lower, upper);
     flat::code(given)
 }
@@ -173,10 +170,9 @@ pub extern "C" fn vizturel_abi_find(
     value: u64,
     answer: &mut [u64; 8],
 ) -> u64
-    ensures { Returns words.now world (Call.find (bound_by lower_kind lower) (bound_by upper_kind upper) (truth value)) answer.old result answer.new words.now }
+    ensures { let range = range_by lower_kind lower upper_kind upper in Returns words.now world (Call.find range.lower range.upper (truth value)) answer.old result answer.new words.now }
 {
-    let lower = flat::bound(lower_kind, lower);
-    let upper = flat::bound(upper_kind, upper);
+    let Range { lower, upper } = flat::range(lower_kind, lower, upper_kind, upper);
     let given = interval_bit_set::report::find(words, world, lower, upper, value != 0);
     flat::record(given, answer)
 }
@@ -193,10 +189,9 @@ pub extern "C" fn vizturel_abi_tally(
     value: u64,
     answer: &mut [u64; 8],
 ) -> u64
-    ensures { Returns words.now world (Call.tally (bound_by lower_kind lower) (bound_by upper_kind upper) (truth value)) answer.old result answer.new words.now }
+    ensures { let range = range_by lower_kind lower upper_kind upper in Returns words.now world (Call.tally range.lower range.upper (truth value)) answer.old result answer.new words.now }
 {
-    let lower = flat::bound(lower_kind, lower);
-    let upper = flat::bound(upper_kind, upper);
+    let Range { lower, upper } = flat::range(lower_kind, lower, upper_kind, upper);
     let given = interval_bit_set::report::tally(words, world, lower, upper, value != 0);
     flat::record(given, answer)
 }
@@ -213,10 +208,9 @@ pub extern "C" fn vizturel_abi_tally_strict(
     value: u64,
     answer: &mut [u64; 8],
 ) -> u64
-    ensures { Returns words.now world (Call.tally_strict (bound_by lower_kind lower) (bound_by upper_kind upper) (truth value)) answer.old result answer.new words.now }
+    ensures { let range = range_by lower_kind lower upper_kind upper in Returns words.now world (Call.tally_strict range.lower range.upper (truth value)) answer.old result answer.new words.now }
 {
-    let lower = flat::bound(lower_kind, lower);
-    let upper = flat::bound(upper_kind, upper);
+    let Range { lower, upper } = flat::range(lower_kind, lower, upper_kind, upper);
     let given = interval_bit_set::report::tally_strict(words, world, lower, upper, value != 0);
     flat::record(given, answer)
 }
@@ -234,10 +228,9 @@ pub extern "C" fn vizturel_abi_select(
     k: u64,
     answer: &mut [u64; 8],
 ) -> u64
-    ensures { Returns words.now world (Call.select (bound_by lower_kind lower) (bound_by upper_kind upper) (truth value) k) answer.old result answer.new words.now }
+    ensures { let range = range_by lower_kind lower upper_kind upper in Returns words.now world (Call.select range.lower range.upper (truth value) k) answer.old result answer.new words.now }
 {
-    let lower = flat::bound(lower_kind, lower);
-    let upper = flat::bound(upper_kind, upper);
+    let Range { lower, upper } = flat::range(lower_kind, lower, upper_kind, upper);
     let given = interval_bit_set::report::select(words, world, lower, upper, value != 0, k);
     flat::record(given, answer)
 }
@@ -254,10 +247,9 @@ pub extern "C" fn vizturel_abi_ranges(
     value: u64,
     answer: &mut [u64; 8],
 ) -> u64
-    ensures { Returns words.now world (Call.ranges (bound_by lower_kind lower) (bound_by upper_kind upper) (truth value)) answer.old result answer.new words.now }
+    ensures { let range = range_by lower_kind lower upper_kind upper in Returns words.now world (Call.ranges range.lower range.upper (truth value)) answer.old result answer.new words.now }
 {
-    let lower = flat::bound(lower_kind, lower);
-    let upper = flat::bound(upper_kind, upper);
+    let Range { lower, upper } = flat::range(lower_kind, lower, upper_kind, upper);
     let given = interval_bit_set::report::ranges(words, world, lower, upper, value != 0);
     flat::record(given, answer)
 }
@@ -316,10 +308,9 @@ pub extern "C" fn vizturel_abi_gap(
     n: u64,
     answer: &mut [u64; 8],
 ) -> u64
-    ensures { Returns words.now world (Call.gap (bound_by lower_kind lower) (bound_by upper_kind upper) n) answer.old result answer.new words.now }
+    ensures { let range = range_by lower_kind lower upper_kind upper in Returns words.now world (Call.gap range.lower range.upper n) answer.old result answer.new words.now }
 {
-    let lower = flat::bound(lower_kind, lower);
-    let upper = flat::bound(upper_kind, upper);
+    let Range { lower, upper } = flat::range(lower_kind, lower, upper_kind, upper);
     let given = interval_bit_set::report::gap(words, world, lower, upper, n);
     flat::record(given, answer)
 }

@@ -2,9 +2,9 @@
 use Rattle.std.specs.Prelude.{None, Err}
 use Rattle.model.specs.Answers.{OrRefusal}
 use Rattle.std.specs.Prelude.{◌≡◌, ℕ, ◌-◌, ◌≤◌, List, []}
-use mathlib.Core.Path.{refl, sym, ap, ap₂, ◌∙◌, subst}
+use mathlib.Core.Path.{refl, sym, ap, ◌∙◌, subst}
 use native.Mathlib.Omega.{arith}
-use Rattle.model.specs.Ends.{Bound}
+use Rattle.model.specs.declared.between.Range.{Range}
 use Rattle.model.specs.declared.Rect.{Rect}
 use Rattle.model.specs.declared.Refusal.TheVariants.{WorldUnopened}
 use Rattle.model.specs.Numbers.{size}
@@ -48,10 +48,9 @@ serves {w} {w'} {i} e {a = a} k p n m f = (a, subst (λ j. Met w i (call_by j e)
 pub serves-there : {w w' : List ℕ} {i : ℕ} (e : Entry) {r : Reply} → i ≡ world_by e → ServesAt w i e r w' → Serves w e r w'
 serves-there {w} {w'} e {r} p s = subst (λ j. ServesAt w j e r w') p s
 
--- the bounds of the call are those told
-pub ranged : {w w' : List ℕ} {i : ℕ} {a : Answer} (f : Bound → Bound → Call Site) {l u l' u' : Bound} → l ≡ l' → u ≡ u' → Met w i (f l u) a w'
-    → Met w i (f l' u') a w'
-ranged {w} {w'} {i} {a} f p q m = subst (λ c. Met w i c a w') (ap₂ f p q) m
+-- the range of the call is the one told
+pub ranged : {w w' : List ℕ} {i : ℕ} {a : Answer} (f : Range → Call Site) {r r' : Range} → r ≡ r' → Met w i (f r) a w' → Met w i (f r') a w'
+ranged {w} {w'} {i} {a} f p m = subst (λ c. Met w i c a w') (ap f p) m
 
 -- and its rectangle is the one told
 pub of-cells : {w w' : List ℕ} {i : ℕ} {a : Answer} (f : Rect → Call Site) {q q' : Rect} → q ≡ q' → Met w i (f q) a w' → Met w i (f q') a w'

@@ -2,12 +2,13 @@
 use Rattle.std.specs.Prelude.{ℕ, zero, suc, ◌+◌, ◌-◌, ◌*◌, ◌/◌, Bool, cond, if◌then◌else◌, Option, Some, None, ◌||◌, List, [], ◌∷◌, length, ◌==◌, slice_index}
 use Rattle.model.specs.Ends.{Bound}
 use Rattle.model.specs.declared.Listing.{Listing}
+use Rattle.model.specs.declared.between.Range.{Range}
 use Rattle.model.specs.declared.Rect.{Rect}
 use Rattle.model.specs.Numbers.{size}
 use Rattle.model.specs.Call.{Call, PoolCall, at}
 use Rattle.frame.specs.declared.entry.Kind.{Kind}
 use Rattle.frame.specs.declared.entry.Entry.{Entry}
-use Rattle.model.specs.Range.{bound_by}
+use Rattle.model.specs.Range.{range_by}
 use Rattle.flat.specs.Flat.{truth}
 
 -- the words of record i
@@ -45,11 +46,14 @@ kind_of n =
     (cond (n == 19) Kind.SetRect
     (cond (n == 20) Kind.CountRect Kind.Get)))))))))))))))))
 
+abbrev pub range_of : Entry → Range
+range_of e = range_by e.lower e.from e.upper e.upto
+
 abbrev pub lower_of : Entry → Bound
-lower_of e = bound_by e.lower e.from
+lower_of e = (range_of e).lower
 
 abbrev pub upper_of : Entry → Bound
-upper_of e = bound_by e.upper e.upto
+upper_of e = (range_of e).upper
 
 abbrev pub listing_by : Entry → Listing
 listing_by e = record { first = e.from; last = e.upto; value = truth e.value }

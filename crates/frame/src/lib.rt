@@ -17,6 +17,7 @@ ghost use Rattle.frame.specs.Serving.{ServesAt, Serves, Playable, Plays};
 
 use crate::entry::{Entry, Kind};
 use flat::Reply;
+use model::between::Range;
 use model::{Listing, Rect, Refusal};
 use promises::site::Site;
 
@@ -41,8 +42,7 @@ fn serve_world(words: &mut [u64], e: Entry, world: u64) -> Reply
     requires { Readable words.old world }
     ensures { ServesAt words.old world e result words.new }
 {
-    let lower = flat::bound(e.lower, e.from);
-    let upper = flat::bound(e.upper, e.upto);
+    let Range { lower, upper } = flat::range(e.lower, e.from, e.upper, e.upto);
     let value = e.value != 0;
     let left = Listing {
         first: e.from,
