@@ -6,7 +6,6 @@ use Rattle.model.specs.declared.Mended.{Mended}
 use Prim.Native.Nat.{ℕ}
 use mathlib.Core.Path.{◌≡◌, refl, ap, ap₂, ◌∙◌, subst}
 use mathlib.Core.List.{List, []}
-use Rattle.model.specs.declared.between.Range.{Range}
 use Rattle.model.specs.declared.Limits.{Limits}
 use Rattle.model.specs.Answers.{written_answer, mended_answer}
 use Rattle.model.specs.Call.{Call, Measure, Answer}
@@ -21,10 +20,6 @@ use Rattle.exports.specs.declared.structs.CMended.{CMended}
 use Rattle.exports.specs.declared.structs.CWorded.{CWorded}
 use Rattle.exports.specs.Structs.{refusal_of, mended_of, worded_of}
 use Rattle.exports.specs.Returns.{Makes, Returns, slice_after, Writes, Measures, slices_after, MendsFlat, Handed, Frames}
-
--- a call on a range is the call on what it was made of
-pub between : (f : Range → Call Site) {p x : Range} → p ≡ x → f p ≡ f x
-between f d = ap f d
 
 -- every call that returns: its promise, its answer as a reply q, and the part r of that
 pub returned : {R : Type 0} {w w' : List ℕ} {i : ℕ} {c c' : Call Site} {f : Reply → R} {r : R} {a : Answer} {q : Reply} → c ≡ c' → Met w i c a w'
