@@ -165,13 +165,15 @@ fn ranges_without_positions_are_never_chosen() {
     // Kinds that are reserved make a range empty at either end, and that of zeros is one.
     assert_eq!(why(&store(1), &[apart, RangeRecord::default(), other]), Ok(vec![0, 2]));
     for kind in [0, 4, 1 << 32 | 3, M] {
-        let [no_lower, no_upper] =
-            [RangeRecord { lower_kind: kind, ..all }, RangeRecord { upper_kind: kind, ..all }];
+        let [no_lower, no_upper] = [RangeRecord { lower_kind: kind, ..all }, RangeRecord { upper_kind: kind, ..all }];
         for empty in [no_lower, no_upper, RangeRecord { lower_kind: kind, upper_kind: kind, ..all }] {
             assert_eq!(why(&store(1), &[apart, empty, other]), Ok(vec![0, 2]), "{empty:?}");
             // As a range of Rust it is one of the same positions.
             let mut set = store(1);
-            assert_eq!((set.set(empty, true), set.set_strict(empty, true), set.find(empty, false)), (Ok(0), Ok(0), Ok(None)));
+            assert_eq!(
+                (set.set(empty, true), set.set_strict(empty, true), set.find(empty, false)),
+                (Ok(0), Ok(0), Ok(None))
+            );
         }
     }
 }

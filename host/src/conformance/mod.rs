@@ -144,7 +144,9 @@ fn plain(call: &Call) -> Call {
     let mut call = call.clone();
     match &mut call {
         Call::Write { edition, .. } if *edition != 2 => *edition = 1,
-        Call::WhyFull { ranges, .. } => ranges.as_chunks_mut().0.iter_mut().for_each(|range| *range = records::named(*range)),
+        Call::WhyFull { ranges, .. } => {
+            ranges.as_chunks_mut().0.iter_mut().for_each(|range| *range = records::named(*range))
+        }
         Call::Frame { calls, .. } => {
             calls.as_chunks_mut().0.iter_mut().for_each(|record| *record = plain_record(*record));
         }
