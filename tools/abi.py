@@ -1,9 +1,10 @@
 #!/usr/bin/env python3
 """Writes what is mechanical of the calls that cross to C, from abi/calls.toml.
 
-usage: python3 tools/abi.py [FOLDER]     at the top of the repository, or into FOLDER, laid out as it is
+usage: python3 tools/abi.py [FOLDER]       in the repository, or into FOLDER, laid out as that is
+       python3 tools/abi.py --refusals     writes nothing: the tables of docs/CALLS.md have to name the same refusals
 
-Whole files are crates/exports/src/lib.rt, its must-fail edits and host/src/raw.rs. Of include/vizturel.h and docs/CALLS.md it writes what stands
+Whole files are crates/exports/src/lib.rt, the must-fail edits of exports and host/src/raw.rs. Of include/vizturel.h and docs/CALLS.md it writes what stands
 between two lines that name abi/calls.toml; what stands around them is written by hand and stays.
 """
 import re
@@ -326,11 +327,22 @@ def pages(calls, frame):
     yield "the numbers of a frame", table
 
 
+def refusals(calls):
+    """The calls of which a table names other refusals, or none."""
+    named = {}
+    for row in re.findall(r"^\| `.*\|$", (TOP / "docs/CALLS.md").read_text(), re.MULTILINE):
+        cells = [cell.strip() for cell in row.strip("|").split("|")]
+        if len(cells) == 7:
+            refused = cells[5] if cells[5] != "the same" else refused
+            named |= {name: refused for name in re.findall(r"`(\w+)`", cells[0])}
+    return [call.name for call in calls if named.get(call.name) != ", ".join(map(str, call.refused))]
+
+
 # ---- must-fail edits
 
 
 def swapped(call):
-    """The line of the call with two numbers swapped, if it has two."""
+    """A line with two numbers swapped that the call takes, and which they are; none where it takes no two."""
     _, line = called(call)
     numbers = [name for name, kind in call.arguments if kind == "number"]
     kinds = {kind: name for name, kind in call.arguments}
@@ -345,7 +357,8 @@ def swapped(call):
     elif "world" in kinds and "range" in kinds:
         return line, line.replace("lower, upper", "upper, lower"), ("the lower bound", "the upper one")
     elif "world" in kinds and "edition" in kinds:
-        return None
+        before, _ = called(call)
+        return before[0], "let (world, edition) = (edition, Edition::from(world));", ("world", "edition")
     elif "world" in kinds and "rect" in kinds:
         return line, line.replace("world, rect", "top, Rect { top: world, ..rect }"), ("world", "top")
     elif "world" in kinds and "listing" in kinds:
@@ -362,8 +375,7 @@ def edits(calls):
         swap = swapped(call)
         if swap:
             old, new, (a, b) = swap
-            first = f"# vizturel_abi_{call.name} takes {a} for {b}, and {b} for {a}."
-            yield f"{call.name}_swapped.edit", f"{first}\nfile: src/lib.rt\nold: {old}\nnew: {new}\n"
+            yield f"{call.name}_swapped.edit", f"# {call.name} takes {a} for {b}, and {b} for {a}\nfile: src/lib.rt\nold: {old}\nnew: {new}\n"
 
 
 # ---- all of it
@@ -382,10 +394,12 @@ def between(text, parts, mark):
 
 
 def main():
-    folder = Path(sys.argv[1]) if len(sys.argv) > 1 else TOP
     with open(TOP / "abi/calls.toml", "rb") as file:
         told = tomllib.load(file)
     calls = [Call(call) for call in told["call"]]
+    if sys.argv[1:] == ["--refusals"]:
+        sys.exit(", ".join(refusals(calls)) or None)
+    folder = Path(sys.argv[1]) if len(sys.argv) > 1 else TOP
     written = {
         "crates/exports/src/lib.rt": library(calls),
         "host/src/raw.rs": raw(calls),

@@ -1,4 +1,4 @@
-/* Plays a list of the conformance pack through the names of include/vizturel.h, with whatever library is linked that exports them.
+/* Plays a list of the conformance pack through the names of include/vizturel.h, with whatever library is linked that exports what is at its end.
  *
  *     raw NAME.calls NAME.answers    compares with the answers; the last line is 'N passed, M failed'
  *     raw NAME.calls                 prints the answers
