@@ -410,7 +410,9 @@ def main():
     for name, text in written.items():
         path = folder / name
         path.parent.mkdir(parents=True, exist_ok=True)
-        path.write_text(text)
+        # a file that is current keeps its time, so that nothing is proved or built for it
+        if not path.exists() or path.read_text() != text:
+            path.write_text(text)
 
 
 main()
