@@ -121,7 +121,7 @@ bench-growth: bench-store
 	done
 bench-calls: $(ARCHIVE)
 	gcc -O2 -Wall -Wextra -Iinclude -o target/bench-calls bench/calls.c $(ARCHIVE)
-	@count() { valgrind --tool=callgrind --callgrind-out-file=/dev/null --toggle-collect=vizturel_frame target/bench-calls "$$@" 2>&1 | awk '/Collected/ { print $$NF }'; }; \
+	@count() { valgrind --tool=callgrind --callgrind-out-file=/dev/null --toggle-collect=vizturel_abi_frame target/bench-calls "$$@" 2>&1 | awk '/Collected/ { print $$NF }'; }; \
 	none=$$(count set 1100 1000 0 1); \
 	for kind in set flip shift get find tally select run_at; do \
 	    echo "$$kind $$(count $$kind 1100 1000 1000 1) $$none" | awk '{ printf "| %s | %.1f |\n", $$1, ($$2 - $$3) / 1000 }'; \

@@ -79,8 +79,10 @@ def in_order(runs):
 
 
 def between(lower, x, upper, y):
-    """The first and the last position between two bounds by their kinds and values."""
-    return x + (lower == 2) if lower in (1, 2) else 0, y - (upper == 2) if upper in (1, 2) else LAST
+    """The first and the last position between two bounds by their kinds and values: of another kind than 1, 2 and 3 there are none."""
+    if not {lower, upper} <= {1, 2, 3}:
+        return 0, -1
+    return 0 if lower == 3 else x + (lower == 2), LAST if upper == 3 else y - (upper == 2)
 
 
 def window(base, length):

@@ -63,12 +63,17 @@
  *
  * RESERVED NUMBERS. Where numbers have names here (call numbers, kinds of bounds, operations, editions), the named ones stay as they are. The call
  * numbers 7 and 9 are withdrawn and stay so: such a record is answered with 12, whatever world it names, and not as another call. All other
- * numbers are reserved: a later version may give them a meaning. This version takes a reserved call number for a get, a reserved kind for no
- * bound, a reserved operation for XOR and a reserved edition for rows. Do not rely on it.
+ * numbers are reserved: a later version may give them a meaning. This version takes a reserved call number for a get, a range with a bound of a
+ * reserved kind for an empty one, a reserved operation for XOR and a reserved edition for rows. Do not rely on it.
+ *
+ * One named number is another one than in earlier versions, and the only one: VIZTUREL_UNBOUNDED is 3, and was 0. 0 is a reserved kind, so a bound
+ * that nobody filled in selects no position, where it selected all of them. Whoever uses the name or vizturel_unbounded compiles anew; whoever writes
+ * kinds as numbers, in records or stored lists, writes 3 for no bound.
  *
  * Link libvizturel.a, for x86-64 Linux: `make lib` writes it to target/lib/, and this header to target/include/. Take both from one build: structs
- * and signatures are that build's. Of a C library it needs memset, memmove and memcpy alone. The header is C11 and C++17. docs/CALLS.md has every
- * call with its cost.
+ * and signatures are that build's. Of a C library it needs memset, memmove and memcpy alone. What is exported is at the end of this header, under names
+ * of its own (vizturel_abi_set), and takes numbers, pointers and counts alone; the calls are inline functions over that. So whoever supplies another
+ * library exports those names, and other languages call them. The header is C99 and C++11, and later ones. docs/CALLS.md has every call with its cost.
  */
 #ifndef VIZTUREL_H
 #define VIZTUREL_H
@@ -110,16 +115,17 @@ enum vizturel_refusal {
     VIZTUREL_NOT_REFUSED = 16
 };
 
-/* Kinds of bounds: none, one that includes its value, one that excludes it. Other numbers are reserved. */
+/* Kinds of bounds: one that includes its value, one that excludes it, none. Other numbers, 0 among them, are reserved. */
 enum vizturel_bound_kind {
-    VIZTUREL_UNBOUNDED = 0,
     VIZTUREL_INCLUDED = 1,
-    VIZTUREL_EXCLUDED = 2
+    VIZTUREL_EXCLUDED = 2,
+    VIZTUREL_UNBOUNDED = 3
 };
 
 /* One end of a range. Let s be the first position that the lower bound allows, possibly 2^64, and e the last that the upper one allows, possibly
  * -1: the range is empty if s = e + 1, and reversed if s exceeds e + 1. Neither is a mistake: they change nothing, count 0, list nothing and find
- * none. The strict calls refuse a reversed range, and take an empty one. */
+ * none. The strict calls refuse a reversed range, and take an empty one. A range is also empty, and not reversed, if the kind of either bound is
+ * reserved, as that of a zeroed bound is: such a call is refused for nothing that an empty range is not. */
 typedef struct {
     uint64_t kind;
     uint64_t value;
@@ -193,6 +199,7 @@ enum vizturel_fate {
     VIZTUREL_KEPT = 2
 };
 
+/* the answers, from abi/calls.toml */
 /* How many positions: carry * 2^64 + low. The carry is 1 only for all 2^64 of them. */
 typedef struct {
     uint64_t refusal;
@@ -273,12 +280,13 @@ typedef struct {
     uint64_t refusal;
     uint64_t words;
 } vizturel_worded;
+/* end of the answers */
 
 /* ---- making a pool */
 
 /* Makes a pool in words that may hold anything. The limits are the floor and the ceiling of each world, in turn: worlds 0, 1 and so on are
  * opened, all empty. A last word without its partner is no world. A ceiling may exceed C. Refused with 1, 11. */
-uint64_t vizturel_new(uint64_t *words, size_t count, const uint64_t *limits, size_t limits_count);
+static inline uint64_t vizturel_new(uint64_t *words, size_t count, const uint64_t *limits, size_t limits_count);
 
 /* The same for one world, number 0, which is bounded by C alone. Refused with 1. */
 static inline uint64_t vizturel_new_one(uint64_t *words, size_t count) {
@@ -289,86 +297,92 @@ static inline uint64_t vizturel_new_one(uint64_t *words, size_t count) {
 /* ---- changes of a world. A value is 0 for false, anything else for true. Each is refused with 1, 7, 12; also as is said there. */
 
 /* Gives a range the value, and tells how many positions changed. Refused with 8. */
-vizturel_counted vizturel_set(uint64_t *words, size_t count, uint64_t world, vizturel_bound lower, vizturel_bound upper, uint64_t value);
+static inline vizturel_counted vizturel_set(uint64_t *words, size_t count, uint64_t world, vizturel_bound lower, vizturel_bound upper,
+                                            uint64_t value);
 
 /* Inverts a range. Refused with 8. */
-uint64_t vizturel_flip(uint64_t *words, size_t count, uint64_t world, vizturel_bound lower, vizturel_bound upper);
+static inline uint64_t vizturel_flip(uint64_t *words, size_t count, uint64_t world, vizturel_bound lower, vizturel_bound upper);
 
 /* The same as vizturel_set and vizturel_flip, but that a reversed range is refused. Refused with 14, 8. */
-vizturel_counted vizturel_set_strict(uint64_t *words, size_t count, uint64_t world, vizturel_bound lower, vizturel_bound upper, uint64_t value);
-uint64_t vizturel_flip_strict(uint64_t *words, size_t count, uint64_t world, vizturel_bound lower, vizturel_bound upper);
+static inline vizturel_counted vizturel_set_strict(uint64_t *words, size_t count, uint64_t world, vizturel_bound lower, vizturel_bound upper,
+                                                   uint64_t value);
+static inline uint64_t vizturel_flip_strict(uint64_t *words, size_t count, uint64_t world, vizturel_bound lower, vizturel_bound upper);
 
 /* Gives the cells of a rectangle the value, and tells how many changed. 8 goes by the runs after the whole rectangle: where they do not fit, no row
  * is changed. Refused with 15, 8. */
-vizturel_counted vizturel_set_rect(uint64_t *words, size_t count, uint64_t world, vizturel_rect rect, uint64_t value);
+static inline vizturel_counted vizturel_set_rect(uint64_t *words, size_t count, uint64_t world, vizturel_rect rect, uint64_t value);
 
 /* Moves every position by the distance, up where left is not 0, else down; what leaves 0 .. M is dropped. */
-uint64_t vizturel_shift(uint64_t *words, size_t count, uint64_t world, uint64_t distance, uint64_t left);
+static inline uint64_t vizturel_shift(uint64_t *words, size_t count, uint64_t world, uint64_t distance, uint64_t left);
 
 /* ---- reports of a world. Each is refused with 1, 7, 12; the strict tally, gap, fill and those of cells also as is said there. */
 
 /* The value of position x. */
-vizturel_tested vizturel_get(const uint64_t *words, size_t count, uint64_t world, uint64_t x);
+static inline vizturel_tested vizturel_get(const uint64_t *words, size_t count, uint64_t world, uint64_t x);
 
 /* The run around x, not clipped, of the value that x has. */
-vizturel_around vizturel_run_at(const uint64_t *words, size_t count, uint64_t world, uint64_t x);
+static inline vizturel_around vizturel_run_at(const uint64_t *words, size_t count, uint64_t world, uint64_t x);
 
 /* The least position of the value in a range. */
-vizturel_found vizturel_find(const uint64_t *words, size_t count, uint64_t world, vizturel_bound lower, vizturel_bound upper, uint64_t value);
+static inline vizturel_found vizturel_find(const uint64_t *words, size_t count, uint64_t world, vizturel_bound lower, vizturel_bound upper,
+                                           uint64_t value);
 
 /* How many positions of a range have the value, and in how many runs they lie, clipped to the range. */
-vizturel_tallied vizturel_tally(const uint64_t *words, size_t count, uint64_t world, vizturel_bound lower, vizturel_bound upper, uint64_t value);
+static inline vizturel_tallied vizturel_tally(const uint64_t *words, size_t count, uint64_t world, vizturel_bound lower, vizturel_bound upper,
+                                              uint64_t value);
 
 /* The same, but that a reversed range is refused. Refused with 14. */
-vizturel_tallied vizturel_tally_strict(const uint64_t *words, size_t count, uint64_t world, vizturel_bound lower, vizturel_bound upper,
-                                       uint64_t value);
+static inline vizturel_tallied vizturel_tally_strict(const uint64_t *words, size_t count, uint64_t world, vizturel_bound lower, vizturel_bound upper,
+                                                     uint64_t value);
 
 /* The position of a range that has the value and exactly k such positions before it there; not found where k is at least their count. */
-vizturel_found vizturel_select(const uint64_t *words, size_t count, uint64_t world, vizturel_bound lower, vizturel_bound upper, uint64_t value,
-                               uint64_t k);
+static inline vizturel_found vizturel_select(const uint64_t *words, size_t count, uint64_t world, vizturel_bound lower, vizturel_bound upper,
+                                             uint64_t value, uint64_t k);
 
 /* A listing of the runs of the value in a range, to be drawn from either end. */
-vizturel_listed vizturel_ranges(const uint64_t *words, size_t count, uint64_t world, vizturel_bound lower, vizturel_bound upper, uint64_t value);
+static inline vizturel_listed vizturel_ranges(const uint64_t *words, size_t count, uint64_t world, vizturel_bound lower, vizturel_bound upper,
+                                              uint64_t value);
 
 /* Draws the first run that is left in a listing, in the world as it is then. Go on with the answer's first and last and the same value. */
-vizturel_drawn vizturel_draw_front(const uint64_t *words, size_t count, uint64_t world, uint64_t first, uint64_t last, uint64_t value);
+static inline vizturel_drawn vizturel_draw_front(const uint64_t *words, size_t count, uint64_t world, uint64_t first, uint64_t last, uint64_t value);
 
 /* Draws the last one. */
-vizturel_drawn vizturel_draw_back(const uint64_t *words, size_t count, uint64_t world, uint64_t first, uint64_t last, uint64_t value);
+static inline vizturel_drawn vizturel_draw_back(const uint64_t *words, size_t count, uint64_t world, uint64_t first, uint64_t last, uint64_t value);
 
 /* The start of the lowest gap of a range: the least position x such that x .. x + n - 1 are all in the range and all free. Not found exactly if
  * there is none. Refused with 9. */
-vizturel_found vizturel_gap(const uint64_t *words, size_t count, uint64_t world, vizturel_bound lower, vizturel_bound upper, uint64_t n);
+static inline vizturel_found vizturel_gap(const uint64_t *words, size_t count, uint64_t world, vizturel_bound lower, vizturel_bound upper,
+                                          uint64_t n);
 
 /* 1000 * held positions / window length, rounded up: 0 exactly where none is held, and 1000 where all are. Refused with 6. */
-vizturel_numbered vizturel_fill(const uint64_t *words, size_t count, uint64_t world, uint64_t base, uint64_t length);
+static inline vizturel_numbered vizturel_fill(const uint64_t *words, size_t count, uint64_t world, uint64_t base, uint64_t length);
 
 /* How many cells of a rectangle are held. Refused with 15. */
-vizturel_numbered vizturel_count_rect(const uint64_t *words, size_t count, uint64_t world, vizturel_rect rect);
+static inline vizturel_numbered vizturel_count_rect(const uint64_t *words, size_t count, uint64_t world, vizturel_rect rect);
 
 /* Surveys the square of side 2^k, k from 0 to 8, whose first cell is at the row and the column: writes its pieces to the front of out, five words
  * each, first row, first column, rows, columns and value, 1 for held and 0 for free; the rest of out stays. A piece that has one value is listed, and
  * any other is halved: the square by column, its halves by row, their halves by column, and so on; the left half comes before the right one, the
  * upper before the lower. So every cell is in one piece, and worlds that hold the same cells are surveyed alike. VIZTUREL_SURVEY_WORDS(k) words are
  * always enough. Refused with 15, 2. */
-vizturel_worded vizturel_survey(const uint64_t *words, size_t count, uint64_t world, uint64_t row, uint64_t column, uint64_t k, uint64_t *out,
-                                size_t out_count);
+static inline vizturel_worded vizturel_survey(const uint64_t *words, size_t count, uint64_t world, uint64_t row, uint64_t column, uint64_t k,
+                                              uint64_t *out, size_t out_count);
 
 /* Whether two worlds hold the same positions, whatever the capacities and limits. They may be of one pool. */
-vizturel_tested vizturel_eq(const uint64_t *words, size_t count, uint64_t world, const uint64_t *b, size_t b_count, uint64_t b_world);
+static inline vizturel_tested vizturel_eq(const uint64_t *words, size_t count, uint64_t world, const uint64_t *b, size_t b_count, uint64_t b_world);
 
 /* ---- overwriting a world, whatever it held, with what is made of others. Each is refused with 1, 7 (of any pool), 12 (of any world), 8. */
 
 /* Joins two sets; op is a vizturel_operation. */
-uint64_t vizturel_combine(uint64_t *words, size_t count, uint64_t world, uint64_t op, const uint64_t *a, size_t a_count, uint64_t a_world,
-                          const uint64_t *b, size_t b_count, uint64_t b_world);
+static inline uint64_t vizturel_combine(uint64_t *words, size_t count, uint64_t world, uint64_t op, const uint64_t *a, size_t a_count,
+                                        uint64_t a_world, const uint64_t *b, size_t b_count, uint64_t b_world);
 
 /* The complement over 0 .. M. */
-uint64_t vizturel_not(uint64_t *words, size_t count, uint64_t world, const uint64_t *a, size_t a_count, uint64_t a_world);
+static inline uint64_t vizturel_not(uint64_t *words, size_t count, uint64_t world, const uint64_t *a, size_t a_count, uint64_t a_world);
 
 /* The set moved by the distance, up where left is not 0, else down. */
-uint64_t vizturel_shifted(uint64_t *words, size_t count, uint64_t world, uint64_t distance, uint64_t left, const uint64_t *a, size_t a_count,
-                          uint64_t a_world);
+static inline uint64_t vizturel_shifted(uint64_t *words, size_t count, uint64_t world, uint64_t distance, uint64_t left, const uint64_t *a,
+                                        size_t a_count, uint64_t a_world);
 
 /* ---- written sets, run lists and maps. Each that takes a pool is refused with 1, 7, 12, then as is said there. vizturel_convert and
  * vizturel_clear_map take none.
@@ -376,7 +390,7 @@ uint64_t vizturel_shifted(uint64_t *words, size_t count, uint64_t world, uint64_
  * Written sets travel between builds; the words of a pool do not, since offsets and the arrangement of nodes are each build's own. */
 
 /* Overwrites a world with the set that a written set of either edition tells. Refused with 3, 4, 3, 5, 8. */
-uint64_t vizturel_load(uint64_t *words, size_t count, uint64_t world, const uint8_t *bytes, size_t bytes_count);
+static inline uint64_t vizturel_load(uint64_t *words, size_t count, uint64_t world, const uint8_t *bytes, size_t bytes_count);
 
 /* Overwrites a world with the set of a written set of either edition whose runs may stand in any order, touch and overlap: every position of all
  * runs whose start is not above their end. Writes that set, the outcome, in the edition read, to the front of out, and a vizturel_fate for each
@@ -384,42 +398,42 @@ uint64_t vizturel_load(uint64_t *words, size_t count, uint64_t world, const uint
  * in it that was not dropped, one that is equal or only touches included. What vizturel_load takes comes back byte for byte, all kept. bytes_count
  * bytes are always enough for out, and a byte for each run read for report. No two of the slices may overlap. It keeps 8 KiB on the stack. Refused
  * with 3, 4, 3, then 8 for the runs of the outcome, then 2 for either slice; never with 5. */
-vizturel_mended vizturel_mend(uint64_t *words, size_t count, uint64_t world, const uint8_t *bytes, size_t bytes_count, uint8_t *out, size_t out_count,
-                              uint8_t *report, size_t report_count);
+static inline vizturel_mended vizturel_mend(uint64_t *words, size_t count, uint64_t world, const uint8_t *bytes, size_t bytes_count, uint8_t *out,
+                                            size_t out_count, uint8_t *report, size_t report_count);
 
 /* Overwrites a world with the set of a run list: start and end of each run, in turn; a last word without its end is no run. Refused with 5, 8. */
-uint64_t vizturel_build(uint64_t *words, size_t count, uint64_t world, const uint64_t *runs, size_t runs_count);
+static inline uint64_t vizturel_build(uint64_t *words, size_t count, uint64_t world, const uint64_t *runs, size_t runs_count);
 
 /* Writes a world's set; edition is a vizturel_edition. Worlds with equal positions are written as equal bytes in each edition.
  * VIZTUREL_SET_BYTES(C) bytes are always enough. Refused with 2. */
-vizturel_written vizturel_write(const uint64_t *words, size_t count, uint64_t world, uint64_t edition, uint8_t *out, size_t out_count);
+static inline vizturel_written vizturel_write(const uint64_t *words, size_t count, uint64_t world, uint64_t edition, uint8_t *out, size_t out_count);
 
 /* Turns a written set into the other edition: the version byte tells which it has. The set that is written has as many bytes as the one that is
  * read, and the bytes of out after it stay. The two slices must not overlap. It takes no pool. Refused with 3, 4, 3, 5 as vizturel_load is,
  * then with 2. */
-vizturel_written vizturel_convert(const uint8_t *bytes, size_t bytes_count, uint8_t *out, size_t out_count);
+static inline vizturel_written vizturel_convert(const uint8_t *bytes, size_t bytes_count, uint8_t *out, size_t out_count);
 
 /* Writes the map of the window of length positions from base on: bit i (0 is least) of byte j is position base + 8j + i. The spare bits, those of
  * the last byte past the window, are 0. Refused with 6, 2. */
-vizturel_written vizturel_write_map(const uint64_t *words, size_t count, uint64_t world, uint64_t base, uint64_t length, uint8_t *out,
-                                    size_t out_count);
+static inline vizturel_written vizturel_write_map(const uint64_t *words, size_t count, uint64_t world, uint64_t base, uint64_t length, uint8_t *out,
+                                                  size_t out_count);
 
 /* The same by single bytes, for whoever compares: the same answer, refusals and bytes. */
-vizturel_written vizturel_write_map_by_bytes(const uint64_t *words, size_t count, uint64_t world, uint64_t base, uint64_t length, uint8_t *out,
-                                             size_t out_count);
+static inline vizturel_written vizturel_write_map_by_bytes(const uint64_t *words, size_t count, uint64_t world, uint64_t base, uint64_t length,
+                                                           uint8_t *out, size_t out_count);
 
 /* Sets the window from a map, leaves the other positions, and tells how many changed. A map with a spare bit that is one is not read.
  * Refused with 6, 10, 8. */
-vizturel_counted vizturel_read_map(uint64_t *words, size_t count, uint64_t world, uint64_t base, uint64_t length, const uint8_t *bytes,
-                                   size_t bytes_count);
+static inline vizturel_counted vizturel_read_map(uint64_t *words, size_t count, uint64_t world, uint64_t base, uint64_t length, const uint8_t *bytes,
+                                                 size_t bytes_count);
 
 /* The same by single bytes, for whoever compares: the same answer, refusals and positions. */
-vizturel_counted vizturel_read_map_by_bytes(uint64_t *words, size_t count, uint64_t world, uint64_t base, uint64_t length, const uint8_t *bytes,
-                                            size_t bytes_count);
+static inline vizturel_counted vizturel_read_map_by_bytes(uint64_t *words, size_t count, uint64_t world, uint64_t base, uint64_t length,
+                                                          const uint8_t *bytes, size_t bytes_count);
 
 /* Makes a map of the window fit to be read: zeroes its spare bits, and tells how many were one. The other bits stay. It takes no pool. Stored maps
  * whose spare bits may hold anything go through it before vizturel_read_map. Refused with 6 alone. */
-vizturel_numbered vizturel_clear_map(uint64_t base, uint64_t length, uint8_t *map, size_t map_count);
+static inline vizturel_numbered vizturel_clear_map(uint64_t base, uint64_t length, uint8_t *map, size_t map_count);
 
 /* ---- the deepest tree, for whoever sizes a stack by how high a tree can be. It names no world. */
 
@@ -430,7 +444,7 @@ vizturel_numbered vizturel_clear_map(uint64_t base, uint64_t length, uint8_t *ma
  * builds that compare answers leave this call out or agree on the list. The pool is asked for its length, so for its C, and
  * for nothing else: it need not be sound, and every word of it stays. 2 * C words are always enough for out. Refused with 1, then 13, then 8 where
  * the list has more runs than C, then 2; never with 7 or 12. */
-vizturel_worded vizturel_deepest(const uint64_t *words, size_t count, uint64_t h, uint64_t *out, size_t out_count);
+static inline vizturel_worded vizturel_deepest(const uint64_t *words, size_t count, uint64_t h, uint64_t *out, size_t out_count);
 
 /* ---- why a list stopped, for whoever is sent a list of ranges that was refused for want of room. It names no world. */
 
@@ -441,7 +455,8 @@ vizturel_worded vizturel_deepest(const uint64_t *words, size_t count, uint64_t h
  * that has a position in that run. Ranges that are empty or reversed hold nothing, are never refused and never among them. Words after the last
  * whole range are not read. The pool is asked for its length, so for its C, and for nothing else: it need not be sound, and every word of it stays.
  * C + 1 words are enough for out. It keeps 8 KiB on the stack. Refused with 1, then 16 where no call of the list is refused, then 2; never with 7, 12 or 8. */
-vizturel_worded vizturel_why_full(const uint64_t *words, size_t count, const uint64_t *ranges, size_t ranges_words, uint64_t *out, size_t out_count);
+static inline vizturel_worded vizturel_why_full(const uint64_t *words, size_t count, const uint64_t *ranges, size_t ranges_words, uint64_t *out,
+                                                size_t out_count);
 
 /* The same over structs: n ranges. */
 static inline vizturel_worded vizturel_why(const uint64_t *words, size_t count, const vizturel_range *ranges, size_t n, uint64_t *out,
@@ -453,6 +468,7 @@ static inline vizturel_worded vizturel_why(const uint64_t *words, size_t count, 
 
 /* Which call a record is. 7 and 9 are withdrawn, others reserved. Number 1 empties its world, as vizturel_build of no runs does; no record makes
  * a pool. */
+/* the numbers of a frame, from abi/calls.toml */
 enum vizturel_call_number {
     VIZTUREL_CALL_GET = 0,
     VIZTUREL_CALL_EMPTY = 1,
@@ -474,6 +490,7 @@ enum vizturel_call_number {
     VIZTUREL_CALL_SET_RECT = 19,
     VIZTUREL_CALL_COUNT_RECT = 20
 };
+/* end of the numbers of a frame */
 
 /* A call as a record of eight words; words that the call has no use for are not read.
  *   lower.value  also the position of get and run_at, the distance of shift, the base of fill, the first position of a draw's listing
@@ -518,12 +535,329 @@ typedef struct {
  * of the list that is refused (with 12, 9, 14, 15, 6 or 8) has changed nothing, and the next one follows. Words of calls after the last whole record
  * are not read. The whole is refused with 1 or 7 of the pool before the first call, or 2 where answers is too short for a record of each call:
  * then no call was made. */
-uint64_t vizturel_frame(uint64_t *words, size_t count, const uint64_t *calls, size_t calls_words, uint64_t *answers, size_t answers_words);
+static inline uint64_t vizturel_frame(uint64_t *words, size_t count, const uint64_t *calls, size_t calls_words, uint64_t *answers,
+                                      size_t answers_words);
 
 /* The same over structs: n calls, and room for so many answers. */
 static inline uint64_t vizturel_play(uint64_t *words, size_t count, const vizturel_call *calls, size_t n, vizturel_answer *answers, size_t room) {
     return vizturel_frame(words, count, (const uint64_t *)(const void *)calls, 8 * n, (uint64_t *)(void *)answers, 8 * room);
 }
+
+/* ---- what is exported, under names of its own: numbers, and a pointer and a count for each slice. A bound is its kind and its value, a rectangle its
+ * four numbers. Each returns the refusal's number, or 0. What the call gives goes into answer, the eight words of a vizturel_answer, which must not
+ * overlap what else is lent; a refused call leaves them as they were. The calls above are these, over structs. */
+
+/* what is exported, from abi/calls.toml */
+uint64_t vizturel_abi_new(uint64_t *words, size_t count, const uint64_t *limits, size_t limits_count);
+uint64_t vizturel_abi_set(uint64_t *words, size_t count, uint64_t world, uint64_t lower_kind, uint64_t lower, uint64_t upper_kind, uint64_t upper,
+                          uint64_t value, uint64_t *answer);
+uint64_t vizturel_abi_flip(uint64_t *words, size_t count, uint64_t world, uint64_t lower_kind, uint64_t lower, uint64_t upper_kind, uint64_t upper);
+uint64_t vizturel_abi_set_strict(uint64_t *words, size_t count, uint64_t world, uint64_t lower_kind, uint64_t lower, uint64_t upper_kind,
+                                 uint64_t upper, uint64_t value, uint64_t *answer);
+uint64_t vizturel_abi_flip_strict(uint64_t *words, size_t count, uint64_t world, uint64_t lower_kind, uint64_t lower, uint64_t upper_kind,
+                                  uint64_t upper);
+uint64_t vizturel_abi_set_rect(uint64_t *words, size_t count, uint64_t world, uint64_t top, uint64_t left, uint64_t bottom, uint64_t right,
+                               uint64_t value, uint64_t *answer);
+uint64_t vizturel_abi_shift(uint64_t *words, size_t count, uint64_t world, uint64_t distance, uint64_t left);
+uint64_t vizturel_abi_get(const uint64_t *words, size_t count, uint64_t world, uint64_t x, uint64_t *answer);
+uint64_t vizturel_abi_run_at(const uint64_t *words, size_t count, uint64_t world, uint64_t x, uint64_t *answer);
+uint64_t vizturel_abi_find(const uint64_t *words, size_t count, uint64_t world, uint64_t lower_kind, uint64_t lower, uint64_t upper_kind,
+                           uint64_t upper, uint64_t value, uint64_t *answer);
+uint64_t vizturel_abi_tally(const uint64_t *words, size_t count, uint64_t world, uint64_t lower_kind, uint64_t lower, uint64_t upper_kind,
+                            uint64_t upper, uint64_t value, uint64_t *answer);
+uint64_t vizturel_abi_tally_strict(const uint64_t *words, size_t count, uint64_t world, uint64_t lower_kind, uint64_t lower, uint64_t upper_kind,
+                                   uint64_t upper, uint64_t value, uint64_t *answer);
+uint64_t vizturel_abi_select(const uint64_t *words, size_t count, uint64_t world, uint64_t lower_kind, uint64_t lower, uint64_t upper_kind,
+                             uint64_t upper, uint64_t value, uint64_t k, uint64_t *answer);
+uint64_t vizturel_abi_ranges(const uint64_t *words, size_t count, uint64_t world, uint64_t lower_kind, uint64_t lower, uint64_t upper_kind,
+                             uint64_t upper, uint64_t value, uint64_t *answer);
+uint64_t vizturel_abi_draw_front(const uint64_t *words, size_t count, uint64_t world, uint64_t first, uint64_t last, uint64_t value,
+                                 uint64_t *answer);
+uint64_t vizturel_abi_draw_back(const uint64_t *words, size_t count, uint64_t world, uint64_t first, uint64_t last, uint64_t value, uint64_t *answer);
+uint64_t vizturel_abi_gap(const uint64_t *words, size_t count, uint64_t world, uint64_t lower_kind, uint64_t lower, uint64_t upper_kind,
+                          uint64_t upper, uint64_t n, uint64_t *answer);
+uint64_t vizturel_abi_fill(const uint64_t *words, size_t count, uint64_t world, uint64_t base, uint64_t length, uint64_t *answer);
+uint64_t vizturel_abi_count_rect(const uint64_t *words, size_t count, uint64_t world, uint64_t top, uint64_t left, uint64_t bottom, uint64_t right,
+                                 uint64_t *answer);
+uint64_t vizturel_abi_survey(const uint64_t *words, size_t count, uint64_t world, uint64_t row, uint64_t column, uint64_t k, uint64_t *out,
+                             size_t out_count, uint64_t *answer);
+uint64_t vizturel_abi_eq(const uint64_t *words, size_t count, uint64_t world, const uint64_t *b, size_t b_count, uint64_t b_world, uint64_t *answer);
+uint64_t vizturel_abi_combine(uint64_t *words, size_t count, uint64_t world, uint64_t op, const uint64_t *a, size_t a_count, uint64_t a_world,
+                              const uint64_t *b, size_t b_count, uint64_t b_world);
+uint64_t vizturel_abi_not(uint64_t *words, size_t count, uint64_t world, const uint64_t *a, size_t a_count, uint64_t a_world);
+uint64_t vizturel_abi_shifted(uint64_t *words, size_t count, uint64_t world, uint64_t distance, uint64_t left, const uint64_t *a, size_t a_count,
+                              uint64_t a_world);
+uint64_t vizturel_abi_load(uint64_t *words, size_t count, uint64_t world, const uint8_t *bytes, size_t bytes_count);
+uint64_t vizturel_abi_mend(uint64_t *words, size_t count, uint64_t world, const uint8_t *bytes, size_t bytes_count, uint8_t *out, size_t out_count,
+                           uint8_t *report, size_t report_count, uint64_t *answer);
+uint64_t vizturel_abi_build(uint64_t *words, size_t count, uint64_t world, const uint64_t *runs, size_t runs_count);
+uint64_t vizturel_abi_write(const uint64_t *words, size_t count, uint64_t world, uint64_t edition, uint8_t *out, size_t out_count, uint64_t *answer);
+uint64_t vizturel_abi_convert(const uint8_t *bytes, size_t bytes_count, uint8_t *out, size_t out_count, uint64_t *answer);
+uint64_t vizturel_abi_write_map(const uint64_t *words, size_t count, uint64_t world, uint64_t base, uint64_t length, uint8_t *out, size_t out_count,
+                                uint64_t *answer);
+uint64_t vizturel_abi_write_map_by_bytes(const uint64_t *words, size_t count, uint64_t world, uint64_t base, uint64_t length, uint8_t *out,
+                                         size_t out_count, uint64_t *answer);
+uint64_t vizturel_abi_read_map(uint64_t *words, size_t count, uint64_t world, uint64_t base, uint64_t length, const uint8_t *bytes,
+                               size_t bytes_count, uint64_t *answer);
+uint64_t vizturel_abi_read_map_by_bytes(uint64_t *words, size_t count, uint64_t world, uint64_t base, uint64_t length, const uint8_t *bytes,
+                                        size_t bytes_count, uint64_t *answer);
+uint64_t vizturel_abi_clear_map(uint64_t base, uint64_t length, uint8_t *map, size_t map_count, uint64_t *answer);
+uint64_t vizturel_abi_deepest(const uint64_t *words, size_t count, uint64_t h, uint64_t *out, size_t out_count, uint64_t *answer);
+uint64_t vizturel_abi_why_full(const uint64_t *words, size_t count, const uint64_t *ranges, size_t ranges_words, uint64_t *out, size_t out_count,
+                               uint64_t *answer);
+uint64_t vizturel_abi_frame(uint64_t *words, size_t count, const uint64_t *calls, size_t calls_words, uint64_t *answers, size_t answers_words);
+/* end of what is exported */
+
+/* ---- the calls as they are declared above, over what is exported */
+
+/* the calls, from abi/calls.toml */
+static inline uint64_t vizturel_new(uint64_t *words, size_t count, const uint64_t *limits, size_t limits_count) {
+    return vizturel_abi_new(words, count, limits, limits_count);
+}
+
+static inline vizturel_counted vizturel_set(uint64_t *words, size_t count, uint64_t world, vizturel_bound lower, vizturel_bound upper,
+                                            uint64_t value) {
+    uint64_t answer[8] = {0};
+    uint64_t refusal = vizturel_abi_set(words, count, world, lower.kind, lower.value, upper.kind, upper.value, value, answer);
+    vizturel_counted given = {refusal, answer[1], answer[2]};
+    return given;
+}
+
+static inline uint64_t vizturel_flip(uint64_t *words, size_t count, uint64_t world, vizturel_bound lower, vizturel_bound upper) {
+    return vizturel_abi_flip(words, count, world, lower.kind, lower.value, upper.kind, upper.value);
+}
+
+static inline vizturel_counted vizturel_set_strict(uint64_t *words, size_t count, uint64_t world, vizturel_bound lower, vizturel_bound upper,
+                                                   uint64_t value) {
+    uint64_t answer[8] = {0};
+    uint64_t refusal = vizturel_abi_set_strict(words, count, world, lower.kind, lower.value, upper.kind, upper.value, value, answer);
+    vizturel_counted given = {refusal, answer[1], answer[2]};
+    return given;
+}
+
+static inline uint64_t vizturel_flip_strict(uint64_t *words, size_t count, uint64_t world, vizturel_bound lower, vizturel_bound upper) {
+    return vizturel_abi_flip_strict(words, count, world, lower.kind, lower.value, upper.kind, upper.value);
+}
+
+static inline vizturel_counted vizturel_set_rect(uint64_t *words, size_t count, uint64_t world, vizturel_rect rect, uint64_t value) {
+    uint64_t answer[8] = {0};
+    uint64_t refusal = vizturel_abi_set_rect(words, count, world, rect.top, rect.left, rect.bottom, rect.right, value, answer);
+    vizturel_counted given = {refusal, answer[1], answer[2]};
+    return given;
+}
+
+static inline uint64_t vizturel_shift(uint64_t *words, size_t count, uint64_t world, uint64_t distance, uint64_t left) {
+    return vizturel_abi_shift(words, count, world, distance, left);
+}
+
+static inline vizturel_tested vizturel_get(const uint64_t *words, size_t count, uint64_t world, uint64_t x) {
+    uint64_t answer[8] = {0};
+    uint64_t refusal = vizturel_abi_get(words, count, world, x, answer);
+    vizturel_tested given = {refusal, answer[2]};
+    return given;
+}
+
+static inline vizturel_around vizturel_run_at(const uint64_t *words, size_t count, uint64_t world, uint64_t x) {
+    uint64_t answer[8] = {0};
+    uint64_t refusal = vizturel_abi_run_at(words, count, world, x, answer);
+    vizturel_around given = {refusal, answer[2], answer[3]};
+    return given;
+}
+
+static inline vizturel_found vizturel_find(const uint64_t *words, size_t count, uint64_t world, vizturel_bound lower, vizturel_bound upper,
+                                           uint64_t value) {
+    uint64_t answer[8] = {0};
+    uint64_t refusal = vizturel_abi_find(words, count, world, lower.kind, lower.value, upper.kind, upper.value, value, answer);
+    vizturel_found given = {refusal, answer[1], answer[2]};
+    return given;
+}
+
+static inline vizturel_tallied vizturel_tally(const uint64_t *words, size_t count, uint64_t world, vizturel_bound lower, vizturel_bound upper,
+                                              uint64_t value) {
+    uint64_t answer[8] = {0};
+    uint64_t refusal = vizturel_abi_tally(words, count, world, lower.kind, lower.value, upper.kind, upper.value, value, answer);
+    vizturel_tallied given = {refusal, answer[1], answer[2], answer[3]};
+    return given;
+}
+
+static inline vizturel_tallied vizturel_tally_strict(const uint64_t *words, size_t count, uint64_t world, vizturel_bound lower, vizturel_bound upper,
+                                                     uint64_t value) {
+    uint64_t answer[8] = {0};
+    uint64_t refusal = vizturel_abi_tally_strict(words, count, world, lower.kind, lower.value, upper.kind, upper.value, value, answer);
+    vizturel_tallied given = {refusal, answer[1], answer[2], answer[3]};
+    return given;
+}
+
+static inline vizturel_found vizturel_select(const uint64_t *words, size_t count, uint64_t world, vizturel_bound lower, vizturel_bound upper,
+                                             uint64_t value, uint64_t k) {
+    uint64_t answer[8] = {0};
+    uint64_t refusal = vizturel_abi_select(words, count, world, lower.kind, lower.value, upper.kind, upper.value, value, k, answer);
+    vizturel_found given = {refusal, answer[1], answer[2]};
+    return given;
+}
+
+static inline vizturel_listed vizturel_ranges(const uint64_t *words, size_t count, uint64_t world, vizturel_bound lower, vizturel_bound upper,
+                                              uint64_t value) {
+    uint64_t answer[8] = {0};
+    uint64_t refusal = vizturel_abi_ranges(words, count, world, lower.kind, lower.value, upper.kind, upper.value, value, answer);
+    vizturel_listed given = {refusal, answer[4], answer[5], answer[6]};
+    return given;
+}
+
+static inline vizturel_drawn vizturel_draw_front(const uint64_t *words, size_t count, uint64_t world, uint64_t first, uint64_t last, uint64_t value) {
+    uint64_t answer[8] = {0};
+    uint64_t refusal = vizturel_abi_draw_front(words, count, world, first, last, value, answer);
+    vizturel_drawn given = {refusal, answer[1], answer[2], answer[3], answer[4], answer[5]};
+    return given;
+}
+
+static inline vizturel_drawn vizturel_draw_back(const uint64_t *words, size_t count, uint64_t world, uint64_t first, uint64_t last, uint64_t value) {
+    uint64_t answer[8] = {0};
+    uint64_t refusal = vizturel_abi_draw_back(words, count, world, first, last, value, answer);
+    vizturel_drawn given = {refusal, answer[1], answer[2], answer[3], answer[4], answer[5]};
+    return given;
+}
+
+static inline vizturel_found vizturel_gap(const uint64_t *words, size_t count, uint64_t world, vizturel_bound lower, vizturel_bound upper,
+                                          uint64_t n) {
+    uint64_t answer[8] = {0};
+    uint64_t refusal = vizturel_abi_gap(words, count, world, lower.kind, lower.value, upper.kind, upper.value, n, answer);
+    vizturel_found given = {refusal, answer[1], answer[2]};
+    return given;
+}
+
+static inline vizturel_numbered vizturel_fill(const uint64_t *words, size_t count, uint64_t world, uint64_t base, uint64_t length) {
+    uint64_t answer[8] = {0};
+    uint64_t refusal = vizturel_abi_fill(words, count, world, base, length, answer);
+    vizturel_numbered given = {refusal, answer[2]};
+    return given;
+}
+
+static inline vizturel_numbered vizturel_count_rect(const uint64_t *words, size_t count, uint64_t world, vizturel_rect rect) {
+    uint64_t answer[8] = {0};
+    uint64_t refusal = vizturel_abi_count_rect(words, count, world, rect.top, rect.left, rect.bottom, rect.right, answer);
+    vizturel_numbered given = {refusal, answer[2]};
+    return given;
+}
+
+static inline vizturel_worded vizturel_survey(const uint64_t *words, size_t count, uint64_t world, uint64_t row, uint64_t column, uint64_t k,
+                                              uint64_t *out, size_t out_count) {
+    uint64_t answer[8] = {0};
+    uint64_t refusal = vizturel_abi_survey(words, count, world, row, column, k, out, out_count, answer);
+    vizturel_worded given = {refusal, answer[2]};
+    return given;
+}
+
+static inline vizturel_tested vizturel_eq(const uint64_t *words, size_t count, uint64_t world, const uint64_t *b, size_t b_count, uint64_t b_world) {
+    uint64_t answer[8] = {0};
+    uint64_t refusal = vizturel_abi_eq(words, count, world, b, b_count, b_world, answer);
+    vizturel_tested given = {refusal, answer[2]};
+    return given;
+}
+
+static inline uint64_t vizturel_combine(uint64_t *words, size_t count, uint64_t world, uint64_t op, const uint64_t *a, size_t a_count,
+                                        uint64_t a_world, const uint64_t *b, size_t b_count, uint64_t b_world) {
+    return vizturel_abi_combine(words, count, world, op, a, a_count, a_world, b, b_count, b_world);
+}
+
+static inline uint64_t vizturel_not(uint64_t *words, size_t count, uint64_t world, const uint64_t *a, size_t a_count, uint64_t a_world) {
+    return vizturel_abi_not(words, count, world, a, a_count, a_world);
+}
+
+static inline uint64_t vizturel_shifted(uint64_t *words, size_t count, uint64_t world, uint64_t distance, uint64_t left, const uint64_t *a,
+                                        size_t a_count, uint64_t a_world) {
+    return vizturel_abi_shifted(words, count, world, distance, left, a, a_count, a_world);
+}
+
+static inline uint64_t vizturel_load(uint64_t *words, size_t count, uint64_t world, const uint8_t *bytes, size_t bytes_count) {
+    return vizturel_abi_load(words, count, world, bytes, bytes_count);
+}
+
+static inline vizturel_mended vizturel_mend(uint64_t *words, size_t count, uint64_t world, const uint8_t *bytes, size_t bytes_count, uint8_t *out,
+                                            size_t out_count, uint8_t *report, size_t report_count) {
+    uint64_t answer[8] = {0};
+    uint64_t refusal = vizturel_abi_mend(words, count, world, bytes, bytes_count, out, out_count, report, report_count, answer);
+    vizturel_mended given = {refusal, answer[2], answer[3]};
+    return given;
+}
+
+static inline uint64_t vizturel_build(uint64_t *words, size_t count, uint64_t world, const uint64_t *runs, size_t runs_count) {
+    return vizturel_abi_build(words, count, world, runs, runs_count);
+}
+
+static inline vizturel_written vizturel_write(const uint64_t *words, size_t count, uint64_t world, uint64_t edition, uint8_t *out, size_t out_count) {
+    uint64_t answer[8] = {0};
+    uint64_t refusal = vizturel_abi_write(words, count, world, edition, out, out_count, answer);
+    vizturel_written given = {refusal, answer[2]};
+    return given;
+}
+
+static inline vizturel_written vizturel_convert(const uint8_t *bytes, size_t bytes_count, uint8_t *out, size_t out_count) {
+    uint64_t answer[8] = {0};
+    uint64_t refusal = vizturel_abi_convert(bytes, bytes_count, out, out_count, answer);
+    vizturel_written given = {refusal, answer[2]};
+    return given;
+}
+
+static inline vizturel_written vizturel_write_map(const uint64_t *words, size_t count, uint64_t world, uint64_t base, uint64_t length, uint8_t *out,
+                                                  size_t out_count) {
+    uint64_t answer[8] = {0};
+    uint64_t refusal = vizturel_abi_write_map(words, count, world, base, length, out, out_count, answer);
+    vizturel_written given = {refusal, answer[2]};
+    return given;
+}
+
+static inline vizturel_written vizturel_write_map_by_bytes(const uint64_t *words, size_t count, uint64_t world, uint64_t base, uint64_t length,
+                                                           uint8_t *out, size_t out_count) {
+    uint64_t answer[8] = {0};
+    uint64_t refusal = vizturel_abi_write_map_by_bytes(words, count, world, base, length, out, out_count, answer);
+    vizturel_written given = {refusal, answer[2]};
+    return given;
+}
+
+static inline vizturel_counted vizturel_read_map(uint64_t *words, size_t count, uint64_t world, uint64_t base, uint64_t length, const uint8_t *bytes,
+                                                 size_t bytes_count) {
+    uint64_t answer[8] = {0};
+    uint64_t refusal = vizturel_abi_read_map(words, count, world, base, length, bytes, bytes_count, answer);
+    vizturel_counted given = {refusal, answer[1], answer[2]};
+    return given;
+}
+
+static inline vizturel_counted vizturel_read_map_by_bytes(uint64_t *words, size_t count, uint64_t world, uint64_t base, uint64_t length,
+                                                          const uint8_t *bytes, size_t bytes_count) {
+    uint64_t answer[8] = {0};
+    uint64_t refusal = vizturel_abi_read_map_by_bytes(words, count, world, base, length, bytes, bytes_count, answer);
+    vizturel_counted given = {refusal, answer[1], answer[2]};
+    return given;
+}
+
+static inline vizturel_numbered vizturel_clear_map(uint64_t base, uint64_t length, uint8_t *map, size_t map_count) {
+    uint64_t answer[8] = {0};
+    uint64_t refusal = vizturel_abi_clear_map(base, length, map, map_count, answer);
+    vizturel_numbered given = {refusal, answer[2]};
+    return given;
+}
+
+static inline vizturel_worded vizturel_deepest(const uint64_t *words, size_t count, uint64_t h, uint64_t *out, size_t out_count) {
+    uint64_t answer[8] = {0};
+    uint64_t refusal = vizturel_abi_deepest(words, count, h, out, out_count, answer);
+    vizturel_worded given = {refusal, answer[2]};
+    return given;
+}
+
+static inline vizturel_worded vizturel_why_full(const uint64_t *words, size_t count, const uint64_t *ranges, size_t ranges_words, uint64_t *out,
+                                                size_t out_count) {
+    uint64_t answer[8] = {0};
+    uint64_t refusal = vizturel_abi_why_full(words, count, ranges, ranges_words, out, out_count, answer);
+    vizturel_worded given = {refusal, answer[2]};
+    return given;
+}
+
+static inline uint64_t vizturel_frame(uint64_t *words, size_t count, const uint64_t *calls, size_t calls_words, uint64_t *answers,
+                                      size_t answers_words) {
+    return vizturel_abi_frame(words, count, calls, calls_words, answers, answers_words);
+}
+/* end of the calls */
 
 #ifdef __cplusplus
 }

@@ -129,7 +129,7 @@ pub enum Reply {
 ///
 /// 7 and 9 are withdrawn: records with these numbers are answered with 12, whatever world they name. All other numbers of calls and kinds of
 /// bounds that no [`Call`] has are reserved: a later version may give them a meaning. This version answers a call number above 20 as `Get`, and
-/// takes a kind above 2 for no bound; do not rely on that. The two calls on a rectangle have no bounds: the four words of these are the first row, the
+/// takes a range with a bound of another kind than 1, 2 and 3 for an empty one; do not rely on that. The two calls on a rectangle have no bounds: the four words of these are the first row, the
 /// first column, the last row and the last column.
 #[repr(C)]
 #[derive(Clone, Copy, Debug, Default, PartialEq, Eq)]
@@ -177,15 +177,8 @@ impl From<(u64, Call)> for CallRecord {
     fn from((world, call): (u64, Call)) -> CallRecord {
         let none = CallRecord { world, ..CallRecord::default() };
         let over = |call, r: Range| {
-            let (lower, upper) = crate::bounds(r);
-            CallRecord {
-                call,
-                lower_kind: lower.kind,
-                lower: lower.value,
-                upper_kind: upper.kind,
-                upper: upper.value,
-                ..none
-            }
+            let [lower_kind, lower, upper_kind, upper] = crate::numbers(r);
+            CallRecord { call, lower_kind, lower, upper_kind, upper, ..none }
         };
         let of_range = |call, r, value: bool| CallRecord { value: value.into(), ..over(call, r) };
         let of_rect = |call, Rect { top, left, bottom, right }: Rect| CallRecord {

@@ -39,6 +39,8 @@ use std::error;
 use std::fmt;
 use std::ops::{Bound, Deref, DerefMut, RangeBounds, RangeInclusive};
 
+use frame::AnswerRecord;
+
 pub mod bench;
 pub mod conformance;
 pub mod differential;
@@ -295,7 +297,8 @@ impl Piece {
 const _: () = assert!(size_of::<Piece>() == 8 * Piece::WORDS && align_of::<Piece>() == 8);
 
 /// A range of a list, as the library reads it: see `vizturel_range` in `include/vizturel.h`. [`RangeRecord::new`] makes it of any range, and it
-/// is one itself, so that it can be set. Kinds above 2 are reserved; this version takes them for no bound.
+/// is one itself, so that it can be set. Kind 1 includes the value, 2 excludes it, 3 is no bound. Other kinds, 0 among them, are reserved; this
+/// version takes a range with such a bound for an empty one, as [`RangeRecord::default`] is.
 #[repr(C)]
 #[derive(Clone, Copy, Debug, Default, PartialEq, Eq)]
 pub struct RangeRecord {
@@ -311,18 +314,26 @@ impl RangeRecord {
 
     /// The record of a range.
     pub fn new(range: impl RangeBounds<u64>) -> RangeRecord {
-        let (lower, upper) = bounds(range);
-        RangeRecord { lower_kind: lower.kind, lower: lower.value, upper_kind: upper.kind, upper: upper.value }
+        let [lower_kind, lower, upper_kind, upper] = numbers(range);
+        RangeRecord { lower_kind, lower, upper_kind, upper }
+    }
+
+    // Both at once: a reserved kind empties the range at either end.
+    fn ends(&self) -> (Bound<&u64>, Bound<&u64>) {
+        match (bound_of(self.lower_kind, &self.lower), bound_of(self.upper_kind, &self.upper)) {
+            (Some(lower), Some(upper)) => (lower, upper),
+            _ => (Bound::Included(&0), Bound::Excluded(&0)),
+        }
     }
 }
 
 impl RangeBounds<u64> for RangeRecord {
     fn start_bound(&self) -> Bound<&u64> {
-        bound_of(self.lower_kind, &self.lower)
+        self.ends().0
     }
 
     fn end_bound(&self) -> Bound<&u64> {
-        bound_of(self.upper_kind, &self.upper)
+        self.ends().1
     }
 }
 
@@ -433,42 +444,49 @@ fn positions(carry: u64, low: u64) -> u128 {
     (u128::from(carry) << 64) + u128::from(low)
 }
 
-fn count(c: raw::Counted) -> Answer<u128> {
-    answer(c.refusal, positions(c.carry, c.low))
+// The record of what a call gives, which a refused call leaves as it was; or the refusal.
+fn given(call: impl FnOnce(*mut u64) -> u64) -> Answer<AnswerRecord> {
+    let mut record = AnswerRecord::default();
+    let refusal = call((&raw mut record).cast());
+    debug_assert!(refusal == 0 || record == AnswerRecord::default(), "a refused call changed the record");
+    answer(refusal, record)
 }
 
-fn tallied(t: raw::Tallied) -> Answer<Tally> {
-    answer(t.refusal, Tally { positions: positions(t.carry, t.low), runs: t.runs })
+fn count(call: impl FnOnce(*mut u64) -> u64) -> Answer<u128> {
+    given(call).map(|record| positions(record.found, record.number))
 }
 
-fn number(n: raw::Numbered) -> Answer<u64> {
-    answer(n.refusal, n.number)
+fn tallied(call: impl FnOnce(*mut u64) -> u64) -> Answer<Tally> {
+    given(call).map(|record| Tally { positions: positions(record.found, record.number), runs: record.end })
 }
 
-fn position(p: raw::Found) -> Answer<Option<u64>> {
-    answer(p.refusal, (p.found == 1).then_some(p.position))
+fn number(call: impl FnOnce(*mut u64) -> u64) -> Answer<u64> {
+    given(call).map(|record| record.number)
 }
 
-fn bound(b: Bound<&u64>) -> raw::Bound {
-    let (kind, value) = match b {
+fn position(call: impl FnOnce(*mut u64) -> u64) -> Answer<Option<u64>> {
+    given(call).map(|record| (record.found == 1).then_some(record.number))
+}
+
+// A range as it is lent: the kind and the value of either bound.
+fn numbers(range: impl RangeBounds<u64>) -> [u64; 4] {
+    let of = |bound| match bound {
         Bound::Included(&v) => (1, v),
         Bound::Excluded(&v) => (2, v),
-        Bound::Unbounded => (0, 0),
+        Bound::Unbounded => (3, 0),
     };
-    raw::Bound { kind, value }
+    let ((lower_kind, lower), (upper_kind, upper)) = (of(range.start_bound()), of(range.end_bound()));
+    [lower_kind, lower, upper_kind, upper]
 }
 
-// What a kind and a value mean.
-fn bound_of(kind: u64, value: &u64) -> Bound<&u64> {
+// What a kind and a value mean, where the kind is not reserved.
+fn bound_of(kind: u64, value: &u64) -> Option<Bound<&u64>> {
     match kind {
-        1 => Bound::Included(value),
-        2 => Bound::Excluded(value),
-        _ => Bound::Unbounded,
+        1 => Some(Bound::Included(value)),
+        2 => Some(Bound::Excluded(value)),
+        3 => Some(Bound::Unbounded),
+        _ => None,
     }
-}
-
-fn bounds(range: impl RangeBounds<u64>) -> (raw::Bound, raw::Bound) {
-    (bound(range.start_bound()), bound(range.end_bound()))
 }
 
 // SAFETY of every call below: a slice is passed as its pointer and length and borrowed for the call alone, shared where it is only
@@ -491,7 +509,7 @@ fn bounds(range: impl RangeBounds<u64>) -> (raw::Bound, raw::Bound) {
 /// # }
 /// ```
 pub fn clear_map(base: u64, n: u64, map: &mut [u8]) -> Answer<u64> {
-    number(unsafe { raw::vizturel_clear_map(base, n, map.as_mut_ptr(), map.len()) })
+    number(|a| unsafe { raw::vizturel_abi_clear_map(base, n, map.as_mut_ptr(), map.len(), a) })
 }
 
 /// Turns a written set of either edition into the other, in the front of a slice, and hands that part back. Both have the same length;
@@ -515,7 +533,7 @@ pub fn clear_map(base: u64, n: u64, map: &mut [u8]) -> Answer<u64> {
 /// ```
 pub fn convert<'o>(bytes: &[u8], out: &'o mut [u8]) -> Answer<&'o mut [u8]> {
     let (from, to) = (bytes.as_ptr(), out.as_mut_ptr());
-    let written = number(unsafe { raw::vizturel_convert(from, bytes.len(), to, out.len()) })?;
+    let written = number(|a| unsafe { raw::vizturel_abi_convert(from, bytes.len(), to, out.len(), a) })?;
     Ok(&mut out[..written as usize])
 }
 
@@ -524,7 +542,8 @@ impl<S: AsMut<[u64]>> Pool<S> {
     /// Opens a world for each of the limits: worlds 0, 1 and so on, all empty. Refused with 1 of the words, or 11.
     pub fn new(mut words: S, limits: &[Limits]) -> Answer<Pool<S>> {
         let w = words.as_mut();
-        let refusal = unsafe { raw::vizturel_new(w.as_mut_ptr(), w.len(), limits.as_ptr().cast(), 2 * limits.len()) };
+        let refusal =
+            unsafe { raw::vizturel_abi_new(w.as_mut_ptr(), w.len(), limits.as_ptr().cast(), 2 * limits.len()) };
         answer(refusal, Pool { words })
     }
 }
@@ -589,7 +608,7 @@ impl<S: AsRef<[u64]>> Pool<S> {
         let w = self.words();
         let to = out.as_flattened_mut();
         let (to, room) = (to.as_mut_ptr(), to.len());
-        let written = number(unsafe { raw::vizturel_deepest(w.as_ptr(), w.len(), height, to, room) })?;
+        let written = number(|a| unsafe { raw::vizturel_abi_deepest(w.as_ptr(), w.len(), height, to, room, a) })?;
         Ok(&mut out[..written as usize / 2])
     }
 
@@ -622,7 +641,8 @@ impl<S: AsRef<[u64]>> Pool<S> {
         // Any four words are a range.
         let (from, length) = (ranges.as_ptr().cast(), RangeRecord::WORDS * ranges.len());
         let (to, room) = (out.as_mut_ptr(), out.len());
-        let written = number(unsafe { raw::vizturel_why_full(w.as_ptr(), w.len(), from, length, to, room) })?;
+        let written =
+            number(|a| unsafe { raw::vizturel_abi_why_full(w.as_ptr(), w.len(), from, length, to, room, a) })?;
         Ok(&mut out[..written as usize])
     }
 }
@@ -680,7 +700,7 @@ impl<S: AsMut<[u64]>> Pool<S> {
     fn play_words(&mut self, calls: &[u64], answers: &mut [u64]) -> Answer<()> {
         let w = self.words_mut();
         let refusal = unsafe {
-            raw::vizturel_frame(
+            raw::vizturel_abi_frame(
                 w.as_mut_ptr(),
                 w.len(),
                 calls.as_ptr(),
@@ -704,15 +724,15 @@ impl<S: AsMut<[u64]>> World<S> {
     /// Gives a range the value, and tells how many positions changed. Refused with 8.
     pub fn set(&mut self, range: impl RangeBounds<u64>, value: bool) -> Answer<u128> {
         let (w, n, i) = self.lent_mut();
-        let (lower, upper) = bounds(range);
-        count(unsafe { raw::vizturel_set(w, n, i, lower, upper, value.into()) })
+        let [lk, l, uk, u] = numbers(range);
+        count(|a| unsafe { raw::vizturel_abi_set(w, n, i, lk, l, uk, u, value.into(), a) })
     }
 
     /// Inverts a range. Refused with 8.
     pub fn flip(&mut self, range: impl RangeBounds<u64>) -> Answer<()> {
         let (w, n, i) = self.lent_mut();
-        let (lower, upper) = bounds(range);
-        answer(unsafe { raw::vizturel_flip(w, n, i, lower, upper) }, ())
+        let [lk, l, uk, u] = numbers(range);
+        answer(unsafe { raw::vizturel_abi_flip(w, n, i, lk, l, uk, u) }, ())
     }
 
     /// Gives a range the value as [`set`](World::set) does, and refuses a reversed one. A range is reversed where its lower bound allows
@@ -733,15 +753,15 @@ impl<S: AsMut<[u64]>> World<S> {
     /// ```
     pub fn set_strict(&mut self, range: impl RangeBounds<u64>, value: bool) -> Answer<u128> {
         let (w, n, i) = self.lent_mut();
-        let (lower, upper) = bounds(range);
-        count(unsafe { raw::vizturel_set_strict(w, n, i, lower, upper, value.into()) })
+        let [lk, l, uk, u] = numbers(range);
+        count(|a| unsafe { raw::vizturel_abi_set_strict(w, n, i, lk, l, uk, u, value.into(), a) })
     }
 
     /// Inverts a range as [`flip`](World::flip) does, and refuses a reversed one. Refused with 14, 8.
     pub fn flip_strict(&mut self, range: impl RangeBounds<u64>) -> Answer<()> {
         let (w, n, i) = self.lent_mut();
-        let (lower, upper) = bounds(range);
-        answer(unsafe { raw::vizturel_flip_strict(w, n, i, lower, upper) }, ())
+        let [lk, l, uk, u] = numbers(range);
+        answer(unsafe { raw::vizturel_abi_flip_strict(w, n, i, lk, l, uk, u) }, ())
     }
 
     /// Gives the cells of a rectangle the value, and tells how many changed. Where the runs that it would leave do not fit, no row is changed.
@@ -764,13 +784,14 @@ impl<S: AsMut<[u64]>> World<S> {
     /// ```
     pub fn set_rect(&mut self, rect: Rect, value: bool) -> Answer<u128> {
         let (w, n, i) = self.lent_mut();
-        count(unsafe { raw::vizturel_set_rect(w, n, i, rect, value.into()) })
+        let Rect { top, left, bottom, right } = rect;
+        count(|a| unsafe { raw::vizturel_abi_set_rect(w, n, i, top, left, bottom, right, value.into(), a) })
     }
 
     /// Moves every position up (left) or down; what would leave 0 ..= 2^64 − 1 is dropped.
     pub fn shift(&mut self, distance: u64, left: bool) -> Answer<()> {
         let (w, n, i) = self.lent_mut();
-        answer(unsafe { raw::vizturel_shift(w, n, i, distance, left.into()) }, ())
+        answer(unsafe { raw::vizturel_abi_shift(w, n, i, distance, left.into()) }, ())
     }
 
     /// Makes every call of a list at this world: see [`Pool::frame`].
@@ -794,13 +815,13 @@ impl<S: AsMut<[u64]>> World<S> {
     /// A map with a spare bit that is one is not read: [`clear_map`] zeroes these bits.
     pub fn read_map(&mut self, base: u64, length: u64, map: &[u8]) -> Answer<u128> {
         let (w, n, i) = self.lent_mut();
-        count(unsafe { raw::vizturel_read_map(w, n, i, base, length, map.as_ptr(), map.len()) })
+        count(|a| unsafe { raw::vizturel_abi_read_map(w, n, i, base, length, map.as_ptr(), map.len(), a) })
     }
 
     /// [`World::read_map`] by single bytes, for whoever compares the two: the same answer, refusals and positions.
     pub fn read_map_by_bytes(&mut self, base: u64, length: u64, map: &[u8]) -> Answer<u128> {
         let (w, n, i) = self.lent_mut();
-        count(unsafe { raw::vizturel_read_map_by_bytes(w, n, i, base, length, map.as_ptr(), map.len()) })
+        count(|a| unsafe { raw::vizturel_abi_read_map_by_bytes(w, n, i, base, length, map.as_ptr(), map.len(), a) })
     }
 }
 
@@ -813,13 +834,13 @@ impl<S: AsMut<[u64]>> World<S> {
     pub fn build(&mut self, runs: &[[u64; 2]]) -> Answer<()> {
         let (w, n, i) = self.lent_mut();
         let r = runs.as_flattened();
-        answer(unsafe { raw::vizturel_build(w, n, i, r.as_ptr(), r.len()) }, ())
+        answer(unsafe { raw::vizturel_abi_build(w, n, i, r.as_ptr(), r.len()) }, ())
     }
 
     /// Holds the set that a written set of either edition tells. Refused with 3, 4, 5 or 8.
     pub fn load(&mut self, bytes: &[u8]) -> Answer<()> {
         let (w, n, i) = self.lent_mut();
-        answer(unsafe { raw::vizturel_load(w, n, i, bytes.as_ptr(), bytes.len()) }, ())
+        answer(unsafe { raw::vizturel_abi_load(w, n, i, bytes.as_ptr(), bytes.len()) }, ())
     }
 
     /// Holds every position of a written set of either edition whose runs may stand in any order, touch and overlap. A run whose start is
@@ -850,9 +871,10 @@ impl<S: AsMut<[u64]>> World<S> {
         let (w, n, i) = self.lent_mut();
         // A fate is a byte, and the library leaves 0, 1 or 2 in those that it writes.
         let (to, fates) = (out.as_mut_ptr(), report.as_mut_ptr().cast());
-        let m = unsafe { raw::vizturel_mend(w, n, i, bytes.as_ptr(), bytes.len(), to, out.len(), fates, report.len()) };
-        let [filled, told] = answer(m.refusal, [m.bytes, m.report])?;
-        Ok(Mended { set: &mut out[..filled as usize], fates: &mut report[..told as usize] })
+        let (from, length) = (bytes.as_ptr(), bytes.len());
+        let mended =
+            given(|a| unsafe { raw::vizturel_abi_mend(w, n, i, from, length, to, out.len(), fates, report.len(), a) })?;
+        Ok(Mended { set: &mut out[..mended.number as usize], fates: &mut report[..mended.end as usize] })
     }
 
     /// Holds two sets joined. Refused with 8.
@@ -862,19 +884,19 @@ impl<S: AsMut<[u64]>> World<S> {
         B: AsRef<[u64]>,
     {
         let ((w, n, i), (aw, an, ai), (bw, bn, bi)) = (self.lent_mut(), a.lent(), b.lent());
-        answer(unsafe { raw::vizturel_combine(w, n, i, op as u64, aw, an, ai, bw, bn, bi) }, ())
+        answer(unsafe { raw::vizturel_abi_combine(w, n, i, op as u64, aw, an, ai, bw, bn, bi) }, ())
     }
 
     /// Holds the complement of a set. Refused with 8.
     pub fn not<A: AsRef<[u64]>>(&mut self, a: &World<A>) -> Answer<()> {
         let ((w, n, i), (aw, an, ai)) = (self.lent_mut(), a.lent());
-        answer(unsafe { raw::vizturel_not(w, n, i, aw, an, ai) }, ())
+        answer(unsafe { raw::vizturel_abi_not(w, n, i, aw, an, ai) }, ())
     }
 
     /// Holds a set moved up (left) or down; what would leave 0 ..= 2^64 − 1 is dropped. Refused with 8.
     pub fn shifted<A: AsRef<[u64]>>(&mut self, a: &World<A>, distance: u64, left: bool) -> Answer<()> {
         let ((w, n, i), (aw, an, ai)) = (self.lent_mut(), a.lent());
-        answer(unsafe { raw::vizturel_shifted(w, n, i, distance, left.into(), aw, an, ai) }, ())
+        answer(unsafe { raw::vizturel_abi_shifted(w, n, i, distance, left.into(), aw, an, ai) }, ())
     }
 }
 
@@ -888,21 +910,20 @@ impl<S: AsRef<[u64]>> World<S> {
     /// The value of a position.
     pub fn get(&self, x: u64) -> Answer<bool> {
         let (w, n, i) = self.lent();
-        Ok(number(unsafe { raw::vizturel_get(w, n, i, x) })? == 1)
+        Ok(number(|a| unsafe { raw::vizturel_abi_get(w, n, i, x, a) })? == 1)
     }
 
     /// The run around a position, of whichever value it has.
     pub fn run_at(&self, x: u64) -> Answer<RangeInclusive<u64>> {
         let (w, n, i) = self.lent();
-        let r = unsafe { raw::vizturel_run_at(w, n, i, x) };
-        answer(r.refusal, r.start..=r.end)
+        given(|a| unsafe { raw::vizturel_abi_run_at(w, n, i, x, a) }).map(|run| run.number..=run.end)
     }
 
     /// The least position of the value in a range.
     pub fn find(&self, range: impl RangeBounds<u64>, value: bool) -> Answer<Option<u64>> {
         let (w, n, i) = self.lent();
-        let (lower, upper) = bounds(range);
-        position(unsafe { raw::vizturel_find(w, n, i, lower, upper, value.into()) })
+        let [lk, l, uk, u] = numbers(range);
+        position(|a| unsafe { raw::vizturel_abi_find(w, n, i, lk, l, uk, u, value.into(), a) })
     }
 
     /// How many positions of a range have the value, and in how many runs they lie, those included that the range's ends cut.
@@ -920,22 +941,22 @@ impl<S: AsRef<[u64]>> World<S> {
     /// ```
     pub fn tally(&self, range: impl RangeBounds<u64>, value: bool) -> Answer<Tally> {
         let (w, n, i) = self.lent();
-        let (lower, upper) = bounds(range);
-        tallied(unsafe { raw::vizturel_tally(w, n, i, lower, upper, value.into()) })
+        let [lk, l, uk, u] = numbers(range);
+        tallied(|a| unsafe { raw::vizturel_abi_tally(w, n, i, lk, l, uk, u, value.into(), a) })
     }
 
     /// The tally of a range, as [`tally`](World::tally) gives it, and a reversed one is refused. Refused with 14.
     pub fn tally_strict(&self, range: impl RangeBounds<u64>, value: bool) -> Answer<Tally> {
         let (w, n, i) = self.lent();
-        let (lower, upper) = bounds(range);
-        tallied(unsafe { raw::vizturel_tally_strict(w, n, i, lower, upper, value.into()) })
+        let [lk, l, uk, u] = numbers(range);
+        tallied(|a| unsafe { raw::vizturel_abi_tally_strict(w, n, i, lk, l, uk, u, value.into(), a) })
     }
 
     /// The position of a range that has the value and exactly k such positions before it.
     pub fn select(&self, range: impl RangeBounds<u64>, value: bool, k: u64) -> Answer<Option<u64>> {
         let (w, n, i) = self.lent();
-        let (lower, upper) = bounds(range);
-        position(unsafe { raw::vizturel_select(w, n, i, lower, upper, value.into(), k) })
+        let [lk, l, uk, u] = numbers(range);
+        position(|a| unsafe { raw::vizturel_abi_select(w, n, i, lk, l, uk, u, value.into(), k, a) })
     }
 
     /// The runs of the value in a range, clipped to it, from both ends.
@@ -947,23 +968,23 @@ impl<S: AsRef<[u64]>> World<S> {
     /// A listing of the runs of the value in a range, kept beside the world.
     pub fn listing(&self, range: impl RangeBounds<u64>, value: bool) -> Answer<Listing> {
         let (w, n, i) = self.lent();
-        let (lower, upper) = bounds(range);
-        let l = unsafe { raw::vizturel_ranges(w, n, i, lower, upper, value.into()) };
-        answer(l.refusal, Listing { first: l.first, last: l.last, value: l.value == 1 })
+        let [lk, l, uk, u] = numbers(range);
+        let left = given(|a| unsafe { raw::vizturel_abi_ranges(w, n, i, lk, l, uk, u, value.into(), a) })?;
+        Ok(Listing { first: left.first, last: left.last, value: left.value == 1 })
     }
 
     /// Draws the first run that is left in a listing, and moves the listing past it.
     pub fn draw_front(&self, listing: &mut Listing) -> Answer<Option<RangeInclusive<u64>>> {
         let (w, n, i) = self.lent();
         let Listing { first, last, value } = *listing;
-        drawn(listing, unsafe { raw::vizturel_draw_front(w, n, i, first, last, value.into()) })
+        drawn(listing, |a| unsafe { raw::vizturel_abi_draw_front(w, n, i, first, last, value.into(), a) })
     }
 
     /// Draws the last run that is left in a listing, and moves the listing before it.
     pub fn draw_back(&self, listing: &mut Listing) -> Answer<Option<RangeInclusive<u64>>> {
         let (w, n, i) = self.lent();
         let Listing { first, last, value } = *listing;
-        drawn(listing, unsafe { raw::vizturel_draw_back(w, n, i, first, last, value.into()) })
+        drawn(listing, |a| unsafe { raw::vizturel_abi_draw_back(w, n, i, first, last, value.into(), a) })
     }
 
     /// The start of the lowest gap of a range: so many neighbouring positions, all in the range and all free. None exactly if the range
@@ -985,20 +1006,21 @@ impl<S: AsRef<[u64]>> World<S> {
     /// ```
     pub fn gap(&self, range: impl RangeBounds<u64>, length: u64) -> Answer<Option<u64>> {
         let (w, n, i) = self.lent();
-        let (lower, upper) = bounds(range);
-        position(unsafe { raw::vizturel_gap(w, n, i, lower, upper, length) })
+        let [lk, l, uk, u] = numbers(range);
+        position(|a| unsafe { raw::vizturel_abi_gap(w, n, i, lk, l, uk, u, length, a) })
     }
 
     /// 1000 × held positions / length in the window of so many positions from base on, rounded up: 0 exactly where none is held. Refused with 6.
     pub fn fill(&self, base: u64, length: u64) -> Answer<u64> {
         let (w, n, i) = self.lent();
-        number(unsafe { raw::vizturel_fill(w, n, i, base, length) })
+        number(|a| unsafe { raw::vizturel_abi_fill(w, n, i, base, length, a) })
     }
 
     /// How many cells of a rectangle are held: see [`set_rect`](World::set_rect). Refused with 15.
     pub fn count_rect(&self, rect: Rect) -> Answer<u64> {
         let (w, n, i) = self.lent();
-        number(unsafe { raw::vizturel_count_rect(w, n, i, rect) })
+        let Rect { top, left, bottom, right } = rect;
+        number(|a| unsafe { raw::vizturel_abi_count_rect(w, n, i, top, left, bottom, right, a) })
     }
 
     /// Surveys the square of side 2^k, k from 0 to 8, whose first cell is given by row and column, into the front of a slice, and hands that
@@ -1026,21 +1048,21 @@ impl<S: AsRef<[u64]>> World<S> {
         let (w, n, i) = self.lent();
         // Any words are a piece, and the library writes whole ones.
         let (to, room) = (out.as_mut_ptr().cast(), Piece::WORDS * out.len());
-        let written = number(unsafe { raw::vizturel_survey(w, n, i, row, column, k, to, room) })?;
+        let written = number(|a| unsafe { raw::vizturel_abi_survey(w, n, i, row, column, k, to, room, a) })?;
         Ok(&mut out[..written as usize / Piece::WORDS])
     }
 
     /// Whether two worlds, of one pool or of two, hold the same positions.
     pub fn eq<B: AsRef<[u64]>>(&self, other: &World<B>) -> Answer<bool> {
         let ((w, n, i), (bw, bn, bi)) = (self.lent(), other.lent());
-        Ok(number(unsafe { raw::vizturel_eq(w, n, i, bw, bn, bi) })? == 1)
+        Ok(number(|a| unsafe { raw::vizturel_abi_eq(w, n, i, bw, bn, bi, a) })? == 1)
     }
 
     /// Writes the world's set in an edition into the front of a slice, and hands that part back. Refused with 2.
     pub fn write<'o>(&self, edition: Edition, out: &'o mut [u8]) -> Answer<&'o mut [u8]> {
         let (w, n, i) = self.lent();
         let (to, room) = (out.as_mut_ptr(), out.len());
-        let written = number(unsafe { raw::vizturel_write(w, n, i, edition as u64, to, room) })?;
+        let written = number(|a| unsafe { raw::vizturel_abi_write(w, n, i, edition as u64, to, room, a) })?;
         Ok(&mut out[..written as usize])
     }
 
@@ -1048,7 +1070,8 @@ impl<S: AsRef<[u64]>> World<S> {
     /// 6 or 2.
     pub fn write_map<'o>(&self, base: u64, length: u64, out: &'o mut [u8]) -> Answer<&'o mut [u8]> {
         let (w, n, i) = self.lent();
-        let written = number(unsafe { raw::vizturel_write_map(w, n, i, base, length, out.as_mut_ptr(), out.len()) })?;
+        let written =
+            number(|a| unsafe { raw::vizturel_abi_write_map(w, n, i, base, length, out.as_mut_ptr(), out.len(), a) })?;
         Ok(&mut out[..written as usize])
     }
 
@@ -1056,17 +1079,17 @@ impl<S: AsRef<[u64]>> World<S> {
     pub fn write_map_by_bytes<'o>(&self, base: u64, length: u64, out: &'o mut [u8]) -> Answer<&'o mut [u8]> {
         let (w, n, i) = self.lent();
         let (to, room) = (out.as_mut_ptr(), out.len());
-        let written = number(unsafe { raw::vizturel_write_map_by_bytes(w, n, i, base, length, to, room) })?;
+        let written = number(|a| unsafe { raw::vizturel_abi_write_map_by_bytes(w, n, i, base, length, to, room, a) })?;
         Ok(&mut out[..written as usize])
     }
 }
 
 // A refused draw leaves the listing as it was.
-fn drawn(listing: &mut Listing, d: raw::Drawn) -> Answer<Option<RangeInclusive<u64>>> {
-    answer(d.refusal, ())?;
+fn drawn(listing: &mut Listing, call: impl FnOnce(*mut u64) -> u64) -> Answer<Option<RangeInclusive<u64>>> {
+    let d = given(call)?;
     listing.first = d.first;
     listing.last = d.last;
-    Ok((d.found == 1).then_some(d.start..=d.end))
+    Ok((d.found == 1).then_some(d.number..=d.end))
 }
 
 /// The runs of a world in a range, drawn one by one.

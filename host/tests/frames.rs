@@ -168,7 +168,7 @@ fn records_keep_to_named_numbers() {
     for world in 0..4_000 {
         let record = CallRecord::from((world, any_call(&mut random)));
         // Of a rectangle the words of the kinds are rows, and there are three.
-        assert!(record.lower_kind <= 2 && record.upper_kind <= 2 && record.world == world, "{record:?}");
+        assert!(record.lower_kind <= 3 && record.upper_kind <= 3 && record.world == world, "{record:?}");
         seen[record.call as usize] += 1;
     }
     for (number, &count) in (0..).zip(&seen) {

@@ -158,9 +158,24 @@ fn ranges_without_positions_are_never_chosen() {
     list.push(RangeRecord::new(7..=7));
     list.extend(nothing);
     assert_eq!(why(&store(1), &list), Ok(vec![7, 15]));
-    // Kinds that are reserved are no bounds.
-    let all = RangeRecord { lower_kind: 3, lower: 9, upper_kind: M, upper: 2 };
-    assert_eq!(why(&store(1), &[RangeRecord::new(2..=2), all, RangeRecord::new(7..=7)]), Err(Refusal::NotRefused));
+    // Without bounds a range is all positions, whatever its values are.
+    let [apart, other] = [2..=2, 7..=7].map(RangeRecord::new);
+    let all = RangeRecord { lower_kind: 3, lower: 9, upper_kind: 3, upper: 2 };
+    assert_eq!(why(&store(1), &[apart, all, other]), Err(Refusal::NotRefused));
+    // Kinds that are reserved make a range empty at either end, and that of zeros is one.
+    assert_eq!(why(&store(1), &[apart, RangeRecord::default(), other]), Ok(vec![0, 2]));
+    for kind in [0, 4, 1 << 32 | 3, M] {
+        let [no_lower, no_upper] = [RangeRecord { lower_kind: kind, ..all }, RangeRecord { upper_kind: kind, ..all }];
+        for empty in [no_lower, no_upper, RangeRecord { lower_kind: kind, upper_kind: kind, ..all }] {
+            assert_eq!(why(&store(1), &[apart, empty, other]), Ok(vec![0, 2]), "{empty:?}");
+            // As a range of Rust it is one of the same positions.
+            let mut set = store(1);
+            assert_eq!(
+                (set.set(empty, true), set.set_strict(empty, true), set.find(empty, false)),
+                (Ok(0), Ok(0), Ok(None))
+            );
+        }
+    }
 }
 
 // About as many runs as the library takes at once, and more: rising, falling and in any order, where the answer is known.

@@ -505,6 +505,58 @@ static void strict_calls(void) {
     CHECK(vizturel_tally_strict(s, WORDS, 3, IN(9), IN(3), 1).refusal == VIZTUREL_UNSOUND);
 }
 
+/* Numbers that are no kind of a bound, among them that of words which nobody wrote. */
+static const uint64_t no_kinds[] = {0, 4, 5, 257, (UINT64_C(1) << 32) + 1, (UINT64_C(1) << 32) + 3, (UINT64_C(1) << 63) + 2, M};
+#define NO_KINDS (sizeof no_kinds / sizeof *no_kinds)
+
+/* A range with such a bound at either end is empty, whatever the other bound is, and not reversed: no call of all that take a range changes or finds
+ * anything, and none is refused. */
+static const uint64_t kinds_of_others[] = {0, 1, 2, 3, 4, M};
+#define OTHERS (sizeof kinds_of_others / sizeof *kinds_of_others)
+
+static void is_empty_range(vizturel_bound lower, vizturel_bound upper) {
+    uint64_t v;
+    for (v = 0; v < 2; v++) {
+        CHECK(is_count(vizturel_set(s, WORDS, here, lower, upper, v), 0) && is_count(vizturel_set_strict(s, WORDS, here, lower, upper, v), 0));
+        CHECK(nowhere(vizturel_find(s, WORDS, here, lower, upper, v)) && nowhere(vizturel_select(s, WORDS, here, lower, upper, v, 0)));
+        CHECK(is_tally(vizturel_tally(s, WORDS, here, lower, upper, v), 0, 0));
+        CHECK(is_tally(vizturel_tally_strict(s, WORDS, here, lower, upper, v), 0, 0));
+        CHECK(lists(s, WORDS, lower, upper, v, 0, NULL));
+    }
+    CHECK(vizturel_flip(s, WORDS, here, lower, upper) == VIZTUREL_DONE && vizturel_flip_strict(s, WORDS, here, lower, upper) == VIZTUREL_DONE);
+    CHECK(nowhere(vizturel_gap(s, WORDS, here, lower, upper, 1)));
+    CHECK(memcmp(kept, s, sizeof s) == 0);
+}
+
+static void kinds(void) {
+    const vizturel_bound zeroed = {0, 0};
+    size_t i, j;
+    only(s, WORDS, 100, 199);
+    memcpy(kept, s, sizeof s);
+    for (i = 0; i < NO_KINDS; i++) {
+        for (j = 0; j < OTHERS; j++) {
+            /* values of a range that holds positions of both values, and of one that would be reversed */
+            const vizturel_bound odd_low = {no_kinds[i], 90}, high = {kinds_of_others[j], 150}, low = {kinds_of_others[j], 90}, odd_high = {no_kinds[i], 150};
+            const vizturel_bound odd_beyond = {no_kinds[i], M}, before = {kinds_of_others[j], 0}, beyond = {kinds_of_others[j], M}, odd_before = {no_kinds[i], 0};
+            is_empty_range(odd_low, high);
+            is_empty_range(low, odd_high);
+            is_empty_range(odd_beyond, before);
+            is_empty_range(beyond, odd_before);
+        }
+    }
+    /* what a record of values alone does */
+    CHECK(is_count(vizturel_set(s, WORDS, here, zeroed, zeroed, 0), 0) && is_tally(vizturel_tally(s, WORDS, here, ALL, ALL, 1), 100, 1));
+    /* refused for all that an empty range is refused for */
+    CHECK(vizturel_gap(s, WORDS, here, zeroed, zeroed, 0).refusal == VIZTUREL_GAP_LENGTH);
+    CHECK(vizturel_set(s, WORDS, 3, zeroed, zeroed, 1).refusal == VIZTUREL_WORLD_UNOPENED);
+    /* no bound is a kind of its own, whatever its value */
+    {
+        const vizturel_bound none = {3, 77};
+        CHECK(VIZTUREL_UNBOUNDED == 3 && is_tally(vizturel_tally(s, WORDS, here, none, none, 1), 100, 1));
+        CHECK(is_tally(vizturel_tally(s, WORDS, here, none, EX(150), 1), 50, 1) && is_tally(vizturel_tally(s, WORDS, here, IN(190), none, 1), 10, 1));
+    }
+}
+
 /* Maps of every length from 1 to 17 with every last byte, against a reading bit by bit: read_map is refused with 10 exactly if a spare bit is one,
  * and else sets the window; clear_map zeroes the spare bits, tells how many were one, and what it leaves is read as the map without them. */
 static void spare_bits(void) {
@@ -774,6 +826,20 @@ static void why_full(void) {
     memset(a, 0xEE, sizeof a);
     CHECK(vizturel_why(s, VIZTUREL_WORDS(2), spawn, 3, told, 3).words == 3 && told[0] == 0 && told[1] == 1 && told[2] == 2);
     CHECK(vizturel_why(a, VIZTUREL_WORDS(2), spawn, 3, told, 3).words == 3 && told[0] == 0 && told[1] == 1 && told[2] == 2);
+    /* a range with a bound of a reserved kind holds nothing: it is never told, and keeps its place */
+    for (i = 0; i < NO_KINDS; i++) {
+        for (j = 0; j < OTHERS; j++) {
+            const vizturel_bound odd = {no_kinds[i], 0}, other = {kinds_of_others[j], M}, low = {kinds_of_others[j], 0}, odd_high = {no_kinds[i], M};
+            vizturel_range list[4];
+            list[0] = vizturel_between(odd, other);
+            list[1] = vizturel_between(IN(5), IN(5));
+            list[2] = vizturel_between(low, odd_high);
+            list[3] = vizturel_between(IN(9), EX(10));
+            d = vizturel_why(a, VIZTUREL_WORDS(1), list, 4, told, 6);
+            CHECK(d.refusal == VIZTUREL_DONE && d.words == 2 && told[0] == 1 && told[1] == 3);
+            CHECK(vizturel_why(a, VIZTUREL_WORDS(1), list, 3, told, 6).refusal == VIZTUREL_NOT_REFUSED);
+        }
+    }
     /* 1, then 16, then 2 */
     memcpy(told, unwritten, sizeof told);
     CHECK(vizturel_why(a, VIZTUREL_WORDS(2) - 1, spawn, 3, told, 0).refusal == VIZTUREL_STORE_LENGTH);
@@ -1081,22 +1147,45 @@ static void rectangles(void) {
     CHECK(is(told[4], 0, 0, 9, 0, 0, 0, 0) && is(told[5], 0, 0, 0, 0, 0, 0, 0) && is(told[6], 0, 0, 3, 1, 0, 0, 0));
 }
 
-/* reserved numbers, as this version answers them: calls are gets, kinds of bounds are no bound; and withdrawn ones, which are refused */
+/* reserved numbers, as this version answers them: calls are gets, a range with a bound of another kind is empty; and withdrawn ones, which are refused */
 static void any_record(void) {
     static const uint64_t gets[] = {0, 21, 22, 258, (UINT64_C(1) << 32) + 2, (UINT64_C(1) << 63) + 2, M};
     static const uint64_t run[] = {2, 7};
-    const vizturel_bound odd = {3, 5}, odder = {M, 6};
-    size_t i, n = sizeof gets / sizeof *gets;
+    /* the calls that take a range, and what a record of them tells where it is empty: nothing, but for the ended listing */
+    static const uint64_t ranged[] = {VIZTUREL_CALL_SET, VIZTUREL_CALL_FLIP, VIZTUREL_CALL_FIND, VIZTUREL_CALL_SELECT, VIZTUREL_CALL_RANGES, VIZTUREL_CALL_GAP,
+                                      VIZTUREL_CALL_TALLY, VIZTUREL_CALL_SET_STRICT, VIZTUREL_CALL_FLIP_STRICT, VIZTUREL_CALL_TALLY_STRICT};
+    const size_t some = sizeof ranged / sizeof *ranged;
+    size_t i, j, k, n = sizeof gets / sizeof *gets;
+    vizturel_call zeroed;
     only(s, WORDS, 2, 7);
     for (i = 0; i < n; i++) list[i] = ask(gets[i], IN(7), IN(9), 0, 0);
     CHECK(play(n) == VIZTUREL_DONE);
     for (i = 0; i < n; i++) CHECK(is(told[i], 0, 0, 1, 0, 0, 0, 0));
     CHECK(holds(s, WORDS, 1, run));
-    list[0] = ask(VIZTUREL_CALL_TALLY, odd, odder, 1, 0);
-    list[1] = ask(VIZTUREL_CALL_TALLY, IN(4), odder, 1, 0);
-    list[2] = ask(VIZTUREL_CALL_TALLY, odd, EX(4), 1, 0);
+    for (i = 0; i < NO_KINDS; i++) {
+        for (j = 0; j < 2 * OTHERS; j++) {
+            vizturel_bound odd = {no_kinds[i], j < OTHERS ? 5 : M}, other = {kinds_of_others[j % OTHERS], j < OTHERS ? UINT64_C(6) : 0};
+            for (k = 0; k < some; k++) list[k] = ask(ranged[k], odd, other, 0, 1);
+            for (k = 0; k < some; k++) list[some + k] = ask(ranged[k], other, odd, 1, 1);
+            CHECK(play(2 * some) == VIZTUREL_DONE);
+            for (k = 0; k < 2 * some; k++) {
+                int ended = list[k].call == VIZTUREL_CALL_RANGES;
+                CHECK(is(told[k], 0, 0, 0, 0, ended, 0, ended && k >= some));
+            }
+        }
+    }
+    CHECK(holds(s, WORDS, 1, run));
+    /* a record with its values alone: its range is empty, and nothing is freed; all zeros are a get */
+    memset(&zeroed, 0, sizeof zeroed);
+    zeroed.world = here;
+    list[0] = zeroed;
+    zeroed.call = VIZTUREL_CALL_SET;
+    zeroed.lower.value = 2;
+    zeroed.upper.value = 8;
+    list[1] = zeroed;
+    list[2] = ask(VIZTUREL_CALL_TALLY, ALL, ALL, 1, 0);
     CHECK(play(3) == VIZTUREL_DONE);
-    CHECK(is(told[0], 0, 0, 6, 1, 0, 0, 0) && is(told[1], 0, 0, 4, 1, 0, 0, 0) && is(told[2], 0, 0, 2, 1, 0, 0, 0));
+    CHECK(is(told[0], 0, 0, 0, 0, 0, 0, 0) && is(told[1], 0, 0, 0, 0, 0, 0, 0) && is(told[2], 0, 0, 6, 1, 0, 0, 0));
     /* a withdrawn number at a world that is opened, and the call after it */
     list[0] = ask(7, ALL, ALL, 1, 0);
     list[1] = ask(9, IN(4), EX(6), 0, 0);
@@ -1334,6 +1423,7 @@ int main(void) {
         mended();
         gaps();
         strict_calls();
+        kinds();
         spare_bits();
         both_forms();
         deepest();

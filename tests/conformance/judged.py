@@ -28,7 +28,7 @@ def judged(what, status, due, *words):
 
 
 example = [sys.executable, os.path.join(HERE, "../../conformance/example.py")]
-judged("right answers", 0, ["pack 1", "1 of 1 lists, 95 lines, 0 differences"], "--list", "cases", *example)
+judged("right answers", 0, ["pack 2", "1 of 1 lists, 95 lines, 0 differences"], "--list", "cases", *example)
 judged(
     "a wrong count",
     1,
@@ -49,7 +49,7 @@ judged("a record of a frame", 1, ["frames, line ", "record ", "told: -\n", "0/1:
 judged("another list for a height", 1, ["deepest, line ", "why:  the list has to have"], "--list", "deepest", *wrong("worded 2 0 0", "worded 0 0 0"))
 judged("every world", 0, ["cases, line 3: set 0/0 i2 e8 1\n    0/0: capacity 8, floor 0, ceiling 8, runs 1: 2..7\n"], "--show-worlds", "--list", "cases", *example)
 judged("no answers", 1, ["told: (nothing)", "10 differences"], sys.executable, "-c", "")
-judged("a program that is not there", 1, ["pack 1"], "./no-such-program")
+judged("a program that is not there", 1, ["pack 2"], "./no-such-program")
 judged("a list that is not there", 2, ["0 of 0 lists"], "--list", "none", *example)
 judged("no program", 2, [], "--stop", "3")
 if failed == 0:

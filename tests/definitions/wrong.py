@@ -78,9 +78,9 @@ def tried(wrong):
         if not rows:
             return f"no row is called {row}"
         told = [(name, why) for name, why in ((it[0], evaluate.judged(it[1])) for it in rows) if why]
-        for name, why in told:
+        for case, why in told:
             if why.startswith("can't be evaluated"):
-                return f"{name}: {why}"
+                return f"{case}: {why}"
         failed = [name for name, _ in told]
         if passes and failed:
             return f"{failed[0]} does not hold, though the list says that every row does"

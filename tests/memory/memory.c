@@ -112,8 +112,8 @@ static slice spawns, chosen[4];
 #define CALLS 22 /* each number up to the last that names a call once, and one that names none */
 #define RECORD sizeof(vizturel_call)
 
-static const vizturel_bound lowers[] = {{0, 0}, {1, 0}, {1, 40}, {2, M}, {1, M}, {1, UINT64_C(1) << 63}};
-static const vizturel_bound uppers[] = {{0, 0}, {2, 0}, {1, 90}, {1, 3}, {1, M}, {2, UINT64_C(1) << 63}};
+static const vizturel_bound lowers[] = {{3, 0}, {1, 0}, {1, 40}, {2, M}, {1, M}, {1, UINT64_C(1) << 63}, {0, 0}, {M, 7}};
+static const vizturel_bound uppers[] = {{3, 0}, {2, 0}, {1, 90}, {1, 3}, {1, M}, {2, UINT64_C(1) << 63}, {0, 90}, {4, M}};
 #define RANGES (sizeof lowers / sizeof *lowers)
 
 /* the first run of free positions in a range that has so many, drawn from the front */

@@ -1,11 +1,11 @@
-/* Plays a list of the conformance pack through the names of include/vizturel.h, with whatever library is linked that exports them.
+/* Plays a list of the conformance pack through the names of include/vizturel.h, with whatever library is linked that exports what is at its end.
  *
  *     raw NAME.calls NAME.answers    compares with the answers; the last line is 'N passed, M failed'
  *     raw NAME.calls                 prints the answers
  *
  * Each line is played more than once, on copies of the pools, since some things show in C alone. Nothing but the last playing stays.
- *   odd      truth values are above 1, no bound is a bound of a reserved kind, xor is a reserved operation, and a list of limits, runs, ranges or calls has
- *            words after its last whole one: the answer and all positions are the same
+ *   odd      truth values are above 1, no bound has a value, an empty range is one of all positions but for a bound of a reserved kind, xor is a reserved
+ *            operation, and a list of limits, runs, ranges or calls has words after its last whole one: the answer and all positions are the same
  *   by bytes a map is read or written by the form by single bytes: the same
  *   longer   each pool that is lent is a word longer, and then a word shorter: refused with 1
  * A slice of length 0 is NULL. A refused answer has zeros in all other fields, and no word of a pool and no byte or word of a slice has changed. */
@@ -90,14 +90,32 @@ static vizturel_bound bound(void) {
     char text[24];
     vizturel_bound b;
     word(text, sizeof text);
-    b.kind = text[0] == 'i' ? 1 : text[0] == 'e' ? 2 : 0;
-    b.value = b.kind ? strtoull(text + 1, NULL, 10) : 0;
-    if (how == ODD && b.kind == 0) {
+    b.kind = text[0] == 'i' ? 1 : text[0] == 'e' ? 2 : 3;
+    b.value = b.kind != 3 ? strtoull(text + 1, NULL, 10) : 0;
+    if (how == ODD && b.kind == 3) {
         varied = 1;
-        b.kind = UINT64_MAX;
         b.value = 5;
     }
     return b;
+}
+
+/* whether the range is empty and not reversed: from 2^64 on to 2^64, or from a position on to the one before it */
+static int is_empty(vizturel_bound l, vizturel_bound h) {
+    int from_end = l.kind == 2 && l.value == UINT64_MAX, to_end = h.kind == 3 || (h.kind == 1 && h.value == UINT64_MAX);
+    uint64_t first = l.kind == 3 ? 0 : l.value + (l.kind == 2), past = h.kind == 3 ? 0 : h.value + (h.kind == 1);
+    return from_end == to_end && first == past;
+}
+
+/* a range in the place of an empty one: all positions, but that the kind of a bound, or of both, is reserved */
+static void reserve(vizturel_bound *l, vizturel_bound *h) {
+    static const uint64_t kinds[][2] = {{0, 3}, {3, 0}, {0, 0}, {4, 3}, {3, UINT64_MAX}, {UINT64_MAX, 4}};
+    static size_t turn;
+    varied = 1;
+    l->kind = kinds[turn][0];
+    h->kind = kinds[turn][1];
+    l->value = 0;
+    h->value = UINT64_MAX;
+    turn = (turn + 1) % (sizeof kinds / sizeof *kinds);
 }
 
 static unsigned digit(char c) {
@@ -325,6 +343,7 @@ static int world_call(const char *name) {
     if (ranged) {
         l = bound();
         h = bound();
+        if (how == ODD && is_empty(l, h)) reserve(&l, &h);
     }
     if (IS("set") || IS("set_strict")) {
         v = truth();

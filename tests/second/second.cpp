@@ -215,7 +215,11 @@ bool fits(Place p, Number runs) {
 
 // ---- ranges, windows, rectangles
 
+// whether a kind of a bound has a name: a range with a bound of another is empty, and not reversed
+bool named(Number kind) { return kind == 1 || kind == 2 || kind == 3; }
+
 Range range_of(Bound lower, Bound upper) {
+    if (!named(lower.kind) || !named(upper.kind)) return {true, false, 0, 0};
     bool above = lower.kind == 2 && lower.value == kTop;  // the first position would be 2^64
     bool below = upper.kind == 2 && upper.value == 0;     // the last one would be -1
     Range range;
@@ -518,7 +522,7 @@ struct Line {
         string out = word();
         Number value = 0;
         for (size_t i = 1; i < out.size(); i++) value = 10 * value + Number(out[i] - '0');
-        return {Number(out[0] == 'i' ? 1 : out[0] == 'e' ? 2 : 0), value};
+        return {Number(out[0] == 'i' ? 1 : out[0] == 'e' ? 2 : 3), value};
     }
 
     Range range() {

@@ -2,36 +2,42 @@
 #include "vizturel.h"
 
 #define JOIN(a, b) a##b
-#define REAL(name) JOIN(__real_vizturel_, name)
-#define WRAP(name) JOIN(__wrap_vizturel_, name)
+#define REAL(name) JOIN(__real_vizturel_abi_, name)
+#define WRAP(name) JOIN(__wrap_vizturel_abi_, name)
 
 #if WRONG == 1 /* only 1 is true */
-vizturel_counted REAL(set)(uint64_t *words, size_t count, uint64_t world, vizturel_bound l, vizturel_bound h, uint64_t value);
-vizturel_counted WRAP(set)(uint64_t *words, size_t count, uint64_t world, vizturel_bound l, vizturel_bound h, uint64_t value);
-vizturel_counted WRAP(set)(uint64_t *words, size_t count, uint64_t world, vizturel_bound l, vizturel_bound h, uint64_t value) {
-    return REAL(set)(words, count, world, l, h, value == 1);
+uint64_t REAL(set)(uint64_t *words, size_t count, uint64_t world, uint64_t lower_kind, uint64_t lower, uint64_t upper_kind, uint64_t upper, uint64_t value,
+                   uint64_t *answer);
+uint64_t WRAP(set)(uint64_t *words, size_t count, uint64_t world, uint64_t lower_kind, uint64_t lower, uint64_t upper_kind, uint64_t upper, uint64_t value,
+                   uint64_t *answer);
+uint64_t WRAP(set)(uint64_t *words, size_t count, uint64_t world, uint64_t lower_kind, uint64_t lower, uint64_t upper_kind, uint64_t upper, uint64_t value,
+                   uint64_t *answer) {
+    return REAL(set)(words, count, world, lower_kind, lower, upper_kind, upper, value == 1, answer);
 }
-#elif WRONG == 2 /* a refused answer has more than zeros */
-vizturel_around REAL(run_at)(const uint64_t *words, size_t count, uint64_t world, uint64_t x);
-vizturel_around WRAP(run_at)(const uint64_t *words, size_t count, uint64_t world, uint64_t x);
-vizturel_around WRAP(run_at)(const uint64_t *words, size_t count, uint64_t world, uint64_t x) {
-    vizturel_around a = REAL(run_at)(words, count, world, x);
-    if (a.refusal == 12) a.end = x + 1;
-    return a;
+#elif WRONG == 2 /* a refused call writes into the record */
+uint64_t REAL(run_at)(const uint64_t *words, size_t count, uint64_t world, uint64_t x, uint64_t *answer);
+uint64_t WRAP(run_at)(const uint64_t *words, size_t count, uint64_t world, uint64_t x, uint64_t *answer);
+uint64_t WRAP(run_at)(const uint64_t *words, size_t count, uint64_t world, uint64_t x, uint64_t *answer) {
+    uint64_t refusal = REAL(run_at)(words, count, world, x, answer);
+    if (refusal == 12) answer[3] = x + 1;
+    return refusal;
 }
 #elif WRONG == 3 /* the form by single bytes counts otherwise */
-vizturel_counted REAL(read_map_by_bytes)(uint64_t *words, size_t count, uint64_t world, uint64_t base, uint64_t length, const uint8_t *map, size_t bytes);
-vizturel_counted WRAP(read_map_by_bytes)(uint64_t *words, size_t count, uint64_t world, uint64_t base, uint64_t length, const uint8_t *map, size_t bytes);
-vizturel_counted WRAP(read_map_by_bytes)(uint64_t *words, size_t count, uint64_t world, uint64_t base, uint64_t length, const uint8_t *map, size_t bytes) {
-    vizturel_counted a = REAL(read_map_by_bytes)(words, count, world, base, length, map, bytes);
-    if (a.low > 2) a.low--;
-    return a;
+uint64_t REAL(read_map_by_bytes)(uint64_t *words, size_t count, uint64_t world, uint64_t base, uint64_t length, const uint8_t *map, size_t bytes,
+                                 uint64_t *answer);
+uint64_t WRAP(read_map_by_bytes)(uint64_t *words, size_t count, uint64_t world, uint64_t base, uint64_t length, const uint8_t *map, size_t bytes,
+                                 uint64_t *answer);
+uint64_t WRAP(read_map_by_bytes)(uint64_t *words, size_t count, uint64_t world, uint64_t base, uint64_t length, const uint8_t *map, size_t bytes,
+                                 uint64_t *answer) {
+    uint64_t refusal = REAL(read_map_by_bytes)(words, count, world, base, length, map, bytes, answer);
+    if (answer[2] > 2) answer[2]--;
+    return refusal;
 }
 #elif WRONG == 4 /* words after the last node are not counted */
-vizturel_tested REAL(get)(const uint64_t *words, size_t count, uint64_t world, uint64_t x);
-vizturel_tested WRAP(get)(const uint64_t *words, size_t count, uint64_t world, uint64_t x);
-vizturel_tested WRAP(get)(const uint64_t *words, size_t count, uint64_t world, uint64_t x) {
-    return REAL(get)(words, count / 8 * 8, world, x);
+uint64_t REAL(get)(const uint64_t *words, size_t count, uint64_t world, uint64_t x, uint64_t *answer);
+uint64_t WRAP(get)(const uint64_t *words, size_t count, uint64_t world, uint64_t x, uint64_t *answer);
+uint64_t WRAP(get)(const uint64_t *words, size_t count, uint64_t world, uint64_t x, uint64_t *answer) {
+    return REAL(get)(words, count / 8 * 8, world, x, answer);
 }
 #elif WRONG == 5 /* a start without its end is refused */
 uint64_t REAL(build)(uint64_t *words, size_t count, uint64_t world, const uint64_t *runs, size_t runs_count);
@@ -39,11 +45,15 @@ uint64_t WRAP(build)(uint64_t *words, size_t count, uint64_t world, const uint64
 uint64_t WRAP(build)(uint64_t *words, size_t count, uint64_t world, const uint64_t *runs, size_t runs_count) {
     return runs_count % 2 ? VIZTUREL_RUN_ORDER : REAL(build)(words, count, world, runs, runs_count);
 }
-#elif WRONG == 6 /* a reserved kind of a bound includes */
-vizturel_found REAL(find)(const uint64_t *words, size_t count, uint64_t world, vizturel_bound l, vizturel_bound h, uint64_t value);
-vizturel_found WRAP(find)(const uint64_t *words, size_t count, uint64_t world, vizturel_bound l, vizturel_bound h, uint64_t value);
-vizturel_found WRAP(find)(const uint64_t *words, size_t count, uint64_t world, vizturel_bound l, vizturel_bound h, uint64_t value) {
-    if (l.kind > 2) l.kind = VIZTUREL_INCLUDED;
-    return REAL(find)(words, count, world, l, h, value);
+#elif WRONG == 6 /* a reserved kind is no bound */
+uint64_t REAL(find)(const uint64_t *words, size_t count, uint64_t world, uint64_t lower_kind, uint64_t lower, uint64_t upper_kind, uint64_t upper,
+                    uint64_t value, uint64_t *answer);
+uint64_t WRAP(find)(const uint64_t *words, size_t count, uint64_t world, uint64_t lower_kind, uint64_t lower, uint64_t upper_kind, uint64_t upper,
+                    uint64_t value, uint64_t *answer);
+uint64_t WRAP(find)(const uint64_t *words, size_t count, uint64_t world, uint64_t lower_kind, uint64_t lower, uint64_t upper_kind, uint64_t upper,
+                    uint64_t value, uint64_t *answer) {
+    if (lower_kind < VIZTUREL_INCLUDED || lower_kind > VIZTUREL_UNBOUNDED) lower_kind = VIZTUREL_UNBOUNDED;
+    if (upper_kind < VIZTUREL_INCLUDED || upper_kind > VIZTUREL_UNBOUNDED) upper_kind = VIZTUREL_UNBOUNDED;
+    return REAL(find)(words, count, world, lower_kind, lower, upper_kind, upper, value, answer);
 }
 #endif

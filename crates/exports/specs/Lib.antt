@@ -1,2 +1,1 @@
-pub mod Structs
 pub mod Returns

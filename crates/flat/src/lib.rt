@@ -1,15 +1,17 @@
-// Every answer laid flat, as numbers: once for the records of a frame and for the structs that cross to C. And what the numbers mean that come
-// in as a bound.
+// Every answer laid flat, as numbers: once for the records of a frame and for the record that crosses to C. And what the numbers mean that come
+// in as a range.
 // C and the records have words alone: so kinds, refusals and whether something was found are numbers here, and enums and Options on the other side.
 #![tactic(auto)]
 
-ghost use Rattle.std.specs.Prelude.{◌≡◌, []};
-ghost use Rattle.model.specs.Answers.{answer_by};
-ghost use Rattle.model.specs.Range.{bound_by};
+ghost use Rattle.std.specs.Prelude.{◌≡◌, [], cond, Some, None};
+ghost use Rattle.model.specs.Answers.{answer_by, completed_answer};
+ghost use Rattle.model.specs.Range.{named, bound_by, range_by};
 ghost use Rattle.model.specs.Numbers.{worth, refusal_number};
 ghost use Rattle.model.specs.Call.{Result, gave, done, number, tallied, value, around, position, listing, drawn, written, mended};
 ghost use Rattle.flat.specs.Flat.{result_reply, reply_of};
+ghost use Rattle.flat.specs.Records.{words_of, code_of, recorded};
 
+use model::between::Range;
 use model::{Bound, Count, Drawn, Listing, Mended, Refusal, Run, Tally};
 
 // An answer: the refusal's number, 0 where there is none, and then what the call gives, with zeros elsewhere. `found` is also a count's carry;
@@ -27,16 +29,43 @@ pub struct Reply {
     pub value: u64,
 }
 
-// A bound: kind 1 includes the value, 2 excludes it, and any other has no bound.
-// A function of two words, as a frame's record and a list of ranges have them: a pair for a From would not say which of them is the kind.
-#[tactic(auto, unfolding(model::specs::Range::bound_by))]
-pub fn bound(kind: u64, value: u64) -> Bound
-    ensures { result ≡ bound_by kind value }
+// The record of eight words: its fields in their order, and a 0.
+impl From<Reply> for [u64; 8] {
+    ghost from_gives = { λ r ws. ws ≡ words_of r };
+
+    fn from(r: Reply) -> [u64; 8] {
+        [
+            r.refusal, r.found, r.number, r.end, r.first, r.last, r.value, 0,
+        ]
+    }
+}
+
+// A bound, where its kind is named: kind 1 includes the value, 2 excludes it, 3 is no bound.
+#[tactic(auto, unfolding(model::specs::Range::named, model::specs::Range::bound_by))]
+fn bound(kind: u64, value: u64) -> Option<Bound>
+    ensures { result ≡ cond (named kind) (Some (bound_by kind value)) None }
 {
     match kind {
-        1 => Bound::Included(value),
-        2 => Bound::Excluded(value),
-        _ => Bound::Unbounded,
+        1 => Some(Bound::Included(value)),
+        2 => Some(Bound::Excluded(value)),
+        3 => Some(Bound::Unbounded),
+        _ => None,
+    }
+}
+
+// The range of two bounds, each a kind and a value. It is empty where either kind is not named: words that nobody wrote are zeros, and select no
+// position.
+// A function of four words, as a frame's record and a list of ranges have them: a tuple for a From would not say which of them are kinds.
+#[tactic(auto, unfolding(model::specs::Range::range_by))]
+pub fn range(lower_kind: u64, lower: u64, upper_kind: u64, upper: u64) -> Range
+    ensures { result ≡ range_by lower_kind lower upper_kind upper }
+{
+    match (bound(lower_kind, lower), bound(upper_kind, upper)) {
+        (Some(lower), Some(upper)) => Range { lower, upper },
+        _ => Range {
+            lower: Bound::Included(0),
+            upper: Bound::Excluded(0),
+        },
     }
 }
 
@@ -60,6 +89,30 @@ pub fn lay<T: Gift>(answer: Result<T, Refusal>) -> Reply
             ..Reply::default()
         },
         Ok(x) => x.laid(),
+    }
+}
+
+// The number of an answer, its refusal's or 0, of a call that gives nothing.
+pub fn code(answer: Result<(), Refusal>) -> u64
+    ensures { result ≡ code_of (completed_answer answer) }
+{
+    match answer {
+        Err(r) => u64::from(r),
+        Ok(()) => 0,
+    }
+}
+
+// The number of an answer; what it gives goes into a lent record, and a refusal leaves that as it was.
+pub fn record<T: Gift>(answer: Result<T, Refusal>, out: &mut [u64; 8]) -> u64
+    ensures number { result ≡ code_of (answer_by (λ x. gave (T.given x)) answer) }
+    ensures record_ { out.new ≡ recorded (answer_by (λ x. gave (T.given x)) answer) out.old }
+{
+    match answer {
+        Err(r) => u64::from(r),
+        Ok(x) => {
+            *out = x.laid().into();
+            0
+        }
     }
 }
 

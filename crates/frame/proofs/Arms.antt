@@ -1,16 +1,14 @@
--- Serving a record: the call of its kind, with the bounds that its words tell, was made; or its world was not opened. Assumes nothing.
+-- Serving a record whose world was not opened: 12 stands in the answer, whatever the call. Assumes nothing.
 use Rattle.std.specs.Prelude.{None, Err}
 use Rattle.model.specs.Answers.{OrRefusal}
 use Rattle.std.specs.Prelude.{◌≡◌, ℕ, ◌-◌, ◌≤◌, List, []}
-use mathlib.Core.Path.{refl, sym, ap, ap₂, ◌∙◌, subst}
+use mathlib.Core.Path.{refl, subst}
 use native.Mathlib.Omega.{arith}
-use Rattle.model.specs.Ends.{Bound}
-use Rattle.model.specs.declared.Rect.{Rect}
 use Rattle.model.specs.declared.Refusal.TheVariants.{WorldUnopened}
 use Rattle.model.specs.Numbers.{size}
 use Rattle.model.specs.Positions.{Positions}
 use Rattle.model.specs.Refusals.{looks, Condition, first_given}
-use Rattle.model.specs.Call.{Call, Result, Answer, refused}
+use Rattle.model.specs.Call.{Call, Result, refused}
 use Rattle.store.specs.Layout.{opened_at}
 use Rattle.store.specs.Soundness.{Sound}
 use Rattle.interval_bit_set.specs.Met.{Site, Met}
@@ -39,25 +37,10 @@ use Rattle.flat.specs.Flat.{reply_of}
 use Rattle.frame.specs.Records.{kind_of, call_by, world_by}
 use Rattle.frame.specs.Serving.{ServesAt, Serves}
 
--- the kind that was named is that of the record
-pub serves : {w w' : List ℕ} {i : ℕ} (e : Entry) {r : Reply} {a : Answer} (k : Kind) {q : Kind} → q ≡ k → q ≡ kind_of e.call
-    → Met w i (call_by k e) a w' → r ≡ reply_of a → ServesAt w i e r w'
-serves {w} {w'} {i} e {a = a} k p n m f = (a, subst (λ j. Met w i (call_by j e) a w') (sym p ∙ n) m, f)
-
 -- the world is the one that the record asks at
 pub serves-there : {w w' : List ℕ} {i : ℕ} (e : Entry) {r : Reply} → i ≡ world_by e → ServesAt w i e r w' → Serves w e r w'
 serves-there {w} {w'} e {r} p s = subst (λ j. ServesAt w j e r w') p s
 
--- the bounds of the call are those told
-pub ranged : {w w' : List ℕ} {i : ℕ} {a : Answer} (f : Bound → Bound → Call Site) {l u l' u' : Bound} → l ≡ l' → u ≡ u' → Met w i (f l u) a w'
-    → Met w i (f l' u') a w'
-ranged {w} {w'} {i} {a} f p q m = subst (λ c. Met w i c a w') (ap₂ f p q) m
-
--- and its rectangle is the one told
-pub of-cells : {w w' : List ℕ} {i : ℕ} {a : Answer} (f : Rect → Call Site) {q q' : Rect} → q ≡ q' → Met w i (f q) a w' → Met w i (f q') a w'
-of-cells {w} {w'} {i} {a} f p m = subst (λ c. Met w i c a w') (ap f p) m
-
--- ---- a world that was not opened: 12 stands in the answer, whatever the call
 module _ {w : List ℕ} {i : ℕ} (S : Sound w) (h : opened_at w ≤ i) (e : Entry) where
   -- what looking at it tells
   abbrev look : OrRefusal ℕ

@@ -8,7 +8,8 @@ use Rattle.model.specs.Pools.{PlainWorld, step, answers}
 use Rattle.interval_bit_set.specs.Met.{fed_at}
 use Rattle.frame.specs.declared.entry.Kind.{Kind}
 use Rattle.frame.specs.declared.entry.Entry.{Entry}
-use Rattle.frame.specs.Records.{kind_of, call_by, call_of, calls_from, records_of}
+use Rattle.frame.specs.Records.{kind_of, call_by, call_of, calls_from}
+use Rattle.flat.specs.Records.{records_of}
 
 -- ---- what the model is fed
 fed-kind : {S T : Type 0} (f : S → T) (k : Kind) (e : Entry) → feed f (call_by k e) ≡ call_by k e

@@ -20,7 +20,8 @@ use Rattle.interval_bit_set.specs.Tidy.{Tidied}
 use Rattle.interval_bit_set.proofs.Tidying.{pooled-tidied}
 use Rattle.interval_bit_set.specs.Met.{pool_reads}
 use Rattle.interval_bit_set.proofs.Refusing.{looked-first}
-use Rattle.frame.specs.Records.{calls_of, records_of}
+use Rattle.frame.specs.Records.{calls_of}
+use Rattle.flat.specs.Records.{records_of}
 use Rattle.frame.specs.Frame.{FrameOutcome, settle_frame, frame_of, frame_outcome, FrameLeaves, Framed}
 use Rattle.frame.specs.Serving.{Playable, Plays}
 use Rattle.frame.proofs.FedCalls.{calls-length, answers-length, records-length}

@@ -18,7 +18,8 @@ use Rattle.interval_bit_set.proofs.Simulation.{Holds, answer-is, step-holds}
 use Rattle.frame.specs.declared.entry.Entry.{Entry}
 use Rattle.flat.specs.declared.Reply.{Reply}
 use Rattle.flat.specs.Flat.{reply_of}
-use Rattle.frame.specs.Records.{entry_at, call_of, world_by, pool_call_of, calls_from, words_of, records_of}
+use Rattle.frame.specs.Records.{entry_at, call_of, world_by, pool_call_of, calls_from}
+use Rattle.flat.specs.Records.{words_of, records_of}
 use Rattle.frame.specs.Serving.{Serves, Plays}
 use Rattle.frame.proofs.FedCalls.{fed-same, records-length}
 

@@ -7,7 +7,8 @@ use lib.Seq.{drop-drop, get_or-take, get_or-drop}
 use borrow.Rule.Slice.PartMut.{put_mid}
 use Rattle.flat.specs.declared.Reply.{Reply}
 use Rattle.written.specs.Placed.{placed}
-use Rattle.frame.specs.Records.{entry_at, words_of}
+use Rattle.frame.specs.Records.{entry_at}
+use Rattle.flat.specs.Records.{words_of}
 
 -- the record i of a list cut into records is eight words of it
 record-words : (n i : ℕ) (cs : List ℕ) → i < n → get_or (first_chunks 8 n cs) i [] ≡ take 8 (drop (8 * i) cs)

@@ -9,7 +9,8 @@ use Rattle.model.specs.Pools.{PlainWorld, answers, after}
 use Rattle.store.specs.Layout.{capacity, worlds_of}
 use Rattle.store.specs.Free.{Pooled}
 use Rattle.interval_bit_set.specs.Met.{pool_reads}
-use Rattle.frame.specs.Records.{calls_of, records_of}
+use Rattle.frame.specs.Records.{calls_of}
+use Rattle.flat.specs.Records.{records_of}
 
 -- what a frame answers, the worlds after it, and the slice
 pub record FrameOutcome : Type 0 where

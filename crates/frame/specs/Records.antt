@@ -1,18 +1,16 @@
--- Calls and answers as records of eight words. Every record of a call means one, and every answer has one record. Assumes nothing: these are
--- definitions.
-use Rattle.std.specs.Prelude.{ℕ, zero, suc, ◌+◌, ◌-◌, ◌*◌, ◌/◌, Bool, cond, if◌then◌else◌, Option, Some, None, ◌||◌, List, [], ◌∷◌, ◌++◌, length, ◌==◌, slice_index}
+-- Calls as records of eight words, each of which means one. Assumes nothing: these are definitions.
+use Rattle.std.specs.Prelude.{ℕ, zero, suc, ◌+◌, ◌-◌, ◌*◌, ◌/◌, Bool, cond, if◌then◌else◌, Option, Some, None, ◌||◌, List, [], ◌∷◌, length, ◌==◌, slice_index}
 use Rattle.model.specs.Ends.{Bound}
 use Rattle.model.specs.declared.Listing.{Listing}
+use Rattle.model.specs.declared.between.Range.{Range}
 use Rattle.model.specs.declared.Rect.{Rect}
 use Rattle.model.specs.Numbers.{size}
-use Rattle.model.specs.Call.{Call, PoolCall, at, Answer}
+use Rattle.model.specs.Call.{Call, PoolCall, at}
 use Rattle.frame.specs.declared.entry.Kind.{Kind}
 use Rattle.frame.specs.declared.entry.Entry.{Entry}
-use Rattle.flat.specs.declared.Reply.{Reply}
-use Rattle.model.specs.Range.{bound_by}
-use Rattle.flat.specs.Flat.{truth, reply_of}
+use Rattle.model.specs.Range.{range_by}
+use Rattle.flat.specs.Flat.{truth}
 
--- ---- calls
 -- the words of record i
 unfoldable pub entry_at : List ℕ → ℕ → Entry
 entry_at ws i = record {
@@ -48,11 +46,14 @@ kind_of n =
     (cond (n == 19) Kind.SetRect
     (cond (n == 20) Kind.CountRect Kind.Get)))))))))))))))))
 
+abbrev pub range_of : Entry → Range
+range_of e = range_by e.lower e.from e.upper e.upto
+
 abbrev pub lower_of : Entry → Bound
-lower_of e = bound_by e.lower e.from
+lower_of e = (range_of e).lower
 
 abbrev pub upper_of : Entry → Bound
-upper_of e = bound_by e.upper e.upto
+upper_of e = (range_of e).upper
 
 abbrev pub listing_by : Entry → Listing
 listing_by e = record { first = e.from; last = e.upto; value = truth e.value }
@@ -114,13 +115,3 @@ calls_from ws i (suc n) = pool_call_of (entry_at ws i) ∷ calls_from ws (suc i)
 -- all whole records
 unfoldable pub calls_of : {S : Type 0} → List ℕ → List (PoolCall S)
 calls_of ws = calls_from ws 0 (length ws / 8)
-
--- ---- answers
--- the words of a reply; the eighth is 0
-abbrev pub words_of : Reply → List ℕ
-words_of r = r.refusal ∷ r.found ∷ r.number ∷ r.«end» ∷ r.first ∷ r.last ∷ r.value ∷ 0 ∷ []
-
--- the records of a list of answers, one after another
-unfoldable pub records_of : List Answer → List ℕ
-records_of [] = []
-records_of (a ∷ rs) = words_of (reply_of a) ++ records_of rs

@@ -10,7 +10,8 @@ use Rattle.interval_bit_set.specs.Met.{Met}
 use Rattle.frame.specs.declared.entry.Entry.{Entry}
 use Rattle.flat.specs.declared.Reply.{Reply}
 use Rattle.flat.specs.Flat.{reply_of}
-use Rattle.frame.specs.Records.{call_of, world_by, calls_from, records_of}
+use Rattle.frame.specs.Records.{call_of, world_by, calls_from}
+use Rattle.flat.specs.Records.{records_of}
 
 -- the record e at world i of the words w was answered r, as its call promises, and left w'
 abbrev pub ServesAt : List ℕ → ℕ → Entry → Reply → List ℕ → Type 0

@@ -1,5 +1,5 @@
-// What a record of a call means. Every record means a call: a number that names none is a get, a bound of another kind is none, and a truth
-// value is anything but 0. The last word of a record names the world, but that 7 and 9 ask at none.
+// What a record of a call means. Every record means a call: a number that names none is a get, a range with a bound of another kind is empty,
+// and a truth value is anything but 0. The last word of a record names the world, but that 7 and 9 ask at none.
 ghost use Rattle.std.specs.Prelude.{◌≡◌};
 ghost use Rattle.frame.specs.Records.{entry_at, kind_of, asked_at};
 

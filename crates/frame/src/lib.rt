@@ -11,11 +11,13 @@ ghost use Rattle.written.specs.Placed.{placed};
 ghost use Rattle.store.specs.Soundness.{Sound};
 ghost use Rattle.interval_bit_set.specs.Met.{Readable};
 ghost use Rattle.frame.specs.Frame.{Framed};
-ghost use Rattle.frame.specs.Records.{rect_by, words_of};
+ghost use Rattle.frame.specs.Records.{rect_by};
+ghost use Rattle.flat.specs.Records.{words_of};
 ghost use Rattle.frame.specs.Serving.{ServesAt, Serves, Playable, Plays};
 
 use crate::entry::{Entry, Kind};
 use flat::Reply;
+use model::between::Range;
 use model::{Listing, Rect, Refusal};
 use promises::site::Site;
 
@@ -40,8 +42,7 @@ fn serve_world(words: &mut [u64], e: Entry, world: u64) -> Reply
     requires { Readable words.old world }
     ensures { ServesAt words.old world e result words.new }
 {
-    let lower = flat::bound(e.lower, e.from);
-    let upper = flat::bound(e.upper, e.upto);
+    let Range { lower, upper } = flat::range(e.lower, e.from, e.upper, e.upto);
     let value = e.value != 0;
     let left = Listing {
         first: e.from,
@@ -83,16 +84,14 @@ fn serve(words: &mut [u64], e: Entry) -> Reply
     }
 }
 
-// Writes a reply as the record i of a list: its fields in their order, and a 0.
+// Writes a reply as the record i of a list.
 // By number, and not into a chunk that is lent: of a slice that was lent in chunks to be written, only the length is known afterwards.
 fn put(answers: &mut [u64], i: usize, r: Reply)
     requires { 8 * i + 8 ≤ length answers.old }
     ensures { answers.new ≡ placed (8 * i) (words_of r) answers.old }
 {
     let at = 8 * i;
-    answers[at..at + 8].copy_from_slice(&[
-        r.refusal, r.found, r.number, r.end, r.first, r.last, r.value, 0,
-    ]);
+    answers[at..at + 8].copy_from_slice(&<[u64; 8]>::from(r));
 }
 
 // Serves every record of a list on a pool that is known to be sound. The caller has compared the room for the answers with it.

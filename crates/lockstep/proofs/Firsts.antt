@@ -15,7 +15,8 @@ use Rattle.model.specs.Range.{first_allowed, past_allowed}
 use Rattle.model.specs.Positions.{run}
 use Rattle.model.specs.RunList.{AllWords}
 use Rattle.model.specs.Call.{Answer, refused, gave}
-use Rattle.model.specs.Spawning.{Range, entry_of, entries_of, places, AllGiven, StopsAt}
+use Rattle.model.specs.declared.between.Range.{Range}
+use Rattle.model.specs.Spawning.{entry_of, entries_of, places, AllGiven, StopsAt}
 use Rattle.lowest.specs.Entries.{entry}
 use Rattle.spawn.proofs.Ranges.{entries-length, entries-at, take_words}
 use Rattle.spawn.proofs.Leading.{places-rising}

@@ -54,7 +54,8 @@ use Rattle.interval_bit_set.proofs.Simulation.{
 use Rattle.interval_bit_set.specs.Lent.{item_answer, Unmoved}
 use Rattle.frame.specs.Frame
 use Rattle.frame.specs.Frame.{FrameOutcome, settle_frame, frame_of, FrameLeaves, Framed}
-use Rattle.frame.specs.Records.{calls_of, records_of}
+use Rattle.flat.specs.Records.{records_of}
+use Rattle.frame.specs.Records.{calls_of}
 use Rattle.lockstep.specs.Plays.{
   Lent,
   nothing,

@@ -13,7 +13,8 @@ use Rattle.model.specs.declared.Run.{Run}
 use Rattle.model.specs.Numbers.{size}
 use Rattle.model.specs.Bytes.{into_front}
 use Rattle.model.specs.Spawning
-use Rattle.model.specs.Spawning.{Range, ranges_of, entries_of, first_refused, why_full_up_to, none_refused, places, places_told, pick, AllGiven, StopsAt}
+use Rattle.model.specs.declared.between.Range.{Range}
+use Rattle.model.specs.Spawning.{ranges_of, entries_of, first_refused, why_full_up_to, none_refused, places, places_told, pick, AllGiven, StopsAt}
 use Rattle.model.specs.Refusals.{store_length, not_refused, output_short, ◌when◌, refusal, no_room}
 use Rattle.model.specs.Call.{why_full, written, Answer, refused, gave}
 use Rattle.model.specs.Pools.{settle_measured, stopped, measure_by}

@@ -15,7 +15,8 @@ use Rattle.store.specs.Layout.{capacity, worlds_of}
 use Rattle.interval_bit_set.specs.Met.{Site, fed_at, Met, Made}
 use Rattle.interval_bit_set.specs.Out.{WritesOut, WritesMeasured, Mends}
 use Rattle.interval_bit_set.specs.Lent.{item_answer, Draws}
-use Rattle.frame.specs.Records.{calls_of, records_of}
+use Rattle.flat.specs.Records.{records_of}
+use Rattle.frame.specs.Records.{calls_of}
 use Rattle.frame.specs.Frame.{Framed, FrameOutcome, settle_frame}
 
 -- ---- moves

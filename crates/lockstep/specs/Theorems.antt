@@ -17,7 +17,8 @@ use Rattle.model.specs.Call.{Call, feed, deepest, why_full, Result, done, number
 use Rattle.model.specs.Model.{serve}
 use Rattle.model.specs.Pools.{world_of, other_claims, answers, alone}
 use Rattle.model.specs.Bytes.{into_front}
-use Rattle.model.specs.Spawning.{Range, ranges_of, sets_of, pick, AllGiven, StopsAt}
+use Rattle.model.specs.declared.between.Range.{Range}
+use Rattle.model.specs.Spawning.{ranges_of, sets_of, pick, AllGiven, StopsAt}
 use Rattle.model.specs.Clearing.{clear_map}
 use Rattle.model.specs.Mending.{mended_positions}
 use Rattle.model.specs.Deepest.{least, deepest_runs, deepest_words}

@@ -2,7 +2,8 @@
 use Rattle.std.specs.Prelude.{ℕ, suc, ◌+◌, ◌≤◌, ◌<◌, ◌≡◌, false, List, length, take, get_or}
 use Rattle.model.specs.Range.{first_allowed, past_allowed}
 use Rattle.model.specs.Positions.{Positions, inside, run_at, mem}
-use Rattle.model.specs.Spawning.{Range, entries_of}
+use Rattle.model.specs.declared.between.Range.{Range}
+use Rattle.model.specs.Spawning.{entries_of}
 use Rattle.lowest.specs.Entries.{In}
 use Rattle.spawn.specs.Placing.{Climbing}
 

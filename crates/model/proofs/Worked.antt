@@ -49,7 +49,7 @@ use Rattle.model.specs.Converting.{converted, convert}
 use Rattle.model.specs.Handled.{Handled}
 use Rattle.model.specs.Deepest.{least, middles, middles_up_to, runs_at, deepest_runs, words_of, deepest_words}
 use Rattle.model.specs.Spawning.{ranges_from, ranges_of, entry_of, entries_of, meets}
-use Rattle.model.specs.Range.{bound_by}
+use Rattle.model.specs.Range.{named, bound_by, range_by}
 use Rattle.model.specs.Call.{deepest, measure, written, refused, gave}
 use Rattle.model.specs.Pools.{PlainWorld, make_by, measure_by, step}
 use Rattle.model.proofs.Deepest.{least-22, deepest-words}
@@ -94,7 +94,7 @@ due = record {
 tables-compute : come-to ≡ due
 unfolding cells others pools measures handled shown left pool_shown pool_left fits step_runs make_runs new_worlds at_by
     opened_at put_runs claims_runs others_runs bad_limits measure_runs due_answer stopped_answer stopped_by
-    first_refused_runs places_runs meets find ranges_of ranges_from entries_of entry_of bound_by least middles
+    first_refused_runs places_runs meets find ranges_of ranges_from entries_of entry_of named bound_by range_by least middles
     middles_up_to runs_at deepest_runs words_of deepest_words clear_map convert converted stray_bits cleared count serve_runs
     plan_runs union_at fates_runs another fed_as runs_of union map_runs some_bit clipped clip set_runs on_range set_to insert clear combine_runs
     and_runs or_runs xor_runs minus_runs set_all flip_runs inverted complement_runs shift_runs shift_left_runs

@@ -2,25 +2,19 @@
 -- Ticket 13).
 use Rattle.std.specs.Prelude.{Option, None, Some}
 use Rattle.std.specs.Prelude.{Bool, true, false, cond, not, ◌&&◌, ◌||◌, List, [], ◌∷◌, ◌≡◌, ℕ, zero, suc, ◌+◌, ◌-◌, ◌*◌, ◌/◌, leb, ltb, length, get_or, take}
-use Rattle.model.specs.Ends.{Bound}
+use Rattle.model.specs.declared.between.Range.{Range}
 use Rattle.model.specs.declared.Run.{Run}
-use Rattle.model.specs.Range.{bound_by, first_allowed, past_allowed}
+use Rattle.model.specs.Range.{range_by, first_allowed, past_allowed}
 use Rattle.model.specs.Positions.{run, find, stretches, run_at, mem}
 use Rattle.model.specs.Call.{set, PoolCall, at, Answer, refused, gave}
 use Rattle.model.specs.Model.{Plan, planned}
 
 -- ---- a list of ranges
-pub record Range : Type 0 where
-  pub lower : Bound
-  pub upper : Bound
-
 -- it is lent as words, four for a range: kind and value of the lower bound, kind and value of the upper one. Words after the last whole four are
 -- no range
 abbrev pub range_at : List ℕ → ℕ → Range
-range_at ws k = record {
-  lower = bound_by (get_or ws (4 * k) 0) (get_or ws (4 * k + 1) 0);
-  upper = bound_by (get_or ws (4 * k + 2) 0) (get_or ws (4 * k + 3) 0);
-}
+range_at ws k =
+    range_by (get_or ws (4 * k) 0) (get_or ws (4 * k + 1) 0) (get_or ws (4 * k + 2) 0) (get_or ws (4 * k + 3) 0)
 
 unfoldable pub ranges_from : List ℕ → ℕ → ℕ → List Range
 ranges_from ws k zero = []

@@ -521,7 +521,7 @@ past a b ws = 2 ∷ a ∷ 1 ∷ b ∷ ws
 
 -- all positions below b
 abbrev pub below : ℕ → List ℕ → List ℕ
-below b ws = 0 ∷ 0 ∷ 2 ∷ b ∷ ws
+below b ws = 3 ∷ 0 ∷ 2 ∷ b ∷ ws
 
 -- 12 .. 13 and then 10 .. 11, which touch, an empty and a reversed range after them, one apart, and one more
 abbrev pub spawned : List ℕ
@@ -592,9 +592,10 @@ measures =
     ask (why_full joining) 0 earns 16
     ∷ ask (why_full []) 0 earns 16
     ∷ [])
-    -- a bound of any other kind is none; words that are no whole range are no range, and a range that no position satisfies is none
+    -- of a range without a bound its value is not read; words that are no whole range are no range, and a range that no position satisfies is
+    -- none
     ∷ measured 1 (
-    ask (why_full (closed 4 4 (7 ∷ 2 ∷ 2 ∷ 2 ∷ []))) 2 gives written 2 (0 ∷ 1 ∷ [])
+    ask (why_full (closed 4 4 (3 ∷ 2 ∷ 2 ∷ 2 ∷ []))) 2 gives written 2 (0 ∷ 1 ∷ [])
     ∷ ask (why_full (closed 5 5 (1 ∷ 0 ∷ 1 ∷ []))) 0 earns 16
     ∷ [])
     ∷ measured 0 (
@@ -604,6 +605,12 @@ measures =
     ∷ measured 0 (
     ask (why_full (half-open 5 5 (closed 8 2 []))) 0 earns 16
     ∷ ask (why_full (half-open 5 5 (closed 3 3 (closed 1 1 [])))) 1 gives written 1 (1 ∷ [])
+    ∷ [])
+    -- a range with a bound of a kind that is not named holds no position, whichever of its bounds that is, and whatever the other
+    ∷ measured 0 (
+    ask (why_full (0 ∷ 0 ∷ 0 ∷ 0 ∷ 0 ∷ 2 ∷ 1 ∷ 8 ∷ 1 ∷ 2 ∷ 0 ∷ 8 ∷ [])) 0 earns 16
+    ∷ ask (why_full (4 ∷ 0 ∷ 3 ∷ 0 ∷ 3 ∷ 0 ∷ 4 ∷ 0 ∷ M ∷ 2 ∷ 2 ∷ 8 ∷ 2 ∷ 2 ∷ M ∷ 8 ∷ [])) 0 earns 16
+    ∷ ask (why_full (0 ∷ 0 ∷ 3 ∷ 0 ∷ 3 ∷ 0 ∷ 0 ∷ 0 ∷ 3 ∷ 0 ∷ 3 ∷ 0 ∷ [])) 1 gives written 1 (2 ∷ [])
     ∷ [])
     ∷ []
 

@@ -26,7 +26,8 @@ use Rattle.model.proofs.Pools.{step-alone}
 use Rattle.model.proofs.Runs.{stretches-cong, mem-append}
 use Rattle.lowest.specs.Entries.{In}
 use Rattle.lowest.proofs.Entries.{in_head, in_tail}
-use Rattle.model.specs.Spawning.{Range, sets_of, entry_of, entries_of, first_refused, places, why_full_up_to, why_full, pick, AllGiven, StopsAt}
+use Rattle.model.specs.declared.between.Range.{Range}
+use Rattle.model.specs.Spawning.{sets_of, entry_of, entries_of, first_refused, places, why_full_up_to, why_full, pick, AllGiven, StopsAt}
 use Rattle.spawn.specs.Placing.{Climbing}
 use Rattle.spawn.proofs.Adding.{among-run}
 use Rattle.spawn.proofs.Refusing.{Refused, refused-only, refused-is, none_before}

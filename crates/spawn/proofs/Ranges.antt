@@ -2,7 +2,7 @@
 use Prim.Native.Nat.{ℕ, zero, suc, ◌+◌, ◌-◌, ◌*◌, ◌/◌, ◌≤◌, ◌<◌}
 use mathlib.Core.Path.{◌≡◌, refl, sym, ap, ◌∙◌, subst}
 use mathlib.Core.Logic.{◌⊎◌, inl, inr}
-use mathlib.Core.Bool.{Bool, true, false, cond}
+use mathlib.Core.Bool.{Bool, true, false, cond, ◌&&◌}
 use mathlib.Core.List.{List, [], ◌∷◌}
 use native.Mathlib.Nat.{zero-add}
 use native.Mathlib.Omega.{arith}
@@ -19,9 +19,10 @@ use Rattle.model.specs.Positions.{run}
 use Rattle.model.specs.Range.{first_allowed, past_allowed, span_of}
 use Rattle.model.specs.RunList.{AllWords}
 use Rattle.model.proofs.Numbers.{split}
-use Rattle.model.specs.Range.{bound_by}
+use Rattle.model.specs.Range.{named, bound_by, nowhere, range_by}
 use Rattle.lowest.specs.Entries.{entry}
-use Rattle.model.specs.Spawning.{Range, range_at, ranges_from, ranges_of, entry_of, entries_of}
+use Rattle.model.specs.declared.between.Range.{Range}
+use Rattle.model.specs.Spawning.{range_at, ranges_from, ranges_of, entry_of, entries_of}
 use Rattle.spawn.specs.Placing.{first_entries}
 
 -- ---- one range
@@ -45,14 +46,15 @@ entry-span r = go (first_allowed r.lower) (past_allowed r.upper) (split (first_a
     go f p (inr l) = ap (λ b. cond b (run f (p - 1)) (run 1 0)) (le-ltb f p l) ∙ empty f p (ltb p f) l
 
 -- no upper bound of a word allows a position that is none
-past-most : (k v : ℕ) → v < size → past_allowed (bound_by k v) ≤ size
-unfolding bound_by
-past-most k v h = go (eqb k 1) (eqb k 2)
+past-most : (k v k' v' : ℕ) → v' < size → past_allowed (range_by k v k' v').upper ≤ size
+unfolding bound_by range_by
+past-most k v k' v' h = go (named k && named k') (eqb k' 1) (eqb k' 2)
   where
-    go : (a b : Bool) → past_allowed (cond a (Included v) (cond b (Excluded v) Unbounded)) ≤ size
-    go true b = omega arith
-    go false true = omega arith
-    go false false = omega arith
+    go : (n a b : Bool) → past_allowed (cond n (record { lower = bound_by k v; upper = cond a (Included v') (cond b (Excluded v') Unbounded) }) nowhere).upper ≤ size
+    go false a b = omega arith
+    go true true b = omega arith
+    go true false true = omega arith
+    go true false false = omega arith
 
 -- so the ends of its entry are words
 entry-most : (r : Range) → past_allowed r.upper ≤ size → ((entry_of r).start < size) × ((entry_of r).«end» < size)
@@ -116,7 +118,7 @@ from-words : (ws : List ℕ) (k n : ℕ) → ((i : ℕ) → get_or ws i 0 < size
 unfolding entries_of ranges_from
 from-words ws k zero f = tt
 from-words ws k (suc n) f =
-    let e = entry-most (range_at ws k) (past-most (get_or ws (4 * k + 2) 0) (get_or ws (4 * k + 3) 0) (f (4 * k + 3))) in
+    let e = entry-most (range_at ws k) (past-most (get_or ws (4 * k) 0) (get_or ws (4 * k + 1) 0) (get_or ws (4 * k + 2) 0) (get_or ws (4 * k + 3) 0) (f (4 * k + 3))) in
     (e.0, e.1, from-words ws (suc k) n f)
 
 pub listed-words : (ws : List ℕ) → ((i : ℕ) → get_or ws i 0 < size) → AllWords (entries_of (ranges_of ws))

@@ -47,7 +47,7 @@ pub const RECORD: usize = 8;
 pub fn frame(words: &mut [u64], calls: &[u64], answers: &mut [u64]) {
     let (w, c, a) = (words.as_mut_ptr(), calls.as_ptr(), answers.as_mut_ptr());
     // SAFETY: the slices are lent for the call, the two that are written uniquely.
-    let refusal = unsafe { raw::vizturel_frame(w, words.len(), c, calls.len(), a, answers.len()) };
+    let refusal = unsafe { raw::vizturel_abi_frame(w, words.len(), c, calls.len(), a, answers.len()) };
     assert_eq!(refusal, 0, "a list is refused");
 }
 

@@ -13,7 +13,7 @@ use crate::differential::random::Random;
 use crate::differential::records;
 use crate::differential::reference::{self, Draft, Run, Shape, WORLDS, node_at, record_at};
 use crate::frame::Call;
-use crate::raw::{self, Bound};
+use crate::raw;
 use crate::{HEIGHT, Limits, Piece, PoolBuf, Rect, SIDE, SetBuf};
 
 const PAINT: u64 = 0xA5A5_5A5A_C3C3_3C3C;
@@ -96,38 +96,11 @@ macro_rules! on_stack {
         $painted.call(stringify!($name), || {
             let pointer = stack_pointer();
             // SAFETY: the slices of the arguments are lent for the call, and those that it writes do not overlap others.
-            refusal = unsafe { raw::$name($($argument),*) }.refusal();
+            refusal = unsafe { raw::$name($($argument),*) };
             pointer
         });
         assert_eq!(refusal, 0, stringify!($name));
     }};
-}
-
-// Any answer's refusal.
-trait Refusing {
-    fn refusal(&self) -> u64;
-}
-
-impl Refusing for u64 {
-    fn refusal(&self) -> u64 {
-        *self
-    }
-}
-
-macro_rules! refusing {
-    ($($answer:ident),*) => {
-        $(impl Refusing for raw::$answer {
-            fn refusal(&self) -> u64 {
-                self.refusal
-            }
-        })*
-    };
-}
-
-refusing!(Counted, Tallied, Numbered, Around, Found, Listed, Drawn, Mended);
-
-fn included(value: u64) -> Bound {
-    Bound { kind: 1, value }
 }
 
 // Everything, the first and the last run and the gap beside each, all between them, and some ranges around a run.
@@ -197,33 +170,34 @@ fn measure_on(painted: &mut Painted, words: &[u64], runs: &[Run], worlds: usize,
     let c = changed.as_mut_ptr();
     let mut spare = SetBuf::with_capacity(CAPACITY).expect("a capacity").into_words();
     let s = spare.as_mut_ptr();
+    let mut answer = [0; 8];
+    let a = answer.as_mut_ptr();
 
     for [first, last] in ranges(runs, random) {
-        let (l, u) = (included(first), included(last));
         for value in [0, 1] {
-            on_stack!(painted, vizturel_find(p, n, i, l, u, value));
-            on_stack!(painted, vizturel_tally(p, n, i, l, u, value));
-            on_stack!(painted, vizturel_select(p, n, i, l, u, value, (last - first) / 4));
-            on_stack!(painted, vizturel_ranges(p, n, i, l, u, value));
-            on_stack!(painted, vizturel_draw_front(p, n, i, first, last, value));
-            on_stack!(painted, vizturel_draw_back(p, n, i, first, last, value));
-            on_stack!(painted, vizturel_set(c, n, i, l, u, value));
+            on_stack!(painted, vizturel_abi_find(p, n, i, 1, first, 1, last, value, a));
+            on_stack!(painted, vizturel_abi_tally(p, n, i, 1, first, 1, last, value, a));
+            on_stack!(painted, vizturel_abi_select(p, n, i, 1, first, 1, last, value, (last - first) / 4, a));
+            on_stack!(painted, vizturel_abi_ranges(p, n, i, 1, first, 1, last, value, a));
+            on_stack!(painted, vizturel_abi_draw_front(p, n, i, first, last, value, a));
+            on_stack!(painted, vizturel_abi_draw_back(p, n, i, first, last, value, a));
+            on_stack!(painted, vizturel_abi_set(c, n, i, 1, first, 1, last, value, a));
             changed.copy_from_slice(words);
         }
         // One that fits nearly everywhere, one that fits between no two runs, and one that fits only where all is free.
         for length in [1, 7, (last - first).saturating_add(1)] {
-            on_stack!(painted, vizturel_gap(p, n, i, l, u, length));
+            on_stack!(painted, vizturel_abi_gap(p, n, i, 1, first, 1, last, length, a));
         }
-        on_stack!(painted, vizturel_get(p, n, i, first));
-        on_stack!(painted, vizturel_run_at(p, n, i, first));
-        on_stack!(painted, vizturel_fill(p, n, i, first.min(1 << 63), WINDOW));
+        on_stack!(painted, vizturel_abi_get(p, n, i, first, a));
+        on_stack!(painted, vizturel_abi_run_at(p, n, i, first, a));
+        on_stack!(painted, vizturel_abi_fill(p, n, i, first.min(1 << 63), WINDOW, a));
         // A flip of many runs takes long, and those of few go by the same way.
         if last - first < 100 {
-            on_stack!(painted, vizturel_flip(c, n, i, l, u));
+            on_stack!(painted, vizturel_abi_flip(c, n, i, 1, first, 1, last));
             changed.copy_from_slice(words);
         }
     }
-    on_stack!(painted, vizturel_flip(c, n, i, included(0), included(u64::MAX)));
+    on_stack!(painted, vizturel_abi_flip(c, n, i, 1, 0, 1, u64::MAX));
     for [first, last] in ranges(runs, random).into_iter().step_by(4) {
         // Lists of one call, of every kind.
         for call in 0..=records::LAST {
@@ -235,32 +209,31 @@ fn measure_on(painted: &mut Painted, words: &[u64], runs: &[Run], worlds: usize,
                 19 | 20 => [call, 0, first % SIDE, 40, SIDE - 1, random.below(2), k, i],
                 _ => [call, 1, first, 1, upper, random.below(2), k, i],
             };
-            let mut answer = [0; 8];
-            on_stack!(painted, vizturel_frame(c, n, record.as_ptr(), 8, answer.as_mut_ptr(), 8));
+            on_stack!(painted, vizturel_abi_frame(c, n, record.as_ptr(), 8, a, 8));
         }
     }
     let half = runs[runs.len() / 2][0];
     for (distance, left) in [(1, 1), (1, 0), (half, 0), (u64::MAX - half, 1), (u64::MAX, 1)] {
         changed.copy_from_slice(words);
-        on_stack!(painted, vizturel_shift(c, n, i, distance, left));
-        on_stack!(painted, vizturel_shifted(s, n, 0, distance, left, p, n, i));
+        on_stack!(painted, vizturel_abi_shift(c, n, i, distance, left));
+        on_stack!(painted, vizturel_abi_shifted(s, n, 0, distance, left, p, n, i));
     }
     changed.copy_from_slice(words);
-    on_stack!(painted, vizturel_shift(c, n, i, 1, 0));
+    on_stack!(painted, vizturel_abi_shift(c, n, i, 1, 0));
     for op in 0..3 {
-        on_stack!(painted, vizturel_combine(s, n, 0, op, p, n, i, p, n, i));
+        on_stack!(painted, vizturel_abi_combine(s, n, 0, op, p, n, i, p, n, i));
     }
-    on_stack!(painted, vizturel_eq(p, n, i, p, n, i));
-    on_stack!(painted, vizturel_eq(p, n, i, c, n, i));
-    on_stack!(painted, vizturel_not(s, n, 0, p, n, i));
+    on_stack!(painted, vizturel_abi_eq(p, n, i, p, n, i, a));
+    on_stack!(painted, vizturel_abi_eq(p, n, i, c, n, i, a));
+    on_stack!(painted, vizturel_abi_not(s, n, 0, p, n, i));
 
     let mut bytes = vec![0; 5 + 16 * CAPACITY];
     let mut other = bytes.clone();
     let written = 5 + 16 * runs.len();
     for edition in [1, 2] {
-        on_stack!(painted, vizturel_write(p, n, i, edition, bytes.as_mut_ptr(), bytes.len()));
-        on_stack!(painted, vizturel_load(s, n, 0, bytes.as_ptr(), written));
-        on_stack!(painted, vizturel_convert(bytes.as_ptr(), written, other.as_mut_ptr(), other.len()));
+        on_stack!(painted, vizturel_abi_write(p, n, i, edition, bytes.as_mut_ptr(), bytes.len(), a));
+        on_stack!(painted, vizturel_abi_load(s, n, 0, bytes.as_ptr(), written));
+        on_stack!(painted, vizturel_abi_convert(bytes.as_ptr(), written, other.as_mut_ptr(), other.len(), a));
     }
     // As it stands, which is copied, and with the runs in any order.
     let mut mixed = runs.to_vec();
@@ -269,44 +242,44 @@ fn measure_on(painted: &mut Painted, words: &[u64], runs: &[Run], worlds: usize,
         for list in [runs, &mixed] {
             let set = reference::encode(edition, list);
             let (from, to, report) = (set.as_ptr(), other.as_mut_ptr(), bytes.as_mut_ptr());
-            on_stack!(painted, vizturel_mend(s, n, 0, from, set.len(), to, other.len(), report, bytes.len()));
+            on_stack!(painted, vizturel_abi_mend(s, n, 0, from, set.len(), to, other.len(), report, bytes.len(), a));
         }
     }
     // Rectangles and squares that most of the lower runs lie in, and others.
     let mut pieces = vec![0; Piece::WORDS << 16];
     for (row, column) in [(0, 0), (3, 7), (SIDE - 256, SIDE - 256)] {
         let rect = Rect::new((row, column), (row + 255, column + 200));
-        on_stack!(painted, vizturel_count_rect(p, n, i, rect));
+        on_stack!(painted, vizturel_abi_count_rect(p, n, i, rect.top, rect.left, rect.bottom, rect.right, a));
         for value in [0, 1] {
             changed.copy_from_slice(words);
-            on_stack!(painted, vizturel_set_rect(c, n, i, rect, value));
+            on_stack!(painted, vizturel_abi_set_rect(c, n, i, rect.top, rect.left, rect.bottom, rect.right, value, a));
         }
-        on_stack!(painted, vizturel_survey(p, n, i, row, column, 8, pieces.as_mut_ptr(), pieces.len()));
+        on_stack!(painted, vizturel_abi_survey(p, n, i, row, column, 8, pieces.as_mut_ptr(), pieces.len(), a));
     }
     let list = runs.as_flattened();
-    on_stack!(painted, vizturel_build(s, n, 0, list.as_ptr(), list.len()));
+    on_stack!(painted, vizturel_abi_build(s, n, 0, list.as_ptr(), list.len()));
     let mut heights = vec![0; 2 * CAPACITY];
-    on_stack!(painted, vizturel_deepest(p, n, HEIGHT, heights.as_mut_ptr(), heights.len()));
+    on_stack!(painted, vizturel_abi_deepest(p, n, HEIGHT, heights.as_mut_ptr(), heights.len(), a));
     // A list that is refused with its last range, in more than one part; of the pool only the length is asked, so some of its words will do.
     let spawns: Vec<u64> = mixed[..1_300].iter().flat_map(|&[start, end]| [1, start, 1, end]).collect();
     let mut places = vec![0; 1_300];
     let (from, to) = (spawns.as_ptr(), places.as_mut_ptr());
-    on_stack!(painted, vizturel_why_full(p, crate::words(1_299), from, spawns.len(), to, places.len()));
+    on_stack!(painted, vizturel_abi_why_full(p, crate::words(1_299), from, spawns.len(), to, places.len(), a));
     let limits = [LIMIT; WORLDS];
-    on_stack!(painted, vizturel_new(s, n, limits.as_flattened().as_ptr(), 2 * worlds));
+    on_stack!(painted, vizturel_abi_new(s, n, limits.as_flattened().as_ptr(), 2 * worlds));
     let mut map = vec![0; WINDOW as usize / 8];
-    on_stack!(painted, vizturel_clear_map(0, WINDOW - 3, map.as_mut_ptr(), map.len()));
+    on_stack!(painted, vizturel_abi_clear_map(0, WINDOW - 3, map.as_mut_ptr(), map.len(), a));
     for base in [runs[0][0], runs[runs.len() - 1][1].saturating_sub(WINDOW - 1)] {
-        on_stack!(painted, vizturel_write_map_by_bytes(p, n, i, base, WINDOW, map.as_mut_ptr(), map.len()));
-        on_stack!(painted, vizturel_write_map(p, n, i, base, WINDOW, map.as_mut_ptr(), map.len()));
+        on_stack!(painted, vizturel_abi_write_map_by_bytes(p, n, i, base, WINDOW, map.as_mut_ptr(), map.len(), a));
+        on_stack!(painted, vizturel_abi_write_map(p, n, i, base, WINDOW, map.as_mut_ptr(), map.len(), a));
         // All runs away in the window, one position away, and one more there.
         for (byte, bits) in [(0, 0xFF), (map.len() / 2, 0xFF), (map.len() / 3, 1)] {
             let mut other = if byte == 0 { vec![0; map.len()] } else { map.clone() };
             other[byte] ^= bits;
             changed.copy_from_slice(words);
-            on_stack!(painted, vizturel_read_map(c, n, i, base, WINDOW, other.as_ptr(), other.len()));
+            on_stack!(painted, vizturel_abi_read_map(c, n, i, base, WINDOW, other.as_ptr(), other.len(), a));
             changed.copy_from_slice(words);
-            on_stack!(painted, vizturel_read_map_by_bytes(c, n, i, base, WINDOW, other.as_ptr(), other.len()));
+            on_stack!(painted, vizturel_abi_read_map_by_bytes(c, n, i, base, WINDOW, other.as_ptr(), other.len(), a));
         }
     }
 }

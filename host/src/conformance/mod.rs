@@ -121,8 +121,8 @@ fn fits(call: &Call, limits: &Limits) -> bool {
     }
 }
 
-// A record without reserved numbers, of the same meaning: of what its call reads, kinds of bounds above 2 are 0, a truth is 0 or 1, and a number above
-// the last one is that of a get.
+// A record without reserved numbers, of the same meaning: of what its call reads, a range with a bound of a reserved kind is an empty one, a truth is 0
+// or 1, and a number above the last one is that of a get.
 fn plain_record(mut record: Record) -> Record {
     let bounds = [2, 3, 6, 8, 10, 14, 15, 16, 17, 18];
     let truths = [2, 4, 6, 8, 10, 11, 12, 15, 16, 18, 19];
@@ -130,9 +130,8 @@ fn plain_record(mut record: Record) -> Record {
         record[0] = 0;
     }
     if bounds.contains(&record[0]) {
-        for kind in [1, 3] {
-            record[kind] = plain_kind(record[kind]);
-        }
+        let [_, range @ .., _, _, _] = &mut record;
+        *range = records::named(*range);
     }
     if truths.contains(&record[0]) {
         record[5] = record[5].min(1);
@@ -140,16 +139,14 @@ fn plain_record(mut record: Record) -> Record {
     record
 }
 
-fn plain_kind(kind: u64) -> u64 {
-    if kind > 2 { 0 } else { kind }
-}
-
 // A call without reserved numbers, of the same meaning.
 fn plain(call: &Call) -> Call {
     let mut call = call.clone();
     match &mut call {
         Call::Write { edition, .. } if *edition != 2 => *edition = 1,
-        Call::WhyFull { ranges, .. } => ranges.iter_mut().step_by(2).for_each(|kind| *kind = plain_kind(*kind)),
+        Call::WhyFull { ranges, .. } => {
+            ranges.as_chunks_mut().0.iter_mut().for_each(|range| *range = records::named(*range))
+        }
         Call::Frame { calls, .. } => {
             calls.as_chunks_mut().0.iter_mut().for_each(|record| *record = plain_record(*record));
         }

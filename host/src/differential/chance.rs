@@ -286,18 +286,22 @@ pub fn deepest(random: &mut Random, store: &Store, at: usize) -> Call {
     Call::Deepest { at, height, room }
 }
 
-/// The four words of a range with these ends. A bound may exclude the position beside it, or, at the ends of all positions, be none, of any
-/// kind but 1 and 2 and with any value. Where the end is one below the start the range is empty, and further below reversed.
+/// The four words of a range with these ends. A bound may exclude the position beside it, or, at the ends of all positions, be none, with any
+/// value. Where the end is one below the start the range is empty, and further below reversed; either of its bounds may be of any kind but 1, 2
+/// and 3 then.
 pub fn spelled(random: &mut Random, [start, end]: Run) -> [u64; 4] {
-    let none = [random.one_of(&[0, 0, 3, 1 << 32 | 1, HALF + 2, u64::MAX]), random.number()];
+    let reserved = [random.one_of(&[0, 0, 4, 1 << 32 | 1, HALF + 2, u64::MAX]), random.number()];
+    let none = [3, reserved[1]];
     let lower = match random.below(3) {
         0 if start > 0 => [2, start - 1],
         0 => none,
+        1 if start > end => reserved,
         _ => [1, start],
     };
     let upper = match random.below(3) {
         0 if end < u64::MAX => [2, end + 1],
         0 => none,
+        1 if start > end => reserved,
         _ => [1, end],
     };
     [lower[0], lower[1], upper[0], upper[1]]
@@ -331,7 +335,7 @@ pub fn why_full(random: &mut Random, store: &Store, at: usize) -> Call {
     let mut ranges: Vec<u64> = list.into_iter().flat_map(|run| spelled(random, run)).collect();
     if random.once_in(4) {
         let more = random.below(4);
-        ranges.extend((0..more).map(|_| random.below(3)));
+        ranges.extend((0..more).map(|_| 1 + random.below(3)));
     }
     // No more than a list that is refused can have.
     let due = capacity.min(30) + 1;
@@ -699,10 +703,10 @@ fn record(random: &mut Random, store: &Store) -> Record {
     let mut record = records::record_of(&made).expect("a kind that lists have");
     for _ in 0..random.below(3) {
         match random.below(3) {
-            // Another truth, another kind of no bound.
+            // Another truth, and any kind in the place of no bound.
             0 if record[5] != 0 => record[5] = word(random, runs).max(1),
-            1 if record[1] == 0 => record[1] = word(random, runs).max(3),
-            2 if record[3] == 0 => record[3] = word(random, runs).max(3),
+            1 if [0, 3].contains(&record[1]) => record[1] = word(random, runs),
+            2 if [0, 3].contains(&record[3]) => record[3] = word(random, runs),
             _ => {}
         }
     }

@@ -50,7 +50,7 @@ impl Library {
             Call::New { to, ref limits } => {
                 let w = &mut self.stores[to];
                 // SAFETY: as of every call in the crate's root. By words, so that a last one without a partner can be handed in.
-                let refusal = unsafe { raw::vizturel_new(w.as_mut_ptr(), w.len(), limits.as_ptr(), limits.len()) };
+                let refusal = unsafe { raw::vizturel_abi_new(w.as_mut_ptr(), w.len(), limits.as_ptr(), limits.len()) };
                 crate::answer(refusal, Told::Done)
             }
             Call::Set { at, range, value } => self.lent_mut(at).set(range, value).map(Told::Count),
@@ -96,8 +96,10 @@ impl Library {
                 let w = &self.stores[at.store];
                 let to = out.as_mut_ptr();
                 // SAFETY: as of every call in the crate's root. By words, so that a part of a piece's room can be handed in.
-                let told = unsafe { raw::vizturel_survey(w.as_ptr(), w.len(), at.world, row, column, k, to, room) };
-                let filled = crate::number(told).map(|words| words as usize);
+                let told = crate::number(|a| unsafe {
+                    raw::vizturel_abi_survey(w.as_ptr(), w.len(), at.world, row, column, k, to, room, a)
+                });
+                let filled = told.map(|words| words as usize);
                 written(filled, out, STALE_WORD, Told::Words)
             }
             Call::Combine { to, op, a, b } => {
@@ -113,8 +115,8 @@ impl Library {
                 let [mut out, mut report] = rooms.map(|room| vec![STALE; room]);
                 let w = &mut self.stores[to.store];
                 // SAFETY: as of every call in the crate's root. The report as bytes, so that those after it can be seen to stay.
-                let told = unsafe {
-                    raw::vizturel_mend(
+                let mended = crate::given(|a| unsafe {
+                    raw::vizturel_abi_mend(
                         w.as_mut_ptr(),
                         w.len(),
                         to.world,
@@ -124,9 +126,10 @@ impl Library {
                         out.len(),
                         report.as_mut_ptr(),
                         report.len(),
+                        a,
                     )
-                };
-                let filled = crate::answer(told.refusal, [told.bytes, told.report].map(|n| n as usize));
+                });
+                let filled = mended.map(|mended| [mended.number, mended.end].map(|n| n as usize));
                 match filled {
                     Err(r) if [&out, &report].into_iter().flatten().any(|&x| x != STALE) => {
                         Ok(Told::RefusedAndChanged(r))
@@ -162,8 +165,9 @@ impl Library {
                 let w = &self.stores[at];
                 let to = out.as_mut_ptr();
                 // SAFETY: as of every call in the crate's root. By words, so that half a run's room can be handed in.
-                let told = unsafe { raw::vizturel_deepest(w.as_ptr(), w.len(), height, to, room) };
-                let filled = crate::number(told).map(|words| words as usize);
+                let told =
+                    crate::number(|a| unsafe { raw::vizturel_abi_deepest(w.as_ptr(), w.len(), height, to, room, a) });
+                let filled = told.map(|words| words as usize);
                 written(filled, out, STALE_WORD, Told::Words)
             }
             Call::WhyFull { at, ref ranges, room } => {
@@ -171,8 +175,10 @@ impl Library {
                 let w = &self.stores[at];
                 let (from, to) = (ranges.as_ptr(), out.as_mut_ptr());
                 // SAFETY: as of every call in the crate's root. By words, so that a part of a range and any kind of bound can be handed in.
-                let told = unsafe { raw::vizturel_why_full(w.as_ptr(), w.len(), from, ranges.len(), to, room) };
-                let filled = crate::number(told).map(|words| words as usize);
+                let told = crate::number(|a| unsafe {
+                    raw::vizturel_abi_why_full(w.as_ptr(), w.len(), from, ranges.len(), to, room, a)
+                });
+                let filled = told.map(|words| words as usize);
                 written(filled, out, STALE_WORD, Told::Words)
             }
             Call::Write { at, edition, room } => {
@@ -180,8 +186,10 @@ impl Library {
                 let w = &self.stores[at.store];
                 let to = out.as_mut_ptr();
                 // SAFETY: as of every call in the crate's root. By number, so that one that names no edition can be handed in.
-                let told = unsafe { raw::vizturel_write(w.as_ptr(), w.len(), at.world, edition, to, room) };
-                let filled = crate::number(told).map(|bytes| bytes as usize);
+                let told = crate::number(|a| unsafe {
+                    raw::vizturel_abi_write(w.as_ptr(), w.len(), at.world, edition, to, room, a)
+                });
+                let filled = told.map(|bytes| bytes as usize);
                 written(filled, out, STALE, Told::Slice)
             }
             Call::WriteMap { at, base, n, room } => {

@@ -1233,7 +1233,7 @@ const TOGETHER: usize = 50;
 pub fn frames(score: &mut Score, options: Options) -> Outcome {
     score.begin("frames: records at the edges");
     let mut random = Random::new(options.seed ^ 0xF4);
-    let kinds = [0, 1, 2, 3, M];
+    let kinds = [0, 1, 2, 3, 4, M];
     let mut edges = Vec::new();
     let mut turn = 0;
     for number in (0..=records::LAST + 1).chain([HALF + 2, M]) {

@@ -17,12 +17,30 @@ pub const LAST: u64 = 20;
 /// Numbers below it that name none: such a record asks at a world that no pool has, so that it is refused and not answered as another call.
 pub const WITHDRAWN: [u64; 2] = [7, 9];
 
+/// The kinds of bounds that have names: one that includes its value, one that excludes it, and none.
+pub const KINDS: [u64; 3] = [1, 2, 3];
+
+/// The four words of a range that is empty and not reversed.
+pub const NOWHERE: [u64; 4] = [1, 0, 2, 0];
+
 fn bound(kind: u64, value: u64) -> Bound<u64> {
     match kind {
         1 => Bound::Included(value),
         2 => Bound::Excluded(value),
-        _ => Bound::Unbounded,
+        3 => Bound::Unbounded,
+        _ => panic!("kind {kind} has no name"),
     }
+}
+
+/// Four words as a range of the same positions whose kinds have names: it is empty where one of theirs has none.
+pub fn named(words: [u64; 4]) -> [u64; 4] {
+    let [lower, _, upper, _] = words;
+    if KINDS.contains(&lower) && KINDS.contains(&upper) { words } else { NOWHERE }
+}
+
+fn range_of(words: [u64; 4]) -> Range {
+    let [lower, from, upper, upto] = named(words);
+    (bound(lower, from), bound(upper, upto))
 }
 
 /// The call that a record means, on the world of a store that its last word names.
@@ -30,7 +48,7 @@ pub fn call_of(store: usize, record: Record) -> Call {
     let [call, lower, from, upper, upto, value, k, world] = record;
     let at = Place { store, world: if WITHDRAWN.contains(&call) { u64::MAX } else { world } };
     let value = value != 0;
-    let range = (bound(lower, from), bound(upper, upto));
+    let range = range_of([lower, from, upper, upto]);
     let listing = Listing { first: from, last: upto, value };
     // A rectangle has no bounds: the words of these are its corners.
     let rect = Rect::new((lower, from), (upper, upto));
@@ -61,14 +79,13 @@ fn words(b: Bound<u64>) -> [u64; 2] {
     match b {
         Bound::Included(x) => [1, x],
         Bound::Excluded(x) => [2, x],
-        Bound::Unbounded => [0, 0],
+        Bound::Unbounded => [3, 0],
     }
 }
 
 /// The ranges of a list, four words each. What comes after the last whole one is none.
 pub fn ranges_of(list: &[u64]) -> Vec<Range> {
-    let range = |&[lower, from, upper, upto]: &[u64; 4]| (bound(lower, from), bound(upper, upto));
-    list.as_chunks().0.iter().map(range).collect()
+    list.as_chunks().0.iter().map(|&words| range_of(words)).collect()
 }
 
 /// The four words of a range.

@@ -116,7 +116,7 @@ fn odd_records() -> Vec<Record> {
         all.push([5, word, 20, word, word, word, word, 0]);
         all.push([11, word, 0, word, M, word.min(1), word, 0]);
         all.push([13, word, 20, word, 8, word, word, 0]);
-        all.push([14, 1, 2, 0, word, word, 2, 0]);
+        all.push([14, 1, 2, 3, word, word, 2, 0]);
     }
     all
 }

@@ -30,7 +30,7 @@ fn editions() -> List {
     list
 }
 
-// Numbers that name no call are gets, kinds of no bound are none, and truths are true.
+// Numbers that name no call are gets, ranges with a bound of a kind that has no name are empty, and truths are true.
 fn frames() -> List {
     let mut list = named("frames");
     let mut random = Random::new(0xF5);
@@ -47,23 +47,31 @@ fn frames() -> List {
         all.push([number, 1, 7, 1, 9, 0, 0, 0]);
         all.push([number, 1, 7, 1, 9, 0, 0, 3]);
     }
-    for kind in [3, 4, 257, 258, (1 << 32) + 1, HALF + 1, M] {
+    for kind in [0, 4, 257, 258, 259, (1 << 32) + 1, HALF + 1, M] {
         for number in [6, 8, 10, 14, 15, 18] {
             all.push([number, kind, 5, 1, 6, 1, 0, 0]);
             all.push([number, 1, 4, kind, 6, 1, 1, 0]);
+            all.push([number, kind, 0, 3, 0, 0, 0, 0]);
+            all.push([number, 3, 0, kind, M, 1, 0, 0]);
+            all.push([number, kind, 5, kind, 6, 1, 0, 0]);
         }
         for number in [2, 3, 16, 17] {
             all.push([number, kind, 5, 1, 6, 0, 0, 0]);
             all.push([number, 2, 9, kind, 6, 1, 0, 0]);
+            all.push([number, kind, 0, 3, 0, 0, 0, 0]);
+            all.push([number, 3, 0, kind, M, 0, 0, 0]);
+            all.push([number, kind, 9, kind, 2, 1, 0, 0]);
         }
     }
+    // A number alone, and zeros.
+    all.extend((2..=records::LAST).map(|number| [number, 0, 0, 0, 0, 0, 0, 0]));
     for truth in [2, 3, 255, 256, 1 << 32, HALF, M] {
         all.push([2, 1, 20, 2, 22, truth, M, 0]);
         all.push([10, 1, 20, 2, 22, truth, 3, 0]);
         all.push([11, 2, 0, 3, M, truth, 1, 0]);
         all.push([12, 2, 0, 3, M, truth, 1, 0]);
         all.push([4, 1, 1, 1, 1, truth, 1, 0]);
-        all.push([15, 0, 0, 0, 0, truth, 2, 0]);
+        all.push([15, 3, 0, 3, 0, truth, 2, 0]);
         all.push([19, 0, 20, 0, 22, truth, M, 0]);
     }
     play(&mut list, &all);
@@ -75,15 +83,17 @@ fn frames() -> List {
     list
 }
 
-// Kinds of no bound in lists of ranges.
+// Ranges with a bound of a kind that has no name, in lists of ranges: they are empty, whatever the other bound is.
 fn why_full() -> List {
     let mut list = named("why_full");
     list.say("words 2 1");
     for x in [0, 1, HALF, M - 1, M] {
-        for kind in [3, 4, 257, (1 << 32) + 1, HALF + 2, M] {
-            for [lower, upper] in [[kind, 1], [1, kind], [kind, 2], [2, kind], [kind, kind]] {
+        for kind in [0, 4, 257, (1 << 32) + 1, HALF + 2, M] {
+            for [lower, upper] in [[kind, 1], [1, kind], [kind, 2], [2, kind], [kind, 3], [3, kind], [kind, kind]] {
                 let ranges = vec![1, 4, 1, 4, lower, x, upper, x, 1, M - 3, 1, M - 3];
                 list.call(&Call::WhyFull { at: 2, ranges, room: 2 });
+                let ranges = vec![lower, x, upper, x, lower, x, upper, x, 1, 4, 1, 4];
+                list.call(&Call::WhyFull { at: 2, ranges, room: 0 });
             }
         }
     }
