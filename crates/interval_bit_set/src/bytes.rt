@@ -5,13 +5,13 @@ ghost use Rattle.model.specs.Call.{Call};
 ghost use Rattle.model.specs.Answers.{completed_answer, counted_answer, numbered_answer, written_answer};
 ghost use Rattle.model.specs.Clearing.{clear_map};
 ghost use Rattle.model.specs.Converting.{convert};
-ghost use Rattle.written.specs.Listed.{pairs};
+ghost use Rattle.run_lists.specs.Listed.{pairs};
 ghost use Rattle.promises.specs.Met.{Met};
 ghost use Rattle.promises.specs.Out.{Mends};
 ghost use Rattle.promises.specs.Handles.{Handles};
 
 use model::{Count, Mended, Refusal};
-use written::runs::Words;
+use run_lists::Words;
 
 // Gives a world the set that bytes tell, whatever it held.
 pub fn load(words: &mut [u64], world: u64, bytes: &[u8]) -> Result<(), Refusal>

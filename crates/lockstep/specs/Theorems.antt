@@ -25,8 +25,8 @@ use Rattle.model.specs.Converting.{convert, document_one_refusal}
 use Rattle.run_index.specs.Tree.{height}
 use Rattle.store.specs.Layout.{capacity, allowance, opened_at, floor_at, held_by, worlds_of, world_at, tree_at}
 use Rattle.store.specs.Soundness.{runs_at, Sound}
-use Rattle.lowest.specs.Entries.{In}
-use Rattle.spawn.specs.Placing.{Climbing}
+use Rattle.union.specs.Entries.{In}
+use Rattle.why_full.specs.Placing.{Climbing}
 use Rattle.promises.specs.Met.{Site, fed_at, fed_of, Leaves, Met, Measured}
 use Rattle.promises.specs.Out.{WritesOut}
 use Rattle.promises.specs.Handles.{Handles}

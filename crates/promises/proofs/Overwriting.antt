@@ -24,7 +24,7 @@ use Rattle.store.specs.Layout.{allowance}
 use Rattle.store.specs.Soundness.{share_of}
 use Rattle.store.specs.Settle.{Settled, Became, Opened, Closing, Closes}
 use Rattle.store.proofs.Parts.{lent, back}
-use Rattle.streams.specs.Gathering.{Roomy, Gathers}
+use Rattle.changes.specs.Overwriting.{Roomy, Gathers}
 use Rattle.promises.specs.Met.{Site, fed_of, fed_at, outcome_of, Met, Readable}
 use Rattle.promises.specs.Joined.{Carried}
 use Rattle.promises.proofs.Doors.{lent-limited, lent-closing, lent-settled}

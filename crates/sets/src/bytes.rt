@@ -11,7 +11,7 @@ ghost use Rattle.promises.specs.Met.{Readable, Met};
 
 use maps::window::{Map, Window};
 use model::{Count, Refusal};
-use written::runs::RunList;
+use run_lists::RunList;
 
 // Gives a world the runs of a list, which are in order, whatever it held, if its allowance admits so many.
 fn put<L: RunList + Copy>(words: &mut [u64], world: u64, runs: L) -> Result<(), Refusal>
@@ -23,7 +23,7 @@ fn put<L: RunList + Copy>(words: &mut [u64], world: u64, runs: L) -> Result<(), 
         return Err(Refusal::Capacity);
     }
     let h = store::open(words, world);
-    let k = written::runs::build(&mut words[128..], h, runs);
+    let k = changes::overwrite::build(&mut words[128..], h, runs);
     store::close(words, k);
     Ok(())
 }
@@ -33,7 +33,7 @@ pub fn load(words: &mut [u64], world: u64, bytes: &[u8]) -> Result<(), Refusal>
     requires { Readable words.old world }
     ensures { Met words.old world (Call.load bytes.now) (completed_answer result) words.new }
 {
-    let told = written::set::runs_told(bytes)?;
+    let told = codec::set::runs_told(bytes)?;
     put(words, world, told)
 }
 
@@ -42,7 +42,7 @@ pub fn build<L: RunList + Copy>(words: &mut [u64], world: u64, runs: L) -> Resul
     requires { Readable words.old world }
     ensures { Met words.old world (Call.build (L.runs runs)) (completed_answer result) words.new }
 {
-    if !written::runs::in_order(runs) {
+    if !run_lists::in_order(runs) {
         return Err(Refusal::RunOrder);
     }
     put(words, world, runs)
@@ -67,7 +67,7 @@ pub fn read_map<const WIDE: bool>(
     if !promises::window::map_length_fits(bytes, n) {
         return Err(Refusal::Window);
     }
-    if spare::stray_bits(bytes, n) > 0 {
+    if codec::padding::stray_bits(bytes, n) > 0 {
         return Err(Refusal::StrayBit);
     }
     let h = store::open(words, world);

@@ -15,5 +15,5 @@ pub fn clear_map(base: u64, n: u64, map: &mut [u8]) -> Result<u64, Refusal>
     if !promises::window::map_length_fits(map, n) {
         return Err(Refusal::Window);
     }
-    Ok(spare::clear(map, n))
+    Ok(codec::padding::clear(map, n))
 }

@@ -10,10 +10,10 @@ use model::Refusal;
 pub fn convert(bytes: &[u8], out: &mut [u8]) -> Result<usize, Refusal>
     ensures { Handles (convert bytes.now out.old) (written_answer result out.new) out.new }
 {
-    let told = written::set::runs_told(bytes)?;
+    let told = codec::set::runs_told(bytes)?;
     if out.len() < bytes.len() {
         return Err(Refusal::OutputShort);
     }
-    written::write::convert(told, out);
+    codec::write::convert(told, out);
     Ok(bytes.len())
 }

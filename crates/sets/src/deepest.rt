@@ -19,7 +19,7 @@ pub fn deepest(words: &[u64], h: u64, out: &mut [u64]) -> Result<usize, Refusal>
     if h > Store::MAX_HEIGHT {
         return Err(Refusal::TreeHeight);
     }
-    let n = heights::list::least_runs(h);
+    let n = deepest::list::least_runs(h);
     if n > s.capacity {
         return Err(Refusal::Capacity);
     }
@@ -27,6 +27,6 @@ pub fn deepest(words: &[u64], h: u64, out: &mut [u64]) -> Result<usize, Refusal>
     if out.len() < due {
         return Err(Refusal::OutputShort);
     }
-    heights::list::put_deepest(out, h, n);
+    deepest::list::put_deepest(out, h, n);
     Ok(due)
 }

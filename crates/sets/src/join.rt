@@ -3,14 +3,14 @@
 ghost use Rattle.std.specs.Prelude.{◌≡◌};
 ghost use Rattle.model.specs.Call.{Call};
 ghost use Rattle.model.specs.Answers.{completed_answer, tested_answer};
-ghost use Rattle.streams.specs.Gathering.{Sources, joined};
+ghost use Rattle.streams.specs.Feeds.{Sources, joined};
 ghost use Rattle.promises.specs.Met.{site, Readable, Met};
 ghost use Rattle.promises.specs.Joined.{Carried, ViewOf};
 
 use model::between::Interval;
 use model::{Logical, Operation, Refusal};
 use promises::site::Site;
-use streams::gather::Feed;
+use streams::feed::Feed;
 use streams::source::View;
 
 // From where a world's set is read, in the nodes of its pool.
@@ -25,7 +25,7 @@ fn view(site: Site<'_>) -> View
 }
 
 // Gives a world two feeds joined, if its allowance admits that.
-// The operation and both feeds go on unchanged to `streams::gather::join`, which makes a `Joint` of them.
+// The operation and both feeds go on unchanged to `streams::feed::join`, which makes a `Joint` of them.
 fn gathered<'a>(
     words: &mut [u64],
     world: u64,
@@ -37,11 +37,11 @@ fn gathered<'a>(
     requires readable { Readable words.old world }
     ensures { Carried words.old words.new world (joined op x.entry y.entry) result }
 {
-    if !streams::gather::fits(op, x, y, store::allowance(words, world)) {
+    if !streams::feed::fits(op, x, y, store::allowance(words, world)) {
         return Err(Refusal::Capacity);
     }
     let h = store::open(words, world);
-    let k = streams::gather::gather(&mut words[128..], h, op, x, y);
+    let k = changes::overwrite::gather(&mut words[128..], h, op, x, y);
     store::close(words, k);
     Ok(())
 }
@@ -131,7 +131,7 @@ pub fn eq(a: Site<'_>, b: Site<'_>) -> Result<bool, Refusal>
 {
     let x = view(a);
     let y = view(b);
-    Ok(streams::gather::fits(
+    Ok(streams::feed::fits(
         Operation::Xor,
         Feed::Held(&a.words[128..], x),
         Feed::Held(&b.words[128..], y),

@@ -13,13 +13,13 @@ pub fn why_full(words: &[u64], ranges: &[u64], out: &mut [u64]) -> Result<usize,
     if s.capacity == 0 {
         return Err(Refusal::StoreLength);
     }
-    let Some(n) = spawn::up_to_refused(ranges, s.capacity) else {
+    let Some(n) = why_full::up_to_refused(ranges, s.capacity) else {
         return Err(Refusal::NotRefused);
     };
     let due = (s.capacity + 1) as usize;
     if out.len() < due {
         return Err(Refusal::OutputShort);
     }
-    spawn::put_places(ranges, n, out);
+    why_full::put_places(ranges, n, out);
     Ok(due)
 }

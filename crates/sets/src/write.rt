@@ -11,12 +11,12 @@ pub fn write_set(site: Site<'_>, edition: Edition, out: &mut [u8]) -> Result<usi
     ensures { WritesOut (Call.write_set edition) site.entry.words.now site.entry.world out.old result out.new }
 {
     let h = site.open();
-    let n = written::set::run_count(&site.words[128..], h);
-    let due = written::set::length_of(n) as usize;
+    let n = streams::write::run_count(&site.words[128..], h);
+    let due = codec::set::length_of(n) as usize;
     if out.len() < due {
         return Err(Refusal::OutputShort);
     }
-    written::write::write_set(&site.words[128..], h, edition, out);
+    streams::write::write_set(&site.words[128..], h, edition, out);
     Ok(due)
 }
 

@@ -4,7 +4,7 @@ use Rattle.std.proofs.Common.{List, drop, ap, ◌∙◌}
 use Rattle.model.specs.declared.Run.{Run}
 use Rattle.model.specs.Positions.{mem}
 use Rattle.model.specs.Bytes.{runs_told}
-use Rattle.written.proofs.Telling.{accepted-runs}
+use Rattle.codec.proofs.Telling.{accepted-runs}
 use Rattle.promises.proofs.Changing.{refused-first}
 use Rattle.promises.proofs.Overwriting.{load-says, carried}
 use Rattle.promises.proofs.Passing.{met-on}
