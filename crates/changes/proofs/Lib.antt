@@ -16,3 +16,4 @@ pub mod Neighbours
 pub mod SetRuns
 pub mod Shifted
 pub mod TurnedSet
+pub mod Overwriting

@@ -1,5 +1,6 @@
-// Changes of a world's positions: physical ones in the tree, and logical ones.
+// Changes of a world's positions: physical ones in the tree, logical ones, and all of them at once.
 #![tactic(auto)]
 
 pub mod change;
 pub mod edit;
+pub mod overwrite;

@@ -10,8 +10,8 @@ use Rattle.model.specs.Call.{Fed, PoolCall, at, Answer, refused, gave}
 use Rattle.model.specs.Pools.{PlainWorld, step, answers, after}
 use Rattle.store.specs.Layout.{capacity, worlds_of}
 use Rattle.store.specs.Soundness.{Sound}
-use Rattle.written.specs.Placed.{placed}
-use Rattle.written.proofs.Placing.{placed-nil, placed-length, placed-placed, placed-front}
+use Rattle.codec.specs.Placed.{placed}
+use Rattle.codec.proofs.Placing.{placed-nil, placed-length, placed-placed, placed-front}
 use Rattle.model.specs.Bytes.{into_front}
 use Rattle.interval_bit_set.specs.Met.{Leaves, Met}
 use Rattle.interval_bit_set.proofs.Simulation.{Holds, answer-is, step-holds}

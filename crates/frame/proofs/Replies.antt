@@ -6,7 +6,7 @@ use native.Mathlib.Omega.{arith}
 use lib.Seq.{drop-drop, get_or-take, get_or-drop}
 use borrow.Rule.Slice.PartMut.{put_mid}
 use Rattle.flat.specs.declared.Reply.{Reply}
-use Rattle.written.specs.Placed.{placed}
+use Rattle.codec.specs.Placed.{placed}
 use Rattle.frame.specs.Records.{entry_at}
 use Rattle.flat.specs.Records.{words_of}
 

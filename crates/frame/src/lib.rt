@@ -7,7 +7,7 @@
 
 ghost use Rattle.std.specs.Prelude.{◌≡◌, ◌+◌, ◌*◌, ◌/◌, ◌≤◌, length};
 ghost use Rattle.model.specs.Answers.{completed_answer};
-ghost use Rattle.written.specs.Placed.{placed};
+ghost use Rattle.codec.specs.Placed.{placed};
 ghost use Rattle.store.specs.Soundness.{Sound};
 ghost use Rattle.interval_bit_set.specs.Met.{Readable};
 ghost use Rattle.frame.specs.Frame.{Framed};

@@ -10,8 +10,8 @@ use borrow.Rule.Slice.PartMut.{put_mid}
 use mir.Val.{bool_byte}
 use Rattle.model.specs.Positions.{one_if}
 use Rattle.model.specs.Grid.{piece}
-use Rattle.written.specs.Placed.{placed}
-use Rattle.written.proofs.Placing.{placed-placed, placed-length}
+use Rattle.codec.specs.Placed.{placed}
+use Rattle.codec.proofs.Placing.{placed-placed, placed-length}
 use Rattle.grid.specs.Surveys.{Listed}
 
 -- five words, put in place

@@ -2,7 +2,7 @@
 use Rattle.std.specs.Prelude.{ℕ, ◌+◌, ◌^◌, ◌≤◌, ◌≡◌, List, length}
 use Rattle.model.specs.Positions.{Positions}
 use Rattle.model.specs.Bytes.{into_front}
-use Rattle.written.specs.Placed.{placed}
+use Rattle.codec.specs.Placed.{placed}
 use Rattle.model.specs.declared.Rect.{Rect}
 use Rattle.model.specs.Grid.{survey, by_row}
 

@@ -5,7 +5,7 @@ use Rattle.model.specs.Call.{number, refused, gave}
 use Rattle.model.specs.Handled.{Handled}
 use Rattle.model.specs.Clearing.{clear_map}
 use Rattle.model.proofs.Clearing.{clear-refused, clear-done}
-use Rattle.spare.specs.Spare.{Clears}
+use Rattle.codec.specs.Padding.{Clears}
 use Rattle.interval_bit_set.specs.Handles.{Handles}
 
 module _ (base n : ℕ) (bs : List ℕ) where

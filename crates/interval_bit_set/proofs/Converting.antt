@@ -12,8 +12,8 @@ use Rattle.model.specs.Converting.{other_edition, converted, convert}
 use Rattle.model.proofs.Codec.{Intact}
 use Rattle.model.proofs.RoundTrips.{unrefused-intact}
 use Rattle.model.proofs.Converting.{converted-length, convert-done}
-use Rattle.written.specs.Parsed.{Acceptable}
-use Rattle.written.proofs.Telling.{accepted-runs}
+use Rattle.codec.specs.Parsed.{Acceptable}
+use Rattle.codec.proofs.Telling.{accepted-runs}
 use Rattle.interval_bit_set.specs.Handles.{Handles}
 use Rattle.interval_bit_set.proofs.Refusing.{refused-earlier, refused-short}
 use Rattle.interval_bit_set.proofs.Receiving.{told-refused}

@@ -20,10 +20,10 @@ use Rattle.model.proofs.RoundTrips.{unrefused-intact, held-read}
 use Rattle.store.specs.Layout.{allowance}
 use Rattle.store.specs.Settle.{Settled, Openable}
 use Rattle.store.proofs.Worlds.{allowance-is, sound-length}
-use Rattle.written.specs.Parsed.{Shaped, Acceptable}
-use Rattle.written.proofs.Telling.{shaped-runs, told-runs, accepted-stretches}
-use Rattle.lowest.specs.Mended.{Due, United}
-use Rattle.lowest.proofs.Fating.{fates-length, ordered-held, ordered-fates}
+use Rattle.codec.specs.Parsed.{Shaped, Acceptable}
+use Rattle.codec.proofs.Telling.{shaped-runs, told-runs, accepted-stretches}
+use Rattle.union.specs.Mended.{Due, United}
+use Rattle.union.proofs.Fating.{fates-length, ordered-held, ordered-fates}
 use Rattle.interval_bit_set.specs.Met.{Readable}
 use Rattle.interval_bit_set.specs.Out.{Mendable, Mends}
 use Rattle.interval_bit_set.proofs.Refusing.{first_alone, none_before, refused-room}

@@ -21,7 +21,7 @@ use Rattle.store.specs.Layout.{allowance}
 use Rattle.store.specs.Soundness.{share_of}
 use Rattle.store.specs.Settle.{Settled, Became, Opened, Closing, Closes}
 use Rattle.store.proofs.Parts.{lent, back}
-use Rattle.streams.specs.Gathering.{Roomy, Gathers}
+use Rattle.changes.specs.Overwriting.{Roomy, Gathers}
 use Rattle.interval_bit_set.specs.Met.{Site, fed_of, fed_at, Met, Readable}
 use Rattle.interval_bit_set.specs.Joined.{Carried}
 use Rattle.interval_bit_set.specs.Look.{Checked}

@@ -16,11 +16,12 @@ use Rattle.store.specs.Layout.{allowance}
 use Rattle.store.specs.Soundness.{share_of}
 use Rattle.store.specs.Settle.{Settled, Opened, Closing, Closes}
 use Rattle.store.proofs.Parts.{lent, back}
-use Rattle.streams.specs.Gathering.{Gathers}
-use Rattle.written.specs.Parsed.{Acceptable}
-use Rattle.written.specs.Listed.{Receives, Received}
+use Rattle.changes.specs.Overwriting.{Gathers}
+use Rattle.codec.specs.Parsed.{Acceptable}
+use Rattle.changes.specs.Overwriting.{Receives, Received}
 use Rattle.model.proofs.Slices.{all-bytes}
-use Rattle.written.proofs.Telling.{ordered-stretches, disorder-is, accepted-runs, accepted-order}
+use Rattle.run_lists.proofs.Ordered.{ordered-stretches, disorder-is}
+use Rattle.codec.proofs.Telling.{accepted-runs, accepted-order}
 use Rattle.interval_bit_set.specs.Met.{Readable}
 use Rattle.interval_bit_set.proofs.Refusing.{first_alone}
 use Rattle.interval_bit_set.proofs.Overwriting.{gather-roomy, gather-closing, gather-settled}

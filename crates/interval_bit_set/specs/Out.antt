@@ -9,7 +9,7 @@ use Rattle.model.specs.Bytes.{decode}
 use Rattle.model.specs.RunList.{AllBytes}
 use Rattle.model.specs.Refusals.{ordered_from}
 use Rattle.model.specs.Call.{Call, Measure}
-use Rattle.written.specs.Parsed.{Shaped}
+use Rattle.codec.specs.Parsed.{Shaped}
 use Rattle.interval_bit_set.specs.Met.{Site, Met, Measured}
 
 -- a refusal leaves the slice

@@ -8,7 +8,7 @@ ghost use Rattle.model.specs.Converting.{convert};
 ghost use Rattle.model.specs.Positions.{mem};
 ghost use Rattle.model.specs.RunList.{AllWords};
 ghost use Rattle.model.specs.Refusals.{ordered_from};
-ghost use Rattle.written.specs.Listed.{pairs};
+ghost use Rattle.run_lists.specs.Listed.{pairs};
 ghost use Rattle.interval_bit_set.specs.Joined.{Carried};
 ghost use Rattle.interval_bit_set.specs.Met.{Readable, Met};
 ghost use Rattle.interval_bit_set.specs.Handles.{Handles};
@@ -16,7 +16,7 @@ ghost use Rattle.interval_bit_set.specs.Handles.{Handles};
 use crate::pool::Pool;
 use maps::window::{Map, Window};
 use model::{Count, Refusal};
-use written::runs::{RunList, Words};
+use run_lists::{RunList, Words};
 
 // Gives a world the runs of a list, which are in order, whatever it held, if its allowance admits so many.
 fn put<L: RunList + Copy>(words: &mut [u64], world: u64, runs: L) -> Result<(), Refusal>
@@ -28,7 +28,7 @@ fn put<L: RunList + Copy>(words: &mut [u64], world: u64, runs: L) -> Result<(), 
         return Err(Refusal::Capacity);
     }
     let h = store::open(words, world);
-    let k = written::runs::build(&mut words[128..], h, runs);
+    let k = changes::overwrite::build(&mut words[128..], h, runs);
     store::close(words, k);
     Ok(())
 }
@@ -52,7 +52,7 @@ fn put_map<const WIDE: bool>(
     if !crate::window::map_length_fits(bytes, n) {
         return Err(Refusal::Window);
     }
-    if spare::stray_bits(bytes, n) > 0 {
+    if codec::padding::stray_bits(bytes, n) > 0 {
         return Err(Refusal::StrayBit);
     }
     let h = store::open(words, world);
@@ -76,7 +76,7 @@ impl<'a> Pool<'a> {
         ensures same_loan { self.new.words.ghost_name ≡ self.old.words.ghost_name }
     {
         self.opened(world)?;
-        let told = written::set::runs_told(bytes)?;
+        let told = codec::set::runs_told(bytes)?;
         put(self.words, world, told)
     }
 
@@ -86,7 +86,7 @@ impl<'a> Pool<'a> {
         ensures same_loan { self.new.words.ghost_name ≡ self.old.words.ghost_name }
     {
         self.opened(world)?;
-        if !written::runs::in_order(runs) {
+        if !run_lists::in_order(runs) {
             return Err(Refusal::RunOrder);
         }
         put(self.words, world, runs)
@@ -171,7 +171,7 @@ pub fn clear_map(base: u64, n: u64, map: &mut [u8]) -> Result<u64, Refusal>
     if !crate::window::map_length_fits(map, n) {
         return Err(Refusal::Window);
     }
-    Ok(spare::clear(map, n))
+    Ok(codec::padding::clear(map, n))
 }
 
 // Writes the set that bytes tell into the front of a slice in the other edition, and returns how many bytes it has. Nothing is written before
@@ -179,10 +179,10 @@ pub fn clear_map(base: u64, n: u64, map: &mut [u8]) -> Result<u64, Refusal>
 pub fn convert(bytes: &[u8], out: &mut [u8]) -> Result<usize, Refusal>
     ensures { Handles (convert bytes.now out.old) (written_answer result out.new) out.new }
 {
-    let told = written::set::runs_told(bytes)?;
+    let told = codec::set::runs_told(bytes)?;
     if out.len() < bytes.len() {
         return Err(Refusal::OutputShort);
     }
-    written::write::convert(told, out);
+    codec::write::convert(told, out);
     Ok(bytes.len())
 }

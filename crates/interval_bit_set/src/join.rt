@@ -3,7 +3,7 @@
 ghost use Rattle.std.specs.Prelude.{◌≡◌};
 ghost use Rattle.model.specs.Call.{Call};
 ghost use Rattle.model.specs.Answers.{completed_answer, tested_answer};
-ghost use Rattle.streams.specs.Gathering.{Sources, joined};
+ghost use Rattle.streams.specs.Feeds.{Sources, joined};
 ghost use Rattle.interval_bit_set.specs.Look.{FindsView};
 ghost use Rattle.interval_bit_set.specs.Met.{site, Readable, Met};
 ghost use Rattle.interval_bit_set.specs.Joined.{Carried};
@@ -11,11 +11,11 @@ ghost use Rattle.interval_bit_set.specs.Joined.{Carried};
 use crate::pool::{Pool, PoolRef};
 use model::between::Interval;
 use model::{Logical, Operation, Refusal};
-use streams::gather::Feed;
+use streams::feed::Feed;
 use streams::source::View;
 
 // Gives a world two feeds joined, if its allowance admits that.
-// The operation and both feeds go on unchanged to `streams::gather::join`, which makes a `Joint` of them.
+// The operation and both feeds go on unchanged to `streams::feed::join`, which makes a `Joint` of them.
 fn gathered<'a>(
     words: &mut [u64],
     world: u64,
@@ -27,11 +27,11 @@ fn gathered<'a>(
     requires readable { Readable words.old world }
     ensures { Carried words.old words.new world (joined op x.entry y.entry) result }
 {
-    if !streams::gather::fits(op, x, y, store::allowance(words, world)) {
+    if !streams::feed::fits(op, x, y, store::allowance(words, world)) {
         return Err(Refusal::Capacity);
     }
     let h = store::open(words, world);
-    let k = streams::gather::gather(&mut words[128..], h, op, x, y);
+    let k = changes::overwrite::gather(&mut words[128..], h, op, x, y);
     store::close(words, k);
     Ok(())
 }
@@ -54,7 +54,7 @@ impl<'a> PoolRef<'a> {
     {
         let x = self.view(i)?;
         let y = b.view(j)?;
-        Ok(streams::gather::fits(
+        Ok(streams::feed::fits(
             Operation::Xor,
             Feed::Held(&self.words[128..], x),
             Feed::Held(&b.words[128..], y),

@@ -20,7 +20,7 @@ pub fn deepest(words: &[u64], h: u64, out: &mut [u64]) -> Result<usize, Refusal>
     if h > Store::MAX_HEIGHT {
         return Err(Refusal::TreeHeight);
     }
-    let n = heights::list::least_runs(h);
+    let n = deepest::list::least_runs(h);
     if n > s.capacity {
         return Err(Refusal::Capacity);
     }
@@ -28,7 +28,7 @@ pub fn deepest(words: &[u64], h: u64, out: &mut [u64]) -> Result<usize, Refusal>
     if out.len() < due {
         return Err(Refusal::OutputShort);
     }
-    heights::list::put_deepest(out, h, n);
+    deepest::list::put_deepest(out, h, n);
     Ok(due)
 }
 
@@ -41,13 +41,13 @@ pub fn why_full(words: &[u64], ranges: &[u64], out: &mut [u64]) -> Result<usize,
     if s.capacity == 0 {
         return Err(Refusal::StoreLength);
     }
-    let Some(n) = spawn::up_to_refused(ranges, s.capacity) else {
+    let Some(n) = why_full::up_to_refused(ranges, s.capacity) else {
         return Err(Refusal::NotRefused);
     };
     let due = (s.capacity + 1) as usize;
     if out.len() < due {
         return Err(Refusal::OutputShort);
     }
-    spawn::put_places(ranges, n, out);
+    why_full::put_places(ranges, n, out);
     Ok(due)
 }

@@ -5,13 +5,13 @@ ghost use Rattle.std.specs.Prelude.{◌≡◌};
 ghost use Rattle.model.specs.Positions.{stretches};
 ghost use Rattle.model.specs.Bytes.{decode, into_front};
 ghost use Rattle.model.specs.Mending.{mended_positions, mended_set, mend_report};
-ghost use Rattle.lowest.specs.Mended.{Due};
+ghost use Rattle.union.specs.Mended.{Due};
 ghost use Rattle.interval_bit_set.specs.Met.{Readable};
 ghost use Rattle.interval_bit_set.specs.Out.{Mendable, Mends};
 
 use crate::pool::Pool;
 use model::{Mended, Refusal};
-use written::runs::Told;
+use codec::told::Told;
 
 // How many runs the outcome has: a set that is right has its own.
 fn outcome_runs(told: Told<'_>, right: bool) -> u64
@@ -21,7 +21,7 @@ fn outcome_runs(told: Told<'_>, right: bool) -> u64
     if right {
         return told.count;
     }
-    lowest::set::runs_of(told)
+    union::set::runs_of(told)
 }
 
 // Writes the outcome, of k runs, into the front of one slice, and the report into the front of another: a set that is right is copied.
@@ -31,9 +31,9 @@ fn put_outcome(told: Told<'_>, right: bool, k: u64, out: &mut [u8], report: &mut
     ensures { (out.new ≡ into_front (mended_set told.entry.bytes.now) out.old) × (report.new ≡ into_front (mend_report told.entry.bytes.now) report.old) }
 {
     if right {
-        lowest::set::keep(told.bytes, told.count, out, report);
+        union::set::keep(told.bytes, told.count, out, report);
     } else {
-        lowest::set::put_union(told, k, out, report);
+        union::set::put_union(told, k, out, report);
     }
 }
 
@@ -49,13 +49,13 @@ fn put_mended(
     ensures { Mends words.old world bytes.now out.old report.old result
         words.new out.new report.new }
 {
-    let told = written::set::shape_told(bytes)?;
-    let right = written::runs::in_order(told);
+    let told = codec::set::shape_told(bytes)?;
+    let right = run_lists::in_order(told);
     let k = outcome_runs(told, right);
     if k > store::allowance(words, world) {
         return Err(Refusal::Capacity);
     }
-    let due = written::set::length_of(k) as usize;
+    let due = codec::set::length_of(k) as usize;
     if out.len() < due {
         return Err(Refusal::OutputShort);
     }
@@ -70,7 +70,7 @@ fn put_mended(
         count: k,
     };
     let h = store::open(words, world);
-    let w = written::runs::build(&mut words[128..], h, outcome);
+    let w = changes::overwrite::build(&mut words[128..], h, outcome);
     store::close(words, w);
     Ok(Mended {
         bytes: due,

@@ -19,12 +19,12 @@ impl<'a> PoolRef<'a> {
         ensures { WritesOut (Call.write_set edition) self.entry.words.now world out.old result out.new }
     {
         let h = self.open(world)?;
-        let n = written::set::run_count(&self.words[128..], h);
-        let due = written::set::length_of(n) as usize;
+        let n = streams::write::run_count(&self.words[128..], h);
+        let due = codec::set::length_of(n) as usize;
         if out.len() < due {
             return Err(Refusal::OutputShort);
         }
-        written::write::write_set(&self.words[128..], h, edition, out);
+        streams::write::write_set(&self.words[128..], h, edition, out);
         Ok(due)
     }
 

@@ -17,12 +17,12 @@ use Rattle.model.specs.RunList.{AllWords}
 use Rattle.model.specs.Call.{Answer, refused, gave}
 use Rattle.model.specs.declared.between.Range.{Range}
 use Rattle.model.specs.Spawning.{entry_of, entries_of, places, AllGiven, StopsAt}
-use Rattle.lowest.specs.Entries.{entry}
-use Rattle.spawn.proofs.Ranges.{entries-length, entries-at, take_words}
-use Rattle.spawn.proofs.Leading.{places-rising}
-use Rattle.spawn.proofs.Refusing.{Refused}
-use Rattle.spawn.proofs.Sublists.{refused-places}
-use Rattle.spawn.proofs.Foremost.{Has, First, place-first, first-place, refused-last}
+use Rattle.union.specs.Entries.{entry}
+use Rattle.why_full.proofs.Ranges.{entries-length, entries-at, take_words}
+use Rattle.why_full.proofs.Leading.{places-rising}
+use Rattle.why_full.proofs.Refusing.{Refused}
+use Rattle.why_full.proofs.Sublists.{refused-places}
+use Rattle.why_full.proofs.Foremost.{Has, First, place-first, first-place, refused-last}
 use Rattle.lockstep.specs.Why.{IsListed, IsFirstInRun, ArePlaces}
 
 -- ---- answers

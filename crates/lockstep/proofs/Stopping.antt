@@ -19,11 +19,11 @@ use Rattle.model.specs.Refusals.{store_length, not_refused, output_short, ◌whe
 use Rattle.model.specs.Call.{why_full, written, Answer, refused, gave}
 use Rattle.model.specs.Pools.{settle_measured, stopped, measure_by}
 use Rattle.store.specs.Layout.{capacity, worlds_of}
-use Rattle.lowest.specs.Entries.{In}
-use Rattle.spawn.specs.Placing.{Climbing}
-use Rattle.spawn.proofs.Ranges.{entries-length, listed-length, listed-words}
-use Rattle.spawn.proofs.Refusing.{refused-only}
-use Rattle.spawn.proofs.Calls.{list-stops, list-given, why-length, why-rising, why-within, why-stops, why-least}
+use Rattle.union.specs.Entries.{In}
+use Rattle.why_full.specs.Placing.{Climbing}
+use Rattle.why_full.proofs.Ranges.{entries-length, listed-length, listed-words}
+use Rattle.why_full.proofs.Refusing.{refused-only}
+use Rattle.why_full.proofs.Calls.{list-stops, list-given, why-length, why-rising, why-within, why-stops, why-least}
 use Rattle.interval_bit_set.specs.Met.{measured_of, Measured}
 use Rattle.interval_bit_set.proofs.Putting.{take-front}
 use Rattle.lockstep.specs.Theorems.{Words, spawned}

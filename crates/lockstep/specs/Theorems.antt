@@ -26,8 +26,8 @@ use Rattle.model.specs.Converting.{convert, document_one_refusal}
 use Rattle.run_index.specs.Tree.{height}
 use Rattle.store.specs.Layout.{capacity, allowance, opened_at, floor_at, held_by, worlds_of, world_at, tree_at}
 use Rattle.store.specs.Soundness.{runs_at, Sound}
-use Rattle.lowest.specs.Entries.{In}
-use Rattle.spawn.specs.Placing.{Climbing}
+use Rattle.union.specs.Entries.{In}
+use Rattle.why_full.specs.Placing.{Climbing}
 use Rattle.interval_bit_set.specs.Met.{Site, fed_at, fed_of, Leaves, Met, Measured}
 use Rattle.interval_bit_set.specs.Out.{WritesOut}
 use Rattle.interval_bit_set.specs.Handles.{Handles}

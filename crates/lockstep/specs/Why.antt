@@ -4,8 +4,8 @@ use Rattle.model.specs.Range.{first_allowed, past_allowed}
 use Rattle.model.specs.Positions.{Positions, inside, run_at, mem}
 use Rattle.model.specs.declared.between.Range.{Range}
 use Rattle.model.specs.Spawning.{entries_of}
-use Rattle.lowest.specs.Entries.{In}
-use Rattle.spawn.specs.Placing.{Climbing}
+use Rattle.union.specs.Entries.{In}
+use Rattle.why_full.specs.Placing.{Climbing}
 
 -- x is a position of the range at place p of the list
 pub record IsListed (ranges : List Range) (d : Range) (p x : ℕ) : Type 0 where

@@ -16,7 +16,7 @@ use Rattle.model.specs.Bytes.{bits, map_bit}
 use Rattle.model.proofs.Maps.{bits-bit, bits-bound, bits-over}
 use Rattle.model.proofs.Counting.{one-bound}
 use Rattle.model.proofs.After.{differing, agreeing}
-use Rattle.spare.proofs.Bytes.{bits_above}
+use Rattle.codec.proofs.Bits.{bits_above}
 use Rattle.reports.specs.Reports.{StretchEnd}
 use Rattle.maps.specs.Window.{whole_b}
 use Rattle.maps.proofs.Octeting.{same_bits}

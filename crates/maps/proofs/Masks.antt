@@ -9,7 +9,7 @@ use borrow.Author.Tests.{lt-leb}
 use Rattle.model.specs.Positions.{Positions, one_if, inside}
 use Rattle.model.specs.Bytes.{bits}
 use Rattle.model.proofs.Maps.{bits-cong, bits-bit}
-use Rattle.spare.proofs.Bytes.{bits_above}
+use Rattle.codec.proofs.Bits.{bits_above}
 use Rattle.maps.proofs.Octeting.{same_bits}
 
 -- ---- bits of numbers

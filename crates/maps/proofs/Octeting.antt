@@ -9,7 +9,7 @@ use Rattle.model.specs.Numbers.{size}
 use Rattle.model.specs.Positions.{Positions, one_if}
 use Rattle.model.specs.Bytes.{bits, map_length, map_of, into_front}
 use Rattle.model.proofs.Maps.{bits-bound, bits-cong, map_of-length, map_of-at}
-use Rattle.spare.proofs.Bytes.{bits_above}
+use Rattle.codec.proofs.Bits.{bits_above}
 use Rattle.std.specs.Prelude.{Option, None, Some}
 use Rattle.model.specs.declared.Run.{Run}
 use Rattle.streams.specs.declared.source.Reader.{Reader}

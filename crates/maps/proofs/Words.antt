@@ -10,7 +10,7 @@ use Rattle.std.proofs.lemmas.Nat.{from_le_bytes-to_le_bytes_8}
 use Rattle.std.proofs.lemmas.List.{places}
 use Rattle.model.specs.Bytes.{bits, map_bit}
 use Rattle.maps.specs.Painted.{Puts}
-use Rattle.spare.proofs.Bytes.{bits_above, byte-is}
+use Rattle.codec.proofs.Bits.{bits_above, byte-is}
 
 -- ---- a part of a list that other elements took the place of
 module _ (xs ys : List ℕ) (a k : ℕ) (fits : a + k ≤ length xs) (long : length ys ≡ k) where

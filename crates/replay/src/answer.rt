@@ -159,7 +159,7 @@ impl fmt::Display for Hex<'_> {
 }
 
 // Words, each after a space.
-// A text, where `written::runs::Words` is a list of runs.
+// A text, where `run_lists::Words` is a list of runs.
 #[derive(Clone, Copy)]
 pub struct Words<'a>(pub &'a [u64]);
 

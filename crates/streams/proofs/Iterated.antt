@@ -2,20 +2,22 @@
 -- are fewer than 2^64, so they can be counted. Assumes nothing.
 use Rattle.std.specs.Prelude.{Option, None, Some}
 use Prim.Native.Nat.{ℕ, suc, ◌<◌}
-use mathlib.Core.Path.{◌≡◌, sym, subst, ◌∙◌}
+use mathlib.Core.Path.{◌≡◌, sym, ap, subst, ◌∙◌}
 use mathlib.Core.Logic.{inr}
 use mathlib.Core.Bool.{true≢false}
-use mathlib.Core.List.{List, [], ◌∷◌, ◌++◌, append-nil, append_assoc}
+use mathlib.Core.List.{map-id}
+use lib.ListN.{length, length-take}
 use native.Mathlib.Omega.{arith}
 use Rattle.std.specs.Iterator.{Count, at_most, MakesProgress, Yields}
 use Rattle.std.specs.Iterator.Runs.{CountFits}
+use Rattle.std.proofs.lemmas.Iterator.Consumers.{YieldsList-so_far}
 use Rattle.std.proofs.iter.Next.{stops}
 use Rattle.std.proofs.iter.runs.Made.{took}
 use Rattle.model.specs.declared.Run.{Run}
 use Rattle.model.specs.declared.Logical.{Logical}
-use Rattle.model.specs.Positions.{Positions}
+use Rattle.model.specs.Positions.{Positions, held_runs, stretches}
 use Rattle.streams.specs.Reading.{Clear, RunFrom, Draws, positions_from}
-use Rattle.streams.proofs.Streamed.{Streaming, stream-none, stream-few, stream-more, stretches-few}
+use Rattle.streams.proofs.Streamed.{draws-list, stretches-few}
 
 -- ---- each run leaves fewer positions
 -- a reading that has J to read from x on stands there, if anything is left
@@ -42,19 +44,15 @@ draw-goes from stands a a' (Some u) (x, J, h) d =
     record { on = λ _. ((_, J, k.1), tt, l); keeps = (_, J, k.1); rests = λ _. tt }
 
 -- ---- its runs
-module _ {A : Type 0} {Has : A → ℕ → Positions → Type 0} {J : Positions} where
-  -- after the runs xs it stands behind them
-  pub stream-run : (xs : List Run) {rs : List Run} {r t : A} → Streaming Has r J rs → Yields (Draws Has) r xs t → Streaming Has t J (rs ++ xs)
-  stream-run [] {rs} s y = subst (λ a. Streaming Has a J (rs ++ [])) y (subst (Streaming Has _ J) (sym (append-nil rs)) s)
-  stream-run (x ∷ xs) {rs} s y = subst (Streaming Has _ J) (append_assoc rs (x ∷ []) xs) (stream-run xs (stream-more s y.1) y.2)
-
 -- they can be counted
 pub draws-fit : {A : Type 0} {Has : A → ℕ → Positions → Type 0} (left : A → Count) {r : A} (J : Positions) → Has r 0 J → CountFits (Draws Has) left 0 r
-draws-fit {Has = Has} left J h =
+unfolding stretches
+draws-fit {Has = Has} left {r} J h =
     inr (λ p _ e _.
     let k = took p in
     let y = subst (λ a. Yields (Draws Has) a p.items k.0) e k.1 in
-    omega (arith, p.long, stream-few (stream-run p.items (stream-none h) y), stretches-few J))
+    let g = YieldsList-so_far {steps = Draws Has} {v = λ u. u} {s = r} {all = held_runs J} (record { runs = draws-list Has J r h }) p.items k.0 y in
+    omega (arith, p.long, simp (map-id, length-take) at (ap length g), stretches-few J))
 
 -- and are, from the first one on
 pub count-begins : {A : Type 0} {Has : A → ℕ → Positions → Type 0} (from : A → Option Logical) {r s : A} {n : ℕ} (J : Positions) → Has r 0 J → s ≡ r → n ≡ 0

@@ -11,4 +11,5 @@ pub mod Gapped
 pub mod Sweeps
 pub mod Streamed
 pub mod Iterated
-pub mod Gathered
+pub mod Feeding
+pub mod Coming

@@ -2,11 +2,13 @@
 -- position; so each run that is handed out is put at the end, and with nothing left the list is that of all runs. From the laws of ranges that
 -- lie side by side. Assumes nothing.
 use Rattle.std.specs.Prelude.{None, Some}
+use Rattle.std.specs.Iterator.{AlwaysYields}
+use Rattle.std.proofs.lemmas.List.{append_cancel_left}
 use Prim.Native.Nat.{ℕ, suc, ◌+◌, ◌-◌, ◌*◌, ◌≤◌, ◌<◌}
-use mathlib.Core.Path.{◌≡◌, refl, ap, ◌∙◌}
+use mathlib.Core.Path.{◌≡◌, refl, sym, ap, subst, ◌∙◌}
 use mathlib.Core.Logic.{◌⊎◌, inl, inr}
 use mathlib.Core.Bool.{true, false}
-use mathlib.Core.List.{List, [], ◌∷◌, ◌++◌, append-nil}
+use mathlib.Core.List.{List, [], ◌∷◌, ◌++◌, append-nil, append_assoc}
 use native.Mathlib.Omega.{arith}
 use lib.ListN.{length, length-append}
 use Rattle.model.specs.declared.Run.{Run}
@@ -50,15 +52,6 @@ module _ {x : ℕ} {J : Positions} {rs : List Run} (p : Passed x J rs) where
           ∙ append-nil rs
       go (inr g) = let e : size ≡ x = omega (arith, p.within) in ap (runs_in J true 0) e ∙ p.runs-are
 
-  -- they are some of its runs
-  pub passed-few : length rs ≤ stretches J
-  unfolding stretches held_runs
-  passed-few = go (split x size)
-    where
-      go : (x < size) ⊎ (size ≤ x) → length rs ≤ length (runs_in J true 0 size)
-      go (inl l) = omega (arith, ap length (joined l size (omega arith)), length-append rs (runs_in J true x (size - x)))
-      go (inr g) = let e : size ≡ x = omega (arith, p.within) in omega (arith, ap length (ap (runs_in J true 0) e ∙ p.runs-are))
-
   module _ {a b : ℕ} (r : RunFrom x a b J) where
     -- the first run from x on, and what follows it below t
     found : (t : ℕ) → b < t → t ≤ size → runs_in J true 0 t ≡ rs ++ (run a b ∷ runs_in J true (suc b) (t - suc b))
@@ -78,12 +71,10 @@ module _ {x : ℕ} {J : Positions} {rs : List Run} (p : Passed x J rs) where
     pub passed-more : Passed (suc b) J (rs ++ (run a b ∷ []))
     passed-more = record { within = r.small; runs-are = below; seam = λ h. inr (r.stops h) }
 
-    -- there is one more than there were
-    pub passed-some : suc (length rs) ≤ stretches J
-    unfolding stretches held_runs
-    passed-some =
-        let e = ap length (found size r.small (omega arith)) ∙ length-append rs (run a b ∷ runs_in J true (suc b) (size - suc b)) in
-        omega (arith, e)
+    -- it is the next one of all
+    pub passed-next : held_runs J ≡ rs ++ (run a b ∷ runs_in J true (suc b) (size - suc b))
+    unfolding held_runs
+    passed-next = found size r.small (omega arith)
 
 -- canonical runs have gaps between them, so they are few
 canon-few : (total k : ℕ) (rs : List Run) → Canon total k rs → k ≤ total + 1 → 2 * length rs + k ≤ total + 1
@@ -100,22 +91,29 @@ pub record Streaming {A : Type 0} (Has : A → ℕ → Positions → Type 0) (r 
   pub passed : Passed at J rs
   pub has : Has r at J
 
-pub stream-none : {A : Type 0} {Has : A → ℕ → Positions → Type 0} {r : A} {J : Positions} → Has r 0 J → Streaming Has r J []
-stream-none {J = J} h = record { at = 0; passed = passed_none J; has = h }
+module _ {A : Type 0} {Has : A → ℕ → Positions → Type 0} {J : Positions} where
+  -- nothing more comes, or the next run of J
+  stream-all : {r r' : A} {rs : List Run} → Streaming Has r J rs → Draws Has r None r' → held_runs J ≡ rs
+  stream-all s d = passed-all s.passed (d s.at J s.has).0
 
--- they are some of its runs
-pub stream-few : {A : Type 0} {Has : A → ℕ → Positions → Type 0} {r : A} {J : Positions} {rs : List Run} → Streaming Has r J rs → length rs ≤ stretches J
-stream-few s = passed-few s.passed
+  stream-next : {r r' : A} {rs : List Run} {u : Run} → Streaming Has r J rs → Draws Has r (Some u) r' → (more : List Run) × (held_runs J ≡ rs ++ (u ∷ more))
+  stream-next s d = (_, passed-next s.passed (d s.at J s.has).0)
 
-module _ {A : Type 0} {Has : A → ℕ → Positions → Type 0} {r : A} {J : Positions} {rs : List Run} (s : Streaming Has r J rs) {r' : A} where
-  -- no more runs
-  pub stream-all : Draws Has r None r' → held_runs J ≡ rs
-  stream-all d = passed-all s.passed (d s.at J s.has).0
+  stream-more : {r r' : A} {rs : List Run} {u : Run} → Streaming Has r J rs → Draws Has r (Some u) r' → Streaming Has r' J (rs ++ (u ∷ []))
+  stream-more {u = u} s d = record { at = suc u.«end»; passed = passed-more s.passed (d s.at J s.has).0; has = (d s.at J s.has).1 }
 
-  -- a run more
-  module _ {u : Run} (d : Draws Has r (Some u) r') where
-    pub stream-some : suc (length rs) ≤ stretches J
-    stream-some = passed-some s.passed (d s.at J s.has).0
+  -- what is left comes, run by run
+  rest-comes : (more rs : List Run) (r : A) → Streaming Has r J rs → held_runs J ≡ rs ++ more → AlwaysYields (Draws Has) (λ u. u) r more
+  rest-comes [] rs r s e = λ u r' d. let n = stream-next s d in absurd (omega (arith, simp length-append at (ap length (sym e ∙ n.1))))
+  rest-comes (y ∷ more) rs r s e = (
+    (λ r' d. absurd (omega (arith, simp length-append at (ap length (sym (stream-all s d) ∙ e))))),
+    λ u r' d.
+        let n = stream-next s d in
+        let same : y ∷ more ≡ u ∷ n.0 = append_cancel_left rs (y ∷ more) (u ∷ n.0) (sym e ∙ n.1) in
+        let here : u ≡ y = cc in
+        (here, rest-comes more (rs ++ (y ∷ [])) r' (subst (λ v. Streaming Has r' J (rs ++ (v ∷ []))) here (stream-more s d)) (e ∙ sym (append_assoc rs (y ∷ []) more))),
+  )
 
-    pub stream-more : Streaming Has r' J (rs ++ (u ∷ []))
-    stream-more = record { at = suc u.«end»; passed = passed-more s.passed (d s.at J s.has).0; has = (d s.at J s.has).1 }
+-- A READING from the first position on yields the runs of J
+pub draws-list : {A : Type 0} (Has : A → ℕ → Positions → Type 0) (J : Positions) (r : A) → Has r 0 J → AlwaysYields (Draws Has) (λ u. u) r (held_runs J)
+draws-list Has J r h = rest-comes (held_runs J) [] r (record { at = 0; passed = passed_none J; has = h }) refl

@@ -1,3 +1,3 @@
 pub mod Reading
 pub mod Sweeping
-pub mod Gathering
+pub mod Feeds

@@ -1,7 +1,7 @@
 -- `whole_byte` meets its contract: a byte tells by 255, or 0, whether all its bits are 1, or 0. Assumes nothing.
 use Rattle.std.proofs.Common.{◌/◌, true, false, refl, arith}
 use Rattle.maps.proofs.Bits.{told-whole, not-whole}
-use Rattle.spare.proofs.Bytes.{byte-is}
+use Rattle.codec.proofs.Bits.{byte-is}
 use Rattle.maps.proofs.stretches.whole_byte.Goals as goal
 
 pub returns-then-i-ne0 : goal.returns-then-i-ne0

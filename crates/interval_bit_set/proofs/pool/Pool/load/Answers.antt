@@ -3,7 +3,7 @@ use Rattle.std.proofs.Common.{List, drop, refl, ap, ◌∙◌}
 use Rattle.model.specs.declared.Run.{Run}
 use Rattle.model.specs.Positions.{mem}
 use Rattle.model.specs.Bytes.{runs_told}
-use Rattle.written.proofs.Telling.{accepted-runs}
+use Rattle.codec.proofs.Telling.{accepted-runs}
 use Rattle.interval_bit_set.proofs.Changing.{refused-first}
 use Rattle.interval_bit_set.proofs.Looking.{found, shut-out}
 use Rattle.interval_bit_set.proofs.Overwriting.{carried, carried-kept, makes}

@@ -1,0 +1,78 @@
+-- The laws of putting bytes into a slice: byte by byte, part after part, and from the front. What is put is what a chain of element
+-- writes leaves, so each law is one of such chains. Assumes nothing.
+use Prim.Native.Nat.{ℕ, suc, ◌+◌, ◌-◌, ◌≤◌, ◌<◌}
+use mathlib.Core.Path.{◌≡◌, sym, ap, ◌∙◌}
+use mathlib.Core.List.{List, [], ◌∷◌, ◌++◌, append_assoc}
+use native.Mathlib.Omega.{arith}
+use lib.ListN.{length, take, drop, set, get_or, length-append, length-set, take-append-drop, get_or-append}
+use lib.Seq.{sets, length-sets, sets-eq, length-take-le, get_or-take, get_or-drop, get_or-append-add}
+use Rattle.model.specs.Bytes.{into_front}
+use Rattle.codec.specs.Placed.{placed}
+
+-- a chain of element writes puts its bytes
+pub sets-placed : (bs out : List ℕ) (i : ℕ) → i + length bs ≤ length out → sets out i bs ≡ placed i bs out
+unfolding placed
+sets-placed bs out i h = sets-eq bs out i h ∙ append_assoc (take i out) bs (drop (i + length bs) out)
+
+-- chains follow one another
+sets-append : (bs cs out : List ℕ) (i : ℕ) → sets (sets out i bs) (i + length bs) cs ≡ sets out i (bs ++ cs)
+sets-append [] cs out i = let e : i + 0 ≡ i = omega arith in ap (λ (k : ℕ). sets out k cs) e
+sets-append (b ∷ bs) cs out i =
+    let e : i + suc (length bs) ≡ suc i + length bs = omega arith in
+    ap (λ (k : ℕ). sets (sets (set out i b) (suc i) bs) k cs) e ∙ sets-append bs cs (set out i b) (suc i)
+
+-- no byte changes nothing
+pub placed-nil : (i : ℕ) (out : List ℕ) → placed i [] out ≡ out
+unfolding placed
+placed-nil i out = let e : i + 0 ≡ i = omega arith in rw e (take-append-drop i out)
+
+-- the slice stays as long
+pub placed-length : (i : ℕ) (bs out : List ℕ) → i + length bs ≤ length out → length (placed i bs out) ≡ length out
+placed-length i bs out h = ap length (sym (sets-placed bs out i h)) ∙ length-sets out i bs
+
+-- one byte, and the others after it
+pub placed-set : (i b : ℕ) (bs out : List ℕ) → i + suc (length bs) ≤ length out → placed (suc i) bs (set out i b) ≡ placed i (b ∷ bs) out
+placed-set i b bs out h =
+    sym (sets-placed bs (set out i b) (suc i) (omega (arith, length-set out i b))) ∙ sets-placed (b ∷ bs) out i h
+
+-- one part, and the next after it
+pub placed-placed : (i : ℕ) (bs cs out : List ℕ) → i + length bs + length cs ≤ length out → placed (i + length bs) cs (placed i bs out) ≡ placed i (bs ++ cs) out
+placed-placed i bs cs out h =
+    let f : sets out i bs ≡ placed i bs out = sets-placed bs out i (omega arith) in
+    ap (λ (l : List ℕ). placed (i + length bs) cs l) (sym f)
+    ∙ sym (sets-placed cs (sets out i bs) (i + length bs) (omega (arith, length-sets out i bs)))
+    ∙ sets-append bs cs out i
+    ∙ sets-placed (bs ++ cs) out i (omega (arith, length-append bs cs))
+
+-- ---- byte by byte
+-- what stands before
+pub placed-before : (i : ℕ) (bs out : List ℕ) (p : ℕ) → p < i → i ≤ length out → get_or (placed i bs out) p 0 ≡ get_or out p 0
+unfolding placed
+placed-before i bs out p l h =
+    let t : p < length (take i out) = rw (length-take-le i out h) l in
+    get_or-append (take i out) (bs ++ drop (i + length bs) out) 0 p t ∙ get_or-take i out p 0 l
+
+module _ (i : ℕ) (bs out : List ℕ) (p : ℕ) where
+  -- byte p of what is put, and of what stands after
+  placed-from : i ≤ length out → get_or (placed i bs out) (i + p) 0 ≡ get_or (bs ++ drop (i + length bs) out) p 0
+  unfolding placed
+  placed-from h =
+      let e : i + p ≡ length (take i out) + p = rw (length-take-le i out h) in
+      rw e (get_or-append-add (take i out) (bs ++ drop (i + length bs) out) p 0)
+
+  -- what is put
+  pub placed-inside : i ≤ length out → p < length bs → get_or (placed i bs out) (i + p) 0 ≡ get_or bs p 0
+  placed-inside h l = placed-from h ∙ get_or-append bs (drop (i + length bs) out) 0 p l
+
+-- what stands after
+pub placed-after : (i : ℕ) (bs out : List ℕ) (p : ℕ) → i + length bs ≤ p → i ≤ length out → get_or (placed i bs out) p 0 ≡ get_or out p 0
+placed-after i bs out p l h =
+    let e : p ≡ i + (length bs + (p - (i + length bs))) = omega arith in
+    let f : i + length bs + (p - (i + length bs)) ≡ p = omega arith in
+    ap (λ (q : ℕ). get_or (placed i bs out) q 0) e ∙ placed-from i bs out (length bs + (p - (i + length bs))) h
+    ∙ get_or-append-add bs (drop (i + length bs) out) (p - (i + length bs)) 0 ∙ get_or-drop (i + length bs) out (p - (i + length bs)) 0 ∙ rw f
+
+-- put from the start on, they are the front
+pub placed-front : (bs out : List ℕ) → placed 0 bs out ≡ into_front bs out
+unfolding placed into_front
+placed-front bs out = let e : 0 + length bs ≡ length bs = omega arith in rw e

@@ -1,0 +1,3 @@
+-- What the proofs of several functions use.
+pub mod Pairs
+pub mod Ordered

@@ -1,0 +1,79 @@
+-- A union as an iterator: fewer groups are pending after each that it hands out, so it ends; and there are no more of them than entries, so they can
+-- be counted. Assumes nothing.
+use Rattle.std.proofs.Common.{◌≡◌, ℕ, ◌<◌, ◌≤◌, List, [], ◌∷◌, ◌++◌, length, Option, None, Some, sym, refl, ap, subst, inr, arith, ◌∙◌}
+use Rattle.std.proofs.Common.{append_assoc, append-nil}
+use Rattle.std.specs.Option.{option_len, IfSome}
+use Rattle.std.specs.Iterator.{at_most, MakesProgress, Yields, Drains}
+use Rattle.std.specs.Iterator.Runs.{CountFits}
+use Rattle.std.proofs.iter.Next.{stops}
+use Rattle.std.proofs.iter.runs.Made.{took}
+use Rattle.model.specs.declared.Run.{Run}
+use Rattle.model.specs.Numbers.{size}
+use Rattle.model.specs.Positions.{stretches, mem}
+use Rattle.union.specs.declared.Group.{Group}
+use Rattle.union.specs.declared.places.Places.{Places}
+use Rattle.union.specs.declared.union.Union.{Union}
+use Rattle.union.specs.Bands.{left, ahead}
+use Rattle.union.specs.Joins.{Joining, Draws, OnItsWay, GivesGroup, pending}
+use Rattle.union.proofs.Steps.{front-least, complete-count}
+
+-- ---- fewer are pending
+module _ {L : Type 0} (u : Union L) (r : Places L) where
+  -- an entry comes next: no more are pending, and fewer if a group is handed out
+  pub pending-on : (b : Group) → ahead r < ahead u.places → pending (record { places = r; last = Some b }) ≤ pending u
+  pending-on b l = omega arith
+
+  pub pending-less : (b g : Group) → u.last ≡ Some g → ahead r < ahead u.places → pending (record { places = r; last = Some b }) < pending u
+  pending-less b g e l = omega (arith, ap option_len e)
+
+  -- no entry is left: none is pending
+  pub pending_last : r.band ≡ None → r.next ≡ r.block.count → (n : ℕ) → pending u ≤ n → (o : Option Group) → u.last ≡ o
+      → IfSome o (λ _. pending (record { places = r; last = None }) < n)
+  unfolding ahead left
+  pending_last w over n l None e = tt
+  pending_last w over n l (Some g) e = omega (arith, ap option_len e, ap left w, over)
+
+module _ {L : Type 0} (runs : L → List Run) where
+  -- so it ends
+  pub union-goes : (u u' : Union L) (r : Option Group) → OnItsWay runs u → GivesGroup runs u r u' → IfSome r (λ _. pending u' < pending u)
+      → MakesProgress (OnItsWay runs) (λ v. at_most (pending v)) u r u'
+  union-goes u u' None k d l = stops (λ _. tt)
+  union-goes u u' (Some g) (done, k) d l =
+      let j : OnItsWay runs u' = (done ++ g ∷ [], subst (λ x. Joining (runs x) (done ++ g ∷ []) u') (sym d.0) (d.1 done k).1) in
+      record { on = λ _. (j, tt, l); keeps = j; rests = λ _. tt }
+
+  -- ---- its groups
+  -- the list is the same after the groups xs, they are handed out, and they are few
+  record Handed (u : Union L) (gs : List Group) (t : Union L) : Type 0 where
+    list : t.places.list ≡ u.places.list
+    joining : Joining (runs u.places.list) gs t
+    few : length gs < size
+
+  handed : (u : Union L) (xs : List Group) {gs : List Group} {s t : Union L} → Handed u gs s → Yields (GivesGroup runs) s xs t → Handed u (gs ++ xs) t
+  handed u [] {gs} {s} h y = subst (λ a. Handed u (gs ++ []) a) y (subst (λ l. Handed u l s) (sym (append-nil gs)) h)
+  handed u (x ∷ xs) {gs} {s} {t} h y =
+      let d = subst (λ l. Draws (runs l) s (Some x) y.0) h.list y.1.1 gs h.joining in
+      let n : Handed u (gs ++ x ∷ []) y.0 = record { list = y.1.0 ∙ h.list; joining = d.1; few = omega (arith, front-least d.0, d.0.few) } in
+      subst (λ l. Handed u l t) (append_assoc gs (x ∷ []) xs) (handed u xs n y.2)
+
+  module _ (list : L) {u : Union L} (same : u.places.list ≡ list) (k : Joining (runs list) [] u) where
+    begun : Handed u [] u
+    begun = record { list = refl; joining = subst (λ l. Joining (runs l) [] u) (sym same) k; few = omega arith }
+
+    -- they can be counted
+    pub groups-fit : CountFits (GivesGroup runs) (λ a. at_most (pending a)) 0 u
+    groups-fit =
+        inr (λ p _ e _.
+        let t = took p in
+        let y = subst (λ a. Yields (GivesGroup runs) a p.items t.0) e t.1 in
+        omega (arith, p.long, (handed u p.items begun y).few))
+
+    pub groups-begin : {s : Union L} {n : ℕ} → s ≡ u → n ≡ 0 → OnItsWay runs s × Unit {0} × CountFits (GivesGroup runs) (λ a. at_most (pending a)) n s
+    groups-begin e z = rw (e, z) (([], begun.joining), tt, groups-fit)
+
+    -- and are as many as the runs of the outcome
+    pub groups-count : (xs : List Group) → Drains (GivesGroup runs) u xs → stretches (mem (runs list)) ≡ length xs
+    groups-count xs (u', (t, y, d)) =
+        let h = handed u xs begun y in
+        let j = subst (λ l. Joining (runs l) xs t) same h.joining in
+        complete-count (subst (λ l. Draws (runs l) t None u') (h.list ∙ same) d.1 xs j).0
