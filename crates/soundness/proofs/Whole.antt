@@ -86,10 +86,6 @@ unsound : (w : List ℕ) → (Tested w → ⊥) → None ≡ checked w
 unfolding checked
 unsound w f = rw (is_false (sound_b w) (λ e. f (sound-out w e)))
 
--- how many nodes there are, as the code counts them
-nodes-are : (w : List ℕ) → 1 ≤ capacity w → length w / 8 - 17 ≡ node_count w
-nodes-are w sized = omega (arith, (sized-length w sized).0)
-
 module _ (w : List ℕ) (v : Node) (ev : v ≡ cell_at w 0) (b : Bool) (eb : b ≡ header_b v) where
   -- the test of the header is the definition's
   header_is : b ≡ header_b (cell_at w 0)
@@ -122,14 +118,14 @@ module _ (w : List ℕ) (v : Node) (ev : v ≡ cell_at w 0) (b : Bool) (eb : b �
     unopened-fails t = unsound w (λ T. never (sym t ∙ unopened-is ∙ T.unopened))
 
     -- where all pass the free chain decides
-    pub rest-decides : b ≡ true → u ≡ true → 1 ≤ capacity w → (k : ℕ) → Some k ≡ runs_of w v.start
-        → (n : ℕ) → n ≡ length w / 8 - 17 → (r : Option ℕ) → r ≡ rest_of (lent w) n k v.«end» → r ≡ checked w
+    pub rest-decides : b ≡ true → u ≡ true → (k : ℕ) → Some k ≡ runs_of w v.start
+        → (n : ℕ) → n ≡ node_count w → (r : Option ℕ) → r ≡ rest_of (lent w) n k v.«end» → r ≡ checked w
     unfolding worlds_of rest_of checked
-    rest-decides tb tu sized k ek n en r er =
+    rest-decides tb tu k ek n en r er =
         let c = runs-out w (opened_at w) k (ek ∙ ap (runs_of w) opened-is) in
         let p = and-holds (worlds_b w (opened_at w)) (leb (claims (worlds_of w)) (capacity w)) c.0 in
         let is : r ≡ rest_of (nodes w) (node_count w) (told_runs w (opened_at w)) (free_head w) =
-        er ∙ ap (λ l. rest_of l n k v.«end») (lent-nodes w) ∙ ap (λ m. rest_of (nodes w) m k v.«end») (en ∙ nodes-are w sized)
+        er ∙ ap (λ l. rest_of l n k v.«end») (lent-nodes w) ∙ ap (λ m. rest_of (nodes w) m k v.«end») en
         ∙ ap (λ m. rest_of (nodes w) (node_count w) m v.«end») c.1
         ∙ ap (λ (x : Node). rest_of (nodes w) (node_count w) (told_runs w (opened_at w)) x.«end») ev in
         let decides : rest_b (nodes w) (node_count w) (told_runs w (opened_at w)) (free_head w) ≡ sound_b w =

@@ -37,7 +37,7 @@ ghost use Rattle.soundness.specs.Decision.{
 };
 
 use run_index::Node;
-use store::{Set, Store, World};
+use store::{NODES, Set, Store, World};
 
 // What the nodes above leave to a tree: the tag that its nodes are to have, and the first and the last position that its runs may hold.
 #[derive(Clone, Copy)]
@@ -365,10 +365,10 @@ fn place_at(words: &[u64], k: u64) -> Option<Place>
     let v = run_index::read_node(words, k + 1);
     let floor = v.ones;
     let ceiling = v.tag;
-    if !world_fits(&words[128..], h) || floor > ceiling {
+    if !world_fits(&words[NODES..], h) || floor > ceiling {
         return None;
     }
-    let set = Set::of(&words[128..], h.root, h.offset);
+    let set = Set::of(&words[NODES..], h.root, h.offset);
     let n = store::bounds::logical_runs(&set, h.runs);
     if n > ceiling {
         return None;
@@ -419,7 +419,7 @@ pub fn check(words: &[u64]) -> Option<u64>
         return None;
     }
     let runs = runs_counted(words, a.start)?;
-    rest_fits(&words[128..], (words.len() / 8 - 17) as u64, runs, a.end)
+    rest_fits(&words[NODES..], store::node_count(words), runs, a.end)
 }
 
 // Whether words of a pool's length are a sound pool.

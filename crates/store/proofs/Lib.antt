@@ -12,7 +12,6 @@ pub mod Altering
 pub mod Emptying
 pub mod Limiting
 pub mod Making
-pub mod Fresh
 pub mod Opening
 pub mod Settling
 pub mod Resetting

@@ -305,27 +305,26 @@ module _ (w w₁ w₂ w' ls : List ℕ) (n f : ℕ) (mk : Makeable w ls n)
   }
 
 -- ---- the nodes as a part of the words
-module _ (w : List ℕ) (h : 1 ≤ capacity w) where
-  -- how many they are
-  many-nodes : length w / 8 - 17 ≡ node_count w
-  many-nodes = omega (arith, sized-length w h)
+-- the code counts them
+pub nodes-counted : (w : List ℕ) → 1 ≤ capacity w → length w / 8 - 17 ≡ node_count w
+nodes-counted w h = omega (arith, sized-length w h)
 
+module _ (w : List ℕ) (h : 1 ≤ capacity w) where
   -- they fill the part
-  pub part-sized : length (lent w) ≡ 8 * (length w / 8 - 17 + 1)
+  pub part-sized : length (lent w) ≡ 8 * (node_count w + 1)
   part-sized = ap length (lent-nodes w) ∙ omega (arith, nodes-length w, sized-length w h)
 
   -- freed there, and come back with it: all of it is as long as before
-  pub part-long : (ys : List ℕ) (f : ℕ) → Chained (lent w) ys (length w / 8 - 17) f → length (back w ys) ≡ length w
-  part-long ys f c = back_long w ys (omega (arith, sized-length w h)) c.long
+  pub part-long : (ys : List ℕ) (n f : ℕ) → Chained (lent w) ys n f → length (back w ys) ≡ length w
+  part-long ys n f c = back_long w ys (omega (arith, sized-length w h)) c.long
 
   -- and they are the free chain
-  part-chain : (ys : List ℕ) (f : ℕ) → Chained (lent w) ys (length w / 8 - 17) f → Chain (nodes (back w ys)) f (after 0 (node_count w))
+  pub part-chain : (ys : List ℕ) (f : ℕ) → Chained (lent w) ys (node_count w) f → Chain (nodes (back w ys)) f (after 0 (node_count w))
   part-chain ys f c =
-      subst (λ (m : ℕ). Chain (nodes (back w ys)) f (after 0 m)) many-nodes
-      (subst (λ (v : List ℕ). Chain v f (after 0 (length w / 8 - 17))) (sym (back-nodes w ys (omega (arith, sized-length w h)))) c.chain)
+      subst (λ (v : List ℕ). Chain v f (after 0 (node_count w))) (sym (back-nodes w ys (omega (arith, sized-length w h)))) c.chain
 
 -- so with the header and the records they are an empty pool
-pub made : (w ys w₂ w' ls : List ℕ) (n f : ℕ) → Makeable w ls n → Chained (lent w) ys (length w / 8 - 17) f → Wrote (back w ys) w₂ 0 (header_cell n f)
+pub made : (w ys w₂ w' ls : List ℕ) (m n f : ℕ) → Makeable w ls n → m ≡ node_count w → Chained (lent w) ys m f → Wrote (back w ys) w₂ 0 (header_cell n f)
     → Recorded w₂ w' ls n → Emptied w w' (limits_of ls)
-made w ys w₂ w' ls n f mk c hd re =
-    pool-made w (back w ys) w₂ w' ls n f mk (part-chain w mk.sized ys f c) (part-long w mk.sized ys f c) hd re
+made w ys w₂ w' ls m n f mk e c hd re =
+    pool-made w (back w ys) w₂ w' ls n f mk (part-chain w mk.sized ys f (subst (λ j. Chained (lent w) ys j f) e c)) (part-long w mk.sized ys m f c) hd re

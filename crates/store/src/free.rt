@@ -23,7 +23,7 @@ ghost use Rattle.store.specs.Free.{
   GivesBack,
 };
 
-use crate::{Links, Store};
+use crate::{Links, NODES, Store};
 use model::Limits;
 use run_index::Node;
 
@@ -118,8 +118,8 @@ pub fn make(words: &mut [u64], limits: &[u64], n: u64)
     requires { Makeable words.old limits.now n }
     ensures { Emptied words.old words.new (limits_of limits.now) }
 {
-    let nodes = (words.len() / 8 - 17) as u64;
-    let free = free_all(&mut words[128..], nodes);
+    let n_nodes = crate::node_count(words);
+    let free = free_all(&mut words[NODES..], n_nodes);
     run_index::write_node(words, 0, header(n, free));
     make_records(words, limits, n);
 }

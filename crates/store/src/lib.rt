@@ -3,11 +3,11 @@
 // this crate and `soundness` know where the words of the header and of the records lie: other code has a world by value, and the nodes.
 #![tactic(auto)]
 
-ghost use Rattle.std.specs.Prelude.{◌≡◌, ◌+◌, length};
+ghost use Rattle.std.specs.Prelude.{◌≡◌, ◌+◌, ◌≤◌, length};
 ghost use Rattle.model.specs.Pools.{claim};
 ghost use Rattle.run_index.specs.Cells.{cell_at, Room};
 ghost use Rattle.run_index.specs.Search.{Indexed, runs_from};
-ghost use Rattle.store.specs.Layout.{capacity_of, opened_at, free_head, world_at, plain_at, nodes, held, held_in, held_by, header_cell, Headed, links_of, allowance};
+ghost use Rattle.store.specs.Layout.{capacity_of, capacity, node_count, opened_at, free_head, world_at, plain_at, nodes, held, held_in, held_by, header_cell, Headed, links_of, allowance};
 ghost use Rattle.store.specs.Soundness.{Planted, Sound, Stands};
 ghost use Rattle.store.specs.Settle.{Openable, Opened, Closable, Closes};
 
@@ -18,6 +18,27 @@ pub mod bounds;
 pub mod free;
 pub mod places;
 pub mod refresh;
+
+// The words of a cell: the header is one, and each record and each node.
+const CELL: usize = 8;
+
+// The cells before the first node: the header's and the records'.
+const HEAD: usize = 17;
+
+// The word where the nodes begin, so that node n has the words CELL * n on from there. No node is 0: the last record lies there.
+pub const NODES: usize = 128;
+
+// The cells of a pool beyond its capacity: those before the first node, and two nodes for each world, since a call may have two runs more on its
+// way than it leaves.
+const BEYOND: usize = 49;
+
+// How many nodes there are.
+pub fn node_count(words: &[u64]) -> u64
+    requires { 1 ≤ capacity words.now }
+    ensures { result ≡ node_count words.now }
+{
+    (words.len() / CELL - HEAD) as u64
+}
 
 // A store, as its length tells of it: the most logical runs that its worlds may hold together.
 // A capacity of 0 and no Option: the calls that know their words to be a pool read the capacity too, and would have to answer something for none.
@@ -38,9 +59,9 @@ impl Store {
     pub fn of_length(words: usize) -> Store
         ensures { result.capacity ≡ capacity_of words }
     {
-        let cells = words / 8;
-        let beyond = cells.saturating_sub(49) as u64;
-        let fits = words % 8 == 0 && beyond <= Store::MAX_CAPACITY;
+        let cells = words / CELL;
+        let beyond = cells.saturating_sub(BEYOND) as u64;
+        let fits = words % CELL == 0 && beyond <= Store::MAX_CAPACITY;
         Store {
             capacity: if fits { beyond } else { 0 },
         }
@@ -184,7 +205,7 @@ fn claim(words: &[u64], k: u64) -> u64
 {
     let h = read_world(words, k);
     let v = run_index::read_node(words, k + 1);
-    let set = Set::of(&words[128..], h.root, h.offset);
+    let set = Set::of(&words[NODES..], h.root, h.offset);
     let n = bounds::logical_runs(&set, h.runs);
     n.max(v.ones)
 }
@@ -223,7 +244,7 @@ pub fn read_set<'a>(words: &'a [u64], k: u64) -> Set<'a>
     ensures { held result ≡ held_by words.now k }
 {
     let h = open(words, k);
-    set_of(&words[128..], h)
+    set_of(&words[NODES..], h)
 }
 
 // Makes a world that was opened, and changed, the pool's again.

@@ -1,5 +1,5 @@
 -- `check` meets its contract: the tests are the definition's, in another order. Assumes nothing.
-use Rattle.std.proofs.Common.{refl, ◌∙◌}
+use Rattle.std.proofs.Common.{◌∙◌}
 use Rattle.soundness.proofs.Whole.{header-fails, opened-few, worlds-fail, unopened-fails, rest-decides}
 use Rattle.soundness.proofs.check.Goals as goal
 use Rattle.soundness.proofs.check.Goals.{then-not-header_fits-via-then-not-header_fits, then-not-header_fits-via-else-not-header_fits+then-not-unopened_fit}
@@ -24,4 +24,4 @@ returns-in_err-runs c = c.from_residual.ensures ∙ worlds-fail _ _ c.read_node-
 pub returns : goal.returns
 returns c =
     rest-decides c.args.words.now _ c.read_node-a.ensures _ c.header_fits.ensures _ c.unopened_fit.ensures
-    c.if-not-header_fits.false c.if-not-unopened_fit.false c.requires _ c.in_ok-runs.ensures _ refl _ c.rest_fits.ensures
+    c.if-not-header_fits.false c.if-not-unopened_fit.false _ c.in_ok-runs.ensures _ c.node_count.ensures _ c.rest_fits.ensures

@@ -5,4 +5,4 @@ use Rattle.store.proofs.free.make.Goals as goal
 
 pub returns : goal.returns
 returns c =
-    made _ _ _ _ _ _ _ c.requires c.free_all-free.ensures (wrote_as c.header.ensures c.write_node.ensures) c.make_records.ensures
+    made _ _ _ _ _ _ _ _ c.requires c.node_count-n_nodes.ensures c.free_all-free.ensures (wrote_as c.header.ensures c.write_node.ensures) c.make_records.ensures
