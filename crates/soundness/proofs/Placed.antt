@@ -8,8 +8,7 @@ use Rattle.model.specs.Numbers.{most_worlds}
 use Rattle.model.specs.Positions.{stretches, mem}
 use Rattle.model.specs.Pools.{claim, claims}
 use Rattle.model.proofs.Edit.{and-holds}
-use Rattle.run_index.specs.declared.Node.{Node}
-use Rattle.run_index.specs.Cells.{cell_at}
+use Rattle.store.specs.declared.layout.Record.{Record}
 use Rattle.run_index.specs.Tree.{runs}
 use Rattle.run_index.specs.Search.{Indexed, runs_from}
 use Rattle.run_index.proofs.Totals.{runs-length}
@@ -17,7 +16,7 @@ use Rattle.run_index.proofs.Reached.{index-runs}
 use Rattle.store.specs.declared.World.{World}
 use Rattle.store.specs.declared.Set.{Set}
 use Rattle.soundness.specs.declared.Place.{Place}
-use Rattle.store.specs.Layout.{turned, world_at, floor_at, ceiling_at, nodes, capacity, held, held_in, held_by, plain_at, worlds_from}
+use Rattle.store.specs.Layout.{turned, record_at, world_at, floor_at, ceiling_at, nodes, capacity, held, held_in, held_by, plain_at, worlds_from}
 use Rattle.store.specs.Soundness.{sum_to, runs_at, Planted, KeepsLimits}
 use Rattle.soundness.specs.Decision.{world_b, place_b, worlds_b, told_runs, place_of, runs_of}
 use Rattle.store.proofs.Parts.{lent, lent-nodes}
@@ -69,16 +68,16 @@ held-world : (w : List ℕ) (k : ℕ) → held_in (nodes w) (world_at w k) ≡ h
 unfolding held_by
 held-world w k = refl
 
-module _ (w : List ℕ) (k : ℕ) (v : Node) (ev : v ≡ cell_at w (k + 1)) where
+module _ (w : List ℕ) (k : ℕ) (v : Record) (ev : v ≡ record_at w k) where
   -- its limits
-  floor-is : v.ones ≡ floor_at w k
-  floor-is = ap (λ (u : Node). u.ones) ev
+  floor-is : v.floor ≡ floor_at w k
+  floor-is = ap (λ (u : Record). u.floor) ev
 
-  ceiling-is : v.tag ≡ ceiling_at w k
-  ceiling-is = ap (λ (u : Node). u.tag) ev
+  ceiling-is : v.ceiling ≡ ceiling_at w k
+  ceiling-is = ap (λ (u : Record). u.ceiling) ev
 
   -- the floor is above the ceiling
-  pub limits-fail : v.tag < v.ones → None ≡ place_of w k
+  pub limits-fail : v.ceiling < v.floor → None ≡ place_of w k
   limits-fail lt = unplaced w k (λ P. omega (arith, P.limited.limits, floor-is, ceiling-is))
 
 -- a world that fits, as it was read
@@ -126,18 +125,18 @@ module _ (w : List ℕ) (k : ℕ) (h : World) (eh : h ≡ world_at w k) (b : Boo
     world-seen = world-indexed w k world-fitting h eh
 
     -- the number of logical runs decides, if the floor is not above the ceiling
-    module _ (v : Node) (ev : v ≡ cell_at w (k + 1)) (le : v.ones ≤ v.tag) (z : Set) (of : z ≡ record { runs = runs_from (lent w) h.root; offset = h.offset })
+    module _ (v : Record) (ev : v ≡ record_at w k) (le : v.floor ≤ v.ceiling) (z : Set) (of : z ≡ record { runs = runs_from (lent w) h.root; offset = h.offset })
         (n : ℕ) (tn : n ≡ stretches (held z)) where
       -- what it counts
       many-are : n ≡ stretches (held_by w k)
       many-are = runs-told w k world-fitting h eh n (tn ∙ ap (λ (s : Set). stretches (held s)) of)
 
       -- there are too many
-      pub runs-fail : v.tag < n → None ≡ place_of w k
+      pub runs-fail : v.ceiling < n → None ≡ place_of w k
       runs-fail over = unplaced w k (λ P. omega (arith, P.limited.ceiling, many-are, ceiling-is w k v ev))
 
       -- there are not; the larger of it and the floor is what the world claims
-      pub runs_fit : n ≤ v.tag → (c : ℕ) → c ≡ max n v.ones → Some (record { claim = c; runs = h.runs }) ≡ place_of w k
+      pub runs_fit : n ≤ v.ceiling → (c : ℕ) → c ≡ max n v.floor → Some (record { claim = c; runs = h.runs }) ≡ place_of w k
       runs_fit few c ec =
           let P : Placed w k = record {
             fitting = world-fitting;

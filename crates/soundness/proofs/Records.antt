@@ -1,84 +1,76 @@
 -- The tests of a pool's header and records as facts, and back: the header's words are those of 1 to 16 worlds, and the records of worlds that
 -- were not opened are zeros. What the code's own tests come to follows. Assumes nothing.
-use Rattle.std.proofs.Common.{◌≡◌, ℕ, zero, suc, ◌+◌, ◌-◌, ◌<◌, ◌≤◌, Bool, true, false, ◌&&◌, List, sym, refl, ap, ◌∙◌, subst, arith, eq-eqb, eqb-true, le-leb, leb-true}
+use Rattle.std.proofs.Common.{◌≡◌, ℕ, zero, suc, ◌+◌, ◌-◌, ◌<◌, ◌≤◌, Bool, true, false, ◌&&◌, List, [], ◌∷◌, get_or, slice_index, sym, refl, ap, ◌∙◌, subst, arith}
 use native.Mathlib.Decide.{ℕ_discrete}
+use Rattle.std.proofs.lemmas.Bool.Decides.{nat_tests}
 use Rattle.model.specs.Numbers.{most_worlds}
 use Rattle.model.proofs.Edit.{and-holds}
-use Rattle.run_index.specs.declared.Node.{Node}
-use Rattle.run_index.specs.Strung.{free_cell}
-use Rattle.run_index.proofs.Words.{same-node}
-use Rattle.store.specs.Layout.{record_at, header_cell}
+use Rattle.store.specs.declared.layout.Record.{Record}
+use Rattle.store.specs.Layout.{opened_at, record_at, no_record, padding, padded_b, IsPadded}
 use Rattle.soundness.specs.Decision.{header_b, nothing_b, unopened_b}
 use Rattle.store.proofs.Truths.{both-in}
-use Rattle.soundness.proofs.Tests.{zeros-out, zeros-in}
 
 -- ---- the header
--- its words are those of 1 to 16 worlds
-pub record Heads (v : Node) : Type 0 where
-  pub some : 1 ≤ v.start
-  pub few : v.start ≤ most_worlds
-  pub is : v ≡ header_cell v.start v.«end»
+-- it is one of 1 to 16 worlds
+pub record Heads (w : List ℕ) : Type 0 where
+  pub some : 1 ≤ opened_at w
+  pub few : opened_at w ≤ most_worlds
+  pub is : IsPadded w
 
 -- what its test says
-pub header-out : (v : Node) → header_b v ≡ true → Heads v
-unfolding header_b
-header-out v e =
-    let a = and-holds _ _ e in
-    let b = and-holds _ _ a.1 in
-    let c = and-holds _ _ b.1 in
-    let d = and-holds _ _ c.1 in
-    let f = and-holds _ _ d.1 in
-    let g = and-holds _ _ f.1 in
-    let h = and-holds _ _ g.1 in
-    record {
-      some = leb-true _ _ a.0;
-      few = leb-true _ _ b.0;
-      is = same-node v (header_cell v.start v.«end») refl refl (eqb-true _ _ c.0) (eqb-true _ _ d.0) (eqb-true _ _ f.0)
-          (eqb-true _ _ g.0) (eqb-true _ _ h.0) (eqb-true _ _ h.1);
-    }
+pub header-out : (w : List ℕ) → header_b w ≡ true → Heads w
+unfolding header_b padded_b padding
+header-out w e =
+    let h : (1 ≤ opened_at w) × (opened_at w ≤ most_worlds) × (slice_index w 2 ≡ 0) × (slice_index w 3 ≡ 0) × (slice_index w 4 ≡ 0) × (slice_index w 5 ≡ 0)
+    × (slice_index w 6 ≡ 0) × (slice_index w 7 ≡ 0) =
+    grind (arith, nat_tests) in
+    record { some = h.0; few = h.1; is = λ i. h.2 i ∷ h.3 i ∷ h.4 i ∷ h.5 i ∷ h.6 i ∷ h.7 i ∷ [] }
 
 -- and back
-pub header-in : (v : Node) → Heads v → header_b v ≡ true
-unfolding header_b
-header-in v h =
-    both-in _ _ (le-leb _ _ h.some)
-    (both-in _ _ (le-leb _ _ h.few)
-    (both-in _ _ (eq-eqb _ _ (ap (λ (u : Node). u.left) h.is))
-    (both-in _ _ (eq-eqb _ _ (ap (λ (u : Node). u.right) h.is))
-    (both-in _ _ (eq-eqb _ _ (ap (λ (u : Node). u.height) h.is))
-    (both-in _ _ (eq-eqb _ _ (ap (λ (u : Node). u.runs) h.is))
-    (both-in _ _ (eq-eqb _ _ (ap (λ (u : Node). u.ones) h.is)) (eq-eqb _ _ (ap (λ (u : Node). u.tag) h.is))))))))
+pub header-in : (w : List ℕ) → Heads w → header_b w ≡ true
+unfolding header_b padded_b padding
+header-in w h =
+    let word = λ (j : ℕ). ap (λ l. get_or l j 0) h.is in
+    rw (word 0, word 1, word 2, word 3, word 4, word 5) (grind (arith, nat_tests))
 
 -- ---- a record of zeros
 -- what its test says
-pub nothing-out : (v : Node) → nothing_b v ≡ true → v ≡ free_cell 0
+pub nothing-out : (v : Record) → nothing_b v ≡ true → v ≡ no_record
 unfolding nothing_b
 nothing-out v e =
-    let p = and-holds _ _ e in
-    zeros-out v p.1 ∙ ap free_cell (eqb-true _ _ p.0)
+    let h : (v.root ≡ 0) × (v.offset ≡ 0) × (v.ones ≡ 0) × (v.runs ≡ 0) × (v.first ≡ 0) × (v.last ≡ 0) × (v.floor ≡ 0) × (v.ceiling ≡ 0) =
+    grind (arith, nat_tests) in
+    λ i. record {
+      root = h.0 i;
+      offset = h.1 i;
+      ones = h.2 i;
+      runs = h.3 i;
+      first = h.4 i;
+      last = h.5 i;
+      floor = h.6 i;
+      ceiling = h.7 i;
+    }
 
 -- and back
-pub nothing-in : (v : Node) → v ≡ free_cell 0 → nothing_b v ≡ true
+pub nothing-in : (v : Record) → v ≡ no_record → nothing_b v ≡ true
 unfolding nothing_b
-nothing-in v e =
-    let z : v.left ≡ 0 = ap (λ (u : Node). u.left) e in
-    both-in _ _ (eq-eqb _ _ z) (zeros-in v (e ∙ ap free_cell (sym z)))
+nothing-in v e = rw e
 
 -- ---- the records from world k on, n of them
 -- what their tests say
-pub unopened-out : (w : List ℕ) (k n : ℕ) → unopened_b w k n ≡ true → (j : ℕ) → k ≤ j → j < k + n → record_at w j ≡ free_cell 0
+pub unopened-out : (w : List ℕ) (k n : ℕ) → unopened_b w k n ≡ true → (j : ℕ) → k ≤ j → j < k + n → record_at w j ≡ no_record
 unfolding unopened_b
 unopened-out w k zero e j p q = absurd (omega arith)
 unopened-out w k (suc n) e j p q =
     let r = and-holds _ _ e in
     go (ℕ_discrete k j) (nothing-out (record_at w k) r.0) (unopened-out w (suc k) n r.1 j)
   where
-    go : Dec (k ≡ j) → record_at w k ≡ free_cell 0 → (suc k ≤ j → j < suc k + n → record_at w j ≡ free_cell 0) → record_at w j ≡ free_cell 0
-    go (yes i) z ih = subst (λ (m : ℕ). record_at w m ≡ free_cell 0) i z
+    go : Dec (k ≡ j) → record_at w k ≡ no_record → (suc k ≤ j → j < suc k + n → record_at w j ≡ no_record) → record_at w j ≡ no_record
+    go (yes i) z ih = subst (λ (m : ℕ). record_at w m ≡ no_record) i z
     go (no ne) z ih = ih (omega arith) (omega arith)
 
 -- and back
-pub unopened-in : (w : List ℕ) (k n : ℕ) → ((j : ℕ) → k ≤ j → j < k + n → record_at w j ≡ free_cell 0) → unopened_b w k n ≡ true
+pub unopened-in : (w : List ℕ) (k n : ℕ) → ((j : ℕ) → k ≤ j → j < k + n → record_at w j ≡ no_record) → unopened_b w k n ≡ true
 unfolding unopened_b
 unopened-in w k zero h = refl
 unopened-in w k (suc n) h =

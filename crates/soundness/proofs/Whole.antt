@@ -1,12 +1,11 @@
 -- The tests of the whole pool decide whether it is sound: where they pass, the trees and the free chain have as many nodes as there are, so
 -- they share them out; and a sound pool passes each. What `is_sound` returns follows, test by test. Assumes nothing.
-use Rattle.std.proofs.Common.{◌≡◌, ℕ, ◌+◌, ◌-◌, ◌*◌, ◌/◌, ◌<◌, ◌≤◌, Bool, true, false, leb, Option, Some, None, is_some, if◌then◌else◌, List, length, refl, sym, ap, ◌∙◌, arith, le-leb, leb-true}
+use Rattle.std.proofs.Common.{◌≡◌, ℕ, ◌+◌, ◌-◌, ◌*◌, ◌<◌, ◌≤◌, Bool, true, false, leb, Option, Some, None, is_some, if◌then◌else◌, List, length, refl, sym, ap, ◌∙◌, arith, le-leb, leb-true}
 use Rattle.model.specs.Numbers.{most_worlds}
 use Rattle.model.specs.Pools.{claims}
 use Rattle.model.proofs.Edit.{and-holds}
-use Rattle.run_index.specs.declared.Node.{Node}
-use Rattle.run_index.specs.Cells.{cell_at}
-use Rattle.store.specs.Layout.{opened_at, free_head, world_at, nodes, capacity, node_count, worlds_of}
+use Rattle.store.specs.declared.layout.Header.{Header}
+use Rattle.store.specs.Layout.{header_at, opened_at, free_head, world_at, nodes, capacity, node_count, worlds_of}
 use Rattle.store.specs.Soundness.{sum_to, runs_at, Planted, Sound}
 use Rattle.soundness.specs.Decision.{rest_b, rest_of, header_b, worlds_b, unopened_b, told_runs, runs_of, sound_b, worn, checked}
 use Rattle.store.proofs.Parts.{lent, lent-nodes, nodes-length}
@@ -20,7 +19,7 @@ use Rattle.soundness.proofs.Placed.{worlds-out, worlds-in, place-planted, told-r
 
 -- its tests, one by one
 record Tested (w : List ℕ) : Type 0 where
-  pub header : header_b (cell_at w 0) ≡ true
+  pub header : header_b w ≡ true
   pub worlds : worlds_b w (opened_at w) ≡ true
   pub unopened : unopened_b w (opened_at w) (most_worlds - opened_at w) ≡ true
   pub fits : leb (claims (worlds_of w)) (capacity w) ≡ true
@@ -45,7 +44,7 @@ sound-in w T = both-in _ _ T.header (both-in _ _ T.worlds (both-in _ _ T.unopene
 pub sound_b-yes : (w : List ℕ) → 1 ≤ capacity w → sound_b w ≡ true → Sound w
 sound_b-yes w sized e =
     let T = sound-out w e in
-    let H = header-out (cell_at w 0) T.header in
+    let H = header-out w T.header in
     let P = worlds-out w (opened_at w) T.worlds in
     let R = rest_b-yes (nodes w) (node_count w) (told_runs w (opened_at w)) (free_head w) T.rest in
     let grown : (k : ℕ) → k < opened_at w → Planted (nodes w) (world_at w k) = λ k l. place-planted w k (P k l) in
@@ -55,7 +54,7 @@ sound_b-yes w sized e =
       sized = sized;
       some = H.some;
       few = H.few;
-      header = H.is;
+      padded = H.is;
       unopened = λ k l m. unopened-out w (opened_at w) (most_worlds - opened_at w) T.unopened k l (omega arith);
       planted = grown;
       free = R.ns;
@@ -70,7 +69,7 @@ sound_b-yes w sized e =
 pub sound_b-no : (w : List ℕ) → Sound w → sound_b w ≡ true
 sound_b-no w S =
     sound-in w (record {
-      header = header-in (cell_at w 0) (record { some = S.some; few = S.few; is = S.header });
+      header = header-in w (record { some = S.some; few = S.few; is = S.padded });
       worlds = worlds-in w (opened_at w) (λ k l. record { fitting = planted-fits (S.planted k l); limited = S.limited k l });
       unopened = unopened-in w (opened_at w) (most_worlds - opened_at w) (λ k l m. S.unopened k l (omega (arith, S.few)));
       fits = le-leb (claims (worlds_of w)) (capacity w) S.fits;
@@ -86,29 +85,25 @@ unsound : (w : List ℕ) → (Tested w → ⊥) → None ≡ checked w
 unfolding checked
 unsound w f = rw (is_false (sound_b w) (λ e. f (sound-out w e)))
 
-module _ (w : List ℕ) (v : Node) (ev : v ≡ cell_at w 0) (b : Bool) (eb : b ≡ header_b v) where
-  -- the test of the header is the definition's
-  header_is : b ≡ header_b (cell_at w 0)
-  header_is = eb ∙ ap header_b ev
-
+module _ (w : List ℕ) (v : Header) (ev : v ≡ header_at w) (b : Bool) (eb : b ≡ header_b w) where
   -- it fails
   pub header-fails : b ≡ false → None ≡ checked w
-  header-fails t = unsound w (λ T. never (sym t ∙ header_is ∙ T.header))
+  header-fails t = unsound w (λ T. never (sym t ∙ eb ∙ T.header))
 
   -- how many worlds were opened
-  opened-is : v.start ≡ opened_at w
-  opened-is = ap (λ (u : Node). u.start) ev
+  opened-is : v.opened ≡ opened_at w
+  opened-is = ap (λ (u : Header). u.opened) ev
 
   -- they are 16 at most
-  pub opened-few : b ≡ true → v.start ≤ most_worlds
-  opened-few t = (header-out v (sym eb ∙ t)).few
+  pub opened-few : b ≡ true → v.opened ≤ most_worlds
+  opened-few t = omega (arith, (header-out w (sym eb ∙ t)).few, opened-is)
 
   -- their test fails
-  pub worlds-fail : None ≡ runs_of w v.start → None ≡ checked w
+  pub worlds-fail : None ≡ runs_of w v.opened → None ≡ checked w
   unfolding worlds_of
   worlds-fail e = unsound w (λ T. runs-none w (opened_at w) (e ∙ ap (runs_of w) opened-is) T.worlds T.fits)
 
-  module _ (u : Bool) (eu : u ≡ unopened_b w v.start (most_worlds - v.start)) where
+  module _ (u : Bool) (eu : u ≡ unopened_b w v.opened (most_worlds - v.opened)) where
     -- the test of the other records
     unopened-is : u ≡ unopened_b w (opened_at w) (most_worlds - opened_at w)
     unopened-is = eu ∙ ap (λ n. unopened_b w n (most_worlds - n)) opened-is
@@ -118,19 +113,19 @@ module _ (w : List ℕ) (v : Node) (ev : v ≡ cell_at w 0) (b : Bool) (eb : b �
     unopened-fails t = unsound w (λ T. never (sym t ∙ unopened-is ∙ T.unopened))
 
     -- where all pass the free chain decides
-    pub rest-decides : b ≡ true → u ≡ true → (k : ℕ) → Some k ≡ runs_of w v.start
-        → (n : ℕ) → n ≡ node_count w → (r : Option ℕ) → r ≡ rest_of (lent w) n k v.«end» → r ≡ checked w
+    pub rest-decides : b ≡ true → u ≡ true → (k : ℕ) → Some k ≡ runs_of w v.opened
+        → (n : ℕ) → n ≡ node_count w → (r : Option ℕ) → r ≡ rest_of (lent w) n k v.free → r ≡ checked w
     unfolding worlds_of rest_of checked
     rest-decides tb tu k ek n en r er =
         let c = runs-out w (opened_at w) k (ek ∙ ap (runs_of w) opened-is) in
         let p = and-holds (worlds_b w (opened_at w)) (leb (claims (worlds_of w)) (capacity w)) c.0 in
         let is : r ≡ rest_of (nodes w) (node_count w) (told_runs w (opened_at w)) (free_head w) =
-        er ∙ ap (λ l. rest_of l n k v.«end») (lent-nodes w) ∙ ap (λ m. rest_of (nodes w) m k v.«end») en
-        ∙ ap (λ m. rest_of (nodes w) (node_count w) m v.«end») c.1
-        ∙ ap (λ (x : Node). rest_of (nodes w) (node_count w) (told_runs w (opened_at w)) x.«end») ev in
+        er ∙ ap (λ l. rest_of l n k v.free) (lent-nodes w) ∙ ap (λ m. rest_of (nodes w) m k v.free) en
+        ∙ ap (λ m. rest_of (nodes w) (node_count w) m v.free) c.1
+        ∙ ap (λ (x : Header). rest_of (nodes w) (node_count w) (told_runs w (opened_at w)) x.free) ev in
         let decides : rest_b (nodes w) (node_count w) (told_runs w (opened_at w)) (free_head w) ≡ sound_b w =
         same _ (sound_b w)
-        (λ e. sound-in w (record { header = sym header_is ∙ tb; worlds = p.0; unopened = sym unopened-is ∙ tu; fits = p.1; rest = e }))
+        (λ e. sound-in w (record { header = sym eb ∙ tb; worlds = p.0; unopened = sym unopened-is ∙ tu; fits = p.1; rest = e }))
         (λ e. (sound-out w e).rest) in
         is ∙ ap (λ (t : Bool). if t then Some (worn w) else None) decides
 

@@ -9,8 +9,10 @@ use Rattle.run_index.specs.Cells.{cell_at, Room}
 use Rattle.run_index.specs.Tree.{width}
 use Rattle.run_index.specs.Strung.{free_cell}
 use Rattle.store.specs.declared.World.{World}
+use Rattle.store.specs.declared.layout.Record.{Record}
 use Rattle.store.specs.Layout.{
   opened_at,
+  padded_b,
   free_head,
   record_at,
   world_at,
@@ -136,12 +138,9 @@ world_b w h =
     && (h.first == first_of (held_runs (held_in w h))
     && (h.last == last_of (held_runs (held_in w h)) && (not (h.root == 0) || h.offset == 0)))))
 
--- 1 to 16 worlds were opened, and the header's other words are 0
-unfoldable pub header_b : Node → Bool
-header_b v =
-    nat_le 1 v.start
-    && (nat_le v.start most_worlds
-    && (v.left == 0 && (v.right == 0 && (v.height == 0 && (v.runs == 0 && (v.ones == 0 && v.tag == 0))))))
+-- 1 to 16 worlds were opened, and the padding of the header is zeros
+unfoldable pub header_b : List ℕ → Bool
+header_b w = nat_le 1 (opened_at w) && (nat_le (opened_at w) most_worlds && padded_b w)
 
 -- world k of a pool: the tests of its tree and its record, and its limits
 unfoldable pub place_b : List ℕ → ℕ → Bool
@@ -153,9 +152,12 @@ unfoldable pub worlds_b : List ℕ → ℕ → Bool
 worlds_b w zero = true
 worlds_b w (suc n) = worlds_b w n && place_b w n
 
--- all words are 0
-unfoldable pub nothing_b : Node → Bool
-nothing_b v = v.left == 0 && zeros_b v
+-- all words of a record are 0
+unfoldable pub nothing_b : Record → Bool
+nothing_b v =
+    v.root == 0
+    && (v.offset == 0
+    && (v.ones == 0 && (v.runs == 0 && (v.first == 0 && (v.last == 0 && (v.floor == 0 && v.ceiling == 0))))))
 
 -- the records of worlds k and above, n of them, are zeros
 unfoldable pub unopened_b : List ℕ → ℕ → ℕ → Bool
@@ -169,7 +171,7 @@ told_runs w n = sum_to n (λ k. (world_at w k).runs)
 -- whether words of a pool's length are a sound pool
 unfoldable pub sound_b : List ℕ → Bool
 sound_b w =
-    header_b (cell_at w 0)
+    header_b w
     && (worlds_b w (opened_at w)
     && (unopened_b w (opened_at w) (most_worlds - opened_at w)
     && (nat_le (claims (worlds_of w)) (capacity w) && rest_b (nodes w) (node_count w) (told_runs w (opened_at w)) (free_head w))))

@@ -37,7 +37,8 @@ ghost use Rattle.soundness.specs.Decision.{
 };
 
 use run_index::Node;
-use store::{NODES, Set, Store, World};
+use store::layout::{NODES, Record};
+use store::{Set, Store, World, layout};
 
 // What the nodes above leave to a tree: the tag that its nodes are to have, and the first and the last position that its runs may hold.
 #[derive(Clone, Copy)]
@@ -333,18 +334,14 @@ fn rest_fits(words: &[u64], n: u64, runs: u64, free: u64) -> Option<u64>
     chain_fits(words, free, n.checked_sub(runs)?)
 }
 
-// Whether the header's words are those of 1 to 16 worlds.
+// Whether the header is one of 1 to 16 worlds.
 #[tactic(auto, using(std::proofs::lemmas::Bool::Decides::nat_tests), unfolding(crate::specs::Decision::header_b))]
-fn header_fits(v: Node) -> bool
-    ensures { result ≡ header_b v }
+fn header_fits(words: &[u64]) -> bool
+    requires { Room words.now 0 }
+    ensures { result ≡ header_b words.now }
 {
-    1 <= v.start
-        && v.start <= Store::MAX_WORLDS
-        && v == Node {
-            start: v.start,
-            end: v.end,
-            ..Node::default()
-        }
+    let opened = layout::read_header(words).opened;
+    1 <= opened && opened <= Store::MAX_WORLDS && layout::is_padded(words)
 }
 
 // What a world claims of the pool, and how many runs its tree has.
@@ -362,9 +359,9 @@ fn place_at(words: &[u64], k: u64) -> Option<Place>
     ensures { result ≡ place_of words.now k }
 {
     let h = store::read_world(words, k);
-    let v = run_index::read_node(words, k + 1);
-    let floor = v.ones;
-    let ceiling = v.tag;
+    let v = layout::read_record(words, k);
+    let floor = v.floor;
+    let ceiling = v.ceiling;
     if !world_fits(&words[NODES..], h) || floor > ceiling {
         return None;
     }
@@ -402,7 +399,7 @@ fn unopened_fit(words: &[u64], n: u64) -> bool
     ensures { result ≡ unopened_b words.now n (most_worlds - n) }
 {
     for k in n..Store::MAX_WORLDS {
-        if run_index::read_node(words, k + 1) != Node::default() {
+        if layout::read_record(words, k) != Record::default() {
             return false;
         }
     }
@@ -414,12 +411,12 @@ pub fn check(words: &[u64]) -> Option<u64>
     requires { 1 ≤ capacity words.now }
     ensures { result ≡ checked words.now }
 {
-    let a = run_index::read_node(words, 0);
-    if !header_fits(a) || !unopened_fit(words, a.start) {
+    let a = layout::read_header(words);
+    if !header_fits(words) || !unopened_fit(words, a.opened) {
         return None;
     }
-    let runs = runs_counted(words, a.start)?;
-    rest_fits(&words[NODES..], store::node_count(words), runs, a.end)
+    let runs = runs_counted(words, a.opened)?;
+    rest_fits(&words[NODES..], layout::node_count(words), runs, a.free)
 }
 
 // Whether words of a pool's length are a sound pool.

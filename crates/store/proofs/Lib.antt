@@ -1,4 +1,5 @@
 -- What the proofs of several functions use.
+pub mod Cells
 pub mod Capacities
 pub mod Parts
 pub mod Sums

@@ -15,6 +15,8 @@ use Rattle.run_index.specs.Strung.{times, free_cell, Free}
 use Rattle.run_index.proofs.Trees.{leaf-at, wrote_as}
 use Rattle.run_index.proofs.Strings.{strung-kept}
 use Rattle.store.specs.declared.Links.{Links}
+use Rattle.store.specs.declared.layout.Header.{Header}
+use Rattle.store.specs.declared.layout.Record.{Record}
 use Rattle.store.specs.Layout.{
   opened_at,
   free_head,
@@ -22,7 +24,9 @@ use Rattle.store.specs.Layout.{
   world_by,
   world_at,
   nodes,
-  header_cell,
+  header_at,
+  MadeHeader,
+  WroteRecord,
   capacity_of,
   capacity,
   node_count,
@@ -36,6 +40,7 @@ use Rattle.store.specs.Layout.{
 }
 use Rattle.store.specs.Soundness.{first_of, last_of, Chain, sum_to, runs_at, count_at, Planted, KeepsLimits}
 use Rattle.store.specs.Free.{after, Chained, limits_or_none, empty_record, Recorded, Makeable, Emptied}
+use Rattle.store.proofs.Cells.{record-same, header-same, padding-same}
 use Rattle.store.proofs.Sums.{sum_more, sum-nothing}
 use Rattle.store.proofs.Parts.{lent, back, lent-nodes, back-nodes, back_long, cell-nodes, nodes-long, nodes-length}
 use Rattle.store.proofs.Nodes.{sized-length}
@@ -117,9 +122,9 @@ pub recorded-room : (w₀ w ls : List ℕ) (n k : ℕ) → 8 * 17 ≤ length w�
 recorded-room w₀ w ls n k h l r = omega (arith, r.long)
 
 -- it is written
-pub recorded_more : (w₀ w w' ls : List ℕ) (n k : ℕ) (l : Limits) → k < most_worlds → l ≡ limits_or_none ls n k → RecordedTo w₀ w ls n k
-    → Wrote w w' (k + 1) (empty_record l) → RecordedTo w₀ w' ls n (k + 1)
-recorded_more w₀ w w' ls n k l lt is r wr = record {
+pub recorded_more : {w₀ w w' ls : List ℕ} {n k : ℕ} {l : Limits} {v : Record} → k < most_worlds → l ≡ limits_or_none ls n k → v ≡ empty_record l → RecordedTo w₀ w ls n k
+    → WroteRecord w w' k v → RecordedTo w₀ w' ls n (k + 1)
+recorded_more {w₀} {w} {w'} {ls} {n} {k} lt el ev r wr = record {
   here = λ j h. go j h (split j k);
   there = λ m e. wr.there m (apart m e) ∙ r.there m (above m e);
   long = wr.long ∙ r.long;
@@ -127,10 +132,9 @@ recorded_more w₀ w w' ls n k l lt is r wr = record {
 }
   where
     go : (j : ℕ) → j < k + 1 → (j < k) ⊎ (k ≤ j) → record_at w' j ≡ empty_record (limits_or_none ls n j)
-    go j h (inl a) = wr.there (j + 1) (λ e. omega arith) ∙ r.here j a
+    go j h (inl a) = record-same w w' j (wr.there (j + 1) (λ e. omega arith)) ∙ r.here j a
     go j h (inr a) =
-        let e : k ≡ j = omega arith in
-        subst (λ (i : ℕ). record_at w' i ≡ empty_record (limits_or_none ls n i)) e (wr.here ∙ ap empty_record is)
+        subst (λ (i : ℕ). record_at w' i ≡ empty_record (limits_or_none ls n i)) (let e : k ≡ j = omega arith in e) (wr.here ∙ ev ∙ ap empty_record el)
 
     apart : (m : ℕ) → (m ≡ 0) ⊎ (k + 1 < m) → m ≡ k + 1 → ⊥
     apart m (inl z) e = omega arith
@@ -191,26 +195,26 @@ module _ (w ls : List ℕ) (k : ℕ) (e : record_at w k ≡ empty_record (limits
   -- has no node
   record-tree : tree_at w k ≡ leaf
   unfolding tree_at tree_from
-  record-tree = ap (λ (v : Node). tree_from highest (nodes w) v.start) e
+  record-tree = ap (λ (v : Record). tree_from highest (nodes w) v.root) e
 
   -- holds nothing
   record-holds : held_by w k ≡ empty
   unfolding held_by
-  record-holds = ap (λ (v : Node). held_from (nodes w) v.start v.«end») e ∙ rootless-empty (nodes w) 0 0 refl
+  record-holds = ap (λ (v : Record). held_from (nodes w) v.root v.offset) e ∙ rootless-empty (nodes w) 0 0 refl
 
   -- is the model's empty world
   record-plain : plain_at w k ≡ empty_world (limits_at ls k)
-  record-plain = λ i. record { positions = record-holds i; floor = (e i).ones; ceiling = (e i).tag }
+  record-plain = λ i. record { positions = record-holds i; floor = (e i).floor; ceiling = (e i).ceiling }
 
   -- agrees with its record
   record-planted : Planted (nodes w) (world_at w k)
   record-planted =
-      subst (λ (v : Node). Planted (nodes w) (world_by k (free_head w) v)) (sym e) (vacant-planted (nodes w) (record { tag = k; root = 0; free = free_head w }))
+      subst (λ (v : Record). Planted (nodes w) (world_by k (free_head w) v)) (sym e) (vacant-planted (nodes w) (record { tag = k; root = 0; free = free_head w }))
 
   -- and keeps its limits
   record-limited : (limits_at ls k).floor ≤ (limits_at ls k).ceiling → KeepsLimits w k
   record-limited h = record {
-    limits = omega (arith, ap (λ (v : Node). v.ones) e, ap (λ (v : Node). v.tag) e);
+    limits = omega (arith, ap (λ (v : Record). v.floor) e, ap (λ (v : Record). v.ceiling) e);
     ceiling = omega (arith, ap stretches record-holds, empty-stretches);
   }
 
@@ -218,7 +222,7 @@ module _ (w ls : List ℕ) (k : ℕ) (e : record_at w k ≡ empty_record (limits
 -- the nodes of w₁ are the free chain from f, w₂ has the header, and w' the records too
 module _ (w w₁ w₂ w' ls : List ℕ) (n f : ℕ) (mk : Makeable w ls n)
     (chain : Chain (nodes w₁) f (after 0 (node_count w))) (long : length w₁ ≡ length w)
-    (hd : Wrote w₁ w₂ 0 (header_cell n f)) (re : Recorded w₂ w' ls n) where
+    (hd : MadeHeader w₁ w₂ (record { opened = n; free = f })) (re : Recorded w₂ w' ls n) where
   -- as many words as before
   same-long : length w' ≡ length w
   same-long = re.long ∙ hd.long ∙ long
@@ -240,16 +244,16 @@ module _ (w w₁ w₂ w' ls : List ℕ) (n f : ℕ) (mk : Makeable w ls n)
   few-worlds = omega (arith, limits.few, limits-length ls 0 n)
 
   -- the header
-  header_is : cell_at w' 0 ≡ header_cell n f
-  header_is = re.there 0 (inl refl) ∙ hd.here
+  header_is : header_at w' ≡ record { opened = n; free = f }
+  header_is = header-same w₂ w' (re.there 0 (inl refl)) ∙ hd.here
 
   -- it tells how many worlds were opened
   opened-is : opened_at w' ≡ n
-  opened-is = ap (λ (v : Node). v.start) header_is
+  opened-is = ap (λ (v : Header). v.opened) header_is
 
   -- and where the free chain starts
   free-is : free_head w' ≡ f
-  free-is = ap (λ (v : Node). v.«end») header_is
+  free-is = ap (λ (v : Header). v.free) header_is
 
   -- the record of a world that was opened
   record_is : (k : ℕ) → k < opened_at w' → record_at w' k ≡ empty_record (limits_at ls k)
@@ -267,7 +271,7 @@ module _ (w w₁ w₂ w' ls : List ℕ) (n f : ℕ) (mk : Makeable w ls n)
   node-same : (m : ℕ) → 1 ≤ times m (after 0 (node_count w)) → cell_at (nodes w') m ≡ cell_at (nodes w₁) m
   node-same m i =
       let pos : m ≡ 0 → ⊥ = after-apart 0 (node_count w) m i in
-      cell-nodes w' m ∙ re.there (16 + m) (inr (omega arith)) ∙ hd.there (16 + m) (λ e. omega arith) ∙ sym (cell-nodes w₁ m)
+      cell-nodes w' m ∙ re.there (16 + m) (inr (omega arith)) ∙ hd.there (16 + m) (omega arith) ∙ sym (cell-nodes w₁ m)
 
   -- so the chain is
   free-chain : Chain (nodes w') (free_head w') (after 0 (node_count w))
@@ -289,7 +293,7 @@ module _ (w w₁ w₂ w' ls : List ℕ) (n f : ℕ) (mk : Makeable w ls n)
       sized = omega (arith, mk.sized, same-capacity);
       some = omega (arith, some-worlds, opened-is);
       few = omega (arith, few-worlds, opened-is);
-      header = header_is ∙ sym (ap₂ header_cell opened-is free-is);
+      padded = padding-same w₂ w' (re.there 0 (inl refl)) ∙ hd.padded;
       unopened = λ k a b. re.here k b ∙ sym (ap empty_record (limits-none ls n k (omega (arith, opened-is))));
       planted = λ k l. record-planted w' ls k (record_is k l);
       free = after 0 (node_count w);
@@ -324,7 +328,7 @@ module _ (w : List ℕ) (h : 1 ≤ capacity w) where
       subst (λ (v : List ℕ). Chain v f (after 0 (node_count w))) (sym (back-nodes w ys (omega (arith, sized-length w h)))) c.chain
 
 -- so with the header and the records they are an empty pool
-pub made : (w ys w₂ w' ls : List ℕ) (m n f : ℕ) → Makeable w ls n → m ≡ node_count w → Chained (lent w) ys m f → Wrote (back w ys) w₂ 0 (header_cell n f)
+pub made : (w ys w₂ w' ls : List ℕ) (m n f : ℕ) → Makeable w ls n → m ≡ node_count w → Chained (lent w) ys m f → MadeHeader (back w ys) w₂ (record { opened = n; free = f })
     → Recorded w₂ w' ls n → Emptied w w' (limits_of ls)
 made w ys w₂ w' ls m n f mk e c hd re =
     pool-made w (back w ys) w₂ w' ls n f mk (part-chain w mk.sized ys f (subst (λ j. Chained (lent w) ys j f) e c)) (part-long w mk.sized ys m f c) hd re

@@ -10,15 +10,15 @@ use Rattle.model.specs.RunList.{Canon}
 use Rattle.model.specs.Pools
 use Rattle.model.specs.Pools.{claim, other_claims, allowance_of}
 use Rattle.model.proofs.Runs.{stretches-is}
-use Rattle.run_index.specs.declared.Node.{Node}
-use Rattle.run_index.specs.Cells.{cell_at, Room}
+use Rattle.run_index.specs.Cells.{Room}
 use Rattle.run_index.specs.Tree.{Tree, runs, count, inorder}
 use Rattle.run_index.specs.Search.{Indexed, runs_from}
 use Rattle.run_index.proofs.Totals.{runs-length}
 use Rattle.run_index.proofs.Reached.{index-runs}
 use Rattle.store.specs.declared.World.{World}
+use Rattle.store.specs.declared.layout.Record.{Record}
 use Rattle.store.specs.Places.{physical_of}
-use Rattle.store.specs.Layout.{opened_at, world_at, ceiling_at, nodes, capacity, turned, held_by, tree_at, plain_at, worlds_of, allowance}
+use Rattle.store.specs.Layout.{opened_at, record_at, world_at, ceiling_at, nodes, capacity, turned, held_by, tree_at, plain_at, worlds_of, allowance}
 use Rattle.store.specs.Soundness.{Standing, sum_to, without, runs_at, count_at, share_of, Planted, Sound}
 use Rattle.store.specs.Settle.{Openable, Opened}
 use Rattle.store.proofs.Sums.{sum_more, sum-nothing, sum-most, sum_both, without-here, without-there, sum-split}
@@ -72,9 +72,9 @@ module _ (w : List ℕ) (k : ℕ) (P : Planted (nodes w) (world_at w k)) where
       ∙ ap (λ (rs : List Run). stretches (turned (world_at w k).offset (mem rs))) (index-runs (hangs-index met.tree)) ∙ ap stretches (sym met-held)
 
   -- the larger of it and the floor is what the world claims
-  pub claim-told : (h : World) (v : Node) (n : ℕ) → h ≡ world_at w k → v ≡ cell_at w (k + 1) → n ≡ stretches (turned h.offset (mem (runs_from (lent w) h.root)))
-      → max n v.ones ≡ claim (plain_at w k)
-  claim-told h v n e ev t = ap₂ (λ i (z : Node). max i z.ones) (runs-told h n e t) ev
+  pub claim-told : (h : World) (v : Record) (n : ℕ) → h ≡ world_at w k → v ≡ record_at w k → n ≡ stretches (turned h.offset (mem (runs_from (lent w) h.root)))
+      → max n v.floor ≡ claim (plain_at w k)
+  claim-told h v n e ev t = ap₂ (λ i (z : Record). max i z.floor) (runs-told h n e t) ev
 
 -- ---- runs of a tree, and logical runs
 -- a test counts at most once

@@ -4,7 +4,6 @@
 ghost use Rattle.std.specs.Prelude.{◌≡◌, ◌+◌, ◌*◌, ◌≤◌, not, length};
 ghost use Rattle.model.specs.Refusals.{bad_limits};
 ghost use Rattle.model.specs.Pools.{limits_of};
-ghost use Rattle.store.specs.Layout.{header_cell};
 ghost use Rattle.store.specs.Free.{
   Chained,
   limits_or_none,
@@ -23,7 +22,8 @@ ghost use Rattle.store.specs.Free.{
   GivesBack,
 };
 
-use crate::{Links, NODES, Store};
+use crate::layout::{Header, NODES, Record};
+use crate::{Links, Store};
 use model::Limits;
 use run_index::Node;
 
@@ -60,14 +60,14 @@ fn limits_at(limits: &[u64], n: u64, k: u64) -> Limits
 }
 
 // The record of an empty world with these limits.
-// No From: a Node is a record, a header or a node of a tree, and the name says which is meant.
-fn empty_record(l: Limits) -> Node
+// No From: limits do not tell that the world is empty, which the name does.
+fn empty_record(l: Limits) -> Record
     ensures { result ≡ empty_record l }
 {
-    Node {
-        ones: l.floor,
-        tag: l.ceiling,
-        ..Node::default()
+    Record {
+        floor: l.floor,
+        ceiling: l.ceiling,
+        ..Record::default()
     }
 }
 
@@ -79,7 +79,7 @@ fn make_records(words: &mut [u64], limits: &[u64], n: u64)
 {
     for k in 0..Store::MAX_WORLDS {
         let record = empty_record(limits_at(limits, n, k));
-        run_index::write_node(words, k + 1, record);
+        crate::layout::write_record(words, k, record);
     }
 }
 
@@ -102,25 +102,14 @@ pub fn limits_fit(limits: &[u64], c: u64) -> bool
     true
 }
 
-// The header of a pool of n worlds.
-fn header(n: u64, free: u64) -> Node
-    ensures { result ≡ header_cell n free }
-{
-    Node {
-        start: n,
-        end: free,
-        ..Node::default()
-    }
-}
-
 // Makes the words a pool of n empty worlds with these limits, whatever they were.
 pub fn make(words: &mut [u64], limits: &[u64], n: u64)
     requires { Makeable words.old limits.now n }
     ensures { Emptied words.old words.new (limits_of limits.now) }
 {
-    let n_nodes = crate::node_count(words);
-    let free = free_all(&mut words[NODES..], n_nodes);
-    run_index::write_node(words, 0, header(n, free));
+    let nodes = crate::layout::node_count(words);
+    let free = free_all(&mut words[NODES..], nodes);
+    crate::layout::make_header(words, Header { opened: n, free });
     make_records(words, limits, n);
 }
 

@@ -17,10 +17,12 @@ use Rattle.run_index.specs.Strung.{times, Free}
 use Rattle.run_index.proofs.Heap.{frame}
 use Rattle.run_index.proofs.Strings.{strung-kept}
 use Rattle.store.specs.declared.World.{World}
-use Rattle.store.specs.Layout.{opened_at, free_head, record_at, floor_at, ceiling_at, record_cell, Headed, world_at, nodes, links_of, node_count, held_in, held_by}
+use Rattle.store.specs.declared.layout.Record.{Record}
+use Rattle.store.specs.Layout.{opened_at, free_head, record_at, floor_at, ceiling_at, record_of, Headed, world_at, nodes, links_of, node_count, held_in, held_by}
 use Rattle.store.specs.Soundness.{Chain, first_of, last_of, Share, Kept, Standing, sum_to, without, count_at, share_of, Planted, Sound}
 use Rattle.store.specs.Settle.{Settled, Became, Openable, Opened, Closing, Closes}
 use Rattle.store.proofs.Sums.{sum-some, without-here, without-there}
+use Rattle.store.proofs.Cells.{record-same}
 use Rattle.store.proofs.Closing.{closing-head, closing-nodes}
 use Rattle.store.proofs.Parts.{lent, back, lent-nodes, back-nodes, nodes-long}
 use Rattle.store.proofs.Nodes.{chain-outside, node-once, kept-still, sized-length}
@@ -225,21 +227,21 @@ module _ {w : List ℕ} {h : World} (S : Sound w) (op : Opened w 0 h) {ys : List
 
     -- nor another record than that of world 0, which stays as it is
     before : (k : ℕ) → k < most_worlds → record_at (back w ys) k ≡ record_at w k
-    before k l = ordered-closing.before (k + 1) (omega arith)
+    before k l = record-same w (back w ys) k (ordered-closing.before (k + 1) (omega arith))
 
     number : h.tag ≡ 0
     number = ap (λ (z : World). z.tag) op.is
 
-    record-same : (k : ℕ) → k < most_worlds → Dec (k ≡ 0) → record_at w' k ≡ record_at w k
-    record-same k l (yes z) =
+    record-kept : (k : ℕ) → k < most_worlds → Dec (k ≡ 0) → record_at w' k ≡ record_at w k
+    record-kept k l (yes z) =
         ap (record_at w') (z ∙ sym number) ∙ hd.here
-        ∙ ap (λ (u : World). record_cell (headed_at u f) (floor_at (back w ys) u.tag) (ceiling_at (back w ys) u.tag)) op.is
-        ∙ ap (λ (v : Node). record_cell (headed_at (world_at w 0) f) v.ones v.tag) (before 0 (omega arith)) ∙ ap (record_at w) (sym z)
-    record-same k l (no ne) = hd.there (k + 1) (omega arith) (λ q. omega (arith, number)) ∙ before k l
+        ∙ ap (λ (u : World). record_of (headed_at u f) (floor_at (back w ys) u.tag) (ceiling_at (back w ys) u.tag)) op.is
+        ∙ ap (λ (v : Record). record_of (headed_at (world_at w 0) f) v.floor v.ceiling) (before 0 (omega arith)) ∙ ap (record_at w) (sym z)
+    record-kept k l (no ne) = record-same (back w ys) w' k (hd.there (k + 1) (omega arith) (λ q. omega (arith, number))) ∙ before k l
 
     pub ordered-chain : InOrder w w'
     ordered-chain = record {
       chain = subst (Chain (nodes w') (free_head w')) free-nodes chained;
       others = λ m some z. node-there m some ∙ th.kept m (ap (times m) free-nodes ∙ z) ∙ ap (λ v. cell_at v m) (lent-nodes w);
-      records = λ k l. record-same k l (ℕ_discrete k 0);
+      records = λ k l. record-kept k l (ℕ_discrete k 0);
     }

@@ -14,9 +14,9 @@ use Rattle.model.specs.Ends.{Bound}
 use Rattle.model.specs.Numbers.{size}
 use Rattle.model.proofs.Numbers.{split}
 use Rattle.run_index.specs.Cells.{cell_at}
-use Rattle.run_index.specs.declared.Node.{Node}
 use Rattle.run_index.specs.Tree.{count, At}
 use Rattle.run_index.proofs.Heap.{frame}
+use Rattle.store.specs.declared.layout.Record.{Record}
 use Rattle.store.specs.Layout.{opened_at, record_at, nodes, node_count, world_at, tree_at}
 use Rattle.store.specs.Soundness.{Planted, Sound}
 use Rattle.store.proofs.Orders.{node_in}
@@ -51,7 +51,7 @@ module _ {w : List ℕ} {j : ℕ} (S : Sound w) (l : j < opened_at w) where
     at_same : At (nodes w') j (world_at w' j).root P.tree
     at_same = record {
       rep = frame (nodes w) (nodes w') j (nodes-long w w' long) P.tree same P.linked.rep;
-      linked = P.linked.linked ∙ sym (ap (λ (v : Node). v.start) record_same);
+      linked = P.linked.linked ∙ sym (ap (λ (v : Record). v.root) record_same);
     }
 
     tree_same : tree_at w' j ≡ tree_at w j
@@ -59,7 +59,7 @@ module _ {w : List ℕ} {j : ℕ} (S : Sound w) (l : j < opened_at w) where
     tree_same = tree-reached at_same P.low ∙ sym (tree-planted w j P)
 
     order-tree : SameTree w w' j
-    order-tree = record { tree = tree_same; offset = ap (λ (v : Node). v.«end») record_same }
+    order-tree = record { tree = tree_same; offset = ap (λ (v : Record). v.offset) record_same }
 
   -- whether or not it was worn
   tidy-tree : {w' : List ℕ} {worn : ℕ} → Tidies w w' worn → SameTree w w' j

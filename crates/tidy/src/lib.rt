@@ -46,8 +46,8 @@ fn order(words: &mut [u64])
     ensures in_order { InOrder words.old words.new }
 {
     let h = store::open(words, 0);
-    let n = (words.len() / 8 - 17) as u64;
-    let free = thread_all(&mut words[128..], n);
+    let n = store::layout::node_count(words);
+    let free = thread_all(&mut words[store::layout::NODES..], n);
     store::close(words, World { free, ..h });
 }
 

@@ -11,7 +11,7 @@ returns-then-not-world_fits c =
     elim c.then-not-world_fits.branch [
       | then-not-world_fits-via-then-not-world_fits w ↦ world-fails c.args.words.now _ _ c.read_world-h.ensures _ c.world_fits.ensures w.if-not-world_fits.true
       | then-not-world_fits-via-else-not-world_fits+then-floor-ceiling w ↦
-          limits-fail c.args.words.now c.args.k _ c.read_node-v.ensures w.if-floor-ceiling.true
+          limits-fail c.args.words.now c.args.k _ c.read_record-v.ensures w.if-floor-ceiling.true
     ]
 
 pub of-set-requires : goal.of-set-requires
@@ -24,9 +24,9 @@ logical_runs-n-requires c = world-counted c.args.words.now _ c.read_world-h.resu
 pub returns-then-n-ceiling : goal.returns-then-n-ceiling
 returns-then-n-ceiling c =
     runs-fail c.args.words.now _ _ c.read_world-h.ensures _ c.world_fits.ensures c.if-not-world_fits.false
-    _ c.read_node-v.ensures c.if-floor-ceiling.false _ c.of-set.ensures _ c.logical_runs-n.ensures c.if-n-ceiling.true
+    _ c.read_record-v.ensures c.if-floor-ceiling.false _ c.of-set.ensures _ c.logical_runs-n.ensures c.if-n-ceiling.true
 
 pub returns : goal.returns
 returns c =
     runs_fit c.args.words.now _ _ c.read_world-h.ensures _ c.world_fits.ensures c.if-not-world_fits.false
-    _ c.read_node-v.ensures c.if-floor-ceiling.false _ c.of-set.ensures _ c.logical_runs-n.ensures c.if-n-ceiling.false _ c.max.ensures
+    _ c.read_record-v.ensures c.if-floor-ceiling.false _ c.of-set.ensures _ c.logical_runs-n.ensures c.if-n-ceiling.false _ c.max.ensures

@@ -24,5 +24,5 @@ logical_runs-n-requires c =
 pub returns : goal.returns
 returns c =
     c.max.ensures
-    ∙ claim-told c.args.words.now c.args.k (planted (goal.at.returns c).Start) c.read_world-h.result c.read_node-v.result c.logical_runs-n.result
-    c.read_world-h.ensures c.read_node-v.ensures (c.logical_runs-n.ensures ∙ ap (λ (s : Set). stretches (held s)) c.of-set.ensures)
+    ∙ claim-told c.args.words.now c.args.k (planted (goal.at.returns c).Start) c.read_world-h.result c.read_record-v.result c.logical_runs-n.result
+    c.read_world-h.ensures c.read_record-v.ensures (c.logical_runs-n.ensures ∙ ap (λ (s : Set). stretches (held s)) c.of-set.ensures)

@@ -2,16 +2,15 @@
 use Rattle.std.proofs.Common.{ℕ, ◌+◌, ◌*◌, ◌<◌, sym, subst, arith}
 use Rattle.model.specs.Numbers.{size}
 use Rattle.store.specs.declared.World.{World}
-use Rattle.store.specs.Layout.{world_at}
+use Rattle.store.specs.Layout.{record_at, world_at}
 use Rattle.store.specs.Settle.{Opened}
-use Rattle.run_index.specs.Cells.{cell_at}
 use Rattle.store.proofs.Worlds.{opened-told}
 use Rattle.store.proofs.open.Goals as goal
 use Rattle.store.proofs.open.Goals.{After-read_world}
 
 -- offsets are words
 offsets : (c : After-read_world) (j : ℕ) → (world_at c.args.words.now j).offset < size
-unfolding cell_at
+unfolding record_at
 offsets c j = omega (arith, c.type_inv.words (8 * (j + 1) + 1))
 
 pub returns : goal.returns
