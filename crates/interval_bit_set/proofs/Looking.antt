@@ -34,8 +34,8 @@ use Rattle.model.specs.Model.{positions_of, reads}
 use Rattle.model.specs.Pools.{world_of, fed_by}
 use Rattle.store.specs.Layout.{capacity, opened_at, worlds_of}
 use Rattle.store.specs.Soundness.{Sound}
-use Rattle.soundness.specs.Decision.{sound_b, worn, checked}
-use Rattle.soundness.proofs.Whole.{sound_b-yes}
+use Rattle.store.specs.Decision.{sound_b, worn, checked}
+use Rattle.store.proofs.Whole.{sound_b-yes}
 use Rattle.promises.specs.Met.{Site, pool_reads, fed_of, full_at, Readable, Met}
 use Rattle.promises.proofs.Refusing.{looked-first, reads_first}
 use Rattle.promises.proofs.Meeting.{fed-unopened, readable, Reports, refused-both}

@@ -1,7 +1,7 @@
 // Looking at the pools and the worlds that a call names. What is not refused tells how worn the free chain of the pool is, of the first of several: a
 // call that changes it hands that on to `tidy::after`.
 ghost use Rattle.std.specs.Prelude.{◌≡◌, IfOk};
-ghost use Rattle.soundness.specs.Decision.{worn};
+ghost use Rattle.store.specs.Decision.{worn};
 ghost use Rattle.interval_bit_set.specs.Look.{look_number, earliest, LookedPool, Looked, LookedTwo, LookedThree};
 
 use model::Refusal;
@@ -29,7 +29,7 @@ pub fn look_at_pool(words: &[u64]) -> Result<u64, Refusal>
     if s.capacity == 0 {
         return Err(Refusal::StoreLength);
     }
-    soundness::check(words).ok_or(Refusal::Unsound)
+    store::soundness::check(words).ok_or(Refusal::Unsound)
 }
 
 // What one world earns.

@@ -3,7 +3,7 @@ use Rattle.std.specs.Prelude.{ℕ, ◌≤◌, List, length}
 use Rattle.std.proofs.Math.Logic.{∥∥₁_elim}
 use Rattle.std.proofs.Props.{props}
 use Rattle.store.specs.Settle.{Openable}
-use Rattle.soundness.proofs.Whole.{sound_b-yes, sound_b-no}
+use Rattle.store.proofs.Whole.{sound_b-yes, sound_b-no}
 use Rattle.promises.specs.Met.{Readable}
 use Rattle.promises.proofs.Meeting.{readable}
 use Rattle.promises.proofs.Doors.{nodes-there}

@@ -29,3 +29,15 @@ pub mod Ends
 pub mod Nearby
 pub mod Conversions
 pub mod Turn
+-- Deciding it.
+pub mod Tests
+pub mod Steps
+pub mod Strides
+pub mod Counting
+pub mod Following
+pub mod Decided
+pub mod Records
+pub mod Shared
+pub mod Bounded
+pub mod Placed
+pub mod Whole

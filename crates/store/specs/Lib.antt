@@ -3,3 +3,4 @@ pub mod Layout
 pub mod Soundness
 pub mod Free
 pub mod Settle
+pub mod Decision

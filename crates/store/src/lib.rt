@@ -19,6 +19,7 @@ pub mod free;
 pub mod layout;
 pub mod places;
 pub mod refresh;
+pub mod soundness;
 
 // A store, as its length tells of it: the most logical runs that its worlds may hold together.
 // A capacity of 0 and no Option: the calls that know their words to be a pool read the capacity too, and would have to answer something for none.

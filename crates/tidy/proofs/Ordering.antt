@@ -31,7 +31,7 @@ use Rattle.store.proofs.Orders.{node_in}
 use Rattle.store.proofs.Reached.{tree-held, kept_low}
 use Rattle.store.proofs.Sharing.{node_of}
 use Rattle.store.proofs.Turn.{pool-past}
-use Rattle.soundness.proofs.Counting.{Among, sum, sum-times}
+use Rattle.store.proofs.Counting.{Among, sum, sum-times}
 use Rattle.promises.proofs.Doors.{lent-limited, lent-held, lent-closing, lent-settled}
 use Rattle.promises.proofs.Simulation.{same-positions}
 use Rattle.tidy.specs.Tidy.{lows, Threaded, Tidied, free_nodes, InOrder}

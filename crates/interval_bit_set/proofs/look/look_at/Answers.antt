@@ -2,7 +2,7 @@
 -- Assumes nothing.
 use Rattle.std.specs.Prelude.{◌≡◌, IfOk}
 use mathlib.Core.Path.{sym, ◌∙◌, ap, subst}
-use Rattle.soundness.specs.Decision.{worn}
+use Rattle.store.specs.Decision.{worn}
 use native.Mathlib.Omega.{arith}
 use Rattle.store.specs.Soundness.{Sound}
 use Rattle.interval_bit_set.specs.Look.{look_number}

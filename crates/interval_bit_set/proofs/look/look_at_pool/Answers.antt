@@ -3,7 +3,7 @@ use Rattle.std.specs.Prelude.{◌≡◌}
 use Rattle.std.specs.Option.{ok_or}
 use Rattle.std.proofs.Common.{ap, ◌∙◌, arith}
 use Rattle.model.specs.declared.Refusal.TheVariants.{Unsound}
-use Rattle.soundness.specs.Decision.{checked}
+use Rattle.store.specs.Decision.{checked}
 use Rattle.interval_bit_set.proofs.Looking.{pool-checked}
 use Rattle.interval_bit_set.proofs.look.look_at_pool.Goals as goal
 use Rattle.interval_bit_set.proofs.look.look_at_pool.Goals.{After-ok_or}

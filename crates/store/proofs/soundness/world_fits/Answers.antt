@@ -1,0 +1,54 @@
+-- `world_fits` meets its contract: the positions of a world are those of the tree at its root, so what `bounds` tells of the tree is what
+-- the world has to say of the positions held. Assumes nothing.
+use Rattle.std.proofs.Common.{sym, ◌∙◌, arith}
+use Rattle.std.proofs.lemmas.Bool.Decides.{nat_tests}
+use Rattle.model.specs.Numbers.{size}
+use Rattle.run_index.specs.Cells.{Room}
+use Rattle.store.proofs.Hanging.{Hangs}
+use Rattle.store.proofs.Tests.{inside-out}
+use Rattle.store.proofs.Bounded.{root-outside, root-high, tree-fails, tree-passes, indexed, world-is}
+use Rattle.store.proofs.soundness.world_fits.Goals as goal
+use Rattle.store.proofs.soundness.world_fits.Goals.{Else-not-inside, Else-not-tree_fits, then-v-gt-MAX_HEIGHT-via-then-v-gt-MAX_HEIGHT, then-v-gt-MAX_HEIGHT-via-else-v-gt-MAX_HEIGHT+then-not-tree_fits}
+
+-- the root names a node, or none
+root-room : (c : Else-not-inside) → Room c.args.words.now c.args.h.root
+root-room c = inside-out _ _ (sym c.inside.ensures ∙ c.if-not-inside.false)
+
+-- the tree that the walk has accepted
+tree : (c : Else-not-tree_fits) → Hangs 22 c.args.words.now c.args.h.tag c.args.h.root 0 size
+tree c = tree-passes _ c.args.h _ c.below-v.ensures (omega (arith, c.if-v-gt-MAX_HEIGHT.false)) _ c.tree_fits.ensures c.if-not-tree_fits.false
+
+pub returns-then-not-inside : goal.returns-then-not-inside
+returns-then-not-inside c = root-outside _ _ c.requires _ c.inside.ensures c.if-not-inside.true
+
+pub below-v-requires : goal.below-v-requires
+below-v-requires c = root-room c
+
+pub tree_fits-requires : goal.tree_fits-requires
+tree_fits-requires c = root-room (goal.at.tree_fits-requires c).Else-not-inside
+
+pub returns-then-v-gt-MAX_HEIGHT : goal.returns-then-v-gt-MAX_HEIGHT
+returns-then-v-gt-MAX_HEIGHT c =
+    elim c.then-v-gt-MAX_HEIGHT.branch [
+      | then-v-gt-MAX_HEIGHT-via-then-v-gt-MAX_HEIGHT w ↦ root-high _ _ _ c.below-v.ensures w.if-v-gt-MAX_HEIGHT.true
+      | then-v-gt-MAX_HEIGHT-via-else-v-gt-MAX_HEIGHT+then-not-tree_fits w ↦
+          tree-fails _ c.args.h _ c.below-v.ensures w.if-v-gt-MAX_HEIGHT.false _ w.tree_fits.ensures w.if-not-tree_fits.true
+    ]
+
+pub of-set-requires : goal.of-set-requires
+of-set-requires c = indexed _ c.args.h (tree c)
+
+pub returns-then-h-ne0 : goal.returns-then-h-ne0
+returns-then-h-ne0 c =
+    let e = world-is _ c.args.h (tree (goal.at.returns-then-h-ne0 c).Else-not-tree_fits) _ c.below-v.ensures _ c.of-set.ensures _ c.first_held-first.ensures _ c.last_held-last.ensures in
+    grind (arith, nat_tests)
+
+pub returns-else-h-ne0 : goal.returns-else-h-ne0
+returns-else-h-ne0 c =
+    let e = world-is _ c.args.h (tree (goal.at.returns-else-h-ne0 c).Else-not-tree_fits) _ c.below-v.ensures _ c.of-set.ensures _ c.first_held-first.ensures _ c.last_held-last.ensures in
+    grind (arith, nat_tests)
+
+pub returns-else-h-last : goal.returns-else-h-last
+returns-else-h-last c =
+    let e = world-is _ c.args.h (tree (goal.at.returns-else-h-last c).Else-not-tree_fits) _ c.below-v.ensures _ c.of-set.ensures _ c.first_held-first.ensures _ c.last_held-last.ensures in
+    grind (arith, nat_tests)
