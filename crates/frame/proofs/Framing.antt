@@ -16,7 +16,7 @@ use Rattle.store.specs.Decision.{sound_b}
 use Rattle.store.proofs.Whole.{sound_b-no}
 use Rattle.interval_bit_set.specs.Look.{LookedPool}
 use Rattle.interval_bit_set.proofs.Looking.{pool-refused}
-use Rattle.tidy.specs.Tidy.{Tidied}
+use Rattle.store.specs.Relink.{Tidied}
 use Rattle.tidy.proofs.Tidying.{pooled-tidied}
 use Rattle.promises.specs.Met.{pool_reads}
 use Rattle.promises.proofs.Refusing.{looked-first}

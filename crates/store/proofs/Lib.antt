@@ -41,3 +41,6 @@ pub mod Shared
 pub mod Bounded
 pub mod Placed
 pub mod Whole
+-- Putting the free list in order.
+pub mod Threading
+pub mod Relinking

@@ -4,3 +4,4 @@ pub mod Soundness
 pub mod Free
 pub mod Settle
 pub mod Decision
+pub mod Relink

@@ -19,6 +19,7 @@ pub mod free;
 pub mod layout;
 pub mod places;
 pub mod refresh;
+pub mod relink;
 pub mod soundness;
 
 // A store, as its length tells of it: the most logical runs that its worlds may hold together.

@@ -1,4 +1,2 @@
-pub mod Threading
-pub mod Ordering
 pub mod Tidying
 pub mod Trees

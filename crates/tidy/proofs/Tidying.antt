@@ -15,7 +15,8 @@ use Rattle.store.specs.Free.{Pooled}
 use Rattle.store.specs.Settle.{Settled}
 use Rattle.store.proofs.WorldLists.{worlds-same}
 use Rattle.promises.specs.Met.{Site, Readable, Met}
-use Rattle.tidy.specs.Tidy.{Tidied, TidiesIf, Ended}
+use Rattle.store.specs.Relink.{Tidied}
+use Rattle.tidy.specs.Tidy.{TidiesIf, Ended}
 
 -- what settled before stays so
 pub settled-tidied : {w w₁ w₂ : List ℕ} {i : ℕ} {P : Positions} → i < opened_at w → Settled w w₁ i P → Tidied w₁ w₂ → Settled w w₂ i P

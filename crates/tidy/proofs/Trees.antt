@@ -25,8 +25,9 @@ use Rattle.store.proofs.Reached.{tree-reached}
 use Rattle.store.proofs.Sharing.{tree-planted}
 use Rattle.promises.specs.Grown.{shape, Grows}
 use Rattle.promises.specs.Met.{Site, Readable, Met}
-use Rattle.tidy.specs.Tidy.{InOrder, Tidies, TidiesIf, Ended}
-use Rattle.tidy.proofs.Threading.{lows-high}
+use Rattle.store.specs.Relink.{InOrder}
+use Rattle.store.proofs.Threading.{lows-high}
+use Rattle.tidy.specs.Tidy.{Tidies, TidiesIf, Ended}
 
 -- world j has the tree and the offset that it had
 pub record SameTree (w w' : List ℕ) (j : ℕ) : Type 0 where

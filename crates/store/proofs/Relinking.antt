@@ -1,6 +1,6 @@
 -- A world whose pool's free nodes were threaded anew stands as it did. The nodes that have no height are just the free ones, since a node of any
 -- tree has a height: so the chain has the same nodes, and no cell of a tree has changed. Assumes nothing.
-use Prim.Native.Nat.{ℕ, zero, suc, ◌+◌, ◌-◌, ◌/◌, ◌≤◌, ◌<◌}
+use Prim.Native.Nat.{ℕ, zero, suc, ◌+◌, ◌≤◌, ◌<◌}
 use mathlib.Core.Path.{◌≡◌, sym, ap, ◌∙◌, subst, fun_ext}
 use mathlib.Core.Logic.{◌⊎◌, inl, inr}
 use mathlib.Core.List.{List}
@@ -8,9 +8,8 @@ use native.Mathlib.Omega.{arith}
 use native.Mathlib.Decide.{ℕ_discrete}
 use lib.ListN.{length}
 use Rattle.model.specs.Numbers.{size, most_worlds}
-use Rattle.model.specs.Positions.{Positions, held_runs}
+use Rattle.model.specs.Positions.{Positions, held_runs, stretches}
 use Rattle.model.proofs.Numbers.{split}
-use Rattle.run_index.specs.declared.Node.{Node}
 use Rattle.run_index.specs.Cells.{cell_at, Room}
 use Rattle.run_index.specs.Tree.{count, At}
 use Rattle.run_index.specs.Strung.{times, Free}
@@ -18,24 +17,23 @@ use Rattle.run_index.proofs.Heap.{frame}
 use Rattle.run_index.proofs.Strings.{strung-kept}
 use Rattle.store.specs.declared.World.{World}
 use Rattle.store.specs.declared.layout.Record.{Record}
-use Rattle.store.specs.Layout.{opened_at, free_head, record_at, floor_at, ceiling_at, record_of, Headed, world_at, nodes, links_of, node_count, held_in, held_by}
+use Rattle.store.specs.Layout.{opened_at, free_head, record_at, floor_at, ceiling_at, record_of, Headed, world_at, nodes, links_of, node_count, held_in, held_by, allowance}
 use Rattle.store.specs.Soundness.{Chain, first_of, last_of, Share, Kept, Standing, sum_to, without, count_at, share_of, Planted, Sound}
 use Rattle.store.specs.Settle.{Settled, Became, Openable, Opened, Closing, Closes}
 use Rattle.store.proofs.Sums.{sum-some, without-here, without-there}
 use Rattle.store.proofs.Cells.{record-same}
 use Rattle.store.proofs.Closing.{closing-head, closing-nodes}
-use Rattle.store.proofs.Parts.{lent, back, lent-nodes, back-nodes, nodes-long}
+use Rattle.store.proofs.Parts.{lent, back, lent-nodes, back-nodes, back-front, back_long, cells-before, nodes-long}
 use Rattle.store.proofs.Nodes.{chain-outside, node-once, kept-still, sized-length}
 use Rattle.store.proofs.Chains.{chain-free, free-low}
 use Rattle.store.proofs.Orders.{node_in}
+use Rattle.store.proofs.Worlds.{held-allowed}
 use Rattle.store.proofs.Reached.{tree-held, kept_low}
 use Rattle.store.proofs.Sharing.{node_of}
 use Rattle.store.proofs.Turn.{pool-past}
 use Rattle.store.proofs.Counting.{Among, sum, sum-times}
-use Rattle.promises.proofs.Doors.{lent-limited, lent-held, lent-closing, lent-settled}
-use Rattle.promises.proofs.Simulation.{same-positions}
-use Rattle.tidy.specs.Tidy.{lows, Threaded, Tidied, free_nodes, InOrder}
-use Rattle.tidy.proofs.Threading.{lows-before, lows-high, lows-once}
+use Rattle.store.specs.Relink.{lows, Threaded, Tidied, free_nodes, InOrder}
+use Rattle.store.proofs.Threading.{lows-before, lows-high, lows-once}
 
 -- the world with another head of the free chain
 abbrev pub headed_at : World → ℕ → World
@@ -163,28 +161,46 @@ others-high w n k planted m i = let r = sum-some n (without k (count_at w m)) i 
 pub first-openable : {w : List ℕ} → Sound w → Openable w 0
 first-openable S = record { sound = S; named = omega (arith, S.some) }
 
--- the number of nodes, from the length
-pub nodes-counted : (w : List ℕ) → Sound w → (length w / 8 - 17) ≡ node_count w
-nodes-counted w S = omega (arith, sized-length w S.sized)
-
 module _ {w : List ℕ} {h : World} (S : Sound w) (op : Opened w 0 h) {ys : List ℕ} {n f : ℕ} (e : n ≡ node_count w) (th : Threaded (lent w) ys n f) where
-  high-here : High (lent w) (share_of w 0)
-  high-here = subst (λ v. High v (share_of w 0)) (sym (lent-nodes w)) (others-high w (opened_at w) 0 S.planted)
+  -- the nodes are there to be lent
+  room : 128 ≤ length w
+  room = omega (arith, sized-length w S.sized)
 
-  -- the nodes that are lent were threaded: world 0 holds what it did
-  ordered-became : Became (lent w) ys (share_of w 0) (headed_at h f) (held_in (lent w) h)
-  ordered-became = threaded-became (lent-limited op).standing high-here (subst (λ j. Threaded (lent w) ys j f) e th)
+  -- they were threaded, and are put back
+  there : nodes (back w ys) ≡ ys
+  there = back-nodes w ys room
 
-  pub ordered-closing : Closing w (back w ys) (headed_at h f) (held_in (lent w) h)
-  ordered-closing = lent-closing (first-openable S) ordered-became (lent-limited op).fits
+  tag : h.tag ≡ 0
+  tag = ap (λ (z : World). z.tag) op.is
+
+  -- world 0 holds what it did
+  ordered-became : Became (nodes w) (nodes (back w ys)) (share_of w 0) (headed_at h f) (held_by w 0)
+  ordered-became =
+      subst (Became (nodes w) (nodes (back w ys)) (share_of w 0) (headed_at h f)) op.held
+      (threaded-became op.limited.standing (others-high w (opened_at w) 0 S.planted)
+      (subst (λ j. Threaded (nodes w) (nodes (back w ys)) j f) e
+      (rw (there, ← lent-nodes w) th)))
+
+  pub ordered-closing : Closing w (back w ys) (headed_at h f) (held_by w 0)
+  ordered-closing = record {
+    openable = subst (Openable w) (sym tag) (first-openable S);
+    before = cells-before w (back w ys) (back-front w ys room) (ordered-became.still.cells 0 (λ p. absurd (omega arith)));
+    long = back_long w ys room th.long;
+    became = subst (λ j. Became (nodes w) (nodes (back w ys)) (share_of w j) (headed_at h f) (held_by w 0)) (sym tag) ordered-became;
+    few = subst (λ j. stretches (held_by w 0) ≤ allowance w j) (sym tag) (held-allowed w 0 (first-openable S));
+  }
 
   -- so the pool is tidied
   module _ {w' : List ℕ} (cl : Closes (back w ys) w' (headed_at h f)) where
-    settled : Settled w w' 0 (held_in (lent w) h)
-    settled = lent-settled (first-openable S) ordered-became (lent-limited op).fits cl
+    settled : Settled w w' 0 (held_by w 0)
+    settled = subst (λ j. Settled w w' j (held_by w 0)) tag (cl w (held_by w 0) ordered-closing)
 
     first-held : held_by w' 0 ≡ held_by w 0
-    first-held = same-positions (held_by w' 0) (held_by w 0) (pool-past w' 0) (pool-past w 0) (λ x l. settled.holds x l ∙ ap (λ (P : Positions). P x) (lent-held op))
+    first-held = fun_ext (λ x. go x (split x size))
+      where
+        go : (x : ℕ) → (x < size) ⊎ (size ≤ x) → held_by w' 0 x ≡ held_by w 0 x
+        go x (inl l) = settled.holds x l
+        go x (inr l) = pool-past w' 0 x l ∙ sym (pool-past w 0 x l)
 
     pub ordered-tidied : Tidied w w'
     ordered-tidied = record {
@@ -202,10 +218,6 @@ module _ {w : List ℕ} {h : World} (S : Sound w) (op : Opened w 0 h) {ys : List
 
   -- and its chain is in order
   module _ {w' : List ℕ} (hd : Headed (back w ys) w' (headed_at h f)) where
-    -- the threaded nodes, put back
-    there : nodes (back w ys) ≡ ys
-    there = back-nodes w ys (omega (arith, (sized-length w S.sized).0))
-
     free-nodes : lows (lent w) 0 n ≡ free_nodes w
     free-nodes = ap (λ v. lows v 0 n) (lent-nodes w) ∙ ap (lows (nodes w) 0) e
 
@@ -229,15 +241,12 @@ module _ {w : List ℕ} {h : World} (S : Sound w) (op : Opened w 0 h) {ys : List
     before : (k : ℕ) → k < most_worlds → record_at (back w ys) k ≡ record_at w k
     before k l = record-same w (back w ys) k (ordered-closing.before (k + 1) (omega arith))
 
-    number : h.tag ≡ 0
-    number = ap (λ (z : World). z.tag) op.is
-
     record-kept : (k : ℕ) → k < most_worlds → Dec (k ≡ 0) → record_at w' k ≡ record_at w k
     record-kept k l (yes z) =
-        ap (record_at w') (z ∙ sym number) ∙ hd.here
+        ap (record_at w') (z ∙ sym tag) ∙ hd.here
         ∙ ap (λ (u : World). record_of (headed_at u f) (floor_at (back w ys) u.tag) (ceiling_at (back w ys) u.tag)) op.is
         ∙ ap (λ (v : Record). record_of (headed_at (world_at w 0) f) v.floor v.ceiling) (before 0 (omega arith)) ∙ ap (record_at w) (sym z)
-    record-kept k l (no ne) = record-same (back w ys) w' k (hd.there (k + 1) (omega arith) (λ q. omega (arith, number))) ∙ before k l
+    record-kept k l (no ne) = record-same (back w ys) w' k (hd.there (k + 1) (omega arith) (λ q. omega (arith, tag))) ∙ before k l
 
     pub ordered-chain : InOrder w w'
     ordered-chain = record {

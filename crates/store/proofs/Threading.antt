@@ -15,7 +15,7 @@ use Rattle.run_index.specs.Strung.{times, free_cell, Free}
 use Rattle.run_index.proofs.Trees.{δ-same, δ-other, δ-zero}
 use Rattle.run_index.proofs.Strings.{strung-kept}
 use Rattle.store.specs.Soundness.{Chain}
-use Rattle.tidy.specs.Tidy.{lows, Threads, Threaded}
+use Rattle.store.specs.Relink.{lows, Threads, Threaded}
 
 -- ---- the nodes that have no height
 module _ (w : List ℕ) where
