@@ -332,3 +332,5 @@ pub made : (w ys w₂ w' ls : List ℕ) (m n f : ℕ) → Makeable w ls n → m 
     → Recorded w₂ w' ls n → Emptied w w' (limits_of ls)
 made w ys w₂ w' ls m n f mk e c hd re =
     pool-made w (back w ys) w₂ w' ls n f mk (part-chain w mk.sized ys f (subst (λ j. Chained (lent w) ys j f) e c)) (part-long w mk.sized ys m f c) hd re
+
+pub ruleset freeing = (free-after-more)

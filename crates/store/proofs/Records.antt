@@ -101,3 +101,5 @@ unopened-broken w k lt e = sym (unopened-first w k lt ∙ ap (λ (x : Bool). x &
 pub unopened-more : (w : List ℕ) (k : ℕ) → k < most_worlds → nothing_b (record_at w k) ≡ true
     → unopened_b w (k + 1) (most_worlds - (k + 1)) ≡ unopened_b w k (most_worlds - k)
 unopened-more w k lt e = sym (unopened-first w k lt ∙ ap (λ (x : Bool). x && unopened_b w (k + 1) (most_worlds - (k + 1))) e)
+
+pub ruleset unopened_rules = (unopened-none, unopened-broken, unopened-more)

@@ -405,3 +405,5 @@ pub record Way (w : List ℕ) (B : Bounds) (k : ℕ) (C : Bounds) (j : ℕ) : Ty
   pub high : C.high < 2 ^ 64
   pub lower : (below_of w j).height ≤ (below_of w k).height
   pub tells : (r : Bool) → Tells w C j r → Tells w B k r
+
+pub ruleset leaf_rules = (leaf-decides)

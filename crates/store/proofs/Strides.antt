@@ -130,3 +130,5 @@ empty-ends c w k z e = rw (z, e)
 pub empty-open : (c : ℕ) (w : List ℕ) (k : ℕ) → c ≡ 0 → (k ≡ 0 → ⊥) → None ≡ chain_of c w k
 unfolding chain_of chain_b
 empty-open c w k z ne = rw (z, ne_eqb k 0 ne)
+
+pub ruleset along_rules = (along-stays, along-more, along-end)

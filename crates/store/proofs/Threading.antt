@@ -137,3 +137,5 @@ threading-all {w₀} {w} {n} {next} left e t =
     let d : t.done ≡ n = omega (arith, t.all) in
     let ls : lows w₀ left t.done ≡ lows w₀ 0 n = ap (λ (j : ℕ). lows w₀ j t.done) e ∙ ap (lows w₀ 0) d in
     record { chain = subst (Chain w next) ls t.chain; kept = λ m z. t.kept m (ap (times m) ls ∙ z); long = t.long }
+
+pub ruleset threading_rules = (threading-more)

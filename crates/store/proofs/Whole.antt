@@ -137,3 +137,5 @@ checked-some w = go (sound_b w)
     go : (t : Bool) → is_some (if t then Some (worn w) else None) ≡ t
     go true = refl
     go false = refl
+
+pub ruleset whole_rules = (checked-some)

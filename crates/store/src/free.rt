@@ -28,6 +28,7 @@ use model::Limits;
 use run_index::Node;
 
 // Makes each of n nodes free, in order, and returns the head of the chain.
+#[tactic(auto, using(crate::proofs::Making::freeing))]
 fn free_all(nodes: &mut [u64], n: u64) -> u64
     requires { length nodes.old ≡ 8 * (n + 1) }
     ensures { Chained nodes.old nodes.new n result }
@@ -152,6 +153,7 @@ pub fn resize_run(words: &mut [u64], x: Links, k: u64, l: u64, start: u64, end: 
 }
 
 // Makes every node of the tree free.
+#[tactic(auto, using(crate::proofs::Freeing::given_back))]
 pub fn give_back(words: &mut [u64], x: Links) -> Links
     requires { Keepable words.old x }
     ensures { GivesBack words.old words.new x result }

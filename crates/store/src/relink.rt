@@ -12,6 +12,7 @@ use run_index::Node;
 
 // Makes node k the first of the chain that goes on at `next`, if it is free, and returns the first one then. A free node has height 0, and a
 // node of a tree has not.
+#[tactic(auto, using(run_index::proofs::Trees::wrote_as))]
 fn thread(nodes: &mut [u64], k: u64, next: u64) -> u64
     requires { Room nodes.old k }
     ensures { Threads nodes.old nodes.new k next result }
@@ -25,6 +26,7 @@ fn thread(nodes: &mut [u64], k: u64, next: u64) -> u64
 }
 
 // Strings the free ones of n nodes together, in the order in which they lie, and returns the head of the chain.
+#[tactic(auto, using(crate::proofs::Threading::threading_rules))]
 fn thread_all(nodes: &mut [u64], n: u64) -> u64
     requires { length nodes.old ≡ 8 * (n + 1) }
     ensures { Threaded nodes.old nodes.new n result }

@@ -122,6 +122,7 @@ fn heights_fit(h: u64, h1: u64, h2: u64) -> bool
 
 // The tests of a node by itself, but for its height: its run against the bounds, its words for runs and ones against those of its two sides
 // and its own run.
+#[tactic(auto, using(std::proofs::lemmas::Bool::Decides::nat_tests), unfolding(crate::specs::Decision::run_b, crate::specs::Decision::within_b, crate::specs::Decision::words_b, crate::specs::Decision::sums_b))]
 fn words_fit(v: Node, x: Node, y: Node, bounds: Bounds) -> bool
     ensures { result ≡ words_b v x y bounds.tag bounds.low (bounds.high + 1) }
 {
@@ -135,6 +136,7 @@ fn words_fit(v: Node, x: Node, y: Node, bounds: Bounds) -> bool
 }
 
 // The same with its height.
+#[tactic(auto, using(std::proofs::lemmas::Bool::Decides::nat_tests), unfolding(crate::specs::Decision::words_b, crate::specs::Decision::cell_b, crate::specs::Decision::agrees_b))]
 fn node_fits(v: Node, x: Node, y: Node, bounds: Bounds) -> bool
     requires { 2 ≤ v.height }
     ensures { result ≡ cell_b v x y bounds.tag bounds.low (bounds.high + 1) }
@@ -143,6 +145,7 @@ fn node_fits(v: Node, x: Node, y: Node, bounds: Bounds) -> bool
 }
 
 // Whether a node fits the bounds as a leaf: its height is 1, and it has no links.
+#[tactic(auto, using(std::proofs::lemmas::Bool::Decides::nat_tests), unfolding(crate::specs::Decision::within_b, crate::specs::Decision::leaf_b, crate::specs::Decision::run_b))]
 fn leaf_fits(v: Node, bounds: Bounds) -> bool
     ensures { result ≡ (v.height == 1 && leaf_b v bounds.tag bounds.low (bounds.high + 1)) }
 {
@@ -196,6 +199,7 @@ fn twig_fits(words: &[u64], v: Node, bounds: Bounds) -> bool
 }
 
 // The same of a node of height 2 at most.
+#[tactic(auto, using(crate::proofs::Steps::leaf_rules))]
 fn low_fits(words: &[u64], v: Node, bounds: Bounds) -> bool
     requires { v.height ≤ 2 }
     ensures { TellsNode words.now v bounds result }
@@ -252,6 +256,7 @@ fn names(words: &[u64], link: u64) -> bool
 }
 
 // Whether a node is free: it is a node, and all its words but the link are 0.
+#[tactic(auto, using(std::proofs::lemmas::Bool::Decides::nat_tests), unfolding(crate::specs::Decision::free_b, crate::specs::Decision::inside_b, crate::specs::Decision::zeros_b))]
 fn node_is_free(words: &[u64], link: u64) -> bool
     ensures { result ≡ free_b words.now link }
 {
@@ -267,6 +272,7 @@ fn node_is_free(words: &[u64], link: u64) -> bool
 
 // Where n links from a node lead, or the first node on the way that is not free. It stops there and returns no None: nothing leads on from there,
 // so a chain that breaks off does not fit; and with a None the loop takes a tenth more instructions.
+#[tactic(auto, using(crate::proofs::Strides::along_rules))]
 fn along(words: &[u64], link: u64, n: u64) -> u64
     ensures { result ≡ along_of n words.now link }
 {
@@ -326,6 +332,7 @@ fn world_fits(words: &[u64], h: World) -> bool
 }
 
 // How worn the free chain from `free` is, if of n nodes the trees have `runs`, and the others are that chain.
+#[tactic(auto, using(std::proofs::lemmas::Bool::Decides::nat_tests), unfolding(crate::specs::Decision::rest_of, crate::specs::Decision::rest_b, crate::specs::Decision::chain_of))]
 fn rest_fits(words: &[u64], n: u64, runs: u64, free: u64) -> Option<u64>
     ensures { result ≡ rest_of words.now n runs free }
 {
@@ -391,6 +398,7 @@ fn runs_counted(words: &[u64], n: u64) -> Option<u64>
 }
 
 // Whether the records of worlds n and above are zeros.
+#[tactic(auto, using(std::proofs::lemmas::Bool::Decides::nat_tests, crate::proofs::Records::unopened_rules), unfolding(crate::specs::Decision::nothing_b))]
 fn unopened_fit(words: &[u64], n: u64) -> bool
     requires in_bounds { 8 * 17 ≤ length words.now }
     requires n_le_most_worlds { n ≤ most_worlds }
@@ -418,6 +426,7 @@ pub fn check(words: &[u64]) -> Option<u64>
 }
 
 // Whether words of a pool's length are a sound pool.
+#[tactic(auto, using(crate::proofs::Whole::whole_rules))]
 pub fn is_sound(words: &[u64]) -> bool
     requires { 1 ≤ capacity words.now }
     ensures { result ≡ sound_b words.now }
