@@ -1,7 +1,9 @@
 -- What `world_fits` returns, by the tests that led there: each that fails is a part of the definition that fails. The positions of a world are
 -- those of the tree at its root, turned by its offset, so what `bounds` tells of the tree is what the world has to say. Assumes nothing.
 use Rattle.std.proofs.Common.{◌≡◌, ℕ, ◌<◌, ◌≤◌, Bool, true, false, not, ◌&&◌, ◌||◌, eqb, List, sym, ap, ◌∙◌, arith}
+use Rattle.model.specs.declared.Run.{Run}
 use Rattle.model.specs.Numbers.{size}
+use Rattle.model.proofs.Edit.{and-holds}
 use Rattle.model.specs.Positions.{Positions, held_runs}
 use Rattle.run_index.specs.declared.Node.{Node}
 use Rattle.run_index.specs.Cells.{Room}
@@ -16,28 +18,31 @@ use Rattle.store.proofs.Truths.{never, is_false}
 use Rattle.store.proofs.Steps.{inside-linked}
 use Rattle.store.proofs.Reached.{tree-seen}
 use Rattle.store.proofs.Hanging.{Hangs, hangs-index}
-use Rattle.store.proofs.Decided.{below-sums, tree-yes, hangs-walked, world_b-yes}
+use Rattle.store.proofs.Decided.{below-sums, tree-yes, hangs-walked}
 
 module _ (w : List ℕ) (h : World) where
+  -- the walk of its root is one of its tests
+  walked : world_b w h ≡ true → tree_b 22 w h.tag h.root 0 size ≡ true
+  unfolding world_b
+  walked e = (and-holds _ _ e).0
+
   -- a test that fails
   refused : (world_b w h ≡ true → ⊥) → false ≡ world_b w h
   refused f = sym (is_false (world_b w h) f)
 
   -- the root is no node
   pub root-outside : Room w 0 → (b : Bool) → b ≡ inside_b w h.root → b ≡ false → false ≡ world_b w h
-  root-outside room b eb t =
-      refused (λ e.
-      never (sym (sym eb ∙ t) ∙ inside-linked 22 w h.tag h.root 0 size room (hangs-walked (world_b-yes w h e).tree)))
+  root-outside room b eb t = refused (λ e. never (sym (sym eb ∙ t) ∙ inside-linked 22 w h.tag h.root 0 size room (walked e)))
 
   module _ (v : Node) (ev : v ≡ below_of w h.root) where
-    -- the root's words tell of the tree
-    root-sums : (T : Hangs 22 w h.tag h.root 0 size) → Sums v T.t
-    root-sums T = rw ev (below-sums w h.tag h.root T.t T.at)
-
     -- the tree is too high
     pub root-high : 22 < v.height → false ≡ world_b w h
     root-high lt =
-        refused (λ e. let T = (world_b-yes w h e).tree in let s = root-sums T in let l = T.low in omega (arith, s.height-is))
+        refused (λ e.
+        let T = tree-yes 22 w h.tag h.root 0 size (walked e) in
+        let l = T.low in
+        let s : Sums v T.t = rw ev (below-sums w h.tag h.root T.t T.at) in
+        omega (arith, s.height-is))
 
     module _ (low : v.height ≤ 22) (b : Bool) (eb : Tells w (record { tag = h.tag; low = 0; high = 18446744073709551615 }) h.root b) where
       -- what the walk of the root says
@@ -46,7 +51,7 @@ module _ (w : List ℕ) (h : World) where
 
       -- it refuses
       pub tree-fails : b ≡ false → false ≡ world_b w h
-      tree-fails t = refused (λ e. never (sym (sym root-walked ∙ t) ∙ hangs-walked (world_b-yes w h e).tree))
+      tree-fails t = refused (λ e. never (sym (sym root-walked ∙ t) ∙ walked e))
 
       -- it accepts
       pub tree-passes : b ≡ true → Hangs 22 w h.tag h.root 0 size
@@ -57,19 +62,13 @@ module _ (w : List ℕ) (h : World) where
     pub indexed : Indexed w h.root
     indexed = (h.tag, T.t, hangs-index T)
 
-    -- its set has the world's positions, of which `bounds` tells the first
-    first-told : (z : Set) → z ≡ record { runs = runs_from w h.root; offset = h.offset } → (r : ℕ) → r ≡ first_of (held_runs (held z))
-        → r ≡ first_of (held_runs (held_in w h))
-    first-told z of r e = e ∙ ap (λ (P : Positions). first_of (held_runs P)) (ap held of ∙ tree-seen h.offset (hangs-index T) T.low)
-
-    -- and the last
-    last-told : (z : Set) → z ≡ record { runs = runs_from w h.root; offset = h.offset } → (r : ℕ) → r ≡ last_of (held_runs (held z))
-        → r ≡ last_of (held_runs (held_in w h))
-    last-told z of r e = e ∙ ap (λ (P : Positions). last_of (held_runs P)) (ap held of ∙ tree-seen h.offset (hangs-index T) T.low)
+    -- its set has the world's positions, of which `bounds` returns the first and the last, g
+    told : (g : List Run → ℕ) (z : Set) → z ≡ record { runs = runs_from w h.root; offset = h.offset } → (r : ℕ) → r ≡ g (held_runs (held z)) → r ≡ g (held_runs (held_in w h))
+    told g z of r e = e ∙ ap (λ (P : Positions). g (held_runs P)) (ap held of ∙ tree-seen h.offset (hangs-index T) T.low)
 
     -- so what is left to test are the sums, the bounds and the offset
     pub world-is : (v : Node) → v ≡ below_of w h.root → (z : Set) → z ≡ record { runs = runs_from w h.root; offset = h.offset }
         → (f : ℕ) → f ≡ first_of (held_runs (held z)) → (l : ℕ) → l ≡ last_of (held_runs (held z))
         → world_b w h ≡ (eqb h.ones v.ones && (eqb h.runs v.runs && (eqb h.first f && (eqb h.last l && (not (eqb h.root 0) || eqb h.offset 0)))))
     unfolding world_b
-    world-is v ev z of f tf l tl = rw (hangs-walked T, ← ev, ← first-told z of f tf, ← last-told z of l tl)
+    world-is v ev z of f tf l tl = rw (hangs-walked T, ← ev, ← told first_of z of f tf, ← told last_of z of l tl)

@@ -3,7 +3,9 @@
 use Rattle.std.proofs.Common.{◌≡◌, ℕ, zero, suc, ◌+◌, ◌-◌, ◌≤◌, max, Bool, true, false, not, ◌||◌, eqb, List, sym, refl, ◌∙◌, subst, arith, eq-eqb, eqb-true}
 use native.Mathlib.Decide.{ℕ_discrete}
 use Rattle.model.specs.Numbers.{size}
+use Rattle.model.specs.Positions.{held_runs}
 use Rattle.model.specs.RunList.{Canon}
+use Rattle.std.proofs.lemmas.Bool.Decides.{nat_tests}
 use Rattle.model.proofs.Edit.{and-holds}
 use Rattle.run_index.specs.declared.Node.{Node}
 use Rattle.run_index.specs.Cells.{cell_at}
@@ -11,12 +13,14 @@ use Rattle.run_index.specs.Tree.{Tree, leaf, node, link, height, runs, ones, ino
 use Rattle.run_index.proofs.Words.{same-node}
 use Rattle.run_index.proofs.Trees.{rep_pos, rep-room, rep-cell, rep-left, rep-right, sums-leaf, sums-node}
 use Rattle.store.specs.declared.World.{World}
+use Rattle.store.specs.Layout.{held_in}
+use Rattle.store.specs.Soundness.{first_of, last_of, Planted}
 use Rattle.store.specs.Decision.{inside_b, below_of, agrees_b, cell_b, tree_b, world_b}
 use Rattle.store.proofs.Truths.{never, both-in}
 use Rattle.store.proofs.Tests.{inside-out, inside-in, below_none, below-some, Within, run_out, run_in, heights-out, heights-in, sums-out, sums-in}
-use Rattle.store.proofs.Steps.{cell_out, tree-none, tree-node}
-use Rattle.store.proofs.Orders.{About, canon-out, canon-in}
-use Rattle.store.proofs.Hanging.{Hangs, Fitting}
+use Rattle.store.proofs.Steps.{Fits, cell_out, tree-none, tree-node}
+use Rattle.store.proofs.Orders.{About, canon-out, canon-in, distinct}
+use Rattle.store.proofs.Hanging.{Hangs}
 
 -- ---- trees
 -- the words at a link tell the height and the sums of the tree there
@@ -32,54 +36,32 @@ empty : (d : ℕ) (w : List ℕ) (g lo total : ℕ) → Hangs d w g 0 lo total
 empty d w g lo total = record { t = leaf; at = record { rep = rep-leaf; linked = refl }; ordered = tt; balanced = tt; low = omega arith }
 
 -- two trees and a node make a tree
-module _ (d : ℕ) (w : List ℕ) (g n lo total : ℕ) (v : Node) (is : v ≡ cell_at w n) (pos : 1 ≤ n) (inside : inside_b w n ≡ true)
-    (own : cell_b v (below_of w v.left) (below_of w v.right) g lo total ≡ true) (L : Hangs d w g v.left lo (v.start - 1)) (R : Hangs d w g v.right (v.«end» + 2) total) where
-  -- its run lies within the bounds
-  within : Within v.start v.«end» v.tag g lo total
-  within = run_out _ _ _ g lo total (cell_out v (below_of w v.left) (below_of w v.right) g lo total own).run_fits
-
-  -- its height and its balance
-  tall : (v.height ≡ 1 + max (height L.t) (height R.t)) × (height L.t ≤ height R.t + 1) × (height R.t ≤ height L.t + 1)
-  tall =
-      let x = below-sums w g v.left L.t L.at in
-      let y = below-sums w g v.right R.t R.at in
-      rw (x.height-is, y.height-is) at (heights-out v.height (below_of w v.left).height (below_of w v.right).height (cell_out v (below_of w v.left) (below_of w v.right) g lo total own).heights-fit)
-
-  -- its sums
-  summed : (v.runs ≡ runs L.t + runs R.t + 1) × (v.ones ≡ ones (node n v.start v.«end» L.t R.t))
-  summed =
-      let x = below-sums w g v.left L.t L.at in
-      let y = below-sums w g v.right R.t R.at in
-      rw (x.runs-is, y.runs-is, x.ones_is, y.ones_is) at
-      (sums-out v.runs (below_of w v.left).runs (below_of w v.right).runs v.ones (below_of w v.left).ones
-      (below_of w v.right).ones v.start v.«end» (cell_out v (below_of w v.left) (below_of w v.right) g lo total own).sums-fit)
-
-  -- together they are a tree at n
-  joined : Hangs (suc d) w g n lo total
-  joined =
-      let i = within in
-      let h = tall in
-      let s = summed in
-      let hl = L.low in
-      let hr = R.low in
-      record {
-        t = node n v.start v.«end» L.t R.t;
-        at = record {
-          rep = rep-node pos (inside-out w n inside) i.ordered
-              (sym is ∙ same-node v (cell v.start v.«end» L.t R.t g) refl refl (sym L.at.linked) (sym R.at.linked) h.0 s.0 s.1 i.tagged)
-              L.at.rep R.at.rep;
-          linked = refl;
-        };
-        ordered = canon-in total lo (inorder L.t) v.start v.«end» (inorder R.t) (record {
-          before = L.ordered;
-          above = i.above;
-          ordered = i.ordered;
-          under = i.under;
-          after = R.ordered;
-        });
-        balanced = (h.1, h.2, L.balanced, R.balanced);
-        low = omega arith;
-      }
+joined : (d : ℕ) (w : List ℕ) (g n lo total : ℕ) {v : Node} → v ≡ cell_at w n → 1 ≤ n → inside_b w n ≡ true → Fits v (below_of w v.left) (below_of w v.right) g lo total
+    → Hangs d w g v.left lo (v.start - 1) → Hangs d w g v.right (v.«end» + 2) total → Hangs (suc d) w g n lo total
+joined d w g n lo total {v} is pos inside own L R =
+    let x = below-sums w g v.left L.t L.at in
+    let y = below-sums w g v.right R.t R.at in
+    let i = run_out _ _ _ g lo total own.run_fits in
+    let h = heights-out v.height (height L.t) (height R.t) (rw (x.height-is, y.height-is) at own.heights-fit) in
+    let s = sums-out v.runs (runs L.t) (runs R.t) v.ones (ones L.t) (ones R.t) v.start v.«end» (rw (x.runs-is, y.runs-is, x.ones_is, y.ones_is) at own.sums-fit) in
+    record {
+      t = node n v.start v.«end» L.t R.t;
+      at = record {
+        rep = rep-node pos (inside-out w n inside) i.ordered
+            (sym is ∙ same-node v (cell v.start v.«end» L.t R.t g) refl refl (sym L.at.linked) (sym R.at.linked) h.0 s.0 s.1 i.tagged)
+            L.at.rep R.at.rep;
+        linked = refl;
+      };
+      ordered = canon-in total lo (inorder L.t) v.start v.«end» (inorder R.t) (record {
+        before = L.ordered;
+        above = i.above;
+        ordered = i.ordered;
+        under = i.under;
+        after = R.ordered;
+      });
+      balanced = (h.1, h.2, L.balanced, R.balanced);
+      low = omega (arith, h.0, L.low, R.low);
+    }
 
 -- where the walk accepts a link a tree hangs
 pub tree-yes : (d : ℕ) (w : List ℕ) (g k lo total : ℕ) → tree_b d w g k lo total ≡ true → Hangs d w g k lo total
@@ -90,7 +72,7 @@ tree-yes (suc d) w g (suc n) lo total e =
     let p = and-holds _ _ e in
     let q = and-holds _ _ p.1 in
     let r = and-holds _ _ q.1 in
-    joined d w g (suc n) lo total (cell_at w (suc n)) refl (omega arith) p.0 q.0
+    joined d w g (suc n) lo total refl (omega arith) p.0 (cell_out _ _ _ g lo total q.0)
     (tree-yes d w g (cell_at w (suc n)).left lo ((cell_at w (suc n)).start - 1) r.0)
     (tree-yes d w g (cell_at w (suc n)).right ((cell_at w (suc n)).«end» + 2) total r.1)
 
@@ -110,69 +92,56 @@ own-tests w g n a b lo total l r h A bl br =
 pub tree-no : (w : List ℕ) (g : ℕ) (t : Tree) (d k lo total : ℕ) → At w g k t → Canon total lo (inorder t) → Balanced t → height t ≤ d
     → tree_b d w g k lo total ≡ true
 tree-no w g leaf d k lo total h c b le = tree-none d w g k lo total (sym h.linked)
-tree-no w g (node n s e l r) d k lo total h c b le =
+tree-no w g (node n s e l r) zero k lo total h c b le = absurd (omega arith)
+tree-no w g (node n s e l r) (suc d) k lo total h c b le =
     let A = canon-out total lo (inorder l) s e (inorder r) c in
-    let is : cell_at w n ≡ cell s e l r g = rep-cell h.rep in
-    let kn : k ≡ n = sym h.linked in
-    let pos : 1 ≤ n = rep_pos h.rep in
-    let nz : n ≡ 0 → ⊥ = λ z. omega arith in
-    rw kn (tree-node d w g n lo total (cell s e l r g) (sym is ∙ below-some w n nz) nz (omega arith)
-    ∙ both-in _ _ (inside-in w n (rep-room h.rep))
-    (both-in _ _ (own-tests w g n s e lo total l r h.rep A b.0 b.1)
-    (both-in _ _
-    (tree-no w g l (d - 1) (link l) lo (s - 1) (record { rep = rep-left h.rep; linked = refl }) A.before b.2 (omega arith))
-    (tree-no w g r (d - 1) (link r) (e + 2) total (record { rep = rep-right h.rep; linked = refl }) A.after b.3 (omega arith)))))
+    let nz : n ≡ 0 → ⊥ = λ z. omega (arith, rep_pos h.rep) in
+    rw (sym h.linked) (tree-node d w g n lo total (sym (rep-cell h.rep) ∙ below-some w n nz) nz
+    ∙ rw (inside-in w n (rep-room h.rep),
+    own-tests w g n s e lo total l r h.rep A b.0 b.1,
+    tree-no w g l d (link l) lo (s - 1) (record { rep = rep-left h.rep; linked = refl }) A.before b.2 (omega arith),
+    tree-no w g r d (link r) (e + 2) total (record { rep = rep-right h.rep; linked = refl }) A.after b.3 (omega arith)) refl)
 
 -- as a tree that hangs
 pub hangs-walked : {d : ℕ} {w : List ℕ} {g k lo total : ℕ} → Hangs d w g k lo total → tree_b d w g k lo total ≡ true
 hangs-walked {d} {w} {g} {k} {lo} {total} T = tree-no w g T.t d k lo total T.at T.ordered T.balanced T.low
 
 -- ---- one world
--- either of two tests
-either-out : (a b : Bool) → (not a || b) ≡ true → a ≡ true → b ≡ true
-either-out true b e p = e
-either-out false b e p = never p
-
--- and back
-either-in : (a b : Bool) → (a ≡ true → b ≡ true) → (not a || b) ≡ true
-either-in true b h = h refl
-either-in false b h = refl
-
 -- an offset that fits
-pub offset-out : (k o : ℕ) → (not (eqb k 0) || eqb o 0) ≡ true → k ≡ 0 → o ≡ 0
-offset-out k o e z = eqb-true _ _ (either-out (eqb k 0) (eqb o 0) e (eq-eqb _ _ z))
+offset-out : (k o : ℕ) → (not (eqb k 0) || eqb o 0) ≡ true → k ≡ 0 → o ≡ 0
+offset-out k o e z = grind (arith, nat_tests)
 
 -- and back
-pub offset-in : (k o : ℕ) → (k ≡ 0 → o ≡ 0) → (not (eqb k 0) || eqb o 0) ≡ true
-offset-in k o f = either-in (eqb k 0) (eqb o 0) (λ e. eq-eqb _ _ (f (eqb-true _ _ e)))
+offset-in : (k o : ℕ) → (k ≡ 0 → o ≡ 0) → (not (eqb k 0) || eqb o 0) ≡ true
+offset-in k o f = grind (arith, nat_tests)
 
 -- what the tests of a world say
-pub world_b-yes : (w : List ℕ) (h : World) → world_b w h ≡ true → Fitting w h
+pub world_b-yes : (w : List ℕ) (h : World) → world_b w h ≡ true → Planted w h
 unfolding world_b
 world_b-yes w h e =
     let a = and-holds _ _ e in
-    let b = and-holds _ _ a.1 in
-    let c = and-holds _ _ b.1 in
-    let d = and-holds _ _ c.1 in
-    let f = and-holds _ _ d.1 in
     let T = tree-yes 22 w h.tag h.root 0 size a.0 in
     let S = below-sums w h.tag h.root T.t T.at in
+    let b : (h.ones ≡ (below_of w h.root).ones) × (h.runs ≡ (below_of w h.root).runs) × (h.first ≡ first_of (held_runs (held_in w h)))
+        × (h.last ≡ last_of (held_runs (held_in w h))) × ((not (eqb h.root 0) || eqb h.offset 0) ≡ true) = grind (arith, nat_tests, a.1) in
     record {
-      tree = T;
-      ones-are = eqb-true _ _ b.0 ∙ S.ones_is;
-      runs-are = eqb-true _ _ c.0 ∙ S.runs-is;
-      first-is = eqb-true _ _ d.0;
-      last-is = eqb-true _ _ f.0;
-      empty-offset = offset-out h.root h.offset f.1;
+      tree = T.t;
+      linked = T.at;
+      once = distinct w h.tag T.t 0 size T.at.rep T.ordered;
+      ordered = T.ordered;
+      balanced = T.balanced;
+      low = T.low;
+      ones-are = b.0 ∙ S.ones_is;
+      runs-are = b.1 ∙ S.runs-is;
+      first-is = b.2;
+      last-is = b.3;
+      empty-offset = offset-out h.root h.offset b.4;
     }
 
 -- and back
-pub world_b-no : (w : List ℕ) (h : World) → Fitting w h → world_b w h ≡ true
+pub world_b-no : (w : List ℕ) (h : World) → Planted w h → world_b w h ≡ true
 unfolding world_b
-world_b-no w h F =
-    let S = below-sums w h.tag h.root F.tree.t F.tree.at in
-    both-in _ _ (hangs-walked F.tree)
-    (both-in _ _ (eq-eqb _ _ (F.ones-are ∙ sym S.ones_is))
-    (both-in _ _ (eq-eqb _ _ (F.runs-are ∙ sym S.runs-is))
-    (both-in _ _ (eq-eqb _ _ F.first-is)
-    (both-in _ _ (eq-eqb _ _ F.last-is) (offset-in h.root h.offset F.empty-offset)))))
+world_b-no w h P =
+    let S = below-sums w h.tag h.root P.tree P.linked in
+    rw (tree-no w h.tag P.tree 22 h.root 0 size P.linked P.ordered P.balanced P.low, eq-eqb _ _ (P.ones-are ∙ sym S.ones_is), eq-eqb _ _ (P.runs-are ∙ sym S.runs-is), eq-eqb _ _ P.first-is, eq-eqb _ _ P.last-is)
+    (offset-in h.root h.offset P.empty-offset)

@@ -7,6 +7,7 @@ use native.Mathlib.Decide.{ℕ_discrete}
 use Rattle.model.specs.Numbers.{most_worlds}
 use Rattle.model.specs.Positions.{stretches, mem}
 use Rattle.model.specs.Pools.{claim, claims}
+use Rattle.std.proofs.lemmas.Bool.Decides.{nat_tests}
 use Rattle.model.proofs.Edit.{and-holds}
 use Rattle.store.specs.declared.layout.Record.{Record}
 use Rattle.run_index.specs.Tree.{runs}
@@ -24,34 +25,28 @@ use Rattle.store.proofs.Sums.{sum_more, sum-nothing, sum-cong, sum-front}
 use Rattle.store.proofs.WorldLists.{claims-first}
 use Rattle.store.proofs.Truths.{never, is_false, both-in}
 use Rattle.store.proofs.Reached.{tree-seen}
-use Rattle.store.proofs.Hanging.{Fitting, hangs-index, low-runs, fits-planted}
+use Rattle.store.proofs.Hanging.{low-runs}
+use Rattle.store.proofs.Worlds.{claim_at, planted-indexed, planted-counted, runs-told}
 use Rattle.store.proofs.Decided.{world_b-yes, world_b-no}
 use Rattle.store.proofs.Sharing.{tree-planted}
 
 -- ---- one world
 -- its tree and its record fit, and it keeps its limits
 pub record Placed (w : List ℕ) (k : ℕ) : Type 0 where
-  pub fitting : Fitting (nodes w) (world_at w k)
+  pub fitting : Planted (nodes w) (world_at w k)
   pub limited : KeepsLimits w k
 
 -- what its tests say
 place_out : (w : List ℕ) (k : ℕ) → place_b w k ≡ true → Placed w k
 unfolding place_b
 place_out w k e =
-    let a = and-holds (world_b (nodes w) (world_at w k)) _ e in
-    let b = and-holds (leb (floor_at w k) (ceiling_at w k)) (leb (stretches (held_by w k)) (ceiling_at w k)) a.1 in
-    record { fitting = world_b-yes (nodes w) (world_at w k) a.0; limited = record { limits = leb-true _ _ b.0; ceiling = leb-true _ _ b.1 } }
+    let a : (world_b (nodes w) (world_at w k) ≡ true) × (floor_at w k ≤ ceiling_at w k) × (stretches (held_by w k) ≤ ceiling_at w k) = grind (arith, nat_tests) in
+    record { fitting = world_b-yes (nodes w) (world_at w k) a.0; limited = record { limits = a.1; ceiling = a.2 } }
 
 -- and back
 place_in : (w : List ℕ) (k : ℕ) → Placed w k → place_b w k ≡ true
 unfolding place_b
-place_in w k P =
-    both-in (world_b (nodes w) (world_at w k)) _ (world_b-no (nodes w) (world_at w k) P.fitting)
-    (both-in _ _ (le-leb _ _ P.limited.limits) (le-leb _ _ P.limited.ceiling))
-
--- what world k claims
-abbrev claim_at : List ℕ → ℕ → ℕ
-claim_at w k = claim (plain_at w k)
+place_in w k P = rw (world_b-no (nodes w) (world_at w k) P.fitting, le-leb _ _ P.limited.limits, le-leb _ _ P.limited.ceiling) refl
 
 -- nothing is told of a world that does not fit
 unplaced : (w : List ℕ) (k : ℕ) → (Placed w k → ⊥) → None ≡ place_of w k
@@ -63,87 +58,27 @@ placed-is : (w : List ℕ) (k : ℕ) → Placed w k → Some (record { claim = c
 unfolding place_of
 placed-is w k P = rw (place_in w k P)
 
--- its positions are those in its nodes
-held-world : (w : List ℕ) (k : ℕ) → held_in (nodes w) (world_at w k) ≡ held_by w k
-unfolding held_by
-held-world w k = refl
+-- a world that was read, and the test of its tree and its record
+module _ (w : List ℕ) (k : ℕ) {h : World} (eh : h ≡ world_at w k) {b : Bool} (eb : b ≡ world_b (lent w) h) where
+  -- the test is the definition's
+  pub world-told : b ≡ world_b (nodes w) (world_at w k)
+  world-told = eb ∙ ap (λ l. world_b l h) (lent-nodes w) ∙ ap (world_b (nodes w)) eh
 
-module _ (w : List ℕ) (k : ℕ) (v : Record) (ev : v ≡ record_at w k) where
-  -- its limits
-  floor-is : v.floor ≡ floor_at w k
-  floor-is = ap (λ (u : Record). u.floor) ev
+  module _ (t : b ≡ true) where
+    world-fitting : Planted (nodes w) (world_at w k)
+    world-fitting = world_b-yes (nodes w) (world_at w k) (sym world-told ∙ t)
 
-  ceiling-is : v.ceiling ≡ ceiling_at w k
-  ceiling-is = ap (λ (u : Record). u.ceiling) ev
-
-  -- the floor is above the ceiling
-  pub limits-fail : v.ceiling < v.floor → None ≡ place_of w k
-  limits-fail lt = unplaced w k (λ P. omega (arith, P.limited.limits, floor-is, ceiling-is))
-
--- a world that fits, as it was read
-module _ (w : List ℕ) (k : ℕ) (F : Fitting (nodes w) (world_at w k)) (h : World) (eh : h ≡ world_at w k) where
-  -- its record counts the runs of its tree
-  pub runs-counted : h.runs ≡ length (runs_from (lent w) h.root)
-  runs-counted =
-      subst (λ (x : World). x.runs ≡ length (runs_from (lent w) x.root)) (sym eh)
-      (subst (λ (l : List ℕ). (world_at w k).runs ≡ length (runs_from l (world_at w k).root)) (sym (lent-nodes w))
-      (F.runs-are ∙ runs-length F.tree.t ∙ ap length (sym (index-runs (hangs-index F.tree)))))
-
-  -- it can be searched
-  pub world-indexed : Indexed (lent w) h.root
-  world-indexed =
-      subst (λ (x : World). Indexed (lent w) x.root) (sym eh)
-      (subst (λ (l : List ℕ). Indexed l (world_at w k).root) (sym (lent-nodes w)) (k, F.tree.t, hangs-index F.tree))
-
-  -- what `bounds` tells of its logical runs
-  pub runs-told : (n : ℕ) → n ≡ stretches (turned h.offset (mem (runs_from (lent w) h.root))) → n ≡ stretches (held_by w k)
-  runs-told n e =
-      e ∙ ap (λ (l : List ℕ). stretches (turned h.offset (mem (runs_from l h.root)))) (lent-nodes w)
-      ∙ ap (λ (x : World). stretches (turned x.offset (mem (runs_from (nodes w) x.root)))) eh
-      ∙ ap stretches (tree-seen (world_at w k).offset (hangs-index F.tree) F.tree.low ∙ held-world w k)
-
-module _ (w : List ℕ) (k : ℕ) (h : World) (eh : h ≡ world_at w k) (b : Bool) (eb : b ≡ world_b (lent w) h) where
-  -- the test of its tree and its record is the definition's
-  world_is : b ≡ world_b (nodes w) (world_at w k)
-  world_is = eb ∙ ap (λ l. world_b l h) (lent-nodes w) ∙ ap (world_b (nodes w)) eh
-
-  -- these do not fit
-  pub world-fails : b ≡ false → None ≡ place_of w k
-  world-fails t = unplaced w k (λ P. never (sym t ∙ world_is ∙ world_b-no (nodes w) (world_at w k) P.fitting))
-
-  module _ (tb : b ≡ true) where
-    -- these do
-    world-fitting : Fitting (nodes w) (world_at w k)
-    world-fitting = world_b-yes (nodes w) (world_at w k) (sym world_is ∙ tb)
-
-    -- so the record counts the runs of the tree
+    -- where it passes the record counts the runs of the tree
     pub world-counted : h.runs ≡ length (runs_from (lent w) h.root)
-    world-counted = runs-counted w k world-fitting h eh
+    world-counted = planted-counted w k world-fitting h eh
 
-    -- and can be searched
+    -- which can be searched
     pub world-seen : Indexed (lent w) h.root
-    world-seen = world-indexed w k world-fitting h eh
+    world-seen = planted-indexed w k world-fitting h eh
 
-    -- the number of logical runs decides, if the floor is not above the ceiling
-    module _ (v : Record) (ev : v ≡ record_at w k) (le : v.floor ≤ v.ceiling) (z : Set) (of : z ≡ record { runs = runs_from (lent w) h.root; offset = h.offset })
-        (n : ℕ) (tn : n ≡ stretches (held z)) where
-      -- what it counts
-      many-are : n ≡ stretches (held_by w k)
-      many-are = runs-told w k world-fitting h eh n (tn ∙ ap (λ (s : Set). stretches (held s)) of)
-
-      -- there are too many
-      pub runs-fail : v.ceiling < n → None ≡ place_of w k
-      runs-fail over = unplaced w k (λ P. omega (arith, P.limited.ceiling, many-are, ceiling-is w k v ev))
-
-      -- there are not; the larger of it and the floor is what the world claims
-      pub runs_fit : n ≤ v.ceiling → (c : ℕ) → c ≡ max n v.floor → Some (record { claim = c; runs = h.runs }) ≡ place_of w k
-      runs_fit few c ec =
-          let P : Placed w k = record {
-            fitting = world-fitting;
-            limited = record { limits = omega (arith, floor-is w k v ev, ceiling-is w k v ev); ceiling = omega (arith, many-are, ceiling-is w k v ev) };
-          } in
-          ap₂ (λ (c r : ℕ). Some (record { claim = c; runs = r })) (ec ∙ ap₂ max many-are (floor-is w k v ev)) (ap (λ (x : World). x.runs) eh)
-          ∙ placed-is w k P
+    -- and tells how many logical runs there are
+    pub many-are : {z : Set} {n : ℕ} → z ≡ record { runs = runs_from (lent w) h.root; offset = h.offset } → n ≡ stretches (held z) → n ≡ stretches (held_by w k)
+    many-are {z} {n} of tn = runs-told w k world-fitting h n eh (tn ∙ ap (λ (s : Set). stretches (held s)) of)
 
 -- what is told of a world that fits
 record Told (w : List ℕ) (k : ℕ) (p : Place) : Type 0 where
@@ -181,10 +116,6 @@ unfolding worlds_b
 worlds-in w zero h = refl
 worlds-in w (suc n) h = both-in (worlds_b w n) (place_b w n) (worlds-in w n (λ k l. h k (omega arith))) (place_in w n (h n (omega arith)))
 
--- the tree of a world that fits is planted
-pub place-planted : (w : List ℕ) (k : ℕ) → Placed w k → Planted (nodes w) (world_at w k)
-place-planted w k P = fits-planted P.fitting
-
 -- the runs that their records tell are those of their trees
 pub told-runs : (w : List ℕ) (n : ℕ) → ((k : ℕ) → k < n → Planted (nodes w) (world_at w k)) → told_runs w n ≡ sum_to n (runs_at w)
 told-runs w n h = sum-cong n (λ k. (world_at w k).runs) (runs_at w) (λ k l. (h k l).runs-are ∙ sym (ap runs (tree-planted w k (h k l))))
@@ -194,7 +125,7 @@ told-few : (w : List ℕ) (n : ℕ) → ((k : ℕ) → k < n → Placed w k) →
 told-few w zero h = omega (arith, sum-nothing (λ k. (world_at w k).runs))
 told-few w (suc n) h =
     let F = (h n (omega arith)).fitting in
-    omega (arith, sum_more n (λ k. (world_at w k).runs), told-few w n (λ k l. h k (omega arith)), F.runs-are, low-runs F.tree.t 22 F.tree.low)
+    omega (arith, sum_more n (λ k. (world_at w k).runs), told-few w n (λ k l. h k (omega arith)), F.runs-are, low-runs F.tree 22 F.low)
 
 -- the first k worlds fit and have so many runs, and so much is left of the capacity
 pub record Checking (w : List ℕ) (left runs k : ℕ) : Type 0 where

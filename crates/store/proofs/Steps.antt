@@ -1,8 +1,9 @@
 -- What the functions of `soundness` return, by the tests that led there: each definition opened by one step. Assumes nothing.
-use Rattle.std.proofs.Common.{◌≡◌, ℕ, zero, suc, ◌+◌, ◌-◌, ◌^◌, ◌<◌, ◌≤◌, max, Bool, true, false, ◌&&◌, eqb, List, sym, refl, ap, subst, ◌∙◌, arith, eq-eqb, ne_eqb, eqb-true}
+use Rattle.std.proofs.Common.{◌≡◌, ℕ, zero, suc, ◌+◌, ◌-◌, ◌^◌, ◌<◌, ◌≤◌, Bool, cond, true, false, ◌&&◌, eqb, List, sym, refl, ap, subst, ◌∙◌, arith, eq-eqb, ne_eqb, eqb-true}
 use Rattle.std.proofs.Common.{Option, Some, None, SomeIff, leb, leb-true, le-leb}
 use mathlib.Core.Bool.{and-false}
 use native.Mathlib.Decide.{ℕ_discrete}
+use Rattle.std.proofs.lemmas.Bool.Decides.{nat_tests}
 use Rattle.model.proofs.Edit.{and-holds}
 use Rattle.run_index.specs.declared.Node.{Node}
 use Rattle.run_index.specs.Cells.{cell_at, Room}
@@ -32,38 +33,6 @@ pub cell_in : (v x y : Node) (g lo total : ℕ) → Fits v x y g lo total → ce
 unfolding cell_b agrees_b
 cell_in v x y g lo total f = both-in _ _ f.run_fits (both-in _ _ f.heights-fit f.sums-fit)
 
--- the parts of a leaf's tests
-pub record LeafFits (v : Node) (g lo total : ℕ) : Type 0 where
-  pub run_fits : run_b v.start v.«end» v.tag g lo total ≡ true
-  pub no-left : v.left ≡ 0
-  pub no-right : v.right ≡ 0
-  pub one-run : v.runs ≡ 1
-  pub own-ones : v.ones ≡ width v.start v.«end»
-
--- what a leaf's tests say
-pub leaf-out : (v : Node) (g lo total : ℕ) → leaf_b v g lo total ≡ true → LeafFits v g lo total
-unfolding leaf_b
-leaf-out v g lo total e =
-    let p = and-holds _ _ e in
-    let q = and-holds _ _ p.1 in
-    let r = and-holds _ _ q.1 in
-    let s = and-holds _ _ r.1 in
-    record {
-      run_fits = p.0;
-      no-left = eqb-true _ _ q.0;
-      no-right = eqb-true _ _ r.0;
-      one-run = eqb-true _ _ s.0;
-      own-ones = eqb-true _ _ s.1;
-    }
-
--- and back
-pub leaf-in : (v : Node) (g lo total : ℕ) → LeafFits v g lo total → leaf_b v g lo total ≡ true
-unfolding leaf_b
-leaf-in v g lo total f =
-    both-in _ _ f.run_fits
-    (both-in _ _ (eq-eqb _ _ f.no-left)
-    (both-in _ _ (eq-eqb _ _ f.no-right) (both-in _ _ (eq-eqb _ _ f.one-run) (eq-eqb _ _ f.own-ones))))
-
 -- no tree hangs at 0
 pub tree-none : (d : ℕ) (w : List ℕ) (g k lo total : ℕ) → k ≡ 0 → tree_b d w g k lo total ≡ true
 unfolding tree_b
@@ -72,99 +41,57 @@ tree-none (suc d) w g zero lo total e = refl
 tree-none (suc d) w g (suc k) lo total e = absurd (omega arith)
 
 -- a node is tested by itself, then each of its sides
-pub tree-node : (d : ℕ) (w : List ℕ) (g n lo total : ℕ) (v : Node) → v ≡ below_of w n → (n ≡ 0 → ⊥) → 1 ≤ d
-    → tree_b d w g n lo total
+pub tree-node : (d : ℕ) (w : List ℕ) (g n lo total : ℕ) {v : Node} → v ≡ below_of w n → (n ≡ 0 → ⊥)
+    → tree_b (suc d) w g n lo total
     ≡ (inside_b w n
     && (cell_b v (below_of w v.left) (below_of w v.right) g lo total
-    && (tree_b (d - 1) w g v.left lo (v.start - 1) && tree_b (d - 1) w g v.right (v.«end» + 2) total)))
+    && (tree_b d w g v.left lo (v.start - 1) && tree_b d w g v.right (v.«end» + 2) total)))
 unfolding tree_b
-tree-node zero w g n lo total v e p q = absurd (omega arith)
-tree-node (suc d) w g zero lo total v e p q = absurd (p refl)
-tree-node (suc d) w g (suc n) lo total v e p q =
-    let z : suc d - 1 ≡ d = omega arith in
-    let c : v ≡ cell_at w (suc n) = e ∙ sym (below-some w (suc n) p) in
-    rw (z, c)
-
--- no node stands where there is no room
-pub tree-out : (d : ℕ) (w : List ℕ) (g k lo total : ℕ) → inside_b w k ≡ false → (k ≡ 0 → ⊥) → tree_b d w g k lo total ≡ false
-unfolding tree_b
-tree-out zero w g k lo total e ne = ne_eqb k 0 ne
-tree-out (suc d) w g zero lo total e ne = absurd (ne refl)
-tree-out (suc d) w g (suc k) lo total e ne = rw e
-
--- nothing hangs at 0 depth
-pub tree-flat : (w : List ℕ) (g k lo total : ℕ) (d : ℕ) → d ≡ 0 → (k ≡ 0 → ⊥) → tree_b d w g k lo total ≡ false
-unfolding tree_b
-tree-flat w g k lo total zero e ne = ne_eqb k 0 ne
-tree-flat w g k lo total (suc d) e ne = absurd (omega arith)
-
--- no run lies below 0
-pub tree-narrow : (d : ℕ) (w : List ℕ) (g k lo total : ℕ) → total ≤ lo → (k ≡ 0 → ⊥) → tree_b d w g k lo total ≡ false
-unfolding tree_b
-tree-narrow zero w g k lo total h ne = ne_eqb k 0 ne
-tree-narrow (suc d) w g zero lo total h ne = absurd (ne refl)
-tree-narrow (suc d) w g (suc k) lo total h ne =
-    let v : Node = cell_at w (suc k) in
-    let no_cell : cell_b (cell_at w (suc k)) (below_of w (cell_at w (suc k)).left) (below_of w (cell_at w (suc k)).right) g lo total ≡ false =
-    is_false _ (λ e. let r = run_out _ _ _ g lo total (cell_out _ _ _ g lo total e).run_fits in omega (arith, r.above, r.ordered, r.under)) in
-    rw (no_cell, and-false (inside_b w (suc k)))
-
--- the trees have too many runs
-pub rest-few : (w : List ℕ) (n r f : ℕ) → (r ≤ n → ⊥) → None ≡ rest_of w n r f
-unfolding rest_of rest_b
-rest-few w n r f ne = rw (is_false (leb r n) (λ e. ne (leb-true r n e)))
-
--- they have not: the chain decides
-pub rest-chain : (w : List ℕ) (n r f : ℕ) → r ≤ n → {k : ℕ} → k ≡ n - r → chain_of k w f ≡ rest_of w n r f
-unfolding rest_of rest_b chain_of
-rest-chain w n r f le e = rw (e, le-leb r n le)
+tree-node d w g zero lo total e p = absurd (p refl)
+tree-node d w g (suc n) lo total e p = rw (e ∙ sym (below-some w (suc n) p)) refl
 
 -- the parts of what the walk tests at a node
-pub record Passed (d : ℕ) (w : List ℕ) (v : Node) (g lo total : ℕ) : Type 0 where
-  pub own : cell_b v (below_of w v.left) (below_of w v.right) g lo total ≡ true
-  pub left : tree_b (d - 1) w g v.left lo (v.start - 1) ≡ true
-  pub right : tree_b (d - 1) w g v.right (v.«end» + 2) total ≡ true
+pub record Passed (d : ℕ) (w : List ℕ) (n : ℕ) (v : Node) (g lo total : ℕ) : Type 0 where
+  pub deep : ℕ
+  pub deeper : d ≡ suc deep
+  pub inside : inside_b w n ≡ true
+  pub own : Fits v (below_of w v.left) (below_of w v.right) g lo total
+  pub left : tree_b deep w g v.left lo (v.start - 1) ≡ true
+  pub right : tree_b deep w g v.right (v.«end» + 2) total ≡ true
 
 -- they all pass where the walk accepts
-passed : (d : ℕ) (w : List ℕ) (g n lo total : ℕ) (v : Node) → v ≡ below_of w n → (n ≡ 0 → ⊥) → tree_b d w g n lo total ≡ true → Passed d w v g lo total
-passed d w g n lo total v ev ne e = go (ℕ_discrete d 0)
-  where
-    go : Dec (d ≡ 0) → Passed d w v g lo total
-    go (yes z) = never (sym (tree-flat w g n lo total d z ne) ∙ e)
-    go (no nz) =
-        let s = sym (tree-node d w g n lo total v ev ne (omega arith)) ∙ e in
-        let C : Bool = cell_b v (below_of w v.left) (below_of w v.right) g lo total in
-        let L : Bool = tree_b (d - 1) w g v.left lo (v.start - 1) in
-        let R : Bool = tree_b (d - 1) w g v.right (v.«end» + 2) total in
-        let p = and-holds (inside_b w n) (C && (L && R)) s in
-        let q = and-holds C (L && R) p.1 in
-        let r = and-holds L R q.1 in
-        record { own = q.0; left = r.0; right = r.1 }
+pub passed : (d : ℕ) (w : List ℕ) (g n lo total : ℕ) {v : Node} → v ≡ below_of w n → (n ≡ 0 → ⊥) → tree_b d w g n lo total ≡ true → Passed d w n v g lo total
+unfolding tree_b
+passed zero w g n lo total ev ne e = absurd (ne (eqb-true _ _ e))
+passed (suc d) w g n lo total {v} ev ne e =
+    let s = sym (tree-node d w g n lo total ev ne) ∙ e in
+    let L : Bool = tree_b d w g v.left lo (v.start - 1) in
+    let R : Bool = tree_b d w g v.right (v.«end» + 2) total in
+    let p = and-holds (inside_b w n) (cell_b v (below_of w v.left) (below_of w v.right) g lo total && (L && R)) s in
+    let q = and-holds (cell_b v (below_of w v.left) (below_of w v.right) g lo total) (L && R) p.1 in
+    let r = and-holds L R q.1 in
+    record { deep = d; deeper = refl; inside = p.0; own = cell_out _ _ _ g lo total q.0; left = r.0; right = r.1 }
+
+-- no run lies where there is no position
+tree-narrow : (d : ℕ) (w : List ℕ) (g k lo total : ℕ) → total ≤ lo → (k ≡ 0 → ⊥) → tree_b d w g k lo total ≡ false
+tree-narrow d w g k lo total h ne =
+    is_false _ (λ e. let r = run_out _ _ _ g lo total (passed d w g k lo total refl ne e).own.run_fits in omega (arith, r.above, r.ordered, r.under))
 
 -- a link that the walk accepts is inside
 pub inside-linked : (d : ℕ) (w : List ℕ) (g k lo total : ℕ) → Room w 0 → tree_b d w g k lo total ≡ true → inside_b w k ≡ true
-inside-linked d w g k lo total room e = go (ℕ_discrete k 0) (inside_b w k) refl
+inside-linked d w g k lo total room e = go (ℕ_discrete k 0)
   where
-    go : Dec (k ≡ 0) → (b : Bool) → inside_b w k ≡ b → inside_b w k ≡ true
-    go (yes z) b i = inside-in w k (omega arith)
-    go (no ne) true i = i
-    go (no ne) false i = never (sym (tree-out d w g k lo total i ne) ∙ e)
+    go : Dec (k ≡ 0) → inside_b w k ≡ true
+    go (yes z) = inside-in w k (omega arith)
+    go (no ne) = (passed d w g k lo total refl ne e).inside
 
--- a node that the walk accepts is not of height 0
-high : (d : ℕ) (w : List ℕ) (g k lo total : ℕ) → (k ≡ 0 → ⊥) → tree_b d w g k lo total ≡ true → 1 ≤ (below_of w k).height
-high d w g k lo total ne e =
-    let p = passed d w g k lo total (below_of w k) refl ne e in
-    let f = (cell_out _ _ _ g lo total p.own).heights-fit in
-    let h = heights-out _ _ _ f in
-    omega (arith, h.0)
-
--- a link that the walk accepts, and whose words have height 0, is 0
+-- and if its words have height 0, it is 0
 flat : (d : ℕ) (w : List ℕ) (g k lo total : ℕ) → (below_of w k).height ≡ 0 → tree_b d w g k lo total ≡ true → k ≡ 0
 flat d w g k lo total z e = go (ℕ_discrete k 0)
   where
     go : Dec (k ≡ 0) → k ≡ 0
     go (yes e) = e
-    go (no ne) = absurd (omega (arith, high d w g k lo total ne e))
+    go (no ne) = let h = heights-out _ _ _ (passed d w g k lo total refl ne e).own.heights-fit in absurd (omega (arith, h.0))
 
 -- no tree hangs at 0, whatever the depth
 pub tells_none : (w : List ℕ) (B : Bounds) (k : ℕ) → k ≡ 0 → Tells w B k true
@@ -174,197 +101,155 @@ tells_none w B k z d h = sym (tree-none d w B.tag k B.low (B.high + 1) z)
 abbrev pub OwnFits : List ℕ → Node → Bounds → Type 0
 OwnFits w v B = Fits v (below_of w v.left) (below_of w v.right) B.tag B.low (B.high + 1)
 
+-- the sides of a node, the left one for true: its link, and what is left of the bounds
+abbrev pub link_of : Bool → Node → ℕ
+link_of s v = cond s v.left v.right
+
+abbrev low_of : Bool → Node → Bounds → ℕ
+low_of s v B = cond s B.low (v.«end» + 2)
+
+abbrev total_of : Bool → Node → Bounds → ℕ
+total_of s v B = cond s (v.start - 1) (B.high + 1)
+
+-- the bounds that are left to a side, if there are any
+abbrev Leaves : Bool → Node → Bounds → Option Bounds → Type 0
+Leaves s v B None = total_of s v B ≤ low_of s v B
+Leaves s v B (Some C) = (C.tag ≡ B.tag) × (C.low ≡ low_of s v B) × (C.high + 1 ≡ total_of s v B)
+
+pub left-leaves : (v : Node) (B : Bounds) (o : Option Bounds) → SomeIff o (2 ≤ v.start) (record B { high = v.start - 2 }) → Leaves true v B o
+left-leaves v B None f = omega arith
+left-leaves v B (Some C) c =
+    let two = c.0 in
+    (ap (λ (D : Bounds). D.tag) c.1, ap (λ (D : Bounds). D.low) c.1, ap (λ (D : Bounds). D.high + 1) c.1 ∙ omega arith)
+
+pub right-leaves : (v : Node) (B : Bounds) → B.high < 2 ^ 64 → (o : Option Bounds) → SomeIff o (v.«end» + 2 < 2 ^ 64) (record B { low = v.«end» + 2 }) → Leaves false v B o
+right-leaves v B fits None f = omega arith
+right-leaves v B fits (Some C) c = (ap (λ (D : Bounds). D.tag) c.1, ap (λ (D : Bounds). D.low) c.1, ap (λ (D : Bounds). D.high + 1) c.1)
+
 module _ {w : List ℕ} {n : ℕ} {v : Node} (S : Seen w n v) (B : Bounds) where
   -- what the walk tests there
-  parts : (d : ℕ) → tree_b d w B.tag n B.low (B.high + 1) ≡ true → Passed d w v B.tag B.low (B.high + 1)
-  parts d e = passed d w B.tag n B.low (B.high + 1) v S.is S.some e
+  parts : (d : ℕ) → tree_b d w B.tag n B.low (B.high + 1) ≡ true → Passed d w n v B.tag B.low (B.high + 1)
+  parts d e = passed d w B.tag n B.low (B.high + 1) S.is S.some e
 
-  -- there is room for the header
-  first-room : Room w 0
-  first-room = omega (arith, S.room)
+  part : (s : Bool) {d : ℕ} (p : Passed d w n v B.tag B.low (B.high + 1)) → tree_b p.deep w B.tag (link_of s v) (low_of s v B) (total_of s v B) ≡ true
+  part true p = p.left
+  part false p = p.right
 
-  -- a node of height 1 is a leaf
-  leaf-accepts : v.height ≡ 1 → leaf_b v B.tag B.low (B.high + 1) ≡ true → (d : ℕ) → 1 ≤ d → tree_b d w B.tag n B.low (B.high + 1) ≡ true
-  leaf-accepts one e d le =
-      let f = leaf-out v B.tag B.low (B.high + 1) e in
-      let x : free_cell 0 ≡ below_of w v.left = below_none w v.left f.no-left in
-      let y : free_cell 0 ≡ below_of w v.right = below_none w v.right f.no-right in
-      tree-node d w B.tag n B.low (B.high + 1) v S.is S.some le
-      ∙ both-in _ _ (inside-in w n S.room)
-      (both-in _ _
-      (cell_in v (below_of w v.left) (below_of w v.right) B.tag B.low (B.high + 1) (rw (← x, ← y) (record {
-        run_fits = f.run_fits;
-        heights-fit = heights-in v.height 0 0 one (omega arith) (omega arith);
-        sums-fit = sums-in v.runs 0 0 v.ones 0 0 v.start v.«end» f.one-run (f.own-ones ∙ omega arith);
-      })))
-      (both-in _ _
-      (tree-none (d - 1) w B.tag v.left B.low (v.start - 1) f.no-left)
-      (tree-none (d - 1) w B.tag v.right (v.«end» + 2) (B.high + 1) f.no-right)))
+  -- the height is the node's
+  height-is : v.height ≡ (below_of w n).height
+  height-is = ap (λ (u : Node). u.height) S.is
 
-  -- and the other way round
-  leaf-accepted : v.height ≡ 1 → (d : ℕ) → tree_b d w B.tag n B.low (B.high + 1) ≡ true → leaf_b v B.tag B.low (B.high + 1) ≡ true
-  leaf-accepted one d e =
-      let p = parts d e in
-      let f = cell_out _ _ _ B.tag B.low (B.high + 1) p.own in
-      let h = heights-out v.height (below_of w v.left).height (below_of w v.right).height f.heights-fit in
-      let l : v.left ≡ 0 = flat (d - 1) w B.tag v.left B.low (v.start - 1) (omega (arith, h.0)) p.left in
-      let r : v.right ≡ 0 = flat (d - 1) w B.tag v.right (v.«end» + 2) (B.high + 1) (omega (arith, h.0)) p.right in
-      let s = sums-out v.runs 0 0 v.ones 0 0 v.start v.«end» (rw (← below_none w v.left l, ← below_none w v.right r) at f.sums-fit) in
-      leaf-in v B.tag B.low (B.high + 1) (record { run_fits = f.run_fits; no-left = l; no-right = r; one-run = s.0; own-ones = s.1 ∙ omega arith })
+  -- what is refused of a node whose own tests pass is refused of any
+  pub own-refuses : (OwnFits w v B → Tells w B n false) → Tells w B n false
+  own-refuses f d h = sym (is_false _ (λ e. never (f (parts d e).own d h ∙ e)))
 
-  -- the heights of what hangs at its links
-  shape : (d : ℕ) → tree_b d w B.tag n B.low (B.high + 1) ≡ true
-      → (v.height ≡ 1 + max (below_of w v.left).height (below_of w v.right).height)
-      × ((below_of w v.left).height ≤ (below_of w v.right).height + 1)
-      × ((below_of w v.right).height ≤ (below_of w v.left).height + 1)
-  shape d e = heights-out _ _ _ (cell_out _ _ _ B.tag B.low (B.high + 1) (parts d e).own).heights-fit
+  -- r says whether a tree hangs on a side, within the bounds that are left for it
+  abbrev pub SideTells : Bool → Bool → Type 0
+  SideTells s r = (d : ℕ) → (below_of w n).height ≤ suc d → r ≡ tree_b d w B.tag (link_of s v) (low_of s v B) (total_of s v B)
 
-  -- so its height and the tests of a leaf decide about a node of height 1 at most
-  pub leaf-decides : v.height ≤ 1 → (r : Bool) → r ≡ (eqb v.height 1 && leaf_b v B.tag B.low (B.high + 1)) → Tells w B n r
-  leaf-decides low r er d h =
-      let q : v.height ≡ (below_of w n).height = ap (λ (u : Node). u.height) S.is in
-      er ∙ same (eqb v.height 1 && leaf_b v B.tag B.low (B.high + 1)) (tree_b d w B.tag n B.low (B.high + 1))
-      (λ e.
-      let p = and-holds (eqb v.height 1) (leaf_b v B.tag B.low (B.high + 1)) e in
-      let one : v.height ≡ 1 = eqb-true _ _ p.0 in
-      leaf-accepts one p.1 d (omega arith))
-      (λ e.
-      let one : v.height ≡ 1 = omega (arith, (shape d e).0) in
-      both-in _ _ (eq-eqb _ _ one) (leaf-accepted one d e))
+  -- a side that is refused
+  pub refuses : (s : Bool) → SideTells s false → Tells w B n false
+  refuses s l d h = sym (is_false _ (λ e. let p = parts d e in never (l p.deep (omega (arith, p.deeper)) ∙ part s p)))
 
-module _ {w : List ℕ} {n : ℕ} {v : Node} (S : Seen w n v) (B : Bounds) where
-  -- the left link leads outside
-  pub left-outside : (b : Bool) → b ≡ inside_b w v.left → b ≡ false → Tells w B n false
-  left-outside b eb t d h =
-      sym (is_false _ (λ e. never (sym (sym eb ∙ t) ∙ inside-linked (d - 1) w B.tag v.left B.low (v.start - 1) (first-room S B) (parts S B d e).left)))
-
-  -- the right link
-  pub right-outside : (b : Bool) → b ≡ inside_b w v.right → b ≡ false → Tells w B n false
-  right-outside b eb t d h =
-      sym (is_false _ (λ e. never (sym (sym eb ∙ t) ∙ inside-linked (d - 1) w B.tag v.right (v.«end» + 2) (B.high + 1) (first-room S B) (parts S B d e).right)))
-
-  -- a node of height 3 or more has a left side
-  pub left-missing : 3 ≤ v.height → v.left ≡ 0 → Tells w B n false
-  left-missing le z d h =
-      let x : 0 ≡ (below_of w v.left).height = ap (λ (u : Node). u.height) (below_none w v.left z) in
-      sym (is_false _ (λ e. let s = shape S B d e in omega arith))
-
-  -- and a right one
-  pub right-missing : 3 ≤ v.height → v.right ≡ 0 → Tells w B n false
-  right-missing le z d h =
-      let y : 0 ≡ (below_of w v.right).height = ap (λ (u : Node). u.height) (below_none w v.right z) in
-      sym (is_false _ (λ e. let s = shape S B d e in omega arith))
-
-  -- r says whether a tree hangs on the left, within the bounds that are left for it
-  abbrev pub LeftTells : Bool → Type 0
-  LeftTells r = (d : ℕ) → (below_of w n).height ≤ d → r ≡ tree_b (d - 1) w B.tag v.left B.low (v.start - 1)
-
-  -- and on the right
-  abbrev pub RightTells : Bool → Type 0
-  RightTells r = (d : ℕ) → (below_of w n).height ≤ d → r ≡ tree_b (d - 1) w B.tag v.right (v.«end» + 2) (B.high + 1)
+  -- its link leads outside
+  pub outside : (s : Bool) {b : Bool} → b ≡ inside_b w (link_of s v) → b ≡ false → Tells w B n false
+  outside s eb t =
+      let room : Room w 0 = omega (arith, S.room) in
+      refuses s (λ d h. sym (is_false _ (λ e. never (sym (sym eb ∙ t) ∙ inside-linked d w B.tag (link_of s v) (low_of s v B) (total_of s v B) room e))))
 
   -- nothing hangs there
-  pub left-none : v.left ≡ 0 → LeftTells true
-  left-none z d h = sym (tree-none (d - 1) w B.tag v.left B.low (v.start - 1) z)
+  pub none : (s : Bool) → link_of s v ≡ 0 → SideTells s true
+  none s z d h = sym (tree-none d w B.tag (link_of s v) (low_of s v B) (total_of s v B) z)
 
-  pub right-none : v.right ≡ 0 → RightTells true
-  right-none z d h = sym (tree-none (d - 1) w B.tag v.right (v.«end» + 2) (B.high + 1) z)
-
-  -- no room below the node's start
-  pub left-crowded : (v.left ≡ 0 → ⊥) → (2 ≤ v.start → ⊥) → LeftTells false
-  left-crowded nl lt d h = sym (tree-narrow (d - 1) w B.tag v.left B.low (v.start - 1) (omega arith) nl)
-
-  -- no room above its end
-  pub right-crowded : (v.right ≡ 0 → ⊥) → B.high < 2 ^ 64 → (v.«end» + 2 < 2 ^ 64 → ⊥) → RightTells false
-  right-crowded nr fits lt d h = sym (tree-narrow (d - 1) w B.tag v.right (v.«end» + 2) (B.high + 1) (omega arith) nr)
-
-  -- a left side that is refused
-  pub left-refuses : LeftTells false → Tells w B n false
-  left-refuses l d h = sym (is_false _ (λ e. never (l d h ∙ (parts S B d e).left)))
-
-  -- a right side
-  pub right-refuses : RightTells false → Tells w B n false
-  right-refuses l d h = sym (is_false _ (λ e. never (l d h ∙ (parts S B d e).right)))
-
-  module _ {x y : Node} (ex : x ≡ below_of w v.left) (ey : y ≡ below_of w v.right) {b : Bool} (eb : b ≡ cell_b v x y B.tag B.low (B.high + 1)) where
-    -- the node's own tests
-    own_is : b ≡ cell_b v (below_of w v.left) (below_of w v.right) B.tag B.low (B.high + 1)
-    own_is = rw (← ex, ← ey) eb
-
-    -- a node that fails by itself
-    pub node-fails : b ≡ false → Tells w B n false
-    node-fails t d h = sym (is_false _ (λ e. never (sym (sym own_is ∙ t) ∙ (parts S B d e).own)))
-
-    -- one that passes
-    pub node-passes : b ≡ true → OwnFits w v B
-    node-passes t = cell_out v (below_of w v.left) (below_of w v.right) B.tag B.low (B.high + 1) (sym own_is ∙ t)
+  -- there is no position for it
+  pub crowded : (s : Bool) → (link_of s v ≡ 0 → ⊥) → Leaves s v B None → SideTells s false
+  crowded s nl le d h = sym (tree-narrow d w B.tag (link_of s v) (low_of s v B) (total_of s v B) le nl)
 
   module _ (F : OwnFits w v B) where
-    -- the node is one higher than the higher side
-    tall : (below_of w n).height ≡ 1 + max (below_of w v.left).height (below_of w v.right).height
-    tall =
-        sym (ap (λ (u : Node). u.height) S.is)
-        ∙ (heights-out v.height (below_of w v.left).height (below_of w v.right).height F.heights-fit).0
+    -- either side is lower than the node, by 2 at most
+    pub lower : (s : Bool) → ((below_of w (link_of s v)).height < v.height) × (v.height ≤ (below_of w (link_of s v)).height + 2)
+    lower true = let h = heights-out _ _ _ F.heights-fit in (omega (arith, h.0), omega (arith, h.0, h.1, h.2))
+    lower false = let h = heights-out _ _ _ F.heights-fit in (omega (arith, h.0), omega (arith, h.0, h.1, h.2))
 
-    -- the left side is lower than the node
-    pub left-lower : (below_of w v.left).height < (below_of w n).height
-    left-lower = omega (arith, tall)
+    -- what the walk of a side says
+    pub walked : (s : Bool) (C : Bounds) → Leaves s v B (Some C) → {r : Bool} → Tells w C (link_of s v) r → SideTells s r
+    walked s C c er d h = rw (c.0, c.1, c.2) at (er d (omega (arith, (lower s).0, height-is)))
 
-    -- and the right one
-    pub right-lower : (below_of w v.right).height < (below_of w n).height
-    right-lower = omega (arith, tall)
-
-    -- what the walk of the left side says
-    pub left-walked : (C : Bounds) → (2 ≤ v.start) × (C ≡ record B { high = v.start - 2 }) → (r : Bool) → Tells w C v.left r → LeftTells r
-    left-walked C c r er d h =
-        let two = c.0 in
-        let z : v.start - 2 + 1 ≡ v.start - 1 = omega arith in
-        rw z at (subst (λ (D : Bounds). Tells w D v.left r) c.1 er (d - 1) (omega (arith, left-lower)))
-
-    -- and that of the right one
-    pub right-walked : (C : Bounds) → (v.«end» + 2 < 2 ^ 64) × (C ≡ record B { low = v.«end» + 2 }) → (r : Bool) → Tells w C v.right r → RightTells r
-    right-walked C c r er d h = subst (λ (D : Bounds). Tells w D v.right r) c.1 er (d - 1) (omega (arith, right-lower))
-
-    -- where the left side is accepted the right one decides
-    pub right-decides : LeftTells true → (r : Bool) → RightTells r → Tells w B n r
-    right-decides left r er d h =
-        er d h
-        ∙ sym (tree-node d w B.tag n B.low (B.high + 1) v S.is S.some (omega (arith, tall))
-        ∙ rw (inside-in w n S.room, cell_in v (below_of w v.left) (below_of w v.right) B.tag B.low (B.high + 1) F, ← left d h))
-
-    -- where the right side is accepted the left one decides
-    pub left-decides : (r : Bool) → LeftTells r → RightTells true → Tells w B n r
-    left-decides true l right = right-decides l true right
-    left-decides false l right = left-refuses l
+    -- where its own tests pass both sides decide
+    pub sides : {l r : Bool} → SideTells true l → SideTells false r → Tells w B n (l && r)
+    sides L R zero h = absurd (omega (arith, (lower true).0, height-is))
+    sides L R (suc d) h =
+        rw (L d h, R d h)
+        (sym (tree-node d w B.tag n B.low (B.high + 1) S.is S.some ∙ rw (inside-in w n S.room, cell_in v (below_of w v.left) (below_of w v.right) B.tag B.low (B.high + 1) F)))
 
     -- a node of height 2 or more has a right side if it has no left one
     pub right-there : 2 ≤ v.height → v.left ≡ 0 → v.right ≡ 0 → ⊥
     right-there le x y =
-        let p : 0 ≡ (below_of w v.left).height = ap (λ (u : Node). u.height) (below_none w v.left x) in
-        let q : 0 ≡ (below_of w v.right).height = ap (λ (u : Node). u.height) (below_none w v.right y) in
-        let t : v.height ≡ (below_of w n).height = ap (λ (u : Node). u.height) S.is in
-        omega (arith, tall)
+        let p = ap (λ (u : Node). u.height) (below_none w v.left x) in
+        let q = ap (λ (u : Node). u.height) (below_none w v.right y) in
+        let h = heights-out _ _ _ F.heights-fit in
+        omega (arith, h.0, p, q)
 
-    module _ (two : v.height ≡ 2) where
-      -- what hangs to the left of a node of height 2 is a leaf
-      pub left-leaf : {x : Node} → x ≡ below_of w v.left → (v.left ≡ 0 → ⊥) → Room w v.left
-          → (o : Option Bounds) → SomeIff o (2 ≤ v.start) (record B { high = v.start - 2 }) → (r : Bool) → r ≡ side_b x o → LeftTells r
-      left-leaf ex nl room None so r er = rw er (left-crowded nl so)
-      left-leaf {x} ex nl room (Some C) so r er =
-          let q : x.height ≡ (below_of w v.left).height = ap (λ (u : Node). u.height) ex in
-          let t : v.height ≡ (below_of w n).height = ap (λ (u : Node). u.height) S.is in
-          let L : Seen w v.left x = record { some = nl; room = room; is = ex } in
-          left-walked C so r (leaf-decides L C (omega (arith, left-lower)) r er)
+  -- a node of height 3 or more has both sides
+  pub missing : (s : Bool) → 3 ≤ v.height → link_of s v ≡ 0 → Tells w B n false
+  missing s le z =
+      own-refuses (λ F d h. absurd (omega (arith, (lower F s).1, ap (λ (u : Node). u.height) (below_none w (link_of s v) z))))
 
-      -- and to its right
-      pub right-leaf : {y : Node} → y ≡ below_of w v.right → (v.right ≡ 0 → ⊥) → Room w v.right → B.high < 2 ^ 64
-          → (o : Option Bounds) → SomeIff o (v.«end» + 2 < 2 ^ 64) (record B { low = v.«end» + 2 }) → (r : Bool) → r ≡ side_b y o → RightTells r
-      right-leaf ey nr room fits None so r er = rw er (right-crowded nr fits so)
-      right-leaf {y} ey nr room fits (Some C) so r er =
-          let q : y.height ≡ (below_of w v.right).height = ap (λ (u : Node). u.height) ey in
-          let t : v.height ≡ (below_of w n).height = ap (λ (u : Node). u.height) S.is in
-          let L : Seen w v.right y = record { some = nr; room = room; is = ey } in
-          right-walked C so r (leaf-decides L C (omega (arith, right-lower)) r er)
+  module _ {x y : Node} (ex : x ≡ below_of w v.left) (ey : y ≡ below_of w v.right) {b : Bool} (eb : b ≡ cell_b v x y B.tag B.low (B.high + 1)) where
+    -- a node that fails by itself
+    pub node-fails : b ≡ false → Tells w B n false
+    node-fails t = own-refuses (λ F. never (sym (sym eb ∙ t) ∙ rw (ex, ey) (cell_in _ _ _ B.tag B.low (B.high + 1) F)))
+
+    -- one that passes
+    pub node-passes : b ≡ true → OwnFits w v B
+    node-passes t = rw (← ex, ← ey) (cell_out v x y B.tag B.low (B.high + 1) (sym eb ∙ t))
+
+  -- a node of height 1 is a leaf
+  leaf-accepts : v.height ≡ 1 → leaf_b v B.tag B.low (B.high + 1) ≡ true → (d : ℕ) → tree_b (suc d) w B.tag n B.low (B.high + 1) ≡ true
+  unfolding leaf_b
+  leaf-accepts one e d =
+      let f : (run_b v.start v.«end» v.tag B.tag B.low (B.high + 1) ≡ true) × (v.left ≡ 0) × (v.right ≡ 0) × (v.runs ≡ 1) × (v.ones ≡ width v.start v.«end») =
+      grind (arith, nat_tests) in
+      let x = below_none w v.left f.1 in
+      let y = below_none w v.right f.2 in
+      let F : OwnFits w v B = rw (← x, ← y) (record {
+        run_fits = f.0;
+        heights-fit = heights-in v.height 0 0 one (omega arith) (omega arith);
+        sums-fit = sums-in v.runs 0 0 v.ones 0 0 v.start v.«end» f.3 (f.4 ∙ omega arith);
+      }) in
+      sym (sides F (none true f.1) (none false f.2) (suc d) (omega (arith, height-is)))
+
+  -- and the other way round
+  leaf-accepted : v.height ≡ 1 → {d : ℕ} → Passed d w n v B.tag B.low (B.high + 1) → leaf_b v B.tag B.low (B.high + 1) ≡ true
+  unfolding leaf_b
+  leaf-accepted one p =
+      let h = heights-out _ _ _ p.own.heights-fit in
+      let l : v.left ≡ 0 = flat p.deep w B.tag v.left B.low (v.start - 1) (omega (arith, h.0)) p.left in
+      let r : v.right ≡ 0 = flat p.deep w B.tag v.right (v.«end» + 2) (B.high + 1) (omega (arith, h.0)) p.right in
+      let s = sums-out v.runs 0 0 v.ones 0 0 v.start v.«end» (rw (← below_none w v.left l, ← below_none w v.right r) at p.own.sums-fit) in
+      let o : v.ones ≡ width v.start v.«end» = s.1 ∙ omega arith in
+      rw (p.own.run_fits, eq-eqb v.left 0 l, eq-eqb v.right 0 r, eq-eqb v.runs 1 s.0, eq-eqb v.ones (width v.start v.«end») o) refl
+
+  -- so its height and the tests of a leaf decide about a node of height 1 at most
+  pub leaf-decides : v.height ≤ 1 → (r : Bool) → r ≡ (eqb v.height 1 && leaf_b v B.tag B.low (B.high + 1)) → Tells w B n r
+  leaf-decides low r er d h =
+      er ∙ same (eqb v.height 1 && leaf_b v B.tag B.low (B.high + 1)) (tree_b d w B.tag n B.low (B.high + 1)) (yields d h)
+      (λ e.
+      let p = parts d e in
+      let one : v.height ≡ 1 = let t = heights-out _ _ _ p.own.heights-fit in omega (arith, t.0) in
+      both-in _ _ (eq-eqb _ _ one) (leaf-accepted one p))
+    where
+      yields : (d : ℕ) → (below_of w n).height ≤ d → (eqb v.height 1 && leaf_b v B.tag B.low (B.high + 1)) ≡ true → tree_b d w B.tag n B.low (B.high + 1) ≡ true
+      yields zero h e = absurd (omega (arith, height-is, eqb-true _ _ (and-holds (eqb v.height 1) (leaf_b v B.tag B.low (B.high + 1)) e).0))
+      yields (suc d) h e = let p = and-holds (eqb v.height 1) (leaf_b v B.tag B.low (B.high + 1)) e in leaf-accepts (eqb-true _ _ p.0) p.1 d
+
+-- what hangs on a side of a node of height 2 is a leaf
+pub leaf-side : {w : List ℕ} {n : ℕ} {v : Node} (S : Seen w n v) (B : Bounds) (s : Bool) → OwnFits w v B → v.height ≡ 2 → {x : Node} → x ≡ below_of w (link_of s v)
+    → (link_of s v ≡ 0 → ⊥) → Room w (link_of s v) → (o : Option Bounds) → Leaves s v B o → (r : Bool) → r ≡ side_b x o → SideTells S B s r
+leaf-side S B s F two ex nl room None le r er = rw er (crowded S B s nl le)
+leaf-side {w} {n} {v} S B s F two {x} ex nl room (Some C) le r er =
+    let q = ap (λ (u : Node). u.height) ex in
+    walked S B F s C le (leaf-decides (record { some = nl; room = room; is = ex }) C (omega (arith, (lower S B F s).0)) r er)
 
 -- only a node of height 1 is a leaf
 pub side-high : (x : Node) (o : Option Bounds) → side_b x o ≡ true → x.height ≡ 1
@@ -372,32 +257,28 @@ side-high x None e = never e
 side-high x (Some B) e = eqb-true _ _ (and-holds (eqb x.height 1) (leaf_b x B.tag B.low (B.high + 1)) e).0
 
 -- a node of height 2, whose height is tested by that of its leaves
-module _ {w : List ℕ} {n : ℕ} {v : Node} (S : Seen w n v) (B : Bounds) where
-  -- what is refused of a node whose own tests pass is refused of any
-  pub own-refuses : (OwnFits w v B → Tells w B n false) → Tells w B n false
-  own-refuses f d h = sym (is_false _ (λ e. never (f (cell_out _ _ _ B.tag B.low (B.high + 1) (parts S B d e).own) d h ∙ e)))
+module _ {w : List ℕ} {n : ℕ} {v : Node} (S : Seen w n v) (B : Bounds) {x y : Node} (ex : x ≡ below_of w v.left) (ey : y ≡ below_of w v.right)
+    {b : Bool} (eb : b ≡ words_b v x y B.tag B.low (B.high + 1)) where
+  -- its words do not fit
+  pub words-fail : b ≡ false → Tells w B n false
+  unfolding words_b
+  words-fail t = own-refuses S B (λ F. never (sym t ∙ eb ∙ both-in _ _ F.run_fits (rw (ex, ey) F.sums-fit)))
 
-  module _ {x y : Node} (ex : x ≡ below_of w v.left) (ey : y ≡ below_of w v.right) (b : Bool) (eb : b ≡ words_b v x y B.tag B.low (B.high + 1)) where
-    -- its words do not fit
-    pub words-fail : b ≡ false → Tells w B n false
-    unfolding words_b
-    words-fail t = own-refuses (λ F. never (sym t ∙ eb ∙ both-in _ _ F.run_fits (rw (ex, ey) F.sums-fit)))
-
-    -- where they do its sides decide, if one of them has height 1 where both are accepted
-    pub sides-decide : v.height ≡ 2 → b ≡ true → (l r : Bool) → (OwnFits w v B → LeftTells S B l) → (OwnFits w v B → RightTells S B r)
-        → (l ≡ true → r ≡ true → (x.height ≤ 1) × (y.height ≤ 1) × (1 ≤ x.height + y.height)) → Tells w B n (l && r)
-    unfolding words_b
-    sides-decide two t false r L R high = own-refuses (λ F. left-refuses S B (L F))
-    sides-decide two t true false L R high = own-refuses (λ F. right-refuses S B (R F))
-    sides-decide two t true true L R high =
-        let h = high refl refl in
-        let p = and-holds (run_b v.start v.«end» v.tag B.tag B.low (B.high + 1)) (sums_b v.runs x.runs y.runs v.ones x.ones y.ones v.start v.«end») (sym eb ∙ t) in
-        let F : OwnFits w v B = rw (← ex, ← ey) (record {
-          run_fits = p.0;
-          heights-fit = heights-in v.height x.height y.height (omega (arith, two, h.0, h.1, h.2)) (omega (arith, h.0, h.1, h.2)) (omega (arith, h.0, h.1, h.2));
-          sums-fit = p.1;
-        }) in
-        right-decides S B F (L F) true (R F)
+  -- where they do its sides decide, if one of them has height 1 where both are accepted
+  pub sides-decide : v.height ≡ 2 → b ≡ true → (l r : Bool) → (OwnFits w v B → SideTells S B true l) → (OwnFits w v B → SideTells S B false r)
+      → (l ≡ true → r ≡ true → (x.height ≤ 1) × (y.height ≤ 1) × (1 ≤ x.height + y.height)) → Tells w B n (l && r)
+  unfolding words_b
+  sides-decide two t false r L R high = own-refuses S B (λ F. refuses S B true (L F))
+  sides-decide two t true false L R high = own-refuses S B (λ F. refuses S B false (R F))
+  sides-decide two t true true L R high =
+      let h = high refl refl in
+      let p = and-holds (run_b v.start v.«end» v.tag B.tag B.low (B.high + 1)) (sums_b v.runs x.runs y.runs v.ones x.ones y.ones v.start v.«end») (sym eb ∙ t) in
+      let F : OwnFits w v B = rw (← ex, ← ey) (record {
+        run_fits = p.0;
+        heights-fit = heights-in v.height x.height y.height (omega (arith, two, h.0, h.1, h.2)) (omega (arith, h.0, h.1, h.2)) (omega (arith, h.0, h.1, h.2));
+        sums-fit = p.1;
+      }) in
+      sides S B F (L F) (R F)
 
 -- where the walk of the link k is: at the link j, whose walk decides for k's
 pub record Way (w : List ℕ) (B : Bounds) (k : ℕ) (C : Bounds) (j : ℕ) : Type 0 where

@@ -28,7 +28,7 @@ use Rattle.store.proofs.Turn.{stretches-zero, stretches-turned}
 use Rattle.store.proofs.Nodes.{sized-length}
 use Rattle.store.proofs.Reached.{tree-reached, tree-held}
 use Rattle.store.proofs.Sharing.{others_apart}
-use Rattle.store.proofs.Hanging.{Fitting, hangs-index, planted-fits, world-stands}
+use Rattle.store.proofs.Hanging.{planted-index, world-stands}
 
 -- ---- a planted tree
 module _ (w : List ℕ) (k : ℕ) (P : Planted (nodes w) (world_at w k)) where
@@ -37,39 +37,30 @@ module _ (w : List ℕ) (k : ℕ) (P : Planted (nodes w) (world_at w k)) where
   unfolding tree_at
   planted-tree = tree-reached P.linked P.low
 
-  -- what its tests have met
-  abbrev pub met : Fitting (nodes w) (world_at w k)
-  met = planted-fits P
-
-  -- so is the tree among it
-  pub met-tree : tree_at w k ≡ met.tree.t
-  unfolding tree_at
-  met-tree = tree-reached met.tree.at met.tree.low
-
   -- its positions are the tree's, turned by its offset
-  pub met-held : held_by w k ≡ turned (world_at w k).offset (mem (inorder met.tree.t))
+  planted-held : held_by w k ≡ turned (world_at w k).offset (mem (inorder P.tree))
   unfolding held_by
-  met-held = tree-held (world_at w k).offset met.tree.at met.tree.low
+  planted-held = tree-held (world_at w k).offset P.linked P.low
 
   -- it can be searched in the part that is lent, for the world h that was read
   pub planted-indexed : (h : World) → h ≡ world_at w k → Indexed (lent w) h.root
   planted-indexed h e =
       of-nodes (λ (v : List ℕ). Indexed v h.root) w
-      (subst (λ (z : World). Indexed (nodes w) z.root) (sym e) (k, met.tree.t, hangs-index met.tree))
+      (subst (λ (z : World). Indexed (nodes w) z.root) (sym e) (k, P.tree, planted-index P))
 
   -- and as the count of logical runs asks it
   pub planted-counted : (h : World) → h ≡ world_at w k → h.runs ≡ length (runs_from (lent w) h.root)
   planted-counted h e =
       of-nodes (λ (v : List ℕ). h.runs ≡ length (runs_from v h.root)) w
       (subst (λ (z : World). z.runs ≡ length (runs_from (nodes w) z.root)) (sym e)
-      (met.runs-are ∙ runs-length met.tree.t ∙ ap length (sym (index-runs (hangs-index met.tree)))))
+      (P.runs-are ∙ runs-length P.tree ∙ ap length (sym (index-runs (planted-index P)))))
 
   -- what that count tells
-  runs-told : (h : World) (n : ℕ) → h ≡ world_at w k → n ≡ stretches (turned h.offset (mem (runs_from (lent w) h.root))) → n ≡ stretches (held_by w k)
+  pub runs-told : (h : World) (n : ℕ) → h ≡ world_at w k → n ≡ stretches (turned h.offset (mem (runs_from (lent w) h.root))) → n ≡ stretches (held_by w k)
   runs-told h n e t =
       let told = subst (λ (z : World). n ≡ stretches (turned z.offset (mem (runs_from (lent w) z.root)))) e t in
       subst (λ (v : List ℕ). n ≡ stretches (turned (world_at w k).offset (mem (runs_from v (world_at w k).root)))) (lent-nodes w) told
-      ∙ ap (λ (rs : List Run). stretches (turned (world_at w k).offset (mem rs))) (index-runs (hangs-index met.tree)) ∙ ap stretches (sym met-held)
+      ∙ ap (λ (rs : List Run). stretches (turned (world_at w k).offset (mem rs))) (index-runs (planted-index P)) ∙ ap stretches (sym planted-held)
 
   -- the larger of it and the floor is what the world claims
   pub claim-told : (h : World) (v : Record) (n : ℕ) → h ≡ world_at w k → v ≡ record_at w k → n ≡ stretches (turned h.offset (mem (runs_from (lent w) h.root)))
@@ -172,18 +163,17 @@ module _ {w : List ℕ} (S : Sound w) where
       omega (arith, claims-fit k l, sum-part (suc j) (opened_at w) f (omega arith), sum_more j f, without-there k (claim_at w) j ne)
 
   module _ (k : ℕ) (l : k < opened_at w) where
-    -- the tree that its tests have met
     abbrev T : Tree
-    T = (met w k (S.planted k l)).tree.t
+    T = (S.planted k l).tree
 
     -- is the one that its root leads to
     T-is : tree_at w k ≡ T
-    T-is = met-tree w k (S.planted k l)
+    T-is = planted-tree w k (S.planted k l)
 
     -- it stands, with all nodes but those of the others
     pub world-standing : Standing (nodes w) (share_of w k) (world_at w k)
     world-standing =
-        world-stands (nodes w) (share_of w k) (world_at w k) (planted-fits (S.planted k l)) S.free
+        world-stands (S.planted k l) S.free
         (omega (arith, nodes-length w, sound-length.0))
         (omega (arith, sound-length.1))
         (omega arith)
@@ -196,7 +186,7 @@ module _ {w : List ℕ} (S : Sound w) where
     pub runs-claimed : (world_at w k).offset < size → runs_at w k ≤ claim_at w k + 1
     runs-claimed small =
         let P = S.planted k l in
-        omega (arith, ap runs T-is, runs-logical (world_at w k).offset T small (met w k P).tree.ordered, ap stretches (met-held w k P))
+        omega (arith, ap runs T-is, runs-logical (world_at w k).offset T small P.ordered, ap stretches (planted-held w k P))
 
   -- the trees of the others have at most sixteen runs more than these claim
   pub others-claimed : ((j : ℕ) → (world_at w j).offset < size) → (k : ℕ) → sum_to (opened_at w) (without k (runs_at w)) ≤ others_claim w k + 16

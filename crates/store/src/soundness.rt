@@ -426,7 +426,7 @@ pub fn check(words: &[u64]) -> Option<u64>
 }
 
 // Whether words of a pool's length are a sound pool.
-#[tactic(auto, using(crate::proofs::Whole::whole_rules))]
+#[tactic(auto, unfolding(crate::specs::Decision::checked))]
 pub fn is_sound(words: &[u64]) -> bool
     requires { 1 ≤ capacity words.now }
     ensures { result ≡ sound_b words.now }
