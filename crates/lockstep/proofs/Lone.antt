@@ -30,7 +30,6 @@ use Rattle.store.specs.Layout.{
   floor_at,
   ceiling_at,
   nodes,
-  record_cell,
   Headed,
   held_by,
 }

@@ -1,6 +1,6 @@
 -- The tests of specs/Decision.antt decide whether a world fits. A walk that accepts a link has met a tree there, in order and balanced, and
 -- each such tree is accepted; what a world's tests say of its tree, its sums and its bounds follows. Assumes nothing.
-use Rattle.std.proofs.Common.{◌≡◌, ℕ, zero, suc, ◌+◌, ◌-◌, ◌≤◌, max, Bool, true, false, not, ◌||◌, eqb, List, sym, refl, ◌∙◌, subst, arith, eq-eqb, eqb-true}
+use Rattle.std.proofs.Common.{◌≡◌, ℕ, zero, suc, ◌+◌, ◌-◌, ◌≤◌, true, not, ◌||◌, eqb, List, sym, refl, ◌∙◌, subst, arith, eq-eqb, eqb-true}
 use native.Mathlib.Decide.{ℕ_discrete}
 use Rattle.model.specs.Numbers.{size}
 use Rattle.model.specs.Positions.{held_runs}
@@ -16,8 +16,8 @@ use Rattle.store.specs.declared.World.{World}
 use Rattle.store.specs.Layout.{held_in}
 use Rattle.store.specs.Soundness.{first_of, last_of, Planted}
 use Rattle.store.specs.Decision.{inside_b, below_of, agrees_b, cell_b, tree_b, world_b}
-use Rattle.store.proofs.Truths.{never, both-in}
-use Rattle.store.proofs.Tests.{inside-out, inside-in, below_none, below-some, Within, run_out, run_in, heights-out, heights-in, sums-out, sums-in}
+use Rattle.store.proofs.Truths.{both-in}
+use Rattle.store.proofs.Tests.{inside-out, inside-in, below_none, below-some, run_out, run_in, heights-out, heights-in, sums-out, sums-in}
 use Rattle.store.proofs.Steps.{Fits, cell_out, tree-none, tree-node}
 use Rattle.store.proofs.Orders.{About, canon-out, canon-in, distinct}
 use Rattle.store.proofs.Hanging.{Hangs}
@@ -97,10 +97,12 @@ tree-no w g (node n s e l r) (suc d) k lo total h c b le =
     let A = canon-out total lo (inorder l) s e (inorder r) c in
     let nz : n ≡ 0 → ⊥ = λ z. omega (arith, rep_pos h.rep) in
     rw (sym h.linked) (tree-node d w g n lo total (sym (rep-cell h.rep) ∙ below-some w n nz) nz
-    ∙ rw (inside-in w n (rep-room h.rep),
-    own-tests w g n s e lo total l r h.rep A b.0 b.1,
-    tree-no w g l d (link l) lo (s - 1) (record { rep = rep-left h.rep; linked = refl }) A.before b.2 (omega arith),
-    tree-no w g r d (link r) (e + 2) total (record { rep = rep-right h.rep; linked = refl }) A.after b.3 (omega arith)) refl)
+    ∙ rw (
+      inside-in w n (rep-room h.rep),
+      own-tests w g n s e lo total l r h.rep A b.0 b.1,
+      tree-no w g l d (link l) lo (s - 1) (record { rep = rep-left h.rep; linked = refl }) A.before b.2 (omega arith),
+      tree-no w g r d (link r) (e + 2) total (record { rep = rep-right h.rep; linked = refl }) A.after b.3 (omega arith),
+    ) refl)
 
 -- as a tree that hangs
 pub hangs-walked : {d : ℕ} {w : List ℕ} {g k lo total : ℕ} → Hangs d w g k lo total → tree_b d w g k lo total ≡ true
@@ -123,7 +125,7 @@ world_b-yes w h e =
     let T = tree-yes 22 w h.tag h.root 0 size a.0 in
     let S = below-sums w h.tag h.root T.t T.at in
     let b : (h.ones ≡ (below_of w h.root).ones) × (h.runs ≡ (below_of w h.root).runs) × (h.first ≡ first_of (held_runs (held_in w h)))
-        × (h.last ≡ last_of (held_runs (held_in w h))) × ((not (eqb h.root 0) || eqb h.offset 0) ≡ true) = grind (arith, nat_tests, a.1) in
+    × (h.last ≡ last_of (held_runs (held_in w h))) × ((not (eqb h.root 0) || eqb h.offset 0) ≡ true) = grind (arith, nat_tests, a.1) in
     record {
       tree = T.t;
       linked = T.at;

@@ -1,5 +1,6 @@
 -- The free chain is decided by following it. Assumes nothing.
-use Rattle.std.proofs.Common.{◌≡◌, ℕ, zero, suc, ◌+◌, ◌-◌, true, leb, List, [], ◌∷◌, length, refl, ap, arith, eq-eqb, eqb-true, le-leb, leb-true}
+use Rattle.std.proofs.Common.{◌≡◌, ℕ, zero, suc, ◌+◌, ◌-◌, ◌≤◌, true, List, [], ◌∷◌, length, refl, ap, arith, eq-eqb, eqb-true, le-leb}
+use Rattle.std.proofs.lemmas.Bool.Decides.{nat_tests}
 use Rattle.model.proofs.Edit.{and-holds}
 use Rattle.run_index.specs.Cells.{cell_at}
 use Rattle.store.specs.Soundness.{Chain}
@@ -37,9 +38,9 @@ pub record Rest (w : List ℕ) (n r f : ℕ) : Type 0 where
 pub rest_b-yes : (w : List ℕ) (n r f : ℕ) → rest_b w n r f ≡ true → Rest w n r f
 unfolding rest_b
 rest_b-yes w n r f e =
-    let p = and-holds (leb r n) (chain_b (n - r) w f) e in
+    let p : (r ≤ n) × (chain_b (n - r) w f ≡ true) = grind (arith, nat_tests) in
     let c = chained (n - r) w f p.1 in
-    record { ns = c.0; chain = c.1; many = omega (arith, c.2, leb-true r n p.0) }
+    record { ns = c.0; chain = c.1; many = omega (arith, c.2, p.0) }
 
 -- and back
 pub rest_b-no : (w : List ℕ) (n r f : ℕ) → Rest w n r f → rest_b w n r f ≡ true

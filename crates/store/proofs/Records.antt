@@ -1,6 +1,6 @@
 -- The tests of a pool's header and records as facts, and back: the header's words are those of 1 to 16 worlds, and the records of worlds that
 -- were not opened are zeros. What the code's own tests come to follows. Assumes nothing.
-use Rattle.std.proofs.Common.{◌≡◌, ℕ, zero, suc, ◌+◌, ◌-◌, ◌<◌, ◌≤◌, Bool, true, false, ◌&&◌, List, [], ◌∷◌, get_or, slice_index, sym, refl, ap, ◌∙◌, subst, arith}
+use Rattle.std.proofs.Common.{◌≡◌, ℕ, zero, suc, ◌+◌, ◌-◌, ◌<◌, ◌≤◌, true, ◌&&◌, List, [], ◌∷◌, get_or, slice_index, refl, ap, subst, arith}
 use native.Mathlib.Decide.{ℕ_discrete}
 use Rattle.std.proofs.lemmas.Bool.Decides.{nat_tests}
 use Rattle.model.specs.Numbers.{most_worlds}
@@ -77,29 +77,17 @@ unopened-in w k (suc n) h =
     both-in _ _ (nothing-in (record_at w k) (h k (omega arith) (omega arith)))
     (unopened-in w (suc k) n (λ j p q. h j (omega arith) (omega arith)))
 
--- the first of them apart
-unopened-step : (w : List ℕ) (k n i : ℕ) → n ≡ suc i → unopened_b w k n ≡ (nothing_b (record_at w k) && unopened_b w (suc k) i)
-unfolding unopened_b
-unopened-step w k n i e = rw e
-
 -- none is left
 pub unopened-none : (w : List ℕ) (k n : ℕ) → n ≡ 0 → true ≡ unopened_b w k n
 unfolding unopened_b
 unopened-none w k n e = rw e
 
 -- the record of world k decides first
-unopened-first : (w : List ℕ) (k : ℕ) → k < most_worlds → unopened_b w k (most_worlds - k) ≡ (nothing_b (record_at w k) && unopened_b w (k + 1) (most_worlds - (k + 1)))
+pub unopened-first : (w : List ℕ) (k : ℕ) → k < most_worlds → unopened_b w k (most_worlds - k) ≡ (nothing_b (record_at w k) && unopened_b w (k + 1) (most_worlds - (k + 1)))
+unfolding unopened_b
 unopened-first w k lt =
+    let e : most_worlds - k ≡ suc (most_worlds - (k + 1)) = omega arith in
     let s : suc k ≡ k + 1 = omega arith in
-    unopened-step w k (most_worlds - k) (most_worlds - (k + 1)) (omega arith) ∙ ap (λ j. nothing_b (record_at w k) && unopened_b w j (most_worlds - (k + 1))) s
+    rw (e, s) refl
 
--- it is not zeros
-pub unopened-broken : (w : List ℕ) (k : ℕ) → k < most_worlds → nothing_b (record_at w k) ≡ false → false ≡ unopened_b w k (most_worlds - k)
-unopened-broken w k lt e = sym (unopened-first w k lt ∙ ap (λ (x : Bool). x && unopened_b w (k + 1) (most_worlds - (k + 1))) e)
-
--- it is
-pub unopened-more : (w : List ℕ) (k : ℕ) → k < most_worlds → nothing_b (record_at w k) ≡ true
-    → unopened_b w (k + 1) (most_worlds - (k + 1)) ≡ unopened_b w k (most_worlds - k)
-unopened-more w k lt e = sym (unopened-first w k lt ∙ ap (λ (x : Bool). x && unopened_b w (k + 1) (most_worlds - (k + 1))) e)
-
-pub ruleset unopened_rules = (unopened-none, unopened-broken, unopened-more)
+pub ruleset unopened_rules = (unopened-none, unopened-first)

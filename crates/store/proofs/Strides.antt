@@ -1,12 +1,12 @@
 -- The free chain followed in strides of 64 links: whether it fits is decided by the links left. Assumes nothing.
-use Rattle.std.proofs.Common.{◌≡◌, ℕ, zero, suc, ◌+◌, ◌-◌, ◌*◌, ◌/◌, ◌%◌, ◌<◌, ◌≤◌, Bool, true, false, ◌&&◌, List, sym, refl, ap, ◌∙◌, arith, ne_eqb}
-use Rattle.std.proofs.Common.{Some, None, if◌then◌else◌, nat_lt, ◌==◌}
+use Rattle.std.proofs.Common.{◌≡◌, ℕ, zero, suc, ◌+◌, ◌-◌, ◌*◌, ◌/◌, ◌%◌, ◌<◌, ◌≤◌, Bool, true, false, ◌&&◌, List, sym, refl, ap, ◌∙◌, arith}
+use Rattle.std.proofs.Common.{if◌then◌else◌, nat_lt, ◌==◌}
 use mir.Val.{bool_byte}
 use Rattle.model.specs.Positions.{one_if}
 use Rattle.run_index.specs.declared.Node.{Node}
 use Rattle.run_index.specs.Cells.{cell_at}
 use Rattle.store.proofs.Truths.{byte-one, byte-small}
-use Rattle.store.specs.Decision.{free_b, chain_b, along_of, stride, falls, chain_of}
+use Rattle.store.specs.Decision.{free_b, chain_b, along_of, stride, falls}
 
 -- ---- following links
 -- none is left
@@ -97,38 +97,16 @@ module _ {w : List ℕ} {c k i l b : ℕ} (f : Following w c k i l b) where
         few = omega (arith, f.few, back, byte-small (nat_lt (stride w l) (along_of 63 w l)));
       })
 
-  -- all did: the node before the last link is m, and that link decides
-  module _ (all : i ≡ (c - 1) / 64) (some : 0 < c) {m : ℕ} (em : m ≡ along_of ((c - 1) % 64) w l) (b' : Bool) (eb : b' ≡ free_b w m) where
-    last : chain_b c w k ≡ (free_b w m && (cell_at w m).left == 0)
-    unfolding chain_b
-    last =
-        sym f.chain ∙ ap (λ (n : ℕ). chain_b n w l) (omega arith) ∙ chain-along ((c - 1) % 64) 0 w l
-        ∙ ap (chain_b 1 w) (sym em)
+  -- all did: the last link decides
+  pub chain-last : i ≡ (c - 1) / 64 → 0 < c → {m : ℕ} → m ≡ along_of ((c - 1) % 64) w l → chain_b c w k ≡ (free_b w m && (cell_at w m).left == 0)
+  unfolding chain_b
+  chain-last all some em =
+      sym f.chain ∙ ap (λ (n : ℕ). chain_b n w l) (omega arith) ∙ chain-along ((c - 1) % 64) 0 w l
+      ∙ ap (chain_b 1 w) (sym em)
 
-    none-left : falls ((c - 1) / 64 - i) w l ≡ 0
-    unfolding falls
-    none-left = let z : (c - 1) / 64 - i ≡ 0 = omega arith in rw (z)
-
-    pub chain-broken : b' ≡ false → None ≡ chain_of c w k
-    unfolding chain_of
-    chain-broken t = rw (last, ← eb, t)
-
-    module _ (t : b' ≡ true) {v : Node} (ev : v ≡ cell_at w m) where
-      pub chain-open : (v.left ≡ 0 → ⊥) → None ≡ chain_of c w k
-      unfolding chain_of
-      chain-open ne = rw (last, ← eb, t, ← ev, ne_eqb v.left 0 ne)
-
-      pub chain-ends : v.left ≡ 0 → Some b ≡ chain_of c w k
-      unfolding chain_of
-      chain-ends e = let n : b ≡ falls ((c - 1) / 64) w k = omega (arith, f.counted, none-left) in rw (last, ← eb, t, ← ev, e, n)
-
--- it has no links
-pub empty-ends : (c : ℕ) (w : List ℕ) (k : ℕ) → c ≡ 0 → k ≡ 0 → Some 0 ≡ chain_of c w k
-unfolding chain_of chain_b falls
-empty-ends c w k z e = rw (z, e)
-
-pub empty-open : (c : ℕ) (w : List ℕ) (k : ℕ) → c ≡ 0 → (k ≡ 0 → ⊥) → None ≡ chain_of c w k
-unfolding chain_of chain_b
-empty-open c w k z ne = rw (z, ne_eqb k 0 ne)
+  -- and all are counted
+  pub all-counted : i ≡ (c - 1) / 64 → falls ((c - 1) / 64) w k ≡ b
+  unfolding falls
+  all-counted all = let z : falls ((c - 1) / 64 - i) w l ≡ 0 = rw (let e : (c - 1) / 64 - i ≡ 0 = omega arith in e) refl in omega (arith, f.counted)
 
 pub ruleset along_rules = (along-stays, along-more, along-end)

@@ -1,27 +1,25 @@
 -- The tests of the whole pool decide whether it is sound: where they pass, the trees and the free chain have as many nodes as there are, so
 -- they share them out; and a sound pool passes each. Assumes nothing.
-use Rattle.std.proofs.Common.{◌≡◌, ℕ, ◌+◌, ◌-◌, ◌*◌, ◌<◌, ◌≤◌, Bool, true, false, leb, Option, Some, None, is_some, if◌then◌else◌, List, length, refl, sym, ap, ◌∙◌, arith, le-leb, leb-true}
+use Rattle.std.proofs.Common.{◌≡◌, ℕ, ◌+◌, ◌-◌, ◌*◌, ◌<◌, ◌≤◌, true, List, length, arith, le-leb}
 use Rattle.model.specs.Numbers.{most_worlds}
 use Rattle.model.specs.Pools.{claims}
 use Rattle.std.proofs.lemmas.Bool.Decides.{nat_tests}
-use Rattle.store.specs.declared.layout.Header.{Header}
-use Rattle.store.specs.Layout.{header_at, opened_at, free_head, world_at, nodes, capacity, node_count, worlds_of}
+use Rattle.store.specs.Layout.{opened_at, free_head, world_at, nodes, capacity, node_count, worlds_of}
 use Rattle.store.specs.Soundness.{sum_to, runs_at, Planted, Sound}
-use Rattle.store.specs.Decision.{rest_b, rest_of, header_b, worlds_b, unopened_b, told_runs, runs_of, sound_b, worn, checked}
-use Rattle.store.proofs.Parts.{lent, lent-nodes, nodes-length}
-use Rattle.store.proofs.Truths.{never, is_false, same, both-in}
+use Rattle.store.specs.Decision.{rest_b, header_b, worlds_b, unopened_b, told_runs, sound_b}
+use Rattle.store.proofs.Parts.{nodes-length}
 use Rattle.store.proofs.Nodes.{sized-length}
 use Rattle.store.proofs.Following.{rest_b-yes, rest_b-no}
 use Rattle.store.proofs.Records.{header-out, header-in, unopened-out, unopened-in}
 use Rattle.store.proofs.Shared.{shared-out}
-use Rattle.store.proofs.Placed.{worlds-out, worlds-in, told-runs, runs-out, runs-none}
+use Rattle.store.proofs.Placed.{worlds-out, worlds-in, told-runs}
 
 -- where all pass the pool is sound
 pub sound_b-yes : (w : List ℕ) → 1 ≤ capacity w → sound_b w ≡ true → Sound w
 unfolding sound_b
 sound_b-yes w sized e =
     let T : (header_b w ≡ true) × (worlds_b w (opened_at w) ≡ true) × (unopened_b w (opened_at w) (most_worlds - opened_at w) ≡ true)
-        × (claims (worlds_of w) ≤ capacity w) × (rest_b (nodes w) (node_count w) (told_runs w (opened_at w)) (free_head w) ≡ true) = grind (arith, nat_tests) in
+    × (claims (worlds_of w) ≤ capacity w) × (rest_b (nodes w) (node_count w) (told_runs w (opened_at w)) (free_head w) ≡ true) = grind (arith, nat_tests) in
     let H = header-out w T.0 in
     let P = worlds-out w (opened_at w) T.1 in
     let R = rest_b-yes (nodes w) (node_count w) (told_runs w (opened_at w)) (free_head w) T.4 in
@@ -47,10 +45,12 @@ sound_b-yes w sized e =
 pub sound_b-no : (w : List ℕ) → Sound w → sound_b w ≡ true
 unfolding sound_b
 sound_b-no w S =
-    rw (header-in w (record { some = S.some; few = S.few; is = S.padded }),
-    worlds-in w (opened_at w) (λ k l. record { fitting = S.planted k l; limited = S.limited k l }),
-    unopened-in w (opened_at w) (most_worlds - opened_at w) (λ k l m. S.unopened k l (omega (arith, S.few))),
-    le-leb (claims (worlds_of w)) (capacity w) S.fits)
+    rw (
+      header-in w (record { some = S.some; few = S.few; is = S.padded }),
+      worlds-in w (opened_at w) (λ k l. record { fitting = S.planted k l; limited = S.limited k l }),
+      unopened-in w (opened_at w) (most_worlds - opened_at w) (λ k l m. S.unopened k l (omega (arith, S.few))),
+      le-leb (claims (worlds_of w)) (capacity w) S.fits,
+    )
     (rest_b-no (nodes w) (node_count w) (told_runs w (opened_at w)) (free_head w) (record {
       ns = S.free;
       chain = S.chained;

@@ -21,7 +21,7 @@ use Rattle.store.specs.Places.{physical_of}
 use Rattle.store.specs.Layout.{opened_at, record_at, world_at, ceiling_at, nodes, capacity, turned, held_by, tree_at, plain_at, worlds_of, allowance}
 use Rattle.store.specs.Soundness.{Standing, sum_to, without, runs_at, count_at, share_of, Planted, Sound}
 use Rattle.store.specs.Settle.{Openable, Opened}
-use Rattle.store.proofs.Sums.{sum_more, sum-nothing, sum-most, sum_both, without-here, without-there, sum-split}
+use Rattle.store.proofs.Sums.{sum_more, sum-nothing, sum-most, sum_both, sum-front, without-here, without-there, sum-split}
 use Rattle.store.proofs.WorldLists.{opened-world, claims-all, claims-others}
 use Rattle.store.proofs.Parts.{lent, lent-nodes, of-nodes, nodes-length}
 use Rattle.store.proofs.Turn.{stretches-zero, stretches-turned}
@@ -104,15 +104,6 @@ allowance-is w k l =
     ∙ ap (λ n. min (ceiling_at w k) (capacity w - n)) (claims-others w k l)
 
 -- ---- counting the claims of others, world by world
--- the first terms of a sum are at most the sum
-sum-part : (m n : ℕ) (f : ℕ → ℕ) → m ≤ n → sum_to m f ≤ sum_to n f
-sum-part m zero f le = omega (arith, ap (λ i. sum_to i f) (let e : m ≡ 0 = omega arith in e))
-sum-part m (suc n) f le = go (ℕ_discrete m (suc n)) (sum-part m n f)
-  where
-    go : Dec (m ≡ suc n) → (m ≤ n → sum_to m f ≤ sum_to n f) → sum_to m f ≤ sum_to (suc n) f
-    go (yes e) ih = omega (arith, ap (λ i. sum_to i f) e)
-    go (no ne) ih = omega (arith, sum_more n f, ih (omega arith))
-
 -- of the capacity, what the first j worlds but k leave
 abbrev pub LeftOver : List ℕ → ℕ → ℕ → ℕ → Type 0
 LeftOver w k left j = left + sum_to j (without k (claim_at w)) ≡ capacity w
@@ -160,7 +151,7 @@ module _ {w : List ℕ} (S : Sound w) where
   pub claim-left : (k left j : ℕ) → k < opened_at w → j < opened_at w → (j ≡ k → ⊥) → LeftOver w k left j → claim_at w j ≤ left
   claim-left k left j l m ne h =
       let f : ℕ → ℕ = without k (claim_at w) in
-      omega (arith, claims-fit k l, sum-part (suc j) (opened_at w) f (omega arith), sum_more j f, without-there k (claim_at w) j ne)
+      omega (arith, claims-fit k l, sum-front (opened_at w) (suc j) f (omega arith), sum_more j f, without-there k (claim_at w) j ne)
 
   module _ (k : ℕ) (l : k < opened_at w) where
     abbrev T : Tree

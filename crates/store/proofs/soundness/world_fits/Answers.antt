@@ -1,12 +1,15 @@
--- `world_fits` meets its contract: the positions of a world are those of the tree at its root, so what `bounds` tells of the tree is what
+-- `world_fits` meets its contract: the positions of a world are those of the tree at its root, so what `bounds` returns of the tree is what
 -- the world has to say of the positions held. Assumes nothing.
 use Rattle.std.proofs.Common.{sym, ◌∙◌, arith}
 use Rattle.std.proofs.lemmas.Bool.Decides.{nat_tests}
 use Rattle.model.specs.Numbers.{size}
 use Rattle.run_index.specs.Cells.{Room}
+use Rattle.store.specs.Decision.{world_b}
 use Rattle.store.proofs.Hanging.{Hangs}
 use Rattle.store.proofs.Tests.{inside-out}
-use Rattle.store.proofs.Bounded.{root-outside, root-high, tree-fails, tree-passes, indexed, world-is}
+use Rattle.store.proofs.Steps.{inside-linked}
+use Rattle.store.proofs.Decided.{tree-yes}
+use Rattle.store.proofs.Bounded.{walked-low, root-walked, indexed, world-is}
 use Rattle.store.proofs.soundness.world_fits.Goals as goal
 use Rattle.store.proofs.soundness.world_fits.Goals.{Else-not-inside, Else-not-tree_fits, then-v-gt-MAX_HEIGHT-via-then-v-gt-MAX_HEIGHT, then-v-gt-MAX_HEIGHT-via-else-v-gt-MAX_HEIGHT+then-not-tree_fits}
 
@@ -16,10 +19,11 @@ root-room c = inside-out _ _ (sym c.inside.ensures ∙ c.if-not-inside.false)
 
 -- the tree that the walk has accepted
 tree : (c : Else-not-tree_fits) → Hangs 22 c.args.words.now c.args.h.tag c.args.h.root 0 size
-tree c = tree-passes _ c.args.h _ c.below-v.ensures (omega (arith, c.if-v-gt-MAX_HEIGHT.false)) _ c.tree_fits.ensures c.if-not-tree_fits.false
+tree c = tree-yes 22 _ _ _ _ _ (sym (root-walked _ c.args.h c.below-v.ensures c.if-v-gt-MAX_HEIGHT.false c.tree_fits.ensures) ∙ c.if-not-tree_fits.false)
 
 pub returns-then-not-inside : goal.returns-then-not-inside
-returns-then-not-inside c = root-outside _ _ c.requires _ c.inside.ensures c.if-not-inside.true
+unfolding world_b
+returns-then-not-inside c = let f = inside-linked 22 c.args.words.now c.args.h.tag c.args.h.root 0 size c.requires in grind arith
 
 pub below-v-requires : goal.below-v-requires
 below-v-requires c = root-room c
@@ -28,11 +32,12 @@ pub tree_fits-requires : goal.tree_fits-requires
 tree_fits-requires c = root-room (goal.at.tree_fits-requires c).Else-not-inside
 
 pub returns-then-v-gt-MAX_HEIGHT : goal.returns-then-v-gt-MAX_HEIGHT
+unfolding world_b
 returns-then-v-gt-MAX_HEIGHT c =
     elim c.then-v-gt-MAX_HEIGHT.branch [
-      | then-v-gt-MAX_HEIGHT-via-then-v-gt-MAX_HEIGHT w ↦ root-high _ _ _ c.below-v.ensures w.if-v-gt-MAX_HEIGHT.true
+      | then-v-gt-MAX_HEIGHT-via-then-v-gt-MAX_HEIGHT w ↦ let f = walked-low 22 c.args.words.now c.args.h.tag c.args.h.root 0 size in grind arith
       | then-v-gt-MAX_HEIGHT-via-else-v-gt-MAX_HEIGHT+then-not-tree_fits w ↦
-          tree-fails _ c.args.h _ c.below-v.ensures w.if-v-gt-MAX_HEIGHT.false _ w.tree_fits.ensures w.if-not-tree_fits.true
+          let e = root-walked c.args.words.now c.args.h c.below-v.ensures w.if-v-gt-MAX_HEIGHT.false w.tree_fits.ensures in grind arith
     ]
 
 pub of-set-requires : goal.of-set-requires
