@@ -6,7 +6,7 @@ use native.Mathlib.Decide.{ℕ_discrete}
 use Rattle.model.specs.Numbers.{size, most_worlds}
 use Rattle.model.specs.Positions.{Positions, held_runs, stretches}
 use Rattle.model.proofs.Runs.{stretches-cong}
-use Rattle.run_index.specs.Cells.{cell_at, Room}
+use Rattle.run_index.specs.Cells.{cell_at}
 use Rattle.run_index.specs.Tree.{runs, count, At}
 use Rattle.run_index.specs.Strung.{times, Free}
 use Rattle.run_index.proofs.Heap.{frame}
@@ -41,7 +41,7 @@ use Rattle.store.proofs.WorldLists.{claims-all}
 use Rattle.store.proofs.Parts.{cell-nodes, nodes-long}
 use Rattle.store.proofs.Nodes.{chain-no-zero}
 use Rattle.store.proofs.Reached.{tree-reached, tree-held, kept_low}
-use Rattle.store.proofs.Worlds.{planted-tree, claim_at, allowance-is, claims-fit, sound-room}
+use Rattle.store.proofs.Worlds.{planted-tree, claim_at, allowance-is, claims-fit}
 
 -- ---- a tree in other words
 -- the cells of a planted tree and its record are in w as they were; the free head may be another
@@ -312,12 +312,6 @@ module _ {w₀ w w' : List ℕ} {h : World} {P : Positions} (cl : Closing w₀ w
           capacity-kept,
         );
   }
-
--- there is a record to write
-pub closing-room : {w₀ w : List ℕ} {h : World} {P : Positions} → Closing w₀ w h P → Room w (h.tag + 1)
-closing-room {h = h} cl =
-    let S = cl.openable.sound in
-    omega (arith, sound-room S (h.tag + 1) (omega (arith, S.few, cl.openable.named)), cl.long)
 
 -- and the pool settles
 pub closes : {w w' : List ℕ} {h : World} → Headed w w' h → Closes w w' h

@@ -1,7 +1,7 @@
 -- Making a pool: the nodes are freed from the last on down, each before the one freed last, so at each step the chain goes through the nodes
 -- after those left; then the header is written, and then the records one by one. No world of the pool made has a node, so each is empty and
 -- claims its floor, and the floors fit because the limits were not refused. Assumes nothing.
-use Rattle.std.proofs.Common.{◌≡◌, ℕ, zero, suc, ◌+◌, ◌-◌, ◌*◌, ◌/◌, ◌<◌, ◌≤◌, ◌⊎◌, List, [], ◌∷◌, length, sym, refl, ap, ◌∙◌, subst, ap₂, inl, inr, arith}
+use Rattle.std.proofs.Common.{◌≡◌, ℕ, zero, suc, ◌+◌, ◌-◌, ◌*◌, ◌<◌, ◌≤◌, ◌⊎◌, List, [], ◌∷◌, length, sym, refl, ap, ◌∙◌, subst, ap₂, inl, inr, arith}
 use Rattle.model.specs.declared.Limits.{Limits}
 use Rattle.model.specs.Numbers.{most_worlds}
 use Rattle.model.specs.Positions.{empty, stretches}
@@ -42,7 +42,7 @@ use Rattle.store.specs.Soundness.{first_of, last_of, Chain, sum_to, runs_at, cou
 use Rattle.store.specs.Free.{after, Chained, limits_or_none, empty_record, Recorded, Makeable, Emptied}
 use Rattle.store.proofs.Cells.{record-same, header-same, padding-same}
 use Rattle.store.proofs.Sums.{sum_more, sum-nothing}
-use Rattle.store.proofs.Parts.{lent, back, lent-nodes, back-nodes, back_long, cell-nodes, nodes-long, nodes-length}
+use Rattle.store.proofs.Parts.{lent, back, back-nodes, back_long, cell-nodes, nodes-long}
 use Rattle.store.proofs.Nodes.{sized-length}
 use Rattle.store.proofs.Emptying.{after_one, after-apart, after-length, rootless-empty, rootless-runs, empty-stretches, vacant_world}
 use Rattle.store.proofs.Limiting.{limits-some, limits-none, limits-length, limits-all, floors-under, Allowed, allowed}
@@ -56,10 +56,6 @@ pub record FreeAfter (w₀ w : List ℕ) (n left next : ℕ) : Type 0 where
   pub done : ℕ
   pub all : left + done ≡ n
   pub chain : Chain w next (after left done)
-
--- at first none is free
-pub free-after-none : (w : List ℕ) (n : ℕ) → length w ≡ 8 * (n + 1) → FreeAfter w w n n 0
-free-after-none w n e = record { sized = e; before = refl; long = refl; done = 0; all = omega arith; chain = refl }
 
 -- the node at hand has room
 pub free-after-room : (w₀ w : List ℕ) (n left next : ℕ) → FreeAfter w₀ w n left next → Room w left
@@ -95,16 +91,6 @@ free-after-more w₀ w w' n (suc l) next some f e wr =
     (subst (λ (j : ℕ). FreeAfter w₀ w' n j (suc l)) (omega arith)
     (free-after-step w₀ w w' n l next f (subst (λ (i : ℕ). Wrote w w' i (free_cell next)) (sym is) (wrote_as e wr))))
 
--- in the end all are free
-pub free-after-chained : (w₀ w : List ℕ) (n left next : ℕ) → left ≡ 0 → FreeAfter w₀ w n left next → Chained w₀ w n next
-free-after-chained w₀ w n left next e f =
-    let d : f.done ≡ n = omega (arith, f.all) in
-    record {
-      chain = subst (λ (j : ℕ). Chain w next (after 0 j)) d (subst (λ (j : ℕ). Chain w next (after j f.done)) e f.chain);
-      before = f.before;
-      long = f.long;
-    }
-
 -- ---- the records, one after the other
 -- the words w, made from w₀: those of the first k worlds are written
 pub record RecordedTo (w₀ w ls : List ℕ) (n k : ℕ) : Type 0 where
@@ -112,14 +98,6 @@ pub record RecordedTo (w₀ w ls : List ℕ) (n k : ℕ) : Type 0 where
   pub there : (m : ℕ) → (m ≡ 0) ⊎ (k < m) → cell_at w m ≡ cell_at w₀ m
   pub long : length w ≡ length w₀
   pub few : k ≤ most_worlds
-
--- at first none
-pub recorded-none : (w ls : List ℕ) (n : ℕ) → RecordedTo w w ls n 0
-recorded-none w ls n = record { here = λ j l. absurd (omega arith); there = λ m e. refl; long = refl; few = omega arith }
-
--- the one at hand has room
-pub recorded-room : (w₀ w ls : List ℕ) (n k : ℕ) → 8 * 17 ≤ length w₀ → k < most_worlds → RecordedTo w₀ w ls n k → Room w (k + 1)
-recorded-room w₀ w ls n k h l r = omega (arith, r.long)
 
 -- it is written
 pub recorded_more : {w₀ w w' ls : List ℕ} {n k : ℕ} {l : Limits} {v : Record} → k < most_worlds → l ≡ limits_or_none ls n k → v ≡ empty_record l → RecordedTo w₀ w ls n k
@@ -143,16 +121,6 @@ recorded_more {w₀} {w} {w'} {ls} {n} {k} lt el ev r wr = record {
     above : (m : ℕ) → (m ≡ 0) ⊎ (k + 1 < m) → (m ≡ 0) ⊎ (k < m)
     above m (inl z) = inl z
     above m (inr a) = inr (omega arith)
-
--- in the end all sixteen are
-pub recorded-all : (w₀ w ls : List ℕ) (n k : ℕ) → most_worlds ≤ k → RecordedTo w₀ w ls n k → Recorded w₀ w ls n
-recorded-all w₀ w ls n k h r =
-    let is : k ≡ most_worlds = omega (arith, r.few) in
-    record { here = λ j l. r.here j (omega arith); there = λ m e. r.there m (above m e); long = r.long }
-  where
-    above : (m : ℕ) → (m ≡ 0) ⊎ (most_worlds < m) → (m ≡ 0) ⊎ (k < m)
-    above m (inl z) = inl z
-    above m (inr a) = inr (omega (arith, r.few))
 
 -- ---- empty worlds
 -- a sum of zeros
@@ -309,15 +277,7 @@ module _ (w w₁ w₂ w' ls : List ℕ) (n f : ℕ) (mk : Makeable w ls n)
   }
 
 -- ---- the nodes as a part of the words
--- the code counts them
-pub nodes-counted : (w : List ℕ) → 1 ≤ capacity w → length w / 8 - 17 ≡ node_count w
-nodes-counted w h = omega (arith, sized-length w h)
-
 module _ (w : List ℕ) (h : 1 ≤ capacity w) where
-  -- they fill the part
-  pub part-sized : length (lent w) ≡ 8 * (node_count w + 1)
-  part-sized = ap length (lent-nodes w) ∙ omega (arith, nodes-length w, sized-length w h)
-
   -- freed there, and come back with it: all of it is as long as before
   pub part-long : (ys : List ℕ) (n f : ℕ) → Chained (lent w) ys n f → length (back w ys) ≡ length w
   part-long ys n f c = back_long w ys (omega (arith, sized-length w h)) c.long

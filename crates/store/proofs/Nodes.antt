@@ -78,10 +78,6 @@ module _ {w : List ℕ} {s : Share} {x : Links} {t : Tree} {ns : List ℕ} (k : 
   pub few-runs : runs t + 1 < 2 ^ 62
   few-runs = omega (arith, tree-few, k.few)
 
-  -- there is a cell 0
-  pub header-room : Room w 0
-  header-room = omega (arith, k.sized)
-
   -- the tree can be searched
   pub kept-index : Index w x.root s.tag t
   kept-index = record { at = k.linked; canonical = k.ordered; few = omega (arith, few-runs) }

@@ -15,7 +15,7 @@ use Rattle.run_index.specs.Strung.{times, free_cell, Free}
 use Rattle.run_index.proofs.Trees.{δ-same, δ-other, δ-zero}
 use Rattle.run_index.proofs.Strings.{strung-kept}
 use Rattle.store.specs.Soundness.{Chain}
-use Rattle.store.specs.Relink.{lows, Threads, Threaded}
+use Rattle.store.specs.Relink.{lows, Threads}
 
 -- ---- the nodes that have no height
 module _ (w : List ℕ) where
@@ -76,10 +76,6 @@ pub record Threading (w₀ w : List ℕ) (n left next : ℕ) : Type 0 where
   pub chain : Chain w next (lows w₀ left done)
   pub kept : (m : ℕ) → times m (lows w₀ left done) ≡ 0 → cell_at w m ≡ cell_at w₀ m
 
--- at first none
-pub threading-none : (w : List ℕ) (n : ℕ) → length w ≡ 8 * (n + 1) → Threading w w n n 0
-threading-none w n e = record { sized = e; long = refl; done = 0; all = omega arith; chain = refl; kept = λ m z. refl }
-
 -- the node at hand has room
 pub threading-room : {w₀ w : List ℕ} {n left next : ℕ} → Threading w₀ w n left next → Room w left
 threading-room t = omega (arith, t.all, t.long, t.sized)
@@ -130,12 +126,5 @@ threading-more {w₀} {w} {w'} {n} {next} {r} (suc l) some t th =
     go : Threads w w' (suc l) next r → Threading w₀ w' n l r
     go (inl p) = threaded-low t p.0 p.1 p.2
     go (inr p) = threaded-high t p.0 p.1 p.2
-
--- in the end all of them are
-pub threading-all : {w₀ w : List ℕ} {n next : ℕ} (left : ℕ) → left ≡ 0 → Threading w₀ w n left next → Threaded w₀ w n next
-threading-all {w₀} {w} {n} {next} left e t =
-    let d : t.done ≡ n = omega (arith, t.all) in
-    let ls : lows w₀ left t.done ≡ lows w₀ 0 n = ap (λ (j : ℕ). lows w₀ j t.done) e ∙ ap (lows w₀ 0) d in
-    record { chain = subst (Chain w next) ls t.chain; kept = λ m z. t.kept m (ap (times m) ls ∙ z); long = t.long }
 
 pub ruleset threading_rules = (threading-more)
