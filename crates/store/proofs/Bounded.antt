@@ -1,16 +1,7 @@
 -- The tree at the root of a world, as the check walks it. The positions of a world are those of this tree, turned by its offset, so what `bounds`
 -- returns of the tree is what the world has to say. Assumes nothing.
-use Rattle.std.proofs.Common.{◌≡◌, ℕ, ◌≤◌, Bool, true, not, ◌&&◌, ◌||◌, eqb, List, ap, ◌∙◌, arith}
-use Rattle.model.specs.declared.Run.{Run}
-use Rattle.model.specs.Numbers.{size}
-use Rattle.model.specs.Positions.{Positions, held_runs}
-use Rattle.run_index.specs.declared.Node.{Node}
-use Rattle.run_index.specs.Search.{Indexed, runs_from}
-use Rattle.store.specs.declared.World.{World}
-use Rattle.store.specs.declared.Set.{Set}
-use Rattle.store.specs.Layout.{held, held_in}
-use Rattle.store.specs.Soundness.{first_of, last_of}
-use Rattle.store.specs.Decision.{below_of, tree_b, world_b, Tells}
+use Rattle.store.proofs.Base.{◌≡◌, ℕ, ◌≤◌, Bool, true, not, ◌&&◌, ◌||◌, eqb, List, ap, ◌∙◌, arith, Run, size, Positions, held_runs, Node, Indexed, runs_from, World, Set, held, held_in, first_of, last_of}
+use Rattle.store.proofs.Base.{below_of, tree_b, world_b, Tells}
 use Rattle.store.proofs.Reached.{tree-seen}
 use Rattle.store.proofs.Hanging.{Hangs, hangs-index}
 use Rattle.store.proofs.Decided.{below-sums, tree-yes, hangs-walked}

@@ -1,13 +1,10 @@
 -- The header and the records as cells: they are as they were where their cells are, and what the writes of `layout` make of the words.
 -- Assumes nothing.
-use Rattle.std.proofs.Common.{◌≡◌, ℕ, ◌+◌, ◌*◌, ◌≤◌, List, [], ◌∷◌, get_or, set, refl, ap, ◌∙◌, arith, length-set, get_or-set_other, get_or-set_same}
-use Rattle.run_index.specs.declared.Node.{Node}
-use Rattle.run_index.specs.Cells.{cell_at, Room}
-use Rattle.run_index.proofs.Words.{same-node, stored, stored-wrote}
-use Rattle.store.specs.declared.layout.Header.{Header}
-use Rattle.store.specs.declared.layout.Record.{Record}
-use Rattle.store.specs.declared.World.{World}
-use Rattle.store.specs.Layout.{header_at, record_at, record_of, opened_at, floor_at, ceiling_at, padding, WroteHeader, MadeHeader, WroteRecord, Headed}
+use Rattle.store.proofs.Base.{◌≡◌, ℕ, ◌+◌, ◌*◌, ◌≤◌, List, [], ◌∷◌, get_or, refl, ap, ◌∙◌, arith, Node, cell_at, Room, same-node, Header, Record, World, header_at, record_at, record_of, opened_at}
+use Rattle.store.proofs.Base.{floor_at, ceiling_at, padding, MadeHeader, WroteRecord, Headed}
+use Rattle.std.proofs.Common.{set, length-set, get_or-set_other, get_or-set_same}
+use Rattle.run_index.proofs.Words.{stored, stored-wrote}
+use Rattle.store.specs.Layout.{WroteHeader}
 
 -- the eight words of a record, and back
 abbrev cell_of : Record → Node

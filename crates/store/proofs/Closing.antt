@@ -1,40 +1,9 @@
 -- Closing a world: the header and the record are written last, and no node. The world's tree and the free chain are those of the world at
 -- hand; the trees of other worlds have none of the cells that a change may touch. So each world has its tree again, together they share
 -- the nodes out as before, and what the world has more it may have. Assumes nothing.
-use Rattle.std.proofs.Common.{◌≡◌, ℕ, zero, suc, ◌+◌, ◌<◌, ◌≤◌, max, List, length, sym, refl, ap, ◌∙◌, subst, ap₂, arith}
-use native.Mathlib.Decide.{ℕ_discrete}
-use Rattle.model.specs.Numbers.{size, most_worlds}
-use Rattle.model.specs.Positions.{Positions, held_runs, stretches}
-use Rattle.model.proofs.Runs.{stretches-cong}
-use Rattle.run_index.specs.Cells.{cell_at}
-use Rattle.run_index.specs.Tree.{runs, count, At}
-use Rattle.run_index.specs.Strung.{times, Free}
-use Rattle.run_index.proofs.Heap.{frame}
-use Rattle.run_index.proofs.Bound.{rep-positive}
-use Rattle.run_index.proofs.Strings.{strung-kept}
-use Rattle.store.specs.declared.World.{World}
-use Rattle.store.specs.declared.layout.Header.{Header}
-use Rattle.store.specs.declared.layout.Record.{Record}
-use Rattle.store.specs.Layout.{
-  opened_at,
-  free_head,
-  record_at,
-  world_by,
-  world_at,
-  floor_at,
-  ceiling_at,
-  nodes,
-  record_of,
-  Headed,
-  capacity_of,
-  capacity,
-  held_in,
-  held_by,
-  tree_at,
-  allowance,
-}
-use Rattle.store.specs.Soundness.{Chain, first_of, last_of, Foreign, Standing, sum_to, without, runs_at, count_at, share_of, Planted, KeepsLimits, Sound}
-use Rattle.store.specs.Settle.{Closing, Closes}
+use Rattle.store.proofs.Base.{◌≡◌, ℕ, zero, suc, ◌+◌, ◌<◌, ◌≤◌, max, List, length, sym, refl, ap, ◌∙◌, subst, ap₂, arith, ℕ_discrete, size, most_worlds, Positions, held_runs, stretches, stretches-cong}
+use Rattle.store.proofs.Base.{cell_at, runs, count, At, times, Free, frame, rep-positive, strung-kept, World, Header, Record, opened_at, free_head, record_at, world_by, world_at, floor_at, ceiling_at, nodes, record_of, Headed}
+use Rattle.store.proofs.Base.{capacity_of, capacity, held_in, held_by, tree_at, allowance, Chain, first_of, last_of, Foreign, Standing, sum_to, without, runs_at, count_at, share_of, Planted, KeepsLimits, Sound, Closing, Closes}
 use Rattle.store.proofs.Sums.{sum_one, without-there, without-cong, without-most, sum-split}
 use Rattle.store.proofs.Cells.{record-same, header-same, padding-same}
 use Rattle.store.proofs.WorldLists.{claims-all}

@@ -1,11 +1,6 @@
 -- The nodes of some trees and of a list, counted by their numbers: the counts of the numbers 1 .. n add up to the number of nodes, so if no
 -- number stands twice and there are n nodes, each number stands once. Assumes nothing.
-use Rattle.std.proofs.Common.{◌≡◌, ℕ, zero, suc, ◌+◌, ◌<◌, ◌≤◌, List, [], ◌∷◌, length, refl, ap, ◌∙◌, arith}
-use native.Mathlib.Decide.{ℕ_discrete}
-use Rattle.run_index.specs.Tree.{Tree, leaf, node, runs, δ, count}
-use Rattle.run_index.specs.Strung.{times}
-use Rattle.run_index.proofs.Trees.{δ-same, δ-other}
-use Rattle.store.specs.Soundness.{sum_to}
+use Rattle.store.proofs.Base.{◌≡◌, ℕ, zero, suc, ◌+◌, ◌<◌, ◌≤◌, List, [], ◌∷◌, length, refl, ap, ◌∙◌, arith, ℕ_discrete, Tree, leaf, node, runs, δ, count, times, δ-same, δ-other, sum_to}
 use Rattle.store.proofs.Sums.{sum-cong}
 
 -- the sum of f over 1 .. n

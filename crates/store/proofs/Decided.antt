@@ -1,21 +1,10 @@
 -- The tests of specs/Decision.antt decide whether a world fits. A walk that accepts a link has met a tree there, in order and balanced, and
 -- each such tree is accepted; what a world's tests say of its tree, its sums and its bounds follows. Assumes nothing.
-use Rattle.std.proofs.Common.{◌≡◌, ℕ, zero, suc, ◌+◌, ◌-◌, ◌≤◌, true, not, ◌||◌, eqb, List, sym, refl, ◌∙◌, subst, arith, eq-eqb, eqb-true}
-use native.Mathlib.Decide.{ℕ_discrete}
-use Rattle.model.specs.Numbers.{size}
-use Rattle.model.specs.Positions.{held_runs}
-use Rattle.model.specs.RunList.{Canon}
-use Rattle.std.proofs.lemmas.Bool.Decides.{nat_tests}
-use Rattle.model.proofs.Edit.{and-holds}
-use Rattle.run_index.specs.declared.Node.{Node}
-use Rattle.run_index.specs.Cells.{cell_at}
-use Rattle.run_index.specs.Tree.{Tree, leaf, node, link, height, runs, ones, inorder, cell, Rep, rep-leaf, rep-node, At, Sums, Balanced}
-use Rattle.run_index.proofs.Words.{same-node}
-use Rattle.run_index.proofs.Trees.{rep_pos, rep-room, rep-cell, rep-left, rep-right, sums-leaf, sums-node}
-use Rattle.store.specs.declared.World.{World}
-use Rattle.store.specs.Layout.{held_in}
-use Rattle.store.specs.Soundness.{first_of, last_of, Planted}
-use Rattle.store.specs.Decision.{inside_b, below_of, agrees_b, cell_b, tree_b, world_b}
+use Rattle.store.proofs.Base.{◌≡◌, ℕ, zero, suc, ◌+◌, ◌-◌, ◌≤◌, true, not, ◌||◌, eqb, List, sym, refl, ◌∙◌, subst, arith, eq-eqb, eqb-true, ℕ_discrete, size, held_runs, Canon, nat_tests, and-holds}
+use Rattle.store.proofs.Base.{Node, cell_at, Tree, leaf, node, height, runs, ones, inorder, cell, Rep, At, Sums, Balanced, same-node, rep_pos, rep-room, rep-cell, rep-left, rep-right, sums-node, World, held_in, first_of, last_of}
+use Rattle.store.proofs.Base.{Planted, inside_b, below_of, agrees_b, cell_b, tree_b, world_b}
+use Rattle.run_index.specs.Tree.{link, rep-leaf, rep-node}
+use Rattle.run_index.proofs.Trees.{sums-leaf}
 use Rattle.store.proofs.Truths.{both-in}
 use Rattle.store.proofs.Tests.{inside-out, inside-in, below_none, below-some, run_out, run_in, heights-out, heights-in, sums-out, sums-in}
 use Rattle.store.proofs.Steps.{Fits, cell_out, tree-none, tree-node}

@@ -1,10 +1,5 @@
 -- The free chain is decided by following it. Assumes nothing.
-use Rattle.std.proofs.Common.{◌≡◌, ℕ, zero, suc, ◌+◌, ◌-◌, ◌≤◌, true, List, [], ◌∷◌, length, refl, ap, arith, eq-eqb, eqb-true, le-leb}
-use Rattle.std.proofs.lemmas.Bool.Decides.{nat_tests}
-use Rattle.model.proofs.Edit.{and-holds}
-use Rattle.run_index.specs.Cells.{cell_at}
-use Rattle.store.specs.Soundness.{Chain}
-use Rattle.store.specs.Decision.{free_b, chain_b, rest_b}
+use Rattle.store.proofs.Base.{◌≡◌, ℕ, zero, suc, ◌+◌, ◌-◌, ◌≤◌, true, List, [], ◌∷◌, length, refl, ap, arith, eq-eqb, eqb-true, le-leb, nat_tests, and-holds, cell_at, Chain, free_b, chain_b, rest_b}
 use Rattle.store.proofs.Truths.{both-in}
 use Rattle.store.proofs.Tests.{free-out, free_in}
 

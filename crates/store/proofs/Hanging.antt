@@ -1,14 +1,8 @@
 -- A tree that hangs at a link, in order and balanced; and a planted one, which can be searched, and whose world stands where nodes are shared
 -- out with others. Assumes nothing.
-use Rattle.std.proofs.Common.{◌≡◌, ℕ, zero, suc, ◌+◌, ◌*◌, ◌^◌, ◌<◌, ◌≤◌, List, length, subst, arith}
+use Rattle.store.proofs.Base.{◌≡◌, ℕ, zero, suc, ◌+◌, ◌*◌, ◌^◌, ◌<◌, ◌≤◌, List, length, subst, arith, size, Canon, Tree, leaf, node, height, runs, count, inorder, At, Balanced, Index, times, World, Chain}
+use Rattle.store.proofs.Base.{Share, Standing, Planted}
 use native.Mathlib.Nat.{one-le-pow, pow-succ'}
-use Rattle.model.specs.Numbers.{size}
-use Rattle.model.specs.RunList.{Canon}
-use Rattle.run_index.specs.Tree.{Tree, leaf, node, height, runs, count, inorder, At, Balanced}
-use Rattle.run_index.specs.Search.{Index}
-use Rattle.run_index.specs.Strung.{times}
-use Rattle.store.specs.declared.World.{World}
-use Rattle.store.specs.Soundness.{Chain, Share, Standing, Planted}
 
 -- a tree of nodes with the tag g at the link k, in order within lo .. total - 1, balanced, at most d high
 pub record Hangs (d : ℕ) (w : List ℕ) (g k lo total : ℕ) : Type 0 where

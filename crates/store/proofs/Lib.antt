@@ -1,4 +1,5 @@
 -- What the proofs of several functions use.
+pub mod Base
 pub mod Cells
 pub mod Capacities
 pub mod Parts

@@ -1,14 +1,8 @@
 -- The limits of worlds as words lend them, from world k on: how many there are, what it says of each of them that refusal 11 is not earned,
 -- and that 11 is decided world by world, where each floor is taken off what is left of the capacity. Assumes nothing.
-use Rattle.std.proofs.Common.{◌≡◌, ℕ, zero, suc, ◌+◌, ◌-◌, ◌/◌, ◌<◌, ◌≤◌, Bool, true, false, cond, not, ◌||◌, ltb, ◌⊎◌, List, ◌∷◌, length, sym, refl}
-use Rattle.std.proofs.Common.{ap, ◌∙◌, subst, inl, inr, arith, le-ltb, lt-ltb}
-use Rattle.std.proofs.lemmas.Bool.Decides.{nat_tests}
-use Rattle.model.specs.declared.Limits.{Limits}
-use Rattle.model.specs.Numbers.{most_worlds}
-use Rattle.model.specs.Refusals.{floors, crossed, bad_limits}
-use Rattle.model.specs.Pools.{limits_at, limits_from, limits_of}
-use Rattle.model.proofs.Numbers.{split}
-use Rattle.store.specs.Free.{limits_or_none}
+use Rattle.store.proofs.Base.{◌≡◌, ℕ, zero, suc, ◌+◌, ◌-◌, ◌/◌, ◌<◌, ◌≤◌, Bool, true, false, cond, not, ◌||◌, ltb, ◌⊎◌, List, ◌∷◌, length, sym, refl, ap, ◌∙◌, subst, inl, inr, arith}
+use Rattle.store.proofs.Base.{le-ltb, lt-ltb, nat_tests, Limits, most_worlds, floors, limits_at, limits_from, limits_of, split, limits_or_none}
+use Rattle.model.specs.Refusals.{crossed, bad_limits}
 
 -- ---- one world
 -- a world that the words lend has its limits there

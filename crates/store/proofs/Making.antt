@@ -1,45 +1,12 @@
 -- Making a pool: the nodes are freed from the last on down, each before the one freed last, so at each step the chain goes through the nodes
 -- after those left; then the header is written, and then the records one by one. No world of the pool made has a node, so each is empty and
 -- claims its floor, and the floors fit because the limits were not refused. Assumes nothing.
-use Rattle.std.proofs.Common.{◌≡◌, ℕ, zero, suc, ◌+◌, ◌-◌, ◌*◌, ◌<◌, ◌≤◌, ◌⊎◌, List, [], ◌∷◌, length, sym, refl, ap, ◌∙◌, subst, ap₂, inl, inr, arith}
-use Rattle.model.specs.declared.Limits.{Limits}
-use Rattle.model.specs.Numbers.{most_worlds}
-use Rattle.model.specs.Positions.{empty, stretches}
-use Rattle.model.specs.Refusals.{floors}
-use Rattle.model.specs.Pools.{PlainWorld, claims, limits_at, limits_from, limits_of, empty_world, empty_worlds}
-use Rattle.model.proofs.Numbers.{split}
-use Rattle.run_index.specs.declared.Node.{Node}
-use Rattle.run_index.specs.Cells.{cell_at, Room, Wrote}
-use Rattle.run_index.specs.Tree.{leaf, count, runs, tree_from}
-use Rattle.run_index.specs.Strung.{times, free_cell, Free}
-use Rattle.run_index.proofs.Trees.{leaf-at, wrote_as}
-use Rattle.run_index.proofs.Strings.{strung-kept}
-use Rattle.store.specs.declared.Links.{Links}
-use Rattle.store.specs.declared.layout.Header.{Header}
-use Rattle.store.specs.declared.layout.Record.{Record}
-use Rattle.store.specs.Layout.{
-  opened_at,
-  free_head,
-  record_at,
-  world_by,
-  world_at,
-  nodes,
-  header_at,
-  MadeHeader,
-  WroteRecord,
-  capacity_of,
-  capacity,
-  node_count,
-  highest,
-  held_from,
-  held_by,
-  tree_at,
-  plain_at,
-  worlds_from,
-  worlds_of,
-}
-use Rattle.store.specs.Soundness.{first_of, last_of, Chain, sum_to, runs_at, count_at, Planted, KeepsLimits}
-use Rattle.store.specs.Free.{after, Chained, limits_or_none, empty_record, Recorded, Makeable, Emptied}
+use Rattle.store.proofs.Base.{◌≡◌, ℕ, zero, suc, ◌+◌, ◌-◌, ◌*◌, ◌<◌, ◌≤◌, ◌⊎◌, List, [], ◌∷◌, length, sym, refl, ap, ◌∙◌, subst, ap₂, inl, inr, arith, Limits, most_worlds, empty}
+use Rattle.store.proofs.Base.{stretches, floors, PlainWorld, claims, limits_at, limits_from, limits_of, split, Node, cell_at, Room, Wrote, leaf, count, runs, tree_from, times, free_cell, Free, leaf-at, wrote_as, strung-kept, Links}
+use Rattle.store.proofs.Base.{Header, Record, opened_at, free_head, record_at, world_by, world_at, nodes, header_at, MadeHeader, WroteRecord, capacity_of, capacity, node_count, highest, held_from, held_by, tree_at, plain_at}
+use Rattle.store.proofs.Base.{worlds_from, worlds_of, first_of, last_of, Chain, sum_to, runs_at, count_at, Planted, KeepsLimits, after, limits_or_none}
+use Rattle.model.specs.Pools.{empty_world, empty_worlds}
+use Rattle.store.specs.Free.{Chained, empty_record, Recorded, Makeable, Emptied}
 use Rattle.store.proofs.Cells.{record-same, header-same, padding-same}
 use Rattle.store.proofs.Sums.{sum_more, sum-nothing}
 use Rattle.store.proofs.Parts.{lent, back, back-nodes, back_long, cell-nodes, nodes-long}

@@ -1,18 +1,12 @@
 -- What the run before a position and the run after it tell: which positions from here to there are held. And so which position of a
 -- turned set is held first and last, by the searches that start at the place of logical 0, and of logical M. Assumes nothing.
+use Rattle.store.proofs.Base.{◌≡◌, ℕ, suc, ◌+◌, ◌-◌, ◌<◌, ◌≤◌, Bool, true, false, cond, leb, ◌⊎◌, List, [], ◌∷◌, sym, refl, ap, ◌∙◌, subst, inl, inr, arith, leb-true, Run, size, split}
+use Rattle.store.proofs.Base.{held_runs, mem, Canon, mem-in, mem-above, mem-before, reaches, mem-last, physical_of, logical_of, turned, first_of, last_of}
 use Rattle.std.specs.Prelude.{Option, None, Some, MatchOption}
-use Rattle.std.proofs.Common.{◌≡◌, ℕ, suc, ◌+◌, ◌-◌, ◌<◌, ◌≤◌, Bool, true, false, cond, leb, ◌⊎◌, List, [], ◌∷◌, sym, refl, ap, ◌∙◌, subst, inl, inr, arith, leb-false, leb-true}
-use Rattle.model.specs.declared.Run.{Run}
+use Rattle.std.proofs.Common.{leb-false}
 use Rattle.model.specs.declared.Logical.{Logical}
-use Rattle.model.specs.Numbers.{size}
-use Rattle.model.proofs.Numbers.{split}
-use Rattle.model.specs.Positions.{held_runs, mem}
-use Rattle.model.specs.RunList.{Canon, or_else, last_up_to, first_from}
-use Rattle.model.proofs.RunList.{mem-in, mem-above, mem-under, mem_below, mem-before}
-use Rattle.model.proofs.Search.{reaches, mem-last}
-use Rattle.store.specs.Places.{physical_of, logical_of}
-use Rattle.store.specs.Layout.{turned}
-use Rattle.store.specs.Soundness.{first_of, last_of}
+use Rattle.model.specs.RunList.{or_else, last_up_to, first_from}
+use Rattle.model.proofs.RunList.{mem-under, mem_below}
 use Rattle.store.proofs.Ends.{clash, empty-mem, turned-first, turned-last, turned_none}
 
 -- r is a run of the list, that is, its positions are held and those next to it are not

@@ -1,18 +1,7 @@
 -- What a world that stands gives its readers: its tree at its root, that its positions are the tree's, turned by the offset, and that it holds
 -- some exactly if it has runs. And what a sound pool gives: its world stands, with nodes enough for what it may hold. Assumes nothing.
-use Rattle.std.proofs.Common.{◌≡◌, ℕ, ◌<◌, ◌≤◌, true, false, List, [], ◌∷◌, length, sym, ap, ◌∙◌, arith}
-use Rattle.model.specs.declared.Run.{Run}
-use Rattle.model.specs.Numbers.{size}
-use Rattle.store.specs.Places.{physical_of, logical_of}
-use Rattle.model.specs.Positions.{Positions, mem}
-use Rattle.model.specs.RunList.{Canon}
-use Rattle.model.proofs.RunList.{mem-in}
-use Rattle.run_index.specs.Tree.{runs, inorder}
-use Rattle.run_index.specs.Search.{Index, runs_from}
-use Rattle.run_index.proofs.Totals.{runs-length}
-use Rattle.store.specs.declared.World.{World}
-use Rattle.store.specs.Layout.{turned, held_in}
-use Rattle.store.specs.Soundness.{Share, Standing}
+use Rattle.store.proofs.Base.{◌≡◌, ℕ, ◌<◌, ◌≤◌, true, false, List, [], ◌∷◌, length, sym, ap, ◌∙◌, arith, Run, size, physical_of, logical_of, Positions, mem, Canon, mem-in, runs, inorder, Index, runs_from}
+use Rattle.store.proofs.Base.{runs-length, World, turned, held_in, Share, Standing}
 use Rattle.store.proofs.Turn.{turned-at, turned-logical}
 use Rattle.store.proofs.Ends.{empty-mem}
 use Rattle.store.proofs.Nodes.{kept-index}

@@ -1,12 +1,9 @@
 -- The part of a pool's words from word 128 on, lent and come back: what the index promises of the part, it promises of the nodes; the words
 -- before are as they were; and the cell of node n there is the cell 16 + n of the whole. Assumes nothing.
-use Rattle.std.proofs.Common.{◌≡◌, ℕ, ◌+◌, ◌-◌, ◌*◌, ◌<◌, ◌≤◌, List, [], ◌++◌, length, get_or, take, drop, sym, ap, ◌∙◌, subst, append-nil, arith}
-use Rattle.std.proofs.Common.{length-append, length-drop, take-append-drop, length-take-le, get_or-drop, take_all, get_or-take, take_at, drop_at}
+use Rattle.store.proofs.Base.{◌≡◌, ℕ, ◌+◌, ◌-◌, ◌*◌, ◌<◌, ◌≤◌, List, [], ◌++◌, length, get_or, sym, ap, ◌∙◌, subst, arith, length-append, cell_at, same-node, nodes}
+use Rattle.std.proofs.Common.{take, drop, append-nil, length-drop, take-append-drop, length-take-le, get_or-drop, take_all, get_or-take, take_at, drop_at}
 use native.Mathlib.Decide.{dec_lt}
 use lib.Seq.{drop-length}
-use Rattle.run_index.specs.Cells.{cell_at}
-use Rattle.run_index.proofs.Words.{same-node}
-use Rattle.store.specs.Layout.{nodes}
 
 -- the words before the nodes
 unfoldable pub front : List ℕ → List ℕ

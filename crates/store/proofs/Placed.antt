@@ -1,21 +1,9 @@
 -- The tests of a pool's worlds as facts, and back: a world passes exactly if its tree and its record fit and it keeps its limits. What
 -- `place_at` and `runs_counted` return follows, test by test: each that fails is a part of the definition that fails. Assumes nothing.
-use Rattle.std.proofs.Common.{◌≡◌, ℕ, zero, suc, ◌+◌, ◌-◌, ◌*◌, ◌^◌, ◌<◌, ◌≤◌, Bool, true}
-use Rattle.std.proofs.Common.{Some, None, List, length, sym, refl, ap, ◌∙◌, subst, arith, le-leb}
-use native.Mathlib.Decide.{ℕ_discrete}
-use Rattle.model.specs.Numbers.{most_worlds}
-use Rattle.model.specs.Positions.{stretches}
-use Rattle.model.specs.Pools.{claims}
-use Rattle.std.proofs.lemmas.Bool.Decides.{nat_tests}
-use Rattle.model.proofs.Edit.{and-holds}
-use Rattle.run_index.specs.Tree.{runs}
-use Rattle.run_index.specs.Search.{Indexed, runs_from}
-use Rattle.store.specs.declared.World.{World}
-use Rattle.store.specs.declared.Set.{Set}
+use Rattle.store.proofs.Base.{◌≡◌, ℕ, zero, suc, ◌+◌, ◌-◌, ◌*◌, ◌^◌, ◌<◌, ◌≤◌, Bool, true, Some, None, List, length, sym, refl, ap, ◌∙◌, subst, arith, le-leb, ℕ_discrete, most_worlds, stretches}
+use Rattle.store.proofs.Base.{claims, nat_tests, and-holds, runs, Indexed, runs_from, World, Set, world_at, floor_at, ceiling_at, nodes, capacity, held, held_by, worlds_from, sum_to, runs_at, Planted, KeepsLimits, world_b, place_b}
+use Rattle.store.proofs.Base.{worlds_b, told_runs, place_of, runs_of}
 use Rattle.store.specs.declared.soundness.Place.{Place}
-use Rattle.store.specs.Layout.{world_at, floor_at, ceiling_at, nodes, capacity, held, held_by, worlds_from}
-use Rattle.store.specs.Soundness.{sum_to, runs_at, Planted, KeepsLimits}
-use Rattle.store.specs.Decision.{world_b, place_b, worlds_b, told_runs, place_of, runs_of}
 use Rattle.store.proofs.Parts.{lent, lent-nodes}
 use Rattle.store.proofs.Sums.{sum_more, sum-nothing, sum-cong, sum-front}
 use Rattle.store.proofs.WorldLists.{claims-first}

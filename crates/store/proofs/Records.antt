@@ -1,13 +1,9 @@
 -- The tests of a pool's header and records as facts, and back: the header's words are those of 1 to 16 worlds, and the records of worlds that
 -- were not opened are zeros. What the code's own tests come to follows. Assumes nothing.
-use Rattle.std.proofs.Common.{◌≡◌, ℕ, zero, suc, ◌+◌, ◌-◌, ◌<◌, ◌≤◌, true, ◌&&◌, List, [], ◌∷◌, get_or, slice_index, refl, ap, subst, arith}
-use native.Mathlib.Decide.{ℕ_discrete}
-use Rattle.std.proofs.lemmas.Bool.Decides.{nat_tests}
-use Rattle.model.specs.Numbers.{most_worlds}
-use Rattle.model.proofs.Edit.{and-holds}
-use Rattle.store.specs.declared.layout.Record.{Record}
-use Rattle.store.specs.Layout.{opened_at, record_at, no_record, padding, padded_b, IsPadded}
-use Rattle.store.specs.Decision.{header_b, nothing_b, unopened_b}
+use Rattle.store.proofs.Base.{◌≡◌, ℕ, zero, suc, ◌+◌, ◌-◌, ◌<◌, ◌≤◌, true, ◌&&◌, List, [], ◌∷◌, get_or, refl, ap, subst, arith, ℕ_discrete, nat_tests, most_worlds, and-holds, Record, opened_at}
+use Rattle.store.proofs.Base.{record_at, padding, header_b, nothing_b, unopened_b}
+use Rattle.std.proofs.Common.{slice_index}
+use Rattle.store.specs.Layout.{no_record, padded_b, IsPadded}
 use Rattle.store.proofs.Truths.{both-in}
 
 -- ---- the header

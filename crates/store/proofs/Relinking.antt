@@ -1,25 +1,16 @@
 -- A world whose pool's free nodes were threaded anew stands as it did. The nodes that have no height are just the free ones, since a node of any
 -- tree has a height: so the chain has the same nodes, and no cell of a tree has changed. Assumes nothing.
+use Rattle.store.proofs.Base.{fun_ext, ℕ_discrete, size, most_worlds, Positions, held_runs, stretches, split, cell_at, Room, count, At, times, Free, frame, strung-kept, World, Record, opened_at, free_head, record_at, floor_at}
+use Rattle.store.proofs.Base.{ceiling_at, record_of, Headed, world_at, nodes, links_of, node_count, held_in, held_by, allowance, Chain, first_of, last_of, Share, Kept, Standing, sum_to, without, count_at, share_of, Planted, Sound}
+use Rattle.store.proofs.Base.{Became, Openable, Opened, Closing, Closes, lows}
 use Prim.Native.Nat.{ℕ, zero, suc, ◌+◌, ◌≤◌, ◌<◌}
-use mathlib.Core.Path.{◌≡◌, sym, ap, ◌∙◌, subst, fun_ext}
+use mathlib.Core.Path.{◌≡◌, sym, ap, ◌∙◌, subst}
 use mathlib.Core.Logic.{◌⊎◌, inl, inr}
 use mathlib.Core.List.{List}
 use native.Mathlib.Omega.{arith}
-use native.Mathlib.Decide.{ℕ_discrete}
 use lib.ListN.{length}
-use Rattle.model.specs.Numbers.{size, most_worlds}
-use Rattle.model.specs.Positions.{Positions, held_runs, stretches}
-use Rattle.model.proofs.Numbers.{split}
-use Rattle.run_index.specs.Cells.{cell_at, Room}
-use Rattle.run_index.specs.Tree.{count, At}
-use Rattle.run_index.specs.Strung.{times, Free}
-use Rattle.run_index.proofs.Heap.{frame}
-use Rattle.run_index.proofs.Strings.{strung-kept}
-use Rattle.store.specs.declared.World.{World}
-use Rattle.store.specs.declared.layout.Record.{Record}
-use Rattle.store.specs.Layout.{opened_at, free_head, record_at, floor_at, ceiling_at, record_of, Headed, world_at, nodes, links_of, node_count, held_in, held_by, allowance}
-use Rattle.store.specs.Soundness.{Chain, first_of, last_of, Share, Kept, Standing, sum_to, without, count_at, share_of, Planted, Sound}
-use Rattle.store.specs.Settle.{Settled, Became, Openable, Opened, Closing, Closes}
+use Rattle.store.specs.Settle.{Settled}
+use Rattle.store.specs.Relink.{Threaded, Tidied, free_nodes, InOrder}
 use Rattle.store.proofs.Sums.{sum-some, without-here, without-there}
 use Rattle.store.proofs.Cells.{record-same}
 use Rattle.store.proofs.Closing.{closing-head, closing-nodes}
@@ -32,7 +23,6 @@ use Rattle.store.proofs.Reached.{tree-held, kept_low}
 use Rattle.store.proofs.Sharing.{node_of}
 use Rattle.store.proofs.Turn.{pool-past}
 use Rattle.store.proofs.Counting.{Among, sum, sum-times}
-use Rattle.store.specs.Relink.{lows, Threaded, Tidied, free_nodes, InOrder}
 use Rattle.store.proofs.Threading.{lows-before, lows-high, lows-once}
 
 -- the world with another head of the free chain

@@ -1,12 +1,7 @@
 -- The nodes of a pool, shared out: a node of a tree has its world's number as its tag, so no node is in two trees; it has a height, and a free
 -- node has none, so the free chain meets no tree. So where the trees and the chain have as many nodes as there are, each node is in one of
 -- them, once, by counting. Assumes nothing.
-use Rattle.std.proofs.Common.{◌≡◌, ℕ, ◌+◌, ◌*◌, ◌<◌, ◌≤◌, List, length, sym, arith}
-use native.Mathlib.Decide.{ℕ_discrete}
-use Rattle.run_index.specs.Cells.{cell_at}
-use Rattle.run_index.specs.Strung.{times}
-use Rattle.store.specs.Layout.{free_head, world_at, nodes, tree_at}
-use Rattle.store.specs.Soundness.{Chain, sum_to, runs_at, count_at, Planted}
+use Rattle.store.proofs.Base.{◌≡◌, ℕ, ◌+◌, ◌*◌, ◌<◌, ◌≤◌, List, length, sym, arith, ℕ_discrete, cell_at, times, free_head, world_at, nodes, tree_at, Chain, sum_to, runs_at, count_at, Planted}
 use Rattle.store.proofs.Sums.{sum-some, sum-single}
 use Rattle.store.proofs.Counting.{Among, each-once}
 use Rattle.store.proofs.Chains.{chain-once, chain-free, free-low}

@@ -1,14 +1,8 @@
 -- What the functions of `soundness` return, by the tests that led there: each definition opened by one step. Assumes nothing.
-use Rattle.std.proofs.Common.{◌≡◌, ℕ, zero, suc, ◌+◌, ◌-◌, ◌^◌, ◌<◌, ◌≤◌, Bool, cond, true, false, ◌&&◌, eqb, List, sym, refl, ap, ◌∙◌, arith, eq-eqb, eqb-true}
-use Rattle.std.proofs.Common.{Option, Some, None, SomeIff}
-use native.Mathlib.Decide.{ℕ_discrete}
-use Rattle.std.proofs.lemmas.Bool.Decides.{nat_tests}
-use Rattle.model.proofs.Edit.{and-holds}
-use Rattle.run_index.specs.declared.Node.{Node}
-use Rattle.run_index.specs.Cells.{Room}
-use Rattle.run_index.specs.Tree.{width}
-use Rattle.store.specs.declared.soundness.Bounds.{Bounds}
-use Rattle.store.specs.Decision.{inside_b, below_of, run_b, heights_b, sums_b, words_b, agrees_b, cell_b, leaf_b, side_b, tree_b, Seen, Tells}
+use Rattle.store.proofs.Base.{◌≡◌, ℕ, zero, suc, ◌+◌, ◌-◌, ◌^◌, ◌<◌, ◌≤◌, Bool, cond, true, false, ◌&&◌, eqb, List, sym, refl, ap, ◌∙◌, arith, eq-eqb, eqb-true, Some, None, ℕ_discrete}
+use Rattle.store.proofs.Base.{nat_tests, and-holds, Node, Room, width, Bounds, inside_b, below_of, run_b, heights_b, sums_b, agrees_b, cell_b, tree_b, Seen, Tells}
+use Rattle.std.proofs.Common.{Option, SomeIff}
+use Rattle.store.specs.Decision.{words_b, leaf_b, side_b}
 use Rattle.store.proofs.Truths.{never, is_false, same, both-in}
 use Rattle.store.proofs.Tests.{inside-in, below_none, below-some, heights-out, heights-in, sums-out, sums-in, run_out}
 

@@ -1,12 +1,9 @@
 -- The free chain followed in strides of 64 links: whether it fits is decided by the links left. Assumes nothing.
-use Rattle.std.proofs.Common.{◌≡◌, ℕ, zero, suc, ◌+◌, ◌-◌, ◌*◌, ◌/◌, ◌%◌, ◌<◌, ◌≤◌, Bool, true, false, ◌&&◌, List, sym, refl, ap, ◌∙◌, arith}
+use Rattle.store.proofs.Base.{◌≡◌, ℕ, zero, suc, ◌+◌, ◌-◌, ◌*◌, ◌/◌, ◌%◌, ◌<◌, ◌≤◌, Bool, true, false, ◌&&◌, List, sym, refl, ap, ◌∙◌, arith, bool_byte, one_if, Node, cell_at, free_b}
+use Rattle.store.proofs.Base.{chain_b, along_of, falls}
 use Rattle.std.proofs.Common.{if◌then◌else◌, nat_lt, ◌==◌}
-use mir.Val.{bool_byte}
-use Rattle.model.specs.Positions.{one_if}
-use Rattle.run_index.specs.declared.Node.{Node}
-use Rattle.run_index.specs.Cells.{cell_at}
+use Rattle.store.specs.Decision.{stride}
 use Rattle.store.proofs.Truths.{byte-one, byte-small}
-use Rattle.store.specs.Decision.{free_b, chain_b, along_of, stride, falls}
 
 -- ---- following links
 -- none is left

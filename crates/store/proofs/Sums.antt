@@ -1,8 +1,5 @@
 -- Sums over the worlds of a pool: of one world and of the others; and of terms that are the same. Assumes nothing.
-use Rattle.std.proofs.Common.{◌≡◌, ℕ, zero, suc, ◌+◌, ◌<◌, ◌≤◌, cond, refl, ap, ap₂, arith, eq-eqb, ne_eqb}
-use native.Mathlib.Decide.{ℕ_discrete}
-use Rattle.std.proofs.lemmas.Bool.Decides.{nat_tests}
-use Rattle.store.specs.Soundness.{sum_to, without}
+use Rattle.store.proofs.Base.{◌≡◌, ℕ, zero, suc, ◌+◌, ◌<◌, ◌≤◌, cond, refl, ap, ap₂, arith, eq-eqb, ne_eqb, ℕ_discrete, nat_tests, sum_to, without}
 
 -- one term more
 pub sum_more : (n : ℕ) (f : ℕ → ℕ) → sum_to (suc n) f ≡ sum_to n f + f n

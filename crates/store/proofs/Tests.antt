@@ -1,15 +1,10 @@
 -- The tests of specs/Decision.antt as facts, and back: a test is true exactly where each of its parts holds. What the code's own tests
 -- come to follows, since two tests that are true alike are equal. Assumes nothing.
-use Rattle.std.proofs.Common.{◌≡◌, ℕ, zero, suc, ◌+◌, ◌-◌, ◌/◌, ◌%◌, ◌^◌, ◌<◌, ◌≤◌, max, true, leb, List, length, refl}
-use Rattle.std.proofs.Common.{◌∙◌, le_trans, arith, ltb-true, lt-ltb, le-leb, leb-true}
+use Rattle.store.proofs.Base.{◌≡◌, ℕ, zero, suc, ◌+◌, ◌-◌, ◌/◌, ◌%◌, ◌^◌, ◌<◌, ◌≤◌, max, true, leb, List, length, refl, ◌∙◌, arith, lt-ltb, le-leb, leb-true, nat_tests, Node, cell_at, Room}
+use Rattle.store.proofs.Base.{width, free_cell, same-node, inside_b, below_of, run_b, heights_b, sums_b, free_b}
+use Rattle.std.proofs.Common.{le_trans, ltb-true}
 use lib.Bits.{bit_or, or_add_and, and_le_l, and_le_r, or_lt}
-use Rattle.std.proofs.lemmas.Bool.Decides.{nat_tests}
-use Rattle.run_index.specs.declared.Node.{Node}
-use Rattle.run_index.specs.Cells.{cell_at, Room}
-use Rattle.run_index.specs.Tree.{width}
-use Rattle.run_index.specs.Strung.{free_cell}
-use Rattle.run_index.proofs.Words.{same-node}
-use Rattle.store.specs.Decision.{inside_b, below_of, within_b, run_b, heights_b, sums_b, zeros_b, free_b}
+use Rattle.store.specs.Decision.{within_b, zeros_b}
 use Rattle.store.proofs.Truths.{same}
 use Rattle.store.proofs.Chains.{FreeAt}
 

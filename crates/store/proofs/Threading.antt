@@ -1,21 +1,16 @@
 -- Threading the nodes that have no height, from the last on down, each before the one threaded last: so at each step the chain goes through those
 -- after the nodes left. Assumes nothing.
+use Rattle.store.proofs.Base.{ℕ_discrete, Node, cell_at, Room, Wrote, times, free_cell, Free, δ-same, δ-other, strung-kept, Chain, lows}
 use Prim.Native.Nat.{ℕ, zero, suc, ◌+◌, ◌-◌, ◌*◌, ◌≤◌, ◌<◌}
 use mathlib.Core.Path.{◌≡◌, refl, sym, ap, ◌∙◌, subst}
 use mathlib.Core.Logic.{inl, inr}
 use mathlib.Core.Bool.{cond}
 use mathlib.Core.List.{List, [], ◌∷◌}
 use native.Mathlib.Omega.{arith}
-use native.Mathlib.Decide.{ℕ_discrete}
 use lib.ListN.{length}
 use borrow.Author.Tests.{eq-eqb, ne_eqb}
-use Rattle.run_index.specs.declared.Node.{Node}
-use Rattle.run_index.specs.Cells.{cell_at, Room, Wrote}
-use Rattle.run_index.specs.Strung.{times, free_cell, Free}
-use Rattle.run_index.proofs.Trees.{δ-same, δ-other, δ-zero}
-use Rattle.run_index.proofs.Strings.{strung-kept}
-use Rattle.store.specs.Soundness.{Chain}
-use Rattle.store.specs.Relink.{lows, Threads}
+use Rattle.run_index.proofs.Trees.{δ-zero}
+use Rattle.store.specs.Relink.{Threads}
 
 -- ---- the nodes that have no height
 module _ (w : List ℕ) where

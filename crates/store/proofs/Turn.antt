@@ -1,17 +1,16 @@
 -- Logical positions are physical ones turned by an offset: a logical range is one physical range, or, where it passes physical M,
 -- two, the second of them from 0 on. Each is read where it lies (module Moved), and what is reported of the logical range is put
 -- together of their reports. Assumes nothing.
+use Rattle.store.proofs.Base.{◌≡◌, ℕ, suc, ◌+◌, ◌-◌, ◌<◌, ◌≤◌, Bool, true, false, ◌&&◌, List, length, sym, refl, ap, ◌∙◌, ap₂, arith, le-ltb, lt-ltb, size, Positions, one_if, held_runs, stretches}
+use Rattle.store.proofs.Base.{mem, physical_of, logical_of, world_at, nodes, physical_runs, turned, held_from, held_by}
 use Rattle.std.specs.Prelude.{option_map}
-use Rattle.std.proofs.Common.{◌≡◌, ℕ, suc, ◌+◌, ◌-◌, ◌<◌, ◌≤◌, Bool, true, false, ◌&&◌, List, length, sym, refl, ap, ◌∙◌, ap₂, add_comm, arith, le-ltb, lt-ltb}
+use Rattle.std.proofs.Common.{add_comm}
 use mathlib.Core.Bool.{beq}
-use Rattle.model.specs.Numbers.{size}
-use Rattle.model.specs.Positions.{Positions, one_if, count, select, runs_in, run_count, held_runs, stretches, mem}
+use Rattle.model.specs.Positions.{count, select, runs_in, run_count}
 use Rattle.model.proofs.Counting.{beq-true, count_cut}
 use Rattle.model.proofs.Runs.{runs_in-length-join, held_runs-cong}
-use Rattle.store.specs.Places.{physical_of, logical_of}
-use Rattle.store.proofs.Conversions.{physical-logical}
-use Rattle.store.specs.Layout.{world_at, nodes, physical_runs, turned, held_from, held_by}
 use Rattle.model.proofs.Moved.{Alike, move, count-moved, run_count-moved, select-moved}
+use Rattle.store.proofs.Conversions.{physical-logical}
 
 -- ---- single positions
 -- a logical position is held where its physical one is

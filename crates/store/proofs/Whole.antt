@@ -1,12 +1,7 @@
 -- The tests of the whole pool decide whether it is sound: where they pass, the trees and the free chain have as many nodes as there are, so
 -- they share them out; and a sound pool passes each. Assumes nothing.
-use Rattle.std.proofs.Common.{◌≡◌, ℕ, ◌+◌, ◌-◌, ◌*◌, ◌<◌, ◌≤◌, true, List, length, arith, le-leb}
-use Rattle.model.specs.Numbers.{most_worlds}
-use Rattle.model.specs.Pools.{claims}
-use Rattle.std.proofs.lemmas.Bool.Decides.{nat_tests}
-use Rattle.store.specs.Layout.{opened_at, free_head, world_at, nodes, capacity, node_count, worlds_of}
-use Rattle.store.specs.Soundness.{sum_to, runs_at, Planted, Sound}
-use Rattle.store.specs.Decision.{rest_b, header_b, worlds_b, unopened_b, told_runs, sound_b}
+use Rattle.store.proofs.Base.{◌≡◌, ℕ, ◌+◌, ◌-◌, ◌*◌, ◌<◌, ◌≤◌, true, List, length, arith, le-leb, most_worlds, claims, nat_tests, opened_at, free_head, world_at, nodes, capacity, node_count, worlds_of}
+use Rattle.store.proofs.Base.{sum_to, runs_at, Planted, Sound, rest_b, header_b, worlds_b, unopened_b, told_runs, sound_b}
 use Rattle.store.proofs.Parts.{nodes-length}
 use Rattle.store.proofs.Nodes.{sized-length}
 use Rattle.store.proofs.Following.{rest_b-yes, rest_b-no}

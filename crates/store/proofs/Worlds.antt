@@ -1,26 +1,11 @@
 -- A world of a sound pool, opened: its tree is the one that its root leads to, so its part of the nodes is the pool's but for the other
 -- worlds' trees; and it may have its allowance, since the trees of at most sixteen worlds have at most sixteen runs more than these claim.
 -- What a world claims is told by the count of its logical runs, and its allowance by the claims of the others, one by one. Assumes nothing.
-use Rattle.std.proofs.Common.{◌≡◌, ℕ, zero, suc, ◌+◌, ◌-◌, ◌*◌, ◌<◌, ◌≤◌, min, max, Bool, true, false, ◌&&◌, List, length, sym, refl, ap, ◌∙◌, subst, ap₂, arith}
-use native.Mathlib.Decide.{ℕ_discrete}
-use Rattle.model.specs.declared.Run.{Run}
-use Rattle.model.specs.Numbers.{size}
-use Rattle.model.specs.Positions.{Positions, one_if, stretches, mem}
-use Rattle.model.specs.RunList.{Canon}
+use Rattle.store.proofs.Base.{◌≡◌, ℕ, zero, suc, ◌+◌, ◌-◌, ◌*◌, ◌<◌, ◌≤◌, min, max, Bool, true, false, ◌&&◌, List, length, sym, refl, ap, ◌∙◌, subst, ap₂, arith, ℕ_discrete, Run, size}
+use Rattle.store.proofs.Base.{Positions, one_if, stretches, mem, Canon, claim, other_claims, stretches-is, Room, Tree, runs, count, inorder, Indexed, runs_from, runs-length, index-runs, World, Record, physical_of, opened_at, record_at}
+use Rattle.store.proofs.Base.{world_at, ceiling_at, nodes, capacity, turned, held_by, tree_at, plain_at, worlds_of, allowance, Standing, sum_to, without, runs_at, count_at, share_of, Planted, Sound, Openable, Opened}
+use Rattle.model.specs.Pools.{allowance_of}
 use Rattle.model.specs.Pools
-use Rattle.model.specs.Pools.{claim, other_claims, allowance_of}
-use Rattle.model.proofs.Runs.{stretches-is}
-use Rattle.run_index.specs.Cells.{Room}
-use Rattle.run_index.specs.Tree.{Tree, runs, count, inorder}
-use Rattle.run_index.specs.Search.{Indexed, runs_from}
-use Rattle.run_index.proofs.Totals.{runs-length}
-use Rattle.run_index.proofs.Reached.{index-runs}
-use Rattle.store.specs.declared.World.{World}
-use Rattle.store.specs.declared.layout.Record.{Record}
-use Rattle.store.specs.Places.{physical_of}
-use Rattle.store.specs.Layout.{opened_at, record_at, world_at, ceiling_at, nodes, capacity, turned, held_by, tree_at, plain_at, worlds_of, allowance}
-use Rattle.store.specs.Soundness.{Standing, sum_to, without, runs_at, count_at, share_of, Planted, Sound}
-use Rattle.store.specs.Settle.{Openable, Opened}
 use Rattle.store.proofs.Sums.{sum_more, sum-nothing, sum-most, sum_both, sum-front, without-here, without-there, sum-split}
 use Rattle.store.proofs.WorldLists.{opened-world, claims-all, claims-others}
 use Rattle.store.proofs.Parts.{lent, lent-nodes, of-nodes, nodes-length}

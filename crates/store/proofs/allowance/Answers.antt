@@ -1,7 +1,6 @@
 -- `allowance` meets its contract. The invariant of both loops: what is left and what the worlds passed so far claim, but for world k, are the
 -- capacity. Assumes nothing.
-use Rattle.std.proofs.Common.{◌≡◌, ℕ, ◌+◌, ◌≤◌, min, sym, ap, ◌∙◌, subst, arith}
-use Rattle.store.specs.declared.layout.Record.{Record}
+use Rattle.store.proofs.Base.{◌≡◌, ℕ, ◌+◌, ◌≤◌, min, sym, ap, ◌∙◌, subst, arith, Record}
 use Rattle.store.proofs.Worlds.{LeftOver, leaves_none, leaves-more, leaves-same, leaves_all, claim-left}
 use Rattle.store.proofs.allowance.Goals as goal
 use Rattle.store.proofs.allowance.Goals.{After-claim-left, After-claim-left-in-loop-j}

@@ -1,9 +1,5 @@
 -- `claim` meets its contract: the count of logical runs is asked of the nodes, and tells those of the positions held. Assumes nothing.
-use Rattle.std.proofs.Common.{length, sym, ap, ◌∙◌}
-use Rattle.model.specs.Positions.{stretches}
-use Rattle.store.specs.declared.Set.{Set}
-use Rattle.store.specs.Layout.{world_at, nodes, held}
-use Rattle.store.specs.Soundness.{Planted}
+use Rattle.store.proofs.Base.{length, sym, ap, ◌∙◌, stretches, Set, world_at, nodes, held, Planted}
 use Rattle.store.proofs.Worlds.{planted-indexed, planted-counted, claim-told}
 use Rattle.store.proofs.claim.Goals as goal
 use Rattle.store.proofs.claim.Goals.{Start}

@@ -1,9 +1,5 @@
 -- `open` meets its contract: the world that a record of a sound pool tells; words, and so offsets, are below 2^64. Assumes nothing.
-use Rattle.std.proofs.Common.{ℕ, ◌+◌, ◌*◌, ◌<◌, sym, subst, arith}
-use Rattle.model.specs.Numbers.{size}
-use Rattle.store.specs.declared.World.{World}
-use Rattle.store.specs.Layout.{record_at, world_at}
-use Rattle.store.specs.Settle.{Opened}
+use Rattle.store.proofs.Base.{ℕ, ◌+◌, ◌*◌, ◌<◌, sym, subst, arith, size, World, record_at, world_at, Opened}
 use Rattle.store.proofs.Worlds.{opened-told}
 use Rattle.store.proofs.open.Goals as goal
 use Rattle.store.proofs.open.Goals.{After-read_world}

@@ -1,11 +1,7 @@
 -- `tree_fits` meets its contract. The loop's invariant: the walk of the link at hand decides for the whole, at any depth that is left, and
 -- no node there is higher than the link's. The tests are the definition's; either side of a node is lower than the node. The measure of the
 -- recursion and of the loop is the height that the words give. Assumes nothing.
-use Rattle.std.proofs.Common.{◌≡◌, ℕ, true, false, Some, None, sym, ap, ◌∙◌, subst, arith}
-use Rattle.run_index.specs.declared.Node.{Node}
-use Rattle.run_index.specs.Cells.{Room}
-use Rattle.store.specs.declared.soundness.Bounds.{Bounds}
-use Rattle.store.specs.Decision.{Seen}
+use Rattle.store.proofs.Base.{◌≡◌, ℕ, true, false, Some, None, sym, ap, ◌∙◌, subst, arith, Node, Room, Bounds, Seen}
 use Rattle.store.proofs.Tests.{inside-out}
 use Rattle.store.proofs.Steps.{OwnFits, SideTells, tells_none, missing, outside, node-fails, node-passes, left-leaves, right-leaves, crowded, lower, walked, refuses, sides}
 use Rattle.store.proofs.soundness.+tree_fits.Goals as goal

@@ -1,6 +1,5 @@
 -- `along` meets its contract. The loop's invariant: the links left lead where all of them do. Assumes nothing.
-use Rattle.std.proofs.Common.{◌≡◌, ◌-◌}
-use Rattle.store.specs.Decision.{along_of}
+use Rattle.store.proofs.Base.{◌≡◌, ◌-◌, along_of}
 use Rattle.store.proofs.soundness.along.Given as goal
 
 abbrev pub invariant-loop : goal.invariant-loop

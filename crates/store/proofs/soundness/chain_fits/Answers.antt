@@ -1,7 +1,6 @@
 -- `chain_fits` meets its contract. The loop's invariant: what is left of the chain decides for the whole. Assumes nothing.
-use Rattle.std.proofs.Common.{sym, refl, ◌∙◌, arith}
-use Rattle.std.proofs.lemmas.Bool.Decides.{nat_tests}
-use Rattle.store.specs.Decision.{chain_of, chain_b, falls}
+use Rattle.store.proofs.Base.{sym, refl, ◌∙◌, arith, nat_tests, chain_b, falls}
+use Rattle.store.specs.Decision.{chain_of}
 use Rattle.store.proofs.Tests.{free-out}
 use Rattle.store.proofs.Strides.{following-none, following-more, chain-last, all-counted}
 use Rattle.store.proofs.soundness.chain_fits.Goals as goal

@@ -1,8 +1,6 @@
 -- `check` meets its contract: the tests are the definition's, in another order. Assumes nothing.
-use Rattle.std.proofs.Common.{arith}
-use Rattle.std.proofs.lemmas.Bool.Decides.{nat_tests}
-use Rattle.store.specs.Layout.{worlds_of}
-use Rattle.store.specs.Decision.{checked, sound_b, header_b, runs_of, rest_of}
+use Rattle.store.proofs.Base.{arith, nat_tests, worlds_of, sound_b, header_b, runs_of}
+use Rattle.store.specs.Decision.{checked, rest_of}
 use Rattle.store.proofs.Parts.{lent-nodes}
 use Rattle.store.proofs.soundness.check.Goals as goal
 

@@ -1,9 +1,6 @@
 -- `place_at` meets its contract: the tests are the definition's; what `bounds` returns of the tree is what the world's positions have. Assumes
 -- nothing.
-use Rattle.std.proofs.Common.{length, sym, ap, ◌∙◌, arith}
-use Rattle.std.proofs.lemmas.Bool.Decides.{nat_tests}
-use Rattle.store.specs.declared.Set.{Set}
-use Rattle.store.specs.Decision.{place_of, place_b}
+use Rattle.store.proofs.Base.{length, sym, ap, ◌∙◌, arith, nat_tests, Set, place_of, place_b}
 use Rattle.store.proofs.Placed.{world-told, world-counted, world-seen, many-are}
 use Rattle.store.proofs.soundness.place_at.Goals as goal
 

@@ -1,6 +1,5 @@
 -- `runs_counted` meets its contract. The loop's invariant: the worlds before k fit, and what they have and claim is counted. Assumes nothing.
-use Rattle.std.proofs.Common.{◌≡◌, ap, ◌∙◌, arith}
-use Rattle.store.specs.Decision.{runs_of}
+use Rattle.store.proofs.Base.{◌≡◌, ap, ◌∙◌, arith, runs_of}
 use Rattle.store.proofs.Placed.{checking-none, checked, place-fails, claim-fails, runs-few, checking-more}
 use Rattle.store.proofs.soundness.runs_counted.Goals as goal
 

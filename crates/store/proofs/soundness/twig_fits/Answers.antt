@@ -1,9 +1,7 @@
 -- `twig_fits` meets its contract: what hangs at a link of such a node is a leaf. Assumes nothing.
+use Rattle.store.proofs.Base.{true, false, sym, ◌∙◌, subst, arith, Room, Tells}
 use mathlib.Core.Bool.{and-true}
-use Rattle.std.proofs.Common.{true, false, sym, ◌∙◌, subst, arith}
-use Rattle.run_index.specs.Cells.{Room}
 use Rattle.store.proofs.Truths.{never}
-use Rattle.store.specs.Decision.{Tells}
 use Rattle.store.proofs.Tests.{inside-out, zeros-below}
 use Rattle.store.proofs.Steps.{outside, refuses, none, leaf-side, left-leaves, right-leaves, words-fail, sides-decide, side-high, own-refuses, right-there}
 use Rattle.store.proofs.soundness.twig_fits.Goals as goal

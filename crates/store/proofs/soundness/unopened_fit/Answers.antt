@@ -1,7 +1,5 @@
 -- `unopened_fit` meets its contract. The loop's invariant: the records that are left decide for all. Assumes nothing.
-use Rattle.std.proofs.Common.{arith}
-use Rattle.std.proofs.lemmas.Bool.Decides.{nat_tests}
-use Rattle.store.specs.Decision.{nothing_b}
+use Rattle.store.proofs.Base.{arith, nat_tests, nothing_b}
 use Rattle.store.proofs.Records.{unopened-first}
 use Rattle.store.proofs.soundness.unopened_fit.Goals as goal
 

@@ -1,7 +1,5 @@
 -- `unopened_fit` meets its contract. The loop's invariant: the records that are left decide for all. Assumes nothing.
-use Rattle.std.proofs.Common.{◌≡◌, ◌-◌, ◌≤◌}
-use Rattle.model.specs.Numbers.{most_worlds}
-use Rattle.store.specs.Decision.{unopened_b}
+use Rattle.store.proofs.Base.{◌≡◌, ◌-◌, ◌≤◌, most_worlds, unopened_b}
 use Rattle.store.proofs.soundness.unopened_fit.Given as goal
 
 abbrev pub invariant-loop-k : goal.invariant-loop-k

@@ -1,10 +1,6 @@
 -- `world_fits` meets its contract: the positions of a world are those of the tree at its root, so what `bounds` returns of the tree is what
 -- the world has to say of the positions held. Assumes nothing.
-use Rattle.std.proofs.Common.{sym, ◌∙◌, arith}
-use Rattle.std.proofs.lemmas.Bool.Decides.{nat_tests}
-use Rattle.model.specs.Numbers.{size}
-use Rattle.run_index.specs.Cells.{Room}
-use Rattle.store.specs.Decision.{world_b}
+use Rattle.store.proofs.Base.{sym, ◌∙◌, arith, nat_tests, size, Room, world_b}
 use Rattle.store.proofs.Hanging.{Hangs}
 use Rattle.store.proofs.Tests.{inside-out}
 use Rattle.store.proofs.Steps.{inside-linked}
