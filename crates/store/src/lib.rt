@@ -1,6 +1,6 @@
 // The store: a lent slice of words that is a pool of worlds, each of which holds a set of positions. Words 0 to 7 are the header, world k has its
 // record in the words 8(1 + k) on, and node n of the run index the words 8(16 + n) on; the nodes that no world has form the free chain. Only
-// this crate and `soundness` know where the words of the header and of the records lie: other code has a world by value, and the nodes.
+// `layout` knows where the words of the header and of the records lie: other code has a world by value, and the nodes.
 #![tactic(auto)]
 
 ghost use Rattle.std.specs.Prelude.{◌≡◌, ◌+◌, length};

@@ -66,7 +66,8 @@ tree_fits-requires t c =
 pub returns-then-not-tree_fits : goal.returns-then-not-tree_fits
 returns-then-not-tree_fits t c =
     let s = seen t (goal.at.returns-then-not-tree_fits t c).After-below-v in
-    let l = walked s c.loop-k.left_over (own t (goal.at.returns-then-not-tree_fits t c).Else-not-node_fits) true c.in-Some.before (left-leaves c.below-v.result c.loop-k.left_over (Some c.in-Some.before) c.in-Some.ensures) c.tree_fits.ensures in
+    let l = walked s c.loop-k.left_over (own t (goal.at.returns-then-not-tree_fits t c).Else-not-node_fits) true c.in-Some.before
+    (left-leaves c.below-v.result c.loop-k.left_over (Some c.in-Some.before) c.in-Some.ensures) c.tree_fits.ensures in
     c.loop-k.invariant.tells _ (refuses s c.loop-k.left_over true (subst (SideTells s c.loop-k.left_over true) c.if-not-tree_fits.true l))
 
 pub returns-in_default-right_of : goal.returns-in_default-right_of
@@ -83,7 +84,8 @@ pub loop-k-preserved : goal.loop-k-preserved
 loop-k-preserved t c =
     let s = seen t (goal.at.loop-k-preserved t c).After-below-v in
     let o = own t (goal.at.loop-k-preserved t c).Else-not-node_fits in
-    let l = walked s c.loop-k.left_over o true c.in-Some.before (left-leaves c.below-v.result c.loop-k.left_over (Some c.in-Some.before) c.in-Some.ensures) c.tree_fits.ensures in
+    let l = walked s c.loop-k.left_over o true c.in-Some.before
+    (left-leaves c.below-v.result c.loop-k.left_over (Some c.in-Some.before) c.in-Some.ensures) c.tree_fits.ensures in
     let e : c.in-Some-right_of.after.high ≡ c.loop-k.left_over.high = ap (λ (D : Bounds). D.high) c.in-Some-right_of.ensures.1 in
     record {
       room = right-room t (goal.at.loop-k-preserved t c).Else-not-inside-2;
