@@ -20,8 +20,8 @@ use Rattle.store.specs.Settle.{Settled, Became, Openable, Opened, Closing}
 use Rattle.store.proofs.Truths.{never}
 use Rattle.store.proofs.Nodes.{sized-length}
 use Rattle.store.proofs.Parts.{lent, back, lent-nodes, back-same, back-nodes, back-front, back_long, cells-before}
-use Rattle.soundness.specs.Decision.{sound_b}
-use Rattle.soundness.proofs.Whole.{sound_b-yes}
+use Rattle.store.specs.Decision.{sound_b}
+use Rattle.store.proofs.Whole.{sound_b-yes}
 use Rattle.changes.specs.Edits.{Edited}
 use Rattle.bench_store.specs.Growing.{is_pool, Renewed, Tried}
 

@@ -8,7 +8,7 @@ use Rattle.model.specs.Pools.{alone}
 use Rattle.store.specs.Layout.{capacity, allowance, held_by}
 use Rattle.store.specs.Free.{Pooled}
 use Rattle.store.specs.Settle.{Settled}
-use Rattle.soundness.specs.Decision.{sound_b}
+use Rattle.store.specs.Decision.{sound_b}
 
 -- whether words are a sound pool
 abbrev pub is_pool : List ℕ → Bool

@@ -35,7 +35,7 @@ pub extern "C" fn vizturel_bench_new(words: &mut [u64]) -> bool
 pub extern "C" fn vizturel_bench_is_sound(words: &[u64]) -> bool
     ensures { result ≡ is_pool words.now }
 {
-    Store::of_length(words.len()).capacity != 0 && soundness::is_sound(words)
+    Store::of_length(words.len()).capacity != 0 && store::soundness::is_sound(words)
 }
 
 // The next number of a row that looks random (xorshift; 0 is followed by 0).

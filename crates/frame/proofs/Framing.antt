@@ -12,8 +12,8 @@ use Rattle.model.specs.Call.{done, refused, gave}
 use Rattle.model.specs.Pools.{answers, after}
 use Rattle.store.specs.Layout.{capacity, worlds_of}
 use Rattle.store.specs.Soundness.{Sound}
-use Rattle.soundness.specs.Decision.{sound_b}
-use Rattle.soundness.proofs.Whole.{sound_b-no}
+use Rattle.store.specs.Decision.{sound_b}
+use Rattle.store.proofs.Whole.{sound_b-no}
 use Rattle.interval_bit_set.specs.Look.{LookedPool}
 use Rattle.interval_bit_set.proofs.Looking.{pool-refused}
 use Rattle.interval_bit_set.specs.Tidy.{Tidied}

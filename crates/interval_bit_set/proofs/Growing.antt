@@ -19,6 +19,7 @@ use Rattle.run_index.specs.declared.Node.{Node}
 use Rattle.run_index.specs.Tree.{node, inorder, tree_from}
 use Rattle.run_index.specs.Shape.{inserted}
 use Rattle.store.specs.declared.World.{World}
+use Rattle.store.specs.declared.layout.Record.{Record}
 use Rattle.store.specs.Layout.{record_at, world_at, nodes, Headed, highest, tree_at, allowance}
 use Rattle.store.specs.Settle.{Closing, Opened}
 use Rattle.store.specs.Soundness.{Limited, share_of}
@@ -54,14 +55,14 @@ none-grows e z = record { unturned = z; tree = λ v c. absurd (omega (arith, c.s
 module _ {w w' ys : List ℕ} {i : ℕ} {h k : World} {Q : Positions} (op : Opened w i h) (there : nodes (back w ys) ≡ ys)
     (cl : Closing w (back w ys) k Q) (hd : Headed (back w ys) w' k) (tag : k.tag ≡ i) where
   -- the record of the world is that of the one at hand
-  record-is : (g : Node → ℕ) → g (record_at w' i) ≡ g (record_at w' k.tag)
+  record-is : (g : Record → ℕ) → g (record_at w' i) ≡ g (record_at w' k.tag)
   record-is g = ap (λ (j : ℕ). g (record_at w' j)) (sym tag)
 
   offset-closed : (world_at w' i).offset ≡ k.offset
-  offset-closed = record-is (λ v. v.«end») ∙ ap (λ (v : Node). v.«end») hd.here
+  offset-closed = record-is (λ v. v.offset) ∙ ap (λ (v : Record). v.offset) hd.here
 
   root-closed : (world_at w' i).root ≡ k.root
-  root-closed = record-is (λ v. v.start) ∙ ap (λ (v : Node). v.start) hd.here
+  root-closed = record-is (λ v. v.root) ∙ ap (λ (v : Record). v.root) hd.here
 
   -- its tree is the one that the change left
   tree-closed : tree_at w' i ≡ tree_from highest ys k.root

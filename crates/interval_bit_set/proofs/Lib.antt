@@ -20,7 +20,6 @@ pub mod Mapping
 pub mod Measuring
 pub mod Meeting
 pub mod Mending
-pub mod Ordering
 pub mod Overwriting
 pub mod Passing
 pub mod Planes
@@ -32,7 +31,6 @@ pub mod Simulation
 pub mod Spans
 pub mod Stopping
 pub mod Strict
-pub mod Threading
 pub mod Tidying
 pub mod Trees
 pub mod Windows

@@ -23,8 +23,8 @@ use Rattle.model.specs.Pools.{PlainWorld, world_of, fed_by}
 use Rattle.store.specs.Layout.{capacity, opened_at, worlds_of}
 use Rattle.store.specs.Soundness.{Sound}
 use Rattle.store.specs.Settle.{Openable}
-use Rattle.soundness.specs.Decision.{sound_b, worn, checked}
-use Rattle.soundness.proofs.Whole.{sound_b-yes, sound_b-no}
+use Rattle.store.specs.Decision.{sound_b, worn, checked}
+use Rattle.store.proofs.Whole.{sound_b-yes, sound_b-no}
 use Rattle.interval_bit_set.specs.Met.{Site, site, short, any_is, faults, fed_of, fed_at, full_at, outcome_of, Met, Readable}
 use Rattle.interval_bit_set.specs.Look.{Checked, AllChecked, Checks, Sounds}
 use Rattle.interval_bit_set.proofs.Passing.{handed-on, met-on}

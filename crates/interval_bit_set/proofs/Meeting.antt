@@ -17,11 +17,11 @@ use Rattle.store.specs.declared.World.{World}
 use Rattle.store.specs.declared.Set.{Set}
 use Rattle.store.specs.Layout.{capacity, opened_at, held, held_in, held_by, worlds_of}
 use Rattle.store.specs.Soundness.{Sound}
-use Rattle.soundness.specs.Decision.{sound_b}
+use Rattle.store.specs.Decision.{sound_b}
 use Rattle.store.specs.Settle.{Settled, Openable, Opened}
 use Rattle.store.proofs.Parts.{lent}
 use Rattle.store.proofs.WorldLists.{opened-world, unopened-world}
-use Rattle.soundness.proofs.Whole.{sound_b-no}
+use Rattle.store.proofs.Whole.{sound_b-no}
 use Rattle.interval_bit_set.specs.Met.{Site, fed_of, fed_at, full_at, outcome_of, Leaves, Met, Readable}
 use Rattle.interval_bit_set.proofs.Doors.{lent-held}
 

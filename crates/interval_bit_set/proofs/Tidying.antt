@@ -16,7 +16,8 @@ use Rattle.store.proofs.WorldLists.{worlds-same}
 use Rattle.interval_bit_set.specs.Met.{Site, Met}
 use Rattle.interval_bit_set.specs.Look.{Checked}
 use Rattle.interval_bit_set.proofs.Looking.{gave-opened}
-use Rattle.interval_bit_set.specs.Tidy.{Tidied, TidiesIf, Ended}
+use Rattle.store.specs.Relink.{Tidied}
+use Rattle.interval_bit_set.specs.Tidy.{TidiesIf, Ended}
 
 -- what settled before stays so
 pub settled-tidied : {w w₁ w₂ : List ℕ} {i : ℕ} {P : Positions} → i < opened_at w → Settled w w₁ i P → Tidied w₁ w₂ → Settled w w₂ i P

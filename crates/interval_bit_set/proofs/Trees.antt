@@ -14,9 +14,9 @@ use Rattle.model.specs.Ends.{Bound}
 use Rattle.model.specs.Numbers.{size}
 use Rattle.model.proofs.Numbers.{split}
 use Rattle.run_index.specs.Cells.{cell_at}
-use Rattle.run_index.specs.declared.Node.{Node}
 use Rattle.run_index.specs.Tree.{count, At}
 use Rattle.run_index.proofs.Heap.{frame}
+use Rattle.store.specs.declared.layout.Record.{Record}
 use Rattle.store.specs.Layout.{opened_at, record_at, nodes, node_count, world_at, tree_at}
 use Rattle.store.specs.Soundness.{Planted, Sound}
 use Rattle.store.proofs.Orders.{node_in}
@@ -25,10 +25,11 @@ use Rattle.store.proofs.Reached.{tree-reached}
 use Rattle.store.proofs.Sharing.{tree-planted}
 use Rattle.interval_bit_set.specs.Grown.{shape, Grows}
 use Rattle.interval_bit_set.specs.Met.{Site, Met}
+use Rattle.store.specs.Relink.{InOrder}
+use Rattle.store.proofs.Threading.{lows-high}
 use Rattle.interval_bit_set.specs.Look.{Checked}
 use Rattle.interval_bit_set.proofs.Looking.{gave-opened}
-use Rattle.interval_bit_set.specs.Tidy.{InOrder, Tidies, TidiesIf, Ended}
-use Rattle.interval_bit_set.proofs.Threading.{lows-high}
+use Rattle.interval_bit_set.specs.Tidy.{Tidies, TidiesIf, Ended}
 
 -- world j has the tree and the offset that it had
 pub record SameTree (w w' : List ℕ) (j : ℕ) : Type 0 where
@@ -53,7 +54,7 @@ module _ {w : List ℕ} {j : ℕ} (S : Sound w) (l : j < opened_at w) where
     at_same : At (nodes w') j (world_at w' j).root P.tree
     at_same = record {
       rep = frame (nodes w) (nodes w') j (nodes-long w w' long) P.tree same P.linked.rep;
-      linked = P.linked.linked ∙ sym (ap (λ (v : Node). v.start) record_same);
+      linked = P.linked.linked ∙ sym (ap (λ (v : Record). v.root) record_same);
     }
 
     tree_same : tree_at w' j ≡ tree_at w j
@@ -61,7 +62,7 @@ module _ {w : List ℕ} {j : ℕ} (S : Sound w) (l : j < opened_at w) where
     tree_same = tree-reached at_same P.low ∙ sym (tree-planted w j P)
 
     order-tree : SameTree w w' j
-    order-tree = record { tree = tree_same; offset = ap (λ (v : Node). v.«end») record_same }
+    order-tree = record { tree = tree_same; offset = ap (λ (v : Record). v.offset) record_same }
 
   -- whether or not it was worn
   tidy-tree : {w' : List ℕ} {worn : ℕ} → Tidies w w' worn → SameTree w w' j

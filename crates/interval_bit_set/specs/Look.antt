@@ -7,7 +7,7 @@ use Rattle.store.specs.declared.Set.{Set}
 use Rattle.store.specs.declared.World.{World}
 use Rattle.store.specs.Layout.{capacity, opened_at, held, held_by}
 use Rattle.store.specs.Settle.{Opened}
-use Rattle.soundness.specs.Decision.{sound_b, worn}
+use Rattle.store.specs.Decision.{sound_b, worn}
 use Rattle.streams.specs.declared.source.View.{View}
 use Rattle.interval_bit_set.specs.Joined.{ViewOf}
 use Rattle.interval_bit_set.specs.Met.{faults}

@@ -8,7 +8,7 @@ use Rattle.model.specs.Call.{Fed, wrong_length, unsound, holding, Call, Measure,
 use Rattle.model.specs.Model.{plan, Outcome, serve}
 use Rattle.model.specs.Pools.{world_of, fed_by, full, PoolOutcome, make_by, measure_by}
 use Rattle.store.specs.Layout.{capacity, held_by, worlds_of}
-use Rattle.soundness.specs.Decision.{sound_b}
+use Rattle.store.specs.Decision.{sound_b}
 use Rattle.store.specs.Free.{Emptied}
 use Rattle.store.specs.Settle.{Settled, Openable}
 

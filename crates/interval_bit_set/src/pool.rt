@@ -114,7 +114,7 @@ fn sound(words: &[u64]) -> Result<u64, Refusal>
     requires { 1 ≤ capacity words.now }
     ensures { Sounds words.now result }
 {
-    soundness::check(words).ok_or(Refusal::Unsound)
+    store::soundness::check(words).ok_or(Refusal::Unsound)
 }
 
 // The check of a pool: 1, 7, or how worn its free chain is.

@@ -30,7 +30,6 @@ use Rattle.store.specs.Layout.{
   floor_at,
   ceiling_at,
   nodes,
-  record_cell,
   Headed,
   held_by,
 }
@@ -41,7 +40,8 @@ use Rattle.store.proofs.Nodes.{node-once, no_zero, few-runs, kept-still}
 use Rattle.store.proofs.Emptying.{vacant_world, vacant-standing, rootless-empty, empty-stretches}
 use Rattle.store.proofs.Turn.{pool-past}
 use Rattle.store.proofs.Worlds.{sound-length, sound-room, world-standing}
-use Rattle.store.proofs.Closing.{headed_by, headed, closing-header, closes}
+use Rattle.store.proofs.Cells.{headed-there}
+use Rattle.store.proofs.Closing.{closes}
 
 -- ---- the nodes of a tree
 module _ (n a b : ℕ) (l r : Tree) (w : List ℕ) (g k : ℕ) (h : Rep w g (node n a b l r)) (once : Distinct (node n a b l r)) (few : runs l + runs r + 1 < 2 ^ 62) where
@@ -149,16 +149,8 @@ module _ (w : List ℕ) (j : ℕ) (S : Sound w) (l : j < opened_at w) where
     -- with its header and its record the pool settles
     closed : (w' : List ℕ) × Settled w w' j empty
     closed =
-        let a : Node = cell_at w₁ 0 in
-        let hc : Node = headed_by a f in
-        let w₂ : List ℕ = stored w₁ 0 hc in
-        let v : Node = record_at w₂ j in
-        let rc : Node = record_cell (vacant j f) v.ones v.tag in
-        let w₃ : List ℕ = stored w₂ (j + 1) rc in
-        let p : Wrote w₁ w₂ 0 hc = stored-wrote w₁ 0 hc (omega (arith, sound-room S 0 (omega arith), c.long)) in
-        let q : Wrote w₂ w₃ (j + 1) rc = stored-wrote w₂ (j + 1) rc (omega (arith, sound-room S (j + 1) (omega (arith, S.few)), c.long, p.long)) in
-        let hd : Headed w₁ w₃ (vacant j f) = headed {h = vacant j f} {a = a} {v = v} (closing-header closing) refl refl p q in
-        (w₃, closes hd w empty closing)
+        let r = headed-there w₁ (vacant j f) (omega (arith, sound-room S 0 (omega arith), c.long)) (omega (arith, sound-room S (j + 1) (omega (arith, S.few)), c.long)) in
+        (r.0, closes r.1 w empty closing)
 
   -- so one world can be emptied
   pub cleaned : (w' : List ℕ) × Settled w w' j empty

@@ -38,7 +38,7 @@ use Rattle.model.specs.Call.{
 use Rattle.model.specs.Pools.{PlainWorld, step, answers, after}
 use Rattle.store.specs.Layout.{capacity_of, capacity, worlds_of}
 use Rattle.store.specs.Free.{Pooled}
-use Rattle.soundness.proofs.Whole.{sound_b-no}
+use Rattle.store.proofs.Whole.{sound_b-no}
 use Rattle.interval_bit_set.specs.Met.{Site, fed_at, outcome_of, Leaves, Met, MakeLeaves, Made, Measured}
 use Rattle.interval_bit_set.specs.Out.{Unwritten, Unmended}
 use Rattle.interval_bit_set.proofs.Meeting.{refused-not}

@@ -1,21 +1,13 @@
 -- Resizing a run leaves the nodes where they are: the tree has the numbers that it had, so neither the links nor the free chain change. The
 -- runs are those with the new one in the old one's place, which are asked to be canonical. Assumes nothing.
-use Rattle.std.proofs.Common.{◌≡◌, ℕ, ◌+◌, ◌-◌, ◌%◌, ◌^◌, ◌≤◌, List, [], ◌∷◌, sym, ap, ◌∙◌, subst, inl, inr, arith}
+use Rattle.store.proofs.Base.{◌≡◌, ℕ, ◌+◌, ◌-◌, ◌%◌, ◌^◌, ◌≤◌, List, [], ◌∷◌, sym, ap, ◌∙◌, subst, inl, inr, arith, Run, size, Canon, Tree, inorder, Made, Free, strung-kept, Links, Share, Kept}
 use native.Mathlib.Nat.{mod-add-mod}
-use Rattle.model.specs.declared.Run.{Run}
-use Rattle.model.specs.Numbers.{size}
 use Rattle.model.specs.Positions.{run}
-use Rattle.model.specs.RunList.{Canon}
-use Rattle.run_index.specs.Tree.{Tree, inorder, Made}
 use Rattle.run_index.specs.Order.{replace_run, Has}
 use Rattle.run_index.specs.Shape.{resized}
 use Rattle.run_index.specs.Promises.{MayResize, Resizes}
-use Rattle.run_index.specs.Strung.{Free}
 use Rattle.run_index.proofs.Resized.{resize-count, resize-runs, resize-balanced, resize-inorder}
 use Rattle.run_index.proofs.Leading.{has-leads}
-use Rattle.run_index.proofs.Strings.{strung-kept}
-use Rattle.store.specs.declared.Links.{Links}
-use Rattle.store.specs.Soundness.{Share, Kept}
 use Rattle.store.specs.Free.{Alterable, Changes}
 use Rattle.store.proofs.Nodes.{node-once, kept-still}
 use Rattle.store.proofs.Freeing.{kept-rising, kept-owned, world-tag}

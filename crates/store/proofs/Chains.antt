@@ -1,15 +1,6 @@
 -- A chain that ends meets no node twice: a link leads to one chain, and a chain that came back to a node would be longer than itself. Its
 -- nodes are free. Assumes nothing.
-use Rattle.std.proofs.Common.{◌≡◌, ℕ, suc, ◌+◌, ◌≤◌, List, [], ◌∷◌, length, sym, refl, ap, ◌∙◌, subst, arith}
-use native.Mathlib.Decide.{ℕ_discrete}
-use Rattle.run_index.specs.declared.Node.{Node}
-use Rattle.run_index.specs.Cells.{cell_at}
-use Rattle.run_index.specs.Tree.{δ}
-use Rattle.run_index.proofs.Trees.{δ-other, δ≤1}
-use Rattle.run_index.specs.Strung.{times}
-use Rattle.store.specs.Soundness.{Chain}
-use Rattle.run_index.specs.Cells.{cell_at, Room}
-use Rattle.run_index.specs.Strung.{free_cell}
+use Rattle.store.proofs.Base.{◌≡◌, ℕ, suc, ◌+◌, ◌≤◌, List, [], ◌∷◌, length, sym, refl, ap, ◌∙◌, subst, arith, ℕ_discrete, Node, cell_at, δ, δ-other, δ≤1, times, Chain, cell_at, Room, free_cell}
 
 -- a free node of the pool
 pub record FreeAt (w : List ℕ) (n : ℕ) : Type 0 where

@@ -1,80 +1,27 @@
 -- Closing a world: the header and the record are written last, and no node. The world's tree and the free chain are those of the world at
 -- hand; the trees of other worlds have none of the cells that a change may touch. So each world has its tree again, together they share
 -- the nodes out as before, and what the world has more it may have. Assumes nothing.
-use Rattle.std.proofs.Common.{◌≡◌, ℕ, zero, suc, ◌+◌, ◌<◌, ◌≤◌, max, List, length, sym, refl, ap, ◌∙◌, subst, ap₂, arith}
-use native.Mathlib.Decide.{ℕ_discrete}
-use Rattle.model.specs.Numbers.{size, most_worlds}
-use Rattle.model.specs.Positions.{Positions, held_runs, stretches}
-use Rattle.model.proofs.Runs.{stretches-cong}
-use Rattle.run_index.specs.declared.Node.{Node}
-use Rattle.run_index.specs.Cells.{cell_at, Room, Wrote}
-use Rattle.run_index.specs.Tree.{runs, count, At}
-use Rattle.run_index.specs.Strung.{times, Free}
-use Rattle.run_index.proofs.Heap.{frame}
-use Rattle.run_index.proofs.Bound.{rep-positive}
-use Rattle.run_index.proofs.Strings.{strung-kept}
-use Rattle.store.specs.declared.World.{World}
-use Rattle.store.specs.Layout.{
-  opened_at,
-  free_head,
-  record_at,
-  world_by,
-  world_at,
-  floor_at,
-  ceiling_at,
-  nodes,
-  header_cell,
-  record_cell,
-  Headed,
-  capacity_of,
-  capacity,
-  held_in,
-  held_by,
-  tree_at,
-  allowance,
-}
-use Rattle.store.specs.Soundness.{Chain, first_of, last_of, Foreign, Standing, sum_to, without, runs_at, count_at, share_of, Planted, KeepsLimits, Sound}
-use Rattle.store.specs.Settle.{Closing, Closes}
+use Rattle.store.proofs.Base.{◌≡◌, ℕ, zero, suc, ◌+◌, ◌<◌, ◌≤◌, max, List, length, sym, refl, ap, ◌∙◌, subst, ap₂, arith, ℕ_discrete, size, most_worlds, Positions, held_runs, stretches, stretches-cong}
+use Rattle.store.proofs.Base.{cell_at, runs, count, At, times, Free, frame, rep-positive, strung-kept, World, Header, Record, opened_at, free_head, record_at, world_by, world_at, floor_at, ceiling_at, nodes, record_of, Headed}
+use Rattle.store.proofs.Base.{capacity_of, capacity, held_in, held_by, tree_at, allowance, Chain, first_of, last_of, Foreign, Standing, sum_to, without, runs_at, count_at, share_of, Planted, KeepsLimits, Sound, Closing, Closes}
 use Rattle.store.proofs.Sums.{sum_one, without-there, without-cong, without-most, sum-split}
+use Rattle.store.proofs.Cells.{record-same, header-same, padding-same}
 use Rattle.store.proofs.WorldLists.{claims-all}
 use Rattle.store.proofs.Parts.{cell-nodes, nodes-long}
 use Rattle.store.proofs.Nodes.{chain-no-zero}
 use Rattle.store.proofs.Reached.{tree-reached, tree-held, kept_low}
-use Rattle.store.proofs.Worlds.{planted-tree, claim_at, allowance-is, claims-fit, sound-room}
-
--- a header with another free head
-abbrev pub headed_by : Node → ℕ → Node
-headed_by a free = record {
-  start = a.start;
-  «end» = free;
-  left = a.left;
-  right = a.right;
-  height = a.height;
-  runs = a.runs;
-  ones = a.ones;
-  tag = a.tag;
-}
-
--- the two writes are those of a world, where the header was one
-pub headed : {w w₁ w₂ : List ℕ} {h : World} {a v : Node} → cell_at w 0 ≡ header_cell (opened_at w) (free_head w) → a ≡ cell_at w 0 → v ≡ record_at w₁ h.tag
-    → Wrote w w₁ 0 (headed_by a h.free) → Wrote w₁ w₂ (h.tag + 1) (record_cell h v.ones v.tag) → Headed w w₂ h
-headed {h = h} e ea ev p q = record {
-  header = q.there 0 (λ i. omega arith) ∙ p.here ∙ ap (λ (z : Node). headed_by z h.free) (ea ∙ e);
-  here = q.here ∙ ap (λ (z : Node). record_cell h z.ones z.tag) (ev ∙ p.there (h.tag + 1) (λ i. omega arith));
-  there = λ m pos ne. q.there m ne ∙ p.there m (λ i. omega arith);
-  long = q.long ∙ p.long;
-}
+use Rattle.store.proofs.Worlds.{planted-tree, claim_at, allowance-is, claims-fit}
 
 -- ---- a tree in other words
 -- the cells of a planted tree and its record are in w as they were; the free head may be another
-record Moved (u w : List ℕ) (j f : ℕ) (v : Node) (P : Planted u (world_by j f v)) : Type 0 where
+record Moved (u w : List ℕ) (j f : ℕ) (v : Record) (P : Planted u (world_by j f v)) : Type 0 where
   pub long : length (nodes w) ≡ length u
   pub same : (m : ℕ) → 1 ≤ m → 1 ≤ count m P.tree → cell_at (nodes w) m ≡ cell_at u m
   pub is : record_at w j ≡ v
 
-module _ {u w : List ℕ} {j f : ℕ} {v : Node} (P : Planted u (world_by j f v)) (M : Moved u w j f v P) where
+module _ {u w : List ℕ} {j f : ℕ} {v : Record} (P : Planted u (world_by j f v)) (M : Moved u w j f v P) where
   -- the tree is there
-  at_again : At (nodes w) j v.start P.tree
+  at_again : At (nodes w) j v.root P.tree
   at_again = record { rep = frame u (nodes w) j M.long P.tree go P.linked.rep; linked = P.linked.linked }
     where
       go : (m : ℕ) → 1 ≤ count m P.tree → cell_at (nodes w) m ≡ cell_at u m
@@ -83,22 +30,22 @@ module _ {u w : List ℕ} {j f : ℕ} {v : Node} (P : Planted u (world_by j f v)
 
   -- so the same positions are held
   held_same : (g : ℕ) → held_in (nodes w) (world_by j g v) ≡ held_in u (world_by j f v)
-  held_same g = tree-held v.«end» at_again P.low ∙ sym (tree-held v.«end» P.linked P.low)
+  held_same g = tree-held v.offset at_again P.low ∙ sym (tree-held v.offset P.linked P.low)
 
   -- by the world of its number
   held-again : held_by w j ≡ held_in u (world_by j f v)
   unfolding held_by
-  held-again = ap (λ (z : Node). held_in (nodes w) (world_by j (free_head w) z)) M.is ∙ held_same (free_head w)
+  held-again = ap (λ (z : Record). held_in (nodes w) (world_by j (free_head w) z)) M.is ∙ held_same (free_head w)
 
   -- its tree is the world's
   tree_again : tree_at w j ≡ P.tree
   unfolding tree_at
-  tree_again = tree-reached (record { rep = at_again.rep; linked = at_again.linked ∙ sym (ap (λ (z : Node). z.start) M.is) }) P.low
+  tree_again = tree-reached (record { rep = at_again.rep; linked = at_again.linked ∙ sym (ap (λ (z : Record). z.root) M.is) }) P.low
 
   -- and planted
   planted-again : Planted (nodes w) (world_at w j)
   planted-again =
-      subst (λ (z : Node). Planted (nodes w) (world_by j (free_head w) z)) (sym M.is)
+      subst (λ (z : Record). Planted (nodes w) (world_by j (free_head w) z)) (sym M.is)
       (record {
         tree = P.tree;
         linked = at_again;
@@ -149,30 +96,30 @@ module _ {w₀ w w' : List ℕ} {h : World} {P : Positions} (cl : Closing w₀ w
   capacity-kept = ap capacity_of closing-long
 
   pub closing-opened : opened_at w' ≡ n
-  closing-opened = ap (λ (z : Node). z.start) hd.header ∙ ap (λ (z : Node). z.start) (cl.before 0 (omega arith))
+  closing-opened = ap (λ (z : Header). z.opened) (hd.header ∙ ap (λ (z : Header). record { opened = z.opened; free = h.free }) (header-same w₀ w (cl.before 0 (omega arith))))
 
   -- the free head
   pub closing-head : free_head w' ≡ h.free
-  closing-head = ap (λ (z : Node). z.«end») hd.header
+  closing-head = ap (λ (z : Header). z.free) hd.header
 
   -- the record of another world
   record-there : (j : ℕ) → j < most_worlds → (j ≡ k → ⊥) → record_at w' j ≡ record_at w₀ j
-  record-there j l ne = hd.there (j + 1) (omega arith) (λ e. ne (omega arith)) ∙ cl.before (j + 1) (omega arith)
+  record-there j l ne = record-same w₀ w' j (hd.there (j + 1) (omega arith) (λ e. ne (omega arith)) ∙ cl.before (j + 1) (omega arith))
 
   -- a word of each record, if that of this world's is kept
-  word_kept : (g : Node → ℕ) → g (record_at w' k) ≡ g (record_at w k) → (j : ℕ) → j < most_worlds → g (record_at w' j) ≡ g (record_at w₀ j)
+  word_kept : (g : Record → ℕ) → g (record_at w' k) ≡ g (record_at w k) → (j : ℕ) → j < most_worlds → g (record_at w' j) ≡ g (record_at w₀ j)
   word_kept g e j l = go (ℕ_discrete j k)
     where
       go : Dec (j ≡ k) → g (record_at w' j) ≡ g (record_at w₀ j)
-      go (yes q) = ap (λ i. g (record_at w' i)) q ∙ e ∙ ap g (cl.before (k + 1) (omega (arith, low))) ∙ sym (ap (λ i. g (record_at w₀ i)) q)
+      go (yes q) = ap (λ i. g (record_at w' i)) q ∙ e ∙ ap g (record-same w₀ w k (cl.before (k + 1) (omega (arith, low)))) ∙ sym (ap (λ i. g (record_at w₀ i)) q)
       go (no ne) = ap g (record-there j l ne)
 
   -- so floors and ceilings are kept
   pub closing-floors : (j : ℕ) → j < most_worlds → floor_at w' j ≡ floor_at w₀ j
-  closing-floors = word_kept (λ (z : Node). z.ones) (ap (λ (z : Node). z.ones) hd.here)
+  closing-floors = word_kept (λ (z : Record). z.floor) (ap (λ (z : Record). z.floor) hd.here)
 
   pub closing-ceilings : (j : ℕ) → j < most_worlds → ceiling_at w' j ≡ ceiling_at w₀ j
-  closing-ceilings = word_kept (λ (z : Node). z.tag) (ap (λ (z : Node). z.tag) hd.here)
+  closing-ceilings = word_kept (λ (z : Record). z.ceiling) (ap (λ (z : Record). z.ceiling) hd.here)
 
   -- ---- nodes
   -- no node is written
@@ -196,7 +143,7 @@ module _ {w₀ w w' : List ℕ} {h : World} {P : Positions} (cl : Closing w₀ w
   }
 
   -- stands in these words as it did
-  moved_here : Moved (nodes w) w' k h.free (record_cell h (floor_at w k) (ceiling_at w k)) own
+  moved_here : Moved (nodes w) w' k h.free (record_of h (floor_at w k) (ceiling_at w k)) own
   moved_here = record { long = nodes-long w w' hd.long; same = λ m p i. closing-nodes m p; is = hd.here }
 
   -- it is the tree of world k
@@ -299,7 +246,7 @@ module _ {w₀ w w' : List ℕ} {h : World} {P : Positions} (cl : Closing w₀ w
     sized = omega (arith, was.sized, capacity-kept);
     some = omega (arith, was.some, closing-opened);
     few = omega (arith, was.few, closing-opened);
-    header = hd.header ∙ sym (ap₂ header_cell (ap (λ (z : Node). z.start) hd.header) closing-head);
+    padded = hd.padding ∙ padding-same w₀ w (cl.before 0 (omega arith)) ∙ was.padded;
     unopened = λ j a b. record-there j b (λ e. omega (arith, named, closing-opened)) ∙ was.unopened j (omega (arith, closing-opened)) b;
     planted = planted;
     free = is.free;
@@ -334,17 +281,6 @@ module _ {w₀ w w' : List ℕ} {h : World} {P : Positions} (cl : Closing w₀ w
           capacity-kept,
         );
   }
-
--- the header is as it was
-pub closing-header : {w₀ w : List ℕ} {h : World} {P : Positions} → Closing w₀ w h P → cell_at w 0 ≡ header_cell (opened_at w) (free_head w)
-closing-header cl =
-    subst (λ (z : Node). z ≡ header_cell z.start z.«end») (sym (cl.before 0 (omega arith))) cl.openable.sound.header
-
--- there is a record to write
-pub closing-room : {w₀ w : List ℕ} {h : World} {P : Positions} → Closing w₀ w h P → Room w (h.tag + 1)
-closing-room {h = h} cl =
-    let S = cl.openable.sound in
-    omega (arith, sound-room S (h.tag + 1) (omega (arith, S.few, cl.openable.named)), cl.long)
 
 -- and the pool settles
 pub closes : {w w' : List ℕ} {h : World} → Headed w w' h → Closes w w' h

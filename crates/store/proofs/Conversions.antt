@@ -1,6 +1,5 @@
 -- Where a store keeps a position, and which position is kept there: the two undo each other. Assumes nothing.
-use Rattle.std.proofs.Common.{◌≡◌, ℕ, ◌^◌, ◌<◌, arith}
-use Rattle.store.specs.Places.{physical_of, logical_of}
+use Rattle.store.proofs.Base.{◌≡◌, ℕ, ◌^◌, ◌<◌, arith, physical_of, logical_of}
 
 pub logical-physical : (x o : ℕ) → x < 2 ^ 64 → o < 2 ^ 64 → logical_of (physical_of x o) o ≡ x
 logical-physical x o h k = omega arith

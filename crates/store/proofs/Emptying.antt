@@ -1,22 +1,8 @@
 -- What an empty world has: the numbers of a chain through all nodes, each once, and no run, so its set is empty and it stands where no node is
 -- in its tree. Assumes nothing.
-use Rattle.std.proofs.Common.{◌≡◌, ℕ, zero, suc, ◌+◌, ◌<◌, ◌≤◌, ◌&&◌, ltb, List, [], length, sym, refl, ap, ◌∙◌, arith}
-use mathlib.Core.Path.{fun_ext}
-use mathlib.Core.Bool.{and-false}
-use native.Mathlib.Decide.{ℕ_discrete}
-use Rattle.model.specs.declared.Run.{Run}
-use Rattle.model.specs.Numbers.{size}
-use Rattle.store.specs.Places.{physical_of}
-use Rattle.model.specs.Positions.{mem, empty, held_runs, stretches}
-use Rattle.model.proofs.Runs.{held_runs-is, stretches-is}
-use Rattle.run_index.specs.Tree.{leaf, δ, inorder, tree_from}
-use Rattle.run_index.specs.Strung.{times}
-use Rattle.run_index.proofs.Trees.{δ-same, δ-other, leaf-at}
-use Rattle.store.specs.declared.World.{World}
-use Rattle.store.specs.declared.Links.{Links}
-use Rattle.store.specs.Layout.{highest, physical_runs, turned, held_from}
-use Rattle.store.specs.Soundness.{first_of, last_of, Share, Kept, Standing}
-use Rattle.store.specs.Free.{after}
+use Rattle.store.proofs.Base.{◌≡◌, ℕ, zero, suc, ◌+◌, ◌<◌, ◌≤◌, ◌&&◌, ltb, List, [], length, sym, refl, ap, ◌∙◌, arith, fun_ext, and-false, ℕ_discrete, Run, size, physical_of, mem, empty, held_runs}
+use Rattle.store.proofs.Base.{stretches, held_runs-is, stretches-is, leaf, δ, inorder, tree_from, times, δ-same, δ-other, leaf-at, World, Links, highest, physical_runs, turned, held_from, first_of, last_of, Share, Kept, Standing}
+use Rattle.store.proofs.Base.{after}
 
 -- none of the k numbers after n is n or less
 pub after_none : (n k m : ℕ) → m ≤ n → times m (after n k) ≡ 0

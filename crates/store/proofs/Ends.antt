@@ -1,17 +1,10 @@
 -- The first and the last held position: of a canonical list, of a set, and of a set turned by an offset. Each is pinned down by what
 -- is held and by what is not, so that code shows just these. Assumes nothing.
-use Rattle.std.proofs.Common.{◌≡◌, ℕ, ◌+◌, ◌<◌, ◌≤◌, Bool, true, false, ◌⊎◌, List, [], ◌∷◌, sym, refl, ◌∙◌, subst, inl, inr, true≢false, arith}
-use Rattle.model.specs.declared.Run.{Run}
-use Rattle.model.specs.Numbers.{size}
-use Rattle.model.proofs.Numbers.{split}
-use Rattle.model.specs.Positions.{Positions, held_runs, mem}
-use Rattle.model.proofs.Runs.{held_runs-is, held_runs-canon, mem-held_runs}
-use Rattle.model.specs.RunList.{Canon}
-use Rattle.model.proofs.RunList.{mem-in, mem-above, mem-before}
-use Rattle.store.specs.Places.{physical_of, logical_of}
+use Rattle.store.proofs.Base.{◌≡◌, ℕ, ◌+◌, ◌<◌, ◌≤◌, Bool, true, false, ◌⊎◌, List, [], ◌∷◌, sym, refl, ◌∙◌, subst, inl, inr, arith, Run, size, split, Positions, held_runs, mem, held_runs-is}
+use Rattle.store.proofs.Base.{Canon, mem-in, mem-above, mem-before, physical_of, logical_of, turned, first_of, last_of}
+use Rattle.std.proofs.Common.{true≢false}
+use Rattle.model.proofs.Runs.{held_runs-canon, mem-held_runs}
 use Rattle.store.proofs.Conversions.{logical-physical}
-use Rattle.store.specs.Layout.{turned}
-use Rattle.store.specs.Soundness.{first_of, last_of}
 use Rattle.store.proofs.Turn.{turned-at, turned-logical}
 
 -- what is and is not

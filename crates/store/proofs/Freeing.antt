@@ -1,30 +1,21 @@
 -- Adding a run takes the first free node, removing one gives its node back as the first, and giving a tree back frees all of its nodes. The
 -- tree and the chain have the same nodes before and after, since the tree's count of each number changes by those nodes alone.
 -- Assumes nothing.
-use Rattle.std.proofs.Common.{◌≡◌, ℕ, ◌+◌, ◌≤◌, Bool, true, false, eqb, List, [], ◌∷◌, ◌++◌, length, sym, refl, ap, ◌∙◌, subst, arith}
-use Rattle.model.specs.declared.Run.{Run}
-use Rattle.model.specs.Numbers.{size}
-use Rattle.model.specs.RunList.{Canon}
+use Rattle.store.proofs.Base.{◌≡◌, ℕ, ◌+◌, ◌≤◌, Bool, true, false, eqb, List, [], ◌∷◌, ◌++◌, length, sym, refl, ap, ◌∙◌, subst, arith, Run, size, Canon, Node, cell_at, Room, Wrote, Tree, leaf, node, δ}
+use Rattle.store.proofs.Base.{count, inorder, At, Made, times, Free, free_cell, δ-same, leaf-at, rep-numbered, times-append, length_both, strung-kept, Links, Chain, Share, Kept, GivesBack}
 use Rattle.model.proofs.RunList.{canon-weaken}
-use Rattle.run_index.specs.declared.Node.{Node}
 use Rattle.run_index.specs.declared.Removed.{Removed}
-use Rattle.run_index.specs.Cells.{cell_at, Room, Wrote}
-use Rattle.run_index.specs.Tree.{Tree, leaf, node, δ, count, inorder, At, Made}
 use Rattle.run_index.specs.Order.{pick_runs, remove_run, Rising}
 use Rattle.run_index.specs.Shape.{inserted, removed, number_of}
 use Rattle.run_index.specs.Promises.{Ready, Inserts, Owned, Freed, Removes}
-use Rattle.run_index.specs.Strung.{times, Free, free_cell, felled, Felled, Fells}
-use Rattle.run_index.proofs.Trees.{δ-same, leaf-at}
+use Rattle.run_index.specs.Strung.{felled, Felled, Fells}
 use Rattle.run_index.proofs.Heap.{keep}
 use Rattle.run_index.proofs.Counts.{insert-count}
 use Rattle.run_index.proofs.Numbers.{remove-count, number_in, starts-number}
 use Rattle.run_index.proofs.Balance.{insert-balanced, remove-balanced}
 use Rattle.run_index.proofs.Ordering.{insert-inorder, remove-inorder}
-use Rattle.run_index.proofs.Bound.{rep-numbered}
-use Rattle.run_index.proofs.Strings.{times-append, length_both, count-felled, length-felled, strung-kept, strung-append}
-use Rattle.store.specs.declared.Links.{Links}
-use Rattle.store.specs.Soundness.{Chain, Share, Kept}
-use Rattle.store.specs.Free.{RoomFor, Sprouted, Adds, HasRun, RemovesRun, GivesBack}
+use Rattle.run_index.proofs.Strings.{count-felled, length-felled, strung-append}
+use Rattle.store.specs.Free.{RoomFor, Sprouted, Adds, HasRun, RemovesRun}
 use Rattle.store.proofs.Nodes.{node-once, no_zero, few-runs, kept-still}
 use Rattle.store.proofs.Reached.{kept-tree}
 

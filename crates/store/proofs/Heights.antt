@@ -1,14 +1,8 @@
 -- How high the trees of a pool are: a tree of height h has at least as many runs as the shortest list for h. Assumes nothing.
-use Rattle.std.proofs.Common.{◌≡◌, ℕ, ◌<◌, List, sym, refl, ap, ◌∙◌, arith}
-use Rattle.model.specs.Positions.{stretches, mem}
+use Rattle.store.proofs.Base.{◌≡◌, ℕ, ◌<◌, List, sym, refl, ap, ◌∙◌, arith, stretches, mem, stretches-is, height, runs, inorder, tree_from, runs-length, World, opened_at, tree_at, highest, turned, held_in, runs_at}
+use Rattle.store.proofs.Base.{Share, Standing, Sound}
 use Rattle.model.specs.Deepest.{least}
-use Rattle.model.proofs.Runs.{stretches-is}
-use Rattle.run_index.specs.Tree.{height, runs, inorder, tree_from}
-use Rattle.run_index.proofs.Totals.{runs-length}
 use Rattle.run_index.proofs.Least.{fewer-lower}
-use Rattle.store.specs.declared.World.{World}
-use Rattle.store.specs.Layout.{opened_at, tree_at, highest, turned, held_in}
-use Rattle.store.specs.Soundness.{runs_at, Share, Standing, Sound}
 use Rattle.store.proofs.Sharing.{tree-planted}
 use Rattle.store.proofs.Reached.{kept-tree}
 use Rattle.store.proofs.Turn.{stretches-zero}

@@ -1,4 +1,6 @@
 -- What the proofs of several functions use.
+pub mod Base
+pub mod Cells
 pub mod Capacities
 pub mod Parts
 pub mod Sums
@@ -12,7 +14,6 @@ pub mod Altering
 pub mod Emptying
 pub mod Limiting
 pub mod Making
-pub mod Fresh
 pub mod Opening
 pub mod Settling
 pub mod Resetting
@@ -29,3 +30,18 @@ pub mod Ends
 pub mod Nearby
 pub mod Conversions
 pub mod Turn
+-- Deciding it.
+pub mod Tests
+pub mod Steps
+pub mod Strides
+pub mod Counting
+pub mod Following
+pub mod Decided
+pub mod Records
+pub mod Shared
+pub mod Bounded
+pub mod Placed
+pub mod Whole
+-- Putting the free list in order.
+pub mod Threading
+pub mod Relinking

@@ -1,13 +1,7 @@
 -- How many logical runs canonical physical ones are. Assumes nothing.
+use Rattle.store.proofs.Base.{◌≡◌, ℕ, ◌+◌, ◌-◌, ◌<◌, ◌≤◌, Bool, true, false, ◌&&◌, List, length, sym, refl, ap, ◌∙◌, ap₂, arith, Run, size, Positions, one_if, stretches, mem, Canon, stretches-is}
+use Rattle.store.proofs.Base.{physical_of, turned}
 use Rattle.std.specs.Int.{from_bool}
-use Rattle.std.proofs.Common.{◌≡◌, ℕ, ◌+◌, ◌-◌, ◌<◌, ◌≤◌, Bool, true, false, ◌&&◌, List, length, sym, refl, ap, ◌∙◌, ap₂, arith}
-use Rattle.model.specs.declared.Run.{Run}
-use Rattle.model.specs.Numbers.{size}
-use Rattle.model.specs.Positions.{Positions, one_if, stretches, mem}
-use Rattle.model.specs.RunList.{Canon}
-use Rattle.model.proofs.Runs.{stretches-is}
-use Rattle.store.specs.Places.{physical_of}
-use Rattle.store.specs.Layout.{turned}
 use Rattle.store.proofs.Turn.{stretches-zero, stretches-turned}
 
 -- with offset 0 each run is a logical one

@@ -1,43 +1,15 @@
 -- Making a pool: the nodes are freed from the last on down, each before the one freed last, so at each step the chain goes through the nodes
 -- after those left; then the header is written, and then the records one by one. No world of the pool made has a node, so each is empty and
 -- claims its floor, and the floors fit because the limits were not refused. Assumes nothing.
-use Rattle.std.proofs.Common.{◌≡◌, ℕ, zero, suc, ◌+◌, ◌-◌, ◌*◌, ◌/◌, ◌<◌, ◌≤◌, ◌⊎◌, List, [], ◌∷◌, length, sym, refl, ap, ◌∙◌, subst, ap₂, inl, inr, arith}
-use Rattle.model.specs.declared.Limits.{Limits}
-use Rattle.model.specs.Numbers.{most_worlds}
-use Rattle.model.specs.Positions.{empty, stretches}
-use Rattle.model.specs.Refusals.{floors}
-use Rattle.model.specs.Pools.{PlainWorld, claims, limits_at, limits_from, limits_of, empty_world, empty_worlds}
-use Rattle.model.proofs.Numbers.{split}
-use Rattle.run_index.specs.declared.Node.{Node}
-use Rattle.run_index.specs.Cells.{cell_at, Room, Wrote}
-use Rattle.run_index.specs.Tree.{leaf, count, runs, tree_from}
-use Rattle.run_index.specs.Strung.{times, free_cell, Free}
-use Rattle.run_index.proofs.Trees.{leaf-at, wrote_as}
-use Rattle.run_index.proofs.Strings.{strung-kept}
-use Rattle.store.specs.declared.Links.{Links}
-use Rattle.store.specs.Layout.{
-  opened_at,
-  free_head,
-  record_at,
-  world_by,
-  world_at,
-  nodes,
-  header_cell,
-  capacity_of,
-  capacity,
-  node_count,
-  highest,
-  held_from,
-  held_by,
-  tree_at,
-  plain_at,
-  worlds_from,
-  worlds_of,
-}
-use Rattle.store.specs.Soundness.{first_of, last_of, Chain, sum_to, runs_at, count_at, Planted, KeepsLimits}
-use Rattle.store.specs.Free.{after, Chained, limits_or_none, empty_record, Recorded, Makeable, Emptied}
+use Rattle.store.proofs.Base.{◌≡◌, ℕ, zero, suc, ◌+◌, ◌-◌, ◌*◌, ◌<◌, ◌≤◌, ◌⊎◌, List, [], ◌∷◌, length, sym, refl, ap, ◌∙◌, subst, ap₂, inl, inr, arith, Limits, most_worlds, empty}
+use Rattle.store.proofs.Base.{stretches, floors, PlainWorld, claims, limits_at, limits_from, limits_of, split, Node, cell_at, Room, Wrote, leaf, count, runs, tree_from, times, free_cell, Free, leaf-at, wrote_as, strung-kept, Links}
+use Rattle.store.proofs.Base.{Header, Record, opened_at, free_head, record_at, world_by, world_at, nodes, header_at, MadeHeader, WroteRecord, capacity_of, capacity, node_count, highest, held_from, held_by, tree_at, plain_at}
+use Rattle.store.proofs.Base.{worlds_from, worlds_of, first_of, last_of, Chain, sum_to, runs_at, count_at, Planted, KeepsLimits, after, limits_or_none}
+use Rattle.model.specs.Pools.{empty_world, empty_worlds}
+use Rattle.store.specs.Free.{Chained, empty_record, Recorded, Makeable, Emptied}
+use Rattle.store.proofs.Cells.{record-same, header-same, padding-same}
 use Rattle.store.proofs.Sums.{sum_more, sum-nothing}
-use Rattle.store.proofs.Parts.{lent, back, lent-nodes, back-nodes, back_long, cell-nodes, nodes-long, nodes-length}
+use Rattle.store.proofs.Parts.{lent, back, back-nodes, back_long, cell-nodes, nodes-long}
 use Rattle.store.proofs.Nodes.{sized-length}
 use Rattle.store.proofs.Emptying.{after_one, after-apart, after-length, rootless-empty, rootless-runs, empty-stretches, vacant_world}
 use Rattle.store.proofs.Limiting.{limits-some, limits-none, limits-length, limits-all, floors-under, Allowed, allowed}
@@ -51,10 +23,6 @@ pub record FreeAfter (w₀ w : List ℕ) (n left next : ℕ) : Type 0 where
   pub done : ℕ
   pub all : left + done ≡ n
   pub chain : Chain w next (after left done)
-
--- at first none is free
-pub free-after-none : (w : List ℕ) (n : ℕ) → length w ≡ 8 * (n + 1) → FreeAfter w w n n 0
-free-after-none w n e = record { sized = e; before = refl; long = refl; done = 0; all = omega arith; chain = refl }
 
 -- the node at hand has room
 pub free-after-room : (w₀ w : List ℕ) (n left next : ℕ) → FreeAfter w₀ w n left next → Room w left
@@ -90,16 +58,6 @@ free-after-more w₀ w w' n (suc l) next some f e wr =
     (subst (λ (j : ℕ). FreeAfter w₀ w' n j (suc l)) (omega arith)
     (free-after-step w₀ w w' n l next f (subst (λ (i : ℕ). Wrote w w' i (free_cell next)) (sym is) (wrote_as e wr))))
 
--- in the end all are free
-pub free-after-chained : (w₀ w : List ℕ) (n left next : ℕ) → left ≡ 0 → FreeAfter w₀ w n left next → Chained w₀ w n next
-free-after-chained w₀ w n left next e f =
-    let d : f.done ≡ n = omega (arith, f.all) in
-    record {
-      chain = subst (λ (j : ℕ). Chain w next (after 0 j)) d (subst (λ (j : ℕ). Chain w next (after j f.done)) e f.chain);
-      before = f.before;
-      long = f.long;
-    }
-
 -- ---- the records, one after the other
 -- the words w, made from w₀: those of the first k worlds are written
 pub record RecordedTo (w₀ w ls : List ℕ) (n k : ℕ) : Type 0 where
@@ -108,18 +66,10 @@ pub record RecordedTo (w₀ w ls : List ℕ) (n k : ℕ) : Type 0 where
   pub long : length w ≡ length w₀
   pub few : k ≤ most_worlds
 
--- at first none
-pub recorded-none : (w ls : List ℕ) (n : ℕ) → RecordedTo w w ls n 0
-recorded-none w ls n = record { here = λ j l. absurd (omega arith); there = λ m e. refl; long = refl; few = omega arith }
-
--- the one at hand has room
-pub recorded-room : (w₀ w ls : List ℕ) (n k : ℕ) → 8 * 17 ≤ length w₀ → k < most_worlds → RecordedTo w₀ w ls n k → Room w (k + 1)
-recorded-room w₀ w ls n k h l r = omega (arith, r.long)
-
 -- it is written
-pub recorded_more : (w₀ w w' ls : List ℕ) (n k : ℕ) (l : Limits) → k < most_worlds → l ≡ limits_or_none ls n k → RecordedTo w₀ w ls n k
-    → Wrote w w' (k + 1) (empty_record l) → RecordedTo w₀ w' ls n (k + 1)
-recorded_more w₀ w w' ls n k l lt is r wr = record {
+pub recorded_more : {w₀ w w' ls : List ℕ} {n k : ℕ} {l : Limits} {v : Record} → k < most_worlds → l ≡ limits_or_none ls n k → v ≡ empty_record l → RecordedTo w₀ w ls n k
+    → WroteRecord w w' k v → RecordedTo w₀ w' ls n (k + 1)
+recorded_more {w₀} {w} {w'} {ls} {n} {k} lt el ev r wr = record {
   here = λ j h. go j h (split j k);
   there = λ m e. wr.there m (apart m e) ∙ r.there m (above m e);
   long = wr.long ∙ r.long;
@@ -127,10 +77,9 @@ recorded_more w₀ w w' ls n k l lt is r wr = record {
 }
   where
     go : (j : ℕ) → j < k + 1 → (j < k) ⊎ (k ≤ j) → record_at w' j ≡ empty_record (limits_or_none ls n j)
-    go j h (inl a) = wr.there (j + 1) (λ e. omega arith) ∙ r.here j a
+    go j h (inl a) = record-same w w' j (wr.there (j + 1) (λ e. omega arith)) ∙ r.here j a
     go j h (inr a) =
-        let e : k ≡ j = omega arith in
-        subst (λ (i : ℕ). record_at w' i ≡ empty_record (limits_or_none ls n i)) e (wr.here ∙ ap empty_record is)
+        subst (λ (i : ℕ). record_at w' i ≡ empty_record (limits_or_none ls n i)) (let e : k ≡ j = omega arith in e) (wr.here ∙ ev ∙ ap empty_record el)
 
     apart : (m : ℕ) → (m ≡ 0) ⊎ (k + 1 < m) → m ≡ k + 1 → ⊥
     apart m (inl z) e = omega arith
@@ -139,16 +88,6 @@ recorded_more w₀ w w' ls n k l lt is r wr = record {
     above : (m : ℕ) → (m ≡ 0) ⊎ (k + 1 < m) → (m ≡ 0) ⊎ (k < m)
     above m (inl z) = inl z
     above m (inr a) = inr (omega arith)
-
--- in the end all sixteen are
-pub recorded-all : (w₀ w ls : List ℕ) (n k : ℕ) → most_worlds ≤ k → RecordedTo w₀ w ls n k → Recorded w₀ w ls n
-recorded-all w₀ w ls n k h r =
-    let is : k ≡ most_worlds = omega (arith, r.few) in
-    record { here = λ j l. r.here j (omega arith); there = λ m e. r.there m (above m e); long = r.long }
-  where
-    above : (m : ℕ) → (m ≡ 0) ⊎ (most_worlds < m) → (m ≡ 0) ⊎ (k < m)
-    above m (inl z) = inl z
-    above m (inr a) = inr (omega (arith, r.few))
 
 -- ---- empty worlds
 -- a sum of zeros
@@ -191,26 +130,26 @@ module _ (w ls : List ℕ) (k : ℕ) (e : record_at w k ≡ empty_record (limits
   -- has no node
   record-tree : tree_at w k ≡ leaf
   unfolding tree_at tree_from
-  record-tree = ap (λ (v : Node). tree_from highest (nodes w) v.start) e
+  record-tree = ap (λ (v : Record). tree_from highest (nodes w) v.root) e
 
   -- holds nothing
   record-holds : held_by w k ≡ empty
   unfolding held_by
-  record-holds = ap (λ (v : Node). held_from (nodes w) v.start v.«end») e ∙ rootless-empty (nodes w) 0 0 refl
+  record-holds = ap (λ (v : Record). held_from (nodes w) v.root v.offset) e ∙ rootless-empty (nodes w) 0 0 refl
 
   -- is the model's empty world
   record-plain : plain_at w k ≡ empty_world (limits_at ls k)
-  record-plain = λ i. record { positions = record-holds i; floor = (e i).ones; ceiling = (e i).tag }
+  record-plain = λ i. record { positions = record-holds i; floor = (e i).floor; ceiling = (e i).ceiling }
 
   -- agrees with its record
   record-planted : Planted (nodes w) (world_at w k)
   record-planted =
-      subst (λ (v : Node). Planted (nodes w) (world_by k (free_head w) v)) (sym e) (vacant-planted (nodes w) (record { tag = k; root = 0; free = free_head w }))
+      subst (λ (v : Record). Planted (nodes w) (world_by k (free_head w) v)) (sym e) (vacant-planted (nodes w) (record { tag = k; root = 0; free = free_head w }))
 
   -- and keeps its limits
   record-limited : (limits_at ls k).floor ≤ (limits_at ls k).ceiling → KeepsLimits w k
   record-limited h = record {
-    limits = omega (arith, ap (λ (v : Node). v.ones) e, ap (λ (v : Node). v.tag) e);
+    limits = omega (arith, ap (λ (v : Record). v.floor) e, ap (λ (v : Record). v.ceiling) e);
     ceiling = omega (arith, ap stretches record-holds, empty-stretches);
   }
 
@@ -218,7 +157,7 @@ module _ (w ls : List ℕ) (k : ℕ) (e : record_at w k ≡ empty_record (limits
 -- the nodes of w₁ are the free chain from f, w₂ has the header, and w' the records too
 module _ (w w₁ w₂ w' ls : List ℕ) (n f : ℕ) (mk : Makeable w ls n)
     (chain : Chain (nodes w₁) f (after 0 (node_count w))) (long : length w₁ ≡ length w)
-    (hd : Wrote w₁ w₂ 0 (header_cell n f)) (re : Recorded w₂ w' ls n) where
+    (hd : MadeHeader w₁ w₂ (record { opened = n; free = f })) (re : Recorded w₂ w' ls n) where
   -- as many words as before
   same-long : length w' ≡ length w
   same-long = re.long ∙ hd.long ∙ long
@@ -240,16 +179,16 @@ module _ (w w₁ w₂ w' ls : List ℕ) (n f : ℕ) (mk : Makeable w ls n)
   few-worlds = omega (arith, limits.few, limits-length ls 0 n)
 
   -- the header
-  header_is : cell_at w' 0 ≡ header_cell n f
-  header_is = re.there 0 (inl refl) ∙ hd.here
+  header_is : header_at w' ≡ record { opened = n; free = f }
+  header_is = header-same w₂ w' (re.there 0 (inl refl)) ∙ hd.here
 
   -- it tells how many worlds were opened
   opened-is : opened_at w' ≡ n
-  opened-is = ap (λ (v : Node). v.start) header_is
+  opened-is = ap (λ (v : Header). v.opened) header_is
 
   -- and where the free chain starts
   free-is : free_head w' ≡ f
-  free-is = ap (λ (v : Node). v.«end») header_is
+  free-is = ap (λ (v : Header). v.free) header_is
 
   -- the record of a world that was opened
   record_is : (k : ℕ) → k < opened_at w' → record_at w' k ≡ empty_record (limits_at ls k)
@@ -267,7 +206,7 @@ module _ (w w₁ w₂ w' ls : List ℕ) (n f : ℕ) (mk : Makeable w ls n)
   node-same : (m : ℕ) → 1 ≤ times m (after 0 (node_count w)) → cell_at (nodes w') m ≡ cell_at (nodes w₁) m
   node-same m i =
       let pos : m ≡ 0 → ⊥ = after-apart 0 (node_count w) m i in
-      cell-nodes w' m ∙ re.there (16 + m) (inr (omega arith)) ∙ hd.there (16 + m) (λ e. omega arith) ∙ sym (cell-nodes w₁ m)
+      cell-nodes w' m ∙ re.there (16 + m) (inr (omega arith)) ∙ hd.there (16 + m) (omega arith) ∙ sym (cell-nodes w₁ m)
 
   -- so the chain is
   free-chain : Chain (nodes w') (free_head w') (after 0 (node_count w))
@@ -289,7 +228,7 @@ module _ (w w₁ w₂ w' ls : List ℕ) (n f : ℕ) (mk : Makeable w ls n)
       sized = omega (arith, mk.sized, same-capacity);
       some = omega (arith, some-worlds, opened-is);
       few = omega (arith, few-worlds, opened-is);
-      header = header_is ∙ sym (ap₂ header_cell opened-is free-is);
+      padded = padding-same w₂ w' (re.there 0 (inl refl)) ∙ hd.padded;
       unopened = λ k a b. re.here k b ∙ sym (ap empty_record (limits-none ls n k (omega (arith, opened-is))));
       planted = λ k l. record-planted w' ls k (record_is k l);
       free = after 0 (node_count w);
@@ -306,26 +245,19 @@ module _ (w w₁ w₂ w' ls : List ℕ) (n f : ℕ) (mk : Makeable w ls n)
 
 -- ---- the nodes as a part of the words
 module _ (w : List ℕ) (h : 1 ≤ capacity w) where
-  -- how many they are
-  many-nodes : length w / 8 - 17 ≡ node_count w
-  many-nodes = omega (arith, sized-length w h)
-
-  -- they fill the part
-  pub part-sized : length (lent w) ≡ 8 * (length w / 8 - 17 + 1)
-  part-sized = ap length (lent-nodes w) ∙ omega (arith, nodes-length w, sized-length w h)
-
   -- freed there, and come back with it: all of it is as long as before
-  pub part-long : (ys : List ℕ) (f : ℕ) → Chained (lent w) ys (length w / 8 - 17) f → length (back w ys) ≡ length w
-  part-long ys f c = back_long w ys (omega (arith, sized-length w h)) c.long
+  pub part-long : (ys : List ℕ) (n f : ℕ) → Chained (lent w) ys n f → length (back w ys) ≡ length w
+  part-long ys n f c = back_long w ys (omega (arith, sized-length w h)) c.long
 
   -- and they are the free chain
-  part-chain : (ys : List ℕ) (f : ℕ) → Chained (lent w) ys (length w / 8 - 17) f → Chain (nodes (back w ys)) f (after 0 (node_count w))
+  pub part-chain : (ys : List ℕ) (f : ℕ) → Chained (lent w) ys (node_count w) f → Chain (nodes (back w ys)) f (after 0 (node_count w))
   part-chain ys f c =
-      subst (λ (m : ℕ). Chain (nodes (back w ys)) f (after 0 m)) many-nodes
-      (subst (λ (v : List ℕ). Chain v f (after 0 (length w / 8 - 17))) (sym (back-nodes w ys (omega (arith, sized-length w h)))) c.chain)
+      subst (λ (v : List ℕ). Chain v f (after 0 (node_count w))) (sym (back-nodes w ys (omega (arith, sized-length w h)))) c.chain
 
 -- so with the header and the records they are an empty pool
-pub made : (w ys w₂ w' ls : List ℕ) (n f : ℕ) → Makeable w ls n → Chained (lent w) ys (length w / 8 - 17) f → Wrote (back w ys) w₂ 0 (header_cell n f)
+pub made : (w ys w₂ w' ls : List ℕ) (m n f : ℕ) → Makeable w ls n → m ≡ node_count w → Chained (lent w) ys m f → MadeHeader (back w ys) w₂ (record { opened = n; free = f })
     → Recorded w₂ w' ls n → Emptied w w' (limits_of ls)
-made w ys w₂ w' ls n f mk c hd re =
-    pool-made w (back w ys) w₂ w' ls n f mk (part-chain w mk.sized ys f c) (part-long w mk.sized ys f c) hd re
+made w ys w₂ w' ls m n f mk e c hd re =
+    pool-made w (back w ys) w₂ w' ls n f mk (part-chain w mk.sized ys f (subst (λ j. Chained (lent w) ys j f) e c)) (part-long w mk.sized ys m f c) hd re
+
+pub ruleset freeing = (free-after-more)

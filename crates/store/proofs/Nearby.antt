@@ -1,18 +1,12 @@
 -- What the run before a position and the run after it tell: which positions from here to there are held. And so which position of a
 -- turned set is held first and last, by the searches that start at the place of logical 0, and of logical M. Assumes nothing.
+use Rattle.store.proofs.Base.{◌≡◌, ℕ, suc, ◌+◌, ◌-◌, ◌<◌, ◌≤◌, Bool, true, false, cond, leb, ◌⊎◌, List, [], ◌∷◌, sym, refl, ap, ◌∙◌, subst, inl, inr, arith, leb-true, Run, size, split}
+use Rattle.store.proofs.Base.{held_runs, mem, Canon, mem-in, mem-above, mem-before, reaches, mem-last, physical_of, logical_of, turned, first_of, last_of}
 use Rattle.std.specs.Prelude.{Option, None, Some, MatchOption}
-use Rattle.std.proofs.Common.{◌≡◌, ℕ, suc, ◌+◌, ◌-◌, ◌<◌, ◌≤◌, Bool, true, false, cond, leb, ◌⊎◌, List, [], ◌∷◌, sym, refl, ap, ◌∙◌, subst, inl, inr, arith, leb-false, leb-true}
-use Rattle.model.specs.declared.Run.{Run}
+use Rattle.std.proofs.Common.{leb-false}
 use Rattle.model.specs.declared.Logical.{Logical}
-use Rattle.model.specs.Numbers.{size}
-use Rattle.model.proofs.Numbers.{split}
-use Rattle.model.specs.Positions.{held_runs, mem}
-use Rattle.model.specs.RunList.{Canon, or_else, last_up_to, first_from}
-use Rattle.model.proofs.RunList.{mem-in, mem-above, mem-under, mem_below, mem-before}
-use Rattle.model.proofs.Search.{reaches, mem-last}
-use Rattle.store.specs.Places.{physical_of, logical_of}
-use Rattle.store.specs.Layout.{turned}
-use Rattle.store.specs.Soundness.{first_of, last_of}
+use Rattle.model.specs.RunList.{or_else, last_up_to, first_from}
+use Rattle.model.proofs.RunList.{mem-under, mem_below}
 use Rattle.store.proofs.Ends.{clash, empty-mem, turned-first, turned-last, turned_none}
 
 -- r is a run of the list, that is, its positions are held and those next to it are not
@@ -131,6 +125,12 @@ later total k (q ∷ rs) x c f = go (leb x q.start) refl f (λ g. later total (q
 
 -- ---- the first held position of a turned set
 module _ (rs : List Run) (c : Canon size 0 rs) (o : ℕ) (small : o < size) where
+  -- where r starts, if no position before that is held
+  starts-at : {x : ℕ} {r : Run} → After rs size x r → ((y : ℕ) → y < size → logical_of y o < logical_of r.start o → mem rs y ≡ false)
+      → logical_of r.start o ≡ first_of (held_runs (turned o (mem rs)))
+  starts-at {r = r} a f =
+      sym (turned-first o (mem rs) small r.start (omega (arith, a.member.ordered, a.member.bounded)) (a.member.held r.start (omega arith) a.member.ordered) f)
+
   -- the place of logical 0 is held
   pub first-zero : (z : ℕ) → z ≡ physical_of 0 o → mem rs z ≡ true → 0 ≡ first_of (held_runs (turned o (mem rs)))
   first-zero z e h =
@@ -140,40 +140,25 @@ module _ (rs : List Run) (c : Canon size 0 rs) (o : ℕ) (small : o < size) wher
   -- a run starts between the place of logical 0 and physical M
   pub first-after : (z : ℕ) (r : Run) → z ≡ physical_of 0 o → mem rs z ≡ false → Some r ≡ first_from z rs
       → logical_of r.start o ≡ first_of (held_runs (turned o (mem rs)))
-  first-after z r e h n = go (subst (Later rs size z) (sym n) (later size 0 rs z c (inl h)))
-    where
-      go : After rs size z r → logical_of r.start o ≡ first_of (held_runs (turned o (mem rs)))
-      go a =
-          let l : r.start < size = omega (arith, a.member.ordered, a.member.bounded) in
-          sym (turned-first o (mem rs) small r.start l (a.member.held r.start (omega arith) a.member.ordered)
-          (λ y t u. a.free y (from y r.start t l a.starts u) (under y r.start t l a.starts u)))
-        where
-          from : (y s : ℕ) → y < size → s < size → z ≤ s → logical_of y o < logical_of s o → z ≤ y
-          from y s t l b u = omega arith
-
-          under : (y s : ℕ) → y < size → s < size → z ≤ s → logical_of y o < logical_of s o → y < s
-          under y s t l b u = omega arith
+  first-after z r e h n =
+      let a : After rs size z r = subst (Later rs size z) (sym n) (later size 0 rs z c (inl h)) in
+      let l : r.start < size = omega (arith, a.member.ordered, a.member.bounded) in
+      let b = a.starts in
+      starts-at a (λ y t u. a.free y (omega arith) (omega arith))
 
   -- no run does, but one starts below
   pub first-wrapped : (z : ℕ) (r : Run) → z ≡ physical_of 0 o → mem rs z ≡ false → None ≡ first_from z rs → Some r ≡ first_from 0 rs
       → logical_of r.start o ≡ first_of (held_runs (turned o (mem rs)))
   first-wrapped z r e h m n =
-      go (subst (Later rs size z) (sym m) (later size 0 rs z c (inl h))) (subst (Later rs size 0) (sym n) (later size 0 rs 0 c (inr refl)))
+      let f : (y : ℕ) → z ≤ y → mem rs y ≡ false = subst (Later rs size z) (sym m) (later size 0 rs z c (inl h)) in
+      let a : After rs size 0 r = subst (Later rs size 0) (sym n) (later size 0 rs 0 c (inr refl)) in
+      starts-at a (λ y t u. sub y u (f y) (split y z) (split r.start z) (f r.start) a)
     where
-      go : ((y : ℕ) → z ≤ y → mem rs y ≡ false) → After rs size 0 r → logical_of r.start o ≡ first_of (held_runs (turned o (mem rs)))
-      go f a =
-          let l : r.start < size = omega (arith, a.member.ordered, a.member.bounded) in
-          let p : mem rs r.start ≡ true = a.member.held r.start (omega arith) a.member.ordered in
-          sym (turned-first o (mem rs) small r.start l p (λ y t u. sub y t u p l (split y z) (split r.start z)))
-        where
-          under : (y s : ℕ) → y < z → s < z → logical_of y o < logical_of s o → y < s
-          under y s t l u = omega arith
-
-          sub : (y : ℕ) → y < size → logical_of y o < logical_of r.start o → mem rs r.start ≡ true → r.start < size
-              → (y < z) ⊎ (z ≤ y) → (r.start < z) ⊎ (z ≤ r.start) → mem rs y ≡ false
-          sub y t u p l (inr i) j = f y i
-          sub y t u p l (inl i) (inr j) = clash p (f r.start j)
-          sub y t u p l (inl i) (inl j) = a.free y (omega arith) (under y r.start i j u)
+      sub : (y : ℕ) → logical_of y o < logical_of r.start o → (z ≤ y → mem rs y ≡ false) → (y < z) ⊎ (z ≤ y) → (r.start < z) ⊎ (z ≤ r.start)
+          → (z ≤ r.start → mem rs r.start ≡ false) → After rs size 0 r → mem rs y ≡ false
+      sub y u f (inr i) j g a = f i
+      sub y u f (inl i) (inr j) g a = clash (a.member.held r.start (omega arith) a.member.ordered) (g j)
+      sub y u f (inl i) (inl j) g a = a.free y (omega arith) (omega arith)
 
   -- there is no run
   pub first-none : None ≡ first_from 0 rs → 0 ≡ first_of (held_runs (turned o (mem rs)))
@@ -182,6 +167,10 @@ module _ (rs : List Run) (c : Canon size 0 rs) (o : ℕ) (small : o < size) wher
       sym (ap first_of (turned_none o (mem rs) small (λ y l. f y (omega arith))))
 
   -- ---- and the last one
+  ends-at : {x : ℕ} {r : Run} → Before rs size x r → ((y : ℕ) → y < size → logical_of r.«end» o < logical_of y o → mem rs y ≡ false)
+      → logical_of r.«end» o ≡ last_of (held_runs (turned o (mem rs)))
+  ends-at {r = r} b f = sym (turned-last o (mem rs) small r.«end» b.member.bounded (b.member.held r.«end» b.member.ordered (omega arith)) f)
+
   -- the place of logical M is held
   pub last-top : (z : ℕ) → z ≡ physical_of (size - 1) o → mem rs z ≡ true → size - 1 ≡ last_of (held_runs (turned o (mem rs)))
   last-top z e h =
@@ -191,38 +180,23 @@ module _ (rs : List Run) (c : Canon size 0 rs) (o : ℕ) (small : o < size) wher
   -- the last run that starts at or before it ends before it
   pub last-before : (z : ℕ) (r : Run) → z ≡ physical_of (size - 1) o → Some r ≡ last_up_to z rs → r.«end» < z
       → logical_of r.«end» o ≡ last_of (held_runs (turned o (mem rs)))
-  last-before z r e n i = go (subst (Earlier rs size z) (sym n) (earlier size 0 rs z c))
-    where
-      go : Before rs size z r → logical_of r.«end» o ≡ last_of (held_runs (turned o (mem rs)))
-      go b =
-          sym (turned-last o (mem rs) small r.«end» b.member.bounded (b.member.held r.«end» b.member.ordered (omega arith))
-          (λ y t u. b.free y (over y r.«end» t b.member.bounded i u) (upto y r.«end» t b.member.bounded i u)))
-        where
-          over : (y s : ℕ) → y < size → s < size → s < z → logical_of s o < logical_of y o → s < y
-          over y s t l i u = omega arith
-
-          upto : (y s : ℕ) → y < size → s < size → s < z → logical_of s o < logical_of y o → y ≤ z
-          upto y s t l i u = omega arith
+  last-before z r e n i =
+      let b : Before rs size z r = subst (Earlier rs size z) (sym n) (earlier size 0 rs z c) in
+      ends-at b (λ y t u. b.free y (omega arith) (omega arith))
 
   -- none does, but one starts above
   pub last-wrapped : (z : ℕ) (r : Run) → z ≡ physical_of (size - 1) o → None ≡ last_up_to z rs → Some r ≡ last_up_to (size - 1) rs
       → logical_of r.«end» o ≡ last_of (held_runs (turned o (mem rs)))
   last-wrapped z r e m n =
-      go (subst (Earlier rs size z) (sym m) (earlier size 0 rs z c)) (subst (Earlier rs size (size - 1)) (sym n) (earlier size 0 rs (size - 1) c))
+      let f : (y : ℕ) → y ≤ z → mem rs y ≡ false = subst (Earlier rs size z) (sym m) (earlier size 0 rs z c) in
+      let b : Before rs size (size - 1) r = subst (Earlier rs size (size - 1)) (sym n) (earlier size 0 rs (size - 1) c) in
+      ends-at b (λ y t u. sub y t u b.member.bounded (f y) (split z y) (split z r.«end») (f r.«end») b)
     where
-      go : ((y : ℕ) → y ≤ z → mem rs y ≡ false) → Before rs size (size - 1) r → logical_of r.«end» o ≡ last_of (held_runs (turned o (mem rs)))
-      go f b =
-          let p : mem rs r.«end» ≡ true = b.member.held r.«end» b.member.ordered (omega arith) in
-          sym (turned-last o (mem rs) small r.«end» b.member.bounded p (λ y t u. sub y t u p b.member.bounded (split z y) (split z r.«end»)))
-        where
-          over : (y s : ℕ) → z < y → z < s → y < size → s < size → logical_of s o < logical_of y o → s < y
-          over y s i j t l u = omega arith
-
-          sub : (y : ℕ) → y < size → logical_of r.«end» o < logical_of y o → mem rs r.«end» ≡ true → r.«end» < size
-              → (z < y) ⊎ (y ≤ z) → (z < r.«end») ⊎ (r.«end» ≤ z) → mem rs y ≡ false
-          sub y t u p l (inr i) j = f y i
-          sub y t u p l (inl i) (inr j) = clash p (f r.«end» j)
-          sub y t u p l (inl i) (inl j) = b.free y (over y r.«end» i j t l u) (omega arith)
+      sub : (y : ℕ) → y < size → logical_of r.«end» o < logical_of y o → r.«end» < size → (y ≤ z → mem rs y ≡ false) → (z < y) ⊎ (y ≤ z) → (z < r.«end») ⊎ (r.«end» ≤ z)
+          → (r.«end» ≤ z → mem rs r.«end» ≡ false) → Before rs size (size - 1) r → mem rs y ≡ false
+      sub y t u l f (inr i) j g b = f i
+      sub y t u l f (inl i) (inr j) g b = clash (b.member.held r.«end» b.member.ordered (omega arith)) (g j)
+      sub y t u l f (inl i) (inl j) g b = b.free y (omega arith) (omega arith)
 
   -- there is no run
   pub last_none : None ≡ last_up_to (size - 1) rs → 0 ≡ last_of (held_runs (turned o (mem rs)))
@@ -232,28 +206,16 @@ module _ (rs : List Run) (c : Canon size 0 rs) (o : ℕ) (small : o < size) wher
 
   -- ---- where nothing is turned, the first run of all and the last one tell them
   pub first-straight : (r : Run) → o ≡ 0 → Some r ≡ first_from 0 rs → logical_of r.start 0 ≡ first_of (held_runs (turned o (mem rs)))
-  first-straight r e n = go (subst (Later rs size 0) (sym n) (later size 0 rs 0 c (inr refl)))
-    where
-      go : After rs size 0 r → logical_of r.start 0 ≡ first_of (held_runs (turned o (mem rs)))
-      go a =
-          let l : r.start < size = omega (arith, a.member.ordered, a.member.bounded) in
-          ap (λ k. logical_of r.start k) (sym e) ∙ sym (turned-first o (mem rs) small r.start l (a.member.held r.start (omega arith) a.member.ordered)
-          (λ y t u. a.free y (omega arith) (under y r.start t l u)))
-        where
-          under : (y s : ℕ) → y < size → s < size → logical_of y o < logical_of s o → y < s
-          under y s t l u = omega arith
+  first-straight r e n =
+      let a : After rs size 0 r = subst (Later rs size 0) (sym n) (later size 0 rs 0 c (inr refl)) in
+      let l : r.start < size = omega (arith, a.member.ordered, a.member.bounded) in
+      ap (logical_of r.start) (sym e) ∙ starts-at a (λ y t u. a.free y (omega arith) (omega arith))
 
   pub last-straight : (r : Run) → o ≡ 0 → Some r ≡ last_up_to (size - 1) rs → logical_of r.«end» 0 ≡ last_of (held_runs (turned o (mem rs)))
-  last-straight r e n = go (subst (Earlier rs size (size - 1)) (sym n) (earlier size 0 rs (size - 1) c))
-    where
-      go : Before rs size (size - 1) r → logical_of r.«end» 0 ≡ last_of (held_runs (turned o (mem rs)))
-      go b =
-          let l : r.«end» < size = b.member.bounded in
-          ap (λ k. logical_of r.«end» k) (sym e) ∙ sym (turned-last o (mem rs) small r.«end» l (b.member.held r.«end» b.member.ordered (omega arith))
-          (λ y t u. b.free y (over y r.«end» t l u) (omega arith)))
-        where
-          over : (y s : ℕ) → y < size → s < size → logical_of s o < logical_of y o → s < y
-          over y s t l u = omega arith
+  last-straight r e n =
+      let b : Before rs size (size - 1) r = subst (Earlier rs size (size - 1)) (sym n) (earlier size 0 rs (size - 1) c) in
+      let l = b.member.bounded in
+      ap (logical_of r.«end») (sym e) ∙ ends-at b (λ y t u. b.free y (omega arith) (omega arith))
 
   -- ---- what a call makes of the run that a search finds, and of none
   module _ {q : Option Run} {Q : Run → Type 0} where

@@ -1,18 +1,9 @@
 -- The nodes of a world: each is in its tree, in the free chain, or another world's, once. A tree and a chain whose cells are as they were are
 -- as they were; and what a change does to cells of the tree and the chain alone leaves others still. Assumes nothing.
-use Rattle.std.proofs.Common.{◌≡◌, ℕ, ◌+◌, ◌*◌, ◌^◌, ◌<◌, ◌≤◌, ◌⊎◌, List, [], ◌∷◌, length, refl, ap, ◌∙◌, inl, inr, arith}
-use native.Mathlib.Decide.{ℕ_discrete}
-use Rattle.model.proofs.Numbers.{split}
-use Rattle.run_index.specs.Cells.{cell_at, Room}
-use Rattle.run_index.specs.Tree.{Tree, runs, count, Rep}
-use Rattle.run_index.specs.Strung.{times}
-use Rattle.run_index.specs.Search.{Index}
-use Rattle.run_index.proofs.Trees.{δ-other}
-use Rattle.run_index.proofs.Bound.{rep-positive, rep-numbered, few-nodes}
-use Rattle.store.specs.declared.Links.{Links}
+use Rattle.store.proofs.Base.{◌≡◌, ℕ, ◌+◌, ◌*◌, ◌^◌, ◌<◌, ◌≤◌, ◌⊎◌, List, [], ◌∷◌, length, refl, ap, ◌∙◌, inl, inr, arith, ℕ_discrete, split, cell_at, Room, Tree, runs, count, Rep}
+use Rattle.store.proofs.Base.{times, Index, δ-other, rep-positive, rep-numbered, Links, capacity, Chain, Share, Foreign, Still, Kept}
+use Rattle.run_index.proofs.Bound.{few-nodes}
 use Rattle.store.proofs.Capacities.{length-capacity}
-use Rattle.store.specs.Layout.{capacity}
-use Rattle.store.specs.Soundness.{Chain, Share, Foreign, Still, Kept}
 
 -- a number that is 0 or has no room is none of a chain's
 pub chain-outside : (w : List ℕ) (k : ℕ) (ns : List ℕ) → Chain w k ns → (m : ℕ) → (1 ≤ m → Room w m → ⊥) → times m ns ≡ 0
@@ -77,10 +68,6 @@ module _ {w : List ℕ} {s : Share} {x : Links} {t : Tree} {ns : List ℕ} (k : 
   -- they are few
   pub few-runs : runs t + 1 < 2 ^ 62
   few-runs = omega (arith, tree-few, k.few)
-
-  -- there is a cell 0
-  pub header-room : Room w 0
-  header-room = omega (arith, k.sized)
 
   -- the tree can be searched
   pub kept-index : Index w x.root s.tag t

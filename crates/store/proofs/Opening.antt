@@ -1,22 +1,11 @@
 -- What a world that stands gives its readers: its tree at its root, that its positions are the tree's, turned by the offset, and that it holds
 -- some exactly if it has runs. And what a sound pool gives: its world stands, with nodes enough for what it may hold. Assumes nothing.
-use Rattle.std.proofs.Common.{◌≡◌, ℕ, ◌<◌, ◌≤◌, true, false, List, [], ◌∷◌, length, sym, ap, ◌∙◌, arith}
-use Rattle.model.specs.declared.Run.{Run}
-use Rattle.model.specs.Numbers.{size}
-use Rattle.store.specs.Places.{physical_of, logical_of}
-use Rattle.model.specs.Positions.{Positions, stretches, mem}
-use Rattle.model.specs.RunList.{Canon}
-use Rattle.model.proofs.RunList.{mem-in}
-use Rattle.run_index.specs.Tree.{runs, inorder}
-use Rattle.run_index.specs.Search.{Index, Indexed, runs_from}
-use Rattle.run_index.proofs.Totals.{runs-length}
-use Rattle.store.specs.declared.World.{World}
-use Rattle.store.specs.Layout.{turned, held_in}
-use Rattle.store.specs.Soundness.{Share, Standing}
+use Rattle.store.proofs.Base.{◌≡◌, ℕ, ◌<◌, ◌≤◌, true, false, List, [], ◌∷◌, length, sym, ap, ◌∙◌, arith, Run, size, physical_of, logical_of, Positions, mem, Canon, mem-in, runs, inorder, Index, runs_from}
+use Rattle.store.proofs.Base.{runs-length, World, turned, held_in, Share, Standing}
 use Rattle.store.proofs.Turn.{turned-at, turned-logical}
 use Rattle.store.proofs.Ends.{empty-mem}
 use Rattle.store.proofs.Nodes.{kept-index}
-use Rattle.store.proofs.Reached.{kept-held, kept-runs, kept-seen}
+use Rattle.store.proofs.Reached.{kept-held, kept-runs}
 
 -- no runs hold nothing
 none-hold : (rs : List Run) → length rs ≡ 0 → (x : ℕ) → mem rs x ≡ false
@@ -37,10 +26,6 @@ module _ {w : List ℕ} {s : Share} {h : World} (st : Standing w s h) where
   pub standing-index : Index w h.root s.tag st.tree
   standing-index = kept-index st.kept
 
-  -- so it can be searched
-  pub standing-indexed : Indexed w h.root
-  standing-indexed = (s.tag, st.tree, standing-index)
-
   -- its positions are the tree's, turned by its offset
   pub standing-held : held_in w h ≡ turned h.offset physical_in
   standing-held = kept-held st.kept h.offset
@@ -48,10 +33,6 @@ module _ {w : List ℕ} {s : Share} {h : World} (st : Standing w s h) where
   -- as the count of logical runs asks it
   pub standing-counted : h.runs ≡ length (runs_from w h.root)
   standing-counted = st.runs-are ∙ runs-length st.tree ∙ ap length (sym (kept-runs st.kept))
-
-  -- and what that count tells
-  pub logical-told : {r : ℕ} → r ≡ stretches (turned h.offset (mem (runs_from w h.root))) → r ≡ stretches (held_in w h)
-  logical-told e = e ∙ ap stretches (kept-seen st.kept h.offset)
 
   -- without runs it holds nothing
   pub standing-none : runs st.tree ≡ 0 → (x : ℕ) → x < size → held_in w h x ≡ false

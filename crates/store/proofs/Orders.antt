@@ -1,13 +1,9 @@
 -- Runs in order, split at a run of the middle: those before it end two below its start, those after it start two above its end. So a
 -- tree in words whose runs rise has no node twice: the node's own start would have to lie in two places. Assumes nothing.
-use Rattle.std.proofs.Common.{◌≡◌, ℕ, ◌+◌, ◌-◌, ◌<◌, ◌≤◌, List, [], ◌∷◌, ◌++◌, sym, ap, ◌∙◌, subst, arith}
-use native.Mathlib.Decide.{ℕ_discrete}
-use Rattle.model.specs.declared.Run.{Run}
-use Rattle.model.specs.RunList.{Canon}
-use Rattle.run_index.specs.declared.Node.{Node}
-use Rattle.run_index.specs.Cells.{cell_at, Room}
-use Rattle.run_index.specs.Tree.{Tree, leaf, node, inorder, δ, count, Distinct, cell, Rep}
-use Rattle.run_index.proofs.Trees.{δ-other, δ≤1, rep_pos, rep-room, rep-ordered, rep-cell, rep-left, rep-right}
+use Rattle.store.proofs.Base.{◌≡◌, ℕ, ◌+◌, ◌-◌, ◌<◌, ◌≤◌, List, [], ◌∷◌, ◌++◌, sym, ap, ◌∙◌, subst, arith, ℕ_discrete, Run, Canon, Node, cell_at, Room, Tree, leaf, node, inorder, δ, count}
+use Rattle.store.proofs.Base.{cell, Rep, δ-other, δ≤1, rep_pos, rep-room, rep-cell, rep-left, rep-right}
+use Rattle.run_index.specs.Tree.{Distinct}
+use Rattle.run_index.proofs.Trees.{rep-ordered}
 
 -- the parts of a list in order about one of its runs
 pub record About (total lo : ℕ) (xs : List Run) (a b : ℕ) (ys : List Run) : Type 0 where

@@ -1,13 +1,9 @@
 -- The part of a pool's words from word 128 on, lent and come back: what the index promises of the part, it promises of the nodes; the words
 -- before are as they were; and the cell of node n there is the cell 16 + n of the whole. Assumes nothing.
-use Rattle.std.proofs.Common.{◌≡◌, ℕ, ◌+◌, ◌-◌, ◌*◌, ◌<◌, ◌≤◌, List, [], ◌++◌, length, get_or, take, drop, sym, ap, ◌∙◌, subst, append-nil, arith}
-use Rattle.std.proofs.Common.{length-append, length-drop, take-append-drop, length-take-le, get_or-drop, take_all, get_or-take, take_at, drop_at}
+use Rattle.store.proofs.Base.{◌≡◌, ℕ, ◌+◌, ◌-◌, ◌*◌, ◌<◌, ◌≤◌, List, [], ◌++◌, length, get_or, sym, ap, ◌∙◌, subst, arith, length-append, cell_at, same-node, nodes}
+use Rattle.std.proofs.Common.{take, drop, append-nil, length-drop, take-append-drop, length-take-le, get_or-drop, take_all, get_or-take, take_at, drop_at}
 use native.Mathlib.Decide.{dec_lt}
 use lib.Seq.{drop-length}
-use Rattle.run_index.specs.declared.Node.{Node}
-use Rattle.run_index.specs.Cells.{cell_at, Wrote}
-use Rattle.run_index.proofs.Words.{same-node}
-use Rattle.store.specs.Layout.{nodes}
 
 -- the words before the nodes
 unfoldable pub front : List ℕ → List ℕ
@@ -44,10 +40,6 @@ cell-nodes w n =
 -- what holds of the nodes holds of the part
 pub of-nodes : (P : List ℕ → Type 0) (w : List ℕ) → P (nodes w) → P (lent w)
 of-nodes P w h = subst P (sym (lent-nodes w)) h
-
--- the part's cell n is the whole's cell 16 + n
-pub lent-cell : (w : List ℕ) (n : ℕ) {v : Node} → v ≡ cell_at (lent w) n → v ≡ cell_at w (16 + n)
-lent-cell w n e = e ∙ ap (λ l. cell_at l n) (lent-nodes w) ∙ cell-nodes w n
 
 -- nothing lies after it
 rest-none : (w : List ℕ) → drop (length w - 128) (drop 128 w) ≡ []
@@ -105,10 +97,6 @@ cells-before w w' e z m le = go (dec_lt m 16)
     go (no ge) =
         let is : 16 + 0 ≡ m = omega arith in
         subst (λ (j : ℕ). cell_at w' j ≡ cell_at w j) is (sym (cell-nodes w' 0) ∙ z ∙ cell-nodes w 0)
-
--- a write of the header or a record changes no node
-pub nodes-kept : {w w' : List ℕ} {m : ℕ} {v : Node} → Wrote w w' m v → m ≤ 16 → (n : ℕ) → 1 ≤ n → cell_at (nodes w') n ≡ cell_at (nodes w) n
-nodes-kept {w} {w'} wr le n pos = cell-nodes w' n ∙ wr.there (16 + n) (λ e. omega arith) ∙ sym (cell-nodes w n)
 
 -- equally long words have equally many nodes
 pub nodes-long : (w w' : List ℕ) → length w' ≡ length w → length (nodes w') ≡ length (nodes w)

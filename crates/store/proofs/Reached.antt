@@ -1,15 +1,8 @@
 -- The tree reached from a root is the tree that is there: a tree of so few nodes is at most 22 high, and that deep links are followed.
 -- Assumes nothing.
-use Rattle.std.proofs.Common.{◌≡◌, ℕ, ◌≤◌, List, sym, ap, ◌∙◌, arith}
-use Rattle.model.specs.declared.Run.{Run}
-use Rattle.model.specs.Positions.{mem}
-use Rattle.run_index.specs.Tree.{Tree, height, inorder, At, tree_from}
+use Rattle.store.proofs.Base.{◌≡◌, ℕ, ◌≤◌, List, sym, ap, ◌∙◌, arith, Run, mem, Tree, height, inorder, At, tree_from, Index, runs_from, index-runs, Links, highest, physical_runs, turned, held_from, Share, Kept}
 use Rattle.run_index.proofs.Least.{height_bound}
-use Rattle.run_index.specs.Search.{Index, runs_from}
-use Rattle.run_index.proofs.Reached.{from-tree, index-runs}
-use Rattle.store.specs.declared.Links.{Links}
-use Rattle.store.specs.Layout.{highest, physical_runs, turned, held_from}
-use Rattle.store.specs.Soundness.{Share, Kept}
+use Rattle.run_index.proofs.Reached.{from-tree}
 use Rattle.store.proofs.Nodes.{tree-few, kept-index}
 
 -- of any tree that is low enough

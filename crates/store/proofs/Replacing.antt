@@ -1,18 +1,10 @@
 -- Another tree for a world's: its nodes are given back, runs are laid into the first free nodes, and these are linked up. Every node that the
 -- world had or that was free serves again, and others stand still. Assumes nothing.
-use Rattle.std.proofs.Common.{◌≡◌, ℕ, ◌≤◌, List, [], ◌∷◌, length, refl, ap, subst, arith, length-append}
-use Rattle.model.specs.declared.Run.{Run}
-use Rattle.model.specs.Numbers.{size}
-use Rattle.model.specs.Positions.{mem}
-use Rattle.model.specs.RunList.{Canon}
-use Rattle.run_index.specs.Tree.{Tree, leaf, node, inorder}
+use Rattle.store.proofs.Base.{◌≡◌, ℕ, ◌≤◌, List, [], ◌∷◌, length, refl, ap, subst, arith, length-append, Run, size, mem, Canon, Tree, leaf, node, inorder, World, Links, links_of, Share, Kept, Standing, GivesBack}
+use Rattle.store.proofs.Base.{Became, Strewn, LinksUp}
 use Rattle.run_index.specs.Strung.{FreeChain, Fillable}
-use Rattle.store.specs.declared.World.{World}
-use Rattle.store.specs.declared.Links.{Links}
-use Rattle.store.specs.Layout.{links_of}
-use Rattle.store.specs.Soundness.{Share, Kept, Standing}
-use Rattle.store.specs.Free.{Becomes, GivesBack}
-use Rattle.store.specs.Settle.{Became, Lays, Strewn, Linkable, LinksUp}
+use Rattle.store.specs.Free.{Becomes}
+use Rattle.store.specs.Settle.{Lays, Linkable}
 use Rattle.store.proofs.Nodes.{node-once, still-then}
 
 -- a tree without runs has no node

@@ -1,16 +1,11 @@
 -- What a world that agreed before a .. b got a value tells of the positions held after it: the first and the last one, unless they
 -- were freed. Assumes nothing.
-use Rattle.std.proofs.Common.{◌≡◌, ℕ, suc, ◌-◌, ◌<◌, ◌≤◌, max, min, Bool, true, false, ◌⊎◌, List, sym, ap, ◌∙◌, subst, inl, inr, arith}
-use Rattle.model.specs.Numbers.{size}
-use Rattle.model.proofs.Numbers.{split}
-use Rattle.model.specs.Positions.{Positions, set_range, held_runs}
+use Rattle.store.proofs.Base.{◌≡◌, ℕ, suc, ◌-◌, ◌<◌, ◌≤◌, max, min, Bool, true, false, ◌⊎◌, List, sym, ap, ◌∙◌, subst, inl, inr, arith, size, split, Positions, held_runs, World, Links, held_from}
+use Rattle.store.proofs.Base.{first_of, last_of}
+use Rattle.model.specs.Positions.{set_range}
 use Rattle.model.proofs.After.{set-inside, set_below, set-above}
-use Rattle.store.specs.declared.World.{World}
-use Rattle.store.specs.declared.Links.{Links}
-use Rattle.store.specs.Layout.{held_from}
-use Rattle.store.specs.Soundness.{first_of, last_of}
-use Rattle.store.proofs.Ends.{Ends, held_first, held-last, held_none, held-ends}
 use Rattle.store.specs.Settle.{Altered, Resettable}
+use Rattle.store.proofs.Ends.{Ends, held_first, held-last, held_none, held-ends}
 use Rattle.store.proofs.Reached.{kept-held}
 
 module _ {w : List ℕ} {ls : Links} {h : World} {a b : ℕ} {v : Bool} (re : Resettable w ls h a b v) where

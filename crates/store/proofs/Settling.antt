@@ -1,29 +1,18 @@
 -- Bringing a world into agreement with its tree: the root's node and the searches tell its sums and bounds. And making a tree of free nodes
 -- that were given runs: these are one balanced tree, and the others stay free. Assumes nothing.
-use Rattle.std.proofs.Common.{◌≡◌, ℕ, ◌+◌, ◌^◌, ◌<◌, ◌≤◌, List, [], ◌∷◌, length, sym, refl, ap, ◌∙◌, subst, arith}
-use Rattle.model.specs.declared.Run.{Run}
-use Rattle.model.specs.Numbers.{size}
-use Rattle.model.specs.Positions.{Positions, mem, held_runs, stretches}
-use Rattle.model.proofs.Runs.{stretches-cong}
-use Rattle.model.specs.RunList.{Canon}
-use Rattle.run_index.specs.declared.Node.{Node}
+use Rattle.store.proofs.Base.{◌≡◌, ℕ, ◌+◌, ◌^◌, ◌<◌, ◌≤◌, List, [], ◌∷◌, length, sym, refl, ap, ◌∙◌, subst, arith, Run, size, Positions, mem, held_runs, stretches, stretches-cong, Canon, Node}
+use Rattle.store.proofs.Base.{cell_at, Room, Tree, leaf, runs, ones, count, inorder, At, Sums, runs_from, times, Free, sums-node, times-append, length_both, strung-kept, World, Set, Links, links_of, turned, held, held_from, held_in}
+use Rattle.store.proofs.Base.{Chain, first_of, last_of, Share, Still, Kept, Became, Strewn, LinksUp}
 use Rattle.run_index.specs.declared.chains.Grown.{Grown}
-use Rattle.run_index.specs.Cells.{cell_at, Room}
-use Rattle.run_index.specs.Tree.{Tree, leaf, runs, ones, count, inorder, At, Sums}
-use Rattle.run_index.specs.Search.{Indexed, runs_from}
-use Rattle.run_index.specs.Strung.{times, Free, Upright, Supply, Filled, Grew, Grows}
-use Rattle.run_index.proofs.Trees.{at_none, room_at, sums-node}
+use Rattle.run_index.specs.Strung.{Upright, Supply, Filled, Grew, Grows}
+use Rattle.run_index.proofs.Trees.{at_none, room_at}
 use Rattle.run_index.proofs.Balance.{halved-balanced}
-use Rattle.run_index.proofs.Strings.{times-append, length_both, count-numbers, length-numbers, strung-kept}
+use Rattle.run_index.proofs.Strings.{count-numbers, length-numbers}
 use Rattle.run_index.proofs.Laying.{strung-laid}
-use Rattle.store.specs.declared.World.{World}
-use Rattle.store.specs.declared.Set.{Set}
-use Rattle.store.specs.declared.Links.{Links}
-use Rattle.store.specs.Layout.{links_of, turned, held, held_from, held_in}
-use Rattle.store.specs.Soundness.{Chain, first_of, last_of, Share, Still, Kept, Limited}
+use Rattle.store.specs.Soundness.{Limited}
+use Rattle.store.specs.Settle.{Shows, Refreshes, Rooted}
 use Rattle.store.proofs.Turn.{turned_zero}
-use Rattle.store.specs.Settle.{Shows, Became, Refreshes, Rooted, Strewn, LinksUp}
-use Rattle.store.proofs.Nodes.{node-once, kept-index, kept-still}
+use Rattle.store.proofs.Nodes.{node-once, kept-still}
 use Rattle.store.proofs.Reached.{kept-held, kept-seen}
 use Rattle.store.proofs.Emptying.{vacant_world, vacant-standing, rootless-empty}
 
@@ -69,10 +58,6 @@ module _ {w : List ℕ} {x : Links} where
   -- the root's node has room
   pub root-room : {s : Share} {t : Tree} {ns : List ℕ} → (x.root ≡ 0 → ⊥) → Kept w s x t ns → Room w x.root
   root-room {t = t} nz k = room_at nz t k.linked
-
-  -- the tree can be searched
-  pub kept-indexed : {s : Share} {t : Tree} {ns : List ℕ} → Kept w s x t ns → Indexed w x.root
-  kept-indexed {s} {t} k = (s.tag, t, kept-index k)
 
   -- what the searches tell of the positions held
   pub first-told : {s : Share} {t : Tree} {ns : List ℕ} {r : ℕ} (o : ℕ) → Kept w s x t ns → (z : Set) → z ≡ record { runs = runs_from w x.root; offset = o }

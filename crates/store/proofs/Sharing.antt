@@ -1,13 +1,7 @@
 -- The nodes of a tree are its world's own: each has its world's number as its tag, and a height. So no node is in two worlds' trees. Assumes
 -- nothing.
-use Rattle.std.proofs.Common.{◌≡◌, ℕ, ◌<◌, ◌≤◌, List, sym, ap, ◌∙◌, arith}
-use native.Mathlib.Decide.{ℕ_discrete}
-use Rattle.model.specs.Numbers.{size}
-use Rattle.run_index.specs.Cells.{cell_at, Room}
-use Rattle.run_index.specs.Tree.{count}
+use Rattle.store.proofs.Base.{◌≡◌, ℕ, ◌<◌, ◌≤◌, List, sym, ap, ◌∙◌, arith, ℕ_discrete, size, cell_at, Room, count, world_at, nodes, tree_at, sum_to, without, count_at, Planted}
 use Rattle.run_index.proofs.Apart.{rep-tagged}
-use Rattle.store.specs.Layout.{world_at, nodes, tree_at}
-use Rattle.store.specs.Soundness.{sum_to, without, count_at, Planted}
 use Rattle.store.proofs.Sums.{sum-some, without-here, without-there}
 use Rattle.store.proofs.Reached.{tree-reached}
 use Rattle.store.proofs.Orders.{node_in}

@@ -1,7 +1,5 @@
 -- Sums over the worlds of a pool: of one world and of the others; and of terms that are the same. Assumes nothing.
-use Rattle.std.proofs.Common.{◌≡◌, ℕ, zero, suc, ◌+◌, ◌<◌, ◌≤◌, cond, sym, refl, ap, ◌∙◌, ap₂, arith, eq-eqb, ne_eqb}
-use native.Mathlib.Decide.{ℕ_discrete}
-use Rattle.store.specs.Soundness.{sum_to, without}
+use Rattle.store.proofs.Base.{◌≡◌, ℕ, zero, suc, ◌+◌, ◌<◌, ◌≤◌, cond, refl, ap, ap₂, arith, eq-eqb, ne_eqb, ℕ_discrete, nat_tests, sum_to, without}
 
 -- one term more
 pub sum_more : (n : ℕ) (f : ℕ → ℕ) → sum_to (suc n) f ≡ sum_to n f + f n
@@ -30,16 +28,6 @@ pub sum_both : (n : ℕ) (f g : ℕ → ℕ) → sum_to n (λ j. f j + g j) ≡ 
 unfolding sum_to
 sum_both zero f g = refl
 sum_both (suc n) f g = omega (arith, sum_both n f g)
-
--- one of the terms is at most the sum
-pub sum_one : (n : ℕ) (f : ℕ → ℕ) (k : ℕ) → k < n → f k ≤ sum_to n f
-unfolding sum_to
-sum_one zero f k l = absurd (omega arith)
-sum_one (suc n) f k l = go (ℕ_discrete k n) (sum_one n f k)
-  where
-    go : Dec (k ≡ n) → (k < n → f k ≤ sum_to n f) → f k ≤ sum_to n f + f n
-    go (yes e) ih = omega (arith, ap f e)
-    go (no ne) ih = omega (arith, ih (omega arith))
 
 -- a sum that is not 0 has a term that is not
 pub sum-some : (n : ℕ) (f : ℕ → ℕ) → 1 ≤ sum_to n f → (j : ℕ) × (j < n) × (1 ≤ f j)
@@ -96,18 +84,14 @@ sum-split (suc n) k f l = go (ℕ_discrete n k) (sum-split n k f)
     go (yes e) ih = omega (arith, without-past n k f (omega arith), without-here k f n e, ap f e)
     go (no ne) ih = omega (arith, ih (omega arith), without-there k f n ne)
 
+-- one of the terms is at most the sum
+pub sum_one : (n : ℕ) (f : ℕ → ℕ) (k : ℕ) → k < n → f k ≤ sum_to n f
+sum_one n f k l = omega (arith, sum-split n k f l)
+
 -- the others, where only the term that is left out may differ
 pub without-cong : (n k : ℕ) (f g : ℕ → ℕ) → ((j : ℕ) → j < n → (j ≡ k → ⊥) → f j ≡ g j) → sum_to n (without k f) ≡ sum_to n (without k g)
-without-cong n k f g h = sum-cong n (without k f) (without k g) (λ j l. go j l (ℕ_discrete j k))
-  where
-    go : (j : ℕ) → j < n → Dec (j ≡ k) → without k f j ≡ without k g j
-    go j l (yes e) = without-here k f j e ∙ sym (without-here k g j e)
-    go j l (no ne) = without-there k f j ne ∙ h j l ne ∙ sym (without-there k g j ne)
+without-cong n k f g h = sum-cong n (without k f) (without k g) (λ j l. let e = h j l in grind (arith, nat_tests))
 
 -- the others are at most all
 pub without-most : (n k : ℕ) (f : ℕ → ℕ) → sum_to n (without k f) ≤ sum_to n f
-without-most n k f = sum-most n (without k f) f (λ j l. go j (ℕ_discrete j k))
-  where
-    go : (j : ℕ) → Dec (j ≡ k) → without k f j ≤ f j
-    go j (yes e) = omega (arith, without-here k f j e)
-    go j (no ne) = omega (arith, without-there k f j ne)
+without-most n k f = sum-most n (without k f) f (λ j l. grind (arith, nat_tests))

@@ -1,7 +1,5 @@
 -- Truth values of two tests: which are equal, which are false, and both of them. Assumes nothing.
-use Rattle.std.proofs.Common.{◌≡◌, ℕ, ◌≤◌, Bool, true, false, ◌&&◌, sym, refl, arith}
-use mir.Val.{bool_byte}
-use Rattle.model.specs.Positions.{one_if}
+use Rattle.store.proofs.Base.{◌≡◌, ℕ, ◌≤◌, Bool, true, false, ◌&&◌, sym, refl, arith, bool_byte, one_if}
 
 -- a test is not both
 pub never : {A : Type 0} → false ≡ true → A

@@ -1,29 +1,16 @@
 -- Logical positions are physical ones turned by an offset: a logical range is one physical range, or, where it passes physical M,
 -- two, the second of them from 0 on. Each is read where it lies (module Moved), and what is reported of the logical range is put
 -- together of their reports. Assumes nothing.
+use Rattle.store.proofs.Base.{◌≡◌, ℕ, suc, ◌+◌, ◌-◌, ◌<◌, ◌≤◌, Bool, true, false, ◌&&◌, List, length, sym, refl, ap, ◌∙◌, ap₂, arith, le-ltb, lt-ltb, size, Positions, one_if, held_runs, stretches}
+use Rattle.store.proofs.Base.{mem, physical_of, logical_of, world_at, nodes, physical_runs, turned, held_from, held_by}
 use Rattle.std.specs.Prelude.{option_map}
-use Rattle.std.proofs.Common.{◌≡◌, ℕ, suc, ◌+◌, ◌-◌, ◌<◌, ◌≤◌, Bool, true, false, ◌&&◌, List, length, sym, refl, ap, ◌∙◌, ap₂, add_comm, arith, le-ltb, lt-ltb}
+use Rattle.std.proofs.Common.{add_comm}
 use mathlib.Core.Bool.{beq}
-use Rattle.model.specs.Numbers.{size}
-use Rattle.model.specs.Positions.{Positions, one_if, count, find, select, runs_in, run_count, held_runs, stretches, first_run, last_run, mem}
+use Rattle.model.specs.Positions.{count, select, runs_in, run_count}
 use Rattle.model.proofs.Counting.{beq-true, count_cut}
 use Rattle.model.proofs.Runs.{runs_in-length-join, held_runs-cong}
-use Rattle.store.specs.Places.{physical_of, logical_of}
+use Rattle.model.proofs.Moved.{Alike, move, count-moved, run_count-moved, select-moved}
 use Rattle.store.proofs.Conversions.{physical-logical}
-use Rattle.store.specs.Layout.{world_at, nodes, physical_runs, turned, held_from, held_by}
-use Rattle.model.proofs.Moved.{
-  Alike,
-  move,
-  move_run,
-  move_runs,
-  runs_in-moved,
-  count-moved,
-  run_count-moved,
-  first_run-moved,
-  last_run-moved,
-  find-moved,
-  select-moved,
-}
 
 -- ---- single positions
 -- a logical position is held where its physical one is
@@ -77,10 +64,6 @@ module _ {o a n s e : ℕ} (lies : Lies o a n s e) where
   pub whole-fits : s ≤ e → s + n ≤ size
   whole-fits h = omega arith
 
-  -- and the other way
-  pub fits_whole : s + n ≤ size → s ≤ e
-  fits_whole h = omega arith
-
   -- where a whole range ends
   pub whole-last : s ≤ e → e ≡ s + n - 1
   whole-last h = omega arith
@@ -88,18 +71,6 @@ module _ {o a n s e : ℕ} (lies : Lies o a n s e) where
   -- how many positions a whole range has
   pub whole_length : s ≤ e → n ≡ suc e - s
   whole_length h = omega arith
-
-  -- it is parted exactly if e < s
-  pub parted-over : e < s → size < s + n
-  parted-over h = omega arith
-
-  -- and the other way
-  pub over-parted : size < s + n → e < s
-  over-parted h = omega arith
-
-  -- where a parted range ends
-  pub parted-last : e < s → e ≡ n - (size - s) - 1
-  parted-last h = omega arith
 
   -- the lengths of its parts
   pub parted-length : e < s → n ≡ (size - s) + (e + 1)
@@ -182,22 +153,6 @@ module _ {o a n s e : ℕ} (lies : Lies o a n s e) where
               ap₂ (λ k b. length (runs_in P v a k) + one_if b) j (sym (ap₂ (λ b c. beq b v && beq c v) p r))
               ∙ runs_in-length-join P v a m e
               ∙ ap₂ ◌+◌ (ap (λ k. length (runs_in P v a k)) (sym q) ∙ one) (ap₂ (λ b k. length (runs_in P v b k)) (sym x) (sym y) ∙ two)
-
-      -- the other reports of a whole range (of a parted one: module Parted): its runs
-      pub runs_in-whole : s ≤ e → runs_in (turned o Q) v a n ≡ move_runs s a (runs_in Q v s n)
-      runs_in-whole h = runs_in-moved (turned o Q) Q v a s n (whole-alike h)
-
-      -- its first run
-      pub first_run-whole : s ≤ e → first_run (runs_in (turned o Q) v a n) ≡ option_map (move_run s a) (first_run (runs_in Q v s n))
-      first_run-whole h = first_run-moved (turned o Q) Q v a s n (whole-alike h)
-
-      -- its last run
-      pub last_run-whole : s ≤ e → last_run (runs_in (turned o Q) v a n) ≡ option_map (move_run s a) (last_run (runs_in Q v s n))
-      last_run-whole h = last_run-moved (turned o Q) Q v a s n (whole-alike h)
-
-      -- find
-      pub find-whole : s ≤ e → find (turned o Q) v a n ≡ option_map (move s a) (find Q v s n)
-      find-whole h = find-moved (turned o Q) Q v a s n (whole-alike h)
 
       -- select
       pub select-whole : s ≤ e → (k : ℕ) → select (turned o Q) v a n k ≡ option_map (move s a) (select Q v s n k)

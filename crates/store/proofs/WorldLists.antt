@@ -1,11 +1,8 @@
 -- The worlds of a pool as a list: which one has a number, what they claim together, and when two lists are the same. Assumes nothing.
+use Rattle.store.proofs.Base.{◌≡◌, ℕ, zero, suc, ◌+◌, ◌<◌, ◌≤◌, List, ◌∷◌, sym, refl, ap, ◌∙◌, ap₂, arith, ℕ_discrete, Positions, PlainWorld, claim, claims, other_claims, opened_at, plain_at}
+use Rattle.store.proofs.Base.{worlds_from, worlds_of, sum_to, without}
 use Rattle.std.specs.Prelude.{None, Some}
-use Rattle.std.proofs.Common.{◌≡◌, ℕ, zero, suc, ◌+◌, ◌<◌, ◌≤◌, List, ◌∷◌, length, sym, refl, ap, ◌∙◌, ap₂, arith}
-use native.Mathlib.Decide.{ℕ_discrete}
-use Rattle.model.specs.Positions.{Positions}
-use Rattle.model.specs.Pools.{PlainWorld, world_of, claim, claims, other_claims, with_positions, holding_at}
-use Rattle.store.specs.Layout.{opened_at, plain_at, worlds_from, worlds_of}
-use Rattle.store.specs.Soundness.{sum_to, without}
+use Rattle.model.specs.Pools.{world_of, with_positions, holding_at}
 use Rattle.store.proofs.Sums.{sum_more, sum-nothing, sum-cong, without-here, without-there, without-cong}
 
 -- what world k + j claims
@@ -19,12 +16,6 @@ sum_first zero f = omega (arith, sum_more 0 f, sum-nothing f, sum-nothing (λ j.
 sum_first (suc n) f = omega (arith, sum_more (suc n) f, sum_first n f, sum_more n (λ j. f (suc j)))
 
 -- ---- n worlds from world k on
--- they are n
-pub worlds-length : (w : List ℕ) (k n : ℕ) → length (worlds_from w k n) ≡ n
-unfolding worlds_from
-worlds-length w k zero = refl
-worlds-length w k (suc n) = ap suc (worlds-length w (suc k) n)
-
 -- the one of number i
 pub world-from : (w : List ℕ) (k n i : ℕ) → i < n → world_of (worlds_from w k n) i ≡ Some (plain_at w (k + i))
 unfolding worlds_from

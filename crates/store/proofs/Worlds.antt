@@ -1,34 +1,19 @@
 -- A world of a sound pool, opened: its tree is the one that its root leads to, so its part of the nodes is the pool's but for the other
 -- worlds' trees; and it may have its allowance, since the trees of at most sixteen worlds have at most sixteen runs more than these claim.
 -- What a world claims is told by the count of its logical runs, and its allowance by the claims of the others, one by one. Assumes nothing.
-use Rattle.std.proofs.Common.{◌≡◌, ℕ, zero, suc, ◌+◌, ◌-◌, ◌*◌, ◌<◌, ◌≤◌, min, max, Bool, true, false, ◌&&◌, List, length, sym, refl, ap, ◌∙◌, subst, ap₂, arith}
-use native.Mathlib.Decide.{ℕ_discrete}
-use Rattle.model.specs.declared.Run.{Run}
-use Rattle.model.specs.Numbers.{size}
-use Rattle.model.specs.Positions.{Positions, one_if, stretches, mem}
-use Rattle.model.specs.RunList.{Canon}
+use Rattle.store.proofs.Base.{◌≡◌, ℕ, zero, suc, ◌+◌, ◌-◌, ◌*◌, ◌<◌, ◌≤◌, min, max, Bool, true, false, ◌&&◌, List, length, sym, refl, ap, ◌∙◌, subst, ap₂, arith, ℕ_discrete, Run, size}
+use Rattle.store.proofs.Base.{Positions, one_if, stretches, mem, Canon, claim, other_claims, stretches-is, Room, Tree, runs, count, inorder, Indexed, runs_from, runs-length, index-runs, World, Record, physical_of, opened_at, record_at}
+use Rattle.store.proofs.Base.{world_at, ceiling_at, nodes, capacity, turned, held_by, tree_at, plain_at, worlds_of, allowance, Standing, sum_to, without, runs_at, count_at, share_of, Planted, Sound, Openable, Opened}
+use Rattle.model.specs.Pools.{allowance_of}
 use Rattle.model.specs.Pools
-use Rattle.model.specs.Pools.{claim, other_claims, allowance_of}
-use Rattle.model.proofs.Runs.{stretches-is}
-use Rattle.run_index.specs.declared.Node.{Node}
-use Rattle.run_index.specs.Cells.{cell_at, Room}
-use Rattle.run_index.specs.Tree.{Tree, runs, count, inorder}
-use Rattle.run_index.specs.Search.{Indexed, runs_from}
-use Rattle.run_index.proofs.Totals.{runs-length}
-use Rattle.run_index.proofs.Reached.{index-runs}
-use Rattle.store.specs.declared.World.{World}
-use Rattle.store.specs.Places.{physical_of}
-use Rattle.store.specs.Layout.{opened_at, world_at, ceiling_at, nodes, capacity, turned, held_by, tree_at, plain_at, worlds_of, allowance}
-use Rattle.store.specs.Soundness.{Standing, sum_to, without, runs_at, count_at, share_of, Planted, Sound}
-use Rattle.store.specs.Settle.{Openable, Opened}
-use Rattle.store.proofs.Sums.{sum_more, sum-nothing, sum-most, sum_both, without-here, without-there, sum-split}
+use Rattle.store.proofs.Sums.{sum_more, sum-nothing, sum-most, sum_both, sum-front, without-here, without-there, sum-split}
 use Rattle.store.proofs.WorldLists.{opened-world, claims-all, claims-others}
 use Rattle.store.proofs.Parts.{lent, lent-nodes, of-nodes, nodes-length}
 use Rattle.store.proofs.Turn.{stretches-zero, stretches-turned}
 use Rattle.store.proofs.Nodes.{sized-length}
 use Rattle.store.proofs.Reached.{tree-reached, tree-held}
 use Rattle.store.proofs.Sharing.{others_apart}
-use Rattle.store.proofs.Hanging.{Fitting, hangs-index, planted-fits, world-stands}
+use Rattle.store.proofs.Hanging.{planted-index, world-stands}
 
 -- ---- a planted tree
 module _ (w : List ℕ) (k : ℕ) (P : Planted (nodes w) (world_at w k)) where
@@ -37,44 +22,35 @@ module _ (w : List ℕ) (k : ℕ) (P : Planted (nodes w) (world_at w k)) where
   unfolding tree_at
   planted-tree = tree-reached P.linked P.low
 
-  -- what its tests have met
-  abbrev pub met : Fitting (nodes w) (world_at w k)
-  met = planted-fits P
-
-  -- so is the tree among it
-  pub met-tree : tree_at w k ≡ met.tree.t
-  unfolding tree_at
-  met-tree = tree-reached met.tree.at met.tree.low
-
   -- its positions are the tree's, turned by its offset
-  pub met-held : held_by w k ≡ turned (world_at w k).offset (mem (inorder met.tree.t))
+  planted-held : held_by w k ≡ turned (world_at w k).offset (mem (inorder P.tree))
   unfolding held_by
-  met-held = tree-held (world_at w k).offset met.tree.at met.tree.low
+  planted-held = tree-held (world_at w k).offset P.linked P.low
 
   -- it can be searched in the part that is lent, for the world h that was read
   pub planted-indexed : (h : World) → h ≡ world_at w k → Indexed (lent w) h.root
   planted-indexed h e =
       of-nodes (λ (v : List ℕ). Indexed v h.root) w
-      (subst (λ (z : World). Indexed (nodes w) z.root) (sym e) (k, met.tree.t, hangs-index met.tree))
+      (subst (λ (z : World). Indexed (nodes w) z.root) (sym e) (k, P.tree, planted-index P))
 
   -- and as the count of logical runs asks it
   pub planted-counted : (h : World) → h ≡ world_at w k → h.runs ≡ length (runs_from (lent w) h.root)
   planted-counted h e =
       of-nodes (λ (v : List ℕ). h.runs ≡ length (runs_from v h.root)) w
       (subst (λ (z : World). z.runs ≡ length (runs_from (nodes w) z.root)) (sym e)
-      (met.runs-are ∙ runs-length met.tree.t ∙ ap length (sym (index-runs (hangs-index met.tree)))))
+      (P.runs-are ∙ runs-length P.tree ∙ ap length (sym (index-runs (planted-index P)))))
 
   -- what that count tells
-  runs-told : (h : World) (n : ℕ) → h ≡ world_at w k → n ≡ stretches (turned h.offset (mem (runs_from (lent w) h.root))) → n ≡ stretches (held_by w k)
+  pub runs-told : (h : World) (n : ℕ) → h ≡ world_at w k → n ≡ stretches (turned h.offset (mem (runs_from (lent w) h.root))) → n ≡ stretches (held_by w k)
   runs-told h n e t =
       let told = subst (λ (z : World). n ≡ stretches (turned z.offset (mem (runs_from (lent w) z.root)))) e t in
       subst (λ (v : List ℕ). n ≡ stretches (turned (world_at w k).offset (mem (runs_from v (world_at w k).root)))) (lent-nodes w) told
-      ∙ ap (λ (rs : List Run). stretches (turned (world_at w k).offset (mem rs))) (index-runs (hangs-index met.tree)) ∙ ap stretches (sym met-held)
+      ∙ ap (λ (rs : List Run). stretches (turned (world_at w k).offset (mem rs))) (index-runs (planted-index P)) ∙ ap stretches (sym planted-held)
 
   -- the larger of it and the floor is what the world claims
-  pub claim-told : (h : World) (v : Node) (n : ℕ) → h ≡ world_at w k → v ≡ cell_at w (k + 1) → n ≡ stretches (turned h.offset (mem (runs_from (lent w) h.root)))
-      → max n v.ones ≡ claim (plain_at w k)
-  claim-told h v n e ev t = ap₂ (λ i (z : Node). max i z.ones) (runs-told h n e t) ev
+  pub claim-told : (h : World) (v : Record) (n : ℕ) → h ≡ world_at w k → v ≡ record_at w k → n ≡ stretches (turned h.offset (mem (runs_from (lent w) h.root)))
+      → max n v.floor ≡ claim (plain_at w k)
+  claim-told h v n e ev t = ap₂ (λ i (z : Record). max i z.floor) (runs-told h n e t) ev
 
 -- ---- runs of a tree, and logical runs
 -- a test counts at most once
@@ -113,15 +89,6 @@ allowance-is w k l =
     ∙ ap (λ n. min (ceiling_at w k) (capacity w - n)) (claims-others w k l)
 
 -- ---- counting the claims of others, world by world
--- the first terms of a sum are at most the sum
-sum-part : (m n : ℕ) (f : ℕ → ℕ) → m ≤ n → sum_to m f ≤ sum_to n f
-sum-part m zero f le = omega (arith, ap (λ i. sum_to i f) (let e : m ≡ 0 = omega arith in e))
-sum-part m (suc n) f le = go (ℕ_discrete m (suc n)) (sum-part m n f)
-  where
-    go : Dec (m ≡ suc n) → (m ≤ n → sum_to m f ≤ sum_to n f) → sum_to m f ≤ sum_to (suc n) f
-    go (yes e) ih = omega (arith, ap (λ i. sum_to i f) e)
-    go (no ne) ih = omega (arith, sum_more n f, ih (omega arith))
-
 -- of the capacity, what the first j worlds but k leave
 abbrev pub LeftOver : List ℕ → ℕ → ℕ → ℕ → Type 0
 LeftOver w k left j = left + sum_to j (without k (claim_at w)) ≡ capacity w
@@ -169,21 +136,20 @@ module _ {w : List ℕ} (S : Sound w) where
   pub claim-left : (k left j : ℕ) → k < opened_at w → j < opened_at w → (j ≡ k → ⊥) → LeftOver w k left j → claim_at w j ≤ left
   claim-left k left j l m ne h =
       let f : ℕ → ℕ = without k (claim_at w) in
-      omega (arith, claims-fit k l, sum-part (suc j) (opened_at w) f (omega arith), sum_more j f, without-there k (claim_at w) j ne)
+      omega (arith, claims-fit k l, sum-front (opened_at w) (suc j) f (omega arith), sum_more j f, without-there k (claim_at w) j ne)
 
   module _ (k : ℕ) (l : k < opened_at w) where
-    -- the tree that its tests have met
     abbrev T : Tree
-    T = (met w k (S.planted k l)).tree.t
+    T = (S.planted k l).tree
 
     -- is the one that its root leads to
     T-is : tree_at w k ≡ T
-    T-is = met-tree w k (S.planted k l)
+    T-is = planted-tree w k (S.planted k l)
 
     -- it stands, with all nodes but those of the others
     pub world-standing : Standing (nodes w) (share_of w k) (world_at w k)
     world-standing =
-        world-stands (nodes w) (share_of w k) (world_at w k) (planted-fits (S.planted k l)) S.free
+        world-stands (S.planted k l) S.free
         (omega (arith, nodes-length w, sound-length.0))
         (omega (arith, sound-length.1))
         (omega arith)
@@ -196,7 +162,7 @@ module _ {w : List ℕ} (S : Sound w) where
     pub runs-claimed : (world_at w k).offset < size → runs_at w k ≤ claim_at w k + 1
     runs-claimed small =
         let P = S.planted k l in
-        omega (arith, ap runs T-is, runs-logical (world_at w k).offset T small (met w k P).tree.ordered, ap stretches (met-held w k P))
+        omega (arith, ap runs T-is, runs-logical (world_at w k).offset T small P.ordered, ap stretches (planted-held w k P))
 
   -- the trees of the others have at most sixteen runs more than these claim
   pub others-claimed : ((j : ℕ) → (world_at w j).offset < size) → (k : ℕ) → sum_to (opened_at w) (without k (runs_at w)) ≤ others_claim w k + 16

@@ -7,12 +7,12 @@ use Rattle.model.specs.declared.Limits.{Limits}
 use Rattle.model.specs.Refusals.{bad_limits}
 use Rattle.model.specs.Pools.{PlainWorld, limits_at, limits_of, empty_worlds}
 use Rattle.model.specs.RunList.{Canon, TouchesNone}
-use Rattle.run_index.specs.declared.Node.{Node}
 use Rattle.run_index.specs.Cells.{cell_at}
 use Rattle.run_index.specs.Tree.{Tree, inorder, tree_from}
 use Rattle.run_index.specs.Shape.{inserted}
 use Rattle.run_index.specs.Order.{insert_run, remove_run, replace_run, Starts, Has}
 use Rattle.store.specs.declared.Links.{Links}
+use Rattle.store.specs.declared.layout.Record.{Record}
 use Rattle.store.specs.Layout.{record_at, capacity, worlds_of, highest}
 use Rattle.store.specs.Soundness.{Chain, Share, Still, Kept, Sound}
 
@@ -33,8 +33,8 @@ abbrev pub limits_or_none : List ℕ → ℕ → ℕ → Limits
 limits_or_none ls n k = cond (nat_lt k n) (limits_at ls k) (record { floor = 0; ceiling = 0 })
 
 -- the record of an empty world with these limits
-abbrev pub empty_record : Limits → Node
-empty_record l = record { start = 0; «end» = 0; left = 0; right = 0; height = 0; runs = 0; ones = l.floor; tag = l.ceiling }
+abbrev pub empty_record : Limits → Record
+empty_record l = record { root = 0; offset = 0; ones = 0; runs = 0; first = 0; last = 0; floor = l.floor; ceiling = l.ceiling }
 
 -- each record is that of its world, and no other word has changed
 pub record Recorded (w w' ls : List ℕ) (n : ℕ) : Type 0 where

@@ -1,76 +1,124 @@
 -- How a pool lies in its words (document 01, "The store", and document 02, Ticket 3), and which positions its worlds hold.
 -- Assumes nothing: these are definitions.
-use Rattle.std.specs.Prelude.{◌≡◌, ℕ, zero, suc, ◌+◌, ◌-◌, ◌/◌, ◌%◌, ◌≤◌, cond, ◌&&◌, List, [], ◌∷◌, length, drop, ◌==◌, ◌≢◌, nat_le, nat_lt}
+use Rattle.std.specs.Prelude.{◌≡◌, ℕ, zero, suc, ◌+◌, ◌-◌, ◌*◌, ◌/◌, ◌%◌, ◌≤◌, Bool, cond, ◌&&◌, List, [], ◌∷◌, length, drop, ◌==◌, ◌≢◌, nat_le, nat_lt, slice_index}
 use Rattle.model.specs.declared.Run.{Run}
 use Rattle.model.specs.Numbers.{size}
 use Rattle.model.specs.Positions.{Positions, mem}
 use Rattle.model.specs.Pools
 use Rattle.model.specs.Pools.{PlainWorld}
-use Rattle.run_index.specs.declared.Node.{Node}
 use Rattle.run_index.specs.Cells.{cell_at}
 use Rattle.run_index.specs.Tree.{Tree, inorder, tree_from}
 use Rattle.store.specs.Places.{physical_of}
 use Rattle.store.specs.declared.World.{World}
 use Rattle.store.specs.declared.Links.{Links}
 use Rattle.store.specs.declared.Set.{Set}
+use Rattle.store.specs.declared.layout.Header.{Header}
+use Rattle.store.specs.declared.layout.Record.{Record}
 
--- the header has the words 0 to 7: worlds opened, free head, six zeros
+-- the header: word 0 is how many worlds were opened, word 1 is the head of the free list
+unfoldable pub header_at : List ℕ → Header
+header_at w = record { opened = slice_index w 0; free = slice_index w 1 }
+
 abbrev pub opened_at : List ℕ → ℕ
-opened_at w = (cell_at w 0).start
+opened_at w = (header_at w).opened
 
 abbrev pub free_head : List ℕ → ℕ
-free_head w = (cell_at w 0).«end»
+free_head w = (header_at w).free
 
--- the record of world k has the words 8(1 + k) on: root, offset, ones, physical runs, first and last logical position held, floor, ceiling
-abbrev pub record_at : List ℕ → ℕ → Node
-record_at w k = cell_at w (k + 1)
+-- the words 2 to 7 are its padding, which a sound pool has as zeros; and the test of this
+unfoldable pub padding : List ℕ → List ℕ
+padding w =
+    slice_index w 2 ∷ slice_index w 3 ∷ slice_index w 4 ∷ slice_index w 5 ∷ slice_index w 6 ∷ slice_index w 7 ∷ []
+
+abbrev pub IsPadded : List ℕ → Type 0
+IsPadded w = padding w ≡ 0 ∷ 0 ∷ 0 ∷ 0 ∷ 0 ∷ 0 ∷ []
+
+unfoldable pub padded_b : List ℕ → Bool
+padded_b w =
+    slice_index w 2 == 0
+    && (slice_index w 3 == 0 && (slice_index w 4 == 0 && (slice_index w 5 == 0 && (slice_index w 6 == 0 && slice_index w 7 == 0))))
+
+-- the record of world k has the words 8(k + 1) on
+unfoldable pub record_at : List ℕ → ℕ → Record
+record_at w k = record {
+  root = slice_index w (8 * (k + 1));
+  offset = slice_index w (8 * (k + 1) + 1);
+  ones = slice_index w (8 * (k + 1) + 2);
+  runs = slice_index w (8 * (k + 1) + 3);
+  first = slice_index w (8 * (k + 1) + 4);
+  last = slice_index w (8 * (k + 1) + 5);
+  floor = slice_index w (8 * (k + 1) + 6);
+  ceiling = slice_index w (8 * (k + 1) + 7);
+}
+
+-- that of a world that was not opened
+abbrev pub no_record : Record
+no_record = record { root = 0; offset = 0; ones = 0; runs = 0; first = 0; last = 0; floor = 0; ceiling = 0 }
+
+-- w' is w with the header v; the padding is as it was
+pub record WroteHeader (w w' : List ℕ) (v : Header) : Type 0 where
+  pub here : header_at w' ≡ v
+  pub padding : padding w' ≡ padding w
+  pub there : (m : ℕ) → 1 ≤ m → cell_at w' m ≡ cell_at w m
+  pub long : length w' ≡ length w
+
+-- the padding is zeros
+pub record MadeHeader (w w' : List ℕ) (v : Header) : Type 0 where
+  pub here : header_at w' ≡ v
+  pub padded : IsPadded w'
+  pub there : (m : ℕ) → 1 ≤ m → cell_at w' m ≡ cell_at w m
+  pub long : length w' ≡ length w
+
+-- w' is w with v as the record of world k
+pub record WroteRecord (w w' : List ℕ) (k : ℕ) (v : Record) : Type 0 where
+  pub here : record_at w' k ≡ v
+  pub there : (m : ℕ) → (m ≢ k + 1) → cell_at w' m ≡ cell_at w m
+  pub long : length w' ≡ length w
 
 -- a world as its record and the header tell it; its nodes have its number as their tag
-abbrev pub world_by : ℕ → ℕ → Node → World
+abbrev pub world_by : ℕ → ℕ → Record → World
 world_by k free v = record {
   tag = k;
-  root = v.start;
+  root = v.root;
   free = free;
-  offset = v.«end»;
-  ones = v.left;
-  runs = v.right;
-  first = v.height;
-  last = v.runs;
+  offset = v.offset;
+  ones = v.ones;
+  runs = v.runs;
+  first = v.first;
+  last = v.last;
 }
 
 abbrev pub world_at : List ℕ → ℕ → World
 world_at w k = world_by k (free_head w) (record_at w k)
 
 abbrev pub floor_at : List ℕ → ℕ → ℕ
-floor_at w k = (record_at w k).ones
+floor_at w k = (record_at w k).floor
 
 abbrev pub ceiling_at : List ℕ → ℕ → ℕ
-ceiling_at w k = (record_at w k).tag
+ceiling_at w k = (record_at w k).ceiling
 
 -- node n, from 1 on, has the words 8(16 + n) on: so the nodes are what lies from word 128 on. No node is 0; record 15 lies there
 unfoldable pub nodes : List ℕ → List ℕ
 nodes w = drop 128 w
 
--- the header's cell, and the record of a world with its limits
-abbrev pub header_cell : ℕ → ℕ → Node
-header_cell n free = record { start = n; «end» = free; left = 0; right = 0; height = 0; runs = 0; ones = 0; tag = 0 }
-
-abbrev pub record_cell : World → ℕ → ℕ → Node
-record_cell h floor ceiling = record {
-  start = h.root;
-  «end» = h.offset;
-  left = h.ones;
-  right = h.runs;
-  height = h.first;
-  runs = h.last;
-  ones = floor;
-  tag = ceiling;
+-- the record of a world with these limits
+abbrev pub record_of : World → ℕ → ℕ → Record
+record_of h floor ceiling = record {
+  root = h.root;
+  offset = h.offset;
+  ones = h.ones;
+  runs = h.runs;
+  first = h.first;
+  last = h.last;
+  floor = floor;
+  ceiling = ceiling;
 }
 
 -- w' is w with the world h in the record of its number, and its free head in the header
 pub record Headed (w w' : List ℕ) (h : World) : Type 0 where
-  pub header : cell_at w' 0 ≡ header_cell (opened_at w) h.free
-  pub here : record_at w' h.tag ≡ record_cell h (floor_at w h.tag) (ceiling_at w h.tag)
+  pub header : header_at w' ≡ record { opened = opened_at w; free = h.free }
+  pub padding : padding w' ≡ padding w
+  pub here : record_at w' h.tag ≡ record_of h (floor_at w h.tag) (ceiling_at w h.tag)
   pub there : (m : ℕ) → 1 ≤ m → (m ≢ h.tag + 1) → cell_at w' m ≡ cell_at w m
   pub long : length w' ≡ length w
 

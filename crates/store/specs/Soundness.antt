@@ -7,18 +7,19 @@ use Rattle.model.specs.RunList.{Canon}
 use Rattle.model.specs.Pools.{claims}
 use Rattle.run_index.specs.Cells.{cell_at}
 use Rattle.run_index.specs.Tree.{Tree, height, runs, ones, count, Distinct, inorder, At, Balanced}
-use Rattle.run_index.specs.Strung.{times, Strung, Free, free_cell}
+use Rattle.run_index.specs.Strung.{times, Strung, Free}
 use Rattle.store.specs.declared.World.{World}
 use Rattle.store.specs.declared.Links.{Links}
 use Rattle.store.specs.Layout.{
   opened_at,
   free_head,
   record_at,
+  no_record,
+  IsPadded,
   world_at,
   floor_at,
   ceiling_at,
   nodes,
-  header_cell,
   links_of,
   capacity,
   node_count,
@@ -159,11 +160,11 @@ pub record KeepsLimits (w : List ℕ) (k : ℕ) : Type 0 where
 pub record Sound (w : List ℕ) : Type 0 where
   -- the length is right
   pub sized : 1 ≤ capacity w
-  -- 1 to 16 worlds were opened, and the header's other words are 0; so are the records of worlds that were not opened
+  -- 1 to 16 worlds were opened, and the header's padding is zeros; so are the records of worlds that were not opened
   pub some : 1 ≤ opened_at w
   pub few : opened_at w ≤ most_worlds
-  pub header : cell_at w 0 ≡ header_cell (opened_at w) (free_head w)
-  pub unopened : (k : ℕ) → opened_at w ≤ k → k < most_worlds → record_at w k ≡ free_cell 0
+  pub padded : IsPadded w
+  pub unopened : (k : ℕ) → opened_at w ≤ k → k < most_worlds → record_at w k ≡ no_record
   -- each opened world has a tree with which its record agrees
   pub planted : (k : ℕ) → k < opened_at w → Planted (nodes w) (world_at w k)
   -- no node is in two trees; the free chain meets each node of no tree once, and ends in 0

@@ -4,7 +4,6 @@
 ghost use Rattle.std.specs.Prelude.{◌≡◌, ◌+◌, ◌*◌, ◌≤◌, not, length};
 ghost use Rattle.model.specs.Refusals.{bad_limits};
 ghost use Rattle.model.specs.Pools.{limits_of};
-ghost use Rattle.store.specs.Layout.{header_cell};
 ghost use Rattle.store.specs.Free.{
   Chained,
   limits_or_none,
@@ -23,11 +22,13 @@ ghost use Rattle.store.specs.Free.{
   GivesBack,
 };
 
+use crate::layout::{Header, NODES, Record};
 use crate::{Links, Store};
 use model::Limits;
 use run_index::Node;
 
 // Makes each of n nodes free, in order, and returns the head of the chain.
+#[tactic(auto, using(crate::proofs::Making::freeing))]
 fn free_all(nodes: &mut [u64], n: u64) -> u64
     requires { length nodes.old ≡ 8 * (n + 1) }
     ensures { Chained nodes.old nodes.new n result }
@@ -60,14 +61,14 @@ fn limits_at(limits: &[u64], n: u64, k: u64) -> Limits
 }
 
 // The record of an empty world with these limits.
-// No From: a Node is a record, a header or a node of a tree, and the name says which is meant.
-fn empty_record(l: Limits) -> Node
+// No From: limits do not tell that the world is empty, which the name does.
+fn empty_record(l: Limits) -> Record
     ensures { result ≡ empty_record l }
 {
-    Node {
-        ones: l.floor,
-        tag: l.ceiling,
-        ..Node::default()
+    Record {
+        floor: l.floor,
+        ceiling: l.ceiling,
+        ..Record::default()
     }
 }
 
@@ -79,7 +80,7 @@ fn make_records(words: &mut [u64], limits: &[u64], n: u64)
 {
     for k in 0..Store::MAX_WORLDS {
         let record = empty_record(limits_at(limits, n, k));
-        run_index::write_node(words, k + 1, record);
+        crate::layout::write_record(words, k, record);
     }
 }
 
@@ -102,25 +103,14 @@ pub fn limits_fit(limits: &[u64], c: u64) -> bool
     true
 }
 
-// The header of a pool of n worlds.
-fn header(n: u64, free: u64) -> Node
-    ensures { result ≡ header_cell n free }
-{
-    Node {
-        start: n,
-        end: free,
-        ..Node::default()
-    }
-}
-
 // Makes the words a pool of n empty worlds with these limits, whatever they were.
 pub fn make(words: &mut [u64], limits: &[u64], n: u64)
     requires { Makeable words.old limits.now n }
     ensures { Emptied words.old words.new (limits_of limits.now) }
 {
-    let nodes = (words.len() / 8 - 17) as u64;
-    let free = free_all(&mut words[128..], nodes);
-    run_index::write_node(words, 0, header(n, free));
+    let nodes = crate::layout::node_count(words);
+    let free = free_all(&mut words[NODES..], nodes);
+    crate::layout::make_header(words, Header { opened: n, free });
     make_records(words, limits, n);
 }
 
@@ -163,6 +153,7 @@ pub fn resize_run(words: &mut [u64], x: Links, k: u64, l: u64, start: u64, end: 
 }
 
 // Makes every node of the tree free.
+#[tactic(auto, using(crate::proofs::Freeing::given_back))]
 pub fn give_back(words: &mut [u64], x: Links) -> Links
     requires { Keepable words.old x }
     ensures { GivesBack words.old words.new x result }

@@ -1,23 +1,26 @@
 // The store: a lent slice of words that is a pool of worlds, each of which holds a set of positions. Words 0 to 7 are the header, world k has its
 // record in the words 8(1 + k) on, and node n of the run index the words 8(16 + n) on; the nodes that no world has form the free chain. Only
-// this crate and `soundness` know where the words of the header and of the records lie: other code has a world by value, and the nodes.
+// `layout` knows where the words of the header and of the records lie: other code has a world by value, and the nodes.
 #![tactic(auto)]
 
 ghost use Rattle.std.specs.Prelude.{◌≡◌, ◌+◌, length};
 ghost use Rattle.model.specs.Pools.{claim};
-ghost use Rattle.run_index.specs.Cells.{cell_at, Room};
+ghost use Rattle.run_index.specs.Cells.{Room};
 ghost use Rattle.run_index.specs.Search.{Indexed, runs_from};
-ghost use Rattle.store.specs.Layout.{capacity_of, opened_at, free_head, world_at, plain_at, nodes, held, held_in, held_by, header_cell, Headed, links_of, allowance};
+ghost use Rattle.store.specs.Layout.{capacity_of, opened_at, world_at, plain_at, nodes, held, held_in, held_by, Headed, links_of, allowance};
 ghost use Rattle.store.specs.Soundness.{Planted, Sound, Stands};
 ghost use Rattle.store.specs.Settle.{Openable, Opened, Closable, Closes};
 
-use run_index::Node;
+use layout::{BEYOND, CELL, Header, NODES, Record};
 use run_index::search::Runs;
 
 pub mod bounds;
 pub mod free;
+pub mod layout;
 pub mod places;
 pub mod refresh;
+pub mod relink;
+pub mod soundness;
 
 // A store, as its length tells of it: the most logical runs that its worlds may hold together.
 // A capacity of 0 and no Option: the calls that know their words to be a pool read the capacity too, and would have to answer something for none.
@@ -38,9 +41,9 @@ impl Store {
     pub fn of_length(words: usize) -> Store
         ensures { result.capacity ≡ capacity_of words }
     {
-        let cells = words / 8;
-        let beyond = cells.saturating_sub(49) as u64;
-        let fits = words % 8 == 0 && beyond <= Store::MAX_CAPACITY;
+        let cells = words / CELL;
+        let beyond = cells.saturating_sub(BEYOND) as u64;
+        let fits = words % CELL == 0 && beyond <= Store::MAX_CAPACITY;
         Store {
             capacity: if fits { beyond } else { 0 },
         }
@@ -128,48 +131,47 @@ pub fn opened(words: &[u64]) -> u64
     requires { Room words.now 0 }
     ensures { result ≡ opened_at words.now }
 {
-    run_index::read_node(words, 0).start
+    layout::read_header(words).opened
 }
 
-// The world that record k tells. The record lies where a node k + 1 of the whole slice would.
+// The world that record k tells.
 pub fn read_world(words: &[u64], k: u64) -> World
     requires { Room words.now (k + 1) }
     ensures { result ≡ world_at words.now k }
 {
-    let a = run_index::read_node(words, 0);
-    let v = run_index::read_node(words, k + 1);
+    let a = layout::read_header(words);
+    let v = layout::read_record(words, k);
     World {
         tag: k,
-        root: v.start,
-        free: a.end,
-        offset: v.end,
-        ones: v.left,
-        runs: v.right,
-        first: v.height,
-        last: v.runs,
+        root: v.root,
+        free: a.free,
+        offset: v.offset,
+        ones: v.ones,
+        runs: v.runs,
+        first: v.first,
+        last: v.last,
     }
 }
 
-// Sets the record of a world, but for its floor and its ceiling, and the head of the free chain, and no other word. The words that stay
-// are written back as they were read, each cell read right before it is written: so no store of them is left in the compiled code.
+// Sets the record of a world, but for its floor and its ceiling, and the head of the free chain, and no other word. The words that stay are
+// written back as they were read, right before they are written: so no store of them is left in the compiled code.
 fn write_world(words: &mut [u64], h: World)
-    requires room { Room words.old (h.tag + 1) }
-    requires words_value { cell_at words.old 0 ≡ header_cell (opened_at words.old) (free_head words.old) }
+    requires { Room words.old (h.tag + 1) }
     ensures { Headed words.old words.new h }
 {
-    let a = run_index::read_node(words, 0);
-    run_index::write_node(words, 0, Node { end: h.free, ..a });
-    let v = run_index::read_node(words, h.tag + 1);
-    run_index::write_node(
+    let a = layout::read_header(words);
+    layout::write_header(words, Header { free: h.free, ..a });
+    let v = layout::read_record(words, h.tag);
+    layout::write_record(
         words,
-        h.tag + 1,
-        Node {
-            start: h.root,
-            end: h.offset,
-            left: h.ones,
-            right: h.runs,
-            height: h.first,
-            runs: h.last,
+        h.tag,
+        Record {
+            root: h.root,
+            offset: h.offset,
+            ones: h.ones,
+            runs: h.runs,
+            first: h.first,
+            last: h.last,
             ..v
         },
     );
@@ -183,10 +185,10 @@ fn claim(words: &[u64], k: u64) -> u64
     ensures { result ≡ claim (plain_at words.now k) }
 {
     let h = read_world(words, k);
-    let v = run_index::read_node(words, k + 1);
-    let set = Set::of(&words[128..], h.root, h.offset);
+    let v = layout::read_record(words, k);
+    let set = Set::of(&words[NODES..], h.root, h.offset);
     let n = bounds::logical_runs(&set, h.runs);
-    n.max(v.ones)
+    n.max(v.floor)
 }
 
 // The most runs that world k may have: no more than its ceiling, and than what the others leave of the capacity. Those before it and those after
@@ -205,7 +207,7 @@ pub fn allowance(words: &[u64], k: u64) -> u64
     for j in k + 1..n {
         left -= claim(words, j);
     }
-    let ceiling = run_index::read_node(words, k + 1).tag;
+    let ceiling = layout::read_record(words, k).ceiling;
     ceiling.min(left)
 }
 
@@ -223,7 +225,7 @@ pub fn read_set<'a>(words: &'a [u64], k: u64) -> Set<'a>
     ensures { held result ≡ held_by words.now k }
 {
     let h = open(words, k);
-    set_of(&words[128..], h)
+    set_of(&words[NODES..], h)
 }
 
 // Makes a world that was opened, and changed, the pool's again.

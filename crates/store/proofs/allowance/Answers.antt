@@ -1,7 +1,6 @@
 -- `allowance` meets its contract. The invariant of both loops: what is left and what the worlds passed so far claim, but for world k, are the
 -- capacity. Assumes nothing.
-use Rattle.std.proofs.Common.{◌≡◌, ℕ, ◌+◌, ◌≤◌, min, sym, ap, ◌∙◌, subst, arith}
-use Rattle.run_index.specs.declared.Node.{Node}
+use Rattle.store.proofs.Base.{◌≡◌, ℕ, ◌+◌, ◌≤◌, min, sym, ap, ◌∙◌, subst, arith, Record}
 use Rattle.store.proofs.Worlds.{LeftOver, leaves_none, leaves-more, leaves-same, leaves_all, claim-left}
 use Rattle.store.proofs.allowance.Goals as goal
 use Rattle.store.proofs.allowance.Goals.{After-claim-left, After-claim-left-in-loop-j}
@@ -52,4 +51,4 @@ pub returns : goal.returns
 returns c =
     let o = c.loop-j in
     let all = leaves_all c.args.words.now c.args.k o.left o.j c.requires.named o.invariant (omega (arith, o.auto.j-end, c.loop-j-test.false, c.opened-n.ensures, c.requires.named)) in
-    c.min.ensures ∙ ap (λ (v : Node). min v.tag o.left) c.read_node-ceiling.ensures ∙ sym all
+    c.min.ensures ∙ ap (λ (v : Record). min v.ceiling o.left) c.read_record-ceiling.ensures ∙ sym all

@@ -1,9 +1,5 @@
 -- `claim` meets its contract: the count of logical runs is asked of the nodes, and tells those of the positions held. Assumes nothing.
-use Rattle.std.proofs.Common.{length, sym, ap, ◌∙◌}
-use Rattle.model.specs.Positions.{stretches}
-use Rattle.store.specs.declared.Set.{Set}
-use Rattle.store.specs.Layout.{world_at, nodes, held}
-use Rattle.store.specs.Soundness.{Planted}
+use Rattle.store.proofs.Base.{length, sym, ap, ◌∙◌, stretches, Set, world_at, nodes, held, Planted}
 use Rattle.store.proofs.Worlds.{planted-indexed, planted-counted, claim-told}
 use Rattle.store.proofs.claim.Goals as goal
 use Rattle.store.proofs.claim.Goals.{Start}
@@ -24,5 +20,5 @@ logical_runs-n-requires c =
 pub returns : goal.returns
 returns c =
     c.max.ensures
-    ∙ claim-told c.args.words.now c.args.k (planted (goal.at.returns c).Start) c.read_world-h.result c.read_node-v.result c.logical_runs-n.result
-    c.read_world-h.ensures c.read_node-v.ensures (c.logical_runs-n.ensures ∙ ap (λ (s : Set). stretches (held s)) c.of-set.ensures)
+    ∙ claim-told c.args.words.now c.args.k (planted (goal.at.returns c).Start) c.read_world-h.result c.read_record-v.result c.logical_runs-n.result
+    c.read_world-h.ensures c.read_record-v.ensures (c.logical_runs-n.ensures ∙ ap (λ (s : Set). stretches (held s)) c.of-set.ensures)

@@ -1,17 +1,12 @@
 -- `open` meets its contract: the world that a record of a sound pool tells; words, and so offsets, are below 2^64. Assumes nothing.
-use Rattle.std.proofs.Common.{ℕ, ◌+◌, ◌*◌, ◌<◌, sym, subst, arith}
-use Rattle.model.specs.Numbers.{size}
-use Rattle.store.specs.declared.World.{World}
-use Rattle.store.specs.Layout.{world_at}
-use Rattle.store.specs.Settle.{Opened}
-use Rattle.run_index.specs.Cells.{cell_at}
+use Rattle.store.proofs.Base.{ℕ, ◌+◌, ◌*◌, ◌<◌, sym, subst, arith, size, World, record_at, world_at, Opened}
 use Rattle.store.proofs.Worlds.{opened-told}
 use Rattle.store.proofs.open.Goals as goal
 use Rattle.store.proofs.open.Goals.{After-read_world}
 
 -- offsets are words
 offsets : (c : After-read_world) (j : ℕ) → (world_at c.args.words.now j).offset < size
-unfolding cell_at
+unfolding record_at
 offsets c j = omega (arith, c.type_inv.words (8 * (j + 1) + 1))
 
 pub returns : goal.returns

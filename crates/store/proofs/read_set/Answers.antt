@@ -1,7 +1,6 @@
 -- `read_set` meets its contract: the world that was opened stands in the nodes, which are lent. Assumes nothing.
-use Rattle.std.proofs.Common.{ap, ◌∙◌}
-use Rattle.store.specs.Layout.{held_in}
-use Rattle.store.specs.Soundness.{Stands, share_of}
+use Rattle.store.proofs.Base.{ap, ◌∙◌, held_in, share_of}
+use Rattle.store.specs.Soundness.{Stands}
 use Rattle.store.proofs.Parts.{lent-nodes, of-nodes}
 use Rattle.store.proofs.read_set.Goals as goal
 

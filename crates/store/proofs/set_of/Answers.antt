@@ -1,7 +1,5 @@
 -- `set_of` meets its contract: a search sees the runs that the world's root leads to. Assumes nothing.
-use Rattle.std.proofs.Common.{length, sym, ap, ◌∙◌}
-use Rattle.store.specs.declared.Set.{Set}
-use Rattle.store.specs.Layout.{held}
+use Rattle.store.proofs.Base.{length, sym, ap, ◌∙◌, Set, held}
 use Rattle.store.proofs.Opening.{standing-counted}
 use Rattle.store.proofs.Reached.{kept-seen}
 use Rattle.store.proofs.set_of.Goals as goal

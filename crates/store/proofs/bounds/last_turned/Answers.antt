@@ -1,8 +1,6 @@
 -- `last_turned` meets its contract: the last run that starts at or before the place of logical M holds it, or ends before it; where there is
 -- none, the last run of all is what there is. Assumes nothing.
-use Rattle.std.proofs.Common.{sym, ap, ◌∙◌, arith, le-leb}
-use Rattle.model.specs.Numbers.{size}
-use Rattle.model.proofs.Search.{reaches, mem-last}
+use Rattle.store.proofs.Base.{sym, ap, ◌∙◌, arith, le-leb, size, reaches, mem-last}
 use Rattle.store.proofs.Nearby.{last-top, last-before, last-wrapped, last_none}
 use Rattle.store.proofs.bounds.last_turned.Goals as goal
 

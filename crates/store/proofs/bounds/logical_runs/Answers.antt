@@ -1,9 +1,7 @@
 -- `logical_runs` meets its contract: the physical runs, one more where logical 0 cuts one, one less where physical M and 0 join two.
 -- Assumes nothing.
-use Rattle.std.proofs.Common.{◌≡◌, ◌+◌, arith}
-use Rattle.model.specs.Positions.{stretches, mem}
+use Rattle.store.proofs.Base.{◌≡◌, ◌+◌, arith, stretches, mem, turned}
 use Rattle.run_index.proofs.Walking.{whole-canonical, whole-few}
-use Rattle.store.specs.Layout.{turned}
 use Rattle.store.proofs.LogicalRuns.{logical-zero, logical-runs, runs-from, from-small}
 use Rattle.store.proofs.bounds.logical_runs.Goals as goal
 use Rattle.store.proofs.bounds.logical_runs.Goals.{After-from-2}

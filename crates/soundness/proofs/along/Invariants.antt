@@ -1,7 +1,0 @@
--- `along` meets its contract. The loop's invariant: the links left lead where all of them do. Assumes nothing.
-use Rattle.std.proofs.Common.{◌≡◌, ◌-◌}
-use Rattle.soundness.specs.Decision.{along_of}
-use Rattle.soundness.proofs.along.Given as goal
-
-abbrev pub invariant-loop : goal.invariant-loop
-invariant-loop l = along_of (l.n - l.counter) l.words l.k ≡ along_of l.n l.words l.link

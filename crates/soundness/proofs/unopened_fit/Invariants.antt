@@ -1,8 +1,0 @@
--- `unopened_fit` meets its contract. The loop's invariant: the records that are left decide for all. Assumes nothing.
-use Rattle.std.proofs.Common.{◌≡◌, ◌-◌, ◌≤◌}
-use Rattle.model.specs.Numbers.{most_worlds}
-use Rattle.soundness.specs.Decision.{unopened_b}
-use Rattle.soundness.proofs.unopened_fit.Given as goal
-
-abbrev pub invariant-loop-k : goal.invariant-loop-k
-invariant-loop-k l = (l.k ≤ most_worlds) × (unopened_b l.words l.k (most_worlds - l.k) ≡ unopened_b l.words l.n (most_worlds - l.n))
