@@ -1,7 +1,8 @@
 -- EQUAL POSITIONS, EQUAL ANSWERS: a report depends on nothing of a pool but the positions of the worlds that it reads.
 -- Assumes nothing: this is a statement.
 use Rattle.std.specs.Prelude.{ℕ, ◌<◌, ◌≡◌, List}
-use Rattle.model.specs.Call.{Call, feed, Answer}
+use Rattle.model.specs.Call.{Call, Answer}
+use Rattle.model.specs.Model.{plan}
 use Rattle.store.specs.Layout.{opened_at, held_by}
 use Rattle.store.specs.Soundness.{Sound}
 use Rattle.interval_bit_set.specs.Met.{Site, fed_at, Met}
@@ -14,5 +15,5 @@ abbrev pub Equal-answers : Type 0
 Equal-answers =
     (w v : List ℕ) (i j : ℕ) (c d : Call Site) (a b : Answer) (w' v' : List ℕ)
     → Sound w → i < opened_at w → Sound v → j < opened_at v → held_by w i ≡ held_by v j
-    → kind c ≡ reporting → feed fed_at c ≡ feed fed_at d
+    → kind c ≡ reporting → plan fed_at c ≡ plan fed_at d
     → Met w i c a w' → Met v j d b v' → a ≡ b

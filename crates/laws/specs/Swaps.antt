@@ -4,8 +4,9 @@ use Rattle.std.specs.Prelude.{ℕ, ◌+◌, ◌≤◌, ◌<◌, ◌≡◌, Bool,
 use Rattle.model.specs.Ends.{Bound}
 use Rattle.model.specs.Range.{first_allowed, past_allowed, extent}
 use Rattle.model.specs.Call.{Call, number, Result, Answer, gave}
+use Rattle.model.specs.Model.{Effect, plan}
 use Rattle.store.specs.Layout.{worlds_of}
-use Rattle.interval_bit_set.specs.Met.{Site, Met}
+use Rattle.interval_bit_set.specs.Met.{Site, fed_at, Met}
 use Rattle.laws.specs.Pairs.{Did}
 
 -- ---- kinds of calls
@@ -13,36 +14,13 @@ use Rattle.laws.specs.Pairs.{Did}
 pub data Kind : Type 0 where
   reporting changing overwriting : Kind
 
+abbrev pub kind_of : Effect → Kind
+kind_of Effect.stays = reporting
+kind_of (Effect.becomes Q) = changing
+kind_of (Effect.overwritten Q) = overwriting
+
 abbrev pub kind : Call Site → Kind
-kind (Call.set l u v) = changing
-kind (Call.flip l u) = changing
-kind (Call.get x) = reporting
-kind (Call.run_at x) = reporting
-kind (Call.find l u v) = reporting
-kind (Call.tally l u v) = reporting
-kind (Call.select l u v k) = reporting
-kind (Call.gap l u n) = reporting
-kind (Call.ranges l u v) = reporting
-kind (Call.draw_front l) = reporting
-kind (Call.draw_back l) = reporting
-kind (Call.shift d left) = changing
-kind (Call.shifted d left s) = overwriting
-kind (Call.combine op s t) = overwriting
-kind (Call.complement s) = overwriting
-kind (Call.equal s) = reporting
-kind (Call.load bs) = overwriting
-kind (Call.mend bs out report) = overwriting
-kind (Call.build rs) = overwriting
-kind (Call.write_set e out) = reporting
-kind (Call.read_map base n bs) = changing
-kind (Call.write_map base n out) = reporting
-kind (Call.fill base n) = reporting
-kind (Call.set_strict l u v) = changing
-kind (Call.flip_strict l u) = changing
-kind (Call.tally_strict l u v) = reporting
-kind (Call.set_rect q v) = changing
-kind (Call.count_rect q) = reporting
-kind (Call.survey r c k out) = reporting
+kind c = kind_of (plan fed_at c).effect
 
 -- ---- any two calls
 -- two reports of worlds of one pool, refused or not, answer alike in either order, and leave every world. What a report moves or writes, a listing or a

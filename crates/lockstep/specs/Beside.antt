@@ -22,7 +22,7 @@ pub data Beside (i : ℕ) : List ℕ → List ℕ → List Answer → List Answe
   rest : {w v : List ℕ} → Beside i w v [] [] w v
   call :
       {w w' w'' v v' v'' : List ℕ} {c d : Call Site} {a b : Answer} {rs qs : List Answer}
-      → feed fed_at c ≡ feed fed_at d
+      → plan fed_at c ≡ plan fed_at d
       → Met w i c a w'
       → Met v i d b v'
       → Beside i w' v' rs qs w'' v''

@@ -28,22 +28,22 @@ pub data Lent : Type 0 where
   slices : List ℕ → List ℕ → Lent
 
 -- a call, and what it is lent; or a frame: the words of its calls, and the slice for their answers
-pub data Move (S : Type 0) : Type 0 where
-  single : PoolCall S → Lent → Move S
-  frame : List ℕ → List ℕ → Move S
+pub data Move (C : Type 0) : Type 0 where
+  single : PoolCall C → Lent → Move C
+  frame : List ℕ → List ℕ → Move C
 
--- a move as the plain model is fed it
-abbrev pub feed_move : Move Site → Move Fed
-feed_move (single c l) = single (feed_pool fed_at c) l
-feed_move (frame calls out) = frame calls out
+-- a move as the plain model is given it: what its call does
+abbrev pub plan_move : Move (Call Site) → Move Plan
+plan_move (single c l) = single (told_as (plan fed_at) c) l
+plan_move (frame calls out) = frame calls out
 
 -- and a list of them
-abbrev pub fed : List (Move Site) → List (Move Fed)
-fed [] = []
-fed (m ∷ ms) = feed_move m ∷ fed ms
+abbrev pub plans : List (Move (Call Site)) → List (Move Plan)
+plans [] = []
+plans (m ∷ ms) = plan_move m ∷ plans ms
 
 -- what a move is lent
-abbrev pub lent_to : Move Site → Lent
+abbrev pub lent_to : Move (Call Site) → Lent
 lent_to (single c l) = l
 lent_to (frame calls out) = slice out
 
@@ -57,7 +57,7 @@ abbrev pub heard_as : Answer → Lent → Heard
 heard_as a l = record { answer = a; lent = l }
 
 -- the move m on the words w was heard as h and left the words w', as its contract permits
-pub data Moves : List ℕ → Move Site → Heard → List ℕ → Type 0 where
+pub data Moves : List ℕ → Move (Call Site) → Heard → List ℕ → Type 0 where
   made :
       {w w' : List ℕ} {ls : List Limits} {a : Answer}
       → Made w ls a w'
@@ -96,10 +96,10 @@ pub record New (C : ℕ) (ls : List Limits) (w : List ℕ) : Type 0 where
   pub made : Made before ls (gave done) w
 
 -- the words w, after the moves ms, which were heard as hs, and were the words ws after each of them
-pub data Plays : List ℕ → List (Move Site) → List Heard → List (List ℕ) → Type 0 where
+pub data Plays : List ℕ → List (Move (Call Site)) → List Heard → List (List ℕ) → Type 0 where
   rest : {w : List ℕ} → Plays w [] [] []
   move :
-      {w w' : List ℕ} {m : Move Site} {h : Heard} {ms : List (Move Site)} {hs : List Heard} {ws : List (List ℕ)}
+      {w w' : List ℕ} {m : Move (Call Site)} {h : Heard} {ms : List (Move (Call Site))} {hs : List Heard} {ws : List (List ℕ)}
       → Moves w m h w'
       → Plays w' ms hs ws
       → Plays w (m ∷ ms) (h ∷ hs) (w' ∷ ws)
@@ -141,29 +141,29 @@ single_outcome o l = record { heard = heard_as o.answer (lent_after o.answer l);
 abbrev pub frame_outcome : FrameOutcome → MoveOutcome
 frame_outcome o = record { heard = heard_as o.answer (slice o.slice); worlds = o.worlds }
 
-abbrev pub move_outcome : ℕ → List PlainWorld → Move Fed → MoveOutcome
+abbrev pub move_outcome : ℕ → List PlainWorld → Move Plan → MoveOutcome
 move_outcome C ws (single c l) = single_outcome (step C ws c) l
 move_outcome C ws (frame calls out) = frame_outcome (frame_by C ws calls out)
 
 -- the worlds after the last move
-abbrev pub worlds_after : ℕ → List PlainWorld → List (Move Fed) → List PlainWorld
+abbrev pub worlds_after : ℕ → List PlainWorld → List (Move Plan) → List PlainWorld
 worlds_after C ws [] = ws
 worlds_after C ws (m ∷ ms) = worlds_after C (move_outcome C ws m).worlds ms
 
 -- ---- going along with the model
 -- the move m from the words w to w', heard as h, is as the model says: the answer, what was lent, how many worlds there
 -- are, and the positions, floor and ceiling of each; and refused, it left every word, the listing and the slices
-pub record IsAsTold (o : MoveOutcome) (w : List ℕ) (m : Move Site) (h : Heard) (w' : List ℕ) : Type 0 where
+pub record IsAsTold (o : MoveOutcome) (w : List ℕ) (m : Move (Call Site)) (h : Heard) (w' : List ℕ) : Type 0 where
   pub heard : h ≡ o.heard
   pub worlds : worlds_of w' ≡ o.worlds
   pub unchanged : (n : ℕ) → h.answer ≡ refused n → (w' ≡ w) × (h.lent ≡ lent_to m)
 
 -- each move is, from the worlds vs on
-pub data Follows (C : ℕ) : List PlainWorld → List ℕ → List (Move Site) → List Heard → List (List ℕ) → Type 0 where
+pub data Follows (C : ℕ) : List PlainWorld → List ℕ → List (Move (Call Site)) → List Heard → List (List ℕ) → Type 0 where
   over : {vs : List PlainWorld} {w : List ℕ} → Follows C vs w [] [] []
   next :
-      {vs : List PlainWorld} {w w' : List ℕ} {m : Move Site} {h : Heard}
-      {ms : List (Move Site)} {hs : List Heard} {ws : List (List ℕ)}
-      → IsAsTold (move_outcome C vs (feed_move m)) w m h w'
-      → Follows C (move_outcome C vs (feed_move m)).worlds w' ms hs ws
+      {vs : List PlainWorld} {w w' : List ℕ} {m : Move (Call Site)} {h : Heard}
+      {ms : List (Move (Call Site))} {hs : List Heard} {ws : List (List ℕ)}
+      → IsAsTold (move_outcome C vs (plan_move m)) w m h w'
+      → Follows C (move_outcome C vs (plan_move m)).worlds w' ms hs ws
       → Follows C vs w (m ∷ ms) (h ∷ hs) (w' ∷ ws)

@@ -77,8 +77,8 @@ Equal-pools =
 abbrev pub Floor-reached : Type 0
 Floor-reached =
     (w : List ℕ) (i : ℕ) (c : Call Site) (a : Answer) (w' : List ℕ) (r : Result)
-    → Sound w → i < opened_at w → Met w i c a w' → (serve (λ r. false) (fed_of w i) (feed fed_at c)).answer ≡ gave r
-    → stretches (serve (λ r. false) (fed_of w i) (feed fed_at c)).positions ≤ floor_at w i → a ≡ refused 8 → ⊥
+    → Sound w → i < opened_at w → Met w i c a w' → (serve (λ r. false) (fed_of w i) (plan fed_at c)).answer ≡ gave r
+    → stretches (serve (λ r. false) (fed_of w i) (plan fed_at c)).positions ≤ floor_at w i → a ≡ refused 8 → ⊥
 
 -- neighbours are known through the sum alone: if two sound pools of one capacity agree in world i, and in the sum over the
 -- other worlds of the larger of runs and floor, every call on world i answers alike in both, and leaves world i alike
@@ -86,7 +86,7 @@ abbrev pub Sum-alone : Type 0
 Sum-alone =
     (w v : List ℕ) (i : ℕ) (c d : Call Site) (a b : Answer) (w' v' : List ℕ)
     → Sound w → Sound v → capacity w ≡ capacity v → world_of (worlds_of w) i ≡ world_of (worlds_of v) i → other_claims (worlds_of w) i ≡ other_claims (worlds_of v) i
-    → feed fed_at c ≡ feed fed_at d → Met w i c a w' → Met v i d b v' → (a ≡ b) × (world_of (worlds_of w') i ≡ world_of (worlds_of v') i)
+    → plan fed_at c ≡ plan fed_at d → Met w i c a w' → Met v i d b v' → (a ≡ b) × (world_of (worlds_of w') i ≡ world_of (worlds_of v') i)
 
 -- and over lists: of equal calls on world i, with calls of the neighbours in between, every answer is the same in both
 -- pools, and world i is alike in the end
