@@ -1,85 +1,41 @@
--- Serving a record whose world was not opened: 12 stands in the answer, whatever the call. Assumes nothing.
-use Rattle.std.specs.Prelude.{None, Err}
-use Rattle.model.specs.Answers.{OrRefusal}
-use Rattle.std.specs.Prelude.{◌≡◌, ℕ, ◌-◌, ◌≤◌, List, []}
-use mathlib.Core.Path.{refl, subst}
+-- A record of a withdrawn number is refused with 12: no pool has as many worlds as the one that it asks at. Assumes nothing.
+use Rattle.std.specs.Prelude.{◌≡◌, ℕ, ◌-◌, true, false, Bool, List, [], ◌||◌, eqb}
+use mathlib.Core.Path.{refl, sym, subst}
 use native.Mathlib.Omega.{arith}
-use Rattle.model.specs.declared.Refusal.TheVariants.{WorldUnopened}
 use Rattle.model.specs.Numbers.{size}
-use Rattle.model.specs.Positions.{Positions}
-use Rattle.model.specs.Refusals.{looks, Condition, first_given}
-use Rattle.model.specs.Call.{Call, Result, refused}
-use Rattle.store.specs.Layout.{opened_at}
-use Rattle.store.specs.Soundness.{Sound}
-use Rattle.interval_bit_set.specs.Met.{Site, Met}
-use Rattle.interval_bit_set.proofs.Meeting.{
-  Reports,
-  get-says,
-  run-at-says,
-  find-says,
-  select-says,
-  ranges-says,
-  draw-front-says,
-  draw-back-says,
-  fill-says,
-  gap-says,
-  tally-says,
-  tally-strict-says,
-  count-rect-says,
-}
-use Rattle.interval_bit_set.proofs.Changing.{Changes, set_says, flip-says, shift_says, set-strict-says, flip-strict-says, set-rect-says}
-use Rattle.interval_bit_set.proofs.Overwriting.{build-says}
-use Rattle.interval_bit_set.proofs.Looking.{world-unopened, turned-away, sent-away}
-use Rattle.frame.specs.declared.entry.Kind.{Kind}
-use Rattle.frame.specs.declared.entry.Entry.{Entry}
+use Rattle.model.specs.Call.{refused}
+use Rattle.model.specs.Model.{Plan, plan}
 use Rattle.flat.specs.declared.Reply.{Reply}
 use Rattle.flat.specs.Flat.{reply_of}
-use Rattle.frame.specs.Records.{kind_of, call_by, world_by}
-use Rattle.frame.specs.Serving.{ServesAt, Serves}
+use Rattle.interval_bit_set.specs.Met.{fed_at}
+use Rattle.interval_bit_set.specs.Look.{Checked}
+use Rattle.interval_bit_set.proofs.Looking.{checked-sound, shut-alone}
+use Rattle.frame.specs.declared.entry.Kind.{Kind}
+use Rattle.frame.specs.declared.entry.Entry.{Entry}
+use Rattle.frame.specs.Records.{call_by, kind_of, world_by}
+use Rattle.frame.specs.Serving.{Serves}
 
--- the world is the one that the record asks at
-pub serves-there : {w w' : List ℕ} {i : ℕ} (e : Entry) {r : Reply} → i ≡ world_by e → ServesAt w i e r w' → Serves w e r w'
-serves-there {w} {w'} e {r} p s = subst (λ j. ServesAt w j e r w') p s
+-- no record names a further pool
+alone : (k : Kind) (e : Entry) → [] ≡ (plan fed_at (call_by k e)).further
+alone Kind.Empty e = refl
+alone Kind.Set e = refl
+alone Kind.Flip e = refl
+alone Kind.Shift e = refl
+alone Kind.RunAt e = refl
+alone Kind.Find e = refl
+alone Kind.Select e = refl
+alone Kind.Ranges e = refl
+alone Kind.DrawFront e = refl
+alone Kind.DrawBack e = refl
+alone Kind.Fill e = refl
+alone Kind.Gap e = refl
+alone Kind.Tally e = refl
+alone Kind.SetStrict e = refl
+alone Kind.FlipStrict e = refl
+alone Kind.TallyStrict e = refl
+alone Kind.SetRect e = refl
+alone Kind.CountRect e = refl
+alone Kind.Get e = refl
 
-module _ {w : List ℕ} {i : ℕ} (S : Sound w) (h : opened_at w ≤ i) (e : Entry) where
-  -- what looking at it tells
-  abbrev look : OrRefusal ℕ
-  look = Err WorldUnopened
-
-  -- a call that reports
-  away : {c : Call Site} {cs : List Condition} {A : Positions → Result} → Reports w i c cs A → first_given looks cs ≡ None → Met w i c (refused 12) w
-  away says quiet = turned-away says look (world-unopened w i S h) refl quiet
-
-  -- one that changes
-  sent : {c : Call Site} {cs : List Condition} {Q : Positions → Positions} {A : Positions → Result} → Changes w i c cs Q A → first_given looks cs ≡ None → Met w i c (refused 12) w
-  sent says quiet = sent-away says look (world-unopened w i S h) refl quiet
-
-  twelve : (k : Kind) → Met w i (call_by k e) (refused 12) w
-  twelve Kind.Empty = sent (build-says w i []) refl
-  twelve Kind.Set = sent (set_says w i _ _ _) refl
-  twelve Kind.Flip = sent (flip-says w i _ _) refl
-  twelve Kind.Shift = sent (shift_says w i _ _) refl
-  twelve Kind.RunAt = away (run-at-says w i _) refl
-  twelve Kind.Find = away (find-says w i _ _ _) refl
-  twelve Kind.Select = away (select-says w i _ _ _ _) refl
-  twelve Kind.Ranges = away (ranges-says w i _ _ _) refl
-  twelve Kind.DrawFront = away (draw-front-says w i _) refl
-  twelve Kind.DrawBack = away (draw-back-says w i _) refl
-  twelve Kind.Fill = away (fill-says w i _ _) refl
-  twelve Kind.Gap = away (gap-says w i _ _ _) refl
-  twelve Kind.Tally = away (tally-says w i _ _ _) refl
-  twelve Kind.SetStrict = sent (set-strict-says w i _ _ _) refl
-  twelve Kind.FlipStrict = sent (flip-strict-says w i _ _) refl
-  twelve Kind.TallyStrict = away (tally-strict-says w i _ _ _) refl
-  twelve Kind.SetRect = sent (set-rect-says w i _ _) refl
-  twelve Kind.CountRect = away (count-rect-says w i _) refl
-  twelve Kind.Get = away (get-says w i _) refl
-
-  -- as a record is served
-  pub unopened-served : {r : Reply} → i ≡ world_by e → r ≡ reply_of (refused 12) → Serves w e r w
-  unopened-served p f = serves-there e p (refused 12, twelve (kind_of e.call), f)
-
--- so a record of 7 or of 9 is refused with 12, whatever world it names: no pool has as many as the one that it asks at
-pub withdrawn-served : {w : List ℕ} (e : Entry) {r : Reply} → Sound w → world_by e ≡ size - 1 → r ≡ reply_of (refused 12) → Serves w e r w
-withdrawn-served {w} e S far f =
-    unopened-served S (omega (arith, S.few, far)) e refl f
+pub withdrawn-served : {w : List ℕ} (e : Entry) {r : Reply} → Checked w → world_by e ≡ size - 1 → r ≡ reply_of (refused 12) → Serves w e r w
+withdrawn-served e k far f = (refused 12, shut-alone (alone (kind_of e.call) e) k (omega (arith, (checked-sound k).few, far)), f)

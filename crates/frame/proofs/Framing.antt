@@ -32,7 +32,7 @@ module _ (w cs out : List ℕ) where
   recorded = records_of (answers (capacity w) (worlds_of w) (calls_of cs))
 
   -- what the model says, by the refusal that is due
-  frame-by : (o : Option ℕ) → refusal (pool_reads w ++ output_short when no_room out recorded ∷ []) ≡ o
+  frame-by : (o : Option ℕ) → or_else (faults (w ∷ [])) (refusal (output_short when no_room out recorded ∷ [])) ≡ o
       → frame_outcome w cs out ≡ settle_frame o (worlds_of w) (after (capacity w) (worlds_of w) (calls_of cs)) recorded out
   unfolding frame_outcome frame_of
   frame-by o e = ap (λ p. settle_frame p (worlds_of w) (after (capacity w) (worlds_of w) (calls_of cs)) recorded out) e
@@ -45,10 +45,9 @@ module _ (w cs out : List ℕ) where
     wrote = s ∙ sym (ap (λ p. p.slice) e);
   }
 
-  -- what looking refuses is given
-  pub turned-away : {r : Refusal} (l : OrRefusal ℕ) → LookedPool w l → l ≡ Err r → Framed w cs out (refused (refusal_number r)) w out
-  turned-away l k e =
-      framed-by _ (frame-by _ (looked-first (pool_reads w ++ output_short when no_room out recorded ∷ []) (pool-refused w l k e))) refl refl
+  -- a pool that fails the check is refused
+  pub turned-away : {n : ℕ} → faults (w ∷ []) ≡ Some n → Framed w cs out (refused n) w out
+  turned-away {n} e = framed-by _ (frame-by (Some n) (ap (λ o. or_else o (refusal (output_short when no_room out recorded ∷ []))) e)) refl refl
 
   -- how many words are due
   due : length recorded ≡ 8 * (length cs / 8)
@@ -57,13 +56,10 @@ module _ (w cs out : List ℕ) where
       records-length (answers (capacity w) (worlds_of w) (calls_of cs))
       ∙ ap (λ k. 8 * k) (answers-length (capacity w) (worlds_of w) (calls_of cs) ∙ calls-length cs 0 (length cs / 8))
 
-  module _ (S : Sound w) where
+  module _ (k : Checked w) where
     -- of a sound pool the room decides
-    by-room : (t : Bool) → no_room out recorded ≡ t → refusal (pool_reads w ++ output_short when no_room out recorded ∷ []) ≡ refusal (output_short when t ∷ [])
-    by-room t e =
-        ap (λ z. refusal (store_length when z ∷ store_unsound when not (sound_b w) ∷ output_short when no_room out recorded ∷ [])) (ne_eqb (capacity w) 0 (λ z. omega (arith, S.sized)))
-        ∙ ap (λ b. refusal (store_unsound when not b ∷ output_short when no_room out recorded ∷ [])) (sound_b-no w S)
-        ∙ ap (λ b. refusal (output_short when b ∷ [])) e
+    by-room : (t : Bool) → no_room out recorded ≡ t → or_else (faults (w ∷ [])) (refusal (output_short when no_room out recorded ∷ [])) ≡ refusal (output_short when t ∷ [])
+    by-room t e = rw (short-no w k.sized, k.passed, e)
 
     -- the answers do not fit
     pub no_room_lem : length out / 8 < length cs / 8 → Framed w cs out (refused 2) w out
@@ -77,6 +73,5 @@ module _ (w cs out : List ℕ) where
     framed h p t =
         framed-by _ (frame-by None (by-room false (le-ltb (length out) (length recorded) (omega (arith, due))))) (pooled-tidied p.pooled t) p.wrote
 
-  -- what looking told, where it found no refusal
-  pub playable : Sound w → length cs / 8 ≤ length out / 8 → Playable w cs out (length cs / 8)
-  playable S h = record { sound = S; given = omega arith; room = omega arith }
+  pub playable : length cs / 8 ≤ length out / 8 → Playable cs out (length cs / 8)
+  playable h = record { given = omega arith; room = omega arith }

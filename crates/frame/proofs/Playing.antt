@@ -21,7 +21,7 @@ use Rattle.flat.specs.Flat.{reply_of}
 use Rattle.frame.specs.Records.{entry_at, call_of, world_by, pool_call_of, calls_from}
 use Rattle.flat.specs.Records.{words_of, records_of}
 use Rattle.frame.specs.Serving.{Serves, Plays}
-use Rattle.frame.proofs.FedCalls.{fed-same, records-length}
+use Rattle.frame.proofs.FedCalls.{records-length}
 
 -- after i of n records, the words are v and the slice is o
 pub record Playing (w cs out : List ℕ) (n i : ℕ) (v o : List ℕ) : Type 0 where
@@ -44,15 +44,15 @@ left-long w w' i P (gave r) l = l.long
 module _ {C : ℕ} {ws : List PlainWorld} {w w' : List ℕ} {a : Answer} (e : Entry) (H : Holds C ws w) (m : Met w (world_by e) (call_of e) a w') where
   -- a record is answered as the model answers its call
   answer-of : a ≡ (step C ws (pool_call_of e)).answer
-  answer-of = answer-is H m ∙ ap (λ c. (step C ws (at (world_by e) c)).answer) (fed-same e)
+  answer-of = answer-is H m
 
   -- and leaves what the model does
   holds_of : Holds C (step C ws (pool_call_of e)).worlds w'
-  holds_of = subst (λ c. Holds C (step C ws (at (world_by e) c)).worlds w') (fed-same e) (step-holds H m)
+  holds_of = step-holds H m
 
 -- ---- lists
 -- one record, and those after it
-calls-next : (cs : List ℕ) (i n : ℕ) → i < n → calls_from {S = Fed} cs i (n - i) ≡ pool_call_of (entry_at cs i) ∷ calls_from cs (i + 1) (n - (i + 1))
+calls-next : (cs : List ℕ) (i n : ℕ) → i < n → calls_from cs i (n - i) ≡ pool_call_of (entry_at cs i) ∷ calls_from cs (i + 1) (n - (i + 1))
 unfolding calls_from
 calls-next cs i n h =
     let e : n - i ≡ suc (n - (i + 1)) = omega arith in
@@ -60,11 +60,11 @@ calls-next cs i n h =
     ap (calls_from cs i) e ∙ ap (λ k. pool_call_of (entry_at cs i) ∷ calls_from cs k (n - (i + 1))) f
 
 -- none are left
-calls-none : (cs : List ℕ) (i n : ℕ) → n ≤ i → calls_from {S = Fed} cs i (n - i) ≡ []
+calls-none : (cs : List ℕ) (i n : ℕ) → n ≤ i → calls_from cs i (n - i) ≡ []
 unfolding calls_from
 calls-none cs i n h = let e : n - i ≡ 0 = omega arith in ap (calls_from cs i) e
 
-module _ (C : ℕ) (ws : List PlainWorld) (c : PoolCall Fed) (cs : List (PoolCall Fed)) where
+module _ (C : ℕ) (ws : List PlainWorld) (c : PoolCall Plan) (cs : List (PoolCall Plan)) where
   answers-cons : answers C ws (c ∷ cs) ≡ (step C ws c).answer ∷ answers C (step C ws c).worlds cs
   unfolding answers
   answers-cons = refl
@@ -121,8 +121,8 @@ module _ {w cs out v o : List ℕ} {n i : ℕ} (I : Playing w cs out n i v o) wh
     one_more {a} m p =
         let C = capacity w in
         let P = I.worlds in
-        let c : PoolCall Fed = pool_call_of (entry_at cs i) in
-        let ds : List (PoolCall Fed) = calls_from cs (i + 1) (n - (i + 1)) in
+        let c : PoolCall Plan = pool_call_of (entry_at cs i) in
+        let ds : List (PoolCall Plan) = calls_from cs (i + 1) (n - (i + 1)) in
         let Q = (step C P c).worlds in
         record {
           most = omega arith;

@@ -1,14 +1,15 @@
 -- THE CONTRACT of a frame: its answers, the worlds after it and the whole slice are the plain model's over the list of its calls. Assumes
 -- nothing: these are definitions.
 use Rattle.std.specs.Prelude.{Option, None, Some}
-use Rattle.std.specs.Prelude.{◌≡◌, ℕ, List, [], ◌∷◌, ◌++◌}
+use Rattle.std.specs.Prelude.{◌≡◌, ℕ, List, [], ◌∷◌}
 use Rattle.model.specs.Bytes.{into_front}
 use Rattle.model.specs.Refusals.{output_short, ◌when◌, refusal, no_room}
-use Rattle.model.specs.Call.{Fed, PoolCall, done, Answer, refused, gave}
+use Rattle.model.specs.Model.{Plan, or_else}
+use Rattle.model.specs.Call.{PoolCall, done, Answer, refused, gave}
 use Rattle.model.specs.Pools.{PlainWorld, answers, after}
 use Rattle.store.specs.Layout.{capacity, worlds_of}
 use Rattle.store.specs.Free.{Pooled}
-use Rattle.interval_bit_set.specs.Met.{pool_reads}
+use Rattle.interval_bit_set.specs.Met.{faults}
 use Rattle.frame.specs.Records.{calls_of}
 use Rattle.flat.specs.Records.{records_of}
 
@@ -24,9 +25,9 @@ settle_frame None ws vs due out = record { answer = gave done; worlds = vs; slic
 settle_frame (Some n) ws vs due out = record { answer = refused n; worlds = ws; slice = out }
 
 -- a list of calls on the pool w: 1, 7, and 2 where the slice is shorter than the words due. 12 stands in the answers
-unfoldable pub frame_of : List ℕ → List (PoolCall Fed) → List ℕ → FrameOutcome
+unfoldable pub frame_of : List ℕ → List (PoolCall Plan) → List ℕ → FrameOutcome
 frame_of w cs out =
-    settle_frame (refusal (pool_reads w ++ output_short when no_room out (records_of (answers (capacity w) (worlds_of w) cs)) ∷ []))
+    settle_frame (or_else (faults (w ∷ [])) (refusal (output_short when no_room out (records_of (answers (capacity w) (worlds_of w) cs)) ∷ [])))
     (worlds_of w) (after (capacity w) (worlds_of w) cs) (records_of (answers (capacity w) (worlds_of w) cs)) out
 
 -- what the model says of the list in the words cs

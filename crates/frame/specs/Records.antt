@@ -6,6 +6,8 @@ use Rattle.model.specs.declared.between.Range.{Range}
 use Rattle.model.specs.declared.Rect.{Rect}
 use Rattle.model.specs.Numbers.{size}
 use Rattle.model.specs.Call.{Call, PoolCall, at}
+use Rattle.model.specs.Model.{Plan, plan}
+use Rattle.interval_bit_set.specs.Met.{fed_at}
 use Rattle.frame.specs.declared.entry.Kind.{Kind}
 use Rattle.frame.specs.declared.entry.Entry.{Entry}
 use Rattle.model.specs.Range.{range_by}
@@ -103,15 +105,15 @@ numbered (Some i) = i
 abbrev pub world_by : Entry → ℕ
 world_by e = numbered (asked_at e)
 
--- on the world that the record names, or on that one
-abbrev pub pool_call_of : {S : Type 0} → Entry → PoolCall S
-pool_call_of e = at (world_by e) (call_of e)
+-- what it does, on the world that the record names, or on that one; it reads no further world
+abbrev pub pool_call_of : Entry → PoolCall Plan
+pool_call_of e = at (world_by e) (plan fed_at (call_of e))
 
 -- n records from record i on
-unfoldable pub calls_from : {S : Type 0} → List ℕ → ℕ → ℕ → List (PoolCall S)
+unfoldable pub calls_from : List ℕ → ℕ → ℕ → List (PoolCall Plan)
 calls_from ws i zero = []
 calls_from ws i (suc n) = pool_call_of (entry_at ws i) ∷ calls_from ws (suc i) n
 
 -- all whole records
-unfoldable pub calls_of : {S : Type 0} → List ℕ → List (PoolCall S)
+unfoldable pub calls_of : List ℕ → List (PoolCall Plan)
 calls_of ws = calls_from ws 0 (length ws / 8)

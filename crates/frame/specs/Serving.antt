@@ -1,10 +1,9 @@
--- What serving one record, and a list of them, on a sound pool asks and promises. Assumes nothing: these are definitions.
+-- What serving one record, and a list of them, asks and promises. Assumes nothing: these are definitions.
 use Rattle.std.specs.Prelude.{◌≡◌, ℕ, ◌*◌, ◌≤◌, List, length}
 use Rattle.model.specs.Bytes.{into_front}
 use Rattle.model.specs.Call.{Answer}
 use Rattle.model.specs.Pools.{answers, after}
 use Rattle.store.specs.Layout.{capacity, worlds_of}
-use Rattle.store.specs.Soundness.{Sound}
 use Rattle.store.specs.Free.{Pooled}
 use Rattle.interval_bit_set.specs.Met.{Met}
 use Rattle.frame.specs.declared.entry.Entry.{Entry}
@@ -13,17 +12,12 @@ use Rattle.flat.specs.Flat.{reply_of}
 use Rattle.frame.specs.Records.{call_of, world_by, calls_from}
 use Rattle.flat.specs.Records.{records_of}
 
--- the record e at world i of the words w was answered r, as its call promises, and left w'
-abbrev pub ServesAt : List ℕ → ℕ → Entry → Reply → List ℕ → Type 0
-ServesAt w i e r w' = (a : Answer) × Met w i (call_of e) a w' × (r ≡ reply_of a)
-
--- at the world that it asks at
+-- the record e was answered r, as its call promises on the world that it asks at, and left w'
 abbrev pub Serves : List ℕ → Entry → Reply → List ℕ → Type 0
-Serves w e r w' = ServesAt w (world_by e) e r w'
+Serves w e r w' = (a : Answer) × Met w (world_by e) (call_of e) a w' × (r ≡ reply_of a)
 
--- n records can be served, and their answers fit
-pub record Playable (w cs out : List ℕ) (n : ℕ) : Type 0 where
-  pub sound : Sound w
+-- n records are given, and their answers fit
+pub record Playable (cs out : List ℕ) (n : ℕ) : Type 0 where
   pub given : 8 * n ≤ length cs
   pub room : 8 * n ≤ length out
 
