@@ -1,25 +1,19 @@
 -- A frame's outcome, by what looking at the pool told and by the room of the slice. Assumes nothing.
-use Rattle.std.specs.Prelude.{Option, None, Some, Err}
-use Rattle.model.specs.Answers.{OrRefusal}
+use Rattle.std.specs.Prelude.{Option, None, Some}
 use Rattle.std.specs.Prelude.{◌≡◌, ℕ, ◌*◌, ◌/◌, ◌<◌, ◌≤◌, Bool, true, false, not, List, [], ◌∷◌, ◌++◌, length}
 use mathlib.Core.Path.{refl, sym, ap, ◌∙◌, subst}
 use native.Mathlib.Omega.{arith}
-use borrow.Author.Tests.{lt-ltb, le-ltb, ne_eqb}
-use Rattle.model.specs.declared.Refusal.{Refusal}
-use Rattle.model.specs.Numbers.{refusal_number}
-use Rattle.model.specs.Refusals.{store_length, store_unsound, output_short, ◌when◌, refusal, no_room}
+use borrow.Author.Tests.{lt-ltb, le-ltb}
+use Rattle.model.specs.Refusals.{output_short, ◌when◌, refusal, no_room}
 use Rattle.model.specs.Call.{done, refused, gave}
+use Rattle.model.specs.Model.{or_else}
 use Rattle.model.specs.Pools.{answers, after}
 use Rattle.store.specs.Layout.{capacity, worlds_of}
-use Rattle.store.specs.Soundness.{Sound}
-use Rattle.store.specs.Decision.{sound_b}
-use Rattle.store.proofs.Whole.{sound_b-no}
-use Rattle.interval_bit_set.specs.Look.{LookedPool}
-use Rattle.interval_bit_set.proofs.Looking.{pool-refused}
-use Rattle.interval_bit_set.specs.Tidy.{Tidied}
+use Rattle.interval_bit_set.specs.Look.{Checked}
+use Rattle.interval_bit_set.proofs.Looking.{short-no}
+use Rattle.store.specs.Relink.{Tidied}
 use Rattle.interval_bit_set.proofs.Tidying.{pooled-tidied}
-use Rattle.interval_bit_set.specs.Met.{pool_reads}
-use Rattle.interval_bit_set.proofs.Refusing.{looked-first}
+use Rattle.interval_bit_set.specs.Met.{faults}
 use Rattle.frame.specs.Records.{calls_of}
 use Rattle.flat.specs.Records.{records_of}
 use Rattle.frame.specs.Frame.{FrameOutcome, settle_frame, frame_of, frame_outcome, FrameLeaves, Framed}

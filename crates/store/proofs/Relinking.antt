@@ -22,16 +22,8 @@ use Rattle.store.proofs.Worlds.{held-allowed}
 use Rattle.store.proofs.Reached.{tree-held, kept_low}
 use Rattle.store.proofs.Sharing.{node_of}
 use Rattle.store.proofs.Turn.{pool-past}
-<<<<<<<< HEAD:crates/interval_bit_set/proofs/Ordering.antt
-use Rattle.store.proofs.Counting.{Among, sum, sum-times}
-use Rattle.interval_bit_set.proofs.Doors.{lent-limited, lent-held, lent-closing, lent-settled}
-use Rattle.interval_bit_set.proofs.Simulation.{same-positions}
-use Rattle.interval_bit_set.specs.Tidy.{lows, Threaded, Tidied, free_nodes, InOrder}
-use Rattle.interval_bit_set.proofs.Threading.{lows-before, lows-high, lows-once}
-========
 use Rattle.store.proofs.Counting.{Among, sum, sum-times}
 use Rattle.store.proofs.Threading.{lows-before, lows-high, lows-once}
->>>>>>>> 2a5dd0f01400b12f76b35e8cb576fd18cd59e271:crates/store/proofs/Relinking.antt
 
 -- the world with another head of the free chain
 abbrev pub headed_at : World → ℕ → World

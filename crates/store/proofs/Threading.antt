@@ -9,18 +9,8 @@ use mathlib.Core.List.{List, [], ◌∷◌}
 use native.Mathlib.Omega.{arith}
 use lib.ListN.{length}
 use borrow.Author.Tests.{eq-eqb, ne_eqb}
-<<<<<<<< HEAD:crates/interval_bit_set/proofs/Threading.antt
-use Rattle.run_index.specs.declared.Node.{Node}
-use Rattle.run_index.specs.Cells.{cell_at, Room, Wrote}
-use Rattle.run_index.specs.Strung.{times, free_cell, Free}
-use Rattle.run_index.proofs.Trees.{δ-same, δ-other, δ-zero}
-use Rattle.run_index.proofs.Strings.{strung-kept}
-use Rattle.store.specs.Soundness.{Chain}
-use Rattle.interval_bit_set.specs.Tidy.{lows, Threads, Threaded}
-========
 use Rattle.run_index.proofs.Trees.{δ-zero}
 use Rattle.store.specs.Relink.{Threads}
->>>>>>>> 2a5dd0f01400b12f76b35e8cb576fd18cd59e271:crates/store/proofs/Threading.antt
 
 -- ---- the nodes that have no height
 module _ (w : List ℕ) where
