@@ -1,6 +1,7 @@
 -- Making a pool: the nodes are freed from the last on down, each before the one freed last, so at each step the chain goes through the nodes
 -- after those left; then the header is written, and then the records one by one. No world of the pool made has a node, so each is empty and
 -- claims its floor, and the floors fit because the limits were not refused. Assumes nothing.
+use Rattle.std.proofs.Common.{⊎_elim}
 use Rattle.store.proofs.Base.{◌≡◌, ℕ, zero, suc, ◌+◌, ◌-◌, ◌*◌, ◌<◌, ◌≤◌, ◌⊎◌, List, [], ◌∷◌, length, sym, refl, ap, ◌∙◌, subst, ap₂, inl, inr, arith, Limits, most_worlds, empty}
 use Rattle.store.proofs.Base.{stretches, floors, PlainWorld, claims, limits_at, limits_from, limits_of, split, Node, cell_at, Room, Wrote, leaf, count, runs, tree_from, times, free_cell, Free, leaf-at, wrote_as, strung-kept, Links}
 use Rattle.store.proofs.Base.{Header, Record, opened_at, free_head, record_at, world_by, world_at, nodes, header_at, MadeHeader, WroteRecord, capacity_of, capacity, node_count, highest, held_from, held_by, tree_at, plain_at}
@@ -71,7 +72,7 @@ pub recorded_more : {w₀ w w' ls : List ℕ} {n k : ℕ} {l : Limits} {v : Reco
     → WroteRecord w w' k v → RecordedTo w₀ w' ls n (k + 1)
 recorded_more {w₀} {w} {w'} {ls} {n} {k} lt el ev r wr = record {
   here = λ j h. go j h (split j k);
-  there = λ m e. wr.there m (apart m e) ∙ r.there m (above m e);
+  there = λ m e. wr.there m (λ q. ⊎_elim {C = ⊥} (λ z. omega arith) (λ a. omega arith) e) ∙ r.there m (⊎_elim inl (λ a. inr (omega arith)) e);
   long = wr.long ∙ r.long;
   few = omega arith;
 }
@@ -80,14 +81,6 @@ recorded_more {w₀} {w} {w'} {ls} {n} {k} lt el ev r wr = record {
     go j h (inl a) = record-same w w' j (wr.there (j + 1) (λ e. omega arith)) ∙ r.here j a
     go j h (inr a) =
         subst (λ (i : ℕ). record_at w' i ≡ empty_record (limits_or_none ls n i)) (let e : k ≡ j = omega arith in e) (wr.here ∙ ev ∙ ap empty_record el)
-
-    apart : (m : ℕ) → (m ≡ 0) ⊎ (k + 1 < m) → m ≡ k + 1 → ⊥
-    apart m (inl z) e = omega arith
-    apart m (inr a) e = omega arith
-
-    above : (m : ℕ) → (m ≡ 0) ⊎ (k + 1 < m) → (m ≡ 0) ⊎ (k < m)
-    above m (inl z) = inl z
-    above m (inr a) = inr (omega arith)
 
 -- ---- empty worlds
 -- a sum of zeros

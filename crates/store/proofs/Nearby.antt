@@ -244,3 +244,5 @@ module _ (rs : List Run) (c : Canon size 0 rs) (o : ℕ) (small : o < size) wher
         go : (q : Option Run) → q ≡ last_up_to (size - 1) rs → MatchOption q (l ≡ record { 0 = 0 }) Q → l.0 ≡ last_of (held_runs (turned o (mem rs)))
         go None e n = ap (λ (k : Logical). k.0) n ∙ last_none e
         go (Some r) e h = f r h ∙ last-straight r z e
+
+pub ruleset seeking = (first-zero, first-after, first-wrapped, first-none, last-top, last-before, last-wrapped, last_none)

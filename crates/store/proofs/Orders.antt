@@ -1,6 +1,6 @@
 -- Runs in order, split at a run of the middle: those before it end two below its start, those after it start two above its end. So a
 -- tree in words whose runs rise has no node twice: the node's own start would have to lie in two places. Assumes nothing.
-use Rattle.store.proofs.Base.{◌≡◌, ℕ, ◌+◌, ◌-◌, ◌<◌, ◌≤◌, List, [], ◌∷◌, ◌++◌, sym, ap, ◌∙◌, subst, arith, ℕ_discrete, Run, Canon, Node, cell_at, Room, Tree, leaf, node, inorder, δ, count}
+use Rattle.store.proofs.Base.{◌≡◌, ℕ, ◌+◌, ◌-◌, ◌<◌, ◌≤◌, List, [], ◌∷◌, ◌++◌, sym, ap, ◌∙◌, subst, arith, ℕ_discrete, Run, Canon, Node, cell_at, Room, Tree, leaf, node, inorder, count}
 use Rattle.store.proofs.Base.{cell, Rep, δ-other, δ≤1, rep_pos, rep-room, rep-cell, rep-left, rep-right}
 use Rattle.run_index.specs.Tree.{Distinct}
 use Rattle.run_index.proofs.Trees.{rep-ordered}
@@ -108,29 +108,10 @@ pub distinct : (w : List ℕ) (g : ℕ) (t : Tree) (lo total : ℕ) → Rep w g 
 distinct w g leaf lo total h c m = omega arith
 distinct w g (node n a b l r) lo total h c m =
     let A = canon-out total lo (inorder l) a b (inorder r) c in
+    let o = A.ordered in
     let il = distinct w g l lo (a - 1) (rep-left h) A.before m in
     let ir = distinct w g r (b + 2) total (rep-right h) A.after m in
-    go A il ir (ℕ_discrete m n) (ℕ_discrete (count m l) 0) (ℕ_discrete (count m r) 0)
-    (node_in w g l lo (a - 1) (rep-left h) A.before m)
-    (node_in w g r (b + 2) total (rep-right h) A.after m)
-  where
-    go : About total lo (inorder l) a b (inorder r) → count m l ≤ 1 → count m r ≤ 1 → Dec (m ≡ n) → Dec (count m l ≡ 0) → Dec (count m r ≡ 0)
-        → (1 ≤ count m l → Node-in w lo (a - 1) m) → (1 ≤ count m r → Node-in w (b + 2) total m)
-        → δ m n + (count m l + count m r) ≤ 1
-    go A il ir (yes e) (yes zl) (yes zr) hl hr = omega (arith, δ≤1 m n)
-    go A il ir (no ne) (yes zl) d hl hr = omega (arith, δ-other m n ne)
-    go A il ir (no ne) (no sl) (yes zr) hl hr = omega (arith, δ-other m n ne)
-    go A il ir (no ne) (no sl) (no sr) hl hr =
-        let x = hl (omega arith) in
-        let y = hr (omega arith) in
-        let o = A.ordered in
-        absurd (omega (arith, x.ordered, x.under, y.above))
-    go A il ir (yes e) (no sl) d hl hr =
-        let x = hl (omega arith) in
-        let z : (cell_at w m).start ≡ a = ap (λ (k : ℕ). (cell_at w k).start) e ∙ ap (λ (v : Node). v.start) (rep-cell h) in
-        absurd (omega (arith, x.ordered, x.under))
-    go A il ir (yes e) (yes zl) (no sr) hl hr =
-        let y = hr (omega arith) in
-        let z : (cell_at w m).start ≡ a = ap (λ (k : ℕ). (cell_at w k).start) e ∙ ap (λ (v : Node). v.start) (rep-cell h) in
-        let o = A.ordered in
-        absurd (omega (arith, y.above))
+    let hl : 1 ≤ count m l → (cell_at w m).start + 1 < a = λ i. let x = node_in w g l lo (a - 1) (rep-left h) A.before m i in omega (arith, x.ordered, x.under) in
+    let hr : 1 ≤ count m r → b < (cell_at w m).start = λ i. let y = node_in w g r (b + 2) total (rep-right h) A.after m i in omega (arith, y.above) in
+    let hn : m ≡ n → (cell_at w m).start ≡ a = λ e. ap (λ (k : ℕ). (cell_at w k).start) e ∙ ap (λ (v : Node). v.start) (rep-cell h) in
+    grind (arith, δ≤1 m n, δ-other m n)

@@ -1,7 +1,7 @@
 -- Bringing a world into agreement with its tree: the root's node and the searches tell its sums and bounds. And making a tree of free nodes
 -- that were given runs: these are one balanced tree, and the others stay free. Assumes nothing.
 use Rattle.store.proofs.Base.{◌≡◌, ℕ, ◌+◌, ◌^◌, ◌<◌, ◌≤◌, List, [], ◌∷◌, length, sym, refl, ap, ◌∙◌, subst, arith, Run, size, Positions, mem, held_runs, stretches, stretches-cong, Canon, Node}
-use Rattle.store.proofs.Base.{cell_at, Room, Tree, leaf, runs, ones, count, inorder, At, Sums, runs_from, times, Free, sums-node, times-append, length_both, strung-kept, World, Set, Links, links_of, turned, held, held_from, held_in}
+use Rattle.store.proofs.Base.{cell_at, Room, Tree, leaf, count, inorder, At, Sums, runs_from, times, Free, sums-node, times-append, length_both, strung-kept, World, Set, Links, held, held_from, held_in}
 use Rattle.store.proofs.Base.{Chain, first_of, last_of, Share, Still, Kept, Became, Strewn, LinksUp}
 use Rattle.run_index.specs.declared.chains.Grown.{Grown}
 use Rattle.run_index.specs.Strung.{Upright, Supply, Filled, Grew, Grows}
@@ -10,37 +10,13 @@ use Rattle.run_index.proofs.Balance.{halved-balanced}
 use Rattle.run_index.proofs.Strings.{count-numbers, length-numbers}
 use Rattle.run_index.proofs.Laying.{strung-laid}
 use Rattle.store.specs.Soundness.{Limited}
-use Rattle.store.specs.Settle.{Shows, Refreshes, Rooted}
+use Rattle.store.specs.Settle.{Refreshes, Rooted}
 use Rattle.store.proofs.Turn.{turned_zero}
 use Rattle.store.proofs.Nodes.{node-once, kept-still}
 use Rattle.store.proofs.Reached.{kept-held, kept-seen}
 use Rattle.store.proofs.Emptying.{vacant_world, vacant-standing, rootless-empty}
 
 -- ---- refreshing
--- what a world has to say of the tree t of its links to stand
-record Agrees (w : List ℕ) (h : World) (t : Tree) : Type 0 where
-  pub ones-are : h.ones ≡ ones t
-  pub runs-are : h.runs ≡ runs t
-  pub first-is : h.first ≡ first_of (held_runs (held_in w h))
-  pub last-is : h.last ≡ last_of (held_runs (held_in w h))
-  pub empty-offset : h.root ≡ 0 → h.offset ≡ 0
-
--- then it shows the tree's positions, turned by its offset
-agreed : {w : List ℕ} {s : Share} {h : World} {t : Tree} {ns : List ℕ} → Kept w s (links_of h) t ns → Agrees w h t → Shows w s h (turned h.offset (mem (inorder t)))
-agreed {h = h} {t = t} {ns = ns} k a = record {
-  standing = record {
-    tree = t;
-    free = ns;
-    kept = k;
-    ones-are = a.ones-are;
-    runs-are = a.runs-are;
-    first-is = a.first-is;
-    last-is = a.last-is;
-    empty-offset = a.empty-offset;
-  };
-  holds = λ x l. ap (λ (P : Positions). P x) (kept-held k h.offset);
-}
-
 module _ {w : List ℕ} {x : Links} where
   -- no root, no tree
   vacant-shows : (o : ℕ) → x.root ≡ 0 → Refreshes w x o (vacant_world x)
@@ -72,9 +48,21 @@ module _ {w : List ℕ} {x : Links} where
   pub refresh-told : {o a b : ℕ} {v : Node} → (x.root ≡ 0 → ⊥) → v ≡ cell_at w x.root → a ≡ first_of (held_runs (held_from w x.root o))
       → b ≡ last_of (held_runs (held_from w x.root o))
       → Refreshes w x o (record { tag = x.tag; root = x.root; free = x.free; offset = o; ones = v.ones; runs = v.runs; first = a; last = b })
-  refresh-told {v = v} nz ev ea eb s t ns k =
+  refresh-told {o = o} {v = v} nz ev ea eb s t ns k =
       let su : Sums v t = sums-node w x.root v ev nz s.tag t k.linked in
-      agreed k (record { ones-are = su.ones_is; runs-are = su.runs-is; first-is = ea; last-is = eb; empty-offset = λ z. absurd (nz z) })
+      record {
+        standing = record {
+          tree = t;
+          free = ns;
+          kept = k;
+          ones-are = su.ones_is;
+          runs-are = su.runs-is;
+          first-is = ea;
+          last-is = eb;
+          empty-offset = λ z. absurd (nz z);
+        };
+        holds = λ y l. ap (λ (P : Positions). P y) (kept-held k o);
+      }
 
 -- a world that holds nothing has the links' root, which is none, and no offset
 pub rooted-empty : {x : Links} (o : ℕ) {r : World} → x.root ≡ 0 → r ≡ vacant_world x → Rooted x o r

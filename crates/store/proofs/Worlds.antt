@@ -203,3 +203,5 @@ opened-told w k o small =
       held = refl;
       apart = λ m i. others_apart w (opened_at w) k S.planted m i;
     }
+
+pub ruleset leaving = (leaves_none, leaves-more, leaves-same, leaves_all, claim-left)

@@ -22,6 +22,7 @@ pub fn get_physical(runs: &Runs<'_>, x: Physical) -> bool
 }
 
 // The first logical position held under an offset, 0 if there is none: the place of logical 0, else the first run after it, else the first of all.
+#[tactic(auto, using(crate::proofs::Nearby::seeking))]
 fn first_turned(set: &Set<'_>) -> Logical
     ensures { result.0 ≡ first_of (held_runs (held set.now)) }
 {
@@ -52,6 +53,7 @@ pub fn first_held(set: &Set<'_>) -> Logical
 
 // The last logical position held under an offset, 0 if there is none.
 // No mirror of `first_turned`: one search from the top tells both whether the top is held and what lies below it.
+#[tactic(auto, using(crate::proofs::Nearby::seeking))]
 fn last_turned(set: &Set<'_>) -> Logical
     ensures { result.0 ≡ last_of (held_runs (held set.now)) }
 {

@@ -194,6 +194,7 @@ fn claim(words: &[u64], k: u64) -> u64
 // The most runs that world k may have: no more than its ceiling, and than what the others leave of the capacity. Those before it and those after
 // it are passed over apart: so the only world of a pool passes over none.
 // Words and a world's number stay apart: C lends both anew for each call, and the same pool may be lent to be changed.
+#[tactic(auto, using(crate::proofs::Worlds::leaving))]
 pub fn allowance(words: &[u64], k: u64) -> u64
     requires { Openable words.now k }
     ensures { result ≡ allowance words.now k }

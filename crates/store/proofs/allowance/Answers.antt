@@ -1,12 +1,9 @@
 -- `allowance` meets its contract. The invariant of both loops: what is left and what the worlds passed so far claim, but for world k, are the
 -- capacity. Assumes nothing.
-use Rattle.store.proofs.Base.{◌≡◌, ℕ, ◌+◌, ◌≤◌, min, sym, ap, ◌∙◌, subst, arith, Record}
-use Rattle.store.proofs.Worlds.{LeftOver, leaves_none, leaves-more, leaves-same, leaves_all, claim-left}
+use Rattle.store.proofs.Base.{◌≡◌, ℕ, ◌+◌, ◌≤◌, subst, arith}
+use Rattle.store.proofs.Worlds.{LeftOver, leaves-more, leaves-same, claim-left}
 use Rattle.store.proofs.allowance.Goals as goal
 use Rattle.store.proofs.allowance.Goals.{After-claim-left, After-claim-left-in-loop-j}
-
-pub loop-i-init : goal.loop-i-init
-loop-i-init c = leaves_none c.args.words.now c.args.k _ c.of_length-s.ensures
 
 -- what it claims is left
 before-fits : (c : After-claim-left) → c.claim-left.result ≤ c.loop-i.left
@@ -45,10 +42,3 @@ loop-j-preserved c =
     let o = c.loop-j in
     leaves-more c.args.words.now c.args.k o.left o.j c.claim-left-in-loop-j.result o.invariant (λ e. omega (arith, o.auto.j)) c.claim-left-in-loop-j.ensures
     (after-fits (goal.at.loop-j-preserved c).After-claim-left-in-loop-j)
-
--- the smaller of the ceiling and what is left
-pub returns : goal.returns
-returns c =
-    let o = c.loop-j in
-    let all = leaves_all c.args.words.now c.args.k o.left o.j c.requires.named o.invariant (omega (arith, o.auto.j-end, c.loop-j-test.false, c.opened-n.ensures, c.requires.named)) in
-    c.min.ensures ∙ ap (λ (v : Record). min v.ceiling o.left) c.read_record-ceiling.ensures ∙ sym all

@@ -1,7 +1,7 @@
 -- `last_turned` meets its contract: the last run that starts at or before the place of logical M holds it, or ends before it; where there is
 -- none, the last run of all is what there is. Assumes nothing.
 use Rattle.store.proofs.Base.{sym, ap, ◌∙◌, arith, le-leb, size, reaches, mem-last}
-use Rattle.store.proofs.Nearby.{last-top, last-before, last-wrapped, last_none}
+use Rattle.store.proofs.Nearby.{last-top}
 use Rattle.store.proofs.bounds.last_turned.Goals as goal
 
 pub returns-then-top-r : goal.returns-then-top-r
@@ -9,19 +9,3 @@ returns-then-top-r c =
     last-top c.args.set.now.runs c.at_or_before.ensures.in_order c.args.set.now.offset (omega arith) c.to_physical-top.result.0 c.to_physical-top.ensures
     (mem-last size 0 c.args.set.now.runs c.to_physical-top.result.0 c.at_or_before.ensures.in_order
     ∙ ap (reaches c.to_physical-top.result.0) (sym c.at_or_before.ensures.found ∙ c.in-Some.is) ∙ le-leb c.to_physical-top.result.0 c.in-Some.r.«end» c.if-top-r.true)
-
-pub returns-in-Some : goal.returns-in-Some
-returns-in-Some c =
-    c.to_logical.ensures
-    ∙ last-before c.args.set.now.runs c.at_or_before.ensures.in_order c.args.set.now.offset (omega arith) c.to_physical-top.result.0 c.in-Some.r c.to_physical-top.ensures
-    (sym c.in-Some.is ∙ c.at_or_before.ensures.found) (omega (arith, c.if-top-r.false))
-
-pub returns-in-Some-at_or_before : goal.returns-in-Some-at_or_before
-returns-in-Some-at_or_before c =
-    c.to_logical-in-Some-at_or_before.ensures
-    ∙ last-wrapped c.args.set.now.runs c.at_or_before.ensures.in_order c.args.set.now.offset (omega arith) c.to_physical-top.result.0 c.in-Some-at_or_before.r
-    c.to_physical-top.ensures (sym c.in_default.is ∙ c.at_or_before.ensures.found) (sym c.in-Some-at_or_before.is ∙ c.at_or_before-2.ensures.found)
-
-pub returns-in-None : goal.returns-in-None
-returns-in-None c =
-    last_none c.args.set.now.runs c.at_or_before.ensures.in_order c.args.set.now.offset (omega arith) (sym c.in-None.is ∙ c.at_or_before-2.ensures.found)
