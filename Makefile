@@ -28,8 +28,6 @@ HEADER := target/include/vizturel.h
 BENCH_STORE := target/lib/libbench_store.a
 PROGRAMS := crates/listset/out/listset crates/replay/out/replay
 SOURCES := crates.txt $(shell find crates -name out -prune -o \( -name '*.rt' -o -name '*.antt' \) -print)
-# the repository's crates that the archive is made of; exports, the last one, is proved where the archive is written
-PARTS := $(foreach crate,$(shell sed -n 's/^exports staticlib: //p' crates.txt | tr ' ' '\n' | tac),$(if $(wildcard crates/$(crate)/src),$(crate)))
 SEED ?= 2
 run: $(ARCHIVE)
 	@cargo run --quiet --offline --release --manifest-path host/Cargo.toml --bin play
@@ -47,18 +45,11 @@ $(PROGRAMS): $(SOURCES)
 	@mkdir -p target
 	@cd crates/$(@F) && rt run < stdin > ../../target/$(@F).out 2> ../../target/$(@F).log || { cat ../../target/$(@F).log; exit 1; }
 	@touch $@
-# Crate by crate, so that it can say which one is being proved. The archive is written only if everything in it is proved.
+# Side by side where crates do not stand on each other. The archive is written only if everything in it is proved.
 $(ARCHIVE): $(SOURCES)
 	@mkdir -p target/lib
-	@echo "proving the library: many minutes from nothing, up to a minute where its crates have been proved"
-	@at=0; began=$$(date +%s); \
-	for crate in $(PARTS) exports; do \
-	    at=$$((at + 1)); from=$$(date +%s); \
-	    printf '%2d of %d  %s ...' $$at $(words $(PARTS) exports) $$crate; \
-	    (cd crates/$$crate && rt lib) > target/lib.log 2>&1 || { echo; cat target/lib.log; exit 1; }; \
-	    echo " $$(($$(date +%s) - from)) s"; \
-	done; \
-	echo "proved in $$(($$(date +%s) - began)) s"
+	@echo "proving the library: some minutes from nothing, up to a minute where its crates have been proved"
+	@python3 tools/prove.py exports
 	@cp crates/exports/out/libexports.a $@
 $(HEADER): include/vizturel.h
 	@mkdir -p target/include
