@@ -41,30 +41,20 @@ at-spot Columns (suc n) p h = record {
   here = sym (omega (arith, div-add-mod p (suc n), mul_comm (p / suc n) (suc n)));
 }
 
-module _ (e : Edition) (n i j : ℕ) (below : i < n) (small : j < 16) where
-  -- and no other one
-  pub spot-below : spot e n i j < 16 * n
-  spot-below = go e
-    where
-      go : (e : Edition) → spot e n i j < 16 * n
-      go Rows = omega arith
-      go Columns = let k : j ≤ 15 = omega arith in omega (arith, mul-le-mul_right n k)
+-- and no other one
+pub spot-below : (e : Edition) (n i j : ℕ) → i < n → j < 16 → spot e n i j < 16 * n
+spot-below Rows n i j below small = omega arith
+spot-below Columns n i j below small = let k : j ≤ 15 = omega arith in omega (arith, mul-le-mul_right n k)
 
-  -- what an edition arranges
-  pub spot-arranged : (bs : List ℕ) → get_or (arranged e n bs) (spot e n i j) 0 ≡ get_or bs (16 * i + j) 0
-  spot-arranged bs = go e
-    where
-      go : (e : Edition) → get_or (arranged e n bs) (spot e n i j) 0 ≡ get_or bs (16 * i + j) 0
-      go Rows = ap (λ (p : ℕ). get_or bs p 0) (omega arith)
-      go Columns = let p : i + j * n ≡ n * j + i = omega arith in rw p (columns-at n 16 bs i j below small)
+-- what an edition arranges
+pub spot-arranged : (e : Edition) (n i j : ℕ) → i < n → j < 16 → (bs : List ℕ) → get_or (arranged e n bs) (spot e n i j) 0 ≡ get_or bs (16 * i + j) 0
+spot-arranged Rows n i j below small bs = ap (λ (p : ℕ). get_or bs p 0) (omega arith)
+spot-arranged Columns n i j below small bs = let p : i + j * n ≡ n * j + i = omega arith in rw p (columns-at n 16 bs i j below small)
 
-  -- and what it reads
-  spot-rows : (bs : List ℕ) → get_or (in_rows e n bs) (16 * i + j) 0 ≡ get_or bs (spot e n i j) 0
-  spot-rows bs = go e
-    where
-      go : (e : Edition) → get_or (in_rows e n bs) (16 * i + j) 0 ≡ get_or bs (spot e n i j) 0
-      go Rows = ap (λ (p : ℕ). get_or bs p 0) (omega arith)
-      go Columns = let p : i + j * n ≡ n * j + i = omega arith in rw p (columns-at 16 n bs j i small below)
+-- and what it reads
+spot-rows : (e : Edition) (n i j : ℕ) → i < n → j < 16 → (bs : List ℕ) → get_or (in_rows e n bs) (16 * i + j) 0 ≡ get_or bs (spot e n i j) 0
+spot-rows Rows n i j below small bs = ap (λ (p : ℕ). get_or bs p 0) (omega arith)
+spot-rows Columns n i j below small bs = let p : i + j * n ≡ n * j + i = omega arith in rw p (columns-at 16 n bs j i small below)
 
 -- ---- reading
 -- as many runs are told as are asked for
@@ -89,11 +79,11 @@ module _ (e : Edition) (n i : ℕ) (bs : List ℕ) (below : i < n) (long : 5 + 1
           rw p (spot-rows e n i (j + k) below (omega arith) (drop 5 bs) ∙ get_or-drop 5 bs (spot e n i (j + k)) 0 ∙ rw q)
 
   -- run i is told by bytes a step apart, as its edition has them
-  pub told-run : {d : Edition} {q : Run} → e ≡ d
+  pub told_run : {d : Edition} {q : Run} → e ≡ d
       → q ≡ run (value_of (picked 8 (5 + first_of d i) (step_of d n) bs)) (value_of (picked 8 (5 + first_of d i + 8 * step_of d n) (step_of d n) bs))
       → q ≡ get_or (runs_told e n (drop 5 bs)) i (run 0 0)
   unfolding runs_told
-  told-run r p =
+  told_run r p =
       let z : 16 * i + 0 ≡ 16 * i = omega arith in
       let s : 5 + spot e n i 0 ≡ 5 + first_of e i = omega (arith, zero-mul (step_of e n)) in
       let first : take 8 (drop (16 * i) (in_rows e n (drop 5 bs))) ≡ picked 8 (5 + first_of e i) (step_of e n) bs = rw (z, s) at (word-picked 0 (omega arith)) in

@@ -34,9 +34,9 @@ put_runs e n i (r ∷ rs) out = put_runs e n (suc i) rs (put_run e n i r.start r
 
 -- ---- one run
 -- its start and its end, one after the other
-pub both-strewn : (i step a b : ℕ) (out o₁ : List ℕ) {o₂ : List ℕ} → o₁ ≡ strewn i step (big_endian 8 a) out → o₂ ≡ strewn (i + 8 * step) step (big_endian 8 b) o₁
+pub both_strewn : (i step a b : ℕ) (out o₁ : List ℕ) {o₂ : List ℕ} → o₁ ≡ strewn i step (big_endian 8 a) out → o₂ ≡ strewn (i + 8 * step) step (big_endian 8 b) o₁
     → o₂ ≡ strewn i step (big_endian 8 a ++ big_endian 8 b) out
-both-strewn i step a b out o₁ p q =
+both_strewn i step a b out o₁ p q =
     let l : length (big_endian 8 a) ≡ 8 = big_endian-length 8 a in
     q ∙ rw p (rw l at (strewn-append i step (big_endian 8 a) (big_endian 8 b) out))
 
@@ -163,13 +163,13 @@ module _ (e : Edition) (n : ℕ) (rs : List Run) (out : List ℕ) (many : length
           rw (z, s) at (put_runs-makes e n t 0 rs out spotted-all a.row a.place (omega (arith, a.below)) a.small f)
 
       go : (p : ℕ) → (p < 5) ⊎ (5 ≤ p) → (p < 5 + 16 * n) ⊎ (5 + 16 * n ≤ p) → get_or (put_runs e n 0 rs out) p 0 ≡ get_or t p 0
-      go p (inl l) d = stays p (placed-before 5 (arranged e n (encode_runs rs)) out p l (omega arith))
+      go p (inl l) d = stays p (placed-before 5 (arranged e n (encode_runs rs)) out p (omega arith) l)
       go p (inr g) (inl l) = made p l g (at-spot e n (p - 5) (omega arith))
-      go p (inr g) (inr l) = stays p (placed-after 5 (arranged e n (encode_runs rs)) out p (omega (arith, arrangement-length)) (omega (arith, arrangement-length)))
+      go p (inr g) (inr l) = stays p (placed-after 5 (arranged e n (encode_runs rs)) out p (omega arith) (omega (arith, arrangement-length)))
 
 -- the head: the version byte, and then the number of runs
-pub head-placed : (e : Edition) (n v : ℕ) (out o : List ℕ) → 5 ≤ length out → v ≡ version_of e → o ≡ placed 1 (big_endian 4 n) (set out 0 v) → o ≡ placed 0 (head_of e n) out
-head-placed e n v out o h p q =
+pub head_placed : (e : Edition) (n v : ℕ) (out o : List ℕ) → 5 ≤ length out → v ≡ version_of e → o ≡ placed 1 (big_endian 4 n) (set out 0 v) → o ≡ placed 0 (head_of e n) out
+head_placed e n v out o h p q =
     let l : length (big_endian 4 n) ≡ 4 = big_endian-length 4 n in
     q ∙ rw p (placed-set 0 (version_of e) (big_endian 4 n) out (omega arith))
 
@@ -200,9 +200,9 @@ pub record Put (e : Edition) (n : ℕ) (rs : List Run) (out₀ out : List ℕ) (
   pub bytes : out ≡ put_runs e n 0 (take i rs) out₀
 
 -- none yet
-pub put-none : (e : Edition) {n : ℕ} (rs : List Run) (out : List ℕ) → length rs ≡ n → Put e n rs out out 0
+pub put_none : (e : Edition) {n : ℕ} (rs : List Run) (out : List ℕ) → length rs ≡ n → Put e n rs out out 0
 unfolding put_runs
-put-none e rs out m = record { upto = omega arith; many = m; bytes = refl }
+put_none e rs out m = record { upto = omega arith; many = m; bytes = refl }
 
 module _ {e : Edition} {n : ℕ} {rs : List Run} {out₀ out : List ℕ} {i : ℕ} (k : Put e n rs out₀ out i) where
   -- the slice stays as long
@@ -220,7 +220,7 @@ module _ {e : Edition} {n : ℕ} {rs : List Run} {out₀ out : List ℕ} {i : �
       }
 
   -- all of them, behind the head
-  pub put-set : (out₁ : List ℕ) → 5 + 16 * n ≤ length out₁ → out₀ ≡ placed 0 (head_of e n) out₁ → n ≤ i → out ≡ into_front (encode e rs) out₁
-  put-set out₁ h p g =
+  pub put_set : (out₁ : List ℕ) → 5 + 16 * n ≤ length out₁ → out₀ ≡ placed 0 (head_of e n) out₁ → n ≤ i → out ≡ into_front (encode e rs) out₁
+  put_set out₁ h p g =
       let all : take i rs ≡ rs = take_all i rs (omega (arith, k.many)) in
       set-placed e n rs out₁ out₀ out k.many h p (k.bytes ∙ rw all)

@@ -76,15 +76,6 @@ module _ {x : ℕ} {J : Positions} {rs : List Run} (p : Passed x J rs) where
     unfolding held_runs
     passed-next = found size r.small (omega arith)
 
--- canonical runs have gaps between them, so they are few
-canon-few : (total k : ℕ) (rs : List Run) → Canon total k rs → k ≤ total + 1 → 2 * length rs + k ≤ total + 1
-canon-few total k [] c h = omega arith
-canon-few total k (r ∷ rs) c h = let i = canon-few total (r.«end» + 2) rs c.3 (omega (arith, c.2)) in omega (arith, c.0, c.1)
-
-pub stretches-few : (J : Positions) → stretches J < size
-unfolding stretches
-stretches-few J = let h = canon-few size 0 (held_runs J) (held_runs-canon J) (omega arith) in omega arith
-
 -- a reading that stands behind the runs rs of J
 pub record Streaming {A : Type 0} (Has : A → ℕ → Positions → Type 0) (r : A) (J : Positions) (rs : List Run) : Type 0 where
   pub at : ℕ

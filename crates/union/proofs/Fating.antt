@@ -21,7 +21,7 @@ use Rattle.union.specs.declared.Group.{Group}
 use Rattle.union.specs.Entries.{entry, Counts}
 use Rattle.union.specs.Groups.{runs_of, OneOf, kept, mark, Marked}
 use Rattle.union.proofs.Entries.{entry-holds}
-use Rattle.union.proofs.Grouping.{Starts, Two, Whole, whole-held}
+use Rattle.union.proofs.Grouping.{Starts, Two, Whole, one-run, whole-held}
 
 -- ---- the run around a position
 -- a held position has that of the held runs which has it
@@ -56,12 +56,6 @@ run_with-is t k (r ∷ rs) (suc p) x c h l m =
     ap (λ b. cond b r (run_with x rs))
     (inside-above r.start r.«end» x (omega (arith, canon-start t (r.«end» + 2) rs p c.3 (omega arith))))
     ∙ run_with-is t (r.«end» + 2) rs p x c.3 (omega arith) l m
-
--- each group has a place among the runs
-one-run : (gs : List Group) (h : Group) → OneOf h gs → (p : ℕ) × (p < length (runs_of gs)) × (entry (runs_of gs) p ≡ run h.start h.«end»)
-one-run [] h m = elim m [ ]
-one-run (g ∷ gs) h (inl e) = (0, omega arith, ap (λ (f : Group). run f.start f.«end») (sym e))
-one-run (g ∷ gs) h (inr m) = let t = one-run gs h m in (suc t.0, omega (arith, t.1), t.2)
 
 -- the run around a position of a group is that of the group
 pub whole_run : (es : List Run) (ps : List ℕ) (gs : List Group) (h : Group) (x : ℕ) → Whole es ps gs → OneOf h gs → h.start ≤ x → x ≤ h.«end» → mem es x ≡ true

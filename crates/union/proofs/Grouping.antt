@@ -1,15 +1,13 @@
 -- Entries joined to groups in rising order: the runs of the groups are canonical, each group holds what its entries hold and no more, and each
 -- entry lies in one of them. At the end they are the runs of all that the list holds. Assumes nothing.
-use Rattle.std.proofs.Common.{◌≡◌, ℕ, suc, ◌+◌, ◌*◌, ◌<◌, ◌≤◌, min, max, Bool, true, false, ◌||◌, ◌⊎◌, List, [], ◌∷◌, ◌++◌, length, sym, refl, ap}
+use Rattle.std.proofs.Common.{◌≡◌, ℕ, zero, suc, ◌+◌, ◌*◌, ◌<◌, ◌≤◌, min, max, Bool, true, false, ◌⊎◌, List, [], ◌∷◌, ◌++◌, length, sym, refl, ap}
 use Rattle.std.proofs.Common.{◌∙◌, subst, inl, inr, true≢false, arith, length-append}
-use mathlib.Core.Bool.{or-true, false≢true}
+use mathlib.Core.Bool.{false≢true}
 use Rattle.model.specs.declared.Run.{Run}
 use Rattle.model.specs.Numbers.{size}
-use Rattle.model.specs.Positions.{run, inside, held_runs, stretches, mem}
+use Rattle.model.specs.Positions.{run, held_runs, stretches, mem}
 use Rattle.model.specs.RunList.{Canon, AllWords}
 use Rattle.model.proofs.Numbers.{split}
-use Rattle.model.proofs.Counting.{Place, below, within, above, place}
-use Rattle.model.proofs.RunList.{mem-in}
 use Rattle.model.proofs.Runs.{held_runs-is, stretches-is}
 use Rattle.union.specs.declared.Group.{Group}
 use Rattle.union.specs.Entries.{entry, Counts, key, Rising, In, Lists}
@@ -339,51 +337,36 @@ front-right es u ps qs gs w h s d = grouped-right es ps gs w h (rising-front es 
 pub group-counts : (es : List Run) (ps : List ℕ) (gs : List Group) (h : Group) → Right es ps gs → OneOf h gs → Counts es h.place
 group-counts es ps gs h r m = (r.lies h.place (r.fits h m).placed.listed).counts
 
--- there are no more groups than places
-pub grouped-few : (es : List Run) (ps : List ℕ) (gs : List Group) → Grouped es ps gs → length gs ≤ length ps
-grouped-few es ps gs none = omega arith
-grouped-few es ps gs (first p) = omega arith
-grouped-few es ps gs (begins qs fs g p d l) =
-    omega (arith, grouped-few es qs (fs ++ g ∷ []) d, length-append (fs ++ g ∷ []) (alone es p ∷ []), length-append qs (p ∷ []))
-grouped-few es ps gs (joins qs fs g p d l) =
-    omega (
-      arith,
-      grouped-few es qs (fs ++ g ∷ []) d,
-      length-append fs (g ∷ []),
-      length-append fs (joining es g p ∷ []),
-      length-append qs (p ∷ []),
-    )
-
 -- there are as many runs as groups
 pub runs-length : (gs : List Group) → length (runs_of gs) ≡ length gs
 runs-length [] = refl
 runs-length (g ∷ gs) = ap suc (runs-length gs)
 
 -- ---- what the groups hold
+-- each group has a place among the runs
+pub one-run : (gs : List Group) (h : Group) → OneOf h gs → (p : ℕ) × (p < length (runs_of gs)) × (entry (runs_of gs) p ≡ run h.start h.«end»)
+one-run [] h m = elim m [ ]
+one-run (g ∷ gs) h (inl e) = (0, omega arith, ap (λ (f : Group). run f.start f.«end») (sym e))
+one-run (g ∷ gs) h (inr m) = let t = one-run gs h m in (suc t.0, omega (arith, t.1), t.2)
+
+-- and each run is of one
+run-one : (gs : List Group) (p : ℕ) → p < length (runs_of gs) → (h : Group) × OneOf h gs × (entry (runs_of gs) p ≡ run h.start h.«end»)
+run-one [] p l = absurd (omega arith)
+run-one (g ∷ gs) zero l = (g, inl refl, refl)
+run-one (g ∷ gs) (suc p) l = let t = run-one gs p (omega arith) in (t.0, inr t.1, t.2)
+
 -- the positions of each group
 pub group-holds : (gs : List Group) (h : Group) (x : ℕ) → OneOf h gs → h.start ≤ x → x ≤ h.«end» → mem (runs_of gs) x ≡ true
-unfolding mem
-group-holds [] h x m l k = elim m [ ]
-group-holds (g ∷ gs) h x (inl e) l k =
-    mem-in (run g.start g.«end») (runs_of gs) x (omega (arith, ap (λ (f : Group). f.start) e)) (omega (arith, ap (λ (f : Group). f.«end») e))
-group-holds (g ∷ gs) h x (inr m) l k =
-    ap (λ t. inside g.start g.«end» x || t) (group-holds gs h x m l k) ∙ or-true (inside g.start g.«end» x)
+group-holds gs h x m l k =
+    let p = one-run gs h m in
+    entry-holds (runs_of gs) p.0 x p.1 (omega (arith, ap (λ (r : Run). r.start) p.2)) (omega (arith, ap (λ (r : Run). r.«end») p.2))
 
 -- each position is of a group
 pub group_of : (gs : List Group) (x : ℕ) → mem (runs_of gs) x ≡ true → (h : Group) × OneOf h gs × (h.start ≤ x) × (x ≤ h.«end»)
-unfolding mem
-group_of [] x e = absurd (false≢true e)
-group_of (g ∷ gs) x e = go (place g.start g.«end» x) (group_of gs x)
-  where
-    later : inside g.start g.«end» x ≡ false → (mem (runs_of gs) x ≡ true → (h : Group) × OneOf h gs × (h.start ≤ x) × (x ≤ h.«end»))
-        → (h : Group) × OneOf h (g ∷ gs) × (h.start ≤ x) × (x ≤ h.«end»)
-    later q f = let t = f (sym (ap (λ b. b || mem (runs_of gs) x) q) ∙ e) in (t.0, inr t.1, t.2, t.3)
-
-    go : Place g.start g.«end» x → (mem (runs_of gs) x ≡ true → (h : Group) × OneOf h gs × (h.start ≤ x) × (x ≤ h.«end»))
-        → (h : Group) × OneOf h (g ∷ gs) × (h.start ≤ x) × (x ≤ h.«end»)
-    go (below a q) f = later q f
-    go (within a b q) f = (g, inl refl, a, b)
-    go (above a q) f = later q f
+group_of gs x e =
+    let q = entry_of (runs_of gs) x e in
+    let t = run-one gs q.0 q.1 in
+    (t.0, t.1, omega (arith, q.2, ap (λ (r : Run). r.start) t.2), omega (arith, q.3, ap (λ (r : Run). r.«end») t.2))
 
 -- right groups hold what the entries at the places hold
 pub right-holds : (es : List Run) (ps : List ℕ) (gs : List Group) (q x : ℕ) → Right es ps gs → In q ps → (entry es q).start ≤ x → x ≤ (entry es q).«end»

@@ -15,7 +15,7 @@ use Rattle.union.specs.declared.places.Places.{Places}
 use Rattle.union.specs.declared.union.Union.{Union}
 use Rattle.union.specs.Bands.{left, ahead}
 use Rattle.union.specs.Joins.{Joining, Draws, OnItsWay, GivesGroup, pending}
-use Rattle.union.proofs.Steps.{front-least, complete-count}
+use Rattle.union.proofs.Steps.{front-small, complete-count}
 
 -- ---- fewer are pending
 module _ {L : Type 0} (u : Union L) (r : Places L) where
@@ -53,7 +53,7 @@ module _ {L : Type 0} (runs : L → List Run) where
   handed u [] {gs} {s} h y = subst (λ a. Handed u (gs ++ []) a) y (subst (λ l. Handed u l s) (sym (append-nil gs)) h)
   handed u (x ∷ xs) {gs} {s} {t} h y =
       let d = subst (λ l. Draws (runs l) s (Some x) y.0) h.list y.1.1 gs h.joining in
-      let n : Handed u (gs ++ x ∷ []) y.0 = record { list = y.1.0 ∙ h.list; joining = d.1; few = omega (arith, front-least d.0, d.0.few) } in
+      let n : Handed u (gs ++ x ∷ []) y.0 = record { list = y.1.0 ∙ h.list; joining = d.1; few = front-small d.0 } in
       subst (λ l. Handed u l t) (append_assoc gs (x ∷ []) xs) (handed u xs n y.2)
 
   module _ (list : L) {u : Union L} (same : u.places.list ≡ list) (k : Joining (runs list) [] u) where
