@@ -1,7 +1,7 @@
 -- Entries joined to groups in rising order: the runs of the groups are canonical, each group holds what its entries hold and no more, and each
 -- entry lies in one of them. At the end they are the runs of all that the list holds. Assumes nothing.
 use Rattle.std.proofs.Common.{◌≡◌, ℕ, zero, suc, ◌+◌, ◌*◌, ◌<◌, ◌≤◌, min, max, Bool, true, false, ◌⊎◌, List, [], ◌∷◌, ◌++◌, length, sym, refl, ap}
-use Rattle.std.proofs.Common.{◌∙◌, subst, inl, inr, true≢false, arith, length-append}
+use Rattle.std.proofs.Common.{◌∙◌, subst, inl, inr, true≢false, arith}
 use mathlib.Core.Bool.{false≢true}
 use Rattle.model.specs.declared.Run.{Run}
 use Rattle.model.specs.Numbers.{size}
@@ -382,9 +382,7 @@ right_of es ps gs x r e = let h = group_of gs x e in (r.fits h.0 h.1).tight x h.
 
 -- two tests that hold together are the same
 pub both-or-none : (a b : Bool) → (a ≡ true → b ≡ true) → (b ≡ true → a ≡ true) → a ≡ b
-both-or-none true b f g = sym (f refl)
-both-or-none false true f g = g refl
-both-or-none false false f g = refl
+both-or-none a b f g = grind (arith, f, g)
 
 -- ---- the end: right groups of all places that count
 pub record Whole (es : List Run) (ps : List ℕ) (gs : List Group) : Type 0 where

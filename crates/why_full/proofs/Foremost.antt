@@ -209,20 +209,11 @@ first-place es w few p f = let t = whole-some es w few in go t.0 t.1 t.2
             false≢true (sym (f.unmet j y k.0 held) ∙ there)
 
 -- ---- the first entries of a list
--- those of a shorter part are those of a longer one
-same-entry : (es : List Run) (n m q : ℕ) → n ≤ m → q < n → entry (take n es) q ≡ entry (take m es) q
-same-entry es n m q h l = get_or-take n es q (run 0 0) l ∙ sym (get_or-take m es q (run 0 0) (omega arith))
-
--- and have the same positions
-has-later : (es : List Run) (n m q x : ℕ) → n ≤ m → q < n → Has (take n es) q x → Has (take m es) q x
-has-later es n m q x h l a =
-    let s = same-entry es n m q h l in
-    (subst (λ (r : Run). r.start ≤ x) s a.0, subst (λ (r : Run). x ≤ r.«end») s a.1)
-
-has-sooner : (es : List Run) (n m q x : ℕ) → n ≤ m → q < n → Has (take m es) q x → Has (take n es) q x
-has-sooner es n m q x h l a =
-    let s = sym (same-entry es n m q h l) in
-    (subst (λ (r : Run). r.start ≤ x) s a.0, subst (λ (r : Run). x ≤ r.«end») s a.1)
+-- an entry of two parts has the same positions in both
+has-part : (es : List Run) (n m q x : ℕ) → q < n → q < m → Has (take n es) q x → Has (take m es) q x
+has-part es n m q x h l a =
+    let s : entry (take n es) q ≡ entry (take m es) q = get_or-take n es q (run 0 0) h ∙ sym (get_or-take m es q (run 0 0) l) in
+    rw (← s) a
 
 module _ (es : List Run) (w : AllWords es) (few : length es < size) (n m : ℕ) (h : n ≤ m) where
   first-few : (k : ℕ) → length (take k es) < size
@@ -232,14 +223,14 @@ module _ (es : List Run) (w : AllWords es) (few : length es < size) (n m : ℕ) 
   held-later : (z : ℕ) → mem (take n es) z ≡ true → mem (take m es) z ≡ true
   held-later z e =
       let q = entry_of (take n es) z e in
-      let a = has-later es n m q.0 z h (omega (arith, q.1, length-take n es)) (q.2, q.3) in
+      let a = has-part es n m q.0 z (omega (arith, q.1, length-take n es)) (omega (arith, q.1, length-take n es)) (q.2, q.3) in
       entry-holds (take m es) q.0 z (omega (arith, q.1, length-take n es, length-take m es)) a.0 a.1
 
   -- WHAT LEADS leads in each shorter part that has it
   pub leads-sooner : (p : ℕ) → p < n → In p (places (take m es)) → In p (places (take n es))
   leads-sooner p l i =
       let f = place-first (take m es) p i in
-      let a = has-sooner es n m p f.x h l f.has in
+      let a = has-part es m n p f.x (omega arith) l f.has in
       let within : p < length (take n es) = omega (arith, f.within, length-take n es, length-take m es) in
       let here = entry-holds (take n es) p f.x within a.0 a.1 in
       first-place (take n es) (take_words n es w) (first-few n) p (record {
@@ -255,7 +246,7 @@ module _ (es : List Run) (w : AllWords es) (few : length es < size) (n m : ℕ) 
       none f here q y k b true e =
           let t = whole-some (take n es) (take_words n es w) (first-few n) in
           let u = whole-some (take m es) (take_words m es w) (first-few m) in
-          let c = f.unmet q y k (has-later es n m q y h (omega arith) b) in
+          let c = f.unmet q y k (has-part es n m q y (omega arith) (omega arith) b) in
           absurd (false≢true (sym c ∙ run-grows t.2 u.2 held-later f.x y here e))
 
 -- THE LAST PLACE up to the first refused call is that call's: without it the places would lead before the call, and be too many
