@@ -1,19 +1,9 @@
 -- The padding bits of a map: the last byte is the bits below n and, above them, the padding. So a shift gives these as a number, a remainder
 -- those, and halving the number step by step counts its ones. Assumes nothing.
-use Prim.Native.Nat.{ℕ, zero, suc, ◌+◌, ◌-◌, ◌*◌, ◌/◌, ◌%◌, ◌^◌, ◌≤◌, ◌<◌}
-use mathlib.Core.Path.{◌≡◌, sym, ap, ap₂, ◌∙◌}
-use mathlib.Core.Logic.{◌⊎◌, inl, inr}
-use mathlib.Core.Bool.{true}
-use mathlib.Core.List.{List}
-use native.Mathlib.Nat.{zero-add, one-mul, div-eq_of_lt, mod-eq_of_lt, add-mul-div_right, add-mul-mod_self_right}
-use native.Mathlib.Omega.{arith}
-use mir.Syntax.{w8}
-use mir.Val.{Fits}
-use lib.Pow.{pow_pos, shl_exact}
+use Rattle.std.proofs.Common.{ℕ, zero, suc, ◌+◌, ◌-◌, ◌*◌, ◌/◌, ◌%◌, ◌^◌, ◌≤◌, ◌<◌, ◌≡◌, sym, ap, ap₂, ◌∙◌, ◌⊎◌, inl, inr, true, List, zero-add, one-mul, mod-eq_of_lt}
+use Rattle.std.proofs.Common.{arith, w8, Fits, pow_pos, shl_exact, length, get_or, set, length-set, get_or-set_same, get_or-set_other, ext_get_or, count_ones}
+use native.Mathlib.Nat.{div-eq_of_lt, add-mul-div_right, add-mul-mod_self_right}
 use lib.Count.{ones_step}
-use lib.ListN.{length, get_or, set, length-set}
-use lib.Seq.{get_or-set_same, get_or-set_other, ext_get_or}
-use Rattle.std.specs.Prelude.{count_ones}
 use Rattle.std.proofs.lemmas.Nat.{ones_le_self}
 use Rattle.model.proofs.Slices.{all-bytes}
 use Rattle.model.proofs.Clearing.{clear_stays}

@@ -1,12 +1,8 @@
 -- The laws of putting bytes into a slice: byte by byte, part after part, and from the front. What is put is what a chain of element
 -- writes leaves, so each law is one of such chains. Assumes nothing.
-use Prim.Native.Nat.{ℕ, suc, ◌+◌, ◌≤◌, ◌<◌}
-use mathlib.Core.Path.{◌≡◌, sym, ap, ◌∙◌}
-use mathlib.Core.List.{List, [], ◌∷◌, ◌++◌, append_assoc}
-use native.Mathlib.Omega.{arith}
-use lib.ListN.{length, take, drop, set, get_or, length-append, length-set, take-append-drop}
-use lib.Seq.{sets, length-sets, sets-eq, length-take-le}
-use Rattle.std.proofs.Common.{rules}
+use Rattle.std.proofs.Common.{ℕ, suc, ◌+◌, ◌≤◌, ◌<◌, ◌≡◌, sym, ap, ◌∙◌, List, [], ◌∷◌, ◌++◌, append_assoc, arith, length, take, drop, set, get_or, length-append, length-set}
+use Rattle.std.proofs.Common.{take-append-drop, length-take-le, rules}
+use lib.Seq.{sets, length-sets, sets-eq}
 use Rattle.std.proofs.lemmas.List.{places}
 use Rattle.model.specs.Bytes.{into_front}
 use Rattle.codec.specs.Placed.{placed}

@@ -1,12 +1,8 @@
 -- Where the bytes of runs stand in a written set of either edition: byte j of run i has its spot, every byte is at one, and what an edition
 -- arranges or reads is told by spots. So both editions are read and written by one derivation. Assumes nothing.
-use Prim.Native.Nat.{ℕ, zero, suc, ◌+◌, ◌*◌, ◌/◌, ◌%◌, ◌≤◌, ◌<◌}
-use mathlib.Core.Path.{◌≡◌, sym, ap, ◌∙◌}
-use mathlib.Core.List.{List}
-use native.Mathlib.Nat.{div-add-mod, mod-lt, div-lt_iff_lt-mul, mul_comm, mul-le-mul_right, add-mul, zero-mul}
-use native.Mathlib.Omega.{arith}
-use lib.ListN.{length, take, drop, get_or, length-drop}
-use lib.Seq.{get_or-drop}
+use Rattle.std.proofs.Common.{ℕ, zero, suc, ◌+◌, ◌*◌, ◌/◌, ◌%◌, ◌≤◌, ◌<◌, ◌≡◌, sym, ap, ◌∙◌, List, mod-lt, div-lt_iff_lt-mul, mul_comm, mul-le-mul_right, add-mul, zero-mul, arith}
+use Rattle.std.proofs.Common.{length, take, drop, get_or, length-drop, get_or-drop}
+use native.Mathlib.Nat.{div-add-mod}
 use Rattle.model.specs.declared.Run.{Run}
 use Rattle.model.specs.declared.Edition.{Edition}
 use Rattle.model.specs.declared.Edition.TheVariants.{Rows, Columns}

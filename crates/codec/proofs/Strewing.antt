@@ -1,13 +1,8 @@
 -- Runs put into a slice one after the other, each at its spots: all n of them are the bytes that the edition arranges, in a row behind the
 -- head. By each byte of the slice: it is as it will be from the start on, or from its run on. Assumes nothing.
-use Prim.Native.Nat.{ℕ, zero, suc, ◌+◌, ◌-◌, ◌*◌, ◌≤◌, ◌<◌}
-use mathlib.Core.Path.{◌≡◌, refl, sym, ap, ◌∙◌}
-use mathlib.Core.Logic.{◌⊎◌, inl, inr}
-use mathlib.Core.List.{List, [], ◌∷◌, ◌++◌, append_assoc}
-use native.Mathlib.Numerals.{add-one}
-use native.Mathlib.Omega.{arith}
-use lib.ListN.{length, take, set, get_or, length-append, get_or-append}
-use lib.Seq.{get_or-append-add, ext_get_or, take-suc, take_all, length-take-le}
+use Rattle.std.proofs.Common.{ℕ, zero, suc, ◌+◌, ◌-◌, ◌*◌, ◌≤◌, ◌<◌, ◌≡◌, refl, sym, ap, ◌∙◌, ◌⊎◌, inl, inr, List, [], ◌∷◌, ◌++◌, append_assoc, add-one, arith, length, take}
+use Rattle.std.proofs.Common.{set, get_or, length-append, get_or-append-add, ext_get_or, take-suc, take_all, length-take-le}
+use lib.ListN.{get_or-append}
 use Rattle.model.specs.declared.Edition.{Edition}
 use Rattle.model.specs.declared.Run.{Run}
 use Rattle.model.specs.Positions.{run}

@@ -1,10 +1,6 @@
 -- Ranks put into a slice as runs, start and end of each in turn: none, one, two lists one after the other, and so the middle ones of a tree, parting
 -- by parting. Assumes nothing.
-use Prim.Native.Nat.{ℕ, zero, suc, ◌+◌, ◌-◌, ◌*◌, ◌≤◌, ◌<◌}
-use mathlib.Core.Path.{◌≡◌, sym, ap, ap₂, ◌∙◌}
-use mathlib.Core.List.{List, [], ◌∷◌, ◌++◌}
-use native.Mathlib.Omega.{arith}
-use lib.ListN.{length, set, length-append, length-set}
+use Rattle.std.proofs.Common.{ℕ, zero, suc, ◌+◌, ◌-◌, ◌*◌, ◌≤◌, ◌<◌, ◌≡◌, sym, ap, ap₂, ◌∙◌, List, [], ◌∷◌, ◌++◌, arith, length, set, length-append, length-set}
 use Rattle.model.specs.Bytes.{into_front}
 use Rattle.model.specs.Deepest.{least, middles, middles_up_to, runs_at, words_of, deepest_words}
 use Rattle.model.proofs.Deepest.{least-none, least-one, least-halves, least-most, no-middles, middles-first, middles-next, no-ranks, rank-words, ranks-append, ranks-length, deepest-words, deepest-ranks}

@@ -1,16 +1,8 @@
 -- The entries that lead, told by positions: those with a position in whose run no earlier entry has any. A run only grows with the list, so what leads in
 -- a list leads in each shorter one that has it; and the last place up to the first refused call is that call's own. Assumes nothing.
-use Prim.Native.Nat.{ℕ, suc, ◌+◌, ◌≤◌, ◌<◌, min, max}
-use mathlib.Core.Path.{◌≡◌, refl, sym, ap, ap₂, ◌∙◌, subst}
-use mathlib.Core.Logic.{◌⊎◌, inl, inr}
-use mathlib.Core.Bool.{Bool, true, false, not, ◌&&◌, false≢true}
-use mathlib.Core.List.{List, [], ◌∷◌}
-use native.Mathlib.Omega.{arith}
-use native.Mathlib.Nat.{zero-add}
-use lib.Dec.{leb}
-use lib.ListN.{length, get_or, take, length-take}
-use lib.Seq.{get_or-take}
-use borrow.Author.Tests.{le-leb, leb-true}
+use Rattle.std.proofs.Common.{ℕ, suc, ◌+◌, ◌≤◌, ◌<◌, min, max, ◌≡◌, refl, sym, ap, ap₂, ◌∙◌, subst, ◌⊎◌, inl, inr, Bool, true, false, not, ◌&&◌, List, [], ◌∷◌, arith, zero-add}
+use Rattle.std.proofs.Common.{leb, length, get_or, take, length-take, get_or-take, le-leb, leb-true}
+use mathlib.Core.Bool.{false≢true}
 use Rattle.model.specs.declared.Run.{Run}
 use Rattle.model.specs.Numbers.{size}
 use Rattle.model.specs.Positions.{run, inside, run_at, mem}

@@ -1,7 +1,6 @@
 -- `put_middles` meets its contract: the middle rank itself after no parting, else those of the lesser part, and after them those of the greater one.
 -- The measure is the height. Assumes nothing.
-use native.Mathlib.Omega.{arith}
-use lib.ListN.{length-set}
+use Rattle.std.proofs.Common.{arith, length-set}
 use Rattle.deepest.proofs.Ranks.{middles_one, no_height, first-put, both-put, lesser-put, neither-put, lesser-puttable, greater-puttable}
 use Rattle.deepest.proofs.list.+put_middles.Goals as goal
 

@@ -1,6 +1,5 @@
 -- `put_deepest` meets its contract. The loop's invariant: the middle ranks of fewer than d partings are in front. Assumes nothing.
-use mathlib.Core.Path.{◌≡◌}
-use native.Mathlib.Omega.{arith}
+use Rattle.std.proofs.Common.{◌≡◌, arith}
 use Rattle.deepest.proofs.Ranks.{filled_none, next-puttable, filled_next, filled-all}
 use Rattle.deepest.proofs.list.put_deepest.Goals as goal
 
