@@ -3,6 +3,7 @@ use Rattle.std.proofs.Common.{ℕ, zero, suc, ◌+◌, ◌-◌, ◌≤◌, ◌<�
 use Rattle.std.proofs.Common.{length, get_or, take, take_all, take-suc, lt-ltb}
 use mathlib.Core.Bool.{or_comm, or-false}
 use Rattle.std.proofs.lemmas.Bool.Decides.{nat_tests}
+use Rattle.std.proofs.lemmas.Grind.{common_steps}
 use Rattle.model.specs.declared.Run.{Run}
 use Rattle.model.specs.Numbers.{size}
 use Rattle.model.specs.Positions.{Positions, run, inside, among, held_runs, stretches, set_range, mem}
@@ -79,7 +80,7 @@ runs-step es n = go (split n (length es))
     go (inl h) =
         subst (λ rs. stretches (mem rs) ≤ suc (runs_after es n)) (sym (take-suc es n (run 0 0) h))
         (adds_one (get_or es n (run 0 0)) (mem (take n es)) (mem (take n es ++ get_or es n (run 0 0) ∷ [])) (λ x l. last (get_or es n (run 0 0)) (take n es) x))
-    go (inr h) = let e : take (suc n) es ≡ take n es = take_all (suc n) es (omega arith) ∙ sym (take_all n es h) in omega (arith, ap (λ rs. stretches (mem rs)) e)
+    go (inr h) = grind (arith, common_steps)
 
 -- d of them at most d
 pub runs-leap : (es : List Run) (n d : ℕ) → runs_after es (n + d) ≤ runs_after es n + d
