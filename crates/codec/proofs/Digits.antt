@@ -40,5 +40,5 @@ unfolding value_of value_from
 count_value l i h e = rw (four-at l i h) (e ∙ omega arith)
 
 -- which is below 2^32
-pub count_bound : (l : List ℕ) (i a : ℕ) → ((j : ℕ) → Fits w8 (get_or l j 0)) → a ≡ value_of (take 4 (drop i l)) → a < 4294967296
-count_bound l i a f e = omega (arith, part-bound 4 (drop i l) (drop-bytes i l (all-bytes l f)))
+pub count-bound : (l : List ℕ) (i a : ℕ) → ((j : ℕ) → Fits w8 (get_or l j 0)) → a ≡ value_of (take 4 (drop i l)) → a < 4294967296
+count-bound l i a f e = omega (arith, part-bound 4 (drop i l) (drop-bytes i l (all-bytes l f)))

@@ -75,11 +75,11 @@ module _ (e : Edition) (n i : ℕ) (bs : List ℕ) (below : i < n) (long : 5 + 1
           rw p (spot-rows e n i (j + k) below (omega arith) (drop 5 bs) ∙ get_or-drop 5 bs (spot e n i (j + k)) 0 ∙ rw q)
 
   -- run i is told by bytes a step apart, as its edition has them
-  pub told_run : {d : Edition} {q : Run} → e ≡ d
+  pub told-run : {d : Edition} {q : Run} → e ≡ d
       → q ≡ run (value_of (picked 8 (5 + first_of d i) (step_of d n) bs)) (value_of (picked 8 (5 + first_of d i + 8 * step_of d n) (step_of d n) bs))
       → q ≡ get_or (runs_told e n (drop 5 bs)) i (run 0 0)
   unfolding runs_told
-  told_run r p =
+  told-run r p =
       let z : 16 * i + 0 ≡ 16 * i = omega arith in
       let s : 5 + spot e n i 0 ≡ 5 + first_of e i = omega (arith, zero-mul (step_of e n)) in
       let first : take 8 (drop (16 * i) (in_rows e n (drop 5 bs))) ≡ picked 8 (5 + first_of e i) (step_of e n) bs = rw (z, s) at (word-picked 0 (omega arith)) in

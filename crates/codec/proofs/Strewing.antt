@@ -195,9 +195,9 @@ pub record Put (e : Edition) (n : ℕ) (rs : List Run) (out₀ out : List ℕ) (
   pub bytes : out ≡ put_runs e n 0 (take i rs) out₀
 
 -- none yet
-pub put_none : (e : Edition) {n : ℕ} (rs : List Run) (out : List ℕ) → length rs ≡ n → Put e n rs out out 0
+pub put-none : (e : Edition) {n : ℕ} (rs : List Run) (out : List ℕ) → length rs ≡ n → Put e n rs out out 0
 unfolding put_runs
-put_none e rs out m = record { upto = omega arith; many = m; bytes = refl }
+put-none e rs out m = record { upto = omega arith; many = m; bytes = refl }
 
 module _ {e : Edition} {n : ℕ} {rs : List Run} {out₀ out : List ℕ} {i : ℕ} (k : Put e n rs out₀ out i) where
   -- the slice stays as long
@@ -215,7 +215,7 @@ module _ {e : Edition} {n : ℕ} {rs : List Run} {out₀ out : List ℕ} {i : �
       }
 
   -- all of them, behind the head
-  pub put_set : (out₁ : List ℕ) → 5 + 16 * n ≤ length out₁ → out₀ ≡ placed 0 (head_of e n) out₁ → n ≤ i → out ≡ into_front (encode e rs) out₁
-  put_set out₁ h p g =
+  pub put-set : (out₁ : List ℕ) → 5 + 16 * n ≤ length out₁ → out₀ ≡ placed 0 (head_of e n) out₁ → n ≤ i → out ≡ into_front (encode e rs) out₁
+  put-set out₁ h p g =
       let all : take i rs ≡ rs = take_all i rs (omega (arith, k.many)) in
       set-placed e n rs out₁ out₀ out k.many h p (k.bytes ∙ rw all)

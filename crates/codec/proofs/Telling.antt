@@ -25,32 +25,32 @@ none-holds false false false e = (refl, refl, refl)
 -- ---- bytes, test by test
 module _ (bs : List ℕ) where
   -- fewer than 5 are refused
-  pub told_short : length bs < 5 → refusal (shape_conditions bs) ≡ Some 3
+  pub told-short : length bs < 5 → refusal (shape_conditions bs) ≡ Some 3
   unfolding too_short
-  told_short h = rw (lt-ltb (length bs) 5 h)
+  told-short h = rw (lt-ltb (length bs) 5 h)
 
   module _ (long : 5 ≤ length bs) where
     -- so is a version that is neither 1 nor 2
-    pub told_version : (get_or bs 0 0 ≡ 1 → ⊥) → (get_or bs 0 0 ≡ 2 → ⊥) → refusal (shape_conditions bs) ≡ Some 4
+    pub told-version : (get_or bs 0 0 ≡ 1 → ⊥) → (get_or bs 0 0 ≡ 2 → ⊥) → refusal (shape_conditions bs) ≡ Some 4
     unfolding too_short bad_version
-    told_version h k = rw (le-ltb (length bs) 5 long, ne_eqb (get_or bs 0 0) 1 h, ne_eqb (get_or bs 0 0) 2 k)
+    told-version h k = rw (le-ltb (length bs) 5 long, ne_eqb (get_or bs 0 0) 1 h, ne_eqb (get_or bs 0 0) 2 k)
 
     -- that of an edition is not, and tells it
-    pub version_is : {e : Edition} (d : Edition) → e ≡ d → get_or bs 0 0 ≡ version_of d → (bad_version bs ≡ false) × (e ≡ edition_of bs)
+    pub version-is : {e : Edition} (d : Edition) → e ≡ d → get_or bs 0 0 ≡ version_of d → (bad_version bs ≡ false) × (e ≡ edition_of bs)
     unfolding bad_version edition_of
-    version_is Rows r h = (rw h, r ∙ rw h)
-    version_is Columns r h = (rw h, r ∙ rw h)
+    version-is Rows r h = (rw h, r ∙ rw h)
+    version-is Columns r h = (rw h, r ∙ rw h)
 
     module _ {e : Edition} (version : (bad_version bs ≡ false) × (e ≡ edition_of bs)) {n : ℕ} (count : n ≡ value_of (take 4 (drop 1 bs))) where
       -- another length than its runs ask is refused
-      pub told_length_not : (length bs ≡ 5 + 16 * n → ⊥) → refusal (shape_conditions bs) ≡ Some 3
+      pub told-length : (length bs ≡ 5 + 16 * n → ⊥) → refusal (shape_conditions bs) ≡ Some 3
       unfolding too_short bad_length runs_due
-      told_length_not h = rw (le-ltb (length bs) 5 long, version.0, ← count, ne_eqb (length bs) (5 + 16 * n) h)
+      told-length h = rw (le-ltb (length bs) 5 long, version.0, ← count, ne_eqb (length bs) (5 + 16 * n) h)
 
       -- that one passes, as the last of the shape
-      pub told_shape : length bs ≡ 5 + 16 * n → Shaped bs e n
+      pub told-shape : length bs ≡ 5 + 16 * n → Shaped bs e n
       unfolding too_short bad_length runs_due
-      told_shape exact = record {
+      told-shape exact = record {
         free = rw (le-ltb (length bs) 5 long, version.0, ← count, eq-eqb (length bs) (5 + 16 * n) exact);
         edition = version.1;
         due = count;
@@ -69,12 +69,12 @@ module _ (bs : List ℕ) where
       shaped-tested = tested ∙ ap (ordered_from 0) shaped-runs
 
       -- out of order they are refused
-      pub told_order : not r ≡ true → refusal (set_conditions bs) ≡ Some 5
-      told_order h = let f = none-holds (too_short bs) (bad_version bs) (bad_length bs) sh.free in rw (f.0, f.1, f.2, disorder-is (decode bs) shaped-tested true h)
+      pub told-order : not r ≡ true → refusal (set_conditions bs) ≡ Some 5
+      told-order h = let f = none-holds (too_short bs) (bad_version bs) (bad_length bs) sh.free in rw (f.0, f.1, f.2, disorder-is (decode bs) shaped-tested true h)
 
       -- and else accepted
-      pub told_runs : not r ≡ false → Acceptable bs e n
-      told_runs h =
+      pub told-runs : not r ≡ false → Acceptable bs e n
+      told-runs h =
           let f = none-holds (too_short bs) (bad_version bs) (bad_length bs) sh.free in
           record {
             shaped = sh;

@@ -1,6 +1,6 @@
 -- A union as an iterator: fewer groups are pending after each that it hands out, so it ends; and there are no more of them than entries, so they can
 -- be counted. Assumes nothing.
-use Rattle.std.proofs.Common.{◌≡◌, ℕ, ◌<◌, ◌≤◌, List, [], ◌∷◌, ◌++◌, length, Option, None, Some, sym, refl, ap, subst, inr, arith, ◌∙◌, append_assoc, append-nil}
+use Rattle.std.proofs.Common.{◌≡◌, ℕ, ◌<◌, ◌≤◌, List, [], ◌∷◌, ◌++◌, length, Option, None, Some, sym, ap, subst, inr, arith, ◌∙◌, append_assoc, append-nil}
 use Rattle.std.specs.Option.{option_len, IfSome}
 use Rattle.std.specs.Iterator.{at_most, MakesProgress, Yields, Drains}
 use Rattle.std.specs.Iterator.Runs.{CountFits}

@@ -1,6 +1,6 @@
 -- One more entry adds at most one run to a union. So a list has at most as many runs as entries. Assumes nothing.
 use Rattle.std.proofs.Common.{ℕ, zero, suc, ◌+◌, ◌-◌, ◌≤◌, ◌<◌, min, max, ◌≡◌, refl, sym, ap, ◌∙◌, subst, ◌⊎◌, inl, inr, Bool, true, cond, ◌||◌, List, [], ◌∷◌, ◌++◌, arith}
-use Rattle.std.proofs.Common.{length, get_or, take, take_all, take-suc, lt-ltb}
+use Rattle.std.proofs.Common.{length, get_or, take, take-suc, lt-ltb}
 use mathlib.Core.Bool.{or_comm, or-false}
 use Rattle.std.proofs.lemmas.Bool.Decides.{nat_tests}
 use Rattle.std.proofs.lemmas.Grind.{common_steps}

@@ -1,12 +1,12 @@
 -- The model's own calls, set to true one by one from an empty world: which of them is refused. The entries that lead are refused at their last
 -- call, and no shorter list is. Assumes nothing.
-use Rattle.std.proofs.Common.{Option, None, Some, ℕ, zero, suc, ◌+◌, ◌-◌, ◌≤◌, ◌<◌, ◌≡◌, refl, sym, ap, ap₂, ◌∙◌, subst, ◌⊎◌, inl, inr, Bool, true, false, cond, ◌||◌, List, []}
+use Rattle.std.proofs.Common.{Option, None, Some, ℕ, zero, suc, ◌+◌, ◌≤◌, ◌<◌, ◌≡◌, refl, sym, ap, ap₂, ◌∙◌, subst, Bool, true, false, cond, ◌||◌, List, []}
 use Rattle.std.proofs.Common.{◌∷◌, ◌++◌, arith, ltb, length, take, length-take, get_or-take, lt-ltb, le-ltb}
 use lib.Seq.{append_snoc}
 use Rattle.model.specs.declared.Run.{Run}
 use Rattle.model.specs.Numbers.{size}
-use Rattle.model.specs.Range.{first_allowed, past_allowed, extent}
-use Rattle.model.specs.Positions.{Positions, run, inside, among, stretches, empty, set_range, mem, bounded, changes}
+use Rattle.model.specs.Range.{first_allowed, extent}
+use Rattle.model.specs.Positions.{Positions, inside, among, stretches, empty, set_range, mem, bounded, changes}
 use Rattle.model.specs.RunList.{AllWords}
 use Rattle.model.specs.Refusals.{capacity, ◌when◌, refusal, too_many}
 use Rattle.model.specs.Call.{holding, set, number, refused, gave}

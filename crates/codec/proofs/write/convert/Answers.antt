@@ -2,13 +2,13 @@
 use Rattle.std.proofs.Common.{drop}
 use Rattle.model.specs.Bytes.{runs_told}
 use Rattle.model.proofs.Codec.{runs_told-length}
-use Rattle.codec.proofs.Strewing.{put_none, put_step, put_set}
+use Rattle.codec.proofs.Strewing.{put-none, put_step, put-set}
 use Rattle.codec.proofs.write.convert.Goals as goal
 
 pub loop-i-init : goal.loop-i-init
 loop-i-init c =
     let t = c.args.told in
-    put_none _ (runs_told t.edition t.count (drop 5 t.bytes.now)) _ (runs_told-length t.edition t.count (drop 5 t.bytes.now))
+    put-none _ (runs_told t.edition t.count (drop 5 t.bytes.now)) _ (runs_told-length t.edition t.count (drop 5 t.bytes.now))
 
 pub loop-i-preserved : goal.loop-i-preserved
 loop-i-preserved c =
@@ -17,4 +17,4 @@ loop-i-preserved c =
 pub returns : goal.returns
 returns c =
     rw (← c.other_edition-to.ensures)
-    (put_set c.loop-i.invariant c.args.out.now c.requires c.put_head.ensures c.loop-i-test.false)
+    (put-set c.loop-i.invariant c.args.out.now c.requires c.put_head.ensures c.loop-i-test.false)
