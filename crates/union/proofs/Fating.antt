@@ -169,15 +169,15 @@ fate-joined es ps gs p t c e =
 -- is its mark, where the groups are those of all that count
 pub fate-is : (es : List Run) (ps : List ℕ) (gs : List Group) (p : ℕ) → Whole es ps gs → p < length es → fate es p (entry es p) ≡ mark es gs p
 unfolding fate mark
-fate-is es ps gs p t h = go (split (entry es p).«end» (entry es p).start) (kept p gs) refl
+fate-is es ps gs p t h =
+    go (λ o e. fate-kept es ps gs p t (record { within = h; ordered = o }) e) (λ o e. fate-joined es ps gs p t (record { within = h; ordered = o }) e)
   where
-    go : ((entry es p).«end» < (entry es p).start) ⊎ ((entry es p).start ≤ (entry es p).«end») → (b : Bool) → kept p gs ≡ b
+    alone : Bool
+    alone = another (run_at (mem es) (entry es p).start) p 0 es
+
+    go : ((entry es p).start ≤ (entry es p).«end» → kept p gs ≡ true → alone ≡ false) → ((entry es p).start ≤ (entry es p).«end» → kept p gs ≡ false → alone ≡ true)
         → fate es p (entry es p) ≡ mark es gs p
-    go (inl l) b e = rw (lt-ltb (entry es p).«end» (entry es p).start l)
-    go (inr l) true e =
-        rw (le-ltb (entry es p).«end» (entry es p).start l, fate-kept es ps gs p t (record { within = h; ordered = l }) e, e)
-    go (inr l) false e =
-        rw (le-ltb (entry es p).«end» (entry es p).start l, fate-joined es ps gs p t (record { within = h; ordered = l }) e, e)
+    go f g = grind (arith, nat_tests, f, g)
 
 -- the list of fates has as many elements as there are entries
 pub fates-length : (es : List Run) (k : ℕ) (rs : List Run) → length (fates_from es k rs) ≡ length rs
@@ -255,12 +255,10 @@ ordered-fates es w o =
     canonical = ordered-canon 0 es w o
 
     none : (p : ℕ) → p < length es → (j : ℕ) → Other (entry es p) p 0 es j → ⊥
-    none p h j i = go (split j p) (split p j)
-      where
-        go : (j < p) ⊎ (p ≤ j) → (p < j) ⊎ (j ≤ p) → ⊥
-        go (inl a) b = omega (arith, canon-apart size 0 es j p canonical a h, i.counts.ordered, i.from)
-        go (inr a) (inl b) = omega (arith, canon-apart size 0 es p j canonical b i.counts.within, i.to)
-        go (inr a) (inr b) = i.differs (omega arith)
+    none p h j i =
+        let a = canon-apart size 0 es j p canonical in
+        let b = canon-apart size 0 es p j canonical in
+        grind (arith, a, b, i.differs, i.counts.ordered, i.counts.within, i.from, i.to)
 
     kept-all : (p : ℕ) → p < length es → fate es p (entry es p) ≡ 2
     kept-all p h =

@@ -70,10 +70,10 @@ canon-below t k (g ∷ gs) h c (inl e) = subst (λ (f : Group). f.«end» < t) (
 canon-below t k (g ∷ gs) h c (inr m) = canon-below t (g.«end» + 2) gs h c.3 m
 
 -- one more behind them
-canon-begins : (t k : ℕ) (gs : List Group) (g h : Group) → Canon t k (runs_of (gs ++ g ∷ [])) → g.«end» + 1 < h.start → h.start ≤ h.«end» → h.«end» < t
-    → Canon t k (runs_of ((gs ++ g ∷ []) ++ h ∷ []))
-canon-begins t k [] g h c l m n = (c.0, c.1, c.2, (omega arith, m, n, tt))
-canon-begins t k (f ∷ gs) g h c l m n = (c.0, c.1, c.2, canon-begins t (f.«end» + 2) gs g h c.3 l m n)
+canon-begins : (t k : ℕ) (gs : List Group) (h : Group) → Canon t k (runs_of gs) → ((f : Group) → OneOf f gs → f.«end» + 1 < h.start) → k ≤ h.start → h.start ≤ h.«end» → h.«end» < t
+    → Canon t k (runs_of (gs ++ h ∷ []))
+canon-begins t k [] h c l b m n = (b, m, n, tt)
+canon-begins t k (f ∷ gs) h c l b m n = (c.0, c.1, c.2, canon-begins t (f.«end» + 2) gs h c.3 (λ g i. l g (inr i)) (omega (arith, l f (inl refl))) m n)
 
 -- the last one ends later
 canon-joins : (t k : ℕ) (gs : List Group) (g h : Group) → Canon t k (runs_of (gs ++ g ∷ [])) → g.start ≡ h.start → g.«end» ≤ h.«end» → h.«end» < t
@@ -171,50 +171,31 @@ fits-alone es ps p c before = record {
     go q s (inl m) = absurd (omega (arith, before q m, s.from))
     go q s (inr m) = in_one q p m
 
--- an entry lies in the group of its own
-lies-alone : (es : List Run) (gs : List Group) (p : ℕ) → Counts es p → Lies es (gs ++ alone es p ∷ []) p
-lies-alone es gs p c = record { counts = c; group = alone es p; one = one_last (alone es p) gs; starts = omega arith; ends = omega arith }
-
 -- no place has no group
 right-none : (es : List Run) → Right es [] []
 right-none es = record { canon = tt; fits = λ h m. absurd m; lies = λ q m. absurd (in-none q m) }
 
--- one place has one group
-right-first : (es : List Run) (p : ℕ) → AllWords es → Counts es p → Right es (p ∷ []) (alone es p ∷ [])
-right-first es p w c = record {
-  canon = (omega arith, c.ordered, (entry-words es p w).1, tt);
-  fits = λ h m. go h (one-either h [] (alone es p) m);
-  lies = λ q m. subst (Lies es (alone es p ∷ [])) (sym (in_one q p m)) (lies-alone es [] p c);
-}
-  where
-    go : (h : Group) → ⊥ ⊎ (h ≡ alone es p) → Fits es (p ∷ []) h
-    go h (inl m) = absurd m
-    go h (inr e) = subst (Fits es (p ∷ [])) (sym e) (fits-alone es [] p c (λ q m. absurd (in-none q m)))
-
--- an entry that starts after the position after the last group begins one
-right-begins : (es : List Run) (ps : List ℕ) (gs : List Group) (g : Group) (p : ℕ) → AllWords es → Next es ps p → Right es ps (gs ++ g ∷ [])
-    → g.«end» + 1 < (entry es p).start → Right es (ps ++ p ∷ []) ((gs ++ g ∷ []) ++ alone es p ∷ [])
-right-begins es ps gs g p w n r l = record {
-  canon = canon-begins size 0 gs g (alone es p) r.canon l n.counts.ordered (entry-words es p w).1;
-  fits = λ h m. fits h (one-either h (gs ++ g ∷ []) (alone es p) m);
+-- an entry that starts after the position after each group begins one
+right-begins : (es : List Run) (ps : List ℕ) (gs : List Group) (p : ℕ) → AllWords es → Counts es p → Right es ps gs
+    → ((h : Group) → OneOf h gs → h.«end» + 1 < (entry es p).start) → Right es (ps ++ p ∷ []) (gs ++ alone es p ∷ [])
+right-begins es ps gs p w c r ended = record {
+  canon = canon-begins size 0 gs (alone es p) r.canon ended (omega arith) c.ordered (entry-words es p w).1;
+  fits = λ h m. fits h (one-either h gs (alone es p) m);
   lies = λ q m. lies q (in_both q ps (p ∷ []) m);
 }
   where
-    ended : (h : Group) → OneOf h (gs ++ g ∷ []) → h.«end» < (entry es p).start
-    ended h m = omega (arith, canon-most size 0 gs g h r.canon m)
-
     before : (q : ℕ) → In q ps → (entry es q).start < (entry es p).start
     before q m = let y = r.lies q m in omega (arith, y.ends, ended y.group y.one, y.counts.ordered)
 
-    fits : (h : Group) → OneOf h (gs ++ g ∷ []) ⊎ (h ≡ alone es p) → Fits es (ps ++ p ∷ []) h
-    fits h (inl m) = fits_more es ps h p (r.fits h m) (ended h m)
-    fits h (inr e) = subst (Fits es (ps ++ p ∷ [])) (sym e) (fits-alone es ps p n.counts before)
+    fits : (h : Group) → OneOf h gs ⊎ (h ≡ alone es p) → Fits es (ps ++ p ∷ []) h
+    fits h (inl m) = fits_more es ps h p (r.fits h m) (omega (arith, ended h m))
+    fits h (inr e) = subst (Fits es (ps ++ p ∷ [])) (sym e) (fits-alone es ps p c before)
 
-    lies : (q : ℕ) → In q ps ⊎ In q (p ∷ []) → Lies es ((gs ++ g ∷ []) ++ alone es p ∷ []) q
+    lies : (q : ℕ) → In q ps ⊎ In q (p ∷ []) → Lies es (gs ++ alone es p ∷ []) q
     lies q (inl m) =
         let y = r.lies q m in
-        record { counts = y.counts; group = y.group; one = one_left y.group (gs ++ g ∷ []) (alone es p ∷ []) y.one; starts = y.starts; ends = y.ends }
-    lies q (inr m) = subst (Lies es ((gs ++ g ∷ []) ++ alone es p ∷ [])) (sym (in_one q p m)) (lies-alone es (gs ++ g ∷ []) p n.counts)
+        record { counts = y.counts; group = y.group; one = one_left y.group gs (alone es p ∷ []) y.one; starts = y.starts; ends = y.ends }
+    lies q (inr m) = subst (Lies es (gs ++ alone es p ∷ [])) (sym (in_one q p m)) (record { counts = c; group = alone es p; one = one_last (alone es p) gs; starts = omega arith; ends = omega arith })
 
 -- an entry that overlaps the last group or touches it joins it
 right-joins : (es : List Run) (ps : List ℕ) (gs : List Group) (g : Group) (p : ℕ) → AllWords es → Next es ps p → Right es ps (gs ++ g ∷ [])
@@ -315,10 +296,10 @@ next-rising es b ps p h r c = record {
 pub grouped-right : (es : List Run) (ps : List ℕ) (gs : List Group) → AllWords es → length es < size → Rising es 0 ps → ((q : ℕ) → In q ps → Counts es q)
     → Grouped es ps gs → Right es ps gs
 grouped-right es ps gs w h r c none = right-none es
-grouped-right es ps gs w h r c (first p) = right-first es p w (c p (in_head p []))
+grouped-right es ps gs w h r c (first p) = right-begins es [] [] p w (c p (in_head p [])) (right-none es) (λ g m. absurd m)
 grouped-right es ps gs w h r c (begins qs fs g p d l) =
-    right-begins es qs fs g p w (next-rising es 0 qs p h r (c p (in-last p qs)))
-    (grouped-right es qs (fs ++ g ∷ []) w h (rising-front es 0 qs (p ∷ []) r) (λ q m. c q (in_left q qs (p ∷ []) m)) d) l
+    let old = grouped-right es qs (fs ++ g ∷ []) w h (rising-front es 0 qs (p ∷ []) r) (λ q m. c q (in_left q qs (p ∷ []) m)) d in
+    right-begins es qs (fs ++ g ∷ []) p w (c p (in-last p qs)) old (λ f m. omega (arith, canon-most size 0 fs g f old.canon m))
 grouped-right es ps gs w h r c (joins qs fs g p d l) =
     right-joins es qs fs g p w (next-rising es 0 qs p h r (c p (in-last p qs)))
     (grouped-right es qs (fs ++ g ∷ []) w h (rising-front es 0 qs (p ∷ []) r) (λ q m. c q (in_left q qs (p ∷ []) m)) d) l
