@@ -5,6 +5,7 @@ use Rattle.std.proofs.Common.{ℕ, zero, suc, ◌+◌, ◌*◌, ◌≤◌, ◌<�
 use Rattle.std.proofs.Common.{set, get_or, length-set, drop-cons, take-suc, take_all, length-take-le, get_or-set_same, get_or-set_other, w64}
 use native.Mathlib.Decide.{ℕ_discrete}
 use lib.Seq.{set_out}
+use Rattle.std.proofs.lemmas.Grind.{common_steps}
 use Rattle.std.specs.Int.{bytes_high_first, from_be_bytes}
 use Rattle.model.specs.Bytes.{big_endian, value_from, value_of}
 use Rattle.model.proofs.Numbers.{split}
@@ -57,12 +58,7 @@ set-makes t out i b e h = get_or-set_same out i b 0 h ∙ e
 
 -- and another that was
 set_keeps : (t out : List ℕ) (i b p : ℕ) → b ≡ get_or t i 0 → get_or out p 0 ≡ get_or t p 0 → get_or (set out i b) p 0 ≡ get_or t p 0
-set_keeps t out i b p e h = go (ℕ_discrete p i) (split i (length out))
-  where
-    go : Dec (p ≡ i) → (i < length out) ⊎ (length out ≤ i) → get_or (set out i b) p 0 ≡ get_or t p 0
-    go (no d) k = get_or-set_other out i p b 0 d ∙ h
-    go (yes q) (inl l) = rw q (set-makes t out i b e l)
-    go (yes q) (inr l) = rw (set_out out i b l) h
+set_keeps t out i b p e h = grind (arith, common_steps)
 
 -- the bytes bs stand in t from i on, a step apart
 abbrev pub Apart : ℕ → ℕ → List ℕ → List ℕ → Type 0

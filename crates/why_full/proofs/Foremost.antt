@@ -259,13 +259,7 @@ refused-last C es f w few r = go (split last f)
     many = refused-places C es f w few r
 
     most : (p : ℕ) → In p ps → p ≤ last
-    most p (i, l, e) = at (split i C)
-      where
-        at : (i < C) ⊎ (C ≤ i) → p ≤ last
-        at (inl k) = omega (arith, e, climbing-once 0 ps i C rising k (omega (arith, many)))
-        at (inr k) =
-            let z : i ≡ C = omega (arith, l, many) in
-            omega (arith, e, ap (λ j. get_or ps j 0) z)
+    most p (i, l, e) = grind (arith, many, climbing-once 0 ps i C rising)
 
     go : (last < f) ⊎ (f ≤ last) → last ≡ f
     go (inl l) =

@@ -75,7 +75,7 @@ module _ {es : List Run} {ps : List ℕ} {gs : List Group} (t : Whole es ps gs) 
 
   -- one that meets a group starts in it: it lies in a group, which is this one
   meets-starts : (h : Group) (j : ℕ) → OneOf h gs → Meeting (run h.start h.«end») es j → Starts es ps h j
-  meets-starts h j m k = record { listed = t.each j k.counts; from = go (split (entry es j).start h.start); to = k.low }
+  meets-starts h j m k = record { listed = t.each j k.counts; from = grind (arith, y.starts, shared); to = k.low }
     where
       y : Lies es gs j
       y = t.right.lies j (t.each j k.counts)
@@ -87,10 +87,6 @@ module _ {es : List Run} {ps : List ℕ} {gs : List Group} (t : Whole es ps gs) 
           let e = entry-holds es j x k.counts.within (omega arith) k.high in
           sym (whole_run es ps gs h x t m (omega arith) (canon-from size 0 gs h t.right.canon m).1 e)
           ∙ whole_run es ps gs y.group x t y.one (omega (arith, y.starts)) (omega (arith, y.ends, k.high)) e
-
-      go : ((entry es j).start < h.start) ⊎ (h.start ≤ (entry es j).start) → h.start ≤ (entry es j).start
-      go (inl l) = absurd (omega (arith, y.starts, ap (λ (r : Run). r.start) (shared l)))
-      go (inr l) = l
 
   -- the place of a group is that of the first entry in its run
   group-leads : (h : Group) → OneOf h gs → leads es h.place (entry es h.place) ≡ true
