@@ -1,14 +1,11 @@
 -- Bytes that stand a step apart: what is strewn over a slice and what is picked out of one, byte by byte, in parts, and at step 1, where they
 -- are bytes in a row. What is strewn is compared with a list t that has the same bytes there: whatever agrees with t goes on agreeing, so no
 -- two places need be told apart. Assumes nothing.
-use Rattle.std.proofs.Common.{ℕ, zero, suc, ◌+◌, ◌*◌, ◌≤◌, ◌<◌, ◌≡◌, refl, ap, ◌∙◌, ◌⊎◌, inl, inr, List, [], ◌∷◌, ◌++◌, suc-mul, zero-mul, add-one, arith, length, take, drop}
-use Rattle.std.proofs.Common.{set, get_or, length-set, drop-cons, take-suc, take_all, length-take-le, get_or-set_same, get_or-set_other, w64}
-use native.Mathlib.Decide.{ℕ_discrete}
-use lib.Seq.{set_out}
+use Rattle.std.proofs.Common.{ℕ, zero, suc, ◌+◌, ◌*◌, ◌≤◌, ◌<◌, ◌≡◌, refl, ap, ◌∙◌, List, [], ◌∷◌, ◌++◌, suc-mul, zero-mul, add-one, arith, length, take, drop}
+use Rattle.std.proofs.Common.{set, get_or, length-set, drop-cons, take-suc, take_all, length-take-le, get_or-set_same, w64}
 use Rattle.std.proofs.lemmas.Grind.{common_steps}
 use Rattle.std.specs.Int.{bytes_high_first, from_be_bytes}
 use Rattle.model.specs.Bytes.{big_endian, value_from, value_of}
-use Rattle.model.proofs.Numbers.{split}
 use Rattle.codec.specs.Placed.{strewn, picked}
 use Rattle.codec.proofs.Digits.{high-first}
 

@@ -1,7 +1,7 @@
 -- What bytes are as a written set, test by test in the order of refusals, and how many runs the set of an ordered list has: just the
 -- list's, since its runs are canonical. So runs that are told can be counted against an allowance before a world gets them.
 -- Assumes nothing.
-use Rattle.std.proofs.Common.{None, Some, ℕ, ◌+◌, ◌*◌, ◌≤◌, ◌<◌, ◌≡◌, refl, sym, ap, ◌∙◌, Bool, true, false, not, List, [], ◌∷◌, length, take, drop, get_or, arith, eq-eqb, ne_eqb, lt-ltb}
+use Rattle.std.proofs.Common.{None, Some, ℕ, ◌+◌, ◌*◌, ◌≤◌, ◌<◌, ◌≡◌, sym, ap, ◌∙◌, Bool, true, false, not, List, [], ◌∷◌, length, take, drop, get_or, arith, eq-eqb, ne_eqb, lt-ltb}
 use Rattle.std.proofs.Common.{le-ltb}
 use borrow.Author.Tests.{not-false}
 use Rattle.model.specs.declared.Edition.{Edition}

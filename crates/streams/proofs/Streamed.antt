@@ -4,7 +4,7 @@
 use Rattle.std.specs.Prelude.{None, Some}
 use Rattle.std.specs.Iterator.{AlwaysYields}
 use Rattle.std.proofs.lemmas.List.{append_cancel_left}
-use Prim.Native.Nat.{ℕ, suc, ◌+◌, ◌-◌, ◌*◌, ◌≤◌, ◌<◌}
+use Prim.Native.Nat.{ℕ, suc, ◌+◌, ◌-◌, ◌≤◌, ◌<◌}
 use mathlib.Core.Path.{◌≡◌, refl, sym, ap, subst, ◌∙◌}
 use mathlib.Core.Logic.{◌⊎◌, inl, inr}
 use mathlib.Core.Bool.{true, false}
@@ -14,9 +14,8 @@ use lib.ListN.{length, length-append}
 use Rattle.model.specs.declared.Run.{Run}
 use Rattle.model.specs.Numbers.{size}
 use Rattle.model.proofs.Numbers.{split}
-use Rattle.model.specs.Positions.{Positions, run, runs_in, held_runs, stretches}
-use Rattle.model.specs.RunList.{Canon}
-use Rattle.model.proofs.Runs.{runs_in-none, runs_in-join, runs_in-first, held_runs-canon}
+use Rattle.model.specs.Positions.{Positions, run, runs_in, held_runs}
+use Rattle.model.proofs.Runs.{runs_in-none, runs_in-join, runs_in-first}
 use Rattle.streams.specs.Reading.{Clear, RunFrom, Draws}
 
 -- rs are the runs of J below x, and none of them goes on at x

@@ -1,7 +1,7 @@
 -- What became of each entry: where the groups are those of all that count, an entry is kept exactly if a group is of it alone. So a report that
 -- is marked group by group is the list of fates. A list that is in order keeps every entry. Assumes nothing.
-use Rattle.std.proofs.Common.{◌≡◌, ℕ, zero, suc, ◌+◌, ◌<◌, ◌≤◌, Bool, true, false, cond, not, ◌&&◌, ◌||◌, eqb, ltb, leb, ◌⊎◌, List, [], ◌∷◌, ◌++◌, length, get_or, take, drop, set}
-use Rattle.std.proofs.Common.{replicate, sym, refl, ap, ◌∙◌, subst, ap₂, inl, inr, true≢false, zero-add, arith, length-set, take-append-drop, length-take, get_or-take, ext_get_or, le-ltb, lt-ltb, eq-eqb, eqb-true}
+use Rattle.std.proofs.Common.{◌≡◌, ℕ, zero, suc, ◌+◌, ◌<◌, ◌≤◌, Bool, true, false, cond, not, ◌&&◌, ◌||◌, eqb, ltb, leb, List, [], ◌∷◌, ◌++◌, length, get_or, take, drop, set}
+use Rattle.std.proofs.Common.{replicate, sym, refl, ap, ◌∙◌, subst, ap₂, inl, inr, true≢false, zero-add, arith, length-set, take-append-drop, length-take, get_or-take, ext_get_or, le-ltb, eq-eqb, eqb-true}
 use mathlib.Core.Bool.{false≢true}
 use lib.ListN.{length-replicate, get_or-replicate}
 use borrow.Author.Tests.{eqb-false}
@@ -14,7 +14,6 @@ use Rattle.model.specs.RunList.{Canon, AllWords}
 use Rattle.model.specs.Refusals.{ordered_from}
 use Rattle.model.specs.Bytes.{into_front}
 use Rattle.model.specs.Mending.{another, fate, fates_from}
-use Rattle.model.proofs.Numbers.{split}
 use Rattle.model.proofs.Runs.{held_runs-mem}
 use Rattle.model.proofs.Codec.{ordered-canon}
 use Rattle.union.specs.declared.Group.{Group}

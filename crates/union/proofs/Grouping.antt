@@ -14,10 +14,6 @@ use Rattle.union.specs.Entries.{entry, Counts, key, Rising, In, Lists}
 use Rattle.union.specs.Groups.{runs_of, OneOf, alone, joining, Grouped, none, first, begins, joins}
 use Rattle.union.proofs.Entries.{entry-words, key-start, in-none, in_head, in_one, in_left, in_both, in-last, rising-front, rising-apart, entry-holds, entry_of, lists-whole}
 
--- the greater of two numbers is below what both are below
-below_both : (t a b : ℕ) → a < t → b < t → max a b < t
-below_both t a b h k = omega arith
-
 -- ---- one of the groups
 -- it stays one when others are put behind them
 pub one_left : (h : Group) (gs hs : List Group) → OneOf h gs → OneOf h (gs ++ hs)
@@ -201,7 +197,7 @@ right-begins es ps gs p w c r ended = record {
 right-joins : (es : List Run) (ps : List ℕ) (gs : List Group) (g : Group) (p : ℕ) → AllWords es → Next es ps p → Right es ps (gs ++ g ∷ [])
     → (entry es p).start ≤ g.«end» + 1 → Right es (ps ++ p ∷ []) (gs ++ joining es g p ∷ [])
 right-joins es ps gs g p w n r l = record {
-  canon = canon-joins size 0 gs g (joining es g p) r.canon refl (omega arith) (below_both size g.«end» (entry es p).«end» last (entry-words es p w).1);
+  canon = canon-joins size 0 gs g (joining es g p) r.canon refl (omega arith) (let e = entry-words es p w in omega (arith, last, e.1));
   fits = λ h m. fits h (one-either h gs (joining es g p) m);
   lies = λ q m. lies q (in_both q ps (p ∷ []) m);
 }

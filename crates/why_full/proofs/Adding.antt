@@ -1,7 +1,6 @@
 -- One more entry adds at most one run to a union. So a list has at most as many runs as entries. Assumes nothing.
 use Rattle.std.proofs.Common.{ℕ, zero, suc, ◌+◌, ◌-◌, ◌≤◌, ◌<◌, min, max, ◌≡◌, refl, sym, ap, ◌∙◌, subst, ◌⊎◌, inl, inr, Bool, true, cond, ◌||◌, List, [], ◌∷◌, ◌++◌, arith}
 use Rattle.std.proofs.Common.{length, get_or, take, take-suc, lt-ltb}
-use mathlib.Core.Bool.{or_comm, or-false}
 use Rattle.std.proofs.lemmas.Bool.Decides.{nat_tests}
 use Rattle.std.proofs.lemmas.Grind.{common_steps}
 use Rattle.model.specs.declared.Run.{Run}
@@ -71,10 +70,7 @@ unfolding mem
 runs-step es n = go (split n (length es))
   where
     last : (r : Run) (rs : List Run) (x : ℕ) → mem (rs ++ r ∷ []) x ≡ (inside r.start r.«end» x || mem rs x)
-    last r rs x = mem-append rs (r ∷ []) x ∙ or_comm (mem rs x) (mem (r ∷ []) x) ∙ ap (λ b. b || mem rs x) (one r x)
-      where
-        one : (r : Run) (x : ℕ) → mem (r ∷ []) x ≡ inside r.start r.«end» x
-        one r x = or-false (inside r.start r.«end» x)
+    last r rs x = grind (arith, mem-append rs (r ∷ []) x)
 
     go : (n < length es) ⊎ (length es ≤ n) → runs_after es (suc n) ≤ suc (runs_after es n)
     go (inl h) =
