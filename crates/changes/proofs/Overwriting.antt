@@ -4,7 +4,7 @@ use Rattle.std.proofs.Common.{◌≡◌, ℕ, ◌+◌, ◌^◌, ◌<◌, ◌≤�
 use Rattle.std.specs.Iterator.{Yields, YieldsFirst}
 use Rattle.std.proofs.lemmas.Iterator.Consumers.{YieldsList-turn, YieldsList-end, YieldsList-from_first}
 use Rattle.model.specs.declared.Run.{Run}
-use Rattle.model.specs.Positions.{Positions, held_runs, stretches, mem}
+use Rattle.model.specs.Positions.{Positions, held_runs, stretches}
 use Rattle.model.specs.Refusals.{ordered_from}
 use Rattle.model.specs.RunList.{AllWords}
 use Rattle.model.proofs.Codec.{ordered-canon}

@@ -1,21 +1,12 @@
 -- Bytes that stand a step apart: what is strewn over a slice and what is picked out of one, byte by byte, in parts, and at step 1, where they
 -- are bytes in a row. What is strewn is compared with a list t that has the same bytes there: whatever agrees with t goes on agreeing, so no
 -- two places need be told apart. Assumes nothing.
-use Prim.Native.Nat.{ℕ, zero, suc, ◌+◌, ◌*◌, ◌≤◌, ◌<◌}
-use mathlib.Core.Path.{◌≡◌, refl, sym, ap, ◌∙◌}
-use mathlib.Core.Logic.{◌⊎◌, inl, inr}
-use mathlib.Core.List.{List, [], ◌∷◌, ◌++◌}
-use native.Mathlib.Nat.{suc-mul, zero-mul}
-use native.Mathlib.Numerals.{add-one}
-use native.Mathlib.Omega.{arith}
-use lib.ListN.{length, take, drop, set, get_or, length-set}
-use lib.Seq.{sets, drop-cons, take-suc, take_all, length-take-le, get_or-set_same, get_or-set_other, set_out}
-use mir.Syntax.{w64}
+use Rattle.std.proofs.Common.{ℕ, zero, suc, ◌+◌, ◌*◌, ◌≤◌, ◌<◌, ◌≡◌, refl, ap, ◌∙◌, List, [], ◌∷◌, ◌++◌, suc-mul, zero-mul, add-one, arith, length, take, drop}
+use Rattle.std.proofs.Common.{set, get_or, length-set, drop-cons, take-suc, take_all, length-take-le, get_or-set_same, w64}
+use Rattle.std.proofs.lemmas.Grind.{common_steps}
 use Rattle.std.specs.Int.{bytes_high_first, from_be_bytes}
 use Rattle.model.specs.Bytes.{big_endian, value_from, value_of}
-use Rattle.model.proofs.Numbers.{split}
-use Rattle.codec.specs.Placed.{placed, strewn, picked}
-use Rattle.codec.proofs.Placing.{sets-placed}
+use Rattle.codec.specs.Placed.{strewn, picked}
 use Rattle.codec.proofs.Digits.{high-first}
 
 -- the next place but k is the next but k + 1
@@ -38,15 +29,6 @@ pub strewn-append : (i step : ℕ) (bs cs out : List ℕ) → strewn (i + length
 unfolding strewn
 strewn-append i step [] cs out = rw (step-none i step)
 strewn-append i step (b ∷ bs) cs out = rw (step-more i (length bs) step) (strewn-append (i + step) step bs cs (set out i b))
-
--- a step of 1 leaves bytes in a row
-sets-strewn : (i : ℕ) (bs out : List ℕ) → sets out i bs ≡ strewn i 1 bs out
-unfolding strewn
-sets-strewn i [] out = refl
-sets-strewn i (b ∷ bs) out = rw (add-one i) (sets-strewn (suc i) bs (set out i b))
-
-pub placed-strewn : (i : ℕ) (bs out : List ℕ) → i + length bs ≤ length out → placed i bs out ≡ strewn i 1 bs out
-placed-strewn i bs out h = sym (sets-placed bs out i h) ∙ sets-strewn i bs out
 
 -- no byte yet
 pub strewn_none : (i step : ℕ) (out : List ℕ) → out ≡ strewn i step [] out
@@ -73,19 +55,7 @@ set-makes t out i b e h = get_or-set_same out i b 0 h ∙ e
 
 -- and another that was
 set_keeps : (t out : List ℕ) (i b p : ℕ) → b ≡ get_or t i 0 → get_or out p 0 ≡ get_or t p 0 → get_or (set out i b) p 0 ≡ get_or t p 0
-set_keeps t out i b p e h = go (split p i) (split i p)
-  where
-    other : (p ≡ i → ⊥) → get_or (set out i b) p 0 ≡ get_or t p 0
-    other ne = get_or-set_other out i p b 0 ne ∙ h
-
-    same : p ≡ i → (i < length out) ⊎ (length out ≤ i) → get_or (set out i b) p 0 ≡ get_or t p 0
-    same q (inl l) = rw q (set-makes t out i b e l)
-    same q (inr l) = rw (set_out out i b l) h
-
-    go : (p < i) ⊎ (i ≤ p) → (i < p) ⊎ (p ≤ i) → get_or (set out i b) p 0 ≡ get_or t p 0
-    go (inl l) d = other (λ q. omega arith)
-    go (inr l) (inl m) = other (λ q. omega arith)
-    go (inr l) (inr m) = same (omega arith) (split i (length out))
+set_keeps t out i b p e h = grind (arith, common_steps)
 
 -- the bytes bs stand in t from i on, a step apart
 abbrev pub Apart : ℕ → ℕ → List ℕ → List ℕ → Type 0

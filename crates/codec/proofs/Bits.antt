@@ -1,10 +1,6 @@
 -- The bits of positions lie above those of the positions before them, and a byte is the bits of its eight positions. Assumes nothing.
-use Prim.Native.Nat.{ℕ, zero, suc, ◌+◌, ◌*◌, ◌^◌, ◌<◌}
-use mathlib.Core.Path.{◌≡◌, sym, ◌∙◌}
-use mathlib.Core.List.{List}
-use native.Mathlib.Nat.{add-zero, add-suc, suc-add, mul_left_comm, pow-succ'}
-use native.Mathlib.Omega.{arith}
-use lib.ListN.{get_or}
+use Rattle.std.proofs.Common.{ℕ, zero, suc, ◌+◌, ◌*◌, ◌^◌, ◌<◌, ◌≡◌, sym, ◌∙◌, List, add-zero, add-suc, suc-add, mul_left_comm, arith, get_or}
+use native.Mathlib.Nat.{pow-succ'}
 use Rattle.model.specs.Positions.{Positions}
 use Rattle.model.specs.Bytes.{bits, map_bit}
 use Rattle.model.proofs.Maps.{bits-bound, bits-tell, bits-bit, byte-bit}

@@ -1,13 +1,6 @@
 -- Numbers as bytes: what the library writes and reads as the bytes of a number are those of the model, highest first. Assumes nothing.
-use Prim.Native.Nat.{ℕ, zero, suc, ◌+◌, ◌-◌, ◌/◌, ◌%◌, ◌^◌, ◌≤◌, ◌<◌}
-use mathlib.Core.Path.{◌≡◌, refl, sym, ap, ◌∙◌}
-use mathlib.Core.List.{List, [], ◌∷◌}
-use native.Mathlib.Nat.{div-one}
-use native.Mathlib.Omega.{arith}
-use lib.ListN.{length, take, drop, get_or}
-use lib.Seq.{drop-cons, drop-drop}
-use mir.Syntax.{w8, w32}
-use mir.Val.{Fits}
+use Rattle.std.proofs.Common.{ℕ, zero, suc, ◌+◌, ◌-◌, ◌/◌, ◌%◌, ◌^◌, ◌≤◌, ◌<◌, ◌≡◌, refl, sym, ap, ◌∙◌, List, [], ◌∷◌, div-one, arith, length, take, drop, get_or, drop-cons}
+use Rattle.std.proofs.Common.{drop-drop, w8, w32, Fits}
 use borrow.Rule.Slice.PartMut.{put_mid}
 use Rattle.std.specs.Int.{bytes_high_first, from_be_bytes}
 use Rattle.model.specs.Bytes.{big_endian, value_from, value_of}

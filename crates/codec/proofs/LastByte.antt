@@ -1,18 +1,12 @@
 -- The padding bits of a map: the last byte is the bits below n and, above them, the padding. So a shift gives these as a number, a remainder
 -- those, and halving the number step by step counts its ones. Assumes nothing.
-use Prim.Native.Nat.{ℕ, zero, suc, ◌+◌, ◌-◌, ◌*◌, ◌/◌, ◌%◌, ◌^◌, ◌≤◌, ◌<◌}
-use mathlib.Core.Path.{◌≡◌, sym, ap, ap₂, ◌∙◌}
-use mathlib.Core.Logic.{◌⊎◌, inl, inr}
-use mathlib.Core.Bool.{true}
-use mathlib.Core.List.{List}
-use native.Mathlib.Nat.{zero-add, one-mul, div-eq_of_lt, mod-eq_of_lt, add-mul-div_right, add-mul-mod_self_right}
-use native.Mathlib.Omega.{arith}
-use lib.Pow.{pow_pos, shl_exact}
+use Rattle.std.proofs.Common.{ℕ, zero, suc, ◌+◌, ◌-◌, ◌*◌, ◌/◌, ◌%◌, ◌^◌, ◌≤◌, ◌<◌, ◌≡◌, sym, ap, ap₂, ◌∙◌, ◌⊎◌, inl, inr, true, List, zero-add, one-mul, mod-eq_of_lt}
+use Rattle.std.proofs.Common.{arith, w8, Fits, pow_pos, shl_exact, length, get_or, set, length-set, get_or-set_same, get_or-set_other, ext_get_or, count_ones}
+use native.Mathlib.Nat.{div-eq_of_lt, add-mul-div_right, add-mul-mod_self_right}
 use lib.Count.{ones_step}
-use lib.ListN.{length, get_or, set, length-set}
-use lib.Seq.{get_or-set_same, get_or-set_other, ext_get_or}
-use Rattle.std.specs.Prelude.{count_ones}
 use Rattle.std.proofs.lemmas.Nat.{ones_le_self}
+use Rattle.model.proofs.Slices.{all-bytes}
+use Rattle.model.proofs.Clearing.{clear_stays}
 use Rattle.model.proofs.Numbers.{split}
 use Rattle.model.specs.Positions.{Positions, one_if, count}
 use Rattle.model.proofs.Counting.{one-bound, beq-true, count-first, count_most}
@@ -58,21 +52,21 @@ pub last-at : (n : ℕ) {l : ℕ} → (n % 8 ≡ 0 → ⊥) → l ≡ map_length
 last-at n some e = omega arith
 
 -- so its ones above the used bits are the stray ones
-pub stray-last : (n : ℕ) (bs : List ℕ) → (n % 8 ≡ 0 → ⊥) → length bs ≡ map_length n → ((j : ℕ) → get_or bs j 0 < 256)
+pub stray_last : (n : ℕ) (bs : List ℕ) → (n % 8 ≡ 0 → ⊥) → length bs ≡ map_length n → ((j : ℕ) → get_or bs j 0 < 256)
     → count_ones (get_or bs (length bs - 1) 0 / 2 ^ (n % 8)) ≡ stray_bits n bs
 unfolding stray_bits
-stray-last n bs some long bytes =
+stray_last n bs some long bytes =
     ap (λ j. count_ones (get_or bs j 0 / 2 ^ (n % 8))) (last-at n some long) ∙ ap count_ones (padding-is n bs some (bytes (n / 8)))
     ∙ bits-ones (map_bit bs) n (8 * map_length n - n)
 
 -- a window of whole bytes has no padding bit
-pub stray-none : (n : ℕ) (bs : List ℕ) → n % 8 ≡ 0 → 0 ≡ stray_bits n bs
+pub stray_none : (n : ℕ) (bs : List ℕ) → n % 8 ≡ 0 → 0 ≡ stray_bits n bs
 unfolding stray_bits
-stray-none n bs e = let h : count (map_bit bs) true n (8 * map_length n - n) ≤ 8 * map_length n - n = count_most (map_bit bs) true n (8 * map_length n - n) in omega arith
+stray_none n bs e = let h : count (map_bit bs) true n (8 * map_length n - n) ≤ 8 * map_length n - n = count_most (map_bit bs) true n (8 * map_length n - n) in omega arith
 
 -- so where one is stray there are some
-pub stray-some : (n : ℕ) (bs : List ℕ) → 0 < stray_bits n bs → n % 8 ≡ 0 → ⊥
-stray-some n bs h e = omega (arith, stray-none n bs e)
+pub stray_some : (n : ℕ) (bs : List ℕ) → 0 < stray_bits n bs → n % 8 ≡ 0 → ⊥
+stray_some n bs h e = omega (arith, stray_none n bs e)
 
 -- ---- the cleared map
 -- a 1 of a byte shifted up by the used bits: nothing is shifted out
@@ -81,9 +75,9 @@ one_shifted n = shl_exact {a = 1} 1 (n % 8) 8 (omega arith) (omega arith) ∙ on
 
 module _ (n : ℕ) (bs : List ℕ) (some : n % 8 ≡ 0 → ⊥) (bytes : (j : ℕ) → get_or bs j 0 < 256) (long : length bs ≡ map_length n) where
   -- the map with the used bits alone as its last byte is cleared
-  pub used-clears : set bs (length bs - 1) (get_or bs (length bs - 1) 0 % ((1 * 2 ^ (n % 8)) % 2 ^ 8)) ≡ cleared n bs
+  pub used_clears : set bs (length bs - 1) (get_or bs (length bs - 1) 0 % ((1 * 2 ^ (n % 8)) % 2 ^ 8)) ≡ cleared n bs
   unfolding cleared
-  used-clears = rw (last-at n some long, one_shifted n) (ext_get_or 0 (set bs (n / 8) v) (map_of (map_bit bs) 0 n) same (λ j h. go j (omega (arith, length-set bs (n / 8) v)) (split j (n / 8))))
+  used_clears = rw (last-at n some long, one_shifted n) (ext_get_or 0 (set bs (n / 8) v) (map_of (map_bit bs) 0 n) same (λ j h. go j (omega (arith, length-set bs (n / 8) v)) (split j (n / 8))))
     where
       v : ℕ
       v = get_or bs (n / 8) 0 % 2 ^ (n % 8)
@@ -99,3 +93,7 @@ module _ (n : ℕ) (bs : List ℕ) (some : n % 8 ≡ 0 → ⊥) (bytes : (j : �
           let q : j ≡ n / 8 = omega arith in
           ap (λ i. get_or (set bs (n / 8) v) i 0) q ∙ get_or-set_same bs (n / 8) v 0 (omega arith) ∙ used-is n bs some (bytes (n / 8))
           ∙ ap₂ (bits (map_bit bs)) (omega arith) (omega arith) ∙ sym (map_of-at (map_bit bs) 0 n j (omega arith))
+
+-- where no padding bit is one the map is cleared already
+pub clear_same : (n : ℕ) (bs : List ℕ) → ((j : ℕ) → Fits w8 (get_or bs j 0)) → length bs ≡ map_length n → stray_bits n bs ≡ 0 → bs ≡ cleared n bs
+clear_same n bs bytes long none = sym (clear_stays n bs (all-bytes bs bytes) long none)

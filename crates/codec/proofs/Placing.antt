@@ -1,11 +1,9 @@
 -- The laws of putting bytes into a slice: byte by byte, part after part, and from the front. What is put is what a chain of element
 -- writes leaves, so each law is one of such chains. Assumes nothing.
-use Prim.Native.Nat.{ℕ, suc, ◌+◌, ◌-◌, ◌≤◌, ◌<◌}
-use mathlib.Core.Path.{◌≡◌, sym, ap, ◌∙◌}
-use mathlib.Core.List.{List, [], ◌∷◌, ◌++◌, append_assoc}
-use native.Mathlib.Omega.{arith}
-use lib.ListN.{length, take, drop, set, get_or, length-append, length-set, take-append-drop, get_or-append}
-use lib.Seq.{sets, length-sets, sets-eq, length-take-le, get_or-take, get_or-drop, get_or-append-add}
+use Rattle.std.proofs.Common.{ℕ, suc, ◌+◌, ◌≤◌, ◌<◌, ◌≡◌, sym, ap, ◌∙◌, List, [], ◌∷◌, ◌++◌, append_assoc, arith, length, take, drop, set, get_or, length-append, length-set}
+use Rattle.std.proofs.Common.{take-append-drop, length-take-le, rules}
+use lib.Seq.{sets, length-sets, sets-eq}
+use Rattle.std.proofs.lemmas.List.{places}
 use Rattle.model.specs.Bytes.{into_front}
 use Rattle.codec.specs.Placed.{placed}
 
@@ -45,32 +43,21 @@ placed-placed i bs cs out h =
     ∙ sets-placed (bs ++ cs) out i (omega (arith, length-append bs cs))
 
 -- ---- byte by byte
--- what stands before
-pub placed-before : (i : ℕ) (bs out : List ℕ) (p : ℕ) → p < i → i ≤ length out → get_or (placed i bs out) p 0 ≡ get_or out p 0
-unfolding placed
-placed-before i bs out p l h =
-    let t : p < length (take i out) = rw (length-take-le i out h) l in
-    get_or-append (take i out) (bs ++ drop (i + length bs) out) 0 p t ∙ get_or-take i out p 0 l
-
-module _ (i : ℕ) (bs out : List ℕ) (p : ℕ) where
-  -- byte p of what is put, and of what stands after
-  placed-from : i ≤ length out → get_or (placed i bs out) (i + p) 0 ≡ get_or (bs ++ drop (i + length bs) out) p 0
+module _ (i : ℕ) (bs out : List ℕ) (p : ℕ) (h : i ≤ length out) where
+  -- what stands before
+  pub placed-before : p < i → get_or (placed i bs out) p 0 ≡ get_or out p 0
   unfolding placed
-  placed-from h =
-      let e : i + p ≡ length (take i out) + p = rw (length-take-le i out h) in
-      rw e (get_or-append-add (take i out) (bs ++ drop (i + length bs) out) p 0)
+  placed-before l = search (rules, places)
 
   -- what is put
-  pub placed-inside : i ≤ length out → p < length bs → get_or (placed i bs out) (i + p) 0 ≡ get_or bs p 0
-  placed-inside h l = placed-from h ∙ get_or-append bs (drop (i + length bs) out) 0 p l
+  pub placed-inside : p < length bs → get_or (placed i bs out) (i + p) 0 ≡ get_or bs p 0
+  unfolding placed
+  placed-inside l = let m : length (take i out) ≡ i = length-take-le i out h in search (rules, places)
 
--- what stands after
-pub placed-after : (i : ℕ) (bs out : List ℕ) (p : ℕ) → i + length bs ≤ p → i ≤ length out → get_or (placed i bs out) p 0 ≡ get_or out p 0
-placed-after i bs out p l h =
-    let e : p ≡ i + (length bs + (p - (i + length bs))) = omega arith in
-    let f : i + length bs + (p - (i + length bs)) ≡ p = omega arith in
-    ap (λ (q : ℕ). get_or (placed i bs out) q 0) e ∙ placed-from i bs out (length bs + (p - (i + length bs))) h
-    ∙ get_or-append-add bs (drop (i + length bs) out) (p - (i + length bs)) 0 ∙ get_or-drop (i + length bs) out (p - (i + length bs)) 0 ∙ rw f
+  -- what stands after
+  pub placed-after : i + length bs ≤ p → get_or (placed i bs out) p 0 ≡ get_or out p 0
+  unfolding placed
+  placed-after l = let m : length (take i out) ≡ i = length-take-le i out h in search (rules, places)
 
 -- put from the start on, they are the front
 pub placed-front : (bs out : List ℕ) → placed 0 bs out ≡ into_front bs out

@@ -1,12 +1,8 @@
 -- Where the bytes of runs stand in a written set of either edition: byte j of run i has its spot, every byte is at one, and what an edition
 -- arranges or reads is told by spots. So both editions are read and written by one derivation. Assumes nothing.
-use Prim.Native.Nat.{ℕ, zero, suc, ◌+◌, ◌*◌, ◌/◌, ◌%◌, ◌≤◌, ◌<◌}
-use mathlib.Core.Path.{◌≡◌, sym, ap, ◌∙◌}
-use mathlib.Core.List.{List}
-use native.Mathlib.Nat.{div-add-mod, mod-lt, div-lt_iff_lt-mul, mul_comm, mul-le-mul_right, add-mul, zero-mul}
-use native.Mathlib.Omega.{arith}
-use lib.ListN.{length, take, drop, get_or, length-drop}
-use lib.Seq.{get_or-drop}
+use Rattle.std.proofs.Common.{ℕ, zero, suc, ◌+◌, ◌*◌, ◌/◌, ◌%◌, ◌≤◌, ◌<◌, ◌≡◌, sym, ap, ◌∙◌, List, mod-lt, div-lt_iff_lt-mul, mul_comm, mul-le-mul_right, add-mul, zero-mul, arith}
+use Rattle.std.proofs.Common.{length, take, drop, get_or, length-drop, get_or-drop}
+use native.Mathlib.Nat.{div-add-mod}
 use Rattle.model.specs.declared.Run.{Run}
 use Rattle.model.specs.declared.Edition.{Edition}
 use Rattle.model.specs.declared.Edition.TheVariants.{Rows, Columns}
@@ -41,30 +37,20 @@ at-spot Columns (suc n) p h = record {
   here = sym (omega (arith, div-add-mod p (suc n), mul_comm (p / suc n) (suc n)));
 }
 
-module _ (e : Edition) (n i j : ℕ) (below : i < n) (small : j < 16) where
-  -- and no other one
-  pub spot-below : spot e n i j < 16 * n
-  spot-below = go e
-    where
-      go : (e : Edition) → spot e n i j < 16 * n
-      go Rows = omega arith
-      go Columns = let k : j ≤ 15 = omega arith in omega (arith, mul-le-mul_right n k)
+-- and no other one
+pub spot-below : (e : Edition) (n i j : ℕ) → i < n → j < 16 → spot e n i j < 16 * n
+spot-below Rows n i j below small = omega arith
+spot-below Columns n i j below small = let k : j ≤ 15 = omega arith in omega (arith, mul-le-mul_right n k)
 
-  -- what an edition arranges
-  pub spot-arranged : (bs : List ℕ) → get_or (arranged e n bs) (spot e n i j) 0 ≡ get_or bs (16 * i + j) 0
-  spot-arranged bs = go e
-    where
-      go : (e : Edition) → get_or (arranged e n bs) (spot e n i j) 0 ≡ get_or bs (16 * i + j) 0
-      go Rows = ap (λ (p : ℕ). get_or bs p 0) (omega arith)
-      go Columns = let p : i + j * n ≡ n * j + i = omega arith in rw p (columns-at n 16 bs i j below small)
+-- what an edition arranges
+pub spot-arranged : (e : Edition) (n i j : ℕ) → i < n → j < 16 → (bs : List ℕ) → get_or (arranged e n bs) (spot e n i j) 0 ≡ get_or bs (16 * i + j) 0
+spot-arranged Rows n i j below small bs = ap (λ (p : ℕ). get_or bs p 0) (omega arith)
+spot-arranged Columns n i j below small bs = let p : i + j * n ≡ n * j + i = omega arith in rw p (columns-at n 16 bs i j below small)
 
-  -- and what it reads
-  spot-rows : (bs : List ℕ) → get_or (in_rows e n bs) (16 * i + j) 0 ≡ get_or bs (spot e n i j) 0
-  spot-rows bs = go e
-    where
-      go : (e : Edition) → get_or (in_rows e n bs) (16 * i + j) 0 ≡ get_or bs (spot e n i j) 0
-      go Rows = ap (λ (p : ℕ). get_or bs p 0) (omega arith)
-      go Columns = let p : i + j * n ≡ n * j + i = omega arith in rw p (columns-at 16 n bs j i small below)
+-- and what it reads
+spot-rows : (e : Edition) (n i j : ℕ) → i < n → j < 16 → (bs : List ℕ) → get_or (in_rows e n bs) (16 * i + j) 0 ≡ get_or bs (spot e n i j) 0
+spot-rows Rows n i j below small bs = ap (λ (p : ℕ). get_or bs p 0) (omega arith)
+spot-rows Columns n i j below small bs = let p : i + j * n ≡ n * j + i = omega arith in rw p (columns-at 16 n bs j i small below)
 
 -- ---- reading
 -- as many runs are told as are asked for

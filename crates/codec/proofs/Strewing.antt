@@ -1,13 +1,8 @@
 -- Runs put into a slice one after the other, each at its spots: all n of them are the bytes that the edition arranges, in a row behind the
 -- head. By each byte of the slice: it is as it will be from the start on, or from its run on. Assumes nothing.
-use Prim.Native.Nat.{ℕ, zero, suc, ◌+◌, ◌-◌, ◌*◌, ◌≤◌, ◌<◌}
-use mathlib.Core.Path.{◌≡◌, refl, sym, ap, ◌∙◌}
-use mathlib.Core.Logic.{◌⊎◌, inl, inr}
-use mathlib.Core.List.{List, [], ◌∷◌, ◌++◌, append_assoc}
-use native.Mathlib.Numerals.{add-one}
-use native.Mathlib.Omega.{arith}
-use lib.ListN.{length, take, set, get_or, length-append, get_or-append}
-use lib.Seq.{get_or-append-add, ext_get_or, take-suc, take_all, length-take-le}
+use Rattle.std.proofs.Common.{ℕ, zero, suc, ◌+◌, ◌-◌, ◌*◌, ◌≤◌, ◌<◌, ◌≡◌, refl, sym, ap, ◌∙◌, ◌⊎◌, inl, inr, List, [], ◌∷◌, ◌++◌, append_assoc, add-one, arith, length, take}
+use Rattle.std.proofs.Common.{set, get_or, length-append, get_or-append-add, ext_get_or, take-suc, take_all, length-take-le}
+use lib.ListN.{get_or-append}
 use Rattle.model.specs.declared.Edition.{Edition}
 use Rattle.model.specs.declared.Run.{Run}
 use Rattle.model.specs.Positions.{run}
@@ -34,9 +29,9 @@ put_runs e n i (r ∷ rs) out = put_runs e n (suc i) rs (put_run e n i r.start r
 
 -- ---- one run
 -- its start and its end, one after the other
-pub both-strewn : (i step a b : ℕ) (out o₁ : List ℕ) {o₂ : List ℕ} → o₁ ≡ strewn i step (big_endian 8 a) out → o₂ ≡ strewn (i + 8 * step) step (big_endian 8 b) o₁
+pub both_strewn : (i step a b : ℕ) (out o₁ : List ℕ) {o₂ : List ℕ} → o₁ ≡ strewn i step (big_endian 8 a) out → o₂ ≡ strewn (i + 8 * step) step (big_endian 8 b) o₁
     → o₂ ≡ strewn i step (big_endian 8 a ++ big_endian 8 b) out
-both-strewn i step a b out o₁ p q =
+both_strewn i step a b out o₁ p q =
     let l : length (big_endian 8 a) ≡ 8 = big_endian-length 8 a in
     q ∙ rw p (rw l at (strewn-append i step (big_endian 8 a) (big_endian 8 b) out))
 
@@ -163,13 +158,13 @@ module _ (e : Edition) (n : ℕ) (rs : List Run) (out : List ℕ) (many : length
           rw (z, s) at (put_runs-makes e n t 0 rs out spotted-all a.row a.place (omega (arith, a.below)) a.small f)
 
       go : (p : ℕ) → (p < 5) ⊎ (5 ≤ p) → (p < 5 + 16 * n) ⊎ (5 + 16 * n ≤ p) → get_or (put_runs e n 0 rs out) p 0 ≡ get_or t p 0
-      go p (inl l) d = stays p (placed-before 5 (arranged e n (encode_runs rs)) out p l (omega arith))
+      go p (inl l) d = stays p (placed-before 5 (arranged e n (encode_runs rs)) out p (omega arith) l)
       go p (inr g) (inl l) = made p l g (at-spot e n (p - 5) (omega arith))
-      go p (inr g) (inr l) = stays p (placed-after 5 (arranged e n (encode_runs rs)) out p (omega (arith, arrangement-length)) (omega (arith, arrangement-length)))
+      go p (inr g) (inr l) = stays p (placed-after 5 (arranged e n (encode_runs rs)) out p (omega arith) (omega (arith, arrangement-length)))
 
 -- the head: the version byte, and then the number of runs
-pub head-placed : (e : Edition) (n v : ℕ) (out o : List ℕ) → 5 ≤ length out → v ≡ version_of e → o ≡ placed 1 (big_endian 4 n) (set out 0 v) → o ≡ placed 0 (head_of e n) out
-head-placed e n v out o h p q =
+pub head_placed : (e : Edition) (n v : ℕ) (out o : List ℕ) → 5 ≤ length out → v ≡ version_of e → o ≡ placed 1 (big_endian 4 n) (set out 0 v) → o ≡ placed 0 (head_of e n) out
+head_placed e n v out o h p q =
     let l : length (big_endian 4 n) ≡ 4 = big_endian-length 4 n in
     q ∙ rw p (placed-set 0 (version_of e) (big_endian 4 n) out (omega arith))
 

@@ -1,21 +1,15 @@
 -- What bytes are as a written set, test by test in the order of refusals, and how many runs the set of an ordered list has: just the
 -- list's, since its runs are canonical. So runs that are told can be counted against an allowance before a world gets them.
 -- Assumes nothing.
-use Rattle.std.specs.Prelude.{None, Some}
-use Prim.Native.Nat.{ℕ, ◌+◌, ◌*◌, ◌≤◌, ◌<◌}
-use mathlib.Core.Path.{◌≡◌, refl, sym, ap, ◌∙◌}
-use mathlib.Core.Bool.{Bool, true, false, not}
-use mathlib.Core.List.{List, [], ◌∷◌}
-use lib.ListN.{length, take, drop, get_or}
-use native.Mathlib.Omega.{arith}
-use borrow.Author.Tests.{eq-eqb, ne_eqb, lt-ltb, le-ltb, not-false}
-use Rattle.model.specs.declared.Run.{Run}
+use Rattle.std.proofs.Common.{None, Some, ℕ, ◌+◌, ◌*◌, ◌≤◌, ◌<◌, ◌≡◌, sym, ap, ◌∙◌, Bool, true, false, not, List, [], ◌∷◌, length, take, drop, get_or, arith, eq-eqb, ne_eqb, lt-ltb}
+use Rattle.std.proofs.Common.{le-ltb}
+use borrow.Author.Tests.{not-false}
 use Rattle.model.specs.declared.Edition.{Edition}
 use Rattle.model.specs.declared.Edition.TheVariants.{Rows, Columns}
 use Rattle.model.specs.Positions.{stretches, mem}
 use Rattle.model.specs.Bytes.{value_of, version_of, runs_due, edition_of, runs_told, decode}
 use Rattle.model.specs.Refusals.{refusal, too_short, bad_version, bad_length, ordered_from, set_short, set_version, set_length, ◌when◌, shape_conditions, set_conditions}
-use Rattle.model.specs.RunList.{AllBytes, AllWords}
+use Rattle.model.specs.RunList.{AllBytes}
 use Rattle.model.proofs.Codec.{decode-length, decode-words}
 use Rattle.run_lists.proofs.Ordered.{ordered-stretches, disorder-is}
 use Rattle.codec.specs.Parsed.{Shaped, Acceptable}
@@ -23,36 +17,20 @@ use Rattle.codec.specs.Parsed.{Shaped, Acceptable}
 -- ---- a set's shape is tested before its order
 -- where no test of the shape refuses, none of the three conditions holds
 none-holds : (a b c : Bool) → refusal (set_short when a ∷ set_version when b ∷ set_length when c ∷ []) ≡ None → (a ≡ false) × (b ≡ false) × (c ≡ false)
-none-holds true b c e = let z : ◌≡◌ {A = ℕ} 0 1 = cc in absurd (omega arith)
-none-holds false true c e = let z : ◌≡◌ {A = ℕ} 0 1 = cc in absurd (omega arith)
-none-holds false false true e = let z : ◌≡◌ {A = ℕ} 0 1 = cc in absurd (omega arith)
-none-holds false false false e = (refl, refl, refl)
+none-holds a b c e = (grind arith, grind arith, grind arith)
 
 -- ---- bytes, test by test
 module _ (bs : List ℕ) where
-  -- fewer than 5
-  short-is : length bs < 5 → too_short bs ≡ true
-  unfolding too_short
-  short-is h = lt-ltb (length bs) 5 h
-
-  -- are too few
+  -- fewer than 5 are refused
   pub told-short : length bs < 5 → refusal (shape_conditions bs) ≡ Some 3
-  told-short h = rw (short-is h)
+  unfolding too_short
+  told-short h = rw (lt-ltb (length bs) 5 h)
 
   module _ (long : 5 ≤ length bs) where
-    -- others are not
-    long-is : too_short bs ≡ false
-    unfolding too_short
-    long-is = le-ltb (length bs) 5 long
-
-    -- a version that is neither 1 nor 2
-    version-not : (get_or bs 0 0 ≡ 1 → ⊥) → (get_or bs 0 0 ≡ 2 → ⊥) → bad_version bs ≡ true
-    unfolding bad_version
-    version-not h k = rw (ne_eqb (get_or bs 0 0) 1 h, ne_eqb (get_or bs 0 0) 2 k)
-
-    -- is refused
+    -- so is a version that is neither 1 nor 2
     pub told-version : (get_or bs 0 0 ≡ 1 → ⊥) → (get_or bs 0 0 ≡ 2 → ⊥) → refusal (shape_conditions bs) ≡ Some 4
-    told-version h k = rw (long-is, version-not h k)
+    unfolding too_short bad_version
+    told-version h k = rw (le-ltb (length bs) 5 long, ne_eqb (get_or bs 0 0) 1 h, ne_eqb (get_or bs 0 0) 2 k)
 
     -- that of an edition is not, and tells it
     pub version-is : {e : Edition} (d : Edition) → e ≡ d → get_or bs 0 0 ≡ version_of d → (bad_version bs ≡ false) × (e ≡ edition_of bs)
@@ -61,28 +39,20 @@ module _ (bs : List ℕ) where
     version-is Columns r h = (rw h, r ∙ rw h)
 
     module _ {e : Edition} (version : (bad_version bs ≡ false) × (e ≡ edition_of bs)) {n : ℕ} (count : n ≡ value_of (take 4 (drop 1 bs))) where
-      -- the count is of runs
-      due-is : n ≡ runs_due bs
-      unfolding runs_due
-      due-is = count
-
-      -- by the length that it tells
-      length-not : (length bs ≡ 5 + 16 * n → ⊥) → bad_length bs ≡ true
-      unfolding bad_length
-      length-not h = ap not (ne_eqb (length bs) (5 + 16 * runs_due bs) (λ q. h (q ∙ ap (λ k. 5 + 16 * k) (sym due-is))))
-
-      -- another one is refused
+      -- another length than its runs ask is refused
       pub told-length : (length bs ≡ 5 + 16 * n → ⊥) → refusal (shape_conditions bs) ≡ Some 3
-      told-length h = rw (long-is, version.0, length-not h)
+      unfolding too_short bad_length runs_due
+      told-length h = rw (le-ltb (length bs) 5 long, version.0, ← count, ne_eqb (length bs) (5 + 16 * n) h)
 
-      -- that one
-      length-is : length bs ≡ 5 + 16 * n → bad_length bs ≡ false
-      unfolding bad_length
-      length-is exact = ap not (eq-eqb (length bs) (5 + 16 * runs_due bs) (exact ∙ ap (λ k. 5 + 16 * k) due-is))
-
-      -- passes, as the last of the shape
+      -- that one passes, as the last of the shape
       pub told-shape : length bs ≡ 5 + 16 * n → Shaped bs e n
-      told-shape exact = record { free = rw (long-is, version.0, length-is exact); edition = version.1; due = due-is; long = exact }
+      unfolding too_short bad_length runs_due
+      told-shape exact = record {
+        free = rw (le-ltb (length bs) 5 long, version.0, ← count, eq-eqb (length bs) (5 + 16 * n) exact);
+        edition = version.1;
+        due = count;
+        long = exact;
+      }
 
   module _ {e : Edition} {n : ℕ} (sh : Shaped bs e n) where
     -- the runs as the code reads them

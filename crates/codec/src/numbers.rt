@@ -6,6 +6,7 @@ ghost use Rattle.model.specs.Bytes.{big_endian, value_of};
 ghost use Rattle.codec.specs.Placed.{placed, strewn, picked};
 
 // Writes a number below 2^32 as 4 bytes.
+#[tactic(auto, using(crate::proofs::Digits::count_placed))]
 pub fn put_count(out: &mut [u8], at: usize, n: u64)
     requires { at + 4 ≤ length out.old }
     ensures { out.new ≡ placed at (big_endian 4 n) out.old }
@@ -14,6 +15,7 @@ pub fn put_count(out: &mut [u8], at: usize, n: u64)
 }
 
 // The number that 4 bytes are.
+#[tactic(auto, using(crate::proofs::Digits::count_value))]
 pub fn get_count(bytes: &[u8], at: usize) -> u64
     requires { at + 4 ≤ length bytes.now }
     ensures { result ≡ value_of (take 4 (drop at bytes.now)) }
@@ -35,6 +37,7 @@ pub fn put_word(out: &mut [u8], at: usize, step: usize, n: u64)
 
 // The number that 8 bytes, `step` apart, are. Inlined, so that where the step is 1 it is one load.
 #[inline(always)]
+#[tactic(auto, using(crate::proofs::Apart::word_value))]
 pub fn get_word(bytes: &[u8], at: usize, step: usize) -> u64
     requires { at + 7 * step < length bytes.now }
     ensures { result ≡ value_of (picked 8 at step bytes.now) }

@@ -5,6 +5,7 @@ ghost use Rattle.model.specs.Bytes.{map_length, stray_bits};
 ghost use Rattle.codec.specs.Padding.{Clears};
 
 // How many padding bits are one. They are the last byte's from bit n % 8 on, and whole bytes have none.
+#[tactic(auto, using(crate::proofs::LastByte::stray_none, crate::proofs::LastByte::stray_last))]
 pub fn stray_bits(bytes: &[u8], n: u64) -> u64
     requires le_n { 1 ≤ n }
     requires bytes_len { length bytes.now ≡ map_length n }
@@ -19,6 +20,7 @@ pub fn stray_bits(bytes: &[u8], n: u64) -> u64
 }
 
 // Zeroes the padding bits, and returns how many were one. Only the last byte is written, and that only where one was.
+#[tactic(auto, using(crate::proofs::LastByte::stray_some, crate::proofs::LastByte::used_clears, crate::proofs::LastByte::clear_same))]
 pub fn clear(bytes: &mut [u8], n: u64) -> u64
     requires le_n { 1 ≤ n }
     requires bytes_len { length bytes.old ≡ map_length n }

@@ -10,6 +10,7 @@ use model::{Edition, Run};
 use run_lists::RunList;
 
 // Writes what stands before the runs: the version byte, and their number.
+#[tactic(auto, using(crate::proofs::Strewing::head_placed))]
 pub fn put_head(out: &mut [u8], edition: Edition, n: u64)
     requires { 5 ≤ length out.old }
     ensures { out.new ≡ placed 0 (head_of edition n) out.old }
@@ -20,6 +21,7 @@ pub fn put_head(out: &mut [u8], edition: Edition, n: u64)
 
 // Writes start and end of a run as 16 bytes that stand `step` apart.
 #[inline(always)]
+#[tactic(auto, using(crate::proofs::Strewing::both_strewn))]
 fn put_both(out: &mut [u8], at: usize, step: usize, r: Run)
     requires { at + 15 * step < length out.old }
     ensures { out.new ≡ strewn at step (big_endian 8 r.start ++ big_endian 8 r.«end») out.old }
@@ -30,6 +32,7 @@ fn put_both(out: &mut [u8], at: usize, step: usize, r: Run)
 
 // Writes run i of n in either edition.
 // By number: where run i of n goes depends on both, and in edition 2 its bytes lie all over the slice.
+#[tactic(auto, unfolding(crate::specs::Placed::put_run))]
 pub fn put_run(out: &mut [u8], edition: Edition, n: u64, i: u64, r: Run)
     requires { (5 + 16 * n ≤ length out.old) × (i < n) }
     ensures { out.new ≡ put_run edition n i r.start r.«end» out.old }

@@ -5,6 +5,7 @@ ghost use Rattle.model.specs.Bytes.{into_front};
 ghost use Rattle.deepest.specs.Ranks.{Put, Puttable, Listable};
 
 // How many runs the list for the height h has.
+#[tactic(auto, using(crate::proofs::Ranks::least_by, crate::proofs::Ranks::least_low, crate::proofs::Ranks::least_most))]
 pub fn least_runs(h: u64) -> u64
     requires { h ≤ 22 }
     ensures { result ≡ least h }
@@ -22,6 +23,7 @@ pub fn least_runs(h: u64) -> u64
 // Writes the middle ranks after d partings of the ranks of a tree of height h from k on, each as a run, from `at` on, and returns where the next one
 // goes. The two parts have a and b ranks.
 // `at` is handed on: a part of the slice instead would have to be split at each step, and the parts' lengths counted.
+#[tactic(auto, using(crate::proofs::Ranks::least_by, crate::proofs::Ranks::middles_one))]
 fn put_middles(out: &mut [u64], at: usize, d: u64, h: u64, k: u64, a: u64, b: u64) -> usize
     requires { Puttable out.old at d h k a b }
     ensures { Put (middles d h k) at result out.old out.new }
@@ -48,6 +50,7 @@ fn put_middles(out: &mut [u64], at: usize, d: u64, h: u64, k: u64, a: u64, b: u6
 
 // Writes the list for the height h, which has n runs, into the front of a slice that has room for it.
 // n was counted by the caller, who tests that the slice has room for it; else it would be counted twice.
+#[tactic(auto, using(crate::proofs::Ranks::least_by))]
 pub fn put_deepest(out: &mut [u64], h: u64, n: u64)
     requires { Listable out.old h n }
     ensures { out.new ≡ into_front (deepest_words h) out.old }

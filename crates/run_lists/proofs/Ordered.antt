@@ -1,19 +1,13 @@
 -- The order of a run list, tested from the first run on: the order of the whole is that of what is left, after the end of the run tested
 -- last. So one test more, of any reader, settles the whole or leaves one run less. Assumes nothing.
-use Prim.Native.Nat.{ℕ, suc, ◌+◌, ◌^◌, ◌≤◌, ◌<◌}
-use mathlib.Core.Path.{◌≡◌, refl, sym, ap, subst, ◌∙◌}
-use mathlib.Core.Bool.{Bool, true, false, not, ◌&&◌}
-use mathlib.Core.List.{List, [], ◌∷◌, ◌++◌}
-use native.Mathlib.Omega.{arith}
-use lib.Dec.{leb}
-use lib.ListN.{length, take, drop, get_or, drop_of_length-le}
-use lib.Seq.{drop-cons, take-suc, take_all}
-use Rattle.std.specs.Prelude.{Option, Some, None}
+use Rattle.std.proofs.Common.{ℕ, suc, ◌+◌, ◌*◌, ◌^◌, ◌≤◌, ◌<◌, ◌≡◌, refl, sym, ap, subst, ◌∙◌, Bool, true, false, not, ◌&&◌, List, [], ◌∷◌, ◌++◌, arith, leb, length, take}
+use Rattle.std.proofs.Common.{drop, get_or, drop_of_length-le, drop-cons, take-suc, take_all, Option, Some, None}
 use Rattle.model.specs.declared.Run.{Run}
-use Rattle.model.specs.Positions.{run, stretches, mem}
-use Rattle.model.specs.RunList.{AllWords}
+use Rattle.model.specs.Numbers.{size}
+use Rattle.model.specs.Positions.{Positions, run, stretches, held_runs, mem}
+use Rattle.model.specs.RunList.{AllWords, Canon}
 use Rattle.model.specs.Refusals.{ordered_from, disordered}
-use Rattle.model.proofs.Runs.{stretches-is}
+use Rattle.model.proofs.Runs.{stretches-is, held_runs-canon}
 use Rattle.model.proofs.Codec.{ordered-canon}
 use Rattle.run_lists.specs.Listed.{least_after}
 
@@ -72,3 +66,12 @@ module _ (rs : List Run) where
   pub disorder-is : {r : Bool} → r ≡ ordered_from 0 rs → (b : Bool) → not r ≡ b → disordered rs ≡ b
   unfolding disordered
   disorder-is tested b h = ap not (sym tested) ∙ h
+
+-- canonical runs have gaps between them, so they are few
+canon-few : (total k : ℕ) (rs : List Run) → Canon total k rs → k ≤ total + 1 → 2 * length rs + k ≤ total + 1
+canon-few total k [] c h = omega arith
+canon-few total k (r ∷ rs) c h = let i = canon-few total (r.«end» + 2) rs c.3 (omega (arith, c.2)) in omega (arith, c.0, c.1)
+
+pub stretches-few : (J : Positions) → stretches J < size
+unfolding stretches
+stretches-few J = let h = canon-few size 0 (held_runs J) (held_runs-canon J) (omega arith) in omega arith

@@ -1,10 +1,5 @@
 -- Runs as words: how many there are, and at which words each stands. Assumes nothing.
-use Prim.Native.Nat.{ℕ, zero, suc, ◌+◌, ◌*◌, ◌<◌}
-use mathlib.Core.Path.{◌≡◌, refl, ap, ◌∙◌}
-use mathlib.Core.List.{List}
-use native.Mathlib.Omega.{arith}
-use lib.ListN.{length, drop, get_or}
-use lib.Seq.{get_or-drop}
+use Rattle.std.proofs.Common.{ℕ, zero, suc, ◌+◌, ◌*◌, ◌<◌, ◌≡◌, refl, ap, ◌∙◌, List, arith, length, drop, get_or, get_or-drop}
 use Rattle.model.specs.declared.Run.{Run}
 use Rattle.model.specs.Positions.{run}
 use Rattle.run_lists.specs.Listed.{pairs}

@@ -17,7 +17,8 @@ use Rattle.model.specs.declared.Run.{Run}
 use Rattle.model.specs.declared.Logical.{Logical}
 use Rattle.model.specs.Positions.{Positions, held_runs, stretches}
 use Rattle.streams.specs.Reading.{Clear, RunFrom, Draws, positions_from}
-use Rattle.streams.proofs.Streamed.{draws-list, stretches-few}
+use Rattle.run_lists.proofs.Ordered.{stretches-few}
+use Rattle.streams.proofs.Streamed.{draws-list}
 
 -- ---- each run leaves fewer positions
 -- a reading that has J to read from x on stands there, if anything is left

@@ -4,7 +4,7 @@
 use Rattle.std.specs.Prelude.{None, Some}
 use Rattle.std.specs.Iterator.{AlwaysYields}
 use Rattle.std.proofs.lemmas.List.{append_cancel_left}
-use Prim.Native.Nat.{ℕ, suc, ◌+◌, ◌-◌, ◌*◌, ◌≤◌, ◌<◌}
+use Prim.Native.Nat.{ℕ, suc, ◌+◌, ◌-◌, ◌≤◌, ◌<◌}
 use mathlib.Core.Path.{◌≡◌, refl, sym, ap, subst, ◌∙◌}
 use mathlib.Core.Logic.{◌⊎◌, inl, inr}
 use mathlib.Core.Bool.{true, false}
@@ -14,9 +14,8 @@ use lib.ListN.{length, length-append}
 use Rattle.model.specs.declared.Run.{Run}
 use Rattle.model.specs.Numbers.{size}
 use Rattle.model.proofs.Numbers.{split}
-use Rattle.model.specs.Positions.{Positions, run, runs_in, held_runs, stretches}
-use Rattle.model.specs.RunList.{Canon}
-use Rattle.model.proofs.Runs.{runs_in-none, runs_in-join, runs_in-first, held_runs-canon}
+use Rattle.model.specs.Positions.{Positions, run, runs_in, held_runs}
+use Rattle.model.proofs.Runs.{runs_in-none, runs_in-join, runs_in-first}
 use Rattle.streams.specs.Reading.{Clear, RunFrom, Draws}
 
 -- rs are the runs of J below x, and none of them goes on at x
@@ -75,15 +74,6 @@ module _ {x : ℕ} {J : Positions} {rs : List Run} (p : Passed x J rs) where
     pub passed-next : held_runs J ≡ rs ++ (run a b ∷ runs_in J true (suc b) (size - suc b))
     unfolding held_runs
     passed-next = found size r.small (omega arith)
-
--- canonical runs have gaps between them, so they are few
-canon-few : (total k : ℕ) (rs : List Run) → Canon total k rs → k ≤ total + 1 → 2 * length rs + k ≤ total + 1
-canon-few total k [] c h = omega arith
-canon-few total k (r ∷ rs) c h = let i = canon-few total (r.«end» + 2) rs c.3 (omega (arith, c.2)) in omega (arith, c.0, c.1)
-
-pub stretches-few : (J : Positions) → stretches J < size
-unfolding stretches
-stretches-few J = let h = canon-few size 0 (held_runs J) (held_runs-canon J) (omega arith) in omega arith
 
 -- a reading that stands behind the runs rs of J
 pub record Streaming {A : Type 0} (Has : A → ℕ → Positions → Type 0) (r : A) (J : Positions) (rs : List Run) : Type 0 where

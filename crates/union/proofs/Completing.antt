@@ -1,7 +1,7 @@
 -- Groups of the front of a list of places, carried on to its end: there is a list of the places that are left, and no group is lost by joining
 -- them. So there are never more groups than runs of what the list holds. Assumes nothing.
-use Rattle.std.proofs.Common.{◌≡◌, ℕ, zero, suc, ◌+◌, ◌*◌, ◌<◌, ◌≤◌, ◌⊎◌, List, [], ◌∷◌, ◌++◌, length, sym, refl, ap, subst, inl, inr, append_assoc}
-use Rattle.std.proofs.Common.{append-nil, le_refl, le-add_right, le-add_left, arith, length-append}
+use Rattle.std.proofs.Common.{◌≡◌, ℕ, zero, suc, ◌+◌, ◌*◌, ◌<◌, ◌≤◌, ◌⊎◌, List, [], ◌∷◌, ◌++◌, length, sym, refl, ap, subst, inl, inr, append_assoc, append-nil, le_refl, le-add_right}
+use Rattle.std.proofs.Common.{le-add_left, arith, length-append}
 use Rattle.model.specs.declared.Run.{Run}
 use Rattle.model.specs.Numbers.{size}
 use Rattle.model.specs.Positions.{stretches, mem}

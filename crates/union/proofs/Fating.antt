@@ -1,11 +1,12 @@
 -- What became of each entry: where the groups are those of all that count, an entry is kept exactly if a group is of it alone. So a report that
 -- is marked group by group is the list of fates. A list that is in order keeps every entry. Assumes nothing.
-use Rattle.std.proofs.Common.{◌≡◌, ℕ, zero, suc, ◌+◌, ◌<◌, ◌≤◌, Bool, true, false, cond, not, ◌&&◌, ◌||◌, eqb, ltb, leb, ◌⊎◌, List, [], ◌∷◌, ◌++◌, length}
-use Rattle.std.proofs.Common.{get_or, take, drop, set, replicate, sym, refl, ap, ◌∙◌, subst, ap₂, inl, inr, true≢false, zero-add, arith, length-set, take-append-drop, length-take}
-use Rattle.std.proofs.Common.{get_or-set_other, get_or-take, get_or-set_same, ext_get_or, le-ltb, lt-ltb, eq-eqb, ne_eqb, eqb-true, le-leb}
-use mathlib.Core.Bool.{or_assoc, or-true, or-false, false≢true}
+use Rattle.std.proofs.Common.{◌≡◌, ℕ, zero, suc, ◌+◌, ◌<◌, ◌≤◌, Bool, true, false, cond, not, ◌&&◌, ◌||◌, eqb, ltb, leb, List, [], ◌∷◌, ◌++◌, length, get_or, take, drop, set}
+use Rattle.std.proofs.Common.{replicate, sym, refl, ap, ◌∙◌, subst, ap₂, inl, inr, true≢false, zero-add, arith, length-set, take-append-drop, length-take, get_or-take, ext_get_or, le-ltb, eq-eqb, eqb-true}
+use mathlib.Core.Bool.{false≢true}
 use lib.ListN.{length-replicate, get_or-replicate}
-use borrow.Author.Tests.{eqb-false, lt-leb}
+use borrow.Author.Tests.{eqb-false}
+use Rattle.std.proofs.lemmas.Bool.Decides.{nat_tests}
+use Rattle.std.proofs.lemmas.Grind.{common_steps}
 use Rattle.model.specs.declared.Run.{Run}
 use Rattle.model.specs.Numbers.{size}
 use Rattle.model.specs.Positions.{Positions, run, inside, runs_in, held_runs, run_with, run_at, mem}
@@ -13,15 +14,13 @@ use Rattle.model.specs.RunList.{Canon, AllWords}
 use Rattle.model.specs.Refusals.{ordered_from}
 use Rattle.model.specs.Bytes.{into_front}
 use Rattle.model.specs.Mending.{another, fate, fates_from}
-use Rattle.model.proofs.Numbers.{split}
-use Rattle.model.proofs.Counting.{Place, below, within, above, place, inside-yes, inside-above}
 use Rattle.model.proofs.Runs.{held_runs-mem}
 use Rattle.model.proofs.Codec.{ordered-canon}
 use Rattle.union.specs.declared.Group.{Group}
 use Rattle.union.specs.Entries.{entry, Counts}
 use Rattle.union.specs.Groups.{runs_of, OneOf, kept, mark, Marked}
 use Rattle.union.proofs.Entries.{entry-holds}
-use Rattle.union.proofs.Grouping.{Starts, Two, Whole, whole-held}
+use Rattle.union.proofs.Grouping.{Starts, Two, Whole, one-run, whole-held}
 
 -- ---- the run around a position
 -- a held position has that of the held runs which has it
@@ -29,39 +28,25 @@ run_at-held : (P : Positions) (x : ℕ) → P x ≡ true → run_at P x ≡ run_
 unfolding run_at held_runs
 run_at-held P x e = ap (λ v. run_with x (runs_in P v 0 size)) e
 
--- a run of canonical ones starts at their bound or after it
-canon-start : (t k : ℕ) (rs : List Run) (p : ℕ) → Canon t k rs → p < length rs → k ≤ (entry rs p).start
-canon-start t k [] p c h = absurd (omega arith)
-canon-start t k (r ∷ rs) zero c h = c.0
-canon-start t k (r ∷ rs) (suc p) c h = omega (arith, c.0, c.1, canon-start t (r.«end» + 2) rs p c.3 (omega arith))
+-- a run of canonical ones starts at their bound or after it, and does not end before its start
+canon-at : (t k : ℕ) (rs : List Run) (p : ℕ) → Canon t k rs → p < length rs → (k ≤ (entry rs p).start) × ((entry rs p).start ≤ (entry rs p).«end»)
+canon-at t k [] p c h = absurd (omega arith)
+canon-at t k (r ∷ rs) zero c h = (c.0, c.1)
+canon-at t k (r ∷ rs) (suc p) c h = let i = canon-at t (r.«end» + 2) rs p c.3 (omega arith) in (omega (arith, c.0, c.1, i.0), i.1)
 
 -- later ones start behind the ends of earlier ones
 canon-apart : (t k : ℕ) (rs : List Run) (p q : ℕ) → Canon t k rs → p < q → q < length rs → (entry rs p).«end» < (entry rs q).start
 canon-apart t k [] p q c h l = absurd (omega arith)
 canon-apart t k (r ∷ rs) p zero c h l = absurd (omega arith)
-canon-apart t k (r ∷ rs) zero (suc q) c h l = omega (arith, canon-start t (r.«end» + 2) rs q c.3 (omega arith))
+canon-apart t k (r ∷ rs) zero (suc q) c h l = let i = canon-at t (r.«end» + 2) rs q c.3 (omega arith) in omega (arith, i.0)
 canon-apart t k (r ∷ rs) (suc p) (suc q) c h l = canon-apart t (r.«end» + 2) rs p q c.3 (omega arith) (omega arith)
-
--- none ends before its start
-canon-ordered-at : (t k : ℕ) (rs : List Run) (p : ℕ) → Canon t k rs → p < length rs → (entry rs p).start ≤ (entry rs p).«end»
-canon-ordered-at t k [] p c h = absurd (omega arith)
-canon-ordered-at t k (r ∷ rs) zero c h = c.1
-canon-ordered-at t k (r ∷ rs) (suc p) c h = canon-ordered-at t (r.«end» + 2) rs p c.3 (omega arith)
 
 -- the one that has x is found
 run_with-is : (t k : ℕ) (rs : List Run) (p x : ℕ) → Canon t k rs → p < length rs → (entry rs p).start ≤ x → x ≤ (entry rs p).«end» → run_with x rs ≡ entry rs p
 run_with-is t k [] p x c h l m = absurd (omega arith)
-run_with-is t k (r ∷ rs) zero x c h l m = ap (λ b. cond b r (run_with x rs)) (inside-yes r.start r.«end» x l m)
+run_with-is t k (r ∷ rs) zero x c h l m = grind (arith, nat_tests)
 run_with-is t k (r ∷ rs) (suc p) x c h l m =
-    ap (λ b. cond b r (run_with x rs))
-    (inside-above r.start r.«end» x (omega (arith, canon-start t (r.«end» + 2) rs p c.3 (omega arith))))
-    ∙ run_with-is t (r.«end» + 2) rs p x c.3 (omega arith) l m
-
--- each group has a place among the runs
-one-run : (gs : List Group) (h : Group) → OneOf h gs → (p : ℕ) × (p < length (runs_of gs)) × (entry (runs_of gs) p ≡ run h.start h.«end»)
-one-run [] h m = elim m [ ]
-one-run (g ∷ gs) h (inl e) = (0, omega arith, ap (λ (f : Group). run f.start f.«end») (sym e))
-one-run (g ∷ gs) h (inr m) = let t = one-run gs h m in (suc t.0, omega (arith, t.1), t.2)
+    let i = canon-at t (r.«end» + 2) rs p c.3 (omega arith) in grind (arith, nat_tests, run_with-is t (r.«end» + 2) rs p x c.3)
 
 -- the run around a position of a group is that of the group
 pub whole_run : (es : List Run) (ps : List ℕ) (gs : List Group) (h : Group) (x : ℕ) → Whole es ps gs → OneOf h gs → h.start ≤ x → x ≤ h.«end» → mem es x ≡ true
@@ -83,25 +68,20 @@ record Other (q : Run) (p k : ℕ) (rs : List Run) (j : ℕ) : Type 0 where
 -- one such entry is enough
 another-some : (q : Run) (p k : ℕ) (rs : List Run) (j : ℕ) → Other q p k rs j → another q p k rs ≡ true
 unfolding another
-another-some q p k [] j o = absurd (omega (arith, o.counts.within))
-another-some q p k (r ∷ rs) zero o =
-    rw (ne_eqb k p (λ e. o.differs (omega arith)), le-leb r.start r.«end» o.counts.ordered, inside-yes q.start q.«end» r.start o.from o.to)
-another-some q p k (r ∷ rs) (suc j) o =
-    ap (λ b. (not (eqb k p) && (leb r.start r.«end» && inside q.start q.«end» r.start)) || b)
-    (another-some q p (suc k) rs j (record {
-      counts = record { within = omega (arith, o.counts.within); ordered = o.counts.ordered };
-      differs = λ e. o.differs (omega arith);
-      from = o.from;
-      to = o.to;
-    }))
-    ∙ or-true (not (eqb k p) && (leb r.start r.«end» && inside q.start q.«end» r.start))
+another-some q p k rs j o = go k rs j o.counts.within o.counts.ordered o.differs o.from o.to
+  where
+    go : (k : ℕ) (rs : List Run) (j : ℕ) → j < length rs → (entry rs j).start ≤ (entry rs j).«end» → (k + j ≡ p → ⊥) → q.start ≤ (entry rs j).start → (entry rs j).start ≤ q.«end»
+        → another q p k rs ≡ true
+    go k [] j w o d f t = absurd (omega arith)
+    go k (r ∷ rs) zero w o d f t = grind (arith, nat_tests)
+    go k (r ∷ rs) (suc j) w o d f t = grind (arith, go (suc k) rs j)
 
 -- without one there is no other
 another-none : (q : Run) (p k : ℕ) (rs : List Run) → ((j : ℕ) → Other q p k rs j → ⊥) → another q p k rs ≡ false
 unfolding another
 another-none q p k [] f = refl
 another-none q p k (r ∷ rs) f =
-    ap₂ ◌||◌ (go (eqb k p) refl (split r.«end» r.start) (place q.start q.«end» r.start))
+    go (λ o d a b. f 0 (record { counts = record { within = omega arith; ordered = o }; differs = λ e. d (omega arith); from = a; to = b }))
     (another-none q p (suc k) rs (λ j o. f (suc j) (record {
       counts = record { within = omega (arith, o.counts.within); ordered = o.counts.ordered };
       differs = λ e. o.differs (omega arith);
@@ -109,22 +89,16 @@ another-none q p k (r ∷ rs) f =
       to = o.to;
     })))
   where
-    go : (b : Bool) → eqb k p ≡ b → (r.«end» < r.start) ⊎ (r.start ≤ r.«end») → Place q.start q.«end» r.start
-        → (not (eqb k p) && (leb r.start r.«end» && inside q.start q.«end» r.start)) ≡ false
-    go true e s i = rw e
-    go false e (inl s) i = rw (e, lt-leb r.start r.«end» s)
-    go false e (inr s) (below a i) = rw (e, le-leb r.start r.«end» s, i)
-    go false e (inr s) (above a i) = rw (e, le-leb r.start r.«end» s, i)
-    go false e (inr s) (within a b i) =
-        absurd (f 0 (record { counts = record { within = omega arith; ordered = s }; differs = λ d. eqb-false k p e (omega arith); from = a; to = b }))
+    go : (r.start ≤ r.«end» → (k ≡ p → ⊥) → q.start ≤ r.start → r.start ≤ q.«end» → ⊥) → another q p (suc k) rs ≡ false
+        → ((not (eqb k p) && (leb r.start r.«end» && inside q.start q.«end» r.start)) || another q p (suc k) rs) ≡ false
+    go first later = grind (arith, nat_tests, first)
 
 -- ---- entries alone in a group
 -- one more group
 pub kept_more : (p : ℕ) (gs : List Group) (g : Group) → kept p (gs ++ g ∷ []) ≡ (kept p gs || (g.sole && eqb g.place p))
 unfolding kept
-kept_more p [] g = or-false (g.sole && eqb g.place p)
-kept_more p (f ∷ gs) g =
-    ap (λ b. (f.sole && eqb f.place p) || b) (kept_more p gs g) ∙ sym (or_assoc (f.sole && eqb f.place p) (kept p gs) (g.sole && eqb g.place p))
+kept_more p [] g = grind arith
+kept_more p (f ∷ gs) g = grind (arith, kept_more p gs g)
 
 -- a sole group keeps its place
 pub kept-one : (p : ℕ) (gs : List Group) (h : Group) → OneOf h gs → h.sole ≡ true → h.place ≡ p → kept p gs ≡ true
@@ -132,7 +106,7 @@ unfolding kept
 kept-one p [] h m s q = elim m [ ]
 kept-one p (g ∷ gs) h (inl e) s q =
     rw (sym (ap (λ (f : Group). f.sole) e) ∙ s, eq-eqb g.place p (sym (ap (λ (f : Group). f.place) e) ∙ q))
-kept-one p (g ∷ gs) h (inr m) s q = ap (λ b. (g.sole && eqb g.place p) || b) (kept-one p gs h m s q) ∙ or-true (g.sole && eqb g.place p)
+kept-one p (g ∷ gs) h (inr m) s q = grind (arith, kept-one p gs h m s q)
 
 -- what is kept has a sole group
 pub kept_of : (p : ℕ) (gs : List Group) → kept p gs ≡ true → (h : Group) × OneOf h gs × (h.sole ≡ true) × (h.place ≡ p)
@@ -194,15 +168,15 @@ fate-joined es ps gs p t c e =
 -- is its mark, where the groups are those of all that count
 pub fate-is : (es : List Run) (ps : List ℕ) (gs : List Group) (p : ℕ) → Whole es ps gs → p < length es → fate es p (entry es p) ≡ mark es gs p
 unfolding fate mark
-fate-is es ps gs p t h = go (split (entry es p).«end» (entry es p).start) (kept p gs) refl
+fate-is es ps gs p t h =
+    go (λ o e. fate-kept es ps gs p t (record { within = h; ordered = o }) e) (λ o e. fate-joined es ps gs p t (record { within = h; ordered = o }) e)
   where
-    go : ((entry es p).«end» < (entry es p).start) ⊎ ((entry es p).start ≤ (entry es p).«end») → (b : Bool) → kept p gs ≡ b
+    alone : Bool
+    alone = another (run_at (mem es) (entry es p).start) p 0 es
+
+    go : ((entry es p).start ≤ (entry es p).«end» → kept p gs ≡ true → alone ≡ false) → ((entry es p).start ≤ (entry es p).«end» → kept p gs ≡ false → alone ≡ true)
         → fate es p (entry es p) ≡ mark es gs p
-    go (inl l) b e = rw (lt-ltb (entry es p).«end» (entry es p).start l)
-    go (inr l) true e =
-        rw (le-ltb (entry es p).«end» (entry es p).start l, fate-kept es ps gs p t (record { within = h; ordered = l }) e, e)
-    go (inr l) false e =
-        rw (le-ltb (entry es p).«end» (entry es p).start l, fate-joined es ps gs p t (record { within = h; ordered = l }) e, e)
+    go f g = grind (arith, nat_tests, f, g)
 
 -- the list of fates has as many elements as there are entries
 pub fates-length : (es : List Run) (k : ℕ) (rs : List Run) → length (fates_from es k rs) ≡ length rs
@@ -214,8 +188,8 @@ fates-length es k (r ∷ rs) = ap suc (fates-length es (suc k) rs)
 pub fates-at : (es : List Run) (k : ℕ) (rs : List Run) (j : ℕ) → j < length rs → get_or (fates_from es k rs) j 0 ≡ fate es (k + j) (entry rs j)
 unfolding fates_from
 fates-at es k [] j h = absurd (omega arith)
-fates-at es k (r ∷ rs) zero h = ap (λ p. fate es p r) (omega arith)
-fates-at es k (r ∷ rs) (suc j) h = fates-at es (suc k) rs j (omega arith) ∙ ap (λ p. fate es p (entry rs j)) (omega arith)
+fates-at es k (r ∷ rs) zero h = grind arith
+fates-at es k (r ∷ rs) (suc j) h = grind (arith, fates-at es (suc k) rs j)
 
 -- a list with the fate of each entry is that list
 fates-are : (es : List Run) (rep : List ℕ) → length rep ≡ length es → ((p : ℕ) → p < length es → get_or rep p 0 ≡ fate es p (entry es p))
@@ -236,32 +210,20 @@ pub marked-sole : (es : List Run) (gs : List Group) (g : Group) (rep : List ℕ)
 unfolding mark
 marked-sole es gs g rep m s c = record {
   room = omega (arith, m.room, length-set rep g.place 2);
-  marks = λ p h. go p h (eqb g.place p) refl;
+  marks = λ p h. go p (omega (arith, m.room)) (m.marks p h) c.ordered;
 }
   where
-    go : (p : ℕ) → p < length es → (b : Bool) → eqb g.place p ≡ b
-        → get_or (set rep g.place 2) p 0 ≡ cond (ltb (entry es p).«end» (entry es p).start) 0 (cond (kept p (gs ++ g ∷ [])) 2 1)
-    go p h true e =
-        let q = eqb-true g.place p e in
-        let o : (entry es p).start ≤ (entry es p).«end» = subst (λ k. (entry es k).start ≤ (entry es k).«end») q c.ordered in
-        let k : kept p (gs ++ g ∷ []) ≡ true = kept_more p gs g ∙ ap₂ (λ a b. kept p gs || (a && b)) s e ∙ or-true (kept p gs) in
-        ap (λ j. get_or (set rep j 2) p 0) q ∙ get_or-set_same rep p 2 0 (omega (arith, m.room))
-        ∙ sym (ap₂ (λ a b. cond a 0 (cond b 2 1)) (le-ltb (entry es p).«end» (entry es p).start o) k)
-    go p h false e =
-        let k : kept p (gs ++ g ∷ []) ≡ kept p gs = kept_more p gs g ∙ ap₂ (λ a b. kept p gs || (a && b)) s e ∙ or-false (kept p gs) in
-        get_or-set_other rep g.place p 2 0 (λ d. eqb-false g.place p e (sym d)) ∙ m.marks p h
-        ∙ ap (λ b. cond (ltb (entry es p).«end» (entry es p).start) 0 (cond b 2 1)) (sym k)
+    go : (p : ℕ) → p < length rep → get_or rep p 0 ≡ mark es gs p → (entry es g.place).start ≤ (entry es g.place).«end»
+        → get_or (set rep g.place 2) p 0 ≡ mark es (gs ++ g ∷ []) p
+    go p h n o = grind (arith, nat_tests, common_steps, kept_more p gs g)
 
 -- any other group marks none
 pub marked-joined : (es : List Run) (gs : List Group) (g : Group) (rep : List ℕ) → Marked es gs rep → g.sole ≡ false → Marked es (gs ++ g ∷ []) rep
 unfolding mark
-marked-joined es gs g rep m s = record {
-  room = m.room;
-  marks = λ p h.
-      m.marks p h
-      ∙ ap (λ b. cond (ltb (entry es p).«end» (entry es p).start) 0 (cond b 2 1))
-      (sym (kept_more p gs g ∙ ap (λ a. kept p gs || (a && eqb g.place p)) s ∙ or-false (kept p gs)));
-}
+marked-joined es gs g rep m s = record { room = m.room; marks = λ p h. go p (m.marks p h) }
+  where
+    go : (p : ℕ) → get_or rep p 0 ≡ mark es gs p → get_or rep p 0 ≡ mark es (gs ++ g ∷ []) p
+    go p n = grind (arith, kept_more p gs g)
 
 -- at the end its front is the list of fates
 pub marked-fates : (es : List Run) (ps : List ℕ) (gs : List Group) (rep : List ℕ) → Whole es ps gs → Marked es gs rep → take (length es) rep ≡ fates_from es 0 es
@@ -292,17 +254,15 @@ ordered-fates es w o =
     canonical = ordered-canon 0 es w o
 
     none : (p : ℕ) → p < length es → (j : ℕ) → Other (entry es p) p 0 es j → ⊥
-    none p h j i = go (split j p) (split p j)
-      where
-        go : (j < p) ⊎ (p ≤ j) → (p < j) ⊎ (j ≤ p) → ⊥
-        go (inl a) b = omega (arith, canon-apart size 0 es j p canonical a h, i.counts.ordered, i.from)
-        go (inr a) (inl b) = omega (arith, canon-apart size 0 es p j canonical b i.counts.within, i.to)
-        go (inr a) (inr b) = i.differs (omega arith)
+    none p h j i =
+        let a = canon-apart size 0 es j p canonical in
+        let b = canon-apart size 0 es p j canonical in
+        grind (arith, a, b, i.differs, i.counts.ordered, i.counts.within, i.from, i.to)
 
     kept-all : (p : ℕ) → p < length es → fate es p (entry es p) ≡ 2
     kept-all p h =
         let x = (entry es p).start in
-        let l = canon-ordered-at size 0 es p canonical h in
+        let l = (canon-at size 0 es p canonical h).1 in
         let r : run_at (mem es) x ≡ entry es p =
         run_at-held (mem es) x (entry-holds es p x h (omega arith) l) ∙ ap (run_with x) (ordered-held es w o) ∙ run_with-is size 0 es p x canonical h (omega arith) l in
         rw (le-ltb (entry es p).«end» x l, r, another-none (entry es p) p 0 es (none p h))

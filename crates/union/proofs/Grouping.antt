@@ -1,24 +1,18 @@
 -- Entries joined to groups in rising order: the runs of the groups are canonical, each group holds what its entries hold and no more, and each
 -- entry lies in one of them. At the end they are the runs of all that the list holds. Assumes nothing.
-use Rattle.std.proofs.Common.{◌≡◌, ℕ, suc, ◌+◌, ◌*◌, ◌<◌, ◌≤◌, min, max, Bool, true, false, ◌||◌, ◌⊎◌, List, [], ◌∷◌, ◌++◌, length, sym, refl, ap}
-use Rattle.std.proofs.Common.{◌∙◌, subst, inl, inr, true≢false, arith, length-append}
-use mathlib.Core.Bool.{or-true, false≢true}
+use Rattle.std.proofs.Common.{◌≡◌, ℕ, zero, suc, ◌+◌, ◌*◌, ◌<◌, ◌≤◌, min, max, Bool, true, false, ◌⊎◌, List, [], ◌∷◌, ◌++◌, length, sym, refl, ap, ◌∙◌, subst, inl, inr}
+use Rattle.std.proofs.Common.{true≢false, arith}
+use mathlib.Core.Bool.{false≢true}
 use Rattle.model.specs.declared.Run.{Run}
 use Rattle.model.specs.Numbers.{size}
-use Rattle.model.specs.Positions.{run, inside, held_runs, stretches, mem}
+use Rattle.model.specs.Positions.{run, held_runs, stretches, mem}
 use Rattle.model.specs.RunList.{Canon, AllWords}
 use Rattle.model.proofs.Numbers.{split}
-use Rattle.model.proofs.Counting.{Place, below, within, above, place}
-use Rattle.model.proofs.RunList.{mem-in}
 use Rattle.model.proofs.Runs.{held_runs-is, stretches-is}
 use Rattle.union.specs.declared.Group.{Group}
 use Rattle.union.specs.Entries.{entry, Counts, key, Rising, In, Lists}
 use Rattle.union.specs.Groups.{runs_of, OneOf, alone, joining, Grouped, none, first, begins, joins}
 use Rattle.union.proofs.Entries.{entry-words, key-start, in-none, in_head, in_one, in_left, in_both, in-last, rising-front, rising-apart, entry-holds, entry_of, lists-whole}
-
--- the greater of two numbers is below what both are below
-below_both : (t a b : ℕ) → a < t → b < t → max a b < t
-below_both t a b h k = omega arith
 
 -- ---- one of the groups
 -- it stays one when others are put behind them
@@ -72,10 +66,10 @@ canon-below t k (g ∷ gs) h c (inl e) = subst (λ (f : Group). f.«end» < t) (
 canon-below t k (g ∷ gs) h c (inr m) = canon-below t (g.«end» + 2) gs h c.3 m
 
 -- one more behind them
-canon-begins : (t k : ℕ) (gs : List Group) (g h : Group) → Canon t k (runs_of (gs ++ g ∷ [])) → g.«end» + 1 < h.start → h.start ≤ h.«end» → h.«end» < t
-    → Canon t k (runs_of ((gs ++ g ∷ []) ++ h ∷ []))
-canon-begins t k [] g h c l m n = (c.0, c.1, c.2, (omega arith, m, n, tt))
-canon-begins t k (f ∷ gs) g h c l m n = (c.0, c.1, c.2, canon-begins t (f.«end» + 2) gs g h c.3 l m n)
+canon-begins : (t k : ℕ) (gs : List Group) (h : Group) → Canon t k (runs_of gs) → ((f : Group) → OneOf f gs → f.«end» + 1 < h.start) → k ≤ h.start → h.start ≤ h.«end» → h.«end» < t
+    → Canon t k (runs_of (gs ++ h ∷ []))
+canon-begins t k [] h c l b m n = (b, m, n, tt)
+canon-begins t k (f ∷ gs) h c l b m n = (c.0, c.1, c.2, canon-begins t (f.«end» + 2) gs h c.3 (λ g i. l g (inr i)) (omega (arith, l f (inl refl))) m n)
 
 -- the last one ends later
 canon-joins : (t k : ℕ) (gs : List Group) (g h : Group) → Canon t k (runs_of (gs ++ g ∷ [])) → g.start ≡ h.start → g.«end» ≤ h.«end» → h.«end» < t
@@ -173,56 +167,37 @@ fits-alone es ps p c before = record {
     go q s (inl m) = absurd (omega (arith, before q m, s.from))
     go q s (inr m) = in_one q p m
 
--- an entry lies in the group of its own
-lies-alone : (es : List Run) (gs : List Group) (p : ℕ) → Counts es p → Lies es (gs ++ alone es p ∷ []) p
-lies-alone es gs p c = record { counts = c; group = alone es p; one = one_last (alone es p) gs; starts = omega arith; ends = omega arith }
-
 -- no place has no group
 right-none : (es : List Run) → Right es [] []
 right-none es = record { canon = tt; fits = λ h m. absurd m; lies = λ q m. absurd (in-none q m) }
 
--- one place has one group
-right-first : (es : List Run) (p : ℕ) → AllWords es → Counts es p → Right es (p ∷ []) (alone es p ∷ [])
-right-first es p w c = record {
-  canon = (omega arith, c.ordered, (entry-words es p w).1, tt);
-  fits = λ h m. go h (one-either h [] (alone es p) m);
-  lies = λ q m. subst (Lies es (alone es p ∷ [])) (sym (in_one q p m)) (lies-alone es [] p c);
-}
-  where
-    go : (h : Group) → ⊥ ⊎ (h ≡ alone es p) → Fits es (p ∷ []) h
-    go h (inl m) = absurd m
-    go h (inr e) = subst (Fits es (p ∷ [])) (sym e) (fits-alone es [] p c (λ q m. absurd (in-none q m)))
-
--- an entry that starts after the position after the last group begins one
-right-begins : (es : List Run) (ps : List ℕ) (gs : List Group) (g : Group) (p : ℕ) → AllWords es → Next es ps p → Right es ps (gs ++ g ∷ [])
-    → g.«end» + 1 < (entry es p).start → Right es (ps ++ p ∷ []) ((gs ++ g ∷ []) ++ alone es p ∷ [])
-right-begins es ps gs g p w n r l = record {
-  canon = canon-begins size 0 gs g (alone es p) r.canon l n.counts.ordered (entry-words es p w).1;
-  fits = λ h m. fits h (one-either h (gs ++ g ∷ []) (alone es p) m);
+-- an entry that starts after the position after each group begins one
+right-begins : (es : List Run) (ps : List ℕ) (gs : List Group) (p : ℕ) → AllWords es → Counts es p → Right es ps gs
+    → ((h : Group) → OneOf h gs → h.«end» + 1 < (entry es p).start) → Right es (ps ++ p ∷ []) (gs ++ alone es p ∷ [])
+right-begins es ps gs p w c r ended = record {
+  canon = canon-begins size 0 gs (alone es p) r.canon ended (omega arith) c.ordered (entry-words es p w).1;
+  fits = λ h m. fits h (one-either h gs (alone es p) m);
   lies = λ q m. lies q (in_both q ps (p ∷ []) m);
 }
   where
-    ended : (h : Group) → OneOf h (gs ++ g ∷ []) → h.«end» < (entry es p).start
-    ended h m = omega (arith, canon-most size 0 gs g h r.canon m)
-
     before : (q : ℕ) → In q ps → (entry es q).start < (entry es p).start
     before q m = let y = r.lies q m in omega (arith, y.ends, ended y.group y.one, y.counts.ordered)
 
-    fits : (h : Group) → OneOf h (gs ++ g ∷ []) ⊎ (h ≡ alone es p) → Fits es (ps ++ p ∷ []) h
-    fits h (inl m) = fits_more es ps h p (r.fits h m) (ended h m)
-    fits h (inr e) = subst (Fits es (ps ++ p ∷ [])) (sym e) (fits-alone es ps p n.counts before)
+    fits : (h : Group) → OneOf h gs ⊎ (h ≡ alone es p) → Fits es (ps ++ p ∷ []) h
+    fits h (inl m) = fits_more es ps h p (r.fits h m) (omega (arith, ended h m))
+    fits h (inr e) = subst (Fits es (ps ++ p ∷ [])) (sym e) (fits-alone es ps p c before)
 
-    lies : (q : ℕ) → In q ps ⊎ In q (p ∷ []) → Lies es ((gs ++ g ∷ []) ++ alone es p ∷ []) q
+    lies : (q : ℕ) → In q ps ⊎ In q (p ∷ []) → Lies es (gs ++ alone es p ∷ []) q
     lies q (inl m) =
         let y = r.lies q m in
-        record { counts = y.counts; group = y.group; one = one_left y.group (gs ++ g ∷ []) (alone es p ∷ []) y.one; starts = y.starts; ends = y.ends }
-    lies q (inr m) = subst (Lies es ((gs ++ g ∷ []) ++ alone es p ∷ [])) (sym (in_one q p m)) (lies-alone es (gs ++ g ∷ []) p n.counts)
+        record { counts = y.counts; group = y.group; one = one_left y.group gs (alone es p ∷ []) y.one; starts = y.starts; ends = y.ends }
+    lies q (inr m) = subst (Lies es (gs ++ alone es p ∷ [])) (sym (in_one q p m)) (record { counts = c; group = alone es p; one = one_last (alone es p) gs; starts = omega arith; ends = omega arith })
 
 -- an entry that overlaps the last group or touches it joins it
 right-joins : (es : List Run) (ps : List ℕ) (gs : List Group) (g : Group) (p : ℕ) → AllWords es → Next es ps p → Right es ps (gs ++ g ∷ [])
     → (entry es p).start ≤ g.«end» + 1 → Right es (ps ++ p ∷ []) (gs ++ joining es g p ∷ [])
 right-joins es ps gs g p w n r l = record {
-  canon = canon-joins size 0 gs g (joining es g p) r.canon refl (omega arith) (below_both size g.«end» (entry es p).«end» last (entry-words es p w).1);
+  canon = canon-joins size 0 gs g (joining es g p) r.canon refl (omega arith) (let e = entry-words es p w in omega (arith, last, e.1));
   fits = λ h m. fits h (one-either h gs (joining es g p) m);
   lies = λ q m. lies q (in_both q ps (p ∷ []) m);
 }
@@ -317,10 +292,10 @@ next-rising es b ps p h r c = record {
 pub grouped-right : (es : List Run) (ps : List ℕ) (gs : List Group) → AllWords es → length es < size → Rising es 0 ps → ((q : ℕ) → In q ps → Counts es q)
     → Grouped es ps gs → Right es ps gs
 grouped-right es ps gs w h r c none = right-none es
-grouped-right es ps gs w h r c (first p) = right-first es p w (c p (in_head p []))
+grouped-right es ps gs w h r c (first p) = right-begins es [] [] p w (c p (in_head p [])) (right-none es) (λ g m. absurd m)
 grouped-right es ps gs w h r c (begins qs fs g p d l) =
-    right-begins es qs fs g p w (next-rising es 0 qs p h r (c p (in-last p qs)))
-    (grouped-right es qs (fs ++ g ∷ []) w h (rising-front es 0 qs (p ∷ []) r) (λ q m. c q (in_left q qs (p ∷ []) m)) d) l
+    let old = grouped-right es qs (fs ++ g ∷ []) w h (rising-front es 0 qs (p ∷ []) r) (λ q m. c q (in_left q qs (p ∷ []) m)) d in
+    right-begins es qs (fs ++ g ∷ []) p w (c p (in-last p qs)) old (λ f m. omega (arith, canon-most size 0 fs g f old.canon m))
 grouped-right es ps gs w h r c (joins qs fs g p d l) =
     right-joins es qs fs g p w (next-rising es 0 qs p h r (c p (in-last p qs)))
     (grouped-right es qs (fs ++ g ∷ []) w h (rising-front es 0 qs (p ∷ []) r) (λ q m. c q (in_left q qs (p ∷ []) m)) d) l
@@ -339,51 +314,36 @@ front-right es u ps qs gs w h s d = grouped-right es ps gs w h (rising-front es 
 pub group-counts : (es : List Run) (ps : List ℕ) (gs : List Group) (h : Group) → Right es ps gs → OneOf h gs → Counts es h.place
 group-counts es ps gs h r m = (r.lies h.place (r.fits h m).placed.listed).counts
 
--- there are no more groups than places
-pub grouped-few : (es : List Run) (ps : List ℕ) (gs : List Group) → Grouped es ps gs → length gs ≤ length ps
-grouped-few es ps gs none = omega arith
-grouped-few es ps gs (first p) = omega arith
-grouped-few es ps gs (begins qs fs g p d l) =
-    omega (arith, grouped-few es qs (fs ++ g ∷ []) d, length-append (fs ++ g ∷ []) (alone es p ∷ []), length-append qs (p ∷ []))
-grouped-few es ps gs (joins qs fs g p d l) =
-    omega (
-      arith,
-      grouped-few es qs (fs ++ g ∷ []) d,
-      length-append fs (g ∷ []),
-      length-append fs (joining es g p ∷ []),
-      length-append qs (p ∷ []),
-    )
-
 -- there are as many runs as groups
 pub runs-length : (gs : List Group) → length (runs_of gs) ≡ length gs
 runs-length [] = refl
 runs-length (g ∷ gs) = ap suc (runs-length gs)
 
 -- ---- what the groups hold
+-- each group has a place among the runs
+pub one-run : (gs : List Group) (h : Group) → OneOf h gs → (p : ℕ) × (p < length (runs_of gs)) × (entry (runs_of gs) p ≡ run h.start h.«end»)
+one-run [] h m = elim m [ ]
+one-run (g ∷ gs) h (inl e) = (0, omega arith, ap (λ (f : Group). run f.start f.«end») (sym e))
+one-run (g ∷ gs) h (inr m) = let t = one-run gs h m in (suc t.0, omega (arith, t.1), t.2)
+
+-- and each run is of one
+run-one : (gs : List Group) (p : ℕ) → p < length (runs_of gs) → (h : Group) × OneOf h gs × (entry (runs_of gs) p ≡ run h.start h.«end»)
+run-one [] p l = absurd (omega arith)
+run-one (g ∷ gs) zero l = (g, inl refl, refl)
+run-one (g ∷ gs) (suc p) l = let t = run-one gs p (omega arith) in (t.0, inr t.1, t.2)
+
 -- the positions of each group
 pub group-holds : (gs : List Group) (h : Group) (x : ℕ) → OneOf h gs → h.start ≤ x → x ≤ h.«end» → mem (runs_of gs) x ≡ true
-unfolding mem
-group-holds [] h x m l k = elim m [ ]
-group-holds (g ∷ gs) h x (inl e) l k =
-    mem-in (run g.start g.«end») (runs_of gs) x (omega (arith, ap (λ (f : Group). f.start) e)) (omega (arith, ap (λ (f : Group). f.«end») e))
-group-holds (g ∷ gs) h x (inr m) l k =
-    ap (λ t. inside g.start g.«end» x || t) (group-holds gs h x m l k) ∙ or-true (inside g.start g.«end» x)
+group-holds gs h x m l k =
+    let p = one-run gs h m in
+    entry-holds (runs_of gs) p.0 x p.1 (omega (arith, ap (λ (r : Run). r.start) p.2)) (omega (arith, ap (λ (r : Run). r.«end») p.2))
 
 -- each position is of a group
 pub group_of : (gs : List Group) (x : ℕ) → mem (runs_of gs) x ≡ true → (h : Group) × OneOf h gs × (h.start ≤ x) × (x ≤ h.«end»)
-unfolding mem
-group_of [] x e = absurd (false≢true e)
-group_of (g ∷ gs) x e = go (place g.start g.«end» x) (group_of gs x)
-  where
-    later : inside g.start g.«end» x ≡ false → (mem (runs_of gs) x ≡ true → (h : Group) × OneOf h gs × (h.start ≤ x) × (x ≤ h.«end»))
-        → (h : Group) × OneOf h (g ∷ gs) × (h.start ≤ x) × (x ≤ h.«end»)
-    later q f = let t = f (sym (ap (λ b. b || mem (runs_of gs) x) q) ∙ e) in (t.0, inr t.1, t.2, t.3)
-
-    go : Place g.start g.«end» x → (mem (runs_of gs) x ≡ true → (h : Group) × OneOf h gs × (h.start ≤ x) × (x ≤ h.«end»))
-        → (h : Group) × OneOf h (g ∷ gs) × (h.start ≤ x) × (x ≤ h.«end»)
-    go (below a q) f = later q f
-    go (within a b q) f = (g, inl refl, a, b)
-    go (above a q) f = later q f
+group_of gs x e =
+    let q = entry_of (runs_of gs) x e in
+    let t = run-one gs q.0 q.1 in
+    (t.0, t.1, omega (arith, q.2, ap (λ (r : Run). r.start) t.2), omega (arith, q.3, ap (λ (r : Run). r.«end») t.2))
 
 -- right groups hold what the entries at the places hold
 pub right-holds : (es : List Run) (ps : List ℕ) (gs : List Group) (q x : ℕ) → Right es ps gs → In q ps → (entry es q).start ≤ x → x ≤ (entry es q).«end»
@@ -399,9 +359,7 @@ right_of es ps gs x r e = let h = group_of gs x e in (r.fits h.0 h.1).tight x h.
 
 -- two tests that hold together are the same
 pub both-or-none : (a b : Bool) → (a ≡ true → b ≡ true) → (b ≡ true → a ≡ true) → a ≡ b
-both-or-none true b f g = sym (f refl)
-both-or-none false true f g = g refl
-both-or-none false false f g = refl
+both-or-none a b f g = grind (arith, f, g)
 
 -- ---- the end: right groups of all places that count
 pub record Whole (es : List Run) (ps : List ℕ) (gs : List Group) : Type 0 where

@@ -1,7 +1,6 @@
 -- A union as an iterator: fewer groups are pending after each that it hands out, so it ends; and there are no more of them than entries, so they can
 -- be counted. Assumes nothing.
-use Rattle.std.proofs.Common.{◌≡◌, ℕ, ◌<◌, ◌≤◌, List, [], ◌∷◌, ◌++◌, length, Option, None, Some, sym, refl, ap, subst, inr, arith, ◌∙◌}
-use Rattle.std.proofs.Common.{append_assoc, append-nil}
+use Rattle.std.proofs.Common.{◌≡◌, ℕ, ◌<◌, ◌≤◌, List, [], ◌∷◌, ◌++◌, length, Option, None, Some, sym, ap, subst, inr, arith, ◌∙◌, append_assoc, append-nil}
 use Rattle.std.specs.Option.{option_len, IfSome}
 use Rattle.std.specs.Iterator.{at_most, MakesProgress, Yields, Drains}
 use Rattle.std.specs.Iterator.Runs.{CountFits}
@@ -14,8 +13,8 @@ use Rattle.union.specs.declared.Group.{Group}
 use Rattle.union.specs.declared.places.Places.{Places}
 use Rattle.union.specs.declared.union.Union.{Union}
 use Rattle.union.specs.Bands.{left, ahead}
-use Rattle.union.specs.Joins.{Joining, Draws, OnItsWay, GivesGroup, pending}
-use Rattle.union.proofs.Steps.{front-least, complete-count}
+use Rattle.union.specs.Joins.{Front, Complete, Joining, Draws, OnItsWay, GivesGroup, pending}
+use Rattle.union.proofs.Steps.{front-small, complete-count}
 
 -- ---- fewer are pending
 module _ {L : Type 0} (u : Union L) (r : Places L) where
@@ -43,22 +42,31 @@ module _ {L : Type 0} (runs : L → List Run) where
       record { on = λ _. (j, tt, l); keeps = j; rests = λ _. tt }
 
   -- ---- its groups
-  -- the list is the same after the groups xs, they are handed out, and they are few
-  record Handed (u : Union L) (gs : List Group) (t : Union L) : Type 0 where
-    list : t.places.list ≡ u.places.list
-    joining : Joining (runs u.places.list) gs t
-    few : length gs < size
+  -- the groups gs of the entries es are handed out
+  pub record Handed (es : List Run) (gs : List Group) (u : Union L) : Type 0 where
+    pub entries : runs u.places.list ≡ es
+    pub joining : Joining es gs u
 
-  handed : (u : Union L) (xs : List Group) {gs : List Group} {s t : Union L} → Handed u gs s → Yields (GivesGroup runs) s xs t → Handed u (gs ++ xs) t
-  handed u [] {gs} {s} h y = subst (λ a. Handed u (gs ++ []) a) y (subst (λ l. Handed u l s) (sym (append-nil gs)) h)
-  handed u (x ∷ xs) {gs} {s} {t} h y =
-      let d = subst (λ l. Draws (runs l) s (Some x) y.0) h.list y.1.1 gs h.joining in
-      let n : Handed u (gs ++ x ∷ []) y.0 = record { list = y.1.0 ∙ h.list; joining = d.1; few = omega (arith, front-least d.0, d.0.few) } in
-      subst (λ l. Handed u l t) (append_assoc gs (x ∷ []) xs) (handed u xs n y.2)
+  module _ {es : List Run} {gs : List Group} {u t : Union L} (h : Handed es gs u) where
+    -- one more
+    pub handed-more : {g : Group} → GivesGroup runs u (Some g) t → Front es (gs ++ g ∷ []) × Handed es (gs ++ g ∷ []) t
+    handed-more {g} d =
+        let k = (subst (λ fs. Draws fs u (Some g) t) h.entries d.1) gs h.joining in
+        (k.0, record { entries = ap runs d.0 ∙ h.entries; joining = k.1 })
+
+    -- all of them
+    pub handed-all : GivesGroup runs u None t → Complete es gs
+    handed-all d = ((subst (λ fs. Draws fs u None t) h.entries d.1) gs h.joining).0
+
+  -- any number more, which are few
+  handed : {es : List Run} (xs : List Group) {gs : List Group} {s t : Union L} → Handed es gs s → length gs < size → Yields (GivesGroup runs) s xs t
+      → Handed es (gs ++ xs) t × (length (gs ++ xs) < size)
+  handed {es} [] {gs} {s} h l y = rw (append-nil gs) (subst (Handed es gs) y h, l)
+  handed (x ∷ xs) {gs} h l y = let d = handed-more h y.1 in rw (← append_assoc gs (x ∷ []) xs) (handed xs d.1 (front-small d.0) y.2)
 
   module _ (list : L) {u : Union L} (same : u.places.list ≡ list) (k : Joining (runs list) [] u) where
-    begun : Handed u [] u
-    begun = record { list = refl; joining = subst (λ l. Joining (runs l) [] u) (sym same) k; few = omega arith }
+    pub begun : Handed (runs list) [] u
+    begun = record { entries = ap runs same; joining = k }
 
     -- they can be counted
     pub groups-fit : CountFits (GivesGroup runs) (λ a. at_most (pending a)) 0 u
@@ -66,14 +74,11 @@ module _ {L : Type 0} (runs : L → List Run) where
         inr (λ p _ e _.
         let t = took p in
         let y = subst (λ a. Yields (GivesGroup runs) a p.items t.0) e t.1 in
-        omega (arith, p.long, (handed u p.items begun y).few))
+        omega (arith, p.long, (handed p.items begun (omega arith) y).1))
 
     pub groups-begin : {s : Union L} {n : ℕ} → s ≡ u → n ≡ 0 → OnItsWay runs s × Unit {0} × CountFits (GivesGroup runs) (λ a. at_most (pending a)) n s
-    groups-begin e z = rw (e, z) (([], begun.joining), tt, groups-fit)
+    groups-begin e z = rw (e, z) (([], subst (λ l. Joining (runs l) [] u) (sym same) k), tt, groups-fit)
 
     -- and are as many as the runs of the outcome
     pub groups-count : (xs : List Group) → Drains (GivesGroup runs) u xs → stretches (mem (runs list)) ≡ length xs
-    groups-count xs (u', (t, y, d)) =
-        let h = handed u xs begun y in
-        let j = subst (λ l. Joining (runs l) xs t) same h.joining in
-        complete-count (subst (λ l. Draws (runs l) t None u') (h.list ∙ same) d.1 xs j).0
+    groups-count xs (u', (t, y, d)) = complete-count (handed-all (handed xs begun (omega arith) y).0 d)

@@ -1,15 +1,11 @@
 pub mod Entries
 pub mod Slipping
-pub mod Holding
 pub mod Blocks
 pub mod Sweeping
-pub mod Bands
 pub mod Rounds
 pub mod Grouping
 pub mod Completing
 pub mod Fating
 pub mod Steps
 pub mod Iterated
-pub mod Noting
-pub mod Uniting
 pub mod Mended

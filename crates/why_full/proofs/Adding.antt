@@ -1,20 +1,14 @@
 -- One more entry adds at most one run to a union. So a list has at most as many runs as entries. Assumes nothing.
-use Prim.Native.Nat.{ℕ, zero, suc, ◌+◌, ◌-◌, ◌≤◌, ◌<◌, min, max}
-use mathlib.Core.Path.{◌≡◌, refl, sym, ap, ◌∙◌, subst}
-use mathlib.Core.Logic.{◌⊎◌, inl, inr}
-use mathlib.Core.Bool.{Bool, true, false, cond, ◌||◌, or_comm, or-false}
-use mathlib.Core.List.{List, [], ◌∷◌, ◌++◌}
-use native.Mathlib.Omega.{arith}
-use lib.ListN.{length, get_or, take}
-use lib.Seq.{take_all, take-suc}
-use borrow.Author.Tests.{lt-ltb, le-ltb}
+use Rattle.std.proofs.Common.{ℕ, zero, suc, ◌+◌, ◌-◌, ◌≤◌, ◌<◌, min, max, ◌≡◌, refl, sym, ap, ◌∙◌, subst, ◌⊎◌, inl, inr, Bool, true, cond, ◌||◌, List, [], ◌∷◌, ◌++◌, arith}
+use Rattle.std.proofs.Common.{length, get_or, take, take-suc, lt-ltb}
+use Rattle.std.proofs.lemmas.Bool.Decides.{nat_tests}
+use Rattle.std.proofs.lemmas.Grind.{common_steps}
 use Rattle.model.specs.declared.Run.{Run}
 use Rattle.model.specs.Numbers.{size}
 use Rattle.model.specs.Positions.{Positions, run, inside, among, held_runs, stretches, set_range, mem}
 use Rattle.model.specs.RunList.{insert}
 use Rattle.model.proofs.Numbers.{split}
-use Rattle.model.proofs.Counting.{Place, below, within, above, place, among-yes, among_below, among-above}
-use Rattle.model.proofs.Edit.{insert-skip, insert-put, insert-join, set_to, on_range, set_runs, set_runs-canon, set_runs-mem}
+use Rattle.model.proofs.Edit.{set_to, on_range, set_runs, set_runs-canon, set_runs-mem}
 use Rattle.model.proofs.Runs.{held_runs-canon, mem-held_runs, stretches-cong, stretches-is, mem-append}
 use Rattle.model.specs.Spawning.{runs_after}
 
@@ -23,23 +17,12 @@ use Rattle.model.specs.Spawning.{runs_after}
 insert-few : (a b : ℕ) (rs : List Run) → length (insert a b rs) ≤ suc (length rs)
 unfolding insert
 insert-few a b [] = omega arith
-insert-few a b (r ∷ rs) =
-    go (insert-few a b rs) (insert-few (min a r.start) (max b r.«end») rs) (split (r.«end» + 1) a) (split (b + 1) r.start)
-  where
-    go : length (insert a b rs) ≤ suc (length rs) → length (insert (min a r.start) (max b r.«end») rs) ≤ suc (length rs)
-        → (r.«end» + 1 < a) ⊎ (a ≤ r.«end» + 1) → (b + 1 < r.start) ⊎ (r.start ≤ b + 1) → length (insert a b (r ∷ rs)) ≤ suc (suc (length rs))
-    go skip join (inl p) q = omega (arith, ap length (insert-skip a b r rs p))
-    go skip join (inr p) (inl q) = omega (arith, ap length (insert-put a b r rs p q))
-    go skip join (inr p) (inr q) = omega (arith, ap length (insert-join a b r rs p q))
+insert-few a b (r ∷ rs) = grind (arith, nat_tests, insert-few a b rs, insert-few (min a r.start) (max b r.«end») rs)
 
 -- and so does one that is cut to the positions
 set-few : (a n : ℕ) (rs : List Run) → length (set_runs size a n true rs) ≤ suc (length rs)
 unfolding set_runs on_range set_to
-set-few a n rs = go (split a (min (a + n) size))
-  where
-    go : (a < min (a + n) size) ⊎ (min (a + n) size ≤ a) → length (set_runs size a n true rs) ≤ suc (length rs)
-    go (inl h) = rw (lt-ltb a (min (a + n) size) h, length) (insert-few a (min (a + n) size - 1) rs)
-    go (inr h) = rw (le-ltb a (min (a + n) size) h, length) (omega arith)
+set-few a n rs = grind (arith, nat_tests, insert-few)
 
 -- so a range set to true adds at most one run
 set-adds : (a n : ℕ) (P : Positions) → stretches (set_range a n true P) ≤ suc (stretches P)
@@ -54,16 +37,7 @@ set-adds a n P =
 -- ---- an entry
 -- the positions of a run, as a range
 pub among-run : (r : Run) (x : ℕ) → among r.start (suc r.«end» - r.start) x ≡ inside r.start r.«end» x
-among-run r x = go (place r.start r.«end» x)
-  where
-    go : Place r.start r.«end» x → among r.start (suc r.«end» - r.start) x ≡ inside r.start r.«end» x
-    go (below a e) = among_below r.start (suc r.«end» - r.start) x a ∙ sym e
-    go (within a b e) = among-yes r.start (suc r.«end» - r.start) x a (omega arith) ∙ sym e
-    go (above a e) = late (split x r.start)
-      where
-        late : (x < r.start) ⊎ (r.start ≤ x) → among r.start (suc r.«end» - r.start) x ≡ inside r.start r.«end» x
-        late (inl b) = among_below r.start (suc r.«end» - r.start) x b ∙ sym e
-        late (inr b) = among-above r.start (suc r.«end» - r.start) x (omega arith) ∙ sym e
+among-run r x = grind (arith, nat_tests)
 
 -- a set that holds an entry besides another set has at most one run more
 pub adds_one : (r : Run) (P Q : Positions) → ((x : ℕ) → x < size → Q x ≡ (inside r.start r.«end» x || P x)) → stretches Q ≤ suc (stretches P)
@@ -73,8 +47,7 @@ adds_one r P Q f =
     (set-adds r.start (suc r.«end» - r.start) P)
   where
     either : (b c : Bool) → (b || c) ≡ cond b true c
-    either true c = refl
-    either false c = refl
+    either b c = grind arith
 
     same : (x : ℕ) → x < size → Q x ≡ set_range r.start (suc r.«end» - r.start) true P x
     same x h = f x h ∙ either (inside r.start r.«end» x) (P x) ∙ ap (λ b. cond b true (P x)) (sym (among-run r x))
@@ -97,16 +70,13 @@ unfolding mem
 runs-step es n = go (split n (length es))
   where
     last : (r : Run) (rs : List Run) (x : ℕ) → mem (rs ++ r ∷ []) x ≡ (inside r.start r.«end» x || mem rs x)
-    last r rs x = mem-append rs (r ∷ []) x ∙ or_comm (mem rs x) (mem (r ∷ []) x) ∙ ap (λ b. b || mem rs x) (one r x)
-      where
-        one : (r : Run) (x : ℕ) → mem (r ∷ []) x ≡ inside r.start r.«end» x
-        one r x = or-false (inside r.start r.«end» x)
+    last r rs x = grind (arith, mem-append rs (r ∷ []) x)
 
     go : (n < length es) ⊎ (length es ≤ n) → runs_after es (suc n) ≤ suc (runs_after es n)
     go (inl h) =
         subst (λ rs. stretches (mem rs) ≤ suc (runs_after es n)) (sym (take-suc es n (run 0 0) h))
         (adds_one (get_or es n (run 0 0)) (mem (take n es)) (mem (take n es ++ get_or es n (run 0 0) ∷ [])) (λ x l. last (get_or es n (run 0 0)) (take n es) x))
-    go (inr h) = let e : take (suc n) es ≡ take n es = take_all (suc n) es (omega arith) ∙ sym (take_all n es h) in omega (arith, ap (λ rs. stretches (mem rs)) e)
+    go (inr h) = grind (arith, common_steps)
 
 -- d of them at most d
 pub runs-leap : (es : List Run) (n d : ℕ) → runs_after es (n + d) ≤ runs_after es n + d

@@ -1,27 +1,18 @@
 -- The model's own calls, set to true one by one from an empty world: which of them is refused. The entries that lead are refused at their last
 -- call, and no shorter list is. Assumes nothing.
-use Rattle.std.specs.Prelude.{Option, None, Some}
-use Prim.Native.Nat.{ℕ, zero, suc, ◌+◌, ◌-◌, ◌≤◌, ◌<◌}
-use mathlib.Core.Path.{◌≡◌, refl, sym, ap, ap₂, ◌∙◌, subst}
-use mathlib.Core.Logic.{◌⊎◌, inl, inr}
-use mathlib.Core.Bool.{Bool, true, false, cond, ◌||◌}
-use mathlib.Core.List.{List, [], ◌∷◌, ◌++◌}
-use native.Mathlib.Omega.{arith}
-use lib.Dec.{ltb}
-use lib.ListN.{length, take, length-take}
-use lib.Seq.{append_snoc, get_or-take}
-use borrow.Author.Tests.{lt-ltb, le-ltb}
+use Rattle.std.proofs.Common.{Option, None, Some, ℕ, zero, suc, ◌+◌, ◌≤◌, ◌<◌, ◌≡◌, refl, sym, ap, ap₂, ◌∙◌, subst, Bool, true, false, cond, ◌||◌, List, []}
+use Rattle.std.proofs.Common.{◌∷◌, ◌++◌, arith, ltb, length, take, length-take, get_or-take, lt-ltb, le-ltb}
+use lib.Seq.{append_snoc}
 use Rattle.model.specs.declared.Run.{Run}
 use Rattle.model.specs.Numbers.{size}
-use Rattle.model.specs.Range.{first_allowed, past_allowed, extent}
-use Rattle.model.specs.Positions.{Positions, run, inside, among, stretches, empty, set_range, mem, bounded, changes}
+use Rattle.model.specs.Range.{first_allowed, extent}
+use Rattle.model.specs.Positions.{Positions, inside, among, stretches, empty, set_range, mem, bounded, changes}
 use Rattle.model.specs.RunList.{AllWords}
 use Rattle.model.specs.Refusals.{capacity, ◌when◌, refusal, too_many}
 use Rattle.model.specs.Call.{holding, set, number, refused, gave}
 use Rattle.model.specs.Model.{Outcome, planned, settle, serve}
 use Rattle.model.specs.Pools.{answers, alone}
-use Rattle.model.proofs.Numbers.{split}
-use Rattle.model.proofs.Counting.{among_below, among-above, inside-below, inside-above}
+use Rattle.std.proofs.lemmas.Bool.Decides.{nat_tests}
 use Rattle.model.proofs.Pools.{step-alone}
 use Rattle.model.proofs.Runs.{stretches-cong, mem-append}
 use Rattle.union.specs.Entries.{In}
@@ -29,7 +20,6 @@ use Rattle.union.proofs.Entries.{in_head, in_tail}
 use Rattle.model.specs.declared.between.Range.{Range}
 use Rattle.model.specs.Spawning.{sets_of, entry_of, entries_of, first_refused, places, why_full_up_to, why_full, pick, AllGiven, StopsAt}
 use Rattle.why_full.specs.Placing.{Climbing}
-use Rattle.why_full.proofs.Adding.{among-run}
 use Rattle.why_full.proofs.Refusing.{Refused, refused-only, refused-is, none_before}
 use Rattle.why_full.proofs.Ranges.{entries-length, entries-at, entries-take}
 use Rattle.why_full.proofs.Leading.{places-rising, places-within}
@@ -39,30 +29,7 @@ use Rattle.why_full.proofs.Sublists.{entries_at, pick-length, refused-places, re
 -- the positions of a range are those of its entry
 entry-among : (r : Range) (x : ℕ) → among (first_allowed r.lower) (extent r.lower r.upper) x ≡ inside (entry_of r).start (entry_of r).«end» x
 unfolding entry_of
-entry-among r x = go (first_allowed r.lower) (past_allowed r.upper) (split (first_allowed r.lower) (past_allowed r.upper))
-  where
-    held : Run → Bool
-    held e = inside e.start e.«end» x
-
-    none_in : (f n : ℕ) → n ≡ 0 → among f n x ≡ false
-    none_in f n e = at (split x f)
-      where
-        at : (x < f) ⊎ (f ≤ x) → among f n x ≡ false
-        at (inl l) = among_below f n x l
-        at (inr l) = among-above f n x (omega arith)
-
-    nothing : held (run 1 0) ≡ false
-    nothing = at (split x 1)
-      where
-        at : (x < 1) ⊎ (1 ≤ x) → held (run 1 0) ≡ false
-        at (inl l) = inside-below 1 0 x l
-        at (inr l) = inside-above 1 0 x (omega arith)
-
-    go : (f p : ℕ) → (f < p) ⊎ (p ≤ f) → among f (p - f) x ≡ held (cond (ltb f p) (run f (p - 1)) (run 1 0))
-    go f p (inl l) =
-        let z : suc (p - 1) - f ≡ p - f = omega arith in
-        ap (λ n. among f n x) (sym z) ∙ among-run (run f (p - 1)) x ∙ ap (λ b. held (cond b (run f (p - 1)) (run 1 0))) (sym (lt-ltb f p l))
-    go f p (inr l) = none_in f (p - f) (omega arith) ∙ sym nothing ∙ ap (λ b. held (cond b (run f (p - 1)) (run 1 0))) (sym (le-ltb f p l))
+entry-among r x = grind (arith, nat_tests)
 
 -- the positions after a range is set to true
 abbrev raised : Positions → Range → Positions
@@ -76,10 +43,7 @@ raised-mem es P r x e =
     ∙ sym (mem-append es (entry_of r ∷ []) x)
   where
     either : (b c : Bool) → cond b true c ≡ (c || (b || false))
-    either true true = refl
-    either true false = refl
-    either false true = refl
-    either false false = refl
+    either b c = grind arith
 
 -- a call is refused with 8 where it makes more than C runs, and else it is given and changes the positions
 abbrev outcome : Positions → Range → Bool → Outcome

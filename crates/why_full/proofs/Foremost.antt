@@ -1,16 +1,8 @@
 -- The entries that lead, told by positions: those with a position in whose run no earlier entry has any. A run only grows with the list, so what leads in
 -- a list leads in each shorter one that has it; and the last place up to the first refused call is that call's own. Assumes nothing.
-use Prim.Native.Nat.{ℕ, suc, ◌+◌, ◌≤◌, ◌<◌, min, max}
-use mathlib.Core.Path.{◌≡◌, refl, sym, ap, ap₂, ◌∙◌, subst}
-use mathlib.Core.Logic.{◌⊎◌, inl, inr}
-use mathlib.Core.Bool.{Bool, true, false, not, ◌&&◌, false≢true}
-use mathlib.Core.List.{List, [], ◌∷◌}
-use native.Mathlib.Omega.{arith}
-use native.Mathlib.Nat.{zero-add}
-use lib.Dec.{leb}
-use lib.ListN.{length, get_or, take, length-take}
-use lib.Seq.{get_or-take}
-use borrow.Author.Tests.{le-leb, leb-true}
+use Rattle.std.proofs.Common.{ℕ, suc, ◌+◌, ◌≤◌, ◌<◌, min, max, ◌≡◌, refl, sym, ap, ap₂, ◌∙◌, subst, ◌⊎◌, inl, inr, Bool, true, false, not, ◌&&◌, List, [], ◌∷◌, arith, zero-add}
+use Rattle.std.proofs.Common.{leb, length, get_or, take, length-take, get_or-take, le-leb, leb-true}
+use mathlib.Core.Bool.{false≢true}
 use Rattle.model.specs.declared.Run.{Run}
 use Rattle.model.specs.Numbers.{size}
 use Rattle.model.specs.Positions.{run, inside, run_at, mem}
@@ -209,20 +201,11 @@ first-place es w few p f = let t = whole-some es w few in go t.0 t.1 t.2
             false≢true (sym (f.unmet j y k.0 held) ∙ there)
 
 -- ---- the first entries of a list
--- those of a shorter part are those of a longer one
-same-entry : (es : List Run) (n m q : ℕ) → n ≤ m → q < n → entry (take n es) q ≡ entry (take m es) q
-same-entry es n m q h l = get_or-take n es q (run 0 0) l ∙ sym (get_or-take m es q (run 0 0) (omega arith))
-
--- and have the same positions
-has-later : (es : List Run) (n m q x : ℕ) → n ≤ m → q < n → Has (take n es) q x → Has (take m es) q x
-has-later es n m q x h l a =
-    let s = same-entry es n m q h l in
-    (subst (λ (r : Run). r.start ≤ x) s a.0, subst (λ (r : Run). x ≤ r.«end») s a.1)
-
-has-sooner : (es : List Run) (n m q x : ℕ) → n ≤ m → q < n → Has (take m es) q x → Has (take n es) q x
-has-sooner es n m q x h l a =
-    let s = sym (same-entry es n m q h l) in
-    (subst (λ (r : Run). r.start ≤ x) s a.0, subst (λ (r : Run). x ≤ r.«end») s a.1)
+-- an entry of two parts has the same positions in both
+has-part : (es : List Run) (n m q x : ℕ) → q < n → q < m → Has (take n es) q x → Has (take m es) q x
+has-part es n m q x h l a =
+    let s : entry (take n es) q ≡ entry (take m es) q = get_or-take n es q (run 0 0) h ∙ sym (get_or-take m es q (run 0 0) l) in
+    rw (← s) a
 
 module _ (es : List Run) (w : AllWords es) (few : length es < size) (n m : ℕ) (h : n ≤ m) where
   first-few : (k : ℕ) → length (take k es) < size
@@ -232,14 +215,14 @@ module _ (es : List Run) (w : AllWords es) (few : length es < size) (n m : ℕ) 
   held-later : (z : ℕ) → mem (take n es) z ≡ true → mem (take m es) z ≡ true
   held-later z e =
       let q = entry_of (take n es) z e in
-      let a = has-later es n m q.0 z h (omega (arith, q.1, length-take n es)) (q.2, q.3) in
+      let a = has-part es n m q.0 z (omega (arith, q.1, length-take n es)) (omega (arith, q.1, length-take n es)) (q.2, q.3) in
       entry-holds (take m es) q.0 z (omega (arith, q.1, length-take n es, length-take m es)) a.0 a.1
 
   -- WHAT LEADS leads in each shorter part that has it
   pub leads-sooner : (p : ℕ) → p < n → In p (places (take m es)) → In p (places (take n es))
   leads-sooner p l i =
       let f = place-first (take m es) p i in
-      let a = has-sooner es n m p f.x h l f.has in
+      let a = has-part es m n p f.x (omega arith) l f.has in
       let within : p < length (take n es) = omega (arith, f.within, length-take n es, length-take m es) in
       let here = entry-holds (take n es) p f.x within a.0 a.1 in
       first-place (take n es) (take_words n es w) (first-few n) p (record {
@@ -255,7 +238,7 @@ module _ (es : List Run) (w : AllWords es) (few : length es < size) (n m : ℕ) 
       none f here q y k b true e =
           let t = whole-some (take n es) (take_words n es w) (first-few n) in
           let u = whole-some (take m es) (take_words m es w) (first-few m) in
-          let c = f.unmet q y k (has-later es n m q y h (omega arith) b) in
+          let c = f.unmet q y k (has-part es n m q y (omega arith) (omega arith) b) in
           absurd (false≢true (sym c ∙ run-grows t.2 u.2 held-later f.x y here e))
 
 -- THE LAST PLACE up to the first refused call is that call's: without it the places would lead before the call, and be too many
@@ -276,13 +259,7 @@ refused-last C es f w few r = go (split last f)
     many = refused-places C es f w few r
 
     most : (p : ℕ) → In p ps → p ≤ last
-    most p (i, l, e) = at (split i C)
-      where
-        at : (i < C) ⊎ (C ≤ i) → p ≤ last
-        at (inl k) = omega (arith, e, climbing-once 0 ps i C rising k (omega (arith, many)))
-        at (inr k) =
-            let z : i ≡ C = omega (arith, l, many) in
-            omega (arith, e, ap (λ j. get_or ps j 0) z)
+    most p (i, l, e) = grind (arith, many, climbing-once 0 ps i C rising)
 
     go : (last < f) ⊎ (f ≤ last) → last ≡ f
     go (inl l) =

@@ -1,16 +1,9 @@
 -- The first entry of each run: its place is the place of a group, where the groups are those of all entries. So there are as many as runs of the
 -- union. Assumes nothing.
-use Prim.Native.Nat.{ℕ, zero, suc, ◌+◌, ◌≤◌, ◌<◌}
-use mathlib.Core.Path.{◌≡◌, refl, sym, ap, ap₂, ◌∙◌, subst}
-use mathlib.Core.Logic.{◌⊎◌, inl, inr}
-use mathlib.Core.Bool.{Bool, true, false, cond, not, ◌&&◌, ◌||◌, or-true, false≢true}
-use mathlib.Core.List.{List, [], ◌∷◌, ◌++◌}
-use native.Mathlib.Omega.{arith}
-use native.Mathlib.Nat.{zero-add}
-use lib.Dec.{leb}
-use lib.ListN.{length, take, length-take, length-append}
-use lib.Seq.{get_or-take}
-use borrow.Author.Tests.{le-leb, lt-leb, leb-true}
+use Rattle.std.proofs.Common.{ℕ, zero, suc, ◌+◌, ◌≤◌, ◌<◌, ◌≡◌, refl, sym, ap, ap₂, ◌∙◌, subst, ◌⊎◌, inl, inr, Bool, true, false, cond, not, ◌&&◌, List, [], ◌∷◌, ◌++◌, arith}
+use Rattle.std.proofs.Common.{zero-add, leb, length, take, length-take, length-append, get_or-take, le-leb, leb-true}
+use mathlib.Core.Bool.{false≢true}
+use Rattle.std.proofs.lemmas.Bool.Decides.{nat_tests}
 use Rattle.model.specs.declared.Run.{Run}
 use Rattle.model.specs.Numbers.{size}
 use Rattle.model.specs.Positions.{run, run_at, mem}
@@ -34,62 +27,38 @@ pub record Meeting (q : Run) (rs : List Run) (j : ℕ) : Type 0 where
   pub low : (entry rs j).start ≤ q.«end»
   pub high : q.start ≤ (entry rs j).«end»
 
+-- so does the same entry of another list
+same-meets : {q : Run} {rs ss : List Run} {i : ℕ} (j : ℕ) → entry rs i ≡ entry ss j → j < length ss → Meeting q rs i → Meeting q ss j
+same-meets j e l m =
+    record { counts = record { within = l; ordered = rw (← e) m.counts.ordered }; low = rw (← e) m.low; high = rw (← e) m.high }
+
 -- one such entry is enough
 pub meets-some : (q : Run) (rs : List Run) (j : ℕ) → Meeting q rs j → meets q rs ≡ true
 unfolding meets
 meets-some q [] j m = absurd (omega (arith, m.counts.within))
-meets-some q (r ∷ rs) zero m =
-    rw (le-leb r.start r.«end» m.counts.ordered, le-leb r.start q.«end» m.low, le-leb q.start r.«end» m.high)
-meets-some q (r ∷ rs) (suc j) m =
-    ap (λ b. (leb r.start r.«end» && (leb r.start q.«end» && leb q.start r.«end»)) || b)
-    (meets-some q rs j (record {
-      counts = record { within = omega (arith, m.counts.within); ordered = m.counts.ordered };
-      low = m.low;
-      high = m.high;
-    }))
-    ∙ or-true (leb r.start r.«end» && (leb r.start q.«end» && leb q.start r.«end»))
+meets-some q (r ∷ rs) zero m = grind (arith, nat_tests, m.counts.ordered, m.low, m.high)
+meets-some q (r ∷ rs) (suc j) m = grind (arith, meets-some q rs j (same-meets j refl (omega (arith, m.counts.within)) m))
 
 -- without one there is none
 pub meets-none : (q : Run) (rs : List Run) → ((j : ℕ) → Meeting q rs j → ⊥) → meets q rs ≡ false
 unfolding meets
 meets-none q [] f = refl
 meets-none q (r ∷ rs) f =
-    ap₂ ◌||◌ (go (split r.«end» r.start) (split q.«end» r.start) (split r.«end» q.start))
-    (meets-none q rs (λ j m. f (suc j) (record {
-      counts = record { within = omega (arith, m.counts.within); ordered = m.counts.ordered };
-      low = m.low;
-      high = m.high;
-    })))
+    go (λ s l h. f 0 (record { counts = record { within = omega arith; ordered = s }; low = l; high = h }))
+    (meets-none q rs (λ j m. f (suc j) (same-meets (suc j) refl (omega (arith, m.counts.within)) m)))
   where
-    go : (r.«end» < r.start) ⊎ (r.start ≤ r.«end») → (q.«end» < r.start) ⊎ (r.start ≤ q.«end») → (r.«end» < q.start) ⊎ (q.start ≤ r.«end»)
-        → (leb r.start r.«end» && (leb r.start q.«end» && leb q.start r.«end»)) ≡ false
-    go (inl s) l h = rw (lt-leb r.start r.«end» s)
-    go (inr s) (inl l) h = rw (le-leb r.start r.«end» s, lt-leb r.start q.«end» l)
-    go (inr s) (inr l) (inl h) = rw (le-leb r.start r.«end» s, le-leb r.start q.«end» l, lt-leb q.start r.«end» h)
-    go (inr s) (inr l) (inr h) = absurd (f 0 (record { counts = record { within = omega arith; ordered = s }; low = l; high = h }))
+    go : (r.start ≤ r.«end» → r.start ≤ q.«end» → q.start ≤ r.«end» → ⊥) → meets q rs ≡ false → meets q (r ∷ rs) ≡ false
+    go first later = grind (arith, nat_tests, first)
 
 -- one of the first p entries of a list is one of the list
 pub meeting-take : (q : Run) (p : ℕ) (rs : List Run) (j : ℕ) → Meeting q (take p rs) j → (j < p) × Meeting q rs j
 meeting-take q p rs j m =
     let l : j < p = omega (arith, m.counts.within, length-take p rs) in
-    let e : entry (take p rs) j ≡ entry rs j = get_or-take p rs j (run 0 0) l in (
-      l,
-      record {
-        counts = record { within = omega (arith, m.counts.within, length-take p rs); ordered = subst (λ (r : Run). r.start ≤ r.«end») e m.counts.ordered };
-        low = subst (λ (r : Run). r.start ≤ q.«end») e m.low;
-        high = subst (λ (r : Run). q.start ≤ r.«end») e m.high;
-      },
-    )
+    (l, same-meets j (get_or-take p rs j (run 0 0) l) (omega (arith, m.counts.within, length-take p rs)) m)
 
 -- and the other way
 pub take-meeting : (q : Run) (p : ℕ) (rs : List Run) (j : ℕ) → j < p → Meeting q rs j → Meeting q (take p rs) j
-take-meeting q p rs j l m =
-    let e : entry rs j ≡ entry (take p rs) j = sym (get_or-take p rs j (run 0 0) l) in
-    record {
-      counts = record { within = omega (arith, m.counts.within, length-take p rs); ordered = subst (λ (r : Run). r.start ≤ r.«end») e m.counts.ordered };
-      low = subst (λ (r : Run). r.start ≤ q.«end») e m.low;
-      high = subst (λ (r : Run). q.start ≤ r.«end») e m.high;
-    }
+take-meeting q p rs j l m = same-meets j (sym (get_or-take p rs j (run 0 0) l)) (omega (arith, m.counts.within, length-take p rs)) m
 
 -- ---- the place of a group
 module _ {es : List Run} {ps : List ℕ} {gs : List Group} (t : Whole es ps gs) where
@@ -106,7 +75,7 @@ module _ {es : List Run} {ps : List ℕ} {gs : List Group} (t : Whole es ps gs) 
 
   -- one that meets a group starts in it: it lies in a group, which is this one
   meets-starts : (h : Group) (j : ℕ) → OneOf h gs → Meeting (run h.start h.«end») es j → Starts es ps h j
-  meets-starts h j m k = record { listed = t.each j k.counts; from = go (split (entry es j).start h.start); to = k.low }
+  meets-starts h j m k = record { listed = t.each j k.counts; from = grind (arith, y.starts, shared); to = k.low }
     where
       y : Lies es gs j
       y = t.right.lies j (t.each j k.counts)
@@ -118,10 +87,6 @@ module _ {es : List Run} {ps : List ℕ} {gs : List Group} (t : Whole es ps gs) 
           let e = entry-holds es j x k.counts.within (omega arith) k.high in
           sym (whole_run es ps gs h x t m (omega arith) (canon-from size 0 gs h t.right.canon m).1 e)
           ∙ whole_run es ps gs y.group x t y.one (omega (arith, y.starts)) (omega (arith, y.ends, k.high)) e
-
-      go : ((entry es j).start < h.start) ⊎ (h.start ≤ (entry es j).start) → h.start ≤ (entry es j).start
-      go (inl l) = absurd (omega (arith, y.starts, ap (λ (r : Run). r.start) (shared l)))
-      go (inr l) = l
 
   -- the place of a group is that of the first entry in its run
   group-leads : (h : Group) → OneOf h gs → leads es h.place (entry es h.place) ≡ true

@@ -1,6 +1,5 @@
 pub mod Adding
 pub mod Refusing
-pub mod Leaping
 pub mod Climbing
 pub mod Ranges
 pub mod Leading

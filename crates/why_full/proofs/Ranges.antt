@@ -1,24 +1,13 @@
 -- The entries of a list of ranges that is lent as words. Assumes nothing.
-use Prim.Native.Nat.{ℕ, zero, suc, ◌+◌, ◌-◌, ◌*◌, ◌/◌, ◌≤◌, ◌<◌}
-use mathlib.Core.Path.{◌≡◌, refl, sym, ap, ◌∙◌, subst}
-use mathlib.Core.Logic.{◌⊎◌, inl, inr}
-use mathlib.Core.Bool.{Bool, true, false, cond, ◌&&◌}
-use mathlib.Core.List.{List, [], ◌∷◌}
-use native.Mathlib.Nat.{zero-add}
-use native.Mathlib.Omega.{arith}
-use lib.Dec.{ltb, eqb}
-use lib.ListN.{length, get_or, take}
-use lib.Seq.{length-take-le, get_or-take}
-use borrow.Author.Tests.{lt-ltb, le-ltb}
-use Rattle.std.specs.declared.ops.Bound.TheVariants.{Included, Excluded, Unbounded}
+use Rattle.std.proofs.Common.{ℕ, zero, suc, ◌+◌, ◌*◌, ◌/◌, ◌≤◌, ◌<◌, ◌≡◌, refl, ap, ◌∙◌, List, [], ◌∷◌, zero-add, arith, length, get_or, take, length-take-le, get_or-take}
+use Rattle.std.proofs.lemmas.Bool.Decides.{nat_tests}
 use Rattle.model.specs.declared.Run.{Run}
 use Rattle.model.specs.declared.Span.{Span}
 use Rattle.model.specs.declared.Span.TheVariants.{Empty, Reversed, Closed}
 use Rattle.model.specs.Numbers.{size}
 use Rattle.model.specs.Positions.{run}
-use Rattle.model.specs.Range.{first_allowed, past_allowed, span_of}
+use Rattle.model.specs.Range.{past_allowed, span_of}
 use Rattle.model.specs.RunList.{AllWords}
-use Rattle.model.proofs.Numbers.{split}
 use Rattle.model.specs.Range.{named, bound_by, nowhere, range_by}
 use Rattle.union.specs.Entries.{entry}
 use Rattle.model.specs.declared.between.Range.{Range}
@@ -33,40 +22,19 @@ run_of Empty = run 1 0
 run_of Reversed = run 1 0
 
 -- is its entry
-pub entry-span : (r : Range) → entry_of r ≡ run_of (span_of r.lower r.upper)
+pub entry_span : (r : Range) → entry_of r ≡ run_of (span_of r.lower r.upper)
 unfolding entry_of
-entry-span r = go (first_allowed r.lower) (past_allowed r.upper) (split (first_allowed r.lower) (past_allowed r.upper))
-  where
-    empty : (f p : ℕ) (b : Bool) → p ≤ f → run 1 0 ≡ run_of (cond b Reversed (cond (ltb f p) (Closed f (p - 1)) Empty))
-    empty f p true l = refl
-    empty f p false l = ap (λ b. run_of (cond b (Closed f (p - 1)) Empty)) (sym (le-ltb f p l))
-
-    go : (f p : ℕ) → (f < p) ⊎ (p ≤ f) → cond (ltb f p) (run f (p - 1)) (run 1 0) ≡ run_of (cond (ltb p f) Reversed (cond (ltb f p) (Closed f (p - 1)) Empty))
-    go f p (inl l) = rw (lt-ltb f p l, le-ltb p f (omega arith))
-    go f p (inr l) = ap (λ b. cond b (run f (p - 1)) (run 1 0)) (le-ltb f p l) ∙ empty f p (ltb p f) l
+entry_span r = grind (arith, nat_tests)
 
 -- no upper bound of a word allows a position that is none
 past-most : (k v k' v' : ℕ) → v' < size → past_allowed (range_by k v k' v').upper ≤ size
 unfolding bound_by range_by
-past-most k v k' v' h = go (named k && named k') (eqb k' 1) (eqb k' 2)
-  where
-    go : (n a b : Bool) → past_allowed (cond n (record { lower = bound_by k v; upper = cond a (Included v') (cond b (Excluded v') Unbounded) }) nowhere).upper ≤ size
-    go false a b = omega arith
-    go true true b = omega arith
-    go true false true = omega arith
-    go true false false = omega arith
+past-most k v k' v' h = grind (arith, nat_tests)
 
 -- so the ends of its entry are words
 entry-most : (r : Range) → past_allowed r.upper ≤ size → ((entry_of r).start < size) × ((entry_of r).«end» < size)
 unfolding entry_of
-entry-most r h = go (first_allowed r.lower) (past_allowed r.upper) h (split (first_allowed r.lower) (past_allowed r.upper))
-  where
-    Words : Run → Type 0
-    Words e = (e.start < size) × (e.«end» < size)
-
-    go : (f p : ℕ) → p ≤ size → (f < p) ⊎ (p ≤ f) → Words (cond (ltb f p) (run f (p - 1)) (run 1 0))
-    go f p h (inl l) = subst (λ b. Words (cond b (run f (p - 1)) (run 1 0))) (sym (lt-ltb f p l)) (omega arith, omega arith)
-    go f p h (inr l) = subst (λ b. Words (cond b (run f (p - 1)) (run 1 0))) (sym (le-ltb f p l)) (omega arith, omega arith)
+entry-most r h = (grind (arith, nat_tests), grind (arith, nat_tests))
 
 -- ---- a list of them
 -- as many as were asked for
@@ -134,8 +102,8 @@ take_words (suc n) (e ∷ es) w = (w.0, w.1, take_words n es w.2)
 -- ---- the first n of them
 module _ (n : ℕ) (ws : List ℕ) (h : 4 * n ≤ length ws) where
   -- are n
-  pub first-length : length (first_entries n ws) ≡ n
-  first-length = length-take-le n (entries_of (ranges_of ws)) (omega (arith, listed-length ws))
+  pub first_length : length (first_entries n ws) ≡ n
+  first_length = length-take-le n (entries_of (ranges_of ws)) (omega (arith, listed-length ws))
 
   -- each is one of the list's
   pub first-at : (i : ℕ) → i < n → entry (first_entries n ws) i ≡ entry (entries_of (ranges_of ws)) i

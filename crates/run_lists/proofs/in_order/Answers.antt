@@ -1,5 +1,5 @@
 -- `in_order` meets its contract. The loop's invariant: the first i runs passed, so the order of all is that of the others. Assumes nothing.
-use native.Mathlib.Omega.{arith}
+use Rattle.std.proofs.Common.{arith}
 use Rattle.run_lists.proofs.Ordered.{passed-step, passed-fail, passed-all, passed-words}
 use Rattle.run_lists.proofs.in_order.Goals as goal
 

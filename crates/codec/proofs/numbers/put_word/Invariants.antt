@@ -1,6 +1,5 @@
 -- `put_word` meets its contract. The loop's invariant: the first j bytes are put. Assumes nothing.
-use mathlib.Core.Path.{◌≡◌}
-use lib.ListN.{take}
+use Rattle.std.proofs.Common.{◌≡◌, take}
 use Rattle.codec.specs.Placed.{strewn}
 use Rattle.codec.proofs.numbers.put_word.Given as goal
 

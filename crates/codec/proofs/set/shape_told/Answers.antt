@@ -1,10 +1,6 @@
 -- `shape_told` meets its contract: it makes the tests of a set's shape one by one, in the order of refusals.
 -- Assumes nothing.
-use Prim.Native.Nat.{◌<◌}
-use mathlib.Core.Path.{◌≡◌, refl}
-use mathlib.Core.Bool.{false}
-use native.Mathlib.Omega.{arith}
-use borrow.Author.Rules.{rules}
+use Rattle.std.proofs.Common.{◌<◌, ◌≡◌, refl, false, arith, rules}
 use Rattle.model.specs.Bytes.{edition_of}
 use Rattle.model.specs.Refusals.{bad_version}
 use Rattle.codec.proofs.Digits.{count-bound}

@@ -1,5 +1,5 @@
 -- `convert` meets its contract. The loop's invariant: behind the head the first i runs are put. Assumes nothing.
-use lib.ListN.{drop}
+use Rattle.std.proofs.Common.{drop}
 use Rattle.model.specs.Bytes.{runs_told}
 use Rattle.model.proofs.Codec.{runs_told-length}
 use Rattle.codec.proofs.Strewing.{put-none, put_step, put-set}

@@ -1,6 +1,5 @@
 -- `least_runs` meets its contract. The loop's invariant: a and b are the numbers for the heights i and i + 1. Assumes nothing.
-use Prim.Native.Nat.{◌+◌, ◌≤◌}
-use mathlib.Core.Path.{◌≡◌}
+use Rattle.std.proofs.Common.{◌+◌, ◌≤◌, ◌≡◌}
 use Rattle.model.specs.Deepest.{least}
 use Rattle.deepest.proofs.list.least_runs.Given as goal
 

@@ -1,14 +1,7 @@
 -- `put_deepest` meets its contract. The loop's invariant: the middle ranks of fewer than d partings are in front. Assumes nothing.
-use mathlib.Core.Path.{◌≡◌}
-use native.Mathlib.Omega.{arith}
-use Rattle.deepest.proofs.Ranks.{filled_none, next-puttable, filled_next, filled-all, lesser-some}
+use Rattle.std.proofs.Common.{◌≡◌, arith}
+use Rattle.deepest.proofs.Ranks.{filled_none, next-puttable, filled_next, filled-all}
 use Rattle.deepest.proofs.list.put_deepest.Goals as goal
-
-pub overflow_sub-b : goal.overflow_sub-b
-overflow_sub-b c = omega (arith, lesser-some _ _ c.requires _ c.least_runs-a.ensures)
-
-pub overflow_sub-b-2 : goal.overflow_sub-b-2
-overflow_sub-b-2 c = omega (arith, lesser-some _ _ c.requires _ c.least_runs-a.ensures)
 
 pub loop-d-init : goal.loop-d-init
 loop-d-init c = (omega arith, filled_none _ _)

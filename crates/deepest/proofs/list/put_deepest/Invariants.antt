@@ -1,5 +1,5 @@
 -- `put_deepest` meets its contract. The loop's invariant: the middle ranks of fewer than d partings are in front. Assumes nothing.
-use Prim.Native.Nat.{◌≤◌}
+use Rattle.std.proofs.Common.{◌≤◌}
 use Rattle.deepest.proofs.Ranks.{Filled}
 use Rattle.deepest.proofs.list.put_deepest.Given as goal
 

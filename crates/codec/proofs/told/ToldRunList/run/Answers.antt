@@ -1,6 +1,5 @@
 -- `run` meets its contract: in either edition run i stands at its spots. Assumes nothing.
-use Prim.Native.Nat.{◌<◌}
-use lib.ListN.{drop}
+use Rattle.std.proofs.Common.{◌<◌, drop}
 use Rattle.codec.proofs.Spots.{told_length, told-run}
 use Rattle.codec.proofs.told.ToldRunList.run.Goals as goal
 use Rattle.codec.proofs.told.ToldRunList.run.Goals.{Start}
