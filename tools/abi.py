@@ -4,8 +4,8 @@
 usage: python3 tools/abi.py [FOLDER]       in the repository, or into FOLDER, laid out as that is
        python3 tools/abi.py --refusals     writes nothing: the tables of docs/CALLS.md have to name the same refusals
 
-Whole files are crates/exports/src/lib.rt, the must-fail edits of exports and host/src/raw.rs. Of include/vizturel.h and docs/CALLS.md it writes what stands
-between two lines that name abi/calls.toml; what stands around them is written by hand and stays.
+Whole files are crates/exports/src/lib.rt, the must-fail edits of exports and host/src/raw.rs. Of include/vizturel.h and docs/CALLS.md it writes
+what stands between a line that names abi/calls.toml and one that ends it; the rest is written by hand and stays.
 """
 import re
 import sys
@@ -138,7 +138,7 @@ def each(table, name, kind):
 
 LIBRARY = """// The library as C sees it: every public call, on numbers and lent slices, each a pointer and a count. include/vizturel.h documents them.
 // C calls each function by name: so calls of one shape are functions of their own, and bounds, an operation, an edition or a truth value come as
-// numbers. What a call gives goes into a lent record of eight words, since a struct that is returned or handed over crosses in another way on each machine.
+// numbers. What a call gives goes into a lent record of eight words, since structs that are returned or handed over cross otherwise on each machine.
 // Written by tools/abi.py from abi/calls.toml.
 #![tactic(auto)]
 
@@ -296,8 +296,8 @@ def header(calls, answers, frame):
 
 # ---- host/src/raw.rs
 
-RAW = """//! The exported functions as C sees them: numbers, and a pointer and a count for a slice. Each returns its refusal's number, or 0; what a call gives
-//! goes into a record of eight words, which a refused call leaves as it was. Written by tools/abi.py from abi/calls.toml.
+RAW = """//! The exported functions as C sees them: numbers, and a pointer and a count for a slice. Each returns its refusal's number, or 0; what a call
+//! gives goes into a record of eight words, which a refused call leaves as it was. Written by tools/abi.py from abi/calls.toml.
 
 unsafe extern "C" {
 """
@@ -375,7 +375,8 @@ def edits(calls):
         swap = swapped(call)
         if swap:
             old, new, (a, b) = swap
-            yield f"{call.name}_swapped.edit", f"# {call.name} takes {a} for {b}, and {b} for {a}\nfile: src/lib.rt\nold: {old}\nnew: {new}\n"
+            lines = [f"# {call.name} takes {a} for {b}, and {b} for {a}", "file: src/lib.rt", f"old: {old}", f"new: {new}"]
+            yield f"{call.name}_swapped.edit", "\n".join(lines) + "\n"
 
 
 # ---- all of it

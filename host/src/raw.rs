@@ -1,5 +1,5 @@
-//! The exported functions as C sees them: numbers, and a pointer and a count for a slice. Each returns its refusal's number, or 0; what a call gives
-//! goes into a record of eight words, which a refused call leaves as it was. Written by tools/abi.py from abi/calls.toml.
+//! The exported functions as C sees them: numbers, and a pointer and a count for a slice. Each returns its refusal's number, or 0; what a call
+//! gives goes into a record of eight words, which a refused call leaves as it was. Written by tools/abi.py from abi/calls.toml.
 
 unsafe extern "C" {
     pub fn vizturel_abi_new(words: *mut u64, count: usize, limits: *const u64, limits_count: usize) -> u64;

@@ -1,6 +1,6 @@
 // The library as C sees it: every public call, on numbers and lent slices, each a pointer and a count. include/vizturel.h documents them.
 // C calls each function by name: so calls of one shape are functions of their own, and bounds, an operation, an edition or a truth value come as
-// numbers. What a call gives goes into a lent record of eight words, since a struct that is returned or handed over crosses in another way on each machine.
+// numbers. What a call gives goes into a lent record of eight words, since structs that are returned or handed over cross otherwise on each machine.
 // Written by tools/abi.py from abi/calls.toml.
 #![tactic(auto)]
 
